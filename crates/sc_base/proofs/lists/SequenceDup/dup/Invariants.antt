@@ -1,0 +1,6 @@
+use Rattle.std.proofs.Common.{◌≡◌, take}
+use Rattle.sc_base.proofs.lists.SequenceDup.dup.Given as goal
+
+-- the items so far are copied
+abbrev pub invariant-loop-item : goal.invariant-loop-item
+invariant-loop-item g l = l.copy ≡ take l.item-index l.item-items

@@ -1,0 +1,23 @@
+//! Keys, values, arcs, ballots, draws and operations, the lists of them, and how they are copied.
+#![tactic(auto)]
+
+mod arcs;
+mod dups;
+mod lists;
+mod names;
+mod numbers;
+mod ops;
+mod ordered;
+mod texts;
+
+pub use arcs::{BadBoundary, BadLen, NotAdjacent, RingArc, arcs_are_sound};
+pub use dups::{Dup, OutOfMemory, dup_found};
+pub use lists::Sequence;
+pub use names::{Ballot, Draw, Draws};
+pub use numbers::read_number;
+pub use ops::{Noted, Op, Pairs, Reply, SeenList};
+pub use ordered::Ordered;
+pub use texts::{Key, KeyFault, Value};
+
+#[cfg(test)]
+mod tests;

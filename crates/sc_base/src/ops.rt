@@ -1,0 +1,66 @@
+//! What a client asks of the store, and what it is told.
+use crate::dups::{Dup, OutOfMemory};
+use crate::ordered::Ordered;
+use crate::texts::{Key, Value};
+use std::alloc::Global;
+
+/// One operation on one key.
+#[derive(PartialEq, Eq, Drop)]
+pub enum Op {
+    Get { key: Key },
+    Put { key: Key, value: Value },
+    Del { key: Key },
+}
+
+/// The value that the key had before.
+#[derive(PartialEq, Eq, Drop)]
+pub struct Reply {
+    pub old: Option<Value>,
+}
+
+impl Dup for Op {
+    fn dup(&self, alloc: Global) -> Result<Op, OutOfMemory> {
+        Ok(match self {
+            Op::Get { key } => Op::Get {
+                key: key.dup(alloc)?,
+            },
+            Op::Put { key, value } => Op::Put {
+                key: key.dup(alloc)?,
+                value: value.dup(alloc)?,
+            },
+            Op::Del { key } => Op::Del {
+                key: key.dup(alloc)?,
+            },
+        })
+    }
+}
+
+impl Dup for Reply {
+    fn dup(&self, alloc: Global) -> Result<Reply, OutOfMemory> {
+        Ok(Reply {
+            old: self.old.dup(alloc)?,
+        })
+    }
+}
+
+/// Keys and their values, in the order of the keys.
+pub type Pairs = Ordered<Key, Value>;
+
+/// A client's last request, and its reply.
+#[derive(PartialEq, Eq, Drop)]
+pub struct Noted {
+    pub seq: u32,
+    pub reply: Reply,
+}
+
+/// The last requests of clients, in the order of the clients.
+pub type SeenList = Ordered<u16, Noted>;
+
+impl Dup for Noted {
+    fn dup(&self, alloc: Global) -> Result<Noted, OutOfMemory> {
+        Ok(Noted {
+            seq: self.seq,
+            reply: self.reply.dup(alloc)?,
+        })
+    }
+}
