@@ -46,6 +46,20 @@ impl<T> Sequence<T> {
     {
         self.items.as_slice()
     }
+
+    /// The list with these items, which takes no memory.
+    pub fn from_vec(items: Vec<T>) -> Self
+        ensures { result ≡ items.items }
+    {
+        Sequence { items }
+    }
+
+    /// The items, which takes no memory.
+    pub fn into_vec(self) -> Vec<T>
+        ensures { result.items ≡ self }
+    {
+        self.items
+    }
 }
 
 impl<T: Drop> Sequence<T> {

@@ -7,9 +7,25 @@ use std::alloc::Global;
 /// One operation on one key.
 #[derive(PartialEq, Eq, Drop)]
 pub enum Op {
-    Get { key: Key },
-    Put { key: Key, value: Value },
-    Del { key: Key },
+    Get {
+        key: Key,
+    },
+    Put {
+        key: Key,
+        value: Value,
+    },
+    Del {
+        key: Key,
+    },
+    Add {
+        key: Key,
+        value: Value,
+    },
+    Cas {
+        key: Key,
+        expect: Value,
+        value: Value,
+    },
 }
 
 /// The value that the key had before.
@@ -30,6 +46,15 @@ impl Dup for Op {
             },
             Op::Del { key } => Op::Del {
                 key: key.dup(alloc)?,
+            },
+            Op::Add { key, value } => Op::Add {
+                key: key.dup(alloc)?,
+                value: value.dup(alloc)?,
+            },
+            Op::Cas { key, expect, value } => Op::Cas {
+                key: key.dup(alloc)?,
+                expect: expect.dup(alloc)?,
+                value: value.dup(alloc)?,
             },
         })
     }
