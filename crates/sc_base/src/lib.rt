@@ -13,7 +13,7 @@ mod texts;
 pub use arcs::{BadBoundary, BadLen, NotAdjacent, RingArc, arcs_are_sound};
 pub use dups::{Dup, OutOfMemory, dup_found};
 pub use lists::Sequence;
-pub use names::{Ballot, Draw, Draws};
+pub use names::{Ballot, Draw, Draws, draws_are_apart};
 pub use numbers::read_number;
 pub use ops::{Noted, Op, Pairs, Reply, SeenList};
 pub use ordered::Ordered;

@@ -5,7 +5,7 @@ use crate::dups::{Dup, OutOfMemory};
 use std::alloc::Global;
 use std::marker::Model;
 
-/// A list.
+/// A list. The one list type of all elements; contracts see it as the list.
 #[derive(Drop)]
 pub struct Sequence<T> {
     items: Vec<T>,
@@ -20,6 +20,7 @@ impl<T> Model for Sequence<T> {
 }
 
 impl<T> Sequence<T> {
+    /// The empty list, which takes no memory yet.
     pub fn new(alloc: Global) -> Self
         ensures { result ≡ [] }
     {
@@ -28,12 +29,14 @@ impl<T> Sequence<T> {
         }
     }
 
+    /// How many items there are.
     pub fn len(&self) -> usize
         ensures { result ≡ length self.now }
     {
         self.items.len()
     }
 
+    /// The item at that place, counted from 0 and below the length.
     pub fn at(&self, i: usize) -> &T
         requires { i < length self.now }
         ensures { slice_get self.now i ≡ Some result.now }
@@ -41,6 +44,7 @@ impl<T> Sequence<T> {
         &self.items[i]
     }
 
+    /// The items, to be read.
     pub fn as_slice(&self) -> &[T]
         ensures { result.now ≡ self.now }
     {
@@ -63,7 +67,7 @@ impl<T> Sequence<T> {
 }
 
 impl<T: Drop> Sequence<T> {
-    /// After want of memory the list is unchanged, and the item is dropped.
+    /// Adds an item at the end. After want of memory the list is unchanged, and the item is dropped.
     pub fn push(&mut self, item: T) -> Result<(), OutOfMemory>
         ensures ok { OnOk result (self.new ≡ self.old ++ item ∷ []) }
         ensures err { OnErr result (self.new ≡ self.old) }

@@ -4,7 +4,9 @@ use crate::ordered::Ordered;
 use crate::texts::{Key, Value};
 use std::alloc::Global;
 
-/// One operation on one key.
+/// One operation on one key. Each answers the key's old value or none: `Get` changes nothing, `Put`
+/// sets the key, `Del` takes it out, `Add` sets it where it had no value, and `Cas` sets it where its
+/// value was `expect`.
 #[derive(PartialEq, Eq, Drop)]
 pub enum Op {
     Get {
@@ -28,7 +30,7 @@ pub enum Op {
     },
 }
 
-/// The value that the key had before.
+/// What an operation answers: the value that the key had before, or none.
 #[derive(PartialEq, Eq, Drop)]
 pub struct Reply {
     pub old: Option<Value>,
@@ -71,7 +73,7 @@ impl Dup for Reply {
 /// Keys and their values, in the order of the keys.
 pub type Pairs = Ordered<Key, Value>;
 
-/// A client's last request, and its reply.
+/// The number of a client's last request, and its reply.
 #[derive(PartialEq, Eq, Drop)]
 pub struct Noted {
     pub seq: u32,

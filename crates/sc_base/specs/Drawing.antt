@@ -1,0 +1,25 @@
+-- The names that a node draws.
+use Rattle.std.specs.Prelude.{◌≡◌, ℕ, zero, suc, ◌+◌, ◌<◌}
+use Rattle.sc_base.specs.declared.names.Draw.{Draw}
+
+-- a node, and how many names it has drawn
+pub record Drawer : Type 0 where
+  pub node : ℕ
+  pub drawn : ℕ
+
+-- the name that comes next
+abbrev pub name_of : Drawer → Draw
+name_of drawer = record { node = drawer.node; count = drawer.drawn + 1 }
+
+-- the drawer after one draw
+abbrev pub drawn_on : Drawer → Drawer
+drawn_on drawer = record { node = drawer.node; drawn = drawer.drawn + 1 }
+
+-- the drawer after n draws
+abbrev pub drawn_by : ℕ → Drawer → Drawer
+drawn_by zero drawer = drawer
+drawn_by (suc n) drawer = drawn_on (drawn_by n drawer)
+
+-- no name is drawn twice: those after fewer and after more draws differ
+abbrev pub Apart : Type 0
+Apart = (drawer : Drawer) (m n : ℕ) → m < n → name_of (drawn_by m drawer) ≡ name_of (drawn_by n drawer) → ⊥
