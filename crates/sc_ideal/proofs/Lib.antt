@@ -1,0 +1,4 @@
+pub mod Apart
+pub mod Joins
+pub mod Kept
+pub mod Tables

@@ -1,0 +1,34 @@
+-- The client table: each client's last request by number, and its reply.
+use Rattle.std.specs.Prelude.{ℕ, List, Option, Some, None, Bool, true, fold, nat_lt, ◌==◌, if◌then◌else◌}
+use Rattle.std.specs.Ordering.{nat_cmp}
+use Rattle.std.specs.FinMap.{FinMap, get, insert}
+use Rattle.sc_base.specs.declared.ops.Noted.{Noted}
+use Rattle.sc_ideal.specs.declared.Seen.{Seen}
+use Rattle.sc_ideal.specs.declared.Seen.TheVariants.{New, Again, Stale}
+
+-- from clients to what was noted of their last request
+abbrev pub Table : Type 0
+Table = FinMap nat_cmp Noted
+
+-- how a number stands to what was noted of its client, if anything was
+abbrev pub seen_of : Option Noted → ℕ → Seen
+seen_of None seq = New
+seen_of (Some noted) seq = if nat_lt noted.seq seq then New else if noted.seq == seq then Again else Stale noted.seq
+
+-- whether a number is above what was noted, if anything was
+abbrev pub is_later : Option Noted → ℕ → Bool
+is_later None seq = true
+is_later (Some noted) seq = nat_lt noted.seq seq
+
+-- the table with a client's entry, where its number is greater than the one noted
+abbrev pub with_later : Table → ℕ → Noted → Table
+with_later table client noted = if is_later (get table client) noted.seq then insert table client noted else table
+
+-- the table joined with entries, by the greater number of each client
+abbrev pub joined_with : Table → List (ℕ × Noted) → Table
+joined_with = fold (λ table entry. with_later table entry.0 entry.1)
+
+-- of two things noted of one client the one with the greater number, and the first where they are equal
+abbrev pub later : Option Noted → Option Noted → Option Noted
+later first None = first
+later first (Some second) = if is_later first second.seq then Some second else first

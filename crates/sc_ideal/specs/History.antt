@@ -1,0 +1,25 @@
+-- Histories of requests and replies, and which are legal on the ideal store.
+-- The ideal store is the sequential object of linearizability (Herlihy and Wing, 1990).
+use Rattle.std.specs.Prelude.{◌≡◌, List, [], ◌∷◌, AllPairs}
+use Rattle.std.specs.FinMap.{empty}
+use Rattle.sc_ideal.specs.declared.Entry.{Entry}
+use Rattle.sc_ideal.specs.IdealStore.{Contents, reply_of, after}
+
+-- each entry has the reply of the map that the entries before it leave
+abbrev pub IsReplay : Contents → List Entry → Type 0
+IsReplay contents [] = Unit {0}
+IsReplay contents (entry ∷ entries) = (entry.reply ≡ reply_of entry.op contents) × IsReplay (after entry.op contents) entries
+
+-- the map that the entries leave
+abbrev pub contents_after : Contents → List Entry → Contents
+contents_after contents [] = contents
+contents_after contents (entry ∷ entries) = contents_after (after entry.op contents) entries
+
+-- two entries are not of one client and number
+abbrev pub AreApart : Entry → Entry → Type 0
+AreApart a b = a.client ≡ b.client → a.seq ≡ b.seq → ⊥
+
+-- the replies are those of a replay from the empty map, and no client's number stands twice
+pub record Legal (entries : List Entry) : Type 0 where
+  pub replay : IsReplay empty entries
+  pub once : AllPairs AreApart entries

@@ -1,0 +1,4 @@
+pub mod Clients
+pub mod History
+pub mod IdealStore
+pub mod Laws

@@ -1,0 +1,74 @@
+//! What the store, its histories and its client tables are to be: definitions and laws, no logic.
+#![tactic(auto)]
+
+ghost use Rattle.sc_ideal.specs.Laws.{ServesApart, PartsJoin, JoinedByNumber, JoinedInAnyOrder};
+
+use sc_base::{Dup, Op, OutOfMemory, Reply};
+use std::alloc::Global;
+
+/// One entry of a history: a client's request, and what it was told. The number is the client's
+/// own, counted from 1.
+#[derive(PartialEq, Eq, Drop)]
+pub struct Entry {
+    pub client: u16,
+    pub seq: u32,
+    pub op: Op,
+    pub reply: Reply,
+}
+
+impl Dup for Entry {
+    fn dup(&self, alloc: Global) -> Result<Entry, OutOfMemory> {
+        Ok(Entry {
+            client: self.client,
+            seq: self.seq,
+            op: self.op.dup(alloc)?,
+            reply: self.reply.dup(alloc)?,
+        })
+    }
+}
+
+/// How a request stands to the last one that its client's table notes.
+#[derive(Clone, Copy, Debug, PartialEq, Eq)]
+pub enum Seen {
+    /// Nothing is noted, or a lower number.
+    New,
+    /// This very number is noted.
+    Again,
+    /// A greater number is noted: `last`.
+    Stale { last: u32 },
+}
+
+/// A part of the map changes only by operations on its own keys, and the parts on two arcs that
+/// meet join to the part on the joined arc.
+pub fn parts_are_apart()
+    ensures apart { ServesApart }
+    ensures join { PartsJoin }
+{}
+
+/// Tables join client by client, by the greater number, in whatever order.
+pub fn tables_join_by_number()
+    ensures by_number { JoinedByNumber }
+    ensures any_order { JoinedInAnyOrder }
+{}
+
+#[cfg(test)]
+mod tests {
+    use super::*;
+    use sc_base::{Key, Value};
+    use std::test::Fail;
+
+    #[test]
+    fn entries_are_copied(rt: HostRuntime) -> Result<(), Fail> {
+        let key = Key::try_new(rt.alloc(), b"a")?;
+        let value = Value::try_new(rt.alloc(), b"1")?;
+        let entry = Entry {
+            client: 1,
+            seq: 2,
+            op: Op::Add { key, value },
+            reply: Reply { old: None },
+        };
+        let copy = entry.dup(rt.alloc())?;
+        assert!(rt; copy == entry);
+        Ok(())
+    }
+}
