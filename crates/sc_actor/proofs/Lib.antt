@@ -1,0 +1,5 @@
+pub mod ReplayLemmas
+pub mod WalkLemmas
+pub mod PendingLemmas
+pub mod Induction
+pub mod CountLemmas

@@ -1,0 +1,69 @@
+-- What is pending was sent, and has a copy.
+use Rattle.std.proofs.Common.{◌≡◌, ℕ, zero, suc, ◌+◌, ◌-◌, ◌<◌, List, [], ◌∷◌, ◌++◌, Bool, true, false, cond, eqb, replicate, refl, sym, subst, arith, get_or, None, Some, inl, inr, ◌⊎◌}
+use Rattle.std.specs.Prelude.{slice_get}
+use Rattle.std.proofs.lemmas.Bool.{eqb-true, and_parts}
+use Rattle.sc_actor.specs.declared.rows.Row.{Row}
+use Rattle.sc_actor.specs.Mail.{mails, copies, numbers, may_get, is_for}
+use Rattle.sc_actor.specs.System.{System, waiting, kth, numbers_of}
+use Rattle.sc_actor.specs.Steps.{IsUnderWay}
+
+-- A number that is pending is that of a mail that passes the test, and it has a copy.
+pub record Pending {M : Type 0} (test : M → Bool) (first : ℕ) (sent : List M) (counts : List ℕ) (number : ℕ) : Type 0 where
+  pub place : ℕ
+  pub number_is : number ≡ first + place
+  pub mail : M
+  pub at : slice_get sent place ≡ Some mail
+  pub passes : test mail ≡ true
+  pub copies : 0 < get_or counts place 0
+
+later : {M : Type 0} (test : M → Bool) (first : ℕ) (m : M) (sent : List M) (c : ℕ) (counts : List ℕ) (number : ℕ) → Pending test (suc first) sent counts number → Pending test first (m ∷ sent) (c ∷ counts) number
+later test first m sent c counts number p =
+    record { place = suc p.place; number_is = omega (arith, p.number_is); mail = p.mail; at = p.at; passes = p.passes; copies = p.copies }
+
+-- the k-th is one of the first copies, or stands later
+here_or_later : (count number k : ℕ) (xs : List ℕ) (x : ℕ) → slice_get (replicate count number ++ xs) k ≡ Some x → ((x ≡ number) × (0 < count)) ⊎ ((j : ℕ) × (slice_get xs j ≡ Some x))
+here_or_later zero number k xs x e = inr (k, e)
+here_or_later (suc count) number zero xs x e = inl (cc, omega arith)
+here_or_later (suc count) number (suc k) xs x e =
+    elim (here_or_later count number k xs x e) [ inl p ↦ inl (p.0, omega arith) | inr q ↦ inr q ]
+
+module _ {M : Type 0} (test : M → Bool) where
+  sound_by : (first : ℕ) (m : M) (sent : List M) (c : ℕ) (counts : List ℕ) (k number : ℕ) → ((j : ℕ) → slice_get (numbers test (suc first) sent counts) j ≡ Some number → Pending test (suc first) sent counts number) →
+      (b : Bool) → test m ≡ b → slice_get (cond b (replicate c first) [] ++ numbers test (suc first) sent counts) k ≡ Some number → Pending test first (m ∷ sent) (c ∷ counts) number
+  sound_by first m sent c counts k number more true t e =
+      elim (here_or_later c first k (numbers test (suc first) sent counts) number e) [
+        | inl p ↦ record { place = 0; number_is = omega (arith, p.0); mail = m; at = refl; passes = t; copies = p.1 }
+        | inr q ↦ later test first m sent c counts number (more q.0 q.1)
+      ]
+  sound_by first m sent c counts k number more false t e = later test first m sent c counts number (more k e)
+
+  pub pending_sound : (first : ℕ) (sent : List M) (counts : List ℕ) (k number : ℕ) → slice_get (numbers test first sent counts) k ≡ Some number → Pending test first sent counts number
+  pending_sound first [] counts k number e = cc
+  pending_sound first (m ∷ sent) [] k number e = cc
+  pending_sound first (m ∷ sent) (c ∷ counts) k number e =
+      sound_by first m sent c counts k number (λ j. pending_sound (suc first) sent counts j number) (test m) refl e
+
+module _ {A M O : Type 0} (s : System A M O) (rows : List (Row M O)) where
+  way : (number place : ℕ) (mail : M) → number ≡ suc place → slice_get (mails rows) place ≡ Some mail → may_get (numbers_of s.births) rows (s.receiver mail) ≡ true → 0 < get_or (copies rows) place 0 → IsUnderWay s rows number mail
+  way number place mail is at may copy =
+      let minus : suc place - 1 ≡ place = omega arith in
+      subst (λ n. IsUnderWay s rows n mail) (sym is) (record { sent = at; may = may; copy = rw minus copy })
+
+  -- a mail that is pending for an actor
+  pub waiting_one : (who k number : ℕ) → kth (waiting s rows (Some who)) k ≡ Some number → (mail : M) × IsUnderWay s rows number mail × (s.receiver mail ≡ who)
+  waiting_one who zero number e = cc
+  waiting_one who (suc k) number e =
+      let p = pending_sound (is_for s.receiver (numbers_of s.births) rows (Some who)) 1 (mails rows) (copies rows) k number e in
+      let parts = and_parts (eqb (s.receiver p.mail) who) (may_get (numbers_of s.births) rows who) p.passes in
+      let to_who : s.receiver p.mail ≡ who = eqb-true (s.receiver p.mail) who parts.0 in
+      (p.mail, way number p.place p.mail (omega (arith, p.number_is)) p.at (subst (λ w. may_get (numbers_of s.births) rows w ≡ true) (sym to_who) parts.1) p.copies, to_who)
+
+  pub waiting_at : (place number : ℕ) → slice_get (waiting s rows None) place ≡ Some number → (mail : M) × IsUnderWay s rows number mail
+  waiting_at place number e =
+      let p = pending_sound (is_for s.receiver (numbers_of s.births) rows None) 1 (mails rows) (copies rows) place number e in
+      (p.mail, way number p.place p.mail (omega (arith, p.number_is)) p.at p.passes p.copies)
+
+  -- a mail that is pending for any
+  pub waiting_any : (k number : ℕ) → kth (waiting s rows None) k ≡ Some number → (mail : M) × IsUnderWay s rows number mail
+  waiting_any zero number e = cc
+  waiting_any (suc k) number e = waiting_at k number e

@@ -1,0 +1,17 @@
+//! Actors and their mail, the journal of what they do, and which journals a schedule allows.
+#![tactic(auto)]
+
+mod actors;
+mod gates;
+mod laws;
+mod rows;
+mod schedules;
+
+pub use actors::{Actor, Parcel, Seat};
+pub use gates::Gate;
+pub use laws::{journals_grow, lawful_journals_grow, next_rows_are_steps};
+pub use rows::{Event, Input, Journal, Row};
+pub use schedules::Line;
+
+#[cfg(test)]
+mod tests;

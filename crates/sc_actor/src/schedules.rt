@@ -1,0 +1,19 @@
+//! The lines of a schedule.
+
+/// A line of a schedule. Actors are named by their numbers, mail by its number or by its place among an actor's pending mail, from 1.
+#[derive(Drop)]
+pub enum Line<O> {
+    Go { who: u32 },
+    Deliver { who: u32, k: u32 },
+    Drop { who: u32, k: u32 },
+    Again { mail: u32 },
+    Tick { who: u32 },
+    Crash { who: u32 },
+    Told { who: u32, order: O },
+    /// At most so many deliveries, each of the lowest-numbered pending mail of all.
+    Settle { most: u32 },
+    /// At most so many deliveries, each of the first pending mail of any actor, by so many workers.
+    Free { most: u32, workers: u32 },
+    /// So many steps by the words that the number gives.
+    Storm { number: u64, most: u32 },
+}
