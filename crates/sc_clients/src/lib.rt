@@ -1,0 +1,10 @@
+//! The client table of a group.
+#![tactic(auto)]
+
+mod table;
+
+pub use sc_ideal::Seen;
+pub use table::ClientTable;
+
+#[cfg(test)]
+mod tests;
