@@ -1,0 +1,5 @@
+pub mod Faults
+pub mod Majority
+pub mod MajorityLaws
+pub mod Nodes
+pub mod Roster

@@ -1,0 +1,12 @@
+//! Sets of one to nine nodes, and what a majority of one is.
+#![tactic(auto)]
+
+mod laws;
+mod nodes;
+mod sets;
+
+pub use laws::{majorities_meet, neighbours_meet};
+pub use sets::{MemberFault, Members};
+
+#[cfg(test)]
+mod tests;
