@@ -1,4 +1,7 @@
 //! What a client asks of the store, and what it is told.
+ghost use Rattle.std.specs.Prelude.{◌≡◌};
+ghost use Rattle.sc_base.specs.Operation.{key_of};
+
 use crate::dups::{Dup, OutOfMemory};
 use crate::ordered::Ordered;
 use crate::texts::{Key, Value};
@@ -28,6 +31,21 @@ pub enum Op {
         expect: Value,
         value: Value,
     },
+}
+
+impl Op {
+    /// The key that the operation is on.
+    pub fn key(&self) -> &Key
+        ensures { result.now ≡ key_of self.now }
+    {
+        match self {
+            Op::Get { key }
+            | Op::Put { key, .. }
+            | Op::Del { key }
+            | Op::Add { key, .. }
+            | Op::Cas { key, .. } => key,
+        }
+    }
 }
 
 /// What an operation answers: the value that the key had before, or none.

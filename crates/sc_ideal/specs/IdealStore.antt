@@ -5,6 +5,7 @@ use Rattle.std.specs.Cmp.Lexicographic.{slice_cmp, pointwise}
 use Rattle.std.specs.FinMap.{FinMap, get, insert, remove, retain_keys}
 use Rattle.sc_base.specs.Arc.{Arc, holds}
 use Rattle.sc_base.specs.Text.{pos_of}
+pub use Rattle.sc_base.specs.Operation.{key_of}
 use Rattle.sc_base.specs.declared.ops.Op.{Op}
 use Rattle.sc_base.specs.declared.ops.Op.TheVariants.{Get, Put, Del, Add, Cas}
 use Rattle.sc_base.specs.declared.ops.Reply.{Reply}
@@ -12,14 +13,6 @@ use Rattle.sc_base.specs.declared.ops.Reply.{Reply}
 -- what a store holds: keys and values by their bytes
 abbrev pub Contents : Type 0
 Contents = FinMap (slice_cmp nat_cmp) (List ℕ)
-
--- the key that an operation is on
-abbrev pub key_of : Op → List ℕ
-key_of (Get key) = key
-key_of (Put key value) = key
-key_of (Del key) = key
-key_of (Add key value) = key
-key_of (Cas key expect value) = key
 
 -- each operation answers the value that its key had, or none
 abbrev pub reply_of : Op → Contents → Reply
