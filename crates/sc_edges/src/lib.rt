@@ -1,0 +1,15 @@
+//! Where bytes come from and go to, with a count of faults that never falls.
+#![tactic(auto)]
+
+mod memory;
+mod outside;
+mod reading;
+mod traits;
+
+pub use memory::{MemSink, MemSource};
+pub use outside::{StdSink, StdSource};
+pub use reading::{ReadFault, read_all};
+pub use traits::{Failed, Sink, Source};
+
+#[cfg(test)]
+mod tests;

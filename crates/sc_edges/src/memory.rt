@@ -1,0 +1,147 @@
+//! A source and a sink in memory, which fail at the calls that are listed.
+ghost use Rattle.std.specs.Prelude.{◌≡◌, ℕ, ◌+◌, ◌-◌, ◌<◌, ◌≤◌, ◌⊎◌, ◌↔◌, [], length, min, Contains, IfOk, OnOk, OnErr, IsErr, Some};
+ghost use Rattle.std.specs.Io.KnownBytes.{Appends};
+ghost use Rattle.sc_edges.specs.Causes.{HasCause};
+ghost use Rattle.sc_edges.specs.Bytes.{Gives, AppendsPart};
+
+use crate::traits::{Failed, Sink, Source};
+use sc_base::OutOfMemory;
+use std::alloc::Global;
+use std::marker::Model;
+
+/// A source of given bytes. A call fails, and takes nothing, exactly where its number, from 1, is listed.
+#[derive(Drop)]
+pub struct MemSource {
+    bytes: Vec<u8>,
+    at: usize,
+    failing: Vec<u64>,
+    calls: u64,
+    faults: u64,
+}
+
+impl Model for MemSource {
+    ghost use Rattle.std.specs.Prelude.{◌≤◌, drop, vec_len};
+    ghost use Rattle.sc_edges.specs.Memory.{SourceState};
+
+    ghost Value = { SourceState };
+
+    ghost view = { λ s. record { left = drop s.at s.bytes.items; failing = s.failing.items; calls = s.calls; faults = s.faults } };
+
+    ghost invariant = { λ s. s.at ≤ vec_len s.bytes };
+}
+
+impl MemSource {
+    /// A source of these bytes, before its first call.
+    pub fn new(alloc: Global, bytes: &[u8], failing: &[u64]) -> Result<MemSource, OutOfMemory>
+        ensures { IfOk result (λ s. s ≡ record { left = bytes.now; failing = failing.now; calls = 0; faults = 0 }) }
+    {
+        Ok(MemSource {
+            bytes: Vec::from_slice(alloc, bytes)?,
+            at: 0,
+            failing: Vec::from_slice(alloc, failing)?,
+            calls: 0,
+            faults: 0,
+        })
+    }
+}
+
+impl Source for MemSource {
+    ghost left = { λ s. Some s.left };
+
+    ghost faults = { λ s. s.faults };
+
+    ghost calls = { λ s. s.calls };
+
+    fn take(&mut self, buf: &mut [u8]) -> Result<usize, Failed>
+        ensures taken { IfOk result (λ n. Gives (Some self.old.left) (Some self.new.left) n buf.new) }
+        ensures cause { HasCause self.old.faults self.new.faults result }
+        ensures call { self.new.calls ≤ self.old.calls + 1 }
+        ensures fails { IsErr result ↔ Contains self.old.failing self.new.calls }
+        ensures calls { self.new.calls ≡ min (self.old.calls + 1) u64.MAX }
+        ensures failing { self.new.failing ≡ self.old.failing }
+        ensures unchanged { OnErr result (self.new.left ≡ self.old.left) }
+        ensures count { OnOk result (self.new.faults ≡ self.old.faults) }
+    {
+        self.calls = self.calls.saturating_add(1);
+        if self.failing.contains(&self.calls) {
+            self.faults = self.faults.saturating_add(1);
+            return Err(Failed);
+        }
+        let left = self.bytes.len() - self.at;
+        let n = left.min(buf.len());
+        buf[..n].copy_from_slice(&self.bytes[self.at..self.at + n]);
+        self.at += n;
+        Ok(n)
+    }
+}
+
+/// A sink with room for so many bytes. A call fails, and appends nothing, exactly where its number, from 1, is listed or the piece does not fit into the room that is left.
+#[derive(Drop)]
+pub struct MemSink {
+    held: Vec<u8>,
+    room: usize,
+    failing: Vec<u64>,
+    calls: u64,
+    faults: u64,
+}
+
+impl Model for MemSink {
+    ghost use Rattle.std.specs.Prelude.{◌+◌, ◌≤◌, vec_len, vec_capacity};
+    ghost use Rattle.sc_edges.specs.Memory.{SinkState};
+
+    ghost Value = { SinkState };
+
+    ghost view = { λ s. record { held = s.held.items; room = s.room; failing = s.failing.items; calls = s.calls; faults = s.faults } };
+
+    ghost invariant = { λ s. vec_len s.held + s.room ≤ vec_capacity s.held };
+}
+
+impl MemSink {
+    /// A sink with room for so many bytes, before its first call. It takes memory here and none later.
+    pub fn new(alloc: Global, room: usize, failing: &[u64]) -> Result<MemSink, OutOfMemory>
+        ensures { IfOk result (λ s. s ≡ record { held = []; room = room; failing = failing.now; calls = 0; faults = 0 }) }
+    {
+        Ok(MemSink {
+            held: Vec::with_capacity(alloc, room)?,
+            room,
+            failing: Vec::from_slice(alloc, failing)?,
+            calls: 0,
+            faults: 0,
+        })
+    }
+
+    /// The bytes that were put.
+    pub fn held(&self) -> &[u8]
+        ensures { result.now ≡ self.now.held }
+    {
+        &self.held
+    }
+}
+
+impl Sink for MemSink {
+    ghost held = { λ s. Some s.held };
+
+    ghost faults = { λ s. s.faults };
+
+    fn put(&mut self, piece: &[u8]) -> Result<(), Failed>
+        ensures whole { OnOk result (Appends (Some self.old.held) (Some self.new.held) piece.now) }
+        ensures part { OnErr result (AppendsPart (Some self.old.held) (Some self.new.held) piece.now) }
+        ensures cause { HasCause self.old.faults self.new.faults result }
+        ensures fails { IsErr result ↔ (Contains self.old.failing self.new.calls ⊎ self.old.room < length piece.now) }
+        ensures calls { self.new.calls ≡ min (self.old.calls + 1) u64.MAX }
+        ensures failing { self.new.failing ≡ self.old.failing }
+        ensures unchanged { OnErr result ((self.new.held ≡ self.old.held) × (self.new.room ≡ self.old.room)) }
+        ensures room { OnOk result ((self.new.faults ≡ self.old.faults) × (self.new.room + length piece.now ≡ self.old.room)) }
+    {
+        self.calls = self.calls.saturating_add(1);
+        if self.failing.contains(&self.calls)
+            || piece.len() > self.room
+            || self.held.extend_from_slice(piece).is_err()
+        {
+            self.faults = self.faults.saturating_add(1);
+            return Err(Failed);
+        }
+        self.room -= piece.len();
+        Ok(())
+    }
+}

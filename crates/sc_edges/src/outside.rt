@@ -1,0 +1,87 @@
+//! Sources and sinks over the readers and writers of std. Over the real input and output they tell no bytes.
+ghost use Rattle.std.specs.Prelude.{◌≡◌, ◌+◌, min, IfOk, OnOk, OnErr};
+ghost use Rattle.std.specs.Io.KnownBytes.{Appends};
+ghost use Rattle.sc_edges.specs.Bytes.{Gives, AppendsPart};
+ghost use Rattle.sc_edges.specs.Causes.{HasCause};
+
+use crate::traits::{Failed, Sink, Source};
+use std::io::{Read, Write};
+
+/// A source over a reader, with a count of its errors.
+#[derive(Drop)]
+pub struct StdSource<R> {
+    reader: R,
+    faults: u64,
+}
+
+impl<R> StdSource<R> {
+    /// The source over a reader, without faults. It takes no memory.
+    pub fn new(reader: R) -> StdSource<R>
+        ensures { result ≡ record { reader = reader; faults = 0 } }
+    {
+        StdSource { reader, faults: 0 }
+    }
+}
+
+impl<R: Read> Source for StdSource<R> {
+    ghost left = { λ s. R.remaining s.reader };
+
+    ghost faults = { λ s. s.faults };
+
+    fn take(&mut self, buf: &mut [u8]) -> Result<usize, Failed>
+        ensures taken { IfOk result (λ n. Gives (R.remaining self.old.reader) (R.remaining self.new.reader) n buf.new) }
+        ensures cause { HasCause self.old.faults self.new.faults result }
+        ensures same { OnOk result (self.new.faults ≡ self.old.faults) }
+        ensures risen { OnErr result (self.new.faults ≡ min (self.old.faults + 1) u64.MAX) }
+    {
+        match self.reader.read(buf) {
+            Ok(n) => Ok(n),
+            Err(_) => {
+                self.faults = self.faults.saturating_add(1);
+                Err(Failed)
+            }
+        }
+    }
+}
+
+/// A sink over a writer, with a count of its errors.
+#[derive(Drop)]
+pub struct StdSink<W> {
+    writer: W,
+    faults: u64,
+}
+
+impl<W> StdSink<W> {
+    /// The sink over a writer, without faults. It takes no memory.
+    pub fn new(writer: W) -> StdSink<W>
+        ensures { result ≡ record { writer = writer; faults = 0 } }
+    {
+        StdSink { writer, faults: 0 }
+    }
+}
+
+impl<W: Write> Sink for StdSink<W> {
+    ghost held = { λ s. W.contents s.writer };
+
+    ghost faults = { λ s. s.faults };
+
+    fn put(&mut self, piece: &[u8]) -> Result<(), Failed>
+        ensures whole { OnOk result (Appends (W.contents self.old.writer) (W.contents self.new.writer) piece.now) }
+        ensures part { OnErr result (AppendsPart (W.contents self.old.writer) (W.contents self.new.writer) piece.now) }
+        ensures cause { HasCause self.old.faults self.new.faults result }
+        ensures same { OnOk result (self.new.faults ≡ self.old.faults) }
+        ensures risen { OnErr result (self.new.faults ≡ min (self.old.faults + 1) u64.MAX) }
+    {
+        let mut at = 0;
+        while at < piece.len() {
+            match self.writer.write(&piece[at..]) {
+                Ok(n) if n > 0 => at += n,
+                _ => {
+                    self.faults = self.faults.saturating_add(1);
+                    return Err(Failed);
+                }
+            }
+        }
+        Ok(())
+    }
+}

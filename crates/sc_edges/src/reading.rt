@@ -1,0 +1,49 @@
+//! Reading to the end.
+ghost use Rattle.std.specs.Prelude.{◌≡◌, ◌≤◌, ◌+◌, IfOk, IsErrOf};
+ghost use Rattle.sc_edges.specs.Causes.{Rose};
+ghost use Rattle.sc_edges.specs.Bytes.{TakesUpTo};
+
+use crate::traits::{Failed, Source};
+use std::alloc::{AllocError, Global};
+
+/// Why nothing was read: the source failed, or there was no memory left.
+#[derive(Clone, Copy, Debug, PartialEq, Eq)]
+pub enum ReadFault {
+    Failed,
+    OutOfMemory,
+}
+
+// How many bytes one call asks for at most.
+const PIECE: usize = 4096;
+
+/// Reads to the end of input, or until `most` + 1 bytes were taken, by at most `most` + 2 calls of `take`.
+///
+/// `Failed` comes only where the source's count of faults rose in this call.
+pub fn read_all<S: Source>(alloc: Global, source: &mut S, most: u64) -> Result<Vec<u8>, ReadFault>
+    ensures taken { IfOk result (λ bytes. TakesUpTo (S.left source.old) (S.left source.new) most bytes.items) }
+    ensures failed { IsErrOf result ReadFault.Failed → Rose (S.faults source.old) (S.faults source.new) }
+    ensures later { S.faults source.old ≤ S.faults source.new }
+    ensures calls { S.calls source.new ≤ S.calls source.old + (most + 2) }
+{
+    let mut bytes = Vec::new(alloc);
+    let mut buf = [0u8; PIECE];
+    while (bytes.len() as u64) <= most {
+        let left = most - bytes.len() as u64;
+        let want = if left < PIECE as u64 {
+            left as usize + 1
+        } else {
+            PIECE
+        };
+        let n = match source.take(&mut buf[..want]) {
+            Ok(n) => n,
+            Err(Failed) => return Err(ReadFault::Failed),
+        };
+        if n == 0 {
+            break;
+        }
+        if let Err(AllocError) = bytes.extend_from_slice(&buf[..n]) {
+            return Err(ReadFault::OutOfMemory);
+        }
+    }
+    Ok(bytes)
+}
