@@ -3,3 +3,4 @@ pub mod WalkLemmas
 pub mod PendingLemmas
 pub mod Induction
 pub mod CountLemmas
+pub mod BoundLemmas

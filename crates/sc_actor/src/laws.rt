@@ -1,5 +1,6 @@
 //! Laws of journals, for the crates above.
-ghost use Rattle.std.specs.Prelude.{◌≡◌, ℕ, List, [], ◌∷◌, ◌++◌, length, Some, None};
+ghost use Rattle.std.specs.Prelude.{◌≡◌, ℕ, List, [], ◌∷◌, ◌++◌, ◌+◌, ◌*◌, ◌≤◌, All, length, Some, None};
+ghost use Rattle.sc_actor.specs.Counted.{row_bytes, journal_bytes};
 ghost use Rattle.sc_actor.specs.declared.rows.Row.{Row};
 ghost use Rattle.sc_actor.specs.declared.actors.Seat.{Seat};
 ghost use Rattle.sc_actor.specs.declared.schedules.Line.{Line};
@@ -40,4 +41,11 @@ pub fn next_rows_are_steps<A: Actor>()
     ensures one { (words : ℕ → ℕ → ℕ × ℕ) (births : List (Seat A)) (rows : List (Row A.Mail A.Order)) (who k number : ℕ) →
         kth (waiting (system A.table A.Mail.receiver words births) rows (Some who)) k ≡ Some number →
         (mail : A.Mail) × IsUnderWay (system A.table A.Mail.receiver words births) rows number mail × (A.Mail.receiver mail ≡ who) }
+{}
+
+/// How large a journal is by its counted bytes: no mail has more copies than there are rows, a row counts at least 64 and a mail 256.
+pub fn journals_are_counted<A: Actor>()
+    ensures copies { (rows : List (Row A.Mail A.Order)) → All (λ count. count ≤ length rows) (copies rows) }
+    ensures bytes { (rows : List (Row A.Mail A.Order)) → 64 * length rows + 256 * length (mails rows) ≤ journal_bytes A.Mail.weighs rows }
+    ensures next { (rows : List (Row A.Mail A.Order)) (row : Row A.Mail A.Order) → journal_bytes A.Mail.weighs (rows ++ row ∷ []) ≡ journal_bytes A.Mail.weighs rows + row_bytes A.Mail.weighs row }
 {}

@@ -9,7 +9,7 @@ mod schedules;
 
 pub use actors::{Actor, Parcel, Seat};
 pub use gates::Gate;
-pub use laws::{journals_grow, lawful_journals_grow, next_rows_are_steps};
+pub use laws::{journals_are_counted, journals_grow, lawful_journals_grow, next_rows_are_steps};
 pub use rows::{Event, Input, Journal, Row};
 pub use schedules::Line;
 

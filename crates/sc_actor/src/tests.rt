@@ -100,5 +100,6 @@ fn an_actor_makes_a_row(rt: HostRuntime) -> Result<(), Fail> {
     journals_grow::<Relay>();
     lawful_journals_grow::<Relay>();
     next_rows_are_steps::<Relay>();
+    journals_are_counted::<Relay>();
     Ok(())
 }
