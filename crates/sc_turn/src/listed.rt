@@ -1,0 +1,15 @@
+//! What the shared value stands for.
+ghost use Rattle.std.specs.Prelude.{◌≡◌, ℕ, ◌<◌, ◌^◌, List, length};
+
+/// A value that stands for a list of rows.
+pub trait Listed: Drop {
+    type Entry;
+
+    /// The rows, each with the number of its maker.
+    ghost entries: { Self → List (Self.Entry × ℕ) };
+
+    /// How many rows there are. A seat compares it with the number of counted rows when it leaves.
+    fn count(&self) -> u64
+        requires { length (entries self.now) < 2 ^ 64 }
+        ensures { result ≡ length (entries self.now) };
+}

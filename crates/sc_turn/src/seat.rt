@@ -1,0 +1,172 @@
+//! The seats, from which threads take turns at one value.
+ghost use Rattle.std.specs.Prelude.{◌≡◌, ◌≢◌, ℕ, ◌+◌, ◌<◌, ◌^◌, ◌⊎◌, true, false, [], ◌∷◌, ◌++◌, length, Contains, IfOk, OnOk, OnErr, None, if◌then◌else◌};
+ghost use Rattle.std.specs.Arc.{arc_value};
+ghost use Rattle.sc_turn.specs.Turn.{opener, newcomer, with_given, with_seen, entered, left_with, joined_with, StartsWith, IsTrueOf, CanLeave, rows_by};
+
+use crate::listed::Listed;
+use crate::plays::{Look, Merge, Note, Number, Read, Release, SplitOff};
+use crate::rule::{Turning, View};
+use crate::steps::{acquire, count_row};
+use atomic_table::{Seat, Table};
+use sc_base::OutOfMemory;
+use std::alloc::Global;
+use std::marker::Brand;
+use std::sync::{Arc, Wait};
+
+/// A seat at the table, by which one thread takes turns at the shared value.
+/// Its meaning is what it knows: its number, the rows that it has seen, the rows that were made under its number, and whether it has the turn.
+#[derive(Drop)]
+pub struct TurnSeat<T: Listed> {
+    desk: Arc<Table<Option<T>, View<T::Entry>, (), Turning<T>, Global>>,
+    place: Seat<Option<T>, View<T::Entry>>,
+    ghost seated: { place.table_id ≡ (arc_value desk).shared.table_id },
+    ghost sized: { (place.table_id.words ≡ 2) × (place.table_id.slots ≡ 1) },
+    ghost carries: { place.me.1 ≡ (if place.me.0.turn then (0, None) ∷ [] else []) },
+    ghost numbered: { (place.me.0.live ≡ true) × (place.me.0.told ≡ []) },
+}
+
+impl<T: Listed> TurnSeat<T> {
+    ghost use Rattle.sc_turn.specs.Seats.{known, OfOneStart, AllJoined};
+
+    /// A new table with its first seat, of the number 0. The value stands for the empty list.
+    /// `OutOfMemory`: there is no table, and the value is dropped.
+    pub fn start(alloc: Global, value: T) -> Result<TurnSeat<T>, OutOfMemory>
+        requires { T.entries value ≡ [] }
+        ensures { IfOk result (λ s. known s ≡ opener) }
+    {
+        let mut slots = Vec::new(alloc);
+        slots.push(Some(value))?;
+        let (table, place) = Table::new(alloc, &[0, 0], slots, &()).map_err(|_| OutOfMemory)?;
+        let desk = Arc::new(alloc, table)?;
+        Ok(TurnSeat { desk, place })
+    }
+
+    /// Waits for the turn, asleep while another seat has it, and takes the value.
+    /// The value's list begins with all that this seat has seen, and has the rows of its number, and of each number that it joined, as they were made.
+    /// It may wait forever: no clause says that a turn is ever got.
+    pub fn enter<R: Wait>(&mut self, rt: &R) -> T
+        requires { (known self.old).turn ≡ false }
+        ensures start { OfOneStart self.old self.new }
+        ensures view { known self.new ≡ entered (known self.old) (T.entries result) }
+        ensures later { StartsWith (T.entries result) (known self.old).seen }
+        ensures facts { IsTrueOf (known self.old) (T.entries result) }
+    {
+        let desk = &self.desk;
+        let shared = &desk.shared;
+        acquire(rt, shared, &mut self.place);
+        shared.exchange(&mut self.place, 0, None).unwrap()
+    }
+
+    /// Gives the value and the turn back, and wakes one seat that waits.
+    /// The value's list is the one that was got, or that and one row more, of this seat's number.
+    pub fn leave(&mut self, value: T)
+        requires turn { (known self.old).turn ≡ true }
+        requires list { CanLeave (known self.old) (T.entries value) }
+        requires fits { length (T.entries value) + 1 < 2 ^ 64 }
+        ensures start { OfOneStart self.old self.new }
+        ensures view { known self.new ≡ left_with (known self.old) (T.entries value) }
+    {
+        let desk = &self.desk;
+        let shared = &desk.shared;
+        let rows = value.count();
+        shared.exchange(&mut self.place, 0, Some(value));
+        count_row(shared, &mut self.place, rows);
+        shared.store::<Release<T>>(&mut self.place, 0, 0);
+        shared.wake_one(0);
+    }
+
+    // The number of the new seat is picked by the call.
+    fn split_as<J: Number>(&mut self, who: u32) -> Result<TurnSeat<T>, OutOfMemory>
+        requires start { ((known self.old).who ≡ 0) × ((known self.old).turn ≡ false) }
+        requires picked { J.number ≡ who }
+        requires number { who ≢ 0 }
+        requires fresh { ¬ Contains (known self.old).given who }
+        ensures start { OfOneStart self.old self.new }
+        ensures ok { IfOk result (λ s. OfOneStart self.old s × (known s ≡ newcomer who (known self.old).seen)) }
+        ensures given { OnOk result (known self.new ≡ with_given (known self.old) who) }
+        ensures err { OnErr result (known self.new ≡ known self.old) }
+    {
+        let desk = Arc::try_clone(&self.desk)?;
+        let shared = &desk.shared;
+        let place = shared.split_seat::<SplitOff<J>>(&mut self.place);
+        Ok(TurnSeat { desk, place })
+    }
+
+    /// A new seat of the number `who`, which has seen what this seat has seen and has made nothing.
+    /// Only the seat of the start splits others off, each number once.
+    /// `OutOfMemory`: no seat was made, and the number is still free.
+    pub fn split(&mut self, who: u32) -> Result<TurnSeat<T>, OutOfMemory>
+        requires start { ((known self.old).who ≡ 0) × ((known self.old).turn ≡ false) }
+        requires number { who ≢ 0 }
+        requires fresh { ¬ Contains (known self.old).given who }
+        ensures start { OfOneStart self.old self.new }
+        ensures ok { IfOk result (λ s. OfOneStart self.old s × (known s ≡ newcomer who (known self.old).seen)) }
+        ensures given { OnOk result (known self.new ≡ with_given (known self.old) who) }
+        ensures err { OnErr result (known self.new ≡ known self.old) }
+    {
+        self.split_as::<Brand>(who)
+    }
+
+    // This seat is told what the other has seen, and looks.
+    fn hear(&mut self, other: &mut TurnSeat<T>)
+        requires { OfOneStart self.old other.old }
+        ensures start { OfOneStart self.old self.new × OfOneStart other.old other.new }
+        ensures view { known self.new ≡ with_seen (known self.old) (known self.new).seen }
+        ensures other { known other.new ≡ known other.old }
+        ensures later { StartsWith (known self.new).seen (known self.old).seen }
+        ensures told { StartsWith (known self.new).seen (known other.old).seen }
+        ensures facts { IsTrueOf (known self.new) (known self.new).seen }
+    {
+        let desk = &self.desk;
+        let shared = &desk.shared;
+        let note = shared.split_seat::<Note>(&mut other.place);
+        shared.join_seat::<Note>(&mut self.place, note);
+        shared.load::<Look<T>>(&mut self.place, 1);
+    }
+
+    /// Two seats of one start tell each other: afterwards what each has seen begins with what the two had seen before.
+    /// It takes no memory. After `OutOfMemory`, which this form never answers, both would have seen what they had.
+    pub fn meet<R: Wait>(&mut self, _rt: &R, other: &mut TurnSeat<T>) -> Result<(), OutOfMemory>
+        requires one_start { OfOneStart self.old other.old }
+        requires turn { ((known self.old).turn ≡ false) × ((known other.old).turn ≡ false) }
+        ensures start { OfOneStart self.old self.new × OfOneStart other.old other.new }
+        ensures view { (known self.new ≡ with_seen (known self.old) (known self.new).seen) × (known other.new ≡ with_seen (known other.old) (known other.new).seen) }
+        ensures mine { StartsWith (known self.new).seen (known self.old).seen × StartsWith (known self.new).seen (known other.old).seen }
+        ensures theirs { StartsWith (known other.new).seen (known self.old).seen × StartsWith (known other.new).seen (known other.old).seen }
+        ensures facts { IsTrueOf (known self.new) (known self.new).seen × IsTrueOf (known other.new) (known other.new).seen }
+    {
+        self.hear(other);
+        other.hear(self);
+        Ok(())
+    }
+
+    /// The seat of the start takes in another of the same start, and from then on knows what the other had made.
+    /// It keeps the longer of what the two have seen, which begins with the other.
+    pub fn join(&mut self, other: TurnSeat<T>)
+        requires start { (known self.old).who ≡ 0 }
+        requires one_start { OfOneStart self.old other }
+        requires turn { ((known self.old).turn ≡ false) × ((known other).turn ≡ false) }
+        ensures start { OfOneStart self.old self.new }
+        ensures view { known self.new ≡ joined_with (known self.old) (known other) }
+        ensures later { StartsWith (known self.new).seen (known self.old).seen × StartsWith (known self.new).seen (known other).seen }
+        ensures others { (n : ℕ) → n ≢ 0 → ¬ Contains (known self.new).given n → rows_by n (known self.new).seen ≡ [] }
+    {
+        let TurnSeat { desk: _, place } = other;
+        let desk = &self.desk;
+        let shared = &desk.shared;
+        shared.join_seat::<Merge>(&mut self.place, place);
+        shared.load::<Read<T>>(&mut self.place, 1);
+    }
+
+    /// Waits for the turn and keeps the value. Each seat that was split off was joined.
+    /// The turn is never given back.
+    pub fn close<R: Wait>(self, rt: &R) -> T
+        requires start { ((known self).who ≡ 0) × ((known self).turn ≡ false) }
+        requires joined { AllJoined (known self) }
+        ensures later { StartsWith (T.entries result) (known self).seen }
+        ensures facts { IsTrueOf (known self) (T.entries result) }
+    {
+        let mut last = self;
+        last.enter(rt)
+    }
+}
