@@ -1,10 +1,11 @@
 -- How a turn is left: what is counted.
-use Rattle.std.proofs.Common.{◌≡◌, ◌≢◌, ℕ, ◌+◌, ◌%◌, ◌^◌, ◌<◌, true, List, [], ◌∷◌, ◌++◌, map, drop, length, sym, refl, ap, ◌∙◌, subst, ⊎_elim, inr, arith, length-append, Option, Some, None}
+use Rattle.std.proofs.Common.{◌≡◌, ◌≢◌, ℕ, ◌+◌, ◌%◌, ◌^◌, ◌<◌, true, List, [], ◌∷◌, ◌++◌, map, drop, length, sym, refl, ap, ◌∙◌, subst, ⊎_elim, inr, arith, length-append, Contains, Option, Some, None}
 use Rattle.std.proofs.lemmas.List.{append-nil}
 use mathlib.Core.Option.{none}
 use Rattle.atomic_table.specs.Table.{Me, step, rest, Allows}
 use Rattle.sc_turn.specs.declared.rule.View.{View}
-use Rattle.sc_turn.specs.Turn.{view, with_seen, with_row, counted, CanLeave, IsTrueOf, Kept, Looks, Reads, Appends, appended, released}
+use Rattle.sc_turn.specs.Turn.{view, with_seen, with_row, counted, rows_by, CanLeave, IsTrueOf, IsTrueLater, Kept, Looks, Reads, Appends, appended, released}
+use Rattle.sc_turn.proofs.Lists.{rows_by_none}
 use Rattle.sc_turn.proofs.Keeps.{appends, releases}
 
 drop_whole : {A : Type 0} → (xs ys : List A) → drop (length xs) (xs ++ ys) ≡ ys
@@ -78,3 +79,11 @@ module _ {T E : Type 0} (entries : T → List (E × ℕ)) where
   pub true_of_seen : (m m' : M) → Looks entries m m' → m.0.live ≡ true → IsTrueOf m'.0 m'.0.seen
   true_of_seen m m' look live = let f = look.facts live in
       subst (λ (v : View E). IsTrueOf v m'.0.seen) (sym look.view_is) record { own = f.own; joined = f.joined; others = f.others }
+
+  -- what a read tells of what was seen
+  pub true_later : (m m' : M) (r : ℕ) → Reads entries m r m' → m.0.live ≡ true → IsTrueLater m'.0
+  true_later m m' r read live = let f = read.facts live in
+      subst (λ (z : M). IsTrueLater z.0) (sym read.same) record { list = f.list; later = f.later; facts = record { own = f.facts.own; joined = f.facts.joined; others = f.facts.others } }
+
+pub others_later : {E : Type 0} → (v : View E) → v.who ≡ 0 → IsTrueLater v → (n : ℕ) → n ≢ 0 → ¬ Contains v.given n → rows_by n v.seen ≡ []
+others_later v first t n ne free = rows_by_none n t.list v.seen t.later (t.facts.others first n ne free)

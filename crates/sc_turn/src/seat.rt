@@ -1,7 +1,7 @@
 //! The seats, from which threads take turns at one value.
 ghost use Rattle.std.specs.Prelude.{◌≡◌, ◌≢◌, ℕ, ◌+◌, ◌<◌, ◌^◌, ◌⊎◌, true, false, [], ◌∷◌, ◌++◌, length, Contains, IfOk, OnOk, OnErr, None, if◌then◌else◌};
 ghost use Rattle.std.specs.Arc.{arc_value};
-ghost use Rattle.sc_turn.specs.Turn.{opener, newcomer, with_given, with_seen, entered, left_with, joined_with, StartsWith, IsTrueOf, CanLeave, rows_by};
+ghost use Rattle.sc_turn.specs.Turn.{opener, newcomer, with_given, with_seen, entered, left_with, joined_with, StartsWith, IsTrueOf, IsTrueLater, CanLeave, rows_by};
 
 use crate::listed::Listed;
 use crate::plays::{Look, Merge, Note, Number, Read, Release, SplitOff};
@@ -149,6 +149,7 @@ impl<T: Listed> TurnSeat<T> {
         ensures start { OfOneStart self.old self.new }
         ensures view { known self.new ≡ joined_with (known self.old) (known other) }
         ensures later { StartsWith (known self.new).seen (known self.old).seen × StartsWith (known self.new).seen (known other).seen }
+        ensures facts { IsTrueLater (known self.new) }
         ensures others { (n : ℕ) → n ≢ 0 → ¬ Contains (known self.new).given n → rows_by n (known self.new).seen ≡ [] }
     {
         let TurnSeat { desk: _, place } = other;
