@@ -1,0 +1,4 @@
+pub mod AcceptorLemmas
+pub mod BallotLemmas
+pub mod ChoiceLemmas
+pub mod ListLemmas

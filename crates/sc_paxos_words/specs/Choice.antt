@@ -1,0 +1,31 @@
+-- The choice of a value from reports (Paxos Made Simple, section 2.2).
+use Rattle.std.specs.Prelude.{ℕ, Bool, true, ◌&&◌, ◌==◌, nat_lt, List, Option, Some, None, fold, if◌then◌else◌}
+use Rattle.std.specs.List.{list_any}
+use Rattle.std.specs.Option.{option_map}
+use Rattle.sc_paxos_words.specs.declared.reports.Report.{Report}
+use Rattle.sc_paxos_words.specs.Ballots.{below}
+
+-- whether a report has a higher ballot than the best so far, if there is one
+abbrev pub beats : {V : Type 0} → Option (Report V) → Report V → Bool
+beats None report = true
+beats (Some best) report = below best.ballot report.ballot
+
+-- whether a report names the slot and beats the best so far
+abbrev pub is_better : {V : Type 0} → ℕ → Option (Report V) → Report V → Bool
+is_better slot best report = report.slot == slot && beats best report
+
+-- the better of the best so far and a report
+abbrev pub better_of : {V : Type 0} → ℕ → Option (Report V) → Report V → Option (Report V)
+better_of slot best report = if is_better slot best report then Some report else best
+
+-- the report of the slot with the highest ballot, and of several with it the first
+abbrev pub choice : {V : Type 0} → ℕ → List (Report V) → Option (Report V)
+choice slot = fold (better_of slot) None
+
+-- the value of that report
+abbrev pub chosen_value : {V : Type 0} → ℕ → List (Report V) → Option V
+chosen_value slot reports = option_map (λ report. report.value) (choice slot reports)
+
+-- whether a report names a slot above this one
+abbrev pub names_above : {V : Type 0} → ℕ → List (Report V) → Bool
+names_above slot reports = list_any (λ report. nat_lt slot report.slot) reports

@@ -1,0 +1,10 @@
+pub mod Accepting
+pub mod Acceptors
+pub mod Among
+pub mod Ballots
+pub mod Choice
+pub mod Laws
+pub mod Leaders
+pub mod Logs
+pub mod Preparing
+pub mod Votes

@@ -1,0 +1,12 @@
+-- How an acceptor answers a prepare (Paxos Made Simple, section 2.2, phase 1).
+use Rattle.std.specs.Prelude.{ℕ, if◌then◌else◌}
+use Rattle.sc_base.specs.declared.names.Ballot.{Ballot}
+use Rattle.sc_paxos_words.specs.declared.answers.PrepareAnswer.{PrepareAnswer}
+use Rattle.sc_paxos_words.specs.declared.answers.PrepareAnswer.TheVariants.{Promise, Ignored}
+use Rattle.sc_paxos_words.specs.Acceptors.{AcceptorState, may_promise, after_promise, reports_from}
+
+-- it promises a ballot above its promise, and reports each accepted slot not below `from`
+abbrev pub prepared : {V : Type 0} → Ballot → ℕ → AcceptorState V → PrepareAnswer V × AcceptorState V
+prepared ballot from state =
+    if may_promise state ballot then (Promise (reports_from from state.accepted), after_promise ballot state)
+    else (Ignored state.promised, state)

@@ -1,0 +1,26 @@
+//! Reports of what was accepted.
+ghost use Rattle.std.specs.Prelude.{◌≡◌, IfOk};
+
+use sc_base::{Ballot, Dup, OutOfMemory};
+use std::alloc::Global;
+
+/// What an acceptor reports of a slot: the last value that it accepted there, and in which ballot (Paxos Made Simple, section 2.2).
+#[derive(Debug, PartialEq, Eq, Drop)]
+pub struct Report<V> {
+    /// The slot of the log, from 1 on.
+    pub slot: u32,
+    /// The ballot in which the value was accepted.
+    pub ballot: Ballot,
+    /// The value.
+    pub value: V,
+}
+
+impl<V: Dup> Dup for Report<V> {
+    fn dup(&self, alloc: Global) -> Result<Report<V>, OutOfMemory> {
+        Ok(Report {
+            slot: self.slot,
+            ballot: self.ballot,
+            value: self.value.dup(alloc)?,
+        })
+    }
+}
