@@ -1,0 +1,10 @@
+-- Whether two names are one name, and two ballots one ballot.
+use Rattle.std.specs.Prelude.{Bool, ◌==◌, ◌&&◌}
+use Rattle.sc_base.specs.declared.names.Draw.{Draw}
+use Rattle.sc_base.specs.declared.names.Ballot.{Ballot}
+
+abbrev pub same_draw : Draw → Draw → Bool
+same_draw a b = (a.node == b.node) && (a.count == b.count)
+
+abbrev pub same_ballot : Ballot → Ballot → Bool
+same_ballot a b = (a.round == b.round) && (a.node == b.node)

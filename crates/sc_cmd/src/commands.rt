@@ -1,0 +1,88 @@
+//! The entries of a group's log.
+use crate::bodies::{Body, Offer, Watch};
+use crate::votes::{Outcome, Past, Vote};
+use sc_base::{Draw, Dup, Op, OutOfMemory};
+use std::alloc::Global;
+
+/// An entry of a log. An `order` of 0 means that a policy made the order.
+#[derive(Drop)]
+pub enum Command {
+    /// Fills a gap.
+    Noop,
+    /// A client's request.
+    Call { client: u16, seq: u32, op: Op },
+    /// The node becomes a member.
+    Join { node: u16, order: u32 },
+    /// The node is a member no more.
+    Leave { node: u16, order: u32 },
+    /// The part from `at` on becomes the group `child`.
+    Split { at: u32, child: Draw, order: u32 },
+    /// The group coordinates a transaction with its successor.
+    Begin { tx: Draw, body: Body, order: u32 },
+    /// The group votes on another group's offer.
+    Prepared { tx: Draw, offer: Offer },
+    /// The coordinator notes the participant's vote.
+    RecordVote { tx: Draw, vote: Vote, by: u16 },
+    /// The coordinator gives up what is not decided.
+    GiveUp { tx: Draw },
+    /// A party takes over what the coordinator decided.
+    Finish { tx: Draw, outcome: Outcome },
+    /// The group votes on becoming a watcher.
+    Watched { tx: Draw, watch: Watch },
+    /// The coordinator notes the watcher's vote.
+    RecordWatch { tx: Draw, vote: Past, by: u16 },
+}
+
+impl Dup for Command {
+    fn dup(&self, alloc: Global) -> Result<Command, OutOfMemory> {
+        Ok(match self {
+            Command::Noop => Command::Noop,
+            Command::Call { client, seq, op } => Command::Call {
+                client: *client,
+                seq: *seq,
+                op: op.dup(alloc)?,
+            },
+            Command::Join { node, order } => Command::Join {
+                node: *node,
+                order: *order,
+            },
+            Command::Leave { node, order } => Command::Leave {
+                node: *node,
+                order: *order,
+            },
+            Command::Split { at, child, order } => Command::Split {
+                at: *at,
+                child: *child,
+                order: *order,
+            },
+            Command::Begin { tx, body, order } => Command::Begin {
+                tx: *tx,
+                body: *body,
+                order: *order,
+            },
+            Command::Prepared { tx, offer } => Command::Prepared {
+                tx: *tx,
+                offer: *offer,
+            },
+            Command::RecordVote { tx, vote, by } => Command::RecordVote {
+                tx: *tx,
+                vote: vote.dup(alloc)?,
+                by: *by,
+            },
+            Command::GiveUp { tx } => Command::GiveUp { tx: *tx },
+            Command::Finish { tx, outcome } => Command::Finish {
+                tx: *tx,
+                outcome: outcome.dup(alloc)?,
+            },
+            Command::Watched { tx, watch } => Command::Watched {
+                tx: *tx,
+                watch: *watch,
+            },
+            Command::RecordWatch { tx, vote, by } => Command::RecordWatch {
+                tx: *tx,
+                vote: *vote,
+                by: *by,
+            },
+        })
+    }
+}

@@ -1,0 +1,118 @@
+//! The state of a group.
+use crate::bodies::{Body, Offer, Watch};
+use crate::links::{Link, Route};
+use crate::votes::{DecidedList, Heard, VotedList};
+use sc_base::{Draw, Dup, OutOfMemory, Pairs, RingArc, SeenList, Sequence};
+use sc_member::Members;
+use std::alloc::Global;
+
+/// What a group is bound to. Only a group that is free, or a watcher, serves its keys.
+#[derive(Drop)]
+pub enum Lock {
+    Free,
+    /// It has begun a transaction; `heard` is the participant's vote where it waits for a watcher's.
+    Coordinating {
+        tx: Draw,
+        body: Body,
+        order: u32,
+        heard: Option<Heard>,
+    },
+    /// It has voted Yes as a participant.
+    Promised {
+        tx: Draw,
+        offer: Offer,
+    },
+    /// It has voted Yes as a watcher.
+    Watching {
+        tx: Draw,
+        watch: Watch,
+    },
+}
+
+/// A group but for its pairs and its client table.
+#[derive(Drop)]
+pub struct Core {
+    /// The group's name.
+    pub id: Draw,
+    /// The node that leads from birth: the least member then.
+    pub first: u16,
+    pub arc: RingArc,
+    pub members: Members,
+    /// The group that serves the positions from this arc's end on.
+    pub succ: Link,
+    /// The group that serves the positions up to this arc's start.
+    pub pred: Link,
+    pub lock: Lock,
+    /// How many transactions it has begun.
+    pub begun: u32,
+    pub decided: DecidedList,
+    pub voted: VotedList,
+    /// The children that it has split off at once.
+    pub born: Sequence<Draw>,
+    /// Where it went, where it was merged into another group.
+    pub gone: Option<Route>,
+}
+
+/// A whole group: what a replica starts from.
+#[derive(Drop)]
+pub struct Base {
+    pub core: Core,
+    pub pairs: Pairs,
+    pub clients: SeenList,
+}
+
+impl Dup for Lock {
+    fn dup(&self, alloc: Global) -> Result<Lock, OutOfMemory> {
+        Ok(match self {
+            Lock::Free => Lock::Free,
+            Lock::Coordinating {
+                tx,
+                body,
+                order,
+                heard,
+            } => Lock::Coordinating {
+                tx: *tx,
+                body: *body,
+                order: *order,
+                heard: heard.dup(alloc)?,
+            },
+            Lock::Promised { tx, offer } => Lock::Promised {
+                tx: *tx,
+                offer: *offer,
+            },
+            Lock::Watching { tx, watch } => Lock::Watching {
+                tx: *tx,
+                watch: *watch,
+            },
+        })
+    }
+}
+
+impl Dup for Core {
+    fn dup(&self, alloc: Global) -> Result<Core, OutOfMemory> {
+        Ok(Core {
+            id: self.id,
+            first: self.first,
+            arc: self.arc,
+            members: self.members,
+            succ: self.succ,
+            pred: self.pred,
+            lock: self.lock.dup(alloc)?,
+            begun: self.begun,
+            decided: self.decided.dup(alloc)?,
+            voted: self.voted.dup(alloc)?,
+            born: self.born.dup(alloc)?,
+            gone: self.gone,
+        })
+    }
+}
+
+impl Dup for Base {
+    fn dup(&self, alloc: Global) -> Result<Base, OutOfMemory> {
+        Ok(Base {
+            core: self.core.dup(alloc)?,
+            pairs: self.pairs.dup(alloc)?,
+            clients: self.clients.dup(alloc)?,
+        })
+    }
+}

@@ -1,0 +1,34 @@
+//! Where a group is, as another group or a client knows it.
+use sc_base::{Draw, Dup, OutOfMemory, Sequence};
+use sc_member::Members;
+use std::alloc::Global;
+
+/// A neighbour group. The name is exact; the member list is a hint.
+#[derive(Clone, Copy)]
+pub struct Link {
+    pub group: Draw,
+    pub members: Members,
+}
+
+/// A group, the position at which its arc starts, and its members as far as they are known.
+#[derive(Clone, Copy)]
+pub struct Route {
+    pub group: Draw,
+    pub lo: u32,
+    pub members: Members,
+}
+
+/// Member sets, one a slot.
+pub type MemberSets = Sequence<Members>;
+
+impl Dup for Link {
+    fn dup(&self, _alloc: Global) -> Result<Link, OutOfMemory> {
+        Ok(*self)
+    }
+}
+
+impl Dup for Route {
+    fn dup(&self, _alloc: Global) -> Result<Route, OutOfMemory> {
+        Ok(*self)
+    }
+}

@@ -1,0 +1,116 @@
+//! Orders of the operator, and what is told of them.
+ghost use Rattle.std.specs.Prelude.{◌≡◌};
+ghost use Rattle.sc_cmd.specs.Order.{code_of, name_of};
+
+use sc_base::{Draw, Dup, OutOfMemory};
+use std::alloc::Global;
+
+/// An order to a group.
+#[derive(Clone, Copy)]
+pub enum Order {
+    Join { node: u16, group: Draw },
+    Leave { node: u16, group: Draw },
+    Split { group: Draw, at: u32 },
+    Merge { group: Draw },
+    Repart { group: Draw, at: u32 },
+    Migrate { group: Draw, node: u16 },
+}
+
+/// An order with its number, from 1 over the whole scenario.
+#[derive(Clone, Copy)]
+pub struct OrderLine {
+    pub number: u32,
+    pub order: Order,
+}
+
+/// Why an order is refused.
+#[derive(Clone, Copy)]
+pub enum OrderRefusal {
+    /// The node does not lead the group; it takes `hint` for the leader.
+    NotLeader { hint: Option<u16> },
+    /// The group is locked in a transaction.
+    InTransaction { tx: Draw },
+    /// The group is its own successor.
+    NoNeighbour,
+    /// No place for a boundary.
+    BadBoundary,
+    /// The group would have `n` members.
+    TooManyMembers { n: u8 },
+    /// The node is no member.
+    NotMember,
+    /// The group has one member.
+    LastMember,
+    /// The group has begun as many transactions as it may.
+    TxLimit,
+    /// The node is a member.
+    IsMember,
+}
+
+/// What is told of an order.
+#[derive(Clone, Copy)]
+pub enum ToldResult {
+    Done,
+    Committed,
+    Aborted,
+    Refused(OrderRefusal),
+}
+
+impl OrderRefusal {
+    /// Its number in the order in which refusals are tested, from 1 to 9.
+    pub fn code(&self) -> u8
+        ensures { result ≡ code_of self.now }
+    {
+        match self {
+            OrderRefusal::NotLeader { .. } => 1,
+            OrderRefusal::InTransaction { .. } => 2,
+            OrderRefusal::NoNeighbour => 3,
+            OrderRefusal::BadBoundary => 4,
+            OrderRefusal::TooManyMembers { .. } => 5,
+            OrderRefusal::NotMember => 6,
+            OrderRefusal::LastMember => 7,
+            OrderRefusal::TxLimit => 8,
+            OrderRefusal::IsMember => 9,
+        }
+    }
+
+    /// Its printed name.
+    pub fn name(&self) -> &'static [u8]
+        ensures { result.now ≡ name_of self.now }
+    {
+        match self {
+            OrderRefusal::NotLeader { .. } => b"not-leader",
+            OrderRefusal::InTransaction { .. } => b"in-transaction",
+            OrderRefusal::NoNeighbour => b"no-neighbour",
+            OrderRefusal::BadBoundary => b"bad-boundary",
+            OrderRefusal::TooManyMembers { .. } => b"too-many-members",
+            OrderRefusal::NotMember => b"not-member",
+            OrderRefusal::LastMember => b"last-member",
+            OrderRefusal::TxLimit => b"tx-limit",
+            OrderRefusal::IsMember => b"is-member",
+        }
+    }
+}
+
+impl Dup for Order {
+    fn dup(&self, _alloc: Global) -> Result<Order, OutOfMemory> {
+        Ok(*self)
+    }
+}
+
+impl Dup for OrderLine {
+    fn dup(&self, _alloc: Global) -> Result<OrderLine, OutOfMemory> {
+        Ok(*self)
+    }
+}
+
+impl Dup for OrderRefusal {
+    fn dup(&self, _alloc: Global) -> Result<OrderRefusal, OutOfMemory> {
+        Ok(*self)
+    }
+}
+
+impl Dup for ToldResult {
+    fn dup(&self, _alloc: Global) -> Result<ToldResult, OutOfMemory> {
+        Ok(*self)
+    }
+}

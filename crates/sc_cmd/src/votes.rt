@@ -1,0 +1,142 @@
+//! What the parties of a transaction answer, and what was decided.
+use crate::links::{Link, Route};
+use sc_base::{Draw, Dup, OutOfMemory, Pairs, RingArc, SeenList, Sequence};
+use sc_member::Members;
+use std::alloc::Global;
+
+/// The record of a participant, which stays as it is from its Yes to the outcome.
+#[derive(Drop)]
+pub struct Frozen {
+    pub arc: RingArc,
+    pub members: Members,
+    pub succ: Link,
+    pub pairs: Pairs,
+    pub clients: SeenList,
+}
+
+/// What a coordinator has heard from its participant, and from which node.
+#[derive(Drop)]
+pub struct Heard {
+    pub frozen: Frozen,
+    pub by: u16,
+}
+
+/// Why a party votes No.
+#[derive(Clone, Copy)]
+pub enum No {
+    /// It is locked in the transaction `tx`.
+    Busy { tx: Draw },
+    /// It was merged into another group.
+    Gone,
+    /// It is not the neighbour that the coordinator takes it for.
+    Apart,
+    /// A group would have `n` members, which are too many.
+    TooMany { n: u8 },
+}
+
+/// A participant's vote.
+#[derive(Drop)]
+pub enum Vote {
+    Yes(Frozen),
+    No(No),
+}
+
+/// What a group remembers of a vote of its own, or that the transaction has ended there.
+#[derive(Clone, Copy)]
+pub enum Past {
+    Yes,
+    No(No),
+    Ended,
+}
+
+/// What a moved boundary brings to the group that gains the arc.
+#[derive(Drop)]
+pub struct Gift {
+    pub pairs: Pairs,
+    pub clients: SeenList,
+}
+
+/// What a coordinator has decided.
+#[derive(Drop)]
+pub enum Outcome {
+    Abort,
+    /// The participant is gone into the coordinator, whose new route is this.
+    Merged { into: Route },
+    /// The boundary stands at `at`; a gift goes to the participant where it gains.
+    Moved { at: u32, gift: Option<Gift> },
+    Migrated { node: u16 },
+    /// The coordinator has split.
+    Divided,
+}
+
+/// The outcomes that a group has decided, by transaction, oldest first.
+pub type DecidedList = Sequence<(Draw, Outcome)>;
+
+/// The votes that a group has cast, by transaction, oldest first.
+pub type VotedList = Sequence<(Draw, Past)>;
+
+impl Dup for Frozen {
+    fn dup(&self, alloc: Global) -> Result<Frozen, OutOfMemory> {
+        Ok(Frozen {
+            arc: self.arc,
+            members: self.members,
+            succ: self.succ,
+            pairs: self.pairs.dup(alloc)?,
+            clients: self.clients.dup(alloc)?,
+        })
+    }
+}
+
+impl Dup for Heard {
+    fn dup(&self, alloc: Global) -> Result<Heard, OutOfMemory> {
+        Ok(Heard {
+            frozen: self.frozen.dup(alloc)?,
+            by: self.by,
+        })
+    }
+}
+
+impl Dup for No {
+    fn dup(&self, _alloc: Global) -> Result<No, OutOfMemory> {
+        Ok(*self)
+    }
+}
+
+impl Dup for Vote {
+    fn dup(&self, alloc: Global) -> Result<Vote, OutOfMemory> {
+        Ok(match self {
+            Vote::Yes(frozen) => Vote::Yes(frozen.dup(alloc)?),
+            Vote::No(why) => Vote::No(*why),
+        })
+    }
+}
+
+impl Dup for Past {
+    fn dup(&self, _alloc: Global) -> Result<Past, OutOfMemory> {
+        Ok(*self)
+    }
+}
+
+impl Dup for Gift {
+    fn dup(&self, alloc: Global) -> Result<Gift, OutOfMemory> {
+        Ok(Gift {
+            pairs: self.pairs.dup(alloc)?,
+            clients: self.clients.dup(alloc)?,
+        })
+    }
+}
+
+impl Dup for Outcome {
+    fn dup(&self, alloc: Global) -> Result<Outcome, OutOfMemory> {
+        Ok(match self {
+            Outcome::Abort => Outcome::Abort,
+            Outcome::Merged { into } => Outcome::Merged { into: *into },
+            Outcome::Moved { at, gift } => Outcome::Moved {
+                at: *at,
+                gift: gift.dup(alloc)?,
+            },
+            Outcome::Migrated { node } => Outcome::Migrated { node: *node },
+            Outcome::Divided => Outcome::Divided,
+        })
+    }
+}

@@ -1,0 +1,6 @@
+//! One command after another on a group.
+#![tactic(auto)]
+
+mod machine;
+
+pub use machine::Machine;

@@ -1,0 +1,139 @@
+//! The group machine.
+ghost use Rattle.std.specs.Prelude.{◌≡◌, IfOk, true};
+ghost use Rattle.std.specs.FinMap.{get};
+ghost use Rattle.sc_ideal.specs.IdealStore.{holds_key, key_of};
+ghost use Rattle.sc_ideal.specs.Clients.{seen_of};
+ghost use Rattle.sc_machine_table.specs.Group.{group_of};
+ghost use Rattle.sc_machine_table.specs.Machine.{applied, called, served, numbered, done};
+ghost use Rattle.sc_machine.specs.Built.{is_built};
+
+use sc_base::{Dup, Op, OutOfMemory, RingArc};
+use sc_clients::ClientTable;
+use sc_cmd::{Base, Command, Core, Effect, Lock};
+use sc_ideal::Seen;
+use sc_store::Store;
+use std::alloc::Global;
+use std::marker::Model;
+
+/// A group: its record, its pairs and its client table.
+#[derive(Drop)]
+pub struct Machine {
+    core: Core,
+    store: Store,
+    clients: ClientTable,
+    alloc: Global,
+}
+
+impl Model for Machine {
+    ghost use Rattle.std.specs.FinMap as map;
+    ghost use Rattle.std.specs.Coded.{Coded, codes, coded_ℕ, coded_list};
+    ghost use Rattle.sc_ideal.specs.IdealStore.{Contents};
+    ghost use Rattle.sc_ideal.specs.Clients.{Table};
+    ghost use Rattle.sc_machine_table.specs.Group.{Group};
+
+    ghost Value = { Group };
+
+    ghost coded = { let pairs : Coded Contents = map.code (coded_list coded_ℕ) (coded_list coded_ℕ) in let clients : Coded Table = map.code coded_ℕ (Prim.hlevel codes) in Prim.hlevel (codes, pairs, clients) };
+
+    ghost view = { λ m. record { core = m.core; pairs = m.store; clients = m.clients } };
+}
+
+fn holds_key(arc: &RingArc, op: &Op) -> bool
+    ensures { result ≡ holds_key arc.now (key_of op.now) }
+{
+    arc.holds(op.key().pos())
+}
+
+impl Machine {
+    /// The group that a record starts.
+    pub fn born(alloc: Global, base: Base) -> Result<Machine, OutOfMemory>
+        ensures { IfOk result (λ machine. machine ≡ group_of base) }
+    {
+        let Base {
+            core,
+            pairs,
+            clients: seen,
+        } = base;
+        let mut store = Store::new(alloc);
+        store.join(&pairs)?;
+        let mut clients = ClientTable::new(alloc);
+        clients.join(&seen)?;
+        Ok(Machine {
+            core,
+            store,
+            clients,
+            alloc,
+        })
+    }
+
+    /// The group's record but for pairs and client table.
+    pub fn core(&self) -> &Core
+        ensures { result.now ≡ self.now.core }
+    {
+        &self.core
+    }
+
+    /// Applies a command, by the group machine's table. After want of memory the machine may only be dropped.
+    /// Only the commands `Noop` and `Call` are built.
+    pub fn apply(&mut self, command: &Command) -> Result<Effect, OutOfMemory>
+        requires { is_built command.now ≡ true }
+        ensures { IfOk result (λ effect. applied self.old command.now ≡ (self.new, effect)) }
+    {
+        match command {
+            Command::Noop => Ok(Effect::Idle),
+            Command::Call { client, seq, op } => self.call(*client, *seq, op),
+            _ => unreachable!(),
+        }
+    }
+
+    fn call(&mut self, client: u16, seq: u32, op: &Op) -> Result<Effect, OutOfMemory>
+        ensures { IfOk result (λ effect. called self.old.core.gone self.old.core.lock self.old client seq op.now ≡ (self.new, effect)) }
+    {
+        if let Some(into) = &self.core.gone {
+            return Ok(Effect::Gone { into: *into });
+        }
+        match &self.core.lock {
+            Lock::Free | Lock::Watching { .. } => self.serve(client, seq, op),
+            Lock::Coordinating { tx, .. } | Lock::Promised { tx, .. } => {
+                Ok(Effect::NoEffect { tx: *tx })
+            }
+        }
+    }
+
+    fn serve(&mut self, client: u16, seq: u32, op: &Op) -> Result<Effect, OutOfMemory>
+        ensures { IfOk result (λ effect. served self.old client seq op.now ≡ (self.new, effect)) }
+    {
+        if !holds_key(&self.core.arc, op) {
+            return Ok(Effect::NotMine {
+                arc: self.core.arc,
+                succ: self.core.succ,
+            });
+        }
+        match self.clients.seen(client, seq) {
+            Seen::New => self.carry_out(client, seq, op),
+            Seen::Again => self.repeat(client, seq, op),
+            Seen::Stale { last } => Ok(Effect::Stale { last }),
+        }
+    }
+
+    fn carry_out(&mut self, client: u16, seq: u32, op: &Op) -> Result<Effect, OutOfMemory>
+        requires { seen_of (get self.old.clients client) seq ≡ Seen.New }
+        ensures { IfOk result (λ effect. done self.old client seq op.now ≡ (self.new, effect)) }
+    {
+        let reply = self.store.apply(op)?;
+        let noted = reply.dup(self.alloc)?;
+        self.clients.note(client, seq, noted)?;
+        Ok(Effect::Done(reply))
+    }
+
+    // The reply that is noted, of a request whose number is the noted one.
+    fn repeat(&self, client: u16, seq: u32, op: &Op) -> Result<Effect, OutOfMemory>
+        requires { seen_of (get self.now.clients client) seq ≡ Seen.Again }
+        ensures { IfOk result (λ effect. numbered (get self.now.clients client) self.now client seq op.now ≡ (self.now, effect)) }
+    {
+        match self.clients.reply(client) {
+            Some(reply) => Ok(Effect::Again(reply.dup(self.alloc)?)),
+            None => unreachable!(),
+        }
+    }
+}

@@ -1,0 +1,20 @@
+-- A group as its machine keeps it: its record, its pairs and its client table.
+use Rattle.std.specs.Prelude.{ℕ, List, Option, None}
+use Rattle.std.specs.FinMap.{FinMap, empty, entries}
+use Rattle.sc_ideal.specs.IdealStore.{Contents, with_pairs}
+use Rattle.sc_ideal.specs.Clients.{Table, joined_with}
+use Rattle.sc_cmd.specs.declared.cores.Core.{Core}
+use Rattle.sc_cmd.specs.declared.cores.Base.{Base}
+
+pub record Group : Type 0 where
+  pub core : Core
+  pub pairs : Contents
+  pub clients : Table
+
+-- the group that a record starts
+abbrev pub group_of : Base → Group
+group_of base = record { core = base.core; pairs = with_pairs empty base.pairs; clients = joined_with empty base.clients }
+
+-- the record of a group
+abbrev pub base_of : Group → Base
+base_of group = record { core = group.core; pairs = entries group.pairs; clients = entries group.clients }

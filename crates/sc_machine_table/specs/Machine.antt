@@ -1,0 +1,49 @@
+-- The group machine: what an executed command makes of the group, and its effect. In each part the first line whose condition holds counts.
+use Rattle.std.specs.Prelude.{ℕ, Option, Some, None, nat_lt, ◌==◌, if◌then◌else◌}
+use Rattle.std.specs.FinMap.{get, insert}
+use Rattle.sc_base.specs.declared.ops.Op.{Op}
+use Rattle.sc_base.specs.declared.ops.Noted.{Noted}
+use Rattle.sc_ideal.specs.IdealStore.{key_of, reply_of, after, holds_key}
+use Rattle.sc_cmd.specs.declared.links.Route.{Route}
+use Rattle.sc_cmd.specs.declared.cores.Lock.{Lock}
+use Rattle.sc_cmd.specs.declared.cores.Lock.TheVariants.{Free, Coordinating, Promised, Watching}
+use Rattle.sc_cmd.specs.declared.commands.Command.{Command}
+use Rattle.sc_cmd.specs.declared.commands.Command.TheVariants.{Noop, Call}
+use Rattle.sc_cmd.specs.declared.effects.Effect.{Effect}
+use Rattle.sc_cmd.specs.declared.effects.Effect.TheVariants.{Done, Again, Stale, NotMine, Gone, NoEffect, Idle}
+use Rattle.sc_machine_table.specs.Group.{Group}
+
+-- a new request: the operation is applied, and the client table notes its number and reply
+abbrev pub done : Group → ℕ → ℕ → Op → Group × Effect
+done group client seq op = (
+  record group { pairs = after op group.pairs; clients = insert group.clients client (record { seq = seq; reply = reply_of op group.pairs }) },
+  Done (reply_of op group.pairs),
+)
+
+-- a request by what the client table notes of its client
+abbrev pub numbered : Option Noted → Group → ℕ → ℕ → Op → Group × Effect
+numbered None group client seq op = done group client seq op
+numbered (Some noted) group client seq op =
+    if nat_lt noted.seq seq then done group client seq op
+    else if noted.seq == seq then (group, Again noted.reply)
+    else (group, Stale noted.seq)
+
+-- a request to a group that may serve it: only where its arc holds the key
+abbrev pub served : Group → ℕ → ℕ → Op → Group × Effect
+served group client seq op =
+    if holds_key group.core.arc (key_of op) then numbered (get group.clients client) group client seq op
+    else (group, NotMine group.core.arc group.core.succ)
+
+-- a request by where the group went, if it is gone, and by its lock
+abbrev pub called : Option Route → Lock → Group → ℕ → ℕ → Op → Group × Effect
+called (Some into) lock group client seq op = (group, Gone into)
+called None Free group client seq op = served group client seq op
+called None (Watching tx watch) group client seq op = served group client seq op
+called None (Coordinating tx body order heard) group client seq op = (group, NoEffect tx)
+called None (Promised tx offer) group client seq op = (group, NoEffect tx)
+
+-- one command: the group after it, and its effect. The commands that reshape groups are not built yet: they do nothing.
+abbrev pub applied : Group → Command → Group × Effect
+applied group Noop = (group, Idle)
+applied group (Call client seq op) = called group.core.gone group.core.lock group client seq op
+applied group _ = (group, Idle)

@@ -1,0 +1,144 @@
+//! What a mail says.
+ghost use Rattle.std.specs.Prelude.{◌≡◌, ◌+◌};
+
+use sc_base::{Ballot, Draw, Op, Reply, RingArc, Sequence};
+use sc_cmd::{
+    Base, Command, Link, MemberSets, Offer, Outcome, Past, Route, ToldResult, Vote, Watch,
+};
+use sc_paxos_words::Report;
+
+/// The actor number of the desk, where the results of orders go. It is no actor.
+pub const DESK: u32 = 0;
+
+/// The actor number of a client: nodes are 1 to 32, and client C is 32 + C.
+pub fn client_number(client: u16) -> u32
+    ensures { result ≡ 32 + client }
+{
+    32 + client as u32
+}
+
+/// A promise's reports of what its node accepted last, ascending by slot.
+pub type Reports = Sequence<Report<Command>>;
+
+/// A node's answer to a client's request.
+#[derive(Drop)]
+pub enum AnswerBody {
+    /// The operation is in the log, with this reply.
+    Value(Reply),
+    /// The node does not lead the group; it takes `hint` for the leader.
+    NotLeader { hint: Option<u16> },
+    /// The key is not in the group's arc.
+    NotMine { arc: RingArc, succ: Link },
+    /// The group was merged into another.
+    Gone { into: Route },
+    /// The client's later request `last` is in the log.
+    Stale { last: u32 },
+}
+
+/// What a mail says. `group` is the group that it is about.
+#[derive(Drop)]
+pub enum MailBody {
+    Request {
+        group: Draw,
+        client: u16,
+        seq: u32,
+        op: Op,
+    },
+    Answer {
+        group: Draw,
+        seq: u32,
+        answer: AnswerBody,
+    },
+    /// Phase 1a, for all slots not below `from_slot` (Paxos Made Simple, section 2.2 and 3).
+    Prepare {
+        group: Draw,
+        ballot: Ballot,
+        from_slot: u32,
+    },
+    /// Phase 1b.
+    Promise {
+        group: Draw,
+        ballot: Ballot,
+        reports: Reports,
+    },
+    /// Phase 2a.
+    Accept {
+        group: Draw,
+        ballot: Ballot,
+        slot: u32,
+        command: Command,
+    },
+    /// Phase 2b: it stands for the command of the Accept that its row delivered.
+    Accepted {
+        group: Draw,
+        ballot: Ballot,
+        slot: u32,
+    },
+    /// A prepare or an accept was ignored for this promise.
+    Nack {
+        group: Draw,
+        promised: Ballot,
+    },
+    /// The command of a slot was chosen.
+    Learn {
+        group: Draw,
+        slot: u32,
+        command: Command,
+    },
+    /// The sender lacks the slots from `from_slot` on; 0 where it has no replica.
+    Ask {
+        group: Draw,
+        from_slot: u32,
+    },
+    /// The state after `slot`, with the member sets of the slots that are open then.
+    Install {
+        group: Draw,
+        slot: u32,
+        base: Base,
+        sets: MemberSets,
+    },
+    TxPrepare {
+        tx: Draw,
+        offer: Offer,
+    },
+    TxVote {
+        tx: Draw,
+        coord: Draw,
+        part: Draw,
+        vote: Vote,
+    },
+    TxOutcome {
+        tx: Draw,
+        part: Draw,
+        outcome: Outcome,
+    },
+    /// The sender does not lead the asked group; it takes `hint` for the leader.
+    TxElsewhere {
+        tx: Draw,
+        coord: Draw,
+        hint: Option<u16>,
+    },
+    TxWatch {
+        tx: Draw,
+        watch: Watch,
+    },
+    TxWatched {
+        tx: Draw,
+        coord: Draw,
+        part: Draw,
+        vote: Past,
+    },
+    /// To the desk: what became of an order.
+    Told {
+        order: u32,
+        result: ToldResult,
+    },
+}
+
+/// A mail, with the actor numbers of its sender and receiver.
+#[derive(Drop)]
+pub struct Mail {
+    pub from: u32,
+    pub to: u32,
+    pub body: MailBody,
+}

@@ -1,0 +1,8 @@
+//! Mail between nodes, clients and the desk, and what it counts in the journal's bytes.
+#![tactic(auto)]
+
+mod bodies;
+mod copies;
+mod weights;
+
+pub use bodies::{AnswerBody, DESK, Mail, MailBody, Reports, client_number};

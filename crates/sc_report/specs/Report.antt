@@ -1,0 +1,98 @@
+-- The text of a report, line by line.
+use Rattle.std.specs.Prelude.{ℕ, suc, ◌+◌, Bool, true, false, List, [], ◌∷◌, ◌++◌, length, map, codes, count_by, if◌then◌else◌, Option, Some, None}
+use Rattle.std.specs.Fmt.{decimal}
+use Rattle.sc_base.specs.declared.names.Draw.{Draw}
+use Rattle.sc_base.specs.declared.ops.Op.{Op}
+use Rattle.sc_base.specs.declared.ops.Op.TheVariants.{Get, Put, Del, Add, Cas}
+use Rattle.sc_base.specs.declared.ops.Reply.{Reply}
+use Rattle.sc_cmd.specs.Order.{code_of, name_of}
+use Rattle.sc_cmd.specs.declared.links.Route.{Route}
+use Rattle.sc_cmd.specs.declared.orders.ToldResult.{ToldResult}
+use Rattle.sc_cmd.specs.declared.orders.ToldResult.TheVariants.{Done, Committed, Aborted, Refused}
+use Rattle.sc_report.specs.declared.summaries.Got.{Got}
+use Rattle.sc_report.specs.declared.summaries.Got.TheVariants.{Unsent, Unanswered, Replied}
+use Rattle.sc_report.specs.declared.summaries.Asked.{Asked}
+use Rattle.sc_report.specs.declared.summaries.Summary.{Summary}
+
+-- a line: its text and a line feed
+abbrev pub ended : List ℕ → List ℕ
+ended text = text ++ 10 ∷ []
+
+-- a word and a number
+abbrev pub counted : List ℕ → ℕ → List ℕ
+counted label n = ended (label ++ decimal n)
+
+abbrev pub word_of : Op → List ℕ
+word_of (Get key) = codes "get"
+word_of (Put key value) = codes "put"
+word_of (Del key) = codes "del"
+word_of (Add key value) = codes "add"
+word_of (Cas key expect value) = codes "cas"
+
+-- `WHAT C N OP`
+abbrev pub request : List ℕ → Asked → List ℕ
+request what asked = what ++ decimal asked.client ++ codes " " ++ decimal asked.seq ++ codes " " ++ word_of asked.op
+
+abbrev pub replied : Option (List ℕ) → Asked → List ℕ
+replied None asked = ended (request (codes "reply ") asked ++ codes " none")
+replied (Some old) asked = ended (request (codes "reply ") asked ++ codes " value " ++ old)
+
+abbrev pub got_line : Got → Asked → List ℕ
+got_line Unsent asked = ended (request (codes "unsent ") asked)
+got_line Unanswered asked = ended (request (codes "unanswered ") asked)
+got_line (Replied reply) asked = replied reply.old asked
+
+abbrev pub asked_line : Asked → List ℕ
+asked_line asked = got_line asked.got asked
+
+-- for a brief report: `answered A of R`
+abbrev pub is_replied : Got → Bool
+is_replied (Replied reply) = true
+is_replied Unsent = false
+is_replied Unanswered = false
+
+abbrev pub answered_line : List Asked → List ℕ
+answered_line asked = ended (codes "answered " ++ decimal (count_by (λ one. is_replied one.got) asked) ++ codes " of " ++ decimal (length asked))
+
+abbrev pub asked_lines : Bool → List Asked → List (List ℕ)
+asked_lines true asked = answered_line asked ∷ []
+asked_lines false asked = map asked_line asked
+
+-- `order I WHAT`
+abbrev pub told_line : ℕ → Option ToldResult → List ℕ
+told_line number None = ended (codes "order " ++ decimal number ++ codes " open")
+told_line number (Some Done) = ended (codes "order " ++ decimal number ++ codes " done")
+told_line number (Some Committed) = ended (codes "order " ++ decimal number ++ codes " committed")
+told_line number (Some Aborted) = ended (codes "order " ++ decimal number ++ codes " aborted")
+told_line number (Some (Refused why)) =
+    ended (codes "order " ++ decimal number ++ codes " refused " ++ decimal (code_of why) ++ codes " " ++ name_of why)
+
+-- the orders, numbered from the given one
+abbrev pub told_lines : ℕ → List (Option ToldResult) → List (List ℕ)
+told_lines number [] = []
+told_lines number (told ∷ more) = told_line number told ∷ told_lines (suc number) more
+
+-- a text with each node after a blank
+abbrev pub with_nodes : List ℕ → List ℕ → List ℕ
+with_nodes text [] = text
+with_nodes text (node ∷ nodes) = with_nodes (text ++ codes " " ++ decimal node) nodes
+
+-- `ring LO group A.B members N1 .. Nk`
+abbrev pub ring_line : Route → List ℕ
+ring_line route =
+    ended (with_nodes (codes "ring " ++ decimal route.lo ++ codes " group " ++ decimal route.group.node ++ codes "." ++ decimal route.group.count ++ codes " members") route.members)
+
+abbrev pub quiet_line : Bool → List ℕ
+quiet_line true = ended (codes "quiet yes")
+quiet_line false = ended (codes "quiet no")
+
+abbrev pub counts : Summary → List (List ℕ)
+counts summary =
+    counted (codes "rows ") summary.rows ∷ counted (codes "mail ") summary.mail ∷ counted (codes "delivered ") summary.delivered
+    ∷ counted (codes "skipped ") summary.skipped ∷ quiet_line summary.quiet ∷ []
+
+-- the whole report
+abbrev pub report_lines : Summary → List (List ℕ)
+report_lines summary =
+    (counted (codes "scatter report ") summary.version ∷ []) ++ asked_lines summary.brief summary.asked ++ told_lines 1 summary.orders
+    ++ map ring_line summary.ring ++ counts summary

@@ -1,0 +1,135 @@
+//! The actors and the schedule of a scenario.
+ghost use Rattle.std.specs.Prelude.{◌≡◌, IfOk, OnOk, ◌++◌, map};
+ghost use Rattle.sc_world.specs.World.{births, schedule, node_seat, client_seat, client_seats, route_of, line_of};
+
+use crate::client::ClientCore;
+use crate::party::Party;
+use sc_actor::{Line, Seat};
+use sc_base::{Dup, OutOfMemory};
+use sc_cmd::{Base, OrderLine, Route};
+use sc_mail::client_number;
+use sc_node::NodeCore;
+use sc_scenario::{Asks, Scenario, SchedLine};
+use std::alloc::Global;
+
+fn node_seat(alloc: Global, base: &Base) -> Result<Seat<Party>, OutOfMemory>
+    ensures { IfOk result (λ seat. seat ≡ node_seat base.now) }
+{
+    let me = base.core.first;
+    let node = NodeCore::born(alloc, me, base.dup(alloc)?)?;
+    Ok(Seat {
+        who: me as u32,
+        actor: Party::Node(node),
+    })
+}
+
+fn route_of(base: &Base) -> Route
+    ensures { result ≡ route_of base.now }
+{
+    Route {
+        group: base.core.id,
+        lo: base.core.arc.lo(),
+        members: base.core.members,
+    }
+}
+
+fn client_seat(alloc: Global, first: &Route, asks: &Asks) -> Result<Seat<Party>, OutOfMemory>
+    ensures { IfOk result (λ seat. seat ≡ client_seat first.now asks.now) }
+{
+    let client = ClientCore::born(alloc, asks.client, asks.ops.dup(alloc)?, first);
+    Ok(Seat {
+        who: client_number(asks.client),
+        actor: Party::Client(client),
+    })
+}
+
+fn add_nodes(
+    alloc: Global,
+    seats: &mut Vec<Seat<Party>>,
+    groups: &[Base],
+) -> Result<(), OutOfMemory>
+    ensures { OnOk result (seats.new.items ≡ seats.old.items ++ map node_seat groups.now) }
+{
+    for base in groups {
+        seats.push(node_seat(alloc, base)?)?;
+    }
+    Ok(())
+}
+
+fn add_asking(
+    alloc: Global,
+    seats: &mut Vec<Seat<Party>>,
+    first: &Route,
+    clients: &[Asks],
+) -> Result<(), OutOfMemory>
+    ensures { OnOk result (seats.new.items ≡ seats.old.items ++ map (client_seat first.now) clients.now) }
+{
+    for asks in clients {
+        seats.push(client_seat(alloc, first, asks)?)?;
+    }
+    Ok(())
+}
+
+fn add_clients(
+    alloc: Global,
+    seats: &mut Vec<Seat<Party>>,
+    groups: &[Base],
+    clients: &[Asks],
+) -> Result<(), OutOfMemory>
+    ensures { OnOk result (seats.new.items ≡ seats.old.items ++ client_seats groups.now clients.now) }
+{
+    match groups {
+        [] => Ok(()),
+        [base, ..] => add_asking(alloc, seats, &route_of(base), clients),
+    }
+}
+
+/// The nodes and then the clients of a scenario, as they are born.
+pub fn births(alloc: Global, scenario: &Scenario) -> Result<Vec<Seat<Party>>, OutOfMemory>
+    ensures { IfOk result (λ seats. seats.items ≡ births scenario.now) }
+{
+    let mut seats = Vec::new(alloc);
+    let groups = scenario.groups.as_slice();
+    add_nodes(alloc, &mut seats, groups)?;
+    add_clients(alloc, &mut seats, groups, scenario.clients.as_slice())?;
+    Ok(seats)
+}
+
+fn line_of(line: &SchedLine) -> Line<OrderLine>
+    ensures { result ≡ line_of line.now }
+{
+    match line {
+        SchedLine::Go { client } => Line::Go {
+            who: client_number(*client),
+        },
+        SchedLine::Deliver { who, k } => Line::Deliver { who: *who, k: *k },
+        SchedLine::Drop { who, k } => Line::Drop { who: *who, k: *k },
+        SchedLine::Again { mail } => Line::Again { mail: *mail },
+        SchedLine::Tick { who } => Line::Tick { who: *who },
+        SchedLine::Crash { node } => Line::Crash { who: *node as u32 },
+        SchedLine::Told { node, line } => Line::Told {
+            who: *node as u32,
+            order: *line,
+        },
+        SchedLine::Settle { most } => Line::Settle { most: *most },
+        SchedLine::Free { most, workers } => Line::Free {
+            most: *most,
+            workers: *workers,
+        },
+        SchedLine::Storm { number, most } => Line::Storm {
+            number: *number,
+            most: *most,
+        },
+    }
+}
+
+/// The lines of a scenario's schedule, as the walk takes them.
+pub fn schedule(alloc: Global, scenario: &Scenario) -> Result<Vec<Line<OrderLine>>, OutOfMemory>
+    ensures { IfOk result (λ lines. lines.items ≡ schedule scenario.now) }
+{
+    let mut lines = Vec::new(alloc);
+    for line in scenario.lines.as_slice() {
+        lines.push(line_of(line))?;
+    }
+    Ok(lines)
+}
