@@ -1,0 +1,5 @@
+pub mod Seats
+pub mod Numbers
+pub mod DeedLemmas
+pub mod Steps
+pub mod Room

@@ -1,0 +1,4 @@
+pub mod Deeds
+pub mod Stages
+pub mod Moves
+pub mod Outcome

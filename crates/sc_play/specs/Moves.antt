@@ -1,0 +1,87 @@
+-- How a stage moves along the walk of a schedule.
+use Rattle.std.specs.Prelude.{◌≡◌, ℕ, ◌+◌, ◌-◌, ◌^◌, ◌<◌, ◌≤◌, List, [], ◌∷◌, ◌++◌, Bool, true, false, min}
+use Rattle.sc_actor.specs.declared.rows.Row.{Row}
+use Rattle.sc_actor.specs.declared.actors.Seat.{Seat}
+use Rattle.sc_actor.specs.declared.schedules.Line.{Line}
+use Rattle.sc_actor.specs.declared.schedules.Line.TheVariants.{Settle, Free}
+use Rattle.sc_actor.specs.Mail.{mails}
+use Rattle.sc_actor.specs.Replay.{Table, values}
+use Rattle.sc_actor.specs.Counted.{row_bytes, journal_bytes}
+use Rattle.sc_actor.specs.System.{System, system}
+use Rattle.sc_actor.specs.Walk.{Task, Once, Settles, Frees, IsLawful, IsNext, place_after, onward}
+use Rattle.sc_play.specs.declared.stages.Stage.{Stage}
+use Rattle.sc_play.specs.declared.stages.Deed.{Deed}
+use Rattle.sc_play.specs.Stages.{are_apart, IsKept, Makes}
+
+-- The journal of the stage is lawful, the walk after it has these tasks left, and each actor is its replay.
+pub record At {A M O : Type 0} (s : System A M O) (lines : List (Line O)) (stage : Stage A M O) (tasks : List (Task O)) : Type 0 where
+  pub lawful : IsLawful s lines stage.rows
+  pub place : place_after s lines stage.rows ≡ onward s stage.rows tasks stage.skipped stage.unsettled
+  pub seats : stage.seats.items ≡ values s.table s.births stage.rows
+  pub apart : are_apart s.births ≡ true
+
+-- What all calls of one player share: the table, whom mail is for, what it weighs, and the limit.
+pub record Rules (A M O : Type 0) : Type 0 where
+  pub table : Table A M O
+  pub receiver : M → ℕ
+  pub weighs : M → ℕ
+  pub limit : ℕ
+
+abbrev pub rules_of : {A M O : Type 0} → Table A M O → (M → ℕ) → (M → ℕ) → ℕ → Rules A M O
+rules_of table receiver weighs limit = record { table = table; receiver = receiver; weighs = weighs; limit = limit }
+
+abbrev pub with_births : {A M O : Type 0} → Rules A M O → (ℕ → ℕ → ℕ × ℕ) → List (Seat A) → System A M O
+with_births r words births = system r.table r.receiver words births
+
+-- The stage keeps its journal, which is within a limit that can be counted.
+pub record IsReady {A M O : Type 0} (r : Rules A M O) (stage : Stage A M O) : Type 0 where
+  pub kept : IsKept r.weighs stage
+  pub within : stage.bytes ≤ r.limit
+  pub small : r.limit ≤ 2 ^ 30
+
+-- a deed was done: its row joined the journal
+pub record Did {A M O : Type 0} (r : Rules A M O) (old new : Stage A M O) (deed : Deed O) : Type 0 where
+  pub row : Row M O
+  pub makes : Makes r.table (mails old.rows) old.seats.items new.seats.items deed row
+  pub rows : new.rows ≡ old.rows ++ row ∷ []
+  pub skipped : new.skipped ≡ old.skipped
+  pub unsettled : new.unsettled ≡ old.unsettled
+
+-- a deed was not done, since its row would pass the limit
+pub record Refused {A M O : Type 0} (r : Rules A M O) (old new : Stage A M O) (deed : Deed O) : Type 0 where
+  pub row : Row M O
+  pub seats : List (Seat A)
+  pub makes : Makes r.table (mails old.rows) old.seats.items seats deed row
+  pub rows : new.rows ≡ old.rows
+  pub passes : r.limit < journal_bytes r.weighs (old.rows ++ row ∷ [])
+
+-- The journal is lawful and within the limit, and a row that may come next passes the limit.
+pub record IsFull {A M O : Type 0} (s : System A M O) (weighs : M → ℕ) (lines : List (Line O)) (limit : ℕ) (journal : List (Row M O)) : Type 0 where
+  pub lawful : IsLawful s lines journal
+  pub within : journal_bytes weighs journal ≤ limit
+  pub row : Row M O
+  pub next : IsNext s lines journal row
+  pub passes : limit < journal_bytes weighs (journal ++ row ∷ [])
+
+-- A walk that stands at the old stage with some tasks stands at the new one with others, whatever came before and comes after.
+abbrev pub Goes : {A M O : Type 0} → Rules A M O → Stage A M O → List (Task O) → Stage A M O → List (Task O) → Type 0
+Goes {A} {M} {O} r old before new after =
+    (words : ℕ → ℕ → ℕ × ℕ) (births : List (Seat A)) (lines : List (Line O)) (rest : List (Task O)) →
+    At (with_births r words births) lines old (before ++ rest) → At (with_births r words births) lines new (after ++ rest)
+
+-- The walk comes to a row that passes the limit.
+abbrev pub Fills : {A M O : Type 0} → Rules A M O → Stage A M O → List (Task O) → Stage A M O → Type 0
+Fills {A} {M} {O} r old before new =
+    (words : ℕ → ℕ → ℕ × ℕ) (births : List (Seat A)) (lines : List (Line O)) (rest : List (Task O)) →
+    At (with_births r words births) lines old (before ++ rest) → IsFull (with_births r words births) r.weighs lines r.limit new.rows
+
+-- a task of many deliveries, free or not
+abbrev pub many : {O : Type 0} → Bool → ℕ → Task O
+many false left = Settles left
+many true left = Frees left
+
+-- the one task of a line that is built
+abbrev pub line_task : {O : Type 0} → Line O → Task O
+line_task (Settle most) = Settles most
+line_task (Free most workers) = Frees most
+line_task line = Once line

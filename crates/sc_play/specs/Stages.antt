@@ -1,0 +1,45 @@
+-- What a stage keeps of its journal, and what a deed makes of its actors.
+use Rattle.std.specs.Prelude.{◌≡◌, ℕ, suc, ◌+◌, ◌-◌, ◌^◌, ◌==◌, ◌<◌, ◌≤◌, List, [], ◌∷◌, ◌++◌, Bool, true, false, ◌&&◌, not, if◌then◌else◌, Option, None, Some, min, length, slice_get, slice_set}
+use Rattle.std.specs.List.{list_any}
+use Rattle.std.specs.Option.{option_map}
+use Rattle.sc_actor.specs.declared.rows.Row.{Row}
+use Rattle.sc_actor.specs.declared.actors.Seat.{Seat}
+use Rattle.sc_actor.specs.declared.rows.Event.{Event}
+use Rattle.sc_actor.specs.Mail.{mails, copies}
+use Rattle.sc_actor.specs.Replay.{Table, input_of, acted}
+use Rattle.sc_actor.specs.Counted.{journal_bytes}
+use Rattle.sc_actor.specs.System.{network}
+use Rattle.sc_play.specs.declared.stages.Stage.{Stage}
+use Rattle.sc_play.specs.declared.stages.Deed.{Deed}
+use Rattle.sc_play.specs.Deeds.{of_network}
+
+-- no two seats have one number
+abbrev pub are_apart : {A : Type 0} → List (Seat A) → Bool
+are_apart [] = true
+are_apart (seat ∷ seats) = not (list_any (λ other. other.who == seat.who) seats) && are_apart seats
+
+-- The mail, the copies and the bytes are those of the journal, which is small enough to be counted.
+pub record IsKept {A M O : Type 0} (weighs : M → ℕ) (stage : Stage A M O) : Type 0 where
+  pub all_mails : stage.mails.items ≡ mails stage.rows
+  pub all_copies : stage.copies.items ≡ copies stage.rows
+  pub all_bytes : stage.bytes ≡ min (journal_bytes weighs stage.rows) (2 ^ 64 - 1)
+  pub few_rows : length stage.rows < 2 ^ 31
+  pub few_mails : length (mails stage.rows) < 2 ^ 31
+
+-- the place of the first seat with a number
+abbrev pub place_of : {A : Type 0} → List (Seat A) → ℕ → Option ℕ
+place_of [] who = None
+place_of (seat ∷ seats) who = if seat.who == who then Some 0 else option_map suc (place_of seats who)
+
+-- the row of an event of the actor in a seat, where these mails were sent before it
+abbrev pub row_in : {A M O : Type 0} → Table A M O → Seat A → List M → Event O → Row M O
+row_in table seat sent event = record { who = seat.who; event = event; sent = (acted table seat.actor (input_of sent event)).1 }
+
+abbrev pub seat_after : {A M O : Type 0} → Table A M O → Seat A → List M → Event O → Seat A
+seat_after table seat sent event = record { who = seat.who; actor = (acted table seat.actor (input_of sent event)).0 }
+
+-- What a deed makes of the seats, and its row, where these mails were sent before it.
+pub record Makes {A M O : Type 0} (table : Table A M O) (sent : List M) (old new : List (Seat A)) (deed : Deed O) (row : Row M O) : Type 0 where
+  pub by_network : of_network deed.event ≡ true → (row ≡ network deed.event) × (new ≡ old)
+  pub by_actor : of_network deed.event ≡ false → (place : ℕ) (seat : Seat A) → place_of old deed.who ≡ Some place → slice_get old place ≡ Some seat →
+      (row ≡ row_in table seat sent deed.event) × (new ≡ slice_set old place (seat_after table seat sent deed.event))

@@ -1,0 +1,90 @@
+//! A row joins the journal.
+ghost use Rattle.std.specs.Prelude.{◌≡◌, ◌<◌, ◌≤◌, ◌+◌, ◌-◌, ◌^◌, ◌++◌, ◌∷◌, [], All, min, length, OnOk, replicate};
+ghost use Rattle.sc_actor.specs.Counted.{row_bytes};
+ghost use Rattle.sc_actor.specs.Mail.{counts_at, mails};
+ghost use Rattle.sc_play.specs.Stages.{IsKept};
+
+use crate::stages::Stage;
+use sc_actor::{Event, Parcel, Row};
+use sc_base::{Dup, OutOfMemory};
+use std::alloc::Global;
+
+// A delivery or a drop takes a copy away, and a repeat adds one.
+fn count<O>(copies: &mut Vec<u32>, event: &Event<O>)
+    requires { All (λ count. count < 2 ^ 32 - 1) copies.old.items }
+    ensures { copies.new.items ≡ counts_at copies.old.items event.now }
+{
+    match event {
+        Event::Deliver(mail) | Event::Drop(mail) => {
+            let mail = *mail as usize;
+            if mail != 0 && mail <= copies.len() {
+                copies[mail - 1] = copies[mail - 1].saturating_sub(1);
+            }
+        }
+        Event::Again(mail) => {
+            let mail = *mail as usize;
+            if mail != 0 && mail <= copies.len() {
+                copies[mail - 1] += 1;
+            }
+        }
+        _ => {}
+    }
+}
+
+fn add_copies(copies: &mut Vec<u32>, n: usize) -> Result<(), OutOfMemory>
+    ensures { OnOk result (copies.new.items ≡ copies.old.items ++ replicate n 1) }
+{
+    for i in 0..n {
+        let _ = i;
+        copies.push(1)?;
+    }
+    Ok(())
+}
+
+fn add_mails<M: Dup + Drop>(
+    alloc: Global,
+    mails: &mut Vec<M>,
+    sent: &[M],
+) -> Result<(), OutOfMemory>
+    ensures { OnOk result (mails.new.items ≡ mails.old.items ++ sent.now) }
+{
+    for mail in sent {
+        mails.push(mail.dup(alloc)?)?;
+    }
+    Ok(())
+}
+
+/// The counted bytes of a row, up to 2^64 - 1.
+pub fn row_bytes<M: Parcel, O>(row: &Row<M, O>) -> u64
+    ensures { result ≡ min (row_bytes M.weighs row.now) (2 ^ 64 - 1) }
+{
+    let mut bytes = 64u64;
+    for mail in row.sent.as_slice() {
+        bytes = bytes.saturating_add(256);
+        bytes = bytes.saturating_add(mail.weight());
+    }
+    bytes
+}
+
+/// Appends a row to the journal of a stage, of which the counted bytes are then these.
+pub fn append<A, M: Parcel + Drop, O: Drop>(
+    alloc: Global,
+    stage: &mut Stage<A, M, O>,
+    row: Row<M, O>,
+) -> Result<(), OutOfMemory>
+    requires kept { IsKept M.weighs stage.old }
+    requires rows { length stage.old.rows + 1 < 2 ^ 31 }
+    requires mails { length (mails stage.old.rows) + length row.sent < 2 ^ 31 }
+    ensures kept { OnOk result (IsKept M.weighs stage.new) }
+    ensures rows { OnOk result (stage.new.rows ≡ stage.old.rows ++ row ∷ []) }
+    ensures seats { stage.new.seats.items ≡ stage.old.seats.items }
+    ensures skipped { stage.new.skipped ≡ stage.old.skipped }
+    ensures unsettled { stage.new.unsettled ≡ stage.old.unsettled }
+{
+    let bytes = row_bytes(&row);
+    count(&mut stage.copies, &row.event);
+    add_copies(&mut stage.copies, row.sent.len())?;
+    add_mails(alloc, &mut stage.mails, row.sent.as_slice())?;
+    stage.bytes = stage.bytes.saturating_add(bytes);
+    stage.rows.push(row)
+}

@@ -1,0 +1,41 @@
+//! The conditions of a player, as tests.
+ghost use Rattle.std.specs.Prelude.{◌≡◌, ◌↔◌, ◌==◌, IsTrue, true, All};
+ghost use Rattle.std.specs.List.{list_any, list_all};
+ghost use Rattle.sc_play.specs.Deeds.{is_built};
+ghost use Rattle.sc_play.specs.Stages.{are_apart};
+
+use sc_actor::{Line, Seat};
+
+fn is_built<O>(line: &Line<O>) -> bool
+    ensures { result ≡ is_built line.now }
+{
+    match line {
+        Line::Storm { .. } => false,
+        _ => true,
+    }
+}
+
+/// Whether no line is a storm.
+pub fn are_built<O>(lines: &[Line<O>]) -> bool
+    ensures { IsTrue result ↔ All (λ line. is_built line ≡ true) lines.now }
+{
+    lines.iter().all(|line| is_built(line))
+}
+
+fn has_number<A>(seats: &[Seat<A>], who: u32) -> bool
+    ensures { result ≡ list_any (λ seat. seat.who == who) seats.now }
+{
+    seats.iter().any(|seat| seat.who == who)
+}
+
+/// Whether no two actors have one number.
+pub fn are_apart<A>(seats: &[Seat<A>]) -> bool
+    ensures { result ≡ are_apart seats.now }
+{
+    for i in 0..seats.len() {
+        if has_number(&seats[i + 1..], seats[i].who) {
+            return false;
+        }
+    }
+    true
+}

@@ -1,0 +1,19 @@
+//! A schedule played over a plain list of rows, and plain functions that look a journal over.
+#![tactic(auto)]
+
+mod appending;
+mod conditions;
+mod deeds;
+mod making;
+mod pending;
+mod playing;
+mod running;
+mod schedules;
+mod stages;
+
+pub use conditions::{are_apart, are_built};
+pub use playing::Played;
+pub use schedules::play;
+
+#[cfg(test)]
+mod tests;
