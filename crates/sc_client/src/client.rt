@@ -1,0 +1,118 @@
+//! The value of a client, and what each input makes of it.
+ghost use Rattle.std.specs.Prelude.{◌≡◌, ◌≤◌, length, IfOk};
+ghost use Rattle.sc_client_table.specs.Client.{born};
+ghost use Rattle.sc_client_table.specs.Table.{table};
+
+use sc_actor::{Actor, Input};
+use sc_base::{Draw, Op, OutOfMemory, Reply, Sequence};
+use sc_cmd::{OrderLine, Route};
+use sc_lookup::Routes;
+use sc_mail::Mail;
+use std::alloc::Global;
+use std::marker::Model;
+
+/// A client: its requests, the one that waits, the groups that it knows, whom it asked last, and
+/// its replies. Contracts see all of it.
+#[derive(Drop)]
+pub struct ClientCore {
+    pub(crate) me: u16,
+    pub(crate) requests: Sequence<Op>,
+    pub(crate) waiting: Option<u32>,
+    pub(crate) routes: Routes,
+    pub(crate) asked: Option<(Draw, u16)>,
+    pub(crate) replies: Sequence<Reply>,
+}
+
+impl Model for ClientCore {
+    ghost use Rattle.sc_client_table.specs.Client.{Client};
+    ghost use Rattle.sc_client.specs.Numbered.{IsNumbered};
+
+    ghost Value = { Client };
+
+    ghost view = { λ c. record { me = c.me; requests = c.requests; waiting = c.waiting; known = c.routes; asked = c.asked; replies = c.replies } };
+
+    ghost invariant = { λ c. IsNumbered c.requests c.waiting };
+}
+
+impl ClientCore {
+    /// A client with that number, those requests, at most 1,000, and one group that it knows.
+    pub fn born(
+        alloc: Global,
+        me: u16,
+        requests: Sequence<Op>,
+        first: Route,
+    ) -> Result<ClientCore, OutOfMemory>
+        requires { length requests ≤ 1000 }
+        ensures { IfOk result (λ client. client ≡ born me requests first) }
+    {
+        Ok(ClientCore {
+            me,
+            requests,
+            waiting: None,
+            routes: Routes::start(alloc, first)?,
+            asked: None,
+            replies: Sequence::new(alloc),
+        })
+    }
+
+    /// The client's number, from 1.
+    pub fn me(&self) -> u16
+        ensures { result ≡ self.now.me }
+    {
+        self.me
+    }
+
+    /// Its requests, numbered from 1 by their places.
+    pub fn requests(&self) -> &Sequence<Op>
+        ensures { result.now ≡ self.now.requests }
+    {
+        &self.requests
+    }
+
+    /// The number of the request that waits, if one does.
+    pub fn waiting(&self) -> Option<u32>
+        ensures { result ≡ self.now.waiting }
+    {
+        self.waiting
+    }
+
+    /// The replies to its requests, in their order.
+    pub fn replies(&self) -> &Sequence<Reply>
+        ensures { result.now ≡ self.now.replies }
+    {
+        &self.replies
+    }
+
+    /// Takes an input by the client's table, and answers what it sends. After want of memory the
+    /// client may only be dropped.
+    pub fn step(
+        &mut self,
+        alloc: Global,
+        input: &Input<Mail, OrderLine>,
+    ) -> Result<Sequence<Mail>, OutOfMemory>
+        ensures { IfOk result (λ sent. table self.old input.now ≡ (self.new, sent)) }
+    {
+        match input {
+            Input::Got(mail) => self.got(alloc, mail),
+            Input::Tick => self.tick(alloc),
+            Input::Go => self.start(alloc, 1),
+            Input::Told(_line) => Ok(Sequence::new(alloc)),
+        }
+    }
+}
+
+impl Actor for ClientCore {
+    type Mail = Mail;
+
+    type Order = OrderLine;
+
+    ghost table = { table };
+
+    fn step(
+        &mut self,
+        alloc: Global,
+        input: &Input<Mail, OrderLine>,
+    ) -> Result<Sequence<Mail>, OutOfMemory> {
+        ClientCore::step(self, alloc, input)
+    }
+}

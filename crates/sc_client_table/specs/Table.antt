@@ -1,0 +1,96 @@
+-- The table of a client: what each input makes of it, and what it sends.
+use Rattle.std.specs.Prelude.{ℕ, ◌+◌, Bool, false, ◌&&◌, ◌==◌, nat_le, List, [], ◌∷◌, ◌++◌, length, Option, Some, None, if◌then◌else◌}
+use Rattle.sc_base.specs.declared.names.Draw.{Draw}
+use Rattle.sc_base.specs.declared.ops.Op.{Op}
+use Rattle.sc_base.specs.Operation.{key_of}
+use Rattle.sc_base.specs.Text.{pos_of}
+use Rattle.sc_actor.specs.declared.rows.Input.{Input}
+use Rattle.sc_actor.specs.declared.rows.Input.TheVariants.{Got, Tick, Go, Told}
+use Rattle.sc_cmd.specs.Same.{same_draw}
+use Rattle.sc_cmd.specs.declared.orders.OrderLine.{OrderLine}
+use Rattle.sc_mail.specs.declared.bodies.Mail.{Mail}
+use Rattle.sc_mail.specs.declared.bodies.MailBody.{MailBody}
+use Rattle.sc_mail.specs.declared.bodies.MailBody.TheVariants.{Request, Answer}
+use Rattle.sc_mail.specs.declared.bodies.AnswerBody.{AnswerBody}
+use Rattle.sc_mail.specs.declared.bodies.AnswerBody.TheVariants.{Value, NotLeader, NotMine, Gone}
+use Rattle.sc_lookup.specs.Known.{chosen, target_in, preferring, passed_on, told_not_mine, told_gone}
+use Rattle.sc_client_table.specs.Client.{Client, waiting_request}
+
+-- a client and what it sends
+abbrev pub Step : Type 0
+Step = Client × List Mail
+
+-- the mail of a request
+abbrev pub request_of : ℕ → Draw → ℕ → ℕ × Op → Mail
+request_of me group target request = record { from = 32 + me; to = target; body = Request group me request.0 request.1 }
+
+-- a request goes to a node of a group, where there is such a node and such a request
+abbrev pub asked_of : Client → Draw → Option ℕ → Option (ℕ × Op) → Step
+asked_of client group (Some target) (Some request) = (record client { asked = Some (group, target) }, request_of client.me group target request ∷ [])
+asked_of client group _ _ = (client, [])
+
+-- the waiting request goes to a group's target
+abbrev pub sent_to : Draw → Client → Step
+sent_to group client = asked_of client group (target_in group client.known) (waiting_request client)
+
+-- the waiting request goes to the group that is chosen, where one is
+abbrev pub sent_where : Client → Option Draw → Step
+sent_where client (Some group) = sent_to group client
+sent_where client None = (client, [])
+
+-- the waiting request is sent by a new choice of the group
+abbrev pub chosen_for : Client → Option (ℕ × Op) → Option Draw
+chosen_for client (Some request) = chosen (pos_of (key_of request.1)) client.known
+chosen_for client None = None
+
+abbrev pub sent : Client → Step
+sent client = sent_where client (chosen_for client (waiting_request client))
+
+-- the request with a number is sent, if there is one
+abbrev pub started : ℕ → Client → Step
+started seq client =
+    if nat_le seq (length client.requests) then sent (record client { waiting = Some seq })
+    else (record client { waiting = None }, [])
+
+-- the member after a group's target becomes the preferred node, and the request goes to it
+abbrev pub turned_on : Draw → Client → Step
+turned_on group client = sent_to group (record client { known = passed_on group client.known })
+
+-- with a request waiting, the group last asked is asked again, at the next node
+abbrev pub ticked : Client → Option ℕ → Option (Draw × ℕ) → Step
+ticked client (Some seq) (Some asked) = turned_on asked.0 client
+ticked client _ _ = (client, [])
+
+-- whether a number is the waiting one
+abbrev pub waits_for : Option ℕ → ℕ → Bool
+waits_for None seq = false
+waits_for (Some number) seq = number == seq
+
+-- whether this node and this group were asked last
+abbrev pub was_asked : Option (Draw × ℕ) → ℕ → Draw → Bool
+was_asked None from group = false
+was_asked (Some asked) from group = (asked.1 == from) && same_draw asked.0 group
+
+-- an answer, other than a reply, of the node that was asked
+abbrev pub redirected : Draw → AnswerBody → Client → Step
+redirected group (NotLeader (Some hint)) client = sent_to group (record client { known = preferring group hint client.known })
+redirected group (NotLeader None) client = turned_on group client
+redirected group (NotMine arc succ) client = sent (record client { known = told_not_mine group arc succ client.known })
+redirected group (Gone into) client = sent (record client { known = told_gone group into client.known })
+redirected group _ client = (client, [])
+
+-- an answer to the waiting request
+abbrev pub answered : ℕ → Draw → ℕ → AnswerBody → Client → Step
+answered from group seq (Value reply) client = started (seq + 1) (record client { replies = client.replies ++ reply ∷ [] })
+answered from group seq answer client = if was_asked client.asked from group then redirected group answer client else (client, [])
+
+-- a mail; one that is no answer to the waiting request is ignored
+abbrev pub got : ℕ → MailBody → Client → Step
+got from (Answer group seq answer) client = if waits_for client.waiting seq then answered from group seq answer client else (client, [])
+got from _ client = (client, [])
+
+abbrev pub table : Client → Input Mail OrderLine → Step
+table client (Got mail) = got mail.from mail.body client
+table client Tick = ticked client client.waiting client.asked
+table client Go = started 1 client
+table client (Told line) = (client, [])

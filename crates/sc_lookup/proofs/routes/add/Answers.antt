@@ -1,0 +1,7 @@
+use Rattle.std.proofs.Common.{◌∙◌}
+use Rattle.sc_cmd.specs.Same.{same_draw}
+use Rattle.sc_lookup.proofs.KnownLemmas.{insert_entry-last}
+use Rattle.sc_lookup.proofs.routes.add.Goals as goal
+
+pub returns-clause-ok : goal.returns-clause-ok
+returns-clause-ok c = c.in_ok-insert.ensures.entries ∙ insert_entry-last same_draw c.args.known.now.entries c.args.group c.args.way c.requires

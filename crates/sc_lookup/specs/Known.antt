@@ -1,0 +1,71 @@
+-- The groups that a client knows, in the order in which it came to know them, and how they change.
+use Rattle.std.specs.Prelude.{ℕ, List, [], ◌∷◌, ◌++◌, Option, Some, None, Bool, nat_le, fold, is_some, if◌then◌else◌}
+use Rattle.std.specs.Option.{option_map}
+use Rattle.std.specs.Map.{lookup, set_value, remove_entry}
+use Rattle.sc_base.specs.declared.names.Draw.{Draw}
+use Rattle.sc_base.specs.Arc.{Arc, end_of}
+use Rattle.sc_cmd.specs.Same.{same_draw}
+use Rattle.sc_cmd.specs.declared.links.Link.{Link}
+use Rattle.sc_cmd.specs.declared.links.Route.{Route}
+use Rattle.sc_lookup.specs.declared.ways.Way.{Way}
+use Rattle.sc_lookup.specs.Ways.{far, new_way, next_of, target_of}
+
+-- each group with what is known of it
+abbrev pub Known : Type 0
+Known = List (Draw × Way)
+
+-- what is known of a group
+abbrev pub way_to : Draw → Known → Option Way
+way_to group known = lookup (same_draw group) known
+
+-- the nearer of two groups to a position, by their starts; where both are as far, the second
+abbrev pub nearer : ℕ → Draw × Way → Draw × Way → Draw × Way
+nearer p best entry = if nat_le (far p entry.1) (far p best.1) then entry else best
+
+-- the nearer of a group and the best one before it, if there is one
+abbrev pub better : ℕ → Option (Draw × Way) → Draw × Way → Option (Draw × Way)
+better p None entry = Some entry
+better p (Some best) entry = Some (nearer p best entry)
+
+-- the group whose start lies nearest at or before a position; among equals the one that stands last
+abbrev pub chosen : ℕ → Known → Option Draw
+chosen p known = option_map (λ entry. entry.0) (fold (better p) None known)
+
+-- the node to be asked of a group
+abbrev pub target_in : Draw → Known → Option ℕ
+target_in group known = option_map target_of (way_to group known)
+
+-- the member after that node
+abbrev pub next_in : Draw → Known → Option ℕ
+next_in group known = option_map next_of (way_to group known)
+
+-- a known group is changed in its place, and one that is not known changes nothing
+abbrev pub changed : (Way → Way) → Draw → Known → Option Way → Known
+changed change group known None = known
+changed change group known (Some way) = set_value (same_draw group) known (change way)
+
+-- a node becomes the preferred one of a group
+abbrev pub preferring : Draw → ℕ → Known → Known
+preferring group node known = changed (λ way. record way { preferred = Some node }) group known (way_to group known)
+
+-- the member after the node to be asked becomes the preferred one
+abbrev pub passed_on : Draw → Known → Known
+passed_on group known = changed (λ way. record way { preferred = Some (next_of way) }) group known (way_to group known)
+
+-- a known group's arc starts elsewhere
+abbrev pub starting : Draw → ℕ → Known → Known
+starting group lo known = changed (λ way. record way { lo = lo }) group known (way_to group known)
+
+-- a known group's arc starts elsewhere, and a group that was not known goes last
+abbrev pub learnt : Draw → ℕ → List ℕ → Known → Known
+learnt group lo members known =
+    if is_some (way_to group known) then starting group lo known
+    else known ++ (group, new_way lo members) ∷ []
+
+-- a group told its arc and its successor, which starts at the arc's end
+abbrev pub told_not_mine : Draw → Arc → Link → Known → Known
+told_not_mine group arc succ known = learnt succ.group (end_of arc) succ.members (starting group arc.lo known)
+
+-- a group told that it went into another
+abbrev pub told_gone : Draw → Route → Known → Known
+told_gone group into known = learnt into.group into.lo into.members (remove_entry (same_draw group) known)

@@ -1,0 +1,13 @@
+//! The routes of a client: which group it asks for a position, and which of the group's nodes.
+#![tactic(auto)]
+
+mod laws;
+mod routes;
+mod ways;
+
+pub use laws::choices_are_nearest;
+pub use routes::Routes;
+pub use ways::Way;
+
+#[cfg(test)]
+mod tests;
