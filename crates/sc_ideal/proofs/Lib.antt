@@ -1,4 +1,5 @@
 pub mod Apart
+pub mod Example
 pub mod Joins
 pub mod Kept
 pub mod Tables

@@ -1,6 +1,7 @@
 -- Histories of requests and replies, and which are legal on the ideal store.
 -- The ideal store is the sequential object of linearizability (Herlihy and Wing, 1990).
-use Rattle.std.specs.Prelude.{◌≡◌, List, [], ◌∷◌, AllPairs}
+use Rattle.std.specs.Prelude.{◌≡◌, List, [], ◌∷◌, Some, None, AllPairs}
+use Rattle.sc_base.specs.declared.ops.Op.TheVariants.{Get, Put, Add, Cas}
 use Rattle.std.specs.FinMap.{empty}
 use Rattle.sc_ideal.specs.declared.Entry.{Entry}
 use Rattle.sc_ideal.specs.IdealStore.{Contents, reply_of, after}
@@ -23,3 +24,12 @@ AreApart a b = a.client ≡ b.client → a.seq ≡ b.seq → ⊥
 pub record Legal (entries : List Entry) : Type 0 where
   pub replay : IsReplay empty entries
   pub once : AllPairs AreApart entries
+
+-- an example: put a x answers none, add a y answers x, cas a x z answers x, get a answers z
+abbrev pub example : List Entry
+example =
+    (record { client = 1; seq = 1; op = Put (97 ∷ []) (120 ∷ []); reply = record { old = None } })
+    ∷ (record { client = 2; seq = 1; op = Add (97 ∷ []) (121 ∷ []); reply = record { old = Some (120 ∷ []) } })
+    ∷ (record { client = 1; seq = 2; op = Cas (97 ∷ []) (120 ∷ []) (122 ∷ []); reply = record { old = Some (120 ∷ []) } })
+    ∷ (record { client = 2; seq = 2; op = Get (97 ∷ []); reply = record { old = Some (122 ∷ []) } })
+    ∷ []

@@ -1,6 +1,7 @@
 //! What the store, its histories and its client tables are to be: definitions and laws, no logic.
 #![tactic(auto)]
 
+ghost use Rattle.sc_ideal.specs.History.{Legal, example};
 ghost use Rattle.sc_ideal.specs.Laws.{ServesApart, PartsJoin, JoinedByNumber, JoinedInAnyOrder};
 
 use sc_base::{Dup, Op, OutOfMemory, Reply};
@@ -43,6 +44,11 @@ pub enum Seen {
 pub fn parts_are_apart()
     ensures apart { ServesApart }
     ensures join { PartsJoin }
+{}
+
+/// A history with replies of each kind is legal.
+pub fn an_example_is_legal()
+    ensures { Legal example }
 {}
 
 /// Tables join client by client, by the greater number, in whatever order.
