@@ -1,7 +1,7 @@
 //! The early form of the scenario: one node, one group, one client that gets and puts.
-ghost use Rattle.std.specs.Prelude.{◌≡◌, ◌≤◌, ◌+◌, ◌^◌, map, drop, length, IfOk, true};
+ghost use Rattle.std.specs.Prelude.{◌≡◌, ◌≤◌, ◌+◌, ◌^◌, map, drop, length, IfOk, MatchResult, ◌⊎◌, Some, None, true};
 ghost use Rattle.sc_scenario.specs.Early.{scenario_of, scenario_in, requests_of, starts, ends, is_framed, early_scenario, lone_group};
-ghost use Rattle.sc_scenario.specs.Reads.{Reads};
+ghost use Rattle.sc_scenario.specs.Valid.{TextsAreEarly};
 ghost use Rattle.sc_scenario.specs.declared.early.ScenarioFault.TheVariants.{OutOfMemory};
 
 use crate::pieces::lines_of;
@@ -185,10 +185,17 @@ fn read_early(alloc: Global, text: &[u8]) -> Result<Option<Scenario>, sc_base::O
 
 /// The scenario that a text is. `Bad` with 0 and 0 exactly where it is none of the early form.
 pub fn read_scenario(alloc: Global, text: &[u8]) -> Result<Scenario, ScenarioFault>
-    ensures { Reads text.now result }
+    ensures { MatchResult result (λ scenario. scenario_of text.now ≡ Some scenario)
+        (λ fault. (fault ≡ OutOfMemory) ⊎ ((fault ≡ ScenarioFault.Bad 0 0) × (scenario_of text.now ≡ None))) }
 {
     match read_early(alloc, text)? {
         Some(scenario) => Ok(scenario),
         None => Err(ScenarioFault::Bad { line: 0, why: 0 }),
     }
 }
+
+/// A scenario that some text is has the early form: one group, one client, which goes, and a line
+/// that settles.
+pub fn texts_are_early()
+    ensures { TextsAreEarly }
+{}

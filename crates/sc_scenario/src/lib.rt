@@ -6,5 +6,5 @@ mod pieces;
 mod scenarios;
 mod words;
 
-pub use early::{INPUT_LIMIT, ScenarioFault, read_scenario};
+pub use early::{INPUT_LIMIT, ScenarioFault, read_scenario, texts_are_early};
 pub use scenarios::{Asks, ClientList, GroupList, Scenario, SchedLine, Schedule};

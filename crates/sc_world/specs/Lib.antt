@@ -1,2 +1,3 @@
 pub mod Client
 pub mod World
+pub mod Summary

@@ -1,0 +1,32 @@
+-- What the answer of a play says.
+use Rattle.std.specs.Prelude.{◌≡◌, ℕ, ◌≤◌, List, Bool, ⊤}
+use Rattle.sc_cmd.specs.declared.orders.OrderLine.{OrderLine}
+use Rattle.sc_mail.specs.declared.bodies.Mail.{Mail}
+use Rattle.sc_mail.specs.Weight.{body_weight}
+use Rattle.sc_actor.specs.declared.rows.Row.{Row}
+use Rattle.sc_actor.specs.Counted.{journal_bytes}
+use Rattle.sc_actor.specs.Walk.{skipped, unsettled, is_quiet}
+use Rattle.sc_play.specs.Moves.{IsFull}
+use Rattle.sc_scenario.specs.declared.scenarios.Scenario.{Scenario}
+use Rattle.sc_world.specs.World.{system_of, schedule, Lawful, Whole, parties}
+use Rattle.sc_world.specs.declared.party.Party.{Party}
+use Rattle.scatter.specs.declared.played.Played.{Played}
+use Rattle.scatter.specs.declared.played.Played.TheVariants.{Ended, Full, OutOfMemory}
+
+abbrev pub mail_weight : Mail → ℕ
+mail_weight mail = body_weight mail.body
+
+-- The journal is lawful and whole and within the limit, the counts are the walk's, and each party is its replay.
+pub record HasEnded (scenario : Scenario) (limit : ℕ) (cut quiet : Bool) (skips : ℕ) (journal : List (Row Mail OrderLine)) (left : List Party) : Type 0 where
+  pub lawful : Lawful scenario journal
+  pub whole : Whole scenario journal
+  pub within : journal_bytes mail_weight journal ≤ limit
+  pub cut_is : cut ≡ unsettled (system_of scenario) (schedule scenario) journal
+  pub quiet_is : quiet ≡ is_quiet (system_of scenario) journal
+  pub skips_are : skips ≡ skipped (system_of scenario) (schedule scenario) journal
+  pub parties_are : left ≡ parties scenario journal
+
+abbrev pub IsPlayed : Scenario → ℕ → Played → Type 0
+IsPlayed scenario limit (Ended cut quiet skips journal left) = HasEnded scenario limit cut quiet skips journal left
+IsPlayed scenario limit (Full journal) = IsFull (system_of scenario) mail_weight (schedule scenario) limit journal
+IsPlayed scenario limit OutOfMemory = ⊤

@@ -1,0 +1,107 @@
+-- What a run says and prints, and why.
+use Rattle.std.specs.Prelude.{◌≡◌, ◌≢◌, ◌⊎◌, ℕ, List, [], ◌∷◌, ◌++◌, Bool, true, false, Option, None, Some, IfSome, codes}
+use Rattle.std.specs.List.{concat}
+use Rattle.std.specs.Io.KnownBytes.{Appends}
+use Rattle.sc_edges.specs.Bytes.{AppendsPart}
+use Rattle.sc_edges.specs.Causes.{Rose}
+use Rattle.sc_cmd.specs.declared.orders.OrderLine.{OrderLine}
+use Rattle.sc_mail.specs.declared.bodies.Mail.{Mail}
+use Rattle.sc_actor.specs.declared.rows.Row.{Row}
+use Rattle.sc_actor.specs.Walk.{unsettled}
+use Rattle.sc_scenario.specs.Early.{scenario_of}
+use Rattle.sc_scenario.specs.declared.scenarios.Scenario.{Scenario}
+use Rattle.sc_report.specs.Report.{report_lines}
+use Rattle.sc_world.specs.World.{system_of, schedule, Lawful, Whole, parties}
+use Rattle.sc_world.specs.Summary.{summary_of}
+use Rattle.scatter.specs.declared.done.Text.{Text}
+use Rattle.scatter.specs.declared.done.Done.{Done}
+use Rattle.scatter.specs.declared.done.Said.{Said}
+use Rattle.scatter.specs.declared.done.Said.TheVariants.{Ended, Unsettled, Usage, BadScenario, ReadFault}
+
+-- the grammar of the words: the one word `run`
+abbrev pub IsRun : List (List ℕ) → Type 0
+IsRun words = words ≡ codes "run" ∷ []
+
+abbrev pub usage : List ℕ
+usage = codes "usage: scatter run | scatter make N S"
+
+-- All of the input, where the source told it, is this scenario, or is none.
+abbrev pub ReadsAs : Option (List ℕ) → Option Scenario → Type 0
+ReadsAs left scenario = IfSome left (λ input. scenario_of input ≡ scenario)
+
+-- the one line of a text that is about no journal
+pub record Tells (message : List ℕ) (text : Text) : Type 0 where
+  pub lines : text.lines ≡ (message ++ 10 ∷ []) ∷ []
+  pub journal : text.journal ≡ None
+  pub parties : text.parties ≡ []
+
+-- The text is the report of a scenario and a journal of it that is lawful and whole, and the parties are the replays of their rows.
+pub record Reports (scenario : Scenario) (journal : List (Row Mail OrderLine)) (text : Text) : Type 0 where
+  pub lawful : Lawful scenario journal
+  pub whole : Whole scenario journal
+  pub lines : text.lines ≡ report_lines (summary_of scenario journal)
+  pub journal_is : text.journal ≡ Some journal
+  pub parties_are : text.parties ≡ parties scenario journal
+
+-- The text is the report of some journal of the scenario, which is unsettled or not.
+pub record Plays (scenario : Scenario) (cut : Bool) (text : Text) : Type 0 where
+  pub journal : List (Row Mail OrderLine)
+  pub reports : Reports scenario journal text
+  pub cut_is : unsettled (system_of scenario) (schedule scenario) journal ≡ cut
+
+abbrev pub ReportsAs : Said → Scenario → Text → Type 0
+ReportsAs Ended scenario text = Plays scenario false text
+ReportsAs Unsettled scenario text = Plays scenario true text
+ReportsAs _ scenario text = ⊥
+
+-- the same of the scenario that was read
+pub record ReadsAndPlays (left : Option (List ℕ)) (cut : Bool) (text : Text) : Type 0 where
+  pub scenario : Scenario
+  pub read : ReadsAs left (Some scenario)
+  pub plays : Plays scenario cut text
+
+-- What a text says that was begun after the word `run`, and its cause: the bytes that the source had left, and its count of faults before and after.
+abbrev pub Reads : Option (List ℕ) → ℕ → ℕ → Said → Text → Type 0
+Reads left before now Ended text = ReadsAndPlays left false text
+Reads left before now Unsettled text = ReadsAndPlays left true text
+Reads left before now Usage text = ⊥
+Reads left before now BadScenario text = ReadsAs left None × Tells (codes "line 0: bad scenario") text
+Reads left before now ReadFault text = Rose before now × Tells (codes "read fault") text
+
+-- the same for any words
+abbrev pub Says : List (List ℕ) → Option (List ℕ) → ℕ → ℕ → Said → Text → Type 0
+Says words left before now said text =
+    (IsRun words × Reads left before now said text) ⊎ ((IsRun words → ⊥) × (said ≡ Usage) × Tells usage text)
+
+-- the status that a text belongs to
+abbrev pub status_of : Said → ℕ
+status_of Ended = 0
+status_of Usage = 2
+status_of BadScenario = 3
+status_of ReadFault = 4
+status_of Unsettled = 6
+
+-- The text was printed whole, or up to a fault of the sink, which wins over the status that the text belongs to.
+abbrev pub Prints : Option (List ℕ) → Option (List ℕ) → ℕ → ℕ → Said → Text → ℕ → Type 0
+Prints held gained before now said text status =
+    ((status ≡ status_of said) × Appends held gained (concat text.lines))
+    ⊎ ((status ≡ 5) × AppendsPart held gained (concat text.lines) × Rose before now)
+
+-- A text was begun and printed, and the run hands back what it was about.
+pub record Printed (words : List (List ℕ)) (left : Option (List ℕ)) (reads reads' : ℕ) (held held' : Option (List ℕ)) (writes writes' : ℕ) (done : Done) : Type 0 where
+  pub said : Said
+  pub text : Text
+  pub says : Says words left reads reads' said text
+  pub prints : Prints held held' writes writes' said text done.status
+  pub journal : done.journal ≡ text.journal
+  pub parties : done.parties ≡ text.parties
+
+-- nothing is handed back after want of memory
+pub record RanOut (done : Done) : Type 0 where
+  pub status : done.status ≡ 8
+  pub journal : done.journal ≡ None
+  pub parties : done.parties ≡ []
+
+-- A run printed a text, or memory was short.
+abbrev pub Runs : List (List ℕ) → Option (List ℕ) → ℕ → ℕ → Option (List ℕ) → Option (List ℕ) → ℕ → ℕ → Done → Type 0
+Runs words left reads reads' held held' writes writes' done = Printed words left reads reads' held held' writes writes' done ⊎ RanOut done

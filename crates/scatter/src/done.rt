@@ -1,0 +1,56 @@
+//! What a run answers.
+ghost use Rattle.std.specs.Prelude.{◌≡◌};
+ghost use Rattle.scatter.specs.Run.{status_of};
+
+use sc_actor::Journal;
+use sc_base::Sequence;
+use sc_cmd::OrderLine;
+use sc_mail::Mail;
+use sc_report::Line;
+use sc_world::Party;
+
+/// Which text was begun.
+#[derive(Clone, Copy, Debug, PartialEq, Eq)]
+pub enum Said {
+    Ended,
+    Usage,
+    BadScenario,
+    ReadFault,
+    Unsettled,
+}
+
+impl Said {
+    /// The status that the text belongs to.
+    pub fn status(self) -> u8
+        ensures { result ≡ status_of self }
+    {
+        match self {
+            Said::Ended => 0,
+            Said::Usage => 2,
+            Said::BadScenario => 3,
+            Said::ReadFault => 4,
+            Said::Unsettled => 6,
+        }
+    }
+}
+
+/// A text to be printed, and the journal and the parties that it is about.
+#[derive(Drop)]
+pub struct Text {
+    pub lines: Sequence<Line>,
+    pub journal: Option<Journal<Mail, OrderLine>>,
+    pub parties: Sequence<Party>,
+}
+
+/// How a run ended: its status, the journal if the text begun was about one, and then the nodes and
+/// clients as the run left them.
+///
+/// The status is 0 for a run that ended with no line unsettled, 2 for words outside the grammar, 3
+/// for an input that is no scenario, 4 for a source that failed, 5 for a sink that failed, 6 for a
+/// run with a line unsettled, and 8 for want of memory.
+#[derive(Drop)]
+pub struct Done {
+    pub status: u8,
+    pub journal: Option<Journal<Mail, OrderLine>>,
+    pub parties: Sequence<Party>,
+}

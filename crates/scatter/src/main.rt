@@ -1,0 +1,37 @@
+//! `scatter`: runs a scenario of a store of self-organising Paxos groups, and prints its report.
+#![tactic(auto)]
+
+mod done;
+mod played;
+mod printing;
+
+mod running;
+mod summing;
+mod telling;
+
+pub use done::{Done, Text};
+pub use running::run;
+
+use sc_edges::{StdSink, StdSource};
+use std::env;
+use std::io;
+use std::process::ExitCode;
+
+#[cfg(test)]
+mod tests;
+
+fn words_of(rt: &HostRuntime) -> io::Result<Vec<String>> {
+    let mut words = Vec::new(rt.alloc());
+    for word in env::args(rt)?.skip(1) {
+        words.push(word)?;
+    }
+    Ok(words)
+}
+
+fn main(rt: HostRuntime) -> io::Result<ExitCode> {
+    let words = words_of(&rt)?;
+    let mut input = StdSource::new(rt.stdin());
+    let mut output = StdSink::new(rt.stdout());
+    let done = run(rt.alloc(), &words, &mut input, &mut output);
+    Ok(ExitCode::from(done.status))
+}

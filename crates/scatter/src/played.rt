@@ -1,0 +1,123 @@
+//! A scenario played to its end, and its report.
+ghost use Rattle.std.specs.Prelude.{◌≡◌, ◌≤◌, ◌^◌, map, IfOk};
+ghost use Rattle.sc_scenario.specs.Valid.{IsValid};
+ghost use Rattle.sc_world.specs.World.{births, schedule};
+ghost use Rattle.scatter.specs.Played.{IsPlayed};
+ghost use Rattle.scatter.specs.Run.{ReportsAs};
+
+use crate::done::{Said, Text};
+use crate::summing::summary;
+use sc_actor::{Journal, Seat};
+use sc_base::{OutOfMemory, Sequence};
+use sc_cmd::OrderLine;
+use sc_mail::Mail;
+use sc_report::lines;
+use sc_scenario::{Scenario, texts_are_early};
+use sc_world::{Party, births, schedule};
+use std::alloc::Global;
+
+/// How a scenario was played.
+#[derive(Drop)]
+pub enum Played {
+    /// To its end: whether a line ended with mail pending, whether none is pending now, how many lines were skipped, the rows,
+    /// and the nodes and then the clients as they were left.
+    Ended {
+        unsettled: bool,
+        quiet: bool,
+        skipped: u64,
+        journal: Journal<Mail, OrderLine>,
+        parties: Sequence<Party>,
+    },
+    /// To the row that would pass the limit: the rows before it.
+    Full { journal: Journal<Mail, OrderLine> },
+    OutOfMemory,
+}
+
+// The actors without their numbers.
+fn parties_of(alloc: Global, seats: Vec<Seat<Party>>) -> Result<Sequence<Party>, OutOfMemory>
+    ensures { IfOk result (λ parties. parties ≡ map (λ seat. seat.actor) seats.items) }
+{
+    let mut parties = Sequence::new(alloc);
+    for seat in seats {
+        let Seat { actor, .. } = seat;
+        parties.push(actor)?;
+    }
+    Ok(parties)
+}
+
+fn play_out(alloc: Global, scenario: &Scenario, limit: u64) -> Result<Played, OutOfMemory>
+    requires valid { IsValid scenario.now }
+    requires limit { limit ≤ 2 ^ 30 }
+    ensures { IfOk result (λ played. IsPlayed scenario.now limit played) }
+{
+    texts_are_early();
+    let seats = births(alloc, scenario)?;
+    let lines = schedule(alloc, scenario)?;
+    match sc_play::play(alloc, seats, lines.as_slice(), limit)? {
+        sc_play::Played::Ended {
+            unsettled,
+            quiet,
+            skipped,
+            journal,
+            seats,
+        } => {
+            let parties = parties_of(alloc, seats)?;
+            Ok(Played::Ended {
+                unsettled,
+                quiet,
+                skipped,
+                journal,
+                parties,
+            })
+        }
+        sc_play::Played::Full { journal } => Ok(Played::Full { journal }),
+    }
+}
+
+/// Plays a scenario within a limit of counted bytes of at most 2^30.
+///
+/// The scenario is one that some text is. Every actor steps in turn.
+pub fn play(alloc: Global, scenario: &Scenario, limit: u64) -> Played
+    requires valid { IsValid scenario.now }
+    requires limit { limit ≤ 2 ^ 30 }
+    ensures { IsPlayed scenario.now limit result }
+{
+    match play_out(alloc, scenario, limit) {
+        Ok(played) => played,
+        Err(OutOfMemory) => Played::OutOfMemory,
+    }
+}
+
+/// The report of a scenario that was played.
+///
+/// A journal of the early form stays far below the limit of 2^30 counted bytes. One that met it would
+/// end the run as want of memory does.
+pub fn report(alloc: Global, scenario: &Scenario) -> Result<(Said, Text), OutOfMemory>
+    requires { IsValid scenario.now }
+    ensures { IfOk result (λ begun. ReportsAs begun.0 scenario.now begun.1) }
+{
+    match play(alloc, scenario, 1 << 30) {
+        Played::OutOfMemory | Played::Full { .. } => Err(OutOfMemory),
+        Played::Ended {
+            unsettled,
+            quiet,
+            skipped,
+            journal,
+            parties,
+        } => {
+            let told = summary(alloc, scenario, &journal, &parties, skipped, quiet)?;
+            let lines = lines(alloc, &told)?;
+            let said = if unsettled {
+                Said::Unsettled
+            } else {
+                Said::Ended
+            };
+            let text = Text {
+                lines,
+                journal: Some(journal),
+                parties,
+            };
+            Ok((said, text))
+        }
+    }
+}

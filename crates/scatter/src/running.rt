@@ -1,0 +1,98 @@
+//! From the words and bytes that come in to the bytes that go out.
+ghost use Rattle.std.specs.Prelude.{◌≡◌, ◌↔◌, ◌≤◌, IsTrue, map, string_bytes, IfOk};
+ghost use Rattle.sc_scenario.specs.Valid.{IsValid};
+ghost use Rattle.scatter.specs.Run.{IsRun, Says, Reads, Runs};
+
+use crate::done::{Done, Said, Text};
+use crate::played::report;
+use crate::printing::put_all;
+use crate::telling::tells;
+use sc_base::{OutOfMemory, Sequence};
+use sc_edges::{Failed, ReadFault, Sink, Source, read_all};
+use sc_scenario::{INPUT_LIMIT, ScenarioFault, read_scenario};
+use std::alloc::Global;
+
+// Whether the words are the one word `run`.
+fn is_run(words: &[String]) -> bool
+    ensures { IsTrue result ↔ IsRun (map string_bytes words.now) }
+{
+    match words {
+        [word] => word.as_str() == "run",
+        _ => false,
+    }
+}
+
+// The text for what the source has.
+fn work<S: Source>(alloc: Global, input: &mut S) -> Result<(Said, Text), OutOfMemory>
+    ensures { IfOk result (λ begun. Reads (S.left input.old) (S.faults input.old) (S.faults input.new) begun.0 begun.1) }
+{
+    let bytes = match read_all(alloc, input, INPUT_LIMIT) {
+        Ok(bytes) => bytes,
+        Err(ReadFault::Failed) => return Ok((Said::ReadFault, tells(alloc, b"read fault")?)),
+        Err(ReadFault::OutOfMemory) => return Err(OutOfMemory),
+    };
+    match read_scenario(alloc, &bytes) {
+        Ok(scenario) => report(alloc, &scenario),
+        Err(ScenarioFault::Bad { .. }) => Ok((
+            Said::BadScenario,
+            tells(alloc, b"line 0: bad scenario")?,
+        )),
+        Err(ScenarioFault::OutOfMemory) => Err(OutOfMemory),
+    }
+}
+
+// The text for some words.
+fn say<S: Source>(
+    alloc: Global,
+    words: &[String],
+    input: &mut S,
+) -> Result<(Said, Text), OutOfMemory>
+    ensures says { IfOk result (λ begun. Says (map string_bytes words.now) (S.left input.old) (S.faults input.old) (S.faults input.new) begun.0 begun.1) }
+    ensures unread { (IsRun (map string_bytes words.now) → ⊥) → input.new ≡ input.old }
+{
+    if !is_run(words) {
+        let text = tells(alloc, b"usage: scatter run | scatter make N S")?;
+        return Ok((Said::Usage, text));
+    }
+    work(alloc, input)
+}
+
+/// Reads a scenario, runs it and prints its report.
+///
+/// The words are those behind the program's name. Each line of output is one call of the sink. A
+/// fault of the sink wins over the status that the text belongs to.
+pub fn run<S: Source, K: Sink>(
+    alloc: Global,
+    words: &Vec<String>,
+    input: &mut S,
+    output: &mut K,
+) -> Done
+    ensures runs { Runs (map string_bytes words.now.items) (S.left input.old) (S.faults input.old) (S.faults input.new)
+        (K.held output.old) (K.held output.new) (K.faults output.old) (K.faults output.new) result }
+    ensures unread { (IsRun (map string_bytes words.now.items) → ⊥) → input.new ≡ input.old }
+{
+    let (said, text) = match say(alloc, words.as_slice(), input) {
+        Ok(begun) => begun,
+        Err(OutOfMemory) => {
+            return Done {
+                status: 8,
+                journal: None,
+                parties: Sequence::new(alloc),
+            };
+        }
+    };
+    let Text {
+        lines,
+        journal,
+        parties,
+    } = text;
+    let status = match put_all(output, lines.as_slice()) {
+        Ok(()) => said.status(),
+        Err(Failed) => 5,
+    };
+    Done {
+        status,
+        journal,
+        parties,
+    }
+}
