@@ -316,10 +316,11 @@ module _ {A M O : Type 0} (r : Rules A M O) (words : ℕ → ℕ → ℕ × ℕ)
   pub At-end : (stage : Stage A M O) (i : ℕ) → length lines ≤ i → At (with_births r words births) lines stage (flat_map (tasks_of words) (drop i lines)) → At (with_births r words births) lines stage []
   At-end stage i le at = subst (λ ts. At (with_births r words births) lines stage (flat_map (tasks_of words) ts)) (drop_of_length-le lines le) at
 
-  pub ended : (stage : Stage A M O) → journal_bytes r.weighs stage.rows ≤ r.limit → At (with_births r words births) lines stage [] → HasEnded (with_births r words births) r.weighs lines r.limit stage.unsettled stage.skipped stage.rows stage.seats.items
-  ended stage within at =
+  pub ended : (stage : Stage A M O) (quiet : Bool) → quiet ≡ is_none (kth (pending r.receiver (numbers_of stage.seats.items) stage.rows None) 1) → journal_bytes r.weighs stage.rows ≤ r.limit → At (with_births r words births) lines stage [] → HasEnded (with_births r words births) r.weighs lines r.limit stage.unsettled quiet stage.skipped stage.rows stage.seats.items
+  ended stage quiet is within at =
+      let same : numbers_of stage.seats.items ≡ numbers_of births = ap numbers_of at.seats ∙ numbers_of-values r.table births stage.rows in
       let whole = Stands-whole (with_births r words births) lines stage.rows stage.skipped stage.unsettled (record { lawful = at.lawful; place = at.place }) in
-      record { lawful = at.lawful; whole = whole.0; within = within; cut_is = sym whole.2; skips_are = sym whole.1; actors = at.seats }
+      record { lawful = at.lawful; whole = whole.0; within = within; cut_is = sym whole.2; quiet_now = is ∙ ap (λ numbers. is_none (kth (pending r.receiver numbers stage.rows None) 1)) same; skips_are = sym whole.1; actors = at.seats }
 
 -- the line at a place is built where all are
 pub built_at : {O : Type 0} (lines : List (Line O)) → All (λ line. is_built line ≡ true) lines → (i : ℕ) (line : Line O) → i < length lines → line ≡ get_or lines i line → is_built line ≡ true

@@ -1,5 +1,5 @@
 //! Which mail is pending, by what a stage keeps.
-ghost use Rattle.std.specs.Prelude.{◌≡◌, ◌<◌, ◌+◌, ◌-◌, ◌^◌, ◌==◌, ◌&&◌, not, length, false};
+ghost use Rattle.std.specs.Prelude.{◌≡◌, ◌<◌, ◌+◌, ◌-◌, ◌^◌, ◌==◌, ◌&&◌, not, length, false, is_none, None};
 ghost use Rattle.std.specs.Prelude.{IfSome, IsSomeAnd, map, true, if◌then◌else◌};
 ghost use Rattle.std.specs.List.{list_any};
 ghost use Rattle.sc_actor.specs.Mail.{numbers, numbered, may_get, has_crashed, is_crash, is_for, pending};
@@ -139,4 +139,12 @@ pub fn waiting<A, M: Parcel, O>(stage: &Stage<A, M, O>, whose: Option<u32>, k: u
         whose,
         k,
     )
+}
+
+/// Whether a stage has no pending mail.
+pub fn is_quiet<A, M: Parcel, O>(stage: &Stage<A, M, O>) -> bool
+    requires { IsKept M.weighs stage.now }
+    ensures { result ≡ is_none (kth (pending M.receiver (numbers_of stage.now.seats.items) stage.now.rows None) 1) }
+{
+    waiting(stage, None, 1).is_none()
 }

@@ -5,6 +5,7 @@ ghost use Rattle.sc_play.specs.Deeds.{is_built};
 ghost use Rattle.sc_play.specs.Stages.{are_apart};
 ghost use Rattle.sc_play.specs.Outcome.{IsPlayed};
 
+use crate::pending::is_quiet;
 use crate::playing::Played;
 use crate::running::{Stop, run_line};
 use crate::stages::Stage;
@@ -46,8 +47,10 @@ pub fn play<A: Actor>(
             Err(Stop::OutOfMemory) => return Err(OutOfMemory),
         }
     }
+    let quiet = is_quiet(&stage);
     Ok(Played::Ended {
         unsettled: stage.unsettled,
+        quiet,
         skipped: stage.skipped,
         journal: stage.rows,
         seats: stage.seats,

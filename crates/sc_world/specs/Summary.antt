@@ -25,12 +25,15 @@ abbrev pub got_of : Option Reply → ClientCore → ℕ → Got
 got_of (Some reply) client seq = Replied reply
 got_of None client seq = if client.waiting == seq then Unanswered else Unsent
 
+-- the request after so many
+abbrev pub asked_after : ClientCore → ℕ → Op → Asked
+asked_after client done op =
+    record { client = client.me; seq = done + 1; op = op; got = got_of (slice_get client.replies done) client (done + 1) }
+
 -- the client's requests after so many
 abbrev pub asked_from : ClientCore → ℕ → List Op → List Asked
 asked_from client done [] = []
-asked_from client done (op ∷ ops) =
-    record { client = client.me; seq = done + 1; op = op; got = got_of (slice_get client.replies done) client (done + 1) }
-    ∷ asked_from client (done + 1) ops
+asked_from client done (op ∷ ops) = asked_after client done op ∷ asked_from client (done + 1) ops
 
 abbrev pub asked_by : Party → List Asked
 asked_by (Node node) = []

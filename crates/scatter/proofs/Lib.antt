@@ -1,1 +1,3 @@
 mod Pieces
+mod Plays
+mod Readings

@@ -1,5 +1,5 @@
 -- What a run says and prints, and why.
-use Rattle.std.specs.Prelude.{◌≡◌, ◌≢◌, ◌⊎◌, ℕ, List, [], ◌∷◌, ◌++◌, Bool, true, false, Option, None, Some, IfSome, codes}
+use Rattle.std.specs.Prelude.{◌≡◌, ◌⊎◌, ℕ, List, [], ◌∷◌, ◌++◌, ◌==◌, ◌&&◌, length, Bool, true, false, Option, None, Some, IfSome, codes}
 use Rattle.std.specs.List.{concat}
 use Rattle.std.specs.Io.KnownBytes.{Appends}
 use Rattle.sc_edges.specs.Bytes.{AppendsPart}
@@ -8,7 +8,7 @@ use Rattle.sc_cmd.specs.declared.orders.OrderLine.{OrderLine}
 use Rattle.sc_mail.specs.declared.bodies.Mail.{Mail}
 use Rattle.sc_actor.specs.declared.rows.Row.{Row}
 use Rattle.sc_actor.specs.Walk.{unsettled}
-use Rattle.sc_scenario.specs.Early.{scenario_of}
+use Rattle.sc_scenario.specs.Early.{scenario_of, same, nth}
 use Rattle.sc_scenario.specs.declared.scenarios.Scenario.{Scenario}
 use Rattle.sc_report.specs.Report.{report_lines}
 use Rattle.sc_world.specs.World.{system_of, schedule, Lawful, Whole, parties}
@@ -19,8 +19,8 @@ use Rattle.scatter.specs.declared.done.Said.{Said}
 use Rattle.scatter.specs.declared.done.Said.TheVariants.{Ended, Unsettled, Usage, BadScenario, ReadFault}
 
 -- the grammar of the words: the one word `run`
-abbrev pub IsRun : List (List ℕ) → Type 0
-IsRun words = words ≡ codes "run" ∷ []
+abbrev pub is_run : List (List ℕ) → Bool
+is_run words = (length words == 1) && same (nth words 0) (codes "run")
 
 abbrev pub usage : List ℕ
 usage = codes "usage: scatter run | scatter make N S"
@@ -49,10 +49,29 @@ pub record Plays (scenario : Scenario) (cut : Bool) (text : Text) : Type 0 where
   pub reports : Reports scenario journal text
   pub cut_is : unsettled (system_of scenario) (schedule scenario) journal ≡ cut
 
+-- which text a run that ended begins
+abbrev pub said_of : Bool → Said
+said_of true = Unsettled
+said_of false = Ended
+
 abbrev pub ReportsAs : Said → Scenario → Text → Type 0
 ReportsAs Ended scenario text = Plays scenario false text
 ReportsAs Unsettled scenario text = Plays scenario true text
 ReportsAs _ scenario text = ⊥
+
+-- the same of the scenario that some bytes are
+pub record IsReport (bytes : List ℕ) (cut : Bool) (text : Text) : Type 0 where
+  pub scenario : Scenario
+  pub read : scenario_of bytes ≡ Some scenario
+  pub plays : Plays scenario cut text
+
+-- what a text says that was begun for these bytes
+abbrev pub ReadsBytes : List ℕ → Said → Text → Type 0
+ReadsBytes bytes Ended text = IsReport bytes false text
+ReadsBytes bytes Unsettled text = IsReport bytes true text
+ReadsBytes bytes Usage text = ⊥
+ReadsBytes bytes BadScenario text = (scenario_of bytes ≡ None) × Tells (codes "line 0: bad scenario") text
+ReadsBytes bytes ReadFault text = ⊥
 
 -- the same of the scenario that was read
 pub record ReadsAndPlays (left : Option (List ℕ)) (cut : Bool) (text : Text) : Type 0 where
@@ -71,7 +90,7 @@ Reads left before now ReadFault text = Rose before now × Tells (codes "read fau
 -- the same for any words
 abbrev pub Says : List (List ℕ) → Option (List ℕ) → ℕ → ℕ → Said → Text → Type 0
 Says words left before now said text =
-    (IsRun words × Reads left before now said text) ⊎ ((IsRun words → ⊥) × (said ≡ Usage) × Tells usage text)
+    ((is_run words ≡ true) × Reads left before now said text) ⊎ ((is_run words ≡ false) × (said ≡ Usage) × Tells usage text)
 
 -- the status that a text belongs to
 abbrev pub status_of : Said → ℕ

@@ -4,18 +4,15 @@
 mod done;
 mod played;
 mod printing;
-
 mod running;
 mod summing;
 mod telling;
 
 pub use done::{Done, Text};
 pub use running::run;
-
 use sc_edges::{StdSink, StdSource};
-use std::env;
-use std::io;
 use std::process::ExitCode;
+use std::{env, io};
 
 #[cfg(test)]
 mod tests;

@@ -3,7 +3,7 @@ ghost use Rattle.std.specs.Prelude.{◌≡◌, ◌≤◌, ◌^◌, map, IfOk};
 ghost use Rattle.sc_scenario.specs.Valid.{IsValid};
 ghost use Rattle.sc_world.specs.World.{births, schedule};
 ghost use Rattle.scatter.specs.Played.{IsPlayed};
-ghost use Rattle.scatter.specs.Run.{ReportsAs};
+ghost use Rattle.scatter.specs.Run.{ReportsAs, said_of};
 
 use crate::done::{Said, Text};
 use crate::summing::summary;
@@ -29,7 +29,9 @@ pub enum Played {
         parties: Sequence<Party>,
     },
     /// To the row that would pass the limit: the rows before it.
-    Full { journal: Journal<Mail, OrderLine> },
+    Full {
+        journal: Journal<Mail, OrderLine>,
+    },
     OutOfMemory,
 }
 
@@ -107,17 +109,23 @@ pub fn report(alloc: Global, scenario: &Scenario) -> Result<(Said, Text), OutOfM
         } => {
             let told = summary(alloc, scenario, &journal, &parties, skipped, quiet)?;
             let lines = lines(alloc, &told)?;
-            let said = if unsettled {
-                Said::Unsettled
-            } else {
-                Said::Ended
-            };
             let text = Text {
                 lines,
                 journal: Some(journal),
                 parties,
             };
-            Ok((said, text))
+            Ok((said_of(unsettled), text))
         }
+    }
+}
+
+// Which text a run that ended begins.
+fn said_of(unsettled: bool) -> Said
+    ensures { result ≡ said_of unsettled }
+{
+    if unsettled {
+        Said::Unsettled
+    } else {
+        Said::Ended
     }
 }

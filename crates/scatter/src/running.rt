@@ -1,7 +1,7 @@
 //! From the words and bytes that come in to the bytes that go out.
-ghost use Rattle.std.specs.Prelude.{◌≡◌, ◌↔◌, ◌≤◌, IsTrue, map, string_bytes, IfOk};
-ghost use Rattle.sc_scenario.specs.Valid.{IsValid};
-ghost use Rattle.scatter.specs.Run.{IsRun, Says, Reads, Runs};
+ghost use Rattle.std.specs.Prelude.{◌≡◌, map, false, string_bytes, IfOk};
+ghost use Rattle.sc_scenario.specs.Early.{nth};
+ghost use Rattle.scatter.specs.Run.{is_run, Says, Reads, ReadsBytes, Runs};
 
 use crate::done::{Done, Said, Text};
 use crate::played::report;
@@ -12,13 +12,35 @@ use sc_edges::{Failed, ReadFault, Sink, Source, read_all};
 use sc_scenario::{INPUT_LIMIT, ScenarioFault, read_scenario};
 use std::alloc::Global;
 
+// The first word, or the empty text where there is none.
+fn first_word(words: &[String]) -> &[u8]
+    ensures { result.now ≡ nth (map string_bytes words.now) 0 }
+{
+    if 0 < words.len() {
+        words[0].as_bytes()
+    } else {
+        b""
+    }
+}
+
 // Whether the words are the one word `run`.
 fn is_run(words: &[String]) -> bool
-    ensures { IsTrue result ↔ IsRun (map string_bytes words.now) }
+    ensures { result ≡ is_run (map string_bytes words.now) }
 {
-    match words {
-        [word] => word.as_str() == "run",
-        _ => false,
+    words.len() == 1 && first_word(words) == b"run".as_slice()
+}
+
+// The text for the bytes that were read.
+fn text_for(alloc: Global, bytes: &[u8]) -> Result<(Said, Text), OutOfMemory>
+    ensures { IfOk result (λ begun. ReadsBytes bytes.now begun.0 begun.1) }
+{
+    match read_scenario(alloc, bytes) {
+        Ok(scenario) => report(alloc, &scenario),
+        Err(ScenarioFault::Bad { .. }) => {
+            let text = tells(alloc, b"line 0: bad scenario")?;
+            Ok((Said::BadScenario, text))
+        }
+        Err(ScenarioFault::OutOfMemory) => Err(OutOfMemory),
     }
 }
 
@@ -28,17 +50,13 @@ fn work<S: Source>(alloc: Global, input: &mut S) -> Result<(Said, Text), OutOfMe
 {
     let bytes = match read_all(alloc, input, INPUT_LIMIT) {
         Ok(bytes) => bytes,
-        Err(ReadFault::Failed) => return Ok((Said::ReadFault, tells(alloc, b"read fault")?)),
+        Err(ReadFault::Failed) => {
+            let text = tells(alloc, b"read fault")?;
+            return Ok((Said::ReadFault, text));
+        }
         Err(ReadFault::OutOfMemory) => return Err(OutOfMemory),
     };
-    match read_scenario(alloc, &bytes) {
-        Ok(scenario) => report(alloc, &scenario),
-        Err(ScenarioFault::Bad { .. }) => Ok((
-            Said::BadScenario,
-            tells(alloc, b"line 0: bad scenario")?,
-        )),
-        Err(ScenarioFault::OutOfMemory) => Err(OutOfMemory),
-    }
+    text_for(alloc, &bytes)
 }
 
 // The text for some words.
@@ -48,7 +66,7 @@ fn say<S: Source>(
     input: &mut S,
 ) -> Result<(Said, Text), OutOfMemory>
     ensures says { IfOk result (λ begun. Says (map string_bytes words.now) (S.left input.old) (S.faults input.old) (S.faults input.new) begun.0 begun.1) }
-    ensures unread { (IsRun (map string_bytes words.now) → ⊥) → input.new ≡ input.old }
+    ensures unread { is_run (map string_bytes words.now) ≡ false → input.new ≡ input.old }
 {
     if !is_run(words) {
         let text = tells(alloc, b"usage: scatter run | scatter make N S")?;
@@ -69,7 +87,7 @@ pub fn run<S: Source, K: Sink>(
 ) -> Done
     ensures runs { Runs (map string_bytes words.now.items) (S.left input.old) (S.faults input.old) (S.faults input.new)
         (K.held output.old) (K.held output.new) (K.faults output.old) (K.faults output.new) result }
-    ensures unread { (IsRun (map string_bytes words.now.items) → ⊥) → input.new ≡ input.old }
+    ensures unread { is_run (map string_bytes words.now.items) ≡ false → input.new ≡ input.old }
 {
     let (said, text) = match say(alloc, words.as_slice(), input) {
         Ok(begun) => begun,

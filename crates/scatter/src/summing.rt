@@ -1,14 +1,13 @@
 //! The summary of a run.
-ghost use Rattle.std.specs.Prelude.{◌≡◌, ◌++◌, ◌+◌, ◌<◌, ℕ, List, map, length, count_by, IfOk, OnOk, slice_get};
-ghost use Rattle.std.specs.Option.{option_copied};
+ghost use Rattle.std.specs.Prelude.{◌≡◌, ◌++◌, map, length, count_by, IfOk, OnOk, slice_get};
 ghost use Rattle.std.specs.List.{flat_map};
 ghost use Rattle.sc_actor.specs.Mail.{mails};
 ghost use Rattle.sc_actor.specs.Walk.{is_quiet, skipped};
 ghost use Rattle.sc_world.specs.World.{system_of, schedule, parties, route_of};
-ghost use Rattle.sc_world.specs.Summary.{summary_of, asked_by, asked_from, got_of, is_delivery};
+ghost use Rattle.sc_world.specs.Summary.{summary_of, asked_by, asked_from, asked_after, got_of, is_delivery};
 
 use sc_actor::{Event, Journal, Row};
-use sc_base::{Dup, OutOfMemory, Reply, Sequence, dup_found};
+use sc_base::{Dup, Op, OutOfMemory, Sequence};
 use sc_cmd::{Base, OrderLine, Route};
 use sc_mail::Mail;
 use sc_report::{Asked, Got, Summary};
@@ -26,58 +25,53 @@ fn small(n: usize) -> Result<u32, OutOfMemory>
     Ok(n as u32)
 }
 
-fn got_of(
-    alloc: Global,
-    reply: Option<&Reply>,
-    client: &ClientCore,
-    seq: u32,
-) -> Result<Got, OutOfMemory>
-    ensures { IfOk result (λ got. got ≡ got_of (option_copied reply.entry) client.now seq) }
+fn got_at(alloc: Global, client: &ClientCore, i: usize, seq: u32) -> Result<Got, OutOfMemory>
+    ensures { IfOk result (λ got. got ≡ got_of (slice_get client.now.replies i) client.now seq) }
 {
-    match dup_found(reply, alloc)? {
-        Some(reply) => Ok(Got::Replied(reply)),
-        None => {
-            if client.waiting == seq {
-                Ok(Got::Unanswered)
-            } else {
-                Ok(Got::Unsent)
-            }
-        }
+    if i < client.replies.len() {
+        return Ok(Got::Replied(client.replies.at(i).dup(alloc)?));
     }
+    if client.waiting == seq {
+        Ok(Got::Unanswered)
+    } else {
+        Ok(Got::Unsent)
+    }
+}
+
+// The request after so many.
+fn asked_at(alloc: Global, client: &ClientCore, i: usize, op: &Op) -> Result<Asked, OutOfMemory>
+    ensures { IfOk result (λ asked. asked ≡ asked_after client.now i op.now) }
+{
+    let seq = small(i.saturating_add(1))?;
+    let got = got_at(alloc, client, i, seq)?;
+    Ok(Asked {
+        client: client.me,
+        seq,
+        op: op.dup(alloc)?,
+        got,
+    })
 }
 
 fn add_client(
     alloc: Global,
     asked: &mut Sequence<Asked>,
     client: &ClientCore,
+    ops: &[Op],
 ) -> Result<(), OutOfMemory>
-    ensures { OnOk result (asked.new ≡ asked.old ++ asked_from client.now 0 client.now.requests) }
+    ensures { OnOk result (asked.new ≡ asked.old ++ asked_from client.now 0 ops.now) }
 {
-    let replies = client.replies.as_slice();
-    let ops = client.requests.as_slice();
     for i in 0..ops.len() {
-        let seq = small(i + 1)?;
-        let got = got_of(alloc, replies.get(i), client, seq)?;
-        asked.push(Asked {
-            client: client.me,
-            seq,
-            op: ops[i].dup(alloc)?,
-            got,
-        })?;
+        asked.push(asked_at(alloc, client, i, &ops[i])?)?;
     }
     Ok(())
 }
 
-fn add_party(
-    alloc: Global,
-    asked: &mut Sequence<Asked>,
-    party: &Party,
-) -> Result<(), OutOfMemory>
+fn add_party(alloc: Global, asked: &mut Sequence<Asked>, party: &Party) -> Result<(), OutOfMemory>
     ensures { OnOk result (asked.new ≡ asked.old ++ asked_by party.now) }
 {
     match party {
         Party::Node(_) => Ok(()),
-        Party::Client(client) => add_client(alloc, asked, client),
+        Party::Client(client) => add_client(alloc, asked, client, client.requests.as_slice()),
     }
 }
 
@@ -120,10 +114,19 @@ fn is_delivery(event: &Event<OrderLine>) -> bool
     }
 }
 
-fn deliveries(rows: &[Row<Mail, OrderLine>]) -> usize
-    ensures { result ≡ count_by (λ row. is_delivery row.event) rows.now }
+fn deliveries(rows: &[Row<Mail, OrderLine>]) -> Result<u32, OutOfMemory>
+    ensures { IfOk result (λ n. n ≡ count_by (λ row. is_delivery row.event) rows.now) }
 {
-    rows.iter().filter(|row| is_delivery(&row.event)).count()
+    let mut total = 0u32;
+    for row in rows {
+        if is_delivery(&row.event) {
+            total = match total.checked_add(1) {
+                Some(sum) => sum,
+                None => return Err(OutOfMemory),
+            };
+        }
+    }
+    Ok(total)
 }
 
 fn mail_count(rows: &[Row<Mail, OrderLine>]) -> Result<u32, OutOfMemory>
@@ -167,7 +170,7 @@ pub fn summary(
         ring: ring_of(alloc, scenario.groups.as_slice())?,
         rows: small(rows.len())?,
         mail: mail_count(rows)?,
-        delivered: small(deliveries(rows))?,
+        delivered: deliveries(rows)?,
         skipped: skips as u32,
         quiet,
     })

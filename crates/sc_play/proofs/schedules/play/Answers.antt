@@ -28,5 +28,5 @@ loop-line-preserved g c =
 pub returns : goal.returns
 returns g c = λ words.
     let r = rules_of g.A.Actor.table g.A.Mail.Parcel.receiver g.A.Mail.Parcel.weighs c.args.limit in
-    ended r words c.args.seats.items c.args.lines.now c.loop-line.stage (within_limit r c.loop-line.stage c.loop-line.invariant.1)
+    ended r words c.args.seats.items c.args.lines.now c.loop-line.stage c.is_quiet-quiet.result c.is_quiet-quiet.ensures (within_limit r c.loop-line.stage c.loop-line.invariant.1)
     (At-end r words c.args.seats.items c.args.lines.now c.loop-line.stage c.loop-line.line-index (omega (arith, c.loop-line-test.false)) (c.loop-line.invariant.0 words))
