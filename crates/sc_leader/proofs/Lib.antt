@@ -1,0 +1,4 @@
+mod Parts
+mod Places
+mod Counting
+mod Flying

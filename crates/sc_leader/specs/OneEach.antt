@@ -1,0 +1,9 @@
+-- What a leader has in flight.
+use Rattle.std.specs.Prelude.{◌≢◌, List, [], ◌∷◌}
+use Rattle.sc_paxos_words.specs.declared.flights.Flight.{Flight}
+use Rattle.sc_paxos_words.specs.Among.{Each}
+
+-- at most one flight a slot
+abbrev pub IsOneEach : {V : Type 0} → List (Flight V) → Type 0
+IsOneEach [] = Unit {0}
+IsOneEach (flight ∷ flights) = Each (λ other. other.slot ≢ flight.slot) flights × IsOneEach flights

@@ -1,0 +1,55 @@
+//! The kept votes of a flight.
+ghost use Rattle.std.specs.Prelude.{◌≡◌, IsTrue, length, if◌then◌else◌};
+ghost use Rattle.std.specs.List.{list_all};
+ghost use Rattle.sc_member.specs.Roster.{IsRoster, is_member, with_member};
+ghost use Rattle.sc_member.specs.Majority.{is_majority};
+ghost use Rattle.sc_paxos_words.specs.Votes.{voters_of, voters_after};
+
+use sc_member::Members;
+
+/// The kept votes after one of a node: that of a member is kept, once.
+pub(crate) fn voters_after(members: &Members, node: u16, voters: Option<Members>) -> Option<Members>
+    requires { IsTrue (list_all (λ voter. is_member members.now voter) (voters_of voters)) }
+    ensures { result ≡ voters_after members.now node voters }
+{
+    if !members.has(node) {
+        return voters;
+    }
+    match voters {
+        None => Some(Members::one(node)),
+        Some(kept) => Some(with_voter(members, node, kept)),
+    }
+}
+
+/// The kept voters with one more, if it is not there. There is room for it, since they are members and it is one.
+fn with_voter(members: &Members, node: u16, mut kept: Members) -> Members
+    requires part { IsTrue (list_all (λ voter. is_member members.now voter) kept) }
+    requires member { IsTrue (is_member members.now node) }
+    ensures { result ≡ (if is_member kept node then kept else with_member kept node) }
+{
+    let most = members.as_slice().len();
+    if kept.as_slice().len() < most {
+        let _ = kept.add(node);
+    }
+    kept
+}
+
+/// Whether the kept voters are a majority of the members.
+pub(crate) fn are_majority(members: &Members, voters: &Option<Members>) -> bool
+    ensures { result ≡ is_majority members.now (voters_of voters.now) }
+{
+    match voters {
+        None => members.is_majority(&[]),
+        Some(kept) => members.is_majority(kept.as_slice()),
+    }
+}
+
+/// How many voters are kept.
+pub(crate) fn count_of(voters: &Option<Members>) -> u8
+    ensures { result ≡ length (voters_of voters.now) }
+{
+    match voters {
+        None => 0,
+        Some(kept) => kept.len(),
+    }
+}

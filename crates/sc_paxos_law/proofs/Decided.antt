@@ -1,0 +1,201 @@
+-- The computed log is the longest log.
+use Rattle.std.proofs.Common.{◌≡◌, ℕ, ◌+◌, ◌*◌, ◌<◌, ◌≤◌, ◌&&◌, zero, suc, true, eqb, List, [], ◌∷◌, ◌++◌, length, take, count_by, Option, Some, None, inl, inr, refl, sym, ◌∙◌, ap, subst, arith}
+use Rattle.std.proofs.lemmas.Bool.{cases_Bool, eqb-true, eq-eqb, ltb-true, lt-ltb, cond-true, cond-false, cond_both, and_parts, and_from, cases_lt}
+use Rattle.std.proofs.lemmas.List.{length_push, take_all}
+use Rattle.sc_paxos_words.specs.Among.{Among, Each}
+use Rattle.sc_base.specs.declared.names.Ballot.{Ballot}
+use Rattle.sc_member.specs.Roster.{is_member}
+use Rattle.sc_member.specs.Majority.{IsMajority, is_majority}
+use Rattle.sc_paxos_words.specs.Ballots.{same_ballot}
+use Rattle.sc_paxos_words.proofs.ListLemmas.{Each-among, Each-weaker}
+use Rattle.sc_paxos_law.specs.Steps.{Step, Prepared, Promised, Offered, Accepted, Cut}
+use Rattle.sc_paxos_law.specs.Chosen.{Rule, needed, members_of, IsChosen, IsChosenAfter, IsLog}
+use Rattle.sc_paxos_law.specs.Lawful.{IsLawful}
+use Rattle.sc_paxos_law.specs.Decided.{voters_of, found_in, chosen_at, top_slot, longer, log_of}
+use Rattle.sc_paxos_law.proofs.Among.{shared_member, member-among, among-member, count_by-le}
+use Rattle.sc_paxos_law.proofs.History.{was_offered, one_offer}
+use Rattle.sc_paxos_law.proofs.Law.{earlier, agree_members, logs_agree, element, chosen_by, later_log, longer_log}
+
+-- ---- voters
+
+itself : (b : Ballot) → same_ballot b b ≡ true
+itself b = and_from (eqb b.round b.round) (eqb b.node b.node) (eq-eqb b.round b.round refl) (eq-eqb b.node b.node refl)
+
+made_equal : (r n s m : ℕ) → r ≡ s → n ≡ m → (let a : Ballot = record { round = r; node = n } in a) ≡ record { round = s; node = m }
+made_equal r n s m e f = ap (λ x. (let a : Ballot = record { round = x; node = n } in a)) e ∙ ap (λ x. (let a : Ballot = record { round = s; node = x } in a)) f
+
+same_is : (a b : Ballot) → same_ballot a b ≡ true → a ≡ b
+same_is a b t =
+    let parts = and_parts (eqb a.round b.round) (eqb a.node b.node) t in
+    made_equal a.round a.node b.round b.node (eqb-true a.round b.round parts.0) (eqb-true a.node b.node parts.1)
+
+-- each voter accepted some value
+abbrev Accepts : {V : Type 0} → List (Step V) → Ballot → ℕ → ℕ → Type 0
+Accepts {V} h b slot n = (v : V) × Among (Accepted n b slot v) h
+
+later_voters : {V : Type 0} (s : Step V) (h : List (Step V)) (b : Ballot) (slot : ℕ) (ns : List ℕ) → Each (Accepts h b slot) ns → Each (Accepts (s ∷ h) b slot) ns
+later_voters s h b slot ns e = Each-weaker _ _ (λ n a. (a.0, inr a.1)) ns e
+
+voters_accept : {V : Type 0} (h : List (Step V)) (b : Ballot) (slot : ℕ) → Each (Accepts h b slot) (voters_of h b slot)
+voters_accept [] b slot = tt
+voters_accept (Prepared c from ∷ h) b slot = later_voters _ h b slot _ (voters_accept h b slot)
+voters_accept (Promised n c from rs ∷ h) b slot = later_voters _ h b slot _ (voters_accept h b slot)
+voters_accept (Cut n upto ∷ h) b slot = later_voters _ h b slot _ (voters_accept h b slot)
+voters_accept (Offered c s v ∷ h) b slot = later_voters _ h b slot _ (voters_accept h b slot)
+voters_accept {V} (Accepted n c s v ∷ h) b slot =
+    let rest = later_voters (Accepted n c s v) h b slot _ (voters_accept h b slot) in
+    elim (cases_Bool (same_ballot c b && eqb s slot)) [
+      | inl t ↦ (
+          let parts = and_parts (same_ballot c b) (eqb s slot) t in
+          let same = ap (λ x. Accepted n x s v) (same_is c b parts.0) ∙ ap (λ x. Accepted n b x v) (eqb-true s slot parts.1) in
+          subst (Each (Accepts (Accepted n c s v ∷ h) b slot)) (sym (cond-true (same_ballot c b && eqb s slot) (n ∷ voters_of h b slot) (voters_of h b slot) t)) ((v, inl same), rest))
+      | inr f ↦ subst (Each (Accepts (Accepted n c s v ∷ h) b slot)) (sym (cond-false (same_ballot c b && eqb s slot) (n ∷ voters_of h b slot) (voters_of h b slot) f)) rest
+    ]
+
+is_voter : {V : Type 0} (h : List (Step V)) (n : ℕ) (b : Ballot) (slot : ℕ) (v : V) → Among (Accepted n b slot v) h → Among n (voters_of h b slot)
+is_voter [] n b slot v a = absurd a
+is_voter {V} (x ∷ h) n b slot v (inl e) =
+    subst (λ (y : Step V). Among n (voters_of (y ∷ h) b slot)) (sym e)
+    (subst (Among n) (sym (cond-true (same_ballot b b && eqb slot slot) (n ∷ voters_of h b slot) (voters_of h b slot) (and_from (same_ballot b b) (eqb slot slot) (itself b) (eq-eqb slot slot refl)))) (inl refl))
+is_voter (Prepared c from ∷ h) n b slot v (inr a) = is_voter h n b slot v a
+is_voter (Promised m c from rs ∷ h) n b slot v (inr a) = is_voter h n b slot v a
+is_voter (Cut m upto ∷ h) n b slot v (inr a) = is_voter h n b slot v a
+is_voter (Offered c s w ∷ h) n b slot v (inr a) = is_voter h n b slot v a
+is_voter (Accepted m c s w ∷ h) n b slot v (inr a) =
+    cond_both (same_ballot c b && eqb s slot) (m ∷ voters_of h b slot) (voters_of h b slot) (Among n) (λ t. inr (is_voter h n b slot v a)) (λ f. is_voter h n b slot v a)
+
+more_voters : (members one other : List ℕ) → IsMajority members one → ((n : ℕ) → Among n one → Among n other) → is_majority members other ≡ true
+more_voters members one other most f =
+    let le = count_by-le (is_member one) (is_member other) members (λ n t. among-member other n (f n (member-among one n t))) in
+    lt-ltb (length members) (2 * count_by (is_member other) members) (omega (arith, most, le))
+
+-- ---- what is found is chosen
+
+found_by : {V : Type 0} (members : List ℕ) (all : List (Step V)) (slot : ℕ) (h : List (Step V)) (v : V) → found_in members all slot h ≡ Some v
+    → (n : ℕ) × (b : Ballot) × Among (Accepted n b slot v) h × (is_majority members (voters_of all b slot) ≡ true)
+found_by members all slot [] v e = cc
+found_by members all slot (Prepared b from ∷ h) v e = let k = found_by members all slot h v e in (k.0, k.1, inr k.2, k.3)
+found_by members all slot (Promised n b from rs ∷ h) v e = let k = found_by members all slot h v e in (k.0, k.1, inr k.2, k.3)
+found_by members all slot (Cut n upto ∷ h) v e = let k = found_by members all slot h v e in (k.0, k.1, inr k.2, k.3)
+found_by members all slot (Offered b s w ∷ h) v e = let k = found_by members all slot h v e in (k.0, k.1, inr k.2, k.3)
+found_by {V} members all slot (Accepted n b s w ∷ h) v e =
+    elim (cases_Bool (eqb s slot && is_majority members (voters_of all b slot))) [
+      | inl t ↦ (
+          let parts = and_parts (eqb s slot) (is_majority members (voters_of all b slot)) t in
+          let got : Some w ≡ Some v = sym (cond-true (eqb s slot && is_majority members (voters_of all b slot)) (Some w) (found_in members all slot h) t) ∙ e in
+          let same : w ≡ v = cc in
+          (n, b, inl (ap (λ x. Accepted n b x w) (eqb-true s slot parts.0) ∙ ap (λ (x : V). Accepted n b slot x) same), parts.1))
+      | inr f ↦ (let k = found_by members all slot h v (sym (cond-false (eqb s slot && is_majority members (voters_of all b slot)) (Some w) (found_in members all slot h) f) ∙ e) in (k.0, k.1, inr k.2, k.3))
+    ]
+
+pub chosen_at-chosen : {V : Type 0} (rule : Rule V) (first : Ballot) (h : List (Step V)) (members : List ℕ) (slot : ℕ) (v : V) → IsLawful rule first h → chosen_at members h slot ≡ Some v → IsChosen members h slot v
+chosen_at-chosen {V} rule first h members slot v l e =
+    let k = found_by members h slot h v e in
+    let offered = was_offered rule first h k.0 k.1 slot v l k.2 in
+    record {
+      ballot = k.1;
+      voters = voters_of h k.1 slot;
+      each = Each-weaker _ _ (λ n a. (let same = one_offer rule first h k.1 slot a.0 v l (was_offered rule first h n k.1 slot a.0 l a.1) offered in subst (λ (x : V). Among (Accepted n k.1 slot x) h) same a.1)) (voters_of h k.1 slot) (voters_accept h k.1 slot);
+      majority = ltb-true _ _ k.3;
+    }
+
+-- ---- what is chosen is found
+
+finds : {V : Type 0} (members : List ℕ) (all : List (Step V)) (slot : ℕ) (h : List (Step V)) (n : ℕ) (b : Ballot) (v : V) → Among (Accepted n b slot v) h → is_majority members (voters_of all b slot) ≡ true
+    → found_in members all slot h ≡ None → ⊥
+finds members all slot [] n b v a most e = a
+finds {V} members all slot (x ∷ h) n b v (inl same) most e =
+    let k = subst (λ (y : Step V). found_in members all slot (y ∷ h) ≡ None) same e in
+    let t = and_from (eqb slot slot) (is_majority members (voters_of all b slot)) (eq-eqb slot slot refl) most in
+    let no_way : Some v ≡ None = sym (cond-true (eqb slot slot && is_majority members (voters_of all b slot)) (Some v) (found_in members all slot h) t) ∙ k in cc
+finds members all slot (Prepared c from ∷ h) n b v (inr a) most e = finds members all slot h n b v a most e
+finds members all slot (Promised m c from rs ∷ h) n b v (inr a) most e = finds members all slot h n b v a most e
+finds members all slot (Cut m upto ∷ h) n b v (inr a) most e = finds members all slot h n b v a most e
+finds members all slot (Offered c s w ∷ h) n b v (inr a) most e = finds members all slot h n b v a most e
+finds {V} members all slot (Accepted m c s w ∷ h) n b v (inr a) most e =
+    cond_both (eqb s slot && is_majority members (voters_of all c slot)) (Some w) (found_in members all slot h) (λ (o : Option V). o ≡ None → ⊥)
+    (λ t k. cc) (λ f k. finds members all slot h n b v a most k) e
+
+pub chosen-found : {V : Type 0} (h : List (Step V)) (members : List ℕ) (slot : ℕ) (v : V) → IsChosen members h slot v → chosen_at members h slot ≡ None → ⊥
+chosen-found h members slot v c e =
+    let voter = shared_member members c.voters c.voters c.majority c.majority in
+    finds members h slot h voter.0 c.ballot v (Each-among _ c.voters voter.0 c.each voter.1)
+    (more_voters members c.voters (voters_of h c.ballot slot) c.majority (λ n a. is_voter h n c.ballot slot v (Each-among _ c.voters n c.each a))) e
+
+-- ---- the log
+
+slot_bound : {V : Type 0} (h : List (Step V)) (n : ℕ) (b : Ballot) (slot : ℕ) (v : V) → Among (Accepted n b slot v) h → slot ≤ top_slot h
+slot_bound [] n b slot v a = absurd a
+slot_bound {V} (x ∷ h) n b slot v (inl e) = subst (λ (y : Step V). slot ≤ top_slot (y ∷ h)) (sym e) (omega arith)
+slot_bound (Prepared c from ∷ h) n b slot v (inr a) = slot_bound h n b slot v a
+slot_bound (Promised m c from rs ∷ h) n b slot v (inr a) = slot_bound h n b slot v a
+slot_bound (Cut m upto ∷ h) n b slot v (inr a) = slot_bound h n b slot v a
+slot_bound (Offered c s w ∷ h) n b slot v (inr a) = slot_bound h n b slot v a
+slot_bound (Accepted m c s w ∷ h) n b slot v (inr a) = omega (arith, slot_bound h n b slot v a)
+
+length_bound : {V : Type 0} (rule : Rule V) (h : List (Step V)) (log : List V) → IsLog rule h log → length log ≤ top_slot h
+length_bound rule h [] is = omega arith
+length_bound rule h (x ∷ xs) is =
+    let last = element (x ∷ xs) (length xs) (omega arith) in
+    let c = (is (length xs) last.0 last.1).chosen in
+    let voter = shared_member _ c.voters c.voters c.majority c.majority in
+    omega (arith, slot_bound h voter.0 c.ballot (length xs + 1) last.0 (Each-among _ c.voters voter.0 c.each voter.1))
+
+next_chosen : {V : Type 0} (rule : Rule V) (first : Ballot) (h : List (Step V)) (log : List V) (v : V) → IsLawful rule first h → chosen_at (members_of rule log (length log + 1)) h (length log + 1) ≡ Some v
+    → IsChosenAfter rule h log (length log + 1) v
+next_chosen rule first h log v l e = record { known = earlier rule (length log); chosen = chosen_at-chosen rule first h _ (length log + 1) v l e }
+
+-- no log is longer than one with no next entry
+stops : {V : Type 0} (rule : Rule V) (first : Ballot) (h : List (Step V)) (log other : List V) → IsLawful rule first h → IsLog rule h log → IsLog rule h other
+    → chosen_at (members_of rule log (length log + 1)) h (length log + 1) ≡ None → length log < length other → ⊥
+stops {V} rule first h log other l a b none lt =
+    let n = length log in
+    let w = element other n lt in
+    let here = agree_members rule h (n + 1) log a (earlier rule n) (logs_agree rule first h l (needed rule (n + 1))) in
+    let early = earlier rule n in
+    let c = subst (λ ms. IsChosen ms h (n + 1) w.0) (here other b (omega arith)) (chosen_by rule h other n w.0 (b n w.0 w.1)) in
+    chosen-found h _ (n + 1) w.0 c none
+
+abbrev IsLongest : {V : Type 0} → Rule V → List (Step V) → List V → Type 0
+IsLongest {V} rule h log = IsLog rule h log × ((other : List V) → IsLog rule h other → length other ≤ length log)
+
+-- one more entry, if there is one
+go_on : {V : Type 0} (rule : Rule V) (first : Ballot) (h : List (Step V)) (more : ℕ) (log : List V) → IsLawful rule first h → IsLog rule h log
+    → (o : Option V) → chosen_at (members_of rule log (length log + 1)) h (length log + 1) ≡ o
+    → ((v : V) → IsLog rule h (log ++ v ∷ []) → IsLongest rule h (longer rule h more (log ++ v ∷ [])))
+    → IsLongest rule h (elim o [ None ↦ log | Some v ↦ longer rule h more (log ++ v ∷ []) ])
+go_on rule first h more log l a None e rest =
+    (a, λ other b. elim (cases_lt (length log) (length other)) [ inl lt ↦ absurd (stops rule first h log other l a b e lt) | inr ge ↦ ge ])
+go_on rule first h more log l a (Some v) e rest = rest v (longer_log rule h log v a (next_chosen rule first h log v l e))
+
+longer_longest : {V : Type 0} (rule : Rule V) (first : Ballot) (h : List (Step V)) → IsLawful rule first h → (more : ℕ) (log : List V) → IsLog rule h log → top_slot h ≤ length log + more
+    → IsLongest rule h (longer rule h more log)
+longer_longest rule first h l zero log a enough = (a, λ other b. omega (arith, length_bound rule h other b))
+longer_longest rule first h l (suc more) log a enough =
+    go_on rule first h more log l a (chosen_at (members_of rule log (length log + 1)) h (length log + 1)) refl
+    (λ v b. longer_longest rule first h l more (log ++ v ∷ []) b (omega (arith, length_push log v)))
+
+pub log_of-longest : {V : Type 0} (rule : Rule V) (first : Ballot) (h : List (Step V)) → IsLawful rule first h → IsLongest rule h (log_of rule h)
+log_of-longest rule first h l = longer_longest rule first h l (top_slot h) [] (λ k v e. cc) (omega arith)
+
+pub front_of_log : {V : Type 0} (rule : Rule V) (first : Ballot) (h : List (Step V)) → IsLawful rule first h → (other : List V) → IsLog rule h other
+    → (length other ≤ length (log_of rule h)) × (take (length other) (log_of rule h) ≡ other)
+front_of_log rule first h l other b =
+    let longest = log_of-longest rule first h l in
+    let le = longest.1 other b in
+    (le, logs_agree rule first h l (length other) (log_of rule h) other longest.0 b le (omega arith) ∙ take_all (length other) other (omega arith))
+
+-- ---- more steps
+
+later_logs : {V : Type 0} (rule : Rule V) (newer h : List (Step V)) (log : List V) → IsLog rule h log → IsLog rule (newer ++ h) log
+later_logs rule [] h log is = is
+later_logs rule (s ∷ newer) h log is = later_log rule s (newer ++ h) log (later_logs rule newer h log is)
+
+older_lawful : {V : Type 0} (rule : Rule V) (first : Ballot) (newer h : List (Step V)) → IsLawful rule first (newer ++ h) → IsLawful rule first h
+older_lawful rule first [] h l = l
+older_lawful rule first (s ∷ newer) h l = older_lawful rule first newer h l.1
+
+pub log_grows : {V : Type 0} (rule : Rule V) (first : Ballot) (newer h : List (Step V)) → IsLawful rule first (newer ++ h)
+    → (length (log_of rule h) ≤ length (log_of rule (newer ++ h))) × (take (length (log_of rule h)) (log_of rule (newer ++ h)) ≡ log_of rule h)
+log_grows rule first newer h l =
+    front_of_log rule first (newer ++ h) l (log_of rule h) (later_logs rule newer h (log_of rule h) (log_of-longest rule first h (older_lawful rule first newer h l)).0)

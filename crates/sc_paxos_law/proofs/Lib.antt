@@ -1,0 +1,5 @@
+mod Among
+mod Decided
+mod Example
+mod History
+mod Law

@@ -1,0 +1,26 @@
+-- A history with a lost message and an election.
+use Rattle.std.specs.Prelude.{ℕ, List, [], ◌∷◌}
+use Rattle.std.proofs.Common.{lit≤}
+use Rattle.sc_base.specs.declared.names.Ballot.{Ballot}
+use Rattle.sc_paxos_law.specs.Steps.{Step, Prepared, Promised, Offered, Accepted, Cut}
+use Rattle.sc_paxos_law.specs.Chosen.{Rule}
+
+-- three members at every slot, four slots ahead
+abbrev pub three : Rule ℕ
+three = record { ahead = 4; some = lit≤ tt; members = λ entries. 1 ∷ 2 ∷ 3 ∷ [] }
+
+-- the first ballot is node 1's
+abbrev pub first : Ballot
+first = record { round = 1; node = 1 }
+
+-- node 2's
+abbrev pub second : Ballot
+second = record { round = 2; node = 2 }
+
+-- newest first. Of what node 1 offers in slot 1 only node 2 hears; node 2 asks for promises, and node 1 never hears of it; node 2 is elected by itself and node 3, and must offer the same value again; nodes 2 and 3 accept it, node 3 twice, and a value at slot 2; node 2 forgets slot 1
+abbrev pub example : List (Step ℕ)
+example =
+    Cut 2 1 ∷ Accepted 3 second 1 7 ∷ Accepted 2 second 2 8 ∷ Accepted 3 second 2 8 ∷ Offered second 2 8
+    ∷ Accepted 3 second 1 7 ∷ Accepted 2 second 1 7 ∷ Offered second 1 7
+    ∷ Promised 3 second 1 [] ∷ Promised 2 second 1 (record { slot = 1; ballot = first; value = 7 } ∷ []) ∷ Prepared second 1
+    ∷ Accepted 2 first 1 7 ∷ Offered first 1 7 ∷ []

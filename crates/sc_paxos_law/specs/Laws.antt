@@ -1,0 +1,47 @@
+-- What holds of every lawful history.
+use Rattle.std.specs.Prelude.{◌≡◌, ℕ, ◌+◌, ◌<◌, ◌≤◌, List, ◌∷◌, ◌++◌, length, take}
+use Rattle.sc_base.specs.declared.names.Ballot.{Ballot}
+use Rattle.sc_paxos_words.specs.declared.reports.Report.{Report}
+use Rattle.sc_paxos_words.specs.declared.answers.PrepareAnswer.TheVariants.{Promise}
+use Rattle.sc_paxos_words.specs.declared.answers.AcceptAnswer.TheVariants.{Accepted as Yes}
+use Rattle.sc_paxos_words.specs.Among.{Among}
+use Rattle.sc_paxos_words.specs.Acceptors.{AcceptorState, after_cut}
+use Rattle.sc_paxos_words.specs.Preparing.{prepared}
+use Rattle.sc_paxos_words.specs.Accepting.{accepted}
+use Rattle.sc_paxos_law.specs.Steps.{Step, Promised, Offered, Accepted, Cut, state_of}
+use Rattle.sc_paxos_law.specs.Chosen.{Rule, IsChosenAfter, IsLog}
+use Rattle.sc_paxos_law.specs.Lawful.{IsLawfulStep, IsLawful}
+use Rattle.sc_paxos_law.specs.Decided.{log_of}
+
+-- no two values are chosen at one slot, each by the members that its own log gives
+abbrev pub OneValuePerSlot : Type 0 → Type 0
+OneValuePerSlot V = (rule : Rule V) (first : Ballot) (h : List (Step V)) → IsLawful rule first h
+    → (log other : List V) → IsLog rule h log → IsLog rule h other
+    → (slot : ℕ) (v w : V) → IsChosenAfter rule h log (slot + 1) v → IsChosenAfter rule h other (slot + 1) w → v ≡ w
+
+-- any two logs agree as far as both go
+abbrev pub LogsAgree : Type 0 → Type 0
+LogsAgree V = (rule : Rule V) (first : Ballot) (h : List (Step V)) → IsLawful rule first h
+    → (log other : List V) → IsLog rule h log → IsLog rule h other → (n : ℕ) → n ≤ length log → n ≤ length other → take n log ≡ take n other
+
+-- the computed log is a log, and each other log is a front of it
+pub record LogIsLongest (V : Type 0) : Type 0 where
+  pub is_log : (rule : Rule V) (first : Ballot) (h : List (Step V)) → IsLawful rule first h → IsLog rule h (log_of rule h)
+  pub longest : (rule : Rule V) (first : Ballot) (h : List (Step V)) → IsLawful rule first h
+      → (other : List V) → IsLog rule h other → (length other ≤ length (log_of rule h)) × (take (length other) (log_of rule h) ≡ other)
+
+-- with more steps the log goes on as it was
+abbrev pub LogOnlyGrows : Type 0 → Type 0
+LogOnlyGrows V = (rule : Rule V) (first : Ballot) (newer h : List (Step V)) → IsLawful rule first (newer ++ h)
+    → (length (log_of rule h) ≤ length (log_of rule (newer ++ h))) × (take (length (log_of rule h)) (log_of rule (newer ++ h)) ≡ log_of rule h)
+
+-- what an acceptor answers by the words of its contracts is a lawful step, after which it holds what they say
+pub record AcceptorsAreLawful (V : Type 0) : Type 0 where
+  pub promise : (rule : Rule V) (first : Ballot) (h : List (Step V)) (node : ℕ) (ballot : Ballot) (from : ℕ) (reports : List (Report V)) (after : AcceptorState V)
+      → (state_of first node h).floor < from → prepared ballot from (state_of first node h) ≡ (Promise reports, after)
+      → IsLawfulStep rule first (Promised node ballot from reports) h × (state_of first node (Promised node ballot from reports ∷ h) ≡ after)
+  pub accept : (rule : Rule V) (first : Ballot) (h : List (Step V)) (node : ℕ) (report : Report V) (after : AcceptorState V)
+      → Among (Offered report.ballot report.slot report.value) h → accepted report (state_of first node h) ≡ (Yes, after)
+      → IsLawfulStep rule first (Accepted node report.ballot report.slot report.value) h × (state_of first node (Accepted node report.ballot report.slot report.value ∷ h) ≡ after)
+  pub cut : (rule : Rule V) (first : Ballot) (h : List (Step V)) (node upto : ℕ)
+      → IsLawfulStep rule first (Cut node upto) h × (state_of first node (Cut node upto ∷ h) ≡ after_cut upto (state_of first node h))

@@ -1,0 +1,34 @@
+//! One value per slot, over any steps of proposers and acceptors, for any values and any rule that gives a slot's members from the earlier entries.
+#![tactic(auto)]
+
+ghost use Rattle.std.specs.Prelude.{◌≡◌, [], ◌∷◌};
+ghost use Rattle.sc_paxos_law.specs.Lawful.{IsLawful};
+ghost use Rattle.sc_paxos_law.specs.Decided.{log_of};
+ghost use Rattle.sc_paxos_law.specs.Example.{three, first, example};
+ghost use Rattle.sc_paxos_law.specs.Laws.{OneValuePerSlot, LogsAgree, LogIsLongest, LogOnlyGrows, AcceptorsAreLawful};
+
+/// No two values are chosen at one slot, and any two logs agree.
+pub fn one_value_per_slot<V>()
+    ensures value { OneValuePerSlot V }
+    ensures logs { LogsAgree V }
+{}
+
+/// The computed log is the longest list whose entries are chosen, and each other such list is a front of it. With more steps it only grows.
+pub fn one_log<V>()
+    ensures longest { LogIsLongest V }
+    ensures grows { LogOnlyGrows V }
+{}
+
+/// What an acceptor answers to prepares and accepts, and its cuts, are lawful steps.
+pub fn acceptors_are_lawful<V>()
+    ensures { AcceptorsAreLawful V }
+{}
+
+/// The law is about something: a lawful history with a lost message and an election, and its log.
+pub fn a_lawful_history()
+    ensures lawful { IsLawful three first example }
+    ensures log { log_of three example ≡ 7 ∷ 8 ∷ [] }
+{}
+
+#[cfg(test)]
+mod tests;
