@@ -3,3 +3,4 @@ mod Decided
 mod Example
 mod History
 mod Law
+mod Leading

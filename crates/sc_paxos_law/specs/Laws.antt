@@ -1,16 +1,20 @@
 -- What holds of every lawful history.
-use Rattle.std.specs.Prelude.{◌≡◌, ℕ, ◌+◌, ◌<◌, ◌≤◌, List, ◌∷◌, ◌++◌, length, take}
+use Rattle.std.specs.Prelude.{◌≡◌, ℕ, ◌+◌, ◌<◌, ◌≤◌, true, List, ◌∷◌, ◌++◌, length, take, map, filter}
+use Rattle.std.specs.List.{flat_map}
+use Rattle.sc_member.specs.Roster.{is_member}
+use Rattle.sc_member.specs.Majority.{IsMajority, is_majority}
 use Rattle.sc_base.specs.declared.names.Ballot.{Ballot}
 use Rattle.sc_paxos_words.specs.declared.reports.Report.{Report}
 use Rattle.sc_paxos_words.specs.declared.answers.PrepareAnswer.TheVariants.{Promise}
 use Rattle.sc_paxos_words.specs.declared.answers.AcceptAnswer.TheVariants.{Accepted as Yes}
-use Rattle.sc_paxos_words.specs.Among.{Among}
+use Rattle.sc_paxos_words.specs.Among.{Among, Each}
 use Rattle.sc_paxos_words.specs.Acceptors.{AcceptorState, after_cut}
 use Rattle.sc_paxos_words.specs.Preparing.{prepared}
 use Rattle.sc_paxos_words.specs.Accepting.{accepted}
+use Rattle.sc_paxos_words.specs.Leaders.{LeaderState, Obeys, must}
 use Rattle.sc_paxos_law.specs.Steps.{Step, Promised, Offered, Accepted, Cut, state_of}
 use Rattle.sc_paxos_law.specs.Chosen.{Rule, IsChosenAfter, IsLog}
-use Rattle.sc_paxos_law.specs.Lawful.{IsLawfulStep, IsLawful}
+use Rattle.sc_paxos_law.specs.Lawful.{Vote, IsElected, IsLawfulStep, IsLawful}
 use Rattle.sc_paxos_law.specs.Decided.{log_of}
 
 -- no two values are chosen at one slot, each by the members that its own log gives
@@ -45,3 +49,14 @@ pub record AcceptorsAreLawful (V : Type 0) : Type 0 where
       → IsLawfulStep rule first (Accepted node report.ballot report.slot report.value) h × (state_of first node (Accepted node report.ballot report.slot report.value ∷ h) ≡ after)
   pub cut : (rule : Rule V) (first : Ballot) (h : List (Step V)) (node upto : ℕ)
       → IsLawfulStep rule first (Cut node upto) h × (state_of first node (Cut node upto ∷ h) ≡ after_cut upto (state_of first node h))
+
+-- a leader that holds the promises of these votes, of a majority of the slot's members, and proposes what it must, is elected
+abbrev pub LeadersAreLawful : Type 0 → Type 0
+LeadersAreLawful V = (members : List ℕ) (older : List (Step V)) (slot : ℕ) (value : V) (leader : LeaderState V) (votes : List (Vote V))
+    → leader.promisers ≡ map (λ (vote : Vote V). vote.node) votes → leader.reports ≡ flat_map (λ (vote : Vote V). vote.reports) votes
+    → Each (λ (vote : Vote V). Among (Promised vote.node leader.ballot vote.from vote.reports) older × (vote.from ≤ slot)) votes
+    → is_majority members leader.promisers ≡ true → Obeys (must slot leader) value → IsElected members leader.ballot slot value older
+
+-- votes of nodes that are no members change nothing
+abbrev pub StrangersDoNotCount : Type 0
+StrangersDoNotCount = (members voters : List ℕ) → IsMajority members voters → IsMajority members (filter (λ voter. is_member members voter) voters)

@@ -5,7 +5,7 @@ ghost use Rattle.std.specs.Prelude.{◌≡◌, [], ◌∷◌};
 ghost use Rattle.sc_paxos_law.specs.Lawful.{IsLawful};
 ghost use Rattle.sc_paxos_law.specs.Decided.{log_of};
 ghost use Rattle.sc_paxos_law.specs.Example.{three, first, example};
-ghost use Rattle.sc_paxos_law.specs.Laws.{OneValuePerSlot, LogsAgree, LogIsLongest, LogOnlyGrows, AcceptorsAreLawful};
+ghost use Rattle.sc_paxos_law.specs.Laws.{OneValuePerSlot, LogsAgree, LogIsLongest, LogOnlyGrows, AcceptorsAreLawful, LeadersAreLawful, StrangersDoNotCount};
 
 /// No two values are chosen at one slot, and any two logs agree.
 pub fn one_value_per_slot<V>()
@@ -22,6 +22,12 @@ pub fn one_log<V>()
 /// What an acceptor answers to prepares and accepts, and its cuts, are lawful steps.
 pub fn acceptors_are_lawful<V>()
     ensures { AcceptorsAreLawful V }
+{}
+
+/// A leader that was promised by a majority of a slot's members, and proposes what it must, is elected. Votes of nodes that are no members change nothing.
+pub fn leaders_are_lawful<V>()
+    ensures elected { LeadersAreLawful V }
+    ensures strangers { StrangersDoNotCount }
 {}
 
 /// The law is about something: a lawful history with a lost message and an election, and its log.
