@@ -3,3 +3,4 @@ pub mod Numbers
 pub mod DeedLemmas
 pub mod Steps
 pub mod Room
+pub mod Looks

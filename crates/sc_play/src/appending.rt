@@ -10,7 +10,7 @@ use sc_base::{Dup, OutOfMemory};
 use std::alloc::Global;
 
 // A delivery or a drop takes a copy away, and a repeat adds one.
-fn count<O>(copies: &mut Vec<u32>, event: &Event<O>)
+pub fn count<O>(copies: &mut Vec<u32>, event: &Event<O>)
     requires { All (λ count. count < 2 ^ 32 - 1) copies.old.items }
     ensures { copies.new.items ≡ counts_at copies.old.items event.now }
 {
@@ -31,7 +31,7 @@ fn count<O>(copies: &mut Vec<u32>, event: &Event<O>)
     }
 }
 
-fn add_copies(copies: &mut Vec<u32>, n: usize) -> Result<(), OutOfMemory>
+pub fn add_copies(copies: &mut Vec<u32>, n: usize) -> Result<(), OutOfMemory>
     ensures { OnOk result (copies.new.items ≡ copies.old.items ++ replicate n 1) }
 {
     for i in 0..n {
@@ -41,7 +41,7 @@ fn add_copies(copies: &mut Vec<u32>, n: usize) -> Result<(), OutOfMemory>
     Ok(())
 }
 
-fn add_mails<M: Dup + Drop>(
+pub fn add_mails<M: Dup + Drop>(
     alloc: Global,
     mails: &mut Vec<M>,
     sent: &[M],

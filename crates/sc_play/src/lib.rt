@@ -4,14 +4,17 @@
 mod appending;
 mod conditions;
 mod deeds;
+mod looking;
 mod making;
 mod pending;
 mod playing;
 mod running;
+mod sames;
 mod schedules;
 mod stages;
 
 pub use conditions::{are_apart, are_built};
+pub use looking::pending_of;
 pub use playing::Played;
 pub use schedules::play;
 

@@ -77,8 +77,8 @@ pub fn is_for<A, M: Parcel, O>(
     }
 }
 
-// The copies of a mail that count, which is looked up only where there are some.
-fn open_copies<A, M: Parcel, O>(
+/// The copies of a mail that count, which is looked up only where there are some.
+pub fn open_copies<A, M: Parcel, O>(
     seats: &[Seat<A>],
     rows: &[Row<M, O>],
     whose: Option<u32>,
