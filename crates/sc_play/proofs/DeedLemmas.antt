@@ -52,7 +52,7 @@ module _ {A M O : Type 0} (s : System A M O) (rows : List (Row M O)) where
   acts_unless who event own false true is = refl
   acts_unless who event own false false is = acts-none who event is
 
-  of_delivery : (who : ℕ) (o : Option ℕ) → option_and_then (λ mail. acts s rows who (Deliver mail)) o ≡ option_and_then (row_made s rows) (option_map (λ mail. deed who (Deliver mail)) o)
+  pub of_delivery : (who : ℕ) (o : Option ℕ) → option_and_then (λ mail. acts s rows who (Deliver mail)) o ≡ option_and_then (row_made s rows) (option_map (λ mail. deed who (Deliver mail)) o)
   of_delivery who None = refl
   of_delivery who (Some mail) = refl
 

@@ -4,3 +4,5 @@ pub mod DeedLemmas
 pub mod Steps
 pub mod Room
 pub mod Looks
+pub mod Checks
+pub mod Judged

@@ -154,12 +154,12 @@ or_false true = refl
 or_false false = refl
 
 module _ {A M O : Type 0} (s : System A M O) (rows : List (Row M O)) where
-  fits_line : (line : Line O) (deed : Deed O) → line_deed s.receiver (numbers_of s.births) rows line ≡ Some deed → Fits s rows (Once line) deed
+  pub fits_line : (line : Line O) (deed : Deed O) → line_deed s.receiver (numbers_of s.births) rows line ≡ Some deed → Fits s rows (Once line) deed
   fits_line line deed is row made_row =
       let same : line_row s rows line ≡ Some row = line_row-deed s rows line ∙ ap (option_and_then (row_made s rows)) is ∙ made_row in
       (ap is_none same, same)
 
-  made_who : (deed : Deed O) (row : Row M O) (b : Bool) → of_network deed.event ≡ b → b ≡ false → row_made s rows deed ≡ Some row → row.who ≡ deed.who
+  pub made_who : (deed : Deed O) (row : Row M O) (b : Bool) → of_network deed.event ≡ b → b ≡ false → row_made s rows deed ≡ Some row → row.who ≡ deed.who
   made_who deed row true own e is = absurd (false≢true (sym e))
   made_who deed row false own e is = acted_who (find (λ seat. eqb seat.who deed.who) s.births) refl (subst (λ b. cond b (Some (network deed.event)) (acts s rows deed.who deed.event) ≡ Some row) own is)
     where
@@ -184,11 +184,11 @@ module _ {A M O : Type 0} (s : System A M O) (rows : List (Row M O)) where
           (opens, ap (first_of s rows) number ∙ first-deed s rows deed is ∙ made_row)
 
 module _ {A M O : Type 0} (r : Rules A M O) (old new : Stage A M O) where
-  numbers-at : (words : ℕ → ℕ → ℕ × ℕ) (births : List (Seat A)) (lines : List (Line O)) (tasks : List (Task O)) → At (with_births r words births) lines old tasks → numbers_of old.seats.items ≡ numbers_of births
+  pub numbers-at : (words : ℕ → ℕ → ℕ × ℕ) (births : List (Seat A)) (lines : List (Line O)) (tasks : List (Task O)) → At (with_births r words births) lines old tasks → numbers_of old.seats.items ≡ numbers_of births
   numbers-at words births lines tasks at = ap numbers_of at.seats ∙ numbers_of-values r.table births old.rows
 
   module _ (line : Line O) where
-    line-at : (words : ℕ → ℕ → ℕ × ℕ) (births : List (Seat A)) (lines : List (Line O)) (tasks : List (Task O)) → At (with_births r words births) lines old tasks → line_deed r.receiver (numbers_of births) old.rows line ≡ line_deed r.receiver (numbers_of old.seats.items) old.rows line
+    pub line-at : (words : ℕ → ℕ → ℕ × ℕ) (births : List (Seat A)) (lines : List (Line O)) (tasks : List (Task O)) → At (with_births r words births) lines old tasks → line_deed r.receiver (numbers_of births) old.rows line ≡ line_deed r.receiver (numbers_of old.seats.items) old.rows line
     line-at words births lines tasks at = ap (λ numbers. line_deed r.receiver numbers old.rows line) (sym (numbers-at words births lines tasks at))
 
     -- a line that is skipped
@@ -208,7 +208,7 @@ module _ {A M O : Type 0} (r : Rules A M O) (old new : Stage A M O) where
         At-refused r words births lines old new (Once line) rest at deed (line_deed-can r.receiver old.seats.items old.rows line deed is) within refused
         (fits_line (with_births r words births) old.rows line deed (line-at words births lines (Once line ∷ rest) at ∙ is))
 
-  lowest-at : (words : ℕ → ℕ → ℕ × ℕ) (births : List (Seat A)) (lines : List (Line O)) (tasks : List (Task O)) → At (with_births r words births) lines old tasks → lowest_deed {O = O} r.receiver (numbers_of births) old.rows ≡ lowest_deed r.receiver (numbers_of old.seats.items) old.rows
+  pub lowest-at : (words : ℕ → ℕ → ℕ × ℕ) (births : List (Seat A)) (lines : List (Line O)) (tasks : List (Task O)) → At (with_births r words births) lines old tasks → lowest_deed {O = O} r.receiver (numbers_of births) old.rows ≡ lowest_deed r.receiver (numbers_of old.seats.items) old.rows
   lowest-at words births lines tasks at = ap (λ numbers. lowest_deed r.receiver numbers old.rows) (sym (numbers-at words births lines tasks at))
 
   quiet-at : (words : ℕ → ℕ → ℕ × ℕ) (births : List (Seat A)) (lines : List (Line O)) (tasks : List (Task O)) → At (with_births r words births) lines old tasks → is_quiet (with_births r words births) old.rows ≡ is_none (lowest_deed {O = O} r.receiver (numbers_of old.seats.items) old.rows)
@@ -300,7 +300,7 @@ module _ {A M O : Type 0} (r : Rules A M O) (words : ℕ → ℕ → ℕ × ℕ)
         apart = apart;
       }
 
-  split : (i : ℕ) (line : Line O) → i < length lines → line ≡ get_or lines i line → is_built line ≡ true → flat_map (tasks_of words) (drop i lines) ≡ line_task line ∷ flat_map (tasks_of words) (drop (i + 1) lines)
+  pub split : (i : ℕ) (line : Line O) → i < length lines → line ≡ get_or lines i line → is_built line ≡ true → flat_map (tasks_of words) (drop i lines) ≡ line_task line ∷ flat_map (tasks_of words) (drop (i + 1) lines)
   split i line lt is built = rw (add-one, drop-cons lines i line lt, sym is) (ap (λ ts. ts ++ flat_map (tasks_of words) (drop (suc i) lines)) (tasks_one words line built))
 
   pub At-line : (old new : Stage A M O) (i : ℕ) (line : Line O) → i < length lines → line ≡ get_or lines i line → is_built line ≡ true → At (with_births r words births) lines old (flat_map (tasks_of words) (drop i lines)) → Goes r old (line_task line ∷ []) new [] →

@@ -65,3 +65,8 @@ lowest_deed receiver numbers rows =
 abbrev pub is_built : {O : Type 0} → Line O → Bool
 is_built (Storm number most) = false
 is_built _ = true
+
+-- The delivery that a line of many may make next: the lowest of all, or, where it is free, the first of one actor.
+abbrev pub chosen_deed : {M O : Type 0} → (M → ℕ) → List ℕ → List (Row M O) → Bool → ℕ → Option (Deed O)
+chosen_deed receiver numbers rows true who = line_deed receiver numbers rows (DeliverLine who 1)
+chosen_deed receiver numbers rows false who = lowest_deed receiver numbers rows

@@ -2,3 +2,4 @@ pub mod Deeds
 pub mod Stages
 pub mod Moves
 pub mod Outcome
+pub mod Checks

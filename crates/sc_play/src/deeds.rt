@@ -1,5 +1,5 @@
 //! Who acts next by a line, at what event.
-ghost use Rattle.std.specs.Prelude.{◌≡◌, true, IfOk, IfSome};
+ghost use Rattle.std.specs.Prelude.{◌≡◌, true, is_none, IfOk, IfSome};
 ghost use Rattle.sc_actor.specs.System.{numbers_of};
 ghost use Rattle.sc_play.specs.Deeds.{line_deed, lowest_deed, may_repeat, when, can_act};
 ghost use Rattle.sc_play.specs.Stages.{IsKept};
@@ -82,5 +82,31 @@ pub fn lowest_deed<A, M: Parcel, O>(stage: &Stage<A, M, O>) -> Option<Deed<O>>
             who: stage.mails[mail as usize - 1].to(),
             event: Event::Deliver(mail),
         }),
+    }
+}
+
+/// The delivery of the first pending mail of an actor, or none where it has no pending mail.
+pub fn first_deed<A, M: Parcel, O>(stage: &Stage<A, M, O>, who: u32) -> Option<Deed<O>>
+    requires { IsKept M.weighs stage.now }
+    ensures is { result ≡ line_deed M.receiver (numbers_of stage.now.seats.items) stage.now.rows (Line.Deliver who 1) }
+    ensures can { IfSome result (λ deed. can_act (numbers_of stage.now.seats.items) deed ≡ true) }
+{
+    match waiting(stage, Some(who), 1) {
+        None => None,
+        Some(mail) => Some(Deed {
+            who,
+            event: Event::Deliver(mail),
+        }),
+    }
+}
+
+/// Whether no mail is pending.
+pub fn is_quiet<A, M: Parcel, O>(stage: &Stage<A, M, O>) -> bool
+    requires { IsKept M.weighs stage.now }
+    ensures { result ≡ is_none (lowest_deed {O = O} M.receiver (numbers_of stage.now.seats.items) stage.now.rows) }
+{
+    match waiting(stage, None, 1) {
+        None => true,
+        Some(_) => false,
     }
 }

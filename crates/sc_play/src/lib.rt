@@ -2,8 +2,11 @@
 #![tactic(auto)]
 
 mod appending;
+mod checked;
+mod checking;
 mod conditions;
 mod deeds;
+mod judging;
 mod looking;
 mod making;
 mod pending;
@@ -14,8 +17,10 @@ mod schedules;
 mod stages;
 
 pub use conditions::{are_apart, are_built};
+pub use judging::is_lawful;
 pub use looking::pending_of;
 pub use playing::Played;
+pub use sames::Same;
 pub use schedules::play;
 
 #[cfg(test)]
