@@ -159,8 +159,10 @@ module _ {A M O : Type 0} (r : Rules A M O) (old new : Stage A M O) (rows : List
       let chosen : option_and_then (row_made s old.rows) (chosen_deed r.receiver (numbers_of births) old.rows free row.who) ≡ row_made s old.rows d = ap (option_and_then (row_made s old.rows)) (chosen-at words births lines (many free left ∷ rest) free row.who at ∙ is) in
       subst (λ ts. At s lines new (ts ++ rest)) (rest_many free)
       (At-did r words births lines old new (many free left) rest at d can took.did
-      (λ x made_x. (not_over s old.rows free left more (loud-at words births lines (many free left ∷ rest) at loud),
-      chosen_allows s old.rows free left row.who x (ap (λ y. y.who) (some_eq x took.did.row (sym made_x ∙ m.row_is) ∙ took.same)) (chosen ∙ made_x))))
+      (λ x made_x. (
+        not_over s old.rows free left more (loud-at words births lines (many free left ∷ rest) at loud),
+        chosen_allows s old.rows free left row.who x (ap (λ y. y.who) (some_eq x took.did.row (sym made_x ∙ m.row_is) ∙ took.same)) (chosen ∙ made_x),
+      )))
     where
       rest_many : (free : Bool) → rest_of {O = O} (many free left) ≡ many free (left - 1) ∷ []
       rest_many true = refl

@@ -36,7 +36,6 @@ few_copies counts rows i is few =
     subst (All (λ count. count < 2 ^ 32 - 1)) (sym is)
     (All-weaker (λ count. count ≤ length (take i rows)) (λ count. count < 2 ^ 32 - 1) (λ x le. omega (arith, le, le_all, few)) (copies (take i rows)) (copies_bounded (take i rows)))
 
-
 pub read_any : (xs : List ℕ) (i x : ℕ) → i < length xs → x ≡ get_or xs i x → x ≡ get_or xs i 0
 read_any [] i x lt is = absurd (omega arith)
 read_any (y ∷ xs) zero x lt is = is

@@ -1,10 +1,11 @@
 //! The conditions of a player, as tests.
-ghost use Rattle.std.specs.Prelude.{◌≡◌, ◌↔◌, ◌==◌, IsTrue, true, All};
+ghost use Rattle.std.specs.Prelude.{◌≡◌, ◌↔◌, ◌==◌, ◌<◌, ◌^◌, IsTrue, true, length, All};
+ghost use Rattle.sc_actor.specs.Mail.{mails};
 ghost use Rattle.std.specs.List.{list_any, list_all};
 ghost use Rattle.sc_play.specs.Deeds.{is_built};
 ghost use Rattle.sc_play.specs.Stages.{are_apart};
 
-use sc_actor::{Line, Seat};
+use sc_actor::{Line, Row, Seat};
 
 fn is_built<O>(line: &Line<O>) -> bool
     ensures { result ≡ is_built line.now }
@@ -38,4 +39,15 @@ pub fn are_apart<A>(seats: &[Seat<A>]) -> bool
         }
     }
     true
+}
+
+/// Whether there are fewer than 2^31 rows and mails.
+pub fn are_few<M, O>(rows: &[Row<M, O>]) -> bool
+    ensures { IsTrue result ↔ (length rows.now < 2 ^ 31) × (length (mails rows.now) < 2 ^ 31) }
+{
+    let mut sent = 0u64;
+    for row in rows {
+        sent = sent.saturating_add(row.sent.len() as u64);
+    }
+    rows.len() < 1 << 31 && sent < 1 << 31
 }

@@ -105,7 +105,8 @@ pub fn is_quiet<A, M: Parcel, O>(stage: &Stage<A, M, O>) -> bool
     requires { IsKept M.weighs stage.now }
     ensures { result ≡ is_none (lowest_deed {O = O} M.receiver (numbers_of stage.now.seats.items) stage.now.rows) }
 {
-    match waiting(stage, None, 1) {
+    let first = waiting(stage, None, 1);
+    match first {
         None => true,
         Some(_) => false,
     }

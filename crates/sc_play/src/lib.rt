@@ -16,7 +16,7 @@ mod sames;
 mod schedules;
 mod stages;
 
-pub use conditions::{are_apart, are_built};
+pub use conditions::{are_apart, are_built, are_few};
 pub use judging::is_lawful;
 pub use looking::pending_of;
 pub use playing::Played;

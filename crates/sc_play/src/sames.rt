@@ -10,6 +10,12 @@ pub trait Same {
         ensures { IsTrue result ↔ (self.now ≡ other.now) };
 }
 
+impl Same for u32 {
+    fn same(&self, other: &u32) -> bool {
+        self == other
+    }
+}
+
 fn same_event<O: Same>(one: &Event<O>, other: &Event<O>) -> bool
     ensures { IsTrue result ↔ (one.now ≡ other.now) }
 {

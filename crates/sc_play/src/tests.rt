@@ -2,7 +2,7 @@
 ghost use Rattle.std.specs.Prelude.{[], ◌∷◌, ◌-◌, ◌==◌, if◌then◌else◌};
 
 use super::*;
-use sc_actor::{Actor, Input, Line, Parcel, Seat};
+use sc_actor::{Actor, Event, Input, Journal, Line, Parcel, Row, Seat};
 use sc_base::{Dup, OutOfMemory, Sequence};
 use std::alloc::Global;
 use std::test::Fail;
@@ -80,12 +80,18 @@ fn pair(alloc: Global, left: u32) -> Result<Vec<Seat<Relay>>, OutOfMemory> {
     Ok(seats)
 }
 
-// Plays these lines with the pair of two turns each, and answers how many rows there are, how many lines were skipped, and whether a line was cut off; none where the journal was full.
+impl Same for Note {
+    fn same(&self, other: &Note) -> bool {
+        self == other
+    }
+}
+
+// The journal of these lines with the pair of two turns each, and, if it was not full, how many lines were skipped and whether a line was cut off.
 fn played(
     alloc: Global,
     lines: &[Line<u32>],
     limit: u64,
-) -> Result<(usize, Option<(u64, bool)>), OutOfMemory> {
+) -> Result<(Journal<Note, u32>, Option<(u64, bool)>), OutOfMemory> {
     let seats = pair(alloc, 2)?;
     if limit > 1 << 30 || !are_built(lines) || !are_apart(&seats) {
         return Err(OutOfMemory);
@@ -96,18 +102,57 @@ fn played(
             skipped,
             journal,
             seats: _,
-        } => Ok((journal.len(), Some((skipped, unsettled)))),
-        Played::Full { journal } => Ok((journal.len(), None)),
+        } => Ok((journal, Some((skipped, unsettled)))),
+        Played::Full { journal } => Ok((journal, None)),
     }
+}
+
+// Whether rows are lawful for these lines.
+fn judged(
+    alloc: Global,
+    lines: &[Line<u32>],
+    rows: &[Row<Note, u32>],
+) -> Result<bool, OutOfMemory> {
+    let seats = pair(alloc, 2)?;
+    if !are_built(lines) || !are_apart(&seats) || !are_few(rows) {
+        return Err(OutOfMemory);
+    }
+    is_lawful(alloc, seats, lines, rows)
+}
+
+// Whether each first part of the rows is lawful, and each delivery is the first of what was pending.
+fn follows(
+    alloc: Global,
+    lines: &[Line<u32>],
+    rows: &[Row<Note, u32>],
+) -> Result<bool, OutOfMemory> {
+    let seats = pair(alloc, 2)?;
+    for n in 0..rows.len() {
+        let before = &rows[..n];
+        if !judged(alloc, lines, before)? || !are_few(before) {
+            return Ok(false);
+        }
+        if let Event::Deliver(mail) = &rows[n].event {
+            let pending = pending_of(alloc, &seats, before, Some(rows[n].who))?;
+            if pending.as_slice().first() != Some(mail) {
+                return Ok(false);
+            }
+        }
+    }
+    judged(alloc, lines, rows)
 }
 
 #[test]
 fn schedules_are_played(rt: HostRuntime) -> Result<(), Fail> {
     let alloc = rt.alloc();
     let settled = [Line::Go { who: 1 }, Line::Settle { most: 10 }];
-    assert!(rt; played(alloc, &settled, 1 << 30)? == (5, Some((0, false))));
-    assert!(rt; played(alloc, &settled, 981)? == (3, None));
-    assert!(rt; played(alloc, &settled, 980)? == (2, None));
+    let (journal, end) = played(alloc, &settled, 1 << 30)?;
+    assert!(rt; journal.len() == 5 && end == Some((0, false)));
+    assert!(rt; follows(alloc, &settled, journal.as_slice())?);
+    let (journal, end) = played(alloc, &settled, 981)?;
+    assert!(rt; journal.len() == 3 && end.is_none());
+    let (journal, end) = played(alloc, &settled, 980)?;
+    assert!(rt; journal.len() == 2 && end.is_none());
     let cut = [
         Line::Go { who: 1 },
         Line::Free {
@@ -115,21 +160,54 @@ fn schedules_are_played(rt: HostRuntime) -> Result<(), Fail> {
             workers: 4,
         },
     ];
-    assert!(rt; played(alloc, &cut, 1 << 30)? == (3, Some((0, true))));
-    let all = [
+    let (journal, end) = played(alloc, &cut, 1 << 30)?;
+    assert!(rt; journal.len() == 3 && end == Some((0, true)));
+    assert!(rt; follows(alloc, &cut, journal.as_slice())?);
+    Ok(())
+}
+
+#[test]
+fn lines_are_skipped_where_they_make_no_row(rt: HostRuntime) -> Result<(), Fail> {
+    let alloc = rt.alloc();
+    let lines = [
         Line::Go { who: 1 },
         Line::Go { who: 1 },
         Line::Deliver { who: 2, k: 2 },
         Line::Again { mail: 1 },
         Line::Drop { who: 2, k: 1 },
         Line::Tick { who: 1 },
+        Line::Drop { who: 2, k: 1 },
         Line::Deliver { who: 2, k: 2 },
+        Line::Deliver { who: 2, k: 1 },
         Line::Crash { who: 2 },
         Line::Told { who: 2, order: 7 },
         Line::Again { mail: 1 },
         Line::Deliver { who: 2, k: 1 },
         Line::Settle { most: 5 },
     ];
-    assert!(rt; played(alloc, &all, 1 << 30)? == (7, Some((5, false))));
+    let (journal, end) = played(alloc, &lines, 1 << 30)?;
+    assert!(rt; journal.len() == 8 && end == Some((6, false)));
+    assert!(rt; follows(alloc, &lines, journal.as_slice())?);
+    Ok(())
+}
+
+#[test]
+fn other_rows_are_not_lawful(rt: HostRuntime) -> Result<(), Fail> {
+    let alloc = rt.alloc();
+    let settled = [Line::Go { who: 1 }, Line::Settle { most: 10 }];
+    let (journal, _) = played(alloc, &settled, 1 << 30)?;
+    let shorter = [Line::Go { who: 1 }, Line::Settle { most: 2 }];
+    assert!(rt; !judged(alloc, &shorter, journal.as_slice())?);
+    let other = [Line::Go { who: 2 }, Line::Settle { most: 10 }];
+    assert!(rt; !judged(alloc, &other, journal.as_slice())?);
+    let free = [
+        Line::Go { who: 1 },
+        Line::Free {
+            most: 10,
+            workers: 1,
+        },
+    ];
+    assert!(rt; judged(alloc, &free, journal.as_slice())?);
+    assert!(rt; judged(alloc, &other, &[])?);
     Ok(())
 }
