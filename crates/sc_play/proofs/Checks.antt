@@ -1,27 +1,23 @@
 -- How given rows stand with the walk.
-use Rattle.std.proofs.Common.{◌≡◌, ℕ, zero, suc, ◌+◌, ◌-◌, ◌<◌, ◌≤◌, ◌^◌, List, [], ◌∷◌, ◌++◌, length, Bool, true, false, not, cond, eqb, take, drop, drop-cons, get_or, refl, sym, ◌∙◌, ap, subst, arith, add-one, append-nil, append_assoc, length-append, min, Option, None, Some, ◌||◌}
-use Rattle.std.specs.Prelude.{is_none, is_some, option_and_then}
-use Rattle.std.specs.Option.{option_map}
+use Rattle.std.proofs.Common.{◌≡◌, ℕ, suc, ◌+◌, ◌-◌, ◌<◌, ◌≤◌, ◌^◌, List, [], ◌∷◌, ◌++◌, length, Bool, true, false, not, eqb, drop, drop-cons, get_or, refl, sym, ◌∙◌, ap, subst, arith, add-one, append-nil, append_assoc, length-append, min, Option, None, Some, ◌||◌}
+use Rattle.std.specs.Prelude.{is_none, option_and_then}
 use Rattle.std.proofs.Math.ListN.{drop_of_length-le}
 use Rattle.std.proofs.lemmas.Bool.{ne_eqb, false≢true}
 use Rattle.sc_actor.specs.declared.rows.Row.{Row}
 use Rattle.sc_actor.specs.declared.actors.Seat.{Seat}
-use Rattle.sc_actor.specs.declared.rows.Event.TheVariants.{Deliver}
 use Rattle.sc_actor.specs.declared.schedules.Line.{Line}
-use Rattle.sc_actor.specs.declared.schedules.Line.TheVariants.{Deliver as DeliverLine}
-use Rattle.sc_actor.specs.Mail.{mails, copies, numbered, pending}
+use Rattle.sc_actor.specs.Mail.{mails, copies}
 use Rattle.sc_actor.specs.Counted.{journal_bytes}
-use Rattle.sc_actor.specs.System.{System, numbers_of, acts, waiting, kth}
-use Rattle.sc_actor.specs.Walk.{Task, Once, Allows, IsLawful, IsNext, is_over, is_quiet, rest_of, line_row, lowest, first_of}
-use Rattle.sc_actor.proofs.WalkLemmas.{Stands, Stands-allows, Stands-ended, lawful-prefix, lawful-last}
+use Rattle.sc_actor.specs.System.{System, numbers_of, waiting, kth}
+use Rattle.sc_actor.specs.Walk.{Task, Once, Allows, IsLawful, IsNext, is_over, is_quiet, rest_of, line_row, first_of}
+use Rattle.sc_actor.proofs.WalkLemmas.{Stands-allows, Stands-ended, lawful-prefix, lawful-last}
 use Rattle.sc_play.specs.declared.stages.Stage.{Stage}
 use Rattle.sc_play.specs.declared.stages.Deed.{Deed}
-use Rattle.sc_play.specs.Deeds.{of_network, can_act, row_made, deed, line_deed, lowest_deed, chosen_deed}
-use Rattle.sc_play.specs.Stages.{IsKept, Makes}
-use Rattle.sc_play.specs.Moves.{At, Rules, with_births, Did, Goes, many}
+use Rattle.sc_play.specs.Deeds.{can_act, row_made, line_deed, lowest_deed, chosen_deed}
+use Rattle.sc_play.specs.Moves.{At, Rules, with_births, Goes, many}
 use Rattle.sc_play.specs.Checks.{Follows, IsTaking, Took, Misses, Ends, Breaks}
-use Rattle.sc_play.proofs.DeedLemmas.{line_row-deed, line_deed-can, lowest-deed, quiet_is, lowest_is, of_delivery}
-use Rattle.sc_play.proofs.Steps.{Fits, At-did, made, made_who, fits_line, line-at, lowest-at, numbers-at}
+use Rattle.sc_play.proofs.DeedLemmas.{line_row-deed, line_deed-can, lowest-deed, quiet_is, of_delivery}
+use Rattle.sc_play.proofs.Steps.{At-did, made, line-at, lowest-at, numbers-at}
 
 -- the rows split at the first that was not taken
 pub split_rows : {M O : Type 0} (taken rows : List (Row M O)) (row : Row M O) → Follows taken rows → length taken < length rows → row ≡ get_or rows (length taken) row → rows ≡ (taken ++ row ∷ []) ++ drop (length taken + 1) rows

@@ -1,12 +1,12 @@
 -- Whether all rows are lawful, by where the check ended.
-use Rattle.std.proofs.Common.{◌≡◌, ℕ, suc, ◌+◌, ◌<◌, ◌≤◌, List, [], ◌∷◌, ◌++◌, length, Bool, true, false, drop, get_or, refl, sym, ◌∙◌, ap, subst, arith, zero, length-append}
+use Rattle.std.proofs.Common.{◌≡◌, ℕ, suc, ◌+◌, ◌<◌, ◌≤◌, List, [], ◌∷◌, length, Bool, true, false, drop, get_or, refl, ◌∙◌, ap, subst, arith, zero, length-append}
 use Rattle.std.specs.List.{flat_map}
 use Rattle.std.specs.Prelude.{◌↔◌, IsTrue}
 use Rattle.std.proofs.lemmas.Bool.{false≢true}
 use Rattle.sc_actor.specs.declared.rows.Row.{Row}
 use Rattle.sc_actor.specs.declared.actors.Seat.{Seat}
 use Rattle.sc_actor.specs.declared.schedules.Line.{Line}
-use Rattle.sc_actor.specs.Walk.{Task, IsLawful, tasks_of}
+use Rattle.sc_actor.specs.Walk.{IsLawful, tasks_of}
 use Rattle.sc_play.specs.declared.stages.Stage.{Stage}
 use Rattle.sc_play.specs.Deeds.{is_built}
 use Rattle.sc_play.specs.Moves.{At, Rules, with_births, line_task}

@@ -6,3 +6,4 @@ pub mod Room
 pub mod Looks
 pub mod Checks
 pub mod Judged
+pub mod Examples

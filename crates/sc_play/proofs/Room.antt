@@ -1,11 +1,10 @@
 -- A journal within the limit is small, and so is its next row.
-use Rattle.std.proofs.Common.{◌≡◌, ℕ, ◌+◌, ◌-◌, ◌*◌, ◌<◌, ◌≤◌, ◌^◌, List, [], ◌∷◌, ◌++◌, length, min, sym, ◌∙◌, ap, arith}
+use Rattle.std.proofs.Common.{◌≡◌, ℕ, ◌+◌, ◌-◌, ◌<◌, ◌≤◌, ◌^◌, [], ◌∷◌, ◌++◌, length, min, arith}
 use Rattle.sc_actor.specs.declared.rows.Row.{Row}
 use Rattle.sc_actor.specs.Mail.{mails}
 use Rattle.sc_actor.specs.Counted.{row_bytes, journal_bytes}
 use Rattle.sc_actor.proofs.BoundLemmas.{journal_counts, row_counts, journal_bytes-snoc}
 use Rattle.sc_play.specs.declared.stages.Stage.{Stage}
-use Rattle.sc_play.specs.Stages.{IsKept}
 use Rattle.sc_play.specs.Moves.{Rules, IsReady}
 
 module _ {A M O : Type 0} (r : Rules A M O) (stage : Stage A M O) (ready : IsReady r stage) where

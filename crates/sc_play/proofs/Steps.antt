@@ -1,7 +1,7 @@
 -- How a stage goes on.
-use Rattle.std.proofs.Common.{◌≡◌, ℕ, zero, suc, ◌+◌, ◌-◌, ◌<◌, ◌≤◌, ◌^◌, List, [], ◌∷◌, ◌++◌, length, Bool, true, false, ◌||◌, ◌&&◌, not, cond, eqb, map, find, min, refl, sym, ◌∙◌, ap, subst, arith, set, get_or, drop, drop-cons, add-zero, add-one, append-nil, append_assoc, Option, None, Some}
+use Rattle.std.proofs.Common.{◌≡◌, ℕ, suc, ◌+◌, ◌-◌, ◌<◌, ◌≤◌, List, [], ◌∷◌, ◌++◌, length, Bool, true, false, ◌||◌, not, cond, eqb, find, refl, sym, ◌∙◌, ap, subst, arith, set, get_or, drop, drop-cons, add-zero, add-one, Option, None, Some}
 use Rattle.std.specs.Prelude.{slice_get, is_none, is_some, option_and_then}
-use Rattle.std.specs.List.{flat_map, list_any, All}
+use Rattle.std.specs.List.{flat_map, All}
 use Rattle.std.specs.Option.{option_map}
 use Rattle.std.proofs.Math.ListN.{drop_of_length-le}
 use Rattle.std.proofs.lemmas.Bool.{ne_eqb, false≢true}
@@ -14,16 +14,16 @@ use Rattle.sc_actor.specs.declared.schedules.Line.TheVariants.{Go as GoLine, Del
 use Rattle.sc_actor.specs.Mail.{mails, pending}
 use Rattle.sc_actor.specs.Replay.{Table, input_of, acted, value, values}
 use Rattle.sc_actor.specs.Counted.{journal_bytes}
-use Rattle.sc_actor.specs.System.{System, system, numbers_of, row_of, acts, network, waiting, kth}
-use Rattle.sc_actor.specs.Walk.{Task, Once, Settles, Frees, Allows, IsLawful, IsNext, IsWhole, place_after, is_over, is_quiet, skips, cuts, rest_of, line_row, lowest, first_of, tasks_of, skipped, unsettled}
+use Rattle.sc_actor.specs.System.{System, numbers_of, row_of, acts, network, waiting, kth}
+use Rattle.sc_actor.specs.Walk.{Task, Once, Allows, is_over, is_quiet, skips, cuts, rest_of, line_row, first_of, tasks_of}
 use Rattle.sc_actor.proofs.ReplayLemmas.{value-snoc}
 use Rattle.sc_actor.proofs.Induction.{find-who}
-use Rattle.sc_actor.proofs.WalkLemmas.{Stands, Stands-begin, Stands-over, Stands-row, Stands-next, Stands-whole}
+use Rattle.sc_actor.proofs.WalkLemmas.{Stands-begin, Stands-over, Stands-row, Stands-next, Stands-whole}
 use Rattle.sc_play.specs.declared.stages.Stage.{Stage}
 use Rattle.sc_play.specs.declared.stages.Deed.{Deed}
 use Rattle.sc_play.specs.Deeds.{of_network, is_number, can_act, row_made, line_deed, lowest_deed, is_built}
-use Rattle.sc_play.specs.Stages.{IsKept, Makes, place_of, row_in, seat_after, are_apart}
-use Rattle.sc_play.specs.Moves.{At, Rules, with_births, IsReady, Did, Refused, IsFull, Goes, Fills, many, line_task}
+use Rattle.sc_play.specs.Stages.{Makes, place_of, seat_after, are_apart}
+use Rattle.sc_play.specs.Moves.{At, Rules, with_births, Did, Refused, IsFull, Goes, Fills, many, line_task}
 use Rattle.sc_play.specs.Outcome.{HasEnded}
 use Rattle.sc_play.proofs.Seats.{found_at, has_place, place_of-values, values-snoc, slice_get-values, numbers_of-values}
 use Rattle.sc_play.proofs.DeedLemmas.{line_row-deed, line_deed-can, lowest-deed, lowest_deed-can, quiet_is, first-deed, lowest_is}

@@ -1,12 +1,12 @@
 -- How a stage moves along the walk of a schedule.
-use Rattle.std.specs.Prelude.{◌≡◌, ℕ, ◌+◌, ◌-◌, ◌^◌, ◌<◌, ◌≤◌, List, [], ◌∷◌, ◌++◌, Bool, true, false, min}
+use Rattle.std.specs.Prelude.{◌≡◌, ℕ, ◌^◌, ◌<◌, ◌≤◌, List, [], ◌∷◌, ◌++◌, Bool, true, false}
 use Rattle.sc_actor.specs.declared.rows.Row.{Row}
 use Rattle.sc_actor.specs.declared.actors.Seat.{Seat}
 use Rattle.sc_actor.specs.declared.schedules.Line.{Line}
 use Rattle.sc_actor.specs.declared.schedules.Line.TheVariants.{Settle, Free}
 use Rattle.sc_actor.specs.Mail.{mails}
 use Rattle.sc_actor.specs.Replay.{Table, values}
-use Rattle.sc_actor.specs.Counted.{row_bytes, journal_bytes}
+use Rattle.sc_actor.specs.Counted.{journal_bytes}
 use Rattle.sc_actor.specs.System.{System, system}
 use Rattle.sc_actor.specs.Walk.{Task, Once, Settles, Frees, IsLawful, IsNext, place_after, onward}
 use Rattle.sc_play.specs.declared.stages.Stage.{Stage}

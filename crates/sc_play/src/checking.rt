@@ -10,8 +10,9 @@ ghost use Rattle.sc_play.specs.Stages.{IsKept};
 
 use crate::appending::append;
 use crate::checked::Checked;
-use crate::deeds::{first_deed, is_quiet, line_deed, lowest_deed};
+use crate::deeds::{first_deed, line_deed, lowest_deed};
 use crate::making::make_row;
+use crate::pending::is_quiet;
 use crate::sames::{Same, same_row};
 use crate::stages::{Deed, Stage};
 use sc_actor::{Actor, Line, Parcel, Row};

@@ -1,5 +1,5 @@
 //! Who acts next by a line, at what event.
-ghost use Rattle.std.specs.Prelude.{◌≡◌, true, is_none, IfOk, IfSome};
+ghost use Rattle.std.specs.Prelude.{◌≡◌, true, IfOk, IfSome};
 ghost use Rattle.sc_actor.specs.System.{numbers_of};
 ghost use Rattle.sc_play.specs.Deeds.{line_deed, lowest_deed, may_repeat, when, can_act};
 ghost use Rattle.sc_play.specs.Stages.{IsKept};
@@ -97,17 +97,5 @@ pub fn first_deed<A, M: Parcel, O>(stage: &Stage<A, M, O>, who: u32) -> Option<D
             who,
             event: Event::Deliver(mail),
         }),
-    }
-}
-
-/// Whether no mail is pending.
-pub fn is_quiet<A, M: Parcel, O>(stage: &Stage<A, M, O>) -> bool
-    requires { IsKept M.weighs stage.now }
-    ensures { result ≡ is_none (lowest_deed {O = O} M.receiver (numbers_of stage.now.seats.items) stage.now.rows) }
-{
-    let first = waiting(stage, None, 1);
-    match first {
-        None => true,
-        Some(_) => false,
     }
 }

@@ -86,12 +86,12 @@ impl Same for Note {
     }
 }
 
-// The journal of these lines with the pair of two turns each, and, if it was not full, how many lines were skipped and whether a line was cut off.
+// The journal of these lines with the pair of two turns each, and, if it was not full, how many lines were skipped, whether a line was cut off and whether no mail is pending.
 fn played(
     alloc: Global,
     lines: &[Line<u32>],
     limit: u64,
-) -> Result<(Journal<Note, u32>, Option<(u64, bool)>), OutOfMemory> {
+) -> Result<(Journal<Note, u32>, Option<(u64, bool, bool)>), OutOfMemory> {
     let seats = pair(alloc, 2)?;
     if limit > 1 << 30 || !are_built(lines) || !are_apart(&seats) {
         return Err(OutOfMemory);
@@ -99,10 +99,11 @@ fn played(
     match play(alloc, seats, lines, limit)? {
         Played::Ended {
             unsettled,
+            quiet,
             skipped,
             journal,
             seats: _,
-        } => Ok((journal, Some((skipped, unsettled)))),
+        } => Ok((journal, Some((skipped, unsettled, quiet)))),
         Played::Full { journal } => Ok((journal, None)),
     }
 }
@@ -147,7 +148,7 @@ fn schedules_are_played(rt: HostRuntime) -> Result<(), Fail> {
     let alloc = rt.alloc();
     let settled = [Line::Go { who: 1 }, Line::Settle { most: 10 }];
     let (journal, end) = played(alloc, &settled, 1 << 30)?;
-    assert!(rt; journal.len() == 5 && end == Some((0, false)));
+    assert!(rt; journal.len() == 5 && end == Some((0, false, true)));
     assert!(rt; follows(alloc, &settled, journal.as_slice())?);
     let (journal, end) = played(alloc, &settled, 981)?;
     assert!(rt; journal.len() == 3 && end.is_none());
@@ -161,7 +162,7 @@ fn schedules_are_played(rt: HostRuntime) -> Result<(), Fail> {
         },
     ];
     let (journal, end) = played(alloc, &cut, 1 << 30)?;
-    assert!(rt; journal.len() == 3 && end == Some((0, true)));
+    assert!(rt; journal.len() == 3 && end == Some((0, true, false)));
     assert!(rt; follows(alloc, &cut, journal.as_slice())?);
     Ok(())
 }
@@ -186,7 +187,7 @@ fn lines_are_skipped_where_they_make_no_row(rt: HostRuntime) -> Result<(), Fail>
         Line::Settle { most: 5 },
     ];
     let (journal, end) = played(alloc, &lines, 1 << 30)?;
-    assert!(rt; journal.len() == 8 && end == Some((6, false)));
+    assert!(rt; journal.len() == 8 && end == Some((6, false, true)));
     assert!(rt; follows(alloc, &lines, journal.as_slice())?);
     Ok(())
 }

@@ -1,4 +1,4 @@
-use Rattle.std.proofs.Common.{◌≡◌, refl, sym, ◌∙◌, subst}
+use Rattle.std.proofs.Common.{◌≡◌, ◌∙◌, subst}
 use Rattle.sc_actor.specs.Mail.{mails}
 use Rattle.sc_play.specs.Stages.{Makes}
 use Rattle.sc_play.proofs.checking.take_row.Goals as goal

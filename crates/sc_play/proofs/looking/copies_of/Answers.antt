@@ -1,4 +1,3 @@
-use Rattle.std.proofs.Common.{subst, sym}
 use Rattle.sc_play.proofs.Looks.{few_copies}
 use Rattle.sc_play.proofs.looking.copies_of.Goals as goal
 
