@@ -4,3 +4,6 @@
 mod machine;
 
 pub use machine::Machine;
+
+#[cfg(test)]
+mod tests;

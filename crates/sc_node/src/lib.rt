@@ -5,3 +5,6 @@ mod answers;
 mod node;
 
 pub use node::NodeCore;
+
+#[cfg(test)]
+mod tests;

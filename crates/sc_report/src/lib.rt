@@ -7,3 +7,6 @@ mod texts;
 
 pub use printed::{Line, lines};
 pub use summaries::{Asked, Got, Summary};
+
+#[cfg(test)]
+mod tests;

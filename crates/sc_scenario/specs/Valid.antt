@@ -1,7 +1,7 @@
 -- Scenarios that some text is.
-use Rattle.std.specs.Prelude.{◌≡◌, ℕ, List, Some}
+use Rattle.std.specs.Prelude.{◌≡◌, ◌≤◌, ℕ, List, Some, length}
 use Rattle.sc_base.specs.declared.ops.Op.{Op}
-use Rattle.sc_scenario.specs.Early.{scenario_of, early_scenario}
+use Rattle.sc_scenario.specs.Early.{scenario_of, early_scenario, most_requests}
 use Rattle.sc_scenario.specs.declared.scenarios.Scenario.{Scenario}
 
 -- some text is this scenario
@@ -14,6 +14,7 @@ pub record IsEarly (scenario : Scenario) : Type 0 where
   pub ops : List Op
   pub most : ℕ
   pub is : scenario ≡ early_scenario ops most
+  pub few : length ops ≤ most_requests
 
 abbrev pub TextsAreEarly : Type 0
 TextsAreEarly = (scenario : Scenario) → IsValid scenario → IsEarly scenario

@@ -1,5 +1,5 @@
 -- What the report tells of a scenario and a journal of it.
-use Rattle.std.specs.Prelude.{ℕ, ◌+◌, ◌==◌, Bool, true, false, List, [], ◌∷◌, length, map, count_by, if◌then◌else◌, Option, Some, None, slice_get}
+use Rattle.std.specs.Prelude.{ℕ, ◌+◌, Bool, true, false, List, [], ◌∷◌, length, map, count_by, if◌then◌else◌, Option, Some, None, slice_get}
 use Rattle.std.specs.List.{flat_map}
 use Rattle.sc_base.specs.declared.ops.Op.{Op}
 use Rattle.sc_base.specs.declared.ops.Reply.{Reply}
@@ -16,28 +16,29 @@ use Rattle.sc_report.specs.declared.summaries.Asked.{Asked}
 use Rattle.sc_report.specs.declared.summaries.Summary.{Summary}
 use Rattle.sc_scenario.specs.declared.scenarios.Scenario.{Scenario}
 use Rattle.sc_world.specs.World.{system_of, schedule, parties, route_of}
-use Rattle.sc_world.specs.declared.client.ClientCore.{ClientCore}
+use Rattle.sc_client_table.specs.Client.{Client}
+use Rattle.sc_client_table.specs.Table.{waits_for}
 use Rattle.sc_world.specs.declared.party.Party.{Party}
-use Rattle.sc_world.specs.declared.party.Party.TheVariants.{Node, Client}
+use Rattle.sc_world.specs.declared.party.Party.TheVariants as party
 
 -- how far a request came: its client has the reply, waits for it, or has not sent it
-abbrev pub got_of : Option Reply → ClientCore → ℕ → Got
+abbrev pub got_of : Option Reply → Client → ℕ → Got
 got_of (Some reply) client seq = Replied reply
-got_of None client seq = if client.waiting == seq then Unanswered else Unsent
+got_of None client seq = if waits_for client.waiting seq then Unanswered else Unsent
 
 -- the request after so many
-abbrev pub asked_after : ClientCore → ℕ → Op → Asked
+abbrev pub asked_after : Client → ℕ → Op → Asked
 asked_after client done op =
     record { client = client.me; seq = done + 1; op = op; got = got_of (slice_get client.replies done) client (done + 1) }
 
 -- the client's requests after so many
-abbrev pub asked_from : ClientCore → ℕ → List Op → List Asked
+abbrev pub asked_from : Client → ℕ → List Op → List Asked
 asked_from client done [] = []
 asked_from client done (op ∷ ops) = asked_after client done op ∷ asked_from client (done + 1) ops
 
 abbrev pub asked_by : Party → List Asked
-asked_by (Node node) = []
-asked_by (Client client) = asked_from client 0 client.requests
+asked_by (party.Node node) = []
+asked_by (party.Client client) = asked_from client 0 client.requests
 
 abbrev pub is_delivery : Event OrderLine → Bool
 is_delivery (Deliver mail) = true
@@ -46,12 +47,14 @@ is_delivery _ = false
 -- the summary of a journal. No command that is built moves a boundary or a member, and no order is built
 abbrev pub summary_of : Scenario → List (Row Mail OrderLine) → Summary
 summary_of scenario journal = record {
-    version = scenario.version; brief = scenario.brief;
-    asked = flat_map asked_by (parties scenario journal);
-    orders = [];
-    ring = map route_of scenario.groups;
-    rows = length journal; mail = length (mails journal);
-    delivered = count_by (λ row. is_delivery row.event) journal;
-    skipped = skipped (system_of scenario) (schedule scenario) journal;
-    quiet = is_quiet (system_of scenario) journal;
-  }
+  version = scenario.version;
+  brief = scenario.brief;
+  asked = flat_map asked_by (parties scenario journal);
+  orders = [];
+  ring = map route_of scenario.groups;
+  rows = length journal;
+  mail = length (mails journal);
+  delivered = count_by (λ row. is_delivery row.event) journal;
+  skipped = skipped (system_of scenario) (schedule scenario) journal;
+  quiet = is_quiet (system_of scenario) journal;
+}

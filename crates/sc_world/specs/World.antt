@@ -1,5 +1,5 @@
 -- The parties of a scenario, as the system that the walk runs.
-use Rattle.std.specs.Prelude.{ℕ, ◌+◌, List, [], ◌∷◌, ◌++◌, map, ⊤}
+use Rattle.std.specs.Prelude.{ℕ, ◌+◌, ◌≤◌, List, [], ◌∷◌, ◌++◌, length, map, All}
 use Rattle.sc_cmd.specs.declared.cores.Base.{Base}
 use Rattle.sc_cmd.specs.declared.links.Route.{Route}
 use Rattle.sc_cmd.specs.declared.orders.OrderLine.{OrderLine}
@@ -17,14 +17,15 @@ use Rattle.sc_scenario.specs.declared.scenarios.Scenario.{Scenario}
 use Rattle.sc_scenario.specs.declared.scenarios.SchedLine.{SchedLine}
 use Rattle.sc_scenario.specs.declared.scenarios.SchedLine.TheVariants.{Go, Deliver, Drop, Again, Tick, Crash, Told, Settle, Free, Storm}
 use Rattle.sc_node.specs.Table.{node_table, born_node}
-use Rattle.sc_world.specs.Client.{client_table, born_client}
+use Rattle.sc_client_table.specs.Client.{born}
+use Rattle.sc_client_table.specs.Table.{table}
 use Rattle.sc_world.specs.declared.party.Party.{Party}
 use Rattle.sc_world.specs.declared.party.Party.TheVariants.{Node, Client}
 
 -- a party's table is that of its node or of its client
 abbrev pub party_table : Party → Input Mail OrderLine → Party × List Mail
 party_table (Node node) input = (Node (node_table node input).0, (node_table node input).1)
-party_table (Client client) input = (Client (client_table client input).0, (client_table client input).1)
+party_table (Client client) input = (Client (table client input).0, (table client input).1)
 
 -- the actor number of a client
 abbrev pub client_actor : ℕ → ℕ
@@ -38,12 +39,16 @@ abbrev pub route_of : Base → Route
 route_of base = record { group = base.core.id; lo = base.core.arc.lo; members = base.core.members }
 
 abbrev pub client_seat : Route → Asks → Seat Party
-client_seat first asks = record { who = client_actor asks.client; actor = Client (born_client asks.client asks.ops first) }
+client_seat first asks = record { who = client_actor asks.client; actor = Client (born asks.client asks.ops first) }
 
 -- the clients, which ask the scenario's first group
 abbrev pub client_seats : List Base → List Asks → List (Seat Party)
 client_seats [] clients = []
 client_seats (base ∷ bases) clients = map (client_seat (route_of base)) clients
+
+-- no client has more requests than it may
+abbrev pub AreFew : Scenario → Type 0
+AreFew scenario = All (λ asks. length asks.ops ≤ 1000) scenario.clients
 
 -- the nodes and then the clients, in order of number, as they are born
 abbrev pub births : Scenario → List (Seat Party)

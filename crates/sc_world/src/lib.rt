@@ -1,10 +1,11 @@
 //! The parties of a scenario, and what a journal of theirs says.
 #![tactic(auto)]
 
-mod client;
 mod party;
 mod seating;
 
-pub use client::ClientCore;
 pub use party::Party;
-pub use seating::{births, schedule};
+pub use seating::{are_few, births, schedule};
+
+#[cfg(test)]
+mod tests;

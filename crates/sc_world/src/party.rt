@@ -2,9 +2,9 @@
 ghost use Rattle.std.specs.Prelude.{◌≡◌, IfOk};
 ghost use Rattle.sc_world.specs.World.{party_table};
 
-use crate::client::ClientCore;
 use sc_actor::{Actor, Input};
 use sc_base::{OutOfMemory, Sequence};
+use sc_client::ClientCore;
 use sc_cmd::OrderLine;
 use sc_mail::Mail;
 use sc_node::NodeCore;

@@ -1,11 +1,11 @@
 //! The actors and the schedule of a scenario.
-ghost use Rattle.std.specs.Prelude.{◌≡◌, IfOk, OnOk, ◌++◌, map};
-ghost use Rattle.sc_world.specs.World.{births, schedule, node_seat, client_seat, client_seats, route_of, line_of};
+ghost use Rattle.std.specs.Prelude.{◌≡◌, ◌≤◌, ◌↔◌, IsTrue, length, All, IfOk, OnOk, ◌++◌, map};
+ghost use Rattle.sc_world.specs.World.{births, schedule, node_seat, client_seat, client_seats, route_of, line_of, AreFew};
 
-use crate::client::ClientCore;
 use crate::party::Party;
 use sc_actor::{Line, Seat};
 use sc_base::{Dup, OutOfMemory};
+use sc_client::ClientCore;
 use sc_cmd::{Base, OrderLine, Route};
 use sc_mail::client_number;
 use sc_node::NodeCore;
@@ -34,9 +34,10 @@ fn route_of(base: &Base) -> Route
 }
 
 fn client_seat(alloc: Global, first: &Route, asks: &Asks) -> Result<Seat<Party>, OutOfMemory>
+    requires { length asks.now.ops ≤ 1000 }
     ensures { IfOk result (λ seat. seat ≡ client_seat first.now asks.now) }
 {
-    let client = ClientCore::born(alloc, asks.client, asks.ops.dup(alloc)?, first);
+    let client = ClientCore::born(alloc, asks.client, asks.ops.dup(alloc)?, *first)?;
     Ok(Seat {
         who: client_number(asks.client),
         actor: Party::Client(client),
@@ -62,6 +63,7 @@ fn add_asking(
     first: &Route,
     clients: &[Asks],
 ) -> Result<(), OutOfMemory>
+    requires { All (λ asks. length asks.ops ≤ 1000) clients.now }
     ensures { OnOk result (seats.new.items ≡ seats.old.items ++ map (client_seat first.now) clients.now) }
 {
     for asks in clients {
@@ -76,6 +78,7 @@ fn add_clients(
     groups: &[Base],
     clients: &[Asks],
 ) -> Result<(), OutOfMemory>
+    requires { All (λ asks. length asks.ops ≤ 1000) clients.now }
     ensures { OnOk result (seats.new.items ≡ seats.old.items ++ client_seats groups.now clients.now) }
 {
     match groups {
@@ -86,6 +89,7 @@ fn add_clients(
 
 /// The nodes and then the clients of a scenario, as they are born.
 pub fn births(alloc: Global, scenario: &Scenario) -> Result<Vec<Seat<Party>>, OutOfMemory>
+    requires { AreFew scenario.now }
     ensures { IfOk result (λ seats. seats.items ≡ births scenario.now) }
 {
     let mut seats = Vec::new(alloc);
@@ -132,4 +136,15 @@ pub fn schedule(alloc: Global, scenario: &Scenario) -> Result<Vec<Line<OrderLine
         lines.push(line_of(line))?;
     }
     Ok(lines)
+}
+
+/// Whether no client has more requests than it may, 1,000.
+pub fn are_few(scenario: &Scenario) -> bool
+    ensures { IsTrue result ↔ AreFew scenario.now }
+{
+    scenario
+        .clients
+        .as_slice()
+        .iter()
+        .all(|asks| asks.ops.len() <= 1000)
 }

@@ -1,5 +1,5 @@
 -- What a player's answer says of a scenario.
-use Rattle.std.proofs.Common.{◌≡◌, ℕ, zero, suc, ◌<◌, List, [], ◌∷◌, length, map, Bool, true, false, Some, refl, sym, ◌∙◌, ap, subst, arith, slice_index_or}
+use Rattle.std.proofs.Common.{◌≡◌, ℕ, zero, suc, ◌<◌, ◌≤◌, List, [], ◌∷◌, length, map, Bool, true, false, Some, refl, sym, ◌∙◌, ap, subst, arith, slice_index_or}
 use Rattle.sc_base.specs.declared.ops.Op.{Op}
 use Rattle.sc_cmd.specs.declared.orders.OrderLine.{OrderLine}
 use Rattle.sc_mail.specs.declared.bodies.Mail.{Mail}
@@ -14,7 +14,7 @@ use Rattle.sc_scenario.specs.Early.{early_scenario}
 use Rattle.sc_scenario.specs.Valid.{IsEarly}
 use Rattle.sc_scenario.specs.declared.scenarios.Scenario.{Scenario}
 use Rattle.sc_report.specs.Report.{report_lines}
-use Rattle.sc_world.specs.World.{party_table, receiver_of, births, schedule, system_of}
+use Rattle.sc_world.specs.World.{party_table, receiver_of, births, schedule, system_of, AreFew}
 use Rattle.sc_world.specs.Summary.{summary_of}
 use Rattle.sc_world.specs.declared.party.Party.{Party}
 use Rattle.scatter.specs.declared.done.Text.{Text}
@@ -31,6 +31,14 @@ pub built : (scenario : Scenario) → IsEarly scenario → (lines : List (Line O
 built scenario early lines is =
     let P : List (Line OrderLine) → Type 0 = λ ls. (k : ℕ) (d : Line OrderLine) → k < length ls → is_built (slice_index_or ls k d) ≡ true in
     subst P (sym (is ∙ ap schedule early.is)) (built-two early.ops early.most)
+
+-- the one client of the early form has at most as many requests as it may
+few-one : (ops : List Op) (most : ℕ) → length ops ≤ 1000 → AreFew (early_scenario ops most)
+few-one ops most few zero d lt = few
+few-one ops most few (suc k) d lt = absurd (omega arith)
+
+pub few : (scenario : Scenario) → IsEarly scenario → AreFew scenario
+few scenario early = subst AreFew (sym early.is) (few-one early.ops early.most early.few)
 
 module _ (scenario : Scenario) (limit : ℕ) (seats : List (Seat Party)) (lines : List (Line OrderLine)) (seats_are : seats ≡ births scenario) (lines_are : lines ≡ schedule scenario) where
   pub ends : (cut quiet : Bool) (skips : ℕ) (journal : List (Row Mail OrderLine)) (left : List (Seat Party)) (parties : List Party) →

@@ -7,12 +7,13 @@ ghost use Rattle.sc_world.specs.World.{system_of, schedule, parties, route_of};
 ghost use Rattle.sc_world.specs.Summary.{summary_of, asked_by, asked_from, asked_after, got_of, is_delivery};
 
 use sc_actor::{Event, Journal, Row};
+use sc_client::ClientCore;
 use sc_base::{Dup, Op, OutOfMemory, Sequence};
 use sc_cmd::{Base, OrderLine, Route};
 use sc_mail::Mail;
 use sc_report::{Asked, Got, Summary};
 use sc_scenario::Scenario;
-use sc_world::{ClientCore, Party};
+use sc_world::Party;
 use std::alloc::Global;
 
 // A count that a report can tell: more than 2^32 - 1 rows or mails have no room in memory.
@@ -28,10 +29,10 @@ fn small(n: usize) -> Result<u32, OutOfMemory>
 fn got_at(alloc: Global, client: &ClientCore, i: usize, seq: u32) -> Result<Got, OutOfMemory>
     ensures { IfOk result (λ got. got ≡ got_of (slice_get client.now.replies i) client.now seq) }
 {
-    if i < client.replies.len() {
-        return Ok(Got::Replied(client.replies.at(i).dup(alloc)?));
+    if i < client.replies().len() {
+        return Ok(Got::Replied(client.replies().at(i).dup(alloc)?));
     }
-    if client.waiting == seq {
+    if client.waiting() == Some(seq) {
         Ok(Got::Unanswered)
     } else {
         Ok(Got::Unsent)
@@ -45,7 +46,7 @@ fn asked_at(alloc: Global, client: &ClientCore, i: usize, op: &Op) -> Result<Ask
     let seq = small(i.saturating_add(1))?;
     let got = got_at(alloc, client, i, seq)?;
     Ok(Asked {
-        client: client.me,
+        client: client.me(),
         seq,
         op: op.dup(alloc)?,
         got,
@@ -71,7 +72,7 @@ fn add_party(alloc: Global, asked: &mut Sequence<Asked>, party: &Party) -> Resul
 {
     match party {
         Party::Node(_) => Ok(()),
-        Party::Client(client) => add_client(alloc, asked, client, client.requests.as_slice()),
+        Party::Client(client) => add_client(alloc, asked, client, client.requests().as_slice()),
     }
 }
 

@@ -3,8 +3,11 @@ use Rattle.sc_actor.specs.System.{system, no_words}
 use Rattle.sc_play.specs.Outcome.{IsPlayed}
 use Rattle.sc_world.specs.World.{party_table, receiver_of}
 use Rattle.scatter.specs.Played.{mail_weight}
-use Rattle.scatter.proofs.Plays.{built, ends, fills}
+use Rattle.scatter.proofs.Plays.{built, few, ends, fills}
 use Rattle.scatter.proofs.played.play_out.Goals as goal
+
+pub births-requires : goal.births-requires
+births-requires c = few c.args.scenario.now (c.texts_are_early.ensures c.args.scenario.now c.requires.valid)
 
 pub play-requires-clause-built : goal.play-requires-clause-built
 play-requires-clause-built c = λ _.
