@@ -7,8 +7,8 @@ ghost use Rattle.sc_world.specs.World.{system_of, schedule, parties, route_of};
 ghost use Rattle.sc_world.specs.Summary.{summary_of, asked_by, asked_from, asked_after, got_of, is_delivery};
 
 use sc_actor::{Event, Journal, Row};
-use sc_client::ClientCore;
 use sc_base::{Dup, Op, OutOfMemory, Sequence};
+use sc_client::ClientCore;
 use sc_cmd::{Base, OrderLine, Route};
 use sc_mail::Mail;
 use sc_report::{Asked, Got, Summary};
