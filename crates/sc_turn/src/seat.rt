@@ -83,12 +83,14 @@ impl<T: Listed> TurnSeat<T> {
         requires fresh { ¬ Contains (known self.old).given who }
         ensures start { OfOneStart self.old self.new }
         ensures ok { IfOk result (λ s. OfOneStart self.old s × (known s ≡ newcomer who (known self.old).seen)) }
+        ensures facts { IfOk result (λ s. IsTrueLater (known s)) }
         ensures given { OnOk result (known self.new ≡ with_given (known self.old) who) }
         ensures err { OnErr result (known self.new ≡ known self.old) }
     {
         let desk = Arc::try_clone(&self.desk)?;
         let shared = &desk.shared;
-        let place = shared.split_seat::<SplitOff<J>>(&mut self.place);
+        let mut place = shared.split_seat::<SplitOff<J>>(&mut self.place);
+        shared.load::<Read<T>>(&mut place, 1);
         Ok(TurnSeat { desk, place })
     }
 
@@ -101,6 +103,7 @@ impl<T: Listed> TurnSeat<T> {
         requires fresh { ¬ Contains (known self.old).given who }
         ensures start { OfOneStart self.old self.new }
         ensures ok { IfOk result (λ s. OfOneStart self.old s × (known s ≡ newcomer who (known self.old).seen)) }
+        ensures facts { IfOk result (λ s. IsTrueLater (known s)) }
         ensures given { OnOk result (known self.new ≡ with_given (known self.old) who) }
         ensures err { OnErr result (known self.new ≡ known self.old) }
     {

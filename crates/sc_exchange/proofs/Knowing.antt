@@ -1,0 +1,106 @@
+-- What a clause says of a port, from what its seat knows.
+use Rattle.std.proofs.Common.{◌≡◌, ◌≢◌, ℕ, ◌<◌, zero, suc, Bool, true, false, List, [], ◌∷◌, ◌++◌, map, length, get_or, refl, sym, ap, ◌∙◌, subst, arith, Contains, MatchBool}
+use Rattle.std.proofs.lemmas.List.{map-append, length-map}
+use Rattle.sc_turn.specs.declared.rule.View.{View}
+use Rattle.sc_turn.specs.Turn.{StartsWith, rows_by, with_seen, entered, IsTrueOf}
+use Rattle.sc_turn.specs.Seats.{known, OfOneStart}
+use Rattle.sc_actor.specs.declared.rows.Row.{Row}
+use Rattle.sc_actor.specs.declared.actors.Parcel.{Ghosts}
+use Rattle.sc_actor.specs.Counted.{row_bytes}
+use Rattle.sc_ledger.specs.declared.faults.PostFault.{PostFault}
+use Rattle.sc_ledger.specs.Fault.{IsCause}
+use Rattle.sc_exchange.specs.declared.deeds.Deed.{Deed}
+use Rattle.sc_exchange.specs.declared.ports.Port.{Port}
+use Rattle.sc_exchange.specs.Deeds.{deeds, row_by, rows_of}
+use Rattle.sc_exchange.specs.Turns.{Turned, RowTurned, Changed, may_change, change}
+use Rattle.sc_exchange.specs.Ports.{seen, made, Stays, Looked, Appended, ChangedBy, IsTrue}
+use Rattle.sc_exchange.proofs.Done.{rows_of_deeds, rows_of_from, begins_rows}
+use Rattle.sc_exchange.proofs.Views.{deed, row_back, seen_row, own_same, own_row, others_same, others_row}
+
+module _ {M O : Type 0} {g : Ghosts M} where
+  pub looked_after : (p q : Port M O g) → OfOneStart p.seat q.seat → q.who ≡ p.who → q.actors ≡ p.actors → q.limit ≡ p.limit → Turned (known p.seat) (known q.seat) → Looked p q
+  looked_after p q start who actors limit t = let v = t.view_is in record {
+    stays = record { exchange = (start, actors, limit); who = who; given = ap (λ (x : View (Deed M O)). x.given) v; joined = ap (λ (x : View (Deed M O)). map (λ k. (k.0, map (row_by k.0) k.1)) x.joined) v };
+    later = begins_rows (known q.seat).seen (known p.seat).seen (subst (λ l. StartsWith l (known p.seat).seen) (ap (λ (x : View (Deed M O)). x.seen) (sym v)) t.later);
+    made = λ i. map (row_by (who i)) (v i).made;
+  }
+
+  pub stays_after : (p q : Port M O g) → OfOneStart p.seat q.seat → q.who ≡ p.who → q.actors ≡ p.actors → q.limit ≡ p.limit → ((known q.seat).given ≡ (known p.seat).given) × ((known q.seat).joined ≡ (known p.seat).joined) → Stays p q
+  stays_after p q start who actors limit k = record { exchange = (start, actors, limit); who = who; given = k.0; joined = ap (map (λ (x : ℕ × List (Deed M O)). (x.0, map (row_by x.0) x.1))) k.1 }
+
+  pub looked_met : (p q : Port M O g) → OfOneStart p.seat q.seat → q.who ≡ p.who → q.actors ≡ p.actors → q.limit ≡ p.limit → known q.seat ≡ with_seen (known p.seat) (known q.seat).seen → StartsWith (known q.seat).seen (known p.seat).seen → Looked p q
+  looked_met p q start who actors limit v later = record {
+    stays = record { exchange = (start, actors, limit); who = who; given = ap (λ (x : View (Deed M O)). x.given) v; joined = ap (λ (x : View (Deed M O)). map (λ k. (k.0, map (row_by k.0) k.1)) x.joined) v };
+    later = begins_rows (known q.seat).seen (known p.seat).seen later;
+    made = λ i. map (row_by (who i)) (v i).made;
+  }
+
+  abbrev pub appended_after : (p q : Port M O g) (row : Row M O) → OfOneStart p.seat q.seat → q.who ≡ p.who → q.actors ≡ p.actors → q.limit ≡ p.limit → row.who ≡ p.who → RowTurned (known p.seat) (known q.seat) row → Appended p q row
+  appended_after p q row start who actors limit mine t = let v = t.view_is in record {
+    stays = record { exchange = (start, actors, limit); who = who; given = ap (λ (x : View (Deed M O)). x.given) v; joined = ap (λ (x : View (Deed M O)). map (λ k. (k.0, map (row_by k.0) k.1)) x.joined) v };
+    before = t.rows;
+    later = subst (λ l. StartsWith l (seen p)) (rows_of_deeds t.rows) (begins_rows (deeds t.rows) (known p.seat).seen t.later);
+    seen = seen_row (known p.seat) (entered (known p.seat) (deeds t.rows)) (known q.seat) t.rows row (mine ∙ sym p.number) refl v;
+    made = (λ i. map (row_by (who i)) (v i).made) ∙ (map-append (row_by p.who) (known p.seat).made (deed row ∷ []) ∙ ap (λ r. made p ++ r ∷ []) (row_back row p.who mine));
+  }
+
+  pub is_true : (q : Port M O g) → rows_by (known q.seat).who (known q.seat).seen ≡ (known q.seat).made → ((known q.seat).who ≡ 0 → (n : ℕ) → n ≢ 0 → ¬ Contains (known q.seat).given n → rows_by n (known q.seat).seen ≡ []) → IsTrue q
+  is_true q own others = record {
+    own = rows_of_from q.who (known q.seat).seen ∙ ap (map (row_by q.who)) (ap (λ n. rows_by n (known q.seat).seen) (sym q.number) ∙ own);
+    others = λ z n ne away. rows_of_from n (known q.seat).seen ∙ ap (map (row_by n)) (others (q.number ∙ z) n ne away);
+  }
+
+  pub true_after : (p q : Port M O g) → Turned (known p.seat) (known q.seat) → IsTrue q
+  true_after p q t = is_true q (own_same (known p.seat) (known q.seat) t) (others_same (known p.seat) (known q.seat) t)
+
+  pub true_row : (p q : Port M O g) (row : Row M O) → RowTurned (known p.seat) (known q.seat) row → IsTrue q
+  true_row p q row t = is_true q (own_row (known p.seat) (known q.seat) row t) (others_row (known p.seat) (known q.seat) row t)
+
+  pub true_met : (q : Port M O g) → IsTrueOf (known q.seat) (known q.seat).seen → IsTrue q
+  true_met q t = is_true q t.own t.others
+
+  pub changed_after : (receiver : M → ℕ) (lost : Bool) (number : ℕ) (p q : Port M O g) → OfOneStart p.seat q.seat → q.who ≡ p.who → q.actors ≡ p.actors → q.limit ≡ p.limit → p.who ≡ 0 → Changed receiver p.actors lost number (known p.seat) (known q.seat) → ChangedBy receiver lost number p q
+  changed_after receiver lost number p q start who actors limit net c = record {
+    appended = appended_after p q (change lost number) start who actors limit (sym net) c.turned;
+    may = c.may;
+  }
+
+  -- what the network's change answers
+  pub change_answers : (receiver : M → ℕ) (lost : Bool) (number : ℕ) (p q : Port M O g) (Fits : Type 0) (done : Bool) → OfOneStart p.seat q.seat → q.who ≡ p.who → q.actors ≡ p.actors → q.limit ≡ p.limit → p.who ≡ 0 →
+      MatchBool done (Changed receiver p.actors lost number (known p.seat) (known q.seat) × Fits) (Turned (known p.seat) (known q.seat) × (may_change lost receiver p.actors (seen q) number ≡ false)) →
+      IsTrue q × MatchBool done (ChangedBy receiver lost number p q × Fits) (Looked p q × (may_change lost receiver p.actors (seen q) number ≡ false))
+  change_answers receiver lost number p q Fits true start who actors limit net m = (true_row p q (change lost number) m.0.turned, (changed_after receiver lost number p q start who actors limit net m.0, m.1))
+  change_answers receiver lost number p q Fits false start who actors limit net m = (true_after p q m.0, (looked_after p q start who actors limit m.0, m.1))
+
+-- the row that is handed back
+pub change_back : {M O : Type 0} (lost : Bool) (number : ℕ) (row : Row M O) → row ≡ change lost number → record { who = 0; event = row.event; sent = row.sent } ≡ change lost number
+change_back {M} {O} lost number row is = ap (λ (r : Row M O). record { who = 0; event = r.event; sent = r.sent }) is
+
+pub cause_back : {M O : Type 0} (weighs : M → ℕ) (why other : PostFault) (bytes limit : ℕ) (row again : Row M O) → other ≡ why → again ≡ row → IsCause why bytes (row_bytes weighs row) limit → IsCause other bytes (row_bytes weighs again) limit
+cause_back weighs why other bytes limit row again w r c = subst (λ n. IsCause other bytes n limit) (ap (row_bytes weighs) (sym r)) (subst (λ x. IsCause x bytes (row_bytes weighs row) limit) (sym w) c)
+
+-- at the end
+module _ {M O : Type 0} (journal : List (Row M O)) (v : View (Deed M O)) (facts : IsTrueOf v (deeds journal)) (first : v.who ≡ 0) where
+  rows_are : (n : ℕ) → rows_of n journal ≡ map (row_by n) (rows_by n (deeds journal))
+  rows_are n = ap (rows_of n) (sym (rows_of_deeds journal)) ∙ rows_of_from n (deeds journal)
+
+  pub end_own : rows_of 0 journal ≡ map (row_by 0) v.made
+  end_own = rows_are 0 ∙ ap (map (row_by 0)) (ap (λ n. rows_by n (deeds journal)) (sym first) ∙ facts.own)
+
+  pub end_others : (n : ℕ) → n ≢ 0 → ¬ Contains v.given n → rows_of n journal ≡ []
+  end_others n ne away = rows_are n ∙ ap (map (row_by n)) (facts.others first n ne away)
+
+  each_map : (xs : List (ℕ × List (Deed M O))) → ((k : ℕ × List (Deed M O)) → Contains xs k → rows_of k.0 journal ≡ map (row_by k.0) k.1) → (i : ℕ) (k : ℕ × List (Row M O)) → i < length xs →
+      get_or (map (λ (x : ℕ × List (Deed M O)). (x.0, map (row_by x.0) x.1)) xs) i k ≡ k → rows_of k.0 journal ≡ k.1
+  each_map [] h i k lt e = absurd (omega arith)
+  each_map (x ∷ xs) h zero k lt e = subst (λ (y : ℕ × List (Row M O)). rows_of y.0 journal ≡ y.1) e (h x (0, omega arith, refl))
+  each_map (x ∷ xs) h (suc i) k lt e = each_map xs (λ y c. h y (suc c.0, omega (arith, c.1), c.2)) i k (omega arith) e
+
+  pub end_each : (k : ℕ × List (Row M O)) → Contains (map (λ (x : ℕ × List (Deed M O)). (x.0, map (row_by x.0) x.1)) v.joined) k → rows_of k.0 journal ≡ k.1
+  end_each k c =
+      let f : ℕ × List (Deed M O) → ℕ × List (Row M O) = λ x. (x.0, map (row_by x.0) x.1) in
+      each_map v.joined (λ y there. rows_are y.0 ∙ ap (map (row_by y.0)) (facts.joined first y there)) c.0 k (omega (arith, c.1, length-map v.joined f)) c.2
+
+pub numbers_same : {M O : Type 0} → (xs : List (ℕ × List (Deed M O))) → map (λ (k : ℕ × List (Row M O)). k.0) (map (λ (x : ℕ × List (Deed M O)). (x.0, map (row_by x.0) x.1)) xs) ≡ map (λ (k : ℕ × List (Deed M O)). k.0) xs
+numbers_same [] = refl
+numbers_same (x ∷ xs) = ap (λ l. x.0 ∷ l) (numbers_same xs)

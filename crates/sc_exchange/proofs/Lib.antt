@@ -1,0 +1,4 @@
+pub mod Done
+pub mod Results
+pub mod Views
+pub mod Knowing

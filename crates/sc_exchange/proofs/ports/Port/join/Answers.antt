@@ -1,0 +1,16 @@
+use Rattle.std.proofs.Common.{ap, ◌∙◌, map}
+use Rattle.sc_turn.specs.Seats.{known}
+use Rattle.sc_exchange.specs.Deeds.{row_by}
+use Rattle.sc_exchange.proofs.Done.{begins_rows, rows_of_from}
+use Rattle.sc_exchange.proofs.Views.{own_joined}
+use Rattle.sc_exchange.proofs.ports.Port.join.Goals as goal
+
+pub invariant_of-self-clause-own : goal.invariant_of-self-clause-own
+invariant_of-self-clause-own g c = let e = c.join.ensures in
+    own_joined (known c.args.self.now.seat) (known c.args.other.seat) (known c.join.new.self) c.args.self.now.who c.args.self.now.number c.args.self.now.own e.view e.later.0 e.facts
+
+pub returns-clause-later : goal.returns-clause-later
+returns-clause-later g c = (begins_rows _ _ c.join.ensures.later.0, begins_rows _ _ c.join.ensures.later.1)
+
+pub returns-clause-others : goal.returns-clause-others
+returns-clause-others g c = λ n ne away. rows_of_from n (known c.join.new.self).seen ∙ ap (map (row_by n)) (c.join.ensures.others n ne away)

@@ -1,0 +1,49 @@
+use Rattle.std.proofs.Common.{rules, ◌≡◌, sym, ap, ◌∙◌, true, false}
+use Rattle.sc_turn.specs.Seats.{known}
+use Rattle.sc_exchange.specs.Turns.{may_change, change}
+use Rattle.sc_exchange.proofs.Views.{seen_same, seen_row, turned_same, changed, bytes_row, own_turned, own_row_turned, kept_turned, kept_row_turned}
+use Rattle.sc_exchange.proofs.turns.change_at.Goals as goal
+
+pub returns-then-not-may_change_at-clause-ok : goal.returns-then-not-may_change_at-clause-ok
+returns-then-not-may_change_at-clause-ok g c =
+    let w = known c.args.seat.now in let s = known c.enter-exchange.new.self in let v = known c.keep_same.new.seat in
+    let rows = c.enter-exchange.result.ledger.rows.items in let e = c.enter-exchange.ensures in
+    let none : c.may_change_at.result ≡ false = search rules in (
+      turned_same w s v rows e.view e.later e.facts c.keep_same.ensures.view,
+      ap (λ l. may_change c.args.lost g.M.Parcel.receiver c.args.actors l c.args.number) (seen_same w s v rows e.view c.keep_same.ensures.view) ∙ (sym c.may_change_at.ensures ∙ none),
+    )
+
+pub returns-in-Ok-clause-ok : goal.returns-in-Ok-clause-ok
+returns-in-Ok-clause-ok g c =
+    let w = known c.args.seat.now in let s = known c.enter-exchange.new.self in let v = known c.append_row.new.seat in
+    let rows = c.enter-exchange.result.ledger.rows.items in let e = c.enter-exchange.ensures in let row = c.change_of.result in
+    let some : c.may_change_at.result ≡ true = search rules in (
+      changed g.M.Parcel.receiver c.args.actors c.args.lost c.args.number w s v rows row c.change_of.ensures e.view e.later e.facts c.in-Ok.ensures.ok.0 (sym c.may_change_at.ensures ∙ some),
+      bytes_row g.M.Parcel.weighs rows row _ c.args.limit (seen_row w s v rows row (ap (λ r. r.who) c.change_of.ensures ∙ sym c.requires.net) e.view c.in-Ok.ensures.ok.0) c.in-Ok.ensures.fits,
+    )
+
+pub returns-then-not-may_change_at-clause-own : goal.returns-then-not-may_change_at-clause-own
+returns-then-not-may_change_at-clause-own g c =
+    let w = known c.args.seat.now in let s = known c.enter-exchange.new.self in let v = known c.keep_same.new.seat in let e = c.enter-exchange.ensures in
+    own_turned w v (turned_same w s v c.enter-exchange.result.ledger.rows.items e.view e.later e.facts c.keep_same.ensures.view)
+
+pub returns-in-Ok-clause-own : goal.returns-in-Ok-clause-own
+returns-in-Ok-clause-own g c = own_row_turned (known c.args.seat.now) (known c.append_row.new.seat) (change c.args.lost c.args.number) (returns-in-Ok-clause-ok g c).0.turned
+
+pub returns-in-Err-clause-own : goal.returns-in-Err-clause-own
+returns-in-Err-clause-own g c =
+    let w = known c.args.seat.now in let s = known c.enter-exchange.new.self in let v = known c.append_row.new.seat in let e = c.enter-exchange.ensures in
+    own_turned w v (turned_same w s v c.enter-exchange.result.ledger.rows.items e.view e.later e.facts c.in-Err.ensures.refused.0)
+
+pub returns-then-not-may_change_at-clause-kept : goal.returns-then-not-may_change_at-clause-kept
+returns-then-not-may_change_at-clause-kept g c =
+    let w = known c.args.seat.now in let s = known c.enter-exchange.new.self in let v = known c.keep_same.new.seat in let e = c.enter-exchange.ensures in
+    kept_turned w v (turned_same w s v c.enter-exchange.result.ledger.rows.items e.view e.later e.facts c.keep_same.ensures.view)
+
+pub returns-in-Ok-clause-kept : goal.returns-in-Ok-clause-kept
+returns-in-Ok-clause-kept g c = kept_row_turned (known c.args.seat.now) (known c.append_row.new.seat) (change c.args.lost c.args.number) (returns-in-Ok-clause-ok g c).0.turned
+
+pub returns-in-Err-clause-kept : goal.returns-in-Err-clause-kept
+returns-in-Err-clause-kept g c =
+    let w = known c.args.seat.now in let s = known c.enter-exchange.new.self in let v = known c.append_row.new.seat in let e = c.enter-exchange.ensures in
+    kept_turned w v (turned_same w s v c.enter-exchange.result.ledger.rows.items e.view e.later e.facts c.in-Err.ensures.refused.0)

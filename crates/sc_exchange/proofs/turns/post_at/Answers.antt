@@ -1,0 +1,40 @@
+use Rattle.std.proofs.Common.{sym, subst, ap, ◌∙◌, length}
+use Rattle.sc_turn.specs.Seats.{known}
+use Rattle.sc_actor.specs.Counted.{row_bytes, journal_bytes}
+use Rattle.sc_ledger.specs.Fault.{IsCause}
+use Rattle.sc_exchange.proofs.Results.{ok_with, err_with}
+use Rattle.sc_exchange.proofs.Views.{seen_same, seen_row, turned_same, turned_row, bytes_row, own_either, kept_either}
+use Rattle.sc_exchange.proofs.turns.post_at.Goals as goal
+
+pub returns-clause-ok : goal.returns-clause-ok
+returns-clause-ok g c =
+    let w = known c.args.seat.now in let s = known c.enter-exchange.new.self in let v = known c.append_row.new.seat in
+    let rows = c.enter-exchange.result.ledger.rows.items in let e = c.enter-exchange.ensures in
+    ok_with c.append_row.result
+    (λ place p fits. let is = seen_row w s v rows c.args.row c.requires.maker e.view p.0 in
+    (turned_row w s v rows c.args.row e.view e.later e.facts p.0, p.1 ∙ ap length (sym is), bytes_row g.M.Parcel.weighs rows c.args.row _ c.args.limit is fits))
+    c.append_row.ensures.ok c.append_row.ensures.fits
+
+pub returns-clause-refused : goal.returns-clause-refused
+returns-clause-refused g c =
+    let w = known c.args.seat.now in let s = known c.enter-exchange.new.self in let v = known c.append_row.new.seat in
+    let rows = c.enter-exchange.result.ledger.rows.items in let e = c.enter-exchange.ensures in
+    err_with c.append_row.result
+    (λ x p. (turned_same w s v rows e.view e.later e.facts p.0, p.1, subst (λ l. IsCause x.why (journal_bytes g.M.Parcel.weighs l) (row_bytes g.M.Parcel.weighs c.args.row) c.args.limit) (sym (seen_same w s v rows e.view p.0)) p.2))
+    c.append_row.ensures.refused
+
+pub returns-clause-own : goal.returns-clause-own
+returns-clause-own g c =
+    let w = known c.args.seat.now in let s = known c.enter-exchange.new.self in let v = known c.append_row.new.seat in
+    let rows = c.enter-exchange.result.ledger.rows.items in let e = c.enter-exchange.ensures in
+    own_either w v c.args.row c.append_row.result
+    (ok_with c.append_row.result (λ place p fits. turned_row w s v rows c.args.row e.view e.later e.facts p.0) c.append_row.ensures.ok c.append_row.ensures.fits)
+    (err_with c.append_row.result (λ x p. turned_same w s v rows e.view e.later e.facts p.0) c.append_row.ensures.refused)
+
+pub returns-clause-kept : goal.returns-clause-kept
+returns-clause-kept g c =
+    let w = known c.args.seat.now in let s = known c.enter-exchange.new.self in let v = known c.append_row.new.seat in
+    let rows = c.enter-exchange.result.ledger.rows.items in let e = c.enter-exchange.ensures in
+    kept_either w v c.args.row c.append_row.result
+    (ok_with c.append_row.result (λ place p fits. turned_row w s v rows c.args.row e.view e.later e.facts p.0) c.append_row.ensures.ok c.append_row.ensures.fits)
+    (err_with c.append_row.result (λ x p. turned_same w s v rows e.view e.later e.facts p.0) c.append_row.ensures.refused)

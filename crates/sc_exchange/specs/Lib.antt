@@ -1,0 +1,4 @@
+pub mod Deeds
+pub mod Answers
+pub mod Turns
+pub mod Ports

@@ -1,0 +1,272 @@
+//! The ports.
+ghost use Rattle.std.specs.Prelude.{◌≡◌, ◌≢◌, ◌++◌, ◌∷◌, [], ℕ, ◌<◌, ◌≤◌, ◌^◌, true, false, length, map, IfOk, OnErr, IfErr, OnOk, Contains, MatchBool, None};
+ghost use Rattle.sc_turn.specs.Seats.{known, AllJoined};
+ghost use Rattle.sc_turn.specs.Turn.{rows_by, longer, StartsWith, StartsWith as Begins, IsTrueOf};
+ghost use Rattle.sc_actor.specs.Mail.{is_crash};
+ghost use Rattle.sc_actor.specs.Counted.{row_bytes, journal_bytes};
+ghost use Rattle.sc_ledger.specs.Fault.{IsCause};
+ghost use Rattle.sc_ledger.specs.Pending.{kth_pending, is_pending, may_repeat};
+ghost use Rattle.sc_exchange.specs.Deeds.{deeds, rows_of};
+ghost use Rattle.sc_exchange.specs.Turns.{may_change, change};
+ghost use Rattle.sc_exchange.specs.Answers.{IsFetch, number_of};
+
+use crate::answers::{Fetched, Unposted};
+use crate::deeds::Exchange;
+use crate::turns::{change_at, fetch_at, kth_at, post_at};
+use sc_actor::{Event, Journal, Parcel, Row};
+use sc_base::{OutOfMemory, Sequence};
+use sc_ledger::Unkept;
+use sc_turn::TurnSeat;
+use std::alloc::Global;
+use std::sync::Wait;
+
+/// A port to the exchange: of the actor with the number `who`, or of the network where it is 0.
+/// Its meaning is the list of rows that it has seen and the list of those that it made. `fetched` is the mail of its last fetch, with no post between, and `crashed` says whether it has posted a Crash.
+#[derive(Drop)]
+pub struct Port<M: Parcel + Drop, O: Drop> {
+    seat: TurnSeat<Exchange<M, O>>,
+    alloc: Global,
+    pub who: u32,
+    pub actors: u32,
+    pub limit: u64,
+    pub fetched: Option<u32>,
+    pub crashed: bool,
+    ghost number: { (known seat).who ≡ who },
+    ghost out: { (known seat).turn ≡ false },
+    ghost small: { limit ≤ 2 ^ 30 },
+    ghost own: { length (rows_by who (known seat).seen) ≡ length (known seat).made },
+}
+
+impl<M: Parcel + Drop, O: Drop> Port<M, O> {
+    ghost use Rattle.sc_exchange.specs.Ports.{seen, made, given, joined, SameExchange, Stays, Looked, Appended, ChangedBy, IsTrue, IsNew, MayPost};
+
+    /// The network's port to a new exchange, whose journal is empty. The actors have the numbers from 1 to `actors`, and the counted bytes never pass the limit.
+    pub fn start(alloc: Global, actors: u32, limit: u64) -> Result<Port<M, O>, OutOfMemory>
+        requires { limit ≤ 2 ^ 30 }
+        ensures { IfOk result (λ p. (seen p ≡ []) × (made p ≡ []) × (given p ≡ []) × (joined p ≡ []) × (p.who ≡ 0) × (p.actors ≡ actors) × (p.limit ≡ limit) × (p.fetched ≡ None) × (p.crashed ≡ false)) }
+    {
+        Ok(Port {
+            seat: TurnSeat::start(alloc, Exchange::new(alloc))?,
+            alloc,
+            who: 0,
+            actors,
+            limit,
+            fetched: None,
+            crashed: false,
+        })
+    }
+
+    /// A new port of the actor `who`, which has seen what the network's port has seen and has made nothing. Only the network's port splits off others, each number once.
+    pub fn split(&mut self, who: u32) -> Result<Port<M, O>, OutOfMemory>
+        requires net { self.old.who ≡ 0 }
+        requires number { (0 < who) × (who ≤ self.old.actors) }
+        requires fresh { ¬ Contains (given self.old) who }
+        ensures same { SameExchange self.old self.new × (self.new.who ≡ 0) × (seen self.new ≡ seen self.old) × (made self.new ≡ made self.old) × (joined self.new ≡ joined self.old) }
+        ensures ok { IfOk result (λ p. IsNew self.old p who × (p.fetched ≡ None) × (p.crashed ≡ false)) }
+        ensures given { OnOk result (given self.new ≡ given self.old ++ who ∷ []) }
+        ensures err { OnErr result (given self.new ≡ given self.old) }
+    {
+        let seat = self.seat.split(who)?;
+        Ok(Port {
+            seat,
+            alloc: self.alloc,
+            who,
+            actors: self.actors,
+            limit: self.limit,
+            fetched: None,
+            crashed: false,
+        })
+    }
+
+    /// The k-th pending mail of this port's actor, counted from 1, which stays pending. The network's port looks at the pending mail of all.
+    pub fn fetch<R: Wait>(&mut self, rt: &R, k: u32) -> Result<Fetched<M>, OutOfMemory>
+        requires { 0 < k }
+        ensures looked { Looked self.old self.new × IsTrue self.new × (self.new.crashed ≡ self.old.crashed) }
+        ensures found { IfOk result (λ found. IsFetch M.receiver self.old.actors (seen self.new) self.old.who k found × (self.new.fetched ≡ number_of found)) }
+    {
+        self.fetched = None;
+        let found = fetch_at(rt, self.alloc, &mut self.seat, self.actors, self.who, k)?;
+        self.fetched = number_of(&found);
+        Ok(found)
+    }
+
+    /// Appends a row of this port's actor, and answers its place, counted from 1. A delivery is of the mail of the last fetch.
+    /// A refused row is handed back, and the journal is unchanged.
+    pub fn post<R: Wait>(
+        &mut self,
+        rt: &R,
+        event: Event<O>,
+        sent: Sequence<M>,
+    ) -> Result<u32, Unposted<M, O>>
+        requires actor { self.old.who ≢ 0 }
+        requires event { MayPost self.old.fetched event }
+        requires runs { self.old.crashed ≡ false }
+        ensures stays { Stays self.old self.new }
+        ensures ok { IfOk result (λ place. Appended self.old self.new (record { who = self.old.who; event = event; sent = sent }) × (place ≡ length (seen self.new)) × (journal_bytes M.weighs (seen self.new) ≤ self.old.limit) × IsTrue self.new × (self.new.fetched ≡ None) × (self.new.crashed ≡ is_crash event)) }
+        ensures refused { IfErr result (λ e. Looked self.old self.new × IsTrue self.new × (e.event ≡ event) × (e.sent ≡ sent) × IsCause e.why (journal_bytes M.weighs (seen self.new)) (row_bytes M.weighs (record { who = self.old.who; event = event; sent = sent })) self.old.limit × (self.new.fetched ≡ self.old.fetched) × (self.new.crashed ≡ false)) }
+    {
+        let crashes = is_crash(&event);
+        let row = Row {
+            who: self.who,
+            event,
+            sent,
+        };
+        match post_at(rt, &mut self.seat, row, self.limit) {
+            Ok(place) => {
+                self.fetched = None;
+                self.crashed = crashes;
+                Ok(place)
+            }
+            Err(unkept) => Err(unposted(unkept)),
+        }
+    }
+
+    // A row of the network.
+    fn change<R: Wait>(&mut self, rt: &R, number: u32, lost: bool) -> Result<bool, Unposted<M, O>>
+        requires { self.old.who ≡ 0 }
+        ensures stays { Stays self.old self.new }
+        ensures kept { (self.new.fetched ≡ self.old.fetched) × (self.new.crashed ≡ self.old.crashed) }
+        ensures ok { IfOk result (λ done. IsTrue self.new × MatchBool done (ChangedBy M.receiver lost number self.old self.new × (journal_bytes M.weighs (seen self.new) ≤ self.old.limit)) (Looked self.old self.new × (may_change lost M.receiver self.old.actors (seen self.new) number ≡ false))) }
+        ensures refused { IfErr result (λ e. Looked self.old self.new × IsTrue self.new × (record { who = 0; event = e.event; sent = e.sent } ≡ change lost number) × IsCause e.why (journal_bytes M.weighs (seen self.new)) (row_bytes M.weighs (record { who = 0; event = e.event; sent = e.sent })) self.old.limit) }
+    {
+        match change_at(
+            rt,
+            self.alloc,
+            &mut self.seat,
+            self.actors,
+            self.limit,
+            number,
+            lost,
+        ) {
+            Ok(done) => Ok(done),
+            Err(unkept) => Err(unposted(unkept)),
+        }
+    }
+
+    /// Loses a pending copy of the mail with this number. False exactly where none is pending.
+    pub fn lose<R: Wait>(&mut self, rt: &R, number: u32) -> Result<bool, Unposted<M, O>>
+        requires { self.old.who ≡ 0 }
+        ensures stays { Stays self.old self.new }
+        ensures kept { (self.new.fetched ≡ self.old.fetched) × (self.new.crashed ≡ self.old.crashed) }
+        ensures ok { IfOk result (λ done. IsTrue self.new × MatchBool done (ChangedBy M.receiver true number self.old self.new × (journal_bytes M.weighs (seen self.new) ≤ self.old.limit)) (Looked self.old self.new × (is_pending M.receiver self.old.actors (seen self.new) number ≡ false))) }
+        ensures refused { IfErr result (λ e. Looked self.old self.new × IsTrue self.new × (record { who = 0; event = e.event; sent = e.sent } ≡ change true number) × IsCause e.why (journal_bytes M.weighs (seen self.new)) (row_bytes M.weighs (record { who = 0; event = e.event; sent = e.sent })) self.old.limit) }
+    {
+        self.change(rt, number, true)
+    }
+
+    /// Repeats the mail with this number, which has one more copy then. False exactly where it was not sent, or its receiver is the desk or has crashed.
+    pub fn again<R: Wait>(&mut self, rt: &R, number: u32) -> Result<bool, Unposted<M, O>>
+        requires { self.old.who ≡ 0 }
+        ensures stays { Stays self.old self.new }
+        ensures kept { (self.new.fetched ≡ self.old.fetched) × (self.new.crashed ≡ self.old.crashed) }
+        ensures ok { IfOk result (λ done. IsTrue self.new × MatchBool done (ChangedBy M.receiver false number self.old self.new × (journal_bytes M.weighs (seen self.new) ≤ self.old.limit)) (Looked self.old self.new × (may_repeat M.receiver self.old.actors (seen self.new) number ≡ false))) }
+        ensures refused { IfErr result (λ e. Looked self.old self.new × IsTrue self.new × (record { who = 0; event = e.event; sent = e.sent } ≡ change false number) × IsCause e.why (journal_bytes M.weighs (seen self.new)) (row_bytes M.weighs (record { who = 0; event = e.event; sent = e.sent })) self.old.limit) }
+    {
+        self.change(rt, number, false)
+    }
+
+    /// The number of the k-th pending mail of an actor, or of all where `who` is 0. None exactly where there are fewer.
+    pub fn pending<R: Wait>(&mut self, rt: &R, who: u32, k: u32) -> Option<u32>
+        requires { 0 < k }
+        ensures looked { Looked self.old self.new × IsTrue self.new × (self.new.fetched ≡ self.old.fetched) × (self.new.crashed ≡ self.old.crashed) }
+        ensures kth { result ≡ kth_pending M.receiver self.old.actors (seen self.new) who k }
+    {
+        kth_at(rt, &mut self.seat, self.actors, who, k)
+    }
+
+    /// Two ports of one exchange tell each other: afterwards what each has seen begins with what the two had seen before.
+    pub fn meet<R: Wait>(&mut self, rt: &R, other: &mut Port<M, O>) -> Result<(), OutOfMemory>
+        requires { SameExchange self.old other.old }
+        ensures mine { Looked self.old self.new × Begins (seen self.new) (seen other.old) × IsTrue self.new × (self.new.fetched ≡ self.old.fetched) × (self.new.crashed ≡ self.old.crashed) }
+        ensures theirs { Looked other.old other.new × Begins (seen other.new) (seen self.old) × IsTrue other.new × (other.new.fetched ≡ other.old.fetched) × (other.new.crashed ≡ other.old.crashed) }
+    {
+        self.seat.meet(rt, &mut other.seat)
+    }
+
+    /// The network's port takes in another port of the exchange, keeps the longer of what the two have seen, and knows what the other made.
+    pub fn join(&mut self, other: Port<M, O>)
+        requires net { self.old.who ≡ 0 }
+        requires one { SameExchange self.old other }
+        ensures same { SameExchange self.old self.new × (self.new.who ≡ 0) × (given self.new ≡ given self.old) × (made self.new ≡ made self.old) }
+        ensures joined { joined self.new ≡ joined self.old ++ (other.who, made other) ∷ [] }
+        ensures seen { seen self.new ≡ longer (seen self.old) (seen other) }
+        ensures later { Begins (seen self.new) (seen self.old) × Begins (seen self.new) (seen other) }
+        ensures others { (n : ℕ) → n ≢ 0 → ¬ Contains (given self.new) n → rows_of n (seen self.new) ≡ [] }
+    {
+        let Port {
+            seat,
+            alloc: _,
+            who: _,
+            actors: _,
+            limit: _,
+            fetched: _,
+            crashed: _,
+        } = other;
+        self.seat.join(seat);
+    }
+
+    /// The journal. Each port that was split off was joined.
+    pub fn close<R: Wait>(self, rt: &R) -> Journal<M, O>
+        requires net { self.who ≡ 0 }
+        requires all { (n : ℕ) → Contains (given self) n → Contains (map (λ k. k.0) (joined self)) n }
+        ensures later { Begins result (seen self) }
+        ensures own { rows_of 0 result ≡ made self }
+        ensures each { (k : _) → Contains (joined self) k → rows_of k.0 result ≡ k.1 }
+        ensures others { (n : ℕ) → n ≢ 0 → ¬ Contains (given self) n → rows_of n result ≡ [] }
+    {
+        let Port {
+            seat,
+            alloc: _,
+            who: _,
+            actors: _,
+            limit: _,
+            fetched: _,
+            crashed: _,
+        } = self;
+        closed(rt, seat)
+    }
+}
+
+fn is_crash<O>(event: &Event<O>) -> bool
+    ensures { result ≡ is_crash event.now }
+{
+    match event {
+        Event::Crash => true,
+        _ => false,
+    }
+}
+
+fn number_of<M>(found: &Fetched<M>) -> Option<u32>
+    ensures { result ≡ number_of found.now }
+{
+    match found {
+        Fetched::Mail { number, mail: _ } => Some(*number),
+        Fetched::Empty { seen: _ } => None,
+    }
+}
+
+fn unposted<M: Drop, O: Drop>(unkept: Unkept<M, O>) -> Unposted<M, O>
+    ensures { (result.why ≡ unkept.why) × (result.event ≡ unkept.row.event) × (result.sent ≡ unkept.row.sent) }
+{
+    let Unkept { why, row } = unkept;
+    let Row {
+        who: _,
+        event,
+        sent,
+    } = row;
+    Unposted { why, event, sent }
+}
+
+// Takes the turn for good.
+fn closed<M: Parcel + Drop, O: Drop, R: Wait>(
+    rt: &R,
+    seat: TurnSeat<Exchange<M, O>>,
+) -> Journal<M, O>
+    requires net { ((known seat).who ≡ 0) × ((known seat).turn ≡ false) }
+    requires all { AllJoined (known seat) }
+    ensures later { StartsWith (deeds result) (known seat).seen }
+    ensures facts { IsTrueOf (known seat) (deeds result) }
+{
+    let exchange = seat.close(rt);
+    Sequence::from_vec(exchange.ledger.rows)
+}

@@ -1,0 +1,223 @@
+//! What is done at one turn.
+ghost use Rattle.std.specs.Prelude.{◌≡◌, ◌<◌, ◌≤◌, ◌+◌, ◌^◌, ◌++◌, ◌∷◌, [], true, false, length, IfOk, IfErr, OnOk, MatchBool};
+ghost use Rattle.sc_turn.specs.Seats.{known, OfOneStart};
+ghost use Rattle.sc_turn.specs.Turn.{with_turn, with_row, rows_by};
+ghost use Rattle.sc_actor.specs.Counted.{row_bytes, journal_bytes};
+ghost use Rattle.sc_ledger.specs.Fault.{IsCause};
+ghost use Rattle.sc_ledger.specs.Pending.{kth_pending};
+ghost use Rattle.sc_exchange.specs.declared.deeds.Deed.{Deed};
+ghost use Rattle.sc_exchange.specs.Deeds.{deeds, rows_from};
+ghost use Rattle.sc_exchange.specs.Answers.{IsFetch};
+ghost use Rattle.sc_exchange.specs.Turns.{Turned, RowTurned, Changed, may_change, change};
+
+use crate::answers::Fetched;
+use crate::deeds::Exchange;
+use sc_actor::{Event, Parcel, Row};
+use sc_base::{OutOfMemory, Sequence};
+use sc_ledger::{Ledger, Unkept};
+use sc_turn::TurnSeat;
+use std::alloc::Global;
+use std::sync::Wait;
+
+// Leaves with the rows that were found.
+fn keep_same<M: Parcel + Drop, O: Drop>(
+    seat: &mut TurnSeat<Exchange<M, O>>,
+    exchange: Exchange<M, O>,
+)
+    requires turn { (known seat.old).turn ≡ true }
+    requires list { deeds exchange.ledger.rows.items ≡ (known seat.old).seen }
+    ensures start { OfOneStart seat.old seat.new }
+    ensures view { known seat.new ≡ with_turn (known seat.old) false }
+{
+    seat.leave(exchange);
+}
+
+// Leaves with one row more.
+fn keep_row<M: Parcel + Drop, O: Drop>(
+    seat: &mut TurnSeat<Exchange<M, O>>,
+    exchange: Exchange<M, O>,
+)
+    requires turn { (known seat.old).turn ≡ true }
+    requires list { (deed : Deed M O) × (deeds exchange.ledger.rows.items ≡ (known seat.old).seen ++ (deed, (known seat.old).who) ∷ []) }
+    ensures start { OfOneStart seat.old seat.new }
+    ensures view { (deed : Deed M O) → deeds exchange.ledger.rows.items ≡ (known seat.old).seen ++ (deed, (known seat.old).who) ∷ [] → known seat.new ≡ with_turn (with_row (known seat.old) deed) false }
+{
+    seat.leave(exchange);
+}
+
+/// The number of the k-th pending mail at this turn.
+pub(crate) fn kth_at<M: Parcel + Drop, O: Drop, R: Wait>(
+    rt: &R,
+    seat: &mut TurnSeat<Exchange<M, O>>,
+    actors: u32,
+    who: u32,
+    k: u32,
+) -> Option<u32>
+    requires turn { (known seat.old).turn ≡ false }
+    requires first { 0 < k }
+    ensures start { OfOneStart seat.old seat.new }
+    ensures turned { Turned (known seat.old) (known seat.new) }
+    ensures kth { result ≡ kth_pending M.receiver actors (rows_from (known seat.new).seen) who k }
+{
+    let exchange = seat.enter(rt);
+    let found = exchange.ledger.kth(actors, who, k);
+    keep_same(seat, exchange);
+    found
+}
+
+fn find<M: Parcel + Drop, O: Drop>(
+    ledger: &Ledger<M, O>,
+    alloc: Global,
+    actors: u32,
+    who: u32,
+    k: u32,
+) -> Result<Fetched<M>, OutOfMemory>
+    requires { 0 < k }
+    ensures { IfOk result (λ found. IsFetch M.receiver actors ledger.now.rows.items who k found) }
+{
+    let Some(number) = ledger.kth(actors, who, k) else {
+        let seen = ledger.len() as u32;
+        return Ok(Fetched::Empty { seen });
+    };
+    match ledger.mail(alloc, number)? {
+        Some(mail) => Ok(Fetched::Mail { number, mail }),
+        None => unreachable!(),
+    }
+}
+
+/// The k-th pending mail at this turn.
+pub(crate) fn fetch_at<M: Parcel + Drop, O: Drop, R: Wait>(
+    rt: &R,
+    alloc: Global,
+    seat: &mut TurnSeat<Exchange<M, O>>,
+    actors: u32,
+    who: u32,
+    k: u32,
+) -> Result<Fetched<M>, OutOfMemory>
+    requires turn { (known seat.old).turn ≡ false }
+    requires first { 0 < k }
+    ensures start { OfOneStart seat.old seat.new }
+    ensures turned { Turned (known seat.old) (known seat.new) }
+    ensures found { IfOk result (λ found. IsFetch M.receiver actors (rows_from (known seat.new).seen) who k found) }
+{
+    let exchange = seat.enter(rt);
+    let found = find(&exchange.ledger, alloc, actors, who, k);
+    keep_same(seat, exchange);
+    found
+}
+
+// Appends a row to what was found.
+fn append_row<M: Parcel + Drop, O: Drop>(
+    seat: &mut TurnSeat<Exchange<M, O>>,
+    found: Exchange<M, O>,
+    row: Row<M, O>,
+    limit: u64,
+) -> Result<u32, Unkept<M, O>>
+    requires turn { (known seat.old).turn ≡ true }
+    requires list { deeds found.ledger.rows.items ≡ (known seat.old).seen }
+    requires maker { row.who ≡ (known seat.old).who }
+    requires limit { limit ≤ 2 ^ 30 }
+    ensures start { OfOneStart seat.old seat.new }
+    ensures ok { IfOk result (λ place. (known seat.new ≡ with_turn (with_row (known seat.old) (record { event = row.event; sent = row.sent })) false) × (place ≡ length (found.ledger.rows.items ++ row ∷ []))) }
+    ensures fits { OnOk result (journal_bytes M.weighs found.ledger.rows.items + row_bytes M.weighs row ≤ limit) }
+    ensures refused { IfErr result (λ e. (known seat.new ≡ with_turn (known seat.old) false) × (e.row ≡ row) × IsCause e.why (journal_bytes M.weighs found.ledger.rows.items) (row_bytes M.weighs row) limit) }
+{
+    let mut exchange = found;
+    match exchange.ledger.append(row, limit) {
+        Ok(()) => {
+            let place = exchange.ledger.len() as u32;
+            keep_row(seat, exchange);
+            Ok(place)
+        }
+        Err(unkept) => {
+            keep_same(seat, exchange);
+            Err(unkept)
+        }
+    }
+}
+
+/// Appends a row of the seat's number.
+pub(crate) fn post_at<M: Parcel + Drop, O: Drop, R: Wait>(
+    rt: &R,
+    seat: &mut TurnSeat<Exchange<M, O>>,
+    row: Row<M, O>,
+    limit: u64,
+) -> Result<u32, Unkept<M, O>>
+    requires turn { (known seat.old).turn ≡ false }
+    requires maker { row.who ≡ (known seat.old).who }
+    requires limit { limit ≤ 2 ^ 30 }
+    ensures start { OfOneStart seat.old seat.new }
+    ensures own { length (rows_by (known seat.old).who (known seat.new).seen) ≡ length (known seat.new).made }
+    ensures kept { ((known seat.new).given ≡ (known seat.old).given) × ((known seat.new).joined ≡ (known seat.old).joined) }
+    ensures ok { IfOk result (λ place. RowTurned (known seat.old) (known seat.new) row × (place ≡ length (rows_from (known seat.new).seen)) × (journal_bytes M.weighs (rows_from (known seat.new).seen) ≤ limit)) }
+    ensures refused { IfErr result (λ e. Turned (known seat.old) (known seat.new) × (e.row ≡ row) × IsCause e.why (journal_bytes M.weighs (rows_from (known seat.new).seen)) (row_bytes M.weighs row) limit) }
+{
+    let exchange = seat.enter(rt);
+    append_row(seat, exchange, row, limit)
+}
+
+fn may_change_at<M: Parcel + Drop, O: Drop>(
+    ledger: &Ledger<M, O>,
+    actors: u32,
+    number: u32,
+    lost: bool,
+) -> bool
+    ensures { result ≡ may_change lost M.receiver actors ledger.now.rows.items number }
+{
+    if lost {
+        ledger.is_pending(actors, number)
+    } else {
+        ledger.may_repeat(actors, number)
+    }
+}
+
+fn change_of<M, O>(alloc: Global, number: u32, lost: bool) -> Row<M, O>
+    ensures { result ≡ change lost number }
+{
+    let sent = Sequence::new(alloc);
+    if lost {
+        let event = Event::Drop(number);
+        Row {
+            who: 0,
+            event,
+            sent,
+        }
+    } else {
+        let event = Event::Again(number);
+        Row {
+            who: 0,
+            event,
+            sent,
+        }
+    }
+}
+
+/// Loses a pending copy, or repeats a mail, where at this turn it may be done.
+pub(crate) fn change_at<M: Parcel + Drop, O: Drop, R: Wait>(
+    rt: &R,
+    alloc: Global,
+    seat: &mut TurnSeat<Exchange<M, O>>,
+    actors: u32,
+    limit: u64,
+    number: u32,
+    lost: bool,
+) -> Result<bool, Unkept<M, O>>
+    requires turn { (known seat.old).turn ≡ false }
+    requires net { (known seat.old).who ≡ 0 }
+    requires limit { limit ≤ 2 ^ 30 }
+    ensures start { OfOneStart seat.old seat.new }
+    ensures own { length (rows_by (known seat.old).who (known seat.new).seen) ≡ length (known seat.new).made }
+    ensures kept { ((known seat.new).given ≡ (known seat.old).given) × ((known seat.new).joined ≡ (known seat.old).joined) }
+    ensures ok { IfOk result (λ done. MatchBool done (Changed M.receiver actors lost number (known seat.old) (known seat.new) × (journal_bytes M.weighs (rows_from (known seat.new).seen) ≤ limit)) (Turned (known seat.old) (known seat.new) × (may_change lost M.receiver actors (rows_from (known seat.new).seen) number ≡ false))) }
+    ensures refused { IfErr result (λ e. Turned (known seat.old) (known seat.new) × (e.row ≡ change lost number) × IsCause e.why (journal_bytes M.weighs (rows_from (known seat.new).seen)) (row_bytes M.weighs e.row) limit) }
+{
+    let exchange = seat.enter(rt);
+    if !may_change_at(&exchange.ledger, actors, number, lost) {
+        keep_same(seat, exchange);
+        return Ok(false);
+    }
+    match append_row(seat, exchange, change_of(alloc, number, lost), limit) {
+        Ok(_) => Ok(true),
+        Err(unkept) => Err(unkept),
+    }
+}

@@ -1,0 +1,4 @@
+pub mod Numbers
+pub mod Kept
+pub mod Open
+pub mod Rows

@@ -1,0 +1,31 @@
+-- The mail at a place, row by row.
+use Rattle.std.proofs.Common.{◌≡◌, ℕ, zero, suc, ◌+◌, ◌-◌, ◌<◌, ◌≤◌, List, [], ◌∷◌, ◌++◌, length, drop, get_or, refl, sym, ap, ◌∙◌, arith, add-one}
+use Rattle.std.specs.Prelude.{slice_get}
+use Rattle.sc_actor.specs.declared.rows.Row.{Row}
+use Rattle.sc_actor.specs.Mail.{mails}
+
+module _ {A : Type 0} where
+  get_first : (xs ys : List A) (i : ℕ) → i < length xs → slice_get (xs ++ ys) i ≡ slice_get xs i
+  get_first [] ys i lt = absurd (omega arith)
+  get_first (x ∷ xs) ys zero lt = refl
+  get_first (x ∷ xs) ys (suc i) lt = get_first xs ys i (omega arith)
+
+  get_second : (xs ys : List A) (i : ℕ) → length xs ≤ i → slice_get (xs ++ ys) i ≡ slice_get ys (i - length xs)
+  get_second [] ys i le = let z : i - 0 ≡ i = omega arith in ap (slice_get ys) (sym z)
+  get_second (x ∷ xs) ys zero le = absurd (omega arith)
+  get_second (x ∷ xs) ys (suc i) le = let z : suc i - suc (length xs) ≡ i - length xs = omega arith in get_second xs ys i (omega arith) ∙ ap (slice_get ys) (sym z)
+
+  drop_at : (xs : List A) (i : ℕ) (x : A) → i < length xs → x ≡ get_or xs i x → drop i xs ≡ x ∷ drop (suc i) xs
+  drop_at [] i x lt is = absurd (omega arith)
+  drop_at (y ∷ xs) zero x lt is = ap (λ z. z ∷ xs) (sym is)
+  drop_at (y ∷ xs) (suc i) x lt is = drop_at xs i x (omega arith) is
+
+module _ {M O : Type 0} (rows : List (Row M O)) (i : ℕ) (row : Row M O) (lt : i < length rows) (is : row ≡ get_or rows i row) where
+  split : mails (drop i rows) ≡ row.sent ++ mails (drop (suc i) rows)
+  split = ap mails (drop_at rows i row lt is)
+
+  pub mail_here : (left : ℕ) → left < length row.sent → slice_get (mails (drop i rows)) left ≡ slice_get row.sent left
+  mail_here left inside = ap (λ l. slice_get l left) split ∙ get_first row.sent (mails (drop (suc i) rows)) left inside
+
+  pub mail_later : (left : ℕ) → length row.sent ≤ left → slice_get (mails (drop i rows)) left ≡ slice_get (mails (drop (i + 1) rows)) (left - length row.sent)
+  mail_later left past = rw add-one (ap (λ l. slice_get l left) split ∙ get_second row.sent (mails (drop (suc i) rows)) left past)

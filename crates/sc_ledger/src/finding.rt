@@ -1,0 +1,92 @@
+//! Looks for pending mail.
+ghost use Rattle.std.specs.Prelude.{◌≡◌, ◌<◌, ◌+◌, ◌-◌, ◌^◌, ◌==◌, length, nat_lt, IfOk, slice_get, slice_index, if◌then◌else◌};
+ghost use Rattle.std.specs.List.{list_any};
+ghost use Rattle.sc_actor.specs.Mail.{numbers, mails};
+ghost use Rattle.sc_actor.specs.System.{kth};
+ghost use Rattle.sc_ledger.specs.Kept.{runs, counts_for};
+
+use sc_actor::Row;
+use sc_base::{Dup, OutOfMemory};
+use std::alloc::Global;
+
+fn is_among(crashed: &[u32], who: u32) -> bool
+    ensures { result ≡ list_any (λ c. c == who) crashed.now }
+{
+    crashed.iter().any(|c| *c == who)
+}
+
+/// Whether this is the number of an actor that has not crashed.
+pub(crate) fn runs(actors: u32, crashed: &[u32], who: u32) -> bool
+    ensures { result ≡ runs actors crashed.now who }
+{
+    0 < who && who <= actors && !is_among(crashed, who)
+}
+
+/// Whether mail to this receiver counts for an actor, or for any where `who` is 0.
+pub(crate) fn counts_for(actors: u32, crashed: &[u32], who: u32, receiver: u32) -> bool
+    ensures { result ≡ counts_for actors crashed.now who receiver }
+{
+    (who == 0 || receiver == who) && runs(actors, crashed, receiver)
+}
+
+/// Whether there is a copy of the mail with this number.
+pub(crate) fn has_copy(counts: &[u32], number: u32) -> bool
+    ensures { result ≡ nat_lt 0 (slice_index counts.now (number - 1)) }
+{
+    let place = (number as usize).saturating_sub(1);
+    place < counts.len() && counts[place] > 0
+}
+
+// The copies that count. Whose they are is asked only where there are some.
+fn open_copies(actors: u32, crashed: &[u32], who: u32, receiver: u32, count: u32) -> u32
+    ensures { result ≡ (if counts_for actors crashed.now who receiver then count else 0) }
+{
+    if count > 0 && counts_for(actors, crashed, who, receiver) {
+        count
+    } else {
+        0
+    }
+}
+
+/// The number of the k-th pending mail, of an actor or of all where `who` is 0.
+pub(crate) fn kth_open(
+    receivers: &[u32],
+    counts: &[u32],
+    actors: u32,
+    crashed: &[u32],
+    who: u32,
+    k: u32,
+) -> Option<u32>
+    requires first { 0 < k }
+    requires few { length receivers.now < 2 ^ 32 - 1 }
+    ensures { result ≡ kth (numbers (counts_for actors crashed.now who) 1 receivers.now counts.now) k }
+{
+    let mut left = k;
+    let both = receivers.len().min(counts.len());
+    for i in 0..both {
+        let count = open_copies(actors, crashed, who, receivers[i], counts[i]);
+        if left <= count {
+            return Some(i as u32 + 1);
+        }
+        left -= count;
+    }
+    None
+}
+
+/// A copy of the mail at a place among all that was sent.
+pub(crate) fn mail_at<M: Dup, O>(
+    rows: &[Row<M, O>],
+    alloc: Global,
+    place: usize,
+) -> Result<Option<M>, OutOfMemory>
+    ensures { IfOk result (λ found. found ≡ slice_get (mails rows.now) place) }
+{
+    let mut left = place;
+    for row in rows {
+        if left < row.sent.len() {
+            return Ok(Some(row.sent.at(left).dup(alloc)?));
+        }
+        left -= row.sent.len();
+    }
+    Ok(None)
+}

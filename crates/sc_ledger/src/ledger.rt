@@ -1,0 +1,164 @@
+//! The ledger.
+ghost use Rattle.std.specs.Prelude.{◌≡◌, ◌<◌, ◌≤◌, ◌+◌, ◌^◌, ◌++◌, ◌∷◌, [], map, length, IfOk, OnOk, IfErr, IfSome, IsSome, vec_len, vec_capacity};
+ghost use Rattle.sc_actor.specs.Mail.{mails, copies, numbered};
+ghost use Rattle.sc_actor.specs.Counted.{row_bytes, journal_bytes};
+ghost use Rattle.sc_ledger.specs.Fault.{IsCause};
+ghost use Rattle.sc_ledger.specs.Kept.{crashed_in};
+ghost use Rattle.sc_ledger.specs.Pending.{kth_pending, is_pending, may_repeat};
+
+use crate::counting::{add_counts, add_crash, add_receivers, bytes_with, count_event};
+use crate::faults::{PostFault, Unkept};
+use crate::finding::{has_copy, kth_open, mail_at, runs};
+use sc_actor::{Parcel, Row};
+use sc_base::OutOfMemory;
+use std::alloc::Global;
+
+/// The rows of one exchange, with what is counted of them.
+/// The counted bytes are at most 2^30.
+#[derive(Drop)]
+pub struct Ledger<M: Parcel + Drop, O: Drop> {
+    pub rows: Vec<Row<M, O>>,
+    bytes: u64,
+    counts: Vec<u32>,
+    receivers: Vec<u32>,
+    crashed: Vec<u32>,
+    ghost small: { bytes ≤ 2 ^ 30 },
+    ghost counted: { bytes ≡ journal_bytes M.weighs rows.items },
+    ghost under_way: { counts.items ≡ copies rows.items },
+    ghost sent_to: { receivers.items ≡ map M.receiver (mails rows.items) },
+    ghost gone: { crashed.items ≡ crashed_in rows.items },
+}
+
+impl<M: Parcel + Drop, O: Drop> Ledger<M, O> {
+    /// The empty ledger. It takes no memory yet.
+    pub fn new(alloc: Global) -> Ledger<M, O>
+        ensures { result.rows.items ≡ [] }
+    {
+        Ledger {
+            rows: Vec::new(alloc),
+            bytes: 0,
+            counts: Vec::new(alloc),
+            receivers: Vec::new(alloc),
+            crashed: Vec::new(alloc),
+        }
+    }
+
+    /// How many rows there are.
+    pub fn len(&self) -> usize
+        ensures rows { result ≡ length self.now.rows.items }
+        ensures few { result ≤ 2 ^ 24 }
+    {
+        self.rows.len()
+    }
+
+    /// How many mails were sent.
+    pub fn sent(&self) -> usize
+        ensures { result ≡ length (mails self.now.rows.items) }
+    {
+        self.receivers.len()
+    }
+
+    /// The counted bytes.
+    pub fn bytes(&self) -> u64
+        ensures { result ≡ journal_bytes M.weighs self.now.rows.items }
+    {
+        self.bytes
+    }
+
+    /// The number of the k-th pending mail of an actor, or of all where `who` is 0. The actors have the numbers from 1 to `actors`, here and below.
+    pub fn kth(&self, actors: u32, who: u32, k: u32) -> Option<u32>
+        requires { 0 < k }
+        ensures kth { result ≡ kth_pending M.receiver actors self.now.rows.items who k }
+        ensures sent { IfSome result (λ number. IsSome (numbered (mails self.now.rows.items) number)) }
+    {
+        kth_open(
+            self.receivers.as_slice(),
+            self.counts.as_slice(),
+            actors,
+            self.crashed.as_slice(),
+            who,
+            k,
+        )
+    }
+
+    /// A copy of the mail with this number. None where it was not sent.
+    pub fn mail(&self, alloc: Global, number: u32) -> Result<Option<M>, OutOfMemory>
+        ensures { IfOk result (λ found. found ≡ numbered (mails self.now.rows.items) number) }
+    {
+        if number == 0 {
+            return Ok(None);
+        }
+        mail_at(self.rows.as_slice(), alloc, number as usize - 1)
+    }
+
+    /// Whether the mail with this number was sent to an actor that has not crashed.
+    pub fn may_repeat(&self, actors: u32, number: u32) -> bool
+        ensures { result ≡ may_repeat M.receiver actors self.now.rows.items number }
+    {
+        let number = number as usize;
+        if number == 0 || number > self.receivers.len() {
+            return false;
+        }
+        runs(actors, self.crashed.as_slice(), self.receivers[number - 1])
+    }
+
+    /// Whether a copy of the mail with this number is pending.
+    pub fn is_pending(&self, actors: u32, number: u32) -> bool
+        ensures { result ≡ is_pending M.receiver actors self.now.rows.items number }
+    {
+        self.may_repeat(actors, number) && has_copy(self.counts.as_slice(), number)
+    }
+
+    // Room for one row with so many mails. Nothing else changes.
+    fn make_room(&mut self, n: usize) -> Result<(), OutOfMemory>
+        requires { n < 2 ^ 40 }
+        ensures same { (self.new.rows.items ≡ self.old.rows.items) × (self.new.bytes ≡ self.old.bytes) }
+        ensures rows { OnOk result (vec_len self.new.rows + 1 ≤ vec_capacity self.new.rows) }
+        ensures counts { OnOk result (vec_len self.new.counts + n ≤ vec_capacity self.new.counts) }
+        ensures receivers { OnOk result (vec_len self.new.receivers + n ≤ vec_capacity self.new.receivers) }
+        ensures crashed { OnOk result (vec_len self.new.crashed + 1 ≤ vec_capacity self.new.crashed) }
+    {
+        self.rows.reserve(1)?;
+        self.counts.reserve(n)?;
+        self.receivers.reserve(n)?;
+        self.crashed.reserve(1)?;
+        Ok(())
+    }
+
+    // Appends a row for which there is room, after which the counted bytes are these.
+    fn keep(&mut self, row: Row<M, O>, bytes: u64)
+        requires bytes { (bytes ≡ journal_bytes M.weighs self.old.rows.items + row_bytes M.weighs row) × (bytes ≤ 2 ^ 30) }
+        requires rows { vec_len self.old.rows + 1 ≤ vec_capacity self.old.rows }
+        requires counts { vec_len self.old.counts + length row.sent ≤ vec_capacity self.old.counts }
+        requires receivers { vec_len self.old.receivers + length row.sent ≤ vec_capacity self.old.receivers }
+        requires crashed { vec_len self.old.crashed + 1 ≤ vec_capacity self.old.crashed }
+        ensures { self.new.rows.items ≡ self.old.rows.items ++ row ∷ [] }
+    {
+        count_event(&mut self.counts, &row.event);
+        add_counts(&mut self.counts, row.sent.len());
+        add_receivers(&mut self.receivers, row.sent.as_slice());
+        add_crash(&mut self.crashed, row.who, &row.event);
+        self.bytes = bytes;
+        self.rows.push_reserved(row);
+    }
+
+    /// Appends a row, unless with it the counted bytes pass the limit. A row that is not kept is handed back, and the ledger is unchanged.
+    pub fn append(&mut self, row: Row<M, O>, limit: u64) -> Result<(), Unkept<M, O>>
+        requires { limit ≤ 2 ^ 30 }
+        ensures ok { OnOk result (self.new.rows.items ≡ self.old.rows.items ++ row ∷ []) }
+        ensures fits { OnOk result (journal_bytes M.weighs self.old.rows.items + row_bytes M.weighs row ≤ limit) }
+        ensures refused { IfErr result (λ e. (e.row ≡ row) × (self.new.rows.items ≡ self.old.rows.items) × IsCause e.why (journal_bytes M.weighs self.old.rows.items) (row_bytes M.weighs row) limit) }
+    {
+        let bytes = bytes_with(row.sent.as_slice(), self.bytes);
+        if bytes > limit {
+            let why = PostFault::JournalFull { bytes: self.bytes };
+            return Err(Unkept { why, row });
+        }
+        if self.make_room(row.sent.len()).is_err() {
+            let why = PostFault::OutOfMemory;
+            return Err(Unkept { why, row });
+        }
+        self.keep(row, bytes);
+        Ok(())
+    }
+}

@@ -1,0 +1,105 @@
+//! One ledger, row by row.
+ghost use Rattle.std.specs.Prelude.{◌≡◌, min, ◌^◌, ◌-◌};
+
+use crate::faults::PostFault;
+use crate::ledger::Ledger;
+use sc_actor::{Event, Parcel, Row};
+use sc_base::{Dup, OutOfMemory, Sequence};
+use std::alloc::Global;
+use std::test::Fail;
+
+#[derive(Debug, PartialEq, Eq, Drop)]
+struct Note {
+    to: u32,
+    size: u64,
+}
+
+impl Dup for Note {
+    fn dup(&self, _alloc: Global) -> Result<Note, OutOfMemory> {
+        Ok(Note {
+            to: self.to,
+            size: self.size,
+        })
+    }
+}
+
+impl Parcel for Note {
+    ghost receiver = { λ note. note.to };
+
+    ghost weighs = { λ note. note.size };
+
+    fn to(&self) -> u32 {
+        self.to
+    }
+
+    fn weight(&self) -> u64 {
+        self.size
+    }
+}
+
+// A row with one mail to each of these receivers.
+fn row(
+    alloc: Global,
+    who: u32,
+    event: Event<u32>,
+    receivers: &[u32],
+    size: u64,
+) -> Result<Row<Note, u32>, OutOfMemory> {
+    let mut sent = Sequence::new(alloc);
+    for to in receivers {
+        sent.push(Note { to: *to, size })?;
+    }
+    Ok(Row { who, event, sent })
+}
+
+#[test]
+fn mail_is_pending_by_its_number(rt: HostRuntime) -> Result<(), Fail> {
+    let mut ledger: Ledger<Note, u32> = Ledger::new(rt.alloc());
+    let steps = [
+        (2u32, Event::Go, 3usize, [Some(1u32), Some(2), Some(3)]),
+        (1, Event::Deliver(2), 0, [Some(1), Some(3), None]),
+        (0, Event::Again(2), 0, [Some(1), Some(2), Some(3)]),
+        (0, Event::Again(1), 0, [Some(1), Some(1), Some(2)]),
+        (0, Event::Drop(1), 0, [Some(1), Some(2), Some(3)]),
+        (1, Event::Crash, 0, [None, None, None]),
+        (0, Event::Again(3), 0, [None, None, None]),
+    ];
+    let all = [1u32, 1, 1];
+    for (who, event, mails, pending) in steps {
+        let row = row(
+            rt.alloc(),
+            who,
+            event,
+            all.as_slice().get(..mails).unwrap_or(&[]),
+            0,
+        )?;
+        assert!(rt; ledger.append(row, 10_000).is_ok());
+        let found = [
+            ledger.kth(2, 1, 1),
+            ledger.kth(2, 1, 2),
+            ledger.kth(2, 1, 3),
+        ];
+        assert_eq!(rt; found, pending);
+    }
+    assert!(rt; !ledger.may_repeat(2, 1));
+    assert_eq!(rt; ledger.bytes(), 7 * 64 + 3 * 256);
+    Ok(())
+}
+
+#[test]
+fn limit_is_met_and_passed(rt: HostRuntime) -> Result<(), Fail> {
+    let mut ledger: Ledger<Note, u32> = Ledger::new(rt.alloc());
+    let desk = row(rt.alloc(), 1, Event::Go, &[0], 5)?;
+    assert!(rt; ledger.append(desk, 325).is_ok());
+    assert_eq!(rt; ledger.kth(2, 0, 1), None);
+    assert_eq!(rt; ledger.sent(), 1);
+    let more = row(rt.alloc(), 1, Event::Tick, &[], 0)?;
+    match ledger.append(more, 388) {
+        Ok(()) => assert!(rt; false),
+        Err(unkept) => assert_eq!(rt; unkept.why, PostFault::JournalFull { bytes: 325 }),
+    }
+    let large = row(rt.alloc(), 1, Event::Tick, &[2, 2], u64::MAX)?;
+    assert!(rt; ledger.append(large, 1 << 30).is_err());
+    assert_eq!(rt; ledger.len(), 1);
+    Ok(())
+}
