@@ -1,5 +1,8 @@
 use super::*;
+use sc_actor::{Parcel, Row};
+use sc_cmd::OrderLine;
 use sc_edges::{MemSink, MemSource};
+use sc_mail::Mail;
 use std::alloc::Global;
 use std::process::Abort;
 use std::test::Fail;
@@ -123,5 +126,33 @@ fn no_words_are_refused(rt: HostRuntime) -> Result<(), Fail> {
     let done = run(alloc, &words, &mut input, &mut output);
     assert_eq!(rt; done.status, 2);
     assert_eq!(rt; output.held(), USAGE);
+    Ok(())
+}
+
+// What a row counts: 64, and for each mail 256 and its weight.
+fn row_bytes(row: &Row<Mail, OrderLine>) -> u64 {
+    let mut total = 64u64;
+    for mail in row.sent.as_slice() {
+        total = total.saturating_add(256).saturating_add(mail.weight());
+    }
+    total
+}
+
+#[test]
+fn rows_count_what_their_mails_weigh(rt: HostRuntime) -> Result<(), Fail> {
+    let alloc = rt.alloc();
+    let words = words_of(alloc, "run")?;
+    let mut input = MemSource::new(alloc, FIRST, &[])?;
+    let mut output = MemSink::new(alloc, 1000, &[])?;
+    let done = run(alloc, &words, &mut input, &mut output);
+    let Some(journal) = done.journal else {
+        return Err(Fail::from("no journal"));
+    };
+    let mut counted = Vec::new(alloc);
+    for row in journal.as_slice() {
+        counted.push(row_bytes(row))?;
+    }
+    let expected = [322u64, 322, 320, 320, 321, 321, 320, 321, 64];
+    assert_eq!(rt; counted.as_slice(), expected.as_slice());
     Ok(())
 }
