@@ -1,0 +1,56 @@
+-- A journal: a client puts a value at a key and gets it, and the one member of a group leads.
+use Rattle.std.specs.Prelude.{ℕ, List, [], ◌∷◌, Some, None}
+use Rattle.std.proofs.Common.{lit≤}
+use Rattle.sc_base.specs.declared.names.Ballot.{Ballot}
+use Rattle.sc_base.specs.declared.ops.Op.{Op}
+use Rattle.sc_base.specs.declared.ops.Op.TheVariants.{Get, Put}
+use Rattle.sc_cmd.specs.declared.commands.Command.TheVariants.{Call}
+use Rattle.sc_cmd.specs.declared.orders.OrderLine.{OrderLine}
+use Rattle.sc_mail.specs.declared.bodies.AnswerBody.TheVariants.{Value}
+use Rattle.sc_mail.specs.declared.bodies.Mail.{Mail}
+use Rattle.sc_mail.specs.declared.bodies.MailBody.{MailBody}
+use Rattle.sc_mail.specs.declared.bodies.MailBody.TheVariants.{Request, Answer, Accept, Accepted}
+use Rattle.sc_actor.specs.declared.rows.Row.{Row}
+use Rattle.sc_actor.specs.declared.rows.Event.{Event}
+use Rattle.sc_actor.specs.declared.rows.Event.TheVariants.{Deliver, Go}
+use Rattle.sc_ideal.specs.declared.Entry.{Entry}
+use Rattle.sc_scenario.specs.Early.{lone_name}
+use Rattle.sc_sound.specs.Logs.{Ahead}
+
+-- four slots are open
+abbrev pub four : Ahead
+four = record { slots = 4; some = lit≤ tt }
+
+abbrev pub put_it : Op
+put_it = Put (97 ∷ []) (120 ∷ [])
+
+abbrev pub get_it : Op
+get_it = Get (97 ∷ [])
+
+abbrev pub ballot : Ballot
+ballot = record { round = 1; node = 1 }
+
+abbrev pub mail : ℕ → ℕ → MailBody → List Mail
+mail from to body = record { from = from; to = to; body = body } ∷ []
+
+abbrev pub row : ℕ → Event OrderLine → List Mail → Row Mail OrderLine
+row who event sent = record { who = who; event = event; sent = sent }
+
+-- the rows: each request is offered, accepted and answered
+abbrev pub example : List (Row Mail OrderLine)
+example =
+    row 33 Go (mail 33 1 (Request lone_name 1 1 put_it))
+    ∷ row 1 (Deliver 1) (mail 1 1 (Accept lone_name ballot 1 (Call 1 1 put_it)))
+    ∷ row 1 (Deliver 2) (mail 1 1 (Accepted lone_name ballot 1))
+    ∷ row 1 (Deliver 3) (mail 1 33 (Answer lone_name 1 (Value (record { old = None }))))
+    ∷ row 33 (Deliver 4) (mail 33 1 (Request lone_name 1 2 get_it))
+    ∷ row 1 (Deliver 5) (mail 1 1 (Accept lone_name ballot 2 (Call 1 2 get_it)))
+    ∷ row 1 (Deliver 6) (mail 1 1 (Accepted lone_name ballot 2))
+    ∷ row 1 (Deliver 7) (mail 1 33 (Answer lone_name 2 (Value (record { old = Some (120 ∷ []) }))))
+    ∷ row 33 (Deliver 8) [] ∷ []
+
+-- its history
+abbrev pub example_history : List Entry
+example_history =
+    (record { client = 1; seq = 1; op = put_it; reply = record { old = None } })
+    ∷ (record { client = 1; seq = 2; op = get_it; reply = record { old = Some (120 ∷ []) } }) ∷ []

@@ -1,0 +1,43 @@
+-- The decided log of a group in a journal, and the group's state after it.
+use Rattle.std.specs.Prelude.{ℕ, ◌≤◌, List, [], ◌∷◌, fold}
+use Rattle.sc_cmd.specs.declared.commands.Command.{Command}
+use Rattle.sc_cmd.specs.declared.cores.Base.{Base}
+use Rattle.sc_cmd.specs.declared.effects.Effect.{Effect}
+use Rattle.sc_cmd.specs.declared.orders.OrderLine.{OrderLine}
+use Rattle.sc_mail.specs.declared.bodies.Mail.{Mail}
+use Rattle.sc_actor.specs.declared.rows.Row.{Row}
+use Rattle.sc_machine_table.specs.Group.{Group, group_of}
+use Rattle.sc_machine_table.specs.Machine.{applied}
+use Rattle.sc_paxos_law.specs.Chosen.{Rule, IsChosenAfter}
+use Rattle.sc_paxos_law.specs.Decided.{log_of}
+use Rattle.sc_sound.specs.Accepts.{accepts}
+
+-- how many slots are open at a time: at least one
+pub record Ahead : Type 0 where
+  pub slots : ℕ
+  pub some : 1 ≤ slots
+
+-- a group after some entries
+abbrev pub state_after : Group → List Command → Group
+state_after = fold (λ group command. (applied group command).0)
+
+-- the effect of each entry
+abbrev pub effects_of : Group → List Command → List Effect
+effects_of group [] = []
+effects_of group (command ∷ commands) = (applied group command).1 ∷ effects_of (applied group command).0 commands
+
+-- the members of a slot are those in the state after the entries up to so many slots before it (Paxos Made Simple, section 3)
+abbrev pub rule_of : Ahead → Base → Rule Command
+rule_of ahead base = record { ahead = ahead.slots; some = ahead.some; members = λ entries. (state_after (group_of base) entries).core.members }
+
+-- a command is chosen at a slot, whose members come from these entries: a majority of them accepted it in one ballot
+abbrev pub IsChosenIn : Ahead → Base → List (Row Mail OrderLine) → List Command → ℕ → Command → Type 0
+IsChosenIn ahead base rows log slot command = IsChosenAfter (rule_of ahead base) (accepts base.core.id rows) log slot command
+
+-- the decided log of a group in a journal: the longest list whose entry k is chosen at slot k
+abbrev pub decided_log : Ahead → Base → List (Row Mail OrderLine) → List Command
+decided_log ahead base rows = log_of (rule_of ahead base) (accepts base.core.id rows)
+
+-- the group's state by its decided log
+abbrev pub decided_state : Ahead → Base → List (Row Mail OrderLine) → Group
+decided_state ahead base rows = state_after (group_of base) (decided_log ahead base rows)

@@ -1,0 +1,66 @@
+-- Requests of a scenario in a journal: where they are issued and answered, and the reply that is kept.
+use Rattle.std.specs.Prelude.{◌≡◌, ℕ, ◌+◌, ◌-◌, ◌≤◌, nat_le, Bool, false, ◌==◌, ◌&&◌, List, [], ◌∷◌, ◌++◌, length, if◌then◌else◌, Option, Some, None, slice_get}
+use Rattle.std.specs.List.{list_any}
+use Rattle.sc_base.specs.declared.ops.Reply.{Reply}
+use Rattle.sc_cmd.specs.declared.links.Route.{Route}
+use Rattle.sc_cmd.specs.declared.orders.OrderLine.{OrderLine}
+use Rattle.sc_mail.specs.declared.bodies.Mail.{Mail}
+use Rattle.sc_mail.specs.declared.bodies.MailBody.{MailBody}
+use Rattle.sc_mail.specs.declared.bodies.MailBody.TheVariants.{Request}
+use Rattle.sc_actor.specs.declared.rows.Row.{Row}
+use Rattle.sc_actor.specs.Replay.{value}
+use Rattle.sc_ideal.specs.declared.Entry.{Entry}
+use Rattle.sc_paxos_words.specs.Among.{Among}
+use Rattle.sc_scenario.specs.declared.scenarios.Asks.{Asks}
+use Rattle.sc_scenario.specs.declared.scenarios.Scenario.{Scenario}
+use Rattle.sc_world.specs.World.{party_table, client_actor, client_seat}
+use Rattle.sc_world.specs.declared.party.Party.{Party}
+use Rattle.sc_world.specs.declared.party.Party.TheVariants.{Node, Client}
+
+-- an entry is a request of a client with its own operation; requests are numbered from 1
+pub record IsAsked (asks : Asks) (entry : Entry) : Type 0 where
+  pub client : entry.client ≡ asks.client
+  pub first : 1 ≤ entry.seq
+  pub op : slice_get asks.ops (entry.seq - 1) ≡ Some entry.op
+
+-- an entry is a request of some client of the scenario
+abbrev pub IsRequest : Scenario → Entry → Type 0
+IsRequest scenario entry = (asks : Asks) × Among asks scenario.clients × IsAsked asks entry
+
+abbrev pub asks_for : ℕ → ℕ → MailBody → Bool
+asks_for client seq (Request group who number op) = who == client && number == seq
+asks_for client seq _ = false
+
+-- whether a row of a client sends its request with a number
+abbrev pub issues : ℕ → ℕ → Row Mail OrderLine → Bool
+issues client seq row = row.who == client_actor client && list_any (λ mail. asks_for client seq mail.body) row.sent
+
+-- the first row, from 1, that sends the request, after so many rows
+abbrev pub issued_from : ℕ → ℕ → ℕ → List (Row Mail OrderLine) → Option ℕ
+issued_from client seq before [] = None
+issued_from client seq before (row ∷ rows) = if issues client seq row then Some (before + 1) else issued_from client seq (before + 1) rows
+
+abbrev pub issue_row : ℕ → ℕ → List (Row Mail OrderLine) → Option ℕ
+issue_row client seq rows = issued_from client seq 0 rows
+
+abbrev pub replies_of : Party → List Reply
+replies_of (Node node) = []
+replies_of (Client client) = client.replies
+
+-- the replies that a client took, in order of its requests
+abbrev pub kept_replies : Route → Asks → List (Row Mail OrderLine) → List Reply
+kept_replies first asks rows = replies_of (value party_table (client_seat first asks) rows)
+
+-- the reply that a client kept of its request with a number, if it has one
+abbrev pub kept_reply : Route → Asks → ℕ → List (Row Mail OrderLine) → Option Reply
+kept_reply first asks seq rows = if seq == 0 then None else slice_get (kept_replies first asks rows) (seq - 1)
+
+-- the row, from 1, in which a client takes a reply to its request with a number, if it does
+abbrev pub answered_from : Route → Asks → ℕ → List (Row Mail OrderLine) → List (Row Mail OrderLine) → Option ℕ
+answered_from first asks seq before [] = None
+answered_from first asks seq before (row ∷ rows) =
+    if nat_le seq (length (kept_replies first asks (before ++ row ∷ []))) then Some (length before + 1)
+    else answered_from first asks seq (before ++ row ∷ []) rows
+
+abbrev pub answer_row : Route → Asks → ℕ → List (Row Mail OrderLine) → Option ℕ
+answer_row first asks seq rows = answered_from first asks seq [] rows
