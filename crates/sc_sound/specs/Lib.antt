@@ -1,5 +1,6 @@
 pub mod Accepts
 pub mod Example
 pub mod Histories
+pub mod Laws
 pub mod Logs
 pub mod Requests

@@ -7,7 +7,10 @@ ghost use Rattle.sc_scenario.specs.Early.{lone_group};
 ghost use Rattle.sc_sound.specs.Logs.{decided_log};
 ghost use Rattle.sc_sound.specs.Histories.{history, decided_row};
 ghost use Rattle.sc_sound.specs.Requests.{issue_row};
+ghost use Rattle.sc_sound.specs.Laws.{JournalsAreSound};
 ghost use Rattle.sc_sound.specs.Example.{four, example, example_history, put_it, get_it};
+
+use sc_scenario::texts_are_early;
 
 /// The definitions on a small journal: the log and the history of a put and a get, the rows that
 /// decide them and the rows that issue them.
@@ -19,3 +22,11 @@ pub fn a_journal_and_its_history()
     ensures issued { issue_row 1 2 example ≡ Some 5 }
     ensures history { history four (lone_group ∷ []) example ≡ example_history }
 {}
+
+/// Each first part of a lawful journal tells one legal history of the scenario's requests, whose map
+/// is the group's pairs, and each kept reply is that of its entry.
+pub fn journals_are_sound()
+    ensures { JournalsAreSound }
+{
+    texts_are_early();
+}
