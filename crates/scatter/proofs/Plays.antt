@@ -11,12 +11,13 @@ use Rattle.sc_play.specs.Deeds.{is_built}
 use Rattle.sc_play.specs.Moves.{IsFull}
 use Rattle.sc_play.specs.Outcome.{HasEnded}
 use Rattle.sc_scenario.specs.Early.{early_scenario}
-use Rattle.sc_scenario.specs.Valid.{IsEarly}
+use Rattle.sc_scenario.specs.Valid.{IsEarly, IsValid}
 use Rattle.sc_scenario.specs.declared.scenarios.Scenario.{Scenario}
 use Rattle.sc_report.specs.Report.{report_lines}
-use Rattle.sc_world.specs.World.{party_table, receiver_of, births, schedule, system_of, AreFew}
+use Rattle.sc_world.specs.World.{party_table, receiver_of, births, schedule, system_of, AreFew, Lawful}
 use Rattle.sc_world.specs.Summary.{summary_of}
 use Rattle.sc_world.specs.declared.party.Party.{Party}
+use Rattle.sc_sound.specs.Laws.{JournalsAreSound}
 use Rattle.scatter.specs.declared.done.Text.{Text}
 use Rattle.scatter.specs.Played.{mail_weight, HasEnded as Ends}
 use Rattle.scatter.specs.Run.{Plays, ReportsAs, said_of}
@@ -41,13 +42,13 @@ pub few : (scenario : Scenario) → IsEarly scenario → AreFew scenario
 few scenario early = subst AreFew (sym early.is) (few-one early.ops early.most early.few)
 
 module _ (scenario : Scenario) (limit : ℕ) (seats : List (Seat Party)) (lines : List (Line OrderLine)) (seats_are : seats ≡ births scenario) (lines_are : lines ≡ schedule scenario) where
-  pub ends : (cut quiet : Bool) (skips : ℕ) (journal : List (Row Mail OrderLine)) (left : List (Seat Party)) (parties : List Party) →
+  pub ends : JournalsAreSound → IsValid scenario → (cut quiet : Bool) (skips : ℕ) (journal : List (Row Mail OrderLine)) (left : List (Seat Party)) (parties : List Party) →
       parties ≡ map (λ seat. seat.actor) left → HasEnded (system party_table receiver_of no_words seats) mail_weight lines limit cut quiet skips journal left → Ends scenario limit cut quiet skips journal parties
-  ends cut quiet skips journal left parties are h =
+  ends law valid cut quiet skips journal left parties are h =
       let P : List (Seat Party) → Type 0 = λ s. HasEnded (system party_table receiver_of no_words s) mail_weight lines limit cut quiet skips journal left in
       let Q : List (Line OrderLine) → Type 0 = λ l. HasEnded (system_of scenario) mail_weight l limit cut quiet skips journal left in
       let e : HasEnded (system_of scenario) mail_weight (schedule scenario) limit cut quiet skips journal left = subst Q lines_are (subst P seats_are h) in
-      record { lawful = e.lawful; whole = e.whole; within = e.within; cut_is = e.cut_is; quiet_is = e.quiet_now; skips_are = e.skips_are; parties_are = are ∙ ap (map (λ seat. seat.actor)) e.actors }
+      record { lawful = e.lawful; whole = e.whole; sound = λ rows more is ahead. law scenario valid rows more (subst (Lawful scenario) is e.lawful) ahead; within = e.within; cut_is = e.cut_is; quiet_is = e.quiet_now; skips_are = e.skips_are; parties_are = are ∙ ap (map (λ seat. seat.actor)) e.actors }
 
   pub fills : (journal : List (Row Mail OrderLine)) → IsFull (system party_table receiver_of no_words seats) mail_weight lines limit journal → IsFull (system_of scenario) mail_weight (schedule scenario) limit journal
   fills journal h =
@@ -59,7 +60,7 @@ plays : (scenario : Scenario) (limit : ℕ) (cut quiet : Bool) (skips : ℕ) (jo
     Ends scenario limit cut quiet skips journal parties → text.lines ≡ report_lines (summary_of scenario journal) → text.journal ≡ Some journal → text.parties ≡ parties → Plays scenario cut text
 plays scenario limit cut quiet skips journal parties text e lines journal_is parties_is = record {
   journal = journal;
-  reports = record { lawful = e.lawful; whole = e.whole; lines = lines; journal_is = journal_is; parties_are = parties_is ∙ e.parties_are };
+  reports = record { lawful = e.lawful; whole = e.whole; sound = e.sound; lines = lines; journal_is = journal_is; parties_are = parties_is ∙ e.parties_are };
   cut_is = sym e.cut_is;
 }
 

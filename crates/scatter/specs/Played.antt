@@ -10,16 +10,18 @@ use Rattle.sc_play.specs.Moves.{IsFull}
 use Rattle.sc_scenario.specs.declared.scenarios.Scenario.{Scenario}
 use Rattle.sc_world.specs.World.{system_of, schedule, Lawful, Whole, parties}
 use Rattle.sc_world.specs.declared.party.Party.{Party}
+use Rattle.scatter.specs.Sound.{IsSoundThroughout}
 use Rattle.scatter.specs.declared.played.Played.{Played}
 use Rattle.scatter.specs.declared.played.Played.TheVariants.{Ended, Full, OutOfMemory}
 
 abbrev pub mail_weight : Mail → ℕ
 mail_weight mail = body_weight mail.body
 
--- The journal is lawful and whole and within the limit, the counts are the walk's, and each party is its replay.
+-- The journal is lawful and whole and within the limit, each first part of it tells one legal history, the counts are the walk's, and each party is its replay.
 pub record HasEnded (scenario : Scenario) (limit : ℕ) (cut quiet : Bool) (skips : ℕ) (journal : List (Row Mail OrderLine)) (left : List Party) : Type 0 where
   pub lawful : Lawful scenario journal
   pub whole : Whole scenario journal
+  pub sound : IsSoundThroughout scenario journal
   pub within : journal_bytes mail_weight journal ≤ limit
   pub cut_is : cut ≡ unsettled (system_of scenario) (schedule scenario) journal
   pub quiet_is : quiet ≡ is_quiet (system_of scenario) journal

@@ -13,6 +13,7 @@ use Rattle.sc_scenario.specs.declared.scenarios.Scenario.{Scenario}
 use Rattle.sc_report.specs.Report.{report_lines}
 use Rattle.sc_world.specs.World.{system_of, schedule, Lawful, Whole, parties}
 use Rattle.sc_world.specs.Summary.{summary_of}
+use Rattle.scatter.specs.Sound.{IsSoundThroughout}
 use Rattle.scatter.specs.declared.done.Text.{Text}
 use Rattle.scatter.specs.declared.done.Done.{Done}
 use Rattle.scatter.specs.declared.done.Said.{Said}
@@ -35,10 +36,11 @@ pub record Tells (message : List ℕ) (text : Text) : Type 0 where
   pub journal : text.journal ≡ None
   pub parties : text.parties ≡ []
 
--- The text is the report of a scenario and a journal of it that is lawful and whole, and the parties are the replays of their rows.
+-- The text is the report of a scenario and a journal of it that is lawful and whole, of which each first part tells one legal history, and the parties are the replays of their rows.
 pub record Reports (scenario : Scenario) (journal : List (Row Mail OrderLine)) (text : Text) : Type 0 where
   pub lawful : Lawful scenario journal
   pub whole : Whole scenario journal
+  pub sound : IsSoundThroughout scenario journal
   pub lines : text.lines ≡ report_lines (summary_of scenario journal)
   pub journal_is : text.journal ≡ Some journal
   pub parties_are : text.parties ≡ parties scenario journal

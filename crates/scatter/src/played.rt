@@ -13,6 +13,7 @@ use sc_cmd::OrderLine;
 use sc_mail::Mail;
 use sc_report::lines;
 use sc_scenario::{Scenario, texts_are_early};
+use sc_sound::journals_are_sound;
 use sc_world::{Party, births, schedule};
 use std::alloc::Global;
 
@@ -53,6 +54,7 @@ fn play_out(alloc: Global, scenario: &Scenario, limit: u64) -> Result<Played, Ou
     ensures { IfOk result (λ played. IsPlayed scenario.now limit played) }
 {
     texts_are_early();
+    journals_are_sound();
     let seats = births(alloc, scenario)?;
     let lines = schedule(alloc, scenario)?;
     match sc_play::play(alloc, seats, lines.as_slice(), limit)? {

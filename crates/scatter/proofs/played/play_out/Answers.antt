@@ -16,7 +16,7 @@ play-requires-clause-built c = λ _.
 pub returns-in-Ended : goal.returns-in-Ended
 returns-in-Ended c =
     ends c.args.scenario.now c.args.limit c.in_ok-seats.seats.items c.as_slice.result.now c.in_ok-seats.ensures (c.as_slice.ensures.value ∙ c.in_ok-lines.ensures)
-    c.in-Ended.unsettled c.in-Ended.quiet c.in-Ended.skipped c.in-Ended.journal c.in-Ended.seats.items c.in_ok-parties-in-Ended.parties c.in_ok-parties-in-Ended.ensures
+    c.journals_are_sound.ensures c.requires.valid c.in-Ended.unsettled c.in-Ended.quiet c.in-Ended.skipped c.in-Ended.journal c.in-Ended.seats.items c.in_ok-parties-in-Ended.parties c.in_ok-parties-in-Ended.ensures
     (subst (IsPlayed (system party_table receiver_of no_words c.in_ok-seats.seats.items) mail_weight c.as_slice.result.now c.args.limit) c.in-Ended.is (c.in_ok-unsettled.ensures no_words))
 
 pub returns : goal.returns
