@@ -15,7 +15,7 @@ use Rattle.sc_scenario.specs.Early.{lone_group}
 use Rattle.sc_sound.specs.Histories.{history, entry_of}
 use Rattle.sc_sound.specs.Example.{four, example, example_history, put_it, get_it}
 
-abbrev born : Group
+abbrev pub born : Group
 born = group_of lone_group
 
 -- the entries by what comes of the put, and of the get after it
@@ -25,16 +25,16 @@ by_put x = ((entry_of (Call 1 1 put_it) x.1 ++ []) ++ []) ++ (((entry_of (Call 1
 abbrev by_get : Group × Effect → List Entry
 by_get y = ((entry_of (Call 1 1 put_it) (done born 1 1 put_it).1 ++ []) ++ []) ++ (((entry_of (Call 1 2 get_it) y.1 ++ []) ++ []) ++ [])
 
-put : applied born (Call 1 1 put_it) ≡ done born 1 1 put_it
+pub put : applied born (Call 1 1 put_it) ≡ done born 1 1 put_it
 put = ap (λ (o : Option Noted). numbered o born 1 1 put_it) (get-empty nat_cmp 1)
 
-abbrev next : Group
+abbrev pub next : Group
 next = (done born 1 1 put_it).0
 
 abbrev note : Noted
 note = record { seq = 1; reply = reply_of put_it born.pairs }
 
-got : applied next (Call 1 2 get_it) ≡ done next 1 2 get_it
+pub got : applied next (Call 1 2 get_it) ≡ done next 1 2 get_it
 got = ap (λ (o : Option Noted). numbered o next 1 2 get_it) (get-insert nat_cmp_total born.clients 1 note 1)
 
 abbrev entries : Option (List ℕ) → Option (List ℕ) → List Entry
@@ -42,10 +42,10 @@ entries first second =
     (record { client = 1; seq = 1; op = put_it; reply = record { old = first } })
     ∷ (record { client = 1; seq = 2; op = get_it; reply = record { old = second } }) ∷ []
 
-nothing : get born.pairs (97 ∷ []) ≡ None
+pub nothing : get born.pairs (97 ∷ []) ≡ None
 nothing = get-empty (slice_cmp nat_cmp) (97 ∷ [])
 
-value : get next.pairs (97 ∷ []) ≡ Some (120 ∷ [])
+pub value : get next.pairs (97 ∷ []) ≡ Some (120 ∷ [])
 value = get-insert nat_list_cmp_total born.pairs (97 ∷ []) (120 ∷ []) (97 ∷ [])
 
 pub example_is_told : history four (lone_group ∷ []) example ≡ example_history

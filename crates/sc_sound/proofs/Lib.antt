@@ -5,4 +5,5 @@ pub mod Rows
 pub mod Sound
 pub mod Told
 pub mod Turns
+pub mod Walked
 pub mod Worlds

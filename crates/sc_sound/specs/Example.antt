@@ -14,7 +14,8 @@ use Rattle.sc_actor.specs.declared.rows.Row.{Row}
 use Rattle.sc_actor.specs.declared.rows.Event.{Event}
 use Rattle.sc_actor.specs.declared.rows.Event.TheVariants.{Deliver, Go}
 use Rattle.sc_ideal.specs.declared.Entry.{Entry}
-use Rattle.sc_scenario.specs.Early.{lone_name}
+use Rattle.sc_scenario.specs.Early.{lone_name, early_scenario}
+use Rattle.sc_scenario.specs.declared.scenarios.Scenario.{Scenario}
 use Rattle.sc_sound.specs.Logs.{Ahead}
 
 -- four slots are open
@@ -48,6 +49,10 @@ example =
     ∷ row 1 (Deliver 6) (mail 1 1 (Accepted lone_name ballot 2))
     ∷ row 1 (Deliver 7) (mail 1 33 (Answer lone_name 2 (Value (record { old = Some (120 ∷ []) }))))
     ∷ row 33 (Deliver 8) [] ∷ []
+
+-- its scenario
+abbrev pub asked_for : Scenario
+asked_for = early_scenario (put_it ∷ get_it ∷ []) 100
 
 -- its history
 abbrev pub example_history : List Entry
