@@ -1,5 +1,6 @@
 //! The ports.
-ghost use Rattle.std.specs.Prelude.{◌≡◌, ◌≢◌, ◌++◌, ◌∷◌, [], ℕ, ◌<◌, ◌≤◌, ◌^◌, true, false, length, map, IfOk, OnErr, IfErr, OnOk, Contains, MatchBool, None};
+ghost use Rattle.std.specs.Prelude.{◌≡◌, ◌≢◌, ◌++◌, ◌∷◌, [], ℕ, ◌<◌, ◌≤◌, ◌^◌, true, false, length, map, IfOk, OnErr, IfErr, OnOk, Contains, MatchBool, None, is_some};
+ghost use Rattle.std.specs.List.{list_any};
 ghost use Rattle.sc_turn.specs.Seats.{known, AllJoined};
 ghost use Rattle.sc_turn.specs.Turn.{rows_by, longer, StartsWith, StartsWith as Begins, IsTrueOf};
 ghost use Rattle.sc_actor.specs.Mail.{is_crash};
@@ -12,7 +13,7 @@ ghost use Rattle.sc_exchange.specs.Answers.{IsFetch, number_of};
 
 use crate::answers::{Fetched, Unposted};
 use crate::deeds::Exchange;
-use crate::turns::{change_at, fetch_at, kth_at, post_at};
+use crate::turns::{any_at, change_at, fetch_at, kth_at, post_at};
 use sc_actor::{Event, Journal, Parcel, Row};
 use sc_base::{OutOfMemory, Sequence};
 use sc_ledger::Unkept;
@@ -172,6 +173,14 @@ impl<M: Parcel + Drop, O: Drop> Port<M, O> {
         ensures kth { result ≡ kth_pending M.receiver self.old.actors (seen self.new) who k }
     {
         kth_at(rt, &mut self.seat, self.actors, who, k)
+    }
+
+    /// Whether at this turn mail is pending for one of these actors.
+    pub fn any_pending<R: Wait>(&mut self, rt: &R, whos: &[u32]) -> bool
+        ensures looked { Looked self.old self.new × IsTrue self.new × (self.new.fetched ≡ self.old.fetched) × (self.new.crashed ≡ self.old.crashed) }
+        ensures any { result ≡ list_any (λ who. is_some (kth_pending M.receiver self.new.actors (seen self.new) who 1)) whos.now }
+    {
+        any_at(rt, &mut self.seat, self.actors, whos)
     }
 
     /// Two ports of one exchange tell each other: afterwards what each has seen begins with what the two had seen before.

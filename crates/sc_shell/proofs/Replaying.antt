@@ -1,0 +1,110 @@
+-- Rows of others leave an actor as it is.
+use Rattle.std.proofs.Common.{◌≡◌, ℕ, zero, suc, ◌+◌, eqb, Bool, true, false, cond, List, [], ◌∷◌, ◌++◌, length, refl, sym, ap, ◌∙◌, arith, append_assoc, length-append, eq-eqb}
+use Rattle.std.proofs.lemmas.List.{length-map, append-nil}
+use Rattle.std.specs.Prelude.{slice_get, Option, Some}
+use Rattle.sc_turn.specs.Turn.{rows_by}
+use Rattle.sc_turn.specs.Seats.{known}
+use Rattle.sc_actor.specs.declared.rows.Row.{Row}
+use Rattle.sc_actor.specs.declared.actors.Seat.{Seat}
+use Rattle.sc_actor.specs.declared.actors.Parcel.{Ghosts}
+use Rattle.sc_actor.specs.declared.rows.Input.{Input}
+use Rattle.sc_actor.specs.Mail.{mails, numbered}
+use Rattle.sc_actor.proofs.ReplayLemmas.{value-snoc}
+use Rattle.sc_actor.specs.Replay.{Table, input_of, acted, replay, value}
+use Rattle.sc_exchange.specs.declared.ports.Port.{Port}
+use Rattle.sc_exchange.specs.Deeds.{row_by, rows_of}
+use Rattle.sc_exchange.specs.Ports.{seen, made, Looked, Appended}
+use Rattle.sc_exchange.proofs.Done.{rows_of_from}
+
+get_more : {B : Type 0} (xs ys : List B) (i : ℕ) (x : B) → slice_get xs i ≡ Some x → slice_get (xs ++ ys) i ≡ Some x
+get_more [] ys i x e = cc
+get_more (y ∷ xs) ys zero x e = e
+get_more (y ∷ xs) ys (suc i) x e = get_more xs ys i x e
+
+module _ {M O : Type 0} where
+  rows_of-append : (n : ℕ) (xs ys : List (Row M O)) → rows_of n (xs ++ ys) ≡ rows_of n xs ++ rows_of n ys
+  rows_of-append n [] ys = refl
+  rows_of-append n (x ∷ xs) ys = let e = rows_of-append n xs ys in
+      elim (eqb x.who n) as (λ b. cond b (x ∷ rows_of n (xs ++ ys)) (rows_of n (xs ++ ys)) ≡ cond b (x ∷ rows_of n xs) (rows_of n xs) ++ rows_of n ys) [ true ↦ ap (λ l. x ∷ l) e | false ↦ e ]
+
+  none_left : (xs : List (Row M O)) → length xs ≡ 0 → xs ≡ []
+  none_left [] e = refl
+  none_left (x ∷ xs) e = absurd (omega arith)
+
+  -- of two lists with as many rows of a number, the longer has none more
+  quiet : (n : ℕ) (xs more : List (Row M O)) → length (rows_of n (xs ++ more)) ≡ length (rows_of n xs) → rows_of n more ≡ []
+  quiet n xs more e = none_left (rows_of n more) (omega (arith, e, ap length (rows_of-append n xs more), length-append (rows_of n xs) (rows_of n more)))
+
+  rows_of_last : (n : ℕ) (xs : List (Row M O)) (row : Row M O) → row.who ≡ n → length (rows_of n (xs ++ row ∷ [])) ≡ length (rows_of n xs) + 1
+  rows_of_last n xs row who =
+      let one : rows_of n (row ∷ []) ≡ row ∷ [] = ap (λ b. cond b (row ∷ []) []) (eq-eqb row.who n who) in
+      omega (arith, ap length (rows_of-append n xs (row ∷ [])), length-append (rows_of n xs) (rows_of n (row ∷ [])), ap length one)
+
+  mails-append : (xs ys : List (Row M O)) → mails (xs ++ ys) ≡ mails xs ++ mails ys
+  mails-append [] ys = refl
+  mails-append (x ∷ xs) ys = ap (λ l. x.sent ++ l) (mails-append xs ys) ∙ sym (append_assoc x.sent (mails xs) (mails ys))
+
+  -- a mail keeps its number
+  pub numbered_more : (xs more : List (Row M O)) (number : ℕ) (mail : M) → numbered (mails xs) number ≡ Some mail → numbered (mails (xs ++ more)) number ≡ Some mail
+  numbered_more xs more zero mail e = cc
+  numbered_more xs more (suc place) mail e = ap (λ l. slice_get l place) (mails-append xs more) ∙ get_more (mails xs) (mails more) place mail e
+
+module _ {A M O : Type 0} (table : Table A M O) (who : ℕ) where
+  replay_quiet : (actor : A) (sent : List M) (rows : List (Row M O)) → rows_of who rows ≡ [] → replay table who actor sent rows ≡ actor
+  replay_quiet actor sent [] none = refl
+  replay_quiet actor sent (row ∷ rows) none = by (eqb row.who who) refl (λ left. replay_quiet actor (sent ++ row.sent) rows left)
+    where
+      by : (b : Bool) → eqb row.who who ≡ b → (rows_of who rows ≡ [] → replay table who actor (sent ++ row.sent) rows ≡ actor) → replay table who actor sent (row ∷ rows) ≡ actor
+      by true e more = (let bad : row ∷ rows_of who rows ≡ [] = ap (λ b. cond b (row ∷ rows_of who rows) (rows_of who rows)) (sym e) ∙ none in cc)
+      by false e more =
+          let left : rows_of who rows ≡ [] = ap (λ b. cond b (row ∷ rows_of who rows) (rows_of who rows)) (sym e) ∙ none in
+          ap (λ b. replay table who (cond b (acted table actor (input_of sent row.event)).0 actor) (sent ++ row.sent) rows) e ∙ more left
+
+  replay-append : (actor : A) (sent : List M) (xs ys : List (Row M O)) → replay table who actor sent (xs ++ ys) ≡ replay table who (replay table who actor sent xs) (sent ++ mails xs) ys
+  replay-append actor sent [] ys = ap (λ l. replay table who actor l ys) (sym (append-nil sent))
+  replay-append actor sent (x ∷ xs) ys =
+      let next = cond (eqb x.who who) (acted table actor (input_of sent x.event)).0 actor in
+      replay-append next (sent ++ x.sent) xs ys ∙ ap (λ l. replay table who (replay table who next (sent ++ x.sent) xs) l ys) (append_assoc sent x.sent (mails xs))
+
+  pub value_later : (birth : A) (xs more : List (Row M O)) → rows_of who more ≡ [] → value table (record { who = who; actor = birth }) (xs ++ more) ≡ value table (record { who = who; actor = birth }) xs
+  value_later birth xs more none = replay-append birth [] xs more ∙ replay_quiet (replay table who birth [] xs) (mails xs) more none
+
+module _ {M O : Type 0} {h : Ghosts M} where
+  -- a port has seen as many rows of its own as it made
+  pub own_length : (p : Port M O h) → length (rows_of p.who (seen p)) ≡ length (made p)
+  own_length p =
+      ap length (rows_of_from p.who (known p.seat).seen)
+      ∙ (length-map (rows_by p.who (known p.seat).seen) (row_by p.who) ∙ (p.own ∙ sym (length-map (known p.seat).made (row_by p.who))))
+
+  pub quiet_looked : (p q : Port M O h) (l : Looked p q) → rows_of p.who l.later.0 ≡ []
+  quiet_looked p q l =
+      let mine : length (rows_of p.who (seen q)) ≡ length (made q) = ap (λ n. length (rows_of n (seen q))) (sym l.stays.who) ∙ own_length q in
+      quiet p.who (seen p) l.later.0 (ap (λ x. length (rows_of p.who x)) (sym l.later.1) ∙ (mine ∙ (ap length l.made ∙ sym (own_length p))))
+
+  pub quiet_appended : (p q : Port M O h) (row : Row M O) (a : Appended p q row) → row.who ≡ p.who → rows_of p.who a.later.0 ≡ []
+  quiet_appended p q row a mine =
+      let all : length (rows_of p.who (seen q)) ≡ length (made p) + 1 =
+      omega (arith, ap (λ n. length (rows_of n (seen q))) (sym a.stays.who), own_length q, ap length a.made, length-append (made p) (row ∷ [])) in
+      let last : length (rows_of p.who (seen q)) ≡ length (rows_of p.who a.before) + 1 = ap (λ x. length (rows_of p.who x)) a.seen ∙ rows_of_last p.who a.before row mine in
+      quiet p.who (seen p) a.later.0 (ap (λ x. length (rows_of p.who x)) (sym a.later.1) ∙ omega (arith, all, last, own_length p))
+
+abbrev at : {A : Type 0} → ℕ → A → Seat A
+at who birth = record { who = who; actor = birth }
+
+module _ {A M O : Type 0} {h : Ghosts M} (table : Table A M O) where
+  pub replay_looked : (p q : Port M O h) → Looked p q → (actor birth : A) → actor ≡ value table (at p.who birth) (seen p) → actor ≡ value table (at q.who birth) (seen q)
+  replay_looked p q l actor birth is =
+      is ∙ (sym (value_later table p.who birth (seen p) l.later.0 (quiet_looked p q l)) ∙ (λ i. value table (at (sym l.stays.who i) birth) (sym l.later.1 i)))
+
+  pub replay_born : (p : Port M O h) (actor : A) → made p ≡ [] → actor ≡ value table (at p.who actor) (seen p)
+  replay_born p actor none = sym (value_later table p.who actor [] (seen p) (none_left (rows_of p.who (seen p)) (own_length p ∙ ap length none)))
+
+  pub replay_appended : (p q : Port M O h) (row : Row M O) (a : Appended p q row) → row.who ≡ p.who → (actor next birth : A) → actor ≡ value table (at p.who birth) (seen p) → (input : Option (Input M O)) →
+      ((more : List (Row M O)) → input_of (mails (seen p ++ more)) row.event ≡ input) → next ≡ (acted table actor input).0 → next ≡ value table (at q.who birth) (seen q)
+  replay_appended p q row a mine actor next birth is input given new =
+      let before : value table (at p.who birth) a.before ≡ actor = ap (value table (at p.who birth)) a.later.1 ∙ (value_later table p.who birth (seen p) a.later.0 (quiet_appended p q row a mine) ∙ sym is) in
+      let input_is : input_of (mails a.before) row.event ≡ input = ap (λ l. input_of (mails l) row.event) a.later.1 ∙ given a.later.0 in
+      new
+      ∙ ((λ i. (acted table (sym before i) (sym input_is i)).0)
+      ∙ (sym (ap (λ b. cond b (acted table (value table (at p.who birth) a.before) (input_of (mails a.before) row.event)).0 (value table (at p.who birth) a.before)) (eq-eqb row.who p.who mine))
+      ∙ (sym (value-snoc table (at p.who birth) a.before row) ∙ (λ i. value table (at (sym a.stays.who i) birth) (sym a.seen i)))))

@@ -1,0 +1,31 @@
+use Rattle.std.proofs.Common.{rules, ◌≡◌, refl, ap, sym, ◌∙◌, ⊎_elim, inl, inr, false, Some}
+use Rattle.std.specs.Option.{option_map}
+use Rattle.sc_actor.specs.Mail.{mails, numbered}
+use Rattle.sc_actor.specs.declared.rows.Input.TheVariants.{Got}
+use Rattle.sc_ledger.specs.Pending.{kth_pending}
+use Rattle.sc_exchange.specs.Ports.{seen}
+use Rattle.sc_shell.specs.Shells.{state}
+use Rattle.sc_shell.proofs.Replaying.{replay_looked, numbered_more}
+use Rattle.sc_shell.proofs.Taking.{takes_acts}
+use Rattle.sc_shell.proofs.shells.Shell.take_turn.Goals as goal
+
+pub act-requires-clause-input : goal.act-requires-clause-input
+act-requires-clause-input g c κs within = λ more.
+    let is : numbered (mails (seen c.fetch.new.self)) c.in-Mail.number ≡ Some c.in-Mail.mail = search rules in
+    ap (option_map (λ x. Got x)) (numbered_more (seen c.fetch.new.self) more c.in-Mail.number c.in-Mail.mail is)
+
+pub returns-in-Empty-clause-replay : goal.returns-in-Empty-clause-replay
+returns-in-Empty-clause-replay g c = λ birth old now. let e = c.fetch.ensures.looked in
+    replay_looked g.A.Actor.table c.args.self.now.port c.fetch.new.self e.0 c.args.self.now.actor birth (old (⊎_elim (λ x. inl x) (λ x. inr (sym e.2 ∙ x)) now))
+
+pub returns-in-Mail-clause-replay : goal.returns-in-Mail-clause-replay
+returns-in-Mail-clause-replay g c = λ birth old now.
+    let free : c.args.self.now.spent ≡ false = search rules in
+    c.act.ensures.replay birth (λ _. replay_looked g.A.Actor.table c.args.self.now.port c.fetch.new.self c.fetch.ensures.looked.0 c.args.self.now.actor birth (old (inl free))) now
+
+pub returns-in-Mail-clause-takes : goal.returns-in-Mail-clause-takes
+returns-in-Mail-clause-takes g c =
+    let free : c.args.self.now.spent ≡ false = search rules in
+    let is : numbered (mails (seen c.fetch.new.self)) c.in-Mail.number ≡ Some c.in-Mail.mail = search rules in
+    let kth : kth_pending g.A.Mail.Parcel.receiver c.args.self.now.port.actors (seen c.fetch.new.self) c.args.self.now.port.who c.args.k ≡ Some c.in-Mail.number = search rules in
+    takes_acts (state c.args.self.now) (record { actor = c.args.self.now.actor; port = c.fetch.new.self; spent = c.args.self.now.spent }) (state c.act.new.self) c.args.k c.in-Mail.number c.in-Mail.mail free refl c.fetch.ensures.looked.0 kth is c.act.result c.act.ensures.acts

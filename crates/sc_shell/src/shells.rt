@@ -1,0 +1,228 @@
+//! Shells.
+ghost use Rattle.std.specs.Prelude.{◌≡◌, ◌≢◌, ◌<◌, ◌++◌, [], ◌||◌, List, not, true, false, None, Some, IfOk};
+ghost use Rattle.sc_turn.specs.Turn.{StartsWith as Begins};
+ghost use Rattle.sc_actor.specs.declared.rows.Row.{Row};
+ghost use Rattle.sc_actor.specs.Mail.{mails};
+ghost use Rattle.sc_actor.specs.Replay.{input_of, acted};
+ghost use Rattle.sc_ledger.specs.Pending.{kth_pending};
+ghost use Rattle.sc_shell.specs.Answers.{turn_of, MayHappen};
+ghost use Rattle.sc_exchange.specs.Ports.{seen, made, SameExchange, Stays, Looked, IsTrue, MayPost};
+
+use crate::turns::Turn;
+use sc_actor::{Actor, Event, Gate, Input};
+use sc_base::{Dup, OutOfMemory, Sequence};
+use sc_exchange::{Fetched, Port, PostFault};
+use std::alloc::Global;
+use std::sync::Wait;
+
+/// An actor, seated at its port. A shell that is spent posts no row any more.
+#[derive(Drop)]
+pub struct Shell<A: Actor> {
+    pub actor: A,
+    pub port: Port<A::Mail, A::Order>,
+    pub spent: bool,
+    pub last: Option<Turn>,
+    ghost numbered: { 0 < port.who },
+    ghost runs: { (spent || not port.crashed) ≡ true },
+}
+
+impl<A: Actor> Shell<A> {
+    ghost use Rattle.sc_shell.specs.Shells.{Replays, KeepsReplay, Acts, Takes, Happens, state};
+
+    /// The actor at its port, which has made no row. The actor is as it was born.
+    pub fn new(actor: A, port: Port<A::Mail, A::Order>) -> Shell<A>
+        requires own { 0 < port.who }
+        requires fresh { (made port ≡ []) × (port.crashed ≡ false) }
+        ensures same { (result.actor ≡ actor) × (result.port ≡ port) × (result.spent ≡ false) × (result.last ≡ None) }
+        ensures born { Replays result actor }
+    {
+        Shell {
+            actor,
+            port,
+            spent: false,
+            last: None,
+        }
+    }
+
+    /// The actor's number.
+    pub fn who(&self) -> u32
+        ensures { result ≡ self.now.port.who }
+    {
+        self.port.who
+    }
+
+    /// The answer of the last turn or event. None where there was none.
+    pub fn last(&self) -> Option<Turn>
+        ensures { result ≡ self.now.last }
+    {
+        self.last
+    }
+
+    // The actor takes an input, and the row of it is posted.
+    fn act<R: Wait>(
+        &mut self,
+        rt: &R,
+        alloc: Global,
+        event: Event<A::Order>,
+        input: Option<Input<A::Mail, A::Order>>,
+    ) -> Turn
+        requires runs { self.old.spent ≡ false }
+        requires event { MayPost self.old.port.fetched event }
+        requires input { (more : List (Row A.Mail A.Order)) → input_of (mails (seen self.old.port ++ more)) event ≡ input }
+        ensures acts { Acts (state self.old) (state self.new) event input result }
+        ensures stays { Stays self.old.port self.new.port }
+        ensures replay { KeepsReplay self.old self.new }
+    {
+        self.spent = true;
+        let Ok(sent) = sent_at(alloc, &mut self.actor, &input) else {
+            return Turn::OutOfMemory;
+        };
+        match self.port.post(rt, event, sent) {
+            Ok(at) => {
+                self.spent = self.port.crashed;
+                Turn::Did { at }
+            }
+            Err(unposted) => refused(unposted.why),
+        }
+    }
+
+    fn take_turn<G: Gate, R: Wait>(&mut self, rt: &R, alloc: Global, k: u32, gate: &G) -> Turn
+        requires { 0 < k }
+        ensures takes { Takes (state self.old) (state self.new) k result }
+        ensures stays { Stays self.old.port self.new.port }
+        ensures replay { KeepsReplay self.old self.new }
+    {
+        if self.spent {
+            return Turn::Spent;
+        }
+        let Ok(found) = self.port.fetch(rt, k) else {
+            self.spent = true;
+            return Turn::OutOfMemory;
+        };
+        match found {
+            Fetched::Empty { seen } => Turn::Empty { seen },
+            Fetched::Mail { number, mail } => {
+                gate.pass(self.port.who);
+                self.act(rt, alloc, Event::Deliver(number), Some(Input::Got(mail)))
+            }
+        }
+    }
+
+    /// Fetches the k-th pending mail, counted from 1, passes the gate, lets the actor step, and posts the row.
+    pub fn turn<G: Gate, R: Wait>(&mut self, rt: &R, alloc: Global, k: u32, gate: &G) -> Turn
+        requires { 0 < k }
+        ensures takes { Takes (state self.old) (state self.new) k result }
+        ensures stays { Stays self.old.port self.new.port }
+        ensures replay { KeepsReplay self.old self.new }
+        ensures last { self.new.last ≡ Some result }
+    {
+        let answer = self.take_turn(rt, alloc, k, gate);
+        self.last = Some(answer);
+        answer
+    }
+
+    fn take_event<R: Wait>(&mut self, rt: &R, alloc: Global, event: Event<A::Order>) -> Turn
+        requires { MayHappen event }
+        ensures happens { Happens (state self.old) (state self.new) event result }
+        ensures stays { Stays self.old.port self.new.port }
+        ensures replay { KeepsReplay self.old self.new }
+    {
+        if self.spent {
+            return Turn::Spent;
+        }
+        let Ok(input) = input_at(alloc, &event) else {
+            self.spent = true;
+            return Turn::OutOfMemory;
+        };
+        self.act(rt, alloc, event, input)
+    }
+
+    /// The same at an event that is no delivery, without a fetch or a gate.
+    pub fn event<R: Wait>(&mut self, rt: &R, alloc: Global, event: Event<A::Order>) -> Turn
+        requires { MayHappen event }
+        ensures happens { Happens (state self.old) (state self.new) event result }
+        ensures stays { Stays self.old.port self.new.port }
+        ensures replay { KeepsReplay self.old self.new }
+        ensures last { self.new.last ≡ Some result }
+    {
+        let answer = self.take_event(rt, alloc, event);
+        self.last = Some(answer);
+        answer
+    }
+
+    /// The shell's port and `net` tell each other: afterwards what each has seen begins with what the two had seen before.
+    pub fn meet<R: Wait>(
+        &mut self,
+        rt: &R,
+        net: &mut Port<A::Mail, A::Order>,
+    ) -> Result<(), OutOfMemory>
+        requires { SameExchange self.old.port net.old }
+        ensures same { (self.new.actor ≡ self.old.actor) × (self.new.spent ≡ self.old.spent) × (self.new.last ≡ self.old.last) }
+        ensures mine { Looked self.old.port self.new.port × Begins (seen self.new.port) (seen net.old) × IsTrue self.new.port × (self.new.port.crashed ≡ self.old.port.crashed) }
+        ensures theirs { Looked net.old net.new × Begins (seen net.new) (seen self.old.port) × IsTrue net.new × (net.new.fetched ≡ net.old.fetched) × (net.new.crashed ≡ net.old.crashed) }
+        ensures replay { KeepsReplay self.old self.new }
+    {
+        self.port.meet(rt, net)
+    }
+
+    /// The number of the first pending mail of this actor. None exactly where at this turn there was none.
+    pub fn waiting<R: Wait>(&mut self, rt: &R) -> Option<u32>
+        ensures same { (self.new.actor ≡ self.old.actor) × (self.new.spent ≡ self.old.spent) × (self.new.last ≡ self.old.last) }
+        ensures looked { Looked self.old.port self.new.port × IsTrue self.new.port × (self.new.port.crashed ≡ self.old.port.crashed) }
+        ensures first { result ≡ kth_pending A.Mail.receiver self.old.port.actors (seen self.new.port) self.old.port.who 1 }
+        ensures replay { KeepsReplay self.old self.new }
+    {
+        let who = self.port.who;
+        self.port.pending(rt, who, 1)
+    }
+
+    /// The actor and its port. It takes no memory.
+    pub fn parts(self) -> (A, Port<A::Mail, A::Order>)
+        ensures { (result.0 ≡ self.actor) × (result.1 ≡ self.port) }
+    {
+        let Shell {
+            actor,
+            port,
+            spent: _,
+            last: _,
+        } = self;
+        (actor, port)
+    }
+}
+
+// What the actor sends at an input. Without one it stays as it is.
+fn sent_at<A: Actor>(
+    alloc: Global,
+    actor: &mut A,
+    input: &Option<Input<A::Mail, A::Order>>,
+) -> Result<Sequence<A::Mail>, OutOfMemory>
+    ensures { IfOk result (λ sent. acted A.table actor.old input.now ≡ (actor.new, sent)) }
+{
+    match input {
+        None => Ok(Sequence::new(alloc)),
+        Some(input) => actor.step(alloc, input),
+    }
+}
+
+// The input of an event that is no delivery.
+fn input_at<M, O: Dup>(alloc: Global, event: &Event<O>) -> Result<Option<Input<M, O>>, OutOfMemory>
+    requires { MayHappen event.now }
+    ensures { IfOk result (λ input. input ≡ input_of [] event.now) }
+{
+    match event {
+        Event::Tick => Ok(Some(Input::Tick)),
+        Event::Go => Ok(Some(Input::Go)),
+        Event::Told(order) => Ok(Some(Input::Told(order.dup(alloc)?))),
+        Event::Crash => Ok(None),
+        _ => unreachable!(),
+    }
+}
+
+fn refused(why: PostFault) -> Turn
+    ensures { result ≡ turn_of why }
+{
+    match why {
+        PostFault::JournalFull { bytes } => Turn::Full { bytes },
+        PostFault::OutOfMemory => Turn::OutOfMemory,
+    }
+}

@@ -1,0 +1,124 @@
+//! Two actors that send each other notes.
+ghost use Rattle.std.specs.Prelude.{◌≡◌, ◌<◌, [], ◌∷◌, false};
+ghost use Rattle.sc_exchange.specs.Ports.{made};
+
+use crate::shells::Shell;
+use crate::turns::Turn;
+use sc_actor::{Actor, Event, Gate, Input, Parcel};
+use sc_base::{Dup, OutOfMemory, Sequence};
+use sc_exchange::Port;
+use std::alloc::Global;
+use std::sync::atomic::{AtomicU64, Ordering};
+use std::test::Fail;
+
+#[derive(Debug, PartialEq, Eq, Drop)]
+struct Note {
+    to: u32,
+}
+
+impl Dup for Note {
+    fn dup(&self, _alloc: Global) -> Result<Note, OutOfMemory> {
+        Ok(Note { to: self.to })
+    }
+}
+
+impl Parcel for Note {
+    ghost receiver = { λ note. note.to };
+
+    ghost weighs = { λ _. 0 };
+
+    fn to(&self) -> u32 {
+        self.to
+    }
+
+    fn weight(&self) -> u64 {
+        0
+    }
+}
+
+// Sends one note at each input, as long as its memory suffices.
+#[derive(Drop)]
+struct Player {
+    other: u32,
+    starved: bool,
+}
+
+impl Actor for Player {
+    type Mail = Note;
+
+    type Order = u32;
+
+    ghost table = { λ player _. (player, (record { to = player.other }) ∷ []) };
+
+    fn step(
+        &mut self,
+        alloc: Global,
+        _input: &Input<Note, u32>,
+    ) -> Result<Sequence<Note>, OutOfMemory> {
+        if self.starved {
+            return Err(OutOfMemory);
+        }
+        let mut sent = Sequence::new(alloc);
+        sent.push(Note { to: self.other })?;
+        Ok(sent)
+    }
+}
+
+#[derive(Drop)]
+struct Counter {
+    passes: AtomicU64,
+}
+
+impl Gate for Counter {
+    fn pass(&self, _who: u32) {
+        self.passes.fetch_add(1, Ordering::SeqCst);
+    }
+}
+
+fn seated(port: Port<Note, u32>, other: u32, starved: bool) -> Shell<Player>
+    requires { (0 < port.who) × (made port ≡ []) × (port.crashed ≡ false) }
+    ensures { result.port ≡ port }
+{
+    Shell::new(Player { other, starved }, port)
+}
+
+#[test]
+fn shells_pass_the_gate_and_are_spent(rt: HostRuntime) -> Result<(), Fail> {
+    let gate = Counter {
+        passes: AtomicU64::new(0),
+    };
+    let mut net: Port<Note, u32> = Port::start(rt.alloc(), 3, 1280)?;
+    let one = net.split(1)?;
+    let two = net.split(2)?;
+    let three = net.split(3)?;
+    let mut one = seated(one, 2, false);
+    let mut two = seated(two, 1, false);
+    let mut three = seated(three, 1, true);
+    assert_eq!(rt; one.who(), 1);
+    assert!(rt; one.last().is_none());
+    assert_eq!(rt;
+        one.turn(&rt, rt.alloc(), 1, &gate),
+        Turn::Empty { seen: 0 }
+    );
+    assert_eq!(rt; one.event(&rt, rt.alloc(), Event::Go), Turn::Did { at: 1 });
+    assert_eq!(rt; two.waiting(&rt), Some(1));
+    assert_eq!(rt; two.turn(&rt, rt.alloc(), 1, &gate), Turn::Did { at: 2 });
+    assert_eq!(rt; one.turn(&rt, rt.alloc(), 1, &gate), Turn::Did { at: 3 });
+    assert_eq!(rt; gate.passes.load(Ordering::SeqCst), 2);
+    assert_eq!(rt;
+        two.event(&rt, rt.alloc(), Event::Crash),
+        Turn::Did { at: 4 }
+    );
+    assert_eq!(rt; two.turn(&rt, rt.alloc(), 1, &gate), Turn::Spent);
+    assert_eq!(rt;
+        three.event(&rt, rt.alloc(), Event::Tick),
+        Turn::OutOfMemory
+    );
+    assert_eq!(rt; three.event(&rt, rt.alloc(), Event::Tick), Turn::Spent);
+    assert_eq!(rt;
+        one.event(&rt, rt.alloc(), Event::Tick),
+        Turn::Full { bytes: 1024 }
+    );
+    assert_eq!(rt; one.last(), Some(Turn::Full { bytes: 1024 }));
+    Ok(())
+}
