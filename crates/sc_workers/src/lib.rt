@@ -1,0 +1,10 @@
+//! Rounds, in which many actors work at the same time.
+#![tactic(auto)]
+
+mod answers;
+mod meetings;
+mod playing;
+mod turns;
+
+pub use answers::Rounds;
+pub use playing::rounds;

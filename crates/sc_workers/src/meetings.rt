@@ -1,0 +1,68 @@
+//! Meetings of the shells with the network's port.
+ghost use Rattle.std.specs.Prelude.{◌≡◌, length, OnOk, IfOk};
+ghost use Rattle.sc_exchange.specs.Ports.{SameExchange, Looked};
+ghost use Rattle.sc_workers.specs.Crews.{AllGo, AllOf, AllMet, Met, numbers};
+
+use sc_actor::Actor;
+use sc_base::OutOfMemory;
+use sc_exchange::Port;
+use sc_shell::Shell;
+use std::alloc::Global;
+use std::sync::Wait;
+
+fn meet_one<A: Actor, R: Wait>(
+    rt: &R,
+    net: &mut Port<A::Mail, A::Order>,
+    shell: &mut Shell<A>,
+) -> Result<(), OutOfMemory>
+    requires exchange { SameExchange shell.old.port net.old }
+    ensures { Met shell.old shell.new net.old net.new }
+{
+    shell.meet(rt, net)
+}
+
+/// Each shell meets the port.
+pub(crate) fn meet_all<A: Actor, R: Wait>(
+    rt: &R,
+    net: &mut Port<A::Mail, A::Order>,
+    shells: &mut [Shell<A>],
+) -> Result<(), OutOfMemory>
+    requires exchange { AllOf net.old shells.old }
+    ensures same { AllGo shells.old shells.new }
+    ensures net { Looked net.old net.new }
+    ensures met { OnOk result (AllMet net.new shells.new) }
+{
+    for shell in shells.iter_mut() {
+        meet_one(rt, net, shell)?;
+    }
+    Ok(())
+}
+
+/// Each shell of a vector meets the port.
+pub(crate) fn meet<A: Actor, R: Wait>(
+    rt: &R,
+    net: &mut Port<A::Mail, A::Order>,
+    shells: &mut Vec<Shell<A>>,
+) -> Result<(), OutOfMemory>
+    requires exchange { AllOf net.old shells.old.items }
+    ensures len { length shells.new.items ≡ length shells.old.items }
+    ensures same { AllGo shells.old.items shells.new.items }
+    ensures net { Looked net.old net.new }
+    ensures met { OnOk result (AllMet net.new shells.new.items) }
+{
+    meet_all(rt, net, shells.as_mut_slice())
+}
+
+/// The numbers of the shells' actors.
+pub(crate) fn numbers_of<A: Actor>(
+    alloc: Global,
+    shells: &[Shell<A>],
+) -> Result<Vec<u32>, OutOfMemory>
+    ensures { IfOk result (λ whos. whos.items ≡ numbers shells.now) }
+{
+    let mut whos = Vec::new(alloc);
+    for shell in shells {
+        whos.push(shell.who())?;
+    }
+    Ok(whos)
+}

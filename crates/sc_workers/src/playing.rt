@@ -1,0 +1,167 @@
+//! The rounds.
+ghost use Rattle.std.specs.Prelude.{◌≡◌, ◌<◌, ◌≤◌, IfSome, length};
+ghost use Rattle.sc_exchange.specs.Ports.{Looked};
+ghost use Rattle.sc_workers.specs.Ends.{IsEnd};
+ghost use Rattle.sc_workers.specs.Crews.{AllGo, AllOf, AllSound, numbers};
+
+use crate::answers::Rounds;
+use crate::meetings::{meet, numbers_of};
+use crate::turns::{Tally, at_once, in_order, tallied};
+use sc_actor::{Actor, Gate};
+use sc_exchange::Port;
+use sc_shell::{Shell, Turn};
+use std::alloc::Global;
+use std::sync::Wait;
+use std::thread::Threads;
+
+// One round, of which the deliveries are counted. Some where a refusal ends the call.
+fn play_round<A: Actor, G: Gate, R: Threads + Wait + Sync>(
+    rt: &R,
+    alloc: Global,
+    gate: &G,
+    shells: &mut Vec<Shell<A>>,
+    workers: u32,
+    left: u32,
+) -> Tally
+    requires workers { 0 < workers }
+    ensures len { length shells.new.items ≡ length shells.old.items }
+    ensures same { AllGo shells.old.items shells.new.items }
+    ensures did { result.did ≤ left }
+{
+    let size = shells.len().div_ceil(workers as usize);
+    if size == 0 || (left as usize) < shells.len() {
+        return in_order(rt, alloc, gate, shells.as_mut_slice(), left);
+    }
+    at_once(rt, alloc, gate, shells, size);
+    tallied(shells.as_slice())
+}
+
+// What comes before a round: the meetings, and the ends that are found there.
+fn prepare<A: Actor, R: Wait>(
+    rt: &R,
+    net: &mut Port<A::Mail, A::Order>,
+    shells: &mut Vec<Shell<A>>,
+    whos: &[u32],
+    limit: u32,
+    used: u32,
+) -> Option<Rounds>
+    requires exchange { AllOf net.old shells.old.items }
+    requires used { used ≤ limit }
+    ensures len { length shells.new.items ≡ length shells.old.items }
+    ensures same { AllGo shells.old.items shells.new.items }
+    ensures net { Looked net.old net.new }
+    ensures end { IfSome result (λ answer. IsEnd answer net.new shells.new.items whos.now limit) }
+{
+    if meet(rt, net, shells).is_err() {
+        return Some(Rounds::OutOfMemory);
+    }
+    if !net.any_pending(rt, whos) {
+        return Some(Rounds::Quiet { used });
+    }
+    if used == limit {
+        return Some(Rounds::Limit { used });
+    }
+    None
+}
+
+// The end by a refusal, after a last meeting.
+fn ended<A: Actor, R: Wait>(
+    rt: &R,
+    net: &mut Port<A::Mail, A::Order>,
+    shells: &mut Vec<Shell<A>>,
+    whos: &[u32],
+    limit: u32,
+    refused: Turn,
+) -> Rounds
+    requires exchange { AllOf net.old shells.old.items }
+    ensures len { length shells.new.items ≡ length shells.old.items }
+    ensures same { AllGo shells.old.items shells.new.items }
+    ensures net { Looked net.old net.new }
+    ensures end { IsEnd result net.new shells.new.items whos.now limit }
+{
+    let Turn::Full { bytes } = refused else {
+        return Rounds::OutOfMemory;
+    };
+    if meet(rt, net, shells).is_err() {
+        return Rounds::OutOfMemory;
+    }
+    Rounds::Full { bytes }
+}
+
+// One round with what comes before and after it. Some where the call ends.
+fn step<A: Actor, G: Gate, R: Threads + Wait + Sync>(
+    rt: &R,
+    alloc: Global,
+    net: &mut Port<A::Mail, A::Order>,
+    shells: &mut Vec<Shell<A>>,
+    whos: &[u32],
+    workers: u32,
+    limit: u32,
+    used: &mut u32,
+    gate: &G,
+) -> Option<Rounds>
+    requires workers { 0 < workers }
+    requires exchange { AllOf net.old shells.old.items }
+    requires used { used.old ≤ limit }
+    ensures len { length shells.new.items ≡ length shells.old.items }
+    ensures same { AllGo shells.old.items shells.new.items }
+    ensures net { Looked net.old net.new }
+    ensures used { used.new ≤ limit }
+    ensures end { IfSome result (λ answer. IsEnd answer net.new shells.new.items whos.now limit) }
+{
+    if let Some(answer) = prepare(rt, net, shells, whos, limit, *used) {
+        return Some(answer);
+    }
+    if meet(rt, net, shells).is_err() {
+        return Some(Rounds::OutOfMemory);
+    }
+    let round = play_round(rt, alloc, gate, shells, workers, limit - *used);
+    *used += round.did;
+    match round.refused {
+        None => None,
+        Some(refused) => Some(ended(rt, net, shells, whos, limit, refused)),
+    }
+}
+
+/// Rounds in which each shell that is not spent takes a turn, runs of neighbours at the same time, until nothing is pending for the shells' actors, `limit` deliveries were made, or a row is refused.
+///
+/// Before each round every shell meets `net`, which is the network's port and makes no row. There are as many runs as `workers`, or fewer. Where fewer deliveries are left than there are shells, the shells take their turns one after the other.
+pub fn rounds<A: Actor, G: Gate, R: Threads + Wait + Sync>(
+    rt: &R,
+    alloc: Global,
+    net: &mut Port<A::Mail, A::Order>,
+    shells: &mut Vec<Shell<A>>,
+    workers: u32,
+    limit: u32,
+    gate: &G,
+) -> Rounds
+    requires workers { (1 ≤ workers) × (workers ≤ 16) }
+    requires net { net.old.who ≡ 0 }
+    requires exchange { AllOf net.old shells.old.items }
+    requires sound { AllSound shells.old.items }
+    ensures len { length shells.new.items ≡ length shells.old.items }
+    ensures same { AllGo shells.old.items shells.new.items }
+    ensures net { Looked net.old net.new }
+    ensures end { IsEnd result net.new shells.new.items (numbers shells.old.items) limit }
+{
+    let Ok(whos) = numbers_of(alloc, shells.as_slice()) else {
+        return Rounds::OutOfMemory;
+    };
+    let mut used = 0u32;
+    for _ in rt.forever() {
+        if let Some(answer) = step(
+            rt,
+            alloc,
+            net,
+            shells,
+            whos.as_slice(),
+            workers,
+            limit,
+            &mut used,
+            gate,
+        ) {
+            return answer;
+        }
+    }
+    unreachable!()
+}
