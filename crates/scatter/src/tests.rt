@@ -1,8 +1,12 @@
 use super::*;
-use sc_actor::{Parcel, Row};
-use sc_cmd::OrderLine;
+use crate::played::{Played, play};
+use sc_actor::{Event, Parcel, Row};
+use sc_base::{Dup, Reply};
+use sc_cmd::{Command, Effect, OrderLine};
 use sc_edges::{MemSink, MemSource};
-use sc_mail::Mail;
+use sc_machine::Machine;
+use sc_mail::{Mail, MailBody};
+use sc_scenario::read_scenario;
 use std::alloc::Global;
 use std::process::Abort;
 use std::test::Fail;
@@ -144,8 +148,8 @@ fn rows_count_what_their_mails_weigh(rt: HostRuntime) -> Result<(), Fail> {
     let words = words_of(alloc, "run")?;
     let mut input = MemSource::new(alloc, FIRST, &[])?;
     let mut output = MemSink::new(alloc, 1000, &[])?;
-    let done = run(alloc, &words, &mut input, &mut output);
-    let Some(journal) = done.journal else {
+    let Done { journal, .. } = run(alloc, &words, &mut input, &mut output);
+    let Some(journal) = journal else {
         return Err(Fail::from("no journal"));
     };
     let mut counted = Vec::new(alloc);
@@ -154,5 +158,73 @@ fn rows_count_what_their_mails_weigh(rt: HostRuntime) -> Result<(), Fail> {
     }
     let expected = [322u64, 322, 320, 320, 321, 321, 320, 321, 64];
     assert_eq!(rt; counted.as_slice(), expected.as_slice());
+    Ok(())
+}
+
+// Whether a row says that it accepted a slot.
+fn accepts(row: &Row<Mail, OrderLine>) -> bool {
+    row.sent
+        .as_slice()
+        .iter()
+        .any(|mail| matches!(&mail.body, MailBody::Accepted { .. }))
+}
+
+// The command that a row accepts, if it delivers the Accept of one.
+fn accepted<'a>(row: &Row<Mail, OrderLine>, sent: &[&'a Mail]) -> Option<&'a Command> {
+    let Event::Deliver(number) = &row.event else {
+        return None;
+    };
+    let mail = *sent.get(number.saturating_sub(1) as usize)?;
+    match &mail.body {
+        MailBody::Accept { command, .. } if accepts(row) => Some(command),
+        _ => None,
+    }
+}
+
+// The old values that the history of a run answers, in its order: a group of one member decides
+// each command that it accepts. No value is told as the empty text.
+fn history(alloc: Global, text: &[u8]) -> Result<Vec<Vec<u8>>, Fail> {
+    let scenario = read_scenario(alloc, text)?;
+    let Played::Ended { journal, .. } = play(alloc, &scenario, 1 << 30) else {
+        return Err(Fail::from("the run did not end"));
+    };
+    let Some(base) = scenario.groups.as_slice().first() else {
+        return Err(Fail::from("no group"));
+    };
+    let mut machine = Machine::born(alloc, base.dup(alloc)?)?;
+    let mut sent = Vec::new(alloc);
+    let mut olds = Vec::new(alloc);
+    for row in journal.as_slice() {
+        if let Some(command @ Command::Call { .. }) = accepted(row, &sent) {
+            if let Effect::Done(Reply { old }) = machine.apply(command)? {
+                let bytes = match &old {
+                    Some(value) => value.bytes(),
+                    None => b"",
+                };
+                olds.push(Vec::from_slice(alloc, bytes)?)?;
+            }
+        }
+        for mail in row.sent.as_slice() {
+            sent.push(mail)?;
+        }
+    }
+    Ok(olds)
+}
+
+const FOUR: &[u8] =
+    b"scatter 1\nnodes 1\ngroup 0 1\nclient 1\nput a x\nput a y\nget b\nget a\nend\ngo 1\nsettle 100\n";
+
+#[test]
+fn histories_are_those_of_one_map(rt: HostRuntime) -> Result<(), Fail> {
+    let two = history(rt.alloc(), FIRST)?;
+    assert_eq!(rt; two.len(), 2);
+    assert_eq!(rt; two[0].as_slice(), b"".as_slice());
+    assert_eq!(rt; two[1].as_slice(), b"x".as_slice());
+    let four = history(rt.alloc(), FOUR)?;
+    assert_eq!(rt; four.len(), 4);
+    assert_eq!(rt; four[0].as_slice(), b"".as_slice());
+    assert_eq!(rt; four[1].as_slice(), b"x".as_slice());
+    assert_eq!(rt; four[2].as_slice(), b"".as_slice());
+    assert_eq!(rt; four[3].as_slice(), b"y".as_slice());
     Ok(())
 }
