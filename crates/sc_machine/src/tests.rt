@@ -62,20 +62,38 @@ fn word(effect: &Effect) -> &'static str {
     }
 }
 
+// What the effect of a put is.
+fn told(
+    alloc: Global,
+    machine: &mut Machine,
+    seq: u32,
+    key: &[u8],
+    value: &[u8],
+) -> Result<&'static str, Fail> {
+    let command = put(alloc, seq, key, value)?;
+    match &command {
+        Command::Call { .. } => {
+            let effect = machine.apply(&command)?;
+            Ok(word(&effect))
+        }
+        _ => Err(Fail::from("no request")),
+    }
+}
+
 #[test]
 fn requests_take_effect_once(rt: HostRuntime) -> Result<(), Fail> {
     let alloc = rt.alloc();
     let mut machine = Machine::born(alloc, group(alloc)?)?;
-    let first = machine.apply(&put(alloc, 1, b"a", b"x")?)?;
-    assert_eq!(rt; word(&first), "done none");
-    let again = machine.apply(&put(alloc, 1, b"a", b"y")?)?;
-    assert_eq!(rt; word(&again), "again");
-    let second = machine.apply(&put(alloc, 2, b"a", b"z")?)?;
-    assert_eq!(rt; word(&second), "done value");
-    let stale = machine.apply(&put(alloc, 1, b"a", b"x")?)?;
-    assert_eq!(rt; word(&stale), "stale");
-    let foreign = machine.apply(&put(alloc, 3, b"b", b"x")?)?;
-    assert_eq!(rt; word(&foreign), "not mine");
+    let puts: [(u32, &[u8], &[u8], &str); 5] = [
+        (1, b"a", b"x", "done none"),
+        (1, b"a", b"y", "again"),
+        (2, b"a", b"z", "done value"),
+        (1, b"a", b"x", "stale"),
+        (3, b"b", b"x", "not mine"),
+    ];
+    for (seq, key, value, effect) in puts {
+        assert_eq!(rt; told(alloc, &mut machine, seq, key, value)?, effect);
+    }
     assert_eq!(rt; machine.core().begun, 0);
     Ok(())
 }
