@@ -5,6 +5,3 @@ mod answers;
 mod node;
 
 pub use node::NodeCore;
-
-#[cfg(test)]
-mod tests;

@@ -6,6 +6,3 @@ mod seating;
 
 pub use party::Party;
 pub use seating::{are_few, births, schedule};
-
-#[cfg(test)]
-mod tests;
