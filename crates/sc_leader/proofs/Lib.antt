@@ -1,4 +1,3 @@
-mod Parts
 mod Places
 mod Counting
 mod Flying

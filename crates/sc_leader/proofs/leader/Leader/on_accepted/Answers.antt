@@ -5,15 +5,15 @@ use Rattle.sc_paxos_words.specs.declared.flights.Flight.{Flight}
 use Rattle.sc_paxos_words.specs.declared.answers.Counted.{Counted}
 use Rattle.sc_paxos_words.specs.declared.answers.Counted.TheVariants.{Chosen}
 use Rattle.sc_paxos_words.specs.Leaders.{LeaderState, flight_at}
-use Rattle.sc_paxos_words.specs.Votes.{voters_of, counted, only_members_voted}
+use Rattle.sc_paxos_words.specs.Votes.{voters_of, counted}
 use Rattle.sc_leader.specs.OneEach.{IsOneEach}
-use Rattle.sc_leader.proofs.Flying.{one_without, one_written, counted_keeps}
+use Rattle.sc_leader.proofs.Flying.{one_without, one_written}
 use Rattle.sc_leader.proofs.Counting.{no_majority, majority, something}
 use Rattle.sc_leader.proofs.leader.Leader.on_accepted.Goals as goal
 use Rattle.sc_leader.proofs.leader.Leader.on_accepted.Goals.{in-Some-take_out, in-None}
 
-pub returns-then-not-are_majority-clause-answer : goal.returns-then-not-are_majority-clause-answer
-returns-then-not-are_majority-clause-answer g c =
+pub returns-then-not-are_majority : goal.returns-then-not-are_majority
+returns-then-not-are_majority g c =
     let same : c.args.ballot ≡ c.self.inside.ballot = search rules in
     let miss : is_majority c.args.members.now (voters_of c.voters_after-voters.result) ≡ false = search rules in
     let leader : LeaderState g.row.V.Denot = record { ballot = c.self.inside.ballot; is_first = c.self.inside.is_first; from = c.self.inside.from; promisers = c.self.inside.promisers.items; reports = c.self.inside.reports.items; flights = c.self.inside.flights.items } in
@@ -22,8 +22,8 @@ returns-then-not-are_majority-clause-answer g c =
     ∙ no_majority c.args.from c.args.ballot c.args.slot c.args.members.now leader c.in-Some.kept c.voters_after-voters.result c.count_of.result c.set_voters.new.flights.items
     same found c.voters_after-voters.ensures miss c.count_of.ensures c.set_voters.ensures
 
-pub returns-clause-answer : goal.returns-clause-answer
-returns-clause-answer g c =
+pub returns : goal.returns
+returns g c =
     let same : c.args.ballot ≡ c.self.inside.ballot = search rules in
     let most : is_majority c.args.members.now (voters_of c.voters_after-voters.result) ≡ true = search rules in
     let leader : LeaderState g.row.V.Denot = record { ballot = c.self.inside.ballot; is_first = c.self.inside.is_first; from = c.self.inside.from; promisers = c.self.inside.promisers.items; reports = c.self.inside.reports.items; flights = c.self.inside.flights.items } in
@@ -42,15 +42,3 @@ invariant_of-self g c = subst IsOneEach (sym c.set_voters.ensures) (one_written 
 
 pub invariant_of-self-2 : goal.invariant_of-self-2
 invariant_of-self-2 g c = subst IsOneEach (sym c.take_out.ensures.after) (one_without c.args.slot c.self.inside.flights.items c.self.invariant)
-
-pub returns-then-not-are_majority-clause-kept : goal.returns-then-not-are_majority-clause-kept
-returns-then-not-are_majority-clause-kept g c =
-    let one = subst (λ (leader : LeaderState g.row.V.Denot). IsOneEach leader.flights) c.self.view_is c.self.invariant in
-    ap (λ (r : Counted g.row.V.Denot × LeaderState g.row.V.Denot). only_members_voted c.args.slot c.args.members.now r.1) (sym (returns-then-not-are_majority-clause-answer g c))
-    ∙ counted_keeps c.args.from c.args.ballot c.args.slot c.args.members.now c.args.self.now one c.requires
-
-pub returns-clause-kept : goal.returns-clause-kept
-returns-clause-kept g c =
-    let one = subst (λ (leader : LeaderState g.row.V.Denot). IsOneEach leader.flights) c.self.view_is c.self.invariant in
-    ap (λ (r : Counted g.row.V.Denot × LeaderState g.row.V.Denot). only_members_voted c.args.slot c.args.members.now r.1) (sym (returns-clause-answer g c))
-    ∙ counted_keeps c.args.from c.args.ballot c.args.slot c.args.members.now c.args.self.now one c.requires
