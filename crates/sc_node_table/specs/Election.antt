@@ -1,0 +1,47 @@
+-- A replica begins to run, or runs no longer.
+use Rattle.std.specs.Prelude.{ℕ, ◌+◌, ◌-◌, ◌^◌, ◌==◌, ◌&&◌, Bool, true, false, List, [], filter, if◌then◌else◌, Option, Some}
+use Rattle.std.specs.List.{list_any}
+use Rattle.sc_base.specs.declared.names.Ballot.{Ballot}
+use Rattle.sc_mail.specs.declared.bodies.AnswerBody.{AnswerBody}
+use Rattle.sc_mail.specs.declared.bodies.AnswerBody.TheVariants as Says
+use Rattle.sc_mail.specs.declared.bodies.MailBody.TheVariants.{Prepare}
+use Rattle.sc_member.specs.Roster.{is_member}
+use Rattle.sc_paxos_words.specs.Ballots.{below}
+use Rattle.sc_paxos_words.specs.Leaders.{elected as new_leader}
+use Rattle.sc_node_table.specs.Slots.{numbers}
+use Rattle.sc_node_table.specs.Replica.{ReplicaState, Place, name_of, next, under_way}
+use Rattle.sc_node_table.specs.Mails.{sent_all, answered_all}
+
+-- whether a node is in one of these sets
+abbrev pub is_in_some : List (List ℕ) → ℕ → Bool
+is_in_some sets node = list_any (λ set. is_member set node) sets
+
+-- the nodes, of 1 to 32, that are in one of these sets
+abbrev pub open_nodes : List (List ℕ) → List ℕ
+open_nodes sets = filter (λ node. is_in_some sets node) (numbers 1 32)
+
+-- Election: it runs with the next ballot of its own and asks the members of the open slots to promise it (Paxos Made Simple, section 2.2, phase 1). The queues stay. No round is above 2^32 - 1
+unfoldable pub elected : Place → Place
+elected (r, mails) =
+    if r.top.round == 2 ^ 32 - 1 then (r, mails) else
+    let ballot : Ballot = record { round = r.top.round + 1; node = r.me } in (
+      record r { top = ballot; hint = Some r.me; running = true; leader = new_leader ballot (next r); ready = []; waits = 0 },
+      sent_all r.me (open_nodes r.sets) (Prepare (name_of r) ballot (next r)) mails,
+    )
+
+-- it runs no longer, and each call in flight, ready or waiting is answered so
+unfoldable pub ended : Option ℕ → AnswerBody → Place → Place
+ended hint answer (r, mails) = (
+  record r { running = false; leader = new_leader r.leader.ballot (next r); ready = []; acts = []; calls = []; hint = hint },
+  answered_all r.me (name_of r) answer r.calls (answered_all r.me (name_of r) answer (under_way r) mails),
+)
+
+-- Stop with a hint
+abbrev pub stopped : Option ℕ → Place → Place
+stopped hint place = ended hint (Says.NotLeader hint) place
+
+-- the rule on a ballot of a Prepare, Accept or Nack: it raises the greatest ballot seen, and a leader of a lower one stops
+unfoldable pub saw : Ballot → Place → Place
+saw ballot (r, mails) =
+    let seen : ReplicaState = if below r.top ballot then record r { top = ballot } else r in
+    if r.running && below r.leader.ballot ballot then stopped (Some ballot.node) (seen, mails) else (seen, mails)

@@ -1,0 +1,115 @@
+-- Execute: the command of the next slot, counted where it was ready, else learnt. The parts stand in the order of their numbers.
+use Rattle.std.specs.Prelude.{ℕ, ◌-◌, ◌^◌, ◌==◌, ◌&&◌, ◌||◌, nat_lt, Bool, true, false, List, [], ◌∷◌, ◌++◌, if◌then◌else◌, Option, Some, None}
+use Rattle.sc_cmd.specs.declared.links.Route.{Route}
+use Rattle.sc_cmd.specs.declared.commands.Command.{Command}
+use Rattle.sc_cmd.specs.declared.commands.Command.TheVariants.{Call}
+use Rattle.sc_cmd.specs.declared.effects.Effect.{Effect}
+use Rattle.sc_cmd.specs.declared.effects.Effect.TheVariants as Was
+use Rattle.sc_mail.specs.declared.bodies.AnswerBody.{AnswerBody}
+use Rattle.sc_mail.specs.declared.bodies.AnswerBody.TheVariants as Says
+use Rattle.sc_mail.specs.declared.bodies.MailBody.TheVariants.{Learn}
+use Rattle.sc_member.specs.Roster.{is_member, least_of}
+use Rattle.sc_paxos_words.specs.Logs.{LogState, learnt, next_of}
+use Rattle.sc_paxos_words.specs.Leaders.{landed as without_flight_at}
+use Rattle.sc_machine_table.specs.Machine.{applied}
+use Rattle.sc_node_table.specs.Slots.{rest_of, at_slot, without_slot}
+use Rattle.sc_node_table.specs.Replica.{ReplicaState, Place, name_of, next, members, flying}
+use Rattle.sc_node_table.specs.Mails.{answer_to, sent_others}
+use Rattle.sc_node_table.specs.Queues.{put_back, same_command}
+use Rattle.sc_node_table.specs.Election.{elected, ended, stopped}
+use Rattle.sc_node_table.specs.Pump.{pumped}
+
+-- the log with the entry of its next slot
+abbrev pub with_entry : Command → LogState Command → LogState Command
+with_entry command log = (learnt (next_of log) command log).1
+
+-- 1. it is applied and kept, and one more slot is open, decided by the members in the new state ..
+unfoldable pub entered : Command → ReplicaState → ReplicaState
+entered command r =
+    let after = (applied r.group command).0 in
+    record r { group = after; log = with_entry command r.log; sets = rest_of r.sets ++ after.core.members ∷ [] }
+
+-- .. a counted call is answered by its effect, or goes back
+abbrev pub answer_of : Effect → Option AnswerBody
+answer_of (Was.Done reply) = Some (Says.Value reply)
+answer_of (Was.Again reply) = Some (Says.Value reply)
+answer_of (Was.Stale last) = Some (Says.Stale last)
+answer_of (Was.NotMine arc succ) = Some (Says.NotMine arc succ)
+answer_of (Was.Gone into) = Some (Says.Gone into)
+answer_of _ = None
+
+unfoldable pub told_call : Option AnswerBody → Command → Place → Place
+told_call (Some answer) (Call client seq op) (r, mails) = (r, answer_to r.me (name_of r) client seq answer mails)
+told_call None (Call client seq op) (r, mails) = (put_back (Call client seq op) r, mails)
+told_call answer command place = place
+
+unfoldable pub told : Bool → Effect → Command → Place → Place
+told counted effect command place = if counted then told_call (answer_of effect) command place else place
+
+-- 2. the members before a counted command learn it
+unfoldable pub learnt_to : Bool → List ℕ → ℕ → Command → Place → Place
+learnt_to counted before slot command (r, mails) =
+    if counted then (r, sent_others r.me before (Learn (name_of r) slot command) mails) else (r, mails)
+
+-- 4. what is in flight or ready at its slot is over; a command that lost its slot to a learnt one goes back
+abbrev pub lost : Bool → Command → Option Command → ReplicaState → ReplicaState
+lost counted command None r = r
+lost counted command (Some other) r = if counted || same_command other command then r else put_back other r
+
+unfoldable pub landed : Bool → ℕ → Command → Place → Place
+landed counted slot command (r, mails) =
+    let over : ReplicaState = record r { leader = without_flight_at slot r.leader; ready = without_slot r.ready slot } in
+    (lost counted command (flying r slot) over, mails)
+
+-- 5. one that runs ends where the group is gone, and stops where this node is no member
+abbrev pub left_gone : Option Route → Place → Place
+left_gone (Some into) place = ended None (Says.Gone into) place
+left_gone None (r, mails) = if is_member (members r) r.me then (r, mails) else stopped (Some (least_of (members r))) (r, mails)
+
+unfoldable pub left : Place → Place
+left (r, mails) = if r.running then left_gone r.group.core.gone (r, mails) else (r, mails)
+
+-- 6. one that does not run looks for a leader where its hint is no member: the least member, and where that is itself it is elected
+abbrev pub is_among : List ℕ → Option ℕ → Bool
+is_among nodes None = false
+is_among nodes (Some node) = is_member nodes node
+
+abbrev pub looked_for : Option Route → Place → Place
+looked_for (Some into) place = place
+looked_for None (r, mails) =
+    if is_among (members r) r.hint then (r, mails)
+    else if least_of (members r) == r.me then elected (record r { hint = Some r.me }, mails)
+    else (record r { hint = Some (least_of (members r)) }, mails)
+
+unfoldable pub looked : Place → Place
+looked (r, mails) = if r.running then (r, mails) else looked_for r.group.core.gone (r, mails)
+
+-- 1 to 6
+unfoldable pub executed_one : Bool → Command → Place → Place
+executed_one counted command (r, mails) =
+    let place1 = told counted (applied r.group command).1 command (entered command r, mails) in
+    let place2 = learnt_to counted (members r) (next r) command place1 in
+    let place4 = landed counted (next r) command place2 in
+    looked (left place4)
+
+-- whether a slot may be executed: none above 2^32 - 2 is counted
+abbrev pub has_room : ReplicaState → Bool
+has_room r = nat_lt (next r) (2 ^ 32 - 1)
+
+-- 7. where it runs, the ready command of the new next slot
+abbrev pub next_ready : ReplicaState → Option Command
+next_ready r = if r.running && has_room r then at_slot r.ready (next r) else None
+
+-- it is executed as counted, and so on, and 8. each execution ends with the pump. What was ready bounds how often: each execution takes one of it away and none adds one
+unfoldable pub executed_ready : List (ℕ × Command) → Place → Place
+executed_ready [] place = place
+executed_ready (e ∷ es) place =
+    elim (next_ready place.0) [ None ↦ place | Some command ↦ pumped (executed_ready es (executed_one true command place)) ]
+
+-- 7, and 8. pump
+abbrev pub all_ready : Place → Place
+all_ready place = executed_ready place.0.ready place
+
+-- the whole of Execute
+unfoldable pub executed : Bool → Command → Place → Place
+executed counted command place = pumped (all_ready (executed_one counted command place))

@@ -1,0 +1,10 @@
+pub mod Election
+pub mod Execute
+pub mod Mails
+pub mod Node
+pub mod Pump
+pub mod Queues
+pub mod Replica
+pub mod Rows
+pub mod Slots
+pub mod Voting

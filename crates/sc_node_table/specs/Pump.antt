@@ -1,0 +1,98 @@
+-- Pump: what a settled replica offers at its open slots.
+use Rattle.std.specs.Prelude.{ℕ, ◌+◌, ◌&&◌, ◌||◌, not, nat_le, Bool, true, false, List, [], ◌∷◌, if◌then◌else◌, Option, Some, None, is_some}
+use Rattle.std.specs.List.{list_any}
+use Rattle.sc_base.specs.declared.ops.Op.{Op}
+use Rattle.sc_ideal.specs.IdealStore.{key_of, holds_key}
+use Rattle.sc_cmd.specs.declared.links.Route.{Route}
+use Rattle.sc_cmd.specs.declared.cores.Core.{Core}
+use Rattle.sc_cmd.specs.declared.cores.Lock.{Lock}
+use Rattle.sc_cmd.specs.declared.cores.Lock.TheVariants.{Free, Watching}
+use Rattle.sc_cmd.specs.declared.commands.Command.{Command}
+use Rattle.sc_cmd.specs.declared.commands.Command.TheVariants.{Noop, Call}
+use Rattle.sc_mail.specs.declared.bodies.AnswerBody.{AnswerBody}
+use Rattle.sc_mail.specs.declared.bodies.AnswerBody.TheVariants as Says
+use Rattle.sc_mail.specs.declared.bodies.MailBody.TheVariants.{Accept}
+use Rattle.sc_mail.specs.declared.bodies.Mail.{Mail}
+use Rattle.sc_paxos_words.specs.declared.answers.Must.{Must}
+use Rattle.sc_paxos_words.specs.declared.answers.Must.TheVariants.{Value, Gap, Free as Open}
+use Rattle.sc_paxos_words.specs.Leaders.{must, offered as offered_by}
+use Rattle.sc_node_table.specs.Replica.{Place, name_of, next, settled, may_offer, taken_at, under_way, is_idle, last_slot}
+use Rattle.sc_node_table.specs.Mails.{sent_all, answered}
+
+-- what is found for a slot, if anything is, and the place after it
+abbrev pub Found : Type 0
+Found = Option Command × Place
+
+-- 3. whether a command is other than Call and Noop: while one is under way nothing new is offered
+abbrev pub is_alone : Command → Bool
+is_alone Noop = false
+is_alone (Call client seq op) = false
+is_alone _ = true
+
+-- 5. calls are served under these locks alone
+abbrev pub serves_calls : Lock → Bool
+serves_calls Free = true
+serves_calls (Watching tx watch) = true
+serves_calls _ = false
+
+-- whether the head of `calls` waits: a call for the lock, and an order also for what is under way
+abbrev pub waits : Bool → Lock → Command → Bool
+waits idle lock (Call client seq op) = not (serves_calls lock)
+waits idle lock _ = not (serves_calls lock) || not idle
+
+-- the answer of a call that the group does not serve
+abbrev pub refused_by : Option Route → Core → Op → Option AnswerBody
+refused_by (Some into) core op = Some (Says.Gone into)
+refused_by None core op = if holds_key core.arc (key_of op) then None else Some (Says.NotMine core.arc core.succ)
+
+abbrev pub turned_down : Core → Command → Option AnswerBody
+turned_down core (Call client seq op) = refused_by core.gone core op
+turned_down core _ = None
+
+-- 5 and 6. the command at the head of `calls` that a slot may have; the calls before it that the group does not serve are answered without a slot
+unfoldable pub next_call : ℕ → Bool → Core → List Command → List Mail → Option Command × List Command × List Mail
+next_call me idle core [] mails = (None, [], mails)
+next_call me idle core (command ∷ calls) mails =
+    if waits idle core.lock command then (None, command ∷ calls, mails)
+    else elim (turned_down core command) [ None ↦ (Some command, calls, mails) | Some answer ↦ next_call me idle core calls (answered me core.id answer command mails) ]
+
+unfoldable pub from_calls : Place → Found
+from_calls (r, mails) =
+    let found = next_call r.me (is_idle r) r.group.core r.calls mails in
+    (found.0, (record r { calls = found.1 }, found.2))
+
+-- 4. the head of `acts`, once nothing is under way
+abbrev pub from_acts : List Command → Place → Found
+from_acts [] place = from_calls place
+from_acts (act ∷ acts) (r, mails) = if is_idle r then (Some act, (record r { acts = acts }, mails)) else (None, (r, mails))
+
+-- 3 to 7
+unfoldable pub from_queues : Place → Found
+from_queues (r, mails) = if list_any is_alone (under_way r) then (None, (r, mails)) else from_acts r.acts (r, mails)
+
+-- 1 and 2. what the leader must propose there; else what waits
+abbrev pub found_by : Must Command → Place → Found
+found_by (Value command) place = (Some command, place)
+found_by Gap place = (Some Noop, place)
+found_by Open place = from_queues place
+
+unfoldable pub found_for : ℕ → Place → Found
+found_for slot (r, mails) = found_by (must slot r.leader) (r, mails)
+
+-- what is found goes into flight, and the members of its slot are asked to accept it (Paxos Made Simple, section 2.2, phase 2)
+unfoldable pub offered : ℕ → List ℕ → Command → Place → Place
+offered slot set command (r, mails) =
+    (record r { leader = offered_by slot command r.leader }, sent_all r.me set (Accept (name_of r) r.leader.ballot slot command) mails)
+
+-- the open slots from the least one on, each with its members; a slot that is taken is passed by
+unfoldable pub pumped_from : ℕ → List (List ℕ) → Place → Place
+pumped_from slot [] place = place
+pumped_from slot (set ∷ sets) place =
+    if is_some (taken_at place.0 slot) then pumped_from (slot + 1) sets place
+    else if may_offer place.0 set then (
+    let found = found_for slot place in
+    elim (found.0) [ None ↦ found.1 | Some command ↦ pumped_from (slot + 1) sets (offered slot set command found.1) ])
+    else place
+
+unfoldable pub pumped : Place → Place
+pumped place = if settled place.0 && nat_le (next place.0) last_slot then pumped_from (next place.0) place.0.sets place else place

@@ -1,0 +1,122 @@
+-- One group on one node: what its replica keeps, and what is said of it.
+use Rattle.std.specs.Prelude.{ℕ, ◌-◌, ◌^◌, nat_lt, ◌==◌, ◌&&◌, Bool, List, [], ◌∷◌, ◌++◌, length, replicate, slice_get, if◌then◌else◌, Option, Some, None}
+use Rattle.std.specs.Option.{option_map}
+use Rattle.sc_base.specs.declared.names.Draw.{Draw}
+use Rattle.sc_base.specs.declared.names.Ballot.{Ballot}
+use Rattle.sc_cmd.specs.declared.commands.Command.{Command}
+use Rattle.sc_cmd.specs.declared.cores.Base.{Base}
+use Rattle.sc_cmd.specs.declared.cores.Core.{Core}
+use Rattle.sc_mail.specs.declared.bodies.Mail.{Mail}
+use Rattle.sc_paxos_words.specs.Logs.{LogState, empty_log, next_of}
+use Rattle.sc_paxos_words.specs.Acceptors.{AcceptorState, born}
+use Rattle.sc_paxos_words.specs.Leaders.{LeaderState, first_leader, flight_at, is_settled}
+use Rattle.sc_machine_table.specs.Group.{Group, group_of}
+use Rattle.sc_node_table.specs.Slots.{at_slot, numbers}
+
+-- the node's number; the executed state and the log of executed entries; the acceptor; the node that it takes for the leader; the greatest ballot seen; whether it runs, and its leader, which counts only then; the commands of which a majority was counted and that are not yet executed, by slot; the members of the open slots, from the next slot on; the waiting commands of transactions, and the waiting calls and orders; how long a transaction has waited
+pub record ReplicaState : Type 0 where
+  pub me : ℕ
+  pub group : Group
+  pub log : LogState Command
+  pub acceptor : AcceptorState Command
+  pub hint : Option ℕ
+  pub top : Ballot
+  pub running : Bool
+  pub leader : LeaderState Command
+  pub ready : List (ℕ × Command)
+  pub sets : List (List ℕ)
+  pub acts : List Command
+  pub calls : List Command
+  pub waits : ℕ
+
+-- a replica and the mails that its step has sent so far: each part of the table takes one to the next, and puts its mails last
+abbrev pub Place : Type 0
+Place = ReplicaState × List Mail
+
+-- the ballot in which a group's first leader runs from birth
+abbrev pub first_ballot : Core → Ballot
+first_ballot core = record { round = 1; node = core.first }
+
+-- a replica that was made at its group's birth, where so many slots are open at a time: the first member runs with the first ballot, which every acceptor has promised
+abbrev pub born_replica : ℕ → ℕ → Base → ReplicaState
+born_replica ahead me base = record {
+  me = me;
+  group = group_of base;
+  log = empty_log;
+  acceptor = born (first_ballot base.core);
+  hint = Some base.core.first;
+  top = first_ballot base.core;
+  running = base.core.first == me;
+  leader = first_leader (first_ballot base.core);
+  ready = [];
+  sets = replicate ahead base.core.members;
+  acts = [];
+  calls = [];
+  waits = 0;
+}
+
+abbrev pub name_of : ReplicaState → Draw
+name_of r = r.group.core.id
+
+-- the slot after the last executed one
+abbrev pub next : ReplicaState → ℕ
+next r = next_of r.log
+
+-- the members in the executed state
+abbrev pub members : ReplicaState → List ℕ
+members r = r.group.core.members
+
+-- the members of a slot, if it is open
+abbrev pub set_at : ℕ → ReplicaState → Option (List ℕ)
+set_at slot r = if nat_lt slot (next r) then None else slice_get r.sets (slot - next r)
+
+-- the open slots
+abbrev pub open_slots : ReplicaState → List ℕ
+open_slots r = numbers (next r) (length r.sets)
+
+-- the last slot at which a command is learnt, and after which none is offered
+abbrev pub last_slot : ℕ
+last_slot = 2 ^ 32 - 8
+
+-- the members of the next slot
+abbrev pub first_set : List (List ℕ) → List ℕ
+first_set [] = []
+first_set (set ∷ sets) = set
+
+-- whether its leader may offer at a slot with these members: no higher ballot was promised here, and its ballot is the first or a majority of them has promised it
+abbrev pub may_offer : ReplicaState → List ℕ → Bool
+may_offer r set = is_settled r.acceptor.promised set r.leader
+
+-- whether it runs and its leader may offer at the next slot
+abbrev pub settled : ReplicaState → Bool
+settled r = r.running && may_offer r (first_set r.sets)
+
+-- the command in flight at a slot
+abbrev pub flying : ReplicaState → ℕ → Option Command
+flying r slot = option_map (λ flight. flight.value) (flight_at slot r.leader.flights)
+
+-- the first of two, if there is one, else the second
+abbrev pub either : {X : Type 0} → Option X → Option X → Option X
+either (Some x) other = Some x
+either None other = other
+
+-- the command in flight or ready at a slot
+abbrev pub taken_at : ReplicaState → ℕ → Option Command
+taken_at r slot = either (flying r slot) (at_slot r.ready slot)
+
+abbrev pub listed : {X : Type 0} → Option X → List X
+listed None = []
+listed (Some x) = x ∷ []
+
+-- what is in flight or ready at these slots
+abbrev pub taken_from : ReplicaState → List ℕ → List Command
+taken_from r [] = []
+taken_from r (slot ∷ slots) = listed (taken_at r slot) ++ taken_from r slots
+
+-- the commands in flight or ready, by slot
+abbrev pub under_way : ReplicaState → List Command
+under_way r = taken_from r (open_slots r)
+
+-- whether nothing is in flight or ready
+abbrev pub is_idle : ReplicaState → Bool
+is_idle r = length (under_way r) == 0

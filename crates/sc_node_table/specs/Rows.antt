@@ -1,0 +1,108 @@
+-- The rows of Request, Learn, Ask and Tick, and a replica's table.
+use Rattle.std.specs.Prelude.{ℕ, zero, suc, ◌+◌, ◌-◌, ◌==◌, ◌&&◌, ◌||◌, not, nat_lt, nat_le, false, List, [], ◌∷◌, ◌++◌, filter, if◌then◌else◌, Option, Some, None, is_some}
+use Rattle.sc_base.specs.declared.ops.Op.{Op}
+use Rattle.sc_ideal.specs.IdealStore.{key_of, holds_key}
+use Rattle.sc_cmd.specs.declared.links.Route.{Route}
+use Rattle.sc_cmd.specs.declared.commands.Command.{Command}
+use Rattle.sc_cmd.specs.declared.commands.Command.TheVariants.{Call}
+use Rattle.sc_mail.specs.declared.bodies.AnswerBody.{AnswerBody}
+use Rattle.sc_mail.specs.declared.bodies.AnswerBody.TheVariants as Says
+use Rattle.sc_mail.specs.declared.bodies.MailBody.{MailBody}
+use Rattle.sc_mail.specs.declared.bodies.MailBody.TheVariants.{Request, Prepare, Promise, Accept, Accepted, Nack, Learn, Ask}
+use Rattle.sc_mail.specs.declared.bodies.Mail.{Mail}
+use Rattle.sc_member.specs.Roster.{is_member}
+use Rattle.sc_paxos_words.specs.Logs.{entry_at}
+use Rattle.sc_paxos_words.specs.Votes.{has_voted}
+use Rattle.sc_node_table.specs.declared.ReplicaInput.{ReplicaInput}
+use Rattle.sc_node_table.specs.declared.ReplicaInput.TheVariants as Given
+use Rattle.sc_node_table.specs.Replica.{ReplicaState, Place, name_of, next, members, settled, flying, is_idle, last_slot}
+use Rattle.sc_node_table.specs.Mails.{sent, sent_all, sent_others, answer_to}
+use Rattle.sc_node_table.specs.Queues.{call_of, without_call}
+use Rattle.sc_node_table.specs.Election.{elected}
+use Rattle.sc_node_table.specs.Execute.{executed}
+use Rattle.sc_node_table.specs.Pump.{pumped, serves_calls}
+use Rattle.sc_node_table.specs.Voting.{prepare_row, promise_row, accept_row, accepted_row, nack_row}
+
+-- why a request is not taken, the first that holds
+abbrev pub refused_at : Option Route → Op → ReplicaState → Option AnswerBody
+refused_at (Some into) op r = Some (Says.Gone into)
+refused_at None op r =
+    if not r.running then Some (Says.NotLeader r.hint)
+    else if serves_calls r.group.core.lock && not (holds_key r.group.core.arc (key_of op)) then Some (Says.NotMine r.group.core.arc r.group.core.succ)
+    else None
+
+-- it waits last, unless the same or a later request of its client waits; an earlier one waits no more
+unfoldable pub queued : Option ℕ → ℕ → ℕ → Op → Place → Place
+queued None client seq op (r, mails) = pumped (record r { calls = r.calls ++ Call client seq op ∷ [] }, mails)
+queued (Some other) client seq op (r, mails) =
+    if nat_le seq other then (r, mails)
+    else pumped (record r { calls = without_call r.calls client ++ Call client seq op ∷ [] }, mails)
+
+unfoldable pub requested : Option AnswerBody → ℕ → ℕ → Op → Place → Place
+requested (Some answer) client seq op (r, mails) = (r, answer_to r.me (name_of r) client seq answer mails)
+requested None client seq op (r, mails) = queued (call_of r.calls client) client seq op (r, mails)
+
+-- Request
+unfoldable pub request_row : ℕ → ℕ → Op → Place → Place
+request_row client seq op (r, mails) = requested (refused_at r.group.core.gone op r) client seq op (r, mails)
+
+-- Learn: the next slot's command is executed; for a later one the slots from the next on are asked for
+unfoldable pub learn_row : ℕ → ℕ → Command → Place → Place
+learn_row from slot command (r, mails) =
+    if nat_lt last_slot slot then (r, mails)
+    else if slot == next r then executed false command (r, mails)
+    else if nat_lt (next r) slot then (r, sent r.me from (Ask (name_of r) (next r)) mails)
+    else (r, mails)
+
+-- at most so many entries, from a slot on
+unfoldable pub taught : ℕ → ReplicaState → ℕ → ℕ → List Mail → List Mail
+taught zero r from slot mails = mails
+taught (suc count) r from slot mails =
+    elim (entry_at slot r.log) [ None ↦ mails | Some command ↦ taught count r from (slot + 1) (sent r.me from (Learn (name_of r) slot command) mails) ]
+
+-- Ask: at most 32 entries that are held
+unfoldable pub ask_row : ℕ → ℕ → Place → Place
+ask_row from slot (r, mails) = (r, taught 32 r from slot mails)
+
+-- the members of a slot whose vote was not counted
+abbrev pub uncounted : ReplicaState → ℕ → List ℕ → List ℕ
+uncounted r slot set = filter (λ node. not (has_voted slot node r.leader)) set
+
+-- 1. Accept again for each slot in flight, to each of its members that was not counted ..
+unfoldable pub asked_again : ReplicaState → ℕ → List (List ℕ) → List Mail → List Mail
+asked_again r slot [] mails = mails
+asked_again r slot (set ∷ sets) mails =
+    elim (flying r slot) [
+      | None ↦ asked_again r (slot + 1) sets mails
+      | Some command ↦ asked_again r (slot + 1) sets (sent_all r.me (uncounted r slot set) (Accept (name_of r) r.leader.ballot slot command) mails)
+    ]
+
+-- .. with nothing in flight or ready, Learn of the last entry to each other member
+unfoldable pub told_last : Option Command → ReplicaState → List Mail → List Mail
+told_last None r mails = mails
+told_last (Some command) r mails = sent_others r.me (members r) (Learn (name_of r) (next r - 1) command) mails
+
+-- Tick: a member that is not settled is elected
+unfoldable pub tick_row : Place → Place
+tick_row (r, mails) =
+    if is_some r.group.core.gone || not (is_member (members r) r.me) then (r, mails)
+    else if not (settled r) then elected (r, mails)
+    else if is_idle r then pumped (r, told_last (entry_at (next r - 1) r.log) r mails)
+    else pumped (r, asked_again r (next r) r.sets mails)
+
+-- a mail from an actor; those of no row change nothing
+unfoldable pub mailed : ℕ → MailBody → Place → Place
+mailed from (Request group client seq op) place = request_row client seq op place
+mailed from (Prepare group ballot from_slot) place = prepare_row from ballot from_slot place
+mailed from (Promise group ballot reports) place = promise_row from ballot reports place
+mailed from (Accept group ballot slot command) place = accept_row from ballot slot command place
+mailed from (Accepted group ballot slot) place = accepted_row from ballot slot place
+mailed from (Nack group promised) place = nack_row promised place
+mailed from (Learn group slot command) place = learn_row from slot command place
+mailed from (Ask group from_slot) place = ask_row from from_slot place
+mailed from _ place = place
+
+-- a replica's table
+unfoldable pub stepped : ReplicaInput → Place → Place
+stepped (Given.Got mail) place = mailed mail.from mail.body place
+stepped Given.Tick place = tick_row place

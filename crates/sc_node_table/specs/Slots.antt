@@ -1,0 +1,30 @@
+-- Values by their slots, ascending; and the first of a list.
+use Rattle.std.specs.Prelude.{ℕ, zero, suc, ◌+◌, ◌==◌, nat_lt, List, [], ◌∷◌, if◌then◌else◌, Option, Some, None}
+
+-- what is behind the first of a list
+abbrev pub rest_of : {X : Type 0} → List X → List X
+rest_of [] = []
+rest_of (x ∷ xs) = xs
+
+-- so many numbers from one on
+abbrev pub numbers : ℕ → ℕ → List ℕ
+numbers from zero = []
+numbers from (suc more) = from ∷ numbers (from + 1) more
+
+-- the value of a slot, if it has one
+abbrev pub at_slot : {X : Type 0} → List (ℕ × X) → ℕ → Option X
+at_slot [] slot = None
+at_slot (e ∷ es) slot = if e.0 == slot then Some e.1 else at_slot es slot
+
+-- the values with this one at its slot
+abbrev pub with_slot : {X : Type 0} → List (ℕ × X) → ℕ → X → List (ℕ × X)
+with_slot [] slot x = (slot, x) ∷ []
+with_slot (e ∷ es) slot x =
+    if e.0 == slot then (slot, x) ∷ es
+    else if nat_lt slot e.0 then (slot, x) ∷ e ∷ es
+    else e ∷ with_slot es slot x
+
+-- the values without that of a slot
+abbrev pub without_slot : {X : Type 0} → List (ℕ × X) → ℕ → List (ℕ × X)
+without_slot [] slot = []
+without_slot (e ∷ es) slot = if e.0 == slot then es else e ∷ without_slot es slot

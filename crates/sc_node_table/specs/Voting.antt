@@ -1,0 +1,95 @@
+-- Promises and votes: the rows of Prepare, Promise, Accept, Accepted and Nack.
+use Rattle.std.specs.Prelude.{ℕ, ◌==◌, ◌&&◌, nat_le, Bool, true, List, if◌then◌else◌, Option, Some, None}
+use Rattle.sc_base.specs.declared.names.Ballot.{Ballot}
+use Rattle.sc_cmd.specs.Same.{same_ballot}
+use Rattle.sc_cmd.specs.declared.commands.Command.{Command}
+use Rattle.sc_mail.specs.declared.bodies.MailBody.TheVariants.{Promise, Accepted, Nack}
+use Rattle.sc_paxos_words.specs.declared.reports.Report.{Report}
+use Rattle.sc_paxos_words.specs.declared.answers.PrepareAnswer.{PrepareAnswer}
+use Rattle.sc_paxos_words.specs.declared.answers.PrepareAnswer.TheVariants as Prepared
+use Rattle.sc_paxos_words.specs.declared.answers.AcceptAnswer.{AcceptAnswer}
+use Rattle.sc_paxos_words.specs.declared.answers.AcceptAnswer.TheVariants as Asked
+use Rattle.sc_paxos_words.specs.declared.answers.Counted.{Counted}
+use Rattle.sc_paxos_words.specs.declared.answers.Counted.TheVariants.{Chosen, NotYet}
+use Rattle.sc_paxos_words.specs.Preparing.{prepared}
+use Rattle.sc_paxos_words.specs.Accepting.{accepted as accepted_by}
+use Rattle.sc_paxos_words.specs.Acceptors.{AcceptorState}
+use Rattle.sc_paxos_words.specs.Leaders.{LeaderState, promise_counted}
+use Rattle.sc_paxos_words.specs.Votes.{counted}
+use Rattle.sc_node_table.specs.Slots.{with_slot}
+use Rattle.sc_node_table.specs.Replica.{ReplicaState, Place, name_of, next, set_at}
+use Rattle.sc_node_table.specs.Mails.{sent}
+use Rattle.sc_node_table.specs.Election.{saw}
+use Rattle.sc_node_table.specs.Execute.{executed, has_room}
+use Rattle.sc_node_table.specs.Pump.{pumped}
+
+-- one that does not run takes the ballot's node for the leader
+abbrev pub hinted : Ballot → ReplicaState → ReplicaState
+hinted ballot r = if r.running then r else record r { hint = Some ballot.node }
+
+-- what a prepare is answered
+abbrev pub promise_to : ℕ → Ballot → PrepareAnswer Command × AcceptorState Command → Place → Place
+promise_to from ballot (Prepared.Promise reports, acceptor) (r, mails) =
+    (hinted ballot (record r { acceptor = acceptor }), sent r.me from (Promise (name_of r) ballot reports) mails)
+promise_to from ballot (Prepared.Ignored promised, acceptor) (r, mails) =
+    (record r { acceptor = acceptor }, sent r.me from (Nack (name_of r) promised) mails)
+
+-- a prepare from a slot whose reports are kept; one from a slot that is forgotten is not answered
+unfoldable pub promised : ℕ → Ballot → ℕ → Place → Place
+promised from ballot from_slot (r, mails) =
+    if nat_le from_slot r.acceptor.floor then (r, mails)
+    else promise_to from ballot (prepared ballot from_slot r.acceptor) (r, mails)
+
+-- Prepare
+unfoldable pub prepare_row : ℕ → Ballot → ℕ → Place → Place
+prepare_row from ballot from_slot place = promised from ballot from_slot (saw ballot place)
+
+-- what an accept is answered
+abbrev pub accepted_to : ℕ → Ballot → ℕ → AcceptAnswer × AcceptorState Command → Place → Place
+accepted_to from ballot slot (Asked.Accepted, acceptor) (r, mails) =
+    (hinted ballot (record r { acceptor = acceptor }), sent r.me from (Accepted (name_of r) ballot slot) mails)
+accepted_to from ballot slot (Asked.Ignored promised, acceptor) (r, mails) =
+    (record r { acceptor = acceptor }, sent r.me from (Nack (name_of r) promised) mails)
+
+-- an accept at a slot that is kept; one at a slot that is forgotten is not answered
+unfoldable pub took : ℕ → Report Command → Place → Place
+took from report (r, mails) =
+    if nat_le report.slot r.acceptor.floor then (r, mails)
+    else accepted_to from report.ballot report.slot (accepted_by report r.acceptor) (r, mails)
+
+-- Accept
+unfoldable pub accept_row : ℕ → Ballot → ℕ → Command → Place → Place
+accept_row from ballot slot command place = took from (record { slot = slot; ballot = ballot; value = command }) (saw ballot place)
+
+-- whether it runs with a ballot
+abbrev pub leads : Ballot → ReplicaState → Bool
+leads ballot r = r.running && same_ballot ballot r.leader.ballot
+
+-- Promise: of the ballot with which it runs, each node's is counted once
+unfoldable pub promise_row : ℕ → Ballot → List (Report Command) → Place → Place
+promise_row from ballot reports (r, mails) =
+    if leads ballot r then pumped (record r { leader = (promise_counted from ballot reports r.leader).1 }, mails) else (r, mails)
+
+-- a command that became ready is executed where its slot is the next one
+unfoldable pub readied : ℕ → Command → Place → Place
+readied slot command (r, mails) =
+    let after : ReplicaState = record r { ready = with_slot r.ready slot command } in
+    if (slot == next r) && has_room r then executed true command (after, mails) else (after, mails)
+
+-- the count after a vote
+abbrev pub tallied : ℕ → Counted Command × LeaderState Command → Place → Place
+tallied slot (Chosen command, leader) (r, mails) = readied slot command (record r { leader = leader }, mails)
+tallied slot (NotYet count, leader) (r, mails) = (record r { leader = leader }, mails)
+
+-- a vote at an open slot is counted among that slot's members
+abbrev pub voted : ℕ → Ballot → ℕ → Option (List ℕ) → Place → Place
+voted from ballot slot None place = place
+voted from ballot slot (Some set) (r, mails) = tallied slot (counted from ballot slot set r.leader) (r, mails)
+
+-- Accepted
+unfoldable pub accepted_row : ℕ → Ballot → ℕ → Place → Place
+accepted_row from ballot slot (r, mails) = if leads ballot r then voted from ballot slot (set_at slot r) (r, mails) else (r, mails)
+
+-- Nack
+unfoldable pub nack_row : Ballot → Place → Place
+nack_row promised place = saw promised place
