@@ -1,5 +1,5 @@
 -- Execute: the command of the next slot, counted where it was ready, else learnt. The parts stand in the order of their numbers.
-use Rattle.std.specs.Prelude.{ℕ, ◌-◌, ◌^◌, ◌==◌, ◌&&◌, ◌||◌, nat_lt, Bool, true, false, List, [], ◌∷◌, ◌++◌, if◌then◌else◌, Option, Some, None}
+use Rattle.std.specs.Prelude.{ℕ, ◌+◌, ◌==◌, ◌&&◌, ◌||◌, nat_lt, Bool, true, false, List, [], ◌∷◌, ◌++◌, if◌then◌else◌, Option, Some, None}
 use Rattle.sc_cmd.specs.declared.links.Route.{Route}
 use Rattle.sc_cmd.specs.declared.commands.Command.{Command}
 use Rattle.sc_cmd.specs.declared.commands.Command.TheVariants.{Call}
@@ -13,7 +13,7 @@ use Rattle.sc_paxos_words.specs.Logs.{LogState, learnt, next_of}
 use Rattle.sc_paxos_words.specs.Leaders.{landed as without_flight_at}
 use Rattle.sc_machine_table.specs.Machine.{applied}
 use Rattle.sc_node_table.specs.Slots.{rest_of, at_slot, without_slot}
-use Rattle.sc_node_table.specs.Replica.{ReplicaState, Place, name_of, next, members, flying}
+use Rattle.sc_node_table.specs.Replica.{ReplicaState, Place, name_of, next, members, flying, last_slot}
 use Rattle.sc_node_table.specs.Mails.{answer_to, sent_others}
 use Rattle.sc_node_table.specs.Queues.{put_back, same_command}
 use Rattle.sc_node_table.specs.Election.{elected, ended, stopped}
@@ -92,9 +92,9 @@ executed_one counted command (r, mails) =
     let place4 = landed counted (next r) command place2 in
     looked (left place4)
 
--- whether a slot may be executed: none above 2^32 - 2 is counted
+-- whether a counted command may be executed at the next slot: the pump offers none above the last slot by more than the other open slots
 abbrev pub has_room : ReplicaState → Bool
-has_room r = nat_lt (next r) (2 ^ 32 - 1)
+has_room r = nat_lt (next r) (last_slot + 4)
 
 -- 7. where it runs, the ready command of the new next slot
 abbrev pub next_ready : ReplicaState → Option Command
