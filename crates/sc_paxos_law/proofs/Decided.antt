@@ -6,12 +6,15 @@ use Rattle.sc_paxos_words.specs.Among.{Among, Each}
 use Rattle.sc_base.specs.declared.names.Ballot.{Ballot}
 use Rattle.sc_member.specs.Roster.{is_member}
 use Rattle.sc_member.specs.Majority.{IsMajority, is_majority}
-use Rattle.sc_paxos_words.specs.Ballots.{same_ballot}
+use Rattle.std.specs.Option.{option_map}
+use Rattle.sc_paxos_words.specs.Ballots.{below, IsAtLeast, same_ballot}
+use Rattle.sc_paxos_words.specs.declared.reports.Report.{Report}
+use Rattle.sc_paxos_words.proofs.BallotLemmas.{at_least_itself, at_least_trans, at_least_from_below}
 use Rattle.sc_paxos_words.proofs.ListLemmas.{Each-among, Each-weaker}
 use Rattle.sc_paxos_law.specs.Steps.{Step, Prepared, Promised, Offered, Accepted, Cut}
 use Rattle.sc_paxos_law.specs.Chosen.{Rule, needed, members_of, IsChosen, IsChosenAfter, IsLog}
 use Rattle.sc_paxos_law.specs.Lawful.{IsLawful}
-use Rattle.sc_paxos_law.specs.Decided.{voters_of, found_in, chosen_at, top_slot, longer, log_of}
+use Rattle.sc_paxos_law.specs.Decided.{voters_of, lesser_of, found_in, chosen_at, top_slot, longer, log_of}
 use Rattle.sc_paxos_law.proofs.Among.{shared_member, member-among, among-member, count_by-le}
 use Rattle.sc_paxos_law.proofs.History.{was_offered, one_offer}
 use Rattle.sc_paxos_law.proofs.Law.{earlier, agree_members, logs_agree, element, chosen_by, later_log, longer_log}
@@ -71,32 +74,59 @@ more_voters members one other most f =
 
 -- ---- what is found is chosen
 
-found_by : {V : Type 0} (members : List ℕ) (all : List (Step V)) (slot : ℕ) (h : List (Step V)) (v : V) → found_in members all slot h ≡ Some v
-    → (n : ℕ) × (b : Ballot) × Among (Accepted n b slot v) h × (is_majority members (voters_of all b slot) ≡ true)
-found_by members all slot [] v e = cc
-found_by members all slot (Prepared b from ∷ h) v e = let k = found_by members all slot h v e in (k.0, k.1, inr k.2, k.3)
-found_by members all slot (Promised n b from rs ∷ h) v e = let k = found_by members all slot h v e in (k.0, k.1, inr k.2, k.3)
-found_by members all slot (Cut n upto ∷ h) v e = let k = found_by members all slot h v e in (k.0, k.1, inr k.2, k.3)
-found_by members all slot (Offered b s w ∷ h) v e = let k = found_by members all slot h v e in (k.0, k.1, inr k.2, k.3)
-found_by {V} members all slot (Accepted n b s w ∷ h) v e =
+-- a value of these steps was accepted in a ballot in which a majority accepted by the whole history
+abbrev IsFound : {V : Type 0} → List ℕ → List (Step V) → ℕ → List (Step V) → Report V → Type 0
+IsFound {V} members all slot h r = (n : ℕ) × Among (Accepted n r.ballot slot r.value) h × (is_majority members (voters_of all r.ballot slot) ≡ true)
+
+later_found : {V : Type 0} (s : Step V) (members : List ℕ) (all : List (Step V)) (slot : ℕ) (h : List (Step V)) (r : Report V) → IsFound members all slot h r → IsFound members all slot (s ∷ h) r
+later_found s members all slot h r k = (k.0, inr k.1, k.2)
+
+-- what holds of both holds of the lesser
+lesser_is : {V : Type 0} (P : Report V → Type 0) (here : Report V) (o : Option (Report V)) → P here → ((r : Report V) → o ≡ Some r → P r) → P (lesser_of here o)
+lesser_is P here None p rest = p
+lesser_is P here (Some least) p rest = cond_both (below least.ballot here.ballot) least here P (λ t. rest least refl) (λ f. p)
+
+found_by : {V : Type 0} (members : List ℕ) (all : List (Step V)) (slot : ℕ) (h : List (Step V)) (r : Report V) → found_in members all slot h ≡ Some r → IsFound members all slot h r
+found_by members all slot [] r e = cc
+found_by members all slot (Prepared b from ∷ h) r e = later_found _ members all slot h r (found_by members all slot h r e)
+found_by members all slot (Promised n b from rs ∷ h) r e = later_found _ members all slot h r (found_by members all slot h r e)
+found_by members all slot (Cut n upto ∷ h) r e = later_found _ members all slot h r (found_by members all slot h r e)
+found_by members all slot (Offered b s w ∷ h) r e = later_found _ members all slot h r (found_by members all slot h r e)
+found_by {V} members all slot (Accepted n b s w ∷ h) r e =
+    let here : Report V = record { slot = s; ballot = b; value = w } in
+    let hit = Some (lesser_of here (found_in members all slot h)) in
     elim (cases_Bool (eqb s slot && is_majority members (voters_of all b slot))) [
       | inl t ↦ (
           let parts = and_parts (eqb s slot) (is_majority members (voters_of all b slot)) t in
-          let got : Some w ≡ Some v = sym (cond-true (eqb s slot && is_majority members (voters_of all b slot)) (Some w) (found_in members all slot h) t) ∙ e in
-          let same : w ≡ v = cc in
-          (n, b, inl (ap (λ x. Accepted n b x w) (eqb-true s slot parts.0) ∙ ap (λ (x : V). Accepted n b slot x) same), parts.1))
-      | inr f ↦ (let k = found_by members all slot h v (sym (cond-false (eqb s slot && is_majority members (voters_of all b slot)) (Some w) (found_in members all slot h) f) ∙ e) in (k.0, k.1, inr k.2, k.3))
+          let got : hit ≡ Some r = sym (cond-true (eqb s slot && is_majority members (voters_of all b slot)) hit (found_in members all slot h) t) ∙ e in
+          let same : lesser_of here (found_in members all slot h) ≡ r = cc in
+          subst (IsFound members all slot (Accepted n b s w ∷ h)) same
+          (lesser_is (IsFound members all slot (Accepted n b s w ∷ h)) here (found_in members all slot h)
+          (n, inl (ap (λ x. Accepted n b x w) (eqb-true s slot parts.0)), parts.1)
+          (λ q f. later_found _ members all slot h q (found_by members all slot h q f))))
+      | inr f ↦ later_found _ members all slot h r (found_by members all slot h r (sym (cond-false (eqb s slot && is_majority members (voters_of all b slot)) hit (found_in members all slot h) f) ∙ e))
     ]
+
+of_value : {V : Type 0} (o : Option (Report V)) (v : V) → option_map (λ (r : Report V). r.value) o ≡ Some v → (r : Report V) × (o ≡ Some r) × (r.value ≡ v)
+of_value None v e = cc
+of_value (Some r) v e = (r, refl, cc)
+
+no_value : {V : Type 0} (o : Option (Report V)) → option_map (λ (r : Report V). r.value) o ≡ None → o ≡ None
+no_value None e = refl
+no_value (Some r) e = cc
 
 pub chosen_at-chosen : {V : Type 0} (rule : Rule V) (first : Ballot) (h : List (Step V)) (members : List ℕ) (slot : ℕ) (v : V) → IsLawful rule first h → chosen_at members h slot ≡ Some v → IsChosen members h slot v
 chosen_at-chosen {V} rule first h members slot v l e =
-    let k = found_by members h slot h v e in
-    let offered = was_offered rule first h k.0 k.1 slot v l k.2 in
+    let at = of_value (found_in members h slot h) v e in
+    let b = at.0.ballot in
+    let k = found_by members h slot h at.0 at.1 in
+    let accepted : Among (Accepted k.0 b slot v) h = subst (λ (x : V). Among (Accepted k.0 b slot x) h) at.2 k.1 in
+    let offered = was_offered rule first h k.0 b slot v l accepted in
     record {
-      ballot = k.1;
-      voters = voters_of h k.1 slot;
-      each = Each-weaker _ _ (λ n a. (let same = one_offer rule first h k.1 slot a.0 v l (was_offered rule first h n k.1 slot a.0 l a.1) offered in subst (λ (x : V). Among (Accepted n k.1 slot x) h) same a.1)) (voters_of h k.1 slot) (voters_accept h k.1 slot);
-      majority = ltb-true _ _ k.3;
+      ballot = b;
+      voters = voters_of h b slot;
+      each = Each-weaker _ _ (λ n a. (let same = one_offer rule first h b slot a.0 v l (was_offered rule first h n b slot a.0 l a.1) offered in subst (λ (x : V). Among (Accepted n b slot x) h) same a.1)) (voters_of h b slot) (voters_accept h b slot);
+      majority = ltb-true _ _ k.2;
     }
 
 -- ---- what is chosen is found
@@ -107,20 +137,73 @@ finds members all slot [] n b v a most e = a
 finds {V} members all slot (x ∷ h) n b v (inl same) most e =
     let k = subst (λ (y : Step V). found_in members all slot (y ∷ h) ≡ None) same e in
     let t = and_from (eqb slot slot) (is_majority members (voters_of all b slot)) (eq-eqb slot slot refl) most in
-    let no_way : Some v ≡ None = sym (cond-true (eqb slot slot && is_majority members (voters_of all b slot)) (Some v) (found_in members all slot h) t) ∙ k in cc
+    let here : Report V = record { slot = slot; ballot = b; value = v } in
+    let hit = Some (lesser_of here (found_in members all slot h)) in
+    let no_way : hit ≡ None = sym (cond-true (eqb slot slot && is_majority members (voters_of all b slot)) hit (found_in members all slot h) t) ∙ k in cc
 finds members all slot (Prepared c from ∷ h) n b v (inr a) most e = finds members all slot h n b v a most e
 finds members all slot (Promised m c from rs ∷ h) n b v (inr a) most e = finds members all slot h n b v a most e
 finds members all slot (Cut m upto ∷ h) n b v (inr a) most e = finds members all slot h n b v a most e
 finds members all slot (Offered c s w ∷ h) n b v (inr a) most e = finds members all slot h n b v a most e
 finds {V} members all slot (Accepted m c s w ∷ h) n b v (inr a) most e =
-    cond_both (eqb s slot && is_majority members (voters_of all c slot)) (Some w) (found_in members all slot h) (λ (o : Option V). o ≡ None → ⊥)
+    let here : Report V = record { slot = s; ballot = c; value = w } in
+    cond_both (eqb s slot && is_majority members (voters_of all c slot)) (Some (lesser_of here (found_in members all slot h))) (found_in members all slot h) (λ (o : Option (Report V)). o ≡ None → ⊥)
     (λ t k. cc) (λ f k. finds members all slot h n b v a most k) e
 
 pub chosen-found : {V : Type 0} (h : List (Step V)) (members : List ℕ) (slot : ℕ) (v : V) → IsChosen members h slot v → chosen_at members h slot ≡ None → ⊥
 chosen-found h members slot v c e =
     let voter = shared_member members c.voters c.voters c.majority c.majority in
     finds members h slot h voter.0 c.ballot v (Each-among _ c.voters voter.0 c.each voter.1)
-    (more_voters members c.voters (voters_of h c.ballot slot) c.majority (λ n a. is_voter h n c.ballot slot v (Each-among _ c.voters n c.each a))) e
+    (more_voters members c.voters (voters_of h c.ballot slot) c.majority (λ n a. is_voter h n c.ballot slot v (Each-among _ c.voters n c.each a))) (no_value (found_in members h slot h) e)
+
+-- ---- what is found has the least ballot
+
+not_above_here : {V : Type 0} (here : Report V) (o : Option (Report V)) → IsAtLeast here.ballot (lesser_of here o).ballot
+not_above_here here None = at_least_itself here.ballot
+not_above_here {V} here (Some least) =
+    cond_both (below least.ballot here.ballot) least here (λ (r : Report V). IsAtLeast here.ballot r.ballot) (λ t. at_least_from_below least.ballot here.ballot t) (λ f. at_least_itself here.ballot)
+
+not_above_rest : {V : Type 0} (here : Report V) (o : Option (Report V)) (b : Ballot) → (o ≡ None → ⊥) → ((r : Report V) → o ≡ Some r → IsAtLeast b r.ballot) → IsAtLeast b (lesser_of here o).ballot
+not_above_rest here None b some rest = absurd (some refl)
+not_above_rest {V} here (Some least) b some rest =
+    cond_both (below least.ballot here.ballot) least here (λ (r : Report V). IsAtLeast b r.ballot) (λ t. rest least refl) (λ f. at_least_trans b least.ballot here.ballot (rest least refl) f)
+
+least_found : {V : Type 0} (members : List ℕ) (all : List (Step V)) (slot : ℕ) (h : List (Step V)) (r : Report V) → found_in members all slot h ≡ Some r
+    → (n : ℕ) (b : Ballot) (w : V) → Among (Accepted n b slot w) h → is_majority members (voters_of all b slot) ≡ true → IsAtLeast b r.ballot
+least_found members all slot [] r e n b w a most = absurd a
+least_found members all slot (Prepared c from ∷ h) r e n b w (inr a) most = least_found members all slot h r e n b w a most
+least_found members all slot (Promised m c from rs ∷ h) r e n b w (inr a) most = least_found members all slot h r e n b w a most
+least_found members all slot (Cut m upto ∷ h) r e n b w (inr a) most = least_found members all slot h r e n b w a most
+least_found members all slot (Offered c s v ∷ h) r e n b w (inr a) most = least_found members all slot h r e n b w a most
+least_found {V} members all slot (x ∷ h) r e n b w (inl same) most =
+    let k = subst (λ (y : Step V). found_in members all slot (y ∷ h) ≡ Some r) same e in
+    let t = and_from (eqb slot slot) (is_majority members (voters_of all b slot)) (eq-eqb slot slot refl) most in
+    let here : Report V = record { slot = slot; ballot = b; value = w } in
+    let hit = Some (lesser_of here (found_in members all slot h)) in
+    let got : hit ≡ Some r = sym (cond-true (eqb slot slot && is_majority members (voters_of all b slot)) hit (found_in members all slot h) t) ∙ k in
+    let is_r : lesser_of here (found_in members all slot h) ≡ r = cc in
+    subst (λ (q : Report V). IsAtLeast b q.ballot) is_r (not_above_here here (found_in members all slot h))
+least_found {V} members all slot (Accepted m c s v ∷ h) r e n b w (inr a) most =
+    let here : Report V = record { slot = s; ballot = c; value = v } in
+    cond_both (eqb s slot && is_majority members (voters_of all c slot)) (Some (lesser_of here (found_in members all slot h))) (found_in members all slot h)
+    (λ (o : Option (Report V)). o ≡ Some r → IsAtLeast b r.ballot)
+    (λ t k. (
+    let is_r : lesser_of here (found_in members all slot h) ≡ r = cc in
+    subst (λ (q : Report V). IsAtLeast b q.ballot) is_r
+    (not_above_rest here (found_in members all slot h) b (finds members all slot h n b w a most) (λ q f. least_found members all slot h q f n b w a most))))
+    (λ f k. least_found members all slot h r k n b w a most) e
+
+pub least_stands : {V : Type 0} (members : List ℕ) (h : List (Step V)) (slot : ℕ) (v : V) → chosen_at members h slot ≡ Some v
+    → (b : Ballot) × ((n : ℕ) × Among (Accepted n b slot v) h) × ((w : V) (c : IsChosen members h slot w) → IsAtLeast c.ballot b)
+least_stands {V} members h slot v e =
+    let at = of_value (found_in members h slot h) v e in
+    let k = found_by members h slot h at.0 at.1 in (
+      at.0.ballot,
+      (k.0, subst (λ (x : V). Among (Accepted k.0 at.0.ballot slot x) h) at.2 k.1),
+      λ w c. (
+          let voter = shared_member members c.voters c.voters c.majority c.majority in
+          least_found members h slot h at.0 at.1 voter.0 c.ballot w (Each-among _ c.voters voter.0 c.each voter.1)
+          (more_voters members c.voters (voters_of h c.ballot slot) c.majority (λ n a. is_voter h n c.ballot slot w (Each-among _ c.voters n c.each a)))),
+    )
 
 -- ---- the log
 

@@ -2,7 +2,9 @@
 use Rattle.std.specs.Prelude.{ℕ, zero, suc, ◌+◌, ◌==◌, ◌&&◌, max, List, [], ◌∷◌, ◌++◌, length, if◌then◌else◌, Option, Some, None}
 use Rattle.sc_base.specs.declared.names.Ballot.{Ballot}
 use Rattle.sc_member.specs.Majority.{is_majority}
-use Rattle.sc_paxos_words.specs.Ballots.{same_ballot}
+use Rattle.std.specs.Option.{option_map}
+use Rattle.sc_paxos_words.specs.Ballots.{below, same_ballot}
+use Rattle.sc_paxos_words.specs.declared.reports.Report.{Report}
 use Rattle.sc_paxos_law.specs.Steps.{Step, Prepared, Promised, Offered, Accepted, Cut}
 use Rattle.sc_paxos_law.specs.Chosen.{Rule, members_of}
 
@@ -16,19 +18,25 @@ voters_of (Accepted n b s value ∷ older) ballot slot =
     if same_ballot b ballot && (s == slot) then n ∷ voters_of older ballot slot else voters_of older ballot slot
 voters_of (Cut n upto ∷ older) ballot slot = voters_of older ballot slot
 
--- a value of these steps that a majority of the members accepted in its ballot, by the whole history
-abbrev pub found_in : {V : Type 0} → List ℕ → List (Step V) → ℕ → List (Step V) → Option V
+-- of an acceptance and the one found among older steps, if there is one, that with the lesser ballot
+abbrev pub lesser_of : {V : Type 0} → Report V → Option (Report V) → Report V
+lesser_of here None = here
+lesser_of here (Some least) = if below least.ballot here.ballot then least else here
+
+-- of the acceptances at the slot among these steps, each in a ballot in which a majority of the members accepted there by the whole history, the one with the least ballot
+abbrev pub found_in : {V : Type 0} → List ℕ → List (Step V) → ℕ → List (Step V) → Option (Report V)
 found_in members all slot [] = None
 found_in members all slot (Prepared b from ∷ older) = found_in members all slot older
 found_in members all slot (Promised n b from reports ∷ older) = found_in members all slot older
 found_in members all slot (Offered b s value ∷ older) = found_in members all slot older
 found_in members all slot (Accepted n b s value ∷ older) =
-    if (s == slot) && is_majority members (voters_of all b slot) then Some value else found_in members all slot older
+    if (s == slot) && is_majority members (voters_of all b slot)
+    then Some (lesser_of (record { slot = s; ballot = b; value = value }) (found_in members all slot older)) else found_in members all slot older
 found_in members all slot (Cut n upto ∷ older) = found_in members all slot older
 
--- the value chosen at a slot, if one is
+-- the value chosen at a slot, if one is; where two could be, that of the least ballot
 abbrev pub chosen_at : {V : Type 0} → List ℕ → List (Step V) → ℕ → Option V
-chosen_at members h slot = found_in members h slot h
+chosen_at members h slot = option_map (λ report. report.value) (found_in members h slot h)
 
 -- the highest slot at which a value was accepted
 abbrev pub top_slot : {V : Type 0} → List (Step V) → ℕ

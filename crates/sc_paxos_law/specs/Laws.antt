@@ -1,5 +1,5 @@
 -- What holds of every lawful history.
-use Rattle.std.specs.Prelude.{◌≡◌, ℕ, ◌+◌, ◌<◌, ◌≤◌, true, List, ◌∷◌, ◌++◌, length, take, map, filter}
+use Rattle.std.specs.Prelude.{◌≡◌, ℕ, ◌+◌, ◌<◌, ◌≤◌, true, List, ◌∷◌, ◌++◌, length, take, map, filter, Some}
 use Rattle.std.specs.List.{flat_map}
 use Rattle.sc_member.specs.Roster.{is_member}
 use Rattle.sc_member.specs.Majority.{IsMajority, is_majority}
@@ -7,15 +7,16 @@ use Rattle.sc_base.specs.declared.names.Ballot.{Ballot}
 use Rattle.sc_paxos_words.specs.declared.reports.Report.{Report}
 use Rattle.sc_paxos_words.specs.declared.answers.PrepareAnswer.TheVariants.{Promise}
 use Rattle.sc_paxos_words.specs.declared.answers.AcceptAnswer.TheVariants.{Accepted as Yes}
+use Rattle.sc_paxos_words.specs.Ballots.{IsAtLeast}
 use Rattle.sc_paxos_words.specs.Among.{Among, Each}
 use Rattle.sc_paxos_words.specs.Acceptors.{AcceptorState, after_cut}
 use Rattle.sc_paxos_words.specs.Preparing.{prepared}
 use Rattle.sc_paxos_words.specs.Accepting.{accepted}
 use Rattle.sc_paxos_words.specs.Leaders.{LeaderState, Obeys, must}
 use Rattle.sc_paxos_law.specs.Steps.{Step, Promised, Offered, Accepted, Cut, state_of}
-use Rattle.sc_paxos_law.specs.Chosen.{Rule, IsChosenAfter, IsLog}
+use Rattle.sc_paxos_law.specs.Chosen.{Rule, IsChosen, IsChosenAfter, IsLog}
 use Rattle.sc_paxos_law.specs.Lawful.{Vote, IsElected, IsLawfulStep, IsLawful}
-use Rattle.sc_paxos_law.specs.Decided.{log_of}
+use Rattle.sc_paxos_law.specs.Decided.{chosen_at, log_of}
 
 -- no two values are chosen at one slot, each by the members that its own log gives
 abbrev pub OneValuePerSlot : Type 0 → Type 0
@@ -33,6 +34,11 @@ pub record LogIsLongest (V : Type 0) : Type 0 where
   pub is_log : (rule : Rule V) (first : Ballot) (h : List (Step V)) → IsLawful rule first h → IsLog rule h (log_of rule h)
   pub longest : (rule : Rule V) (first : Ballot) (h : List (Step V)) → IsLawful rule first h
       → (other : List V) → IsLog rule h other → (length other ≤ length (log_of rule h)) × (take (length other) (log_of rule h) ≡ other)
+
+-- of any history, lawful or not: where a value is found at a slot, it was accepted there in a ballot that is not above that of any value chosen there
+abbrev pub LeastBallotStands : Type 0 → Type 0
+LeastBallotStands V = (members : List ℕ) (h : List (Step V)) (slot : ℕ) (v : V) → chosen_at members h slot ≡ Some v
+    → (ballot : Ballot) × ((node : ℕ) × Among (Accepted node ballot slot v) h) × ((w : V) (other : IsChosen members h slot w) → IsAtLeast other.ballot ballot)
 
 -- with more steps the log goes on as it was
 abbrev pub LogOnlyGrows : Type 0 → Type 0

@@ -5,7 +5,7 @@ ghost use Rattle.std.specs.Prelude.{◌≡◌, [], ◌∷◌};
 ghost use Rattle.sc_paxos_law.specs.Lawful.{IsLawful};
 ghost use Rattle.sc_paxos_law.specs.Decided.{log_of};
 ghost use Rattle.sc_paxos_law.specs.Example.{three, first, example};
-ghost use Rattle.sc_paxos_law.specs.Laws.{OneValuePerSlot, LogsAgree, LogIsLongest, LogOnlyGrows, AcceptorsAreLawful, LeadersAreLawful, StrangersDoNotCount};
+ghost use Rattle.sc_paxos_law.specs.Laws.{OneValuePerSlot, LogsAgree, LogIsLongest, LogOnlyGrows, LeastBallotStands, AcceptorsAreLawful, LeadersAreLawful, StrangersDoNotCount};
 
 /// No two values are chosen at one slot, and any two logs agree.
 pub fn one_value_per_slot<V>()
@@ -13,10 +13,11 @@ pub fn one_value_per_slot<V>()
     ensures logs { LogsAgree V }
 {}
 
-/// The computed log is the longest list whose entries are chosen, and each other such list is a front of it. With more steps it only grows.
+/// The computed log is the longest list whose entries are chosen, and each other such list is a front of it. With more steps it only grows. Were two values chosen at a slot, that of the least ballot would stand.
 pub fn one_log<V>()
     ensures longest { LogIsLongest V }
     ensures grows { LogOnlyGrows V }
+    ensures least { LeastBallotStands V }
 {}
 
 /// What an acceptor answers to prepares and accepts, and its cuts, are lawful steps.

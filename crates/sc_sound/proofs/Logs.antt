@@ -8,10 +8,12 @@ use Rattle.sc_member.specs.Roster.{is_member}
 use Rattle.sc_member.specs.Majority.{is_majority}
 use Rattle.sc_base.specs.declared.names.Ballot.{Ballot}
 use Rattle.sc_cmd.specs.declared.commands.Command.{Command}
+use Rattle.std.specs.Option.{option_map}
 use Rattle.sc_paxos_words.specs.Among.{Among}
+use Rattle.sc_paxos_words.specs.declared.reports.Report.{Report}
 use Rattle.sc_paxos_law.specs.Steps.{Step, Accepted}
 use Rattle.sc_paxos_law.specs.Chosen.{Rule, members_of}
-use Rattle.sc_paxos_law.specs.Decided.{voters_of, found_in, chosen_at, top_slot, longer, log_of}
+use Rattle.sc_paxos_law.specs.Decided.{voters_of, lesser_of, found_in, chosen_at, top_slot, longer, log_of}
 
 abbrev pub ballot : Ballot
 ballot = record { round = 1; node = 1 }
@@ -40,19 +42,36 @@ voter (w ∷ ws) v (inr a) =
 one_is_most : (voters : List ℕ) → is_member voters 1 ≡ true → is_majority (1 ∷ []) voters ≡ true
 one_is_most voters e = rw e refl
 
-found : (all votes : List Vote) (slot : ℕ) → ((v : Vote) → Among v votes → Among v all) → found_in (1 ∷ []) (map vote all) slot (map vote votes) ≡ first_of votes slot
+-- the newest vote at a slot, as a report
+abbrev report_of : List Vote → ℕ → Option (Report Command)
+report_of [] slot = None
+report_of (v ∷ vs) slot = cond (eqb v.0 slot) (Some (record { slot = v.0; ballot = ballot; value = v.1 })) (report_of vs slot)
+
+-- all votes have one ballot, so the newest stands
+newest_stands : (s : ℕ) (c : Command) (votes : List Vote) (slot : ℕ) → lesser_of (record { slot = s; ballot = ballot; value = c }) (report_of votes slot) ≡ record { slot = s; ballot = ballot; value = c }
+newest_stands s c [] slot = refl
+newest_stands s c (v ∷ vs) slot =
+    let here : Report Command = record { slot = s; ballot = ballot; value = c } in
+    cond_both (eqb v.0 slot) (Some (record { slot = v.0; ballot = ballot; value = v.1 })) (report_of vs slot) (λ (o : Option (Report Command)). lesser_of here o ≡ here) (λ t. refl) (λ f. newest_stands s c vs slot)
+
+found : (all votes : List Vote) (slot : ℕ) → ((v : Vote) → Among v votes → Among v all) → found_in (1 ∷ []) (map vote all) slot (map vote votes) ≡ report_of votes slot
 found all [] slot within = refl
 found all (v ∷ vs) slot within =
+    let rest = found all vs slot (λ w a. within w (inr a)) in
     elim (cases_Bool (eqb v.0 slot)) [
       | inl t ↦ (
           let at = eqb-true v.0 slot t in
           let most = one_is_most (voters_of (map vote all) ballot slot) (subst (λ s. is_member (voters_of (map vote all) ballot s) 1 ≡ true) at (voter all v (within v (inl refl)))) in
-          rw (t, most) refl)
-      | inr f ↦ (let rest = found all vs slot (λ w a. within w (inr a)) in rw f rest)
+          rw (t, most, rest) (ap (λ (r : Report Command). Some r) (newest_stands v.0 v.1 vs slot)))
+      | inr f ↦ rw f rest
     ]
 
+value_of : (votes : List Vote) (slot : ℕ) → option_map (λ (r : Report Command). r.value) (report_of votes slot) ≡ first_of votes slot
+value_of [] slot = refl
+value_of (v ∷ vs) slot = elim (cases_Bool (eqb v.0 slot)) [ inl t ↦ rw t refl | inr f ↦ rw f (value_of vs slot) ]
+
 chosen : (votes : List Vote) (slot : ℕ) → chosen_at (1 ∷ []) (map vote votes) slot ≡ first_of votes slot
-chosen votes slot = found votes votes slot (λ v a. a)
+chosen votes slot = ap (option_map (λ (r : Report Command). r.value)) (found votes votes slot (λ v a. a)) ∙ value_of votes slot
 
 below_top : (votes : List Vote) (slot : ℕ) (c : Command) → first_of votes slot ≡ Some c → slot ≤ top_slot (map vote votes)
 below_top [] slot c e = cc

@@ -1,4 +1,4 @@
-use Rattle.sc_paxos_law.proofs.Decided.{log_of-longest, front_of_log, log_grows}
+use Rattle.sc_paxos_law.proofs.Decided.{log_of-longest, front_of_log, log_grows, least_stands}
 use Rattle.sc_paxos_law.proofs.one_log.Goals as goal
 
 pub returns-clause-longest : goal.returns-clause-longest
@@ -9,3 +9,6 @@ returns-clause-longest g c = record {
 
 pub returns-clause-grows : goal.returns-clause-grows
 returns-clause-grows g c rule first newer h l = log_grows rule first newer h l
+
+pub returns-clause-least : goal.returns-clause-least
+returns-clause-least g c = least_stands
