@@ -6,3 +6,6 @@ mod copies;
 mod weights;
 
 pub use bodies::{AnswerBody, DESK, Mail, MailBody, Reports, client_number};
+
+#[cfg(test)]
+mod tests;

@@ -19,7 +19,7 @@ use Rattle.sc_world.specs.Summary.{summary_of}
 use Rattle.sc_world.specs.declared.party.Party.{Party}
 use Rattle.sc_sound.specs.Laws.{JournalsAreSound}
 use Rattle.scatter.specs.declared.done.Text.{Text}
-use Rattle.scatter.specs.Played.{mail_weight, HasEnded as Ends}
+use Rattle.scatter.specs.Played.{mail_weight, HasEnded as Ends, HasFilled}
 use Rattle.scatter.specs.Run.{Plays, ReportsAs, said_of}
 
 -- the two lines of the early form are built
@@ -50,11 +50,12 @@ module _ (scenario : Scenario) (limit : ℕ) (seats : List (Seat Party)) (lines 
       let e : HasEnded (system_of scenario) mail_weight (schedule scenario) limit cut quiet skips journal left = subst Q lines_are (subst P seats_are h) in
       record { lawful = e.lawful; whole = e.whole; sound = λ rows more is ahead. law scenario valid rows more (subst (Lawful scenario) is e.lawful) ahead; within = e.within; cut_is = e.cut_is; quiet_is = e.quiet_now; skips_are = e.skips_are; parties_are = are ∙ ap (map (λ seat. seat.actor)) e.actors }
 
-  pub fills : (journal : List (Row Mail OrderLine)) → IsFull (system party_table receiver_of no_words seats) mail_weight lines limit journal → IsFull (system_of scenario) mail_weight (schedule scenario) limit journal
-  fills journal h =
+  pub fills : JournalsAreSound → IsValid scenario → (journal : List (Row Mail OrderLine)) → IsFull (system party_table receiver_of no_words seats) mail_weight lines limit journal → HasFilled scenario limit journal
+  fills law valid journal h =
       let P : List (Seat Party) → Type 0 = λ s. IsFull (system party_table receiver_of no_words s) mail_weight lines limit journal in
       let Q : List (Line OrderLine) → Type 0 = λ l. IsFull (system_of scenario) mail_weight l limit journal in
-      subst Q lines_are (subst P seats_are h)
+      let full : IsFull (system_of scenario) mail_weight (schedule scenario) limit journal = subst Q lines_are (subst P seats_are h) in
+      record { full = full; sound = λ rows more is ahead. law scenario valid rows more (subst (Lawful scenario) is full.lawful) ahead }
 
 plays : (scenario : Scenario) (limit : ℕ) (cut quiet : Bool) (skips : ℕ) (journal : List (Row Mail OrderLine)) (parties : List Party) (text : Text) →
     Ends scenario limit cut quiet skips journal parties → text.lines ≡ report_lines (summary_of scenario journal) → text.journal ≡ Some journal → text.parties ≡ parties → Plays scenario cut text

@@ -28,7 +28,12 @@ pub record HasEnded (scenario : Scenario) (limit : ℕ) (cut quiet : Bool) (skip
   pub skips_are : skips ≡ skipped (system_of scenario) (schedule scenario) journal
   pub parties_are : left ≡ parties scenario journal
 
+-- The journal is lawful and within the limit, each first part of it tells one legal history, and a row that may come next passes the limit.
+pub record HasFilled (scenario : Scenario) (limit : ℕ) (journal : List (Row Mail OrderLine)) : Type 0 where
+  pub full : IsFull (system_of scenario) mail_weight (schedule scenario) limit journal
+  pub sound : IsSoundThroughout scenario journal
+
 abbrev pub IsPlayed : Scenario → ℕ → Played → Type 0
 IsPlayed scenario limit (Ended cut quiet skips journal left) = HasEnded scenario limit cut quiet skips journal left
-IsPlayed scenario limit (Full journal) = IsFull (system_of scenario) mail_weight (schedule scenario) limit journal
+IsPlayed scenario limit (Full journal) = HasFilled scenario limit journal
 IsPlayed scenario limit OutOfMemory = ⊤

@@ -21,5 +21,6 @@ returns-in-Ended c =
 
 pub returns : goal.returns
 returns c =
-    fills c.args.scenario.now c.args.limit c.in_ok-seats.seats.items c.as_slice.result.now c.in_ok-seats.ensures (c.as_slice.ensures.value ∙ c.in_ok-lines.ensures) c.in-Full.journal
+    fills c.args.scenario.now c.args.limit c.in_ok-seats.seats.items c.as_slice.result.now c.in_ok-seats.ensures (c.as_slice.ensures.value ∙ c.in_ok-lines.ensures)
+    c.journals_are_sound.ensures c.requires.valid c.in-Full.journal
     (subst (IsPlayed (system party_table receiver_of no_words c.in_ok-seats.seats.items) mail_weight c.as_slice.result.now c.args.limit) c.in-Full.is (c.in_ok-unsettled.ensures no_words))

@@ -1,0 +1,101 @@
+use super::*;
+use sc_actor::Parcel;
+use sc_base::{Ballot, Draw, Dup, Key, Op, OutOfMemory, Reply, Sequence, Value};
+use sc_cmd::Command;
+use sc_paxos_words::Report;
+use std::alloc::Global;
+use std::process::Abort;
+use std::test::Fail;
+
+const GROUP: Draw = Draw { node: 0, count: 1 };
+
+const FIRST: Ballot = Ballot { round: 1, node: 1 };
+
+fn put(alloc: Global) -> Result<Op, Fail> {
+    let key = Key::try_new(alloc, b"key")?;
+    let value = Value::try_new(alloc, b"value")?;
+    Ok(Op::Put { key, value })
+}
+
+fn call(alloc: Global) -> Result<Command, Fail> {
+    let op = put(alloc)?;
+    Ok(Command::Call {
+        client: 1,
+        seq: 1,
+        op,
+    })
+}
+
+fn accept(alloc: Global) -> Result<MailBody, Fail> {
+    let command = call(alloc)?;
+    Ok(MailBody::Accept {
+        group: GROUP,
+        ballot: FIRST,
+        slot: 1,
+        command,
+    })
+}
+
+fn promise(alloc: Global) -> Result<MailBody, Fail> {
+    let value = call(alloc)?;
+    let report = Report {
+        slot: 1,
+        ballot: FIRST,
+        value,
+    };
+    let mut reports = Sequence::new(alloc);
+    reports.push(report)?;
+    Ok(MailBody::Promise {
+        group: GROUP,
+        ballot: FIRST,
+        reports,
+    })
+}
+
+fn answer(alloc: Global) -> Result<MailBody, Fail> {
+    let old = Some(Value::try_new(alloc, b"value")?);
+    Ok(MailBody::Answer {
+        group: GROUP,
+        seq: 1,
+        answer: AnswerBody::Value(Reply { old }),
+    })
+}
+
+fn copied(alloc: Global, body: MailBody) -> Result<Mail, OutOfMemory> {
+    let mail = Mail {
+        from: client_number(1),
+        to: 1,
+        body,
+    };
+    mail.dup(alloc)
+}
+
+fn expect(rt: &impl Abort, copy: &Mail, weight: u64) {
+    assert_eq!(rt; copy.from, 33);
+    assert_eq!(rt; copy.to(), 1);
+    assert_eq!(rt; copy.weight(), weight);
+}
+
+#[test]
+fn an_accept_counts_its_key_and_value(rt: HostRuntime) -> Result<(), Fail> {
+    let body = accept(rt.alloc())?;
+    let copy = copied(rt.alloc(), body)?;
+    expect(&rt, &copy, 8);
+    Ok(())
+}
+
+#[test]
+fn a_promise_counts_32_for_each_report(rt: HostRuntime) -> Result<(), Fail> {
+    let body = promise(rt.alloc())?;
+    let copy = copied(rt.alloc(), body)?;
+    expect(&rt, &copy, 40);
+    Ok(())
+}
+
+#[test]
+fn an_answer_counts_its_value(rt: HostRuntime) -> Result<(), Fail> {
+    let body = answer(rt.alloc())?;
+    let copy = copied(rt.alloc(), body)?;
+    expect(&rt, &copy, 5);
+    Ok(())
+}
