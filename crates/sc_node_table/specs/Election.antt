@@ -16,9 +16,13 @@ use Rattle.sc_node_table.specs.Mails.{sent_all, answered_all}
 abbrev pub is_in_some : List (List ℕ) → ℕ → Bool
 is_in_some sets node = list_any (λ set. is_member set node) sets
 
+-- the nodes, of 1 to so many, that are in one of these sets
+unfoldable pub nodes_to : ℕ → List (List ℕ) → List ℕ
+nodes_to most sets = filter (λ node. is_in_some sets node) (numbers 1 most)
+
 -- the nodes, of 1 to 32, that are in one of these sets
 abbrev pub open_nodes : List (List ℕ) → List ℕ
-open_nodes sets = filter (λ node. is_in_some sets node) (numbers 1 32)
+open_nodes sets = nodes_to 32 sets
 
 -- Election: it runs with the next ballot of its own and asks the members of the open slots to promise it (Paxos Made Simple, section 2.2, phase 1). The queues stay. No round is above 2^32 - 1
 unfoldable pub elected : Place → Place

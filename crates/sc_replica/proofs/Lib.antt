@@ -1,0 +1,4 @@
+mod Places
+mod Rounds
+mod Calls
+mod Readiness

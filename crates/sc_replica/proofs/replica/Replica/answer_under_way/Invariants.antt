@@ -1,0 +1,9 @@
+use Rattle.std.proofs.Common.{◌≡◌}
+use Rattle.sc_node_table.specs.Replica.{name_of, under_way}
+use Rattle.sc_node_table.specs.Mails.{answered_all}
+use Rattle.sc_replica.proofs.Rounds.{left_from}
+use Rattle.sc_replica.proofs.replica.Replica.answer_under_way.Given as goal
+
+-- what is left makes the whole
+abbrev pub invariant-loop-i : goal.invariant-loop-i
+invariant-loop-i l = answered_all l.self.me (name_of l.self) l.body (left_from l.self l.i) l.out ≡ answered_all l.self.me (name_of l.self) l.body (under_way l.self) l.initial.out

@@ -1,0 +1,16 @@
+use Rattle.std.proofs.Common.{sym, ◌∙◌, arith, ap, ◌+◌, get_or, []}
+use Rattle.sc_node_table.specs.Replica.{ReplicaState, next}
+use Rattle.sc_replica.proofs.Rounds.{asked-step, asked-end}
+use Rattle.sc_replica.proofs.replica.Replica.ask_again.Goals as goal
+
+pub loop-i-preserved : goal.loop-i-preserved
+loop-i-preserved c =
+    asked-step c.args.self.now (next c.args.self.now) c.loop-i.i _ c.args.self.now.sets c.at.result.now c.loop-i.out c.ask_again_at.new.out
+    (omega (arith, c.loop-i-test.true, c.open_slots-i-end.ensures.all)) (omega (arith, c.next-next.ensures.same))
+    (c.at.ensures ∙ ap (λ (r : ReplicaState). get_or r.sets c.loop-i.i []) c.self.view_is) c.in_ok-ask_again_at.ensures
+    ∙ c.loop-i.invariant
+
+pub returns : goal.returns
+returns c =
+    sym (asked-end c.args.self.now (next c.args.self.now + c.loop-i.i) c.loop-i.i c.args.self.now.sets c.loop-i.out (omega (arith, c.loop-i-test.false, c.open_slots-i-end.ensures.all)))
+    ∙ c.loop-i.invariant

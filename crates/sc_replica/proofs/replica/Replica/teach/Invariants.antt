@@ -1,0 +1,7 @@
+use Rattle.std.proofs.Common.{◌≡◌, ◌-◌}
+use Rattle.sc_node_table.specs.Rows.{taught}
+use Rattle.sc_replica.proofs.replica.Replica.teach.Given as goal
+
+-- what is left makes the whole
+abbrev pub invariant-loop-sent : goal.invariant-loop-sent
+invariant-loop-sent l = taught (l.most - l._sent) l.self l.from l.at l.out ≡ taught l.most l.self l.from l.slot l.initial.out

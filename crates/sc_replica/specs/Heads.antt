@@ -1,0 +1,14 @@
+-- The head of a queue.
+use Rattle.std.specs.Prelude.{Bool, true, List, [], ◌∷◌, Option, Some, None}
+use Rattle.sc_cmd.specs.declared.cores.Lock.{Lock}
+use Rattle.sc_cmd.specs.declared.commands.Command.{Command}
+use Rattle.sc_node_table.specs.Pump.{waits}
+
+abbrev pub head_of : {X : Type 0} → List X → Option X
+head_of [] = None
+head_of (x ∷ xs) = Some x
+
+-- whether the head of the calls waits, or there is none
+abbrev pub head_waits : Bool → Lock → List Command → Bool
+head_waits idle lock [] = true
+head_waits idle lock (command ∷ calls) = waits idle lock command

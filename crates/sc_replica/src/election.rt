@@ -1,0 +1,147 @@
+//! A replica begins to run, or runs no longer.
+ghost use Rattle.std.specs.Prelude.{◌≡◌, ◌+◌, ◌≤◌, IfOk, OnOk, Some, is_some, length, nat_eq};
+ghost use Rattle.std.specs.List.{list_any};
+ghost use Rattle.std.specs.Option.{option_copied};
+ghost use Rattle.sc_node_table.specs.Replica.{taken_at, listed, under_way, is_idle, next, name_of, last_slot};
+ghost use Rattle.sc_node_table.specs.Mails.{answered_all};
+ghost use Rattle.sc_node_table.specs.Election.{nodes_to, elected, ended, saw};
+
+use crate::mails::{answer_all, answer_command};
+use crate::open_sets::Sets;
+use crate::ready_slots::Slots;
+use crate::replica::Replica;
+use sc_base::{Ballot, OutOfMemory, Sequence};
+use sc_cmd::Command;
+use sc_leader::Leader;
+use sc_mail::{AnswerBody, Mail};
+use std::alloc::Global;
+
+/// The nodes, of 1 to so many, that are in one of these sets.
+#[tactic(auto, unfolding(sc_node_table::specs::Election::nodes_to))]
+fn nodes_to(alloc: Global, most: u16, sets: &Sets) -> Result<Vec<u16>, OutOfMemory>
+    requires { most ≤ 32 }
+    ensures { IfOk result (λ nodes. nodes.items ≡ nodes_to most sets.now) }
+{
+    let mut nodes = Vec::new(alloc);
+    for node in 1..most + 1 {
+        if sets.has(node) {
+            nodes.push(node)?;
+        }
+    }
+    Ok(nodes)
+}
+
+impl Replica {
+    /// It runs with the next ballot of its own, and asks for promises.
+    #[tactic(auto, unfolding(sc_node_table::specs::Election::elected))]
+    pub(crate) fn elect(&mut self, out: &mut Sequence<Mail>) -> Result<(), OutOfMemory>
+        ensures { OnOk result ((self.new, out.new) ≡ elected (self.old, out.old)) }
+    {
+        if self.top.round == u32::MAX {
+            return Ok(());
+        }
+        let ballot = Ballot {
+            round: self.top.round + 1,
+            node: self.me,
+        };
+        let from_slot = self.next();
+        self.top = ballot;
+        self.hint = Some(self.me);
+        self.running = true;
+        self.leader = Leader::elect(self.alloc, ballot, from_slot);
+        self.ready = Slots::new(self.alloc);
+        self.waits = 0;
+        let nodes = nodes_to(self.alloc, 32, &self.sets)?;
+        self.send_prepares(nodes.as_slice(), ballot, from_slot, out)
+    }
+
+    /// The command in flight or ready at a slot.
+    pub(crate) fn taken(&self, slot: u32) -> Option<&Command>
+        ensures { option_copied result ≡ taken_at self.now slot }
+    {
+        match self.leader.flight(slot) {
+            Some(command) => Some(command),
+            None => self.ready.at(slot),
+        }
+    }
+
+    /// The call in flight or ready at a slot is answered so.
+    #[tactic(auto, unfolding(sc_node_table::specs::Mails::answered_all))]
+    fn answer_taken(
+        &self,
+        slot: u32,
+        body: &AnswerBody,
+        out: &mut Sequence<Mail>,
+    ) -> Result<(), OutOfMemory>
+        ensures { OnOk result (out.new ≡ answered_all self.now.me (name_of self.now) body.now (listed (taken_at self.now slot)) out.old) }
+    {
+        match self.taken(slot) {
+            Some(command) => {
+                answer_command(self.alloc, self.me, self.name(), body, command, out)
+            }
+            None => Ok(()),
+        }
+    }
+
+    /// The calls in flight or ready are answered so.
+    fn answer_under_way(
+        &self,
+        body: &AnswerBody,
+        out: &mut Sequence<Mail>,
+    ) -> Result<(), OutOfMemory>
+        ensures { OnOk result (out.new ≡ answered_all self.now.me (name_of self.now) body.now (under_way self.now) out.old) }
+    {
+        let next = self.next();
+        for i in 0..self.open_slots() {
+            self.answer_taken(next + i as u32, body, out)?;
+        }
+        Ok(())
+    }
+
+    /// It runs no longer, and each call in flight, ready or waiting is answered so.
+    #[tactic(auto, unfolding(sc_node_table::specs::Election::ended))]
+    pub(crate) fn end(
+        &mut self,
+        hint: Option<u16>,
+        body: &AnswerBody,
+        out: &mut Sequence<Mail>,
+    ) -> Result<(), OutOfMemory>
+        ensures { OnOk result ((self.new, out.new) ≡ ended hint body.now (self.old, out.old)) }
+    {
+        self.answer_under_way(body, out)?;
+        answer_all(
+            self.alloc,
+            self.me,
+            self.name(),
+            body,
+            self.calls.as_slice(),
+            out,
+        )?;
+        self.running = false;
+        self.leader = Leader::elect(self.alloc, self.leader.ballot(), self.next());
+        self.ready = Slots::new(self.alloc);
+        self.acts.clear();
+        self.calls.clear();
+        self.hint = hint;
+        Ok(())
+    }
+
+    /// The rule on a ballot of a Prepare, Accept or Nack.
+    #[tactic(auto, unfolding(sc_node_table::specs::Election::saw))]
+    pub(crate) fn see(
+        &mut self,
+        ballot: Ballot,
+        out: &mut Sequence<Mail>,
+    ) -> Result<(), OutOfMemory>
+        ensures { OnOk result ((self.new, out.new) ≡ saw ballot (self.old, out.old)) }
+    {
+        if self.top < ballot {
+            self.top = ballot;
+        }
+        if self.running && self.leader.ballot() < ballot {
+            let hint = Some(ballot.node);
+            return self.end(hint, &AnswerBody::NotLeader { hint }, out);
+        }
+        Ok(())
+    }
+}

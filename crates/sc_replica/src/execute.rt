@@ -1,0 +1,278 @@
+//! Execute: the command of the next slot, counted where it was ready, else learnt.
+ghost use Rattle.std.specs.Prelude.{◌≡◌, ◌+◌, ◌<◌, ◌||◌, IfOk, OnOk, IfSome, Option, Some, None, true, false, is_some};
+ghost use Rattle.sc_cmd.specs.declared.commands.Command.TheVariants.{Call};
+ghost use Rattle.sc_machine_table.specs.Machine.{applied};
+ghost use Rattle.sc_node_table.specs.Replica.{next, members, last_slot};
+ghost use Rattle.sc_node_table.specs.Execute.{entered, answer_of, told_call, told, learnt_to, lost, landed, left_gone, left, is_among, looked, executed_one, next_ready, executed_ready, executed};
+
+use crate::mails::answer;
+use crate::replica::{LAST_SLOT, Replica};
+use crate::same::same_command;
+use sc_base::{Dup, OutOfMemory, Sequence, dup_found};
+use sc_cmd::{Command, Effect};
+use sc_machine::Machine;
+use sc_mail::{AnswerBody, Mail};
+use sc_member::Members;
+
+/// One command on the group. The commands that reshape groups are not built yet: they do nothing.
+fn apply(machine: &mut Machine, command: &Command) -> Result<Effect, OutOfMemory>
+    ensures { IfOk result (λ effect. applied machine.old command.now ≡ (machine.new, effect)) }
+{
+    match command {
+        Command::Noop | Command::Call { .. } => machine.apply(command),
+        Command::Join { .. }
+        | Command::Leave { .. }
+        | Command::Split { .. }
+        | Command::Begin { .. }
+        | Command::Prepared { .. }
+        | Command::RecordVote { .. }
+        | Command::GiveUp { .. }
+        | Command::Finish { .. }
+        | Command::Watched { .. }
+        | Command::RecordWatch { .. } => Ok(Effect::Idle),
+    }
+}
+
+/// What the effect of a call tells its client; no answer where the call has to wait.
+fn answer_of(effect: Effect) -> Option<AnswerBody>
+    ensures { result ≡ answer_of effect }
+{
+    match effect {
+        Effect::Done(reply) | Effect::Again(reply) => Some(AnswerBody::Value(reply)),
+        Effect::Stale { last } => Some(AnswerBody::Stale { last }),
+        Effect::NotMine { arc, succ } => Some(AnswerBody::NotMine { arc, succ }),
+        Effect::Gone { into } => Some(AnswerBody::Gone { into }),
+        Effect::NoEffect { .. }
+        | Effect::Idle
+        | Effect::Changed
+        | Effect::Voted(_)
+        | Effect::Decided(_)
+        | Effect::Refused(_) => None,
+    }
+}
+
+impl Replica {
+    /// The command is applied and kept, and one more slot is open.
+    #[tactic(auto, unfolding(sc_node_table::specs::Execute::entered))]
+    fn enter(&mut self, command: &Command) -> Result<Effect, OutOfMemory>
+        requires { next self.old < last_slot + 4 }
+        ensures effect { IfOk result (λ effect. effect ≡ (applied self.old.group command.now).1) }
+        ensures entered { OnOk result (self.new ≡ entered command.now self.old) }
+    {
+        let effect = apply(&mut self.machine, command)?;
+        self.log.put(command.dup(self.alloc)?)?;
+        let members = self.machine.core().members;
+        self.sets.shift(members)?;
+        Ok(effect)
+    }
+
+    /// A call is answered so.
+    #[tactic(auto, unfolding(sc_node_table::specs::Execute::told_call))]
+    fn answer_call(
+        &self,
+        body: AnswerBody,
+        command: &Command,
+        out: &mut Sequence<Mail>,
+    ) -> Result<(), OutOfMemory>
+        ensures { OnOk result ((self.now, out.new) ≡ told_call (Some body) command.now (self.now, out.old)) }
+    {
+        match command {
+            Command::Call { client, seq, .. } => {
+                answer(self.me, self.name(), *client, *seq, body, out)
+            }
+            _ => Ok(()),
+        }
+    }
+
+    /// A call goes back.
+    #[tactic(auto, unfolding(sc_node_table::specs::Execute::told_call))]
+    fn call_again(&mut self, command: &Command, out: &Sequence<Mail>) -> Result<(), OutOfMemory>
+        ensures { OnOk result ((self.new, out.now) ≡ told_call None command.now (self.old, out.now)) }
+    {
+        match command {
+            Command::Call { .. } => self.put_back(command.dup(self.alloc)?),
+            _ => Ok(()),
+        }
+    }
+
+    /// A counted call is answered by its effect, or goes back.
+    #[tactic(auto, unfolding(sc_node_table::specs::Execute::told))]
+    fn tell(
+        &mut self,
+        counted: bool,
+        effect: Effect,
+        command: &Command,
+        out: &mut Sequence<Mail>,
+    ) -> Result<(), OutOfMemory>
+        ensures { OnOk result ((self.new, out.new) ≡ told counted effect command.now (self.old, out.old)) }
+    {
+        if !counted {
+            return Ok(());
+        }
+        match answer_of(effect) {
+            Some(body) => self.answer_call(body, command, out),
+            None => self.call_again(command, out),
+        }
+    }
+
+    /// The members before a counted command learn it.
+    #[tactic(auto, unfolding(sc_node_table::specs::Execute::learnt_to))]
+    fn teach_members(
+        &self,
+        counted: bool,
+        before: &Members,
+        slot: u32,
+        command: &Command,
+        out: &mut Sequence<Mail>,
+    ) -> Result<(), OutOfMemory>
+        ensures { OnOk result ((self.now, out.new) ≡ learnt_to counted before.now slot command.now (self.now, out.old)) }
+    {
+        if !counted {
+            return Ok(());
+        }
+        self.send_learns(before.as_slice(), slot, command, out)
+    }
+
+    /// A command that lost its slot to a learnt one goes back.
+    fn lose(
+        &mut self,
+        counted: bool,
+        command: &Command,
+        other: Option<Command>,
+    ) -> Result<(), OutOfMemory>
+        ensures { OnOk result (self.new ≡ lost counted command.now other self.old) }
+    {
+        let Some(other) = other else {
+            return Ok(());
+        };
+        if counted || same_command(&other, command) {
+            return Ok(());
+        }
+        self.put_back(other)
+    }
+
+    /// What is in flight or ready at the slot is over.
+    #[tactic(auto, unfolding(sc_node_table::specs::Execute::landed))]
+    fn land(
+        &mut self,
+        counted: bool,
+        slot: u32,
+        command: &Command,
+        out: &Sequence<Mail>,
+    ) -> Result<(), OutOfMemory>
+        ensures { OnOk result ((self.new, out.now) ≡ landed counted slot command.now (self.old, out.now)) }
+    {
+        self.ready.drop_at(slot);
+        let other = self.leader.land(slot);
+        self.lose(counted, command, other)
+    }
+
+    /// One that runs ends where the group is gone, and stops where its node is no member.
+    #[tactic(auto, unfolding(sc_node_table::specs::Execute::left))]
+    fn leave(&mut self, out: &mut Sequence<Mail>) -> Result<(), OutOfMemory>
+        ensures { OnOk result ((self.new, out.new) ≡ left (self.old, out.old)) }
+    {
+        if !self.running {
+            return Ok(());
+        }
+        if let Some(into) = &self.machine.core().gone {
+            let body = AnswerBody::Gone { into: *into };
+            return self.end(None, &body, out);
+        }
+        if self.machine.core().members.has(self.me) {
+            return Ok(());
+        }
+        let hint = Some(self.machine.core().members.least());
+        self.end(hint, &AnswerBody::NotLeader { hint }, out)
+    }
+
+    /// Whether it need not look for a leader: it runs, the group is gone, or its hint is a member.
+    fn is_led(&self) -> bool
+        ensures { result ≡ (self.now.running || (is_some self.now.group.core.gone || is_among (members self.now) self.now.hint)) }
+    {
+        if self.running || self.machine.core().gone.is_some() {
+            return true;
+        }
+        match self.hint {
+            None => false,
+            Some(node) => self.machine.core().members.has(node),
+        }
+    }
+
+    /// One that does not run looks for a leader where its hint is no member.
+    #[tactic(auto, unfolding(sc_node_table::specs::Execute::looked))]
+    fn look(&mut self, out: &mut Sequence<Mail>) -> Result<(), OutOfMemory>
+        ensures { OnOk result ((self.new, out.new) ≡ looked (self.old, out.old)) }
+    {
+        if self.is_led() {
+            return Ok(());
+        }
+        let least = self.machine.core().members.least();
+        self.hint = Some(least);
+        if least == self.me {
+            return self.elect(out);
+        }
+        Ok(())
+    }
+
+    /// The steps 1 to 6.
+    #[tactic(auto, unfolding(sc_node_table::specs::Execute::executed_one))]
+    fn execute_one(
+        &mut self,
+        counted: bool,
+        command: &Command,
+        out: &mut Sequence<Mail>,
+    ) -> Result<(), OutOfMemory>
+        requires { next self.old < last_slot + 4 }
+        ensures { OnOk result ((self.new, out.new) ≡ executed_one counted command.now (self.old, out.old)) }
+    {
+        let slot = self.next();
+        let before = self.machine.core().members;
+        let effect = self.enter(command)?;
+        self.tell(counted, effect, command, out)?;
+        self.teach_members(counted, &before, slot, command, out)?;
+        self.land(counted, slot, command, out)?;
+        self.leave(out)?;
+        self.look(out)
+    }
+
+    /// The ready command of the next slot, where it runs.
+    fn next_ready(&self) -> Result<Option<Command>, OutOfMemory>
+        ensures ready { IfOk result (λ command. command ≡ next_ready self.now) }
+        ensures room { IfOk result (λ command. IfSome command (λ _. next self.now < last_slot + 4)) }
+    {
+        let slot = self.next();
+        if self.running && slot < LAST_SLOT + 4 {
+            return dup_found(self.ready.at(slot), self.alloc);
+        }
+        Ok(None)
+    }
+
+    /// Step 7: what is ready at the next slot is executed, and so on.
+    fn execute_ready(&mut self, out: &mut Sequence<Mail>) -> Result<(), OutOfMemory>
+        ensures { OnOk result ((self.new, out.new) ≡ executed_ready self.old.ready (self.old, out.old)) }
+    {
+        let Some(command) = self.next_ready()? else {
+            return Ok(());
+        };
+        self.execute_one(true, &command, out)?;
+        self.execute_ready(out)?;
+        self.pump(out)
+    }
+
+    /// The whole of Execute.
+    #[tactic(auto, unfolding(sc_node_table::specs::Execute::executed))]
+    pub(crate) fn execute(
+        &mut self,
+        counted: bool,
+        command: &Command,
+        out: &mut Sequence<Mail>,
+    ) -> Result<(), OutOfMemory>
+        requires { next self.old < last_slot + 4 }
+        ensures { OnOk result ((self.new, out.new) ≡ executed counted command.now (self.old, out.old)) }
+    {
+        self.execute_one(counted, command, out)?;
+        self.execute_ready(out)?;
+        self.pump(out)
+    }
+}

@@ -1,0 +1,19 @@
+//! A replica: one group on one node, which steps as its table says.
+#![tactic(auto)]
+
+mod command_queue;
+mod election;
+mod execute;
+mod executed_log;
+mod mails;
+mod open_sets;
+mod pump;
+mod queues;
+mod ready_slots;
+mod replica;
+mod rows;
+mod same;
+mod voting;
+
+pub use replica::Replica;
+pub use sc_node_table::ReplicaInput;

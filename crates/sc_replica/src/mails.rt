@@ -1,0 +1,171 @@
+//! Mails: each function puts some behind those that are there.
+ghost use Rattle.std.specs.Prelude.{◌≡◌, ◌+◌, OnOk};
+ghost use Rattle.sc_mail.specs.declared.bodies.MailBody.TheVariants.{Prepare, Accept, Learn};
+ghost use Rattle.sc_node_table.specs.Replica.{name_of};
+ghost use Rattle.sc_node_table.specs.Mails.{sent, sent_all, sent_others, answer_to, answered, answered_all};
+
+use crate::replica::Replica;
+use sc_base::{Ballot, Draw, Dup, OutOfMemory, Sequence};
+use sc_cmd::Command;
+use sc_mail::{AnswerBody, Mail, MailBody, client_number};
+use std::alloc::Global;
+
+/// One mail more.
+pub(crate) fn send(
+    me: u16,
+    to: u32,
+    body: MailBody,
+    out: &mut Sequence<Mail>,
+) -> Result<(), OutOfMemory>
+    ensures { OnOk result (out.new ≡ sent me to body out.old) }
+{
+    out.push(Mail {
+        from: me as u32,
+        to,
+        body,
+    })
+}
+
+/// An answer to a client.
+pub(crate) fn answer(
+    me: u16,
+    group: Draw,
+    client: u16,
+    seq: u32,
+    answer: AnswerBody,
+    out: &mut Sequence<Mail>,
+) -> Result<(), OutOfMemory>
+    ensures { OnOk result (out.new ≡ answer_to me group client seq answer out.old) }
+{
+    send(
+        me,
+        client_number(client),
+        MailBody::Answer { group, seq, answer },
+        out,
+    )
+}
+
+/// The client of a call is answered so.
+#[tactic(auto, unfolding(sc_node_table::specs::Mails::answered))]
+pub(crate) fn answer_command(
+    alloc: Global,
+    me: u16,
+    group: Draw,
+    body: &AnswerBody,
+    command: &Command,
+    out: &mut Sequence<Mail>,
+) -> Result<(), OutOfMemory>
+    ensures { OnOk result (out.new ≡ answered me group body.now command.now out.old) }
+{
+    match command {
+        Command::Call { client, seq, .. } => {
+            answer(me, group, *client, *seq, body.dup(alloc)?, out)
+        }
+        _ => Ok(()),
+    }
+}
+
+/// The clients of these calls are answered so.
+#[tactic(auto, unfolding(sc_node_table::specs::Mails::answered_all))]
+pub(crate) fn answer_all(
+    alloc: Global,
+    me: u16,
+    group: Draw,
+    body: &AnswerBody,
+    commands: &[Command],
+    out: &mut Sequence<Mail>,
+) -> Result<(), OutOfMemory>
+    ensures { OnOk result (out.new ≡ answered_all me group body.now commands.now out.old) }
+{
+    for command in commands {
+        answer_command(alloc, me, group, body, command, out)?;
+    }
+    Ok(())
+}
+
+impl Replica {
+    /// A prepare to each of several nodes.
+    #[tactic(auto, unfolding(sc_node_table::specs::Mails::sent_all))]
+    pub(crate) fn send_prepares(
+        &self,
+        nodes: &[u16],
+        ballot: Ballot,
+        from_slot: u32,
+        out: &mut Sequence<Mail>,
+    ) -> Result<(), OutOfMemory>
+        ensures { OnOk result (out.new ≡ sent_all self.now.me nodes.now (Prepare (name_of self.now) ballot from_slot) out.old) }
+    {
+        let group = self.name();
+        for node in nodes {
+            send(
+                self.me,
+                *node as u32,
+                MailBody::Prepare {
+                    group,
+                    ballot,
+                    from_slot,
+                },
+                out,
+            )?;
+        }
+        Ok(())
+    }
+
+    /// An accept in the leader's ballot to each of several nodes.
+    #[tactic(auto, unfolding(sc_node_table::specs::Mails::sent_all))]
+    pub(crate) fn send_accepts(
+        &self,
+        nodes: &[u16],
+        slot: u32,
+        command: &Command,
+        out: &mut Sequence<Mail>,
+    ) -> Result<(), OutOfMemory>
+        ensures { OnOk result (out.new ≡ sent_all self.now.me nodes.now (Accept (name_of self.now) self.now.leader.ballot slot command.now) out.old) }
+    {
+        let group = self.name();
+        let ballot = self.leader.ballot();
+        for node in nodes {
+            send(
+                self.me,
+                *node as u32,
+                MailBody::Accept {
+                    group,
+                    ballot,
+                    slot,
+                    command: command.dup(self.alloc)?,
+                },
+                out,
+            )?;
+        }
+        Ok(())
+    }
+
+    /// The chosen command of a slot to each of several nodes but the sender.
+    #[tactic(auto, unfolding(sc_node_table::specs::Mails::sent_others))]
+    pub(crate) fn send_learns(
+        &self,
+        nodes: &[u16],
+        slot: u32,
+        command: &Command,
+        out: &mut Sequence<Mail>,
+    ) -> Result<(), OutOfMemory>
+        ensures { OnOk result (out.new ≡ sent_others self.now.me nodes.now (Learn (name_of self.now) slot command.now) out.old) }
+    {
+        let group = self.name();
+        for node in nodes {
+            if *node != self.me {
+                send(
+                    self.me,
+                    *node as u32,
+                    MailBody::Learn {
+                        group,
+                        slot,
+                        command: command.dup(self.alloc)?,
+                    },
+                    out,
+                )?;
+            }
+        }
+        Ok(())
+    }
+}

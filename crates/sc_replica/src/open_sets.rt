@@ -1,0 +1,87 @@
+//! The members of the open slots.
+ghost use Rattle.std.specs.Prelude.{◌≡◌, ◌<◌, ◌∷◌, ◌++◌, [], length, replicate, IfOk, OnOk, slice_get, slice_index_or};
+ghost use Rattle.std.specs.Option.{option_copied};
+ghost use Rattle.sc_node_table.specs.Slots.{rest_of};
+ghost use Rattle.sc_node_table.specs.Replica.{first_set};
+ghost use Rattle.sc_node_table.specs.Election.{is_in_some};
+
+use sc_base::OutOfMemory;
+use sc_member::Members;
+use sc_node_table::OPEN_SLOTS;
+use std::alloc::Global;
+use std::marker::Model;
+
+/// The member sets of the open slots, from the next slot on.
+#[derive(Drop)]
+pub(crate) struct Sets {
+    sets: Vec<Members>,
+}
+
+impl Model for Sets {
+    ghost use Rattle.std.specs.Prelude.{List, ℕ, length, ◌≡◌};
+
+    ghost Value = { List (List ℕ) };
+
+    ghost view = { λ s. s.sets.items };
+
+    ghost invariant = { λ s. length s.sets.items ≡ 4 };
+}
+
+impl Sets {
+    /// One set for each open slot.
+    pub(crate) fn born(alloc: Global, members: &Members) -> Result<Sets, OutOfMemory>
+        ensures { IfOk result (λ sets. sets ≡ replicate 4 members.now) }
+    {
+        let mut sets = Vec::new(alloc);
+        for _slot in 0..OPEN_SLOTS {
+            sets.push(*members)?;
+        }
+        Ok(Sets { sets })
+    }
+
+    /// How many slots are open.
+    pub(crate) fn len(&self) -> usize
+        ensures four { result ≡ 4 }
+        ensures all { result ≡ length self.now }
+    {
+        self.sets.len()
+    }
+
+    /// The set of an open slot, counted from the next one.
+    pub(crate) fn at(&self, i: usize) -> &Members
+        requires { i < 4 }
+        ensures { result.now ≡ slice_index_or self.now i [] }
+    {
+        &self.sets[i]
+    }
+
+    /// The set of a slot so many after the next one, if it is open.
+    pub(crate) fn get(&self, i: usize) -> Option<&Members>
+        ensures { option_copied result ≡ slice_get self.now i }
+    {
+        self.sets.as_slice().get(i)
+    }
+
+    /// The set of the next slot.
+    pub(crate) fn first(&self) -> &Members
+        ensures { result.now ≡ first_set self.now }
+    {
+        &self.sets[0]
+    }
+
+    /// Whether a node is in one of the sets.
+    pub(crate) fn has(&self, node: u16) -> bool
+        ensures { result ≡ is_in_some self.now node }
+    {
+        self.sets.as_slice().iter().any(|set| set.has(node))
+    }
+
+    /// The first set goes, and the new one comes last.
+    pub(crate) fn shift(&mut self, last: Members) -> Result<(), OutOfMemory>
+        ensures { OnOk result (self.new ≡ rest_of self.old ++ last ∷ []) }
+    {
+        self.sets.push(last)?;
+        self.sets.remove(0);
+        Ok(())
+    }
+}

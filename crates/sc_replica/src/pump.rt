@@ -1,0 +1,295 @@
+//! Pump: what a settled replica offers at its open slots.
+ghost use Rattle.std.specs.Prelude.{◌≡◌, ◌+◌, ◌<◌, ◌≤◌, ◌==◌, IfOk, OnOk, IfSome, [], length, is_some, None, true, false, slice_index_or};
+ghost use Rattle.std.specs.List.{list_any};
+ghost use Rattle.sc_ideal.specs.IdealStore.{key_of, holds_key};
+ghost use Rattle.sc_paxos_words.specs.Leaders.{Obeys, flight_at, must};
+ghost use Rattle.sc_node_table.specs.Replica.{next, settled, may_offer, taken_at, listed, under_way, is_idle, last_slot};
+ghost use Rattle.sc_node_table.specs.Pump.{is_alone, serves_calls, waits, turned_down, refused_by, next_call, from_calls, from_acts, from_queues, found_for, offered, pumped_from, pumped};
+ghost use Rattle.sc_replica.specs.Heads.{head_waits};
+
+use crate::command_queue::Queue;
+use crate::mails::answer_command;
+use crate::replica::{LAST_SLOT, Replica};
+use sc_base::{Draw, Dup, Op, OutOfMemory, RingArc, Sequence};
+use sc_cmd::{Command, Core, Lock};
+use sc_leader::Must;
+use sc_mail::{AnswerBody, Mail};
+use std::alloc::Global;
+
+/// Whether a command is other than Call and Noop: while one is under way nothing new is offered.
+fn is_alone(command: &Command) -> bool
+    ensures { result ≡ is_alone command.now }
+{
+    match command {
+        Command::Noop | Command::Call { .. } => false,
+        _ => true,
+    }
+}
+
+/// Whether calls are served under this lock.
+pub(crate) fn serves_calls(lock: &Lock) -> bool
+    ensures { result ≡ serves_calls lock.now }
+{
+    match lock {
+        Lock::Free | Lock::Watching { .. } => true,
+        Lock::Coordinating { .. } | Lock::Promised { .. } => false,
+    }
+}
+
+/// Whether an arc holds the key of an operation.
+pub(crate) fn holds_key(arc: &RingArc, op: &Op) -> bool
+    ensures { result ≡ holds_key arc.now (key_of op.now) }
+{
+    arc.holds(op.key().pos())
+}
+
+fn waits(idle: bool, lock: &Lock, command: &Command) -> bool
+    ensures { result ≡ waits idle lock.now command.now }
+{
+    match command {
+        Command::Call { .. } => !serves_calls(lock),
+        _ => !serves_calls(lock) || !idle,
+    }
+}
+
+/// Whether the head of the calls waits, or there is none.
+fn head_waits(idle: bool, lock: &Lock, calls: &Queue<Command>) -> bool
+    ensures { result ≡ head_waits idle lock.now calls.now }
+{
+    match calls.head() {
+        None => true,
+        Some(command) => waits(idle, lock, command),
+    }
+}
+
+/// The answer of a call that the group does not serve.
+fn turned_down(core: &Core, command: &Command) -> Option<AnswerBody>
+    ensures { result ≡ turned_down core.now command.now }
+{
+    match command {
+        Command::Call { op, .. } => refused_by(core, op),
+        _ => None,
+    }
+}
+
+fn refused_by(core: &Core, op: &Op) -> Option<AnswerBody>
+    ensures { result ≡ refused_by core.now.gone core.now op.now }
+{
+    if let Some(into) = &core.gone {
+        return Some(AnswerBody::Gone { into: *into });
+    }
+    if holds_key(&core.arc, op) {
+        return None;
+    }
+    Some(AnswerBody::NotMine {
+        arc: core.arc,
+        succ: core.succ,
+    })
+}
+
+/// The command at the head of the calls that a slot may have; the calls before it that the group does not serve are answered.
+fn next_call(
+    alloc: Global,
+    me: u16,
+    idle: bool,
+    core: &Core,
+    calls: &mut Queue<Command>,
+    out: &mut Sequence<Mail>,
+) -> Result<Option<Command>, OutOfMemory>
+    ensures { IfOk result (λ command. (command, calls.new, out.new) ≡ next_call me idle core.now calls.old out.old) }
+{
+    while !head_waits(idle, &core.lock, calls) {
+        let Some(command) = calls.take_head() else {
+            return Ok(None);
+        };
+        match turned_down(core, &command) {
+            None => return Ok(Some(command)),
+            Some(body) => answer_command(alloc, me, core.id, &body, &command, out)?,
+        }
+    }
+    Ok(None)
+}
+
+impl Replica {
+    /// Whether its leader may offer at an open slot, counted from the next one.
+    fn may_offer(&self, i: usize) -> bool
+        requires { i < 4 }
+        ensures { result ≡ may_offer self.now (slice_index_or self.now.sets i []) }
+    {
+        self.leader
+            .settled(self.acceptor.promised(), self.sets.at(i))
+    }
+
+    /// Whether it runs and its leader may offer at the next slot.
+    pub(crate) fn is_settled(&self) -> bool
+        ensures { result ≡ settled self.now }
+    {
+        if !self.running {
+            return false;
+        }
+        self.leader
+            .settled(self.acceptor.promised(), self.sets.first())
+    }
+
+    fn is_taken(&self, slot: u32) -> bool
+        ensures { result ≡ is_some (taken_at self.now slot) }
+    {
+        self.taken(slot).is_some()
+    }
+
+    /// Whether nothing is in flight or ready.
+    pub(crate) fn is_idle(&self) -> bool
+        ensures { result ≡ is_idle self.now }
+    {
+        let next = self.next();
+        for i in 0..self.open_slots() {
+            if self.is_taken(next + i as u32) {
+                return false;
+            }
+        }
+        true
+    }
+
+    fn is_alone_at(&self, slot: u32) -> bool
+        ensures { result ≡ list_any is_alone (listed (taken_at self.now slot)) }
+    {
+        match self.taken(slot) {
+            Some(command) => is_alone(command),
+            None => false,
+        }
+    }
+
+    /// Whether a command other than Call and Noop is in flight or ready.
+    fn has_alone(&self) -> bool
+        ensures { result ≡ list_any is_alone (under_way self.now) }
+    {
+        let next = self.next();
+        for i in 0..self.open_slots() {
+            if self.is_alone_at(next + i as u32) {
+                return true;
+            }
+        }
+        false
+    }
+
+    /// What the calls have for a slot.
+    #[tactic(auto, unfolding(sc_node_table::specs::Pump::from_calls))]
+    fn find_in_calls(&mut self, out: &mut Sequence<Mail>) -> Result<Option<Command>, OutOfMemory>
+        ensures found { IfOk result (λ command. (command, (self.new, out.new)) ≡ from_calls (self.old, out.old)) }
+        ensures leader { OnOk result (self.new.leader ≡ self.old.leader) }
+        ensures sets { OnOk result (self.new.sets ≡ self.old.sets) }
+    {
+        let idle = self.is_idle();
+        next_call(
+            self.alloc,
+            self.me,
+            idle,
+            self.machine.core(),
+            &mut self.calls,
+            out,
+        )
+    }
+
+    /// What the commands of transactions have for a slot, else the calls.
+    fn find_in_acts(&mut self, out: &mut Sequence<Mail>) -> Result<Option<Command>, OutOfMemory>
+        ensures found { IfOk result (λ command. (command, (self.new, out.new)) ≡ from_acts self.old.acts (self.old, out.old)) }
+        ensures leader { OnOk result (self.new.leader ≡ self.old.leader) }
+        ensures sets { OnOk result (self.new.sets ≡ self.old.sets) }
+    {
+        if self.acts.is_empty() {
+            return self.find_in_calls(out);
+        }
+        if !self.is_idle() {
+            return Ok(None);
+        }
+        Ok(self.acts.take_head())
+    }
+
+    /// What waits for a slot.
+    #[tactic(auto, unfolding(sc_node_table::specs::Pump::from_queues))]
+    fn find_in_queues(&mut self, out: &mut Sequence<Mail>) -> Result<Option<Command>, OutOfMemory>
+        ensures found { IfOk result (λ command. (command, (self.new, out.new)) ≡ from_queues (self.old, out.old)) }
+        ensures leader { OnOk result (self.new.leader ≡ self.old.leader) }
+        ensures sets { OnOk result (self.new.sets ≡ self.old.sets) }
+    {
+        if self.has_alone() {
+            return Ok(None);
+        }
+        self.find_in_acts(out)
+    }
+
+    /// What is found for a slot.
+    #[tactic(auto, unfolding(sc_node_table::specs::Pump::found_for))]
+    fn find_for(
+        &mut self,
+        slot: u32,
+        out: &mut Sequence<Mail>,
+    ) -> Result<Option<Command>, OutOfMemory>
+        ensures found { IfOk result (λ command. (command, (self.new, out.new)) ≡ found_for slot (self.old, out.old)) }
+        ensures leader { OnOk result (self.new.leader ≡ self.old.leader) }
+        ensures sets { OnOk result (self.new.sets ≡ self.old.sets) }
+        ensures obeys { IfOk result (λ found. IfSome found (λ command. Obeys (must slot self.old.leader) command)) }
+    {
+        match self.leader.must(slot)? {
+            Must::Value(command) => Ok(Some(command)),
+            Must::Gap => Ok(Some(Command::Noop)),
+            Must::Free => self.find_in_queues(out),
+        }
+    }
+
+    /// What is found goes into flight, and the members of its slot are asked to accept it.
+    #[tactic(auto, unfolding(sc_node_table::specs::Pump::offered))]
+    fn offer(
+        &mut self,
+        slot: u32,
+        i: usize,
+        command: &Command,
+        out: &mut Sequence<Mail>,
+    ) -> Result<(), OutOfMemory>
+        requires open { i < 4 }
+        requires free { flight_at slot self.old.leader.flights ≡ None }
+        requires obeys { Obeys (must slot self.old.leader) command.now }
+        ensures offered { OnOk result ((self.new, out.new) ≡ offered slot (slice_index_or self.old.sets i []) command.now (self.old, out.old)) }
+        ensures sets { OnOk result (self.new.sets ≡ self.old.sets) }
+    {
+        self.leader.offer(slot, command.dup(self.alloc)?)?;
+        self.send_accepts(self.sets.at(i).as_slice(), slot, command, out)
+    }
+
+    /// The open slots from the least one on; a slot that is taken is passed by.
+    #[tactic(auto, unfolding(sc_node_table::specs::Pump::pumped_from))]
+    fn pump_from(&mut self, first: u32, out: &mut Sequence<Mail>) -> Result<(), OutOfMemory>
+        requires { first ≤ last_slot }
+        ensures { OnOk result ((self.new, out.new) ≡ pumped_from first self.old.sets (self.old, out.old)) }
+    {
+        for i in 0..self.open_slots() {
+            let slot = first + i as u32;
+            if self.is_taken(slot) {
+                continue;
+            }
+            if !self.may_offer(i) {
+                return Ok(());
+            }
+            let Some(command) = self.find_for(slot, out)? else {
+                return Ok(());
+            };
+            self.offer(slot, i, &command, out)?;
+        }
+        Ok(())
+    }
+
+    /// A settled replica offers what it has at its open slots.
+    #[tactic(auto, unfolding(sc_node_table::specs::Pump::pumped))]
+    pub(crate) fn pump(&mut self, out: &mut Sequence<Mail>) -> Result<(), OutOfMemory>
+        ensures { OnOk result ((self.new, out.new) ≡ pumped (self.old, out.old)) }
+    {
+        if !self.is_settled() {
+            return Ok(());
+        }
+        let next = self.next();
+        if LAST_SLOT < next {
+            return Ok(());
+        }
+        self.pump_from(next, out)
+    }
+}

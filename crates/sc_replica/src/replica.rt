@@ -1,0 +1,134 @@
+//! The replica.
+ghost use Rattle.std.specs.Prelude.{◌≡◌, ◌+◌, ◌≤◌, IfOk, OnOk, length, true};
+ghost use Rattle.sc_node_table.specs.Replica.{born_replica, name_of, next, last_slot};
+ghost use Rattle.sc_node_table.specs.Rows.{stepped};
+ghost use Rattle.sc_replica.specs.Given.{may_take};
+
+use crate::command_queue::Queue;
+use crate::executed_log::Entries;
+use crate::open_sets::Sets;
+use crate::ready_slots::Slots;
+use sc_acceptor::Acceptor;
+use sc_base::{Ballot, Draw, OutOfMemory, Sequence};
+use sc_cmd::{Base, Command};
+use sc_leader::Leader;
+use sc_machine::Machine;
+use sc_mail::Mail;
+use sc_node_table::ReplicaInput;
+use std::alloc::Global;
+use std::marker::Model;
+
+/// No slot above this one is learnt, and after it none is offered.
+pub(crate) const LAST_SLOT: u32 = 4_294_967_288;
+
+/// One group on one node. Contracts see what it keeps as the record of the replica's table.
+#[derive(Drop)]
+pub struct Replica {
+    pub(crate) me: u16,
+    pub(crate) machine: Machine,
+    pub(crate) log: Entries,
+    pub(crate) acceptor: Acceptor<Command>,
+    /// The node that it takes for the leader.
+    pub(crate) hint: Option<u16>,
+    /// The greatest ballot seen.
+    pub(crate) top: Ballot,
+    pub(crate) running: bool,
+    /// It counts only where the replica runs.
+    pub(crate) leader: Leader<Command>,
+    pub(crate) ready: Slots<Command>,
+    pub(crate) sets: Sets,
+    pub(crate) acts: Queue<Command>,
+    pub(crate) calls: Queue<Command>,
+    pub(crate) waits: u32,
+    pub(crate) alloc: Global,
+}
+
+impl Model for Replica {
+    ghost use Rattle.std.specs.FinMap as map;
+    ghost use Rattle.std.specs.Coded.{Coded, codes, coded_ℕ, coded_list};
+    ghost use Rattle.sc_ideal.specs.IdealStore.{Contents};
+    ghost use Rattle.sc_ideal.specs.Clients.{Table};
+    ghost use Rattle.sc_machine_table.specs.Group.{Group};
+    ghost use Rattle.sc_node_table.specs.Replica.{ReplicaState};
+
+    ghost Value = { ReplicaState };
+
+    ghost coded = { let pairs : Coded Contents = map.code (coded_list coded_ℕ) (coded_list coded_ℕ) in let clients : Coded Table = map.code coded_ℕ (Prim.hlevel codes) in let group : Coded Group = Prim.hlevel (codes, pairs, clients) in Prim.hlevel (codes, group) };
+
+    ghost view = { λ r. record {
+      me = r.me;
+      group = r.machine;
+      log = r.log;
+      acceptor = r.acceptor.state;
+      hint = r.hint;
+      top = r.top;
+      running = r.running;
+      leader = r.leader;
+      ready = r.ready;
+      sets = r.sets;
+      acts = r.acts;
+      calls = r.calls;
+      waits = r.waits;
+    } };
+}
+
+impl Replica {
+    /// A replica that was made at its group's birth. Four slots are open at a time.
+    pub fn born(alloc: Global, me: u16, base: Base) -> Result<Replica, OutOfMemory>
+        ensures { IfOk result (λ replica. replica ≡ born_replica 4 me base) }
+    {
+        let machine = Machine::born(alloc, base)?;
+        let sets = Sets::born(alloc, &machine.core().members)?;
+        let first = machine.core().first;
+        let ballot = Ballot {
+            round: 1,
+            node: first,
+        };
+        Ok(Replica {
+            me,
+            machine,
+            log: Entries::born(alloc),
+            acceptor: Acceptor::born(alloc, ballot),
+            hint: Some(first),
+            top: ballot,
+            running: first == me,
+            leader: Leader::first(alloc, ballot),
+            ready: Slots::new(alloc),
+            sets,
+            acts: Queue::new(alloc),
+            calls: Queue::new(alloc),
+            waits: 0,
+            alloc,
+        })
+    }
+
+    /// The executed state.
+    pub fn machine(&self) -> &Machine
+        ensures { result.now ≡ self.now.group }
+    {
+        &self.machine
+    }
+
+    /// The name of its group.
+    pub fn name(&self) -> Draw
+        ensures { result ≡ name_of self.now }
+    {
+        self.machine.core().id
+    }
+
+    /// The slot after the last executed one.
+    pub(crate) fn next(&self) -> u32
+        ensures same { result ≡ next self.now }
+        ensures most { next self.now ≤ last_slot + 4 }
+    {
+        self.log.next()
+    }
+
+    /// How many slots are open.
+    pub(crate) fn open_slots(&self) -> usize
+        ensures four { result ≡ 4 }
+        ensures all { result ≡ length self.now.sets }
+    {
+        self.sets.len()
+    }
+}

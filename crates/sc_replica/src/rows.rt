@@ -1,0 +1,349 @@
+//! The rows of Request, Learn, Ask and Tick, and a replica's table.
+ghost use Rattle.std.specs.Prelude.{◌≡◌, ◌+◌, ◌-◌, ◌<◌, ◌≤◌, ◌||◌, not, nat_le, nat_lt, true, false, IfOk, OnOk, IfSome, Some, None, is_some};
+ghost use Rattle.std.specs.Option.{option_copied};
+ghost use Rattle.sc_member.specs.Roster.{is_member};
+ghost use Rattle.sc_paxos_words.specs.Logs.{entry_at, next_of};
+ghost use Rattle.sc_cmd.specs.declared.commands.Command.TheVariants.{Call};
+ghost use Rattle.sc_node_table.specs.Queues.{call_of};
+ghost use Rattle.sc_mail.specs.declared.bodies.MailBody.TheVariants.{Ask, Learn};
+ghost use Rattle.sc_node_table.specs.Mails.{sent};
+ghost use Rattle.sc_replica.specs.Again.{asked_at};
+ghost use Rattle.sc_node_table.specs.Replica.{name_of, next, members, settled, flying, is_idle, last_slot};
+ghost use Rattle.sc_node_table.specs.Node.{is_node, may_come};
+ghost use Rattle.sc_node_table.specs.Rows.{refused_at, queued, requested, request_row, learn_row, taught, ask_row, uncounted, asked_again, told_last, tick_row, mailed, stepped};
+ghost use Rattle.sc_replica.specs.Given.{may_take};
+
+use crate::command_queue::{call_of, drop_call};
+use crate::mails::{answer, send};
+use crate::pump::{holds_key, serves_calls};
+use crate::replica::{LAST_SLOT, Replica};
+use sc_base::{Dup, Op, OutOfMemory, Sequence};
+use sc_cmd::Command;
+use sc_mail::{AnswerBody, Mail, MailBody};
+use sc_member::Members;
+use sc_node_table::ReplicaInput;
+
+impl Replica {
+    /// Why a request is not taken, the first that holds.
+    fn refused_at(&self, op: &Op) -> Option<AnswerBody>
+        ensures { result ≡ refused_at self.now.group.core.gone op.now self.now }
+    {
+        let core = self.machine.core();
+        if let Some(into) = &core.gone {
+            return Some(AnswerBody::Gone { into: *into });
+        }
+        if !self.running {
+            return Some(AnswerBody::NotLeader { hint: self.hint });
+        }
+        if serves_calls(&core.lock) && !holds_key(&core.arc, op) {
+            return Some(AnswerBody::NotMine {
+                arc: core.arc,
+                succ: core.succ,
+            });
+        }
+        None
+    }
+
+    /// A call waits last, unless the same or a later one of its client waits; an earlier one waits no more.
+    #[tactic(auto, unfolding(sc_node_table::specs::Rows::queued))]
+    fn queue(
+        &mut self,
+        client: u16,
+        seq: u32,
+        op: &Op,
+        out: &mut Sequence<Mail>,
+    ) -> Result<(), OutOfMemory>
+        ensures { OnOk result ((self.new, out.new) ≡ queued (call_of self.old.calls client) client seq op.now (self.old, out.old)) }
+    {
+        if let Some(other) = call_of(self.calls.as_slice(), client) {
+            if seq <= other {
+                return Ok(());
+            }
+            drop_call(&mut self.calls, client);
+        }
+        let op = op.dup(self.alloc)?;
+        self.calls.push_back(Command::Call { client, seq, op })?;
+        self.pump(out)
+    }
+
+    /// Request.
+    #[tactic(auto, unfolding(sc_node_table::specs::Rows::request_row, sc_node_table::specs::Rows::requested))]
+    fn on_request(
+        &mut self,
+        client: u16,
+        seq: u32,
+        op: &Op,
+        out: &mut Sequence<Mail>,
+    ) -> Result<(), OutOfMemory>
+        ensures { OnOk result ((self.new, out.new) ≡ request_row client seq op.now (self.old, out.old)) }
+    {
+        match self.refused_at(op) {
+            Some(body) => answer(self.me, self.name(), client, seq, body, out),
+            None => self.queue(client, seq, op, out),
+        }
+    }
+
+    /// Learn: the next slot's command is executed; for a later one the slots from the next on are asked for.
+    #[tactic(auto, unfolding(sc_node_table::specs::Rows::learn_row))]
+    fn on_learn(
+        &mut self,
+        from: u16,
+        slot: u32,
+        command: &Command,
+        out: &mut Sequence<Mail>,
+    ) -> Result<(), OutOfMemory>
+        ensures { OnOk result ((self.new, out.new) ≡ learn_row from slot command.now (self.old, out.old)) }
+    {
+        let next = self.next();
+        if LAST_SLOT < slot {
+            return Ok(());
+        }
+        if slot == next {
+            return self.execute(false, command, out);
+        }
+        if next < slot {
+            return self.ask(from, next, out);
+        }
+        Ok(())
+    }
+
+    fn ask(&self, from: u16, from_slot: u32, out: &mut Sequence<Mail>) -> Result<(), OutOfMemory>
+        ensures { OnOk result (out.new ≡ sent self.now.me from (Ask (name_of self.now) from_slot) out.old) }
+    {
+        let group = self.name();
+        send(
+            self.me,
+            from as u32,
+            MailBody::Ask { group, from_slot },
+            out,
+        )
+    }
+
+    /// The entry of a slot, if it is held.
+    fn entry(&self, slot: u32) -> Option<&Command>
+        ensures same { option_copied result ≡ entry_at slot self.now.log }
+        ensures held { IfSome result (λ _. slot < next self.now) }
+        ensures most { next self.now ≤ last_slot + 4 }
+    {
+        self.log.entry(slot)
+    }
+
+    fn teach_one(
+        &self,
+        from: u16,
+        slot: u32,
+        command: &Command,
+        out: &mut Sequence<Mail>,
+    ) -> Result<(), OutOfMemory>
+        ensures { OnOk result (out.new ≡ sent self.now.me from (Learn (name_of self.now) slot command.now) out.old) }
+    {
+        let group = self.name();
+        send(
+            self.me,
+            from as u32,
+            MailBody::Learn {
+                group,
+                slot,
+                command: command.dup(self.alloc)?,
+            },
+            out,
+        )
+    }
+
+    /// At most so many entries, from a slot on.
+    #[tactic(auto, unfolding(sc_node_table::specs::Rows::taught))]
+    fn teach(
+        &self,
+        most: u32,
+        from: u16,
+        slot: u32,
+        out: &mut Sequence<Mail>,
+    ) -> Result<(), OutOfMemory>
+        ensures { OnOk result (out.new ≡ taught most self.now from slot out.old) }
+    {
+        let mut at = slot;
+        for _sent in 0..most {
+            let Some(command) = self.entry(at) else {
+                return Ok(());
+            };
+            self.teach_one(from, at, command, out)?;
+            at += 1;
+        }
+        Ok(())
+    }
+
+    /// Ask: at most 32 entries that are held.
+    #[tactic(auto, unfolding(sc_node_table::specs::Rows::ask_row))]
+    fn on_ask(&self, from: u16, slot: u32, out: &mut Sequence<Mail>) -> Result<(), OutOfMemory>
+        ensures { OnOk result ((self.now, out.new) ≡ ask_row from slot (self.now, out.old)) }
+    {
+        self.teach(32, from, slot, out)
+    }
+
+    /// The members of a slot whose vote was not counted.
+    fn uncounted(&self, slot: u32, set: &Members) -> Result<Vec<u16>, OutOfMemory>
+        ensures { IfOk result (λ nodes. nodes.items ≡ uncounted self.now slot set.now) }
+    {
+        let mut nodes = Vec::new(self.alloc);
+        for node in set.as_slice() {
+            if !self.leader.voted(slot, *node) {
+                nodes.push(*node)?;
+            }
+        }
+        Ok(nodes)
+    }
+
+    /// Accept again at one slot, if a command is in flight there.
+    fn ask_again_at(
+        &self,
+        slot: u32,
+        set: &Members,
+        out: &mut Sequence<Mail>,
+    ) -> Result<(), OutOfMemory>
+        ensures { OnOk result (out.new ≡ asked_at self.now slot set.now out.old) }
+    {
+        let Some(command) = self.leader.flight(slot) else {
+            return Ok(());
+        };
+        let nodes = self.uncounted(slot, set)?;
+        self.send_accepts(nodes.as_slice(), slot, command, out)
+    }
+
+    /// Accept again for each slot in flight, to each of its members that was not counted.
+    fn ask_again(&self, out: &mut Sequence<Mail>) -> Result<(), OutOfMemory>
+        ensures { OnOk result (out.new ≡ asked_again self.now (next self.now) self.now.sets out.old) }
+    {
+        let next = self.next();
+        for i in 0..self.open_slots() {
+            self.ask_again_at(next + i as u32, self.sets.at(i), out)?;
+        }
+        Ok(())
+    }
+
+    /// The last entry to each other member.
+    #[tactic(auto, unfolding(sc_node_table::specs::Rows::told_last))]
+    fn tell_last(&self, out: &mut Sequence<Mail>) -> Result<(), OutOfMemory>
+        ensures { OnOk result (out.new ≡ told_last (entry_at (next self.now - 1) self.now.log) self.now out.old) }
+    {
+        let slot = self.next() - 1;
+        match self.entry(slot) {
+            Some(command) => {
+                let members = self.machine.core().members;
+                self.send_learns(members.as_slice(), slot, command, out)
+            }
+            None => Ok(()),
+        }
+    }
+
+    /// Whether its group is not gone and its node is a member.
+    fn takes_part(&self) -> bool
+        ensures { result ≡ not (is_some self.now.group.core.gone || not (is_member (members self.now) self.now.me)) }
+    {
+        let core = self.machine.core();
+        if core.gone.is_some() {
+            return false;
+        }
+        core.members.has(self.me)
+    }
+
+    /// Tick.
+    #[tactic(auto, unfolding(sc_node_table::specs::Rows::tick_row))]
+    fn on_tick(&mut self, out: &mut Sequence<Mail>) -> Result<(), OutOfMemory>
+        ensures { OnOk result ((self.new, out.new) ≡ tick_row (self.old, out.old)) }
+    {
+        if !self.takes_part() {
+            return Ok(());
+        }
+        if !self.is_settled() {
+            return self.elect(out);
+        }
+        if self.is_idle() {
+            self.tell_last(out)?;
+            return self.pump(out);
+        }
+        self.ask_again(out)?;
+        self.pump(out)
+    }
+
+    /// A mail from a node.
+    #[tactic(auto, unfolding(sc_node_table::specs::Rows::mailed, sc_node_table::specs::Voting::nack_row))]
+    fn on_mail(
+        &mut self,
+        from: u16,
+        body: &MailBody,
+        out: &mut Sequence<Mail>,
+    ) -> Result<(), OutOfMemory>
+        ensures { OnOk result ((self.new, out.new) ≡ mailed from body.now (self.old, out.old)) }
+    {
+        match body {
+            MailBody::Request {
+                client,
+                seq,
+                op,
+                ..
+            } => self.on_request(*client, *seq, op, out),
+            MailBody::Prepare {
+                ballot,
+                from_slot,
+                ..
+            } => self.on_prepare(from, *ballot, *from_slot, out),
+            MailBody::Promise {
+                ballot,
+                reports,
+                ..
+            } => self.on_promise(from, *ballot, reports, out),
+            MailBody::Accept {
+                ballot,
+                slot,
+                command,
+                ..
+            } => self.on_accept(from, *ballot, *slot, command, out),
+            MailBody::Accepted { ballot, slot, .. } => self.on_accepted(from, *ballot, *slot, out),
+            MailBody::Nack { promised, .. } => self.see(*promised, out),
+            MailBody::Learn { slot, command, .. } => self.on_learn(from, *slot, command, out),
+            MailBody::Ask { from_slot, .. } => self.on_ask(from, *from_slot, out),
+            _ => Ok(()),
+        }
+    }
+
+    /// A mail: a request, or one from a node.
+    #[tactic(auto, unfolding(sc_node_table::specs::Rows::mailed))]
+    fn take_mail(
+        &mut self,
+        from: u32,
+        body: &MailBody,
+        out: &mut Sequence<Mail>,
+    ) -> Result<(), OutOfMemory>
+        requires { may_come from body.now ≡ true }
+        ensures { OnOk result ((self.new, out.new) ≡ mailed from body.now (self.old, out.old)) }
+    {
+        if from <= 32 {
+            return self.on_mail(from as u16, body, out);
+        }
+        match body {
+            MailBody::Request {
+                client,
+                seq,
+                op,
+                ..
+            } => self.on_request(*client, *seq, op, out),
+            _ => Ok(()),
+        }
+    }
+
+    /// One step by the replica's table: the new value, and the mails behind those that are there. Only a request may come from others than the nodes 1 to 32. After want of memory the replica may only be dropped.
+    #[tactic(auto, unfolding(sc_node_table::specs::Rows::stepped))]
+    pub fn step(
+        &mut self,
+        input: &ReplicaInput,
+        out: &mut Sequence<Mail>,
+    ) -> Result<(), OutOfMemory>
+        requires { may_take input.now ≡ true }
+        ensures { OnOk result ((self.new, out.new) ≡ stepped input.now (self.old, out.old)) }
+    {
+        match input {
+            ReplicaInput::Got(mail) => self.take_mail(mail.from, &mail.body, out),
+            ReplicaInput::Tick => self.on_tick(out),
+        }
+    }
+}

@@ -1,0 +1,230 @@
+//! Promises and votes: the rows of Prepare, Promise, Accept, Accepted and Nack.
+ghost use Rattle.std.specs.Prelude.{◌≡◌, ◌+◌, ◌<◌, ◌≤◌, ◌&&◌, nat_le, true, false, IfOk, OnOk, Some};
+ghost use Rattle.std.specs.Option.{option_copied};
+ghost use Rattle.sc_paxos_words.specs.declared.answers.Counted.TheVariants.{Chosen};
+ghost use Rattle.sc_paxos_words.specs.Preparing.{prepared};
+ghost use Rattle.sc_paxos_words.specs.Accepting.{accepted as accepted_by};
+ghost use Rattle.sc_paxos_words.specs.Votes.{counted};
+ghost use Rattle.sc_mail.specs.declared.bodies.MailBody.TheVariants.{Nack};
+ghost use Rattle.sc_node_table.specs.Mails.{sent};
+ghost use Rattle.sc_node_table.specs.Replica.{name_of, next, set_at, last_slot};
+ghost use Rattle.sc_node_table.specs.Voting.{hinted, promise_to, promised, prepare_row, accepted_to, took, accept_row, leads, promise_row, readied, tallied, voted, accepted_row};
+
+use crate::mails::send;
+use crate::replica::{LAST_SLOT, Replica};
+use sc_acceptor::{AcceptAnswer, PrepareAnswer};
+use sc_base::{Ballot, Dup, OutOfMemory, Sequence};
+use sc_cmd::{Command, same_ballot};
+use sc_leader::Counted;
+use sc_mail::{Mail, MailBody, Reports};
+use sc_member::Members;
+
+impl Replica {
+    /// One that does not run takes the ballot's node for the leader.
+    fn follow(&mut self, ballot: Ballot)
+        ensures { self.new ≡ hinted ballot self.old }
+    {
+        if !self.running {
+            self.hint = Some(ballot.node);
+        }
+    }
+
+    fn nack(&self, from: u16, promised: Ballot, out: &mut Sequence<Mail>) -> Result<(), OutOfMemory>
+        ensures { OnOk result (out.new ≡ sent self.now.me from (Nack (name_of self.now) promised) out.old) }
+    {
+        let body = MailBody::Nack {
+            group: self.name(),
+            promised,
+        };
+        send(self.me, from as u32, body, out)
+    }
+
+    /// A prepare from a slot whose reports are kept; one from a slot that is forgotten is not answered.
+    #[tactic(auto, unfolding(sc_node_table::specs::Voting::promised))]
+    fn promise(
+        &mut self,
+        from: u16,
+        ballot: Ballot,
+        from_slot: u32,
+        out: &mut Sequence<Mail>,
+    ) -> Result<(), OutOfMemory>
+        ensures { OnOk result ((self.new, out.new) ≡ promised from ballot from_slot (self.old, out.old)) }
+    {
+        if from_slot <= self.acceptor.floor() {
+            return Ok(());
+        }
+        match self.acceptor.on_prepare(ballot, from_slot)? {
+            PrepareAnswer::Promise { reports } => {
+                let group = self.name();
+                self.follow(ballot);
+                send(
+                    self.me,
+                    from as u32,
+                    MailBody::Promise {
+                        group,
+                        ballot,
+                        reports,
+                    },
+                    out,
+                )
+            }
+            PrepareAnswer::Ignored { promised } => self.nack(from, promised, out),
+        }
+    }
+
+    /// Prepare.
+    #[tactic(auto, unfolding(sc_node_table::specs::Voting::prepare_row))]
+    pub(crate) fn on_prepare(
+        &mut self,
+        from: u16,
+        ballot: Ballot,
+        from_slot: u32,
+        out: &mut Sequence<Mail>,
+    ) -> Result<(), OutOfMemory>
+        ensures { OnOk result ((self.new, out.new) ≡ prepare_row from ballot from_slot (self.old, out.old)) }
+    {
+        self.see(ballot, out)?;
+        self.promise(from, ballot, from_slot, out)
+    }
+
+    /// An accept at a slot that is kept; one at a slot that is forgotten is not answered.
+    #[tactic(auto, unfolding(sc_node_table::specs::Voting::took))]
+    fn take(
+        &mut self,
+        from: u16,
+        ballot: Ballot,
+        slot: u32,
+        command: &Command,
+        out: &mut Sequence<Mail>,
+    ) -> Result<(), OutOfMemory>
+        ensures { OnOk result ((self.new, out.new) ≡ took from (record { slot = slot; ballot = ballot; value = command.now }) (self.old, out.old)) }
+    {
+        if slot <= self.acceptor.floor() {
+            return Ok(());
+        }
+        self.acceptor.reserve()?;
+        let command = command.dup(self.alloc)?;
+        match self.acceptor.on_accept(ballot, slot, command) {
+            AcceptAnswer::Accepted => {
+                let group = self.name();
+                self.follow(ballot);
+                let body = MailBody::Accepted {
+                    group,
+                    ballot,
+                    slot,
+                };
+                send(self.me, from as u32, body, out)
+            }
+            AcceptAnswer::Ignored { promised } => self.nack(from, promised, out),
+        }
+    }
+
+    /// Accept.
+    #[tactic(auto, unfolding(sc_node_table::specs::Voting::accept_row))]
+    pub(crate) fn on_accept(
+        &mut self,
+        from: u16,
+        ballot: Ballot,
+        slot: u32,
+        command: &Command,
+        out: &mut Sequence<Mail>,
+    ) -> Result<(), OutOfMemory>
+        ensures { OnOk result ((self.new, out.new) ≡ accept_row from ballot slot command.now (self.old, out.old)) }
+    {
+        self.see(ballot, out)?;
+        self.take(from, ballot, slot, command, out)
+    }
+
+    /// Whether it runs with a ballot.
+    fn leads(&self, ballot: Ballot) -> bool
+        ensures { result ≡ leads ballot self.now }
+    {
+        self.running && same_ballot(ballot, self.leader.ballot())
+    }
+
+    /// Promise: of the ballot with which it runs, each node's is counted once.
+    #[tactic(auto, unfolding(sc_node_table::specs::Voting::promise_row))]
+    pub(crate) fn on_promise(
+        &mut self,
+        from: u16,
+        ballot: Ballot,
+        reports: &Reports,
+        out: &mut Sequence<Mail>,
+    ) -> Result<(), OutOfMemory>
+        ensures { OnOk result ((self.new, out.new) ≡ promise_row from ballot reports.now (self.old, out.old)) }
+    {
+        if !self.leads(ballot) {
+            return Ok(());
+        }
+        let reports = reports.dup(self.alloc)?.into_vec();
+        self.leader.on_promise(from, ballot, reports)?;
+        self.pump(out)
+    }
+
+    /// A command that became ready is executed where its slot is the next one.
+    #[tactic(auto, unfolding(sc_node_table::specs::Voting::readied))]
+    fn make_ready(
+        &mut self,
+        slot: u32,
+        command: &Command,
+        out: &mut Sequence<Mail>,
+    ) -> Result<(), OutOfMemory>
+        ensures { OnOk result ((self.new, out.new) ≡ readied slot command.now (self.old, out.old)) }
+    {
+        self.ready.put(slot, command.dup(self.alloc)?)?;
+        let next = self.next();
+        if slot == next && next < LAST_SLOT + 4 {
+            return self.execute(true, command, out);
+        }
+        Ok(())
+    }
+
+    /// The count of a vote at an open slot.
+    fn count(
+        &mut self,
+        from: u16,
+        ballot: Ballot,
+        slot: u32,
+        set: &Members,
+        out: &mut Sequence<Mail>,
+    ) -> Result<(), OutOfMemory>
+        ensures { OnOk result ((self.new, out.new) ≡ voted from ballot slot (Some set.now) (self.old, out.old)) }
+    {
+        match self.leader.on_accepted(from, ballot, slot, set) {
+            Counted::Chosen(command) => self.make_ready(slot, &command, out),
+            Counted::NotYet { .. } => Ok(()),
+        }
+    }
+
+    /// The members of a slot, if it is open.
+    fn set_at(&self, slot: u32) -> Option<&Members>
+        ensures { option_copied result ≡ set_at slot self.now }
+    {
+        let next = self.next();
+        if slot < next {
+            return None;
+        }
+        self.sets.get((slot - next) as usize)
+    }
+
+    /// Accepted: a vote at an open slot is counted among that slot's members.
+    #[tactic(auto, unfolding(sc_node_table::specs::Voting::accepted_row))]
+    pub(crate) fn on_accepted(
+        &mut self,
+        from: u16,
+        ballot: Ballot,
+        slot: u32,
+        out: &mut Sequence<Mail>,
+    ) -> Result<(), OutOfMemory>
+        ensures { OnOk result ((self.new, out.new) ≡ accepted_row from ballot slot (self.old, out.old)) }
+    {
+        if !self.leads(ballot) {
+            return Ok(());
+        }
+        let Some(set) = self.set_at(slot) else {
+            return Ok(());
+        };
+        let set = *set;
+        self.count(from, ballot, slot, &set, out)
+    }
+}
