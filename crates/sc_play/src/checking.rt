@@ -13,22 +13,20 @@ use crate::checked::Checked;
 use crate::deeds::{first_deed, line_deed, lowest_deed};
 use crate::making::make_row;
 use crate::pending::is_quiet;
-use crate::sames::{Same, same_row};
+use crate::sames::{Equality, same_row};
 use crate::stages::{Deed, Stage};
 use sc_actor::{Actor, Line, Parcel, Row};
 use sc_base::{Dup, OutOfMemory};
 use std::alloc::Global;
 
 // Does a deed, if its row is this one.
-fn take_row<A: Actor>(
+fn take_row<A: Actor, E: Equality<A::Mail, A::Order>>(
     alloc: Global,
+    equality: &E,
     stage: &mut Stage<A, A::Mail, A::Order>,
     deed: Deed<A::Order>,
     row: &Row<A::Mail, A::Order>,
 ) -> Result<bool, OutOfMemory>
-where
-    A::Mail: Same,
-    A::Order: Same,
     requires kept { IsKept A.Mail.weighs stage.old }
     requires can { can_act (numbers_of stage.old.seats.items) deed ≡ true }
     requires rows { length stage.old.rows + 1 < 2 ^ 31 }
@@ -39,7 +37,7 @@ where
     ensures skipped { OnOk result (stage.new.skipped ≡ stage.old.skipped) }
 {
     let made = make_row(alloc, &mut stage.seats, &stage.mails, deed)?;
-    if !same_row(&made, row) {
+    if !same_row(equality, &made, row) {
         return Ok(false);
     }
     append(alloc, stage, made)?;
@@ -47,15 +45,13 @@ where
 }
 
 // A line of one row.
-fn check_once<A: Actor>(
+fn check_once<A: Actor, E: Equality<A::Mail, A::Order>>(
     alloc: Global,
+    equality: &E,
     stage: &mut Stage<A, A::Mail, A::Order>,
     line: &Line<A::Order>,
     rows: &[Row<A::Mail, A::Order>],
 ) -> Result<Checked, OutOfMemory>
-where
-    A::Mail: Same,
-    A::Order: Same,
     requires taking { IsTaking A.Mail.weighs stage.old rows.now }
     requires room { stage.old.skipped < 2 ^ 64 - 1 }
     ensures is { IfOk result (λ checked. IsChecked (rules_of A.table A.Mail.receiver A.Mail.weighs 0) stage.old (Once line.now ∷ []) stage.new rows.now checked) }
@@ -70,7 +66,7 @@ where
         return Ok(Checked::Ended);
     }
     let row = &rows[at];
-    if take_row(alloc, stage, deed, row)? {
+    if take_row(alloc, equality, stage, deed, row)? {
         Ok(Checked::On)
     } else {
         Ok(Checked::Wrong)
@@ -91,16 +87,14 @@ fn chosen_deed<A, M: Parcel, O>(stage: &Stage<A, M, O>, free: bool, who: u32) ->
 }
 
 // A line of many deliveries, free or not.
-fn check_many<A: Actor>(
+fn check_many<A: Actor, E: Equality<A::Mail, A::Order>>(
     alloc: Global,
+    equality: &E,
     stage: &mut Stage<A, A::Mail, A::Order>,
     most: u32,
     free: bool,
     rows: &[Row<A::Mail, A::Order>],
 ) -> Result<Checked, OutOfMemory>
-where
-    A::Mail: Same,
-    A::Order: Same,
     requires taking { IsTaking A.Mail.weighs stage.old rows.now }
     ensures is { IfOk result (λ checked. IsChecked (rules_of A.table A.Mail.receiver A.Mail.weighs 0) stage.old (many free most ∷ []) stage.new rows.now checked) }
     ensures skipped { OnOk result (stage.new.skipped ≡ stage.old.skipped) }
@@ -118,7 +112,7 @@ where
         let Some(deed) = chosen_deed(stage, free, row.who) else {
             return Ok(Checked::Wrong);
         };
-        if !take_row(alloc, stage, deed, row)? {
+        if !take_row(alloc, equality, stage, deed, row)? {
             return Ok(Checked::Wrong);
         }
     }
@@ -129,23 +123,21 @@ where
 }
 
 /// Checks a line against the rows from where the stage stands.
-pub fn check_line<A: Actor>(
+pub fn check_line<A: Actor, E: Equality<A::Mail, A::Order>>(
     alloc: Global,
+    equality: &E,
     stage: &mut Stage<A, A::Mail, A::Order>,
     line: &Line<A::Order>,
     rows: &[Row<A::Mail, A::Order>],
 ) -> Result<Checked, OutOfMemory>
-where
-    A::Mail: Same,
-    A::Order: Same,
     requires taking { IsTaking A.Mail.weighs stage.old rows.now }
     requires room { stage.old.skipped < 2 ^ 64 - 1 }
     ensures is { IfOk result (λ checked. IsChecked (rules_of A.table A.Mail.receiver A.Mail.weighs 0) stage.old (line_task line.now ∷ []) stage.new rows.now checked) }
     ensures skipped { OnOk result (stage.new.skipped ≤ stage.old.skipped + 1) }
 {
     match line {
-        Line::Settle { most } => check_many(alloc, stage, *most, false, rows),
-        Line::Free { most, .. } => check_many(alloc, stage, *most, true, rows),
-        _ => check_once(alloc, stage, line, rows),
+        Line::Settle { most } => check_many(alloc, equality, stage, *most, false, rows),
+        Line::Free { most, .. } => check_many(alloc, equality, stage, *most, true, rows),
+        _ => check_once(alloc, equality, stage, line, rows),
     }
 }

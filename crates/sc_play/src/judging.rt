@@ -8,7 +8,7 @@ ghost use Rattle.sc_play.specs.Stages.{are_apart};
 
 use crate::checked::Checked;
 use crate::checking::check_line;
-use crate::sames::Same;
+use crate::sames::Equality;
 use crate::stages::Stage;
 use sc_actor::{Actor, Journal, Line, Row, Seat};
 use sc_base::OutOfMemory;
@@ -17,15 +17,13 @@ use std::alloc::Global;
 /// Whether rows are lawful for a schedule of these actors, from their births: slowly, row by row. They may end before the schedule does.
 ///
 /// The actors have different numbers, no line is a storm, and there are fewer than 2^31 rows and mails.
-pub fn is_lawful<A: Actor>(
+pub fn is_lawful<A: Actor, E: Equality<A::Mail, A::Order>>(
     alloc: Global,
+    equality: &E,
     seats: Vec<Seat<A>>,
     lines: &[Line<A::Order>],
     rows: &[Row<A::Mail, A::Order>],
 ) -> Result<bool, OutOfMemory>
-where
-    A::Mail: Same,
-    A::Order: Same,
     requires apart { are_apart seats.items ≡ true }
     requires built { All (λ line. is_built line ≡ true) lines.now }
     requires few_rows { length rows.now < 2 ^ 31 }
@@ -42,7 +40,7 @@ where
         unsettled: false,
     };
     for line in lines {
-        match check_line(alloc, &mut stage, line, rows)? {
+        match check_line(alloc, equality, &mut stage, line, rows)? {
             Checked::On => {}
             Checked::Ended => return Ok(true),
             Checked::Wrong => return Ok(false),

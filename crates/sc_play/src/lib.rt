@@ -20,7 +20,7 @@ pub use conditions::{are_apart, are_built, are_few};
 pub use judging::is_lawful;
 pub use looking::pending_of;
 pub use playing::Played;
-pub use sames::Same;
+pub use sames::Equality;
 pub use schedules::play;
 
 #[cfg(test)]

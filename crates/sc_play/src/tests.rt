@@ -80,9 +80,15 @@ fn pair(alloc: Global, left: u32) -> Result<Vec<Seat<Relay>>, OutOfMemory> {
     Ok(seats)
 }
 
-impl Same for Note {
-    fn same(&self, other: &Note) -> bool {
-        self == other
+struct Plain;
+
+impl Equality<Note, u32> for Plain {
+    fn same_mail(&self, one: &Note, other: &Note) -> bool {
+        one == other
+    }
+
+    fn same_order(&self, one: &u32, other: &u32) -> bool {
+        one == other
     }
 }
 
@@ -118,7 +124,7 @@ fn judged(
     if !are_built(lines) || !are_apart(&seats) || !are_few(rows) {
         return Err(OutOfMemory);
     }
-    is_lawful(alloc, seats, lines, rows)
+    is_lawful(alloc, &Plain, seats, lines, rows)
 }
 
 // Whether each first part of the rows is lawful, and each delivery is the first of what was pending.
