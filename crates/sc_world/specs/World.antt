@@ -16,7 +16,8 @@ use Rattle.sc_scenario.specs.declared.scenarios.Asks.{Asks}
 use Rattle.sc_scenario.specs.declared.scenarios.Scenario.{Scenario}
 use Rattle.sc_scenario.specs.declared.scenarios.SchedLine.{SchedLine}
 use Rattle.sc_scenario.specs.declared.scenarios.SchedLine.TheVariants.{Go, Deliver, Drop, Again, Tick, Crash, Told, Settle, Free, Storm}
-use Rattle.sc_node.specs.Table.{node_table, born_node}
+use Rattle.sc_node_table.specs.Slots.{numbers}
+use Rattle.sc_node_table.specs.Node.{node_table, born_node}
 use Rattle.sc_client_table.specs.Client.{born}
 use Rattle.sc_client_table.specs.Table.{table}
 use Rattle.sc_world.specs.declared.party.Party.{Party}
@@ -31,9 +32,13 @@ party_table (Client client) input = (Client (table client input).0, (table clien
 abbrev pub client_actor : ℕ → ℕ
 client_actor client = 32 + client
 
--- a group's first leader, with its replica of the group
-abbrev pub node_seat : Base → Seat Party
-node_seat base = record { who = base.core.first; actor = Node (born_node base.core.first base) }
+-- how many slots of a log are open at a time
+abbrev pub slots_ahead : ℕ
+slots_ahead = 4
+
+-- a node, with a replica of each group of which it is a member
+abbrev pub node_seat : List Base → ℕ → Seat Party
+node_seat groups me = record { who = me; actor = Node (born_node slots_ahead me groups) }
 
 abbrev pub route_of : Base → Route
 route_of base = record { group = base.core.id; lo = base.core.arc.lo; members = base.core.members }
@@ -52,7 +57,7 @@ AreFew scenario = All (λ asks. length asks.ops ≤ 1000) scenario.clients
 
 -- the nodes and then the clients, in order of number, as they are born
 abbrev pub births : Scenario → List (Seat Party)
-births scenario = map node_seat scenario.groups ++ client_seats scenario.groups scenario.clients
+births scenario = map (node_seat scenario.groups) (numbers 1 scenario.nodes) ++ client_seats scenario.groups scenario.clients
 
 abbrev pub line_of : SchedLine → Line OrderLine
 line_of (Go client) = line.Go (client_actor client)

@@ -1,10 +1,11 @@
 //! The actors and the schedule of a scenario.
 ghost use Rattle.std.specs.Prelude.{◌≡◌, ◌≤◌, ◌↔◌, IsTrue, length, All, IfOk, OnOk, ◌++◌, map};
+ghost use Rattle.sc_node_table.specs.Slots.{numbers};
 ghost use Rattle.sc_world.specs.World.{births, schedule, node_seat, client_seat, client_seats, route_of, line_of, AreFew};
 
 use crate::party::Party;
 use sc_actor::{Line, Seat};
-use sc_base::{Dup, OutOfMemory};
+use sc_base::{Dup, OutOfMemory, Sequence};
 use sc_client::ClientCore;
 use sc_cmd::{Base, OrderLine, Route};
 use sc_mail::client_number;
@@ -12,11 +13,14 @@ use sc_node::NodeCore;
 use sc_scenario::{Asks, Scenario, SchedLine};
 use std::alloc::Global;
 
-fn node_seat(alloc: Global, base: &Base) -> Result<Seat<Party>, OutOfMemory>
-    ensures { IfOk result (λ seat. seat ≡ node_seat base.now) }
+fn node_seat(
+    alloc: Global,
+    groups: &Sequence<Base>,
+    me: u16,
+) -> Result<Seat<Party>, OutOfMemory>
+    ensures { IfOk result (λ seat. seat ≡ node_seat groups.now me) }
 {
-    let me = base.core.first;
-    let node = NodeCore::born(alloc, me, base.dup(alloc)?)?;
+    let node = NodeCore::born(alloc, me, groups)?;
     Ok(Seat {
         who: me as u32,
         actor: Party::Node(node),
@@ -47,12 +51,13 @@ fn client_seat(alloc: Global, first: &Route, asks: &Asks) -> Result<Seat<Party>,
 fn add_nodes(
     alloc: Global,
     seats: &mut Vec<Seat<Party>>,
-    groups: &[Base],
+    groups: &Sequence<Base>,
+    nodes: u16,
 ) -> Result<(), OutOfMemory>
-    ensures { OnOk result (seats.new.items ≡ seats.old.items ++ map node_seat groups.now) }
+    ensures { OnOk result (seats.new.items ≡ seats.old.items ++ map (node_seat groups.now) (numbers 1 nodes)) }
 {
-    for base in groups {
-        seats.push(node_seat(alloc, base)?)?;
+    for done in 0..nodes {
+        seats.push(node_seat(alloc, groups, done + 1)?)?;
     }
     Ok(())
 }
@@ -93,8 +98,8 @@ pub fn births(alloc: Global, scenario: &Scenario) -> Result<Vec<Seat<Party>>, Ou
     ensures { IfOk result (λ seats. seats.items ≡ births scenario.now) }
 {
     let mut seats = Vec::new(alloc);
+    add_nodes(alloc, &mut seats, &scenario.groups, scenario.nodes)?;
     let groups = scenario.groups.as_slice();
-    add_nodes(alloc, &mut seats, groups)?;
     add_clients(alloc, &mut seats, groups, scenario.clients.as_slice())?;
     Ok(seats)
 }
