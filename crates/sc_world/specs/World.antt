@@ -36,9 +36,9 @@ client_actor client = 32 + client
 abbrev pub slots_ahead : ℕ
 slots_ahead = 4
 
--- a node, with a replica of each group of which it is a member
-abbrev pub node_seat : List Base → ℕ → Seat Party
-node_seat groups me = record { who = me; actor = Node (born_node slots_ahead me groups) }
+-- a node at the birth of the groups, so many slots of which are open at a time: it has a replica of each of which it is a member
+abbrev pub node_seat : ℕ → List Base → ℕ → Seat Party
+node_seat ahead groups me = record { who = me; actor = Node (born_node ahead me groups) }
 
 abbrev pub route_of : Base → Route
 route_of base = record { group = base.core.id; lo = base.core.arc.lo; members = base.core.members }
@@ -55,9 +55,12 @@ client_seats (base ∷ bases) clients = map (client_seat (route_of base)) client
 abbrev pub AreFew : Scenario → Type 0
 AreFew scenario = All (λ asks. length asks.ops ≤ 1000) scenario.clients
 
--- the nodes and then the clients, in order of number, as they are born
+-- the nodes and then the clients, in order of number, as they are born where so many slots are open
+abbrev pub births_with : ℕ → Scenario → List (Seat Party)
+births_with ahead scenario = map (node_seat ahead scenario.groups) (numbers 1 scenario.nodes) ++ client_seats scenario.groups scenario.clients
+
 abbrev pub births : Scenario → List (Seat Party)
-births scenario = map (node_seat scenario.groups) (numbers 1 scenario.nodes) ++ client_seats scenario.groups scenario.clients
+births scenario = births_with slots_ahead scenario
 
 abbrev pub line_of : SchedLine → Line OrderLine
 line_of (Go client) = line.Go (client_actor client)
@@ -77,9 +80,13 @@ schedule scenario = map line_of scenario.lines
 abbrev pub receiver_of : Mail → ℕ
 receiver_of mail = mail.to
 
+-- the system of a scenario, where so many slots are open, and whatever words its storms draw
+abbrev pub system_with : ℕ → (ℕ → ℕ → ℕ × ℕ) → Scenario → System Party Mail OrderLine
+system_with ahead words scenario = system party_table receiver_of words (births_with ahead scenario)
+
 -- the system of a scenario. No storm comes, so no words are drawn
 abbrev pub system_of : Scenario → System Party Mail OrderLine
-system_of scenario = system party_table receiver_of no_words (births scenario)
+system_of scenario = system_with slots_ahead no_words scenario
 
 -- a journal that the scenario allows
 abbrev pub Lawful : Scenario → List (Row Mail OrderLine) → Type 0

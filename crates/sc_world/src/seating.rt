@@ -1,7 +1,7 @@
 //! The actors and the schedule of a scenario.
 ghost use Rattle.std.specs.Prelude.{◌≡◌, ◌≤◌, ◌↔◌, IsTrue, length, All, IfOk, OnOk, ◌++◌, map};
 ghost use Rattle.sc_node_table.specs.Slots.{numbers};
-ghost use Rattle.sc_world.specs.World.{births, schedule, node_seat, client_seat, client_seats, route_of, line_of, AreFew};
+ghost use Rattle.sc_world.specs.World.{births, slots_ahead, schedule, node_seat, client_seat, client_seats, route_of, line_of, AreFew};
 
 use crate::party::Party;
 use sc_actor::{Line, Seat};
@@ -18,7 +18,7 @@ fn node_seat(
     groups: &Sequence<Base>,
     me: u16,
 ) -> Result<Seat<Party>, OutOfMemory>
-    ensures { IfOk result (λ seat. seat ≡ node_seat groups.now me) }
+    ensures { IfOk result (λ seat. seat ≡ node_seat slots_ahead groups.now me) }
 {
     let node = NodeCore::born(alloc, me, groups)?;
     Ok(Seat {
@@ -54,7 +54,7 @@ fn add_nodes(
     groups: &Sequence<Base>,
     nodes: u16,
 ) -> Result<(), OutOfMemory>
-    ensures { OnOk result (seats.new.items ≡ seats.old.items ++ map (node_seat groups.now) (numbers 1 nodes)) }
+    ensures { OnOk result (seats.new.items ≡ seats.old.items ++ map (node_seat slots_ahead groups.now) (numbers 1 nodes)) }
 {
     for done in 0..nodes {
         seats.push(node_seat(alloc, groups, done + 1)?)?;

@@ -1,7 +1,8 @@
-use Rattle.std.proofs.Common.{◌≡◌, ◌++◌, map, take}
-use Rattle.sc_world.specs.World.{node_seat}
+use Rattle.std.proofs.Common.{◌≡◌, ◌+◌, ◌-◌, ◌++◌, map}
+use Rattle.sc_node_table.specs.Slots.{numbers}
+use Rattle.sc_world.specs.World.{slots_ahead, node_seat}
 use Rattle.sc_world.proofs.seating.add_nodes.Given as goal
 
--- the nodes of the groups so far were added
-abbrev pub invariant-loop-base : goal.invariant-loop-base
-invariant-loop-base l = l.seats.items ≡ l.initial.seats.items ++ map node_seat (take l.base-index l.groups)
+-- the nodes that are left make the whole
+abbrev pub invariant-loop-done : goal.invariant-loop-done
+invariant-loop-done l = l.seats.items ++ map (node_seat slots_ahead l.groups) (numbers (1 + l.done) (l.nodes - l.done)) ≡ l.initial.seats.items ++ map (node_seat slots_ahead l.groups) (numbers 1 l.nodes)
