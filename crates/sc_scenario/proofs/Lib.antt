@@ -1,2 +1,5 @@
+mod Choices
+mod Clients
 mod Lists
+mod Rosters
 mod Texts

@@ -1,2 +1,6 @@
+pub mod Words
+pub mod Requests
+pub mod Groups
+pub mod Schedules
 pub mod Early
 pub mod Valid

@@ -1,20 +1,60 @@
 -- Scenarios that some text is.
-use Rattle.std.specs.Prelude.{◌≡◌, ◌≤◌, ℕ, List, Some, length}
-use Rattle.sc_base.specs.declared.ops.Op.{Op}
-use Rattle.sc_scenario.specs.Early.{scenario_of, early_scenario, most_requests}
+use Rattle.std.specs.Prelude.{◌≡◌, ◌<◌, ◌≤◌, ℕ, ◌^◌, ◌+◌, false, true, List, [], ◌∷◌, Some, length, All, ◌⊎◌}
+use Rattle.std.specs.List.{AllPairs}
+use Rattle.sc_member.specs.Roster.{IsRoster}
+use Rattle.sc_scenario.specs.Groups.{lone_group}
+use Rattle.sc_scenario.specs.Schedules.{is_client, most_clients, most_mails, most_deliveries}
+use Rattle.sc_scenario.specs.Early.{scenario_of, most_nodes, most_requests}
+use Rattle.sc_scenario.specs.declared.scenarios.Asks.{Asks}
 use Rattle.sc_scenario.specs.declared.scenarios.Scenario.{Scenario}
+use Rattle.sc_scenario.specs.declared.scenarios.SchedLine.{SchedLine}
+use Rattle.sc_scenario.specs.declared.scenarios.SchedLine.TheVariants.{Go, Deliver, Drop, Again, Tick, Crash, Told, Settle, Free, Storm}
 
 -- some text is this scenario
 pub record IsValid (scenario : Scenario) : Type 0 where
   pub text : List ℕ
   pub read : scenario_of text ≡ Some scenario
 
--- one group, one client with these requests, and a line that settles
+-- a number from 1 to the most
+abbrev pub IsUpTo : ℕ → ℕ → Type 0
+IsUpTo most n = (1 ≤ n) × (n ≤ most)
+
+-- a node, or a client with a section
+abbrev pub IsActor : ℕ → List Asks → ℕ → Type 0
+IsActor nodes clients who = IsUpTo nodes who ⊎ ((client : ℕ) × (who ≡ 32 + client) × (is_client clients client ≡ true))
+
+-- a line of the schedule names actors that there are
+abbrev pub IsEarlyLine : ℕ → List Asks → SchedLine → Type 0
+IsEarlyLine nodes clients (Go client) = is_client clients client ≡ true
+IsEarlyLine nodes clients (Deliver who k) = IsActor nodes clients who × IsUpTo most_mails k
+IsEarlyLine nodes clients (Drop who k) = IsActor nodes clients who × IsUpTo most_mails k
+IsEarlyLine nodes clients (Again mail) = IsUpTo most_mails mail
+IsEarlyLine nodes clients (Tick who) = IsActor nodes clients who
+IsEarlyLine nodes clients (Crash node) = IsUpTo nodes node
+IsEarlyLine nodes clients (Told node line) = ⊥
+IsEarlyLine nodes clients (Settle most) = IsUpTo most_deliveries most
+IsEarlyLine nodes clients (Free most workers) = ⊥
+IsEarlyLine nodes clients (Storm number most) = ⊥
+
+-- a client's number and how many requests it has
+abbrev pub IsEarlyClient : Asks → Type 0
+IsEarlyClient asks = IsUpTo most_clients asks.client × (length asks.ops ≤ most_requests)
+
+-- one to 32 nodes, one group of some of them, clients in order of number, and a schedule that names these
 pub record IsEarly (scenario : Scenario) : Type 0 where
-  pub ops : List Op
-  pub most : ℕ
-  pub is : scenario ≡ early_scenario ops most
-  pub few : length ops ≤ most_requests
+  pub lo : ℕ
+  pub members : List ℕ
+  pub nodes : IsUpTo most_nodes scenario.nodes
+  pub lo_in : lo < 2 ^ 32
+  pub roster : IsRoster members
+  pub members_in : All (IsUpTo scenario.nodes) members
+  pub group : scenario.groups ≡ lone_group lo members ∷ []
+  pub policy : scenario.policy ≡ false
+  pub clients : All IsEarlyClient scenario.clients
+  pub ascending : AllPairs (λ (one other : Asks). one.client < other.client) scenario.clients
+  pub lines : All (IsEarlyLine scenario.nodes scenario.clients) scenario.lines
+  pub brief : scenario.brief ≡ false
+  pub version : scenario.version ≡ 1
 
 abbrev pub TextsAreEarly : Type 0
 TextsAreEarly = (scenario : Scenario) → IsValid scenario → IsEarly scenario

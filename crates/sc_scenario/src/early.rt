@@ -1,19 +1,24 @@
-//! The early form of the scenario: one node, one group, one client that gets and puts.
-ghost use Rattle.std.specs.Prelude.{◌≡◌, ◌≤◌, ◌+◌, ◌^◌, map, drop, length, IfOk, MatchResult, ◌⊎◌, Some, None, true};
-ghost use Rattle.sc_scenario.specs.Early.{scenario_of, scenario_in, requests_of, starts, ends, is_framed, early_scenario, lone_group};
+//! The early form of the scenario: nodes, one group, clients that get, put and delete, and a schedule.
+ghost use Rattle.std.specs.Prelude.{◌≡◌, map, IfOk, MatchResult, ◌⊎◌, Some, None};
+ghost use Rattle.sc_scenario.specs.Early.{scenario_of, scenario_in, rest_in, finished, nodes_in, is_ended, lines_of};
 ghost use Rattle.sc_scenario.specs.Valid.{TextsAreEarly};
 ghost use Rattle.sc_scenario.specs.declared.early.ScenarioFault.TheVariants.{OutOfMemory};
 
-use crate::pieces::lines_of;
-use crate::scenarios::{Asks, Scenario, SchedLine};
-use crate::words::{deliveries_in, is_text, nth, request_in};
-use sc_base::{self, Draw, Op, Pairs, RingArc, SeenList, Sequence};
-use sc_cmd::{Base, Core, Link, Lock};
-use sc_member::Members;
-use std::alloc::Global;
+use crate::drafts::Reading;
+use crate::groups::group_in;
+use crate::pieces::{lines_in, words_of};
+use crate::reading::{begun, read_lines};
+use crate::scenarios::Scenario;
+use crate::words::{count_in, is_line, is_text, nth, rest};
+use sc_base::{self, Sequence};
+use sc_cmd::Base;
+use std::alloc::{AllocError, Global};
 
 /// The most bytes that an input has.
 pub const INPUT_LIMIT: u64 = 16_777_216;
+
+/// The most lines that an input has.
+pub const LINE_LIMIT: usize = 20_000;
 
 /// Why a text is no scenario.
 #[derive(Clone, Copy, Debug, PartialEq, Eq)]
@@ -31,156 +36,97 @@ impl From<sc_base::OutOfMemory> for ScenarioFault {
     }
 }
 
-fn starts(lines: &[&[u8]]) -> bool
-    ensures same { result ≡ starts (map (λ line. line.now) lines.now) }
-    ensures room { result ≡ true → 4 ≤ length lines.now }
+fn nodes_in(words: &[&[u8]]) -> Option<u16>
+    ensures { result ≡ nodes_in (map (λ word. word.now) words.now) }
 {
-    4 <= lines.len()
-        && is_text(nth(lines, 0), b"scatter 1")
-        && is_text(nth(lines, 1), b"nodes 1")
-        && is_text(nth(lines, 2), b"group 0 1")
-        && is_text(nth(lines, 3), b"client 1")
-}
-
-fn ends(lines: &[&[u8]]) -> bool
-    ensures { result ≡ ends (map (λ line. line.now) lines.now) }
-{
-    lines.len() == 4
-        && is_text(nth(lines, 0), b"end")
-        && is_text(nth(lines, 1), b"go 1")
-        && is_text(nth(lines, 3), b"")
-}
-
-// The requests up to the first line that is none.
-fn requests(alloc: Global, lines: &[&[u8]]) -> Result<Sequence<Op>, sc_base::OutOfMemory>
-    ensures ops { IfOk result (λ ops. ops ≡ requests_of (map (λ line. line.now) lines.now)) }
-    ensures few { IfOk result (λ ops. length ops ≤ length lines.now) }
-{
-    let mut ops = Sequence::new(alloc);
-    for line in lines {
-        match request_in(alloc, line)? {
-            Some(op) => ops.push(op)?,
-            None => return Ok(ops),
-        }
+    if !is_line(words, b"nodes", 2) {
+        return None;
     }
-    Ok(ops)
+    let nodes = count_in(nth(words, 1), 32)?;
+    Some(nodes as u16)
 }
 
-// The arc of all positions.
-fn whole_circle() -> RingArc
-    ensures { result ≡ record { lo = 0; len = 2 ^ 32 } }
-{
-    let Ok(arc) = RingArc::try_new(0, 1 << 32) else {
-        unreachable!()
-    };
-    arc
-}
-
-// The group of the scenario: the whole circle, with node 1.
-fn lone_group(alloc: Global) -> Base
-    ensures { result ≡ lone_group }
-{
-    let members = Members::one(1);
-    let id = Draw { node: 0, count: 1 };
-    let succ = Link { group: id, members };
-    let pred = Link { group: id, members };
-    Base {
-        core: Core {
-            id,
-            first: 1,
-            arc: whole_circle(),
-            members,
-            succ,
-            pred,
-            lock: Lock::Free,
-            begun: 0,
-            decided: Sequence::new(alloc),
-            voted: Sequence::new(alloc),
-            born: Sequence::new(alloc),
-            gone: None,
-        },
-        pairs: Pairs::new(alloc),
-        clients: SeenList::new(alloc),
-    }
-}
-
-fn early_scenario(
+// The scenario of a group and of what was read.
+fn finished(
     alloc: Global,
-    ops: Sequence<Op>,
-    most: u32,
-) -> Result<Scenario, sc_base::OutOfMemory>
-    ensures { IfOk result (λ scenario. scenario ≡ early_scenario ops most) }
+    base: Base,
+    reading: Reading,
+) -> Result<Option<Scenario>, sc_base::OutOfMemory>
+    ensures { IfOk result (λ scenario. scenario ≡ finished base reading) }
 {
+    let Reading::Outside(draft) = reading else {
+        return Ok(None);
+    };
     let mut groups = Sequence::new(alloc);
-    groups.push(lone_group(alloc))?;
-    let mut clients = Sequence::new(alloc);
-    clients.push(Asks { client: 1, ops })?;
-    let mut lines = Sequence::new(alloc);
-    lines.push(SchedLine::Go { client: 1 })?;
-    lines.push(SchedLine::Settle { most })?;
-    Ok(Scenario {
-        nodes: 1,
+    groups.push(base)?;
+    Ok(Some(Scenario {
+        nodes: draft.nodes,
         groups,
         policy: false,
-        clients,
-        lines,
+        clients: draft.clients,
+        lines: draft.lines,
         brief: false,
         version: 1,
-    })
+    }))
 }
 
-// The lines from a place on.
-fn lines_from<'a, 'b>(lines: &'b [&'a [u8]], n: usize) -> &'b [&'a [u8]]
-    requires { n ≤ length lines.now }
-    ensures { map (λ line. line.now) result.now ≡ drop n (map (λ line. line.now) lines.now) }
-{
-    &lines[n..]
-}
-
-// Whether the lines round so many requests are those of the early form.
-fn is_framed(lines: &[&[u8]], tail: &[&[u8]], count: usize) -> bool
-    ensures { result ≡ is_framed (map (λ line. line.now) lines.now) (map (λ line. line.now) tail.now) count }
-{
-    starts(lines) && ends(tail) && count <= 1000
-}
-
-// The scenario of some lines, where these are the requests after the first four.
-fn scenario_in(
+// The scenario of the lines behind the group's.
+fn rest_in(
     alloc: Global,
+    nodes: u16,
     lines: &[&[u8]],
-    ops: Sequence<Op>,
+    base: Base,
 ) -> Result<Option<Scenario>, sc_base::OutOfMemory>
-    requires { 4 + length ops ≤ length lines.now }
-    ensures { IfOk result (λ scenario. scenario ≡ scenario_in (map (λ line. line.now) lines.now) ops) }
+    ensures { IfOk result (λ scenario. scenario ≡ rest_in nodes (map (λ line. line.now) lines.now) base) }
 {
-    let tail = lines_from(lines, 4 + ops.len());
-    if !is_framed(lines, tail, ops.len()) {
-        return Ok(None);
-    }
-    match deliveries_in(alloc, nth(tail, 2))? {
-        Some(most) => Ok(Some(early_scenario(alloc, ops, most)?)),
+    match read_lines(alloc, begun(alloc, nodes), lines)? {
+        Some(reading) => finished(alloc, base, reading),
         None => Ok(None),
     }
 }
 
-fn read_lines(alloc: Global, lines: &[&[u8]]) -> Result<Option<Scenario>, sc_base::OutOfMemory>
-    ensures { IfOk result (λ scenario. scenario ≡ scenario_in (map (λ line. line.now) lines.now) (requests_of (drop 4 (map (λ line. line.now) lines.now)))) }
+// The scenario of some lines.
+fn scenario_in(alloc: Global, lines: &[&[u8]]) -> Result<Option<Scenario>, sc_base::OutOfMemory>
+    ensures { IfOk result (λ scenario. scenario ≡ scenario_in (map (λ line. line.now) lines.now)) }
 {
-    if !starts(lines) {
+    if !is_text(nth(lines, 0), b"scatter 1") {
         return Ok(None);
     }
-    let ops = requests(alloc, lines_from(lines, 4))?;
-    scenario_in(alloc, lines, ops)
+    let second = words_of(alloc, nth(lines, 1))?;
+    let Some(nodes) = nodes_in(&second) else {
+        return Ok(None);
+    };
+    let third = words_of(alloc, nth(lines, 2))?;
+    let Some(base) = group_in(alloc, nodes, &third) else {
+        return Ok(None);
+    };
+    rest_in(alloc, nodes, rest(lines, 3), base)
+}
+
+fn is_ended(text: &[u8]) -> bool
+    ensures { result ≡ is_ended text.now }
+{
+    0 < text.len() && text[text.len() - 1] == b'\n'
+}
+
+// The lines of a text that ends with a line feed.
+fn lines_of(alloc: Global, text: &[u8]) -> Result<Vec<&[u8]>, AllocError>
+    ensures { IfOk result (λ lines. map (λ line. line.now) lines.items ≡ lines_of text.now) }
+{
+    lines_in(alloc, &text[..text.len().saturating_sub(1)])
 }
 
 fn read_early(alloc: Global, text: &[u8]) -> Result<Option<Scenario>, sc_base::OutOfMemory>
     ensures { IfOk result (λ scenario. scenario ≡ scenario_of text.now) }
 {
-    if text.len() as u64 > INPUT_LIMIT {
+    if text.len() as u64 > INPUT_LIMIT || !is_ended(text) {
         return Ok(None);
     }
     let lines = lines_of(alloc, text)?;
-    read_lines(alloc, &lines)
+    if lines.len() > LINE_LIMIT {
+        return Ok(None);
+    }
+    scenario_in(alloc, &lines)
 }
 
 /// The scenario that a text is. `Bad` with 0 and 0 exactly where it is none of the early form.
@@ -194,8 +140,8 @@ pub fn read_scenario(alloc: Global, text: &[u8]) -> Result<Scenario, ScenarioFau
     }
 }
 
-/// A scenario that some text is has the early form: one group, one client, which goes, and a line
-/// that settles.
+/// What holds of every scenario that some text is: nodes, one group of some of them, clients in
+/// order of number with few requests, and a schedule of lines that name these.
 pub fn texts_are_early()
     ensures { TextsAreEarly }
 {}

@@ -1,12 +1,12 @@
 //! Texts cut into lines, and lines into words.
 ghost use Rattle.std.specs.Prelude.{◌≡◌, map, IfOk};
-ghost use Rattle.sc_scenario.specs.Early.{lines_of, words_of};
+ghost use Rattle.sc_scenario.specs.Words.{pieces, words_of};
 
 use std::alloc::{AllocError, Global};
 
 /// The pieces between line feeds: one more than there are line feeds.
-pub fn lines_of(alloc: Global, text: &[u8]) -> Result<Vec<&[u8]>, AllocError>
-    ensures { IfOk result (λ lines. map (λ line. line.now) lines.items ≡ lines_of text.now) }
+pub fn lines_in(alloc: Global, text: &[u8]) -> Result<Vec<&[u8]>, AllocError>
+    ensures { IfOk result (λ lines. map (λ line. line.now) lines.items ≡ pieces 10 text.now) }
 {
     text.split(|byte| *byte == b'\n').collect(alloc)
 }

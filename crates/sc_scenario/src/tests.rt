@@ -1,33 +1,65 @@
 use super::*;
+use std::alloc::Global;
+use std::process::Abort;
 use std::test::Fail;
+
+const ALL_LINES: &[u8] =
+    b"scatter 1\nnodes 3\ngroup 7 3 1\nclient 5\nput a x\nget a\ndel a\nend\nclient 2\nend\ngo 5\ndeliver n3 1\ndrop c5 4294967295\nagain 9\ntick c2\ncrash 3\nsettle 1000000\n";
+
+fn expect_clients(rt: &impl Abort, clients: &ClientList) {
+    assert_eq!(rt; clients.len(), 2);
+    assert_eq!(rt; clients.as_slice()[0].client, 2);
+    assert_eq!(rt; clients.as_slice()[1].client, 5);
+    assert_eq!(rt; clients.as_slice()[1].ops.len(), 3);
+}
+
+fn expect_group(rt: &impl Abort, groups: &GroupList) {
+    assert_eq!(rt; groups.len(), 1);
+    let core = &groups.as_slice()[0].core;
+    assert_eq!(rt; core.arc.lo(), 7);
+    assert_eq!(rt; core.first, 1);
+    assert_eq!(rt; core.members.len(), 2);
+}
 
 #[test]
 fn the_early_form_is_read(rt: HostRuntime) -> Result<(), Fail> {
-    let text = b"scatter 1\nnodes 1\ngroup 0 1\nclient 1\nput a x\nget a\nend\ngo 1\nsettle 100\n";
-    let scenario = read_scenario(rt.alloc(), text)?;
-    assert_eq!(rt; scenario.nodes, 1);
-    assert_eq!(rt; scenario.groups.len(), 1);
-    assert_eq!(rt; scenario.clients.len(), 1);
-    assert_eq!(rt; scenario.clients.at(0).ops.len(), 2);
-    assert_eq!(rt; scenario.lines.len(), 2);
+    let scenario = read_scenario(rt.alloc(), ALL_LINES)?;
+    assert_eq!(rt; scenario.nodes, 3);
+    assert_eq!(rt; scenario.lines.len(), 7);
+    expect_clients(&rt, &scenario.clients);
+    expect_group(&rt, &scenario.groups);
     Ok(())
+}
+
+fn is_refused(alloc: Global, text: &[u8]) -> bool {
+    match read_scenario(alloc, text) {
+        Ok(_) => false,
+        Err(fault) => fault == ScenarioFault::Bad { line: 0, why: 0 },
+    }
 }
 
 #[test]
 fn other_texts_are_refused(rt: HostRuntime) -> Result<(), Fail> {
-    let texts: [&[u8]; 6] = [
+    let texts: [&[u8]; 16] = [
         b"",
-        b"scatter 2\nnodes 1\ngroup 0 1\nclient 1\nend\ngo 1\nsettle 1\n",
-        b"scatter 1\nnodes 1\ngroup 0 1\nclient 1\nend\ngo 1\nsettle 0\n",
-        b"scatter 1\nnodes 1\ngroup 0 1\nclient 1\nend\ngo 1\nsettle 1",
-        b"scatter 1\nnodes 1\ngroup 0 1\nclient 1\nput a  x\nend\ngo 1\nsettle 1\n",
-        b"scatter 1\nnodes 1\ngroup 0 1\nclient 1\nget a\x7f\nend\ngo 1\nsettle 1\n",
+        b"\n",
+        b"scatter 2\nnodes 1\ngroup 0 1\n",
+        b"scatter 1\nnodes 33\ngroup 0 1\n",
+        b"scatter 1\nnodes 1\ngroup 0\n",
+        b"scatter 1\nnodes 1\ngroup 4294967296 1\n",
+        b"scatter 1\nnodes 1\ngroup 0 2\n",
+        b"scatter 1\nnodes 2\ngroup 0 1 1\n",
+        b"scatter 1\nnodes 1\ngroup 0 1",
+        b"scatter 1\nnodes 1\ngroup 0 1\n\n",
+        b"scatter 1\nnodes 1\ngroup 0 1\nclient 1\nput a  x\nend\n",
+        b"scatter 1\nnodes 1\ngroup 0 1\nclient 1\n",
+        b"scatter 1\nnodes 1\ngroup 0 1\nclient 1\nend\nclient 1\nend\n",
+        b"scatter 1\nnodes 1\ngroup 0 1\nsettle 1\nclient 1\nend\n",
+        b"scatter 1\nnodes 1\ngroup 0 1\ntick n2\n",
+        b"scatter 1\nnodes 1\ngroup 0 1\ngo 1\n",
     ];
     for text in texts {
-        match read_scenario(rt.alloc(), text) {
-            Ok(_) => return Err(Fail::from("a text outside the early form was read")),
-            Err(fault) => assert_eq!(rt; fault, ScenarioFault::Bad { line: 0, why: 0 }),
-        }
+        assert!(rt; is_refused(rt.alloc(), text));
     }
     Ok(())
 }

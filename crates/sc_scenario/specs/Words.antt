@@ -1,0 +1,37 @@
+-- The words of a line, and what they spell.
+use Rattle.std.specs.Prelude.{ℕ, ◌==◌, ◌&&◌, nat_le, nat_eq, Bool, get_or, List, [], length, Option, Some, None, is_none, if◌then◌else◌, option_and_then}
+use Rattle.std.specs.List.{slice_split}
+use Rattle.std.specs.Cmp.Lexicographic.{pointwise}
+use Rattle.sc_base.specs.Number.{number_of}
+use Rattle.sc_base.specs.TextFault.{text_fault}
+
+-- whether two texts are the same
+abbrev pub same : List ℕ → List ℕ → Bool
+same text other = pointwise nat_eq text other
+
+-- the parts of a text between the bytes `at`
+abbrev pub pieces : ℕ → List ℕ → List (List ℕ)
+pieces at text = slice_split (λ byte. byte == at) text
+
+-- words are parted by single blanks
+abbrev pub words_of : List ℕ → List (List ℕ)
+words_of line = pieces 32 line
+
+-- the k-th of some texts, from 0, and the empty one where there is none
+abbrev pub nth : List (List ℕ) → ℕ → List ℕ
+nth texts k = get_or texts k []
+
+-- whether a line has so many words, of which the first is this one
+abbrev pub is_line : List (List ℕ) → List ℕ → ℕ → Bool
+is_line words first count = (length words == count) && same (nth words 0) first
+
+-- a number from 1 to the most, as it is spelled
+abbrev pub count_in : ℕ → List ℕ → Option ℕ
+count_in most word = option_and_then (λ n. if nat_le 1 n then Some n else None) (number_of word most)
+
+-- a key and a value, as they are spelled
+abbrev pub key_in : List ℕ → Option (List ℕ)
+key_in word = if is_none (text_fault 64 word) then Some word else None
+
+abbrev pub value_in : List ℕ → Option (List ℕ)
+value_in word = if is_none (text_fault 256 word) then Some word else None
