@@ -11,12 +11,11 @@ use Rattle.sc_ideal.specs.declared.Entry.{Entry}
 use Rattle.sc_ideal.specs.IdealStore.{reply_of}
 use Rattle.sc_machine_table.specs.Group.{Group, group_of}
 use Rattle.sc_machine_table.specs.Machine.{applied, done, numbered}
-use Rattle.sc_scenario.specs.Early.{lone_group}
 use Rattle.sc_sound.specs.Histories.{history, entry_of}
-use Rattle.sc_sound.specs.Example.{four, example, example_history, put_it, get_it}
+use Rattle.sc_sound.specs.Example.{four, alone, example, example_history, put_it, get_it}
 
 abbrev pub born : Group
-born = group_of lone_group
+born = group_of alone
 
 -- the entries by what comes of the put, and of the get after it
 abbrev by_put : Group × Effect → List Entry
@@ -48,7 +47,7 @@ nothing = get-empty (slice_cmp nat_cmp) (97 ∷ [])
 pub value : get next.pairs (97 ∷ []) ≡ Some (120 ∷ [])
 value = get-insert nat_list_cmp_total born.pairs (97 ∷ []) (120 ∷ []) (97 ∷ [])
 
-pub example_is_told : history four (lone_group ∷ []) example ≡ example_history
+pub example_is_told : history four (alone ∷ []) example ≡ example_history
 example_is_told =
     ap by_put put ∙ ap by_get got
     ∙ ap (λ (o : Option (List ℕ)). entries o (get next.pairs (97 ∷ []))) nothing

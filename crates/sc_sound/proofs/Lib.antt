@@ -1,9 +1,4 @@
 pub mod Example
-pub mod Journals
-pub mod Logs
 pub mod Rows
-pub mod Sound
 pub mod Told
-pub mod Turns
-pub mod Walked
 pub mod Worlds

@@ -1,5 +1,5 @@
 -- A journal: a client puts a value at a key and gets it, and the one member of a group leads.
-use Rattle.std.specs.Prelude.{ℕ, List, [], ◌∷◌, Some, None}
+use Rattle.std.specs.Prelude.{ℕ, false, List, [], ◌∷◌, Some, None}
 use Rattle.std.proofs.Common.{lit≤}
 use Rattle.sc_base.specs.declared.names.Ballot.{Ballot}
 use Rattle.sc_base.specs.declared.ops.Op.{Op}
@@ -14,7 +14,9 @@ use Rattle.sc_actor.specs.declared.rows.Row.{Row}
 use Rattle.sc_actor.specs.declared.rows.Event.{Event}
 use Rattle.sc_actor.specs.declared.rows.Event.TheVariants.{Deliver, Go}
 use Rattle.sc_ideal.specs.declared.Entry.{Entry}
-use Rattle.sc_scenario.specs.Early.{lone_name, early_scenario}
+use Rattle.sc_cmd.specs.declared.cores.Base.{Base}
+use Rattle.sc_scenario.specs.Groups.{lone_name, lone_group}
+use Rattle.sc_scenario.specs.declared.scenarios.SchedLine.TheVariants.{Go as GoLine, Settle}
 use Rattle.sc_scenario.specs.declared.scenarios.Scenario.{Scenario}
 use Rattle.sc_sound.specs.Logs.{Ahead}
 
@@ -50,9 +52,21 @@ example =
     ∷ row 1 (Deliver 7) (mail 1 33 (Answer lone_name 2 (Value (record { old = Some (120 ∷ []) }))))
     ∷ row 33 (Deliver 8) [] ∷ []
 
+-- its group: the whole circle, with one member
+abbrev pub alone : Base
+alone = lone_group 0 (1 ∷ [])
+
 -- its scenario
 abbrev pub asked_for : Scenario
-asked_for = early_scenario (put_it ∷ get_it ∷ []) 100
+asked_for = record {
+  nodes = 1;
+  groups = alone ∷ [];
+  policy = false;
+  clients = (record { client = 1; ops = put_it ∷ get_it ∷ [] }) ∷ [];
+  lines = GoLine 1 ∷ Settle 100 ∷ [];
+  brief = false;
+  version = 1;
+}
 
 -- its history
 abbrev pub example_history : List Entry
