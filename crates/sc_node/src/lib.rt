@@ -1,7 +1,7 @@
-//! A node: its replica of a group, as far as a group of one member goes.
+//! A node: its replicas, one a group, which step as the node's table says.
 #![tactic(auto)]
 
-mod answers;
+mod absent;
 mod node;
 
 pub use node::NodeCore;

@@ -1,59 +1,109 @@
-//! The node's step, one function for each row of its table.
-ghost use Rattle.std.specs.Prelude.{◌≡◌, ◌+◌, ◌∷◌, [], ◌≤◌, None, IfOk};
-ghost use Rattle.sc_member.specs.Majority.{is_majority};
-ghost use Rattle.sc_node.specs.Table.{node_table, on_mail, on_request, on_accept, on_accepted, offered, offers, executed, is_vote, is_node, first_ballot, last_slot, born_node};
+//! The node.
+ghost use Rattle.std.specs.Prelude.{◌≡◌, [], Some, true, IfOk, OnOk};
+ghost use Rattle.sc_node_table.specs.Replica.{name_of};
+ghost use Rattle.sc_node_table.specs.Node.{born_node, replica_of, taken_by, routed, on_mail, ticked, on_tick, node_table, may_come};
+ghost use Rattle.sc_node.specs.Places.{place_from};
 
-use crate::answers::{answer, body_of};
+use crate::absent::{absent, group_in, may_come};
 use sc_actor::Input;
-use sc_base::{Ballot, Draw, Dup, Op, OutOfMemory, Sequence};
-use sc_cmd::{Base, Command, OrderLine, same_ballot, same_draw};
-use sc_machine::Machine;
-use sc_mail::{AnswerBody, Mail, MailBody};
+use sc_base::{Draw, Dup, OutOfMemory, Sequence};
+use sc_cmd::{Base, OrderLine, same_draw};
+use sc_mail::{Mail, MailBody};
+use sc_replica::Replica;
 use std::alloc::Global;
+use std::marker::Model;
 
-// No command is offered or executed above this slot.
-const LAST_SLOT: u32 = 4_294_967_288;
-
-/// A node with a replica of one group, which serves one request at a time.
+/// A node and its replicas, one a group. Contracts see it as the record of the node's table.
 #[derive(Drop)]
 pub struct NodeCore {
-    /// The node's number, from 1.
-    pub me: u16,
-    pub machine: Machine,
-    /// The slot after the last executed one.
-    pub next: u32,
-    /// The request that is offered at that slot.
-    pub flight: Option<Asked>,
+    me: u16,
+    replicas: Vec<Replica>,
 }
 
-/// A client's request, as it goes into the log.
-#[derive(Drop)]
-pub struct Asked {
-    pub client: u16,
-    pub seq: u32,
-    pub op: Op,
+impl Model for NodeCore {
+    ghost use Rattle.std.specs.FinMap as map;
+    ghost use Rattle.std.specs.Coded.{Coded, codes, coded_ℕ, coded_list};
+    ghost use Rattle.sc_ideal.specs.IdealStore.{Contents};
+    ghost use Rattle.sc_ideal.specs.Clients.{Table};
+    ghost use Rattle.sc_machine_table.specs.Group.{Group};
+    ghost use Rattle.sc_node_table.specs.Replica.{ReplicaState};
+    ghost use Rattle.sc_node_table.specs.Node.{NodeState};
+
+    ghost Value = { NodeState };
+
+    ghost coded = { let pairs : Coded Contents = map.code (coded_list coded_ℕ) (coded_list coded_ℕ) in let clients : Coded Table = map.code coded_ℕ (Prim.hlevel codes) in let group : Coded Group = Prim.hlevel (codes, pairs, clients) in let replica : Coded ReplicaState = Prim.hlevel (codes, group) in Prim.hlevel (codes, replica) };
+
+    ghost view = { λ n. record { me = n.me; replicas = n.replicas.items } };
 }
 
-fn is_node(from: u32) -> bool
-    ensures { result ≡ is_node from }
+/// The replicas at the birth of groups, of each of which the node is a member.
+fn born_replicas(
+    alloc: Global,
+    me: u16,
+    groups: &[Base],
+) -> Result<Vec<Replica>, OutOfMemory>
+    ensures { IfOk result (λ replicas. replicas.items ≡ (born_node 4 me groups.now).replicas) }
 {
-    1 <= from && from <= 32
+    let mut replicas = Vec::new(alloc);
+    for base in groups {
+        if base.core.members.has(me) {
+            replicas.push(Replica::born(alloc, me, base.dup(alloc)?)?)?;
+        }
+    }
+    Ok(replicas)
+}
+
+/// The place of a group's replica, if there is one.
+fn place_of(replicas: &[Replica], group: Draw) -> Option<usize>
+    ensures { result ≡ place_from 0 group replicas.now }
+{
+    for i in 0..replicas.len() {
+        if same_draw(replicas[i].name(), group) {
+            return Some(i);
+        }
+    }
+    None
+}
+
+/// Each replica ticks, in their order.
+fn tick_all(
+    replicas: &mut Vec<Replica>,
+    sent: &mut Sequence<Mail>,
+) -> Result<(), OutOfMemory>
+    ensures { OnOk result ((replicas.new.items, sent.new) ≡ ticked replicas.old.items sent.old) }
+{
+    for i in 0..replicas.len() {
+        replicas[i].on_tick(sent)?;
+    }
+    Ok(())
 }
 
 impl NodeCore {
-    /// A node with a replica that was made at the group's birth.
-    pub fn born(alloc: Global, me: u16, base: Base) -> Result<NodeCore, OutOfMemory>
-        ensures { IfOk result (λ node. node ≡ born_node me base) }
+    /// A node at the birth of groups, in the order of their names: it has a replica of each of which it is a member. Four slots of a log are open at a time.
+    pub fn born(alloc: Global, me: u16, groups: &Sequence<Base>) -> Result<NodeCore, OutOfMemory>
+        ensures { IfOk result (λ node. node ≡ born_node 4 me groups.now) }
     {
         Ok(NodeCore {
             me,
-            machine: Machine::born(alloc, base)?,
-            next: 1,
-            flight: None,
+            replicas: born_replicas(alloc, me, groups.as_slice())?,
         })
     }
 
-    /// Takes an input by the node's table.
+    /// The node's number.
+    pub fn me(&self) -> u16
+        ensures { result ≡ self.now.me }
+    {
+        self.me
+    }
+
+    /// The replicas, in the order of their groups' names.
+    pub fn replicas(&self) -> &[Replica]
+        ensures { result.now ≡ self.now.replicas }
+    {
+        self.replicas.as_slice()
+    }
+
+    /// One step by the node's table: the new value, and what is sent. After want of memory the node may only be dropped.
     pub fn step(
         &mut self,
         alloc: Global,
@@ -63,7 +113,8 @@ impl NodeCore {
     {
         match input {
             Input::Got(mail) => self.on_mail(alloc, mail.from, &mail.body),
-            Input::Tick | Input::Go | Input::Told(_) => Ok(Sequence::new(alloc)),
+            Input::Tick => self.on_tick(alloc),
+            Input::Go | Input::Told(_) => Ok(Sequence::new(alloc)),
         }
     }
 
@@ -73,175 +124,56 @@ impl NodeCore {
         from: u32,
         body: &MailBody,
     ) -> Result<Sequence<Mail>, OutOfMemory>
-        ensures { IfOk result (λ sent. on_mail self.old from body.now ≡ (self.new, sent)) }
+        ensures { IfOk result (λ sent. on_mail from body.now self.old ≡ (self.new, sent)) }
     {
-        match body {
-            MailBody::Request {
-                group,
-                client,
-                seq,
-                op,
-            } => self.on_request(alloc, *group, *client, *seq, op),
-            MailBody::Accept {
-                group,
-                ballot,
-                slot,
-                ..
-            } if is_node(from) => self.on_accept(alloc, from, *group, *ballot, *slot),
-            MailBody::Accepted {
-                group,
-                ballot,
-                slot,
-            } if is_node(from) => self.on_accepted(alloc, from, *group, *ballot, *slot),
-            _ => Ok(Sequence::new(alloc)),
+        if !may_come(from, body) {
+            return Ok(Sequence::new(alloc));
+        }
+        match group_in(body) {
+            None => Ok(Sequence::new(alloc)),
+            Some(group) => self.take(alloc, group, from, body),
         }
     }
 
-    fn first_ballot(&self) -> Ballot
-        ensures { result ≡ first_ballot self.now }
-    {
-        Ballot {
-            round: 1,
-            node: self.machine.core().first,
-        }
-    }
-
-    fn on_request(
+    /// A mail for the replica of a group.
+    fn take(
         &mut self,
         alloc: Global,
         group: Draw,
-        client: u16,
-        seq: u32,
-        op: &Op,
-    ) -> Result<Sequence<Mail>, OutOfMemory>
-        ensures { IfOk result (λ sent. on_request self.old group client seq op.now ≡ (self.new, sent)) }
-    {
-        if !same_draw(group, self.machine.core().id) {
-            return answer(
-                alloc,
-                self.me,
-                group,
-                client,
-                seq,
-                AnswerBody::NotLeader { hint: None },
-            );
-        }
-        let op = op.dup(alloc)?;
-        self.offer(alloc, Asked { client, seq, op })
-    }
-
-    fn offer(&mut self, alloc: Global, asked: Asked) -> Result<Sequence<Mail>, OutOfMemory>
-        ensures { IfOk result (λ sent. offered self.old.flight self.old asked ≡ (self.new, sent)) }
-    {
-        if self.flight.is_some() || self.next > LAST_SLOT {
-            return Ok(Sequence::new(alloc));
-        }
-        let sent = self.offers(alloc, &asked)?;
-        self.flight = Some(asked);
-        Ok(sent)
-    }
-
-    // The accept of a request at the next slot, to each member.
-    fn offers(&self, alloc: Global, asked: &Asked) -> Result<Sequence<Mail>, OutOfMemory>
-        ensures { IfOk result (λ sent. sent ≡ offers self.now asked.now) }
-    {
-        let ballot = self.first_ballot();
-        let core = self.machine.core();
-        let mut sent = Sequence::new(alloc);
-        for member in core.members.as_slice() {
-            sent.push(Mail {
-                from: self.me as u32,
-                to: *member as u32,
-                body: MailBody::Accept {
-                    group: core.id,
-                    ballot,
-                    slot: self.next,
-                    command: Command::Call {
-                        client: asked.client,
-                        seq: asked.seq,
-                        op: asked.op.dup(alloc)?,
-                    },
-                },
-            })?;
-        }
-        Ok(sent)
-    }
-
-    fn on_accept(
-        &self,
-        alloc: Global,
         from: u32,
-        group: Draw,
-        ballot: Ballot,
-        slot: u32,
+        body: &MailBody,
     ) -> Result<Sequence<Mail>, OutOfMemory>
-        ensures { IfOk result (λ sent. on_accept self.now from group ballot slot ≡ (self.now, sent)) }
+        requires { may_come from body.now ≡ true }
+        ensures { IfOk result (λ sent. taken_by (replica_of group self.old.replicas) group from body.now self.old ≡ (self.new, sent)) }
     {
-        let mut sent = Sequence::new(alloc);
-        if same_draw(group, self.machine.core().id) && same_ballot(ballot, self.first_ballot()) {
-            sent.push(Mail {
-                from: self.me as u32,
-                to: from,
-                body: MailBody::Accepted {
-                    group,
-                    ballot,
-                    slot,
-                },
-            })?;
+        match place_of(self.replicas.as_slice(), group) {
+            None => absent(alloc, self.me, from, body),
+            Some(i) => self.take_at(alloc, i, group, from, body),
         }
-        Ok(sent)
     }
 
-    // Whether a vote is for the command in flight.
-    fn is_vote(&self, group: Draw, ballot: Ballot, slot: u32) -> bool
-        ensures { result ≡ is_vote self.now group ballot slot }
-    {
-        same_draw(group, self.machine.core().id)
-            && same_ballot(ballot, self.first_ballot())
-            && slot == self.next
-            && slot <= LAST_SLOT
-    }
-
-    fn on_accepted(
+    fn take_at(
         &mut self,
         alloc: Global,
-        from: u32,
+        i: usize,
         group: Draw,
-        ballot: Ballot,
-        slot: u32,
+        from: u32,
+        body: &MailBody,
     ) -> Result<Sequence<Mail>, OutOfMemory>
-        requires { from ≤ 32 }
-        ensures { IfOk result (λ sent. on_accepted self.old from group ballot slot ≡ (self.new, sent)) }
+        requires may_come { may_come from body.now ≡ true }
+        requires place { place_from 0 group self.old.replicas ≡ Some i }
+        ensures { IfOk result (λ sent. taken_by (replica_of group self.old.replicas) group from body.now self.old ≡ (self.new, sent)) }
     {
-        if !self.is_vote(group, ballot, slot) || !self.is_enough(from as u16) {
-            return Ok(Sequence::new(alloc));
-        }
-        match self.flight.take() {
-            None => Ok(Sequence::new(alloc)),
-            Some(asked) => self.execute(alloc, asked),
-        }
+        let mut sent = Sequence::new(alloc);
+        self.replicas[i].take_mail(from, body, &mut sent)?;
+        Ok(sent)
     }
 
-    // Whether the vote of one node is a majority.
-    fn is_enough(&self, from: u16) -> bool
-        ensures { result ≡ is_majority self.now.machine.core.members (from ∷ []) }
+    fn on_tick(&mut self, alloc: Global) -> Result<Sequence<Mail>, OutOfMemory>
+        ensures { IfOk result (λ sent. on_tick self.old ≡ (self.new, sent)) }
     {
-        self.machine.core().members.is_majority(&[from])
-    }
-
-    // The request was taken out of flight: it is executed, and its client answered.
-    fn execute(&mut self, alloc: Global, asked: Asked) -> Result<Sequence<Mail>, OutOfMemory>
-        requires slot { self.old.next ≤ last_slot }
-        requires landed { self.old.flight ≡ None }
-        ensures { IfOk result (λ sent. executed self.old asked ≡ (self.new, sent)) }
-    {
-        let Asked { client, seq, op } = asked;
-        let command = Command::Call { client, seq, op };
-        let effect = self.machine.apply(&command)?;
-        self.next += 1;
-        match body_of(effect) {
-            None => Ok(Sequence::new(alloc)),
-            Some(body) => answer(alloc, self.me, self.machine.core().id, client, seq, body),
-        }
+        let mut sent = Sequence::new(alloc);
+        tick_all(&mut self.replicas, &mut sent)?;
+        Ok(sent)
     }
 }
