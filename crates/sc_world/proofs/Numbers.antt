@@ -1,0 +1,8 @@
+-- The numbers from one on, one after another.
+use Rattle.std.proofs.Common.{◌≡◌, ℕ, zero, suc, ◌+◌, ◌-◌, ◌<◌, ◌∷◌, ap, ◌∙◌, arith}
+use Rattle.sc_node_table.specs.Slots.{numbers}
+
+pub numbers-next : (from count : ℕ) → 0 < count → numbers from count ≡ from ∷ numbers (from + 1) (count - 1)
+numbers-next from count some =
+    let more : count ≡ suc (count - 1) = omega (arith, some) in
+    ap (numbers from) more
