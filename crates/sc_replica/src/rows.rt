@@ -246,9 +246,9 @@ impl Replica {
         core.members.has(self.me)
     }
 
-    /// Tick.
+    /// A tick of its node's clock, by the row of Tick. The mails come behind those that are there. After want of memory the replica may only be dropped.
     #[tactic(auto, unfolding(sc_node_table::specs::Rows::tick_row))]
-    fn on_tick(&mut self, out: &mut Sequence<Mail>) -> Result<(), OutOfMemory>
+    pub fn on_tick(&mut self, out: &mut Sequence<Mail>) -> Result<(), OutOfMemory>
         ensures { OnOk result ((self.new, out.new) ≡ tick_row (self.old, out.old)) }
     {
         if !self.takes_part() {
@@ -306,9 +306,9 @@ impl Replica {
         }
     }
 
-    /// A mail: a request, or one from a node.
+    /// A mail for its group, by its row. Only a request may come from others than the nodes 1 to 32. The mails come behind those that are there. After want of memory the replica may only be dropped.
     #[tactic(auto, unfolding(sc_node_table::specs::Rows::mailed))]
-    fn take_mail(
+    pub fn take_mail(
         &mut self,
         from: u32,
         body: &MailBody,

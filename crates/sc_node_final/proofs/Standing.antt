@@ -1,0 +1,112 @@
+-- Where a group's replica stands, and a tick of each replica.
+use Rattle.std.proofs.Common.{◌≡◌, ℕ, ◌+◌, ◌<◌, ◌≤◌, Bool, true, false, List, [], ◌∷◌, ◌++◌, length, take, drop, set, get_or, zero, suc, Option, Some, None, Result, Ok, Err, IfOk, refl, sym, ap, ◌∙◌, arith, if◌then◌else◌}
+use Rattle.std.proofs.Math.Seq.{drop-nil}
+use Rattle.std.proofs.lemmas.List.{append-nil}
+use Rattle.sc_base.specs.declared.names.Draw.{Draw}
+use Rattle.sc_cmd.specs.Same.{same_draw}
+use Rattle.sc_mail.specs.declared.bodies.Mail.{Mail}
+use Rattle.sc_mail.specs.declared.bodies.MailBody.{MailBody}
+use Rattle.sc_node_table.specs.Replica.{ReplicaState, Place, name_of}
+use Rattle.sc_node_table.specs.Node.{NodeState, replica_of, with_replica, taken_by, absent, ticked}
+use Rattle.sc_node_table.specs.Rows.{mailed, tick_row}
+use Rattle.sc_node_final.specs.Places.{place_from}
+
+-- a replica of a group stands at a place
+pub record StandsAt (group : Draw) (rs : List ReplicaState) (n : ℕ) : Type 0 where
+  pub within : n < length rs
+  pub found : (d : ReplicaState) → replica_of group rs ≡ Some (get_or rs n d)
+  pub written : (new : ReplicaState) → set rs n new ≡ with_replica group new rs
+
+-- nothing stands at a place before the first
+place-test : (b : Bool) (at n : ℕ) (o : Option ℕ) → (o ≡ Some n → at + 1 ≤ n) → (if b then Some at else o) ≡ Some n → at ≤ n
+place-test true at n o rest e = let same : at ≡ n = cc in omega arith
+place-test false at n o rest e = let less : at + 1 ≤ n = rest e in omega arith
+
+place-after : (group : Draw) (rs : List ReplicaState) (at n : ℕ) → place_from at group rs ≡ Some n → at ≤ n
+place-after group [] at n e = absurd (cc)
+place-after group (r ∷ rs) at n e = place-test (same_draw (name_of r) group) at n (place_from (at + 1) group rs) (place-after group rs (at + 1) n) e
+
+same_number : (a b : ℕ) → Some a ≡ Some b → a ≡ b
+same_number a b e = cc
+
+stands-test : (group : Draw) (r : ReplicaState) (rs : List ReplicaState) (b : Bool) (at k : ℕ) → same_draw (name_of r) group ≡ b
+    → ((j : ℕ) → place_from (at + 1) group rs ≡ Some (at + 1 + j) → StandsAt group rs j)
+    → (if b then Some at else place_from (at + 1) group rs) ≡ Some (at + k) → StandsAt group (r ∷ rs) k
+stands-test group r rs true at zero is rest e = record { within = omega arith; found = λ d. rw is refl; written = λ new. rw is refl }
+stands-test group r rs true at (suc k) is rest e = let same : at ≡ at + suc k = same_number at (at + suc k) e in absurd (omega arith)
+stands-test group r rs false at zero is rest e = let less : at + 1 ≤ at + 0 = place-after group rs (at + 1) (at + 0) e in absurd (omega arith)
+stands-test group r rs false at (suc k) is rest e =
+    let same : at + suc k ≡ at + 1 + k = omega arith in
+    let there = rest k (e ∙ ap (λ n. Some n) same) in
+    record {
+      within = omega (arith, there.within);
+      found = λ d. rw is (there.found d);
+      written = λ new. rw is (ap (λ ys. r ∷ ys) (there.written new));
+    }
+
+stands-from : (group : Draw) (rs : List ReplicaState) (at k : ℕ) → place_from at group rs ≡ Some (at + k) → StandsAt group rs k
+stands-from group [] at k e = absurd (cc)
+stands-from group (r ∷ rs) at k e = stands-test group r rs (same_draw (name_of r) group) at k refl (stands-from group rs (at + 1)) e
+
+pub stands-at : (group : Draw) (rs : List ReplicaState) (n : ℕ) → place_from 0 group rs ≡ Some n → StandsAt group rs n
+stands-at group rs n e = let same : n ≡ 0 + n = omega arith in stands-from group rs 0 n (e ∙ ap (λ m. Some m) same)
+
+nowhere-test : (group : Draw) (r : ReplicaState) (rs : List ReplicaState) (b : Bool) (at : ℕ) → same_draw (name_of r) group ≡ b → (place_from (at + 1) group rs ≡ None → replica_of group rs ≡ None)
+    → (if b then Some at else place_from (at + 1) group rs) ≡ None → replica_of group (r ∷ rs) ≡ None
+nowhere-test group r rs true at is rest e = absurd (cc)
+nowhere-test group r rs false at is rest e = rw is (rest e)
+
+pub stands-nowhere : (group : Draw) (rs : List ReplicaState) (at : ℕ) → place_from at group rs ≡ None → replica_of group rs ≡ None
+stands-nowhere group [] at e = refl
+stands-nowhere group (r ∷ rs) at e = nowhere-test group r rs (same_draw (name_of r) group) at refl (stands-nowhere group rs (at + 1)) e
+
+-- replicas before others
+abbrev pub before : List ReplicaState → List ReplicaState × List Mail → List ReplicaState × List Mail
+before rs p = (rs ++ p.0, p.1)
+
+ticked-suc : (rs : List ReplicaState) (i : ℕ) (d new : ReplicaState) (mails more : List Mail) → i < length rs → (new, more) ≡ tick_row (get_or rs i d, mails)
+    → before (take (suc i) (set rs i new)) (ticked (drop (suc i) (set rs i new)) more) ≡ before (take i rs) (ticked (drop i rs) mails)
+unfolding ticked
+ticked-suc [] i d new mails more less e = absurd (omega arith)
+ticked-suc (r ∷ rs) zero d new mails more less e = ap (λ (p : Place). (p.0 ∷ (ticked rs p.1).0, (ticked rs p.1).1)) e
+ticked-suc (r ∷ rs) (suc i) d new mails more less e =
+    ap (λ (p : List ReplicaState × List Mail). (r ∷ p.0, p.1)) (ticked-suc rs i d new mails more (omega arith) e)
+
+pub ticked-step : (rs : List ReplicaState) (i : ℕ) (d new : ReplicaState) (mails more : List Mail) → i < length rs → (new, more) ≡ tick_row (get_or rs i d, mails)
+    → before (take (i + 1) (set rs i new)) (ticked (drop (i + 1) (set rs i new)) more) ≡ before (take i rs) (ticked (drop i rs) mails)
+ticked-step rs i d new mails more less e =
+    let n : i + 1 ≡ suc i = omega arith in
+    ap (λ m. before (take m (set rs i new)) (ticked (drop m (set rs i new)) more)) n ∙ ticked-suc rs i d new mails more less e
+
+-- all have ticked
+drop-past : (rs : List ReplicaState) (i : ℕ) → length rs ≤ i → drop i rs ≡ []
+drop-past [] i le = drop-nil i
+drop-past (r ∷ rs) zero le = absurd (omega arith)
+drop-past (r ∷ rs) (suc i) le = drop-past rs i (omega arith)
+
+take-past : (rs : List ReplicaState) (i : ℕ) → length rs ≤ i → take i rs ≡ rs
+take-past [] zero le = refl
+take-past [] (suc i) le = refl
+take-past (r ∷ rs) zero le = absurd (omega arith)
+take-past (r ∷ rs) (suc i) le = ap (λ ys. r ∷ ys) (take-past rs i (omega arith))
+
+pub ticked-all : (rs : List ReplicaState) (i : ℕ) (mails : List Mail) → length rs ≤ i → (rs, mails) ≡ before (take i rs) (ticked (drop i rs) mails)
+unfolding ticked
+ticked-all rs i mails le =
+    ap (λ ys. (ys, mails)) (sym (append-nil rs))
+    ∙ ap (λ ys. before ys ([], mails)) (sym (take-past rs i le))
+    ∙ ap (λ ys. before (take i rs) (ticked ys mails)) (sym (drop-past rs i le))
+
+-- a mail for a group whose replica stands at a place
+pub taken-at : (group : Draw) (from : ℕ) (body : MailBody) (node : NodeState) (n : ℕ) (d new : ReplicaState) (more : List Mail) → StandsAt group node.replicas n
+    → (new, more) ≡ mailed from body (get_or node.replicas n d, []) → taken_by (replica_of group node.replicas) group from body node ≡ (record node { replicas = set node.replicas n new }, more)
+taken-at group from body node n d new more stands e =
+    ap (λ o. taken_by o group from body node) (stands.found d)
+    ∙ ap (λ (p : Place). (record node { replicas = with_replica group p.0 node.replicas }, p.1)) (sym e)
+    ∙ ap (λ rs. (record node { replicas = rs }, more)) (sym (stands.written new))
+
+-- a mail for a group of which there is no replica
+pub taken-nowhere : {E : Type 0} (group : Draw) (from : ℕ) (body : MailBody) (node : NodeState) (result : Result (List Mail) E) → replica_of group node.replicas ≡ None
+    → IfOk result (λ mails. mails ≡ absent node.me from body) → IfOk result (λ mails. taken_by (replica_of group node.replicas) group from body node ≡ (node, mails))
+taken-nowhere group from body node (Ok mails) none e = ap (λ o. taken_by o group from body node) none ∙ ap (λ ms. (node, ms)) (sym e)
+taken-nowhere group from body node (Err x) none e = e

@@ -1,0 +1,7 @@
+//! A node: its replicas, one a group, which step as the node's table says.
+#![tactic(auto)]
+
+mod absent;
+mod node;
+
+pub use node::NodeCore;

@@ -1,0 +1,172 @@
+//! The node.
+ghost use Rattle.std.specs.Prelude.{◌≡◌, [], Some, true, IfOk, OnOk};
+ghost use Rattle.sc_node_table.specs.Replica.{name_of};
+ghost use Rattle.sc_node_table.specs.Node.{born_node, replica_of, taken_by, routed, on_mail, ticked, on_tick, node_table, may_come};
+ghost use Rattle.sc_node_final.specs.Places.{place_from};
+
+use crate::absent::{absent, group_in, may_come};
+use sc_actor::Input;
+use sc_base::{Draw, Dup, OutOfMemory, Sequence};
+use sc_cmd::{Base, OrderLine, same_draw};
+use sc_mail::{Mail, MailBody};
+use sc_replica::Replica;
+use std::alloc::Global;
+use std::marker::Model;
+
+/// A node and its replicas, one a group. Contracts see it as the record of the node's table.
+#[derive(Drop)]
+pub struct NodeCore {
+    me: u16,
+    replicas: Vec<Replica>,
+}
+
+impl Model for NodeCore {
+    ghost use Rattle.std.specs.FinMap as map;
+    ghost use Rattle.std.specs.Coded.{Coded, codes, coded_ℕ, coded_list};
+    ghost use Rattle.sc_ideal.specs.IdealStore.{Contents};
+    ghost use Rattle.sc_ideal.specs.Clients.{Table};
+    ghost use Rattle.sc_machine_table.specs.Group.{Group};
+    ghost use Rattle.sc_node_table.specs.Replica.{ReplicaState};
+    ghost use Rattle.sc_node_table.specs.Node.{NodeState};
+
+    ghost Value = { NodeState };
+
+    ghost coded = { let pairs : Coded Contents = map.code (coded_list coded_ℕ) (coded_list coded_ℕ) in let clients : Coded Table = map.code coded_ℕ (Prim.hlevel codes) in let group : Coded Group = Prim.hlevel (codes, pairs, clients) in let replica : Coded ReplicaState = Prim.hlevel (codes, group) in Prim.hlevel (codes, replica) };
+
+    ghost view = { λ n. record { me = n.me; replicas = n.replicas.items } };
+}
+
+/// The replicas at the birth of groups, of each of which the node is a member.
+fn born_replicas(alloc: Global, me: u16, groups: &[Base]) -> Result<Vec<Replica>, OutOfMemory>
+    ensures { IfOk result (λ replicas. replicas.items ≡ (born_node 4 me groups.now).replicas) }
+{
+    let mut replicas = Vec::new(alloc);
+    for base in groups {
+        if base.core.members.has(me) {
+            replicas.push(Replica::born(alloc, me, base.dup(alloc)?)?)?;
+        }
+    }
+    Ok(replicas)
+}
+
+/// The place of a group's replica, if there is one.
+fn place_of(replicas: &[Replica], group: Draw) -> Option<usize>
+    ensures { result ≡ place_from 0 group replicas.now }
+{
+    for i in 0..replicas.len() {
+        if same_draw(replicas[i].name(), group) {
+            return Some(i);
+        }
+    }
+    None
+}
+
+/// Each replica ticks, in their order.
+fn tick_all(replicas: &mut Vec<Replica>, sent: &mut Sequence<Mail>) -> Result<(), OutOfMemory>
+    ensures { OnOk result ((replicas.new.items, sent.new) ≡ ticked replicas.old.items sent.old) }
+{
+    for i in 0..replicas.len() {
+        replicas[i].on_tick(sent)?;
+    }
+    Ok(())
+}
+
+impl NodeCore {
+    /// A node at the birth of groups, in the order of their names: it has a replica of each of which it is a member. Four slots of a log are open at a time.
+    pub fn born(alloc: Global, me: u16, groups: &Sequence<Base>) -> Result<NodeCore, OutOfMemory>
+        ensures { IfOk result (λ node. node ≡ born_node 4 me groups.now) }
+    {
+        Ok(NodeCore {
+            me,
+            replicas: born_replicas(alloc, me, groups.as_slice())?,
+        })
+    }
+
+    /// The node's number.
+    pub fn me(&self) -> u16
+        ensures { result ≡ self.now.me }
+    {
+        self.me
+    }
+
+    /// The replicas, in the order of their groups' names.
+    pub fn replicas(&self) -> &[Replica]
+        ensures { result.now ≡ self.now.replicas }
+    {
+        self.replicas.as_slice()
+    }
+
+    /// One step by the node's table: the new value, and what is sent. After want of memory the node may only be dropped.
+    pub fn step(
+        &mut self,
+        alloc: Global,
+        input: &Input<Mail, OrderLine>,
+    ) -> Result<Sequence<Mail>, OutOfMemory>
+        ensures { IfOk result (λ sent. node_table self.old input.now ≡ (self.new, sent)) }
+    {
+        match input {
+            Input::Got(mail) => self.on_mail(alloc, mail.from, &mail.body),
+            Input::Tick => self.on_tick(alloc),
+            Input::Go | Input::Told(_) => Ok(Sequence::new(alloc)),
+        }
+    }
+
+    fn on_mail(
+        &mut self,
+        alloc: Global,
+        from: u32,
+        body: &MailBody,
+    ) -> Result<Sequence<Mail>, OutOfMemory>
+        ensures { IfOk result (λ sent. on_mail from body.now self.old ≡ (self.new, sent)) }
+    {
+        if !may_come(from, body) {
+            return Ok(Sequence::new(alloc));
+        }
+        match group_in(body) {
+            None => Ok(Sequence::new(alloc)),
+            Some(group) => self.take(alloc, group, from, body),
+        }
+    }
+
+    /// A mail for the replica of a group.
+    fn take(
+        &mut self,
+        alloc: Global,
+        group: Draw,
+        from: u32,
+        body: &MailBody,
+    ) -> Result<Sequence<Mail>, OutOfMemory>
+        requires { may_come from body.now ≡ true }
+        ensures { IfOk result (λ sent. taken_by (replica_of group self.old.replicas) group from body.now self.old ≡ (self.new, sent)) }
+    {
+        match place_of(self.replicas.as_slice(), group) {
+            None => absent(alloc, self.me, from, body),
+            Some(i) => self.take_at(alloc, i, group, from, body),
+        }
+    }
+
+    fn take_at(
+        &mut self,
+        alloc: Global,
+        i: usize,
+        group: Draw,
+        from: u32,
+        body: &MailBody,
+    ) -> Result<Sequence<Mail>, OutOfMemory>
+        requires may_come { may_come from body.now ≡ true }
+        requires place { place_from 0 group self.old.replicas ≡ Some i }
+        ensures { IfOk result (λ sent. taken_by (replica_of group self.old.replicas) group from body.now self.old ≡ (self.new, sent)) }
+    {
+        let mut sent = Sequence::new(alloc);
+        self.replicas[i].take_mail(from, body, &mut sent)?;
+        Ok(sent)
+    }
+
+    fn on_tick(&mut self, alloc: Global) -> Result<Sequence<Mail>, OutOfMemory>
+        ensures { IfOk result (λ sent. on_tick self.old ≡ (self.new, sent)) }
+    {
+        let mut sent = Sequence::new(alloc);
+        tick_all(&mut self.replicas, &mut sent)?;
+        Ok(sent)
+    }
+}
