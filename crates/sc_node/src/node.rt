@@ -37,11 +37,7 @@ impl Model for NodeCore {
 }
 
 /// The replicas at the birth of groups, of each of which the node is a member.
-fn born_replicas(
-    alloc: Global,
-    me: u16,
-    groups: &[Base],
-) -> Result<Vec<Replica>, OutOfMemory>
+fn born_replicas(alloc: Global, me: u16, groups: &[Base]) -> Result<Vec<Replica>, OutOfMemory>
     ensures { IfOk result (λ replicas. replicas.items ≡ (born_node 4 me groups.now).replicas) }
 {
     let mut replicas = Vec::new(alloc);
@@ -66,10 +62,7 @@ fn place_of(replicas: &[Replica], group: Draw) -> Option<usize>
 }
 
 /// Each replica ticks, in their order.
-fn tick_all(
-    replicas: &mut Vec<Replica>,
-    sent: &mut Sequence<Mail>,
-) -> Result<(), OutOfMemory>
+fn tick_all(replicas: &mut Vec<Replica>, sent: &mut Sequence<Mail>) -> Result<(), OutOfMemory>
     ensures { OnOk result ((replicas.new.items, sent.new) ≡ ticked replicas.old.items sent.old) }
 {
     for i in 0..replicas.len() {

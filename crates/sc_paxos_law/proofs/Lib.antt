@@ -1,6 +1,6 @@
-mod Among
-mod Decided
-mod Example
-mod History
-mod Law
-mod Leading
+pub mod Among
+pub mod Decided
+pub mod Example
+pub mod History
+pub mod Law
+pub mod Leading

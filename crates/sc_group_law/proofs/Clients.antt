@@ -1,0 +1,225 @@
+-- Requests that were issued, and what holds of a client.
+use Rattle.std.proofs.Common.{◌≡◌, ℕ, ◌+◌, ◌-◌, ◌≤◌, true, List, [], ◌∷◌, ◌++◌, length, Option, Some, None, ◌⊎◌, inl, inr, refl, sym, ◌∙◌, ap, subst, arith}
+use Rattle.std.specs.Prelude.{slice_get}
+use Rattle.std.specs.Option.{option_map}
+use Rattle.std.proofs.lemmas.Bool.{cases_Bool, cond-true, cond-false}
+use Rattle.std.proofs.lemmas.List.{length_push}
+use Rattle.sc_base.specs.declared.names.Draw.{Draw}
+use Rattle.sc_base.specs.declared.ops.Op.{Op}
+use Rattle.sc_base.specs.declared.ops.Reply.{Reply}
+use Rattle.sc_cmd.specs.declared.commands.Command.{Command}
+use Rattle.sc_cmd.specs.declared.commands.Command.TheVariants.{Call}
+use Rattle.sc_cmd.specs.declared.cores.Base.{Base}
+use Rattle.sc_cmd.specs.declared.orders.OrderLine.{OrderLine}
+use Rattle.sc_mail.specs.declared.bodies.AnswerBody.TheVariants.{Value}
+use Rattle.sc_mail.specs.declared.bodies.Mail.{Mail}
+use Rattle.sc_actor.specs.declared.rows.Row.{Row}
+use Rattle.sc_actor.specs.declared.rows.Input.{Input}
+use Rattle.sc_actor.specs.declared.rows.Input.TheVariants.{Got, Go}
+use Rattle.sc_client_table.specs.Client.{Client, request_at}
+use Rattle.sc_client_table.specs.Table.{request_of}
+use Rattle.sc_client_table.specs.Turns.{InTurn, Waits, Begins, Takes}
+use Rattle.sc_paxos_words.specs.Among.{Among}
+use Rattle.sc_paxos_law.specs.Chosen.{IsLog}
+use Rattle.sc_scenario.specs.declared.scenarios.Asks.{Asks}
+use Rattle.sc_scenario.specs.declared.scenarios.Scenario.{Scenario}
+use Rattle.sc_sound.specs.Laws.{HasEntry}
+use Rattle.sc_sound.specs.Logs.{Ahead}
+use Rattle.sc_sound.specs.Histories.{done_by}
+use Rattle.sc_sound.specs.Requests.{issues, issued_from, issue_row}
+use Rattle.sc_group_law.proofs.Lists.{get_pushed}
+use Rattle.sc_group_law.proofs.Growth.{grown_log}
+use Rattle.sc_group_law.proofs.Invariant.{Steps, rule, birth, IsTrue, IsTrueAnswer}
+use Rattle.sc_group_law.proofs.Places.{Journal, or_now, issue-push}
+
+-- ---- requests
+
+-- a request of the scenario with a number, and the row that issued it
+pub record IsIssued (scenario : Scenario) (rows : Journal) (client seq : ℕ) (op : Op) : Type 0 where
+  pub asks : Asks
+  pub stands : Among asks scenario.clients
+  pub who : client ≡ asks.client
+  pub some : 1 ≤ seq
+  pub op_is : slice_get asks.ops (seq - 1) ≡ Some op
+  pub row : ℕ
+  pub issued : issue_row client seq rows ≡ Some row
+  pub within : row ≤ length rows
+
+-- a call is a request that was issued
+abbrev pub Made : Scenario → Journal → Command → Type 0
+Made scenario rows (Call client seq op) = IsIssued scenario rows client seq op
+Made scenario rows _ = Unit {0}
+
+issued_later : (scenario : Scenario) (rows : Journal) (row : Row Mail OrderLine) (client seq : ℕ) (op : Op) → IsIssued scenario rows client seq op → IsIssued scenario (rows ++ row ∷ []) client seq op
+issued_later scenario rows row client seq op i =
+    let longer = length_push rows row in
+    let le = i.within in
+    record {
+      asks = i.asks;
+      stands = i.stands;
+      who = i.who;
+      some = i.some;
+      op_is = i.op_is;
+      row = i.row;
+      issued = issue-push client seq rows row ∙ ap (λ o. or_now o (issues client seq row) (length rows + 1)) i.issued;
+      within = omega (arith, le, longer);
+    }
+
+pub made_later : (scenario : Scenario) (rows : Journal) (row : Row Mail OrderLine) (c : Command) → Made scenario rows c → Made scenario (rows ++ row ∷ []) c
+made_later scenario rows row (Call client seq op) m = issued_later scenario rows row client seq op m
+made_later scenario rows row _ m = tt
+
+issue_bound : (client seq before : ℕ) (rows : Journal) (i : ℕ) → issued_from client seq before rows ≡ Some i → i ≤ before + length rows
+issue_bound client seq before [] i e = cc
+issue_bound client seq before (r ∷ rows) i e =
+    elim (cases_Bool (issues client seq r)) [
+      | inl t ↦ (
+          let got : Some (before + 1) ≡ Some i = sym (cond-true (issues client seq r) (Some (before + 1)) (issued_from client seq (before + 1) rows) t) ∙ e in
+          let same : before + 1 ≡ i = cc in
+          omega (arith, same))
+      | inr f ↦ (let le = issue_bound client seq (before + 1) rows i (sym (cond-false (issues client seq r) (Some (before + 1)) (issued_from client seq (before + 1) rows) f) ∙ e) in omega (arith, le))
+    ]
+
+-- the row of a client that sends it issues it, if none did before
+pub issued_now : (scenario : Scenario) (rows : Journal) (row : Row Mail OrderLine) (client seq : ℕ) (op : Op) (asks : Asks) → Among asks scenario.clients → client ≡ asks.client → 1 ≤ seq
+    → slice_get asks.ops (seq - 1) ≡ Some op → issues client seq row ≡ true → IsIssued scenario (rows ++ row ∷ []) client seq op
+issued_now scenario rows row client seq op asks stands who some op_is now = by (issue_row client seq rows) refl
+  where
+    by : (o : Option ℕ) → issue_row client seq rows ≡ o → IsIssued scenario (rows ++ row ∷ []) client seq op
+    by (Some i) e =
+        let longer = length_push rows row in
+        let bound = issue_bound client seq 0 rows i e in
+        record {
+          asks = asks;
+          stands = stands;
+          who = who;
+          some = some;
+          op_is = op_is;
+          row = i;
+          issued = issue-push client seq rows row ∙ ap (λ o. or_now o (issues client seq row) (length rows + 1)) e;
+          within = omega (arith, bound, longer);
+        }
+    by None e =
+        let longer = length_push rows row in
+        record {
+          asks = asks;
+          stands = stands;
+          who = who;
+          some = some;
+          op_is = op_is;
+          row = length rows + 1;
+          issued = issue-push client seq rows row ∙ ap (λ o. or_now o (issues client seq row) (length rows + 1)) e ∙ cond-true (issues client seq row) (Some (length rows + 1)) None now;
+          within = omega (arith, longer);
+        }
+
+-- ---- a client
+
+-- the waiting number, if one waits, is the next one
+abbrev pub IsNextOf : Option ℕ → ℕ → Type 0
+IsNextOf None n = Unit {0}
+IsNextOf (Some seq) n = seq ≡ n + 1
+
+-- a request that the client has
+abbrev pub IsAsk : Asks → ℕ × Op → Type 0
+IsAsk asks request = (1 ≤ request.0) × (slice_get asks.ops (request.0 - 1) ≡ Some request.1)
+
+asked_op : (requests : List Op) (seq n : ℕ) (request : ℕ × Op) → seq ≡ n + 1 → (o : Option Op) → slice_get requests (seq - 1) ≡ o → option_map (λ op. (seq, op)) o ≡ Some request
+    → (1 ≤ request.0) × (slice_get requests (request.0 - 1) ≡ Some request.1)
+asked_op requests seq n request is None at e = cc
+asked_op requests seq n request is (Some op) at e =
+    let pair : (seq, op) ≡ request = cc in
+    subst (λ (r : ℕ × Op). (1 ≤ r.0) × (slice_get requests (r.0 - 1) ≡ Some r.1)) pair (omega (arith, is), at)
+
+asked_at : (requests : List Op) (waiting : Option ℕ) (n : ℕ) (request : ℕ × Op) → IsNextOf waiting n → request_at requests waiting ≡ Some request → (1 ≤ request.0) × (slice_get requests (request.0 - 1) ≡ Some request.1)
+asked_at requests None n request is e = cc
+asked_at requests (Some seq) n request is e = asked_op requests seq n request is (slice_get requests (seq - 1)) refl e
+
+next_of : (o : Option ℕ) (n m : ℕ) → (o ≡ Some m) ⊎ (o ≡ None) → m ≡ n + 1 → IsNextOf o n
+next_of o n m (inl e) is = subst (λ x. IsNextOf x n) (sym e) is
+next_of o n m (inr e) is = subst (λ x. IsNextOf x n) (sym e) tt
+
+module _ (ahead : Ahead) (base : Base) where
+  -- a reply is that of an entry of a log
+  abbrev pub IsAnswered : Steps → ℕ → ℕ → Reply → Type 0
+  IsAnswered h client seq reply = (log : List Command) × IsLog (rule ahead base) h log × HasEntry (done_by (birth ahead base) log) client seq reply
+
+  pub record IsClient (h : Steps) (asks : Asks) (client : Client) : Type 0 where
+    pub me : client.me ≡ asks.client
+    pub requests : client.requests ≡ asks.ops
+    pub waits : IsNextOf client.waiting (length client.replies)
+    pub replies : (k : ℕ) (reply : Reply) → slice_get client.replies k ≡ Some reply → IsAnswered h asks.client (k + 1) reply
+
+  pub later_client : (newer h : Steps) (asks : Asks) (client : Client) → IsClient h asks client → IsClient (newer ++ h) asks client
+  later_client newer h asks client c = record {
+    me = c.me;
+    requests = c.requests;
+    waits = c.waits;
+    replies = λ k reply e. (let a = c.replies k reply e in (a.0, grown_log (rule ahead base) newer h a.0 a.1, a.2));
+  }
+
+  -- what became of the replies
+  abbrev pub Grew : Steps → Asks → List Reply → List Reply → Type 0
+  Grew h asks old new = (new ≡ old) ⊎ ((reply : Reply) × (new ≡ old ++ reply ∷ []) × IsAnswered h asks.client (length old + 1) reply)
+
+  module _ (made : Command → Type 0) (h : Steps) (asks : Asks) (client after : Client) (c : IsClient h asks client) (input : Input Mail OrderLine) (sent : List Mail) (turn : InTurn client after input sent)
+      (told : (m : Mail) → input ≡ Got m → (m.to ≡ 32 + asks.client) × IsTrue ahead base made h m m.body) (fresh : input ≡ Go → client.replies ≡ []) where
+    waited : Waits client after → IsClient h asks after × Grew h asks client.replies after.replies
+    waited s = (
+      record {
+        me = turn.me ∙ c.me;
+        requests = turn.requests ∙ c.requests;
+        waits = subst (λ (rs : List Reply). IsNextOf after.waiting (length rs)) (sym s.replies) (subst (λ o. IsNextOf o (length client.replies)) (sym s.number) c.waits);
+        replies = subst (λ (rs : List Reply). (k : ℕ) (reply : Reply) → slice_get rs k ≡ Some reply → IsAnswered h asks.client (k + 1) reply) (sym s.replies) c.replies;
+      },
+      inl s.replies,
+    )
+
+    begun : Begins client after input → IsClient h asks after × Grew h asks client.replies after.replies
+    begun s = (
+      record {
+        me = turn.me ∙ c.me;
+        requests = turn.requests ∙ c.requests;
+        waits = (let none = ap length (s.replies ∙ fresh s.go) in next_of after.waiting (length after.replies) 1 s.number (omega (arith, none)));
+        replies = subst (λ (rs : List Reply). (k : ℕ) (reply : Reply) → slice_get rs k ≡ Some reply → IsAnswered h asks.client (k + 1) reply) (sym s.replies) c.replies;
+      },
+      inl s.replies,
+    )
+
+    took : Takes client after input → IsClient h asks after × Grew h asks client.replies after.replies
+    took s =
+        let (m, where_from, got, body) = s.is_reply in
+        let came = told m got in
+        let truth : IsTrueAnswer ahead base h m.to s.seq (Value s.reply) = subst (IsTrue ahead base made h m) body came.1 in
+        let number : s.seq ≡ length client.replies + 1 = subst (λ o. IsNextOf o (length client.replies)) s.waited c.waits in
+        let answer : IsAnswered h asks.client (length client.replies + 1) s.reply = (truth.0, truth.1, subst (λ n. HasEntry (done_by (birth ahead base) truth.0) asks.client n s.reply) number (truth.2 asks.client came.0)) in (
+          record {
+            me = turn.me ∙ c.me;
+            requests = turn.requests ∙ c.requests;
+            waits = (let more = ap length s.replies ∙ length_push client.replies s.reply in next_of after.waiting (length after.replies) (s.seq + 1) s.number (omega (arith, more, number)));
+            replies = λ k reply e. elim (get_pushed client.replies s.reply k reply (subst (λ (rs : List Reply). slice_get rs k ≡ Some reply) s.replies e)) [
+              | inl old ↦ c.replies k reply old
+              | inr (end, same) ↦ subst (λ n. IsAnswered h asks.client (n + 1) reply) (sym end) (subst (IsAnswered h asks.client (length client.replies + 1)) same answer)
+            ];
+          },
+          inr (s.reply, s.replies, answer),
+        )
+
+    pub client_after : IsClient h asks after × Grew h asks client.replies after.replies
+    client_after = elim turn.moves [ inl s ↦ waited s | inr (inl s) ↦ begun s | inr (inr s) ↦ took s ]
+
+    -- it sends nothing, or a request that it has
+    pub client_sends : (sent ≡ []) ⊎ ((group : Draw) × (target : ℕ) × (request : ℕ × Op) × IsAsk asks request × (sent ≡ request_of asks.client group target request ∷ []))
+    client_sends =
+        elim turn.sends [
+          | inl none ↦ inl none
+          | inr (group, target, request, is, sends) ↦ (
+              let now = client_after.0 in
+              let ask = asked_at after.requests after.waiting (length after.replies) request now.waits is in
+              inr (
+                group,
+                target,
+                request,
+                (ask.0, subst (λ ops. slice_get ops (request.0 - 1) ≡ Some request.1) now.requests ask.1),
+                sends ∙ ap (λ n. request_of n group target request ∷ []) now.me,
+              ))
+        ]

@@ -1,0 +1,374 @@
+-- Execution: the command of the next slot, which is chosen there, lengthens the log.
+use Rattle.std.proofs.Common.{◌≡◌, ℕ, suc, ◌+◌, ◌<◌, ◌≤◌, ◌&&◌, ◌||◌, nat_lt, Bool, true, false, eqb, List, [], ◌∷◌, ◌++◌, length, Option, Some, None, ◌⊎◌, inl, inr, refl, sym, ◌∙◌, ap, subst, arith}
+use Rattle.std.proofs.lemmas.Bool.{cases_Bool, eqb-true, eqb-false, cond_both}
+use Rattle.std.proofs.lemmas.List.{length_push, take-append-le, take_all}
+use Rattle.sc_base.specs.declared.ops.Op.{Op}
+use Rattle.sc_base.specs.declared.ops.Reply.{Reply}
+use Rattle.sc_cmd.specs.declared.links.Route.{Route}
+use Rattle.sc_cmd.specs.declared.commands.Command.{Command}
+use Rattle.sc_cmd.specs.declared.commands.Command.TheVariants.{Noop, Call, Join, Leave, Split, Begin}
+use Rattle.sc_cmd.specs.declared.cores.Base.{Base}
+use Rattle.sc_cmd.specs.declared.effects.Effect.{Effect}
+use Rattle.sc_cmd.specs.declared.effects.Effect.TheVariants as Was
+use Rattle.sc_mail.specs.declared.bodies.AnswerBody.{AnswerBody}
+use Rattle.sc_mail.specs.declared.bodies.AnswerBody.TheVariants as Says
+use Rattle.sc_mail.specs.declared.bodies.Mail.{Mail}
+use Rattle.sc_mail.specs.declared.bodies.MailBody.TheVariants.{Answer}
+use Rattle.sc_member.specs.Roster.{is_member, least_of}
+use Rattle.sc_machine_table.specs.Group.{Group}
+use Rattle.sc_machine_table.specs.Machine.{applied}
+use Rattle.sc_paxos_words.specs.declared.flights.Flight.{Flight}
+use Rattle.sc_paxos_words.specs.declared.answers.Learnt.{Learnt}
+use Rattle.sc_paxos_words.specs.Among.{Among, Each}
+use Rattle.sc_paxos_words.specs.Logs.{LogState, next_of}
+use Rattle.sc_paxos_words.specs.Leaders.{flight_at, landed as without_flight_at}
+use Rattle.sc_paxos_words.proofs.ListLemmas.{Each-among, Each-weaker, find_found}
+use Rattle.sc_paxos_law.specs.Chosen.{needed, members_of, IsChosenAfter, IsLog}
+use Rattle.sc_paxos_law.proofs.Law.{earlier, longer_log}
+use Rattle.sc_node_table.specs.Slots.{rest_of, at_slot, without_slot}
+use Rattle.sc_node_table.specs.Replica.{ReplicaState, Place, name_of, next, members, flying}
+use Rattle.sc_node_table.specs.Queues.{call_of, without_call, call_before, put_back, same_command}
+use Rattle.sc_node_table.specs.Execute.{with_entry, entered, answer_of, told_call, told, learnt_to, lost, landed, left_gone, left, is_among, looked_for, looked, executed_one, has_room, next_ready, executed_ready, executed}
+use Rattle.sc_node_table.specs.Pump.{pumped}
+use Rattle.sc_hist_law.specs.Laws.{IsReplied, LogTells}
+use Rattle.sc_sound.specs.Laws.{HasEntry}
+use Rattle.sc_sound.specs.Logs.{Ahead, state_after}
+use Rattle.sc_sound.specs.Histories.{done_by}
+use Rattle.sc_hist_law.proofs.Logs.{state_push}
+use Rattle.sc_group_law.proofs.Lists.{get_pushed}
+use Rattle.sc_group_law.proofs.Growth.{IsLearnt, by_own_log, learnt_offered}
+use Rattle.sc_group_law.proofs.Invariant.{Steps, rule, first, birth, IsTaken, AreSets, IsReplica, IsTrueAnswer, Fine, turn, says}
+use Rattle.sc_group_law.proofs.Sending.{learnt_others, fine_elected, fine_ended, fine_stopped}
+use Rattle.sc_group_law.proofs.Parts.{Each-without_flight, among_without_flight, Each-without_slot, among_without_slot, slot_among, Each-without_call, rest_length, rest_count, rest_get, flying_found}
+use Rattle.sc_group_law.proofs.Offering.{with_calls, with_acts, fine_pumped}
+
+with_entry-is : (c : Command) (log : LogState Command) → with_entry c log ≡ record log { entries = log.entries ++ c ∷ [] }
+with_entry-is c log =
+    cond_both (eqb (next_of log) (next_of log)) _ _ (λ (x : Learnt × LogState Command). x.1 ≡ record log { entries = log.entries ++ c ∷ [] })
+    (λ _. refl) (λ f. absurd (eqb-false (next_of log) (next_of log) f refl))
+
+module _ (ahead : Ahead) (base : Base) where
+  -- ---- the log and the open slots with one entry more
+
+  members_later : (log : List Command) (c : Command) (slot : ℕ) → needed (rule ahead base) slot ≤ length log → members_of (rule ahead base) log slot ≡ members_of (rule ahead base) (log ++ c ∷ []) slot
+  members_later log c slot le = ap (rule ahead base).members (sym (take-append-le (needed (rule ahead base) slot) log (c ∷ []) le))
+
+  more_sets : (log : List Command) (c : Command) (sets : List (List ℕ)) (set : List ℕ) → length sets ≡ ahead.slots → set ≡ (rule ahead base).members (log ++ c ∷ [])
+      → AreSets ahead base log (length log + 1) sets → AreSets ahead base (log ++ c ∷ []) (length log + 1 + 1) (rest_of sets ++ set ∷ [])
+  more_sets log c sets set count last are k other at =
+      let longer = length_push log c in
+      elim (get_pushed (rest_of sets) set k other at) [
+        | inl old ↦ (
+            let here = are (suc k) other (rest_get sets k other old) in
+            let same : length log + 1 + suc k ≡ length log + 1 + 1 + k = omega arith in
+            subst (λ n. (other ≡ members_of (rule ahead base) (log ++ c ∷ []) n) × (needed (rule ahead base) n ≤ length (log ++ c ∷ []))) same
+            (here.0 ∙ members_later log c (length log + 1 + suc k) here.1, (let le = here.1 in omega (arith, le, longer))))
+        | inr (end, same) ↦ (
+            let one = ahead.some in
+            let rest = rest_count sets (omega (arith, count, one)) in
+            let slots : needed (rule ahead base) (length log + 1 + 1 + k) ≡ length (log ++ c ∷ []) = omega (arith, end, rest, count, longer) in (
+              sym same ∙ last ∙ ap (rule ahead base).members (sym (take_all (needed (rule ahead base) (length log + 1 + 1 + k)) (log ++ c ∷ []) (omega (arith, slots)))),
+              omega (arith, slots),
+            ))
+      ]
+
+module _ (ahead : Ahead) (base : Base) (made : Command → Type 0) (noop : made Noop) (me : ℕ) (before : Steps)
+    (some : (log : List Command) → (node : ℕ) × (rest : List ℕ) × ((rule ahead base).members log ≡ node ∷ rest))
+    (law : (log : List Command) → LogTells (birth ahead base) log) where
+  abbrev Ok : Place → Type 0
+  Ok = Fine ahead base made me before
+
+  abbrev Replica : Steps → ReplicaState → Type 0
+  Replica h r = IsReplica ahead base made h me r
+
+  next_is : (h : Steps) (r : ReplicaState) → Replica h r → next r ≡ length r.log.entries + 1
+  next_is h r k = (let zero_base = k.base_is in omega (arith, zero_base))
+
+  -- ---- 1. the entry is applied and kept
+
+  entered_to : (h : Steps) (c : Command) (r : ReplicaState) → Replica h r → IsChosenAfter (rule ahead base) h r.log.entries (length r.log.entries + 1) c
+      → Replica h (record r { group = (applied r.group c).0; log = record r.log { entries = r.log.entries ++ c ∷ [] }; sets = rest_of r.sets ++ (applied r.group c).0.core.members ∷ [] })
+  entered_to h c r k chosen =
+      let log = r.log.entries in
+      let longer = length_push log c in
+      let zero_base = k.base_is in
+      let count = k.count in
+      let one = ahead.some in
+      let group_is : (applied r.group c).0 ≡ state_after (birth ahead base) (log ++ c ∷ []) = ap (λ g. (applied g c).0) k.group_is ∙ sym (state_push (birth ahead base) log c) in
+      let old : AreSets ahead base log (length log + 1) r.sets = subst (λ n. AreSets ahead base log n r.sets) (next_is h r k) k.sets in
+      let slots : length log + 1 + 1 ≡ r.log.base + length (log ++ c ∷ []) + 1 = omega (arith, longer, zero_base) in
+      record {
+        me_is = k.me_is;
+        base_is = k.base_is;
+        group_is = group_is;
+        is_log = longer_log (rule ahead base) h log c k.is_log chosen;
+        acceptor_is = k.acceptor_is;
+        tops = k.tops;
+        prepares = λ b from a own. (let le = k.prepares b from a own in omega (arith, le, longer));
+        count = rest_length r.sets (applied r.group c).0.core.members (omega (arith, count, one)) ∙ k.count;
+        sets = subst (λ n. AreSets ahead base (log ++ c ∷ []) n (rest_of r.sets ++ (applied r.group c).0.core.members ∷ [])) slots
+            (more_sets ahead base log c r.sets (applied r.group c).0.core.members k.count (ap (λ (g : Group). g.core.members) group_is) old);
+        calls = k.calls;
+        acts = k.acts;
+        flights = k.flights;
+        ready = k.ready;
+        leads = λ runs. (let l = k.leads runs in
+            record {
+              own = l.own;
+              low = l.low;
+              first_is = l.first_is;
+              votes = l.votes;
+              promisers = l.promisers;
+              reports = l.reports;
+              made = Each-weaker _ _ (λ v p. (p.0, (let le = p.1 in omega (arith, le, longer)))) l.votes l.made;
+              offers = λ slot d a. elim (l.offers slot d a) [ inl lt ↦ inl (omega (arith, lt, longer)) | inr t ↦ inr t ];
+            });
+      }
+
+  entered_replica : (h : Steps) (c : Command) (r : ReplicaState) → Replica h r → IsChosenAfter (rule ahead base) h r.log.entries (length r.log.entries + 1) c → Replica h (entered c r)
+  unfolding entered
+  entered_replica h c r k chosen =
+      subst (λ l. Replica h (record r { group = (applied r.group c).0; log = l; sets = rest_of r.sets ++ (applied r.group c).0.core.members ∷ [] })) (sym (with_entry-is c r.log)) (entered_to h c r k chosen)
+
+  entered_log : (c : Command) (r : ReplicaState) → (entered c r).log ≡ record r.log { entries = r.log.entries ++ c ∷ [] }
+  unfolding entered
+  entered_log c r = with_entry-is c r.log
+
+  -- ---- a command goes back
+
+  before_calls : (o : Option ℕ) (client seq : ℕ) (c : Command) (calls : List Command) → made c → Each made calls → Each made (call_before o client seq c calls)
+  before_calls None client seq c calls m e = (m, e)
+  before_calls (Some other) client seq c calls m e = cond_both (nat_lt other seq) (c ∷ without_call calls client) calls (Each made) (λ _. (m, Each-without_call made calls client e)) (λ _. e)
+
+  back_replica : (h : Steps) (c : Command) (r : ReplicaState) → made c → Replica h r → Replica h (put_back c r)
+  unfolding put_back
+  back_replica h Noop r m k = k
+  back_replica h (Call client seq op) r m k = with_calls ahead base made noop me before some h r _ k (before_calls (call_of r.calls client) client seq (Call client seq op) r.calls m k.calls)
+  back_replica h (Join node order) r m k = with_calls ahead base made noop me before some h r (Join node order ∷ r.calls) k (m, k.calls)
+  back_replica h (Leave node order) r m k = with_calls ahead base made noop me before some h r (Leave node order ∷ r.calls) k (m, k.calls)
+  back_replica h (Split at child order) r m k = with_calls ahead base made noop me before some h r (Split at child order ∷ r.calls) k (m, k.calls)
+  back_replica h (Begin tx body order) r m k = with_calls ahead base made noop me before some h r (Begin tx body order ∷ r.calls) k (m, k.calls)
+  back_replica h c r m k = with_acts ahead base made noop me before some h r (c ∷ r.acts) k (m, k.acts)
+
+  back_log : (c : Command) (r : ReplicaState) → (put_back c r).log ≡ r.log
+  unfolding put_back
+  back_log Noop r = refl
+  back_log (Call client seq op) r = refl
+  back_log (Join node order) r = refl
+  back_log (Leave node order) r = refl
+  back_log (Split at child order) r = refl
+  back_log (Begin tx body order) r = refl
+  back_log c r = refl
+
+  -- ---- a counted call is answered, or goes back
+
+  true_answer : (h : Steps) (log : List Command) → IsLog (rule ahead base) h log → (client seq : ℕ) (effect : Effect) → ((reply : Reply) → IsReplied effect reply → HasEntry (done_by (birth ahead base) log) client seq reply)
+      → (answer : AnswerBody) → answer_of effect ≡ Some answer → IsTrueAnswer ahead base h (32 + client) seq answer
+  true_answer h log is client seq (Was.Done reply) f answer e =
+      let same : Says.Value reply ≡ answer = cc in
+      subst (IsTrueAnswer ahead base h (32 + client) seq) same (log, is, λ other to. (let who : client ≡ other = omega (arith, to) in subst (λ n. HasEntry (done_by (birth ahead base) log) n seq reply) who (f reply (inl refl))))
+  true_answer h log is client seq (Was.Again reply) f answer e =
+      let same : Says.Value reply ≡ answer = cc in
+      subst (IsTrueAnswer ahead base h (32 + client) seq) same (log, is, λ other to. (let who : client ≡ other = omega (arith, to) in subst (λ n. HasEntry (done_by (birth ahead base) log) n seq reply) who (f reply (inr refl))))
+  true_answer h log is client seq (Was.Stale last) f answer e = let same : Says.Stale last ≡ answer = cc in subst (IsTrueAnswer ahead base h (32 + client) seq) same tt
+  true_answer h log is client seq (Was.NotMine arc succ) f answer e = let same : Says.NotMine arc succ ≡ answer = cc in subst (IsTrueAnswer ahead base h (32 + client) seq) same tt
+  true_answer h log is client seq (Was.Gone into) f answer e = let same : Says.Gone into ≡ answer = cc in subst (IsTrueAnswer ahead base h (32 + client) seq) same tt
+  true_answer h log is client seq _ f answer e = cc
+
+  -- what stands after a part of an execution: the place, the command of the executed slot, and that slot
+  record Past (slot : ℕ) (c : Command) (place : Place) : Type 0 where
+    fine : Ok place
+    learnt_is : IsLearnt (rule ahead base) (fine.newer ++ before) slot c
+    executed_is : slot < next place.0
+
+  told_place : (slot : ℕ) (d : Command) (o : Option AnswerBody) (c : Command) (r : ReplicaState) (mails : List Mail) → (p : Past slot d (r, mails)) → made c
+      → ((client seq : ℕ) (op : Op) (answer : AnswerBody) → c ≡ Call client seq op → o ≡ Some answer → IsTrueAnswer ahead base (p.fine.newer ++ before) (32 + client) seq answer)
+      → Past slot d (told_call o c (r, mails))
+  unfolding told_call says turn
+  told_place slot d (Some answer) (Call client seq op) r mails p m t = record {
+    fine = says ahead base made me before r mails (record { from = r.me; to = 32 + client; body = Answer (name_of r) seq answer }) p.fine refl (t client seq op answer refl refl);
+    learnt_is = p.learnt_is;
+    executed_is = p.executed_is;
+  }
+  told_place slot d None (Call client seq op) r mails p m t = record {
+    fine = turn ahead base made me before r (put_back (Call client seq op) r) mails p.fine (back_replica (p.fine.newer ++ before) (Call client seq op) r m p.fine.replica);
+    learnt_is = p.learnt_is;
+    executed_is = subst (λ (l : LogState Command). slot < next_of l) (sym (back_log (Call client seq op) r)) p.executed_is;
+  }
+  told_place slot d (Some answer) c r mails p m t = p
+  told_place slot d None c r mails p m t = p
+
+  -- ---- 2. the others learn it
+
+  learnt_place : (counted : Bool) (nodes : List ℕ) (slot : ℕ) (c : Command) (place : Place) → Past slot c place → Ok (learnt_to counted nodes slot c place) × (slot < next (learnt_to counted nodes slot c place).0)
+  unfolding learnt_to
+  learnt_place true nodes slot c (r, mails) p = (learnt_others ahead base made me before nodes r mails (name_of r) slot c p.fine p.learnt_is, p.executed_is)
+  learnt_place false nodes slot c (r, mails) p = (p.fine, p.executed_is)
+
+  -- ---- 4. what was in flight or ready there is over
+
+  over_replica : (h : Steps) (slot : ℕ) (r : ReplicaState) → slot < next r → Replica h r → Replica h (record r { leader = without_flight_at slot r.leader; ready = without_slot r.ready slot })
+  over_replica h slot r past k = record {
+    me_is = k.me_is;
+    base_is = k.base_is;
+    group_is = k.group_is;
+    is_log = k.is_log;
+    acceptor_is = k.acceptor_is;
+    tops = k.tops;
+    prepares = k.prepares;
+    count = k.count;
+    sets = k.sets;
+    calls = k.calls;
+    acts = k.acts;
+    flights = Each-without_flight _ slot r.leader.flights k.flights;
+    ready = Each-without_slot _ r.ready slot k.ready;
+    leads = λ runs. (let l = k.leads runs in
+        record {
+          own = l.own;
+          low = l.low;
+          first_is = l.first_is;
+          votes = l.votes;
+          promisers = l.promisers;
+          reports = l.reports;
+          made = l.made;
+          offers = λ at d a. stays runs at (l.offers at d a);
+        });
+  }
+    where
+      stays : r.running ≡ true → (at : ℕ) → (at < next r) ⊎ IsTaken ahead base r.leader r.ready at
+          → (at < next r) ⊎ IsTaken ahead base (without_flight_at slot r.leader) (without_slot r.ready slot) at
+      stays runs at (inl lt) = inl lt
+      stays runs at (inr t) =
+          elim (cases_Bool (eqb at slot)) [
+            | inl e ↦ (let same = eqb-true at slot e in inl (omega (arith, same, past)))
+            | inr n ↦ (
+                let ne = eqb-false at slot n in
+                elim t [
+                  | inl (f, a, e) ↦ inr (inl (f, among_without_flight slot r.leader.flights f a (λ s. ne (sym e ∙ s)), e))
+                  | inr (c, a) ↦ inr (inr (c, among_without_slot r.ready slot (at, c) a ne))
+                ])
+          ]
+
+  pub flying_made : (slot : ℕ) (r : ReplicaState) (mails : List Mail) (c : Command) → Ok (r, mails) → flying r slot ≡ Some c → made c
+  flying_made slot r mails c f e =
+      let got = flying_found slot (flight_at slot r.leader.flights) c e in
+      let there = find_found (λ (flight : Flight Command). eqb flight.slot slot) r.leader.flights got.0 got.1 in
+      let offer = Each-among _ r.leader.flights got.0 f.replica.flights there.0 in
+      subst made got.2 (f.requested r.leader.ballot got.0.slot got.0.value offer.0)
+
+  lost_replica : (h : Steps) (counted : Bool) (c : Command) (o : Option Command) (r : ReplicaState) → ((d : Command) → o ≡ Some d → made d) → Replica h r → Replica h (lost counted c o r)
+  lost_replica h counted c None r m k = k
+  lost_replica h counted c (Some other) r m k = cond_both (counted || same_command other c) r (put_back other r) (Replica h) (λ _. k) (λ _. back_replica h other r (m other refl) k)
+
+  landed_place : (counted : Bool) (slot : ℕ) (c : Command) (place : Place) → Ok place → slot < next place.0 → Ok (landed counted slot c place)
+  unfolding landed
+  landed_place counted slot c (r, mails) f past =
+      turn ahead base made me before r _ mails f
+      (lost_replica (f.newer ++ before) counted c (flying r slot) _ (λ d e. flying_made slot r mails d f e) (over_replica (f.newer ++ before) slot r past f.replica))
+
+  -- ---- 5 and 6
+
+  pub hint_replica : (h : Steps) (r : ReplicaState) (hint : Option ℕ) → Replica h r → Replica h (record r { hint = hint })
+  hint_replica h r hint k = record {
+    me_is = k.me_is;
+    base_is = k.base_is;
+    group_is = k.group_is;
+    is_log = k.is_log;
+    acceptor_is = k.acceptor_is;
+    tops = k.tops;
+    prepares = k.prepares;
+    count = k.count;
+    sets = k.sets;
+    calls = k.calls;
+    acts = k.acts;
+    flights = k.flights;
+    ready = k.ready;
+    leads = λ runs. (let l = k.leads runs in
+        record { own = l.own; low = l.low; first_is = l.first_is; votes = l.votes; promisers = l.promisers; reports = l.reports; made = l.made; offers = l.offers });
+  }
+
+  hinted_place : (r : ReplicaState) (hint : Option ℕ) (mails : List Mail) → Ok (r, mails) → Ok (record r { hint = hint }, mails)
+  hinted_place r hint mails f = turn ahead base made me before r (record r { hint = hint }) mails f (hint_replica (f.newer ++ before) r hint f.replica)
+
+  left_gone_place : (gone : Option Route) (r : ReplicaState) (mails : List Mail) → Ok (r, mails) → Ok (left_gone gone (r, mails))
+  left_gone_place (Some into) r mails f = fine_ended ahead base made me before None (Says.Gone into) (λ h to seq. tt) r mails f
+  left_gone_place None r mails f = cond_both (is_member (members r) r.me) _ _ Ok (λ _. f) (λ _. fine_stopped ahead base made me before (Some (least_of (members r))) r mails f)
+
+  left_place : (place : Place) → Ok place → Ok (left place)
+  unfolding left
+  left_place (r, mails) f = cond_both r.running _ _ Ok (λ _. left_gone_place r.group.core.gone r mails f) (λ _. f)
+
+  looked_for_place : (gone : Option Route) (r : ReplicaState) (mails : List Mail) → Ok (r, mails) → Ok (looked_for gone (r, mails))
+  looked_for_place (Some into) r mails f = f
+  looked_for_place None r mails f =
+      cond_both (is_among (members r) r.hint) _ _ Ok (λ _. f)
+      (λ _. cond_both (eqb (least_of (members r)) r.me) _ _ Ok
+      (λ _. fine_elected ahead base made me before (record r { hint = Some r.me }) mails (hinted_place r (Some r.me) mails f))
+      (λ _. hinted_place r (Some (least_of (members r))) mails f))
+
+  looked_place : (place : Place) → Ok place → Ok (looked place)
+  unfolding looked
+  looked_place (r, mails) f = cond_both r.running _ _ Ok (λ _. f) (λ _. looked_for_place r.group.core.gone r mails f)
+
+  -- ---- 1 to 6
+
+  pub fine_executed_one : (counted : Bool) (c : Command) (r : ReplicaState) (mails : List Mail) → (f : Ok (r, mails)) → IsLearnt (rule ahead base) (f.newer ++ before) (next r) c → made c
+      → Ok (executed_one counted c (r, mails))
+  unfolding executed_one told turn
+  fine_executed_one counted c r mails f t m =
+      let h = f.newer ++ before in
+      let k = f.replica in
+      let log = r.log.entries in
+      let zero_base = k.base_is in
+      let longer = length_push log c in
+      let known = earlier (rule ahead base) (length log) in
+      let chosen = by_own_log (rule ahead base) (first ahead base) h f.lawful (length log + 1) c (subst (λ n. IsLearnt (rule ahead base) h n c) (next_is h r k) t) log k.is_log known in
+      let after = entered_replica h c r k chosen in
+      let place = turn ahead base made me before r (entered c r) mails f after in
+      let up : next r < next (entered c r) = subst (λ (l : LogState Command). next r < next_of l) (sym (entered_log c r)) (omega (arith, longer)) in
+      let effect = (applied r.group c).1 in
+      let entries_are : log ++ c ∷ [] ≡ (entered c r).log.entries = sym (ap (λ (l : LogState Command). l.entries) (entered_log c r)) in
+      let replies : (client seq : ℕ) (op : Op) (reply : Reply) → c ≡ Call client seq op → IsReplied effect reply → HasEntry (done_by (birth ahead base) (entered c r).log.entries) client seq reply = λ client seq op reply is replied. (
+      subst (λ l. HasEntry (done_by (birth ahead base) l) client seq reply) (ap (λ d. log ++ d ∷ []) (sym is) ∙ entries_are)
+      ((law log).replies client seq op reply
+      (subst (λ (g : Group). IsReplied (applied g (Call client seq op)).1 reply) k.group_is (subst (λ d. IsReplied (applied r.group d).1 reply) is replied)))) in
+      let answers : (client seq : ℕ) (op : Op) (answer : AnswerBody) → c ≡ Call client seq op → answer_of effect ≡ Some answer → IsTrueAnswer ahead base h (32 + client) seq answer = λ client seq op answer is e.
+      (true_answer h (entered c r).log.entries after.is_log client seq effect (λ reply replied. replies client seq op reply is replied) answer e) in
+      let start : Past (next r) c (entered c r, mails) = record { fine = place; learnt_is = t; executed_is = up } in
+      let spoken : Past (next r) c (told counted effect c (entered c r, mails)) = (
+      cond_both counted (told_call (answer_of effect) c (entered c r, mails)) (entered c r, mails) (Past (next r) c)
+      (λ _. told_place (next r) c (answer_of effect) c (entered c r) mails start m answers) (λ _. start)) in
+      let taught = learnt_place counted (members r) (next r) c (told counted effect c (entered c r, mails)) spoken in
+      looked_place _ (left_place _ (landed_place counted (next r) c _ taught.0 taught.1))
+
+  -- what is chosen was requested
+  pub learnt_made : (place : Place) → (f : Ok place) → (slot : ℕ) (c : Command) → IsLearnt (rule ahead base) (f.newer ++ before) slot c → made c
+  learnt_made place f slot c t =
+      let offer = learnt_offered (rule ahead base) (first ahead base) (f.newer ++ before) f.lawful slot c t in
+      f.requested offer.0 slot c offer.1
+
+  pub pumps : (place : Place) → Ok place → Ok (pumped place)
+  pumps = fine_pumped ahead base made noop me before some
+
+  next_ready_among : (r : ReplicaState) (c : Command) → next_ready r ≡ Some c → Among (next r, c) r.ready
+  next_ready_among r c e =
+      cond_both (r.running && has_room r) (at_slot r.ready (next r)) None (λ o. o ≡ Some c → Among (next r, c) r.ready) (λ _ k. slot_among r.ready (next r) c k) (λ _ k. cc) e
+
+  fine_executed_ready : (es : List (ℕ × Command)) (place : Place) → Ok place → Ok (executed_ready es place)
+  unfolding executed_ready
+  fine_executed_ready [] place f = f
+  fine_executed_ready (e ∷ es) place f = go (λ p g. fine_executed_ready es p g) (next_ready place.0) refl
+    where
+      go : ((p : Place) → Ok p → Ok (executed_ready es p)) → (o : Option Command) → next_ready place.0 ≡ o
+          → Ok (elim o [ None ↦ place | Some command ↦ pumped (executed_ready es (executed_one true command place)) ])
+      go rest None is = f
+      go rest (Some c) is =
+          let t = Each-among _ place.0.ready (next place.0, c) f.replica.ready (next_ready_among place.0 c is) in
+          pumps _ (rest _ (fine_executed_one true c place.0 place.1 f t (learnt_made place f (next place.0) c t)))
+
+  -- Execute
+  pub fine_executed : (counted : Bool) (c : Command) (r : ReplicaState) (mails : List Mail) → (f : Ok (r, mails)) → IsLearnt (rule ahead base) (f.newer ++ before) (next r) c → Ok (executed counted c (r, mails))
+  unfolding executed
+  fine_executed counted c r mails f t =
+      let one = fine_executed_one counted c r mails f t (learnt_made (r, mails) f (next r) c t) in
+      pumps _ (fine_executed_ready (executed_one counted c (r, mails)).0.ready (executed_one counted c (r, mails)) one)

@@ -1,0 +1,86 @@
+-- What holds of a history holds after more steps, and whose a step is.
+use Rattle.std.proofs.Common.{◌≡◌, ℕ, ◌≤◌, eqb, List, [], ◌∷◌, ◌++◌, length, inl, inr, refl, sym, ◌∙◌, subst}
+use Rattle.std.proofs.lemmas.Bool.{ne_eqb, cond-false}
+use Rattle.sc_base.specs.declared.names.Ballot.{Ballot}
+use Rattle.sc_paxos_words.specs.Among.{Among}
+use Rattle.sc_paxos_words.proofs.ListLemmas.{Each-among, Each-weaker}
+use Rattle.sc_paxos_law.specs.Steps.{Step, Prepared, Promised, Offered, Accepted, Cut, state_of}
+use Rattle.sc_paxos_law.specs.Chosen.{Rule, needed, members_of, IsChosen, IsChosenAfter, IsLog}
+use Rattle.sc_paxos_law.specs.Lawful.{IsElected, MayOffer, IsLawfulStep, IsLawful}
+use Rattle.sc_paxos_law.proofs.Among.{shared_member}
+use Rattle.sc_paxos_law.proofs.History.{was_offered, one_offer}
+use Rattle.sc_paxos_law.proofs.Law.{later_log, later_chosen, agree_members, logs_agree}
+
+pub later_after : {V : Type 0} (rule : Rule V) (s : Step V) (h : List (Step V)) (log : List V) (slot : ℕ) (v : V) → IsChosenAfter rule h log slot v → IsChosenAfter rule (s ∷ h) log slot v
+later_after rule s h log slot v c = record { known = c.known; chosen = later_chosen _ s h slot v c.chosen }
+
+-- a value that is chosen at a slot, whose members come from some log
+pub record IsLearnt {V : Type 0} (rule : Rule V) (h : List (Step V)) (slot : ℕ) (value : V) : Type 0 where
+  pub log : List V
+  pub is_log : IsLog rule h log
+  pub chosen : IsChosenAfter rule h log slot value
+
+pub later_learnt : {V : Type 0} (rule : Rule V) (s : Step V) (h : List (Step V)) (slot : ℕ) (v : V) → IsLearnt rule h slot v → IsLearnt rule (s ∷ h) slot v
+later_learnt rule s h slot v l = record { log = l.log; is_log = later_log rule s h l.log l.is_log; chosen = later_after rule s h l.log slot v l.chosen }
+
+pub grown_log : {V : Type 0} (rule : Rule V) (newer h : List (Step V)) (log : List V) → IsLog rule h log → IsLog rule (newer ++ h) log
+grown_log rule [] h log l = l
+grown_log rule (s ∷ newer) h log l = later_log rule s (newer ++ h) log (grown_log rule newer h log l)
+
+pub grown_learnt : {V : Type 0} (rule : Rule V) (newer h : List (Step V)) (slot : ℕ) (v : V) → IsLearnt rule h slot v → IsLearnt rule (newer ++ h) slot v
+grown_learnt rule [] h slot v l = l
+grown_learnt rule (s ∷ newer) h slot v l = later_learnt rule s (newer ++ h) slot v (grown_learnt rule newer h slot v l)
+
+-- what is learnt at a slot was chosen by the members that any log gives which knows them
+pub by_own_log : {V : Type 0} (rule : Rule V) (first : Ballot) (h : List (Step V)) → IsLawful rule first h → (slot : ℕ) (v : V) → IsLearnt rule h slot v
+    → (log : List V) → IsLog rule h log → needed rule slot ≤ length log → IsChosenAfter rule h log slot v
+by_own_log rule first h l slot v t log is_log known =
+    let here = agree_members rule h slot log is_log known (logs_agree rule first h l (needed rule slot)) in
+    record { known = known; chosen = subst (λ ms. IsChosen ms h slot v) (here t.log t.is_log t.chosen.known) t.chosen.chosen }
+
+-- a chosen value was offered
+pub learnt_offered : {V : Type 0} (rule : Rule V) (first : Ballot) (h : List (Step V)) → IsLawful rule first h → (slot : ℕ) (v : V) → IsLearnt rule h slot v
+    → (b : Ballot) × Among (Offered b slot v) h
+learnt_offered rule first h l slot v t =
+    let c = t.chosen.chosen in
+    let voter = shared_member (members_of rule t.log slot) c.voters c.voters c.majority c.majority in
+    (c.ballot, was_offered rule first h voter.0 c.ballot slot v l (Each-among _ c.voters voter.0 c.each voter.1))
+
+-- ---- an offer may be made again
+
+later_elected : {V : Type 0} (members : List ℕ) (b : Ballot) (slot : ℕ) (v : V) (s : Step V) (h : List (Step V)) → IsElected members b slot v h → IsElected members b slot v (s ∷ h)
+later_elected members b slot v s h e =
+    record { votes = e.votes; made = Each-weaker _ _ (λ x m. (inr m.0, m.1)) e.votes e.made; majority = e.majority; choice = e.choice }
+
+later_offer : {V : Type 0} (rule : Rule V) (first b : Ballot) (slot : ℕ) (v : V) (s : Step V) (h : List (Step V)) → IsLawful rule first (s ∷ h) → Among (Offered b slot v) (s ∷ h)
+    → MayOffer rule first b slot v h → MayOffer rule first b slot v (s ∷ h)
+later_offer rule first b slot v s h l a m = record {
+  log = m.log;
+  is_log = later_log rule s h m.log m.is_log;
+  known = m.known;
+  elected = elim m.elected [ inl e ↦ inl e | inr e ↦ inr (later_elected _ b slot v s h e) ];
+  only = λ other o. one_offer rule first (s ∷ h) b slot other v l o a;
+}
+
+pub offer_again : {V : Type 0} (rule : Rule V) (first : Ballot) (h : List (Step V)) (b : Ballot) (slot : ℕ) (v : V) → IsLawful rule first h → Among (Offered b slot v) h → MayOffer rule first b slot v h
+offer_again rule first [] b slot v l a = absurd a
+offer_again rule first (s ∷ h) b slot v l (inl e) =
+    later_offer rule first b slot v s h l (inl e) (subst (λ t. IsLawfulStep rule first t h) e l.0)
+offer_again rule first (s ∷ h) b slot v l (inr a) = later_offer rule first b slot v s h l (inr a) (offer_again rule first h b slot v l.1 a)
+
+-- ---- whose a step is
+
+abbrev pub By : {V : Type 0} → ℕ → Step V → Type 0
+By me (Prepared ballot from) = ballot.node ≡ me
+By me (Promised node ballot from reports) = node ≡ me
+By me (Offered ballot slot value) = ballot.node ≡ me
+By me (Accepted node ballot slot value) = node ≡ me
+By me (Cut node upto) = node ≡ me
+
+-- a step of another node changes nothing of an acceptor
+pub state_kept : {V : Type 0} (first : Ballot) (me other : ℕ) (s : Step V) (h : List (Step V)) → By me s → (me ≡ other → ⊥) → state_of first other (s ∷ h) ≡ state_of first other h
+state_kept first me other (Prepared b from) h by ne = refl
+state_kept first me other (Promised n b from rs) h by ne = cond-false (eqb n other) _ _ (ne_eqb n other (λ e. ne (sym by ∙ e)))
+state_kept first me other (Offered b s v) h by ne = refl
+state_kept first me other (Accepted n b s v) h by ne = cond-false (eqb n other) _ _ (ne_eqb n other (λ e. ne (sym by ∙ e)))
+state_kept first me other (Cut n upto) h by ne = cond-false (eqb n other) _ _ (ne_eqb n other (λ e. ne (sym by ∙ e)))

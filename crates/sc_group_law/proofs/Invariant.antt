@@ -1,0 +1,259 @@
+-- What holds of each replica and of each mail after the steps so far, its parts named. A part of the table takes one place to the next, and keeps it.
+use Rattle.std.proofs.Common.{◌≡◌, ℕ, ◌+◌, ◌<◌, ◌≤◌, true, List, [], ◌∷◌, ◌++◌, length, map, Some, ◌⊎◌, inl, inr, refl, sym, ◌∙◌, ap, subst}
+use Rattle.std.specs.Prelude.{slice_get}
+use Rattle.std.specs.List.{flat_map}
+use Rattle.sc_base.specs.declared.names.Ballot.{Ballot}
+use Rattle.sc_base.specs.declared.names.Draw.{Draw}
+use Rattle.sc_cmd.specs.Same.{same_draw}
+use Rattle.sc_cmd.specs.declared.commands.Command.{Command}
+use Rattle.sc_cmd.specs.declared.commands.Command.TheVariants.{Call}
+use Rattle.sc_cmd.specs.declared.cores.Base.{Base}
+use Rattle.sc_mail.specs.declared.bodies.AnswerBody.{AnswerBody}
+use Rattle.sc_mail.specs.declared.bodies.AnswerBody.TheVariants as Says
+use Rattle.sc_mail.specs.declared.bodies.Mail.{Mail}
+use Rattle.sc_mail.specs.declared.bodies.MailBody.{MailBody}
+use Rattle.sc_mail.specs.declared.bodies.MailBody.TheVariants.{Request, Answer, Prepare, Promise, Accept, Accepted as AcceptedMail, Learn}
+use Rattle.sc_machine_table.specs.Group.{Group, group_of}
+use Rattle.sc_paxos_words.specs.Among.{Among, Each}
+use Rattle.sc_paxos_words.specs.Leaders.{LeaderState}
+use Rattle.sc_paxos_words.specs.Votes.{voters_of}
+use Rattle.sc_paxos_words.specs.declared.flights.Flight.{Flight}
+use Rattle.sc_paxos_words.proofs.ListLemmas.{Each-weaker}
+use Rattle.sc_paxos_law.specs.Steps.{Step, Prepared, Promised, Offered, Accepted, state_of}
+use Rattle.sc_paxos_law.specs.Chosen.{Rule, needed, members_of, IsLog}
+use Rattle.sc_paxos_law.specs.Lawful.{Vote, IsLawfulStep, IsLawful}
+use Rattle.sc_paxos_law.proofs.Among.{Among-right, Among-either}
+use Rattle.sc_paxos_law.proofs.Law.{later_log}
+use Rattle.sc_node_table.specs.Replica.{ReplicaState, Place, first_ballot, next}
+use Rattle.sc_sound.specs.Laws.{HasEntry}
+use Rattle.sc_sound.specs.Logs.{Ahead, state_after, rule_of}
+use Rattle.sc_sound.specs.Histories.{done_by}
+use Rattle.sc_group_law.specs.Steps.{asked_by, asked_in}
+use Rattle.sc_group_law.proofs.Growth.{IsLearnt, By, later_learnt, grown_log, grown_learnt, state_kept}
+
+abbrev pub Steps : Type 0
+Steps = List (Step Command)
+
+module _ (ahead : Ahead) (base : Base) where
+  abbrev pub rule : Rule Command
+  rule = rule_of ahead base
+
+  abbrev pub first : Ballot
+  first = first_ballot base.core
+
+  abbrev pub name : Draw
+  name = base.core.id
+
+  abbrev pub birth : Group
+  birth = group_of base
+
+  -- ---- what a leader holds
+
+  -- each command in flight was offered in the leader's ballot, and each kept vote is an acceptance
+  abbrev pub IsFlying : Steps → Ballot → Flight Command → Type 0
+  IsFlying h ballot flight = Among (Offered ballot flight.slot flight.value) h × Each (λ node. Among (Accepted node ballot flight.slot flight.value) h) (voters_of flight.voters)
+
+  -- something is in flight or ready at a slot
+  abbrev pub IsTaken : LeaderState Command → List (ℕ × Command) → ℕ → Type 0
+  IsTaken leader ready slot = ((flight : Flight Command) × Among flight leader.flights × (flight.slot ≡ slot)) ⊎ ((command : Command) × Among (slot, command) ready)
+
+  -- a promise that was made, and that covers the slots from the next one on
+  abbrev pub IsVote : Steps → Ballot → ℕ → Vote Command → Type 0
+  IsVote h ballot next_slot vote = Among (Promised vote.node ballot vote.from vote.reports) h × (vote.from ≤ next_slot)
+
+  pub record IsLeader (h : Steps) (me : ℕ) (r : ReplicaState) : Type 0 where
+    -- its ballot is its node's own, and not above the greatest seen
+    pub own : r.leader.ballot.node ≡ me
+    pub low : r.leader.ballot.round ≤ r.top.round
+    pub first_is : r.leader.is_first ≡ true → r.leader.ballot ≡ first
+    -- the promises that it counted were made
+    pub votes : List (Vote Command)
+    pub promisers : r.leader.promisers ≡ map (λ (vote : Vote Command). vote.node) votes
+    pub reports : r.leader.reports ≡ flat_map (λ (vote : Vote Command). vote.reports) votes
+    pub made : Each (IsVote h r.leader.ballot (next r)) votes
+    -- where its ballot has offered a command, the slot is executed or taken
+    pub offers : (slot : ℕ) (command : Command) → Among (Offered r.leader.ballot slot command) h → (slot < next r) ⊎ IsTaken r.leader r.ready slot
+
+  -- ---- what holds of a replica
+
+  -- these are the members of the slots from one on, and the log gives them
+  abbrev pub AreSets : List Command → ℕ → List (List ℕ) → Type 0
+  AreSets log slot sets = (k : ℕ) (set : List ℕ) → slice_get sets k ≡ Some set → (set ≡ members_of rule log (slot + k)) × (needed rule (slot + k) ≤ length log)
+
+  pub record IsReplica (made : Command → Type 0) (h : Steps) (me : ℕ) (r : ReplicaState) : Type 0 where
+    pub me_is : r.me ≡ me
+    -- what it executed is a log, and its group is the state after it
+    pub base_is : r.log.base ≡ 0
+    pub group_is : r.group ≡ state_after birth r.log.entries
+    pub is_log : IsLog rule h r.log.entries
+    -- its acceptor is what its steps make of it
+    pub acceptor_is : r.acceptor ≡ state_of first me h
+    -- no offer of its node has a later round than the greatest ballot seen, and no prepare starts after the next slot
+    pub tops : (b : Ballot) (slot : ℕ) (command : Command) → Among (Offered b slot command) h → b.node ≡ me → b.round ≤ r.top.round
+    pub prepares : (b : Ballot) (from : ℕ) → Among (Prepared b from) h → b.node ≡ me → from ≤ next r
+    -- the open slots are as many as they should be, and have the members that the log gives
+    pub count : length r.sets ≡ ahead.slots
+    pub sets : AreSets r.log.entries (next r) r.sets
+    -- what waits was requested, what is in flight was offered, and what is ready is chosen
+    pub calls : Each made r.calls
+    pub acts : Each made r.acts
+    pub flights : Each (IsFlying h r.leader.ballot) r.leader.flights
+    pub ready : Each (λ e. IsLearnt rule h e.0 e.1) r.ready
+    pub leads : r.running ≡ true → IsLeader h me r
+
+  -- ---- what holds of mail
+
+  -- a reply is that of an entry of the log
+  abbrev pub IsTrueAnswer : Steps → ℕ → ℕ → AnswerBody → Type 0
+  IsTrueAnswer h to seq (Says.Value reply) = (log : List Command) × IsLog rule h log × ((client : ℕ) → to ≡ 32 + client → HasEntry (done_by birth log) client seq reply)
+  IsTrueAnswer h to seq _ = Unit {0}
+
+  abbrev pub IsTrue : (Command → Type 0) → Steps → Mail → MailBody → Type 0
+  IsTrue made h mail (Request group client seq op) = made (Call client seq op)
+  IsTrue made h mail (Answer group seq answer) = IsTrueAnswer h mail.to seq answer
+  IsTrue made h mail (Prepare group ballot from_slot) = same_draw group name ≡ true → Among (Prepared ballot from_slot) h
+  IsTrue made h mail (Promise group ballot reports) = same_draw group name ≡ true → (from : ℕ) × Among (Promised mail.from ballot from reports) h × Among (Prepared ballot from) h
+  IsTrue made h mail (Accept group ballot slot command) = same_draw group name ≡ true → Among (Offered ballot slot command) h
+  IsTrue made h mail (AcceptedMail group ballot slot) = same_draw group name ≡ true → (command : Command) × Among (Accepted mail.from ballot slot command) h
+  IsTrue made h mail (Learn group slot command) = same_draw group name ≡ true → IsLearnt rule h slot command
+  IsTrue made h mail _ = Unit {0}
+
+  grown_answer : (newer h : Steps) (to seq : ℕ) (answer : AnswerBody) → IsTrueAnswer h to seq answer → IsTrueAnswer (newer ++ h) to seq answer
+  grown_answer newer h to seq (Says.Value reply) t = (t.0, grown_log rule newer h t.0 t.1, t.2)
+  grown_answer newer h to seq _ t = tt
+
+  pub grown_true : (made more : Command → Type 0) → ((c : Command) → made c → more c) → (newer h : Steps) (mail : Mail) (body : MailBody) → IsTrue made h mail body → IsTrue more (newer ++ h) mail body
+  grown_true made more f newer h mail (Request group client seq op) t = f (Call client seq op) t
+  grown_true made more f newer h mail (Answer group seq answer) t = grown_answer newer h mail.to seq answer t
+  grown_true made more f newer h mail (Prepare group ballot from_slot) t = λ e. Among-right _ newer h (t e)
+  grown_true made more f newer h mail (Promise group ballot reports) t = λ e. (let k = t e in (k.0, Among-right _ newer h k.1, Among-right _ newer h k.2))
+  grown_true made more f newer h mail (Accept group ballot slot command) t = λ e. Among-right _ newer h (t e)
+  grown_true made more f newer h mail (AcceptedMail group ballot slot) t = λ e. (let k = t e in (k.0, Among-right _ newer h k.1))
+  grown_true made more f newer h mail (Learn group slot command) t = λ e. grown_learnt rule newer h slot command (t e)
+  grown_true made more f newer h mail _ t = tt
+
+  -- ---- more steps
+
+  module _ (made : Command → Type 0) (me : ℕ) where
+    pub later_flying : (s : Step Command) (h : Steps) (b : Ballot) (flight : Flight Command) → IsFlying h b flight → IsFlying (s ∷ h) b flight
+    later_flying s h b flight f = (inr f.0, Each-weaker _ _ (λ n a. inr a) (voters_of flight.voters) f.1)
+
+    -- a step that leaves its acceptor as it is
+    pub more_steps : (s : Step Command) (h : Steps) (r : ReplicaState) → IsReplica made h me r → state_of first me (s ∷ h) ≡ state_of first me h
+        → ((b : Ballot) (slot : ℕ) (c : Command) → s ≡ Offered b slot c → b.node ≡ me → b.round ≤ r.top.round)
+        → ((b : Ballot) (from : ℕ) → s ≡ Prepared b from → b.node ≡ me → from ≤ next r)
+        → (r.running ≡ true → (slot : ℕ) (c : Command) → s ≡ Offered r.leader.ballot slot c → (slot < next r) ⊎ IsTaken r.leader r.ready slot)
+        → IsReplica made (s ∷ h) me r
+    more_steps s h r k same tops prepares offers = record {
+      me_is = k.me_is;
+      base_is = k.base_is;
+      group_is = k.group_is;
+      is_log = later_log rule s h r.log.entries k.is_log;
+      acceptor_is = k.acceptor_is ∙ sym same;
+      tops = λ b slot c a own. elim a [ inl e ↦ tops b slot c e own | inr o ↦ k.tops b slot c o own ];
+      prepares = λ b from a own. elim a [ inl e ↦ prepares b from e own | inr o ↦ k.prepares b from o own ];
+      count = k.count;
+      sets = k.sets;
+      calls = k.calls;
+      acts = k.acts;
+      flights = Each-weaker _ _ (λ f p. later_flying s h r.leader.ballot f p) r.leader.flights k.flights;
+      ready = Each-weaker _ _ (λ e p. later_learnt rule s h e.0 e.1 p) r.ready k.ready;
+      leads = λ runs. (
+          let l = k.leads runs in
+          record {
+            own = l.own;
+            low = l.low;
+            first_is = l.first_is;
+            votes = l.votes;
+            promisers = l.promisers;
+            reports = l.reports;
+            made = Each-weaker _ _ (λ v p. (inr p.0, p.1)) l.votes l.made;
+            offers = λ slot c a. elim a [ inl e ↦ offers runs slot c e | inr o ↦ l.offers slot c o ];
+          });
+    }
+
+    -- a step of another node
+    pub other_step : (other : ℕ) (s : Step Command) (h : Steps) (r : ReplicaState) → By other s → (other ≡ me → ⊥) → IsReplica made h me r → IsReplica made (s ∷ h) me r
+    other_step other s h r by ne k =
+        more_steps s h r k (state_kept first other me s h by ne)
+        (λ b slot c e own. absurd (ne (sym (subst (By other) e by) ∙ own)))
+        (λ b from e own. absurd (ne (sym (subst (By other) e by) ∙ own)))
+        (λ runs slot c e. absurd (ne (sym (subst (By other) e by) ∙ (k.leads runs).own)))
+
+    pub other_steps : (other : ℕ) (newer h : Steps) (r : ReplicaState) → Each (By other) newer → (other ≡ me → ⊥) → IsReplica made h me r → IsReplica made (newer ++ h) me r
+    other_steps other [] h r by ne k = k
+    other_steps other (s ∷ newer) h r by ne k = other_step other s (newer ++ h) r by.0 ne (other_steps other newer h r by.1 ne k)
+
+  -- what is known of requests may grow
+  pub more_made : (made more : Command → Type 0) → ((c : Command) → made c → more c) → (h : Steps) (me : ℕ) (r : ReplicaState) → IsReplica made h me r → IsReplica more h me r
+  more_made made more f h me r k = record {
+    me_is = k.me_is;
+    base_is = k.base_is;
+    group_is = k.group_is;
+    is_log = k.is_log;
+    acceptor_is = k.acceptor_is;
+    tops = k.tops;
+    prepares = k.prepares;
+    count = k.count;
+    sets = k.sets;
+    calls = Each-weaker made more f r.calls k.calls;
+    acts = Each-weaker made more f r.acts k.acts;
+    flights = k.flights;
+    ready = k.ready;
+    leads = k.leads;
+  }
+
+  -- ---- a place in the middle of a row of a node, where these steps were taken before the row
+
+  pub record Fine (made : Command → Type 0) (me : ℕ) (before : Steps) (place : Place) : Type 0 where
+    pub newer : Steps
+    pub are : asked_in name place.1 before ≡ newer ++ before
+    pub by : Each (By me) newer
+    pub lawful : IsLawful rule first (newer ++ before)
+    pub requested : (b : Ballot) (slot : ℕ) (c : Command) → Among (Offered b slot c) (newer ++ before) → made c
+    pub replica : IsReplica made (newer ++ before) me place.0
+    pub mails : (mail : Mail) → Among mail place.1 → IsTrue made (newer ++ before) mail mail.body
+
+  pub asked_push : (mails : List Mail) (mail : Mail) (h : Steps) → asked_in name (mails ++ mail ∷ []) h ≡ asked_by name mail.body ++ asked_in name mails h
+  asked_push [] mail h = refl
+  asked_push (m ∷ mails) mail h = asked_push mails mail (asked_by name m.body ++ h)
+
+  module _ (made : Command → Type 0) (me : ℕ) (before : Steps) where
+    -- the replica changes, and no mail is sent
+    unfoldable pub turn : (r after : ReplicaState) (mails : List Mail) → (f : Fine made me before (r, mails)) → IsReplica made (f.newer ++ before) me after → Fine made me before (after, mails)
+    turn r after mails f k = record { newer = f.newer; are = f.are; by = f.by; lawful = f.lawful; requested = f.requested; replica = k; mails = f.mails }
+
+    -- a mail is sent that is no step
+    unfoldable pub says : (r : ReplicaState) (mails : List Mail) (mail : Mail) → (f : Fine made me before (r, mails)) → asked_by name mail.body ≡ [] → IsTrue made (f.newer ++ before) mail mail.body
+        → Fine made me before (r, mails ++ mail ∷ [])
+    says r mails mail f none t = record {
+      newer = f.newer;
+      are = asked_push mails mail before ∙ ap (λ s. s ++ asked_in name mails before) none ∙ f.are;
+      by = f.by;
+      lawful = f.lawful;
+      requested = f.requested;
+      replica = f.replica;
+      mails = λ m a. elim (Among-either m mails (mail ∷ []) a) [
+        | inl b ↦ f.mails m b
+        | inr (inl e) ↦ subst (λ (x : Mail). IsTrue made (f.newer ++ before) x x.body) e t
+        | inr (inr n) ↦ absurd n
+      ];
+    }
+
+    -- a mail is sent that is a step
+    unfoldable pub steps : (r after : ReplicaState) (mails : List Mail) (mail : Mail) (s : Step Command) → (f : Fine made me before (r, mails)) → asked_by name mail.body ≡ s ∷ [] → By me s
+        → IsLawfulStep rule first s (f.newer ++ before) → ((b : Ballot) (slot : ℕ) (c : Command) → s ≡ Offered b slot c → made c)
+        → IsReplica made (s ∷ f.newer ++ before) me after → IsTrue made (s ∷ f.newer ++ before) mail mail.body → Fine made me before (after, mails ++ mail ∷ [])
+    steps r after mails mail s f one by law requested k t = record {
+      newer = s ∷ f.newer;
+      are = asked_push mails mail before ∙ ap (λ x. x ++ asked_in name mails before) one ∙ ap (λ (x : Steps). s ∷ x) f.are;
+      by = (by, f.by);
+      lawful = (law, f.lawful);
+      requested = λ b slot c a. elim a [ inl e ↦ requested b slot c e | inr o ↦ f.requested b slot c o ];
+      replica = k;
+      mails = λ m a. elim (Among-either m mails (mail ∷ []) a) [
+        | inl b ↦ grown_true made made (λ c p. p) (s ∷ []) (f.newer ++ before) m m.body (f.mails m b)
+        | inr (inl e) ↦ subst (λ (x : Mail). IsTrue made (s ∷ f.newer ++ before) x x.body) e t
+        | inr (inr n) ↦ absurd n
+      ];
+    }

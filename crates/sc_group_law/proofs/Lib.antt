@@ -1,0 +1,17 @@
+pub mod Lists
+pub mod Parts
+pub mod Growth
+pub mod Invariant
+pub mod Sending
+pub mod Offering
+pub mod Executing
+pub mod Counting
+pub mod Rows
+pub mod Voting
+pub mod Nodes
+pub mod Projected
+pub mod Places
+pub mod Clients
+pub mod Journal
+pub mod Walked
+pub mod Sound

@@ -1,0 +1,395 @@
+-- What a leader offers: by its promises, at slots that its ballot has not offered before.
+use Rattle.std.proofs.Common.{◌≡◌, ℕ, suc, ◌+◌, ◌<◌, ◌≤◌, ◌&&◌, ◌||◌, not, nat_le, Bool, true, false, eqb, List, [], ◌∷◌, ◌++◌, length, take, Option, Some, None, IfSome, is_some, ◌⊎◌, inl, inr, refl, sym, ◌∙◌, ap, subst, arith}
+use Rattle.std.specs.Option.{option_map}
+use Rattle.std.specs.List.{list_any, find}
+use Rattle.std.proofs.lemmas.Bool.{eq-eqb, and_parts, or_cases, cond-true, cond_both}
+use Rattle.sc_base.specs.declared.names.Ballot.{Ballot}
+use Rattle.sc_base.specs.declared.ops.Op.{Op}
+use Rattle.sc_cmd.specs.declared.links.Route.{Route}
+use Rattle.sc_cmd.specs.declared.commands.Command.{Command}
+use Rattle.sc_cmd.specs.declared.commands.Command.TheVariants.{Noop, Call}
+use Rattle.sc_cmd.specs.declared.cores.Base.{Base}
+use Rattle.sc_cmd.specs.declared.cores.Core.{Core}
+use Rattle.sc_ideal.specs.IdealStore.{key_of, holds_key}
+use Rattle.sc_mail.specs.declared.bodies.AnswerBody.{AnswerBody}
+use Rattle.sc_mail.specs.declared.bodies.AnswerBody.TheVariants as Says
+use Rattle.sc_mail.specs.declared.bodies.Mail.{Mail}
+use Rattle.sc_mail.specs.declared.bodies.MailBody.TheVariants.{Accept}
+use Rattle.sc_member.specs.Majority.{is_majority}
+use Rattle.sc_paxos_words.specs.declared.answers.Must.{Must}
+use Rattle.sc_paxos_words.specs.declared.answers.Must.TheVariants.{Value, Gap, Free as Open}
+use Rattle.sc_paxos_words.specs.declared.flights.Flight.{Flight}
+use Rattle.sc_paxos_words.specs.declared.reports.Report.{Report}
+use Rattle.sc_paxos_words.specs.Among.{Among, Each}
+use Rattle.sc_paxos_words.specs.Ballots.{below}
+use Rattle.sc_paxos_words.specs.Choice.{choice, names_above}
+use Rattle.sc_paxos_words.specs.Leaders.{must, must_without, Obeys, flight_at, offered as offered_by}
+use Rattle.sc_paxos_words.proofs.ChoiceLemmas.{choice_among}
+use Rattle.sc_paxos_words.proofs.ListLemmas.{Each-among, Each-weaker, Each-append}
+use Rattle.sc_paxos_law.specs.Steps.{Step, Offered}
+use Rattle.sc_paxos_law.specs.Chosen.{needed, members_of}
+use Rattle.sc_paxos_law.specs.Lawful.{Vote, MayOffer}
+use Rattle.sc_paxos_law.proofs.Among.{Among-left, Among-right, from_flat_map}
+use Rattle.sc_paxos_law.proofs.History.{was_offered, report_accepted}
+use Rattle.sc_paxos_law.proofs.Law.{later_log}
+use Rattle.sc_paxos_law.proofs.Leading.{elected_by}
+use Rattle.sc_node_table.specs.Pump.{Found, is_alone, waits, refused_by, turned_down, next_call, from_calls, from_acts, from_queues, found_by, found_for, offered, pumped_from, pumped}
+use Rattle.sc_node_table.specs.Mails.{sent_all, answered}
+use Rattle.sc_node_table.specs.Slots.{at_slot}
+use Rattle.sc_node_table.specs.Replica.{ReplicaState, Place, name_of, next, flying, either, taken_at, may_offer, settled, under_way, is_idle, last_slot}
+use Rattle.sc_sound.specs.Logs.{Ahead}
+use Rattle.sc_group_law.proofs.Growth.{later_learnt}
+use Rattle.sc_group_law.proofs.Invariant.{Steps, rule, first, IsTaken, AreSets, IsReplica, IsTrueAnswer, Fine, later_flying, turn, steps}
+use Rattle.sc_group_law.proofs.Sending.{asked_accept, name_is, offered_again, answered_one}
+
+-- ---- what is taken
+
+find_some : {X : Type 0} (p : X → Bool) (xs : List X) (x : X) → Among x xs → p x ≡ true → is_some (find p xs) ≡ true
+find_some p [] x a t = absurd a
+find_some p (y ∷ ys) x (inl e) t = ap (λ o. is_some o) (cond-true (p y) (Some y) (find p ys) (ap p e ∙ t))
+find_some p (y ∷ ys) x (inr a) t = cond_both (p y) (Some y) (find p ys) (λ o. is_some o ≡ true) (λ _. refl) (λ _. find_some p ys x a t)
+
+slot_some : {X : Type 0} (es : List (ℕ × X)) (slot : ℕ) (x : X) → Among (slot, x) es → is_some (at_slot es slot) ≡ true
+slot_some [] slot x a = absurd a
+slot_some {X} (e ∷ es) slot x (inl same) = ap (λ (o : Option X). is_some o) (cond-true (eqb e.0 slot) (Some e.1) (at_slot es slot) (eq-eqb e.0 slot (ap (λ (p : ℕ × X). p.0) same)))
+slot_some {X} (e ∷ es) slot x (inr a) = cond_both (eqb e.0 slot) (Some e.1) (at_slot es slot) (λ (o : Option X). is_some o ≡ true) (λ _. refl) (λ _. slot_some es slot x a)
+
+either_first : {X Y : Type 0} (f : X → Y) (o : Option X) (p : Option Y) → is_some o ≡ true → is_some (either (option_map f o) p) ≡ true
+either_first f None p t = cc
+either_first f (Some x) p t = refl
+
+either_second : {X : Type 0} (o p : Option X) → is_some p ≡ true → is_some (either o p) ≡ true
+either_second None p t = t
+either_second (Some x) p t = refl
+
+abbrev IsTakenBy : ReplicaState → ℕ → Type 0
+IsTakenBy r slot = ((flight : Flight Command) × Among flight r.leader.flights × (flight.slot ≡ slot)) ⊎ ((command : Command) × Among (slot, command) r.ready)
+
+taken_is : (r : ReplicaState) (slot : ℕ) → IsTakenBy r slot → is_some (taken_at r slot) ≡ true
+taken_is r slot (inl (flight, a, e)) =
+    either_first (λ (f : Flight Command). f.value) (flight_at slot r.leader.flights) (at_slot r.ready slot)
+    (find_some (λ (f : Flight Command). eqb f.slot slot) r.leader.flights flight a (eq-eqb flight.slot slot e))
+taken_is r slot (inr (c, a)) = either_second (flying r slot) (at_slot r.ready slot) (slot_some r.ready slot c a)
+
+-- ---- what must be offered
+
+must_value : (above : Bool) (o : Option (Report Command)) (c : Command) → must_without above (option_map (λ (report : Report Command). report.value) o) ≡ Value c
+    → (best : Report Command) × (o ≡ Some best) × (best.value ≡ c)
+must_value above (Some best) c e = (best, refl, cc)
+must_value true None c e = cc
+must_value false None c e = cc
+
+first_set : (slot : ℕ) → slot + 0 ≡ slot
+first_set slot = omega arith
+
+module _ (ahead : Ahead) (base : Base) where
+  pub next_sets : (log : List Command) (slot : ℕ) (set : List ℕ) (sets : List (List ℕ)) → AreSets ahead base log slot (set ∷ sets) → AreSets ahead base log (slot + 1) sets
+  next_sets log slot set sets are k other e =
+      let here = are (suc k) other e in
+      let same : slot + suc k ≡ (slot + 1) + k = omega arith in
+      subst (λ n. (other ≡ members_of (rule ahead base) log n) × (needed (rule ahead base) n ≤ length log)) same here
+
+  pub this_set : (log : List Command) (slot : ℕ) (set : List ℕ) (sets : List (List ℕ)) → AreSets ahead base log slot (set ∷ sets)
+      → (set ≡ members_of (rule ahead base) log slot) × (needed (rule ahead base) slot ≤ length log)
+  this_set log slot set sets are =
+      subst (λ n. (set ≡ members_of (rule ahead base) log n) × (needed (rule ahead base) n ≤ length log)) (first_set slot) (are 0 set refl)
+
+module _ (ahead : Ahead) (base : Base) (made : Command → Type 0) (noop : made Noop) (me : ℕ) (before : Steps)
+    (some : (log : List Command) → (node : ℕ) × (rest : List ℕ) × ((rule ahead base).members log ≡ node ∷ rest)) where
+  abbrev Ok : Place → Type 0
+  Ok = Fine ahead base made me before
+
+  -- ---- one offer
+
+  offering_replica : (h : Steps) (slot : ℕ) (c : Command) (r : ReplicaState) → IsReplica ahead base made h me r → r.running ≡ true
+      → IsReplica ahead base made (Offered r.leader.ballot slot c ∷ h) me (record r { leader = offered_by slot c r.leader })
+  offering_replica h slot c r k runs =
+      let l = k.leads runs in
+      let s : Step Command = Offered r.leader.ballot slot c in
+      let new : Flight Command = record { slot = slot; value = c; voters = None } in
+      let stays : (at : ℕ) → (at < next r) ⊎ IsTaken ahead base r.leader r.ready at → (at < next r) ⊎ IsTaken ahead base (offered_by slot c r.leader) r.ready at = λ at o. (
+      elim o [
+        | inl lt ↦ inl lt
+        | inr (inl (f, a, e)) ↦ inr (inl (f, Among-left f r.leader.flights (new ∷ []) a, e))
+        | inr (inr p) ↦ inr (inr p)
+      ]) in
+      record {
+        me_is = k.me_is;
+        base_is = k.base_is;
+        group_is = k.group_is;
+        is_log = later_log (rule ahead base) s h r.log.entries k.is_log;
+        acceptor_is = k.acceptor_is;
+        tops = λ b at d a own. elim a [
+          | inl e ↦ (let same : r.leader.ballot ≡ b = cc in subst (λ (x : Ballot). x.round ≤ r.top.round) same l.low)
+          | inr o ↦ k.tops b at d o own
+        ];
+        prepares = λ b from a own. elim a [ inl e ↦ cc | inr o ↦ k.prepares b from o own ];
+        count = k.count;
+        sets = k.sets;
+        calls = k.calls;
+        acts = k.acts;
+        flights = Each-append _ r.leader.flights (new ∷ []) (Each-weaker _ _ (λ f p. later_flying ahead base made me s h r.leader.ballot f p) r.leader.flights k.flights) ((inl refl, tt), tt);
+        ready = Each-weaker _ _ (λ e p. later_learnt (rule ahead base) s h e.0 e.1 p) r.ready k.ready;
+        leads = λ _. record {
+          own = l.own;
+          low = l.low;
+          first_is = l.first_is;
+          votes = l.votes;
+          promisers = l.promisers;
+          reports = l.reports;
+          made = Each-weaker _ _ (λ v p. (inr p.0, p.1)) l.votes l.made;
+          offers = λ at d a. elim a [
+            | inl e ↦ (let same : slot ≡ at = cc in inr (inl (new, Among-right new r.leader.flights (new ∷ []) (inl refl), same)))
+            | inr o ↦ stays at (l.offers at d o)
+          ];
+        };
+      }
+
+  may_be_offered : (slot : ℕ) (c : Command) (set : List ℕ) (r : ReplicaState) (mails : List Mail) (f : Ok (r, mails)) → r.running ≡ true → is_some (taken_at r slot) ≡ false → next r ≤ slot
+      → set ≡ members_of (rule ahead base) r.log.entries slot → needed (rule ahead base) slot ≤ length r.log.entries → may_offer r set ≡ true → Obeys (must slot r.leader) c
+      → MayOffer (rule ahead base) (first ahead base) r.leader.ballot slot c (f.newer ++ before)
+  may_be_offered slot c set r mails f runs free up is known may obeys =
+      let h = f.newer ++ before in
+      let k = f.replica in
+      let l = k.leads runs in
+      let promised = (and_parts (not (below r.leader.ballot r.acceptor.promised)) (r.leader.is_first || is_majority set r.leader.promisers) may).1 in
+      record {
+        log = r.log.entries;
+        is_log = k.is_log;
+        known = known;
+        elected = elim (or_cases r.leader.is_first (is_majority set r.leader.promisers) promised) [
+          | inl t ↦ inl (l.first_is t)
+          | inr t ↦ inr (elected_by (members_of (rule ahead base) r.log.entries slot) h slot c r.leader l.votes l.promisers l.reports
+              (Each-weaker _ _ (λ v p. (p.0, omega (arith, p.1, up))) l.votes l.made)
+              (subst (λ ms. is_majority ms r.leader.promisers ≡ true) is t) obeys)
+        ];
+        only = λ other a. elim (l.offers slot other a) [
+          | inl lt ↦ absurd (omega (arith, lt, up))
+          | inr taken ↦ (let yes = taken_is r slot taken in let no_way : true ≡ false = sym yes ∙ free in absurd (cc))
+        ];
+      }
+
+  offered_to : (slot : ℕ) (c : Command) (node : ℕ) (rest : List ℕ) (r : ReplicaState) (mails : List Mail) (f : Ok (r, mails)) → r.running ≡ true → made c
+      → MayOffer (rule ahead base) (first ahead base) r.leader.ballot slot c (f.newer ++ before) → Ok (offered slot (node ∷ rest) c (r, mails))
+  unfolding offered sent_all steps
+  offered_to slot c node rest r mails f runs m may =
+      let k = f.replica in
+      let h = f.newer ++ before in
+      let b = r.leader.ballot in
+      let after : ReplicaState = record r { leader = offered_by slot c r.leader } in
+      let mail : Mail = record { from = r.me; to = node; body = Accept (name_of r) b slot c } in
+      let own = (k.leads runs).own in
+      let place = steps ahead base made me before r after mails mail (Offered b slot c) f (asked_accept (name_of r) base.core.id b slot c (name_is ahead base made me before h r k)) own may
+      (λ d s v e. (let same : c ≡ v = cc in subst made same m)) (offering_replica h slot c r k runs) (λ _. inl refl) in
+      offered_again ahead base made me before rest after (mails ++ mail ∷ []) b slot c place own (inl refl)
+
+  pub fine_offered : (slot : ℕ) (c : Command) (set : List ℕ) (r : ReplicaState) (mails : List Mail) (f : Ok (r, mails)) → r.running ≡ true → is_some (taken_at r slot) ≡ false → next r ≤ slot
+      → set ≡ members_of (rule ahead base) r.log.entries slot → needed (rule ahead base) slot ≤ length r.log.entries → may_offer r set ≡ true → Obeys (must slot r.leader) c → made c
+      → Ok (offered slot set c (r, mails))
+  fine_offered slot c set r mails f runs free up is known may obeys m =
+      let some_one = some (take (needed (rule ahead base) slot) r.log.entries) in
+      subst (λ ms. Ok (offered slot ms c (r, mails))) (sym (is ∙ some_one.2))
+      (offered_to slot c some_one.0 some_one.1 r mails f runs m (may_be_offered slot c set r mails f runs free up is known may obeys))
+
+  -- ---- what is found for a slot
+
+  pub record IsFound (slot : ℕ) (r : ReplicaState) (found : Found) : Type 0 where
+    pub fine : Ok found.1
+    pub log_is : found.1.0.log ≡ r.log
+    pub runs_is : found.1.0.running ≡ r.running
+    pub leader_is : found.1.0.leader ≡ r.leader
+    pub ready_is : found.1.0.ready ≡ r.ready
+    pub acceptor_is : found.1.0.acceptor ≡ r.acceptor
+    pub command : IfSome found.0 (λ c. made c × Obeys (must slot r.leader) c)
+
+  pub with_calls : (h : Steps) (r : ReplicaState) (calls : List Command) → IsReplica ahead base made h me r → Each made calls → IsReplica ahead base made h me (record r { calls = calls })
+  with_calls h r calls k e = record {
+    me_is = k.me_is;
+    base_is = k.base_is;
+    group_is = k.group_is;
+    is_log = k.is_log;
+    acceptor_is = k.acceptor_is;
+    tops = k.tops;
+    prepares = k.prepares;
+    count = k.count;
+    sets = k.sets;
+    calls = e;
+    acts = k.acts;
+    flights = k.flights;
+    ready = k.ready;
+    leads = λ runs. (let l = k.leads runs in
+        record { own = l.own; low = l.low; first_is = l.first_is; votes = l.votes; promisers = l.promisers; reports = l.reports; made = l.made; offers = l.offers });
+  }
+
+  pub with_acts : (h : Steps) (r : ReplicaState) (acts : List Command) → IsReplica ahead base made h me r → Each made acts → IsReplica ahead base made h me (record r { acts = acts })
+  with_acts h r acts k e = record {
+    me_is = k.me_is;
+    base_is = k.base_is;
+    group_is = k.group_is;
+    is_log = k.is_log;
+    acceptor_is = k.acceptor_is;
+    tops = k.tops;
+    prepares = k.prepares;
+    count = k.count;
+    sets = k.sets;
+    calls = k.calls;
+    acts = e;
+    flights = k.flights;
+    ready = k.ready;
+    leads = λ runs. (let l = k.leads runs in
+        record { own = l.own; low = l.low; first_is = l.first_is; votes = l.votes; promisers = l.promisers; reports = l.reports; made = l.made; offers = l.offers });
+  }
+
+  record IsCalled (r : ReplicaState) (x : Option Command × List Command × List Mail) : Type 0 where
+    fine : Ok (r, x.2)
+    rest : Each made x.1
+    command : IfSome x.0 made
+
+  abbrev Dull : AnswerBody → Type 0
+  Dull answer = (h : Steps) (to seq : ℕ) → IsTrueAnswer ahead base h to seq answer
+
+  refused_dull : (gone : Option Route) (core : Core) (op : Op) (answer : AnswerBody) → refused_by gone core op ≡ Some answer → Dull answer
+  refused_dull (Some into) core op answer e = let same : Says.Gone into ≡ answer = cc in subst Dull same (λ h to seq. tt)
+  refused_dull None core op answer e =
+      cond_both (holds_key core.arc (key_of op)) None (Some (Says.NotMine core.arc core.succ)) (λ o. o ≡ Some answer → Dull answer)
+      (λ _ k. cc) (λ _ k. (let same : Says.NotMine core.arc core.succ ≡ answer = cc in subst Dull same (λ h to seq. tt))) e
+
+  turned_dull : (core : Core) (c : Command) (answer : AnswerBody) → turned_down core c ≡ Some answer → Dull answer
+  turned_dull core (Call client seq op) answer e = refused_dull core.gone core op answer e
+  turned_dull core _ answer e = cc
+
+  called : (idle : Bool) (core : Core) (calls : List Command) (r : ReplicaState) (mails : List Mail) → Ok (r, mails) → Each made calls → IsCalled r (next_call r.me idle core calls mails)
+  unfolding next_call
+  called idle core [] r mails f e = record { fine = f; rest = tt; command = tt }
+  called idle core (c ∷ calls) r mails f e =
+      cond_both (waits idle core.lock c) _ _ (IsCalled r) (λ _. record { fine = f; rest = e; command = tt }) (λ _. by_turned (λ ms g. called idle core calls r ms g e.1) (turned_down core c) refl)
+    where
+      by_turned : ((ms : List Mail) → Ok (r, ms) → IsCalled r (next_call r.me idle core calls ms)) → (o : Option AnswerBody) → turned_down core c ≡ o
+          → IsCalled r (elim o [ None ↦ (Some c, calls, mails) | Some answer ↦ next_call r.me idle core calls (answered r.me core.id answer c mails) ])
+      by_turned rest None is = record { fine = f; rest = e.1; command = e.0 }
+      by_turned rest (Some answer) is =
+          rest (answered r.me core.id answer c mails) (answered_one ahead base made me before r mails core.id answer (turned_dull core c answer is) c f)
+
+  found_in_calls : (slot : ℕ) (r : ReplicaState) (mails : List Mail) → must slot r.leader ≡ Open → Ok (r, mails) → IsFound slot r (from_calls (r, mails))
+  unfolding from_calls turn
+  found_in_calls slot r mails free f =
+      let x = next_call r.me (is_idle r) r.group.core r.calls mails in
+      let got = called (is_idle r) r.group.core r.calls r mails f f.replica.calls in
+      record {
+        fine = turn ahead base made me before r (record r { calls = x.1 }) x.2 got.fine (with_calls (got.fine.newer ++ before) r x.1 got.fine.replica got.rest);
+        log_is = refl;
+        runs_is = refl;
+        leader_is = refl;
+        ready_is = refl;
+        acceptor_is = refl;
+        command = obeys (x.0) got.command;
+      }
+    where
+      obeys : (o : Option Command) → IfSome o made → IfSome o (λ c. made c × Obeys (must slot r.leader) c)
+      obeys None m = tt
+      obeys (Some c) m = (m, subst (λ x. Obeys x c) (sym free) tt)
+
+  nothing_found : (slot : ℕ) (r : ReplicaState) (mails : List Mail) → Ok (r, mails) → IsFound slot r (None, (r, mails))
+  nothing_found slot r mails f = record { fine = f; log_is = refl; runs_is = refl; leader_is = refl; ready_is = refl; acceptor_is = refl; command = tt }
+
+  found_in_acts : (slot : ℕ) (acts : List Command) (r : ReplicaState) (mails : List Mail) → Each made acts → must slot r.leader ≡ Open → Ok (r, mails) → IsFound slot r (from_acts acts (r, mails))
+  found_in_acts slot [] r mails e free f = found_in_calls slot r mails free f
+  found_in_acts slot (act ∷ acts) r mails e free f =
+      cond_both (is_idle r) _ _ (IsFound slot r)
+      (λ _. record {
+        fine = turn ahead base made me before r (record r { acts = acts }) mails f (with_acts (f.newer ++ before) r acts f.replica e.1);
+        log_is = refl;
+        runs_is = refl;
+        leader_is = refl;
+        ready_is = refl;
+        acceptor_is = refl;
+        command = (e.0, subst (λ x. Obeys x act) (sym free) tt);
+      })
+      (λ _. nothing_found slot r mails f)
+
+  found_in_queues : (slot : ℕ) (r : ReplicaState) (mails : List Mail) → must slot r.leader ≡ Open → Ok (r, mails) → IsFound slot r (from_queues (r, mails))
+  unfolding from_queues
+  found_in_queues slot r mails free f =
+      cond_both (list_any is_alone (under_way r)) _ _ (IsFound slot r) (λ _. nothing_found slot r mails f) (λ _. found_in_acts slot r.acts r mails f.replica.acts free f)
+
+  -- what was reported was requested
+  reported_made : (slot : ℕ) (c : Command) (r : ReplicaState) (mails : List Mail) → Ok (r, mails) → r.running ≡ true → must slot r.leader ≡ Value c → made c
+  reported_made slot c r mails f runs e =
+      let h = f.newer ++ before in
+      let l = f.replica.leads runs in
+      let picked = must_value (names_above slot r.leader.reports) (choice slot r.leader.reports) c e in
+      let there = choice_among slot r.leader.reports picked.0 picked.1 in
+      let from = from_flat_map (λ (vote : Vote Command). vote.reports) l.votes picked.0 (subst (Among picked.0) l.reports there.0) in
+      let vote = Each-among _ l.votes from.0 l.made from.1 in
+      let did = report_accepted (rule ahead base) (first ahead base) h from.0.node r.leader.ballot from.0.from from.0.reports picked.0 f.lawful vote.0 from.2 in
+      subst made picked.2 (f.requested picked.0.ballot picked.0.slot picked.0.value
+      (was_offered (rule ahead base) (first ahead base) h from.0.node picked.0.ballot picked.0.slot picked.0.value f.lawful did.0))
+
+  found_by_must : (slot : ℕ) (r : ReplicaState) (mails : List Mail) → Ok (r, mails) → r.running ≡ true → (m : Must Command) → must slot r.leader ≡ m → IsFound slot r (found_by m (r, mails))
+  found_by_must slot r mails f runs (Value c) e = record {
+    fine = f;
+    log_is = refl;
+    runs_is = refl;
+    leader_is = refl;
+    ready_is = refl;
+    acceptor_is = refl;
+    command = (reported_made slot c r mails f runs e, subst (λ x. Obeys x c) (sym e) refl);
+  }
+  found_by_must slot r mails f runs Gap e = record {
+    fine = f;
+    log_is = refl;
+    runs_is = refl;
+    leader_is = refl;
+    ready_is = refl;
+    acceptor_is = refl;
+    command = (noop, subst (λ x. Obeys x Noop) (sym e) tt);
+  }
+  found_by_must slot r mails f runs Open e = found_in_queues slot r mails e f
+
+  found_at : (slot : ℕ) (r : ReplicaState) (mails : List Mail) → Ok (r, mails) → r.running ≡ true → IsFound slot r (found_for slot (r, mails))
+  unfolding found_for
+  found_at slot r mails f runs = found_by_must slot r mails f runs (must slot r.leader) refl
+
+  -- ---- all open slots
+
+  pub fine_pumped_from : (slot : ℕ) (sets : List (List ℕ)) (place : Place) → Ok place → place.0.running ≡ true → next place.0 ≤ slot → AreSets ahead base place.0.log.entries slot sets
+      → Ok (pumped_from slot sets place)
+  unfolding pumped_from offered
+  fine_pumped_from slot [] place f runs up are = f
+  fine_pumped_from slot (set ∷ sets) (r, mails) f runs up are =
+      cond_both (is_some (taken_at r slot)) _ _ Ok
+      (λ _. fine_pumped_from (slot + 1) sets (r, mails) f runs (omega (arith, up)) (next_sets ahead base r.log.entries slot set sets are))
+      (λ free. cond_both (may_offer r set) _ _ Ok
+      (λ may. on_found (fine_pumped_from (slot + 1) sets) free may (found_for slot (r, mails)) (found_at slot r mails f runs))
+      (λ _. f))
+    where
+      on_found : ((place : Place) → Ok place → place.0.running ≡ true → next place.0 ≤ slot + 1 → AreSets ahead base place.0.log.entries (slot + 1) sets → Ok (pumped_from (slot + 1) sets place))
+          → is_some (taken_at r slot) ≡ false → may_offer r set ≡ true → (found : Found) → IsFound slot r found
+          → Ok (elim (found.0) [ None ↦ found.1 | Some command ↦ pumped_from (slot + 1) sets (offered slot set command found.1) ])
+      on_found go free may (None, place) is = is.fine
+      on_found go free may (Some c, (s, later)) is =
+          let here = this_set ahead base r.log.entries slot set sets are in
+          let entries_are : r.log.entries ≡ s.log.entries = ap (λ l. l.entries) (sym is.log_is) in
+          let up_is : next s ≤ slot = subst (λ l. l.base + length l.entries + 1 ≤ slot) (sym is.log_is) up in
+          let runs_is : s.running ≡ true = is.runs_is ∙ runs in
+          let free_is : is_some (taken_at s slot) ≡ false =
+          ap (λ leader. is_some (either (option_map (λ (flight : Flight Command). flight.value) (flight_at slot leader.flights)) (at_slot s.ready slot))) is.leader_is
+          ∙ ap (λ ready. is_some (either (flying r slot) (at_slot ready slot))) is.ready_is ∙ free in
+          let may_is : may_offer s set ≡ true =
+          ap (λ leader. not (below leader.ballot s.acceptor.promised) && (leader.is_first || is_majority set leader.promisers)) is.leader_is
+          ∙ ap (λ acceptor. not (below r.leader.ballot acceptor.promised) && (r.leader.is_first || is_majority set r.leader.promisers)) is.acceptor_is ∙ may in
+          let after = fine_offered slot c set s later is.fine runs_is free_is up_is
+          (subst (λ l. set ≡ members_of (rule ahead base) l slot) entries_are here.0) (subst (λ l. needed (rule ahead base) slot ≤ length l) entries_are here.1)
+          may_is (subst (λ leader. Obeys (must slot leader) c) (sym is.leader_is) is.command.1) is.command.0 in
+          go (offered slot set c (s, later)) after runs_is (omega (arith, up_is))
+          (subst (λ l. AreSets ahead base l (slot + 1) sets) entries_are (next_sets ahead base r.log.entries slot set sets are))
+
+  -- Pump
+  pub fine_pumped : (place : Place) → Ok place → Ok (pumped place)
+  unfolding pumped
+  fine_pumped place f =
+      cond_both (settled place.0 && nat_le (next place.0) last_slot) _ _ Ok
+      (λ t. (
+      let parts = and_parts (settled place.0) (nat_le (next place.0) last_slot) t in
+      fine_pumped_from (next place.0) place.0.sets place f (and_parts place.0.running _ parts.0).0 (omega arith) f.replica.sets))
+      (λ _. f)

@@ -1,0 +1,211 @@
+-- Mails that a row sends, and elections.
+use Rattle.std.proofs.Common.{◌≡◌, ℕ, ◌+◌, ◌≤◌, ◌-◌, ◌^◌, ◌&&◌, true, false, cond, eqb, List, [], ◌∷◌, ◌++◌, Option, Some, inl, inr, refl, ◌∙◌, ap, subst, arith}
+use Rattle.std.proofs.lemmas.Bool.{eq-eqb, and_from, cond-true, cond_both}
+use Rattle.sc_base.specs.declared.names.Ballot.{Ballot}
+use Rattle.sc_base.specs.declared.names.Draw.{Draw}
+use Rattle.sc_cmd.specs.Same.{same_draw}
+use Rattle.sc_cmd.specs.declared.commands.Command.{Command}
+use Rattle.sc_cmd.specs.declared.commands.Command.TheVariants.{Call}
+use Rattle.sc_cmd.specs.declared.cores.Base.{Base}
+use Rattle.sc_cmd.specs.declared.cores.Core.{Core}
+use Rattle.sc_mail.specs.declared.bodies.AnswerBody.{AnswerBody}
+use Rattle.sc_mail.specs.declared.bodies.AnswerBody.TheVariants as Says
+use Rattle.sc_mail.specs.declared.bodies.Mail.{Mail}
+use Rattle.sc_mail.specs.declared.bodies.MailBody.TheVariants.{Answer, Prepare, Accept, Learn}
+use Rattle.sc_machine_table.specs.Group.{Group}
+use Rattle.sc_paxos_words.specs.Among.{Among}
+use Rattle.sc_paxos_words.specs.Ballots.{below}
+use Rattle.sc_paxos_words.specs.Leaders.{elected as new_leader}
+use Rattle.sc_paxos_words.proofs.BallotLemmas.{below_parts}
+use Rattle.sc_paxos_law.specs.Steps.{Step, Prepared, Offered}
+use Rattle.sc_node_table.specs.Election.{elected, ended, stopped, saw, open_nodes}
+use Rattle.sc_node_table.specs.Mails.{sent, sent_all, sent_others, answered, answered_all}
+use Rattle.sc_node_table.specs.Replica.{ReplicaState, Place, name_of, next, under_way}
+use Rattle.sc_sound.specs.Logs.{Ahead}
+use Rattle.sc_hist_law.proofs.Logs.{state_core}
+use Rattle.sc_group_law.specs.Steps.{asked_by}
+use Rattle.sc_group_law.proofs.Growth.{IsLearnt, offer_again}
+use Rattle.sc_group_law.proofs.Invariant.{Steps, rule, first, birth, IsReplica, IsTrueAnswer, Fine, more_steps, turn, says, steps}
+
+pub same_name : (group other : Draw) → group ≡ other → same_draw group other ≡ true
+same_name group other e = and_from (eqb group.node other.node) (eqb group.count other.count) (eq-eqb group.node other.node (ap (λ (d : Draw). d.node) e)) (eq-eqb group.count other.count (ap (λ (d : Draw). d.count) e))
+
+pub asked_prepare : (group other : Draw) (b : Ballot) (from : ℕ) → group ≡ other → asked_by other (Prepare group b from) ≡ Prepared b from ∷ []
+asked_prepare group other b from e = cond-true (same_draw group other) (Prepared b from ∷ []) [] (same_name group other e)
+
+pub asked_accept : (group other : Draw) (b : Ballot) (slot : ℕ) (c : Command) → group ≡ other → asked_by other (Accept group b slot c) ≡ Offered b slot c ∷ []
+asked_accept group other b slot c e = cond-true (same_draw group other) (Offered b slot c ∷ []) [] (same_name group other e)
+
+module _ (ahead : Ahead) (base : Base) (made : Command → Type 0) (me : ℕ) (before : Steps) where
+  abbrev Ok : Place → Type 0
+  Ok = Fine ahead base made me before
+
+  abbrev Replica : Steps → ReplicaState → Type 0
+  Replica h r = IsReplica ahead base made h me r
+
+  -- the group of a replica has its name
+  pub name_is : (h : Steps) (r : ReplicaState) → Replica h r → name_of r ≡ base.core.id
+  name_is h r k = ap (λ (g : Group). g.core.id) k.group_is ∙ ap (λ (c : Core). c.id) (state_core (birth ahead base) r.log.entries)
+
+  -- ---- one mail and several
+
+  pub prepared_all : (nodes : List ℕ) (r : ReplicaState) (mails : List Mail) (b : Ballot) (from : ℕ) → Ok (r, mails) → b.node ≡ me → from ≤ next r
+      → Ok (r, sent_all r.me nodes (Prepare (name_of r) b from) mails)
+  unfolding sent_all
+  prepared_all [] r mails b from f own low = f
+  prepared_all (node ∷ nodes) r mails b from f own low =
+      let h = f.newer ++ before in
+      let mail : Mail = record { from = r.me; to = node; body = Prepare (name_of r) b from } in
+      let k = f.replica in
+      let more = more_steps ahead base made me (Prepared b from) h r k refl (λ c slot v e. cc)
+      (λ c start e mine. (let same : from ≡ start = cc in subst (λ n. n ≤ next r) same low)) (λ runs slot v e. cc) in
+      prepared_all nodes r (mails ++ mail ∷ []) b from
+      (steps ahead base made me before r r mails mail (Prepared b from) f (asked_prepare (name_of r) base.core.id b from (name_is h r k)) own tt (λ c slot v e. cc) more (λ _. inl refl))
+      own low
+
+  -- what was offered is offered again
+  pub offered_again : (nodes : List ℕ) (r : ReplicaState) (mails : List Mail) (b : Ballot) (slot : ℕ) (c : Command) → (f : Ok (r, mails)) → b.node ≡ me → Among (Offered b slot c) (f.newer ++ before)
+      → Ok (r, sent_all r.me nodes (Accept (name_of r) b slot c) mails)
+  unfolding sent_all steps
+  offered_again [] r mails b slot c f own a = f
+  offered_again (node ∷ nodes) r mails b slot c f own a =
+      let h = f.newer ++ before in
+      let mail : Mail = record { from = r.me; to = node; body = Accept (name_of r) b slot c } in
+      let k = f.replica in
+      let there : (d : Ballot) (s : ℕ) (v : Command) → Offered b slot c ≡ Offered d s v → Among (Offered d s v) h = λ d s v e. subst (λ (x : Step Command). Among x h) e a in
+      let more = more_steps ahead base made me (Offered b slot c) h r k refl (λ d s v e mine. k.tops d s v (there d s v e) mine)
+      (λ d start e mine. cc) (λ runs s v e. (k.leads runs).offers s v (there r.leader.ballot s v e)) in
+      let after = steps ahead base made me before r r mails mail (Offered b slot c) f (asked_accept (name_of r) base.core.id b slot c (name_is h r k)) own
+      (offer_again (rule ahead base) (first ahead base) h b slot c f.lawful a) (λ d s v e. f.requested d s v (there d s v e)) more (λ _. inl refl) in
+      offered_again nodes r (mails ++ mail ∷ []) b slot c after own (inl refl)
+
+  pub learnt_others : (nodes : List ℕ) (r : ReplicaState) (mails : List Mail) (group : Draw) (slot : ℕ) (c : Command) → (f : Ok (r, mails)) → IsLearnt (rule ahead base) (f.newer ++ before) slot c
+      → Ok (r, sent_others r.me nodes (Learn group slot c) mails)
+  unfolding sent_others says
+  learnt_others [] r mails group slot c f t = f
+  learnt_others (node ∷ nodes) r mails group slot c f t =
+      cond_both (eqb node r.me) mails (sent r.me node (Learn group slot c) mails) (λ ms. Ok (r, sent_others r.me nodes (Learn group slot c) ms))
+      (λ _. learnt_others nodes r mails group slot c f t)
+      (λ _. learnt_others nodes r (mails ++ record { from = r.me; to = node; body = Learn group slot c } ∷ []) group slot c
+      (says ahead base made me before r mails (record { from = r.me; to = node; body = Learn group slot c }) f refl (λ _. t)) t)
+
+  -- an answer that is no reply says nothing
+  abbrev pub IsDull : AnswerBody → Type 0
+  IsDull answer = (h : Steps) (to seq : ℕ) → IsTrueAnswer ahead base h to seq answer
+
+  pub answered_one : (r : ReplicaState) (mails : List Mail) (group : Draw) (answer : AnswerBody) → IsDull answer → (c : Command) → Ok (r, mails) → Ok (r, answered r.me group answer c mails)
+  unfolding answered
+  answered_one r mails group answer dull (Call client seq op) f =
+      says ahead base made me before r mails (record { from = r.me; to = 32 + client; body = Answer group seq answer }) f refl (dull (f.newer ++ before) (32 + client) seq)
+  answered_one r mails group answer dull _ f = f
+
+  pub answered_each : (r : ReplicaState) (mails : List Mail) (group : Draw) (answer : AnswerBody) → IsDull answer → (cs : List Command) → Ok (r, mails) → Ok (r, answered_all r.me group answer cs mails)
+  unfolding answered_all
+  answered_each r mails group answer dull [] f = f
+  answered_each r mails group answer dull (c ∷ cs) f = answered_each r (answered r.me group answer c mails) group answer dull cs (answered_one r mails group answer dull c f)
+
+  -- ---- an election
+
+  elected_replica : (h : Steps) (r : ReplicaState) → Replica h r
+      → (let b : Ballot = record { round = r.top.round + 1; node = r.me } in
+      Replica h (record r { top = b; hint = Some r.me; running = true; leader = new_leader b (next r); ready = []; waits = 0 }))
+  elected_replica h r k = record {
+    me_is = k.me_is;
+    base_is = k.base_is;
+    group_is = k.group_is;
+    is_log = k.is_log;
+    acceptor_is = k.acceptor_is;
+    tops = λ b slot c a own. (let le = k.tops b slot c a own in omega (arith, le));
+    prepares = k.prepares;
+    count = k.count;
+    sets = k.sets;
+    calls = k.calls;
+    acts = k.acts;
+    flights = tt;
+    ready = tt;
+    leads = λ _. record {
+      own = k.me_is;
+      low = omega arith;
+      first_is = λ e. cc;
+      votes = [];
+      promisers = refl;
+      reports = refl;
+      made = tt;
+      offers = λ slot c a. (let le = k.tops (record { round = r.top.round + 1; node = r.me }) slot c a k.me_is in absurd (omega (arith, le)));
+    };
+  }
+
+  pub fine_elected : (r : ReplicaState) (mails : List Mail) → Ok (r, mails) → Ok (elected (r, mails))
+  unfolding elected
+  fine_elected r mails f =
+      cond_both (eqb r.top.round (2 ^ 32 - 1)) _ _ Ok (λ _. f)
+      (λ _. (
+      let b : Ballot = record { round = r.top.round + 1; node = r.me } in
+      let after : ReplicaState = record r { top = b; hint = Some r.me; running = true; leader = new_leader b (next r); ready = []; waits = 0 } in
+      prepared_all (open_nodes r.sets) after mails b (next r) (turn ahead base made me before r after mails f (elected_replica (f.newer ++ before) r f.replica)) f.replica.me_is (omega arith)))
+
+  -- ---- an end
+
+  ended_replica : (h : Steps) (r : ReplicaState) (hint : Option ℕ) → Replica h r
+      → Replica h (record r { running = false; leader = new_leader r.leader.ballot (next r); ready = []; acts = []; calls = []; hint = hint })
+  ended_replica h r hint k = record {
+    me_is = k.me_is;
+    base_is = k.base_is;
+    group_is = k.group_is;
+    is_log = k.is_log;
+    acceptor_is = k.acceptor_is;
+    tops = k.tops;
+    prepares = k.prepares;
+    count = k.count;
+    sets = k.sets;
+    calls = tt;
+    acts = tt;
+    flights = tt;
+    ready = tt;
+    leads = λ e. cc;
+  }
+
+  pub fine_ended : (hint : Option ℕ) (answer : AnswerBody) → IsDull answer → (r : ReplicaState) (mails : List Mail) → Ok (r, mails) → Ok (ended hint answer (r, mails))
+  unfolding ended
+  fine_ended hint answer dull r mails f =
+      let told = answered_each r (answered_all r.me (name_of r) answer (under_way r) mails) (name_of r) answer dull r.calls
+      (answered_each r mails (name_of r) answer dull (under_way r) f) in
+      turn ahead base made me before r _ _ told (ended_replica (told.newer ++ before) r hint told.replica)
+
+  pub fine_stopped : (hint : Option ℕ) (r : ReplicaState) (mails : List Mail) → Ok (r, mails) → Ok (stopped hint (r, mails))
+  fine_stopped hint r mails f = fine_ended hint (Says.NotLeader hint) (λ h to seq. tt) r mails f
+
+  -- ---- a ballot that is seen
+
+  below_round : (a b : Ballot) → below a b ≡ true → a.round ≤ b.round
+  below_round a b e = elim (below_parts a b e) [ inl lt ↦ omega (arith, lt) | inr p ↦ omega (arith, p.0) ]
+
+  seen_replica : (h : Steps) (r : ReplicaState) (b : Ballot) → r.top.round ≤ b.round → Replica h r → Replica h (record r { top = b })
+  seen_replica h r b le k = record {
+    me_is = k.me_is;
+    base_is = k.base_is;
+    group_is = k.group_is;
+    is_log = k.is_log;
+    acceptor_is = k.acceptor_is;
+    tops = λ d slot c a own. (let low = k.tops d slot c a own in omega (arith, low, le));
+    prepares = k.prepares;
+    count = k.count;
+    sets = k.sets;
+    calls = k.calls;
+    acts = k.acts;
+    flights = k.flights;
+    ready = k.ready;
+    leads = λ runs. (let l = k.leads runs in
+        record { own = l.own; low = (let low = l.low in omega (arith, low, le)); first_is = l.first_is; votes = l.votes; promisers = l.promisers; reports = l.reports; made = l.made; offers = l.offers });
+  }
+
+  seen_place : (b : Ballot) (r : ReplicaState) (mails : List Mail) → Ok (r, mails) → (after : ReplicaState) → Ok (after, mails) → Ok (cond (r.running && below r.leader.ballot b) (stopped (Some b.node) (after, mails)) (after, mails))
+  seen_place b r mails f after k = cond_both (r.running && below r.leader.ballot b) _ _ Ok (λ _. fine_stopped (Some b.node) after mails k) (λ _. k)
+
+  pub fine_saw : (b : Ballot) (r : ReplicaState) (mails : List Mail) → Ok (r, mails) → Ok (saw b (r, mails))
+  unfolding saw
+  fine_saw b r mails f =
+      seen_place b r mails f (cond (below r.top b) (record r { top = b }) r)
+      (cond_both (below r.top b) (record r { top = b }) r (λ (after : ReplicaState). Ok (after, mails))
+      (λ e. turn ahead base made me before r (record r { top = b }) mails f (seen_replica (f.newer ++ before) r b (below_round r.top b e) f.replica))
+      (λ _. f))

@@ -1,0 +1,4 @@
+pub mod Laws
+pub mod Players
+pub mod Steps
+pub mod Told

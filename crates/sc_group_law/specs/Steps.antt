@@ -1,0 +1,59 @@
+-- The steps of proposers and acceptors that the rows of a journal are: read from the mail that they deliver and send, never from what an actor holds.
+use Rattle.std.specs.Prelude.{ℕ, ◌&&◌, List, [], ◌∷◌, ◌++◌, if◌then◌else◌, Option, Some, None}
+use Rattle.std.specs.List.{flat_map}
+use Rattle.sc_base.specs.declared.names.Draw.{Draw}
+use Rattle.sc_base.specs.declared.names.Ballot.{Ballot}
+use Rattle.sc_cmd.specs.Same.{same_draw, same_ballot}
+use Rattle.sc_cmd.specs.declared.commands.Command.{Command}
+use Rattle.sc_cmd.specs.declared.orders.OrderLine.{OrderLine}
+use Rattle.sc_mail.specs.declared.bodies.Mail.{Mail}
+use Rattle.sc_mail.specs.declared.bodies.MailBody.{MailBody}
+use Rattle.sc_mail.specs.declared.bodies.MailBody.TheVariants.{Prepare, Promise, Accept}
+use Rattle.sc_actor.specs.declared.rows.Row.{Row}
+use Rattle.sc_actor.specs.declared.rows.Event.{Event}
+use Rattle.sc_actor.specs.declared.rows.Event.TheVariants.{Deliver}
+use Rattle.sc_actor.specs.Mail.{numbered}
+use Rattle.sc_paxos_law.specs.Steps.{Step, Prepared, Promised, Offered}
+use Rattle.sc_sound.specs.Accepts.{accepts_at}
+
+-- a proposer's steps: a Prepare of the group that is sent asks for promises, and an Accept offers its command
+abbrev pub asked_by : Draw → MailBody → List (Step Command)
+asked_by group (Prepare g ballot from_slot) = if same_draw g group then Prepared ballot from_slot ∷ [] else []
+asked_by group (Accept g ballot slot command) = if same_draw g group then Offered ballot slot command ∷ [] else []
+asked_by group _ = []
+
+-- the steps of these mails, the last one's newest, after older steps
+abbrev pub asked_in : Draw → List Mail → List (Step Command) → List (Step Command)
+asked_in group [] older = older
+asked_in group (mail ∷ mails) older = asked_in group mails (asked_by group mail.body ++ older)
+
+-- a promise that is sent in a row in which a Prepare of this ballot comes
+abbrev pub promised_by : Draw → ℕ → Ballot → ℕ → MailBody → List (Step Command)
+promised_by group who ballot from_slot (Promise g b reports) = if same_draw g group && same_ballot b ballot then Promised who ballot from_slot reports ∷ [] else []
+promised_by group who ballot from_slot _ = []
+
+-- what a row promises that delivers a mail
+abbrev pub promises_of : Draw → Row Mail OrderLine → MailBody → List (Step Command)
+promises_of group row (Prepare g ballot from_slot) = flat_map (λ mail. promised_by group row.who ballot from_slot mail.body) row.sent
+promises_of group row _ = []
+
+abbrev pub promises_got : Draw → Row Mail OrderLine → Option Mail → List (Step Command)
+promises_got group row None = []
+promises_got group row (Some mail) = promises_of group row mail.body
+
+-- ... at its event, where these mails were sent before it
+abbrev pub promises_at : Draw → List Mail → Row Mail OrderLine → Event OrderLine → List (Step Command)
+promises_at group sent row (Deliver mail) = promises_got group row (numbered sent mail)
+promises_at group sent row _ = []
+
+-- the steps of a row, newest first: what it promises, what it accepts, and what it asks for
+abbrev pub steps_at : Draw → List Mail → Row Mail OrderLine → List (Step Command) → List (Step Command)
+steps_at group sent row older = promises_at group sent row row.event ++ accepts_at group sent row row.event ++ asked_in group row.sent older
+
+abbrev pub steps_from : Draw → List Mail → List (Row Mail OrderLine) → List (Step Command) → List (Step Command)
+steps_from group sent [] steps = steps
+steps_from group sent (row ∷ rows) steps = steps_from group (sent ++ row.sent) rows (steps_at group sent row steps)
+
+-- the steps of a journal for a group, newest first
+abbrev pub steps : Draw → List (Row Mail OrderLine) → List (Step Command)
+steps group rows = steps_from group [] rows []

@@ -1,0 +1,61 @@
+-- A log with one command more, and what it leaves of the group's record.
+use Rattle.std.proofs.Common.{◌≡◌, ℕ, Bool, true, false, cond, eqb, nat_lt, List, [], ◌∷◌, ◌++◌, Option, Some, None, refl, sym, ◌∙◌, ap, append-nil, append_assoc}
+use Rattle.std.specs.FinMap.{get}
+use Rattle.sc_base.specs.declared.ops.Noted.{Noted}
+use Rattle.sc_base.specs.declared.ops.Op.{Op}
+use Rattle.sc_ideal.specs.IdealStore.{key_of, holds_key}
+use Rattle.sc_cmd.specs.declared.cores.Lock.{Lock}
+use Rattle.sc_cmd.specs.declared.cores.Lock.TheVariants.{Free, Coordinating, Promised, Watching}
+use Rattle.sc_cmd.specs.declared.links.Route.{Route}
+use Rattle.sc_cmd.specs.declared.commands.Command.{Command}
+use Rattle.sc_cmd.specs.declared.commands.Command.TheVariants.{Call}
+use Rattle.sc_cmd.specs.declared.effects.Effect.{Effect}
+use Rattle.sc_cmd.specs.declared.effects.Effect.TheVariants.{Again, Stale, NotMine}
+use Rattle.sc_machine_table.specs.Group.{Group}
+use Rattle.sc_machine_table.specs.Machine.{applied, numbered, served, called, done}
+use Rattle.sc_sound.specs.Logs.{state_after}
+use Rattle.sc_sound.specs.Histories.{entry_of, done_by}
+
+-- ---- the core of the group stays
+
+cond_core : (group : Group) (b : Bool) (x y : Group × Effect) → x.0.core ≡ group.core → y.0.core ≡ group.core → (cond b x y).0.core ≡ group.core
+cond_core group true x y e f = e
+cond_core group false x y e f = f
+
+numbered_core : (o : Option Noted) (group : Group) (client seq : ℕ) (op : Op) → (numbered o group client seq op).0.core ≡ group.core
+numbered_core None group client seq op = refl
+numbered_core (Some n) group client seq op =
+    cond_core group (nat_lt n.seq seq) (done group client seq op) (cond (eqb n.seq seq) (group, Again n.reply) (group, Stale n.seq)) refl
+    (cond_core group (eqb n.seq seq) (group, Again n.reply) (group, Stale n.seq) refl refl)
+
+served_core : (group : Group) (client seq : ℕ) (op : Op) → (served group client seq op).0.core ≡ group.core
+served_core group client seq op =
+    cond_core group (holds_key group.core.arc (key_of op)) (numbered (get group.clients client) group client seq op) (group, NotMine group.core.arc group.core.succ)
+    (numbered_core (get group.clients client) group client seq op) refl
+
+called_core : (gone : Option Route) (lock : Lock) (group : Group) (client seq : ℕ) (op : Op) → (called gone lock group client seq op).0.core ≡ group.core
+called_core (Some into) lock group client seq op = refl
+called_core None Free group client seq op = served_core group client seq op
+called_core None (Watching tx watch) group client seq op = served_core group client seq op
+called_core None (Coordinating tx body order heard) group client seq op = refl
+called_core None (Promised tx offer) group client seq op = refl
+
+applied_core : (group : Group) (c : Command) → (applied group c).0.core ≡ group.core
+applied_core group (Call client seq op) = called_core group.core.gone group.core.lock group client seq op
+applied_core group _ = refl
+
+pub state_core : (group : Group) (log : List Command) → (state_after group log).core ≡ group.core
+state_core group [] = refl
+state_core group (c ∷ log) = state_core (applied group c).0 log ∙ applied_core group c
+
+-- ---- the entries of a log with one command more
+
+pub done_push : (group : Group) (log : List Command) (c : Command) → done_by group (log ++ c ∷ []) ≡ done_by group log ++ entry_of c (applied (state_after group log) c).1
+done_push group [] c = append-nil (entry_of c (applied group c).1)
+done_push group (d ∷ log) c =
+    ap (λ es. entry_of d (applied group d).1 ++ es) (done_push (applied group d).0 log c)
+    ∙ sym (append_assoc (entry_of d (applied group d).1) (done_by (applied group d).0 log) (entry_of c (applied (state_after group (d ∷ log)) c).1))
+
+pub state_push : (group : Group) (log : List Command) (c : Command) → state_after group (log ++ c ∷ []) ≡ (applied (state_after group log) c).0
+state_push group [] c = refl
+state_push group (d ∷ log) c = state_push (applied group d).0 log c

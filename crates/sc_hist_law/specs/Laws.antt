@@ -1,0 +1,59 @@
+-- What a log tells of its group.
+use Rattle.std.specs.Prelude.{◌≡◌, ℕ, ◌≤◌, List, [], ◌∷◌, ◌++◌, Some, ◌⊎◌, slice_get}
+use Rattle.std.specs.FinMap.{empty, get}
+use Rattle.sc_base.specs.declared.ops.Noted.{Noted}
+use Rattle.sc_base.specs.declared.ops.Op.{Op}
+use Rattle.sc_base.specs.declared.ops.Reply.{Reply}
+use Rattle.sc_cmd.specs.declared.commands.Command.{Command}
+use Rattle.sc_cmd.specs.declared.commands.Command.TheVariants.{Call}
+use Rattle.sc_cmd.specs.declared.effects.Effect.{Effect}
+use Rattle.sc_cmd.specs.declared.effects.Effect.TheVariants.{Done, Again}
+use Rattle.sc_ideal.specs.History.{Legal, contents_after}
+use Rattle.sc_ideal.specs.declared.Entry.{Entry}
+use Rattle.sc_machine_table.specs.Group.{Group}
+use Rattle.sc_machine_table.specs.Machine.{applied}
+use Rattle.sc_paxos_words.specs.Among.{Among}
+use Rattle.sc_sound.specs.Laws.{HasEntry}
+use Rattle.sc_sound.specs.Logs.{state_after, effects_of}
+use Rattle.sc_sound.specs.Histories.{done_by}
+
+-- a group that holds nothing and has noted nothing
+pub record IsEmpty (group : Group) : Type 0 where
+  pub pairs : group.pairs ≡ empty
+  pub clients : group.clients ≡ empty
+
+-- an entry is at most the last request that is noted of its client
+pub record IsNoted (group : Group) (entry : Entry) : Type 0 where
+  pub noted : Noted
+  pub found : get group.clients entry.client ≡ Some noted
+  pub most : entry.seq ≤ noted.seq
+
+-- These entries are a legal history; the map after it is the group's pairs; and the group's table notes of each client its last entry.
+pub record Tells (entries : List Entry) (group : Group) : Type 0 where
+  pub legal : Legal entries
+  pub pairs : contents_after empty entries ≡ group.pairs
+  pub noted : (client : ℕ) (noted : Noted) → get group.clients client ≡ Some noted → HasEntry entries client noted.seq noted.reply
+  pub latest : (entry : Entry) → Among entry entries → IsNoted group entry
+
+-- a reply that a call gets, whether it is new or comes again
+abbrev pub IsReplied : Effect → Reply → Type 0
+IsReplied effect reply = (effect ≡ Done reply) ⊎ (effect ≡ Again reply)
+
+-- the command at a place of a log, from 0, is a client's request that took effect
+pub record IsDone (group : Group) (log : List Command) (place client seq : ℕ) : Type 0 where
+  pub op : Op
+  pub reply : Reply
+  pub call : slice_get log place ≡ Some (Call client seq op)
+  pub effect : slice_get (effects_of group log) place ≡ Some (Done reply)
+
+-- what a log tells from an empty start; each entry is a call of the log, and a reply to a call is that of its entry; each entry has one place, and no request took effect at two
+pub record LogTells (group : Group) (log : List Command) : Type 0 where
+  pub tells : Tells (done_by group log) (state_after group log)
+  pub calls : (entry : Entry) → Among entry (done_by group log) → Among (Call entry.client entry.seq entry.op) log
+  pub replies : (client seq : ℕ) (op : Op) (reply : Reply) → IsReplied (applied (state_after group log) (Call client seq op)).1 reply
+      → HasEntry (done_by group (log ++ Call client seq op ∷ [])) client seq reply
+  pub places : (entry : Entry) → Among entry (done_by group log) → (place : ℕ) × IsDone group log place entry.client entry.seq
+  pub once : (place other client seq : ℕ) → IsDone group log place client seq → IsDone group log other client seq → place ≡ other
+
+abbrev pub LogsTellHistories : Type 0
+LogsTellHistories = (group : Group) → IsEmpty group → (log : List Command) → LogTells group log

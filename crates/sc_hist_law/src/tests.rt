@@ -1,0 +1,6 @@
+use super::*;
+
+#[test]
+fn the_law_is_called() {
+    logs_tell_histories();
+}
