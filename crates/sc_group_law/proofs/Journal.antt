@@ -38,8 +38,11 @@ use Rattle.sc_sound.specs.Histories.{done_by, history, decided_row}
 use Rattle.sc_sound.specs.Requests.{issues, issue_row}
 use Rattle.sc_group_law.proofs.Lists.{get_left}
 use Rattle.sc_group_law.specs.Steps.{steps}
-use Rattle.sc_group_law.specs.Players.{ANode, AClient, player_table, node_seat, client_seat}
-use Rattle.sc_group_law.specs.Told.{kept_replies, answer_row, IsDoneAt}
+use Rattle.sc_group_law.specs.Players.{node_seat}
+use Rattle.sc_world.specs.World.{party_table, client_seat}
+use Rattle.sc_world.specs.declared.party.Party.TheVariants.{Node as ANode, Client as AClient}
+use Rattle.sc_group_law.specs.Told.{IsDoneAt}
+use Rattle.sc_sound.specs.Requests.{kept_replies, answer_row}
 use Rattle.sc_group_law.proofs.Invariant.{Steps, rule, first, birth, IsTrue, grown_true, more_made}
 use Rattle.sc_group_law.proofs.Nodes.{IsNode}
 use Rattle.sc_group_law.proofs.Projected.{log_only, only_steps}
@@ -66,12 +69,12 @@ module _ (ahead : Ahead) (scenario : Scenario) (base : Base) where
 
   pub record IsNodeAt (h : Steps) (made rows : Journal) (n : ℕ) : Type 0 where
     pub node : NodeState
-    pub value_is : value player_table (node_seat ahead (base ∷ []) n) rows ≡ ANode node
+    pub value_is : value party_table (node_seat ahead (base ∷ []) n) rows ≡ ANode node
     pub is : IsNode ahead base (Made scenario made) h n node
 
   pub record IsClientAt (h : Steps) (rows : Journal) (asks : Asks) : Type 0 where
     pub client : Client
-    pub value_is : value player_table (client_seat (route_of base) asks) rows ≡ AClient client
+    pub value_is : value party_table (client_seat (route_of base) asks) rows ≡ AClient client
     pub is : IsClient ahead base h asks client
     pub fresh : has_gone rows (client_actor asks.client) ≡ false → (client.replies ≡ []) × (client.waiting ≡ None)
 

@@ -21,7 +21,7 @@ use Rattle.sc_sound.specs.Requests.{issues, issued_from, issue_row}
 use Rattle.sc_group_law.proofs.Lists.{history-push}
 use Rattle.sc_group_law.proofs.Lists.{get_left}
 use Rattle.sc_hist_law.specs.Laws.{IsDone}
-use Rattle.sc_group_law.specs.Told.{kept_replies, answered_from, answer_row}
+use Rattle.sc_sound.specs.Requests.{kept_replies, answered_from, answer_row}
 
 abbrev pub Journal : Type 0
 Journal = List (Row Mail OrderLine)

@@ -42,9 +42,12 @@ use Rattle.sc_sound.specs.Histories.{done_by, history, decided_row}
 use Rattle.sc_sound.specs.Requests.{IsRequest}
 use Rattle.sc_hist_law.proofs.Logs.{state_core}
 use Rattle.sc_group_law.specs.Laws.{GoesOn, IsReplicated, TellsHistory, IsInTime, IsSound, GroupJournalsAreSound}
-use Rattle.sc_group_law.specs.Players.{Player, ANode, system_of, Lawful, HasOneGroup}
+use Rattle.sc_group_law.specs.Players.{system_of, Lawful, HasOneGroup}
+use Rattle.sc_world.specs.declared.party.Party.{Party}
+use Rattle.sc_world.specs.declared.party.Party.TheVariants.{Node as ANode}
 use Rattle.sc_group_law.specs.Steps.{asked_by, asked_in, promises_at, steps_at, steps}
-use Rattle.sc_group_law.specs.Told.{replies_of, kept_replies, kept_reply, HasExecuted, IsDoneAt}
+use Rattle.sc_group_law.specs.Told.{HasExecuted, IsDoneAt}
+use Rattle.sc_sound.specs.Requests.{replies_of, kept_replies, kept_reply}
 use Rattle.sc_group_law.proofs.Invariant.{Steps, rule, first, birth, IsReplica}
 use Rattle.sc_group_law.proofs.Nodes.{IsNode}
 use Rattle.sc_group_law.proofs.Projected.{only, only_steps, log_from_only, after_from_only, log_to_only, steps-push}
@@ -281,7 +284,7 @@ module _ (ahead : Ahead) (words : ℕ → ℕ → ℕ × ℕ) (scenario : Scenar
           | inr f ↦ (
               let at = k.clients asks stands in
               let there : slice_get (kept_replies (route_of base) asks rows) (seq - 1) ≡ Some reply = sym (cond-false (eqb seq 0) None (slice_get (kept_replies (route_of base) asks rows) (seq - 1)) f) ∙ e in
-              let here = subst (λ (p : Player). slice_get (replies_of p) (seq - 1) ≡ Some reply) at.value_is there in
+              let here = subst (λ (p : Party). slice_get (replies_of p) (seq - 1) ≡ Some reply) at.value_is there in
               let apart = eqb-false seq 0 f in
               let number : (seq - 1) + 1 ≡ seq = omega (arith, apart) in
               answered_in asks.client seq reply (subst (λ n. IsAnswered ahead base h asks.client n reply) number (at.is.replies (seq - 1) reply here)))

@@ -22,8 +22,11 @@ use Rattle.sc_sound.specs.Laws.{HasEntry}
 use Rattle.sc_sound.specs.Logs.{Ahead, rule_of, IsChosenIn, decided_log, decided_state}
 use Rattle.sc_sound.specs.Histories.{history, decided_row}
 use Rattle.sc_sound.specs.Requests.{IsRequest, issue_row}
-use Rattle.sc_group_law.specs.Players.{ANode, player_table, node_seat, Lawful, HasOneGroup}
-use Rattle.sc_group_law.specs.Told.{kept_reply, answer_row, HasExecuted, IsDoneAt}
+use Rattle.sc_group_law.specs.Players.{node_seat, Lawful, HasOneGroup}
+use Rattle.sc_world.specs.World.{party_table}
+use Rattle.sc_world.specs.declared.party.Party.TheVariants.{Node as ANode}
+use Rattle.sc_group_law.specs.Told.{HasExecuted, IsDoneAt}
+use Rattle.sc_sound.specs.Requests.{kept_reply, answer_row}
 
 -- a list that goes on
 abbrev pub GoesOn : List Command → List Command → Type 0
@@ -39,7 +42,7 @@ pub record IsReplicated (ahead : Ahead) (scenario : Scenario) (base : Base) (row
   -- with more rows it goes on as it was
   pub grows : GoesOn (decided_log ahead base rows) (decided_log ahead base (rows ++ more))
   -- each replica of each node has executed a front of it, and its group is the state there
-  pub executed : (number : ℕ) → 1 ≤ number → number ≤ scenario.nodes → (node : NodeState) → value player_table (node_seat ahead (base ∷ []) number) rows ≡ ANode node
+  pub executed : (number : ℕ) → 1 ≤ number → number ≤ scenario.nodes → (node : NodeState) → value party_table (node_seat ahead (base ∷ []) number) rows ≡ ANode node
       → (r : ReplicaState) → Among r node.replicas → HasExecuted ahead base rows r
   -- the group keeps its arc, and it does not go
   pub arc : (decided_state ahead base rows).core.arc ≡ base.core.arc

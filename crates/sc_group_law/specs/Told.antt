@@ -1,4 +1,4 @@
--- The replies that the clients of a journal keep, the rows in which they take them, and what a node has executed.
+-- What a node has executed of a log, and which of its entries took effect.
 use Rattle.std.specs.Prelude.{◌≡◌, ℕ, ◌+◌, ◌-◌, ◌≤◌, nat_le, ◌==◌, List, [], ◌∷◌, ◌++◌, length, take, drop, if◌then◌else◌, Option, Some, None, slice_get}
 use Rattle.sc_base.specs.declared.ops.Reply.{Reply}
 use Rattle.sc_cmd.specs.declared.cores.Base.{Base}
@@ -12,29 +12,9 @@ use Rattle.sc_node_table.specs.Replica.{ReplicaState, next}
 use Rattle.sc_scenario.specs.declared.scenarios.Asks.{Asks}
 use Rattle.sc_sound.specs.Logs.{Ahead, state_after, decided_log}
 use Rattle.sc_hist_law.specs.Laws.{IsDone}
-use Rattle.sc_group_law.specs.Players.{Player, ANode, AClient, player_table, client_seat}
-
-abbrev pub replies_of : Player → List Reply
-replies_of (ANode node) = []
-replies_of (AClient client) = client.replies
-
--- the replies that a client took, in order of its requests
-abbrev pub kept_replies : Route → Asks → List (Row Mail OrderLine) → List Reply
-kept_replies first asks rows = replies_of (value player_table (client_seat first asks) rows)
-
--- the reply that a client kept of its request with a number, if it has one
-abbrev pub kept_reply : Route → Asks → ℕ → List (Row Mail OrderLine) → Option Reply
-kept_reply first asks seq rows = if seq == 0 then None else slice_get (kept_replies first asks rows) (seq - 1)
-
--- the row, from 1, in which a client takes a reply to its request with a number, if it does
-abbrev pub answered_from : Route → Asks → ℕ → List (Row Mail OrderLine) → List (Row Mail OrderLine) → Option ℕ
-answered_from first asks seq before [] = None
-answered_from first asks seq before (row ∷ rows) =
-    if nat_le seq (length (kept_replies first asks (before ++ row ∷ []))) then Some (length before + 1)
-    else answered_from first asks seq (before ++ row ∷ []) rows
-
-abbrev pub answer_row : Route → Asks → ℕ → List (Row Mail OrderLine) → Option ℕ
-answer_row first asks seq rows = answered_from first asks seq [] rows
+use Rattle.sc_world.specs.World.{party_table, client_seat}
+use Rattle.sc_world.specs.declared.party.Party.{Party}
+use Rattle.sc_world.specs.declared.party.Party.TheVariants.{Node as ANode, Client as AClient}
 
 -- a replica has executed a front of its group's log, holds the entries of it that it has not forgotten, and its group is the state after it
 pub record HasExecuted (ahead : Ahead) (base : Base) (rows : List (Row Mail OrderLine)) (r : ReplicaState) : Type 0 where

@@ -1,5 +1,5 @@
 -- Elements of longer lists, and what one more command adds to the entries and the state of a log.
-use Rattle.std.proofs.Common.{◌≡◌, ℕ, zero, suc, List, [], ◌∷◌, ◌++◌, length, Option, Some, None, ◌⊎◌, inl, inr, refl, sym, ◌∙◌, ap, append-nil, append_assoc}
+use Rattle.std.proofs.Common.{◌≡◌, ℕ, zero, suc, List, [], ◌∷◌, ◌++◌, length, Some, ◌⊎◌, inl, inr, refl, sym, ◌∙◌, ap, append-nil, append_assoc}
 use Rattle.std.specs.Prelude.{slice_get}
 use Rattle.sc_cmd.specs.declared.commands.Command.{Command}
 use Rattle.sc_machine_table.specs.Group.{Group}

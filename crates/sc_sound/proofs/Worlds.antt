@@ -1,6 +1,5 @@
 -- What no command that is built changes: a group's record; and the request that a client waits for.
 use Rattle.std.proofs.Common.{◌≡◌, ℕ, ◌+◌, Bool, true, false, cond, eqb, nat_lt, List, [], ◌∷◌, Option, Some, None, refl, ◌∙◌}
-use Rattle.std.proofs.lemmas.Bool.{cond_both}
 use Rattle.std.specs.FinMap.{get}
 use Rattle.sc_base.specs.declared.ops.Op.{Op}
 use Rattle.sc_base.specs.declared.ops.Noted.{Noted}

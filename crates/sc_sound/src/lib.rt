@@ -3,16 +3,14 @@
 
 ghost use Rattle.std.specs.Prelude.{◌≡◌, [], ◌∷◌, Some, None};
 ghost use Rattle.sc_cmd.specs.declared.commands.Command.TheVariants.{Call};
-ghost use Rattle.sc_world.specs.World.{Lawful};
 ghost use Rattle.sc_sound.specs.Logs.{decided_log};
 ghost use Rattle.sc_sound.specs.Histories.{history, decided_row};
 ghost use Rattle.sc_sound.specs.Requests.{issue_row};
-ghost use Rattle.sc_sound.specs.Example.{four, alone, example, asked_for, example_history, put_it, get_it};
+ghost use Rattle.sc_sound.specs.Example.{four, alone, example, example_history, put_it, get_it};
 
-/// The definitions on a small lawful journal: the log and the history of a put and a get, the rows that
+/// The definitions on a small journal: the log and the history of a put and a get, the rows that
 /// decide them and the rows that issue them.
 pub fn a_journal_and_its_history()
-    ensures lawful { Lawful asked_for example }
     ensures log { decided_log four alone example ≡ Call 1 1 put_it ∷ Call 1 2 get_it ∷ [] }
     ensures first { decided_row four alone 0 example ≡ Some 3 }
     ensures second { decided_row four alone 1 example ≡ Some 7 }

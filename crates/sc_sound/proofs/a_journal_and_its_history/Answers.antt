@@ -1,9 +1,5 @@
 use Rattle.sc_sound.proofs.Example.{example_is_told}
-use Rattle.sc_sound.proofs.Walked.{example_is_lawful}
 use Rattle.sc_sound.proofs.a_journal_and_its_history.Goals as goal
 
 pub returns-clause-history : goal.returns-clause-history
 returns-clause-history c = example_is_told
-
-pub returns-clause-lawful : goal.returns-clause-lawful
-returns-clause-lawful c = example_is_lawful
