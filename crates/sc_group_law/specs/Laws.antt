@@ -66,10 +66,17 @@ pub record IsInTime (ahead : Ahead) (scenario : Scenario) (base : Base) (rows : 
   pub after_issue : issued < decided
   pub before_answer : (asks : Asks) → Among asks scenario.clients → asks.client ≡ client → (answered : ℕ) → answer_row (route_of base) asks seq rows ≡ Some answered → decided < answered
 
+-- Requests that took effect stand in the order of real time: one whose reply was taken before, or in the row in which, another was issued stands before it.
+abbrev pub KeepsOrder : Ahead → Scenario → Base → List (Row Mail OrderLine) → Type 0
+KeepsOrder ahead scenario base rows = (place client seq other who number : ℕ) → IsDoneAt ahead base rows place client seq → IsDoneAt ahead base rows other who number
+    → (asks : Asks) → Among asks scenario.clients → asks.client ≡ client → (answered issued : ℕ) → answer_row (route_of base) asks seq rows ≡ Some answered → issue_row who number rows ≡ Some issued
+    → answered ≤ issued → place < other
+
 pub record IsSound (ahead : Ahead) (scenario : Scenario) (base : Base) (rows more : List (Row Mail OrderLine)) : Type 0 where
   pub replicated : IsReplicated ahead scenario base rows more
   pub tells : TellsHistory ahead scenario base rows
   pub in_time : (place client seq : ℕ) → IsDoneAt ahead base rows place client seq → IsInTime ahead scenario base rows place client seq
+  pub in_order : KeepsOrder ahead scenario base rows
 
 -- each first part of a lawful journal is sound, however many slots are open and whatever words storms draw
 abbrev pub GroupJournalsAreSound : Type 0
