@@ -14,6 +14,8 @@ use Rattle.sc_node_table.specs.Node.{NodeState}
 use Rattle.sc_node_table.specs.Replica.{ReplicaState}
 use Rattle.sc_paxos_words.specs.Among.{Among}
 use Rattle.sc_paxos_law.specs.Chosen.{IsLog}
+use Rattle.sc_scenario.specs.Early.{lone_group}
+use Rattle.sc_scenario.specs.Valid.{IsValid}
 use Rattle.sc_scenario.specs.declared.scenarios.Asks.{Asks}
 use Rattle.sc_scenario.specs.declared.scenarios.Scenario.{Scenario}
 use Rattle.sc_world.specs.World.{route_of}
@@ -82,3 +84,7 @@ pub record IsSound (ahead : Ahead) (scenario : Scenario) (base : Base) (rows mor
 abbrev pub GroupJournalsAreSound : Type 0
 GroupJournalsAreSound = (ahead : Ahead) (words : ℕ → ℕ → ℕ × ℕ) (scenario : Scenario) (base : Base) → HasOneGroup scenario base
     → (rows more : List (Row Mail OrderLine)) → Lawful ahead words scenario (rows ++ more) → IsSound ahead scenario base rows more
+
+-- each valid scenario of today has one group
+abbrev pub ValidHaveOneGroup : Type 0
+ValidHaveOneGroup = (scenario : Scenario) → IsValid scenario → HasOneGroup scenario lone_group
