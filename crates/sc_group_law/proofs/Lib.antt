@@ -15,3 +15,4 @@ pub mod Clients
 pub mod Journal
 pub mod Walked
 pub mod Sound
+pub mod Example

@@ -1,8 +1,9 @@
 -- Rows in which something first happens, when one more row comes.
-use Rattle.std.proofs.Common.{◌≡◌, ℕ, ◌+◌, nat_lt, nat_le, Bool, cond, List, [], ◌∷◌, ◌++◌, length, take, drop, Option, Some, None, inl, inr, refl, sym, ◌∙◌, ap, subst, append-nil, append_assoc, take-append-drop, arith}
+use Rattle.std.proofs.Common.{◌≡◌, ℕ, ◌≤◌, ◌+◌, nat_lt, nat_le, Bool, cond, List, [], ◌∷◌, ◌++◌, length, take, drop, Option, Some, None, inl, inr, refl, sym, ◌∙◌, ap, subst, append-nil, append_assoc, take-append-drop, arith}
 use Rattle.std.specs.Prelude.{slice_get}
 use Rattle.std.specs.List.{flat_map}
-use Rattle.std.proofs.lemmas.Bool.{cases_Bool, cond-true, cond-false}
+use Rattle.std.proofs.lemmas.Bool.{cases_Bool, cond-true, cond-false, cond_both, ltb-false, le-ltb}
+use Rattle.std.proofs.lemmas.List.{length_push}
 use Rattle.sc_cmd.specs.declared.commands.Command.{Command}
 use Rattle.sc_cmd.specs.declared.commands.Command.TheVariants.{Call}
 use Rattle.sc_cmd.specs.declared.cores.Base.{Base}
@@ -75,6 +76,32 @@ decided_from-push ahead base place before (r ∷ rows) row =
 pub decided-push : (ahead : Ahead) (base : Base) (place : ℕ) (rows : Journal) (row : Row Mail OrderLine)
     → decided_row ahead base place (rows ++ row ∷ []) ≡ or_now (decided_row ahead base place rows) (nat_lt place (length (decided_log ahead base (rows ++ row ∷ [])))) (length rows + 1)
 decided-push ahead base place rows row = decided_from-push ahead base place [] rows row
+
+past_rows : (ahead : Ahead) (base : Base) (place : ℕ) (before rows : Journal) (d : ℕ) → decided_from ahead base place before rows ≡ Some d → length before + 1 ≤ d
+past_rows ahead base place before [] d e = cc
+past_rows ahead base place before (r ∷ rows) d e =
+    cond_both (nat_lt place (length (decided_log ahead base (before ++ r ∷ [])))) (Some (length before + 1)) (decided_from ahead base place (before ++ r ∷ []) rows) (λ o. o ≡ Some d → length before + 1 ≤ d)
+    (λ _ k. (let same : length before + 1 ≡ d = cc in omega (arith, same)))
+    (λ _ k. (let later = past_rows ahead base place (before ++ r ∷ []) rows d k in omega (arith, later, length_push before r))) e
+
+-- an earlier place is decided no later
+pub decided_in_order : (ahead : Ahead) (base : Base) (place other : ℕ) → place ≤ other → (before rows : Journal) (d e : ℕ) → decided_from ahead base place before rows ≡ Some d → decided_from ahead base other before rows ≡ Some e → d ≤ e
+decided_in_order ahead base place other le before [] d e first second = cc
+decided_in_order ahead base place other le before (r ∷ rows) d e first second =
+    let log = decided_log ahead base (before ++ r ∷ []) in
+    elim (cases_Bool (nat_lt place (length log))) [
+      | inl t ↦ (
+          let now : Some (length before + 1) ≡ Some d = sym (cond-true (nat_lt place (length log)) (Some (length before + 1)) (decided_from ahead base place (before ++ r ∷ []) rows) t) ∙ first in
+          let same : length before + 1 ≡ d = cc in
+          let past = past_rows ahead base other before (r ∷ rows) e second in
+          omega (arith, same, past))
+      | inr f ↦ (
+          let out = ltb-false place (length log) f in
+          let later = le-ltb other (length log) (omega (arith, out, le)) in
+          decided_in_order ahead base place other le (before ++ r ∷ []) rows d e
+          (sym (cond-false (nat_lt place (length log)) (Some (length before + 1)) (decided_from ahead base place (before ++ r ∷ []) rows) f) ∙ first)
+          (sym (cond-false (nat_lt other (length log)) (Some (length before + 1)) (decided_from ahead base other (before ++ r ∷ []) rows) later) ∙ second))
+    ]
 
 -- ---- rows that answer
 

@@ -41,7 +41,7 @@ use Rattle.sc_sound.specs.Logs.{Ahead, state_after, IsChosenIn, decided_log}
 use Rattle.sc_sound.specs.Histories.{done_by, history, decided_row}
 use Rattle.sc_sound.specs.Requests.{IsRequest}
 use Rattle.sc_hist_law.proofs.Logs.{state_core}
-use Rattle.sc_group_law.specs.Laws.{GoesOn, IsReplicated, TellsHistory, IsInTime, IsSound, GroupJournalsAreSound}
+use Rattle.sc_group_law.specs.Laws.{GoesOn, IsReplicated, TellsHistory, IsInTime, KeepsOrder, IsSound, GroupJournalsAreSound}
 use Rattle.sc_group_law.specs.Players.{system_of, Lawful, HasOneGroup}
 use Rattle.sc_world.specs.declared.party.Party.{Party}
 use Rattle.sc_world.specs.declared.party.Party.TheVariants.{Node as ANode}
@@ -51,7 +51,7 @@ use Rattle.sc_sound.specs.Requests.{replies_of, kept_replies, kept_reply}
 use Rattle.sc_group_law.proofs.Invariant.{Steps, rule, first, birth, IsReplica}
 use Rattle.sc_group_law.proofs.Nodes.{IsNode}
 use Rattle.sc_group_law.proofs.Projected.{only, only_steps, log_from_only, after_from_only, log_to_only, steps-push}
-use Rattle.sc_group_law.proofs.Places.{Journal, split_at, done_append}
+use Rattle.sc_group_law.proofs.Places.{Journal, split_at, done_append, decided_in_order}
 use Rattle.sc_group_law.proofs.Clients.{Made, IsAnswered}
 use Rattle.sc_group_law.proofs.Journal.{h_of, decided_is, chosen_offered, Kept}
 use Rattle.sc_group_law.proofs.Walked.{keeps}
@@ -324,8 +324,23 @@ module _ (ahead : Ahead) (words : ℕ → ℕ → ℕ × ℕ) (scenario : Scenar
           ];
         }
 
+    in_order_of : KeepsOrder ahead scenario base rows
+    in_order_of place client seq other who number done another asks stands is_client answered issued taken sent le =
+        let one_time = in_time_of place client seq done in
+        let other_time = in_time_of other who number another in
+        let before = one_time.before_answer asks stands is_client answered taken in
+        let issued_both : Some issued ≡ Some other_time.issued = sym sent ∙ other_time.is_issued in
+        let one_issue : issued ≡ other_time.issued = cc in
+        let after = other_time.after_issue in
+        elim (cases_lt place other) [
+          | inl lt ↦ lt
+          | inr ge ↦ (
+              let order = decided_in_order ahead base other place (omega (arith, ge)) [] rows other_time.decided one_time.decided other_time.is_decided one_time.is_decided in
+              absurd (omega (arith, order, before, le, one_issue, after)))
+        ]
+
     pub sound_rows : (more : Journal) → K (rows ++ more) → IsSound ahead scenario base rows more
-    sound_rows more all = record { replicated = replicated more all; tells = tells; in_time = in_time_of }
+    sound_rows more all = record { replicated = replicated more all; tells = tells; in_time = in_time_of; in_order = in_order_of }
 
 pub journals_sound : GroupJournalsAreSound
 journals_sound ahead words scenario base one rows more lawful =

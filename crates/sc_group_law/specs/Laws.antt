@@ -14,6 +14,7 @@ use Rattle.sc_node_table.specs.Node.{NodeState}
 use Rattle.sc_node_table.specs.Replica.{ReplicaState}
 use Rattle.sc_paxos_words.specs.Among.{Among}
 use Rattle.sc_paxos_law.specs.Chosen.{IsLog}
+use Rattle.sc_scenario.specs.Valid.{IsValid}
 use Rattle.sc_scenario.specs.declared.scenarios.Asks.{Asks}
 use Rattle.sc_scenario.specs.declared.scenarios.Scenario.{Scenario}
 use Rattle.sc_world.specs.World.{route_of}
@@ -69,12 +70,23 @@ pub record IsInTime (ahead : Ahead) (scenario : Scenario) (base : Base) (rows : 
   pub after_issue : issued < decided
   pub before_answer : (asks : Asks) → Among asks scenario.clients → asks.client ≡ client → (answered : ℕ) → answer_row (route_of base) asks seq rows ≡ Some answered → decided < answered
 
+-- Requests that took effect stand in the order of real time: one whose reply was taken before, or in the row in which, another was issued stands before it.
+abbrev pub KeepsOrder : Ahead → Scenario → Base → List (Row Mail OrderLine) → Type 0
+KeepsOrder ahead scenario base rows = (place client seq other who number : ℕ) → IsDoneAt ahead base rows place client seq → IsDoneAt ahead base rows other who number
+    → (asks : Asks) → Among asks scenario.clients → asks.client ≡ client → (answered issued : ℕ) → answer_row (route_of base) asks seq rows ≡ Some answered → issue_row who number rows ≡ Some issued
+    → answered ≤ issued → place < other
+
 pub record IsSound (ahead : Ahead) (scenario : Scenario) (base : Base) (rows more : List (Row Mail OrderLine)) : Type 0 where
   pub replicated : IsReplicated ahead scenario base rows more
   pub tells : TellsHistory ahead scenario base rows
   pub in_time : (place client seq : ℕ) → IsDoneAt ahead base rows place client seq → IsInTime ahead scenario base rows place client seq
+  pub in_order : KeepsOrder ahead scenario base rows
 
 -- each first part of a lawful journal is sound, however many slots are open and whatever words storms draw
 abbrev pub GroupJournalsAreSound : Type 0
 GroupJournalsAreSound = (ahead : Ahead) (words : ℕ → ℕ → ℕ × ℕ) (scenario : Scenario) (base : Base) → HasOneGroup scenario base
     → (rows more : List (Row Mail OrderLine)) → Lawful ahead words scenario (rows ++ more) → IsSound ahead scenario base rows more
+
+-- each valid scenario has one group
+abbrev pub ValidHaveOneGroup : Type 0
+ValidHaveOneGroup = (scenario : Scenario) → IsValid scenario → (base : Base) × HasOneGroup scenario base

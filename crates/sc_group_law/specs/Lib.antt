@@ -1,3 +1,4 @@
+pub mod Example
 pub mod Laws
 pub mod Players
 pub mod Steps

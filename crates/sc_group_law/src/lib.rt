@@ -1,7 +1,17 @@
 //! What every lawful journal of a scenario of one group says: one value per slot, replicas that have executed a front of one log, one legal history of the requests, and each request decided between its issue and its answer. Definitions and laws, no logic.
 #![tactic(auto)]
 
-ghost use Rattle.sc_group_law.specs.Laws.{GroupJournalsAreSound};
+ghost use Rattle.std.specs.Prelude.{◌≡◌, [], ◌∷◌, Some};
+ghost use Rattle.sc_actor.specs.System.{no_words};
+ghost use Rattle.sc_sound.specs.Example.{four};
+ghost use Rattle.sc_sound.specs.Logs.{decided_log};
+ghost use Rattle.sc_sound.specs.Histories.{decided_row};
+ghost use Rattle.sc_sound.specs.Requests.{issue_row};
+ghost use Rattle.sc_group_law.specs.Players.{HasOneGroup, Lawful};
+ghost use Rattle.sc_group_law.specs.Example.{three_nodes, example_scenario, example, call};
+ghost use Rattle.sc_group_law.specs.Laws.{GroupJournalsAreSound, ValidHaveOneGroup};
+
+use sc_scenario::texts_are_early;
 
 /// Each first part of a lawful journal of one group with fixed members is sound, whatever is lost,
 /// repeated, late or crashed, and with no majority alive. No two commands are chosen at one slot and
@@ -11,6 +21,24 @@ ghost use Rattle.sc_group_law.specs.Laws.{GroupJournalsAreSound};
 /// answer.
 pub fn group_journals_are_sound()
     ensures { GroupJournalsAreSound }
+{}
+
+/// The law speaks of every valid scenario: each has one group, some members, few nodes, and clients
+/// that are numbered each once.
+pub fn valid_scenarios_have_one_group()
+    ensures { ValidHaveOneGroup }
+{
+    texts_are_early();
+}
+
+/// The law is about something: a lawful journal of three nodes, in which a request is decided by two of
+/// them, and another node is elected and offers it again.
+pub fn a_journal_with_an_election()
+    ensures one_group { HasOneGroup example_scenario three_nodes }
+    ensures lawful { Lawful four no_words example_scenario example }
+    ensures log { decided_log four three_nodes example ≡ call ∷ [] }
+    ensures decided { decided_row four three_nodes 0 example ≡ Some 4 }
+    ensures issued { issue_row 1 1 example ≡ Some 1 }
 {}
 
 #[cfg(test)]

@@ -1,0 +1,76 @@
+-- Valid scenarios have one group; and the example is a lawful journal of such a scenario.
+use Rattle.sc_scenario.specs.Groups.{lone_group}
+use Rattle.sc_scenario.specs.Valid.{TextsAreEarly}
+use Rattle.sc_scenario.specs.declared.scenarios.Scenario.{Scenario}
+use Rattle.sc_group_law.specs.Laws.{ValidHaveOneGroup}
+use Rattle.std.proofs.Common.{List, [], ◌∷◌, length, map, subst, ap, ◌≡◌, ◌⊎◌, ℕ, suc, ◌<◌, ◌≤◌, inl, inr, refl, sym, ◌∙◌, lit≤, arith, slice_index_or}
+use Rattle.std.specs.List.{All, AllPairs}
+use Rattle.std.proofs.lemmas.List.{get_or-map, length-map}
+use Rattle.std.proofs.lemmas.List.Kept.{AllPairs-from_increasing}
+use Rattle.sc_paxos_words.specs.Among.{Among, Each}
+use Rattle.sc_scenario.specs.declared.scenarios.Asks.{Asks}
+use Rattle.sc_actor.specs.System.{no_words}
+use Rattle.sc_node_table.specs.Election.{nodes_to, elected, ended, saw}
+use Rattle.sc_node_table.specs.Mails.{sent_all}
+use Rattle.sc_node_table.specs.Node.{ticked}
+use Rattle.sc_node_table.specs.Pump.{next_call, from_calls, from_queues, found_for, offered, pumped_from, pumped}
+use Rattle.sc_node_table.specs.Rows.{queued, requested, request_row, tick_row, mailed}
+use Rattle.sc_node_table.specs.Voting.{promised, prepare_row, took, accept_row, promise_row}
+use Rattle.sc_sound.specs.Example.{four}
+use Rattle.sc_group_law.specs.Players.{HasOneGroup, Lawful}
+use Rattle.sc_group_law.specs.Example.{three_nodes, example_scenario, example}
+
+-- the first of clients that rise is below each later one
+below_later : (first : ℕ) (clients : List Asks) (other : Asks) → ((k : ℕ) (d : Asks) → k < length clients → first < (slice_index_or clients k d).client) → Among other clients → first < other.client
+below_later first [] other above among = absurd among
+below_later first (asks ∷ clients) other above (inl e) = subst (λ (a : Asks). first < a.client) e (above 0 asks (omega arith))
+below_later first (asks ∷ clients) other above (inr later) = below_later first clients other (λ k d lt. above (suc k) d (omega (arith, lt))) later
+
+-- clients that rise are numbered each once
+numbered_once : (clients : List Asks) → AllPairs (λ x y. x < y) (map (λ (asks : Asks). asks.client) clients)
+    → (one other : Asks) → Among one clients → Among other clients → one.client ≡ other.client → one ≡ other
+numbered_once [] rising one other a b same = absurd a
+numbered_once (asks ∷ clients) rising one other a b same = by_places a b
+  where
+    above : (k : ℕ) (d : Asks) → k < length clients → asks.client < (slice_index_or clients k d).client
+    above k d lt =
+        subst (λ n. asks.client < n) (get_or-map (λ (x : Asks). x.client) clients k d d.client lt)
+        (rising 0 (suc k) d.client (omega arith) (omega (arith, lt, length-map clients (λ (x : Asks). x.client))))
+
+    by_places : (asks ≡ one) ⊎ Among one clients → (asks ≡ other) ⊎ Among other clients → one ≡ other
+    by_places (inl e) (inl f) = sym e ∙ f
+    by_places (inl e) (inr m) = absurd (omega (arith, below_later asks.client clients other above m, ap (λ (x : Asks). x.client) e, same))
+    by_places (inr m) (inl f) = absurd (omega (arith, below_later asks.client clients one above m, ap (λ (x : Asks). x.client) f, same))
+    by_places (inr m) (inr n) = numbered_once clients (λ i j d lt within. rising (suc i) (suc j) d (omega (arith, lt)) (omega (arith, within))) one other m n same
+
+each_of : {X : Type 0} (P : X → Type 0) (xs : List X) → All P xs → Each P xs
+each_of P [] all = tt
+each_of P (x ∷ xs) all = (all 0 x (omega arith), each_of P xs (λ k d lt. all (suc k) d (omega (arith, lt))))
+
+pub valid_one_group : TextsAreEarly → ValidHaveOneGroup
+valid_one_group early scenario valid =
+    let is = early scenario valid in
+    (
+      lone_group is.lo is.members,
+      record {
+        groups = is.group;
+        members = is.roster.some;
+        pairs = refl;
+        clients = refl;
+        nodes = is.nodes.1;
+        numbered = each_of (λ (asks : Asks). 1 ≤ asks.client) scenario.clients (λ k d lt. (is.clients k d lt).0.0);
+        once = numbered_once scenario.clients (AllPairs-from_increasing _ is.ascending);
+      },
+    )
+
+once : (one other : Asks) → Among one example_scenario.clients → Among other example_scenario.clients → one.client ≡ other.client → one ≡ other
+once one other (inl e) (inl f) same = sym e ∙ f
+once one other (inl e) (inr n) same = absurd n
+once one other (inr n) b same = absurd n
+
+pub one_group : HasOneGroup example_scenario three_nodes
+one_group = record { groups = refl; members = lit≤ tt; pairs = refl; clients = refl; nodes = lit≤ tt; numbered = (lit≤ tt, tt); once = once }
+
+pub example_is_lawful : Lawful four no_words example_scenario example
+unfolding nodes_to elected ended saw sent_all ticked next_call from_calls from_queues found_for offered pumped_from pumped queued requested request_row tick_row mailed promised prepare_row took accept_row promise_row
+example_is_lawful = (refl, (refl, (refl, (refl, (refl, (refl, (refl, (refl, (refl, tt)))))))))

@@ -1,0 +1,58 @@
+-- A journal of three nodes and one client: a value is accepted by two nodes, another node is elected, and it offers that value again.
+use Rattle.std.specs.Prelude.{ℕ, false, List, [], ◌∷◌}
+use Rattle.sc_base.specs.declared.names.Ballot.{Ballot}
+use Rattle.sc_cmd.specs.declared.commands.Command.{Command}
+use Rattle.sc_cmd.specs.declared.commands.Command.TheVariants.{Call}
+use Rattle.sc_cmd.specs.declared.cores.Base.{Base}
+use Rattle.sc_cmd.specs.declared.orders.OrderLine.{OrderLine}
+use Rattle.sc_mail.specs.declared.bodies.Mail.{Mail}
+use Rattle.sc_mail.specs.declared.bodies.MailBody.{MailBody}
+use Rattle.sc_mail.specs.declared.bodies.MailBody.TheVariants.{Request, Prepare, Promise, Accept, Accepted}
+use Rattle.sc_actor.specs.declared.rows.Row.{Row}
+use Rattle.sc_actor.specs.declared.rows.Event.TheVariants.{Deliver, Tick, Go}
+use Rattle.sc_scenario.specs.Groups.{lone_name, lone_group}
+use Rattle.sc_scenario.specs.declared.scenarios.SchedLine.TheVariants as line
+use Rattle.sc_scenario.specs.declared.scenarios.Scenario.{Scenario}
+use Rattle.sc_sound.specs.Example.{put_it, mail, row}
+
+-- one group of the nodes 1 to 3, which holds all positions
+abbrev pub three_nodes : Base
+three_nodes = lone_group 0 (1 ∷ 2 ∷ 3 ∷ [])
+
+-- one client puts a value
+abbrev pub example_scenario : Scenario
+example_scenario = record {
+  nodes = 3;
+  groups = three_nodes ∷ [];
+  policy = false;
+  clients = record { client = 1; ops = put_it ∷ [] } ∷ [];
+  lines = line.Go 1 ∷ line.Deliver 1 1 ∷ line.Deliver 2 1 ∷ line.Deliver 3 1 ∷ line.Tick 2 ∷ line.Deliver 3 1 ∷ line.Deliver 2 1 ∷ line.Deliver 2 1 ∷ line.Deliver 2 1 ∷ [];
+  brief = false;
+  version = 1;
+}
+
+abbrev pub first : Ballot
+first = record { round = 1; node = 1 }
+
+abbrev pub second : Ballot
+second = record { round = 2; node = 2 }
+
+abbrev pub call : Command
+call = Call 1 1 put_it
+
+-- the same mail to the three nodes
+abbrev pub to_each : ℕ → MailBody → List Mail
+to_each from body = record { from = from; to = 1; body = body } ∷ record { from = from; to = 2; body = body } ∷ record { from = from; to = 3; body = body } ∷ []
+
+-- the nodes 2 and 3 accept, and with that the call is decided; node 1 never hears of it. Then node 2 is elected by node 3 and itself
+abbrev pub example : List (Row Mail OrderLine)
+example =
+    row 33 Go (mail 33 1 (Request lone_name 1 1 put_it))
+    ∷ row 1 (Deliver 1) (to_each 1 (Accept lone_name first 1 call))
+    ∷ row 2 (Deliver 3) (mail 2 1 (Accepted lone_name first 1))
+    ∷ row 3 (Deliver 4) (mail 3 1 (Accepted lone_name first 1))
+    ∷ row 2 Tick (to_each 2 (Prepare lone_name second 1))
+    ∷ row 3 (Deliver 9) (mail 3 2 (Promise lone_name second (record { slot = 1; ballot = first; value = call } ∷ [])))
+    ∷ row 2 (Deliver 8) (mail 2 2 (Promise lone_name second (record { slot = 1; ballot = first; value = call } ∷ [])))
+    ∷ row 2 (Deliver 10) []
+    ∷ row 2 (Deliver 11) (to_each 2 (Accept lone_name second 1 call)) ∷ []
