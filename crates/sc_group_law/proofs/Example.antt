@@ -1,12 +1,9 @@
 -- Valid scenarios have one group; and the example is a lawful journal of such a scenario.
 use Rattle.sc_scenario.specs.Groups.{lone_group}
 use Rattle.sc_scenario.specs.Valid.{TextsAreEarly}
-use Rattle.sc_scenario.specs.declared.scenarios.Scenario.{Scenario}
 use Rattle.sc_group_law.specs.Laws.{ValidHaveOneGroup}
-use Rattle.std.proofs.Common.{List, [], ◌∷◌, length, map, subst, ap, ◌≡◌, ◌⊎◌, ℕ, suc, ◌<◌, ◌≤◌, inl, inr, refl, sym, ◌∙◌, lit≤, arith, slice_index_or}
+use Rattle.std.proofs.Common.{List, [], ◌∷◌, length, subst, ap, ◌≡◌, ℕ, suc, ◌<◌, ◌≤◌, inl, inr, refl, sym, ◌∙◌, lit≤, arith, slice_index_or}
 use Rattle.std.specs.List.{All, AllPairs}
-use Rattle.std.proofs.lemmas.List.{get_or-map, length-map}
-use Rattle.std.proofs.lemmas.List.Kept.{AllPairs-from_increasing}
 use Rattle.sc_paxos_words.specs.Among.{Among, Each}
 use Rattle.sc_scenario.specs.declared.scenarios.Asks.{Asks}
 use Rattle.sc_actor.specs.System.{no_words}
@@ -27,21 +24,20 @@ below_later first (asks ∷ clients) other above (inl e) = subst (λ (a : Asks).
 below_later first (asks ∷ clients) other above (inr later) = below_later first clients other (λ k d lt. above (suc k) d (omega (arith, lt))) later
 
 -- clients that rise are numbered each once
-numbered_once : (clients : List Asks) → AllPairs (λ x y. x < y) (map (λ (asks : Asks). asks.client) clients)
+numbered_once : (clients : List Asks) → AllPairs (λ (a b : Asks). a.client < b.client) clients
     → (one other : Asks) → Among one clients → Among other clients → one.client ≡ other.client → one ≡ other
 numbered_once [] rising one other a b same = absurd a
-numbered_once (asks ∷ clients) rising one other a b same = by_places a b
+numbered_once (asks ∷ clients) rising one other a b same =
+    elim a [
+      | inl e ↦ elim b [ inl f ↦ sym e ∙ f | inr m ↦ absurd (omega (arith, below_later asks.client clients other above m, ap (λ (x : Asks). x.client) e, same)) ]
+      | inr m ↦ elim b [
+        | inl f ↦ absurd (omega (arith, below_later asks.client clients one above m, ap (λ (x : Asks). x.client) f, same))
+        | inr n ↦ numbered_once clients (λ i j d lt within. rising (suc i) (suc j) d (omega (arith, lt)) (omega (arith, within))) one other m n same
+      ]
+    ]
   where
     above : (k : ℕ) (d : Asks) → k < length clients → asks.client < (slice_index_or clients k d).client
-    above k d lt =
-        subst (λ n. asks.client < n) (get_or-map (λ (x : Asks). x.client) clients k d d.client lt)
-        (rising 0 (suc k) d.client (omega arith) (omega (arith, lt, length-map clients (λ (x : Asks). x.client))))
-
-    by_places : (asks ≡ one) ⊎ Among one clients → (asks ≡ other) ⊎ Among other clients → one ≡ other
-    by_places (inl e) (inl f) = sym e ∙ f
-    by_places (inl e) (inr m) = absurd (omega (arith, below_later asks.client clients other above m, ap (λ (x : Asks). x.client) e, same))
-    by_places (inr m) (inl f) = absurd (omega (arith, below_later asks.client clients one above m, ap (λ (x : Asks). x.client) f, same))
-    by_places (inr m) (inr n) = numbered_once clients (λ i j d lt within. rising (suc i) (suc j) d (omega (arith, lt)) (omega (arith, within))) one other m n same
+    above k d lt = rising 0 (suc k) d (omega arith) (omega (arith, lt))
 
 each_of : {X : Type 0} (P : X → Type 0) (xs : List X) → All P xs → Each P xs
 each_of P [] all = tt
@@ -49,8 +45,7 @@ each_of P (x ∷ xs) all = (all 0 x (omega arith), each_of P xs (λ k d lt. all 
 
 pub valid_one_group : TextsAreEarly → ValidHaveOneGroup
 valid_one_group early scenario valid =
-    let is = early scenario valid in
-    (
+    let is = early scenario valid in (
       lone_group is.lo is.members,
       record {
         groups = is.group;
@@ -59,7 +54,7 @@ valid_one_group early scenario valid =
         clients = refl;
         nodes = is.nodes.1;
         numbered = each_of (λ (asks : Asks). 1 ≤ asks.client) scenario.clients (λ k d lt. (is.clients k d lt).0.0);
-        once = numbered_once scenario.clients (AllPairs-from_increasing _ is.ascending);
+        once = numbered_once scenario.clients is.ascending;
       },
     )
 

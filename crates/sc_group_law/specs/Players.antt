@@ -1,11 +1,11 @@
 -- Scenarios of one group, and their journals, where any number of slots are open.
-use Rattle.std.specs.Prelude.{◌≡◌, ℕ, ◌≤◌, List, [], ◌∷◌, ◌++◌, length, map}
+use Rattle.std.specs.Prelude.{◌≡◌, ℕ, ◌≤◌, List, [], ◌∷◌, length}
 use Rattle.sc_cmd.specs.declared.cores.Base.{Base}
 use Rattle.sc_cmd.specs.declared.orders.OrderLine.{OrderLine}
 use Rattle.sc_mail.specs.declared.bodies.Mail.{Mail}
 use Rattle.sc_actor.specs.declared.rows.Row.{Row}
 use Rattle.sc_actor.specs.declared.actors.Seat.{Seat}
-use Rattle.sc_actor.specs.System.{System, system}
+use Rattle.sc_actor.specs.System.{System}
 use Rattle.sc_actor.specs.Walk.{IsLawful}
 use Rattle.sc_paxos_words.specs.Among.{Among, Each}
 use Rattle.sc_scenario.specs.declared.scenarios.Asks.{Asks}

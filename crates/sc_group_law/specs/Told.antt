@@ -1,20 +1,13 @@
 -- What a node has executed of a log, and which of its entries took effect.
-use Rattle.std.specs.Prelude.{◌≡◌, ℕ, ◌+◌, ◌-◌, ◌≤◌, nat_le, ◌==◌, List, [], ◌∷◌, ◌++◌, length, take, drop, if◌then◌else◌, Option, Some, None, slice_get}
-use Rattle.sc_base.specs.declared.ops.Reply.{Reply}
+use Rattle.std.specs.Prelude.{◌≡◌, ℕ, ◌+◌, ◌≤◌, List, length, take, drop}
 use Rattle.sc_cmd.specs.declared.cores.Base.{Base}
-use Rattle.sc_cmd.specs.declared.links.Route.{Route}
 use Rattle.sc_cmd.specs.declared.orders.OrderLine.{OrderLine}
 use Rattle.sc_mail.specs.declared.bodies.Mail.{Mail}
 use Rattle.sc_machine_table.specs.Group.{group_of}
 use Rattle.sc_actor.specs.declared.rows.Row.{Row}
-use Rattle.sc_actor.specs.Replay.{value}
 use Rattle.sc_node_table.specs.Replica.{ReplicaState, next}
-use Rattle.sc_scenario.specs.declared.scenarios.Asks.{Asks}
 use Rattle.sc_sound.specs.Logs.{Ahead, state_after, decided_log}
 use Rattle.sc_hist_law.specs.Laws.{IsDone}
-use Rattle.sc_world.specs.World.{party_table, client_seat}
-use Rattle.sc_world.specs.declared.party.Party.{Party}
-use Rattle.sc_world.specs.declared.party.Party.TheVariants.{Node as ANode, Client as AClient}
 
 -- a replica has executed a front of its group's log, holds the entries of it that it has not forgotten, and its group is the state after it
 pub record HasExecuted (ahead : Ahead) (base : Base) (rows : List (Row Mail OrderLine)) (r : ReplicaState) : Type 0 where

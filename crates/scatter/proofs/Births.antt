@@ -2,8 +2,6 @@
 use Rattle.std.proofs.Common.{◌≡◌, ℕ, zero, suc, ◌+◌, ◌<◌, ◌≤◌, Bool, true, false, not, ◌&&◌, eqb, List, [], ◌∷◌, ◌++◌, length, map, refl, sym, ◌∙◌, ap, subst, arith, slice_index_or}
 use Rattle.std.specs.List.{All, AllPairs, list_any}
 use Rattle.std.proofs.lemmas.Bool.{ne_eqb, and_from}
-use Rattle.std.proofs.lemmas.List.{get_or-map, length-map}
-use Rattle.std.proofs.lemmas.List.Kept.{AllPairs-from_increasing}
 use Rattle.sc_cmd.specs.declared.cores.Base.{Base}
 use Rattle.sc_cmd.specs.declared.links.Route.{Route}
 use Rattle.sc_actor.specs.declared.actors.Seat.{Seat}
@@ -52,7 +50,7 @@ nodes_within : (groups : List Base) (top from count : ℕ) → from + count ≤ 
 nodes_within groups top from zero le = tt
 nodes_within groups top from (suc count) le = (omega (arith, le), nodes_within groups top (from + 1) count (omega (arith, le)))
 
-clients_rise : (first : Route) (low : ℕ) (clients : List Asks) → All (λ (asks : Asks). low < asks.client) clients → AllPairs (λ x y. x < y) (map (λ (asks : Asks). asks.client) clients)
+clients_rise : (first : Route) (low : ℕ) (clients : List Asks) → All (λ (asks : Asks). low < asks.client) clients → AllPairs (λ (a b : Asks). a.client < b.client) clients
     → Rises (32 + low) (map (client_seat first) clients)
 clients_rise first low [] above rising = tt
 clients_rise first low (asks ∷ clients) above rising =
@@ -62,16 +60,14 @@ clients_rise first low (asks ∷ clients) above rising =
     )
   where
     later : (k : ℕ) (d : Asks) → k < length clients → asks.client < (slice_index_or clients k d).client
-    later k d lt =
-        subst (λ n. asks.client < n) (get_or-map (λ (a : Asks). a.client) clients k d d.client lt)
-        (rising 0 (suc k) d.client (omega arith) (omega (arith, lt, length-map clients (λ (a : Asks). a.client))))
+    later k d lt = rising 0 (suc k) d (omega arith) (omega (arith, lt))
 
 -- the births of an early scenario have different numbers
 pub all_apart : (scenario : Scenario) → IsEarly scenario → are_apart (births scenario) ≡ true
 all_apart scenario early =
     let clients : Rises 32 (client_seats scenario.groups scenario.clients) =
     subst (λ (groups : List Base). Rises 32 (client_seats groups scenario.clients)) (sym early.group)
-    (clients_rise (route_of (lone_group early.lo early.members)) 0 scenario.clients (λ k d lt. omega (arith, (early.clients k d lt).0.0)) (AllPairs-from_increasing _ early.ascending)) in
+    (clients_rise (route_of (lone_group early.lo early.members)) 0 scenario.clients (λ k d lt. omega (arith, (early.clients k d lt).0.0)) early.ascending) in
     apart_rising 0 (births scenario)
     (rise_on 0 32 _ (client_seats scenario.groups scenario.clients) (omega arith) (nodes_rise scenario.groups 0 1 scenario.nodes (omega arith))
     (nodes_within scenario.groups 32 1 scenario.nodes (omega (arith, early.nodes.1))) clients)
