@@ -1,5 +1,5 @@
 -- The actors of a scenario have different numbers: nodes up to 32, and then clients, ascending.
-use Rattle.std.proofs.Common.{◌≡◌, ℕ, zero, suc, ◌+◌, ◌<◌, ◌≤◌, Bool, true, false, not, ◌&&◌, eqb, List, [], ◌∷◌, ◌++◌, length, map, refl, sym, ◌∙◌, ap, subst, arith, slice_index_or}
+use Rattle.std.proofs.Common.{◌≡◌, ℕ, zero, suc, ◌+◌, ◌<◌, ◌≤◌, true, false, not, eqb, List, [], ◌∷◌, ◌++◌, length, map, refl, sym, ap, subst, arith, slice_index_or}
 use Rattle.std.specs.List.{All, AllPairs, list_any}
 use Rattle.std.proofs.lemmas.Bool.{ne_eqb, and_from}
 use Rattle.sc_cmd.specs.declared.cores.Base.{Base}
@@ -15,7 +15,7 @@ use Rattle.sc_world.specs.World.{slots_ahead, node_seat, client_seat, client_sea
 use Rattle.sc_world.specs.declared.party.Party.{Party}
 
 -- the numbers rise, from above a number on
-Rises : ℕ → List (Seat Party) → Type 0
+abbrev Rises : ℕ → List (Seat Party) → Type 0
 Rises low [] = Unit {0}
 Rises low (seat ∷ seats) = (low < seat.who) × Rises seat.who seats
 
@@ -30,7 +30,7 @@ apart_rising low [] r = refl
 apart_rising low (seat ∷ seats) r = and_from _ _ (ap not (none_same seat.who seat.who seats (omega arith) r.1)) (apart_rising seat.who seats r.1)
 
 -- none is above a number
-Within : ℕ → List (Seat Party) → Type 0
+abbrev Within : ℕ → List (Seat Party) → Type 0
 Within top [] = Unit {0}
 Within top (seat ∷ seats) = (seat.who ≤ top) × Within top seats
 
@@ -53,11 +53,10 @@ nodes_within groups top from (suc count) le = (omega (arith, le), nodes_within g
 clients_rise : (first : Route) (low : ℕ) (clients : List Asks) → All (λ (asks : Asks). low < asks.client) clients → AllPairs (λ (a b : Asks). a.client < b.client) clients
     → Rises (32 + low) (map (client_seat first) clients)
 clients_rise first low [] above rising = tt
-clients_rise first low (asks ∷ clients) above rising =
-    (
-      omega (arith, above 0 asks (omega arith)),
-      clients_rise first asks.client clients (λ k d lt. later k d lt) (λ i j d lt within. rising (suc i) (suc j) d (omega (arith, lt)) (omega (arith, within))),
-    )
+clients_rise first low (asks ∷ clients) above rising = (
+  omega (arith, above 0 asks (omega arith)),
+  clients_rise first asks.client clients (λ k d lt. later k d lt) (λ i j d lt within. rising (suc i) (suc j) d (omega (arith, lt)) (omega (arith, within))),
+)
   where
     later : (k : ℕ) (d : Asks) → k < length clients → asks.client < (slice_index_or clients k d).client
     later k d lt = rising 0 (suc k) d (omega arith) (omega (arith, lt))

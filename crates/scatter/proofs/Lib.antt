@@ -1,3 +1,4 @@
+mod Births
 mod Pieces
 mod Plays
 mod Readings

@@ -1,6 +1,6 @@
 -- What a player's answer says of a scenario.
-use Rattle.std.proofs.Common.{◌≡◌, ℕ, zero, suc, ◌<◌, ◌≤◌, List, [], ◌∷◌, length, map, Bool, true, false, Some, refl, sym, ◌∙◌, ap, subst, arith, slice_index_or}
-use Rattle.sc_base.specs.declared.ops.Op.{Op}
+use Rattle.std.proofs.Common.{◌≡◌, ℕ, zero, suc, ◌<◌, List, [], ◌∷◌, length, map, Bool, true, false, Some, refl, sym, ◌∙◌, ap, subst, arith, slice_index_or}
+use Rattle.std.specs.List.{All}
 use Rattle.sc_cmd.specs.declared.orders.OrderLine.{OrderLine}
 use Rattle.sc_mail.specs.declared.bodies.Mail.{Mail}
 use Rattle.sc_actor.specs.declared.rows.Row.{Row}
@@ -10,52 +10,73 @@ use Rattle.sc_actor.specs.System.{system, no_words}
 use Rattle.sc_play.specs.Deeds.{is_built}
 use Rattle.sc_play.specs.Moves.{IsFull}
 use Rattle.sc_play.specs.Outcome.{HasEnded}
-use Rattle.sc_scenario.specs.Early.{early_scenario}
-use Rattle.sc_scenario.specs.Valid.{IsEarly, IsValid}
+use Rattle.sc_scenario.specs.Valid.{IsEarly, IsEarlyLine, IsValid}
+use Rattle.sc_scenario.specs.declared.scenarios.Asks.{Asks}
 use Rattle.sc_scenario.specs.declared.scenarios.Scenario.{Scenario}
+use Rattle.sc_scenario.specs.declared.scenarios.SchedLine.{SchedLine}
+use Rattle.sc_scenario.specs.declared.scenarios.SchedLine.TheVariants.{Go, Deliver, Drop, Again, Tick, Crash, Told, Settle, Free, Storm}
 use Rattle.sc_report.specs.Report.{report_lines}
-use Rattle.sc_world.specs.World.{party_table, receiver_of, births, schedule, system_of, AreFew, Lawful}
+use Rattle.sc_world.specs.World.{party_table, receiver_of, births, line_of, schedule, system_of, AreFew, Lawful}
 use Rattle.sc_world.specs.Summary.{summary_of}
 use Rattle.sc_world.specs.declared.party.Party.{Party}
-use Rattle.sc_sound.specs.Laws.{JournalsAreSound}
+use Rattle.sc_group_law.specs.Laws.{ValidHaveOneGroup, GroupJournalsAreSound}
+use Rattle.scatter.specs.Sound.{as_nodes, IsSoundThroughout}
 use Rattle.scatter.specs.declared.done.Text.{Text}
 use Rattle.scatter.specs.Played.{mail_weight, HasEnded as Ends, HasFilled}
 use Rattle.scatter.specs.Run.{Plays, ReportsAs, said_of}
 
--- the two lines of the early form are built
-built-two : (ops : List Op) (most : ℕ) (k : ℕ) (d : Line OrderLine) → k < 2 → is_built (slice_index_or (schedule (early_scenario ops most)) k d) ≡ true
-built-two ops most zero d lt = refl
-built-two ops most (suc zero) d lt = refl
-built-two ops most (suc (suc k)) d lt = absurd (omega arith)
+-- a line of the early form is built
+built_one : (nodes : ℕ) (clients : List Asks) (x : SchedLine) → IsEarlyLine nodes clients x → is_built (line_of x) ≡ true
+built_one nodes clients (Go client) h = refl
+built_one nodes clients (Deliver who k) h = refl
+built_one nodes clients (Drop who k) h = refl
+built_one nodes clients (Again mail) h = refl
+built_one nodes clients (Tick who) h = refl
+built_one nodes clients (Crash node) h = refl
+built_one nodes clients (Told node line) h = absurd h
+built_one nodes clients (Settle most) h = refl
+built_one nodes clients (Free most workers) h = absurd h
+built_one nodes clients (Storm number most) h = absurd h
+
+built_all : (nodes : ℕ) (clients : List Asks) (xs : List SchedLine) → All (IsEarlyLine nodes clients) xs → (k : ℕ) (d : Line OrderLine) → k < length (map line_of xs) → is_built (slice_index_or (map line_of xs) k d) ≡ true
+built_all nodes clients [] all k d lt = absurd (omega (arith, lt))
+built_all nodes clients (x ∷ xs) all zero d lt = built_one nodes clients x (all 0 x (omega arith))
+built_all nodes clients (x ∷ xs) all (suc k) d lt = built_all nodes clients xs (λ j e le. all (suc j) e (omega (arith, le))) k d (omega (arith, lt))
 
 pub built : (scenario : Scenario) → IsEarly scenario → (lines : List (Line OrderLine)) → lines ≡ schedule scenario → (k : ℕ) (d : Line OrderLine) → k < length lines → is_built (slice_index_or lines k d) ≡ true
 built scenario early lines is =
     let P : List (Line OrderLine) → Type 0 = λ ls. (k : ℕ) (d : Line OrderLine) → k < length ls → is_built (slice_index_or ls k d) ≡ true in
-    subst P (sym (is ∙ ap schedule early.is)) (built-two early.ops early.most)
+    subst P (sym is) (built_all scenario.nodes scenario.clients scenario.lines early.lines)
 
--- the one client of the early form has at most as many requests as it may
-few-one : (ops : List Op) (most : ℕ) → length ops ≤ 1000 → AreFew (early_scenario ops most)
-few-one ops most few zero d lt = few
-few-one ops most few (suc k) d lt = absurd (omega arith)
-
+-- no client of the early form has more requests than it may
 pub few : (scenario : Scenario) → IsEarly scenario → AreFew scenario
-few scenario early = subst AreFew (sym early.is) (few-one early.ops early.most early.few)
+few scenario early = λ k d lt. (early.clients k d lt).1
+
+-- each first part of a lawful journal is sound
+sound_throughout : ValidHaveOneGroup → GroupJournalsAreSound → (scenario : Scenario) → IsValid scenario → (journal : List (Row Mail OrderLine)) → Lawful scenario journal → IsSoundThroughout scenario journal
+sound_throughout one law scenario valid journal lawful =
+    let group = one scenario valid in
+    record {
+      base = group.0;
+      one_group = group.1.groups;
+      sound = λ rows more is. law as_nodes no_words scenario group.0 group.1 rows more (subst (Lawful scenario) is lawful);
+    }
 
 module _ (scenario : Scenario) (limit : ℕ) (seats : List (Seat Party)) (lines : List (Line OrderLine)) (seats_are : seats ≡ births scenario) (lines_are : lines ≡ schedule scenario) where
-  pub ends : JournalsAreSound → IsValid scenario → (cut quiet : Bool) (skips : ℕ) (journal : List (Row Mail OrderLine)) (left : List (Seat Party)) (parties : List Party) →
+  pub ends : ValidHaveOneGroup → GroupJournalsAreSound → IsValid scenario → (cut quiet : Bool) (skips : ℕ) (journal : List (Row Mail OrderLine)) (left : List (Seat Party)) (parties : List Party) →
       parties ≡ map (λ seat. seat.actor) left → HasEnded (system party_table receiver_of no_words seats) mail_weight lines limit cut quiet skips journal left → Ends scenario limit cut quiet skips journal parties
-  ends law valid cut quiet skips journal left parties are h =
+  ends one law valid cut quiet skips journal left parties are h =
       let P : List (Seat Party) → Type 0 = λ s. HasEnded (system party_table receiver_of no_words s) mail_weight lines limit cut quiet skips journal left in
       let Q : List (Line OrderLine) → Type 0 = λ l. HasEnded (system_of scenario) mail_weight l limit cut quiet skips journal left in
       let e : HasEnded (system_of scenario) mail_weight (schedule scenario) limit cut quiet skips journal left = subst Q lines_are (subst P seats_are h) in
-      record { lawful = e.lawful; whole = e.whole; sound = λ rows more is ahead. law scenario valid rows more (subst (Lawful scenario) is e.lawful) ahead; within = e.within; cut_is = e.cut_is; quiet_is = e.quiet_now; skips_are = e.skips_are; parties_are = are ∙ ap (map (λ seat. seat.actor)) e.actors }
+      record { lawful = e.lawful; whole = e.whole; sound = sound_throughout one law scenario valid journal e.lawful; within = e.within; cut_is = e.cut_is; quiet_is = e.quiet_now; skips_are = e.skips_are; parties_are = are ∙ ap (map (λ seat. seat.actor)) e.actors }
 
-  pub fills : JournalsAreSound → IsValid scenario → (journal : List (Row Mail OrderLine)) → IsFull (system party_table receiver_of no_words seats) mail_weight lines limit journal → HasFilled scenario limit journal
-  fills law valid journal h =
+  pub fills : ValidHaveOneGroup → GroupJournalsAreSound → IsValid scenario → (journal : List (Row Mail OrderLine)) → IsFull (system party_table receiver_of no_words seats) mail_weight lines limit journal → HasFilled scenario limit journal
+  fills one law valid journal h =
       let P : List (Seat Party) → Type 0 = λ s. IsFull (system party_table receiver_of no_words s) mail_weight lines limit journal in
       let Q : List (Line OrderLine) → Type 0 = λ l. IsFull (system_of scenario) mail_weight l limit journal in
       let full : IsFull (system_of scenario) mail_weight (schedule scenario) limit journal = subst Q lines_are (subst P seats_are h) in
-      record { full = full; sound = λ rows more is ahead. law scenario valid rows more (subst (Lawful scenario) is full.lawful) ahead }
+      record { full = full; sound = sound_throughout one law scenario valid journal full.lawful }
 
 plays : (scenario : Scenario) (limit : ℕ) (cut quiet : Bool) (skips : ℕ) (journal : List (Row Mail OrderLine)) (parties : List Party) (text : Text) →
     Ends scenario limit cut quiet skips journal parties → text.lines ≡ report_lines (summary_of scenario journal) → text.journal ≡ Some journal → text.parties ≡ parties → Plays scenario cut text

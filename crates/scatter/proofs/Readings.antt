@@ -1,5 +1,5 @@
 -- What was read of a source is the whole of it, or too long either way.
-use Rattle.std.proofs.Common.{◌≡◌, ℕ, ◌+◌, ◌<◌, ◌≤◌, List, length, take, Bool, true, false, Option, None, Some, nat_le, if◌then◌else◌, refl, sym, ◌∙◌, ap, subst, arith, rules}
+use Rattle.std.proofs.Common.{◌≡◌, ℕ, ◌+◌, ◌<◌, List, length, take, Bool, true, false, Option, None, Some, nat_le, refl, sym, ◌∙◌, ap, arith, rules}
 use Rattle.std.specs.Prelude.{IfSome, IfOk, Result, Ok, Err}
 use Rattle.std.proofs.lemmas.List.{take_all, length-take-le}
 use Rattle.sc_scenario.specs.Early.{scenario_of, most_bytes}

@@ -8,7 +8,8 @@ use Rattle.sc_cmd.specs.declared.orders.OrderLine.{OrderLine}
 use Rattle.sc_mail.specs.declared.bodies.Mail.{Mail}
 use Rattle.sc_actor.specs.declared.rows.Row.{Row}
 use Rattle.sc_actor.specs.Walk.{unsettled}
-use Rattle.sc_scenario.specs.Early.{scenario_of, same, nth}
+use Rattle.sc_scenario.specs.Early.{scenario_of}
+use Rattle.sc_scenario.specs.Words.{same, nth}
 use Rattle.sc_scenario.specs.declared.scenarios.Scenario.{Scenario}
 use Rattle.sc_report.specs.Report.{report_lines}
 use Rattle.sc_world.specs.World.{system_of, schedule, Lawful, Whole, parties}

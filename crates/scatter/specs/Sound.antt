@@ -1,12 +1,21 @@
--- What the journal of a run tells of its requests.
-use Rattle.std.specs.Prelude.{◌≡◌, List, ◌++◌}
+-- What the journal of a run tells of its group and of its requests.
+use Rattle.std.specs.Prelude.{◌≡◌, List, [], ◌∷◌, ◌++◌}
+use Rattle.std.proofs.Common.{lit≤}
+use Rattle.sc_cmd.specs.declared.cores.Base.{Base}
 use Rattle.sc_cmd.specs.declared.orders.OrderLine.{OrderLine}
 use Rattle.sc_mail.specs.declared.bodies.Mail.{Mail}
 use Rattle.sc_actor.specs.declared.rows.Row.{Row}
 use Rattle.sc_scenario.specs.declared.scenarios.Scenario.{Scenario}
+use Rattle.sc_world.specs.World.{slots_ahead}
 use Rattle.sc_sound.specs.Logs.{Ahead}
-use Rattle.sc_sound.specs.Laws.{IsSound}
+use Rattle.sc_group_law.specs.Laws.{IsSound}
 
--- each first part of a journal tells one legal history of the scenario's requests, however many slots are open
-abbrev pub IsSoundThroughout : Scenario → List (Row Mail OrderLine) → Type 0
-IsSoundThroughout scenario journal = (rows more : List (Row Mail OrderLine)) → journal ≡ rows ++ more → (ahead : Ahead) → IsSound ahead scenario rows
+-- as many slots are open as nodes have
+abbrev pub as_nodes : Ahead
+as_nodes = record { slots = slots_ahead; some = lit≤ tt }
+
+-- The scenario has one group, and each first part of the journal is sound: one value per slot, replicas that have executed a front of one log, and one legal history of the scenario's requests, in the order of real time.
+pub record IsSoundThroughout (scenario : Scenario) (journal : List (Row Mail OrderLine)) : Type 0 where
+  pub base : Base
+  pub one_group : scenario.groups ≡ base ∷ []
+  pub sound : (rows more : List (Row Mail OrderLine)) → journal ≡ rows ++ more → IsSound as_nodes scenario base rows more

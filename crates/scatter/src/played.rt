@@ -10,10 +10,10 @@ use crate::summing::summary;
 use sc_actor::{Journal, Seat};
 use sc_base::{OutOfMemory, Sequence};
 use sc_cmd::OrderLine;
+use sc_group_law::{group_journals_are_sound, valid_scenarios_have_one_group};
 use sc_mail::Mail;
 use sc_report::lines;
 use sc_scenario::{Scenario, texts_are_early};
-use sc_sound::journals_are_sound;
 use sc_world::{Party, births, schedule};
 use std::alloc::Global;
 
@@ -54,7 +54,8 @@ fn play_out(alloc: Global, scenario: &Scenario, limit: u64) -> Result<Played, Ou
     ensures { IfOk result (λ played. IsPlayed scenario.now limit played) }
 {
     texts_are_early();
-    journals_are_sound();
+    valid_scenarios_have_one_group();
+    group_journals_are_sound();
     let seats = births(alloc, scenario)?;
     let lines = schedule(alloc, scenario)?;
     match sc_play::play(alloc, seats, lines.as_slice(), limit)? {

@@ -1,6 +1,6 @@
 //! From the words and bytes that come in to the bytes that go out.
 ghost use Rattle.std.specs.Prelude.{◌≡◌, map, false, string_bytes, IfOk};
-ghost use Rattle.sc_scenario.specs.Early.{nth};
+ghost use Rattle.sc_scenario.specs.Words.{nth};
 ghost use Rattle.scatter.specs.Run.{is_run, Says, Reads, ReadsBytes, Runs};
 
 use crate::done::{Done, Said, Text};
