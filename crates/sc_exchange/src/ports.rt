@@ -9,14 +9,14 @@ ghost use Rattle.sc_ledger.specs.Fault.{IsCause};
 ghost use Rattle.sc_ledger.specs.Pending.{kth_pending, is_pending, may_repeat};
 ghost use Rattle.sc_exchange.specs.Deeds.{deeds, rows_of};
 ghost use Rattle.sc_exchange.specs.Turns.{may_change, change};
-ghost use Rattle.sc_exchange.specs.Answers.{IsFetch, number_of};
+ghost use Rattle.sc_exchange.specs.Answers.{IsFetch, IsLook, number_of};
 
 use crate::answers::{Fetched, Unposted};
 use crate::deeds::Exchange;
-use crate::turns::{any_at, change_at, fetch_at, kth_at, post_at};
+use crate::turns::{any_at, change_at, fetch_at, kth_at, look_at, post_at};
 use sc_actor::{Event, Journal, Parcel, Row};
 use sc_base::{OutOfMemory, Sequence};
-use sc_ledger::Unkept;
+use sc_ledger::{Look, Unkept};
 use sc_turn::TurnSeat;
 use std::alloc::Global;
 use std::sync::Wait;
@@ -181,6 +181,15 @@ impl<M: Parcel + Drop, O: Drop> Port<M, O> {
         ensures any { result ≡ list_any (λ who. is_some (kth_pending M.receiver self.new.actors (seen self.new) who 1)) whos.now }
     {
         any_at(rt, &mut self.seat, self.actors, whos)
+    }
+
+    /// How many mails were sent, and each pending copy of all mail, all at this one turn. Only the network's port looks.
+    pub fn look<R: Wait>(&mut self, rt: &R) -> Result<Look, OutOfMemory>
+        requires net { self.old.who ≡ 0 }
+        ensures looked { Looked self.old self.new × IsTrue self.new × (self.new.fetched ≡ self.old.fetched) × (self.new.crashed ≡ self.old.crashed) }
+        ensures look { IfOk result (λ look. IsLook M.receiver self.old.actors (seen self.new) look) }
+    {
+        look_at(rt, self.alloc, &mut self.seat, self.actors)
     }
 
     /// Two ports of one exchange tell each other: afterwards what each has seen begins with what the two had seen before.

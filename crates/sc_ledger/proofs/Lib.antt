@@ -2,3 +2,4 @@ pub mod Numbers
 pub mod Kept
 pub mod Open
 pub mod Rows
+pub mod Spotting

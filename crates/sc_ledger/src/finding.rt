@@ -1,5 +1,5 @@
 //! Looks for pending mail.
-ghost use Rattle.std.specs.Prelude.{◌≡◌, ◌<◌, ◌+◌, ◌-◌, ◌^◌, ◌==◌, length, nat_lt, IfOk, slice_get, slice_index, if◌then◌else◌};
+ghost use Rattle.std.specs.Prelude.{◌≡◌, ◌<◌, ◌+◌, ◌-◌, ◌^◌, ◌==◌, ◌++◌, length, replicate, nat_lt, IfOk, OnOk, slice_get, slice_index, if◌then◌else◌};
 ghost use Rattle.std.specs.List.{list_any};
 ghost use Rattle.sc_actor.specs.Mail.{numbers, mails};
 ghost use Rattle.sc_actor.specs.System.{kth};
@@ -71,6 +71,36 @@ pub(crate) fn kth_open(
         left -= count;
     }
     None
+}
+
+fn add_copies(found: &mut Vec<u32>, number: u32, count: u32) -> Result<(), OutOfMemory>
+    ensures { OnOk result (found.new.items ≡ found.old.items ++ replicate count number) }
+{
+    for i in 0..count {
+        let _ = i;
+        found.push(number)?;
+    }
+    Ok(())
+}
+
+/// The numbers of all pending mail, each as often as it has copies.
+pub(crate) fn open_numbers(
+    alloc: Global,
+    receivers: &[u32],
+    counts: &[u32],
+    actors: u32,
+    crashed: &[u32],
+) -> Result<Vec<u32>, OutOfMemory>
+    requires few { length receivers.now < 2 ^ 32 - 1 }
+    ensures { IfOk result (λ found. found.items ≡ numbers (counts_for actors crashed.now 0) 1 receivers.now counts.now) }
+{
+    let mut found = Vec::new(alloc);
+    let both = receivers.len().min(counts.len());
+    for i in 0..both {
+        let count = open_copies(actors, crashed, 0, receivers[i], counts[i]);
+        add_copies(&mut found, i as u32 + 1, count)?;
+    }
+    Ok(found)
 }
 
 /// A copy of the mail at a place among all that was sent.

@@ -1,14 +1,16 @@
 //! The ledger.
-ghost use Rattle.std.specs.Prelude.{◌≡◌, ◌<◌, ◌≤◌, ◌+◌, ◌^◌, ◌++◌, ◌∷◌, [], map, length, IfOk, OnOk, IfErr, IfSome, IsSome, vec_len, vec_capacity};
+ghost use Rattle.std.specs.Prelude.{◌≡◌, ◌<◌, ◌≤◌, ◌+◌, ◌^◌, ◌++◌, ◌∷◌, [], map, length, Some, All, IfOk, OnOk, IfErr, IfSome, IsSome, vec_len, vec_capacity};
 ghost use Rattle.sc_actor.specs.Mail.{mails, copies, numbered};
 ghost use Rattle.sc_actor.specs.Counted.{row_bytes, journal_bytes};
 ghost use Rattle.sc_ledger.specs.Fault.{IsCause};
 ghost use Rattle.sc_ledger.specs.Kept.{crashed_in};
 ghost use Rattle.sc_ledger.specs.Pending.{kth_pending, is_pending, may_repeat};
+ghost use Rattle.sc_ledger.specs.Spots.{spots_of};
 
 use crate::counting::{add_counts, add_crash, add_receivers, bytes_with, count_event};
 use crate::faults::{PostFault, Unkept};
-use crate::finding::{has_copy, kth_open, mail_at, runs};
+use crate::finding::{has_copy, kth_open, mail_at, open_numbers, runs};
+use crate::spots::{Look, spots_from};
 use sc_actor::{Parcel, Row};
 use sc_base::OutOfMemory;
 use std::alloc::Global;
@@ -107,6 +109,25 @@ impl<M: Parcel + Drop, O: Drop> Ledger<M, O> {
         ensures { result ≡ is_pending M.receiver actors self.now.rows.items number }
     {
         self.may_repeat(actors, number) && has_copy(self.counts.as_slice(), number)
+    }
+
+    /// How many mails were sent, and each pending copy of all mail, in ascending order of number.
+    pub fn look(&self, alloc: Global, actors: u32) -> Result<Look, OutOfMemory>
+        ensures sent { IfOk result (λ look. look.sent ≡ length (mails self.now.rows.items)) }
+        ensures spots { IfOk result (λ look. look.pending ≡ spots_of M.receiver actors self.now.rows.items) }
+        ensures each { IfOk result (λ look. All (λ spot. kth_pending M.receiver actors self.now.rows.items spot.who spot.k ≡ Some spot.number) look.pending) }
+    {
+        let receivers = self.receivers.as_slice();
+        let numbers = open_numbers(
+            alloc,
+            receivers,
+            self.counts.as_slice(),
+            actors,
+            self.crashed.as_slice(),
+        )?;
+        let pending = spots_from(alloc, receivers, numbers.as_slice())?;
+        let sent = receivers.len() as u32;
+        Ok(Look { sent, pending })
     }
 
     // Room for one row with so many mails. Nothing else changes.

@@ -5,9 +5,11 @@ mod counting;
 mod faults;
 mod finding;
 mod ledger;
+mod spots;
 
 pub use faults::{PostFault, Unkept};
 pub use ledger::Ledger;
+pub use spots::{Look, Spot};
 
 #[cfg(test)]
 mod tests;
