@@ -7,7 +7,8 @@ ghost use Rattle.sc_actor.specs.Mail.{is_crash};
 ghost use Rattle.sc_actor.specs.Counted.{row_bytes, journal_bytes};
 ghost use Rattle.sc_ledger.specs.Fault.{IsCause};
 ghost use Rattle.sc_ledger.specs.Pending.{kth_pending, is_pending, may_repeat};
-ghost use Rattle.sc_exchange.specs.Deeds.{deeds, rows_of};
+ghost use Rattle.sc_exchange.specs.Deeds.{deeds, row_by, rows_from, rows_of};
+ghost use Rattle.sc_exchange.specs.Fetches.{HasFetched, delivered};
 ghost use Rattle.sc_exchange.specs.Turns.{may_change, change};
 ghost use Rattle.sc_exchange.specs.Answers.{IsFetch, IsLook, number_of};
 
@@ -36,6 +37,7 @@ pub struct Port<M: Parcel + Drop, O: Drop> {
     ghost out: { (known seat).turn ≡ false },
     ghost small: { limit ≤ 2 ^ 30 },
     ghost own: { length (rows_by who (known seat).seen) ≡ length (known seat).made },
+    ghost asked: { ∥ HasFetched M.receiver actors who fetched (map (row_by who) (known seat).made) (rows_from (known seat).seen) ∥₁ },
 }
 
 impl<M: Parcel + Drop, O: Drop> Port<M, O> {
@@ -91,7 +93,7 @@ impl<M: Parcel + Drop, O: Drop> Port<M, O> {
         Ok(found)
     }
 
-    /// Appends a row of this port's actor, and answers its place, counted from 1. A delivery is of the mail of the last fetch.
+    /// Appends a row of this port's actor, and answers its place, counted from 1. A delivery is of the mail of the last fetch, which was pending then.
     /// A refused row is handed back, and the journal is unchanged.
     pub fn post<R: Wait>(
         &mut self,
@@ -103,6 +105,7 @@ impl<M: Parcel + Drop, O: Drop> Port<M, O> {
         requires event { MayPost self.old.fetched event }
         requires runs { self.old.crashed ≡ false }
         ensures stays { Stays self.old self.new }
+        ensures delivered { ∥ HasFetched M.receiver self.old.actors self.old.who (delivered event) (made self.old) (seen self.old) ∥₁ }
         ensures ok { IfOk result (λ place. Appended self.old self.new (record { who = self.old.who; event = event; sent = sent }) × (place ≡ length (seen self.new)) × (journal_bytes M.weighs (seen self.new) ≤ self.old.limit) × IsTrue self.new × (self.new.fetched ≡ None) × (self.new.crashed ≡ is_crash event)) }
         ensures refused { IfErr result (λ e. Looked self.old self.new × IsTrue self.new × (e.event ≡ event) × (e.sent ≡ sent) × IsCause e.why (journal_bytes M.weighs (seen self.new)) (row_bytes M.weighs (record { who = self.old.who; event = event; sent = sent })) self.old.limit × (self.new.fetched ≡ self.old.fetched) × (self.new.crashed ≡ false)) }
     {
