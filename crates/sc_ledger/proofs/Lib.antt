@@ -3,3 +3,5 @@ pub mod Kept
 pub mod Open
 pub mod Rows
 pub mod Spotting
+pub mod Entries
+pub mod Holding

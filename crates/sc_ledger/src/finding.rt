@@ -73,7 +73,8 @@ pub(crate) fn kth_open(
     None
 }
 
-fn add_copies(found: &mut Vec<u32>, number: u32, count: u32) -> Result<(), OutOfMemory>
+/// Adds a number as often as it has copies.
+pub(crate) fn add_copies(found: &mut Vec<u32>, number: u32, count: u32) -> Result<(), OutOfMemory>
     ensures { OnOk result (found.new.items ≡ found.old.items ++ replicate count number) }
 {
     for i in 0..count {

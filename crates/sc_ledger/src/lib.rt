@@ -1,10 +1,12 @@
 //! The ledger of one exchange: the rows so far, their counted bytes, and the mail that is pending. It has no handle and no lock.
 #![tactic(auto)]
 
+mod copies;
 mod counting;
 mod faults;
 mod finding;
 mod ledger;
+mod queues;
 mod spots;
 
 pub use faults::{PostFault, Unkept};

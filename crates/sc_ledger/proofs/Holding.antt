@@ -1,0 +1,144 @@
+-- The queues hold what is pending, as counts change and mail is sent.
+use Rattle.std.proofs.Common.{◌≡◌, ◌≢◌, ℕ, zero, suc, ◌+◌, ◌-◌, ◌<◌, ◌≤◌, eqb, nat_eq, List, [], ◌∷◌, ◌++◌, length, Bool, true, false, cond, ◌&&◌, ◌||◌, get_or, set, refl, sym, ap, ◌∙◌, subst, arith, ne_eqb, eq-eqb, get_or-set_other, get_or-set_same, None, true≢false, Result, Ok, Err, OnOk}
+use mathlib.Core.Logic.{dite}
+use native.Mathlib.Decide.{ℕ_discrete}
+use Rattle.std.proofs.lemmas.List.{set_past, length-set}
+use Rattle.std.proofs.lemmas.Bool.{ltb-true, and_parts, eqb-true, eqb-false}
+use Rattle.sc_actor.specs.Mail.{one_less, one_more}
+use Rattle.std.specs.Map.{lookup}
+use Rattle.sc_ledger.specs.declared.queues.Queues.{Queues}
+use Rattle.sc_ledger.specs.Kept.{runs, counts_for}
+use Rattle.sc_ledger.specs.Queues.{open_entries, recounted, kept, Holds}
+use Rattle.sc_ledger.proofs.Entries.{lookup_none, recounted_at, set_other, push_here, push_other}
+
+or_true : (b : Bool) → (true || b) ≡ true
+or_true b = refl
+
+module _ (actors : ℕ) (crashed : List ℕ) where
+  -- an actor that runs has a queue
+  pub runs_within : (r : ℕ) → runs actors crashed r ≡ true → (0 < r) × (r ≤ actors)
+  runs_within r e =
+      let p = and_parts _ _ e in let q = and_parts _ _ p.1 in (ltb-true 0 r p.0, (let l : r < actors + 1 = ltb-true r (actors + 1) q.0 in omega (arith, l)))
+
+  counts_not : (who r : ℕ) → runs actors crashed r ≡ false → counts_for actors crashed who r ≡ false
+  counts_not who r e = ap (λ b. (eqb who 0 || eqb r who) && b) e ∙ and_no (eqb who 0 || eqb r who)
+    where
+      and_no : (b : Bool) → (b && false) ≡ false
+      and_no true = refl
+      and_no false = refl
+
+  counts_apart : (who r : ℕ) → 0 < who → r ≢ who → counts_for actors crashed who r ≡ false
+  counts_apart who r some ne = (λ i. (ne_eqb who 0 (omega arith) i || ne_eqb r who ne i) && runs actors crashed r)
+
+  counts_own : (who r : ℕ) → 0 < who → r ≡ who → runs actors crashed r ≡ true → counts_for actors crashed who r ≡ true
+  counts_own who r some e ok = (λ i. (ne_eqb who 0 (omega arith) i || eq-eqb r who e i) && ok i)
+
+  module _ (q : Queues) (rs cs : List ℕ) (h : Holds q actors crashed rs cs) where
+    -- a mail that counts for nobody
+    pub holds_not : (p count : ℕ) → runs actors crashed (get_or rs p 0) ≡ false → Holds q actors crashed rs (set cs p count)
+    holds_not p count e = record {
+      many = h.many;
+      all = h.all ∙ sym (set_other (counts_for actors crashed 0) p 1 count rs cs (counts_not 0 (get_or rs p 0) e));
+      each = λ k lt. h.each k lt ∙ sym (set_other (counts_for actors crashed (suc k)) p 1 count rs cs (counts_not (suc k) (get_or rs p 0) e));
+    }
+
+    pub holds_past : (p count : ℕ) → length cs ≤ p → Holds q actors crashed rs (set cs p count)
+    holds_past p count past = subst (λ l. Holds q actors crashed rs l) (sym (set_past cs p count past)) h
+
+    pub absent_all : (key p : ℕ) → key ≡ 1 + p → get_or cs p 0 ≡ 0 → lookup (nat_eq key) q.all.entries ≡ None
+    absent_all key p is none = ap (lookup (nat_eq key)) h.all ∙ lookup_none (counts_for actors crashed 0) key p 1 rs cs is none
+
+    pub absent_own : (key p r : ℕ) → key ≡ 1 + p → get_or cs p 0 ≡ 0 → 0 < r → r ≤ actors → lookup (nat_eq key) (get_or (kept q) (r - 1) []) ≡ None
+    absent_own key p r is none some within =
+        ap (lookup (nat_eq key)) (h.each (r - 1) (omega arith)) ∙ lookup_none (counts_for actors crashed (suc (r - 1))) key p 1 rs cs is none
+
+    module _ (t : Queues) (key p r count : ℕ) (back : Bool) (is : key ≡ 1 + p) (lt : p < length rs) (same : length cs ≡ length rs) (to : get_or rs p 0 ≡ r) (ok : runs actors crashed r ≡ true)
+        (none : back ≡ true → get_or cs p 0 ≡ 0) (had : back ≡ false → count ≢ 0 → 0 < get_or cs p 0)
+        (all : t.all.entries ≡ recounted q.all.entries key back count) (each : kept t ≡ set (kept q) (r - 1) (recounted (get_or (kept q) (r - 1) []) key back count)) where
+      at : (who : ℕ) → counts_for actors crashed who r ≡ true → recounted (open_entries (counts_for actors crashed who) 1 rs cs) key back count ≡ open_entries (counts_for actors crashed who) 1 rs (set cs p count)
+      at who yes' = recounted_at (counts_for actors crashed who) key p count back rs cs is lt same (ap (counts_for actors crashed who) to ∙ yes') none had
+
+      own_each : (k : ℕ) → k < actors → get_or (kept t) k [] ≡ open_entries (counts_for actors crashed (suc k)) 1 rs (set cs p count)
+      own_each k inside =
+          let within = runs_within r ok in
+          ap (λ l. get_or l k []) each
+          ∙ dite (ℕ_discrete k (r - 1))
+          (λ e. let here : r ≡ suc k = omega (arith, e, within.0) in
+          ap (λ n. get_or (set (kept q) n (recounted (get_or (kept q) n []) key back count)) k []) (sym e)
+          ∙ (get_or-set_same (kept q) k (recounted (get_or (kept q) k []) key back count) [] (omega (arith, h.many))
+          ∙ (ap (λ es. recounted es key back count) (h.each k inside) ∙ at (suc k) (counts_own (suc k) r (omega arith) here ok))))
+          (λ ne. let apart : r ≢ suc k = (λ e. ne (omega (arith, e))) in
+          get_or-set_other (kept q) (r - 1) k (recounted (get_or (kept q) (r - 1) []) key back count) [] ne
+          ∙ (h.each k inside ∙ sym (set_other (counts_for actors crashed (suc k)) p 1 count rs cs (ap (counts_for actors crashed (suc k)) to ∙ counts_apart (suc k) r (omega arith) apart))))
+
+      -- a mail that counts
+      pub holds_set : Holds t actors crashed rs (set cs p count)
+      holds_set = record {
+        many = ap length each ∙ (length-set (kept q) (r - 1) (recounted (get_or (kept q) (r - 1) []) key back count) ∙ h.many);
+        all = all ∙ (ap (λ es. recounted es key back count) h.all ∙ at 0 (ap (λ b. true && b) ok));
+        each = own_each;
+      }
+
+    pub holds_new_not : (r : ℕ) → length cs ≡ length rs → runs actors crashed r ≡ false → Holds q actors crashed (rs ++ r ∷ []) (cs ++ 1 ∷ [])
+    holds_new_not r same e = record {
+      many = h.many;
+      all = h.all ∙ sym (push_other (counts_for actors crashed 0) 1 1 r rs cs same (ap (λ b. b && true) (counts_not 0 r e)));
+      each = λ k lt. h.each k lt ∙ sym (push_other (counts_for actors crashed (suc k)) 1 1 r rs cs same (ap (λ b. b && true) (counts_not (suc k) r e)));
+    }
+
+    module _ (t : Queues) (key r : ℕ) (is : key ≡ 1 + length rs) (same : length cs ≡ length rs) (ok : runs actors crashed r ≡ true)
+        (all : t.all.entries ≡ recounted q.all.entries key false 1) (each : kept t ≡ set (kept q) (r - 1) (recounted (get_or (kept q) (r - 1) []) key false 1)) where
+      new_each : (k : ℕ) → k < actors → get_or (kept t) k [] ≡ open_entries (counts_for actors crashed (suc k)) 1 (rs ++ r ∷ []) (cs ++ 1 ∷ [])
+      new_each k inside =
+          let within = runs_within r ok in
+          ap (λ l. get_or l k []) each
+          ∙ dite (ℕ_discrete k (r - 1))
+          (λ e. let here : r ≡ suc k = omega (arith, e, within.0) in
+          ap (λ n. get_or (set (kept q) n (recounted (get_or (kept q) n []) key false 1)) k []) (sym e)
+          ∙ (get_or-set_same (kept q) k (recounted (get_or (kept q) k []) key false 1) [] (omega (arith, h.many))
+          ∙ (ap (λ es. recounted es key false 1) (h.each k inside) ∙ push_here (counts_for actors crashed (suc k)) key 1 r rs cs is same (counts_own (suc k) r (omega arith) here ok) (omega arith))))
+          (λ ne. let apart : r ≢ suc k = (λ e. ne (omega (arith, e))) in
+          get_or-set_other (kept q) (r - 1) k (recounted (get_or (kept q) (r - 1) []) key false 1) [] ne
+          ∙ (h.each k inside ∙ sym (push_other (counts_for actors crashed (suc k)) 1 1 r rs cs same (ap (λ b. b && true) (counts_apart (suc k) r (omega arith) apart)))))
+
+      -- one more mail, which counts
+      pub holds_new : Holds t actors crashed (rs ++ r ∷ []) (cs ++ 1 ∷ [])
+      holds_new = record {
+        many = ap length each ∙ (length-set (kept q) (r - 1) (recounted (get_or (kept q) (r - 1) []) key false 1) ∙ h.many);
+        all = all ∙ (ap (λ es. recounted es key false 1) h.all ∙ push_here (counts_for actors crashed 0) key 1 r rs cs is same (ap (λ b. true && b) ok) (omega arith));
+        each = new_each;
+      }
+
+  module _ (q t : Queues) where
+    pub add_done : {R : Type 0} (res : Result (Unit {0}) R) (key r : ℕ) → runs actors crashed r ≡ true →
+        OnOk res (t.all.entries ≡ recounted q.all.entries key false 1) → OnOk res (kept t ≡ set (kept q) (r - 1) (recounted (get_or (kept q) (r - 1) []) key false 1)) →
+        OnOk res ((rs cs : List ℕ) → Holds q actors crashed rs cs → length cs ≡ length rs → key ≡ 1 + length rs → Holds t actors crashed (rs ++ r ∷ []) (cs ++ 1 ∷ []))
+    add_done (Err e) key r ok all each = tt
+    add_done (Ok u) key r ok all each = λ rs cs h same is. holds_new q rs cs h t key r is same ok all each
+
+    module _ (rs cs : List ℕ) (h : Holds q actors crashed rs cs) (number p r : ℕ) (is : number ≡ suc p) (lt : p < length rs) (same : length cs ≡ length rs) (to : get_or rs p 0 ≡ r) (ok : runs actors crashed r ≡ true) where
+      pub more_done : {R : Type 0} (res : Result (Unit {0}) R) (back : Bool) → back ≡ eqb (get_or cs p 0) 0 →
+          OnOk res (t.all.entries ≡ recounted q.all.entries number back (get_or cs p 0 + 1)) →
+          OnOk res (kept t ≡ set (kept q) (r - 1) (recounted (get_or (kept q) (r - 1) []) number back (get_or cs p 0 + 1))) →
+          OnOk res (Holds t actors crashed rs (one_more cs number))
+      more_done (Err e) back b all each = tt
+      more_done (Ok u) back b all each =
+          subst (λ n. Holds t actors crashed rs (one_more cs n)) (sym is)
+          (holds_set q rs cs h t number p r (get_or cs p 0 + 1) back (omega (arith, is)) lt same to ok (λ e. eqb-true (get_or cs p 0) 0 (sym b ∙ e)) (λ e ne. some_left (eqb-false (get_or cs p 0) 0 (sym b ∙ e))) all each)
+        where
+          some_left : (get_or cs p 0 ≡ 0 → ⊥) → 0 < get_or cs p 0
+          some_left f = elim (get_or cs p 0) as (λ n. (n ≡ 0 → ⊥) → 0 < n) [ zero ↦ λ g. absurd (g refl) | suc n ↦ λ g. omega arith ] f
+
+      pub less_done : {R : Type 0} (res : Result (Unit {0}) R) (count : ℕ) → count ≡ get_or cs p 0 - 1 →
+          OnOk res (t.all.entries ≡ recounted q.all.entries number false count) →
+          OnOk res (kept t ≡ set (kept q) (r - 1) (recounted (get_or (kept q) (r - 1) []) number false count)) →
+          OnOk res (Holds t actors crashed rs (one_less cs number))
+      less_done (Err e) count less all each = tt
+      less_done (Ok u) count less all each =
+          subst (λ n. Holds t actors crashed rs (one_less cs n)) (sym is)
+          (subst (λ n. Holds t actors crashed rs (set cs p n)) less
+          (holds_set q rs cs h t number p r count false (omega (arith, is)) lt same to ok (λ e. absurd (true≢false (sym e))) (λ e ne. omega (arith, ne, less)) all each))
+
+  pub change_not : (q : Queues) (rs cs : List ℕ) → Holds q actors crashed rs cs → (number p : ℕ) (more : Bool) → number ≡ suc p → runs actors crashed (get_or rs p 0) ≡ false → Holds q actors crashed rs (cond more (one_more cs number) (one_less cs number))
+  change_not q rs cs h number p true is e = subst (λ n. Holds q actors crashed rs (one_more cs n)) (sym is) (holds_not q rs cs h p (get_or cs p 0 + 1) e)
+  change_not q rs cs h number p false is e = subst (λ n. Holds q actors crashed rs (one_less cs n)) (sym is) (holds_not q rs cs h p (get_or cs p 0 - 1) e)

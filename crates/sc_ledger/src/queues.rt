@@ -1,0 +1,133 @@
+//! Pending mail per actor, so that the first of it is found at once.
+ghost use Rattle.std.specs.Prelude.{◌≡◌, ◌<◌, ◌≤◌, ◌+◌, ◌-◌, ◌^◌, ◌++◌, ◌∷◌, [], ℕ, None, IfOk, OnOk, IfSome, List, true, nat_eq, length, map, replicate, slice_index, slice_index_or, slice_set, if◌then◌else◌};
+ghost use Rattle.std.specs.Map.{lookup};
+ghost use Rattle.sc_actor.specs.Mail.{one_less, one_more, counts_at, is_crash};
+ghost use Rattle.sc_ledger.specs.Queues.{Holds};
+
+use crate::copies::{Copies, recount};
+use crate::finding::runs;
+use indexmap::IndexMap;
+use sc_actor::{Event, Parcel};
+use sc_base::OutOfMemory;
+use std::alloc::Global;
+
+/// The pending mail of all, and of each actor from 1 on.
+#[derive(Drop)]
+pub struct Queues {
+    pub(crate) all: Copies,
+    pub(crate) each: Vec<Copies>,
+}
+
+impl Queues {
+    ghost use Rattle.sc_ledger.specs.Queues.{Holds, kept, recounted, open_entries};
+
+    /// Empty queues for so many actors.
+    pub(crate) fn new(alloc: Global, actors: u32) -> Result<Queues, OutOfMemory>
+        ensures { IfOk result (λ q. Holds q actors [] [] []) }
+    {
+        let mut each = Vec::new(alloc);
+        for i in 0..actors {
+            let _ = i;
+            each.push(IndexMap::new(alloc))?;
+        }
+        let all = IndexMap::new(alloc);
+        Ok(Queues { all, each })
+    }
+
+    // A mail to this receiver has `count` copies now.
+    fn set_copies(
+        &mut self,
+        receiver: u32,
+        number: u32,
+        back: bool,
+        count: u32,
+    ) -> Result<(), OutOfMemory>
+        requires receiver { (0 < receiver) × (receiver ≤ length self.old.each.items) }
+        requires all { back ≡ true → lookup (nat_eq number) self.old.all.entries ≡ None }
+        requires own { back ≡ true → lookup (nat_eq number) (slice_index_or (kept self.old) (receiver - 1) []) ≡ None }
+        ensures all { OnOk result (self.new.all.entries ≡ recounted self.old.all.entries number back count) }
+        ensures each { OnOk result (kept self.new ≡ slice_set (kept self.old) (receiver - 1) (recounted (slice_index_or (kept self.old) (receiver - 1) []) number back count)) }
+    {
+        recount(&mut self.all, number, back, count)?;
+        let own = &mut self.each[receiver as usize - 1];
+        recount(own, number, back, count)
+    }
+
+    // The mail with this number has one copy more, or one less where it has any.
+    fn change(
+        &mut self,
+        actors: u32,
+        crashed: &[u32],
+        receivers: &[u32],
+        counts: &[u32],
+        number: u32,
+        more: bool,
+    ) -> Result<(), OutOfMemory>
+        requires holds { Holds self.old actors crashed.now receivers.now counts.now }
+        requires same { length counts.now ≡ length receivers.now }
+        requires small { (i : ℕ) → slice_index counts.now i < 2 ^ 32 - 1 }
+        ensures { OnOk result (Holds self.new actors crashed.now receivers.now (if more then one_more counts.now number else one_less counts.now number)) }
+    {
+        if number == 0 || number as usize > counts.len() {
+            return Ok(());
+        }
+        let place = number as usize - 1;
+        let receiver = receivers[place];
+        if !runs(actors, crashed, receiver) {
+            return Ok(());
+        }
+        let before = counts[place];
+        if more {
+            self.set_copies(receiver, number, before == 0, before + 1)
+        } else {
+            self.set_copies(receiver, number, false, before.saturating_sub(1))
+        }
+    }
+
+    // One more mail was sent.
+    fn add(
+        &mut self,
+        actors: u32,
+        crashed: &[u32],
+        number: u32,
+        receiver: u32,
+    ) -> Result<(), OutOfMemory>
+        requires { length (kept self.old) ≡ actors }
+        ensures { OnOk result ((receivers counts : List ℕ) → Holds self.old actors crashed.now receivers counts → length counts ≡ length receivers → number ≡ 1 + length receivers → Holds self.new actors crashed.now (receivers ++ receiver ∷ []) (counts ++ 1 ∷ [])) }
+    {
+        if !runs(actors, crashed, receiver) {
+            return Ok(());
+        }
+        self.set_copies(receiver, number, false, 1)
+    }
+}
+
+/// The queues after an event. None for want of memory.
+pub(crate) fn after_event<O>(
+    queues: Option<Queues>,
+    actors: u32,
+    crashed: &[u32],
+    receivers: &[u32],
+    counts: &[u32],
+    event: &Event<O>,
+) -> Option<Queues>
+    requires holds { IfSome queues (λ q. Holds q actors crashed.now receivers.now counts.now) }
+    requires same { length counts.now ≡ length receivers.now }
+    requires small { (i : ℕ) → slice_index counts.now i < 2 ^ 32 - 1 }
+    ensures { IfSome result (λ q. Holds q actors crashed.now receivers.now (counts_at counts.now event.now)) }
+{
+    let Some(mut queues) = queues else {
+        return None;
+    };
+    let changed = match event {
+        Event::Deliver(number) | Event::Drop(number) => {
+            queues.change(actors, crashed, receivers, counts, *number, false)
+        }
+        Event::Again(number) => queues.change(actors, crashed, receivers, counts, *number, true),
+        _ => Ok(()),
+    };
+    match changed {
+        Ok(()) => Some(queues),
+        Err(_) => None,
+    }
+}
