@@ -196,7 +196,7 @@ open_same test other same n (r ∷ rs) (c ∷ cs) = λ i. head (same r i && nat_
 
 -- a list of which one element is changed, seen through a function
 module _ {A E : Type 0} (f : A → E) where
-  map_set : (xs : List A) (i : ℕ) (x : A) → map f (set xs i x) ≡ set (map f xs) i (f x)
+  pub map_set : (xs : List A) (i : ℕ) (x : A) → map f (set xs i x) ≡ set (map f xs) i (f x)
   map_set [] i x = refl
   map_set (y ∷ xs) zero x = refl
   map_set (y ∷ xs) (suc i) x = ap (λ l. f y ∷ l) (map_set xs i x)

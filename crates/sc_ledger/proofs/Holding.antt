@@ -1,15 +1,18 @@
 -- The queues hold what is pending, as counts change and mail is sent.
-use Rattle.std.proofs.Common.{◌≡◌, ◌≢◌, ℕ, zero, suc, ◌+◌, ◌-◌, ◌<◌, ◌≤◌, eqb, nat_eq, List, [], ◌∷◌, ◌++◌, length, Bool, true, false, cond, ◌&&◌, ◌||◌, get_or, set, refl, sym, ap, ◌∙◌, subst, arith, ne_eqb, eq-eqb, get_or-set_other, get_or-set_same, None, true≢false, Result, Ok, Err, OnOk}
+use Rattle.std.proofs.Common.{◌≡◌, ◌≢◌, ℕ, zero, suc, ◌+◌, ◌-◌, ◌<◌, ◌≤◌, eqb, nat_eq, List, [], ◌∷◌, ◌++◌, length, Bool, true, false, cond, ◌&&◌, ◌||◌, not, nat_lt, take, length-take-le, add-one, get_or, set, refl, sym, ap, ◌∙◌, subst, arith, ne_eqb, eq-eqb, get_or-set_other, get_or-set_same, None, true≢false, Result, Ok, Err, OnOk}
 use mathlib.Core.Logic.{dite}
 use native.Mathlib.Decide.{ℕ_discrete}
 use Rattle.std.proofs.lemmas.List.{set_past, length-set}
 use Rattle.std.proofs.lemmas.Bool.{ltb-true, and_parts, eqb-true, eqb-false}
 use Rattle.sc_actor.specs.Mail.{one_less, one_more}
-use Rattle.std.specs.Map.{lookup}
+use Rattle.std.specs.Map.{lookup, remove_entry}
+use Rattle.std.specs.List.{list_any}
+use Rattle.std.proofs.lemmas.List.Folds.{list_any-append}
+use Rattle.indexmap.specs.IndexMap.{insert_entry}
 use Rattle.sc_ledger.specs.declared.queues.Queues.{Queues}
 use Rattle.sc_ledger.specs.Kept.{runs, counts_for}
 use Rattle.sc_ledger.specs.Queues.{open_entries, recounted, kept, Holds}
-use Rattle.sc_ledger.proofs.Entries.{lookup_none, recounted_at, set_other, push_here, push_other}
+use Rattle.sc_ledger.proofs.Entries.{lookup_none, recounted_at, set_other, push_here, push_other, open_same, open_none}
 
 or_true : (b : Bool) → (true || b) ≡ true
 or_true b = refl
@@ -142,3 +145,89 @@ module _ (actors : ℕ) (crashed : List ℕ) where
   pub change_not : (q : Queues) (rs cs : List ℕ) → Holds q actors crashed rs cs → (number p : ℕ) (more : Bool) → number ≡ suc p → runs actors crashed (get_or rs p 0) ≡ false → Holds q actors crashed rs (cond more (one_more cs number) (one_less cs number))
   change_not q rs cs h number p true is e = subst (λ n. Holds q actors crashed rs (one_more cs n)) (sym is) (holds_not q rs cs h p (get_or cs p 0 + 1) e)
   change_not q rs cs h number p false is e = subst (λ n. Holds q actors crashed rs (one_less cs n)) (sym is) (holds_not q rs cs h p (get_or cs p 0 - 1) e)
+
+shuffle : (x y a e : Bool) → (x && (y && not (a || (e || false)))) ≡ ((x && (y && not a)) && not e)
+shuffle true true true e = refl
+shuffle true true false true = refl
+shuffle true true false false = refl
+shuffle true false a e = refl
+shuffle false y a e = refl
+
+and_true : (b : Bool) → b ≡ (b && true)
+and_true true = refl
+and_true false = refl
+
+module _ (actors : ℕ) (crashed : List ℕ) (who : ℕ) where
+  runs_after : (r : ℕ) → runs actors (crashed ++ who ∷ []) r ≡ (runs actors crashed r && not (eqb who r))
+  runs_after r =
+      ap (λ b. nat_lt 0 r && (nat_lt r (actors + 1) && not b)) (list_any-append (λ c. eqb c r) crashed (who ∷ []))
+      ∙ shuffle (nat_lt 0 r) (nat_lt r (actors + 1)) (list_any (λ c. eqb c r) crashed) (eqb who r)
+
+  not_own : (r : ℕ) → 0 < who → counts_for actors (crashed ++ who ∷ []) who r ≡ false
+  not_own r some = dite (ℕ_discrete r who)
+      (λ e. counts_not actors (crashed ++ who ∷ []) who r (runs_after r ∙ (ap (λ b. runs actors crashed r && not b) (eq-eqb who r (sym e)) ∙ and_none (runs actors crashed r))))
+      (λ ne. counts_apart actors (crashed ++ who ∷ []) who r some ne)
+    where
+      and_none : (b : Bool) → (b && not true) ≡ false
+      and_none true = refl
+      and_none false = refl
+
+  other_same : (w r : ℕ) → 0 < w → w ≢ who → counts_for actors crashed w r ≡ counts_for actors (crashed ++ who ∷ []) w r
+  other_same w r some ne = dite (ℕ_discrete r w)
+      (λ e. ap (λ b. (eqb w 0 || eqb r w) && b) (and_true (runs actors crashed r) ∙ (ap (λ b. runs actors crashed r && not b) (sym (ne_eqb who r (λ f. ne (sym (f ∙ e))))) ∙ sym (runs_after r))))
+      (λ apart. counts_apart actors crashed w r some apart ∙ sym (counts_apart actors (crashed ++ who ∷ []) w r some apart))
+
+  module _ (q t : Queues) (rs cs : List ℕ) (h : Holds q actors crashed rs cs) (all : t.all.entries ≡ open_entries (counts_for actors (crashed ++ who ∷ []) 0) 1 rs cs) where
+    other_each : (k : ℕ) → k < actors → suc k ≢ who → get_or (kept q) k [] ≡ open_entries (counts_for actors (crashed ++ who ∷ []) (suc k)) 1 rs cs
+    other_each k lt ne = h.each k lt ∙ open_same (counts_for actors crashed (suc k)) (counts_for actors (crashed ++ who ∷ []) (suc k)) (λ r. other_same (suc k) r (omega arith) ne) 1 rs cs
+
+    -- a crash of none of the actors
+    pub crash_out : kept t ≡ kept q → ((k : ℕ) → k < actors → suc k ≢ who) → Holds t actors (crashed ++ who ∷ []) rs cs
+    crash_out same out = record {
+      many = ap length same ∙ h.many;
+      all = all;
+      each = λ k lt. ap (λ l. get_or l k []) same ∙ other_each k lt (out k lt);
+    }
+
+    -- the crash of an actor
+    pub crash_own : 0 < who → kept t ≡ set (kept q) (who - 1) [] → Holds t actors (crashed ++ who ∷ []) rs cs
+    crash_own some each = record {
+      many = ap length each ∙ (length-set (kept q) (who - 1) [] ∙ h.many);
+      all = all;
+      each = λ k lt. ap (λ l. get_or l k []) each ∙ dite (ℕ_discrete k (who - 1))
+          (λ e. let here : who ≡ suc k = omega (arith, e, some) in
+          ap (λ n. get_or (set (kept q) n []) k []) (sym e)
+          ∙ (get_or-set_same (kept q) k [] [] (omega (arith, h.many))
+          ∙ sym (open_none (counts_for actors (crashed ++ who ∷ []) (suc k)) (λ r. subst (λ w. counts_for actors (crashed ++ who ∷ []) w r ≡ false) here (not_own r some)) 1 rs cs)))
+          (λ ne. get_or-set_other (kept q) (who - 1) k [] [] ne ∙ other_each k lt (λ e. ne (omega (arith, e))));
+    }
+
+-- what is pending of the mails so far, and one more
+module _ (test : ℕ → Bool) (i : ℕ) (rs cs : List ℕ) (lt : i < length rs) (same : length cs ≡ length rs) where
+  take_next : (ys : List ℕ) (k : ℕ) → k < length ys → take (suc k) ys ≡ take k ys ++ get_or ys k 0 ∷ []
+  take_next [] k l = absurd (omega arith)
+  take_next (y ∷ ys) zero l = refl
+  take_next (y ∷ ys) (suc k) l = ap (λ zs. y ∷ zs) (take_next ys k (omega arith))
+
+  longer_take : (xs : List ℕ) (j : ℕ) → j < length xs → take (j + 1) xs ≡ take j xs ++ get_or xs j 0 ∷ []
+  longer_take xs j inside = rw add-one (take_next xs j inside)
+
+  lengths : (length (take i rs) ≡ i) × (length (take i cs) ≡ i)
+  lengths = (length-take-le i rs (omega arith), length-take-le i cs (omega (arith, same)))
+
+  pub take_here : (all next : List (ℕ × ℕ)) (key : ℕ) → all ≡ open_entries test 1 (take i rs) (take i cs) → key ≡ i + 1 → (test (get_or rs i 0) && nat_lt 0 (get_or cs i 0)) ≡ true → next ≡ recounted all key false (get_or cs i 0) →
+      next ≡ open_entries test 1 (take (i + 1) rs) (take (i + 1) cs)
+  take_here all next key is number stays new =
+      let parts = and_parts _ _ stays in
+      let some : 0 < get_or cs i 0 = ltb-true 0 (get_or cs i 0) parts.1 in
+      new
+      ∙ (ap (λ b. cond b (remove_entry (nat_eq key) all) (insert_entry nat_eq all key (get_or cs i 0))) (ne_eqb (get_or cs i 0) 0 (omega (arith, some)))
+      ∙ (ap (λ es. insert_entry nat_eq es key (get_or cs i 0)) is
+      ∙ (push_here test key (get_or cs i 0) (get_or rs i 0) (take i rs) (take i cs) (omega (arith, number, lengths.0)) (lengths.1 ∙ sym lengths.0) parts.0 some
+      ∙ (λ j. open_entries test 1 (sym (longer_take rs i lt) j) (sym (longer_take cs i (omega (arith, lt, same))) j)))))
+
+  pub take_other : (all : List (ℕ × ℕ)) → all ≡ open_entries test 1 (take i rs) (take i cs) → (test (get_or rs i 0) && nat_lt 0 (get_or cs i 0)) ≡ false → all ≡ open_entries test 1 (take (i + 1) rs) (take (i + 1) cs)
+  take_other all is stays =
+      is
+      ∙ (sym (push_other test 1 (get_or cs i 0) (get_or rs i 0) (take i rs) (take i cs) (lengths.1 ∙ sym lengths.0) stays)
+      ∙ (λ j. open_entries test 1 (sym (longer_take rs i lt) j) (sym (longer_take cs i (omega (arith, lt, same))) j)))

@@ -1,8 +1,9 @@
 //! Pending mail per actor, so that the first of it is found at once.
-ghost use Rattle.std.specs.Prelude.{◌≡◌, ◌<◌, ◌≤◌, ◌+◌, ◌-◌, ◌^◌, ◌++◌, ◌∷◌, [], ℕ, None, IfOk, OnOk, IfSome, List, true, nat_eq, length, map, replicate, slice_index, slice_index_or, slice_set, if◌then◌else◌};
+ghost use Rattle.std.specs.Prelude.{◌≡◌, ◌<◌, ◌≤◌, ◌+◌, ◌-◌, ◌^◌, ◌++◌, ◌∷◌, [], ℕ, None, IfOk, OnOk, IfSome, List, true, nat_eq, nat_lt, ◌&&◌, length, map, replicate, slice_index, slice_index_or, slice_set, if◌then◌else◌};
 ghost use Rattle.std.specs.Map.{lookup};
 ghost use Rattle.sc_actor.specs.Mail.{one_less, one_more, counts_at, is_crash};
-ghost use Rattle.sc_ledger.specs.Queues.{Holds};
+ghost use Rattle.sc_ledger.specs.Kept.{counts_for};
+ghost use Rattle.sc_ledger.specs.Queues.{Holds, open_entries};
 
 use crate::copies::{Copies, recount};
 use crate::finding::runs;
@@ -19,7 +20,7 @@ pub struct Queues {
 }
 
 impl Queues {
-    ghost use Rattle.sc_ledger.specs.Queues.{Holds, kept, recounted, open_entries};
+    ghost use Rattle.sc_ledger.specs.Queues.{Holds, kept, recounted};
 
     /// Empty queues for so many actors.
     pub(crate) fn new(alloc: Global, actors: u32) -> Result<Queues, OutOfMemory>
@@ -100,6 +101,29 @@ impl Queues {
         }
         self.set_copies(receiver, number, false, 1)
     }
+
+    // The actor `who` has crashed.
+    fn crash(
+        &mut self,
+        alloc: Global,
+        actors: u32,
+        crashed: &[u32],
+        receivers: &[u32],
+        counts: &[u32],
+        who: u32,
+    ) -> Result<(), OutOfMemory>
+        requires holds { Holds self.old actors crashed.now receivers.now counts.now }
+        requires same { length counts.now ≡ length receivers.now }
+        requires few { length receivers.now < 2 ^ 32 - 1 }
+        ensures { OnOk result (Holds self.new actors (crashed.now ++ who ∷ []) receivers.now counts.now) }
+    {
+        self.all = without(alloc, actors, crashed, receivers, counts, who)?;
+        if 0 < who && who <= actors {
+            let own = &mut self.each[who as usize - 1];
+            own.clear();
+        }
+        Ok(())
+    }
 }
 
 /// The queues after an event. None for want of memory.
@@ -130,4 +154,88 @@ pub(crate) fn after_event<O>(
         Ok(()) => Some(queues),
         Err(_) => None,
     }
+}
+
+// Whether mail to this receiver is pending once `who` has crashed.
+fn stays(actors: u32, crashed: &[u32], who: u32, receiver: u32, count: u32) -> bool
+    ensures { result ≡ (counts_for actors (crashed.now ++ who ∷ []) 0 receiver && nat_lt 0 count) }
+{
+    count > 0 && receiver != who && runs(actors, crashed, receiver)
+}
+
+// All that is pending once `who` has crashed.
+fn without(
+    alloc: Global,
+    actors: u32,
+    crashed: &[u32],
+    receivers: &[u32],
+    counts: &[u32],
+    who: u32,
+) -> Result<Copies, OutOfMemory>
+    requires same { length counts.now ≡ length receivers.now }
+    requires few { length receivers.now < 2 ^ 32 - 1 }
+    ensures { IfOk result (λ all. all.entries ≡ open_entries (counts_for actors (crashed.now ++ who ∷ []) 0) 1 receivers.now counts.now) }
+{
+    let mut all = IndexMap::new(alloc);
+    for i in 0..receivers.len() {
+        if stays(actors, crashed, who, receivers[i], counts[i]) {
+            recount(&mut all, i as u32 + 1, false, counts[i])?;
+        }
+    }
+    Ok(all)
+}
+
+/// The queues after a crash, if the event is one. None for want of memory.
+pub(crate) fn after_crash<O>(
+    queues: Option<Queues>,
+    alloc: Global,
+    actors: u32,
+    crashed: &[u32],
+    receivers: &[u32],
+    counts: &[u32],
+    who: u32,
+    event: &Event<O>,
+) -> Option<Queues>
+    requires holds { IfSome queues (λ q. Holds q actors crashed.now receivers.now counts.now) }
+    requires same { length counts.now ≡ length receivers.now }
+    requires few { length receivers.now < 2 ^ 32 - 1 }
+    ensures { IfSome result (λ q. Holds q actors (crashed.now ++ (if is_crash event.now then who ∷ [] else [])) receivers.now counts.now) }
+{
+    let Some(mut queues) = queues else {
+        return None;
+    };
+    let Event::Crash = event else {
+        return Some(queues);
+    };
+    match queues.crash(alloc, actors, crashed, receivers, counts, who) {
+        Ok(()) => Some(queues),
+        Err(_) => None,
+    }
+}
+
+/// The queues once these mails were sent. None for want of memory.
+pub(crate) fn after_sent<M: Parcel>(
+    queues: Option<Queues>,
+    actors: u32,
+    crashed: &[u32],
+    receivers: &[u32],
+    counts: &[u32],
+    sent: &[M],
+) -> Option<Queues>
+    requires holds { IfSome queues (λ q. Holds q actors crashed.now receivers.now counts.now) }
+    requires same { length counts.now ≡ length receivers.now }
+    requires few { length receivers.now + length sent.now < 2 ^ 32 - 1 }
+    ensures { IfSome result (λ q. Holds q actors crashed.now (receivers.now ++ map M.receiver sent.now) (counts.now ++ replicate (length sent.now) 1)) }
+{
+    let Some(mut queues) = queues else {
+        return None;
+    };
+    let mut number = receivers.len() as u32;
+    for mail in sent {
+        number += 1;
+        if queues.add(actors, crashed, number, mail.to()).is_err() {
+            return None;
+        }
+    }
+    Some(queues)
 }
