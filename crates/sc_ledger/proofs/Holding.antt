@@ -1,5 +1,5 @@
 -- The queues hold what is pending, as counts change and mail is sent.
-use Rattle.std.proofs.Common.{◌≡◌, ◌≢◌, ℕ, zero, suc, ◌+◌, ◌-◌, ◌<◌, ◌≤◌, eqb, nat_eq, List, [], ◌∷◌, ◌++◌, length, Bool, true, false, cond, ◌&&◌, ◌||◌, not, nat_lt, take, length-take-le, add-one, get_or, set, refl, sym, ap, ◌∙◌, subst, arith, ne_eqb, eq-eqb, get_or-set_other, get_or-set_same, None, true≢false, Result, Ok, Err, OnOk}
+use Rattle.std.proofs.Common.{◌≡◌, ◌≢◌, ℕ, zero, suc, ◌+◌, ◌-◌, ◌<◌, ◌≤◌, eqb, nat_eq, List, [], ◌∷◌, ◌++◌, length, Bool, true, false, cond, ◌&&◌, ◌||◌, not, nat_lt, take, length-take-le, add-one, get_or, set, refl, sym, ap, ◌∙◌, subst, arith, ne_eqb, eq-eqb, get_or-set_other, get_or-set_same, None, Some, Option, true≢false, Result, Ok, Err, OnOk}
 use mathlib.Core.Logic.{dite}
 use native.Mathlib.Decide.{ℕ_discrete}
 use Rattle.std.proofs.lemmas.List.{set_past, length-set}
@@ -11,8 +11,11 @@ use Rattle.std.proofs.lemmas.List.Folds.{list_any-append}
 use Rattle.indexmap.specs.IndexMap.{insert_entry}
 use Rattle.sc_ledger.specs.declared.queues.Queues.{Queues}
 use Rattle.sc_ledger.specs.Kept.{runs, counts_for}
-use Rattle.sc_ledger.specs.Queues.{open_entries, recounted, kept, Holds}
-use Rattle.sc_ledger.proofs.Entries.{lookup_none, recounted_at, set_other, push_here, push_other, open_same, open_none}
+use Rattle.std.specs.Prelude.{IfSome}
+use Rattle.sc_actor.specs.Mail.{numbers}
+use Rattle.sc_actor.specs.System.{kth}
+use Rattle.sc_ledger.specs.Queues.{open_entries, copies_in, queue_of, recounted, kept, Holds}
+use Rattle.sc_ledger.proofs.Entries.{lookup_none, recounted_at, set_other, push_here, push_other, open_same, open_none, expand}
 
 or_true : (b : Bool) → (true || b) ≡ true
 or_true b = refl
@@ -231,3 +234,26 @@ module _ (test : ℕ → Bool) (i : ℕ) (rs cs : List ℕ) (lt : i < length rs)
       is
       ∙ (sym (push_other test 1 (get_or cs i 0) (get_or rs i 0) (take i rs) (take i cs) (lengths.1 ∙ sym lengths.0) stays)
       ∙ (λ j. open_entries test 1 (sym (longer_take rs i lt) j) (sym (longer_take cs i (omega (arith, lt, same))) j)))
+
+-- what is found in a queue is what a scan finds
+module _ (q : Queues) (actors : ℕ) (crashed rs cs : List ℕ) (h : Holds q actors crashed rs cs) where
+  queue_is : (who : ℕ) → who ≤ actors → copies_in (queue_of q who) ≡ numbers (counts_for actors crashed who) 1 rs cs
+  queue_is zero within = ap copies_in h.all ∙ expand (counts_for actors crashed 0) 1 rs cs
+  queue_is (suc w) within =
+      let back : suc w - 1 ≡ w = omega arith in
+      ap (λ b. copies_in (cond b q.all.entries (get_or (kept q) (suc w - 1) []))) (ne_eqb (suc w) 0 (omega arith))
+      ∙ (ap (λ k. copies_in (get_or (kept q) k [])) back
+      ∙ (ap copies_in (h.each w (omega arith)) ∙ expand (counts_for actors crashed (suc w)) 1 rs cs))
+
+  pub queue_kth : (who k number : ℕ) (found : Option ℕ) → number ≡ actors → who ≤ number → found ≡ kth (copies_in (queue_of q who)) k → found ≡ kth (numbers (counts_for number crashed who) 1 rs cs) k
+  queue_kth who k number found same within is =
+      is ∙ (ap (λ l. kth l k) (queue_is who (subst (λ n. who ≤ n) same within)) ∙ ap (λ n. kth (numbers (counts_for n crashed who) 1 rs cs) k) (sym same))
+
+  pub queue_all : (number : ℕ) → number ≡ actors → copies_in q.all.entries ≡ numbers (counts_for number crashed 0) 1 rs cs
+  queue_all number same = queue_is 0 (omega arith) ∙ ap (λ n. numbers (counts_for n crashed 0) 1 rs cs) (sym same)
+
+pub held : (queues : Option Queues) (q : Queues) (actors : ℕ) (crashed rs cs : List ℕ) → queues ≡ Some q → IfSome queues (λ x. Holds x actors crashed rs cs) → Holds q actors crashed rs cs
+held queues q actors crashed rs cs is h = subst (λ x. IfSome x (λ y. Holds y actors crashed rs cs)) is h
+
+pub held_same : (queues : Option Queues) (actors : ℕ) (crashed rs cs crashed' rs' cs' : List ℕ) → crashed' ≡ crashed → rs' ≡ rs → cs' ≡ cs → IfSome queues (λ x. Holds x actors crashed rs cs) → IfSome queues (λ x. Holds x actors crashed' rs' cs')
+held_same queues actors crashed rs cs crashed' rs' cs' c r n h = subst (λ l. IfSome queues (λ x. Holds x actors l rs' cs')) (sym c) (subst (λ l. IfSome queues (λ x. Holds x actors crashed l cs')) (sym r) (subst (λ l. IfSome queues (λ x. Holds x actors crashed rs l)) (sym n) h))

@@ -37,3 +37,7 @@ pub record Holds (q : Queues) (actors : ℕ) (crashed receivers counts : List �
   pub many : length (kept q) ≡ actors
   pub all : q.all.entries ≡ open_entries (counts_for actors crashed 0) 1 receivers counts
   pub each : (k : ℕ) → k < actors → slice_index_or (kept q) k [] ≡ open_entries (counts_for actors crashed (suc k)) 1 receivers counts
+
+-- the entries of an actor's queue, or of that of all where the number is 0
+abbrev pub queue_of : Queues → ℕ → List (ℕ × ℕ)
+queue_of q who = if who == 0 then q.all.entries else slice_index_or (kept q) (who - 1) []

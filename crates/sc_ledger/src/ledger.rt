@@ -1,15 +1,20 @@
 //! The ledger.
 ghost use Rattle.std.specs.Prelude.{◌≡◌, ◌<◌, ◌≤◌, ◌+◌, ◌^◌, ◌++◌, ◌∷◌, [], map, length, Some, All, IfOk, OnOk, IfErr, IfSome, IsSome, vec_len, vec_capacity};
-ghost use Rattle.sc_actor.specs.Mail.{mails, copies, numbered};
+ghost use Rattle.std.proofs.Props.{props};
+ghost use Rattle.sc_actor.specs.Mail.{mails, copies, numbered, numbers};
+ghost use Rattle.sc_actor.specs.System.{kth};
 ghost use Rattle.sc_actor.specs.Counted.{row_bytes, journal_bytes};
 ghost use Rattle.sc_ledger.specs.Fault.{IsCause};
-ghost use Rattle.sc_ledger.specs.Kept.{crashed_in};
+ghost use Rattle.sc_ledger.specs.Kept.{crashed_in, counts_for};
 ghost use Rattle.sc_ledger.specs.Pending.{kth_pending, is_pending, may_repeat};
+ghost use Rattle.sc_ledger.specs.Queues.{Holds};
 ghost use Rattle.sc_ledger.specs.Spots.{spots_of};
 
-use crate::counting::{add_counts, add_crash, add_receivers, bytes_with, count_event};
+use crate::copies::numbers_in;
+use crate::counting::bytes_with;
 use crate::faults::{PostFault, Unkept};
 use crate::finding::{has_copy, kth_open, mail_at, open_numbers, runs};
+use crate::queues::{Queues, note_row};
 use crate::spots::{Look, spots_from};
 use sc_actor::{Parcel, Row};
 use sc_base::OutOfMemory;
@@ -24,16 +29,21 @@ pub struct Ledger<M: Parcel + Drop, O: Drop> {
     counts: Vec<u32>,
     receivers: Vec<u32>,
     crashed: Vec<u32>,
+    // What is pending, by actor, for this many of them. None once there was no memory for it; then it is found by a scan.
+    queues: Option<Queues>,
+    actors: u32,
+    alloc: Global,
     ghost small: { bytes ≤ 2 ^ 30 },
     ghost counted: { bytes ≡ journal_bytes M.weighs rows.items },
     ghost under_way: { counts.items ≡ copies rows.items },
     ghost sent_to: { receivers.items ≡ map M.receiver (mails rows.items) },
     ghost gone: { crashed.items ≡ crashed_in rows.items },
+    ghost queued: { IfSome queues (λ q. Holds q actors crashed.items receivers.items counts.items) } by { Prim.hlevel props },
 }
 
 impl<M: Parcel + Drop, O: Drop> Ledger<M, O> {
-    /// The empty ledger. It takes no memory yet.
-    pub fn new(alloc: Global) -> Ledger<M, O>
+    /// The empty ledger of so many actors. They have the numbers from 1 to `actors`, here and below.
+    pub fn new(alloc: Global, actors: u32) -> Ledger<M, O>
         ensures { result.rows.items ≡ [] }
     {
         Ledger {
@@ -42,6 +52,9 @@ impl<M: Parcel + Drop, O: Drop> Ledger<M, O> {
             counts: Vec::new(alloc),
             receivers: Vec::new(alloc),
             crashed: Vec::new(alloc),
+            queues: new_queues(alloc, actors),
+            actors,
+            alloc,
         }
     }
 
@@ -67,12 +80,25 @@ impl<M: Parcel + Drop, O: Drop> Ledger<M, O> {
         self.bytes
     }
 
-    /// The number of the k-th pending mail of an actor, or of all where `who` is 0. The actors have the numbers from 1 to `actors`, here and below.
+    /// The number of the k-th pending mail of an actor, or of all where `who` is 0. For the actors of this ledger it is found without a scan.
     pub fn kth(&self, actors: u32, who: u32, k: u32) -> Option<u32>
         requires { 0 < k }
         ensures kth { result ≡ kth_pending M.receiver actors self.now.rows.items who k }
         ensures sent { IfSome result (λ number. IsSome (numbered (mails self.now.rows.items) number)) }
     {
+        self.find(actors, who, k)
+    }
+
+    // The queues, where they are those of so many actors.
+    fn find(&self, actors: u32, who: u32, k: u32) -> Option<u32>
+        requires { 0 < k }
+        ensures { result ≡ kth (numbers (counts_for actors self.now.crashed.items who) 1 self.now.receivers.items self.now.counts.items) k }
+    {
+        if let Some(queues) = &self.queues {
+            if actors == self.actors && who <= actors {
+                return queues.kth(who, k);
+            }
+        }
         kth_open(
             self.receivers.as_slice(),
             self.counts.as_slice(),
@@ -80,6 +106,24 @@ impl<M: Parcel + Drop, O: Drop> Ledger<M, O> {
             self.crashed.as_slice(),
             who,
             k,
+        )
+    }
+
+    // The numbers of all pending mail, each as often as it has copies.
+    fn find_all(&self, alloc: Global, actors: u32) -> Result<Vec<u32>, OutOfMemory>
+        ensures { IfOk result (λ found. found.items ≡ numbers (counts_for actors self.now.crashed.items 0) 1 self.now.receivers.items self.now.counts.items) }
+    {
+        if let Some(queues) = &self.queues {
+            if actors == self.actors {
+                return numbers_in(alloc, &queues.all);
+            }
+        }
+        open_numbers(
+            alloc,
+            self.receivers.as_slice(),
+            self.counts.as_slice(),
+            actors,
+            self.crashed.as_slice(),
         )
     }
 
@@ -117,14 +161,8 @@ impl<M: Parcel + Drop, O: Drop> Ledger<M, O> {
         ensures spots { IfOk result (λ look. look.pending ≡ spots_of M.receiver actors self.now.rows.items) }
         ensures each { IfOk result (λ look. All (λ spot. kth_pending M.receiver actors self.now.rows.items spot.who spot.k ≡ Some spot.number) look.pending) }
     {
+        let numbers = self.find_all(alloc, actors)?;
         let receivers = self.receivers.as_slice();
-        let numbers = open_numbers(
-            alloc,
-            receivers,
-            self.counts.as_slice(),
-            actors,
-            self.crashed.as_slice(),
-        )?;
         let pending = spots_from(alloc, receivers, numbers.as_slice())?;
         let sent = receivers.len() as u32;
         Ok(Look { sent, pending })
@@ -155,10 +193,16 @@ impl<M: Parcel + Drop, O: Drop> Ledger<M, O> {
         requires crashed { vec_len self.old.crashed + 1 ≤ vec_capacity self.old.crashed }
         ensures { self.new.rows.items ≡ self.old.rows.items ++ row ∷ [] }
     {
-        count_event(&mut self.counts, &row.event);
-        add_counts(&mut self.counts, row.sent.len());
-        add_receivers(&mut self.receivers, row.sent.as_slice());
-        add_crash(&mut self.crashed, row.who, &row.event);
+        let queues = self.queues.take();
+        self.queues = note_row(
+            queues,
+            self.alloc,
+            self.actors,
+            &mut self.counts,
+            &mut self.receivers,
+            &mut self.crashed,
+            &row,
+        );
         self.bytes = bytes;
         self.rows.push_reserved(row);
     }
@@ -181,5 +225,14 @@ impl<M: Parcel + Drop, O: Drop> Ledger<M, O> {
         }
         self.keep(row, bytes);
         Ok(())
+    }
+}
+
+fn new_queues(alloc: Global, actors: u32) -> Option<Queues>
+    ensures { IfSome result (λ q. Holds q actors [] [] []) }
+{
+    match Queues::new(alloc, actors) {
+        Ok(queues) => Some(queues),
+        Err(_) => None,
     }
 }

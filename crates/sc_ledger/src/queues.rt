@@ -1,14 +1,16 @@
 //! Pending mail per actor, so that the first of it is found at once.
-ghost use Rattle.std.specs.Prelude.{◌≡◌, ◌<◌, ◌≤◌, ◌+◌, ◌-◌, ◌^◌, ◌++◌, ◌∷◌, [], ℕ, None, IfOk, OnOk, IfSome, List, true, nat_eq, nat_lt, ◌&&◌, length, map, replicate, slice_index, slice_index_or, slice_set, if◌then◌else◌};
+ghost use Rattle.std.specs.Prelude.{◌≡◌, ◌<◌, ◌≤◌, ◌+◌, ◌-◌, ◌^◌, ◌++◌, ◌∷◌, [], ℕ, None, IfOk, OnOk, IfSome, List, true, nat_eq, nat_lt, ◌&&◌, length, map, replicate, slice_index, slice_index_or, slice_set, vec_len, vec_capacity, if◌then◌else◌};
 ghost use Rattle.std.specs.Map.{lookup};
 ghost use Rattle.sc_actor.specs.Mail.{one_less, one_more, counts_at, is_crash};
 ghost use Rattle.sc_ledger.specs.Kept.{counts_for};
-ghost use Rattle.sc_ledger.specs.Queues.{Holds, open_entries};
+ghost use Rattle.sc_actor.specs.System.{kth};
+ghost use Rattle.sc_ledger.specs.Queues.{Holds, copies_in, open_entries};
 
-use crate::copies::{Copies, recount};
+use crate::copies::{Copies, kth_in, recount};
+use crate::counting::{add_counts, add_crash, add_receivers, count_event};
 use crate::finding::runs;
 use indexmap::IndexMap;
-use sc_actor::{Event, Parcel};
+use sc_actor::{Event, Parcel, Row};
 use sc_base::OutOfMemory;
 use std::alloc::Global;
 
@@ -20,7 +22,7 @@ pub struct Queues {
 }
 
 impl Queues {
-    ghost use Rattle.sc_ledger.specs.Queues.{Holds, kept, recounted};
+    ghost use Rattle.sc_ledger.specs.Queues.{Holds, kept, queue_of, recounted};
 
     /// Empty queues for so many actors.
     pub(crate) fn new(alloc: Global, actors: u32) -> Result<Queues, OutOfMemory>
@@ -33,6 +35,18 @@ impl Queues {
         }
         let all = IndexMap::new(alloc);
         Ok(Queues { all, each })
+    }
+
+    /// The number of the k-th pending mail of an actor, or of all where `who` is 0.
+    pub(crate) fn kth(&self, who: u32, k: u32) -> Option<u32>
+        requires who { who ≤ length self.now.each.items }
+        requires first { 0 < k }
+        ensures { result ≡ kth (copies_in (queue_of self.now who)) k }
+    {
+        if who == 0 {
+            return kth_in(&self.all, k);
+        }
+        kth_in(&self.each[who as usize - 1], k)
     }
 
     // A mail to this receiver has `count` copies now.
@@ -238,4 +252,61 @@ pub(crate) fn after_sent<M: Parcel>(
         }
     }
     Some(queues)
+}
+
+/// Notes a row in what is kept beside the rows, and in the queues. None for want of memory for these.
+pub(crate) fn note_row<M: Parcel, O>(
+    queues: Option<Queues>,
+    alloc: Global,
+    actors: u32,
+    counts: &mut Vec<u32>,
+    receivers: &mut Vec<u32>,
+    crashed: &mut Vec<u32>,
+    row: &Row<M, O>,
+) -> Option<Queues>
+    requires holds { IfSome queues (λ q. Holds q actors crashed.old.items receivers.old.items counts.old.items) }
+    requires same { length counts.old.items ≡ length receivers.old.items }
+    requires small { (i : ℕ) → slice_index counts.old.items i < 2 ^ 32 - 1 }
+    requires few { length receivers.old.items + length row.now.sent < 2 ^ 32 - 1 }
+    requires counts { vec_len counts.old + length row.now.sent ≤ vec_capacity counts.old }
+    requires receivers { vec_len receivers.old + length row.now.sent ≤ vec_capacity receivers.old }
+    requires crashed { vec_len crashed.old + 1 ≤ vec_capacity crashed.old }
+    ensures holds { IfSome result (λ q. Holds q actors crashed.new.items receivers.new.items counts.new.items) }
+    ensures counts { counts.new.items ≡ counts_at counts.old.items row.now.event ++ replicate (length row.now.sent) 1 }
+    ensures receivers { receivers.new.items ≡ receivers.old.items ++ map M.receiver row.now.sent }
+    ensures crashed { crashed.new.items ≡ crashed.old.items ++ (if is_crash row.now.event then row.now.who ∷ [] else []) }
+{
+    let event = &row.event;
+    let sent = row.sent.as_slice();
+    let queues = after_event(
+        queues,
+        actors,
+        crashed.as_slice(),
+        receivers.as_slice(),
+        counts.as_slice(),
+        event,
+    );
+    count_event(counts, event);
+    let queues = after_crash(
+        queues,
+        alloc,
+        actors,
+        crashed.as_slice(),
+        receivers.as_slice(),
+        counts.as_slice(),
+        row.who,
+        event,
+    );
+    add_crash(crashed, row.who, event);
+    let queues = after_sent(
+        queues,
+        actors,
+        crashed.as_slice(),
+        receivers.as_slice(),
+        counts.as_slice(),
+        sent,
+    );
+    add_counts(counts, sent.len());
+    add_receivers(receivers, sent);
+    queues
 }
