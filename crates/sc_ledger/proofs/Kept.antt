@@ -144,3 +144,14 @@ pub few_after : {M O : Type 0} (weighs receiver : M → ℕ) (rows : List (Row M
 few_after weighs receiver rows row receivers r bytes limit is fits most =
     let l : length receivers ≡ length (mails rows) = ap length r ∙ length-map (mails rows) receiver in
     omega (arith, few_rows weighs rows, mails_bytes weighs row.sent, l, is)
+
+pub sent_length : {M O : Type 0} (receiver : M → ℕ) (rows : List (Row M O)) (receivers : List ℕ) → receivers ≡ map receiver (mails rows) → length receivers ≡ length (mails rows)
+sent_length receiver rows receivers r = ap length r ∙ length-map (mails rows) receiver
+
+pub small_taken : {M O : Type 0} (rows first : List (Row M O)) (counts : List ℕ) → counts ≡ copies first → length first ≤ length rows → length rows < 4294967295 → (i : ℕ) → get_or counts i 0 < 4294967295
+small_taken rows first counts is few most i =
+    let c : get_or counts i 0 ≡ get_or (copies first) i 0 = ap (λ l. get_or l i 0) is in
+    omega (arith, few_copies first i, few, most, c)
+
+pub mails_few : {M O : Type 0} (weighs : M → ℕ) (rows : List (Row M O)) (bytes : ℕ) → bytes ≡ journal_bytes weighs rows → bytes ≤ 1073741824 → (length rows < 4294967295) × (length (mails rows) < 4294967295)
+mails_few weighs rows bytes is fits = (omega (arith, few_rows weighs rows, is, fits), omega (arith, few_rows weighs rows, is, fits))

@@ -5,3 +5,4 @@ pub mod Rows
 pub mod Spotting
 pub mod Entries
 pub mod Holding
+pub mod Homing

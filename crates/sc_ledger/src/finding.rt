@@ -1,12 +1,11 @@
 //! Looks for pending mail.
-ghost use Rattle.std.specs.Prelude.{◌≡◌, ◌<◌, ◌+◌, ◌-◌, ◌^◌, ◌==◌, ◌++◌, length, replicate, nat_lt, IfOk, OnOk, slice_get, slice_index, if◌then◌else◌};
+ghost use Rattle.std.specs.Prelude.{◌≡◌, ◌<◌, ◌+◌, ◌-◌, ◌^◌, ◌==◌, ◌++◌, length, replicate, nat_lt, IfOk, OnOk, slice_index, if◌then◌else◌};
 ghost use Rattle.std.specs.List.{list_any};
-ghost use Rattle.sc_actor.specs.Mail.{numbers, mails};
+ghost use Rattle.sc_actor.specs.Mail.{numbers};
 ghost use Rattle.sc_actor.specs.System.{kth};
 ghost use Rattle.sc_ledger.specs.Kept.{runs, counts_for};
 
-use sc_actor::Row;
-use sc_base::{Dup, OutOfMemory};
+use sc_base::OutOfMemory;
 use std::alloc::Global;
 
 fn is_among(crashed: &[u32], who: u32) -> bool
@@ -102,22 +101,4 @@ pub(crate) fn open_numbers(
         add_copies(&mut found, i as u32 + 1, count)?;
     }
     Ok(found)
-}
-
-/// A copy of the mail at a place among all that was sent.
-pub(crate) fn mail_at<M: Dup, O>(
-    rows: &[Row<M, O>],
-    alloc: Global,
-    place: usize,
-) -> Result<Option<M>, OutOfMemory>
-    ensures { IfOk result (λ found. found ≡ slice_get (mails rows.now) place) }
-{
-    let mut left = place;
-    for row in rows {
-        if left < row.sent.len() {
-            return Ok(Some(row.sent.at(left).dup(alloc)?));
-        }
-        left -= row.sent.len();
-    }
-    Ok(None)
 }

@@ -6,6 +6,7 @@ mod counting;
 mod faults;
 mod finding;
 mod ledger;
+mod plain;
 mod queues;
 mod spots;
 
