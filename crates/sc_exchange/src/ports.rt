@@ -49,7 +49,7 @@ impl<M: Parcel + Drop, O: Drop> Port<M, O> {
         ensures { IfOk result (λ p. (seen p ≡ []) × (made p ≡ []) × (given p ≡ []) × (joined p ≡ []) × (p.who ≡ 0) × (p.actors ≡ actors) × (p.limit ≡ limit) × (p.fetched ≡ None) × (p.crashed ≡ false)) }
     {
         Ok(Port {
-            seat: TurnSeat::start(alloc, Exchange::new(alloc))?,
+            seat: TurnSeat::start(alloc, Exchange::new(alloc, actors))?,
             alloc,
             who: 0,
             actors,
