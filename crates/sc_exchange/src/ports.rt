@@ -195,13 +195,25 @@ impl<M: Parcel + Drop, O: Drop> Port<M, O> {
         look_at(rt, self.alloc, &mut self.seat, self.actors)
     }
 
-    /// Two ports of one exchange tell each other: afterwards what each has seen begins with what the two had seen before.
+    /// Two ports of one exchange tell each other: afterwards what each has seen begins with what the two had seen before, and what `other` has seen begins with what this port has.
     pub fn meet<R: Wait>(&mut self, rt: &R, other: &mut Port<M, O>) -> Result<(), OutOfMemory>
         requires { SameExchange self.old other.old }
         ensures mine { Looked self.old self.new × Begins (seen self.new) (seen other.old) × IsTrue self.new × (self.new.fetched ≡ self.old.fetched) × (self.new.crashed ≡ self.old.crashed) }
         ensures theirs { Looked other.old other.new × Begins (seen other.new) (seen self.old) × IsTrue other.new × (other.new.fetched ≡ other.old.fetched) × (other.new.crashed ≡ other.old.crashed) }
+        ensures last { Begins (seen other.new) (seen self.new) }
     {
         self.seat.meet(rt, &mut other.seat)
+    }
+
+    /// Vouches for what the other port has seen, which begins with what this port has seen: the rows of this port's number in it are exactly those that this port made. Neither port sees more by it.
+    pub fn vouch(&mut self, other: &mut Port<M, O>)
+        requires one { SameExchange self.old other.old }
+        requires later { Begins (seen other.old) (seen self.old) }
+        ensures mine { Looked self.old self.new × (seen self.new ≡ seen self.old) × (self.new.fetched ≡ self.old.fetched) × (self.new.crashed ≡ self.old.crashed) }
+        ensures theirs { Looked other.old other.new × (seen other.new ≡ seen other.old) × (other.new.fetched ≡ other.old.fetched) × (other.new.crashed ≡ other.old.crashed) }
+        ensures own { rows_of self.old.who (seen other.new) ≡ made self.new }
+    {
+        self.seat.vouch(&mut other.seat);
     }
 
     /// The network's port takes in another port of the exchange, keeps the longer of what the two have seen, and knows what the other made.

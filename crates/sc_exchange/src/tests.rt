@@ -1,8 +1,8 @@
 //! Ports of the network and of two actors.
-ghost use Rattle.std.specs.Prelude.{◌≡◌, ◌≢◌, ◌<◌, false, IfOk};
+ghost use Rattle.std.specs.Prelude.{◌≡◌, ◌≢◌, ◌<◌, ◌++◌, ◌∷◌, [], false, map, IfOk};
 ghost use Rattle.std.specs.Thread.{IsSync};
 ghost use Rattle.sc_actor.specs.Mail.{is_crash};
-ghost use Rattle.sc_exchange.specs.Ports.{Stays, MayPost, SameExchange};
+ghost use Rattle.sc_exchange.specs.Ports.{Stays, MayPost, SameExchange, given, joined};
 
 use crate::answers::Fetched;
 use crate::ports::Port;
@@ -181,6 +181,13 @@ fn by_two<R: Threads + Wait + Sync>(
     Ok((a, b))
 }
 
+fn take_in(net: &mut Port<Note, u32>, other: Port<Note, u32>)
+    requires { (net.old.who ≡ 0) × SameExchange net.old other }
+    ensures { SameExchange net.old net.new × (net.new.who ≡ 0) × (given net.new ≡ given net.old) × (map (λ k. k.0) (joined net.new) ≡ map (λ k. k.0) (joined net.old) ++ other.who ∷ []) }
+{
+    net.join(other);
+}
+
 fn two_work<R: Threads + Wait + Sync>(
     rt: &R,
     alloc: Global,
@@ -189,8 +196,8 @@ fn two_work<R: Threads + Wait + Sync>(
     let one = net.split(1)?;
     let two = net.split(2)?;
     let (one, two) = by_two(rt, alloc, one, two)?;
-    net.join(one);
-    net.join(two);
+    take_in(&mut net, one);
+    take_in(&mut net, two);
     Ok(net.close(rt))
 }
 

@@ -28,3 +28,6 @@ invariant_of-self-clause-own g c = let s = c.args.self.now in own_met (known s.s
 
 pub invariant_of-other-clause-own : goal.invariant_of-other-clause-own
 invariant_of-other-clause-own g c = let s = c.args.other.now in own_met (known s.seat) (known c.meet.new.other) s.who s.number c.meet.ensures.view.1 c.meet.ensures.facts.1
+
+pub returns-clause-last : goal.returns-clause-last
+returns-clause-last g c = begins_rows _ _ c.meet.ensures.last
