@@ -1,8 +1,8 @@
 -- What a clause says of a port, from what its seat knows.
-use Rattle.std.proofs.Common.{◌≡◌, ◌≢◌, ℕ, ◌<◌, zero, suc, Bool, true, false, List, [], ◌∷◌, ◌++◌, map, length, get_or, refl, sym, ap, ◌∙◌, subst, arith, Contains, MatchBool}
-use Rattle.std.proofs.lemmas.List.{map-append, length-map}
+use Rattle.std.proofs.Common.{◌≡◌, ◌≢◌, ℕ, ◌<◌, ◌≤◌, zero, suc, Bool, true, false, List, [], ◌∷◌, ◌++◌, map, length, get_or, eqb, cond, length-append, refl, sym, ap, ◌∙◌, subst, arith, Contains, MatchBool}
+use Rattle.std.proofs.lemmas.List.{map-append, length-map, append-nil}
 use Rattle.sc_turn.specs.declared.rule.View.{View}
-use Rattle.sc_turn.specs.Turn.{StartsWith, rows_by, with_seen, entered, IsTrueOf}
+use Rattle.sc_turn.specs.Turn.{StartsWith, rows_by, with_seen, entered, IsTrueOf, IsTrueOver}
 use Rattle.sc_turn.specs.Seats.{known, OfOneStart}
 use Rattle.sc_actor.specs.declared.rows.Row.{Row}
 use Rattle.sc_actor.specs.declared.actors.Parcel.{Ghosts}
@@ -11,7 +11,7 @@ use Rattle.sc_ledger.specs.declared.faults.PostFault.{PostFault}
 use Rattle.sc_ledger.specs.Fault.{IsCause}
 use Rattle.sc_exchange.specs.declared.deeds.Deed.{Deed}
 use Rattle.sc_exchange.specs.declared.ports.Port.{Port}
-use Rattle.sc_exchange.specs.Deeds.{deeds, row_by, rows_of}
+use Rattle.sc_exchange.specs.Deeds.{deeds, row_by, rows_from, rows_of}
 use Rattle.sc_exchange.specs.Turns.{Turned, RowTurned, Changed, may_change, change}
 use Rattle.sc_exchange.specs.Ports.{seen, made, Stays, Looked, Appended, ChangedBy, IsTrue}
 use Rattle.sc_exchange.proofs.Done.{rows_of_deeds, rows_of_from, begins_rows}
@@ -104,3 +104,40 @@ module _ {M O : Type 0} (journal : List (Row M O)) (v : View (Deed M O)) (facts 
 pub numbers_same : {M O : Type 0} → (xs : List (ℕ × List (Deed M O))) → map (λ (k : ℕ × List (Row M O)). k.0) (map (λ (x : ℕ × List (Deed M O)). (x.0, map (row_by x.0) x.1)) xs) ≡ map (λ (k : ℕ × List (Deed M O)). k.0) xs
 numbers_same [] = refl
 numbers_same (x ∷ xs) = ap (λ l. x.0 ∷ l) (numbers_same xs)
+
+-- a port that vouches for what another has seen
+module _ {M O : Type 0} where
+  rows_of-append : (n : ℕ) (xs ys : List (Row M O)) → rows_of n (xs ++ ys) ≡ rows_of n xs ++ rows_of n ys
+  rows_of-append n [] ys = refl
+  rows_of-append n (x ∷ xs) ys = let e = rows_of-append n xs ys in
+      elim (eqb x.who n) as (λ b. cond b (x ∷ rows_of n (xs ++ ys)) (rows_of n (xs ++ ys)) ≡ cond b (x ∷ rows_of n xs) (rows_of n xs) ++ rows_of n ys) [ true ↦ ap (λ l. x ∷ l) e | false ↦ e ]
+
+  nothing_more : (xs ys zs : List (Row M O)) → xs ++ ys ≡ zs → length zs ≤ length xs → xs ≡ zs
+  nothing_more xs [] zs e le = sym (append-nil xs) ∙ e
+  nothing_more xs (y ∷ ys) zs e le = absurd (omega (arith, le, ap length e, length-append xs (y ∷ ys)))
+
+  -- rows of a number in a list between what its port has seen and a list that has just what it made
+  pub between : (n : ℕ) (low mid high made : List (Row M O)) → StartsWith mid low → StartsWith high mid → rows_of n high ≡ made → length (rows_of n low) ≡ length made → rows_of n mid ≡ made
+  between n low mid high made p q is own =
+      nothing_more (rows_of n mid) (rows_of n q.0) made (sym (rows_of-append n mid q.0) ∙ (ap (rows_of n) (sym q.1) ∙ is))
+      (omega (arith, own, ap (λ l. length (rows_of n l)) p.1, ap length (rows_of-append n low p.0), length-append (rows_of n low) (rows_of n p.0)))
+
+module _ {M O : Type 0} {g : Ghosts M} where
+  own_count : (p : Port M O g) → length (rows_of p.who (seen p)) ≡ length (made p)
+  own_count p =
+      ap length (rows_of_from p.who (known p.seat).seen)
+      ∙ (length-map (rows_by p.who (known p.seat).seen) (row_by p.who) ∙ (p.own ∙ sym (length-map (known p.seat).made (row_by p.who))))
+
+  pub vouched : (p : Port M O g) (v : View (Deed M O)) (other before : List (Deed M O × ℕ)) → v ≡ known p.seat → other ≡ before → IsTrueOver v other → StartsWith (rows_from before) (seen p) → rows_of p.who (rows_from other) ≡ map (row_by p.who) v.made
+  vouched p v other before same is t later =
+      let mine : v.who ≡ p.who = ap (λ (x : View (Deed M O)). x.who) same ∙ p.number in
+      let count : length (rows_of p.who (seen p)) ≡ length (map (row_by p.who) v.made) = own_count p ∙ ap (λ (x : View (Deed M O)). length (map (row_by p.who) x.made)) (sym same) in
+      between p.who (seen p) (rows_from other) (rows_from t.list) (map (row_by p.who) v.made) (subst (λ l. StartsWith (rows_from l) (seen p)) (sym is) later) (begins_rows t.list other t.over)
+      (rows_of_from p.who t.list ∙ ap (map (row_by p.who)) (ap (λ n. rows_by n t.list) (sym mine) ∙ t.facts.own)) count
+
+  pub looked_seen : (p q : Port M O g) → OfOneStart p.seat q.seat → q.who ≡ p.who → q.actors ≡ p.actors → q.limit ≡ p.limit → known q.seat ≡ known p.seat → Looked p q
+  looked_seen p q start who actors limit v = record {
+    stays = record { exchange = (start, actors, limit); who = who; given = ap (λ (x : View (Deed M O)). x.given) v; joined = ap (λ (x : View (Deed M O)). map (λ k. (k.0, map (row_by k.0) k.1)) x.joined) v };
+    later = ([], ap (λ (x : View (Deed M O)). rows_from x.seen) v ∙ sym (append-nil (seen p)));
+    made = λ i. map (row_by (who i)) (v i).made;
+  }

@@ -2,3 +2,4 @@ pub mod Done
 pub mod Results
 pub mod Views
 pub mod Knowing
+pub mod Fetching

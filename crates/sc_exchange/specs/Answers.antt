@@ -1,8 +1,11 @@
 -- What a fetch may answer.
-use Rattle.std.specs.Prelude.{◌≡◌, ℕ, List, length, Option, None, Some}
+use Rattle.std.specs.Prelude.{◌≡◌, ℕ, List, length, Option, None, Some, All}
 use Rattle.sc_actor.specs.declared.rows.Row.{Row}
 use Rattle.sc_actor.specs.Mail.{mails, numbered}
 use Rattle.sc_ledger.specs.Pending.{kth_pending}
+use Rattle.sc_ledger.specs.Spots.{spots_of}
+use Rattle.sc_ledger.specs.declared.spots.Spot.{Spot}
+use Rattle.sc_ledger.specs.declared.spots.Look.{Look}
 use Rattle.sc_exchange.specs.declared.answers.Fetched.{Fetched}
 use Rattle.sc_exchange.specs.declared.answers.Fetched.TheVariants.{Mail, Empty}
 
@@ -11,6 +14,12 @@ module _ {M O : Type 0} where
   abbrev pub IsFetch : (M → ℕ) → ℕ → List (Row M O) → ℕ → ℕ → Fetched M → Type 0
   IsFetch receiver actors rows who k (Mail number mail) = (kth_pending receiver actors rows who k ≡ Some number) × (numbered (mails rows) number ≡ Some mail)
   IsFetch receiver actors rows who k (Empty seen) = (kth_pending receiver actors rows who k ≡ None) × (seen ≡ length rows)
+
+  -- how many mails these rows sent, and each pending copy after them, in ascending order of number; each is where its receiver would find it
+  pub record IsLook (receiver : M → ℕ) (actors : ℕ) (rows : List (Row M O)) (look : Look) : Type 0 where
+    pub sent : look.sent ≡ length (mails rows)
+    pub spots : look.pending ≡ spots_of receiver actors rows
+    pub each : All (λ (spot : Spot). kth_pending receiver actors rows spot.who spot.k ≡ Some spot.number) look.pending
 
 -- the number that was fetched, if any was
 abbrev pub number_of : {M : Type 0} → Fetched M → Option ℕ

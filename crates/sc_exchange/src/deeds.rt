@@ -32,11 +32,11 @@ impl<M: Parcel + Drop, O: Drop> Listed for Exchange<M, O> {
 }
 
 impl<M: Parcel + Drop, O: Drop> Exchange<M, O> {
-    pub(crate) fn new(alloc: Global) -> Exchange<M, O>
+    pub(crate) fn new(alloc: Global, actors: u32) -> Exchange<M, O>
         ensures { result.ledger.rows.items ≡ [] }
     {
         Exchange {
-            ledger: Ledger::new(alloc),
+            ledger: Ledger::new(alloc, actors),
         }
     }
 }

@@ -10,7 +10,7 @@ pub use answers::{Fetched, Unposted};
 pub use deeds::{Deed, Exchange};
 pub use ports::Port;
 pub use sc_actor::Journal;
-pub use sc_ledger::PostFault;
+pub use sc_ledger::{Look, PostFault, Spot};
 
 #[cfg(test)]
 mod tests;

@@ -7,16 +7,17 @@ ghost use Rattle.sc_actor.specs.Mail.{is_crash};
 ghost use Rattle.sc_actor.specs.Counted.{row_bytes, journal_bytes};
 ghost use Rattle.sc_ledger.specs.Fault.{IsCause};
 ghost use Rattle.sc_ledger.specs.Pending.{kth_pending, is_pending, may_repeat};
-ghost use Rattle.sc_exchange.specs.Deeds.{deeds, rows_of};
+ghost use Rattle.sc_exchange.specs.Deeds.{deeds, row_by, rows_from, rows_of};
+ghost use Rattle.sc_exchange.specs.Fetches.{HasFetched, delivered};
 ghost use Rattle.sc_exchange.specs.Turns.{may_change, change};
-ghost use Rattle.sc_exchange.specs.Answers.{IsFetch, number_of};
+ghost use Rattle.sc_exchange.specs.Answers.{IsFetch, IsLook, number_of};
 
 use crate::answers::{Fetched, Unposted};
 use crate::deeds::Exchange;
-use crate::turns::{any_at, change_at, fetch_at, kth_at, post_at};
+use crate::turns::{any_at, change_at, fetch_at, kth_at, look_at, post_at};
 use sc_actor::{Event, Journal, Parcel, Row};
 use sc_base::{OutOfMemory, Sequence};
-use sc_ledger::Unkept;
+use sc_ledger::{Look, Unkept};
 use sc_turn::TurnSeat;
 use std::alloc::Global;
 use std::sync::Wait;
@@ -36,6 +37,7 @@ pub struct Port<M: Parcel + Drop, O: Drop> {
     ghost out: { (known seat).turn ≡ false },
     ghost small: { limit ≤ 2 ^ 30 },
     ghost own: { length (rows_by who (known seat).seen) ≡ length (known seat).made },
+    ghost asked: { ∥ HasFetched M.receiver actors who fetched (map (row_by who) (known seat).made) (rows_from (known seat).seen) ∥₁ },
 }
 
 impl<M: Parcel + Drop, O: Drop> Port<M, O> {
@@ -47,7 +49,7 @@ impl<M: Parcel + Drop, O: Drop> Port<M, O> {
         ensures { IfOk result (λ p. (seen p ≡ []) × (made p ≡ []) × (given p ≡ []) × (joined p ≡ []) × (p.who ≡ 0) × (p.actors ≡ actors) × (p.limit ≡ limit) × (p.fetched ≡ None) × (p.crashed ≡ false)) }
     {
         Ok(Port {
-            seat: TurnSeat::start(alloc, Exchange::new(alloc))?,
+            seat: TurnSeat::start(alloc, Exchange::new(alloc, actors))?,
             alloc,
             who: 0,
             actors,
@@ -91,7 +93,7 @@ impl<M: Parcel + Drop, O: Drop> Port<M, O> {
         Ok(found)
     }
 
-    /// Appends a row of this port's actor, and answers its place, counted from 1. A delivery is of the mail of the last fetch.
+    /// Appends a row of this port's actor, and answers its place, counted from 1. A delivery is of the mail of the last fetch, which was pending then.
     /// A refused row is handed back, and the journal is unchanged.
     pub fn post<R: Wait>(
         &mut self,
@@ -103,6 +105,7 @@ impl<M: Parcel + Drop, O: Drop> Port<M, O> {
         requires event { MayPost self.old.fetched event }
         requires runs { self.old.crashed ≡ false }
         ensures stays { Stays self.old self.new }
+        ensures delivered { ∥ HasFetched M.receiver self.old.actors self.old.who (delivered event) (made self.old) (seen self.old) ∥₁ }
         ensures ok { IfOk result (λ place. Appended self.old self.new (record { who = self.old.who; event = event; sent = sent }) × (place ≡ length (seen self.new)) × (journal_bytes M.weighs (seen self.new) ≤ self.old.limit) × IsTrue self.new × (self.new.fetched ≡ None) × (self.new.crashed ≡ is_crash event)) }
         ensures refused { IfErr result (λ e. Looked self.old self.new × IsTrue self.new × (e.event ≡ event) × (e.sent ≡ sent) × IsCause e.why (journal_bytes M.weighs (seen self.new)) (row_bytes M.weighs (record { who = self.old.who; event = event; sent = sent })) self.old.limit × (self.new.fetched ≡ self.old.fetched) × (self.new.crashed ≡ false)) }
     {
@@ -183,13 +186,34 @@ impl<M: Parcel + Drop, O: Drop> Port<M, O> {
         any_at(rt, &mut self.seat, self.actors, whos)
     }
 
-    /// Two ports of one exchange tell each other: afterwards what each has seen begins with what the two had seen before.
+    /// How many mails were sent, and each pending copy of all mail, all at this one turn. Only the network's port looks.
+    pub fn look<R: Wait>(&mut self, rt: &R) -> Result<Look, OutOfMemory>
+        requires net { self.old.who ≡ 0 }
+        ensures looked { Looked self.old self.new × IsTrue self.new × (self.new.fetched ≡ self.old.fetched) × (self.new.crashed ≡ self.old.crashed) }
+        ensures look { IfOk result (λ look. IsLook M.receiver self.old.actors (seen self.new) look) }
+    {
+        look_at(rt, self.alloc, &mut self.seat, self.actors)
+    }
+
+    /// Two ports of one exchange tell each other: afterwards what each has seen begins with what the two had seen before, and what `other` has seen begins with what this port has.
     pub fn meet<R: Wait>(&mut self, rt: &R, other: &mut Port<M, O>) -> Result<(), OutOfMemory>
         requires { SameExchange self.old other.old }
         ensures mine { Looked self.old self.new × Begins (seen self.new) (seen other.old) × IsTrue self.new × (self.new.fetched ≡ self.old.fetched) × (self.new.crashed ≡ self.old.crashed) }
         ensures theirs { Looked other.old other.new × Begins (seen other.new) (seen self.old) × IsTrue other.new × (other.new.fetched ≡ other.old.fetched) × (other.new.crashed ≡ other.old.crashed) }
+        ensures last { Begins (seen other.new) (seen self.new) }
     {
         self.seat.meet(rt, &mut other.seat)
+    }
+
+    /// Vouches for what the other port has seen, which begins with what this port has seen: the rows of this port's number in it are exactly those that this port made. Neither port sees more by it.
+    pub fn vouch(&mut self, other: &mut Port<M, O>)
+        requires one { SameExchange self.old other.old }
+        requires later { Begins (seen other.old) (seen self.old) }
+        ensures mine { Looked self.old self.new × (seen self.new ≡ seen self.old) × (self.new.fetched ≡ self.old.fetched) × (self.new.crashed ≡ self.old.crashed) }
+        ensures theirs { Looked other.old other.new × (seen other.new ≡ seen other.old) × (other.new.fetched ≡ other.old.fetched) × (other.new.crashed ≡ other.old.crashed) }
+        ensures own { rows_of self.old.who (seen other.new) ≡ made self.new }
+    {
+        self.seat.vouch(&mut other.seat);
     }
 
     /// The network's port takes in another port of the exchange, keeps the longer of what the two have seen, and knows what the other made.

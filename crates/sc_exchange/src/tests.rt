@@ -1,15 +1,17 @@
 //! Ports of the network and of two actors.
-ghost use Rattle.std.specs.Prelude.{◌≡◌, ◌≢◌, ◌<◌, false};
+ghost use Rattle.std.specs.Prelude.{◌≡◌, ◌≢◌, ◌<◌, ◌++◌, ◌∷◌, [], false, map, IfOk};
+ghost use Rattle.std.specs.Thread.{IsSync};
 ghost use Rattle.sc_actor.specs.Mail.{is_crash};
-ghost use Rattle.sc_exchange.specs.Ports.{Stays, MayPost};
+ghost use Rattle.sc_exchange.specs.Ports.{Stays, MayPost, SameExchange, given, joined};
 
 use crate::answers::Fetched;
 use crate::ports::Port;
-use sc_actor::{Event, Parcel};
+use sc_actor::{Event, Journal, Parcel};
 use sc_base::{Dup, OutOfMemory, Sequence};
 use std::alloc::Global;
 use std::sync::Wait;
 use std::test::Fail;
+use std::thread::{Threads, join};
 
 #[derive(Debug, PartialEq, Eq, Drop)]
 struct Note {
@@ -61,6 +63,9 @@ fn fresh_ports(rt: HostRuntime) -> Result<(), Fail> {
     assert!(rt; one.pending(&rt, 1, 1).is_none());
     assert!(rt; matches!(net.lose(&rt, 1), Ok(false)));
     assert!(rt; matches!(net.again(&rt, 1), Ok(false)));
+    let look = net.look(&rt)?;
+    assert_eq!(rt; look.sent, 0);
+    assert_eq!(rt; look.pending.len(), 0);
     Ok(())
 }
 
@@ -113,8 +118,99 @@ fn doubled_mail_order(rt: HostRuntime) -> Result<(), Fail> {
     assert_eq!(rt; net.pending(&rt, 1, 3), Some(2));
     assert_eq!(rt; net.pending(&rt, 1, 4), Some(3));
     assert_eq!(rt; net.pending(&rt, 0, 5), None);
+    assert_eq!(rt; net.look(&rt)?.pending.len(), 4);
     assert!(rt; matches!(net.lose(&rt, 2), Ok(true)));
     assert_eq!(rt; number_of(one.fetch(&rt, 3)?), 3);
     assert!(rt; matches!(net.again(&rt, 4), Ok(false)));
+    Ok(())
+}
+
+// Three rows with a note each to the other, and up to three deliveries.
+fn works<R: Wait>(
+    rt: &R,
+    alloc: Global,
+    mut port: Port<Note, u32>,
+    to: u32,
+) -> Result<Port<Note, u32>, OutOfMemory>
+    requires { (port.who ≢ 0) × (port.crashed ≡ false) }
+    ensures { IfOk result (λ p. SameExchange port p × (p.who ≡ port.who) × (p.crashed ≡ false)) }
+{
+    post_one(rt, &mut port, Event::Tick, notes(alloc, to, 1)?)?;
+    post_one(rt, &mut port, Event::Tick, notes(alloc, to, 1)?)?;
+    post_one(rt, &mut port, Event::Tick, notes(alloc, to, 1)?)?;
+    take_three(rt, alloc, port)
+}
+
+fn take_three<R: Wait>(
+    rt: &R,
+    alloc: Global,
+    mut port: Port<Note, u32>,
+) -> Result<Port<Note, u32>, OutOfMemory>
+    requires { (port.who ≢ 0) × (port.crashed ≡ false) }
+    ensures { IfOk result (λ p. SameExchange port p × (p.who ≡ port.who) × (p.crashed ≡ false)) }
+{
+    take(rt, alloc, &mut port, 1, 0, 0)?;
+    take(rt, alloc, &mut port, 1, 0, 0)?;
+    take(rt, alloc, &mut port, 1, 0, 0)?;
+    Ok(port)
+}
+
+// Two ports fetch and post at the same time. What is left of their mail they take afterwards.
+fn by_two<R: Threads + Wait + Sync>(
+    rt: &R,
+    alloc: Global,
+    one: Port<Note, u32>,
+    two: Port<Note, u32>,
+) -> Result<(Port<Note, u32>, Port<Note, u32>), OutOfMemory>
+    requires { (one.who ≡ 1) × (one.crashed ≡ false) × (two.who ≡ 2) × (two.crashed ≡ false) }
+    ensures { IfOk result (λ p. SameExchange one p.0 × (p.0.who ≡ 1) × SameExchange two p.1 × (p.1.who ≡ 2)) }
+{
+    let (a, b) = join(
+        rt,
+        || -> Result<Port<Note, u32>, OutOfMemory>
+            requires { (one.who ≡ 1) × (one.crashed ≡ false) }
+            ensures { IfOk result (λ p. SameExchange one p × (p.who ≡ 1) × (p.crashed ≡ false)) }
+        { works(rt, alloc, one, 2) },
+        || -> Result<Port<Note, u32>, OutOfMemory>
+            requires { (two.who ≡ 2) × (two.crashed ≡ false) }
+            ensures { IfOk result (λ p. SameExchange two p × (p.who ≡ 2) × (p.crashed ≡ false)) }
+        { works(rt, alloc, two, 1) },
+    );
+    let a = take_three(rt, alloc, a?)?;
+    let b = take_three(rt, alloc, b?)?;
+    Ok((a, b))
+}
+
+fn take_in(net: &mut Port<Note, u32>, other: Port<Note, u32>)
+    requires { (net.old.who ≡ 0) × SameExchange net.old other }
+    ensures { SameExchange net.old net.new × (net.new.who ≡ 0) × (given net.new ≡ given net.old) × (map (λ k. k.0) (joined net.new) ≡ map (λ k. k.0) (joined net.old) ++ other.who ∷ []) }
+{
+    net.join(other);
+}
+
+fn two_work<R: Threads + Wait + Sync>(
+    rt: &R,
+    alloc: Global,
+) -> Result<Journal<Note, u32>, OutOfMemory> {
+    let mut net: Port<Note, u32> = Port::start(alloc, 2, 1 << 20)?;
+    let one = net.split(1)?;
+    let two = net.split(2)?;
+    let (one, two) = by_two(rt, alloc, one, two)?;
+    take_in(&mut net, one);
+    take_in(&mut net, two);
+    Ok(net.close(rt))
+}
+
+#[test]
+fn two_threads_fetch_and_post(rt: HostRuntime) -> Result<(), Fail> {
+    let journal = two_work(&rt, rt.alloc())?;
+    let mut delivered = 0u32;
+    for row in journal.as_slice() {
+        if matches!(row.event, Event::Deliver(_)) {
+            delivered = delivered.saturating_add(1);
+        }
+    }
+    assert_eq!(rt; journal.len(), 12);
+    assert_eq!(rt; delivered, 6);
     Ok(())
 }

@@ -8,14 +8,14 @@ ghost use Rattle.sc_ledger.specs.Fault.{IsCause};
 ghost use Rattle.sc_ledger.specs.Pending.{kth_pending};
 ghost use Rattle.sc_exchange.specs.declared.deeds.Deed.{Deed};
 ghost use Rattle.sc_exchange.specs.Deeds.{deeds, rows_from};
-ghost use Rattle.sc_exchange.specs.Answers.{IsFetch};
+ghost use Rattle.sc_exchange.specs.Answers.{IsFetch, IsLook};
 ghost use Rattle.sc_exchange.specs.Turns.{Turned, RowTurned, Changed, may_change, change};
 
 use crate::answers::Fetched;
 use crate::deeds::Exchange;
 use sc_actor::{Event, Parcel, Row};
 use sc_base::{OutOfMemory, Sequence};
-use sc_ledger::{Ledger, Unkept};
+use sc_ledger::{Ledger, Look, Unkept};
 use sc_turn::TurnSeat;
 use std::alloc::Global;
 use std::sync::Wait;
@@ -129,6 +129,34 @@ pub(crate) fn fetch_at<M: Parcel + Drop, O: Drop, R: Wait>(
     let found = find(&exchange.ledger, alloc, actors, who, k);
     keep_same(seat, exchange);
     found
+}
+
+/// All that is pending at this turn.
+pub(crate) fn look_at<M: Parcel + Drop, O: Drop, R: Wait>(
+    rt: &R,
+    alloc: Global,
+    seat: &mut TurnSeat<Exchange<M, O>>,
+    actors: u32,
+) -> Result<Look, OutOfMemory>
+    requires turn { (known seat.old).turn ≡ false }
+    ensures start { OfOneStart seat.old seat.new }
+    ensures turned { Turned (known seat.old) (known seat.new) }
+    ensures look { IfOk result (λ look. IsLook M.receiver actors (rows_from (known seat.new).seen) look) }
+{
+    let exchange = seat.enter(rt);
+    let look = look_in(&exchange.ledger, alloc, actors);
+    keep_same(seat, exchange);
+    look
+}
+
+fn look_in<M: Parcel + Drop, O: Drop>(
+    ledger: &Ledger<M, O>,
+    alloc: Global,
+    actors: u32,
+) -> Result<Look, OutOfMemory>
+    ensures { IfOk result (λ look. IsLook M.receiver actors ledger.now.rows.items look) }
+{
+    ledger.look(alloc, actors)
 }
 
 // Appends a row to what was found.

@@ -18,7 +18,7 @@ use sc_scenario::texts_are_early;
 /// the log only grows (Paxos Made Simple, sections 2.2 and 3). Each replica has executed a front of the
 /// log and holds the state there. The requests that took effect are one legal history (Herlihy and
 /// Wing, 1990), with the replies that clients keep, and each is decided after its issue and before its
-/// answer.
+/// answer; so they stand in the order of real time.
 pub fn group_journals_are_sound()
     ensures { GroupJournalsAreSound }
 {}

@@ -9,6 +9,7 @@ use Rattle.sc_actor.specs.declared.rows.Event.{Event}
 use Rattle.sc_actor.specs.declared.rows.Event.TheVariants.{Deliver, Drop, Again, Go, Tick, Crash, Told}
 use Rattle.sc_actor.specs.Mail.{mails, copies, counts_at, counts_after, is_crash, has_crashed}
 use Rattle.sc_actor.specs.Counted.{mail_bytes, row_bytes, journal_bytes}
+use Rattle.sc_actor.proofs.CountLemmas.{counted}
 use Rattle.sc_actor.proofs.ReplayLemmas.{mails-snoc, copies-snoc}
 use Rattle.sc_ledger.specs.Kept.{crashed_in}
 
@@ -120,13 +121,13 @@ module _ {M O : Type 0} (rows after : List (Row M O)) (row : Row M O) (is : afte
   pub kept_bytes : (weighs : M → ℕ) (bytes : ℕ) → bytes ≡ journal_bytes weighs rows + row_bytes weighs row → bytes ≡ journal_bytes weighs after
   kept_bytes weighs bytes e = e ∙ (sym (bytes-push weighs rows row) ∙ ap (journal_bytes weighs) (sym is))
 
-  pub kept_counts : (counts mid last : List ℕ) (n : ℕ) → counts ≡ copies rows → mid ≡ counts_at counts row.event → n ≡ length row.sent → last ≡ mid ++ replicate n 1 → last ≡ copies after
-  kept_counts counts mid last n c m l e =
-      e ∙ ((λ i. (m ∙ ap (λ x. counts_at x row.event) c) i ++ replicate (l i) 1) ∙ (sym (copies-push rows row) ∙ ap copies (sym is)))
+  pub kept_counts : (counts last : List ℕ) → counts ≡ copies rows → last ≡ counts_at counts row.event ++ replicate (length row.sent) 1 → last ≡ copies after
+  kept_counts counts last c e =
+      e ∙ (ap (λ x. counts_at x row.event ++ replicate (length row.sent) 1) c ∙ (sym (copies-push rows row) ∙ ap copies (sym is)))
 
-  pub kept_receivers : (receiver : M → ℕ) (receivers last : List ℕ) (sent : List M) → receivers ≡ map receiver (mails rows) → sent ≡ row.sent → last ≡ receivers ++ map receiver sent → last ≡ map receiver (mails after)
-  kept_receivers receiver receivers last sent r l e =
-      e ∙ ((λ i. r i ++ map receiver (l i)) ∙ (sym (receivers-push receiver rows row) ∙ ap (λ x. map receiver (mails x)) (sym is)))
+  pub kept_receivers : (receiver : M → ℕ) (receivers last : List ℕ) → receivers ≡ map receiver (mails rows) → last ≡ receivers ++ map receiver row.sent → last ≡ map receiver (mails after)
+  kept_receivers receiver receivers last r e =
+      e ∙ (ap (λ x. x ++ map receiver row.sent) r ∙ (sym (receivers-push receiver rows row) ∙ ap (λ x. map receiver (mails x)) (sym is)))
 
   pub kept_crashed : (crashed last : List ℕ) → crashed ≡ crashed_in rows → last ≡ crashed ++ cond (is_crash row.event) (row.who ∷ []) [] → last ≡ crashed_in after
   kept_crashed crashed last c e =
@@ -134,3 +135,23 @@ module _ {M O : Type 0} (rows after : List (Row M O)) (row : Row M O) (is : afte
 
 pub few_all : {M O : Type 0} (weighs : M → ℕ) (rows : List (Row M O)) (bytes n : ℕ) → bytes ≡ journal_bytes weighs rows → bytes ≤ 1073741824 → n ≡ length rows → n ≤ 16777216
 few_all weighs rows bytes n is fits l = omega (arith, few_rows weighs rows, is, l)
+
+pub same_lengths : {M O : Type 0} (receiver : M → ℕ) (rows : List (Row M O)) (counts receivers : List ℕ) → counts ≡ copies rows → receivers ≡ map receiver (mails rows) → length counts ≡ length receivers
+same_lengths receiver rows counts receivers c r = ap length c ∙ (counted rows ∙ (sym (length-map (mails rows) receiver) ∙ ap length (sym r)))
+
+pub few_after : {M O : Type 0} (weighs receiver : M → ℕ) (rows : List (Row M O)) (row : Row M O) (receivers : List ℕ) → receivers ≡ map receiver (mails rows) → (bytes limit : ℕ) → bytes ≡ journal_bytes weighs rows + row_bytes weighs row → bytes ≤ limit → limit ≤ 1073741824 →
+    length receivers + length row.sent < 4294967295
+few_after weighs receiver rows row receivers r bytes limit is fits most =
+    let l : length receivers ≡ length (mails rows) = ap length r ∙ length-map (mails rows) receiver in
+    omega (arith, few_rows weighs rows, mails_bytes weighs row.sent, l, is)
+
+pub sent_length : {M O : Type 0} (receiver : M → ℕ) (rows : List (Row M O)) (receivers : List ℕ) → receivers ≡ map receiver (mails rows) → length receivers ≡ length (mails rows)
+sent_length receiver rows receivers r = ap length r ∙ length-map (mails rows) receiver
+
+pub small_taken : {M O : Type 0} (rows first : List (Row M O)) (counts : List ℕ) → counts ≡ copies first → length first ≤ length rows → length rows < 4294967295 → (i : ℕ) → get_or counts i 0 < 4294967295
+small_taken rows first counts is few most i =
+    let c : get_or counts i 0 ≡ get_or (copies first) i 0 = ap (λ l. get_or l i 0) is in
+    omega (arith, few_copies first i, few, most, c)
+
+pub mails_few : {M O : Type 0} (weighs : M → ℕ) (rows : List (Row M O)) (bytes : ℕ) → bytes ≡ journal_bytes weighs rows → bytes ≤ 1073741824 → (length rows < 4294967295) × (length (mails rows) < 4294967295)
+mails_few weighs rows bytes is fits = (omega (arith, few_rows weighs rows, is, fits), omega (arith, few_rows weighs rows, is, fits))

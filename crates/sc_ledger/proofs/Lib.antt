@@ -2,3 +2,7 @@ pub mod Numbers
 pub mod Kept
 pub mod Open
 pub mod Rows
+pub mod Spotting
+pub mod Entries
+pub mod Holding
+pub mod Homing

@@ -1,3 +1,6 @@
 pub mod Pending
 pub mod Kept
+pub mod Homes
 pub mod Fault
+pub mod Spots
+pub mod Queues

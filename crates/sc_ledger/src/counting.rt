@@ -51,6 +51,34 @@ pub(crate) fn add_counts(counts: &mut Vec<u32>, n: usize)
     }
 }
 
+// The row of `n` new mails.
+fn add_homes(homes: &mut Vec<u32>, home: u32, n: usize)
+    requires { vec_len homes.old + n ≤ vec_capacity homes.old }
+    ensures { homes.new.items ≡ homes.old.items ++ replicate n home }
+{
+    for i in 0..n {
+        let _ = i;
+        homes.push_reserved(home);
+    }
+}
+
+/// Where a new row and its `n` mails stand, which come after so many mails.
+pub(crate) fn note_home(
+    homes: &mut Vec<u32>,
+    firsts: &mut Vec<u32>,
+    row: u32,
+    before: u32,
+    n: usize,
+)
+    requires homes { vec_len homes.old + n ≤ vec_capacity homes.old }
+    requires firsts { vec_len firsts.old + 1 ≤ vec_capacity firsts.old }
+    ensures homes { homes.new.items ≡ homes.old.items ++ replicate n row }
+    ensures firsts { firsts.new.items ≡ firsts.old.items ++ before ∷ [] }
+{
+    add_homes(homes, row, n);
+    firsts.push_reserved(before);
+}
+
 /// The receivers of new mails.
 pub(crate) fn add_receivers<M: Parcel>(receivers: &mut Vec<u32>, sent: &[M])
     requires { vec_len receivers.old + length sent.now ≤ vec_capacity receivers.old }

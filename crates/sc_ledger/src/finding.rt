@@ -1,12 +1,11 @@
 //! Looks for pending mail.
-ghost use Rattle.std.specs.Prelude.{◌≡◌, ◌<◌, ◌+◌, ◌-◌, ◌^◌, ◌==◌, length, nat_lt, IfOk, slice_get, slice_index, if◌then◌else◌};
+ghost use Rattle.std.specs.Prelude.{◌≡◌, ◌<◌, ◌+◌, ◌-◌, ◌^◌, ◌==◌, ◌++◌, length, replicate, nat_lt, IfOk, OnOk, slice_index, if◌then◌else◌};
 ghost use Rattle.std.specs.List.{list_any};
-ghost use Rattle.sc_actor.specs.Mail.{numbers, mails};
+ghost use Rattle.sc_actor.specs.Mail.{numbers};
 ghost use Rattle.sc_actor.specs.System.{kth};
 ghost use Rattle.sc_ledger.specs.Kept.{runs, counts_for};
 
-use sc_actor::Row;
-use sc_base::{Dup, OutOfMemory};
+use sc_base::OutOfMemory;
 use std::alloc::Global;
 
 fn is_among(crashed: &[u32], who: u32) -> bool
@@ -73,20 +72,33 @@ pub(crate) fn kth_open(
     None
 }
 
-/// A copy of the mail at a place among all that was sent.
-pub(crate) fn mail_at<M: Dup, O>(
-    rows: &[Row<M, O>],
-    alloc: Global,
-    place: usize,
-) -> Result<Option<M>, OutOfMemory>
-    ensures { IfOk result (λ found. found ≡ slice_get (mails rows.now) place) }
+/// Adds a number as often as it has copies.
+pub(crate) fn add_copies(found: &mut Vec<u32>, number: u32, count: u32) -> Result<(), OutOfMemory>
+    ensures { OnOk result (found.new.items ≡ found.old.items ++ replicate count number) }
 {
-    let mut left = place;
-    for row in rows {
-        if left < row.sent.len() {
-            return Ok(Some(row.sent.at(left).dup(alloc)?));
-        }
-        left -= row.sent.len();
+    for i in 0..count {
+        let _ = i;
+        found.push(number)?;
     }
-    Ok(None)
+    Ok(())
+}
+
+/// The numbers of all pending mail, each as often as it has copies.
+pub(crate) fn open_numbers(
+    alloc: Global,
+    receivers: &[u32],
+    counts: &[u32],
+    actors: u32,
+    crashed: &[u32],
+) -> Result<Vec<u32>, OutOfMemory>
+    requires few { length receivers.now < 2 ^ 32 - 1 }
+    ensures { IfOk result (λ found. found.items ≡ numbers (counts_for actors crashed.now 0) 1 receivers.now counts.now) }
+{
+    let mut found = Vec::new(alloc);
+    let both = receivers.len().min(counts.len());
+    for i in 0..both {
+        let count = open_copies(actors, crashed, 0, receivers[i], counts[i]);
+        add_copies(&mut found, i as u32 + 1, count)?;
+    }
+    Ok(found)
 }

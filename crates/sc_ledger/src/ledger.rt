@@ -1,16 +1,25 @@
 //! The ledger.
-ghost use Rattle.std.specs.Prelude.{◌≡◌, ◌<◌, ◌≤◌, ◌+◌, ◌^◌, ◌++◌, ◌∷◌, [], map, length, IfOk, OnOk, IfErr, IfSome, IsSome, vec_len, vec_capacity};
-ghost use Rattle.sc_actor.specs.Mail.{mails, copies, numbered};
+ghost use Rattle.std.specs.Prelude.{◌≡◌, ◌<◌, ◌≤◌, ◌+◌, ◌^◌, ◌++◌, ◌∷◌, [], map, length, Some, All, IfOk, OnOk, IfErr, IfSome, IsSome, slice_get, vec_len, vec_capacity};
+ghost use Rattle.std.proofs.Props.{props};
+ghost use Rattle.sc_actor.specs.Mail.{mails, copies, numbered, numbers};
+ghost use Rattle.sc_actor.specs.System.{kth};
 ghost use Rattle.sc_actor.specs.Counted.{row_bytes, journal_bytes};
 ghost use Rattle.sc_ledger.specs.Fault.{IsCause};
-ghost use Rattle.sc_ledger.specs.Kept.{crashed_in};
+ghost use Rattle.sc_ledger.specs.Kept.{crashed_in, counts_for};
 ghost use Rattle.sc_ledger.specs.Pending.{kth_pending, is_pending, may_repeat};
+ghost use Rattle.sc_ledger.specs.Homes.{homes_from, firsts_from};
+ghost use Rattle.sc_ledger.specs.Queues.{Holds};
+ghost use Rattle.sc_ledger.specs.Spots.{spots_of};
 
-use crate::counting::{add_counts, add_crash, add_receivers, bytes_with, count_event};
+use crate::copies::numbers_in;
+use crate::counting::{bytes_with, note_home};
 use crate::faults::{PostFault, Unkept};
-use crate::finding::{has_copy, kth_open, mail_at, runs};
+use crate::finding::{has_copy, kth_open, open_numbers, runs};
+use crate::plain::kth_after;
+use crate::queues::{Queues, note_row};
+use crate::spots::{Look, spots_from};
 use sc_actor::{Parcel, Row};
-use sc_base::OutOfMemory;
+use sc_base::{Dup, OutOfMemory};
 use std::alloc::Global;
 
 /// The rows of one exchange, with what is counted of them.
@@ -22,16 +31,26 @@ pub struct Ledger<M: Parcel + Drop, O: Drop> {
     counts: Vec<u32>,
     receivers: Vec<u32>,
     crashed: Vec<u32>,
+    // Of each mail the place of its row, and of each row how many mails came before it.
+    homes: Vec<u32>,
+    firsts: Vec<u32>,
+    // What is pending, by actor, for this many of them. None once there was no memory for it; then it is found by a scan.
+    queues: Option<Queues>,
+    actors: u32,
+    alloc: Global,
     ghost small: { bytes ≤ 2 ^ 30 },
     ghost counted: { bytes ≡ journal_bytes M.weighs rows.items },
     ghost under_way: { counts.items ≡ copies rows.items },
     ghost sent_to: { receivers.items ≡ map M.receiver (mails rows.items) },
     ghost gone: { crashed.items ≡ crashed_in rows.items },
+    ghost homed: { homes.items ≡ homes_from 0 rows.items },
+    ghost begun: { firsts.items ≡ firsts_from 0 rows.items },
+    ghost queued: { IfSome queues (λ q. Holds q actors crashed.items receivers.items counts.items) } by { Prim.hlevel props },
 }
 
 impl<M: Parcel + Drop, O: Drop> Ledger<M, O> {
-    /// The empty ledger. It takes no memory yet.
-    pub fn new(alloc: Global) -> Ledger<M, O>
+    /// The empty ledger of so many actors. They have the numbers from 1 to `actors`, here and below.
+    pub fn new(alloc: Global, actors: u32) -> Ledger<M, O>
         ensures { result.rows.items ≡ [] }
     {
         Ledger {
@@ -40,6 +59,11 @@ impl<M: Parcel + Drop, O: Drop> Ledger<M, O> {
             counts: Vec::new(alloc),
             receivers: Vec::new(alloc),
             crashed: Vec::new(alloc),
+            homes: Vec::new(alloc),
+            firsts: Vec::new(alloc),
+            queues: new_queues(alloc, actors),
+            actors,
+            alloc,
         }
     }
 
@@ -65,12 +89,39 @@ impl<M: Parcel + Drop, O: Drop> Ledger<M, O> {
         self.bytes
     }
 
-    /// The number of the k-th pending mail of an actor, or of all where `who` is 0. The actors have the numbers from 1 to `actors`, here and below.
+    /// The number of the k-th pending mail of an actor, or of all where `who` is 0. For the actors of this ledger it is found without a scan.
     pub fn kth(&self, actors: u32, who: u32, k: u32) -> Option<u32>
         requires { 0 < k }
         ensures kth { result ≡ kth_pending M.receiver actors self.now.rows.items who k }
         ensures sent { IfSome result (λ number. IsSome (numbered (mails self.now.rows.items) number)) }
     {
+        self.find(actors, who, k)
+    }
+
+    /// The same by a scan of all rows: the plain form of `kth`.
+    pub fn kth_by_scan(
+        &self,
+        alloc: Global,
+        actors: u32,
+        who: u32,
+        k: u32,
+    ) -> Result<Option<u32>, OutOfMemory>
+        requires { 0 < k }
+        ensures kth { IfOk result (λ found. found ≡ kth_pending M.receiver actors self.now.rows.items who k) }
+    {
+        kth_after(alloc, self.rows.as_slice(), actors, who, k)
+    }
+
+    // The k-th in the queues, where they are those of so many actors, or else by what is kept of each mail.
+    fn find(&self, actors: u32, who: u32, k: u32) -> Option<u32>
+        requires { 0 < k }
+        ensures { result ≡ kth (numbers (counts_for actors self.now.crashed.items who) 1 self.now.receivers.items self.now.counts.items) k }
+    {
+        if let Some(queues) = &self.queues {
+            if actors == self.actors && who <= actors {
+                return queues.kth(who, k);
+            }
+        }
         kth_open(
             self.receivers.as_slice(),
             self.counts.as_slice(),
@@ -81,14 +132,43 @@ impl<M: Parcel + Drop, O: Drop> Ledger<M, O> {
         )
     }
 
+    // The numbers of all pending mail, each as often as it has copies.
+    fn find_all(&self, alloc: Global, actors: u32) -> Result<Vec<u32>, OutOfMemory>
+        ensures { IfOk result (λ found. found.items ≡ numbers (counts_for actors self.now.crashed.items 0) 1 self.now.receivers.items self.now.counts.items) }
+    {
+        if let Some(queues) = &self.queues {
+            if actors == self.actors {
+                return numbers_in(alloc, &queues.all);
+            }
+        }
+        open_numbers(
+            alloc,
+            self.receivers.as_slice(),
+            self.counts.as_slice(),
+            actors,
+            self.crashed.as_slice(),
+        )
+    }
+
     /// A copy of the mail with this number. None where it was not sent.
     pub fn mail(&self, alloc: Global, number: u32) -> Result<Option<M>, OutOfMemory>
         ensures { IfOk result (λ found. found ≡ numbered (mails self.now.rows.items) number) }
     {
-        if number == 0 {
+        if number == 0 || number as usize > self.homes.len() {
             return Ok(None);
         }
-        mail_at(self.rows.as_slice(), alloc, number as usize - 1)
+        Ok(Some(self.copy_at(alloc, number as usize - 1)?))
+    }
+
+    // A copy of the mail at a place among all that was sent.
+    fn copy_at(&self, alloc: Global, place: usize) -> Result<M, OutOfMemory>
+        requires { place < length self.now.homes.items }
+        ensures { IfOk result (λ mail. slice_get (mails self.now.rows.items) place ≡ Some mail) }
+    {
+        let home = self.homes[place] as usize;
+        let first = self.firsts[home] as usize;
+        let row = &self.rows[home];
+        Ok(row.sent.at(place - first).dup(alloc)?)
     }
 
     /// Whether the mail with this number was sent to an actor that has not crashed.
@@ -109,6 +189,19 @@ impl<M: Parcel + Drop, O: Drop> Ledger<M, O> {
         self.may_repeat(actors, number) && has_copy(self.counts.as_slice(), number)
     }
 
+    /// How many mails were sent, and each pending copy of all mail, in ascending order of number.
+    pub fn look(&self, alloc: Global, actors: u32) -> Result<Look, OutOfMemory>
+        ensures sent { IfOk result (λ look. look.sent ≡ length (mails self.now.rows.items)) }
+        ensures spots { IfOk result (λ look. look.pending ≡ spots_of M.receiver actors self.now.rows.items) }
+        ensures each { IfOk result (λ look. All (λ spot. kth_pending M.receiver actors self.now.rows.items spot.who spot.k ≡ Some spot.number) look.pending) }
+    {
+        let numbers = self.find_all(alloc, actors)?;
+        let receivers = self.receivers.as_slice();
+        let pending = spots_from(alloc, receivers, numbers.as_slice())?;
+        let sent = receivers.len() as u32;
+        Ok(Look { sent, pending })
+    }
+
     // Room for one row with so many mails. Nothing else changes.
     fn make_room(&mut self, n: usize) -> Result<(), OutOfMemory>
         requires { n < 2 ^ 40 }
@@ -117,11 +210,15 @@ impl<M: Parcel + Drop, O: Drop> Ledger<M, O> {
         ensures counts { OnOk result (vec_len self.new.counts + n ≤ vec_capacity self.new.counts) }
         ensures receivers { OnOk result (vec_len self.new.receivers + n ≤ vec_capacity self.new.receivers) }
         ensures crashed { OnOk result (vec_len self.new.crashed + 1 ≤ vec_capacity self.new.crashed) }
+        ensures homes { OnOk result (vec_len self.new.homes + n ≤ vec_capacity self.new.homes) }
+        ensures firsts { OnOk result (vec_len self.new.firsts + 1 ≤ vec_capacity self.new.firsts) }
     {
         self.rows.reserve(1)?;
         self.counts.reserve(n)?;
         self.receivers.reserve(n)?;
         self.crashed.reserve(1)?;
+        self.homes.reserve(n)?;
+        self.firsts.reserve(1)?;
         Ok(())
     }
 
@@ -132,12 +229,29 @@ impl<M: Parcel + Drop, O: Drop> Ledger<M, O> {
         requires counts { vec_len self.old.counts + length row.sent ≤ vec_capacity self.old.counts }
         requires receivers { vec_len self.old.receivers + length row.sent ≤ vec_capacity self.old.receivers }
         requires crashed { vec_len self.old.crashed + 1 ≤ vec_capacity self.old.crashed }
+        requires homes { vec_len self.old.homes + length row.sent ≤ vec_capacity self.old.homes }
+        requires firsts { vec_len self.old.firsts + 1 ≤ vec_capacity self.old.firsts }
         ensures { self.new.rows.items ≡ self.old.rows.items ++ row ∷ [] }
     {
-        count_event(&mut self.counts, &row.event);
-        add_counts(&mut self.counts, row.sent.len());
-        add_receivers(&mut self.receivers, row.sent.as_slice());
-        add_crash(&mut self.crashed, row.who, &row.event);
+        let place = self.rows.len() as u32;
+        let before = self.receivers.len() as u32;
+        note_home(
+            &mut self.homes,
+            &mut self.firsts,
+            place,
+            before,
+            row.sent.len(),
+        );
+        let queues = self.queues.take();
+        self.queues = note_row(
+            queues,
+            self.alloc,
+            self.actors,
+            &mut self.counts,
+            &mut self.receivers,
+            &mut self.crashed,
+            &row,
+        );
         self.bytes = bytes;
         self.rows.push_reserved(row);
     }
@@ -160,5 +274,14 @@ impl<M: Parcel + Drop, O: Drop> Ledger<M, O> {
         }
         self.keep(row, bytes);
         Ok(())
+    }
+}
+
+fn new_queues(alloc: Global, actors: u32) -> Option<Queues>
+    ensures { IfSome result (λ q. Holds q actors [] [] []) }
+{
+    match Queues::new(alloc, actors) {
+        Ok(queues) => Some(queues),
+        Err(_) => None,
     }
 }

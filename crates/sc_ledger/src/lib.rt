@@ -1,13 +1,18 @@
 //! The ledger of one exchange: the rows so far, their counted bytes, and the mail that is pending. It has no handle and no lock.
 #![tactic(auto)]
 
+mod copies;
 mod counting;
 mod faults;
 mod finding;
 mod ledger;
+mod plain;
+mod queues;
+mod spots;
 
 pub use faults::{PostFault, Unkept};
 pub use ledger::Ledger;
+pub use spots::{Look, Spot};
 
 #[cfg(test)]
 mod tests;

@@ -3,6 +3,7 @@ ghost use Rattle.std.specs.Prelude.{◌≡◌, min, ◌^◌, ◌-◌};
 
 use crate::faults::PostFault;
 use crate::ledger::Ledger;
+use crate::spots::Spot;
 use sc_actor::{Event, Parcel, Row};
 use sc_base::{Dup, OutOfMemory, Sequence};
 use std::alloc::Global;
@@ -54,7 +55,7 @@ fn row(
 
 #[test]
 fn mail_is_pending_by_its_number(rt: HostRuntime) -> Result<(), Fail> {
-    let mut ledger: Ledger<Note, u32> = Ledger::new(rt.alloc());
+    let mut ledger: Ledger<Note, u32> = Ledger::new(rt.alloc(), 2);
     let steps = [
         (2u32, Event::Go, 3usize, [Some(1u32), Some(2), Some(3)]),
         (1, Event::Deliver(2), 0, [Some(1), Some(3), None]),
@@ -88,7 +89,7 @@ fn mail_is_pending_by_its_number(rt: HostRuntime) -> Result<(), Fail> {
 
 #[test]
 fn limit_is_met_and_passed(rt: HostRuntime) -> Result<(), Fail> {
-    let mut ledger: Ledger<Note, u32> = Ledger::new(rt.alloc());
+    let mut ledger: Ledger<Note, u32> = Ledger::new(rt.alloc(), 2);
     let desk = row(rt.alloc(), 1, Event::Go, &[0], 5)?;
     assert!(rt; ledger.append(desk, 325).is_ok());
     assert_eq!(rt; ledger.kth(2, 0, 1), None);
@@ -101,5 +102,71 @@ fn limit_is_met_and_passed(rt: HostRuntime) -> Result<(), Fail> {
     let large = row(rt.alloc(), 1, Event::Tick, &[2, 2], u64::MAX)?;
     assert!(rt; ledger.append(large, 1 << 30).is_err());
     assert_eq!(rt; ledger.len(), 1);
+    Ok(())
+}
+
+// The next of a fixed sequence of numbers that look random.
+fn next_word(word: u64) -> u64 {
+    word.wrapping_mul(6_364_136_223_846_793_005)
+        .wrapping_add(1_442_695_040_888_963_407)
+}
+
+// An event of any kind, at a mail of any number up to 15. Crashes are rare.
+fn random_event(word: u64) -> Event<u32> {
+    let number = (word >> 40) as u32 % 16;
+    match (word >> 33) % 16 {
+        0..=4 => Event::Deliver(number),
+        5..=6 => Event::Drop(number),
+        7..=10 => Event::Again(number),
+        11 => Event::Crash,
+        _ => Event::Tick,
+    }
+}
+
+// Whether the queues and the scan find the same, for each actor and for all.
+fn agree(alloc: Global, ledger: &Ledger<Note, u32>) -> Result<bool, OutOfMemory> {
+    for who in 0..5u32 {
+        for k in 1..6u32 {
+            if ledger.kth(3, who, k) != ledger.kth_by_scan(alloc, 3, who, k)? {
+                return Ok(false);
+            }
+        }
+    }
+    Ok(true)
+}
+
+#[test]
+fn queues_and_scan_agree(rt: HostRuntime) -> Result<(), Fail> {
+    let mut ledger: Ledger<Note, u32> = Ledger::new(rt.alloc(), 3);
+    let mut word = 20_261_127u64;
+    for i in 0..80u32 {
+        word = next_word(word);
+        let to = [(word >> 50) as u32 % 5, (word >> 53) as u32 % 5];
+        let who = (word >> 56) as u32 % 4;
+        let mails = if i % 4 == 0 { 2 } else { 0 };
+        let event = random_event(word);
+        let sent = to.as_slice().get(..mails).unwrap_or(&[]);
+        let row = row(rt.alloc(), who, event, sent, 0)?;
+        assert!(rt; ledger.append(row, 1 << 20).is_ok());
+        assert!(rt; agree(rt.alloc(), &ledger)?);
+    }
+    Ok(())
+}
+
+#[test]
+fn look_tells_each_copy(rt: HostRuntime) -> Result<(), Fail> {
+    let mut ledger: Ledger<Note, u32> = Ledger::new(rt.alloc(), 2);
+    let first = row(rt.alloc(), 1, Event::Go, &[2, 1, 0, 2], 0)?;
+    assert!(rt; ledger.append(first, 10_000).is_ok());
+    let second = row(rt.alloc(), 0, Event::Again(1), &[], 0)?;
+    assert!(rt; ledger.append(second, 10_000).is_ok());
+    let look = ledger.look(rt.alloc(), 2)?;
+    assert_eq!(rt; look.sent, 4);
+    let spots = [(1u32, 2u32, 1u32), (1, 2, 2), (2, 1, 1), (4, 2, 3)];
+    assert_eq!(rt; look.pending.len(), 4);
+    for (spot, (number, who, k)) in look.pending.as_slice().iter().zip(spots) {
+        assert_eq!(rt; *spot, Spot { number, who, k });
+    }
+    assert!(rt; matches!(ledger.mail(rt.alloc(), 4)?, Some(Note { to: 2, size: 0 })));
     Ok(())
 }

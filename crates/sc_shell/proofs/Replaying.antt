@@ -2,7 +2,7 @@
 use Rattle.std.proofs.Common.{◌≡◌, ℕ, zero, suc, ◌+◌, eqb, Bool, true, false, cond, List, [], ◌∷◌, ◌++◌, length, refl, sym, ap, ◌∙◌, arith, append_assoc, length-append, eq-eqb}
 use Rattle.std.proofs.lemmas.List.{length-map, append-nil}
 use Rattle.std.specs.Prelude.{slice_get, Option, Some}
-use Rattle.sc_turn.specs.Turn.{rows_by}
+use Rattle.sc_turn.specs.Turn.{StartsWith, rows_by}
 use Rattle.sc_turn.specs.Seats.{known}
 use Rattle.sc_actor.specs.declared.rows.Row.{Row}
 use Rattle.sc_actor.specs.declared.actors.Seat.{Seat}
@@ -108,3 +108,10 @@ module _ {A M O : Type 0} {h : Ghosts M} (table : Table A M O) where
       ∙ ((λ i. (acted table (sym before i) (sym input_is i)).0)
       ∙ (sym (ap (λ b. cond b (acted table (value table (at p.who birth) a.before) (input_of (mails a.before) row.event)).0 (value table (at p.who birth) a.before)) (eq-eqb row.who p.who mine))
       ∙ (sym (value-snoc table (at p.who birth) a.before row) ∙ (λ i. value table (at (sym a.stays.who i) birth) (sym a.seen i)))))
+
+-- a list that begins with what the port has seen, and has no more rows of it
+module _ {A M O : Type 0} {h : Ghosts M} (table : Table A M O) where
+  pub replay_over : (p : Port M O h) (rows : List (Row M O)) → StartsWith rows (seen p) → rows_of p.who rows ≡ made p → (actor birth : A) → actor ≡ value table (at p.who birth) (seen p) → actor ≡ value table (at p.who birth) rows
+  replay_over p rows later own actor birth is =
+      let none : rows_of p.who later.0 ≡ [] = quiet p.who (seen p) later.0 (ap (λ l. length (rows_of p.who l)) (sym later.1) ∙ (ap length own ∙ sym (own_length p))) in
+      is ∙ (sym (value_later table p.who birth (seen p) later.0 none) ∙ ap (value table (at p.who birth)) (sym later.1))

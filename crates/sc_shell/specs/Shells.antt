@@ -45,6 +45,10 @@ module _ {A M O : Type 0} {g : Ghosts A M O} {h : MailGhosts M} where
   abbrev pub Replays : Shell A M O g h → A → Type 0
   Replays s birth = s.actor ≡ value g.table (record { who = s.port.who; actor = birth }) (seen s.port)
 
+  -- the same of its rows among others
+  abbrev pub ReplaysOver : Shell A M O g h → List (Row M O) → A → Type 0
+  ReplaysOver s rows birth = s.actor ≡ value g.table (record { who = s.port.who; actor = birth }) rows
+
   -- it is, where the shell is not spent or has posted a Crash
   abbrev pub IsReplay : Shell A M O g h → A → Type 0
   IsReplay s birth = (s.spent ≡ false) ⊎ (s.port.crashed ≡ true) → Replays s birth

@@ -6,6 +6,7 @@ ghost use Rattle.sc_actor.specs.Mail.{mails};
 ghost use Rattle.sc_actor.specs.Replay.{input_of, acted};
 ghost use Rattle.sc_ledger.specs.Pending.{kth_pending};
 ghost use Rattle.sc_shell.specs.Answers.{turn_of, MayHappen};
+ghost use Rattle.sc_exchange.specs.Deeds.{rows_of};
 ghost use Rattle.sc_exchange.specs.Ports.{seen, made, SameExchange, Stays, Looked, IsTrue, MayPost};
 
 use crate::turns::Turn;
@@ -27,7 +28,7 @@ pub struct Shell<A: Actor> {
 }
 
 impl<A: Actor> Shell<A> {
-    ghost use Rattle.sc_shell.specs.Shells.{Replays, KeepsReplay, Acts, Takes, Happens, state};
+    ghost use Rattle.sc_shell.specs.Shells.{Replays, ReplaysOver, KeepsReplay, Acts, Takes, Happens, state};
 
     /// The actor at its port, which has made no row. The actor is as it was born.
     pub fn new(actor: A, port: Port<A::Mail, A::Order>) -> Shell<A>
@@ -160,9 +161,24 @@ impl<A: Actor> Shell<A> {
         ensures same { (self.new.actor ≡ self.old.actor) × (self.new.spent ≡ self.old.spent) × (self.new.last ≡ self.old.last) }
         ensures mine { Looked self.old.port self.new.port × Begins (seen self.new.port) (seen net.old) × IsTrue self.new.port × (self.new.port.crashed ≡ self.old.port.crashed) }
         ensures theirs { Looked net.old net.new × Begins (seen net.new) (seen self.old.port) × IsTrue net.new × (net.new.fetched ≡ net.old.fetched) × (net.new.crashed ≡ net.old.crashed) }
+        ensures last { Begins (seen net.new) (seen self.new.port) }
         ensures replay { KeepsReplay self.old self.new }
     {
         self.port.meet(rt, net)
+    }
+
+    /// Vouches for what `net` has seen, which begins with what this shell's port has seen: the rows of this actor in it are exactly those that this shell's port made, and the actor is their replay if it is that of its rows. Nobody sees more by it.
+    pub fn vouch(&mut self, net: &mut Port<A::Mail, A::Order>)
+        requires one { SameExchange self.old.port net.old }
+        requires later { Begins (seen net.old) (seen self.old.port) }
+        ensures same { (self.new.actor ≡ self.old.actor) × (self.new.spent ≡ self.old.spent) × (self.new.last ≡ self.old.last) }
+        ensures mine { Looked self.old.port self.new.port × (seen self.new.port ≡ seen self.old.port) × (self.new.port.crashed ≡ self.old.port.crashed) }
+        ensures theirs { Looked net.old net.new × (seen net.new ≡ seen net.old) × (net.new.fetched ≡ net.old.fetched) × (net.new.crashed ≡ net.old.crashed) }
+        ensures own { rows_of self.old.port.who (seen net.new) ≡ made self.new.port }
+        ensures replay { KeepsReplay self.old self.new }
+        ensures over { (birth : A) → Replays self.old birth → ReplaysOver self.new (seen net.new) birth }
+    {
+        self.port.vouch(net);
     }
 
     /// The number of the first pending mail of this actor. None exactly where at this turn there was none.

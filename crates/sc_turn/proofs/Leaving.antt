@@ -4,7 +4,7 @@ use Rattle.std.proofs.lemmas.List.{append-nil}
 use mathlib.Core.Option.{none}
 use Rattle.atomic_table.specs.Table.{Me, step, rest, Allows}
 use Rattle.sc_turn.specs.declared.rule.View.{View}
-use Rattle.sc_turn.specs.Turn.{view, with_seen, with_row, counted, rows_by, CanLeave, IsTrueOf, IsTrueLater, Kept, Looks, Reads, Appends, appended, released}
+use Rattle.sc_turn.specs.Turn.{view, with_seen, with_row, counted, rows_by, CanLeave, IsTrueOf, IsTrueLater, IsTrueOver, StartsWith, Kept, Looks, Reads, Appends, appended, released}
 use Rattle.sc_turn.proofs.Lists.{rows_by_none}
 use Rattle.sc_turn.proofs.Keeps.{appends, releases}
 
@@ -84,6 +84,11 @@ module _ {T E : Type 0} (entries : T → List (E × ℕ)) where
   pub true_later : (m m' : M) (r : ℕ) → Reads entries m r m' → m.0.live ≡ true → IsTrueLater m'.0
   true_later m m' r read live = let f = read.facts live in
       subst (λ (z : M). IsTrueLater z.0) (sym read.same) record { list = f.list; later = f.later; facts = record { own = f.facts.own; joined = f.facts.joined; others = f.facts.others } }
+
+  -- and of what another has seen
+  pub true_over : (m m' : M) (r : ℕ) (rows : List (E × ℕ)) → Reads entries m r m' → m.0.live ≡ true → m.0.told ≡ rows → IsTrueOver m'.0 rows
+  true_over m m' r rows read live told = let f = read.over live in
+      subst (λ (z : M). IsTrueOver z.0 rows) (sym read.same) record { list = f.list; later = f.later; over = subst (StartsWith f.list) told f.over; facts = record { own = f.facts.own; joined = f.facts.joined; others = f.facts.others } }
 
 pub others_later : {E : Type 0} → (v : View E) → v.who ≡ 0 → IsTrueLater v → (n : ℕ) → n ≢ 0 → ¬ Contains v.given n → rows_by n v.seen ≡ []
 others_later v first t n ne free = rows_by_none n t.list v.seen t.later (t.facts.others first n ne free)

@@ -1,7 +1,7 @@
 //! The seats, from which threads take turns at one value.
 ghost use Rattle.std.specs.Prelude.{◌≡◌, ◌≢◌, ℕ, ◌+◌, ◌<◌, ◌^◌, ◌⊎◌, true, false, [], ◌∷◌, ◌++◌, length, Contains, IfOk, OnOk, OnErr, None, if◌then◌else◌};
 ghost use Rattle.std.specs.Arc.{arc_value};
-ghost use Rattle.sc_turn.specs.Turn.{opener, newcomer, with_given, with_seen, entered, left_with, joined_with, StartsWith, IsTrueOf, IsTrueLater, CanLeave, rows_by};
+ghost use Rattle.sc_turn.specs.Turn.{opener, newcomer, with_given, with_seen, entered, left_with, joined_with, StartsWith, IsTrueOf, IsTrueLater, IsTrueOver, CanLeave, rows_by};
 
 use crate::listed::Listed;
 use crate::plays::{Look, Merge, Note, Number, Read, Release, SplitOff};
@@ -127,7 +127,22 @@ impl<T: Listed> TurnSeat<T> {
         shared.load::<Look<T>>(&mut self.place, 1);
     }
 
-    /// Two seats of one start tell each other: afterwards what each has seen begins with what the two had seen before.
+    /// Vouches for what the other seat has seen: with what this seat has seen it goes on to one list, in which the rows of this seat's number are those that were made under it. Neither seat sees more by it.
+    pub fn vouch(&mut self, other: &mut TurnSeat<T>)
+        requires one_start { OfOneStart self.old other.old }
+        requires turn { ((known self.old).turn ≡ false) × ((known other.old).turn ≡ false) }
+        ensures start { OfOneStart self.old self.new × OfOneStart other.old other.new }
+        ensures same { (known self.new ≡ known self.old) × (known other.new ≡ known other.old) }
+        ensures over { IsTrueOver (known self.new) (known other.new).seen }
+    {
+        let desk = &self.desk;
+        let shared = &desk.shared;
+        let note = shared.split_seat::<Note>(&mut other.place);
+        shared.join_seat::<Note>(&mut self.place, note);
+        shared.load::<Read<T>>(&mut self.place, 1);
+    }
+
+    /// Two seats of one start tell each other: afterwards what each has seen begins with what the two had seen before, and what `other` has seen begins with what this seat has.
     /// It takes no memory. After `OutOfMemory`, which this form never answers, both would have seen what they had.
     pub fn meet<R: Wait>(&mut self, _rt: &R, other: &mut TurnSeat<T>) -> Result<(), OutOfMemory>
         requires one_start { OfOneStart self.old other.old }
@@ -136,6 +151,7 @@ impl<T: Listed> TurnSeat<T> {
         ensures view { (known self.new ≡ with_seen (known self.old) (known self.new).seen) × (known other.new ≡ with_seen (known other.old) (known other.new).seen) }
         ensures mine { StartsWith (known self.new).seen (known self.old).seen × StartsWith (known self.new).seen (known other.old).seen }
         ensures theirs { StartsWith (known other.new).seen (known self.old).seen × StartsWith (known other.new).seen (known other.old).seen }
+        ensures last { StartsWith (known other.new).seen (known self.new).seen }
         ensures facts { IsTrueOf (known self.new) (known self.new).seen × IsTrueOf (known other.new) (known other.new).seen }
     {
         self.hear(other);

@@ -1,5 +1,9 @@
 use Rattle.std.proofs.Common.{refl, sym, ◌∙◌}
 use Rattle.sc_exchange.proofs.Knowing.{stays_after, looked_after, true_after, change_answers, change_back, cause_back}
+use Rattle.std.proofs.Math.Logic.{∥∥₁_map}
+use Rattle.sc_turn.specs.Seats.{known}
+use Rattle.sc_exchange.proofs.Fetching.{asked_net, done_later, turned_later, own_again}
+use Rattle.sc_exchange.proofs.Results.{ok_maps, err_maps, either}
 use Rattle.sc_exchange.proofs.ports.Port.change.Goals as goal
 
 pub returns-in-Ok-clause-ok : goal.returns-in-Ok-clause-ok
@@ -20,3 +24,13 @@ returns-in-Ok-clause-stays g c = stays_after c.args.self.now _ c.change_at.ensur
 
 pub returns-in-Err-clause-stays : goal.returns-in-Err-clause-stays
 returns-in-Err-clause-stays g c = stays_after c.args.self.now _ c.change_at.ensures.start refl refl refl c.change_at.ensures.kept
+
+pub invariant_of-self-clause-asked : goal.invariant_of-self-clause-asked
+invariant_of-self-clause-asked g c = let s = c.args.self.now in let e = c.change_at.ensures in
+    ∥∥₁_map s.asked (asked_net g.M.Parcel.receiver s.actors s.who s.fetched (known s.seat) (known c.change_at.new.seat) c.requires
+    (either c.change_at.result
+    (ok_maps c.change_at.result (λ done p. done_later (known s.seat) (known c.change_at.new.seat) _ _ g.M.Parcel.receiver s.actors c.args.lost c.args.number done p) e.ok)
+    (err_maps c.change_at.result (λ x p. turned_later (known s.seat) (known c.change_at.new.seat) p.0) e.refused)))
+
+pub invariant_of-self-clause-own : goal.invariant_of-self-clause-own
+invariant_of-self-clause-own g c = let s = c.args.self.now in own_again (known s.seat) (known c.change_at.new.seat) s.who s.number c.change_at.ensures.own

@@ -3,6 +3,8 @@ use Rattle.sc_turn.specs.Seats.{known}
 use Rattle.sc_exchange.specs.Deeds.{row_by}
 use Rattle.sc_exchange.proofs.Done.{begins_rows, rows_of_from}
 use Rattle.sc_exchange.proofs.Views.{own_joined}
+use Rattle.std.proofs.Math.Logic.{∥∥₁_map}
+use Rattle.sc_exchange.proofs.Fetching.{asked_same}
 use Rattle.sc_exchange.proofs.ports.Port.join.Goals as goal
 
 pub invariant_of-self-clause-own : goal.invariant_of-self-clause-own
@@ -14,3 +16,7 @@ returns-clause-later g c = (begins_rows _ _ c.join.ensures.later.0, begins_rows 
 
 pub returns-clause-others : goal.returns-clause-others
 returns-clause-others g c = λ n ne away. rows_of_from n (known c.join.new.self).seen ∙ ap (map (row_by n)) (c.join.ensures.others n ne away)
+
+pub invariant_of-self-clause-asked : goal.invariant_of-self-clause-asked
+invariant_of-self-clause-asked g c = let s = c.args.self.now in let e = c.join.ensures in
+    ∥∥₁_map s.asked (asked_same g.M.Parcel.receiver s.actors s.who s.fetched (known s.seat) (known c.join.new.self) e.later.0 (ap (λ v. v.made) e.view))

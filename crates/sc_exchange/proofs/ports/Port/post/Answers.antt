@@ -1,6 +1,9 @@
 use Rattle.std.proofs.Common.{refl, ap, ◌∙◌}
 use Rattle.sc_actor.specs.declared.rows.Row.{Row}
 use Rattle.sc_exchange.proofs.Knowing.{stays_after, looked_after, true_after, appended_after, true_row, cause_back}
+use Rattle.std.proofs.Math.Logic.{∥∥₁_map}
+use Rattle.sc_turn.specs.Seats.{known}
+use Rattle.sc_exchange.proofs.Fetching.{asked_turned, asked_event, own_after}
 use Rattle.sc_exchange.proofs.ports.Port.post.Goals as goal
 
 pub returns-in-Ok-clause-ok : goal.returns-in-Ok-clause-ok
@@ -31,3 +34,18 @@ returns-in-Ok-clause-stays g c = stays_after c.args.self.now _ c.post_at.ensures
 
 pub returns-in-Err-clause-stays : goal.returns-in-Err-clause-stays
 returns-in-Err-clause-stays g c = stays_after c.args.self.now _ c.post_at.ensures.start refl refl refl c.post_at.ensures.kept
+
+pub invariant_of-self-in-Err-1 : goal.invariant_of-self-in-Err-1
+invariant_of-self-in-Err-1 g c = let s = c.args.self.now in let t = c.in-Err.ensures.refused.0 in record {
+  number = ap (λ v. v.who) t.view_is ∙ s.number;
+  out = ap (λ v. v.turn) t.view_is;
+  small = s.small;
+  own = own_after (known s.seat) (known c.post_at.new.seat) s.who s.number t;
+  asked = ∥∥₁_map s.asked (asked_turned g.M.Parcel.receiver s.actors s.who s.fetched (known s.seat) (known c.post_at.new.seat) t);
+}
+
+pub returns-in-Err-clause-delivered : goal.returns-in-Err-clause-delivered
+returns-in-Err-clause-delivered g c = let s = c.args.self.now in ∥∥₁_map s.asked (asked_event g.M.Parcel.receiver s.actors s.who s.fetched c.args.event _ _ c.requires.event)
+
+pub returns-in-Ok-clause-delivered : goal.returns-in-Ok-clause-delivered
+returns-in-Ok-clause-delivered g c = let s = c.args.self.now in ∥∥₁_map s.asked (asked_event g.M.Parcel.receiver s.actors s.who s.fetched c.args.event _ _ c.requires.event)

@@ -1,0 +1,95 @@
+-- The mail that was fetched, as more rows are seen.
+use Rattle.std.proofs.Common.{◌≡◌, ◌≢◌, ℕ, Bool, true, false, MatchBool, Result, Ok, Err, IfOk, IfErr, List, ◌∷◌, ◌++◌, length, map, refl, sym, ap, ◌∙◌, subst, append_assoc, [], Option, None, Some}
+use Rattle.std.proofs.lemmas.List.{append-nil}
+use Rattle.sc_turn.specs.declared.rule.View.{View}
+use Rattle.sc_turn.specs.Turn.{StartsWith, IsTrueOf, rows_by, with_seen}
+use Rattle.sc_actor.specs.declared.rows.Row.{Row}
+use Rattle.sc_actor.specs.declared.rows.Event.{Event}
+use Rattle.sc_actor.specs.declared.rows.Event.TheVariants.{Deliver, Drop, Again, Tick, Go, Told, Crash}
+use Rattle.sc_exchange.specs.declared.deeds.Deed.{Deed}
+use Rattle.sc_exchange.specs.declared.answers.Fetched.{Fetched}
+use Rattle.sc_exchange.specs.declared.answers.Fetched.TheVariants.{Mail, Empty}
+use Rattle.sc_exchange.specs.Deeds.{deeds, row_by, rows_from, rows_of}
+use Rattle.sc_exchange.specs.Turns.{Turned, RowTurned, Changed, change}
+use Rattle.sc_exchange.specs.Answers.{IsFetch, number_of}
+use Rattle.sc_exchange.specs.Ports.{MayPost}
+use Rattle.sc_exchange.specs.Fetches.{WasPending, HasFetched, delivered}
+use Rattle.sc_exchange.proofs.Done.{rows_of_from, begins_rows}
+use Rattle.sc_exchange.proofs.Views.{own_same, own_turned, own_of, deed}
+
+begins_more : {E : Type 0} (xs ys zs : List E) → StartsWith xs ys → StartsWith (xs ++ zs) ys
+begins_more xs ys zs p = (p.0 ++ zs, ap (λ l. l ++ zs) p.1 ∙ append_assoc ys p.0 zs)
+
+module _ {M O : Type 0} (w v : View (Deed M O)) where
+  pub turned_later : Turned w v → StartsWith (rows_from v.seen) (rows_from w.seen)
+  turned_later t = begins_rows v.seen w.seen (subst (λ l. StartsWith l w.seen) (ap (λ (x : View (Deed M O)). x.seen) (sym t.view_is)) t.later)
+
+  row_later : (row : Row M O) → RowTurned w v row → StartsWith (rows_from v.seen) (rows_from w.seen)
+  row_later row t =
+      begins_rows v.seen w.seen (subst (λ l. StartsWith l w.seen) (ap (λ (x : View (Deed M O)). x.seen) (sym t.view_is)) (begins_more (deeds t.rows) w.seen ((deed row, w.who) ∷ []) t.later))
+
+  pub done_later : (F G : Type 0) (receiver : M → ℕ) (actors : ℕ) (lost : Bool) (number : ℕ) (done : Bool) → MatchBool done (Changed receiver actors lost number w v × F) (Turned w v × G) → StartsWith (rows_from v.seen) (rows_from w.seen)
+  done_later F G receiver actors lost number true m = row_later (change lost number) m.0.turned
+  done_later F G receiver actors lost number false m = turned_later m.0
+
+  pub own_after : (who : ℕ) → w.who ≡ who → Turned w v → length (rows_by who v.seen) ≡ length v.made
+  own_after who number t = ap (λ n. length (rows_by n v.seen)) (sym number) ∙ own_turned w v t
+
+  pub own_again : (who : ℕ) → w.who ≡ who → length (rows_by w.who v.seen) ≡ length v.made → length (rows_by who v.seen) ≡ length v.made
+  own_again who number own = ap (λ n. length (rows_by n v.seen)) (sym number) ∙ own
+
+  pub own_met : (who : ℕ) → w.who ≡ who → v ≡ with_seen w v.seen → IsTrueOf v v.seen → length (rows_by who v.seen) ≡ length v.made
+  own_met who number is t = own_of v who (ap (λ (x : View (Deed M O)). x.who) is ∙ number) t.own
+
+module _ {M O : Type 0} (receiver : M → ℕ) (actors who : ℕ) where
+  begins_trans : (xs ys zs : List (Row M O)) → StartsWith xs ys → StartsWith ys zs → StartsWith xs zs
+  begins_trans xs ys zs p q = (q.0 ++ p.0, p.1 ∙ (ap (λ l. l ++ p.0) q.1 ∙ append_assoc zs q.0 p.0))
+
+  asked_later : (fetched : Option ℕ) (made made' seen seen' : List (Row M O)) → StartsWith seen' seen → (who ≢ 0 → made' ≡ made) → HasFetched receiver actors who fetched made seen → HasFetched receiver actors who fetched made' seen'
+  asked_later None made made' seen seen' later same h = tt
+  asked_later (Some number) made made' seen seen' later same h = record {
+    rows = h.rows;
+    later = begins_trans seen' seen h.rows later h.later;
+    k = h.k;
+    kth = h.kth;
+    own = λ ne. h.own ne ∙ sym (same ne);
+  }
+
+  abbrev made_by : View (Deed M O) → List (Row M O)
+  made_by v = map (row_by who) v.made
+
+  pub asked_turned : (fetched : Option ℕ) (w v : View (Deed M O)) → Turned w v → HasFetched receiver actors who fetched (made_by w) (rows_from w.seen) → HasFetched receiver actors who fetched (made_by v) (rows_from v.seen)
+  asked_turned fetched w v t h =
+      asked_later fetched (made_by w) (made_by v) (rows_from w.seen) (rows_from v.seen)
+      (begins_rows v.seen w.seen (subst (λ l. StartsWith l w.seen) (ap (λ (x : View (Deed M O)). x.seen) (sym t.view_is)) t.later))
+      (λ ne. ap made_by t.view_is) h
+
+  pub asked_same : (fetched : Option ℕ) (w v : View (Deed M O)) → StartsWith v.seen w.seen → v.made ≡ w.made → HasFetched receiver actors who fetched (made_by w) (rows_from w.seen) → HasFetched receiver actors who fetched (made_by v) (rows_from v.seen)
+  asked_same fetched w v later same h =
+      asked_later fetched (made_by w) (made_by v) (rows_from w.seen) (rows_from v.seen) (begins_rows v.seen w.seen later) (λ ne. ap (map (row_by who)) same) h
+
+  -- the network's own rows do not count
+  pub asked_net : (fetched : Option ℕ) (w v : View (Deed M O)) → who ≡ 0 → StartsWith (rows_from v.seen) (rows_from w.seen) → HasFetched receiver actors who fetched (made_by w) (rows_from w.seen) → HasFetched receiver actors who fetched (made_by v) (rows_from v.seen)
+  asked_net fetched w v net later h = asked_later fetched (made_by w) (made_by v) (rows_from w.seen) (rows_from v.seen) later (λ ne. absurd (ne net)) h
+
+  asked_now : (w v : View (Deed M O)) (k : ℕ) (found : Fetched M) → v.who ≡ who → Turned w v → IsFetch receiver actors (rows_from v.seen) who k found → HasFetched receiver actors who (number_of found) (made_by v) (rows_from v.seen)
+  asked_now w v k (Empty seen) number t f = tt
+  asked_now w v k (Mail number mail) is t f = record {
+    rows = rows_from v.seen;
+    later = ([], sym (append-nil (rows_from v.seen)));
+    k = k;
+    kth = f.0;
+    own = λ ne. rows_of_from who v.seen ∙ ap (map (row_by who)) (ap (λ n. rows_by n v.seen) (sym is) ∙ own_same w v t);
+  }
+
+  pub asked_found : (f : Option ℕ) (w v : View (Deed M O)) (k : ℕ) (found : Fetched M) → f ≡ number_of found → v.who ≡ who → Turned w v → IsFetch receiver actors (rows_from v.seen) who k found → HasFetched receiver actors who f (made_by v) (rows_from v.seen)
+  asked_found f w v k found is number t fetch = subst (λ (x : Option ℕ). HasFetched receiver actors who x (made_by v) (rows_from v.seen)) (sym is) (asked_now w v k found number t fetch)
+
+  pub asked_event : (fetched : Option ℕ) (event : Event O) (made seen : List (Row M O)) → MayPost fetched event → HasFetched receiver actors who fetched made seen → HasFetched receiver actors who (delivered event) made seen
+  asked_event fetched (Deliver number) made seen may h = subst (λ f. HasFetched receiver actors who f made seen) may h
+  asked_event fetched Tick made seen may h = tt
+  asked_event fetched Go made seen may h = tt
+  asked_event fetched (Told order) made seen may h = tt
+  asked_event fetched Crash made seen may h = tt
+  asked_event fetched (Drop number) made seen may h = absurd may
+  asked_event fetched (Again number) made seen may h = absurd may

@@ -1,0 +1,19 @@
+-- Where each pending copy stands.
+use Rattle.std.specs.Prelude.{ℕ, ◌+◌, ◌-◌, ◌==◌, List, [], ◌∷◌, ◌++◌, map, length, filter, fold, slice_index}
+use Rattle.sc_actor.specs.declared.rows.Row.{Row}
+use Rattle.sc_actor.specs.Mail.{mails}
+use Rattle.sc_ledger.specs.declared.spots.Spot.{Spot}
+use Rattle.sc_ledger.specs.Pending.{pending_of}
+
+-- the copy of the mail with this number that comes after those: one place further than the copies before it that have its receiver
+abbrev pub spot_after : List ℕ → List Spot → ℕ → Spot
+spot_after receivers before number =
+    record { number = number; who = slice_index receivers (number - 1); k = length (filter (λ s. s.who == slice_index receivers (number - 1)) before) + 1 }
+
+-- the copies of these mails, one after the other
+abbrev pub spots_from : List ℕ → List ℕ → List Spot
+spots_from receivers numbers = fold (λ before number. before ++ spot_after receivers before number ∷ []) [] numbers
+
+-- each pending copy of all mail, in ascending order of number, with its receiver and its place among the receiver's pending mail
+abbrev pub spots_of : {M O : Type 0} → (M → ℕ) → ℕ → List (Row M O) → List Spot
+spots_of receiver actors rows = spots_from (map receiver (mails rows)) (pending_of receiver actors rows 0)

@@ -1,0 +1,312 @@
+//! Pending mail per actor, so that the first of it is found at once.
+ghost use Rattle.std.specs.Prelude.{◌≡◌, ◌<◌, ◌≤◌, ◌+◌, ◌-◌, ◌^◌, ◌++◌, ◌∷◌, [], ℕ, None, IfOk, OnOk, IfSome, List, true, nat_eq, nat_lt, ◌&&◌, length, map, replicate, slice_index, slice_index_or, slice_set, vec_len, vec_capacity, if◌then◌else◌};
+ghost use Rattle.std.specs.Map.{lookup};
+ghost use Rattle.sc_actor.specs.Mail.{one_less, one_more, counts_at, is_crash};
+ghost use Rattle.sc_ledger.specs.Kept.{counts_for};
+ghost use Rattle.sc_actor.specs.System.{kth};
+ghost use Rattle.sc_ledger.specs.Queues.{Holds, copies_in, open_entries};
+
+use crate::copies::{Copies, kth_in, recount};
+use crate::counting::{add_counts, add_crash, add_receivers, count_event};
+use crate::finding::runs;
+use indexmap::IndexMap;
+use sc_actor::{Event, Parcel, Row};
+use sc_base::OutOfMemory;
+use std::alloc::Global;
+
+/// The pending mail of all, and of each actor from 1 on.
+#[derive(Drop)]
+pub struct Queues {
+    pub(crate) all: Copies,
+    pub(crate) each: Vec<Copies>,
+}
+
+impl Queues {
+    ghost use Rattle.sc_ledger.specs.Queues.{Holds, kept, queue_of, recounted};
+
+    /// Empty queues for so many actors.
+    pub(crate) fn new(alloc: Global, actors: u32) -> Result<Queues, OutOfMemory>
+        ensures { IfOk result (λ q. Holds q actors [] [] []) }
+    {
+        let mut each = Vec::new(alloc);
+        for i in 0..actors {
+            let _ = i;
+            each.push(IndexMap::new(alloc))?;
+        }
+        let all = IndexMap::new(alloc);
+        Ok(Queues { all, each })
+    }
+
+    /// The number of the k-th pending mail of an actor, or of all where `who` is 0.
+    pub(crate) fn kth(&self, who: u32, k: u32) -> Option<u32>
+        requires who { who ≤ length self.now.each.items }
+        requires first { 0 < k }
+        ensures { result ≡ kth (copies_in (queue_of self.now who)) k }
+    {
+        if who == 0 {
+            return kth_in(&self.all, k);
+        }
+        kth_in(&self.each[who as usize - 1], k)
+    }
+
+    // A mail to this receiver has `count` copies now.
+    fn set_copies(
+        &mut self,
+        receiver: u32,
+        number: u32,
+        back: bool,
+        count: u32,
+    ) -> Result<(), OutOfMemory>
+        requires receiver { (0 < receiver) × (receiver ≤ length self.old.each.items) }
+        requires all { back ≡ true → lookup (nat_eq number) self.old.all.entries ≡ None }
+        requires own { back ≡ true → lookup (nat_eq number) (slice_index_or (kept self.old) (receiver - 1) []) ≡ None }
+        ensures all { OnOk result (self.new.all.entries ≡ recounted self.old.all.entries number back count) }
+        ensures each { OnOk result (kept self.new ≡ slice_set (kept self.old) (receiver - 1) (recounted (slice_index_or (kept self.old) (receiver - 1) []) number back count)) }
+    {
+        recount(&mut self.all, number, back, count)?;
+        let own = &mut self.each[receiver as usize - 1];
+        recount(own, number, back, count)
+    }
+
+    // The mail with this number has one copy more, or one less where it has any.
+    fn change(
+        &mut self,
+        actors: u32,
+        crashed: &[u32],
+        receivers: &[u32],
+        counts: &[u32],
+        number: u32,
+        more: bool,
+    ) -> Result<(), OutOfMemory>
+        requires holds { Holds self.old actors crashed.now receivers.now counts.now }
+        requires same { length counts.now ≡ length receivers.now }
+        requires small { (i : ℕ) → slice_index counts.now i < 2 ^ 32 - 1 }
+        ensures { OnOk result (Holds self.new actors crashed.now receivers.now (if more then one_more counts.now number else one_less counts.now number)) }
+    {
+        if number == 0 || number as usize > counts.len() {
+            return Ok(());
+        }
+        let place = number as usize - 1;
+        let receiver = receivers[place];
+        if !runs(actors, crashed, receiver) {
+            return Ok(());
+        }
+        let before = counts[place];
+        if more {
+            self.set_copies(receiver, number, before == 0, before + 1)
+        } else {
+            self.set_copies(receiver, number, false, before.saturating_sub(1))
+        }
+    }
+
+    // One more mail was sent.
+    fn add(
+        &mut self,
+        actors: u32,
+        crashed: &[u32],
+        number: u32,
+        receiver: u32,
+    ) -> Result<(), OutOfMemory>
+        requires { length (kept self.old) ≡ actors }
+        ensures { OnOk result ((receivers counts : List ℕ) → Holds self.old actors crashed.now receivers counts → length counts ≡ length receivers → number ≡ 1 + length receivers → Holds self.new actors crashed.now (receivers ++ receiver ∷ []) (counts ++ 1 ∷ [])) }
+    {
+        if !runs(actors, crashed, receiver) {
+            return Ok(());
+        }
+        self.set_copies(receiver, number, false, 1)
+    }
+
+    // The actor `who` has crashed.
+    fn crash(
+        &mut self,
+        alloc: Global,
+        actors: u32,
+        crashed: &[u32],
+        receivers: &[u32],
+        counts: &[u32],
+        who: u32,
+    ) -> Result<(), OutOfMemory>
+        requires holds { Holds self.old actors crashed.now receivers.now counts.now }
+        requires same { length counts.now ≡ length receivers.now }
+        requires few { length receivers.now < 2 ^ 32 - 1 }
+        ensures { OnOk result (Holds self.new actors (crashed.now ++ who ∷ []) receivers.now counts.now) }
+    {
+        self.all = without(alloc, actors, crashed, receivers, counts, who)?;
+        if 0 < who && who <= actors {
+            let own = &mut self.each[who as usize - 1];
+            own.clear();
+        }
+        Ok(())
+    }
+}
+
+/// The queues after an event. None for want of memory.
+pub(crate) fn after_event<O>(
+    queues: Option<Queues>,
+    actors: u32,
+    crashed: &[u32],
+    receivers: &[u32],
+    counts: &[u32],
+    event: &Event<O>,
+) -> Option<Queues>
+    requires holds { IfSome queues (λ q. Holds q actors crashed.now receivers.now counts.now) }
+    requires same { length counts.now ≡ length receivers.now }
+    requires small { (i : ℕ) → slice_index counts.now i < 2 ^ 32 - 1 }
+    ensures { IfSome result (λ q. Holds q actors crashed.now receivers.now (counts_at counts.now event.now)) }
+{
+    let Some(mut queues) = queues else {
+        return None;
+    };
+    let changed = match event {
+        Event::Deliver(number) | Event::Drop(number) => {
+            queues.change(actors, crashed, receivers, counts, *number, false)
+        }
+        Event::Again(number) => queues.change(actors, crashed, receivers, counts, *number, true),
+        _ => Ok(()),
+    };
+    match changed {
+        Ok(()) => Some(queues),
+        Err(_) => None,
+    }
+}
+
+// Whether mail to this receiver is pending once `who` has crashed.
+fn stays(actors: u32, crashed: &[u32], who: u32, receiver: u32, count: u32) -> bool
+    ensures { result ≡ (counts_for actors (crashed.now ++ who ∷ []) 0 receiver && nat_lt 0 count) }
+{
+    count > 0 && receiver != who && runs(actors, crashed, receiver)
+}
+
+// All that is pending once `who` has crashed.
+fn without(
+    alloc: Global,
+    actors: u32,
+    crashed: &[u32],
+    receivers: &[u32],
+    counts: &[u32],
+    who: u32,
+) -> Result<Copies, OutOfMemory>
+    requires same { length counts.now ≡ length receivers.now }
+    requires few { length receivers.now < 2 ^ 32 - 1 }
+    ensures { IfOk result (λ all. all.entries ≡ open_entries (counts_for actors (crashed.now ++ who ∷ []) 0) 1 receivers.now counts.now) }
+{
+    let mut all = IndexMap::new(alloc);
+    for i in 0..receivers.len() {
+        if stays(actors, crashed, who, receivers[i], counts[i]) {
+            recount(&mut all, i as u32 + 1, false, counts[i])?;
+        }
+    }
+    Ok(all)
+}
+
+/// The queues after a crash, if the event is one. None for want of memory.
+pub(crate) fn after_crash<O>(
+    queues: Option<Queues>,
+    alloc: Global,
+    actors: u32,
+    crashed: &[u32],
+    receivers: &[u32],
+    counts: &[u32],
+    who: u32,
+    event: &Event<O>,
+) -> Option<Queues>
+    requires holds { IfSome queues (λ q. Holds q actors crashed.now receivers.now counts.now) }
+    requires same { length counts.now ≡ length receivers.now }
+    requires few { length receivers.now < 2 ^ 32 - 1 }
+    ensures { IfSome result (λ q. Holds q actors (crashed.now ++ (if is_crash event.now then who ∷ [] else [])) receivers.now counts.now) }
+{
+    let Some(mut queues) = queues else {
+        return None;
+    };
+    let Event::Crash = event else {
+        return Some(queues);
+    };
+    match queues.crash(alloc, actors, crashed, receivers, counts, who) {
+        Ok(()) => Some(queues),
+        Err(_) => None,
+    }
+}
+
+/// The queues once these mails were sent. None for want of memory.
+pub(crate) fn after_sent<M: Parcel>(
+    queues: Option<Queues>,
+    actors: u32,
+    crashed: &[u32],
+    receivers: &[u32],
+    counts: &[u32],
+    sent: &[M],
+) -> Option<Queues>
+    requires holds { IfSome queues (λ q. Holds q actors crashed.now receivers.now counts.now) }
+    requires same { length counts.now ≡ length receivers.now }
+    requires few { length receivers.now + length sent.now < 2 ^ 32 - 1 }
+    ensures { IfSome result (λ q. Holds q actors crashed.now (receivers.now ++ map M.receiver sent.now) (counts.now ++ replicate (length sent.now) 1)) }
+{
+    let Some(mut queues) = queues else {
+        return None;
+    };
+    let mut number = receivers.len() as u32;
+    for mail in sent {
+        number += 1;
+        if queues.add(actors, crashed, number, mail.to()).is_err() {
+            return None;
+        }
+    }
+    Some(queues)
+}
+
+/// Notes a row in what is kept beside the rows, and in the queues. None for want of memory for these.
+pub(crate) fn note_row<M: Parcel, O>(
+    queues: Option<Queues>,
+    alloc: Global,
+    actors: u32,
+    counts: &mut Vec<u32>,
+    receivers: &mut Vec<u32>,
+    crashed: &mut Vec<u32>,
+    row: &Row<M, O>,
+) -> Option<Queues>
+    requires holds { IfSome queues (λ q. Holds q actors crashed.old.items receivers.old.items counts.old.items) }
+    requires same { length counts.old.items ≡ length receivers.old.items }
+    requires small { (i : ℕ) → slice_index counts.old.items i < 2 ^ 32 - 1 }
+    requires few { length receivers.old.items + length row.now.sent < 2 ^ 32 - 1 }
+    requires counts { vec_len counts.old + length row.now.sent ≤ vec_capacity counts.old }
+    requires receivers { vec_len receivers.old + length row.now.sent ≤ vec_capacity receivers.old }
+    requires crashed { vec_len crashed.old + 1 ≤ vec_capacity crashed.old }
+    ensures holds { IfSome result (λ q. Holds q actors crashed.new.items receivers.new.items counts.new.items) }
+    ensures counts { counts.new.items ≡ counts_at counts.old.items row.now.event ++ replicate (length row.now.sent) 1 }
+    ensures receivers { receivers.new.items ≡ receivers.old.items ++ map M.receiver row.now.sent }
+    ensures crashed { crashed.new.items ≡ crashed.old.items ++ (if is_crash row.now.event then row.now.who ∷ [] else []) }
+{
+    let event = &row.event;
+    let sent = row.sent.as_slice();
+    let queues = after_event(
+        queues,
+        actors,
+        crashed.as_slice(),
+        receivers.as_slice(),
+        counts.as_slice(),
+        event,
+    );
+    count_event(counts, event);
+    let queues = after_crash(
+        queues,
+        alloc,
+        actors,
+        crashed.as_slice(),
+        receivers.as_slice(),
+        counts.as_slice(),
+        row.who,
+        event,
+    );
+    add_crash(crashed, row.who, event);
+    let queues = after_sent(
+        queues,
+        actors,
+        crashed.as_slice(),
+        receivers.as_slice(),
+        counts.as_slice(),
+        sent,
+    );
+    add_counts(counts, sent.len());
+    add_receivers(receivers, sent);
+    queues
+}
