@@ -1,40 +1,197 @@
 -- Lists of shells that go on.
-use Rattle.std.proofs.Common.{◌≡◌, ℕ, suc, ◌<◌, ◌≤◌, ⊎_elim, List, length, get_or, refl, sym, ap, ◌∙◌, subst, arith}
+use Rattle.std.proofs.Common.{◌≡◌, ◌≢◌, ℕ, zero, suc, ◌+◌, ◌<◌, ◌≤◌, ⊎_elim, inl, inr, Bool, true, false, true≢false, cond, ◌&&◌, not, List, [], ◌∷◌, ◌++◌, length, map, sum_by, get_or, refl, sym, ap, ◌∙◌, subst, arith, append_assoc, length-append, Option, Some, None}
+use Rattle.std.specs.List.{AllByRecursion}
 use Rattle.std.proofs.lemmas.Bool.Decides.{leb_tells}
+use Rattle.std.proofs.lemmas.List.{append-nil}
 use Rattle.sc_actor.specs.declared.actors.Actor.{Ghosts}
 use Rattle.sc_actor.specs.declared.actors.Parcel.{Ghosts as MailGhosts}
+use Rattle.sc_actor.specs.declared.rows.Row.{Row}
 use Rattle.sc_exchange.specs.declared.ports.Port.{Port}
 use Rattle.sc_exchange.specs.Deeds.{rows_of}
-use Rattle.sc_exchange.specs.Ports.{seen, made, SameExchange, Looked}
+use Rattle.sc_exchange.specs.Ports.{seen, made, SameExchange, Stays, Looked}
 use Rattle.sc_shell.specs.declared.shells.Shell.{Shell}
-use Rattle.sc_shell.proofs.Replaying.{own_length}
-use Rattle.sc_workers.specs.Crews.{Goes, AllGo, AllOf, AllMet, HasMet}
-use Rattle.sc_workers.proofs.Lists.{starts_trans}
+use Rattle.sc_shell.specs.declared.turns.Turn.{Turn}
+use Rattle.sc_shell.specs.declared.turns.Turn.TheVariants.{Did, Empty, Full, Spent, OutOfMemory}
+use Rattle.sc_turn.specs.Turn.{StartsWith}
+use Rattle.sc_actor.specs.Replay.{value}
+use Rattle.sc_shell.specs.Shells.{State, Takes, state, IsReplay, KeepsReplay, Replays, ReplaysOver}
+use Rattle.sc_workers.specs.Crews.{Delivers, is_delivery, is_did, refusal_in, Goes, AllGo, Took, AllTook, Passed, AllPassed, Sound, AllSound, AllOf, AllMet, HasMet, IsOver, AllOver, rows_made, Still, AllStill, did, refusal}
+use Rattle.sc_workers.proofs.Lists.{starts_trans, sum_with, sum_zero}
+
+module _ {M O : Type 0} where
+  deliveries_append : (xs ys : List (Row M O)) → AllByRecursion (λ (r : Row M O). is_delivery r.event ≡ true) xs → AllByRecursion (λ (r : Row M O). is_delivery r.event ≡ true) ys → AllByRecursion (λ (r : Row M O). is_delivery r.event ≡ true) (xs ++ ys)
+  deliveries_append [] ys p q = q
+  deliveries_append (x ∷ xs) ys p q = (p.0, deliveries_append xs ys p.1 q)
+
+  delivers_none : (old new : List (Row M O)) → new ≡ old → Delivers old new
+  delivers_none old new same = record { rows = []; all = same ∙ sym (append-nil old); each = tt }
+
+  delivers_trans : (xs ys zs : List (Row M O)) → Delivers xs ys → Delivers ys zs → Delivers xs zs
+  delivers_trans xs ys zs p q = record {
+    rows = p.rows ++ q.rows;
+    all = q.all ∙ (ap (λ l. l ++ q.rows) p.all ∙ append_assoc xs p.rows q.rows);
+    each = deliveries_append p.rows q.rows p.each q.each;
+  }
 
 module _ {M O : Type 0} {h : MailGhosts M} where
   pub of_later : (net next : Port M O h) (p : Port M O h) → Looked net next → SameExchange p net → SameExchange p next
   of_later net next p l o = let e = l.stays.exchange in (e.0 ∙ o.0, e.1 ∙ o.1, e.2 ∙ o.2)
 
-  pub met_all : (p q : Port M O h) → Looked p q → length (rows_of q.who (seen p)) ≡ length (made q)
-  met_all p q l = ap (λ n. length (rows_of n (seen p))) l.stays.who ∙ (own_length p ∙ ap length (sym l.made))
+  stays_same : (p : Port M O h) → Stays p p
+  stays_same p = record { exchange = (refl, refl, refl); who = refl; given = refl; joined = refl }
+
+  stays_then : (p q r : Port M O h) → Stays p q → Stays q r → Stays p r
+  stays_then p q r a b = record {
+    exchange = (b.exchange.0 ∙ a.exchange.0, b.exchange.1 ∙ a.exchange.1, b.exchange.2 ∙ a.exchange.2);
+    who = b.who ∙ a.who;
+    given = b.given ∙ a.given;
+    joined = b.joined ∙ a.joined;
+  }
+
+some_injective : (x y : Turn) → Some x ≡ Some y → x ≡ y
+some_injective x y e = cc
+
+one_or_none : (b : Bool) → cond {A = ℕ} (b && false) 1 0 ≡ 0
+one_or_none true = refl
+one_or_none false = refl
+
+full_last : (o : Option Turn) (r : Turn) (bytes : ℕ) → o ≡ Some r → refusal_in o ≡ Full bytes → r ≡ Full bytes
+full_last o (Full other) bytes e f = ap refusal_in (sym e) ∙ f
+full_last o (Did at) bytes e f = (let told : OutOfMemory ≡ Full bytes = ap refusal_in (sym e) ∙ f in cc)
+full_last o (Empty seen) bytes e f = (let told : OutOfMemory ≡ Full bytes = ap refusal_in (sym e) ∙ f in cc)
+full_last o Spent bytes e f = (let told : OutOfMemory ≡ Full bytes = ap refusal_in (sym e) ∙ f in cc)
+full_last o OutOfMemory bytes e f = (let told : OutOfMemory ≡ Full bytes = ap refusal_in (sym e) ∙ f in cc)
 
 module _ {A M O : Type 0} {g : Ghosts A M O} {h : MailGhosts M} where
   pub goes_same : (s : Shell A M O g h) → Goes s s
-  goes_same s = record { stays = record { exchange = (refl, refl, refl); who = refl; given = refl; joined = refl }; replay = λ birth r. r }
+  goes_same s = record { stays = stays_same s.port; replay = λ birth r. r; made = delivers_none (made s.port) (made s.port) refl }
 
   pub goes_trans : (s t u : Shell A M O g h) → Goes s t → Goes t u → Goes s u
   goes_trans s t u a b = record {
-    stays = record {
-      exchange = (b.stays.exchange.0 ∙ a.stays.exchange.0, b.stays.exchange.1 ∙ a.stays.exchange.1, b.stays.exchange.2 ∙ a.stays.exchange.2);
-      who = b.stays.who ∙ a.stays.who;
-      given = b.stays.given ∙ a.stays.given;
-      joined = b.stays.joined ∙ a.stays.joined;
-    };
+    stays = stays_then s.port t.port u.port a.stays b.stays;
     replay = λ birth r. b.replay birth (a.replay birth r);
+    made = delivers_trans (made s.port) (made t.port) (made u.port) a.made b.made;
   }
 
+  -- what a turn made
+  takes_made : (s t : State A M O g h) (r : Turn) → Takes s t 1 r → Delivers (made s.port) (made t.port)
+  takes_made s t (Did at) x = record { rows = _; all = x.2.0.made; each = (refl, tt) }
+  takes_made s t (Empty told) x = delivers_none (made s.port) (made t.port) x.1.0.made
+  takes_made s t (Full bytes) x = delivers_none (made s.port) (made t.port) x.2.0.made
+  takes_made s t Spent x = delivers_none (made s.port) (made t.port) (ap made x.2)
+  takes_made s t OutOfMemory x = delivers_none (made s.port) (made t.port) x.1.made
+
+  pub took_turn : (s t : Shell A M O g h) (r : Turn) → s.spent ≡ false → Stays s.port t.port → ((birth : A) → IsReplay s birth → IsReplay t birth) → Takes (state s) (state t) 1 r → t.last ≡ Some r → Took s t
+  took_turn s t r free stays replay takes last = record {
+    goes = record { stays = stays; replay = replay; made = takes_made (state s) (state t) r takes };
+    acts = inr (free, (r, takes, last));
+  }
+
+  pub took_none : (s : Shell A M O g h) → s.spent ≡ true → Took s s
+  took_none s spent = record { goes = goes_same s; acts = inl (spent, refl) }
+
+  did_last : (t : Shell A M O g h) (r : Turn) → t.last ≡ Some r → t.port.crashed ≡ false → did t ≡ cond {A = ℕ} (is_did (Some r)) 1 0
+  did_last t r last runs = λ i. cond (not (runs i) && is_did (last i)) 1 0
+
+  did_not : (t : Shell A M O g h) → is_did t.last ≡ false → did t ≡ 0
+  did_not t stuck = ap (λ b. cond (not t.port.crashed && b) 1 0) stuck ∙ one_or_none (not t.port.crashed)
+
+  takes_did : (s t : Shell A M O g h) (r : Turn) → s.spent ≡ false → Takes (state s) (state t) 1 r → t.last ≡ Some r → length (made t.port) ≡ length (made s.port) + did t
+  takes_did s t (Did at) free x last =
+      let one : did t ≡ 1 = did_last t (Did at) last x.2.4 in
+      omega (arith, ap length x.2.0.made ∙ length-append (made s.port) (_ ∷ []), one)
+  takes_did s t (Empty told) free x last = let none = did_not t (ap is_did last) in omega (arith, ap length x.1.0.made, none)
+  takes_did s t (Full bytes) free x last = let none = did_not t (ap is_did last) in omega (arith, ap length x.2.0.made, none)
+  takes_did s t Spent free x last = absurd (true≢false (sym x.0 ∙ free))
+  takes_did s t OutOfMemory free x last = let none = did_not t (ap is_did last) in omega (arith, ap length x.1.made, none)
+
+  crashed_did : (s t : Shell A M O g h) → t ≡ s → s.port.crashed ≡ true → length (made t.port) ≡ length (made s.port) + did t
+  crashed_did s t same crashed =
+      let none : did t ≡ 0 = ap did same ∙ ap (λ b. cond (not b && is_did s.last) 1 0) crashed in
+      omega (arith, ap (λ (x : Shell A M O g h). length (made x.port)) same, none)
+
+  pub took_did : (s t : Shell A M O g h) → Sound s → Took s t → length (made t.port) ≡ length (made s.port) + did t
+  took_did s t sound took =
+      ⊎_elim (λ x. crashed_did s t x.1 (sound x.0)) (λ x. takes_did s t x.1.0 x.0 x.1.1 x.1.2) took.acts
+
+  pub passed_goes : (s t : Shell A M O g h) → Passed s t → Goes s t
+  passed_goes s t p = ⊎_elim (λ same. subst (Goes s) (sym same) (goes_same s)) (λ (took : Took s t). took.goes) p
+
+  -- a shell that was not refused is sound
+  pub calm_sound : (s : Shell A M O g h) → refusal s ≡ None → Sound s
+  calm_sound s calm spent = by s.port.crashed refl
+    where
+      by : (b : Bool) → s.port.crashed ≡ b → s.port.crashed ≡ true
+      by true e = e
+      by false e = (let told : Some (refusal_in s.last) ≡ None = sym (λ i. cond (spent i && not (e i)) (Some (refusal_in s.last)) None) ∙ calm in cc)
+
+  pub refused_so : (s : Shell A M O g h) (r : Turn) → refusal s ≡ Some r → (s.spent ≡ true) × (s.port.crashed ≡ false) × (refusal_in s.last ≡ r)
+  refused_so s r e = by s.spent s.port.crashed refl refl
+    where
+      by : (a b : Bool) → s.spent ≡ a → s.port.crashed ≡ b → (s.spent ≡ true) × (s.port.crashed ≡ false) × (refusal_in s.last ≡ r)
+      by true false x y = (x, y, some_injective (refusal_in s.last) r (sym (λ i. cond (x i && not (y i)) (Some (refusal_in s.last)) None) ∙ e))
+      by true true x y = (let told : None ≡ Some r = sym (λ i. cond (x i && not (y i)) (Some (refusal_in s.last)) None) ∙ e in cc)
+      by false b x y = (let told : None ≡ Some r = sym (λ i. cond (x i && not (y i)) (Some (refusal_in s.last)) None) ∙ e in cc)
+
+  -- a shell that was refused in this round answered so
+  pub passed_full : (s t : Shell A M O g h) (bytes : ℕ) → Sound s → Passed s t → refusal t ≡ Some (Full bytes) → Takes (state s) (state t) 1 (Full bytes)
+  passed_full s t bytes sound p e =
+      let told = refused_so t (Full bytes) e in
+      ⊎_elim (λ same. stuck same told.0 told.1)
+      (λ (took : Took s t). ⊎_elim (λ x. stuck x.1 told.0 told.1) (λ x. subst (Takes (state s) (state t) 1) (full_last t.last x.1.0 bytes x.1.2 told.2) x.1.1) took.acts) p
+    where
+      stuck : t ≡ s → t.spent ≡ true → t.port.crashed ≡ false → Takes (state s) (state t) 1 (Full bytes)
+      stuck same spent runs = absurd (true≢false (sym (sound (ap (λ (x : Shell A M O g h). x.spent) (sym same) ∙ spent)) ∙ (ap (λ (x : Shell A M O g h). x.port.crashed) (sym same) ∙ runs)))
+
+  pub still_same : (s : Shell A M O g h) → Still s s
+  still_same s = record { goes = goes_same s; made = refl; later = ([], sym (append-nil (seen s.port))); spent = refl; crashed = refl }
+
+  pub still_trans : (s t u : Shell A M O g h) → Still s t → Still t u → Still s u
+  still_trans s t u a b = record {
+    goes = goes_trans s t u a.goes b.goes;
+    made = b.made ∙ a.made;
+    later = starts_trans (seen u.port) (seen t.port) (seen s.port) b.later a.later;
+    spent = b.spent ∙ a.spent;
+    crashed = b.crashed ∙ a.crashed;
+  }
+
+  pub still_made : (s t : Shell A M O g h) → Stays s.port t.port → KeepsReplay s t → made t.port ≡ made s.port → Goes s t
+  still_made s t stays replay same = record { stays = stays; replay = replay; made = delivers_none (made s.port) (made t.port) same }
+
+  -- lists
   pub all_go_trans : (ss ts us : List (Shell A M O g h)) → length ts ≡ length ss → AllGo ss ts → AllGo ts us → AllGo ss us
   all_go_trans ss ts us l a b k d lt = goes_trans (get_or ss k d) (get_or ts k d) (get_or us k d) (a k d lt) (b k d (omega (arith, l, lt)))
+
+  pub all_go_same : (ss : List (Shell A M O g h)) → AllGo ss ss
+  all_go_same ss k d lt = goes_same (get_or ss k d)
+
+  pub still_all_go : (ss ts : List (Shell A M O g h)) → AllStill ss ts → AllGo ss ts
+  still_all_go ss ts a k d lt = (a k d lt).goes
+
+  pub passed_all_go : (ss ts : List (Shell A M O g h)) → AllPassed ss ts → AllGo ss ts
+  passed_all_go ss ts a k d lt = passed_goes (get_or ss k d) (get_or ts k d) (a k d lt)
+
+  pub took_all_passed : (ss ts : List (Shell A M O g h)) → AllTook ss ts → AllPassed ss ts
+  took_all_passed ss ts a k d lt = inr (a k d lt)
+
+  pub all_still_trans : (ss ts us : List (Shell A M O g h)) → length ts ≡ length ss → AllStill ss ts → AllStill ts us → AllStill ss us
+  all_still_trans ss ts us l a b k d lt = still_trans (get_or ss k d) (get_or ts k d) (get_or us k d) (a k d lt) (b k d (omega (arith, l, lt)))
+
+  pub all_still_same : (ss : List (Shell A M O g h)) → AllStill ss ss
+  all_still_same ss k d lt = still_same (get_or ss k d)
+
+  pub still_sound : (ss ts : List (Shell A M O g h)) → length ts ≡ length ss → AllStill ss ts → AllSound ss → AllSound ts
+  still_sound ss ts l a sound k d lt spent = let s = a k d (omega (arith, l, lt)) in s.crashed ∙ sound k d (omega (arith, l, lt)) (sym s.spent ∙ spent)
+
+  pub still_rows : (ss ts : List (Shell A M O g h)) → length ts ≡ length ss → AllStill ss ts → rows_made ts ≡ rows_made ss
+  still_rows ss ts l a =
+      let e = sum_with (λ (s : Shell A M O g h). length (made s.port)) (λ (s : Shell A M O g h). 0) ss ts l (λ k d lt. omega (arith, ap length (a k d lt).made)) in
+      omega (arith, e, sum_zero ts)
+
+  -- how many rows a round made
+  pub took_rows : (ss ts : List (Shell A M O g h)) → length ts ≡ length ss → AllSound ss → AllTook ss ts → rows_made ts ≡ rows_made ss + sum_by did ts
+  took_rows ss ts l sound a =
+      sum_with (λ (s : Shell A M O g h). length (made s.port)) did ss ts l (λ k d lt. took_did (get_or ss k d) (get_or ts k d) (sound k d lt) (a k d lt))
 
   pub all_of_go : (net : Port M O h) (ss ts : List (Shell A M O g h)) → length ts ≡ length ss → AllGo ss ts → AllOf net ss → AllOf net ts
   all_of_go net ss ts l a of k d lt =
@@ -45,15 +202,35 @@ module _ {A M O : Type 0} {g : Ghosts A M O} {h : MailGhosts M} where
   all_of_later net next ss l of k d lt = of_later net next (get_or ss k d).port l (of k d lt)
 
   pub has_later : (net next : Port M O h) (s : Shell A M O g h) → Looked net next → HasMet net s → HasMet next s
-  has_later net next s l m = record { rows = m.rows; seen = starts_trans (seen next) (seen net) m.rows l.later m.seen; all = m.all }
+  has_later net next s l m = record { begins = starts_trans (seen next) (seen net) (seen s.port) l.later m.begins }
+
+  pub met_same : (net next : Port M O h) (s : Shell A M O g h) → seen next ≡ seen net → HasMet net s → HasMet next s
+  met_same net next s e m = record { begins = subst (λ l. StartsWith l (seen s.port)) (sym e) m.begins }
 
   pub all_met_later : (net next : Port M O h) (ss : List (Shell A M O g h)) → Looked net next → AllMet net ss → AllMet next ss
   all_met_later net next ss l met k d lt = has_later net next (get_or ss k d) l (met k d lt)
 
-  -- the shells before a place went on, and the others are as they were
-  pub all_go_partly : (before now : List (Shell A M O g h)) (i : ℕ) → ((k : ℕ) (d : Shell A M O g h) → k < i → Goes (get_or before k d) (get_or now k d)) → ((k : ℕ) (d : Shell A M O g h) → i ≤ k → get_or now k d ≡ get_or before k d) → AllGo before now
-  all_go_partly before now i done left k d lt =
-      ⊎_elim (λ t. done k d (omega (arith, t.1))) (λ t. subst (Goes (get_or before k d)) (sym (left k d (omega (arith, t.1)))) (goes_same (get_or before k d))) (leb_tells (suc k) i)
+  pub over_same : (net next : Port M O h) (s : Shell A M O g h) → seen next ≡ seen net → IsOver net s → IsOver next s
+  over_same net next s e o = record {
+    begins = subst (λ l. StartsWith l (seen s.port)) (sym e) o.begins;
+    own = ap (rows_of s.port.who) e ∙ o.own;
+    replay = λ birth r. subst (λ l. ReplaysOver s l birth) (sym e) (o.replay birth r);
+  }
 
-  pub all_go_same : (ss : List (Shell A M O g h)) → AllGo ss ss
-  all_go_same ss k d lt = goes_same (get_or ss k d)
+  pub all_over_same : (net next : Port M O h) (ss : List (Shell A M O g h)) → seen next ≡ seen net → AllOver net ss → AllOver next ss
+  all_over_same net next ss e over k d lt = over_same net next (get_or ss k d) e (over k d lt)
+
+-- the elements before a place are related, and the others are as they were
+pub all_partly : {X : Type 0} (R : X → X → Type 0) → ((x : X) → R x x) → (before now : List X) (i : ℕ) → ((k : ℕ) (d : X) → k < i → R (get_or before k d) (get_or now k d)) → ((k : ℕ) (d : X) → i ≤ k → get_or now k d ≡ get_or before k d) → (k : ℕ) (d : X) → k < length before → R (get_or before k d) (get_or now k d)
+all_partly R same before now i done left k d lt =
+    ⊎_elim (λ t. done k d (omega (arith, t.1))) (λ t. subst (R (get_or before k d)) (sym (left k d (omega (arith, t.1)))) (same (get_or before k d))) (leb_tells (suc k) i)
+
+module _ {A M O : Type 0} {g : Ghosts A M O} {h : MailGhosts M} where
+  -- a shell that has vouched
+  pub over_vouched : (net next : Port M O h) (s t : Shell A M O g h) → HasMet net s → seen next ≡ seen net → seen t.port ≡ seen s.port → t.port.who ≡ s.port.who → t.actor ≡ s.actor → rows_of s.port.who (seen next) ≡ made t.port
+      → ((birth : A) → Replays s birth → ReplaysOver t (seen next) birth) → IsOver next t
+  over_vouched net next s t met theirs mine who actor own over = record {
+    begins = (met.begins.0, theirs ∙ (met.begins.1 ∙ ap (λ l. l ++ met.begins.0) (sym mine)));
+    own = ap (λ n. rows_of n (seen next)) who ∙ own;
+    replay = λ birth r. over birth (sym actor ∙ (r ∙ (λ i. value g.table (record { who = who i; actor = birth }) (mine i))));
+  }

@@ -1,2 +1,4 @@
 pub mod Lists
 pub mod Crews
+pub mod Refusing
+pub mod Ending

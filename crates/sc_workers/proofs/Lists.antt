@@ -1,7 +1,9 @@
 -- Lists of which one element after another is changed.
-use Rattle.std.proofs.Common.{◌≡◌, ◌≢◌, ℕ, zero, suc, ◌+◌, ◌<◌, ◌≤◌, List, [], ◌∷◌, ◌++◌, length, get_or, set, sym, refl, ap, ◌∙◌, subst, arith, append_assoc, get_or-set_other, get_or-set_same}
+use Rattle.std.proofs.Common.{◌≡◌, ◌≢◌, ℕ, zero, suc, ◌+◌, ◌<◌, ◌≤◌, List, [], ◌∷◌, ◌++◌, length, get_or, set, sum_by, take, drop, sym, refl, ap, ◌∙◌, subst, arith, append_assoc, get_or-set_other, get_or-set_same}
 use mathlib.Core.Logic.{dite}
 use native.Mathlib.Decide.{ℕ_discrete}
+use Rattle.std.proofs.lemmas.List.{append-nil}
+use Rattle.std.proofs.lemmas.List.Sums.{sum_by-append}
 use Rattle.sc_turn.specs.Turn.{StartsWith}
 
 module _ {A : Type 0} where
@@ -37,3 +39,45 @@ module _ {A : Type 0} where
   -- the element at hand is the one that was there before
   pub item_was : (before now : List A) (i : ℕ) (item : A) → length now ≡ length before → i < length before → item ≡ get_or now i item → ((k : ℕ) (d : A) → i ≤ k → get_or now k d ≡ get_or before k d) → item ≡ get_or before i item
   item_was before now i item same inside is left = is ∙ left i item (omega arith)
+
+-- a slice of a whole vector, written back
+pub whole_slice : {A : Type 0} (new old : List A) (n : ℕ) → length new ≡ length old → n ≡ length old → take n (new ++ drop (length new) old) ≡ new
+whole_slice new old n same is =
+    ap (λ l. take n (new ++ l)) (drop_past old (length new) (omega (arith, same))) ∙ (ap (take n) (append-nil new) ∙ take_whole new n (omega (arith, is, same)))
+  where
+    drop_past : {A : Type 0} (xs : List A) (i : ℕ) → length xs ≤ i → drop i xs ≡ []
+    drop_past [] zero le = refl
+    drop_past [] (suc i) le = refl
+    drop_past (x ∷ xs) zero le = absurd (omega arith)
+    drop_past (x ∷ xs) (suc i) le = drop_past xs i (omega arith)
+
+    take_whole : {A : Type 0} (xs : List A) (i : ℕ) → length xs ≤ i → take i xs ≡ xs
+    take_whole [] zero le = refl
+    take_whole [] (suc i) le = refl
+    take_whole (x ∷ xs) zero le = absurd (omega arith)
+    take_whole (x ∷ xs) (suc i) le = ap (λ l. x ∷ l) (take_whole xs i (omega arith))
+
+-- sums over lists
+module _ {A : Type 0} where
+  sum_cons : (f : A → ℕ) (x : A) (xs : List A) → sum_by f (x ∷ xs) ≡ f x + sum_by f xs
+  sum_cons f x xs = let e : sum_by f (x ∷ xs) ≡ (0 + f x) + sum_by f xs = sum_by-append f (x ∷ []) xs in omega (arith, e)
+
+  pub sum_zero : (xs : List A) → sum_by (λ (x : A). 0) xs ≡ 0
+  sum_zero [] = refl
+  sum_zero (x ∷ xs) = omega (arith, sum_cons (λ (y : A). 0) x xs, sum_zero xs)
+
+  -- each number has grown by another
+  pub sum_with : (f g : A → ℕ) (xs ys : List A) → length ys ≡ length xs → ((k : ℕ) (d : A) → k < length xs → f (get_or ys k d) ≡ f (get_or xs k d) + g (get_or ys k d)) → sum_by f ys ≡ sum_by f xs + sum_by g ys
+  sum_with f g [] [] l each = omega arith
+  sum_with f g [] (y ∷ ys) l each = absurd (omega arith)
+  sum_with f g (x ∷ xs) [] l each = absurd (omega arith)
+  sum_with f g (x ∷ xs) (y ∷ ys) l each =
+      let rest = sum_with f g xs ys (omega (arith, l)) (λ k d lt. each (suc k) d (omega (arith, lt))) in
+      let first : f y ≡ f x + g y = each 0 x (omega arith) in
+      omega (arith, sum_cons f x xs, sum_cons f y ys, sum_cons g y ys, rest, first)
+
+  -- one element is another
+  pub sum_set : (f : A → ℕ) (xs : List A) (i : ℕ) (old new : A) → i < length xs → old ≡ get_or xs i old → sum_by f (set xs i new) + f old ≡ sum_by f xs + f new
+  sum_set f [] i old new lt is = absurd (omega arith)
+  sum_set f (x ∷ xs) zero old new lt is = omega (arith, sum_cons f new xs, sum_cons f x xs, ap f is)
+  sum_set f (x ∷ xs) (suc i) old new lt is = omega (arith, sum_cons f x (set xs i new), sum_cons f x xs, sum_set f xs i old new (omega arith) is)

@@ -1,48 +1,134 @@
 -- What a clause says of a list of shells.
-use Rattle.std.specs.Prelude.{◌≡◌, ℕ, ◌<◌, List, length, map, slice_index_or, true}
+use Rattle.std.specs.Prelude.{◌≡◌, ℕ, ◌<◌, List, ◌++◌, length, map, sum_by, slice_index_or, Bool, true, false, Option, Some, None, ◌⊎◌, ◌&&◌, not, if◌then◌else◌}
+use Rattle.std.specs.List.{AllByRecursion}
 use Rattle.sc_turn.specs.Turn.{StartsWith as Begins}
 use Rattle.sc_actor.specs.declared.actors.Actor.{Ghosts}
 use Rattle.sc_actor.specs.declared.actors.Parcel.{Ghosts as MailGhosts}
 use Rattle.sc_actor.specs.declared.rows.Row.{Row}
+use Rattle.sc_actor.specs.declared.rows.Event.{Event}
+use Rattle.sc_actor.specs.declared.rows.Event.TheVariants.{Deliver}
 use Rattle.sc_exchange.specs.declared.ports.Port.{Port}
 use Rattle.sc_exchange.specs.Deeds.{rows_of}
 use Rattle.sc_exchange.specs.Ports.{seen, made, SameExchange, Stays, Looked}
 use Rattle.sc_shell.specs.declared.shells.Shell.{Shell}
-use Rattle.sc_shell.specs.Shells.{KeepsReplay}
+use Rattle.sc_shell.specs.declared.turns.Turn.{Turn}
+use Rattle.sc_shell.specs.declared.turns.Turn.TheVariants.{Did, Full, OutOfMemory}
+use Rattle.sc_shell.specs.Shells.{Replays, ReplaysOver, KeepsReplay, Takes, state}
+
+abbrev pub is_delivery : {O : Type 0} → Event O → Bool
+is_delivery (Deliver number) = true
+is_delivery _ = false
+
+-- new rows are old, followed by deliveries
+pub record Delivers {M O : Type 0} (old new : List (Row M O)) : Type 0 where
+  pub rows : List (Row M O)
+  pub all : new ≡ old ++ rows
+  pub each : AllByRecursion (λ (row : Row M O). is_delivery row.event ≡ true) rows
+
+abbrev pub is_did : Option Turn → Bool
+is_did (Some (Did at)) = true
+is_did _ = false
+
+-- the refusal that an answer tells
+abbrev pub refusal_in : Option Turn → Turn
+refusal_in (Some (Full bytes)) = Full bytes
+refusal_in _ = OutOfMemory
 
 module _ {A M O : Type 0} {g : Ghosts A M O} {h : MailGhosts M} where
-  -- the shell of the same actor, which is the replay of its rows if it was
+  -- The shell of the same actor, which is the replay of its rows if it was. Each row that it made since is a delivery.
   pub record Goes (s t : Shell A M O g h) : Type 0 where
     pub stays : Stays s.port t.port
     pub replay : KeepsReplay s t
+    pub made : Delivers (made s.port) (made t.port)
 
   -- each shell is still that of its actor
   abbrev pub AllGo : List (Shell A M O g h) → List (Shell A M O g h) → Type 0
   AllGo ss ts = (k : ℕ) (d : Shell A M O g h) → k < length ss → Goes (slice_index_or ss k d) (slice_index_or ts k d)
 
+  -- a turn, or nothing where the shell was spent
+  pub record Took (s t : Shell A M O g h) : Type 0 where
+    pub goes : Goes s t
+    pub acts : ((s.spent ≡ true) × (t ≡ s)) ⊎ ((s.spent ≡ false) × ((r : Turn) × Takes (state s) (state t) 1 r × (t.last ≡ Some r)))
+
+  abbrev pub AllTook : List (Shell A M O g h) → List (Shell A M O g h) → Type 0
+  AllTook ss ts = (k : ℕ) (d : Shell A M O g h) → k < length ss → Took (slice_index_or ss k d) (slice_index_or ts k d)
+
+  -- a turn or none
+  abbrev pub Passed : Shell A M O g h → Shell A M O g h → Type 0
+  Passed s t = (t ≡ s) ⊎ Took s t
+
+  abbrev pub AllPassed : List (Shell A M O g h) → List (Shell A M O g h) → Type 0
+  AllPassed ss ts = (k : ℕ) (d : Shell A M O g h) → k < length ss → Passed (slice_index_or ss k d) (slice_index_or ts k d)
+
   -- each shell is of the exchange of the port
   abbrev pub AllOf : Port M O h → List (Shell A M O g h) → Type 0
   AllOf net ss = (k : ℕ) (d : Shell A M O g h) → k < length ss → SameExchange (slice_index_or ss k d).port net
 
-  -- each shell that is spent has posted a Crash
-  abbrev pub AllSound : List (Shell A M O g h) → Type 0
-  AllSound ss = (k : ℕ) (d : Shell A M O g h) → k < length ss → (slice_index_or ss k d).spent ≡ true → (slice_index_or ss k d).port.crashed ≡ true
+  -- a shell that is spent has posted a Crash
+  abbrev pub Sound : Shell A M O g h → Type 0
+  Sound s = s.spent ≡ true → s.port.crashed ≡ true
 
-  -- the port has seen all rows that the shell made
+  abbrev pub AllSound : List (Shell A M O g h) → Type 0
+  AllSound ss = (k : ℕ) (d : Shell A M O g h) → k < length ss → Sound (slice_index_or ss k d)
+
+  -- what the port has seen begins with what the shell's port has seen
   pub record HasMet (net : Port M O h) (s : Shell A M O g h) : Type 0 where
-    pub rows : List (Row M O)
-    pub seen : Begins (seen net) rows
-    pub all : length (rows_of s.port.who rows) ≡ length (made s.port)
+    pub begins : Begins (seen net) (seen s.port)
 
   abbrev pub AllMet : Port M O h → List (Shell A M O g h) → Type 0
   AllMet net ss = (k : ℕ) (d : Shell A M O g h) → k < length ss → HasMet net (slice_index_or ss k d)
+
+  -- What the port has seen begins with what the shell's port has seen, and the actor's rows in it are those that the shell made. So an actor that is the replay of its rows is that of its rows in it.
+  pub record IsOver (net : Port M O h) (s : Shell A M O g h) : Type 0 where
+    pub begins : Begins (seen net) (seen s.port)
+    pub own : rows_of s.port.who (seen net) ≡ made s.port
+    pub replay : (birth : A) → Replays s birth → ReplaysOver s (seen net) birth
+
+  abbrev pub AllOver : Port M O h → List (Shell A M O g h) → Type 0
+  AllOver net ss = (k : ℕ) (d : Shell A M O g h) → k < length ss → IsOver net (slice_index_or ss k d)
 
   -- the numbers of the shells' actors
   abbrev pub numbers : List (Shell A M O g h) → List ℕ
   numbers ss = map (λ s. s.port.who) ss
 
+  -- how many rows the shells made in all
+  abbrev pub rows_made : List (Shell A M O g h) → ℕ
+  rows_made ss = sum_by (λ s. length (made s.port)) ss
+
+  -- the same shell, which may have seen more
+  pub record Still (s t : Shell A M O g h) : Type 0 where
+    pub goes : Goes s t
+    pub made : made t.port ≡ made s.port
+    pub later : Begins (seen t.port) (seen s.port)
+    pub spent : t.spent ≡ s.spent
+    pub crashed : t.port.crashed ≡ s.port.crashed
+
+  abbrev pub AllStill : List (Shell A M O g h) → List (Shell A M O g h) → Type 0
+  AllStill ss ts = (k : ℕ) (d : Shell A M O g h) → k < length ss → Still (slice_index_or ss k d) (slice_index_or ts k d)
+
   -- a shell met the port
   pub record Met (s t : Shell A M O g h) (n m : Port M O h) : Type 0 where
-    pub goes : Goes s t
+    pub still : Still s t
     pub net : Looked n m
     pub has : HasMet m t
+
+  -- a shell vouched for what the port has seen
+  pub record VouchedFor (s t : Shell A M O g h) (n m : Port M O h) : Type 0 where
+    pub still : Still s t
+    pub net : Looked n m
+    pub same : (seen m ≡ seen n) × (seen t.port ≡ seen s.port)
+    pub over : IsOver m t
+
+  -- 1 where the shell's last turn made a row
+  abbrev pub did : Shell A M O g h → ℕ
+  did s = if not s.port.crashed && is_did s.last then 1 else 0
+
+  -- why the shell was refused, where it is spent and has not crashed
+  abbrev pub refusal : Shell A M O g h → Option Turn
+  refusal s = if s.spent && not s.port.crashed then Some (refusal_in s.last) else None
+
+  -- a shell in the list was refused so
+  pub record HasRefusal (ss : List (Shell A M O g h)) (r : Turn) : Type 0 where
+    pub place : ℕ
+    pub inside : place < length ss
+    pub told : (d : Shell A M O g h) → refusal (slice_index_or ss place d) ≡ Some r

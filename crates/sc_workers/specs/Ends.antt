@@ -1,24 +1,67 @@
 -- How rounds end.
-use Rattle.std.specs.Prelude.{◌≡◌, ℕ, ◌≤◌, List, Bool, true, false, ⊤, is_some}
+use Rattle.std.specs.Prelude.{◌≡◌, ℕ, ◌+◌, ◌<◌, ◌≤◌, List, length, slice_index_or, Bool, true, false, ⊤, Some, is_some}
 use Rattle.std.specs.List.{list_any}
+use Rattle.sc_turn.specs.Turn.{StartsWith as Begins}
 use Rattle.sc_actor.specs.declared.actors.Actor.{Ghosts}
 use Rattle.sc_actor.specs.declared.actors.Parcel.{Ghosts as MailGhosts}
+use Rattle.sc_actor.specs.declared.rows.Row.{Row}
+use Rattle.sc_actor.specs.declared.rows.Event.TheVariants.{Deliver}
+use Rattle.sc_actor.specs.Mail.{mails, numbered}
+use Rattle.sc_actor.specs.Counted.{row_bytes, journal_bytes}
+use Rattle.sc_actor.specs.System.{row_of}
 use Rattle.sc_ledger.specs.Pending.{kth_pending}
 use Rattle.sc_exchange.specs.declared.ports.Port.{Port}
 use Rattle.sc_exchange.specs.Ports.{seen}
 use Rattle.sc_shell.specs.declared.shells.Shell.{Shell}
+use Rattle.sc_shell.specs.declared.turns.Turn.{Turn}
+use Rattle.sc_shell.specs.declared.turns.Turn.TheVariants.{Full as RefusedFull}
+use Rattle.sc_shell.specs.Shells.{IsReplay}
 use Rattle.sc_workers.specs.declared.answers.Rounds.{Rounds}
 use Rattle.sc_workers.specs.declared.answers.Rounds.TheVariants.{Quiet, Limit, Full, OutOfMemory}
-use Rattle.sc_workers.specs.Crews.{AllMet}
+use Rattle.sc_workers.specs.Crews.{AllOver, rows_made}
 
 -- whether, after what the port has seen, mail is pending for one of these actors
 abbrev pub any_waits : {M O : Type 0} {h : MailGhosts M} → Port M O h → List ℕ → Bool
 any_waits {M} {O} {h} net whos = list_any (λ who. is_some (kth_pending h.receiver net.actors (seen net) who 1)) whos
 
 module _ {A M O : Type 0} {g : Ghosts A M O} {h : MailGhosts M} where
-  -- Quiet where nothing is pending for the shells' actors, Limit where all deliveries were used and mail is pending. But for want of memory the port has seen all rows that the shells made
-  abbrev pub IsEnd : Rounds → Port M O h → List (Shell A M O g h) → List ℕ → ℕ → Type 0
-  IsEnd (Quiet used) net ss whos limit = AllMet net ss × (any_waits net whos ≡ false) × (used ≤ limit)
-  IsEnd (Limit used) net ss whos limit = AllMet net ss × (any_waits net whos ≡ true) × (used ≡ limit)
-  IsEnd (Full bytes) net ss whos limit = AllMet net ss
-  IsEnd OutOfMemory net ss whos limit = ⊤
+  -- A shell that is spent and has not crashed. When it fetched its first pending mail, first ones of the rows that the port has seen were there. After all rows that the port has seen, the row of this mail by the actor's table passes the limit, and `bytes` is at most their counted bytes.
+  pub record IsRefused (start : Shell A M O g h) (net : Port M O h) (s : Shell A M O g h) (bytes : ℕ) : Type 0 where
+    pub spent : s.spent ≡ true
+    pub runs : s.port.crashed ≡ false
+    pub rows : List (Row M O)
+    pub later : Begins (seen net) rows
+    pub number : ℕ
+    pub mail : M
+    pub kth : kth_pending h.receiver net.actors rows s.port.who 1 ≡ Some number
+    pub mail_is : numbered (mails (seen net)) number ≡ Some mail
+    pub passes : (birth : A) → IsReplay start birth →
+        net.limit < journal_bytes h.weighs (seen net) + row_bytes h.weighs (row_of g.table (record { who = s.port.who; actor = birth }) (seen net) (Deliver number))
+    pub told : bytes ≤ journal_bytes h.weighs (seen net)
+
+  -- the cause of Full: a shell of the list was refused
+  pub record IsFull (start : List (Shell A M O g h)) (net : Port M O h) (ss : List (Shell A M O g h)) (bytes : ℕ) : Type 0 where
+    pub place : ℕ
+    pub inside : place < length ss
+    pub refused : (d : Shell A M O g h) → IsRefused (slice_index_or start place d) net (slice_index_or ss place d) bytes
+
+  -- Quiet where nothing is pending for the shells' actors, Limit where all deliveries were used and mail is pending. `used` counts the rows that the shells made since the start, all of which are deliveries. But for want of memory the port has seen all that the shells have.
+  abbrev pub IsEnd : Rounds → Port M O h → List (Shell A M O g h) → List (Shell A M O g h) → List ℕ → ℕ → Type 0
+  IsEnd (Quiet used) net start ss whos limit = AllOver net ss × (any_waits net whos ≡ false) × (used ≤ limit) × (rows_made ss ≡ rows_made start + used)
+  IsEnd (Limit used) net start ss whos limit = AllOver net ss × (any_waits net whos ≡ true) × (used ≡ limit) × (rows_made ss ≡ rows_made start + used)
+  IsEnd (Full bytes) net start ss whos limit = AllOver net ss × IsFull start net ss bytes
+  IsEnd OutOfMemory net start ss whos limit = ⊤
+
+  -- the end that a round comes to, where so many deliveries were made
+  abbrev pub StepEnd : Rounds → Port M O h → List (Shell A M O g h) → List (Shell A M O g h) → List ℕ → ℕ → ℕ → Type 0
+  StepEnd (Quiet told) net start ss whos limit used = AllOver net ss × (any_waits net whos ≡ false) × (told ≡ used)
+  StepEnd (Limit told) net start ss whos limit used = AllOver net ss × (any_waits net whos ≡ true) × (told ≡ used) × (used ≡ limit)
+  StepEnd (Full bytes) net start ss whos limit used = AllOver net ss × IsFull start net ss bytes
+  StepEnd OutOfMemory net start ss whos limit used = ⊤
+
+  -- the end by a refusal
+  abbrev pub RefusedEnd : Rounds → Turn → Port M O h → List (Shell A M O g h) → Type 0
+  RefusedEnd (Full bytes) refused net ss = (refused ≡ RefusedFull bytes) × AllOver net ss
+  RefusedEnd OutOfMemory refused net ss = ⊤
+  RefusedEnd (Quiet told) refused net ss = ⊥
+  RefusedEnd (Limit told) refused net ss = ⊥

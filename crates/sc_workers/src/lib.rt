@@ -8,3 +8,6 @@ mod turns;
 
 pub use answers::Rounds;
 pub use playing::rounds;
+
+#[cfg(test)]
+mod tests;

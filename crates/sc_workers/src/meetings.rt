@@ -1,7 +1,7 @@
 //! Meetings of the shells with the network's port.
 ghost use Rattle.std.specs.Prelude.{◌≡◌, length, OnOk, IfOk};
-ghost use Rattle.sc_exchange.specs.Ports.{SameExchange, Looked};
-ghost use Rattle.sc_workers.specs.Crews.{AllGo, AllOf, AllMet, Met, numbers};
+ghost use Rattle.sc_exchange.specs.Ports.{SameExchange, Looked, seen};
+ghost use Rattle.sc_workers.specs.Crews.{AllStill, AllOf, AllMet, AllOver, HasMet, Met, VouchedFor, numbers};
 
 use sc_actor::Actor;
 use sc_base::OutOfMemory;
@@ -28,7 +28,7 @@ pub(crate) fn meet_all<A: Actor, R: Wait>(
     shells: &mut [Shell<A>],
 ) -> Result<(), OutOfMemory>
     requires exchange { AllOf net.old shells.old }
-    ensures same { AllGo shells.old shells.new }
+    ensures same { AllStill shells.old shells.new }
     ensures net { Looked net.old net.new }
     ensures met { OnOk result (AllMet net.new shells.new) }
 {
@@ -46,11 +46,44 @@ pub(crate) fn meet<A: Actor, R: Wait>(
 ) -> Result<(), OutOfMemory>
     requires exchange { AllOf net.old shells.old.items }
     ensures len { length shells.new.items ≡ length shells.old.items }
-    ensures same { AllGo shells.old.items shells.new.items }
+    ensures same { AllStill shells.old.items shells.new.items }
     ensures net { Looked net.old net.new }
     ensures met { OnOk result (AllMet net.new shells.new.items) }
 {
     meet_all(rt, net, shells.as_mut_slice())
+}
+
+fn vouch_one<A: Actor>(net: &mut Port<A::Mail, A::Order>, shell: &mut Shell<A>)
+    requires exchange { SameExchange shell.old.port net.old }
+    requires met { HasMet net.old shell.old }
+    ensures { VouchedFor shell.old shell.new net.old net.new }
+{
+    shell.vouch(net);
+}
+
+/// Each shell vouches for what the port has seen.
+pub(crate) fn vouch_all<A: Actor>(net: &mut Port<A::Mail, A::Order>, shells: &mut [Shell<A>])
+    requires exchange { AllOf net.old shells.old }
+    requires met { AllMet net.old shells.old }
+    ensures same { AllStill shells.old shells.new }
+    ensures net { Looked net.old net.new × (seen net.new ≡ seen net.old) }
+    ensures over { AllOver net.new shells.new }
+{
+    for shell in shells.iter_mut() {
+        vouch_one(net, shell);
+    }
+}
+
+/// Each shell of a vector vouches for what the port has seen.
+pub(crate) fn vouch<A: Actor>(net: &mut Port<A::Mail, A::Order>, shells: &mut Vec<Shell<A>>)
+    requires exchange { AllOf net.old shells.old.items }
+    requires met { AllMet net.old shells.old.items }
+    ensures len { length shells.new.items ≡ length shells.old.items }
+    ensures same { AllStill shells.old.items shells.new.items }
+    ensures net { Looked net.old net.new × (seen net.new ≡ seen net.old) }
+    ensures over { AllOver net.new shells.new.items }
+{
+    vouch_all(net, shells.as_mut_slice());
 }
 
 /// The numbers of the shells' actors.

@@ -1,12 +1,12 @@
 //! The rounds.
-ghost use Rattle.std.specs.Prelude.{◌≡◌, ◌<◌, ◌≤◌, IfSome, length};
+ghost use Rattle.std.specs.Prelude.{◌≡◌, ◌<◌, ◌≤◌, ◌+◌, None, IfSome, IfNone, length};
 ghost use Rattle.sc_exchange.specs.Ports.{Looked};
-ghost use Rattle.sc_workers.specs.Ends.{IsEnd};
-ghost use Rattle.sc_workers.specs.Crews.{AllGo, AllOf, AllSound, numbers};
+ghost use Rattle.sc_workers.specs.Ends.{IsEnd, StepEnd, RefusedEnd};
+ghost use Rattle.sc_workers.specs.Crews.{AllGo, AllOf, AllMet, AllPassed, AllSound, AllStill, HasRefusal, numbers, rows_made};
 
 use crate::answers::Rounds;
-use crate::meetings::{meet, numbers_of};
-use crate::turns::{Tally, at_once, in_order, tallied};
+use crate::meetings::{meet, numbers_of, vouch};
+use crate::turns::{at_once, did_in, in_order, refused_in};
 use sc_actor::{Actor, Gate};
 use sc_exchange::Port;
 use sc_shell::{Shell, Turn};
@@ -14,7 +14,7 @@ use std::alloc::Global;
 use std::sync::Wait;
 use std::thread::Threads;
 
-// One round, of which the deliveries are counted. Some where a refusal ends the call.
+// One round. Answers how many deliveries were made in it.
 fn play_round<A: Actor, G: Gate, R: Threads + Wait + Sync>(
     rt: &R,
     alloc: Global,
@@ -22,18 +22,20 @@ fn play_round<A: Actor, G: Gate, R: Threads + Wait + Sync>(
     shells: &mut Vec<Shell<A>>,
     workers: u32,
     left: u32,
-) -> Tally
+) -> u32
     requires workers { 0 < workers }
+    requires sound { AllSound shells.old.items }
     ensures len { length shells.new.items ≡ length shells.old.items }
-    ensures same { AllGo shells.old.items shells.new.items }
-    ensures did { result.did ≤ left }
+    ensures passed { AllPassed shells.old.items shells.new.items }
+    ensures most { result ≤ left }
+    ensures did { rows_made shells.new.items ≡ rows_made shells.old.items + result }
 {
     let size = shells.len().div_ceil(workers as usize);
     if size == 0 || (left as usize) < shells.len() {
         return in_order(rt, alloc, gate, shells.as_mut_slice(), left);
     }
     at_once(rt, alloc, gate, shells, size);
-    tallied(shells.as_slice())
+    did_in(shells.as_slice())
 }
 
 // What comes before a round: the meetings, and the ends that are found there.
@@ -48,17 +50,20 @@ fn prepare<A: Actor, R: Wait>(
     requires exchange { AllOf net.old shells.old.items }
     requires used { used ≤ limit }
     ensures len { length shells.new.items ≡ length shells.old.items }
-    ensures same { AllGo shells.old.items shells.new.items }
+    ensures same { AllStill shells.old.items shells.new.items }
     ensures net { Looked net.old net.new }
-    ensures end { IfSome result (λ answer. IsEnd answer net.new shells.new.items whos.now limit) }
+    ensures end { IfSome result (λ answer. StepEnd answer net.new shells.old.items shells.new.items whos.now limit used) }
 {
-    if meet(rt, net, shells).is_err() {
+    let Ok(()) = meet(rt, net, shells) else {
         return Some(Rounds::OutOfMemory);
-    }
-    if !net.any_pending(rt, whos) {
+    };
+    let waits = net.any_pending(rt, whos);
+    if !waits {
+        vouch(net, shells);
         return Some(Rounds::Quiet { used });
     }
     if used == limit {
+        vouch(net, shells);
         return Some(Rounds::Limit { used });
     }
     None
@@ -69,22 +74,21 @@ fn ended<A: Actor, R: Wait>(
     rt: &R,
     net: &mut Port<A::Mail, A::Order>,
     shells: &mut Vec<Shell<A>>,
-    whos: &[u32],
-    limit: u32,
     refused: Turn,
 ) -> Rounds
     requires exchange { AllOf net.old shells.old.items }
     ensures len { length shells.new.items ≡ length shells.old.items }
-    ensures same { AllGo shells.old.items shells.new.items }
+    ensures same { AllStill shells.old.items shells.new.items }
     ensures net { Looked net.old net.new }
-    ensures end { IsEnd result net.new shells.new.items whos.now limit }
+    ensures end { RefusedEnd result refused net.new shells.new.items }
 {
     let Turn::Full { bytes } = refused else {
         return Rounds::OutOfMemory;
     };
-    if meet(rt, net, shells).is_err() {
+    let Ok(()) = meet(rt, net, shells) else {
         return Rounds::OutOfMemory;
-    }
+    };
+    vouch(net, shells);
     Rounds::Full { bytes }
 }
 
@@ -102,12 +106,15 @@ fn step<A: Actor, G: Gate, R: Threads + Wait + Sync>(
 ) -> Option<Rounds>
     requires workers { 0 < workers }
     requires exchange { AllOf net.old shells.old.items }
+    requires sound { AllSound shells.old.items }
     requires used { used.old ≤ limit }
     ensures len { length shells.new.items ≡ length shells.old.items }
     ensures same { AllGo shells.old.items shells.new.items }
     ensures net { Looked net.old net.new }
     ensures used { used.new ≤ limit }
-    ensures end { IfSome result (λ answer. IsEnd answer net.new shells.new.items whos.now limit) }
+    ensures count { rows_made shells.new.items + used.old ≡ rows_made shells.old.items + used.new }
+    ensures sound { result ≡ None → AllSound shells.new.items }
+    ensures end { IfSome result (λ answer. StepEnd answer net.new shells.old.items shells.new.items whos.now limit used.new) }
 {
     if let Some(answer) = prepare(rt, net, shells, whos, limit, *used) {
         return Some(answer);
@@ -115,11 +122,11 @@ fn step<A: Actor, G: Gate, R: Threads + Wait + Sync>(
     if meet(rt, net, shells).is_err() {
         return Some(Rounds::OutOfMemory);
     }
-    let round = play_round(rt, alloc, gate, shells, workers, limit - *used);
-    *used += round.did;
-    match round.refused {
+    let did = play_round(rt, alloc, gate, shells, workers, limit - *used);
+    *used += did;
+    match refused_in(shells.as_slice()) {
         None => None,
-        Some(refused) => Some(ended(rt, net, shells, whos, limit, refused)),
+        Some(refused) => Some(ended(rt, net, shells, refused)),
     }
 }
 
@@ -142,14 +149,14 @@ pub fn rounds<A: Actor, G: Gate, R: Threads + Wait + Sync>(
     ensures len { length shells.new.items ≡ length shells.old.items }
     ensures same { AllGo shells.old.items shells.new.items }
     ensures net { Looked net.old net.new }
-    ensures end { IsEnd result net.new shells.new.items (numbers shells.old.items) limit }
+    ensures end { IsEnd result net.new shells.old.items shells.new.items (numbers shells.old.items) limit }
 {
     let Ok(whos) = numbers_of(alloc, shells.as_slice()) else {
         return Rounds::OutOfMemory;
     };
     let mut used = 0u32;
     for _ in rt.forever() {
-        if let Some(answer) = step(
+        match step(
             rt,
             alloc,
             net,
@@ -160,7 +167,8 @@ pub fn rounds<A: Actor, G: Gate, R: Threads + Wait + Sync>(
             &mut used,
             gate,
         ) {
-            return answer;
+            Some(answer) => return answer,
+            None => {}
         }
     }
     unreachable!()

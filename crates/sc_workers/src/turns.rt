@@ -1,6 +1,7 @@
 //! Turns of many shells.
-ghost use Rattle.std.specs.Prelude.{◌≡◌, ◌<◌, ◌≤◌, length};
-ghost use Rattle.sc_workers.specs.Crews.{Goes, AllGo};
+ghost use Rattle.std.specs.Prelude.{◌≡◌, ◌<◌, ◌≤◌, ◌+◌, ◌^◌, ◌⊎◌, true, length, sum_by, None, IfSome};
+ghost use Rattle.sc_exchange.specs.Ports.{made};
+ghost use Rattle.sc_workers.specs.Crews.{Took, Passed, Sound, AllTook, AllPassed, AllSound, HasRefusal, rows_made, did, refusal, is_did, refusal_in};
 
 use sc_actor::{Actor, Gate};
 use sc_shell::{Shell, Turn};
@@ -11,7 +12,7 @@ use std::thread::Threads;
 
 // A turn, unless the shell is spent.
 fn one<A: Actor, G: Gate, R: Wait>(rt: &R, alloc: Global, gate: &G, shell: &mut Shell<A>)
-    ensures { Goes shell.old shell.new }
+    ensures { Took shell.old shell.new }
 {
     if !shell.spent {
         let _ = shell.turn(rt, alloc, 1, gate);
@@ -19,7 +20,7 @@ fn one<A: Actor, G: Gate, R: Wait>(rt: &R, alloc: Global, gate: &G, shell: &mut 
 }
 
 fn turns<A: Actor, G: Gate, R: Wait>(rt: &R, alloc: Global, gate: &G, part: &mut [Shell<A>])
-    ensures { AllGo part.old part.new }
+    ensures { AllTook part.old part.new }
 {
     for shell in part.iter_mut() {
         one(rt, alloc, gate, shell);
@@ -36,7 +37,7 @@ pub(crate) fn at_once<A: Actor, G: Gate, R: Threads + Wait + Sync>(
 )
     requires { 0 < size }
     ensures len { length shells.new.items ≡ length shells.old.items }
-    ensures same { AllGo shells.old.items shells.new.items }
+    ensures took { AllTook shells.old.items shells.new.items }
 {
     thread::for_each_chunk_mut(
         rt,
@@ -46,56 +47,100 @@ pub(crate) fn at_once<A: Actor, G: Gate, R: Threads + Wait + Sync>(
     );
 }
 
-/// What a round came to: the deliveries in it, and the refusal that ends the call, if there was one.
-#[derive(Clone, Copy, Debug, PartialEq, Eq)]
-pub(crate) struct Tally {
-    pub did: u32,
-    pub refused: Option<Turn>,
+fn is_did(last: Option<Turn>) -> bool
+    ensures { result ≡ is_did last }
+{
+    match last {
+        Some(Turn::Did { at: _ }) => true,
+        _ => false,
+    }
 }
 
-/// The answers of the round that is over. A shell that has posted a Crash took no turn in it.
-pub(crate) fn tallied<A: Actor>(shells: &[Shell<A>]) -> Tally
-    ensures { result.did ≤ length shells.now }
+fn refusal_in(last: Option<Turn>) -> Turn
+    ensures { result ≡ refusal_in last }
+{
+    match last {
+        Some(Turn::Full { bytes }) => Turn::Full { bytes },
+        _ => Turn::OutOfMemory,
+    }
+}
+
+// 1 where the shell's last turn made a row.
+fn did_of<A: Actor>(shell: &Shell<A>) -> u32
+    ensures { result ≡ did shell.now }
+{
+    if !shell.port.crashed && is_did(shell.last) {
+        1
+    } else {
+        0
+    }
+}
+
+// Why the shell was refused, where it is spent and has not crashed.
+fn refusal_of<A: Actor>(shell: &Shell<A>) -> Option<Turn>
+    ensures { result ≡ refusal shell.now }
+{
+    if shell.spent && !shell.port.crashed {
+        Some(refusal_in(shell.last))
+    } else {
+        None
+    }
+}
+
+/// How many of the shells made a row in the round that is over.
+pub(crate) fn did_in<A: Actor>(shells: &[Shell<A>]) -> u32
+    requires { length shells.now < 2 ^ 32 }
+    ensures did { result ≡ sum_by did shells.now }
+    ensures most { result ≤ length shells.now }
 {
     let mut did = 0u32;
-    let mut refused = None;
     for shell in shells {
-        match answer_of(shell) {
-            Some(Turn::Did { at: _ }) => did = did.saturating_add(1),
-            Some(Turn::Full { bytes }) => refused = Some(Turn::Full { bytes }),
-            Some(Turn::OutOfMemory) => refused = Some(Turn::OutOfMemory),
-            _ => {}
+        did += did_of(shell);
+    }
+    did
+}
+
+/// The refusal of a shell, if any was refused.
+pub(crate) fn refused_in<A: Actor>(shells: &[Shell<A>]) -> Option<Turn>
+    ensures some { IfSome result (λ r. HasRefusal shells.now r) }
+    ensures none { result ≡ None → AllSound shells.now }
+{
+    for shell in shells {
+        if let Some(refusal) = refusal_of(shell) {
+            return Some(refusal);
         }
     }
-    Tally { did, refused }
+    None
 }
 
-fn answer_of<A: Actor>(shell: &Shell<A>) -> Option<Turn> {
-    if shell.port.crashed {
-        return None;
-    }
-    shell.last()
+// How far turns one after the other have come.
+#[derive(Clone, Copy, Debug, PartialEq, Eq)]
+struct Progress {
+    did: u32,
+    stopped: bool,
 }
 
-/// The shells take their turns one after the other, until `most` deliveries were made or a turn is refused.
+/// The shells take their turns one after the other, until `most` deliveries were made or a turn is refused. Answers how many were made.
 pub(crate) fn in_order<A: Actor, G: Gate, R: Wait>(
     rt: &R,
     alloc: Global,
     gate: &G,
     shells: &mut [Shell<A>],
     most: u32,
-) -> Tally
-    ensures did { result.did ≤ most }
-    ensures same { AllGo shells.old shells.new }
+) -> u32
+    requires { AllSound shells.old }
+    ensures most { result ≤ most }
+    ensures passed { AllPassed shells.old shells.new }
+    ensures did { rows_made shells.new ≡ rows_made shells.old + result }
 {
-    let mut so_far = Tally {
+    let mut so_far = Progress {
         did: 0,
-        refused: None,
+        stopped: false,
     };
     for shell in shells.iter_mut() {
         so_far = next_in_order(rt, alloc, gate, shell, most, so_far);
     }
-    so_far
+    so_far.did
 }
 
 fn next_in_order<A: Actor, G: Gate, R: Wait>(
@@ -104,48 +149,20 @@ fn next_in_order<A: Actor, G: Gate, R: Wait>(
     gate: &G,
     shell: &mut Shell<A>,
     most: u32,
-    so_far: Tally,
-) -> Tally
-    requires { so_far.did ≤ most }
-    ensures did { result.did ≤ most }
-    ensures goes { Goes shell.old shell.new }
+    so_far: Progress,
+) -> Progress
+    requires most { so_far.did ≤ most }
+    requires sound { Sound shell.old }
+    ensures most { result.did ≤ most }
+    ensures passed { Passed shell.old shell.new }
+    ensures did { length (made shell.new.port) + so_far.did ≡ length (made shell.old.port) + result.did }
 {
-    if so_far.did == most || so_far.refused.is_some() {
+    if so_far.did == most || so_far.stopped {
         return so_far;
     }
-    let answer = one_answer(rt, alloc, gate, shell);
-    noted(so_far, answer, most)
-}
-
-fn noted(so_far: Tally, answer: Option<Turn>, most: u32) -> Tally
-    requires { so_far.did < most }
-    ensures { result.did ≤ most }
-{
-    match answer {
-        Some(Turn::Did { at: _ }) => Tally {
-            did: so_far.did + 1,
-            refused: None,
-        },
-        Some(Turn::Full { bytes }) => Tally {
-            did: so_far.did,
-            refused: Some(Turn::Full { bytes }),
-        },
-        Some(Turn::OutOfMemory) => Tally {
-            did: so_far.did,
-            refused: Some(Turn::OutOfMemory),
-        },
-        _ => so_far,
-    }
-}
-
-fn one_answer<A: Actor, G: Gate, R: Wait>(
-    rt: &R,
-    alloc: Global,
-    gate: &G,
-    shell: &mut Shell<A>,
-) -> Option<Turn>
-    ensures { Goes shell.old shell.new }
-{
     one(rt, alloc, gate, shell);
-    answer_of(shell)
+    Progress {
+        did: so_far.did + did_of(shell),
+        stopped: refusal_of(shell).is_some(),
+    }
 }

@@ -1,9 +1,9 @@
-use Rattle.std.proofs.Common.{rules, arith, ◌+◌, subst, sym}
+use Rattle.std.proofs.Common.{rules, arith, get_or, ◌+◌, subst, sym}
 use Rattle.sc_exchange.specs.Ports.{SameExchange}
-use Rattle.sc_workers.specs.Crews.{Goes, Met, HasMet}
+use Rattle.sc_workers.specs.Crews.{Still, Met, HasMet}
 use Rattle.sc_shell.proofs.Taking.{looked_trans}
 use Rattle.sc_workers.proofs.Lists.{changed_more, left_more, item_was}
-use Rattle.sc_workers.proofs.Crews.{has_later, of_later, all_go_partly}
+use Rattle.sc_workers.proofs.Crews.{has_later, of_later, all_partly, still_same}
 use Rattle.sc_workers.proofs.meetings.meet_all.Goals as goal
 
 pub loop-shell-preserved : goal.loop-shell-preserved
@@ -11,9 +11,9 @@ loop-shell-preserved g c =
     let inv = c.loop-shell.invariant in
     let met : Met c.shell-item.result c.meet_one.new.shell c.loop-shell.net c.meet_one.new.net = search rules in record {
       net = looked_trans c.args.net.now c.loop-shell.net c.meet_one.new.net inv.net met.net;
-      done = changed_more Goes c.args.shells.now c.loop-shell.shells c.loop-shell.shell-index c.shell-item.result c.meet_one.new.shell (omega arith) (omega arith) c.shell-item.is inv.done inv.left met.goes;
+      done = changed_more Still c.args.shells.now c.loop-shell.shells c.loop-shell.shell-index c.shell-item.result c.meet_one.new.shell (omega arith) (omega arith) c.shell-item.is inv.done inv.left met.still;
       met = changed_more (λ s t. HasMet c.meet_one.new.net t) c.args.shells.now c.loop-shell.shells c.loop-shell.shell-index c.shell-item.result c.meet_one.new.shell (omega arith) (omega arith) c.shell-item.is
-          (λ k d lt. has_later c.loop-shell.net c.meet_one.new.net _ met.net (inv.met k d lt)) inv.left met.has;
+          (λ k d lt. has_later c.loop-shell.net c.meet_one.new.net (get_or c.loop-shell.shells k d) met.net (inv.met k d lt)) inv.left met.has;
       left = left_more c.args.shells.now c.loop-shell.shells c.loop-shell.shell-index c.meet_one.new.shell inv.left;
     }
 
@@ -21,8 +21,8 @@ pub returns-in_err-meet_one-clause-same : goal.returns-in_err-meet_one-clause-sa
 returns-in_err-meet_one-clause-same g c =
     let inv = c.loop-shell.invariant in
     let met : Met c.shell-item.result c.meet_one.new.shell c.loop-shell.net c.meet_one.new.net = search rules in
-    all_go_partly c.args.shells.now _ (c.loop-shell.shell-index + 1)
-    (changed_more Goes c.args.shells.now c.loop-shell.shells c.loop-shell.shell-index c.shell-item.result c.meet_one.new.shell (omega arith) (omega arith) c.shell-item.is inv.done inv.left met.goes)
+    all_partly Still still_same c.args.shells.now _ (c.loop-shell.shell-index + 1)
+    (changed_more Still c.args.shells.now c.loop-shell.shells c.loop-shell.shell-index c.shell-item.result c.meet_one.new.shell (omega arith) (omega arith) c.shell-item.is inv.done inv.left met.still)
     (left_more c.args.shells.now c.loop-shell.shells c.loop-shell.shell-index c.meet_one.new.shell inv.left)
 
 pub returns-in_err-meet_one-clause-net : goal.returns-in_err-meet_one-clause-net
@@ -39,7 +39,7 @@ meet_one-requires-clause-exchange g c κs within =
     subst (λ s. SameExchange s.port c.loop-shell.net) c.shell-item.is one
 
 pub returns-clause-same : goal.returns-clause-same
-returns-clause-same g c = let inv = c.loop-shell.invariant in all_go_partly c.args.shells.now c.loop-shell.shells c.loop-shell.shell-index inv.done inv.left
+returns-clause-same g c = let inv = c.loop-shell.invariant in all_partly Still still_same c.args.shells.now c.loop-shell.shells c.loop-shell.shell-index inv.done inv.left
 
 pub returns-clause-met : goal.returns-clause-met
 returns-clause-met g c = λ k d lt. c.loop-shell.invariant.met k d (search rules)

@@ -1,13 +1,13 @@
 use Rattle.std.proofs.Common.{ℕ, ◌<◌, ◌≤◌, ◌≡◌, slice_index_or}
 use Rattle.sc_exchange.specs.Ports.{Looked}
-use Rattle.sc_workers.specs.Crews.{Goes, HasMet}
+use Rattle.sc_workers.specs.Crews.{Still, HasMet}
 use Rattle.sc_workers.proofs.meetings.meet_all.Given as goal
 
 -- the shells before the index have met the port, and the others are as they were
 abbrev pub invariant-loop-shell : goal.invariant-loop-shell
 invariant-loop-shell g l = record {
   net : Looked l.initial.net l.net;
-  done : (k : ℕ) (d : _) → k < l.shell-index → Goes (slice_index_or l.initial.shells k d) (slice_index_or l.shells k d);
+  done : (k : ℕ) (d : _) → k < l.shell-index → Still (slice_index_or l.initial.shells k d) (slice_index_or l.shells k d);
   met : (k : ℕ) (d : _) → k < l.shell-index → HasMet l.net (slice_index_or l.shells k d);
   left : (k : ℕ) (d : _) → l.shell-index ≤ k → slice_index_or l.shells k d ≡ slice_index_or l.initial.shells k d;
 }

@@ -1,10 +1,15 @@
-use Rattle.sc_exchange.specs.Ports.{seen}
-use Rattle.sc_workers.proofs.Crews.{met_all}
+use Rattle.sc_workers.proofs.Crews.{still_made}
 use Rattle.sc_workers.proofs.meetings.meet_one.Goals as goal
 
 pub returns : goal.returns
 returns g c = let e = c.meet.ensures in record {
-  goes = record { stays = e.mine.0.stays; replay = e.replay };
+  still = record {
+    goes = still_made c.args.shell.now _ e.mine.0.stays e.replay e.mine.0.made;
+    made = e.mine.0.made;
+    later = e.mine.0.later;
+    spent = e.same.1;
+    crashed = e.mine.3;
+  };
   net = e.theirs.0;
-  has = record { rows = seen c.args.shell.now.port; seen = e.theirs.1; all = met_all c.args.shell.now.port c.meet.new.self.port e.mine.0 };
+  has = record { begins = e.last };
 }

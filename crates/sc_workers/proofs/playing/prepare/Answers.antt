@@ -1,17 +1,38 @@
-use Rattle.std.proofs.Common.{rules, ◌≡◌, sym, ◌∙◌, true, false}
+use Rattle.std.proofs.Common.{rules, ◌≡◌, true, false, refl, sym, ◌∙◌}
 use Rattle.sc_workers.specs.Crews.{AllMet}
-use Rattle.sc_workers.proofs.Crews.{all_met_later}
+use Rattle.sc_workers.proofs.Crews.{all_still_trans, all_met_later}
+use Rattle.sc_workers.proofs.Ending.{waits_same}
 use Rattle.sc_workers.proofs.playing.prepare.Goals as goal
 
-pub returns-then-not-any_pending-clause-end : goal.returns-then-not-any_pending-clause-end
-returns-then-not-any_pending-clause-end g c =
-    let met : AllMet c.meet.new.net c.meet.new.shells.items = search rules in
-    let none : c.any_pending.result ≡ false = search rules in
-    (all_met_later c.meet.new.net c.any_pending.new.self c.meet.new.shells.items c.any_pending.ensures.looked.0 met, sym c.any_pending.ensures.any ∙ none, c.requires.used)
+pub vouch-requires-clause-met : goal.vouch-requires-clause-met
+vouch-requires-clause-met g c κs within =
+    let met : AllMet c.meet.new.net c.meet.new.shells.items = c.in-Ok.ensures.met in
+    all_met_later c.meet.new.net c.any_pending-waits.new.self c.meet.new.shells.items c.any_pending-waits.ensures.looked.0 met
+
+pub vouch-requires-then-used-limit-clause-met : goal.vouch-requires-then-used-limit-clause-met
+vouch-requires-then-used-limit-clause-met g c κs within =
+    let met : AllMet c.meet.new.net c.meet.new.shells.items = c.in-Ok.ensures.met in
+    all_met_later c.meet.new.net c.any_pending-waits.new.self c.meet.new.shells.items c.any_pending-waits.ensures.looked.0 met
+
+pub returns-then-not-waits-clause-same : goal.returns-then-not-waits-clause-same
+returns-then-not-waits-clause-same g c = all_still_trans c.args.shells.now.items c.meet.new.shells.items c.vouch.new.shells.items c.meet.ensures.len c.meet.ensures.same c.vouch.ensures.same
+
+pub returns-then-used-limit-clause-same : goal.returns-then-used-limit-clause-same
+returns-then-used-limit-clause-same g c = all_still_trans c.args.shells.now.items c.meet.new.shells.items c.vouch-then-used-limit.new.shells.items c.meet.ensures.len c.meet.ensures.same c.vouch-then-used-limit.ensures.same
+
+pub returns-then-not-waits-clause-end : goal.returns-then-not-waits-clause-end
+returns-then-not-waits-clause-end g c =
+    let none : c.any_pending-waits.result ≡ false = search rules in let n = c.vouch.ensures.net in (
+      c.vouch.ensures.over,
+      waits_same c.any_pending-waits.new.self c.vouch.new.net c.args.whos.now n.0.stays.exchange.1 n.1 ∙ (sym c.any_pending-waits.ensures.any ∙ none),
+      refl,
+    )
 
 pub returns-then-used-limit-clause-end : goal.returns-then-used-limit-clause-end
 returns-then-used-limit-clause-end g c =
-    let met : AllMet c.meet.new.net c.meet.new.shells.items = search rules in
-    let some : c.any_pending.result ≡ true = search rules in
-    let all : c.args.used ≡ c.args.limit = search rules in
-    (all_met_later c.meet.new.net c.any_pending.new.self c.meet.new.shells.items c.any_pending.ensures.looked.0 met, sym c.any_pending.ensures.any ∙ some, all)
+    let some : c.any_pending-waits.result ≡ true = search rules in let all : c.args.used ≡ c.args.limit = search rules in let n = c.vouch-then-used-limit.ensures.net in (
+      c.vouch-then-used-limit.ensures.over,
+      waits_same c.any_pending-waits.new.self c.vouch-then-used-limit.new.net c.args.whos.now n.0.stays.exchange.1 n.1 ∙ (sym c.any_pending-waits.ensures.any ∙ some),
+      refl,
+      all,
+    )

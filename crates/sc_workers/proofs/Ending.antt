@@ -1,0 +1,36 @@
+-- How a round and the rounds end.
+use Rattle.std.proofs.Common.{◌≡◌, ℕ, ◌+◌, ◌≤◌, Bool, List, length, refl, sym, ap, ◌∙◌, subst, is_some}
+use Rattle.std.specs.List.{list_any}
+use Rattle.sc_actor.specs.declared.actors.Actor.{Ghosts}
+use Rattle.sc_actor.specs.declared.actors.Parcel.{Ghosts as MailGhosts}
+use Rattle.sc_ledger.specs.Pending.{kth_pending}
+use Rattle.sc_exchange.specs.declared.ports.Port.{Port}
+use Rattle.sc_exchange.specs.Ports.{seen}
+use Rattle.sc_shell.specs.declared.shells.Shell.{Shell}
+use Rattle.sc_shell.specs.declared.turns.Turn.{Turn}
+use Rattle.sc_shell.specs.declared.turns.Turn.TheVariants.{Full as RefusedFull}
+use Rattle.sc_workers.specs.declared.answers.Rounds.{Rounds}
+use Rattle.sc_workers.specs.declared.answers.Rounds.TheVariants.{Quiet, Limit, Full, OutOfMemory}
+use Rattle.sc_workers.specs.Crews.{AllOver, rows_made}
+use Rattle.sc_workers.specs.Ends.{any_waits, IsFull, IsEnd, StepEnd, RefusedEnd}
+
+module _ {M O : Type 0} {h : MailGhosts M} where
+  pub waits_same : (net next : Port M O h) (whos : List ℕ) → next.actors ≡ net.actors → seen next ≡ seen net → any_waits next whos ≡ any_waits net whos
+  waits_same net next whos actors rows = λ i. list_any (λ who. is_some (kth_pending h.receiver (actors i) (rows i) who 1)) whos
+
+module _ {A M O : Type 0} {g : Ghosts A M O} {h : MailGhosts M} where
+  pub step_end : (r : Rounds) (refused : Turn) (net : Port M O h) (start ss : List (Shell A M O g h)) (whos : List ℕ) (limit used : ℕ) → RefusedEnd r refused net ss
+      → ((bytes : ℕ) → refused ≡ RefusedFull bytes → AllOver net ss → IsFull start net ss bytes) → StepEnd r net start ss whos limit used
+  step_end (Quiet told) refused net start ss whos limit used p f = absurd p
+  step_end (Limit told) refused net start ss whos limit used p f = absurd p
+  step_end (Full bytes) refused net start ss whos limit used p f = (p.1, f bytes p.0 p.1)
+  step_end OutOfMemory refused net start ss whos limit used p f = tt
+
+  pub end_so : (r : Rounds) (net : Port M O h) (first mid ss : List (Shell A M O g h)) (whos all : List ℕ) (limit used : ℕ) → StepEnd r net mid ss whos limit used → whos ≡ all → used ≤ limit → rows_made ss ≡ rows_made first + used
+      → ((bytes : ℕ) → IsFull mid net ss bytes → IsFull first net ss bytes) → IsEnd r net first ss all limit
+  end_so (Quiet told) net first mid ss whos all limit used p same fits count f =
+      (p.0, ap (any_waits net) (sym same) ∙ p.1, subst (λ n. n ≤ limit) (sym p.2) fits, count ∙ ap (λ n. rows_made first + n) (sym p.2))
+  end_so (Limit told) net first mid ss whos all limit used p same fits count f =
+      (p.0, ap (any_waits net) (sym same) ∙ p.1, p.2 ∙ p.3, count ∙ ap (λ n. rows_made first + n) (sym p.2))
+  end_so (Full bytes) net first mid ss whos all limit used p same fits count f = (p.0, f bytes p.1)
+  end_so OutOfMemory net first mid ss whos all limit used p same fits count f = tt
