@@ -1,5 +1,6 @@
 use super::*;
 use crate::played::{Played, play};
+use crate::telling::tells_full;
 use sc_actor::{Event, Parcel, Row};
 use sc_base::{Dup, Reply};
 use sc_cmd::{Command, Effect, OrderLine};
@@ -29,6 +30,8 @@ const FIRST: &[u8] =
 
 const FIRST_REPORT: &[u8] =
     b"scatter report 1\nreply 1 1 put none\nreply 1 2 get value x\nring 0 group 0.1 members 1\nrows 9\nmail 8\ndelivered 8\nskipped 0\nquiet yes\n";
+
+const FULL_AFTER_TWO: &[u8] = b"journal full after 2 rows\n";
 
 const USAGE: &[u8] = b"usage: scatter run | scatter make N S\n";
 
@@ -226,5 +229,94 @@ fn histories_are_those_of_one_map(rt: HostRuntime) -> Result<(), Fail> {
     assert_eq!(rt; four[1].as_slice(), b"x".as_slice());
     assert_eq!(rt; four[2].as_slice(), b"".as_slice());
     assert_eq!(rt; four[3].as_slice(), b"y".as_slice());
+    Ok(())
+}
+
+#[test]
+fn full_after_two(rt: HostRuntime) -> Result<(), Fail> {
+    let alloc = rt.alloc();
+    let scenario = read_scenario(alloc, FIRST)?;
+    let Played::Full { journal } = play(alloc, &scenario, 700) else {
+        return Err(Fail::from("the journal was not full"));
+    };
+    assert_eq!(rt; journal.len(), 2);
+    let text = tells_full(alloc, journal)?;
+    assert_eq!(rt; text.lines.len(), 1);
+    assert_eq!(rt; text.lines.as_slice()[0].bytes(), FULL_AFTER_TWO);
+    Ok(())
+}
+
+const ONE_CRASHED: &[u8] =
+    b"scatter 1\nnodes 3\ngroup 0 1 2 3\nclient 1\nput a x\nend\ncrash 3\ngo 1\nsettle 100\n";
+
+const ONE_CRASHED_REPORT: &[u8] =
+    b"scatter report 1\nreply 1 1 put none\nring 0 group 0.1 members 1 2 3\nrows 9\nmail 9\ndelivered 7\nskipped 0\nquiet yes\n";
+
+const MAJORITY_CRASHED: &[u8] =
+    b"scatter 1\nnodes 3\ngroup 0 1 2 3\nclient 1\nput a x\nend\ncrash 2\ncrash 3\ngo 1\nsettle 100\n";
+
+const MAJORITY_CRASHED_REPORT: &[u8] =
+    b"scatter report 1\nunanswered 1 1 put\nring 0 group 0.1 members 1 2 3\nrows 6\nmail 5\ndelivered 3\nskipped 0\nquiet yes\n";
+
+const ACCEPT_THRICE: &[u8] =
+    b"scatter 1\nnodes 1\ngroup 0 1\nclient 1\nput a x\nend\ngo 1\ndeliver n1 1\nagain 2\nagain 2\nsettle 100\n";
+
+const ACCEPT_THRICE_REPORT: &[u8] =
+    b"scatter report 1\nreply 1 1 put none\nring 0 group 0.1 members 1\nrows 11\nmail 6\ndelivered 8\nskipped 0\nquiet yes\n";
+
+const TWO_LEADERS: &[u8] =
+    b"scatter 1\nnodes 3\ngroup 0 1 2 3\nclient 1\nput a x\nend\ngo 1\ndeliver n1 1\ntick n2\ndeliver n3 2\ndeliver n2 2\nsettle 100\n";
+
+const TWO_LEADERS_REPORT: &[u8] =
+    b"scatter report 1\nreply 1 1 put none\nring 0 group 0.1 members 1 2 3\nrows 35\nmail 33\ndelivered 33\nskipped 0\nquiet yes\n";
+
+const SKIPPED_DELIVERY: &[u8] = b"scatter 1\nnodes 1\ngroup 0 1\ndeliver n1 3\n";
+
+const SKIPPED_DELIVERY_REPORT: &[u8] =
+    b"scatter report 1\nring 0 group 0.1 members 1\nrows 0\nmail 0\ndelivered 0\nskipped 1\nquiet yes\n";
+
+const PUT_PUT_DEL_GET: &[u8] =
+    b"scatter 1\nnodes 1\ngroup 0 1\nclient 1\nput a x\nput a y\ndel a\nget a\nend\ngo 1\nsettle 100\n";
+
+const PUT_PUT_DEL_GET_REPORT: &[u8] =
+    b"scatter report 1\nreply 1 1 put none\nreply 1 2 put value x\nreply 1 3 del value y\nreply 1 4 get none\nring 0 group 0.1 members 1\nrows 17\nmail 16\ndelivered 16\nskipped 0\nquiet yes\n";
+
+const FOUR_UNANSWERED: &[u8] =
+    b"scatter 1\nnodes 1\ngroup 0 1\nclient 1\nput a x\nend\nclient 2\nput b y\nend\ngo 1\ngo 2\nsettle 2\n";
+
+const FOUR_UNANSWERED_REPORT: &[u8] =
+    b"scatter report 1\nunanswered 1 1 put\nunanswered 2 1 put\nring 0 group 0.1 members 1\nrows 4\nmail 4\ndelivered 2\nskipped 0\nquiet no\n";
+
+fn check_row(
+    rt: &impl Abort,
+    alloc: Global,
+    row: &(&'static [u8], u8, &'static [u8]),
+) -> Result<(), Fail> {
+    let case = Case {
+        word: "run",
+        input: row.0,
+        source_fails: 0,
+        sink_fails: 0,
+        status: row.1,
+        journal: true,
+        output: row.2,
+    };
+    check(rt, alloc, &case)
+}
+
+#[test]
+fn rows_of_one_group(rt: HostRuntime) -> Result<(), Fail> {
+    let rows: [(&'static [u8], u8, &'static [u8]); 7] = [
+        (ONE_CRASHED, 0, ONE_CRASHED_REPORT),
+        (MAJORITY_CRASHED, 0, MAJORITY_CRASHED_REPORT),
+        (ACCEPT_THRICE, 0, ACCEPT_THRICE_REPORT),
+        (TWO_LEADERS, 0, TWO_LEADERS_REPORT),
+        (SKIPPED_DELIVERY, 0, SKIPPED_DELIVERY_REPORT),
+        (PUT_PUT_DEL_GET, 0, PUT_PUT_DEL_GET_REPORT),
+        (FOUR_UNANSWERED, 6, FOUR_UNANSWERED_REPORT),
+    ];
+    for row in &rows {
+        check_row(&rt, rt.alloc(), row)?;
+    }
     Ok(())
 }
