@@ -1,5 +1,5 @@
 -- What a player's answer says of a scenario.
-use Rattle.std.proofs.Common.{◌≡◌, ℕ, zero, suc, ◌<◌, ◌≤◌, List, [], ◌∷◌, length, map, Bool, true, false, Some, refl, sym, ◌∙◌, ap, subst, arith, slice_index_or}
+use Rattle.std.proofs.Common.{◌≡◌, ℕ, zero, suc, ◌<◌, ◌≤◌, List, length, map, Bool, true, false, Some, refl, sym, ◌∙◌, ap, subst, arith, slice_index_or}
 use Rattle.sc_base.specs.declared.ops.Op.{Op}
 use Rattle.sc_cmd.specs.declared.orders.OrderLine.{OrderLine}
 use Rattle.sc_mail.specs.declared.bodies.Mail.{Mail}
@@ -20,7 +20,7 @@ use Rattle.sc_world.specs.declared.party.Party.{Party}
 use Rattle.sc_sound.specs.Laws.{JournalsAreSound}
 use Rattle.scatter.specs.declared.done.Text.{Text}
 use Rattle.scatter.specs.Played.{mail_weight, HasEnded as Ends, HasFilled}
-use Rattle.scatter.specs.Run.{Plays, ReportsAs, said_of}
+use Rattle.scatter.specs.Run.{journal_limit, Plays, ReportsAs, said_of}
 
 -- the two lines of the early form are built
 built-two : (ops : List Op) (most : ℕ) (k : ℕ) (d : Line OrderLine) → k < 2 → is_built (slice_index_or (schedule (early_scenario ops most)) k d) ≡ true
@@ -57,15 +57,15 @@ module _ (scenario : Scenario) (limit : ℕ) (seats : List (Seat Party)) (lines 
       let full : IsFull (system_of scenario) mail_weight (schedule scenario) limit journal = subst Q lines_are (subst P seats_are h) in
       record { full = full; sound = λ rows more is ahead. law scenario valid rows more (subst (Lawful scenario) is full.lawful) ahead }
 
-plays : (scenario : Scenario) (limit : ℕ) (cut quiet : Bool) (skips : ℕ) (journal : List (Row Mail OrderLine)) (parties : List Party) (text : Text) →
-    Ends scenario limit cut quiet skips journal parties → text.lines ≡ report_lines (summary_of scenario journal) → text.journal ≡ Some journal → text.parties ≡ parties → Plays scenario cut text
-plays scenario limit cut quiet skips journal parties text e lines journal_is parties_is = record {
+plays : (scenario : Scenario) (cut quiet : Bool) (skips : ℕ) (journal : List (Row Mail OrderLine)) (parties : List Party) (text : Text) →
+    Ends scenario journal_limit cut quiet skips journal parties → text.lines ≡ report_lines (summary_of scenario journal) → text.journal ≡ Some journal → text.parties ≡ parties → Plays scenario cut text
+plays scenario cut quiet skips journal parties text e lines journal_is parties_is = record {
   journal = journal;
-  reports = record { lawful = e.lawful; whole = e.whole; sound = e.sound; lines = lines; journal_is = journal_is; parties_are = parties_is ∙ e.parties_are };
+  reports = record { lawful = e.lawful; whole = e.whole; within = e.within; sound = e.sound; lines = lines; journal_is = journal_is; parties_are = parties_is ∙ e.parties_are };
   cut_is = sym e.cut_is;
 }
 
-pub reports_as : (scenario : Scenario) (limit : ℕ) (cut quiet : Bool) (skips : ℕ) (journal : List (Row Mail OrderLine)) (parties : List Party) (text : Text) →
-    Ends scenario limit cut quiet skips journal parties → text.lines ≡ report_lines (summary_of scenario journal) → text.journal ≡ Some journal → text.parties ≡ parties → ReportsAs (said_of cut) scenario text
-reports_as scenario limit true quiet skips journal parties text e lines journal_is parties_is = plays scenario limit true quiet skips journal parties text e lines journal_is parties_is
-reports_as scenario limit false quiet skips journal parties text e lines journal_is parties_is = plays scenario limit false quiet skips journal parties text e lines journal_is parties_is
+pub reports_as : (scenario : Scenario) (cut quiet : Bool) (skips : ℕ) (journal : List (Row Mail OrderLine)) (parties : List Party) (text : Text) →
+    Ends scenario journal_limit cut quiet skips journal parties → text.lines ≡ report_lines (summary_of scenario journal) → text.journal ≡ Some journal → text.parties ≡ parties → ReportsAs (said_of cut) scenario text
+reports_as scenario true quiet skips journal parties text e lines journal_is parties_is = plays scenario true quiet skips journal parties text e lines journal_is parties_is
+reports_as scenario false quiet skips journal parties text e lines journal_is parties_is = plays scenario false quiet skips journal parties text e lines journal_is parties_is

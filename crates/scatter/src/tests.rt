@@ -1,5 +1,6 @@
 use super::*;
 use crate::played::{Played, play};
+use crate::telling::tells_full;
 use sc_actor::{Event, Parcel, Row};
 use sc_base::{Dup, Reply};
 use sc_cmd::{Command, Effect, OrderLine};
@@ -29,6 +30,8 @@ const FIRST: &[u8] =
 
 const FIRST_REPORT: &[u8] =
     b"scatter report 1\nreply 1 1 put none\nreply 1 2 get value x\nring 0 group 0.1 members 1\nrows 9\nmail 8\ndelivered 8\nskipped 0\nquiet yes\n";
+
+const FULL_AFTER_TWO: &[u8] = b"journal full after 2 rows\n";
 
 const USAGE: &[u8] = b"usage: scatter run | scatter make N S\n";
 
@@ -226,5 +229,19 @@ fn histories_are_those_of_one_map(rt: HostRuntime) -> Result<(), Fail> {
     assert_eq!(rt; four[1].as_slice(), b"x".as_slice());
     assert_eq!(rt; four[2].as_slice(), b"".as_slice());
     assert_eq!(rt; four[3].as_slice(), b"y".as_slice());
+    Ok(())
+}
+
+#[test]
+fn full_after_two(rt: HostRuntime) -> Result<(), Fail> {
+    let alloc = rt.alloc();
+    let scenario = read_scenario(alloc, FIRST)?;
+    let Played::Full { journal } = play(alloc, &scenario, 700) else {
+        return Err(Fail::from("the journal was not full"));
+    };
+    assert_eq!(rt; journal.len(), 2);
+    let text = tells_full(alloc, journal)?;
+    assert_eq!(rt; text.lines.len(), 1);
+    assert_eq!(rt; text.lines.as_slice()[0].bytes(), FULL_AFTER_TWO);
     Ok(())
 }

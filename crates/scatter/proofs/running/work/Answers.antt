@@ -1,6 +1,5 @@
-use Rattle.std.proofs.Common.{subst, sym}
+use Rattle.std.proofs.Common.{subst}
 use Rattle.scatter.specs.Run.{ReadsBytes}
-use Rattle.std.specs.Prelude.{IfOk}
 use Rattle.scatter.proofs.Readings.{if_ok, of_bytes}
 use Rattle.scatter.proofs.running.work.Goals as goal
 
