@@ -23,7 +23,7 @@ use Rattle.sc_group_law.specs.Laws.{ValidHaveOneGroup, GroupJournalsAreSound}
 use Rattle.scatter.specs.Sound.{as_nodes, IsSoundThroughout}
 use Rattle.scatter.specs.declared.done.Text.{Text}
 use Rattle.scatter.specs.Played.{mail_weight, HasEnded as Ends, HasFilled}
-use Rattle.scatter.specs.Run.{Plays, ReportsAs, said_of}
+use Rattle.scatter.specs.Run.{journal_limit, Plays, ReportsAs, said_of}
 
 -- a line of the early form is built
 built_one : (nodes : ℕ) (clients : List Asks) (x : SchedLine) → IsEarlyLine nodes clients x → is_built (line_of x) ≡ true
@@ -78,15 +78,15 @@ module _ (scenario : Scenario) (limit : ℕ) (seats : List (Seat Party)) (lines 
       let full : IsFull (system_of scenario) mail_weight (schedule scenario) limit journal = subst Q lines_are (subst P seats_are h) in
       record { full = full; sound = sound_throughout one law scenario valid journal full.lawful }
 
-plays : (scenario : Scenario) (limit : ℕ) (cut quiet : Bool) (skips : ℕ) (journal : List (Row Mail OrderLine)) (parties : List Party) (text : Text) →
-    Ends scenario limit cut quiet skips journal parties → text.lines ≡ report_lines (summary_of scenario journal) → text.journal ≡ Some journal → text.parties ≡ parties → Plays scenario cut text
-plays scenario limit cut quiet skips journal parties text e lines journal_is parties_is = record {
+plays : (scenario : Scenario) (cut quiet : Bool) (skips : ℕ) (journal : List (Row Mail OrderLine)) (parties : List Party) (text : Text) →
+    Ends scenario journal_limit cut quiet skips journal parties → text.lines ≡ report_lines (summary_of scenario journal) → text.journal ≡ Some journal → text.parties ≡ parties → Plays scenario cut text
+plays scenario cut quiet skips journal parties text e lines journal_is parties_is = record {
   journal = journal;
-  reports = record { lawful = e.lawful; whole = e.whole; sound = e.sound; lines = lines; journal_is = journal_is; parties_are = parties_is ∙ e.parties_are };
+  reports = record { lawful = e.lawful; whole = e.whole; within = e.within; sound = e.sound; lines = lines; journal_is = journal_is; parties_are = parties_is ∙ e.parties_are };
   cut_is = sym e.cut_is;
 }
 
-pub reports_as : (scenario : Scenario) (limit : ℕ) (cut quiet : Bool) (skips : ℕ) (journal : List (Row Mail OrderLine)) (parties : List Party) (text : Text) →
-    Ends scenario limit cut quiet skips journal parties → text.lines ≡ report_lines (summary_of scenario journal) → text.journal ≡ Some journal → text.parties ≡ parties → ReportsAs (said_of cut) scenario text
-reports_as scenario limit true quiet skips journal parties text e lines journal_is parties_is = plays scenario limit true quiet skips journal parties text e lines journal_is parties_is
-reports_as scenario limit false quiet skips journal parties text e lines journal_is parties_is = plays scenario limit false quiet skips journal parties text e lines journal_is parties_is
+pub reports_as : (scenario : Scenario) (cut quiet : Bool) (skips : ℕ) (journal : List (Row Mail OrderLine)) (parties : List Party) (text : Text) →
+    Ends scenario journal_limit cut quiet skips journal parties → text.lines ≡ report_lines (summary_of scenario journal) → text.journal ≡ Some journal → text.parties ≡ parties → ReportsAs (said_of cut) scenario text
+reports_as scenario true quiet skips journal parties text e lines journal_is parties_is = plays scenario true quiet skips journal parties text e lines journal_is parties_is
+reports_as scenario false quiet skips journal parties text e lines journal_is parties_is = plays scenario false quiet skips journal parties text e lines journal_is parties_is

@@ -5,7 +5,7 @@ use Rattle.std.proofs.lemmas.List.{take_all, length-take-le}
 use Rattle.sc_scenario.specs.Early.{scenario_of, most_bytes}
 use Rattle.sc_scenario.specs.declared.scenarios.Scenario.{Scenario}
 use Rattle.scatter.specs.declared.done.Said.{Said}
-use Rattle.scatter.specs.declared.done.Said.TheVariants.{Ended, Unsettled, Usage, BadScenario, ReadFault}
+use Rattle.scatter.specs.declared.done.Said.TheVariants.{Ended, Unsettled, Filled, Usage, BadScenario, ReadFault}
 use Rattle.scatter.specs.declared.done.Text.{Text}
 use Rattle.scatter.specs.Run.{ReadsAs, Reads, ReadsBytes, ReportsAs}
 
@@ -29,15 +29,17 @@ if_ok (Ok x) P Q h f = f x h
 if_ok (Err e) P Q h f = h
 
 pub of_report : (bytes : List ℕ) (said : Said) (scenario : Scenario) (text : Text) → scenario_of bytes ≡ Some scenario → ReportsAs said scenario text → ReadsBytes bytes said text
-of_report bytes Ended scenario text read reports = record { scenario = scenario; read = read; plays = reports }
-of_report bytes Unsettled scenario text read reports = record { scenario = scenario; read = read; plays = reports }
+of_report bytes Ended scenario text read reports = record { scenario = scenario; read = read; reports = reports }
+of_report bytes Unsettled scenario text read reports = record { scenario = scenario; read = read; reports = reports }
+of_report bytes Filled scenario text read reports = record { scenario = scenario; read = read; reports = reports }
 of_report bytes Usage scenario text read reports = reports
 of_report bytes BadScenario scenario text read reports = absurd reports
 of_report bytes ReadFault scenario text read reports = reports
 
 pub of_bytes : (left : Option (List ℕ)) (before now : ℕ) (bytes : List ℕ) (said : Said) (text : Text) → IfSome left (λ input. bytes ≡ take (most_bytes + 1) input) → ReadsBytes bytes said text → Reads left before now said text
-of_bytes left before now bytes Ended text taken h = record { scenario = h.scenario; read = read_whole left bytes (Some h.scenario) taken h.read; plays = h.plays }
-of_bytes left before now bytes Unsettled text taken h = record { scenario = h.scenario; read = read_whole left bytes (Some h.scenario) taken h.read; plays = h.plays }
+of_bytes left before now bytes Ended text taken h = record { scenario = h.scenario; read = read_whole left bytes (Some h.scenario) taken h.read; reports = h.reports }
+of_bytes left before now bytes Unsettled text taken h = record { scenario = h.scenario; read = read_whole left bytes (Some h.scenario) taken h.read; reports = h.reports }
+of_bytes left before now bytes Filled text taken h = record { scenario = h.scenario; read = read_whole left bytes (Some h.scenario) taken h.read; reports = h.reports }
 of_bytes left before now bytes Usage text taken h = h
 of_bytes left before now bytes BadScenario text taken h = (read_whole left bytes None taken h.0, h.1)
 of_bytes left before now bytes ReadFault text taken h = absurd h

@@ -1,6 +1,7 @@
 -- What a run says and prints, and why.
-use Rattle.std.specs.Prelude.{◌≡◌, ◌⊎◌, ℕ, List, [], ◌∷◌, ◌++◌, ◌==◌, ◌&&◌, length, Bool, true, false, Option, None, Some, IfSome, codes}
+use Rattle.std.specs.Prelude.{◌≡◌, ◌⊎◌, ◌≤◌, ◌^◌, ℕ, List, [], ◌∷◌, ◌++◌, ◌==◌, ◌&&◌, length, Bool, true, false, Option, None, Some, IfSome, codes}
 use Rattle.std.specs.List.{concat}
+use Rattle.std.specs.Fmt.{decimal}
 use Rattle.std.specs.Io.KnownBytes.{Appends}
 use Rattle.sc_edges.specs.Bytes.{AppendsPart}
 use Rattle.sc_edges.specs.Causes.{Rose}
@@ -10,15 +11,17 @@ use Rattle.sc_actor.specs.declared.rows.Row.{Row}
 use Rattle.sc_actor.specs.Walk.{unsettled}
 use Rattle.sc_scenario.specs.Early.{scenario_of}
 use Rattle.sc_scenario.specs.Words.{same, nth}
+use Rattle.sc_actor.specs.Counted.{journal_bytes}
 use Rattle.sc_scenario.specs.declared.scenarios.Scenario.{Scenario}
 use Rattle.sc_report.specs.Report.{report_lines}
 use Rattle.sc_world.specs.World.{system_of, schedule, Lawful, Whole, parties}
 use Rattle.sc_world.specs.Summary.{summary_of}
 use Rattle.scatter.specs.Sound.{IsSoundThroughout}
+use Rattle.scatter.specs.Played.{mail_weight, HasFilled}
 use Rattle.scatter.specs.declared.done.Text.{Text}
 use Rattle.scatter.specs.declared.done.Done.{Done}
 use Rattle.scatter.specs.declared.done.Said.{Said}
-use Rattle.scatter.specs.declared.done.Said.TheVariants.{Ended, Unsettled, Usage, BadScenario, ReadFault}
+use Rattle.scatter.specs.declared.done.Said.TheVariants.{Ended, Unsettled, Filled, Usage, BadScenario, ReadFault}
 
 -- the grammar of the words: the one word `run`
 abbrev pub is_run : List (List ℕ) → Bool
@@ -37,10 +40,25 @@ pub record Tells (message : List ℕ) (text : Text) : Type 0 where
   pub journal : text.journal ≡ None
   pub parties : text.parties ≡ []
 
--- The text is the report of a scenario and a journal of it that is lawful and whole, of which each first part tells one legal history, and the parties are the replays of their rows.
+-- `journal full after R rows`
+abbrev pub full_line : ℕ → List ℕ
+full_line rows = (codes "journal full after " ++ decimal rows ++ codes " rows") ++ 10 ∷ []
+
+-- the one line of a text about a journal that is full
+pub record TellsFull (journal : List (Row Mail OrderLine)) (text : Text) : Type 0 where
+  pub lines : text.lines ≡ full_line (length journal) ∷ []
+  pub journal_is : text.journal ≡ Some journal
+  pub parties : text.parties ≡ []
+
+-- the most counted bytes of a run's journal
+abbrev pub journal_limit : ℕ
+journal_limit = 2 ^ 30
+
+-- The text is the report of a scenario and a journal of it that is lawful, whole and within the limit, of which each first part tells one legal history, and the parties are the replays of their rows.
 pub record Reports (scenario : Scenario) (journal : List (Row Mail OrderLine)) (text : Text) : Type 0 where
   pub lawful : Lawful scenario journal
   pub whole : Whole scenario journal
+  pub within : journal_bytes mail_weight journal ≤ journal_limit
   pub sound : IsSoundThroughout scenario journal
   pub lines : text.lines ≡ report_lines (summary_of scenario journal)
   pub journal_is : text.journal ≡ Some journal
@@ -52,6 +70,12 @@ pub record Plays (scenario : Scenario) (cut : Bool) (text : Text) : Type 0 where
   pub reports : Reports scenario journal text
   pub cut_is : unsettled (system_of scenario) (schedule scenario) journal ≡ cut
 
+-- The text tells of some journal of the scenario that it is full: a row that may come next passes the limit.
+pub record Fills (scenario : Scenario) (text : Text) : Type 0 where
+  pub journal : List (Row Mail OrderLine)
+  pub filled : HasFilled scenario journal_limit journal
+  pub tells : TellsFull journal text
+
 -- which text a run that ended begins
 abbrev pub said_of : Bool → Said
 said_of true = Unsettled
@@ -60,32 +84,35 @@ said_of false = Ended
 abbrev pub ReportsAs : Said → Scenario → Text → Type 0
 ReportsAs Ended scenario text = Plays scenario false text
 ReportsAs Unsettled scenario text = Plays scenario true text
+ReportsAs Filled scenario text = Fills scenario text
 ReportsAs _ scenario text = ⊥
 
 -- the same of the scenario that some bytes are
-pub record IsReport (bytes : List ℕ) (cut : Bool) (text : Text) : Type 0 where
+pub record IsReport (bytes : List ℕ) (said : Said) (text : Text) : Type 0 where
   pub scenario : Scenario
   pub read : scenario_of bytes ≡ Some scenario
-  pub plays : Plays scenario cut text
+  pub reports : ReportsAs said scenario text
 
 -- what a text says that was begun for these bytes
 abbrev pub ReadsBytes : List ℕ → Said → Text → Type 0
-ReadsBytes bytes Ended text = IsReport bytes false text
-ReadsBytes bytes Unsettled text = IsReport bytes true text
+ReadsBytes bytes Ended text = IsReport bytes Ended text
+ReadsBytes bytes Unsettled text = IsReport bytes Unsettled text
+ReadsBytes bytes Filled text = IsReport bytes Filled text
 ReadsBytes bytes Usage text = ⊥
 ReadsBytes bytes BadScenario text = (scenario_of bytes ≡ None) × Tells (codes "line 0: bad scenario") text
 ReadsBytes bytes ReadFault text = ⊥
 
 -- the same of the scenario that was read
-pub record ReadsAndPlays (left : Option (List ℕ)) (cut : Bool) (text : Text) : Type 0 where
+pub record ReadsAndPlays (left : Option (List ℕ)) (said : Said) (text : Text) : Type 0 where
   pub scenario : Scenario
   pub read : ReadsAs left (Some scenario)
-  pub plays : Plays scenario cut text
+  pub reports : ReportsAs said scenario text
 
 -- What a text says that was begun after the word `run`, and its cause: the bytes that the source had left, and its count of faults before and after.
 abbrev pub Reads : Option (List ℕ) → ℕ → ℕ → Said → Text → Type 0
-Reads left before now Ended text = ReadsAndPlays left false text
-Reads left before now Unsettled text = ReadsAndPlays left true text
+Reads left before now Ended text = ReadsAndPlays left Ended text
+Reads left before now Unsettled text = ReadsAndPlays left Unsettled text
+Reads left before now Filled text = ReadsAndPlays left Filled text
 Reads left before now Usage text = ⊥
 Reads left before now BadScenario text = ReadsAs left None × Tells (codes "line 0: bad scenario") text
 Reads left before now ReadFault text = Rose before now × Tells (codes "read fault") text
@@ -102,6 +129,7 @@ status_of Usage = 2
 status_of BadScenario = 3
 status_of ReadFault = 4
 status_of Unsettled = 6
+status_of Filled = 7
 
 -- The text was printed whole, or up to a fault of the sink, which wins over the status that the text belongs to.
 abbrev pub Prints : Option (List ℕ) → Option (List ℕ) → ℕ → ℕ → Said → Text → ℕ → Type 0

@@ -17,6 +17,7 @@ pub enum Said {
     BadScenario,
     ReadFault,
     Unsettled,
+    Filled,
 }
 
 impl Said {
@@ -30,6 +31,7 @@ impl Said {
             Said::BadScenario => 3,
             Said::ReadFault => 4,
             Said::Unsettled => 6,
+            Said::Filled => 7,
         }
     }
 }
@@ -47,7 +49,7 @@ pub struct Text {
 ///
 /// The status is 0 for a run that ended with no line unsettled, 2 for words outside the grammar, 3
 /// for an input that is no scenario, 4 for a source that failed, 5 for a sink that failed, 6 for a
-/// run with a line unsettled, and 8 for want of memory.
+/// run with a line unsettled, 7 for a journal that is full, and 8 for want of memory.
 #[derive(Drop)]
 pub struct Done {
     pub status: u8,

@@ -7,6 +7,7 @@ ghost use Rattle.scatter.specs.Run.{ReportsAs, said_of};
 
 use crate::done::{Said, Text};
 use crate::summing::summary;
+use crate::telling::tells_full;
 use sc_actor::{Journal, Seat};
 use sc_base::{OutOfMemory, Sequence};
 use sc_cmd::OrderLine;
@@ -93,16 +94,16 @@ pub fn play(alloc: Global, scenario: &Scenario, limit: u64) -> Played
     }
 }
 
-/// The report of a scenario that was played.
+/// The report of a scenario that was played to its end, or what is told of one that was not.
 ///
-/// A journal of the early form stays far below the limit of 2^30 counted bytes. One that met it would
-/// end the run as want of memory does.
+/// Where a row would pass the limit of 2^30 counted bytes, the text tells after how many rows.
 pub fn report(alloc: Global, scenario: &Scenario) -> Result<(Said, Text), OutOfMemory>
     requires { IsValid scenario.now }
     ensures { IfOk result (λ begun. ReportsAs begun.0 scenario.now begun.1) }
 {
     match play(alloc, scenario, 1 << 30) {
-        Played::OutOfMemory | Played::Full { .. } => Err(OutOfMemory),
+        Played::OutOfMemory => Err(OutOfMemory),
+        Played::Full { journal } => Ok((Said::Filled, tells_full(alloc, journal)?)),
         Played::Ended {
             unsettled,
             quiet,

@@ -1,4 +1,4 @@
-use Rattle.std.proofs.Common.{subst, ◌∙◌, ap}
+use Rattle.std.proofs.Common.{subst, ap, ◌∙◌}
 use Rattle.sc_actor.specs.System.{system, no_words}
 use Rattle.sc_play.specs.Outcome.{IsPlayed}
 use Rattle.sc_play.specs.Stages.{are_apart}
