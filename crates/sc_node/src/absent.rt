@@ -42,12 +42,7 @@ pub(crate) fn group_in(body: &MailBody) -> Option<Draw>
 }
 
 /// One mail alone.
-fn alone(
-    alloc: Global,
-    me: u16,
-    to: u32,
-    body: MailBody,
-) -> Result<Sequence<Mail>, OutOfMemory>
+fn alone(alloc: Global, me: u16, to: u32, body: MailBody) -> Result<Sequence<Mail>, OutOfMemory>
     ensures { IfOk result (λ mails. mails ≡ sent me to body []) }
 {
     let mut mails = Sequence::new(alloc);
@@ -70,7 +65,10 @@ pub(crate) fn absent(
 {
     match body {
         MailBody::Request {
-            group, client, seq, ..
+            group,
+            client,
+            seq,
+            ..
         } => {
             let answer = AnswerBody::NotLeader { hint: None };
             alone(

@@ -13,11 +13,7 @@ use sc_node::NodeCore;
 use sc_scenario::{Asks, Scenario, SchedLine};
 use std::alloc::Global;
 
-fn node_seat(
-    alloc: Global,
-    groups: &Sequence<Base>,
-    me: u16,
-) -> Result<Seat<Party>, OutOfMemory>
+fn node_seat(alloc: Global, groups: &Sequence<Base>, me: u16) -> Result<Seat<Party>, OutOfMemory>
     ensures { IfOk result (λ seat. seat ≡ node_seat slots_ahead groups.now me) }
 {
     let node = NodeCore::born(alloc, me, groups)?;
