@@ -287,6 +287,13 @@ const FOUR_UNANSWERED: &[u8] =
 const FOUR_UNANSWERED_REPORT: &[u8] =
     b"scatter report 1\nunanswered 1 1 put\nunanswered 2 1 put\nring 0 group 0.1 members 1\nrows 4\nmail 4\ndelivered 2\nskipped 0\nquiet no\n";
 
+// Five requests come to a leader and nothing else: four are offered at the four open slots, and the fifth waits.
+const FIFTH_WAITS: &[u8] =
+    b"scatter 1\nnodes 1\ngroup 0 1\nclient 1\nput a x\nend\nclient 2\nput b x\nend\nclient 3\nput c x\nend\nclient 4\nput d x\nend\nclient 5\nput e x\nend\ngo 1\ngo 2\ngo 3\ngo 4\ngo 5\ndeliver n1 1\ndeliver n1 1\ndeliver n1 1\ndeliver n1 1\ndeliver n1 1\n";
+
+const FIFTH_WAITS_REPORT: &[u8] =
+    b"scatter report 1\nunanswered 1 1 put\nunanswered 2 1 put\nunanswered 3 1 put\nunanswered 4 1 put\nunanswered 5 1 put\nring 0 group 0.1 members 1\nrows 10\nmail 9\ndelivered 5\nskipped 0\nquiet no\n";
+
 fn check_row(
     rt: &impl Abort,
     alloc: Global,
@@ -306,7 +313,7 @@ fn check_row(
 
 #[test]
 fn rows_of_one_group(rt: HostRuntime) -> Result<(), Fail> {
-    let rows: [(&'static [u8], u8, &'static [u8]); 7] = [
+    let rows: [(&'static [u8], u8, &'static [u8]); 8] = [
         (ONE_CRASHED, 0, ONE_CRASHED_REPORT),
         (MAJORITY_CRASHED, 0, MAJORITY_CRASHED_REPORT),
         (ACCEPT_THRICE, 0, ACCEPT_THRICE_REPORT),
@@ -314,6 +321,7 @@ fn rows_of_one_group(rt: HostRuntime) -> Result<(), Fail> {
         (SKIPPED_DELIVERY, 0, SKIPPED_DELIVERY_REPORT),
         (PUT_PUT_DEL_GET, 0, PUT_PUT_DEL_GET_REPORT),
         (FOUR_UNANSWERED, 6, FOUR_UNANSWERED_REPORT),
+        (FIFTH_WAITS, 0, FIFTH_WAITS_REPORT),
     ];
     for row in &rows {
         check_row(&rt, rt.alloc(), row)?;
