@@ -1,2 +1,5 @@
+pub mod Births
+pub mod Lines
+mod Fronts
 mod Longer
 mod Newest

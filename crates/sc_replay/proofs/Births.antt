@@ -1,0 +1,72 @@
+-- The actors of a scenario have different numbers: nodes up to 32, and then clients, ascending.
+use Rattle.std.proofs.Common.{◌≡◌, ℕ, zero, suc, ◌+◌, ◌<◌, ◌≤◌, true, false, not, eqb, List, [], ◌∷◌, ◌++◌, length, map, refl, sym, ap, subst, arith, slice_index_or}
+use Rattle.std.specs.List.{All, AllPairs, list_any}
+use Rattle.std.proofs.lemmas.Bool.{ne_eqb, and_from}
+use Rattle.sc_cmd.specs.declared.cores.Base.{Base}
+use Rattle.sc_cmd.specs.declared.links.Route.{Route}
+use Rattle.sc_actor.specs.declared.actors.Seat.{Seat}
+use Rattle.sc_play.specs.Stages.{are_apart}
+use Rattle.sc_node_table.specs.Slots.{numbers}
+use Rattle.sc_scenario.specs.Groups.{lone_group}
+use Rattle.sc_scenario.specs.Valid.{IsEarly}
+use Rattle.sc_scenario.specs.declared.scenarios.Asks.{Asks}
+use Rattle.sc_scenario.specs.declared.scenarios.Scenario.{Scenario}
+use Rattle.sc_world.specs.World.{slots_ahead, node_seat, client_seat, client_seats, route_of, births}
+use Rattle.sc_world.specs.declared.party.Party.{Party}
+
+-- the numbers rise, from above a number on
+abbrev Rises : ℕ → List (Seat Party) → Type 0
+Rises low [] = Unit {0}
+Rises low (seat ∷ seats) = (low < seat.who) × Rises seat.who seats
+
+none_same : (number low : ℕ) (seats : List (Seat Party)) → number ≤ low → Rises low seats → list_any (λ (other : Seat Party). eqb other.who number) seats ≡ false
+none_same number low [] le r = refl
+none_same number low (seat ∷ seats) le r =
+    let other : eqb seat.who number ≡ false = ne_eqb seat.who number (λ e. absurd (omega (arith, e, le, r.0))) in
+    rw other (none_same number seat.who seats (omega (arith, le, r.0)) r.1)
+
+apart_rising : (low : ℕ) (seats : List (Seat Party)) → Rises low seats → are_apart seats ≡ true
+apart_rising low [] r = refl
+apart_rising low (seat ∷ seats) r = and_from _ _ (ap not (none_same seat.who seat.who seats (omega arith) r.1)) (apart_rising seat.who seats r.1)
+
+-- none is above a number
+abbrev Within : ℕ → List (Seat Party) → Type 0
+Within top [] = Unit {0}
+Within top (seat ∷ seats) = (seat.who ≤ top) × Within top seats
+
+lower : (low top : ℕ) (seats : List (Seat Party)) → low ≤ top → Rises top seats → Rises low seats
+lower low top [] le r = tt
+lower low top (seat ∷ seats) le r = (omega (arith, le, r.0), r.1)
+
+rise_on : (low top : ℕ) (xs ys : List (Seat Party)) → low ≤ top → Rises low xs → Within top xs → Rises top ys → Rises low (xs ++ ys)
+rise_on low top [] ys le r w s = lower low top ys le s
+rise_on low top (x ∷ xs) ys le r w s = (r.0, rise_on x.who top xs ys w.0 r.1 w.1 s)
+
+nodes_rise : (groups : List Base) (low from count : ℕ) → low < from → Rises low (map (node_seat slots_ahead groups) (numbers from count))
+nodes_rise groups low from zero lt = tt
+nodes_rise groups low from (suc count) lt = (lt, nodes_rise groups from (from + 1) count (omega arith))
+
+nodes_within : (groups : List Base) (top from count : ℕ) → from + count ≤ top + 1 → Within top (map (node_seat slots_ahead groups) (numbers from count))
+nodes_within groups top from zero le = tt
+nodes_within groups top from (suc count) le = (omega (arith, le), nodes_within groups top (from + 1) count (omega (arith, le)))
+
+clients_rise : (first : Route) (low : ℕ) (clients : List Asks) → All (λ (asks : Asks). low < asks.client) clients → AllPairs (λ (a b : Asks). a.client < b.client) clients
+    → Rises (32 + low) (map (client_seat first) clients)
+clients_rise first low [] above rising = tt
+clients_rise first low (asks ∷ clients) above rising = (
+  omega (arith, above 0 asks (omega arith)),
+  clients_rise first asks.client clients (λ k d lt. later k d lt) (λ i j d lt within. rising (suc i) (suc j) d (omega (arith, lt)) (omega (arith, within))),
+)
+  where
+    later : (k : ℕ) (d : Asks) → k < length clients → asks.client < (slice_index_or clients k d).client
+    later k d lt = rising 0 (suc k) d (omega arith) (omega (arith, lt))
+
+-- the births of an early scenario have different numbers
+pub all_apart : (scenario : Scenario) → IsEarly scenario → are_apart (births scenario) ≡ true
+all_apart scenario early =
+    let clients : Rises 32 (client_seats scenario.groups scenario.clients) =
+    subst (λ (groups : List Base). Rises 32 (client_seats groups scenario.clients)) (sym early.group)
+    (clients_rise (route_of (lone_group early.lo early.members)) 0 scenario.clients (λ k d lt. omega (arith, (early.clients k d lt).0.0)) early.ascending) in
+    apart_rising 0 (births scenario)
+    (rise_on 0 32 _ (client_seats scenario.groups scenario.clients) (omega arith) (nodes_rise scenario.groups 0 1 scenario.nodes (omega arith))
+    (nodes_within scenario.groups 32 1 scenario.nodes (omega (arith, early.nodes.1))) clients)

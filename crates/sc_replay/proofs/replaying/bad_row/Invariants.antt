@@ -1,0 +1,15 @@
+use Rattle.std.proofs.Common.{◌<◌, ◌≤◌, ◌-◌, length, take}
+use Rattle.sc_world.specs.World.{Lawful}
+use Rattle.sc_replay.proofs.replaying.bad_row.Given as goal
+
+-- the lower front is lawful, and the higher one is not
+abbrev pub invariant-loop-high : goal.invariant-loop-high
+invariant-loop-high l = record {
+  order : l.low < l.high;
+  within : l.high ≤ length l.rows;
+  lawful : Lawful l.scenario (take l.low l.rows);
+  not_lawful : Lawful l.scenario (take l.high l.rows) → ⊥;
+}
+
+abbrev pub decreases-loop-high : goal.decreases-loop-high
+decreases-loop-high l = l.high - l.low
