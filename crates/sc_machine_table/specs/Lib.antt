@@ -1,2 +1,3 @@
 pub mod Group
 pub mod Machine
+pub mod Orders

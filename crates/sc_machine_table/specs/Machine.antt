@@ -8,10 +8,11 @@ use Rattle.sc_cmd.specs.declared.links.Route.{Route}
 use Rattle.sc_cmd.specs.declared.cores.Lock.{Lock}
 use Rattle.sc_cmd.specs.declared.cores.Lock.TheVariants.{Free, Coordinating, Promised, Watching}
 use Rattle.sc_cmd.specs.declared.commands.Command.{Command}
-use Rattle.sc_cmd.specs.declared.commands.Command.TheVariants.{Noop, Call}
+use Rattle.sc_cmd.specs.declared.commands.Command.TheVariants.{Noop, Call, Join, Leave}
 use Rattle.sc_cmd.specs.declared.effects.Effect.{Effect}
 use Rattle.sc_cmd.specs.declared.effects.Effect.TheVariants.{Done, Again, Stale, NotMine, Gone, NoEffect, Idle}
 use Rattle.sc_machine_table.specs.Group.{Group}
+use Rattle.sc_machine_table.specs.Orders.{refusal_of, ordered, with_node, without_node}
 
 -- a new request: the operation is applied, and the client table notes its number and reply
 abbrev pub done : Group → ℕ → ℕ → Op → Group × Effect
@@ -42,8 +43,10 @@ called None (Watching tx watch) group client seq op = served group client seq op
 called None (Coordinating tx body order heard) group client seq op = (group, NoEffect tx)
 called None (Promised tx offer) group client seq op = (group, NoEffect tx)
 
--- one command: the group after it, and its effect. The commands that reshape groups are not built yet: they do nothing.
+-- one command: the group after it, and its effect. The commands of transactions are not built yet: they do nothing.
 abbrev pub applied : Group → Command → Group × Effect
 applied group Noop = (group, Idle)
 applied group (Call client seq op) = called group.core.gone group.core.lock group client seq op
+applied group (Join node order) = ordered group.core.gone (refusal_of group.core (Join node order)) (with_node group node) group
+applied group (Leave node order) = ordered group.core.gone (refusal_of group.core (Leave node order)) (without_node group node) group
 applied group _ = (group, Idle)

@@ -1,0 +1,79 @@
+-- The orders that a group's log executes: why one is refused, and what else it makes of the group. Of the refusals in the order of their numbers the first that holds counts.
+use Rattle.std.specs.Prelude.{ℕ, Bool, ◌==◌, ◌&&◌, ◌||◌, not, nat_le, length, if◌then◌else◌, Option, Some, None}
+use Rattle.sc_base.specs.Arc.{holds}
+use Rattle.sc_base.specs.declared.names.Draw.{Draw}
+use Rattle.sc_member.specs.Roster.{is_member, with_member, without_member}
+use Rattle.sc_cmd.specs.Same.{same_draw}
+use Rattle.sc_cmd.specs.declared.commands.Command.{Command}
+use Rattle.sc_cmd.specs.declared.commands.Command.TheVariants.{Join, Leave, Split}
+use Rattle.sc_cmd.specs.declared.cores.Core.{Core}
+use Rattle.sc_cmd.specs.declared.cores.Lock.{Lock}
+use Rattle.sc_cmd.specs.declared.cores.Lock.TheVariants.{Free, Coordinating, Promised, Watching}
+use Rattle.sc_cmd.specs.declared.effects.Effect.{Effect}
+use Rattle.sc_cmd.specs.declared.effects.Effect.TheVariants as Was
+use Rattle.sc_cmd.specs.declared.links.Route.{Route}
+use Rattle.sc_cmd.specs.declared.orders.OrderRefusal.{OrderRefusal}
+use Rattle.sc_cmd.specs.declared.orders.OrderRefusal.TheVariants.{NotLeader, InTransaction, BadBoundary, TooManyMembers, NotMember, LastMember, TxLimit, IsMember}
+use Rattle.sc_machine_table.specs.Group.{Group}
+
+-- the transaction that a lock is in
+abbrev pub locked_in : Lock → Option Draw
+locked_in Free = None
+locked_in (Coordinating tx body order heard) = Some tx
+locked_in (Promised tx offer) = Some tx
+locked_in (Watching tx watch) = Some tx
+
+-- whether a group is its own successor
+abbrev pub is_alone : Core → Bool
+is_alone core = same_draw core.succ.group core.id
+
+-- 5 and 9. a group has at most nine members
+abbrev pub join_refused : Core → ℕ → Option OrderRefusal
+join_refused core node =
+    if (length core.members == 9) && not (is_member core.members node) then Some (TooManyMembers 10)
+    else if is_member core.members node then Some IsMember
+    else None
+
+-- 6 and 7. a group has at least one member
+abbrev pub leave_refused : Core → ℕ → Option OrderRefusal
+leave_refused core node =
+    if not (is_member core.members node) then Some NotMember
+    else if length core.members == 1 then Some LastMember
+    else None
+
+-- 4, 7 and 8. each part keeps a position and a member, and a group begins at most 256 transactions
+abbrev pub split_refused : Core → ℕ → Option OrderRefusal
+split_refused core at =
+    if (at == core.arc.lo) || not (holds core.arc at) then Some BadBoundary
+    else if length core.members == 1 then Some LastMember
+    else if not (is_alone core) && nat_le 256 core.begun then Some TxLimit
+    else None
+
+-- 3 to 9, of a group that is not locked
+abbrev pub refused_free : Core → Command → Option OrderRefusal
+refused_free core (Join node order) = join_refused core node
+refused_free core (Leave node order) = leave_refused core node
+refused_free core (Split at child order) = split_refused core at
+refused_free core _ = None
+
+-- 2. nothing reshapes a group that is locked in a transaction
+abbrev pub refused_in : Option Draw → Core → Command → Option OrderRefusal
+refused_in (Some tx) core command = Some (InTransaction tx)
+refused_in None core command = refused_free core command
+
+-- why the command of an order is refused, if it is
+abbrev pub refusal_of : Core → Command → Option OrderRefusal
+refusal_of core command = refused_in (locked_in core.lock) core command
+
+-- the group with one member more, and with one less
+abbrev pub with_node : Group → ℕ → Group
+with_node group node = record group { core = record group.core { members = with_member group.core.members node } }
+
+abbrev pub without_node : Group → ℕ → Group
+without_node group node = record group { core = record group.core { members = without_member group.core.members node } }
+
+-- a command of an order that makes the group this one, by where the group went, if it is gone, and by why it is refused, if it is
+abbrev pub ordered : Option Route → Option OrderRefusal → Group → Group → Group × Effect
+ordered (Some into) why after group = (group, Was.Refused (NotLeader None))
+ordered None (Some why) after group = (group, Was.Refused why)
+ordered None None after group = (after, Was.Changed)
