@@ -1,6 +1,5 @@
 -- A group as its machine keeps it: its record, its pairs and its client table.
-use Rattle.std.specs.Prelude.{ℕ, List, Option, None}
-use Rattle.std.specs.FinMap.{FinMap, empty, entries}
+use Rattle.std.specs.FinMap.{empty, entries}
 use Rattle.sc_ideal.specs.IdealStore.{Contents, with_pairs}
 use Rattle.sc_ideal.specs.Clients.{Table, joined_with}
 use Rattle.sc_cmd.specs.declared.cores.Core.{Core}

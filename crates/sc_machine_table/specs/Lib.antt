@@ -1,3 +1,4 @@
 pub mod Group
 pub mod Machine
 pub mod Orders
+pub mod Splits

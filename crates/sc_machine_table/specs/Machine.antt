@@ -1,6 +1,7 @@
 -- The group machine: what an executed command makes of the group, and its effect. In each part the first line whose condition holds counts.
 use Rattle.std.specs.Prelude.{ℕ, Option, Some, None, nat_lt, ◌==◌, if◌then◌else◌}
 use Rattle.std.specs.FinMap.{get, insert}
+use Rattle.sc_base.specs.declared.names.Draw.{Draw}
 use Rattle.sc_base.specs.declared.ops.Op.{Op}
 use Rattle.sc_base.specs.declared.ops.Noted.{Noted}
 use Rattle.sc_ideal.specs.IdealStore.{key_of, reply_of, after, holds_key}
@@ -8,11 +9,12 @@ use Rattle.sc_cmd.specs.declared.links.Route.{Route}
 use Rattle.sc_cmd.specs.declared.cores.Lock.{Lock}
 use Rattle.sc_cmd.specs.declared.cores.Lock.TheVariants.{Free, Coordinating, Promised, Watching}
 use Rattle.sc_cmd.specs.declared.commands.Command.{Command}
-use Rattle.sc_cmd.specs.declared.commands.Command.TheVariants.{Noop, Call, Join, Leave}
+use Rattle.sc_cmd.specs.declared.commands.Command.TheVariants.{Noop, Call, Join, Leave, Split}
 use Rattle.sc_cmd.specs.declared.effects.Effect.{Effect}
 use Rattle.sc_cmd.specs.declared.effects.Effect.TheVariants.{Done, Again, Stale, NotMine, Gone, NoEffect, Idle}
 use Rattle.sc_machine_table.specs.Group.{Group}
-use Rattle.sc_machine_table.specs.Orders.{refusal_of, ordered, with_node, without_node}
+use Rattle.sc_machine_table.specs.Orders.{is_alone, refusal_of, ordered, with_node, without_node}
+use Rattle.sc_machine_table.specs.Splits.{has_named, left_group}
 
 -- a new request: the operation is applied, and the client table notes its number and reply
 abbrev pub done : Group → ℕ → ℕ → Op → Group × Effect
@@ -43,10 +45,17 @@ called None (Watching tx watch) group client seq op = served group client seq op
 called None (Coordinating tx body order heard) group client seq op = (group, NoEffect tx)
 called None (Promised tx offer) group client seq op = (group, NoEffect tx)
 
--- one command: the group after it, and its effect. The commands of transactions are not built yet: they do nothing.
+-- a split that happens at once; a draw names one thing only
+abbrev pub divided : Group → ℕ → Draw → ℕ → Group × Effect
+divided group at child order =
+    if has_named group.core child then (group, NoEffect child)
+    else ordered group.core.gone (refusal_of group.core (Split at child order)) (left_group group at child) group
+
+-- one command: the group after it, and its effect. A group with another successor splits by a transaction. The commands of transactions are not built yet: they do nothing.
 abbrev pub applied : Group → Command → Group × Effect
 applied group Noop = (group, Idle)
 applied group (Call client seq op) = called group.core.gone group.core.lock group client seq op
 applied group (Join node order) = ordered group.core.gone (refusal_of group.core (Join node order)) (with_node group node) group
 applied group (Leave node order) = ordered group.core.gone (refusal_of group.core (Leave node order)) (without_node group node) group
+applied group (Split at child order) = if is_alone group.core then divided group at child order else (group, Idle)
 applied group _ = (group, Idle)

@@ -1,0 +1,92 @@
+-- The split of a group in two, as the groups of Scatter (SOSP 2011) split in general shape: the group keeps the positions before a boundary and its lesser members, and a new group, its child, takes the rest.
+use Rattle.std.specs.Prelude.{ℕ, ◌-◌, ◌/◌, ◌≤◌, Bool, ◌||◌, if◌then◌else◌, List, [], ◌∷◌, ◌++◌, length, take, drop, Option, Some, None, false}
+use Rattle.std.specs.List.{list_any}
+use Rattle.std.specs.FinMap.{entries}
+use Rattle.sc_base.specs.Arc.{CanCut, before, from}
+use Rattle.sc_base.specs.declared.names.Draw.{Draw}
+use Rattle.sc_ideal.specs.IdealStore.{part_of}
+use Rattle.sc_member.specs.Roster.{least_of}
+use Rattle.sc_cmd.specs.Same.{same_draw}
+use Rattle.sc_cmd.specs.declared.cores.Base.{Base}
+use Rattle.sc_cmd.specs.declared.cores.Core.{Core}
+use Rattle.sc_cmd.specs.declared.cores.Lock.TheVariants.{Free}
+use Rattle.sc_cmd.specs.declared.links.Link.{Link}
+use Rattle.sc_machine_table.specs.Group.{Group}
+use Rattle.sc_machine_table.specs.Orders.{is_alone, locked_in}
+
+-- a group can be split where its arc can be cut and it has two members
+pub record CanSplit (core : Core) (at : ℕ) : Type 0 where
+  pub cut : CanCut core.arc at
+  pub two : 2 ≤ length core.members
+
+-- of n members the first n - n/2 stay
+abbrev pub staying : List ℕ → ℕ
+staying members = length members - length members / 2
+
+abbrev pub left_members : List ℕ → List ℕ
+left_members members = take (staying members) members
+
+-- and the others are the child's
+abbrev pub right_members : List ℕ → List ℕ
+right_members members = drop (staying members) members
+
+-- the links to the two parts
+abbrev pub left_link : Core → Link
+left_link core = record { group = core.id; members = left_members core.members }
+
+abbrev pub right_link : Core → Draw → Link
+right_link core child = record { group = child; members = right_members core.members }
+
+-- who stands before the group, and who after its child: where the group was alone, the other part
+abbrev pub left_pred : Core → Draw → Link
+left_pred core child = if is_alone core then right_link core child else core.pred
+
+abbrev pub right_succ : Core → Link
+right_succ core = if is_alone core then left_link core else core.succ
+
+-- the group afterwards: it keeps its name, and remembers the child
+abbrev pub left_core : Core → ℕ → Draw → Core
+left_core core at child = record core {
+  arc = before core.arc at;
+  members = left_members core.members;
+  succ = right_link core child;
+  pred = left_pred core child;
+  born = core.born ++ child ∷ [];
+}
+
+-- the child: a group of its own, which nothing has happened to
+abbrev pub right_core : Core → ℕ → Draw → Core
+right_core core at child = record {
+  id = child;
+  first = least_of (right_members core.members);
+  arc = from core.arc at;
+  members = right_members core.members;
+  succ = right_succ core;
+  pred = left_link core;
+  lock = Free;
+  begun = 0;
+  decided = [];
+  voted = [];
+  born = [];
+  gone = None;
+}
+
+-- the group after the split, with the pairs that lie before the boundary
+abbrev pub left_group : Group → ℕ → Draw → Group
+left_group group at child = record group { core = left_core group.core at child; pairs = part_of (before group.core.arc at) group.pairs }
+
+-- the record of the child of a group that is not split yet: the pairs from the boundary on, and the whole client table
+abbrev pub child_of : Group → ℕ → Draw → Base
+child_of group at child = record { core = right_core group.core at child; pairs = entries (part_of (from group.core.arc at) group.pairs); clients = entries group.clients }
+
+-- whether a group is locked in this transaction
+abbrev pub is_locked_in : Option Draw → Draw → Bool
+is_locked_in None draw = false
+is_locked_in (Some tx) draw = same_draw tx draw
+
+-- whether a draw has named something here: a child that was split off, or a transaction that is decided or is the lock's
+abbrev pub has_named : Core → Draw → Bool
+has_named core draw =
+    list_any (λ child. same_draw child draw) core.born
+    || list_any (λ decision. same_draw decision.0 draw) core.decided
+    || is_locked_in (locked_in core.lock) draw
