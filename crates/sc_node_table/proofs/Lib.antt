@@ -1,2 +1,3 @@
 mod Runs
 mod Frames
+pub mod MemberRuns

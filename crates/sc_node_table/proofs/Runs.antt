@@ -14,27 +14,28 @@ use Rattle.sc_mail.specs.declared.bodies.Mail.{Mail}
 use Rattle.sc_node_table.specs.declared.ReplicaInput.{ReplicaInput}
 use Rattle.sc_node_table.specs.declared.ReplicaInput.TheVariants.{Got, Tick}
 use Rattle.sc_node_table.specs.Slots.{numbers}
-use Rattle.sc_node_table.specs.Replica.{ReplicaState, Place, born_replica}
+use Rattle.sc_node_table.specs.Replica.{ReplicaState, Place, born_replica, forgotten}
 use Rattle.sc_paxos_words.specs.Leaders.{first_leader}
-use Rattle.sc_node_table.specs.Mails.{sent_all, sent_others, answered, answered_all}
+use Rattle.sc_node_table.specs.Mails.{sent_all, sent_others, answered, answered_all, told_order, dismissed, dismissed_all}
+use Rattle.sc_node_table.specs.Install.{install_to, welcomed_all}
 use Rattle.sc_node_table.specs.Queues.{put_back}
 use Rattle.sc_node_table.specs.Election.{nodes_to, elected, ended, saw}
 use Rattle.sc_node_table.specs.Pump.{next_call, from_calls, from_queues, found_for, offered, pumped_from, pumped}
-use Rattle.sc_node_table.specs.Execute.{entered, told, told_call, learnt_to, landed, left, looked, executed_one, executed_ready, executed}
+use Rattle.sc_node_table.specs.Execute.{entered, told, told_call, told_effect, learnt_to, welcomed, landed, left, looked, executed_one, executed_ready, executed}
 use Rattle.sc_node_table.specs.Voting.{promised, prepare_row, took, accept_row, promise_row, readied, accepted_row, nack_row}
 use Rattle.sc_node_table.specs.Rows.{queued, requested, request_row, learn_row, taught, ask_row, asked_again, told_last, tick_row, mailed, stepped}
 
-abbrev g : Draw
+abbrev pub g : Draw
 g = record { node = 0; count = 1 }
 
-abbrev b : ℕ → ℕ → Ballot
+abbrev pub b : ℕ → ℕ → Ballot
 b round node = record { round = round; node = node }
 
-abbrev mail : ℕ → ℕ → MailBody → Mail
+abbrev pub mail : ℕ → ℕ → MailBody → Mail
 mail from to body = record { from = from; to = to; body = body }
 
 -- a group that holds the whole ring, with its least member first
-abbrev core : List ℕ → Core
+abbrev pub core : List ℕ → Core
 core members = record {
   id = g;
   first = 1;
@@ -50,7 +51,7 @@ core members = record {
   gone = None;
 }
 
-abbrev base : List ℕ → Base
+abbrev pub base : List ℕ → Base
 base members = record { core = core members; pairs = []; clients = [] }
 
 -- one that holds one position
@@ -58,7 +59,7 @@ abbrev narrow : List ℕ → Base
 narrow members = record (base members) { core = record (core members) { arc = record { lo = 0; len = 1 } } }
 
 -- the place after these inputs
-abbrev run : Place → List ReplicaInput → Place
+abbrev pub run : Place → List ReplicaInput → Place
 run place [] = place
 run place (input ∷ inputs) = run (stepped input place) inputs
 
@@ -76,7 +77,7 @@ fifth_waits :
     ∷ mail 1 1 (Accept g (b 1 1) 3 (Call 3 1 (Put (99 ∷ []) (120 ∷ []))))
     ∷ mail 1 1 (Accept g (b 1 1) 4 (Call 4 1 (Put (100 ∷ []) (120 ∷ []))))
     ∷ mail 1 1 (Accepted g (b 1 1) 1) ∷ []
-unfolding stepped mailed request_row requested queued learn_row taught ask_row asked_again told_last tick_row prepare_row promised accept_row took promise_row accepted_row readied nack_row pumped pumped_from found_for from_queues from_calls next_call offered sent_all sent_others answered answered_all nodes_to elected ended saw entered told told_call learnt_to landed left looked executed_one executed_ready executed put_back
+unfolding stepped mailed request_row requested queued learn_row taught ask_row asked_again told_last tick_row prepare_row promised accept_row took promise_row accepted_row readied nack_row pumped pumped_from found_for from_queues from_calls next_call offered sent_all sent_others answered answered_all nodes_to elected ended saw entered told told_call learnt_to landed left looked executed_one executed_ready executed put_back forgotten told_effect told_order welcomed welcomed_all dismissed dismissed_all install_to
 fifth_waits = refl
 
 -- one that is elected offers a Noop below a slot that was reported, and there the value that was reported; the Noop is counted and executed
@@ -106,7 +107,7 @@ gap :
     ∷ mail 2 2 (Accepted g (b 2 2) 2)
     ∷ mail 2 1 (Learn g 1 Noop)
     ∷ mail 2 3 (Learn g 1 Noop) ∷ []
-unfolding stepped mailed request_row requested queued learn_row taught ask_row asked_again told_last tick_row prepare_row promised accept_row took promise_row accepted_row readied nack_row pumped pumped_from found_for from_queues from_calls next_call offered sent_all sent_others answered answered_all nodes_to elected ended saw entered told told_call learnt_to landed left looked executed_one executed_ready executed put_back
+unfolding stepped mailed request_row requested queued learn_row taught ask_row asked_again told_last tick_row prepare_row promised accept_row took promise_row accepted_row readied nack_row pumped pumped_from found_for from_queues from_calls next_call offered sent_all sent_others answered answered_all nodes_to elected ended saw entered told told_call learnt_to landed left looked executed_one executed_ready executed put_back forgotten told_effect told_order welcomed welcomed_all dismissed dismissed_all install_to
 gap = refl
 
 -- a leader that sees a higher ballot answers what is in flight and what waits, and then promises
@@ -136,7 +137,7 @@ stop :
     ∷ mail 1 36 (Answer g 1 (Says.NotLeader (Some 2)))
     ∷ mail 1 37 (Answer g 1 (Says.NotLeader (Some 2)))
     ∷ mail 1 2 (Promise g (b 2 2) []) ∷ []
-unfolding stepped mailed request_row requested queued learn_row taught ask_row asked_again told_last tick_row prepare_row promised accept_row took promise_row accepted_row readied nack_row pumped pumped_from found_for from_queues from_calls next_call offered sent_all sent_others answered answered_all nodes_to elected ended saw entered told told_call learnt_to landed left looked executed_one executed_ready executed put_back
+unfolding stepped mailed request_row requested queued learn_row taught ask_row asked_again told_last tick_row prepare_row promised accept_row took promise_row accepted_row readied nack_row pumped pumped_from found_for from_queues from_calls next_call offered sent_all sent_others answered answered_all nodes_to elected ended saw entered told told_call learnt_to landed left looked executed_one executed_ready executed put_back forgotten told_effect told_order welcomed welcomed_all dismissed dismissed_all install_to
 stop = refl
 
 -- a call whose slot went to a learnt Noop is offered again at the next free slot
@@ -154,7 +155,7 @@ lost_slot :
     ∷ mail 1 1 (Accept g (b 1 1) 3 (Call 1 1 (Put (97 ∷ []) (120 ∷ []))))
     ∷ mail 1 2 (Accept g (b 1 1) 3 (Call 1 1 (Put (97 ∷ []) (120 ∷ []))))
     ∷ mail 1 3 (Accept g (b 1 1) 3 (Call 1 1 (Put (97 ∷ []) (120 ∷ [])))) ∷ []
-unfolding stepped mailed request_row requested queued learn_row taught ask_row asked_again told_last tick_row prepare_row promised accept_row took promise_row accepted_row readied nack_row pumped pumped_from found_for from_queues from_calls next_call offered sent_all sent_others answered answered_all nodes_to elected ended saw entered told told_call learnt_to landed left looked executed_one executed_ready executed put_back
+unfolding stepped mailed request_row requested queued learn_row taught ask_row asked_again told_last tick_row prepare_row promised accept_row took promise_row accepted_row readied nack_row pumped pumped_from found_for from_queues from_calls next_call offered sent_all sent_others answered answered_all nodes_to elected ended saw entered told told_call learnt_to landed left looked executed_one executed_ready executed put_back forgotten told_effect told_order welcomed welcomed_all dismissed dismissed_all install_to
 lost_slot = refl
 
 -- one that promised a higher ballot ignores an accept of a lower one
@@ -166,7 +167,7 @@ follower :
     ≡ mail 3 2 (Promise g (b 2 2) [])
     ∷ mail 3 2 (Accepted g (b 2 2) 1)
     ∷ mail 3 1 (Nack g (b 2 2)) ∷ []
-unfolding stepped mailed request_row requested queued learn_row taught ask_row asked_again told_last tick_row prepare_row promised accept_row took promise_row accepted_row readied nack_row pumped pumped_from found_for from_queues from_calls next_call offered sent_all sent_others answered answered_all nodes_to elected ended saw entered told told_call learnt_to landed left looked executed_one executed_ready executed put_back
+unfolding stepped mailed request_row requested queued learn_row taught ask_row asked_again told_last tick_row prepare_row promised accept_row took promise_row accepted_row readied nack_row pumped pumped_from found_for from_queues from_calls next_call offered sent_all sent_others answered answered_all nodes_to elected ended saw entered told told_call learnt_to landed left looked executed_one executed_ready executed put_back forgotten told_effect told_order welcomed welcomed_all dismissed dismissed_all install_to
 follower = refl
 
 -- a Nack stops a leader, and its next ballot is above the one that it was told of
@@ -182,7 +183,7 @@ nack :
     ∷ mail 1 1 (Prepare g (b 3 1) 1)
     ∷ mail 1 2 (Prepare g (b 3 1) 1)
     ∷ mail 1 3 (Prepare g (b 3 1) 1) ∷ []
-unfolding stepped mailed request_row requested queued learn_row taught ask_row asked_again told_last tick_row prepare_row promised accept_row took promise_row accepted_row readied nack_row pumped pumped_from found_for from_queues from_calls next_call offered sent_all sent_others answered answered_all nodes_to elected ended saw entered told told_call learnt_to landed left looked executed_one executed_ready executed put_back
+unfolding stepped mailed request_row requested queued learn_row taught ask_row asked_again told_last tick_row prepare_row promised accept_row took promise_row accepted_row readied nack_row pumped pumped_from found_for from_queues from_calls next_call offered sent_all sent_others answered answered_all nodes_to elected ended saw entered told told_call learnt_to landed left looked executed_one executed_ready executed put_back forgotten told_effect told_order welcomed welcomed_all dismissed dismissed_all install_to
 nack = refl
 
 -- a Noop that lost its slot to a learnt call is dropped
@@ -205,7 +206,7 @@ noop_lost :
     ∷ mail 2 1 (Accept g (b 2 2) 2 (Call 2 1 (Put (97 ∷ []) (121 ∷ []))))
     ∷ mail 2 2 (Accept g (b 2 2) 2 (Call 2 1 (Put (97 ∷ []) (121 ∷ []))))
     ∷ mail 2 3 (Accept g (b 2 2) 2 (Call 2 1 (Put (97 ∷ []) (121 ∷ [])))) ∷ []
-unfolding stepped mailed request_row requested queued learn_row taught ask_row asked_again told_last tick_row prepare_row promised accept_row took promise_row accepted_row readied nack_row pumped pumped_from found_for from_queues from_calls next_call offered sent_all sent_others answered answered_all nodes_to elected ended saw entered told told_call learnt_to landed left looked executed_one executed_ready executed put_back
+unfolding stepped mailed request_row requested queued learn_row taught ask_row asked_again told_last tick_row prepare_row promised accept_row took promise_row accepted_row readied nack_row pumped pumped_from found_for from_queues from_calls next_call offered sent_all sent_others answered answered_all nodes_to elected ended saw entered told told_call learnt_to landed left looked executed_one executed_ready executed put_back forgotten told_effect told_order welcomed welcomed_all dismissed dismissed_all install_to
 noop_lost = refl
 
 -- a tick asks again each member whose vote was not counted
@@ -224,7 +225,7 @@ tick :
     ∷ mail 1 3 (Accept g (b 1 1) 1 (Call 1 1 (Put (97 ∷ []) (120 ∷ []))))
     ∷ mail 1 2 (Accept g (b 1 1) 1 (Call 1 1 (Put (97 ∷ []) (120 ∷ []))))
     ∷ mail 1 3 (Accept g (b 1 1) 1 (Call 1 1 (Put (97 ∷ []) (120 ∷ [])))) ∷ []
-unfolding stepped mailed request_row requested queued learn_row taught ask_row asked_again told_last tick_row prepare_row promised accept_row took promise_row accepted_row readied nack_row pumped pumped_from found_for from_queues from_calls next_call offered sent_all sent_others answered answered_all nodes_to elected ended saw entered told told_call learnt_to landed left looked executed_one executed_ready executed put_back
+unfolding stepped mailed request_row requested queued learn_row taught ask_row asked_again told_last tick_row prepare_row promised accept_row took promise_row accepted_row readied nack_row pumped pumped_from found_for from_queues from_calls next_call offered sent_all sent_others answered answered_all nodes_to elected ended saw entered told told_call learnt_to landed left looked executed_one executed_ready executed put_back forgotten told_effect told_order welcomed welcomed_all dismissed dismissed_all install_to
 tick = refl
 
 -- two commands in flight, of which the second has its majority first: it is executed after the first. The group no longer holds their keys
@@ -242,7 +243,7 @@ elsewhere to = mail 1 to (Answer g 1 (Says.NotMine (record { lo = 0; len = 1 }) 
 second_first :
     (run (two_in_flight, []) (Got (mail 1 1 (Accepted g (b 1 1) 2)) ∷ Got (mail 1 1 (Accepted g (b 1 1) 1)) ∷ [])).1
     ≡ elsewhere 33 ∷ elsewhere 34 ∷ []
-unfolding stepped mailed request_row requested queued learn_row taught ask_row asked_again told_last tick_row prepare_row promised accept_row took promise_row accepted_row readied nack_row pumped pumped_from found_for from_queues from_calls next_call offered sent_all sent_others answered answered_all nodes_to elected ended saw entered told told_call learnt_to landed left looked executed_one executed_ready executed put_back
+unfolding stepped mailed request_row requested queued learn_row taught ask_row asked_again told_last tick_row prepare_row promised accept_row took promise_row accepted_row readied nack_row pumped pumped_from found_for from_queues from_calls next_call offered sent_all sent_others answered answered_all nodes_to elected ended saw entered told told_call learnt_to landed left looked executed_one executed_ready executed put_back forgotten told_effect told_order welcomed welcomed_all dismissed dismissed_all install_to
 second_first = refl
 
 -- an Ask is answered by at most 32 entries
@@ -255,5 +256,5 @@ asked = refl
 
 -- a tick of a settled leader with nothing in flight tells the others its last entry
 told_again : (run (long, []) (Tick ∷ [])).1 ≡ mail 1 2 (Learn g 40 Noop) ∷ mail 1 3 (Learn g 40 Noop) ∷ []
-unfolding stepped mailed request_row requested queued learn_row taught ask_row asked_again told_last tick_row prepare_row promised accept_row took promise_row accepted_row readied nack_row pumped pumped_from found_for from_queues from_calls next_call offered sent_all sent_others answered answered_all nodes_to elected ended saw entered told told_call learnt_to landed left looked executed_one executed_ready executed put_back
+unfolding stepped mailed request_row requested queued learn_row taught ask_row asked_again told_last tick_row prepare_row promised accept_row took promise_row accepted_row readied nack_row pumped pumped_from found_for from_queues from_calls next_call offered sent_all sent_others answered answered_all nodes_to elected ended saw entered told told_call learnt_to landed left looked executed_one executed_ready executed put_back forgotten told_effect told_order welcomed welcomed_all dismissed dismissed_all install_to
 told_again = refl

@@ -10,7 +10,7 @@ use Rattle.sc_paxos_words.specs.Ballots.{below}
 use Rattle.sc_paxos_words.specs.Leaders.{elected as new_leader}
 use Rattle.sc_node_table.specs.Slots.{numbers}
 use Rattle.sc_node_table.specs.Replica.{ReplicaState, Place, name_of, next, under_way}
-use Rattle.sc_node_table.specs.Mails.{sent_all, answered_all}
+use Rattle.sc_node_table.specs.Mails.{sent_all, answered_all, dismissed_all}
 
 -- whether a node is in one of these sets
 abbrev pub is_in_some : List (List ℕ) → ℕ → Bool
@@ -33,11 +33,11 @@ elected (r, mails) =
       sent_all r.me (open_nodes r.sets) (Prepare (name_of r) ballot (next r)) mails,
     )
 
--- it runs no longer, and each call in flight, ready or waiting is answered so
+-- it runs no longer: each call in flight, ready or waiting is answered so, and the desk is told of each waiting order that this node does not lead
 unfoldable pub ended : Option ℕ → AnswerBody → Place → Place
 ended hint answer (r, mails) = (
   record r { running = false; leader = new_leader r.leader.ballot (next r); ready = []; acts = []; calls = []; hint = hint },
-  answered_all r.me (name_of r) answer r.calls (answered_all r.me (name_of r) answer (under_way r) mails),
+  dismissed_all r.me (name_of r) hint answer r.calls (answered_all r.me (name_of r) answer (under_way r) mails),
 )
 
 -- Stop with a hint

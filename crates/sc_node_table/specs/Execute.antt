@@ -1,5 +1,5 @@
 -- Execute: the command of the next slot, counted where it was ready, else learnt. The parts stand in the order of their numbers.
-use Rattle.std.specs.Prelude.{ℕ, ◌+◌, ◌==◌, ◌&&◌, ◌||◌, nat_lt, Bool, true, false, List, [], ◌∷◌, ◌++◌, if◌then◌else◌, Option, Some, None}
+use Rattle.std.specs.Prelude.{ℕ, ◌+◌, ◌==◌, ◌&&◌, ◌||◌, not, filter, nat_lt, Bool, true, false, List, [], ◌∷◌, ◌++◌, if◌then◌else◌, Option, Some, None}
 use Rattle.sc_cmd.specs.declared.links.Route.{Route}
 use Rattle.sc_cmd.specs.declared.commands.Command.{Command}
 use Rattle.sc_cmd.specs.declared.commands.Command.TheVariants.{Call}
@@ -8,26 +8,29 @@ use Rattle.sc_cmd.specs.declared.effects.Effect.TheVariants as Was
 use Rattle.sc_mail.specs.declared.bodies.AnswerBody.{AnswerBody}
 use Rattle.sc_mail.specs.declared.bodies.AnswerBody.TheVariants as Says
 use Rattle.sc_mail.specs.declared.bodies.MailBody.TheVariants.{Learn}
+use Rattle.sc_cmd.specs.declared.orders.ToldResult.{ToldResult}
+use Rattle.sc_cmd.specs.declared.orders.ToldResult.TheVariants as Tells
 use Rattle.sc_member.specs.Roster.{is_member, least_of}
 use Rattle.sc_paxos_words.specs.Logs.{LogState, learnt, next_of}
 use Rattle.sc_paxos_words.specs.Leaders.{landed as without_flight_at}
 use Rattle.sc_machine_table.specs.Machine.{applied}
-use Rattle.sc_node_table.specs.Slots.{rest_of, at_slot, without_slot}
-use Rattle.sc_node_table.specs.Replica.{ReplicaState, Place, name_of, next, members, flying, last_slot}
-use Rattle.sc_node_table.specs.Mails.{answer_to, sent_others}
+use Rattle.sc_node_table.specs.Slots.{slots_ahead, rest_of, at_slot, without_slot}
+use Rattle.sc_node_table.specs.Replica.{ReplicaState, Place, name_of, next, members, flying, last_slot, forgotten, waits_in}
+use Rattle.sc_node_table.specs.Mails.{answer_to, sent_others, order_in, told_order}
 use Rattle.sc_node_table.specs.Queues.{put_back, same_command}
 use Rattle.sc_node_table.specs.Election.{elected, ended, stopped}
 use Rattle.sc_node_table.specs.Pump.{pumped}
+use Rattle.sc_node_table.specs.Install.{welcomed_all}
 
 -- the log with the entry of its next slot
 abbrev pub with_entry : Command → LogState Command → LogState Command
 with_entry command log = (learnt (next_of log) command log).1
 
--- 1. it is applied and kept, and one more slot is open, decided by the members in the new state ..
+-- 1. it is applied and kept, one more slot is open, decided by the members in the new state, and what is not above the floor is forgotten ..
 unfoldable pub entered : Command → ReplicaState → ReplicaState
 entered command r =
     let after = (applied r.group command).0 in
-    record r { group = after; log = with_entry command r.log; sets = rest_of r.sets ++ after.core.members ∷ [] }
+    forgotten (next r) (record r { group = after; log = with_entry command r.log; sets = rest_of r.sets ++ after.core.members ∷ []; waits = waits_in after.core.lock r.waits })
 
 -- .. a counted call is answered by its effect, or goes back
 abbrev pub answer_of : Effect → Option AnswerBody
@@ -43,13 +46,29 @@ told_call (Some answer) (Call client seq op) (r, mails) = (r, answer_to r.me (na
 told_call None (Call client seq op) (r, mails) = (put_back (Call client seq op) r, mails)
 told_call answer command place = place
 
-unfoldable pub told : Bool → Effect → Command → Place → Place
-told counted effect command place = if counted then told_call (answer_of effect) command place else place
+-- .. and what an order came to is told by each replica that executes it
+abbrev pub result_of : Effect → Option ToldResult
+result_of Was.Changed = Some Tells.Done
+result_of (Was.Refused why) = Some (Tells.Refused why)
+result_of _ = None
 
--- 2. the members before a counted command learn it
+unfoldable pub told_effect : Option ToldResult → Command → Place → Place
+told_effect None command place = place
+told_effect (Some result) command (r, mails) = (r, told_order r.me (order_in command) result mails)
+
+unfoldable pub told : Bool → Effect → Command → Place → Place
+told counted effect command place =
+    told_effect (result_of effect) command (if counted then told_call (answer_of effect) command place else place)
+
+-- 2. the members before a counted command learn it ..
 unfoldable pub learnt_to : Bool → List ℕ → ℕ → Command → Place → Place
 learnt_to counted before slot command (r, mails) =
     if counted then (r, sent_others r.me before (Learn (name_of r) slot command) mails) else (r, mails)
+
+-- .. and each member that it added is sent the state, and asked to promise this leader's ballot
+unfoldable pub welcomed : Bool → List ℕ → Place → Place
+welcomed counted before (r, mails) =
+    if counted then welcomed_all (filter (λ node. not (is_member before node)) (members r)) (r, mails) else (r, mails)
 
 -- 4. what is in flight or ready at its slot is over; a command that lost its slot to a learnt one goes back
 abbrev pub lost : Bool → Command → Option Command → ReplicaState → ReplicaState
@@ -89,12 +108,13 @@ unfoldable pub executed_one : Bool → Command → Place → Place
 executed_one counted command (r, mails) =
     let place1 = told counted (applied r.group command).1 command (entered command r, mails) in
     let place2 = learnt_to counted (members r) (next r) command place1 in
-    let place4 = landed counted (next r) command place2 in
+    let place3 = welcomed counted (members r) place2 in
+    let place4 = landed counted (next r) command place3 in
     looked (left place4)
 
 -- whether a counted command may be executed at the next slot: the pump offers none above the last slot by more than the other open slots
 abbrev pub has_room : ReplicaState → Bool
-has_room r = nat_lt (next r) (last_slot + 4)
+has_room r = nat_lt (next r) (last_slot + slots_ahead)
 
 -- 7. where it runs, the ready command of the new next slot
 abbrev pub next_ready : ReplicaState → Option Command

@@ -1,5 +1,6 @@
 pub mod Election
 pub mod Execute
+pub mod Install
 pub mod Mails
 pub mod Node
 pub mod Pump

@@ -1,11 +1,14 @@
 -- Mails of a replica, each put behind those that are there.
-use Rattle.std.specs.Prelude.{ℕ, ◌+◌, ◌==◌, List, [], ◌∷◌, ◌++◌, if◌then◌else◌}
+use Rattle.std.specs.Prelude.{ℕ, ◌+◌, ◌==◌, nat_lt, List, [], ◌∷◌, ◌++◌, if◌then◌else◌, Option}
 use Rattle.sc_base.specs.declared.names.Draw.{Draw}
 use Rattle.sc_cmd.specs.declared.commands.Command.{Command}
-use Rattle.sc_cmd.specs.declared.commands.Command.TheVariants.{Call}
+use Rattle.sc_cmd.specs.declared.commands.Command.TheVariants.{Call, Join, Leave, Split, Begin}
+use Rattle.sc_cmd.specs.declared.orders.OrderRefusal.TheVariants.{NotLeader}
+use Rattle.sc_cmd.specs.declared.orders.ToldResult.{ToldResult}
+use Rattle.sc_cmd.specs.declared.orders.ToldResult.TheVariants.{Refused}
 use Rattle.sc_mail.specs.declared.bodies.AnswerBody.{AnswerBody}
 use Rattle.sc_mail.specs.declared.bodies.MailBody.{MailBody}
-use Rattle.sc_mail.specs.declared.bodies.MailBody.TheVariants.{Answer}
+use Rattle.sc_mail.specs.declared.bodies.MailBody.TheVariants.{Answer, Told}
 use Rattle.sc_mail.specs.declared.bodies.Mail.{Mail}
 
 -- one mail more
@@ -35,3 +38,28 @@ answered me group answer _ mails = mails
 unfoldable pub answered_all : ℕ → Draw → AnswerBody → List Command → List Mail → List Mail
 answered_all me group answer [] mails = mails
 answered_all me group answer (command ∷ commands) mails = answered_all me group answer commands (answered me group answer command mails)
+
+-- the desk is told what became of an order
+abbrev pub told_desk : ℕ → ℕ → ToldResult → List Mail → List Mail
+told_desk me number result mails = sent me 0 (Told number result) mails
+
+-- the number of the order that a command is of: 0 where a policy made it, and where it is of none
+abbrev pub order_in : Command → ℕ
+order_in (Join node order) = order
+order_in (Leave node order) = order
+order_in (Split at child order) = order
+order_in (Begin tx body order) = order
+order_in _ = 0
+
+-- ... and nothing of an order without a number
+unfoldable pub told_order : ℕ → ℕ → ToldResult → List Mail → List Mail
+told_order me number result mails = if nat_lt 0 number then told_desk me number result mails else mails
+
+-- a waiting command of one that runs no longer: the client of a call is answered so, and of an order it is told that this node, which takes another for the leader, does not lead
+unfoldable pub dismissed : ℕ → Draw → Option ℕ → AnswerBody → Command → List Mail → List Mail
+dismissed me group hint answer (Call client seq op) mails = answer_to me group client seq answer mails
+dismissed me group hint answer command mails = told_order me (order_in command) (Refused (NotLeader hint)) mails
+
+unfoldable pub dismissed_all : ℕ → Draw → Option ℕ → AnswerBody → List Command → List Mail → List Mail
+dismissed_all me group hint answer [] mails = mails
+dismissed_all me group hint answer (command ∷ commands) mails = dismissed_all me group hint answer commands (dismissed me group hint answer command mails)

@@ -1,28 +1,33 @@
 -- A node: its replicas, one a group, and its table.
-use Rattle.std.specs.Prelude.{ℕ, ◌&&◌, nat_le, Bool, true, List, [], ◌∷◌, map, filter, find, if◌then◌else◌, Option, Some, None}
+use Rattle.std.specs.Prelude.{ℕ, ◌==◌, ◌&&◌, ◌||◌, not, nat_le, nat_lt, length, Bool, true, List, [], ◌∷◌, map, filter, find, if◌then◌else◌, Option, Some, None}
 use Rattle.sc_base.specs.declared.names.Draw.{Draw}
 use Rattle.sc_actor.specs.declared.rows.Input.{Input}
-use Rattle.sc_actor.specs.declared.rows.Input.TheVariants.{Got, Tick}
+use Rattle.sc_actor.specs.declared.rows.Input.TheVariants.{Got, Tick, Told}
 use Rattle.sc_cmd.specs.Same.{same_draw}
 use Rattle.sc_cmd.specs.declared.cores.Base.{Base}
+use Rattle.sc_cmd.specs.declared.orders.Order.{Order}
+use Rattle.sc_cmd.specs.declared.orders.Order.TheVariants as An
 use Rattle.sc_cmd.specs.declared.orders.OrderLine.{OrderLine}
+use Rattle.sc_cmd.specs.declared.orders.OrderRefusal.TheVariants.{NotLeader}
+use Rattle.sc_cmd.specs.declared.orders.ToldResult.TheVariants.{Refused}
 use Rattle.sc_mail.specs.declared.bodies.AnswerBody.TheVariants as Says
 use Rattle.sc_mail.specs.declared.bodies.MailBody.{MailBody}
-use Rattle.sc_mail.specs.declared.bodies.MailBody.TheVariants.{Request, Prepare, Promise, Accept, Accepted, Nack, Learn, Ask}
+use Rattle.sc_mail.specs.declared.bodies.MailBody.TheVariants.{Request, Prepare, Promise, Accept, Accepted, Nack, Learn, Ask, Install}
 use Rattle.sc_mail.specs.declared.bodies.Mail.{Mail}
 use Rattle.sc_member.specs.Roster.{is_member}
-use Rattle.sc_node_table.specs.Replica.{ReplicaState, name_of, born_replica}
-use Rattle.sc_node_table.specs.Mails.{sent, answer_to}
-use Rattle.sc_node_table.specs.Rows.{mailed, tick_row}
+use Rattle.sc_node_table.specs.Replica.{ReplicaState, Place, name_of, born_replica, last_slot}
+use Rattle.sc_node_table.specs.Mails.{sent, answer_to, told_desk}
+use Rattle.sc_node_table.specs.Rows.{mailed, tick_row, order_row, made_by}
 
--- the node's number, and its replicas in the order of their groups' names
+-- the node's number, how many slots of a log are open at a time, and its replicas in the order of their groups' names
 pub record NodeState : Type 0 where
   pub me : ℕ
+  pub ahead : ℕ
   pub replicas : List ReplicaState
 
 -- a node at the birth of groups that are in the order of their names: it has a replica of each of which it is a member
 abbrev pub born_node : ℕ → ℕ → List Base → NodeState
-born_node ahead me groups = record { me = me; replicas = map (λ base. born_replica ahead me base) (filter (λ base. is_member base.core.members me) groups) }
+born_node ahead me groups = record { me = me; ahead = ahead; replicas = map (λ base. born_replica ahead me base) (filter (λ base. is_member base.core.members me) groups) }
 
 -- the replica of a group
 abbrev pub replica_of : Draw → List ReplicaState → Option ReplicaState
@@ -32,6 +37,14 @@ replica_of group replicas = find (λ r. same_draw (name_of r) group) replicas
 abbrev pub with_replica : Draw → ReplicaState → List ReplicaState → List ReplicaState
 with_replica group new [] = []
 with_replica group new (r ∷ replicas) = if same_draw (name_of r) group then new ∷ replicas else r ∷ with_replica group new replicas
+
+-- whether a name stands before another, and the replicas with one more, in the order of the names
+abbrev pub is_before : Draw → Draw → Bool
+is_before a b = nat_lt a.node b.node || ((a.node == b.node) && nat_lt a.count b.count)
+
+abbrev pub with_new : ReplicaState → List ReplicaState → List ReplicaState
+with_new new [] = new ∷ []
+with_new new (r ∷ replicas) = if is_before (name_of r) (name_of new) then r ∷ with_new new replicas else new ∷ r ∷ replicas
 
 -- the group that a mail is for, if a row of the table takes it
 abbrev pub group_in : MailBody → Option Draw
@@ -43,6 +56,7 @@ group_in (Accepted group ballot slot) = Some group
 group_in (Nack group promised) = Some group
 group_in (Learn group slot command) = Some group
 group_in (Ask group from_slot) = Some group
+group_in (Install group slot base sets) = Some group
 group_in _ = None
 
 -- what is sent where there is no replica of the group
@@ -52,6 +66,16 @@ absent me from (Prepare group ballot from_slot) = sent me from (Ask group 0) []
 absent me from (Accept group ballot slot command) = sent me from (Ask group 0) []
 absent me from (Learn group slot command) = sent me from (Ask group 0) []
 absent me from _ = []
+
+-- a node without a replica of the group makes one of the state that it is sent
+abbrev pub with_made : Place → NodeState → NodeState × List Mail
+with_made (r, mails) node = (record node { replicas = with_new r node.replicas }, mails)
+
+abbrev pub unknown : ℕ → MailBody → NodeState → NodeState × List Mail
+unknown from (Install group slot base sets) node =
+    if not (length sets == node.ahead) || nat_lt last_slot slot then (node, [])
+    else with_made (made_by node.me from slot base sets) node
+unknown from body node = (node, absent node.me from body)
 
 -- only a request may come from others than nodes
 abbrev pub is_node : ℕ → Bool
@@ -63,7 +87,7 @@ may_come from _ = is_node from
 
 -- a mail for the replica of a group
 abbrev pub taken_by : Option ReplicaState → Draw → ℕ → MailBody → NodeState → NodeState × List Mail
-taken_by None group from body node = (node, absent node.me from body)
+taken_by None group from body node = unknown from body node
 taken_by (Some r) group from body node =
     let after = mailed from body (r, []) in
     (record node { replicas = with_replica group after.0 node.replicas }, after.1)
@@ -74,6 +98,25 @@ routed (Some group) from body node = taken_by (replica_of group node.replicas) g
 
 abbrev pub on_mail : ℕ → MailBody → NodeState → NodeState × List Mail
 on_mail from body node = if may_come from body then routed (group_in body) from body node else (node, [])
+
+-- the group of an order
+abbrev pub group_of_order : Order → Draw
+group_of_order (An.Join node group) = group
+group_of_order (An.Leave node group) = group
+group_of_order (An.Split group at) = group
+group_of_order (An.Merge group) = group
+group_of_order (An.Repart group at) = group
+group_of_order (An.Migrate group node) = group
+
+-- an order for the replica of its group
+abbrev pub ordered_of : Option ReplicaState → OrderLine → NodeState → NodeState × List Mail
+ordered_of None line node = (node, told_desk node.me line.number (Refused (NotLeader None)) [])
+ordered_of (Some r) line node =
+    let after = order_row line (r, []) in
+    (record node { replicas = with_replica (group_of_order line.order) after.0 node.replicas }, after.1)
+
+abbrev pub on_order : OrderLine → NodeState → NodeState × List Mail
+on_order line node = ordered_of (replica_of (group_of_order line.order) node.replicas) line node
 
 -- each replica ticks, in their order
 unfoldable pub ticked : List ReplicaState → List Mail → List ReplicaState × List Mail
@@ -92,4 +135,5 @@ on_tick node =
 abbrev pub node_table : NodeState → Input Mail OrderLine → NodeState × List Mail
 node_table node (Got mail) = on_mail mail.from mail.body node
 node_table node Tick = on_tick node
+node_table node (Told line) = on_order line node
 node_table node _ = (node, [])

@@ -37,7 +37,7 @@ put_back (Split at child order) r = record r { calls = Split at child order ∷ 
 put_back (Begin tx body order) r = record r { calls = Begin tx body order ∷ r.calls }
 put_back command r = record r { acts = command ∷ r.acts }
 
--- whether two byte strings, two operations, two commands are one; of the commands of orders and transactions, which are not built yet, none is
+-- whether two byte strings, two operations, two commands are one; of the commands of transactions, which are not built yet, none is
 abbrev pub same_bytes : List ℕ → List ℕ → Bool
 same_bytes a b = pointwise nat_eq a b
 
@@ -52,4 +52,6 @@ same_op a b = false
 abbrev pub same_command : Command → Command → Bool
 same_command Noop Noop = true
 same_command (Call c n a) (Call d m b) = (c == d) && ((n == m) && same_op a b)
+same_command (Join a n) (Join b m) = (a == b) && (n == m)
+same_command (Leave a n) (Leave b m) = (a == b) && (n == m)
 same_command a b = false

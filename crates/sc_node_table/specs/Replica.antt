@@ -1,14 +1,16 @@
 -- One group on one node: what its replica keeps, and what is said of it.
-use Rattle.std.specs.Prelude.{ℕ, ◌-◌, ◌^◌, nat_lt, ◌==◌, ◌&&◌, Bool, List, [], ◌∷◌, ◌++◌, length, replicate, slice_get, if◌then◌else◌, Option, Some, None}
+use Rattle.std.specs.Prelude.{ℕ, ◌-◌, ◌*◌, ◌/◌, ◌^◌, nat_lt, ◌==◌, ◌&&◌, Bool, false, List, [], ◌∷◌, ◌++◌, length, replicate, slice_get, if◌then◌else◌, Option, Some, None}
 use Rattle.std.specs.Option.{option_map}
 use Rattle.sc_base.specs.declared.names.Draw.{Draw}
 use Rattle.sc_base.specs.declared.names.Ballot.{Ballot}
 use Rattle.sc_cmd.specs.declared.commands.Command.{Command}
 use Rattle.sc_cmd.specs.declared.cores.Base.{Base}
 use Rattle.sc_cmd.specs.declared.cores.Core.{Core}
+use Rattle.sc_cmd.specs.declared.cores.Lock.{Lock}
+use Rattle.sc_cmd.specs.declared.cores.Lock.TheVariants.{Free}
 use Rattle.sc_mail.specs.declared.bodies.Mail.{Mail}
-use Rattle.sc_paxos_words.specs.Logs.{LogState, empty_log, next_of}
-use Rattle.sc_paxos_words.specs.Acceptors.{AcceptorState, born}
+use Rattle.sc_paxos_words.specs.Logs.{LogState, empty_log, next_of, installed, log_cut}
+use Rattle.sc_paxos_words.specs.Acceptors.{AcceptorState, born, after_cut}
 use Rattle.sc_paxos_words.specs.Leaders.{LeaderState, first_leader, flight_at, is_settled}
 use Rattle.sc_machine_table.specs.Group.{Group, group_of}
 use Rattle.sc_node_table.specs.Slots.{at_slot, numbers}
@@ -54,6 +56,41 @@ born_replica ahead me base = record {
   calls = [];
   waits = 0;
 }
+
+-- how many slots are kept or forgotten at a time
+abbrev pub cut_unit : ℕ
+cut_unit = 64
+
+-- the slot up to which entries and accepted commands are forgotten, by the last executed slot: between one and two units of slots are kept
+abbrev pub floor_of : ℕ → ℕ
+floor_of last = cut_unit * (last / cut_unit) - cut_unit
+
+-- what is not above the floor is forgotten
+unfoldable pub forgotten : ℕ → ReplicaState → ReplicaState
+forgotten last r = record r { log = log_cut (floor_of last) r.log; acceptor = after_cut (floor_of last) r.acceptor }
+
+-- a transaction waits no more where the group is not locked
+abbrev pub waits_in : Lock → ℕ → ℕ
+waits_in Free waits = 0
+waits_in _ waits = waits
+
+-- a replica that is made of the state after a slot, with the members of the open slots: it is as at birth, but it does not run, and it holds no entry
+abbrev pub installed_replica : ℕ → ℕ → Base → List (List ℕ) → ReplicaState
+installed_replica me slot base sets = forgotten slot (record {
+  me = me;
+  group = group_of base;
+  log = installed slot;
+  acceptor = born (first_ballot base.core);
+  hint = Some base.core.first;
+  top = first_ballot base.core;
+  running = false;
+  leader = first_leader (first_ballot base.core);
+  ready = [];
+  sets = sets;
+  acts = [];
+  calls = [];
+  waits = 0;
+})
 
 abbrev pub name_of : ReplicaState → Draw
 name_of r = r.group.core.id

@@ -1,25 +1,33 @@
--- The rows of Request, Learn, Ask and Tick, and a replica's table.
-use Rattle.std.specs.Prelude.{ℕ, zero, suc, ◌+◌, ◌-◌, ◌==◌, ◌&&◌, ◌||◌, not, nat_lt, nat_le, false, List, [], ◌∷◌, ◌++◌, filter, if◌then◌else◌, Option, Some, None, is_some}
+-- The rows of Request, Learn, Ask, Install, Told order and Tick, and a replica's table.
+use Rattle.std.specs.Prelude.{ℕ, zero, suc, ◌+◌, ◌-◌, ◌==◌, ◌&&◌, ◌||◌, not, nat_lt, nat_le, false, List, [], ◌∷◌, ◌++◌, length, filter, if◌then◌else◌, Option, Some, None, is_some}
 use Rattle.sc_base.specs.declared.ops.Op.{Op}
 use Rattle.sc_ideal.specs.IdealStore.{key_of, holds_key}
 use Rattle.sc_cmd.specs.declared.links.Route.{Route}
 use Rattle.sc_cmd.specs.declared.commands.Command.{Command}
-use Rattle.sc_cmd.specs.declared.commands.Command.TheVariants.{Call}
+use Rattle.sc_cmd.specs.declared.commands.Command.TheVariants.{Call, Join, Leave}
+use Rattle.sc_cmd.specs.declared.cores.Base.{Base}
+use Rattle.sc_cmd.specs.declared.orders.Order.TheVariants as An
+use Rattle.sc_cmd.specs.declared.orders.OrderLine.{OrderLine}
+use Rattle.sc_cmd.specs.declared.orders.OrderRefusal.{OrderRefusal}
+use Rattle.sc_cmd.specs.declared.orders.OrderRefusal.TheVariants.{NotLeader}
+use Rattle.sc_cmd.specs.declared.orders.ToldResult.TheVariants.{Refused}
 use Rattle.sc_mail.specs.declared.bodies.AnswerBody.{AnswerBody}
 use Rattle.sc_mail.specs.declared.bodies.AnswerBody.TheVariants as Says
 use Rattle.sc_mail.specs.declared.bodies.MailBody.{MailBody}
-use Rattle.sc_mail.specs.declared.bodies.MailBody.TheVariants.{Request, Prepare, Promise, Accept, Accepted, Nack, Learn, Ask}
+use Rattle.sc_mail.specs.declared.bodies.MailBody.TheVariants.{Request, Prepare, Promise, Accept, Accepted, Nack, Learn, Ask, Install}
 use Rattle.sc_mail.specs.declared.bodies.Mail.{Mail}
 use Rattle.sc_member.specs.Roster.{is_member}
 use Rattle.sc_paxos_words.specs.Logs.{entry_at}
+use Rattle.sc_machine_table.specs.Orders.{refusal_of}
 use Rattle.sc_paxos_words.specs.Votes.{has_voted}
 use Rattle.sc_node_table.specs.declared.ReplicaInput.{ReplicaInput}
 use Rattle.sc_node_table.specs.declared.ReplicaInput.TheVariants as Given
-use Rattle.sc_node_table.specs.Replica.{ReplicaState, Place, name_of, next, members, settled, flying, is_idle, last_slot}
-use Rattle.sc_node_table.specs.Mails.{sent, sent_all, sent_others, answer_to}
+use Rattle.sc_node_table.specs.Replica.{ReplicaState, Place, name_of, next, members, settled, flying, is_idle, last_slot, installed_replica}
+use Rattle.sc_node_table.specs.Mails.{sent, sent_all, sent_others, answer_to, told_desk}
 use Rattle.sc_node_table.specs.Queues.{call_of, without_call}
-use Rattle.sc_node_table.specs.Election.{elected}
-use Rattle.sc_node_table.specs.Execute.{executed}
+use Rattle.sc_node_table.specs.Election.{elected, stopped}
+use Rattle.sc_node_table.specs.Execute.{executed, looked}
+use Rattle.sc_node_table.specs.Install.{install_to, jumped}
 use Rattle.sc_node_table.specs.Pump.{pumped, serves_calls}
 use Rattle.sc_node_table.specs.Voting.{prepare_row, promise_row, accept_row, accepted_row, nack_row}
 
@@ -60,9 +68,57 @@ taught zero r from slot mails = mails
 taught (suc count) r from slot mails =
     elim (entry_at slot r.log) [ None ↦ mails | Some command ↦ taught count r from (slot + 1) (sent r.me from (Learn (name_of r) slot command) mails) ]
 
--- Ask: at most 32 entries that are held
+-- an entry that is held is followed by others; where it is not held the executed state is sent
+abbrev pub asked_from : Option Command → ℕ → ℕ → Place → Place
+asked_from None from slot place = install_to from place
+asked_from (Some command) from slot (r, mails) = (r, taught 32 r from slot mails)
+
+-- Ask: of an executed slot, and from 0. At most 32 entries that are held, or the executed state
 unfoldable pub ask_row : ℕ → ℕ → Place → Place
-ask_row from slot (r, mails) = (r, taught 32 r from slot mails)
+ask_row from slot (r, mails) = if nat_lt slot (next r) then asked_from (entry_at slot r.log) from slot (r, mails) else (r, mails)
+
+-- the sender of the state is taken for the leader if it is a member, and else one is looked for
+unfoldable pub looked_up : ℕ → Place → Place
+looked_up from (r, mails) = if is_member (members r) from then (record r { hint = Some from }, mails) else looked (r, mails)
+
+-- one that runs stops, with the sender as its hint, and then takes the state over
+unfoldable pub took_over : ℕ → ℕ → Base → List (List ℕ) → Place → Place
+took_over from slot base sets (r, mails) =
+    let place1 : Place = if r.running then stopped (Some from) (r, mails) else (r, mails) in
+    looked_up from (jumped slot base sets place1.0, place1.1)
+
+-- Install: of a later slot than those that are executed, with the members of as many slots as are open
+unfoldable pub install_row : ℕ → ℕ → Base → List (List ℕ) → Place → Place
+install_row from slot base sets (r, mails) =
+    if not (length sets == length r.sets) || (nat_lt last_slot slot || nat_lt slot (next r)) then (r, mails)
+    else took_over from slot base sets (r, mails)
+
+-- a replica that is made by an Install
+unfoldable pub made_by : ℕ → ℕ → ℕ → Base → List (List ℕ) → Place
+made_by me from slot base sets = looked_up from (installed_replica me slot base sets, [])
+
+-- the command of an order; those of splits and transactions are not built yet
+abbrev pub command_of : OrderLine → Option Command
+command_of line = elim (line.order) [
+  | An.Join node group ↦ Some (Join node line.number)
+  | An.Leave node group ↦ Some (Leave node line.number)
+  | _ ↦ None
+]
+
+-- an order that is not refused waits last
+abbrev pub order_queued : Option OrderRefusal → ℕ → Command → Place → Place
+order_queued (Some why) number command (r, mails) = (r, told_desk r.me number (Refused why) mails)
+order_queued None number command (r, mails) = pumped (record r { calls = r.calls ++ command ∷ [] }, mails)
+
+abbrev pub order_taken : Option Command → ℕ → Place → Place
+order_taken None number place = place
+order_taken (Some command) number (r, mails) =
+    if is_some r.group.core.gone || not (settled r) then (r, told_desk r.me number (Refused (NotLeader r.hint)) mails)
+    else order_queued (refusal_of r.group.core command) number command (r, mails)
+
+-- Told order: one that is settled takes what it does not refuse
+unfoldable pub order_row : OrderLine → Place → Place
+order_row line place = order_taken (command_of line) line.number place
 
 -- the members of a slot whose vote was not counted
 abbrev pub uncounted : ReplicaState → ℕ → List ℕ → List ℕ
@@ -100,9 +156,11 @@ mailed from (Accepted group ballot slot) place = accepted_row from ballot slot p
 mailed from (Nack group promised) place = nack_row promised place
 mailed from (Learn group slot command) place = learn_row from slot command place
 mailed from (Ask group from_slot) place = ask_row from from_slot place
+mailed from (Install group slot base sets) place = install_row from slot base sets place
 mailed from _ place = place
 
 -- a replica's table
 unfoldable pub stepped : ReplicaInput → Place → Place
 stepped (Given.Got mail) place = mailed mail.from mail.body place
 stepped Given.Tick place = tick_row place
+stepped (Given.Told line) place = order_row line place

@@ -1,5 +1,9 @@
--- Values by their slots, ascending; and the first of a list.
+-- Slots, and values by their slots, ascending; and the first of a list.
 use Rattle.std.specs.Prelude.{ℕ, zero, suc, ◌+◌, ◌==◌, nat_lt, List, [], ◌∷◌, if◌then◌else◌, Option, Some, None}
+
+-- how many slots of a log are open at a time: each is decided by the members of the state so many entries before it (Paxos Made Simple, section 3)
+abbrev pub slots_ahead : ℕ
+slots_ahead = 4
 
 -- what is behind the first of a list
 abbrev pub rest_of : {X : Type 0} → List X → List X

@@ -22,6 +22,7 @@ use Rattle.sc_node_table.specs.Mails.{sent}
 use Rattle.sc_node_table.specs.Election.{saw}
 use Rattle.sc_node_table.specs.Execute.{executed, has_room}
 use Rattle.sc_node_table.specs.Pump.{pumped}
+use Rattle.sc_node_table.specs.Install.{install_to}
 
 -- one that does not run takes the ballot's node for the leader
 abbrev pub hinted : Ballot → ReplicaState → ReplicaState
@@ -34,10 +35,10 @@ promise_to from ballot (Prepared.Promise reports, acceptor) (r, mails) =
 promise_to from ballot (Prepared.Ignored promised, acceptor) (r, mails) =
     (record r { acceptor = acceptor }, sent r.me from (Nack (name_of r) promised) mails)
 
--- a prepare from a slot whose reports are kept; one from a slot that is forgotten is not answered
+-- a prepare from a slot whose reports are kept; to one from a slot that is forgotten the executed state is sent
 unfoldable pub promised : ℕ → Ballot → ℕ → Place → Place
 promised from ballot from_slot (r, mails) =
-    if nat_le from_slot r.acceptor.floor then (r, mails)
+    if nat_le from_slot r.acceptor.floor then install_to from (r, mails)
     else promise_to from ballot (prepared ballot from_slot r.acceptor) (r, mails)
 
 -- Prepare
@@ -51,10 +52,10 @@ accepted_to from ballot slot (Asked.Accepted, acceptor) (r, mails) =
 accepted_to from ballot slot (Asked.Ignored promised, acceptor) (r, mails) =
     (record r { acceptor = acceptor }, sent r.me from (Nack (name_of r) promised) mails)
 
--- an accept at a slot that is kept; one at a slot that is forgotten is not answered
+-- an accept at a slot that is kept; to one at a slot that is forgotten the executed state is sent
 unfoldable pub took : ℕ → Report Command → Place → Place
 took from report (r, mails) =
-    if nat_le report.slot r.acceptor.floor then (r, mails)
+    if nat_le report.slot r.acceptor.floor then install_to from (r, mails)
     else accepted_to from report.ballot report.slot (accepted_by report r.acceptor) (r, mails)
 
 -- Accept

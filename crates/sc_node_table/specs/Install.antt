@@ -1,0 +1,28 @@
+-- Install: the executed state is sent, and is taken over by one that has executed less.
+use Rattle.std.specs.Prelude.{ℕ, ◌-◌, ◌==◌, ◌||◌, not, nat_lt, Bool, List, [], ◌∷◌, length, if◌then◌else◌, Some}
+use Rattle.sc_cmd.specs.declared.cores.Base.{Base}
+use Rattle.sc_mail.specs.declared.bodies.Mail.{Mail}
+use Rattle.sc_mail.specs.declared.bodies.MailBody.TheVariants.{Prepare, Install}
+use Rattle.sc_paxos_words.specs.Logs.{installed}
+use Rattle.sc_machine_table.specs.Group.{group_of, base_of}
+use Rattle.sc_node_table.specs.Replica.{ReplicaState, Place, name_of, next, forgotten, waits_in}
+use Rattle.sc_node_table.specs.Mails.{sent}
+
+-- the executed state, its last slot and the members of the open slots, to a node
+unfoldable pub install_to : ℕ → Place → Place
+install_to node (r, mails) = (r, sent r.me node (Install (name_of r) (next r - 1) (base_of r.group) r.sets) mails)
+
+-- a member that was added is asked to promise a ballot that is not the group's first, from the next slot on
+abbrev pub asked_to_promise : ℕ → Place → Place
+asked_to_promise node (r, mails) =
+    if r.leader.is_first then (r, mails) else (r, sent r.me node (Prepare (name_of r) r.leader.ballot (next r)) mails)
+
+-- each member that was added is sent the state, and then asked to promise
+unfoldable pub welcomed_all : List ℕ → Place → Place
+welcomed_all [] place = place
+welcomed_all (node ∷ nodes) place = welcomed_all nodes (asked_to_promise node (install_to node place))
+
+-- state and log jump to those after a slot, and the open slots with them
+unfoldable pub jumped : ℕ → Base → List (List ℕ) → ReplicaState → ReplicaState
+jumped slot base sets r =
+    forgotten slot (record r { group = group_of base; log = installed slot; sets = sets; waits = waits_in base.core.lock r.waits })
