@@ -1,5 +1,5 @@
 -- What a text of the early form gives.
-use Rattle.std.proofs.Common.{◌≡◌, ◌<◌, ◌+◌, ◌&&◌, ◌^◌, eqb, not, ℕ, List, [], ◌∷◌, drop, length, Some, None, Option, Bool, true, false, if◌then◌else◌, nat_le, nat_lt, refl, sym, ap, subst, inl, inr, arith, rules, codes, is_none}
+use Rattle.std.proofs.Common.{◌≡◌, ◌<◌, ◌≤◌, ◌+◌, ◌&&◌, ◌^◌, eqb, not, ℕ, List, [], ◌∷◌, drop, length, Some, None, Option, Bool, true, false, if◌then◌else◌, nat_le, nat_lt, refl, sym, ap, subst, inl, inr, arith, rules, codes, is_none}
 use Rattle.std.specs.Option.{option_map, option_and_then}
 use Rattle.std.specs.List.{All, AllPairs}
 use Rattle.std.proofs.lemmas.Bool.{and_parts, eqb-true, ltb-true, not-true}
@@ -8,22 +8,26 @@ use Rattle.std.proofs.lemmas.Option.{none-some}
 use Rattle.std.proofs.lemmas.List.Elements.{All-nil, All-cons, All-push}
 use Rattle.sc_base.specs.Number.{number_of}
 use Rattle.sc_base.specs.declared.ops.Op.{Op}
+use Rattle.sc_base.specs.declared.names.Draw.{Draw}
 use Rattle.sc_cmd.specs.declared.cores.Base.{Base}
+use Rattle.sc_cmd.specs.declared.orders.Order.{Order}
+use Rattle.sc_cmd.specs.declared.orders.Order.TheVariants.{Join, Leave}
 use Rattle.sc_member.specs.Roster.{IsRoster, with_member}
 use Rattle.sc_member.specs.Faults.{add_fault}
 use Rattle.sc_scenario.specs.Words.{nth, is_line, same, words_of, count_in}
 use Rattle.sc_scenario.specs.Requests.{request_in}
 use Rattle.sc_scenario.specs.Groups.{last_position, with_word, with_words, members_in, lone_group, group_in}
 use Rattle.sc_scenario.specs.Schedules.{most_clients, most_mails, most_deliveries, is_client, client_in, actor_in, place_in, go_in, deliver_in, drop_in, again_in, tick_in, crash_in, settle_in, schedule_in}
-use Rattle.sc_scenario.specs.Early.{scenario_in, rest_in, finished, begun, nodes_in, read_lines, read_line, within, outside, opened, with_client, with_request, with_line, place_of, lines_of, is_ended, most_bytes, most_lines, most_nodes, most_requests}
-use Rattle.sc_scenario.specs.Valid.{IsEarly, IsEarlyClient, IsEarlyLine, IsActor, IsUpTo, TextsAreEarly}
+use Rattle.sc_scenario.specs.Orders.{name_in, node_and_group, order_in, told_in}
+use Rattle.sc_scenario.specs.Early.{scenario_in, rest_in, finished, begun, nodes_in, read_lines, read_line, within, outside, opened, with_client, with_request, with_line, with_order, place_of, lines_of, is_ended, most_bytes, most_lines, most_nodes, most_requests}
+use Rattle.sc_scenario.specs.Valid.{IsEarly, IsEarlyClient, IsEarlyLine, IsEarlyOrder, IsActor, IsUpTo, TextsAreEarly}
 use Rattle.sc_scenario.specs.declared.drafts.Draft.{Draft}
 use Rattle.sc_scenario.specs.declared.drafts.Reading.{Reading}
 use Rattle.sc_scenario.specs.declared.drafts.Reading.TheVariants.{Outside, Within}
 use Rattle.sc_scenario.specs.declared.scenarios.Asks.{Asks}
 use Rattle.sc_scenario.specs.declared.scenarios.Scenario.{Scenario}
 use Rattle.sc_scenario.specs.declared.scenarios.SchedLine.{SchedLine}
-use Rattle.sc_scenario.specs.declared.scenarios.SchedLine.TheVariants.{Go, Deliver, Drop, Again, Tick, Crash, Settle}
+use Rattle.sc_scenario.specs.declared.scenarios.SchedLine.TheVariants.{Go, Deliver, Drop, Again, Tick, Crash, Told, Settle}
 use Rattle.sc_scenario.proofs.Choices.{mapped, bound, chosen, some_is, is_up_to, counted}
 use Rattle.sc_scenario.proofs.Rosters.{roster_one, roster_with, all_with}
 use Rattle.sc_scenario.proofs.Clients.{Below, all_inserted, rising_with}
@@ -109,6 +113,28 @@ either P false o p x f g e = g x e
 nothing : {X : Type 0} (P : X → Type 0) (x : X) → None ≡ Some x → P x
 nothing P x e = absurd (none-some x e)
 
+named_is : (nodes : ℕ) (make : ℕ → Draw → Order) (words : List (List ℕ)) (order : Order) → ((node : ℕ) (group : Draw) → IsUpTo nodes node → IsEarlyOrder nodes (make node group))
+    → option_map (λ named. make named.0 named.1) (node_and_group nodes words) ≡ Some order → IsEarlyOrder nodes order
+named_is nodes make words order good e =
+    let m = mapped (λ named. make named.0 named.1) (node_and_group nodes words) order e in
+    let b = bound (λ node. option_map (λ group. (node, group)) (name_in (nth words 4))) (count_in nodes (nth words 3)) m.0 m.1 in
+    let n = mapped (λ group. (b.0, group)) (name_in (nth words 4)) m.0 b.2 in
+    let up : IsUpTo nodes m.0.0 = subst (λ (p : ℕ × Draw). IsUpTo nodes p.0) (sym n.2) (counted nodes (nth words 3) b.0 b.1) in
+    subst (IsEarlyOrder nodes) (sym m.2) (good m.0.0 m.0.1 up)
+
+order_is : (nodes : ℕ) (words : List (List ℕ)) (order : Order) → order_in nodes words ≡ Some order → IsEarlyOrder nodes order
+order_is nodes words order e =
+    let P = IsEarlyOrder nodes in
+    either P (same (nth words 2) (codes "join")) (option_map (λ named. Join named.0 named.1) (node_and_group nodes words)) _ order (λ o. named_is nodes Join words o (λ n g u. u)) (λ o.
+    either P (same (nth words 2) (codes "leave")) (option_map (λ named. Leave named.0 named.1) (node_and_group nodes words)) _ o (λ o. named_is nodes Leave words o (λ n g u. u)) (λ o. nothing P o)) e
+
+told_is : (nodes number : ℕ) (clients : List Asks) (words : List (List ℕ)) (line : SchedLine) → 1 ≤ number → told_in nodes number words ≡ Some line → IsEarlyLine nodes clients line
+told_is nodes number clients words line from e =
+    let make : ℕ → Order → SchedLine = λ node order. Told node (record { number = number; order = order }) in
+    let b = bound (λ node. option_map (make node) (order_in nodes words)) (count_in nodes (nth words 1)) line e in
+    let m = mapped (make b.0) (order_in nodes words) line b.2 in
+    subst (IsEarlyLine nodes clients) (sym m.2) (counted nodes (nth words 1) b.0 b.1, order_is nodes words m.0 m.1, from)
+
 line_is : (nodes : ℕ) (clients : List Asks) (words : List (List ℕ)) (line : SchedLine) → schedule_in nodes clients words ≡ Some line → IsEarlyLine nodes clients line
 line_is nodes clients words line e =
     let P = IsEarlyLine nodes clients in
@@ -173,14 +199,27 @@ lined nodes draft line good is = record {
   lines = All-push (IsEarlyLine nodes draft.clients) draft.lines line is.lines good;
 }
 
+ordered : (nodes : ℕ) (draft : Draft) (line : SchedLine) → IsEarlyLine nodes draft.clients line → IsDraft nodes draft → IsDraft nodes (with_order draft line)
+ordered nodes draft line good is = record {
+  nodes_are = is.nodes_are;
+  clients = is.clients;
+  rising = is.rising;
+  lines = All-push (IsEarlyLine nodes draft.clients) draft.lines line is.lines good;
+}
+
 outside_is : (nodes : ℕ) (draft : Draft) (words : List (List ℕ)) (more : Reading) → IsDraft nodes draft → outside draft words ≡ Some more → IsReading nodes more
 outside_is nodes draft words more is e =
     either (IsReading nodes) (is_line words (codes "client") 2) (option_and_then (opened draft) (count_in most_clients (nth words 1))) _ more
     (λ r h. (let b = bound (opened draft) (count_in most_clients (nth words 1)) r h in opened_is nodes draft b.0 r (counted most_clients (nth words 1) b.0 b.1) is b.2))
+    (λ r h. either (IsReading nodes) (is_line words (codes "order") 5) (option_map (λ line. Outside (with_order draft line)) (told_in draft.nodes (draft.orders + 1) words)) _ r
+    (λ r h. (
+    let m = mapped (λ line. Outside (with_order draft line)) (told_in draft.nodes (draft.orders + 1) words) r h in
+    let good = told_is draft.nodes (draft.orders + 1) draft.clients words m.0 (omega arith) m.1 in
+    subst (IsReading nodes) (sym m.2) (ordered nodes draft m.0 (subst (λ n. IsEarlyLine n draft.clients m.0) is.nodes_are good) is)))
     (λ r h. (
     let m = mapped (λ line. Outside (with_line draft line)) (schedule_in draft.nodes draft.clients words) r h in
     let good = line_is draft.nodes draft.clients words m.0 m.1 in
-    subst (IsReading nodes) (sym m.2) (lined nodes draft m.0 (subst (λ n. IsEarlyLine n draft.clients m.0) is.nodes_are good) is))) e
+    subst (IsReading nodes) (sym m.2) (lined nodes draft m.0 (subst (λ n. IsEarlyLine n draft.clients m.0) is.nodes_are good) is))) h) e
 
 line_read : (nodes : ℕ) (reading : Reading) (words : List (List ℕ)) (more : Reading) → IsReading nodes reading → read_line reading words ≡ Some more → IsReading nodes more
 line_read nodes (Outside draft) words more is e = outside_is nodes draft words more is e

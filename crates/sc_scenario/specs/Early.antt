@@ -7,6 +7,7 @@ use Rattle.sc_cmd.specs.declared.cores.Base.{Base}
 use Rattle.sc_scenario.specs.Words.{same, pieces, words_of, nth, is_line, count_in}
 use Rattle.sc_scenario.specs.Requests.{request_in}
 use Rattle.sc_scenario.specs.Groups.{group_in}
+use Rattle.sc_scenario.specs.Orders.{told_in}
 use Rattle.sc_scenario.specs.Schedules.{most_clients, is_client, schedule_in}
 use Rattle.sc_scenario.specs.declared.drafts.Draft.{Draft}
 use Rattle.sc_scenario.specs.declared.drafts.Reading.{Reading}
@@ -59,10 +60,15 @@ opened draft client =
 abbrev pub with_line : Draft → SchedLine → Draft
 with_line draft line = record draft { lines = draft.lines ++ line ∷ [] }
 
--- `client C`, or a line of the schedule
+-- orders are numbered from 1 in the order of their lines
+abbrev pub with_order : Draft → SchedLine → Draft
+with_order draft line = record draft { lines = draft.lines ++ line ∷ []; orders = draft.orders + 1 }
+
+-- `client C`, an order, or another line of the schedule
 abbrev pub outside : Draft → List (List ℕ) → Option Reading
 outside draft words =
     if is_line words (codes "client") 2 then option_and_then (opened draft) (count_in most_clients (nth words 1))
+    else if is_line words (codes "order") 5 then option_map (λ line. Outside (with_order draft line)) (told_in draft.nodes (draft.orders + 1) words)
     else option_map (λ line. Outside (with_line draft line)) (schedule_in draft.nodes draft.clients words)
 
 -- ---- all lines
@@ -82,7 +88,7 @@ nodes_in words = if is_line words (codes "nodes") 2 then count_in most_nodes (nt
 
 -- nothing is read yet but the number of nodes
 abbrev pub begun : ℕ → Reading
-begun nodes = Outside (record { nodes = nodes; clients = []; lines = [] })
+begun nodes = Outside (record { nodes = nodes; clients = []; lines = []; orders = 0 })
 
 -- the scenario of a group and of what was read, where no section is open
 abbrev pub finished : Base → Reading → Option Scenario

@@ -1,4 +1,5 @@
 pub mod Words
+pub mod Orders
 pub mod Requests
 pub mod Groups
 pub mod Schedules

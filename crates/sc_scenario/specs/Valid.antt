@@ -2,6 +2,8 @@
 use Rattle.std.specs.Prelude.{◌≡◌, ◌<◌, ◌≤◌, ℕ, ◌^◌, ◌+◌, false, true, List, [], ◌∷◌, Some, length, All, ◌⊎◌}
 use Rattle.std.specs.List.{AllPairs}
 use Rattle.sc_member.specs.Roster.{IsRoster}
+use Rattle.sc_cmd.specs.declared.orders.Order.{Order}
+use Rattle.sc_cmd.specs.declared.orders.Order.TheVariants.{Join, Leave}
 use Rattle.sc_scenario.specs.Groups.{lone_group}
 use Rattle.sc_scenario.specs.Schedules.{is_client, most_clients, most_mails, most_deliveries}
 use Rattle.sc_scenario.specs.Early.{scenario_of, most_nodes, most_requests}
@@ -23,7 +25,13 @@ IsUpTo most n = (1 ≤ n) × (n ≤ most)
 abbrev pub IsActor : ℕ → List Asks → ℕ → Type 0
 IsActor nodes clients who = IsUpTo nodes who ⊎ ((client : ℕ) × (who ≡ 32 + client) × (is_client clients client ≡ true))
 
--- a line of the schedule names actors that there are
+-- an order names a node that there is
+abbrev pub IsEarlyOrder : ℕ → Order → Type 0
+IsEarlyOrder nodes (Join node group) = IsUpTo nodes node
+IsEarlyOrder nodes (Leave node group) = IsUpTo nodes node
+IsEarlyOrder nodes _ = ⊥
+
+-- a line of the schedule names actors that there are, and orders have numbers from 1 on
 abbrev pub IsEarlyLine : ℕ → List Asks → SchedLine → Type 0
 IsEarlyLine nodes clients (Go client) = is_client clients client ≡ true
 IsEarlyLine nodes clients (Deliver who k) = IsActor nodes clients who × IsUpTo most_mails k
@@ -31,7 +39,7 @@ IsEarlyLine nodes clients (Drop who k) = IsActor nodes clients who × IsUpTo mos
 IsEarlyLine nodes clients (Again mail) = IsUpTo most_mails mail
 IsEarlyLine nodes clients (Tick who) = IsActor nodes clients who
 IsEarlyLine nodes clients (Crash node) = IsUpTo nodes node
-IsEarlyLine nodes clients (Told node line) = ⊥
+IsEarlyLine nodes clients (Told node line) = IsUpTo nodes node × IsEarlyOrder nodes line.order × (1 ≤ line.number)
 IsEarlyLine nodes clients (Settle most) = IsUpTo most_deliveries most
 IsEarlyLine nodes clients (Free most workers) = ⊥
 IsEarlyLine nodes clients (Storm number most) = ⊥

@@ -5,6 +5,7 @@ mod drafts;
 mod early;
 mod groups;
 mod pieces;
+mod orders;
 mod reading;
 mod requests;
 mod scenarios;

@@ -1,8 +1,11 @@
 //! Line by line.
-ghost use Rattle.std.specs.Prelude.{◌≡◌, ◌≤◌, map, length, IfOk};
-ghost use Rattle.sc_scenario.specs.Early.{place_of, with_client, with_request, within, opened, with_line, outside, read_line, read_lines, begun};
+ghost use Rattle.std.specs.Prelude.{◌≡◌, ◌≤◌, ◌+◌, map, length, IfOk};
+ghost use Rattle.std.specs.Option.{option_map};
+ghost use Rattle.sc_scenario.specs.Orders.{told_in};
+ghost use Rattle.sc_scenario.specs.Early.{place_of, with_client, with_request, within, opened, with_line, with_order, outside, read_line, read_lines, begun};
 
 use crate::drafts::{Draft, Reading};
+use crate::orders::told_in;
 use crate::pieces::words_of;
 use crate::requests::request_in;
 use crate::scenarios::{Asks, SchedLine};
@@ -32,6 +35,7 @@ fn with_client(draft: Draft, asks: Asks) -> Result<Draft, OutOfMemory>
         nodes,
         clients,
         lines,
+        orders,
     } = draft;
     let mut all = clients.into_vec();
     let place = place_of(&all, asks.client);
@@ -40,6 +44,7 @@ fn with_client(draft: Draft, asks: Asks) -> Result<Draft, OutOfMemory>
         nodes,
         clients: Sequence::from_vec(all),
         lines,
+        orders,
     })
 }
 
@@ -88,13 +93,52 @@ fn with_line(draft: Draft, line: SchedLine) -> Result<Draft, OutOfMemory>
         nodes,
         clients,
         mut lines,
+        orders,
     } = draft;
     lines.push(line)?;
     Ok(Draft {
         nodes,
         clients,
         lines,
+        orders,
     })
+}
+
+// An order, with the number after so many.
+fn with_order(draft: Draft, line: SchedLine, number: u32) -> Result<Draft, OutOfMemory>
+    requires { number ≡ draft.orders + 1 }
+    ensures { IfOk result (λ more. more ≡ with_order draft line) }
+{
+    let Draft {
+        nodes,
+        clients,
+        mut lines,
+        orders: _,
+    } = draft;
+    lines.push(line)?;
+    Ok(Draft {
+        nodes,
+        clients,
+        lines,
+        orders: number,
+    })
+}
+
+// An order. More orders than there are numbers have no room in memory.
+fn ordered(
+    alloc: Global,
+    draft: Draft,
+    words: &[&[u8]],
+) -> Result<Option<Reading>, OutOfMemory>
+    ensures { IfOk result (λ more. more ≡ option_map (λ line. Reading.Outside (with_order draft line)) (told_in draft.nodes (draft.orders + 1) (map (λ word. word.now) words.now))) }
+{
+    let Some(number) = draft.orders.checked_add(1) else {
+        return Err(OutOfMemory);
+    };
+    match told_in(alloc, draft.nodes, number, words)? {
+        Some(line) => Ok(Some(Reading::Outside(with_order(draft, line, number)?))),
+        None => Ok(None),
+    }
 }
 
 // A line outside the sections.
@@ -106,6 +150,9 @@ fn outside(alloc: Global, draft: Draft, words: &[&[u8]]) -> Result<Option<Readin
             Some(client) => Ok(opened(alloc, draft, client as u16)),
             None => Ok(None),
         };
+    }
+    if is_line(words, b"order", 5) {
+        return ordered(alloc, draft, words);
     }
     match schedule_in(draft.nodes, draft.clients.as_slice(), words) {
         Some(line) => Ok(Some(Reading::Outside(with_line(draft, line)?))),
@@ -153,5 +200,6 @@ pub fn begun(alloc: Global, nodes: u16) -> Reading
         nodes,
         clients: Sequence::new(alloc),
         lines: Sequence::new(alloc),
+        orders: 0,
     })
 }

@@ -1,10 +1,11 @@
 use super::*;
+use sc_cmd::Order;
 use std::alloc::Global;
 use std::process::Abort;
 use std::test::Fail;
 
 const ALL_LINES: &[u8] =
-    b"scatter 1\nnodes 3\ngroup 7 3 1\nclient 5\nput a x\nget a\ndel a\nend\nclient 2\nend\ngo 5\ndeliver n3 1\ndrop c5 4294967295\nagain 9\ntick c2\ncrash 3\nsettle 1000000\n";
+    b"scatter 1\nnodes 3\ngroup 7 3 1\nclient 5\nput a x\nget a\ndel a\nend\nclient 2\nend\ngo 5\ndeliver n3 1\ndrop c5 4294967295\nagain 9\ntick c2\ncrash 3\norder 3 join 2 0.1\norder 1 leave 3 32.4294967295\nsettle 1000000\n";
 
 fn expect_clients(rt: &impl Abort, clients: &ClientList) {
     assert_eq!(rt; clients.len(), 2);
@@ -21,11 +22,49 @@ fn expect_group(rt: &impl Abort, groups: &GroupList) {
     assert_eq!(rt; core.members.len(), 2);
 }
 
+fn expect_orders(rt: &impl Abort, lines: &[SchedLine]) {
+    match lines {
+        [
+            _,
+            _,
+            _,
+            _,
+            _,
+            _,
+            SchedLine::Told {
+                node: told,
+                line: first,
+            },
+            SchedLine::Told { line: second, .. },
+            _,
+        ] => {
+            assert_eq!(rt; *told, 3);
+            assert_eq!(rt; first.number, 1);
+            assert_eq!(rt; second.number, 2);
+            expect_order(rt, &first.order, &second.order);
+        }
+        _ => assert!(rt; false),
+    }
+}
+
+fn expect_order(rt: &impl Abort, first: &Order, second: &Order) {
+    match (first, second) {
+        (Order::Join { node, group }, Order::Leave { node: gone, group: other }) => {
+            assert_eq!(rt; *node, 2);
+            assert!(rt; group.node == 0 && group.count == 1);
+            assert_eq!(rt; *gone, 3);
+            assert!(rt; other.node == 32 && other.count == 4_294_967_295);
+        }
+        _ => assert!(rt; false),
+    }
+}
+
 #[test]
 fn the_early_form_is_read(rt: HostRuntime) -> Result<(), Fail> {
     let scenario = read_scenario(rt.alloc(), ALL_LINES)?;
     assert_eq!(rt; scenario.nodes, 3);
-    assert_eq!(rt; scenario.lines.len(), 7);
+    assert_eq!(rt; scenario.lines.len(), 9);
+    expect_orders(&rt, scenario.lines.as_slice());
     expect_clients(&rt, &scenario.clients);
     expect_group(&rt, &scenario.groups);
     Ok(())
@@ -40,7 +79,7 @@ fn is_refused(alloc: Global, text: &[u8]) -> bool {
 
 #[test]
 fn other_texts_are_refused(rt: HostRuntime) -> Result<(), Fail> {
-    let texts: [&[u8]; 16] = [
+    let texts: [&[u8]; 22] = [
         b"",
         b"\n",
         b"scatter 2\nnodes 1\ngroup 0 1\n",
@@ -57,6 +96,12 @@ fn other_texts_are_refused(rt: HostRuntime) -> Result<(), Fail> {
         b"scatter 1\nnodes 1\ngroup 0 1\nsettle 1\nclient 1\nend\n",
         b"scatter 1\nnodes 1\ngroup 0 1\ntick n2\n",
         b"scatter 1\nnodes 1\ngroup 0 1\ngo 1\n",
+        b"scatter 1\nnodes 1\ngroup 0 1\norder 2 join 1 0.1\n",
+        b"scatter 1\nnodes 1\ngroup 0 1\norder 1 join 2 0.1\n",
+        b"scatter 1\nnodes 1\ngroup 0 1\norder 1 join 1 33.1\n",
+        b"scatter 1\nnodes 1\ngroup 0 1\norder 1 join 1 0.0\n",
+        b"scatter 1\nnodes 1\ngroup 0 1\norder 1 join 1 0.1.1\n",
+        b"scatter 1\nnodes 1\ngroup 0 1\norder 1 merge 1 0.1\n",
     ];
     for text in texts {
         assert!(rt; is_refused(rt.alloc(), text));
