@@ -3,7 +3,7 @@ ghost use Rattle.std.specs.Prelude.{◌≡◌, IfOk, true};
 ghost use Rattle.std.specs.FinMap.{get};
 ghost use Rattle.sc_ideal.specs.IdealStore.{holds_key, key_of};
 ghost use Rattle.sc_ideal.specs.Clients.{seen_of};
-ghost use Rattle.sc_machine_table.specs.Group.{group_of};
+ghost use Rattle.sc_machine_table.specs.Group.{base_of, group_of};
 ghost use Rattle.sc_machine_table.specs.Machine.{applied, called, served, numbered, done};
 ghost use Rattle.sc_machine.specs.Built.{is_built};
 
@@ -71,6 +71,17 @@ impl Machine {
         ensures { result.now ≡ self.now.core }
     {
         &self.core
+    }
+
+    /// The group's whole record: what a machine is born from to be this one.
+    pub fn base(&self) -> Result<Base, OutOfMemory>
+        ensures { IfOk result (λ base. base ≡ base_of self.now) }
+    {
+        Ok(Base {
+            core: self.core.dup(self.alloc)?,
+            pairs: self.store.list()?,
+            clients: self.clients.list()?,
+        })
     }
 
     /// Applies a command, by the group machine's table. After want of memory the machine may only be dropped.

@@ -97,3 +97,27 @@ fn requests_take_effect_once(rt: HostRuntime) -> Result<(), Fail> {
     assert_eq!(rt; machine.core().begun, 0);
     Ok(())
 }
+
+// Whether the record has one pair and one client.
+fn is_small(record: &Base) -> bool {
+    record.pairs.len() == 1 && record.clients.len() == 1
+}
+
+// A machine that is born from the record of one that carried out a request.
+fn carried_on(alloc: Global) -> Result<Machine, Fail> {
+    let mut machine = Machine::born(alloc, group(alloc)?)?;
+    told(alloc, &mut machine, 1, b"a", b"x")?;
+    let record = machine.base()?;
+    if !is_small(&record) {
+        return Err(Fail::from("a record without its pair or client"));
+    }
+    Ok(Machine::born(alloc, record)?)
+}
+
+#[test]
+fn a_machine_born_from_the_record_goes_on(rt: HostRuntime) -> Result<(), Fail> {
+    let mut machine = carried_on(rt.alloc())?;
+    assert_eq!(rt; told(rt.alloc(), &mut machine, 1, b"a", b"y")?, "again");
+    assert_eq!(rt; told(rt.alloc(), &mut machine, 2, b"a", b"y")?, "done value");
+    Ok(())
+}

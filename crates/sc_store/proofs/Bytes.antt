@@ -9,7 +9,7 @@ use Rattle.std.specs.Map.{lookup}
 use Rattle.std.specs.BTreeMap.{is_at}
 use Rattle.std.specs.FinMap.{get, insert, remove, retain_keys, entries, from_entries}
 use Rattle.std.proofs.lemmas.Map.Lookups.{exact_bytes}
-use Rattle.sc_ideal.proofs.Kept.{get-kept, insert-kept, remove-kept, retain-kept, entries-part, is_sorted_from, part_ends_below}
+use Rattle.sc_ideal.proofs.Kept.{get-kept, insert-kept, remove-kept, retain-kept, entries-kept, entries-part, is_sorted_from, all_end_below, part_ends_below}
 
 abbrev pub Pairs : Type 0
 Pairs = List (List ℕ × List ℕ)
@@ -32,3 +32,9 @@ retain-bytes = retain-kept (slice_cmp nat_cmp) nat_list_cmp_total exact_bytes
 
 pub next_below : (p : List ℕ → Bool) (all xs : Pairs) (e : List ℕ × List ℕ) (ys : Pairs) → all ≡ xs ++ e ∷ ys → IsStrictlySortedBy (slice_cmp nat_cmp) (map (λ f. f.0) all) → EndsBelow (slice_cmp nat_cmp) (filter (λ f. p f.0) xs) e.0
 next_below p all xs e ys is up = part_ends_below (slice_cmp nat_cmp) (λ f. p f.0) xs e ys (subst (λ l. IsStrictlySortedBy (slice_cmp nat_cmp) (map (λ f. f.0) l)) is up)
+
+pub entries-bytes : (es : Pairs) → IsStrictlySortedBy (slice_cmp nat_cmp) (map (λ e. e.0) es) → entries (from_entries {R = slice_cmp nat_cmp} es) ≡ es
+entries-bytes es up = entries-kept (slice_cmp nat_cmp) nat_list_cmp_total exact_bytes es (is_sorted_from (slice_cmp nat_cmp) es up)
+
+pub next_of_all : (all xs : Pairs) (e : List ℕ × List ℕ) (ys : Pairs) → all ≡ xs ++ e ∷ ys → IsStrictlySortedBy (slice_cmp nat_cmp) (map (λ f. f.0) all) → EndsBelow (slice_cmp nat_cmp) xs e.0
+next_of_all all xs e ys is up = all_end_below (slice_cmp nat_cmp) xs e ys (subst (λ l. IsStrictlySortedBy (slice_cmp nat_cmp) (map (λ f. f.0) l)) is up)

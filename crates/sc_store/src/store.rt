@@ -56,6 +56,17 @@ impl Store {
         }
     }
 
+    /// All pairs, in the order of the keys.
+    pub fn list(&self) -> Result<Pairs, OutOfMemory>
+        ensures { IfOk result (λ pairs. pairs ≡ map.entries self.now) }
+    {
+        let mut pairs = Pairs::new(self.alloc);
+        for (key, value) in self.pairs.iter() {
+            pairs.push(key.dup(self.alloc)?, value.dup(self.alloc)?)?;
+        }
+        Ok(pairs)
+    }
+
     /// The pairs whose positions the arc holds, in the order of the keys.
     pub fn part(&self, arc: &RingArc) -> Result<Pairs, OutOfMemory>
         ensures { IfOk result (λ pairs. pairs ≡ map.entries (part_of arc.now self.now)) }

@@ -64,6 +64,9 @@ fn parts_are_taken_kept_and_joined(rt: HostRuntime) -> Result<(), Fail> {
     let mut store = Store::new(rt.alloc());
     store.apply(&put(&rt, b"a", b"1")?)?;
     store.apply(&put(&rt, b"m", b"2")?)?;
+    let all = store.list()?;
+    assert_eq!(rt; all.len(), 2);
+    assert!(rt; all.at(0).0 == key(&rt, b"a")? && all.at(1).1 == value(&rt, b"2")?);
     let from_m = RingArc::try_new(1828716544, 1 << 31)?;
     let moved = store.part(&from_m)?;
     assert_eq!(rt; moved.len(), 1);
