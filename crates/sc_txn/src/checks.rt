@@ -1,0 +1,90 @@
+//! The refusals of orders. Of those that hold of an order the one with the least number counts.
+ghost use Rattle.std.specs.Prelude.{◌≡◌, true, Some, None, MatchResult, nat_eq, length};
+ghost use Rattle.sc_machine_table.specs.Orders.{locked_in, is_alone, refusal_of, refused_free, join_refused, leave_refused, split_refused};
+ghost use Rattle.sc_txn.specs.Checked.{is_checked};
+
+use sc_base::Draw;
+use sc_cmd::{Command, Core, Lock, OrderRefusal, same_draw};
+
+/// How many transactions a group may begin.
+const MOST_BEGUN: u32 = 256;
+
+/// Why the command of an order is refused to a group of that record, if it is: the refusal with the least number of those that hold.
+/// The command is `Join`, `Leave` or `Split`. A group that is gone is not looked at here.
+pub fn check(core: &Core, command: &Command) -> Result<(), OrderRefusal>
+    requires { is_checked command.now ≡ true }
+    ensures { MatchResult result (λ _. refusal_of core.now command.now ≡ None) (λ why. refusal_of core.now command.now ≡ Some why) }
+{
+    if let Some(tx) = locked_in(&core.lock) {
+        return Err(OrderRefusal::InTransaction { tx });
+    }
+    match command {
+        Command::Join { node, .. } => check_join(core, *node),
+        Command::Leave { node, .. } => check_leave(core, *node),
+        Command::Split { at, .. } => check_split(core, *at),
+        _ => unreachable!(),
+    }
+}
+
+fn locked_in(lock: &Lock) -> Option<Draw>
+    ensures { result ≡ locked_in lock.now }
+{
+    match lock {
+        Lock::Free => None,
+        Lock::Coordinating { tx, .. } | Lock::Promised { tx, .. } | Lock::Watching { tx, .. } => {
+            Some(*tx)
+        }
+    }
+}
+
+fn check_join(core: &Core, node: u16) -> Result<(), OrderRefusal>
+    ensures { MatchResult result (λ _. join_refused core.now node ≡ None) (λ why. join_refused core.now node ≡ Some why) }
+{
+    let is_member = core.members.has(node);
+    if core.members.len() == 9 && !is_member {
+        return Err(OrderRefusal::TooManyMembers { n: 10 });
+    }
+    if is_member {
+        return Err(OrderRefusal::IsMember);
+    }
+    Ok(())
+}
+
+fn has_one_member(core: &Core) -> bool
+    ensures { result ≡ nat_eq (length core.now.members) 1 }
+{
+    core.members.len() == 1
+}
+
+fn check_leave(core: &Core, node: u16) -> Result<(), OrderRefusal>
+    ensures { MatchResult result (λ _. leave_refused core.now node ≡ None) (λ why. leave_refused core.now node ≡ Some why) }
+{
+    if !core.members.has(node) {
+        return Err(OrderRefusal::NotMember);
+    }
+    if has_one_member(core) {
+        return Err(OrderRefusal::LastMember);
+    }
+    Ok(())
+}
+
+fn is_alone(core: &Core) -> bool
+    ensures { result ≡ is_alone core.now }
+{
+    same_draw(core.succ.group, core.id)
+}
+
+fn check_split(core: &Core, at: u32) -> Result<(), OrderRefusal>
+    ensures { MatchResult result (λ _. split_refused core.now at ≡ None) (λ why. split_refused core.now at ≡ Some why) }
+{
+    if at == core.arc.lo() || !core.arc.holds(at) {
+        return Err(OrderRefusal::BadBoundary);
+    }
+    if has_one_member(core) {
+        return Err(OrderRefusal::LastMember);
+    }
+    if !is_alone(core) && core.begun >= MOST_BEGUN {
+        return Err(OrderRefusal::TxLimit);
+    }
+    Ok(())
+}
