@@ -8,7 +8,7 @@ use Rattle.sc_base.specs.declared.names.Draw.{Draw}
 use Rattle.sc_base.specs.declared.ops.Op.{Op}
 use Rattle.sc_base.specs.declared.ops.Reply.{Reply}
 use Rattle.sc_cmd.specs.declared.commands.Command.{Command}
-use Rattle.sc_cmd.specs.declared.commands.Command.TheVariants.{Call}
+use Rattle.sc_cmd.specs.declared.commands.Command.TheVariants.{Noop, Call, Join, Leave, Split}
 use Rattle.sc_cmd.specs.declared.cores.Base.{Base}
 use Rattle.sc_cmd.specs.declared.orders.OrderLine.{OrderLine}
 use Rattle.sc_mail.specs.declared.bodies.AnswerBody.TheVariants.{Value}
@@ -29,7 +29,8 @@ use Rattle.sc_sound.specs.Histories.{done_by}
 use Rattle.sc_sound.specs.Requests.{issues, issued_from, issue_row}
 use Rattle.sc_group_law.proofs.Lists.{get_pushed}
 use Rattle.sc_group_law.proofs.Growth.{grown_log}
-use Rattle.sc_group_law.proofs.Invariant.{Steps, rule, birth, IsTrue, IsTrueAnswer}
+use Rattle.sc_hist_law.specs.Laws.{LeavesWhole}
+use Rattle.sc_group_law.proofs.Invariant.{Steps, rule, birth, Grants, IsTrue, IsTrueAnswer}
 use Rattle.sc_group_law.proofs.Places.{Journal, or_now, issue-push}
 
 -- ---- requests
@@ -45,10 +46,13 @@ pub record IsIssued (scenario : Scenario) (rows : Journal) (client seq : ℕ) (o
   pub issued : issue_row client seq rows ≡ Some row
   pub within : row ≤ length rows
 
--- a call is a request that was issued
+-- a call is a request that was issued, and joins and leaves are told by anyone; nothing else is made
 abbrev pub Made : Scenario → Journal → Command → Type 0
 Made scenario rows (Call client seq op) = IsIssued scenario rows client seq op
-Made scenario rows _ = Unit {0}
+Made scenario rows Noop = Unit {0}
+Made scenario rows (Join node order) = Unit {0}
+Made scenario rows (Leave node order) = Unit {0}
+Made scenario rows _ = ⊥
 
 issued_later : (scenario : Scenario) (rows : Journal) (row : Row Mail OrderLine) (client seq : ℕ) (op : Op) → IsIssued scenario rows client seq op → IsIssued scenario (rows ++ row ∷ []) client seq op
 issued_later scenario rows row client seq op i =
@@ -65,9 +69,17 @@ issued_later scenario rows row client seq op i =
       within = omega (arith, le, longer);
     }
 
+-- nothing that is made divides the group
+pub made_whole : (scenario : Scenario) (rows : Journal) (c : Command) → Made scenario rows c → LeavesWhole c
+made_whole scenario rows (Split at child order) m = m
+made_whole scenario rows _ m = tt
+
+pub grants : (ahead : Ahead) (base : Base) (scenario : Scenario) (rows : Journal) → Grants ahead base (Made scenario rows)
+grants ahead base scenario rows = record { noop = tt; joins = λ node order. tt; leaves = λ node order. tt }
+
 pub made_later : (scenario : Scenario) (rows : Journal) (row : Row Mail OrderLine) (c : Command) → Made scenario rows c → Made scenario (rows ++ row ∷ []) c
 made_later scenario rows row (Call client seq op) m = issued_later scenario rows row client seq op m
-made_later scenario rows row _ m = tt
+made_later scenario rows row _ m = m
 
 issue_bound : (client seq before : ℕ) (rows : Journal) (i : ℕ) → issued_from client seq before rows ≡ Some i → i ≤ before + length rows
 issue_bound client seq before [] i e = cc

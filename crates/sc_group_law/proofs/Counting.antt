@@ -6,7 +6,6 @@ use Rattle.std.proofs.lemmas.Bool.{cases_Bool, eqb-true, eqb-false, ltb-true, lt
 use Rattle.sc_base.specs.declared.names.Ballot.{Ballot}
 use Rattle.sc_cmd.specs.Same.{same_ballot}
 use Rattle.sc_cmd.specs.declared.commands.Command.{Command}
-use Rattle.sc_cmd.specs.declared.commands.Command.TheVariants.{Noop}
 use Rattle.sc_cmd.specs.declared.cores.Base.{Base}
 use Rattle.sc_mail.specs.declared.bodies.Mail.{Mail}
 use Rattle.sc_member.specs.Roster.{is_member, with_member}
@@ -31,7 +30,7 @@ use Rattle.sc_hist_law.specs.Laws.{LogTells}
 use Rattle.sc_sound.specs.Logs.{Ahead}
 use Rattle.sc_group_law.proofs.Lists.{map-push}
 use Rattle.sc_group_law.proofs.Growth.{IsLearnt}
-use Rattle.sc_group_law.proofs.Invariant.{Steps, rule, first, birth, IsFlying, IsTaken, IsReplica, Fine, turn}
+use Rattle.sc_group_law.proofs.Invariant.{Steps, rule, first, birth, IsFlying, IsTaken, Grants, IsReplica, next_after, Fine, turn}
 use Rattle.sc_group_law.proofs.Parts.{among_without_flight, Each-without_flight}
 use Rattle.sc_group_law.proofs.Executing.{pumps, fine_executed}
 
@@ -95,9 +94,9 @@ still_ready (y ∷ es) slot c x (inl same) ne =
 still_ready (y ∷ es) slot c x (inr a) ne =
     cond_both (eqb y.0 slot) _ _ (Among x) (λ _. inr a) (λ _. cond_both (nat_lt slot y.0) _ _ (Among x) (λ _. inr (inr a)) (λ _. inr (still_ready es slot c x a ne)))
 
-module _ (ahead : Ahead) (base : Base) (made : Command → Type 0) (noop : made Noop) (me : ℕ) (before : Steps)
-    (some : (log : List Command) → (node : ℕ) × (rest : List ℕ) × ((rule ahead base).members log ≡ node ∷ rest))
-    (law : (log : List Command) → LogTells (birth ahead base) log) where
+module _ (ahead : Ahead) (base : Base) (made : Command → Type 0) (grants : Grants ahead base made) (me : ℕ) (before : Steps)
+    (some : (log : List Command) → Each made log → (node : ℕ) × (rest : List ℕ) × ((rule ahead base).members log ≡ node ∷ rest))
+    (law : (log : List Command) → Each made log → LogTells (birth ahead base) log) where
   abbrev Ok : Place → Type 0
   Ok = Fine ahead base made me before
 
@@ -114,9 +113,8 @@ module _ (ahead : Ahead) (base : Base) (made : Command → Type 0) (noop : made 
       let vote : Vote Command = record { node = from; from = start; reports = reports } in
       record {
         me_is = k.me_is;
-        base_is = k.base_is;
-        group_is = k.group_is;
-        is_log = k.is_log;
+        whole = k.whole;
+        log_is = k.log_is;
         acceptor_is = k.acceptor_is;
         tops = k.tops;
         prepares = k.prepares;
@@ -149,18 +147,17 @@ module _ (ahead : Ahead) (base : Base) (made : Command → Type 0) (noop : made 
       let after = cond_both (one_ballot ballot r.leader.ballot && not (is_member r.leader.promisers from)) _ _
       (λ (x : Bool × LeaderState Command). Replica (f.newer ++ before) (record r { leader = x.1 }))
       (λ _. voter_replica (f.newer ++ before) from ballot reports start r f.replica parts.0 (ballot_is ballot r.leader.ballot parts.1) promised asked) (λ _. f.replica) in
-      pumps ahead base made noop me before some law _ (turn ahead base made me before r (record r { leader = (promise_counted from ballot reports r.leader).1 }) mails f after)))
+      pumps ahead base made grants me before some law _ (turn ahead base made me before r (record r { leader = (promise_counted from ballot reports r.leader).1 }) mails f after)))
       (λ _. f)
 
   -- ---- a vote
 
-  ready_replica : (h : Steps) (slot : ℕ) (c : Command) (r : ReplicaState) → Replica h r → IsLearnt (rule ahead base) h slot c
+  ready_replica : (h : Steps) (slot : ℕ) (c : Command) (r : ReplicaState) (k : Replica h r) → IsLearnt (rule ahead base) h slot c
       → Replica h (record r { leader = landed slot r.leader; ready = with_slot r.ready slot c })
   ready_replica h slot c r k t = record {
     me_is = k.me_is;
-    base_is = k.base_is;
-    group_is = k.group_is;
-    is_log = k.is_log;
+    whole = k.whole;
+    log_is = k.log_is;
     acceptor_is = k.acceptor_is;
     tops = k.tops;
     prepares = k.prepares;
@@ -174,7 +171,7 @@ module _ (ahead : Ahead) (base : Base) (made : Command → Type 0) (noop : made 
         record { own = l.own; low = l.low; first_is = l.first_is; votes = l.votes; promisers = l.promisers; reports = l.reports; made = l.made; offers = λ at d a. stays at (l.offers at d a) });
   }
     where
-      stays : (at : ℕ) → (at < next r) ⊎ IsTaken ahead base r.leader r.ready at → (at < next r) ⊎ IsTaken ahead base (landed slot r.leader) (with_slot r.ready slot c) at
+      stays : (at : ℕ) → (at < length k.whole + 1) ⊎ IsTaken ahead base r.leader r.ready at → (at < length k.whole + 1) ⊎ IsTaken ahead base (landed slot r.leader) (with_slot r.ready slot c) at
       stays at (inl lt) = inl lt
       stays at (inr t) =
           elim (cases_Bool (eqb at slot)) [
@@ -187,14 +184,13 @@ module _ (ahead : Ahead) (base : Base) (made : Command → Type 0) (noop : made 
                 ])
           ]
 
-  voters_replica : (h : Steps) (slot : ℕ) (voters : Option (List ℕ)) (r : ReplicaState) → Replica h r
+  voters_replica : (h : Steps) (slot : ℕ) (voters : Option (List ℕ)) (r : ReplicaState) (k : Replica h r)
       → ((g : Flight Command) → Among g r.leader.flights → g.slot ≡ slot → IsFlying ahead base h r.leader.ballot (record g { voters = voters }))
       → Replica h (record r { leader = record r.leader { flights = with_voters slot voters r.leader.flights } })
   voters_replica h slot voters r k new = record {
     me_is = k.me_is;
-    base_is = k.base_is;
-    group_is = k.group_is;
-    is_log = k.is_log;
+    whole = k.whole;
+    log_is = k.log_is;
     acceptor_is = k.acceptor_is;
     tops = k.tops;
     prepares = k.prepares;
@@ -208,27 +204,27 @@ module _ (ahead : Ahead) (base : Base) (made : Command → Type 0) (noop : made 
         record { own = l.own; low = l.low; first_is = l.first_is; votes = l.votes; promisers = l.promisers; reports = l.reports; made = l.made; offers = λ at d a. stays at (l.offers at d a) });
   }
     where
-      stays : (at : ℕ) → (at < next r) ⊎ IsTaken ahead base r.leader r.ready at
-          → (at < next r) ⊎ IsTaken ahead base (record r.leader { flights = with_voters slot voters r.leader.flights }) r.ready at
+      stays : (at : ℕ) → (at < length k.whole + 1) ⊎ IsTaken ahead base r.leader r.ready at
+          → (at < length k.whole + 1) ⊎ IsTaken ahead base (record r.leader { flights = with_voters slot voters r.leader.flights }) r.ready at
       stays at (inl lt) = inl lt
       stays at (inr (inl (g, a, e))) = inr (inl (still_flying slot voters r.leader.flights at g a e))
       stays at (inr (inr t)) = inr (inr t)
 
-  readied_place : (slot : ℕ) (c : Command) (r : ReplicaState) (mails : List Mail) → (f : Ok (r, mails)) → IsLearnt (rule ahead base) (f.newer ++ before) slot c → Ok (readied slot c (record r { leader = landed slot r.leader }, mails))
+  readied_place : (slot : ℕ) (c : Command) (r : ReplicaState) (mails : List Mail) → (f : Ok (r, mails)) → IsLearnt (rule ahead base) (f.newer ++ before) slot c → r.running ≡ true → Ok (readied slot c (record r { leader = landed slot r.leader }, mails))
   unfolding readied turn
-  readied_place slot c r mails f t =
+  readied_place slot c r mails f t runs =
       let after : ReplicaState = record r { leader = landed slot r.leader; ready = with_slot r.ready slot c } in
       let place = turn ahead base made me before r after mails f (ready_replica (f.newer ++ before) slot c r f.replica t) in
       cond_both (eqb slot (next r) && has_room (record r { leader = landed slot r.leader })) _ _ Ok
       (λ e. (
       let parts = and_parts (eqb slot (next r)) (has_room (record r { leader = landed slot r.leader })) e in
-      fine_executed ahead base made noop me before some law true c after mails place
-      (subst (λ n. IsLearnt (rule ahead base) (f.newer ++ before) n c) (eqb-true slot (next r) parts.0) t)))
+      fine_executed ahead base made grants me before some law true c after mails place
+      (subst (λ n. IsLearnt (rule ahead base) (f.newer ++ before) n c) (eqb-true slot (next r) parts.0) t) (λ _. runs)))
       (λ _. place)
 
   module _ (from : ℕ) (slot : ℕ) (set : List ℕ) (r : ReplicaState) (mails : List Mail) (f : Ok (r, mails)) (runs : r.running ≡ true)
       (d : Command) (did : Among (Accepted from r.leader.ballot slot d) (f.newer ++ before))
-      (is : set ≡ members_of (rule ahead base) r.log.entries slot) (known : needed (rule ahead base) slot ≤ length r.log.entries) where
+      (is : set ≡ members_of (rule ahead base) f.replica.whole slot) (known : needed (rule ahead base) slot ≤ length f.replica.whole) where
     abbrev h : Steps
     h = f.newer ++ before
 
@@ -252,8 +248,8 @@ module _ (ahead : Ahead) (base : Base) (made : Command → Type 0) (noop : made 
     learnt_here flight a e most =
         subst (IsLearnt (rule ahead base) h slot) (same_value flight a e)
         (record {
-          log = r.log.entries;
-          is_log = f.replica.is_log;
+          log = f.replica.whole;
+          is_log = f.replica.log_is.is_log;
           chosen = record {
             known = known;
             chosen = record {
@@ -272,7 +268,7 @@ module _ (ahead : Ahead) (base : Base) (made : Command → Type 0) (noop : made 
         let at = eqb-true flight.slot slot there.1 in
         let voters = voters_after set from flight.voters in
         cond_both (is_majority set (voters_of voters)) _ _ (λ (x : Counted Command × LeaderState Command). Ok (tallied slot x (r, mails)))
-        (λ most. readied_place slot flight.value r mails f (learnt_here flight there.0 at most))
+        (λ most. readied_place slot flight.value r mails f (learnt_here flight there.0 at most) runs)
         (λ _. turn ahead base made me before r (record r { leader = record r.leader { flights = with_voters slot voters r.leader.flights } }) mails f
         (voters_replica h slot voters r f.replica (λ g a same. (
         let flies = Each-among _ r.leader.flights g f.replica.flights a in
@@ -282,15 +278,16 @@ module _ (ahead : Ahead) (base : Base) (made : Command → Type 0) (noop : made 
     counted_place =
         cond_both (one_ballot b r.leader.ballot) _ _ (λ (x : Counted Command × LeaderState Command). Ok (tallied slot x (r, mails))) (λ _. voted_at (flight_at slot r.leader.flights) refl) (λ _. f)
 
-  set_is : (h : Steps) (slot : ℕ) (set : List ℕ) (r : ReplicaState) → Replica h r → set_at slot r ≡ Some set → (set ≡ members_of (rule ahead base) r.log.entries slot) × (needed (rule ahead base) slot ≤ length r.log.entries)
+  set_is : (h : Steps) (slot : ℕ) (set : List ℕ) (r : ReplicaState) (k : Replica h r) → set_at slot r ≡ Some set → (set ≡ members_of (rule ahead base) k.whole slot) × (needed (rule ahead base) slot ≤ length k.whole)
   set_is h slot set r k e =
       cond_both (nat_lt slot (next r)) None (slice_get r.sets (slot - next r))
-      (λ (o : Option (List ℕ)). o ≡ Some set → (set ≡ members_of (rule ahead base) r.log.entries slot) × (needed (rule ahead base) slot ≤ length r.log.entries))
+      (λ (o : Option (List ℕ)). o ≡ Some set → (set ≡ members_of (rule ahead base) k.whole slot) × (needed (rule ahead base) slot ≤ length k.whole))
       (λ _ x. cc)
       (λ n x. (
       let up = ltb-false slot (next r) n in
-      let same : next r + (slot - next r) ≡ slot = omega (arith, up) in
-      subst (λ m. (set ≡ members_of (rule ahead base) r.log.entries m) × (needed (rule ahead base) m ≤ length r.log.entries)) same (k.sets (slot - next r) set x))) e
+      let at = next_after ahead base made h me r k in
+      let same : length k.whole + 1 + (slot - next r) ≡ slot = omega (arith, up, at) in
+      subst (λ m. (set ≡ members_of (rule ahead base) k.whole m) × (needed (rule ahead base) m ≤ length k.whole)) same (k.sets (slot - next r) set x))) e
 
   pub fine_accepted_row : (from : ℕ) (ballot : Ballot) (slot : ℕ) (d : Command) (r : ReplicaState) (mails : List Mail) → (f : Ok (r, mails)) → Among (Accepted from ballot slot d) (f.newer ++ before)
       → Ok (accepted_row from ballot slot (r, mails))

@@ -1,6 +1,8 @@
 -- Valid scenarios have one group; and the example is a lawful journal of such a scenario.
 use Rattle.sc_scenario.specs.Groups.{lone_group}
 use Rattle.sc_scenario.specs.Valid.{TextsAreEarly}
+use Rattle.sc_member.specs.Roster.{IsRoster}
+use Rattle.sc_member.proofs.Rising.{roster_with}
 use Rattle.sc_group_law.specs.Laws.{ValidHaveOneGroup}
 use Rattle.std.proofs.Common.{List, [], ◌∷◌, length, subst, ap, ◌≡◌, ℕ, suc, ◌<◌, ◌≤◌, inl, inr, refl, sym, ◌∙◌, lit≤, arith, slice_index_or}
 use Rattle.std.specs.List.{All, AllPairs}
@@ -49,7 +51,7 @@ valid_one_group early scenario valid =
       lone_group is.lo is.members,
       record {
         groups = is.group;
-        members = is.roster.some;
+        roster = is.roster;
         pairs = refl;
         clients = refl;
         nodes = is.nodes.1;
@@ -63,8 +65,17 @@ once one other (inl e) (inl f) same = sym e ∙ f
 once one other (inl e) (inr n) same = absurd n
 once one other (inr n) b same = absurd n
 
+alone : IsRoster (1 ∷ [])
+alone = record { some = lit≤ tt; most = lit≤ tt; ascending = λ k within. absurd (omega (arith, within)) }
+
+pair : IsRoster (1 ∷ 2 ∷ [])
+pair = roster_with (1 ∷ []) 2 alone refl (lit≤ tt)
+
+trio : IsRoster (1 ∷ 2 ∷ 3 ∷ [])
+trio = roster_with (1 ∷ 2 ∷ []) 3 pair refl (lit≤ tt)
+
 pub one_group : HasOneGroup example_scenario three_nodes
-one_group = record { groups = refl; members = lit≤ tt; pairs = refl; clients = refl; nodes = lit≤ tt; numbered = (lit≤ tt, tt); once = once }
+one_group = record { groups = refl; roster = trio; pairs = refl; clients = refl; nodes = lit≤ tt; numbered = (lit≤ tt, tt); once = once }
 
 pub example_is_lawful : Lawful four no_words example_scenario example
 unfolding nodes_to elected ended saw sent_all ticked next_call from_calls from_queues found_for offered pumped_from pumped queued requested request_row tick_row mailed promised prepare_row took accept_row promise_row

@@ -1,6 +1,6 @@
 -- Execution: the command of the next slot, which is chosen there, lengthens the log.
-use Rattle.std.proofs.Common.{◌≡◌, ℕ, suc, ◌+◌, ◌<◌, ◌≤◌, ◌&&◌, ◌||◌, nat_lt, Bool, true, false, eqb, List, [], ◌∷◌, ◌++◌, length, Option, Some, None, ◌⊎◌, inl, inr, refl, sym, ◌∙◌, ap, subst, arith}
-use Rattle.std.proofs.lemmas.Bool.{cases_Bool, eqb-true, eqb-false, cond_both}
+use Rattle.std.proofs.Common.{◌≡◌, ℕ, suc, ◌+◌, ◌-◌, ◌<◌, ◌≤◌, ◌&&◌, ◌||◌, nat_lt, not, Bool, true, false, cond, eqb, List, [], ◌∷◌, ◌++◌, length, filter, Option, Some, None, ◌⊎◌, inl, inr, refl, sym, ◌∙◌, ap, subst, arith}
+use Rattle.std.proofs.lemmas.Bool.{cases_Bool, eqb-true, eqb-false, and_parts, cond_both}
 use Rattle.std.proofs.lemmas.List.{length_push, take-append-le, take_all}
 use Rattle.sc_base.specs.declared.ops.Op.{Op}
 use Rattle.sc_base.specs.declared.ops.Reply.{Reply}
@@ -13,9 +13,10 @@ use Rattle.sc_cmd.specs.declared.effects.Effect.TheVariants as Was
 use Rattle.sc_mail.specs.declared.bodies.AnswerBody.{AnswerBody}
 use Rattle.sc_mail.specs.declared.bodies.AnswerBody.TheVariants as Says
 use Rattle.sc_mail.specs.declared.bodies.Mail.{Mail}
-use Rattle.sc_mail.specs.declared.bodies.MailBody.TheVariants.{Answer}
+use Rattle.sc_mail.specs.declared.bodies.MailBody.TheVariants.{Answer, Prepare, Install, Told}
 use Rattle.sc_member.specs.Roster.{is_member, least_of}
-use Rattle.sc_machine_table.specs.Group.{Group}
+use Rattle.sc_machine_table.specs.Group.{Group, base_of}
+use Rattle.sc_cmd.specs.declared.orders.ToldResult.{ToldResult}
 use Rattle.sc_machine_table.specs.Machine.{applied}
 use Rattle.sc_paxos_words.specs.declared.flights.Flight.{Flight}
 use Rattle.sc_paxos_words.specs.declared.answers.Learnt.{Learnt}
@@ -26,19 +27,21 @@ use Rattle.sc_paxos_words.proofs.ListLemmas.{Each-among, Each-weaker, find_found
 use Rattle.sc_paxos_law.specs.Chosen.{needed, members_of, IsChosenAfter, IsLog}
 use Rattle.sc_paxos_law.proofs.Law.{earlier, longer_log}
 use Rattle.sc_node_table.specs.Slots.{rest_of, at_slot, without_slot}
-use Rattle.sc_node_table.specs.Replica.{ReplicaState, Place, name_of, next, members, flying}
+use Rattle.sc_node_table.specs.Replica.{ReplicaState, Place, name_of, next, members, flying, floor_of, forgotten, waits_in}
+use Rattle.sc_node_table.specs.Mails.{sent, sent_all, order_in, told_order}
+use Rattle.sc_node_table.specs.Install.{install_to, asked_to_promise, welcomed_all}
 use Rattle.sc_node_table.specs.Queues.{call_of, without_call, call_before, put_back, same_command}
-use Rattle.sc_node_table.specs.Execute.{with_entry, entered, answer_of, told_call, told, learnt_to, lost, landed, left_gone, left, is_among, looked_for, looked, executed_one, has_room, next_ready, executed_ready, executed}
+use Rattle.sc_node_table.specs.Execute.{with_entry, entered, answer_of, told_call, result_of, told_effect, told, learnt_to, welcomed, lost, landed, left_gone, left, is_among, looked_for, looked, executed_one, has_room, next_ready, executed_ready, executed}
 use Rattle.sc_node_table.specs.Pump.{pumped}
 use Rattle.sc_hist_law.specs.Laws.{IsReplied, LogTells}
 use Rattle.sc_sound.specs.Laws.{HasEntry}
-use Rattle.sc_sound.specs.Logs.{Ahead, state_after}
+use Rattle.sc_sound.specs.Logs.{Ahead}
 use Rattle.sc_sound.specs.Histories.{done_by}
-use Rattle.sc_hist_law.proofs.Logs.{state_push}
 use Rattle.sc_group_law.proofs.Lists.{get_pushed}
 use Rattle.sc_group_law.proofs.Growth.{IsLearnt, by_own_log, learnt_offered}
-use Rattle.sc_group_law.proofs.Invariant.{Steps, rule, first, birth, IsTaken, AreSets, IsReplica, IsTrueAnswer, Fine, turn, says}
-use Rattle.sc_group_law.proofs.Sending.{learnt_others, fine_elected, fine_ended, fine_stopped}
+use Rattle.sc_group_law.proofs.Held.{floor_low, group_again}
+use Rattle.sc_group_law.proofs.Invariant.{Steps, rule, first, birth, Grants, IsTaken, AreSets, HasLog, next_is, pushed_has, cut_has, IsReplica, next_after, forgotten_replica, IsTrueAnswer, Fine, turn, says}
+use Rattle.sc_group_law.proofs.Sending.{same_name, name_is, prepared_all, learnt_others, fine_elected, fine_ended, fine_stopped}
 use Rattle.sc_group_law.proofs.Parts.{Each-without_flight, among_without_flight, Each-without_slot, among_without_slot, slot_among, Each-without_call, rest_length, rest_count, rest_get, flying_found}
 use Rattle.sc_group_law.proofs.Offering.{with_calls, with_acts, fine_pumped}
 
@@ -72,42 +75,42 @@ module _ (ahead : Ahead) (base : Base) where
             ))
       ]
 
-module _ (ahead : Ahead) (base : Base) (made : Command → Type 0) (noop : made Noop) (me : ℕ) (before : Steps)
-    (some : (log : List Command) → (node : ℕ) × (rest : List ℕ) × ((rule ahead base).members log ≡ node ∷ rest))
-    (law : (log : List Command) → LogTells (birth ahead base) log) where
+module _ (ahead : Ahead) (base : Base) (made : Command → Type 0) (grants : Grants ahead base made) (me : ℕ) (before : Steps)
+    (some : (log : List Command) → Each made log → (node : ℕ) × (rest : List ℕ) × ((rule ahead base).members log ≡ node ∷ rest))
+    (law : (log : List Command) → Each made log → LogTells (birth ahead base) log) where
   abbrev Ok : Place → Type 0
   Ok = Fine ahead base made me before
 
   abbrev Replica : Steps → ReplicaState → Type 0
   Replica h r = IsReplica ahead base made h me r
 
-  next_is : (h : Steps) (r : ReplicaState) → Replica h r → next r ≡ length r.log.entries + 1
-  next_is h r k = (let zero_base = k.base_is in omega (arith, zero_base))
+  -- ---- 1. the entry is applied and kept, and what is old is forgotten
 
-  -- ---- 1. the entry is applied and kept
+  -- the log and the group with the entry
+  entered_has : (h : Steps) (c : Command) (r : ReplicaState) (k : Replica h r) → made c → IsChosenAfter (rule ahead base) h k.whole (length k.whole + 1) c
+      → HasLog ahead base made h (k.whole ++ c ∷ []) (record r.log { entries = r.log.entries ++ c ∷ [] }) (applied r.group c).0
+  entered_has h c r k m chosen = pushed_has ahead base made h k.whole r.log r.group c k.log_is m (longer_log (rule ahead base) h k.whole c k.log_is.is_log chosen)
 
-  entered_to : (h : Steps) (c : Command) (r : ReplicaState) → Replica h r → IsChosenAfter (rule ahead base) h r.log.entries (length r.log.entries + 1) c
-      → Replica h (record r { group = (applied r.group c).0; log = record r.log { entries = r.log.entries ++ c ∷ [] }; sets = rest_of r.sets ++ (applied r.group c).0.core.members ∷ [] })
-  entered_to h c r k chosen =
-      let log = r.log.entries in
+  entered_to : (h : Steps) (c : Command) (waits : ℕ) (r : ReplicaState) (k : Replica h r) → made c → IsChosenAfter (rule ahead base) h k.whole (length k.whole + 1) c
+      → Replica h (forgotten (next r) (record r { group = (applied r.group c).0; log = record r.log { entries = r.log.entries ++ c ∷ [] }; sets = rest_of r.sets ++ (applied r.group c).0.core.members ∷ []; waits = waits }))
+  entered_to h c waits r k m chosen =
+      let log = k.whole in
       let longer = length_push log c in
-      let zero_base = k.base_is in
       let count = k.count in
       let one = ahead.some in
-      let group_is : (applied r.group c).0 ≡ state_after (birth ahead base) (log ++ c ∷ []) = ap (λ g. (applied g c).0) k.group_is ∙ sym (state_push (birth ahead base) log c) in
-      let old : AreSets ahead base log (length log + 1) r.sets = subst (λ n. AreSets ahead base log n r.sets) (next_is h r k) k.sets in
-      let slots : length log + 1 + 1 ≡ r.log.base + length (log ++ c ∷ []) + 1 = omega (arith, longer, zero_base) in
-      record {
+      let has = entered_has h c r k m chosen in
+      let at = next_after ahead base made h me r k in
+      let low = floor_low (next r) in
+      let here : Replica h (record r { group = (applied r.group c).0; log = record r.log { entries = r.log.entries ++ c ∷ [] }; sets = rest_of r.sets ++ (applied r.group c).0.core.members ∷ []; waits = waits }) = record {
         me_is = k.me_is;
-        base_is = k.base_is;
-        group_is = group_is;
-        is_log = longer_log (rule ahead base) h log c k.is_log chosen;
+        whole = log ++ c ∷ [];
+        log_is = has;
         acceptor_is = k.acceptor_is;
         tops = k.tops;
         prepares = λ b from a own. (let le = k.prepares b from a own in omega (arith, le, longer));
         count = rest_length r.sets (applied r.group c).0.core.members (omega (arith, count, one)) ∙ k.count;
-        sets = subst (λ n. AreSets ahead base (log ++ c ∷ []) n (rest_of r.sets ++ (applied r.group c).0.core.members ∷ [])) slots
-            (more_sets ahead base log c r.sets (applied r.group c).0.core.members k.count (ap (λ (g : Group). g.core.members) group_is) old);
+        sets = subst (λ n. AreSets ahead base (log ++ c ∷ []) (n + 1) (rest_of r.sets ++ (applied r.group c).0.core.members ∷ [])) (sym longer)
+            (more_sets ahead base log c r.sets (applied r.group c).0.core.members k.count (ap (λ (g : Group). g.core.members) has.group_is) k.sets);
         calls = k.calls;
         acts = k.acts;
         flights = k.flights;
@@ -123,16 +126,33 @@ module _ (ahead : Ahead) (base : Base) (made : Command → Type 0) (noop : made 
               made = Each-weaker _ _ (λ v p. (p.0, (let le = p.1 in omega (arith, le, longer)))) l.votes l.made;
               offers = λ slot d a. elim (l.offers slot d a) [ inl lt ↦ inl (omega (arith, lt, longer)) | inr t ↦ inr t ];
             });
-      }
+      } in
+      forgotten_replica ahead base made h me (next r) _ here (omega (arith, low, at, longer))
 
-  entered_replica : (h : Steps) (c : Command) (r : ReplicaState) → Replica h r → IsChosenAfter (rule ahead base) h r.log.entries (length r.log.entries + 1) c → Replica h (entered c r)
+  entered_is : (c : Command) (r : ReplicaState)
+      → entered c r ≡ forgotten (next r) (record r { group = (applied r.group c).0; log = record r.log { entries = r.log.entries ++ c ∷ [] }; sets = rest_of r.sets ++ (applied r.group c).0.core.members ∷ []; waits = waits_in (applied r.group c).0.core.lock r.waits })
   unfolding entered
-  entered_replica h c r k chosen =
-      subst (λ l. Replica h (record r { group = (applied r.group c).0; log = l; sets = rest_of r.sets ++ (applied r.group c).0.core.members ∷ [] })) (sym (with_entry-is c r.log)) (entered_to h c r k chosen)
+  entered_is c r = ap (λ l. forgotten (next r) (record r { group = (applied r.group c).0; log = l; sets = rest_of r.sets ++ (applied r.group c).0.core.members ∷ []; waits = waits_in (applied r.group c).0.core.lock r.waits })) (with_entry-is c r.log)
 
-  entered_log : (c : Command) (r : ReplicaState) → (entered c r).log ≡ record r.log { entries = r.log.entries ++ c ∷ [] }
-  unfolding entered
-  entered_log c r = with_entry-is c r.log
+  entered_replica : (h : Steps) (c : Command) (r : ReplicaState) (k : Replica h r) → made c → IsChosenAfter (rule ahead base) h k.whole (length k.whole + 1) c → Replica h (entered c r)
+  entered_replica h c r k m chosen = subst (Replica h) (sym (entered_is c r)) (entered_to h c (waits_in (applied r.group c).0.core.lock r.waits) r k m chosen)
+
+  -- the next slot is the one after the entry's
+  entered_next : (h : Steps) (c : Command) (r : ReplicaState) (k : Replica h r) → made c → IsChosenAfter (rule ahead base) h k.whole (length k.whole + 1) c → next r < next (entered c r)
+  unfolding forgotten
+  entered_next h c r k m chosen =
+      let has = entered_has h c r k m chosen in
+      let longer = length_push k.whole c in
+      let at = next_after ahead base made h me r k in
+      let low = floor_low (next r) in
+      let cut = cut_has ahead base made h (k.whole ++ c ∷ []) _ _ (floor_of (next r)) (omega (arith, low, at, longer)) has in
+      let after = next_is ahead base made h (k.whole ++ c ∷ []) _ _ cut in
+      let same : next (entered c r) ≡ length (k.whole ++ c ∷ []) + 1 = ap (λ (s : ReplicaState). next s) (entered_is c r) ∙ after in
+      omega (arith, same, at, longer)
+
+  entered_runs : (c : Command) (r : ReplicaState) → (entered c r).running ≡ r.running
+  unfolding forgotten
+  entered_runs c r = ap (λ (s : ReplicaState). s.running) (entered_is c r)
 
   -- ---- a command goes back
 
@@ -143,12 +163,22 @@ module _ (ahead : Ahead) (base : Base) (made : Command → Type 0) (noop : made 
   back_replica : (h : Steps) (c : Command) (r : ReplicaState) → made c → Replica h r → Replica h (put_back c r)
   unfolding put_back
   back_replica h Noop r m k = k
-  back_replica h (Call client seq op) r m k = with_calls ahead base made noop me before some h r _ k (before_calls (call_of r.calls client) client seq (Call client seq op) r.calls m k.calls)
-  back_replica h (Join node order) r m k = with_calls ahead base made noop me before some h r (Join node order ∷ r.calls) k (m, k.calls)
-  back_replica h (Leave node order) r m k = with_calls ahead base made noop me before some h r (Leave node order ∷ r.calls) k (m, k.calls)
-  back_replica h (Split at child order) r m k = with_calls ahead base made noop me before some h r (Split at child order ∷ r.calls) k (m, k.calls)
-  back_replica h (Begin tx body order) r m k = with_calls ahead base made noop me before some h r (Begin tx body order ∷ r.calls) k (m, k.calls)
-  back_replica h c r m k = with_acts ahead base made noop me before some h r (c ∷ r.acts) k (m, k.acts)
+  back_replica h (Call client seq op) r m k = with_calls ahead base made grants me before some h r _ k (before_calls (call_of r.calls client) client seq (Call client seq op) r.calls m k.calls)
+  back_replica h (Join node order) r m k = with_calls ahead base made grants me before some h r (Join node order ∷ r.calls) k (m, k.calls)
+  back_replica h (Leave node order) r m k = with_calls ahead base made grants me before some h r (Leave node order ∷ r.calls) k (m, k.calls)
+  back_replica h (Split at child order) r m k = with_calls ahead base made grants me before some h r (Split at child order ∷ r.calls) k (m, k.calls)
+  back_replica h (Begin tx body order) r m k = with_calls ahead base made grants me before some h r (Begin tx body order ∷ r.calls) k (m, k.calls)
+  back_replica h c r m k = with_acts ahead base made grants me before some h r (c ∷ r.acts) k (m, k.acts)
+
+  back_runs : (c : Command) (r : ReplicaState) → (put_back c r).running ≡ r.running
+  unfolding put_back
+  back_runs Noop r = refl
+  back_runs (Call client seq op) r = refl
+  back_runs (Join node order) r = refl
+  back_runs (Leave node order) r = refl
+  back_runs (Split at child order) r = refl
+  back_runs (Begin tx body order) r = refl
+  back_runs c r = refl
 
   back_log : (c : Command) (r : ReplicaState) → (put_back c r).log ≡ r.log
   unfolding put_back
@@ -175,44 +205,107 @@ module _ (ahead : Ahead) (base : Base) (made : Command → Type 0) (noop : made 
   true_answer h log is client seq (Was.Gone into) f answer e = let same : Says.Gone into ≡ answer = cc in subst (IsTrueAnswer ahead base h (32 + client) seq) same tt
   true_answer h log is client seq _ f answer e = cc
 
-  -- what stands after a part of an execution: the place, the command of the executed slot, and that slot
-  record Past (slot : ℕ) (c : Command) (place : Place) : Type 0 where
+  -- what stands after a part of an execution: the place, the command of the executed slot, that slot, and that a counted command is one's own
+  record Past (counted : Bool) (slot : ℕ) (c : Command) (place : Place) : Type 0 where
     fine : Ok place
     learnt_is : IsLearnt (rule ahead base) (fine.newer ++ before) slot c
     executed_is : slot < next place.0
+    runs_is : counted ≡ true → place.0.running ≡ true
 
-  told_place : (slot : ℕ) (d : Command) (o : Option AnswerBody) (c : Command) (r : ReplicaState) (mails : List Mail) → (p : Past slot d (r, mails)) → made c
+  told_place : (counted : Bool) (slot : ℕ) (d : Command) (o : Option AnswerBody) (c : Command) (r : ReplicaState) (mails : List Mail) → (p : Past counted slot d (r, mails)) → made c
       → ((client seq : ℕ) (op : Op) (answer : AnswerBody) → c ≡ Call client seq op → o ≡ Some answer → IsTrueAnswer ahead base (p.fine.newer ++ before) (32 + client) seq answer)
-      → Past slot d (told_call o c (r, mails))
+      → Past counted slot d (told_call o c (r, mails))
   unfolding told_call says turn
-  told_place slot d (Some answer) (Call client seq op) r mails p m t = record {
+  told_place counted slot d (Some answer) (Call client seq op) r mails p m t = record {
     fine = says ahead base made me before r mails (record { from = r.me; to = 32 + client; body = Answer (name_of r) seq answer }) p.fine refl (t client seq op answer refl refl);
     learnt_is = p.learnt_is;
     executed_is = p.executed_is;
+    runs_is = p.runs_is;
   }
-  told_place slot d None (Call client seq op) r mails p m t = record {
+  told_place counted slot d None (Call client seq op) r mails p m t = record {
     fine = turn ahead base made me before r (put_back (Call client seq op) r) mails p.fine (back_replica (p.fine.newer ++ before) (Call client seq op) r m p.fine.replica);
     learnt_is = p.learnt_is;
     executed_is = subst (λ (l : LogState Command). slot < next_of l) (sym (back_log (Call client seq op) r)) p.executed_is;
+    runs_is = λ e. back_runs (Call client seq op) r ∙ p.runs_is e;
   }
-  told_place slot d (Some answer) c r mails p m t = p
-  told_place slot d None c r mails p m t = p
+  told_place counted slot d (Some answer) c r mails p m t = p
+  told_place counted slot d None c r mails p m t = p
 
-  -- ---- 2. the others learn it
+  -- what an order came to is told
+  ordered_place : (counted : Bool) (slot : ℕ) (d : Command) (o : Option ToldResult) (c : Command) (place : Place) → Past counted slot d place → Past counted slot d (told_effect o c place)
+  unfolding told_effect told_order says
+  ordered_place counted slot d None c place p = p
+  ordered_place counted slot d (Some result) c (r, mails) p =
+      cond_both (nat_lt 0 (order_in c)) (sent r.me 0 (Told (order_in c) result) mails) mails (λ ms. Past counted slot d (r, ms))
+      (λ _. record {
+        fine = says ahead base made me before r mails (record { from = r.me; to = 0; body = Told (order_in c) result }) p.fine refl tt;
+        learnt_is = p.learnt_is;
+        executed_is = p.executed_is;
+        runs_is = p.runs_is;
+      })
+      (λ _. p)
 
-  learnt_place : (counted : Bool) (nodes : List ℕ) (slot : ℕ) (c : Command) (place : Place) → Past slot c place → Ok (learnt_to counted nodes slot c place) × (slot < next (learnt_to counted nodes slot c place).0)
+  -- ---- 2. the others learn it, and who was added is sent the state
+
+  learnt_place : (counted : Bool) (nodes : List ℕ) (slot : ℕ) (c : Command) (place : Place) → Past counted slot c place → Ok (learnt_to counted nodes slot c place)
   unfolding learnt_to
-  learnt_place true nodes slot c (r, mails) p = (learnt_others ahead base made me before nodes r mails (name_of r) slot c p.fine p.learnt_is, p.executed_is)
-  learnt_place false nodes slot c (r, mails) p = (p.fine, p.executed_is)
+  learnt_place true nodes slot c (r, mails) p = learnt_others ahead base made me before nodes r mails (name_of r) slot c p.fine p.learnt_is
+  learnt_place false nodes slot c (r, mails) p = p.fine
+
+  learnt_same : (counted : Bool) (nodes : List ℕ) (slot : ℕ) (c : Command) (place : Place) → (learnt_to counted nodes slot c place).0 ≡ place.0
+  unfolding learnt_to
+  learnt_same true nodes slot c (r, mails) = refl
+  learnt_same false nodes slot c (r, mails) = refl
+
+  -- the state is sent
+  pub installed_place : (node : ℕ) (r : ReplicaState) (mails : List Mail) → Ok (r, mails) → Ok (install_to node (r, mails))
+  unfolding install_to
+  installed_place node r mails f =
+      let h = f.newer ++ before in
+      let k = f.replica in
+      let at = next_after ahead base made h me r k in
+      let last : length k.whole ≡ next r - 1 = omega (arith, at) in
+      says ahead base made me before r mails (record { from = r.me; to = node; body = Install (name_of r) (next r - 1) (base_of r.group) r.sets }) f refl (
+        same_name (name_of r) base.core.id (name_is ahead base made me before h r k),
+        record {
+          log = k.whole;
+          is_log = k.log_is.is_log;
+          count = last;
+          group_is = group_again r.group ∙ k.log_is.group_is;
+          all_made = k.log_is.all_made;
+          sets_are = subst (λ n. AreSets ahead base k.whole (n + 1) r.sets) last k.sets;
+        },
+      )
+
+  asked_place : (node : ℕ) (r : ReplicaState) (mails : List Mail) → Ok (r, mails) → r.running ≡ true → Ok (asked_to_promise node (r, mails))
+  unfolding sent_all
+  asked_place node r mails f runs =
+      cond_both r.leader.is_first (r, mails) (r, sent r.me node (Prepare (name_of r) r.leader.ballot (next r)) mails) Ok (λ _. f)
+      (λ _. prepared_all ahead base made me before (node ∷ []) r mails r.leader.ballot (next r) f (f.replica.leads runs).own (omega arith))
+
+  asked_same : (node : ℕ) (r : ReplicaState) (mails : List Mail) → (asked_to_promise node (r, mails)).0 ≡ r
+  asked_same node r mails = cond_both {A = Place} r.leader.is_first (r, mails) (r, sent r.me node (Prepare (name_of r) r.leader.ballot (next r)) mails) (λ p. p.0 ≡ r) (λ _. refl) (λ _. refl)
+
+  welcomed_each : (nodes : List ℕ) (r : ReplicaState) (place : Place) → place.0 ≡ r → Ok place → r.running ≡ true → Ok (welcomed_all nodes place) × ((welcomed_all nodes place).0 ≡ r)
+  unfolding welcomed_all install_to
+  welcomed_each [] r place same f runs = (f, same)
+  welcomed_each (node ∷ nodes) r (s, mails) same f runs =
+      let sends = installed_place node s mails f in
+      let to = (install_to node (s, mails)).1 in
+      welcomed_each nodes r (asked_to_promise node (s, to)) (asked_same node s to ∙ same) (asked_place node s to sends (ap (λ (x : ReplicaState). x.running) same ∙ runs)) runs
+
+  welcomed_place : (counted : Bool) (nodes : List ℕ) (r : ReplicaState) (place : Place) → place.0 ≡ r → Ok place → (counted ≡ true → r.running ≡ true) → Ok (welcomed counted nodes place) × ((welcomed counted nodes place).0 ≡ r)
+  unfolding welcomed
+  welcomed_place true nodes r (s, mails) same f runs = welcomed_each (filter (λ node. not (is_member nodes node)) (members s)) r (s, mails) same f (runs refl)
+  welcomed_place false nodes r (s, mails) same f runs = (f, same)
 
   -- ---- 4. what was in flight or ready there is over
 
-  over_replica : (h : Steps) (slot : ℕ) (r : ReplicaState) → slot < next r → Replica h r → Replica h (record r { leader = without_flight_at slot r.leader; ready = without_slot r.ready slot })
+  over_replica : (h : Steps) (slot : ℕ) (r : ReplicaState) → slot < next r → (k : Replica h r) → Replica h (record r { leader = without_flight_at slot r.leader; ready = without_slot r.ready slot })
   over_replica h slot r past k = record {
     me_is = k.me_is;
-    base_is = k.base_is;
-    group_is = k.group_is;
-    is_log = k.is_log;
+    whole = k.whole;
+    log_is = k.log_is;
     acceptor_is = k.acceptor_is;
     tops = k.tops;
     prepares = k.prepares;
@@ -235,12 +328,12 @@ module _ (ahead : Ahead) (base : Base) (made : Command → Type 0) (noop : made 
         });
   }
     where
-      stays : r.running ≡ true → (at : ℕ) → (at < next r) ⊎ IsTaken ahead base r.leader r.ready at
-          → (at < next r) ⊎ IsTaken ahead base (without_flight_at slot r.leader) (without_slot r.ready slot) at
+      stays : r.running ≡ true → (at : ℕ) → (at < length k.whole + 1) ⊎ IsTaken ahead base r.leader r.ready at
+          → (at < length k.whole + 1) ⊎ IsTaken ahead base (without_flight_at slot r.leader) (without_slot r.ready slot) at
       stays runs at (inl lt) = inl lt
       stays runs at (inr t) =
           elim (cases_Bool (eqb at slot)) [
-            | inl e ↦ (let same = eqb-true at slot e in inl (omega (arith, same, past)))
+            | inl e ↦ (let same = eqb-true at slot e in let here = next_after ahead base made h me r k in inl (omega (arith, same, past, here)))
             | inr n ↦ (
                 let ne = eqb-false at slot n in
                 elim t [
@@ -271,9 +364,8 @@ module _ (ahead : Ahead) (base : Base) (made : Command → Type 0) (noop : made 
   pub hint_replica : (h : Steps) (r : ReplicaState) (hint : Option ℕ) → Replica h r → Replica h (record r { hint = hint })
   hint_replica h r hint k = record {
     me_is = k.me_is;
-    base_is = k.base_is;
-    group_is = k.group_is;
-    is_log = k.is_log;
+    whole = k.whole;
+    log_is = k.log_is;
     acceptor_is = k.acceptor_is;
     tops = k.tops;
     prepares = k.prepares;
@@ -287,7 +379,7 @@ module _ (ahead : Ahead) (base : Base) (made : Command → Type 0) (noop : made 
         record { own = l.own; low = l.low; first_is = l.first_is; votes = l.votes; promisers = l.promisers; reports = l.reports; made = l.made; offers = l.offers });
   }
 
-  hinted_place : (r : ReplicaState) (hint : Option ℕ) (mails : List Mail) → Ok (r, mails) → Ok (record r { hint = hint }, mails)
+  pub hinted_place : (r : ReplicaState) (hint : Option ℕ) (mails : List Mail) → Ok (r, mails) → Ok (record r { hint = hint }, mails)
   hinted_place r hint mails f = turn ahead base made me before r (record r { hint = hint }) mails f (hint_replica (f.newer ++ before) r hint f.replica)
 
   left_gone_place : (gone : Option Route) (r : ReplicaState) (mails : List Mail) → Ok (r, mails) → Ok (left_gone gone (r, mails))
@@ -306,40 +398,42 @@ module _ (ahead : Ahead) (base : Base) (made : Command → Type 0) (noop : made 
       (λ _. fine_elected ahead base made me before (record r { hint = Some r.me }) mails (hinted_place r (Some r.me) mails f))
       (λ _. hinted_place r (Some (least_of (members r))) mails f))
 
-  looked_place : (place : Place) → Ok place → Ok (looked place)
+  pub looked_place : (place : Place) → Ok place → Ok (looked place)
   unfolding looked
   looked_place (r, mails) f = cond_both r.running _ _ Ok (λ _. f) (λ _. looked_for_place r.group.core.gone r mails f)
 
   -- ---- 1 to 6
 
   pub fine_executed_one : (counted : Bool) (c : Command) (r : ReplicaState) (mails : List Mail) → (f : Ok (r, mails)) → IsLearnt (rule ahead base) (f.newer ++ before) (next r) c → made c
-      → Ok (executed_one counted c (r, mails))
+      → (counted ≡ true → r.running ≡ true) → Ok (executed_one counted c (r, mails))
   unfolding executed_one told turn
-  fine_executed_one counted c r mails f t m =
+  fine_executed_one counted c r mails f t m runs =
       let h = f.newer ++ before in
       let k = f.replica in
-      let log = r.log.entries in
-      let zero_base = k.base_is in
-      let longer = length_push log c in
+      let log = k.whole in
       let known = earlier (rule ahead base) (length log) in
-      let chosen = by_own_log (rule ahead base) (first ahead base) h f.lawful (length log + 1) c (subst (λ n. IsLearnt (rule ahead base) h n c) (next_is h r k) t) log k.is_log known in
-      let after = entered_replica h c r k chosen in
+      let chosen = by_own_log (rule ahead base) (first ahead base) h f.lawful (length log + 1) c (subst (λ n. IsLearnt (rule ahead base) h n c) (next_after ahead base made h me r k) t) log k.log_is.is_log known in
+      let after = entered_replica h c r k m chosen in
+      let has = entered_has h c r k m chosen in
       let place = turn ahead base made me before r (entered c r) mails f after in
-      let up : next r < next (entered c r) = subst (λ (l : LogState Command). next r < next_of l) (sym (entered_log c r)) (omega (arith, longer)) in
+      let up : next r < next (entered c r) = entered_next h c r k m chosen in
       let effect = (applied r.group c).1 in
-      let entries_are : log ++ c ∷ [] ≡ (entered c r).log.entries = sym (ap (λ (l : LogState Command). l.entries) (entered_log c r)) in
-      let replies : (client seq : ℕ) (op : Op) (reply : Reply) → c ≡ Call client seq op → IsReplied effect reply → HasEntry (done_by (birth ahead base) (entered c r).log.entries) client seq reply = λ client seq op reply is replied. (
-      subst (λ l. HasEntry (done_by (birth ahead base) l) client seq reply) (ap (λ d. log ++ d ∷ []) (sym is) ∙ entries_are)
-      ((law log).replies client seq op reply
-      (subst (λ (g : Group). IsReplied (applied g (Call client seq op)).1 reply) k.group_is (subst (λ d. IsReplied (applied r.group d).1 reply) is replied)))) in
+      let replies : (client seq : ℕ) (op : Op) (reply : Reply) → c ≡ Call client seq op → IsReplied effect reply → HasEntry (done_by (birth ahead base) (log ++ c ∷ [])) client seq reply = λ client seq op reply is replied. (
+      subst (λ l. HasEntry (done_by (birth ahead base) l) client seq reply) (ap (λ d. log ++ d ∷ []) (sym is))
+      ((law log k.log_is.all_made).replies client seq op reply
+      (subst (λ (g : Group). IsReplied (applied g (Call client seq op)).1 reply) k.log_is.group_is (subst (λ d. IsReplied (applied r.group d).1 reply) is replied)))) in
       let answers : (client seq : ℕ) (op : Op) (answer : AnswerBody) → c ≡ Call client seq op → answer_of effect ≡ Some answer → IsTrueAnswer ahead base h (32 + client) seq answer = λ client seq op answer is e.
-      (true_answer h (entered c r).log.entries after.is_log client seq effect (λ reply replied. replies client seq op reply is replied) answer e) in
-      let start : Past (next r) c (entered c r, mails) = record { fine = place; learnt_is = t; executed_is = up } in
-      let spoken : Past (next r) c (told counted effect c (entered c r, mails)) = (
-      cond_both counted (told_call (answer_of effect) c (entered c r, mails)) (entered c r, mails) (Past (next r) c)
-      (λ _. told_place (next r) c (answer_of effect) c (entered c r) mails start m answers) (λ _. start)) in
-      let taught = learnt_place counted (members r) (next r) c (told counted effect c (entered c r, mails)) spoken in
-      looked_place _ (left_place _ (landed_place counted (next r) c _ taught.0 taught.1))
+      (true_answer h (log ++ c ∷ []) has.is_log client seq effect (λ reply replied. replies client seq op reply is replied) answer e) in
+      let start : Past counted (next r) c (entered c r, mails) = record { fine = place; learnt_is = t; executed_is = up; runs_is = λ e. entered_runs c r ∙ runs e } in
+      let answered_it : Past counted (next r) c (cond counted (told_call (answer_of effect) c (entered c r, mails)) (entered c r, mails)) = (
+      cond_both counted (told_call (answer_of effect) c (entered c r, mails)) (entered c r, mails) (Past counted (next r) c)
+      (λ _. told_place counted (next r) c (answer_of effect) c (entered c r) mails start m answers) (λ _. start)) in
+      let spoken : Past counted (next r) c (told counted effect c (entered c r, mails)) = ordered_place counted (next r) c (result_of effect) c _ answered_it in
+      let said = told counted effect c (entered c r, mails) in
+      let taught = learnt_place counted (members r) (next r) c said spoken in
+      let welcome = welcomed_place counted (members r) said.0 (learnt_to counted (members r) (next r) c said) (learnt_same counted (members r) (next r) c said) taught spoken.runs_is in
+      let past = subst (λ (s : ReplicaState). next r < next s) (sym welcome.1) spoken.executed_is in
+      looked_place _ (left_place _ (landed_place counted (next r) c _ welcome.0 past))
 
   -- what is chosen was requested
   pub learnt_made : (place : Place) → (f : Ok place) → (slot : ℕ) (c : Command) → IsLearnt (rule ahead base) (f.newer ++ before) slot c → made c
@@ -348,11 +442,15 @@ module _ (ahead : Ahead) (base : Base) (made : Command → Type 0) (noop : made 
       f.requested offer.0 slot c offer.1
 
   pub pumps : (place : Place) → Ok place → Ok (pumped place)
-  pumps = fine_pumped ahead base made noop me before some
+  pumps = fine_pumped ahead base made grants me before some
 
   next_ready_among : (r : ReplicaState) (c : Command) → next_ready r ≡ Some c → Among (next r, c) r.ready
   next_ready_among r c e =
       cond_both (r.running && has_room r) (at_slot r.ready (next r)) None (λ o. o ≡ Some c → Among (next r, c) r.ready) (λ _ k. slot_among r.ready (next r) c k) (λ _ k. cc) e
+
+  next_ready_runs : (r : ReplicaState) (c : Command) → next_ready r ≡ Some c → r.running ≡ true
+  next_ready_runs r c e =
+      cond_both (r.running && has_room r) (at_slot r.ready (next r)) None (λ o. o ≡ Some c → r.running ≡ true) (λ t k. (and_parts r.running (has_room r) t).0) (λ _ k. cc) e
 
   fine_executed_ready : (es : List (ℕ × Command)) (place : Place) → Ok place → Ok (executed_ready es place)
   unfolding executed_ready
@@ -364,11 +462,11 @@ module _ (ahead : Ahead) (base : Base) (made : Command → Type 0) (noop : made 
       go rest None is = f
       go rest (Some c) is =
           let t = Each-among _ place.0.ready (next place.0, c) f.replica.ready (next_ready_among place.0 c is) in
-          pumps _ (rest _ (fine_executed_one true c place.0 place.1 f t (learnt_made place f (next place.0) c t)))
+          pumps _ (rest _ (fine_executed_one true c place.0 place.1 f t (learnt_made place f (next place.0) c t) (λ _. next_ready_runs place.0 c is)))
 
   -- Execute
-  pub fine_executed : (counted : Bool) (c : Command) (r : ReplicaState) (mails : List Mail) → (f : Ok (r, mails)) → IsLearnt (rule ahead base) (f.newer ++ before) (next r) c → Ok (executed counted c (r, mails))
+  pub fine_executed : (counted : Bool) (c : Command) (r : ReplicaState) (mails : List Mail) → (f : Ok (r, mails)) → IsLearnt (rule ahead base) (f.newer ++ before) (next r) c → (counted ≡ true → r.running ≡ true) → Ok (executed counted c (r, mails))
   unfolding executed
-  fine_executed counted c r mails f t =
-      let one = fine_executed_one counted c r mails f t (learnt_made (r, mails) f (next r) c t) in
+  fine_executed counted c r mails f t runs =
+      let one = fine_executed_one counted c r mails f t (learnt_made (r, mails) f (next r) c t) runs in
       pumps _ (fine_executed_ready (executed_one counted c (r, mails)).0.ready (executed_one counted c (r, mails)) one)

@@ -2,7 +2,8 @@
 use Rattle.std.proofs.Common.{◌≡◌, ℕ, ◌≤◌, eqb, List, [], ◌∷◌, ◌++◌, length, inl, inr, refl, sym, ◌∙◌, subst}
 use Rattle.std.proofs.lemmas.Bool.{ne_eqb, cond-false}
 use Rattle.sc_base.specs.declared.names.Ballot.{Ballot}
-use Rattle.sc_paxos_words.specs.Among.{Among}
+use Rattle.sc_paxos_words.specs.Among.{Among, Each}
+use Rattle.sc_paxos_words.specs.Acceptors.{born}
 use Rattle.sc_paxos_words.proofs.ListLemmas.{Each-among, Each-weaker}
 use Rattle.sc_paxos_law.specs.Steps.{Step, Prepared, Promised, Offered, Accepted, Cut, state_of}
 use Rattle.sc_paxos_law.specs.Chosen.{Rule, needed, members_of, IsChosen, IsChosenAfter, IsLog}
@@ -84,3 +85,32 @@ state_kept first me other (Promised n b from rs) h by ne = cond-false (eqb n oth
 state_kept first me other (Offered b s v) h by ne = refl
 state_kept first me other (Accepted n b s v) h by ne = cond-false (eqb n other) _ _ (ne_eqb n other (λ e. ne (sym by ∙ e)))
 state_kept first me other (Cut n upto) h by ne = cond-false (eqb n other) _ _ (ne_eqb n other (λ e. ne (sym by ∙ e)))
+
+-- ---- a node that has taken no step
+
+abbrev pub IsFresh : {V : Type 0} → ℕ → List (Step V) → Type 0
+IsFresh me h = Each (λ s. By me s → ⊥) h
+
+by_one : {V : Type 0} (one other : ℕ) (s : Step V) → By one s → By other s → one ≡ other
+by_one one other (Prepared b from) p q = sym p ∙ q
+by_one one other (Promised n b from rs) p q = sym p ∙ q
+by_one one other (Offered b s v) p q = sym p ∙ q
+by_one one other (Accepted n b s v) p q = sym p ∙ q
+by_one one other (Cut n upto) p q = sym p ∙ q
+
+-- steps of others keep it so
+pub fresh_on : {V : Type 0} (me other : ℕ) (newer h : List (Step V)) → Each (By other) newer → (other ≡ me → ⊥) → IsFresh me h → IsFresh me (newer ++ h)
+fresh_on me other [] h by ne k = k
+fresh_on me other (s ∷ newer) h by ne k = (λ mine. ne (by_one other me s by.0 mine), fresh_on me other newer h by.1 ne k)
+
+fresh_kept : {V : Type 0} (first : Ballot) (me : ℕ) (s : Step V) (h : List (Step V)) → (By me s → ⊥) → state_of first me (s ∷ h) ≡ state_of first me h
+fresh_kept first me (Prepared b from) h ne = refl
+fresh_kept first me (Promised n b from rs) h ne = cond-false (eqb n me) _ _ (ne_eqb n me ne)
+fresh_kept first me (Offered b s v) h ne = refl
+fresh_kept first me (Accepted n b s v) h ne = cond-false (eqb n me) _ _ (ne_eqb n me ne)
+fresh_kept first me (Cut n upto) h ne = cond-false (eqb n me) _ _ (ne_eqb n me ne)
+
+-- its acceptor would be as at birth
+pub fresh_state : {V : Type 0} (first : Ballot) (me : ℕ) (h : List (Step V)) → IsFresh me h → state_of first me h ≡ born first
+fresh_state first me [] k = refl
+fresh_state first me (s ∷ h) k = fresh_kept first me s h k.0 ∙ fresh_state first me h k.1

@@ -1,35 +1,41 @@
 -- What holds of each replica and of each mail after the steps so far, its parts named. A part of the table takes one place to the next, and keeps it.
-use Rattle.std.proofs.Common.{◌≡◌, ℕ, ◌+◌, ◌<◌, ◌≤◌, true, List, [], ◌∷◌, ◌++◌, length, map, Some, ◌⊎◌, inl, inr, refl, sym, ◌∙◌, ap, subst}
+use Rattle.std.proofs.Common.{◌≡◌, ℕ, ◌+◌, ◌-◌, ◌<◌, ◌≤◌, true, List, [], ◌∷◌, ◌++◌, length, map, drop, Some, ◌⊎◌, inl, inr, refl, sym, ◌∙◌, ap, subst, arith}
 use Rattle.std.specs.Prelude.{slice_get}
 use Rattle.std.specs.List.{flat_map}
+use Rattle.std.proofs.Math.Nat.{max-le}
+use Rattle.std.proofs.lemmas.List.{length_push, length-drop, drop-drop, drop-append-le}
 use Rattle.sc_base.specs.declared.names.Ballot.{Ballot}
 use Rattle.sc_base.specs.declared.names.Draw.{Draw}
 use Rattle.sc_cmd.specs.Same.{same_draw}
 use Rattle.sc_cmd.specs.declared.commands.Command.{Command}
-use Rattle.sc_cmd.specs.declared.commands.Command.TheVariants.{Call}
+use Rattle.sc_cmd.specs.declared.commands.Command.TheVariants.{Noop, Call, Join, Leave}
 use Rattle.sc_cmd.specs.declared.cores.Base.{Base}
 use Rattle.sc_mail.specs.declared.bodies.AnswerBody.{AnswerBody}
 use Rattle.sc_mail.specs.declared.bodies.AnswerBody.TheVariants as Says
 use Rattle.sc_mail.specs.declared.bodies.Mail.{Mail}
 use Rattle.sc_mail.specs.declared.bodies.MailBody.{MailBody}
-use Rattle.sc_mail.specs.declared.bodies.MailBody.TheVariants.{Request, Answer, Prepare, Promise, Accept, Accepted as AcceptedMail, Learn}
+use Rattle.sc_mail.specs.declared.bodies.MailBody.TheVariants.{Request, Answer, Prepare, Promise, Accept, Accepted as AcceptedMail, Learn, Install}
 use Rattle.sc_machine_table.specs.Group.{Group, group_of}
+use Rattle.sc_machine_table.specs.Machine.{applied}
 use Rattle.sc_paxos_words.specs.Among.{Among, Each}
 use Rattle.sc_paxos_words.specs.Leaders.{LeaderState}
+use Rattle.sc_paxos_words.specs.Logs.{LogState, next_of, log_cut}
 use Rattle.sc_paxos_words.specs.Votes.{voters_of}
 use Rattle.sc_paxos_words.specs.declared.flights.Flight.{Flight}
-use Rattle.sc_paxos_words.proofs.ListLemmas.{Each-weaker}
+use Rattle.sc_paxos_words.proofs.ListLemmas.{Each-weaker, Each-append}
 use Rattle.sc_paxos_law.specs.Steps.{Step, Prepared, Promised, Offered, Accepted, state_of}
 use Rattle.sc_paxos_law.specs.Chosen.{Rule, needed, members_of, IsLog}
 use Rattle.sc_paxos_law.specs.Lawful.{Vote, IsLawfulStep, IsLawful}
 use Rattle.sc_paxos_law.proofs.Among.{Among-right, Among-either}
 use Rattle.sc_paxos_law.proofs.Law.{later_log}
-use Rattle.sc_node_table.specs.Replica.{ReplicaState, Place, first_ballot, next}
+use Rattle.sc_node_table.specs.Replica.{ReplicaState, Place, first_ballot, next, floor_of, forgotten}
 use Rattle.sc_sound.specs.Laws.{HasEntry}
 use Rattle.sc_sound.specs.Logs.{Ahead, state_after, rule_of}
 use Rattle.sc_sound.specs.Histories.{done_by}
 use Rattle.sc_group_law.specs.Steps.{asked_by, asked_in}
+use Rattle.sc_hist_law.proofs.Logs.{state_push}
 use Rattle.sc_group_law.proofs.Growth.{IsLearnt, By, later_learnt, grown_log, grown_learnt, state_kept}
+use Rattle.sc_group_law.proofs.Held.{Mirrors, cut_mirrors, max_is}
 
 abbrev pub Steps : Type 0
 Steps = List (Step Command)
@@ -57,11 +63,62 @@ module _ (ahead : Ahead) (base : Base) where
   abbrev pub IsTaken : LeaderState Command → List (ℕ × Command) → ℕ → Type 0
   IsTaken leader ready slot = ((flight : Flight Command) × Among flight leader.flights × (flight.slot ≡ slot)) ⊎ ((command : Command) × Among (slot, command) ready)
 
+  -- what no client requests: nothing, a join and a leave
+  pub record Grants (made : Command → Type 0) : Type 0 where
+    pub noop : made Noop
+    pub joins : (node order : ℕ) → made (Join node order)
+    pub leaves : (node order : ℕ) → made (Leave node order)
+
+  -- ---- what is held of the log
+
+  -- of a whole log that was executed the entries after a base are held, and the group is the state after all of it
+  pub record HasLog (made : Command → Type 0) (h : Steps) (whole : List Command) (log : LogState Command) (group : Group) : Type 0 where
+    pub low : log.base ≤ length whole
+    pub entries_are : log.entries ≡ drop log.base whole
+    pub group_is : group ≡ state_after birth whole
+    pub is_log : IsLog rule h whole
+    pub all_made : Each made whole
+
+  pub next_is : (made : Command → Type 0) (h : Steps) (whole : List Command) (log : LogState Command) (group : Group) → HasLog made h whole log group → next_of log ≡ length whole + 1
+  next_is made h whole log group k =
+      let low = k.low in
+      let count = ap length k.entries_are ∙ length-drop log.base whole in
+      omega (arith, low, count)
+
+  pub later_has : (made : Command → Type 0) (s : Step Command) (h : Steps) (whole : List Command) (log : LogState Command) (group : Group) → HasLog made h whole log group → HasLog made (s ∷ h) whole log group
+  later_has made s h whole log group k = record { low = k.low; entries_are = k.entries_are; group_is = k.group_is; is_log = later_log rule s h whole k.is_log; all_made = k.all_made }
+
+  -- one entry more
+  pub pushed_has : (made : Command → Type 0) (h : Steps) (whole : List Command) (log : LogState Command) (group : Group) (c : Command) → HasLog made h whole log group → made c → IsLog rule h (whole ++ c ∷ [])
+      → HasLog made h (whole ++ c ∷ []) (record log { entries = log.entries ++ c ∷ [] }) (applied group c).0
+  pushed_has made h whole log group c k m is =
+      let low = k.low in
+      let longer = length_push whole c in
+      record {
+        low = omega (arith, low, longer);
+        entries_are = ap (λ es. es ++ c ∷ []) k.entries_are ∙ sym (drop-append-le log.base whole (c ∷ []) low);
+        group_is = ap (λ g. (applied g c).0) k.group_is ∙ sym (state_push birth whole c);
+        is_log = is;
+        all_made = Each-append made whole (c ∷ []) k.all_made (m, tt);
+      }
+
+  -- the entries up to a slot are forgotten
+  pub cut_has : (made : Command → Type 0) (h : Steps) (whole : List Command) (log : LogState Command) (group : Group) (upto : ℕ) → upto ≤ length whole → HasLog made h whole log group → HasLog made h whole (log_cut upto log) group
+  cut_has made h whole log group upto le k = record {
+    low = max-le k.low le;
+    entries_are = ap (drop (upto - log.base)) k.entries_are ∙ drop-drop (upto - log.base) log.base whole ∙ ap (λ n. drop n whole) (max_is log.base upto);
+    group_is = k.group_is;
+    is_log = k.is_log;
+    all_made = k.all_made;
+  }
+
+  -- ---- what a leader holds
+
   -- a promise that was made, and that covers the slots from the next one on
   abbrev pub IsVote : Steps → Ballot → ℕ → Vote Command → Type 0
   IsVote h ballot next_slot vote = Among (Promised vote.node ballot vote.from vote.reports) h × (vote.from ≤ next_slot)
 
-  pub record IsLeader (h : Steps) (me : ℕ) (r : ReplicaState) : Type 0 where
+  pub record IsLeader (h : Steps) (me : ℕ) (next_slot : ℕ) (r : ReplicaState) : Type 0 where
     -- its ballot is its node's own, and not above the greatest seen
     pub own : r.leader.ballot.node ≡ me
     pub low : r.leader.ballot.round ≤ r.top.round
@@ -70,9 +127,9 @@ module _ (ahead : Ahead) (base : Base) where
     pub votes : List (Vote Command)
     pub promisers : r.leader.promisers ≡ map (λ (vote : Vote Command). vote.node) votes
     pub reports : r.leader.reports ≡ flat_map (λ (vote : Vote Command). vote.reports) votes
-    pub made : Each (IsVote h r.leader.ballot (next r)) votes
+    pub made : Each (IsVote h r.leader.ballot next_slot) votes
     -- where its ballot has offered a command, the slot is executed or taken
-    pub offers : (slot : ℕ) (command : Command) → Among (Offered r.leader.ballot slot command) h → (slot < next r) ⊎ IsTaken r.leader r.ready slot
+    pub offers : (slot : ℕ) (command : Command) → Among (Offered r.leader.ballot slot command) h → (slot < next_slot) ⊎ IsTaken r.leader r.ready slot
 
   -- ---- what holds of a replica
 
@@ -83,23 +140,45 @@ module _ (ahead : Ahead) (base : Base) where
   pub record IsReplica (made : Command → Type 0) (h : Steps) (me : ℕ) (r : ReplicaState) : Type 0 where
     pub me_is : r.me ≡ me
     -- what it executed is a log, and its group is the state after it
-    pub base_is : r.log.base ≡ 0
-    pub group_is : r.group ≡ state_after birth r.log.entries
-    pub is_log : IsLog rule h r.log.entries
-    -- its acceptor is what its steps make of it
-    pub acceptor_is : r.acceptor ≡ state_of first me h
+    pub whole : List Command
+    pub log_is : HasLog made h whole r.log r.group
+    -- its acceptor is what its steps make of it, but for what it has forgotten
+    pub acceptor_is : Mirrors r.acceptor (state_of first me h)
     -- no offer of its node has a later round than the greatest ballot seen, and no prepare starts after the next slot
     pub tops : (b : Ballot) (slot : ℕ) (command : Command) → Among (Offered b slot command) h → b.node ≡ me → b.round ≤ r.top.round
-    pub prepares : (b : Ballot) (from : ℕ) → Among (Prepared b from) h → b.node ≡ me → from ≤ next r
+    pub prepares : (b : Ballot) (from : ℕ) → Among (Prepared b from) h → b.node ≡ me → from ≤ length whole + 1
     -- the open slots are as many as they should be, and have the members that the log gives
     pub count : length r.sets ≡ ahead.slots
-    pub sets : AreSets r.log.entries (next r) r.sets
+    pub sets : AreSets whole (length whole + 1) r.sets
     -- what waits was requested, what is in flight was offered, and what is ready is chosen
     pub calls : Each made r.calls
     pub acts : Each made r.acts
     pub flights : Each (IsFlying h r.leader.ballot) r.leader.flights
     pub ready : Each (λ e. IsLearnt rule h e.0 e.1) r.ready
-    pub leads : r.running ≡ true → IsLeader h me r
+    pub leads : r.running ≡ true → IsLeader h me (length whole + 1) r
+
+  pub next_after : (made : Command → Type 0) (h : Steps) (me : ℕ) (r : ReplicaState) (k : IsReplica made h me r) → next r ≡ length k.whole + 1
+  next_after made h me r k = next_is made h k.whole r.log r.group k.log_is
+
+  -- it forgets what is old
+  pub forgotten_replica : (made : Command → Type 0) (h : Steps) (me last : ℕ) (r : ReplicaState) (k : IsReplica made h me r) → floor_of last ≤ length k.whole → IsReplica made h me (forgotten last r)
+  unfolding forgotten
+  forgotten_replica made h me last r k low = record {
+    me_is = k.me_is;
+    whole = k.whole;
+    log_is = cut_has made h k.whole r.log r.group (floor_of last) low k.log_is;
+    acceptor_is = cut_mirrors (floor_of last) r.acceptor (state_of first me h) k.acceptor_is;
+    tops = k.tops;
+    prepares = k.prepares;
+    count = k.count;
+    sets = k.sets;
+    calls = k.calls;
+    acts = k.acts;
+    flights = k.flights;
+    ready = k.ready;
+    leads = λ runs. (let l = k.leads runs in
+        record { own = l.own; low = l.low; first_is = l.first_is; votes = l.votes; promisers = l.promisers; reports = l.reports; made = l.made; offers = l.offers });
+  }
 
   -- ---- what holds of mail
 
@@ -107,6 +186,15 @@ module _ (ahead : Ahead) (base : Base) where
   abbrev pub IsTrueAnswer : Steps → ℕ → ℕ → AnswerBody → Type 0
   IsTrueAnswer h to seq (Says.Value reply) = (log : List Command) × IsLog rule h log × ((client : ℕ) → to ≡ 32 + client → HasEntry (done_by birth log) client seq reply)
   IsTrueAnswer h to seq _ = Unit {0}
+
+  -- the group of a record is the state after a log up to a slot, and the sets are the members of the slots after it
+  pub record IsState (made : Command → Type 0) (h : Steps) (slot : ℕ) (record_of : Base) (sets : List (List ℕ)) : Type 0 where
+    pub log : List Command
+    pub is_log : IsLog rule h log
+    pub count : length log ≡ slot
+    pub group_is : group_of record_of ≡ state_after birth log
+    pub all_made : Each made log
+    pub sets_are : AreSets log (slot + 1) sets
 
   abbrev pub IsTrue : (Command → Type 0) → Steps → Mail → MailBody → Type 0
   IsTrue made h mail (Request group client seq op) = made (Call client seq op)
@@ -116,11 +204,16 @@ module _ (ahead : Ahead) (base : Base) where
   IsTrue made h mail (Accept group ballot slot command) = same_draw group name ≡ true → Among (Offered ballot slot command) h
   IsTrue made h mail (AcceptedMail group ballot slot) = same_draw group name ≡ true → (command : Command) × Among (Accepted mail.from ballot slot command) h
   IsTrue made h mail (Learn group slot command) = same_draw group name ≡ true → IsLearnt rule h slot command
+  IsTrue made h mail (Install group slot record_of sets) = (same_draw group name ≡ true) × IsState made h slot record_of sets
   IsTrue made h mail _ = Unit {0}
 
   grown_answer : (newer h : Steps) (to seq : ℕ) (answer : AnswerBody) → IsTrueAnswer h to seq answer → IsTrueAnswer (newer ++ h) to seq answer
   grown_answer newer h to seq (Says.Value reply) t = (t.0, grown_log rule newer h t.0 t.1, t.2)
   grown_answer newer h to seq _ t = tt
+
+  pub grown_state : (made more : Command → Type 0) → ((c : Command) → made c → more c) → (newer h : Steps) (slot : ℕ) (record_of : Base) (sets : List (List ℕ)) → IsState made h slot record_of sets → IsState more (newer ++ h) slot record_of sets
+  grown_state made more f newer h slot record_of sets t =
+      record { log = t.log; is_log = grown_log rule newer h t.log t.is_log; count = t.count; group_is = t.group_is; all_made = Each-weaker made more f t.log t.all_made; sets_are = t.sets_are }
 
   pub grown_true : (made more : Command → Type 0) → ((c : Command) → made c → more c) → (newer h : Steps) (mail : Mail) (body : MailBody) → IsTrue made h mail body → IsTrue more (newer ++ h) mail body
   grown_true made more f newer h mail (Request group client seq op) t = f (Call client seq op) t
@@ -130,6 +223,7 @@ module _ (ahead : Ahead) (base : Base) where
   grown_true made more f newer h mail (Accept group ballot slot command) t = λ e. Among-right _ newer h (t e)
   grown_true made more f newer h mail (AcceptedMail group ballot slot) t = λ e. (let k = t e in (k.0, Among-right _ newer h k.1))
   grown_true made more f newer h mail (Learn group slot command) t = λ e. grown_learnt rule newer h slot command (t e)
+  grown_true made more f newer h mail (Install group slot record_of sets) t = (t.0, grown_state made more f newer h slot record_of sets t.1)
   grown_true made more f newer h mail _ t = tt
 
   -- ---- more steps
@@ -139,17 +233,16 @@ module _ (ahead : Ahead) (base : Base) where
     later_flying s h b flight f = (inr f.0, Each-weaker _ _ (λ n a. inr a) (voters_of flight.voters) f.1)
 
     -- a step that leaves its acceptor as it is
-    pub more_steps : (s : Step Command) (h : Steps) (r : ReplicaState) → IsReplica made h me r → state_of first me (s ∷ h) ≡ state_of first me h
+    pub more_steps : (s : Step Command) (h : Steps) (r : ReplicaState) (k : IsReplica made h me r) → state_of first me (s ∷ h) ≡ state_of first me h
         → ((b : Ballot) (slot : ℕ) (c : Command) → s ≡ Offered b slot c → b.node ≡ me → b.round ≤ r.top.round)
-        → ((b : Ballot) (from : ℕ) → s ≡ Prepared b from → b.node ≡ me → from ≤ next r)
-        → (r.running ≡ true → (slot : ℕ) (c : Command) → s ≡ Offered r.leader.ballot slot c → (slot < next r) ⊎ IsTaken r.leader r.ready slot)
+        → ((b : Ballot) (from : ℕ) → s ≡ Prepared b from → b.node ≡ me → from ≤ length k.whole + 1)
+        → (r.running ≡ true → (slot : ℕ) (c : Command) → s ≡ Offered r.leader.ballot slot c → (slot < length k.whole + 1) ⊎ IsTaken r.leader r.ready slot)
         → IsReplica made (s ∷ h) me r
     more_steps s h r k same tops prepares offers = record {
       me_is = k.me_is;
-      base_is = k.base_is;
-      group_is = k.group_is;
-      is_log = later_log rule s h r.log.entries k.is_log;
-      acceptor_is = k.acceptor_is ∙ sym same;
+      whole = k.whole;
+      log_is = later_has made s h k.whole r.log r.group k.log_is;
+      acceptor_is = subst (Mirrors r.acceptor) (sym same) k.acceptor_is;
       tops = λ b slot c a own. elim a [ inl e ↦ tops b slot c e own | inr o ↦ k.tops b slot c o own ];
       prepares = λ b from a own. elim a [ inl e ↦ prepares b from e own | inr o ↦ k.prepares b from o own ];
       count = k.count;
@@ -188,9 +281,8 @@ module _ (ahead : Ahead) (base : Base) where
   pub more_made : (made more : Command → Type 0) → ((c : Command) → made c → more c) → (h : Steps) (me : ℕ) (r : ReplicaState) → IsReplica made h me r → IsReplica more h me r
   more_made made more f h me r k = record {
     me_is = k.me_is;
-    base_is = k.base_is;
-    group_is = k.group_is;
-    is_log = k.is_log;
+    whole = k.whole;
+    log_is = record { low = k.log_is.low; entries_are = k.log_is.entries_are; group_is = k.log_is.group_is; is_log = k.log_is.is_log; all_made = Each-weaker made more f k.whole k.log_is.all_made };
     acceptor_is = k.acceptor_is;
     tops = k.tops;
     prepares = k.prepares;

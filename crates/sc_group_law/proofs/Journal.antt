@@ -19,7 +19,7 @@ use Rattle.sc_actor.specs.System.{has_gone}
 use Rattle.sc_actor.proofs.ReplayLemmas.{mails-snoc}
 use Rattle.sc_client_table.specs.Client.{Client}
 use Rattle.sc_node_table.specs.Node.{NodeState}
-use Rattle.sc_paxos_words.specs.Among.{Among}
+use Rattle.sc_paxos_words.specs.Among.{Among, Each}
 use Rattle.sc_paxos_words.proofs.ListLemmas.{Each-among}
 use Rattle.sc_paxos_law.specs.Steps.{Offered}
 use Rattle.sc_paxos_law.specs.Chosen.{members_of, IsChosenAfter}
@@ -32,11 +32,11 @@ use Rattle.sc_paxos_law.proofs.Decided.{log_of-longest, front_of_log, log_grows}
 use Rattle.sc_scenario.specs.declared.scenarios.Asks.{Asks}
 use Rattle.sc_scenario.specs.declared.scenarios.Scenario.{Scenario}
 use Rattle.sc_world.specs.World.{route_of, client_actor}
-use Rattle.sc_hist_law.specs.Laws.{IsDone, LogTells}
+use Rattle.sc_hist_law.specs.Laws.{IsDone, LeavesWhole, LogTells}
 use Rattle.sc_sound.specs.Logs.{Ahead, state_after, decided_log}
 use Rattle.sc_sound.specs.Histories.{done_by, history, decided_row}
 use Rattle.sc_sound.specs.Requests.{issues, issue_row}
-use Rattle.sc_group_law.proofs.Lists.{get_left}
+use Rattle.sc_group_law.proofs.Lists.{get_left, each_got}
 use Rattle.sc_group_law.specs.Steps.{steps}
 use Rattle.sc_group_law.specs.Players.{node_seat}
 use Rattle.sc_world.specs.World.{party_table, client_seat}
@@ -44,10 +44,10 @@ use Rattle.sc_world.specs.declared.party.Party.TheVariants.{Node as ANode, Clien
 use Rattle.sc_group_law.specs.Told.{IsDoneAt}
 use Rattle.sc_sound.specs.Requests.{kept_replies, answer_row}
 use Rattle.sc_group_law.proofs.Invariant.{Steps, rule, first, birth, IsTrue, grown_true, more_made}
-use Rattle.sc_group_law.proofs.Nodes.{IsNode}
+use Rattle.sc_group_law.proofs.Nodes.{Holds, IsNode}
 use Rattle.sc_group_law.proofs.Projected.{log_only, only_steps}
 use Rattle.sc_group_law.proofs.Places.{Journal, or_now, issue-push, decided-push, answered-push, split_at, done_append, done_later, history_on}
-use Rattle.sc_group_law.proofs.Clients.{Made, made_later, IsAnswered, IsClient, Grew}
+use Rattle.sc_group_law.proofs.Clients.{Made, made_later, made_whole, IsAnswered, IsClient, Grew}
 
 get_front : (log more : List Command) (k : ℕ) (c : Command) → k < length log → slice_get (log ++ more) k ≡ Some c → slice_get log k ≡ Some c
 get_front log more k c lt e =
@@ -136,8 +136,11 @@ module _ (ahead : Ahead) (scenario : Scenario) (base : Base) where
     pub clients : (asks : Asks) → Among asks scenario.clients → ClientMoved newer rows row asks
 
   node_made : (made more : Command → Type 0) → ((c : Command) → made c → more c) → (h : Steps) (me : ℕ) (node : NodeState) → IsNode ahead base made h me node → IsNode ahead base more h me node
-  node_made made more f h me node (inl none) = inl none
-  node_made made more f h me node (inr (r, is, k)) = inr (r, is, more_made ahead base made more f h me r k)
+  node_made made more f h me node at = record { me_is = at.me_is; ahead_is = at.ahead_is; holds = later at.holds }
+    where
+      later : Holds ahead base made h me node.replicas → Holds ahead base more h me node.replicas
+      later (inl none) = inl none
+      later (inr (r, is, k)) = inr (r, is, more_made ahead base made more f h me r k)
 
   -- what is chosen was offered
   pub chosen_offered : (h : Steps) → IsLawful (rule ahead base) (first ahead base) h → (log : List Command) (slot : ℕ) (c : Command) → IsChosenAfter (rule ahead base) h log slot c → (b : Ballot) × Among (Offered b slot c) h
@@ -146,7 +149,15 @@ module _ (ahead : Ahead) (scenario : Scenario) (base : Base) where
       let voter = shared_member (members_of (rule ahead base) log slot) k.voters k.voters k.majority k.majority in
       (k.ballot, was_offered (rule ahead base) (first ahead base) h voter.0 k.ballot slot c l (Each-among _ k.voters voter.0 k.each voter.1))
 
-  module _ (law : (log : List Command) → LogTells (birth ahead base) log) (rows : Journal) (row : Row Mail OrderLine) (k : Kept rows) (m : Moved rows row) where
+  -- nothing that is decided divides the group
+  pub entries_whole : (rows : Journal) → Kept rows → Each LeavesWhole (log_in rows)
+  entries_whole rows k = each_got LeavesWhole (log_in rows) (λ place c at. (
+      let is_log = (log_of-longest (rule ahead base) (first ahead base) (h_of rows) k.lawful).0 in
+      let chosen = is_log place c (subst (λ l. slice_get l place ≡ Some c) (decided_is rows) at) in
+      let offer = chosen_offered (h_of rows) k.lawful _ (place + 1) c chosen in
+      made_whole scenario rows c (k.requested offer.0 (place + 1) c offer.1)))
+
+  module _ (law : (log : List Command) → Each LeavesWhole log → LogTells (birth ahead base) log) (rows : Journal) (row : Row Mail OrderLine) (k : Kept rows) (m : Moved rows row) where
     abbrev next : Journal
     next = rows ++ row ∷ []
 
@@ -257,7 +268,7 @@ module _ (ahead : Ahead) (scenario : Scenario) (base : Base) where
           let has = a.2 in
           let there : Among has.entry (done_by (birth ahead base) (log_in rows)) = subst (Among has.entry) (sym (ap (done_by (birth ahead base)) on ∙ done_append (birth ahead base) a.0 (drop (length a.0) whole)))
           (Among-left has.entry (done_by (birth ahead base) a.0) (done_by (state_after (birth ahead base) a.0) (drop (length a.0) whole)) has.stands) in
-          let found = (law (log_in rows)).places has.entry there in (
+          let found = (law (log_in rows) (entries_whole rows k)).places has.entry there in (
             found.0,
             subst (λ c. IsDone (birth ahead base) (log_in rows) found.0 c seq) has.client_is
                 (subst (λ n. IsDone (birth ahead base) (log_in rows) found.0 has.entry.client n) has.seq_is found.1),

@@ -1,12 +1,15 @@
 pub mod Lists
 pub mod Parts
 pub mod Growth
+pub mod Rosters
+pub mod Held
 pub mod Invariant
 pub mod Sending
 pub mod Offering
 pub mod Executing
 pub mod Counting
 pub mod Rows
+pub mod Installs
 pub mod Voting
 pub mod Nodes
 pub mod Projected

@@ -1,11 +1,12 @@
 -- Lists with more behind them, and the history of a journal with one more row.
-use Rattle.std.proofs.Common.{◌≡◌, ℕ, zero, suc, Bool, true, false, ◌||◌, List, [], ◌∷◌, ◌++◌, length, map, Some, ◌⊎◌, inl, inr, refl, sym, ◌∙◌, ap, append-nil, append_assoc}
+use Rattle.std.proofs.Common.{◌≡◌, ℕ, zero, suc, Bool, true, false, ◌||◌, List, [], ◌∷◌, ◌++◌, length, take, map, Some, ◌⊎◌, inl, inr, refl, sym, ◌∙◌, ap, append-nil, append_assoc}
 use Rattle.std.specs.Prelude.{slice_get}
 use Rattle.std.specs.List.{flat_map, list_any}
 use Rattle.sc_cmd.specs.declared.cores.Base.{Base}
 use Rattle.sc_cmd.specs.declared.orders.OrderLine.{OrderLine}
 use Rattle.sc_mail.specs.declared.bodies.Mail.{Mail}
 use Rattle.sc_actor.specs.declared.rows.Row.{Row}
+use Rattle.sc_paxos_words.specs.Among.{Each}
 use Rattle.sc_sound.specs.Logs.{Ahead}
 use Rattle.sc_sound.specs.Histories.{gained, history, history_from}
 
@@ -13,6 +14,15 @@ pub get_left : {X : Type 0} (xs ys : List X) (k : ℕ) (x : X) → slice_get xs 
 get_left [] ys k x e = cc
 get_left (y ∷ xs) ys zero x e = e
 get_left (y ∷ xs) ys (suc k) x e = get_left xs ys k x e
+
+pub Each-take : {X : Type 0} (P : X → Type 0) (n : ℕ) (xs : List X) → Each P xs → Each P (take n xs)
+Each-take P zero xs e = tt
+Each-take P (suc n) [] e = tt
+Each-take P (suc n) (x ∷ xs) e = (e.0, Each-take P n xs e.1)
+
+pub each_got : {X : Type 0} (P : X → Type 0) (xs : List X) → ((k : ℕ) (x : X) → slice_get xs k ≡ Some x → P x) → Each P xs
+each_got P [] f = tt
+each_got P (x ∷ xs) f = (f 0 x refl, each_got P xs (λ k y e. f (suc k) y e))
 
 pub get_last : {X : Type 0} (xs : List X) (y : X) → slice_get (xs ++ y ∷ []) (length xs) ≡ Some y
 get_last [] y = refl

@@ -1,32 +1,36 @@
 -- What holds of a node, and what comes of its inputs.
-use Rattle.std.proofs.Common.{◌≡◌, ℕ, ◌&&◌, true, eqb, List, [], ◌∷◌, ◌++◌, Option, Some, None, ◌⊎◌, inl, inr, refl, sym, ◌∙◌, ap, subst, append-nil}
+use Rattle.std.proofs.Common.{◌≡◌, ℕ, ◌&&◌, ◌||◌, not, nat_lt, true, false, eqb, List, [], ◌∷◌, ◌++◌, length, Option, Some, None, ◌⊎◌, inl, inr, refl, sym, ◌∙◌, ap, subst, append-nil}
 use Rattle.std.specs.List.{list_any}
-use Rattle.std.proofs.lemmas.Bool.{eqb-true, and_parts, and_right, cond-true, cond-false, cond_both}
+use Rattle.std.proofs.lemmas.Bool.{eqb-true, and_parts, and_right, or_parts, not-false, cond-true, cond-false, cond_both}
 use Rattle.sc_base.specs.declared.names.Ballot.{Ballot}
 use Rattle.sc_base.specs.declared.names.Draw.{Draw}
 use Rattle.sc_cmd.specs.Same.{same_draw}
 use Rattle.sc_cmd.specs.declared.commands.Command.{Command}
-use Rattle.sc_cmd.specs.declared.commands.Command.TheVariants.{Noop}
 use Rattle.sc_cmd.specs.declared.cores.Base.{Base}
 use Rattle.sc_cmd.specs.declared.orders.OrderLine.{OrderLine}
 use Rattle.sc_mail.specs.declared.bodies.Mail.{Mail}
 use Rattle.sc_mail.specs.declared.bodies.MailBody.{MailBody}
-use Rattle.sc_mail.specs.declared.bodies.MailBody.TheVariants.{Request, Prepare, Promise, Accept, Accepted as AcceptedMail, Nack, Learn, Ask}
+use Rattle.sc_mail.specs.declared.bodies.MailBody.TheVariants.{Request, Prepare, Promise, Accept, Accepted as AcceptedMail, Nack, Learn, Ask, Install}
+use Rattle.sc_cmd.specs.declared.orders.ToldResult.{ToldResult}
+use Rattle.sc_cmd.specs.declared.orders.ToldResult.TheVariants.{Refused}
+use Rattle.sc_cmd.specs.declared.orders.OrderRefusal.TheVariants.{NotLeader}
 use Rattle.sc_actor.specs.declared.rows.Row.{Row}
 use Rattle.sc_actor.specs.declared.rows.Event.{Event}
 use Rattle.sc_paxos_words.specs.Among.{Among, Each}
 use Rattle.sc_paxos_law.specs.Steps.{Offered, Accepted}
 use Rattle.sc_paxos_law.specs.Lawful.{IsLawful}
-use Rattle.sc_node_table.specs.Node.{NodeState, replica_of, with_replica, group_in, absent, may_come, taken_by, routed, on_mail, ticked, on_tick}
-use Rattle.sc_node_table.specs.Replica.{ReplicaState, Place, name_of}
+use Rattle.sc_node_table.specs.Node.{NodeState, replica_of, with_replica, with_new, group_in, absent, with_made, unknown, may_come, taken_by, routed, on_mail, group_of_order, ordered_of, on_order, ticked, on_tick}
+use Rattle.sc_node_table.specs.Mails.{told_desk}
+use Rattle.sc_node_table.specs.Replica.{ReplicaState, Place, name_of, last_slot}
 use Rattle.sc_node_table.specs.Voting.{prepare_row}
-use Rattle.sc_node_table.specs.Rows.{mailed, tick_row}
+use Rattle.sc_node_table.specs.Rows.{made_by, mailed, tick_row, order_row}
 use Rattle.sc_hist_law.specs.Laws.{LogTells}
 use Rattle.sc_sound.specs.Accepts.{accepts_of, is_accepted}
 use Rattle.sc_sound.specs.Logs.{Ahead}
 use Rattle.sc_group_law.specs.Steps.{asked_by, asked_in, promises_of}
-use Rattle.sc_group_law.proofs.Growth.{By}
-use Rattle.sc_group_law.proofs.Invariant.{Steps, rule, first, birth, IsReplica, IsTrue, Fine}
+use Rattle.sc_group_law.proofs.Growth.{By, IsFresh}
+use Rattle.sc_group_law.proofs.Invariant.{Steps, rule, first, birth, Grants, IsReplica, IsState, IsTrue, Fine}
+use Rattle.sc_group_law.proofs.Installs.{fine_install_row, made_place, fine_order_row}
 use Rattle.sc_group_law.proofs.Sending.{same_name, name_is}
 use Rattle.sc_group_law.proofs.Counting.{fine_promise_row, fine_accepted_row}
 use Rattle.sc_group_law.proofs.Rows.{fine_nack_row, fine_learn_row, fine_ask_row, fine_request_row, fine_tick_row}
@@ -95,8 +99,14 @@ module _ (ahead : Ahead) (base : Base) (made : Command → Type 0) where
 
   -- ---- a node has a replica of the group, or none
 
-  abbrev pub IsNode : Steps → ℕ → NodeState → Type 0
-  IsNode h me node = (node.replicas ≡ []) ⊎ ((r : ReplicaState) × (node.replicas ≡ r ∷ []) × IsReplica ahead base made h me r)
+  -- one without has taken no step
+  abbrev pub Holds : Steps → ℕ → List ReplicaState → Type 0
+  Holds h me replicas = ((replicas ≡ []) × IsFresh me h) ⊎ ((r : ReplicaState) × (replicas ≡ r ∷ []) × IsReplica ahead base made h me r)
+
+  pub record IsNode (h : Steps) (me : ℕ) (node : NodeState) : Type 0 where
+    pub me_is : node.me ≡ me
+    pub ahead_is : node.ahead ≡ ahead.slots
+    pub holds : Holds h me node.replicas
 
   -- the end of a node's row
   pub record NodeEnded (me : ℕ) (before after : Steps) (step : NodeState × List Mail) : Type 0 where
@@ -108,9 +118,9 @@ module _ (ahead : Ahead) (base : Base) (made : Command → Type 0) where
     pub node : IsNode (newer ++ before) me step.0
     pub mails : (mail : Mail) → Among mail step.1 → IsTrue ahead base made (newer ++ before) mail mail.body
 
-  module _ (noop : made Noop) (me : ℕ) (before : Steps)
-      (some : (log : List Command) → (node : ℕ) × (rest : List ℕ) × ((rule ahead base).members log ≡ node ∷ rest))
-      (law : (log : List Command) → LogTells (birth ahead base) log)
+  module _ (grants : Grants ahead base made) (me : ℕ) (before : Steps)
+      (some : (log : List Command) → Each made log → (node : ℕ) × (rest : List ℕ) × ((rule ahead base).members log ≡ node ∷ rest))
+      (law : (log : List Command) → Each made log → LogTells (birth ahead base) log)
       (lawful : IsLawful (rule ahead base) (first ahead base) before)
       (requested : (b : Ballot) (slot : ℕ) (c : Command) → Among (Offered b slot c) before → made c) where
     abbrev group : Draw
@@ -131,35 +141,36 @@ module _ (ahead : Ahead) (base : Base) (made : Command → Type 0) where
     RowEnded event body place = Ended ahead base made me before (steps_of group me event body place.1 before) place
 
     by_fine : (event : Event OrderLine) (body : MailBody) (place : Place) → Fine ahead base made me before place → steps_of group me event body place.1 before ≡ asked_in group place.1 before → RowEnded event body place
-    by_fine event body place f e = ended_by ahead base made noop me before some law place _ f e
+    by_fine event body place f e = ended_by ahead base made grants me before some law place _ f e
 
     mailed_ended : (event : Event OrderLine) (mail : Mail) (body : MailBody) (r : ReplicaState) → IsReplica ahead base made before me r → (g : Draw) → group_in body ≡ Some g → g ≡ group
         → IsTrue ahead base made before mail body → RowEnded event body (mailed mail.from body (r, []))
     unfolding mailed start
     mailed_ended event mail (Request g client seq op) r k named into is t =
-        by_fine event (Request g client seq op) _ (fine_request_row ahead base made noop me before some law client seq op r [] (start r k) t) refl
+        by_fine event (Request g client seq op) _ (fine_request_row ahead base made grants me before some law client seq op r [] (start r k) t) refl
     mailed_ended event mail (Prepare g b start_slot) r k named into is t =
         let same : g ≡ group = (let one : g ≡ named = cc in one ∙ is) in
         let place = prepare_row mail.from b start_slot (r, []) in
         subst (λ (x : Steps). Ended ahead base made me before (x ++ asked_in group place.1 before) place) (sym (append-nil (promised_in group me b start_slot place.1)))
-        (prepare_ended ahead base made noop me before some law mail.from b start_slot r (start r k) (t (same_name g group same)))
+        (prepare_ended ahead base made grants me before some law mail.from b start_slot r (start r k) (t (same_name g group same)))
     mailed_ended event mail (Promise g b reports) r k named into is t =
         let same : g ≡ group = (let one : g ≡ named = cc in one ∙ is) in
         let told = t (same_name g group same) in
-        by_fine event (Promise g b reports) _ (fine_promise_row ahead base made noop me before some law mail.from b reports told.0 r [] (start r k) told.1 told.2) refl
+        by_fine event (Promise g b reports) _ (fine_promise_row ahead base made grants me before some law mail.from b reports told.0 r [] (start r k) told.1 told.2) refl
     mailed_ended event mail (Accept g b slot c) r k named into is t =
         let same : g ≡ group = (let one : g ≡ named = cc in one ∙ is) in
         subst (λ d. RowEnded event (Accept d b slot c) (mailed mail.from (Accept g b slot c) (r, []))) (sym same)
-        (accept_ended ahead base made noop me before some law mail.from b slot c r (start r k) (t (same_name g group same)))
+        (accept_ended ahead base made grants me before some law mail.from b slot c r (start r k) (t (same_name g group same)))
     mailed_ended event mail (AcceptedMail g b slot) r k named into is t =
         let same : g ≡ group = (let one : g ≡ named = cc in one ∙ is) in
         let told = t (same_name g group same) in
-        by_fine event (AcceptedMail g b slot) _ (fine_accepted_row ahead base made noop me before some law mail.from b slot told.0 r [] (start r k) told.1) refl
-    mailed_ended event mail (Nack g promised) r k named into is t = by_fine event (Nack g promised) _ (fine_nack_row ahead base made noop me before some law promised r [] (start r k)) refl
+        by_fine event (AcceptedMail g b slot) _ (fine_accepted_row ahead base made grants me before some law mail.from b slot told.0 r [] (start r k) told.1) refl
+    mailed_ended event mail (Nack g promised) r k named into is t = by_fine event (Nack g promised) _ (fine_nack_row ahead base made grants me before some law promised r [] (start r k)) refl
     mailed_ended event mail (Learn g slot c) r k named into is t =
         let same : g ≡ group = (let one : g ≡ named = cc in one ∙ is) in
-        by_fine event (Learn g slot c) _ (fine_learn_row ahead base made noop me before some law mail.from slot c r [] (start r k) (t (same_name g group same))) refl
-    mailed_ended event mail (Ask g start_slot) r k named into is t = by_fine event (Ask g start_slot) _ (fine_ask_row ahead base made noop me before some law mail.from start_slot r [] (start r k)) refl
+        by_fine event (Learn g slot c) _ (fine_learn_row ahead base made grants me before some law mail.from slot c r [] (start r k) (t (same_name g group same))) refl
+    mailed_ended event mail (Ask g start_slot) r k named into is t = by_fine event (Ask g start_slot) _ (fine_ask_row ahead base made grants me before some law mail.from start_slot r [] (start r k)) refl
+    mailed_ended event mail (Install g slot state sets) r k named into is t = by_fine event (Install g slot state sets) _ (fine_install_row ahead base made grants me before some law mail.from slot state sets r [] (start r k) t.1) refl
     mailed_ended event mail _ r k named into is t = cc
 
     -- ---- and at the node
@@ -167,15 +178,15 @@ module _ (ahead : Ahead) (base : Base) (made : Command → Type 0) where
     with_it : (g : Draw) (new r : ReplicaState) → same_draw (name_of r) g ≡ true → with_replica g new (r ∷ []) ≡ new ∷ []
     with_it g new r t = cond-true (same_draw (name_of r) g) (new ∷ []) (r ∷ []) t
 
-    of_ended : (event : Event OrderLine) (body : MailBody) (g : Draw) (r : ReplicaState) (node : NodeState) (place : Place) → node.replicas ≡ r ∷ [] → same_draw (name_of r) g ≡ true → RowEnded event body place
+    of_ended : (event : Event OrderLine) (body : MailBody) (g : Draw) (r : ReplicaState) (node : NodeState) (place : Place) → IsNode before me node → node.replicas ≡ r ∷ [] → same_draw (name_of r) g ≡ true → RowEnded event body place
         → NodeEnded me before (steps_of group me event body place.1 before) (record node { replicas = with_replica g place.0 node.replicas }, place.1)
-    of_ended event body g r node place is t e = record {
+    of_ended event body g r node place k is t e = record {
       newer = e.newer;
       are = e.are;
       by = e.by;
       lawful = e.lawful;
       requested = e.requested;
-      node = inr (place.0, ap (with_replica g place.0) is ∙ with_it g place.0 r t, e.replica);
+      node = record { me_is = k.me_is; ahead_is = k.ahead_is; holds = inr (place.0, ap (with_replica g place.0) is ∙ with_it g place.0 r t, e.replica) };
       mails = e.mails;
     }
 
@@ -185,16 +196,52 @@ module _ (ahead : Ahead) (base : Base) (made : Command → Type 0) where
     abbrev Goal : Event OrderLine → MailBody → NodeState × List Mail → Type 0
     Goal event body step = NodeEnded me before (steps_of group me event body step.1 before) step
 
+    -- a node without a replica of the group makes one of the state that it is sent
+    made_ended : (event : Event OrderLine) (mail : Mail) (g : Draw) (slot : ℕ) (state : Base) (sets : List (List ℕ)) (node : NodeState) → IsNode before me node → node.replicas ≡ [] → IsFresh me before → length sets ≡ node.ahead
+        → IsState ahead base made before slot state sets → Goal event (Install g slot state sets) (with_made (made_by node.me mail.from slot state sets) node)
+    made_ended event mail g slot state sets node k none fresh many t =
+        let f = made_place ahead base made grants me before some law node.me mail.from slot state sets k.me_is fresh lawful requested (many ∙ k.ahead_is) t in
+        let place = made_by node.me mail.from slot state sets in
+        record {
+          newer = f.newer;
+          are = f.are;
+          by = f.by;
+          lawful = f.lawful;
+          requested = f.requested;
+          node = record { me_is = k.me_is; ahead_is = k.ahead_is; holds = inr (place.0, ap (with_new place.0) none, f.replica) };
+          mails = f.mails;
+        }
+
+    unknown_ended : (event : Event OrderLine) (mail : Mail) (body : MailBody) (node : NodeState) → IsNode before me node → node.replicas ≡ [] → IsFresh me before → IsTrue ahead base made before mail body
+        → Goal event body (unknown mail.from body node)
+    unknown_ended event mail (Install g slot state sets) node k none fresh t =
+        cond_both (not (eqb (length sets) node.ahead) || nat_lt last_slot slot) _ _ (Goal event (Install g slot state sets))
+        (λ _. unchanged event (Install g slot state sets) node [] k tt (λ m a. absurd a))
+        (λ e. (
+        let parts = or_parts (not (eqb (length sets) node.ahead)) (nat_lt last_slot slot) e in
+        made_ended event mail g slot state sets node k none fresh (eqb-true (length sets) node.ahead (not-false (eqb (length sets) node.ahead) parts.0)) t.1))
+    unknown_ended event mail body node k none fresh t = absent_ended event mail body node k
+
+    -- no state of another group is sent
+    other_ended : (event : Event OrderLine) (mail : Mail) (body : MailBody) (g : Draw) → (g ≡ group → ⊥) → group_in body ≡ Some g → (node : NodeState) → IsNode before me node → IsTrue ahead base made before mail body
+        → Goal event body (unknown mail.from body node)
+    other_ended event mail (Install named slot state sets) g other into node k t =
+        absurd (other (let same : named ≡ g = cc in sym same ∙ draw_is named group t.0))
+    other_ended event mail body g other into node k t = absent_ended event mail body node k
+
     taken_ended : (event : Event OrderLine) (mail : Mail) (body : MailBody) (g : Draw) → group_in body ≡ Some g → (node : NodeState) → IsNode before me node → IsTrue ahead base made before mail body
         → Goal event body (taken_by (replica_of g node.replicas) g mail.from body node)
-    taken_ended event mail body g into node (inl none) t =
-        subst (λ rs. Goal event body (taken_by (replica_of g rs) g mail.from body node)) (sym none) (absent_ended event mail body node (inl none))
-    taken_ended event mail body g into node (inr (r, is, k)) t =
-        subst (λ rs. Goal event body (taken_by (replica_of g rs) g mail.from body node)) (sym is)
-        (cond_both (same_draw (name_of r) g) (Some r) None (λ o. Goal event body (taken_by o g mail.from body node))
-        (λ e. of_ended event body g r node (mailed mail.from body (r, [])) is e
-        (mailed_ended event mail body r k g into (sym (draw_is (name_of r) g e) ∙ name_is ahead base made me before before r k) t))
-        (λ _. absent_ended event mail body node (inr (r, is, k))))
+    taken_ended event mail body g into node at t = by at.holds
+      where
+        by : Holds before me node.replicas → Goal event body (taken_by (replica_of g node.replicas) g mail.from body node)
+        by (inl (none, fresh)) =
+            subst (λ rs. Goal event body (taken_by (replica_of g rs) g mail.from body node)) (sym none) (unknown_ended event mail body node at none fresh t)
+        by (inr (r, is, k)) =
+            let named = name_is ahead base made me before before r k in
+            subst (λ rs. Goal event body (taken_by (replica_of g rs) g mail.from body node)) (sym is)
+            (cond_both (same_draw (name_of r) g) (Some r) None (λ o. Goal event body (taken_by o g mail.from body node))
+            (λ e. of_ended event body g r node (mailed mail.from body (r, [])) at is e (mailed_ended event mail body r k g into (sym (draw_is (name_of r) g e) ∙ named) t))
+            (λ e. other_ended event mail body g (λ same. (let no_way : true ≡ false = sym (same_name (name_of r) g (named ∙ sym same)) ∙ e in absurd (cc))) into node at t))
 
     routed_ended : (event : Event OrderLine) (mail : Mail) (body : MailBody) (o : Option Draw) → group_in body ≡ o → (node : NodeState) → IsNode before me node → IsTrue ahead base made before mail body
         → Goal event body (routed o mail.from body node)
@@ -210,16 +257,53 @@ module _ (ahead : Ahead) (base : Base) (made : Command → Type 0) where
     abbrev Ticked : NodeState × List Mail → Type 0
     Ticked step = NodeEnded me before (asked_in group step.1 before) step
 
-    tick_all : (node : NodeState) (rs : List ReplicaState) → ((rs ≡ []) ⊎ ((r : ReplicaState) × (rs ≡ r ∷ []) × IsReplica ahead base made before me r))
-        → Ticked (record node { replicas = (ticked rs []).0 }, (ticked rs []).1)
+    tick_all : (node : NodeState) → IsNode before me node → (rs : List ReplicaState) → Holds before me rs → Ticked (record node { replicas = (ticked rs []).0 }, (ticked rs []).1)
     unfolding ticked
-    tick_all node rs (inl none) =
+    tick_all node at rs (inl (none, fresh)) =
         subst (λ xs. Ticked (record node { replicas = (ticked xs []).0 }, (ticked xs []).1)) (sym none)
-        (record { newer = []; are = refl; by = tt; lawful = lawful; requested = requested; node = inl refl; mails = λ m a. absurd a })
-    tick_all node rs (inr (r, is, k)) =
+        (record { newer = []; are = refl; by = tt; lawful = lawful; requested = requested; node = record { me_is = at.me_is; ahead_is = at.ahead_is; holds = inl (refl, fresh) }; mails = λ m a. absurd a })
+    tick_all node at rs (inr (r, is, k)) =
         subst (λ xs. Ticked (record node { replicas = (ticked xs []).0 }, (ticked xs []).1)) (sym is)
-        (let f = fine_tick_row ahead base made noop me before some law r [] (start r k) in
-        record { newer = f.newer; are = f.are; by = f.by; lawful = f.lawful; requested = f.requested; node = inr ((tick_row (r, [])).0, refl, f.replica); mails = f.mails })
+        (let f = fine_tick_row ahead base made grants me before some law r [] (start r k) in
+        record { newer = f.newer; are = f.are; by = f.by; lawful = f.lawful; requested = f.requested; node = record { me_is = at.me_is; ahead_is = at.ahead_is; holds = inr ((tick_row (r, [])).0, refl, f.replica) }; mails = f.mails })
 
     pub tick_ended : (node : NodeState) → IsNode before me node → Ticked (on_tick node)
-    tick_ended node k = tick_all node node.replicas k
+    tick_ended node k = tick_all node k node.replicas k.holds
+
+    -- an order is told
+    desk_ended : (number : ℕ) (result : ToldResult) (node : NodeState) → IsNode before me node → Ticked (node, told_desk node.me number result [])
+    desk_ended number result node k = record {
+      newer = [];
+      are = refl;
+      by = tt;
+      lawful = lawful;
+      requested = requested;
+      node = k;
+      mails = λ m a. elim a [ inl e ↦ subst (λ (x : Mail). IsTrue ahead base made before x x.body) e tt | inr n ↦ absurd n ];
+    }
+
+    pub order_ended : (line : OrderLine) (node : NodeState) → IsNode before me node → Ticked (on_order line node)
+    order_ended line node at = by at.holds
+      where
+        g : Draw
+        g = group_of_order line.order
+
+        by : Holds before me node.replicas → Ticked (ordered_of (replica_of (group_of_order line.order) node.replicas) line node)
+        by (inl (none, fresh)) =
+            subst (λ rs. Ticked (ordered_of (replica_of (group_of_order line.order) rs) line node)) (sym none) (desk_ended line.number (Refused (NotLeader None)) node at)
+        by (inr (r, is, k)) =
+            subst (λ rs. Ticked (ordered_of (replica_of (group_of_order line.order) rs) line node)) (sym is)
+            (cond_both (same_draw (name_of r) (group_of_order line.order)) (Some r) None (λ o. Ticked (ordered_of o line node))
+            (λ e. (
+            let f = fine_order_row ahead base made grants me before some law line r [] (start r k) in
+            let after = (order_row line (r, [])).0 in
+            record {
+              newer = f.newer;
+              are = f.are;
+              by = f.by;
+              lawful = f.lawful;
+              requested = f.requested;
+              node = record { me_is = at.me_is; ahead_is = at.ahead_is; holds = inr (after, ap (with_replica (group_of_order line.order) after) is ∙ with_it (group_of_order line.order) after r e, f.replica) };
+              mails = f.mails;
+            }))
+            (λ _. desk_ended line.number (Refused (NotLeader None)) node at))

@@ -31,7 +31,7 @@ use Rattle.sc_paxos_law.specs.Chosen.{needed, members_of}
 use Rattle.sc_paxos_law.specs.Lawful.{Vote, MayOffer}
 use Rattle.sc_paxos_law.proofs.Among.{Among-left, Among-right, from_flat_map}
 use Rattle.sc_paxos_law.proofs.History.{was_offered, report_accepted}
-use Rattle.sc_paxos_law.proofs.Law.{later_log}
+use Rattle.sc_paxos_words.specs.Logs.{next_of}
 use Rattle.sc_paxos_law.proofs.Leading.{elected_by}
 use Rattle.sc_node_table.specs.Pump.{Found, is_alone, waits, refused_by, turned_down, next_call, from_calls, from_acts, from_queues, found_by, found_for, offered, pumped_from, pumped}
 use Rattle.sc_node_table.specs.Mails.{sent_all, answered}
@@ -39,7 +39,8 @@ use Rattle.sc_node_table.specs.Slots.{at_slot}
 use Rattle.sc_node_table.specs.Replica.{ReplicaState, Place, name_of, next, flying, either, taken_at, may_offer, settled, under_way, is_idle, last_slot}
 use Rattle.sc_sound.specs.Logs.{Ahead}
 use Rattle.sc_group_law.proofs.Growth.{later_learnt}
-use Rattle.sc_group_law.proofs.Invariant.{Steps, rule, first, IsTaken, AreSets, IsReplica, IsTrueAnswer, Fine, later_flying, turn, steps}
+use Rattle.sc_group_law.proofs.Invariant.{Steps, rule, first, Grants, later_has, IsTaken, AreSets, IsReplica, next_after, IsTrueAnswer, Fine, later_flying, turn, steps}
+use Rattle.sc_group_law.proofs.Lists.{Each-take}
 use Rattle.sc_group_law.proofs.Sending.{asked_accept, name_is, offered_again, answered_one}
 
 -- ---- what is taken
@@ -94,8 +95,8 @@ module _ (ahead : Ahead) (base : Base) where
   this_set log slot set sets are =
       subst (λ n. (set ≡ members_of (rule ahead base) log n) × (needed (rule ahead base) n ≤ length log)) (first_set slot) (are 0 set refl)
 
-module _ (ahead : Ahead) (base : Base) (made : Command → Type 0) (noop : made Noop) (me : ℕ) (before : Steps)
-    (some : (log : List Command) → (node : ℕ) × (rest : List ℕ) × ((rule ahead base).members log ≡ node ∷ rest)) where
+module _ (ahead : Ahead) (base : Base) (made : Command → Type 0) (grants : Grants ahead base made) (me : ℕ) (before : Steps)
+    (some : (log : List Command) → Each made log → (node : ℕ) × (rest : List ℕ) × ((rule ahead base).members log ≡ node ∷ rest)) where
   abbrev Ok : Place → Type 0
   Ok = Fine ahead base made me before
 
@@ -107,7 +108,7 @@ module _ (ahead : Ahead) (base : Base) (made : Command → Type 0) (noop : made 
       let l = k.leads runs in
       let s : Step Command = Offered r.leader.ballot slot c in
       let new : Flight Command = record { slot = slot; value = c; voters = None } in
-      let stays : (at : ℕ) → (at < next r) ⊎ IsTaken ahead base r.leader r.ready at → (at < next r) ⊎ IsTaken ahead base (offered_by slot c r.leader) r.ready at = λ at o. (
+      let stays : (at : ℕ) → (at < length k.whole + 1) ⊎ IsTaken ahead base r.leader r.ready at → (at < length k.whole + 1) ⊎ IsTaken ahead base (offered_by slot c r.leader) r.ready at = λ at o. (
       elim o [
         | inl lt ↦ inl lt
         | inr (inl (f, a, e)) ↦ inr (inl (f, Among-left f r.leader.flights (new ∷ []) a, e))
@@ -115,9 +116,8 @@ module _ (ahead : Ahead) (base : Base) (made : Command → Type 0) (noop : made 
       ]) in
       record {
         me_is = k.me_is;
-        base_is = k.base_is;
-        group_is = k.group_is;
-        is_log = later_log (rule ahead base) s h r.log.entries k.is_log;
+        whole = k.whole;
+        log_is = later_has ahead base made s h k.whole r.log r.group k.log_is;
         acceptor_is = k.acceptor_is;
         tops = λ b at d a own. elim a [
           | inl e ↦ (let same : r.leader.ballot ≡ b = cc in subst (λ (x : Ballot). x.round ≤ r.top.round) same l.low)
@@ -146,25 +146,26 @@ module _ (ahead : Ahead) (base : Base) (made : Command → Type 0) (noop : made 
       }
 
   may_be_offered : (slot : ℕ) (c : Command) (set : List ℕ) (r : ReplicaState) (mails : List Mail) (f : Ok (r, mails)) → r.running ≡ true → is_some (taken_at r slot) ≡ false → next r ≤ slot
-      → set ≡ members_of (rule ahead base) r.log.entries slot → needed (rule ahead base) slot ≤ length r.log.entries → may_offer r set ≡ true → Obeys (must slot r.leader) c
+      → set ≡ members_of (rule ahead base) f.replica.whole slot → needed (rule ahead base) slot ≤ length f.replica.whole → may_offer r set ≡ true → Obeys (must slot r.leader) c
       → MayOffer (rule ahead base) (first ahead base) r.leader.ballot slot c (f.newer ++ before)
   may_be_offered slot c set r mails f runs free up is known may obeys =
       let h = f.newer ++ before in
       let k = f.replica in
       let l = k.leads runs in
+      let next_at = next_after ahead base made h me r k in
       let promised = (and_parts (not (below r.leader.ballot r.acceptor.promised)) (r.leader.is_first || is_majority set r.leader.promisers) may).1 in
       record {
-        log = r.log.entries;
-        is_log = k.is_log;
+        log = k.whole;
+        is_log = k.log_is.is_log;
         known = known;
         elected = elim (or_cases r.leader.is_first (is_majority set r.leader.promisers) promised) [
           | inl t ↦ inl (l.first_is t)
-          | inr t ↦ inr (elected_by (members_of (rule ahead base) r.log.entries slot) h slot c r.leader l.votes l.promisers l.reports
-              (Each-weaker _ _ (λ v p. (p.0, omega (arith, p.1, up))) l.votes l.made)
+          | inr t ↦ inr (elected_by (members_of (rule ahead base) k.whole slot) h slot c r.leader l.votes l.promisers l.reports
+              (Each-weaker _ _ (λ v p. (p.0, omega (arith, p.1, up, next_at))) l.votes l.made)
               (subst (λ ms. is_majority ms r.leader.promisers ≡ true) is t) obeys)
         ];
         only = λ other a. elim (l.offers slot other a) [
-          | inl lt ↦ absurd (omega (arith, lt, up))
+          | inl lt ↦ absurd (omega (arith, lt, up, next_at))
           | inr taken ↦ (let yes = taken_is r slot taken in let no_way : true ≡ false = sym yes ∙ free in absurd (cc))
         ];
       }
@@ -184,10 +185,11 @@ module _ (ahead : Ahead) (base : Base) (made : Command → Type 0) (noop : made 
       offered_again ahead base made me before rest after (mails ++ mail ∷ []) b slot c place own (inl refl)
 
   pub fine_offered : (slot : ℕ) (c : Command) (set : List ℕ) (r : ReplicaState) (mails : List Mail) (f : Ok (r, mails)) → r.running ≡ true → is_some (taken_at r slot) ≡ false → next r ≤ slot
-      → set ≡ members_of (rule ahead base) r.log.entries slot → needed (rule ahead base) slot ≤ length r.log.entries → may_offer r set ≡ true → Obeys (must slot r.leader) c → made c
+      → set ≡ members_of (rule ahead base) f.replica.whole slot → needed (rule ahead base) slot ≤ length f.replica.whole → may_offer r set ≡ true → Obeys (must slot r.leader) c → made c
       → Ok (offered slot set c (r, mails))
   fine_offered slot c set r mails f runs free up is known may obeys m =
-      let some_one = some (take (needed (rule ahead base) slot) r.log.entries) in
+      let whole = f.replica.whole in
+      let some_one = some (take (needed (rule ahead base) slot) whole) (Each-take made (needed (rule ahead base) slot) whole f.replica.log_is.all_made) in
       subst (λ ms. Ok (offered slot ms c (r, mails))) (sym (is ∙ some_one.2))
       (offered_to slot c some_one.0 some_one.1 r mails f runs m (may_be_offered slot c set r mails f runs free up is known may obeys))
 
@@ -196,6 +198,7 @@ module _ (ahead : Ahead) (base : Base) (made : Command → Type 0) (noop : made 
   pub record IsFound (slot : ℕ) (r : ReplicaState) (found : Found) : Type 0 where
     pub fine : Ok found.1
     pub log_is : found.1.0.log ≡ r.log
+    pub sets_is : found.1.0.sets ≡ r.sets
     pub runs_is : found.1.0.running ≡ r.running
     pub leader_is : found.1.0.leader ≡ r.leader
     pub ready_is : found.1.0.ready ≡ r.ready
@@ -205,9 +208,8 @@ module _ (ahead : Ahead) (base : Base) (made : Command → Type 0) (noop : made 
   pub with_calls : (h : Steps) (r : ReplicaState) (calls : List Command) → IsReplica ahead base made h me r → Each made calls → IsReplica ahead base made h me (record r { calls = calls })
   with_calls h r calls k e = record {
     me_is = k.me_is;
-    base_is = k.base_is;
-    group_is = k.group_is;
-    is_log = k.is_log;
+    whole = k.whole;
+    log_is = k.log_is;
     acceptor_is = k.acceptor_is;
     tops = k.tops;
     prepares = k.prepares;
@@ -224,9 +226,8 @@ module _ (ahead : Ahead) (base : Base) (made : Command → Type 0) (noop : made 
   pub with_acts : (h : Steps) (r : ReplicaState) (acts : List Command) → IsReplica ahead base made h me r → Each made acts → IsReplica ahead base made h me (record r { acts = acts })
   with_acts h r acts k e = record {
     me_is = k.me_is;
-    base_is = k.base_is;
-    group_is = k.group_is;
-    is_log = k.is_log;
+    whole = k.whole;
+    log_is = k.log_is;
     acceptor_is = k.acceptor_is;
     tops = k.tops;
     prepares = k.prepares;
@@ -278,6 +279,7 @@ module _ (ahead : Ahead) (base : Base) (made : Command → Type 0) (noop : made 
       record {
         fine = turn ahead base made me before r (record r { calls = x.1 }) x.2 got.fine (with_calls (got.fine.newer ++ before) r x.1 got.fine.replica got.rest);
         log_is = refl;
+        sets_is = refl;
         runs_is = refl;
         leader_is = refl;
         ready_is = refl;
@@ -290,7 +292,7 @@ module _ (ahead : Ahead) (base : Base) (made : Command → Type 0) (noop : made 
       obeys (Some c) m = (m, subst (λ x. Obeys x c) (sym free) tt)
 
   nothing_found : (slot : ℕ) (r : ReplicaState) (mails : List Mail) → Ok (r, mails) → IsFound slot r (None, (r, mails))
-  nothing_found slot r mails f = record { fine = f; log_is = refl; runs_is = refl; leader_is = refl; ready_is = refl; acceptor_is = refl; command = tt }
+  nothing_found slot r mails f = record { fine = f; log_is = refl; sets_is = refl; runs_is = refl; leader_is = refl; ready_is = refl; acceptor_is = refl; command = tt }
 
   found_in_acts : (slot : ℕ) (acts : List Command) (r : ReplicaState) (mails : List Mail) → Each made acts → must slot r.leader ≡ Open → Ok (r, mails) → IsFound slot r (from_acts acts (r, mails))
   found_in_acts slot [] r mails e free f = found_in_calls slot r mails free f
@@ -299,6 +301,7 @@ module _ (ahead : Ahead) (base : Base) (made : Command → Type 0) (noop : made 
       (λ _. record {
         fine = turn ahead base made me before r (record r { acts = acts }) mails f (with_acts (f.newer ++ before) r acts f.replica e.1);
         log_is = refl;
+        sets_is = refl;
         runs_is = refl;
         leader_is = refl;
         ready_is = refl;
@@ -329,6 +332,7 @@ module _ (ahead : Ahead) (base : Base) (made : Command → Type 0) (noop : made 
   found_by_must slot r mails f runs (Value c) e = record {
     fine = f;
     log_is = refl;
+    sets_is = refl;
     runs_is = refl;
     leader_is = refl;
     ready_is = refl;
@@ -338,11 +342,12 @@ module _ (ahead : Ahead) (base : Base) (made : Command → Type 0) (noop : made 
   found_by_must slot r mails f runs Gap e = record {
     fine = f;
     log_is = refl;
+    sets_is = refl;
     runs_is = refl;
     leader_is = refl;
     ready_is = refl;
     acceptor_is = refl;
-    command = (noop, subst (λ x. Obeys x Noop) (sym e) tt);
+    command = (grants.noop, subst (λ x. Obeys x Noop) (sym e) tt);
   }
   found_by_must slot r mails f runs Open e = found_in_queues slot r mails e f
 
@@ -352,25 +357,32 @@ module _ (ahead : Ahead) (base : Base) (made : Command → Type 0) (noop : made 
 
   -- ---- all open slots
 
-  pub fine_pumped_from : (slot : ℕ) (sets : List (List ℕ)) (place : Place) → Ok place → place.0.running ≡ true → next place.0 ≤ slot → AreSets ahead base place.0.log.entries slot sets
-      → Ok (pumped_from slot sets place)
+  -- sets that are those of the open slots from a slot on, by whatever log the open ones are
+  abbrev AreLater : ReplicaState → ℕ → List (List ℕ) → Type 0
+  AreLater r slot sets = (log : List Command) → AreSets ahead base log (next r) r.sets → AreSets ahead base log slot sets
+
+  open_sets : (h : Steps) (r : ReplicaState) (k : IsReplica ahead base made h me r) → AreSets ahead base k.whole (next r) r.sets
+  open_sets h r k = subst (λ n. AreSets ahead base k.whole n r.sets) (sym (next_after ahead base made h me r k)) k.sets
+
+  pub fine_pumped_from : (slot : ℕ) (sets : List (List ℕ)) (place : Place) → Ok place → place.0.running ≡ true → next place.0 ≤ slot → AreLater place.0 slot sets → Ok (pumped_from slot sets place)
   unfolding pumped_from offered
   fine_pumped_from slot [] place f runs up are = f
   fine_pumped_from slot (set ∷ sets) (r, mails) f runs up are =
       cond_both (is_some (taken_at r slot)) _ _ Ok
-      (λ _. fine_pumped_from (slot + 1) sets (r, mails) f runs (omega (arith, up)) (next_sets ahead base r.log.entries slot set sets are))
+      (λ _. fine_pumped_from (slot + 1) sets (r, mails) f runs (omega (arith, up)) (λ log a. next_sets ahead base log slot set sets (are log a)))
       (λ free. cond_both (may_offer r set) _ _ Ok
       (λ may. on_found (fine_pumped_from (slot + 1) sets) free may (found_for slot (r, mails)) (found_at slot r mails f runs))
       (λ _. f))
     where
-      on_found : ((place : Place) → Ok place → place.0.running ≡ true → next place.0 ≤ slot + 1 → AreSets ahead base place.0.log.entries (slot + 1) sets → Ok (pumped_from (slot + 1) sets place))
+      on_found : ((place : Place) → Ok place → place.0.running ≡ true → next place.0 ≤ slot + 1 → AreLater place.0 (slot + 1) sets → Ok (pumped_from (slot + 1) sets place))
           → is_some (taken_at r slot) ≡ false → may_offer r set ≡ true → (found : Found) → IsFound slot r found
           → Ok (elim (found.0) [ None ↦ found.1 | Some command ↦ pumped_from (slot + 1) sets (offered slot set command found.1) ])
       on_found go free may (None, place) is = is.fine
       on_found go free may (Some c, (s, later)) is =
-          let here = this_set ahead base r.log.entries slot set sets are in
-          let entries_are : r.log.entries ≡ s.log.entries = ap (λ l. l.entries) (sym is.log_is) in
-          let up_is : next s ≤ slot = subst (λ l. l.base + length l.entries + 1 ≤ slot) (sym is.log_is) up in
+          let are_later : AreLater s slot (set ∷ sets) = (λ log a. are log (subst (λ l. AreSets ahead base log (next_of l) r.sets) is.log_is (subst (λ x. AreSets ahead base log (next s) x) is.sets_is a))) in
+          let whole = is.fine.replica.whole in
+          let here = this_set ahead base whole slot set sets (are_later whole (open_sets (is.fine.newer ++ before) s is.fine.replica)) in
+          let up_is : next s ≤ slot = subst (λ l. next_of l ≤ slot) (sym is.log_is) up in
           let runs_is : s.running ≡ true = is.runs_is ∙ runs in
           let free_is : is_some (taken_at s slot) ≡ false =
           ap (λ leader. is_some (either (option_map (λ (flight : Flight Command). flight.value) (flight_at slot leader.flights)) (at_slot s.ready slot))) is.leader_is
@@ -378,11 +390,9 @@ module _ (ahead : Ahead) (base : Base) (made : Command → Type 0) (noop : made 
           let may_is : may_offer s set ≡ true =
           ap (λ leader. not (below leader.ballot s.acceptor.promised) && (leader.is_first || is_majority set leader.promisers)) is.leader_is
           ∙ ap (λ acceptor. not (below r.leader.ballot acceptor.promised) && (r.leader.is_first || is_majority set r.leader.promisers)) is.acceptor_is ∙ may in
-          let after = fine_offered slot c set s later is.fine runs_is free_is up_is
-          (subst (λ l. set ≡ members_of (rule ahead base) l slot) entries_are here.0) (subst (λ l. needed (rule ahead base) slot ≤ length l) entries_are here.1)
+          let after = fine_offered slot c set s later is.fine runs_is free_is up_is here.0 here.1
           may_is (subst (λ leader. Obeys (must slot leader) c) (sym is.leader_is) is.command.1) is.command.0 in
-          go (offered slot set c (s, later)) after runs_is (omega (arith, up_is))
-          (subst (λ l. AreSets ahead base l (slot + 1) sets) entries_are (next_sets ahead base r.log.entries slot set sets are))
+          go (offered slot set c (s, later)) after runs_is (omega (arith, up_is)) (λ log a. next_sets ahead base log slot set sets (are_later log a))
 
   -- Pump
   pub fine_pumped : (place : Place) → Ok place → Ok (pumped place)
@@ -391,5 +401,5 @@ module _ (ahead : Ahead) (base : Base) (made : Command → Type 0) (noop : made 
       cond_both (settled place.0 && nat_le (next place.0) last_slot) _ _ Ok
       (λ t. (
       let parts = and_parts (settled place.0) (nat_le (next place.0) last_slot) t in
-      fine_pumped_from (next place.0) place.0.sets place f (and_parts place.0.running _ parts.0).0 (omega arith) f.replica.sets))
+      fine_pumped_from (next place.0) place.0.sets place f (and_parts place.0.running _ parts.0).0 (omega arith) (λ log a. a)))
       (λ _. f)

@@ -1,5 +1,5 @@
 -- The rows of a replica that neither promise nor accept: Nack, Learn, Ask, Request and Tick.
-use Rattle.std.proofs.Common.{◌≡◌, ℕ, zero, suc, ◌+◌, ◌-◌, ◌&&◌, ◌||◌, not, nat_lt, nat_le, true, false, eqb, List, [], ◌∷◌, ◌++◌, Option, Some, None, is_some, refl, subst, arith}
+use Rattle.std.proofs.Common.{◌≡◌, ℕ, zero, suc, ◌+◌, ◌-◌, ◌<◌, ◌&&◌, ◌||◌, not, nat_lt, nat_le, true, false, eqb, List, [], ◌∷◌, ◌++◌, drop, Option, Some, None, is_some, refl, sym, ◌∙◌, ap, subst, arith}
 use Rattle.std.specs.Prelude.{slice_get}
 use Rattle.std.proofs.lemmas.Bool.{eqb-true, ltb-true, and_parts, cond_both, not-false}
 use Rattle.std.proofs.lemmas.Option.{slice_get_within}
@@ -8,7 +8,7 @@ use Rattle.sc_base.specs.declared.ops.Op.{Op}
 use Rattle.sc_ideal.specs.IdealStore.{key_of, holds_key}
 use Rattle.sc_cmd.specs.declared.links.Route.{Route}
 use Rattle.sc_cmd.specs.declared.commands.Command.{Command}
-use Rattle.sc_cmd.specs.declared.commands.Command.TheVariants.{Noop, Call}
+use Rattle.sc_cmd.specs.declared.commands.Command.TheVariants.{Call}
 use Rattle.sc_cmd.specs.declared.cores.Base.{Base}
 use Rattle.sc_mail.specs.declared.bodies.AnswerBody.{AnswerBody}
 use Rattle.sc_mail.specs.declared.bodies.AnswerBody.TheVariants as Says
@@ -27,19 +27,20 @@ use Rattle.sc_node_table.specs.Mails.{sent, sent_all}
 use Rattle.sc_node_table.specs.Queues.{call_of, without_call}
 use Rattle.sc_node_table.specs.Pump.{pumped, serves_calls}
 use Rattle.sc_node_table.specs.Voting.{nack_row}
-use Rattle.sc_node_table.specs.Rows.{refused_at, queued, requested, request_row, learn_row, taught, ask_row, uncounted, asked_again, told_last, tick_row}
+use Rattle.sc_node_table.specs.Rows.{refused_at, queued, requested, request_row, learn_row, taught, asked_from, ask_row, uncounted, asked_again, told_last, tick_row}
 use Rattle.sc_hist_law.specs.Laws.{LogTells}
 use Rattle.sc_sound.specs.Logs.{Ahead}
 use Rattle.sc_group_law.proofs.Growth.{IsLearnt}
-use Rattle.sc_group_law.proofs.Invariant.{Steps, rule, birth, IsReplica, IsTrueAnswer, Fine, turn, says}
+use Rattle.sc_group_law.proofs.Invariant.{Steps, rule, birth, Grants, IsReplica, IsTrueAnswer, Fine, turn, says}
 use Rattle.sc_group_law.proofs.Sending.{offered_again, learnt_others, fine_elected, fine_saw}
 use Rattle.sc_group_law.proofs.Offering.{with_calls}
 use Rattle.sc_group_law.proofs.Parts.{Each-without_call, flying_found}
-use Rattle.sc_group_law.proofs.Executing.{pumps, fine_executed}
+use Rattle.sc_group_law.proofs.Held.{get_dropped}
+use Rattle.sc_group_law.proofs.Executing.{installed_place, pumps, fine_executed}
 
-module _ (ahead : Ahead) (base : Base) (made : Command → Type 0) (noop : made Noop) (me : ℕ) (before : Steps)
-    (some : (log : List Command) → (node : ℕ) × (rest : List ℕ) × ((rule ahead base).members log ≡ node ∷ rest))
-    (law : (log : List Command) → LogTells (birth ahead base) log) where
+module _ (ahead : Ahead) (base : Base) (made : Command → Type 0) (grants : Grants ahead base made) (me : ℕ) (before : Steps)
+    (some : (log : List Command) → Each made log → (node : ℕ) × (rest : List ℕ) × ((rule ahead base).members log ≡ node ∷ rest))
+    (law : (log : List Command) → Each made log → LogTells (birth ahead base) log) where
   abbrev Ok : Place → Type 0
   Ok = Fine ahead base made me before
 
@@ -47,7 +48,7 @@ module _ (ahead : Ahead) (base : Base) (made : Command → Type 0) (noop : made 
   Replica h r = IsReplica ahead base made h me r
 
   pumps_it : (place : Place) → Ok place → Ok (pumped place)
-  pumps_it = pumps ahead base made noop me before some law
+  pumps_it = pumps ahead base made grants me before some law
 
   -- Nack
   pub fine_nack_row : (promised : Ballot) (r : ReplicaState) (mails : List Mail) → Ok (r, mails) → Ok (nack_row promised (r, mails))
@@ -60,9 +61,12 @@ module _ (ahead : Ahead) (base : Base) (made : Command → Type 0) (noop : made 
   fine_learn_row from slot c r mails f t =
       cond_both (nat_lt last_slot slot) _ _ Ok (λ _. f)
       (λ _. cond_both (eqb slot (next r)) _ _ Ok
-      (λ e. fine_executed ahead base made noop me before some law false c r mails f (subst (λ n. IsLearnt (rule ahead base) (f.newer ++ before) n c) (eqb-true slot (next r) e) t))
+      (λ e. fine_executed ahead base made grants me before some law false c r mails f (subst (λ n. IsLearnt (rule ahead base) (f.newer ++ before) n c) (eqb-true slot (next r) e) t) (λ no. cc))
       (λ _. cond_both (nat_lt (next r) slot) _ _ Ok
       (λ _. says ahead base made me before r mails (record { from = r.me; to = from; body = Ask (name_of r) (next r) }) f refl tt) (λ _. f)))
+
+  held_at : (low slot : ℕ) (whole : List Command) → low < slot → slice_get whole (slot - 1) ≡ slice_get (drop low whole) (slot - low - 1)
+  held_at low slot whole lt = (let same : slot - 1 ≡ low + (slot - low - 1) = omega (arith, lt) in ap (slice_get whole) same ∙ sym (get_dropped low whole (slot - low - 1)))
 
   -- an entry that is held was chosen
   entry_learnt : (h : Steps) (slot : ℕ) (r : ReplicaState) (c : Command) → Replica h r → entry_at slot r.log ≡ Some c → IsLearnt (rule ahead base) h slot c
@@ -70,13 +74,13 @@ module _ (ahead : Ahead) (base : Base) (made : Command → Type 0) (noop : made 
       cond_both (nat_lt r.log.base slot) (slice_get r.log.entries (slot - r.log.base - 1)) None (λ (o : Option Command). o ≡ Some c → IsLearnt (rule ahead base) h slot c)
       (λ lt at. (
       let less = ltb-true r.log.base slot lt in
-      let zero_base = k.base_is in
-      let place = slot - r.log.base - 1 in
-      let within = slice_get_within r.log.entries place c at in
-      let same : place + 1 ≡ slot = omega (arith, less, zero_base) in
+      let place = slot - 1 in
+      let here : slice_get k.whole place ≡ Some c = held_at r.log.base slot k.whole less ∙ ap (λ es. slice_get es (slot - r.log.base - 1)) (sym k.log_is.entries_are) ∙ at in
+      let within = slice_get_within k.whole place c here in
+      let same : place + 1 ≡ slot = omega (arith, less) in
       let early = earlier (rule ahead base) place in
       subst (λ n. IsLearnt (rule ahead base) h n c) same
-      (record { log = r.log.entries; is_log = k.is_log; chosen = record { known = omega (arith, within, early); chosen = chosen_by (rule ahead base) h r.log.entries place c (k.is_log place c at) } })))
+      (record { log = k.whole; is_log = k.log_is.is_log; chosen = record { known = omega (arith, within, early); chosen = chosen_by (rule ahead base) h k.whole place c (k.log_is.is_log place c here) } })))
       (λ _ at. cc) e
 
   -- Ask
@@ -91,9 +95,13 @@ module _ (ahead : Ahead) (base : Base) (made : Command → Type 0) (noop : made 
       go rest (Some c) e =
           rest _ (says ahead base made me before r mails (record { from = r.me; to = from; body = Learn (name_of r) slot c }) f refl (λ _. entry_learnt (f.newer ++ before) slot r c f.replica e))
 
+  asked_from_place : (o : Option Command) (from slot : ℕ) (r : ReplicaState) (mails : List Mail) → Ok (r, mails) → Ok (asked_from o from slot (r, mails))
+  asked_from_place None from slot r mails f = installed_place ahead base made grants me before some law from r mails f
+  asked_from_place (Some c) from slot r mails f = fine_taught 32 from slot r mails f
+
   pub fine_ask_row : (from slot : ℕ) (r : ReplicaState) (mails : List Mail) → Ok (r, mails) → Ok (ask_row from slot (r, mails))
   unfolding ask_row
-  fine_ask_row from slot r mails f = fine_taught 32 from slot r mails f
+  fine_ask_row from slot r mails f = cond_both (nat_lt slot (next r)) _ _ Ok (λ _. asked_from_place (entry_at slot r.log) from slot r mails f) (λ _. f)
 
   -- Request
   refused_dull : (gone : Option Route) (op : Op) (r : ReplicaState) (answer : AnswerBody) → refused_at gone op r ≡ Some answer → (h : Steps) (to seq : ℕ) → IsTrueAnswer ahead base h to seq answer
@@ -106,7 +114,7 @@ module _ (ahead : Ahead) (base : Base) (made : Command → Type 0) (noop : made 
       (λ _ j. (let same : Says.NotMine r.group.core.arc r.group.core.succ ≡ answer = cc in subst (IsTrueAnswer ahead base h to seq) same tt)) (λ _ j. cc) k) e
 
   with_calls_place : (r : ReplicaState) (calls : List Command) (mails : List Mail) → (f : Ok (r, mails)) → Each made calls → Ok (record r { calls = calls }, mails)
-  with_calls_place r calls mails f e = turn ahead base made me before r (record r { calls = calls }) mails f (with_calls ahead base made noop me before some (f.newer ++ before) r calls f.replica e)
+  with_calls_place r calls mails f e = turn ahead base made me before r (record r { calls = calls }) mails f (with_calls ahead base made grants me before some (f.newer ++ before) r calls f.replica e)
 
   fine_queued : (o : Option ℕ) (client seq : ℕ) (op : Op) (r : ReplicaState) (mails : List Mail) → Ok (r, mails) → made (Call client seq op) → Ok (queued o client seq op (r, mails))
   unfolding queued

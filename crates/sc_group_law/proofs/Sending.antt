@@ -1,5 +1,5 @@
 -- Mails that a row sends, and elections.
-use Rattle.std.proofs.Common.{◌≡◌, ℕ, ◌+◌, ◌≤◌, ◌-◌, ◌^◌, ◌&&◌, true, false, cond, eqb, List, [], ◌∷◌, ◌++◌, Option, Some, inl, inr, refl, ◌∙◌, ap, subst, arith}
+use Rattle.std.proofs.Common.{◌≡◌, ℕ, ◌+◌, ◌≤◌, ◌-◌, ◌^◌, ◌&&◌, true, false, cond, eqb, nat_lt, List, [], ◌∷◌, ◌++◌, Option, Some, inl, inr, refl, ◌∙◌, ap, subst, arith}
 use Rattle.std.proofs.lemmas.Bool.{eq-eqb, and_from, cond-true, cond_both}
 use Rattle.sc_base.specs.declared.names.Ballot.{Ballot}
 use Rattle.sc_base.specs.declared.names.Draw.{Draw}
@@ -7,11 +7,13 @@ use Rattle.sc_cmd.specs.Same.{same_draw}
 use Rattle.sc_cmd.specs.declared.commands.Command.{Command}
 use Rattle.sc_cmd.specs.declared.commands.Command.TheVariants.{Call}
 use Rattle.sc_cmd.specs.declared.cores.Base.{Base}
-use Rattle.sc_cmd.specs.declared.cores.Core.{Core}
+use Rattle.sc_cmd.specs.declared.orders.ToldResult.{ToldResult}
+use Rattle.sc_cmd.specs.declared.orders.ToldResult.TheVariants.{Refused}
+use Rattle.sc_cmd.specs.declared.orders.OrderRefusal.TheVariants.{NotLeader}
 use Rattle.sc_mail.specs.declared.bodies.AnswerBody.{AnswerBody}
 use Rattle.sc_mail.specs.declared.bodies.AnswerBody.TheVariants as Says
 use Rattle.sc_mail.specs.declared.bodies.Mail.{Mail}
-use Rattle.sc_mail.specs.declared.bodies.MailBody.TheVariants.{Answer, Prepare, Accept, Learn}
+use Rattle.sc_mail.specs.declared.bodies.MailBody.TheVariants.{Answer, Prepare, Accept, Learn, Told}
 use Rattle.sc_machine_table.specs.Group.{Group}
 use Rattle.sc_paxos_words.specs.Among.{Among}
 use Rattle.sc_paxos_words.specs.Ballots.{below}
@@ -19,13 +21,13 @@ use Rattle.sc_paxos_words.specs.Leaders.{elected as new_leader}
 use Rattle.sc_paxos_words.proofs.BallotLemmas.{below_parts}
 use Rattle.sc_paxos_law.specs.Steps.{Step, Prepared, Offered}
 use Rattle.sc_node_table.specs.Election.{elected, ended, stopped, saw, open_nodes}
-use Rattle.sc_node_table.specs.Mails.{sent, sent_all, sent_others, answered, answered_all}
+use Rattle.sc_node_table.specs.Mails.{sent, sent_all, sent_others, answered, answered_all, order_in, told_order, dismissed, dismissed_all}
 use Rattle.sc_node_table.specs.Replica.{ReplicaState, Place, name_of, next, under_way}
 use Rattle.sc_sound.specs.Logs.{Ahead}
-use Rattle.sc_hist_law.proofs.Logs.{state_core}
+use Rattle.sc_hist_law.proofs.Logs.{state_same}
 use Rattle.sc_group_law.specs.Steps.{asked_by}
 use Rattle.sc_group_law.proofs.Growth.{IsLearnt, offer_again}
-use Rattle.sc_group_law.proofs.Invariant.{Steps, rule, first, birth, IsReplica, IsTrueAnswer, Fine, more_steps, turn, says, steps}
+use Rattle.sc_group_law.proofs.Invariant.{Steps, rule, first, birth, IsReplica, next_after, IsTrueAnswer, Fine, more_steps, turn, says, steps}
 
 pub same_name : (group other : Draw) → group ≡ other → same_draw group other ≡ true
 same_name group other e = and_from (eqb group.node other.node) (eqb group.count other.count) (eq-eqb group.node other.node (ap (λ (d : Draw). d.node) e)) (eq-eqb group.count other.count (ap (λ (d : Draw). d.count) e))
@@ -45,7 +47,7 @@ module _ (ahead : Ahead) (base : Base) (made : Command → Type 0) (me : ℕ) (b
 
   -- the group of a replica has its name
   pub name_is : (h : Steps) (r : ReplicaState) → Replica h r → name_of r ≡ base.core.id
-  name_is h r k = ap (λ (g : Group). g.core.id) k.group_is ∙ ap (λ (c : Core). c.id) (state_core (birth ahead base) r.log.entries)
+  name_is h r k = ap (λ (g : Group). g.core.id) k.log_is.group_is ∙ (state_same (birth ahead base) k.whole).0
 
   -- ---- one mail and several
 
@@ -57,8 +59,9 @@ module _ (ahead : Ahead) (base : Base) (made : Command → Type 0) (me : ℕ) (b
       let h = f.newer ++ before in
       let mail : Mail = record { from = r.me; to = node; body = Prepare (name_of r) b from } in
       let k = f.replica in
+      let up = next_after ahead base made h me r k in
       let more = more_steps ahead base made me (Prepared b from) h r k refl (λ c slot v e. cc)
-      (λ c start e mine. (let same : from ≡ start = cc in subst (λ n. n ≤ next r) same low)) (λ runs slot v e. cc) in
+      (λ c start e mine. (let same : from ≡ start = cc in omega (arith, same, low, up))) (λ runs slot v e. cc) in
       prepared_all nodes r (mails ++ mail ∷ []) b from
       (steps ahead base made me before r r mails mail (Prepared b from) f (asked_prepare (name_of r) base.core.id b from (name_is h r k)) own tt (λ c slot v e. cc) more (λ _. inl refl))
       own low
@@ -104,6 +107,26 @@ module _ (ahead : Ahead) (base : Base) (made : Command → Type 0) (me : ℕ) (b
   answered_each r mails group answer dull [] f = f
   answered_each r mails group answer dull (c ∷ cs) f = answered_each r (answered r.me group answer c mails) group answer dull cs (answered_one r mails group answer dull c f)
 
+  -- ---- what is told of orders
+
+  pub told_one : (r : ReplicaState) (mails : List Mail) (number : ℕ) (result : ToldResult) → Ok (r, mails) → Ok (r, told_order r.me number result mails)
+  unfolding told_order
+  told_one r mails number result f =
+      cond_both (nat_lt 0 number) (sent r.me 0 (Told number result) mails) mails (λ ms. Ok (r, ms))
+      (λ _. says ahead base made me before r mails (record { from = r.me; to = 0; body = Told number result }) f refl tt) (λ _. f)
+
+  dismissed_one : (r : ReplicaState) (mails : List Mail) (group : Draw) (hint : Option ℕ) (answer : AnswerBody) → IsDull answer → (c : Command) → Ok (r, mails) → Ok (r, dismissed r.me group hint answer c mails)
+  unfolding dismissed
+  dismissed_one r mails group hint answer dull (Call client seq op) f =
+      says ahead base made me before r mails (record { from = r.me; to = 32 + client; body = Answer group seq answer }) f refl (dull (f.newer ++ before) (32 + client) seq)
+  dismissed_one r mails group hint answer dull c f = told_one r mails (order_in c) (Refused (NotLeader hint)) f
+
+  dismissed_each : (r : ReplicaState) (mails : List Mail) (group : Draw) (hint : Option ℕ) (answer : AnswerBody) → IsDull answer → (cs : List Command) → Ok (r, mails) → Ok (r, dismissed_all r.me group hint answer cs mails)
+  unfolding dismissed_all
+  dismissed_each r mails group hint answer dull [] f = f
+  dismissed_each r mails group hint answer dull (c ∷ cs) f =
+      dismissed_each r (dismissed r.me group hint answer c mails) group hint answer dull cs (dismissed_one r mails group hint answer dull c f)
+
   -- ---- an election
 
   elected_replica : (h : Steps) (r : ReplicaState) → Replica h r
@@ -111,9 +134,8 @@ module _ (ahead : Ahead) (base : Base) (made : Command → Type 0) (me : ℕ) (b
       Replica h (record r { top = b; hint = Some r.me; running = true; leader = new_leader b (next r); ready = []; waits = 0 }))
   elected_replica h r k = record {
     me_is = k.me_is;
-    base_is = k.base_is;
-    group_is = k.group_is;
-    is_log = k.is_log;
+    whole = k.whole;
+    log_is = k.log_is;
     acceptor_is = k.acceptor_is;
     tops = λ b slot c a own. (let le = k.tops b slot c a own in omega (arith, le));
     prepares = k.prepares;
@@ -150,9 +172,8 @@ module _ (ahead : Ahead) (base : Base) (made : Command → Type 0) (me : ℕ) (b
       → Replica h (record r { running = false; leader = new_leader r.leader.ballot (next r); ready = []; acts = []; calls = []; hint = hint })
   ended_replica h r hint k = record {
     me_is = k.me_is;
-    base_is = k.base_is;
-    group_is = k.group_is;
-    is_log = k.is_log;
+    whole = k.whole;
+    log_is = k.log_is;
     acceptor_is = k.acceptor_is;
     tops = k.tops;
     prepares = k.prepares;
@@ -168,7 +189,7 @@ module _ (ahead : Ahead) (base : Base) (made : Command → Type 0) (me : ℕ) (b
   pub fine_ended : (hint : Option ℕ) (answer : AnswerBody) → IsDull answer → (r : ReplicaState) (mails : List Mail) → Ok (r, mails) → Ok (ended hint answer (r, mails))
   unfolding ended
   fine_ended hint answer dull r mails f =
-      let told = answered_each r (answered_all r.me (name_of r) answer (under_way r) mails) (name_of r) answer dull r.calls
+      let told = dismissed_each r (answered_all r.me (name_of r) answer (under_way r) mails) (name_of r) hint answer dull r.calls
       (answered_each r mails (name_of r) answer dull (under_way r) f) in
       turn ahead base made me before r _ _ told (ended_replica (told.newer ++ before) r hint told.replica)
 
@@ -183,9 +204,8 @@ module _ (ahead : Ahead) (base : Base) (made : Command → Type 0) (me : ℕ) (b
   seen_replica : (h : Steps) (r : ReplicaState) (b : Ballot) → r.top.round ≤ b.round → Replica h r → Replica h (record r { top = b })
   seen_replica h r b le k = record {
     me_is = k.me_is;
-    base_is = k.base_is;
-    group_is = k.group_is;
-    is_log = k.is_log;
+    whole = k.whole;
+    log_is = k.log_is;
     acceptor_is = k.acceptor_is;
     tops = λ d slot c a own. (let low = k.tops d slot c a own in omega (arith, low, le));
     prepares = k.prepares;

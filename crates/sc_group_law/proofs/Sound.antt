@@ -23,7 +23,8 @@ use Rattle.sc_ideal.specs.Clients.{joined_with}
 use Rattle.sc_ideal.specs.declared.Entry.{Entry}
 use Rattle.sc_node_table.specs.Node.{NodeState}
 use Rattle.sc_node_table.specs.Replica.{ReplicaState, born_replica}
-use Rattle.sc_paxos_words.specs.Among.{Among}
+use Rattle.sc_paxos_words.specs.Among.{Among, Each}
+use Rattle.sc_paxos_words.specs.Acceptors.{born as born_acceptor}
 use Rattle.sc_paxos_law.specs.Chosen.{needed, IsChosenAfter, IsLog}
 use Rattle.sc_paxos_law.specs.Decided.{log_of}
 use Rattle.sc_paxos_law.specs.Lawful.{IsLawful}
@@ -33,7 +34,7 @@ use Rattle.sc_paxos_law.proofs.Decided.{log_of-longest, front_of_log, log_grows}
 use Rattle.sc_scenario.specs.declared.scenarios.Asks.{Asks}
 use Rattle.sc_scenario.specs.declared.scenarios.Scenario.{Scenario}
 use Rattle.sc_world.specs.World.{route_of, schedule}
-use Rattle.sc_hist_law.specs.Laws.{IsDone, LogTells}
+use Rattle.sc_hist_law.specs.Laws.{IsDone, LeavesWhole, LogTells}
 use Rattle.sc_hist_law.proofs.Told.{log_tells}
 use Rattle.sc_sound.specs.Accepts.{accepts, accepts_at}
 use Rattle.sc_sound.specs.Laws.{HasEntry}
@@ -48,12 +49,14 @@ use Rattle.sc_world.specs.declared.party.Party.TheVariants.{Node as ANode}
 use Rattle.sc_group_law.specs.Steps.{asked_by, asked_in, promises_at, steps_at, steps}
 use Rattle.sc_group_law.specs.Told.{HasExecuted, IsDoneAt}
 use Rattle.sc_sound.specs.Requests.{replies_of, kept_replies, kept_reply}
-use Rattle.sc_group_law.proofs.Invariant.{Steps, rule, first, birth, IsReplica}
-use Rattle.sc_group_law.proofs.Nodes.{IsNode}
+use Rattle.sc_group_law.proofs.Invariant.{Steps, rule, first, birth, IsReplica, next_after}
+use Rattle.sc_group_law.proofs.Nodes.{Holds, IsNode}
+use Rattle.sc_group_law.proofs.Held.{mirrors_itself}
+use Rattle.sc_group_law.proofs.Rosters.{state_roster}
 use Rattle.sc_group_law.proofs.Projected.{only, only_steps, log_from_only, after_from_only, log_to_only, steps-push}
 use Rattle.sc_group_law.proofs.Places.{Journal, split_at, done_append, decided_in_order}
 use Rattle.sc_group_law.proofs.Clients.{Made, IsAnswered}
-use Rattle.sc_group_law.proofs.Journal.{h_of, decided_is, chosen_offered, Kept}
+use Rattle.sc_group_law.proofs.Journal.{h_of, decided_is, chosen_offered, entries_whole, Kept}
 use Rattle.sc_group_law.proofs.Walked.{keeps}
 
 place_among : {X : Type 0} (xs : List X) (k : ℕ) (x : X) → slice_get xs k ≡ Some x → Among x xs
@@ -111,21 +114,18 @@ module _ (ahead : Ahead) (words : ℕ → ℕ → ℕ × ℕ) (scenario : Scenar
   first_of [] le = absurd (omega (arith, le))
   first_of (node ∷ rest) le = (node, rest, refl)
 
-  some : (log : List Command) → (node : ℕ) × (rest : List ℕ) × ((rule ahead base).members log ≡ node ∷ rest)
-  some log =
-      let k = first_of base.core.members one.members in
-      (k.0, k.1, ap (λ (c : Core). c.members) (state_core (birth ahead base) log) ∙ k.2)
+  some : (log : List Command) → Each LeavesWhole log → (node : ℕ) × (rest : List ℕ) × ((rule ahead base).members log ≡ node ∷ rest)
+  some log whole = first_of (state_after (birth ahead base) log).core.members (state_roster (birth ahead base) log whole one.roster).some
 
-  law : (log : List Command) → LogTells (birth ahead base) log
+  law : (log : List Command) → Each LeavesWhole log → LogTells (birth ahead base) log
   law = log_tells (birth ahead base) (record { pairs = ap (with_pairs empty) one.pairs; clients = ap (joined_with empty) one.clients })
 
   born_replica_is : (n : ℕ) → IsReplica ahead base (Made scenario []) [] n (born_replica ahead.slots n base)
   born_replica_is n = record {
     me_is = refl;
-    base_is = refl;
-    group_is = refl;
-    is_log = λ k v e. cc;
-    acceptor_is = refl;
+    whole = [];
+    log_is = record { low = omega arith; entries_are = refl; group_is = refl; is_log = λ k v e. cc; all_made = tt };
+    acceptor_is = mirrors_itself (born_acceptor (first ahead base));
     tops = λ b slot c a own. absurd a;
     prepares = λ b from a own. absurd a;
     count = length_replicate ahead.slots base.core.members;
@@ -155,11 +155,15 @@ module _ (ahead : Ahead) (words : ℕ → ℕ → ℕ × ℕ) (scenario : Scenar
     requested = λ b slot c a. absurd a;
     true_mail = λ m a. absurd a;
     nodes = λ n low high. record {
-      node = record { me = n; replicas = map (λ b. born_replica ahead.slots n b) (filter (λ b. is_member b.core.members n) (base ∷ [])) };
+      node = record { me = n; ahead = ahead.slots; replicas = map (λ b. born_replica ahead.slots n b) (filter (λ b. is_member b.core.members n) (base ∷ [])) };
       value_is = refl;
-      is = cond_both (is_member base.core.members n) (base ∷ []) []
-          (λ bs. IsNode ahead base (Made scenario []) [] n (record { me = n; replicas = map (λ b. born_replica ahead.slots n b) bs }))
-          (λ _. inr (born_replica ahead.slots n base, refl, born_replica_is n)) (λ _. inl refl);
+      is = record {
+        me_is = refl;
+        ahead_is = refl;
+        holds = cond_both (is_member base.core.members n) (base ∷ []) []
+            (λ bs. Holds ahead base (Made scenario []) [] n (map (λ b. born_replica ahead.slots n b) bs))
+            (λ _. inr (born_replica ahead.slots n base, refl, born_replica_is n)) (λ _. inl (refl, tt));
+      };
     };
     clients = λ asks stands. record {
       client = born_client asks.client asks.ops (route_of base);
@@ -187,6 +191,9 @@ module _ (ahead : Ahead) (words : ℕ → ℕ → ℕ × ℕ) (scenario : Scenar
     abbrev log : List Command
     log = decided_log ahead base rows
 
+    whole : Each LeavesWhole log
+    whole = entries_whole ahead scenario base rows k
+
     accepted_are : only h ≡ accepts base.core.id rows
     accepted_are = only_steps base.core.id rows
 
@@ -204,20 +211,22 @@ module _ (ahead : Ahead) (words : ℕ → ℕ → ℕ × ℕ) (scenario : Scenar
 
     executed_is : (n : ℕ) (r : ReplicaState) → IsReplica ahead base (Made scenario rows) h n r → HasExecuted ahead base rows r
     executed_is n r is =
-        let front = front_is r.log.entries is.is_log in
-        let zero_base = is.base_is in
+        let front = front_is is.whole is.log_is.is_log in
         record {
-          count = length r.log.entries;
+          count = length is.whole;
           within = front.0;
-          next_is = omega (arith, zero_base);
-          entries = sym front.1 ∙ ap (λ from. drop from (take (length r.log.entries) log)) (sym is.base_is);
-          group_is = is.group_is ∙ ap (state_after (birth ahead base)) (sym front.1);
+          next_is = next_after ahead base (Made scenario rows) h n r is;
+          entries = is.log_is.entries_are ∙ ap (drop r.log.base) (sym front.1);
+          group_is = is.log_is.group_is ∙ ap (state_after (birth ahead base)) (sym front.1);
         }
 
     among_replicas : (n : ℕ) (node : NodeState) → IsNode ahead base (Made scenario rows) h n node → (r : ReplicaState) → Among r node.replicas → HasExecuted ahead base rows r
-    among_replicas n node (inl none) r a = absurd (subst (Among r) none a)
-    among_replicas n node (inr (s, is, replica)) r a =
-        elim (subst (Among r) is a) [ inl e ↦ subst (HasExecuted ahead base rows) e (executed_is n s replica) | inr none ↦ absurd none ]
+    among_replicas n node at r a = by at.holds
+      where
+        by : Holds ahead base (Made scenario rows) h n node.replicas → HasExecuted ahead base rows r
+        by (inl (none, fresh)) = absurd (subst (Among r) none a)
+        by (inr (s, is, replica)) =
+            elim (subst (Among r) is a) [ inl e ↦ subst (HasExecuted ahead base rows) e (executed_is n s replica) | inr none ↦ absurd none ]
 
     goes_on : (more : Journal) → K (rows ++ more) → GoesOn log (decided_log ahead base (rows ++ more))
     goes_on more all =
@@ -241,8 +250,8 @@ module _ (ahead : Ahead) (words : ℕ → ℕ → ℕ × ℕ) (scenario : Scenar
           let found : ANode at.node ≡ ANode node = sym at.value_is ∙ is in
           let same : at.node ≡ node = cc in
           among_replicas n node (subst (IsNode ahead base (Made scenario rows) h n) same at.is) r a);
-      arc = ap (λ (c : Core). c.arc) (state_core (birth ahead base) log);
-      gone = ap (λ (c : Core). c.gone) (state_core (birth ahead base) log);
+      arc = ap (λ (c : Core). c.arc) (state_core (birth ahead base) log whole);
+      gone = ap (λ (c : Core). c.gone) (state_core (birth ahead base) log whole);
     }
 
     -- ---- the history
@@ -258,7 +267,7 @@ module _ (ahead : Ahead) (words : ℕ → ℕ → ℕ × ℕ) (scenario : Scenar
 
     request_of : (entry : Entry) → Among entry (history ahead scenario.groups rows) → IsRequest scenario entry
     request_of entry a =
-        let call = (law log).calls entry (subst (Among entry) history_of a) in
+        let call = (law log whole).calls entry (subst (Among entry) history_of a) in
         let place = among_place log (Call entry.client entry.seq entry.op) call in
         let issued = entry_made place.0 (Call entry.client entry.seq entry.op) place.1 in
         (issued.asks, issued.stands, record { client = issued.who; first = issued.some; op = issued.op_is })
@@ -292,8 +301,8 @@ module _ (ahead : Ahead) (words : ℕ → ℕ → ℕ × ℕ) (scenario : Scenar
 
     tells : TellsHistory ahead scenario base rows
     tells = record {
-      legal = subst Legal (sym history_of) (law log).tells.legal;
-      pairs = ap (contents_after empty) history_of ∙ (law log).tells.pairs;
+      legal = subst Legal (sym history_of) (law log whole).tells.legal;
+      pairs = ap (contents_after empty) history_of ∙ (law log whole).tells.pairs;
       requests = request_of;
       kept = kept_of;
     }
@@ -314,7 +323,7 @@ module _ (ahead : Ahead) (words : ℕ → ℕ → ℕ × ℕ) (scenario : Scenar
             | inl lt ↦ (let no_way : None ≡ Some answered = sym (k.unanswered asks stands seq lt) ∙ e in absurd (cc))
             | inr ge ↦ (
                 let r = k.taken asks stands seq issued.some (omega (arith, ge)) in
-                let same_place : place ≡ r.place = (law log).once place r.place client seq d (subst (λ c. IsDone (birth ahead base) log r.place c seq) who r.done) in
+                let same_place : place ≡ r.place = (law log whole).once place r.place client seq d (subst (λ c. IsDone (birth ahead base) log r.place c seq) who r.done) in
                 let decided_both : Some t.decided ≡ Some r.decided = sym t.is_decided ∙ ap (λ p. decided_row ahead base p rows) same_place ∙ r.is_decided in
                 let answered_both : Some r.answered ≡ Some answered = sym r.is_answered ∙ e in
                 let one_decided : t.decided ≡ r.decided = cc in

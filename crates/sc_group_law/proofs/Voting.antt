@@ -1,17 +1,20 @@
 -- The rows in which an acceptor promises or accepts.
-use Rattle.std.proofs.Common.{◌≡◌, ℕ, ◌<◌, ◌&&◌, ◌||◌, nat_le, true, false, cond, eqb, List, [], ◌∷◌, ◌++◌, Option, Some, inl, inr, refl, sym, ◌∙◌, ap, subst, append-nil}
+use Rattle.std.proofs.Common.{◌≡◌, ℕ, ◌&&◌, ◌||◌, not, nat_le, nat_lt, true, false, cond, eqb, List, [], ◌∷◌, ◌++◌, Option, Some, inl, inr, refl, sym, ◌∙◌, ap, subst, append-nil, arith}
 use Rattle.std.specs.List.{flat_map, list_any}
 use Rattle.std.proofs.lemmas.Bool.{eq-eqb, leb-false, and_parts, and_from, cond-true, cond_both}
 use Rattle.sc_base.specs.declared.names.Ballot.{Ballot}
 use Rattle.sc_base.specs.declared.names.Draw.{Draw}
 use Rattle.sc_cmd.specs.Same.{same_draw, same_ballot}
 use Rattle.sc_cmd.specs.declared.commands.Command.{Command}
-use Rattle.sc_cmd.specs.declared.commands.Command.TheVariants.{Noop, Call}
+use Rattle.sc_cmd.specs.declared.commands.Command.TheVariants.{Call}
 use Rattle.sc_cmd.specs.declared.cores.Base.{Base}
 use Rattle.sc_mail.specs.declared.bodies.AnswerBody.{AnswerBody}
 use Rattle.sc_mail.specs.declared.bodies.Mail.{Mail}
 use Rattle.sc_mail.specs.declared.bodies.MailBody.{MailBody}
-use Rattle.sc_mail.specs.declared.bodies.MailBody.TheVariants.{Request, Answer, Promise, Accepted as AcceptedMail, Nack, Ask}
+use Rattle.sc_mail.specs.declared.bodies.MailBody.TheVariants.{Request, Answer, Promise, Accepted as AcceptedMail, Nack, Ask, Install, Told}
+use Rattle.sc_cmd.specs.declared.orders.ToldResult.{ToldResult}
+use Rattle.sc_cmd.specs.declared.orders.ToldResult.TheVariants.{Refused}
+use Rattle.sc_cmd.specs.declared.orders.OrderRefusal.TheVariants.{NotLeader}
 use Rattle.sc_paxos_words.specs.declared.reports.Report.{Report}
 use Rattle.sc_paxos_words.specs.declared.answers.PrepareAnswer.{PrepareAnswer}
 use Rattle.sc_paxos_words.specs.declared.answers.AcceptAnswer.{AcceptAnswer}
@@ -22,8 +25,8 @@ use Rattle.sc_paxos_words.proofs.ListLemmas.{Each-weaker, Each-append}
 use Rattle.sc_paxos_law.specs.Steps.{Step, Prepared, Promised, Offered, Accepted, state_of}
 use Rattle.sc_paxos_law.specs.Lawful.{IsLawfulStep, IsLawful}
 use Rattle.sc_paxos_law.proofs.Among.{Among-right, Among-either}
-use Rattle.sc_paxos_law.proofs.Law.{later_log}
-use Rattle.sc_node_table.specs.Mails.{answered, answered_all}
+use Rattle.sc_node_table.specs.Mails.{sent, answered, answered_all, order_in, told_order, dismissed, dismissed_all}
+use Rattle.sc_node_table.specs.Install.{install_to}
 use Rattle.sc_node_table.specs.Election.{ended, saw}
 use Rattle.sc_node_table.specs.Replica.{ReplicaState, Place, name_of}
 use Rattle.sc_node_table.specs.Voting.{hinted, promise_to, promised, prepare_row, accepted_to, took, accept_row}
@@ -32,9 +35,10 @@ use Rattle.sc_sound.specs.Accepts.{is_accepted}
 use Rattle.sc_sound.specs.Logs.{Ahead}
 use Rattle.sc_group_law.specs.Steps.{asked_in, promised_by}
 use Rattle.sc_group_law.proofs.Growth.{By, later_learnt}
-use Rattle.sc_group_law.proofs.Invariant.{Steps, rule, first, birth, IsReplica, IsTrue, Fine, later_flying, grown_true, asked_push, says}
+use Rattle.sc_group_law.proofs.Held.{Mirrors, promise_mirrors, accept_mirrors}
+use Rattle.sc_group_law.proofs.Invariant.{Steps, rule, first, birth, Grants, later_has, IsReplica, IsTrue, Fine, later_flying, grown_true, asked_push, says}
 use Rattle.sc_group_law.proofs.Sending.{same_name, name_is, fine_saw}
-use Rattle.sc_group_law.proofs.Executing.{hint_replica}
+use Rattle.sc_group_law.proofs.Executing.{hint_replica, installed_place}
 
 -- ---- mails that are no step
 
@@ -43,6 +47,8 @@ IsPlain (Request group client seq op) = Unit {0}
 IsPlain (Answer group seq answer) = Unit {0}
 IsPlain (Nack group promised) = Unit {0}
 IsPlain (Ask group from_slot) = Unit {0}
+IsPlain (Install group slot record_of sets) = Unit {0}
+IsPlain (Told number result) = Unit {0}
 IsPlain _ = ⊥
 
 abbrev pub ArePlain : List Mail → Type 0
@@ -53,6 +59,20 @@ unfolding answered
 answered_replies me group answer (Call client seq op) mails e = Each-append _ mails _ e (tt, tt)
 answered_replies me group answer _ mails e = e
 
+told_replies : (me number : ℕ) (result : ToldResult) (mails : List Mail) → ArePlain mails → ArePlain (told_order me number result mails)
+unfolding told_order
+told_replies me number result mails e = cond_both (nat_lt 0 number) (sent me 0 (Told number result) mails) mails ArePlain (λ _. Each-append _ mails _ e (tt, tt)) (λ _. e)
+
+dismissed_replies : (me : ℕ) (group : Draw) (hint : Option ℕ) (answer : AnswerBody) (c : Command) (mails : List Mail) → ArePlain mails → ArePlain (dismissed me group hint answer c mails)
+unfolding dismissed
+dismissed_replies me group hint answer (Call client seq op) mails e = Each-append _ mails _ e (tt, tt)
+dismissed_replies me group hint answer c mails e = told_replies me (order_in c) (Refused (NotLeader hint)) mails e
+
+all_dismissed : (me : ℕ) (group : Draw) (hint : Option ℕ) (answer : AnswerBody) (cs : List Command) (mails : List Mail) → ArePlain mails → ArePlain (dismissed_all me group hint answer cs mails)
+unfolding dismissed_all
+all_dismissed me group hint answer [] mails e = e
+all_dismissed me group hint answer (c ∷ cs) mails e = all_dismissed me group hint answer cs (dismissed me group hint answer c mails) (dismissed_replies me group hint answer c mails e)
+
 all_replies : (me : ℕ) (group : Draw) (answer : AnswerBody) (cs : List Command) (mails : List Mail) → ArePlain mails → ArePlain (answered_all me group answer cs mails)
 unfolding answered_all
 all_replies me group answer [] mails e = e
@@ -60,7 +80,7 @@ all_replies me group answer (c ∷ cs) mails e = all_replies me group answer cs 
 
 ended_replies : (hint : Option ℕ) (answer : AnswerBody) (r : ReplicaState) (mails : List Mail) → ArePlain mails → ArePlain (ended hint answer (r, mails)).1
 unfolding ended
-ended_replies hint answer r mails e = all_replies r.me (name_of r) answer r.calls _ (all_replies r.me (name_of r) answer _ mails e)
+ended_replies hint answer r mails e = all_dismissed r.me (name_of r) hint answer r.calls _ (all_replies r.me (name_of r) answer _ mails e)
 
 pub saw_replies : (b : Ballot) (r : ReplicaState) (mails : List Mail) → ArePlain mails → ArePlain (saw b (r, mails)).1
 unfolding saw
@@ -78,6 +98,8 @@ none_promised group who b from_slot (Request g client seq op) e = refl
 none_promised group who b from_slot (Answer g seq answer) e = refl
 none_promised group who b from_slot (Nack g promised) e = refl
 none_promised group who b from_slot (Ask g start) e = refl
+none_promised group who b from_slot (Install g slot record_of sets) e = refl
+none_promised group who b from_slot (Told number result) e = refl
 none_promised group who b from_slot _ e = absurd e
 
 none_accepted : (group : Draw) (b : Ballot) (slot : ℕ) (body : MailBody) → IsPlain body → is_accepted group b slot body ≡ false
@@ -85,6 +107,8 @@ none_accepted group b slot (Request g client seq op) e = refl
 none_accepted group b slot (Answer g seq answer) e = refl
 none_accepted group b slot (Nack g promised) e = refl
 none_accepted group b slot (Ask g start) e = refl
+none_accepted group b slot (Install g at record_of sets) e = refl
+none_accepted group b slot (Told number result) e = refl
 none_accepted group b slot _ e = absurd e
 
 pub no_promises : (group : Draw) (who : ℕ) (b : Ballot) (from_slot : ℕ) (mails : List Mail) → ArePlain mails → promised_in group who b from_slot mails ≡ []
@@ -132,9 +156,9 @@ pub record Ended (ahead : Ahead) (base : Base) (made : Command → Type 0) (me :
   pub replica : IsReplica ahead base made (newer ++ before) me place.0
   pub mails : (mail : Mail) → Among mail place.1 → IsTrue ahead base made (newer ++ before) mail mail.body
 
-module _ (ahead : Ahead) (base : Base) (made : Command → Type 0) (noop : made Noop) (me : ℕ) (before : Steps)
-    (some : (log : List Command) → (node : ℕ) × (rest : List ℕ) × ((rule ahead base).members log ≡ node ∷ rest))
-    (law : (log : List Command) → LogTells (birth ahead base) log) where
+module _ (ahead : Ahead) (base : Base) (made : Command → Type 0) (grants : Grants ahead base made) (me : ℕ) (before : Steps)
+    (some : (log : List Command) → Each made log → (node : ℕ) × (rest : List ℕ) × ((rule ahead base).members log ≡ node ∷ rest))
+    (law : (log : List Command) → Each made log → LogTells (birth ahead base) log) where
   abbrev Ok : Place → Type 0
   Ok = Fine ahead base made me before
 
@@ -148,13 +172,12 @@ module _ (ahead : Ahead) (base : Base) (made : Command → Type 0) (noop : made 
   ended_by place after f e = record { newer = f.newer; are = e ∙ f.are; by = f.by; lawful = f.lawful; requested = f.requested; replica = f.replica; mails = f.mails }
 
   -- an acceptor's step
-  acceptor_replica : (s : Step Command) (h : Steps) (r : ReplicaState) (acceptor : AcceptorState Command) → Replica h r → acceptor ≡ state_of (first ahead base) me (s ∷ h)
+  acceptor_replica : (s : Step Command) (h : Steps) (r : ReplicaState) (acceptor : AcceptorState Command) → Replica h r → Mirrors acceptor (state_of (first ahead base) me (s ∷ h))
       → ((b : Ballot) (slot : ℕ) (c : Command) → s ≡ Offered b slot c → ⊥) → ((b : Ballot) (from : ℕ) → s ≡ Prepared b from → ⊥) → Replica (s ∷ h) (record r { acceptor = acceptor })
   acceptor_replica s h r acceptor k is no_offer no_prepare = record {
     me_is = k.me_is;
-    base_is = k.base_is;
-    group_is = k.group_is;
-    is_log = later_log (rule ahead base) s h r.log.entries k.is_log;
+    whole = k.whole;
+    log_is = later_has ahead base made s h k.whole r.log r.group k.log_is;
     acceptor_is = is;
     tops = λ b slot c a own. elim a [ inl e ↦ absurd (no_offer b slot c e) | inr o ↦ k.tops b slot c o own ];
     prepares = λ b from a own. elim a [ inl e ↦ absurd (no_prepare b from e) | inr o ↦ k.prepares b from o own ];
@@ -178,11 +201,11 @@ module _ (ahead : Ahead) (base : Base) (made : Command → Type 0) (noop : made 
   }
 
   hinted_replica : (h : Steps) (b : Ballot) (r : ReplicaState) → Replica h r → Replica h (hinted b r)
-  hinted_replica h b r k = cond_both r.running r (record r { hint = Some b.node }) (Replica h) (λ _. k) (λ _. hint_replica ahead base made noop me before some law h r (Some b.node) k)
+  hinted_replica h b r k = cond_both r.running r (record r { hint = Some b.node }) (Replica h) (λ _. k) (λ _. hint_replica ahead base made grants me before some law h r (Some b.node) k)
 
   -- a row of one acceptor's step
   acceptor_ended : (s : Step Command) (b : Ballot) (r : ReplicaState) (mails : List Mail) (mail : Mail) (acceptor : AcceptorState Command) (after : Steps) → (f : Ok (r, mails)) → after ≡ s ∷ f.newer ++ before → By me s
-      → IsLawfulStep (rule ahead base) (first ahead base) s (f.newer ++ before) → acceptor ≡ state_of (first ahead base) me (s ∷ f.newer ++ before)
+      → IsLawfulStep (rule ahead base) (first ahead base) s (f.newer ++ before) → Mirrors acceptor (state_of (first ahead base) me (s ∷ f.newer ++ before))
       → ((b : Ballot) (slot : ℕ) (c : Command) → s ≡ Offered b slot c → ⊥) → ((b : Ballot) (from : ℕ) → s ≡ Prepared b from → ⊥)
       → IsTrue ahead base made (s ∷ f.newer ++ before) mail mail.body → Ended ahead base made me before after (hinted b (record r { acceptor = acceptor }), mails ++ mail ∷ [])
   acceptor_ended s b r mails mail acceptor after f are by law_of is no_offer no_prepare t = record {
@@ -220,24 +243,28 @@ module _ (ahead : Ahead) (base : Base) (made : Command → Type 0) (noop : made 
         let k = f.replica in
         let s : Step Command = Promised me ballot from_slot reports in
         let named = name_is ahead base made me before h r k in
+        let state = state_of (first ahead base) me h in
+        let above = leb-false from_slot r.acceptor.floor low in
+        let under = k.acceptor_is.low in
         let is_promise : promised_by group me ballot from_slot answer.body ≡ s ∷ [] = cond-true (same_draw (name_of r) group && same_ballot ballot ballot) (s ∷ []) []
         (and_from (same_draw (name_of r) group) (same_ballot ballot ballot) (same_name (name_of r) group named) (same_itself ballot)) in
         acceptor_ended s ballot r mails answer (after_promise ballot r.acceptor) _ f
         (ap (λ (x : Steps). x ++ asked_in group (mails ++ answer ∷ []) before) (one_promise group me ballot from_slot mails answer replies ∙ is_promise)
         ∙ ap (λ (x : Steps). s ∷ x) (asked_push ahead base mails answer before ∙ f.are))
         refl (
-          subst (λ st. may_promise st ballot ≡ true) k.acceptor_is may,
-          subst (λ (st : AcceptorState Command). st.floor < from_slot) k.acceptor_is (leb-false from_slot r.acceptor.floor low),
-          ap (λ (st : AcceptorState Command). reports_from from_slot st.accepted) k.acceptor_is,
+          subst (λ promised. below promised ballot ≡ true) k.acceptor_is.promised_is may,
+          omega (arith, above, under),
+          k.acceptor_is.reports_are from_slot above,
         )
-        (ap (after_promise ballot) k.acceptor_is ∙ sym (own_state me (after_promise ballot (state_of (first ahead base) me h)) (state_of (first ahead base) me h)))
+        (subst (Mirrors (after_promise ballot r.acceptor)) (sym (own_state me (after_promise ballot state) state)) (promise_mirrors ballot r.acceptor state k.acceptor_is))
         (λ b slot c e. cc) (λ b start e. cc)
         (λ _. (from_slot, inl (ap (λ n. Promised n ballot from_slot reports) (sym k.me_is)), inr asked))
 
     pub promised_ended : After (promised from ballot from_slot (r, mails))
-    unfolding promised
+    unfolding promised install_to
     promised_ended =
-        cond_both (nat_le from_slot r.acceptor.floor) _ _ After (λ _. quiet (r, mails) f replies)
+        cond_both (nat_le from_slot r.acceptor.floor) _ _ After
+        (λ _. quiet (install_to from (r, mails)) (installed_place ahead base made grants me before some law from r mails f) (Each-append _ mails _ replies (tt, tt)))
         (λ low. cond_both (may_promise r.acceptor ballot) _ _ (λ (x : PrepareAnswer Command × AcceptorState Command). After (promise_to from ballot x (r, mails)))
         (λ may. promise_made low may)
         (λ _. (let nack : Mail = record { from = r.me; to = from; body = Nack (name_of r) r.acceptor.promised } in
@@ -263,6 +290,7 @@ module _ (ahead : Ahead) (base : Base) (made : Command → Type 0) (noop : made 
         let h = f.newer ++ before in
         let k = f.replica in
         let s : Step Command = Accepted me ballot slot c in
+        let state = state_of (first ahead base) me h in
         let named = name_is ahead base made me before h r k in
         let is_vote : is_accepted group ballot slot vote.body ≡ true = and_from (same_draw (name_of r) group && same_ballot ballot ballot) (eqb slot slot)
         (and_from (same_draw (name_of r) group) (same_ballot ballot ballot) (same_name (name_of r) group named) (same_itself ballot)) (eq-eqb slot slot refl) in
@@ -271,15 +299,16 @@ module _ (ahead : Ahead) (base : Base) (made : Command → Type 0) (noop : made 
         acceptor_ended s ballot r mails vote (after_accept report r.acceptor) _ f
         (ap (λ (x : Steps). x ++ asked_in group (mails ++ vote ∷ []) before) one ∙ ap (λ (x : Steps). s ∷ x) (asked_push ahead base mails vote before ∙ f.are))
         refl
-        (subst (λ st. may_accept st ballot ≡ true) k.acceptor_is may, offer)
-        (ap (after_accept report) k.acceptor_is ∙ sym (own_state me (after_accept report (state_of (first ahead base) me h)) (state_of (first ahead base) me h)))
+        (subst (λ promised. not (below ballot promised) ≡ true) k.acceptor_is.promised_is may, offer)
+        (subst (Mirrors (after_accept report r.acceptor)) (sym (own_state me (after_accept report state) state)) (accept_mirrors report r.acceptor state k.acceptor_is))
         (λ b at d e. cc) (λ b start e. cc)
         (λ _. (c, inl (ap (λ n. Accepted n ballot slot c) (sym k.me_is))))
 
     pub took_ended : Then (took from report (r, mails))
-    unfolding took
+    unfolding took install_to
     took_ended =
-        cond_both (nat_le slot r.acceptor.floor) _ _ Then (λ _. still (r, mails) f replies)
+        cond_both (nat_le slot r.acceptor.floor) _ _ Then
+        (λ _. still (install_to from (r, mails)) (installed_place ahead base made grants me before some law from r mails f) (Each-append _ mails _ replies (tt, tt)))
         (λ low. cond_both (may_accept r.acceptor ballot) _ _ (λ (x : AcceptAnswer × AcceptorState Command). Then (accepted_to from ballot slot x (r, mails)))
         (λ may. acceptance may)
         (λ _. (let nack : Mail = record { from = r.me; to = from; body = Nack (name_of r) r.acceptor.promised } in

@@ -25,15 +25,15 @@ use Rattle.sc_client_table.specs.Client.{Client}
 use Rattle.sc_client_table.specs.Table.{table, request_of}
 use Rattle.sc_client_table.specs.Turns.{InTurn}
 use Rattle.sc_client_table.proofs.TurnLemmas.{sends_in_turn}
-use Rattle.sc_node_table.specs.Node.{NodeState, on_mail, on_tick}
+use Rattle.sc_node_table.specs.Node.{NodeState, on_mail, on_tick, on_order}
 use Rattle.sc_node_table.specs.Slots.{numbers}
 use Rattle.sc_paxos_words.specs.Among.{Among, Each}
-use Rattle.sc_paxos_words.proofs.ListLemmas.{Each-among, find_found}
+use Rattle.sc_paxos_words.proofs.ListLemmas.{Each-among, Each-weaker, find_found}
 use Rattle.sc_paxos_law.proofs.Among.{Among-either, from_map}
 use Rattle.sc_scenario.specs.declared.scenarios.Asks.{Asks}
 use Rattle.sc_scenario.specs.declared.scenarios.Scenario.{Scenario}
 use Rattle.sc_world.specs.World.{route_of, client_actor}
-use Rattle.sc_hist_law.specs.Laws.{LogTells}
+use Rattle.sc_hist_law.specs.Laws.{LeavesWhole, LogTells}
 use Rattle.sc_sound.specs.Accepts.{accepts_got}
 use Rattle.sc_sound.specs.Logs.{Ahead}
 use Rattle.sc_sound.specs.Requests.{issues, asks_for}
@@ -44,13 +44,13 @@ use Rattle.sc_world.specs.World.{party_table, client_seat, client_seats}
 use Rattle.sc_world.specs.declared.party.Party.{Party}
 use Rattle.sc_world.specs.declared.party.Party.TheVariants.{Node as ANode, Client as AClient}
 use Rattle.sc_sound.specs.Requests.{replies_of}
-use Rattle.sc_group_law.proofs.Growth.{By}
+use Rattle.sc_group_law.proofs.Growth.{By, fresh_on}
 use Rattle.sc_group_law.proofs.Invariant.{Steps, rule, birth, IsTrue, grown_true, other_steps}
-use Rattle.sc_group_law.proofs.Nodes.{node_row, steps_of, quiet_steps, no_asked, IsNode, NodeEnded, mail_ended, tick_ended}
+use Rattle.sc_group_law.proofs.Nodes.{node_row, steps_of, quiet_steps, no_asked, Holds, IsNode, NodeEnded, mail_ended, tick_ended, order_ended}
 use Rattle.sc_group_law.proofs.Voting.{ArePlain}
 use Rattle.sc_group_law.proofs.Projected.{steps-push}
 use Rattle.sc_group_law.proofs.Places.{Journal}
-use Rattle.sc_group_law.proofs.Clients.{Made, made_later, issued_now, IsAsk, IsClient, Grew, later_client, client_after, client_sends}
+use Rattle.sc_group_law.proofs.Clients.{Made, made_later, made_whole, grants, issued_now, IsAsk, IsClient, Grew, later_client, client_after, client_sends}
 use Rattle.sc_group_law.proofs.Journal.{h_of, IsNodeAt, IsClientAt, replies_in, Kept, ClientMoved, push}
 
 place_among : {X : Type 0} (xs : List X) (k : ℕ) (x : X) → slice_get xs k ≡ Some x → Among x xs
@@ -84,8 +84,8 @@ steps_plain group sent who (Deliver number) out older plain = steps_got group wh
 steps_plain group sent who _ out older plain = no_asked group out older plain
 
 module _ (ahead : Ahead) (words : ℕ → ℕ → ℕ × ℕ) (scenario : Scenario) (base : Base) (one : HasOneGroup scenario base)
-    (some : (log : List Command) → (node : ℕ) × (rest : List ℕ) × ((rule ahead base).members log ≡ node ∷ rest))
-    (law : (log : List Command) → LogTells (birth ahead base) log) where
+    (some : (log : List Command) → Each LeavesWhole log → (node : ℕ) × (rest : List ℕ) × ((rule ahead base).members log ≡ node ∷ rest))
+    (law : (log : List Command) → Each LeavesWhole log → LogTells (birth ahead base) log) where
   abbrev group : Draw
   group = base.core.id
 
@@ -108,8 +108,11 @@ module _ (ahead : Ahead) (words : ℕ → ℕ → ℕ × ℕ) (scenario : Scenar
   own_value seat rows row e = value-snoc party_table seat rows row ∙ cond-true (eqb row.who seat.who) _ _ (eq-eqb row.who seat.who e)
 
   node_still : (newer : Steps) (who : ℕ) (h : Steps) (made : Command → Type 0) (n : ℕ) (node : NodeState) → Each (By who) newer → (who ≡ n → ⊥) → IsNode ahead base made h n node → IsNode ahead base made (newer ++ h) n node
-  node_still newer who h made n node by ne (inl none) = inl none
-  node_still newer who h made n node by ne (inr (r, is, k)) = inr (r, is, other_steps ahead base made n who newer h r by ne k)
+  node_still newer who h made n node by ne at = record { me_is = at.me_is; ahead_is = at.ahead_is; holds = still at.holds }
+    where
+      still : Holds ahead base made h n node.replicas → Holds ahead base made (newer ++ h) n node.replicas
+      still (inl (none, fresh)) = inl (none, fresh_on n who newer h by ne fresh)
+      still (inr (r, is, k)) = inr (r, is, other_steps ahead base made n who newer h r by ne k)
 
   still_gone : (rows : Journal) (row : Row Mail OrderLine) (who : ℕ) → has_gone (rows ++ row ∷ []) who ≡ false → has_gone rows who ≡ false
   still_gone rows row who e = (any_push (λ r. eqb r.who who && is_go r.event) rows row e).0
@@ -139,6 +142,15 @@ module _ (ahead : Ahead) (words : ℕ → ℕ → ℕ × ℕ) (scenario : Scenar
 
     abbrev made : Command → Type 0
     made = Made scenario rows
+
+    whole : (log : List Command) → Each made log → Each LeavesWhole log
+    whole log e = Each-weaker made LeavesWhole (made_whole scenario rows) log e
+
+    some_made : (log : List Command) → Each made log → (node : ℕ) × (rest : List ℕ) × ((rule ahead base).members log ≡ node ∷ rest)
+    some_made log e = some log (whole log e)
+
+    law_made : (log : List Command) → Each made log → LogTells (birth ahead base) log
+    law_made log e = law log (whole log e)
 
     node_moved : (n : ℕ) → 1 ≤ n → n ≤ scenario.nodes → (event : Event OrderLine) (step : NodeState × List Mail)
         → acted party_table (value party_table (nseat n) rows) (input_of (mails rows) event) ≡ (ANode step.0, step.1)
@@ -184,10 +196,10 @@ module _ (ahead : Ahead) (words : ℕ → ℕ → ℕ × ℕ) (scenario : Scenar
             let step = on_mail m.from m.body at.node in
             acting (Deliver number) step (ap (λ o. acted party_table (ANode at.node) (option_map Got o)) under.sent)
             (subst (λ (after : Steps). NodeEnded ahead base made n h after step) (sym (steps_deliver group (mails rows) n number m step.1 h under.sent))
-            (mail_ended ahead base made tt n h some law k.lawful k.requested (Deliver number) m at.node at.is (k.true_mail m (number_among (mails rows) number m under.sent))))
-        by Tick o = acting Tick (on_tick at.node) refl (tick_ended ahead base made tt n h some law k.lawful k.requested at.node at.is)
+            (mail_ended ahead base made (grants ahead base scenario rows) n h some_made law_made k.lawful k.requested (Deliver number) m at.node at.is (k.true_mail m (number_among (mails rows) number m under.sent))))
+        by Tick o = acting Tick (on_tick at.node) refl (tick_ended ahead base made (grants ahead base scenario rows) n h some_made law_made k.lawful k.requested at.node at.is)
         by Go o = acting Go (at.node, []) refl (quiet Go)
-        by (Told order) o = acting (Told order) (at.node, []) refl (quiet (Told order))
+        by (Told order) o = acting (Told order) (on_order order at.node) refl (order_ended ahead base made (grants ahead base scenario rows) n h some_made law_made k.lawful k.requested order at.node at.is)
         by Crash o = acting Crash (at.node, []) refl (quiet Crash)
         by (Drop number) o = absurd o
         by (Again number) o = absurd o

@@ -1,5 +1,5 @@
 -- Scenarios of one group, and their journals, where any number of slots are open.
-use Rattle.std.specs.Prelude.{◌≡◌, ℕ, ◌≤◌, List, [], ◌∷◌, length}
+use Rattle.std.specs.Prelude.{◌≡◌, ℕ, ◌≤◌, List, [], ◌∷◌}
 use Rattle.sc_cmd.specs.declared.cores.Base.{Base}
 use Rattle.sc_cmd.specs.declared.orders.OrderLine.{OrderLine}
 use Rattle.sc_mail.specs.declared.bodies.Mail.{Mail}
@@ -7,6 +7,7 @@ use Rattle.sc_actor.specs.declared.rows.Row.{Row}
 use Rattle.sc_actor.specs.declared.actors.Seat.{Seat}
 use Rattle.sc_actor.specs.System.{System}
 use Rattle.sc_actor.specs.Walk.{IsLawful}
+use Rattle.sc_member.specs.Roster.{IsRoster}
 use Rattle.sc_paxos_words.specs.Among.{Among, Each}
 use Rattle.sc_scenario.specs.declared.scenarios.Asks.{Asks}
 use Rattle.sc_scenario.specs.declared.scenarios.Scenario.{Scenario}
@@ -30,10 +31,10 @@ system_of ahead words scenario = system_with ahead.slots words scenario
 abbrev pub Lawful : Ahead → (ℕ → ℕ → ℕ × ℕ) → Scenario → List (Row Mail OrderLine) → Type 0
 Lawful ahead words scenario journal = IsLawful (system_of ahead words scenario) (schedule scenario) journal
 
--- a scenario of one group, which starts with some members and no pairs; nodes are numbered up to 32, and clients from 1, each once
+-- a scenario of one group, which starts with one to nine members and no pairs; nodes are numbered up to 32, and clients from 1, each once
 pub record HasOneGroup (scenario : Scenario) (base : Base) : Type 0 where
   pub groups : scenario.groups ≡ base ∷ []
-  pub members : 1 ≤ length base.core.members
+  pub roster : IsRoster base.core.members
   pub pairs : base.pairs ≡ []
   pub clients : base.clients ≡ []
   pub nodes : scenario.nodes ≤ 32

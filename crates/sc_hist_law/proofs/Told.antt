@@ -15,19 +15,20 @@ use Rattle.sc_cmd.specs.declared.links.Route.{Route}
 use Rattle.sc_cmd.specs.declared.cores.Lock.{Lock}
 use Rattle.sc_cmd.specs.declared.cores.Lock.TheVariants.{Free, Coordinating, Promised, Watching}
 use Rattle.sc_cmd.specs.declared.commands.Command.{Command}
-use Rattle.sc_cmd.specs.declared.commands.Command.TheVariants.{Call}
+use Rattle.sc_cmd.specs.declared.commands.Command.TheVariants.{Call, Join, Leave, Split}
 use Rattle.sc_cmd.specs.declared.effects.Effect.{Effect}
 use Rattle.sc_cmd.specs.declared.effects.Effect.TheVariants.{Done, Again, Stale, NotMine, Gone, NoEffect}
 use Rattle.sc_machine_table.specs.Group.{Group}
 use Rattle.sc_machine_table.specs.Machine.{applied, done, numbered, served, called}
-use Rattle.sc_paxos_words.specs.Among.{Among}
+use Rattle.sc_machine_table.specs.Orders.{refusal_of, with_node, without_node}
+use Rattle.sc_paxos_words.specs.Among.{Among, Each}
 use Rattle.sc_paxos_words.proofs.ListLemmas.{Each-among}
 use Rattle.sc_paxos_law.proofs.Among.{Among-left, Among-right, Among-either}
 use Rattle.sc_sound.specs.Laws.{HasEntry}
 use Rattle.sc_sound.specs.Logs.{state_after}
 use Rattle.sc_sound.specs.Histories.{entry_by, entry_of, done_by}
-use Rattle.sc_hist_law.specs.Laws.{IsEmpty, IsNoted, IsReplied, IsDone, LogsTellHistories}
-use Rattle.sc_hist_law.proofs.Logs.{done_push}
+use Rattle.sc_hist_law.specs.Laws.{IsEmpty, IsNoted, IsReplied, IsDone, LeavesWhole, LogsTellHistories}
+use Rattle.sc_hist_law.proofs.Logs.{done_push, ordered_either}
 use Rattle.sc_hist_law.proofs.Kept.{IsApart, all_pairs, apart_push, apart_right}
 
 replay_push : (contents : Contents) (entries : List Entry) (e : Entry) → IsReplay contents entries → e.reply ≡ reply_of e.op (contents_after contents entries) → IsReplay contents (entries ++ e ∷ [])
@@ -162,19 +163,36 @@ module _ (entries : List Entry) (group : Group) (client seq : ℕ) (op : Op) (to
 
 -- ---- a log
 
+of_same : (entries : List Entry) (group other : Group) → other.pairs ≡ group.pairs → other.clients ≡ group.clients → IsTold entries group → IsTold entries other
+of_same entries group other pairs clients told = record {
+  replay = told.replay;
+  apart = told.apart;
+  pairs = told.pairs ∙ sym pairs;
+  noted = λ client noted e. told.noted client noted (sym (ap (λ t. get t client) clients) ∙ e);
+  latest = λ entry a. (let k = told.latest entry a in record { noted = k.noted; found = ap (λ t. get t entry.client) clients ∙ k.found; most = k.most });
+}
+
 idle : (entries : List Entry) (group : Group) → IsTold entries group → IsTold (entries ++ []) group
 idle entries group told = subst (λ es. IsTold es group) (sym (append-nil entries)) told
 
-one_more : (entries : List Entry) (group : Group) (c : Command) → IsTold entries group → IsTold (entries ++ entry_of c (applied group c).1) (applied group c).0
-one_more entries group (Call client seq op) told = (by_lock entries group client seq op told group.core.gone group.core.lock).told
-one_more entries group _ told = idle entries group told
+-- an order changes neither pairs nor client table
+one_more : (entries : List Entry) (group : Group) (c : Command) → LeavesWhole c → IsTold entries group → IsTold (entries ++ entry_of c (applied group c).1) (applied group c).0
+one_more entries group (Call client seq op) keeps told = (by_lock entries group client seq op told group.core.gone group.core.lock).told
+one_more entries group (Join node order) keeps told =
+    ordered_either (IsTold (entries ++ [])) group.core.gone (refusal_of group.core (Join node order)) (with_node group node) group
+    (idle entries (with_node group node) (of_same entries group (with_node group node) refl refl told)) (idle entries group told)
+one_more entries group (Leave node order) keeps told =
+    ordered_either (IsTold (entries ++ [])) group.core.gone (refusal_of group.core (Leave node order)) (without_node group node) group
+    (idle entries (without_node group node) (of_same entries group (without_node group node) refl refl told)) (idle entries group told)
+one_more entries group (Split at child order) keeps told = absurd keeps
+one_more entries group _ keeps told = idle entries group told
 
-told_on : (entries : List Entry) (group : Group) (log : List Command) → IsTold entries group → IsTold (entries ++ done_by group log) (state_after group log)
-told_on entries group [] told = idle entries group told
-told_on entries group (c ∷ log) told =
+told_on : (entries : List Entry) (group : Group) (log : List Command) → Each LeavesWhole log → IsTold entries group → IsTold (entries ++ done_by group log) (state_after group log)
+told_on entries group [] keeps told = idle entries group told
+told_on entries group (c ∷ log) keeps told =
     let new = entry_of c (applied group c).1 in
     subst (λ es. IsTold es (state_after group (c ∷ log))) (append_assoc entries new (done_by (applied group c).0 log))
-    (told_on (entries ++ new) (applied group c).0 log (one_more entries group c told))
+    (told_on (entries ++ new) (applied group c).0 log keeps.1 (one_more entries group c keeps.0 told))
 
 at_start : (group : Group) → IsEmpty group → IsTold [] group
 at_start group none = record {
@@ -260,8 +278,8 @@ one_place group (c ∷ log) a (suc place) (suc other) client seq d f =
     (record { op = d.op; reply = d.reply; call = d.call; effect = d.effect }) (record { op = f.op; reply = f.reply; call = f.call; effect = f.effect }))
 
 pub log_tells : LogsTellHistories
-log_tells group none log =
-    let told = told_on [] group log (at_start group none) in
+log_tells group none log keeps =
+    let told = told_on [] group log keeps (at_start group none) in
     record {
       tells = record { legal = record { replay = told.replay; once = all_pairs (done_by group log) told.apart }; pairs = told.pairs; noted = told.noted; latest = told.latest };
       calls = calls_of group log;

@@ -5,14 +5,14 @@ use Rattle.sc_base.specs.declared.ops.Noted.{Noted}
 use Rattle.sc_base.specs.declared.ops.Op.{Op}
 use Rattle.sc_base.specs.declared.ops.Reply.{Reply}
 use Rattle.sc_cmd.specs.declared.commands.Command.{Command}
-use Rattle.sc_cmd.specs.declared.commands.Command.TheVariants.{Call}
+use Rattle.sc_cmd.specs.declared.commands.Command.TheVariants.{Call, Split}
 use Rattle.sc_cmd.specs.declared.effects.Effect.{Effect}
 use Rattle.sc_cmd.specs.declared.effects.Effect.TheVariants.{Done, Again}
 use Rattle.sc_ideal.specs.History.{Legal, contents_after}
 use Rattle.sc_ideal.specs.declared.Entry.{Entry}
 use Rattle.sc_machine_table.specs.Group.{Group}
 use Rattle.sc_machine_table.specs.Machine.{applied}
-use Rattle.sc_paxos_words.specs.Among.{Among}
+use Rattle.sc_paxos_words.specs.Among.{Among, Each}
 use Rattle.sc_sound.specs.Laws.{HasEntry}
 use Rattle.sc_sound.specs.Logs.{state_after, effects_of}
 use Rattle.sc_sound.specs.Histories.{done_by}
@@ -55,5 +55,10 @@ pub record LogTells (group : Group) (log : List Command) : Type 0 where
   pub places : (entry : Entry) → Among entry (done_by group log) → (place : ℕ) × IsDone group log place entry.client entry.seq
   pub once : (place other client seq : ℕ) → IsDone group log place client seq → IsDone group log other client seq → place ≡ other
 
+-- a command that divides no group: each but a split
+abbrev pub LeavesWhole : Command → Type 0
+LeavesWhole (Split at child order) = ⊥
+LeavesWhole _ = Unit {0}
+
 abbrev pub LogsTellHistories : Type 0
-LogsTellHistories = (group : Group) → IsEmpty group → (log : List Command) → LogTells group log
+LogsTellHistories = (group : Group) → IsEmpty group → (log : List Command) → Each LeavesWhole log → LogTells group log

@@ -1,3 +1,3 @@
 mod Meeting
 mod SetLemmas
-mod Rising
+pub mod Rising

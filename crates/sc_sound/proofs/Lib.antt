@@ -1,4 +1,3 @@
 pub mod Example
 pub mod Rows
 pub mod Told
-pub mod Worlds

@@ -1,0 +1,205 @@
+-- The rows in which a state is taken over, and in which a node is told an order.
+use Rattle.std.proofs.Common.{◌≡◌, ℕ, ◌+◌, ◌≤◌, ◌||◌, not, nat_lt, true, false, eqb, List, [], ◌∷◌, ◌++◌, length, Option, Some, None, is_some, refl, sym, ◌∙◌, ap, subst, arith}
+use Rattle.std.proofs.lemmas.Bool.{eqb-true, ltb-false, or_parts, not-false, cond_both}
+use Rattle.std.proofs.lemmas.List.{drop_all}
+use Rattle.sc_base.specs.declared.names.Ballot.{Ballot}
+use Rattle.sc_cmd.specs.declared.commands.Command.{Command}
+use Rattle.sc_cmd.specs.declared.commands.Command.TheVariants.{Join, Leave}
+use Rattle.sc_cmd.specs.declared.cores.Base.{Base}
+use Rattle.sc_cmd.specs.declared.orders.Order.{Order}
+use Rattle.sc_cmd.specs.declared.orders.Order.TheVariants as An
+use Rattle.sc_cmd.specs.declared.orders.OrderLine.{OrderLine}
+use Rattle.sc_cmd.specs.declared.orders.OrderRefusal.{OrderRefusal}
+use Rattle.sc_cmd.specs.declared.orders.OrderRefusal.TheVariants.{NotLeader}
+use Rattle.sc_cmd.specs.declared.orders.ToldResult.{ToldResult}
+use Rattle.sc_cmd.specs.declared.orders.ToldResult.TheVariants.{Refused}
+use Rattle.sc_mail.specs.declared.bodies.Mail.{Mail}
+use Rattle.sc_mail.specs.declared.bodies.MailBody.TheVariants.{Told}
+use Rattle.sc_machine_table.specs.Group.{Group, group_of}
+use Rattle.sc_machine_table.specs.Orders.{refusal_of}
+use Rattle.sc_member.specs.Roster.{is_member}
+use Rattle.sc_paxos_words.specs.Among.{Among, Each}
+use Rattle.sc_paxos_words.specs.Acceptors.{born}
+use Rattle.sc_paxos_words.specs.Logs.{installed}
+use Rattle.sc_paxos_words.specs.Leaders.{first_leader}
+use Rattle.sc_paxos_words.proofs.ListLemmas.{Each-among, Each-append}
+use Rattle.sc_paxos_law.specs.Steps.{Offered}
+use Rattle.sc_paxos_law.specs.Lawful.{IsLawful}
+use Rattle.sc_node_table.specs.Replica.{ReplicaState, Place, first_ballot, next, members, settled, last_slot, forgotten, waits_in, installed_replica}
+use Rattle.sc_node_table.specs.Mails.{told_desk}
+use Rattle.sc_node_table.specs.Election.{ended, stopped}
+use Rattle.sc_node_table.specs.Install.{jumped}
+use Rattle.sc_node_table.specs.Rows.{looked_up, took_over, install_row, made_by, command_of, order_queued, order_taken, order_row}
+use Rattle.sc_hist_law.specs.Laws.{LogTells}
+use Rattle.sc_hist_law.proofs.Logs.{state_same}
+use Rattle.sc_sound.specs.Logs.{Ahead}
+use Rattle.sc_group_law.proofs.Growth.{IsFresh, fresh_state}
+use Rattle.sc_group_law.proofs.Held.{Mirrors, mirrors_itself, floor_low}
+use Rattle.sc_group_law.proofs.Invariant.{Steps, rule, first, birth, Grants, AreSets, HasLog, IsReplica, next_after, forgotten_replica, IsState, grown_state, Fine, turn, says}
+use Rattle.sc_group_law.proofs.Sending.{fine_stopped}
+use Rattle.sc_group_law.proofs.Offering.{with_calls}
+use Rattle.sc_group_law.proofs.Executing.{hinted_place, looked_place, pumps}
+
+module _ (ahead : Ahead) (base : Base) (made : Command → Type 0) (grants : Grants ahead base made) (me : ℕ) (before : Steps)
+    (some : (log : List Command) → Each made log → (node : ℕ) × (rest : List ℕ) × ((rule ahead base).members log ≡ node ∷ rest))
+    (law : (log : List Command) → Each made log → LogTells (birth ahead base) log) where
+  abbrev Ok : Place → Type 0
+  Ok = Fine ahead base made me before
+
+  abbrev Replica : Steps → ReplicaState → Type 0
+  Replica h r = IsReplica ahead base made h me r
+
+  -- the state that was sent is the whole log up to its slot, of which nothing is held
+  state_has : (h : Steps) (slot : ℕ) (from : Base) (sets : List (List ℕ)) (t : IsState ahead base made h slot from sets) → HasLog ahead base made h t.log (installed slot) (group_of from)
+  state_has h slot from sets t =
+      let count = t.count in
+      record {
+        low = omega (arith, count);
+        entries_are = sym (drop_all slot t.log (omega (arith, count)));
+        group_is = t.group_is;
+        is_log = t.is_log;
+        all_made = t.all_made;
+      }
+
+  state_sets : (h : Steps) (slot : ℕ) (from : Base) (sets : List (List ℕ)) (t : IsState ahead base made h slot from sets) → AreSets ahead base t.log (length t.log + 1) sets
+  state_sets h slot from sets t = subst (λ n. AreSets ahead base t.log (n + 1) sets) (sym t.count) t.sets_are
+
+  -- ---- a replica jumps to it
+
+  jumped_to : (h : Steps) (slot : ℕ) (from : Base) (sets : List (List ℕ)) (waits : ℕ) (r : ReplicaState) → Replica h r → r.running ≡ false → length sets ≡ length r.sets → next r ≤ slot → IsState ahead base made h slot from sets
+      → Replica h (forgotten slot (record r { group = group_of from; log = installed slot; sets = sets; waits = waits }))
+  jumped_to h slot from sets waits r k still many up t =
+      let at = next_after ahead base made h me r k in
+      let count = t.count in
+      let low = floor_low slot in
+      let here : Replica h (record r { group = group_of from; log = installed slot; sets = sets; waits = waits }) = record {
+        me_is = k.me_is;
+        whole = t.log;
+        log_is = state_has h slot from sets t;
+        acceptor_is = k.acceptor_is;
+        tops = k.tops;
+        prepares = λ b start a own. (let le = k.prepares b start a own in omega (arith, le, at, up, count));
+        count = many ∙ k.count;
+        sets = state_sets h slot from sets t;
+        calls = k.calls;
+        acts = k.acts;
+        flights = k.flights;
+        ready = k.ready;
+        leads = λ runs. (let no_way : true ≡ false = sym runs ∙ still in absurd (cc));
+      } in
+      forgotten_replica ahead base made h me slot _ here (omega (arith, low, count))
+
+  looked_up_place : (from : ℕ) (r : ReplicaState) (mails : List Mail) → Ok (r, mails) → Ok (looked_up from (r, mails))
+  unfolding looked_up
+  looked_up_place from r mails f =
+      cond_both (is_member (members r) from) _ _ Ok
+      (λ _. hinted_place ahead base made grants me before some law r (Some from) mails f)
+      (λ _. looked_place ahead base made grants me before some law (r, mails) f)
+
+  jumped_place : (from slot : ℕ) (state : Base) (sets : List (List ℕ)) (place : Place) → Ok place → place.0.running ≡ false → length sets ≡ length place.0.sets → next place.0 ≤ slot → IsState ahead base made before slot state sets
+      → Ok (looked_up from (jumped slot state sets place.0, place.1))
+  unfolding jumped
+  jumped_place from slot state sets (r, mails) f still many up t =
+      let h = f.newer ++ before in
+      let now = grown_state ahead base made made (λ c m. m) f.newer before slot state sets t in
+      looked_up_place from (jumped slot state sets r) mails
+      (turn ahead base made me before r (jumped slot state sets r) mails f (jumped_to h slot state sets (waits_in state.core.lock r.waits) r f.replica still many up now))
+
+  took_over_place : (from slot : ℕ) (state : Base) (sets : List (List ℕ)) (r : ReplicaState) (mails : List Mail) → Ok (r, mails) → length sets ≡ length r.sets → next r ≤ slot → IsState ahead base made before slot state sets
+      → Ok (took_over from slot state sets (r, mails))
+  unfolding took_over ended
+  took_over_place from slot state sets r mails f many up t =
+      cond_both r.running (stopped (Some from) (r, mails)) (r, mails) (λ (p : Place). Ok (looked_up from (jumped slot state sets p.0, p.1)))
+      (λ _. jumped_place from slot state sets (stopped (Some from) (r, mails)) (fine_stopped ahead base made me before (Some from) r mails f) refl many up t)
+      (λ still. jumped_place from slot state sets (r, mails) f still many up t)
+
+  -- Install
+  pub fine_install_row : (from slot : ℕ) (state : Base) (sets : List (List ℕ)) (r : ReplicaState) (mails : List Mail) → Ok (r, mails) → IsState ahead base made before slot state sets → Ok (install_row from slot state sets (r, mails))
+  unfolding install_row
+  fine_install_row from slot state sets r mails f t =
+      cond_both (not (eqb (length sets) (length r.sets)) || (nat_lt last_slot slot || nat_lt slot (next r))) _ _ Ok (λ _. f)
+      (λ e. (
+      let parts = or_parts (not (eqb (length sets) (length r.sets))) (nat_lt last_slot slot || nat_lt slot (next r)) e in
+      let low = or_parts (nat_lt last_slot slot) (nat_lt slot (next r)) parts.1 in
+      let ge = ltb-false slot (next r) low.1 in
+      took_over_place from slot state sets r mails f (eqb-true (length sets) (length r.sets) (not-false (eqb (length sets) (length r.sets)) parts.0)) (omega (arith, ge)) t))
+
+  -- ---- a replica is made of it
+
+  state_first : (h : Steps) (slot : ℕ) (state : Base) (sets : List (List ℕ)) → IsState ahead base made h slot state sets → first_ballot state.core ≡ first ahead base
+  state_first h slot state sets t =
+      let same = ap (λ (g : Group). g.core.first) t.group_is ∙ (state_same (birth ahead base) t.log).1 in
+      ap (λ n. (let b : Ballot = record { round = 1; node = n } in b)) same
+
+  installed_is : (own slot : ℕ) (state : Base) (sets : List (List ℕ)) → own ≡ me → IsFresh me before → length sets ≡ ahead.slots → IsState ahead base made before slot state sets
+      → Replica before (installed_replica own slot state sets)
+  installed_is own slot state sets mine fresh many t =
+      let count = t.count in
+      let low = floor_low slot in
+      let ballot = state_first before slot state sets t in
+      let here : Replica before (record {
+        me = own;
+        group = group_of state;
+        log = installed slot;
+        acceptor = born (first_ballot state.core);
+        hint = Some state.core.first;
+        top = first_ballot state.core;
+        running = false;
+        leader = first_leader (first_ballot state.core);
+        ready = [];
+        sets = sets;
+        acts = [];
+        calls = [];
+        waits = 0;
+      }) = record {
+        me_is = mine;
+        whole = t.log;
+        log_is = state_has before slot state sets t;
+        acceptor_is = subst (Mirrors (born (first_ballot state.core))) (ap (λ b. born b) ballot ∙ sym (fresh_state (first ahead base) me before fresh)) (mirrors_itself (born (first_ballot state.core)));
+        tops = λ b at c a yes. absurd (Each-among _ before (Offered b at c) fresh a yes);
+        prepares = λ b start a yes. absurd (Each-among _ before _ fresh a yes);
+        count = many;
+        sets = state_sets before slot state sets t;
+        calls = tt;
+        acts = tt;
+        flights = tt;
+        ready = tt;
+        leads = λ e. cc;
+      } in
+      forgotten_replica ahead base made before me slot _ here (omega (arith, low, count))
+
+  pub made_place : (own from slot : ℕ) (state : Base) (sets : List (List ℕ)) → own ≡ me → IsFresh me before → IsLawful (rule ahead base) (first ahead base) before
+      → ((b : Ballot) (at : ℕ) (c : Command) → Among (Offered b at c) before → made c) → length sets ≡ ahead.slots → IsState ahead base made before slot state sets → Ok (made_by own from slot state sets)
+  unfolding made_by
+  made_place own from slot state sets mine fresh lawful requested many t =
+      looked_up_place from (installed_replica own slot state sets) []
+      (record { newer = []; are = refl; by = tt; lawful = lawful; requested = requested; replica = installed_is own slot state sets mine fresh many t; mails = λ m a. absurd a })
+
+  -- ---- an order
+
+  command_made : (o : Order) (number : ℕ) (c : Command) → command_of (let line : OrderLine = record { number = number; order = o } in line) ≡ Some c → made c
+  command_made (An.Join node group) number c e = (let same : Join node number ≡ c = cc in subst made same (grants.joins node number))
+  command_made (An.Leave node group) number c e = (let same : Leave node number ≡ c = cc in subst made same (grants.leaves node number))
+  command_made _ number c e = cc
+
+  told_place : (number : ℕ) (result : ToldResult) (r : ReplicaState) (mails : List Mail) → Ok (r, mails) → Ok (r, told_desk r.me number result mails)
+  told_place number result r mails f = says ahead base made me before r mails (record { from = r.me; to = 0; body = Told number result }) f refl tt
+
+  queued_place : (o : Option OrderRefusal) (number : ℕ) (c : Command) (r : ReplicaState) (mails : List Mail) → Ok (r, mails) → made c → Ok (order_queued o number c (r, mails))
+  queued_place (Some why) number c r mails f m = told_place number (Refused why) r mails f
+  queued_place None number c r mails f m =
+      pumps ahead base made grants me before some law _
+      (turn ahead base made me before r (record r { calls = r.calls ++ c ∷ [] }) mails f
+      (with_calls ahead base made grants me before some (f.newer ++ before) r (r.calls ++ c ∷ []) f.replica (Each-append made r.calls (c ∷ []) f.replica.calls (m, tt))))
+
+  taken_place : (o : Option Command) (number : ℕ) (r : ReplicaState) (mails : List Mail) → ((c : Command) → o ≡ Some c → made c) → Ok (r, mails) → Ok (order_taken o number (r, mails))
+  taken_place None number r mails m f = f
+  taken_place (Some c) number r mails m f =
+      cond_both (is_some r.group.core.gone || not (settled r)) _ _ Ok
+      (λ _. told_place number (Refused (NotLeader r.hint)) r mails f)
+      (λ _. queued_place (refusal_of r.group.core c) number c r mails f (m c refl))
+
+  -- Told
+  pub fine_order_row : (line : OrderLine) (r : ReplicaState) (mails : List Mail) → Ok (r, mails) → Ok (order_row line (r, mails))
+  unfolding order_row
+  fine_order_row line r mails f = taken_place (command_of line) line.number r mails (λ c e. command_made line.order line.number c e) f
