@@ -65,11 +65,11 @@ once one other (inl e) (inl f) same = sym e ∙ f
 once one other (inl e) (inr n) same = absurd n
 once one other (inr n) b same = absurd n
 
-alone : IsRoster (1 ∷ [])
-alone = record { some = lit≤ tt; most = lit≤ tt; ascending = λ k within. absurd (omega (arith, within)) }
+pub one_member : IsRoster (1 ∷ [])
+one_member = record { some = lit≤ tt; most = lit≤ tt; ascending = λ k within. absurd (omega (arith, within)) }
 
 pair : IsRoster (1 ∷ 2 ∷ [])
-pair = roster_with (1 ∷ []) 2 alone refl (lit≤ tt)
+pair = roster_with (1 ∷ []) 2 one_member refl (lit≤ tt)
 
 trio : IsRoster (1 ∷ 2 ∷ 3 ∷ [])
 trio = roster_with (1 ∷ 2 ∷ []) 3 pair refl (lit≤ tt)

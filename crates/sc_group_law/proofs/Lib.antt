@@ -19,3 +19,4 @@ pub mod Journal
 pub mod Walked
 pub mod Sound
 pub mod Example
+pub mod JoinExample

@@ -1,4 +1,5 @@
 pub mod Example
+pub mod JoinExample
 pub mod Laws
 pub mod Players
 pub mod Steps

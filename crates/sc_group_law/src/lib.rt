@@ -9,12 +9,15 @@ ghost use Rattle.sc_sound.specs.Histories.{decided_row};
 ghost use Rattle.sc_sound.specs.Requests.{issue_row};
 ghost use Rattle.sc_group_law.specs.Players.{HasOneGroup, Lawful};
 ghost use Rattle.sc_group_law.specs.Example.{three_nodes, example_scenario, example, call};
+ghost use Rattle.sc_sound.specs.Example.{alone};
+ghost use Rattle.sc_sound.specs.Logs.{decided_state};
+ghost use Rattle.sc_group_law.specs.JoinExample.{join_scenario, join_example, join};
 ghost use Rattle.sc_group_law.specs.Laws.{GroupJournalsAreSound, ValidHaveOneGroup};
 
 use sc_scenario::texts_are_early;
 
-/// Each first part of a lawful journal of one group with fixed members is sound, whatever is lost,
-/// repeated, late or crashed, and with no majority alive. No two commands are chosen at one slot and
+/// Each first part of a lawful journal of one group is sound, whoever joins or leaves it, whatever is
+/// lost, repeated, late or crashed, and with no majority alive. No two commands are chosen at one slot and
 /// the log only grows (Paxos Made Simple, sections 2.2 and 3). Each replica has executed a front of the
 /// log and holds the state there. The requests that took effect are one legal history (Herlihy and
 /// Wing, 1990), with the replies that clients keep, and each is decided after its issue and before its
@@ -39,6 +42,16 @@ pub fn a_journal_with_an_election()
     ensures log { decided_log four three_nodes example ≡ call ∷ [] }
     ensures decided { decided_row four three_nodes 0 example ≡ Some 4 }
     ensures issued { issue_row 1 1 example ≡ Some 1 }
+{}
+
+/// The law is about groups that change: a lawful journal in which the one member of a group decides that
+/// another joins, and sends it the state.
+pub fn a_journal_with_a_join()
+    ensures one_group { HasOneGroup join_scenario alone }
+    ensures lawful { Lawful four no_words join_scenario join_example }
+    ensures log { decided_log four alone join_example ≡ join ∷ [] }
+    ensures decided { decided_row four alone 0 join_example ≡ Some 2 }
+    ensures members { (decided_state four alone join_example).core.members ≡ 1 ∷ 2 ∷ [] }
 {}
 
 #[cfg(test)]
