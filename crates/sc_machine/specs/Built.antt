@@ -1,9 +1,14 @@
--- The commands that the machine carries out so far.
+-- The commands that the machine carries out so far: of splits only that of a group that is its own successor.
 use Rattle.std.specs.Prelude.{Bool, true, false}
 use Rattle.sc_cmd.specs.declared.commands.Command.{Command}
-use Rattle.sc_cmd.specs.declared.commands.Command.TheVariants.{Noop, Call}
+use Rattle.sc_cmd.specs.declared.commands.Command.TheVariants.{Noop, Call, Join, Leave, Split}
+use Rattle.sc_machine_table.specs.Group.{Group}
+use Rattle.sc_machine_table.specs.Orders.{is_alone}
 
-abbrev pub is_built : Command → Bool
-is_built Noop = true
-is_built (Call client seq op) = true
-is_built _ = false
+abbrev pub is_built : Group → Command → Bool
+is_built group Noop = true
+is_built group (Call client seq op) = true
+is_built group (Join node order) = true
+is_built group (Leave node order) = true
+is_built group (Split at child order) = is_alone group.core
+is_built group _ = false

@@ -1,17 +1,24 @@
 //! The group machine.
-ghost use Rattle.std.specs.Prelude.{◌≡◌, IfOk, true};
+ghost use Rattle.std.specs.Prelude.{◌≡◌, ℕ, IfOk, MatchOption, None, true};
 ghost use Rattle.std.specs.FinMap.{get};
 ghost use Rattle.sc_ideal.specs.IdealStore.{holds_key, key_of};
 ghost use Rattle.sc_ideal.specs.Clients.{seen_of};
-ghost use Rattle.sc_machine_table.specs.Group.{base_of, group_of};
-ghost use Rattle.sc_machine_table.specs.Machine.{applied, called, served, numbered, done};
+ghost use Rattle.sc_cmd.specs.declared.commands.Command.TheVariants.{Join, Leave, Split};
+ghost use Rattle.sc_cmd.specs.declared.effects.Effect.TheVariants.{Refused};
+ghost use Rattle.sc_machine_table.specs.Group.{Group, base_of, group_of};
+ghost use Rattle.sc_machine_table.specs.Machine.{applied, called, served, numbered, done, divided};
+ghost use Rattle.sc_machine_table.specs.Orders.{ordered, refusal_of, with_node, without_node};
+ghost use Rattle.sc_machine_table.specs.Splits.{CanSplit, child_of};
+ghost use Rattle.sc_txn.specs.Checked.{is_checked, IsPossible};
 ghost use Rattle.sc_machine.specs.Built.{is_built};
 
-use sc_base::{Dup, Op, OutOfMemory, RingArc};
+use sc_base::{Draw, Dup, Op, OutOfMemory, RingArc};
 use sc_clients::ClientTable;
-use sc_cmd::{Base, Command, Core, Effect, Lock};
+use sc_cmd::{Base, Command, Core, Effect, Lock, OrderRefusal};
 use sc_ideal::Seen;
+use sc_split_merge::plan_split;
 use sc_store::Store;
+use sc_txn::{check, has_named};
 use std::alloc::Global;
 use std::marker::Model;
 
@@ -84,15 +91,33 @@ impl Machine {
         })
     }
 
+    /// The record of the child, where the group is split at `at`; to be taken before the entry that splits is applied. `can_split` tells whether the group can be split there.
+    pub fn child(&self, at: u32, child: Draw) -> Result<Base, OutOfMemory>
+        requires { CanSplit self.now.core at }
+        ensures { IfOk result (λ base. base ≡ child_of self.now at child) }
+    {
+        let (_left, core) = plan_split(self.alloc, &self.core, at, child)?;
+        let pairs = self.store.part(&core.arc)?;
+        let clients = self.clients.list()?;
+        Ok(Base {
+            core,
+            pairs,
+            clients,
+        })
+    }
+
     /// Applies a command, by the group machine's table. After want of memory the machine may only be dropped.
-    /// Only the commands `Noop` and `Call` are built.
+    /// Built are the commands `Noop`, `Call`, `Join` and `Leave`, and `Split` for a group that is its own successor.
     pub fn apply(&mut self, command: &Command) -> Result<Effect, OutOfMemory>
-        requires { is_built command.now ≡ true }
+        requires { is_built self.old command.now ≡ true }
         ensures { IfOk result (λ effect. applied self.old command.now ≡ (self.new, effect)) }
     {
         match command {
             Command::Noop => Ok(Effect::Idle),
             Command::Call { client, seq, op } => self.call(*client, *seq, op),
+            Command::Join { node, .. } => Ok(self.join(command, *node)),
+            Command::Leave { node, .. } => Ok(self.leave(command, *node)),
+            Command::Split { at, child, .. } => self.split(command, *at, *child),
             _ => unreachable!(),
         }
     }
@@ -146,5 +171,60 @@ impl Machine {
             Some(reply) => Ok(Effect::Again(reply.dup(self.alloc)?)),
             None => unreachable!(),
         }
+    }
+    // Why an order is refused, if it is: a group that is gone leads nothing.
+    fn refusal(&self, command: &Command) -> Option<OrderRefusal>
+        requires { is_checked command.now ≡ true }
+        ensures { MatchOption result ((self.now.core.gone ≡ None) × (refusal_of self.now.core command.now ≡ None) × IsPossible self.now.core command.now) (λ why. (after : Group) → ordered self.now.core.gone (refusal_of self.now.core command.now) after self.now ≡ (self.now, Refused why)) }
+    {
+        if self.core.gone.is_some() {
+            return Some(OrderRefusal::NotLeader { hint: None });
+        }
+        match check(&self.core, command) {
+            Ok(()) => None,
+            Err(why) => Some(why),
+        }
+    }
+
+    fn join(&mut self, command: &Command, node: u16) -> Effect
+        requires { (order : ℕ) × (command.now ≡ Join node order) }
+        ensures { ordered self.old.core.gone (refusal_of self.old.core command.now) (with_node self.old node) self.old ≡ (self.new, result) }
+    {
+        if let Some(why) = self.refusal(command) {
+            return Effect::Refused(why);
+        }
+        match self.core.members.add(node) {
+            Ok(()) => Effect::Changed,
+            Err(_) => unreachable!(),
+        }
+    }
+
+    fn leave(&mut self, command: &Command, node: u16) -> Effect
+        requires { (order : ℕ) × (command.now ≡ Leave node order) }
+        ensures { ordered self.old.core.gone (refusal_of self.old.core command.now) (without_node self.old node) self.old ≡ (self.new, result) }
+    {
+        if let Some(why) = self.refusal(command) {
+            return Effect::Refused(why);
+        }
+        match self.core.members.remove(node) {
+            Ok(()) => Effect::Changed,
+            Err(_) => unreachable!(),
+        }
+    }
+
+    fn split(&mut self, command: &Command, at: u32, child: Draw) -> Result<Effect, OutOfMemory>
+        requires { (order : ℕ) × (command.now ≡ Split at child order) }
+        ensures { IfOk result (λ effect. divided (refusal_of self.old.core command.now) self.old at child ≡ (self.new, effect)) }
+    {
+        if has_named(&self.core, child) {
+            return Ok(Effect::NoEffect { tx: child });
+        }
+        if let Some(why) = self.refusal(command) {
+            return Ok(Effect::Refused(why));
+        }
+        let (left, _child) = plan_split(self.alloc, &self.core, at, child)?;
+        self.store.keep(&left.arc);
+        self.core = left;
+        Ok(Effect::Changed)
     }
 }

@@ -6,6 +6,7 @@ use Rattle.sc_base.specs.declared.ops.Op.{Op}
 use Rattle.sc_base.specs.declared.ops.Noted.{Noted}
 use Rattle.sc_ideal.specs.IdealStore.{key_of, reply_of, after, holds_key}
 use Rattle.sc_cmd.specs.declared.links.Route.{Route}
+use Rattle.sc_cmd.specs.declared.orders.OrderRefusal.{OrderRefusal}
 use Rattle.sc_cmd.specs.declared.cores.Lock.{Lock}
 use Rattle.sc_cmd.specs.declared.cores.Lock.TheVariants.{Free, Coordinating, Promised, Watching}
 use Rattle.sc_cmd.specs.declared.commands.Command.{Command}
@@ -45,11 +46,11 @@ called None (Watching tx watch) group client seq op = served group client seq op
 called None (Coordinating tx body order heard) group client seq op = (group, NoEffect tx)
 called None (Promised tx offer) group client seq op = (group, NoEffect tx)
 
--- a split that happens at once; a draw names one thing only
-abbrev pub divided : Group → ℕ → Draw → ℕ → Group × Effect
-divided group at child order =
+-- a split that happens at once, by why it is refused, if it is; a draw names one thing only
+abbrev pub divided : Option OrderRefusal → Group → ℕ → Draw → Group × Effect
+divided why group at child =
     if has_named group.core child then (group, NoEffect child)
-    else ordered group.core.gone (refusal_of group.core (Split at child order)) (left_group group at child) group
+    else ordered group.core.gone why (left_group group at child) group
 
 -- one command: the group after it, and its effect. A group with another successor splits by a transaction. The commands of transactions are not built yet: they do nothing.
 abbrev pub applied : Group → Command → Group × Effect
@@ -57,5 +58,5 @@ applied group Noop = (group, Idle)
 applied group (Call client seq op) = called group.core.gone group.core.lock group client seq op
 applied group (Join node order) = ordered group.core.gone (refusal_of group.core (Join node order)) (with_node group node) group
 applied group (Leave node order) = ordered group.core.gone (refusal_of group.core (Leave node order)) (without_node group node) group
-applied group (Split at child order) = if is_alone group.core then divided group at child order else (group, Idle)
+applied group (Split at child order) = if is_alone group.core then divided (refusal_of group.core (Split at child order)) group at child else (group, Idle)
 applied group _ = (group, Idle)

@@ -1,7 +1,11 @@
 //! The refusals of orders. Of those that hold of an order the one with the least number counts.
-ghost use Rattle.std.specs.Prelude.{◌≡◌, true, Some, None, MatchResult, nat_eq, length};
+ghost use Rattle.std.specs.Prelude.{◌≡◌, ◌≤◌, true, Some, None, MatchResult, OnOk, nat_eq, length};
+ghost use Rattle.std.specs.List.{list_any};
+ghost use Rattle.sc_member.specs.Faults.{add_fault, remove_fault};
+ghost use Rattle.sc_cmd.specs.Same.{same_draw};
+ghost use Rattle.sc_machine_table.specs.Splits.{CanSplit, has_named, is_locked_in};
 ghost use Rattle.sc_machine_table.specs.Orders.{locked_in, is_alone, refusal_of, refused_free, join_refused, leave_refused, split_refused};
-ghost use Rattle.sc_txn.specs.Checked.{is_checked};
+ghost use Rattle.sc_txn.specs.Checked.{is_checked, IsPossible};
 
 use sc_base::Draw;
 use sc_cmd::{Command, Core, Lock, OrderRefusal, same_draw};
@@ -10,10 +14,11 @@ use sc_cmd::{Command, Core, Lock, OrderRefusal, same_draw};
 const MOST_BEGUN: u32 = 256;
 
 /// Why the command of an order is refused to a group of that record, if it is: the refusal with the least number of those that hold.
-/// The command is `Join`, `Leave` or `Split`. A group that is gone is not looked at here.
+/// The command is `Join`, `Leave` or `Split`, and what is accepted can be carried out. Whether the group is gone is not looked at here.
 pub fn check(core: &Core, command: &Command) -> Result<(), OrderRefusal>
     requires { is_checked command.now ≡ true }
-    ensures { MatchResult result (λ _. refusal_of core.now command.now ≡ None) (λ why. refusal_of core.now command.now ≡ Some why) }
+    ensures why { MatchResult result (λ _. refusal_of core.now command.now ≡ None) (λ why. refusal_of core.now command.now ≡ Some why) }
+    ensures possible { OnOk result (IsPossible core.now command.now) }
 {
     if let Some(tx) = locked_in(&core.lock) {
         return Err(OrderRefusal::InTransaction { tx });
@@ -38,7 +43,8 @@ fn locked_in(lock: &Lock) -> Option<Draw>
 }
 
 fn check_join(core: &Core, node: u16) -> Result<(), OrderRefusal>
-    ensures { MatchResult result (λ _. join_refused core.now node ≡ None) (λ why. join_refused core.now node ≡ Some why) }
+    ensures why { MatchResult result (λ _. join_refused core.now node ≡ None) (λ why. join_refused core.now node ≡ Some why) }
+    ensures possible { OnOk result (add_fault core.now.members node ≡ None) }
 {
     let is_member = core.members.has(node);
     if core.members.len() == 9 && !is_member {
@@ -51,13 +57,15 @@ fn check_join(core: &Core, node: u16) -> Result<(), OrderRefusal>
 }
 
 fn has_one_member(core: &Core) -> bool
-    ensures { result ≡ nat_eq (length core.now.members) 1 }
+    ensures same { result ≡ nat_eq (length core.now.members) 1 }
+    ensures some { 1 ≤ length core.now.members }
 {
     core.members.len() == 1
 }
 
 fn check_leave(core: &Core, node: u16) -> Result<(), OrderRefusal>
-    ensures { MatchResult result (λ _. leave_refused core.now node ≡ None) (λ why. leave_refused core.now node ≡ Some why) }
+    ensures why { MatchResult result (λ _. leave_refused core.now node ≡ None) (λ why. leave_refused core.now node ≡ Some why) }
+    ensures possible { OnOk result (remove_fault core.now.members node ≡ None) }
 {
     if !core.members.has(node) {
         return Err(OrderRefusal::NotMember);
@@ -75,7 +83,8 @@ fn is_alone(core: &Core) -> bool
 }
 
 fn check_split(core: &Core, at: u32) -> Result<(), OrderRefusal>
-    ensures { MatchResult result (λ _. split_refused core.now at ≡ None) (λ why. split_refused core.now at ≡ Some why) }
+    ensures why { MatchResult result (λ _. split_refused core.now at ≡ None) (λ why. split_refused core.now at ≡ Some why) }
+    ensures possible { OnOk result (CanSplit core.now at) }
 {
     if at == core.arc.lo() || !core.arc.holds(at) {
         return Err(OrderRefusal::BadBoundary);
@@ -87,4 +96,38 @@ fn check_split(core: &Core, at: u32) -> Result<(), OrderRefusal>
         return Err(OrderRefusal::TxLimit);
     }
     Ok(())
+}
+
+/// Whether the draw has named something in a group of that record: a child that was split off, or a transaction that is decided or that the group is locked in. An order under such a name has no effect.
+pub fn has_named(core: &Core, draw: Draw) -> bool
+    ensures { result ≡ has_named core.now draw }
+{
+    is_born(core, draw) || is_decided(core, draw) || is_locked_in(&core.lock, draw)
+}
+
+fn is_born(core: &Core, draw: Draw) -> bool
+    ensures { result ≡ list_any (λ child. same_draw child draw) core.now.born }
+{
+    core.born
+        .as_slice()
+        .iter()
+        .any(|child| same_draw(*child, draw))
+}
+
+fn is_decided(core: &Core, draw: Draw) -> bool
+    ensures { result ≡ list_any (λ decision. same_draw decision.0 draw) core.now.decided }
+{
+    core.decided
+        .as_slice()
+        .iter()
+        .any(|decision| same_draw(decision.0, draw))
+}
+
+fn is_locked_in(lock: &Lock, draw: Draw) -> bool
+    ensures { result ≡ is_locked_in (locked_in lock.now) draw }
+{
+    match locked_in(lock) {
+        Some(tx) => same_draw(tx, draw),
+        None => false,
+    }
 }

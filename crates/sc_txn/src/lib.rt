@@ -3,7 +3,7 @@
 
 mod checks;
 
-pub use checks::check;
+pub use checks::{check, has_named};
 
 #[cfg(test)]
 mod tests;
