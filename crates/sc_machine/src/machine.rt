@@ -14,7 +14,7 @@ ghost use Rattle.sc_machine.specs.Built.{is_built};
 
 use sc_base::{Draw, Dup, Op, OutOfMemory, RingArc};
 use sc_clients::ClientTable;
-use sc_cmd::{Base, Command, Core, Effect, Lock, OrderRefusal};
+use sc_cmd::{Base, Command, Core, Effect, Lock, OrderRefusal, same_draw};
 use sc_ideal::Seen;
 use sc_split_merge::plan_split;
 use sc_store::Store;
@@ -107,7 +107,7 @@ impl Machine {
     }
 
     /// Applies a command, by the group machine's table. After want of memory the machine may only be dropped.
-    /// Built are the commands `Noop`, `Call`, `Join` and `Leave`, and `Split` for a group that is its own successor.
+    /// Built are the commands `Noop`, `Call`, `Join` and `Leave`, and `Split` for a group that is its own successor; `can_apply` tells.
     pub fn apply(&mut self, command: &Command) -> Result<Effect, OutOfMemory>
         requires { is_built self.old command.now ≡ true }
         ensures { IfOk result (λ effect. applied self.old command.now ≡ (self.new, effect)) }
@@ -119,6 +119,18 @@ impl Machine {
             Command::Leave { node, .. } => Ok(self.leave(command, *node)),
             Command::Split { at, child, .. } => self.split(command, *at, *child),
             _ => unreachable!(),
+        }
+    }
+
+    /// Whether the command is one that `apply` carries out so far.
+    pub fn can_apply(&self, command: &Command) -> bool
+        ensures { result ≡ is_built self.now command.now }
+    {
+        match command {
+            Command::Noop | Command::Call { .. } | Command::Join { .. } | Command::Leave { .. } =>
+                true,
+            Command::Split { .. } => same_draw(self.core.succ.group, self.core.id),
+            _ => false,
         }
     }
 
