@@ -7,7 +7,7 @@ use Rattle.sc_cmd.specs.declared.commands.Command.TheVariants.{Join, Leave, Spli
 use Rattle.sc_cmd.specs.declared.cores.Core.{Core}
 use Rattle.sc_cmd.specs.declared.cores.Lock.TheVariants.{Free, Coordinating}
 use Rattle.sc_cmd.specs.declared.effects.Effect.{Effect}
-use Rattle.sc_cmd.specs.declared.effects.Effect.TheVariants.{NoEffect, Refused}
+use Rattle.sc_cmd.specs.declared.effects.Effect.TheVariants.{Changed, NoEffect, Refused}
 use Rattle.sc_cmd.specs.declared.orders.OrderRefusal.TheVariants.{NotLeader, InTransaction, BadBoundary, TooManyMembers, NotMember, LastMember, IsMember}
 use Rattle.sc_cmd.specs.declared.votes.Outcome.TheVariants.{Abort}
 use Rattle.sc_machine_table.specs.Group.{group_of}
@@ -128,3 +128,10 @@ fresh = refl
 
 gone : effect (record (core five) { gone = Some (record { group = draw 0 2; lo = 0; members = 1 ∷ [] }) }) (Join 1 1) ≡ Refused (NotLeader None)
 gone = refl
+
+-- the command makes of the group what the plan says
+splits : effect (core five) (Split 1828716544 (draw 1 1) 1) ≡ Changed
+splits = refl
+
+splits_by_plan : (applied (group_of (record { core = core five; pairs = []; clients = [] })) (Split 1828716544 (draw 1 1) 1)).0.core ≡ left_core (core five) 1828716544 (draw 1 1)
+splits_by_plan = refl
