@@ -1,7 +1,6 @@
 -- Execution: the command of the next slot, which is chosen there, lengthens the log.
-use Rattle.std.proofs.Common.{◌≡◌, ℕ, suc, ◌+◌, ◌-◌, ◌<◌, ◌≤◌, ◌&&◌, ◌||◌, nat_lt, not, Bool, true, false, cond, eqb, List, [], ◌∷◌, ◌++◌, length, filter, Option, Some, None, ◌⊎◌, inl, inr, refl, sym, ◌∙◌, ap, subst, arith}
+use Rattle.std.proofs.Common.{◌≡◌, ℕ, ◌+◌, ◌<◌, ◌&&◌, ◌||◌, nat_lt, Bool, true, false, cond, eqb, List, [], ◌∷◌, ◌++◌, length, Option, Some, None, ◌⊎◌, inl, inr, refl, sym, ◌∙◌, ap, subst, arith}
 use Rattle.std.proofs.lemmas.Bool.{cases_Bool, eqb-true, eqb-false, and_parts, cond_both}
-use Rattle.std.proofs.lemmas.List.{length_push, take-append-le, take_all}
 use Rattle.sc_base.specs.declared.ops.Op.{Op}
 use Rattle.sc_base.specs.declared.ops.Reply.{Reply}
 use Rattle.sc_cmd.specs.declared.links.Route.{Route}
@@ -13,67 +12,35 @@ use Rattle.sc_cmd.specs.declared.effects.Effect.TheVariants as Was
 use Rattle.sc_mail.specs.declared.bodies.AnswerBody.{AnswerBody}
 use Rattle.sc_mail.specs.declared.bodies.AnswerBody.TheVariants as Says
 use Rattle.sc_mail.specs.declared.bodies.Mail.{Mail}
-use Rattle.sc_mail.specs.declared.bodies.MailBody.TheVariants.{Answer, Prepare, Install, Told}
+use Rattle.sc_mail.specs.declared.bodies.MailBody.TheVariants.{Answer, Told}
 use Rattle.sc_member.specs.Roster.{is_member, least_of}
-use Rattle.sc_machine_table.specs.Group.{Group, base_of}
+use Rattle.sc_machine_table.specs.Group.{Group}
 use Rattle.sc_cmd.specs.declared.orders.ToldResult.{ToldResult}
 use Rattle.sc_machine_table.specs.Machine.{applied}
 use Rattle.sc_paxos_words.specs.declared.flights.Flight.{Flight}
-use Rattle.sc_paxos_words.specs.declared.answers.Learnt.{Learnt}
 use Rattle.sc_paxos_words.specs.Among.{Among, Each}
 use Rattle.sc_paxos_words.specs.Logs.{LogState, next_of}
 use Rattle.sc_paxos_words.specs.Leaders.{flight_at, landed as without_flight_at}
-use Rattle.sc_paxos_words.proofs.ListLemmas.{Each-among, Each-weaker, find_found}
-use Rattle.sc_paxos_law.specs.Chosen.{needed, members_of, IsChosenAfter, IsLog}
-use Rattle.sc_paxos_law.proofs.Law.{earlier, longer_log}
-use Rattle.sc_node_table.specs.Slots.{rest_of, at_slot, without_slot}
-use Rattle.sc_node_table.specs.Replica.{ReplicaState, Place, name_of, next, members, flying, floor_of, forgotten, waits_in}
-use Rattle.sc_node_table.specs.Mails.{sent, sent_all, order_in, told_order}
-use Rattle.sc_node_table.specs.Install.{install_to, asked_to_promise, welcomed_all}
+use Rattle.sc_paxos_words.proofs.ListLemmas.{Each-among, find_found}
+use Rattle.sc_paxos_law.specs.Chosen.{IsLog}
+use Rattle.sc_paxos_law.proofs.Law.{earlier}
+use Rattle.sc_node_table.specs.Slots.{at_slot, without_slot}
+use Rattle.sc_node_table.specs.Replica.{ReplicaState, Place, name_of, next, members, flying}
+use Rattle.sc_node_table.specs.Mails.{sent, order_in, told_order}
 use Rattle.sc_node_table.specs.Queues.{call_of, without_call, call_before, put_back, same_command}
-use Rattle.sc_node_table.specs.Execute.{with_entry, entered, answer_of, told_call, result_of, told_effect, told, learnt_to, welcomed, lost, landed, left_gone, left, is_among, looked_for, looked, executed_one, has_room, next_ready, executed_ready, executed}
+use Rattle.sc_node_table.specs.Execute.{entered, answer_of, told_call, result_of, told_effect, told, learnt_to, lost, landed, left_gone, left, is_among, looked_for, looked, executed_one, has_room, next_ready, executed_ready, executed}
 use Rattle.sc_node_table.specs.Pump.{pumped}
 use Rattle.sc_hist_law.specs.Laws.{IsReplied, LogTells}
 use Rattle.sc_sound.specs.Laws.{HasEntry}
 use Rattle.sc_sound.specs.Logs.{Ahead}
 use Rattle.sc_sound.specs.Histories.{done_by}
-use Rattle.sc_group_law.proofs.Lists.{get_pushed}
 use Rattle.sc_group_law.proofs.Growth.{IsLearnt, by_own_log, learnt_offered}
-use Rattle.sc_group_law.proofs.Held.{floor_low, group_again}
-use Rattle.sc_group_law.proofs.Invariant.{Steps, rule, first, birth, Grants, IsTaken, AreSets, HasLog, next_is, pushed_has, cut_has, IsReplica, next_after, forgotten_replica, IsTrueAnswer, Fine, turn, says}
-use Rattle.sc_group_law.proofs.Sending.{same_name, name_is, prepared_all, learnt_others, fine_elected, fine_ended, fine_stopped}
-use Rattle.sc_group_law.proofs.Parts.{Each-without_flight, among_without_flight, Each-without_slot, among_without_slot, slot_among, Each-without_call, rest_length, rest_count, rest_get, flying_found}
+use Rattle.sc_group_law.proofs.Invariant.{Steps, rule, first, birth, Grants, IsTaken, IsReplica, next_after, IsTrueAnswer, Fine, turn, says}
+use Rattle.sc_group_law.proofs.Sending.{learnt_others, fine_elected, fine_ended, fine_stopped}
+use Rattle.sc_group_law.proofs.Parts.{Each-without_flight, among_without_flight, Each-without_slot, among_without_slot, slot_among, Each-without_call, flying_found}
 use Rattle.sc_group_law.proofs.Offering.{with_calls, with_acts, fine_pumped}
-
-with_entry-is : (c : Command) (log : LogState Command) → with_entry c log ≡ record log { entries = log.entries ++ c ∷ [] }
-with_entry-is c log =
-    cond_both (eqb (next_of log) (next_of log)) _ _ (λ (x : Learnt × LogState Command). x.1 ≡ record log { entries = log.entries ++ c ∷ [] })
-    (λ _. refl) (λ f. absurd (eqb-false (next_of log) (next_of log) f refl))
-
-module _ (ahead : Ahead) (base : Base) where
-  -- ---- the log and the open slots with one entry more
-
-  members_later : (log : List Command) (c : Command) (slot : ℕ) → needed (rule ahead base) slot ≤ length log → members_of (rule ahead base) log slot ≡ members_of (rule ahead base) (log ++ c ∷ []) slot
-  members_later log c slot le = ap (rule ahead base).members (sym (take-append-le (needed (rule ahead base) slot) log (c ∷ []) le))
-
-  more_sets : (log : List Command) (c : Command) (sets : List (List ℕ)) (set : List ℕ) → length sets ≡ ahead.slots → set ≡ (rule ahead base).members (log ++ c ∷ [])
-      → AreSets ahead base log (length log + 1) sets → AreSets ahead base (log ++ c ∷ []) (length log + 1 + 1) (rest_of sets ++ set ∷ [])
-  more_sets log c sets set count last are k other at =
-      let longer = length_push log c in
-      elim (get_pushed (rest_of sets) set k other at) [
-        | inl old ↦ (
-            let here = are (suc k) other (rest_get sets k other old) in
-            let same : length log + 1 + suc k ≡ length log + 1 + 1 + k = omega arith in
-            subst (λ n. (other ≡ members_of (rule ahead base) (log ++ c ∷ []) n) × (needed (rule ahead base) n ≤ length (log ++ c ∷ []))) same
-            (here.0 ∙ members_later log c (length log + 1 + suc k) here.1, (let le = here.1 in omega (arith, le, longer))))
-        | inr (end, same) ↦ (
-            let one = ahead.some in
-            let rest = rest_count sets (omega (arith, count, one)) in
-            let slots : needed (rule ahead base) (length log + 1 + 1 + k) ≡ length (log ++ c ∷ []) = omega (arith, end, rest, count, longer) in (
-              sym same ∙ last ∙ ap (rule ahead base).members (sym (take_all (needed (rule ahead base) (length log + 1 + 1 + k)) (log ++ c ∷ []) (omega (arith, slots)))),
-              omega (arith, slots),
-            ))
-      ]
+use Rattle.sc_group_law.proofs.Entering.{entered_has, entered_replica, entered_next, entered_runs}
+use Rattle.sc_group_law.proofs.Welcoming.{welcomed_place}
 
 module _ (ahead : Ahead) (base : Base) (made : Command → Type 0) (grants : Grants ahead base made) (me : ℕ) (before : Steps)
     (some : (log : List Command) → Each made log → (node : ℕ) × (rest : List ℕ) × ((rule ahead base).members log ≡ node ∷ rest))
@@ -83,76 +50,6 @@ module _ (ahead : Ahead) (base : Base) (made : Command → Type 0) (grants : Gra
 
   abbrev Replica : Steps → ReplicaState → Type 0
   Replica h r = IsReplica ahead base made h me r
-
-  -- ---- 1. the entry is applied and kept, and what is old is forgotten
-
-  -- the log and the group with the entry
-  entered_has : (h : Steps) (c : Command) (r : ReplicaState) (k : Replica h r) → made c → IsChosenAfter (rule ahead base) h k.whole (length k.whole + 1) c
-      → HasLog ahead base made h (k.whole ++ c ∷ []) (record r.log { entries = r.log.entries ++ c ∷ [] }) (applied r.group c).0
-  entered_has h c r k m chosen = pushed_has ahead base made h k.whole r.log r.group c k.log_is m (longer_log (rule ahead base) h k.whole c k.log_is.is_log chosen)
-
-  entered_to : (h : Steps) (c : Command) (waits : ℕ) (r : ReplicaState) (k : Replica h r) → made c → IsChosenAfter (rule ahead base) h k.whole (length k.whole + 1) c
-      → Replica h (forgotten (next r) (record r { group = (applied r.group c).0; log = record r.log { entries = r.log.entries ++ c ∷ [] }; sets = rest_of r.sets ++ (applied r.group c).0.core.members ∷ []; waits = waits }))
-  entered_to h c waits r k m chosen =
-      let log = k.whole in
-      let longer = length_push log c in
-      let count = k.count in
-      let one = ahead.some in
-      let has = entered_has h c r k m chosen in
-      let at = next_after ahead base made h me r k in
-      let low = floor_low (next r) in
-      let here : Replica h (record r { group = (applied r.group c).0; log = record r.log { entries = r.log.entries ++ c ∷ [] }; sets = rest_of r.sets ++ (applied r.group c).0.core.members ∷ []; waits = waits }) = record {
-        me_is = k.me_is;
-        whole = log ++ c ∷ [];
-        log_is = has;
-        acceptor_is = k.acceptor_is;
-        tops = k.tops;
-        prepares = λ b from a own. (let le = k.prepares b from a own in omega (arith, le, longer));
-        count = rest_length r.sets (applied r.group c).0.core.members (omega (arith, count, one)) ∙ k.count;
-        sets = subst (λ n. AreSets ahead base (log ++ c ∷ []) (n + 1) (rest_of r.sets ++ (applied r.group c).0.core.members ∷ [])) (sym longer)
-            (more_sets ahead base log c r.sets (applied r.group c).0.core.members k.count (ap (λ (g : Group). g.core.members) has.group_is) k.sets);
-        calls = k.calls;
-        acts = k.acts;
-        flights = k.flights;
-        ready = k.ready;
-        leads = λ runs. (let l = k.leads runs in
-            record {
-              own = l.own;
-              low = l.low;
-              first_is = l.first_is;
-              votes = l.votes;
-              promisers = l.promisers;
-              reports = l.reports;
-              made = Each-weaker _ _ (λ v p. (p.0, (let le = p.1 in omega (arith, le, longer)))) l.votes l.made;
-              offers = λ slot d a. elim (l.offers slot d a) [ inl lt ↦ inl (omega (arith, lt, longer)) | inr t ↦ inr t ];
-            });
-      } in
-      forgotten_replica ahead base made h me (next r) _ here (omega (arith, low, at, longer))
-
-  entered_is : (c : Command) (r : ReplicaState)
-      → entered c r ≡ forgotten (next r) (record r { group = (applied r.group c).0; log = record r.log { entries = r.log.entries ++ c ∷ [] }; sets = rest_of r.sets ++ (applied r.group c).0.core.members ∷ []; waits = waits_in (applied r.group c).0.core.lock r.waits })
-  unfolding entered
-  entered_is c r = ap (λ l. forgotten (next r) (record r { group = (applied r.group c).0; log = l; sets = rest_of r.sets ++ (applied r.group c).0.core.members ∷ []; waits = waits_in (applied r.group c).0.core.lock r.waits })) (with_entry-is c r.log)
-
-  entered_replica : (h : Steps) (c : Command) (r : ReplicaState) (k : Replica h r) → made c → IsChosenAfter (rule ahead base) h k.whole (length k.whole + 1) c → Replica h (entered c r)
-  entered_replica h c r k m chosen = subst (Replica h) (sym (entered_is c r)) (entered_to h c (waits_in (applied r.group c).0.core.lock r.waits) r k m chosen)
-
-  -- the next slot is the one after the entry's
-  entered_next : (h : Steps) (c : Command) (r : ReplicaState) (k : Replica h r) → made c → IsChosenAfter (rule ahead base) h k.whole (length k.whole + 1) c → next r < next (entered c r)
-  unfolding forgotten
-  entered_next h c r k m chosen =
-      let has = entered_has h c r k m chosen in
-      let longer = length_push k.whole c in
-      let at = next_after ahead base made h me r k in
-      let low = floor_low (next r) in
-      let cut = cut_has ahead base made h (k.whole ++ c ∷ []) _ _ (floor_of (next r)) (omega (arith, low, at, longer)) has in
-      let after = next_is ahead base made h (k.whole ++ c ∷ []) _ _ cut in
-      let same : next (entered c r) ≡ length (k.whole ++ c ∷ []) + 1 = ap (λ (s : ReplicaState). next s) (entered_is c r) ∙ after in
-      omega (arith, same, at, longer)
-
-  entered_runs : (c : Command) (r : ReplicaState) → (entered c r).running ≡ r.running
-  unfolding forgotten
-  entered_runs c r = ap (λ (s : ReplicaState). s.running) (entered_is c r)
 
   -- ---- a command goes back
 
@@ -256,48 +153,6 @@ module _ (ahead : Ahead) (base : Base) (made : Command → Type 0) (grants : Gra
   unfolding learnt_to
   learnt_same true nodes slot c (r, mails) = refl
   learnt_same false nodes slot c (r, mails) = refl
-
-  -- the state is sent
-  pub installed_place : (node : ℕ) (r : ReplicaState) (mails : List Mail) → Ok (r, mails) → Ok (install_to node (r, mails))
-  unfolding install_to
-  installed_place node r mails f =
-      let h = f.newer ++ before in
-      let k = f.replica in
-      let at = next_after ahead base made h me r k in
-      let last : length k.whole ≡ next r - 1 = omega (arith, at) in
-      says ahead base made me before r mails (record { from = r.me; to = node; body = Install (name_of r) (next r - 1) (base_of r.group) r.sets }) f refl (
-        same_name (name_of r) base.core.id (name_is ahead base made me before h r k),
-        record {
-          log = k.whole;
-          is_log = k.log_is.is_log;
-          count = last;
-          group_is = group_again r.group ∙ k.log_is.group_is;
-          all_made = k.log_is.all_made;
-          sets_are = subst (λ n. AreSets ahead base k.whole (n + 1) r.sets) last k.sets;
-        },
-      )
-
-  asked_place : (node : ℕ) (r : ReplicaState) (mails : List Mail) → Ok (r, mails) → r.running ≡ true → Ok (asked_to_promise node (r, mails))
-  unfolding sent_all
-  asked_place node r mails f runs =
-      cond_both r.leader.is_first (r, mails) (r, sent r.me node (Prepare (name_of r) r.leader.ballot (next r)) mails) Ok (λ _. f)
-      (λ _. prepared_all ahead base made me before (node ∷ []) r mails r.leader.ballot (next r) f (f.replica.leads runs).own (omega arith))
-
-  asked_same : (node : ℕ) (r : ReplicaState) (mails : List Mail) → (asked_to_promise node (r, mails)).0 ≡ r
-  asked_same node r mails = cond_both {A = Place} r.leader.is_first (r, mails) (r, sent r.me node (Prepare (name_of r) r.leader.ballot (next r)) mails) (λ p. p.0 ≡ r) (λ _. refl) (λ _. refl)
-
-  welcomed_each : (nodes : List ℕ) (r : ReplicaState) (place : Place) → place.0 ≡ r → Ok place → r.running ≡ true → Ok (welcomed_all nodes place) × ((welcomed_all nodes place).0 ≡ r)
-  unfolding welcomed_all install_to
-  welcomed_each [] r place same f runs = (f, same)
-  welcomed_each (node ∷ nodes) r (s, mails) same f runs =
-      let sends = installed_place node s mails f in
-      let to = (install_to node (s, mails)).1 in
-      welcomed_each nodes r (asked_to_promise node (s, to)) (asked_same node s to ∙ same) (asked_place node s to sends (ap (λ (x : ReplicaState). x.running) same ∙ runs)) runs
-
-  welcomed_place : (counted : Bool) (nodes : List ℕ) (r : ReplicaState) (place : Place) → place.0 ≡ r → Ok place → (counted ≡ true → r.running ≡ true) → Ok (welcomed counted nodes place) × ((welcomed counted nodes place).0 ≡ r)
-  unfolding welcomed
-  welcomed_place true nodes r (s, mails) same f runs = welcomed_each (filter (λ node. not (is_member nodes node)) (members s)) r (s, mails) same f (runs refl)
-  welcomed_place false nodes r (s, mails) same f runs = (f, same)
 
   -- ---- 4. what was in flight or ready there is over
 
@@ -413,10 +268,10 @@ module _ (ahead : Ahead) (base : Base) (made : Command → Type 0) (grants : Gra
       let log = k.whole in
       let known = earlier (rule ahead base) (length log) in
       let chosen = by_own_log (rule ahead base) (first ahead base) h f.lawful (length log + 1) c (subst (λ n. IsLearnt (rule ahead base) h n c) (next_after ahead base made h me r k) t) log k.log_is.is_log known in
-      let after = entered_replica h c r k m chosen in
-      let has = entered_has h c r k m chosen in
+      let after = entered_replica ahead base made me h c r k m chosen in
+      let has = entered_has ahead base made me h c r k m chosen in
       let place = turn ahead base made me before r (entered c r) mails f after in
-      let up : next r < next (entered c r) = entered_next h c r k m chosen in
+      let up : next r < next (entered c r) = entered_next ahead base made me h c r k m chosen in
       let effect = (applied r.group c).1 in
       let replies : (client seq : ℕ) (op : Op) (reply : Reply) → c ≡ Call client seq op → IsReplied effect reply → HasEntry (done_by (birth ahead base) (log ++ c ∷ [])) client seq reply = λ client seq op reply is replied. (
       subst (λ l. HasEntry (done_by (birth ahead base) l) client seq reply) (ap (λ d. log ++ d ∷ []) (sym is))
@@ -424,14 +279,14 @@ module _ (ahead : Ahead) (base : Base) (made : Command → Type 0) (grants : Gra
       (subst (λ (g : Group). IsReplied (applied g (Call client seq op)).1 reply) k.log_is.group_is (subst (λ d. IsReplied (applied r.group d).1 reply) is replied)))) in
       let answers : (client seq : ℕ) (op : Op) (answer : AnswerBody) → c ≡ Call client seq op → answer_of effect ≡ Some answer → IsTrueAnswer ahead base h (32 + client) seq answer = λ client seq op answer is e.
       (true_answer h (log ++ c ∷ []) has.is_log client seq effect (λ reply replied. replies client seq op reply is replied) answer e) in
-      let start : Past counted (next r) c (entered c r, mails) = record { fine = place; learnt_is = t; executed_is = up; runs_is = λ e. entered_runs c r ∙ runs e } in
+      let start : Past counted (next r) c (entered c r, mails) = record { fine = place; learnt_is = t; executed_is = up; runs_is = λ e. entered_runs ahead base made me c r ∙ runs e } in
       let answered_it : Past counted (next r) c (cond counted (told_call (answer_of effect) c (entered c r, mails)) (entered c r, mails)) = (
       cond_both counted (told_call (answer_of effect) c (entered c r, mails)) (entered c r, mails) (Past counted (next r) c)
       (λ _. told_place counted (next r) c (answer_of effect) c (entered c r) mails start m answers) (λ _. start)) in
       let spoken : Past counted (next r) c (told counted effect c (entered c r, mails)) = ordered_place counted (next r) c (result_of effect) c _ answered_it in
       let said = told counted effect c (entered c r, mails) in
       let taught = learnt_place counted (members r) (next r) c said spoken in
-      let welcome = welcomed_place counted (members r) said.0 (learnt_to counted (members r) (next r) c said) (learnt_same counted (members r) (next r) c said) taught spoken.runs_is in
+      let welcome = welcomed_place ahead base made me before counted (members r) said.0 (learnt_to counted (members r) (next r) c said) (learnt_same counted (members r) (next r) c said) taught spoken.runs_is in
       let past = subst (λ (s : ReplicaState). next r < next s) (sym welcome.1) spoken.executed_is in
       looked_place _ (left_place _ (landed_place counted (next r) c _ welcome.0 past))
 

@@ -6,6 +6,8 @@ pub mod Held
 pub mod Invariant
 pub mod Sending
 pub mod Offering
+pub mod Entering
+pub mod Welcoming
 pub mod Executing
 pub mod Counting
 pub mod Rows

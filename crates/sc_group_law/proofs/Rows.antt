@@ -36,7 +36,8 @@ use Rattle.sc_group_law.proofs.Sending.{offered_again, learnt_others, fine_elect
 use Rattle.sc_group_law.proofs.Offering.{with_calls}
 use Rattle.sc_group_law.proofs.Parts.{Each-without_call, flying_found}
 use Rattle.sc_group_law.proofs.Held.{get_dropped}
-use Rattle.sc_group_law.proofs.Executing.{installed_place, pumps, fine_executed}
+use Rattle.sc_group_law.proofs.Welcoming.{installed_place}
+use Rattle.sc_group_law.proofs.Executing.{pumps, fine_executed}
 
 module _ (ahead : Ahead) (base : Base) (made : Command → Type 0) (grants : Grants ahead base made) (me : ℕ) (before : Steps)
     (some : (log : List Command) → Each made log → (node : ℕ) × (rest : List ℕ) × ((rule ahead base).members log ≡ node ∷ rest))
@@ -96,7 +97,7 @@ module _ (ahead : Ahead) (base : Base) (made : Command → Type 0) (grants : Gra
           rest _ (says ahead base made me before r mails (record { from = r.me; to = from; body = Learn (name_of r) slot c }) f refl (λ _. entry_learnt (f.newer ++ before) slot r c f.replica e))
 
   asked_from_place : (o : Option Command) (from slot : ℕ) (r : ReplicaState) (mails : List Mail) → Ok (r, mails) → Ok (asked_from o from slot (r, mails))
-  asked_from_place None from slot r mails f = installed_place ahead base made grants me before some law from r mails f
+  asked_from_place None from slot r mails f = installed_place ahead base made me before from r mails f
   asked_from_place (Some c) from slot r mails f = fine_taught 32 from slot r mails f
 
   pub fine_ask_row : (from slot : ℕ) (r : ReplicaState) (mails : List Mail) → Ok (r, mails) → Ok (ask_row from slot (r, mails))

@@ -38,7 +38,8 @@ use Rattle.sc_group_law.proofs.Growth.{By, later_learnt}
 use Rattle.sc_group_law.proofs.Held.{Mirrors, promise_mirrors, accept_mirrors}
 use Rattle.sc_group_law.proofs.Invariant.{Steps, rule, first, birth, Grants, later_has, IsReplica, IsTrue, Fine, later_flying, grown_true, asked_push, says}
 use Rattle.sc_group_law.proofs.Sending.{same_name, name_is, fine_saw}
-use Rattle.sc_group_law.proofs.Executing.{hint_replica, installed_place}
+use Rattle.sc_group_law.proofs.Executing.{hint_replica}
+use Rattle.sc_group_law.proofs.Welcoming.{installed_place}
 
 -- ---- mails that are no step
 
@@ -264,7 +265,7 @@ module _ (ahead : Ahead) (base : Base) (made : Command → Type 0) (grants : Gra
     unfolding promised install_to
     promised_ended =
         cond_both (nat_le from_slot r.acceptor.floor) _ _ After
-        (λ _. quiet (install_to from (r, mails)) (installed_place ahead base made grants me before some law from r mails f) (Each-append _ mails _ replies (tt, tt)))
+        (λ _. quiet (install_to from (r, mails)) (installed_place ahead base made me before from r mails f) (Each-append _ mails _ replies (tt, tt)))
         (λ low. cond_both (may_promise r.acceptor ballot) _ _ (λ (x : PrepareAnswer Command × AcceptorState Command). After (promise_to from ballot x (r, mails)))
         (λ may. promise_made low may)
         (λ _. (let nack : Mail = record { from = r.me; to = from; body = Nack (name_of r) r.acceptor.promised } in
@@ -308,7 +309,7 @@ module _ (ahead : Ahead) (base : Base) (made : Command → Type 0) (grants : Gra
     unfolding took install_to
     took_ended =
         cond_both (nat_le slot r.acceptor.floor) _ _ Then
-        (λ _. still (install_to from (r, mails)) (installed_place ahead base made grants me before some law from r mails f) (Each-append _ mails _ replies (tt, tt)))
+        (λ _. still (install_to from (r, mails)) (installed_place ahead base made me before from r mails f) (Each-append _ mails _ replies (tt, tt)))
         (λ low. cond_both (may_accept r.acceptor ballot) _ _ (λ (x : AcceptAnswer × AcceptorState Command). Then (accepted_to from ballot slot x (r, mails)))
         (λ may. acceptance may)
         (λ _. (let nack : Mail = record { from = r.me; to = from; body = Nack (name_of r) r.acceptor.promised } in
