@@ -76,6 +76,13 @@ impl<V> Leader<V> {
         self.ballot
     }
 
+    /// Whether its ballot is the group's first, which needs no promises.
+    pub fn is_first(&self) -> bool
+        ensures { result ≡ self.now.is_first }
+    {
+        self.is_first
+    }
+
     /// Whether it is settled: its ballot is not below the promise of its own acceptor, and it is the first or a majority of the members of the next slot promised it.
     pub fn settled(&self, promised: Ballot, members: &Members) -> bool
         ensures { result ≡ is_settled promised members.now self.now }
