@@ -1,19 +1,21 @@
 -- What is ready grows shorter with each execution.
-use Rattle.std.proofs.Common.{◌≡◌, ℕ, ◌<◌, ◌≤◌, ◌==◌, Bool, true, false, List, [], ◌∷◌, length, Option, Some, None, arith, refl, ap, sym, ◌∙◌, if◌then◌else◌, ◌&&◌, ◌||◌, ◌^◌, ◌-◌}
+use Rattle.std.proofs.Common.{◌≡◌, ℕ, ◌<◌, ◌≤◌, ◌==◌, Bool, true, false, List, [], ◌∷◌, length, Option, Some, None, arith, refl, ap, sym, ◌∙◌, if◌then◌else◌, ◌&&◌, ◌||◌, ◌^◌, ◌-◌, filter, not}
 use Rattle.sc_cmd.specs.declared.links.Route.{Route}
 use Rattle.sc_cmd.specs.declared.commands.Command.{Command}
 use Rattle.sc_cmd.specs.declared.commands.Command.TheVariants.{Noop, Call, Join, Leave, Split, Begin, Prepared, RecordVote, GiveUp, Finish, Watched, RecordWatch}
 use Rattle.sc_cmd.specs.declared.effects.Effect.{Effect}
+use Rattle.sc_cmd.specs.declared.orders.ToldResult.{ToldResult}
 use Rattle.sc_mail.specs.declared.bodies.AnswerBody.{AnswerBody}
 use Rattle.sc_mail.specs.declared.bodies.Mail.{Mail}
 use Rattle.sc_member.specs.Roster.{is_member, least_of}
 use Rattle.sc_machine_table.specs.Machine.{applied}
 use Rattle.sc_node_table.specs.Slots.{at_slot, without_slot}
-use Rattle.sc_node_table.specs.Replica.{ReplicaState, Place, next, members, flying}
+use Rattle.sc_node_table.specs.Replica.{ReplicaState, Place, next, members, flying, forgotten}
+use Rattle.sc_node_table.specs.Install.{install_to, asked_to_promise, welcomed_all}
 use Rattle.sc_node_table.specs.Queues.{put_back, same_command}
 use Rattle.sc_node_table.specs.Election.{elected, ended}
 use Rattle.sc_node_table.specs.Pump.{pumped}
-use Rattle.sc_node_table.specs.Execute.{entered, answer_of, told, told_call, learnt_to, lost, landed, left, left_gone, is_among, looked, looked_for, executed_one, has_room, next_ready, executed_ready}
+use Rattle.sc_node_table.specs.Execute.{entered, answer_of, told, told_call, told_effect, result_of, learnt_to, welcomed, lost, landed, left, left_gone, is_among, looked, looked_for, executed_one, has_room, next_ready, executed_ready}
 
 -- taking a slot out makes the list shorter
 shorter_by : {X : Type 0} (f : ℕ × X) (es : List (ℕ × X)) (slot : ℕ) (x : X) (b : Bool) → (at_slot es slot ≡ Some x → length (without_slot es slot) < length es)
@@ -72,10 +74,39 @@ call-ready None (Finish tx outcome) place = refl
 call-ready None (Watched tx watch) place = refl
 call-ready None (RecordWatch tx vote by) place = refl
 
+effect-ready : (result : Option ToldResult) (command : Command) (place : Place) → (told_effect result command place).0.ready ≡ place.0.ready
+unfolding told_effect
+effect-ready None command place = refl
+effect-ready (Some result) command place = refl
+
+counted-ready : (counted : Bool) (answer : Option AnswerBody) (command : Command) (place : Place) → (if counted then told_call answer command place else place).0.ready ≡ place.0.ready
+counted-ready true answer command place = call-ready answer command place
+counted-ready false answer command place = refl
+
 told-ready : (counted : Bool) (effect : Effect) (command : Command) (place : Place) → (told counted effect command place).0.ready ≡ place.0.ready
 unfolding told
-told-ready true e command place = call-ready (answer_of e) command place
-told-ready false e command place = refl
+told-ready counted effect command place =
+    effect-ready (result_of effect) command (if counted then told_call (answer_of effect) command place else place)
+    ∙ counted-ready counted (answer_of effect) command place
+
+-- the members that are added get mails, and no more
+asked-same : (b : Bool) (place other : Place) → other.0 ≡ place.0 → (if b then place else other).0 ≡ place.0
+asked-same true place other e = refl
+asked-same false place other e = e
+
+one_welcomed-same : (node : ℕ) (place : Place) → (asked_to_promise node (install_to node place)).0 ≡ place.0
+unfolding install_to
+one_welcomed-same node place = asked-same place.0.leader.is_first (install_to node place) _ refl
+
+welcomed_all-same : (nodes : List ℕ) (place : Place) → (welcomed_all nodes place).0 ≡ place.0
+unfolding welcomed_all
+welcomed_all-same [] place = refl
+welcomed_all-same (node ∷ nodes) place = welcomed_all-same nodes (asked_to_promise node (install_to node place)) ∙ one_welcomed-same node place
+
+welcomed-ready : (counted : Bool) (before : List ℕ) (place : Place) → (welcomed counted before place).0.ready ≡ place.0.ready
+unfolding welcomed
+welcomed-ready true before place = ap (λ (r : ReplicaState). r.ready) (welcomed_all-same (filter (λ node. not (is_member before node)) (members place.0)) place)
+welcomed-ready false before place = refl
 
 learnt-ready : (counted : Bool) (before : List ℕ) (slot : ℕ) (command : Command) (place : Place) → (learnt_to counted before slot command place).0.ready ≡ place.0.ready
 unfolding learnt_to
@@ -116,7 +147,7 @@ unfolding looked
 looked-ready place = either place.0.running place (looked_for place.0.group.core.gone place) _ (omega arith) (looked_for-ready place.0.group.core.gone place)
 
 entered-ready : (command : Command) (r : ReplicaState) → (entered command r).ready ≡ r.ready
-unfolding entered
+unfolding entered forgotten
 entered-ready command r = refl
 
 -- 4 takes the slot away; what comes after it adds none
@@ -130,11 +161,13 @@ one-ready counted command place =
     let place0 : Place = (entered command place.0, place.1) in
     let place1 = told counted (applied place.0.group command).1 command place0 in
     let place2 = learnt_to counted (members place.0) (next place.0) command place1 in
-    let place4 = landed counted (next place.0) command place2 in
+    let place3 = welcomed counted (members place.0) place2 in
+    let place4 = landed counted (next place.0) command place3 in
     let same : place4.0.ready ≡ without_slot place.0.ready (next place.0) =
-    landed-ready counted (next place.0) command place2
+    landed-ready counted (next place.0) command place3
     ∙ ap (λ es. without_slot es (next place.0))
-    (learnt-ready counted (members place.0) (next place.0) command place1
+    (welcomed-ready counted (members place.0) place2
+    ∙ learnt-ready counted (members place.0) (next place.0) command place1
     ∙ told-ready counted (applied place.0.group command).1 command place0
     ∙ entered-ready command place.0) in
     omega (arith, looked-ready (left place4), left-ready place4, ap length same)

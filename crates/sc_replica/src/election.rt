@@ -4,9 +4,9 @@ ghost use Rattle.std.specs.List.{list_any};
 ghost use Rattle.std.specs.Option.{option_copied};
 ghost use Rattle.sc_node_table.specs.Replica.{taken_at, listed, under_way, is_idle, next, name_of, last_slot};
 ghost use Rattle.sc_node_table.specs.Mails.{answered_all};
-ghost use Rattle.sc_node_table.specs.Election.{nodes_to, elected, ended, saw};
+ghost use Rattle.sc_node_table.specs.Election.{nodes_to, elected, ended, stopped, saw};
 
-use crate::mails::{answer_all, answer_command};
+use crate::mails::{answer_command, dismiss_all};
 use crate::open_sets::Sets;
 use crate::ready_slots::Slots;
 use crate::replica::Replica;
@@ -98,7 +98,7 @@ impl Replica {
         Ok(())
     }
 
-    /// It runs no longer, and each call in flight, ready or waiting is answered so.
+    /// It runs no longer: each call in flight, ready or waiting is answered so, and the desk is told of each waiting order.
     #[tactic(auto, unfolding(sc_node_table::specs::Election::ended))]
     pub(crate) fn end(
         &mut self,
@@ -109,10 +109,11 @@ impl Replica {
         ensures { OnOk result ((self.new, out.new) ≡ ended hint body.now (self.old, out.old)) }
     {
         self.answer_under_way(body, out)?;
-        answer_all(
+        dismiss_all(
             self.alloc,
             self.me,
             self.name(),
+            hint,
             body,
             self.calls.as_slice(),
             out,
@@ -124,6 +125,17 @@ impl Replica {
         self.calls.clear();
         self.hint = hint;
         Ok(())
+    }
+
+    /// Stops with a hint.
+    pub(crate) fn stop(
+        &mut self,
+        hint: Option<u16>,
+        out: &mut Sequence<Mail>,
+    ) -> Result<(), OutOfMemory>
+        ensures { OnOk result ((self.new, out.new) ≡ stopped hint (self.old, out.old)) }
+    {
+        self.end(hint, &AnswerBody::NotLeader { hint }, out)
     }
 
     /// The rule on a ballot of a Prepare, Accept or Nack.
@@ -140,7 +152,7 @@ impl Replica {
         }
         if self.running && self.leader.ballot() < ballot {
             let hint = Some(ballot.node);
-            return self.end(hint, &AnswerBody::NotLeader { hint }, out);
+            return self.stop(hint, out);
         }
         Ok(())
     }

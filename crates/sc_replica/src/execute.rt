@@ -1,29 +1,47 @@
 //! Execute: the command of the next slot, counted where it was ready, else learnt.
-ghost use Rattle.std.specs.Prelude.{◌≡◌, ◌+◌, ◌<◌, ◌||◌, IfOk, OnOk, IfSome, Option, Some, None, true, false, is_some};
+ghost use Rattle.std.specs.Prelude.{◌≡◌, ◌+◌, ◌<◌, ◌||◌, not, filter, IfOk, OnOk, IfSome, Option, Some, None, true, false, is_some};
+ghost use Rattle.sc_member.specs.Roster.{is_member};
 ghost use Rattle.sc_cmd.specs.declared.commands.Command.TheVariants.{Call};
 ghost use Rattle.sc_machine_table.specs.Machine.{applied};
+ghost use Rattle.sc_machine_table.specs.Orders.{is_alone};
 ghost use Rattle.sc_node_table.specs.Replica.{next, members, last_slot};
-ghost use Rattle.sc_node_table.specs.Execute.{entered, answer_of, told_call, told, learnt_to, lost, landed, left_gone, left, is_among, looked, executed_one, next_ready, executed_ready, executed};
+ghost use Rattle.sc_node_table.specs.Execute.{entered, answer_of, told_call, told, learnt_to, welcomed, lost, landed, left_gone, left, is_among, looked, executed_one, next_ready, executed_ready, executed};
 
+use crate::install::waits_in;
 use crate::mails::answer;
+use crate::orders::result_of;
 use crate::replica::{LAST_SLOT, Replica};
 use crate::same::same_command;
 use sc_base::{Dup, OutOfMemory, Sequence, dup_found};
-use sc_cmd::{Command, Effect};
+use sc_cmd::{Command, Core, Effect, same_draw};
 use sc_machine::Machine;
 use sc_mail::{AnswerBody, Mail};
 use sc_member::Members;
+use std::alloc::Global;
 
-/// One command on the group. The commands that reshape groups are not built yet: they do nothing.
+/// Whether a group is its own successor.
+fn is_alone(core: &Core) -> bool
+    ensures { result ≡ is_alone core.now }
+{
+    same_draw(core.succ.group, core.id)
+}
+
+/// One command on the group. The split of a group that has another successor, and the commands of transactions, are not built yet: they do nothing.
 fn apply(machine: &mut Machine, command: &Command) -> Result<Effect, OutOfMemory>
     ensures { IfOk result (λ effect. applied machine.old command.now ≡ (machine.new, effect)) }
 {
     match command {
-        Command::Noop | Command::Call { .. } => machine.apply(command),
-        Command::Join { .. }
-        | Command::Leave { .. }
-        | Command::Split { .. }
-        | Command::Begin { .. }
+        Command::Noop | Command::Call { .. } | Command::Join { .. } | Command::Leave { .. } => {
+            machine.apply(command)
+        }
+        Command::Split { .. } => {
+            if is_alone(machine.core()) {
+                machine.apply(command)
+            } else {
+                Ok(Effect::Idle)
+            }
+        }
+        Command::Begin { .. }
         | Command::Prepared { .. }
         | Command::RecordVote { .. }
         | Command::GiveUp { .. }
@@ -51,18 +69,34 @@ fn answer_of(effect: Effect) -> Option<AnswerBody>
     }
 }
 
+/// The nodes that are not in a set.
+fn not_among(alloc: Global, nodes: &[u16], set: &Members) -> Result<Vec<u16>, OutOfMemory>
+    ensures { IfOk result (λ others. others.items ≡ filter (λ node. not (is_member set.now node)) nodes.now) }
+{
+    let mut others = Vec::new(alloc);
+    for node in nodes {
+        if !set.has(*node) {
+            others.push(*node)?;
+        }
+    }
+    Ok(others)
+}
+
 impl Replica {
-    /// The command is applied and kept, and one more slot is open.
+    /// The command is applied and kept, one more slot is open, and what is not above the floor is forgotten.
     #[tactic(auto, unfolding(sc_node_table::specs::Execute::entered))]
     fn enter(&mut self, command: &Command) -> Result<Effect, OutOfMemory>
         requires { next self.old < last_slot + 4 }
         ensures effect { IfOk result (λ effect. effect ≡ (applied self.old.group command.now).1) }
         ensures entered { OnOk result (self.new ≡ entered command.now self.old) }
     {
+        let last = self.next();
         let effect = apply(&mut self.machine, command)?;
         self.log.put(command.dup(self.alloc)?)?;
         let members = self.machine.core().members;
         self.sets.shift(members)?;
+        self.waits = waits_in(&self.machine.core().lock, self.waits);
+        self.forget(last);
         Ok(effect)
     }
 
@@ -96,6 +130,21 @@ impl Replica {
     }
 
     /// A counted call is answered by its effect, or goes back.
+    fn tell_call(
+        &mut self,
+        effect: Effect,
+        command: &Command,
+        out: &mut Sequence<Mail>,
+    ) -> Result<(), OutOfMemory>
+        ensures { OnOk result ((self.new, out.new) ≡ told_call (answer_of effect) command.now (self.old, out.old)) }
+    {
+        match answer_of(effect) {
+            Some(body) => self.answer_call(body, command, out),
+            None => self.call_again(command, out),
+        }
+    }
+
+    /// A counted call is answered, and of an order the desk is told.
     #[tactic(auto, unfolding(sc_node_table::specs::Execute::told))]
     fn tell(
         &mut self,
@@ -106,13 +155,11 @@ impl Replica {
     ) -> Result<(), OutOfMemory>
         ensures { OnOk result ((self.new, out.new) ≡ told counted effect command.now (self.old, out.old)) }
     {
-        if !counted {
-            return Ok(());
+        let result = result_of(&effect);
+        if counted {
+            self.tell_call(effect, command, out)?;
         }
-        match answer_of(effect) {
-            Some(body) => self.answer_call(body, command, out),
-            None => self.call_again(command, out),
-        }
+        self.tell_effect(result, command, out)
     }
 
     /// The members before a counted command learn it.
@@ -131,6 +178,31 @@ impl Replica {
             return Ok(());
         }
         self.send_learns(before.as_slice(), slot, command, out)
+    }
+
+    /// The members that were not there before.
+    fn added_to(&self, before: &Members) -> Result<Vec<u16>, OutOfMemory>
+        ensures { IfOk result (λ nodes. nodes.items ≡ filter (λ node. not (is_member before.now node)) (members self.now)) }
+    {
+        let members = self.machine.core().members;
+        not_among(self.alloc, members.as_slice(), before)
+    }
+
+    /// Each member that a counted command added is sent the state, and asked to promise this leader's ballot.
+    #[tactic(auto, unfolding(sc_node_table::specs::Execute::welcomed))]
+    fn welcome(
+        &self,
+        counted: bool,
+        before: &Members,
+        out: &mut Sequence<Mail>,
+    ) -> Result<(), OutOfMemory>
+        ensures { OnOk result ((self.now, out.new) ≡ welcomed counted before.now (self.now, out.old)) }
+    {
+        if !counted {
+            return Ok(());
+        }
+        let added = self.added_to(before)?;
+        self.welcome_all(added.as_slice(), out)
     }
 
     /// A command that lost its slot to a learnt one goes back.
@@ -182,8 +254,8 @@ impl Replica {
         if self.machine.core().members.has(self.me) {
             return Ok(());
         }
-        let hint = Some(self.machine.core().members.least());
-        self.end(hint, &AnswerBody::NotLeader { hint }, out)
+        let least = self.machine.core().members.least();
+        self.stop(Some(least), out)
     }
 
     /// Whether it need not look for a leader: it runs, the group is gone, or its hint is a member.
@@ -201,7 +273,7 @@ impl Replica {
 
     /// One that does not run looks for a leader where its hint is no member.
     #[tactic(auto, unfolding(sc_node_table::specs::Execute::looked))]
-    fn look(&mut self, out: &mut Sequence<Mail>) -> Result<(), OutOfMemory>
+    pub(crate) fn look(&mut self, out: &mut Sequence<Mail>) -> Result<(), OutOfMemory>
         ensures { OnOk result ((self.new, out.new) ≡ looked (self.old, out.old)) }
     {
         if self.is_led() {
@@ -231,6 +303,7 @@ impl Replica {
         let effect = self.enter(command)?;
         self.tell(counted, effect, command, out)?;
         self.teach_members(counted, &before, slot, command, out)?;
+        self.welcome(counted, &before, out)?;
         self.land(counted, slot, command, out)?;
         self.leave(out)?;
         self.look(out)

@@ -1,7 +1,7 @@
 //! The executed entries of a replica.
 ghost use Rattle.std.specs.Prelude.{◌≡◌, ◌+◌, ◌<◌, ◌≤◌, OnOk};
 ghost use Rattle.std.specs.Option.{option_copied};
-ghost use Rattle.sc_paxos_words.specs.Logs.{empty_log, entry_at, next_of};
+ghost use Rattle.sc_paxos_words.specs.Logs.{empty_log, entry_at, installed, log_cut, next_of};
 ghost use Rattle.sc_node_table.specs.Replica.{last_slot};
 ghost use Rattle.sc_node_table.specs.Execute.{with_entry};
 
@@ -39,6 +39,18 @@ impl Entries {
         }
     }
 
+    /// A log that starts after a slot.
+    pub(crate) fn after(alloc: Global, slot: u32) -> Entries
+        requires { slot ≤ last_slot }
+        ensures { result ≡ installed slot }
+    {
+        let mut log = Glog::born(alloc);
+        if slot > 0 {
+            log.install(slot);
+        }
+        Entries { log }
+    }
+
     /// The slot after the last entry.
     pub(crate) fn next(&self) -> u32
         ensures same { result ≡ next_of self.now }
@@ -63,5 +75,22 @@ impl Entries {
         let next = self.log.next();
         self.log.learn(next, command)?;
         Ok(())
+    }
+
+    /// Starts the log after a slot, and drops its entries.
+    pub(crate) fn install(&mut self, slot: u32)
+        requires least { next_of self.old ≤ slot }
+        requires most { slot ≤ last_slot }
+        ensures { self.new ≡ installed slot }
+    {
+        self.log.install(slot);
+    }
+
+    /// Drops the entries at slots not above `upto`. It takes no memory.
+    pub(crate) fn cut(&mut self, upto: u32)
+        requires { upto < next_of self.old }
+        ensures { self.new ≡ log_cut upto self.old }
+    {
+        self.log.cut(upto);
     }
 }

@@ -1,12 +1,16 @@
 //! A replica: one group on one node, which steps as its table says.
 #![tactic(auto)]
 
+mod asked;
 mod command_queue;
 mod election;
 mod execute;
 mod executed_log;
+mod floors;
+mod install;
 mod mails;
 mod open_sets;
+mod orders;
 mod pump;
 mod queues;
 mod ready_slots;
@@ -15,5 +19,5 @@ mod rows;
 mod same;
 mod voting;
 
-pub use replica::Replica;
+pub use replica::{LAST_SLOT, Replica};
 pub use sc_node_table::ReplicaInput;

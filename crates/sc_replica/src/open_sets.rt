@@ -5,7 +5,8 @@ ghost use Rattle.sc_node_table.specs.Slots.{rest_of};
 ghost use Rattle.sc_node_table.specs.Replica.{first_set};
 ghost use Rattle.sc_node_table.specs.Election.{is_in_some};
 
-use sc_base::OutOfMemory;
+use sc_base::{OutOfMemory, Sequence};
+use sc_cmd::MemberSets;
 use sc_member::Members;
 use sc_node_table::OPEN_SLOTS;
 use std::alloc::Global;
@@ -37,6 +38,23 @@ impl Sets {
             sets.push(*members)?;
         }
         Ok(Sets { sets })
+    }
+
+    /// These sets, one for each open slot.
+    pub(crate) fn of(alloc: Global, sets: &MemberSets) -> Result<Sets, OutOfMemory>
+        requires { length sets.now ≡ 4 }
+        ensures { IfOk result (λ made. made ≡ sets.now) }
+    {
+        Ok(Sets {
+            sets: copied(alloc, sets.as_slice())?,
+        })
+    }
+
+    /// The sets as a mail carries them.
+    pub(crate) fn list(&self, alloc: Global) -> Result<MemberSets, OutOfMemory>
+        ensures { IfOk result (λ list. list ≡ self.now) }
+    {
+        Ok(Sequence::from_vec(copied(alloc, self.sets.as_slice())?))
     }
 
     /// How many slots are open.
@@ -84,4 +102,14 @@ impl Sets {
         self.sets.remove(0);
         Ok(())
     }
+}
+
+fn copied(alloc: Global, sets: &[Members]) -> Result<Vec<Members>, OutOfMemory>
+    ensures { IfOk result (λ copy. copy.items ≡ sets.now) }
+{
+    let mut copy = Vec::new(alloc);
+    for set in sets {
+        copy.push(*set)?;
+    }
+    Ok(copy)
 }

@@ -1,8 +1,7 @@
 //! The replica.
 ghost use Rattle.std.specs.Prelude.{◌≡◌, ◌+◌, ◌≤◌, IfOk, OnOk, length, true};
-ghost use Rattle.sc_node_table.specs.Replica.{born_replica, name_of, next, last_slot};
-ghost use Rattle.sc_node_table.specs.Rows.{stepped};
-ghost use Rattle.sc_replica.specs.Given.{may_take};
+ghost use Rattle.sc_node_table.specs.Replica.{born_replica, installed_replica, name_of, next, last_slot};
+ghost use Rattle.sc_replica.specs.Bare.{bare_replica};
 
 use crate::command_queue::Queue;
 use crate::executed_log::Entries;
@@ -19,7 +18,7 @@ use std::alloc::Global;
 use std::marker::Model;
 
 /// No slot above this one is learnt, and after it none is offered.
-pub(crate) const LAST_SLOT: u32 = 4_294_967_288;
+pub const LAST_SLOT: u32 = 4_294_967_288;
 
 /// One group on one node. Contracts see what it keeps as the record of the replica's table.
 #[derive(Drop)]
@@ -73,25 +72,23 @@ impl Model for Replica {
 }
 
 impl Replica {
-    /// A replica that was made at its group's birth. Four slots are open at a time.
-    pub fn born(alloc: Global, me: u16, base: Base) -> Result<Replica, OutOfMemory>
-        ensures { IfOk result (λ replica. replica ≡ born_replica 4 me base) }
+    /// A replica of such a state, log and open slots that does not run, with the promise of birth.
+    fn bare(alloc: Global, me: u16, machine: Machine, log: Entries, sets: Sets) -> Replica
+        ensures { result ≡ bare_replica me machine log sets }
     {
-        let machine = Machine::born(alloc, base)?;
-        let sets = Sets::born(alloc, &machine.core().members)?;
         let first = machine.core().first;
         let ballot = Ballot {
             round: 1,
             node: first,
         };
-        Ok(Replica {
+        Replica {
             me,
             machine,
-            log: Entries::born(alloc),
+            log,
             acceptor: Acceptor::born(alloc, ballot),
             hint: Some(first),
             top: ballot,
-            running: first == me,
+            running: false,
             leader: Leader::first(alloc, ballot),
             ready: Slots::new(alloc),
             sets,
@@ -99,7 +96,36 @@ impl Replica {
             calls: Queue::new(alloc),
             waits: 0,
             alloc,
-        })
+        }
+    }
+
+    /// A replica that was made at its group's birth. Four slots are open at a time.
+    pub fn born(alloc: Global, me: u16, base: Base) -> Result<Replica, OutOfMemory>
+        ensures { IfOk result (λ replica. replica ≡ born_replica 4 me base) }
+    {
+        let machine = Machine::born(alloc, base)?;
+        let sets = Sets::born(alloc, &machine.core().members)?;
+        let first = machine.core().first;
+        let mut replica = Replica::bare(alloc, me, machine, Entries::born(alloc), sets);
+        replica.running = first == me;
+        Ok(replica)
+    }
+
+    /// A replica that is made of the state after a slot, with the members of the open slots.
+    pub(crate) fn after(
+        alloc: Global,
+        me: u16,
+        slot: u32,
+        base: Base,
+        sets: Sets,
+    ) -> Result<Replica, OutOfMemory>
+        requires { slot ≤ last_slot }
+        ensures { IfOk result (λ replica. replica ≡ installed_replica me slot base sets) }
+    {
+        let machine = Machine::born(alloc, base)?;
+        let mut replica = Replica::bare(alloc, me, machine, Entries::after(alloc, slot), sets);
+        replica.forget(slot);
+        Ok(replica)
     }
 
     /// The executed state.

@@ -1,4 +1,4 @@
-//! The rows of Request, Learn, Ask and Tick, and a replica's table.
+//! The rows of Request, Learn and Tick, and a replica's table.
 ghost use Rattle.std.specs.Prelude.{◌≡◌, ◌+◌, ◌-◌, ◌<◌, ◌≤◌, ◌||◌, not, nat_le, nat_lt, true, false, IfOk, OnOk, IfSome, Some, None, is_some};
 ghost use Rattle.std.specs.Option.{option_copied};
 ghost use Rattle.sc_member.specs.Roster.{is_member};
@@ -117,67 +117,6 @@ impl Replica {
             MailBody::Ask { group, from_slot },
             out,
         )
-    }
-
-    /// The entry of a slot, if it is held.
-    fn entry(&self, slot: u32) -> Option<&Command>
-        ensures same { option_copied result ≡ entry_at slot self.now.log }
-        ensures held { IfSome result (λ _. slot < next self.now) }
-        ensures most { next self.now ≤ last_slot + 4 }
-    {
-        self.log.entry(slot)
-    }
-
-    fn teach_one(
-        &self,
-        from: u16,
-        slot: u32,
-        command: &Command,
-        out: &mut Sequence<Mail>,
-    ) -> Result<(), OutOfMemory>
-        ensures { OnOk result (out.new ≡ sent self.now.me from (Learn (name_of self.now) slot command.now) out.old) }
-    {
-        let group = self.name();
-        send(
-            self.me,
-            from as u32,
-            MailBody::Learn {
-                group,
-                slot,
-                command: command.dup(self.alloc)?,
-            },
-            out,
-        )
-    }
-
-    /// At most so many entries, from a slot on.
-    #[tactic(auto, unfolding(sc_node_table::specs::Rows::taught))]
-    fn teach(
-        &self,
-        most: u32,
-        from: u16,
-        slot: u32,
-        out: &mut Sequence<Mail>,
-    ) -> Result<(), OutOfMemory>
-        ensures { OnOk result (out.new ≡ taught most self.now from slot out.old) }
-    {
-        let mut at = slot;
-        for _sent in 0..most {
-            let Some(command) = self.entry(at) else {
-                return Ok(());
-            };
-            self.teach_one(from, at, command, out)?;
-            at += 1;
-        }
-        Ok(())
-    }
-
-    /// Ask: at most 32 entries that are held.
-    #[tactic(auto, unfolding(sc_node_table::specs::Rows::ask_row))]
-    fn on_ask(&self, from: u16, slot: u32, out: &mut Sequence<Mail>) -> Result<(), OutOfMemory>
-        ensures { OnOk result ((self.now, out.new) ≡ ask_row from slot (self.now, out.old)) }
-    {
-        self.teach(32, from, slot, out)
     }
 
     /// The members of a slot whose vote was not counted.
@@ -302,6 +241,12 @@ impl Replica {
             MailBody::Nack { promised, .. } => self.see(*promised, out),
             MailBody::Learn { slot, command, .. } => self.on_learn(from, *slot, command, out),
             MailBody::Ask { from_slot, .. } => self.on_ask(from, *from_slot, out),
+            MailBody::Install {
+                slot,
+                base,
+                sets,
+                ..
+            } => self.on_install(from, *slot, base, sets, out),
             _ => Ok(()),
         }
     }
@@ -344,6 +289,7 @@ impl Replica {
         match input {
             ReplicaInput::Got(mail) => self.take_mail(mail.from, &mail.body, out),
             ReplicaInput::Tick => self.on_tick(out),
+            ReplicaInput::Told(line) => self.on_order(line, out),
         }
     }
 }

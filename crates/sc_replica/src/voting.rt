@@ -39,7 +39,7 @@ impl Replica {
         send(self.me, from as u32, body, out)
     }
 
-    /// A prepare from a slot whose reports are kept; one from a slot that is forgotten is not answered.
+    /// A prepare from a slot whose reports are kept; to one from a slot that is forgotten the executed state is sent.
     #[tactic(auto, unfolding(sc_node_table::specs::Voting::promised))]
     fn promise(
         &mut self,
@@ -51,7 +51,7 @@ impl Replica {
         ensures { OnOk result ((self.new, out.new) ≡ promised from ballot from_slot (self.old, out.old)) }
     {
         if from_slot <= self.acceptor.floor() {
-            return Ok(());
+            return self.send_install(from, out);
         }
         match self.acceptor.on_prepare(ballot, from_slot)? {
             PrepareAnswer::Promise { reports } => {
@@ -87,7 +87,7 @@ impl Replica {
         self.promise(from, ballot, from_slot, out)
     }
 
-    /// An accept at a slot that is kept; one at a slot that is forgotten is not answered.
+    /// An accept at a slot that is kept; to one at a slot that is forgotten the executed state is sent.
     #[tactic(auto, unfolding(sc_node_table::specs::Voting::took))]
     fn take(
         &mut self,
@@ -100,7 +100,7 @@ impl Replica {
         ensures { OnOk result ((self.new, out.new) ≡ took from (record { slot = slot; ballot = ballot; value = command.now }) (self.old, out.old)) }
     {
         if slot <= self.acceptor.floor() {
-            return Ok(());
+            return self.send_install(from, out);
         }
         self.acceptor.reserve()?;
         let command = command.dup(self.alloc)?;

@@ -1,0 +1,26 @@
+-- A replica that does not run, as it is made.
+use Rattle.std.specs.Prelude.{ℕ, false, List, [], Some}
+use Rattle.sc_cmd.specs.declared.commands.Command.{Command}
+use Rattle.sc_paxos_words.specs.Logs.{LogState}
+use Rattle.sc_paxos_words.specs.Acceptors.{born}
+use Rattle.sc_paxos_words.specs.Leaders.{first_leader}
+use Rattle.sc_machine_table.specs.Group.{Group}
+use Rattle.sc_node_table.specs.Replica.{ReplicaState, first_ballot}
+
+-- with this state, log and members of the open slots, and the promise of its group's birth
+abbrev pub bare_replica : ℕ → Group → LogState Command → List (List ℕ) → ReplicaState
+bare_replica me group log sets = record {
+  me = me;
+  group = group;
+  log = log;
+  acceptor = born (first_ballot group.core);
+  hint = Some group.core.first;
+  top = first_ballot group.core;
+  running = false;
+  leader = first_leader (first_ballot group.core);
+  ready = [];
+  sets = sets;
+  acts = [];
+  calls = [];
+  waits = 0;
+}

@@ -1,0 +1,95 @@
+//! The row of Ask: entries that are held, or the executed state.
+ghost use Rattle.std.specs.Prelude.{◌≡◌, ◌+◌, ◌<◌, ◌≤◌, OnOk, IfSome};
+ghost use Rattle.std.specs.Option.{option_copied};
+ghost use Rattle.sc_paxos_words.specs.Logs.{entry_at};
+ghost use Rattle.sc_mail.specs.declared.bodies.MailBody.TheVariants.{Learn};
+ghost use Rattle.sc_node_table.specs.Mails.{sent};
+ghost use Rattle.sc_node_table.specs.Replica.{name_of, next, last_slot};
+ghost use Rattle.sc_node_table.specs.Rows.{taught, asked_from, ask_row};
+
+use crate::mails::send;
+use crate::replica::Replica;
+use sc_base::{Dup, OutOfMemory, Sequence};
+use sc_cmd::Command;
+use sc_mail::{Mail, MailBody};
+
+impl Replica {
+    /// The entry of a slot, if it is held.
+    pub(crate) fn entry(&self, slot: u32) -> Option<&Command>
+        ensures same { option_copied result ≡ entry_at slot self.now.log }
+        ensures held { IfSome result (λ _. slot < next self.now) }
+        ensures most { next self.now ≤ last_slot + 4 }
+    {
+        self.log.entry(slot)
+    }
+
+    fn teach_one(
+        &self,
+        from: u16,
+        slot: u32,
+        command: &Command,
+        out: &mut Sequence<Mail>,
+    ) -> Result<(), OutOfMemory>
+        ensures { OnOk result (out.new ≡ sent self.now.me from (Learn (name_of self.now) slot command.now) out.old) }
+    {
+        let group = self.name();
+        send(
+            self.me,
+            from as u32,
+            MailBody::Learn {
+                group,
+                slot,
+                command: command.dup(self.alloc)?,
+            },
+            out,
+        )
+    }
+
+    /// At most so many entries, from a slot on.
+    #[tactic(auto, unfolding(sc_node_table::specs::Rows::taught))]
+    fn teach(
+        &self,
+        most: u32,
+        from: u16,
+        slot: u32,
+        out: &mut Sequence<Mail>,
+    ) -> Result<(), OutOfMemory>
+        ensures { OnOk result (out.new ≡ taught most self.now from slot out.old) }
+    {
+        let mut at = slot;
+        for _sent in 0..most {
+            let Some(command) = self.entry(at) else {
+                return Ok(());
+            };
+            self.teach_one(from, at, command, out)?;
+            at += 1;
+        }
+        Ok(())
+    }
+
+    /// What is sent to one that asked from an executed slot: at most 32 entries where its entry is held, else the executed state.
+    fn answer_ask(&self, from: u16, slot: u32, out: &mut Sequence<Mail>) -> Result<(), OutOfMemory>
+        ensures { OnOk result ((self.now, out.new) ≡ asked_from (entry_at slot self.now.log) from slot (self.now, out.old)) }
+    {
+        if self.entry(slot).is_none() {
+            return self.send_install(from, out);
+        }
+        self.teach(32, from, slot, out)
+    }
+
+    /// Ask, of an executed slot or from 0.
+    #[tactic(auto, unfolding(sc_node_table::specs::Rows::ask_row))]
+    pub(crate) fn on_ask(
+        &self,
+        from: u16,
+        slot: u32,
+        out: &mut Sequence<Mail>,
+    ) -> Result<(), OutOfMemory>
+        ensures { OnOk result ((self.now, out.new) ≡ ask_row from slot (self.now, out.old)) }
+    {
+        if self.next() <= slot {
+            return Ok(());
+        }
+        self.answer_ask(from, slot, out)
+    }
+}

@@ -1,0 +1,183 @@
+//! Install: the executed state is sent, and is taken over by a replica that has executed less.
+ghost use Rattle.std.specs.Prelude.{◌≡◌, ◌≤◌, ◌||◌, not, nat_lt, ◌==◌, IfOk, OnOk, length, Some, if◌then◌else◌};
+ghost use Rattle.sc_node_table.specs.Replica.{last_slot, next, waits_in};
+ghost use Rattle.sc_node_table.specs.Election.{stopped};
+ghost use Rattle.sc_node_table.specs.Install.{install_to, asked_to_promise, welcomed_all, jumped};
+ghost use Rattle.sc_node_table.specs.Rows.{looked_up, took_over, install_row, made_by};
+
+use crate::mails::send;
+use crate::open_sets::Sets;
+use crate::replica::{LAST_SLOT, Replica};
+use sc_base::{Dup, OutOfMemory, Sequence};
+use sc_cmd::{Base, Lock, MemberSets};
+use sc_machine::Machine;
+use sc_mail::{Mail, MailBody};
+use std::alloc::Global;
+
+/// How long a transaction has waited: it waits no more where the group is not locked.
+pub(crate) fn waits_in(lock: &Lock, waits: u32) -> u32
+    ensures { result ≡ waits_in lock.now waits }
+{
+    match lock {
+        Lock::Free => 0,
+        Lock::Coordinating { .. } | Lock::Promised { .. } | Lock::Watching { .. } => waits,
+    }
+}
+
+impl Replica {
+    /// The executed state, its last slot and the members of the open slots, to a node.
+    #[tactic(auto, unfolding(sc_node_table::specs::Install::install_to))]
+    pub(crate) fn send_install(
+        &self,
+        node: u16,
+        out: &mut Sequence<Mail>,
+    ) -> Result<(), OutOfMemory>
+        ensures { OnOk result ((self.now, out.new) ≡ install_to node (self.now, out.old)) }
+    {
+        let body = MailBody::Install {
+            group: self.name(),
+            slot: self.next() - 1,
+            base: self.machine.base()?,
+            sets: self.sets.list(self.alloc)?,
+        };
+        send(self.me, node as u32, body, out)
+    }
+
+    /// A member that was added is asked to promise a ballot that is not the group's first.
+    fn ask_to_promise(&self, node: u16, out: &mut Sequence<Mail>) -> Result<(), OutOfMemory>
+        ensures { OnOk result ((self.now, out.new) ≡ asked_to_promise node (self.now, out.old)) }
+    {
+        if self.leader.is_first() {
+            return Ok(());
+        }
+        let body = MailBody::Prepare {
+            group: self.name(),
+            ballot: self.leader.ballot(),
+            from_slot: self.next(),
+        };
+        send(self.me, node as u32, body, out)
+    }
+
+    /// Each member that was added is sent the state, and then asked to promise.
+    #[tactic(auto, unfolding(sc_node_table::specs::Install::welcomed_all))]
+    pub(crate) fn welcome_all(
+        &self,
+        nodes: &[u16],
+        out: &mut Sequence<Mail>,
+    ) -> Result<(), OutOfMemory>
+        ensures { OnOk result ((self.now, out.new) ≡ welcomed_all nodes.now (self.now, out.old)) }
+    {
+        for node in nodes {
+            self.send_install(*node, out)?;
+            self.ask_to_promise(*node, out)?;
+        }
+        Ok(())
+    }
+
+    /// State and log jump to those after a slot, and the open slots with them.
+    #[tactic(auto, unfolding(sc_node_table::specs::Install::jumped))]
+    fn jump(&mut self, slot: u32, base: &Base, sets: &MemberSets) -> Result<(), OutOfMemory>
+        requires later { next self.old ≤ slot }
+        requires most { slot ≤ last_slot }
+        requires four { length sets.now ≡ 4 }
+        ensures { OnOk result (self.new ≡ jumped slot base.now sets.now self.old) }
+    {
+        self.waits = waits_in(&base.core.lock, self.waits);
+        self.machine = Machine::born(self.alloc, base.dup(self.alloc)?)?;
+        self.log.install(slot);
+        self.sets = Sets::of(self.alloc, sets)?;
+        self.forget(slot);
+        Ok(())
+    }
+
+    /// The sender of the state is taken for the leader if it is a member, and else one is looked for.
+    #[tactic(auto, unfolding(sc_node_table::specs::Rows::looked_up))]
+    fn look_up(&mut self, from: u16, out: &mut Sequence<Mail>) -> Result<(), OutOfMemory>
+        ensures { OnOk result ((self.new, out.new) ≡ looked_up from (self.old, out.old)) }
+    {
+        if self.machine.core().members.has(from) {
+            self.hint = Some(from);
+            return Ok(());
+        }
+        self.look(out)
+    }
+
+    /// One that runs stops, with the sender as its hint.
+    #[tactic(auto, unfolding(sc_node_table::specs::Election::ended))]
+    fn make_way(&mut self, from: u16, out: &mut Sequence<Mail>) -> Result<(), OutOfMemory>
+        ensures way { OnOk result ((self.new, out.new) ≡ (if self.old.running then stopped (Some from) (self.old, out.old) else (self.old, out.old))) }
+        ensures log { OnOk result (self.new.log ≡ self.old.log) }
+    {
+        if !self.running {
+            return Ok(());
+        }
+        self.stop(Some(from), out)
+    }
+
+    /// One that runs stops, with the sender as its hint, and then takes the state over.
+    #[tactic(auto, unfolding(sc_node_table::specs::Rows::took_over))]
+    fn take_over(
+        &mut self,
+        from: u16,
+        slot: u32,
+        base: &Base,
+        sets: &MemberSets,
+        out: &mut Sequence<Mail>,
+    ) -> Result<(), OutOfMemory>
+        requires later { next self.old ≤ slot }
+        requires most { slot ≤ last_slot }
+        requires four { length sets.now ≡ 4 }
+        ensures { OnOk result ((self.new, out.new) ≡ took_over from slot base.now sets.now (self.old, out.old)) }
+    {
+        self.make_way(from, out)?;
+        self.jump(slot, base, sets)?;
+        self.look_up(from, out)
+    }
+
+    /// Whether an Install is not taken: it is of no later slot than those that are executed, or it has not the members of the open slots.
+    fn ignores(&self, slot: u32, sets: &MemberSets) -> bool
+        ensures same { result ≡ (not (length sets.now == length self.now.sets) || (nat_lt last_slot slot || nat_lt slot (next self.now))) }
+        ensures four { length self.now.sets ≡ 4 }
+    {
+        sets.len() != self.open_slots() || LAST_SLOT < slot || slot < self.next()
+    }
+
+    /// Install.
+    #[tactic(auto, unfolding(sc_node_table::specs::Rows::install_row))]
+    pub(crate) fn on_install(
+        &mut self,
+        from: u16,
+        slot: u32,
+        base: &Base,
+        sets: &MemberSets,
+        out: &mut Sequence<Mail>,
+    ) -> Result<(), OutOfMemory>
+        ensures { OnOk result ((self.new, out.new) ≡ install_row from slot base.now sets.now (self.old, out.old)) }
+    {
+        if self.ignores(slot, sets) {
+            return Ok(());
+        }
+        self.take_over(from, slot, base, sets, out)
+    }
+
+    /// A replica that is made of the state after a slot, as a node sent it, and the mails of an election that it begins. It holds no entry. The slot is at most 2^32 - 8, and there is a set of members for each of the four open slots.
+    #[tactic(auto, unfolding(sc_node_table::specs::Rows::made_by))]
+    pub fn installed(
+        alloc: Global,
+        me: u16,
+        from: u16,
+        slot: u32,
+        base: &Base,
+        sets: &MemberSets,
+    ) -> Result<(Replica, Sequence<Mail>), OutOfMemory>
+        requires most { slot ≤ last_slot }
+        requires four { length sets.now ≡ 4 }
+        ensures { IfOk result (λ made. made ≡ made_by me from slot base.now sets.now) }
+    {
+        let sets = Sets::of(alloc, sets)?;
+        let mut replica = Replica::after(alloc, me, slot, base.dup(alloc)?, sets)?;
+        let mut out = Sequence::new(alloc);
+        replica.look_up(from, &mut out)?;
+        Ok((replica, out))
+    }
+}
