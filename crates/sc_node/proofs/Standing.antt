@@ -4,11 +4,15 @@ use Rattle.std.proofs.Math.Seq.{drop-nil}
 use Rattle.std.proofs.lemmas.List.{append-nil}
 use Rattle.sc_base.specs.declared.names.Draw.{Draw}
 use Rattle.sc_cmd.specs.Same.{same_draw}
+use Rattle.sc_cmd.specs.declared.orders.OrderLine.{OrderLine}
+use Rattle.sc_cmd.specs.declared.orders.OrderRefusal.TheVariants.{NotLeader}
+use Rattle.sc_cmd.specs.declared.orders.ToldResult.TheVariants.{Refused}
 use Rattle.sc_mail.specs.declared.bodies.Mail.{Mail}
 use Rattle.sc_mail.specs.declared.bodies.MailBody.{MailBody}
 use Rattle.sc_node_table.specs.Replica.{ReplicaState, Place, name_of}
-use Rattle.sc_node_table.specs.Node.{NodeState, replica_of, with_replica, taken_by, absent, ticked}
-use Rattle.sc_node_table.specs.Rows.{mailed, tick_row}
+use Rattle.sc_node_table.specs.Node.{NodeState, replica_of, with_replica, taken_by, unknown, group_of_order, ordered_of, on_order, ticked}
+use Rattle.sc_node_table.specs.Mails.{told_desk}
+use Rattle.sc_node_table.specs.Rows.{mailed, tick_row, order_row}
 use Rattle.sc_node.specs.Places.{place_from}
 
 -- a replica of a group stands at a place
@@ -106,7 +110,21 @@ taken-at group from body node n d new more stands e =
     ∙ ap (λ rs. (record node { replicas = rs }, more)) (sym (stands.written new))
 
 -- a mail for a group of which there is no replica
-pub taken-nowhere : {E : Type 0} (group : Draw) (from : ℕ) (body : MailBody) (node : NodeState) (result : Result (List Mail) E) → replica_of group node.replicas ≡ None
-    → IfOk result (λ mails. mails ≡ absent node.me from body) → IfOk result (λ mails. taken_by (replica_of group node.replicas) group from body node ≡ (node, mails))
-taken-nowhere group from body node (Ok mails) none e = ap (λ o. taken_by o group from body node) none ∙ ap (λ ms. (node, ms)) (sym e)
-taken-nowhere group from body node (Err x) none e = e
+pub taken-nowhere : {E : Type 0} (group : Draw) (from : ℕ) (body : MailBody) (node after : NodeState) (result : Result (List Mail) E) → replica_of group node.replicas ≡ None
+    → IfOk result (λ mails. unknown from body node ≡ (after, mails)) → IfOk result (λ mails. taken_by (replica_of group node.replicas) group from body node ≡ (after, mails))
+taken-nowhere group from body node after (Ok mails) none e = ap (λ o. taken_by o group from body node) none ∙ e
+taken-nowhere group from body node after (Err x) none e = e
+
+-- an order for a group whose replica stands at a place
+pub ordered-at : (line : OrderLine) (node : NodeState) (n : ℕ) (d new : ReplicaState) (more : List Mail) → StandsAt (group_of_order line.order) node.replicas n
+    → (new, more) ≡ order_row line (get_or node.replicas n d, []) → on_order line node ≡ (record node { replicas = set node.replicas n new }, more)
+ordered-at line node n d new more stands e =
+    ap (λ o. ordered_of o line node) (stands.found d)
+    ∙ ap (λ (p : Place). (record node { replicas = with_replica (group_of_order line.order) p.0 node.replicas }, p.1)) (sym e)
+    ∙ ap (λ rs. (record node { replicas = rs }, more)) (sym (stands.written new))
+
+-- an order for a group of which there is no replica
+pub ordered-nowhere : {E : Type 0} (line : OrderLine) (node : NodeState) (result : Result (List Mail) E) → replica_of (group_of_order line.order) node.replicas ≡ None
+    → IfOk result (λ mails. mails ≡ told_desk node.me line.number (Refused (NotLeader None)) []) → IfOk result (λ mails. on_order line node ≡ (node, mails))
+ordered-nowhere line node (Ok mails) none e = ap (λ o. ordered_of o line node) none ∙ ap (λ ms. (node, ms)) (sym e)
+ordered-nowhere line node (Err x) none e = e

@@ -36,13 +36,19 @@ pub(crate) fn group_in(body: &MailBody) -> Option<Draw>
         | MailBody::Accepted { group, .. }
         | MailBody::Nack { group, .. }
         | MailBody::Learn { group, .. }
-        | MailBody::Ask { group, .. } => Some(*group),
+        | MailBody::Ask { group, .. }
+        | MailBody::Install { group, .. } => Some(*group),
         _ => None,
     }
 }
 
 /// One mail alone.
-fn alone(alloc: Global, me: u16, to: u32, body: MailBody) -> Result<Sequence<Mail>, OutOfMemory>
+pub(crate) fn alone(
+    alloc: Global,
+    me: u16,
+    to: u32,
+    body: MailBody,
+) -> Result<Sequence<Mail>, OutOfMemory>
     ensures { IfOk result (λ mails. mails ≡ sent me to body []) }
 {
     let mut mails = Sequence::new(alloc);

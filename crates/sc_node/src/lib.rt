@@ -2,6 +2,8 @@
 #![tactic(auto)]
 
 mod absent;
+mod arrivals;
 mod node;
+mod ordered;
 
 pub use node::NodeCore;

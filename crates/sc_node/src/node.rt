@@ -4,7 +4,7 @@ ghost use Rattle.sc_node_table.specs.Replica.{name_of};
 ghost use Rattle.sc_node_table.specs.Node.{born_node, replica_of, taken_by, routed, on_mail, ticked, on_tick, node_table, may_come};
 ghost use Rattle.sc_node.specs.Places.{place_from};
 
-use crate::absent::{absent, group_in, may_come};
+use crate::absent::{group_in, may_come};
 use sc_actor::Input;
 use sc_base::{Draw, Dup, OutOfMemory, Sequence};
 use sc_cmd::{Base, OrderLine, same_draw};
@@ -16,8 +16,8 @@ use std::marker::Model;
 /// A node and its replicas, one a group. Contracts see it as the record of the node's table.
 #[derive(Drop)]
 pub struct NodeCore {
-    me: u16,
-    replicas: Vec<Replica>,
+    pub(crate) me: u16,
+    pub(crate) replicas: Vec<Replica>,
 }
 
 impl Model for NodeCore {
@@ -33,7 +33,7 @@ impl Model for NodeCore {
 
     ghost coded = { let pairs : Coded Contents = map.code (coded_list coded_ℕ) (coded_list coded_ℕ) in let clients : Coded Table = map.code coded_ℕ (Prim.hlevel codes) in let group : Coded Group = Prim.hlevel (codes, pairs, clients) in let replica : Coded ReplicaState = Prim.hlevel (codes, group) in Prim.hlevel (codes, replica) };
 
-    ghost view = { λ n. record { me = n.me; replicas = n.replicas.items } };
+    ghost view = { λ n. record { me = n.me; ahead = 4; replicas = n.replicas.items } };
 }
 
 /// The replicas at the birth of groups, of each of which the node is a member.
@@ -50,7 +50,7 @@ fn born_replicas(alloc: Global, me: u16, groups: &[Base]) -> Result<Vec<Replica>
 }
 
 /// The place of a group's replica, if there is one.
-fn place_of(replicas: &[Replica], group: Draw) -> Option<usize>
+pub(crate) fn place_of(replicas: &[Replica], group: Draw) -> Option<usize>
     ensures { result ≡ place_from 0 group replicas.now }
 {
     for i in 0..replicas.len() {
@@ -107,7 +107,8 @@ impl NodeCore {
         match input {
             Input::Got(mail) => self.on_mail(alloc, mail.from, &mail.body),
             Input::Tick => self.on_tick(alloc),
-            Input::Go | Input::Told(_) => Ok(Sequence::new(alloc)),
+            Input::Told(line) => self.on_order(alloc, line),
+            Input::Go => Ok(Sequence::new(alloc)),
         }
     }
 
@@ -140,7 +141,7 @@ impl NodeCore {
         ensures { IfOk result (λ sent. taken_by (replica_of group self.old.replicas) group from body.now self.old ≡ (self.new, sent)) }
     {
         match place_of(self.replicas.as_slice(), group) {
-            None => absent(alloc, self.me, from, body),
+            None => self.take_unknown(alloc, from, body),
             Some(i) => self.take_at(alloc, i, group, from, body),
         }
     }

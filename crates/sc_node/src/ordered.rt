@@ -1,0 +1,74 @@
+//! An order for the replica of its group.
+ghost use Rattle.std.specs.Prelude.{◌≡◌, [], Some, None, IfOk};
+ghost use Rattle.sc_node_table.specs.Mails.{told_desk};
+ghost use Rattle.sc_node_table.specs.Node.{group_of_order, on_order};
+ghost use Rattle.sc_cmd.specs.declared.orders.ToldResult.TheVariants.{Refused};
+ghost use Rattle.sc_cmd.specs.declared.orders.OrderRefusal.TheVariants.{NotLeader};
+ghost use Rattle.sc_node.specs.Places.{place_from};
+
+use crate::absent::alone;
+use crate::node::{NodeCore, place_of};
+use sc_base::{Draw, OutOfMemory, Sequence};
+use sc_cmd::{Order, OrderLine, OrderRefusal, ToldResult};
+use sc_mail::{DESK, Mail, MailBody};
+use std::alloc::Global;
+
+/// The group of an order.
+fn group_of_order(order: &Order) -> Draw
+    ensures { result ≡ group_of_order order.now }
+{
+    match order {
+        Order::Join { group, .. }
+        | Order::Leave { group, .. }
+        | Order::Split { group, .. }
+        | Order::Merge { group }
+        | Order::Repart { group, .. }
+        | Order::Migrate { group, .. } => *group,
+    }
+}
+
+/// The desk is told that the node does not lead the group of an order, and knows nobody who does.
+fn tell_unknown(alloc: Global, me: u16, number: u32) -> Result<Sequence<Mail>, OutOfMemory>
+    ensures { IfOk result (λ sent. sent ≡ told_desk me number (Refused (NotLeader None)) []) }
+{
+    let why = OrderRefusal::NotLeader { hint: None };
+    alone(
+        alloc,
+        me,
+        DESK,
+        MailBody::Told {
+            order: number,
+            result: ToldResult::Refused(why),
+        },
+    )
+}
+
+impl NodeCore {
+    /// An order.
+    pub(crate) fn on_order(
+        &mut self,
+        alloc: Global,
+        line: &OrderLine,
+    ) -> Result<Sequence<Mail>, OutOfMemory>
+        ensures { IfOk result (λ sent. on_order line.now self.old ≡ (self.new, sent)) }
+    {
+        match place_of(self.replicas.as_slice(), group_of_order(&line.order)) {
+            None => tell_unknown(alloc, self.me, line.number),
+            Some(i) => self.take_order_at(alloc, i, line),
+        }
+    }
+
+    fn take_order_at(
+        &mut self,
+        alloc: Global,
+        i: usize,
+        line: &OrderLine,
+    ) -> Result<Sequence<Mail>, OutOfMemory>
+        requires { place_from 0 (group_of_order line.now.order) self.old.replicas ≡ Some i }
+        ensures { IfOk result (λ sent. on_order line.now self.old ≡ (self.new, sent)) }
+    {
+        let mut sent = Sequence::new(alloc);
+        self.replicas[i].on_order(line, &mut sent)?;
+        Ok(sent)
+    }
+}
