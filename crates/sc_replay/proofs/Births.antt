@@ -6,12 +6,12 @@ use Rattle.sc_cmd.specs.declared.cores.Base.{Base}
 use Rattle.sc_cmd.specs.declared.links.Route.{Route}
 use Rattle.sc_actor.specs.declared.actors.Seat.{Seat}
 use Rattle.sc_play.specs.Stages.{are_apart}
-use Rattle.sc_node_table.specs.Slots.{numbers}
+use Rattle.sc_node_table.specs.Slots.{slots_ahead, numbers}
 use Rattle.sc_scenario.specs.Groups.{lone_group}
 use Rattle.sc_scenario.specs.Valid.{IsEarly}
 use Rattle.sc_scenario.specs.declared.scenarios.Asks.{Asks}
 use Rattle.sc_scenario.specs.declared.scenarios.Scenario.{Scenario}
-use Rattle.sc_world.specs.World.{slots_ahead, node_seat, client_seat, client_seats, route_of, births}
+use Rattle.sc_world.specs.World.{node_seat, client_seat, client_seats, route_of, births}
 use Rattle.sc_world.specs.declared.party.Party.{Party}
 
 -- the numbers rise, from above a number on

@@ -16,7 +16,7 @@ use Rattle.sc_scenario.specs.declared.scenarios.Asks.{Asks}
 use Rattle.sc_scenario.specs.declared.scenarios.Scenario.{Scenario}
 use Rattle.sc_scenario.specs.declared.scenarios.SchedLine.{SchedLine}
 use Rattle.sc_scenario.specs.declared.scenarios.SchedLine.TheVariants.{Go, Deliver, Drop, Again, Tick, Crash, Told, Settle, Free, Storm}
-use Rattle.sc_node_table.specs.Slots.{numbers}
+use Rattle.sc_node_table.specs.Slots.{slots_ahead, numbers}
 use Rattle.sc_node_table.specs.Node.{node_table, born_node}
 use Rattle.sc_client_table.specs.Client.{born}
 use Rattle.sc_client_table.specs.Table.{table}
@@ -31,10 +31,6 @@ party_table (Client client) input = (Client (table client input).0, (table clien
 -- the actor number of a client
 abbrev pub client_actor : ℕ → ℕ
 client_actor client = 32 + client
-
--- how many slots of a log are open at a time
-abbrev pub slots_ahead : ℕ
-slots_ahead = 4
 
 -- a node at the birth of the groups, so many slots of which are open at a time: it has a replica of each of which it is a member
 abbrev pub node_seat : ℕ → List Base → ℕ → Seat Party

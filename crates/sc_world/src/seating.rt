@@ -1,7 +1,7 @@
 //! The actors and the schedule of a scenario.
 ghost use Rattle.std.specs.Prelude.{◌≡◌, ◌≤◌, ◌↔◌, IsTrue, length, All, IfOk, OnOk, ◌++◌, map};
-ghost use Rattle.sc_node_table.specs.Slots.{numbers};
-ghost use Rattle.sc_world.specs.World.{births, slots_ahead, schedule, node_seat, client_seat, client_seats, route_of, line_of, AreFew};
+ghost use Rattle.sc_node_table.specs.Slots.{slots_ahead, numbers};
+ghost use Rattle.sc_world.specs.World.{births, schedule, node_seat, client_seat, client_seats, route_of, line_of, AreFew};
 
 use crate::party::Party;
 use sc_actor::{Line, Seat};

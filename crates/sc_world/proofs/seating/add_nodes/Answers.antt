@@ -1,7 +1,7 @@
 use Rattle.std.proofs.Common.{◌≡◌, ◌∙◌, ◌+◌, ◌-◌, ◌<◌, ◌++◌, ◌∷◌, [], ℕ, List, map, sym, ap, append_assoc, arith}
 use Rattle.sc_actor.specs.declared.actors.Seat.{Seat}
-use Rattle.sc_node_table.specs.Slots.{numbers}
-use Rattle.sc_world.specs.World.{slots_ahead, node_seat}
+use Rattle.sc_node_table.specs.Slots.{slots_ahead, numbers}
+use Rattle.sc_world.specs.World.{node_seat}
 use Rattle.sc_world.specs.declared.party.Party.{Party}
 use Rattle.sc_world.proofs.Numbers.{numbers-next}
 use Rattle.sc_world.proofs.seating.add_nodes.Goals as goal

@@ -1,6 +1,6 @@
 use Rattle.std.proofs.Common.{◌≡◌, ◌+◌, ◌-◌, ◌++◌, map}
-use Rattle.sc_node_table.specs.Slots.{numbers}
-use Rattle.sc_world.specs.World.{slots_ahead, node_seat}
+use Rattle.sc_node_table.specs.Slots.{slots_ahead, numbers}
+use Rattle.sc_world.specs.World.{node_seat}
 use Rattle.sc_world.proofs.seating.add_nodes.Given as goal
 
 -- the nodes that are left make the whole
