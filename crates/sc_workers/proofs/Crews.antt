@@ -1,5 +1,5 @@
 -- Lists of shells that go on.
-use Rattle.std.proofs.Common.{◌≡◌, ◌≢◌, ℕ, zero, suc, ◌+◌, ◌<◌, ◌≤◌, ⊎_elim, inl, inr, Bool, true, false, true≢false, cond, ◌&&◌, not, List, [], ◌∷◌, ◌++◌, length, map, sum_by, get_or, refl, sym, ap, ◌∙◌, subst, arith, append_assoc, length-append, Option, Some, None}
+use Rattle.std.proofs.Common.{◌≡◌, ℕ, suc, ◌+◌, ◌<◌, ◌≤◌, ⊎_elim, inl, inr, Bool, true, false, true≢false, cond, ◌&&◌, not, List, [], ◌∷◌, ◌++◌, length, sum_by, get_or, refl, sym, ap, ◌∙◌, subst, arith, append_assoc, length-append, Option, Some, None}
 use Rattle.std.specs.List.{AllByRecursion}
 use Rattle.std.proofs.lemmas.Bool.Decides.{leb_tells}
 use Rattle.std.proofs.lemmas.List.{append-nil}
@@ -15,7 +15,7 @@ use Rattle.sc_shell.specs.declared.turns.Turn.TheVariants.{Did, Empty, Full, Spe
 use Rattle.sc_turn.specs.Turn.{StartsWith}
 use Rattle.sc_actor.specs.Replay.{value}
 use Rattle.sc_shell.specs.Shells.{State, Takes, state, IsReplay, KeepsReplay, Replays, ReplaysOver}
-use Rattle.sc_workers.specs.Crews.{Delivers, is_delivery, is_did, refusal_in, Goes, AllGo, Took, AllTook, Passed, AllPassed, Sound, AllSound, AllOf, AllMet, HasMet, IsOver, AllOver, rows_made, Still, AllStill, did, refusal}
+use Rattle.sc_workers.specs.Crews.{Delivers, is_delivery, is_did, refusal_in, Goes, AllGo, Took, AllTook, Passed, AllPassed, Sound, AllSound, AllOf, AllMet, HasMet, IsAhead, IsOver, AllOver, rows_made, Still, AllStill, did, refusal}
 use Rattle.sc_workers.proofs.Lists.{starts_trans, sum_with, sum_zero}
 
 module _ {M O : Type 0} where
@@ -203,6 +203,12 @@ module _ {A M O : Type 0} {g : Ghosts A M O} {h : MailGhosts M} where
 
   pub has_later : (net next : Port M O h) (s : Shell A M O g h) → Looked net next → HasMet net s → HasMet next s
   has_later net next s l m = record { begins = starts_trans (seen next) (seen net) (seen s.port) l.later m.begins }
+
+  pub ahead_before : (net next : Port M O h) (s : Shell A M O g h) → Looked net next → IsAhead next s → IsAhead net s
+  ahead_before net next s l a = record { begins = starts_trans (seen s.port) (seen next) (seen net) a.begins l.later; own = a.own }
+
+  pub over_met : (net : Port M O h) (ss : List (Shell A M O g h)) → AllOver net ss → AllMet net ss
+  over_met net ss over k d lt = record { begins = (over k d lt).begins }
 
   pub met_same : (net next : Port M O h) (s : Shell A M O g h) → seen next ≡ seen net → HasMet net s → HasMet next s
   met_same net next s e m = record { begins = subst (λ l. StartsWith l (seen s.port)) (sym e) m.begins }

@@ -1,4 +1,6 @@
 pub mod Lists
 pub mod Crews
+pub mod Serving
+pub mod Stopping
 pub mod Refusing
 pub mod Ending

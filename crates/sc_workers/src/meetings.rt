@@ -1,7 +1,7 @@
 //! Meetings of the shells with the network's port.
 ghost use Rattle.std.specs.Prelude.{◌≡◌, length, OnOk, IfOk};
 ghost use Rattle.sc_exchange.specs.Ports.{SameExchange, Looked, seen};
-ghost use Rattle.sc_workers.specs.Crews.{AllStill, AllOf, AllMet, AllOver, HasMet, Met, VouchedFor, numbers};
+ghost use Rattle.sc_workers.specs.Crews.{AllStill, AllOf, AllMet, AllAhead, AllOver, HasMet, Met, VouchedFor, numbers};
 
 use sc_actor::Actor;
 use sc_base::OutOfMemory;
@@ -31,6 +31,7 @@ pub(crate) fn meet_all<A: Actor, R: Wait>(
     ensures same { AllStill shells.old shells.new }
     ensures net { Looked net.old net.new }
     ensures met { OnOk result (AllMet net.new shells.new) }
+    ensures ahead { OnOk result (AllAhead net.old shells.new) }
 {
     for shell in shells.iter_mut() {
         meet_one(rt, net, shell)?;
@@ -49,6 +50,7 @@ pub(crate) fn meet<A: Actor, R: Wait>(
     ensures same { AllStill shells.old.items shells.new.items }
     ensures net { Looked net.old net.new }
     ensures met { OnOk result (AllMet net.new shells.new.items) }
+    ensures ahead { OnOk result (AllAhead net.old shells.new.items) }
 {
     meet_all(rt, net, shells.as_mut_slice())
 }
