@@ -1,5 +1,5 @@
 -- A turn is a fetch and an act.
-use Rattle.std.proofs.Common.{◌≡◌, ℕ, ◌+◌, ◌<◌, false, List, [], ◌∷◌, ◌++◌, refl, sym, ap, ◌∙◌, subst, append_assoc, Option, Some}
+use Rattle.std.proofs.Common.{◌≡◌, ℕ, ◌+◌, ◌<◌, ◌≤◌, false, List, [], ◌∷◌, ◌++◌, refl, sym, ap, ◌∙◌, subst, append_assoc, Option, Some}
 use Rattle.std.proofs.lemmas.List.{append-nil}
 use Rattle.sc_turn.specs.Turn.{StartsWith}
 use Rattle.sc_actor.specs.declared.actors.Actor.{Ghosts}
@@ -89,7 +89,7 @@ module _ {A M O : Type 0} {g : Ghosts A M O} {h : MailGhosts M} where
       let same = row_same s m (Deliver number) (Some (Got mail)) actor l.stays.who in (
         free,
         record { rows = seen m.port; later = l.later; before = begins_trans (seen t.port) x.0.before (seen m.port) (row ∷ [], x.0.seen) x.0.later; own = own_was s m l true_own; number = number; mail = mail; kth = kth; mail_is = is },
-        (subst (Appended s.port t.port) same (appended_trans s.port m.port t.port row l x.0), x.1, x.2 ∙ ap (λ a. (acted g.table a (Some (Got mail))).0) actor, x.3, x.4, x.5),
+        (subst (Appended s.port t.port) same (appended_trans s.port m.port t.port row l x.0), x.1, x.2 ∙ ap (λ a. (acted g.table a (Some (Got mail))).0) actor, x.3, x.4, x.5, subst (λ n. journal_bytes h.weighs (seen t.port) ≤ n) l.stays.exchange.2 x.6),
       )
   takes_acts s m t k number mail free actor l true_own kth is (Empty told) x = absurd x
   takes_acts s m t k number mail free actor l true_own kth is (Full bytes) x =

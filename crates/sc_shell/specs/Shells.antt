@@ -1,5 +1,5 @@
 -- What a clause says of a shell.
-use Rattle.std.specs.Prelude.{◌≡◌, ℕ, List, [], length, Bool, true, false, Option, Some, None, ◌⊎◌}
+use Rattle.std.specs.Prelude.{◌≡◌, ℕ, ◌≤◌, List, [], length, Bool, true, false, Option, Some, None, ◌⊎◌}
 use Rattle.sc_turn.specs.Turn.{StartsWith as Begins}
 use Rattle.sc_actor.specs.declared.actors.Actor.{Ghosts}
 use Rattle.sc_actor.specs.declared.actors.Parcel.{Ghosts as MailGhosts}
@@ -66,7 +66,7 @@ module _ {A M O : Type 0} {g : Ghosts A M O} {h : MailGhosts M} where
   -- the actor's step and the row of it; or the row was refused, by its cause; or there was no memory
   abbrev pub Acts : State A M O g h → State A M O g h → Event O → Option (Input M O) → Turn → Type 0
   Acts s t event input (Did at) =
-      Appended s.port t.port (row_at s event input) × (at ≡ length (seen t.port)) × (t.actor ≡ (acted g.table s.actor input).0) × (t.spent ≡ is_crash event) × (t.port.crashed ≡ is_crash event) × IsAddressed t.port
+      Appended s.port t.port (row_at s event input) × (at ≡ length (seen t.port)) × (t.actor ≡ (acted g.table s.actor input).0) × (t.spent ≡ is_crash event) × (t.port.crashed ≡ is_crash event) × IsAddressed t.port × (journal_bytes h.weighs (seen t.port) ≤ s.port.limit)
   Acts s t event input (Full bytes) =
       Looked s.port t.port × IsCause (JournalFull bytes) (journal_bytes h.weighs (seen t.port)) (row_bytes h.weighs (row_at s event input)) s.port.limit × (t.spent ≡ true) × (t.port.crashed ≡ false) × IsAddressed t.port
   Acts s t event input OutOfMemory = Looked s.port t.port × (t.spent ≡ true) × (t.port.crashed ≡ false)

@@ -103,3 +103,19 @@ module _ {A : Type 0} where
       by : (k : ℕ) → k < suc (length xs) → ((j : ℕ) → j < length xs → f (get_or ys j d) ≡ f (get_or xs j d)) → f y ≡ f x → f (get_or (y ∷ ys) k d) ≡ f (get_or (x ∷ xs) k d)
       by zero lt rest head = head
       by (suc j) lt rest head = rest j (omega (arith, lt))
+
+  -- none is above 1 and one is 0, so the sum is below the length
+  pub sum_short : (f : A → ℕ) (xs : List A) → ((k : ℕ) (d : A) → k < length xs → f (get_or xs k d) ≤ 1) → (j : ℕ) → j < length xs → ((d : A) → f (get_or xs j d) ≡ 0) → sum_by f xs < length xs
+  sum_short f [] each j lt none = absurd (omega arith)
+  sum_short f (x ∷ xs) each zero lt none =
+      let most = sum_most xs (λ k d less. each (suc k) d (omega (arith, less))) in
+      omega (arith, sum_cons f x xs, none x, most)
+    where
+      sum_most : (ys : List A) → ((k : ℕ) (d : A) → k < length ys → f (get_or ys k d) ≤ 1) → sum_by f ys ≤ length ys
+      sum_most [] each = omega arith
+      sum_most (y ∷ ys) each =
+          let first : f y ≤ 1 = each 0 y (omega arith) in
+          omega (arith, sum_cons f y ys, first, sum_most ys (λ k d less. each (suc k) d (omega (arith, less))))
+  sum_short f (x ∷ xs) each (suc j) lt none =
+      let first : f x ≤ 1 = each 0 x (omega arith) in
+      omega (arith, sum_cons f x xs, first, sum_short f xs (λ k d less. each (suc k) d (omega (arith, less))) j (omega (arith, lt)) none)

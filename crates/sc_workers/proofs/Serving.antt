@@ -33,7 +33,7 @@ module _ {M O : Type 0} where
   pub count_later : (n : ℕ) (xs ys : List (Row M O)) → StartsWith xs ys → length (rows_of n ys) ≤ length (rows_of n xs)
   count_later n xs ys later = omega (arith, ap (λ l. length (rows_of n l)) later.1, rows_of-append n ys later.0)
 
-  list_same : (n : ℕ) (xs ys : List (Row M O)) → StartsWith xs ys → length (rows_of n xs) ≡ length (rows_of n ys) → rows_of n xs ≡ rows_of n ys
+  pub list_same : (n : ℕ) (xs ys : List (Row M O)) → StartsWith xs ys → length (rows_of n xs) ≡ length (rows_of n ys) → rows_of n xs ≡ rows_of n ys
   list_same n xs ys later same = ap (rows_of n) later.1 ∙ split n ys later.0 (omega (arith, ap (λ l. length (rows_of n l)) later.1, rows_of-append n ys later.0, same))
     where
       none_left : (zs : List (Row M O)) → length zs ≡ 0 → zs ≡ []

@@ -3,7 +3,9 @@ use Rattle.std.proofs.Common.{◌≡◌, ℕ, ◌<◌, Bool, true, false, List, 
 use Rattle.sc_actor.specs.declared.actors.Actor.{Ghosts}
 use Rattle.sc_actor.specs.declared.actors.Parcel.{Ghosts as MailGhosts}
 use Rattle.sc_shell.specs.declared.shells.Shell.{Shell}
-use Rattle.sc_workers.specs.Crews.{Took, AllTook, Sound, AllSound, HasStopped}
+use Rattle.sc_workers.specs.Crews.{Took, AllTook, Sound, AllSound, HasStopped, HasRefusal}
+use Rattle.sc_shell.specs.declared.turns.Turn.{Turn}
+use Rattle.sc_workers.proofs.Crews.{refused_unsound}
 
 module _ {A M O : Type 0} {g : Ghosts A M O} {h : MailGhosts M} where
   none_stopped : (ts : List (Shell A M O g h)) (many : ℕ) → many ≡ length ts → HasStopped ts many → AllSound ts → ⊥
@@ -33,3 +35,17 @@ module _ {A M O : Type 0} {g : Ghosts A M O} {h : MailGhosts M} where
 pub was_calm : (was now : Bool) → (was ≡ true → now ≡ true) → now ≡ false → was ≡ false
 was_calm true now stays calm = absurd (true≢false (sym (stays refl) ∙ calm))
 was_calm false now stays calm = refl
+
+module _ {A M O : Type 0} {g : Ghosts A M O} {h : MailGhosts M} where
+  -- a refusal came with deliveries left
+  pub short_so : (ts : List (Shell A M O g h)) (stopped : Bool) (many did most : ℕ) → many ≡ length ts → (stopped ≡ true → did < most) → (stopped ≡ false → (k : ℕ) (d : Shell A M O g h) → k < many → Sound (get_or ts k d)) → (r : Turn) → HasRefusal ts r → did < most
+  short_so ts true many did most l less calm r refused = less refl
+  short_so ts false many did most l less calm r refused = by ts refl
+    where
+      by : (us : List (Shell A M O g h)) → us ≡ ts → did < most
+      by [] e = absurd (omega (arith, refused.inside, ap length e))
+      by (d ∷ us) e = absurd (refused_unsound (get_or ts refused.place d) r (refused.told d) (calm refl refused.place d (omega (arith, refused.inside, l))))
+
+pub less_more : (was now : Bool) (before after most : ℕ) → (was ≡ true → before < most) → (was ≡ true → after ≡ before) → (was ≡ false → now ≡ true → after < most) → now ≡ true → after < most
+less_more true now before after most less same stops is = omega (arith, less refl, same refl)
+less_more false now before after most less same stops is = stops refl is

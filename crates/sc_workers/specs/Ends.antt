@@ -17,6 +17,7 @@ use Rattle.sc_shell.specs.Shells.{IsReplay}
 use Rattle.sc_workers.specs.declared.answers.Rounds.{Rounds}
 use Rattle.sc_workers.specs.declared.answers.Rounds.TheVariants.{Quiet, Limit, Full, OutOfMemory}
 use Rattle.sc_workers.specs.Crews.{AllOver, rows_made}
+use Rattle.sc_workers.specs.Services.{AllServe}
 
 -- whether, after what the port has seen, mail is pending for one of these actors
 abbrev pub any_waits : {M O : Type 0} {h : MailGhosts M} → Port M O h → List ℕ → Bool
@@ -41,18 +42,18 @@ module _ {A M O : Type 0} {g : Ghosts A M O} {h : MailGhosts M} where
     pub inside : place < length ss
     pub refused : (d : Shell A M O g h) → IsRefused (slice_index_or start place d) net (slice_index_or ss place d) bytes
 
-  -- Quiet where nothing is pending for the shells' actors, Limit where all deliveries were used and mail is pending. `used` counts the rows that the shells made since the start, all of which are deliveries. But for want of memory the port has seen all that the shells have.
+  -- Quiet where nothing is pending for the shells' actors, Limit where all deliveries were used and mail is pending. `used` counts the rows that the shells made since the start, which are fewer than the deliveries where a row was refused. But for want of memory the port has seen all that the shells have, and each row that they made delivers what was its actor's first pending mail.
   abbrev pub IsEnd : Rounds → Port M O h → List (Shell A M O g h) → List (Shell A M O g h) → List ℕ → ℕ → Type 0
-  IsEnd (Quiet used) net start ss whos limit = AllOver net ss × (any_waits net whos ≡ false) × (used ≤ limit) × (rows_made ss ≡ rows_made start + used)
-  IsEnd (Limit used) net start ss whos limit = AllOver net ss × (any_waits net whos ≡ true) × (used ≡ limit) × (rows_made ss ≡ rows_made start + used)
-  IsEnd (Full bytes) net start ss whos limit = AllOver net ss × IsFull start net ss bytes
+  IsEnd (Quiet used) net start ss whos limit = AllOver net ss × (any_waits net whos ≡ false) × (used ≤ limit) × (rows_made ss ≡ rows_made start + used) × AllServe net start
+  IsEnd (Limit used) net start ss whos limit = AllOver net ss × (any_waits net whos ≡ true) × (used ≡ limit) × (rows_made ss ≡ rows_made start + used) × AllServe net start
+  IsEnd (Full bytes) net start ss whos limit = AllOver net ss × IsFull start net ss bytes × (rows_made ss < rows_made start + limit) × AllServe net start
   IsEnd OutOfMemory net start ss whos limit = ⊤
 
   -- the end that a round comes to, where so many deliveries were made
   abbrev pub StepEnd : Rounds → Port M O h → List (Shell A M O g h) → List (Shell A M O g h) → List ℕ → ℕ → ℕ → Type 0
   StepEnd (Quiet told) net start ss whos limit used = AllOver net ss × (any_waits net whos ≡ false) × (told ≡ used)
   StepEnd (Limit told) net start ss whos limit used = AllOver net ss × (any_waits net whos ≡ true) × (told ≡ used) × (used ≡ limit)
-  StepEnd (Full bytes) net start ss whos limit used = AllOver net ss × IsFull start net ss bytes
+  StepEnd (Full bytes) net start ss whos limit used = AllOver net ss × IsFull start net ss bytes × (used < limit)
   StepEnd OutOfMemory net start ss whos limit used = ⊤
 
   -- The port has seen all that the shells have, the rows of their actors there are those that they made, and each row there may stand where it does.
@@ -79,3 +80,11 @@ IfCalm (Some (Quiet used)) claim = claim
 IfCalm (Some (Limit used)) claim = claim
 IfCalm (Some (Full bytes)) claim = ⊤
 IfCalm (Some OutOfMemory) claim = ⊤
+
+-- a claim on a round for which there was memory
+abbrev pub IfHeld : Option Rounds → Type 0 → Type 0
+IfHeld None claim = claim
+IfHeld (Some (Quiet used)) claim = claim
+IfHeld (Some (Limit used)) claim = claim
+IfHeld (Some (Full bytes)) claim = claim
+IfHeld (Some OutOfMemory) claim = ⊤

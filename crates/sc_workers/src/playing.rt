@@ -1,8 +1,10 @@
 //! The rounds.
 ghost use Rattle.std.specs.Prelude.{◌≡◌, ◌<◌, ◌≤◌, ◌+◌, None, IfSome, IfNone, length};
 ghost use Rattle.sc_exchange.specs.Ports.{Looked};
-ghost use Rattle.sc_workers.specs.Ends.{IsEnd, StepEnd, RefusedEnd, IsGathered, CanBegin, IfCalm};
+ghost use Rattle.sc_workers.specs.Ends.{IsEnd, StepEnd, RefusedEnd, IsGathered, CanBegin, IfCalm, IfHeld};
 ghost use Rattle.sc_workers.specs.Crews.{AllGo, AllOf, AllTook, AllPassed, AllSound, AllStill, HasRefusal, numbers, rows_made};
+ghost use Rattle.sc_shell.specs.declared.turns.Turn.{Turn};
+ghost use Rattle.sc_workers.specs.Services.{AllServe};
 
 use crate::answers::Rounds;
 use crate::meetings::{meet, numbers_of, vouch};
@@ -30,6 +32,7 @@ fn play_round<A: Actor, G: Gate, R: Threads + Wait + Sync>(
     ensures most { result ≤ left }
     ensures did { rows_made shells.new.items ≡ rows_made shells.old.items + result }
     ensures whole { result ≡ 0 → 0 < left → AllSound shells.new.items → AllTook shells.old.items shells.new.items }
+    ensures short { (refused : Turn) → HasRefusal shells.new.items refused → result < left }
 {
     let size = shells.len().div_ceil(workers as usize);
     if size == 0 || (left as usize) < shells.len() {
@@ -53,7 +56,7 @@ fn prepare<A: Actor, R: Wait>(
     ensures len { length shells.new.items ≡ length shells.old.items }
     ensures same { AllStill shells.old.items shells.new.items }
     ensures net { Looked net.old net.new }
-    ensures gathered { IfCalm result (IsGathered net.new shells.new.items) }
+    ensures gathered { IfHeld result (IsGathered net.new shells.new.items) }
     ensures begin { result ≡ None → CanBegin net.new shells.new.items whos.now × (used < limit) }
     ensures end { IfSome result (λ answer. StepEnd answer net.new shells.old.items shells.new.items whos.now limit used) }
 {
@@ -121,6 +124,7 @@ fn step<A: Actor, G: Gate, R: Threads + Wait + Sync>(
     ensures used { used.new ≤ limit }
     ensures count { rows_made shells.new.items + used.old ≡ rows_made shells.old.items + used.new }
     ensures serves { IfCalm result (used.old < used.new) }
+    ensures served { IfHeld result (AllServe net.new shells.old.items) }
     ensures sound { result ≡ None → AllSound shells.new.items }
     ensures begin { result ≡ None → CanBegin net.new shells.new.items whos.now × (used.new < limit) }
     ensures end { IfSome result (λ answer. StepEnd answer net.new shells.old.items shells.new.items whos.now limit used.new) }

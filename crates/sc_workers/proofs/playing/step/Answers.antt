@@ -5,7 +5,8 @@ use Rattle.sc_workers.specs.Ends.{IsGathered, CanBegin}
 use Rattle.sc_workers.proofs.Crews.{all_go_trans, all_of_go, all_of_later, still_all_go, passed_all_go, still_rows, still_sound}
 use Rattle.sc_workers.proofs.Refusing.{full_so, full_from}
 use Rattle.sc_workers.proofs.Serving.{delivers_one}
-use Rattle.sc_workers.proofs.Ending.{step_end, calm_maps, step_from}
+use Rattle.sc_workers.proofs.Attending.{round_serves}
+use Rattle.sc_workers.proofs.Ending.{step_end, calm_maps, held_calm, held_maps, refused_held, step_from}
 use Rattle.sc_workers.proofs.playing.step.Goals as goal
 
 pub returns-in_default-clause-count : goal.returns-in_default-clause-count
@@ -66,7 +67,7 @@ returns-in-None-clause-serves g c =
     (looked_trans c.args.net.now c.meet.new.net c.prepare.new.net c.meet.ensures.net c.prepare.ensures.net) c.requires.net (subst (CanBegin c.args.net.now start) c.requires.whos c.requires.begin) c.meet.ensures.same ahead
     (still_sound start met c.meet.ensures.len c.meet.ensures.same c.requires.sound) c.play_round-did.ensures.whole (omega (arith, c.requires.used)) c.prepare.ensures.same gathered.over c.requires.exchange calm c.play_round-did.ensures.did in
     omega (arith, some))
-    c.prepare.ensures.gathered
+    (held_calm _ c.prepare.result c.prepare.ensures.gathered)
 
 pub returns-in-None-clause-end : goal.returns-in-None-clause-end
 returns-in-None-clause-end g c =
@@ -80,16 +81,40 @@ pub returns-in-Some-clause-end : goal.returns-in-Some-clause-end
 returns-in-Some-clause-end g c =
     let start = c.args.shells.now.items in let met = c.meet.new.shells.items in let after = c.play_round-did.new.shells.items in let last = c.ended.new.shells.items in
     let ahead : AllAhead c.args.net.now met = c.in-Ok.ensures.ahead in
+    let refusal : HasRefusal after c.in-Some.refused = subst (λ l. HasRefusal l c.in-Some.refused) c.as_slice.ensures.value c.in-Some.ensures.some in
+    let short = c.play_round-did.ensures.short c.in-Some.refused refusal in
     step_end c.ended.result c.in-Some.refused c.ended.new.net start last _ c.args.limit _ c.ended.ensures.end
-    (λ bytes e gathered. full_so start met after last c.ended.new.net bytes c.meet.ensures.len c.play_round-did.ensures.len c.ended.ensures.len
-    (still_all_go start met c.meet.ensures.same)
-    (still_sound start met c.meet.ensures.len c.meet.ensures.same c.requires.sound)
-    c.play_round-did.ensures.passed
-    (subst (HasRefusal after) e (subst (λ l. HasRefusal l c.in-Some.refused) c.as_slice.ensures.value c.in-Some.ensures.some))
-    c.ended.ensures.same gathered.over
-    (all_of_later c.meet.new.net c.ended.new.net last c.ended.ensures.net
-    (all_of_go c.meet.new.net after last c.ended.ensures.len (still_all_go after last c.ended.ensures.same)
-    (all_of_go c.meet.new.net met after c.play_round-did.ensures.len (passed_all_go met after c.play_round-did.ensures.passed)
-    (all_of_go c.meet.new.net start met c.meet.ensures.len (still_all_go start met c.meet.ensures.same)
-    (all_of_later c.args.net.now c.meet.new.net start c.meet.ensures.net c.requires.exchange)))))
-    c.args.net.now ahead (looked_trans c.args.net.now c.meet.new.net c.ended.new.net c.meet.ensures.net c.ended.ensures.net) c.requires.net gathered.addressed)
+    (λ bytes e gathered. (
+      full_so start met after last c.ended.new.net bytes c.meet.ensures.len c.play_round-did.ensures.len c.ended.ensures.len
+          (still_all_go start met c.meet.ensures.same)
+          (still_sound start met c.meet.ensures.len c.meet.ensures.same c.requires.sound)
+          c.play_round-did.ensures.passed
+          (subst (HasRefusal after) e refusal)
+          c.ended.ensures.same gathered.over
+          (all_of_later c.meet.new.net c.ended.new.net last c.ended.ensures.net
+          (all_of_go c.meet.new.net after last c.ended.ensures.len (still_all_go after last c.ended.ensures.same)
+          (all_of_go c.meet.new.net met after c.play_round-did.ensures.len (passed_all_go met after c.play_round-did.ensures.passed)
+          (all_of_go c.meet.new.net start met c.meet.ensures.len (still_all_go start met c.meet.ensures.same)
+          (all_of_later c.args.net.now c.meet.new.net start c.meet.ensures.net c.requires.exchange)))))
+          c.args.net.now ahead (looked_trans c.args.net.now c.meet.new.net c.ended.new.net c.meet.ensures.net c.ended.ensures.net) c.requires.net gathered.addressed,
+      omega (arith, short),
+    ))
+
+pub returns-in-None-clause-served : goal.returns-in-None-clause-served
+returns-in-None-clause-served g c =
+    let start = c.args.shells.now.items in let met = c.meet.new.shells.items in let after = c.play_round-did.new.shells.items in let last = c.prepare.new.shells.items in
+    let ahead : AllAhead c.args.net.now met = c.in-Ok.ensures.ahead in
+    held_maps c.prepare.result
+    (λ (gathered : IsGathered c.prepare.new.net last).
+    round_serves c.args.net.now c.prepare.new.net start met after last c.meet.ensures.len c.play_round-did.ensures.len c.prepare.ensures.len
+    (looked_trans c.args.net.now c.meet.new.net c.prepare.new.net c.meet.ensures.net c.prepare.ensures.net) c.requires.net c.meet.ensures.same ahead c.play_round-did.ensures.passed c.prepare.ensures.same gathered c.requires.exchange)
+    c.prepare.ensures.gathered
+
+pub returns-in-Some-clause-served : goal.returns-in-Some-clause-served
+returns-in-Some-clause-served g c =
+    let start = c.args.shells.now.items in let met = c.meet.new.shells.items in let after = c.play_round-did.new.shells.items in let last = c.ended.new.shells.items in
+    let ahead : AllAhead c.args.net.now met = c.in-Ok.ensures.ahead in
+    refused_held c.ended.result c.in-Some.refused c.ended.new.net last
+    (λ gathered. round_serves c.args.net.now c.ended.new.net start met after last c.meet.ensures.len c.play_round-did.ensures.len c.ended.ensures.len
+    (looked_trans c.args.net.now c.meet.new.net c.ended.new.net c.meet.ensures.net c.ended.ensures.net) c.requires.net c.meet.ensures.same ahead c.play_round-did.ensures.passed c.ended.ensures.same gathered c.requires.exchange)
+    c.ended.ensures.end
