@@ -3,7 +3,7 @@ use Rattle.std.specs.List.{flat_map}
 use Rattle.sc_actor.specs.Walk.{tasks_of}
 use Rattle.sc_play.specs.Checks.{IsTaking}
 use Rattle.sc_play.specs.Moves.{At, rules_of, with_births}
-use Rattle.sc_play.proofs.judging.is_lawful.Given as goal
+use Rattle.sc_play.proofs.judging.replay.Given as goal
 
 abbrev pub invariant-loop-line : goal.invariant-loop-line
 invariant-loop-line g l =
