@@ -1,19 +1,24 @@
 -- The mail that was fetched, as more rows are seen.
-use Rattle.std.proofs.Common.{◌≡◌, ◌≢◌, ℕ, Bool, true, false, MatchBool, Result, Ok, Err, IfOk, IfErr, List, ◌∷◌, ◌++◌, length, map, refl, sym, ap, ◌∙◌, subst, append_assoc, [], Option, None, Some}
+use Rattle.std.proofs.Common.{◌≡◌, ◌≢◌, ℕ, Bool, true, false, MatchBool, List, ◌∷◌, ◌++◌, length, map, refl, sym, ap, ◌∙◌, subst, append_assoc, [], Option, None, Some}
 use Rattle.std.proofs.lemmas.List.{append-nil}
 use Rattle.sc_turn.specs.declared.rule.View.{View}
 use Rattle.sc_turn.specs.Turn.{StartsWith, IsTrueOf, rows_by, with_seen}
+use Rattle.std.proofs.Math.Logic.{∥∥₁_elim}
+use Rattle.std.proofs.Props.{props}
 use Rattle.sc_actor.specs.declared.rows.Row.{Row}
+use Rattle.sc_actor.specs.Mail.{mails}
 use Rattle.sc_actor.specs.declared.rows.Event.{Event}
 use Rattle.sc_actor.specs.declared.rows.Event.TheVariants.{Deliver, Drop, Again, Tick, Go, Told, Crash}
 use Rattle.sc_exchange.specs.declared.deeds.Deed.{Deed}
 use Rattle.sc_exchange.specs.declared.answers.Fetched.{Fetched}
 use Rattle.sc_exchange.specs.declared.answers.Fetched.TheVariants.{Mail, Empty}
-use Rattle.sc_exchange.specs.Deeds.{deeds, row_by, rows_from, rows_of}
+use Rattle.sc_exchange.specs.Deeds.{deeds, row_by, rows_from}
 use Rattle.sc_exchange.specs.Turns.{Turned, RowTurned, Changed, change}
 use Rattle.sc_exchange.specs.Answers.{IsFetch, number_of}
 use Rattle.sc_exchange.specs.Ports.{MayPost}
 use Rattle.sc_exchange.specs.Fetches.{WasPending, HasFetched, delivered}
+use Rattle.sc_exchange.specs.Addressed.{is_addressed}
+use Rattle.sc_exchange.proofs.Addressing.{pending_to, addressed_rows}
 use Rattle.sc_exchange.proofs.Done.{rows_of_from, begins_rows}
 use Rattle.sc_exchange.proofs.Views.{own_same, own_turned, own_of, deed}
 
@@ -93,3 +98,18 @@ module _ {M O : Type 0} (receiver : M → ℕ) (actors who : ℕ) where
   asked_event fetched Crash made seen may h = tt
   asked_event fetched (Drop number) made seen may h = absurd may
   asked_event fetched (Again number) made seen may h = absurd may
+
+  -- a delivery is of mail to the actor
+  addressed_so : (fetched : Option ℕ) (event : Event O) (made seen : List (Row M O)) → who ≢ 0 → MayPost fetched event → HasFetched receiver actors who fetched made seen → is_addressed receiver (mails seen) who event ≡ true
+  addressed_so fetched (Deliver number) made seen ne may h =
+      let w : WasPending receiver actors who number made seen = subst (λ f. HasFetched receiver actors who f made seen) may h in
+      addressed_rows receiver who (Deliver number) seen w.rows w.later (pending_to receiver actors w.rows who w.k number ne w.kth)
+  addressed_so fetched Tick made seen ne may h = refl
+  addressed_so fetched Go made seen ne may h = refl
+  addressed_so fetched (Told order) made seen ne may h = refl
+  addressed_so fetched Crash made seen ne may h = refl
+  addressed_so fetched (Drop number) made seen ne may h = absurd may
+  addressed_so fetched (Again number) made seen ne may h = absurd may
+
+  pub asked_addressed : (fetched : Option ℕ) (event : Event O) (made seen : List (Row M O)) → who ≢ 0 → MayPost fetched event → ∥ HasFetched receiver actors who fetched made seen ∥₁ → is_addressed receiver (mails seen) who event ≡ true
+  asked_addressed fetched event made seen ne may h = ∥∥₁_elim h (hlevel props) (addressed_so fetched event made seen ne may)

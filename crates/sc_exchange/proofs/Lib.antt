@@ -3,3 +3,5 @@ pub mod Results
 pub mod Views
 pub mod Knowing
 pub mod Fetching
+pub mod Addressing
+pub mod Halting

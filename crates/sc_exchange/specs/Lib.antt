@@ -1,4 +1,5 @@
 pub mod Deeds
+pub mod Addressed
 pub mod Answers
 pub mod Fetches
 pub mod Turns

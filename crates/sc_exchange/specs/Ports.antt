@@ -9,6 +9,7 @@ use Rattle.sc_actor.specs.declared.actors.Parcel.{Ghosts}
 use Rattle.sc_exchange.specs.declared.ports.Port.{Port}
 use Rattle.sc_exchange.specs.Deeds.{row_by, rows_from, rows_of}
 use Rattle.sc_exchange.specs.Turns.{may_change, change}
+use Rattle.sc_exchange.specs.Addressed.{all_addressed}
 
 -- an actor's event: a delivery is of the mail that was fetched
 abbrev pub MayPost : {O : Type 0} → Option ℕ → Event O → Type 0
@@ -68,6 +69,10 @@ module _ {M O : Type 0} {g : Ghosts M} where
   pub record IsTrue (p : Port M O g) : Type 0 where
     pub own : rows_of p.who (seen p) ≡ made p
     pub others : p.who ≡ 0 → (n : ℕ) → n ≢ 0 → ¬ Contains (given p) n → rows_of n (seen p) ≡ []
+
+  -- each row that the port has seen may stand where it does
+  abbrev pub IsAddressed : Port M O g → Type 0
+  IsAddressed p = all_addressed g.receiver [] (seen p) ≡ true
 
   -- a new port of this actor
   pub record IsNew (p q : Port M O g) (number : ℕ) : Type 0 where

@@ -1,5 +1,6 @@
 //! The value that the ports hand on.
-ghost use Rattle.std.specs.Prelude.{◌≡◌, []};
+ghost use Rattle.std.specs.Prelude.{◌≡◌, [], true};
+ghost use Rattle.sc_exchange.specs.Addressed.{all_addressed};
 
 use sc_actor::{Event, Parcel};
 use sc_base::Sequence;
@@ -14,9 +15,11 @@ pub struct Deed<M, O> {
 }
 
 /// The journal, its counted bytes and the pending mail. One port at a time has it.
+/// Each delivery in the journal is of mail to the row's maker, and only the network's rows lose and repeat mail.
 #[derive(Drop)]
 pub struct Exchange<M: Parcel + Drop, O: Drop> {
     pub ledger: Ledger<M, O>,
+    ghost addressed: { all_addressed M.receiver [] ledger.rows.items ≡ true },
 }
 
 impl<M: Parcel + Drop, O: Drop> Listed for Exchange<M, O> {

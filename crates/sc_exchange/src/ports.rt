@@ -8,6 +8,7 @@ ghost use Rattle.sc_actor.specs.Counted.{row_bytes, journal_bytes};
 ghost use Rattle.sc_ledger.specs.Fault.{IsCause};
 ghost use Rattle.sc_ledger.specs.Pending.{kth_pending, is_pending, may_repeat};
 ghost use Rattle.sc_exchange.specs.Deeds.{deeds, row_by, rows_from, rows_of};
+ghost use Rattle.sc_exchange.specs.Addressed.{all_addressed};
 ghost use Rattle.sc_exchange.specs.Fetches.{HasFetched, delivered};
 ghost use Rattle.sc_exchange.specs.Turns.{may_change, change};
 ghost use Rattle.sc_exchange.specs.Answers.{IsFetch, IsLook, number_of};
@@ -35,13 +36,14 @@ pub struct Port<M: Parcel + Drop, O: Drop> {
     pub crashed: bool,
     ghost number: { (known seat).who ≡ who },
     ghost out: { (known seat).turn ≡ false },
+    ghost halted: { crashed ≡ list_any (λ d. is_crash d.event) (known seat).made },
     ghost small: { limit ≤ 2 ^ 30 },
     ghost own: { length (rows_by who (known seat).seen) ≡ length (known seat).made },
     ghost asked: { ∥ HasFetched M.receiver actors who fetched (map (row_by who) (known seat).made) (rows_from (known seat).seen) ∥₁ },
 }
 
 impl<M: Parcel + Drop, O: Drop> Port<M, O> {
-    ghost use Rattle.sc_exchange.specs.Ports.{seen, made, given, joined, SameExchange, Stays, Looked, Appended, ChangedBy, IsTrue, IsNew, MayPost};
+    ghost use Rattle.sc_exchange.specs.Ports.{seen, made, given, joined, SameExchange, Stays, Looked, Appended, ChangedBy, IsTrue, IsNew, IsAddressed, MayPost};
 
     /// The network's port to a new exchange, whose journal is empty. The actors have the numbers from 1 to `actors`, and the counted bytes never pass the limit.
     pub fn start(alloc: Global, actors: u32, limit: u64) -> Result<Port<M, O>, OutOfMemory>
@@ -85,6 +87,7 @@ impl<M: Parcel + Drop, O: Drop> Port<M, O> {
     pub fn fetch<R: Wait>(&mut self, rt: &R, k: u32) -> Result<Fetched<M>, OutOfMemory>
         requires { 0 < k }
         ensures looked { Looked self.old self.new × IsTrue self.new × (self.new.crashed ≡ self.old.crashed) }
+        ensures addressed { IsAddressed self.new }
         ensures found { IfOk result (λ found. IsFetch M.receiver self.old.actors (seen self.new) self.old.who k found × (self.new.fetched ≡ number_of found)) }
     {
         self.fetched = None;
@@ -105,6 +108,7 @@ impl<M: Parcel + Drop, O: Drop> Port<M, O> {
         requires event { MayPost self.old.fetched event }
         requires runs { self.old.crashed ≡ false }
         ensures stays { Stays self.old self.new }
+        ensures addressed { IsAddressed self.new }
         ensures delivered { ∥ HasFetched M.receiver self.old.actors self.old.who (delivered event) (made self.old) (seen self.old) ∥₁ }
         ensures ok { IfOk result (λ place. Appended self.old self.new (record { who = self.old.who; event = event; sent = sent }) × (place ≡ length (seen self.new)) × (journal_bytes M.weighs (seen self.new) ≤ self.old.limit) × IsTrue self.new × (self.new.fetched ≡ None) × (self.new.crashed ≡ is_crash event)) }
         ensures refused { IfErr result (λ e. Looked self.old self.new × IsTrue self.new × (e.event ≡ event) × (e.sent ≡ sent) × IsCause e.why (journal_bytes M.weighs (seen self.new)) (row_bytes M.weighs (record { who = self.old.who; event = event; sent = sent })) self.old.limit × (self.new.fetched ≡ self.old.fetched) × (self.new.crashed ≡ false)) }
@@ -129,6 +133,7 @@ impl<M: Parcel + Drop, O: Drop> Port<M, O> {
     fn change<R: Wait>(&mut self, rt: &R, number: u32, lost: bool) -> Result<bool, Unposted<M, O>>
         requires { self.old.who ≡ 0 }
         ensures stays { Stays self.old self.new }
+        ensures addressed { IsAddressed self.new }
         ensures kept { (self.new.fetched ≡ self.old.fetched) × (self.new.crashed ≡ self.old.crashed) }
         ensures ok { IfOk result (λ done. IsTrue self.new × MatchBool done (ChangedBy M.receiver lost number self.old self.new × (journal_bytes M.weighs (seen self.new) ≤ self.old.limit)) (Looked self.old self.new × (may_change lost M.receiver self.old.actors (seen self.new) number ≡ false))) }
         ensures refused { IfErr result (λ e. Looked self.old self.new × IsTrue self.new × (record { who = 0; event = e.event; sent = e.sent } ≡ change lost number) × IsCause e.why (journal_bytes M.weighs (seen self.new)) (row_bytes M.weighs (record { who = 0; event = e.event; sent = e.sent })) self.old.limit) }
@@ -151,6 +156,7 @@ impl<M: Parcel + Drop, O: Drop> Port<M, O> {
     pub fn lose<R: Wait>(&mut self, rt: &R, number: u32) -> Result<bool, Unposted<M, O>>
         requires { self.old.who ≡ 0 }
         ensures stays { Stays self.old self.new }
+        ensures addressed { IsAddressed self.new }
         ensures kept { (self.new.fetched ≡ self.old.fetched) × (self.new.crashed ≡ self.old.crashed) }
         ensures ok { IfOk result (λ done. IsTrue self.new × MatchBool done (ChangedBy M.receiver true number self.old self.new × (journal_bytes M.weighs (seen self.new) ≤ self.old.limit)) (Looked self.old self.new × (is_pending M.receiver self.old.actors (seen self.new) number ≡ false))) }
         ensures refused { IfErr result (λ e. Looked self.old self.new × IsTrue self.new × (record { who = 0; event = e.event; sent = e.sent } ≡ change true number) × IsCause e.why (journal_bytes M.weighs (seen self.new)) (row_bytes M.weighs (record { who = 0; event = e.event; sent = e.sent })) self.old.limit) }
@@ -162,6 +168,7 @@ impl<M: Parcel + Drop, O: Drop> Port<M, O> {
     pub fn again<R: Wait>(&mut self, rt: &R, number: u32) -> Result<bool, Unposted<M, O>>
         requires { self.old.who ≡ 0 }
         ensures stays { Stays self.old self.new }
+        ensures addressed { IsAddressed self.new }
         ensures kept { (self.new.fetched ≡ self.old.fetched) × (self.new.crashed ≡ self.old.crashed) }
         ensures ok { IfOk result (λ done. IsTrue self.new × MatchBool done (ChangedBy M.receiver false number self.old self.new × (journal_bytes M.weighs (seen self.new) ≤ self.old.limit)) (Looked self.old self.new × (may_repeat M.receiver self.old.actors (seen self.new) number ≡ false))) }
         ensures refused { IfErr result (λ e. Looked self.old self.new × IsTrue self.new × (record { who = 0; event = e.event; sent = e.sent } ≡ change false number) × IsCause e.why (journal_bytes M.weighs (seen self.new)) (row_bytes M.weighs (record { who = 0; event = e.event; sent = e.sent })) self.old.limit) }
@@ -173,6 +180,7 @@ impl<M: Parcel + Drop, O: Drop> Port<M, O> {
     pub fn pending<R: Wait>(&mut self, rt: &R, who: u32, k: u32) -> Option<u32>
         requires { 0 < k }
         ensures looked { Looked self.old self.new × IsTrue self.new × (self.new.fetched ≡ self.old.fetched) × (self.new.crashed ≡ self.old.crashed) }
+        ensures addressed { IsAddressed self.new }
         ensures kth { result ≡ kth_pending M.receiver self.old.actors (seen self.new) who k }
     {
         kth_at(rt, &mut self.seat, self.actors, who, k)
@@ -181,6 +189,7 @@ impl<M: Parcel + Drop, O: Drop> Port<M, O> {
     /// Whether at this turn mail is pending for one of these actors.
     pub fn any_pending<R: Wait>(&mut self, rt: &R, whos: &[u32]) -> bool
         ensures looked { Looked self.old self.new × IsTrue self.new × (self.new.fetched ≡ self.old.fetched) × (self.new.crashed ≡ self.old.crashed) }
+        ensures addressed { IsAddressed self.new }
         ensures any { result ≡ list_any (λ who. is_some (kth_pending M.receiver self.new.actors (seen self.new) who 1)) whos.now }
     {
         any_at(rt, &mut self.seat, self.actors, whos)
@@ -190,6 +199,7 @@ impl<M: Parcel + Drop, O: Drop> Port<M, O> {
     pub fn look<R: Wait>(&mut self, rt: &R) -> Result<Look, OutOfMemory>
         requires net { self.old.who ≡ 0 }
         ensures looked { Looked self.old self.new × IsTrue self.new × (self.new.fetched ≡ self.old.fetched) × (self.new.crashed ≡ self.old.crashed) }
+        ensures addressed { IsAddressed self.new }
         ensures look { IfOk result (λ look. IsLook M.receiver self.old.actors (seen self.new) look) }
     {
         look_at(rt, self.alloc, &mut self.seat, self.actors)
@@ -243,6 +253,7 @@ impl<M: Parcel + Drop, O: Drop> Port<M, O> {
         requires net { self.who ≡ 0 }
         requires all { (n : ℕ) → Contains (given self) n → Contains (map (λ k. k.0) (joined self)) n }
         ensures later { Begins result (seen self) }
+        ensures addressed { all_addressed M.receiver [] result ≡ true }
         ensures own { rows_of 0 result ≡ made self }
         ensures each { (k : _) → Contains (joined self) k → rows_of k.0 result ≡ k.1 }
         ensures others { (n : ℕ) → n ≢ 0 → ¬ Contains (given self) n → rows_of n result ≡ [] }
@@ -298,6 +309,7 @@ fn closed<M: Parcel + Drop, O: Drop, R: Wait>(
     requires net { ((known seat).who ≡ 0) × ((known seat).turn ≡ false) }
     requires all { AllJoined (known seat) }
     ensures later { StartsWith (deeds result) (known seat).seen }
+    ensures addressed { all_addressed M.receiver [] result ≡ true }
     ensures facts { IsTrueOf (known seat) (deeds result) }
 {
     let exchange = seat.close(rt);

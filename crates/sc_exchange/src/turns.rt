@@ -9,6 +9,8 @@ ghost use Rattle.sc_ledger.specs.Pending.{kth_pending};
 ghost use Rattle.sc_exchange.specs.declared.deeds.Deed.{Deed};
 ghost use Rattle.sc_exchange.specs.Deeds.{deeds, rows_from};
 ghost use Rattle.sc_exchange.specs.Answers.{IsFetch, IsLook};
+ghost use Rattle.sc_actor.specs.Mail.{mails};
+ghost use Rattle.sc_exchange.specs.Addressed.{is_addressed, all_addressed};
 ghost use Rattle.sc_exchange.specs.Turns.{Turned, RowTurned, Changed, may_change, change};
 
 use crate::answers::Fetched;
@@ -57,6 +59,7 @@ pub(crate) fn kth_at<M: Parcel + Drop, O: Drop, R: Wait>(
     requires turn { (known seat.old).turn ≡ false }
     requires first { 0 < k }
     ensures start { OfOneStart seat.old seat.new }
+    ensures addressed { all_addressed M.receiver [] (rows_from (known seat.new).seen) ≡ true }
     ensures turned { Turned (known seat.old) (known seat.new) }
     ensures kth { result ≡ kth_pending M.receiver actors (rows_from (known seat.new).seen) who k }
 {
@@ -75,6 +78,7 @@ pub(crate) fn any_at<M: Parcel + Drop, O: Drop, R: Wait>(
 ) -> bool
     requires turn { (known seat.old).turn ≡ false }
     ensures start { OfOneStart seat.old seat.new }
+    ensures addressed { all_addressed M.receiver [] (rows_from (known seat.new).seen) ≡ true }
     ensures turned { Turned (known seat.old) (known seat.new) }
     ensures any { result ≡ list_any (λ who. is_some (kth_pending M.receiver actors (rows_from (known seat.new).seen) who 1)) whos.now }
 {
@@ -122,6 +126,7 @@ pub(crate) fn fetch_at<M: Parcel + Drop, O: Drop, R: Wait>(
     requires turn { (known seat.old).turn ≡ false }
     requires first { 0 < k }
     ensures start { OfOneStart seat.old seat.new }
+    ensures addressed { all_addressed M.receiver [] (rows_from (known seat.new).seen) ≡ true }
     ensures turned { Turned (known seat.old) (known seat.new) }
     ensures found { IfOk result (λ found. IsFetch M.receiver actors (rows_from (known seat.new).seen) who k found) }
 {
@@ -140,6 +145,7 @@ pub(crate) fn look_at<M: Parcel + Drop, O: Drop, R: Wait>(
 ) -> Result<Look, OutOfMemory>
     requires turn { (known seat.old).turn ≡ false }
     ensures start { OfOneStart seat.old seat.new }
+    ensures addressed { all_addressed M.receiver [] (rows_from (known seat.new).seen) ≡ true }
     ensures turned { Turned (known seat.old) (known seat.new) }
     ensures look { IfOk result (λ look. IsLook M.receiver actors (rows_from (known seat.new).seen) look) }
 {
@@ -169,6 +175,7 @@ fn append_row<M: Parcel + Drop, O: Drop>(
     requires turn { (known seat.old).turn ≡ true }
     requires list { deeds found.ledger.rows.items ≡ (known seat.old).seen }
     requires maker { row.who ≡ (known seat.old).who }
+    requires addressed { is_addressed M.receiver (mails found.ledger.rows.items) row.who row.event ≡ true }
     requires limit { limit ≤ 2 ^ 30 }
     ensures start { OfOneStart seat.old seat.new }
     ensures ok { IfOk result (λ place. (known seat.new ≡ with_turn (with_row (known seat.old) (record { event = row.event; sent = row.sent })) false) × (place ≡ length (found.ledger.rows.items ++ row ∷ []))) }
@@ -198,8 +205,10 @@ pub(crate) fn post_at<M: Parcel + Drop, O: Drop, R: Wait>(
 ) -> Result<u32, Unkept<M, O>>
     requires turn { (known seat.old).turn ≡ false }
     requires maker { row.who ≡ (known seat.old).who }
+    requires addressed { is_addressed M.receiver (mails (rows_from (known seat.old).seen)) row.who row.event ≡ true }
     requires limit { limit ≤ 2 ^ 30 }
     ensures start { OfOneStart seat.old seat.new }
+    ensures addressed { all_addressed M.receiver [] (rows_from (known seat.new).seen) ≡ true }
     ensures own { length (rows_by (known seat.old).who (known seat.new).seen) ≡ length (known seat.new).made }
     ensures kept { ((known seat.new).given ≡ (known seat.old).given) × ((known seat.new).joined ≡ (known seat.old).joined) }
     ensures ok { IfOk result (λ place. RowTurned (known seat.old) (known seat.new) row × (place ≡ length (rows_from (known seat.new).seen)) × (journal_bytes M.weighs (rows_from (known seat.new).seen) ≤ limit)) }
@@ -259,6 +268,7 @@ pub(crate) fn change_at<M: Parcel + Drop, O: Drop, R: Wait>(
     requires net { (known seat.old).who ≡ 0 }
     requires limit { limit ≤ 2 ^ 30 }
     ensures start { OfOneStart seat.old seat.new }
+    ensures addressed { all_addressed M.receiver [] (rows_from (known seat.new).seen) ≡ true }
     ensures own { length (rows_by (known seat.old).who (known seat.new).seen) ≡ length (known seat.new).made }
     ensures kept { ((known seat.new).given ≡ (known seat.old).given) × ((known seat.new).joined ≡ (known seat.old).joined) }
     ensures ok { IfOk result (λ done. MatchBool done (Changed M.receiver actors lost number (known seat.old) (known seat.new) × (journal_bytes M.weighs (rows_from (known seat.new).seen) ≤ limit)) (Turned (known seat.old) (known seat.new) × (may_change lost M.receiver actors (rows_from (known seat.new).seen) number ≡ false))) }

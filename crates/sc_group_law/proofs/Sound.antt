@@ -301,6 +301,7 @@ module _ (ahead : Ahead) (words : ℕ → ℕ → ℕ × ℕ) (scenario : Scenar
 
     tells : TellsHistory ahead scenario base rows
     tells = record {
+      told = history_of;
       legal = subst Legal (sym history_of) (law log whole).tells.legal;
       pairs = ap (contents_after empty) history_of ∙ (law log whole).tells.pairs;
       requests = request_of;

@@ -21,7 +21,8 @@ use Rattle.sc_world.specs.World.{route_of}
 use Rattle.sc_sound.specs.Accepts.{accepts}
 use Rattle.sc_sound.specs.Laws.{HasEntry}
 use Rattle.sc_sound.specs.Logs.{Ahead, rule_of, IsChosenIn, decided_log, decided_state}
-use Rattle.sc_sound.specs.Histories.{history, decided_row}
+use Rattle.sc_machine_table.specs.Group.{group_of}
+use Rattle.sc_sound.specs.Histories.{history, done_by, decided_row}
 use Rattle.sc_sound.specs.Requests.{IsRequest, issue_row}
 use Rattle.sc_group_law.specs.Players.{node_seat, Lawful, HasOneGroup}
 use Rattle.sc_world.specs.World.{party_table}
@@ -51,6 +52,8 @@ pub record IsReplicated (ahead : Ahead) (scenario : Scenario) (base : Base) (row
 
 -- One legal history of the scenario's requests (Herlihy and Wing, 1990).
 pub record TellsHistory (ahead : Ahead) (scenario : Scenario) (base : Base) (rows : List (Row Mail OrderLine)) : Type 0 where
+  -- it is the entries of the group's decided log
+  pub told : history ahead scenario.groups rows ≡ done_by (group_of base) (decided_log ahead base rows)
   -- it is legal on the ideal store, and no request stands twice in it
   pub legal : Legal (history ahead scenario.groups rows)
   -- the map after it is the group's pairs

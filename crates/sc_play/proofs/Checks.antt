@@ -1,5 +1,5 @@
 -- How given rows stand with the walk.
-use Rattle.std.proofs.Common.{◌≡◌, ℕ, suc, ◌+◌, ◌-◌, ◌<◌, ◌≤◌, ◌^◌, List, [], ◌∷◌, ◌++◌, length, Bool, true, false, not, eqb, drop, drop-cons, get_or, refl, sym, ◌∙◌, ap, subst, arith, add-one, append-nil, append_assoc, length-append, min, Option, None, Some, ◌||◌}
+use Rattle.std.proofs.Common.{◌≡◌, ℕ, suc, ◌+◌, ◌-◌, ◌<◌, ◌≤◌, ◌^◌, List, [], ◌∷◌, ◌++◌, length, Bool, true, false, not, cond, eqb, drop, drop-cons, get_or, refl, sym, ◌∙◌, ap, subst, arith, add-one, append-nil, append_assoc, length-append, min, Option, None, Some, ◌||◌}
 use Rattle.std.specs.Prelude.{is_none, option_and_then}
 use Rattle.std.proofs.Math.ListN.{drop_of_length-le}
 use Rattle.std.proofs.lemmas.Bool.{ne_eqb, false≢true}
@@ -8,16 +8,17 @@ use Rattle.sc_actor.specs.declared.actors.Seat.{Seat}
 use Rattle.sc_actor.specs.declared.schedules.Line.{Line}
 use Rattle.sc_actor.specs.Mail.{mails, copies}
 use Rattle.sc_actor.specs.Counted.{journal_bytes}
-use Rattle.sc_actor.specs.System.{System, numbers_of, waiting, kth}
-use Rattle.sc_actor.specs.Walk.{Task, Once, Allows, IsLawful, IsNext, is_over, is_quiet, rest_of, line_row, first_of}
-use Rattle.sc_actor.proofs.WalkLemmas.{Stands-allows, Stands-ended, lawful-prefix, lawful-last}
+use Rattle.sc_actor.specs.System.{System, acts, numbers_of, waiting, kth, network}
+use Rattle.sc_actor.specs.Walk.{Task, Once, Place, Allows, IsLawful, IsNext, is_over, is_quiet, rest_of, line_row, first_of}
+use Rattle.sc_actor.proofs.WalkLemmas.{Stands-at, Stands-allows, Stands-ended, Stands-whole, lawful-prefix, lawful-last}
 use Rattle.sc_play.specs.declared.stages.Stage.{Stage}
 use Rattle.sc_play.specs.declared.stages.Deed.{Deed}
-use Rattle.sc_play.specs.Deeds.{can_act, row_made, line_deed, lowest_deed, chosen_deed}
+use Rattle.sc_play.specs.Deeds.{of_network, is_number, can_act, row_made, line_deed, lowest_deed, chosen_deed}
 use Rattle.sc_play.specs.Moves.{At, Rules, with_births, Goes, many}
 use Rattle.sc_play.specs.Checks.{Follows, IsTaking, Took, Misses, Ends, Breaks}
-use Rattle.sc_play.proofs.DeedLemmas.{line_row-deed, line_deed-can, lowest-deed, quiet_is, of_delivery}
-use Rattle.sc_play.proofs.Steps.{At-did, made, line-at, lowest-at, numbers-at}
+use Rattle.sc_play.specs.Replays.{HasReplayed}
+use Rattle.sc_play.proofs.DeedLemmas.{acts-some, line_row-deed, line_deed-can, lowest-deed, quiet_is, of_delivery}
+use Rattle.sc_play.proofs.Steps.{At-did, made, or_is, line-at, lowest-at, numbers-at}
 
 -- the rows split at the first that was not taken
 pub split_rows : {M O : Type 0} (taken rows : List (Row M O)) (row : Row M O) → Follows taken rows → length taken < length rows → row ≡ get_or rows (length taken) row → rows ≡ (taken ++ row ∷ []) ++ drop (length taken + 1) rows
@@ -68,8 +69,27 @@ some_eq : {X : Type 0} (x y : X) → Some x ≡ Some y → x ≡ y
 some_eq x y e = cc
 
 module _ {A M O : Type 0} (r : Rules A M O) (words : ℕ → ℕ → ℕ × ℕ) (births : List (Seat A)) (lines : List (Line O)) (old : Stage A M O) (rows : List (Row M O)) where
-  pub At-ends : (tasks : List (Task O)) → At (with_births r words births) lines old tasks → Follows old.rows rows → length rows ≤ length old.rows → IsLawful (with_births r words births) lines rows
-  At-ends tasks at follows le = subst (IsLawful (with_births r words births) lines) (sym (follows_all old.rows rows follows le)) at.lawful
+  -- the rows end before the first task makes its row
+  pub At-open : (task : Task O) (rest : List (Task O)) → At (with_births r words births) lines old (task ∷ rest) → is_over (with_births r words births) old.rows task ≡ false → Follows old.rows rows → length rows ≤ length old.rows → (old.rows ≡ rows) × HasReplayed (with_births r words births) lines rows old.unsettled old.skipped old.seats.items
+  At-open task rest at opens follows le =
+      let s = with_births r words births in
+      let here = Stands-at s lines old.rows task rest old.skipped old.unsettled (record { lawful = at.lawful; place = at.place }) opens in
+      let all = sym (follows_all old.rows rows follows le) in (
+        all,
+        subst (λ xs. HasReplayed s lines xs old.unsettled old.skipped old.seats.items) all (record {
+          lawful = at.lawful;
+          cut_is = ap (λ (p : Place M O). p.unsettled) (sym here);
+          skips_are = ap (λ (p : Place M O). p.skipped) (sym here);
+          actors = at.seats;
+        }),
+      )
+
+  -- they end with the last task
+  pub At-all : At (with_births r words births) lines old [] → old.rows ≡ rows → HasReplayed (with_births r words births) lines rows old.unsettled old.skipped old.seats.items
+  At-all at all =
+      let s = with_births r words births in
+      let whole = Stands-whole s lines old.rows old.skipped old.unsettled (record { lawful = at.lawful; place = at.place }) in
+      subst (λ xs. HasReplayed s lines xs old.unsettled old.skipped old.seats.items) all (record { lawful = at.lawful; cut_is = sym whole.2; skips_are = sym whole.1; actors = at.seats })
 
   -- a row that the first task does not allow
   pub At-wrong : (task : Task O) (rest : List (Task O)) (row : Row M O) → At (with_births r words births) lines old (task ∷ rest) → is_over (with_births r words births) old.rows task ≡ false → Follows old.rows rows → length old.rows < length rows → row ≡ get_or rows (length old.rows) row →
@@ -118,8 +138,28 @@ module _ {A M O : Type 0} (r : Rules A M O) (old new : Stage A M O) (rows : List
   loud-at : (words : ℕ → ℕ → ℕ × ℕ) (births : List (Seat A)) (lines : List (Line O)) (tasks : List (Task O)) → At (with_births r words births) lines old tasks → is_none (lowest_deed {O = O} r.receiver (numbers_of old.seats.items) old.rows) ≡ false → is_quiet (with_births r words births) old.rows ≡ false
   loud-at words births lines tasks at loud = quiet_is {O = O} r.receiver births old.rows ∙ ap is_none (lowest-at r old old words births lines tasks at) ∙ loud
 
-  pub Ends-all : (before : List (Task O)) → Follows old.rows rows → length rows ≤ length old.rows → Ends r old before rows
-  Ends-all before follows le = λ words births lines rest at. At-ends r words births lines old rows (before ++ rest) at follows le
+  -- the rows end before the row of a deed that can be done
+  can_row : (s : System A M O) (d : Deed O) → can_act (numbers_of s.births) d ≡ true → (row : Row M O) × (row_made s old.rows d ≡ Some row)
+  can_row s d can = by (of_network d.event) refl
+    where
+      by : (b : Bool) → of_network d.event ≡ b → (row : Row M O) × (row_made s old.rows d ≡ Some row)
+      by true own = (network d.event, ap (λ b. cond b (Some (network d.event)) (acts s old.rows d.who d.event)) own)
+      by false own =
+          let there = acts-some s old.rows d.who d.event (or_is (of_network d.event) (is_number (numbers_of s.births) d.who) own can) in
+          (there.0, ap (λ b. cond b (Some (network d.event)) (acts s old.rows d.who d.event)) own ∙ there.1)
+
+  pub Ends-line : (line : Line O) (d : Deed O) → line_deed r.receiver (numbers_of old.seats.items) old.rows line ≡ Some d → Follows old.rows rows → length rows ≤ length old.rows → Ends r old (Once line ∷ []) old rows
+  Ends-line line d is follows le = λ words births lines rest at.
+      let s = with_births r words births in
+      let here : line_deed r.receiver (numbers_of births) old.rows line ≡ Some d = line-at r old old line words births lines (Once line ∷ rest) at ∙ is in
+      let row = can_row s d (line_deed-can r.receiver births old.rows line d here) in
+      let made_row : line_row s old.rows line ≡ Some row.0 = line_row-deed s old.rows line ∙ ap (option_and_then (row_made s old.rows)) here ∙ row.1 in
+      At-open r words births lines old rows (Once line) rest at (ap is_none made_row) follows le
+
+  pub Ends-many : (free : Bool) (left : ℕ) → 0 < left → is_none (lowest_deed {O = O} r.receiver (numbers_of old.seats.items) old.rows) ≡ false → Follows old.rows rows → length rows ≤ length old.rows → Ends r old (many free left ∷ []) old rows
+  Ends-many free left more loud follows le = λ words births lines rest at.
+      let s = with_births r words births in
+      At-open r words births lines old rows (many free left) rest at (not_over s old.rows free left more (loud-at words births lines (many free left ∷ rest) at loud)) follows le
 
   -- a line of one row
   pub Breaks-line : (line : Line O) (d : Deed O) (row : Row M O) → line_deed r.receiver (numbers_of old.seats.items) old.rows line ≡ Some d → Misses r old d row → Follows old.rows rows → length old.rows < length rows → row ≡ get_or rows (length old.rows) row → Breaks r old (Once line ∷ []) rows
@@ -165,8 +205,8 @@ module _ {A M O : Type 0} (r : Rules A M O) (old new : Stage A M O) (rows : List
       rest_many false = refl
 
 module _ {A M O : Type 0} (r : Rules A M O) where
-  pub Ends-then : (first second : Stage A M O) (a b : List (Task O)) (rows : List (Row M O)) → Goes r first a second b → Ends r second b rows → Ends r first a rows
-  Ends-then first second a b rows p q = λ words births lines rest at. q words births lines rest (p words births lines rest at)
+  pub Ends-then : (first second third : Stage A M O) (a b : List (Task O)) (rows : List (Row M O)) → Goes r first a second b → Ends r second b third rows → Ends r first a third rows
+  Ends-then first second third a b rows p q = λ words births lines rest at. q words births lines rest (p words births lines rest at)
 
   pub Breaks-then : (first second : Stage A M O) (a b : List (Task O)) (rows : List (Row M O)) → Goes r first a second b → Breaks r second b rows → Breaks r first a rows
   Breaks-then first second a b rows p q = λ words births lines rest at. q words births lines rest (p words births lines rest at)

@@ -65,7 +65,7 @@ pub record Made {A M O : Type 0} (s : System A M O) (rows : List (Row M O)) (sea
   pub row_is : row_made s rows deed ≡ Some row
   pub seats_are : seats ≡ values s.table s.births (rows ++ row ∷ [])
 
-or_is : (a b : Bool) → a ≡ false → (a || b) ≡ true → b ≡ true
+pub or_is : (a b : Bool) → a ≡ false → (a || b) ≡ true → b ≡ true
 or_is true b e h = absurd (false≢true (sym e))
 or_is false b e h = h
 

@@ -11,6 +11,7 @@ use Rattle.sc_play.specs.declared.checked.Checked.{Checked}
 use Rattle.sc_play.specs.declared.checked.Checked.TheVariants.{On, Ended, Wrong}
 use Rattle.sc_play.specs.Stages.{IsKept, Makes}
 use Rattle.sc_play.specs.Moves.{At, Rules, with_births, Did, Goes}
+use Rattle.sc_play.specs.Replays.{HasReplayed}
 
 -- these rows were taken from the front of those
 abbrev pub Follows : {M O : Type 0} → List (Row M O) → List (Row M O) → Type 0
@@ -36,11 +37,11 @@ pub record Misses {A M O : Type 0} (r : Rules A M O) (old : Stage A M O) (deed :
   pub makes : Makes r.table (mails old.rows) old.seats.items seats deed made
   pub differs : made ≡ row → ⊥
 
--- the rows are lawful, wherever the walk stands at the stage with these tasks
-abbrev pub Ends : {A M O : Type 0} → Rules A M O → Stage A M O → List (Task O) → List (Row M O) → Type 0
-Ends {A} {M} {O} r old before rows =
+-- the rows end here, wherever the walk stands at the old stage with these tasks: they are lawful, and the new stage is what they leave
+abbrev pub Ends : {A M O : Type 0} → Rules A M O → Stage A M O → List (Task O) → Stage A M O → List (Row M O) → Type 0
+Ends {A} {M} {O} r old before new rows =
     (words : ℕ → ℕ → ℕ × ℕ) (births : List (Seat A)) (lines : List (Line O)) (rest : List (Task O)) →
-    At (with_births r words births) lines old (before ++ rest) → IsLawful (with_births r words births) lines rows
+    At (with_births r words births) lines old (before ++ rest) → (new.rows ≡ rows) × HasReplayed (with_births r words births) lines rows new.unsettled new.skipped new.seats.items
 
 -- the rows are not lawful
 abbrev pub Breaks : {A M O : Type 0} → Rules A M O → Stage A M O → List (Task O) → List (Row M O) → Type 0
@@ -51,5 +52,5 @@ Breaks {A} {M} {O} r old before rows =
 -- what the answer of a check says
 abbrev pub IsChecked : {A M O : Type 0} → Rules A M O → Stage A M O → List (Task O) → Stage A M O → List (Row M O) → Checked → Type 0
 IsChecked r old before new rows On = Goes r old before new [] × IsTaking r.weighs new rows
-IsChecked r old before new rows Ended = Ends r old before rows
+IsChecked r old before new rows Ended = Ends r old before new rows × IsTaking r.weighs new rows
 IsChecked r old before new rows Wrong = Breaks r old before rows

@@ -3,3 +3,4 @@ pub mod Stages
 pub mod Moves
 pub mod Outcome
 pub mod Checks
+pub mod Replays

@@ -1,34 +1,59 @@
-//! Whether a journal is lawful.
-ghost use Rattle.std.specs.Prelude.{◌≡◌, ◌<◌, ◌^◌, ◌↔◌, ℕ, true, length, All, IfOk, IsTrue};
-ghost use Rattle.sc_actor.specs.Mail.{mails};
-ghost use Rattle.sc_actor.specs.System.{system};
+//! What a journal leaves of its actors, if it is lawful.
+ghost use Rattle.std.specs.Prelude.{◌≡◌, ◌<◌, ◌^◌, ◌↔◌, ℕ, None, true, length, All, IfOk, IsTrue, is_none};
+ghost use Rattle.sc_actor.specs.Mail.{mails, pending};
+ghost use Rattle.sc_actor.specs.System.{system, numbers_of, kth};
 ghost use Rattle.sc_actor.specs.Walk.{IsLawful};
 ghost use Rattle.sc_play.specs.Deeds.{is_built};
-ghost use Rattle.sc_play.specs.Stages.{are_apart};
+ghost use Rattle.sc_play.specs.Replays.{IsReplayed};
+ghost use Rattle.sc_play.specs.Stages.{are_apart, IsKept};
 
 use crate::checked::Checked;
 use crate::checking::check_line;
+use crate::pending::is_quiet;
 use crate::sames::Equality;
 use crate::stages::Stage;
 use sc_actor::{Actor, Journal, Line, Row, Seat};
 use sc_base::OutOfMemory;
 use std::alloc::Global;
 
-/// Whether rows are lawful for a schedule of these actors, from their births: slowly, row by row. They may end before the schedule does.
+/// What rows leave: the actors, whether no mail is pending, how many lines were skipped, and whether a line of many deliveries ended with mail pending.
+#[derive(Drop)]
+pub struct Replayed<A> {
+    pub seats: Vec<Seat<A>>,
+    pub quiet: bool,
+    pub skipped: u64,
+    pub unsettled: bool,
+}
+
+// What a stage leaves.
+fn left_by<A: Actor>(stage: Stage<A, A::Mail, A::Order>) -> Replayed<A>
+    requires { IsKept A.Mail.weighs stage }
+    ensures { result ≡ record { seats = stage.seats; quiet = is_none (kth (pending A.Mail.receiver (numbers_of stage.seats.items) stage.rows None) 1); skipped = stage.skipped; unsettled = stage.unsettled } }
+{
+    let quiet = is_quiet(&stage);
+    Replayed {
+        seats: stage.seats,
+        quiet,
+        skipped: stage.skipped,
+        unsettled: stage.unsettled,
+    }
+}
+
+/// Replays rows of a schedule of these actors, from their births: slowly, row by row. Nothing is left where they are not lawful. They may end before the schedule does.
 ///
 /// The actors have different numbers, no line is a storm, and there are fewer than 2^31 rows and mails.
-pub fn is_lawful<A: Actor, E: Equality<A::Mail, A::Order>>(
+pub fn replay<A: Actor, E: Equality<A::Mail, A::Order>>(
     alloc: Global,
     equality: &E,
     seats: Vec<Seat<A>>,
     lines: &[Line<A::Order>],
     rows: &[Row<A::Mail, A::Order>],
-) -> Result<bool, OutOfMemory>
+) -> Result<Option<Replayed<A>>, OutOfMemory>
     requires apart { are_apart seats.items ≡ true }
     requires built { All (λ line. is_built line ≡ true) lines.now }
     requires few_rows { length rows.now < 2 ^ 31 }
     requires few_mails { length (mails rows.now) < 2 ^ 31 }
-    ensures { IfOk result (λ lawful. (words : ℕ → ℕ → ℕ × ℕ) → (IsTrue lawful ↔ IsLawful (system A.table A.Mail.receiver words seats.items) lines.now rows.now)) }
+    ensures { IfOk result (λ replayed. (words : ℕ → ℕ → ℕ × ℕ) → IsReplayed (system A.table A.Mail.receiver words seats.items) lines.now rows.now replayed) }
 {
     let mut stage = Stage {
         seats,
@@ -42,9 +67,30 @@ pub fn is_lawful<A: Actor, E: Equality<A::Mail, A::Order>>(
     for line in lines {
         match check_line(alloc, equality, &mut stage, line, rows)? {
             Checked::On => {}
-            Checked::Ended => return Ok(true),
-            Checked::Wrong => return Ok(false),
+            Checked::Ended => return Ok(Some(left_by(stage))),
+            Checked::Wrong => return Ok(None),
         }
     }
-    Ok(stage.rows.len() == rows.len())
+    if stage.rows.len() != rows.len() {
+        return Ok(None);
+    }
+    Ok(Some(left_by(stage)))
+}
+
+/// Whether rows are lawful for a schedule of these actors, as `replay` says.
+pub fn is_lawful<A: Actor, E: Equality<A::Mail, A::Order>>(
+    alloc: Global,
+    equality: &E,
+    seats: Vec<Seat<A>>,
+    lines: &[Line<A::Order>],
+    rows: &[Row<A::Mail, A::Order>],
+) -> Result<bool, OutOfMemory>
+    requires apart { are_apart seats.items ≡ true }
+    requires built { All (λ line. is_built line ≡ true) lines.now }
+    requires few_rows { length rows.now < 2 ^ 31 }
+    requires few_mails { length (mails rows.now) < 2 ^ 31 }
+    ensures { IfOk result (λ lawful. (words : ℕ → ℕ → ℕ × ℕ) → (IsTrue lawful ↔ IsLawful (system A.table A.Mail.receiver words seats.items) lines.now rows.now)) }
+{
+    let left = replay(alloc, equality, seats, lines, rows)?;
+    Ok(left.is_some())
 }

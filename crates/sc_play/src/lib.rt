@@ -17,7 +17,7 @@ mod schedules;
 mod stages;
 
 pub use conditions::{are_apart, are_built, are_few};
-pub use judging::is_lawful;
+pub use judging::{Replayed, is_lawful, replay};
 pub use looking::pending_of;
 pub use playing::Played;
 pub use sames::Equality;

@@ -218,3 +218,48 @@ fn other_rows_are_not_lawful(rt: HostRuntime) -> Result<(), Fail> {
     assert!(rt; judged(alloc, &other, &[])?);
     Ok(())
 }
+
+// What rows leave: skipped lines, whether a line was cut off, whether no mail is pending, and the turns that each actor has left; or nothing.
+fn left(
+    alloc: Global,
+    lines: &[Line<u32>],
+    rows: &[Row<Note, u32>],
+) -> Result<Option<(u64, bool, bool, u32, u32)>, OutOfMemory> {
+    let seats = pair(alloc, 2)?;
+    if !are_built(lines) || !are_apart(&seats) || !are_few(rows) {
+        return Err(OutOfMemory);
+    }
+    let Some(left) = replay(alloc, &Plain, seats, lines, rows)? else {
+        return Ok(None);
+    };
+    if left.seats.len() != 2 {
+        return Ok(None);
+    }
+    Ok(Some((
+        left.skipped,
+        left.unsettled,
+        left.quiet,
+        left.seats[0].actor.left,
+        left.seats[1].actor.left,
+    )))
+}
+
+#[test]
+fn a_replay_tells_what_rows_leave(rt: HostRuntime) -> Result<(), Fail> {
+    let alloc = rt.alloc();
+    let lines = [
+        Line::Deliver { who: 2, k: 1 },
+        Line::Go { who: 1 },
+        Line::Settle { most: 2 },
+        Line::Settle { most: 9 },
+    ];
+    let (journal, _) = played(alloc, &lines, 1 << 30)?;
+    let rows = journal.as_slice();
+    assert!(rt; rows.len() == 5);
+    assert!(rt; left(alloc, &lines, &[])? == Some((1, false, true, 2, 2)));
+    assert!(rt; left(alloc, &lines, &rows[..2])? == Some((1, false, false, 1, 1)));
+    assert!(rt; left(alloc, &lines, &rows[..3])? == Some((1, true, false, 0, 1)));
+    assert!(rt; left(alloc, &lines, rows)? == Some((1, true, true, 0, 0)));
+    assert!(rt; left(alloc, &lines, &rows[1..])?.is_none());
+    Ok(())
+}

@@ -13,3 +13,6 @@ pub use cores::same_base;
 pub use lists::{Same, are_same};
 pub use mails::same_mail;
 pub use orders::same_order_line;
+
+#[cfg(test)]
+mod tests;

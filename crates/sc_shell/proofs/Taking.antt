@@ -1,5 +1,5 @@
 -- A turn is a fetch and an act.
-use Rattle.std.proofs.Common.{◌≡◌, ℕ, ◌+◌, ◌<◌, false, List, [], ◌∷◌, ◌++◌, refl, sym, ap, ◌∙◌, subst, append_assoc, Option, Some}
+use Rattle.std.proofs.Common.{◌≡◌, ℕ, ◌+◌, ◌<◌, ◌≤◌, false, List, [], ◌∷◌, ◌++◌, refl, sym, ap, ◌∙◌, subst, append_assoc, Option, Some}
 use Rattle.std.proofs.lemmas.List.{append-nil}
 use Rattle.sc_turn.specs.Turn.{StartsWith}
 use Rattle.sc_actor.specs.declared.actors.Actor.{Ghosts}
@@ -14,7 +14,8 @@ use Rattle.sc_actor.specs.Replay.{input_of, acted}
 use Rattle.sc_actor.specs.Counted.{row_bytes, journal_bytes}
 use Rattle.sc_ledger.specs.Pending.{kth_pending}
 use Rattle.sc_exchange.specs.declared.ports.Port.{Port}
-use Rattle.sc_exchange.specs.Ports.{seen, Stays, Looked, Appended, MayPost}
+use Rattle.sc_exchange.specs.Deeds.{rows_of}
+use Rattle.sc_exchange.specs.Ports.{seen, made, Stays, Looked, Appended, MayPost}
 use Rattle.sc_shell.specs.declared.turns.Turn.{Turn}
 use Rattle.sc_shell.specs.declared.turns.Turn.TheVariants.{Did, Empty, Full, Spent, OutOfMemory}
 use Rattle.sc_shell.specs.Answers.{MayHappen}
@@ -77,22 +78,25 @@ module _ {A M O : Type 0} {g : Ghosts A M O} {h : MailGhosts M} where
   row_same : (s m : State A M O g h) (event : Event O) (input : Option (Input M O)) → m.actor ≡ s.actor → m.port.who ≡ s.port.who → row_at m event input ≡ row_at s event input
   row_same s m event input a w = λ i. record { who = w i; event = event; sent = (acted g.table (a i) input).1 }
 
+  own_was : (s m : State A M O g h) → Looked s.port m.port → rows_of m.port.who (seen m.port) ≡ made m.port → rows_of s.port.who (seen m.port) ≡ made s.port
+  own_was s m l own = ap (λ n. rows_of n (seen m.port)) (sym l.stays.who) ∙ (own ∙ l.made)
+
   -- the mail was fetched, and then the actor acted on it
-  pub takes_acts : (s m t : State A M O g h) (k number : ℕ) (mail : M) → s.spent ≡ false → m.actor ≡ s.actor → Looked s.port m.port → kth_pending h.receiver s.port.actors (seen m.port) s.port.who k ≡ Some number →
+  pub takes_acts : (s m t : State A M O g h) (k number : ℕ) (mail : M) → s.spent ≡ false → m.actor ≡ s.actor → Looked s.port m.port → rows_of m.port.who (seen m.port) ≡ made m.port → kth_pending h.receiver s.port.actors (seen m.port) s.port.who k ≡ Some number →
       numbered (mails (seen m.port)) number ≡ Some mail → (r : Turn) → Acts m t (Deliver number) (Some (Got mail)) r → Takes s t k r
-  takes_acts s m t k number mail free actor l kth is (Did at) x =
+  takes_acts s m t k number mail free actor l true_own kth is (Did at) x =
       let row : Row M O = row_at m (Deliver number) (Some (Got mail)) in
       let same = row_same s m (Deliver number) (Some (Got mail)) actor l.stays.who in (
         free,
-        record { rows = seen m.port; later = l.later; before = begins_trans (seen t.port) x.0.before (seen m.port) (row ∷ [], x.0.seen) x.0.later; number = number; mail = mail; kth = kth; mail_is = is },
-        (subst (Appended s.port t.port) same (appended_trans s.port m.port t.port row l x.0), x.1, x.2 ∙ ap (λ a. (acted g.table a (Some (Got mail))).0) actor, x.3, x.4),
+        record { rows = seen m.port; later = l.later; before = begins_trans (seen t.port) x.0.before (seen m.port) (row ∷ [], x.0.seen) x.0.later; own = own_was s m l true_own; number = number; mail = mail; kth = kth; mail_is = is },
+        (subst (Appended s.port t.port) same (appended_trans s.port m.port t.port row l x.0), x.1, x.2 ∙ ap (λ a. (acted g.table a (Some (Got mail))).0) actor, x.3, x.4, x.5, subst (λ n. journal_bytes h.weighs (seen t.port) ≤ n) l.stays.exchange.2 x.6),
       )
-  takes_acts s m t k number mail free actor l kth is (Empty told) x = absurd x
-  takes_acts s m t k number mail free actor l kth is (Full bytes) x =
+  takes_acts s m t k number mail free actor l true_own kth is (Empty told) x = absurd x
+  takes_acts s m t k number mail free actor l true_own kth is (Full bytes) x =
       let same = row_same s m (Deliver number) (Some (Got mail)) actor l.stays.who in (
         free,
-        record { rows = seen m.port; later = l.later; before = x.0.later; number = number; mail = mail; kth = kth; mail_is = is },
-        (looked_trans s.port m.port t.port l x.0, (x.1.0, subst (λ (n : ℕ × ℕ). n.0 < journal_bytes h.weighs (seen t.port) + n.1) (λ i. (l.stays.exchange.2 i, row_bytes h.weighs (same i))) x.1.1), x.2, x.3),
+        record { rows = seen m.port; later = l.later; before = x.0.later; own = own_was s m l true_own; number = number; mail = mail; kth = kth; mail_is = is },
+        (looked_trans s.port m.port t.port l x.0, (x.1.0, subst (λ (n : ℕ × ℕ). n.0 < journal_bytes h.weighs (seen t.port) + n.1) (λ i. (l.stays.exchange.2 i, row_bytes h.weighs (same i))) x.1.1), x.2, x.3, x.4),
       )
-  takes_acts s m t k number mail free actor l kth is Spent x = absurd x
-  takes_acts s m t k number mail free actor l kth is OutOfMemory x = (free, looked_trans s.port m.port t.port l x.0, x.1)
+  takes_acts s m t k number mail free actor l true_own kth is Spent x = absurd x
+  takes_acts s m t k number mail free actor l true_own kth is OutOfMemory x = (free, looked_trans s.port m.port t.port l x.0, x.1)

@@ -1,5 +1,5 @@
 -- What a clause says of a shell.
-use Rattle.std.specs.Prelude.{◌≡◌, ℕ, List, [], length, Bool, true, false, Option, Some, None, ◌⊎◌}
+use Rattle.std.specs.Prelude.{◌≡◌, ℕ, ◌≤◌, List, [], length, Bool, true, false, Option, Some, None, ◌⊎◌}
 use Rattle.sc_turn.specs.Turn.{StartsWith as Begins}
 use Rattle.sc_actor.specs.declared.actors.Actor.{Ghosts}
 use Rattle.sc_actor.specs.declared.actors.Parcel.{Ghosts as MailGhosts}
@@ -15,17 +15,19 @@ use Rattle.sc_ledger.specs.declared.faults.PostFault.TheVariants.{JournalFull}
 use Rattle.sc_ledger.specs.Fault.{IsCause}
 use Rattle.sc_ledger.specs.Pending.{kth_pending}
 use Rattle.sc_exchange.specs.declared.ports.Port.{Port}
-use Rattle.sc_exchange.specs.Ports.{seen, Looked, Appended}
+use Rattle.sc_exchange.specs.Deeds.{rows_of}
+use Rattle.sc_exchange.specs.Ports.{seen, made, Looked, Appended, IsAddressed}
 use Rattle.sc_shell.specs.declared.shells.Shell.{Shell}
 use Rattle.sc_shell.specs.declared.turns.Turn.{Turn}
 use Rattle.sc_shell.specs.declared.turns.Turn.TheVariants.{Did, Empty, Full, Spent, OutOfMemory}
 
 module _ {M O : Type 0} {h : MailGhosts M} where
-  -- between these two, the k-th pending mail of the port's actor was fetched, when these rows were seen
+  -- between these two, the k-th pending mail of the port's actor was fetched, when these rows were seen, which have of the actor just those that the port had made
   pub record Fetches (p q : Port M O h) (k : ℕ) : Type 0 where
     pub rows : List (Row M O)
     pub later : Begins rows (seen p)
     pub before : Begins (seen q) rows
+    pub own : rows_of p.who rows ≡ made p
     pub number : ℕ
     pub mail : M
     pub kth : kth_pending h.receiver p.actors rows p.who k ≡ Some number
@@ -64,9 +66,9 @@ module _ {A M O : Type 0} {g : Ghosts A M O} {h : MailGhosts M} where
   -- the actor's step and the row of it; or the row was refused, by its cause; or there was no memory
   abbrev pub Acts : State A M O g h → State A M O g h → Event O → Option (Input M O) → Turn → Type 0
   Acts s t event input (Did at) =
-      Appended s.port t.port (row_at s event input) × (at ≡ length (seen t.port)) × (t.actor ≡ (acted g.table s.actor input).0) × (t.spent ≡ is_crash event) × (t.port.crashed ≡ is_crash event)
+      Appended s.port t.port (row_at s event input) × (at ≡ length (seen t.port)) × (t.actor ≡ (acted g.table s.actor input).0) × (t.spent ≡ is_crash event) × (t.port.crashed ≡ is_crash event) × IsAddressed t.port × (journal_bytes h.weighs (seen t.port) ≤ s.port.limit)
   Acts s t event input (Full bytes) =
-      Looked s.port t.port × IsCause (JournalFull bytes) (journal_bytes h.weighs (seen t.port)) (row_bytes h.weighs (row_at s event input)) s.port.limit × (t.spent ≡ true) × (t.port.crashed ≡ false)
+      Looked s.port t.port × IsCause (JournalFull bytes) (journal_bytes h.weighs (seen t.port)) (row_bytes h.weighs (row_at s event input)) s.port.limit × (t.spent ≡ true) × (t.port.crashed ≡ false) × IsAddressed t.port
   Acts s t event input OutOfMemory = Looked s.port t.port × (t.spent ≡ true) × (t.port.crashed ≡ false)
   Acts s t event input _ = ⊥
 
@@ -77,7 +79,7 @@ module _ {A M O : Type 0} {g : Ghosts A M O} {h : MailGhosts M} where
   -- too few mails were pending
   abbrev pub IsEmpty : State A M O g h → State A M O g h → ℕ → ℕ → Type 0
   IsEmpty s t k told =
-      Looked s.port t.port × (t.actor ≡ s.actor) × (kth_pending h.receiver s.port.actors (seen t.port) s.port.who k ≡ None) × (told ≡ length (seen t.port)) × (t.spent ≡ false)
+      Looked s.port t.port × (t.actor ≡ s.actor) × (kth_pending h.receiver s.port.actors (seen t.port) s.port.who k ≡ None) × (told ≡ length (seen t.port)) × (t.spent ≡ false) × IsAddressed t.port
 
   -- what a turn answers, and what it did
   abbrev pub Takes : State A M O g h → State A M O g h → ℕ → Turn → Type 0

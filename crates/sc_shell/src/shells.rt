@@ -7,7 +7,7 @@ ghost use Rattle.sc_actor.specs.Replay.{input_of, acted};
 ghost use Rattle.sc_ledger.specs.Pending.{kth_pending};
 ghost use Rattle.sc_shell.specs.Answers.{turn_of, MayHappen};
 ghost use Rattle.sc_exchange.specs.Deeds.{rows_of};
-ghost use Rattle.sc_exchange.specs.Ports.{seen, made, SameExchange, Stays, Looked, IsTrue, MayPost};
+ghost use Rattle.sc_exchange.specs.Ports.{seen, made, SameExchange, Stays, Looked, IsTrue, IsAddressed, MayPost};
 
 use crate::turns::Turn;
 use sc_actor::{Actor, Event, Gate, Input};
@@ -185,6 +185,7 @@ impl<A: Actor> Shell<A> {
     pub fn waiting<R: Wait>(&mut self, rt: &R) -> Option<u32>
         ensures same { (self.new.actor ≡ self.old.actor) × (self.new.spent ≡ self.old.spent) × (self.new.last ≡ self.old.last) }
         ensures looked { Looked self.old.port self.new.port × IsTrue self.new.port × (self.new.port.crashed ≡ self.old.port.crashed) }
+        ensures addressed { IsAddressed self.new.port }
         ensures first { result ≡ kth_pending A.Mail.receiver self.old.port.actors (seen self.new.port) self.old.port.who 1 }
         ensures replay { KeepsReplay self.old self.new }
     {

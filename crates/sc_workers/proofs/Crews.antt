@@ -1,5 +1,5 @@
 -- Lists of shells that go on.
-use Rattle.std.proofs.Common.{◌≡◌, ◌≢◌, ℕ, zero, suc, ◌+◌, ◌<◌, ◌≤◌, ⊎_elim, inl, inr, Bool, true, false, true≢false, cond, ◌&&◌, not, List, [], ◌∷◌, ◌++◌, length, map, sum_by, get_or, refl, sym, ap, ◌∙◌, subst, arith, append_assoc, length-append, Option, Some, None}
+use Rattle.std.proofs.Common.{◌≡◌, ℕ, suc, ◌+◌, ◌<◌, ◌≤◌, ⊎_elim, inl, inr, Bool, true, false, true≢false, cond, ◌&&◌, not, List, [], ◌∷◌, ◌++◌, length, sum_by, get_or, refl, sym, ap, ◌∙◌, subst, arith, append_assoc, length-append, Option, Some, None}
 use Rattle.std.specs.List.{AllByRecursion}
 use Rattle.std.proofs.lemmas.Bool.Decides.{leb_tells}
 use Rattle.std.proofs.lemmas.List.{append-nil}
@@ -15,8 +15,8 @@ use Rattle.sc_shell.specs.declared.turns.Turn.TheVariants.{Did, Empty, Full, Spe
 use Rattle.sc_turn.specs.Turn.{StartsWith}
 use Rattle.sc_actor.specs.Replay.{value}
 use Rattle.sc_shell.specs.Shells.{State, Takes, state, IsReplay, KeepsReplay, Replays, ReplaysOver}
-use Rattle.sc_workers.specs.Crews.{Delivers, is_delivery, is_did, refusal_in, Goes, AllGo, Took, AllTook, Passed, AllPassed, Sound, AllSound, AllOf, AllMet, HasMet, IsOver, AllOver, rows_made, Still, AllStill, did, refusal}
-use Rattle.sc_workers.proofs.Lists.{starts_trans, sum_with, sum_zero}
+use Rattle.sc_workers.specs.Crews.{Delivers, is_delivery, is_did, refusal_in, Goes, AllGo, Took, AllTook, Passed, AllPassed, Sound, AllSound, AllOf, AllMet, HasMet, IsAhead, IsOver, AllOver, rows_made, Still, AllStill, HasRefusal, did, refusal}
+use Rattle.sc_workers.proofs.Lists.{starts_trans, sum_with, sum_zero, sum_short}
 
 module _ {M O : Type 0} where
   deliveries_append : (xs ys : List (Row M O)) → AllByRecursion (λ (r : Row M O). is_delivery r.event ≡ true) xs → AllByRecursion (λ (r : Row M O). is_delivery r.event ≡ true) ys → AllByRecursion (λ (r : Row M O). is_delivery r.event ≡ true) (xs ++ ys)
@@ -143,6 +143,32 @@ module _ {A M O : Type 0} {g : Ghosts A M O} {h : MailGhosts M} where
       stuck : t ≡ s → t.spent ≡ true → t.port.crashed ≡ false → Takes (state s) (state t) 1 (Full bytes)
       stuck same spent runs = absurd (true≢false (sym (sound (ap (λ (x : Shell A M O g h). x.spent) (sym same) ∙ spent)) ∙ (ap (λ (x : Shell A M O g h). x.port.crashed) (sym same) ∙ runs)))
 
+  did_most : (t : Shell A M O g h) → did t ≤ 1
+  did_most t = elim (not t.port.crashed && is_did t.last) as (λ b. cond {A = ℕ} b 1 0 ≤ 1) [ true ↦ omega arith | false ↦ omega arith ]
+
+  -- a shell that was refused in this round made no row in it
+  pub refused_idle : (s t : Shell A M O g h) (r : Turn) → Sound s → Took s t → refusal t ≡ Some r → did t ≡ 0
+  refused_idle s t r sound took e =
+      let told = refused_so t r e in
+      ⊎_elim (λ x. absurd (true≢false (sym (sound x.0) ∙ (ap (λ (y : Shell A M O g h). y.port.crashed) (sym x.1) ∙ told.1))))
+      (λ x. by x.1.0 x.0 x.1.1 x.1.2 told.0) took.acts
+    where
+      by : (a : Turn) → s.spent ≡ false → Takes (state s) (state t) 1 a → t.last ≡ Some a → t.spent ≡ true → did t ≡ 0
+      by (Did at) free x last spent = absurd (true≢false (sym spent ∙ x.2.3))
+      by (Empty told) free x last spent = did_not t (ap is_did last)
+      by (Full bytes) free x last spent = did_not t (ap is_did last)
+      by Spent free x last spent = did_not t (ap is_did last)
+      by OutOfMemory free x last spent = did_not t (ap is_did last)
+
+  pub refused_unsound : (t : Shell A M O g h) (r : Turn) → refusal t ≡ Some r → ¬ Sound t
+  refused_unsound t r e = λ sound. let told = refused_so t r e in true≢false (sym (sound told.0) ∙ told.1)
+
+  -- so fewer rows were made than there are shells
+  pub took_short : (ss ts : List (Shell A M O g h)) (r : Turn) → length ts ≡ length ss → AllSound ss → AllTook ss ts → HasRefusal ts r → sum_by did ts < length ts
+  took_short ss ts r l sound took refused =
+      sum_short did ts (λ k d lt. did_most (get_or ts k d)) refused.place refused.inside
+      (λ d. refused_idle (get_or ss refused.place d) (get_or ts refused.place d) r (sound refused.place d (omega (arith, refused.inside, l))) (took refused.place d (omega (arith, refused.inside, l))) (refused.told d))
+
   pub still_same : (s : Shell A M O g h) → Still s s
   still_same s = record { goes = goes_same s; made = refl; later = ([], sym (append-nil (seen s.port))); spent = refl; crashed = refl }
 
@@ -203,6 +229,12 @@ module _ {A M O : Type 0} {g : Ghosts A M O} {h : MailGhosts M} where
 
   pub has_later : (net next : Port M O h) (s : Shell A M O g h) → Looked net next → HasMet net s → HasMet next s
   has_later net next s l m = record { begins = starts_trans (seen next) (seen net) (seen s.port) l.later m.begins }
+
+  pub ahead_before : (net next : Port M O h) (s : Shell A M O g h) → Looked net next → IsAhead next s → IsAhead net s
+  ahead_before net next s l a = record { begins = starts_trans (seen s.port) (seen next) (seen net) a.begins l.later; own = a.own }
+
+  pub over_met : (net : Port M O h) (ss : List (Shell A M O g h)) → AllOver net ss → AllMet net ss
+  over_met net ss over k d lt = record { begins = (over k d lt).begins }
 
   pub met_same : (net next : Port M O h) (s : Shell A M O g h) → seen next ≡ seen net → HasMet net s → HasMet next s
   met_same net next s e m = record { begins = subst (λ l. StartsWith l (seen s.port)) (sym e) m.begins }

@@ -1,36 +1,91 @@
 -- How a round and the rounds end.
-use Rattle.std.proofs.Common.{◌≡◌, ℕ, ◌+◌, ◌≤◌, Bool, List, length, refl, sym, ap, ◌∙◌, subst, is_some}
+use Rattle.std.proofs.Common.{◌≡◌, ℕ, ◌+◌, ◌≤◌, List, [], sym, ap, ◌∙◌, subst, is_some, Option, None, Some, IfSome, ◌<◌, arith, Contains}
 use Rattle.std.specs.List.{list_any}
 use Rattle.sc_actor.specs.declared.actors.Actor.{Ghosts}
 use Rattle.sc_actor.specs.declared.actors.Parcel.{Ghosts as MailGhosts}
 use Rattle.sc_ledger.specs.Pending.{kth_pending}
 use Rattle.sc_exchange.specs.declared.ports.Port.{Port}
-use Rattle.sc_exchange.specs.Ports.{seen}
+use Rattle.sc_exchange.specs.Addressed.{all_addressed}
+use Rattle.sc_exchange.specs.Deeds.{rows_of}
+use Rattle.sc_exchange.specs.Ports.{seen, Looked, IsTrue, IsAddressed}
 use Rattle.sc_shell.specs.declared.shells.Shell.{Shell}
 use Rattle.sc_shell.specs.declared.turns.Turn.{Turn}
 use Rattle.sc_shell.specs.declared.turns.Turn.TheVariants.{Full as RefusedFull}
 use Rattle.sc_workers.specs.declared.answers.Rounds.{Rounds}
 use Rattle.sc_workers.specs.declared.answers.Rounds.TheVariants.{Quiet, Limit, Full, OutOfMemory}
-use Rattle.sc_workers.specs.Crews.{AllOver, rows_made}
-use Rattle.sc_workers.specs.Ends.{any_waits, IsFull, IsEnd, StepEnd, RefusedEnd}
+use Rattle.sc_workers.specs.Crews.{rows_made}
+use Rattle.sc_workers.specs.Services.{AllServe}
+use Rattle.sc_workers.specs.Ends.{any_waits, IsFull, IsEnd, StepEnd, RefusedEnd, IsGathered, IfCalm, IfHeld}
 
 module _ {M O : Type 0} {h : MailGhosts M} where
   pub waits_same : (net next : Port M O h) (whos : List ℕ) → next.actors ≡ net.actors → seen next ≡ seen net → any_waits next whos ≡ any_waits net whos
   waits_same net next whos actors rows = λ i. list_any (λ who. is_some (kth_pending h.receiver (actors i) (rows i) who 1)) whos
 
+  pub addressed_same : (net next : Port M O h) → seen next ≡ seen net → IsAddressed net → IsAddressed next
+  addressed_same net next rows a = ap (all_addressed h.receiver []) rows ∙ a
+
+  pub true_same : (net next : Port M O h) → Looked net next → seen next ≡ seen net → IsTrue net → IsTrue next
+  true_same net next l rows t = record {
+    own = (λ i. rows_of (l.stays.who i) (rows i)) ∙ (t.own ∙ sym l.made);
+    others = λ z n ne away. ap (rows_of n) rows ∙ t.others (sym l.stays.who ∙ z) n ne (λ there. away (subst (λ ws. Contains ws n) (sym l.stays.given) there));
+  }
+
 module _ {A M O : Type 0} {g : Ghosts A M O} {h : MailGhosts M} where
   pub step_end : (r : Rounds) (refused : Turn) (net : Port M O h) (start ss : List (Shell A M O g h)) (whos : List ℕ) (limit used : ℕ) → RefusedEnd r refused net ss
-      → ((bytes : ℕ) → refused ≡ RefusedFull bytes → AllOver net ss → IsFull start net ss bytes) → StepEnd r net start ss whos limit used
+      → ((bytes : ℕ) → refused ≡ RefusedFull bytes → IsGathered net ss → IsFull start net ss bytes × (used < limit)) → StepEnd r net start ss whos limit used
   step_end (Quiet told) refused net start ss whos limit used p f = absurd p
   step_end (Limit told) refused net start ss whos limit used p f = absurd p
-  step_end (Full bytes) refused net start ss whos limit used p f = (p.1, f bytes p.0 p.1)
+  step_end (Full bytes) refused net start ss whos limit used p f = (let e = f bytes p.0 p.1 in (p.1.over, e.0, e.1))
   step_end OutOfMemory refused net start ss whos limit used p f = tt
 
+  pub step_from : (o : Option Rounds) (net : Port M O h) (first mid ss : List (Shell A M O g h)) (whos : List ℕ) (limit used : ℕ) → ((bytes : ℕ) → IsFull mid net ss bytes → IsFull first net ss bytes) → IfSome o (λ r. StepEnd r net mid ss whos limit used) → IfSome o (λ r. StepEnd r net first ss whos limit used)
+  step_from None net first mid ss whos limit used f p = tt
+  step_from (Some (Quiet told)) net first mid ss whos limit used f p = p
+  step_from (Some (Limit told)) net first mid ss whos limit used f p = p
+  step_from (Some (Full bytes)) net first mid ss whos limit used f p = (p.0, f bytes p.1, p.2)
+  step_from (Some OutOfMemory) net first mid ss whos limit used f p = tt
+
   pub end_so : (r : Rounds) (net : Port M O h) (first mid ss : List (Shell A M O g h)) (whos all : List ℕ) (limit used : ℕ) → StepEnd r net mid ss whos limit used → whos ≡ all → used ≤ limit → rows_made ss ≡ rows_made first + used
-      → ((bytes : ℕ) → IsFull mid net ss bytes → IsFull first net ss bytes) → IsEnd r net first ss all limit
-  end_so (Quiet told) net first mid ss whos all limit used p same fits count f =
-      (p.0, ap (any_waits net) (sym same) ∙ p.1, subst (λ n. n ≤ limit) (sym p.2) fits, count ∙ ap (λ n. rows_made first + n) (sym p.2))
-  end_so (Limit told) net first mid ss whos all limit used p same fits count f =
-      (p.0, ap (any_waits net) (sym same) ∙ p.1, p.2 ∙ p.3, count ∙ ap (λ n. rows_made first + n) (sym p.2))
-  end_so (Full bytes) net first mid ss whos all limit used p same fits count f = (p.0, f bytes p.1)
-  end_so OutOfMemory net first mid ss whos all limit used p same fits count f = tt
+      → ((bytes : ℕ) → IsFull mid net ss bytes → IsFull first net ss bytes) → IfHeld (Some r) (AllServe net first) → IsEnd r net first ss all limit
+  end_so (Quiet told) net first mid ss whos all limit used p same fits count f served =
+      (p.0, ap (any_waits net) (sym same) ∙ p.1, subst (λ n. n ≤ limit) (sym p.2) fits, count ∙ ap (λ n. rows_made first + n) (sym p.2), served)
+  end_so (Limit told) net first mid ss whos all limit used p same fits count f served =
+      (p.0, ap (any_waits net) (sym same) ∙ p.1, p.2 ∙ p.3, count ∙ ap (λ n. rows_made first + n) (sym p.2), served)
+  end_so (Full bytes) net first mid ss whos all limit used p same fits count f served = (p.0, f bytes p.1, omega (arith, count, p.2), served)
+  end_so OutOfMemory net first mid ss whos all limit used p same fits count f served = tt
+
+-- a claim on a calm round
+pub calm_maps : {P Q : Type 0} (r : Option Rounds) → (P → Q) → IfCalm r P → IfCalm r Q
+calm_maps None f p = f p
+calm_maps (Some (Quiet used)) f p = f p
+calm_maps (Some (Limit used)) f p = f p
+calm_maps (Some (Full bytes)) f p = tt
+calm_maps (Some OutOfMemory) f p = tt
+
+-- after a refusal there is none
+pub calm_never : (P : Type 0) {A M O : Type 0} {g : Ghosts A M O} {h : MailGhosts M} (r : Rounds) (refused : Turn) (net : Port M O h) (ss : List (Shell A M O g h)) → RefusedEnd r refused net ss → IfCalm (Some r) P
+calm_never P (Quiet used) refused net ss e = absurd e
+calm_never P (Limit used) refused net ss e = absurd e
+calm_never P (Full bytes) refused net ss e = tt
+calm_never P OutOfMemory refused net ss e = tt
+
+-- a claim on a round for which there was memory
+pub held_maps : {P Q : Type 0} (r : Option Rounds) → (P → Q) → IfHeld r P → IfHeld r Q
+held_maps None f p = f p
+held_maps (Some (Quiet used)) f p = f p
+held_maps (Some (Limit used)) f p = f p
+held_maps (Some (Full bytes)) f p = f p
+held_maps (Some OutOfMemory) f p = tt
+
+pub held_calm : (P : Type 0) (r : Option Rounds) → IfHeld r P → IfCalm r P
+held_calm P None p = p
+held_calm P (Some (Quiet used)) p = p
+held_calm P (Some (Limit used)) p = p
+held_calm P (Some (Full bytes)) p = tt
+held_calm P (Some OutOfMemory) p = tt
+
+pub refused_held : {P : Type 0} {A M O : Type 0} {g : Ghosts A M O} {h : MailGhosts M} (r : Rounds) (refused : Turn) (net : Port M O h) (ss : List (Shell A M O g h)) → (IsGathered net ss → P) → RefusedEnd r refused net ss → IfHeld (Some r) P
+refused_held (Quiet used) refused net ss f e = absurd e
+refused_held (Limit used) refused net ss f e = absurd e
+refused_held (Full bytes) refused net ss f e = f e.1
+refused_held OutOfMemory refused net ss f e = tt

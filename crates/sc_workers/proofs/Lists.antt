@@ -81,3 +81,41 @@ module _ {A : Type 0} where
   sum_set f [] i old new lt is = absurd (omega arith)
   sum_set f (x ∷ xs) zero old new lt is = omega (arith, sum_cons f new xs, sum_cons f x xs, ap f is)
   sum_set f (x ∷ xs) (suc i) old new lt is = omega (arith, sum_cons f x (set xs i new), sum_cons f x xs, sum_set f xs i old new (omega arith) is)
+
+  -- no number fell and their sum is the same, so each is
+  pub sum_same : (f : A → ℕ) (xs ys : List A) → length ys ≡ length xs → ((k : ℕ) (d : A) → k < length xs → f (get_or xs k d) ≤ f (get_or ys k d)) → sum_by f ys ≡ sum_by f xs → (k : ℕ) (d : A) → k < length xs → f (get_or ys k d) ≡ f (get_or xs k d)
+  sum_same f [] ys l each same k d lt = absurd (omega arith)
+  sum_same f (x ∷ xs) [] l each same k d lt = absurd (omega arith)
+  sum_same f (x ∷ xs) (y ∷ ys) l each same k d lt =
+      let rest : (j : ℕ) (e : A) → j < length xs → f (get_or xs j e) ≤ f (get_or ys j e) = λ j e less. each (suc j) e (omega (arith, less)) in
+      let tail : sum_by f xs ≤ sum_by f ys = sum_grows xs ys (omega (arith, l)) rest in
+      let head : f x ≤ f y = each 0 x (omega arith) in
+      by k lt (λ j less. sum_same f xs ys (omega (arith, l)) rest (omega (arith, same, sum_cons f x xs, sum_cons f y ys, tail, head)) j d less) (omega (arith, same, sum_cons f x xs, sum_cons f y ys, tail, head))
+    where
+      sum_grows : (us vs : List A) → length vs ≡ length us → ((j : ℕ) (e : A) → j < length us → f (get_or us j e) ≤ f (get_or vs j e)) → sum_by f us ≤ sum_by f vs
+      sum_grows [] [] l each = omega arith
+      sum_grows [] (v ∷ vs) l each = absurd (omega arith)
+      sum_grows (u ∷ us) [] l each = absurd (omega arith)
+      sum_grows (u ∷ us) (v ∷ vs) l each =
+          let head : f u ≤ f v = each 0 u (omega arith) in
+          omega (arith, sum_cons f u us, sum_cons f v vs, head, sum_grows us vs (omega (arith, l)) (λ j e less. each (suc j) e (omega (arith, less))))
+
+      by : (k : ℕ) → k < suc (length xs) → ((j : ℕ) → j < length xs → f (get_or ys j d) ≡ f (get_or xs j d)) → f y ≡ f x → f (get_or (y ∷ ys) k d) ≡ f (get_or (x ∷ xs) k d)
+      by zero lt rest head = head
+      by (suc j) lt rest head = rest j (omega (arith, lt))
+
+  -- none is above 1 and one is 0, so the sum is below the length
+  pub sum_short : (f : A → ℕ) (xs : List A) → ((k : ℕ) (d : A) → k < length xs → f (get_or xs k d) ≤ 1) → (j : ℕ) → j < length xs → ((d : A) → f (get_or xs j d) ≡ 0) → sum_by f xs < length xs
+  sum_short f [] each j lt none = absurd (omega arith)
+  sum_short f (x ∷ xs) each zero lt none =
+      let most = sum_most xs (λ k d less. each (suc k) d (omega (arith, less))) in
+      omega (arith, sum_cons f x xs, none x, most)
+    where
+      sum_most : (ys : List A) → ((k : ℕ) (d : A) → k < length ys → f (get_or ys k d) ≤ 1) → sum_by f ys ≤ length ys
+      sum_most [] each = omega arith
+      sum_most (y ∷ ys) each =
+          let first : f y ≤ 1 = each 0 y (omega arith) in
+          omega (arith, sum_cons f y ys, first, sum_most ys (λ k d less. each (suc k) d (omega (arith, less))))
+  sum_short f (x ∷ xs) each (suc j) lt none =
+      let first : f x ≤ 1 = each 0 x (omega arith) in
+      omega (arith, sum_cons f x xs, first, sum_short f xs (λ k d less. each (suc k) d (omega (arith, less))) j (omega (arith, lt)) none)

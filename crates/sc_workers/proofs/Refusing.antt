@@ -1,5 +1,5 @@
 -- The cause of Full.
-use Rattle.std.proofs.Common.{◌≡◌, ℕ, ◌+◌, ◌<◌, ◌≤◌, false, List, ◌++◌, length, get_or, inl, sym, ap, ◌∙◌, subst, arith, sum_by, Some}
+use Rattle.std.proofs.Common.{◌≡◌, ℕ, ◌+◌, ◌≤◌, List, [], length, get_or, inl, sym, ap, ◌∙◌, arith, Some}
 use Rattle.std.specs.Option.{option_map}
 use Rattle.std.proofs.lemmas.List.Sums.{sum_by-append}
 use Rattle.sc_turn.specs.Turn.{StartsWith}
@@ -10,20 +10,23 @@ use Rattle.sc_actor.specs.declared.rows.Event.TheVariants.{Deliver}
 use Rattle.sc_actor.specs.declared.rows.Input.TheVariants.{Got}
 use Rattle.sc_actor.specs.Mail.{mails, numbered}
 use Rattle.sc_actor.specs.Counted.{row_bytes, journal_bytes}
-use Rattle.sc_actor.specs.Replay.{acted, input_of, value}
+use Rattle.sc_actor.specs.Replay.{acted, value}
 use Rattle.sc_actor.specs.System.{row_of}
 use Rattle.sc_ledger.specs.Pending.{kth_pending}
 use Rattle.sc_exchange.specs.declared.ports.Port.{Port}
 use Rattle.sc_exchange.specs.Deeds.{rows_of}
-use Rattle.sc_exchange.specs.Ports.{seen, made, SameExchange, Looked}
+use Rattle.sc_exchange.specs.Ports.{seen, made, SameExchange, Looked, IsAddressed}
+use Rattle.sc_exchange.proofs.Addressing.{first_stays}
+use Rattle.std.proofs.lemmas.List.{append-nil}
 use Rattle.sc_shell.specs.declared.shells.Shell.{Shell}
 use Rattle.sc_shell.specs.declared.turns.Turn.TheVariants.{Full}
 use Rattle.sc_shell.specs.Shells.{Takes, IsReplay, state, row_at}
 use Rattle.sc_shell.proofs.Replaying.{numbered_more, replay_over}
-use Rattle.sc_workers.specs.Crews.{Goes, AllGo, AllPassed, AllSound, AllStill, AllOf, AllOver, HasRefusal, Still, IsOver}
+use Rattle.sc_workers.specs.Crews.{Goes, AllGo, AllPassed, AllSound, AllStill, AllOf, AllOver, IsAhead, AllAhead, HasRefusal, Still, IsOver}
 use Rattle.sc_workers.specs.Ends.{IsRefused, IsFull}
 use Rattle.sc_workers.proofs.Lists.{starts_trans}
 use Rattle.sc_workers.proofs.Crews.{passed_full}
+use Rattle.sc_workers.proofs.Serving.{net_same}
 
 -- a longer journal counts no less
 counts_more : {M O : Type 0} (weighs : M → ℕ) (xs ys : List (Row M O)) → StartsWith xs ys → journal_bytes weighs ys ≤ journal_bytes weighs xs
@@ -32,7 +35,8 @@ counts_more weighs xs ys p =
     omega (arith, e)
 
 module _ {A M O : Type 0} {g : Ghosts A M O} {h : MailGhosts M} where
-  module _ (start s t u : Shell A M O g h) (net : Port M O h) (bytes : ℕ) (goes : Goes start s) (x : Takes (state s) (state t) 1 (Full bytes)) (still : Still t u) (over : IsOver net u) (one : SameExchange u.port net) where
+  module _ (start s t u : Shell A M O g h) (net : Port M O h) (bytes : ℕ) (goes : Goes start s) (x : Takes (state s) (state t) 1 (Full bytes)) (still : Still t u) (over : IsOver net u) (one : SameExchange u.port net)
+      (begin : Port M O h) (ahead : IsAhead begin s) (looked : Looked begin net) (first : begin.who ≡ 0) (addressed : IsAddressed net) where
     all_later : StartsWith (seen net) (seen t.port)
     all_later = starts_trans (seen net) (seen u.port) (seen t.port) over.begins still.later
 
@@ -57,6 +61,13 @@ module _ {A M O : Type 0} {g : Ghosts A M O} {h : MailGhosts M} where
     own_rows : rows_of s.port.who (seen net) ≡ made s.port
     own_rows = ap (λ n. rows_of n (seen net)) (sym who_is) ∙ (over.own ∙ (still.made ∙ x.2.0.made))
 
+    -- neither the actor nor the network made a row since the fetch
+    first_still : kth_pending h.receiver s.port.actors (seen net) s.port.who 1 ≡ Some x.1.number
+    first_still =
+        let up : StartsWith x.1.rows (seen begin) = starts_trans x.1.rows (seen s.port) (seen begin) x.1.later ahead.begins in
+        first_stays h.receiver s.port.actors x.1.rows (seen net) s.port.who x.1.number rows_later (λ z. let some = s.numbered in absurd (omega (arith, z, some))) (ap length own_rows ∙ sym (ap length x.1.own))
+        (net_same begin net x.1.rows (seen net) looked first up rows_later ([], sym (append-nil (seen net)))) addressed x.1.kth
+
     value_is : (birth : A) → IsReplay start birth → s.actor ≡ value g.table (record { who = s.port.who; actor = birth }) (seen net)
     value_is birth r = replay_over g.table s.port (seen net) first_later own_rows s.actor birth (goes.replay birth r (inl x.0))
 
@@ -69,11 +80,9 @@ module _ {A M O : Type 0} {g : Ghosts A M O} {h : MailGhosts M} where
     refused_at = record {
       spent = still.spent ∙ x.2.2;
       runs = still.crashed ∙ x.2.3;
-      rows = x.1.rows;
-      later = rows_later;
       number = x.1.number;
       mail = x.1.mail;
-      kth = (λ i. kth_pending h.receiver (actors_are i) x.1.rows (who_is i) 1) ∙ x.1.kth;
+      first = (λ i. kth_pending h.receiver (actors_are i) (seen net) (who_is i) 1) ∙ first_still;
       mail_is = mail_there;
       passes = λ birth r. omega (arith, limit_is, x.2.1.1, x.2.1.0, counts_more h.weighs (seen net) (seen t.port) all_later, ap (row_bytes h.weighs) (row_is birth r));
       told = omega (arith, x.2.1.0, counts_more h.weighs (seen net) (seen t.port) all_later);
@@ -81,8 +90,9 @@ module _ {A M O : Type 0} {g : Ghosts A M O} {h : MailGhosts M} where
 
   -- after a round with a refusal, and the meetings after it
   pub full_so : (start before after last : List (Shell A M O g h)) (net : Port M O h) (bytes : ℕ) → length before ≡ length start → length after ≡ length before → length last ≡ length after →
-      AllGo start before → AllSound before → AllPassed before after → HasRefusal after (Full bytes) → AllStill after last → AllOver net last → AllOf net last → IsFull start net last bytes
-  full_so start before after last net bytes l m n go sound passed r still over one = record {
+      AllGo start before → AllSound before → AllPassed before after → HasRefusal after (Full bytes) → AllStill after last → AllOver net last → AllOf net last →
+      (begin : Port M O h) → AllAhead begin before → Looked begin net → begin.who ≡ 0 → IsAddressed net → IsFull start net last bytes
+  full_so start before after last net bytes l m n go sound passed r still over one begin ahead looked first addressed = record {
     place = r.place;
     inside = omega (arith, r.inside, n);
     refused = λ d.
@@ -91,7 +101,8 @@ module _ {A M O : Type 0} {g : Ghosts A M O} {h : MailGhosts M} where
         (passed_full (get_or before r.place d) (get_or after r.place d) bytes (sound r.place d (omega (arith, r.inside, m))) (passed r.place d (omega (arith, r.inside, m))) (r.told d))
         (still r.place d r.inside)
         (over r.place d (omega (arith, r.inside, n)))
-        (one r.place d (omega (arith, r.inside, n)));
+        (one r.place d (omega (arith, r.inside, n)))
+        begin (ahead r.place d (omega (arith, r.inside, m))) looked first addressed;
   }
 
   -- from an earlier start
@@ -102,11 +113,9 @@ module _ {A M O : Type 0} {g : Ghosts A M O} {h : MailGhosts M} where
     refused = λ d. let r = f.refused d in record {
       spent = r.spent;
       runs = r.runs;
-      rows = r.rows;
-      later = r.later;
       number = r.number;
       mail = r.mail;
-      kth = r.kth;
+      first = r.first;
       mail_is = r.mail_is;
       passes = λ birth is. r.passes birth ((go f.place d (omega (arith, f.inside, m, l))).replay birth is);
       told = r.told;

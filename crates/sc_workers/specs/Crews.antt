@@ -75,6 +75,14 @@ module _ {A M O : Type 0} {g : Ghosts A M O} {h : MailGhosts M} where
   pub record HasMet (net : Port M O h) (s : Shell A M O g h) : Type 0 where
     pub begins : Begins (seen net) (seen s.port)
 
+  -- the shell's port has seen all that the port had, and of its actor just the rows that it made
+  pub record IsAhead (net : Port M O h) (s : Shell A M O g h) : Type 0 where
+    pub begins : Begins (seen s.port) (seen net)
+    pub own : rows_of s.port.who (seen s.port) ≡ made s.port
+
+  abbrev pub AllAhead : Port M O h → List (Shell A M O g h) → Type 0
+  AllAhead net ss = (k : ℕ) (d : Shell A M O g h) → k < length ss → IsAhead net (slice_index_or ss k d)
+
   abbrev pub AllMet : Port M O h → List (Shell A M O g h) → Type 0
   AllMet net ss = (k : ℕ) (d : Shell A M O g h) → k < length ss → HasMet net (slice_index_or ss k d)
 
@@ -111,6 +119,7 @@ module _ {A M O : Type 0} {g : Ghosts A M O} {h : MailGhosts M} where
     pub still : Still s t
     pub net : Looked n m
     pub has : HasMet m t
+    pub ahead : IsAhead n t
 
   -- a shell vouched for what the port has seen
   pub record VouchedFor (s t : Shell A M O g h) (n m : Port M O h) : Type 0 where
@@ -126,6 +135,12 @@ module _ {A M O : Type 0} {g : Ghosts A M O} {h : MailGhosts M} where
   -- why the shell was refused, where it is spent and has not crashed
   abbrev pub refusal : Shell A M O g h → Option Turn
   refusal s = if s.spent && not s.port.crashed then Some (refusal_in s.last) else None
+
+  -- one of the first so many shells is spent, and has not posted a Crash
+  pub record HasStopped (ss : List (Shell A M O g h)) (many : ℕ) : Type 0 where
+    pub place : ℕ
+    pub inside : place < many
+    pub unsound : (d : Shell A M O g h) → ¬ Sound (slice_index_or ss place d)
 
   -- a shell in the list was refused so
   pub record HasRefusal (ss : List (Shell A M O g h)) (r : Turn) : Type 0 where

@@ -1,17 +1,15 @@
 -- How rounds end.
-use Rattle.std.specs.Prelude.{◌≡◌, ℕ, ◌+◌, ◌<◌, ◌≤◌, List, length, slice_index_or, Bool, true, false, ⊤, Some, is_some}
+use Rattle.std.specs.Prelude.{◌≡◌, ℕ, ◌+◌, ◌<◌, ◌≤◌, List, length, slice_index_or, Bool, true, false, ⊤, Option, None, Some, is_some}
 use Rattle.std.specs.List.{list_any}
-use Rattle.sc_turn.specs.Turn.{StartsWith as Begins}
 use Rattle.sc_actor.specs.declared.actors.Actor.{Ghosts}
 use Rattle.sc_actor.specs.declared.actors.Parcel.{Ghosts as MailGhosts}
-use Rattle.sc_actor.specs.declared.rows.Row.{Row}
 use Rattle.sc_actor.specs.declared.rows.Event.TheVariants.{Deliver}
 use Rattle.sc_actor.specs.Mail.{mails, numbered}
 use Rattle.sc_actor.specs.Counted.{row_bytes, journal_bytes}
 use Rattle.sc_actor.specs.System.{row_of}
 use Rattle.sc_ledger.specs.Pending.{kth_pending}
 use Rattle.sc_exchange.specs.declared.ports.Port.{Port}
-use Rattle.sc_exchange.specs.Ports.{seen}
+use Rattle.sc_exchange.specs.Ports.{seen, IsAddressed}
 use Rattle.sc_shell.specs.declared.shells.Shell.{Shell}
 use Rattle.sc_shell.specs.declared.turns.Turn.{Turn}
 use Rattle.sc_shell.specs.declared.turns.Turn.TheVariants.{Full as RefusedFull}
@@ -19,21 +17,20 @@ use Rattle.sc_shell.specs.Shells.{IsReplay}
 use Rattle.sc_workers.specs.declared.answers.Rounds.{Rounds}
 use Rattle.sc_workers.specs.declared.answers.Rounds.TheVariants.{Quiet, Limit, Full, OutOfMemory}
 use Rattle.sc_workers.specs.Crews.{AllOver, rows_made}
+use Rattle.sc_workers.specs.Services.{AllServe}
 
 -- whether, after what the port has seen, mail is pending for one of these actors
 abbrev pub any_waits : {M O : Type 0} {h : MailGhosts M} → Port M O h → List ℕ → Bool
 any_waits {M} {O} {h} net whos = list_any (λ who. is_some (kth_pending h.receiver net.actors (seen net) who 1)) whos
 
 module _ {A M O : Type 0} {g : Ghosts A M O} {h : MailGhosts M} where
-  -- A shell that is spent and has not crashed. When it fetched its first pending mail, first ones of the rows that the port has seen were there. After all rows that the port has seen, the row of this mail by the actor's table passes the limit, and `bytes` is at most their counted bytes.
+  -- A shell that is spent and has not crashed. After all rows that the port has seen its actor has a first pending mail, whose row by the actor's table passes the limit, and `bytes` is at most their counted bytes.
   pub record IsRefused (start : Shell A M O g h) (net : Port M O h) (s : Shell A M O g h) (bytes : ℕ) : Type 0 where
     pub spent : s.spent ≡ true
     pub runs : s.port.crashed ≡ false
-    pub rows : List (Row M O)
-    pub later : Begins (seen net) rows
     pub number : ℕ
     pub mail : M
-    pub kth : kth_pending h.receiver net.actors rows s.port.who 1 ≡ Some number
+    pub first : kth_pending h.receiver net.actors (seen net) s.port.who 1 ≡ Some number
     pub mail_is : numbered (mails (seen net)) number ≡ Some mail
     pub passes : (birth : A) → IsReplay start birth →
         net.limit < journal_bytes h.weighs (seen net) + row_bytes h.weighs (row_of g.table (record { who = s.port.who; actor = birth }) (seen net) (Deliver number))
@@ -45,23 +42,49 @@ module _ {A M O : Type 0} {g : Ghosts A M O} {h : MailGhosts M} where
     pub inside : place < length ss
     pub refused : (d : Shell A M O g h) → IsRefused (slice_index_or start place d) net (slice_index_or ss place d) bytes
 
-  -- Quiet where nothing is pending for the shells' actors, Limit where all deliveries were used and mail is pending. `used` counts the rows that the shells made since the start, all of which are deliveries. But for want of memory the port has seen all that the shells have.
+  -- Quiet where nothing is pending for the shells' actors, Limit where all deliveries were used and mail is pending. `used` counts the rows that the shells made since the start, which are fewer than the deliveries where a row was refused. But for want of memory the port has seen all that the shells have, and each row that they made delivers what was its actor's first pending mail.
   abbrev pub IsEnd : Rounds → Port M O h → List (Shell A M O g h) → List (Shell A M O g h) → List ℕ → ℕ → Type 0
-  IsEnd (Quiet used) net start ss whos limit = AllOver net ss × (any_waits net whos ≡ false) × (used ≤ limit) × (rows_made ss ≡ rows_made start + used)
-  IsEnd (Limit used) net start ss whos limit = AllOver net ss × (any_waits net whos ≡ true) × (used ≡ limit) × (rows_made ss ≡ rows_made start + used)
-  IsEnd (Full bytes) net start ss whos limit = AllOver net ss × IsFull start net ss bytes
+  IsEnd (Quiet used) net start ss whos limit = AllOver net ss × (any_waits net whos ≡ false) × (used ≤ limit) × (rows_made ss ≡ rows_made start + used) × AllServe net start
+  IsEnd (Limit used) net start ss whos limit = AllOver net ss × (any_waits net whos ≡ true) × (used ≡ limit) × (rows_made ss ≡ rows_made start + used) × AllServe net start
+  IsEnd (Full bytes) net start ss whos limit = AllOver net ss × IsFull start net ss bytes × (rows_made ss < rows_made start + limit) × AllServe net start
   IsEnd OutOfMemory net start ss whos limit = ⊤
 
   -- the end that a round comes to, where so many deliveries were made
   abbrev pub StepEnd : Rounds → Port M O h → List (Shell A M O g h) → List (Shell A M O g h) → List ℕ → ℕ → ℕ → Type 0
   StepEnd (Quiet told) net start ss whos limit used = AllOver net ss × (any_waits net whos ≡ false) × (told ≡ used)
   StepEnd (Limit told) net start ss whos limit used = AllOver net ss × (any_waits net whos ≡ true) × (told ≡ used) × (used ≡ limit)
-  StepEnd (Full bytes) net start ss whos limit used = AllOver net ss × IsFull start net ss bytes
+  StepEnd (Full bytes) net start ss whos limit used = AllOver net ss × IsFull start net ss bytes × (used < limit)
   StepEnd OutOfMemory net start ss whos limit used = ⊤
+
+  -- The port has seen all that the shells have, the rows of their actors there are those that they made, and each row there may stand where it does.
+  pub record IsGathered (net : Port M O h) (ss : List (Shell A M O g h)) : Type 0 where
+    pub over : AllOver net ss
+    pub addressed : IsAddressed net
 
   -- the end by a refusal
   abbrev pub RefusedEnd : Rounds → Turn → Port M O h → List (Shell A M O g h) → Type 0
-  RefusedEnd (Full bytes) refused net ss = (refused ≡ RefusedFull bytes) × AllOver net ss
+  RefusedEnd (Full bytes) refused net ss = (refused ≡ RefusedFull bytes) × IsGathered net ss
   RefusedEnd OutOfMemory refused net ss = ⊤
   RefusedEnd (Quiet told) refused net ss = ⊥
   RefusedEnd (Limit told) refused net ss = ⊥
+
+  -- A round may begin: mail is pending for one of these actors after what the port has seen, which is all that the shells have.
+  pub record CanBegin (net : Port M O h) (ss : List (Shell A M O g h)) (whos : List ℕ) : Type 0 where
+    pub waits : any_waits net whos ≡ true
+    pub gathered : IsGathered net ss
+
+-- a claim on a round in which no turn was refused
+abbrev pub IfCalm : Option Rounds → Type 0 → Type 0
+IfCalm None claim = claim
+IfCalm (Some (Quiet used)) claim = claim
+IfCalm (Some (Limit used)) claim = claim
+IfCalm (Some (Full bytes)) claim = ⊤
+IfCalm (Some OutOfMemory) claim = ⊤
+
+-- a claim on a round for which there was memory
+abbrev pub IfHeld : Option Rounds → Type 0 → Type 0
+IfHeld None claim = claim
+IfHeld (Some (Quiet used)) claim = claim
+IfHeld (Some (Limit used)) claim = claim
+IfHeld (Some (Full bytes)) claim = claim
+IfHeld (Some OutOfMemory) claim = ⊤

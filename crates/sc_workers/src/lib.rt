@@ -7,6 +7,7 @@ mod playing;
 mod turns;
 
 pub use answers::Rounds;
+pub use meetings::gather;
 pub use playing::rounds;
 
 #[cfg(test)]

@@ -1,7 +1,8 @@
 //! Meetings of the shells with the network's port.
 ghost use Rattle.std.specs.Prelude.{◌≡◌, length, OnOk, IfOk};
-ghost use Rattle.sc_exchange.specs.Ports.{SameExchange, Looked, seen};
-ghost use Rattle.sc_workers.specs.Crews.{AllStill, AllOf, AllMet, AllOver, HasMet, Met, VouchedFor, numbers};
+ghost use Rattle.sc_exchange.specs.Ports.{SameExchange, Looked, IsTrue, seen};
+ghost use Rattle.sc_workers.specs.Ends.{IsGathered};
+ghost use Rattle.sc_workers.specs.Crews.{AllStill, AllOf, AllMet, AllAhead, AllOver, HasMet, Met, VouchedFor, numbers};
 
 use sc_actor::Actor;
 use sc_base::OutOfMemory;
@@ -31,6 +32,7 @@ pub(crate) fn meet_all<A: Actor, R: Wait>(
     ensures same { AllStill shells.old shells.new }
     ensures net { Looked net.old net.new }
     ensures met { OnOk result (AllMet net.new shells.new) }
+    ensures ahead { OnOk result (AllAhead net.old shells.new) }
 {
     for shell in shells.iter_mut() {
         meet_one(rt, net, shell)?;
@@ -49,6 +51,7 @@ pub(crate) fn meet<A: Actor, R: Wait>(
     ensures same { AllStill shells.old.items shells.new.items }
     ensures net { Looked net.old net.new }
     ensures met { OnOk result (AllMet net.new shells.new.items) }
+    ensures ahead { OnOk result (AllAhead net.old shells.new.items) }
 {
     meet_all(rt, net, shells.as_mut_slice())
 }
@@ -84,6 +87,26 @@ pub(crate) fn vouch<A: Actor>(net: &mut Port<A::Mail, A::Order>, shells: &mut Ve
     ensures over { AllOver net.new shells.new.items }
 {
     vouch_all(net, shells.as_mut_slice());
+}
+
+/// Each shell meets the port, which then looks, and each vouches for what the port has seen.
+/// Afterwards the port has seen all that the shells have, and the rows of each actor there are those that its shell made.
+pub fn gather<A: Actor, R: Wait>(
+    rt: &R,
+    net: &mut Port<A::Mail, A::Order>,
+    shells: &mut Vec<Shell<A>>,
+) -> Result<(), OutOfMemory>
+    requires exchange { AllOf net.old shells.old.items }
+    ensures len { length shells.new.items ≡ length shells.old.items }
+    ensures same { AllStill shells.old.items shells.new.items }
+    ensures net { Looked net.old net.new }
+    ensures gathered { OnOk result (IsGathered net.new shells.new.items) }
+    ensures rows { OnOk result (IsTrue net.new) }
+{
+    meet(rt, net, shells)?;
+    let _ = net.pending(rt, 0, 1);
+    vouch(net, shells);
+    Ok(())
 }
 
 /// The numbers of the shells' actors.

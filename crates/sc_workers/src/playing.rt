@@ -1,8 +1,10 @@
 //! The rounds.
 ghost use Rattle.std.specs.Prelude.{◌≡◌, ◌<◌, ◌≤◌, ◌+◌, None, IfSome, IfNone, length};
 ghost use Rattle.sc_exchange.specs.Ports.{Looked};
-ghost use Rattle.sc_workers.specs.Ends.{IsEnd, StepEnd, RefusedEnd};
-ghost use Rattle.sc_workers.specs.Crews.{AllGo, AllOf, AllMet, AllPassed, AllSound, AllStill, HasRefusal, numbers, rows_made};
+ghost use Rattle.sc_workers.specs.Ends.{IsEnd, StepEnd, RefusedEnd, IsGathered, CanBegin, IfCalm, IfHeld};
+ghost use Rattle.sc_workers.specs.Crews.{AllGo, AllOf, AllTook, AllPassed, AllSound, AllStill, HasRefusal, numbers, rows_made};
+ghost use Rattle.sc_shell.specs.declared.turns.Turn.{Turn};
+ghost use Rattle.sc_workers.specs.Services.{AllServe};
 
 use crate::answers::Rounds;
 use crate::meetings::{meet, numbers_of, vouch};
@@ -29,6 +31,8 @@ fn play_round<A: Actor, G: Gate, R: Threads + Wait + Sync>(
     ensures passed { AllPassed shells.old.items shells.new.items }
     ensures most { result ≤ left }
     ensures did { rows_made shells.new.items ≡ rows_made shells.old.items + result }
+    ensures whole { result ≡ 0 → 0 < left → AllSound shells.new.items → AllTook shells.old.items shells.new.items }
+    ensures short { (refused : Turn) → HasRefusal shells.new.items refused → result < left }
 {
     let size = shells.len().div_ceil(workers as usize);
     if size == 0 || (left as usize) < shells.len() {
@@ -52,18 +56,19 @@ fn prepare<A: Actor, R: Wait>(
     ensures len { length shells.new.items ≡ length shells.old.items }
     ensures same { AllStill shells.old.items shells.new.items }
     ensures net { Looked net.old net.new }
+    ensures gathered { IfHeld result (IsGathered net.new shells.new.items) }
+    ensures begin { result ≡ None → CanBegin net.new shells.new.items whos.now × (used < limit) }
     ensures end { IfSome result (λ answer. StepEnd answer net.new shells.old.items shells.new.items whos.now limit used) }
 {
     let Ok(()) = meet(rt, net, shells) else {
         return Some(Rounds::OutOfMemory);
     };
     let waits = net.any_pending(rt, whos);
+    vouch(net, shells);
     if !waits {
-        vouch(net, shells);
         return Some(Rounds::Quiet { used });
     }
     if used == limit {
-        vouch(net, shells);
         return Some(Rounds::Limit { used });
     }
     None
@@ -88,11 +93,13 @@ fn ended<A: Actor, R: Wait>(
     let Ok(()) = meet(rt, net, shells) else {
         return Rounds::OutOfMemory;
     };
+    // At its own turn the port sees a journal of which it is known to whom mail was delivered.
+    let _ = net.pending(rt, 0, 1);
     vouch(net, shells);
     Rounds::Full { bytes }
 }
 
-// One round with what comes before and after it. Some where the call ends.
+// One round with what comes after it. Some where the call ends. A round that is not refused delivers at least one.
 fn step<A: Actor, G: Gate, R: Threads + Wait + Sync>(
     rt: &R,
     alloc: Global,
@@ -105,34 +112,37 @@ fn step<A: Actor, G: Gate, R: Threads + Wait + Sync>(
     gate: &G,
 ) -> Option<Rounds>
     requires workers { 0 < workers }
+    requires net { net.old.who ≡ 0 }
     requires exchange { AllOf net.old shells.old.items }
     requires sound { AllSound shells.old.items }
-    requires used { used.old ≤ limit }
+    requires whos { whos.now ≡ numbers shells.old.items }
+    requires begin { CanBegin net.old shells.old.items whos.now }
+    requires used { used.old < limit }
     ensures len { length shells.new.items ≡ length shells.old.items }
     ensures same { AllGo shells.old.items shells.new.items }
     ensures net { Looked net.old net.new }
     ensures used { used.new ≤ limit }
     ensures count { rows_made shells.new.items + used.old ≡ rows_made shells.old.items + used.new }
+    ensures serves { IfCalm result (used.old < used.new) }
+    ensures served { IfHeld result (AllServe net.new shells.old.items) }
     ensures sound { result ≡ None → AllSound shells.new.items }
+    ensures begin { result ≡ None → CanBegin net.new shells.new.items whos.now × (used.new < limit) }
     ensures end { IfSome result (λ answer. StepEnd answer net.new shells.old.items shells.new.items whos.now limit used.new) }
 {
-    if let Some(answer) = prepare(rt, net, shells, whos, limit, *used) {
-        return Some(answer);
-    }
-    if meet(rt, net, shells).is_err() {
+    let Ok(()) = meet(rt, net, shells) else {
         return Some(Rounds::OutOfMemory);
-    }
+    };
     let did = play_round(rt, alloc, gate, shells, workers, limit - *used);
     *used += did;
     match refused_in(shells.as_slice()) {
-        None => None,
+        None => prepare(rt, net, shells, whos, limit, *used),
         Some(refused) => Some(ended(rt, net, shells, refused)),
     }
 }
 
 /// Rounds in which each shell that is not spent takes a turn, runs of neighbours at the same time, until nothing is pending for the shells' actors, `limit` deliveries were made, or a row is refused.
 ///
-/// Before each round every shell meets `net`, which is the network's port and makes no row. There are as many runs as `workers`, or fewer. Where fewer deliveries are left than there are shells, the shells take their turns one after the other.
+/// Before each round every shell meets `net`, which is the network's port and makes no row. A round in which no turn is refused makes at least one delivery, so there are at most as many rounds as `limit`. There are as many runs as `workers`, or fewer. Where fewer deliveries are left than there are shells, the shells take their turns one after the other.
 pub fn rounds<A: Actor, G: Gate, R: Threads + Wait + Sync>(
     rt: &R,
     alloc: Global,
@@ -154,8 +164,11 @@ pub fn rounds<A: Actor, G: Gate, R: Threads + Wait + Sync>(
     let Ok(whos) = numbers_of(alloc, shells.as_slice()) else {
         return Rounds::OutOfMemory;
     };
+    if let Some(answer) = prepare(rt, net, shells, whos.as_slice(), limit, 0) {
+        return answer;
+    }
     let mut used = 0u32;
-    for _ in rt.forever() {
+    loop {
         match step(
             rt,
             alloc,
@@ -171,5 +184,4 @@ pub fn rounds<A: Actor, G: Gate, R: Threads + Wait + Sync>(
             None => {}
         }
     }
-    unreachable!()
 }

@@ -1,7 +1,8 @@
 //! Turns of many shells.
-ghost use Rattle.std.specs.Prelude.{◌≡◌, ◌<◌, ◌≤◌, ◌+◌, ◌^◌, ◌⊎◌, true, length, sum_by, None, IfSome};
+ghost use Rattle.std.specs.Prelude.{◌≡◌, ◌<◌, ◌≤◌, ◌+◌, ◌^◌, ◌⊎◌, true, false, length, sum_by, None, IfSome};
 ghost use Rattle.sc_exchange.specs.Ports.{made};
 ghost use Rattle.sc_workers.specs.Crews.{Took, Passed, Sound, AllTook, AllPassed, AllSound, HasRefusal, rows_made, did, refusal, is_did, refusal_in};
+ghost use Rattle.sc_shell.specs.declared.turns.Turn.{Turn};
 
 use sc_actor::{Actor, Gate};
 use sc_shell::{Shell, Turn};
@@ -132,6 +133,8 @@ pub(crate) fn in_order<A: Actor, G: Gate, R: Wait>(
     ensures most { result ≤ most }
     ensures passed { AllPassed shells.old shells.new }
     ensures did { rows_made shells.new ≡ rows_made shells.old + result }
+    ensures whole { result ≡ 0 → 0 < most → AllSound shells.new → AllTook shells.old shells.new }
+    ensures short { (refused : Turn) → HasRefusal shells.new refused → result < most }
 {
     let mut so_far = Progress {
         did: 0,
@@ -156,6 +159,11 @@ fn next_in_order<A: Actor, G: Gate, R: Wait>(
     ensures most { result.did ≤ most }
     ensures passed { Passed shell.old shell.new }
     ensures did { length (made shell.new.port) + so_far.did ≡ length (made shell.old.port) + result.did }
+    ensures more { so_far.did ≤ result.did }
+    ensures took { so_far.did < most → so_far.stopped ≡ false → Took shell.old shell.new }
+    ensures stays { so_far.stopped ≡ true → result ≡ so_far }
+    ensures stops { so_far.stopped ≡ false → result.stopped ≡ true → ¬ Sound shell.new × (result.did < most) }
+    ensures goes { result.stopped ≡ false → Sound shell.new }
 {
     if so_far.did == most || so_far.stopped {
         return so_far;

@@ -5,7 +5,6 @@ mod done;
 mod played;
 mod printing;
 mod running;
-mod summing;
 mod telling;
 
 pub use done::{Done, Text};
@@ -14,6 +13,8 @@ use sc_edges::{StdSink, StdSource};
 use std::process::ExitCode;
 use std::{env, io};
 
+#[cfg(test)]
+mod replay_tests;
 #[cfg(test)]
 mod tests;
 

@@ -1,9 +1,14 @@
 use Rattle.std.proofs.Common.{ap, ◌∙◌, ◌++◌, ◌∷◌, []}
 use Rattle.sc_exchange.specs.Deeds.{deeds}
 use Rattle.sc_exchange.proofs.Done.{deeds-push}
+use Rattle.sc_exchange.specs.Addressed.{all_addressed}
+use Rattle.sc_exchange.proofs.Addressing.{addressed_push}
 use Rattle.sc_exchange.proofs.turns.append_row.Goals as goal
 
 pub keep_row-requires-clause-list : goal.keep_row-requires-clause-list
 keep_row-requires-clause-list g c =
     let row = c.args.row in
     (record { event = row.event; sent = row.sent }, ap deeds c.in-Ok.ensures.ok ∙ (deeds-push c.args.found.ledger.rows.items row ∙ (λ i. c.requires.list i ++ (record { event = row.event; sent = row.sent }, c.requires.maker i) ∷ [])))
+
+pub invariant_of-exchange : goal.invariant_of-exchange
+invariant_of-exchange g c = record { addressed = ap (all_addressed g.M.Parcel.receiver []) c.in-Ok.ensures.ok ∙ addressed_push g.M.Parcel.receiver c.args.found.ledger.rows.items c.args.row c.args.found.addressed c.requires.addressed }

@@ -2,6 +2,9 @@ use Rattle.std.proofs.Common.{rules, ◌≡◌, sym, ap, ◌∙◌, true, false}
 use Rattle.sc_turn.specs.Seats.{known}
 use Rattle.sc_exchange.specs.Turns.{may_change, change}
 use Rattle.sc_exchange.proofs.Views.{seen_same, seen_row, turned_same, changed, bytes_row, own_turned, own_row_turned, kept_turned, kept_row_turned}
+use Rattle.std.proofs.Common.{[]}
+use Rattle.sc_exchange.specs.Addressed.{all_addressed}
+use Rattle.sc_exchange.proofs.Addressing.{addressed_push, change_addressed}
 use Rattle.sc_exchange.proofs.turns.change_at.Goals as goal
 
 pub returns-then-not-may_change_at-clause-ok : goal.returns-then-not-may_change_at-clause-ok
@@ -47,3 +50,19 @@ pub returns-in-Err-clause-kept : goal.returns-in-Err-clause-kept
 returns-in-Err-clause-kept g c =
     let w = known c.args.seat.now in let s = known c.enter-exchange.new.self in let v = known c.append_row.new.seat in let e = c.enter-exchange.ensures in
     kept_turned w v (turned_same w s v c.enter-exchange.result.ledger.rows.items e.view e.later e.facts c.in-Err.ensures.refused.0)
+
+pub append_row-requires-clause-addressed : goal.append_row-requires-clause-addressed
+append_row-requires-clause-addressed g c = change_addressed g.M.Parcel.receiver c.args.lost c.args.number _ c.change_of.result c.change_of.ensures
+
+pub returns-then-not-may_change_at-clause-addressed : goal.returns-then-not-may_change_at-clause-addressed
+returns-then-not-may_change_at-clause-addressed g c = ap (all_addressed g.M.Parcel.receiver []) (seen_same (known c.args.seat.now) (known c.enter-exchange.new.self) (known c.keep_same.new.seat) c.enter-exchange.result.ledger.rows.items c.enter-exchange.ensures.view c.keep_same.ensures.view) ∙ c.enter-exchange.result.addressed
+
+pub returns-in-Ok-clause-addressed : goal.returns-in-Ok-clause-addressed
+returns-in-Ok-clause-addressed g c =
+    let w = known c.args.seat.now in let s = known c.enter-exchange.new.self in let v = known c.append_row.new.seat in
+    let rows = c.enter-exchange.result.ledger.rows.items in let e = c.enter-exchange.ensures in let row = c.change_of.result in
+    ap (all_addressed g.M.Parcel.receiver []) (seen_row w s v rows row (ap (λ r. r.who) c.change_of.ensures ∙ sym c.requires.net) e.view c.in-Ok.ensures.ok.0)
+    ∙ addressed_push g.M.Parcel.receiver rows row c.enter-exchange.result.addressed (change_addressed g.M.Parcel.receiver c.args.lost c.args.number _ row c.change_of.ensures)
+
+pub returns-in-Err-clause-addressed : goal.returns-in-Err-clause-addressed
+returns-in-Err-clause-addressed g c = ap (all_addressed g.M.Parcel.receiver []) (seen_same (known c.args.seat.now) (known c.enter-exchange.new.self) (known c.append_row.new.seat) c.enter-exchange.result.ledger.rows.items c.enter-exchange.ensures.view c.in-Err.ensures.refused.0) ∙ c.enter-exchange.result.addressed

@@ -1,8 +1,10 @@
-use Rattle.std.proofs.Common.{sym, subst}
+use Rattle.std.proofs.Common.{ap, ◌∙◌, sym, subst}
 use Rattle.sc_turn.specs.Seats.{known}
 use Rattle.sc_exchange.specs.Answers.{IsFetch}
 use Rattle.sc_exchange.proofs.Results.{ok_maps}
 use Rattle.sc_exchange.proofs.Views.{seen_same}
+use Rattle.std.proofs.Common.{[]}
+use Rattle.sc_exchange.specs.Addressed.{all_addressed}
 use Rattle.sc_exchange.proofs.turns.fetch_at.Goals as goal
 
 pub returns-clause-found : goal.returns-clause-found
@@ -11,3 +13,6 @@ returns-clause-found g c =
     (λ found p. subst (λ l. IsFetch g.M.Parcel.receiver c.args.actors l c.args.who c.args.k found)
     (sym (seen_same (known c.args.seat.now) (known c.enter-exchange.new.self) (known c.keep_same.new.seat) c.enter-exchange.result.ledger.rows.items c.enter-exchange.ensures.view c.keep_same.ensures.view)) p)
     c.find-found.ensures
+
+pub returns-clause-addressed : goal.returns-clause-addressed
+returns-clause-addressed g c = ap (all_addressed g.M.Parcel.receiver []) (seen_same (known c.args.seat.now) (known c.enter-exchange.new.self) (known c.keep_same.new.seat) c.enter-exchange.result.ledger.rows.items c.enter-exchange.ensures.view c.keep_same.ensures.view) ∙ c.enter-exchange.result.addressed

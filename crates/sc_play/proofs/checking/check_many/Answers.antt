@@ -2,7 +2,7 @@ use Rattle.std.proofs.Common.{◌≡◌, ◌+◌, ◌-◌, [], ◌∷◌, refl, 
 use Rattle.std.proofs.lemmas.Bool.{MatchBool-at_true, MatchBool-at_false}
 use Rattle.sc_play.specs.Checks.{Took, Misses}
 use Rattle.sc_play.specs.Moves.{rules_of, many}
-use Rattle.sc_play.proofs.Checks.{room_mails, none_if, next_row, taking_next, taking_same, Ends-all, Ends-then, Breaks-many, Breaks-none, Breaks-then, Goes-chosen, loud_off, quiet_off}
+use Rattle.sc_play.proofs.Checks.{room_mails, none_if, next_row, taking_next, taking_same, Ends-many, Ends-then, Breaks-many, Breaks-none, Breaks-then, Goes-chosen, loud_off, quiet_off}
 use Rattle.sc_play.proofs.DeedLemmas.{quiet_is}
 use Rattle.sc_play.proofs.Steps.{Goes-quiet, Goes-close, Goes-then, Goes-count}
 use Rattle.sc_play.proofs.checking.check_many.Goals as goal
@@ -18,9 +18,12 @@ returns-then-is_quiet-clause-is g c =
 
 pub returns-then-at-rows-clause-is : goal.returns-then-at-rows-clause-is
 returns-then-at-rows-clause-is g c =
-    let r = rules_of g.A.Actor.table g.A.Mail.Parcel.receiver g.A.Mail.Parcel.weighs 0 in
-    Ends-then r c.args.stage.now c.loop-done.stage (many c.args.free c.args.most ∷ []) (many c.args.free (c.args.most - c.loop-done.done) ∷ []) c.args.rows.now c.loop-done.invariant.0
-    (Ends-all r c.loop-done.stage c.loop-done.stage c.args.rows.now (many c.args.free (c.args.most - c.loop-done.done) ∷ []) c.loop-done.invariant.1.follows (omega (arith, c.len-at.ensures, c.if-at-rows.true)))
+    let quiet = quiet_is {O = _} g.A.Mail.Parcel.receiver c.loop-done.stage.seats.items c.loop-done.stage.rows in
+    let r = rules_of g.A.Actor.table g.A.Mail.Parcel.receiver g.A.Mail.Parcel.weighs 0 in (
+      Ends-then r c.args.stage.now c.loop-done.stage c.loop-done.stage (many c.args.free c.args.most ∷ []) (many c.args.free (c.args.most - c.loop-done.done) ∷ []) c.args.rows.now c.loop-done.invariant.0
+          (Ends-many r c.loop-done.stage c.loop-done.stage c.args.rows.now c.args.free (c.args.most - c.loop-done.done) (omega arith) (sym (c.is_quiet.ensures ∙ quiet) ∙ c.if-is_quiet.false) c.loop-done.invariant.1.follows (omega (arith, c.len-at.ensures, c.if-at-rows.true))),
+      c.loop-done.invariant.1,
+    )
 
 pub returns-in_default-clause-is : goal.returns-in_default-clause-is
 returns-in_default-clause-is g c =

@@ -1,8 +1,8 @@
-use Rattle.std.proofs.Common.{refl, sym, ◌∙◌}
+use Rattle.std.proofs.Common.{arith, refl, sym, ◌∙◌}
 use Rattle.std.proofs.lemmas.Bool.{MatchBool-at_true, MatchBool-at_false}
 use Rattle.sc_play.specs.Checks.{Took, Misses}
 use Rattle.sc_play.specs.Moves.{rules_of}
-use Rattle.sc_play.proofs.Checks.{room_mails, Breaks-line, taking_next, taking_same, next_row}
+use Rattle.sc_play.proofs.Checks.{room_mails, Ends-line, Breaks-line, taking_next, taking_same, next_row}
 use Rattle.sc_play.proofs.Steps.{Goes-skip, Goes-line}
 use Rattle.sc_play.proofs.checking.check_once.Goals as goal
 
@@ -33,3 +33,10 @@ returns-else-branch-clause-is g c =
     let next = next_row c.args.stage.now.rows c.args.rows.now c.index-rows-at.result c.len-at.result c.len-at.ensures c.if-at-rows.false c.index-rows-at.is in
     let misses = MatchBool-at_false (Took r c.args.stage.now c.take_row.new.stage c.in-Some.deed c.index-rows-at.result) (Misses r c.args.stage.now c.in-Some.deed c.index-rows-at.result) c.if-branch.false c.in_ok-take_row.ensures.took in
     Breaks-line r c.args.stage.now c.args.stage.now c.args.rows.now c.args.line.now c.in-Some.deed c.index-rows-at.result (sym c.in_ok-deed.ensures.is ∙ c.in-Some.is) misses c.requires.taking.follows next.more next.is
+
+pub returns-then-at-rows-clause-is : goal.returns-then-at-rows-clause-is
+returns-then-at-rows-clause-is g c =
+    let r = rules_of g.A.Actor.table g.A.Mail.Parcel.receiver g.A.Mail.Parcel.weighs 0 in (
+      Ends-line r c.args.stage.now c.args.stage.now c.args.rows.now c.args.line.now c.in-Some.deed (sym c.in_ok-deed.ensures.is ∙ c.in-Some.is) c.requires.taking.follows (omega (arith, c.len-at.ensures, c.if-at-rows.true)),
+      c.requires.taking,
+    )

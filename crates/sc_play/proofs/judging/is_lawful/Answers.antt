@@ -1,50 +1,11 @@
-use Rattle.std.proofs.Common.{[], ◌∷◌, length, eqb, refl, sym, ◌∙◌, subst, arith}
-use Rattle.std.proofs.lemmas.Bool.{eqb-true, eqb-false}
-use Rattle.sc_play.specs.declared.checked.Checked.TheVariants.{On}
-use Rattle.sc_play.specs.Checks.{IsChecked}
-use Rattle.sc_play.specs.Moves.{rules_of, line_task}
-use Rattle.sc_play.proofs.Checks.{taking_begin}
-use Rattle.sc_play.proofs.Steps.{At-begin, At-line, At-end, built_at}
-use Rattle.sc_play.proofs.Judged.{judged_all, judged_ends, judged_breaks}
+use Rattle.std.proofs.Common.{subst, sym}
+use Rattle.std.specs.Prelude.{◌↔◌, IsTrue}
+use Rattle.sc_actor.specs.System.{system}
+use Rattle.sc_actor.specs.Walk.{IsLawful}
+use Rattle.sc_play.proofs.Judged.{judged}
 use Rattle.sc_play.proofs.judging.is_lawful.Goals as goal
-
-pub loop-line-init : goal.loop-line-init
-loop-line-init g c =
-    let r = rules_of g.A.Actor.table g.A.Mail.Parcel.receiver g.A.Mail.Parcel.weighs 0 in (
-      λ words. At-begin r words c.args.seats.items c.args.lines.now _ c.requires.apart refl c.new.ensures refl refl,
-      taking_begin g.A.Mail.Parcel.weighs _ c.args.rows.now c.new.ensures c.new-2.ensures.items c.new-3.ensures.items refl c.requires.few_rows c.requires.few_mails,
-      omega arith,
-    )
-
-pub returns-in-Ended : goal.returns-in-Ended
-returns-in-Ended g c = λ words.
-    let r = rules_of g.A.Actor.table g.A.Mail.Parcel.receiver g.A.Mail.Parcel.weighs 0 in
-    let built = built_at c.args.lines.now c.requires.built c.loop-line.line-index c.line-item.result c.loop-line-test.true c.line-item.is in
-    judged_ends r words c.args.seats.items c.args.lines.now c.loop-line.stage c.args.rows.now c.loop-line.line-index c.line-item.result c.loop-line-test.true c.line-item.is built (c.loop-line.invariant.0 words)
-    (subst (IsChecked r c.loop-line.stage (line_task c.line-item.result ∷ []) c.check_line.new.stage c.args.rows.now) c.in-Ended.is c.in_ok-check_line.ensures.is)
-
-pub returns-in-Wrong : goal.returns-in-Wrong
-returns-in-Wrong g c = λ words.
-    let r = rules_of g.A.Actor.table g.A.Mail.Parcel.receiver g.A.Mail.Parcel.weighs 0 in
-    let built = built_at c.args.lines.now c.requires.built c.loop-line.line-index c.line-item.result c.loop-line-test.true c.line-item.is in
-    judged_breaks r words c.args.seats.items c.args.lines.now c.loop-line.stage c.args.rows.now c.loop-line.line-index c.line-item.result c.loop-line-test.true c.line-item.is built (c.loop-line.invariant.0 words)
-    (subst (IsChecked r c.loop-line.stage (line_task c.line-item.result ∷ []) c.check_line.new.stage c.args.rows.now) c.in-Wrong.is c.in_ok-check_line.ensures.is)
-
-pub loop-line-preserved : goal.loop-line-preserved
-loop-line-preserved g c =
-    let r = rules_of g.A.Actor.table g.A.Mail.Parcel.receiver g.A.Mail.Parcel.weighs 0 in
-    let built = built_at c.args.lines.now c.requires.built c.loop-line.line-index c.line-item.result c.loop-line-test.true c.line-item.is in
-    let on : IsChecked r c.loop-line.stage (line_task c.line-item.result ∷ []) c.check_line.new.stage c.args.rows.now On = subst (IsChecked r c.loop-line.stage (line_task c.line-item.result ∷ []) c.check_line.new.stage c.args.rows.now) c.in-On.is c.in_ok-check_line.ensures.is in (
-      λ words. At-line r words c.args.seats.items c.args.lines.now c.loop-line.stage c.check_line.new.stage c.loop-line.line-index c.line-item.result c.loop-line-test.true c.line-item.is built (c.loop-line.invariant.0 words) on.0,
-      on.1,
-      omega (arith, c.in_ok-check_line.ensures.skipped, c.loop-line.invariant.2),
-    )
 
 pub returns : goal.returns
 returns g c = λ words.
-    let r = rules_of g.A.Actor.table g.A.Mail.Parcel.receiver g.A.Mail.Parcel.weighs 0 in
-    judged_all r words c.args.seats.items c.args.lines.now c.loop-line.stage c.args.rows.now (eqb c.len.result (length c.args.rows.now))
-    (λ t. sym c.len.ensures ∙ eqb-true c.len.result (length c.args.rows.now) t)
-    (λ f same. eqb-false c.len.result (length c.args.rows.now) f (c.len.ensures ∙ same))
-    (At-end r words c.args.seats.items c.args.lines.now c.loop-line.stage c.loop-line.line-index (omega (arith, c.loop-line-test.false)) (c.loop-line.invariant.0 words))
-    c.loop-line.invariant.1.follows
+    let s = system g.A.Actor.table g.A.Mail.Parcel.receiver words c.args.seats.items in
+    subst (λ b. IsTrue b ↔ IsLawful s c.args.lines.now c.args.rows.now) (sym c.is_some.ensures) (judged s c.args.lines.now c.args.rows.now c.in_ok-left.left (c.in_ok-left.ensures words))

@@ -1,9 +1,9 @@
 use Rattle.std.proofs.Common.{rules, arith, get_or, ◌+◌, subst, sym}
 use Rattle.sc_exchange.specs.Ports.{SameExchange}
-use Rattle.sc_workers.specs.Crews.{Still, Met, HasMet}
+use Rattle.sc_workers.specs.Crews.{Still, Met, HasMet, IsAhead}
 use Rattle.sc_shell.proofs.Taking.{looked_trans}
 use Rattle.sc_workers.proofs.Lists.{changed_more, left_more, item_was}
-use Rattle.sc_workers.proofs.Crews.{has_later, of_later, all_partly, still_same}
+use Rattle.sc_workers.proofs.Crews.{has_later, ahead_before, of_later, all_partly, still_same}
 use Rattle.sc_workers.proofs.meetings.meet_all.Goals as goal
 
 pub loop-shell-preserved : goal.loop-shell-preserved
@@ -14,6 +14,7 @@ loop-shell-preserved g c =
       done = changed_more Still c.args.shells.now c.loop-shell.shells c.loop-shell.shell-index c.shell-item.result c.meet_one.new.shell (omega arith) (omega arith) c.shell-item.is inv.done inv.left met.still;
       met = changed_more (λ s t. HasMet c.meet_one.new.net t) c.args.shells.now c.loop-shell.shells c.loop-shell.shell-index c.shell-item.result c.meet_one.new.shell (omega arith) (omega arith) c.shell-item.is
           (λ k d lt. has_later c.loop-shell.net c.meet_one.new.net (get_or c.loop-shell.shells k d) met.net (inv.met k d lt)) inv.left met.has;
+      ahead = changed_more (λ s t. IsAhead c.args.net.now t) c.args.shells.now c.loop-shell.shells c.loop-shell.shell-index c.shell-item.result c.meet_one.new.shell (omega arith) (omega arith) c.shell-item.is inv.ahead inv.left (ahead_before c.args.net.now c.loop-shell.net c.meet_one.new.shell inv.net met.ahead);
       left = left_more c.args.shells.now c.loop-shell.shells c.loop-shell.shell-index c.meet_one.new.shell inv.left;
     }
 
@@ -43,3 +44,6 @@ returns-clause-same g c = let inv = c.loop-shell.invariant in all_partly Still s
 
 pub returns-clause-met : goal.returns-clause-met
 returns-clause-met g c = λ k d lt. c.loop-shell.invariant.met k d (search rules)
+
+pub returns-clause-ahead : goal.returns-clause-ahead
+returns-clause-ahead g c = λ k d lt. c.loop-shell.invariant.ahead k d (search rules)

@@ -12,4 +12,5 @@ returns g c = let e = c.meet.ensures in record {
   };
   net = e.theirs.0;
   has = record { begins = e.last };
+  ahead = record { begins = e.mine.1; own = e.mine.2.own };
 }

@@ -1,4 +1,4 @@
-use Rattle.std.proofs.Common.{rules, arith, get_or, ◌+◌, ◌∙◌, subst, sym}
+use Rattle.std.proofs.Common.{rules, arith, get_or, ◌∙◌, subst, sym}
 use Rattle.sc_exchange.specs.Ports.{SameExchange}
 use Rattle.sc_workers.specs.Crews.{Still, VouchedFor, IsOver, HasMet}
 use Rattle.sc_shell.proofs.Taking.{looked_trans}

@@ -1,4 +1,3 @@
-use Rattle.std.proofs.Common.{◌∙◌}
 use Rattle.sc_workers.proofs.Crews.{still_made, over_vouched}
 use Rattle.sc_workers.proofs.meetings.vouch_one.Goals as goal
 

@@ -1,7 +1,7 @@
-use Rattle.std.proofs.Common.{rules, ◌≡◌, true, false, refl, sym, ◌∙◌}
+use Rattle.std.proofs.Common.{rules, ◌≡◌, true, false, refl, sym, ◌∙◌, arith}
 use Rattle.sc_workers.specs.Crews.{AllMet}
 use Rattle.sc_workers.proofs.Crews.{all_still_trans, all_met_later}
-use Rattle.sc_workers.proofs.Ending.{waits_same}
+use Rattle.sc_workers.proofs.Ending.{waits_same, addressed_same}
 use Rattle.sc_workers.proofs.playing.prepare.Goals as goal
 
 pub vouch-requires-clause-met : goal.vouch-requires-clause-met
@@ -9,16 +9,23 @@ vouch-requires-clause-met g c κs within =
     let met : AllMet c.meet.new.net c.meet.new.shells.items = c.in-Ok.ensures.met in
     all_met_later c.meet.new.net c.any_pending-waits.new.self c.meet.new.shells.items c.any_pending-waits.ensures.looked.0 met
 
-pub vouch-requires-then-used-limit-clause-met : goal.vouch-requires-then-used-limit-clause-met
-vouch-requires-then-used-limit-clause-met g c κs within =
-    let met : AllMet c.meet.new.net c.meet.new.shells.items = c.in-Ok.ensures.met in
-    all_met_later c.meet.new.net c.any_pending-waits.new.self c.meet.new.shells.items c.any_pending-waits.ensures.looked.0 met
-
 pub returns-then-not-waits-clause-same : goal.returns-then-not-waits-clause-same
 returns-then-not-waits-clause-same g c = all_still_trans c.args.shells.now.items c.meet.new.shells.items c.vouch.new.shells.items c.meet.ensures.len c.meet.ensures.same c.vouch.ensures.same
 
+pub returns-then-not-waits-clause-gathered : goal.returns-then-not-waits-clause-gathered
+returns-then-not-waits-clause-gathered g c = record { over = c.vouch.ensures.over; addressed = addressed_same c.any_pending-waits.new.self c.vouch.new.net c.vouch.ensures.net.1 c.any_pending-waits.ensures.addressed }
+
 pub returns-then-used-limit-clause-same : goal.returns-then-used-limit-clause-same
-returns-then-used-limit-clause-same g c = all_still_trans c.args.shells.now.items c.meet.new.shells.items c.vouch-then-used-limit.new.shells.items c.meet.ensures.len c.meet.ensures.same c.vouch-then-used-limit.ensures.same
+returns-then-used-limit-clause-same g c = all_still_trans c.args.shells.now.items c.meet.new.shells.items c.vouch.new.shells.items c.meet.ensures.len c.meet.ensures.same c.vouch.ensures.same
+
+pub returns-then-used-limit-clause-gathered : goal.returns-then-used-limit-clause-gathered
+returns-then-used-limit-clause-gathered g c = record { over = c.vouch.ensures.over; addressed = addressed_same c.any_pending-waits.new.self c.vouch.new.net c.vouch.ensures.net.1 c.any_pending-waits.ensures.addressed }
+
+pub returns-clause-same : goal.returns-clause-same
+returns-clause-same g c = all_still_trans c.args.shells.now.items c.meet.new.shells.items c.vouch.new.shells.items c.meet.ensures.len c.meet.ensures.same c.vouch.ensures.same
+
+pub returns-clause-gathered : goal.returns-clause-gathered
+returns-clause-gathered g c = record { over = c.vouch.ensures.over; addressed = addressed_same c.any_pending-waits.new.self c.vouch.new.net c.vouch.ensures.net.1 c.any_pending-waits.ensures.addressed }
 
 pub returns-then-not-waits-clause-end : goal.returns-then-not-waits-clause-end
 returns-then-not-waits-clause-end g c =
@@ -30,9 +37,19 @@ returns-then-not-waits-clause-end g c =
 
 pub returns-then-used-limit-clause-end : goal.returns-then-used-limit-clause-end
 returns-then-used-limit-clause-end g c =
-    let some : c.any_pending-waits.result ≡ true = search rules in let all : c.args.used ≡ c.args.limit = search rules in let n = c.vouch-then-used-limit.ensures.net in (
-      c.vouch-then-used-limit.ensures.over,
-      waits_same c.any_pending-waits.new.self c.vouch-then-used-limit.new.net c.args.whos.now n.0.stays.exchange.1 n.1 ∙ (sym c.any_pending-waits.ensures.any ∙ some),
+    let some : c.any_pending-waits.result ≡ true = search rules in let all : c.args.used ≡ c.args.limit = search rules in let n = c.vouch.ensures.net in (
+      c.vouch.ensures.over,
+      waits_same c.any_pending-waits.new.self c.vouch.new.net c.args.whos.now n.0.stays.exchange.1 n.1 ∙ (sym c.any_pending-waits.ensures.any ∙ some),
       refl,
       all,
+    )
+
+pub returns-clause-begin : goal.returns-clause-begin
+returns-clause-begin g c = λ none.
+    let some : c.any_pending-waits.result ≡ true = search rules in let n = c.vouch.ensures.net in (
+      record {
+        waits = waits_same c.any_pending-waits.new.self c.vouch.new.net c.args.whos.now n.0.stays.exchange.1 n.1 ∙ (sym c.any_pending-waits.ensures.any ∙ some);
+        gathered = returns-clause-gathered g c;
+      },
+      omega arith,
     )

@@ -1,4 +1,4 @@
-use Rattle.std.proofs.Common.{ℕ, ◌<◌, ◌≡◌, slice_index_or}
+use Rattle.std.proofs.Common.{ℕ, ◌<◌, slice_index_or}
 use Rattle.sc_workers.specs.Crews.{Sound}
 use Rattle.sc_workers.proofs.turns.refused_in.Given as goal
 

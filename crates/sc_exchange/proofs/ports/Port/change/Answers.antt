@@ -4,6 +4,7 @@ use Rattle.std.proofs.Math.Logic.{∥∥₁_map}
 use Rattle.sc_turn.specs.Seats.{known}
 use Rattle.sc_exchange.proofs.Fetching.{asked_net, done_later, turned_later, own_again}
 use Rattle.sc_exchange.proofs.Results.{ok_maps, err_maps, either}
+use Rattle.sc_exchange.proofs.Halting.{halted_turned, halted_changed}
 use Rattle.sc_exchange.proofs.ports.Port.change.Goals as goal
 
 pub returns-in-Ok-clause-ok : goal.returns-in-Ok-clause-ok
@@ -34,3 +35,9 @@ invariant_of-self-clause-asked g c = let s = c.args.self.now in let e = c.change
 
 pub invariant_of-self-clause-own : goal.invariant_of-self-clause-own
 invariant_of-self-clause-own g c = let s = c.args.self.now in own_again (known s.seat) (known c.change_at.new.seat) s.who s.number c.change_at.ensures.own
+
+pub invariant_of-self-clause-halted : goal.invariant_of-self-clause-halted
+invariant_of-self-clause-halted g c = let s = c.args.self.now in let e = c.change_at.ensures in
+    either c.change_at.result
+    (ok_maps c.change_at.result (λ done p. halted_changed _ _ g.M.Parcel.receiver s.actors c.args.lost c.args.number (known s.seat) (known c.change_at.new.seat) s.crashed done p s.halted) e.ok)
+    (err_maps c.change_at.result (λ x p. halted_turned (known s.seat) (known c.change_at.new.seat) s.crashed p.0 s.halted) e.refused)

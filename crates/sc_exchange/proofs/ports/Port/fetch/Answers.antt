@@ -3,6 +3,7 @@ use Rattle.sc_exchange.proofs.Knowing.{looked_after, true_after}
 use Rattle.std.proofs.lemmas.Grind.{merely}
 use Rattle.sc_turn.specs.Seats.{known}
 use Rattle.sc_exchange.proofs.Fetching.{asked_found, own_after}
+use Rattle.sc_exchange.proofs.Halting.{halted_turned}
 use Rattle.sc_exchange.proofs.ports.Port.fetch.Goals as goal
 
 pub returns-in_err-found-clause-looked : goal.returns-in_err-found-clause-looked
@@ -17,3 +18,6 @@ invariant_of-self-2-clause-asked g c = let s = c.args.self.now in let e = c.in_o
 
 pub invariant_of-self-2-clause-own : goal.invariant_of-self-2-clause-own
 invariant_of-self-2-clause-own g c = let s = c.args.self.now in own_after (known s.seat) (known c.fetch_at.new.seat) s.who s.number c.fetch_at.ensures.turned
+
+pub invariant_of-self-2-clause-halted : goal.invariant_of-self-2-clause-halted
+invariant_of-self-2-clause-halted g c = halted_turned (known c.args.self.now.seat) (known c.fetch_at.new.seat) _ c.fetch_at.ensures.turned c.args.self.now.halted

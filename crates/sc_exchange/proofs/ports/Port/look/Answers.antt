@@ -3,6 +3,7 @@ use Rattle.sc_exchange.proofs.Knowing.{looked_after, true_after}
 use Rattle.std.proofs.Math.Logic.{∥∥₁_map}
 use Rattle.sc_turn.specs.Seats.{known}
 use Rattle.sc_exchange.proofs.Fetching.{asked_turned, own_after}
+use Rattle.sc_exchange.proofs.Halting.{halted_turned}
 use Rattle.sc_exchange.proofs.ports.Port.look.Goals as goal
 
 pub returns-clause-looked : goal.returns-clause-looked
@@ -14,3 +15,6 @@ invariant_of-self-clause-asked g c = let s = c.args.self.now in
 
 pub invariant_of-self-clause-own : goal.invariant_of-self-clause-own
 invariant_of-self-clause-own g c = let s = c.args.self.now in own_after (known s.seat) _ s.who s.number c.look_at.ensures.turned
+
+pub invariant_of-self-clause-halted : goal.invariant_of-self-clause-halted
+invariant_of-self-clause-halted g c = halted_turned (known c.args.self.now.seat) (known c.look_at.new.seat) _ c.look_at.ensures.turned c.args.self.now.halted

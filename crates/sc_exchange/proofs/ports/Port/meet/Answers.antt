@@ -5,6 +5,7 @@ use Rattle.std.proofs.Math.Logic.{∥∥₁_map}
 use Rattle.sc_turn.specs.Seats.{known}
 use Rattle.sc_exchange.proofs.Fetching.{asked_same, own_met}
 use Rattle.std.proofs.Common.{ap}
+use Rattle.sc_exchange.proofs.Halting.{halted_same}
 use Rattle.sc_exchange.proofs.ports.Port.meet.Goals as goal
 
 pub returns-clause-mine : goal.returns-clause-mine
@@ -31,3 +32,9 @@ invariant_of-other-clause-own g c = let s = c.args.other.now in own_met (known s
 
 pub returns-clause-last : goal.returns-clause-last
 returns-clause-last g c = begins_rows _ _ c.meet.ensures.last
+
+pub invariant_of-self-clause-halted : goal.invariant_of-self-clause-halted
+invariant_of-self-clause-halted g c = halted_same (known c.args.self.now.seat) (known c.meet.new.self) _ (ap (λ v. v.made) c.meet.ensures.view.0) c.args.self.now.halted
+
+pub invariant_of-other-clause-halted : goal.invariant_of-other-clause-halted
+invariant_of-other-clause-halted g c = halted_same (known c.args.other.now.seat) (known c.meet.new.other) _ (ap (λ v. v.made) c.meet.ensures.view.1) c.args.other.now.halted

@@ -1,9 +1,12 @@
-use Rattle.std.proofs.Common.{refl, ap, ◌∙◌}
+use Rattle.std.proofs.Common.{refl, sym, ap, ◌∙◌}
+use Rattle.std.specs.List.{list_any}
+use Rattle.sc_actor.specs.Mail.{is_crash}
 use Rattle.sc_actor.specs.declared.rows.Row.{Row}
 use Rattle.sc_exchange.proofs.Knowing.{stays_after, looked_after, true_after, appended_after, true_row, cause_back}
 use Rattle.std.proofs.Math.Logic.{∥∥₁_map}
 use Rattle.sc_turn.specs.Seats.{known}
 use Rattle.sc_exchange.proofs.Fetching.{asked_turned, asked_event, own_after}
+use Rattle.sc_exchange.proofs.Fetching.{asked_addressed}
 use Rattle.sc_exchange.proofs.ports.Port.post.Goals as goal
 
 pub returns-in-Ok-clause-ok : goal.returns-in-Ok-clause-ok
@@ -39,6 +42,7 @@ pub invariant_of-self-in-Err-1 : goal.invariant_of-self-in-Err-1
 invariant_of-self-in-Err-1 g c = let s = c.args.self.now in let t = c.in-Err.ensures.refused.0 in record {
   number = ap (λ v. v.who) t.view_is ∙ s.number;
   out = ap (λ v. v.turn) t.view_is;
+  halted = s.halted ∙ ap (λ v. list_any (λ d. is_crash d.event) v.made) (sym t.view_is);
   small = s.small;
   own = own_after (known s.seat) (known c.post_at.new.seat) s.who s.number t;
   asked = ∥∥₁_map s.asked (asked_turned g.M.Parcel.receiver s.actors s.who s.fetched (known s.seat) (known c.post_at.new.seat) t);
@@ -49,3 +53,6 @@ returns-in-Err-clause-delivered g c = let s = c.args.self.now in ∥∥₁_map s
 
 pub returns-in-Ok-clause-delivered : goal.returns-in-Ok-clause-delivered
 returns-in-Ok-clause-delivered g c = let s = c.args.self.now in ∥∥₁_map s.asked (asked_event g.M.Parcel.receiver s.actors s.who s.fetched c.args.event _ _ c.requires.event)
+
+pub post_at-requires-clause-addressed : goal.post_at-requires-clause-addressed
+post_at-requires-clause-addressed g c = let s = c.args.self.now in asked_addressed g.M.Parcel.receiver s.actors s.who s.fetched c.args.event _ _ c.requires.actor c.requires.event s.asked

@@ -28,4 +28,4 @@ returns-in-Mail-clause-takes g c =
     let free : c.args.self.now.spent ≡ false = search rules in
     let is : numbered (mails (seen c.fetch.new.self)) c.in-Mail.number ≡ Some c.in-Mail.mail = search rules in
     let kth : kth_pending g.A.Mail.Parcel.receiver c.args.self.now.port.actors (seen c.fetch.new.self) c.args.self.now.port.who c.args.k ≡ Some c.in-Mail.number = search rules in
-    takes_acts (state c.args.self.now) (record { actor = c.args.self.now.actor; port = c.fetch.new.self; spent = c.args.self.now.spent }) (state c.act.new.self) c.args.k c.in-Mail.number c.in-Mail.mail free refl c.fetch.ensures.looked.0 kth is c.act.result c.act.ensures.acts
+    takes_acts (state c.args.self.now) (record { actor = c.args.self.now.actor; port = c.fetch.new.self; spent = c.args.self.now.spent }) (state c.act.new.self) c.args.k c.in-Mail.number c.in-Mail.mail free refl c.fetch.ensures.looked.0 c.fetch.ensures.looked.1.own kth is c.act.result c.act.ensures.acts

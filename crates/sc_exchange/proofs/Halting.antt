@@ -1,0 +1,42 @@
+-- Whether a port has posted a Crash, after more rows.
+use Rattle.std.proofs.Common.{◌≡◌, ℕ, Bool, true, false, ◌||◌, MatchBool, List, [], ◌∷◌, refl, sym, ap, ◌∙◌}
+use Rattle.std.specs.List.{list_any}
+use Rattle.std.proofs.lemmas.List.Folds.{list_any-append}
+use Rattle.sc_turn.specs.declared.rule.View.{View}
+use Rattle.sc_actor.specs.declared.rows.Row.{Row}
+use Rattle.sc_actor.specs.Mail.{is_crash}
+use Rattle.sc_exchange.specs.declared.deeds.Deed.{Deed}
+use Rattle.sc_exchange.specs.Turns.{Turned, RowTurned, Changed, change}
+
+or_false : (b : Bool) → (b || false) ≡ b
+or_false true = refl
+or_false false = refl
+
+change_runs : (M O : Type 0) (lost : Bool) (number : ℕ) → is_crash (change {M = M} {O = O} lost number).event ≡ false
+change_runs M O true number = refl
+change_runs M O false number = refl
+
+module _ {M O : Type 0} where
+  abbrev pub halts : List (Deed M O) → Bool
+  halts made = list_any (λ d. is_crash d.event) made
+
+  pub halted_same : (w v : View (Deed M O)) (crashed : Bool) → v.made ≡ w.made → crashed ≡ halts w.made → crashed ≡ halts v.made
+  halted_same w v crashed same is = is ∙ ap halts (sym same)
+
+  pub halted_turned : (w v : View (Deed M O)) (crashed : Bool) → Turned w v → crashed ≡ halts w.made → crashed ≡ halts v.made
+  halted_turned w v crashed t is = halted_same w v crashed (ap (λ (x : View (Deed M O)). x.made) t.view_is) is
+
+  halted_row : (w v : View (Deed M O)) (crashed : Bool) (row : Row M O) → RowTurned w v row → crashed ≡ halts w.made → halts v.made ≡ (crashed || is_crash row.event)
+  halted_row w v crashed row t is =
+      ap (λ (x : View (Deed M O)). halts x.made) t.view_is
+      ∙ (list_any-append (λ (d : Deed M O). is_crash d.event) w.made (record { event = row.event; sent = row.sent } ∷ [])
+      ∙ (λ i. sym is i || or_false (is_crash row.event) i))
+
+  -- a port that had not crashed
+  pub halted_posted : (w v : View (Deed M O)) (crashed crashes : Bool) (row : Row M O) → RowTurned w v row → crashed ≡ halts w.made → crashed ≡ false → crashes ≡ is_crash row.event → crashes ≡ halts v.made
+  halted_posted w v crashed crashes row t is runs now = now ∙ sym (halted_row w v crashed row t is ∙ ap (λ b. b || is_crash row.event) runs)
+
+  pub halted_changed : (F G : Type 0) (receiver : M → ℕ) (actors : ℕ) (lost : Bool) (number : ℕ) (w v : View (Deed M O)) (crashed done : Bool) → MatchBool done (Changed receiver actors lost number w v × F) (Turned w v × G) → crashed ≡ halts w.made → crashed ≡ halts v.made
+  halted_changed F G receiver actors lost number w v crashed true m is =
+      sym (halted_row w v crashed (change lost number) m.0.turned is ∙ (ap (λ b. crashed || b) (change_runs M O lost number) ∙ or_false crashed))
+  halted_changed F G receiver actors lost number w v crashed false m is = halted_turned w v crashed m.0 is

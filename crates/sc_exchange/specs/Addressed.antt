@@ -1,0 +1,23 @@
+-- To whom mail goes that rows deliver.
+use Rattle.std.specs.Prelude.{ℕ, ◌==◌, List, [], ◌∷◌, ◌++◌, Bool, true, false, ◌&&◌, Option, None, Some}
+use Rattle.sc_actor.specs.declared.rows.Row.{Row}
+use Rattle.sc_actor.specs.declared.rows.Event.{Event}
+use Rattle.sc_actor.specs.declared.rows.Event.TheVariants.{Deliver, Drop, Again}
+use Rattle.sc_actor.specs.Mail.{numbered}
+
+-- whether a mail was found, and is for this actor
+abbrev pub is_mail_to : {M : Type 0} → (M → ℕ) → ℕ → Option M → Bool
+is_mail_to receiver who None = false
+is_mail_to receiver who (Some mail) = receiver mail == who
+
+-- Whether a row of this maker and event may stand where these mails were sent before it: a delivery is of mail that was sent to the maker, and the network alone loses and repeats mail.
+abbrev pub is_addressed : {M O : Type 0} → (M → ℕ) → List M → ℕ → Event O → Bool
+is_addressed receiver sent who (Deliver number) = is_mail_to receiver who (numbered sent number)
+is_addressed receiver sent who (Drop number) = who == 0
+is_addressed receiver sent who (Again number) = who == 0
+is_addressed receiver sent who _ = true
+
+-- whether each row may stand where it does, where these mails were sent before the first
+abbrev pub all_addressed : {M O : Type 0} → (M → ℕ) → List M → List (Row M O) → Bool
+all_addressed receiver sent [] = true
+all_addressed receiver sent (row ∷ rows) = is_addressed receiver sent row.who row.event && all_addressed receiver (sent ++ row.sent) rows
