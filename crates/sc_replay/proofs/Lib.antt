@@ -1,3 +1,4 @@
+mod Indexed
 pub mod Births
 pub mod Lines
 mod Fronts

@@ -1,2 +1,3 @@
 pub mod Acceptances
+pub mod Indexes
 pub mod Replays
