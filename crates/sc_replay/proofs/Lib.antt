@@ -1,3 +1,4 @@
+mod Indexed
 mod Births
 mod Lines
 mod Fronts

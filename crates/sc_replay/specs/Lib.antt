@@ -1,4 +1,5 @@
 pub mod Acceptances
+pub mod Indexes
 pub mod Plays
 pub mod Replays
 pub mod Worlds

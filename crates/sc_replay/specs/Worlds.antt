@@ -13,7 +13,8 @@ use Rattle.sc_actor.specs.Walk.{skipped, is_quiet}
 use Rattle.sc_ideal.specs.declared.Entry.{Entry}
 use Rattle.sc_machine_table.specs.Group.{group_of}
 use Rattle.sc_scenario.specs.declared.scenarios.Scenario.{Scenario}
-use Rattle.sc_world.specs.World.{slots_ahead, system_of, schedule, Lawful, parties}
+use Rattle.sc_node_table.specs.Slots.{slots_ahead}
+use Rattle.sc_world.specs.World.{system_of, schedule, Lawful, parties}
 use Rattle.sc_world.specs.declared.party.Party.{Party}
 use Rattle.sc_sound.specs.Logs.{Ahead, decided_log}
 use Rattle.sc_sound.specs.Histories.{done_by, history}

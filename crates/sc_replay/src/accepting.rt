@@ -1,5 +1,5 @@
 //! Which rows accept a command.
-ghost use Rattle.std.specs.Prelude.{◌≡◌, ◌++◌, ◌&&◌, IfOk, OnOk};
+ghost use Rattle.std.specs.Prelude.{◌≡◌, map, ◌++◌, ◌&&◌, IfOk, OnOk};
 ghost use Rattle.std.specs.List.{list_any};
 ghost use Rattle.std.specs.Option.{option_copied};
 ghost use Rattle.sc_actor.specs.Mail.{numbered};
@@ -87,23 +87,26 @@ fn note_accept(
     }
 }
 
-fn got(sent: &[Mail], mail: u32) -> Option<&Mail>
-    ensures { option_copied result ≡ numbered sent.now mail }
+fn got<'a>(sent: &[&'a Mail], mail: u32) -> Option<&'a Mail>
+    ensures { option_copied result ≡ numbered (map (λ mail. mail.now) sent.now) mail }
 {
     if mail == 0 {
         return None;
     }
-    sent.get((mail - 1) as usize)
+    if sent.len() < mail as usize {
+        return None;
+    }
+    Some(sent[(mail - 1) as usize])
 }
 
 fn note_row(
     alloc: Global,
     group: Draw,
-    sent: &[Mail],
+    sent: &[&Mail],
     row: &Row<Mail, OrderLine>,
     found: &mut Vec<Acceptance>,
 ) -> Result<(), OutOfMemory>
-    ensures { OnOk result (steps_of found.new.items ≡ accepts_at group sent.now row.now row.now.event ++ steps_of found.old.items) }
+    ensures { OnOk result (steps_of found.new.items ≡ accepts_at group (map (λ mail. mail.now) sent.now) row.now row.now.event ++ steps_of found.old.items) }
 {
     let Event::Deliver(number) = &row.event else {
         return Ok(());
@@ -114,11 +117,11 @@ fn note_row(
     }
 }
 
-fn add_mails(alloc: Global, sent: &mut Vec<Mail>, more: &[Mail]) -> Result<(), OutOfMemory>
-    ensures { OnOk result (sent.new.items ≡ sent.old.items ++ more.now) }
+fn add_mails<'a>(sent: &mut Vec<&'a Mail>, more: &'a [Mail]) -> Result<(), OutOfMemory>
+    ensures { OnOk result (map (λ mail. mail.now) sent.new.items ≡ map (λ mail. mail.now) sent.old.items ++ more.now) }
 {
     for mail in more {
-        sent.push(mail.dup(alloc)?)?;
+        sent.push(mail)?;
     }
     Ok(())
 }
@@ -135,7 +138,7 @@ pub(crate) fn accepts(
     let mut found = Vec::new(alloc);
     for row in rows {
         note_row(alloc, group, sent.as_slice(), row, &mut found)?;
-        add_mails(alloc, &mut sent, row.sent.as_slice())?;
+        add_mails(&mut sent, row.sent.as_slice())?;
     }
     Ok(found)
 }

@@ -1,5 +1,5 @@
 //! The decided log of a group.
-ghost use Rattle.std.specs.Prelude.{◌≡◌, ◌==◌, ◌&&◌, ◌≤◌, ◌<◌, ◌-◌, ◌+◌, ◌^◌, length, take, ◌++◌, ◌∷◌, [], IfOk, OnOk};
+ghost use Rattle.std.specs.Prelude.{◌≡◌, ℕ, List, ◌==◌, ◌&&◌, ◌≤◌, ◌<◌, ◌-◌, ◌+◌, ◌^◌, length, take, ◌++◌, ◌∷◌, [], IfOk, OnOk};
 ghost use Rattle.std.specs.Option.{option_copied, option_map};
 ghost use Rattle.sc_member.specs.Roster.{is_member};
 ghost use Rattle.sc_member.specs.Majority.{is_majority, votes_of as member_votes};
@@ -7,10 +7,15 @@ ghost use Rattle.sc_paxos_law.specs.Decided.{voters_of, found_in, chosen_at, top
 ghost use Rattle.sc_machine_table.specs.Group.{Group, group_of};
 ghost use Rattle.sc_machine_table.specs.Machine.{applied};
 ghost use Rattle.sc_sound.specs.Logs.{decided_log, rule_of, state_after};
+ghost use Rattle.std.specs.Ordering.{nat_cmp};
+ghost use Rattle.std.specs.BTreeMap.{get_by};
+ghost use Rattle.sc_replay.specs.declared.accepting.Acceptance.{Acceptance};
+ghost use Rattle.sc_replay.specs.Indexes.{at_slot, listed_in};
 ghost use Rattle.sc_replay.specs.Acceptances.{steps_of, report_of, is_lesser, with_chosen};
 ghost use Rattle.sc_replay.specs.Worlds.{group_named, named_log};
 
 use crate::accepting::{Acceptance, accepts};
+use crate::indexing::{BySlot, at_slot, by_slot};
 use crate::worlds::World;
 use sc_actor::Row;
 use sc_base::{Ballot, Draw, Dup, OutOfMemory};
@@ -170,22 +175,30 @@ pub(crate) fn log_of_group(
     ensures { IfOk result (λ log. (some : 1 ≤ ahead) → log.items ≡ decided_log (record { slots = ahead; some = some }) base.now rows.now) }
 {
     let found = accepts(alloc, base.core.id, rows)?;
-    log_of(alloc, ahead, base, found.as_slice())
+    let top = top_slot(found.as_slice());
+    let index = by_slot(alloc, found)?;
+    log_of(alloc, ahead, base, top, &index)
 }
 
 fn log_of(
     alloc: Global,
     ahead: usize,
     base: &Base,
-    found: &[Acceptance],
+    top: u32,
+    index: &BySlot,
 ) -> Result<Vec<Command>, OutOfMemory>
     requires { 1 ≤ ahead }
-    ensures { IfOk result (λ log. (some : 1 ≤ ahead) → log.items ≡ log_of (rule_of (record { slots = ahead; some = some }) base.now) (steps_of found.now)) }
+    ensures { IfOk result (λ log. (some : 1 ≤ ahead) (found : List Acceptance) → top ≡ top_slot (steps_of found) → ((slot : ℕ) → listed_in (λ kept. kept.items) (get_by (nat_cmp slot) index.now) ≡ at_slot slot found) → log.items ≡ log_of (rule_of (record { slots = ahead; some = some }) base.now) (steps_of found)) }
 {
     let mut behind = Machine::born(alloc, base.dup(alloc)?)?;
     let mut log = Vec::new(alloc);
-    for done in 0..top_slot(found) {
-        match chosen_at(alloc, &behind.core().members, found, done + 1)? {
+    for done in 0..top {
+        match chosen_at(
+            alloc,
+            &behind.core().members,
+            at_slot(index, done + 1),
+            done + 1,
+        )? {
             None => return Ok(log),
             Some(command) => grow(&mut behind, &mut log, ahead, command)?,
         }

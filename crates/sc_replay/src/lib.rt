@@ -3,6 +3,7 @@
 
 mod accepting;
 mod deciding;
+mod indexing;
 mod exact;
 mod histories;
 mod laws;

@@ -7,41 +7,50 @@ use Rattle.sc_paxos_law.specs.Decided.{chosen_at, longer, top_slot}
 use Rattle.sc_machine_table.specs.Group.{Group, group_of}
 use Rattle.sc_sound.specs.Logs.{rule_of}
 use Rattle.sc_replay.specs.Acceptances.{steps_of}
+use Rattle.sc_replay.specs.declared.accepting.Acceptance.{Acceptance}
+use Rattle.sc_replay.proofs.Indexed.{chosen_here}
 use Rattle.sc_replay.proofs.Longer.{longer-ends, longer-grows}
 use Rattle.sc_replay.proofs.deciding.log_of.Goals as goal
 
 pub returns-in-None : goal.returns-in-None
-returns-in-None c some =
+returns-in-None c some found highest indexed =
     let log = c.loop-done.log.items in
-    let steps = steps_of c.args.found.now in
+    let steps = steps_of found in
     let rule : Rule Command = rule_of (record { slots = c.args.ahead; some = some }) c.args.base.now in
     let e : length log + 1 ≡ c.loop-done.done + 1 = ap (λ n. n + 1) c.loop-done.invariant.entries in
     let same : members_of rule log (length log + 1) ≡ c.core.result.now.members = ap (λ (group : Group). group.core.members) (sym c.loop-done.invariant.behind) ∙ ap (λ (core : Core). core.members) (sym c.core.ensures) in
     let none : chosen_at (members_of rule log (length log + 1)) steps (length log + 1) ≡ None =
-    ap (λ (ms : List ℕ). chosen_at ms steps (length log + 1)) same ∙ ap (λ (n : ℕ). chosen_at c.core.result.now.members steps n) e ∙ sym c.in_ok-chosen_at.ensures ∙ c.in-None.is in
-    sym (longer-ends rule steps (top_slot steps - c.loop-done.done) log none) ∙ c.loop-done.invariant.left some
+    ap (λ (ms : List ℕ). chosen_at ms steps (length log + 1)) same ∙ ap (λ (n : ℕ). chosen_at c.core.result.now.members steps n) e
+    ∙ chosen_here c.core.result.now.members (c.loop-done.done + 1) found
+    ∙ ap (λ (xs : List Acceptance). chosen_at c.core.result.now.members (steps_of xs) (c.loop-done.done + 1)) (sym (indexed (c.loop-done.done + 1)) ∙ sym c.at_slot.ensures)
+    ∙ sym c.in_ok-chosen_at.ensures ∙ c.in-None.is in
+    sym (longer-ends rule steps (c.args.top - c.loop-done.done) log none) ∙ c.loop-done.invariant.left some found indexed ∙ ap (λ n. longer rule steps n []) highest
 
 pub returns : goal.returns
-returns c some =
-    let none : top_slot (steps_of c.args.found.now) - c.loop-done.done ≡ 0 = omega (arith, c.loop-done-test.false, c.top_slot-done-end.ensures) in
-    ap (λ n. longer (rule_of (record { slots = c.args.ahead; some = some }) c.args.base.now) (steps_of c.args.found.now) n c.loop-done.log.items) (sym none) ∙ c.loop-done.invariant.left some
+returns c some found highest indexed =
+    let rule : Rule Command = rule_of (record { slots = c.args.ahead; some = some }) c.args.base.now in
+    let none : c.args.top - c.loop-done.done ≡ 0 = omega (arith, c.loop-done-test.false) in
+    ap (λ n. longer rule (steps_of found) n c.loop-done.log.items) (sym none) ∙ c.loop-done.invariant.left some found indexed ∙ ap (λ n. longer rule (steps_of found) n []) highest
 
 pub loop-done-preserved : goal.loop-done-preserved
 loop-done-preserved c =
     let log = c.loop-done.log.items in
-    let steps = steps_of c.args.found.now in
     let long : length c.grow.new.log.items ≡ length log + 1 = ap length c.in_ok-grow-in-Some.ensures.log ∙ length-append log (c.in-Some.command ∷ []) in
     record {
       entries = long ∙ ap (λ n. n + 1) c.loop-done.invariant.entries;
       behind = c.in_ok-grow-in-Some.ensures.behind (group_of c.args.base.now) c.loop-done.invariant.behind;
-      left = λ some.
+      left = λ some found indexed.
+          let steps = steps_of found in
           let rule : Rule Command = rule_of (record { slots = c.args.ahead; some = some }) c.args.base.now in
           let e : length log + 1 ≡ c.loop-done.done + 1 = ap (λ n. n + 1) c.loop-done.invariant.entries in
           let same : members_of rule log (length log + 1) ≡ c.core.result.now.members = ap (λ (group : Group). group.core.members) (sym c.loop-done.invariant.behind) ∙ ap (λ (core : Core). core.members) (sym c.core.ensures) in
-          let found : chosen_at (members_of rule log (length log + 1)) steps (length log + 1) ≡ Some c.in-Some.command =
-          ap (λ (ms : List ℕ). chosen_at ms steps (length log + 1)) same ∙ ap (λ (n : ℕ). chosen_at c.core.result.now.members steps n) e ∙ sym c.in_ok-chosen_at.ensures ∙ c.in-Some.is in
-          let one : top_slot steps - c.loop-done.done ≡ suc (top_slot steps - (c.loop-done.done + 1)) = omega (arith, c.loop-done-test.true, c.top_slot-done-end.ensures) in
-          ap (longer rule steps (top_slot steps - (c.loop-done.done + 1))) c.in_ok-grow-in-Some.ensures.log
-          ∙ sym (longer-grows rule steps (top_slot steps - (c.loop-done.done + 1)) log c.in-Some.command found)
-          ∙ ap (λ n. longer rule steps n log) (sym one) ∙ c.loop-done.invariant.left some;
+          let chosen : chosen_at (members_of rule log (length log + 1)) steps (length log + 1) ≡ Some c.in-Some.command =
+          ap (λ (ms : List ℕ). chosen_at ms steps (length log + 1)) same ∙ ap (λ (n : ℕ). chosen_at c.core.result.now.members steps n) e
+          ∙ chosen_here c.core.result.now.members (c.loop-done.done + 1) found
+          ∙ ap (λ (xs : List Acceptance). chosen_at c.core.result.now.members (steps_of xs) (c.loop-done.done + 1)) (sym (indexed (c.loop-done.done + 1)) ∙ sym c.at_slot.ensures)
+          ∙ sym c.in_ok-chosen_at.ensures ∙ c.in-Some.is in
+          let one : c.args.top - c.loop-done.done ≡ suc (c.args.top - (c.loop-done.done + 1)) = omega (arith, c.loop-done-test.true) in
+          ap (longer rule steps (c.args.top - (c.loop-done.done + 1))) c.in_ok-grow-in-Some.ensures.log
+          ∙ sym (longer-grows rule steps (c.args.top - (c.loop-done.done + 1)) log c.in-Some.command chosen)
+          ∙ ap (λ n. longer rule steps n log) (sym one) ∙ c.loop-done.invariant.left some found indexed;
     }
