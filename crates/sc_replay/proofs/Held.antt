@@ -12,7 +12,8 @@ use Rattle.sc_scenario.specs.declared.scenarios.Scenario.{Scenario}
 use Rattle.sc_world.specs.World.{system_of, schedule, Lawful}
 use Rattle.sc_world.specs.declared.party.Party.{Party}
 use Rattle.sc_group_law.specs.Laws.{ValidHaveOneGroup, GroupJournalsAreSound}
-use Rattle.sc_replay.specs.Worlds.{as_nodes, entries_in, Holds}
+use Rattle.sc_sound.specs.Logs.{as_nodes}
+use Rattle.sc_replay.specs.Worlds.{entries_in, Holds}
 
 pub holds : ValidHaveOneGroup → GroupJournalsAreSound → (scenario : Scenario) → IsValid scenario → (rows : List (Row Mail OrderLine)) (parties : List Party) (left : Replayed Party) →
     parties ≡ map (λ seat. seat.actor) left.seats.items → Leaves (system_of scenario) (schedule scenario) rows left → Holds scenario rows parties left.skipped left.quiet

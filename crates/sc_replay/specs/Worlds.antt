@@ -1,7 +1,6 @@
 -- What a world stands for, and what it holds of it.
 use Rattle.std.specs.Prelude.{◌≡◌, ℕ, Bool, List, [], find, Option, Some, None}
 use Rattle.std.specs.List.{flat_map}
-use Rattle.std.proofs.Common.{lit≤}
 use Rattle.sc_base.specs.declared.names.Draw.{Draw}
 use Rattle.sc_cmd.specs.Same.{same_draw}
 use Rattle.sc_cmd.specs.declared.commands.Command.{Command}
@@ -13,20 +12,15 @@ use Rattle.sc_actor.specs.Walk.{skipped, is_quiet}
 use Rattle.sc_ideal.specs.declared.Entry.{Entry}
 use Rattle.sc_machine_table.specs.Group.{group_of}
 use Rattle.sc_scenario.specs.declared.scenarios.Scenario.{Scenario}
-use Rattle.sc_node_table.specs.Slots.{slots_ahead}
 use Rattle.sc_world.specs.World.{system_of, schedule, Lawful, parties}
 use Rattle.sc_world.specs.declared.party.Party.{Party}
-use Rattle.sc_sound.specs.Logs.{Ahead, decided_log}
+use Rattle.sc_sound.specs.Logs.{as_nodes, decided_log}
 use Rattle.sc_sound.specs.Histories.{done_by, history}
 
 -- a scenario, and rows of it
 pub record Standing : Type 0 where
   pub scenario : Scenario
   pub rows : List (Row Mail OrderLine)
-
--- as many slots are open as nodes have
-abbrev pub as_nodes : Ahead
-as_nodes = record { slots = slots_ahead; some = lit≤ tt }
 
 -- the decided log of a group that was found; none was decided where none was found
 abbrev pub log_found : List (Row Mail OrderLine) → Option Base → List Command

@@ -7,6 +7,7 @@ mod indexing;
 mod exact;
 mod histories;
 mod laws;
+mod orders;
 mod replaying;
 mod summing;
 mod worlds;
@@ -15,7 +16,7 @@ pub use deciding::decided_log;
 pub use histories::history;
 pub use laws::valid_scenarios_can_play;
 pub use replaying::{ReplayFault, replay_rows};
-pub use summing::summary;
+pub use summing::{sum_up, summary};
 pub use worlds::World;
 
 #[cfg(test)]

@@ -1,13 +1,97 @@
 //! The summary of a replayed journal.
-ghost use Rattle.std.specs.Prelude.{◌≡◌, IfOk};
-ghost use Rattle.sc_world.specs.Summary.{summary_of};
+ghost use Rattle.std.specs.Prelude.{◌≡◌, map, IfOk};
+ghost use Rattle.sc_actor.specs.Walk.{is_quiet, skipped};
+ghost use Rattle.sc_machine_table.specs.Group.{group_of};
+ghost use Rattle.sc_world.specs.World.{system_of, schedule, parties};
+ghost use Rattle.sc_sound.specs.Logs.{state_after};
+ghost use Rattle.sc_sound.specs.Summary.{cut_of, decided_cut, summary_of};
 
+use crate::deciding::{SLOTS_AHEAD, execute, log_of_group};
+use crate::orders::{order_count, orders_told};
 use crate::worlds::World;
-use sc_base::OutOfMemory;
+use sc_actor::{Journal, Row};
+use sc_base::{Dup, OutOfMemory, Sequence};
+use sc_cmd::{Base, Command, OrderLine, Route};
+use sc_machine::Machine;
+use sc_mail::Mail;
 use sc_report::Summary;
 use sc_scenario::Scenario;
-use sc_world::sum_up;
+use sc_world::{Party, all_asked, deliveries, mail_count, small};
 use std::alloc::Global;
+
+// A group's part of the ring, and its members, after these entries.
+fn cut_after(alloc: Global, base: &Base, log: &[Command]) -> Result<Route, OutOfMemory>
+    ensures { IfOk result (λ cut. cut ≡ cut_of (state_after (group_of base.now) log.now)) }
+{
+    let mut machine = Machine::born(alloc, base.dup(alloc)?)?;
+    for command in log {
+        execute(&mut machine, command)?;
+    }
+    let core = machine.core();
+    Ok(Route {
+        group: core.id,
+        lo: core.arc.lo(),
+        members: core.members,
+    })
+}
+
+fn decided_cut(
+    alloc: Global,
+    base: &Base,
+    rows: &[Row<Mail, OrderLine>],
+) -> Result<Route, OutOfMemory>
+    ensures { IfOk result (λ cut. cut ≡ decided_cut rows.now base.now) }
+{
+    let log = log_of_group(alloc, SLOTS_AHEAD, base, rows)?;
+    cut_after(alloc, base, &log)
+}
+
+fn ring_of(
+    alloc: Global,
+    groups: &[Base],
+    rows: &[Row<Mail, OrderLine>],
+) -> Result<Sequence<Route>, OutOfMemory>
+    ensures { IfOk result (λ ring. ring ≡ map (decided_cut rows.now) groups.now) }
+{
+    let mut ring = Sequence::new(alloc);
+    for base in groups {
+        ring.push(decided_cut(alloc, base, rows)?)?;
+    }
+    Ok(ring)
+}
+
+/// What the report tells of a journal, with the parties that its rows leave, the lines that were skipped,
+/// and whether no mail is pending. Refused only for want of memory.
+pub fn sum_up(
+    alloc: Global,
+    scenario: &Scenario,
+    journal: &Journal<Mail, OrderLine>,
+    left: &Sequence<Party>,
+    skips: u64,
+    quiet: bool,
+) -> Result<Summary, OutOfMemory>
+    requires parties { left.now ≡ parties scenario.now journal.now }
+    requires skipped { skips ≡ skipped (system_of scenario.now) (schedule scenario.now) journal.now }
+    requires quiet { quiet ≡ is_quiet (system_of scenario.now) journal.now }
+    ensures { IfOk result (λ told. told ≡ summary_of scenario.now journal.now) }
+{
+    if skips > 4_294_967_295 {
+        return Err(OutOfMemory);
+    }
+    let rows = journal.as_slice();
+    Ok(Summary {
+        version: scenario.version,
+        brief: scenario.brief,
+        asked: all_asked(alloc, left.as_slice())?,
+        orders: orders_told(alloc, order_count(scenario.lines.as_slice()), rows)?,
+        ring: ring_of(alloc, scenario.groups.as_slice(), rows)?,
+        rows: small(rows.len())?,
+        mail: mail_count(rows)?,
+        delivered: deliveries(rows)?,
+        skipped: skips as u32,
+        quiet,
+    })
+}
 
 /// What the report tells of a journal that was replayed for this scenario. Refused only for want of
 /// memory.

@@ -4,3 +4,4 @@ pub mod Histories
 pub mod Laws
 pub mod Logs
 pub mod Requests
+pub mod Summary

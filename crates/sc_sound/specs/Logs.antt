@@ -1,5 +1,6 @@
 -- The decided log of a group in a journal, and the group's state after it.
 use Rattle.std.specs.Prelude.{ℕ, ◌≤◌, List, [], ◌∷◌, fold}
+use Rattle.std.proofs.Common.{lit≤}
 use Rattle.sc_cmd.specs.declared.commands.Command.{Command}
 use Rattle.sc_cmd.specs.declared.cores.Base.{Base}
 use Rattle.sc_cmd.specs.declared.effects.Effect.{Effect}
@@ -8,6 +9,7 @@ use Rattle.sc_mail.specs.declared.bodies.Mail.{Mail}
 use Rattle.sc_actor.specs.declared.rows.Row.{Row}
 use Rattle.sc_machine_table.specs.Group.{Group, group_of}
 use Rattle.sc_machine_table.specs.Machine.{applied}
+use Rattle.sc_node_table.specs.Slots.{slots_ahead}
 use Rattle.sc_paxos_law.specs.Chosen.{Rule, IsChosenAfter}
 use Rattle.sc_paxos_law.specs.Decided.{log_of}
 use Rattle.sc_sound.specs.Accepts.{accepts}
@@ -16,6 +18,10 @@ use Rattle.sc_sound.specs.Accepts.{accepts}
 pub record Ahead : Type 0 where
   pub slots : ℕ
   pub some : 1 ≤ slots
+
+-- as many slots are open as nodes have
+abbrev pub as_nodes : Ahead
+as_nodes = record { slots = slots_ahead; some = lit≤ tt }
 
 -- a group after some entries
 abbrev pub state_after : Group → List Command → Group

@@ -43,18 +43,3 @@ asked_by (party.Client client) = asked_from client 0 client.requests
 abbrev pub is_delivery : Event OrderLine → Bool
 is_delivery (Deliver mail) = true
 is_delivery _ = false
-
--- the summary of a journal. No command that is built moves a boundary or a member, and no order is built
-abbrev pub summary_of : Scenario → List (Row Mail OrderLine) → Summary
-summary_of scenario journal = record {
-  version = scenario.version;
-  brief = scenario.brief;
-  asked = flat_map asked_by (parties scenario journal);
-  orders = [];
-  ring = map route_of scenario.groups;
-  rows = length journal;
-  mail = length (mails journal);
-  delivered = count_by (λ row. is_delivery row.event) journal;
-  skipped = skipped (system_of scenario) (schedule scenario) journal;
-  quiet = is_quiet (system_of scenario) journal;
-}

@@ -7,4 +7,4 @@ mod summing;
 
 pub use party::Party;
 pub use seating::{are_few, births, schedule};
-pub use summing::{parties_of, sum_up};
+pub use summing::{all_asked, deliveries, mail_count, parties_of, small};

@@ -1,24 +1,20 @@
-//! The summary of a journal.
+//! What is counted for the summary of a journal.
 ghost use Rattle.std.specs.Prelude.{◌≡◌, ◌++◌, map, length, count_by, IfOk, OnOk, slice_get};
 ghost use Rattle.std.specs.List.{flat_map};
 ghost use Rattle.sc_actor.specs.Mail.{mails};
-ghost use Rattle.sc_actor.specs.Walk.{is_quiet, skipped};
-ghost use Rattle.sc_world.specs.World.{system_of, schedule, parties, route_of};
-ghost use Rattle.sc_world.specs.Summary.{summary_of, asked_by, asked_from, asked_after, got_of, is_delivery};
+ghost use Rattle.sc_world.specs.Summary.{asked_by, asked_from, asked_after, got_of, is_delivery};
 
 use crate::party::Party;
-use crate::seating::route_of;
-use sc_actor::{Event, Journal, Row, Seat};
+use sc_actor::{Event, Row, Seat};
 use sc_base::{Dup, Op, OutOfMemory, Sequence};
 use sc_client::ClientCore;
-use sc_cmd::{Base, OrderLine, Route};
+use sc_cmd::OrderLine;
 use sc_mail::Mail;
-use sc_report::{Asked, Got, Summary};
-use sc_scenario::Scenario;
+use sc_report::{Asked, Got};
 use std::alloc::Global;
 
-// A count that a report can tell: more than 2^32 - 1 rows or mails have no room in memory.
-fn small(n: usize) -> Result<u32, OutOfMemory>
+/// A count that a report can tell: more than 2^32 - 1 rows or mails have no room in memory.
+pub fn small(n: usize) -> Result<u32, OutOfMemory>
     ensures { IfOk result (λ m. m ≡ n) }
 {
     if n > 4_294_967_295 {
@@ -77,7 +73,8 @@ fn add_party(alloc: Global, asked: &mut Sequence<Asked>, party: &Party) -> Resul
     }
 }
 
-fn all_asked(alloc: Global, parties: &[Party]) -> Result<Sequence<Asked>, OutOfMemory>
+/// The requests of the clients, each with how far it came.
+pub fn all_asked(alloc: Global, parties: &[Party]) -> Result<Sequence<Asked>, OutOfMemory>
     ensures { IfOk result (λ asked. asked ≡ flat_map asked_by parties.now) }
 {
     let mut asked = Sequence::new(alloc);
@@ -85,16 +82,6 @@ fn all_asked(alloc: Global, parties: &[Party]) -> Result<Sequence<Asked>, OutOfM
         add_party(alloc, &mut asked, party)?;
     }
     Ok(asked)
-}
-
-fn ring_of(alloc: Global, groups: &[Base]) -> Result<Sequence<Route>, OutOfMemory>
-    ensures { IfOk result (λ ring. ring ≡ map route_of groups.now) }
-{
-    let mut ring = Sequence::new(alloc);
-    for base in groups {
-        ring.push(route_of(base))?;
-    }
-    Ok(ring)
 }
 
 fn is_delivery(event: &Event<OrderLine>) -> bool
@@ -106,7 +93,8 @@ fn is_delivery(event: &Event<OrderLine>) -> bool
     }
 }
 
-fn deliveries(rows: &[Row<Mail, OrderLine>]) -> Result<u32, OutOfMemory>
+/// How many rows deliver a mail.
+pub fn deliveries(rows: &[Row<Mail, OrderLine>]) -> Result<u32, OutOfMemory>
     ensures { IfOk result (λ n. n ≡ count_by (λ row. is_delivery row.event) rows.now) }
 {
     let mut total = 0u32;
@@ -121,7 +109,8 @@ fn deliveries(rows: &[Row<Mail, OrderLine>]) -> Result<u32, OutOfMemory>
     Ok(total)
 }
 
-fn mail_count(rows: &[Row<Mail, OrderLine>]) -> Result<u32, OutOfMemory>
+/// How many mails the rows send.
+pub fn mail_count(rows: &[Row<Mail, OrderLine>]) -> Result<u32, OutOfMemory>
     ensures { IfOk result (λ n. n ≡ length (mails rows.now)) }
 {
     let mut total = 0u32;
@@ -145,37 +134,4 @@ pub fn parties_of(alloc: Global, seats: Vec<Seat<Party>>) -> Result<Sequence<Par
         parties.push(actor)?;
     }
     Ok(parties)
-}
-
-/// What the report tells of a journal, with the parties that its rows leave, the lines that were skipped,
-/// and whether no mail is pending.
-pub fn sum_up(
-    alloc: Global,
-    scenario: &Scenario,
-    journal: &Journal<Mail, OrderLine>,
-    left: &Sequence<Party>,
-    skips: u64,
-    quiet: bool,
-) -> Result<Summary, OutOfMemory>
-    requires parties { left.now ≡ parties scenario.now journal.now }
-    requires skipped { skips ≡ skipped (system_of scenario.now) (schedule scenario.now) journal.now }
-    requires quiet { quiet ≡ is_quiet (system_of scenario.now) journal.now }
-    ensures { IfOk result (λ told. told ≡ summary_of scenario.now journal.now) }
-{
-    if skips > 4_294_967_295 {
-        return Err(OutOfMemory);
-    }
-    let rows = journal.as_slice();
-    Ok(Summary {
-        version: scenario.version,
-        brief: scenario.brief,
-        asked: all_asked(alloc, left.as_slice())?,
-        orders: Sequence::new(alloc),
-        ring: ring_of(alloc, scenario.groups.as_slice())?,
-        rows: small(rows.len())?,
-        mail: mail_count(rows)?,
-        delivered: deliveries(rows)?,
-        skipped: skips as u32,
-        quiet,
-    })
 }

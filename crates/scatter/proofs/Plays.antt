@@ -12,10 +12,10 @@ use Rattle.sc_scenario.specs.Valid.{IsValid}
 use Rattle.sc_scenario.specs.declared.scenarios.Scenario.{Scenario}
 use Rattle.sc_report.specs.Report.{report_lines}
 use Rattle.sc_world.specs.World.{party_table, receiver_of, births, schedule, system_of, Lawful}
-use Rattle.sc_world.specs.Summary.{summary_of}
+use Rattle.sc_sound.specs.Summary.{summary_of}
 use Rattle.sc_world.specs.declared.party.Party.{Party}
 use Rattle.sc_group_law.specs.Laws.{ValidHaveOneGroup, GroupJournalsAreSound}
-use Rattle.sc_replay.specs.Worlds.{as_nodes}
+use Rattle.sc_sound.specs.Logs.{as_nodes}
 use Rattle.scatter.specs.Sound.{IsSoundThroughout}
 use Rattle.scatter.specs.declared.done.Text.{Text}
 use Rattle.scatter.specs.Played.{mail_weight, HasEnded as Ends, HasFilled}

@@ -15,7 +15,7 @@ use Rattle.sc_actor.specs.Counted.{journal_bytes}
 use Rattle.sc_scenario.specs.declared.scenarios.Scenario.{Scenario}
 use Rattle.sc_report.specs.Report.{report_lines}
 use Rattle.sc_world.specs.World.{system_of, schedule, Lawful, Whole, parties}
-use Rattle.sc_world.specs.Summary.{summary_of}
+use Rattle.sc_sound.specs.Summary.{summary_of}
 use Rattle.scatter.specs.Sound.{IsSoundThroughout}
 use Rattle.scatter.specs.Played.{mail_weight, HasFilled}
 use Rattle.scatter.specs.declared.done.Text.{Text}

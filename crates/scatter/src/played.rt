@@ -12,10 +12,10 @@ use sc_base::{OutOfMemory, Sequence};
 use sc_cmd::OrderLine;
 use sc_group_law::{group_journals_are_sound, valid_scenarios_have_one_group};
 use sc_mail::Mail;
-use sc_replay::valid_scenarios_can_play;
+use sc_replay::{sum_up, valid_scenarios_can_play};
 use sc_report::lines;
 use sc_scenario::Scenario;
-use sc_world::{Party, births, parties_of, schedule, sum_up};
+use sc_world::{Party, births, parties_of, schedule};
 use std::alloc::Global;
 
 /// How a scenario was played.
