@@ -33,9 +33,9 @@ pub(crate) fn order_count(lines: &[SchedLine]) -> usize
 }
 
 // The word on an order is kept, if it is the first on it.
-fn keep(told: &mut [Option<ToldResult>], order: u32, result: ToldResult)
+fn keep(told: &mut [Option<ToldResult>], order: u32, word: ToldResult)
     ensures len { length told.new ≡ length told.old }
-    ensures kept { (k : ℕ) → k < length told.old → get_or told.new k None ≡ first_of (get_or told.old k None) (if order == k + 1 then Some result else None) }
+    ensures kept { (k : ℕ) → k < length told.old → get_or told.new k None ≡ first_of (get_or told.old k None) (if order == k + 1 then Some word else None) }
 {
     if order == 0 {
         return;
@@ -44,7 +44,7 @@ fn keep(told: &mut [Option<ToldResult>], order: u32, result: ToldResult)
     if place >= told.len() || told[place].is_some() {
         return;
     }
-    told[place] = Some(result);
+    told[place] = Some(word);
 }
 
 fn note(told: &mut [Option<ToldResult>], body: &MailBody)
