@@ -1,5 +1,6 @@
-pub mod Births
-pub mod Lines
+mod Births
+mod Lines
 mod Fronts
 mod Longer
 mod Newest
+mod Held

@@ -1,2 +1,4 @@
 pub mod Acceptances
+pub mod Plays
 pub mod Replays
+pub mod Worlds

@@ -15,7 +15,7 @@ use std::alloc::Global;
 
 /// A node accepted a command at a slot in a ballot (Paxos Made Simple, section 2.2).
 #[derive(Drop)]
-pub struct Acceptance {
+pub(crate) struct Acceptance {
     pub node: u32,
     pub ballot: Ballot,
     pub slot: u32,
@@ -124,7 +124,7 @@ fn add_mails(alloc: Global, sent: &mut Vec<Mail>, more: &[Mail]) -> Result<(), O
 }
 
 /// What the rows of a journal accept for a group, in the order of the rows: each row that delivers an accept of the group and sends that it accepted. Refused only for want of memory.
-pub fn accepts(
+pub(crate) fn accepts(
     alloc: Global,
     group: Draw,
     rows: &[Row<Mail, OrderLine>],

@@ -8,11 +8,13 @@ ghost use Rattle.sc_machine_table.specs.Group.{Group, group_of};
 ghost use Rattle.sc_machine_table.specs.Machine.{applied};
 ghost use Rattle.sc_sound.specs.Logs.{decided_log, rule_of, state_after};
 ghost use Rattle.sc_replay.specs.Acceptances.{steps_of, report_of, is_lesser, with_chosen};
+ghost use Rattle.sc_replay.specs.Worlds.{group_named, named_log};
 
 use crate::accepting::{Acceptance, accepts};
+use crate::worlds::World;
 use sc_actor::Row;
-use sc_base::{Ballot, Dup, OutOfMemory};
-use sc_cmd::{Base, Command, OrderLine, same_ballot};
+use sc_base::{Ballot, Draw, Dup, OutOfMemory};
+use sc_cmd::{Base, Command, OrderLine, same_ballot, same_draw};
 use sc_machine::Machine;
 use sc_mail::Mail;
 use sc_member::Members;
@@ -154,8 +156,11 @@ fn grow(
     Ok(())
 }
 
-/// The decided log of a group in a journal, where so many slots are open at a time: the longest list whose entry k is chosen at slot k. Refused only for want of memory.
-pub fn decided_log(
+/// How many slots of a log are open at a time.
+pub(crate) const SLOTS_AHEAD: usize = 4;
+
+/// The decided log of a group in a journal, where so many slots are open at a time: the longest list whose entry k is chosen at slot k.
+pub(crate) fn log_of_group(
     alloc: Global,
     ahead: usize,
     base: &Base,
@@ -186,4 +191,25 @@ fn log_of(
         }
     }
     Ok(log)
+}
+
+// The group with a name, if the scenario has one.
+fn group_named(groups: &[Base], name: Draw) -> Option<&Base>
+    ensures { option_copied result ≡ group_named name groups.now }
+{
+    groups.iter().find(|base| same_draw(base.core.id, name))
+}
+
+/// The decided log of the group with a name in a journal: the longest list whose entry k is chosen at slot k. It is empty where the scenario has no such group. Read from the mail that the rows send, never from what an actor holds. Refused only for want of memory.
+pub fn decided_log(
+    alloc: Global,
+    world: &World<'_>,
+    group: Draw,
+) -> Result<Vec<Command>, OutOfMemory>
+    ensures { IfOk result (λ log. log.items ≡ named_log world.now group) }
+{
+    match group_named(world.scenario.groups.as_slice(), group) {
+        None => Ok(Vec::new(alloc)),
+        Some(base) => log_of_group(alloc, SLOTS_AHEAD, base, world.rows.as_slice()),
+    }
 }

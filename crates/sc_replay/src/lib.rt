@@ -1,14 +1,21 @@
-//! What a journal says: whether it is lawful, who accepted what, and each group's decided log.
+//! What a journal says: whether it is lawful, what it leaves of each actor, each group's decided log, its history and its summary.
 #![tactic(auto)]
 
 mod accepting;
 mod deciding;
 mod exact;
+mod histories;
+mod laws;
 mod replaying;
+mod summing;
+mod worlds;
 
-pub use accepting::{Acceptance, accepts};
 pub use deciding::decided_log;
+pub use histories::history;
+pub use laws::valid_scenarios_can_play;
 pub use replaying::{ReplayFault, replay_rows};
+pub use summing::summary;
+pub use worlds::World;
 
 #[cfg(test)]
 mod tests;

@@ -1,18 +1,23 @@
-//! Whether rows are a lawful journal of a scenario, and else the first row that is not.
+//! The world that a lawful journal of a scenario leaves, or the first row that is not lawful.
 ghost use Rattle.std.specs.Prelude.{◌≡◌, ◌<◌, ◌≤◌, ◌^◌, ◌↔◌, IsTrue, length, take, IfOk, MatchResult};
 ghost use Rattle.sc_actor.specs.Mail.{mails};
 ghost use Rattle.sc_scenario.specs.Valid.{IsValid};
-ghost use Rattle.sc_world.specs.World.{Lawful};
+ghost use Rattle.sc_play.specs.Replays.{IsReplayed};
+ghost use Rattle.sc_world.specs.World.{system_of, schedule, Lawful};
 ghost use Rattle.sc_replay.specs.Replays.{IsBadRow, IsFault};
+ghost use Rattle.sc_replay.specs.Worlds.{MayReplay, Replays};
 
 use crate::exact::Exact;
-use sc_actor::Row;
+use crate::laws::valid_scenarios_can_play;
+use crate::worlds::World;
+use sc_actor::{Journal, Row};
 use sc_base::OutOfMemory;
 use sc_cmd::OrderLine;
+use sc_group_law::{group_journals_are_sound, valid_scenarios_have_one_group};
 use sc_mail::Mail;
-use sc_play::is_lawful;
-use sc_scenario::{Scenario, texts_are_early};
-use sc_world::{births, schedule};
+use sc_play::{Replayed, replay};
+use sc_scenario::Scenario;
+use sc_world::{Party, births, parties_of, schedule};
 use std::alloc::Global;
 
 /// Why rows are not replayed.
@@ -23,24 +28,24 @@ pub enum ReplayFault {
     OutOfMemory,
 }
 
-/// Whether these rows are lawful for a scenario.
-fn are_lawful(
+// What rows leave, if they are lawful for a scenario.
+fn left_by(
     alloc: Global,
     scenario: &Scenario,
     rows: &[Row<Mail, OrderLine>],
-) -> Result<bool, OutOfMemory>
+) -> Result<Option<Replayed<Party>>, OutOfMemory>
     requires valid { IsValid scenario.now }
     requires few_rows { length rows.now < 2 ^ 31 }
     requires few_mails { length (mails rows.now) < 2 ^ 31 }
-    ensures { IfOk result (λ lawful. IsTrue lawful ↔ Lawful scenario.now rows.now) }
+    ensures { IfOk result (λ left. IsReplayed (system_of scenario.now) (schedule scenario.now) rows.now left) }
 {
-    texts_are_early();
+    valid_scenarios_can_play();
     let seats = births(alloc, scenario)?;
     let lines = schedule(alloc, scenario)?;
-    is_lawful(alloc, &Exact, seats, lines.as_slice(), rows)
+    replay(alloc, &Exact, seats, lines.as_slice(), rows)
 }
 
-/// Whether so many first rows are lawful.
+// Whether so many first rows are lawful.
 fn front_is_lawful(
     alloc: Global,
     scenario: &Scenario,
@@ -53,10 +58,13 @@ fn front_is_lawful(
     requires few_mails { length (mails rows.now) < 2 ^ 31 }
     ensures { IfOk result (λ lawful. IsTrue lawful ↔ Lawful scenario.now (take count rows.now)) }
 {
-    are_lawful(alloc, scenario, &rows[..count])
+    match left_by(alloc, scenario, &rows[..count])? {
+        Some(_) => Ok(true),
+        None => Ok(false),
+    }
 }
 
-/// The first row that is not lawful, of rows that are not.
+// The first row that is not lawful, of rows that are not.
 fn bad_row(
     alloc: Global,
     scenario: &Scenario,
@@ -81,21 +89,49 @@ fn bad_row(
     Ok(high as u32)
 }
 
-/// Replays rows: whether they are a lawful journal of a scenario, and else which row, from 1, is the first that is not. The scenario is one that some text is, and rows and their mails are fewer than 2^31 each.
-pub fn replay_rows(
+// The world of rows, if they are lawful.
+fn world_of<'a>(
     alloc: Global,
-    scenario: &Scenario,
-    rows: &[Row<Mail, OrderLine>],
-) -> Result<(), ReplayFault>
+    scenario: &'a Scenario,
+    rows: &'a Journal<Mail, OrderLine>,
+) -> Result<Option<World<'a>>, OutOfMemory>
     requires valid { IsValid scenario.now }
     requires few_rows { length rows.now < 2 ^ 31 }
     requires few_mails { length (mails rows.now) < 2 ^ 31 }
-    ensures { MatchResult result (λ _. Lawful scenario.now rows.now) (λ fault. IsFault scenario.now rows.now fault) }
+    ensures { IfOk result (λ world. MayReplay scenario.now rows.now world) }
 {
-    match are_lawful(alloc, scenario, rows) {
+    valid_scenarios_have_one_group();
+    group_journals_are_sound();
+    match left_by(alloc, scenario, rows.as_slice())? {
+        None => Ok(None),
+        Some(left) => {
+            let parties = parties_of(alloc, left.seats)?;
+            Ok(Some(World {
+                scenario,
+                rows,
+                parties,
+                skipped: left.skipped,
+                quiet: left.quiet,
+            }))
+        }
+    }
+}
+
+/// Replays rows: the world that they leave where they are a lawful journal of a scenario, and else which row, from 1, is the first that is not. The scenario is one that some text is, and rows and their mails are fewer than 2^31 each.
+pub fn replay_rows<'a>(
+    alloc: Global,
+    scenario: &'a Scenario,
+    rows: &'a Journal<Mail, OrderLine>,
+) -> Result<World<'a>, ReplayFault>
+    requires valid { IsValid scenario.now }
+    requires few_rows { length rows.now < 2 ^ 31 }
+    requires few_mails { length (mails rows.now) < 2 ^ 31 }
+    ensures { MatchResult result (λ world. Replays scenario.now rows.now world) (λ fault. IsFault scenario.now rows.now fault) }
+{
+    match world_of(alloc, scenario, rows) {
         Err(OutOfMemory) => Err(ReplayFault::OutOfMemory),
-        Ok(true) => Ok(()),
-        Ok(false) => match bad_row(alloc, scenario, rows) {
+        Ok(Some(world)) => Ok(world),
+        Ok(None) => match bad_row(alloc, scenario, rows.as_slice()) {
             Err(OutOfMemory) => Err(ReplayFault::OutOfMemory),
             Ok(at) => Err(ReplayFault::BadRow { at }),
         },

@@ -1,7 +1,7 @@
 ghost use Rattle.std.specs.Prelude.{◌≡◌};
 
 use super::*;
-use sc_actor::{Event, Row};
+use sc_actor::{Event, Journal, Row};
 use sc_base::Sequence;
 use sc_cmd::OrderLine;
 use sc_mail::Mail;
@@ -14,8 +14,8 @@ use std::test::Fail;
 const TICK: &[u8] = b"scatter 1\nnodes 1\ngroup 0 1\ntick n1\n";
 
 // The rows of one event of an actor each, which send nothing.
-fn rows_of(alloc: Global, actors: &[u32]) -> Result<Vec<Row<Mail, OrderLine>>, Fail> {
-    let mut rows = Vec::new(alloc);
+fn rows_of(alloc: Global, actors: &[u32]) -> Result<Journal<Mail, OrderLine>, Fail> {
+    let mut rows = Journal::new(alloc);
     for who in actors {
         rows.push(Row {
             who: *who,
@@ -33,8 +33,8 @@ fn replayed(alloc: Global, actors: &[u32]) -> Result<u32, Fail> {
     if !are_few(rows.as_slice()) {
         return Err(Fail::from("too many rows"));
     }
-    match replay_rows(alloc, &scenario, rows.as_slice()) {
-        Ok(()) => Ok(0),
+    match replay_rows(alloc, &scenario, &rows) {
+        Ok(_) => Ok(0),
         Err(ReplayFault::BadRow { at }) => Ok(at),
         Err(ReplayFault::OutOfMemory) => Err(Fail::from("no memory")),
     }

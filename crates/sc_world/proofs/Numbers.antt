@@ -1,5 +1,5 @@
 -- The numbers from one on, one after another.
-use Rattle.std.proofs.Common.{◌≡◌, ℕ, zero, suc, ◌+◌, ◌-◌, ◌<◌, ◌∷◌, ap, ◌∙◌, arith}
+use Rattle.std.proofs.Common.{◌≡◌, ℕ, suc, ◌+◌, ◌-◌, ◌<◌, ◌∷◌, ap, arith}
 use Rattle.sc_node_table.specs.Slots.{numbers}
 
 pub numbers-next : (from count : ℕ) → 0 < count → numbers from count ≡ from ∷ numbers (from + 1) (count - 1)

@@ -10,7 +10,7 @@ use Rattle.sc_actor.specs.declared.actors.Seat.{Seat}
 use Rattle.sc_actor.specs.declared.schedules.Line.{Line}
 use Rattle.sc_actor.specs.declared.schedules.Line.TheVariants as line
 use Rattle.sc_actor.specs.System.{System, system, no_words}
-use Rattle.sc_actor.specs.Walk.{IsLawful, IsWhole, place_after}
+use Rattle.sc_actor.specs.Walk.{IsLawful, IsWhole}
 use Rattle.sc_actor.specs.Replay.{values}
 use Rattle.sc_scenario.specs.declared.scenarios.Asks.{Asks}
 use Rattle.sc_scenario.specs.declared.scenarios.Scenario.{Scenario}

@@ -3,6 +3,8 @@
 
 mod party;
 mod seating;
+mod summing;
 
 pub use party::Party;
 pub use seating::{are_few, births, schedule};
+pub use summing::{parties_of, sum_up};

@@ -23,7 +23,7 @@ fn node_seat(alloc: Global, groups: &Sequence<Base>, me: u16) -> Result<Seat<Par
     })
 }
 
-fn route_of(base: &Base) -> Route
+pub(crate) fn route_of(base: &Base) -> Route
     ensures { result ≡ route_of base.now }
 {
     Route {

@@ -1,4 +1,3 @@
-mod Births
 mod Pieces
 mod Plays
 mod Readings

@@ -1,56 +1,25 @@
 -- What a player's answer says of a scenario.
-use Rattle.std.proofs.Common.{◌≡◌, ℕ, zero, suc, ◌<◌, List, [], ◌∷◌, length, map, Bool, true, false, Some, refl, sym, ◌∙◌, ap, subst, arith, slice_index_or}
-use Rattle.std.specs.List.{All}
+use Rattle.std.proofs.Common.{◌≡◌, ℕ, List, map, Bool, true, false, Some, sym, ◌∙◌, ap, subst}
 use Rattle.sc_cmd.specs.declared.orders.OrderLine.{OrderLine}
 use Rattle.sc_mail.specs.declared.bodies.Mail.{Mail}
 use Rattle.sc_actor.specs.declared.rows.Row.{Row}
 use Rattle.sc_actor.specs.declared.actors.Seat.{Seat}
 use Rattle.sc_actor.specs.declared.schedules.Line.{Line}
 use Rattle.sc_actor.specs.System.{system, no_words}
-use Rattle.sc_play.specs.Deeds.{is_built}
 use Rattle.sc_play.specs.Moves.{IsFull}
 use Rattle.sc_play.specs.Outcome.{HasEnded}
-use Rattle.sc_scenario.specs.Valid.{IsEarly, IsEarlyLine, IsValid}
-use Rattle.sc_scenario.specs.declared.scenarios.Asks.{Asks}
+use Rattle.sc_scenario.specs.Valid.{IsValid}
 use Rattle.sc_scenario.specs.declared.scenarios.Scenario.{Scenario}
-use Rattle.sc_scenario.specs.declared.scenarios.SchedLine.{SchedLine}
-use Rattle.sc_scenario.specs.declared.scenarios.SchedLine.TheVariants.{Go, Deliver, Drop, Again, Tick, Crash, Told, Settle, Free, Storm}
 use Rattle.sc_report.specs.Report.{report_lines}
-use Rattle.sc_world.specs.World.{party_table, receiver_of, births, line_of, schedule, system_of, AreFew, Lawful}
+use Rattle.sc_world.specs.World.{party_table, receiver_of, births, schedule, system_of, Lawful}
 use Rattle.sc_world.specs.Summary.{summary_of}
 use Rattle.sc_world.specs.declared.party.Party.{Party}
 use Rattle.sc_group_law.specs.Laws.{ValidHaveOneGroup, GroupJournalsAreSound}
-use Rattle.scatter.specs.Sound.{as_nodes, IsSoundThroughout}
+use Rattle.sc_replay.specs.Worlds.{as_nodes}
+use Rattle.scatter.specs.Sound.{IsSoundThroughout}
 use Rattle.scatter.specs.declared.done.Text.{Text}
 use Rattle.scatter.specs.Played.{mail_weight, HasEnded as Ends, HasFilled}
 use Rattle.scatter.specs.Run.{journal_limit, Plays, ReportsAs, said_of}
-
--- a line of the early form is built
-built_one : (nodes : ℕ) (clients : List Asks) (x : SchedLine) → IsEarlyLine nodes clients x → is_built (line_of x) ≡ true
-built_one nodes clients (Go client) h = refl
-built_one nodes clients (Deliver who k) h = refl
-built_one nodes clients (Drop who k) h = refl
-built_one nodes clients (Again mail) h = refl
-built_one nodes clients (Tick who) h = refl
-built_one nodes clients (Crash node) h = refl
-built_one nodes clients (Told node line) h = absurd h
-built_one nodes clients (Settle most) h = refl
-built_one nodes clients (Free most workers) h = absurd h
-built_one nodes clients (Storm number most) h = absurd h
-
-built_all : (nodes : ℕ) (clients : List Asks) (xs : List SchedLine) → All (IsEarlyLine nodes clients) xs → (k : ℕ) (d : Line OrderLine) → k < length (map line_of xs) → is_built (slice_index_or (map line_of xs) k d) ≡ true
-built_all nodes clients [] all k d lt = absurd (omega (arith, lt))
-built_all nodes clients (x ∷ xs) all zero d lt = built_one nodes clients x (all 0 x (omega arith))
-built_all nodes clients (x ∷ xs) all (suc k) d lt = built_all nodes clients xs (λ j e le. all (suc j) e (omega (arith, le))) k d (omega (arith, lt))
-
-pub built : (scenario : Scenario) → IsEarly scenario → (lines : List (Line OrderLine)) → lines ≡ schedule scenario → (k : ℕ) (d : Line OrderLine) → k < length lines → is_built (slice_index_or lines k d) ≡ true
-built scenario early lines is =
-    let P : List (Line OrderLine) → Type 0 = λ ls. (k : ℕ) (d : Line OrderLine) → k < length ls → is_built (slice_index_or ls k d) ≡ true in
-    subst P (sym is) (built_all scenario.nodes scenario.clients scenario.lines early.lines)
-
--- no client of the early form has more requests than it may
-pub few : (scenario : Scenario) → IsEarly scenario → AreFew scenario
-few scenario early = λ k d lt. (early.clients k d lt).1
 
 -- each first part of a lawful journal is sound
 sound_throughout : ValidHaveOneGroup → GroupJournalsAreSound → (scenario : Scenario) → IsValid scenario → (journal : List (Row Mail OrderLine)) → Lawful scenario journal → IsSoundThroughout scenario journal

@@ -1,18 +1,12 @@
 -- What the journal of a run tells of its group and of its requests.
 use Rattle.std.specs.Prelude.{◌≡◌, List, [], ◌∷◌, ◌++◌}
-use Rattle.std.proofs.Common.{lit≤}
 use Rattle.sc_cmd.specs.declared.cores.Base.{Base}
 use Rattle.sc_cmd.specs.declared.orders.OrderLine.{OrderLine}
 use Rattle.sc_mail.specs.declared.bodies.Mail.{Mail}
 use Rattle.sc_actor.specs.declared.rows.Row.{Row}
 use Rattle.sc_scenario.specs.declared.scenarios.Scenario.{Scenario}
-use Rattle.sc_world.specs.World.{slots_ahead}
-use Rattle.sc_sound.specs.Logs.{Ahead}
 use Rattle.sc_group_law.specs.Laws.{IsSound}
-
--- as many slots are open as nodes have
-abbrev pub as_nodes : Ahead
-as_nodes = record { slots = slots_ahead; some = lit≤ tt }
+use Rattle.sc_replay.specs.Worlds.{as_nodes}
 
 -- The scenario has one group, and each first part of the journal is sound: one value per slot, replicas that have executed a front of one log, and one legal history of the scenario's requests, in the order of real time.
 pub record IsSoundThroughout (scenario : Scenario) (journal : List (Row Mail OrderLine)) : Type 0 where

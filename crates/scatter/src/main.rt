@@ -5,7 +5,6 @@ mod done;
 mod played;
 mod printing;
 mod running;
-mod summing;
 mod telling;
 
 pub use done::{Done, Text};

@@ -1,21 +1,21 @@
 //! A scenario played to its end, and its report.
-ghost use Rattle.std.specs.Prelude.{◌≡◌, ◌≤◌, ◌^◌, map, IfOk};
+ghost use Rattle.std.specs.Prelude.{◌≡◌, ◌≤◌, ◌^◌, IfOk};
 ghost use Rattle.sc_scenario.specs.Valid.{IsValid};
 ghost use Rattle.sc_world.specs.World.{births, schedule};
 ghost use Rattle.scatter.specs.Played.{IsPlayed};
 ghost use Rattle.scatter.specs.Run.{ReportsAs, said_of};
 
 use crate::done::{Said, Text};
-use crate::summing::summary;
 use crate::telling::tells_full;
-use sc_actor::{Journal, Seat};
+use sc_actor::Journal;
 use sc_base::{OutOfMemory, Sequence};
 use sc_cmd::OrderLine;
 use sc_group_law::{group_journals_are_sound, valid_scenarios_have_one_group};
 use sc_mail::Mail;
+use sc_replay::valid_scenarios_can_play;
 use sc_report::lines;
-use sc_scenario::{Scenario, texts_are_early};
-use sc_world::{Party, births, schedule};
+use sc_scenario::Scenario;
+use sc_world::{Party, births, parties_of, schedule, sum_up};
 use std::alloc::Global;
 
 /// How a scenario was played.
@@ -37,24 +37,12 @@ pub enum Played {
     OutOfMemory,
 }
 
-// The actors without their numbers.
-fn parties_of(alloc: Global, seats: Vec<Seat<Party>>) -> Result<Sequence<Party>, OutOfMemory>
-    ensures { IfOk result (λ parties. parties ≡ map (λ seat. seat.actor) seats.items) }
-{
-    let mut parties = Sequence::new(alloc);
-    for seat in seats {
-        let Seat { actor, .. } = seat;
-        parties.push(actor)?;
-    }
-    Ok(parties)
-}
-
 fn play_out(alloc: Global, scenario: &Scenario, limit: u64) -> Result<Played, OutOfMemory>
     requires valid { IsValid scenario.now }
     requires limit { limit ≤ 2 ^ 30 }
     ensures { IfOk result (λ played. IsPlayed scenario.now limit played) }
 {
-    texts_are_early();
+    valid_scenarios_can_play();
     valid_scenarios_have_one_group();
     group_journals_are_sound();
     let seats = births(alloc, scenario)?;
@@ -111,7 +99,7 @@ pub fn report(alloc: Global, scenario: &Scenario) -> Result<(Said, Text), OutOfM
             journal,
             parties,
         } => {
-            let told = summary(alloc, scenario, &journal, &parties, skipped, quiet)?;
+            let told = sum_up(alloc, scenario, &journal, &parties, skipped, quiet)?;
             let lines = lines(alloc, &told)?;
             let text = Text {
                 lines,

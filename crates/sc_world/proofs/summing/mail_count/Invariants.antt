@@ -1,6 +1,6 @@
 use Rattle.std.proofs.Common.{◌≡◌, length, take}
 use Rattle.sc_actor.specs.Mail.{mails}
-use Rattle.scatter.proofs.summing.mail_count.Given as goal
+use Rattle.sc_world.proofs.summing.mail_count.Given as goal
 
 -- the mails of the rows so far
 abbrev pub invariant-loop-row : goal.invariant-loop-row

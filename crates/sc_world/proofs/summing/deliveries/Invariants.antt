@@ -1,7 +1,7 @@
 use Rattle.std.proofs.Common.{◌≡◌, take}
 use Rattle.std.specs.Prelude.{count_by}
 use Rattle.sc_world.specs.Summary.{is_delivery}
-use Rattle.scatter.proofs.summing.deliveries.Given as goal
+use Rattle.sc_world.proofs.summing.deliveries.Given as goal
 
 -- the deliveries so far
 abbrev pub invariant-loop-row : goal.invariant-loop-row

@@ -1,6 +1,6 @@
 use Rattle.std.proofs.Common.{◌≡◌, map, take}
 use Rattle.sc_world.specs.World.{route_of}
-use Rattle.scatter.proofs.summing.ring_of.Given as goal
+use Rattle.sc_world.proofs.summing.ring_of.Given as goal
 
 -- the routes of the groups so far
 abbrev pub invariant-loop-base : goal.invariant-loop-base

@@ -1,7 +1,7 @@
 use Rattle.std.proofs.Common.{◌≡◌, take}
 use Rattle.std.specs.List.{flat_map}
 use Rattle.sc_world.specs.Summary.{asked_by}
-use Rattle.scatter.proofs.summing.all_asked.Given as goal
+use Rattle.sc_world.proofs.summing.all_asked.Given as goal
 
 -- the requests of the parties so far
 abbrev pub invariant-loop-party : goal.invariant-loop-party

@@ -1,6 +1,6 @@
 use Rattle.std.proofs.Common.{◌≡◌, ◌++◌, drop}
 use Rattle.sc_world.specs.Summary.{asked_from}
-use Rattle.scatter.proofs.summing.add_client.Given as goal
+use Rattle.sc_world.proofs.summing.add_client.Given as goal
 
 -- what was added, and then what is left, are the requests
 abbrev pub invariant-loop-i : goal.invariant-loop-i

@@ -1,5 +1,5 @@
 use Rattle.std.proofs.Common.{◌≡◌, map}
-use Rattle.scatter.proofs.played.parties_of.Given as goal
+use Rattle.sc_world.proofs.summing.parties_of.Given as goal
 
 -- the actors so far
 abbrev pub invariant-loop-seat : goal.invariant-loop-seat

@@ -1,4 +1,4 @@
-//! The summary of a run.
+//! The summary of a journal.
 ghost use Rattle.std.specs.Prelude.{◌≡◌, ◌++◌, map, length, count_by, IfOk, OnOk, slice_get};
 ghost use Rattle.std.specs.List.{flat_map};
 ghost use Rattle.sc_actor.specs.Mail.{mails};
@@ -6,14 +6,15 @@ ghost use Rattle.sc_actor.specs.Walk.{is_quiet, skipped};
 ghost use Rattle.sc_world.specs.World.{system_of, schedule, parties, route_of};
 ghost use Rattle.sc_world.specs.Summary.{summary_of, asked_by, asked_from, asked_after, got_of, is_delivery};
 
-use sc_actor::{Event, Journal, Row};
+use crate::party::Party;
+use crate::seating::route_of;
+use sc_actor::{Event, Journal, Row, Seat};
 use sc_base::{Dup, Op, OutOfMemory, Sequence};
 use sc_client::ClientCore;
 use sc_cmd::{Base, OrderLine, Route};
 use sc_mail::Mail;
 use sc_report::{Asked, Got, Summary};
 use sc_scenario::Scenario;
-use sc_world::Party;
 use std::alloc::Global;
 
 // A count that a report can tell: more than 2^32 - 1 rows or mails have no room in memory.
@@ -86,16 +87,6 @@ fn all_asked(alloc: Global, parties: &[Party]) -> Result<Sequence<Asked>, OutOfM
     Ok(asked)
 }
 
-fn route_of(base: &Base) -> Route
-    ensures { result ≡ route_of base.now }
-{
-    Route {
-        group: base.core.id,
-        lo: base.core.arc.lo(),
-        members: base.core.members,
-    }
-}
-
 fn ring_of(alloc: Global, groups: &[Base]) -> Result<Sequence<Route>, OutOfMemory>
     ensures { IfOk result (λ ring. ring ≡ map route_of groups.now) }
 {
@@ -144,9 +135,21 @@ fn mail_count(rows: &[Row<Mail, OrderLine>]) -> Result<u32, OutOfMemory>
     Ok(total)
 }
 
+/// The actors without their numbers.
+pub fn parties_of(alloc: Global, seats: Vec<Seat<Party>>) -> Result<Sequence<Party>, OutOfMemory>
+    ensures { IfOk result (λ parties. parties ≡ map (λ seat. seat.actor) seats.items) }
+{
+    let mut parties = Sequence::new(alloc);
+    for seat in seats {
+        let Seat { actor, .. } = seat;
+        parties.push(actor)?;
+    }
+    Ok(parties)
+}
+
 /// What the report tells of a journal, with the parties that its rows leave, the lines that were skipped,
 /// and whether no mail is pending.
-pub fn summary(
+pub fn sum_up(
     alloc: Global,
     scenario: &Scenario,
     journal: &Journal<Mail, OrderLine>,

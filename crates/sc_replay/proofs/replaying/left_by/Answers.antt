@@ -1,0 +1,18 @@
+use Rattle.std.proofs.Common.{◌≡◌, true, ◌∙◌, ap, sym, subst}
+use Rattle.std.specs.List.{All}
+use Rattle.sc_actor.specs.System.{system, no_words}
+use Rattle.sc_play.specs.Deeds.{is_built}
+use Rattle.sc_play.specs.Replays.{IsReplayed}
+use Rattle.sc_play.specs.Stages.{are_apart}
+use Rattle.sc_world.specs.World.{party_table, receiver_of, system_of}
+use Rattle.sc_replay.proofs.replaying.left_by.Goals as goal
+
+pub births-requires : goal.births-requires
+births-requires c = (c.valid_scenarios_can_play.ensures c.args.scenario.now c.requires.valid).few
+
+pub replay-requires-clause-apart : goal.replay-requires-clause-apart
+replay-requires-clause-apart c = λ _. ap are_apart c.in_ok-seats.ensures ∙ (c.valid_scenarios_can_play.ensures c.args.scenario.now c.requires.valid).apart
+
+pub replay-requires-clause-built : goal.replay-requires-clause-built
+replay-requires-clause-built c = λ _.
+    subst (All (λ line. is_built line ≡ true)) (sym (c.as_slice.ensures.value ∙ c.in_ok-lines.ensures)) (c.valid_scenarios_can_play.ensures c.args.scenario.now c.requires.valid).built
