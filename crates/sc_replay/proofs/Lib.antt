@@ -1,4 +1,5 @@
 mod Indexed
+mod OrderWords
 mod Births
 mod Lines
 mod Fronts

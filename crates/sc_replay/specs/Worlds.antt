@@ -39,7 +39,7 @@ named_log standing name = log_found standing.rows (group_named name standing.sce
 abbrev pub entries_in : List (Row Mail OrderLine) → Base → List Entry
 entries_in rows base = done_by (group_of base) (decided_log as_nodes base rows)
 
--- the history of the rows (`history` of what is said of journals)
+-- the history of the rows: the requests that took effect, in the order of the rows that decided them
 abbrev pub history_of : Standing → List Entry
 history_of standing = history as_nodes standing.scenario.groups standing.rows
 

@@ -5,7 +5,7 @@ ghost use Rattle.sc_machine_table.specs.Machine.{applied};
 ghost use Rattle.sc_sound.specs.Histories.{entry_of, done_by};
 ghost use Rattle.sc_replay.specs.Worlds.{entries_in, history_of};
 
-use crate::deciding::{SLOTS_AHEAD, log_of_group};
+use crate::deciding::{SLOTS_AHEAD, execute, log_of_group};
 use crate::worlds::World;
 use sc_actor::Row;
 use sc_base::{Dup, OutOfMemory};
@@ -15,7 +15,7 @@ use sc_machine::Machine;
 use sc_mail::Mail;
 use std::alloc::Global;
 
-// One more command is executed; the entry is added that it is, if it took effect. The commands that reshape groups are not built: they do nothing.
+// One more command is executed; the entry is added that it is, if it took effect.
 fn add_entry(
     alloc: Global,
     machine: &mut Machine,
@@ -37,7 +37,7 @@ fn add_entry(
             }
             Ok(())
         }
-        _ => Ok(()),
+        _ => execute(machine, command),
     }
 }
 

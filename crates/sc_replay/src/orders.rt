@@ -23,13 +23,7 @@ fn is_order(line: &SchedLine) -> bool
 pub(crate) fn order_count(lines: &[SchedLine]) -> usize
     ensures { result ≡ count_by is_order lines.now }
 {
-    let mut total = 0usize;
-    for line in lines {
-        if is_order(line) {
-            total += 1;
-        }
-    }
-    total
+    lines.iter().filter(|line| is_order(line)).count()
 }
 
 // The word on an order is kept, if it is the first on it.
@@ -65,6 +59,15 @@ fn note_all(told: &mut [Option<ToldResult>], sent: &[Mail])
     }
 }
 
+fn note_rows(told: &mut [Option<ToldResult>], rows: &[Row<Mail, OrderLine>])
+    ensures len { length told.new ≡ length told.old }
+    ensures kept { (k : ℕ) → k < length told.old → get_or told.new k None ≡ first_of (get_or told.old k None) (told_of (k + 1) (mails rows.now)) }
+{
+    for row in rows {
+        note_all(told, row.sent.as_slice());
+    }
+}
+
 // No order is told of yet.
 fn untold(alloc: Global, count: usize) -> Result<Vec<Option<ToldResult>>, OutOfMemory>
     ensures { IfOk result (λ told. told.items ≡ replicate count None) }
@@ -85,8 +88,6 @@ pub(crate) fn orders_told(
     ensures { IfOk result (λ told. told ≡ orders_told count (mails rows.now)) }
 {
     let mut told = untold(alloc, count)?;
-    for row in rows {
-        note_all(&mut told, row.sent.as_slice());
-    }
+    note_rows(&mut told, rows);
     Ok(Sequence::from_vec(told))
 }

@@ -1,0 +1,36 @@
+-- What mails tell of orders, with one more mail or row.
+use Rattle.std.proofs.Common.{◌≡◌, ℕ, zero, suc, ◌+◌, ◌<◌, List, [], ◌∷◌, ◌++◌, map, length, get_or, Option, Some, None, refl, sym, ap, ◌∙◌, arith}
+use Rattle.sc_mail.specs.declared.bodies.Mail.{Mail}
+use Rattle.sc_node_table.specs.Slots.{numbers}
+use Rattle.sc_sound.specs.Summary.{first_of, told_in, told_of}
+
+first-again : {X : Type 0} (a b c : Option X) → first_of (first_of a b) c ≡ first_of a (first_of b c)
+first-again (Some x) b c = refl
+first-again None b c = refl
+
+first-none : {X : Type 0} (a : Option X) → first_of a None ≡ a
+first-none (Some x) = refl
+first-none None = refl
+
+pub told-append : (number : ℕ) (xs ys : List Mail) → told_of number (xs ++ ys) ≡ first_of (told_of number xs) (told_of number ys)
+told-append number [] ys = refl
+told-append number (x ∷ xs) ys = ap (first_of (told_in number x.body)) (told-append number xs ys) ∙ sym (first-again (told_in number x.body) (told_of number xs) (told_of number ys))
+
+pub told-last : (number : ℕ) (xs : List Mail) (x : Mail) → told_of number (xs ++ x ∷ []) ≡ first_of (told_of number xs) (told_in number x.body)
+told-last number xs x = told-append number xs (x ∷ []) ∙ ap (first_of (told_of number xs)) (first-none (told_in number x.body))
+
+pub first_then : {X : Type 0} (a b c : Option X) → first_of (first_of a b) c ≡ first_of a (first_of b c)
+first_then = first-again
+
+pub first_alone : {X : Type 0} (a : Option X) → first_of a None ≡ a
+first_alone = first-none
+
+pub length-numbered : {X : Type 0} (f : ℕ → X) (from count : ℕ) → length (map f (numbers from count)) ≡ count
+length-numbered f from zero = refl
+length-numbered f from (suc count) = ap suc (length-numbered f (from + 1) count)
+
+-- the place k of what is made of the numbers from one on
+pub get_or-numbered : {X : Type 0} (f : ℕ → X) (from count k : ℕ) (d : X) → k < count → get_or (map f (numbers from count)) k d ≡ f (from + k)
+get_or-numbered f from zero k d lt = absurd (omega (arith, lt))
+get_or-numbered f from (suc count) zero d lt = ap f (omega arith)
+get_or-numbered f from (suc count) (suc k) d lt = get_or-numbered f (from + 1) count k d (omega (arith, lt)) ∙ ap f (omega arith)
