@@ -67,11 +67,11 @@ IsSameGroup one other = (one.id ≡ other.id) × (one.first ≡ other.first)
 same_core : (one other : Core) → one ≡ other → IsSameGroup one other
 same_core one other e = (ap (λ (c : Core). c.id) e, ap (λ (c : Core). c.first) e)
 
-divided_same : (group : Group) (at : ℕ) (child : Draw) (order : ℕ) → IsSameGroup (divided group at child order).0.core group.core
-divided_same group at child order =
+divided_same : (why : Option OrderRefusal) (group : Group) (at : ℕ) (child : Draw) → IsSameGroup (divided why group at child).0.core group.core
+divided_same why group at child =
     cond_either (λ x. IsSameGroup x.core group.core) (has_named group.core child) (group, NoEffect child)
-    (ordered group.core.gone (refusal_of group.core (Split at child order)) (left_group group at child) group) (refl, refl)
-    (ordered_either (λ x. IsSameGroup x.core group.core) group.core.gone (refusal_of group.core (Split at child order)) (left_group group at child) group (refl, refl) (refl, refl))
+    (ordered group.core.gone why (left_group group at child) group) (refl, refl)
+    (ordered_either (λ x. IsSameGroup x.core group.core) group.core.gone why (left_group group at child) group (refl, refl) (refl, refl))
 
 applied_same : (group : Group) (c : Command) → IsSameGroup (applied group c).0.core group.core
 applied_same group (Call client seq op) = same_core _ _ (called_core group.core.gone group.core.lock group client seq op)
@@ -80,7 +80,7 @@ applied_same group (Join node order) =
 applied_same group (Leave node order) =
     ordered_either (λ x. IsSameGroup x.core group.core) group.core.gone (refusal_of group.core (Leave node order)) (without_node group node) group (refl, refl) (refl, refl)
 applied_same group (Split at child order) =
-    cond_either (λ x. IsSameGroup x.core group.core) (is_alone group.core) (divided group at child order) (group, Idle) (divided_same group at child order) (refl, refl)
+    cond_either (λ x. IsSameGroup x.core group.core) (is_alone group.core) (divided (refusal_of group.core (Split at child order)) group at child) (group, Idle) (divided_same (refusal_of group.core (Split at child order)) group at child) (refl, refl)
 applied_same group _ = (refl, refl)
 
 -- whatever a group executes, it keeps its name and its first leader
