@@ -3,7 +3,6 @@ ghost use Rattle.std.specs.Prelude.{◌≡◌, ◌+◌, ◌<◌, ◌||◌, not, 
 ghost use Rattle.sc_member.specs.Roster.{is_member};
 ghost use Rattle.sc_cmd.specs.declared.commands.Command.TheVariants.{Call};
 ghost use Rattle.sc_machine_table.specs.Machine.{applied};
-ghost use Rattle.sc_machine_table.specs.Orders.{is_alone};
 ghost use Rattle.sc_node_table.specs.Replica.{next, members, last_slot};
 ghost use Rattle.sc_node_table.specs.Execute.{entered, answer_of, told_call, told, learnt_to, welcomed, lost, landed, left_gone, left, is_among, looked, executed_one, next_ready, executed_ready, executed};
 
@@ -13,42 +12,20 @@ use crate::orders::result_of;
 use crate::replica::{LAST_SLOT, Replica};
 use crate::same::same_command;
 use sc_base::{Dup, OutOfMemory, Sequence, dup_found};
-use sc_cmd::{Command, Core, Effect, same_draw};
+use sc_cmd::{Command, Effect};
 use sc_machine::Machine;
 use sc_mail::{AnswerBody, Mail};
 use sc_member::Members;
 use std::alloc::Global;
 
-/// Whether a group is its own successor.
-fn is_alone(core: &Core) -> bool
-    ensures { result ≡ is_alone core.now }
-{
-    same_draw(core.succ.group, core.id)
-}
-
-/// One command on the group. The split of a group that has another successor, and the commands of transactions, are not built yet: they do nothing.
+/// One command on the group. What the machine does not carry out yet, the split of a group that has another successor and the commands of transactions, does nothing.
 fn apply(machine: &mut Machine, command: &Command) -> Result<Effect, OutOfMemory>
     ensures { IfOk result (λ effect. applied machine.old command.now ≡ (machine.new, effect)) }
 {
-    match command {
-        Command::Noop | Command::Call { .. } | Command::Join { .. } | Command::Leave { .. } => {
-            machine.apply(command)
-        }
-        Command::Split { .. } => {
-            if is_alone(machine.core()) {
-                machine.apply(command)
-            } else {
-                Ok(Effect::Idle)
-            }
-        }
-        Command::Begin { .. }
-        | Command::Prepared { .. }
-        | Command::RecordVote { .. }
-        | Command::GiveUp { .. }
-        | Command::Finish { .. }
-        | Command::Watched { .. }
-        | Command::RecordWatch { .. } => Ok(Effect::Idle),
+    if machine.can_apply(command) {
+        return machine.apply(command);
     }
+    Ok(Effect::Idle)
 }
 
 /// What the effect of a call tells its client; no answer where the call has to wait.
