@@ -294,6 +294,19 @@ const FIFTH_WAITS: &[u8] =
 const FIFTH_WAITS_REPORT: &[u8] =
     b"scatter report 1\nunanswered 1 1 put\nunanswered 2 1 put\nunanswered 3 1 put\nunanswered 4 1 put\nunanswered 5 1 put\nring 0 group 0.1 members 1\nrows 10\nmail 9\ndelivered 5\nskipped 0\nquiet no\n";
 
+// A node joins, the leader leaves, and the other serves a request.
+const LEADER_LEAVES: &[u8] =
+    b"scatter 1\nnodes 2\ngroup 0 1\nclient 1\nput a x\nend\norder 1 join 2 0.1\nsettle 100\norder 1 leave 1 0.1\nsettle 100\ngo 1\nsettle 100\n";
+
+const LEADER_LEAVES_REPORT: &[u8] =
+    b"scatter report 1\nreply 1 1 put none\norder 1 done\norder 2 done\nring 0 group 0.1 members 2\nrows 19\nmail 19\ndelivered 16\nskipped 0\nquiet yes\n";
+
+const JOIN_LEAVE_REFUSALS: &[u8] =
+    b"scatter 1\nnodes 2\ngroup 0 1\norder 2 join 2 0.1\norder 1 join 1 0.1\norder 1 leave 2 0.1\norder 1 leave 1 0.1\n";
+
+const JOIN_LEAVE_REFUSALS_REPORT: &[u8] =
+    b"scatter report 1\norder 1 refused 1 not-leader\norder 2 refused 9 is-member\norder 3 refused 6 not-member\norder 4 refused 7 last-member\nring 0 group 0.1 members 1\nrows 4\nmail 4\ndelivered 0\nskipped 0\nquiet yes\n";
+
 fn check_row(
     rt: &impl Abort,
     alloc: Global,
@@ -313,7 +326,7 @@ fn check_row(
 
 #[test]
 fn rows_of_one_group(rt: HostRuntime) -> Result<(), Fail> {
-    let rows: [(&'static [u8], u8, &'static [u8]); 8] = [
+    let rows: [(&'static [u8], u8, &'static [u8]); 10] = [
         (ONE_CRASHED, 0, ONE_CRASHED_REPORT),
         (MAJORITY_CRASHED, 0, MAJORITY_CRASHED_REPORT),
         (ACCEPT_THRICE, 0, ACCEPT_THRICE_REPORT),
@@ -322,6 +335,8 @@ fn rows_of_one_group(rt: HostRuntime) -> Result<(), Fail> {
         (PUT_PUT_DEL_GET, 0, PUT_PUT_DEL_GET_REPORT),
         (FOUR_UNANSWERED, 6, FOUR_UNANSWERED_REPORT),
         (FIFTH_WAITS, 0, FIFTH_WAITS_REPORT),
+        (LEADER_LEAVES, 0, LEADER_LEAVES_REPORT),
+        (JOIN_LEAVE_REFUSALS, 0, JOIN_LEAVE_REFUSALS_REPORT),
     ];
     for row in &rows {
         check_row(&rt, rt.alloc(), row)?;
