@@ -1,14 +1,17 @@
 //! Journals that were played, replayed whole and with one row changed, and what a replay says of them.
+ghost use Rattle.std.specs.Prelude.{◌≡◌, IfOk};
+ghost use Rattle.sc_scenario.specs.Valid.{IsValid};
+
 use crate::played::{Played, play};
 use sc_actor::{Event, Journal, Row};
-use sc_base::{Draw, Dup, Op, Sequence};
+use sc_base::{Draw, Op, Sequence};
 use sc_cmd::{Command, OrderLine};
 use sc_ideal::Entry;
 use sc_mail::Mail;
 use sc_play::are_few;
-use sc_replay::{ReplayFault, decided_log, history, replay_rows, summary};
+use sc_replay::{ReplayFault, World, decided_log, history, replay_rows, summary};
 use sc_report::lines;
-use sc_scenario::read_scenario;
+use sc_scenario::{Scenario, read_scenario};
 use sc_world::Party;
 use std::alloc::Global;
 use std::mem;
@@ -156,32 +159,29 @@ fn a_played_journal_is_replayed_and_a_changed_row_is_named(rt: HostRuntime) -> R
     Ok(())
 }
 
-// Whether a command is the request of client 1 with a number.
-fn is_call(command: &Command, number: u32, wanted: &Op) -> bool {
-    match command {
-        Command::Call { client, seq, op } => *client == 1 && *seq == number && op == wanted,
-        _ => false,
+// The world of a journal of a scenario.
+fn replayed<'a>(
+    alloc: Global,
+    scenario: &'a Scenario,
+    journal: &'a Journal<Mail, OrderLine>,
+) -> Result<World<'a>, Fail>
+    requires { IsValid scenario.now }
+    ensures { IfOk result (λ world. world.scenario ≡ scenario.now) }
+{
+    if !are_few(journal.as_slice()) {
+        return Err(Fail::from("too many rows"));
     }
-}
-
-fn is_entry(entry: &Entry, number: u32, wanted: &Op, old: Option<&[u8]>) -> bool {
-    let told = match &entry.reply.old {
-        Some(value) => Some(value.bytes()),
-        None => None,
-    };
-    entry.client == 1 && entry.seq == number && &entry.op == wanted && told == old
+    match replay_rows(alloc, scenario, journal) {
+        Ok(world) => Ok(world),
+        Err(_) => Err(Fail::from("the rows are not lawful")),
+    }
 }
 
 // The text of a report.
 fn report_of(alloc: Global, input: &[u8]) -> Result<Vec<u8>, Fail> {
     let scenario = read_scenario(alloc, input)?;
     let journal = Journal::from_vec(played(alloc, input)?);
-    if !are_few(journal.as_slice()) {
-        return Err(Fail::from("too many rows"));
-    }
-    let Ok(world) = replay_rows(alloc, &scenario, &journal) else {
-        return Err(Fail::from("the rows are not lawful"));
-    };
+    let world = replayed(alloc, &scenario, &journal)?;
     let told = summary(alloc, &scenario, &world)?;
     let mut text = Vec::new(alloc);
     for line in lines(alloc, &told)?.as_slice() {
@@ -204,42 +204,109 @@ fn a_replay_tells_the_report_of_its_rows(rt: HostRuntime) -> Result<(), Fail> {
     Ok(())
 }
 
-// The requests of the scenario that puts and gets.
-fn asked(alloc: Global) -> Result<(Op, Op), Fail> {
-    let scenario = read_scenario(alloc, PUT_GET)?;
-    let Some(asks) = scenario.clients.as_slice().first() else {
-        return Err(Fail::from("no client"));
-    };
-    let ops = asks.ops.as_slice();
-    if ops.len() != 2 {
-        return Err(Fail::from("not two requests"));
+// What was asked as the request of client 1 with a number, from 1.
+fn asked(scenario: &Scenario, number: u32) -> Option<&Op> {
+    let asks = scenario.clients.as_slice().first()?;
+    asks.ops.as_slice().get(number.checked_sub(1)? as usize)
+}
+
+// The number of a command that is that request of client 1, or 0.
+fn number_of(scenario: &Scenario, command: &Command) -> u32 {
+    match command {
+        Command::Call { client, seq, op } => {
+            if *client == 1 && asked(scenario, *seq) == Some(op) {
+                *seq
+            } else {
+                0
+            }
+        }
+        _ => 0,
     }
-    Ok((ops[0].dup(alloc)?, ops[1].dup(alloc)?))
+}
+
+// The numbers of the decided log of a group.
+fn logged(alloc: Global, input: &[u8], group: Draw) -> Result<Vec<u32>, Fail> {
+    let scenario = read_scenario(alloc, input)?;
+    let journal = Journal::from_vec(played(alloc, input)?);
+    let world = replayed(alloc, &scenario, &journal)?;
+    let mut numbers = Vec::new(alloc);
+    for command in decided_log(alloc, &world, group)?.as_slice() {
+        numbers.push(number_of(&scenario, command))?;
+    }
+    Ok(numbers)
 }
 
 #[test]
-fn a_put_and_a_get_are_decided_and_told_in_order(rt: HostRuntime) -> Result<(), Fail> {
-    let alloc = rt.alloc();
-    let (put, get) = asked(alloc)?;
-    let scenario = read_scenario(alloc, PUT_GET)?;
-    let journal = Journal::from_vec(played(alloc, PUT_GET)?);
-    if !are_few(journal.as_slice()) {
-        return Err(Fail::from("too many rows"));
-    }
-    let Ok(world) = replay_rows(alloc, &scenario, &journal) else {
-        return Err(Fail::from("the rows are not lawful"));
-    };
-    let log = decided_log(alloc, &world, Draw { node: 0, count: 1 })?;
-    assert_eq!(rt; log.len(), 2);
-    assert!(rt; is_call(&log[0], 1, &put));
-    assert!(rt; is_call(&log[1], 2, &get));
-    let none = decided_log(alloc, &world, Draw { node: 1, count: 1 })?;
+fn a_put_and_a_get_are_decided_in_order(rt: HostRuntime) -> Result<(), Fail> {
+    let first = logged(rt.alloc(), PUT_GET, Draw { node: 0, count: 1 })?;
+    assert_eq!(rt; first.as_slice(), [1, 2].as_slice());
+    let none = logged(rt.alloc(), PUT_GET, Draw { node: 1, count: 1 })?;
     assert!(rt; none.is_empty());
-    let entries = history(alloc, &world)?;
-    assert_eq!(rt; entries.len(), 2);
-    assert!(rt; is_entry(&entries[0], 1, &put, None));
-    assert!(rt; is_entry(&entries[1], 2, &get, Some(b"x".as_slice())));
-    assert_eq!(rt; world.parties().len(), 2);
-    assert!(rt; matches!(&world.parties()[1], Party::Client(client) if client.waiting().is_none()));
+    Ok(())
+}
+
+// The number of an entry that is that request of client 1 with the value that it found, or 0.
+fn entry_number(scenario: &Scenario, found: &[Option<&[u8]>], entry: &Entry) -> u32 {
+    let old = match &entry.reply.old {
+        Some(value) => Some(value.bytes()),
+        None => None,
+    };
+    let is_asked = entry.client == 1 && asked(scenario, entry.seq) == Some(&entry.op);
+    let at = entry.seq.saturating_sub(1) as usize;
+    if is_asked && found.get(at) == Some(&old) {
+        entry.seq
+    } else {
+        0
+    }
+}
+
+// The numbers of a history, whose requests found these values.
+fn told(alloc: Global, input: &[u8], found: &[Option<&[u8]>]) -> Result<Vec<u32>, Fail> {
+    let scenario = read_scenario(alloc, input)?;
+    let journal = Journal::from_vec(played(alloc, input)?);
+    let world = replayed(alloc, &scenario, &journal)?;
+    let mut numbers = Vec::new(alloc);
+    for entry in history(alloc, &world)?.as_slice() {
+        numbers.push(entry_number(&scenario, found, entry))?;
+    }
+    Ok(numbers)
+}
+
+#[test]
+fn a_put_finds_nothing_and_a_get_finds_what_was_put(rt: HostRuntime) -> Result<(), Fail> {
+    let found = [None, Some(b"x".as_slice())];
+    let numbers = told(rt.alloc(), PUT_GET, &found)?;
+    assert_eq!(rt; numbers.as_slice(), [1, 2].as_slice());
+    Ok(())
+}
+
+// How many nodes a replay leaves, how many clients, and how many of these await an answer.
+fn left_of(parties: &[Party]) -> (u32, u32, u32) {
+    let (mut nodes, mut clients, mut waiting) = (0u32, 0u32, 0u32);
+    for party in parties {
+        match party {
+            Party::Node(_) => nodes = nodes.saturating_add(1),
+            Party::Client(client) => {
+                clients = clients.saturating_add(1);
+                if client.waiting().is_some() {
+                    waiting = waiting.saturating_add(1);
+                }
+            }
+        }
+    }
+    (nodes, clients, waiting)
+}
+
+fn left(alloc: Global, input: &[u8]) -> Result<(u32, u32, u32), Fail> {
+    let scenario = read_scenario(alloc, input)?;
+    let journal = Journal::from_vec(played(alloc, input)?);
+    let world = replayed(alloc, &scenario, &journal)?;
+    Ok(left_of(world.parties()))
+}
+
+#[test]
+fn a_replay_leaves_each_node_and_client_where_its_rows_do(rt: HostRuntime) -> Result<(), Fail> {
+    assert_eq!(rt; left(rt.alloc(), PUT_GET)?, (1, 1, 0));
+    assert_eq!(rt; left(rt.alloc(), CUT_SHORT)?, (1, 1, 1));
     Ok(())
 }
