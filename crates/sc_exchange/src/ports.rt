@@ -3,7 +3,8 @@ ghost use Rattle.std.specs.Prelude.{◌≡◌, ◌≢◌, ◌++◌, ◌∷◌, [
 ghost use Rattle.std.specs.List.{list_any};
 ghost use Rattle.sc_turn.specs.Seats.{known, AllJoined};
 ghost use Rattle.sc_turn.specs.Turn.{rows_by, longer, StartsWith, StartsWith as Begins, IsTrueOf};
-ghost use Rattle.sc_actor.specs.Mail.{is_crash};
+ghost use Rattle.std.specs.Option.{option_map};
+ghost use Rattle.sc_actor.specs.Mail.{is_crash, mails, numbered};
 ghost use Rattle.sc_actor.specs.Counted.{row_bytes, journal_bytes};
 ghost use Rattle.sc_ledger.specs.Fault.{IsCause};
 ghost use Rattle.sc_ledger.specs.Pending.{kth_pending, is_pending, may_repeat};
@@ -15,7 +16,7 @@ ghost use Rattle.sc_exchange.specs.Answers.{IsFetch, IsLook, number_of};
 
 use crate::answers::{Fetched, Unposted};
 use crate::deeds::Exchange;
-use crate::turns::{any_at, change_at, fetch_at, kth_at, look_at, post_at};
+use crate::turns::{any_at, change_at, fetch_at, kth_at, look_at, post_at, receiver_at};
 use sc_actor::{Event, Journal, Parcel, Row};
 use sc_base::{OutOfMemory, Sequence};
 use sc_ledger::{Look, Unkept};
@@ -184,6 +185,15 @@ impl<M: Parcel + Drop, O: Drop> Port<M, O> {
         ensures kth { result ≡ kth_pending M.receiver self.old.actors (seen self.new) who k }
     {
         kth_at(rt, &mut self.seat, self.actors, who, k)
+    }
+
+    /// To whom the mail with this number goes. None exactly where at this turn it was not sent.
+    pub fn receiver<R: Wait>(&mut self, rt: &R, number: u32) -> Option<u32>
+        ensures looked { Looked self.old self.new × IsTrue self.new × (self.new.fetched ≡ self.old.fetched) × (self.new.crashed ≡ self.old.crashed) }
+        ensures addressed { IsAddressed self.new }
+        ensures receiver { result ≡ option_map M.receiver (numbered (mails (seen self.new)) number) }
+    {
+        receiver_at(rt, &mut self.seat, number)
     }
 
     /// Whether at this turn mail is pending for one of these actors.

@@ -9,7 +9,8 @@ ghost use Rattle.sc_ledger.specs.Pending.{kth_pending};
 ghost use Rattle.sc_exchange.specs.declared.deeds.Deed.{Deed};
 ghost use Rattle.sc_exchange.specs.Deeds.{deeds, rows_from};
 ghost use Rattle.sc_exchange.specs.Answers.{IsFetch, IsLook};
-ghost use Rattle.sc_actor.specs.Mail.{mails};
+ghost use Rattle.std.specs.Option.{option_map};
+ghost use Rattle.sc_actor.specs.Mail.{mails, numbered};
 ghost use Rattle.sc_exchange.specs.Addressed.{is_addressed, all_addressed};
 ghost use Rattle.sc_exchange.specs.Turns.{Turned, RowTurned, Changed, may_change, change};
 
@@ -65,6 +66,24 @@ pub(crate) fn kth_at<M: Parcel + Drop, O: Drop, R: Wait>(
 {
     let exchange = seat.enter(rt);
     let found = exchange.ledger.kth(actors, who, k);
+    keep_same(seat, exchange);
+    found
+}
+
+/// To whom a mail goes, if at this turn it was sent.
+pub(crate) fn receiver_at<M: Parcel + Drop, O: Drop, R: Wait>(
+    rt: &R,
+    seat: &mut TurnSeat<Exchange<M, O>>,
+    number: u32,
+) -> Option<u32>
+    requires turn { (known seat.old).turn ≡ false }
+    ensures start { OfOneStart seat.old seat.new }
+    ensures addressed { all_addressed M.receiver [] (rows_from (known seat.new).seen) ≡ true }
+    ensures turned { Turned (known seat.old) (known seat.new) }
+    ensures receiver { result ≡ option_map M.receiver (numbered (mails (rows_from (known seat.new).seen)) number) }
+{
+    let exchange = seat.enter(rt);
+    let found = exchange.ledger.receiver(number);
     keep_same(seat, exchange);
     found
 }

@@ -6,6 +6,7 @@ use Rattle.std.proofs.lemmas.List.{length-map}
 use Rattle.std.proofs.lemmas.Bool.Decides.{nat_tests}
 use Rattle.std.proofs.lemmas.List.Folds.{list_any-append}
 use Rattle.std.specs.List.{list_any}
+use Rattle.std.specs.Option.{option_map}
 use Rattle.std.specs.Prelude.{slice_get, IsSome, IfSome}
 use Rattle.sc_actor.specs.declared.rows.Row.{Row}
 use Rattle.sc_actor.specs.Mail.{mails, copies, numbers, numbered, may_get, is_for}
@@ -128,6 +129,18 @@ module _ {M O : Type 0} (receiver : M → ℕ) (actors : ℕ) (rows : List (Row 
   get_map [] place t u same lt = absurd (omega arith)
   get_map (m ∷ sent) zero t u same lt = same m
   get_map (m ∷ sent) (suc place) t u same lt = get_map sent place t u same (omega arith)
+
+  some_map : (sent : List M) (place : ℕ) → place < length sent → Some (get_or (map receiver sent) place 0) ≡ option_map receiver (slice_get sent place)
+  some_map [] place lt = absurd (omega arith)
+  some_map (m ∷ sent) zero lt = refl
+  some_map (m ∷ sent) (suc place) lt = some_map sent place (omega arith)
+
+  -- to whom a mail goes
+  pub receiver_here : (number : ℕ) (receivers : List ℕ) → receivers ≡ map receiver (mails rows) → 0 < number → number ≤ length receivers → Some (get_or receivers (number - 1) 0) ≡ option_map receiver (numbered (mails rows) number)
+  receiver_here zero receivers is some fits = absurd (omega arith)
+  receiver_here (suc place) receivers is some fits =
+      let minus : suc place - 1 ≡ place = omega arith in
+      (λ i. Some (get_or (is i) (minus i) 0)) ∙ some_map (mails rows) place (omega (arith, fits, ap length is, length-map (mails rows) receiver))
 
   -- the test of the code, at a mail that was sent
   pub repeat_here : (number : ℕ) (receivers crashed : List ℕ) → receivers ≡ map receiver (mails rows) → crashed ≡ crashed_in rows → 0 < number → number ≤ length receivers →

@@ -1,5 +1,6 @@
 //! The ledger.
 ghost use Rattle.std.specs.Prelude.{◌≡◌, ◌<◌, ◌≤◌, ◌+◌, ◌^◌, ◌++◌, ◌∷◌, [], map, length, Some, All, IfOk, OnOk, IfErr, IfSome, IsSome, slice_get, vec_len, vec_capacity};
+ghost use Rattle.std.specs.Option.{option_map};
 ghost use Rattle.std.proofs.Props.{props};
 ghost use Rattle.sc_actor.specs.Mail.{mails, copies, numbered, numbers};
 ghost use Rattle.sc_actor.specs.System.{kth};
@@ -169,6 +170,17 @@ impl<M: Parcel + Drop, O: Drop> Ledger<M, O> {
         let first = self.firsts[home] as usize;
         let row = &self.rows[home];
         Ok(row.sent.at(place - first).dup(alloc)?)
+    }
+
+    /// To whom the mail with this number goes. None where it was not sent.
+    pub fn receiver(&self, number: u32) -> Option<u32>
+        ensures { result ≡ option_map M.receiver (numbered (mails self.now.rows.items) number) }
+    {
+        let number = number as usize;
+        if number == 0 || number > self.receivers.len() {
+            return None;
+        }
+        Some(self.receivers[number - 1])
     }
 
     /// Whether the mail with this number was sent to an actor that has not crashed.

@@ -33,7 +33,7 @@ use Rattle.sc_workers.proofs.Serving.{count_later, list_same, net_same}
 -- lists
 module _ {X : Type 0} where
   -- a front of a list with one more at its end is the whole, or a front without it
-  prefix_snoc : (xs front : List X) (y : X) → StartsWith (xs ++ y ∷ []) front → (front ≡ xs ++ y ∷ []) ⊎ StartsWith xs front
+  pub prefix_snoc : (xs front : List X) (y : X) → StartsWith (xs ++ y ∷ []) front → (front ≡ xs ++ y ∷ []) ⊎ StartsWith xs front
   prefix_snoc xs [] y p = inr (xs, refl)
   prefix_snoc [] (f ∷ front) y p = by front p.0 p.1
     where
@@ -46,7 +46,7 @@ module _ {X : Type 0} where
       ⊎_elim (λ e. inl (λ i. sym head i ∷ e i)) (λ q. inr (q.0, λ i. head i ∷ q.1 i)) (prefix_snoc xs front y (p.0, tail))
 
   -- where one list is cut at an element in one way and begins with a list in another, the element is in that front, or behind it
-  cut_in : (front more before after : List X) (x : X) → front ++ more ≡ before ++ x ∷ after → ((rest : List X) × (front ≡ before ++ x ∷ rest)) ⊎ StartsWith before front
+  pub cut_in : (front more before after : List X) (x : X) → front ++ more ≡ before ++ x ∷ after → ((rest : List X) × (front ≡ before ++ x ∷ rest)) ⊎ StartsWith before front
   cut_in [] more before after x e = inr (before, refl)
   cut_in (f ∷ front) more [] after x e = inl (front, (let same : f ≡ x = cc in ap (λ z. z ∷ front) same))
   cut_in (f ∷ front) more (b ∷ before) after x e =
@@ -55,7 +55,7 @@ module _ {X : Type 0} where
       ⊎_elim (λ q. inl (q.0, λ i. head i ∷ q.1 i)) (λ q. inr (q.0, λ i. sym head i ∷ q.1 i)) (cut_in front more before after x tail)
 
 module _ {M O : Type 0} where
-  count_split : (n : ℕ) (before after : List (Row M O)) (row : Row M O) → row.who ≡ n → length (rows_of n (before ++ row ∷ after)) ≡ length (rows_of n before) + (1 + length (rows_of n after))
+  pub count_split : (n : ℕ) (before after : List (Row M O)) (row : Row M O) → row.who ≡ n → length (rows_of n (before ++ row ∷ after)) ≡ length (rows_of n before) + (1 + length (rows_of n after))
   count_split n [] after row is = ap (λ b. length (cond b (row ∷ rows_of n after) (rows_of n after))) (eq-eqb row.who n is) ∙ omega arith
   count_split n (x ∷ before) after row is = let e = count_split n before after row is in
       elim (eqb x.who n) as (λ b. length (cond b (x ∷ rows_of n (before ++ row ∷ after)) (rows_of n (before ++ row ∷ after))) ≡ length (cond b (x ∷ rows_of n before) (rows_of n before)) + (1 + length (rows_of n after))) [ true ↦ omega (arith, e) | false ↦ e ]

@@ -13,7 +13,7 @@ use Rattle.sc_shell.specs.declared.turns.Turn.{Turn}
 use Rattle.sc_shell.specs.declared.turns.Turn.TheVariants.{Full as RefusedFull}
 use Rattle.sc_workers.specs.declared.answers.Rounds.{Rounds}
 use Rattle.sc_workers.specs.declared.answers.Rounds.TheVariants.{Quiet, Limit, Full, OutOfMemory}
-use Rattle.sc_workers.specs.Crews.{rows_made}
+use Rattle.sc_workers.specs.Crews.{rows_made, AllSound}
 use Rattle.sc_workers.specs.Services.{AllServe}
 use Rattle.sc_workers.specs.Ends.{any_waits, IsFull, IsEnd, StepEnd, RefusedEnd, IsGathered, IfCalm, IfHeld}
 
@@ -46,13 +46,13 @@ module _ {A M O : Type 0} {g : Ghosts A M O} {h : MailGhosts M} where
   step_from (Some OutOfMemory) net first mid ss whos limit used f p = tt
 
   pub end_so : (r : Rounds) (net : Port M O h) (first mid ss : List (Shell A M O g h)) (whos all : List ℕ) (limit used : ℕ) → StepEnd r net mid ss whos limit used → whos ≡ all → used ≤ limit → rows_made ss ≡ rows_made first + used
-      → ((bytes : ℕ) → IsFull mid net ss bytes → IsFull first net ss bytes) → IfHeld (Some r) (AllServe net first) → IsEnd r net first ss all limit
-  end_so (Quiet told) net first mid ss whos all limit used p same fits count f served =
-      (p.0, ap (any_waits net) (sym same) ∙ p.1, subst (λ n. n ≤ limit) (sym p.2) fits, count ∙ ap (λ n. rows_made first + n) (sym p.2), served)
-  end_so (Limit told) net first mid ss whos all limit used p same fits count f served =
-      (p.0, ap (any_waits net) (sym same) ∙ p.1, p.2 ∙ p.3, count ∙ ap (λ n. rows_made first + n) (sym p.2), served)
-  end_so (Full bytes) net first mid ss whos all limit used p same fits count f served = (p.0, f bytes p.1, omega (arith, count, p.2), served)
-  end_so OutOfMemory net first mid ss whos all limit used p same fits count f served = tt
+      → ((bytes : ℕ) → IsFull mid net ss bytes → IsFull first net ss bytes) → IfHeld (Some r) (AllServe net first) → IfCalm (Some r) (AllSound ss) → IsEnd r net first ss all limit
+  end_so (Quiet told) net first mid ss whos all limit used p same fits count f served sound =
+      (p.0, ap (any_waits net) (sym same) ∙ p.1, subst (λ n. n ≤ limit) (sym p.2) fits, count ∙ ap (λ n. rows_made first + n) (sym p.2), served, sound)
+  end_so (Limit told) net first mid ss whos all limit used p same fits count f served sound =
+      (p.0, ap (any_waits net) (sym same) ∙ p.1, p.2 ∙ p.3, count ∙ ap (λ n. rows_made first + n) (sym p.2), served, sound)
+  end_so (Full bytes) net first mid ss whos all limit used p same fits count f served sound = (p.0, f bytes p.1, omega (arith, count, p.2), served)
+  end_so OutOfMemory net first mid ss whos all limit used p same fits count f served sound = tt
 
 -- a claim on a calm round
 pub calm_maps : {P Q : Type 0} (r : Option Rounds) → (P → Q) → IfCalm r P → IfCalm r Q
@@ -89,3 +89,10 @@ refused_held (Quiet used) refused net ss f e = absurd e
 refused_held (Limit used) refused net ss f e = absurd e
 refused_held (Full bytes) refused net ss f e = f e.1
 refused_held OutOfMemory refused net ss f e = tt
+
+pub calm_of : (P : Type 0) (r : Option Rounds) → P → IfCalm r P
+calm_of P None p = p
+calm_of P (Some (Quiet used)) p = p
+calm_of P (Some (Limit used)) p = p
+calm_of P (Some (Full bytes)) p = tt
+calm_of P (Some OutOfMemory) p = tt

@@ -57,7 +57,7 @@ is_some_is None e = absurd (true≢false (sym e))
 is_some_is (Some n) e = (n, refl)
 
 module _ {M O : Type 0} {h : MailGhosts M} where
-  crashed_is : (p : Port M O h) → p.crashed ≡ list_any (λ (row : Row M O). is_crash row.event) (made p)
+  pub crashed_is : (p : Port M O h) → p.crashed ≡ list_any (λ (row : Row M O). is_crash row.event) (made p)
   crashed_is p = p.halted ∙ sym (crash_rows p.who (known p.seat).made)
 
   -- the network's rows in a list between what its port has seen before and later, where it made none

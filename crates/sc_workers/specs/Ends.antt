@@ -16,7 +16,7 @@ use Rattle.sc_shell.specs.declared.turns.Turn.TheVariants.{Full as RefusedFull}
 use Rattle.sc_shell.specs.Shells.{IsReplay}
 use Rattle.sc_workers.specs.declared.answers.Rounds.{Rounds}
 use Rattle.sc_workers.specs.declared.answers.Rounds.TheVariants.{Quiet, Limit, Full, OutOfMemory}
-use Rattle.sc_workers.specs.Crews.{AllOver, rows_made}
+use Rattle.sc_workers.specs.Crews.{AllOver, AllSound, rows_made}
 use Rattle.sc_workers.specs.Services.{AllServe}
 
 -- whether, after what the port has seen, mail is pending for one of these actors
@@ -44,8 +44,8 @@ module _ {A M O : Type 0} {g : Ghosts A M O} {h : MailGhosts M} where
 
   -- Quiet where nothing is pending for the shells' actors, Limit where all deliveries were used and mail is pending. `used` counts the rows that the shells made since the start, which are fewer than the deliveries where a row was refused. But for want of memory the port has seen all that the shells have, and each row that they made delivers what was its actor's first pending mail.
   abbrev pub IsEnd : Rounds → Port M O h → List (Shell A M O g h) → List (Shell A M O g h) → List ℕ → ℕ → Type 0
-  IsEnd (Quiet used) net start ss whos limit = AllOver net ss × (any_waits net whos ≡ false) × (used ≤ limit) × (rows_made ss ≡ rows_made start + used) × AllServe net start
-  IsEnd (Limit used) net start ss whos limit = AllOver net ss × (any_waits net whos ≡ true) × (used ≡ limit) × (rows_made ss ≡ rows_made start + used) × AllServe net start
+  IsEnd (Quiet used) net start ss whos limit = AllOver net ss × (any_waits net whos ≡ false) × (used ≤ limit) × (rows_made ss ≡ rows_made start + used) × AllServe net start × AllSound ss
+  IsEnd (Limit used) net start ss whos limit = AllOver net ss × (any_waits net whos ≡ true) × (used ≡ limit) × (rows_made ss ≡ rows_made start + used) × AllServe net start × AllSound ss
   IsEnd (Full bytes) net start ss whos limit = AllOver net ss × IsFull start net ss bytes × (rows_made ss < rows_made start + limit) × AllServe net start
   IsEnd OutOfMemory net start ss whos limit = ⊤
 

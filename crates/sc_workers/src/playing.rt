@@ -125,7 +125,7 @@ fn step<A: Actor, G: Gate, R: Threads + Wait + Sync>(
     ensures count { rows_made shells.new.items + used.old ≡ rows_made shells.old.items + used.new }
     ensures serves { IfCalm result (used.old < used.new) }
     ensures served { IfHeld result (AllServe net.new shells.old.items) }
-    ensures sound { result ≡ None → AllSound shells.new.items }
+    ensures sound { IfCalm result (AllSound shells.new.items) }
     ensures begin { result ≡ None → CanBegin net.new shells.new.items whos.now × (used.new < limit) }
     ensures end { IfSome result (λ answer. StepEnd answer net.new shells.old.items shells.new.items whos.now limit used.new) }
 {

@@ -1,14 +1,14 @@
 use Rattle.std.proofs.Common.{rules, ◌≡◌, ◌+◌, Option, None, Some, ◌∙◌, sym, subst, arith}
 use Rattle.sc_shell.proofs.Taking.{looked_trans}
-use Rattle.sc_workers.specs.Crews.{numbers, rows_made}
-use Rattle.sc_workers.specs.Ends.{CanBegin, IsGathered, IfHeld}
+use Rattle.sc_workers.specs.Crews.{numbers, rows_made, AllSound}
+use Rattle.sc_workers.specs.Ends.{CanBegin, IsGathered, IfHeld, IfCalm}
 use Rattle.sc_workers.specs.Services.{AllServe}
 use Rattle.sc_workers.specs.declared.answers.Rounds.{Rounds}
 use Rattle.sc_workers.proofs.Attending.{none_serve, all_serve_then}
 use Rattle.sc_workers.proofs.Crews.{all_go_trans, still_all_go, still_rows, still_sound}
 use Rattle.sc_workers.proofs.Serving.{numbers_go}
 use Rattle.sc_workers.proofs.Refusing.{full_from}
-use Rattle.sc_workers.proofs.Ending.{end_so, held_maps}
+use Rattle.sc_workers.proofs.Ending.{end_so, held_maps, calm_of}
 use Rattle.sc_workers.proofs.playing.rounds.Goals as goal
 
 pub returns-in-Some-clause-end : goal.returns-in-Some-clause-end
@@ -17,6 +17,7 @@ returns-in-Some-clause-end g c =
     let count : rows_made after ≡ rows_made start + 0 = omega (arith, still_rows start after c.prepare.ensures.len c.prepare.ensures.same) in
     end_so c.in-Some.answer c.prepare.new.net start start after _ (numbers start) c.args.limit 0 c.in-Some.ensures.end (search rules) (omega arith) count (λ bytes f. f)
     (held_maps (Some c.in-Some.answer) (λ (gathered : IsGathered c.prepare.new.net after). none_serve c.prepare.new.net start after c.prepare.ensures.len c.prepare.ensures.same gathered.over) c.in-Some.ensures.gathered)
+    (calm_of (AllSound after) (Some c.in-Some.answer) (still_sound start after c.prepare.ensures.len c.prepare.ensures.same c.requires.sound))
 
 pub loop-answer-init : goal.loop-answer-init
 loop-answer-init g c =
@@ -46,13 +47,14 @@ returns-in-Some-step-clause-end g c = let inv = c.loop-answer.invariant in
     (omega (arith, c.step.ensures.count, inv.count))
     (λ bytes f. full_from c.args.shells.now.items c.loop-answer.shells.items c.step.new.shells.items c.step.new.net bytes inv.len c.step.ensures.len inv.same f)
     (held_maps (Some c.in-Some-step.answer) (λ (second : AllServe c.step.new.net c.loop-answer.shells.items). all_serve_then c.loop-answer.net c.step.new.net c.args.shells.now.items c.loop-answer.shells.items inv.len c.step.ensures.net inv.same inv.begin.gathered.over inv.served second) c.in-Some-step.ensures.served)
+    c.in-Some-step.ensures.sound
 
 pub loop-answer-preserved : goal.loop-answer-preserved
 loop-answer-preserved g c = let inv = c.loop-answer.invariant in let none : c.step.result ≡ None = search rules in let begin = c.step.ensures.begin none in record {
   used = begin.1;
   len = c.step.ensures.len ∙ inv.len;
   same = all_go_trans c.args.shells.now.items c.loop-answer.shells.items c.step.new.shells.items inv.len inv.same c.step.ensures.same;
-  sound = c.step.ensures.sound none;
+  sound = subst (λ (o : Option Rounds). IfCalm o (AllSound c.step.new.shells.items)) none c.step.ensures.sound;
   count = omega (arith, c.step.ensures.count, inv.count);
   net = looked_trans c.args.net.now c.loop-answer.net c.step.new.net inv.net c.step.ensures.net;
   served = all_serve_then c.loop-answer.net c.step.new.net c.args.shells.now.items c.loop-answer.shells.items inv.len c.step.ensures.net inv.same inv.begin.gathered.over inv.served (subst (λ (o : Option Rounds). IfHeld o (AllServe c.step.new.net c.loop-answer.shells.items)) none c.step.ensures.served);

@@ -6,7 +6,7 @@ use Rattle.sc_workers.proofs.Crews.{all_go_trans, all_of_go, all_of_later, still
 use Rattle.sc_workers.proofs.Refusing.{full_so, full_from}
 use Rattle.sc_workers.proofs.Serving.{delivers_one}
 use Rattle.sc_workers.proofs.Attending.{round_serves}
-use Rattle.sc_workers.proofs.Ending.{step_end, calm_maps, held_calm, held_maps, refused_held, step_from}
+use Rattle.sc_workers.proofs.Ending.{step_end, calm_maps, calm_of, calm_never, held_calm, held_maps, refused_held, step_from}
 use Rattle.sc_workers.proofs.playing.step.Goals as goal
 
 pub returns-in_default-clause-count : goal.returns-in_default-clause-count
@@ -118,3 +118,12 @@ returns-in-Some-clause-served g c =
     (λ gathered. round_serves c.args.net.now c.ended.new.net start met after last c.meet.ensures.len c.play_round-did.ensures.len c.ended.ensures.len
     (looked_trans c.args.net.now c.meet.new.net c.ended.new.net c.meet.ensures.net c.ended.ensures.net) c.requires.net c.meet.ensures.same ahead c.play_round-did.ensures.passed c.ended.ensures.same gathered c.requires.exchange)
     c.ended.ensures.end
+
+pub returns-in-None-clause-sound : goal.returns-in-None-clause-sound
+returns-in-None-clause-sound g c =
+    let after = c.play_round-did.new.shells.items in let last = c.prepare.new.shells.items in
+    let calm : AllSound after = subst AllSound c.as_slice.ensures.value (c.refused_in.ensures.none (search rules)) in
+    calm_of (AllSound last) c.prepare.result (still_sound after last c.prepare.ensures.len c.prepare.ensures.same calm)
+
+pub returns-in-Some-clause-sound : goal.returns-in-Some-clause-sound
+returns-in-Some-clause-sound g c = calm_never (AllSound c.ended.new.shells.items) c.ended.result c.in-Some.refused c.ended.new.net c.ended.new.shells.items c.ended.ensures.end

@@ -1,0 +1,9 @@
+pub mod Counting
+pub mod Gathering
+pub mod Doing
+pub mod Walking
+pub mod Lining
+pub mod Freeing
+pub mod Resting
+pub mod Going
+pub mod Frees

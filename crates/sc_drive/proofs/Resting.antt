@@ -1,0 +1,121 @@
+-- Companies that go on, and whether mail is pending at the end of rounds.
+use Rattle.std.proofs.Common.{◌≡◌, ◌≢◌, ℕ, zero, suc, ◌+◌, ◌<◌, ◌≤◌, Bool, true, false, true≢false, eqb, cond, not, ◌||◌, ◌&&◌, List, [], ◌∷◌, ◌++◌, length, map, get_or, refl, sym, ap, ◌∙◌, subst, arith, length-append, Option, Some, None, is_some, inl, inr, Contains}
+use Rattle.std.specs.Prelude.{is_none}
+use Rattle.std.specs.List.{list_any}
+use Rattle.std.proofs.lemmas.Bool.{and_parts}
+use Rattle.sc_actor.specs.declared.actors.Actor.{Ghosts}
+use Rattle.sc_actor.specs.declared.actors.Parcel.{Ghosts as MailGhosts}
+use Rattle.sc_actor.specs.declared.actors.Seat.{Seat}
+use Rattle.sc_actor.specs.declared.rows.Row.{Row}
+use Rattle.sc_actor.specs.Mail.{may_get, has_crashed}
+use Rattle.sc_actor.specs.System.{System, numbers_of, waiting, kth}
+use Rattle.sc_actor.specs.Walk.{is_quiet}
+use Rattle.sc_ledger.specs.Pending.{kth_pending}
+use Rattle.sc_exchange.specs.declared.ports.Port.{Port}
+use Rattle.sc_exchange.specs.Deeds.{rows_of}
+use Rattle.sc_exchange.specs.Ports.{seen, made, given, Looked, IsTrue}
+use Rattle.sc_shell.specs.declared.shells.Shell.{Shell}
+use Rattle.sc_shell.specs.Shells.{IsReplay, Replays}
+use Rattle.sc_shell.proofs.Replaying.{own_length}
+use Rattle.sc_workers.specs.Crews.{Goes, AllGo, AllOver, AllStill, AllSound, Sound, numbers, rows_made}
+use Rattle.sc_workers.specs.Ends.{any_waits, IsGathered}
+use Rattle.sc_workers.proofs.Crews.{still_all_go, still_sound, still_rows}
+use Rattle.sc_workers.proofs.Serving.{numbers_go, count_later, list_same, waits_at}
+use Rattle.sc_drive.specs.Numbers.{is_in, apart}
+use Rattle.sc_drive.specs.Companies.{Company}
+use Rattle.sc_drive.proofs.Gathering.{count_seen, none_seen, replays_of}
+use Rattle.sc_drive.proofs.Walking.{sys, waiting_at}
+use Rattle.sc_drive.proofs.Freeing.{some_waits, first_is, in_at, flip_in}
+
+none_left : {X : Type 0} (xs : List X) → length xs ≡ 0 → xs ≡ []
+none_left [] e = refl
+none_left (x ∷ xs) e = absurd (omega arith)
+
+or_parts : (a b : Bool) → (a || b) ≡ false → (a ≡ false) × (b ≡ false)
+or_parts true b e = absurd (true≢false e)
+or_parts false b e = (refl, e)
+
+module _ {M O : Type 0} {h : MailGhosts M} where
+
+  -- what is true later was true before
+  pub true_before : (net next : Port M O h) → Looked net next → IsTrue next → IsTrue net
+  true_before net next l t = record {
+    own =
+        let same : rows_of net.who (seen next) ≡ made net = ap (λ n. rows_of n (seen next)) (sym l.stays.who) ∙ (t.own ∙ l.made) in
+        sym (list_same net.who (seen next) (seen net) l.later (ap length same ∙ sym (own_length net))) ∙ same;
+    others = λ z n ne away.
+        let none : rows_of n (seen next) ≡ [] = t.others (l.stays.who ∙ z) n ne (λ there. away (subst (λ ws. Contains ws n) l.stays.given there)) in
+        none_left (rows_of n (seen net)) (omega (arith, ap length none, count_later n (seen next) (seen net) l.later));
+  }
+
+module _ {A M O : Type 0} {g : Ghosts A M O} {h : MailGhosts M} where
+  pub company_go : (births : List (Seat A)) (net next : Port M O h) (ss after : List (Shell A M O g h)) → Company births net ss → Looked net next → length after ≡ length ss → AllGo ss after → AllOver next after → IsTrue next → AllSound after → Company births next after
+  company_go births net next ss after c looked len go over rows sound =
+      let same : numbers after ≡ numbers ss = numbers_go ss after len go in record {
+        first = looked.stays.who ∙ c.first;
+        all = looked.stays.given ∙ (c.all ∙ sym same);
+        born = same ∙ c.born;
+        far = ap (λ ws. apart (0 ∷ ws)) same ∙ c.far;
+        within = λ k d lt. let le : k < length ss = omega (arith, lt, len) in omega (arith, (go k d le).stays.who, looked.stays.exchange.1, c.within k d le);
+        over = over;
+        rows = rows;
+        sound = sound;
+        replay = λ k d e lt. let le : k < length ss = omega (arith, lt, len) in replays_of (get_or after k d) (get_or births k e).actor (sound k d lt) ((go k d le).replay (get_or births k e).actor (λ _. c.replay k d e le));
+      }
+
+  -- all gather once more, and nothing was made
+  pub company_still : (births : List (Seat A)) (net next : Port M O h) (ss after : List (Shell A M O g h)) → Company births net ss → Looked net next → length after ≡ length ss → AllStill ss after → IsGathered next after → IsTrue next → Company births next after × (seen next ≡ seen net)
+  company_still births net next ss after c looked len still gathered rows =
+      let d : Company births next after = company_go births net next ss after c looked len (still_all_go ss after still) gathered.over rows (still_sound ss after len still c.sound) in
+      let a = count_seen net ss c.first c.all c.far c.over c.rows in
+      let b = count_seen next after d.first d.all d.far d.over d.rows in
+      (d, none_seen net next (length (seen net)) looked.later refl (omega (arith, a, b, ap length looked.made, still_rows ss after len still)))
+
+  -- the same of what was seen alone
+  pub gathered_same : (births : List (Seat A)) (net mid next : Port M O h) (ss mids after : List (Shell A M O g h)) → Company births net ss → Looked net mid → length mids ≡ length ss → AllGo ss mids → AllOver mid mids → IsTrue mid →
+      Looked mid next → length after ≡ length mids → AllStill mids after → IsGathered next after → IsTrue next → seen next ≡ seen mid
+  gathered_same births net mid next ss mids after c looked len go over rows looked2 len2 still gathered rows2 =
+      let one : numbers mids ≡ numbers ss = numbers_go ss mids len go in
+      let two : numbers after ≡ numbers ss = numbers_go mids after len2 (still_all_go mids after still) ∙ one in
+      let a = count_seen mid mids (looked.stays.who ∙ c.first) (looked.stays.given ∙ (c.all ∙ sym one)) (ap (λ ws. apart (0 ∷ ws)) one ∙ c.far) over rows in
+      let b = count_seen next after (looked2.stays.who ∙ (looked.stays.who ∙ c.first)) (looked2.stays.given ∙ (looked.stays.given ∙ (c.all ∙ sym two))) (ap (λ ws. apart (0 ∷ ws)) two ∙ c.far) gathered.over rows2 in
+      none_seen mid next (length (seen mid)) looked2.later refl (omega (arith, a, b, ap length looked2.made, still_rows mids after len2 still))
+
+  any_false : (p : ℕ → Bool) (ss : List (Shell A M O g h)) → list_any p (numbers ss) ≡ false → (k : ℕ) (d : Shell A M O g h) → k < length ss → p (get_or ss k d).port.who ≡ false
+  any_false p [] e k d lt = absurd (omega arith)
+  any_false p (s ∷ ss) e zero d lt = (or_parts (p s.port.who) (list_any p (numbers ss)) e).0
+  any_false p (s ∷ ss) e (suc k) d lt = any_false p ss (or_parts (p s.port.who) (list_any p (numbers ss)) e).1 k d (omega (arith, lt))
+
+  a_shell : (ss : List (Shell A M O g h)) (k : ℕ) → k < length ss → Shell A M O g h
+  a_shell [] k lt = absurd (omega arith)
+  a_shell (s ∷ ss) k lt = s
+
+  module _ (words : ℕ → ℕ → ℕ × ℕ) (births : List (Seat A)) (net next : Port M O h) (ss : List (Shell A M O g h)) (c : Company births net ss) (actors : next.actors ≡ net.actors) where
+    -- nothing waits for the shells' actors, so nothing waits
+    pub quiet_after : any_waits next (numbers ss) ≡ false → is_quiet (sys words births net ss c) (seen next) ≡ true
+    quiet_after none = by (kth (waiting (sys words births net ss c) (seen next) None) 1) refl
+      where
+        by : (o : Option ℕ) → kth (waiting (sys words births net ss c) (seen next) None) 1 ≡ o → is_none o ≡ true
+        by None e = refl
+        by (Some n) e =
+            let f = first_is (sys words births net ss c) (seen next) n e in
+            let w = h.receiver f.0 in
+            let there : is_in w (numbers ss) ≡ true = ap (is_in w) c.born ∙ flip_in w (numbers_of births) (and_parts (list_any (λ a. eqb a w) (numbers_of births)) (not (has_crashed (seen next) w)) f.2).0 in
+            let place = in_at w ss there in
+            let d = a_shell ss place.0 place.1 in
+            let first : kth_pending h.receiver next.actors (seen next) (get_or ss place.0 d).port.who 1 ≡ Some n =
+            ap (λ a. kth_pending h.receiver a (seen next) (get_or ss place.0 d).port.who 1) actors ∙ (waiting_at words births net ss c place.0 place.1 d (seen next) 1 ∙ (ap (λ v. kth (waiting (sys words births net ss c) (seen next) (Some v)) 1) (place.2 d) ∙ f.3)) in
+            absurd (true≢false (sym (ap is_some first) ∙ any_false (λ who. is_some (kth_pending h.receiver next.actors (seen next) who 1)) ss none place.0 d place.1))
+
+    some_is : (o : Option ℕ) → is_some o ≡ true → (n : ℕ) × (o ≡ Some n)
+    some_is None e = absurd (true≢false (sym e))
+    some_is (Some n) e = (n, refl)
+
+    -- mail waits for one of them
+    pub cut_after : any_waits next (numbers ss) ≡ true → is_quiet (sys words births net ss c) (seen next) ≡ false
+    cut_after some =
+        let place = waits_at (λ who. is_some (kth_pending h.receiver next.actors (seen next) who 1)) ss some in
+        let d = a_shell ss place.0 place.1 in
+        let n = some_is (kth_pending h.receiver next.actors (seen next) (get_or ss place.0 d).port.who 1) (place.2 d) in
+        some_waits (sys words births net ss c) (seen next) (get_or ss place.0 d).port.who n.0
+        (sym (waiting_at words births net ss c place.0 place.1 d (seen next) 1) ∙ (ap (λ a. kth_pending h.receiver a (seen next) (get_or ss place.0 d).port.who 1) (sym actors) ∙ n.1))

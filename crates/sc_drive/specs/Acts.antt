@@ -1,0 +1,71 @@
+-- What an act of one actor did to the journal, where all gathered before and after it.
+use Rattle.std.specs.Prelude.{◌≡◌, ℕ, ◌+◌, ◌<◌, ◌≤◌, List, [], ◌∷◌, ◌++◌, Bool, true, false, slice_index_or, Some, None, ⊤}
+use Rattle.sc_actor.specs.declared.actors.Actor.{Ghosts}
+use Rattle.sc_actor.specs.declared.actors.Parcel.{Ghosts as MailGhosts}
+use Rattle.sc_actor.specs.declared.actors.Seat.{Seat}
+use Rattle.sc_actor.specs.declared.rows.Row.{Row}
+use Rattle.sc_actor.specs.declared.rows.Event.{Event}
+use Rattle.sc_actor.specs.declared.rows.Event.TheVariants.{Deliver}
+use Rattle.sc_actor.specs.Counted.{row_bytes, journal_bytes}
+use Rattle.sc_actor.specs.Replay.{Table}
+use Rattle.sc_actor.specs.System.{row_of}
+use Rattle.sc_ledger.specs.Pending.{kth_pending}
+use Rattle.sc_exchange.specs.declared.ports.Port.{Port}
+use Rattle.sc_exchange.specs.Ports.{seen, Stays, Looked}
+use Rattle.sc_shell.specs.declared.shells.Shell.{Shell}
+use Rattle.sc_shell.specs.declared.turns.Turn.{Turn}
+use Rattle.sc_shell.specs.declared.turns.Turn.TheVariants.{Did, Empty, Full, Spent, OutOfMemory}
+use Rattle.sc_shell.specs.Shells.{Happens, Takes, KeepsReplay, state}
+use Rattle.sc_workers.specs.Crews.{Still, IsAhead}
+use Rattle.sc_drive.specs.Companies.{Company}
+
+module _ {A M O : Type 0} {h : MailGhosts M} where
+  -- the one new row is that of an event of the actor at a place
+  abbrev pub RowAdded : Table A M O → List (Seat A) → ℕ → Event O → Port M O h → Port M O h → Type 0
+  RowAdded table births place event net next = (e : Seat A) → seen next ≡ seen net ++ row_of table (slice_index_or births place e) (seen net) event ∷ []
+
+  -- that row would pass the limit
+  abbrev pub RowPasses : Table A M O → List (Seat A) → ℕ → Event O → Port M O h → Type 0
+  RowPasses table births place event net = (e : Seat A) → net.limit < journal_bytes h.weighs (seen net) + row_bytes h.weighs (row_of table (slice_index_or births place e) (seen net) event)
+
+module _ {A M O : Type 0} {g : Ghosts A M O} {h : MailGhosts M} where
+  -- the shell met the port, and then did this
+  pub record Met (does : Shell A M O g h → Type 0) (s t : Shell A M O g h) (net next : Port M O h) : Type 0 where
+    pub met : Shell A M O g h
+    pub still : Still s met
+    pub ahead : IsAhead net met
+    pub looked : Looked net next
+    pub stays : Stays met.port t.port
+    pub keeps : KeepsReplay met t
+    pub does_ : does met
+
+  -- and then an event happened
+  abbrev pub MetAndTold : Event O → Turn → Shell A M O g h → Shell A M O g h → Port M O h → Port M O h → Type 0
+  MetAndTold event turn s t net next = Met (λ met. Happens (state met) (state t) event turn) s t net next
+
+  -- and then it took a turn
+  abbrev pub MetAndTook : ℕ → Turn → Shell A M O g h → Shell A M O g h → Port M O h → Port M O h → Type 0
+  MetAndTook k turn s t net next = Met (λ met. Takes (state met) (state t) k turn) s t net next
+
+  abbrev pub HasHalted : List (Shell A M O g h) → ℕ → Bool → Type 0
+  HasHalted ss place halted = (d : Shell A M O g h) → (slice_index_or ss place d).port.crashed ≡ halted
+
+  -- what an event at a place did
+  abbrev pub Told : List (Seat A) → ℕ → Event O → Port M O h → Port M O h → List (Shell A M O g h) → List (Shell A M O g h) → Turn → Type 0
+  Told births place event net next ss after (Did at) = Company births next after × RowAdded g.table births place event net next × (journal_bytes h.weighs (seen next) ≤ net.limit) × HasHalted ss place false
+  Told births place event net next ss after (Full bytes) = (seen next ≡ seen net) × RowPasses g.table births place event net × HasHalted ss place false
+  Told births place event net next ss after Spent = Company births next after × (seen next ≡ seen net) × HasHalted ss place true
+  Told births place event net next ss after (Empty told) = ⊥
+  Told births place event net next ss after OutOfMemory = ⊤
+
+  -- the k-th pending mail of the actor at a place
+  abbrev pub KthIs : List (Shell A M O g h) → ℕ → ℕ → Port M O h → ℕ → Type 0
+  KthIs ss place k net number = (d : Shell A M O g h) → kth_pending h.receiver net.actors (seen net) (slice_index_or ss place d).port.who k ≡ Some number
+
+  -- what a turn at a place did
+  abbrev pub Served : List (Seat A) → ℕ → ℕ → Port M O h → Port M O h → List (Shell A M O g h) → List (Shell A M O g h) → Turn → Type 0
+  Served births place k net next ss after (Did at) = Company births next after × ((number : ℕ) × KthIs ss place k net number × RowAdded g.table births place (Deliver number) net next) × (journal_bytes h.weighs (seen next) ≤ net.limit)
+  Served births place k net next ss after (Full bytes) = (seen next ≡ seen net) × ((number : ℕ) × KthIs ss place k net number × RowPasses g.table births place (Deliver number) net)
+  Served births place k net next ss after (Empty told) = Company births next after × (seen next ≡ seen net) × ((d : Shell A M O g h) → kth_pending h.receiver net.actors (seen net) (slice_index_or ss place d).port.who k ≡ None)
+  Served births place k net next ss after Spent = Company births next after × (seen next ≡ seen net) × HasHalted ss place true
+  Served births place k net next ss after OutOfMemory = ⊤

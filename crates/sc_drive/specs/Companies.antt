@@ -1,0 +1,29 @@
+-- The network's port and the shells of all actors, between two lines of a schedule.
+use Rattle.std.specs.Prelude.{◌≡◌, ℕ, ◌<◌, ◌≤◌, List, [], ◌∷◌, length, map, slice_index_or, true}
+use Rattle.sc_actor.specs.declared.actors.Actor.{Ghosts}
+use Rattle.sc_actor.specs.declared.actors.Parcel.{Ghosts as MailGhosts}
+use Rattle.sc_actor.specs.declared.actors.Seat.{Seat}
+use Rattle.sc_actor.specs.System.{numbers_of}
+use Rattle.sc_exchange.specs.declared.ports.Port.{Port}
+use Rattle.sc_exchange.specs.Ports.{given, IsTrue}
+use Rattle.sc_shell.specs.declared.shells.Shell.{Shell}
+use Rattle.sc_shell.specs.Shells.{Replays}
+use Rattle.sc_workers.specs.Crews.{AllOver, AllSound, numbers}
+use Rattle.sc_drive.specs.Numbers.{apart}
+
+module _ {A M O : Type 0} {g : Ghosts A M O} {h : MailGhosts M} where
+  -- the shells' actors, with their numbers
+  abbrev pub seats : List (Shell A M O g h) → List (Seat A)
+  seats ss = map (λ s. record { who = s.port.who; actor = s.actor }) ss
+
+  -- Each actor of the births has a shell, at the one port of its number, and no other port was split off. The network's port has seen all that they have, the rows of each actor are those that its shell made, and each actor is the replay of its rows from its birth.
+  pub record Company (births : List (Seat A)) (net : Port M O h) (ss : List (Shell A M O g h)) : Type 0 where
+    pub first : net.who ≡ 0
+    pub all : given net ≡ numbers ss
+    pub born : numbers ss ≡ numbers_of births
+    pub far : apart (0 ∷ numbers ss) ≡ true
+    pub within : (k : ℕ) (d : Shell A M O g h) → k < length ss → (slice_index_or ss k d).port.who ≤ net.actors
+    pub over : AllOver net ss
+    pub rows : IsTrue net
+    pub sound : AllSound ss
+    pub replay : (k : ℕ) (d : Shell A M O g h) (e : Seat A) → k < length ss → Replays (slice_index_or ss k d) (slice_index_or births k e).actor

@@ -1,0 +1,36 @@
+-- How a driver stands with the walk of a schedule.
+use Rattle.std.specs.Prelude.{◌≡◌, ℕ, ◌+◌, ◌<◌, ◌≤◌, List, [], ◌∷◌, ◌++◌, Bool, true, false, ◌&&◌, nat_le}
+use Rattle.sc_actor.specs.declared.actors.Actor.{Ghosts}
+use Rattle.sc_actor.specs.declared.actors.Parcel.{Ghosts as MailGhosts}
+use Rattle.sc_actor.specs.declared.actors.Seat.{Seat}
+use Rattle.sc_actor.specs.declared.rows.Row.{Row}
+use Rattle.sc_actor.specs.declared.schedules.Line.{Line}
+use Rattle.sc_actor.specs.Counted.{journal_bytes}
+use Rattle.sc_actor.specs.System.{system, has_gone}
+use Rattle.sc_actor.specs.Walk.{Task, IsLawful, place_after, onward}
+use Rattle.sc_play.specs.Moves.{IsFull}
+use Rattle.sc_exchange.specs.declared.ports.Port.{Port}
+use Rattle.sc_exchange.specs.Ports.{seen}
+use Rattle.sc_shell.specs.declared.shells.Shell.{Shell}
+use Rattle.sc_drive.specs.declared.steps.Score.{Score}
+use Rattle.sc_drive.specs.Numbers.{is_in}
+use Rattle.sc_drive.specs.Companies.{Company}
+
+module _ {A M O : Type 0} {g : Ghosts A M O} {h : MailGhosts M} where
+  -- What the network's port has seen is a lawful journal within the limit, the walk after it has these tasks left, the score is the walk's, and all is as it is between two lines.
+  pub record At (words : ℕ → ℕ → ℕ × ℕ) (births : List (Seat A)) (lines : List (Line O)) (net : Port M O h) (ss : List (Shell A M O g h)) (score : Score) (tasks : List (Task O)) : Type 0 where
+    pub lawful : IsLawful (system g.table h.receiver words births) lines (seen net)
+    pub place : place_after (system g.table h.receiver words births) lines (seen net) ≡ onward (system g.table h.receiver words births) (seen net) tasks score.skipped score.unsettled
+    pub company : Company births net ss
+    pub told : (who : ℕ) → is_in who score.gone.items ≡ has_gone (seen net) who
+    pub within : journal_bytes h.weighs (seen net) ≤ net.limit
+
+  -- A walk that stands here with some tasks stands there with others, whatever comes after.
+  abbrev pub Goes : Port M O h → List (Shell A M O g h) → Score → List (Task O) → Port M O h → List (Shell A M O g h) → Score → List (Task O) → Type 0
+  Goes net ss score before next after now left =
+      (words : ℕ → ℕ → ℕ × ℕ) (births : List (Seat A)) (lines : List (Line O)) (rest : List (Task O)) → At words births lines net ss score (before ++ rest) → At words births lines next after now (left ++ rest)
+
+  -- The walk comes to a row that passes the limit.
+  abbrev pub Fills : Port M O h → List (Shell A M O g h) → Score → List (Task O) → Port M O h → Type 0
+  Fills net ss score before next =
+      (words : ℕ → ℕ → ℕ × ℕ) (births : List (Seat A)) (lines : List (Line O)) (rest : List (Task O)) → At words births lines net ss score (before ++ rest) → IsFull (system g.table h.receiver words births) h.weighs lines net.limit (seen next)

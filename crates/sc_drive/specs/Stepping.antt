@@ -1,0 +1,38 @@
+-- What a line of one row did to the journal.
+use Rattle.std.specs.Prelude.{◌≡◌, ℕ, ◌+◌, ◌<◌, ◌≤◌, List, [], ◌∷◌, ◌++◌, length, slice_index_or, Bool, false, if◌then◌else◌, Option, None, Some}
+use Rattle.sc_actor.specs.declared.actors.Actor.{Ghosts}
+use Rattle.sc_actor.specs.declared.actors.Parcel.{Ghosts as MailGhosts}
+use Rattle.sc_actor.specs.declared.rows.Row.{Row}
+use Rattle.sc_actor.specs.Counted.{row_bytes, journal_bytes}
+use Rattle.sc_actor.specs.declared.rows.Event.{Event}
+use Rattle.sc_actor.specs.Mail.{has_crashed}
+use Rattle.sc_actor.specs.System.{System, acts}
+use Rattle.sc_exchange.specs.declared.ports.Port.{Port}
+use Rattle.sc_exchange.specs.Ports.{seen}
+use Rattle.sc_shell.specs.declared.shells.Shell.{Shell}
+use Rattle.sc_drive.specs.declared.steps.Step.{Step}
+use Rattle.sc_drive.specs.declared.steps.Step.TheVariants.{Made, Skipped, Full}
+use Rattle.sc_workers.specs.Crews.{numbers}
+use Rattle.sc_drive.specs.Numbers.{is_in}
+use Rattle.sc_drive.specs.Companies.{Company}
+
+module _ {A M O : Type 0} {g : Ghosts A M O} {h : MailGhosts M} where
+  -- A row was made, and it is the one that may come; or none may come; or that row would pass the limit.
+  abbrev pub Stepped : System A M O → Option (Row M O) → Port M O h → Port M O h → List (Shell A M O g h) → Step → Type 0
+  Stepped s may net next after Made =
+      Company s.births next after × ((row : Row M O) × (may ≡ Some row) × (seen next ≡ seen net ++ row ∷ [])) × (journal_bytes h.weighs (seen next) ≤ net.limit)
+  Stepped s may net next after Skipped = Company s.births next after × (may ≡ None) × (seen next ≡ seen net)
+  Stepped s may net next after Full = ((row : Row M O) × (may ≡ Some row) × (net.limit < journal_bytes h.weighs (seen net) + row_bytes h.weighs row)) × (seen next ≡ seen net)
+
+  -- the place of an actor's shell
+  pub record IsPlace (ss : List (Shell A M O g h)) (who place : ℕ) : Type 0 where
+    pub inside : place < length ss
+    pub number : (d : Shell A M O g h) → (slice_index_or ss place d).port.who ≡ who
+
+  -- an actor that has no shell
+  abbrev pub IsNowhere : List (Shell A M O g h) → ℕ → Type 0
+  IsNowhere ss who = is_in who (numbers ss) ≡ false
+
+-- the row of an actor's event, unless the actor has crashed
+abbrev pub unless_crashed : {A M O : Type 0} → System A M O → List (Row M O) → ℕ → Event O → Option (Row M O)
+unless_crashed s rows who event = if has_crashed rows who then None else acts s rows who event

@@ -1,0 +1,7 @@
+//! A schedule driven through the network's port and the shells of its actors.
+#![tactic(auto)]
+
+mod acting;
+mod lines;
+mod running;
+mod steps;

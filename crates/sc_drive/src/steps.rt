@@ -1,0 +1,27 @@
+//! What a line of one row comes to.
+
+/// What a line of one row came to.
+#[derive(Clone, Copy, Debug, PartialEq, Eq)]
+pub enum Step {
+    /// Its row was made.
+    Made,
+    /// It makes no row.
+    Skipped,
+    /// Its row would pass the limit.
+    Full,
+}
+
+/// What the walk has counted: the lines that made no row, whether a line of many deliveries ended with mail pending, and who was told to go.
+#[derive(Drop)]
+pub struct Score {
+    pub skipped: u64,
+    pub unsettled: bool,
+    pub gone: Vec<u32>,
+}
+
+/// Why a schedule stops before its end.
+#[derive(Clone, Copy, Debug, PartialEq, Eq)]
+pub enum Stop {
+    Full,
+    OutOfMemory,
+}
