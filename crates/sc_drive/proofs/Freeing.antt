@@ -55,6 +55,14 @@ wide_some {M} p q wider first (m ∷ sent) (c ∷ counts) n e = by c (q m) (p m)
     by (suc c) false true qa pb e later = refl
     by (suc c) false false qa pb e later = later e
 
+-- and none where the wider one has none
+pub wide_none : {M : Type 0} (p q : M → Bool) → ((m : M) → q m ≡ true → p m ≡ true) → (first : ℕ) (sent : List M) (counts : List ℕ) → is_none (slice_get (numbers p first sent counts) 0) ≡ true → is_none (slice_get (numbers q first sent counts) 0) ≡ true
+wide_none p q wider first sent counts none = by (slice_get (numbers q first sent counts) 0) refl
+  where
+    by : (o : Option ℕ) → slice_get (numbers q first sent counts) 0 ≡ o → is_none (slice_get (numbers q first sent counts) 0) ≡ true
+    by None e = ap is_none e
+    by (Some n) e = absurd (true≢false (sym none ∙ wide_some p q wider first sent counts n e))
+
 module _ {A M O : Type 0} (s : System A M O) (rows : List (Row M O)) where
   -- mail that waits for one waits
   pub some_waits : (who n : ℕ) → kth (waiting s rows (Some who)) 1 ≡ Some n → is_quiet s rows ≡ false

@@ -7,3 +7,6 @@ pub mod Freeing
 pub mod Resting
 pub mod Going
 pub mod Frees
+pub mod Networking
+pub mod Lowering
+pub mod Draining

@@ -90,7 +90,7 @@ module _ {A : Type 0} where
       let parts = or_parts (eqb who b.who) (is_in who (numbers_of births)) out in
       ap (λ c. cond c (Some b) (find (λ seat. eqb seat.who who) births)) (flip who b.who parts.0) ∙ find_none births who parts.1
 
-any_out : (who : ℕ) (ws : List ℕ) → is_in who ws ≡ false → list_any (λ a. eqb a who) ws ≡ false
+pub any_out : (who : ℕ) (ws : List ℕ) → is_in who ws ≡ false → list_any (λ a. eqb a who) ws ≡ false
 any_out who [] out = refl
 any_out who (w ∷ ws) out =
     let parts = or_parts (eqb who w) (is_in who ws) out in

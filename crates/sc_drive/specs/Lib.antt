@@ -3,3 +3,5 @@ pub mod Companies
 pub mod Acts
 pub mod Stepping
 pub mod Goings
+pub mod Changing
+pub mod Lowest

@@ -3,5 +3,7 @@
 
 mod acting;
 mod lines;
+mod network;
 mod running;
+mod settling;
 mod steps;

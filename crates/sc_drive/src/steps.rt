@@ -25,3 +25,12 @@ pub enum Stop {
     Full,
     OutOfMemory,
 }
+
+/// What became of a row of the network.
+#[derive(Clone, Copy, Debug, PartialEq, Eq)]
+pub enum Changed {
+    Done,
+    Undone,
+    Full,
+    OutOfMemory,
+}

@@ -137,6 +137,7 @@ impl<M: Parcel + Drop, O: Drop> Port<M, O> {
         ensures addressed { IsAddressed self.new }
         ensures kept { (self.new.fetched ≡ self.old.fetched) × (self.new.crashed ≡ self.old.crashed) }
         ensures ok { IfOk result (λ done. IsTrue self.new × MatchBool done (ChangedBy M.receiver lost number self.old self.new × (journal_bytes M.weighs (seen self.new) ≤ self.old.limit)) (Looked self.old self.new × (may_change lost M.receiver self.old.actors (seen self.new) number ≡ false))) }
+        ensures may { OnErr result (may_change lost M.receiver self.old.actors (seen self.new) number ≡ true) }
         ensures refused { IfErr result (λ e. Looked self.old self.new × IsTrue self.new × (record { who = 0; event = e.event; sent = e.sent } ≡ change lost number) × IsCause e.why (journal_bytes M.weighs (seen self.new)) (row_bytes M.weighs (record { who = 0; event = e.event; sent = e.sent })) self.old.limit) }
     {
         match change_at(
@@ -160,6 +161,7 @@ impl<M: Parcel + Drop, O: Drop> Port<M, O> {
         ensures addressed { IsAddressed self.new }
         ensures kept { (self.new.fetched ≡ self.old.fetched) × (self.new.crashed ≡ self.old.crashed) }
         ensures ok { IfOk result (λ done. IsTrue self.new × MatchBool done (ChangedBy M.receiver true number self.old self.new × (journal_bytes M.weighs (seen self.new) ≤ self.old.limit)) (Looked self.old self.new × (is_pending M.receiver self.old.actors (seen self.new) number ≡ false))) }
+        ensures may { OnErr result (is_pending M.receiver self.old.actors (seen self.new) number ≡ true) }
         ensures refused { IfErr result (λ e. Looked self.old self.new × IsTrue self.new × (record { who = 0; event = e.event; sent = e.sent } ≡ change true number) × IsCause e.why (journal_bytes M.weighs (seen self.new)) (row_bytes M.weighs (record { who = 0; event = e.event; sent = e.sent })) self.old.limit) }
     {
         self.change(rt, number, true)
@@ -172,6 +174,7 @@ impl<M: Parcel + Drop, O: Drop> Port<M, O> {
         ensures addressed { IsAddressed self.new }
         ensures kept { (self.new.fetched ≡ self.old.fetched) × (self.new.crashed ≡ self.old.crashed) }
         ensures ok { IfOk result (λ done. IsTrue self.new × MatchBool done (ChangedBy M.receiver false number self.old self.new × (journal_bytes M.weighs (seen self.new) ≤ self.old.limit)) (Looked self.old self.new × (may_repeat M.receiver self.old.actors (seen self.new) number ≡ false))) }
+        ensures may { OnErr result (may_repeat M.receiver self.old.actors (seen self.new) number ≡ true) }
         ensures refused { IfErr result (λ e. Looked self.old self.new × IsTrue self.new × (record { who = 0; event = e.event; sent = e.sent } ≡ change false number) × IsCause e.why (journal_bytes M.weighs (seen self.new)) (row_bytes M.weighs (record { who = 0; event = e.event; sent = e.sent })) self.old.limit) }
     {
         self.change(rt, number, false)

@@ -1,5 +1,5 @@
 //! What is done at one turn.
-ghost use Rattle.std.specs.Prelude.{◌≡◌, ◌<◌, ◌≤◌, ◌+◌, ◌^◌, ◌++◌, ◌∷◌, [], true, false, length, IfOk, IfErr, OnOk, MatchBool, is_some};
+ghost use Rattle.std.specs.Prelude.{◌≡◌, ◌<◌, ◌≤◌, ◌+◌, ◌^◌, ◌++◌, ◌∷◌, [], true, false, length, IfOk, IfErr, OnOk, OnErr, MatchBool, is_some};
 ghost use Rattle.std.specs.List.{list_any};
 ghost use Rattle.sc_turn.specs.Seats.{known, OfOneStart};
 ghost use Rattle.sc_turn.specs.Turn.{with_turn, with_row, rows_by};
@@ -291,6 +291,7 @@ pub(crate) fn change_at<M: Parcel + Drop, O: Drop, R: Wait>(
     ensures own { length (rows_by (known seat.old).who (known seat.new).seen) ≡ length (known seat.new).made }
     ensures kept { ((known seat.new).given ≡ (known seat.old).given) × ((known seat.new).joined ≡ (known seat.old).joined) }
     ensures ok { IfOk result (λ done. MatchBool done (Changed M.receiver actors lost number (known seat.old) (known seat.new) × (journal_bytes M.weighs (rows_from (known seat.new).seen) ≤ limit)) (Turned (known seat.old) (known seat.new) × (may_change lost M.receiver actors (rows_from (known seat.new).seen) number ≡ false))) }
+    ensures may { OnErr result (may_change lost M.receiver actors (rows_from (known seat.new).seen) number ≡ true) }
     ensures refused { IfErr result (λ e. Turned (known seat.old) (known seat.new) × (e.row ≡ change lost number) × IsCause e.why (journal_bytes M.weighs (rows_from (known seat.new).seen)) (row_bytes M.weighs e.row) limit) }
 {
     let exchange = seat.enter(rt);

@@ -66,3 +66,9 @@ returns-in-Ok-clause-addressed g c =
 
 pub returns-in-Err-clause-addressed : goal.returns-in-Err-clause-addressed
 returns-in-Err-clause-addressed g c = ap (all_addressed g.M.Parcel.receiver []) (seen_same (known c.args.seat.now) (known c.enter-exchange.new.self) (known c.append_row.new.seat) c.enter-exchange.result.ledger.rows.items c.enter-exchange.ensures.view c.in-Err.ensures.refused.0) ∙ c.enter-exchange.result.addressed
+
+pub returns-in-Err-clause-may : goal.returns-in-Err-clause-may
+returns-in-Err-clause-may g c =
+    let some : c.may_change_at.result ≡ true = search rules in
+    ap (λ l. may_change c.args.lost g.M.Parcel.receiver c.args.actors l c.args.number) (seen_same (known c.args.seat.now) (known c.enter-exchange.new.self) (known c.append_row.new.seat) c.enter-exchange.result.ledger.rows.items c.enter-exchange.ensures.view c.in-Err.ensures.refused.0)
+    ∙ (sym c.may_change_at.ensures ∙ some)
