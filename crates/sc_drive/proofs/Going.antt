@@ -140,11 +140,11 @@ module _ {A M O : Type 0} {g : Ghosts A M O} {h : MailGhosts M} where
         }
 
     -- a Go
-    pub goes_go : (who : ℕ) → line ≡ GoLine who → ((words : ℕ → ℕ → ℕ × ℕ) (births : List (Seat A)) → Company births net ss → Stepped (system g.table h.receiver words births) (line_row (system g.table h.receiver words births) (seen net) line) net next after Made) →
+    pub goes_go : (who : ℕ) → line ≡ GoLine who → ((words : ℕ → ℕ → ℕ × ℕ) (births : List (Seat A)) → Company births net ss → has_gone (seen net) who ≡ is_in who score.gone.items → Stepped (system g.table h.receiver words births) (line_row (system g.table h.receiver words births) (seen net) line) net next after Made) →
         now.skipped ≡ score.skipped → now.unsettled ≡ score.unsettled → ((n : ℕ) → is_in n now.gone.items ≡ (is_in n score.gone.items || eqb n who)) → Goes net ss score (Once line ∷ []) next after now []
     goes_go who is stepped skipped cut gone = λ words births lines rest at.
         let s = system g.table h.receiver words births in
-        let t = stepped words births at.company in
+        let t = stepped words births at.company (sym (at.told who)) in
         let row = t.1.0 in
         let stands : Stands s lines (seen net) (Once line ∷ rest) score.skipped score.unsettled = record { lawful = at.lawful; place = at.place } in
         let on : Stands s lines (seen net ++ row ∷ []) rest score.skipped score.unsettled = Stands-row s lines (seen net) (Once line) rest score.skipped score.unsettled row stands (ap is_none t.1.1) t.1.1 in

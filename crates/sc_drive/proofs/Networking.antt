@@ -43,7 +43,7 @@ module _ {M O : Type 0} {h : MailGhosts M} where
   pub front_same : (net first : Port M O h) (before : List (Row M O)) → StartsWith (seen first) (seen net) → StartsWith before (seen first) → before ≡ seen net → seen first ≡ seen net
   front_same net first before a b e = whole_front (seen net) (seen first) a (omega (arith, ap length a.1, length-append (seen net) a.0, ap length b.1, length-append (seen first) b.0, ap length e))
 
-  stays_then : (p q r : Port M O h) → Stays p q → Stays q r → Stays p r
+  pub stays_then : (p q r : Port M O h) → Stays p q → Stays q r → Stays p r
   stays_then p q r a b = record {
     exchange = (b.exchange.0 ∙ a.exchange.0, b.exchange.1 ∙ a.exchange.1, b.exchange.2 ∙ a.exchange.2);
     who = b.who ∙ a.who;

@@ -105,8 +105,11 @@ pub(crate) fn run_settle<A: Actor, G: Gate, R: Wait>(
     ensures fills { IsErrOf result Stop.Full → Fills net.old shells.old.items score.old (Settles most ∷ []) net.new }
 {
     let mut left = most;
-    while settle_step(rt, alloc, net, shells, score, left, gate)? {
-        left -= 1;
+    loop {
+        match settle_step(rt, alloc, net, shells, score, left, gate) {
+            Ok(true) => left -= 1,
+            Ok(false) => return Ok(()),
+            Err(stop) => return Err(stop),
+        }
     }
-    Ok(())
 }
