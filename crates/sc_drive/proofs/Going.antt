@@ -20,25 +20,21 @@ use Rattle.sc_actor.specs.System.{System, system, numbers_of, row_of, acts, wait
 use Rattle.sc_actor.specs.Walk.{Task, Once, Frees, Allows, is_over, is_quiet, line_row, repeat_of, first_of, cuts, skips}
 use Rattle.sc_actor.proofs.WalkLemmas.{Stands, Stands-over, Stands-row, Stands-next}
 use Rattle.sc_ledger.proofs.Kept.{bytes-push}
-use Rattle.sc_play.specs.Moves.{IsFull}
+use Rattle.sc_play.specs.Moves.{IsFull, line_task}
 use Rattle.sc_exchange.specs.declared.ports.Port.{Port}
 use Rattle.sc_exchange.specs.Ports.{seen}
 use Rattle.sc_shell.specs.declared.shells.Shell.{Shell}
 use Rattle.sc_drive.specs.declared.steps.Score.{Score}
+use Rattle.sc_drive.specs.declared.steps.Step.{Step}
 use Rattle.sc_drive.specs.declared.steps.Step.TheVariants.{Made, Skipped, Full}
 use Rattle.sc_drive.specs.Numbers.{is_in}
 use Rattle.sc_drive.specs.Companies.{Company}
 use Rattle.sc_drive.specs.Stepping.{Stepped}
-use Rattle.sc_drive.specs.Goings.{At, Goes, Fills}
+use Rattle.sc_drive.specs.Goings.{At, Goes, Fills, IsCalm, StepsSo}
 
 or_false : (b : Bool) → (b || false) ≡ b
 or_false true = refl
 or_false false = refl
-
--- lines at which no actor is told to go
-abbrev pub goes_not : {O : Type 0} → Line O → Type 0
-goes_not (GoLine who) = ⊥
-goes_not line = Unit {0}
 
 module _ {A M O : Type 0} (s : System A M O) (rows : List (Row M O)) where
   acted_event : (event : Event O) (o : Option (Seat A)) (row : Row M O) → option_map (λ seat. row_of s.table seat rows event) o ≡ Some row → row.event ≡ event
@@ -50,7 +46,7 @@ module _ {A M O : Type 0} (s : System A M O) (rows : List (Row M O)) where
   unless_event false who event row e = acted_event event _ row e
 
   -- such a line makes no row of a Go
-  pub no_go : (line : Line O) (row : Row M O) → goes_not line → line_row s rows line ≡ Some row → is_go row.event ≡ false
+  pub no_go : (line : Line O) (row : Row M O) → IsCalm line → line_row s rows line ≡ Some row → is_go row.event ≡ false
   no_go (GoLine who) row calm e = absurd calm
   no_go (DeliverLine who k) row calm e = by (kth (waiting s rows (Some who)) k) e
     where
@@ -74,9 +70,9 @@ module _ {A M O : Type 0} (s : System A M O) (rows : List (Row M O)) where
   no_go (TickLine who) row calm e = ap is_go (unless_event (has_crashed rows who) who Tick row e)
   no_go (CrashLine who) row calm e = ap is_go (unless_event (has_crashed rows who) who Crash row e)
   no_go (ToldLine who order) row calm e = ap is_go (unless_event (has_crashed rows who) who (Told order) row e)
-  no_go (Settle most) row calm e = cc
-  no_go (Free most workers) row calm e = cc
-  no_go (Storm number most) row calm e = cc
+  no_go (Settle most) row calm e = absurd calm
+  no_go (Free most workers) row calm e = absurd calm
+  no_go (Storm number most) row calm e = absurd calm
 
 -- who was told to go, after one row more
 pub gone_push : {M O : Type 0} (rows : List (Row M O)) (row : Row M O) (who : ℕ) → is_go row.event ≡ false → has_gone (rows ++ row ∷ []) who ≡ has_gone rows who
@@ -123,11 +119,11 @@ go_push rows row n who maker event =
 
 module _ {A M O : Type 0} {g : Ghosts A M O} {h : MailGhosts M} where
   module _ (line : Line O) (net next : Port M O h) (ss after : List (Shell A M O g h)) (score now : Score) (limit : next.limit ≡ net.limit) where
-    pub goes_made : ((words : ℕ → ℕ → ℕ × ℕ) (births : List (Seat A)) → Company births net ss → Stepped (system g.table h.receiver words births) (line_row (system g.table h.receiver words births) (seen net) line) net next after Made) →
-        goes_not line → now.skipped ≡ score.skipped → now.unsettled ≡ score.unsettled → now.gone.items ≡ score.gone.items → Goes net ss score (Once line ∷ []) next after now []
+    pub goes_made : StepsSo line net ss score next after Made →
+        IsCalm line → now.skipped ≡ score.skipped → now.unsettled ≡ score.unsettled → now.gone.items ≡ score.gone.items → Goes net ss score (Once line ∷ []) next after now []
     goes_made stepped quiet skipped cut gone = λ words births lines rest at.
         let s = system g.table h.receiver words births in
-        let t = stepped words births at.company in
+        let t = stepped words births at.company (λ n. sym (at.told n)) in
         let row = t.1.0 in
         let stands : Stands s lines (seen net) (Once line ∷ rest) score.skipped score.unsettled = record { lawful = at.lawful; place = at.place } in
         let on : Stands s lines (seen net ++ row ∷ []) rest score.skipped score.unsettled = Stands-row s lines (seen net) (Once line) rest score.skipped score.unsettled row stands (ap is_none t.1.1) t.1.1 in
@@ -140,11 +136,11 @@ module _ {A M O : Type 0} {g : Ghosts A M O} {h : MailGhosts M} where
         }
 
     -- a Go
-    pub goes_go : (who : ℕ) → line ≡ GoLine who → ((words : ℕ → ℕ → ℕ × ℕ) (births : List (Seat A)) → Company births net ss → has_gone (seen net) who ≡ is_in who score.gone.items → Stepped (system g.table h.receiver words births) (line_row (system g.table h.receiver words births) (seen net) line) net next after Made) →
+    pub goes_go : (who : ℕ) → line ≡ GoLine who → StepsSo line net ss score next after Made →
         now.skipped ≡ score.skipped → now.unsettled ≡ score.unsettled → ((n : ℕ) → is_in n now.gone.items ≡ (is_in n score.gone.items || eqb n who)) → Goes net ss score (Once line ∷ []) next after now []
     goes_go who is stepped skipped cut gone = λ words births lines rest at.
         let s = system g.table h.receiver words births in
-        let t = stepped words births at.company (sym (at.told who)) in
+        let t = stepped words births at.company (λ n. sym (at.told n)) in
         let row = t.1.0 in
         let stands : Stands s lines (seen net) (Once line ∷ rest) score.skipped score.unsettled = record { lawful = at.lawful; place = at.place } in
         let on : Stands s lines (seen net ++ row ∷ []) rest score.skipped score.unsettled = Stands-row s lines (seen net) (Once line) rest score.skipped score.unsettled row stands (ap is_none t.1.1) t.1.1 in
@@ -157,11 +153,11 @@ module _ {A M O : Type 0} {g : Ghosts A M O} {h : MailGhosts M} where
           within = subst (λ n. journal_bytes h.weighs (seen next) ≤ n) (sym limit) t.2;
         }
 
-    pub goes_skipped : ((words : ℕ → ℕ → ℕ × ℕ) (births : List (Seat A)) → Company births net ss → Stepped (system g.table h.receiver words births) (line_row (system g.table h.receiver words births) (seen net) line) net next after Skipped) →
+    pub goes_skipped : StepsSo line net ss score next after Skipped →
         now.skipped ≡ score.skipped + 1 → now.unsettled ≡ score.unsettled → now.gone.items ≡ score.gone.items → Goes net ss score (Once line ∷ []) next after now []
     goes_skipped stepped skipped cut gone = λ words births lines rest at.
         let s = system g.table h.receiver words births in
-        let t = stepped words births at.company in
+        let t = stepped words births at.company (λ n. sym (at.told n)) in
         let stands : Stands s lines (seen net) (Once line ∷ rest) score.skipped score.unsettled = record { lawful = at.lawful; place = at.place } in
         let on : Stands s lines (seen net) rest (score.skipped + 1) (score.unsettled || false) = Stands-over s lines (seen net) (Once line) rest score.skipped score.unsettled stands (ap is_none t.1) in
         let there : Stands s lines (seen next) rest now.skipped now.unsettled = subst (λ (p : List (Row M O) × ℕ × Bool). Stands s lines p.0 rest p.1 p.2) (λ i. (sym t.2 i, sym skipped i, (or_false score.unsettled ∙ sym cut) i)) on in record {
@@ -172,10 +168,10 @@ module _ {A M O : Type 0} {g : Ghosts A M O} {h : MailGhosts M} where
           within = subst (λ (p : List (Row M O) × ℕ). journal_bytes h.weighs p.0 ≤ p.1) (λ i. (sym t.2 i, sym limit i)) at.within;
         }
 
-    pub fills_full : ((words : ℕ → ℕ → ℕ × ℕ) (births : List (Seat A)) → Company births net ss → Stepped (system g.table h.receiver words births) (line_row (system g.table h.receiver words births) (seen net) line) net next after Full) → Fills net ss score (Once line ∷ []) next
+    pub fills_full : StepsSo line net ss score next after Full → Fills net ss score (Once line ∷ []) next
     fills_full stepped = λ words births lines rest at.
         let s = system g.table h.receiver words births in
-        let t = stepped words births at.company in
+        let t = stepped words births at.company (λ n. sym (at.told n)) in
         let row = t.0.0 in
         let stands : Stands s lines (seen net) (Once line ∷ rest) score.skipped score.unsettled = record { lawful = at.lawful; place = at.place } in
         let here : IsFull s h.weighs lines net.limit (seen net) = record {
@@ -186,3 +182,27 @@ module _ {A M O : Type 0} {g : Ghosts A M O} {h : MailGhosts M} where
           passes = subst (λ n. net.limit < n) (sym (bytes-push h.weighs (seen net) row)) t.0.2;
         } in
         subst (IsFull s h.weighs lines net.limit) (sym t.1) here
+
+-- the list of those who were told to go, with one more
+pub go_pushed : (n who : ℕ) (ws vs : List ℕ) → vs ≡ ws ++ who ∷ [] → is_in n vs ≡ (is_in n ws || eqb n who)
+go_pushed n who ws vs is = ap (is_in n) is ∙ (list_any-append (λ w. eqb n w) ws (who ∷ []) ∙ ap (λ b. is_in n ws || b) (or_false (eqb n who)))
+
+-- a Go of one who was not told to go
+pub go_steps : {A M O : Type 0} {g : Ghosts A M O} {h : MailGhosts M} (who : ℕ) (net next : Port M O h) (ss after : List (Shell A M O g h)) (score : Score) (step : Step) → is_in who score.gone.items ≡ false →
+    ((words : ℕ → ℕ → ℕ × ℕ) (births : List (Seat A)) → Company births net ss → Stepped (system g.table h.receiver words births) (acts (system g.table h.receiver words births) (seen net) who Go) net next after step) → StepsSo (GoLine who) net ss score next after step
+go_steps {g = g} {h = h} who net next ss after score step not_told f = λ words births company told.
+    let s = system g.table h.receiver words births in
+    subst (λ o. Stepped s o net next after step) (sym (ap (λ b. cond b None (acts s (seen net) who Go)) (told who ∙ not_told))) (f words births company)
+
+-- a line that is calm is one row
+pub calm_task : {O : Type 0} (line : Line O) → IsCalm line → Once line ≡ line_task line
+calm_task (GoLine who) calm = absurd calm
+calm_task (DeliverLine who k) calm = refl
+calm_task (DropLine who k) calm = refl
+calm_task (AgainLine mail) calm = refl
+calm_task (TickLine who) calm = refl
+calm_task (CrashLine who) calm = refl
+calm_task (ToldLine who order) calm = refl
+calm_task (Settle most) calm = absurd calm
+calm_task (Free most workers) calm = absurd calm
+calm_task (Storm number most) calm = absurd calm

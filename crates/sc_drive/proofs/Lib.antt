@@ -10,3 +10,4 @@ pub mod Frees
 pub mod Networking
 pub mod Lowering
 pub mod Draining
+pub mod Wholly

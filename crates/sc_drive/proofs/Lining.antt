@@ -83,6 +83,13 @@ module _ {A M O : Type 0} {g : Ghosts A M O} {h : MailGhosts M} where
       pub happens_spent : (event : Event O) → Told births place event net next ss after Spent → Stepped (sys words births net ss c) (unless_crashed (sys words births net ss c) (seen net) who event) net next after Skipped
       happens_spent event t = (t.0, ap (λ b. cond b None (acts (sys words births net ss c) (seen net) who event)) (halted true t.2), t.1)
 
+      -- a Go, which is told to one that has not crashed
+      pub tells_did : (event : Event O) (n : ℕ) → Told births place event net next ss after (Did n) → Stepped (sys words births net ss c) (acts (sys words births net ss c) (seen net) who event) net next after Made
+      tells_did event n t = (t.0, (row_of g.table (get_or births place e) (seen net) event, act_is event, t.1 e), t.2)
+
+      pub tells_full : (event : Event O) (n : ℕ) → Told births place event net next ss after (Full n) → Stepped (sys words births net ss c) (acts (sys words births net ss c) (seen net) who event) net next after TooMuch
+      tells_full event n t = ((row_of g.table (get_or births place e) (seen net) event, act_is event, t.1 e), t.0)
+
       -- the k-th pending mail
       kth_at : (k : ℕ) (o : Option ℕ) → kth_pending h.receiver net.actors (seen net) (get_or ss place d).port.who k ≡ o → kth (waiting (sys words births net ss c) (seen net) (Some who)) k ≡ o
       kth_at k o is = ap (λ n. kth (waiting (sys words births net ss c) (seen net) (Some n)) k) (sym (at.number d)) ∙ (sym (waiting_at words births net ss c place at.inside d (seen net) k) ∙ is)
@@ -101,6 +108,9 @@ module _ {A M O : Type 0} {g : Ghosts A M O} {h : MailGhosts M} where
 
       pub delivers_spent : (k : ℕ) → Served births place k net next ss after Spent → Stepped (sys words births net ss c) (line_row (sys words births net ss c) (seen net) (DeliverLine who k)) net next after Skipped
       delivers_spent k t = (t.0, ap (option_and_then (λ mail. acts (sys words births net ss c) (seen net) who (Deliver mail))) (waiting_crashed words births net ss c who k (seen net) (halted true t.2)), t.1)
+
+    pub tells_nowhere : (who : ℕ) (event : Event O) → IsNowhere ss who → Stepped (sys words births net ss c) (acts (sys words births net ss c) (seen net) who event) net net ss Skipped
+    tells_nowhere who event out = (c, acts_none words births net ss c who (seen net) event out, refl)
 
     pub delivers_nowhere : (who k : ℕ) → IsNowhere ss who → Stepped (sys words births net ss c) (line_row (sys words births net ss c) (seen net) (DeliverLine who k)) net net ss Skipped
     delivers_nowhere who k out = (c, ap (option_and_then (λ mail. acts (sys words births net ss c) (seen net) who (Deliver mail))) (waiting_none words births net ss c who k (seen net) out), refl)

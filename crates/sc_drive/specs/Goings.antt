@@ -1,22 +1,40 @@
 -- How a driver stands with the walk of a schedule.
-use Rattle.std.specs.Prelude.{◌≡◌, ℕ, ◌+◌, ◌<◌, ◌≤◌, List, [], ◌∷◌, ◌++◌, Bool, true, false, ◌&&◌, nat_le}
+use Rattle.std.specs.Prelude.{◌≡◌, ℕ, ◌+◌, ◌<◌, ◌≤◌, List, [], ◌∷◌, ◌++◌, Bool, true, false, ◌&&◌, nat_le, ⊤}
 use Rattle.sc_actor.specs.declared.actors.Actor.{Ghosts}
 use Rattle.sc_actor.specs.declared.actors.Parcel.{Ghosts as MailGhosts}
 use Rattle.sc_actor.specs.declared.actors.Seat.{Seat}
 use Rattle.sc_actor.specs.declared.rows.Row.{Row}
 use Rattle.sc_actor.specs.declared.schedules.Line.{Line}
+use Rattle.sc_actor.specs.declared.schedules.Line.TheVariants.{Go, Settle, Free, Storm}
 use Rattle.sc_actor.specs.Counted.{journal_bytes}
 use Rattle.sc_actor.specs.System.{system, has_gone}
-use Rattle.sc_actor.specs.Walk.{Task, IsLawful, place_after, onward}
+use Rattle.sc_actor.specs.Walk.{Task, IsLawful, IsWhole, place_after, onward, line_row, skipped, unsettled}
 use Rattle.sc_play.specs.Moves.{IsFull}
 use Rattle.sc_exchange.specs.declared.ports.Port.{Port}
 use Rattle.sc_exchange.specs.Ports.{seen}
 use Rattle.sc_shell.specs.declared.shells.Shell.{Shell}
 use Rattle.sc_drive.specs.declared.steps.Score.{Score}
+use Rattle.sc_drive.specs.declared.steps.Step.{Step}
+use Rattle.sc_drive.specs.declared.steps.Driven.{Driven}
+use Rattle.sc_drive.specs.declared.steps.Driven.TheVariants.{Ended, Full, OutOfMemory}
 use Rattle.sc_drive.specs.Numbers.{is_in}
 use Rattle.sc_drive.specs.Companies.{Company}
+use Rattle.sc_drive.specs.Stepping.{Stepped}
+
+-- a line of one row at which no actor is told to go
+abbrev pub IsCalm : {O : Type 0} → Line O → Type 0
+IsCalm (Go who) = ⊥
+IsCalm (Settle most) = ⊥
+IsCalm (Free most workers) = ⊥
+IsCalm (Storm number most) = ⊥
+IsCalm line = ⊤
 
 module _ {A M O : Type 0} {g : Ghosts A M O} {h : MailGhosts M} where
+  -- what a line of one row came to, where it is noted who was told to go
+  abbrev pub StepsSo : Line O → Port M O h → List (Shell A M O g h) → Score → Port M O h → List (Shell A M O g h) → Step → Type 0
+  StepsSo line net ss score next after step =
+      (words : ℕ → ℕ → ℕ × ℕ) (births : List (Seat A)) → Company births net ss → ((who : ℕ) → has_gone (seen net) who ≡ is_in who score.gone.items) → Stepped (system g.table h.receiver words births) (line_row (system g.table h.receiver words births) (seen net) line) net next after step
+
   -- What the network's port has seen is a lawful journal within the limit, the walk after it has these tasks left, the score is the walk's, and all is as it is between two lines.
   pub record At (words : ℕ → ℕ → ℕ × ℕ) (births : List (Seat A)) (lines : List (Line O)) (net : Port M O h) (ss : List (Shell A M O g h)) (score : Score) (tasks : List (Task O)) : Type 0 where
     pub lawful : IsLawful (system g.table h.receiver words births) lines (seen net)
@@ -34,3 +52,18 @@ module _ {A M O : Type 0} {g : Ghosts A M O} {h : MailGhosts M} where
   abbrev pub Fills : Port M O h → List (Shell A M O g h) → Score → List (Task O) → Port M O h → Type 0
   Fills net ss score before next =
       (words : ℕ → ℕ → ℕ × ℕ) (births : List (Seat A)) (lines : List (Line O)) (rest : List (Task O)) → At words births lines net ss score (before ++ rest) → IsFull (system g.table h.receiver words births) h.weighs lines net.limit (seen next)
+
+  -- The journal is lawful, whole and within the limit, the lines that were cut off and skipped are the walk's, and each actor is the replay of its rows.
+  pub record HasEnded (words : ℕ → ℕ → ℕ × ℕ) (births : List (Seat A)) (lines : List (Line O)) (net : Port M O h) (ss : List (Shell A M O g h)) (cut : Bool) (skips : ℕ) : Type 0 where
+    pub lawful : IsLawful (system g.table h.receiver words births) lines (seen net)
+    pub whole : IsWhole (system g.table h.receiver words births) lines (seen net)
+    pub within : journal_bytes h.weighs (seen net) ≤ net.limit
+    pub cut_is : cut ≡ unsettled (system g.table h.receiver words births) lines (seen net)
+    pub skips_are : skips ≡ skipped (system g.table h.receiver words births) lines (seen net)
+    pub company : Company births net ss
+
+  -- how a schedule was driven, from an empty journal
+  abbrev pub IsDriven : (ℕ → ℕ → ℕ × ℕ) → List (Seat A) → List (Line O) → ℕ → Port M O h → List (Shell A M O g h) → Driven → Type 0
+  IsDriven words births lines limit net ss (Ended cut skips) = HasEnded words births lines net ss cut skips
+  IsDriven words births lines limit net ss Full = IsFull (system g.table h.receiver words births) h.weighs lines limit (seen net)
+  IsDriven words births lines limit net ss OutOfMemory = ⊤

@@ -2,8 +2,13 @@
 #![tactic(auto)]
 
 mod acting;
+mod driving;
 mod lines;
 mod network;
 mod running;
 mod settling;
+mod singles;
 mod steps;
+
+pub use driving::drive;
+pub use steps::Driven;

@@ -1,51 +1,18 @@
-//! A schedule, line by line.
-ghost use Rattle.std.specs.Prelude.{◌≡◌, ◌<◌, ◌≤◌, ◌-◌, ◌^◌, [], ◌∷◌, length, OnOk, IsErrOf, true};
-ghost use Rattle.sc_actor.specs.Walk.{Once, Frees};
+//! A line of rounds.
+ghost use Rattle.std.specs.Prelude.{◌≡◌, [], ◌∷◌, length, OnOk, IsErrOf, true};
+ghost use Rattle.sc_actor.specs.Walk.{Frees};
 ghost use Rattle.sc_exchange.specs.Ports.{Stays};
 ghost use Rattle.sc_workers.specs.Crews.{AllOf, AllSound};
 ghost use Rattle.sc_drive.specs.Goings.{Goes, Fills};
 
-use crate::lines::deliver;
-use crate::steps::{Score, Step, Stop};
-use sc_actor::{Actor, Gate, Line};
+use crate::steps::{Score, Stop};
+use sc_actor::{Actor, Gate};
 use sc_exchange::Port;
 use sc_shell::Shell;
 use sc_workers::{Rounds, gather, rounds};
 use std::alloc::Global;
 use std::sync::Wait;
 use std::thread::Threads;
-
-/// A line that delivers one mail.
-pub(crate) fn run_deliver<A: Actor, G: Gate, R: Wait>(
-    rt: &R,
-    alloc: Global,
-    net: &mut Port<A::Mail, A::Order>,
-    shells: &mut Vec<Shell<A>>,
-    score: &mut Score,
-    who: u32,
-    k: u32,
-    gate: &G,
-) -> Result<(), Stop>
-    requires exchange { AllOf net.old shells.old.items }
-    requires room { score.old.skipped < 2 ^ 64 - 1 }
-    ensures len { OnOk result (length shells.new.items ≡ length shells.old.items) }
-    ensures exchange { OnOk result (AllOf net.new shells.new.items) }
-    ensures net { OnOk result (Stays net.old net.new) }
-    ensures goes { OnOk result (Goes net.old shells.old.items score.old (Once (Line.Deliver who k) ∷ []) net.new shells.new.items score.new []) }
-    ensures fills { IsErrOf result Stop.Full → Fills net.old shells.old.items score.old (Once (Line.Deliver who k) ∷ []) net.new }
-{
-    let Ok(step) = deliver(rt, alloc, net, shells, who, k, gate) else {
-        return Err(Stop::OutOfMemory);
-    };
-    match step {
-        Step::Made => Ok(()),
-        Step::Skipped => {
-            score.skipped += 1;
-            Ok(())
-        }
-        Step::Full => Err(Stop::Full),
-    }
-}
 
 // Whether each shell that is spent has posted a Crash.
 fn all_sound<A: Actor>(shells: &[Shell<A>]) -> bool

@@ -1,0 +1,82 @@
+//! A schedule driven to its end.
+ghost use Rattle.std.specs.Prelude.{◌≡◌, ℕ, [], ◌∷◌, List, length, OnOk, IsErrOf, true, All};
+ghost use Rattle.sc_actor.specs.declared.actors.Seat.{Seat};
+ghost use Rattle.sc_play.specs.Deeds.{is_built};
+ghost use Rattle.sc_play.specs.Moves.{line_task};
+ghost use Rattle.sc_exchange.specs.Ports.{seen, Stays};
+ghost use Rattle.sc_workers.specs.Crews.{AllOf};
+ghost use Rattle.sc_drive.specs.Companies.{Company};
+ghost use Rattle.sc_drive.specs.Goings.{Goes, Fills, IsDriven};
+
+use crate::singles::{run_go, run_once};
+use crate::running::run_free;
+use crate::settling::run_settle;
+use crate::steps::{Driven, Score, Stop};
+use sc_actor::{Actor, Gate, Line};
+use sc_exchange::Port;
+use sc_shell::Shell;
+use std::alloc::Global;
+use std::sync::Wait;
+use std::thread::Threads;
+
+// One line.
+fn run_line<A: Actor, G: Gate, R: Threads + Wait + Sync>(
+    rt: &R,
+    alloc: Global,
+    net: &mut Port<A::Mail, A::Order>,
+    shells: &mut Vec<Shell<A>>,
+    score: &mut Score,
+    line: &Line<A::Order>,
+    gate: &G,
+) -> Result<(), Stop>
+    requires net { net.old.who ≡ 0 }
+    requires exchange { AllOf net.old shells.old.items }
+    ensures len { OnOk result (length shells.new.items ≡ length shells.old.items) }
+    ensures exchange { OnOk result (AllOf net.new shells.new.items) }
+    ensures net { OnOk result (Stays net.old net.new) }
+    ensures goes { OnOk result (Goes net.old shells.old.items score.old (line_task line.now ∷ []) net.new shells.new.items score.new []) }
+    ensures fills { IsErrOf result Stop.Full → Fills net.old shells.old.items score.old (line_task line.now ∷ []) net.new }
+{
+    match line {
+        Line::Go { who } => run_go(rt, alloc, net, shells, score, *who),
+        Line::Settle { most } => run_settle(rt, alloc, net, shells, score, *most, gate),
+        Line::Free { most, workers } => {
+            run_free(rt, alloc, net, shells, score, *most, *workers, gate)
+        }
+        _ => run_once(rt, alloc, net, shells, score, line, gate),
+    }
+}
+
+/// Drives a schedule through the network's port and the shells of its actors.
+///
+/// No line is a storm. Where the shells are those of actors at their births, each at its port, and the journal is empty, the journal is afterwards what the contract of a played schedule says. A line that tells a crashed actor to go is answered as a want of memory.
+pub fn drive<A: Actor, G: Gate, R: Threads + Wait + Sync>(
+    rt: &R,
+    alloc: Global,
+    net: &mut Port<A::Mail, A::Order>,
+    shells: &mut Vec<Shell<A>>,
+    lines: &[Line<A::Order>],
+    gate: &G,
+) -> Driven
+    requires net { net.old.who ≡ 0 }
+    requires exchange { AllOf net.old shells.old.items }
+    requires built { All (λ line. is_built line ≡ true) lines.now }
+    ensures { (words : ℕ → ℕ → ℕ × ℕ) (births : List (Seat A)) → Company births net.old shells.old.items → seen net.old ≡ [] → IsDriven words births lines.now net.old.limit net.new shells.new.items result }
+{
+    let mut score = Score {
+        skipped: 0,
+        unsettled: false,
+        gone: Vec::new(alloc),
+    };
+    for line in lines {
+        match run_line(rt, alloc, net, shells, &mut score, line, gate) {
+            Ok(()) => {}
+            Err(Stop::Full) => return Driven::Full,
+            Err(Stop::OutOfMemory) => return Driven::OutOfMemory,
+        }
+    }
+    Driven::Ended {
+        unsettled: score.unsettled,
+        skipped: score.skipped,
+    }
+}
