@@ -1,6 +1,5 @@
 -- What an act did to the journal, from what the shell did.
-use Rattle.std.proofs.Common.{◌≡◌, ◌≢◌, ℕ, zero, suc, ◌+◌, ◌<◌, ◌≤◌, ⊎_elim, inl, inr, ◌⊎◌, Bool, true, false, true≢false, eqb, eq-eqb, cond, not, ◌||◌, List, [], ◌∷◌, ◌++◌, length, map, get_or, set, refl, sym, ap, ◌∙◌, subst, arith, length-append, Option, Some, None}
-use Rattle.std.specs.List.{list_any}
+use Rattle.std.proofs.Common.{◌≡◌, ℕ, ◌+◌, ◌<◌, ◌≤◌, ⊎_elim, inl, inr, ◌⊎◌, Bool, true, false, true≢false, not, ◌||◌, List, [], ◌∷◌, ◌++◌, length, get_or, set, refl, sym, ap, ◌∙◌, subst, arith, length-append, Option, Some}
 use Rattle.std.specs.Option.{option_map}
 use Rattle.sc_turn.specs.Turn.{StartsWith}
 use Rattle.sc_actor.specs.declared.actors.Actor.{Ghosts}
@@ -14,7 +13,7 @@ use Rattle.sc_actor.specs.declared.rows.Input.TheVariants.{Got}
 use Rattle.sc_actor.specs.Mail.{mails, numbered, is_crash}
 use Rattle.sc_actor.specs.Counted.{row_bytes, journal_bytes}
 use Rattle.sc_actor.specs.Replay.{acted, input_of, value}
-use Rattle.sc_actor.specs.System.{row_of, numbers_of}
+use Rattle.sc_actor.specs.System.{row_of}
 use Rattle.sc_ledger.specs.Pending.{kth_pending}
 use Rattle.sc_exchange.specs.declared.ports.Port.{Port}
 use Rattle.sc_exchange.specs.Deeds.{rows_of}
@@ -23,14 +22,14 @@ use Rattle.sc_shell.specs.Answers.{MayHappen}
 use Rattle.sc_shell.specs.declared.shells.Shell.{Shell}
 use Rattle.sc_shell.specs.declared.turns.Turn.{Turn}
 use Rattle.sc_shell.specs.declared.turns.Turn.TheVariants.{Did, Empty, Full, Spent, OutOfMemory}
-use Rattle.sc_shell.specs.Shells.{Happens, Takes, Acts, IsReplay, Replays, state, row_at, Fetches}
+use Rattle.sc_shell.specs.Shells.{Happens, Takes, IsReplay, Replays, state, row_at, Fetches}
 use Rattle.sc_shell.proofs.Taking.{input_steady}
-use Rattle.sc_workers.specs.Crews.{Still, AllStill, AllOf, IsAhead, Sound, numbers}
+use Rattle.sc_workers.specs.Crews.{Still, AllStill, AllOf, IsAhead, Sound}
 use Rattle.sc_workers.specs.Ends.{IsGathered}
 use Rattle.sc_workers.proofs.Lists.{starts_trans, get_any}
 use Rattle.sc_workers.proofs.Attending.{prefix_snoc, count_split}
 use Rattle.sc_drive.specs.Companies.{Company}
-use Rattle.sc_drive.specs.Acts.{Met, MetAndTold, MetAndTook, RowAdded, RowPasses, HasHalted, Told, KthIs, Served}
+use Rattle.sc_drive.specs.Acts.{RowAdded, RowPasses, HasHalted, Told, KthIs, Served}
 use Rattle.sc_drive.proofs.Counting.{whole_front}
 use Rattle.sc_drive.proofs.Gathering.{at_map, map_length, nothing_seen, row_seen, seen_before, shell_later, company_after}
 
@@ -45,8 +44,8 @@ module _ {A M O : Type 0} {g : Ghosts A M O} {h : MailGhosts M} where
 
   -- after one shell has acted and all have gathered
   module _ (births : List (Seat A)) (net mid next : Port M O h) (ss after : List (Shell A M O g h)) (k : ℕ) (t : Shell A M O g h) (c : Company births net ss) (lt : k < length ss) (one : AllOf net ss)
-           (met : Shell A M O g h) (still : Still (get_or ss k t) met) (ahead : IsAhead net met) (stays : Stays met.port t.port) (keeps : (birth : A) → IsReplay met birth → IsReplay t birth)
-           (looked : Looked net next) (len : length after ≡ length ss) (rest : AllStill (set ss k t) after) (gathered : IsGathered next after) (rows : IsTrue next) where
+      (met : Shell A M O g h) (still : Still (get_or ss k t) met) (ahead : IsAhead net met) (stays : Stays met.port t.port) (keeps : (birth : A) → IsReplay met birth → IsReplay t birth)
+      (looked : Looked net next) (len : length after ≡ length ss) (rest : AllStill (set ss k t) after) (gathered : IsGathered next after) (rows : IsTrue next) where
     was : (d : Shell A M O g h) → Still (get_or ss k d) met
     was d = subst (λ s. Still s met) (get_any ss k t d lt) still
 

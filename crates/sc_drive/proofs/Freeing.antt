@@ -1,5 +1,5 @@
 -- The rows of rounds are rows that the walk allows to a free line.
-use Rattle.std.proofs.Common.{◌≡◌, ◌≢◌, ℕ, zero, suc, ◌+◌, ◌-◌, ◌<◌, ◌≤◌, Bool, true, false, true≢false, eqb, eq-eqb, cond, not, ◌||◌, ◌&&◌, replicate, List, [], ◌∷◌, ◌++◌, length, map, get_or, refl, sym, ap, ◌∙◌, subst, arith, length-append, append_assoc, Option, Some, None, is_some, Contains}
+use Rattle.std.proofs.Common.{◌≡◌, ℕ, zero, suc, ◌+◌, ◌-◌, ◌<◌, ◌≤◌, Bool, true, false, true≢false, eqb, eq-eqb, cond, ◌||◌, ◌&&◌, replicate, List, [], ◌∷◌, ◌++◌, length, get_or, refl, sym, ap, ◌∙◌, subst, arith, length-append, append_assoc, Option, Some, None, Contains}
 use Rattle.std.specs.Prelude.{slice_get, is_none, option_and_then}
 use Rattle.std.specs.List.{list_any}
 use Rattle.std.proofs.lemmas.List.{append-nil}
@@ -10,14 +10,13 @@ use Rattle.sc_actor.specs.declared.actors.Actor.{Ghosts}
 use Rattle.sc_actor.specs.declared.actors.Parcel.{Ghosts as MailGhosts}
 use Rattle.sc_actor.specs.declared.actors.Seat.{Seat}
 use Rattle.sc_actor.specs.declared.rows.Row.{Row}
-use Rattle.sc_actor.specs.declared.rows.Event.{Event}
 use Rattle.sc_actor.specs.declared.rows.Event.TheVariants.{Deliver}
 use Rattle.sc_actor.specs.declared.schedules.Line.{Line}
-use Rattle.sc_actor.specs.Mail.{mails, copies, numbers, numbered, is_for, may_get, has_crashed}
-use Rattle.sc_actor.specs.Counted.{row_bytes, journal_bytes}
+use Rattle.sc_actor.specs.Mail.{mails, copies, numbers, numbered, is_for, may_get}
+use Rattle.sc_actor.specs.Counted.{journal_bytes}
 use Rattle.sc_actor.specs.System.{System, numbers_of, row_of, acts, waiting, kth, has_gone, is_go}
 use Rattle.sc_actor.specs.Steps.{IsUnderWay}
-use Rattle.sc_actor.specs.Walk.{Task, Frees, Allows, is_over, is_quiet, first_of, rest_of}
+use Rattle.sc_actor.specs.Walk.{Task, Frees, is_over, is_quiet, first_of}
 use Rattle.sc_actor.proofs.WalkLemmas.{Stands, Stands-row}
 use Rattle.sc_actor.proofs.PendingLemmas.{waiting_any}
 use Rattle.sc_play.proofs.DeedLemmas.{first_own}
@@ -26,9 +25,8 @@ use Rattle.sc_exchange.specs.declared.ports.Port.{Port}
 use Rattle.sc_exchange.specs.Deeds.{rows_of}
 use Rattle.sc_exchange.specs.Ports.{seen, made, Looked, IsTrue}
 use Rattle.sc_shell.specs.declared.shells.Shell.{Shell}
-use Rattle.sc_shell.specs.Shells.{IsReplay}
-use Rattle.sc_workers.specs.Crews.{Goes, AllGo, AllOver, numbers as crew_numbers, rows_made}
-use Rattle.sc_workers.specs.Services.{IsService, Serves, AllServe}
+use Rattle.sc_workers.specs.Crews.{AllGo, AllOver, numbers as crew_numbers, rows_made}
+use Rattle.sc_workers.specs.Services.{IsService, AllServe}
 use Rattle.sc_workers.proofs.Serving.{numbers_go, count_later}
 use Rattle.sc_workers.proofs.Attending.{count_split}
 use Rattle.sc_drive.specs.Numbers.{is_in, apart}
@@ -82,9 +80,9 @@ module _ {A M O : Type 0} (s : System A M O) (rows : List (Row M O)) where
         u.1.sent,
         u.1.may,
         first_own (is_for s.receiver (numbers_of s.births) rows None) (is_for s.receiver (numbers_of s.births) rows (Some (s.receiver u.0)))
-        (λ x t. let parts = and_parts (eqb (s.receiver x) (s.receiver u.0)) (may_get (numbers_of s.births) rows (s.receiver u.0)) t in subst (λ w. may_get (numbers_of s.births) rows w ≡ true) (sym (eqb-true (s.receiver x) (s.receiver u.0) parts.0)) parts.1)
-        1 (mails rows) (copies rows) (suc place) place u.0 e (omega arith) u.1.sent
-        (ap (λ b. b && may_get (numbers_of s.births) rows (s.receiver u.0)) (eq-eqb (s.receiver u.0) (s.receiver u.0) refl) ∙ u.1.may),
+            (λ x t. let parts = and_parts (eqb (s.receiver x) (s.receiver u.0)) (may_get (numbers_of s.births) rows (s.receiver u.0)) t in subst (λ w. may_get (numbers_of s.births) rows w ≡ true) (sym (eqb-true (s.receiver x) (s.receiver u.0) parts.0)) parts.1)
+            1 (mails rows) (copies rows) (suc place) place u.0 e (omega arith) u.1.sent
+            (ap (λ b. b && may_get (numbers_of s.births) rows (s.receiver u.0)) (eq-eqb (s.receiver u.0) (s.receiver u.0) refl) ∙ u.1.may),
       )
 
 pub flip_in : (n : ℕ) (ws : List ℕ) → list_any (λ a. eqb a n) ws ≡ true → is_in n ws ≡ true

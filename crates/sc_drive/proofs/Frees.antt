@@ -1,5 +1,5 @@
 -- A free line takes the walk on.
-use Rattle.std.proofs.Common.{◌≡◌, ◌≢◌, ℕ, zero, suc, ◌+◌, ◌-◌, ◌<◌, ◌≤◌, Bool, true, false, true≢false, eqb, not, ◌||◌, List, [], ◌∷◌, ◌++◌, length, get_or, refl, sym, ap, ◌∙◌, subst, arith, Option, Some, None, is_some}
+use Rattle.std.proofs.Common.{◌≡◌, ℕ, ◌+◌, ◌-◌, ◌<◌, ◌≤◌, Bool, true, false, eqb, not, ◌||◌, List, [], ◌∷◌, length, get_or, refl, sym, ap, ◌∙◌, subst, arith, Some}
 use Rattle.std.specs.Prelude.{option_and_then}
 use Rattle.std.proofs.lemmas.Bool.{ne_eqb}
 use Rattle.sc_actor.specs.declared.actors.Actor.{Ghosts}
@@ -21,10 +21,9 @@ use Rattle.sc_shell.specs.declared.shells.Shell.{Shell}
 use Rattle.sc_workers.specs.declared.answers.Rounds.TheVariants.{Quiet, Limit, Full}
 use Rattle.sc_workers.specs.Crews.{AllGo, AllOver, AllStill, AllSound, numbers, rows_made}
 use Rattle.sc_workers.specs.Services.{AllServe}
-use Rattle.sc_workers.specs.Ends.{IsEnd, IsGathered, any_waits}
+use Rattle.sc_workers.specs.Ends.{IsEnd, IsGathered}
 use Rattle.sc_drive.specs.declared.steps.Score.{Score}
 use Rattle.sc_drive.specs.Numbers.{is_in}
-use Rattle.sc_drive.specs.Companies.{Company}
 use Rattle.sc_drive.specs.Goings.{At, Goes, Fills}
 use Rattle.sc_drive.proofs.Doing.{birth_number}
 use Rattle.sc_drive.proofs.Walking.{acts_at, waiting_at}
@@ -41,7 +40,7 @@ or_true false = refl
 
 module _ {A M O : Type 0} {g : Ghosts A M O} {h : MailGhosts M} where
   module _ (net mid next : Port M O h) (ss mids after : List (Shell A M O g h)) (score now : Score) (most : ℕ) (looked : Looked net mid) (len : length mids ≡ length ss) (go : AllGo ss mids)
-           (looked2 : Looked mid next) (len2 : length after ≡ length mids) (still : AllStill mids after) (gathered : IsGathered next after) (rows : IsTrue next) where
+      (looked2 : Looked mid next) (len2 : length after ≡ length mids) (still : AllStill mids after) (gathered : IsGathered next after) (rows : IsTrue next) where
     rows_mid : IsTrue mid
     rows_mid = true_before mid next looked2 rows
 

@@ -1,29 +1,25 @@
 -- What the network's port has seen once all have met: how many rows, and which.
-use Rattle.std.proofs.Common.{◌≡◌, ◌≢◌, ℕ, zero, suc, ◌+◌, ◌<◌, ◌≤◌, ⊎_elim, inl, inr, ◌⊎◌, Bool, true, false, true≢false, eqb, eq-eqb, ◌||◌, List, [], ◌∷◌, ◌++◌, length, map, sum_by, get_or, set, get_or-set_other, get_or-set_same, refl, sym, ap, ◌∙◌, subst, arith, length-append, append_assoc, Contains}
-use Rattle.std.proofs.lemmas.List.{append-nil}
+use Rattle.std.proofs.Common.{◌≡◌, ℕ, zero, suc, ◌+◌, ◌<◌, ◌≤◌, inl, inr, Bool, true, false, true≢false, eqb, eq-eqb, ◌||◌, List, [], ◌∷◌, ◌++◌, length, map, sum_by, get_or, set, get_or-set_other, get_or-set_same, refl, sym, ap, ◌∙◌, subst, arith, length-append, Contains}
 use mathlib.Core.Logic.{dite}
 use native.Mathlib.Decide.{ℕ_discrete}
-use Rattle.std.proofs.lemmas.Bool.{eqb-true}
 use Rattle.sc_turn.specs.Turn.{StartsWith}
 use Rattle.sc_actor.specs.declared.actors.Actor.{Ghosts}
 use Rattle.sc_actor.specs.declared.actors.Parcel.{Ghosts as MailGhosts}
 use Rattle.sc_actor.specs.declared.actors.Seat.{Seat}
 use Rattle.sc_actor.specs.declared.rows.Row.{Row}
-use Rattle.sc_actor.specs.System.{numbers_of}
 use Rattle.sc_exchange.specs.declared.ports.Port.{Port}
 use Rattle.sc_exchange.specs.Deeds.{rows_of}
-use Rattle.sc_exchange.specs.Ports.{seen, made, given, SameExchange, Stays, Looked, Appended, IsTrue}
+use Rattle.sc_exchange.specs.Ports.{seen, made, given, Stays, Looked, Appended, IsTrue}
 use Rattle.sc_shell.specs.declared.shells.Shell.{Shell}
-use Rattle.sc_shell.specs.Shells.{IsReplay, Replays, KeepsReplay}
-use Rattle.sc_shell.proofs.Taking.{looked_trans}
-use Rattle.sc_workers.specs.Crews.{AllOver, AllOf, AllSound, Sound, Still, AllStill, IsAhead, numbers, rows_made}
+use Rattle.sc_shell.specs.Shells.{IsReplay, Replays}
+use Rattle.sc_workers.specs.Crews.{AllOver, AllSound, Sound, Still, AllStill, IsAhead, numbers, rows_made}
 use Rattle.sc_workers.specs.Ends.{IsGathered}
 use Rattle.sc_workers.proofs.Lists.{sum_set, get_any, starts_trans}
 use Rattle.sc_workers.proofs.Crews.{still_rows, still_all_go}
 use Rattle.sc_workers.proofs.Serving.{numbers_go}
 use Rattle.sc_drive.specs.Numbers.{is_in, apart}
 use Rattle.sc_drive.specs.Companies.{Company}
-use Rattle.sc_drive.proofs.Counting.{count_rows, all_in, not_in, sum_map, sum_each, sum_head, same_front, whole_front}
+use Rattle.sc_drive.proofs.Counting.{count_rows, all_in, not_in, sum_map, sum_each, sum_head, whole_front}
 
 or_parts : (a b : Bool) → (a || b) ≡ false → (a ≡ false) × (b ≡ false)
 or_parts true b e = absurd (true≢false e)
@@ -34,8 +30,8 @@ module _ {A M O : Type 0} {g : Ghosts A M O} {h : MailGhosts M} where
   pub count_seen : (net : Port M O h) (ss : List (Shell A M O g h)) → net.who ≡ 0 → given net ≡ numbers ss → apart (0 ∷ numbers ss) ≡ true → AllOver net ss → IsTrue net → length (seen net) ≡ length (made net) + rows_made ss
   count_seen net ss first all far over rows =
       let closed : (n : ℕ) → is_in n (0 ∷ numbers ss) ≡ false → rows_of n (seen net) ≡ [] = λ n out.
-          let parts = or_parts (eqb n 0) (is_in n (numbers ss)) out in
-          rows.others first n (λ z. true≢false (sym (eq-eqb n 0 z) ∙ parts.0)) (λ c. not_in n (numbers ss) parts.1 (subst (λ ws. Contains ws n) all c)) in
+      let parts = or_parts (eqb n 0) (is_in n (numbers ss)) out in
+      rows.others first n (λ z. true≢false (sym (eq-eqb n 0 z) ∙ parts.0)) (λ c. not_in n (numbers ss) parts.1 (subst (λ ws. Contains ws n) all c)) in
       let total : length (seen net) ≡ sum_by (λ w. length (rows_of w (seen net))) (0 ∷ numbers ss) = count_rows (0 ∷ numbers ss) (seen net) far (all_in (0 ∷ numbers ss) (seen net) closed) in
       let net_rows : length (rows_of 0 (seen net)) ≡ length (made net) = ap (λ n. length (rows_of n (seen net))) (sym first) ∙ ap length rows.own in
       let each : sum_by (λ (s : Shell A M O g h). length (rows_of s.port.who (seen net))) ss ≡ rows_made ss = sum_each (λ (s : Shell A M O g h). length (rows_of s.port.who (seen net))) (λ (s : Shell A M O g h). length (made s.port)) ss (λ k d lt. ap length (over k d lt).own) in
@@ -91,8 +87,8 @@ module _ {A M O : Type 0} {g : Ghosts A M O} {h : MailGhosts M} where
 
   -- after one shell has acted and all have gathered
   module _ (births : List (Seat A)) (net mid next : Port M O h) (ss after : List (Shell A M O g h)) (k : ℕ) (t : Shell A M O g h) (c : Company births net ss) (lt : k < length ss)
-           (met : Shell A M O g h) (still : (d : Shell A M O g h) → Still (get_or ss k d) met) (ahead : IsAhead net met) (stays : Stays met.port t.port)
-           (looked : Looked net next) (len : length after ≡ length ss) (rest : AllStill (set ss k t) after) (gathered : IsGathered next after) (rows : IsTrue next) where
+      (met : Shell A M O g h) (still : (d : Shell A M O g h) → Still (get_or ss k d) met) (ahead : IsAhead net met) (stays : Stays met.port t.port)
+      (looked : Looked net next) (len : length after ≡ length ss) (rest : AllStill (set ss k t) after) (gathered : IsGathered next after) (rows : IsTrue next) where
     abbrev middle : List (Shell A M O g h)
     middle = set ss k t
 

@@ -1,7 +1,6 @@
 -- A line of one row takes the walk on.
-use Rattle.std.proofs.Common.{◌≡◌, ◌≢◌, ℕ, zero, suc, ◌+◌, ◌-◌, ◌<◌, ◌≤◌, Bool, true, false, true≢false, eqb, eq-eqb, cond, not, ◌||◌, ◌&&◌, find, List, [], ◌∷◌, ◌++◌, length, map, get_or, refl, sym, ap, ◌∙◌, subst, arith, Option, Some, None}
+use Rattle.std.proofs.Common.{◌≡◌, ℕ, ◌+◌, ◌<◌, ◌≤◌, Bool, true, false, true≢false, eqb, eq-eqb, cond, ◌||◌, ◌&&◌, find, List, [], ◌∷◌, ◌++◌, refl, sym, ap, ◌∙◌, subst, Option, Some, None}
 use Rattle.std.specs.Prelude.{is_none, option_and_then}
-use Rattle.std.specs.List.{list_any}
 use Rattle.std.specs.Option.{option_map}
 use Rattle.std.proofs.lemmas.List.Folds.{list_any-append}
 use Rattle.std.proofs.lemmas.Bool.{eqb-true}
@@ -15,9 +14,9 @@ use Rattle.sc_actor.specs.declared.rows.Event.TheVariants.{Deliver, Tick, Go, To
 use Rattle.sc_actor.specs.declared.schedules.Line.{Line}
 use Rattle.sc_actor.specs.declared.schedules.Line.TheVariants.{Go as GoLine, Deliver as DeliverLine, Drop as DropLine, Again as AgainLine, Tick as TickLine, Crash as CrashLine, Told as ToldLine, Settle, Free, Storm}
 use Rattle.sc_actor.specs.Mail.{mails, numbered, has_crashed, may_get}
-use Rattle.sc_actor.specs.Counted.{row_bytes, journal_bytes}
+use Rattle.sc_actor.specs.Counted.{journal_bytes}
 use Rattle.sc_actor.specs.System.{System, system, numbers_of, row_of, acts, waiting, kth, network, has_gone, is_go}
-use Rattle.sc_actor.specs.Walk.{Task, Once, Frees, Allows, is_over, is_quiet, line_row, repeat_of, first_of, cuts, skips}
+use Rattle.sc_actor.specs.Walk.{Once, line_row}
 use Rattle.sc_actor.proofs.WalkLemmas.{Stands, Stands-over, Stands-row, Stands-next}
 use Rattle.sc_ledger.proofs.Kept.{bytes-push}
 use Rattle.sc_play.specs.Moves.{IsFull, line_task}
@@ -30,7 +29,7 @@ use Rattle.sc_drive.specs.declared.steps.Step.TheVariants.{Made, Skipped, Full}
 use Rattle.sc_drive.specs.Numbers.{is_in}
 use Rattle.sc_drive.specs.Companies.{Company}
 use Rattle.sc_drive.specs.Stepping.{Stepped}
-use Rattle.sc_drive.specs.Goings.{At, Goes, Fills, IsCalm, StepsSo}
+use Rattle.sc_drive.specs.Goings.{Goes, Fills, IsCalm, StepsSo}
 
 or_false : (b : Bool) → (b || false) ≡ b
 or_false true = refl

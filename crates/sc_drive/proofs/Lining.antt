@@ -1,11 +1,10 @@
 -- Lines of one row, from what an act did.
-use Rattle.std.proofs.Common.{◌≡◌, ◌≢◌, ℕ, zero, suc, ◌+◌, ◌<◌, ◌≤◌, Bool, true, false, true≢false, eqb, eq-eqb, cond, ◌||◌, List, [], ◌∷◌, ◌++◌, length, get_or, refl, sym, ap, ◌∙◌, subst, arith, Option, Some, None}
+use Rattle.std.proofs.Common.{◌≡◌, ◌≢◌, ℕ, suc, ◌<◌, Bool, true, false, eqb, cond, ◌||◌, List, [], ◌∷◌, length, get_or, refl, sym, ap, ◌∙◌, arith, Option, Some, None}
 use Rattle.std.proofs.lemmas.Bool.{eqb-true}
 use Rattle.std.specs.Prelude.{option_and_then}
 use Rattle.sc_actor.specs.declared.actors.Actor.{Ghosts}
 use Rattle.sc_actor.specs.declared.actors.Parcel.{Ghosts as MailGhosts}
 use Rattle.sc_actor.specs.declared.actors.Seat.{Seat}
-use Rattle.sc_actor.specs.declared.rows.Row.{Row}
 use Rattle.sc_actor.specs.declared.rows.Event.{Event}
 use Rattle.sc_actor.specs.declared.rows.Event.TheVariants.{Deliver}
 use Rattle.sc_actor.specs.declared.schedules.Line.TheVariants.{Deliver as DeliverLine}
@@ -16,13 +15,12 @@ use Rattle.sc_ledger.specs.Pending.{kth_pending}
 use Rattle.sc_exchange.specs.declared.ports.Port.{Port}
 use Rattle.sc_exchange.specs.Ports.{seen, Stays}
 use Rattle.sc_shell.specs.declared.shells.Shell.{Shell}
-use Rattle.sc_shell.specs.declared.turns.Turn.{Turn}
-use Rattle.sc_shell.specs.declared.turns.Turn.TheVariants.{Did, Empty, Full, Spent, OutOfMemory}
+use Rattle.sc_shell.specs.declared.turns.Turn.TheVariants.{Did, Empty, Full, Spent}
 use Rattle.sc_workers.specs.Crews.{numbers}
 use Rattle.sc_drive.specs.Numbers.{is_in}
 use Rattle.sc_drive.specs.declared.steps.Step.TheVariants.{Made, Skipped, Full as TooMuch}
 use Rattle.sc_drive.specs.Companies.{Company}
-use Rattle.sc_drive.specs.Acts.{RowAdded, HasHalted, Told, Served}
+use Rattle.sc_drive.specs.Acts.{HasHalted, Told, Served}
 use Rattle.sc_drive.specs.Stepping.{IsPlace, IsNowhere, Stepped, unless_crashed}
 use Rattle.sc_drive.proofs.Walking.{sys, acts_at, crashed_at, waiting_at, waiting_none, acts_none, waiting_crashed}
 

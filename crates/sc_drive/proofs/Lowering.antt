@@ -1,21 +1,19 @@
 -- The lowest pending mail, to the exchange and to the system.
-use Rattle.std.proofs.Common.{◌≡◌, ◌≢◌, ℕ, zero, suc, ◌+◌, ◌<◌, ◌≤◌, Bool, true, false, true≢false, eqb, eq-eqb, cond, not, ◌||◌, ◌&&◌, replicate, List, [], ◌∷◌, ◌++◌, length, get_or, refl, sym, ap, ◌∙◌, subst, arith, length-append, Option, Some, None}
+use Rattle.std.proofs.Common.{◌≡◌, ℕ, zero, suc, ◌<◌, ◌≤◌, Bool, true, false, true≢false, eqb, not, ◌&&◌, List, [], ◌∷◌, length, get_or, refl, sym, ap, ◌∙◌, subst, arith, Some, None}
 use Rattle.std.specs.Prelude.{slice_get, is_none}
 use Rattle.std.specs.List.{list_any}
-use Rattle.std.proofs.lemmas.Bool.{eqb-true, and_parts}
-use Rattle.sc_turn.specs.Turn.{StartsWith}
+use Rattle.std.proofs.lemmas.Bool.{and_parts}
 use Rattle.sc_actor.specs.declared.actors.Actor.{Ghosts}
 use Rattle.sc_actor.specs.declared.actors.Parcel.{Ghosts as MailGhosts}
 use Rattle.sc_actor.specs.declared.actors.Seat.{Seat}
 use Rattle.sc_actor.specs.declared.rows.Row.{Row}
-use Rattle.sc_actor.specs.Mail.{mails, copies, numbers, numbered, is_for, may_get, has_crashed}
-use Rattle.sc_actor.specs.System.{System, numbers_of, waiting, kth}
+use Rattle.sc_actor.specs.Mail.{mails, copies, numbered, is_for, may_get, has_crashed}
+use Rattle.sc_actor.specs.System.{numbers_of, waiting, kth}
 use Rattle.sc_actor.specs.Walk.{is_quiet}
 use Rattle.sc_actor.proofs.PendingLemmas.{pending_sound}
 use Rattle.sc_play.proofs.DeedLemmas.{first_own}
 use Rattle.sc_ledger.specs.Pending.{upto, kth_pending}
 use Rattle.sc_exchange.specs.declared.ports.Port.{Port}
-use Rattle.sc_exchange.specs.declared.answers.Fetched.{Fetched}
 use Rattle.sc_exchange.specs.declared.answers.Fetched.TheVariants.{Mail, Empty}
 use Rattle.sc_exchange.specs.Answers.{IsFetch}
 use Rattle.sc_exchange.specs.Ports.{seen, Looked, IsTrue}
@@ -24,7 +22,7 @@ use Rattle.sc_workers.specs.Crews.{AllStill, numbers as crew_numbers}
 use Rattle.sc_workers.specs.Ends.{IsGathered}
 use Rattle.sc_drive.specs.Companies.{Company}
 use Rattle.sc_drive.specs.Stepping.{IsPlace}
-use Rattle.sc_drive.specs.Lowest.{LowestAt, Lowest}
+use Rattle.sc_drive.specs.Lowest.{Lowest}
 use Rattle.sc_drive.proofs.Walking.{sys, upto_has, births_have}
 use Rattle.sc_drive.proofs.Doing.{birth_number}
 use Rattle.sc_drive.proofs.Freeing.{wide_none, in_at, flip_in}

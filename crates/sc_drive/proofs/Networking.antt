@@ -1,9 +1,8 @@
 -- Lines of the network.
-use Rattle.std.proofs.Common.{◌≡◌, ◌≢◌, ℕ, zero, suc, ◌+◌, ◌<◌, ◌≤◌, Bool, true, false, true≢false, eqb, eq-eqb, cond, not, ◌||◌, ◌&&◌, List, [], ◌∷◌, ◌++◌, length, get_or, refl, sym, ap, ◌∙◌, subst, arith, length-append, Option, Some, None}
+use Rattle.std.proofs.Common.{◌≡◌, ℕ, suc, ◌+◌, ◌<◌, ◌≤◌, Bool, true, false, eqb, cond, not, ◌&&◌, List, [], ◌∷◌, ◌++◌, length, get_or, refl, sym, ap, ◌∙◌, subst, arith, length-append, Option, Some, None}
 use Rattle.std.specs.Prelude.{option_and_then}
 use Rattle.std.specs.List.{list_any}
 use Rattle.std.specs.Option.{option_map}
-use Rattle.std.proofs.lemmas.Bool.{and_parts}
 use Rattle.sc_turn.specs.Turn.{StartsWith}
 use Rattle.sc_actor.specs.declared.actors.Actor.{Ghosts}
 use Rattle.sc_actor.specs.declared.actors.Parcel.{Ghosts as MailGhosts}
@@ -13,11 +12,11 @@ use Rattle.sc_actor.specs.declared.rows.Event.TheVariants.{Drop, Again}
 use Rattle.sc_actor.specs.declared.schedules.Line.TheVariants.{Drop as DropLine, Again as AgainLine}
 use Rattle.sc_actor.specs.Mail.{mails, numbered, may_get, has_crashed}
 use Rattle.sc_actor.specs.Counted.{row_bytes, journal_bytes}
-use Rattle.sc_actor.specs.System.{System, numbers_of, waiting, kth, network}
-use Rattle.sc_actor.specs.Walk.{line_row, repeat_of}
+use Rattle.sc_actor.specs.System.{numbers_of, waiting, kth, network}
+use Rattle.sc_actor.specs.Walk.{line_row}
 use Rattle.sc_ledger.specs.Pending.{upto, kth_pending, may_have, may_repeat}
 use Rattle.sc_exchange.specs.declared.ports.Port.{Port}
-use Rattle.sc_exchange.specs.Turns.{may_change, change}
+use Rattle.sc_exchange.specs.Turns.{change}
 use Rattle.sc_exchange.specs.Ports.{seen, made, Stays, Looked, Appended, ChangedBy, IsTrue}
 use Rattle.sc_shell.specs.declared.shells.Shell.{Shell}
 use Rattle.sc_shell.proofs.Taking.{looked_trans}
@@ -26,12 +25,9 @@ use Rattle.sc_workers.specs.Ends.{IsGathered}
 use Rattle.sc_workers.proofs.Lists.{starts_trans}
 use Rattle.sc_workers.proofs.Crews.{still_all_go, still_sound, still_rows}
 use Rattle.sc_workers.proofs.Serving.{numbers_go}
-use Rattle.sc_drive.specs.declared.steps.Changed.{Changed}
-use Rattle.sc_drive.specs.declared.steps.Changed.TheVariants.{Done, Undone, Full, OutOfMemory}
 use Rattle.sc_drive.specs.declared.steps.Step.TheVariants.{Made, Skipped, Full as TooMuch}
 use Rattle.sc_drive.specs.Numbers.{is_in, apart}
 use Rattle.sc_drive.specs.Companies.{Company}
-use Rattle.sc_drive.specs.Changing.{Change}
 use Rattle.sc_drive.specs.Stepping.{IsPlace, IsNowhere, Stepped}
 use Rattle.sc_drive.proofs.Counting.{whole_front}
 use Rattle.sc_drive.proofs.Gathering.{count_seen, one_seen, none_seen, replays_of}

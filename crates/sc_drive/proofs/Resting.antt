@@ -1,23 +1,21 @@
 -- Companies that go on, and whether mail is pending at the end of rounds.
-use Rattle.std.proofs.Common.{◌≡◌, ◌≢◌, ℕ, zero, suc, ◌+◌, ◌<◌, ◌≤◌, Bool, true, false, true≢false, eqb, cond, not, ◌||◌, ◌&&◌, List, [], ◌∷◌, ◌++◌, length, map, get_or, refl, sym, ap, ◌∙◌, subst, arith, length-append, Option, Some, None, is_some, inl, inr, Contains}
+use Rattle.std.proofs.Common.{◌≡◌, ℕ, zero, suc, ◌<◌, Bool, true, false, true≢false, eqb, not, ◌||◌, List, [], ◌∷◌, length, get_or, refl, sym, ap, ◌∙◌, subst, arith, Option, Some, None, is_some, Contains}
 use Rattle.std.specs.Prelude.{is_none}
 use Rattle.std.specs.List.{list_any}
 use Rattle.std.proofs.lemmas.Bool.{and_parts}
 use Rattle.sc_actor.specs.declared.actors.Actor.{Ghosts}
 use Rattle.sc_actor.specs.declared.actors.Parcel.{Ghosts as MailGhosts}
 use Rattle.sc_actor.specs.declared.actors.Seat.{Seat}
-use Rattle.sc_actor.specs.declared.rows.Row.{Row}
-use Rattle.sc_actor.specs.Mail.{may_get, has_crashed}
-use Rattle.sc_actor.specs.System.{System, numbers_of, waiting, kth}
+use Rattle.sc_actor.specs.Mail.{has_crashed}
+use Rattle.sc_actor.specs.System.{numbers_of, waiting, kth}
 use Rattle.sc_actor.specs.Walk.{is_quiet}
 use Rattle.sc_ledger.specs.Pending.{kth_pending}
 use Rattle.sc_exchange.specs.declared.ports.Port.{Port}
 use Rattle.sc_exchange.specs.Deeds.{rows_of}
-use Rattle.sc_exchange.specs.Ports.{seen, made, given, Looked, IsTrue}
+use Rattle.sc_exchange.specs.Ports.{seen, made, Looked, IsTrue}
 use Rattle.sc_shell.specs.declared.shells.Shell.{Shell}
-use Rattle.sc_shell.specs.Shells.{IsReplay, Replays}
 use Rattle.sc_shell.proofs.Replaying.{own_length}
-use Rattle.sc_workers.specs.Crews.{Goes, AllGo, AllOver, AllStill, AllSound, Sound, numbers, rows_made}
+use Rattle.sc_workers.specs.Crews.{AllGo, AllOver, AllStill, AllSound, numbers}
 use Rattle.sc_workers.specs.Ends.{any_waits, IsGathered}
 use Rattle.sc_workers.proofs.Crews.{still_all_go, still_sound, still_rows}
 use Rattle.sc_workers.proofs.Serving.{numbers_go, count_later, list_same, waits_at}
@@ -36,7 +34,6 @@ or_parts true b e = absurd (true≢false e)
 or_parts false b e = (refl, e)
 
 module _ {M O : Type 0} {h : MailGhosts M} where
-
   -- what is true later was true before
   pub true_before : (net next : Port M O h) → Looked net next → IsTrue next → IsTrue net
   true_before net next l t = record {

@@ -1,6 +1,5 @@
 -- What the walk allows, told of the network's port and the shells.
-use Rattle.std.proofs.Common.{◌≡◌, ◌≢◌, ℕ, zero, suc, ◌+◌, ◌-◌, ◌<◌, ◌≤◌, inl, inr, ◌⊎◌, Bool, true, false, true≢false, eqb, eq-eqb, cond, not, ◌||◌, ◌&&◌, replicate, find, List, [], ◌∷◌, ◌++◌, length, map, get_or, refl, sym, ap, ◌∙◌, subst, arith, Option, Some, None, is_some}
-use Rattle.std.specs.Prelude.{slice_get, option_and_then}
+use Rattle.std.proofs.Common.{◌≡◌, ◌≢◌, ℕ, zero, suc, ◌<◌, ◌≤◌, Bool, true, false, true≢false, eqb, eq-eqb, cond, not, ◌||◌, ◌&&◌, replicate, find, List, [], ◌∷◌, ◌++◌, length, get_or, refl, sym, ap, ◌∙◌, subst, arith, Some, None}
 use Rattle.std.specs.List.{list_any}
 use Rattle.std.specs.Option.{option_map}
 use Rattle.std.proofs.lemmas.Bool.{eqb-true, and_parts}
@@ -10,13 +9,11 @@ use Rattle.sc_actor.specs.declared.actors.Parcel.{Ghosts as MailGhosts}
 use Rattle.sc_actor.specs.declared.actors.Seat.{Seat}
 use Rattle.sc_actor.specs.declared.rows.Row.{Row}
 use Rattle.sc_actor.specs.declared.rows.Event.{Event}
-use Rattle.sc_actor.specs.declared.rows.Event.TheVariants.{Deliver}
-use Rattle.sc_actor.specs.Mail.{mails, copies, numbers, pending, is_for, may_get, has_crashed, is_crash}
+use Rattle.sc_actor.specs.Mail.{mails, copies, numbers, is_for, may_get, has_crashed, is_crash}
 use Rattle.sc_actor.specs.System.{System, system, numbers_of, row_of, acts, waiting, kth}
-use Rattle.sc_ledger.specs.Pending.{upto, whose, kth_pending}
+use Rattle.sc_ledger.specs.Pending.{upto, kth_pending}
 use Rattle.sc_exchange.specs.declared.ports.Port.{Port}
-use Rattle.sc_exchange.specs.Deeds.{rows_of}
-use Rattle.sc_exchange.specs.Ports.{seen, made}
+use Rattle.sc_exchange.specs.Ports.{seen}
 use Rattle.sc_exchange.proofs.Addressing.{crashed_own}
 use Rattle.sc_shell.specs.declared.shells.Shell.{Shell}
 use Rattle.sc_workers.specs.Crews.{numbers as crew_numbers}

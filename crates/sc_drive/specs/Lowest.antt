@@ -1,5 +1,5 @@
 -- The lowest-numbered pending mail of all.
-use Rattle.std.specs.Prelude.{◌≡◌, ℕ, ◌<◌, List, length, slice_index_or, true, Option, None, Some}
+use Rattle.std.specs.Prelude.{◌≡◌, ℕ, List, true, Option, None, Some}
 use Rattle.sc_actor.specs.declared.actors.Actor.{Ghosts}
 use Rattle.sc_actor.specs.declared.actors.Parcel.{Ghosts as MailGhosts}
 use Rattle.sc_actor.specs.Mail.{mails, numbered}

@@ -8,9 +8,9 @@ ghost use Rattle.sc_workers.specs.Crews.{AllOf};
 ghost use Rattle.sc_drive.specs.Companies.{Company};
 ghost use Rattle.sc_drive.specs.Goings.{Goes, Fills, IsDriven};
 
-use crate::singles::{run_go, run_once};
 use crate::running::run_free;
 use crate::settling::run_settle;
+use crate::singles::{run_go, run_once};
 use crate::steps::{Driven, Score, Stop};
 use sc_actor::{Actor, Gate, Line};
 use sc_exchange::Port;

@@ -39,10 +39,7 @@ pub enum Changed {
 #[derive(Clone, Copy, Debug, PartialEq, Eq)]
 pub enum Driven {
     /// To its end: whether a line of many deliveries ended with mail pending, and how many lines made no row.
-    Ended {
-        unsettled: bool,
-        skipped: u64,
-    },
+    Ended { unsettled: bool, skipped: u64 },
     /// To a row that would pass the limit.
     Full,
     OutOfMemory,

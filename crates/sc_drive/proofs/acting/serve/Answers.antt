@@ -1,9 +1,9 @@
 use Rattle.std.proofs.Common.{rules, ◌≡◌, set, get_or, length, ◌∙◌, subst}
-use Rattle.sc_workers.specs.Crews.{AllStill, AllOf}
+use Rattle.sc_workers.specs.Crews.{AllStill}
 use Rattle.sc_shell.proofs.Taking.{looked_trans}
 use Rattle.sc_workers.proofs.Lists.{get_any}
-use Rattle.sc_drive.specs.Acts.{MetAndTold, MetAndTook}
-use Rattle.sc_drive.proofs.Doing.{told_so, served_so}
+use Rattle.sc_drive.specs.Acts.{MetAndTook}
+use Rattle.sc_drive.proofs.Doing.{served_so}
 use Rattle.sc_drive.proofs.acting.serve.Goals as goal
 
 pub returns-clause-served : goal.returns-clause-served

@@ -1,4 +1,3 @@
-use Rattle.std.proofs.Common.{rules}
 use Rattle.sc_workers.proofs.Crews.{still_made}
 use Rattle.sc_drive.proofs.acting.tell_one.Goals as goal
 

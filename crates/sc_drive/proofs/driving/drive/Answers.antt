@@ -1,4 +1,4 @@
-use Rattle.std.proofs.Common.{rules, ◌≡◌, ◌∙◌, ap, arith, Err}
+use Rattle.std.proofs.Common.{◌∙◌, ap, arith, Err}
 use Rattle.sc_play.proofs.Steps.{built_at}
 use Rattle.sc_drive.proofs.Networking.{stays_then}
 use Rattle.sc_drive.proofs.Wholly.{drive_on, drive_fills, drive_ends}

@@ -1,4 +1,3 @@
-use Rattle.std.proofs.Common.{rules}
 use Rattle.sc_drive.proofs.driving.run_line.Goals as goal
 
 pub returns-in-Go-clause-goes : goal.returns-in-Go-clause-goes

@@ -1,7 +1,7 @@
 use Rattle.std.proofs.Common.{rules, ◌≡◌, subst, None}
-use Rattle.sc_drive.specs.Acts.{Told, Served}
+use Rattle.sc_drive.specs.Acts.{Served}
 use Rattle.sc_drive.specs.Stepping.{IsPlace, IsNowhere}
-use Rattle.sc_drive.proofs.Lining.{delivers_none, delivers_nowhere, delivers_did, delivers_full, delivers_empty, delivers_spent}
+use Rattle.sc_drive.proofs.Lining.{delivers_nowhere, delivers_did, delivers_full, delivers_empty, delivers_spent}
 use Rattle.sc_drive.proofs.Lining.{stays_self}
 use Rattle.sc_drive.proofs.lines.deliver.Goals as goal
 

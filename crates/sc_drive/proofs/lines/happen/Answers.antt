@@ -1,5 +1,5 @@
 use Rattle.std.proofs.Common.{rules, ◌≡◌, subst, None}
-use Rattle.sc_drive.specs.Acts.{Told, Served}
+use Rattle.sc_drive.specs.Acts.{Told}
 use Rattle.sc_drive.specs.Stepping.{IsPlace, IsNowhere}
 use Rattle.sc_drive.proofs.Lining.{happens_nowhere, happens_did, happens_full, happens_spent}
 use Rattle.sc_drive.proofs.Lining.{stays_self}

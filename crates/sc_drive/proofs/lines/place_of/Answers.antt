@@ -1,4 +1,4 @@
-use Rattle.std.proofs.Common.{rules, ◌<◌, length, arith}
+use Rattle.std.proofs.Common.{arith}
 use Rattle.sc_drive.proofs.Lining.{nowhere}
 use Rattle.sc_drive.proofs.lines.place_of.Goals as goal
 

@@ -1,4 +1,4 @@
-use Rattle.std.proofs.Common.{rules, ◌≡◌, ◌∙◌, sym, subst, true, false, None}
+use Rattle.std.proofs.Common.{rules, ◌≡◌, ◌∙◌, sym, subst, false, None}
 use Rattle.sc_drive.specs.Changing.{Change}
 use Rattle.sc_drive.specs.Stepping.{IsPlace, IsNowhere}
 use Rattle.sc_drive.proofs.Networking.{repeats_unsent, repeats_nowhere, repeats_done, repeats_undone, repeats_full}

@@ -1,4 +1,4 @@
-use Rattle.std.proofs.Common.{rules, ◌≡◌, ◌∙◌, sym, subst, true, false, None}
+use Rattle.std.proofs.Common.{rules, ◌≡◌, ◌∙◌, sym, subst, true, None}
 use Rattle.sc_drive.specs.Changing.{Change}
 use Rattle.sc_drive.specs.Stepping.{IsPlace, IsNowhere}
 use Rattle.sc_drive.proofs.Networking.{loses_nowhere, loses_none, loses_done, loses_full}

@@ -1,5 +1,4 @@
-use Rattle.std.proofs.Common.{rules, ◌≡◌, refl, subst}
-use Rattle.sc_shell.proofs.Taking.{looked_trans}
+use Rattle.std.proofs.Common.{refl, subst}
 use Rattle.sc_workers.specs.Crews.{numbers}
 use Rattle.sc_workers.specs.Ends.{IsEnd}
 use Rattle.sc_drive.proofs.Frees.{frees_quiet, frees_cut, frees_full}

@@ -1,4 +1,4 @@
-use Rattle.std.proofs.Common.{rules, ◌≡◌, ◌∙◌, sym, subst, None}
+use Rattle.std.proofs.Common.{subst}
 use Rattle.sc_exchange.specs.Answers.{IsFetch}
 use Rattle.sc_exchange.specs.Ports.{seen}
 use Rattle.sc_workers.proofs.Crews.{all_of_go, all_of_later, still_all_go}

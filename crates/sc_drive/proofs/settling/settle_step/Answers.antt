@@ -1,4 +1,4 @@
-use Rattle.std.proofs.Common.{rules, ◌≡◌, ◌<◌, refl, subst, None, Some}
+use Rattle.std.proofs.Common.{rules, ◌≡◌, ◌<◌, refl, subst, None}
 use Rattle.sc_actor.specs.System.{system}
 use Rattle.sc_drive.specs.Acts.{Served}
 use Rattle.sc_drive.specs.Lowest.{Lowest}
@@ -26,8 +26,8 @@ returns-in-Did-clause-goes g c =
     let more : 0 < c.args.left = search rules in (
       more,
       settles_did net mid ss mids c.args.score.now c.args.score.now c.args.left c.in-Ok.ensures.net.exchange.2 next after c.in-Some.place c.in-Did.at
-      (λ words births company. subst (Lowest (system g.A.Actor.table g.A.Mail.Parcel.receiver words births) net mid mids) c.in-Some.is (c.in-Ok.ensures.lowest words births company)) more
-      c.in-Ok-serve.ensures.net.exchange.2 (λ births company. subst (Served births c.in-Some.place 1 mid next mids after) c.in-Did.is (c.in-Ok-serve.ensures.served births company)) refl refl refl,
+          (λ words births company. subst (Lowest (system g.A.Actor.table g.A.Mail.Parcel.receiver words births) net mid mids) c.in-Some.is (c.in-Ok.ensures.lowest words births company)) more
+          c.in-Ok-serve.ensures.net.exchange.2 (λ births company. subst (Served births c.in-Some.place 1 mid next mids after) c.in-Did.is (c.in-Ok-serve.ensures.served births company)) refl refl refl,
     )
 
 pub returns-in-Full-clause-fills : goal.returns-in-Full-clause-fills

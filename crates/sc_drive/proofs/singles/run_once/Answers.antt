@@ -1,4 +1,4 @@
-use Rattle.std.proofs.Common.{rules, ◌≡◌, [], ◌∷◌, refl, subst}
+use Rattle.std.proofs.Common.{[], ◌∷◌, refl, subst}
 use Rattle.std.proofs.lemmas.Result.{on_ok_weaker}
 use Rattle.sc_actor.specs.System.{system}
 use Rattle.sc_actor.specs.Walk.{line_row}

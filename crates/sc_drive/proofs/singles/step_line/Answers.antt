@@ -1,4 +1,4 @@
-use Rattle.std.proofs.Common.{rules, sym}
+use Rattle.std.proofs.Common.{sym}
 use Rattle.sc_drive.proofs.singles.step_line.Goals as goal
 
 pub returns-in-Deliver-clause-stepped : goal.returns-in-Deliver-clause-stepped
