@@ -81,7 +81,7 @@ overtaken :
     (run (born_replica 4 1 (base (1 ∷ 2 ∷ 3 ∷ [])), []) (
     Got (mail 33 1 (Request g 1 1 (Put (97 ∷ []) (120 ∷ []))))
     ∷ Told (line 1 (An.Join 4 g))
-    ∷ Got (mail 2 1 (Install g 3 (base (1 ∷ 2 ∷ 3 ∷ [])) (replicate 4 (1 ∷ 2 ∷ 3 ∷ [])))) 
+    ∷ Got (mail 2 1 (Install g 3 (base (1 ∷ 2 ∷ 3 ∷ [])) (replicate 4 (1 ∷ 2 ∷ 3 ∷ []))))
     ∷ Got (mail 3 1 (Ask g 3)) ∷ [])).1
     ≡ mail 1 1 (Accept g (b 1 1) 1 (Call 1 1 (Put (97 ∷ []) (120 ∷ []))))
     ∷ mail 1 2 (Accept g (b 1 1) 1 (Call 1 1 (Put (97 ∷ []) (120 ∷ []))))

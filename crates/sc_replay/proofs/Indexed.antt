@@ -37,6 +37,7 @@ voters_here ballot slot (a ∷ found) = by_choice (a.slot == slot) refl (voters_
     first : (t : Bool) (xs : List Acceptance) → (a.slot == slot) ≡ t
         → voters_of (steps_in (a ∷ xs)) ballot slot ≡ (if same_ballot a.ballot ballot && t then a.node ∷ voters_of (steps_in xs) ballot slot else voters_of (steps_in xs) ballot slot)
     first t xs e = ap (λ (b : Bool). if same_ballot a.ballot ballot && b then a.node ∷ voters_of (steps_in xs) ballot slot else voters_of (steps_in xs) ballot slot) e
+
     by_choice : (b : Bool) → (a.slot == slot) ≡ b → voters_of (steps_in found) ballot slot ≡ voters_of (steps_in (at_slot slot found)) ballot slot
         → voters_of (steps_in (a ∷ found)) ballot slot ≡ voters_of (steps_in (at_slot slot (a ∷ found))) ballot slot
     by_choice true e rest =
@@ -59,6 +60,7 @@ found_here members all here slot same (a ∷ found) = by_choice (a.slot == slot)
     first : (t : Bool) (h : List (Step Command)) (xs : List Acceptance) → (a.slot == slot) ≡ t
         → found_in members h slot (steps_in (a ∷ xs)) ≡ put members a t (voters_of h a.ballot slot) (found_in members h slot (steps_in xs))
     first t h xs e = ap (λ (b : Bool). put members a b (voters_of h a.ballot slot) (found_in members h slot (steps_in xs))) e
+
     by_choice : (b : Bool) → (a.slot == slot) ≡ b → found_in members all slot (steps_in found) ≡ found_in members here slot (steps_in (at_slot slot found))
         → found_in members all slot (steps_in (a ∷ found)) ≡ found_in members here slot (steps_in (at_slot slot (a ∷ found)))
     by_choice true e rest =

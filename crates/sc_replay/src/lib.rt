@@ -3,9 +3,9 @@
 
 mod accepting;
 mod deciding;
-mod indexing;
 mod exact;
 mod histories;
+mod indexing;
 mod laws;
 mod orders;
 mod replaying;

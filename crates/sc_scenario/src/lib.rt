@@ -4,8 +4,8 @@
 mod drafts;
 mod early;
 mod groups;
-mod pieces;
 mod orders;
+mod pieces;
 mod reading;
 mod requests;
 mod scenarios;

@@ -125,11 +125,7 @@ fn with_order(draft: Draft, line: SchedLine, number: u32) -> Result<Draft, OutOf
 }
 
 // An order. More orders than there are numbers have no room in memory.
-fn ordered(
-    alloc: Global,
-    draft: Draft,
-    words: &[&[u8]],
-) -> Result<Option<Reading>, OutOfMemory>
+fn ordered(alloc: Global, draft: Draft, words: &[&[u8]]) -> Result<Option<Reading>, OutOfMemory>
     ensures { IfOk result (λ more. more ≡ option_map (λ line. Reading.Outside (with_order draft line)) (told_in draft.nodes (draft.orders + 1) (map (λ word. word.now) words.now))) }
 {
     let Some(number) = draft.orders.checked_add(1) else {

@@ -49,7 +49,13 @@ fn expect_orders(rt: &impl Abort, lines: &[SchedLine]) {
 
 fn expect_order(rt: &impl Abort, first: &Order, second: &Order) {
     match (first, second) {
-        (Order::Join { node, group }, Order::Leave { node: gone, group: other }) => {
+        (
+            Order::Join { node, group },
+            Order::Leave {
+                node: gone,
+                group: other,
+            },
+        ) => {
             assert_eq!(rt; *node, 2);
             assert!(rt; group.node == 0 && group.count == 1);
             assert_eq!(rt; *gone, 3);

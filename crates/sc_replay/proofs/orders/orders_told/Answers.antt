@@ -21,8 +21,8 @@ returns c =
     same ∙ ext_get_or None c.note_rows.new.told whole
     (len ∙ sym (length-numbered (λ number. told_of number (mails c.args.rows.now)) 1 c.args.count))
     (λ k within.
-      c.note_rows.ensures.kept k (omega (arith, within, len, long))
-      ∙ ap (λ (xs : List (Option ToldResult)). first_of (get_or xs k None) (told_of (k + 1) (mails c.args.rows.now))) start
-      ∙ ap (λ (o : Option ToldResult). first_of o (told_of (k + 1) (mails c.args.rows.now))) (get_or-replicate c.args.count k None None (omega (arith, within, len)))
-      ∙ ap (λ n. told_of n (mails c.args.rows.now)) (omega arith)
-      ∙ sym (get_or-numbered (λ number. told_of number (mails c.args.rows.now)) 1 c.args.count k None (omega (arith, within, len))))
+    c.note_rows.ensures.kept k (omega (arith, within, len, long))
+    ∙ ap (λ (xs : List (Option ToldResult)). first_of (get_or xs k None) (told_of (k + 1) (mails c.args.rows.now))) start
+    ∙ ap (λ (o : Option ToldResult). first_of o (told_of (k + 1) (mails c.args.rows.now))) (get_or-replicate c.args.count k None None (omega (arith, within, len)))
+    ∙ ap (λ n. told_of n (mails c.args.rows.now)) (omega arith)
+    ∙ sym (get_or-numbered (λ number. told_of number (mails c.args.rows.now)) 1 c.args.count k None (omega (arith, within, len))))
