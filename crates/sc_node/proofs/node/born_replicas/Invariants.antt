@@ -1,4 +1,4 @@
-use Rattle.std.proofs.Common.{◌≡◌, map, filter, take}
+use Rattle.std.proofs.Common.{◌≡◌, take}
 use Rattle.sc_node_table.specs.Node.{born_node}
 use Rattle.sc_node.proofs.node.born_replicas.Given as goal
 

@@ -1,5 +1,5 @@
-use Rattle.std.proofs.Common.{◌≡◌, sym, subst, ◌∙◌, ap, None, IfOk}
-use Rattle.sc_node_table.specs.Node.{NodeState, replica_of, taken_by}
+use Rattle.std.proofs.Common.{◌≡◌, sym, subst, ◌∙◌, ap, None}
+use Rattle.sc_node_table.specs.Node.{NodeState, replica_of}
 use Rattle.sc_node.specs.Places.{place_from}
 use Rattle.sc_node.proofs.Standing.{stands-nowhere, taken-nowhere}
 use Rattle.sc_node.proofs.node.NodeCore.take.Goals as goal

@@ -1,8 +1,8 @@
-use Rattle.std.proofs.Common.{◌≡◌, ◌<◌, [], Some, length, get_or, sym, ◌∙◌, ap, arith}
+use Rattle.std.proofs.Common.{get_or, sym, ◌∙◌, ap, arith}
 use Rattle.sc_node_table.specs.Node.{NodeState, replica_of, taken_by}
 use Rattle.sc_node_table.specs.Rows.{mailed}
 use Rattle.sc_node.specs.Places.{place_from}
-use Rattle.sc_node.proofs.Standing.{StandsAt, stands-at, taken-at}
+use Rattle.sc_node.proofs.Standing.{stands-at, taken-at}
 use Rattle.sc_node.proofs.node.NodeCore.take_at.Goals as goal
 
 pub index_mut-requires : goal.index_mut-requires
