@@ -12,3 +12,6 @@ mod steps;
 
 pub use driving::drive;
 pub use steps::Driven;
+
+#[cfg(test)]
+mod tests;
