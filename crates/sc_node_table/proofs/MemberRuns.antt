@@ -1,10 +1,8 @@
 -- Small runs of a replica whose members change, computed: what it sends from birth on.
-use Rattle.std.proofs.Common.{◌≡◌, ℕ, List, [], ◌∷◌, replicate, Some, None, refl}
-use Rattle.sc_base.specs.declared.names.Draw.{Draw}
+use Rattle.std.proofs.Common.{◌≡◌, ℕ, List, [], ◌∷◌, replicate, Some, refl}
 use Rattle.sc_base.specs.declared.ops.Op.TheVariants.{Put}
 use Rattle.sc_cmd.specs.declared.commands.Command.TheVariants.{Noop, Call, Join, Leave}
 use Rattle.sc_cmd.specs.declared.cores.Base.{Base}
-use Rattle.sc_cmd.specs.declared.cores.Core.{Core}
 use Rattle.sc_cmd.specs.declared.orders.Order.{Order}
 use Rattle.sc_cmd.specs.declared.orders.Order.TheVariants as An
 use Rattle.sc_cmd.specs.declared.orders.OrderLine.{OrderLine}

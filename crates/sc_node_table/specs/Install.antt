@@ -1,7 +1,6 @@
 -- Install: the executed state is sent, and is taken over by one that has executed less.
-use Rattle.std.specs.Prelude.{ℕ, ◌-◌, ◌==◌, ◌||◌, not, nat_lt, Bool, List, [], ◌∷◌, length, if◌then◌else◌, Some}
+use Rattle.std.specs.Prelude.{ℕ, ◌-◌, List, [], ◌∷◌, if◌then◌else◌}
 use Rattle.sc_cmd.specs.declared.cores.Base.{Base}
-use Rattle.sc_mail.specs.declared.bodies.Mail.{Mail}
 use Rattle.sc_mail.specs.declared.bodies.MailBody.TheVariants.{Prepare, Install}
 use Rattle.sc_paxos_words.specs.Logs.{installed}
 use Rattle.sc_machine_table.specs.Group.{group_of, base_of}
