@@ -1,21 +1,13 @@
 -- What the report tells of a scenario and a journal of it.
-use Rattle.std.specs.Prelude.{ℕ, ◌+◌, Bool, true, false, List, [], ◌∷◌, length, map, count_by, if◌then◌else◌, Option, Some, None, slice_get}
-use Rattle.std.specs.List.{flat_map}
+use Rattle.std.specs.Prelude.{ℕ, ◌+◌, Bool, true, false, List, [], ◌∷◌, if◌then◌else◌, Option, Some, None, slice_get}
 use Rattle.sc_base.specs.declared.ops.Op.{Op}
 use Rattle.sc_base.specs.declared.ops.Reply.{Reply}
 use Rattle.sc_cmd.specs.declared.orders.OrderLine.{OrderLine}
-use Rattle.sc_mail.specs.declared.bodies.Mail.{Mail}
-use Rattle.sc_actor.specs.declared.rows.Row.{Row}
 use Rattle.sc_actor.specs.declared.rows.Event.{Event}
 use Rattle.sc_actor.specs.declared.rows.Event.TheVariants.{Deliver}
-use Rattle.sc_actor.specs.Mail.{mails}
-use Rattle.sc_actor.specs.Walk.{skipped, is_quiet}
 use Rattle.sc_report.specs.declared.summaries.Got.{Got}
 use Rattle.sc_report.specs.declared.summaries.Got.TheVariants.{Unsent, Unanswered, Replied}
 use Rattle.sc_report.specs.declared.summaries.Asked.{Asked}
-use Rattle.sc_report.specs.declared.summaries.Summary.{Summary}
-use Rattle.sc_scenario.specs.declared.scenarios.Scenario.{Scenario}
-use Rattle.sc_world.specs.World.{system_of, schedule, parties, route_of}
 use Rattle.sc_client_table.specs.Client.{Client}
 use Rattle.sc_client_table.specs.Table.{waits_for}
 use Rattle.sc_world.specs.declared.party.Party.{Party}
