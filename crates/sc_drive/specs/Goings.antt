@@ -1,5 +1,5 @@
 -- How a driver stands with the walk of a schedule.
-use Rattle.std.specs.Prelude.{◌≡◌, ℕ, ◌≤◌, List, ◌++◌, Bool, ⊤}
+use Rattle.std.specs.Prelude.{◌≡◌, ℕ, ◌≤◌, List, ◌++◌, length, Bool, ⊤}
 use Rattle.sc_actor.specs.declared.actors.Actor.{Ghosts}
 use Rattle.sc_actor.specs.declared.actors.Parcel.{Ghosts as MailGhosts}
 use Rattle.sc_actor.specs.declared.actors.Seat.{Seat}
@@ -10,7 +10,8 @@ use Rattle.sc_actor.specs.System.{system, has_gone}
 use Rattle.sc_actor.specs.Walk.{Task, IsLawful, IsWhole, place_after, onward, line_row, skipped, unsettled}
 use Rattle.sc_play.specs.Moves.{IsFull}
 use Rattle.sc_exchange.specs.declared.ports.Port.{Port}
-use Rattle.sc_exchange.specs.Ports.{seen}
+use Rattle.sc_exchange.specs.Ports.{seen, Stays}
+use Rattle.sc_workers.specs.Crews.{AllOf}
 use Rattle.sc_shell.specs.declared.shells.Shell.{Shell}
 use Rattle.sc_drive.specs.declared.steps.Score.{Score}
 use Rattle.sc_drive.specs.declared.steps.Step.{Step}
@@ -51,6 +52,10 @@ module _ {A M O : Type 0} {g : Ghosts A M O} {h : MailGhosts M} where
   abbrev pub Fills : Port M O h → List (Shell A M O g h) → Score → List (Task O) → Port M O h → Type 0
   Fills net ss score before next =
       (words : ℕ → ℕ → ℕ × ℕ) (births : List (Seat A)) (lines : List (Line O)) (rest : List (Task O)) → At words births lines net ss score (before ++ rest) → IsFull (system g.table h.receiver words births) h.weighs lines net.limit (seen next)
+
+  -- the same exchange and as many shells of it, where nothing was split off or joined
+  abbrev pub IsKept : Port M O h → List (Shell A M O g h) → Port M O h → List (Shell A M O g h) → Type 0
+  IsKept net ss next after = Stays net next × AllOf next after × (length after ≡ length ss)
 
   -- The journal is lawful, whole and within the limit, the lines that were cut off and skipped are the walk's, and each actor is the replay of its rows.
   pub record HasEnded (words : ℕ → ℕ → ℕ × ℕ) (births : List (Seat A)) (lines : List (Line O)) (net : Port M O h) (ss : List (Shell A M O g h)) (cut : Bool) (skips : ℕ) : Type 0 where

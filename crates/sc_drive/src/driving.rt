@@ -1,12 +1,12 @@
 //! A schedule driven to its end.
-ghost use Rattle.std.specs.Prelude.{◌≡◌, ℕ, [], ◌∷◌, List, length, OnOk, IsErrOf, true, All};
+ghost use Rattle.std.specs.Prelude.{◌≡◌, ◌≢◌, ℕ, [], ◌∷◌, List, length, OnOk, IsErrOf, true, All};
 ghost use Rattle.sc_actor.specs.declared.actors.Seat.{Seat};
 ghost use Rattle.sc_play.specs.Deeds.{is_built};
 ghost use Rattle.sc_play.specs.Moves.{line_task};
 ghost use Rattle.sc_exchange.specs.Ports.{seen, Stays};
 ghost use Rattle.sc_workers.specs.Crews.{AllOf};
 ghost use Rattle.sc_drive.specs.Companies.{Company};
-ghost use Rattle.sc_drive.specs.Goings.{Goes, Fills, IsDriven};
+ghost use Rattle.sc_drive.specs.Goings.{Goes, Fills, IsKept, IsDriven};
 
 use crate::running::run_free;
 use crate::settling::run_settle;
@@ -34,6 +34,7 @@ fn run_line<A: Actor, G: Gate, R: Threads + Wait + Sync>(
     ensures len { OnOk result (length shells.new.items ≡ length shells.old.items) }
     ensures exchange { OnOk result (AllOf net.new shells.new.items) }
     ensures net { OnOk result (Stays net.old net.new) }
+    ensures kept { IsErrOf result Stop.Full → IsKept net.old shells.old.items net.new shells.new.items }
     ensures goes { OnOk result (Goes net.old shells.old.items score.old (line_task line.now ∷ []) net.new shells.new.items score.new []) }
     ensures fills { IsErrOf result Stop.Full → Fills net.old shells.old.items score.old (line_task line.now ∷ []) net.new }
 {
@@ -61,7 +62,8 @@ pub fn drive<A: Actor, G: Gate, R: Threads + Wait + Sync>(
     requires net { net.old.who ≡ 0 }
     requires exchange { AllOf net.old shells.old.items }
     requires built { All (λ line. is_built line ≡ true) lines.now }
-    ensures { (words : ℕ → ℕ → ℕ × ℕ) (births : List (Seat A)) → Company births net.old shells.old.items → seen net.old ≡ [] → IsDriven words births lines.now net.old.limit net.new shells.new.items result }
+    ensures kept { result ≢ Driven.OutOfMemory → IsKept net.old shells.old.items net.new shells.new.items }
+    ensures driven { (words : ℕ → ℕ → ℕ × ℕ) (births : List (Seat A)) → Company births net.old shells.old.items → seen net.old ≡ [] → IsDriven words births lines.now net.old.limit net.new shells.new.items result }
 {
     let mut score = Score {
         skipped: 0,

@@ -6,7 +6,7 @@ ghost use Rattle.sc_actor.specs.Walk.{Settles};
 ghost use Rattle.sc_exchange.specs.Ports.{Stays};
 ghost use Rattle.sc_workers.specs.Crews.{AllOf};
 ghost use Rattle.sc_drive.specs.Companies.{Company};
-ghost use Rattle.sc_drive.specs.Goings.{Goes, Fills};
+ghost use Rattle.sc_drive.specs.Goings.{Goes, Fills, IsKept};
 ghost use Rattle.sc_drive.specs.Lowest.{Lowest};
 
 use crate::acting::serve;
@@ -61,6 +61,7 @@ fn settle_step<A: Actor, G: Gate, R: Wait>(
     ensures len { OnOk result (length shells.new.items ≡ length shells.old.items) }
     ensures exchange { OnOk result (AllOf net.new shells.new.items) }
     ensures net { OnOk result (Stays net.old net.new) }
+    ensures kept { IsErrOf result Stop.Full → IsKept net.old shells.old.items net.new shells.new.items }
     ensures goes { IfOk result (λ more. MatchBool more ((0 < left) × Goes net.old shells.old.items score.old (Settles left ∷ []) net.new shells.new.items score.new (Settles (left - 1) ∷ [])) (Goes net.old shells.old.items score.old (Settles left ∷ []) net.new shells.new.items score.new [])) }
     ensures fills { IsErrOf result Stop.Full → Fills net.old shells.old.items score.old (Settles left ∷ []) net.new }
 {
@@ -101,6 +102,7 @@ pub(crate) fn run_settle<A: Actor, G: Gate, R: Wait>(
     ensures len { OnOk result (length shells.new.items ≡ length shells.old.items) }
     ensures exchange { OnOk result (AllOf net.new shells.new.items) }
     ensures net { OnOk result (Stays net.old net.new) }
+    ensures kept { IsErrOf result Stop.Full → IsKept net.old shells.old.items net.new shells.new.items }
     ensures goes { OnOk result (Goes net.old shells.old.items score.old (Settles most ∷ []) net.new shells.new.items score.new []) }
     ensures fills { IsErrOf result Stop.Full → Fills net.old shells.old.items score.old (Settles most ∷ []) net.new }
 {

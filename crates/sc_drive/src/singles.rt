@@ -9,7 +9,7 @@ ghost use Rattle.sc_workers.specs.Crews.{AllOf};
 ghost use Rattle.sc_drive.specs.Numbers.{is_in};
 ghost use Rattle.sc_drive.specs.Companies.{Company};
 ghost use Rattle.sc_drive.specs.Stepping.{Stepped};
-ghost use Rattle.sc_drive.specs.Goings.{Goes, Fills, IsCalm};
+ghost use Rattle.sc_drive.specs.Goings.{Goes, Fills, IsKept, IsCalm};
 
 use crate::acting::tell;
 use crate::lines::{deliver, happen, place_of};
@@ -81,6 +81,7 @@ pub(crate) fn run_once<A: Actor, G: Gate, R: Wait>(
     ensures len { OnOk result (length shells.new.items ≡ length shells.old.items) }
     ensures exchange { OnOk result (AllOf net.new shells.new.items) }
     ensures net { OnOk result (Stays net.old net.new) }
+    ensures kept { IsErrOf result Stop.Full → IsKept net.old shells.old.items net.new shells.new.items }
     ensures goes { OnOk result (Goes net.old shells.old.items score.old (line_task line.now ∷ []) net.new shells.new.items score.new []) }
     ensures fills { IsErrOf result Stop.Full → Fills net.old shells.old.items score.old (line_task line.now ∷ []) net.new }
 {
@@ -138,6 +139,7 @@ pub(crate) fn run_go<A: Actor, R: Wait>(
     ensures len { OnOk result (length shells.new.items ≡ length shells.old.items) }
     ensures exchange { OnOk result (AllOf net.new shells.new.items) }
     ensures net { OnOk result (Stays net.old net.new) }
+    ensures kept { IsErrOf result Stop.Full → IsKept net.old shells.old.items net.new shells.new.items }
     ensures goes { OnOk result (Goes net.old shells.old.items score.old (Once (Line.Go who) ∷ []) net.new shells.new.items score.new []) }
     ensures fills { IsErrOf result Stop.Full → Fills net.old shells.old.items score.old (Once (Line.Go who) ∷ []) net.new }
 {

@@ -171,7 +171,13 @@ fn free_lines_end_by_their_causes(rt: HostRuntime) -> Result<(), Fail> {
             Line::Free { most: 100, workers },
         ];
         let quiet = driven(&rt, rt.alloc(), 1 << 19, 0, &all, &Open)?;
-        assert_eq!(rt; quiet, Driven::Ended { unsettled: false, skipped: 1 });
+        assert_eq!(rt;
+            quiet,
+            Driven::Ended {
+                unsettled: false,
+                skipped: 1
+            }
+        );
         let full = driven(&rt, rt.alloc(), 1000, 0, &all, &Open)?;
         assert_eq!(rt; full, Driven::Full);
         let starved = driven(&rt, rt.alloc(), 1 << 19, 2, &all, &Open)?;
@@ -183,7 +189,13 @@ fn free_lines_end_by_their_causes(rt: HostRuntime) -> Result<(), Fail> {
             Line::Settle { most: 100 },
         ];
         let cut = driven(&rt, rt.alloc(), 1 << 19, 0, &some, &Open)?;
-        assert_eq!(rt; cut, Driven::Ended { unsettled: true, skipped: 0 });
+        assert_eq!(rt;
+            cut,
+            Driven::Ended {
+                unsettled: true,
+                skipped: 0
+            }
+        );
     }
     Ok(())
 }
@@ -207,7 +219,13 @@ fn lines_of_one_row_are_made_or_skipped(rt: HostRuntime) -> Result<(), Fail> {
     ];
     // Skipped are: the first, the second loss, the repeat of a mail that was not sent, and the two last ticks. A note to the first actor is pending at the end.
     let some = driven(&rt, rt.alloc(), 1 << 19, 0, &lines, &Open)?;
-    assert_eq!(rt; some, Driven::Ended { unsettled: true, skipped: 5 });
+    assert_eq!(rt;
+        some,
+        Driven::Ended {
+            unsettled: true,
+            skipped: 5
+        }
+    );
     Ok(())
 }
 
@@ -225,7 +243,13 @@ fn threads_work_at_the_same_time(rt: HostRuntime) -> Result<(), Fail> {
             Line::Free { most: 2, workers },
         ];
         let answer = driven(&rt, rt.alloc(), 1 << 19, 0, &lines, &gate)?;
-        assert_eq!(rt; answer, Driven::Ended { unsettled: true, skipped: 0 });
+        assert_eq!(rt;
+            answer,
+            Driven::Ended {
+                unsettled: true,
+                skipped: 0
+            }
+        );
         assert_eq!(rt; gate.late.load(Ordering::SeqCst), late);
     }
     Ok(())

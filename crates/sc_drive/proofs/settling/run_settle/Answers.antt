@@ -34,3 +34,11 @@ returns-in-Err-clause-fills g c = λ e.
     let is : c.in-Err.stop ≡ Full = cc in
     let why : (let r : Result Bool Stop = Err c.in-Err.stop in r) ≡ Err Full = ap (λ s. Err s) is in
     fills_then c.args.net.now net next c.args.shells.now.items ss c.args.score.now c.loop-left.score (Settles c.args.most ∷ []) (Settles c.loop-left.left ∷ []) inv.net.exchange.2 inv.goes (c.in-Err.ensures.fills why)
+
+pub returns-in-Err-clause-kept : goal.returns-in-Err-clause-kept
+returns-in-Err-clause-kept g c = λ e.
+    let inv = c.loop-left.invariant in
+    let is : c.in-Err.stop ≡ Full = cc in
+    let why : (let r : Result Bool Stop = Err c.in-Err.stop in r) ≡ Err Full = ap (λ s. Err s) is in
+    let kept = c.in-Err.ensures.kept why in
+    (stays_then c.args.net.now c.loop-left.net c.settle_step.new.net inv.net kept.0, kept.1, kept.2 ∙ inv.len)
