@@ -21,3 +21,6 @@ mod voting;
 
 pub use replica::{LAST_SLOT, Replica};
 pub use sc_node_table::ReplicaInput;
+
+#[cfg(test)]
+mod tests;
