@@ -6,7 +6,6 @@ ghost use Rattle.sc_member.specs.Majority.{is_majority, votes_of as member_votes
 ghost use Rattle.sc_paxos_law.specs.Decided.{voters_of, found_in, chosen_at, top_slot, log_of};
 ghost use Rattle.sc_machine_table.specs.Group.{Group, group_of};
 ghost use Rattle.sc_machine_table.specs.Machine.{applied};
-ghost use Rattle.sc_machine_table.specs.Orders.{is_alone};
 ghost use Rattle.sc_sound.specs.Logs.{decided_log, rule_of, state_after};
 ghost use Rattle.std.specs.Ordering.{nat_cmp};
 ghost use Rattle.std.specs.BTreeMap.{get_by};
@@ -20,7 +19,7 @@ use crate::indexing::{BySlot, at_slot, by_slot};
 use crate::worlds::World;
 use sc_actor::Row;
 use sc_base::{Ballot, Draw, Dup, OutOfMemory};
-use sc_cmd::{Base, Command, Core, OrderLine, same_ballot, same_draw};
+use sc_cmd::{Base, Command, OrderLine, same_ballot, same_draw};
 use sc_machine::Machine;
 use sc_mail::Mail;
 use sc_member::Members;
@@ -131,30 +130,14 @@ fn top_slot(found: &[Acceptance]) -> u32
     top
 }
 
-// Whether a group is its own successor.
-fn is_alone(core: &Core) -> bool
-    ensures { result ≡ is_alone core.now }
-{
-    same_draw(core.succ.group, core.id)
-}
-
-/// One more entry is executed. The split of a group that has another successor, and the commands of transactions, are not built: they do nothing.
+/// One more entry is executed. What the machine does not carry out yet, the split of a group that has another successor and the commands of transactions, does nothing.
 pub(crate) fn execute(machine: &mut Machine, command: &Command) -> Result<(), OutOfMemory>
     ensures { OnOk result (machine.new ≡ (applied machine.old command.now).0) }
 {
-    match command {
-        Command::Noop | Command::Call { .. } | Command::Join { .. } | Command::Leave { .. } => {
-            machine.apply(command)?;
-            Ok(())
-        }
-        Command::Split { .. } => {
-            if is_alone(machine.core()) {
-                machine.apply(command)?;
-            }
-            Ok(())
-        }
-        _ => Ok(()),
+    if machine.can_apply(command) {
+        machine.apply(command)?;
     }
+    Ok(())
 }
 
 // The log grows by one entry, and the state that decides the members of its next slot by the entry that is then so far behind.
