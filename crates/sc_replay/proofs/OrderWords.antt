@@ -2,27 +2,28 @@
 use Rattle.std.proofs.Common.{◌≡◌, ℕ, zero, suc, ◌+◌, ◌<◌, List, [], ◌∷◌, ◌++◌, map, length, get_or, Option, Some, None, refl, sym, ap, ◌∙◌, arith}
 use Rattle.sc_mail.specs.declared.bodies.Mail.{Mail}
 use Rattle.sc_node_table.specs.Slots.{numbers}
-use Rattle.sc_sound.specs.Summary.{first_of, told_in, told_of}
+use Rattle.sc_node_table.specs.Replica.{either}
+use Rattle.sc_sound.specs.Summary.{told_in, told_of}
 
-first-again : {X : Type 0} (a b c : Option X) → first_of (first_of a b) c ≡ first_of a (first_of b c)
+first-again : {X : Type 0} (a b c : Option X) → either (either a b) c ≡ either a (either b c)
 first-again (Some x) b c = refl
 first-again None b c = refl
 
-first-none : {X : Type 0} (a : Option X) → first_of a None ≡ a
+first-none : {X : Type 0} (a : Option X) → either a None ≡ a
 first-none (Some x) = refl
 first-none None = refl
 
-pub told-append : (number : ℕ) (xs ys : List Mail) → told_of number (xs ++ ys) ≡ first_of (told_of number xs) (told_of number ys)
+pub told-append : (number : ℕ) (xs ys : List Mail) → told_of number (xs ++ ys) ≡ either (told_of number xs) (told_of number ys)
 told-append number [] ys = refl
-told-append number (x ∷ xs) ys = ap (first_of (told_in number x.body)) (told-append number xs ys) ∙ sym (first-again (told_in number x.body) (told_of number xs) (told_of number ys))
+told-append number (x ∷ xs) ys = ap (either (told_in number x.body)) (told-append number xs ys) ∙ sym (first-again (told_in number x.body) (told_of number xs) (told_of number ys))
 
-pub told-last : (number : ℕ) (xs : List Mail) (x : Mail) → told_of number (xs ++ x ∷ []) ≡ first_of (told_of number xs) (told_in number x.body)
-told-last number xs x = told-append number xs (x ∷ []) ∙ ap (first_of (told_of number xs)) (first-none (told_in number x.body))
+pub told-last : (number : ℕ) (xs : List Mail) (x : Mail) → told_of number (xs ++ x ∷ []) ≡ either (told_of number xs) (told_in number x.body)
+told-last number xs x = told-append number xs (x ∷ []) ∙ ap (either (told_of number xs)) (first-none (told_in number x.body))
 
-pub first_then : {X : Type 0} (a b c : Option X) → first_of (first_of a b) c ≡ first_of a (first_of b c)
+pub first_then : {X : Type 0} (a b c : Option X) → either (either a b) c ≡ either a (either b c)
 first_then = first-again
 
-pub first_alone : {X : Type 0} (a : Option X) → first_of a None ≡ a
+pub first_alone : {X : Type 0} (a : Option X) → either a None ≡ a
 first_alone = first-none
 
 pub length-numbered : {X : Type 0} (f : ℕ → X) (from count : ℕ) → length (map f (numbers from count)) ≡ count

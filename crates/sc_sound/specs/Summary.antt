@@ -13,6 +13,7 @@ use Rattle.sc_actor.specs.Mail.{mails}
 use Rattle.sc_actor.specs.Walk.{skipped, is_quiet}
 use Rattle.sc_machine_table.specs.Group.{Group}
 use Rattle.sc_node_table.specs.Slots.{numbers}
+use Rattle.sc_node_table.specs.Replica.{either}
 use Rattle.sc_report.specs.declared.summaries.Summary.{Summary}
 use Rattle.sc_scenario.specs.declared.scenarios.Scenario.{Scenario}
 use Rattle.sc_scenario.specs.declared.scenarios.SchedLine.{SchedLine}
@@ -26,15 +27,10 @@ abbrev pub told_in : ℕ → MailBody → Option ToldResult
 told_in number (TellsOrder order result) = if order == number then Some result else None
 told_in number _ = None
 
--- the first of two, if there is one
-abbrev pub first_of : {X : Type 0} → Option X → Option X → Option X
-first_of (Some x) other = Some x
-first_of None other = other
-
 -- what these mails tell of an order: what the first that tells of it says
 abbrev pub told_of : ℕ → List Mail → Option ToldResult
 told_of number [] = None
-told_of number (mail ∷ more) = first_of (told_in number mail.body) (told_of number more)
+told_of number (mail ∷ more) = either (told_in number mail.body) (told_of number more)
 
 abbrev pub is_order : SchedLine → Bool
 is_order (Told node line) = true

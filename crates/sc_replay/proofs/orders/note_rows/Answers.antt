@@ -7,7 +7,8 @@ use Rattle.sc_cmd.specs.declared.orders.ToldResult.{ToldResult}
 use Rattle.sc_mail.specs.declared.bodies.Mail.{Mail}
 use Rattle.sc_actor.specs.declared.rows.Row.{Row}
 use Rattle.sc_actor.specs.Mail.{mails}
-use Rattle.sc_sound.specs.Summary.{first_of, told_of}
+use Rattle.sc_node_table.specs.Replica.{either}
+use Rattle.sc_sound.specs.Summary.{told_of}
 use Rattle.sc_replay.proofs.OrderWords.{told-append, first_then}
 use Rattle.sc_replay.proofs.orders.note_rows.Goals as goal
 
@@ -26,8 +27,8 @@ loop-row-preserved c = record {
       ∙ flat_map-append sent (take i rows) (c.row-item.result ∷ [])
       ∙ ap (λ (ms : List Mail). mails (take i rows) ++ ms) (append-nil c.row-item.result.sent) in
       c.note_all.ensures.kept k (omega (arith, within, c.loop-row.invariant.len))
-      ∙ ap (λ (o : Option ToldResult). first_of o (told_of (k + 1) c.as_slice.result.now)) (c.loop-row.invariant.kept k within)
+      ∙ ap (λ (o : Option ToldResult). either o (told_of (k + 1) c.as_slice.result.now)) (c.loop-row.invariant.kept k within)
       ∙ first_then before (told_of (k + 1) (mails (take i rows))) (told_of (k + 1) c.as_slice.result.now)
-      ∙ ap (first_of before) (ap (λ (ms : List Mail). first_of (told_of (k + 1) (mails (take i rows))) (told_of (k + 1) ms)) c.as_slice.ensures
+      ∙ ap (either before) (ap (λ (ms : List Mail). either (told_of (k + 1) (mails (take i rows))) (told_of (k + 1) ms)) c.as_slice.ensures
       ∙ sym (told-append (k + 1) (mails (take i rows)) c.row-item.result.sent) ∙ sym (ap (told_of (k + 1)) more));
 }

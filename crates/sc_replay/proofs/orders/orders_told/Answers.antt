@@ -4,7 +4,8 @@ use Rattle.std.proofs.lemmas.List.{ext_get_or, get_or-replicate, length-replicat
 use Rattle.sc_cmd.specs.declared.orders.ToldResult.{ToldResult}
 use Rattle.sc_actor.specs.Mail.{mails}
 use Rattle.sc_node_table.specs.Slots.{numbers}
-use Rattle.sc_sound.specs.Summary.{first_of, told_of}
+use Rattle.sc_node_table.specs.Replica.{either}
+use Rattle.sc_sound.specs.Summary.{told_of}
 use Rattle.sc_replay.proofs.OrderWords.{length-numbered, get_or-numbered}
 use Rattle.sc_replay.proofs.orders.orders_told.Goals as goal
 
@@ -22,7 +23,7 @@ returns c =
     (len ∙ sym (length-numbered (λ number. told_of number (mails c.args.rows.now)) 1 c.args.count))
     (λ k within.
     c.note_rows.ensures.kept k (omega (arith, within, len, long))
-    ∙ ap (λ (xs : List (Option ToldResult)). first_of (get_or xs k None) (told_of (k + 1) (mails c.args.rows.now))) start
-    ∙ ap (λ (o : Option ToldResult). first_of o (told_of (k + 1) (mails c.args.rows.now))) (get_or-replicate c.args.count k None None (omega (arith, within, len)))
+    ∙ ap (λ (xs : List (Option ToldResult)). either (get_or xs k None) (told_of (k + 1) (mails c.args.rows.now))) start
+    ∙ ap (λ (o : Option ToldResult). either o (told_of (k + 1) (mails c.args.rows.now))) (get_or-replicate c.args.count k None None (omega (arith, within, len)))
     ∙ ap (λ n. told_of n (mails c.args.rows.now)) (omega arith)
     ∙ sym (get_or-numbered (λ number. told_of number (mails c.args.rows.now)) 1 c.args.count k None (omega (arith, within, len))))
