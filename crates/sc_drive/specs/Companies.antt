@@ -1,14 +1,15 @@
 -- The network's port and the shells of all actors, between two lines of a schedule.
-use Rattle.std.specs.Prelude.{◌≡◌, ℕ, ◌<◌, ◌≤◌, List, ◌∷◌, length, map, slice_index_or, true}
+use Rattle.std.specs.Prelude.{◌≡◌, ℕ, ◌<◌, ◌≤◌, List, [], ◌∷◌, length, map, slice_index_or, true, false, All}
 use Rattle.sc_actor.specs.declared.actors.Actor.{Ghosts}
 use Rattle.sc_actor.specs.declared.actors.Parcel.{Ghosts as MailGhosts}
 use Rattle.sc_actor.specs.declared.actors.Seat.{Seat}
 use Rattle.sc_actor.specs.System.{numbers_of}
+use Rattle.sc_play.specs.Stages.{are_apart}
 use Rattle.sc_exchange.specs.declared.ports.Port.{Port}
-use Rattle.sc_exchange.specs.Ports.{given, IsTrue}
+use Rattle.sc_exchange.specs.Ports.{given, made, IsTrue}
 use Rattle.sc_shell.specs.declared.shells.Shell.{Shell}
 use Rattle.sc_shell.specs.Shells.{Replays}
-use Rattle.sc_workers.specs.Crews.{AllOver, AllSound, numbers}
+use Rattle.sc_workers.specs.Crews.{AllOf, AllOver, AllSound, numbers}
 use Rattle.sc_drive.specs.Numbers.{apart}
 
 module _ {A M O : Type 0} {g : Ghosts A M O} {h : MailGhosts M} where
@@ -27,3 +28,14 @@ module _ {A M O : Type 0} {g : Ghosts A M O} {h : MailGhosts M} where
     pub rows : IsTrue net
     pub sound : AllSound ss
     pub replay : (k : ℕ) (d : Shell A M O g h) (e : Seat A) → k < length ss → Replays (slice_index_or ss k d) (slice_index_or births k e).actor
+
+  -- The network's port and the shells of all actors as they begin: a shell of this exchange for each birth, in order, at the one port of its number, from 1 to the number of actors. No other port was split off, and no port has made a row.
+  pub record AtBirth (births : List (Seat A)) (net : Port M O h) (ss : List (Shell A M O g h)) : Type 0 where
+    pub first : net.who ≡ 0
+    pub exchange : AllOf net ss
+    pub all : given net ≡ numbers ss
+    pub born : seats ss ≡ births
+    pub far : are_apart births ≡ true
+    pub numbered : All (λ seat. (0 < seat.who) × (seat.who ≤ net.actors)) births
+    pub unmade : made net ≡ []
+    pub fresh : All (λ s. (made s.port ≡ []) × (s.spent ≡ false)) ss

@@ -6,19 +6,20 @@ use Rattle.sc_actor.specs.declared.actors.Seat.{Seat}
 use Rattle.sc_actor.specs.declared.schedules.Line.{Line}
 use Rattle.sc_actor.specs.declared.schedules.Line.TheVariants.{Go, Settle, Free, Storm}
 use Rattle.sc_actor.specs.Counted.{journal_bytes}
+use Rattle.sc_actor.specs.Replay.{values}
 use Rattle.sc_actor.specs.System.{system, has_gone}
-use Rattle.sc_actor.specs.Walk.{Task, IsLawful, IsWhole, place_after, onward, line_row, skipped, unsettled}
+use Rattle.sc_actor.specs.Walk.{Task, IsLawful, IsWhole, place_after, onward, line_row, skipped, unsettled, is_quiet}
 use Rattle.sc_play.specs.Moves.{IsFull}
 use Rattle.sc_exchange.specs.declared.ports.Port.{Port}
-use Rattle.sc_exchange.specs.Ports.{seen, Stays}
-use Rattle.sc_workers.specs.Crews.{AllOf}
+use Rattle.sc_exchange.specs.Ports.{seen, Stays, IsTrue}
+use Rattle.sc_workers.specs.Crews.{AllOf, AllOver, numbers}
 use Rattle.sc_shell.specs.declared.shells.Shell.{Shell}
 use Rattle.sc_drive.specs.declared.steps.Score.{Score}
 use Rattle.sc_drive.specs.declared.steps.Step.{Step}
 use Rattle.sc_drive.specs.declared.steps.Driven.{Driven}
 use Rattle.sc_drive.specs.declared.steps.Driven.TheVariants.{Ended, Full, OutOfMemory}
 use Rattle.sc_drive.specs.Numbers.{is_in}
-use Rattle.sc_drive.specs.Companies.{Company}
+use Rattle.sc_drive.specs.Companies.{Company, seats}
 use Rattle.sc_drive.specs.Stepping.{Stepped}
 
 -- a line of one row at which no actor is told to go
@@ -53,21 +54,26 @@ module _ {A M O : Type 0} {g : Ghosts A M O} {h : MailGhosts M} where
   Fills net ss score before next =
       (words : ℕ → ℕ → ℕ × ℕ) (births : List (Seat A)) (lines : List (Line O)) (rest : List (Task O)) → At words births lines net ss score (before ++ rest) → IsFull (system g.table h.receiver words births) h.weighs lines net.limit (seen next)
 
-  -- the same exchange and as many shells of it, where nothing was split off or joined
-  abbrev pub IsKept : Port M O h → List (Shell A M O g h) → Port M O h → List (Shell A M O g h) → Type 0
-  IsKept net ss next after = Stays net next × AllOf next after × (length after ≡ length ss)
+  -- The shells of the same actors in the same order, of the same exchange, where nothing was split off or joined. The network's port has seen every row that a shell made, and each number's rows there are those that its port made.
+  pub record IsKept (net : Port M O h) (ss : List (Shell A M O g h)) (next : Port M O h) (after : List (Shell A M O g h)) : Type 0 where
+    pub stays : Stays net next
+    pub exchange : AllOf next after
+    pub same : numbers after ≡ numbers ss
+    pub over : AllOver next after
+    pub rows : IsTrue next
 
-  -- The journal is lawful, whole and within the limit, the lines that were cut off and skipped are the walk's, and each actor is the replay of its rows.
-  pub record HasEnded (words : ℕ → ℕ → ℕ × ℕ) (births : List (Seat A)) (lines : List (Line O)) (net : Port M O h) (ss : List (Shell A M O g h)) (cut : Bool) (skips : ℕ) : Type 0 where
+  -- The journal is lawful, whole and within the limit, the lines that were cut off and skipped are the walk's, it is told whether mail is pending, and each actor is the replay of its rows.
+  pub record HasEnded (words : ℕ → ℕ → ℕ × ℕ) (births : List (Seat A)) (lines : List (Line O)) (net : Port M O h) (ss : List (Shell A M O g h)) (cut quiet : Bool) (skips : ℕ) : Type 0 where
     pub lawful : IsLawful (system g.table h.receiver words births) lines (seen net)
     pub whole : IsWhole (system g.table h.receiver words births) lines (seen net)
     pub within : journal_bytes h.weighs (seen net) ≤ net.limit
     pub cut_is : cut ≡ unsettled (system g.table h.receiver words births) lines (seen net)
+    pub quiet_is : quiet ≡ is_quiet (system g.table h.receiver words births) (seen net)
     pub skips_are : skips ≡ skipped (system g.table h.receiver words births) lines (seen net)
-    pub company : Company births net ss
+    pub left : seats ss ≡ values g.table births (seen net)
 
   -- how a schedule was driven, from an empty journal
   abbrev pub IsDriven : (ℕ → ℕ → ℕ × ℕ) → List (Seat A) → List (Line O) → ℕ → Port M O h → List (Shell A M O g h) → Driven → Type 0
-  IsDriven words births lines limit net ss (Ended cut skips) = HasEnded words births lines net ss cut skips
+  IsDriven words births lines limit net ss (Ended cut quiet skips) = HasEnded words births lines net ss cut quiet skips
   IsDriven words births lines limit net ss Full = IsFull (system g.table h.receiver words births) h.weighs lines limit (seen net)
   IsDriven words births lines limit net ss OutOfMemory = ⊤

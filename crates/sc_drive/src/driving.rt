@@ -5,16 +5,17 @@ ghost use Rattle.sc_play.specs.Deeds.{is_built};
 ghost use Rattle.sc_play.specs.Moves.{line_task};
 ghost use Rattle.sc_exchange.specs.Ports.{seen, Stays};
 ghost use Rattle.sc_workers.specs.Crews.{AllOf};
-ghost use Rattle.sc_drive.specs.Companies.{Company};
+ghost use Rattle.sc_drive.specs.Companies.{AtBirth};
 ghost use Rattle.sc_drive.specs.Goings.{Goes, Fills, IsKept, IsDriven};
 
 use crate::running::run_free;
-use crate::settling::run_settle;
+use crate::settling::{lowest, run_settle};
 use crate::singles::{run_go, run_once};
 use crate::steps::{Driven, Score, Stop};
 use sc_actor::{Actor, Gate, Line};
 use sc_exchange::Port;
 use sc_shell::Shell;
+use sc_workers::gather;
 use std::alloc::Global;
 use std::sync::Wait;
 use std::thread::Threads;
@@ -50,7 +51,7 @@ fn run_line<A: Actor, G: Gate, R: Threads + Wait + Sync>(
 
 /// Drives a schedule through the network's port and the shells of its actors.
 ///
-/// No line is a storm. Where the shells are those of actors at their births, each at its port, and the journal is empty, the journal is afterwards what the contract of a played schedule says. A line that tells a crashed actor to go is answered as a want of memory.
+/// No line is a storm. Where the shells are those of actors at their births, each at its port, and no port has made a row, the journal is afterwards what the contract of a played schedule says. A line that tells a crashed actor to go is answered as a want of memory.
 pub fn drive<A: Actor, G: Gate, R: Threads + Wait + Sync>(
     rt: &R,
     alloc: Global,
@@ -63,12 +64,16 @@ pub fn drive<A: Actor, G: Gate, R: Threads + Wait + Sync>(
     requires exchange { AllOf net.old shells.old.items }
     requires built { All (λ line. is_built line ≡ true) lines.now }
     ensures kept { result ≢ Driven.OutOfMemory → IsKept net.old shells.old.items net.new shells.new.items }
-    ensures driven { (words : ℕ → ℕ → ℕ × ℕ) (births : List (Seat A)) → Company births net.old shells.old.items → seen net.old ≡ [] → IsDriven words births lines.now net.old.limit net.new shells.new.items result }
+    ensures driven { (words : ℕ → ℕ → ℕ × ℕ) (births : List (Seat A)) → AtBirth births net.old shells.old.items → IsDriven words births lines.now net.old.limit net.new shells.new.items result }
 {
     let mut score = Score {
         skipped: 0,
         unsettled: false,
         gone: Vec::new(alloc),
+    };
+    // Until all have gathered it is not known that there is no row.
+    let Ok(()) = gather(rt, net, shells) else {
+        return Driven::OutOfMemory;
     };
     for line in lines {
         match run_line(rt, alloc, net, shells, &mut score, line, gate) {
@@ -77,8 +82,12 @@ pub fn drive<A: Actor, G: Gate, R: Threads + Wait + Sync>(
             Err(Stop::OutOfMemory) => return Driven::OutOfMemory,
         }
     }
+    let Ok(found) = lowest(rt, net, shells) else {
+        return Driven::OutOfMemory;
+    };
     Driven::Ended {
         unsettled: score.unsettled,
+        quiet: found.is_none(),
         skipped: score.skipped,
     }
 }

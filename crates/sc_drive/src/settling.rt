@@ -20,8 +20,8 @@ use sc_workers::gather;
 use std::alloc::Global;
 use std::sync::Wait;
 
-// The place of the shell that gets the lowest-numbered pending mail of all. None where no mail is pending.
-fn lowest<A: Actor, R: Wait>(
+/// The place of the shell that gets the lowest-numbered pending mail of all. None where no mail is pending.
+pub(crate) fn lowest<A: Actor, R: Wait>(
     rt: &R,
     net: &mut Port<A::Mail, A::Order>,
     shells: &mut Vec<Shell<A>>,

@@ -38,8 +38,12 @@ pub enum Changed {
 /// How a schedule was driven.
 #[derive(Clone, Copy, Debug, PartialEq, Eq)]
 pub enum Driven {
-    /// To its end: whether a line of many deliveries ended with mail pending, and how many lines made no row.
-    Ended { unsettled: bool, skipped: u64 },
+    /// To its end: whether a line of many deliveries ended with mail pending, whether none is pending now, and how many lines made no row.
+    Ended {
+        unsettled: bool,
+        quiet: bool,
+        skipped: u64,
+    },
     /// To a row that would pass the limit.
     Full,
     OutOfMemory,
