@@ -11,3 +11,5 @@ pub mod Networking
 pub mod Lowering
 pub mod Draining
 pub mod Wholly
+pub mod Births
+pub mod Endings

@@ -5,3 +5,4 @@ pub mod Stepping
 pub mod Goings
 pub mod Changing
 pub mod Lowest
+pub mod Ends

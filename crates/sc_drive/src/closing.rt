@@ -1,7 +1,8 @@
 //! The end of an exchange.
 ghost use Rattle.std.specs.Prelude.{◌≡◌, [], map, IfOk};
-ghost use Rattle.sc_exchange.specs.Ports.{seen, given, joined, IsTrue};
+ghost use Rattle.sc_exchange.specs.Ports.{seen, given, joined, SameExchange, IsTrue};
 ghost use Rattle.sc_workers.specs.Crews.{AllOf, AllOver, numbers};
+ghost use Rattle.sc_drive.specs.Ends.{Rejoined};
 
 use sc_actor::{Actor, Journal};
 use sc_base::{OutOfMemory, Sequence};
@@ -9,6 +10,18 @@ use sc_exchange::Port;
 use sc_shell::Shell;
 use std::alloc::Global;
 use std::sync::Wait;
+
+// A shell's actor, whose port is joined.
+fn take_apart<A: Actor>(net: &mut Port<A::Mail, A::Order>, shell: Shell<A>) -> A
+    requires net { net.old.who ≡ 0 }
+    requires one { SameExchange net.old shell.port }
+    ensures actor { result ≡ shell.actor }
+    ensures joined { Rejoined net.old net.new shell.port }
+{
+    let (actor, port) = shell.parts();
+    net.join(port);
+    actor
+}
 
 /// Takes the shells apart, joins their ports and closes the network's port: the journal, which is what that port has seen, and the actors in the order of their shells.
 ///
@@ -28,5 +41,11 @@ pub fn close<A: Actor, R: Wait>(
     ensures journal { IfOk result (λ left. left.0 ≡ seen net) }
     ensures actors { IfOk result (λ left. left.1 ≡ map (λ s. s.actor) shells.items) }
 {
-    Err(OutOfMemory)
+    let mut all = net;
+    let mut actors = Sequence::new(alloc);
+    for shell in shells {
+        let actor = take_apart(&mut all, shell);
+        actors.push(actor)?;
+    }
+    Ok((all.close(rt), actors))
 }
