@@ -1,7 +1,7 @@
 -- An exchange at its beginning.
-use Rattle.std.proofs.Common.{◌≡◌, ℕ, zero, suc, ◌<◌, ◌≤◌, Bool, true, false, true≢false, eqb, eq-eqb, ◌||◌, not, List, [], ◌∷◌, ◌++◌, length, take, get_or, refl, sym, ap, ◌∙◌, subst, arith, Contains}
+use Rattle.std.proofs.Common.{◌≡◌, ℕ, zero, suc, ◌<◌, ◌≤◌, true, false, true≢false, eqb, eq-eqb, not, List, [], ◌∷◌, ◌++◌, length, take, get_or, refl, sym, ap, ◌∙◌, subst, arith, Contains}
 use Rattle.std.specs.List.{All, list_any}
-use Rattle.std.proofs.lemmas.Bool.{and_parts}
+use Rattle.std.proofs.lemmas.Bool.{and_parts, or_parts, not-true}
 use Rattle.std.proofs.lemmas.List.{map-append}
 use Rattle.std.proofs.lemmas.List.Elements.{All-push}
 use Rattle.sc_actor.specs.declared.actors.Actor.{Ghosts}
@@ -15,14 +15,6 @@ use Rattle.sc_shell.specs.declared.shells.Shell.{Shell}
 use Rattle.sc_workers.specs.Crews.{AllOf, numbers}
 use Rattle.sc_drive.specs.Companies.{AtBirth, seats}
 use Rattle.sc_drive.specs.Ends.{Seated}
-
-not_true : (b : Bool) → not b ≡ true → b ≡ false
-not_true true e = absurd (true≢false (sym e))
-not_true false e = refl
-
-or_parts : (a b : Bool) → (a || b) ≡ false → (a ≡ false) × (b ≡ false)
-or_parts true b e = absurd (true≢false e)
-or_parts false b e = (refl, e)
 
 -- a list is what comes before an element, the element, and what follows
 pub cut_at : {X : Type 0} (xs : List X) (n : ℕ) (x : X) → n < length xs → x ≡ get_or xs n x → (rest : List X) × (xs ≡ take n xs ++ x ∷ rest)
@@ -44,7 +36,7 @@ module _ {A : Type 0} where
       parts = and_parts (not (list_any (λ (other : Seat A). eqb other.who f.who) (front ++ seat ∷ rest))) (are_apart (front ++ seat ∷ rest)) far
 
       at : (i : ℕ) → i < length (numbers_of (f ∷ front)) → get_or (numbers_of (f ∷ front)) i seat.who ≡ seat.who → (are_apart (front ++ seat ∷ rest) ≡ true → ¬ Contains (numbers_of front) seat.who) → ⊥
-      at zero lt is before = true≢false (sym (eq-eqb seat.who f.who (sym is)) ∙ none_has f.who front seat rest (not_true (list_any (λ (other : Seat A). eqb other.who f.who) (front ++ seat ∷ rest)) parts.0))
+      at zero lt is before = true≢false (sym (eq-eqb seat.who f.who (sym is)) ∙ none_has f.who front seat rest (not-true (list_any (λ (other : Seat A). eqb other.who f.who) (front ++ seat ∷ rest)) parts.0))
       at (suc i) lt is before = before parts.1 (i, omega (arith, lt), is)
 
 module _ {M O : Type 0} {h : MailGhosts M} where

@@ -18,4 +18,6 @@ pub use opening::open;
 pub use steps::Driven;
 
 #[cfg(test)]
+mod ends_tests;
+#[cfg(test)]
 mod tests;

@@ -18,7 +18,7 @@ use std::thread;
 use std::thread::Threads;
 
 #[derive(Debug, PartialEq, Eq, Drop)]
-struct Note {
+pub(crate) struct Note {
     to: u32,
 }
 
@@ -44,10 +44,10 @@ impl Parcel for Note {
 
 // Sends a note to another at each input, as long as it has notes left. It is out of memory when it has `starves` left.
 #[derive(Drop)]
-struct Player {
-    other: u32,
-    left: u32,
-    starves: u32,
+pub(crate) struct Player {
+    pub(crate) other: u32,
+    pub(crate) left: u32,
+    pub(crate) starves: u32,
 }
 
 impl Actor for Player {

@@ -1,0 +1,115 @@
+//! Exchanges that are opened and closed.
+ghost use Rattle.std.specs.Prelude.{◌≡◌, ◌<◌, ◌≤◌, [], true, All, IfOk};
+ghost use Rattle.sc_play.specs.Stages.{are_apart};
+ghost use Rattle.sc_exchange.specs.Ports.{given, joined};
+ghost use Rattle.sc_workers.specs.Crews.{AllOf, numbers};
+
+use crate::closing::close;
+use crate::opening::open;
+use crate::tests::{Note, Player};
+use sc_actor::{Event, Row, Seat};
+use sc_base::OutOfMemory;
+use sc_exchange::Port;
+use sc_shell::Shell;
+use sc_workers::gather;
+use std::alloc::Global;
+use std::sync::Wait;
+use std::test::Fail;
+
+fn player(other: u32, left: u32) -> Player {
+    Player {
+        other,
+        left,
+        starves: 0,
+    }
+}
+
+// The numbers of the rows' actors, as the digits of one number.
+fn makers(rows: &[Row<Note, u32>]) -> u32 {
+    let mut digits = 0u32;
+    for row in rows {
+        digits = digits.wrapping_mul(10).wrapping_add(row.who);
+    }
+    digits
+}
+
+// To whom each actor sends, and how many notes it has left, as the digits of one number.
+fn players(actors: &[Player]) -> u32 {
+    let mut digits = 0u32;
+    for actor in actors {
+        digits = digits.wrapping_mul(10).wrapping_add(actor.other);
+        digits = digits.wrapping_mul(10).wrapping_add(actor.left);
+    }
+    digits
+}
+
+fn seats(alloc: Global) -> Result<Vec<Seat<Player>>, OutOfMemory>
+    ensures far { IfOk result (λ seats. are_apart seats.items ≡ true) }
+    ensures numbered { IfOk result (λ seats. All (λ seat. (0 < seat.who) × (seat.who ≤ 2)) seats.items) }
+{
+    let mut seats = Vec::new(alloc);
+    seats.push(Seat {
+        who: 2,
+        actor: player(1, 4),
+    })?;
+    seats.push(Seat {
+        who: 1,
+        actor: player(2, 7),
+    })?;
+    Ok(seats)
+}
+
+// The actor at a place goes.
+fn go<R: Wait>(
+    rt: &R,
+    alloc: Global,
+    net: &Port<Note, u32>,
+    shells: &mut Vec<Shell<Player>>,
+    place: usize,
+)
+    requires exchange { AllOf net.now shells.old.items }
+    ensures exchange { AllOf net.now shells.new.items }
+    ensures numbers { numbers shells.new.items ≡ numbers shells.old.items }
+{
+    if place < shells.len() {
+        let _ = shells[place].event(rt, alloc, Event::Go);
+    }
+}
+
+// What is left at the end, where all gather before.
+fn ended<R: Wait>(
+    rt: &R,
+    alloc: Global,
+    net: Port<Note, u32>,
+    shells: Vec<Shell<Player>>,
+) -> Result<(u32, u32), OutOfMemory>
+    requires net { net.who ≡ 0 }
+    requires exchange { AllOf net shells.items }
+    requires all { given net ≡ numbers shells.items }
+    requires none { joined net ≡ [] }
+{
+    let mut all = net;
+    let mut shells = shells;
+    gather(rt, &mut all, &mut shells)?;
+    let (journal, actors) = close(rt, alloc, all, shells)?;
+    Ok((makers(journal.as_slice()), players(actors.as_slice())))
+}
+
+// What is left where the actors at these places went.
+fn left_after<R: Wait>(rt: &R, alloc: Global, places: &[usize]) -> Result<(u32, u32), OutOfMemory> {
+    let (net, shells) = open(alloc, seats(alloc)?, 2, 1 << 19)?;
+    let mut shells = shells;
+    for place in places {
+        go(rt, alloc, &net, &mut shells, *place);
+    }
+    ended(rt, alloc, net, shells)
+}
+
+#[test]
+fn all_are_given_back_in_order(rt: HostRuntime) -> Result<(), Fail> {
+    let none = left_after(&rt, rt.alloc(), &[])?;
+    assert_eq!(rt; none, (0, 1427));
+    let some = left_after(&rt, rt.alloc(), &[0, 1, 1, 0, 1])?;
+    assert_eq!(rt; some, (21121, 1224));
+    Ok(())
+}
