@@ -48,7 +48,7 @@ same_one n (w ∷ ws) far there = by (eqb n w) refl (same_one n ws parts.1)
     by false is rest = omega (arith, sum_cons (same n) w ws, rest (or_second (eqb n w) (is_in n ws) is there), ap (λ b. cond {A = ℕ} b 1 0) is)
 
 module _ {A : Type 0} where
-  sum_nothing : (ws : List A) → sum_by (λ (w : A). 0) ws ≡ 0
+  pub sum_nothing : (ws : List A) → sum_by (λ (w : A). 0) ws ≡ 0
   sum_nothing [] = refl
   sum_nothing (w ∷ ws) = omega (arith, sum_cons (λ (v : A). 0) w ws, sum_nothing ws)
 

@@ -68,12 +68,12 @@ module _ {X : Type 0} where
   map_length f (x ∷ xs) = ap suc (map_length f xs)
 
 module _ {A M O : Type 0} {g : Ghosts A M O} {h : MailGhosts M} where
-  numbers_set : (ss : List (Shell A M O g h)) (k : ℕ) (t : Shell A M O g h) → k < length ss → ((d : Shell A M O g h) → t.port.who ≡ (get_or ss k d).port.who) → numbers (set ss k t) ≡ numbers ss
+  pub numbers_set : (ss : List (Shell A M O g h)) (k : ℕ) (t : Shell A M O g h) → k < length ss → ((d : Shell A M O g h) → t.port.who ≡ (get_or ss k d).port.who) → numbers (set ss k t) ≡ numbers ss
   numbers_set [] k t lt same = refl
   numbers_set (s ∷ ss) zero t lt same = λ i. same s i ∷ numbers ss
   numbers_set (s ∷ ss) (suc k) t lt same = ap (λ l. s.port.who ∷ l) (numbers_set ss k t (omega (arith, lt)) same)
 
-  length_set : (ss : List (Shell A M O g h)) (k : ℕ) (t : Shell A M O g h) → length (set ss k t) ≡ length ss
+  pub length_set : (ss : List (Shell A M O g h)) (k : ℕ) (t : Shell A M O g h) → length (set ss k t) ≡ length ss
   length_set [] k t = refl
   length_set (s ∷ ss) zero t = refl
   length_set (s ∷ ss) (suc k) t = ap suc (length_set ss k t)

@@ -10,6 +10,8 @@ pub mod Frees
 pub mod Networking
 pub mod Lowering
 pub mod Draining
+pub mod Keeping
+pub mod Beginning
 pub mod Wholly
 pub mod Births
 pub mod Endings

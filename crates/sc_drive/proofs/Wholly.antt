@@ -1,5 +1,6 @@
 -- A schedule from its first line to its last.
-use Rattle.std.proofs.Common.{◌≡◌, ℕ, ◌+◌, ◌<◌, ◌≤◌, Bool, true, false, List, [], ◌∷◌, length, get_or, drop, drop_of_length-le, sym, ap, ◌∙◌, subst, arith}
+use Rattle.std.proofs.Common.{◌≡◌, ℕ, suc, ◌+◌, ◌<◌, ◌≤◌, Bool, true, false, List, [], ◌∷◌, length, get_or, drop, drop_of_length-le, refl, sym, ap, ◌∙◌, subst, arith, Option, Some, None}
+use Rattle.std.specs.Prelude.{is_none}
 use Rattle.std.specs.List.{flat_map}
 use Rattle.sc_actor.specs.declared.actors.Actor.{Ghosts}
 use Rattle.sc_actor.specs.declared.actors.Parcel.{Ghosts as MailGhosts}
@@ -7,8 +8,9 @@ use Rattle.sc_actor.specs.declared.actors.Seat.{Seat}
 use Rattle.sc_actor.specs.declared.rows.Row.{Row}
 use Rattle.sc_actor.specs.declared.schedules.Line.{Line}
 use Rattle.sc_actor.specs.Counted.{journal_bytes}
-use Rattle.sc_actor.specs.System.{system, has_gone}
-use Rattle.sc_actor.specs.Walk.{tasks_of}
+use Rattle.sc_actor.specs.Replay.{value, values}
+use Rattle.sc_actor.specs.System.{system, numbers_of, has_gone}
+use Rattle.sc_actor.specs.Walk.{IsLawful, IsWhole, tasks_of, skipped, unsettled, is_quiet}
 use Rattle.sc_actor.proofs.WalkLemmas.{Stands, Stands-begin, Stands-whole}
 use Rattle.sc_play.specs.Deeds.{is_built}
 use Rattle.sc_play.specs.Moves.{IsFull, rules_of, line_task}
@@ -16,12 +18,30 @@ use Rattle.sc_play.proofs.Steps.{split}
 use Rattle.sc_exchange.specs.declared.ports.Port.{Port}
 use Rattle.sc_exchange.specs.Ports.{seen}
 use Rattle.sc_shell.specs.declared.shells.Shell.{Shell}
+use Rattle.sc_shell.specs.Shells.{ReplaysOver}
+use Rattle.sc_workers.specs.Crews.{numbers}
 use Rattle.sc_drive.specs.declared.steps.Score.{Score}
 use Rattle.sc_drive.specs.Numbers.{is_in}
-use Rattle.sc_drive.specs.Companies.{Company}
+use Rattle.sc_drive.specs.Companies.{Company, seats}
+use Rattle.sc_drive.specs.Lowest.{Lowest}
 use Rattle.sc_drive.specs.Goings.{At, Goes, Fills, HasEnded}
 
 module _ {A M O : Type 0} {g : Ghosts A M O} {h : MailGhosts M} where
+  values_are : (births : List (Seat A)) (ss : List (Shell A M O g h)) (rows : List (Row M O)) → numbers ss ≡ numbers_of births →
+      ((k : ℕ) (d : Shell A M O g h) (e : Seat A) → k < length ss → ReplaysOver (get_or ss k d) rows (get_or births k e).actor) → seats ss ≡ values g.table births rows
+  values_are [] [] rows same each = refl
+  values_are (b ∷ births) [] rows same each = cc
+  values_are [] (s ∷ ss) rows same each = cc
+  values_are (b ∷ births) (s ∷ ss) rows same each =
+      let first : s.port.who ≡ b.who = cc in
+      let rest : numbers ss ≡ numbers_of births = cc in
+      let actor : s.actor ≡ value g.table b rows = each 0 s b (omega arith) ∙ ap (λ n. value g.table (record { who = n; actor = b.actor }) rows) first in
+      λ i. record { who = first i; actor = actor i } ∷ values_are births ss rows rest (λ k d e lt. each (suc k) d e (omega (arith, lt))) i
+
+  -- each actor is the replay of its rows among all
+  seats_left : (births : List (Seat A)) (net : Port M O h) (ss : List (Shell A M O g h)) → Company births net ss → seats ss ≡ values g.table births (seen net)
+  seats_left births net ss c = values_are births ss (seen net) c.born (λ k d e lt. (c.over k d lt).replay (get_or births k e).actor (c.replay k d e lt))
+
   module _ (words : ℕ → ℕ → ℕ × ℕ) (births : List (Seat A)) (lines : List (Line O)) where
     -- before the first line
     pub drive_begins : (net : Port M O h) (ss : List (Shell A M O g h)) (score : Score) → Company births net ss → seen net ≡ [] → score.skipped ≡ 0 → score.unsettled ≡ false → score.gone.items ≡ [] → At words births lines net ss score (flat_map (tasks_of words) (drop 0 lines))
@@ -50,10 +70,24 @@ module _ {A M O : Type 0} {g : Ghosts A M O} {h : MailGhosts M} where
         subst (λ n. IsFull (system g.table h.receiver words births) h.weighs lines n (seen next)) limit
         (fills words births lines (flat_map (tasks_of words) (drop (i + 1) lines)) (subst (λ ts. At words births lines net ss score ts) (split (rules_of g.table h.receiver h.weighs 0) words births lines i line lt is built) at))
 
-    -- past the last line
-    pub drive_ends : (net : Port M O h) (ss : List (Shell A M O g h)) (score : Score) (i : ℕ) → length lines ≤ i → At words births lines net ss score (flat_map (tasks_of words) (drop i lines)) → HasEnded words births lines net ss score.unsettled score.skipped
-    drive_ends net ss score i le before =
+    -- past the last line, once it was looked whether mail is pending
+    pub drive_ends : (net next : Port M O h) (ss after : List (Shell A M O g h)) (score : Score) (i : ℕ) (found : Option ℕ) → length lines ≤ i → At words births lines net ss score (flat_map (tasks_of words) (drop i lines)) →
+        (Company births net ss → Lowest (system g.table h.receiver words births) net next after found) → next.limit ≡ net.limit → HasEnded words births lines next after score.unsettled (is_none found) score.skipped
+    drive_ends net next ss after score i found le before look limit =
         let s = system g.table h.receiver words births in
         let at : At words births lines net ss score [] = subst (λ ts. At words births lines net ss score (flat_map (tasks_of words) ts)) (drop_of_length-le lines le) before in
         let whole = Stands-whole s lines (seen net) score.skipped score.unsettled (record { lawful = at.lawful; place = at.place }) in
-        record { lawful = at.lawful; whole = whole.0; within = at.within; cut_is = sym whole.2; skips_are = sym whole.1; company = at.company }
+        let rest = rested found (look at.company) in
+        let rows : seen net ≡ seen next = sym rest.1 in record {
+          lawful = subst (IsLawful s lines) rows at.lawful;
+          whole = subst (IsWhole s lines) rows whole.0;
+          within = subst (λ (p : List (Row M O) × ℕ). journal_bytes h.weighs p.0 ≤ p.1) (λ i. (rows i, sym limit i)) at.within;
+          cut_is = sym whole.2 ∙ ap (unsettled s lines) rows;
+          quiet_is = rest.2;
+          skips_are = sym whole.1 ∙ ap (skipped s lines) rows;
+          left = seats_left births next after rest.0;
+        }
+      where
+        rested : (o : Option ℕ) → Lowest (system g.table h.receiver words births) net next after o → Company births next after × (seen next ≡ seen net) × (is_none o ≡ is_quiet (system g.table h.receiver words births) (seen next))
+        rested None l = (l.0, l.1, sym (ap (is_quiet (system g.table h.receiver words births)) l.1 ∙ l.2))
+        rested (Some place) l = (l.0, l.1, sym (ap is_none l.2.first))

@@ -6,6 +6,7 @@ ghost use Rattle.sc_shell.specs.Answers.{MayHappen};
 ghost use Rattle.sc_workers.specs.Crews.{AllOf};
 ghost use Rattle.sc_drive.specs.Acts.{MetAndTold, MetAndTook, Told, Served};
 ghost use Rattle.sc_drive.specs.Companies.{Company};
+ghost use Rattle.sc_drive.specs.Goings.{IsKept};
 
 use sc_actor::{Actor, Event, Gate};
 use sc_base::OutOfMemory;
@@ -61,6 +62,7 @@ pub(crate) fn tell<A: Actor, R: Wait>(
     ensures len { OnOk result (length shells.new.items ≡ length shells.old.items) }
     ensures exchange { OnOk result (AllOf net.new shells.new.items) }
     ensures net { OnOk result (Stays net.old net.new) }
+    ensures kept { OnOk result (IsKept net.old shells.old.items net.new shells.new.items) }
     ensures told { IfOk result (λ turn. (births : List (Seat A)) → Company births net.old shells.old.items → Told births place event net.old net.new shells.old.items shells.new.items turn) }
 {
     let turn = tell_one(rt, alloc, net, &mut shells[place], event)?;
@@ -84,6 +86,7 @@ pub(crate) fn serve<A: Actor, G: Gate, R: Wait>(
     ensures len { OnOk result (length shells.new.items ≡ length shells.old.items) }
     ensures exchange { OnOk result (AllOf net.new shells.new.items) }
     ensures net { OnOk result (Stays net.old net.new) }
+    ensures kept { OnOk result (IsKept net.old shells.old.items net.new shells.new.items) }
     ensures served { IfOk result (λ turn. (births : List (Seat A)) → Company births net.old shells.old.items → Served births place k net.old net.new shells.old.items shells.new.items turn) }
 {
     let turn = serve_one(rt, alloc, net, &mut shells[place], k, gate)?;

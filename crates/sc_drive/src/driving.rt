@@ -4,7 +4,7 @@ ghost use Rattle.sc_actor.specs.declared.actors.Seat.{Seat};
 ghost use Rattle.sc_play.specs.Deeds.{is_built};
 ghost use Rattle.sc_play.specs.Moves.{line_task};
 ghost use Rattle.sc_exchange.specs.Ports.{seen, Stays};
-ghost use Rattle.sc_workers.specs.Crews.{AllOf};
+ghost use Rattle.sc_workers.specs.Crews.{AllOf, numbers};
 ghost use Rattle.sc_drive.specs.Companies.{AtBirth};
 ghost use Rattle.sc_drive.specs.Goings.{Goes, Fills, IsKept, IsDriven};
 
@@ -35,6 +35,7 @@ fn run_line<A: Actor, G: Gate, R: Threads + Wait + Sync>(
     ensures len { OnOk result (length shells.new.items ≡ length shells.old.items) }
     ensures exchange { OnOk result (AllOf net.new shells.new.items) }
     ensures net { OnOk result (Stays net.old net.new) }
+    ensures same { OnOk result (numbers shells.new.items ≡ numbers shells.old.items) }
     ensures kept { IsErrOf result Stop.Full → IsKept net.old shells.old.items net.new shells.new.items }
     ensures goes { OnOk result (Goes net.old shells.old.items score.old (line_task line.now ∷ []) net.new shells.new.items score.new []) }
     ensures fills { IsErrOf result Stop.Full → Fills net.old shells.old.items score.old (line_task line.now ∷ []) net.new }

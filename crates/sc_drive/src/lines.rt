@@ -6,9 +6,10 @@ ghost use Rattle.sc_actor.specs.Mail.{has_crashed};
 ghost use Rattle.sc_actor.specs.Walk.{line_row};
 ghost use Rattle.sc_exchange.specs.Ports.{seen, Stays};
 ghost use Rattle.sc_shell.specs.Answers.{MayHappen};
-ghost use Rattle.sc_workers.specs.Crews.{AllOf};
+ghost use Rattle.sc_workers.specs.Crews.{AllOf, numbers};
 ghost use Rattle.sc_drive.specs.Companies.{Company};
 ghost use Rattle.sc_drive.specs.Stepping.{IsPlace, IsNowhere, Stepped, unless_crashed};
+ghost use Rattle.sc_drive.specs.Goings.{IsKept};
 
 use crate::acting::{serve, tell};
 use crate::steps::Step;
@@ -46,6 +47,8 @@ pub(crate) fn happen<A: Actor, R: Wait>(
     ensures len { OnOk result (length shells.new.items ≡ length shells.old.items) }
     ensures exchange { OnOk result (AllOf net.new shells.new.items) }
     ensures net { OnOk result (Stays net.old net.new) }
+    ensures same { OnOk result (numbers shells.new.items ≡ numbers shells.old.items) }
+    ensures kept { IfOk result (λ step. step ≡ Step.Full → IsKept net.old shells.old.items net.new shells.new.items) }
     ensures stepped { IfOk result (λ step. (words : ℕ → ℕ → ℕ × ℕ) (births : List (Seat A)) → Company births net.old shells.old.items → Stepped (system A.table A.Mail.receiver words births) (unless_crashed (system A.table A.Mail.receiver words births) (seen net.old) who event) net.old net.new shells.new.items step) }
 {
     let Some(place) = place_of(shells.as_slice(), who) else {
@@ -73,6 +76,8 @@ pub(crate) fn deliver<A: Actor, G: Gate, R: Wait>(
     ensures len { OnOk result (length shells.new.items ≡ length shells.old.items) }
     ensures exchange { OnOk result (AllOf net.new shells.new.items) }
     ensures net { OnOk result (Stays net.old net.new) }
+    ensures same { OnOk result (numbers shells.new.items ≡ numbers shells.old.items) }
+    ensures kept { IfOk result (λ step. step ≡ Step.Full → IsKept net.old shells.old.items net.new shells.new.items) }
     ensures stepped { IfOk result (λ step. (words : ℕ → ℕ → ℕ × ℕ) (births : List (Seat A)) → Company births net.old shells.old.items → Stepped (system A.table A.Mail.receiver words births) (line_row (system A.table A.Mail.receiver words births) (seen net.old) (Line.Deliver who k)) net.old net.new shells.new.items step) }
 {
     if k == 0 {

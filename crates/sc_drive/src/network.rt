@@ -4,10 +4,11 @@ ghost use Rattle.sc_actor.specs.declared.actors.Seat.{Seat};
 ghost use Rattle.sc_actor.specs.System.{system};
 ghost use Rattle.sc_actor.specs.Walk.{line_row};
 ghost use Rattle.sc_exchange.specs.Ports.{seen, Stays};
-ghost use Rattle.sc_workers.specs.Crews.{AllOf};
+ghost use Rattle.sc_workers.specs.Crews.{AllOf, numbers};
 ghost use Rattle.sc_drive.specs.Companies.{Company};
 ghost use Rattle.sc_drive.specs.Stepping.{Stepped};
 ghost use Rattle.sc_drive.specs.Changing.{Change};
+ghost use Rattle.sc_drive.specs.Goings.{IsKept};
 
 use crate::lines::place_of;
 use crate::steps::{Changed, Step};
@@ -71,6 +72,8 @@ pub(crate) fn lose<A: Actor, R: Wait>(
     ensures len { OnOk result (length shells.new.items ≡ length shells.old.items) }
     ensures exchange { OnOk result (AllOf net.new shells.new.items) }
     ensures net { OnOk result (Stays net.old net.new) }
+    ensures same { OnOk result (numbers shells.new.items ≡ numbers shells.old.items) }
+    ensures kept { IfOk result (λ step. step ≡ Step.Full → IsKept net.old shells.old.items net.new shells.new.items) }
     ensures stepped { IfOk result (λ step. (words : ℕ → ℕ → ℕ × ℕ) (births : List (Seat A)) → Company births net.old shells.old.items → Stepped (system A.table A.Mail.receiver words births) (line_row (system A.table A.Mail.receiver words births) (seen net.old) (Line.Drop who k)) net.old net.new shells.new.items step) }
 {
     if k == 0 {
@@ -105,6 +108,8 @@ pub(crate) fn again<A: Actor, R: Wait>(
     ensures len { OnOk result (length shells.new.items ≡ length shells.old.items) }
     ensures exchange { OnOk result (AllOf net.new shells.new.items) }
     ensures net { OnOk result (Stays net.old net.new) }
+    ensures same { OnOk result (numbers shells.new.items ≡ numbers shells.old.items) }
+    ensures kept { IfOk result (λ step. step ≡ Step.Full → IsKept net.old shells.old.items net.new shells.new.items) }
     ensures stepped { IfOk result (λ step. (words : ℕ → ℕ → ℕ × ℕ) (births : List (Seat A)) → Company births net.old shells.old.items → Stepped (system A.table A.Mail.receiver words births) (line_row (system A.table A.Mail.receiver words births) (seen net.old) (Line.Again number)) net.old net.new shells.new.items step) }
 {
     let Some(who) = net.receiver(rt, number) else {

@@ -2,7 +2,7 @@
 ghost use Rattle.std.specs.Prelude.{◌≡◌, [], ◌∷◌, length, OnOk, IsErrOf, true};
 ghost use Rattle.sc_actor.specs.Walk.{Frees};
 ghost use Rattle.sc_exchange.specs.Ports.{Stays};
-ghost use Rattle.sc_workers.specs.Crews.{AllOf, AllSound};
+ghost use Rattle.sc_workers.specs.Crews.{AllOf, AllSound, numbers};
 ghost use Rattle.sc_drive.specs.Goings.{Goes, Fills, IsKept};
 
 use crate::steps::{Score, Stop};
@@ -42,6 +42,7 @@ pub(crate) fn run_free<A: Actor, G: Gate, R: Threads + Wait + Sync>(
     ensures len { OnOk result (length shells.new.items ≡ length shells.old.items) }
     ensures exchange { OnOk result (AllOf net.new shells.new.items) }
     ensures net { OnOk result (Stays net.old net.new) }
+    ensures same { OnOk result (numbers shells.new.items ≡ numbers shells.old.items) }
     ensures kept { IsErrOf result Stop.Full → IsKept net.old shells.old.items net.new shells.new.items }
     ensures goes { OnOk result (Goes net.old shells.old.items score.old (Frees most ∷ []) net.new shells.new.items score.new []) }
     ensures fills { IsErrOf result Stop.Full → Fills net.old shells.old.items score.old (Frees most ∷ []) net.new }

@@ -4,7 +4,7 @@ ghost use Rattle.sc_actor.specs.declared.actors.Seat.{Seat};
 ghost use Rattle.sc_actor.specs.System.{system};
 ghost use Rattle.sc_actor.specs.Walk.{Settles};
 ghost use Rattle.sc_exchange.specs.Ports.{Stays};
-ghost use Rattle.sc_workers.specs.Crews.{AllOf};
+ghost use Rattle.sc_workers.specs.Crews.{AllOf, numbers};
 ghost use Rattle.sc_drive.specs.Companies.{Company};
 ghost use Rattle.sc_drive.specs.Goings.{Goes, Fills, IsKept};
 ghost use Rattle.sc_drive.specs.Lowest.{Lowest};
@@ -31,6 +31,7 @@ pub(crate) fn lowest<A: Actor, R: Wait>(
     ensures len { OnOk result (length shells.new.items ≡ length shells.old.items) }
     ensures exchange { OnOk result (AllOf net.new shells.new.items) }
     ensures net { OnOk result (Stays net.old net.new) }
+    ensures kept { OnOk result (IsKept net.old shells.old.items net.new shells.new.items) }
     ensures inside { IfOk result (λ found. IfSome found (λ place. place < length shells.new.items)) }
     ensures lowest { IfOk result (λ found. (words : ℕ → ℕ → ℕ × ℕ) (births : List (Seat A)) → Company births net.old shells.old.items → Lowest (system A.table A.Mail.receiver words births) net.old net.new shells.new.items found) }
 {
@@ -61,6 +62,7 @@ fn settle_step<A: Actor, G: Gate, R: Wait>(
     ensures len { OnOk result (length shells.new.items ≡ length shells.old.items) }
     ensures exchange { OnOk result (AllOf net.new shells.new.items) }
     ensures net { OnOk result (Stays net.old net.new) }
+    ensures same { OnOk result (numbers shells.new.items ≡ numbers shells.old.items) }
     ensures kept { IsErrOf result Stop.Full → IsKept net.old shells.old.items net.new shells.new.items }
     ensures goes { IfOk result (λ more. MatchBool more ((0 < left) × Goes net.old shells.old.items score.old (Settles left ∷ []) net.new shells.new.items score.new (Settles (left - 1) ∷ [])) (Goes net.old shells.old.items score.old (Settles left ∷ []) net.new shells.new.items score.new [])) }
     ensures fills { IsErrOf result Stop.Full → Fills net.old shells.old.items score.old (Settles left ∷ []) net.new }
@@ -102,6 +104,7 @@ pub(crate) fn run_settle<A: Actor, G: Gate, R: Wait>(
     ensures len { OnOk result (length shells.new.items ≡ length shells.old.items) }
     ensures exchange { OnOk result (AllOf net.new shells.new.items) }
     ensures net { OnOk result (Stays net.old net.new) }
+    ensures same { OnOk result (numbers shells.new.items ≡ numbers shells.old.items) }
     ensures kept { IsErrOf result Stop.Full → IsKept net.old shells.old.items net.new shells.new.items }
     ensures goes { OnOk result (Goes net.old shells.old.items score.old (Settles most ∷ []) net.new shells.new.items score.new []) }
     ensures fills { IsErrOf result Stop.Full → Fills net.old shells.old.items score.old (Settles most ∷ []) net.new }

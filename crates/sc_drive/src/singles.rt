@@ -5,7 +5,7 @@ ghost use Rattle.sc_actor.specs.System.{system, acts};
 ghost use Rattle.sc_actor.specs.Walk.{Once, line_row};
 ghost use Rattle.sc_play.specs.Moves.{line_task};
 ghost use Rattle.sc_exchange.specs.Ports.{seen, Stays};
-ghost use Rattle.sc_workers.specs.Crews.{AllOf};
+ghost use Rattle.sc_workers.specs.Crews.{AllOf, numbers};
 ghost use Rattle.sc_drive.specs.Numbers.{is_in};
 ghost use Rattle.sc_drive.specs.Companies.{Company};
 ghost use Rattle.sc_drive.specs.Stepping.{Stepped};
@@ -49,6 +49,8 @@ fn step_line<A: Actor, G: Gate, R: Wait>(
     ensures len { OnOk result (length shells.new.items ≡ length shells.old.items) }
     ensures exchange { OnOk result (AllOf net.new shells.new.items) }
     ensures net { OnOk result (Stays net.old net.new) }
+    ensures same { OnOk result (numbers shells.new.items ≡ numbers shells.old.items) }
+    ensures kept { IfOk result (λ step. step ≡ Step.Full → IsKept net.old shells.old.items net.new shells.new.items) }
     ensures calm { OnOk result (IsCalm line.now) }
     ensures stepped { IfOk result (λ step. (words : ℕ → ℕ → ℕ × ℕ) (births : List (Seat A)) → Company births net.old shells.old.items → Stepped (system A.table A.Mail.receiver words births) (line_row (system A.table A.Mail.receiver words births) (seen net.old) line.now) net.old net.new shells.new.items step) }
 {
@@ -81,6 +83,7 @@ pub(crate) fn run_once<A: Actor, G: Gate, R: Wait>(
     ensures len { OnOk result (length shells.new.items ≡ length shells.old.items) }
     ensures exchange { OnOk result (AllOf net.new shells.new.items) }
     ensures net { OnOk result (Stays net.old net.new) }
+    ensures same { OnOk result (numbers shells.new.items ≡ numbers shells.old.items) }
     ensures kept { IsErrOf result Stop.Full → IsKept net.old shells.old.items net.new shells.new.items }
     ensures goes { OnOk result (Goes net.old shells.old.items score.old (line_task line.now ∷ []) net.new shells.new.items score.new []) }
     ensures fills { IsErrOf result Stop.Full → Fills net.old shells.old.items score.old (line_task line.now ∷ []) net.new }
@@ -114,6 +117,8 @@ fn go<A: Actor, R: Wait>(
     ensures len { OnOk result (length shells.new.items ≡ length shells.old.items) }
     ensures exchange { OnOk result (AllOf net.new shells.new.items) }
     ensures net { OnOk result (Stays net.old net.new) }
+    ensures same { OnOk result (numbers shells.new.items ≡ numbers shells.old.items) }
+    ensures kept { IfOk result (λ step. step ≡ Step.Full → IsKept net.old shells.old.items net.new shells.new.items) }
     ensures stepped { IfOk result (λ step. (words : ℕ → ℕ → ℕ × ℕ) (births : List (Seat A)) → Company births net.old shells.old.items → Stepped (system A.table A.Mail.receiver words births) (acts (system A.table A.Mail.receiver words births) (seen net.old) who Event.Go) net.old net.new shells.new.items step) }
 {
     let Some(place) = place_of(shells.as_slice(), who) else {
@@ -139,6 +144,7 @@ pub(crate) fn run_go<A: Actor, R: Wait>(
     ensures len { OnOk result (length shells.new.items ≡ length shells.old.items) }
     ensures exchange { OnOk result (AllOf net.new shells.new.items) }
     ensures net { OnOk result (Stays net.old net.new) }
+    ensures same { OnOk result (numbers shells.new.items ≡ numbers shells.old.items) }
     ensures kept { IsErrOf result Stop.Full → IsKept net.old shells.old.items net.new shells.new.items }
     ensures goes { OnOk result (Goes net.old shells.old.items score.old (Once (Line.Go who) ∷ []) net.new shells.new.items score.new []) }
     ensures fills { IsErrOf result Stop.Full → Fills net.old shells.old.items score.old (Once (Line.Go who) ∷ []) net.new }

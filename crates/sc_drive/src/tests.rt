@@ -175,6 +175,7 @@ fn free_lines_end_by_their_causes(rt: HostRuntime) -> Result<(), Fail> {
             quiet,
             Driven::Ended {
                 unsettled: false,
+                quiet: true,
                 skipped: 1
             }
         );
@@ -193,6 +194,7 @@ fn free_lines_end_by_their_causes(rt: HostRuntime) -> Result<(), Fail> {
             cut,
             Driven::Ended {
                 unsettled: true,
+                quiet: true,
                 skipped: 0
             }
         );
@@ -223,6 +225,7 @@ fn lines_of_one_row_are_made_or_skipped(rt: HostRuntime) -> Result<(), Fail> {
         some,
         Driven::Ended {
             unsettled: true,
+            quiet: false,
             skipped: 5
         }
     );
@@ -247,6 +250,7 @@ fn threads_work_at_the_same_time(rt: HostRuntime) -> Result<(), Fail> {
             answer,
             Driven::Ended {
                 unsettled: true,
+                quiet: false,
                 skipped: 0
             }
         );

@@ -1,32 +1,61 @@
-use Rattle.std.proofs.Common.{◌∙◌, ap, arith, Err}
+use Rattle.std.proofs.Common.{◌≡◌, ◌∙◌, ℕ, refl, ap, subst, arith, Bool, true, false, not, Option, Some, None, is_some, Err}
+use Rattle.std.specs.Prelude.{is_none}
 use Rattle.sc_play.proofs.Steps.{built_at}
+use Rattle.sc_drive.specs.Goings.{HasEnded}
+use Rattle.sc_drive.proofs.Beginning.{company_born, nothing_seen}
+use Rattle.sc_drive.proofs.Keeping.{kept_then, kept_gathered}
+use Rattle.sc_drive.proofs.Lining.{stays_self}
 use Rattle.sc_drive.proofs.Networking.{stays_then}
-use Rattle.sc_drive.proofs.Wholly.{drive_on, drive_fills, drive_ends}
+use Rattle.sc_drive.proofs.Wholly.{drive_begins, drive_on, drive_fills, drive_ends}
 use Rattle.sc_drive.proofs.driving.drive.Goals as goal
 
 pub returns-in-Err-Full-clause-driven : goal.returns-in-Err-Full-clause-driven
-returns-in-Err-Full-clause-driven g c = λ words births company none.
+returns-in-Err-Full-clause-driven g c = λ words births born.
     let inv = c.loop-line.invariant in
     drive_fills words births c.args.lines.now c.args.net.now c.loop-line.net c.run_line.new.net c.loop-line.shells.items c.loop-line.score c.loop-line.line-index c.line-item.result inv.net.exchange.2 c.loop-line-test.true c.line-item.is
-    (built_at c.args.lines.now c.requires.built c.loop-line.line-index c.line-item.result c.loop-line-test.true c.line-item.is) (inv.at words births company none) (c.in-Err-Full.ensures.fills (ap Err c.in-Err-Full.field-0-is))
+    (built_at c.args.lines.now c.requires.built c.loop-line.line-index c.line-item.result c.loop-line-test.true c.line-item.is) (inv.at words births born) (c.in-Err-Full.ensures.fills (ap Err c.in-Err-Full.field-0-is))
 
 pub loop-line-preserved : goal.loop-line-preserved
 loop-line-preserved g c = let inv = c.loop-line.invariant in record {
-  len = c.in-Ok.ensures.len ∙ inv.len;
-  exchange = c.in-Ok.ensures.exchange;
-  net = stays_then c.args.net.now c.loop-line.net c.run_line.new.net inv.net c.in-Ok.ensures.net;
-  at = λ words births company none.
+  exchange = c.in-Ok-run_line.ensures.exchange;
+  net = stays_then c.args.net.now c.loop-line.net c.run_line.new.net inv.net c.in-Ok-run_line.ensures.net;
+  same = c.in-Ok-run_line.ensures.same ∙ inv.same;
+  at = λ words births born.
       drive_on words births c.args.lines.now c.loop-line.net c.run_line.new.net c.loop-line.shells.items c.run_line.new.shells.items c.loop-line.score c.run_line.new.score c.loop-line.line-index c.line-item.result c.loop-line-test.true c.line-item.is
-      (built_at c.args.lines.now c.requires.built c.loop-line.line-index c.line-item.result c.loop-line-test.true c.line-item.is) (inv.at words births company none) c.in-Ok.ensures.goes;
+      (built_at c.args.lines.now c.requires.built c.loop-line.line-index c.line-item.result c.loop-line-test.true c.line-item.is) (inv.at words births born) c.in-Ok-run_line.ensures.goes;
 }
-
-pub returns-clause-driven : goal.returns-clause-driven
-returns-clause-driven g c = λ words births company none.
-    let inv = c.loop-line.invariant in
-    drive_ends words births c.args.lines.now c.loop-line.net c.loop-line.shells.items c.loop-line.score c.loop-line.line-index (omega (arith, c.loop-line-test.false)) (inv.at words births company none)
 
 pub returns-in-Err-Full-clause-kept : goal.returns-in-Err-Full-clause-kept
 returns-in-Err-Full-clause-kept g c = λ _.
     let inv = c.loop-line.invariant in
-    let kept = c.in-Err-Full.ensures.kept (ap Err c.in-Err-Full.field-0-is) in
-    (stays_then c.args.net.now c.loop-line.net c.run_line.new.net inv.net kept.0, kept.1, kept.2 ∙ inv.len)
+    kept_then c.args.net.now c.loop-line.net c.run_line.new.net c.args.shells.now.items c.loop-line.shells.items c.run_line.new.shells.items inv.net inv.same (c.in-Err-Full.ensures.kept (ap Err c.in-Err-Full.field-0-is))
+
+quiet_told : (found : Option ℕ) (quiet : Bool) → is_some found ≡ not quiet → is_none found ≡ quiet
+quiet_told None true e = refl
+quiet_told None false e = cc
+quiet_told (Some place) true e = cc
+quiet_told (Some place) false e = refl
+
+pub returns-clause-driven : goal.returns-clause-driven
+returns-clause-driven g c = λ words births born.
+    let inv = c.loop-line.invariant in let net = c.loop-line.net in let next = c.lowest.new.net in let ss = c.loop-line.shells.items in let after = c.lowest.new.shells.items in let score = c.loop-line.score in
+    subst (λ quiet. HasEnded words births c.args.lines.now next after score.unsettled quiet score.skipped) (quiet_told c.in-Ok-lowest.found c.is_none.result c.is_none.ensures)
+    (drive_ends words births c.args.lines.now net next ss after score c.loop-line.line-index c.in-Ok-lowest.found (omega (arith, c.loop-line-test.false)) (inv.at words births born) (c.in-Ok-lowest.ensures.lowest words births) c.in-Ok-lowest.ensures.net.exchange.2)
+
+pub returns-clause-kept : goal.returns-clause-kept
+returns-clause-kept g c = λ _.
+    let inv = c.loop-line.invariant in
+    kept_then c.args.net.now c.loop-line.net c.lowest.new.net c.args.shells.now.items c.loop-line.shells.items c.lowest.new.shells.items inv.net inv.same c.in-Ok-lowest.ensures.kept
+
+pub loop-line-init : goal.loop-line-init
+loop-line-init g c =
+    let net = c.args.net.now in let next = c.gather.new.net in let ss = c.args.shells.now.items in let after = c.gather.new.shells.items in
+    let kept = kept_gathered net net next ss after c.requires.exchange (stays_self net) c.gather.ensures.net c.gather.ensures.len c.gather.ensures.same c.in-Ok.ensures.gathered c.in-Ok.ensures.rows in record {
+      exchange = kept.exchange;
+      net = kept.stays;
+      same = kept.same;
+      at = λ words births born.
+          drive_begins words births c.args.lines.now next after (record { skipped = 0; unsettled = false; gone = c.new.result })
+          (company_born births net next ss after born c.gather.ensures.net c.gather.ensures.len c.gather.ensures.same c.in-Ok.ensures.gathered c.in-Ok.ensures.rows)
+          (nothing_seen births net next ss after born c.gather.ensures.net c.gather.ensures.len c.gather.ensures.same c.in-Ok.ensures.gathered c.in-Ok.ensures.rows) refl refl c.new.ensures.items;
+    }

@@ -39,3 +39,18 @@ returns-in_default-clause-net g c = stays_self c.args.net.now
 
 pub returns-then-k-eq0-clause-net : goal.returns-then-k-eq0-clause-net
 returns-then-k-eq0-clause-net g c = stays_self c.args.net.now
+
+pub returns-in-Full-clause-kept : goal.returns-in-Full-clause-kept
+returns-in-Full-clause-kept g c = λ _. c.in_ok-serve.ensures.kept
+
+pub returns-in-Did-clause-same : goal.returns-in-Did-clause-same
+returns-in-Did-clause-same g c = c.in_ok-serve.ensures.kept.same
+
+pub returns-in-Full-clause-same : goal.returns-in-Full-clause-same
+returns-in-Full-clause-same g c = c.in_ok-serve.ensures.kept.same
+
+pub returns-in-Empty-clause-same : goal.returns-in-Empty-clause-same
+returns-in-Empty-clause-same g c = c.in_ok-serve.ensures.kept.same
+
+pub returns-in-Spent-clause-same : goal.returns-in-Spent-clause-same
+returns-in-Spent-clause-same g c = c.in_ok-serve.ensures.kept.same

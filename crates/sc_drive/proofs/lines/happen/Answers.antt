@@ -30,3 +30,15 @@ returns-in-Spent-clause-stepped g c = λ words births company.
 
 pub returns-in_default-clause-net : goal.returns-in_default-clause-net
 returns-in_default-clause-net g c = stays_self c.args.net.now
+
+pub returns-in-Full-clause-kept : goal.returns-in-Full-clause-kept
+returns-in-Full-clause-kept g c = λ _. c.in_ok-tell.ensures.kept
+
+pub returns-in-Did-clause-same : goal.returns-in-Did-clause-same
+returns-in-Did-clause-same g c = c.in_ok-tell.ensures.kept.same
+
+pub returns-in-Full-clause-same : goal.returns-in-Full-clause-same
+returns-in-Full-clause-same g c = c.in_ok-tell.ensures.kept.same
+
+pub returns-in-Spent-clause-same : goal.returns-in-Spent-clause-same
+returns-in-Spent-clause-same g c = c.in_ok-tell.ensures.kept.same

@@ -5,6 +5,7 @@ use Rattle.sc_drive.specs.declared.steps.Stop.{Stop}
 use Rattle.sc_drive.specs.declared.steps.Stop.TheVariants.{Full}
 use Rattle.sc_drive.specs.Goings.{Goes}
 use Rattle.sc_drive.proofs.Draining.{goes_then, fills_then}
+use Rattle.sc_drive.proofs.Keeping.{kept_then}
 use Rattle.sc_drive.proofs.Networking.{stays_then}
 use Rattle.sc_drive.proofs.settling.run_settle.Goals as goal
 
@@ -17,6 +18,7 @@ loop-left-preserved g c =
       len = c.in-Ok-true.ensures.len ∙ inv.len;
       exchange = c.in-Ok-true.ensures.exchange;
       net = stays_then c.args.net.now net next inv.net c.in-Ok-true.ensures.net;
+      same = c.in-Ok-true.ensures.same ∙ inv.same;
       goes = goes_then c.args.net.now net next c.args.shells.now.items ss after c.args.score.now c.loop-left.score c.settle_step.new.score (Settles c.args.most ∷ []) (Settles left ∷ []) (Settles (left - 1) ∷ []) inv.goes step.1;
     }
 
@@ -40,5 +42,4 @@ returns-in-Err-clause-kept g c = λ e.
     let inv = c.loop-left.invariant in
     let is : c.in-Err.stop ≡ Full = cc in
     let why : (let r : Result Bool Stop = Err c.in-Err.stop in r) ≡ Err Full = ap (λ s. Err s) is in
-    let kept = c.in-Err.ensures.kept why in
-    (stays_then c.args.net.now c.loop-left.net c.settle_step.new.net inv.net kept.0, kept.1, kept.2 ∙ inv.len)
+    kept_then c.args.net.now c.loop-left.net c.settle_step.new.net c.args.shells.now.items c.loop-left.shells.items c.settle_step.new.shells.items inv.net inv.same (c.in-Err.ensures.kept why)

@@ -1,7 +1,7 @@
 use Rattle.std.proofs.Common.{◌≡◌, [], ◌∷◌, length}
 use Rattle.sc_actor.specs.Walk.{Settles}
 use Rattle.sc_exchange.specs.Ports.{Stays}
-use Rattle.sc_workers.specs.Crews.{AllOf}
+use Rattle.sc_workers.specs.Crews.{AllOf, numbers}
 use Rattle.sc_drive.specs.Goings.{Goes}
 use Rattle.sc_drive.proofs.settling.run_settle.Given as goal
 
@@ -10,6 +10,7 @@ invariant-loop-left g l = record {
   len : length l.shells.items ≡ length l.fn.shells.items;
   exchange : AllOf l.net l.shells.items;
   net : Stays l.fn.net l.net;
+  same : numbers l.shells.items ≡ numbers l.fn.shells.items;
   goes : Goes l.fn.net l.fn.shells.items l.fn.score (Settles l.most ∷ []) l.net l.shells.items l.score (Settles l.left ∷ []);
 }
 

@@ -1,8 +1,9 @@
-use Rattle.std.proofs.Common.{rules, ◌≡◌, ◌<◌, refl, subst, None}
+use Rattle.std.proofs.Common.{rules, ◌≡◌, ◌<◌, ◌∙◌, refl, subst, None}
 use Rattle.sc_actor.specs.System.{system}
 use Rattle.sc_drive.specs.Acts.{Served}
 use Rattle.sc_drive.specs.Lowest.{Lowest}
 use Rattle.sc_drive.proofs.Draining.{settles_quiet, settles_cut, settles_did, settles_full}
+use Rattle.sc_drive.proofs.Keeping.{kept_then}
 use Rattle.sc_drive.proofs.settling.settle_step.Goals as goal
 
 pub returns-in_default-found-clause-goes : goal.returns-in_default-found-clause-goes
@@ -38,3 +39,17 @@ returns-in-Full-clause-fills g c = λ _.
     settles_full net mid ss mids c.args.score.now c.args.score.now c.args.left c.in-Ok.ensures.net.exchange.2 next after c.in-Some.place c.in-Full.bytes
     (λ words births company. subst (Lowest (system g.A.Actor.table g.A.Mail.Parcel.receiver words births) net mid mids) c.in-Some.is (c.in-Ok.ensures.lowest words births company)) more
     (λ births company. subst (Served births c.in-Some.place 1 mid next mids after) c.in-Full.is (c.in-Ok-serve.ensures.served births company))
+
+pub returns-in-Full-clause-kept : goal.returns-in-Full-clause-kept
+returns-in-Full-clause-kept g c = λ _.
+    let first = c.in-Ok.ensures.kept in
+    kept_then c.args.net.now c.lowest.new.net c.serve.new.net c.args.shells.now.items c.lowest.new.shells.items c.serve.new.shells.items first.stays first.same c.in-Ok-serve.ensures.kept
+
+pub returns-in-Did-clause-same : goal.returns-in-Did-clause-same
+returns-in-Did-clause-same g c = c.in-Ok-serve.ensures.kept.same ∙ c.in-Ok.ensures.kept.same
+
+pub returns-in_default-found-clause-same : goal.returns-in_default-found-clause-same
+returns-in_default-found-clause-same g c = c.in-Ok.ensures.kept.same
+
+pub returns-then-left-eq0-clause-same : goal.returns-then-left-eq0-clause-same
+returns-then-left-eq0-clause-same g c = c.in-Ok.ensures.kept.same

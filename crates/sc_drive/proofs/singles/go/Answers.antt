@@ -22,3 +22,12 @@ returns-in-Full-clause-stepped g c = λ words births company.
     let net = c.args.net.now in let ss = c.args.shells.now.items in
     let at : IsPlace ss c.args.who c.in-Some.place = subst (λ l. IsPlace l c.args.who c.in-Some.place) c.as_slice.ensures.value c.in-Some.ensures.some in
     tells_full words births net c.tell.new.net ss c.tell.new.shells.items company c.args.who c.in-Some.place at Go c.in-Full.bytes (subst (Told births c.in-Some.place Go net c.tell.new.net ss c.tell.new.shells.items) c.in-Full.is (c.in_ok-tell.ensures.told births company))
+
+pub returns-in-Full-clause-kept : goal.returns-in-Full-clause-kept
+returns-in-Full-clause-kept g c = λ _. c.in_ok-tell.ensures.kept
+
+pub returns-in-Did-clause-same : goal.returns-in-Did-clause-same
+returns-in-Did-clause-same g c = c.in_ok-tell.ensures.kept.same
+
+pub returns-in-Full-clause-same : goal.returns-in-Full-clause-same
+returns-in-Full-clause-same g c = c.in_ok-tell.ensures.kept.same

@@ -35,3 +35,6 @@ returns-in-Full-clause-fills g c = λ _.
     let not_told : is_in c.args.who score.gone.items ≡ false = ap (is_in c.args.who) (sym c.as_slice.ensures.value) ∙ (sym c.is_listed.ensures ∙ no) in
     fills_full (Go c.args.who) net next ss after score score c.in-Ok.ensures.net.exchange.2
     (go_steps c.args.who net next ss after score Full not_told (λ words births company. let s = system g.A.Actor.table g.A.Mail.Parcel.receiver words births in subst (Stepped s (acts s (seen net) c.args.who GoEvent) net next after) c.in-Full.is (c.in-Ok.ensures.stepped words births company)))
+
+pub returns-in-Full-clause-kept : goal.returns-in-Full-clause-kept
+returns-in-Full-clause-kept g c = λ _. c.in-Ok.ensures.kept c.in-Full.is

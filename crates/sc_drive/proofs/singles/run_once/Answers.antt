@@ -25,3 +25,6 @@ returns-in-Full-clause-fills g c = λ _.
     let net = c.args.net.now in let next = c.step_line.new.net in let ss = c.args.shells.now.items in let after = c.step_line.new.shells.items in let line = c.args.line.now in let score = c.args.score.now in
     subst (λ t. Fills net ss score (t ∷ []) next) (calm_task line c.in-Ok.ensures.calm)
     (fills_full line net next ss after score score c.in-Ok.ensures.net.exchange.2 (λ words births company _. let s = system g.A.Actor.table g.A.Mail.Parcel.receiver words births in subst (Stepped s (line_row s (seen net) line) net next after) c.in-Full.is (c.in-Ok.ensures.stepped words births company)))
+
+pub returns-in-Full-clause-kept : goal.returns-in-Full-clause-kept
+returns-in-Full-clause-kept g c = λ _. c.in-Ok.ensures.kept c.in-Full.is

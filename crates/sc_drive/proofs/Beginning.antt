@@ -1,0 +1,117 @@
+-- Shells at their births, once all have gathered.
+use Rattle.std.proofs.Common.{◌≡◌, ℕ, suc, ◌<◌, ◌≤◌, Bool, true, false, true≢false, eqb, eq-eqb, not, ◌||◌, ◌&&◌, List, [], ◌∷◌, length, get_or, refl, sym, ap, ◌∙◌, subst, arith}
+use Rattle.std.specs.List.{list_any, All}
+use Rattle.std.proofs.lemmas.Bool.{eqb-true, and_parts}
+use Rattle.sc_actor.specs.declared.actors.Actor.{Ghosts}
+use Rattle.sc_actor.specs.declared.actors.Parcel.{Ghosts as MailGhosts}
+use Rattle.sc_actor.specs.declared.actors.Seat.{Seat}
+use Rattle.sc_actor.specs.declared.rows.Row.{Row}
+use Rattle.sc_actor.specs.Replay.{Table, value, values}
+use Rattle.sc_actor.specs.System.{numbers_of}
+use Rattle.sc_play.specs.Stages.{are_apart}
+use Rattle.sc_exchange.specs.declared.ports.Port.{Port}
+use Rattle.sc_exchange.specs.Ports.{seen, made, Looked, IsTrue}
+use Rattle.sc_shell.specs.declared.shells.Shell.{Shell}
+use Rattle.sc_shell.specs.Shells.{Replays}
+use Rattle.sc_shell.proofs.Replaying.{replay_born}
+use Rattle.sc_workers.specs.Crews.{AllStill, AllSound, numbers, rows_made}
+use Rattle.sc_workers.specs.Ends.{IsGathered}
+use Rattle.sc_workers.proofs.Crews.{still_all_go, still_sound, still_rows}
+use Rattle.sc_workers.proofs.Serving.{numbers_go}
+use Rattle.sc_drive.specs.Numbers.{is_in, apart}
+use Rattle.sc_drive.specs.Companies.{Company, AtBirth, seats}
+use Rattle.sc_drive.proofs.Counting.{sum_each, sum_nothing}
+use Rattle.sc_drive.proofs.Gathering.{count_seen, replays_of, at_map, map_length}
+
+none_left : {X : Type 0} (xs : List X) → length xs ≡ 0 → xs ≡ []
+none_left [] e = refl
+none_left (x ∷ xs) e = absurd (omega arith)
+
+flip : (a b : ℕ) → eqb a b ≡ eqb b a
+flip a b = by (eqb a b) (eqb b a) refl refl
+  where
+    by : (p q : Bool) → eqb a b ≡ p → eqb b a ≡ q → p ≡ q
+    by true true e f = refl
+    by false false e f = refl
+    by true false e f = absurd (true≢false (sym (eq-eqb b a (sym (eqb-true a b e))) ∙ f))
+    by false true e f = absurd (true≢false (sym (eq-eqb a b (sym (eqb-true b a f))) ∙ e))
+
+module _ {A : Type 0} where
+  -- different seats have different numbers
+  any_in : (n : ℕ) (births : List (Seat A)) → list_any (λ other. eqb other.who n) births ≡ is_in n (numbers_of births)
+  any_in n [] = refl
+  any_in n (b ∷ births) = λ i. flip b.who n i || any_in n births i
+
+  far_apart : (births : List (Seat A)) → are_apart births ≡ true → apart (numbers_of births) ≡ true
+  far_apart [] far = refl
+  far_apart (b ∷ births) far =
+      let parts = and_parts (not (list_any (λ other. eqb other.who b.who) births)) (are_apart births) far in
+      λ i. (ap not (sym (any_in b.who births)) ∙ parts.0) i && far_apart births parts.1 i
+
+  -- no seat has the network's number
+  zero_out : (births : List (Seat A)) → ((k : ℕ) (e : Seat A) → k < length births → 0 < (get_or births k e).who) → is_in 0 (numbers_of births) ≡ false
+  zero_out [] some = refl
+  zero_out (b ∷ births) some =
+      λ i. by (eqb 0 b.who) refl i || zero_out births (λ k e lt. some (suc k) e (omega (arith, lt))) i
+    where
+      by : (t : Bool) → eqb 0 b.who ≡ t → eqb 0 b.who ≡ false
+      by true is = absurd (let first : 0 < b.who = some 0 b (omega arith) in omega (arith, first, eqb-true 0 b.who is))
+      by false is = is
+
+module _ {A M O : Type 0} {g : Ghosts A M O} {h : MailGhosts M} where
+  numbers_born : (ss : List (Shell A M O g h)) → numbers ss ≡ numbers_of (seats ss)
+  numbers_born [] = refl
+  numbers_born (s ∷ ss) = ap (λ l. s.port.who ∷ l) (numbers_born ss)
+
+  abbrev seat : Shell A M O g h → Seat A
+  seat s = record { who = s.port.who; actor = s.actor }
+
+  module _ (births : List (Seat A)) (net next : Port M O h) (ss after : List (Shell A M O g h)) (b : AtBirth births net ss) (looked : Looked net next) (len : length after ≡ length ss) (still : AllStill ss after) (gathered : IsGathered next after) (rows : IsTrue next) where
+    births_long : length births ≡ length ss
+    births_long = ap length (sym b.born) ∙ map_length seat ss
+
+    seat_is : (k : ℕ) (d : Shell A M O g h) (e : Seat A) → k < length ss → seat (get_or ss k d) ≡ get_or births k e
+    seat_is k d e lt = sym (at_map seat ss k d e lt) ∙ ap (λ l. get_or l k e) b.born
+
+    numbers_are : numbers after ≡ numbers ss
+    numbers_are = numbers_go ss after len (still_all_go ss after still)
+
+    born_is : numbers after ≡ numbers_of births
+    born_is = numbers_are ∙ (numbers_born ss ∙ ap numbers_of b.born)
+
+    far_is : apart (0 ∷ numbers_of births) ≡ true
+    far_is = λ i. ap not (zero_out births (λ k e lt. (b.numbered k e lt).0)) i && far_apart births b.far i
+
+    sound_before : AllSound ss
+    sound_before k d lt spent = absurd (true≢false (sym spent ∙ (b.fresh k d lt).1))
+
+    replays_before : (k : ℕ) (d : Shell A M O g h) (e : Seat A) → k < length ss → Replays (get_or ss k d) (get_or births k e).actor
+    replays_before k d e lt =
+        let s = get_or ss k d in
+        subst (λ (birth : A). s.actor ≡ value g.table (record { who = s.port.who; actor = birth }) (seen s.port)) (ap (λ (x : Seat A). x.actor) (seat_is k d e lt)) (replay_born g.table s.port s.actor (b.fresh k d lt).0)
+
+    pub company_born : Company births next after
+    company_born = record {
+      first = looked.stays.who ∙ b.first;
+      all = looked.stays.given ∙ (b.all ∙ sym numbers_are);
+      born = born_is;
+      far = ap (λ ws. apart (0 ∷ ws)) born_is ∙ far_is;
+      within = λ k d lt.
+          let le : k < length ss = omega (arith, lt, len) in
+          let e = seat d in
+          let most = (b.numbered k e (omega (arith, le, births_long))).1 in
+          let number : (get_or ss k d).port.who ≡ (get_or births k e).who = ap (λ (x : Seat A). x.who) (seat_is k d e le) in
+          omega (arith, (still k d le).goes.stays.who, looked.stays.exchange.1, most, number);
+      over = gathered.over;
+      rows = rows;
+      sound = still_sound ss after len still sound_before;
+      replay = λ k d e lt. let le : k < length ss = omega (arith, lt, len) in replays_of (get_or after k d) (get_or births k e).actor (still_sound ss after len still sound_before k d lt) ((still k d le).goes.replay (get_or births k e).actor (λ _. replays_before k d e le));
+    }
+
+    none_made : rows_made ss ≡ 0
+    none_made = sum_each (λ (s : Shell A M O g h). length (made s.port)) (λ (s : Shell A M O g h). 0) ss (λ k d lt. ap length (b.fresh k d lt).0) ∙ sum_nothing ss
+
+    pub nothing_seen : seen next ≡ []
+    nothing_seen =
+        let c = company_born in
+        none_left (seen next) (omega (arith, count_seen next after c.first c.all c.far c.over c.rows, still_rows ss after len still, none_made, ap length (looked.made ∙ b.unmade)))
