@@ -1,20 +1,25 @@
-//! Exchanges that are opened and closed.
-ghost use Rattle.std.specs.Prelude.{◌≡◌, ◌<◌, ◌≤◌, [], true, All, IfOk};
+//! Exchanges that are opened, driven and closed.
+ghost use Rattle.std.specs.Prelude.{◌≡◌, ◌<◌, ◌≤◌, [], true, All, IfOk, OnOk};
 ghost use Rattle.sc_play.specs.Stages.{are_apart};
 ghost use Rattle.sc_exchange.specs.Ports.{given, joined};
 ghost use Rattle.sc_workers.specs.Crews.{AllOf, numbers};
+ghost use Rattle.sc_drive.specs.Goings.{IsKept};
 
 use crate::closing::close;
+use crate::driving::drive;
 use crate::opening::open;
-use crate::tests::{Note, Player};
-use sc_actor::{Event, Row, Seat};
+use crate::steps::Driven;
+use crate::tests::{Note, Open, Player};
+use sc_actor::{Event, Line, Row, Seat};
 use sc_base::OutOfMemory;
 use sc_exchange::Port;
+use sc_play::are_built;
 use sc_shell::Shell;
 use sc_workers::gather;
 use std::alloc::Global;
 use std::sync::Wait;
 use std::test::Fail;
+use std::thread::Threads;
 
 fn player(other: u32, left: u32) -> Player {
     Player {
@@ -103,6 +108,53 @@ fn left_after<R: Wait>(rt: &R, alloc: Global, places: &[usize]) -> Result<(u32, 
         go(rt, alloc, &net, &mut shells, *place);
     }
     ended(rt, alloc, net, shells)
+}
+
+fn drive_all<R: Threads + Wait + Sync>(
+    rt: &R,
+    alloc: Global,
+    net: &mut Port<Note, u32>,
+    shells: &mut Vec<Shell<Player>>,
+    lines: &[Line<u32>],
+) -> Result<(), OutOfMemory>
+    requires net { net.old.who ≡ 0 }
+    requires exchange { AllOf net.old shells.old.items }
+    ensures kept { OnOk result (IsKept net.old shells.old.items net.new shells.new.items) }
+{
+    if !are_built(lines) {
+        return Err(OutOfMemory);
+    }
+    match drive(rt, alloc, net, shells, lines, &Open) {
+        Driven::OutOfMemory => Err(OutOfMemory),
+        Driven::Full => Ok(()),
+        Driven::Ended { .. } => Ok(()),
+    }
+}
+
+// What is left where a schedule was driven. Nobody gathers before the end but the driver.
+fn left_by<R: Threads + Wait + Sync>(
+    rt: &R,
+    alloc: Global,
+    lines: &[Line<u32>],
+) -> Result<(u32, u32), OutOfMemory> {
+    let (net, shells) = open(alloc, seats(alloc)?, 2, 1 << 19)?;
+    let mut net = net;
+    let mut shells = shells;
+    drive_all(rt, alloc, &mut net, &mut shells, lines)?;
+    let (journal, actors) = close(rt, alloc, net, shells)?;
+    Ok((makers(journal.as_slice()), players(actors.as_slice())))
+}
+
+#[test]
+fn what_was_driven_is_given_back(rt: HostRuntime) -> Result<(), Fail> {
+    let lines: [Line<u32>; 3] = [
+        Line::Go { who: 2 },
+        Line::Settle { most: 2 },
+        Line::Tick { who: 2 },
+    ];
+    let left = left_by(&rt, rt.alloc(), &lines)?;
+    assert_eq!(rt; left, (2122, 1126));
+    Ok(())
 }
 
 #[test]

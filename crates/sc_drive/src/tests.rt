@@ -75,7 +75,7 @@ impl Actor for Player {
     }
 }
 
-struct Open;
+pub(crate) struct Open;
 
 impl Gate for Open {
     fn pass(&self, _who: u32) {}
