@@ -1,17 +1,18 @@
--- The actors of a scenario have different numbers: nodes up to 32, and then clients, ascending.
+-- The actors of a scenario have different numbers: nodes up to 32, and then clients up to 96, ascending.
 use Rattle.std.proofs.Common.{◌≡◌, ℕ, zero, suc, ◌+◌, ◌<◌, ◌≤◌, true, false, not, eqb, List, [], ◌∷◌, ◌++◌, length, map, refl, sym, ap, subst, arith, slice_index_or}
 use Rattle.std.specs.List.{All, AllPairs, list_any}
 use Rattle.std.proofs.lemmas.Bool.{ne_eqb, and_from}
+use Rattle.std.proofs.lemmas.List.Elements.{All-nil, All-cons}
 use Rattle.sc_cmd.specs.declared.cores.Base.{Base}
 use Rattle.sc_cmd.specs.declared.links.Route.{Route}
 use Rattle.sc_actor.specs.declared.actors.Seat.{Seat}
 use Rattle.sc_play.specs.Stages.{are_apart}
 use Rattle.sc_node_table.specs.Slots.{slots_ahead, numbers}
 use Rattle.sc_scenario.specs.Groups.{lone_group}
-use Rattle.sc_scenario.specs.Valid.{IsEarly}
+use Rattle.sc_scenario.specs.Valid.{IsEarly, IsEarlyClient}
 use Rattle.sc_scenario.specs.declared.scenarios.Asks.{Asks}
 use Rattle.sc_scenario.specs.declared.scenarios.Scenario.{Scenario}
-use Rattle.sc_world.specs.World.{node_seat, client_seat, client_seats, route_of, births}
+use Rattle.sc_world.specs.World.{node_seat, client_seat, client_seats, route_of, births, most_actor}
 use Rattle.sc_world.specs.declared.party.Party.{Party}
 
 -- the numbers rise, from above a number on
@@ -61,12 +62,42 @@ clients_rise first low (asks ∷ clients) above rising = (
     later : (k : ℕ) (d : Asks) → k < length clients → asks.client < (slice_index_or clients k d).client
     later k d lt = rising 0 (suc k) d (omega arith) (omega (arith, lt))
 
--- the births of an early scenario have different numbers
-pub all_apart : (scenario : Scenario) → IsEarly scenario → are_apart (births scenario) ≡ true
-all_apart scenario early =
+within_on : (top : ℕ) (xs ys : List (Seat Party)) → Within top xs → Within top ys → Within top (xs ++ ys)
+within_on top [] ys w v = v
+within_on top (x ∷ xs) ys w v = (w.0, within_on top xs ys w.1 v)
+
+clients_within : (first : Route) (clients : List Asks) → All IsEarlyClient clients → Within most_actor (map (client_seat first) clients)
+clients_within first [] all = tt
+clients_within first (asks ∷ clients) all = (
+  omega (arith, (all 0 asks (omega arith)).0.1),
+  clients_within first clients (λ k d lt. all (suc k) d (omega (arith, lt))),
+)
+
+-- those that rise from above a number and are not above another lie between
+between : (low top : ℕ) (seats : List (Seat Party)) → Rises low seats → Within top seats → All (λ (seat : Seat Party). (low < seat.who) × (seat.who ≤ top)) seats
+between low top [] r w = All-nil (λ (seat : Seat Party). (low < seat.who) × (seat.who ≤ top))
+between low top (seat ∷ seats) r w =
+    All-cons (λ (seat : Seat Party). (low < seat.who) × (seat.who ≤ top)) seat seats (r.0, w.0)
+    (between low top seats (lower low seat.who seats (omega (arith, r.0)) r.1) w.1)
+
+-- the births of an early scenario rise
+births_rise : (scenario : Scenario) → IsEarly scenario → Rises 0 (births scenario)
+births_rise scenario early =
     let clients : Rises 32 (client_seats scenario.groups scenario.clients) =
     subst (λ (groups : List Base). Rises 32 (client_seats groups scenario.clients)) (sym early.group)
     (clients_rise (route_of (lone_group early.lo early.members)) 0 scenario.clients (λ k d lt. omega (arith, (early.clients k d lt).0.0)) early.ascending) in
-    apart_rising 0 (births scenario)
-    (rise_on 0 32 _ (client_seats scenario.groups scenario.clients) (omega arith) (nodes_rise scenario.groups 0 1 scenario.nodes (omega arith))
-    (nodes_within scenario.groups 32 1 scenario.nodes (omega (arith, early.nodes.1))) clients)
+    rise_on 0 32 _ (client_seats scenario.groups scenario.clients) (omega arith) (nodes_rise scenario.groups 0 1 scenario.nodes (omega arith))
+    (nodes_within scenario.groups 32 1 scenario.nodes (omega (arith, early.nodes.1))) clients
+
+-- so they have different numbers
+pub all_apart : (scenario : Scenario) → IsEarly scenario → are_apart (births scenario) ≡ true
+all_apart scenario early = apart_rising 0 (births scenario) (births_rise scenario early)
+
+-- and numbers from 1 to 96
+pub all_numbered : (scenario : Scenario) → IsEarly scenario → All (λ (seat : Seat Party). (0 < seat.who) × (seat.who ≤ most_actor)) (births scenario)
+all_numbered scenario early =
+    let clients : Within most_actor (client_seats scenario.groups scenario.clients) =
+    subst (λ (groups : List Base). Within most_actor (client_seats groups scenario.clients)) (sym early.group)
+    (clients_within (route_of (lone_group early.lo early.members)) scenario.clients early.clients) in
+    between 0 most_actor (births scenario) (births_rise scenario early)
+    (within_on most_actor _ (client_seats scenario.groups scenario.clients) (nodes_within scenario.groups most_actor 1 scenario.nodes (omega (arith, early.nodes.1))) clients)

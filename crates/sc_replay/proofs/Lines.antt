@@ -21,7 +21,7 @@ built_one nodes clients (Tick who) h = refl
 built_one nodes clients (Crash node) h = refl
 built_one nodes clients (Told node line) h = refl
 built_one nodes clients (Settle most) h = refl
-built_one nodes clients (Free most workers) h = absurd h
+built_one nodes clients (Free most workers) h = refl
 built_one nodes clients (Storm number most) h = absurd h
 
 built_all : (nodes : ℕ) (clients : List Asks) (xs : List SchedLine) → All (IsEarlyLine nodes clients) xs → (k : ℕ) (d : Line OrderLine) → k < length (map line_of xs) → is_built (slice_index_or (map line_of xs) k d) ≡ true

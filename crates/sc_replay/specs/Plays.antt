@@ -1,14 +1,15 @@
 -- Scenarios that can be played.
-use Rattle.std.specs.Prelude.{◌≡◌, true, All}
+use Rattle.std.specs.Prelude.{◌≡◌, ◌<◌, ◌≤◌, true, All}
 use Rattle.sc_play.specs.Deeds.{is_built}
 use Rattle.sc_play.specs.Stages.{are_apart}
 use Rattle.sc_scenario.specs.Valid.{IsValid}
 use Rattle.sc_scenario.specs.declared.scenarios.Scenario.{Scenario}
-use Rattle.sc_world.specs.World.{births, schedule, AreFew}
+use Rattle.sc_world.specs.World.{most_actor, births, schedule, AreFew}
 
--- a player's conditions: actors with different numbers, no storm, and no client with more requests than it may have
+-- a player's conditions: actors with different numbers from 1 to 96, no storm, and no client with more requests than it may have
 pub record CanPlay (scenario : Scenario) : Type 0 where
   pub apart : are_apart (births scenario) ≡ true
+  pub numbered : All (λ seat. (0 < seat.who) × (seat.who ≤ most_actor)) (births scenario)
   pub built : All (λ line. is_built line ≡ true) (schedule scenario)
   pub few : AreFew scenario
 

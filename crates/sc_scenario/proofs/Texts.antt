@@ -17,7 +17,7 @@ use Rattle.sc_member.specs.Faults.{add_fault}
 use Rattle.sc_scenario.specs.Words.{nth, is_line, same, words_of, count_in}
 use Rattle.sc_scenario.specs.Requests.{request_in}
 use Rattle.sc_scenario.specs.Groups.{last_position, with_word, with_words, members_in, lone_group, group_in}
-use Rattle.sc_scenario.specs.Schedules.{most_clients, most_mails, most_deliveries, is_client, client_in, actor_in, place_in, go_in, deliver_in, drop_in, again_in, tick_in, crash_in, settle_in, schedule_in}
+use Rattle.sc_scenario.specs.Schedules.{most_clients, most_mails, most_deliveries, most_workers, is_client, client_in, actor_in, place_in, go_in, deliver_in, drop_in, again_in, tick_in, crash_in, settle_in, free_in, schedule_in}
 use Rattle.sc_scenario.specs.Orders.{name_in, node_and_group, order_in, told_in}
 use Rattle.sc_scenario.specs.Early.{scenario_in, rest_in, finished, begun, nodes_in, read_lines, read_line, within, outside, opened, with_client, with_request, with_line, with_order, place_of, lines_of, is_ended, most_bytes, most_lines, most_nodes, most_requests}
 use Rattle.sc_scenario.specs.Valid.{IsEarly, IsEarlyClient, IsEarlyLine, IsEarlyOrder, IsActor, IsUpTo, TextsAreEarly}
@@ -27,7 +27,7 @@ use Rattle.sc_scenario.specs.declared.drafts.Reading.TheVariants.{Outside, Withi
 use Rattle.sc_scenario.specs.declared.scenarios.Asks.{Asks}
 use Rattle.sc_scenario.specs.declared.scenarios.Scenario.{Scenario}
 use Rattle.sc_scenario.specs.declared.scenarios.SchedLine.{SchedLine}
-use Rattle.sc_scenario.specs.declared.scenarios.SchedLine.TheVariants.{Go, Deliver, Drop, Again, Tick, Crash, Told, Settle}
+use Rattle.sc_scenario.specs.declared.scenarios.SchedLine.TheVariants.{Go, Deliver, Drop, Again, Tick, Crash, Told, Settle, Free}
 use Rattle.sc_scenario.proofs.Choices.{mapped, bound, chosen, some_is, is_up_to, counted}
 use Rattle.sc_scenario.proofs.Rosters.{roster_one, roster_with, all_with}
 use Rattle.sc_scenario.proofs.Clients.{Below, all_inserted, rising_with}
@@ -105,6 +105,13 @@ made : {X : Type 0} (nodes : ℕ) (clients : List Asks) (make : X → SchedLine)
     → ((x : X) → o ≡ Some x → IsEarlyLine nodes clients (make x)) → option_map make o ≡ Some line → IsEarlyLine nodes clients line
 made nodes clients make o line good e = let m = mapped make o line e in subst (IsEarlyLine nodes clients) (sym m.2) (good m.0 m.1)
 
+-- `free`, whose deliveries and workers are counted
+freed : (nodes : ℕ) (clients : List Asks) (words : List (List ℕ)) (line : SchedLine) → free_in words ≡ Some line → IsEarlyLine nodes clients line
+freed nodes clients words line e =
+    let b = bound (λ most. option_map (Free most) (count_in most_workers (nth words 2))) (count_in most_deliveries (nth words 1)) line e in
+    let m = mapped (Free b.0) (count_in most_workers (nth words 2)) line b.2 in
+    subst (IsEarlyLine nodes clients) (sym m.2) (counted most_deliveries (nth words 1) b.0 b.1, counted most_workers (nth words 2) m.0 m.1)
+
 -- of a choice between two what holds of both
 either : {X : Type 0} (P : X → Type 0) (b : Bool) (o p : Option X) (x : X) → ((x : X) → o ≡ Some x → P x) → ((x : X) → p ≡ Some x → P x) → (if b then o else p) ≡ Some x → P x
 either P true o p x f g e = f x e
@@ -145,7 +152,8 @@ line_is nodes clients words line e =
     either P (is_line words (codes "again") 2) (again_in words) _ l (λ l. made nodes clients Again (count_in most_mails (nth words 1)) l (λ k. counted most_mails (nth words 1) k)) (λ l.
     either P (is_line words (codes "tick") 2) (tick_in nodes clients words) _ l (λ l. made nodes clients Tick (actor_in nodes clients (nth words 1)) l (λ who. actor nodes clients (nth words 1) who)) (λ l.
     either P (is_line words (codes "crash") 2) (crash_in nodes words) _ l (λ l. made nodes clients Crash (count_in nodes (nth words 1)) l (λ node. counted nodes (nth words 1) node)) (λ l.
-    either P (is_line words (codes "settle") 2) (settle_in words) _ l (λ l. made nodes clients Settle (count_in most_deliveries (nth words 1)) l (λ most. counted most_deliveries (nth words 1) most)) (λ l. nothing P l))))))) e
+    either P (is_line words (codes "settle") 2) (settle_in words) _ l (λ l. made nodes clients Settle (count_in most_deliveries (nth words 1)) l (λ most. counted most_deliveries (nth words 1) most)) (λ l.
+    either P (is_line words (codes "free") 3) (free_in words) _ l (λ l. freed nodes clients words l) (λ l. nothing P l)))))))) e
 
 -- ---- line by line
 

@@ -1,5 +1,5 @@
 -- The lines that tell a node an order.
-use Rattle.std.specs.Prelude.{ℕ, ◌==◌, List, length, codes, Option, Some, None, if◌then◌else◌, option_and_then}
+use Rattle.std.specs.Prelude.{ℕ, ◌==◌, List, length, codes, Option, None, if◌then◌else◌, option_and_then}
 use Rattle.std.specs.Option.{option_map}
 use Rattle.sc_base.specs.Number.{number_of}
 use Rattle.sc_base.specs.declared.names.Draw.{Draw}

@@ -5,9 +5,9 @@ use Rattle.std.specs.Option.{option_map}
 use Rattle.sc_scenario.specs.Words.{nth, is_line, count_in}
 use Rattle.sc_scenario.specs.declared.scenarios.Asks.{Asks}
 use Rattle.sc_scenario.specs.declared.scenarios.SchedLine.{SchedLine}
-use Rattle.sc_scenario.specs.declared.scenarios.SchedLine.TheVariants.{Go, Deliver, Drop, Again, Tick, Crash, Settle}
+use Rattle.sc_scenario.specs.declared.scenarios.SchedLine.TheVariants.{Go, Deliver, Drop, Again, Tick, Crash, Settle, Free}
 
--- the greatest number of a client, the greatest number of a mail and of a place among pending mail, and the most deliveries of a line
+-- the greatest number of a client, the greatest number of a mail and of a place among pending mail, and the most deliveries and workers of a line
 abbrev pub most_clients : ℕ
 most_clients = 64
 
@@ -16,6 +16,9 @@ most_mails = 4294967295
 
 abbrev pub most_deliveries : ℕ
 most_deliveries = 1000000
+
+abbrev pub most_workers : ℕ
+most_workers = 16
 
 -- whether a client has a section
 abbrev pub is_client : List Asks → ℕ → Bool
@@ -67,6 +70,10 @@ crash_in nodes words = option_map Crash (count_in nodes (nth words 1))
 abbrev pub settle_in : List (List ℕ) → Option SchedLine
 settle_in words = option_map Settle (count_in most_deliveries (nth words 1))
 
+-- `free L W`
+abbrev pub free_in : List (List ℕ) → Option SchedLine
+free_in words = option_and_then (λ most. option_map (Free most) (count_in most_workers (nth words 2))) (count_in most_deliveries (nth words 1))
+
 -- the line of the schedule that the words spell
 abbrev pub schedule_in : ℕ → List Asks → List (List ℕ) → Option SchedLine
 schedule_in nodes clients words =
@@ -77,4 +84,5 @@ schedule_in nodes clients words =
     else if is_line words (codes "tick") 2 then tick_in nodes clients words
     else if is_line words (codes "crash") 2 then crash_in nodes words
     else if is_line words (codes "settle") 2 then settle_in words
+    else if is_line words (codes "free") 3 then free_in words
     else None

@@ -5,7 +5,7 @@ use Rattle.sc_member.specs.Roster.{IsRoster}
 use Rattle.sc_cmd.specs.declared.orders.Order.{Order}
 use Rattle.sc_cmd.specs.declared.orders.Order.TheVariants.{Join, Leave}
 use Rattle.sc_scenario.specs.Groups.{lone_group}
-use Rattle.sc_scenario.specs.Schedules.{is_client, most_clients, most_mails, most_deliveries}
+use Rattle.sc_scenario.specs.Schedules.{is_client, most_clients, most_mails, most_deliveries, most_workers}
 use Rattle.sc_scenario.specs.Early.{scenario_of, most_nodes, most_requests}
 use Rattle.sc_scenario.specs.declared.scenarios.Asks.{Asks}
 use Rattle.sc_scenario.specs.declared.scenarios.Scenario.{Scenario}
@@ -41,7 +41,7 @@ IsEarlyLine nodes clients (Tick who) = IsActor nodes clients who
 IsEarlyLine nodes clients (Crash node) = IsUpTo nodes node
 IsEarlyLine nodes clients (Told node line) = IsUpTo nodes node × IsEarlyOrder nodes line.order × (1 ≤ line.number)
 IsEarlyLine nodes clients (Settle most) = IsUpTo most_deliveries most
-IsEarlyLine nodes clients (Free most workers) = ⊥
+IsEarlyLine nodes clients (Free most workers) = IsUpTo most_deliveries most × IsUpTo most_workers workers
 IsEarlyLine nodes clients (Storm number most) = ⊥
 
 -- a client's number and how many requests it has

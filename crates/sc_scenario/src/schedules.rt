@@ -1,6 +1,6 @@
 //! The lines of the schedule.
 ghost use Rattle.std.specs.Prelude.{◌≡◌, map};
-ghost use Rattle.sc_scenario.specs.Schedules.{is_client, client_in, actor_in, go_in, deliver_in, drop_in, again_in, tick_in, crash_in, settle_in, schedule_in};
+ghost use Rattle.sc_scenario.specs.Schedules.{is_client, client_in, actor_in, go_in, deliver_in, drop_in, again_in, tick_in, crash_in, settle_in, free_in, schedule_in};
 
 use crate::scenarios::{Asks, SchedLine};
 use crate::words::{count_in, is_line, nth};
@@ -8,6 +8,8 @@ use crate::words::{count_in, is_line, nth};
 const MOST_MAILS: u32 = 4_294_967_295;
 
 const MOST_DELIVERIES: u32 = 1_000_000;
+
+const MOST_WORKERS: u32 = 16;
 
 /// Whether a client has a section.
 pub fn is_client(clients: &[Asks], client: u16) -> bool
@@ -90,6 +92,14 @@ fn settle_in(words: &[&[u8]]) -> Option<SchedLine>
     Some(SchedLine::Settle { most })
 }
 
+fn free_in(words: &[&[u8]]) -> Option<SchedLine>
+    ensures { result ≡ free_in (map (λ word. word.now) words.now) }
+{
+    let most = count_in(nth(words, 1), MOST_DELIVERIES)?;
+    let workers = count_in(nth(words, 2), MOST_WORKERS)?;
+    Some(SchedLine::Free { most, workers })
+}
+
 /// The line of the schedule that the words spell, in a system of so many nodes and these clients.
 pub fn schedule_in(nodes: u16, clients: &[Asks], words: &[&[u8]]) -> Option<SchedLine>
     ensures { result ≡ schedule_in nodes clients.now (map (λ word. word.now) words.now) }
@@ -108,6 +118,8 @@ pub fn schedule_in(nodes: u16, clients: &[Asks], words: &[&[u8]]) -> Option<Sche
         crash_in(nodes, words)
     } else if is_line(words, b"settle", 2) {
         settle_in(words)
+    } else if is_line(words, b"free", 3) {
+        free_in(words)
     } else {
         None
     }

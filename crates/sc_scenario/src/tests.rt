@@ -114,3 +114,51 @@ fn other_texts_are_refused(rt: HostRuntime) -> Result<(), Fail> {
     }
     Ok(())
 }
+
+// The deliveries and the workers of a scenario's only line.
+fn read_free(alloc: Global, text: &[u8]) -> (u32, u32) {
+    match read_scenario(alloc, text) {
+        Ok(scenario) => match scenario.lines.as_slice() {
+            [SchedLine::Free { most, workers }] => (*most, *workers),
+            _ => (0, 0),
+        },
+        Err(_) => (0, 0),
+    }
+}
+
+#[test]
+fn free_lines_are_read(rt: HostRuntime) -> Result<(), Fail> {
+    let texts: [&[u8]; 3] = [
+        b"scatter 1\nnodes 1\ngroup 0 1\nfree 100 4\n",
+        b"scatter 1\nnodes 1\ngroup 0 1\nfree 1 1\n",
+        b"scatter 1\nnodes 1\ngroup 0 1\nfree 1000000 16\n",
+    ];
+    let counts: [(u32, u32); 3] = [(100, 4), (1, 1), (1_000_000, 16)];
+    for k in 0..3 {
+        let (most, workers) = read_free(rt.alloc(), texts[k]);
+        assert_eq!(rt; most, counts[k].0);
+        assert_eq!(rt; workers, counts[k].1);
+    }
+    Ok(())
+}
+
+#[test]
+fn other_free_lines_are_refused(rt: HostRuntime) -> Result<(), Fail> {
+    let texts: [&[u8]; 11] = [
+        b"scatter 1\nnodes 1\ngroup 0 1\nfree 0 4\n",
+        b"scatter 1\nnodes 1\ngroup 0 1\nfree 100 0\n",
+        b"scatter 1\nnodes 1\ngroup 0 1\nfree 100 17\n",
+        b"scatter 1\nnodes 1\ngroup 0 1\nfree 1000001 4\n",
+        b"scatter 1\nnodes 1\ngroup 0 1\nfree 100\n",
+        b"scatter 1\nnodes 1\ngroup 0 1\nfree 100 4 4\n",
+        b"scatter 1\nnodes 1\ngroup 0 1\nfree  100 4\n",
+        b"scatter 1\nnodes 1\ngroup 0 1\nfree 0100 4\n",
+        b"scatter 1\nnodes 1\ngroup 0 1\nfree 100 04\n",
+        b"scatter 1\nnodes 1\ngroup 0 1\nfree 100 +4\n",
+        b"scatter 1\nnodes 1\ngroup 0 1\nFree 100 4\n",
+    ];
+    for text in texts {
+        assert!(rt; is_refused(rt.alloc(), text));
+    }
+    Ok(())
+}

@@ -32,6 +32,10 @@ party_table (Client client) input = (Client (table client input).0, (table clien
 abbrev pub client_actor : ℕ → ℕ
 client_actor client = 32 + client
 
+-- the greatest number of an actor: nodes are 1 to 32, and client C, up to 64, is 32 + C
+abbrev pub most_actor : ℕ
+most_actor = 96
+
 -- a node at the birth of the groups, so many slots of which are open at a time: it has a replica of each of which it is a member
 abbrev pub node_seat : ℕ → List Base → ℕ → Seat Party
 node_seat ahead groups me = record { who = me; actor = Node (born_node ahead me groups) }

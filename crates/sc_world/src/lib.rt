@@ -6,5 +6,5 @@ mod seating;
 mod summing;
 
 pub use party::Party;
-pub use seating::{are_few, births, schedule};
+pub use seating::{MOST_ACTOR, are_few, births, schedule};
 pub use summing::{all_asked, deliveries, mail_count, parties_of, small};

@@ -13,6 +13,9 @@ use sc_node::NodeCore;
 use sc_scenario::{Asks, Scenario, SchedLine};
 use std::alloc::Global;
 
+/// The greatest number of an actor: nodes are 1 to 32, and client C, up to 64, is 32 + C.
+pub const MOST_ACTOR: u32 = 96;
+
 fn node_seat(alloc: Global, groups: &Sequence<Base>, me: u16) -> Result<Seat<Party>, OutOfMemory>
     ensures { IfOk result (λ seat. seat ≡ node_seat slots_ahead groups.now me) }
 {

@@ -1,10 +1,15 @@
 use Rattle.std.proofs.Common.{refl}
 use Rattle.sc_world.specs.World.{schedule}
-use Rattle.sc_replay.proofs.Births.{all_apart}
+use Rattle.sc_replay.proofs.Births.{all_apart, all_numbered}
 use Rattle.sc_replay.proofs.Lines.{built, few}
 use Rattle.sc_replay.proofs.laws.valid_scenarios_can_play.Goals as goal
 
 pub returns : goal.returns
 returns c = λ scenario valid.
     let early = c.texts_are_early.ensures scenario valid in
-    record { apart = all_apart scenario early; built = built scenario early (schedule scenario) refl; few = few scenario early }
+    record {
+      apart = all_apart scenario early;
+      numbered = all_numbered scenario early;
+      built = built scenario early (schedule scenario) refl;
+      few = few scenario early;
+    }
