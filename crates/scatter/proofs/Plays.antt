@@ -1,17 +1,24 @@
--- What a player's answer says of a scenario.
-use Rattle.std.proofs.Common.{◌≡◌, ℕ, List, map, Bool, true, false, Some, sym, ◌∙◌, ap, subst}
+-- What a driver's answer says of a scenario.
+use Rattle.std.proofs.Common.{◌≡◌, ◌≢◌, ◌≤◌, ℕ, List, [], ◌∷◌, map, Bool, true, false, Some, refl, sym, ◌∙◌, ap, subst}
+use Rattle.std.specs.Prelude.{⊤}
 use Rattle.sc_cmd.specs.declared.orders.OrderLine.{OrderLine}
 use Rattle.sc_mail.specs.declared.bodies.Mail.{Mail}
 use Rattle.sc_actor.specs.declared.rows.Row.{Row}
-use Rattle.sc_actor.specs.declared.actors.Seat.{Seat}
+use Rattle.sc_actor.specs.declared.actors.Actor.{Ghosts}
+use Rattle.sc_actor.specs.declared.actors.Parcel.{Ghosts as MailGhosts}
 use Rattle.sc_actor.specs.declared.schedules.Line.{Line}
-use Rattle.sc_actor.specs.System.{system, no_words}
+use Rattle.sc_actor.specs.Counted.{journal_bytes}
+use Rattle.sc_actor.specs.System.{no_words}
+use Rattle.sc_actor.specs.Walk.{IsLawful, IsWhole, skipped, unsettled, is_quiet}
 use Rattle.sc_play.specs.Moves.{IsFull}
-use Rattle.sc_play.specs.Outcome.{HasEnded}
+use Rattle.sc_shell.specs.declared.shells.Shell.{Shell}
+use Rattle.sc_drive.specs.Companies.{seats}
+use Rattle.sc_drive.specs.declared.steps.Driven.{Driven}
+use Rattle.sc_drive.specs.declared.steps.Driven.TheVariants as driven
 use Rattle.sc_scenario.specs.Valid.{IsValid}
 use Rattle.sc_scenario.specs.declared.scenarios.Scenario.{Scenario}
 use Rattle.sc_report.specs.Report.{report_lines}
-use Rattle.sc_world.specs.World.{party_table, receiver_of, births, schedule, system_of, Lawful}
+use Rattle.sc_world.specs.World.{schedule, system_of, Lawful, parties}
 use Rattle.sc_sound.specs.Summary.{summary_of}
 use Rattle.sc_world.specs.declared.party.Party.{Party}
 use Rattle.sc_group_law.specs.Laws.{ValidHaveOneGroup, GroupJournalsAreSound}
@@ -20,6 +27,15 @@ use Rattle.scatter.specs.Sound.{IsSoundThroughout}
 use Rattle.scatter.specs.declared.done.Text.{Text}
 use Rattle.scatter.specs.Played.{mail_weight, HasEnded as Ends, HasFilled}
 use Rattle.scatter.specs.Run.{journal_limit, Plays, ReportsAs, said_of}
+
+-- an answer other than a want of memory
+abbrev Drove : Driven → Type 0
+Drove (driven.Ended cut quiet skips) = ⊤
+Drove driven.Full = ⊤
+Drove driven.OutOfMemory = ⊥
+
+pub drove_on : (cut quiet : Bool) (skips : ℕ) → driven.Ended cut quiet skips ≢ driven.OutOfMemory
+drove_on cut quiet skips e = subst Drove e tt
 
 -- each first part of a lawful journal is sound
 sound_throughout : ValidHaveOneGroup → GroupJournalsAreSound → (scenario : Scenario) → IsValid scenario → (journal : List (Row Mail OrderLine)) → Lawful scenario journal → IsSoundThroughout scenario journal
@@ -31,20 +47,32 @@ sound_throughout one law scenario valid journal lawful =
       sound = λ rows more is. law as_nodes no_words scenario group.0 group.1 rows more (subst (Lawful scenario) is lawful);
     }
 
-module _ (scenario : Scenario) (limit : ℕ) (seats : List (Seat Party)) (lines : List (Line OrderLine)) (seats_are : seats ≡ births scenario) (lines_are : lines ≡ schedule scenario) where
-  pub ends : ValidHaveOneGroup → GroupJournalsAreSound → IsValid scenario → (cut quiet : Bool) (skips : ℕ) (journal : List (Row Mail OrderLine)) (left : List (Seat Party)) (parties : List Party) →
-      parties ≡ map (λ seat. seat.actor) left → HasEnded (system party_table receiver_of no_words seats) mail_weight lines limit cut quiet skips journal left → Ends scenario limit cut quiet skips journal parties
-  ends one law valid cut quiet skips journal left parties are h =
-      let P : List (Seat Party) → Type 0 = λ s. HasEnded (system party_table receiver_of no_words s) mail_weight lines limit cut quiet skips journal left in
-      let Q : List (Line OrderLine) → Type 0 = λ l. HasEnded (system_of scenario) mail_weight l limit cut quiet skips journal left in
-      let e : HasEnded (system_of scenario) mail_weight (schedule scenario) limit cut quiet skips journal left = subst Q lines_are (subst P seats_are h) in
-      record { lawful = e.lawful; whole = e.whole; sound = sound_throughout one law scenario valid journal e.lawful; within = e.within; cut_is = e.cut_is; quiet_is = e.quiet_now; skips_are = e.skips_are; parties_are = are ∙ ap (map (λ seat. seat.actor)) e.actors }
+-- the actors of shells are those of their seats
+pub actors_of : {A M O : Type 0} {g : Ghosts A M O} {h : MailGhosts M} (ss : List (Shell A M O g h)) → map (λ s. s.actor) ss ≡ map (λ seat. seat.actor) (seats ss)
+actors_of [] = refl
+actors_of (s ∷ ss) = ap (λ rest. s.actor ∷ rest) (actors_of ss)
 
-  pub fills : ValidHaveOneGroup → GroupJournalsAreSound → IsValid scenario → (journal : List (Row Mail OrderLine)) → IsFull (system party_table receiver_of no_words seats) mail_weight lines limit journal → HasFilled scenario limit journal
-  fills one law valid journal h =
-      let P : List (Seat Party) → Type 0 = λ s. IsFull (system party_table receiver_of no_words s) mail_weight lines limit journal in
-      let Q : List (Line OrderLine) → Type 0 = λ l. IsFull (system_of scenario) mail_weight l limit journal in
-      let full : IsFull (system_of scenario) mail_weight (schedule scenario) limit journal = subst Q lines_are (subst P seats_are h) in
+module _ (one : ValidHaveOneGroup) (law : GroupJournalsAreSound) (scenario : Scenario) (valid : IsValid scenario) (lines : List (Line OrderLine)) (lines_are : lines ≡ schedule scenario) (limit : ℕ) (journal : List (Row Mail OrderLine)) where
+  pub ends : (cut quiet : Bool) (skips : ℕ) (left : List Party) →
+      IsLawful (system_of scenario) lines journal → IsWhole (system_of scenario) lines journal → journal_bytes mail_weight journal ≤ limit →
+      cut ≡ unsettled (system_of scenario) lines journal → quiet ≡ is_quiet (system_of scenario) journal → skips ≡ skipped (system_of scenario) lines journal →
+      left ≡ parties scenario journal → Ends scenario limit cut quiet skips journal left
+  ends cut quiet skips left lawful whole within cut_is quiet_is skips_are parties_are =
+      let allowed : Lawful scenario journal = subst (λ l. IsLawful (system_of scenario) l journal) lines_are lawful in
+      record {
+        lawful = allowed;
+        whole = subst (λ l. IsWhole (system_of scenario) l journal) lines_are whole;
+        sound = sound_throughout one law scenario valid journal allowed;
+        within = within;
+        cut_is = cut_is ∙ ap (λ l. unsettled (system_of scenario) l journal) lines_are;
+        quiet_is = quiet_is;
+        skips_are = skips_are ∙ ap (λ l. skipped (system_of scenario) l journal) lines_are;
+        parties_are = parties_are;
+      }
+
+  pub fills : IsFull (system_of scenario) mail_weight lines limit journal → HasFilled scenario limit journal
+  fills h =
+      let full : IsFull (system_of scenario) mail_weight (schedule scenario) limit journal = subst (λ l. IsFull (system_of scenario) mail_weight l limit journal) lines_are h in
       record { full = full; sound = sound_throughout one law scenario valid journal full.lawful }
 
 plays : (scenario : Scenario) (cut quiet : Bool) (skips : ℕ) (journal : List (Row Mail OrderLine)) (parties : List Party) (text : Text) →

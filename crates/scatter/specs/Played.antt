@@ -33,7 +33,8 @@ pub record HasFilled (scenario : Scenario) (limit : ℕ) (journal : List (Row Ma
   pub full : IsFull (system_of scenario) mail_weight (schedule scenario) limit journal
   pub sound : IsSoundThroughout scenario journal
 
-abbrev pub IsPlayed : Scenario → ℕ → Played → Type 0
-IsPlayed scenario limit (Ended cut quiet skips journal left) = HasEnded scenario limit cut quiet skips journal left
-IsPlayed scenario limit (Full journal) = HasFilled scenario limit journal
-IsPlayed scenario limit OutOfMemory = ⊤
+-- How a scenario was played within a limit: the journal, and the parties as they were left.
+abbrev pub IsPlayed : Scenario → ℕ → List (Row Mail OrderLine) → List Party → Played → Type 0
+IsPlayed scenario limit journal left (Ended cut quiet skips) = HasEnded scenario limit cut quiet skips journal left
+IsPlayed scenario limit journal left Full = HasFilled scenario limit journal
+IsPlayed scenario limit journal left OutOfMemory = ⊤

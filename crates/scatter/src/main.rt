@@ -1,14 +1,17 @@
 //! `scatter`: runs a scenario of a store of self-organising Paxos groups, and prints its report.
 #![tactic(auto)]
 
+mod begun;
 mod done;
 mod played;
 mod printing;
+mod reporting;
 mod running;
 mod telling;
 
 pub use done::{Done, Text};
 pub use running::run;
+use sc_actor::Gate;
 use sc_edges::{StdSink, StdSource};
 use std::process::ExitCode;
 use std::{env, io};
@@ -17,6 +20,15 @@ use std::{env, io};
 mod replay_tests;
 #[cfg(test)]
 mod tests;
+#[cfg(test)]
+mod thread_tests;
+
+/// The gate that holds nobody.
+struct Open;
+
+impl Gate for Open {
+    fn pass(&self, _who: u32) {}
+}
 
 fn words_of(rt: &HostRuntime) -> io::Result<Vec<String>> {
     let mut words = Vec::new(rt.alloc());
@@ -30,6 +42,6 @@ fn main(rt: HostRuntime) -> io::Result<ExitCode> {
     let words = words_of(&rt)?;
     let mut input = StdSource::new(rt.stdin());
     let mut output = StdSink::new(rt.stdout());
-    let done = run(rt.alloc(), &words, &mut input, &mut output);
+    let done = run(&rt, rt.alloc(), &words, &mut input, &mut output, &Open);
     Ok(ExitCode::from(done.status))
 }

@@ -2,7 +2,9 @@
 ghost use Rattle.std.specs.Prelude.{◌≡◌, IfOk};
 ghost use Rattle.sc_scenario.specs.Valid.{IsValid};
 
-use crate::played::{Played, play};
+use crate::Open;
+use crate::played::Played;
+use crate::reporting::play_whole;
 use sc_actor::{Event, Journal, Row};
 use sc_base::{Draw, Op, Sequence};
 use sc_cmd::{Command, OrderLine};
@@ -16,7 +18,9 @@ use sc_world::Party;
 use std::alloc::Global;
 use std::mem;
 use std::process::Abort;
+use std::sync::Wait;
 use std::test::Fail;
+use std::thread::Threads;
 
 const PUT_GET: &[u8] =
     b"scatter 1\nnodes 1\ngroup 0 1\nclient 1\nput a x\nget a\nend\ngo 1\nsettle 100\n";
@@ -73,10 +77,15 @@ const fn make_case(input: &'static [u8], change: Change, row: usize, bad: u32) -
     }
 }
 
-fn played(alloc: Global, input: &[u8]) -> Result<Vec<Row<Mail, OrderLine>>, Fail> {
+fn played<R: Threads + Wait + Sync>(
+    rt: &R,
+    alloc: Global,
+    input: &[u8],
+) -> Result<Journal<Mail, OrderLine>, Fail> {
     let scenario = read_scenario(alloc, input)?;
-    match play(alloc, &scenario, 1 << 30) {
-        Played::Ended { journal, .. } => Ok(journal.into_vec()),
+    let left = play_whole(rt, alloc, &scenario, 1 << 30, &Open)?;
+    match left.played {
+        Played::Ended { .. } => Ok(left.journal),
         _ => Err(Fail::from("the run did not end")),
     }
 }
@@ -106,8 +115,12 @@ fn change_row(alloc: Global, row: &mut Row<Mail, OrderLine>, change: Change) -> 
 }
 
 // The journal of a case.
-fn journal_of(alloc: Global, case: &Case) -> Result<Journal<Mail, OrderLine>, Fail> {
-    let mut rows = played(alloc, case.input)?;
+fn journal_of<R: Threads + Wait + Sync>(
+    rt: &R,
+    alloc: Global,
+    case: &Case,
+) -> Result<Journal<Mail, OrderLine>, Fail> {
+    let mut rows = played(rt, alloc, case.input)?.into_vec();
     if let Change::Twice = case.change {
         rows.push(Row {
             who: 1,
@@ -121,14 +134,13 @@ fn journal_of(alloc: Global, case: &Case) -> Result<Journal<Mail, OrderLine>, Fa
     Ok(Journal::from_vec(rows))
 }
 
-// The row that a replay of a case names, or 0.
-fn named(alloc: Global, case: &Case) -> Result<u32, Fail> {
-    let scenario = read_scenario(alloc, case.input)?;
-    let journal = journal_of(alloc, case)?;
+/// The row of a journal that a replay for a scenario names, or 0.
+pub fn named(alloc: Global, input: &[u8], journal: &Journal<Mail, OrderLine>) -> Result<u32, Fail> {
+    let scenario = read_scenario(alloc, input)?;
     if !are_few(journal.as_slice()) {
         return Err(Fail::from("too many rows"));
     }
-    match replay_rows(alloc, &scenario, &journal) {
+    match replay_rows(alloc, &scenario, journal) {
         Ok(_) => Ok(0),
         Err(ReplayFault::BadRow { at }) => Ok(at),
         Err(ReplayFault::OutOfMemory) => Err(Fail::from("no memory")),
@@ -154,7 +166,8 @@ fn a_played_journal_is_replayed_and_a_changed_row_is_named(rt: HostRuntime) -> R
         make_case(ELECTION, Change::Sender, 35, 35),
     ];
     for case in &cases {
-        assert_eq!(rt; named(rt.alloc(), case)?, case.bad);
+        let journal = journal_of(&rt, rt.alloc(), case)?;
+        assert_eq!(rt; named(rt.alloc(), case.input, &journal)?, case.bad);
     }
     Ok(())
 }
@@ -178,9 +191,13 @@ fn replayed<'a>(
 }
 
 // The text of a report.
-fn report_of(alloc: Global, input: &[u8]) -> Result<Vec<u8>, Fail> {
+fn report_of<R: Threads + Wait + Sync>(
+    rt: &R,
+    alloc: Global,
+    input: &[u8],
+) -> Result<Vec<u8>, Fail> {
     let scenario = read_scenario(alloc, input)?;
-    let journal = Journal::from_vec(played(alloc, input)?);
+    let journal = played(rt, alloc, input)?;
     let world = replayed(alloc, &scenario, &journal)?;
     let told = summary(alloc, &scenario, &world)?;
     let mut text = Vec::new(alloc);
@@ -198,7 +215,7 @@ fn a_replay_tells_the_report_of_its_rows(rt: HostRuntime) -> Result<(), Fail> {
         (CUT_SHORT, CUT_SHORT_REPORT),
     ];
     for (input, report) in &cases {
-        let text = report_of(rt.alloc(), input)?;
+        let text = report_of(&rt, rt.alloc(), input)?;
         assert_eq!(rt; text.as_slice(), *report);
     }
     Ok(())
@@ -225,9 +242,14 @@ fn number_of(scenario: &Scenario, command: &Command) -> u32 {
 }
 
 // The numbers of the decided log of a group.
-fn logged(alloc: Global, input: &[u8], group: Draw) -> Result<Vec<u32>, Fail> {
+fn logged<R: Threads + Wait + Sync>(
+    rt: &R,
+    alloc: Global,
+    input: &[u8],
+    group: Draw,
+) -> Result<Vec<u32>, Fail> {
     let scenario = read_scenario(alloc, input)?;
-    let journal = Journal::from_vec(played(alloc, input)?);
+    let journal = played(rt, alloc, input)?;
     let world = replayed(alloc, &scenario, &journal)?;
     let mut numbers = Vec::new(alloc);
     for command in decided_log(alloc, &world, group)?.as_slice() {
@@ -238,9 +260,9 @@ fn logged(alloc: Global, input: &[u8], group: Draw) -> Result<Vec<u32>, Fail> {
 
 #[test]
 fn a_put_and_a_get_are_decided_in_order(rt: HostRuntime) -> Result<(), Fail> {
-    let first = logged(rt.alloc(), PUT_GET, Draw { node: 0, count: 1 })?;
+    let first = logged(&rt, rt.alloc(), PUT_GET, Draw { node: 0, count: 1 })?;
     assert_eq!(rt; first.as_slice(), [1, 2].as_slice());
-    let none = logged(rt.alloc(), PUT_GET, Draw { node: 1, count: 1 })?;
+    let none = logged(&rt, rt.alloc(), PUT_GET, Draw { node: 1, count: 1 })?;
     assert!(rt; none.is_empty());
     Ok(())
 }
@@ -261,9 +283,14 @@ fn entry_number(scenario: &Scenario, found: &[Option<&[u8]>], entry: &Entry) -> 
 }
 
 // The numbers of a history, whose requests found these values.
-fn told(alloc: Global, input: &[u8], found: &[Option<&[u8]>]) -> Result<Vec<u32>, Fail> {
+fn told<R: Threads + Wait + Sync>(
+    rt: &R,
+    alloc: Global,
+    input: &[u8],
+    found: &[Option<&[u8]>],
+) -> Result<Vec<u32>, Fail> {
     let scenario = read_scenario(alloc, input)?;
-    let journal = Journal::from_vec(played(alloc, input)?);
+    let journal = played(rt, alloc, input)?;
     let world = replayed(alloc, &scenario, &journal)?;
     let mut numbers = Vec::new(alloc);
     for entry in history(alloc, &world)?.as_slice() {
@@ -275,7 +302,7 @@ fn told(alloc: Global, input: &[u8], found: &[Option<&[u8]>]) -> Result<Vec<u32>
 #[test]
 fn a_put_finds_nothing_and_a_get_finds_what_was_put(rt: HostRuntime) -> Result<(), Fail> {
     let found = [None, Some(b"x".as_slice())];
-    let numbers = told(rt.alloc(), PUT_GET, &found)?;
+    let numbers = told(&rt, rt.alloc(), PUT_GET, &found)?;
     assert_eq!(rt; numbers.as_slice(), [1, 2].as_slice());
     Ok(())
 }
@@ -297,16 +324,20 @@ fn left_of(parties: &[Party]) -> (u32, u32, u32) {
     (nodes, clients, waiting)
 }
 
-fn left(alloc: Global, input: &[u8]) -> Result<(u32, u32, u32), Fail> {
+fn left<R: Threads + Wait + Sync>(
+    rt: &R,
+    alloc: Global,
+    input: &[u8],
+) -> Result<(u32, u32, u32), Fail> {
     let scenario = read_scenario(alloc, input)?;
-    let journal = Journal::from_vec(played(alloc, input)?);
+    let journal = played(rt, alloc, input)?;
     let world = replayed(alloc, &scenario, &journal)?;
     Ok(left_of(world.parties()))
 }
 
 #[test]
 fn a_replay_leaves_each_node_and_client_where_its_rows_do(rt: HostRuntime) -> Result<(), Fail> {
-    assert_eq!(rt; left(rt.alloc(), PUT_GET)?, (1, 1, 0));
-    assert_eq!(rt; left(rt.alloc(), CUT_SHORT)?, (1, 1, 1));
+    assert_eq!(rt; left(&rt, rt.alloc(), PUT_GET)?, (1, 1, 0));
+    assert_eq!(rt; left(&rt, rt.alloc(), CUT_SHORT)?, (1, 1, 1));
     Ok(())
 }

@@ -1,5 +1,6 @@
 use super::*;
-use crate::played::{Played, play};
+use crate::played::Played;
+use crate::reporting::{Left, play_whole};
 use crate::telling::tells_full;
 use sc_actor::{Event, Parcel, Row};
 use sc_base::{Dup, Reply};
@@ -10,7 +11,9 @@ use sc_mail::{Mail, MailBody};
 use sc_scenario::read_scenario;
 use std::alloc::Global;
 use std::process::Abort;
+use std::sync::Wait;
 use std::test::Fail;
+use std::thread::Threads;
 
 // The words, the input, the call of the source and the call of the sink that fail (0: none), and
 // what must come: the status, whether there is a journal, and the output.
@@ -41,7 +44,7 @@ const CUT_SHORT: &[u8] =
 const CUT_SHORT_REPORT: &[u8] =
     b"scatter report 1\nunanswered 1 1 put\nunsent 1 2 get\nring 0 group 0.1 members 1\nrows 2\nmail 2\ndelivered 1\nskipped 0\nquiet no\n";
 
-fn words_of(alloc: Global, word: &str) -> Result<Vec<String>, Fail> {
+pub fn words_of(alloc: Global, word: &str) -> Result<Vec<String>, Fail> {
     let mut words = Vec::new(alloc);
     for one in word.split(' ') {
         words.push(String::from_str(alloc, one)?)?;
@@ -49,11 +52,11 @@ fn words_of(alloc: Global, word: &str) -> Result<Vec<String>, Fail> {
     Ok(words)
 }
 
-fn check(rt: &impl Abort, alloc: Global, case: &Case) -> Result<(), Fail> {
+fn check<R: Abort + Threads + Wait + Sync>(rt: &R, alloc: Global, case: &Case) -> Result<(), Fail> {
     let words = words_of(alloc, case.word)?;
     let mut input = MemSource::new(alloc, case.input, &[case.source_fails])?;
     let mut output = MemSink::new(alloc, 1000, &[case.sink_fails])?;
-    let done = run(alloc, &words, &mut input, &mut output);
+    let done = run(rt, alloc, &words, &mut input, &mut output, &Open);
     assert_eq!(rt; done.status, case.status);
     assert_eq!(rt; done.journal.is_some(), case.journal);
     assert_eq!(rt; output.held(), case.output);
@@ -130,7 +133,7 @@ fn no_words_are_refused(rt: HostRuntime) -> Result<(), Fail> {
     let words = Vec::new(alloc);
     let mut input = MemSource::new(alloc, FIRST, &[])?;
     let mut output = MemSink::new(alloc, 1000, &[])?;
-    let done = run(alloc, &words, &mut input, &mut output);
+    let done = run(&rt, alloc, &words, &mut input, &mut output, &Open);
     assert_eq!(rt; done.status, 2);
     assert_eq!(rt; output.held(), USAGE);
     Ok(())
@@ -151,7 +154,7 @@ fn rows_count_what_their_mails_weigh(rt: HostRuntime) -> Result<(), Fail> {
     let words = words_of(alloc, "run")?;
     let mut input = MemSource::new(alloc, FIRST, &[])?;
     let mut output = MemSink::new(alloc, 1000, &[])?;
-    let Done { journal, .. } = run(alloc, &words, &mut input, &mut output);
+    let Done { journal, .. } = run(&rt, alloc, &words, &mut input, &mut output, &Open);
     let Some(journal) = journal else {
         return Err(Fail::from("no journal"));
     };
@@ -186,11 +189,13 @@ fn accepted<'a>(row: &Row<Mail, OrderLine>, sent: &[&'a Mail]) -> Option<&'a Com
 
 // The old values that the history of a run answers, in its order: a group of one member decides
 // each command that it accepts. No value is told as the empty text.
-fn history(alloc: Global, text: &[u8]) -> Result<Vec<Vec<u8>>, Fail> {
+fn history<R: Threads + Wait + Sync>(
+    rt: &R,
+    alloc: Global,
+    text: &[u8],
+) -> Result<Vec<Vec<u8>>, Fail> {
     let scenario = read_scenario(alloc, text)?;
-    let Played::Ended { journal, .. } = play(alloc, &scenario, 1 << 30) else {
-        return Err(Fail::from("the run did not end"));
-    };
+    let Left { journal, .. } = play_whole(rt, alloc, &scenario, 1 << 30, &Open)?;
     let Some(base) = scenario.groups.as_slice().first() else {
         return Err(Fail::from("no group"));
     };
@@ -219,11 +224,11 @@ const FOUR: &[u8] =
 
 #[test]
 fn histories_are_those_of_one_map(rt: HostRuntime) -> Result<(), Fail> {
-    let two = history(rt.alloc(), FIRST)?;
+    let two = history(&rt, rt.alloc(), FIRST)?;
     assert_eq!(rt; two.len(), 2);
     assert_eq!(rt; two[0].as_slice(), b"".as_slice());
     assert_eq!(rt; two[1].as_slice(), b"x".as_slice());
-    let four = history(rt.alloc(), FOUR)?;
+    let four = history(&rt, rt.alloc(), FOUR)?;
     assert_eq!(rt; four.len(), 4);
     assert_eq!(rt; four[0].as_slice(), b"".as_slice());
     assert_eq!(rt; four[1].as_slice(), b"x".as_slice());
@@ -236,9 +241,12 @@ fn histories_are_those_of_one_map(rt: HostRuntime) -> Result<(), Fail> {
 fn full_after_two(rt: HostRuntime) -> Result<(), Fail> {
     let alloc = rt.alloc();
     let scenario = read_scenario(alloc, FIRST)?;
-    let Played::Full { journal } = play(alloc, &scenario, 700) else {
-        return Err(Fail::from("the journal was not full"));
-    };
+    let Left {
+        played,
+        journal,
+        ..
+    } = play_whole(&rt, alloc, &scenario, 700, &Open)?;
+    assert_eq!(rt; played, Played::Full);
     assert_eq!(rt; journal.len(), 2);
     let text = tells_full(alloc, journal)?;
     assert_eq!(rt; text.lines.len(), 1);
@@ -307,8 +315,8 @@ const JOIN_LEAVE_REFUSALS: &[u8] =
 const JOIN_LEAVE_REFUSALS_REPORT: &[u8] =
     b"scatter report 1\norder 1 refused 1 not-leader\norder 2 refused 9 is-member\norder 3 refused 6 not-member\norder 4 refused 7 last-member\nring 0 group 0.1 members 1\nrows 4\nmail 4\ndelivered 0\nskipped 0\nquiet yes\n";
 
-fn check_row(
-    rt: &impl Abort,
+fn check_row<R: Abort + Threads + Wait + Sync>(
+    rt: &R,
     alloc: Global,
     row: &(&'static [u8], u8, &'static [u8]),
 ) -> Result<(), Fail> {
@@ -342,4 +350,13 @@ fn rows_of_one_group(rt: HostRuntime) -> Result<(), Fail> {
         check_row(&rt, rt.alloc(), row)?;
     }
     Ok(())
+}
+
+// The line of deliveries is cut off at its limit, and the last line brings the rest.
+const FREE_CUT_SHORT: &[u8] =
+    b"scatter 1\nnodes 1\ngroup 0 1\nclient 1\nput a x\nget a\nend\ngo 1\nfree 1 4\nsettle 100\n";
+
+#[test]
+fn later_lines_run_after_one_that_is_cut_off(rt: HostRuntime) -> Result<(), Fail> {
+    check_row(&rt, rt.alloc(), &(FREE_CUT_SHORT, 6, FIRST_REPORT))
 }
