@@ -13,7 +13,7 @@ use crate::tests::{Note, Open, Player};
 use sc_actor::{Event, Line, Row, Seat};
 use sc_base::OutOfMemory;
 use sc_exchange::Port;
-use sc_play::are_built;
+use sc_play::{Equality, are_built, are_few, replay};
 use sc_shell::Shell;
 use sc_workers::gather;
 use std::alloc::Global;
@@ -38,14 +38,38 @@ fn makers(rows: &[Row<Note, u32>]) -> u32 {
     digits
 }
 
-// To whom each actor sends, and how many notes it has left, as the digits of one number.
+// Two digits more: to whom an actor sends, and how many notes it has left.
+fn with_player(digits: u32, actor: &Player) -> u32 {
+    let more = digits.wrapping_mul(10).wrapping_add(actor.other);
+    more.wrapping_mul(10).wrapping_add(actor.left)
+}
+
 fn players(actors: &[Player]) -> u32 {
     let mut digits = 0u32;
     for actor in actors {
-        digits = digits.wrapping_mul(10).wrapping_add(actor.other);
-        digits = digits.wrapping_mul(10).wrapping_add(actor.left);
+        digits = with_player(digits, actor);
     }
     digits
+}
+
+fn seated(seats: &[Seat<Player>]) -> u32 {
+    let mut digits = 0u32;
+    for seat in seats {
+        digits = with_player(digits, &seat.actor);
+    }
+    digits
+}
+
+struct Plain;
+
+impl Equality<Note, u32> for Plain {
+    fn same_mail(&self, one: &Note, other: &Note) -> bool {
+        one == other
+    }
+
+    fn same_order(&self, one: &u32, other: &u32) -> bool {
+        one == other
+    }
 }
 
 fn seats(alloc: Global) -> Result<Vec<Seat<Player>>, OutOfMemory>
@@ -131,18 +155,36 @@ fn drive_all<R: Threads + Wait + Sync>(
     }
 }
 
-// What is left where a schedule was driven. Nobody gathers before the end but the driver.
+// What a plain replay of rows leaves of the actors, or nothing where the rows are not lawful.
+fn replayed(
+    alloc: Global,
+    lines: &[Line<u32>],
+    rows: &[Row<Note, u32>],
+) -> Result<Option<u32>, OutOfMemory> {
+    if !are_built(lines) || !are_few(rows) {
+        return Err(OutOfMemory);
+    }
+    match replay(alloc, &Plain, seats(alloc)?, lines, rows)? {
+        None => Ok(None),
+        Some(left) => Ok(Some(seated(&left.seats))),
+    }
+}
+
+// What is left where a schedule was driven, and whether a plain replay leaves the same actors. Nobody gathers before the end but the driver.
 fn left_by<R: Threads + Wait + Sync>(
     rt: &R,
     alloc: Global,
     lines: &[Line<u32>],
-) -> Result<(u32, u32), OutOfMemory> {
+) -> Result<(u32, u32, bool), OutOfMemory> {
     let (net, shells) = open(alloc, seats(alloc)?, 2, 1 << 19)?;
     let mut net = net;
     let mut shells = shells;
     drive_all(rt, alloc, &mut net, &mut shells, lines)?;
     let (journal, actors) = close(rt, alloc, net, shells)?;
-    Ok((makers(journal.as_slice()), players(actors.as_slice())))
+    let rows = journal.as_slice();
+    let left = players(actors.as_slice());
+    let same = replayed(alloc, lines, rows)? == Some(left);
+    Ok((makers(rows), left, same))
 }
 
 #[test]
@@ -153,7 +195,22 @@ fn what_was_driven_is_given_back(rt: HostRuntime) -> Result<(), Fail> {
         Line::Tick { who: 2 },
     ];
     let left = left_by(&rt, rt.alloc(), &lines)?;
-    assert_eq!(rt; left, (2122, 1126));
+    assert_eq!(rt; left, (2122, 1126, true));
+    Ok(())
+}
+
+#[test]
+fn free_lines_are_replayed_whatever_the_order_of_their_rows(rt: HostRuntime) -> Result<(), Fail> {
+    for workers in [1u32, 2, 16] {
+        let lines: [Line<u32>; 4] = [
+            Line::Go { who: 1 },
+            Line::Go { who: 2 },
+            Line::Free { most: 5, workers },
+            Line::Settle { most: 100 },
+        ];
+        let (_, left, same) = left_by(&rt, rt.alloc(), &lines)?;
+        assert_eq!(rt; (left, same), (1022, true));
+    }
     Ok(())
 }
 

@@ -1,5 +1,5 @@
 -- How given rows stand with the walk.
-use Rattle.std.proofs.Common.{◌≡◌, ℕ, suc, ◌+◌, ◌-◌, ◌<◌, ◌≤◌, ◌^◌, List, [], ◌∷◌, ◌++◌, length, Bool, true, false, not, cond, eqb, drop, drop-cons, get_or, refl, sym, ◌∙◌, ap, subst, arith, add-one, append-nil, append_assoc, length-append, min, Option, None, Some, ◌||◌}
+use Rattle.std.proofs.Common.{◌≡◌, ℕ, suc, ◌+◌, ◌-◌, ◌<◌, ◌≤◌, ◌^◌, List, [], ◌∷◌, ◌++◌, length, Bool, true, false, not, cond, eqb, drop, drop-cons, get_or, refl, sym, ◌∙◌, ap, subst, arith, add-one, append-nil, append_assoc, length-append, Option, None, Some, ◌||◌}
 use Rattle.std.specs.Prelude.{is_none, option_and_then}
 use Rattle.std.proofs.Math.ListN.{drop_of_length-le}
 use Rattle.std.proofs.lemmas.Bool.{ne_eqb, false≢true}
@@ -7,7 +7,6 @@ use Rattle.sc_actor.specs.declared.rows.Row.{Row}
 use Rattle.sc_actor.specs.declared.actors.Seat.{Seat}
 use Rattle.sc_actor.specs.declared.schedules.Line.{Line}
 use Rattle.sc_actor.specs.Mail.{mails, copies}
-use Rattle.sc_actor.specs.Counted.{journal_bytes}
 use Rattle.sc_actor.specs.System.{System, acts, numbers_of, waiting, kth, network}
 use Rattle.sc_actor.specs.Walk.{Task, Once, Place, Allows, IsLawful, IsNext, is_over, is_quiet, rest_of, line_row, first_of}
 use Rattle.sc_actor.proofs.WalkLemmas.{Stands-at, Stands-allows, Stands-ended, Stands-whole, lawful-prefix, lawful-last}
@@ -28,10 +27,6 @@ split_rows taken rows row follows lt is =
     ∙ ap (λ x. taken ++ (x ∷ drop (suc (length taken)) rows)) (sym is)
     ∙ sym (append_assoc taken (row ∷ []) (drop (suc (length taken)) rows))
     ∙ ap (λ n. (taken ++ row ∷ []) ++ drop n rows) (sym (add-one (length taken)))
-
-drop_past : {X : Type 0} (xs ys : List X) → drop (length xs) (xs ++ ys) ≡ ys
-drop_past [] ys = refl
-drop_past (x ∷ xs) ys = drop_past xs ys
 
 -- one more row was taken
 pub follows_next : {M O : Type 0} (taken rows new : List (Row M O)) (row : Row M O) → Follows taken rows → length taken < length rows → row ≡ get_or rows (length taken) row → new ≡ taken ++ row ∷ [] → Follows new rows
@@ -212,7 +207,7 @@ module _ {A M O : Type 0} (r : Rules A M O) where
   Breaks-then first second a b rows p q = λ words births lines rest at. q words births lines rest (p words births lines rest at)
 
 -- the stage after one more row
-pub taking_next : {A M O : Type 0} (r : Rules A M O) (old new : Stage A M O) (d : Deed O) (row : Row M O) (rows : List (Row M O)) → IsTaking r.weighs old rows → length old.rows < length rows → row ≡ get_or rows (length old.rows) row → Took r old new d row → IsTaking r.weighs new rows
+pub taking_next : {A M O : Type 0} (r : Rules A M O) (old new : Stage A M O) (d : Deed O) (row : Row M O) (rows : List (Row M O)) → IsTaking old rows → length old.rows < length rows → row ≡ get_or rows (length old.rows) row → Took r old new d row → IsTaking new rows
 taking_next r old new d row rows taking lt is took =
     record {
       kept = took.kept;
@@ -222,13 +217,12 @@ taking_next r old new d row rows taking lt is took =
     }
 
 -- two stages that differ in what they count
-pub taking_same : {A M O : Type 0} (weighs : M → ℕ) (old new : Stage A M O) (rows : List (Row M O)) → new.rows ≡ old.rows → new.mails.items ≡ old.mails.items → new.copies.items ≡ old.copies.items → new.bytes ≡ old.bytes → IsTaking weighs old rows → IsTaking weighs new rows
-taking_same weighs old new rows rows_same mails_same copies_same bytes_same taking =
+pub taking_same : {A M O : Type 0} (old new : Stage A M O) (rows : List (Row M O)) → new.rows ≡ old.rows → new.mails.items ≡ old.mails.items → new.copies.items ≡ old.copies.items → IsTaking old rows → IsTaking new rows
+taking_same old new rows rows_same mails_same copies_same taking =
     record {
       kept = record {
         all_mails = mails_same ∙ taking.kept.all_mails ∙ ap mails (sym rows_same);
         all_copies = copies_same ∙ taking.kept.all_copies ∙ ap copies (sym rows_same);
-        all_bytes = bytes_same ∙ taking.kept.all_bytes ∙ ap (λ xs. min (journal_bytes weighs xs) (2 ^ 64 - 1)) (sym rows_same);
         few_rows = subst (λ xs. length xs < 2 ^ 31) (sym rows_same) taking.kept.few_rows;
         few_mails = subst (λ xs. length (mails xs) < 2 ^ 31) (sym rows_same) taking.kept.few_mails;
       };
@@ -249,10 +243,10 @@ pub record IsNextRow {M O : Type 0} (taken rows : List (Row M O)) (row : Row M O
 pub next_row : {M O : Type 0} (taken rows : List (Row M O)) (row : Row M O) (at : ℕ) → at ≡ length taken → at < length rows → row ≡ get_or rows at row → IsNextRow taken rows row
 next_row taken rows row at e lt is = record { more = subst (λ n. n < length rows) e lt; is = subst (λ n. row ≡ get_or rows n row) e is }
 
-pub taking_begin : {A M O : Type 0} (weighs : M → ℕ) (stage : Stage A M O) (rows : List (Row M O)) → stage.rows ≡ [] → stage.mails.items ≡ [] → stage.copies.items ≡ [] → stage.bytes ≡ 0 → length rows < 2 ^ 31 → length (mails rows) < 2 ^ 31 → IsTaking weighs stage rows
-taking_begin weighs stage rows none no_mails no_copies no_bytes few_rows few_mails =
+pub taking_begin : {A M O : Type 0} (stage : Stage A M O) (rows : List (Row M O)) → stage.rows ≡ [] → stage.mails.items ≡ [] → stage.copies.items ≡ [] → length rows < 2 ^ 31 → length (mails rows) < 2 ^ 31 → IsTaking stage rows
+taking_begin stage rows none no_mails no_copies few_rows few_mails =
     record {
-      kept = record { all_mails = rw none no_mails; all_copies = rw none no_copies; all_bytes = rw none (omega (arith, no_bytes)); few_rows = rw none (omega arith); few_mails = rw none (omega arith) };
+      kept = record { all_mails = rw none no_mails; all_copies = rw none no_copies; few_rows = rw none (omega arith); few_mails = rw none (omega arith) };
       follows = rw none refl;
       few_rows_in_all = few_rows;
       few_mails_in_all = few_mails;

@@ -2,16 +2,16 @@
 use Rattle.std.proofs.Common.{◌≡◌, ℕ, zero, suc, ◌+◌, List, [], ◌∷◌, ◌++◌, Bool, true, false, not, cond, eqb, find, replicate, refl, sym, ◌∙◌, ap, subst, arith, Option, None, Some, ◌&&◌, ◌||◌}
 use Rattle.std.specs.Prelude.{slice_get, is_none, is_some, option_and_then}
 use Rattle.std.specs.Option.{option_map}
-use Rattle.std.proofs.lemmas.Bool.{false≢true, eqb-true, eq-eqb, and_parts}
+use Rattle.std.proofs.lemmas.Bool.{false≢true, and_parts}
 use Rattle.sc_actor.specs.declared.rows.Row.{Row}
 use Rattle.sc_actor.specs.declared.actors.Seat.{Seat}
 use Rattle.sc_actor.specs.declared.rows.Event.{Event}
 use Rattle.sc_actor.specs.declared.rows.Event.TheVariants.{Deliver, Tick, Go, Told, Crash, Drop, Again}
 use Rattle.sc_actor.specs.declared.schedules.Line.{Line}
 use Rattle.sc_actor.specs.declared.schedules.Line.TheVariants.{Go as GoLine, Deliver as DeliverLine, Drop as DropLine, Again as AgainLine, Tick as TickLine, Crash as CrashLine, Told as ToldLine, Settle, Free, Storm}
-use Rattle.sc_actor.specs.Mail.{mails, copies, numbers, numbered, has_crashed, may_get, is_for, pending}
+use Rattle.sc_actor.specs.Mail.{mails, numbers, numbered, has_crashed, may_get, pending}
 use Rattle.sc_actor.specs.System.{System, system, no_words, numbers_of, row_of, acts, network, waiting, kth, has_gone}
-use Rattle.sc_actor.specs.Walk.{line_row, delivery, lowest, first_of}
+use Rattle.sc_actor.specs.Walk.{line_row, delivery, lowest}
 use Rattle.sc_actor.proofs.PendingLemmas.{pending_sound, waiting_one, waiting_any}
 use Rattle.sc_play.specs.declared.stages.Deed.{Deed}
 use Rattle.sc_play.specs.Deeds.{of_network, is_number, can_act, row_made, deed, holds_of, may_repeat, when, line_deed, lowest_deed}
@@ -122,35 +122,6 @@ module _ {A M O : Type 0} (receiver : M → ℕ) (seats : List (Seat A)) (rows :
   line_deed-can (Free most workers) d e = cc
   line_deed-can (Storm number most) d e = cc
 
-  -- the lowest delivery: its mail and whom it is for
-  pub record Lowest (d : Deed O) : Type 0 where
-    pub number : ℕ
-    pub mail : M
-    pub first : kth (pending receiver (numbers_of seats) rows None) 1 ≡ Some number
-    pub sent : numbered (mails rows) number ≡ Some mail
-    pub may : may_get (numbers_of seats) rows (receiver mail) ≡ true
-    pub is : d ≡ deed (receiver mail) (Deliver number)
-
-  lowest_from : (number : ℕ) (o : Option M) (d : Deed O) → kth (pending receiver (numbers_of seats) rows None) 1 ≡ Some number → numbered (mails rows) number ≡ o → option_map (λ m. deed (receiver m) (Deliver number)) o ≡ Some d → Lowest d
-  lowest_from number None d first sent e = cc
-  lowest_from number (Some m) d first sent e =
-      let under = waiting_any any_system rows 1 number first in
-      let some : Some under.0 ≡ Some m = sym under.1.sent ∙ sent in
-      let same : under.0 ≡ m = cc in
-      record { number = number; mail = m; first = first; sent = sent; may = subst (λ x. may_get (numbers_of seats) rows (receiver x) ≡ true) same under.1.may; is = cc }
-
-  lowest_in : (o : Option ℕ) (d : Deed O) → kth (pending receiver (numbers_of seats) rows None) 1 ≡ o → option_and_then (λ mail. option_map (λ m. deed (receiver m) (Deliver mail)) (numbered (mails rows) mail)) o ≡ Some d → Lowest d
-  lowest_in None d is e = cc
-  lowest_in (Some number) d is e = lowest_from number (numbered (mails rows) number) d is refl e
-
-  pub lowest_is : (d : Deed O) → lowest_deed receiver (numbers_of seats) rows ≡ Some d → Lowest d
-  lowest_is d e = lowest_in (kth (pending receiver (numbers_of seats) rows None) 1) d refl e
-
-  pub lowest_deed-can : (d : Deed O) → lowest_deed receiver (numbers_of seats) rows ≡ Some d → can_act (numbers_of seats) d ≡ true
-  lowest_deed-can d e =
-      let low = lowest_is d e in
-      subst (λ x. can_act (numbers_of seats) x ≡ true) (sym low.is) (own (receiver low.mail) low.may)
-
   quiet_from : (o : Option ℕ) → kth (pending receiver (numbers_of seats) rows None) 1 ≡ o → is_none o ≡ is_none (option_and_then (λ mail. option_map (λ m. deed {O = O} (receiver m) (Deliver mail)) (numbered (mails rows) mail)) o)
   quiet_from None is = refl
   quiet_from (Some number) is =
@@ -195,19 +166,3 @@ module _ {M : Type 0} (p q : M → Bool) (narrower : (m : M) → q m ≡ true �
   first_own first (m ∷ sent) [] n place x e at is passes = cc
   first_own first (m ∷ sent) (c ∷ counts) n place x e at is passes =
       first_by first m sent c counts n (λ place' x' e' at' is' passes'. first_own (suc first) sent counts n place' x' e' at' is' passes') (p m) (q m) refl refl place x e at is passes
-
-module _ {A M O : Type 0} (s : System A M O) (rows : List (Row M O)) where
-  first_for : (number : ℕ) (m : M) → kth (waiting s rows None) 1 ≡ Some number → numbered (mails rows) number ≡ Some m → may_get (numbers_of s.births) rows (s.receiver m) ≡ true → kth (waiting s rows (Some (s.receiver m))) 1 ≡ Some number
-  first_for zero m first sent may = cc
-  first_for (suc place) m first sent may =
-      first_own (is_for s.receiver (numbers_of s.births) rows None) (is_for s.receiver (numbers_of s.births) rows (Some (s.receiver m)))
-      (λ x t. let parts = and_parts (eqb (s.receiver x) (s.receiver m)) (may_get (numbers_of s.births) rows (s.receiver m)) t in subst (λ w. may_get (numbers_of s.births) rows w ≡ true) (sym (eqb-true (s.receiver x) (s.receiver m) parts.0)) parts.1)
-      1 (mails rows) (copies rows) (suc place) place m first (omega arith) sent
-      (rw (eq-eqb (s.receiver m) (s.receiver m) refl) may)
-
-  -- the lowest delivery is the first of its actor
-  pub first-deed : (d : Deed O) → lowest_deed s.receiver (numbers_of s.births) rows ≡ Some d → first_of s rows d.who ≡ row_made s rows d
-  first-deed d e =
-      let low = lowest_is s.receiver s.births rows d e in
-      let first = first_for low.number low.mail low.first low.sent low.may in
-      subst (λ x. first_of s rows x.who ≡ row_made s rows x) (sym low.is) (ap (option_and_then (λ mail. acts s rows (s.receiver low.mail) (Deliver mail))) first)

@@ -1,5 +1,5 @@
 -- What rows leave, and whether they are lawful, by where the check ended.
-use Rattle.std.proofs.Common.{◌≡◌, ℕ, suc, ◌+◌, ◌<◌, ◌≤◌, List, [], ◌∷◌, length, Bool, true, false, drop, get_or, refl, ◌∙◌, ap, subst, arith, zero, length-append, Option, None, Some, sym}
+use Rattle.std.proofs.Common.{◌≡◌, ℕ, suc, ◌+◌, ◌<◌, ◌≤◌, List, [], ◌∷◌, length, true, drop, get_or, refl, ◌∙◌, ap, subst, arith, zero, length-append, Option, None, Some, sym}
 use Rattle.std.specs.List.{flat_map}
 use Rattle.std.specs.Prelude.{◌↔◌, IsTrue, is_none, is_some}
 use Rattle.sc_actor.specs.declared.rows.Row.{Row}
@@ -36,12 +36,12 @@ module _ {A M O : Type 0} (r : Rules A M O) (words : ℕ → ℕ → ℕ × ℕ)
   pub judged_ends : (new : Stage A M O) (i : ℕ) (line : Line O) → i < length lines → line ≡ get_or lines i line → is_built line ≡ true → At (with_births r words births) lines old (flat_map (tasks_of words) (drop i lines)) → Ends r old (line_task line ∷ []) new rows →
       (new.rows ≡ rows) × HasReplayed (with_births r words births) lines rows new.unsettled new.skipped new.seats.items
   judged_ends new i line lt is built at ends =
-      ends words births lines (flat_map (tasks_of words) (drop (i + 1) lines)) (subst (λ ts. At (with_births r words births) lines old ts) (split r words births lines i line lt is built) at)
+      ends words births lines (flat_map (tasks_of words) (drop (i + 1) lines)) (subst (λ ts. At (with_births r words births) lines old ts) (split words lines i line lt is built) at)
 
   -- a row is wrong
   pub judged_breaks : (i : ℕ) (line : Line O) → i < length lines → line ≡ get_or lines i line → is_built line ≡ true → At (with_births r words births) lines old (flat_map (tasks_of words) (drop i lines)) → Breaks r old (line_task line ∷ []) rows → IsLawful (with_births r words births) lines rows → ⊥
   judged_breaks i line lt is built at breaks =
-      breaks words births lines (flat_map (tasks_of words) (drop (i + 1) lines)) (subst (λ ts. At (with_births r words births) lines old ts) (split r words births lines i line lt is built) at)
+      breaks words births lines (flat_map (tasks_of words) (drop (i + 1) lines)) (subst (λ ts. At (with_births r words births) lines old ts) (split words lines i line lt is built) at)
 
   first_left : (rest : List (Row M O)) → rest ≡ drop (length old.rows) rows → length old.rows < length rows → (row : Row M O) × (row ≡ get_or rows (length old.rows) row)
   first_left rest e lt = there rows (length old.rows) lt

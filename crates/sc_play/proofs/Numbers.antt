@@ -35,10 +35,6 @@ module _ {M : Type 0} (test : M → Bool) where
       numbers test number (drop i sent) (drop i counts) ≡ cond (test mail) (replicate (get_or counts i 0) number) [] ++ numbers test (number + 1) (drop (i + 1) sent) (drop (i + 1) counts)
   numbers-drop number i sent counts mail lt len is = rw (add-one, add-one) (numbers-drop_suc number i sent counts mail lt len is)
 
-  numbers-none : (number : ℕ) (sent : List M) → numbers test number sent [] ≡ []
-  numbers-none number [] = refl
-  numbers-none number (m ∷ sent) = refl
-
   pub numbers-end : (number i : ℕ) (sent : List M) (counts : List ℕ) → i ≡ min (length sent) (length counts) → numbers test number (drop i sent) (drop i counts) ≡ []
   numbers-end number i [] counts e = let z : i ≡ 0 = omega arith in rw z refl
   numbers-end number i (m ∷ sent) [] e = let z : i ≡ 0 = omega arith in rw z refl

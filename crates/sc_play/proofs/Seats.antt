@@ -1,13 +1,12 @@
 -- Actors by number, and what one more row makes of them.
-use Rattle.std.proofs.Common.{◌≡◌, ℕ, zero, suc, ◌<◌, List, [], ◌∷◌, ◌++◌, length, Bool, true, false, not, cond, eqb, find, refl, sym, ◌∙◌, ap, subst, arith, set, get_or, ◌-◌, Option, None, Some}
-use Rattle.std.specs.Prelude.{slice_get, IsSomeAnd}
+use Rattle.std.proofs.Common.{◌≡◌, ℕ, zero, suc, List, [], ◌∷◌, ◌++◌, Bool, true, false, not, cond, eqb, find, refl, sym, ◌∙◌, ap, subst, set, Option, None, Some}
+use Rattle.std.specs.Prelude.{slice_get}
 use Rattle.std.specs.List.{list_any}
 use Rattle.std.specs.Option.{option_map}
-use Rattle.std.proofs.lemmas.Option.{get_or_from_slice_get}
 use Rattle.std.proofs.lemmas.Bool.{false≢true, eqb-true, eq-eqb, ne_eqb, eqb-false, and_parts, or_parts, not-true}
 use Rattle.sc_actor.specs.declared.rows.Row.{Row}
 use Rattle.sc_actor.specs.declared.actors.Seat.{Seat}
-use Rattle.sc_actor.specs.Mail.{mails, numbered, is_for, has_crashed}
+use Rattle.sc_actor.specs.Mail.{mails}
 use Rattle.sc_actor.specs.Replay.{Table, input_of, acted, value, values}
 use Rattle.sc_actor.specs.System.{numbers_of}
 use Rattle.sc_actor.proofs.ReplayLemmas.{value-snoc}
@@ -45,19 +44,6 @@ finds_by s ss who more false t place e = finds_later s ss who place more t (plac
 pub found_at : {A : Type 0} (seats : List (Seat A)) (who : ℕ) → Finds seats who
 found_at [] who place e = cc
 found_at (s ∷ ss) who place e = finds_by s ss who (found_at ss who) (eqb s.who who) refl place e
-
--- no seat has the number
-none_later : {A : Type 0} (s : Seat A) (ss : List (Seat A)) (who : ℕ) (o : Option ℕ) → place_of ss who ≡ o → option_map suc o ≡ None → place_of ss who ≡ None
-none_later s ss who None e h = e
-none_later s ss who (Some k) e h = cc
-
-none_by : {A : Type 0} (s : Seat A) (ss : List (Seat A)) (who : ℕ) → (place_of ss who ≡ None → find (λ x. eqb x.who who) ss ≡ None) → (b : Bool) → eqb s.who who ≡ b → place_of (s ∷ ss) who ≡ None → find (λ x. eqb x.who who) (s ∷ ss) ≡ None
-none_by s ss who more true t e = absurd (let h : Some 0 ≡ None = rw t at e in cc)
-none_by s ss who more false t e = find-cons s ss who t ∙ more (none_later s ss who (place_of ss who) refl (sym (place_of-cons s ss who t) ∙ e))
-
-pub not_found : {A : Type 0} (seats : List (Seat A)) (who : ℕ) → place_of seats who ≡ None → find (λ x. eqb x.who who) seats ≡ None
-not_found [] who e = refl
-not_found (s ∷ ss) who e = none_by s ss who (not_found ss who) (eqb s.who who) refl e
 
 -- an actor has a place
 some_by : {A : Type 0} (s : Seat A) (ss : List (Seat A)) (who : ℕ) → (list_any (λ a. eqb a who) (numbers_of ss) ≡ true → (place : ℕ) × (place_of ss who ≡ Some place)) → (b : Bool) → eqb s.who who ≡ b → list_any (λ a. eqb a who) (numbers_of (s ∷ ss)) ≡ true → (place : ℕ) × (place_of (s ∷ ss) who ≡ Some place)
@@ -128,38 +114,6 @@ module _ {A M O : Type 0} (table : Table A M O) where
       let head = value-other s rows row (rw own differ) in
       let rest = values-snoc ss rows row i seat parts.1 at own in
       rw (head, rest) refl
-
-slice_get-bound : {X : Type 0} (xs : List X) (i : ℕ) (x : X) → slice_get xs i ≡ Some x → i < length xs
-slice_get-bound [] i x e = cc
-slice_get-bound (y ∷ xs) zero x e = omega arith
-slice_get-bound (y ∷ xs) (suc i) x e = let h = slice_get-bound xs i x e in omega arith
-
--- Mail that is for any actor has been sent, and its receiver has a place.
-pub record Addressed {A M : Type 0} (receiver : M → ℕ) (seats : List (Seat A)) (sent : List M) (number : ℕ) (mail : M) : Type 0 where
-  pub is : numbered sent number ≡ Some mail
-  pub bound : number - 1 < length sent
-  pub read : (d : M) → get_or sent (number - 1) d ≡ mail
-  pub place : ℕ
-  pub placed : place_of seats (receiver mail) ≡ Some place
-
-addressed_by : {A M O : Type 0} (receiver : M → ℕ) (seats : List (Seat A)) (rows : List (Row M O)) (sent : List M) (at : ℕ) (o : Option M) → slice_get sent at ≡ o → IsSomeAnd o (λ mail. is_for receiver (numbers_of seats) rows None mail ≡ true) → (mail : M) × Addressed receiver seats sent (suc at) mail
-addressed_by receiver seats rows sent at None e h = absurd h
-addressed_by receiver seats rows sent at (Some m) e h =
-    let there = has_place seats (receiver m) (and_parts (list_any (λ actor. eqb actor (receiver m)) (numbers_of seats)) (not (has_crashed rows (receiver m))) h).0 in
-    let minus : suc at - 1 ≡ at = omega arith in (
-      m,
-      record {
-        is = e;
-        bound = rw minus (slice_get-bound sent at m e);
-        read = λ d. rw minus (get_or_from_slice_get sent at m d e);
-        place = there.0;
-        placed = there.1;
-      },
-    )
-
-pub addressed : {A M O : Type 0} (receiver : M → ℕ) (seats : List (Seat A)) (rows : List (Row M O)) (sent : List M) (number : ℕ) → IsSomeAnd (numbered sent number) (λ mail. is_for receiver (numbers_of seats) rows None mail ≡ true) → (mail : M) × Addressed receiver seats sent number mail
-addressed receiver seats rows sent zero h = absurd h
-addressed receiver seats rows sent (suc at) h = addressed_by receiver seats rows sent at (slice_get sent at) refl h
 
 pub place_same : (i j : ℕ) → Some i ≡ Some j → i ≡ j
 place_same i j e = cc

@@ -1,32 +1,29 @@
 -- How a stage goes on.
-use Rattle.std.proofs.Common.{◌≡◌, ℕ, suc, ◌+◌, ◌-◌, ◌<◌, ◌≤◌, List, [], ◌∷◌, ◌++◌, length, Bool, true, false, ◌||◌, not, cond, eqb, find, refl, sym, ◌∙◌, ap, subst, arith, set, get_or, drop, drop-cons, add-zero, add-one, Option, None, Some}
-use Rattle.std.specs.Prelude.{slice_get, is_none, is_some, option_and_then}
+use Rattle.std.proofs.Common.{◌≡◌, ℕ, suc, ◌+◌, ◌<◌, ◌≤◌, List, [], ◌∷◌, ◌++◌, length, Bool, true, false, ◌||◌, not, cond, eqb, refl, sym, ◌∙◌, ap, subst, set, get_or, drop, drop-cons, add-zero, add-one, None, Some}
+use Rattle.std.specs.Prelude.{slice_get, is_none, option_and_then}
 use Rattle.std.specs.List.{flat_map, All}
 use Rattle.std.specs.Option.{option_map}
 use Rattle.std.proofs.Math.ListN.{drop_of_length-le}
-use Rattle.std.proofs.lemmas.Bool.{ne_eqb, false≢true}
+use Rattle.std.proofs.lemmas.Bool.{false≢true}
 use Rattle.sc_actor.specs.declared.rows.Row.{Row}
 use Rattle.sc_actor.specs.declared.actors.Seat.{Seat}
 use Rattle.sc_actor.specs.declared.rows.Event.{Event}
 use Rattle.sc_actor.specs.declared.rows.Event.TheVariants.{Deliver, Tick, Go, Told, Crash, Drop, Again}
 use Rattle.sc_actor.specs.declared.schedules.Line.{Line}
 use Rattle.sc_actor.specs.declared.schedules.Line.TheVariants.{Go as GoLine, Deliver as DeliverLine, Drop as DropLine, Again as AgainLine, Tick as TickLine, Crash as CrashLine, Told as ToldLine, Settle, Free, Storm}
-use Rattle.sc_actor.specs.Mail.{mails, pending}
+use Rattle.sc_actor.specs.Mail.{mails}
 use Rattle.sc_actor.specs.Replay.{Table, input_of, acted, value, values}
-use Rattle.sc_actor.specs.Counted.{journal_bytes}
-use Rattle.sc_actor.specs.System.{System, numbers_of, row_of, acts, network, waiting, kth}
-use Rattle.sc_actor.specs.Walk.{Task, Once, Allows, is_over, is_quiet, skips, cuts, rest_of, line_row, first_of, tasks_of}
+use Rattle.sc_actor.specs.System.{System, numbers_of, row_of, network}
+use Rattle.sc_actor.specs.Walk.{Task, Once, Allows, is_over, is_quiet, skips, cuts, rest_of, line_row, tasks_of}
 use Rattle.sc_actor.proofs.ReplayLemmas.{value-snoc}
-use Rattle.sc_actor.proofs.Induction.{find-who}
-use Rattle.sc_actor.proofs.WalkLemmas.{Stands-begin, Stands-over, Stands-row, Stands-next, Stands-whole}
+use Rattle.sc_actor.proofs.WalkLemmas.{Stands-begin, Stands-over, Stands-row}
 use Rattle.sc_play.specs.declared.stages.Stage.{Stage}
 use Rattle.sc_play.specs.declared.stages.Deed.{Deed}
 use Rattle.sc_play.specs.Deeds.{of_network, is_number, can_act, row_made, line_deed, lowest_deed, is_built}
 use Rattle.sc_play.specs.Stages.{Makes, place_of, seat_after, are_apart}
-use Rattle.sc_play.specs.Moves.{At, Rules, with_births, Did, Refused, IsFull, Goes, Fills, many, line_task}
-use Rattle.sc_play.specs.Outcome.{HasEnded}
+use Rattle.sc_play.specs.Moves.{At, Rules, with_births, Did, Goes, many, line_task}
 use Rattle.sc_play.proofs.Seats.{found_at, has_place, place_of-values, values-snoc, slice_get-values, numbers_of-values}
-use Rattle.sc_play.proofs.DeedLemmas.{line_row-deed, line_deed-can, lowest-deed, lowest_deed-can, quiet_is, first-deed, lowest_is}
+use Rattle.sc_play.proofs.DeedLemmas.{line_row-deed, line_deed-can, quiet_is}
 
 -- a row of the network leaves each actor as it is
 same_both : {A : Type 0} (b : Bool) (x : A) → cond b x x ≡ x
@@ -137,14 +134,6 @@ module _ {A M O : Type 0} (r : Rules A M O) (words : ℕ → ℕ → ℕ × ℕ)
         apart = at.apart;
       }
 
-  -- a row of the first task that passes the limit
-  pub At-refused : (deed : Deed O) → can_act (numbers_of old.seats.items) deed ≡ true → journal_bytes r.weighs old.rows ≤ r.limit → Refused r old new deed → Fits (with_births r words births) old.rows task deed → IsFull (with_births r words births) r.weighs lines r.limit new.rows
-  At-refused deed can within refused fits =
-      let s = with_births r words births in
-      let m = made s old.rows old.seats.items refused.seats deed refused.row at.seats at.apart refused.makes can in
-      let next = Stands-next s lines old.rows task rest old.skipped old.unsettled refused.row (record { lawful = at.lawful; place = at.place }) (fits refused.row m.row_is).0 (fits refused.row m.row_is).1 in
-      rw refused.rows record { lawful = at.lawful; within = within; row = refused.row; next = next; passes = refused.passes }
-
 or_true : (b : Bool) → (b || true) ≡ true
 or_true true = refl
 or_true false = refl
@@ -158,30 +147,6 @@ module _ {A M O : Type 0} (s : System A M O) (rows : List (Row M O)) where
   fits_line line deed is row made_row =
       let same : line_row s rows line ≡ Some row = line_row-deed s rows line ∙ ap (option_and_then (row_made s rows)) is ∙ made_row in
       (ap is_none same, same)
-
-  pub made_who : (deed : Deed O) (row : Row M O) (b : Bool) → of_network deed.event ≡ b → b ≡ false → row_made s rows deed ≡ Some row → row.who ≡ deed.who
-  made_who deed row true own e is = absurd (false≢true (sym e))
-  made_who deed row false own e is = acted_who (find (λ seat. eqb seat.who deed.who) s.births) refl (subst (λ b. cond b (Some (network deed.event)) (acts s rows deed.who deed.event) ≡ Some row) own is)
-    where
-      acted_who : (o : Option (Seat A)) → find (λ seat. eqb seat.who deed.who) s.births ≡ o → option_map (λ seat. row_of s.table seat rows deed.event) o ≡ Some row → row.who ≡ deed.who
-      acted_who None found e = cc
-      acted_who (Some seat) found e =
-          let same : row_of s.table seat rows deed.event ≡ row = cc in
-          ap (λ x. x.who) (sym same) ∙ find-who s.births deed.who seat found
-
-  fits_many : (free : Bool) (left : ℕ) (deed : Deed O) → lowest_deed s.receiver (numbers_of s.births) rows ≡ Some deed → 0 < left → Fits s rows (many free left) deed
-  fits_many free left deed is more row made_row =
-      let low = lowest_is s.receiver s.births rows deed is in
-      let first : kth (waiting s rows None) 1 ≡ Some low.number = low.first in
-      let some_left : eqb left 0 ≡ false = ne_eqb left 0 (λ e. absurd (omega arith)) in
-      by free (rw (some_left, first) refl)
-    where
-      by : (free : Bool) → (eqb left 0 || is_quiet s rows) ≡ false → (is_over s rows (many free left) ≡ false) × Allows s rows (many free left) row
-      by false opens = (opens, lowest-deed s rows ∙ ap (option_and_then (row_made s rows)) is ∙ made_row)
-      by true opens =
-          let low = lowest_is s.receiver s.births rows deed is in
-          let number : row.who ≡ deed.who = made_who deed row (of_network deed.event) refl (ap (λ d. of_network d.event) low.is) made_row in
-          (opens, ap (first_of s rows) number ∙ first-deed s rows deed is ∙ made_row)
 
 module _ {A M O : Type 0} (r : Rules A M O) (old new : Stage A M O) where
   pub numbers-at : (words : ℕ → ℕ → ℕ × ℕ) (births : List (Seat A)) (lines : List (Line O)) (tasks : List (Task O)) → At (with_births r words births) lines old tasks → numbers_of old.seats.items ≡ numbers_of births
@@ -203,31 +168,11 @@ module _ {A M O : Type 0} (r : Rules A M O) (old new : Stage A M O) where
         At-did r words births lines old new (Once line) rest at deed (line_deed-can r.receiver old.seats.items old.rows line deed is) did
         (fits_line (with_births r words births) old.rows line deed (line-at words births lines (Once line ∷ rest) at ∙ is))
 
-    pub Fills-line : (deed : Deed O) → line_deed r.receiver (numbers_of old.seats.items) old.rows line ≡ Some deed → journal_bytes r.weighs old.rows ≤ r.limit → Refused r old new deed → Fills r old (Once line ∷ []) new
-    Fills-line deed is within refused = λ words births lines rest at.
-        At-refused r words births lines old new (Once line) rest at deed (line_deed-can r.receiver old.seats.items old.rows line deed is) within refused
-        (fits_line (with_births r words births) old.rows line deed (line-at words births lines (Once line ∷ rest) at ∙ is))
-
   pub lowest-at : (words : ℕ → ℕ → ℕ × ℕ) (births : List (Seat A)) (lines : List (Line O)) (tasks : List (Task O)) → At (with_births r words births) lines old tasks → lowest_deed {O = O} r.receiver (numbers_of births) old.rows ≡ lowest_deed r.receiver (numbers_of old.seats.items) old.rows
   lowest-at words births lines tasks at = ap (λ numbers. lowest_deed r.receiver numbers old.rows) (sym (numbers-at words births lines tasks at))
 
   quiet-at : (words : ℕ → ℕ → ℕ × ℕ) (births : List (Seat A)) (lines : List (Line O)) (tasks : List (Task O)) → At (with_births r words births) lines old tasks → is_quiet (with_births r words births) old.rows ≡ is_none (lowest_deed {O = O} r.receiver (numbers_of old.seats.items) old.rows)
   quiet-at words births lines tasks at = quiet_is {O = O} r.receiver births old.rows ∙ ap is_none (lowest-at words births lines tasks at)
-
-  pub Goes-lowest : (free : Bool) (left : ℕ) (deed : Deed O) → lowest_deed r.receiver (numbers_of old.seats.items) old.rows ≡ Some deed → 0 < left → Did r old new deed → Goes r old (many free left ∷ []) new (many free (left - 1) ∷ [])
-  Goes-lowest free left deed is more did = λ words births lines rest at.
-      subst (λ ts. At (with_births r words births) lines new (ts ++ rest)) (rest_many free)
-      (At-did r words births lines old new (many free left) rest at deed (lowest_deed-can r.receiver old.seats.items old.rows deed is) did
-      (fits_many (with_births r words births) old.rows free left deed (lowest-at words births lines (many free left ∷ rest) at ∙ is) more))
-    where
-      rest_many : (free : Bool) → rest_of {O = O} (many free left) ≡ many free (left - 1) ∷ []
-      rest_many true = refl
-      rest_many false = refl
-
-  pub Fills-lowest : (free : Bool) (left : ℕ) (deed : Deed O) → lowest_deed r.receiver (numbers_of old.seats.items) old.rows ≡ Some deed → 0 < left → journal_bytes r.weighs old.rows ≤ r.limit → Refused r old new deed → Fills r old (many free left ∷ []) new
-  Fills-lowest free left deed is more within refused = λ words births lines rest at.
-      At-refused r words births lines old new (many free left) rest at deed (lowest_deed-can r.receiver old.seats.items old.rows deed is) within refused
-      (fits_many (with_births r words births) old.rows free left deed (lowest-at words births lines (many free left ∷ rest) at ∙ is) more)
 
   many_over : (s : System A M O) (free : Bool) (left : ℕ) → (eqb left 0 || is_quiet s old.rows) ≡ true → is_over s old.rows (many free left) ≡ true
   many_over s true left e = e
@@ -262,19 +207,8 @@ module _ {A M O : Type 0} (r : Rules A M O) where
   pub Goes-then : (first second third : Stage A M O) (a b c : List (Task O)) → Goes r first a second b → Goes r second b third c → Goes r first a third c
   Goes-then first second third a b c p q = λ words births lines rest at. q words births lines rest (p words births lines rest at)
 
-  pub Fills-then : (first second third : Stage A M O) (a b : List (Task O)) → Goes r first a second b → Fills r second b third → Fills r first a third
-  Fills-then first second third a b p q = λ words births lines rest at. q words births lines rest (p words births lines rest at)
-
   pub Goes-count : (old new : Stage A M O) (free : Bool) (m n n' : ℕ) → n ≡ n' → Goes r old (many free m ∷ []) new (many free n ∷ []) → Goes r old (many free m ∷ []) new (many free n' ∷ [])
   Goes-count old new free m n n' e p = subst (λ x. Goes r old (many free m ∷ []) new (many free x ∷ [])) e p
-
-pub cut_off : {X : Type 0} (cut : Bool) (o : Option X) → is_some o ≡ true → true ≡ (cut || not (is_none o))
-cut_off cut None e = absurd (false≢true e)
-cut_off cut (Some x) e = sym (or_true cut)
-
-pub not_cut_off : {X : Type 0} (cut : Bool) (o : Option X) → is_some o ≡ false → cut ≡ (cut || not (is_none o))
-not_cut_off cut None e = sym (or_false cut)
-not_cut_off cut (Some x) e = absurd (false≢true (sym e))
 
 tasks_one : {O : Type 0} (words : ℕ → ℕ → ℕ × ℕ) (line : Line O) → is_built line ≡ true → tasks_of words line ≡ line_task line ∷ []
 tasks_one words (Settle most) e = refl
@@ -288,6 +222,10 @@ tasks_one words (TickLine who) e = refl
 tasks_one words (CrashLine who) e = refl
 tasks_one words (ToldLine who order) e = refl
 
+-- the tasks from a line on begin with the line's own
+pub split : {O : Type 0} (words : ℕ → ℕ → ℕ × ℕ) (lines : List (Line O)) (i : ℕ) (line : Line O) → i < length lines → line ≡ get_or lines i line → is_built line ≡ true → flat_map (tasks_of words) (drop i lines) ≡ line_task line ∷ flat_map (tasks_of words) (drop (i + 1) lines)
+split words lines i line lt is built = rw (add-one, drop-cons lines i line lt, sym is) (ap (λ ts. ts ++ flat_map (tasks_of words) (drop (suc i) lines)) (tasks_one words line built))
+
 module _ {A M O : Type 0} (r : Rules A M O) (words : ℕ → ℕ → ℕ × ℕ) (births : List (Seat A)) (lines : List (Line O)) where
   pub At-begin : (stage : Stage A M O) → are_apart births ≡ true → stage.seats.items ≡ births → stage.rows ≡ [] → stage.skipped ≡ 0 → stage.unsettled ≡ false →
       At (with_births r words births) lines stage (flat_map (tasks_of words) (drop 0 lines))
@@ -300,27 +238,13 @@ module _ {A M O : Type 0} (r : Rules A M O) (words : ℕ → ℕ → ℕ × ℕ)
         apart = apart;
       }
 
-  pub split : (i : ℕ) (line : Line O) → i < length lines → line ≡ get_or lines i line → is_built line ≡ true → flat_map (tasks_of words) (drop i lines) ≡ line_task line ∷ flat_map (tasks_of words) (drop (i + 1) lines)
-  split i line lt is built = rw (add-one, drop-cons lines i line lt, sym is) (ap (λ ts. ts ++ flat_map (tasks_of words) (drop (suc i) lines)) (tasks_one words line built))
-
   pub At-line : (old new : Stage A M O) (i : ℕ) (line : Line O) → i < length lines → line ≡ get_or lines i line → is_built line ≡ true → At (with_births r words births) lines old (flat_map (tasks_of words) (drop i lines)) → Goes r old (line_task line ∷ []) new [] →
       At (with_births r words births) lines new (flat_map (tasks_of words) (drop (i + 1) lines))
   At-line old new i line lt is built at goes =
-      goes words births lines (flat_map (tasks_of words) (drop (i + 1) lines)) (subst (λ ts. At (with_births r words births) lines old ts) (split i line lt is built) at)
-
-  pub Full-line : (old new : Stage A M O) (i : ℕ) (line : Line O) → i < length lines → line ≡ get_or lines i line → is_built line ≡ true → At (with_births r words births) lines old (flat_map (tasks_of words) (drop i lines)) → Fills r old (line_task line ∷ []) new →
-      IsFull (with_births r words births) r.weighs lines r.limit new.rows
-  Full-line old new i line lt is built at fills =
-      fills words births lines (flat_map (tasks_of words) (drop (i + 1) lines)) (subst (λ ts. At (with_births r words births) lines old ts) (split i line lt is built) at)
+      goes words births lines (flat_map (tasks_of words) (drop (i + 1) lines)) (subst (λ ts. At (with_births r words births) lines old ts) (split words lines i line lt is built) at)
 
   pub At-end : (stage : Stage A M O) (i : ℕ) → length lines ≤ i → At (with_births r words births) lines stage (flat_map (tasks_of words) (drop i lines)) → At (with_births r words births) lines stage []
   At-end stage i le at = subst (λ ts. At (with_births r words births) lines stage (flat_map (tasks_of words) ts)) (drop_of_length-le lines le) at
-
-  pub ended : (stage : Stage A M O) (quiet : Bool) → quiet ≡ is_none (kth (pending r.receiver (numbers_of stage.seats.items) stage.rows None) 1) → journal_bytes r.weighs stage.rows ≤ r.limit → At (with_births r words births) lines stage [] → HasEnded (with_births r words births) r.weighs lines r.limit stage.unsettled quiet stage.skipped stage.rows stage.seats.items
-  ended stage quiet is within at =
-      let same : numbers_of stage.seats.items ≡ numbers_of births = ap numbers_of at.seats ∙ numbers_of-values r.table births stage.rows in
-      let whole = Stands-whole (with_births r words births) lines stage.rows stage.skipped stage.unsettled (record { lawful = at.lawful; place = at.place }) in
-      record { lawful = at.lawful; whole = whole.0; within = within; cut_is = sym whole.2; quiet_now = is ∙ ap (λ numbers. is_none (kth (pending r.receiver numbers stage.rows None) 1)) same; skips_are = sym whole.1; actors = at.seats }
 
 -- the line at a place is built where all are
 pub built_at : {O : Type 0} (lines : List (Line O)) → All (λ line. is_built line ≡ true) lines → (i : ℕ) (line : Line O) → i < length lines → line ≡ get_or lines i line → is_built line ≡ true

@@ -1,6 +1,5 @@
 pub mod Deeds
 pub mod Stages
 pub mod Moves
-pub mod Outcome
 pub mod Checks
 pub mod Replays

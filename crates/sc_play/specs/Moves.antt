@@ -1,5 +1,5 @@
 -- How a stage moves along the walk of a schedule.
-use Rattle.std.specs.Prelude.{◌≡◌, ℕ, ◌^◌, ◌<◌, ◌≤◌, List, [], ◌∷◌, ◌++◌, Bool, true, false}
+use Rattle.std.specs.Prelude.{◌≡◌, ℕ, ◌<◌, ◌≤◌, List, [], ◌∷◌, ◌++◌, Bool, true, false}
 use Rattle.sc_actor.specs.declared.rows.Row.{Row}
 use Rattle.sc_actor.specs.declared.actors.Seat.{Seat}
 use Rattle.sc_actor.specs.declared.schedules.Line.{Line}
@@ -11,7 +11,7 @@ use Rattle.sc_actor.specs.System.{System, system}
 use Rattle.sc_actor.specs.Walk.{Task, Once, Settles, Frees, IsLawful, IsNext, place_after, onward}
 use Rattle.sc_play.specs.declared.stages.Stage.{Stage}
 use Rattle.sc_play.specs.declared.stages.Deed.{Deed}
-use Rattle.sc_play.specs.Stages.{are_apart, IsKept, Makes}
+use Rattle.sc_play.specs.Stages.{are_apart, Makes}
 
 -- The journal of the stage is lawful, the walk after it has these tasks left, and each actor is its replay.
 pub record At {A M O : Type 0} (s : System A M O) (lines : List (Line O)) (stage : Stage A M O) (tasks : List (Task O)) : Type 0 where
@@ -20,24 +20,16 @@ pub record At {A M O : Type 0} (s : System A M O) (lines : List (Line O)) (stage
   pub seats : stage.seats.items ≡ values s.table s.births stage.rows
   pub apart : are_apart s.births ≡ true
 
--- What all calls of one player share: the table, whom mail is for, what it weighs, and the limit.
+-- What all calls of one check share: the table, and whom mail is for.
 pub record Rules (A M O : Type 0) : Type 0 where
   pub table : Table A M O
   pub receiver : M → ℕ
-  pub weighs : M → ℕ
-  pub limit : ℕ
 
-abbrev pub rules_of : {A M O : Type 0} → Table A M O → (M → ℕ) → (M → ℕ) → ℕ → Rules A M O
-rules_of table receiver weighs limit = record { table = table; receiver = receiver; weighs = weighs; limit = limit }
+abbrev pub rules_of : {A M O : Type 0} → Table A M O → (M → ℕ) → Rules A M O
+rules_of table receiver = record { table = table; receiver = receiver }
 
 abbrev pub with_births : {A M O : Type 0} → Rules A M O → (ℕ → ℕ → ℕ × ℕ) → List (Seat A) → System A M O
 with_births r words births = system r.table r.receiver words births
-
--- The stage keeps its journal, which is within a limit that can be counted.
-pub record IsReady {A M O : Type 0} (r : Rules A M O) (stage : Stage A M O) : Type 0 where
-  pub kept : IsKept r.weighs stage
-  pub within : stage.bytes ≤ r.limit
-  pub small : r.limit ≤ 2 ^ 30
 
 -- a deed was done: its row joined the journal
 pub record Did {A M O : Type 0} (r : Rules A M O) (old new : Stage A M O) (deed : Deed O) : Type 0 where
@@ -46,14 +38,6 @@ pub record Did {A M O : Type 0} (r : Rules A M O) (old new : Stage A M O) (deed 
   pub rows : new.rows ≡ old.rows ++ row ∷ []
   pub skipped : new.skipped ≡ old.skipped
   pub unsettled : new.unsettled ≡ old.unsettled
-
--- a deed was not done, since its row would pass the limit
-pub record Refused {A M O : Type 0} (r : Rules A M O) (old new : Stage A M O) (deed : Deed O) : Type 0 where
-  pub row : Row M O
-  pub seats : List (Seat A)
-  pub makes : Makes r.table (mails old.rows) old.seats.items seats deed row
-  pub rows : new.rows ≡ old.rows
-  pub passes : r.limit < journal_bytes r.weighs (old.rows ++ row ∷ [])
 
 -- The journal is lawful and within the limit, and a row that may come next passes the limit.
 pub record IsFull {A M O : Type 0} (s : System A M O) (weighs : M → ℕ) (lines : List (Line O)) (limit : ℕ) (journal : List (Row M O)) : Type 0 where
@@ -68,12 +52,6 @@ abbrev pub Goes : {A M O : Type 0} → Rules A M O → Stage A M O → List (Tas
 Goes {A} {M} {O} r old before new after =
     (words : ℕ → ℕ → ℕ × ℕ) (births : List (Seat A)) (lines : List (Line O)) (rest : List (Task O)) →
     At (with_births r words births) lines old (before ++ rest) → At (with_births r words births) lines new (after ++ rest)
-
--- The walk comes to a row that passes the limit.
-abbrev pub Fills : {A M O : Type 0} → Rules A M O → Stage A M O → List (Task O) → Stage A M O → Type 0
-Fills {A} {M} {O} r old before new =
-    (words : ℕ → ℕ → ℕ × ℕ) (births : List (Seat A)) (lines : List (Line O)) (rest : List (Task O)) →
-    At (with_births r words births) lines old (before ++ rest) → IsFull (with_births r words births) r.weighs lines r.limit new.rows
 
 -- a task of many deliveries, free or not
 abbrev pub many : {O : Type 0} → Bool → ℕ → Task O

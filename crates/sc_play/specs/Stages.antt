@@ -1,5 +1,5 @@
 -- What a stage keeps of its journal, and what a deed makes of its actors.
-use Rattle.std.specs.Prelude.{◌≡◌, ℕ, suc, ◌-◌, ◌^◌, ◌==◌, ◌<◌, List, [], ◌∷◌, Bool, true, false, ◌&&◌, not, if◌then◌else◌, Option, None, Some, min, length, slice_get, slice_set}
+use Rattle.std.specs.Prelude.{◌≡◌, ℕ, suc, ◌^◌, ◌==◌, ◌<◌, List, [], ◌∷◌, Bool, true, false, ◌&&◌, not, if◌then◌else◌, Option, None, Some, length, slice_get, slice_set}
 use Rattle.std.specs.List.{list_any}
 use Rattle.std.specs.Option.{option_map}
 use Rattle.sc_actor.specs.declared.rows.Row.{Row}
@@ -7,7 +7,6 @@ use Rattle.sc_actor.specs.declared.actors.Seat.{Seat}
 use Rattle.sc_actor.specs.declared.rows.Event.{Event}
 use Rattle.sc_actor.specs.Mail.{mails, copies}
 use Rattle.sc_actor.specs.Replay.{Table, input_of, acted}
-use Rattle.sc_actor.specs.Counted.{journal_bytes}
 use Rattle.sc_actor.specs.System.{network}
 use Rattle.sc_play.specs.declared.stages.Stage.{Stage}
 use Rattle.sc_play.specs.declared.stages.Deed.{Deed}
@@ -18,11 +17,10 @@ abbrev pub are_apart : {A : Type 0} → List (Seat A) → Bool
 are_apart [] = true
 are_apart (seat ∷ seats) = not (list_any (λ other. other.who == seat.who) seats) && are_apart seats
 
--- The mail, the copies and the bytes are those of the journal, which is small enough to be counted.
-pub record IsKept {A M O : Type 0} (weighs : M → ℕ) (stage : Stage A M O) : Type 0 where
+-- The mail and the copies are those of the journal, which is small enough to be counted.
+pub record IsKept {A M O : Type 0} (stage : Stage A M O) : Type 0 where
   pub all_mails : stage.mails.items ≡ mails stage.rows
   pub all_copies : stage.copies.items ≡ copies stage.rows
-  pub all_bytes : stage.bytes ≡ min (journal_bytes weighs stage.rows) (2 ^ 64 - 1)
   pub few_rows : length stage.rows < 2 ^ 31
   pub few_mails : length (mails stage.rows) < 2 ^ 31
 

@@ -1,6 +1,5 @@
 //! A row joins the journal.
-ghost use Rattle.std.specs.Prelude.{◌≡◌, ◌<◌, ◌≤◌, ◌+◌, ◌-◌, ◌^◌, ◌++◌, ◌∷◌, [], All, min, length, OnOk, replicate};
-ghost use Rattle.sc_actor.specs.Counted.{row_bytes};
+ghost use Rattle.std.specs.Prelude.{◌≡◌, ◌<◌, ◌+◌, ◌-◌, ◌^◌, ◌++◌, ◌∷◌, [], All, length, OnOk, replicate};
 ghost use Rattle.sc_actor.specs.Mail.{counts_at, mails};
 ghost use Rattle.sc_play.specs.Stages.{IsKept};
 
@@ -54,37 +53,23 @@ pub fn add_mails<M: Dup + Drop>(
     Ok(())
 }
 
-/// The counted bytes of a row, up to 2^64 - 1.
-pub fn row_bytes<M: Parcel, O>(row: &Row<M, O>) -> u64
-    ensures { result ≡ min (row_bytes M.weighs row.now) (2 ^ 64 - 1) }
-{
-    let mut bytes = 64u64;
-    for mail in row.sent.as_slice() {
-        bytes = bytes.saturating_add(256);
-        bytes = bytes.saturating_add(mail.weight());
-    }
-    bytes
-}
-
-/// Appends a row to the journal of a stage, of which the counted bytes are then these.
+/// Appends a row to the journal of a stage.
 pub fn append<A, M: Parcel + Drop, O: Drop>(
     alloc: Global,
     stage: &mut Stage<A, M, O>,
     row: Row<M, O>,
 ) -> Result<(), OutOfMemory>
-    requires kept { IsKept M.weighs stage.old }
+    requires kept { IsKept stage.old }
     requires rows { length stage.old.rows + 1 < 2 ^ 31 }
     requires mails { length (mails stage.old.rows) + length row.sent < 2 ^ 31 }
-    ensures kept { OnOk result (IsKept M.weighs stage.new) }
+    ensures kept { OnOk result (IsKept stage.new) }
     ensures rows { OnOk result (stage.new.rows ≡ stage.old.rows ++ row ∷ []) }
     ensures seats { stage.new.seats.items ≡ stage.old.seats.items }
     ensures skipped { stage.new.skipped ≡ stage.old.skipped }
     ensures unsettled { stage.new.unsettled ≡ stage.old.unsettled }
 {
-    let bytes = row_bytes(&row);
     count(&mut stage.copies, &row.event);
     add_copies(&mut stage.copies, row.sent.len())?;
     add_mails(alloc, &mut stage.mails, row.sent.as_slice())?;
-    stage.bytes = stage.bytes.saturating_add(bytes);
     stage.rows.push(row)
 }

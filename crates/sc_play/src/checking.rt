@@ -27,13 +27,13 @@ fn take_row<A: Actor, E: Equality<A::Mail, A::Order>>(
     deed: Deed<A::Order>,
     row: &Row<A::Mail, A::Order>,
 ) -> Result<bool, OutOfMemory>
-    requires kept { IsKept A.Mail.weighs stage.old }
+    requires kept { IsKept stage.old }
     requires can { can_act (numbers_of stage.old.seats.items) deed ≡ true }
     requires rows { length stage.old.rows + 1 < 2 ^ 31 }
     requires mails { length (mails stage.old.rows) + length row.now.sent < 2 ^ 31 }
     ensures took { IfOk result (λ same. MatchBool same
-        (Took (rules_of A.table A.Mail.receiver A.Mail.weighs 0) stage.old stage.new deed row.now)
-        (Misses (rules_of A.table A.Mail.receiver A.Mail.weighs 0) stage.old deed row.now)) }
+        (Took (rules_of A.table A.Mail.receiver) stage.old stage.new deed row.now)
+        (Misses (rules_of A.table A.Mail.receiver) stage.old deed row.now)) }
     ensures skipped { OnOk result (stage.new.skipped ≡ stage.old.skipped) }
 {
     let made = make_row(alloc, &mut stage.seats, &stage.mails, deed)?;
@@ -52,9 +52,9 @@ fn check_once<A: Actor, E: Equality<A::Mail, A::Order>>(
     line: &Line<A::Order>,
     rows: &[Row<A::Mail, A::Order>],
 ) -> Result<Checked, OutOfMemory>
-    requires taking { IsTaking A.Mail.weighs stage.old rows.now }
+    requires taking { IsTaking stage.old rows.now }
     requires room { stage.old.skipped < 2 ^ 64 - 1 }
-    ensures is { IfOk result (λ checked. IsChecked (rules_of A.table A.Mail.receiver A.Mail.weighs 0) stage.old (Once line.now ∷ []) stage.new rows.now checked) }
+    ensures is { IfOk result (λ checked. IsChecked (rules_of A.table A.Mail.receiver) stage.old (Once line.now ∷ []) stage.new rows.now checked) }
     ensures skipped { OnOk result (stage.new.skipped ≤ stage.old.skipped + 1) }
 {
     let Some(deed) = line_deed(alloc, stage, line)? else {
@@ -75,7 +75,7 @@ fn check_once<A: Actor, E: Equality<A::Mail, A::Order>>(
 
 // The delivery that a line of many may make next: the lowest of all, or the first of one actor.
 fn chosen_deed<A, M: Parcel, O>(stage: &Stage<A, M, O>, free: bool, who: u32) -> Option<Deed<O>>
-    requires { IsKept M.weighs stage.now }
+    requires { IsKept stage.now }
     ensures is { result ≡ chosen_deed M.receiver (numbers_of stage.now.seats.items) stage.now.rows free who }
     ensures can { IfSome result (λ deed. can_act (numbers_of stage.now.seats.items) deed ≡ true) }
 {
@@ -95,8 +95,8 @@ fn check_many<A: Actor, E: Equality<A::Mail, A::Order>>(
     free: bool,
     rows: &[Row<A::Mail, A::Order>],
 ) -> Result<Checked, OutOfMemory>
-    requires taking { IsTaking A.Mail.weighs stage.old rows.now }
-    ensures is { IfOk result (λ checked. IsChecked (rules_of A.table A.Mail.receiver A.Mail.weighs 0) stage.old (many free most ∷ []) stage.new rows.now checked) }
+    requires taking { IsTaking stage.old rows.now }
+    ensures is { IfOk result (λ checked. IsChecked (rules_of A.table A.Mail.receiver) stage.old (many free most ∷ []) stage.new rows.now checked) }
     ensures skipped { OnOk result (stage.new.skipped ≡ stage.old.skipped) }
 {
     for done in 0..most {
@@ -130,9 +130,9 @@ pub fn check_line<A: Actor, E: Equality<A::Mail, A::Order>>(
     line: &Line<A::Order>,
     rows: &[Row<A::Mail, A::Order>],
 ) -> Result<Checked, OutOfMemory>
-    requires taking { IsTaking A.Mail.weighs stage.old rows.now }
+    requires taking { IsTaking stage.old rows.now }
     requires room { stage.old.skipped < 2 ^ 64 - 1 }
-    ensures is { IfOk result (λ checked. IsChecked (rules_of A.table A.Mail.receiver A.Mail.weighs 0) stage.old (line_task line.now ∷ []) stage.new rows.now checked) }
+    ensures is { IfOk result (λ checked. IsChecked (rules_of A.table A.Mail.receiver) stage.old (line_task line.now ∷ []) stage.new rows.now checked) }
     ensures skipped { OnOk result (stage.new.skipped ≤ stage.old.skipped + 1) }
 {
     match line {

@@ -1,4 +1,4 @@
-//! The conditions of a player, as tests.
+//! The conditions of a schedule and its rows, as tests.
 ghost use Rattle.std.specs.Prelude.{◌≡◌, ◌↔◌, ◌==◌, ◌<◌, ◌^◌, IsTrue, true, length, All};
 ghost use Rattle.sc_actor.specs.Mail.{mails};
 ghost use Rattle.std.specs.List.{list_any, list_all};

@@ -12,7 +12,7 @@ use std::alloc::Global;
 
 // Whether a mail was sent to an actor that has not crashed.
 fn may_repeat<A, M: Parcel, O>(stage: &Stage<A, M, O>, mail: u32) -> bool
-    requires { IsKept M.weighs stage.now }
+    requires { IsKept stage.now }
     ensures { result ≡ may_repeat M.receiver (numbers_of stage.now.seats.items) stage.now.rows mail }
 {
     if mail == 0 || mail as usize > stage.mails.len() {
@@ -42,7 +42,7 @@ pub fn line_deed<A, M: Parcel, O: Dup + Drop>(
     stage: &Stage<A, M, O>,
     line: &Line<O>,
 ) -> Result<Option<Deed<O>>, OutOfMemory>
-    requires { IsKept M.weighs stage.now }
+    requires { IsKept stage.now }
     ensures is { IfOk result (λ deed. deed ≡ line_deed M.receiver (numbers_of stage.now.seats.items) stage.now.rows line.now) }
     ensures can { IfOk result (λ found. IfSome found (λ deed. can_act (numbers_of stage.now.seats.items) deed ≡ true)) }
 {
@@ -72,7 +72,7 @@ pub fn line_deed<A, M: Parcel, O: Dup + Drop>(
 
 /// The delivery of the lowest-numbered pending mail of all, or none where no mail is pending.
 pub fn lowest_deed<A, M: Parcel, O>(stage: &Stage<A, M, O>) -> Option<Deed<O>>
-    requires { IsKept M.weighs stage.now }
+    requires { IsKept stage.now }
     ensures is { result ≡ lowest_deed M.receiver (numbers_of stage.now.seats.items) stage.now.rows }
     ensures can { IfSome result (λ deed. can_act (numbers_of stage.now.seats.items) deed ≡ true) }
 {
@@ -87,7 +87,7 @@ pub fn lowest_deed<A, M: Parcel, O>(stage: &Stage<A, M, O>) -> Option<Deed<O>>
 
 /// The delivery of the first pending mail of an actor, or none where it has no pending mail.
 pub fn first_deed<A, M: Parcel, O>(stage: &Stage<A, M, O>, who: u32) -> Option<Deed<O>>
-    requires { IsKept M.weighs stage.now }
+    requires { IsKept stage.now }
     ensures is { result ≡ line_deed M.receiver (numbers_of stage.now.seats.items) stage.now.rows (Line.Deliver who 1) }
     ensures can { IfSome result (λ deed. can_act (numbers_of stage.now.seats.items) deed ≡ true) }
 {

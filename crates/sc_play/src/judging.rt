@@ -27,7 +27,7 @@ pub struct Replayed<A> {
 
 // What a stage leaves.
 fn left_by<A: Actor>(stage: Stage<A, A::Mail, A::Order>) -> Replayed<A>
-    requires { IsKept A.Mail.weighs stage }
+    requires { IsKept stage }
     ensures { result ≡ record { seats = stage.seats; quiet = is_none (kth (pending A.Mail.receiver (numbers_of stage.seats.items) stage.rows None) 1); skipped = stage.skipped; unsettled = stage.unsettled } }
 {
     let quiet = is_quiet(&stage);
@@ -60,7 +60,6 @@ pub fn replay<A: Actor, E: Equality<A::Mail, A::Order>>(
         rows: Journal::new(alloc),
         mails: Vec::new(alloc),
         copies: Vec::new(alloc),
-        bytes: 0,
         skipped: 0,
         unsettled: false,
     };

@@ -1,4 +1,4 @@
-//! A schedule played over a plain list of rows, and plain functions that look a journal over.
+//! What rows leave of the actors of a schedule, if they are lawful, and plain functions that look a journal over.
 #![tactic(auto)]
 
 mod appending;
@@ -10,18 +10,13 @@ mod judging;
 mod looking;
 mod making;
 mod pending;
-mod playing;
-mod running;
 mod sames;
-mod schedules;
 mod stages;
 
 pub use conditions::{are_apart, are_built, are_few};
 pub use judging::{Replayed, is_lawful, replay};
 pub use looking::pending_of;
-pub use playing::Played;
 pub use sames::Equality;
-pub use schedules::play;
 
 #[cfg(test)]
 mod tests;

@@ -123,7 +123,7 @@ fn kth_pending<A, M: Parcel, O>(
 
 /// The number of the k-th pending mail of a stage, from 1, of one actor or of all.
 pub fn waiting<A, M: Parcel, O>(stage: &Stage<A, M, O>, whose: Option<u32>, k: u32) -> Option<u32>
-    requires { IsKept M.weighs stage.now }
+    requires { IsKept stage.now }
     ensures number { result ≡ kth (pending M.receiver (numbers_of stage.now.seats.items) stage.now.rows whose) k }
     ensures mail { IfSome result (λ number. IsSomeAnd (numbered stage.now.mails.items number)
         (λ mail. is_for M.receiver (numbers_of stage.now.seats.items) stage.now.rows whose mail ≡ true)) }
@@ -143,7 +143,7 @@ pub fn waiting<A, M: Parcel, O>(stage: &Stage<A, M, O>, whose: Option<u32>, k: u
 
 /// Whether a stage has no pending mail.
 pub fn is_quiet<A, M: Parcel, O>(stage: &Stage<A, M, O>) -> bool
-    requires { IsKept M.weighs stage.now }
+    requires { IsKept stage.now }
     ensures { result ≡ is_none (kth (pending M.receiver (numbers_of stage.now.seats.items) stage.now.rows None) 1) }
 {
     waiting(stage, None, 1).is_none()

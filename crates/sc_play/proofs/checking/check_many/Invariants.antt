@@ -5,6 +5,6 @@ use Rattle.sc_play.proofs.checking.check_many.Given as goal
 
 abbrev pub invariant-loop-done : goal.invariant-loop-done
 invariant-loop-done g l =
-    Goes (rules_of g.A.Actor.table g.A.Mail.Parcel.receiver g.A.Mail.Parcel.weighs 0) l.initial.stage (many l.free l.most ∷ []) l.stage (many l.free (l.most - l.done) ∷ [])
-    × IsTaking g.A.Mail.Parcel.weighs l.stage l.rows
+    Goes (rules_of g.A.Actor.table g.A.Mail.Parcel.receiver) l.initial.stage (many l.free l.most ∷ []) l.stage (many l.free (l.most - l.done) ∷ [])
+    × IsTaking l.stage l.rows
     × (l.stage.skipped ≡ l.initial.stage.skipped)

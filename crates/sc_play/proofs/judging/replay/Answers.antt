@@ -1,4 +1,4 @@
-use Rattle.std.proofs.Common.{[], ◌∷◌, length, refl, sym, ◌∙◌, subst, arith}
+use Rattle.std.proofs.Common.{[], ◌∷◌, refl, sym, ◌∙◌, subst, arith}
 use Rattle.sc_play.specs.declared.checked.Checked.TheVariants.{On, Ended}
 use Rattle.sc_play.specs.Checks.{IsChecked}
 use Rattle.sc_play.specs.Moves.{rules_of, line_task}
@@ -9,15 +9,15 @@ use Rattle.sc_play.proofs.judging.replay.Goals as goal
 
 pub loop-line-init : goal.loop-line-init
 loop-line-init g c =
-    let r = rules_of g.A.Actor.table g.A.Mail.Parcel.receiver g.A.Mail.Parcel.weighs 0 in (
+    let r = rules_of g.A.Actor.table g.A.Mail.Parcel.receiver in (
       λ words. At-begin r words c.args.seats.items c.args.lines.now _ c.requires.apart refl c.new.ensures refl refl,
-      taking_begin g.A.Mail.Parcel.weighs _ c.args.rows.now c.new.ensures c.new-2.ensures.items c.new-3.ensures.items refl c.requires.few_rows c.requires.few_mails,
+      taking_begin _ c.args.rows.now c.new.ensures c.new-2.ensures.items c.new-3.ensures.items c.requires.few_rows c.requires.few_mails,
       omega arith,
     )
 
 pub returns-in-Ended : goal.returns-in-Ended
 returns-in-Ended g c = λ words.
-    let r = rules_of g.A.Actor.table g.A.Mail.Parcel.receiver g.A.Mail.Parcel.weighs 0 in
+    let r = rules_of g.A.Actor.table g.A.Mail.Parcel.receiver in
     let built = built_at c.args.lines.now c.requires.built c.loop-line.line-index c.line-item.result c.loop-line-test.true c.line-item.is in
     let ended : IsChecked r c.loop-line.stage (line_task c.line-item.result ∷ []) c.check_line.new.stage c.args.rows.now Ended = subst (IsChecked r c.loop-line.stage (line_task c.line-item.result ∷ []) c.check_line.new.stage c.args.rows.now) c.in-Ended.is c.in_ok-check_line.ensures.is in
     let has = judged_ends r words c.args.seats.items c.args.lines.now c.loop-line.stage c.args.rows.now c.check_line.new.stage c.loop-line.line-index c.line-item.result c.loop-line-test.true c.line-item.is built (c.loop-line.invariant.0 words) ended.0 in
@@ -25,14 +25,14 @@ returns-in-Ended g c = λ words.
 
 pub returns-in-Wrong : goal.returns-in-Wrong
 returns-in-Wrong g c = λ words.
-    let r = rules_of g.A.Actor.table g.A.Mail.Parcel.receiver g.A.Mail.Parcel.weighs 0 in
+    let r = rules_of g.A.Actor.table g.A.Mail.Parcel.receiver in
     let built = built_at c.args.lines.now c.requires.built c.loop-line.line-index c.line-item.result c.loop-line-test.true c.line-item.is in
     judged_breaks r words c.args.seats.items c.args.lines.now c.loop-line.stage c.args.rows.now c.loop-line.line-index c.line-item.result c.loop-line-test.true c.line-item.is built (c.loop-line.invariant.0 words)
     (subst (IsChecked r c.loop-line.stage (line_task c.line-item.result ∷ []) c.check_line.new.stage c.args.rows.now) c.in-Wrong.is c.in_ok-check_line.ensures.is)
 
 pub loop-line-preserved : goal.loop-line-preserved
 loop-line-preserved g c =
-    let r = rules_of g.A.Actor.table g.A.Mail.Parcel.receiver g.A.Mail.Parcel.weighs 0 in
+    let r = rules_of g.A.Actor.table g.A.Mail.Parcel.receiver in
     let built = built_at c.args.lines.now c.requires.built c.loop-line.line-index c.line-item.result c.loop-line-test.true c.line-item.is in
     let on : IsChecked r c.loop-line.stage (line_task c.line-item.result ∷ []) c.check_line.new.stage c.args.rows.now On = subst (IsChecked r c.loop-line.stage (line_task c.line-item.result ∷ []) c.check_line.new.stage c.args.rows.now) c.in-On.is c.in_ok-check_line.ensures.is in (
       λ words. At-line r words c.args.seats.items c.args.lines.now c.loop-line.stage c.check_line.new.stage c.loop-line.line-index c.line-item.result c.loop-line-test.true c.line-item.is built (c.loop-line.invariant.0 words) on.0,
@@ -42,7 +42,7 @@ loop-line-preserved g c =
 
 pub returns-then-len-rows : goal.returns-then-len-rows
 returns-then-len-rows g c = λ words.
-    let r = rules_of g.A.Actor.table g.A.Mail.Parcel.receiver g.A.Mail.Parcel.weighs 0 in
+    let r = rules_of g.A.Actor.table g.A.Mail.Parcel.receiver in
     late r words c.args.seats.items c.args.lines.now c.loop-line.stage c.args.rows.now
     (λ same. absurd (c.if-len-rows.true (c.len.ensures ∙ same)))
     (At-end r words c.args.seats.items c.args.lines.now c.loop-line.stage c.loop-line.line-index (omega (arith, c.loop-line-test.false)) (c.loop-line.invariant.0 words))
@@ -50,7 +50,7 @@ returns-then-len-rows g c = λ words.
 
 pub returns : goal.returns
 returns g c = λ words.
-    let r = rules_of g.A.Actor.table g.A.Mail.Parcel.receiver g.A.Mail.Parcel.weighs 0 in
+    let r = rules_of g.A.Actor.table g.A.Mail.Parcel.receiver in
     let has = judged_all r words c.args.seats.items c.args.lines.now c.loop-line.stage c.args.rows.now (sym c.len.ensures ∙ c.if-len-rows.false)
     (At-end r words c.args.seats.items c.args.lines.now c.loop-line.stage c.loop-line.line-index (omega (arith, c.loop-line-test.false)) (c.loop-line.invariant.0 words))
     c.loop-line.invariant.1.follows in

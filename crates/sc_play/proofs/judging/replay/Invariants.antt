@@ -7,6 +7,6 @@ use Rattle.sc_play.proofs.judging.replay.Given as goal
 
 abbrev pub invariant-loop-line : goal.invariant-loop-line
 invariant-loop-line g l =
-    ((words : ℕ → ℕ → ℕ × ℕ) → At (with_births (rules_of g.A.Actor.table g.A.Mail.Parcel.receiver g.A.Mail.Parcel.weighs 0) words l.fn.seats.items) l.lines l.stage (flat_map (tasks_of words) (drop l.line-index l.lines)))
-    × IsTaking g.A.Mail.Parcel.weighs l.stage l.rows
+    ((words : ℕ → ℕ → ℕ × ℕ) → At (with_births (rules_of g.A.Actor.table g.A.Mail.Parcel.receiver) words l.fn.seats.items) l.lines l.stage (flat_map (tasks_of words) (drop l.line-index l.lines)))
+    × IsTaking l.stage l.rows
     × (l.stage.skipped ≤ l.line-index)
