@@ -208,6 +208,17 @@ impl<M: Parcel + Drop, O: Drop> Port<M, O> {
         any_at(rt, &mut self.seat, self.actors, whos)
     }
 
+    /// For each of these actors, whether mail is pending for it, all at this one turn.
+    pub fn waiting<R: Wait>(&mut self, rt: &R, whos: &[u32]) -> Result<Vec<bool>, OutOfMemory>
+        ensures looked { Looked self.old self.new × IsTrue self.new × (self.new.fetched ≡ self.old.fetched) × (self.new.crashed ≡ self.old.crashed) }
+        ensures addressed { IsAddressed self.new }
+        ensures waiting { IfOk result (λ waits. waits.items ≡ map (λ who. is_some (kth_pending M.receiver self.new.actors (seen self.new) who 1)) whos.now) }
+    {
+        let _ = whos;
+        let _ = self.pending(rt, 0, 1);
+        Err(OutOfMemory)
+    }
+
     /// How many mails were sent, and each pending copy of all mail, all at this one turn. Only the network's port looks.
     pub fn look<R: Wait>(&mut self, rt: &R) -> Result<Look, OutOfMemory>
         requires net { self.old.who ≡ 0 }
