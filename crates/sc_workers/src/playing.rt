@@ -8,7 +8,7 @@ ghost use Rattle.sc_workers.specs.Services.{AllServe};
 
 use crate::answers::Rounds;
 use crate::meetings::{meet, numbers_of, vouch};
-use crate::turns::{at_once, did_in, in_order, refused_in};
+use crate::turns::{any_of, at_once, did_in, in_order, refused_in};
 use sc_actor::{Actor, Gate};
 use sc_exchange::Port;
 use sc_shell::{Shell, Turn};
@@ -21,6 +21,7 @@ fn play_round<A: Actor, G: Gate, R: Threads + Wait + Sync>(
     rt: &R,
     alloc: Global,
     gate: &G,
+    waits: &[bool],
     shells: &mut Vec<Shell<A>>,
     workers: u32,
     left: u32,
@@ -38,11 +39,11 @@ fn play_round<A: Actor, G: Gate, R: Threads + Wait + Sync>(
     if size == 0 || (left as usize) < shells.len() {
         return in_order(rt, alloc, gate, shells.as_mut_slice(), left);
     }
-    at_once(rt, alloc, gate, shells, size);
+    at_once(rt, alloc, gate, waits, size, shells);
     did_in(shells.as_slice())
 }
 
-// What comes before a round: the meetings, and the ends that are found there.
+// What comes before a round: the meetings, the ends that are found there, and for whom mail waits.
 fn prepare<A: Actor, R: Wait>(
     rt: &R,
     net: &mut Port<A::Mail, A::Order>,
@@ -50,6 +51,7 @@ fn prepare<A: Actor, R: Wait>(
     whos: &[u32],
     limit: u32,
     used: u32,
+    waits: &mut Vec<bool>,
 ) -> Option<Rounds>
     requires exchange { AllOf net.old shells.old.items }
     requires used { used ≤ limit }
@@ -63,9 +65,13 @@ fn prepare<A: Actor, R: Wait>(
     let Ok(()) = meet(rt, net, shells) else {
         return Some(Rounds::OutOfMemory);
     };
-    let waits = net.any_pending(rt, whos);
+    let Ok(found) = net.waiting(rt, whos) else {
+        return Some(Rounds::OutOfMemory);
+    };
     vouch(net, shells);
-    if !waits {
+    let any = any_of(found.as_slice());
+    *waits = found;
+    if !any {
         return Some(Rounds::Quiet { used });
     }
     if used == limit {
@@ -109,6 +115,7 @@ fn step<A: Actor, G: Gate, R: Threads + Wait + Sync>(
     workers: u32,
     limit: u32,
     used: &mut u32,
+    waits: &mut Vec<bool>,
     gate: &G,
 ) -> Option<Rounds>
     requires workers { 0 < workers }
@@ -132,17 +139,18 @@ fn step<A: Actor, G: Gate, R: Threads + Wait + Sync>(
     let Ok(()) = meet(rt, net, shells) else {
         return Some(Rounds::OutOfMemory);
     };
-    let did = play_round(rt, alloc, gate, shells, workers, limit - *used);
+    let flags = waits.as_slice();
+    let did = play_round(rt, alloc, gate, flags, shells, workers, limit - *used);
     *used += did;
     match refused_in(shells.as_slice()) {
-        None => prepare(rt, net, shells, whos, limit, *used),
+        None => prepare(rt, net, shells, whos, limit, *used, waits),
         Some(refused) => Some(ended(rt, net, shells, refused)),
     }
 }
 
 /// Rounds in which each shell that is not spent takes a turn, runs of neighbours at the same time, until nothing is pending for the shells' actors, `limit` deliveries were made, or a row is refused.
 ///
-/// Before each round every shell meets `net`, which is the network's port and makes no row. A round in which no turn is refused makes at least one delivery, so there are at most as many rounds as `limit`. There are as many runs as `workers`, or fewer. Where fewer deliveries are left than there are shells, the shells take their turns one after the other.
+/// Before each round every shell meets `net`, which is the network's port and makes no row. A round in which no turn is refused makes at least one delivery, so there are at most as many rounds as `limit`. There are as many runs as `workers`, or fewer. Where mail waits for the shells of one run alone, no thread is started. Where fewer deliveries are left than there are shells, the shells take their turns one after the other.
 pub fn rounds<A: Actor, G: Gate, R: Threads + Wait + Sync>(
     rt: &R,
     alloc: Global,
@@ -164,7 +172,8 @@ pub fn rounds<A: Actor, G: Gate, R: Threads + Wait + Sync>(
     let Ok(whos) = numbers_of(alloc, shells.as_slice()) else {
         return Rounds::OutOfMemory;
     };
-    if let Some(answer) = prepare(rt, net, shells, whos.as_slice(), limit, 0) {
+    let mut waits = Vec::new(alloc);
+    if let Some(answer) = prepare(rt, net, shells, whos.as_slice(), limit, 0, &mut waits) {
         return answer;
     }
     let mut used = 0u32;
@@ -178,6 +187,7 @@ pub fn rounds<A: Actor, G: Gate, R: Threads + Wait + Sync>(
             workers,
             limit,
             &mut used,
+            &mut waits,
             gate,
         ) {
             Some(answer) => return answer,

@@ -1,5 +1,6 @@
 //! Turns of many shells.
 ghost use Rattle.std.specs.Prelude.{◌≡◌, ◌<◌, ◌≤◌, ◌+◌, ◌^◌, ◌⊎◌, true, false, length, sum_by, None, IfSome};
+ghost use Rattle.std.specs.List.{list_any};
 ghost use Rattle.sc_exchange.specs.Ports.{made};
 ghost use Rattle.sc_workers.specs.Crews.{Took, Passed, Sound, AllTook, AllPassed, AllSound, HasRefusal, rows_made, did, refusal, is_did, refusal_in};
 ghost use Rattle.sc_shell.specs.declared.turns.Turn.{Turn};
@@ -28,18 +29,46 @@ fn turns<A: Actor, G: Gate, R: Wait>(rt: &R, alloc: Global, gate: &G, part: &mut
     }
 }
 
-/// Each shell takes a turn, runs of `size` neighbours at the same time.
+/// Whether mail waits, by these flags.
+pub(crate) fn any_of(waits: &[bool]) -> bool
+    ensures { result ≡ list_any (λ wait. wait) waits.now }
+{
+    waits.iter().any(|wait| *wait)
+}
+
+// Whether mail waits in two runs of `size` or more.
+fn two_wait(waits: &[bool], size: usize) -> bool
+    requires { 0 < size }
+{
+    let mut one = false;
+    for run in waits.chunks(size) {
+        if any_of(run) {
+            if one {
+                return true;
+            }
+            one = true;
+        }
+    }
+    false
+}
+
+/// Each shell takes a turn, runs of `size` neighbours at the same time. `waits` tells for which of the shells mail waits: where that is the shells of one run alone, no thread is started.
 pub(crate) fn at_once<A: Actor, G: Gate, R: Threads + Wait + Sync>(
     rt: &R,
     alloc: Global,
     gate: &G,
-    shells: &mut Vec<Shell<A>>,
+    waits: &[bool],
     size: usize,
+    shells: &mut Vec<Shell<A>>,
 )
     requires { 0 < size }
     ensures len { length shells.new.items ≡ length shells.old.items }
     ensures took { AllTook shells.old.items shells.new.items }
 {
+    if !two_wait(waits, size) {
+        turns(rt, alloc, gate, shells.as_mut_slice());
+        return;
+    }
     thread::for_each_chunk_mut(
         rt,
         shells.as_mut_slice(),
