@@ -1,9 +1,9 @@
 //! The value that the ports hand on.
-ghost use Rattle.std.specs.Prelude.{◌≡◌, [], true};
+ghost use Rattle.std.specs.Prelude.{◌≡◌, [], true, IfOk};
 ghost use Rattle.sc_exchange.specs.Addressed.{all_addressed};
 
 use sc_actor::{Event, Parcel};
-use sc_base::Sequence;
+use sc_base::{OutOfMemory, Sequence};
 use sc_ledger::Ledger;
 use sc_turn::Listed;
 use std::alloc::Global;
@@ -14,12 +14,12 @@ pub struct Deed<M, O> {
     pub sent: Sequence<M>,
 }
 
-/// The journal, its counted bytes and the pending mail. One port at a time has it.
+/// The journal, its counted bytes and the pending mail. One port at a time has it, and it lies in a box, so that a turn moves a pointer.
 /// Each delivery in the journal is of mail to the row's maker, and only the network's rows lose and repeat mail.
 #[derive(Drop)]
 pub struct Exchange<M: Parcel + Drop, O: Drop> {
-    pub ledger: Ledger<M, O>,
-    ghost addressed: { all_addressed M.receiver [] ledger.rows.items ≡ true },
+    pub ledger: Box<Ledger<M, O>>,
+    ghost addressed: { all_addressed M.receiver [] ledger.value.rows.items ≡ true },
 }
 
 impl<M: Parcel + Drop, O: Drop> Listed for Exchange<M, O> {
@@ -27,7 +27,7 @@ impl<M: Parcel + Drop, O: Drop> Listed for Exchange<M, O> {
 
     type Entry = Deed<M, O>;
 
-    ghost entries = { λ e. deeds e.ledger.rows.items };
+    ghost entries = { λ e. deeds e.ledger.value.rows.items };
 
     fn count(&self) -> u64 {
         self.ledger.len() as u64
@@ -35,11 +35,10 @@ impl<M: Parcel + Drop, O: Drop> Listed for Exchange<M, O> {
 }
 
 impl<M: Parcel + Drop, O: Drop> Exchange<M, O> {
-    pub(crate) fn new(alloc: Global, actors: u32) -> Exchange<M, O>
-        ensures { result.ledger.rows.items ≡ [] }
+    pub(crate) fn new(alloc: Global, actors: u32) -> Result<Exchange<M, O>, OutOfMemory>
+        ensures { IfOk result (λ e. e.ledger.value.rows.items ≡ []) }
     {
-        Exchange {
-            ledger: Ledger::new(alloc, actors),
-        }
+        let ledger = Box::new(alloc, Ledger::new(alloc, actors))?;
+        Ok(Exchange { ledger })
     }
 }

@@ -16,7 +16,7 @@ ghost use Rattle.sc_exchange.specs.Answers.{IsFetch, IsLook, number_of};
 
 use crate::answers::{Fetched, Unposted};
 use crate::deeds::Exchange;
-use crate::turns::{any_at, change_at, fetch_at, kth_at, look_at, post_at, receiver_at};
+use crate::turns::{any_at, change_at, fetch_at, kth_at, look_at, post_at, receiver_at, waiting_at};
 use sc_actor::{Event, Journal, Parcel, Row};
 use sc_base::{OutOfMemory, Sequence};
 use sc_ledger::{Look, Unkept};
@@ -52,7 +52,7 @@ impl<M: Parcel + Drop, O: Drop> Port<M, O> {
         ensures { IfOk result (λ p. (seen p ≡ []) × (made p ≡ []) × (given p ≡ []) × (joined p ≡ []) × (p.who ≡ 0) × (p.actors ≡ actors) × (p.limit ≡ limit) × (p.fetched ≡ None) × (p.crashed ≡ false)) }
     {
         Ok(Port {
-            seat: TurnSeat::start(alloc, Exchange::new(alloc, actors))?,
+            seat: TurnSeat::start(alloc, Exchange::new(alloc, actors)?)?,
             alloc,
             who: 0,
             actors,
@@ -214,9 +214,7 @@ impl<M: Parcel + Drop, O: Drop> Port<M, O> {
         ensures addressed { IsAddressed self.new }
         ensures waiting { IfOk result (λ waits. waits.items ≡ map (λ who. is_some (kth_pending M.receiver self.new.actors (seen self.new) who 1)) whos.now) }
     {
-        let _ = whos;
-        let _ = self.pending(rt, 0, 1);
-        Err(OutOfMemory)
+        waiting_at(rt, self.alloc, &mut self.seat, self.actors, whos)
     }
 
     /// How many mails were sent, and each pending copy of all mail, all at this one turn. Only the network's port looks.
@@ -337,5 +335,6 @@ fn closed<M: Parcel + Drop, O: Drop, R: Wait>(
     ensures facts { IsTrueOf (known seat) (deeds result) }
 {
     let exchange = seat.close(rt);
-    Sequence::from_vec(exchange.ledger.rows)
+    let ledger = Box::into_inner(exchange.ledger);
+    Sequence::from_vec(ledger.rows)
 }

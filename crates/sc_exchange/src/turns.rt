@@ -1,5 +1,5 @@
 //! What is done at one turn.
-ghost use Rattle.std.specs.Prelude.{◌≡◌, ◌<◌, ◌≤◌, ◌+◌, ◌^◌, ◌++◌, ◌∷◌, [], true, false, length, IfOk, IfErr, OnOk, OnErr, MatchBool, is_some};
+ghost use Rattle.std.specs.Prelude.{◌≡◌, ◌<◌, ◌≤◌, ◌+◌, ◌^◌, ◌++◌, ◌∷◌, [], true, false, length, map, IfOk, IfErr, OnOk, OnErr, MatchBool, is_some};
 ghost use Rattle.std.specs.List.{list_any};
 ghost use Rattle.sc_turn.specs.Seats.{known, OfOneStart};
 ghost use Rattle.sc_turn.specs.Turn.{with_turn, with_row, rows_by};
@@ -29,7 +29,7 @@ fn keep_same<M: Parcel + Drop, O: Drop>(
     exchange: Exchange<M, O>,
 )
     requires turn { (known seat.old).turn ≡ true }
-    requires list { deeds exchange.ledger.rows.items ≡ (known seat.old).seen }
+    requires list { deeds exchange.ledger.value.rows.items ≡ (known seat.old).seen }
     ensures start { OfOneStart seat.old seat.new }
     ensures view { known seat.new ≡ with_turn (known seat.old) false }
 {
@@ -42,9 +42,9 @@ fn keep_row<M: Parcel + Drop, O: Drop>(
     exchange: Exchange<M, O>,
 )
     requires turn { (known seat.old).turn ≡ true }
-    requires list { (deed : Deed M O) × (deeds exchange.ledger.rows.items ≡ (known seat.old).seen ++ (deed, (known seat.old).who) ∷ []) }
+    requires list { (deed : Deed M O) × (deeds exchange.ledger.value.rows.items ≡ (known seat.old).seen ++ (deed, (known seat.old).who) ∷ []) }
     ensures start { OfOneStart seat.old seat.new }
-    ensures view { (deed : Deed M O) → deeds exchange.ledger.rows.items ≡ (known seat.old).seen ++ (deed, (known seat.old).who) ∷ [] → known seat.new ≡ with_turn (with_row (known seat.old) deed) false }
+    ensures view { (deed : Deed M O) → deeds exchange.ledger.value.rows.items ≡ (known seat.old).seen ++ (deed, (known seat.old).who) ∷ [] → known seat.new ≡ with_turn (with_row (known seat.old) deed) false }
 {
     seat.leave(exchange);
 }
@@ -111,6 +111,41 @@ fn any_in<M: Parcel + Drop, O: Drop>(ledger: &Ledger<M, O>, actors: u32, whos: &
     ensures { result ≡ list_any (λ who. is_some (kth_pending M.receiver actors ledger.now.rows.items who 1)) whos.now }
 {
     whos.iter().any(|who| ledger.kth(actors, *who, 1).is_some())
+}
+
+/// For each of these actors, whether mail is pending for it at this turn.
+pub(crate) fn waiting_at<M: Parcel + Drop, O: Drop, R: Wait>(
+    rt: &R,
+    alloc: Global,
+    seat: &mut TurnSeat<Exchange<M, O>>,
+    actors: u32,
+    whos: &[u32],
+) -> Result<Vec<bool>, OutOfMemory>
+    requires turn { (known seat.old).turn ≡ false }
+    ensures start { OfOneStart seat.old seat.new }
+    ensures addressed { all_addressed M.receiver [] (rows_from (known seat.new).seen) ≡ true }
+    ensures turned { Turned (known seat.old) (known seat.new) }
+    ensures waiting { IfOk result (λ waits. waits.items ≡ map (λ who. is_some (kth_pending M.receiver actors (rows_from (known seat.new).seen) who 1)) whos.now) }
+{
+    let exchange = seat.enter(rt);
+    let waits = waiting_in(&exchange.ledger, alloc, actors, whos);
+    keep_same(seat, exchange);
+    waits
+}
+
+fn waiting_in<M: Parcel + Drop, O: Drop>(
+    ledger: &Ledger<M, O>,
+    alloc: Global,
+    actors: u32,
+    whos: &[u32],
+) -> Result<Vec<bool>, OutOfMemory>
+    ensures { IfOk result (λ waits. waits.items ≡ map (λ who. is_some (kth_pending M.receiver actors ledger.now.rows.items who 1)) whos.now) }
+{
+    let mut waits = Vec::new(alloc);
+    for who in whos {
+        waits.push(ledger.kth(actors, *who, 1).is_some())?;
+    }
+    Ok(waits)
 }
 
 fn find<M: Parcel + Drop, O: Drop>(
@@ -192,14 +227,14 @@ fn append_row<M: Parcel + Drop, O: Drop>(
     limit: u64,
 ) -> Result<u32, Unkept<M, O>>
     requires turn { (known seat.old).turn ≡ true }
-    requires list { deeds found.ledger.rows.items ≡ (known seat.old).seen }
+    requires list { deeds found.ledger.value.rows.items ≡ (known seat.old).seen }
     requires maker { row.who ≡ (known seat.old).who }
-    requires addressed { is_addressed M.receiver (mails found.ledger.rows.items) row.who row.event ≡ true }
+    requires addressed { is_addressed M.receiver (mails found.ledger.value.rows.items) row.who row.event ≡ true }
     requires limit { limit ≤ 2 ^ 30 }
     ensures start { OfOneStart seat.old seat.new }
-    ensures ok { IfOk result (λ place. (known seat.new ≡ with_turn (with_row (known seat.old) (record { event = row.event; sent = row.sent })) false) × (place ≡ length (found.ledger.rows.items ++ row ∷ []))) }
-    ensures fits { OnOk result (journal_bytes M.weighs found.ledger.rows.items + row_bytes M.weighs row ≤ limit) }
-    ensures refused { IfErr result (λ e. (known seat.new ≡ with_turn (known seat.old) false) × (e.row ≡ row) × IsCause e.why (journal_bytes M.weighs found.ledger.rows.items) (row_bytes M.weighs row) limit) }
+    ensures ok { IfOk result (λ place. (known seat.new ≡ with_turn (with_row (known seat.old) (record { event = row.event; sent = row.sent })) false) × (place ≡ length (found.ledger.value.rows.items ++ row ∷ []))) }
+    ensures fits { OnOk result (journal_bytes M.weighs found.ledger.value.rows.items + row_bytes M.weighs row ≤ limit) }
+    ensures refused { IfErr result (λ e. (known seat.new ≡ with_turn (known seat.old) false) × (e.row ≡ row) × IsCause e.why (journal_bytes M.weighs found.ledger.value.rows.items) (row_bytes M.weighs row) limit) }
 {
     let mut exchange = found;
     match exchange.ledger.append(row, limit) {

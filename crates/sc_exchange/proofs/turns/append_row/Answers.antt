@@ -8,7 +8,7 @@ use Rattle.sc_exchange.proofs.turns.append_row.Goals as goal
 pub keep_row-requires-clause-list : goal.keep_row-requires-clause-list
 keep_row-requires-clause-list g c =
     let row = c.args.row in
-    (record { event = row.event; sent = row.sent }, ap deeds c.in-Ok.ensures.ok ∙ (deeds-push c.args.found.ledger.rows.items row ∙ (λ i. c.requires.list i ++ (record { event = row.event; sent = row.sent }, c.requires.maker i) ∷ [])))
+    (record { event = row.event; sent = row.sent }, ap deeds c.in-Ok.ensures.ok ∙ (ap (λ ledger. deeds (ledger.rows.items ++ row ∷ [])) c.deref_mut.ensures.value ∙ (deeds-push c.args.found.ledger.value.rows.items row ∙ (λ i. c.requires.list i ++ (record { event = row.event; sent = row.sent }, c.requires.maker i) ∷ []))))
 
 pub invariant_of-exchange : goal.invariant_of-exchange
-invariant_of-exchange g c = record { addressed = ap (all_addressed g.M.Parcel.receiver []) c.in-Ok.ensures.ok ∙ addressed_push g.M.Parcel.receiver c.args.found.ledger.rows.items c.args.row c.args.found.addressed c.requires.addressed }
+invariant_of-exchange g c = record { addressed = ap (all_addressed g.M.Parcel.receiver []) c.in-Ok.ensures.ok ∙ (ap (λ ledger. all_addressed g.M.Parcel.receiver [] (ledger.rows.items ++ c.args.row ∷ [])) c.deref_mut.ensures.value ∙ addressed_push g.M.Parcel.receiver c.args.found.ledger.value.rows.items c.args.row c.args.found.addressed c.requires.addressed) }

@@ -11,8 +11,8 @@ pub returns-clause-found : goal.returns-clause-found
 returns-clause-found g c =
     ok_maps c.find-found.result
     (λ found p. subst (λ l. IsFetch g.M.Parcel.receiver c.args.actors l c.args.who c.args.k found)
-    (sym (seen_same (known c.args.seat.now) (known c.enter-exchange.new.self) (known c.keep_same.new.seat) c.enter-exchange.result.ledger.rows.items c.enter-exchange.ensures.view c.keep_same.ensures.view)) p)
+    (ap (λ ledger. ledger.rows.items) c.deref.ensures ∙ sym (seen_same (known c.args.seat.now) (known c.enter-exchange.new.self) (known c.keep_same.new.seat) c.enter-exchange.result.ledger.value.rows.items c.enter-exchange.ensures.view c.keep_same.ensures.view)) p)
     c.find-found.ensures
 
 pub returns-clause-addressed : goal.returns-clause-addressed
-returns-clause-addressed g c = ap (all_addressed g.M.Parcel.receiver []) (seen_same (known c.args.seat.now) (known c.enter-exchange.new.self) (known c.keep_same.new.seat) c.enter-exchange.result.ledger.rows.items c.enter-exchange.ensures.view c.keep_same.ensures.view) ∙ c.enter-exchange.result.addressed
+returns-clause-addressed g c = ap (all_addressed g.M.Parcel.receiver []) (seen_same (known c.args.seat.now) (known c.enter-exchange.new.self) (known c.keep_same.new.seat) c.enter-exchange.result.ledger.value.rows.items c.enter-exchange.ensures.view c.keep_same.ensures.view) ∙ c.enter-exchange.result.addressed

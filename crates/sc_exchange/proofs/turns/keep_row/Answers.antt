@@ -8,4 +8,4 @@ pub leave-requires-clause-list : goal.leave-requires-clause-list
 leave-requires-clause-list g c = inr c.requires.list
 
 pub returns-clause-view : goal.returns-clause-view
-returns-clause-view g c = λ deed is. c.leave.ensures.view ∙ left_row (known c.args.seat.now) (deeds c.args.exchange.ledger.rows.items) deed is
+returns-clause-view g c = λ deed is. c.leave.ensures.view ∙ left_row (known c.args.seat.now) (deeds c.args.exchange.ledger.value.rows.items) deed is

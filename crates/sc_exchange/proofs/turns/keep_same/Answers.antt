@@ -8,4 +8,4 @@ pub leave-requires-clause-list : goal.leave-requires-clause-list
 leave-requires-clause-list g c = inl c.requires.list
 
 pub returns-clause-view : goal.returns-clause-view
-returns-clause-view g c = c.leave.ensures.view ∙ left_same (known c.args.seat.now) (deeds c.args.exchange.ledger.rows.items) c.requires.list
+returns-clause-view g c = c.leave.ensures.view ∙ left_same (known c.args.seat.now) (deeds c.args.exchange.ledger.value.rows.items) c.requires.list

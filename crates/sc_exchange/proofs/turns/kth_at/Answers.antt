@@ -9,7 +9,8 @@ use Rattle.sc_exchange.proofs.turns.kth_at.Goals as goal
 pub returns-clause-kth : goal.returns-clause-kth
 returns-clause-kth g c =
     c.kth-found.ensures.kth
-    ∙ ap (λ l. kth_pending g.M.Parcel.receiver c.args.actors l c.args.who c.args.k) (sym (seen_same (known c.args.seat.now) (known c.enter-exchange.new.self) (known c.keep_same.new.seat) c.enter-exchange.result.ledger.rows.items c.enter-exchange.ensures.view c.keep_same.ensures.view))
+    ∙ (ap (λ ledger. kth_pending g.M.Parcel.receiver c.args.actors ledger.rows.items c.args.who c.args.k) c.deref.ensures
+    ∙ ap (λ l. kth_pending g.M.Parcel.receiver c.args.actors l c.args.who c.args.k) (sym (seen_same (known c.args.seat.now) (known c.enter-exchange.new.self) (known c.keep_same.new.seat) c.enter-exchange.result.ledger.value.rows.items c.enter-exchange.ensures.view c.keep_same.ensures.view)))
 
 pub returns-clause-addressed : goal.returns-clause-addressed
-returns-clause-addressed g c = ap (all_addressed g.M.Parcel.receiver []) (seen_same (known c.args.seat.now) (known c.enter-exchange.new.self) (known c.keep_same.new.seat) c.enter-exchange.result.ledger.rows.items c.enter-exchange.ensures.view c.keep_same.ensures.view) ∙ c.enter-exchange.result.addressed
+returns-clause-addressed g c = ap (all_addressed g.M.Parcel.receiver []) (seen_same (known c.args.seat.now) (known c.enter-exchange.new.self) (known c.keep_same.new.seat) c.enter-exchange.result.ledger.value.rows.items c.enter-exchange.ensures.view c.keep_same.ensures.view) ∙ c.enter-exchange.result.addressed

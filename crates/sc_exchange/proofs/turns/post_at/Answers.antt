@@ -13,7 +13,7 @@ use Rattle.sc_exchange.proofs.turns.post_at.Goals as goal
 pub returns-clause-ok : goal.returns-clause-ok
 returns-clause-ok g c =
     let w = known c.args.seat.now in let s = known c.enter-exchange.new.self in let v = known c.append_row.new.seat in
-    let rows = c.enter-exchange.result.ledger.rows.items in let e = c.enter-exchange.ensures in
+    let rows = c.enter-exchange.result.ledger.value.rows.items in let e = c.enter-exchange.ensures in
     ok_with c.append_row.result
     (λ place p fits. let is = seen_row w s v rows c.args.row c.requires.maker e.view p.0 in
     (turned_row w s v rows c.args.row e.view e.later e.facts p.0, p.1 ∙ ap length (sym is), bytes_row g.M.Parcel.weighs rows c.args.row _ c.args.limit is fits))
@@ -22,7 +22,7 @@ returns-clause-ok g c =
 pub returns-clause-refused : goal.returns-clause-refused
 returns-clause-refused g c =
     let w = known c.args.seat.now in let s = known c.enter-exchange.new.self in let v = known c.append_row.new.seat in
-    let rows = c.enter-exchange.result.ledger.rows.items in let e = c.enter-exchange.ensures in
+    let rows = c.enter-exchange.result.ledger.value.rows.items in let e = c.enter-exchange.ensures in
     err_with c.append_row.result
     (λ x p. (turned_same w s v rows e.view e.later e.facts p.0, p.1, subst (λ l. IsCause x.why (journal_bytes g.M.Parcel.weighs l) (row_bytes g.M.Parcel.weighs c.args.row) c.args.limit) (sym (seen_same w s v rows e.view p.0)) p.2))
     c.append_row.ensures.refused
@@ -30,7 +30,7 @@ returns-clause-refused g c =
 pub returns-clause-own : goal.returns-clause-own
 returns-clause-own g c =
     let w = known c.args.seat.now in let s = known c.enter-exchange.new.self in let v = known c.append_row.new.seat in
-    let rows = c.enter-exchange.result.ledger.rows.items in let e = c.enter-exchange.ensures in
+    let rows = c.enter-exchange.result.ledger.value.rows.items in let e = c.enter-exchange.ensures in
     own_either w v c.args.row c.append_row.result
     (ok_with c.append_row.result (λ place p fits. turned_row w s v rows c.args.row e.view e.later e.facts p.0) c.append_row.ensures.ok c.append_row.ensures.fits)
     (err_with c.append_row.result (λ x p. turned_same w s v rows e.view e.later e.facts p.0) c.append_row.ensures.refused)
@@ -38,19 +38,19 @@ returns-clause-own g c =
 pub returns-clause-kept : goal.returns-clause-kept
 returns-clause-kept g c =
     let w = known c.args.seat.now in let s = known c.enter-exchange.new.self in let v = known c.append_row.new.seat in
-    let rows = c.enter-exchange.result.ledger.rows.items in let e = c.enter-exchange.ensures in
+    let rows = c.enter-exchange.result.ledger.value.rows.items in let e = c.enter-exchange.ensures in
     kept_either w v c.args.row c.append_row.result
     (ok_with c.append_row.result (λ place p fits. turned_row w s v rows c.args.row e.view e.later e.facts p.0) c.append_row.ensures.ok c.append_row.ensures.fits)
     (err_with c.append_row.result (λ x p. turned_same w s v rows e.view e.later e.facts p.0) c.append_row.ensures.refused)
 
 pub append_row-requires-clause-addressed : goal.append_row-requires-clause-addressed
 append_row-requires-clause-addressed g c =
-    addressed_found g.M.Parcel.receiver c.args.row.who c.args.row.event (known c.args.seat.now) c.enter-exchange.result.ledger.rows.items c.enter-exchange.ensures.later c.requires.addressed
+    addressed_found g.M.Parcel.receiver c.args.row.who c.args.row.event (known c.args.seat.now) c.enter-exchange.result.ledger.value.rows.items c.enter-exchange.ensures.later c.requires.addressed
 
 pub returns-clause-addressed : goal.returns-clause-addressed
 returns-clause-addressed g c =
     let w = known c.args.seat.now in let s = known c.enter-exchange.new.self in let v = known c.append_row.new.seat in
-    let rows = c.enter-exchange.result.ledger.rows.items in let e = c.enter-exchange.ensures in let row = c.args.row in
+    let rows = c.enter-exchange.result.ledger.value.rows.items in let e = c.enter-exchange.ensures in let row = c.args.row in
     either c.append_row.result
     (ok_with c.append_row.result (λ place p fits. ap (all_addressed g.M.Parcel.receiver []) (seen_row w s v rows row c.requires.maker e.view p.0) ∙ addressed_push g.M.Parcel.receiver rows row c.enter-exchange.result.addressed (addressed_found g.M.Parcel.receiver row.who row.event w rows e.later c.requires.addressed))
     c.append_row.ensures.ok c.append_row.ensures.fits)

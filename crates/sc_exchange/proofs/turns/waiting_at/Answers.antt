@@ -1,0 +1,18 @@
+use Rattle.std.proofs.Common.{◌≡◌, ap, ◌∙◌, sym, subst, map, is_some}
+use Rattle.sc_turn.specs.Seats.{known}
+use Rattle.sc_ledger.specs.Pending.{kth_pending}
+use Rattle.sc_exchange.proofs.Results.{ok_maps}
+use Rattle.sc_exchange.proofs.Views.{seen_same}
+use Rattle.std.proofs.Common.{[]}
+use Rattle.sc_exchange.specs.Addressed.{all_addressed}
+use Rattle.sc_exchange.proofs.turns.waiting_at.Goals as goal
+
+pub returns-clause-waiting : goal.returns-clause-waiting
+returns-clause-waiting g c =
+    ok_maps c.waiting_in-waits.result
+    (λ waits p. subst (λ l. waits.items ≡ map (λ who. is_some (kth_pending g.M.Parcel.receiver c.args.actors l who 1)) c.args.whos.now)
+    (ap (λ ledger. ledger.rows.items) c.deref.ensures ∙ sym (seen_same (known c.args.seat.now) (known c.enter-exchange.new.self) (known c.keep_same.new.seat) c.enter-exchange.result.ledger.value.rows.items c.enter-exchange.ensures.view c.keep_same.ensures.view)) p)
+    c.waiting_in-waits.ensures
+
+pub returns-clause-addressed : goal.returns-clause-addressed
+returns-clause-addressed g c = ap (all_addressed g.M.Parcel.receiver []) (seen_same (known c.args.seat.now) (known c.enter-exchange.new.self) (known c.keep_same.new.seat) c.enter-exchange.result.ledger.value.rows.items c.enter-exchange.ensures.view c.keep_same.ensures.view) ∙ c.enter-exchange.result.addressed
