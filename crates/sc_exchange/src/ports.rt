@@ -16,7 +16,9 @@ ghost use Rattle.sc_exchange.specs.Answers.{IsFetch, IsLook, number_of};
 
 use crate::answers::{Fetched, Unposted};
 use crate::deeds::Exchange;
-use crate::turns::{any_at, change_at, fetch_at, kth_at, look_at, post_at, receiver_at, waiting_at};
+use crate::turns::{
+    any_at, change_at, fetch_at, kth_at, look_at, post_at, receiver_at, waiting_at,
+};
 use sc_actor::{Event, Journal, Parcel, Row};
 use sc_base::{OutOfMemory, Sequence};
 use sc_ledger::{Look, Unkept};

@@ -125,6 +125,37 @@ fn doubled_mail_order(rt: HostRuntime) -> Result<(), Fail> {
     Ok(())
 }
 
+// Whether mail is pending for actor 1, for nobody and for actor 2; 9 for a want of memory.
+fn waits_of<R: Wait>(rt: &R, net: &mut Port<Note, u32>) -> (u32, u32, u32)
+    ensures { Stays net.old net.new }
+{
+    match net.waiting(rt, &[1, 7, 2]) {
+        Ok(waits) => (told(&waits, 0), told(&waits, 1), told(&waits, 2)),
+        Err(_) => (9, 9, 9),
+    }
+}
+
+fn told(waits: &[bool], place: usize) -> u32 {
+    match waits.get(place) {
+        Some(true) => 1,
+        Some(false) => 0,
+        None => 2,
+    }
+}
+
+#[test]
+fn waiting_for_each(rt: HostRuntime) -> Result<(), Fail> {
+    let mut net: Port<Note, u32> = Port::start(rt.alloc(), 2, 1 << 20)?;
+    let mut one = net.split(1)?;
+    let mut two = net.split(2)?;
+    assert_eq!(rt; waits_of(&rt, &mut net), (0, 0, 0));
+    post_one(&rt, &mut two, Event::Go, notes(rt.alloc(), 1, 1)?)?;
+    assert_eq!(rt; waits_of(&rt, &mut net), (1, 0, 0));
+    assert_eq!(rt; take(&rt, rt.alloc(), &mut one, 1, 2, 1)?, 1);
+    assert_eq!(rt; waits_of(&rt, &mut net), (0, 0, 1));
+    Ok(())
+}
+
 // Three rows with a note each to the other, and up to three deliveries.
 fn works<R: Wait>(
     rt: &R,
