@@ -1,5 +1,5 @@
 -- How a round and the rounds end.
-use Rattle.std.proofs.Common.{◌≡◌, ℕ, ◌+◌, ◌≤◌, List, [], sym, ap, ◌∙◌, subst, is_some, Option, None, Some, IfSome, ◌<◌, arith, Contains}
+use Rattle.std.proofs.Common.{◌≡◌, ℕ, ◌+◌, ◌≤◌, List, [], ◌∷◌, map, Bool, ◌||◌, refl, sym, ap, ◌∙◌, subst, is_some, Option, None, Some, IfSome, ◌<◌, arith, Contains}
 use Rattle.std.specs.List.{list_any}
 use Rattle.sc_actor.specs.declared.actors.Actor.{Ghosts}
 use Rattle.sc_actor.specs.declared.actors.Parcel.{Ghosts as MailGhosts}
@@ -17,7 +17,15 @@ use Rattle.sc_workers.specs.Crews.{rows_made, AllSound}
 use Rattle.sc_workers.specs.Services.{AllServe}
 use Rattle.sc_workers.specs.Ends.{any_waits, IsFull, IsEnd, StepEnd, RefusedEnd, IsGathered, IfCalm, IfHeld}
 
+any_map : {A : Type 0} (f : A → Bool) (xs : List A) → list_any (λ (b : Bool). b) (map f xs) ≡ list_any f xs
+any_map f [] = refl
+any_map f (x ∷ xs) = ap (λ b. f x || b) (any_map f xs)
+
 module _ {M O : Type 0} {h : MailGhosts M} where
+  -- the flags of these actors tell whether mail is pending for one of them
+  pub any_found : (net : Port M O h) (whos : List ℕ) (waits : List Bool) (any : Bool) → waits ≡ map (λ who. is_some (kth_pending h.receiver net.actors (seen net) who 1)) whos → any ≡ list_any (λ (b : Bool). b) waits → any_waits net whos ≡ any
+  any_found net whos waits any is told = sym (any_map (λ who. is_some (kth_pending h.receiver net.actors (seen net) who 1)) whos) ∙ (ap (list_any (λ (b : Bool). b)) (sym is) ∙ sym told)
+
   pub waits_same : (net next : Port M O h) (whos : List ℕ) → next.actors ≡ net.actors → seen next ≡ seen net → any_waits next whos ≡ any_waits net whos
   waits_same net next whos actors rows = λ i. list_any (λ who. is_some (kth_pending h.receiver (actors i) (rows i) who 1)) whos
 

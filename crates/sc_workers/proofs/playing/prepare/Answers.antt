@@ -1,7 +1,9 @@
-use Rattle.std.proofs.Common.{rules, ◌≡◌, true, false, refl, sym, ◌∙◌, arith}
+use Rattle.std.proofs.Common.{rules, ◌≡◌, true, false, refl, ap, ◌∙◌, arith}
+use Rattle.std.specs.List.{list_any}
 use Rattle.sc_workers.specs.Crews.{AllMet}
+use Rattle.sc_workers.specs.Ends.{any_waits}
 use Rattle.sc_workers.proofs.Crews.{all_still_trans, all_met_later}
-use Rattle.sc_workers.proofs.Ending.{waits_same, addressed_same}
+use Rattle.sc_workers.proofs.Ending.{any_found, waits_same, addressed_same}
 use Rattle.sc_workers.proofs.playing.prepare.Goals as goal
 
 pub vouch-requires-clause-met : goal.vouch-requires-clause-met
@@ -29,7 +31,8 @@ returns-clause-gathered g c = record { over = c.vouch.ensures.over; addressed = 
 
 pub returns-then-not-any-clause-end : goal.returns-then-not-any-clause-end
 returns-then-not-any-clause-end g c =
-    let none : any_waits c.waiting.new.self c.args.whos.now ≡ false = sym (flags g c) ∙ search rules in let n = c.vouch.ensures.net in (
+    let told : c.any_of-any.result ≡ false = search rules in
+    let none : any_waits c.waiting.new.self c.args.whos.now ≡ false = any_found c.waiting.new.self c.args.whos.now c.in-Ok-waiting.found.items c.any_of-any.result c.in-Ok-waiting.ensures.waiting (c.any_of-any.ensures ∙ ap (list_any (λ wait. wait)) c.as_slice.ensures.value) ∙ told in let n = c.vouch.ensures.net in (
       c.vouch.ensures.over,
       waits_same c.waiting.new.self c.vouch.new.net c.args.whos.now n.0.stays.exchange.1 n.1 ∙ none,
       refl,
@@ -37,7 +40,8 @@ returns-then-not-any-clause-end g c =
 
 pub returns-then-used-limit-clause-end : goal.returns-then-used-limit-clause-end
 returns-then-used-limit-clause-end g c =
-    let some : any_waits c.waiting.new.self c.args.whos.now ≡ true = sym (flags g c) ∙ search rules in let all : c.args.used ≡ c.args.limit = search rules in let n = c.vouch.ensures.net in (
+    let told : c.any_of-any.result ≡ true = search rules in
+    let some : any_waits c.waiting.new.self c.args.whos.now ≡ true = any_found c.waiting.new.self c.args.whos.now c.in-Ok-waiting.found.items c.any_of-any.result c.in-Ok-waiting.ensures.waiting (c.any_of-any.ensures ∙ ap (list_any (λ wait. wait)) c.as_slice.ensures.value) ∙ told in let all : c.args.used ≡ c.args.limit = search rules in let n = c.vouch.ensures.net in (
       c.vouch.ensures.over,
       waits_same c.waiting.new.self c.vouch.new.net c.args.whos.now n.0.stays.exchange.1 n.1 ∙ some,
       refl,
@@ -46,7 +50,8 @@ returns-then-used-limit-clause-end g c =
 
 pub returns-clause-begin : goal.returns-clause-begin
 returns-clause-begin g c = λ none.
-    let some : any_waits c.waiting.new.self c.args.whos.now ≡ true = sym (flags g c) ∙ search rules in let n = c.vouch.ensures.net in (
+    let told : c.any_of-any.result ≡ true = search rules in
+    let some : any_waits c.waiting.new.self c.args.whos.now ≡ true = any_found c.waiting.new.self c.args.whos.now c.in-Ok-waiting.found.items c.any_of-any.result c.in-Ok-waiting.ensures.waiting (c.any_of-any.ensures ∙ ap (list_any (λ wait. wait)) c.as_slice.ensures.value) ∙ told in let n = c.vouch.ensures.net in (
       record {
         waits = waits_same c.waiting.new.self c.vouch.new.net c.args.whos.now n.0.stays.exchange.1 n.1 ∙ some;
         gathered = returns-clause-gathered g c;
