@@ -16,9 +16,7 @@ ghost use Rattle.sc_exchange.specs.Answers.{IsFetch, IsLook, number_of};
 
 use crate::answers::{Fetched, Unposted};
 use crate::deeds::Exchange;
-use crate::turns::{
-    any_at, change_at, fetch_at, kth_at, look_at, post_at, receiver_at, waiting_at,
-};
+use crate::turns::{change_at, fetch_at, kth_at, look_at, post_at, receiver_at, waiting_at};
 use sc_actor::{Event, Journal, Parcel, Row};
 use sc_base::{OutOfMemory, Sequence};
 use sc_ledger::{Look, Unkept};
@@ -199,15 +197,6 @@ impl<M: Parcel + Drop, O: Drop> Port<M, O> {
         ensures receiver { result ≡ option_map M.receiver (numbered (mails (seen self.new)) number) }
     {
         receiver_at(rt, &mut self.seat, number)
-    }
-
-    /// Whether at this turn mail is pending for one of these actors.
-    pub fn any_pending<R: Wait>(&mut self, rt: &R, whos: &[u32]) -> bool
-        ensures looked { Looked self.old self.new × IsTrue self.new × (self.new.fetched ≡ self.old.fetched) × (self.new.crashed ≡ self.old.crashed) }
-        ensures addressed { IsAddressed self.new }
-        ensures any { result ≡ list_any (λ who. is_some (kth_pending M.receiver self.new.actors (seen self.new) who 1)) whos.now }
-    {
-        any_at(rt, &mut self.seat, self.actors, whos)
     }
 
     /// For each of these actors, whether mail is pending for it, all at this one turn.

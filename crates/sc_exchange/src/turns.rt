@@ -1,6 +1,5 @@
 //! What is done at one turn.
 ghost use Rattle.std.specs.Prelude.{◌≡◌, ◌<◌, ◌≤◌, ◌+◌, ◌^◌, ◌++◌, ◌∷◌, [], true, false, length, map, IfOk, IfErr, OnOk, OnErr, MatchBool, is_some};
-ghost use Rattle.std.specs.List.{list_any};
 ghost use Rattle.sc_turn.specs.Seats.{known, OfOneStart};
 ghost use Rattle.sc_turn.specs.Turn.{with_turn, with_row, rows_by};
 ghost use Rattle.sc_actor.specs.Counted.{row_bytes, journal_bytes};
@@ -86,31 +85,6 @@ pub(crate) fn receiver_at<M: Parcel + Drop, O: Drop, R: Wait>(
     let found = exchange.ledger.receiver(number);
     keep_same(seat, exchange);
     found
-}
-
-/// Whether at this turn mail is pending for one of these actors.
-pub(crate) fn any_at<M: Parcel + Drop, O: Drop, R: Wait>(
-    rt: &R,
-    seat: &mut TurnSeat<Exchange<M, O>>,
-    actors: u32,
-    whos: &[u32],
-) -> bool
-    requires turn { (known seat.old).turn ≡ false }
-    ensures start { OfOneStart seat.old seat.new }
-    ensures addressed { all_addressed M.receiver [] (rows_from (known seat.new).seen) ≡ true }
-    ensures turned { Turned (known seat.old) (known seat.new) }
-    ensures any { result ≡ list_any (λ who. is_some (kth_pending M.receiver actors (rows_from (known seat.new).seen) who 1)) whos.now }
-{
-    let exchange = seat.enter(rt);
-    let found = any_in(&exchange.ledger, actors, whos);
-    keep_same(seat, exchange);
-    found
-}
-
-fn any_in<M: Parcel + Drop, O: Drop>(ledger: &Ledger<M, O>, actors: u32, whos: &[u32]) -> bool
-    ensures { result ≡ list_any (λ who. is_some (kth_pending M.receiver actors ledger.now.rows.items who 1)) whos.now }
-{
-    whos.iter().any(|who| ledger.kth(actors, *who, 1).is_some())
 }
 
 /// For each of these actors, whether mail is pending for it at this turn.
