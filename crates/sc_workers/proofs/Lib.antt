@@ -5,3 +5,4 @@ pub mod Stopping
 pub mod Attending
 pub mod Refusing
 pub mod Ending
+pub mod Joining

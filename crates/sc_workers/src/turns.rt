@@ -36,23 +36,60 @@ pub(crate) fn any_of(waits: &[bool]) -> bool
     waits.iter().any(|wait| *wait)
 }
 
-// Whether mail waits in two runs of `size` or more.
-fn two_wait(waits: &[bool], size: usize) -> bool
-    requires { 0 < size }
-{
-    let mut one = false;
-    for run in waits.chunks(size) {
-        if any_of(run) {
-            if one {
-                return true;
-            }
-            one = true;
-        }
-    }
-    false
+// In how many runs of `size` mail waits, told up to three, and the place of the second of them.
+#[derive(Clone, Copy, Debug, PartialEq, Eq)]
+struct Busy {
+    runs: u32,
+    second: usize,
 }
 
-/// Each shell takes a turn, runs of `size` neighbours at the same time. `waits` tells for which of the shells mail waits: where that is the shells of one run alone, no thread is started.
+fn busy_in(waits: &[bool], size: usize) -> Busy
+    requires { 0 < size }
+{
+    let mut busy = Busy { runs: 0, second: 0 };
+    for (place, run) in waits.chunks(size).enumerate() {
+        if any_of(run) {
+            busy.runs = busy.runs.saturating_add(1).min(3);
+            if busy.runs == 2 {
+                busy.second = place;
+            }
+        }
+    }
+    busy
+}
+
+// Runs of `size` shells take their turns at the same time, each in a thread of its own but one.
+fn by_threads<A: Actor, G: Gate, R: Threads + Wait + Sync>(
+    rt: &R,
+    alloc: Global,
+    gate: &G,
+    size: usize,
+    part: &mut [Shell<A>],
+)
+    requires { 0 < size }
+    ensures { AllTook part.old part.new }
+{
+    thread::for_each_chunk_mut(rt, part, size, &|_, run| turns(rt, alloc, gate, run));
+}
+
+// The first `cut` shells and the next `cut` take their turns at the same time, and then the others.
+fn in_two<A: Actor, G: Gate, R: Threads + Wait + Sync>(
+    rt: &R,
+    alloc: Global,
+    gate: &G,
+    cut: usize,
+    shells: &mut [Shell<A>],
+)
+    requires { 0 < cut }
+    ensures { AllTook shells.old shells.new }
+{
+    let both = cut.saturating_mul(2).min(shells.len());
+    let (first, others) = shells.split_at_mut(both);
+    by_threads(rt, alloc, gate, cut, first);
+    turns(rt, alloc, gate, others);
+}
+
+/// Each shell takes a turn, runs of `size` neighbours at the same time. `waits` tells for which of the shells mail waits: where that is the shells of one run alone, no thread is started, and where it is those of two, only one is.
 pub(crate) fn at_once<A: Actor, G: Gate, R: Threads + Wait + Sync>(
     rt: &R,
     alloc: Global,
@@ -65,16 +102,16 @@ pub(crate) fn at_once<A: Actor, G: Gate, R: Threads + Wait + Sync>(
     ensures len { length shells.new.items ≡ length shells.old.items }
     ensures took { AllTook shells.old.items shells.new.items }
 {
-    if !two_wait(waits, size) {
-        turns(rt, alloc, gate, shells.as_mut_slice());
-        return;
+    let busy = busy_in(waits, size);
+    let all = shells.as_mut_slice();
+    match busy.runs {
+        0 | 1 => turns(rt, alloc, gate, all),
+        2 => {
+            let cut = busy.second.saturating_mul(size).max(size);
+            in_two(rt, alloc, gate, cut, all);
+        }
+        _ => by_threads(rt, alloc, gate, size, all),
     }
-    thread::for_each_chunk_mut(
-        rt,
-        shells.as_mut_slice(),
-        size,
-        &|_, part| turns(rt, alloc, gate, part),
-    );
 }
 
 fn is_did(last: Option<Turn>) -> bool
