@@ -6,7 +6,7 @@ use Rattle.sc_base.specs.Operation.{key_of}
 use Rattle.sc_base.specs.Text.{pos_of}
 use Rattle.sc_actor.specs.declared.rows.Input.{Input}
 use Rattle.sc_actor.specs.declared.rows.Input.TheVariants.{Got, Tick, Go, Told}
-use Rattle.sc_cmd.specs.Same.{same_draw}
+use Rattle.sc_base.specs.Same.{same_draw}
 use Rattle.sc_cmd.specs.declared.orders.OrderLine.{OrderLine}
 use Rattle.sc_mail.specs.declared.bodies.Mail.{Mail}
 use Rattle.sc_mail.specs.declared.bodies.MailBody.{MailBody}

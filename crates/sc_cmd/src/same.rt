@@ -1,6 +1,6 @@
 //! Comparisons of names and of ballots.
 ghost use Rattle.std.specs.Prelude.{◌≡◌};
-ghost use Rattle.sc_cmd.specs.Same.{same_draw, same_ballot};
+ghost use Rattle.sc_base.specs.Same.{same_draw, same_ballot};
 
 use sc_base::{Ballot, Draw};
 

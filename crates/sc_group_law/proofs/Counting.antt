@@ -4,7 +4,7 @@ use Rattle.std.specs.Prelude.{slice_get}
 use Rattle.std.specs.List.{flat_map}
 use Rattle.std.proofs.lemmas.Bool.{cases_Bool, eqb-true, eqb-false, ltb-true, ltb-false, and_parts, cond_both}
 use Rattle.sc_base.specs.declared.names.Ballot.{Ballot}
-use Rattle.sc_cmd.specs.Same.{same_ballot}
+use Rattle.sc_base.specs.Same.{same_ballot}
 use Rattle.sc_cmd.specs.declared.commands.Command.{Command}
 use Rattle.sc_cmd.specs.declared.cores.Base.{Base}
 use Rattle.sc_mail.specs.declared.bodies.Mail.{Mail}
@@ -14,7 +14,6 @@ use Rattle.sc_paxos_words.specs.declared.answers.Counted.{Counted}
 use Rattle.sc_paxos_words.specs.declared.flights.Flight.{Flight}
 use Rattle.sc_paxos_words.specs.declared.reports.Report.{Report}
 use Rattle.sc_paxos_words.specs.Among.{Among, Each}
-use Rattle.sc_paxos_words.specs.Ballots.{same_ballot as one_ballot}
 use Rattle.sc_paxos_words.specs.Leaders.{LeaderState, flight_at, landed, promise_counted}
 use Rattle.sc_paxos_words.specs.Votes.{voters_of, add_voter, voters_after, with_voters, vote_at, counted}
 use Rattle.sc_paxos_words.proofs.ListLemmas.{Each-among, Each-weaker, Each-append, Each-filter, find_found}
@@ -144,7 +143,7 @@ module _ (ahead : Ahead) (base : Base) (made : Command → Type 0) (grants : Gra
       cond_both (leads ballot r) _ _ Ok
       (λ t. (
       let parts = and_parts r.running (same_ballot ballot r.leader.ballot) t in
-      let after = cond_both (one_ballot ballot r.leader.ballot && not (is_member r.leader.promisers from)) _ _
+      let after = cond_both (same_ballot ballot r.leader.ballot && not (is_member r.leader.promisers from)) _ _
       (λ (x : Bool × LeaderState Command). Replica (f.newer ++ before) (record r { leader = x.1 }))
       (λ _. voter_replica (f.newer ++ before) from ballot reports start r f.replica parts.0 (ballot_is ballot r.leader.ballot parts.1) promised asked) (λ _. f.replica) in
       pumps ahead base made grants me before some law _ (turn ahead base made me before r (record r { leader = (promise_counted from ballot reports r.leader).1 }) mails f after)))
@@ -276,7 +275,7 @@ module _ (ahead : Ahead) (base : Base) (made : Command → Type 0) (grants : Gra
 
     counted_place : Ok (tallied slot (counted from b slot set r.leader) (r, mails))
     counted_place =
-        cond_both (one_ballot b r.leader.ballot) _ _ (λ (x : Counted Command × LeaderState Command). Ok (tallied slot x (r, mails))) (λ _. voted_at (flight_at slot r.leader.flights) refl) (λ _. f)
+        cond_both (same_ballot b r.leader.ballot) _ _ (λ (x : Counted Command × LeaderState Command). Ok (tallied slot x (r, mails))) (λ _. voted_at (flight_at slot r.leader.flights) refl) (λ _. f)
 
   set_is : (h : Steps) (slot : ℕ) (set : List ℕ) (r : ReplicaState) (k : Replica h r) → set_at slot r ≡ Some set → (set ≡ members_of (rule ahead base) k.whole slot) × (needed (rule ahead base) slot ≤ length k.whole)
   set_is h slot set r k e =

@@ -33,7 +33,7 @@ use Rattle.sc_paxos_law.proofs.Among.{Among-left, Among-right, from_flat_map}
 use Rattle.sc_paxos_law.proofs.History.{was_offered, report_accepted}
 use Rattle.sc_paxos_words.specs.Logs.{next_of}
 use Rattle.sc_paxos_law.proofs.Leading.{elected_by}
-use Rattle.sc_node_table.specs.Pump.{Found, is_alone, waits, refused_by, turned_down, next_call, from_calls, from_acts, from_queues, found_by, found_for, offered, pumped_from, pumped}
+use Rattle.sc_node_table.specs.Pump.{Found, is_act, waits, refused_by, turned_down, next_call, from_calls, from_acts, from_queues, found_by, found_for, offered, pumped_from, pumped}
 use Rattle.sc_node_table.specs.Mails.{sent_all, answered}
 use Rattle.sc_node_table.specs.Slots.{at_slot}
 use Rattle.sc_node_table.specs.Replica.{ReplicaState, Place, name_of, next, flying, either, taken_at, may_offer, settled, under_way, is_idle, last_slot}
@@ -313,7 +313,7 @@ module _ (ahead : Ahead) (base : Base) (made : Command → Type 0) (grants : Gra
   found_in_queues : (slot : ℕ) (r : ReplicaState) (mails : List Mail) → must slot r.leader ≡ Open → Ok (r, mails) → IsFound slot r (from_queues (r, mails))
   unfolding from_queues
   found_in_queues slot r mails free f =
-      cond_both (list_any is_alone (under_way r)) _ _ (IsFound slot r) (λ _. nothing_found slot r mails f) (λ _. found_in_acts slot r.acts r mails f.replica.acts free f)
+      cond_both (list_any is_act (under_way r)) _ _ (IsFound slot r) (λ _. nothing_found slot r mails f) (λ _. found_in_acts slot r.acts r mails f.replica.acts free f)
 
   -- what was reported was requested
   reported_made : (slot : ℕ) (c : Command) (r : ReplicaState) (mails : List Mail) → Ok (r, mails) → r.running ≡ true → must slot r.leader ≡ Value c → made c

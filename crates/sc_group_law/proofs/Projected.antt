@@ -5,7 +5,7 @@ use Rattle.std.specs.Option.{option_map}
 use Rattle.std.proofs.lemmas.Bool.{cond_both}
 use Rattle.sc_base.specs.declared.names.Ballot.{Ballot}
 use Rattle.sc_base.specs.declared.names.Draw.{Draw}
-use Rattle.sc_cmd.specs.Same.{same_draw, same_ballot as one_ballot}
+use Rattle.sc_base.specs.Same.{same_draw, same_ballot}
 use Rattle.sc_cmd.specs.declared.commands.Command.{Command}
 use Rattle.sc_cmd.specs.declared.orders.OrderLine.{OrderLine}
 use Rattle.sc_mail.specs.declared.bodies.Mail.{Mail}
@@ -17,7 +17,6 @@ use Rattle.sc_actor.specs.declared.rows.Event.{Event}
 use Rattle.sc_actor.specs.declared.rows.Event.TheVariants.{Deliver}
 use Rattle.sc_actor.specs.Mail.{mails, numbered}
 use Rattle.sc_paxos_words.specs.Among.{Among}
-use Rattle.sc_paxos_words.specs.Ballots.{same_ballot}
 use Rattle.sc_paxos_words.specs.declared.reports.Report.{Report}
 use Rattle.sc_paxos_words.proofs.ListLemmas.{Each-weaker}
 use Rattle.sc_paxos_law.specs.Steps.{Step, Prepared, Promised, Offered, Accepted, Cut}
@@ -146,7 +145,7 @@ module _ (group : Draw) where
 
   no_promise : (who : ℕ) (b : Ballot) (start : ℕ) (body : MailBody) → only (promised_by group who b start body) ≡ []
   no_promise who b start (Promise g c rs) =
-      cond_both (same_draw g group && one_ballot c b) (Promised who b start rs ∷ []) [] (λ (x : List (Step Command)). only x ≡ []) (λ _. refl) (λ _. refl)
+      cond_both (same_draw g group && same_ballot c b) (Promised who b start rs ∷ []) [] (λ (x : List (Step Command)). only x ≡ []) (λ _. refl) (λ _. refl)
   no_promise who b start _ = refl
 
   no_promises : (who : ℕ) (b : Ballot) (start : ℕ) (sent : List Mail) → only (flat_map (λ (mail : Mail). promised_by group who b start mail.body) sent) ≡ []

@@ -7,7 +7,7 @@ use Rattle.sc_member.specs.Majority.{is_majority}
 use Rattle.sc_paxos_words.specs.declared.flights.Flight.{Flight}
 use Rattle.sc_paxos_words.specs.declared.answers.Counted.{Counted}
 use Rattle.sc_paxos_words.specs.declared.answers.Counted.TheVariants.{Chosen, NotYet}
-use Rattle.sc_paxos_words.specs.Ballots.{same_ballot}
+use Rattle.sc_base.specs.Same.{same_ballot}
 use Rattle.sc_paxos_words.specs.Leaders.{LeaderState, flight_at, landed, without_flight}
 use Rattle.sc_paxos_words.specs.Votes.{voters_of, voters_after, with_voters, tallied, vote_at, counted}
 

@@ -4,7 +4,7 @@ use Rattle.std.specs.Map.{lookup, set_value, remove_entry}
 use Rattle.std.proofs.lemmas.Map.{length-set_value}
 use Rattle.indexmap.specs.IndexMap.{insert_entry}
 use Rattle.sc_base.specs.declared.names.Draw.{Draw}
-use Rattle.sc_cmd.specs.Same.{same_draw}
+use Rattle.sc_base.specs.Same.{same_draw}
 use Rattle.sc_lookup.specs.declared.ways.Way.{Way}
 use Rattle.std.specs.Prelude.{is_some, Result, Ok, Err, OnOk, OnErr, IsOk}
 use Rattle.sc_base.specs.declared.dups.OutOfMemory.{OutOfMemory}

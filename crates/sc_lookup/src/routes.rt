@@ -2,7 +2,7 @@
 ghost use Rattle.std.specs.Prelude.{◌≡◌, ◌∷◌, ◌++◌, [], ◌<◌, ◌≤◌, IsOk, IfOk, OnOk, OnErr, None, Some, is_some, length};
 ghost use Rattle.std.specs.Map.{set_value};
 ghost use Rattle.indexmap.specs.IndexMap.{spare};
-ghost use Rattle.sc_cmd.specs.Same.{same_draw};
+ghost use Rattle.sc_base.specs.Same.{same_draw};
 ghost use Rattle.sc_lookup.specs.Ways.{new_way};
 ghost use Rattle.sc_lookup.specs.Known.{way_to, chosen, target_in, next_in, better, preferring, passed_on, starting, learnt, told_not_mine, told_gone};
 

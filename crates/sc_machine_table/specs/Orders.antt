@@ -3,7 +3,7 @@ use Rattle.std.specs.Prelude.{ℕ, Bool, ◌==◌, ◌&&◌, ◌||◌, not, nat_
 use Rattle.sc_base.specs.Arc.{holds}
 use Rattle.sc_base.specs.declared.names.Draw.{Draw}
 use Rattle.sc_member.specs.Roster.{is_member, with_member, without_member}
-use Rattle.sc_cmd.specs.Same.{same_draw}
+use Rattle.sc_base.specs.Same.{same_draw}
 use Rattle.sc_cmd.specs.declared.commands.Command.{Command}
 use Rattle.sc_cmd.specs.declared.commands.Command.TheVariants.{Join, Leave, Split}
 use Rattle.sc_cmd.specs.declared.cores.Core.{Core}

@@ -1,7 +1,7 @@
 -- The place of a group's replica.
 use Rattle.std.specs.Prelude.{ℕ, ◌+◌, List, [], ◌∷◌, if◌then◌else◌, Option, Some, None}
 use Rattle.sc_base.specs.declared.names.Draw.{Draw}
-use Rattle.sc_cmd.specs.Same.{same_draw}
+use Rattle.sc_base.specs.Same.{same_draw}
 use Rattle.sc_node_table.specs.Replica.{ReplicaState, name_of}
 
 -- the place of the first replica of a group, where the first one's place is so much

@@ -6,7 +6,7 @@ use Rattle.sc_paxos_words.specs.declared.answers.Must.{Must}
 use Rattle.sc_paxos_words.specs.declared.answers.Must.TheVariants.{Value, Gap, Free}
 use Rattle.sc_paxos_words.specs.Leaders.{must}
 use Rattle.sc_node_table.specs.Replica.{ReplicaState, Place, next, settled, may_offer, taken_at, under_way, is_idle, last_slot}
-use Rattle.sc_node_table.specs.Pump.{Found, is_alone, from_calls, from_acts, from_queues, found_by, found_for, offered, pumped_from, pumped}
+use Rattle.sc_node_table.specs.Pump.{Found, is_act, from_calls, from_acts, from_queues, found_by, found_for, offered, pumped_from, pumped}
 
 -- a replica but for what is in flight and the queues
 abbrev pub frame : ReplicaState → ReplicaState
@@ -26,7 +26,7 @@ acts-frame (act ∷ acts) place = either-frame (is_idle place.0) _ _ place.0 ref
 
 queues-frame : (place : Place) → frame (from_queues place).1.0 ≡ frame place.0
 unfolding from_queues
-queues-frame place = either-frame (list_any is_alone (under_way place.0)) _ (from_acts place.0.acts place) place.0 refl (acts-frame place.0.acts place)
+queues-frame place = either-frame (list_any is_act (under_way place.0)) _ (from_acts place.0.acts place) place.0 refl (acts-frame place.0.acts place)
 
 by-frame : (what : Must Command) (place : Place) → frame (found_by what place).1.0 ≡ frame place.0
 by-frame (Value command) place = refl

@@ -24,10 +24,10 @@ abbrev pub Found : Type 0
 Found = Option Command × Place
 
 -- 3. whether a command is other than Call and Noop: while one is under way nothing new is offered
-abbrev pub is_alone : Command → Bool
-is_alone Noop = false
-is_alone (Call client seq op) = false
-is_alone _ = true
+abbrev pub is_act : Command → Bool
+is_act Noop = false
+is_act (Call client seq op) = false
+is_act _ = true
 
 -- 5. calls are served under these locks alone
 abbrev pub serves_calls : Lock → Bool
@@ -68,7 +68,7 @@ from_acts (act ∷ acts) (r, mails) = if is_idle r then (Some act, (record r { a
 
 -- 3 to 7
 unfoldable pub from_queues : Place → Found
-from_queues (r, mails) = if list_any is_alone (under_way r) then (None, (r, mails)) else from_acts r.acts (r, mails)
+from_queues (r, mails) = if list_any is_act (under_way r) then (None, (r, mails)) else from_acts r.acts (r, mails)
 
 -- 1 and 2. what the leader must propose there; else what waits
 abbrev pub found_by : Must Command → Place → Found

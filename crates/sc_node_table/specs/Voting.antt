@@ -1,7 +1,7 @@
 -- Promises and votes: the rows of Prepare, Promise, Accept, Accepted and Nack.
 use Rattle.std.specs.Prelude.{ℕ, ◌==◌, ◌&&◌, nat_le, Bool, true, List, if◌then◌else◌, Option, Some, None}
 use Rattle.sc_base.specs.declared.names.Ballot.{Ballot}
-use Rattle.sc_cmd.specs.Same.{same_ballot}
+use Rattle.sc_base.specs.Same.{same_ballot}
 use Rattle.sc_cmd.specs.declared.commands.Command.{Command}
 use Rattle.sc_mail.specs.declared.bodies.MailBody.TheVariants.{Promise, Accepted, Nack}
 use Rattle.sc_paxos_words.specs.declared.reports.Report.{Report}

@@ -7,7 +7,8 @@ use Rattle.sc_base.specs.declared.names.Ballot.{Ballot}
 use Rattle.sc_member.specs.Roster.{is_member}
 use Rattle.sc_member.specs.Majority.{IsMajority, is_majority}
 use Rattle.std.specs.Option.{option_map}
-use Rattle.sc_paxos_words.specs.Ballots.{below, IsAtLeast, same_ballot}
+use Rattle.sc_paxos_words.specs.Ballots.{below, IsAtLeast}
+use Rattle.sc_base.specs.Same.{same_ballot}
 use Rattle.sc_paxos_words.specs.declared.reports.Report.{Report}
 use Rattle.sc_paxos_words.proofs.BallotLemmas.{at_least_itself, at_least_trans, at_least_from_below}
 use Rattle.sc_paxos_words.proofs.ListLemmas.{Each-among, Each-weaker}

@@ -1,5 +1,5 @@
 -- The order of ballots.
-use Rattle.std.specs.Prelude.{◌≡◌, Bool, false, ◌==◌, ◌&&◌}
+use Rattle.std.specs.Prelude.{◌≡◌, Bool, false}
 use Rattle.std.specs.Ordering.{nat_cmp, ordering_then, is_lt}
 use Rattle.std.specs.declared.cmp.Ordering.{Ordering}
 use Rattle.sc_base.specs.declared.names.Ballot.{Ballot}
@@ -15,7 +15,3 @@ below a b = is_lt (ballot_cmp a b)
 -- a ballot is not below another: it is that one or a later one
 abbrev pub IsAtLeast : Ballot → Ballot → Type 0
 IsAtLeast a b = below a b ≡ false
-
--- whether two ballots are one
-abbrev pub same_ballot : Ballot → Ballot → Bool
-same_ballot a b = (a.round == b.round) && (a.node == b.node)

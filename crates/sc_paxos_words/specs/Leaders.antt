@@ -7,7 +7,8 @@ use Rattle.sc_paxos_words.specs.declared.reports.Report.{Report}
 use Rattle.sc_paxos_words.specs.declared.flights.Flight.{Flight}
 use Rattle.sc_paxos_words.specs.declared.answers.Must.{Must}
 use Rattle.sc_paxos_words.specs.declared.answers.Must.TheVariants.{Value, Gap, Free}
-use Rattle.sc_paxos_words.specs.Ballots.{below, same_ballot}
+use Rattle.sc_paxos_words.specs.Ballots.{below}
+use Rattle.sc_base.specs.Same.{same_ballot}
 use Rattle.sc_paxos_words.specs.Choice.{chosen_value, names_above}
 
 -- its ballot, whether that is the group's first, the next slot when it was elected, who promised it, their reports in the order in which they were counted, and what is in flight

@@ -6,7 +6,7 @@ use Rattle.sc_member.specs.Majority.{is_majority}
 use Rattle.sc_paxos_words.specs.declared.flights.Flight.{Flight}
 use Rattle.sc_paxos_words.specs.declared.answers.Counted.{Counted}
 use Rattle.sc_paxos_words.specs.declared.answers.Counted.TheVariants.{Chosen, NotYet}
-use Rattle.sc_paxos_words.specs.Ballots.{same_ballot}
+use Rattle.sc_base.specs.Same.{same_ballot}
 use Rattle.sc_paxos_words.specs.Leaders.{LeaderState, flight_at, landed}
 
 -- the nodes whose votes are kept

@@ -8,7 +8,7 @@ use Rattle.sc_base.specs.declared.names.Ballot.{Ballot}
 use Rattle.sc_cmd.specs.declared.commands.Command.{Command}
 use Rattle.sc_member.specs.Majority.{is_majority}
 use Rattle.sc_paxos_words.specs.declared.reports.Report.{Report}
-use Rattle.sc_paxos_words.specs.Ballots.{same_ballot}
+use Rattle.sc_base.specs.Same.{same_ballot}
 use Rattle.sc_paxos_law.specs.Steps.{Step}
 use Rattle.sc_paxos_law.specs.Decided.{voters_of, found_in, chosen_at, lesser_of}
 use Rattle.sc_replay.specs.Acceptances.{step_of, steps_of, report_of}

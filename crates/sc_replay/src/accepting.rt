@@ -3,7 +3,7 @@ ghost use Rattle.std.specs.Prelude.{◌≡◌, map, ◌++◌, ◌&&◌, IfOk, On
 ghost use Rattle.std.specs.List.{list_any};
 ghost use Rattle.std.specs.Option.{option_copied};
 ghost use Rattle.sc_actor.specs.Mail.{numbered};
-ghost use Rattle.sc_cmd.specs.Same.{same_draw};
+ghost use Rattle.sc_base.specs.Same.{same_draw};
 ghost use Rattle.sc_sound.specs.Accepts.{is_accepted, accepts_of, accepts_at, accepts};
 ghost use Rattle.sc_replay.specs.Acceptances.{steps_of};
 

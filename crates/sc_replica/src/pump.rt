@@ -4,7 +4,7 @@ ghost use Rattle.std.specs.List.{list_any};
 ghost use Rattle.sc_ideal.specs.IdealStore.{key_of, holds_key};
 ghost use Rattle.sc_paxos_words.specs.Leaders.{Obeys, flight_at, must};
 ghost use Rattle.sc_node_table.specs.Replica.{next, settled, may_offer, taken_at, listed, under_way, is_idle, last_slot};
-ghost use Rattle.sc_node_table.specs.Pump.{is_alone, serves_calls, waits, turned_down, refused_by, next_call, from_calls, from_acts, from_queues, found_for, offered, pumped_from, pumped};
+ghost use Rattle.sc_node_table.specs.Pump.{is_act, serves_calls, waits, turned_down, refused_by, next_call, from_calls, from_acts, from_queues, found_for, offered, pumped_from, pumped};
 ghost use Rattle.sc_replica.specs.Heads.{head_waits};
 
 use crate::command_queue::Queue;
@@ -17,8 +17,8 @@ use sc_mail::{AnswerBody, Mail};
 use std::alloc::Global;
 
 /// Whether a command is other than Call and Noop: while one is under way nothing new is offered.
-fn is_alone(command: &Command) -> bool
-    ensures { result ≡ is_alone command.now }
+fn is_act(command: &Command) -> bool
+    ensures { result ≡ is_act command.now }
 {
     match command {
         Command::Noop | Command::Call { .. } => false,
@@ -150,22 +150,22 @@ impl Replica {
         true
     }
 
-    fn is_alone_at(&self, slot: u32) -> bool
-        ensures { result ≡ list_any is_alone (listed (taken_at self.now slot)) }
+    fn is_act_at(&self, slot: u32) -> bool
+        ensures { result ≡ list_any is_act (listed (taken_at self.now slot)) }
     {
         match self.taken(slot) {
-            Some(command) => is_alone(command),
+            Some(command) => is_act(command),
             None => false,
         }
     }
 
     /// Whether a command other than Call and Noop is in flight or ready.
-    fn has_alone(&self) -> bool
-        ensures { result ≡ list_any is_alone (under_way self.now) }
+    fn has_act(&self) -> bool
+        ensures { result ≡ list_any is_act (under_way self.now) }
     {
         let next = self.next();
         for i in 0..self.open_slots() {
-            if self.is_alone_at(next + i as u32) {
+            if self.is_act_at(next + i as u32) {
                 return true;
             }
         }
@@ -212,7 +212,7 @@ impl Replica {
         ensures leader { OnOk result (self.new.leader ≡ self.old.leader) }
         ensures sets { OnOk result (self.new.sets ≡ self.old.sets) }
     {
-        if self.has_alone() {
+        if self.has_act() {
             return Ok(None);
         }
         self.find_in_acts(out)

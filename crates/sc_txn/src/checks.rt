@@ -2,7 +2,7 @@
 ghost use Rattle.std.specs.Prelude.{◌≡◌, ◌≤◌, true, Some, None, MatchResult, OnOk, nat_eq, length};
 ghost use Rattle.std.specs.List.{list_any};
 ghost use Rattle.sc_member.specs.Faults.{add_fault, remove_fault};
-ghost use Rattle.sc_cmd.specs.Same.{same_draw};
+ghost use Rattle.sc_base.specs.Same.{same_draw};
 ghost use Rattle.sc_machine_table.specs.Splits.{CanSplit, has_named, is_locked_in};
 ghost use Rattle.sc_machine_table.specs.Orders.{locked_in, is_alone, refusal_of, refused_free, join_refused, leave_refused, split_refused};
 ghost use Rattle.sc_txn.specs.Checked.{is_checked, IsPossible};

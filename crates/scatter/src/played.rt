@@ -1,5 +1,5 @@
 //! A scenario played to its end, through the shells of its actors.
-ghost use Rattle.std.specs.Prelude.{◌≡◌, ◌≢◌, map, true};
+ghost use Rattle.std.specs.Prelude.{◌≢◌, map};
 ghost use Rattle.sc_exchange.specs.Ports.{seen};
 ghost use Rattle.sc_drive.specs.Companies.{AtBirth};
 ghost use Rattle.sc_drive.specs.Goings.{IsKept};
@@ -33,18 +33,6 @@ pub enum Played {
     /// To a row that would pass the limit of the exchange.
     Full,
     OutOfMemory,
-}
-
-impl Played {
-    /// Whether there was memory to the end.
-    pub fn had_memory(self) -> bool
-        ensures { result ≡ true → self ≢ Played.OutOfMemory }
-    {
-        match self {
-            Played::Ended { .. } | Played::Full => true,
-            Played::OutOfMemory => false,
-        }
-    }
 }
 
 /// Plays a scenario through the network's port and the shells of its actors, which are as they

@@ -45,7 +45,7 @@ pub fn play_whole<G: Gate, R: Threads + Wait + Sync>(
 {
     let (mut net, mut shells) = begin(alloc, scenario, limit)?;
     let played = play(rt, alloc, scenario, &mut net, &mut shells, gate);
-    if !played.had_memory() {
+    if played == Played::OutOfMemory {
         return Err(OutOfMemory);
     }
     let (journal, parties) = close(rt, alloc, net, shells)?;

@@ -1,7 +1,7 @@
 use Rattle.std.proofs.Common.{◌≡◌, ◌≤◌, ◌<◌, OnOk, length, ap, sym, ◌∙◌, subst, arith}
 use Rattle.std.specs.Map.{remove_entry}
 use Rattle.indexmap.specs.IndexMap.{spare}
-use Rattle.sc_cmd.specs.Same.{same_draw}
+use Rattle.sc_base.specs.Same.{same_draw}
 use Rattle.sc_lookup.specs.Known.{Known, learnt}
 use Rattle.sc_lookup.proofs.KnownLemmas.{of_done, some_learnt}
 use Rattle.sc_lookup.proofs.routes.Routes.gone.Goals as goal
