@@ -92,9 +92,14 @@ impl<M: Parcel + Drop, O: Drop> Port<M, O> {
         ensures found { IfOk result (λ found. IsFetch M.receiver self.old.actors (seen self.new) self.old.who k found × (self.new.fetched ≡ number_of found)) }
     {
         self.fetched = None;
-        let found = fetch_at(rt, self.alloc, &mut self.seat, self.actors, self.who, k)?;
-        self.fetched = number_of(&found);
-        Ok(found)
+        match fetch_at(rt, self.alloc, &mut self.seat, self.actors, self.who, k) {
+            Ok(Fetched::Empty { seen }) => Ok(Fetched::Empty { seen }),
+            Ok(Fetched::Mail { number, mail }) => {
+                self.fetched = Some(number);
+                Ok(Fetched::Mail { number, mail })
+            }
+            Err(OutOfMemory) => Err(OutOfMemory),
+        }
     }
 
     /// Appends a row of this port's actor, and answers its place, counted from 1. A delivery is of the mail of the last fetch, which was pending then.
@@ -290,15 +295,6 @@ fn is_crash<O>(event: &Event<O>) -> bool
     match event {
         Event::Crash => true,
         _ => false,
-    }
-}
-
-fn number_of<M>(found: &Fetched<M>) -> Option<u32>
-    ensures { result ≡ number_of found.now }
-{
-    match found {
-        Fetched::Mail { number, mail: _ } => Some(*number),
-        Fetched::Empty { seen: _ } => None,
     }
 }
 

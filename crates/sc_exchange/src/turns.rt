@@ -1,5 +1,5 @@
 //! What is done at one turn.
-ghost use Rattle.std.specs.Prelude.{◌≡◌, ◌<◌, ◌≤◌, ◌+◌, ◌^◌, ◌++◌, ◌∷◌, [], true, false, length, map, IfOk, IfErr, OnOk, OnErr, MatchBool, is_some};
+ghost use Rattle.std.specs.Prelude.{◌≡◌, ◌<◌, ◌≤◌, ◌+◌, ◌^◌, ◌++◌, ◌∷◌, [], true, false, length, map, IfOk, IfErr, OnOk, OnErr, MatchBool, is_some, Some, IsSome};
 ghost use Rattle.sc_turn.specs.Seats.{known, OfOneStart};
 ghost use Rattle.sc_turn.specs.Turn.{with_turn, with_row, rows_by};
 ghost use Rattle.sc_actor.specs.Counted.{row_bytes, journal_bytes};
@@ -122,20 +122,19 @@ fn waiting_in<M: Parcel + Drop, O: Drop>(
     Ok(waits)
 }
 
-fn find<M: Parcel + Drop, O: Drop>(
+// A copy of a mail that is the k-th pending one.
+fn found_in<M: Parcel + Drop, O: Drop>(
     ledger: &Ledger<M, O>,
     alloc: Global,
     actors: u32,
     who: u32,
     k: u32,
+    number: u32,
 ) -> Result<Fetched<M>, OutOfMemory>
-    requires { 0 < k }
+    requires kth { kth_pending M.receiver actors ledger.now.rows.items who k ≡ Some number }
+    requires sent { IsSome (numbered (mails ledger.now.rows.items) number) }
     ensures { IfOk result (λ found. IsFetch M.receiver actors ledger.now.rows.items who k found) }
 {
-    let Some(number) = ledger.kth(actors, who, k) else {
-        let seen = ledger.len() as u32;
-        return Ok(Fetched::Empty { seen });
-    };
     match ledger.mail(alloc, number)? {
         Some(mail) => Ok(Fetched::Mail { number, mail }),
         None => unreachable!(),
@@ -159,7 +158,12 @@ pub(crate) fn fetch_at<M: Parcel + Drop, O: Drop, R: Wait>(
     ensures found { IfOk result (λ found. IsFetch M.receiver actors (rows_from (known seat.new).seen) who k found) }
 {
     let exchange = seat.enter(rt);
-    let found = find(&exchange.ledger, alloc, actors, who, k);
+    let Some(number) = exchange.ledger.kth(actors, who, k) else {
+        let seen = exchange.ledger.len() as u32;
+        keep_same(seat, exchange);
+        return Ok(Fetched::Empty { seen });
+    };
+    let found = found_in(&exchange.ledger, alloc, actors, who, k, number);
     keep_same(seat, exchange);
     found
 }

@@ -96,15 +96,15 @@ impl<A: Actor> Shell<A> {
         if self.spent {
             return Turn::Spent;
         }
-        let Ok(found) = self.port.fetch(rt, k) else {
-            self.spent = true;
-            return Turn::OutOfMemory;
-        };
-        match found {
-            Fetched::Empty { seen } => Turn::Empty { seen },
-            Fetched::Mail { number, mail } => {
+        match self.port.fetch(rt, k) {
+            Ok(Fetched::Empty { seen }) => Turn::Empty { seen },
+            Ok(Fetched::Mail { number, mail }) => {
                 gate.pass(self.port.who);
                 self.act(rt, alloc, Event::Deliver(number), Some(Input::Got(mail)))
+            }
+            Err(OutOfMemory) => {
+                self.spent = true;
+                Turn::OutOfMemory
             }
         }
     }
