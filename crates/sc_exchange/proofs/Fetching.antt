@@ -1,10 +1,11 @@
 -- The mail that was fetched, as more rows are seen.
-use Rattle.std.proofs.Common.{◌≡◌, ◌≢◌, ℕ, Bool, true, false, MatchBool, List, ◌∷◌, ◌++◌, length, map, refl, sym, ap, ◌∙◌, subst, append_assoc, [], Option, None, Some}
+use Rattle.std.proofs.Common.{◌≡◌, ◌≢◌, ℕ, Bool, true, false, MatchBool, List, ◌∷◌, ◌++◌, length, map, refl, sym, ap, ◌∙◌, subst, append_assoc, [], Option, None, Some, Result, Ok, Err, IfOk}
 use Rattle.std.proofs.lemmas.List.{append-nil}
 use Rattle.sc_turn.specs.declared.rule.View.{View}
 use Rattle.sc_turn.specs.Turn.{StartsWith, IsTrueOf, rows_by, with_seen}
 use Rattle.std.proofs.Math.Logic.{∥∥₁_elim}
 use Rattle.std.proofs.Props.{props}
+use Rattle.sc_base.specs.declared.dups.OutOfMemory.{OutOfMemory}
 use Rattle.sc_actor.specs.declared.rows.Row.{Row}
 use Rattle.sc_actor.specs.Mail.{mails}
 use Rattle.sc_actor.specs.declared.rows.Event.{Event}
@@ -14,7 +15,7 @@ use Rattle.sc_exchange.specs.declared.answers.Fetched.{Fetched}
 use Rattle.sc_exchange.specs.declared.answers.Fetched.TheVariants.{Mail, Empty}
 use Rattle.sc_exchange.specs.Deeds.{deeds, row_by, rows_from}
 use Rattle.sc_exchange.specs.Turns.{Turned, RowTurned, Changed, change}
-use Rattle.sc_exchange.specs.Answers.{IsFetch, number_of}
+use Rattle.sc_exchange.specs.Answers.{IsFetch, number_of, number_in}
 use Rattle.sc_exchange.specs.Ports.{MayPost}
 use Rattle.sc_exchange.specs.Fetches.{WasPending, HasFetched, delivered}
 use Rattle.sc_exchange.specs.Addressed.{is_addressed}
@@ -87,8 +88,12 @@ module _ {M O : Type 0} (receiver : M → ℕ) (actors who : ℕ) where
     own = λ ne. rows_of_from who v.seen ∙ ap (map (row_by who)) (ap (λ n. rows_by n v.seen) (sym is) ∙ own_same w v t);
   }
 
-  pub asked_found : (f : Option ℕ) (w v : View (Deed M O)) (k : ℕ) (found : Fetched M) → f ≡ number_of found → v.who ≡ who → Turned w v → IsFetch receiver actors (rows_from v.seen) who k found → HasFetched receiver actors who f (made_by v) (rows_from v.seen)
-  asked_found f w v k found is number t fetch = subst (λ (x : Option ℕ). HasFetched receiver actors who x (made_by v) (rows_from v.seen)) (sym is) (asked_now w v k found number t fetch)
+  asked_in : (w v : View (Deed M O)) (k : ℕ) (found : Result (Fetched M) OutOfMemory) → v.who ≡ who → Turned w v → IfOk found (IsFetch receiver actors (rows_from v.seen) who k) → HasFetched receiver actors who (number_in found) (made_by v) (rows_from v.seen)
+  asked_in w v k (Ok found) number t fetch = asked_now w v k found number t fetch
+  asked_in w v k (Err error) number t fetch = tt
+
+  pub asked_found : (f : Option ℕ) (w v : View (Deed M O)) (k : ℕ) (found : Result (Fetched M) OutOfMemory) → f ≡ number_in found → v.who ≡ who → Turned w v → IfOk found (IsFetch receiver actors (rows_from v.seen) who k) → HasFetched receiver actors who f (made_by v) (rows_from v.seen)
+  asked_found f w v k found is number t fetch = subst (λ (x : Option ℕ). HasFetched receiver actors who x (made_by v) (rows_from v.seen)) (sym is) (asked_in w v k found number t fetch)
 
   pub asked_event : (fetched : Option ℕ) (event : Event O) (made seen : List (Row M O)) → MayPost fetched event → HasFetched receiver actors who fetched made seen → HasFetched receiver actors who (delivered event) made seen
   asked_event fetched (Deliver number) made seen may h = subst (λ f. HasFetched receiver actors who f made seen) may h

@@ -1,5 +1,6 @@
 -- What a fetch may answer.
-use Rattle.std.specs.Prelude.{◌≡◌, ℕ, List, length, Option, None, Some, All}
+use Rattle.std.specs.Prelude.{◌≡◌, ℕ, List, length, Option, None, Some, All, Result, Ok, Err}
+use Rattle.sc_base.specs.declared.dups.OutOfMemory.{OutOfMemory}
 use Rattle.sc_actor.specs.declared.rows.Row.{Row}
 use Rattle.sc_actor.specs.Mail.{mails, numbered}
 use Rattle.sc_ledger.specs.Pending.{kth_pending}
@@ -25,3 +26,8 @@ module _ {M O : Type 0} where
 abbrev pub number_of : {M : Type 0} → Fetched M → Option ℕ
 number_of (Mail number mail) = Some number
 number_of (Empty seen) = None
+
+-- the same of an answer, which may be a want of memory
+abbrev pub number_in : {M : Type 0} → Result (Fetched M) OutOfMemory → Option ℕ
+number_in (Ok found) = number_of found
+number_in (Err error) = None

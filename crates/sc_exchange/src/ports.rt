@@ -12,7 +12,7 @@ ghost use Rattle.sc_exchange.specs.Deeds.{deeds, row_by, rows_from, rows_of};
 ghost use Rattle.sc_exchange.specs.Addressed.{all_addressed};
 ghost use Rattle.sc_exchange.specs.Fetches.{HasFetched, delivered};
 ghost use Rattle.sc_exchange.specs.Turns.{may_change, change};
-ghost use Rattle.sc_exchange.specs.Answers.{IsFetch, IsLook, number_of};
+ghost use Rattle.sc_exchange.specs.Answers.{IsFetch, IsLook, number_of, number_in};
 
 use crate::answers::{Fetched, Unposted};
 use crate::deeds::Exchange;
@@ -92,14 +92,9 @@ impl<M: Parcel + Drop, O: Drop> Port<M, O> {
         ensures found { IfOk result (λ found. IsFetch M.receiver self.old.actors (seen self.new) self.old.who k found × (self.new.fetched ≡ number_of found)) }
     {
         self.fetched = None;
-        match fetch_at(rt, self.alloc, &mut self.seat, self.actors, self.who, k) {
-            Ok(Fetched::Empty { seen }) => Ok(Fetched::Empty { seen }),
-            Ok(Fetched::Mail { number, mail }) => {
-                self.fetched = Some(number);
-                Ok(Fetched::Mail { number, mail })
-            }
-            Err(OutOfMemory) => Err(OutOfMemory),
-        }
+        let found = fetch_at(rt, self.alloc, &mut self.seat, self.actors, self.who, k);
+        self.fetched = number_in(&found);
+        found
     }
 
     /// Appends a row of this port's actor, and answers its place, counted from 1. A delivery is of the mail of the last fetch, which was pending then.
@@ -295,6 +290,16 @@ fn is_crash<O>(event: &Event<O>) -> bool
     match event {
         Event::Crash => true,
         _ => false,
+    }
+}
+
+// The number that was fetched, if any was. The answer is looked at where it lies, since it is large.
+fn number_in<M>(found: &Result<Fetched<M>, OutOfMemory>) -> Option<u32>
+    ensures { result ≡ number_in found.now }
+{
+    match found {
+        Ok(Fetched::Mail { number, mail: _ }) => Some(*number),
+        _ => None,
     }
 }
 

@@ -122,7 +122,8 @@ fn waiting_in<M: Parcel + Drop, O: Drop>(
     Ok(waits)
 }
 
-// A copy of a mail that is the k-th pending one.
+// A copy of a mail that is the k-th pending one. Most fetches find none: apart from them, so that they do not pay for what it keeps on the stack.
+#[inline(never)]
 fn found_in<M: Parcel + Drop, O: Drop>(
     ledger: &Ledger<M, O>,
     alloc: Global,
