@@ -11,15 +11,23 @@ use atomic_table::{Seat, Table};
 use sc_base::OutOfMemory;
 use std::alloc::Global;
 use std::marker::Brand;
+use std::sync::atomic::{AtomicU32, Ordering};
 use std::sync::{Arc, Wait};
+
+// What the seats share: the table, and a count of those that sleep until the turn is free. The count carries no fact: it only saves a call to wake nobody.
+#[derive(Drop)]
+struct Desk<T: Listed> {
+    table: Table<Option<T>, View<T::Entry>, (), Turning<T>, Global>,
+    sleepers: AtomicU32,
+}
 
 /// A seat at the table, by which one thread takes turns at the shared value.
 /// Its meaning is what it knows: its number, the rows that it has seen, the rows that were made under its number, and whether it has the turn.
 #[derive(Drop)]
 pub struct TurnSeat<T: Listed> {
-    desk: Arc<Table<Option<T>, View<T::Entry>, (), Turning<T>, Global>>,
+    desk: Arc<Desk<T>>,
     place: Seat<Option<T>, View<T::Entry>>,
-    ghost seated: { place.table_id ≡ (arc_value desk).shared.table_id },
+    ghost seated: { place.table_id ≡ (arc_value desk).table.shared.table_id },
     ghost sized: { (place.table_id.words ≡ 2) × (place.table_id.slots ≡ 1) },
     ghost carries: { place.me.1 ≡ (if place.me.0.turn then (0, None) ∷ [] else []) },
     ghost numbered: { (place.me.0.live ≡ true) × (place.me.0.told ≡ []) },
@@ -37,7 +45,8 @@ impl<T: Listed> TurnSeat<T> {
         let mut slots = Vec::new(alloc);
         slots.push(Some(value))?;
         let (table, place) = Table::new(alloc, &[0, 0], slots, &()).map_err(|_| OutOfMemory)?;
-        let desk = Arc::new(alloc, table)?;
+        let sleepers = AtomicU32::new(0);
+        let desk = Arc::new(alloc, Desk { table, sleepers })?;
         Ok(TurnSeat { desk, place })
     }
 
@@ -52,12 +61,12 @@ impl<T: Listed> TurnSeat<T> {
         ensures facts { IsTrueOf (known self.old) (T.entries result) }
     {
         let desk = &self.desk;
-        let shared = &desk.shared;
-        acquire(rt, shared, &mut self.place);
+        let shared = &desk.table.shared;
+        acquire(rt, shared, &desk.sleepers, &mut self.place);
         shared.exchange(&mut self.place, 0, None).unwrap()
     }
 
-    /// Gives the value and the turn back, and wakes one seat that waits.
+    /// Gives the value and the turn back, and wakes one seat that sleeps, if any does.
     /// The value's list is the one that was got, or that and one row more, of this seat's number.
     pub fn leave(&mut self, value: T)
         requires turn { (known self.old).turn ≡ true }
@@ -67,12 +76,15 @@ impl<T: Listed> TurnSeat<T> {
         ensures view { known self.new ≡ left_with (known self.old) (T.entries value) }
     {
         let desk = &self.desk;
-        let shared = &desk.shared;
+        let shared = &desk.table.shared;
         let rows = value.count();
         shared.exchange(&mut self.place, 0, Some(value));
         count_row(shared, &mut self.place, rows);
         shared.store::<Release<T>>(&mut self.place, 0, 0);
-        shared.wake_one(0);
+        // Each step here and in `acquire` is sequentially consistent. So one who is not counted yet finds the turn free before it sleeps.
+        if 0 < desk.sleepers.load(Ordering::SeqCst) {
+            shared.wake_one(0);
+        }
     }
 
     // The number of the new seat is picked by the call.
@@ -88,7 +100,7 @@ impl<T: Listed> TurnSeat<T> {
         ensures err { OnErr result (known self.new ≡ known self.old) }
     {
         let desk = Arc::try_clone(&self.desk)?;
-        let shared = &desk.shared;
+        let shared = &desk.table.shared;
         let mut place = shared.split_seat::<SplitOff<J>>(&mut self.place);
         shared.load::<Read<T>>(&mut place, 1);
         Ok(TurnSeat { desk, place })
@@ -121,7 +133,7 @@ impl<T: Listed> TurnSeat<T> {
         ensures facts { IsTrueOf (known self.new) (known self.new).seen }
     {
         let desk = &self.desk;
-        let shared = &desk.shared;
+        let shared = &desk.table.shared;
         let note = shared.split_seat::<Note>(&mut other.place);
         shared.join_seat::<Note>(&mut self.place, note);
         shared.load::<Look<T>>(&mut self.place, 1);
@@ -136,7 +148,7 @@ impl<T: Listed> TurnSeat<T> {
         ensures over { IsTrueOver (known self.new) (known other.new).seen }
     {
         let desk = &self.desk;
-        let shared = &desk.shared;
+        let shared = &desk.table.shared;
         let note = shared.split_seat::<Note>(&mut other.place);
         shared.join_seat::<Note>(&mut self.place, note);
         shared.load::<Read<T>>(&mut self.place, 1);
@@ -173,7 +185,7 @@ impl<T: Listed> TurnSeat<T> {
     {
         let TurnSeat { desk: _, place } = other;
         let desk = &self.desk;
-        let shared = &desk.shared;
+        let shared = &desk.table.shared;
         shared.join_seat::<Merge>(&mut self.place, place);
         shared.load::<Read<T>>(&mut self.place, 1);
     }
