@@ -12,7 +12,7 @@ use sc_ideal::Entry;
 use sc_mail::Mail;
 use sc_play::are_few;
 use sc_replay::{ReplayFault, World, decided_log, history, replay_rows, summary};
-use sc_report::lines;
+use sc_report::{Summary, lines};
 use sc_scenario::{Scenario, read_scenario};
 use sc_world::Party;
 use std::alloc::Global;
@@ -191,6 +191,26 @@ fn replayed<'a>(
 }
 
 // The text of a report.
+fn text_of(alloc: Global, told: &Summary) -> Result<Vec<u8>, Fail> {
+    let mut text = Vec::new(alloc);
+    for line in lines(alloc, told)?.as_slice() {
+        text.extend_from_slice(line.bytes())?;
+    }
+    Ok(text)
+}
+
+// What a replay tells of a journal.
+fn told_by(
+    alloc: Global,
+    scenario: &Scenario,
+    journal: &Journal<Mail, OrderLine>,
+) -> Result<Summary, Fail>
+    requires { IsValid scenario.now }
+{
+    let world = replayed(alloc, scenario, journal)?;
+    Ok(summary(alloc, scenario, &world)?)
+}
+
 fn report_of<R: Threads + Wait + Sync>(
     rt: &R,
     alloc: Global,
@@ -198,13 +218,8 @@ fn report_of<R: Threads + Wait + Sync>(
 ) -> Result<Vec<u8>, Fail> {
     let scenario = read_scenario(alloc, input)?;
     let journal = played(rt, alloc, input)?;
-    let world = replayed(alloc, &scenario, &journal)?;
-    let told = summary(alloc, &scenario, &world)?;
-    let mut text = Vec::new(alloc);
-    for line in lines(alloc, &told)?.as_slice() {
-        text.extend_from_slice(line.bytes())?;
-    }
-    Ok(text)
+    let told = told_by(alloc, &scenario, &journal)?;
+    text_of(alloc, &told)
 }
 
 #[test]
@@ -241,7 +256,20 @@ fn number_of(scenario: &Scenario, command: &Command) -> u32 {
     }
 }
 
-// The numbers of the decided log of a group.
+// The numbers of the decided log of a group in a world.
+fn numbers_of(
+    alloc: Global,
+    scenario: &Scenario,
+    world: &World<'_>,
+    group: Draw,
+) -> Result<Vec<u32>, Fail> {
+    let mut numbers = Vec::new(alloc);
+    for command in decided_log(alloc, world, group)?.as_slice() {
+        numbers.push(number_of(scenario, command))?;
+    }
+    Ok(numbers)
+}
+
 fn logged<R: Threads + Wait + Sync>(
     rt: &R,
     alloc: Global,
@@ -251,19 +279,16 @@ fn logged<R: Threads + Wait + Sync>(
     let scenario = read_scenario(alloc, input)?;
     let journal = played(rt, alloc, input)?;
     let world = replayed(alloc, &scenario, &journal)?;
-    let mut numbers = Vec::new(alloc);
-    for command in decided_log(alloc, &world, group)?.as_slice() {
-        numbers.push(number_of(&scenario, command))?;
-    }
-    Ok(numbers)
+    numbers_of(alloc, &scenario, &world, group)
 }
 
 #[test]
 fn a_put_and_a_get_are_decided_in_order(rt: HostRuntime) -> Result<(), Fail> {
-    let first = logged(&rt, rt.alloc(), PUT_GET, Draw { node: 0, count: 1 })?;
-    assert_eq!(rt; first.as_slice(), [1, 2].as_slice());
-    let none = logged(&rt, rt.alloc(), PUT_GET, Draw { node: 1, count: 1 })?;
-    assert!(rt; none.is_empty());
+    let logs: [(u16, &[u32]); 2] = [(0, &[1, 2]), (1, &[])];
+    for (node, numbers) in logs {
+        let log = logged(&rt, rt.alloc(), PUT_GET, Draw { node, count: 1 })?;
+        assert_eq!(rt; log.as_slice(), numbers);
+    }
     Ok(())
 }
 
@@ -282,7 +307,20 @@ fn entry_number(scenario: &Scenario, found: &[Option<&[u8]>], entry: &Entry) -> 
     }
 }
 
-// The numbers of a history, whose requests found these values.
+// The numbers of the history of a world, whose requests found these values.
+fn entries_of(
+    alloc: Global,
+    scenario: &Scenario,
+    world: &World<'_>,
+    found: &[Option<&[u8]>],
+) -> Result<Vec<u32>, Fail> {
+    let mut numbers = Vec::new(alloc);
+    for entry in history(alloc, world)?.as_slice() {
+        numbers.push(entry_number(scenario, found, entry))?;
+    }
+    Ok(numbers)
+}
+
 fn told<R: Threads + Wait + Sync>(
     rt: &R,
     alloc: Global,
@@ -292,11 +330,7 @@ fn told<R: Threads + Wait + Sync>(
     let scenario = read_scenario(alloc, input)?;
     let journal = played(rt, alloc, input)?;
     let world = replayed(alloc, &scenario, &journal)?;
-    let mut numbers = Vec::new(alloc);
-    for entry in history(alloc, &world)?.as_slice() {
-        numbers.push(entry_number(&scenario, found, entry))?;
-    }
-    Ok(numbers)
+    entries_of(alloc, &scenario, &world, found)
 }
 
 #[test]
@@ -337,7 +371,9 @@ fn left<R: Threads + Wait + Sync>(
 
 #[test]
 fn a_replay_leaves_each_node_and_client_where_its_rows_do(rt: HostRuntime) -> Result<(), Fail> {
-    assert_eq!(rt; left(&rt, rt.alloc(), PUT_GET)?, (1, 1, 0));
-    assert_eq!(rt; left(&rt, rt.alloc(), CUT_SHORT)?, (1, 1, 1));
+    let cases = [(PUT_GET, (1, 1, 0)), (CUT_SHORT, (1, 1, 1))];
+    for (input, expected) in cases {
+        assert_eq!(rt; left(&rt, rt.alloc(), input)?, expected);
+    }
     Ok(())
 }

@@ -8,7 +8,7 @@ use sc_cmd::{Command, Effect, OrderLine};
 use sc_edges::{MemSink, MemSource};
 use sc_machine::Machine;
 use sc_mail::{Mail, MailBody};
-use sc_scenario::read_scenario;
+use sc_scenario::{Scenario, read_scenario};
 use std::alloc::Global;
 use std::process::Abort;
 use std::sync::Wait;
@@ -187,29 +187,50 @@ fn accepted<'a>(row: &Row<Mail, OrderLine>, sent: &[&'a Mail]) -> Option<&'a Com
     }
 }
 
-// The old values that the history of a run answers, in its order: a group of one member decides
-// each command that it accepts. No value is told as the empty text.
-fn history<R: Threads + Wait + Sync>(
-    rt: &R,
-    alloc: Global,
-    text: &[u8],
-) -> Result<Vec<Vec<u8>>, Fail> {
-    let scenario = read_scenario(alloc, text)?;
-    let Left { journal, .. } = play_whole(rt, alloc, &scenario, 1 << 30, &Open)?;
-    let Some(base) = scenario.groups.as_slice().first() else {
-        return Err(Fail::from("no group"));
+// The group of a scenario, as a machine.
+fn machine_of(alloc: Global, scenario: &Scenario) -> Result<Machine, Fail> {
+    match scenario.groups.as_slice().first() {
+        Some(base) => Ok(Machine::born(alloc, base.dup(alloc)?)?),
+        None => Err(Fail::from("no group")),
+    }
+}
+
+// The old value that a reply tells. No value is told as the empty text.
+fn bytes_of(alloc: Global, reply: &Reply) -> Result<Vec<u8>, Fail> {
+    let bytes = match &reply.old {
+        Some(value) => value.bytes(),
+        None => b"",
     };
-    let mut machine = Machine::born(alloc, base.dup(alloc)?)?;
+    Ok(Vec::from_slice(alloc, bytes)?)
+}
+
+// The old value that a machine answers a command, if this is a request that is done now.
+fn old_of(
+    alloc: Global,
+    machine: &mut Machine,
+    command: &Command,
+) -> Result<Option<Vec<u8>>, Fail> {
+    let Command::Call { .. } = command else {
+        return Ok(None);
+    };
+    match machine.apply(command)? {
+        Effect::Done(reply) => Ok(Some(bytes_of(alloc, &reply)?)),
+        _ => Ok(None),
+    }
+}
+
+// The old values that the commands accepted in these rows are answered.
+fn olds_of(
+    alloc: Global,
+    machine: &mut Machine,
+    rows: &[Row<Mail, OrderLine>],
+) -> Result<Vec<Vec<u8>>, Fail> {
     let mut sent = Vec::new(alloc);
     let mut olds = Vec::new(alloc);
-    for row in journal.as_slice() {
-        if let Some(command @ Command::Call { .. }) = accepted(row, &sent) {
-            if let Effect::Done(Reply { old }) = machine.apply(command)? {
-                let bytes = match &old {
-                    Some(value) => value.bytes(),
-                    None => b"",
-                };
-                olds.push(Vec::from_slice(alloc, bytes)?)?;
+    for row in rows {
+        if let Some(command) = accepted(row, &sent) {
+            if let Some(old) = old_of(alloc, machine, command)? {
+                olds.push(old)?;
             }
         }
         for mail in row.sent.as_slice() {
@@ -219,22 +240,40 @@ fn history<R: Threads + Wait + Sync>(
     Ok(olds)
 }
 
+// The old values that the history of a run answers, in its order: a group of one member decides
+// each command that it accepts.
+fn history<R: Threads + Wait + Sync>(
+    rt: &R,
+    alloc: Global,
+    text: &[u8],
+) -> Result<Vec<Vec<u8>>, Fail> {
+    let scenario = read_scenario(alloc, text)?;
+    let Left { journal, .. } = play_whole(rt, alloc, &scenario, 1 << 30, &Open)?;
+    let mut machine = machine_of(alloc, &scenario)?;
+    olds_of(alloc, &mut machine, journal.as_slice())
+}
+
 const FOUR: &[u8] =
     b"scatter 1\nnodes 1\ngroup 0 1\nclient 1\nput a x\nput a y\nget b\nget a\nend\ngo 1\nsettle 100\n";
 
+fn check_history<R: Abort + Threads + Wait + Sync>(
+    rt: &R,
+    alloc: Global,
+    text: &[u8],
+    expected: &[&[u8]],
+) -> Result<(), Fail> {
+    let olds = history(rt, alloc, text)?;
+    assert_eq!(rt; olds.len(), expected.len());
+    for (old, value) in olds.iter().zip(expected) {
+        assert_eq!(rt; old.as_slice(), *value);
+    }
+    Ok(())
+}
+
 #[test]
 fn histories_are_those_of_one_map(rt: HostRuntime) -> Result<(), Fail> {
-    let two = history(&rt, rt.alloc(), FIRST)?;
-    assert_eq!(rt; two.len(), 2);
-    assert_eq!(rt; two[0].as_slice(), b"".as_slice());
-    assert_eq!(rt; two[1].as_slice(), b"x".as_slice());
-    let four = history(&rt, rt.alloc(), FOUR)?;
-    assert_eq!(rt; four.len(), 4);
-    assert_eq!(rt; four[0].as_slice(), b"".as_slice());
-    assert_eq!(rt; four[1].as_slice(), b"x".as_slice());
-    assert_eq!(rt; four[2].as_slice(), b"".as_slice());
-    assert_eq!(rt; four[3].as_slice(), b"y".as_slice());
-    Ok(())
+    check_history(&rt, rt.alloc(), FIRST, &[b"", b"x"])?;
+    check_history(&rt, rt.alloc(), FOUR, &[b"", b"x", b"", b"y"])
 }
 
 #[test]
