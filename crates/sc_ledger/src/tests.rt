@@ -1,12 +1,13 @@
 //! One ledger, row by row.
-ghost use Rattle.std.specs.Prelude.{◌≡◌, min, ◌^◌, ◌-◌};
+ghost use Rattle.std.specs.Prelude.{◌≡◌, ◌≤◌, min, ◌^◌, ◌-◌};
 
 use crate::faults::PostFault;
 use crate::ledger::Ledger;
-use crate::spots::Spot;
+use crate::spots::{Look, Spot};
 use sc_actor::{Event, Parcel, Row};
 use sc_base::{Dup, OutOfMemory, Sequence};
 use std::alloc::Global;
+use std::process::Abort;
 use std::test::Fail;
 
 #[derive(Debug, PartialEq, Eq, Drop)]
@@ -53,6 +54,20 @@ fn row(
     Ok(Row { who, event, sent })
 }
 
+type Notes = Ledger<Note, u32>;
+
+// Appends a row with one mail to each of these receivers, and tells whether it was kept.
+fn keeps(
+    alloc: Global,
+    ledger: &mut Notes,
+    who: u32,
+    event: Event<u32>,
+    receivers: &[u32],
+) -> Result<bool, Fail> {
+    let row = row(alloc, who, event, receivers, 0)?;
+    Ok(ledger.append(row, 10_000).is_ok())
+}
+
 #[test]
 fn mail_is_pending_by_its_number(rt: HostRuntime) -> Result<(), Fail> {
     let mut ledger: Ledger<Note, u32> = Ledger::new(rt.alloc(), 2);
@@ -67,14 +82,8 @@ fn mail_is_pending_by_its_number(rt: HostRuntime) -> Result<(), Fail> {
     ];
     let all = [1u32, 1, 1];
     for (who, event, mails, pending) in steps {
-        let row = row(
-            rt.alloc(),
-            who,
-            event,
-            all.as_slice().get(..mails).unwrap_or(&[]),
-            0,
-        )?;
-        assert!(rt; ledger.append(row, 10_000).is_ok());
+        let to = all.as_slice().get(..mails).unwrap_or(&[]);
+        assert!(rt; keeps(rt.alloc(), &mut ledger, who, event, to)?);
         let found = [
             ledger.kth(2, 1, 1),
             ledger.kth(2, 1, 2),
@@ -87,20 +96,28 @@ fn mail_is_pending_by_its_number(rt: HostRuntime) -> Result<(), Fail> {
     Ok(())
 }
 
+// Why a row is refused, if it is.
+fn refusal(ledger: &mut Notes, row: Row<Note, u32>, limit: u64) -> Option<PostFault>
+    requires { limit ≤ 2 ^ 30 }
+{
+    match ledger.append(row, limit) {
+        Ok(()) => None,
+        Err(unkept) => Some(unkept.why),
+    }
+}
+
 #[test]
 fn limit_is_met_and_passed(rt: HostRuntime) -> Result<(), Fail> {
-    let mut ledger: Ledger<Note, u32> = Ledger::new(rt.alloc(), 2);
+    let mut ledger: Notes = Ledger::new(rt.alloc(), 2);
     let desk = row(rt.alloc(), 1, Event::Go, &[0], 5)?;
-    assert!(rt; ledger.append(desk, 325).is_ok());
+    assert_eq!(rt; refusal(&mut ledger, desk, 325), None);
     assert_eq!(rt; ledger.kth(2, 0, 1), None);
     assert_eq!(rt; ledger.sent(), 1);
     let more = row(rt.alloc(), 1, Event::Tick, &[], 0)?;
-    match ledger.append(more, 388) {
-        Ok(()) => assert!(rt; false),
-        Err(unkept) => assert_eq!(rt; unkept.why, PostFault::JournalFull { bytes: 325 }),
-    }
+    let full = PostFault::JournalFull { bytes: 325 };
+    assert_eq!(rt; refusal(&mut ledger, more, 388), Some(full));
     let large = row(rt.alloc(), 1, Event::Tick, &[2, 2], u64::MAX)?;
-    assert!(rt; ledger.append(large, 1 << 30).is_err());
+    assert!(rt; refusal(&mut ledger, large, 1 << 30).is_some());
     assert_eq!(rt; ledger.len(), 1);
     Ok(())
 }
@@ -153,20 +170,32 @@ fn queues_and_scan_agree(rt: HostRuntime) -> Result<(), Fail> {
     Ok(())
 }
 
-#[test]
-fn look_tells_each_copy(rt: HostRuntime) -> Result<(), Fail> {
-    let mut ledger: Ledger<Note, u32> = Ledger::new(rt.alloc(), 2);
-    let first = row(rt.alloc(), 1, Event::Go, &[2, 1, 0, 2], 0)?;
-    assert!(rt; ledger.append(first, 10_000).is_ok());
-    let second = row(rt.alloc(), 0, Event::Again(1), &[], 0)?;
-    assert!(rt; ledger.append(second, 10_000).is_ok());
-    let look = ledger.look(rt.alloc(), 2)?;
-    assert_eq!(rt; look.sent, 4);
+// A ledger with four mails, the first of which was repeated.
+fn repeated(alloc: Global) -> Result<Notes, Fail> {
+    let mut ledger: Notes = Ledger::new(alloc, 2);
+    let first = keeps(alloc, &mut ledger, 1, Event::Go, &[2, 1, 0, 2])?;
+    let second = keeps(alloc, &mut ledger, 0, Event::Again(1), &[])?;
+    if first && second {
+        Ok(ledger)
+    } else {
+        Err(Fail::from("a row was refused"))
+    }
+}
+
+fn check_spots<R: Abort>(rt: &R, look: &Look) {
     let spots = [(1u32, 2u32, 1u32), (1, 2, 2), (2, 1, 1), (4, 2, 3)];
+    assert_eq!(rt; look.sent, 4);
     assert_eq!(rt; look.pending.len(), 4);
     for (spot, (number, who, k)) in look.pending.as_slice().iter().zip(spots) {
         assert_eq!(rt; *spot, Spot { number, who, k });
     }
+}
+
+#[test]
+fn look_tells_each_copy(rt: HostRuntime) -> Result<(), Fail> {
+    let ledger = repeated(rt.alloc())?;
+    let look = ledger.look(rt.alloc(), 2)?;
+    check_spots(&rt, &look);
     assert!(rt; matches!(ledger.mail(rt.alloc(), 4)?, Some(Note { to: 2, size: 0 })));
     Ok(())
 }
