@@ -76,26 +76,23 @@ fn expect(rt: &impl Abort, copy: &Mail, weight: u64) {
     assert_eq!(rt; copy.weight(), weight);
 }
 
+fn check<R: Abort>(rt: &R, alloc: Global, body: MailBody, weight: u64) -> Result<(), Fail> {
+    let copy = copied(alloc, body)?;
+    expect(rt, &copy, weight);
+    Ok(())
+}
+
 #[test]
 fn an_accept_counts_its_key_and_value(rt: HostRuntime) -> Result<(), Fail> {
-    let body = accept(rt.alloc())?;
-    let copy = copied(rt.alloc(), body)?;
-    expect(&rt, &copy, 8);
-    Ok(())
+    check(&rt, rt.alloc(), accept(rt.alloc())?, 8)
 }
 
 #[test]
 fn a_promise_counts_32_for_each_report(rt: HostRuntime) -> Result<(), Fail> {
-    let body = promise(rt.alloc())?;
-    let copy = copied(rt.alloc(), body)?;
-    expect(&rt, &copy, 40);
-    Ok(())
+    check(&rt, rt.alloc(), promise(rt.alloc())?, 40)
 }
 
 #[test]
 fn an_answer_counts_its_value(rt: HostRuntime) -> Result<(), Fail> {
-    let body = answer(rt.alloc())?;
-    let copy = copied(rt.alloc(), body)?;
-    expect(&rt, &copy, 5);
-    Ok(())
+    check(&rt, rt.alloc(), answer(rt.alloc())?, 5)
 }
