@@ -1,5 +1,5 @@
 -- The entries of pending mail, as counts change and mail is sent.
-use Rattle.std.proofs.Common.{◌≡◌, ◌≢◌, ℕ, zero, suc, ◌+◌, ◌-◌, ◌<◌, ◌≤◌, nat_eq, nat_lt, List, [], ◌∷◌, ◌++◌, length, filter, insert, Bool, true, false, cond, ◌&&◌, replicate, get_or, set, refl, sym, ap, ◌∙◌, subst, arith, append_assoc, ne_eqb, eq-eqb, None, Some, map, Result, Ok, Err, OnOk}
+use Rattle.std.proofs.Common.{◌≡◌, ◌≢◌, ℕ, zero, suc, ◌+◌, ◌<◌, ◌≤◌, nat_eq, nat_lt, List, [], ◌∷◌, ◌++◌, length, filter, insert, Bool, true, false, cond, ◌&&◌, replicate, get_or, set, refl, sym, ap, ◌∙◌, arith, append_assoc, ne_eqb, eq-eqb, None, map, Result, Ok, Err, OnOk}
 use Rattle.std.proofs.lemmas.List.{append-nil}
 use Rattle.std.proofs.lemmas.Bool.{lt-ltb, le-ltb}
 use Rattle.std.specs.Map.{lookup, remove_entry}

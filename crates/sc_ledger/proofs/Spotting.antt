@@ -1,9 +1,8 @@
 -- Each copy stands where its spot says.
-use Rattle.std.proofs.Common.{◌≡◌, ℕ, zero, suc, ◌+◌, ◌-◌, ◌<◌, eqb, nat_lt, List, [], ◌∷◌, ◌++◌, length, map, filter, fold, Bool, true, false, cond, ◌&&◌, ◌||◌, not, replicate, get_or, refl, sym, ap, ◌∙◌, subst, arith, append_assoc, length-append, add-one, ne_eqb, eq-eqb, All, None, Some}
+use Rattle.std.proofs.Common.{◌≡◌, ℕ, zero, suc, ◌+◌, ◌-◌, ◌<◌, eqb, nat_lt, List, [], ◌∷◌, ◌++◌, length, map, filter, fold, Bool, true, false, cond, ◌&&◌, ◌||◌, not, replicate, get_or, refl, sym, ap, ◌∙◌, subst, arith, append_assoc, length-append, add-one, ne_eqb, eq-eqb, All, Some}
 use Rattle.std.specs.Prelude.{slice_get}
 use Rattle.std.proofs.lemmas.List.Elements.{filter-append, All-push, All-nil}
 use Rattle.std.specs.List.{AllByRecursion, list_any}
-use Rattle.std.proofs.lemmas.List.{length-map}
 use Rattle.std.proofs.lemmas.Bool.{ltb-true, and_parts}
 use Rattle.std.proofs.Math.Nat.{add-zero}
 use Rattle.sc_actor.specs.declared.rows.Row.{Row}
@@ -11,7 +10,7 @@ use Rattle.sc_actor.specs.Mail.{mails, copies, numbers}
 use Rattle.sc_actor.specs.System.{kth}
 use Rattle.sc_ledger.specs.declared.spots.Spot.{Spot}
 use Rattle.sc_ledger.specs.Kept.{crashed_in, runs, counts_for}
-use Rattle.sc_ledger.specs.Pending.{kth_pending, pending_of}
+use Rattle.sc_ledger.specs.Pending.{kth_pending}
 use Rattle.sc_ledger.specs.Spots.{spot_after, spots_from, spots_of}
 use Rattle.sc_ledger.proofs.Open.{open_is}
 

@@ -1,5 +1,5 @@
 -- Pending mail by number, as an ascending list of numbers with their copies.
-use Rattle.std.specs.Prelude.{◌≡◌, ℕ, zero, suc, ◌+◌, ◌-◌, ◌<◌, ◌==◌, nat_eq, nat_lt, List, [], ◌∷◌, ◌++◌, Bool, ◌&&◌, length, map, filter, replicate, insert, slice_index_or, if◌then◌else◌}
+use Rattle.std.specs.Prelude.{◌≡◌, ℕ, suc, ◌-◌, ◌<◌, ◌==◌, nat_eq, nat_lt, List, [], ◌∷◌, ◌++◌, Bool, ◌&&◌, length, map, filter, replicate, insert, slice_index_or, if◌then◌else◌}
 use Rattle.std.specs.List.{flat_map}
 use Rattle.std.specs.Map.{remove_entry}
 use Rattle.indexmap.specs.IndexMap.{insert_entry}

@@ -1,4 +1,4 @@
-use Rattle.std.proofs.Common.{sym, ap, ◌∙◌, arith, ◌+◌, ◌++◌, drop}
+use Rattle.std.proofs.Common.{sym, ap, ◌∙◌, arith, ◌+◌, ◌++◌}
 use Rattle.std.proofs.lemmas.List.{append-nil}
 use Rattle.sc_ledger.specs.Kept.{counts_for}
 use Rattle.sc_ledger.proofs.Numbers.{numbers-end}

@@ -1,4 +1,4 @@
-use Rattle.std.proofs.Common.{take, map, arith, ap, ◌∙◌, length, subst, ◌≤◌}
+use Rattle.std.proofs.Common.{take, map, arith, ap, ◌∙◌}
 use Rattle.sc_actor.specs.Mail.{mails, copies}
 use Rattle.sc_ledger.specs.Kept.{crashed_in}
 use Rattle.sc_ledger.proofs.Rows.{take_row, take_whole, few_taken}

@@ -1,4 +1,4 @@
-use Rattle.std.proofs.Common.{rules, ◌≡◌, ◌<◌, length, inl, inr, arith, sym}
+use Rattle.std.proofs.Common.{rules, ◌≡◌, length, inl, inr, arith}
 use Rattle.sc_ledger.proofs.Homing.{none_past}
 use Rattle.sc_ledger.proofs.ledger.Ledger.mail.Goals.{then-number-eq0-via-then-number-eq0, then-number-eq0-via-else-number-eq0+then-number-len}
 use Rattle.sc_ledger.proofs.ledger.Ledger.mail.Goals as goal

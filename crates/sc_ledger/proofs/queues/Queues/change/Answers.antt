@@ -1,4 +1,4 @@
-use Rattle.std.proofs.Common.{rules, ◌≡◌, ◌-◌, ◌<◌, suc, true, false, refl, sym, ap, ◌∙◌, subst, cond, length, get_or, arith, OnOk}
+use Rattle.std.proofs.Common.{rules, ◌≡◌, ◌-◌, ◌<◌, true, false, refl, sym, subst, cond, length, get_or, arith, OnOk}
 use Rattle.std.proofs.lemmas.Bool.{eqb-true}
 use Rattle.sc_actor.specs.Mail.{one_less, one_more}
 use Rattle.sc_ledger.specs.Kept.{runs}
