@@ -2,18 +2,18 @@
 use Rattle.std.specs.Prelude.{◌≡◌, ℕ, zero, suc, ◌+◌, ◌<◌}
 use Rattle.sc_base.specs.declared.names.Draw.{Draw}
 
--- a node, and how many names it has drawn
+-- a node, and the number of the name that it draws next: the first is 1
 pub record Drawer : Type 0 where
   pub node : ℕ
-  pub drawn : ℕ
+  pub next : ℕ
 
 -- the name that comes next
 abbrev pub name_of : Drawer → Draw
-name_of drawer = record { node = drawer.node; count = drawer.drawn + 1 }
+name_of drawer = record { node = drawer.node; count = drawer.next }
 
 -- the drawer after one draw
 abbrev pub drawn_on : Drawer → Drawer
-drawn_on drawer = record { node = drawer.node; drawn = drawer.drawn + 1 }
+drawn_on drawer = record { node = drawer.node; next = drawer.next + 1 }
 
 -- the drawer after n draws
 abbrev pub drawn_by : ℕ → Drawer → Drawer
