@@ -4,3 +4,4 @@ pub mod PendingLemmas
 pub mod Induction
 pub mod CountLemmas
 pub mod BoundLemmas
+pub mod Numbers

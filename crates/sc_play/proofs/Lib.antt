@@ -1,5 +1,4 @@
 pub mod Seats
-pub mod Numbers
 pub mod DeedLemmas
 pub mod Steps
 pub mod Looks

@@ -5,7 +5,7 @@ use Rattle.sc_actor.specs.declared.rows.Row.{Row}
 use Rattle.sc_actor.specs.Mail.{mails, copies, numbers}
 use Rattle.sc_actor.proofs.BoundLemmas.{copies_bounded}
 use Rattle.sc_actor.proofs.CountLemmas.{counted}
-use Rattle.sc_play.proofs.Numbers.{numbers-drop}
+use Rattle.sc_actor.proofs.Numbers.{numbers-drop, open_first}
 
 -- the numbers of one more mail
 pub found_next : {M : Type 0} (test : M → Bool) (found : List ℕ) (i times : ℕ) (sent : List M) (counts : List ℕ) (mail : M) (all : List ℕ) → i < length sent → i < length counts → mail ≡ get_or sent i mail → times ≡ cond (test mail) (get_or counts i 0) 0 →
@@ -13,13 +13,9 @@ pub found_next : {M : Type 0} (test : M → Bool) (found : List ℕ) (i times : 
 found_next test found i times sent counts mail all lt lt' is times_is e =
     append_assoc found (replicate times (i + 1)) (numbers test (i + 1 + 1) (drop (i + 1) sent) (drop (i + 1) counts))
     ∙ ap (λ n. found ++ (replicate n (i + 1) ++ numbers test (i + 1 + 1) (drop (i + 1) sent) (drop (i + 1) counts))) times_is
-    ∙ ap (λ xs. found ++ (xs ++ numbers test (i + 1 + 1) (drop (i + 1) sent) (drop (i + 1) counts))) (sym (open_first (test mail) (get_or counts i 0) (i + 1)))
+    ∙ ap (λ xs. found ++ (xs ++ numbers test (i + 1 + 1) (drop (i + 1) sent) (drop (i + 1) counts))) (sym (open_first test (test mail) (get_or counts i 0) (i + 1)))
     ∙ ap (λ xs. found ++ xs) (sym (numbers-drop test (i + 1) i sent counts mail lt lt' is))
     ∙ e
-  where
-    open_first : (b : Bool) (count number : ℕ) → cond b (replicate count number) [] ≡ replicate (cond b count 0) number
-    open_first true count number = refl
-    open_first false count number = refl
 
 short : {X : Type 0} (i : ℕ) (xs : List X) → length (take i xs) ≤ length xs
 short zero xs = omega arith

@@ -1,7 +1,7 @@
 use Rattle.std.proofs.Common.{sym, ap, ◌∙◌}
 use Rattle.sc_actor.specs.System.{kth}
 use Rattle.sc_ledger.specs.Queues.{copies_in}
-use Rattle.sc_ledger.proofs.Numbers.{kth-here}
+use Rattle.sc_actor.proofs.Numbers.{kth-here}
 use Rattle.sc_ledger.proofs.copies.kth_in.Goals as goal
 
 pub returns-then-left-count : goal.returns-then-left-count

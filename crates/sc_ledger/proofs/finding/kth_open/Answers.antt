@@ -2,7 +2,7 @@ use Rattle.std.proofs.Common.{ap, sym, ◌∙◌, subst, arith, ◌+◌, ◌-◌
 use Rattle.sc_actor.specs.Mail.{numbers}
 use Rattle.sc_actor.specs.System.{kth}
 use Rattle.sc_ledger.specs.Kept.{counts_for}
-use Rattle.sc_ledger.proofs.Numbers.{kth-later, kth-found, numbers-end, kth-none, get_at}
+use Rattle.sc_actor.proofs.Numbers.{kth-later, kth-found, numbers-end, kth-none, get_at}
 use Rattle.sc_ledger.proofs.finding.kth_open.Goals as goal
 
 pub loop-i-preserved : goal.loop-i-preserved

@@ -1,5 +1,5 @@
 use Rattle.std.proofs.Common.{◌∙◌, sym, eqb}
-use Rattle.sc_play.proofs.Numbers.{list_any-map}
+use Rattle.sc_actor.proofs.Numbers.{list_any-map}
 use Rattle.sc_play.proofs.pending.is_actor.Goals as goal
 
 pub returns : goal.returns

@@ -1,7 +1,7 @@
 use Rattle.std.proofs.Common.{ap, sym, ◌∙◌, subst, arith, ◌+◌, ◌-◌, ◌<◌, ◌≤◌, cond, get_or, drop}
 use Rattle.sc_actor.specs.Mail.{is_for, numbers}
 use Rattle.sc_actor.specs.System.{kth, numbers_of}
-use Rattle.sc_play.proofs.Numbers.{kth-later, kth-found, kth-mail, numbers-end, kth-none}
+use Rattle.sc_actor.proofs.Numbers.{kth-later, kth-found, kth-mail, numbers-end, kth-none}
 use Rattle.sc_play.proofs.pending.kth_pending.Goals as goal
 
 pub loop-i-preserved : goal.loop-i-preserved

@@ -31,17 +31,20 @@ module _ {M : Type 0} (test : M → Bool) where
   numbers-drop_suc number (suc i) (m ∷ sent) (c ∷ counts) mail lt len is =
       numbers-drop_suc number i sent counts mail (omega arith) (omega arith) is
 
+  -- the numbers from a place on: those of its mail, and those of what comes after it
   pub numbers-drop : (number i : ℕ) (sent : List M) (counts : List ℕ) (mail : M) → i < length sent → i < length counts → mail ≡ get_or sent i mail →
       numbers test number (drop i sent) (drop i counts) ≡ cond (test mail) (replicate (get_or counts i 0) number) [] ++ numbers test (number + 1) (drop (i + 1) sent) (drop (i + 1) counts)
   numbers-drop number i sent counts mail lt len is = rw (add-one, add-one) (numbers-drop_suc number i sent counts mail lt len is)
 
+  -- past the last mail there are none
   pub numbers-end : (number i : ℕ) (sent : List M) (counts : List ℕ) → i ≡ min (length sent) (length counts) → numbers test number (drop i sent) (drop i counts) ≡ []
   numbers-end number i [] counts e = let z : i ≡ 0 = omega arith in rw z refl
   numbers-end number i (m ∷ sent) [] e = let z : i ≡ 0 = omega arith in rw z refl
   numbers-end number zero (m ∷ sent) (c ∷ counts) e = absurd (omega arith)
   numbers-end number (suc i) (m ∷ sent) (c ∷ counts) e = numbers-end number i sent counts (omega arith)
 
-  open_first : (b : Bool) (count number : ℕ) → cond b (replicate count number) [] ≡ replicate (cond b count 0) number
+  -- the numbers of one mail, if it passes the test
+  pub open_first : (b : Bool) (count number : ℕ) → cond b (replicate count number) [] ≡ replicate (cond b count 0) number
   open_first true count number = refl
   open_first false count number = refl
 
@@ -63,14 +66,23 @@ module _ {M : Type 0} (test : M → Bool) where
   test-true true c k p q = refl
   test-true false c k p q = absurd (omega arith)
 
+  -- its mail is there, and passes the test
   pub kth-mail : (i c k : ℕ) (sent : List M) (mail : M) → i < length sent → mail ≡ get_or sent i mail → 0 < k → k ≤ cond (test mail) c 0 → IsSomeAnd (numbered sent (i + 1)) (λ m. test m ≡ true)
   kth-mail i c k sent mail lt is first enough =
       rw (add-one, slice_get_read sent (length sent) i mail refl lt is) (test-true (test mail) c k first enough)
 
+-- a test of what a function makes of some element
 pub list_any-map : {X Y : Type 0} (p : Y → Bool) (f : X → Y) (xs : List X) → list_any p (map f xs) ≡ list_any (λ x. p (f x)) xs
 list_any-map p f [] = refl
 list_any-map p f (x ∷ xs) = ap (λ b. p (f x) || b) (list_any-map p f xs)
 
+-- nothing stands in an empty list
 pub kth-none : (k : ℕ) → kth [] k ≡ None
 kth-none zero = refl
 kth-none (suc k) = refl
+
+-- within a list the default does not matter
+pub get_at : (xs : List ℕ) (i d : ℕ) → i < length xs → get_or xs i 0 ≡ get_or xs i d
+get_at [] i d h = absurd (omega arith)
+get_at (x ∷ xs) zero d h = refl
+get_at (x ∷ xs) (suc i) d h = get_at xs i d (omega arith)
