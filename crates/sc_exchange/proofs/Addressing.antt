@@ -17,6 +17,8 @@ use Rattle.sc_ledger.specs.Pending.{upto, whose, pending_of, kth_pending}
 use Rattle.sc_ledger.proofs.Kept.{copies-push}
 use Rattle.sc_turn.specs.declared.rule.View.{View}
 use Rattle.sc_exchange.specs.declared.deeds.Deed.{Deed}
+use Rattle.sc_exchange.specs.declared.fates.Fate.{Fate}
+use Rattle.sc_exchange.specs.declared.fates.Fate.TheVariants.{Lost, Repeated}
 use Rattle.sc_exchange.specs.Deeds.{deeds, rows_of, rows_from}
 use Rattle.sc_exchange.specs.Turns.{change}
 use Rattle.sc_exchange.proofs.Done.{rows_of_deeds, begins_rows}
@@ -50,9 +52,9 @@ mail_later {M} receiver who sent more (suc place) e = by sent place e
     by (x ∷ xs) (suc i) e = by xs i e
 
 -- the network's own rows
-change_so : (M O : Type 0) (receiver : M → ℕ) (lost : Bool) (number : ℕ) (sent : List M) → is_addressed receiver sent (change {M = M} {O = O} lost number).who (change {M = M} {O = O} lost number).event ≡ true
-change_so M O receiver true number sent = refl
-change_so M O receiver false number sent = refl
+change_so : (M O : Type 0) (receiver : M → ℕ) (fate : Fate) (number : ℕ) (sent : List M) → is_addressed receiver sent (change {M = M} {O = O} fate number).who (change {M = M} {O = O} fate number).event ≡ true
+change_so M O receiver Lost number sent = refl
+change_so M O receiver Repeated number sent = refl
 
 module _ {M O : Type 0} (receiver : M → ℕ) where
   -- later rows
@@ -89,8 +91,8 @@ module _ {M O : Type 0} (receiver : M → ℕ) where
   addressed_found who event w rows later e =
       addressed_rows who event rows (rows_from w.seen) (subst (λ l. StartsWith l (rows_from w.seen)) (rows_of_deeds rows) (begins_rows (deeds rows) w.seen later)) e
 
-  pub change_addressed : (lost : Bool) (number : ℕ) (sent : List M) (row : Row M O) → row ≡ change lost number → is_addressed receiver sent row.who row.event ≡ true
-  change_addressed lost number sent row is = ap (λ (r : Row M O). is_addressed receiver sent r.who r.event) is ∙ change_so M O receiver lost number sent
+  pub change_addressed : (fate : Fate) (number : ℕ) (sent : List M) (row : Row M O) → row ≡ change fate number → is_addressed receiver sent row.who row.event ≡ true
+  change_addressed fate number sent row is = ap (λ (r : Row M O). is_addressed receiver sent r.who r.event) is ∙ change_so M O receiver fate number sent
 
   -- pending mail is mail to the actor
   pub pending_to : (actors : ℕ) (rows : List (Row M O)) (who k number : ℕ) → who ≢ 0 → kth_pending receiver actors rows who k ≡ Some number → is_mail_to receiver who (numbered (mails rows) number) ≡ true

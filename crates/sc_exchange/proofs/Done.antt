@@ -1,9 +1,10 @@
 -- Rows and deeds.
 use Rattle.std.proofs.Common.{◌≡◌, ℕ, eqb, true, false, cond, List, [], ◌∷◌, ◌++◌, map, length, drop, refl, sym, ap, ◌∙◌}
-use Rattle.std.proofs.lemmas.List.{append-nil, map-append}
+use Rattle.std.specs.Prelude.{nat_lt}
+use Rattle.std.proofs.lemmas.List.{append-nil, map-append, length-map}
 use Rattle.std.proofs.lemmas.Bool.{eqb-true}
 use Rattle.sc_turn.specs.declared.rule.View.{View}
-use Rattle.sc_turn.specs.Turn.{rows_by, view, left_with, with_turn, with_row, StartsWith}
+use Rattle.sc_turn.specs.Turn.{rows_by, view, left_with, with_turn, with_row, longer, StartsWith}
 use Rattle.sc_actor.specs.declared.rows.Row.{Row}
 use Rattle.sc_exchange.specs.declared.deeds.Deed.{Deed}
 use Rattle.sc_exchange.specs.Deeds.{deeds, row_by, rows_from, rows_of}
@@ -29,6 +30,12 @@ module _ {M O : Type 0} where
 
   pub begins_rows : (xs ys : List (Deed M O × ℕ)) → StartsWith xs ys → StartsWith (rows_from xs) (rows_from ys)
   begins_rows xs ys p = (rows_from p.0, ap rows_from p.1 ∙ map-append (λ d. row_by d.1 d.0) ys p.0)
+
+  -- the longer of two lists of deeds
+  pub longer_rows : (xs ys : List (Deed M O × ℕ)) → rows_from (longer xs ys) ≡ longer (rows_from xs) (rows_from ys)
+  longer_rows xs ys =
+      (elim (nat_lt (length xs) (length ys)) as (λ b. rows_from (cond b ys xs) ≡ cond b (rows_from ys) (rows_from xs)) [ true ↦ refl | false ↦ refl ])
+      ∙ (λ i. cond (nat_lt (sym (length-map xs (λ (d : Deed M O × ℕ). row_by d.1 d.0)) i) (sym (length-map ys (λ (d : Deed M O × ℕ). row_by d.1 d.0)) i)) (rows_from ys) (rows_from xs))
 
 -- what is left with
 module _ {E : Type 0} where

@@ -11,6 +11,7 @@ use Rattle.sc_actor.specs.Mail.{mails}
 use Rattle.sc_actor.specs.declared.rows.Event.{Event}
 use Rattle.sc_actor.specs.declared.rows.Event.TheVariants.{Deliver, Drop, Again, Tick, Go, Told, Crash}
 use Rattle.sc_exchange.specs.declared.deeds.Deed.{Deed}
+use Rattle.sc_exchange.specs.declared.fates.Fate.{Fate}
 use Rattle.sc_exchange.specs.declared.answers.Fetched.{Fetched}
 use Rattle.sc_exchange.specs.declared.answers.Fetched.TheVariants.{Mail, Empty}
 use Rattle.sc_exchange.specs.Deeds.{deeds, row_by, rows_from}
@@ -34,9 +35,9 @@ module _ {M O : Type 0} (w v : View (Deed M O)) where
   row_later row t =
       begins_rows v.seen w.seen (subst (λ l. StartsWith l w.seen) (ap (λ (x : View (Deed M O)). x.seen) (sym t.view_is)) (begins_more (deeds t.rows) w.seen ((deed row, w.who) ∷ []) t.later))
 
-  pub done_later : (F G : Type 0) (receiver : M → ℕ) (actors : ℕ) (lost : Bool) (number : ℕ) (done : Bool) → MatchBool done (Changed receiver actors lost number w v × F) (Turned w v × G) → StartsWith (rows_from v.seen) (rows_from w.seen)
-  done_later F G receiver actors lost number true m = row_later (change lost number) m.0.turned
-  done_later F G receiver actors lost number false m = turned_later m.0
+  pub done_later : (F G : Type 0) (receiver : M → ℕ) (actors : ℕ) (fate : Fate) (number : ℕ) (done : Bool) → MatchBool done (Changed receiver actors fate number w v × F) (Turned w v × G) → StartsWith (rows_from v.seen) (rows_from w.seen)
+  done_later F G receiver actors fate number true m = row_later (change fate number) m.0.turned
+  done_later F G receiver actors fate number false m = turned_later m.0
 
   pub own_after : (who : ℕ) → w.who ≡ who → Turned w v → length (rows_by who v.seen) ≡ length v.made
   own_after who number t = ap (λ n. length (rows_by n v.seen)) (sym number) ∙ own_turned w v t

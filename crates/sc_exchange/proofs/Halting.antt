@@ -6,15 +6,17 @@ use Rattle.sc_turn.specs.declared.rule.View.{View}
 use Rattle.sc_actor.specs.declared.rows.Row.{Row}
 use Rattle.sc_actor.specs.Mail.{is_crash}
 use Rattle.sc_exchange.specs.declared.deeds.Deed.{Deed}
+use Rattle.sc_exchange.specs.declared.fates.Fate.{Fate}
+use Rattle.sc_exchange.specs.declared.fates.Fate.TheVariants.{Lost, Repeated}
 use Rattle.sc_exchange.specs.Turns.{Turned, RowTurned, Changed, change}
 
 or_false : (b : Bool) → (b || false) ≡ b
 or_false true = refl
 or_false false = refl
 
-change_runs : (M O : Type 0) (lost : Bool) (number : ℕ) → is_crash (change {M = M} {O = O} lost number).event ≡ false
-change_runs M O true number = refl
-change_runs M O false number = refl
+change_runs : (M O : Type 0) (fate : Fate) (number : ℕ) → is_crash (change {M = M} {O = O} fate number).event ≡ false
+change_runs M O Lost number = refl
+change_runs M O Repeated number = refl
 
 module _ {M O : Type 0} where
   abbrev pub halts : List (Deed M O) → Bool
@@ -32,11 +34,7 @@ module _ {M O : Type 0} where
       ∙ (list_any-append (λ (d : Deed M O). is_crash d.event) w.made (record { event = row.event; sent = row.sent } ∷ [])
       ∙ (λ i. sym is i || or_false (is_crash row.event) i))
 
-  -- a port that had not crashed
-  pub halted_posted : (w v : View (Deed M O)) (crashed crashes : Bool) (row : Row M O) → RowTurned w v row → crashed ≡ halts w.made → crashed ≡ false → crashes ≡ is_crash row.event → crashes ≡ halts v.made
-  halted_posted w v crashed crashes row t is runs now = now ∙ sym (halted_row w v crashed row t is ∙ ap (λ b. b || is_crash row.event) runs)
-
-  pub halted_changed : (F G : Type 0) (receiver : M → ℕ) (actors : ℕ) (lost : Bool) (number : ℕ) (w v : View (Deed M O)) (crashed done : Bool) → MatchBool done (Changed receiver actors lost number w v × F) (Turned w v × G) → crashed ≡ halts w.made → crashed ≡ halts v.made
-  halted_changed F G receiver actors lost number w v crashed true m is =
-      sym (halted_row w v crashed (change lost number) m.0.turned is ∙ (ap (λ b. crashed || b) (change_runs M O lost number) ∙ or_false crashed))
-  halted_changed F G receiver actors lost number w v crashed false m is = halted_turned w v crashed m.0 is
+  pub halted_changed : (F G : Type 0) (receiver : M → ℕ) (actors : ℕ) (fate : Fate) (number : ℕ) (w v : View (Deed M O)) (crashed done : Bool) → MatchBool done (Changed receiver actors fate number w v × F) (Turned w v × G) → crashed ≡ halts w.made → crashed ≡ halts v.made
+  halted_changed F G receiver actors fate number w v crashed true m is =
+      sym (halted_row w v crashed (change fate number) m.0.turned is ∙ (ap (λ b. crashed || b) (change_runs M O fate number) ∙ or_false crashed))
+  halted_changed F G receiver actors fate number w v crashed false m is = halted_turned w v crashed m.0 is

@@ -2,18 +2,19 @@
 use Rattle.std.proofs.Common.{◌≡◌, ◌≢◌, ℕ, ◌<◌, ◌≤◌, zero, suc, Bool, true, false, List, [], ◌∷◌, ◌++◌, map, length, get_or, eqb, cond, length-append, refl, sym, ap, ◌∙◌, subst, arith, Contains, MatchBool}
 use Rattle.std.proofs.lemmas.List.{map-append, length-map, append-nil}
 use Rattle.sc_turn.specs.declared.rule.View.{View}
-use Rattle.sc_turn.specs.Turn.{StartsWith, rows_by, with_seen, entered, IsTrueOf, IsTrueOver}
+use Rattle.sc_turn.specs.Turn.{StartsWith, rows_by, joined_with, with_seen, entered, IsTrueOf, IsTrueOver}
 use Rattle.sc_turn.specs.Seats.{known, OfOneStart}
 use Rattle.sc_actor.specs.declared.rows.Row.{Row}
 use Rattle.sc_actor.specs.declared.actors.Parcel.{Ghosts}
-use Rattle.sc_actor.specs.Counted.{row_bytes}
+use Rattle.sc_actor.specs.Counted.{row_bytes, journal_bytes}
 use Rattle.sc_ledger.specs.declared.faults.PostFault.{PostFault}
 use Rattle.sc_ledger.specs.Fault.{IsCause}
 use Rattle.sc_exchange.specs.declared.deeds.Deed.{Deed}
+use Rattle.sc_exchange.specs.declared.fates.Fate.{Fate}
 use Rattle.sc_exchange.specs.declared.ports.Port.{Port}
 use Rattle.sc_exchange.specs.Deeds.{deeds, row_by, rows_from, rows_of}
 use Rattle.sc_exchange.specs.Turns.{Turned, RowTurned, Changed, may_change, change}
-use Rattle.sc_exchange.specs.Ports.{seen, made, Stays, Looked, Appended, ChangedBy, IsTrue}
+use Rattle.sc_exchange.specs.Ports.{seen, made, joined, Stays, Looked, Appended, ChangedBy, MayNotChange, IsTrue}
 use Rattle.sc_exchange.proofs.Done.{rows_of_deeds, rows_of_from, begins_rows}
 use Rattle.sc_exchange.proofs.Views.{deed, row_back, seen_row, own_same, own_row, others_same, others_row}
 
@@ -59,25 +60,38 @@ module _ {M O : Type 0} {g : Ghosts M} where
   pub true_met : (q : Port M O g) → IsTrueOf (known q.seat) (known q.seat).seen → IsTrue q
   true_met q t = is_true q t.own t.others
 
-  pub changed_after : (receiver : M → ℕ) (lost : Bool) (number : ℕ) (p q : Port M O g) → OfOneStart p.seat q.seat → q.who ≡ p.who → q.actors ≡ p.actors → q.limit ≡ p.limit → p.who ≡ 0 → Changed receiver p.actors lost number (known p.seat) (known q.seat) → ChangedBy receiver lost number p q
-  changed_after receiver lost number p q start who actors limit net c = record {
-    appended = appended_after p q (change lost number) start who actors limit (sym net) c.turned;
+  changed_after : (fate : Fate) (number : ℕ) (p q : Port M O g) → OfOneStart p.seat q.seat → q.who ≡ p.who → q.actors ≡ p.actors → q.limit ≡ p.limit → p.who ≡ 0 →
+      Changed g.receiver p.actors fate number (known p.seat) (known q.seat) → journal_bytes g.weighs (seen q) ≤ p.limit → ChangedBy fate number p q
+  changed_after fate number p q start who actors limit net c fits = record {
+    appended = appended_after p q (change fate number) start who actors limit (sym net) c.turned;
     may = c.may;
+    within = fits;
   }
 
   -- what the network's change answers
-  pub change_answers : (receiver : M → ℕ) (lost : Bool) (number : ℕ) (p q : Port M O g) (Fits : Type 0) (done : Bool) → OfOneStart p.seat q.seat → q.who ≡ p.who → q.actors ≡ p.actors → q.limit ≡ p.limit → p.who ≡ 0 →
-      MatchBool done (Changed receiver p.actors lost number (known p.seat) (known q.seat) × Fits) (Turned (known p.seat) (known q.seat) × (may_change lost receiver p.actors (seen q) number ≡ false)) →
-      IsTrue q × MatchBool done (ChangedBy receiver lost number p q × Fits) (Looked p q × (may_change lost receiver p.actors (seen q) number ≡ false))
-  change_answers receiver lost number p q Fits true start who actors limit net m = (true_row p q (change lost number) m.0.turned, (changed_after receiver lost number p q start who actors limit net m.0, m.1))
-  change_answers receiver lost number p q Fits false start who actors limit net m = (true_after p q m.0, (looked_after p q start who actors limit m.0, m.1))
+  pub change_answers : (fate : Fate) (number : ℕ) (p q : Port M O g) (done : Bool) → OfOneStart p.seat q.seat → q.who ≡ p.who → q.actors ≡ p.actors → q.limit ≡ p.limit → p.who ≡ 0 →
+      MatchBool done (Changed g.receiver p.actors fate number (known p.seat) (known q.seat) × (journal_bytes g.weighs (seen q) ≤ p.limit)) (Turned (known p.seat) (known q.seat) × (may_change fate g.receiver p.actors (seen q) number ≡ false)) →
+      MatchBool done (ChangedBy fate number p q) (MayNotChange fate number p q)
+  change_answers fate number p q true start who actors limit net m = changed_after fate number p q start who actors limit net m.0 m.1
+  change_answers fate number p q false start who actors limit net m = record { looked = looked_after p q start who actors limit m.0; may = m.1 }
 
--- the row that is handed back
-pub change_back : {M O : Type 0} (lost : Bool) (number : ℕ) (row : Row M O) → row ≡ change lost number → record { who = 0; event = row.event; sent = row.sent } ≡ change lost number
-change_back {M} {O} lost number row is = ap (λ (r : Row M O). record { who = 0; event = r.event; sent = r.sent }) is
+  -- then the port has seen of its own number just the rows that it made
+  pub change_true : (F G : Type 0) (fate : Fate) (number : ℕ) (p q : Port M O g) (done : Bool) → MatchBool done (Changed g.receiver p.actors fate number (known p.seat) (known q.seat) × F) (Turned (known p.seat) (known q.seat) × G) → IsTrue q
+  change_true F G fate number p q true m = true_row p q (change fate number) m.0.turned
+  change_true F G fate number p q false m = true_after p q m.0
 
-pub cause_back : {M O : Type 0} (weighs : M → ℕ) (why other : PostFault) (bytes limit : ℕ) (row again : Row M O) → other ≡ why → again ≡ row → IsCause why bytes (row_bytes weighs row) limit → IsCause other bytes (row_bytes weighs again) limit
-cause_back weighs why other bytes limit row again w r c = subst (λ n. IsCause other bytes n limit) (ap (row_bytes weighs) (sym r)) (subst (λ x. IsCause x bytes (row_bytes weighs row) limit) (sym w) c)
+-- what a port knows that took in another
+pub joins : {M O : Type 0} {g : Ghosts M} → (p other : Port M O g) (v : View (Deed M O)) → v ≡ joined_with (known p.seat) (known other.seat) →
+    map (λ (k : ℕ × List (Deed M O)). (k.0, map (row_by k.0) k.1)) v.joined ≡ joined p ++ (other.who, made other) ∷ []
+joins {M} {O} p other v is =
+    let rows : ℕ × List (Deed M O) → ℕ × List (Row M O) = λ k. (k.0, map (row_by k.0) k.1) in
+    ap (λ (x : View (Deed M O)). map rows x.joined) is
+    ∙ (map-append rows (known p.seat).joined (((known other.seat).who, (known other.seat).made) ∷ [])
+    ∙ (λ i. joined p ++ (other.number i, map (row_by (other.number i)) (known other.seat).made) ∷ []))
+
+-- the cause of the row that is handed back
+pub cause_back : (why other : PostFault) (bytes weight again limit : ℕ) → other ≡ why → again ≡ weight → IsCause why bytes weight limit → IsCause other bytes again limit
+cause_back why other bytes weight again limit same weighs cause = subst (λ n. IsCause other bytes n limit) (sym weighs) (subst (λ x. IsCause x bytes weight limit) (sym same) cause)
 
 -- at the end
 module _ {M O : Type 0} (journal : List (Row M O)) (v : View (Deed M O)) (facts : IsTrueOf v (deeds journal)) (first : v.who ≡ 0) where

@@ -8,6 +8,7 @@ use Rattle.sc_actor.specs.declared.rows.Row.{Row}
 use Rattle.sc_actor.specs.Counted.{row_bytes, journal_bytes}
 use Rattle.sc_ledger.proofs.Kept.{bytes-push}
 use Rattle.sc_exchange.specs.declared.deeds.Deed.{Deed}
+use Rattle.sc_exchange.specs.declared.fates.Fate.{Fate}
 use Rattle.sc_exchange.specs.Deeds.{deeds, row_by, rows_from}
 use Rattle.sc_exchange.specs.Turns.{Turned, RowTurned, Changed, may_change, change}
 use Rattle.sc_exchange.proofs.Done.{rows_of_deeds}
@@ -60,10 +61,10 @@ module _ {M O : Type 0} where
       ∙ (rows_by_other n w.who (deed row) (deeds t.rows) (λ e. ne (sym e ∙ zero_is))
       ∙ t.facts.others zero_is n ne (subst (λ (x : View (Deed M O)). ¬ Contains x.given n) t.view_is away))
 
-  pub changed : (receiver : M → ℕ) (actors : ℕ) (lost : Bool) (number : ℕ) (w s v : View (Deed M O)) (rows : List (Row M O)) (row : Row M O) → row ≡ change lost number → s ≡ entered w (deeds rows) →
-      StartsWith (deeds rows) w.seen → IsTrueOf w (deeds rows) → v ≡ with_turn (with_row s (deed row)) false → may_change lost receiver actors rows number ≡ true → Changed receiver actors lost number w v
-  changed receiver actors lost number w s v rows row is e later facts f may =
-      record { turned = turned_row w s v rows (change lost number) e later facts (f ∙ ap (λ r. with_turn (with_row s (deed r)) false) is); may = may }
+  pub changed : (receiver : M → ℕ) (actors : ℕ) (fate : Fate) (number : ℕ) (w s v : View (Deed M O)) (rows : List (Row M O)) (row : Row M O) → row ≡ change fate number → s ≡ entered w (deeds rows) →
+      StartsWith (deeds rows) w.seen → IsTrueOf w (deeds rows) → v ≡ with_turn (with_row s (deed row)) false → may_change fate receiver actors rows number ≡ true → Changed receiver actors fate number w v
+  changed receiver actors fate number w s v rows row is e later facts f may =
+      record { turned = turned_row w s v rows (change fate number) e later facts (f ∙ ap (λ r. with_turn (with_row s (deed r)) false) is); may = may }
 
   pub own_of : (v : View (Deed M O)) (who : ℕ) → v.who ≡ who → rows_by v.who v.seen ≡ v.made → length (rows_by who v.seen) ≡ length v.made
   own_of v who number own = ap (λ n. length (rows_by n v.seen)) (sym number) ∙ ap length own

@@ -14,8 +14,11 @@ pub struct Deed<M, O> {
     pub sent: Sequence<M>,
 }
 
-/// The journal, its counted bytes and the pending mail. One port at a time has it, and it lies in a box, so that a turn moves a pointer.
-/// Each delivery in the journal is of mail to the row's maker, and only the network's rows lose and repeat mail.
+/// The journal, its counted bytes and the pending mail. One port at a time has it, and it lies in
+/// a box, so that a turn moves a pointer.
+///
+/// Each delivery in the journal is of mail to the row's maker, and only the network's rows lose
+/// and repeat mail.
 #[derive(Drop)]
 pub struct Exchange<M: Parcel + Drop, O: Drop> {
     pub ledger: Box<Ledger<M, O>>,

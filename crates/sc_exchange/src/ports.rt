@@ -1,21 +1,19 @@
 //! The ports.
-ghost use Rattle.std.specs.Prelude.{◌≡◌, ◌≢◌, ◌++◌, ◌∷◌, [], ℕ, ◌<◌, ◌≤◌, ◌^◌, true, false, length, map, IfOk, OnErr, IfErr, OnOk, Contains, MatchBool, None, is_some};
+ghost use Rattle.std.specs.Prelude.{◌≡◌, ◌≢◌, ℕ, ◌++◌, ◌∷◌, [], ◌<◌, ◌≤◌, ◌^◌, true, false, length, map, IfOk, OnErr, IfErr, OnOk, Contains, is_some};
 ghost use Rattle.std.specs.List.{list_any};
 ghost use Rattle.sc_turn.specs.Seats.{known, AllJoined};
-ghost use Rattle.sc_turn.specs.Turn.{rows_by, longer, StartsWith, StartsWith as Begins, IsTrueOf};
+ghost use Rattle.sc_turn.specs.Turn.{rows_by, StartsWith, StartsWith as Begins, IsTrueOf};
 ghost use Rattle.std.specs.Option.{option_map};
 ghost use Rattle.sc_actor.specs.Mail.{is_crash, mails, numbered};
-ghost use Rattle.sc_actor.specs.Counted.{row_bytes, journal_bytes};
-ghost use Rattle.sc_ledger.specs.Fault.{IsCause};
-ghost use Rattle.sc_ledger.specs.Pending.{kth_pending, is_pending, may_repeat};
+ghost use Rattle.sc_ledger.specs.Pending.{kth_pending};
 ghost use Rattle.sc_exchange.specs.Deeds.{deeds, row_by, rows_from, rows_of};
 ghost use Rattle.sc_exchange.specs.Addressed.{all_addressed};
 ghost use Rattle.sc_exchange.specs.Fetches.{HasFetched, delivered};
-ghost use Rattle.sc_exchange.specs.Turns.{may_change, change};
-ghost use Rattle.sc_exchange.specs.Answers.{IsFetch, IsLook, number_of, number_in};
+ghost use Rattle.sc_exchange.specs.Answers.{IsFetch, IsLook, number_in};
 
 use crate::answers::{Fetched, Unposted};
 use crate::deeds::Exchange;
+use crate::fates::Fate;
 use crate::turns::{change_at, fetch_at, kth_at, look_at, post_at, receiver_at, waiting_at};
 use sc_actor::{Event, Journal, Parcel, Row};
 use sc_base::{OutOfMemory, Sequence};
@@ -25,7 +23,10 @@ use std::alloc::Global;
 use std::sync::Wait;
 
 /// A port to the exchange: of the actor with the number `who`, or of the network where it is 0.
-/// Its meaning is the list of rows that it has seen and the list of those that it made. `fetched` is the mail of its last fetch, with no post between, and `crashed` says whether it has posted a Crash.
+///
+/// Its meaning is the list of rows that it has seen and the list of those that it made. `fetched`
+/// is the mail of its last fetch, with no post between, and `crashed` says whether it has posted a
+/// Crash.
 #[derive(Drop)]
 pub struct Port<M: Parcel + Drop, O: Drop> {
     seat: TurnSeat<Exchange<M, O>>,
@@ -44,12 +45,13 @@ pub struct Port<M: Parcel + Drop, O: Drop> {
 }
 
 impl<M: Parcel + Drop, O: Drop> Port<M, O> {
-    ghost use Rattle.sc_exchange.specs.Ports.{seen, made, given, joined, SameExchange, Stays, Looked, Appended, ChangedBy, IsTrue, IsNew, IsAddressed, MayPost};
+    ghost use Rattle.sc_exchange.specs.Ports.{seen, made, given, SameExchange, MayPost, HasTurned, HasLooked, HasPosted, IsRefused, HasChanged, HasHeard, IsAsBefore, IsStart, HasSplit, IsNew, HasJoined, HasJoinedAll, IsJournal};
 
-    /// The network's port to a new exchange, whose journal is empty. The actors have the numbers from 1 to `actors`, and the counted bytes never pass the limit.
+    /// The network's port to a new exchange, whose journal is empty. The actors have the numbers
+    /// from 1 to `actors`, and the counted bytes never pass the limit.
     pub fn start(alloc: Global, actors: u32, limit: u64) -> Result<Port<M, O>, OutOfMemory>
         requires { limit ≤ 2 ^ 30 }
-        ensures { IfOk result (λ p. (seen p ≡ []) × (made p ≡ []) × (given p ≡ []) × (joined p ≡ []) × (p.who ≡ 0) × (p.actors ≡ actors) × (p.limit ≡ limit) × (p.fetched ≡ None) × (p.crashed ≡ false)) }
+        ensures { IfOk result (λ p. IsStart p actors limit) }
     {
         Ok(Port {
             seat: TurnSeat::start(alloc, Exchange::new(alloc, actors)?)?,
@@ -62,13 +64,14 @@ impl<M: Parcel + Drop, O: Drop> Port<M, O> {
         })
     }
 
-    /// A new port of the actor `who`, which has seen what the network's port has seen and has made nothing. Only the network's port splits off others, each number once.
+    /// A new port of the actor `who`, which has seen what the network's port has seen and has made
+    /// nothing. Only the network's port splits off others, each number once.
     pub fn split(&mut self, who: u32) -> Result<Port<M, O>, OutOfMemory>
         requires net { self.old.who ≡ 0 }
         requires number { (0 < who) × (who ≤ self.old.actors) }
         requires fresh { ¬ Contains (given self.old) who }
-        ensures same { SameExchange self.old self.new × (self.new.who ≡ 0) × (seen self.new ≡ seen self.old) × (made self.new ≡ made self.old) × (joined self.new ≡ joined self.old) }
-        ensures ok { IfOk result (λ p. IsNew self.old p who × (p.fetched ≡ None) × (p.crashed ≡ false)) }
+        ensures same { HasSplit self.old self.new }
+        ensures ok { IfOk result (λ p. IsNew self.old p who) }
         ensures given { OnOk result (given self.new ≡ given self.old ++ who ∷ []) }
         ensures err { OnErr result (given self.new ≡ given self.old) }
     {
@@ -84,12 +87,12 @@ impl<M: Parcel + Drop, O: Drop> Port<M, O> {
         })
     }
 
-    /// The k-th pending mail of this port's actor, counted from 1, which stays pending. The network's port looks at the pending mail of all.
+    /// The k-th pending mail of this port's actor, counted from 1, which stays pending. The
+    /// network's port looks at the pending mail of all.
     pub fn fetch<R: Wait>(&mut self, rt: &R, k: u32) -> Result<Fetched<M>, OutOfMemory>
         requires { 0 < k }
-        ensures looked { Looked self.old self.new × IsTrue self.new × (self.new.crashed ≡ self.old.crashed) }
-        ensures addressed { IsAddressed self.new }
-        ensures found { IfOk result (λ found. IsFetch M.receiver self.old.actors (seen self.new) self.old.who k found × (self.new.fetched ≡ number_of found)) }
+        ensures looked { HasLooked self.old self.new (number_in result) }
+        ensures found { IfOk result (λ found. IsFetch M.receiver self.old.actors (seen self.new) self.old.who k found) }
     {
         self.fetched = None;
         let found = fetch_at(rt, self.alloc, &mut self.seat, self.actors, self.who, k);
@@ -97,7 +100,9 @@ impl<M: Parcel + Drop, O: Drop> Port<M, O> {
         found
     }
 
-    /// Appends a row of this port's actor, and answers its place, counted from 1. A delivery is of the mail of the last fetch, which was pending then.
+    /// Appends a row of this port's actor, and answers its place, counted from 1. A delivery is of
+    /// the mail of the last fetch, which was pending then.
+    ///
     /// A refused row is handed back, and the journal is unchanged.
     pub fn post<R: Wait>(
         &mut self,
@@ -108,11 +113,10 @@ impl<M: Parcel + Drop, O: Drop> Port<M, O> {
         requires actor { self.old.who ≢ 0 }
         requires event { MayPost self.old.fetched event }
         requires runs { self.old.crashed ≡ false }
-        ensures stays { Stays self.old self.new }
-        ensures addressed { IsAddressed self.new }
+        ensures turned { HasTurned self.old self.new }
         ensures delivered { ∥ HasFetched M.receiver self.old.actors self.old.who (delivered event) (made self.old) (seen self.old) ∥₁ }
-        ensures ok { IfOk result (λ place. Appended self.old self.new (record { who = self.old.who; event = event; sent = sent }) × (place ≡ length (seen self.new)) × (journal_bytes M.weighs (seen self.new) ≤ self.old.limit) × IsTrue self.new × (self.new.fetched ≡ None) × (self.new.crashed ≡ is_crash event)) }
-        ensures refused { IfErr result (λ e. Looked self.old self.new × IsTrue self.new × (e.event ≡ event) × (e.sent ≡ sent) × IsCause e.why (journal_bytes M.weighs (seen self.new)) (row_bytes M.weighs (record { who = self.old.who; event = event; sent = sent })) self.old.limit × (self.new.fetched ≡ self.old.fetched) × (self.new.crashed ≡ false)) }
+        ensures ok { IfOk result (λ at. HasPosted self.old self.new (record { who = self.old.who; event = event; sent = sent }) at) }
+        ensures refused { IfErr result (λ e. IsRefused self.old self.new (record { who = self.old.who; event = event; sent = sent }) e) }
     {
         let crashes = is_crash(&event);
         let row = Row {
@@ -130,15 +134,17 @@ impl<M: Parcel + Drop, O: Drop> Port<M, O> {
         }
     }
 
-    // A row of the network.
-    fn change<R: Wait>(&mut self, rt: &R, number: u32, lost: bool) -> Result<bool, Unposted<M, O>>
+    /// The network loses a pending copy of the mail with this number, or repeats the mail, which
+    /// has one more copy then. False exactly where it may not: no copy is pending, or, of a repeat,
+    /// the mail was not sent, or its receiver is the desk or has crashed.
+    pub fn change<R: Wait>(
+        &mut self,
+        rt: &R,
+        number: u32,
+        fate: Fate,
+    ) -> Result<bool, Unposted<M, O>>
         requires { self.old.who ≡ 0 }
-        ensures stays { Stays self.old self.new }
-        ensures addressed { IsAddressed self.new }
-        ensures kept { (self.new.fetched ≡ self.old.fetched) × (self.new.crashed ≡ self.old.crashed) }
-        ensures ok { IfOk result (λ done. IsTrue self.new × MatchBool done (ChangedBy M.receiver lost number self.old self.new × (journal_bytes M.weighs (seen self.new) ≤ self.old.limit)) (Looked self.old self.new × (may_change lost M.receiver self.old.actors (seen self.new) number ≡ false))) }
-        ensures may { OnErr result (may_change lost M.receiver self.old.actors (seen self.new) number ≡ true) }
-        ensures refused { IfErr result (λ e. Looked self.old self.new × IsTrue self.new × (record { who = 0; event = e.event; sent = e.sent } ≡ change lost number) × IsCause e.why (journal_bytes M.weighs (seen self.new)) (row_bytes M.weighs (record { who = 0; event = e.event; sent = e.sent })) self.old.limit) }
+        ensures { HasChanged fate number self.old self.new result }
     {
         match change_at(
             rt,
@@ -147,7 +153,7 @@ impl<M: Parcel + Drop, O: Drop> Port<M, O> {
             self.actors,
             self.limit,
             number,
-            lost,
+            fate,
         ) {
             Ok(done) => Ok(done),
             Err(unkept) => Err(unposted(unkept)),
@@ -157,34 +163,25 @@ impl<M: Parcel + Drop, O: Drop> Port<M, O> {
     /// Loses a pending copy of the mail with this number. False exactly where none is pending.
     pub fn lose<R: Wait>(&mut self, rt: &R, number: u32) -> Result<bool, Unposted<M, O>>
         requires { self.old.who ≡ 0 }
-        ensures stays { Stays self.old self.new }
-        ensures addressed { IsAddressed self.new }
-        ensures kept { (self.new.fetched ≡ self.old.fetched) × (self.new.crashed ≡ self.old.crashed) }
-        ensures ok { IfOk result (λ done. IsTrue self.new × MatchBool done (ChangedBy M.receiver true number self.old self.new × (journal_bytes M.weighs (seen self.new) ≤ self.old.limit)) (Looked self.old self.new × (is_pending M.receiver self.old.actors (seen self.new) number ≡ false))) }
-        ensures may { OnErr result (is_pending M.receiver self.old.actors (seen self.new) number ≡ true) }
-        ensures refused { IfErr result (λ e. Looked self.old self.new × IsTrue self.new × (record { who = 0; event = e.event; sent = e.sent } ≡ change true number) × IsCause e.why (journal_bytes M.weighs (seen self.new)) (row_bytes M.weighs (record { who = 0; event = e.event; sent = e.sent })) self.old.limit) }
+        ensures { HasChanged Fate.Lost number self.old self.new result }
     {
-        self.change(rt, number, true)
+        self.change(rt, number, Fate::Lost)
     }
 
-    /// Repeats the mail with this number, which has one more copy then. False exactly where it was not sent, or its receiver is the desk or has crashed.
+    /// Repeats the mail with this number, which has one more copy then. False exactly where it was
+    /// not sent, or its receiver is the desk or has crashed.
     pub fn again<R: Wait>(&mut self, rt: &R, number: u32) -> Result<bool, Unposted<M, O>>
         requires { self.old.who ≡ 0 }
-        ensures stays { Stays self.old self.new }
-        ensures addressed { IsAddressed self.new }
-        ensures kept { (self.new.fetched ≡ self.old.fetched) × (self.new.crashed ≡ self.old.crashed) }
-        ensures ok { IfOk result (λ done. IsTrue self.new × MatchBool done (ChangedBy M.receiver false number self.old self.new × (journal_bytes M.weighs (seen self.new) ≤ self.old.limit)) (Looked self.old self.new × (may_repeat M.receiver self.old.actors (seen self.new) number ≡ false))) }
-        ensures may { OnErr result (may_repeat M.receiver self.old.actors (seen self.new) number ≡ true) }
-        ensures refused { IfErr result (λ e. Looked self.old self.new × IsTrue self.new × (record { who = 0; event = e.event; sent = e.sent } ≡ change false number) × IsCause e.why (journal_bytes M.weighs (seen self.new)) (row_bytes M.weighs (record { who = 0; event = e.event; sent = e.sent })) self.old.limit) }
+        ensures { HasChanged Fate.Repeated number self.old self.new result }
     {
-        self.change(rt, number, false)
+        self.change(rt, number, Fate::Repeated)
     }
 
-    /// The number of the k-th pending mail of an actor, or of all where `who` is 0. None exactly where there are fewer.
+    /// The number of the k-th pending mail of an actor, or of all where `who` is 0. None exactly
+    /// where there are fewer.
     pub fn pending<R: Wait>(&mut self, rt: &R, who: u32, k: u32) -> Option<u32>
         requires { 0 < k }
-        ensures looked { Looked self.old self.new × IsTrue self.new × (self.new.fetched ≡ self.old.fetched) × (self.new.crashed ≡ self.old.crashed) }
-        ensures addressed { IsAddressed self.new }
+        ensures looked { HasLooked self.old self.new self.old.fetched }
         ensures kth { result ≡ kth_pending M.receiver self.old.actors (seen self.new) who k }
     {
         kth_at(rt, &mut self.seat, self.actors, who, k)
@@ -192,8 +189,7 @@ impl<M: Parcel + Drop, O: Drop> Port<M, O> {
 
     /// To whom the mail with this number goes. None exactly where at this turn it was not sent.
     pub fn receiver<R: Wait>(&mut self, rt: &R, number: u32) -> Option<u32>
-        ensures looked { Looked self.old self.new × IsTrue self.new × (self.new.fetched ≡ self.old.fetched) × (self.new.crashed ≡ self.old.crashed) }
-        ensures addressed { IsAddressed self.new }
+        ensures looked { HasLooked self.old self.new self.old.fetched }
         ensures receiver { result ≡ option_map M.receiver (numbered (mails (seen self.new)) number) }
     {
         receiver_at(rt, &mut self.seat, number)
@@ -201,53 +197,52 @@ impl<M: Parcel + Drop, O: Drop> Port<M, O> {
 
     /// For each of these actors, whether mail is pending for it, all at this one turn.
     pub fn waiting<R: Wait>(&mut self, rt: &R, whos: &[u32]) -> Result<Vec<bool>, OutOfMemory>
-        ensures looked { Looked self.old self.new × IsTrue self.new × (self.new.fetched ≡ self.old.fetched) × (self.new.crashed ≡ self.old.crashed) }
-        ensures addressed { IsAddressed self.new }
+        ensures looked { HasLooked self.old self.new self.old.fetched }
         ensures waiting { IfOk result (λ waits. waits.items ≡ map (λ who. is_some (kth_pending M.receiver self.new.actors (seen self.new) who 1)) whos.now) }
     {
         waiting_at(rt, self.alloc, &mut self.seat, self.actors, whos)
     }
 
-    /// How many mails were sent, and each pending copy of all mail, all at this one turn. Only the network's port looks.
+    /// How many mails were sent, and each pending copy of all mail, all at this one turn. Only the
+    /// network's port looks.
     pub fn look<R: Wait>(&mut self, rt: &R) -> Result<Look, OutOfMemory>
         requires net { self.old.who ≡ 0 }
-        ensures looked { Looked self.old self.new × IsTrue self.new × (self.new.fetched ≡ self.old.fetched) × (self.new.crashed ≡ self.old.crashed) }
-        ensures addressed { IsAddressed self.new }
+        ensures looked { HasLooked self.old self.new self.old.fetched }
         ensures look { IfOk result (λ look. IsLook M.receiver self.old.actors (seen self.new) look) }
     {
         look_at(rt, self.alloc, &mut self.seat, self.actors)
     }
 
-    /// Two ports of one exchange tell each other: afterwards what each has seen begins with what the two had seen before, and what `other` has seen begins with what this port has.
+    /// Two ports of one exchange tell each other: afterwards what each has seen begins with what
+    /// the two had seen before, and what `other` has seen begins with what this port has.
     pub fn meet<R: Wait>(&mut self, rt: &R, other: &mut Port<M, O>) -> Result<(), OutOfMemory>
         requires { SameExchange self.old other.old }
-        ensures mine { Looked self.old self.new × Begins (seen self.new) (seen other.old) × IsTrue self.new × (self.new.fetched ≡ self.old.fetched) × (self.new.crashed ≡ self.old.crashed) }
-        ensures theirs { Looked other.old other.new × Begins (seen other.new) (seen self.old) × IsTrue other.new × (other.new.fetched ≡ other.old.fetched) × (other.new.crashed ≡ other.old.crashed) }
+        ensures mine { HasHeard self.old self.new (seen other.old) }
+        ensures theirs { HasHeard other.old other.new (seen self.old) }
         ensures last { Begins (seen other.new) (seen self.new) }
     {
         self.seat.meet(rt, &mut other.seat)
     }
 
-    /// Vouches for what the other port has seen, which begins with what this port has seen: the rows of this port's number in it are exactly those that this port made. Neither port sees more by it.
+    /// Vouches for what the other port has seen, which begins with what this port has seen: the
+    /// rows of this port's number in it are exactly those that this port made. Neither port sees
+    /// more by it.
     pub fn vouch(&mut self, other: &mut Port<M, O>)
         requires one { SameExchange self.old other.old }
         requires later { Begins (seen other.old) (seen self.old) }
-        ensures mine { Looked self.old self.new × (seen self.new ≡ seen self.old) × (self.new.fetched ≡ self.old.fetched) × (self.new.crashed ≡ self.old.crashed) }
-        ensures theirs { Looked other.old other.new × (seen other.new ≡ seen other.old) × (other.new.fetched ≡ other.old.fetched) × (other.new.crashed ≡ other.old.crashed) }
+        ensures mine { IsAsBefore self.old self.new }
+        ensures theirs { IsAsBefore other.old other.new }
         ensures own { rows_of self.old.who (seen other.new) ≡ made self.new }
     {
         self.seat.vouch(&mut other.seat);
     }
 
-    /// The network's port takes in another port of the exchange, keeps the longer of what the two have seen, and knows what the other made.
+    /// The network's port takes in another port of the exchange, keeps the longer of what the two
+    /// have seen, and knows what the other made.
     pub fn join(&mut self, other: Port<M, O>)
         requires net { self.old.who ≡ 0 }
         requires one { SameExchange self.old other }
-        ensures same { SameExchange self.old self.new × (self.new.who ≡ 0) × (given self.new ≡ given self.old) × (made self.new ≡ made self.old) }
-        ensures joined { joined self.new ≡ joined self.old ++ (other.who, made other) ∷ [] }
-        ensures seen { seen self.new ≡ longer (seen self.old) (seen other) }
-        ensures later { Begins (seen self.new) (seen self.old) × Begins (seen self.new) (seen other) }
-        ensures others { (n : ℕ) → n ≢ 0 → ¬ Contains (given self.new) n → rows_of n (seen self.new) ≡ [] }
+        ensures { HasJoined self.old self.new other }
     {
         let Port {
             seat,
@@ -264,12 +259,8 @@ impl<M: Parcel + Drop, O: Drop> Port<M, O> {
     /// The journal. Each port that was split off was joined.
     pub fn close<R: Wait>(self, rt: &R) -> Journal<M, O>
         requires net { self.who ≡ 0 }
-        requires all { (n : ℕ) → Contains (given self) n → Contains (map (λ k. k.0) (joined self)) n }
-        ensures later { Begins result (seen self) }
-        ensures addressed { all_addressed M.receiver [] result ≡ true }
-        ensures own { rows_of 0 result ≡ made self }
-        ensures each { (k : _) → Contains (joined self) k → rows_of k.0 result ≡ k.1 }
-        ensures others { (n : ℕ) → n ≢ 0 → ¬ Contains (given self) n → rows_of n result ≡ [] }
+        requires all { HasJoinedAll self }
+        ensures { IsJournal self result }
     {
         let Port {
             seat,
@@ -293,7 +284,8 @@ fn is_crash<O>(event: &Event<O>) -> bool
     }
 }
 
-// The number that was fetched, if any was. The answer is looked at where it lies, since it is large.
+// The number that was fetched, if any was. The answer is looked at where it lies, since it is
+// large.
 fn number_in<M>(found: &Result<Fetched<M>, OutOfMemory>) -> Option<u32>
     ensures { result ≡ number_in found.now }
 {

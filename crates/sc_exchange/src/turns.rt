@@ -15,6 +15,7 @@ ghost use Rattle.sc_exchange.specs.Turns.{Turned, RowTurned, Changed, may_change
 
 use crate::answers::Fetched;
 use crate::deeds::Exchange;
+use crate::fates::Fate;
 use sc_actor::{Event, Parcel, Row};
 use sc_base::{OutOfMemory, Sequence};
 use sc_ledger::{Ledger, Look, Unkept};
@@ -122,7 +123,8 @@ fn waiting_in<M: Parcel + Drop, O: Drop>(
     Ok(waits)
 }
 
-// A copy of a mail that is the k-th pending one. Most fetches find none: apart from them, so that they do not pay for what it keeps on the stack.
+// A copy of a mail that is the k-th pending one. Most fetches find none: apart from them, so that
+// they do not pay for what it keeps on the stack.
 #[inline(never)]
 fn found_in<M: Parcel + Drop, O: Drop>(
     ledger: &Ledger<M, O>,
@@ -255,35 +257,28 @@ fn may_change_at<M: Parcel + Drop, O: Drop>(
     ledger: &Ledger<M, O>,
     actors: u32,
     number: u32,
-    lost: bool,
+    fate: Fate,
 ) -> bool
-    ensures { result ≡ may_change lost M.receiver actors ledger.now.rows.items number }
+    ensures { result ≡ may_change fate M.receiver actors ledger.now.rows.items number }
 {
-    if lost {
-        ledger.is_pending(actors, number)
-    } else {
-        ledger.may_repeat(actors, number)
+    match fate {
+        Fate::Lost => ledger.is_pending(actors, number),
+        Fate::Repeated => ledger.may_repeat(actors, number),
     }
 }
 
-fn change_of<M, O>(alloc: Global, number: u32, lost: bool) -> Row<M, O>
-    ensures { result ≡ change lost number }
+// The network's row of a mail.
+fn change_of<M, O>(alloc: Global, number: u32, fate: Fate) -> Row<M, O>
+    ensures { result ≡ change fate number }
 {
-    let sent = Sequence::new(alloc);
-    if lost {
-        let event = Event::Drop(number);
-        Row {
-            who: 0,
-            event,
-            sent,
-        }
-    } else {
-        let event = Event::Again(number);
-        Row {
-            who: 0,
-            event,
-            sent,
-        }
+    let event = match fate {
+        Fate::Lost => Event::Drop(number),
+        Fate::Repeated => Event::Again(number),
+    };
+    Row {
+        who: 0,
+        event,
+        sent: Sequence::new(alloc),
     }
 }
 
@@ -295,7 +290,7 @@ pub(crate) fn change_at<M: Parcel + Drop, O: Drop, R: Wait>(
     actors: u32,
     limit: u64,
     number: u32,
-    lost: bool,
+    fate: Fate,
 ) -> Result<bool, Unkept<M, O>>
     requires turn { (known seat.old).turn ≡ false }
     requires net { (known seat.old).who ≡ 0 }
@@ -304,16 +299,16 @@ pub(crate) fn change_at<M: Parcel + Drop, O: Drop, R: Wait>(
     ensures addressed { all_addressed M.receiver [] (rows_from (known seat.new).seen) ≡ true }
     ensures own { length (rows_by (known seat.old).who (known seat.new).seen) ≡ length (known seat.new).made }
     ensures kept { ((known seat.new).given ≡ (known seat.old).given) × ((known seat.new).joined ≡ (known seat.old).joined) }
-    ensures ok { IfOk result (λ done. MatchBool done (Changed M.receiver actors lost number (known seat.old) (known seat.new) × (journal_bytes M.weighs (rows_from (known seat.new).seen) ≤ limit)) (Turned (known seat.old) (known seat.new) × (may_change lost M.receiver actors (rows_from (known seat.new).seen) number ≡ false))) }
-    ensures may { OnErr result (may_change lost M.receiver actors (rows_from (known seat.new).seen) number ≡ true) }
-    ensures refused { IfErr result (λ e. Turned (known seat.old) (known seat.new) × (e.row ≡ change lost number) × IsCause e.why (journal_bytes M.weighs (rows_from (known seat.new).seen)) (row_bytes M.weighs e.row) limit) }
+    ensures ok { IfOk result (λ done. MatchBool done (Changed M.receiver actors fate number (known seat.old) (known seat.new) × (journal_bytes M.weighs (rows_from (known seat.new).seen) ≤ limit)) (Turned (known seat.old) (known seat.new) × (may_change fate M.receiver actors (rows_from (known seat.new).seen) number ≡ false))) }
+    ensures may { OnErr result (may_change fate M.receiver actors (rows_from (known seat.new).seen) number ≡ true) }
+    ensures refused { IfErr result (λ e. Turned (known seat.old) (known seat.new) × (e.row ≡ change fate number) × IsCause e.why (journal_bytes M.weighs (rows_from (known seat.new).seen)) (row_bytes M.weighs e.row) limit) }
 {
     let exchange = seat.enter(rt);
-    if !may_change_at(&exchange.ledger, actors, number, lost) {
+    if !may_change_at(&exchange.ledger, actors, number, fate) {
         keep_same(seat, exchange);
         return Ok(false);
     }
-    match append_row(seat, exchange, change_of(alloc, number, lost), limit) {
+    match append_row(seat, exchange, change_of(alloc, number, fate), limit) {
         Ok(_) => Ok(true),
         Err(unkept) => Err(unkept),
     }

@@ -40,6 +40,23 @@ pub record State (A M O : Type 0) (g : Ghosts A M O) (h : MailGhosts M) : Type 0
   pub spent : Bool
 
 module _ {A M O : Type 0} {g : Ghosts A M O} {h : MailGhosts M} where
+  -- the shell's actor
+  abbrev pub actor_of : Shell A M O g h → A
+  actor_of s = s.actor
+
+  -- its port
+  abbrev pub port_of : Shell A M O g h → Port M O h
+  port_of s = s.port
+
+  -- whether it posts no row any more
+  abbrev pub is_spent : Shell A M O g h → Bool
+  is_spent s = s.spent
+
+  -- its last answer
+  abbrev pub last_of : Shell A M O g h → Option Turn
+  last_of s = s.last
+
+  -- what the shell is, but for its last answer
   abbrev pub state : Shell A M O g h → State A M O g h
   state s = record { actor = s.actor; port = s.port; spent = s.spent }
 
@@ -58,6 +75,24 @@ module _ {A M O : Type 0} {g : Ghosts A M O} {h : MailGhosts M} where
   -- a shell that was the replay of its rows still is
   abbrev pub KeepsReplay : Shell A M O g h → Shell A M O g h → Type 0
   KeepsReplay s t = (birth : A) → IsReplay s birth → IsReplay t birth
+
+  -- The shell's actor has done nothing.
+  pub record HasRested (s t : Shell A M O g h) : Type 0 where
+    -- the actor is as it was
+    pub actor : t.actor ≡ s.actor
+    -- the shell is spent if it was
+    pub spent : t.spent ≡ s.spent
+    -- its last answer is the same
+    pub last : t.last ≡ s.last
+    -- it is the replay of its rows if it was
+    pub replay : KeepsReplay s t
+
+  -- The shell has vouched for these rows.
+  pub record HasVouched (s t : Shell A M O g h) (rows : List (Row M O)) : Type 0 where
+    -- the rows of its actor among them are those that its port made
+    pub own : rows_of s.port.who rows ≡ made t.port
+    -- the actor is their replay if it was that of its rows
+    pub over : (birth : A) → Replays s birth → ReplaysOver t rows birth
 
   -- the row of the actor at an event with this input: it sends what the table gives
   abbrev pub row_at : State A M O g h → Event O → Option (Input M O) → Row M O

@@ -6,6 +6,3 @@ mod turns;
 
 pub use shells::Shell;
 pub use turns::Turn;
-
-#[cfg(test)]
-mod tests;

@@ -1,13 +1,12 @@
 //! Shells.
-ghost use Rattle.std.specs.Prelude.{◌≡◌, ◌≢◌, ◌<◌, ◌++◌, [], ◌||◌, List, not, true, false, None, Some, IfOk};
+ghost use Rattle.std.specs.Prelude.{◌≡◌, ◌<◌, ◌++◌, [], ◌||◌, List, not, true, false, None, Some, IfOk};
 ghost use Rattle.sc_turn.specs.Turn.{StartsWith as Begins};
 ghost use Rattle.sc_actor.specs.declared.rows.Row.{Row};
 ghost use Rattle.sc_actor.specs.Mail.{mails};
 ghost use Rattle.sc_actor.specs.Replay.{input_of, acted};
 ghost use Rattle.sc_ledger.specs.Pending.{kth_pending};
 ghost use Rattle.sc_shell.specs.Answers.{turn_of, MayHappen};
-ghost use Rattle.sc_exchange.specs.Deeds.{rows_of};
-ghost use Rattle.sc_exchange.specs.Ports.{seen, made, SameExchange, Stays, Looked, IsTrue, IsAddressed, MayPost};
+ghost use Rattle.sc_exchange.specs.Ports.{seen, made, SameExchange, Stays, HasLooked, HasHeard, IsAsBefore, MayPost};
 
 use crate::turns::Turn;
 use sc_actor::{Actor, Event, Gate, Input};
@@ -17,24 +16,27 @@ use std::alloc::Global;
 use std::sync::Wait;
 
 /// An actor, seated at its port. A shell that is spent posts no row any more.
+///
+/// Its meaning is its actor, its port, whether it is spent, and its last answer.
 #[derive(Drop)]
 pub struct Shell<A: Actor> {
-    pub actor: A,
-    pub port: Port<A::Mail, A::Order>,
-    pub spent: bool,
-    pub last: Option<Turn>,
+    actor: A,
+    port: Port<A::Mail, A::Order>,
+    spent: bool,
+    last: Option<Turn>,
     ghost numbered: { 0 < port.who },
     ghost runs: { (spent || not port.crashed) ≡ true },
 }
 
 impl<A: Actor> Shell<A> {
-    ghost use Rattle.sc_shell.specs.Shells.{Replays, ReplaysOver, KeepsReplay, Acts, Takes, Happens, state};
+    ghost use Rattle.sc_shell.specs.Shells.{actor_of, port_of, is_spent, last_of, Replays, KeepsReplay, HasRested, HasVouched, Acts, Takes, Happens, state};
 
     /// The actor at its port, which has made no row. The actor is as it was born.
     pub fn new(actor: A, port: Port<A::Mail, A::Order>) -> Shell<A>
         requires own { 0 < port.who }
         requires fresh { (made port ≡ []) × (port.crashed ≡ false) }
-        ensures same { (result.actor ≡ actor) × (result.port ≡ port) × (result.spent ≡ false) × (result.last ≡ None) }
+        ensures parts { (actor_of result ≡ actor) × (port_of result ≡ port) }
+        ensures fresh { (is_spent result ≡ false) × (last_of result ≡ None) }
         ensures born { Replays result actor }
     {
         Shell {
@@ -47,14 +49,29 @@ impl<A: Actor> Shell<A> {
 
     /// The actor's number.
     pub fn who(&self) -> u32
-        ensures { result ≡ self.now.port.who }
+        ensures { result ≡ (port_of self.now).who }
     {
         self.port.who
     }
 
+    /// Whether the shell posts no row any more: it has posted a Crash, or has answered Full or
+    /// OutOfMemory.
+    pub fn is_spent(&self) -> bool
+        ensures { result ≡ is_spent self.now }
+    {
+        self.spent
+    }
+
+    /// Whether the shell has posted a Crash.
+    pub fn has_crashed(&self) -> bool
+        ensures { result ≡ (port_of self.now).crashed }
+    {
+        self.port.crashed
+    }
+
     /// The answer of the last turn or event. None where there was none.
     pub fn last(&self) -> Option<Turn>
-        ensures { result ≡ self.now.last }
+        ensures { result ≡ last_of self.now }
     {
         self.last
     }
@@ -71,7 +88,7 @@ impl<A: Actor> Shell<A> {
         requires event { MayPost self.old.port.fetched event }
         requires input { (more : List (Row A.Mail A.Order)) → input_of (mails (seen self.old.port ++ more)) event ≡ input }
         ensures acts { Acts (state self.old) (state self.new) event input result }
-        ensures stays { Stays self.old.port self.new.port }
+        ensures stays { Stays (port_of self.old) (port_of self.new) }
         ensures replay { KeepsReplay self.old self.new }
     {
         self.spent = true;
@@ -90,7 +107,7 @@ impl<A: Actor> Shell<A> {
     fn take_turn<G: Gate, R: Wait>(&mut self, rt: &R, alloc: Global, k: u32, gate: &G) -> Turn
         requires { 0 < k }
         ensures takes { Takes (state self.old) (state self.new) k result }
-        ensures stays { Stays self.old.port self.new.port }
+        ensures stays { Stays (port_of self.old) (port_of self.new) }
         ensures replay { KeepsReplay self.old self.new }
     {
         if self.spent {
@@ -109,13 +126,14 @@ impl<A: Actor> Shell<A> {
         }
     }
 
-    /// Fetches the k-th pending mail, counted from 1, passes the gate, lets the actor step, and posts the row.
+    /// Fetches the k-th pending mail, counted from 1, passes the gate, lets the actor step, and
+    /// posts the row.
     pub fn turn<G: Gate, R: Wait>(&mut self, rt: &R, alloc: Global, k: u32, gate: &G) -> Turn
         requires { 0 < k }
         ensures takes { Takes (state self.old) (state self.new) k result }
-        ensures stays { Stays self.old.port self.new.port }
+        ensures stays { Stays (port_of self.old) (port_of self.new) }
         ensures replay { KeepsReplay self.old self.new }
-        ensures last { self.new.last ≡ Some result }
+        ensures last { last_of self.new ≡ Some result }
     {
         let answer = self.take_turn(rt, alloc, k, gate);
         self.last = Some(answer);
@@ -125,7 +143,7 @@ impl<A: Actor> Shell<A> {
     fn take_event<R: Wait>(&mut self, rt: &R, alloc: Global, event: Event<A::Order>) -> Turn
         requires { MayHappen event }
         ensures happens { Happens (state self.old) (state self.new) event result }
-        ensures stays { Stays self.old.port self.new.port }
+        ensures stays { Stays (port_of self.old) (port_of self.new) }
         ensures replay { KeepsReplay self.old self.new }
     {
         if self.spent {
@@ -142,52 +160,50 @@ impl<A: Actor> Shell<A> {
     pub fn event<R: Wait>(&mut self, rt: &R, alloc: Global, event: Event<A::Order>) -> Turn
         requires { MayHappen event }
         ensures happens { Happens (state self.old) (state self.new) event result }
-        ensures stays { Stays self.old.port self.new.port }
+        ensures stays { Stays (port_of self.old) (port_of self.new) }
         ensures replay { KeepsReplay self.old self.new }
-        ensures last { self.new.last ≡ Some result }
+        ensures last { last_of self.new ≡ Some result }
     {
         let answer = self.take_event(rt, alloc, event);
         self.last = Some(answer);
         answer
     }
 
-    /// The shell's port and `net` tell each other: afterwards what each has seen begins with what the two had seen before.
+    /// The shell's port and `net` tell each other: afterwards what each has seen begins with what
+    /// the two had seen before.
     pub fn meet<R: Wait>(
         &mut self,
         rt: &R,
         net: &mut Port<A::Mail, A::Order>,
     ) -> Result<(), OutOfMemory>
-        requires { SameExchange self.old.port net.old }
-        ensures same { (self.new.actor ≡ self.old.actor) × (self.new.spent ≡ self.old.spent) × (self.new.last ≡ self.old.last) }
-        ensures mine { Looked self.old.port self.new.port × Begins (seen self.new.port) (seen net.old) × IsTrue self.new.port × (self.new.port.crashed ≡ self.old.port.crashed) }
-        ensures theirs { Looked net.old net.new × Begins (seen net.new) (seen self.old.port) × IsTrue net.new × (net.new.fetched ≡ net.old.fetched) × (net.new.crashed ≡ net.old.crashed) }
-        ensures last { Begins (seen net.new) (seen self.new.port) }
-        ensures replay { KeepsReplay self.old self.new }
+        requires { SameExchange (port_of self.old) net.old }
+        ensures rested { HasRested self.old self.new }
+        ensures mine { HasHeard (port_of self.old) (port_of self.new) (seen net.old) }
+        ensures theirs { HasHeard net.old net.new (seen (port_of self.old)) }
+        ensures last { Begins (seen net.new) (seen (port_of self.new)) }
     {
         self.port.meet(rt, net)
     }
 
-    /// Vouches for what `net` has seen, which begins with what this shell's port has seen: the rows of this actor in it are exactly those that this shell's port made, and the actor is their replay if it is that of its rows. Nobody sees more by it.
+    /// Vouches for what `net` has seen, which begins with what this shell's port has seen: the rows
+    /// of this actor in it are exactly those that this shell's port made, and the actor is their
+    /// replay if it is that of its rows. Nobody sees more by it.
     pub fn vouch(&mut self, net: &mut Port<A::Mail, A::Order>)
-        requires one { SameExchange self.old.port net.old }
-        requires later { Begins (seen net.old) (seen self.old.port) }
-        ensures same { (self.new.actor ≡ self.old.actor) × (self.new.spent ≡ self.old.spent) × (self.new.last ≡ self.old.last) }
-        ensures mine { Looked self.old.port self.new.port × (seen self.new.port ≡ seen self.old.port) × (self.new.port.crashed ≡ self.old.port.crashed) }
-        ensures theirs { Looked net.old net.new × (seen net.new ≡ seen net.old) × (net.new.fetched ≡ net.old.fetched) × (net.new.crashed ≡ net.old.crashed) }
-        ensures own { rows_of self.old.port.who (seen net.new) ≡ made self.new.port }
-        ensures replay { KeepsReplay self.old self.new }
-        ensures over { (birth : A) → Replays self.old birth → ReplaysOver self.new (seen net.new) birth }
+        requires one { SameExchange (port_of self.old) net.old }
+        requires later { Begins (seen net.old) (seen (port_of self.old)) }
+        ensures rested { HasRested self.old self.new }
+        ensures mine { IsAsBefore (port_of self.old) (port_of self.new) }
+        ensures theirs { IsAsBefore net.old net.new }
+        ensures vouched { HasVouched self.old self.new (seen net.new) }
     {
         self.port.vouch(net);
     }
 
     /// The number of the first pending mail of this actor. None exactly where at this turn there was none.
     pub fn waiting<R: Wait>(&mut self, rt: &R) -> Option<u32>
-        ensures same { (self.new.actor ≡ self.old.actor) × (self.new.spent ≡ self.old.spent) × (self.new.last ≡ self.old.last) }
-        ensures looked { Looked self.old.port self.new.port × IsTrue self.new.port × (self.new.port.crashed ≡ self.old.port.crashed) }
-        ensures addressed { IsAddressed self.new.port }
-        ensures first { result ≡ kth_pending A.Mail.receiver self.old.port.actors (seen self.new.port) self.old.port.who 1 }
-        ensures replay { KeepsReplay self.old self.new }
+        ensures rested { HasRested self.old self.new }
+        ensures looked { HasLooked (port_of self.old) (port_of self.new) (port_of self.old).fetched }
+        ensures first { result ≡ kth_pending A.Mail.receiver (port_of self.old).actors (seen (port_of self.new)) (port_of self.old).who 1 }
     {
         let who = self.port.who;
         self.port.pending(rt, who, 1)
@@ -195,7 +211,7 @@ impl<A: Actor> Shell<A> {
 
     /// The actor and its port. It takes no memory.
     pub fn parts(self) -> (A, Port<A::Mail, A::Order>)
-        ensures { (result.0 ≡ self.actor) × (result.1 ≡ self.port) }
+        ensures { (result.0 ≡ actor_of self) × (result.1 ≡ port_of self) }
     {
         let Shell {
             actor,

@@ -13,7 +13,7 @@ returns-then-not-may_change_at-clause-ok g c =
     let rows = c.enter-exchange.result.ledger.value.rows.items in let e = c.enter-exchange.ensures in
     let none : c.may_change_at.result ≡ false = search rules in (
       turned_same w s v rows e.view e.later e.facts c.keep_same.ensures.view,
-      ap (λ l. may_change c.args.lost g.M.Parcel.receiver c.args.actors l c.args.number) (seen_same w s v rows e.view c.keep_same.ensures.view) ∙ (ap (λ ledger. may_change c.args.lost g.M.Parcel.receiver c.args.actors ledger.rows.items c.args.number) (sym c.deref.ensures) ∙ (sym c.may_change_at.ensures ∙ none)),
+      ap (λ l. may_change c.args.fate g.M.Parcel.receiver c.args.actors l c.args.number) (seen_same w s v rows e.view c.keep_same.ensures.view) ∙ (ap (λ ledger. may_change c.args.fate g.M.Parcel.receiver c.args.actors ledger.rows.items c.args.number) (sym c.deref.ensures) ∙ (sym c.may_change_at.ensures ∙ none)),
     )
 
 pub returns-in-Ok-clause-ok : goal.returns-in-Ok-clause-ok
@@ -21,7 +21,7 @@ returns-in-Ok-clause-ok g c =
     let w = known c.args.seat.now in let s = known c.enter-exchange.new.self in let v = known c.append_row.new.seat in
     let rows = c.enter-exchange.result.ledger.value.rows.items in let e = c.enter-exchange.ensures in let row = c.change_of.result in
     let some : c.may_change_at.result ≡ true = search rules in (
-      changed g.M.Parcel.receiver c.args.actors c.args.lost c.args.number w s v rows row c.change_of.ensures e.view e.later e.facts c.in-Ok.ensures.ok.0 (ap (λ ledger. may_change c.args.lost g.M.Parcel.receiver c.args.actors ledger.rows.items c.args.number) (sym c.deref.ensures) ∙ (sym c.may_change_at.ensures ∙ some)),
+      changed g.M.Parcel.receiver c.args.actors c.args.fate c.args.number w s v rows row c.change_of.ensures e.view e.later e.facts c.in-Ok.ensures.ok.0 (ap (λ ledger. may_change c.args.fate g.M.Parcel.receiver c.args.actors ledger.rows.items c.args.number) (sym c.deref.ensures) ∙ (sym c.may_change_at.ensures ∙ some)),
       bytes_row g.M.Parcel.weighs rows row _ c.args.limit (seen_row w s v rows row (ap (λ r. r.who) c.change_of.ensures ∙ sym c.requires.net) e.view c.in-Ok.ensures.ok.0) c.in-Ok.ensures.fits,
     )
 
@@ -31,7 +31,7 @@ returns-then-not-may_change_at-clause-own g c =
     own_turned w v (turned_same w s v c.enter-exchange.result.ledger.value.rows.items e.view e.later e.facts c.keep_same.ensures.view)
 
 pub returns-in-Ok-clause-own : goal.returns-in-Ok-clause-own
-returns-in-Ok-clause-own g c = own_row_turned (known c.args.seat.now) (known c.append_row.new.seat) (change c.args.lost c.args.number) (returns-in-Ok-clause-ok g c).0.turned
+returns-in-Ok-clause-own g c = own_row_turned (known c.args.seat.now) (known c.append_row.new.seat) (change c.args.fate c.args.number) (returns-in-Ok-clause-ok g c).0.turned
 
 pub returns-in-Err-clause-own : goal.returns-in-Err-clause-own
 returns-in-Err-clause-own g c =
@@ -44,7 +44,7 @@ returns-then-not-may_change_at-clause-kept g c =
     kept_turned w v (turned_same w s v c.enter-exchange.result.ledger.value.rows.items e.view e.later e.facts c.keep_same.ensures.view)
 
 pub returns-in-Ok-clause-kept : goal.returns-in-Ok-clause-kept
-returns-in-Ok-clause-kept g c = kept_row_turned (known c.args.seat.now) (known c.append_row.new.seat) (change c.args.lost c.args.number) (returns-in-Ok-clause-ok g c).0.turned
+returns-in-Ok-clause-kept g c = kept_row_turned (known c.args.seat.now) (known c.append_row.new.seat) (change c.args.fate c.args.number) (returns-in-Ok-clause-ok g c).0.turned
 
 pub returns-in-Err-clause-kept : goal.returns-in-Err-clause-kept
 returns-in-Err-clause-kept g c =
@@ -52,7 +52,7 @@ returns-in-Err-clause-kept g c =
     kept_turned w v (turned_same w s v c.enter-exchange.result.ledger.value.rows.items e.view e.later e.facts c.in-Err.ensures.refused.0)
 
 pub append_row-requires-clause-addressed : goal.append_row-requires-clause-addressed
-append_row-requires-clause-addressed g c = change_addressed g.M.Parcel.receiver c.args.lost c.args.number _ c.change_of.result c.change_of.ensures
+append_row-requires-clause-addressed g c = change_addressed g.M.Parcel.receiver c.args.fate c.args.number _ c.change_of.result c.change_of.ensures
 
 pub returns-then-not-may_change_at-clause-addressed : goal.returns-then-not-may_change_at-clause-addressed
 returns-then-not-may_change_at-clause-addressed g c = ap (all_addressed g.M.Parcel.receiver []) (seen_same (known c.args.seat.now) (known c.enter-exchange.new.self) (known c.keep_same.new.seat) c.enter-exchange.result.ledger.value.rows.items c.enter-exchange.ensures.view c.keep_same.ensures.view) ∙ c.enter-exchange.result.addressed
@@ -62,7 +62,7 @@ returns-in-Ok-clause-addressed g c =
     let w = known c.args.seat.now in let s = known c.enter-exchange.new.self in let v = known c.append_row.new.seat in
     let rows = c.enter-exchange.result.ledger.value.rows.items in let e = c.enter-exchange.ensures in let row = c.change_of.result in
     ap (all_addressed g.M.Parcel.receiver []) (seen_row w s v rows row (ap (λ r. r.who) c.change_of.ensures ∙ sym c.requires.net) e.view c.in-Ok.ensures.ok.0)
-    ∙ addressed_push g.M.Parcel.receiver rows row c.enter-exchange.result.addressed (change_addressed g.M.Parcel.receiver c.args.lost c.args.number _ row c.change_of.ensures)
+    ∙ addressed_push g.M.Parcel.receiver rows row c.enter-exchange.result.addressed (change_addressed g.M.Parcel.receiver c.args.fate c.args.number _ row c.change_of.ensures)
 
 pub returns-in-Err-clause-addressed : goal.returns-in-Err-clause-addressed
 returns-in-Err-clause-addressed g c = ap (all_addressed g.M.Parcel.receiver []) (seen_same (known c.args.seat.now) (known c.enter-exchange.new.self) (known c.append_row.new.seat) c.enter-exchange.result.ledger.value.rows.items c.enter-exchange.ensures.view c.in-Err.ensures.refused.0) ∙ c.enter-exchange.result.addressed
@@ -70,5 +70,5 @@ returns-in-Err-clause-addressed g c = ap (all_addressed g.M.Parcel.receiver []) 
 pub returns-in-Err-clause-may : goal.returns-in-Err-clause-may
 returns-in-Err-clause-may g c =
     let some : c.may_change_at.result ≡ true = search rules in
-    ap (λ l. may_change c.args.lost g.M.Parcel.receiver c.args.actors l c.args.number) (seen_same (known c.args.seat.now) (known c.enter-exchange.new.self) (known c.append_row.new.seat) c.enter-exchange.result.ledger.value.rows.items c.enter-exchange.ensures.view c.in-Err.ensures.refused.0)
-    ∙ (ap (λ ledger. may_change c.args.lost g.M.Parcel.receiver c.args.actors ledger.rows.items c.args.number) (sym c.deref.ensures) ∙ (sym c.may_change_at.ensures ∙ some))
+    ap (λ l. may_change c.args.fate g.M.Parcel.receiver c.args.actors l c.args.number) (seen_same (known c.args.seat.now) (known c.enter-exchange.new.self) (known c.append_row.new.seat) c.enter-exchange.result.ledger.value.rows.items c.enter-exchange.ensures.view c.in-Err.ensures.refused.0)
+    ∙ (ap (λ ledger. may_change c.args.fate g.M.Parcel.receiver c.args.actors ledger.rows.items c.args.number) (sym c.deref.ensures) ∙ (sym c.may_change_at.ensures ∙ some))

@@ -10,14 +10,14 @@ use Rattle.sc_exchange.proofs.ports.Port.close.Goals as goal
 pub closed-requires-clause-all : goal.closed-requires-clause-all
 closed-requires-clause-all g c = λ n there. subst (λ l. Contains l n) (numbers_same (known c.args.self.seat).joined) (c.requires.all n there)
 
-pub returns-clause-later : goal.returns-clause-later
-returns-clause-later g c = subst (λ l. StartsWith l (seen c.args.self)) (rows_of_deeds c.closed.result) (begins_rows (deeds c.closed.result) (known c.args.self.seat).seen c.closed.ensures.later)
-
-pub returns-clause-own : goal.returns-clause-own
-returns-clause-own g c = subst (λ n. rows_of 0 c.closed.result ≡ map (row_by n) (known c.args.self.seat).made) (sym c.requires.net) (end_own c.closed.result (known c.args.self.seat) c.closed.ensures.facts (c.args.self.number ∙ c.requires.net))
-
-pub returns-clause-each : goal.returns-clause-each
-returns-clause-each g c = end_each c.closed.result (known c.args.self.seat) c.closed.ensures.facts (c.args.self.number ∙ c.requires.net)
-
-pub returns-clause-others : goal.returns-clause-others
-returns-clause-others g c = end_others c.closed.result (known c.args.self.seat) c.closed.ensures.facts (c.args.self.number ∙ c.requires.net)
+pub returns : goal.returns
+returns g c =
+    let v = known c.args.self.seat in
+    let e = c.closed.ensures in
+    let first = c.args.self.number ∙ c.requires.net in record {
+      later = subst (λ l. StartsWith l (seen c.args.self)) (rows_of_deeds c.closed.result) (begins_rows (deeds c.closed.result) v.seen e.later);
+      addressed = e.addressed;
+      own = subst (λ n. rows_of 0 c.closed.result ≡ map (row_by n) v.made) (sym c.requires.net) (end_own c.closed.result v e.facts first);
+      each = end_each c.closed.result v e.facts first;
+      others = end_others c.closed.result v e.facts first;
+    }

@@ -1,7 +1,8 @@
-use Rattle.std.proofs.Common.{ap, ◌∙◌, map}
+use Rattle.std.proofs.Common.{rules, ap, ◌∙◌, map}
 use Rattle.sc_turn.specs.Seats.{known}
-use Rattle.sc_exchange.specs.Deeds.{row_by}
-use Rattle.sc_exchange.proofs.Done.{begins_rows, rows_of_from}
+use Rattle.sc_exchange.specs.Deeds.{row_by, rows_from}
+use Rattle.sc_exchange.proofs.Done.{begins_rows, rows_of_from, longer_rows}
+use Rattle.sc_exchange.proofs.Knowing.{joins}
 use Rattle.sc_exchange.proofs.Views.{own_joined}
 use Rattle.std.proofs.Math.Logic.{∥∥₁_map}
 use Rattle.sc_exchange.proofs.Fetching.{asked_same}
@@ -12,11 +13,18 @@ pub invariant_of-self-clause-own : goal.invariant_of-self-clause-own
 invariant_of-self-clause-own g c = let e = c.join.ensures in
     own_joined (known c.args.self.now.seat) (known c.args.other.seat) (known c.join.new.self) c.args.self.now.who c.args.self.now.number c.args.self.now.own e.view e.later.0 e.facts
 
-pub returns-clause-later : goal.returns-clause-later
-returns-clause-later g c = (begins_rows _ _ c.join.ensures.later.0, begins_rows _ _ c.join.ensures.later.1)
-
-pub returns-clause-others : goal.returns-clause-others
-returns-clause-others g c = λ n ne away. rows_of_from n (known c.join.new.self).seen ∙ ap (map (row_by n)) (c.join.ensures.others n ne away)
+pub returns : goal.returns
+returns g c = let e = c.join.ensures in record {
+  exchange = search rules;
+  who = search rules;
+  later = begins_rows _ _ e.later.0;
+  theirs = begins_rows _ _ e.later.1;
+  others = λ n ne away. rows_of_from n (known c.join.new.self).seen ∙ ap (map (row_by n)) (e.others n ne away);
+  joined = joins c.args.self.now c.args.other (known c.join.new.self) e.view;
+  made = search rules;
+  given = search rules;
+  seen = ap (λ v. rows_from v.seen) e.view ∙ longer_rows (known c.args.self.now.seat).seen (known c.args.other.seat).seen;
+}
 
 pub invariant_of-self-clause-asked : goal.invariant_of-self-clause-asked
 invariant_of-self-clause-asked g c = let s = c.args.self.now in let e = c.join.ensures in

@@ -11,32 +11,40 @@ use Rattle.sc_exchange.proofs.ports.Port.post.Goals as goal
 
 pub returns-in-Ok-clause-ok : goal.returns-in-Ok-clause-ok
 returns-in-Ok-clause-ok g c =
-    let t = c.in-Ok.ensures.ok in let row : Row g.row.M.Denot g.row.O.Denot = record { who = c.args.self.now.who; event = c.args.event; sent = c.args.sent } in (
-      appended_after c.args.self.now _ row c.post_at.ensures.start refl refl refl refl t.0,
-      t.1,
-      t.2,
-      true_row c.args.self.now _ row t.0,
-      refl,
-      c.is_crash-crashes.ensures,
-    )
+    let t = c.in-Ok.ensures.ok in
+    let row : Row g.row.M.Denot g.row.O.Denot = record { who = c.args.self.now.who; event = c.args.event; sent = c.args.sent } in record {
+      appended = appended_after c.args.self.now _ row c.post_at.ensures.start refl refl refl refl t.0;
+      place = t.1;
+      within = t.2;
+      fetched = refl;
+      crashed = c.is_crash-crashes.ensures;
+    }
 
 pub returns-in-Err-clause-refused : goal.returns-in-Err-clause-refused
 returns-in-Err-clause-refused g c =
-    let t = c.in-Err.ensures.refused in let u = c.unposted.ensures in let row : Row g.row.M.Denot g.row.O.Denot = record { who = c.args.self.now.who; event = c.args.event; sent = c.args.sent } in (
-      looked_after c.args.self.now _ c.post_at.ensures.start refl refl refl t.0,
-      true_after c.args.self.now _ t.0,
-      u.1 ∙ ap (λ (r : Row g.row.M.Denot g.row.O.Denot). r.event) t.1,
-      u.2 ∙ ap (λ (r : Row g.row.M.Denot g.row.O.Denot). r.sent) t.1,
-      cause_back g.M.Parcel.weighs _ _ _ _ row row u.0 refl t.2,
-      refl,
-      c.requires.runs,
-    )
+    let t = c.in-Err.ensures.refused in let u = c.unposted.ensures in record {
+      looked = looked_after c.args.self.now _ c.post_at.ensures.start refl refl refl t.0;
+      event = u.1 ∙ ap (λ (r : Row g.row.M.Denot g.row.O.Denot). r.event) t.1;
+      sent = u.2 ∙ ap (λ (r : Row g.row.M.Denot g.row.O.Denot). r.sent) t.1;
+      cause = cause_back _ _ _ _ _ _ u.0 refl t.2;
+      fetched = refl;
+      crashed = refl;
+    }
 
-pub returns-in-Ok-clause-stays : goal.returns-in-Ok-clause-stays
-returns-in-Ok-clause-stays g c = stays_after c.args.self.now _ c.post_at.ensures.start refl refl refl c.post_at.ensures.kept
+pub returns-in-Ok-clause-turned : goal.returns-in-Ok-clause-turned
+returns-in-Ok-clause-turned g c =
+    let row : Row g.row.M.Denot g.row.O.Denot = record { who = c.args.self.now.who; event = c.args.event; sent = c.args.sent } in record {
+      stays = stays_after c.args.self.now _ c.post_at.ensures.start refl refl refl c.post_at.ensures.kept;
+      rows = true_row c.args.self.now _ row c.in-Ok.ensures.ok.0;
+      addressed = c.post_at.ensures.addressed;
+    }
 
-pub returns-in-Err-clause-stays : goal.returns-in-Err-clause-stays
-returns-in-Err-clause-stays g c = stays_after c.args.self.now _ c.post_at.ensures.start refl refl refl c.post_at.ensures.kept
+pub returns-in-Err-clause-turned : goal.returns-in-Err-clause-turned
+returns-in-Err-clause-turned g c = record {
+  stays = stays_after c.args.self.now _ c.post_at.ensures.start refl refl refl c.post_at.ensures.kept;
+  rows = true_after c.args.self.now _ c.in-Err.ensures.refused.0;
+  addressed = c.post_at.ensures.addressed;
+}
 
 pub invariant_of-self-in-Err-1 : goal.invariant_of-self-in-Err-1
 invariant_of-self-in-Err-1 g c = let s = c.args.self.now in let t = c.in-Err.ensures.refused.0 in record {

@@ -5,10 +5,20 @@ use Rattle.sc_exchange.proofs.Knowing.{looked_seen, vouched}
 use Rattle.sc_exchange.proofs.ports.Port.vouch.Goals as goal
 
 pub returns-clause-mine : goal.returns-clause-mine
-returns-clause-mine g c = let e = c.vouch.ensures in (looked_seen c.args.self.now _ e.start.0 refl refl refl e.same.0, ap (λ v. rows_from v.seen) e.same.0, refl, refl)
+returns-clause-mine g c = let e = c.vouch.ensures in record {
+  looked = looked_seen c.args.self.now _ e.start.0 refl refl refl e.same.0;
+  seen = ap (λ v. rows_from v.seen) e.same.0;
+  fetched = refl;
+  crashed = refl;
+}
 
 pub returns-clause-theirs : goal.returns-clause-theirs
-returns-clause-theirs g c = let e = c.vouch.ensures in (looked_seen c.args.other.now _ e.start.1 refl refl refl e.same.1, ap (λ v. rows_from v.seen) e.same.1, refl, refl)
+returns-clause-theirs g c = let e = c.vouch.ensures in record {
+  looked = looked_seen c.args.other.now _ e.start.1 refl refl refl e.same.1;
+  seen = ap (λ v. rows_from v.seen) e.same.1;
+  fetched = refl;
+  crashed = refl;
+}
 
 pub returns-clause-own : goal.returns-clause-own
 returns-clause-own g c = let e = c.vouch.ensures in

@@ -7,7 +7,13 @@ use Rattle.sc_exchange.proofs.Halting.{halted_turned}
 use Rattle.sc_exchange.proofs.ports.Port.waiting.Goals as goal
 
 pub returns-clause-looked : goal.returns-clause-looked
-returns-clause-looked g c = (looked_after c.args.self.now _ c.waiting_at.ensures.start refl refl refl c.waiting_at.ensures.turned, true_after c.args.self.now _ c.waiting_at.ensures.turned, refl, refl)
+returns-clause-looked g c = let e = c.waiting_at.ensures in record {
+  looked = looked_after c.args.self.now _ e.start refl refl refl e.turned;
+  rows = true_after c.args.self.now _ e.turned;
+  addressed = e.addressed;
+  fetched = refl;
+  crashed = refl;
+}
 
 pub invariant_of-self-clause-asked : goal.invariant_of-self-clause-asked
 invariant_of-self-clause-asked g c = let s = c.args.self.now in

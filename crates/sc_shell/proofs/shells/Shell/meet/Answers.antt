@@ -1,7 +1,11 @@
-use Rattle.std.proofs.Common.{sym, ◌∙◌, ⊎_elim, inl, inr}
+use Rattle.std.proofs.Common.{refl, sym, ◌∙◌, ⊎_elim, inl, inr}
 use Rattle.sc_shell.proofs.Replaying.{replay_looked}
 use Rattle.sc_shell.proofs.shells.Shell.meet.Goals as goal
 
-pub returns-clause-replay : goal.returns-clause-replay
-returns-clause-replay g c = λ birth old now. let e = c.meet.ensures.mine in
-    replay_looked g.A.Actor.table c.args.self.now.port c.meet.new.self e.0 c.args.self.now.actor birth (old (⊎_elim (λ x. inl x) (λ x. inr (sym e.4 ∙ x)) now))
+pub returns-clause-rested : goal.returns-clause-rested
+returns-clause-rested g c = let e = c.meet.ensures.mine in record {
+  actor = refl;
+  spent = refl;
+  last = refl;
+  replay = λ birth old now. replay_looked g.A.Actor.table c.args.self.now.port c.meet.new.self e.looked c.args.self.now.actor birth (old (⊎_elim (λ x. inl x) (λ x. inr (sym e.crashed ∙ x)) now));
+}

@@ -16,16 +16,16 @@ act-requires-clause-input g c κs within = λ more. rw c.in-Ok-Mail.field-0-is (
 
 pub returns-in-Ok-Empty-clause-replay : goal.returns-in-Ok-Empty-clause-replay
 returns-in-Ok-Empty-clause-replay g c = λ birth old now. let e = c.fetch.ensures.looked in
-    replay_looked g.A.Actor.table c.args.self.now.port c.fetch.new.self e.0 c.args.self.now.actor birth (old (⊎_elim (λ x. inl x) (λ x. inr (sym e.2 ∙ x)) now))
+    replay_looked g.A.Actor.table c.args.self.now.port c.fetch.new.self e.looked c.args.self.now.actor birth (old (⊎_elim (λ x. inl x) (λ x. inr (sym e.crashed ∙ x)) now))
 
 pub returns-in-Ok-Mail-clause-replay : goal.returns-in-Ok-Mail-clause-replay
 returns-in-Ok-Mail-clause-replay g c = λ birth old now.
     let free : c.args.self.now.spent ≡ false = search rules in
-    c.act.ensures.replay birth (λ _. replay_looked g.A.Actor.table c.args.self.now.port c.fetch.new.self c.fetch.ensures.looked.0 c.args.self.now.actor birth (old (inl free))) now
+    c.act.ensures.replay birth (λ _. replay_looked g.A.Actor.table c.args.self.now.port c.fetch.new.self c.fetch.ensures.looked.looked c.args.self.now.actor birth (old (inl free))) now
 
 pub returns-in-Ok-Mail-clause-takes : goal.returns-in-Ok-Mail-clause-takes
 returns-in-Ok-Mail-clause-takes g c =
     let free : c.args.self.now.spent ≡ false = search rules in
     let is : numbered (mails (seen c.fetch.new.self)) c.in-Ok-Mail.number ≡ Some c.in-Ok-Mail.mail = search rules in
     let kth : kth_pending g.A.Mail.Parcel.receiver c.args.self.now.port.actors (seen c.fetch.new.self) c.args.self.now.port.who c.args.k ≡ Some c.in-Ok-Mail.number = search rules in
-    takes_acts (state c.args.self.now) (record { actor = c.args.self.now.actor; port = c.fetch.new.self; spent = c.args.self.now.spent }) (state c.act.new.self) c.args.k c.in-Ok-Mail.number c.in-Ok-Mail.mail free refl c.fetch.ensures.looked.0 c.fetch.ensures.looked.1.own kth is c.act.result (rw c.in-Ok-Mail.field-0-is at c.act.ensures.acts)
+    takes_acts (state c.args.self.now) (record { actor = c.args.self.now.actor; port = c.fetch.new.self; spent = c.args.self.now.spent }) (state c.act.new.self) c.args.k c.in-Ok-Mail.number c.in-Ok-Mail.mail free refl c.fetch.ensures.looked.looked c.fetch.ensures.looked.rows.own kth is c.act.result (rw c.in-Ok-Mail.field-0-is at c.act.ensures.acts)

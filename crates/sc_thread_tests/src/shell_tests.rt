@@ -1,40 +1,17 @@
 //! Two actors that send each other notes.
 ghost use Rattle.std.specs.Prelude.{◌≡◌, ◌<◌, [], ◌∷◌, false};
 ghost use Rattle.sc_exchange.specs.Ports.{made};
+ghost use Rattle.sc_shell.specs.Shells.{port_of};
 
-use crate::shells::Shell;
-use crate::turns::Turn;
-use sc_actor::{Actor, Event, Gate, Input, Parcel};
-use sc_base::{Dup, OutOfMemory, Sequence};
+use crate::notes::Note;
+use sc_actor::{Actor, Event, Gate, Input};
+use sc_base::{OutOfMemory, Sequence};
 use sc_exchange::Port;
+use sc_shell::{Shell, Turn};
 use std::alloc::Global;
+use std::sync::Wait;
 use std::sync::atomic::{AtomicU64, Ordering};
 use std::test::Fail;
-
-#[derive(Debug, PartialEq, Eq, Drop)]
-struct Note {
-    to: u32,
-}
-
-impl Dup for Note {
-    fn dup(&self, _alloc: Global) -> Result<Note, OutOfMemory> {
-        Ok(Note { to: self.to })
-    }
-}
-
-impl Parcel for Note {
-    ghost receiver = { λ note. note.to };
-
-    ghost weighs = { λ _. 0 };
-
-    fn to(&self) -> u32 {
-        self.to
-    }
-
-    fn weight(&self) -> u64 {
-        0
-    }
-}
 
 // Sends one note at each input, as long as its memory suffices.
 #[derive(Drop)]
@@ -77,7 +54,7 @@ impl Gate for Counter {
 
 fn seated(port: Port<Note, u32>, other: u32, starved: bool) -> Shell<Player>
     requires { (0 < port.who) × (made port ≡ []) × (port.crashed ≡ false) }
-    ensures { result.port ≡ port }
+    ensures { port_of result ≡ port }
 {
     Shell::new(Player { other, starved }, port)
 }

@@ -4,48 +4,14 @@ ghost use Rattle.std.specs.Thread.{IsSync};
 ghost use Rattle.sc_actor.specs.Mail.{is_crash};
 ghost use Rattle.sc_exchange.specs.Ports.{Stays, MayPost, SameExchange, given, joined};
 
-use crate::answers::Fetched;
-use crate::ports::Port;
-use sc_actor::{Event, Journal, Parcel};
-use sc_base::{Dup, OutOfMemory, Sequence};
+use crate::notes::{Note, notes};
+use sc_actor::{Event, Journal};
+use sc_base::{OutOfMemory, Sequence};
+use sc_exchange::{Fetched, Port};
 use std::alloc::Global;
 use std::sync::Wait;
 use std::test::Fail;
 use std::thread::{Threads, join};
-
-#[derive(Debug, PartialEq, Eq, Drop)]
-struct Note {
-    to: u32,
-}
-
-impl Dup for Note {
-    fn dup(&self, _alloc: Global) -> Result<Note, OutOfMemory> {
-        Ok(Note { to: self.to })
-    }
-}
-
-impl Parcel for Note {
-    ghost receiver = { λ note. note.to };
-
-    ghost weighs = { λ _. 0 };
-
-    fn to(&self) -> u32 {
-        self.to
-    }
-
-    fn weight(&self) -> u64 {
-        0
-    }
-}
-
-fn notes(alloc: Global, to: u32, n: usize) -> Result<Sequence<Note>, OutOfMemory> {
-    let mut sent = Sequence::new(alloc);
-    for i in 0..n {
-        let _ = i;
-        sent.push(Note { to })?;
-    }
-    Ok(sent)
-}
 
 fn number_of(found: Fetched<Note>) -> u32 {
     match found {

@@ -1,0 +1,10 @@
+//! Tests of the crates in which many threads make one journal: they stand apart, so that those
+//! crates are proved once.
+#![tactic(auto)]
+
+#[cfg(test)]
+mod exchange_tests;
+#[cfg(test)]
+mod notes;
+#[cfg(test)]
+mod shell_tests;
