@@ -1,11 +1,13 @@
 -- The orders that a group's log executes: why one is refused, and what else it makes of the group. Of the refusals in the order of their numbers the first that holds counts.
 use Rattle.std.specs.Prelude.{ℕ, Bool, ◌==◌, ◌&&◌, ◌||◌, not, nat_le, length, if◌then◌else◌, Option, Some, None}
-use Rattle.sc_base.specs.Arc.{holds}
+use Rattle.sc_base.specs.Arc.{holds, end_of}
 use Rattle.sc_base.specs.declared.names.Draw.{Draw}
 use Rattle.sc_member.specs.Roster.{is_member, with_member, without_member}
 use Rattle.sc_base.specs.Same.{same_draw}
+use Rattle.sc_cmd.specs.declared.bodies.Body.{Body}
+use Rattle.sc_cmd.specs.declared.bodies.Body.TheVariants as At
 use Rattle.sc_cmd.specs.declared.commands.Command.{Command}
-use Rattle.sc_cmd.specs.declared.commands.Command.TheVariants.{Join, Leave, Split}
+use Rattle.sc_cmd.specs.declared.commands.Command.TheVariants.{Noop, Call, Join, Leave, Split, Begin, Prepared, RecordVote, GiveUp, Finish, Watched, RecordWatch}
 use Rattle.sc_cmd.specs.declared.cores.Core.{Core}
 use Rattle.sc_cmd.specs.declared.cores.Lock.{Lock}
 use Rattle.sc_cmd.specs.declared.cores.Lock.TheVariants.{Free, Coordinating, Promised, Watching}
@@ -13,7 +15,7 @@ use Rattle.sc_cmd.specs.declared.effects.Effect.{Effect}
 use Rattle.sc_cmd.specs.declared.effects.Effect.TheVariants as Was
 use Rattle.sc_cmd.specs.declared.links.Route.{Route}
 use Rattle.sc_cmd.specs.declared.orders.OrderRefusal.{OrderRefusal}
-use Rattle.sc_cmd.specs.declared.orders.OrderRefusal.TheVariants.{NotLeader, InTransaction, BadBoundary, TooManyMembers, NotMember, LastMember, TxLimit, IsMember}
+use Rattle.sc_cmd.specs.declared.orders.OrderRefusal.TheVariants.{NotLeader, InTransaction, NoNeighbour, BadBoundary, TooManyMembers, NotMember, LastMember, TxLimit, IsMember}
 use Rattle.sc_machine_table.specs.Group.{Group}
 
 -- the transaction that a lock is in
@@ -49,12 +51,45 @@ split_refused core at =
     else if not (is_alone core) && nat_le 256 core.begun then Some TxLimit
     else None
 
--- 3 to 9, of a group that is not locked
+-- 8. a group begins at most 256 transactions
+abbrev pub limit_refused : Core → Option OrderRefusal
+limit_refused core = if nat_le 256 core.begun then Some TxLimit else None
+
+-- 4. a boundary is moved to another place than either end of the group
+abbrev pub repart_refused : Core → ℕ → Option OrderRefusal
+repart_refused core at = if (at == core.arc.lo) || (at == end_of core.arc) then Some BadBoundary else limit_refused core
+
+-- 6 and 7. a member moves on, and one stays
+abbrev pub migrate_refused : Core → ℕ → Option OrderRefusal
+migrate_refused core node =
+    if not (is_member core.members node) then Some NotMember
+    else if length core.members == 1 then Some LastMember
+    else limit_refused core
+
+abbrev pub body_refused : Body → Core → Option OrderRefusal
+body_refused At.Merge core = limit_refused core
+body_refused (At.Repart at) core = repart_refused core at
+body_refused (At.Migrate node) core = migrate_refused core node
+body_refused (At.Split at child) core = limit_refused core
+
+-- 3. a transaction is one with another group
+abbrev pub begin_refused : Core → Body → Option OrderRefusal
+begin_refused core body = if is_alone core then Some NoNeighbour else body_refused body core
+
+-- 3 to 9, of a group that is not locked. Other commands are no orders.
 abbrev pub refused_free : Core → Command → Option OrderRefusal
 refused_free core (Join node order) = join_refused core node
 refused_free core (Leave node order) = leave_refused core node
 refused_free core (Split at child order) = split_refused core at
-refused_free core _ = None
+refused_free core (Begin tx body order) = begin_refused core body
+refused_free core Noop = None
+refused_free core (Call client seq op) = None
+refused_free core (Prepared tx offer) = None
+refused_free core (RecordVote tx vote by) = None
+refused_free core (GiveUp tx) = None
+refused_free core (Finish tx outcome) = None
+refused_free core (Watched tx watch) = None
+refused_free core (RecordWatch tx vote by) = None
 
 -- 2. nothing reshapes a group that is locked in a transaction
 abbrev pub refused_in : Option Draw → Core → Command → Option OrderRefusal

@@ -1,3 +1,4 @@
 mod Meeting
 mod SetLemmas
 pub mod Rising
+pub mod UnionLemmas

@@ -56,7 +56,8 @@ votes_with f members node =
     let one = at_most_one (f node) in
     omega (arith, all, more, one, split_le f members node)
 
-length_with : (members : List ℕ) (node : ℕ) → is_member members node ≡ false → length (with_member members node) ≡ length members + 1
+-- a node that was not there makes one more
+pub length_with : (members : List ℕ) (node : ℕ) → is_member members node ≡ false → length (with_member members node) ≡ length members + 1
 length_with members node absent =
     let below = filter (λ member. ltb member node) members in
     let above = filter (λ member. ltb node member) members in

@@ -9,13 +9,14 @@ use Rattle.std.proofs.lemmas.List.{length-append}
 use Rattle.sc_member.specs.Roster.{IsRoster, is_member, with_member, without_member}
 use Rattle.sc_member.proofs.SetLemmas.{split_length, length-filter-le}
 
-abbrev Below : ℕ → ℕ → Type 0
+abbrev pub Below : ℕ → ℕ → Type 0
 Below x y = x < y
 
-head_below : (x : ℕ) (xs : List ℕ) → AllPairs Below (x ∷ xs) → All (Below x) xs
+-- the first of nodes that rise is below the others, and they rise too
+pub head_below : (x : ℕ) (xs : List ℕ) → AllPairs Below (x ∷ xs) → All (Below x) xs
 head_below x xs up = All-from_get_or (Below x) xs 0 (λ i within. up 0 (suc i) 0 (omega arith) (omega arith))
 
-tail_up : (x : ℕ) (xs : List ℕ) → AllPairs Below (x ∷ xs) → AllPairs Below xs
+pub tail_up : (x : ℕ) (xs : List ℕ) → AllPairs Below (x ∷ xs) → AllPairs Below xs
 tail_up x xs up i j d lt within = up (suc i) (suc j) d (omega arith) (omega arith)
 
 joined : (low : List ℕ) (n : ℕ) (high : List ℕ) → AllPairs Below low → All (λ x. x < n) low → AllPairs Below high → All (Below n) high → AllPairs Below (low ++ n ∷ high)

@@ -3,3 +3,4 @@ pub mod Majority
 pub mod MajorityLaws
 pub mod Nodes
 pub mod Roster
+pub mod Union

@@ -4,6 +4,7 @@
 mod laws;
 mod nodes;
 mod sets;
+mod unions;
 
 pub use laws::{majorities_meet, neighbours_meet};
 pub use sets::{MemberFault, Members};

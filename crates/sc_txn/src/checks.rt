@@ -1,20 +1,21 @@
 //! The refusals of orders. Of those that hold of an order the one with the least number counts.
-ghost use Rattle.std.specs.Prelude.{◌≡◌, ◌≤◌, true, Some, None, MatchResult, OnOk, nat_eq, length};
+ghost use Rattle.std.specs.Prelude.{◌≡◌, ◌≤◌, true, Some, None, MatchResult, OnOk, nat_eq, nat_le, length};
 ghost use Rattle.std.specs.List.{list_any};
 ghost use Rattle.sc_member.specs.Faults.{add_fault, remove_fault};
 ghost use Rattle.sc_base.specs.Same.{same_draw};
 ghost use Rattle.sc_machine_table.specs.Splits.{CanSplit, has_named, is_locked_in};
-ghost use Rattle.sc_machine_table.specs.Orders.{locked_in, is_alone, refusal_of, refused_free, join_refused, leave_refused, split_refused};
+ghost use Rattle.sc_machine_table.specs.Orders.{locked_in, is_alone, refusal_of, refused_free, join_refused, leave_refused, split_refused, limit_refused, repart_refused, migrate_refused, body_refused, begin_refused};
 ghost use Rattle.sc_txn.specs.Checked.{is_checked, IsPossible};
 
 use sc_base::Draw;
-use sc_cmd::{Command, Core, Lock, OrderRefusal, same_draw};
+use sc_cmd::{Body, Command, Core, Lock, OrderRefusal, same_draw};
 
 /// How many transactions a group may begin.
 const MOST_BEGUN: u32 = 256;
 
-/// Why the command of an order is refused to a group of that record, if it is: the refusal with the least number of those that hold.
-/// The command is `Join`, `Leave` or `Split`, and what is accepted can be carried out. Whether the group is gone is not looked at here.
+/// Why the command of an order is refused to a group of that record, if it is: the refusal with the
+/// least number of those that hold. The command is `Join`, `Leave`, `Split` or `Begin`, and what is
+/// accepted can be carried out. Whether the group is gone is not looked at here.
 pub fn check(core: &Core, command: &Command) -> Result<(), OrderRefusal>
     requires { is_checked command.now ≡ true }
     ensures why { MatchResult result (λ _. refusal_of core.now command.now ≡ None) (λ why. refusal_of core.now command.now ≡ Some why) }
@@ -27,11 +28,20 @@ pub fn check(core: &Core, command: &Command) -> Result<(), OrderRefusal>
         Command::Join { node, .. } => check_join(core, *node),
         Command::Leave { node, .. } => check_leave(core, *node),
         Command::Split { at, .. } => check_split(core, *at),
-        _ => unreachable!(),
+        Command::Begin { body, .. } => check_begin(core, body),
+        Command::Noop
+        | Command::Call { .. }
+        | Command::Prepared { .. }
+        | Command::RecordVote { .. }
+        | Command::GiveUp { .. }
+        | Command::Finish { .. }
+        | Command::Watched { .. }
+        | Command::RecordWatch { .. } => unreachable!(),
     }
 }
 
-fn locked_in(lock: &Lock) -> Option<Draw>
+/// The transaction that a lock is in.
+pub(crate) fn locked_in(lock: &Lock) -> Option<Draw>
     ensures { result ≡ locked_in lock.now }
 {
     match lock {
@@ -92,13 +102,69 @@ fn check_split(core: &Core, at: u32) -> Result<(), OrderRefusal>
     if has_one_member(core) {
         return Err(OrderRefusal::LastMember);
     }
-    if !is_alone(core) && core.begun >= MOST_BEGUN {
+    if !is_alone(core) && has_begun_all(core) {
         return Err(OrderRefusal::TxLimit);
     }
     Ok(())
 }
 
-/// Whether the draw has named something in a group of that record: a child that was split off, or a transaction that is decided or that the group is locked in. An order under such a name has no effect.
+fn has_begun_all(core: &Core) -> bool
+    ensures { result ≡ nat_le 256 core.now.begun }
+{
+    core.begun >= MOST_BEGUN
+}
+
+fn check_limit(core: &Core) -> Result<(), OrderRefusal>
+    ensures why { MatchResult result (λ _. limit_refused core.now ≡ None) (λ why. limit_refused core.now ≡ Some why) }
+{
+    if has_begun_all(core) {
+        return Err(OrderRefusal::TxLimit);
+    }
+    Ok(())
+}
+
+fn check_repart(core: &Core, at: u32) -> Result<(), OrderRefusal>
+    ensures why { MatchResult result (λ _. repart_refused core.now at ≡ None) (λ why. repart_refused core.now at ≡ Some why) }
+{
+    if at == core.arc.lo() || at == core.arc.end() {
+        return Err(OrderRefusal::BadBoundary);
+    }
+    check_limit(core)
+}
+
+fn check_migrate(core: &Core, node: u16) -> Result<(), OrderRefusal>
+    ensures why { MatchResult result (λ _. migrate_refused core.now node ≡ None) (λ why. migrate_refused core.now node ≡ Some why) }
+{
+    if !core.members.has(node) {
+        return Err(OrderRefusal::NotMember);
+    }
+    if has_one_member(core) {
+        return Err(OrderRefusal::LastMember);
+    }
+    check_limit(core)
+}
+
+fn check_body(core: &Core, body: &Body) -> Result<(), OrderRefusal>
+    ensures why { MatchResult result (λ _. body_refused body.now core.now ≡ None) (λ why. body_refused body.now core.now ≡ Some why) }
+{
+    match body {
+        Body::Merge | Body::Split { .. } => check_limit(core),
+        Body::Repart { at } => check_repart(core, *at),
+        Body::Migrate { node } => check_migrate(core, *node),
+    }
+}
+
+fn check_begin(core: &Core, body: &Body) -> Result<(), OrderRefusal>
+    ensures why { MatchResult result (λ _. begin_refused core.now body.now ≡ None) (λ why. begin_refused core.now body.now ≡ Some why) }
+{
+    if is_alone(core) {
+        return Err(OrderRefusal::NoNeighbour);
+    }
+    check_body(core, body)
+}
+
+/// Whether the draw has named something in a group of that record: a child that was split off, or a
+/// transaction that is decided or that the group is locked in. An order under such a name has no effect.
 pub fn has_named(core: &Core, draw: Draw) -> bool
     ensures { result ≡ has_named core.now draw }
 {

@@ -1,9 +1,11 @@
-//! Whether an order is refused, and why.
+//! Whether an order is refused and why, how a group votes in a transaction, and what it has decided.
 #![tactic(auto)]
 
 mod checks;
+mod votes;
 
 pub use checks::{check, has_named};
+pub use votes::{Decision, decide, vote, watch_vote};
 
 #[cfg(test)]
 mod tests;

@@ -1,0 +1,110 @@
+-- What an outcome makes of a party: of the participant, which has promised, and of the watcher. What cannot be made is none.
+use Rattle.std.specs.Prelude.{ℕ, Bool, ◌&&◌, not, nat_le, length, List, ◌∷◌, [], ◌++◌, map, if◌then◌else◌, Option, Some, None}
+use Rattle.std.specs.FinMap.{empty}
+use Rattle.sc_base.specs.Arc.{from, joined}
+use Rattle.sc_base.specs.Same.{same_draw}
+use Rattle.sc_base.specs.declared.names.Draw.{Draw}
+use Rattle.sc_ideal.specs.IdealStore.{part_of}
+use Rattle.sc_member.specs.Union.{united}
+use Rattle.sc_cmd.specs.declared.bodies.Offer.{Offer}
+use Rattle.sc_cmd.specs.declared.bodies.Watch.{Watch}
+use Rattle.sc_cmd.specs.declared.cores.Core.{Core}
+use Rattle.sc_cmd.specs.declared.cores.Lock.{Lock}
+use Rattle.sc_cmd.specs.declared.cores.Lock.TheVariants.{Free, Coordinating, Promised, Watching}
+use Rattle.sc_cmd.specs.declared.effects.Effect.{Effect}
+use Rattle.sc_cmd.specs.declared.effects.Effect.TheVariants.{NoEffect, Decided}
+use Rattle.sc_cmd.specs.declared.links.Link.{Link}
+use Rattle.sc_cmd.specs.declared.links.Route.{Route}
+use Rattle.sc_cmd.specs.declared.votes.Gift.{Gift}
+use Rattle.sc_cmd.specs.declared.votes.Outcome.{Outcome}
+use Rattle.sc_cmd.specs.declared.votes.Outcome.TheVariants.{Abort, Merged, Moved, Migrated, Divided}
+use Rattle.sc_cmd.specs.declared.votes.Past.{Past}
+use Rattle.sc_cmd.specs.declared.votes.Past.TheVariants.{Ended}
+use Rattle.sc_machine_table.specs.Group.{Group}
+use Rattle.sc_machine_table.specs.Plans.{can_cut, can_join, has_key_of, enriched}
+use Rattle.sc_machine_table.specs.Votes.{has_voted}
+
+-- a participant that was merged into its coordinator: its arc and members stay as they were
+abbrev pub gone_group : Group → Route → Group
+gone_group group into = record { core = record group.core { gone = Some into }; pairs = empty; clients = empty }
+
+-- a participant gains what lies from `at` on in the arc before its own
+abbrev pub can_gain : Core → Offer → ℕ → Bool
+can_gain core offer at = can_cut offer.arc at && can_join (from offer.arc at) core.arc
+
+abbrev pub gained_core : Core → Offer → ℕ → Core
+gained_core core offer at = record core { arc = joined (from offer.arc at) core.arc }
+
+abbrev pub gained : Group → Offer → ℕ → Gift → Option Group
+gained group offer at gift =
+    if can_gain group.core offer at && not (has_key_of group.pairs gift.pairs)
+    then Some (enriched group (gained_core group.core offer at) gift)
+    else None
+
+-- or loses what lies before `at`
+abbrev pub lost_core : Core → ℕ → Core
+lost_core core at = record core { arc = from core.arc at }
+
+abbrev pub lost : Group → ℕ → Option Group
+lost group at =
+    if can_cut group.core.arc at
+    then Some (record group { core = lost_core group.core at; pairs = part_of (from group.core.arc at) group.pairs })
+    else None
+
+-- a moved boundary, with a gift or without
+abbrev pub moved : Option Gift → Group → Offer → ℕ → Option Group
+moved (Some gift) group offer at = gained group offer at gift
+moved None group offer at = lost group at
+
+-- a member that came, unless it was there
+abbrev pub welcomed_core : Core → ℕ → Core
+welcomed_core core node = record core { members = united core.members (node ∷ []) }
+
+abbrev pub welcomed : Group → ℕ → Option Group
+welcomed group node =
+    if nat_le (length (united group.core.members (node ∷ []))) 9
+    then Some (record group { core = welcomed_core group.core node })
+    else None
+
+-- the participant after an outcome; it is party to no split
+abbrev pub participant_after : Outcome → Group → Offer → Option Group
+participant_after Abort group offer = Some group
+participant_after (Merged into) group offer = Some (gone_group group into)
+participant_after (Moved at gift) group offer = moved gift group offer at
+participant_after (Migrated node) group offer = welcomed group node
+participant_after Divided group offer = None
+
+-- who stands before the watcher after an outcome
+abbrev pub pred_after : Outcome → Link → Link → Link
+pred_after Abort next pred = pred
+pred_after (Merged into) next pred = next
+pred_after (Moved at gift) next pred = next
+pred_after (Migrated node) next pred = next
+pred_after Divided next pred = next
+
+abbrev pub watcher_after : Outcome → Group → Watch → Group
+watcher_after outcome group watch = record group { core = record group.core { pred = pred_after outcome watch.next group.core.pred } }
+
+-- a vote on a transaction that has ended
+abbrev pub closed : Draw → Draw × Past → Draw × Past
+closed tx vote = if same_draw vote.0 tx then (vote.0, Ended) else vote
+
+-- the votes when a transaction has ended: its own says so, and is there
+abbrev pub voted_after : Core → Draw → List (Draw × Past)
+voted_after core tx = if has_voted core tx then map (closed tx) core.voted else core.voted ++ (tx, Ended) ∷ []
+
+-- the party is free again
+abbrev pub ended : Group → Draw → Group
+ended group tx = record group { core = record group.core { lock = Free; voted = voted_after group.core tx } }
+
+-- the participant takes over the outcome, if it can
+abbrev pub settled_in : Option Group → Group → Draw → Outcome → Group × Effect
+settled_in None group tx outcome = (group, NoEffect tx)
+settled_in (Some after) group tx outcome = (ended after tx, Decided outcome)
+
+-- an outcome by the lock: that of the transaction that the group has promised, or that it watches
+abbrev pub finished : Lock → Group → Draw → Outcome → Group × Effect
+finished Free group tx outcome = (group, NoEffect tx)
+finished (Coordinating locked body order heard) group tx outcome = (group, NoEffect tx)
+finished (Promised locked offer) group tx outcome = if same_draw locked tx then settled_in (participant_after outcome group offer) group tx outcome else (group, NoEffect tx)
+finished (Watching locked watch) group tx outcome = if same_draw locked tx then (ended (watcher_after outcome group watch) tx, Decided outcome) else (group, NoEffect tx)

@@ -1,0 +1,161 @@
+-- What a transaction makes of its coordinator: a merge, a moved boundary, or a member that moves on, as in Scatter (SOSP 2011). A plan that cannot be made is none.
+use Rattle.std.specs.Prelude.{ℕ, ◌+◌, ◌^◌, Bool, ◌==◌, ◌&&◌, not, nat_le, is_some, length, List, ◌∷◌, [], if◌then◌else◌, Option, Some, None}
+use Rattle.std.specs.List.{list_any}
+use Rattle.std.specs.FinMap.{empty, entries, get}
+use Rattle.sc_base.specs.Arc.{Arc, holds, end_of, before, from, joined}
+use Rattle.sc_base.specs.Same.{same_draw}
+use Rattle.sc_base.specs.declared.names.Draw.{Draw}
+use Rattle.sc_ideal.specs.IdealStore.{Contents, part_of, with_pairs}
+use Rattle.sc_ideal.specs.Clients.{joined_with}
+use Rattle.sc_member.specs.Roster.{is_member, without_member}
+use Rattle.sc_member.specs.Union.{united}
+use Rattle.sc_cmd.specs.declared.cores.Core.{Core}
+use Rattle.sc_cmd.specs.declared.links.Link.{Link}
+use Rattle.sc_cmd.specs.declared.links.Route.{Route}
+use Rattle.sc_cmd.specs.declared.votes.Frozen.{Frozen}
+use Rattle.sc_cmd.specs.declared.votes.Gift.{Gift}
+use Rattle.sc_cmd.specs.declared.votes.Outcome.{Outcome}
+use Rattle.sc_cmd.specs.declared.votes.Outcome.TheVariants.{Merged, Moved, Migrated, Divided}
+use Rattle.sc_machine_table.specs.Group.{Group}
+use Rattle.sc_machine_table.specs.Splits.{left_group}
+
+-- a coordinator after its transaction, and the outcome
+abbrev pub Plan : Type 0
+Plan = Option (Group × Outcome)
+
+-- whether an arc can be cut at a place, and two arcs be joined
+abbrev pub can_cut : Arc → ℕ → Bool
+can_cut arc at = holds arc at && not (at == arc.lo)
+
+abbrev pub can_join : Arc → Arc → Bool
+can_join arc next = (next.lo == end_of arc) && nat_le (arc.len + next.len) (2 ^ 32)
+
+-- whether a map has one of these keys
+abbrev pub has_key_of : Contents → List (List ℕ × List ℕ) → Bool
+has_key_of contents pairs = list_any (λ pair. is_some (get contents pair.0)) pairs
+
+-- what a group that is locked hands to its coordinator
+abbrev pub frozen_of : Group → Frozen
+frozen_of group = record {
+  arc = group.core.arc;
+  members = group.core.members;
+  succ = group.core.succ;
+  pairs = entries group.pairs;
+  clients = entries group.clients;
+}
+
+-- ---- a split
+
+abbrev pub can_split : Core → ℕ → Bool
+can_split core at = can_cut core.arc at && nat_le 2 (length core.members)
+
+abbrev pub split_plan : Group → ℕ → Draw → Plan
+split_plan group at child = if can_split group.core at then Some (left_group group at child, Divided) else None
+
+-- ---- a merge: the coordinator takes over its successor
+
+abbrev pub can_merge : Core → Frozen → Bool
+can_merge core frozen = can_join core.arc frozen.arc && nat_le (length (united core.members frozen.members)) 9
+
+-- the group itself with the members of both
+abbrev pub merged_link : Core → Frozen → Link
+merged_link core frozen = record { group = core.id; members = united core.members frozen.members }
+
+-- who stands after both: of two groups that make the ring, the one that is left
+abbrev pub merged_succ : Core → Frozen → Link
+merged_succ core frozen = if same_draw frozen.succ.group core.id then merged_link core frozen else frozen.succ
+
+abbrev pub merged_core : Core → Frozen → Core
+merged_core core frozen = record core {
+  arc = joined core.arc frozen.arc;
+  members = united core.members frozen.members;
+  succ = merged_succ core frozen;
+}
+
+abbrev pub merged_route : Core → Frozen → Route
+merged_route core frozen = record { group = core.id; lo = core.arc.lo; members = united core.members frozen.members }
+
+-- a group with this record that takes over pairs and a client table
+abbrev pub enriched : Group → Core → Gift → Group
+enriched group core gift = record { core = core; pairs = with_pairs group.pairs gift.pairs; clients = joined_with group.clients gift.clients }
+
+-- all that a frozen group has
+abbrev pub whole_gift : Frozen → Gift
+whole_gift frozen = record { pairs = frozen.pairs; clients = frozen.clients }
+
+-- the merge with a successor that has another one
+abbrev pub merge_plan : Group → Frozen → Plan
+merge_plan group frozen =
+    if can_merge group.core frozen && not (has_key_of group.pairs frozen.pairs)
+    then Some (enriched group (merged_core group.core frozen) (whole_gift frozen), Merged (merged_route group.core frozen))
+    else None
+
+-- the merge of two groups that make the ring: nobody else stands before the group
+abbrev pub closing_core : Core → Frozen → Core
+closing_core core frozen = record (merged_core core frozen) { pred = merged_link core frozen }
+
+abbrev pub closing_plan : Group → Frozen → Plan
+closing_plan group frozen =
+    if can_merge group.core frozen && not (has_key_of group.pairs frozen.pairs)
+    then Some (enriched group (closing_core group.core frozen) (whole_gift frozen), Merged (merged_route group.core frozen))
+    else None
+
+-- ---- a boundary that moves to `at`: into the coordinator's arc, which then loses what lies from there on, or else into the successor's
+
+abbrev pub can_repart : Core → ℕ → Frozen → Bool
+can_repart core at frozen =
+    if holds core.arc at then can_cut core.arc at
+    else can_cut frozen.arc at && can_join core.arc (before frozen.arc at)
+
+-- the arc that changes hands
+abbrev pub moved_arc : Core → ℕ → Frozen → Arc
+moved_arc core at frozen = if holds core.arc at then from core.arc at else before frozen.arc at
+
+abbrev pub kept_arc : Core → ℕ → Frozen → Arc
+kept_arc core at frozen = if holds core.arc at then before core.arc at else joined core.arc (before frozen.arc at)
+
+-- the successor as it was when it was frozen
+abbrev pub succ_with : Core → List ℕ → Link
+succ_with core members = record { group = core.succ.group; members = members }
+
+abbrev pub repart_core : Core → ℕ → Frozen → Core
+repart_core core at frozen = record core { arc = kept_arc core at frozen; succ = succ_with core frozen.members }
+
+-- what the successor is given, and what it gives
+abbrev pub given : Group → ℕ → Gift
+given group at = record { pairs = entries (part_of (from group.core.arc at) group.pairs); clients = entries group.clients }
+
+abbrev pub taken : ℕ → Frozen → Gift
+taken at frozen = record { pairs = entries (part_of (before frozen.arc at) (with_pairs empty frozen.pairs)); clients = frozen.clients }
+
+abbrev pub giving_plan : Group → ℕ → Frozen → Plan
+giving_plan group at frozen =
+    if can_repart group.core at frozen
+    then Some (record group { core = repart_core group.core at frozen; pairs = part_of (before group.core.arc at) group.pairs }, Moved at (Some (given group at)))
+    else None
+
+abbrev pub taking_plan : Group → ℕ → Frozen → Plan
+taking_plan group at frozen =
+    if can_repart group.core at frozen && not (has_key_of group.pairs (taken at frozen).pairs)
+    then Some (enriched group (repart_core group.core at frozen) (taken at frozen), Moved at None)
+    else None
+
+abbrev pub repart_plan : Group → ℕ → Frozen → Plan
+repart_plan group at frozen = if holds group.core.arc at then giving_plan group at frozen else taking_plan group at frozen
+
+-- ---- a member that leaves the coordinator for its successor
+
+abbrev pub can_migrate : Core → ℕ → Frozen → Bool
+can_migrate core node frozen = is_member core.members node && nat_le 2 (length core.members) && nat_le (length (united frozen.members (node ∷ []))) 9
+
+abbrev pub migrated_core : Core → ℕ → Frozen → Core
+migrated_core core node frozen = record core {
+  members = without_member core.members node;
+  succ = succ_with core (united frozen.members (node ∷ []));
+}
+
+abbrev pub migrate_plan : Group → ℕ → Frozen → Plan
+migrate_plan group node frozen =
+    if can_migrate group.core node frozen
+    then Some (record group { core = migrated_core group.core node frozen }, Migrated node)
+    else None

@@ -1,0 +1,94 @@
+-- How a group votes: on the offer of the group before it, and on becoming the watcher of another. Of the reasons for a No the first that holds counts.
+use Rattle.std.specs.Prelude.{ℕ, Bool, ◌==◌, ◌||◌, ◌∷◌, [], ◌++◌, not, nat_lt, length, if◌then◌else◌, Option, Some, None}
+use Rattle.std.specs.List.{list_any}
+use Rattle.sc_base.specs.Arc.{holds, end_of}
+use Rattle.sc_base.specs.Same.{same_draw}
+use Rattle.sc_base.specs.declared.names.Draw.{Draw}
+use Rattle.sc_member.specs.Union.{united}
+use Rattle.sc_cmd.specs.declared.bodies.Body.{Body}
+use Rattle.sc_cmd.specs.declared.bodies.Body.TheVariants.{Merge, Repart, Migrate, Split}
+use Rattle.sc_cmd.specs.declared.bodies.Offer.{Offer}
+use Rattle.sc_cmd.specs.declared.bodies.Watch.{Watch}
+use Rattle.sc_cmd.specs.declared.cores.Core.{Core}
+use Rattle.sc_cmd.specs.declared.cores.Lock.{Lock}
+use Rattle.sc_cmd.specs.declared.cores.Lock.TheVariants.{Promised, Watching}
+use Rattle.sc_cmd.specs.declared.effects.Effect.{Effect}
+use Rattle.sc_cmd.specs.declared.effects.Effect.TheVariants.{NoEffect, Voted}
+use Rattle.sc_cmd.specs.declared.links.Route.{Route}
+use Rattle.sc_cmd.specs.declared.votes.No.{No}
+use Rattle.sc_cmd.specs.declared.votes.No.TheVariants.{Busy, Gone, Apart, TooMany}
+use Rattle.sc_cmd.specs.declared.votes.Past.{Past}
+use Rattle.sc_cmd.specs.declared.votes.Past.TheVariants as Cast
+use Rattle.sc_machine_table.specs.Group.{Group}
+use Rattle.sc_machine_table.specs.Orders.{locked_in}
+
+-- whether a group has voted on a transaction
+abbrev pub has_voted : Core → Draw → Bool
+has_voted core tx = list_any (λ vote. same_draw vote.0 tx) core.voted
+
+-- a group with more than nine members would be too large
+abbrev pub size_no : ℕ → Option No
+size_no n = if nat_lt 9 n then Some (TooMany n) else None
+
+-- a boundary is moved to a place inside one of the two arcs
+abbrev pub place_no : Core → Offer → ℕ → Option No
+place_no core offer at =
+    if holds offer.arc at then None
+    else if (at == core.arc.lo) || not (holds core.arc at) then Some Apart
+    else None
+
+-- why a group cannot take part in what is offered
+abbrev pub body_no : Body → Core → Offer → Option No
+body_no Merge core offer = size_no (length (united core.members offer.members))
+body_no (Repart at) core offer = place_no core offer at
+body_no (Migrate node) core offer = size_no (length (united core.members (node ∷ [])))
+body_no (Split at child) core offer = None
+
+-- a participant begins where the offer's arc ends
+abbrev pub offer_no : Core → Offer → Option No
+offer_no core offer = if core.arc.lo == end_of offer.arc then body_no offer.body core offer else Some Apart
+
+-- a watcher has the group before it that is replaced
+abbrev pub watch_no : Core → Watch → Option No
+watch_no core watch = if same_draw core.pred.group watch.old then None else Some Apart
+
+-- a vote by where the group went, if it is gone, and by the transaction that it is locked in, if it is in one
+abbrev pub no_of : Option Route → Option Draw → Option No → Option No
+no_of (Some into) tx why = Some Gone
+no_of None (Some tx) why = Some (Busy tx)
+no_of None None why = why
+
+-- why a group votes No on an offer; none is a Yes
+abbrev pub vote_of : Core → Offer → Option No
+vote_of core offer = no_of core.gone (locked_in core.lock) (offer_no core offer)
+
+-- why it votes No on becoming a watcher
+abbrev pub watch_vote_of : Core → Watch → Option No
+watch_vote_of core watch = no_of core.gone (locked_in core.lock) (watch_no core watch)
+
+-- a vote as the group remembers it
+abbrev pub past_of : Option No → Past
+past_of None = Cast.Yes
+past_of (Some why) = Cast.No why
+
+-- the lock after a vote: a Yes binds the group
+abbrev pub bound_by : Option No → Lock → Lock → Lock
+bound_by None bond lock = bond
+bound_by (Some why) bond lock = lock
+
+-- the vote is cast and noted, unless there was one
+abbrev pub voted_on : Option No → Lock → Group → Draw → Group × Effect
+voted_on why bond group tx =
+    if has_voted group.core tx then (group, NoEffect tx)
+    else (
+      record group { core = record group.core { lock = bound_by why bond group.core.lock; voted = group.core.voted ++ (tx, past_of why) ∷ [] } },
+      Voted (past_of why),
+    )
+
+-- the vote on an offer
+abbrev pub prepared : Group → Draw → Offer → Group × Effect
+prepared group tx offer = voted_on (vote_of group.core offer) (Promised tx offer) group tx
+
+-- the vote on becoming a watcher
+abbrev pub watched : Group → Draw → Watch → Group × Effect
+watched group tx watch = voted_on (watch_vote_of group.core watch) (Watching tx watch) group tx
