@@ -1,10 +1,12 @@
-//! The plan of a split: what the group keeps, and what its child has.
+//! The plans of a split, what the group keeps and what its child has, and of a merge.
 #![tactic(auto)]
 
 mod laws;
+mod merges;
 mod splits;
 
 pub use laws::splits_keep_the_whole;
+pub use merges::{can_merge, plan_merge};
 pub use splits::{can_split, plan_split};
 
 #[cfg(test)]
