@@ -35,21 +35,22 @@ can_gain core offer at = can_cut offer.arc at && can_join (from offer.arc at) co
 abbrev pub gained_core : Core → Offer → ℕ → Core
 gained_core core offer at = record core { arc = joined (from offer.arc at) core.arc }
 
+abbrev pub gained_group : Group → Offer → ℕ → Gift → Group
+gained_group group offer at gift = enriched group (gained_core group.core offer at) gift
+
 abbrev pub gained : Group → Offer → ℕ → Gift → Option Group
 gained group offer at gift =
-    if can_gain group.core offer at && not (has_key_of group.pairs gift.pairs)
-    then Some (enriched group (gained_core group.core offer at) gift)
-    else None
+    if can_gain group.core offer at && not (has_key_of group.pairs gift.pairs) then Some (gained_group group offer at gift) else None
 
 -- or loses what lies before `at`
 abbrev pub lost_core : Core → ℕ → Core
 lost_core core at = record core { arc = from core.arc at }
 
+abbrev pub lost_group : Group → ℕ → Group
+lost_group group at = record group { core = lost_core group.core at; pairs = part_of (from group.core.arc at) group.pairs }
+
 abbrev pub lost : Group → ℕ → Option Group
-lost group at =
-    if can_cut group.core.arc at
-    then Some (record group { core = lost_core group.core at; pairs = part_of (from group.core.arc at) group.pairs })
-    else None
+lost group at = if can_cut group.core.arc at then Some (lost_group group at) else None
 
 -- a moved boundary, with a gift or without
 abbrev pub moved : Option Gift → Group → Offer → ℕ → Option Group
@@ -60,11 +61,12 @@ moved None group offer at = lost group at
 abbrev pub welcomed_core : Core → ℕ → Core
 welcomed_core core node = record core { members = united core.members (node ∷ []) }
 
+abbrev pub welcomed_group : Group → ℕ → Group
+welcomed_group group node = record group { core = welcomed_core group.core node }
+
 abbrev pub welcomed : Group → ℕ → Option Group
 welcomed group node =
-    if nat_le (length (united group.core.members (node ∷ []))) 9
-    then Some (record group { core = welcomed_core group.core node })
-    else None
+    if nat_le (length (united group.core.members (node ∷ []))) 9 then Some (welcomed_group group node) else None
 
 -- the participant after an outcome; it is party to no split
 abbrev pub participant_after : Outcome → Group → Offer → Option Group

@@ -4,5 +4,6 @@ pub mod Machine
 pub mod Orders
 pub mod Plans
 pub mod Splits
+pub mod Totals
 pub mod Transactions
 pub mod Votes

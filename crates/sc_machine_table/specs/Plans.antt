@@ -83,22 +83,28 @@ enriched group core gift = record { core = core; pairs = with_pairs group.pairs 
 abbrev pub whole_gift : Frozen → Gift
 whole_gift frozen = record { pairs = frozen.pairs; clients = frozen.clients }
 
--- the merge with a successor that has another one
-abbrev pub merge_plan : Group → Frozen → Plan
-merge_plan group frozen =
-    if can_merge group.core frozen && not (has_key_of group.pairs frozen.pairs)
-    then Some (enriched group (merged_core group.core frozen) (whole_gift frozen), Merged (merged_route group.core frozen))
-    else None
+-- the group that has taken over a successor which has another one
+abbrev pub merged_group : Group → Frozen → Group
+merged_group group frozen = enriched group (merged_core group.core frozen) (whole_gift frozen)
 
--- the merge of two groups that make the ring: nobody else stands before the group
+-- of two groups that make the ring nobody else stands before the one that is left
 abbrev pub closing_core : Core → Frozen → Core
 closing_core core frozen = record (merged_core core frozen) { pred = merged_link core frozen }
 
+abbrev pub closing_group : Group → Frozen → Group
+closing_group group frozen = enriched group (closing_core group.core frozen) (whole_gift frozen)
+
+-- a merge brings no key that is there
+abbrev pub may_merge : Group → Frozen → Bool
+may_merge group frozen = can_merge group.core frozen && not (has_key_of group.pairs frozen.pairs)
+
+abbrev pub merge_plan : Group → Frozen → Plan
+merge_plan group frozen =
+    if may_merge group frozen then Some (merged_group group frozen, Merged (merged_route group.core frozen)) else None
+
 abbrev pub closing_plan : Group → Frozen → Plan
 closing_plan group frozen =
-    if can_merge group.core frozen && not (has_key_of group.pairs frozen.pairs)
-    then Some (enriched group (closing_core group.core frozen) (whole_gift frozen), Merged (merged_route group.core frozen))
-    else None
+    if may_merge group frozen then Some (closing_group group frozen, Merged (merged_route group.core frozen)) else None
 
 -- ---- a boundary that moves to `at`: into the coordinator's arc, which then loses what lies from there on, or else into the successor's
 
@@ -128,16 +134,21 @@ given group at = record { pairs = entries (part_of (from group.core.arc at) grou
 abbrev pub taken : ℕ → Frozen → Gift
 taken at frozen = record { pairs = entries (part_of (before frozen.arc at) (with_pairs empty frozen.pairs)); clients = frozen.clients }
 
+abbrev pub giving_group : Group → ℕ → Frozen → Group
+giving_group group at frozen = record group { core = repart_core group.core at frozen; pairs = part_of (before group.core.arc at) group.pairs }
+
+abbrev pub taking_group : Group → ℕ → Frozen → Group
+taking_group group at frozen = enriched group (repart_core group.core at frozen) (taken at frozen)
+
 abbrev pub giving_plan : Group → ℕ → Frozen → Plan
 giving_plan group at frozen =
-    if can_repart group.core at frozen
-    then Some (record group { core = repart_core group.core at frozen; pairs = part_of (before group.core.arc at) group.pairs }, Moved at (Some (given group at)))
-    else None
+    if can_repart group.core at frozen then Some (giving_group group at frozen, Moved at (Some (given group at))) else None
 
+-- and brings no key that is there
 abbrev pub taking_plan : Group → ℕ → Frozen → Plan
 taking_plan group at frozen =
     if can_repart group.core at frozen && not (has_key_of group.pairs (taken at frozen).pairs)
-    then Some (enriched group (repart_core group.core at frozen) (taken at frozen), Moved at None)
+    then Some (taking_group group at frozen, Moved at None)
     else None
 
 abbrev pub repart_plan : Group → ℕ → Frozen → Plan
@@ -154,8 +165,9 @@ migrated_core core node frozen = record core {
   succ = succ_with core (united frozen.members (node ∷ []));
 }
 
+abbrev pub migrated_group : Group → ℕ → Frozen → Group
+migrated_group group node frozen = record group { core = migrated_core group.core node frozen }
+
 abbrev pub migrate_plan : Group → ℕ → Frozen → Plan
 migrate_plan group node frozen =
-    if can_migrate group.core node frozen
-    then Some (record group { core = migrated_core group.core node frozen }, Migrated node)
-    else None
+    if can_migrate group.core node frozen then Some (migrated_group group node frozen, Migrated node) else None

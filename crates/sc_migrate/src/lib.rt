@@ -1,0 +1,6 @@
+//! The plan of a member that leaves a group for its successor, for both sides.
+#![tactic(auto)]
+
+mod plans;
+
+pub use plans::{can_migrate, plan_migrate, welcomed_members};

@@ -1,0 +1,63 @@
+//! What a member's move makes of the two groups.
+ghost use Rattle.std.specs.Prelude.{◌≡◌, ◌∷◌, [], IfOk, Some, None, true, nat_le, length, if◌then◌else◌};
+ghost use Rattle.sc_member.specs.Roster.{is_member, without_member};
+ghost use Rattle.sc_member.specs.Union.{united};
+ghost use Rattle.sc_machine_table.specs.Plans.{can_migrate, migrated_core, succ_with};
+
+use sc_base::{Dup, OutOfMemory};
+use sc_cmd::{Core, Frozen, Link};
+use sc_member::Members;
+use std::alloc::Global;
+
+/// Whether the node can leave a group of that record for its successor, which was frozen so: it is a
+/// member and not the only one, and the successor has at most nine members with it.
+pub fn can_migrate(core: &Core, node: u16, frozen: &Frozen) -> bool
+    ensures { result ≡ can_migrate core.now node frozen.now }
+{
+    core.members.has(node)
+        && core.members.len() >= 2
+        && frozen.members.count_with(&Members::one(node)) <= 9
+}
+
+/// The group after the node left it for its successor. `can_migrate` tells whether it can.
+pub fn plan_migrate(
+    alloc: Global,
+    core: &Core,
+    node: u16,
+    frozen: &Frozen,
+) -> Result<Core, OutOfMemory>
+    requires { can_migrate core.now node frozen.now ≡ true }
+    ensures { IfOk result (λ after. after ≡ migrated_core core.now node frozen.now) }
+{
+    let members = without(&core.members, node);
+    let mut after = core.dup(alloc)?;
+    after.members = members;
+    after.succ = Link {
+        group: core.succ.group,
+        members: frozen.members.union(&Members::one(node)),
+    };
+    Ok(after)
+}
+
+/// The members of the successor with the node, which may be one of them; none where they are ten.
+pub fn welcomed_members(core: &Core, node: u16) -> Option<Members>
+    ensures { result ≡ (if nat_le (length (united core.now.members (node ∷ []))) 9 then Some (united core.now.members (node ∷ [])) else None) }
+{
+    let comer = Members::one(node);
+    if core.members.count_with(&comer) > 9 {
+        return None;
+    }
+    Some(core.members.union(&comer))
+}
+
+fn without(members: &Members, node: u16) -> Members
+    requires member { is_member members.now node ≡ true }
+    requires two { nat_le 2 (length members.now) ≡ true }
+    ensures { result ≡ without_member members.now node }
+{
+    let mut rest = *members;
+    match rest.remove(node) {
+        Ok(()) => rest,
+        Err(_) => unreachable!(),
+    }
+}
