@@ -16,6 +16,12 @@ pub record Pending {M : Type 0} (test : M → Bool) (first : ℕ) (sent : List M
   pub passes : test mail ≡ true
   pub copies : 0 < get_or counts place 0
 
+-- what stands at a place of a list stands there in a longer one
+pub get_left : {X : Type 0} (xs ys : List X) (k : ℕ) (x : X) → slice_get xs k ≡ Some x → slice_get (xs ++ ys) k ≡ Some x
+get_left [] ys k x e = cc
+get_left (y ∷ xs) ys zero x e = e
+get_left (y ∷ xs) ys (suc k) x e = get_left xs ys k x e
+
 later : {M : Type 0} (test : M → Bool) (first : ℕ) (m : M) (sent : List M) (c : ℕ) (counts : List ℕ) (number : ℕ) → Pending test (suc first) sent counts number → Pending test first (m ∷ sent) (c ∷ counts) number
 later test first m sent c counts number p =
     record { place = suc p.place; number_is = omega (arith, p.number_is); mail = p.mail; at = p.at; passes = p.passes; copies = p.copies }

@@ -7,9 +7,14 @@ use Rattle.sc_actor.specs.Mail.{mails, copies, counts_after}
 use Rattle.sc_actor.specs.Replay.{Table, input_of, acted, replay, value}
 
 module _ {M O : Type 0} where
+  -- the mail of more rows comes behind
+  pub mails-append : (xs ys : List (Row M O)) → mails (xs ++ ys) ≡ mails xs ++ mails ys
+  mails-append [] ys = refl
+  mails-append (x ∷ xs) ys = ap (λ t. x.sent ++ t) (mails-append xs ys) ∙ sym (append_assoc x.sent (mails xs) (mails ys))
+
+  -- the mail of one row more
   pub mails-snoc : (rows : List (Row M O)) (row : Row M O) → mails (rows ++ row ∷ []) ≡ mails rows ++ row.sent
-  mails-snoc [] row = append-nil row.sent
-  mails-snoc (r ∷ rows) row = ap (λ t. r.sent ++ t) (mails-snoc rows row) ∙ sym (append_assoc r.sent (mails rows) row.sent)
+  mails-snoc rows row = mails-append rows (row ∷ []) ∙ ap (λ t. mails rows ++ t) (append-nil row.sent)
 
   pub copies-snoc : (rows : List (Row M O)) (row : Row M O) → copies (rows ++ row ∷ []) ≡ counts_after (copies rows) row
   copies-snoc rows row = fold-append counts_after [] rows (row ∷ [])
