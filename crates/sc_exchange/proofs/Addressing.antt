@@ -5,14 +5,15 @@ use Rattle.std.specs.List.{list_any}
 use Rattle.std.proofs.lemmas.List.{append-nil}
 use Rattle.std.proofs.lemmas.List.Folds.{list_any-append}
 use Rattle.std.proofs.lemmas.Bool.{eqb-true, and_parts}
+use Rattle.std.proofs.Math.Bool.{and_assoc, or-false}
 use Rattle.sc_turn.specs.Turn.{StartsWith}
 use Rattle.sc_actor.specs.declared.rows.Row.{Row}
 use Rattle.sc_actor.specs.declared.rows.Event.{Event}
 use Rattle.sc_actor.specs.declared.rows.Event.TheVariants.{Deliver, Drop, Again, Tick, Go, Told, Crash}
 use Rattle.sc_actor.specs.Mail.{mails, numbered, copies, counts_at, numbers, is_crash, has_crashed, may_get, is_for}
 use Rattle.sc_actor.proofs.CountLemmas.{counted, length-counts_at}
-use Rattle.sc_actor.proofs.ReplayLemmas.{mails-snoc}
-use Rattle.sc_actor.proofs.PendingLemmas.{pending_sound}
+use Rattle.sc_actor.proofs.ReplayLemmas.{mails-snoc, mails-append}
+use Rattle.sc_actor.proofs.PendingLemmas.{pending_sound, get_left}
 use Rattle.sc_ledger.specs.Pending.{upto, whose, pending_of, kth_pending}
 use Rattle.sc_ledger.proofs.Kept.{copies-push}
 use Rattle.sc_turn.specs.declared.rule.View.{View}
@@ -21,25 +22,8 @@ use Rattle.sc_exchange.specs.declared.fates.Fate.{Fate}
 use Rattle.sc_exchange.specs.declared.fates.Fate.TheVariants.{Lost, Repeated}
 use Rattle.sc_exchange.specs.Deeds.{deeds, rows_of, rows_from}
 use Rattle.sc_exchange.specs.Turns.{change}
-use Rattle.sc_exchange.proofs.Done.{rows_of_deeds, begins_rows}
+use Rattle.sc_exchange.proofs.Done.{rows_of_deeds, begins_rows, quiet}
 use Rattle.sc_exchange.specs.Addressed.{is_mail_to, is_addressed, all_addressed}
-
-and_true : (b : Bool) → (b && true) ≡ b
-and_true true = refl
-and_true false = refl
-
-or_false : (b : Bool) → (b || false) ≡ b
-or_false true = refl
-or_false false = refl
-
-and_assoc : (a b c : Bool) → (a && (b && c)) ≡ ((a && b) && c)
-and_assoc true b c = refl
-and_assoc false b c = refl
-
-get_more : {B : Type 0} (xs ys : List B) (i : ℕ) (x : B) → slice_get xs i ≡ Some x → slice_get (xs ++ ys) i ≡ Some x
-get_more [] ys i x e = cc
-get_more (y ∷ xs) ys zero x e = e
-get_more (y ∷ xs) ys (suc i) x e = get_more xs ys i x e
 
 -- a mail keeps its receiver
 pub mail_later : {M : Type 0} (receiver : M → ℕ) (who : ℕ) (sent more : List M) (number : ℕ) → is_mail_to receiver who (numbered sent number) ≡ true → is_mail_to receiver who (numbered (sent ++ more) number) ≡ true
@@ -62,7 +46,7 @@ module _ {M O : Type 0} (receiver : M → ℕ) where
   all_addressed-append sent [] ys = ap (λ l. all_addressed receiver l ys) (sym (append-nil sent))
   all_addressed-append sent (x ∷ xs) ys =
       ap (λ b. is_addressed receiver sent x.who x.event && b) (all_addressed-append (sent ++ x.sent) xs ys ∙ ap (λ l. all_addressed receiver (sent ++ x.sent) xs && all_addressed receiver l ys) (append_assoc sent x.sent (mails xs)))
-      ∙ and_assoc (is_addressed receiver sent x.who x.event) (all_addressed receiver (sent ++ x.sent) xs) (all_addressed receiver (sent ++ (x.sent ++ mails xs)) ys)
+      ∙ sym (and_assoc (is_addressed receiver sent x.who x.event) (all_addressed receiver (sent ++ x.sent) xs) (all_addressed receiver (sent ++ (x.sent ++ mails xs)) ys))
 
   -- one row more
   pub addressed_push : (rows : List (Row M O)) (row : Row M O) → all_addressed receiver [] rows ≡ true → is_addressed receiver (mails rows) row.who row.event ≡ true → all_addressed receiver [] (rows ++ row ∷ []) ≡ true
@@ -70,6 +54,7 @@ module _ {M O : Type 0} (receiver : M → ℕ) where
       all_addressed-append [] rows (row ∷ [])
       ∙ (λ i. all i && (one i && true))
 
+  -- a row that may stand behind these mails may stand behind more
   pub addressed_later : (who : ℕ) (event : Event O) (sent more : List M) → is_addressed receiver sent who event ≡ true → is_addressed receiver (sent ++ more) who event ≡ true
   addressed_later who (Deliver number) sent more e = mail_later receiver who sent more number e
   addressed_later who (Drop number) sent more e = e
@@ -79,18 +64,17 @@ module _ {M O : Type 0} (receiver : M → ℕ) where
   addressed_later who (Told order) sent more e = refl
   addressed_later who Crash sent more e = refl
 
-  mails-append : (xs ys : List (Row M O)) → mails (xs ++ ys) ≡ mails xs ++ mails ys
-  mails-append [] ys = refl
-  mails-append (x ∷ xs) ys = ap (λ l. x.sent ++ l) (mails-append xs ys) ∙ sym (append_assoc x.sent (mails xs) (mails ys))
-
+  -- the same, of rows that begin with others
   pub addressed_rows : (who : ℕ) (event : Event O) (rows first : List (Row M O)) → StartsWith rows first → is_addressed receiver (mails first) who event ≡ true → is_addressed receiver (mails rows) who event ≡ true
   addressed_rows who event rows first later e =
       ap (λ l. is_addressed receiver l who event) (ap mails later.1 ∙ mails-append first later.0) ∙ addressed_later who event (mails first) (mails later.0) e
 
+  -- the same, of what a turn found
   pub addressed_found : (who : ℕ) (event : Event O) (w : View (Deed M O)) (rows : List (Row M O)) → StartsWith (deeds rows) w.seen → is_addressed receiver (mails (rows_from w.seen)) who event ≡ true → is_addressed receiver (mails rows) who event ≡ true
   addressed_found who event w rows later e =
       addressed_rows who event rows (rows_from w.seen) (subst (λ l. StartsWith l (rows_from w.seen)) (rows_of_deeds rows) (begins_rows (deeds rows) w.seen later)) e
 
+  -- a row of the network may stand anywhere
   pub change_addressed : (fate : Fate) (number : ℕ) (sent : List M) (row : Row M O) → row ≡ change fate number → is_addressed receiver sent row.who row.event ≡ true
   change_addressed fate number sent row is = ap (λ (r : Row M O). is_addressed receiver sent r.who r.event) is ∙ change_so M O receiver fate number sent
 
@@ -157,7 +141,7 @@ module _ {M O : Type 0} (receiver : M → ℕ) (actors : ℕ) where
   crashed_same : (rows : List (Row M O)) (row : Row M O) (who : ℕ) → eqb row.who who ≡ false → has_crashed (rows ++ row ∷ []) who ≡ has_crashed rows who
   crashed_same rows row who other =
       list_any-append (λ r. eqb r.who who && is_crash r.event) rows (row ∷ [])
-      ∙ (ap (λ b. has_crashed rows who || ((b && is_crash row.event) || false)) other ∙ or_false (has_crashed rows who))
+      ∙ (ap (λ b. has_crashed rows who || ((b && is_crash row.event) || false)) other ∙ or-false (has_crashed rows who))
 
   -- so what was pending for it stays, and more may come behind
   pending_kept : (rows : List (Row M O)) (row : Row M O) (n : ℕ) → eqb row.who (suc n) ≡ false → row.who ≢ 0 → is_addressed receiver (mails rows) row.who row.event ≡ true →
@@ -177,7 +161,7 @@ module _ {M O : Type 0} (receiver : M → ℕ) (actors : ℕ) where
       kth_pending receiver actors rows (suc n) 1 ≡ Some number → kth_pending receiver actors (rows ++ row ∷ []) (suc n) 1 ≡ Some number
   first_kept rows row n number other actor to first =
       let k = pending_kept rows row n other actor to in
-      ap (λ l. slice_get l 0) k.1 ∙ get_more (pending_of receiver actors rows (suc n)) k.0 0 number first
+      ap (λ l. slice_get l 0) k.1 ∙ get_left (pending_of receiver actors rows (suc n)) k.0 0 number first
 
   not_of : (who : ℕ) (row : Row M O) (rows : List (Row M O)) → rows_of who (row ∷ rows) ≡ [] → (eqb row.who who ≡ false) × (rows_of who rows ≡ [])
   not_of who row rows none = by (eqb row.who who) refl
@@ -197,18 +181,6 @@ module _ {M O : Type 0} (receiver : M → ℕ) (actors : ℕ) where
       ap (λ l. kth_pending receiver actors l (suc n) 1) (sym (append_assoc rows (row ∷ []) more))
       ∙ first_over (rows ++ row ∷ []) more n number mine.1 nets.1 (ap (λ l. all_addressed receiver l more) (mails-snoc rows row) ∙ parts.1) (first_kept rows row n number mine.0 actor parts.0 first)
 
-  rows_of-append : (n : ℕ) (xs ys : List (Row M O)) → rows_of n (xs ++ ys) ≡ rows_of n xs ++ rows_of n ys
-  rows_of-append n [] ys = refl
-  rows_of-append n (x ∷ xs) ys = let e = rows_of-append n xs ys in
-      elim (eqb x.who n) as (λ b. cond b (x ∷ rows_of n (xs ++ ys)) (rows_of n (xs ++ ys)) ≡ cond b (x ∷ rows_of n xs) (rows_of n xs) ++ rows_of n ys) [ true ↦ ap (λ l. x ∷ l) e | false ↦ e ]
-
-  none_left : (xs : List (Row M O)) → length xs ≡ 0 → xs ≡ []
-  none_left [] e = refl
-  none_left (x ∷ xs) e = absurd (omega arith)
-
-  no_more : (n : ℕ) (xs more : List (Row M O)) → length (rows_of n (xs ++ more)) ≡ length (rows_of n xs) → rows_of n more ≡ []
-  no_more n xs more e = none_left (rows_of n more) (omega (arith, e, ap length (rows_of-append n xs more), length-append (rows_of n xs) (rows_of n more)))
-
   -- an actor's first pending mail stays the first over rows of which none is its own or the network's
   pub first_stays : (rows later : List (Row M O)) (who number : ℕ) → StartsWith later rows → who ≢ 0 → length (rows_of who later) ≡ length (rows_of who rows) → length (rows_of 0 later) ≡ length (rows_of 0 rows) → all_addressed receiver [] later ≡ true →
       kth_pending receiver actors rows who 1 ≡ Some number → kth_pending receiver actors later who 1 ≡ Some number
@@ -219,8 +191,8 @@ module _ {M O : Type 0} (receiver : M → ℕ) (actors : ℕ) where
       let parts = and_parts (all_addressed receiver [] rows) (all_addressed receiver (mails rows) more) (sym (all_addressed-append receiver [] rows more) ∙ whole) in
       ap (λ l. kth_pending receiver actors l (suc n) 1) starts.1
       ∙ first_over rows more n number
-      (no_more (suc n) rows more (ap (λ l. length (rows_of (suc n) l)) (sym starts.1) ∙ own))
-      (no_more 0 rows more (ap (λ l. length (rows_of 0 l)) (sym starts.1) ∙ net)) parts.1 first
+      (quiet (suc n) rows more (ap (λ l. length (rows_of (suc n) l)) (sym starts.1) ∙ own))
+      (quiet 0 rows more (ap (λ l. length (rows_of 0 l)) (sym starts.1) ∙ net)) parts.1 first
 
   -- a crash is in the actor's own rows
   pub crashed_own : (who : ℕ) (rows : List (Row M O)) → has_crashed rows who ≡ list_any (λ (row : Row M O). is_crash row.event) (rows_of who rows)

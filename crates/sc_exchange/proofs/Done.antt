@@ -1,23 +1,22 @@
 -- Rows and deeds.
-use Rattle.std.proofs.Common.{◌≡◌, ℕ, eqb, true, false, cond, List, [], ◌∷◌, ◌++◌, map, length, drop, refl, sym, ap, ◌∙◌}
+use Rattle.std.proofs.Common.{◌≡◌, ℕ, eqb, true, false, cond, List, [], ◌∷◌, ◌++◌, map, length, drop, refl, sym, ap, ◌∙◌, arith, length-append}
 use Rattle.std.specs.Prelude.{nat_lt}
-use Rattle.std.proofs.lemmas.List.{append-nil, map-append, length-map}
+use Rattle.std.proofs.lemmas.List.{append-nil, map-append, length-map, nil_from_length}
 use Rattle.std.proofs.lemmas.Bool.{eqb-true}
 use Rattle.sc_turn.specs.declared.rule.View.{View}
 use Rattle.sc_turn.specs.Turn.{rows_by, view, left_with, with_turn, with_row, longer, StartsWith}
+use Rattle.sc_turn.proofs.Leaving.{made_more}
 use Rattle.sc_actor.specs.declared.rows.Row.{Row}
 use Rattle.sc_exchange.specs.declared.deeds.Deed.{Deed}
 use Rattle.sc_exchange.specs.Deeds.{deeds, row_by, rows_from, rows_of}
 
-drop_whole : {A : Type 0} → (xs ys : List A) → drop (length xs) (xs ++ ys) ≡ ys
-drop_whole [] ys = refl
-drop_whole (x ∷ xs) ys = drop_whole xs ys
-
 module _ {M O : Type 0} where
+  -- the rows of the deeds of rows are those rows
   pub rows_of_deeds : (rows : List (Row M O)) → rows_from (deeds rows) ≡ rows
   rows_of_deeds [] = refl
   rows_of_deeds (row ∷ rows) = ap (λ l. row ∷ l) (rows_of_deeds rows)
 
+  -- the deeds of one row more
   pub deeds-push : (rows : List (Row M O)) (row : Row M O) → deeds (rows ++ row ∷ []) ≡ deeds rows ++ (record { event = row.event; sent = row.sent }, row.who) ∷ []
   deeds-push rows row = map-append (λ r. (record { event = r.event; sent = r.sent }, r.who)) rows (row ∷ [])
 
@@ -28,6 +27,17 @@ module _ {M O : Type 0} where
       elim (eqb d.1 n) as (λ b. eqb d.1 n ≡ b → cond b (row_by d.1 d.0 ∷ rows_of n (rows_from done)) (rows_of n (rows_from done)) ≡ map (row_by n) (cond b (d.0 ∷ rows_by n done) (rows_by n done)))
       [ true ↦ λ is. (λ i. row_by (eqb-true d.1 n is i) d.0 ∷ e i) | false ↦ λ _. e ] refl
 
+  -- the rows of a number, of a list in two parts
+  pub rows_of-append : (n : ℕ) (xs ys : List (Row M O)) → rows_of n (xs ++ ys) ≡ rows_of n xs ++ rows_of n ys
+  rows_of-append n [] ys = refl
+  rows_of-append n (x ∷ xs) ys = let e = rows_of-append n xs ys in
+      elim (eqb x.who n) as (λ b. cond b (x ∷ rows_of n (xs ++ ys)) (rows_of n (xs ++ ys)) ≡ cond b (x ∷ rows_of n xs) (rows_of n xs) ++ rows_of n ys) [ true ↦ ap (λ l. x ∷ l) e | false ↦ e ]
+
+  -- of two lists with as many rows of a number, the longer has none more
+  pub quiet : (n : ℕ) (xs more : List (Row M O)) → length (rows_of n (xs ++ more)) ≡ length (rows_of n xs) → rows_of n more ≡ []
+  quiet n xs more e = nil_from_length (rows_of n more) (omega (arith, e, ap length (rows_of-append n xs more), length-append (rows_of n xs) (rows_of n more)))
+
+  -- rows begin with others where their deeds do
   pub begins_rows : (xs ys : List (Deed M O × ℕ)) → StartsWith xs ys → StartsWith (rows_from xs) (rows_from ys)
   begins_rows xs ys p = (rows_from p.0, ap rows_from p.1 ∙ map-append (λ d. row_by d.1 d.0) ys p.0)
 
@@ -39,15 +49,14 @@ module _ {M O : Type 0} where
 
 -- what is left with
 module _ {E : Type 0} where
-  made_more : (seen rows : List (E × ℕ)) (made : List E) → made ++ map (λ r. r.0) (drop (length seen) (seen ++ rows)) ≡ made ++ map (λ r. r.0) rows
-  made_more seen rows made = ap (λ (l : List (E × ℕ)). made ++ map (λ r. r.0) l) (drop_whole seen rows)
-
+  -- with the rows that were found the view is as it was, without the turn
   pub left_same : (v : View E) (rows : List (E × ℕ)) → rows ≡ v.seen → left_with v rows ≡ with_turn v false
   left_same v rows is =
       let a : rows ≡ v.seen ++ [] = is ∙ sym (append-nil v.seen) in
       let m : v.made ++ map (λ r. r.0) (drop (length v.seen) rows) ≡ v.made = ap (λ (l : List (E × ℕ)). v.made ++ map (λ r. r.0) (drop (length v.seen) l)) a ∙ (made_more v.seen [] v.made ∙ append-nil v.made) in
       λ i. view v.who v.live false (is i) v.told (m i) v.given v.joined
 
+  -- with one row more the view has that row
   pub left_row : (v : View E) (rows : List (E × ℕ)) (deed : E) → rows ≡ v.seen ++ (deed, v.who) ∷ [] → left_with v rows ≡ with_turn (with_row v deed) false
   left_row v rows deed is =
       let m : v.made ++ map (λ r. r.0) (drop (length v.seen) rows) ≡ v.made ++ deed ∷ [] = ap (λ (l : List (E × ℕ)). v.made ++ map (λ r. r.0) (drop (length v.seen) l)) is ∙ made_more v.seen ((deed, v.who) ∷ []) v.made in

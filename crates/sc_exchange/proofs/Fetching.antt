@@ -3,6 +3,7 @@ use Rattle.std.proofs.Common.{◌≡◌, ◌≢◌, ℕ, Bool, true, false, Matc
 use Rattle.std.proofs.lemmas.List.{append-nil}
 use Rattle.sc_turn.specs.declared.rule.View.{View}
 use Rattle.sc_turn.specs.Turn.{StartsWith, IsTrueOf, rows_by, with_seen}
+use Rattle.sc_turn.proofs.Lists.{starts_more, starts_trans}
 use Rattle.std.proofs.Math.Logic.{∥∥₁_elim}
 use Rattle.std.proofs.Props.{props}
 use Rattle.sc_base.specs.declared.dups.OutOfMemory.{OutOfMemory}
@@ -24,39 +25,38 @@ use Rattle.sc_exchange.proofs.Addressing.{pending_to, addressed_rows}
 use Rattle.sc_exchange.proofs.Done.{rows_of_from, begins_rows}
 use Rattle.sc_exchange.proofs.Views.{own_same, own_turned, own_of, deed}
 
-begins_more : {E : Type 0} (xs ys zs : List E) → StartsWith xs ys → StartsWith (xs ++ zs) ys
-begins_more xs ys zs p = (p.0 ++ zs, ap (λ l. l ++ zs) p.1 ∙ append_assoc ys p.0 zs)
-
 module _ {M O : Type 0} (w v : View (Deed M O)) where
+  -- what a turn has seen begins with what was seen before
   pub turned_later : Turned w v → StartsWith (rows_from v.seen) (rows_from w.seen)
   turned_later t = begins_rows v.seen w.seen (subst (λ l. StartsWith l w.seen) (ap (λ (x : View (Deed M O)). x.seen) (sym t.view_is)) t.later)
 
   row_later : (row : Row M O) → RowTurned w v row → StartsWith (rows_from v.seen) (rows_from w.seen)
   row_later row t =
-      begins_rows v.seen w.seen (subst (λ l. StartsWith l w.seen) (ap (λ (x : View (Deed M O)). x.seen) (sym t.view_is)) (begins_more (deeds t.rows) w.seen ((deed row, w.who) ∷ []) t.later))
+      begins_rows v.seen w.seen (subst (λ l. StartsWith l w.seen) (ap (λ (x : View (Deed M O)). x.seen) (sym t.view_is)) (starts_more (deeds t.rows) w.seen ((deed row, w.who) ∷ []) t.later))
 
+  -- so it does after a change of the network
   pub done_later : (F G : Type 0) (receiver : M → ℕ) (actors : ℕ) (fate : Fate) (number : ℕ) (done : Bool) → MatchBool done (Changed receiver actors fate number w v × F) (Turned w v × G) → StartsWith (rows_from v.seen) (rows_from w.seen)
   done_later F G receiver actors fate number true m = row_later (change fate number) m.0.turned
   done_later F G receiver actors fate number false m = turned_later m.0
 
+  -- after a turn the seat has seen all rows that it made
   pub own_after : (who : ℕ) → w.who ≡ who → Turned w v → length (rows_by who v.seen) ≡ length v.made
   own_after who number t = ap (λ n. length (rows_by n v.seen)) (sym number) ∙ own_turned w v t
 
+  -- the same by another name of its number
   pub own_again : (who : ℕ) → w.who ≡ who → length (rows_by w.who v.seen) ≡ length v.made → length (rows_by who v.seen) ≡ length v.made
   own_again who number own = ap (λ n. length (rows_by n v.seen)) (sym number) ∙ own
 
+  -- so it has after a meeting
   pub own_met : (who : ℕ) → w.who ≡ who → v ≡ with_seen w v.seen → IsTrueOf v v.seen → length (rows_by who v.seen) ≡ length v.made
   own_met who number is t = own_of v who (ap (λ (x : View (Deed M O)). x.who) is ∙ number) t.own
 
 module _ {M O : Type 0} (receiver : M → ℕ) (actors who : ℕ) where
-  begins_trans : (xs ys zs : List (Row M O)) → StartsWith xs ys → StartsWith ys zs → StartsWith xs zs
-  begins_trans xs ys zs p q = (q.0 ++ p.0, p.1 ∙ (ap (λ l. l ++ p.0) q.1 ∙ append_assoc zs q.0 p.0))
-
   asked_later : (fetched : Option ℕ) (made made' seen seen' : List (Row M O)) → StartsWith seen' seen → (who ≢ 0 → made' ≡ made) → HasFetched receiver actors who fetched made seen → HasFetched receiver actors who fetched made' seen'
   asked_later None made made' seen seen' later same h = tt
   asked_later (Some number) made made' seen seen' later same h = record {
     rows = h.rows;
-    later = begins_trans seen' seen h.rows later h.later;
+    later = starts_trans seen' seen h.rows later h.later;
     k = h.k;
     kth = h.kth;
     own = λ ne. h.own ne ∙ sym (same ne);
@@ -65,12 +65,14 @@ module _ {M O : Type 0} (receiver : M → ℕ) (actors who : ℕ) where
   abbrev made_by : View (Deed M O) → List (Row M O)
   made_by v = map (row_by who) v.made
 
+  -- what was fetched is known after a turn without a row
   pub asked_turned : (fetched : Option ℕ) (w v : View (Deed M O)) → Turned w v → HasFetched receiver actors who fetched (made_by w) (rows_from w.seen) → HasFetched receiver actors who fetched (made_by v) (rows_from v.seen)
   asked_turned fetched w v t h =
       asked_later fetched (made_by w) (made_by v) (rows_from w.seen) (rows_from v.seen)
       (begins_rows v.seen w.seen (subst (λ l. StartsWith l w.seen) (ap (λ (x : View (Deed M O)). x.seen) (sym t.view_is)) t.later))
       (λ ne. ap made_by t.view_is) h
 
+  -- and where more was seen without one
   pub asked_same : (fetched : Option ℕ) (w v : View (Deed M O)) → StartsWith v.seen w.seen → v.made ≡ w.made → HasFetched receiver actors who fetched (made_by w) (rows_from w.seen) → HasFetched receiver actors who fetched (made_by v) (rows_from v.seen)
   asked_same fetched w v later same h =
       asked_later fetched (made_by w) (made_by v) (rows_from w.seen) (rows_from v.seen) (begins_rows v.seen w.seen later) (λ ne. ap (map (row_by who)) same) h
@@ -93,9 +95,11 @@ module _ {M O : Type 0} (receiver : M → ℕ) (actors who : ℕ) where
   asked_in w v k (Ok found) number t fetch = asked_now w v k found number t fetch
   asked_in w v k (Err error) number t fetch = tt
 
+  -- what a fetch has found is known
   pub asked_found : (f : Option ℕ) (w v : View (Deed M O)) (k : ℕ) (found : Result (Fetched M) OutOfMemory) → f ≡ number_in found → v.who ≡ who → Turned w v → IfOk found (IsFetch receiver actors (rows_from v.seen) who k) → HasFetched receiver actors who f (made_by v) (rows_from v.seen)
   asked_found f w v k found is number t fetch = subst (λ (x : Option ℕ). HasFetched receiver actors who x (made_by v) (rows_from v.seen)) (sym is) (asked_in w v k found number t fetch)
 
+  -- a delivery that may be posted is of what was fetched
   pub asked_event : (fetched : Option ℕ) (event : Event O) (made seen : List (Row M O)) → MayPost fetched event → HasFetched receiver actors who fetched made seen → HasFetched receiver actors who (delivered event) made seen
   asked_event fetched (Deliver number) made seen may h = subst (λ f. HasFetched receiver actors who f made seen) may h
   asked_event fetched Tick made seen may h = tt
@@ -117,5 +121,6 @@ module _ {M O : Type 0} (receiver : M → ℕ) (actors who : ℕ) where
   addressed_so fetched (Drop number) made seen ne may h = absurd may
   addressed_so fetched (Again number) made seen ne may h = absurd may
 
+  -- so it may stand behind what was seen
   pub asked_addressed : (fetched : Option ℕ) (event : Event O) (made seen : List (Row M O)) → who ≢ 0 → MayPost fetched event → ∥ HasFetched receiver actors who fetched made seen ∥₁ → is_addressed receiver (mails seen) who event ≡ true
   asked_addressed fetched event made seen ne may h = ∥∥₁_elim h (hlevel props) (addressed_so fetched event made seen ne may)

@@ -4,6 +4,7 @@ use Rattle.std.proofs.lemmas.List.{map-append, length-map, append-nil}
 use Rattle.sc_turn.specs.declared.rule.View.{View}
 use Rattle.sc_turn.specs.Turn.{StartsWith, rows_by, joined_with, with_seen, entered, IsTrueOf, IsTrueOver}
 use Rattle.sc_turn.specs.Seats.{known, OfOneStart}
+use Rattle.sc_turn.proofs.Lists.{starts_trans}
 use Rattle.sc_actor.specs.declared.rows.Row.{Row}
 use Rattle.sc_actor.specs.declared.actors.Parcel.{Ghosts}
 use Rattle.sc_actor.specs.Counted.{row_bytes, journal_bytes}
@@ -15,10 +16,11 @@ use Rattle.sc_exchange.specs.declared.ports.Port.{Port}
 use Rattle.sc_exchange.specs.Deeds.{deeds, row_by, rows_from, rows_of}
 use Rattle.sc_exchange.specs.Turns.{Turned, RowTurned, Changed, may_change, change}
 use Rattle.sc_exchange.specs.Ports.{seen, made, joined, Stays, Looked, Appended, ChangedBy, MayNotChange, IsTrue}
-use Rattle.sc_exchange.proofs.Done.{rows_of_deeds, rows_of_from, begins_rows}
+use Rattle.sc_exchange.proofs.Done.{rows_of_deeds, rows_of_from, rows_of-append, begins_rows}
 use Rattle.sc_exchange.proofs.Views.{deed, row_back, seen_row, own_same, own_row, others_same, others_row}
 
 module _ {M O : Type 0} {g : Ghosts M} where
+  -- a turn without a row
   pub looked_after : (p q : Port M O g) → OfOneStart p.seat q.seat → q.who ≡ p.who → q.actors ≡ p.actors → q.limit ≡ p.limit → Turned (known p.seat) (known q.seat) → Looked p q
   looked_after p q start who actors limit t = let v = t.view_is in record {
     stays = record { exchange = (start, actors, limit); who = who; given = ap (λ (x : View (Deed M O)). x.given) v; joined = ap (λ (x : View (Deed M O)). map (λ k. (k.0, map (row_by k.0) k.1)) x.joined) v };
@@ -26,9 +28,11 @@ module _ {M O : Type 0} {g : Ghosts M} where
     made = λ i. map (row_by (who i)) (v i).made;
   }
 
+  -- a turn with a row or without
   pub stays_after : (p q : Port M O g) → OfOneStart p.seat q.seat → q.who ≡ p.who → q.actors ≡ p.actors → q.limit ≡ p.limit → ((known q.seat).given ≡ (known p.seat).given) × ((known q.seat).joined ≡ (known p.seat).joined) → Stays p q
   stays_after p q start who actors limit k = record { exchange = (start, actors, limit); who = who; given = k.0; joined = ap (map (λ (x : ℕ × List (Deed M O)). (x.0, map (row_by x.0) x.1))) k.1 }
 
+  -- a meeting
   pub looked_met : (p q : Port M O g) → OfOneStart p.seat q.seat → q.who ≡ p.who → q.actors ≡ p.actors → q.limit ≡ p.limit → known q.seat ≡ with_seen (known p.seat) (known q.seat).seen → StartsWith (known q.seat).seen (known p.seat).seen → Looked p q
   looked_met p q start who actors limit v later = record {
     stays = record { exchange = (start, actors, limit); who = who; given = ap (λ (x : View (Deed M O)). x.given) v; joined = ap (λ (x : View (Deed M O)). map (λ k. (k.0, map (row_by k.0) k.1)) x.joined) v };
@@ -36,6 +40,7 @@ module _ {M O : Type 0} {g : Ghosts M} where
     made = λ i. map (row_by (who i)) (v i).made;
   }
 
+  -- a turn with a row
   abbrev pub appended_after : (p q : Port M O g) (row : Row M O) → OfOneStart p.seat q.seat → q.who ≡ p.who → q.actors ≡ p.actors → q.limit ≡ p.limit → row.who ≡ p.who → RowTurned (known p.seat) (known q.seat) row → Appended p q row
   appended_after p q row start who actors limit mine t = let v = t.view_is in record {
     stays = record { exchange = (start, actors, limit); who = who; given = ap (λ (x : View (Deed M O)). x.given) v; joined = ap (λ (x : View (Deed M O)). map (λ k. (k.0, map (row_by k.0) k.1)) x.joined) v };
@@ -45,18 +50,22 @@ module _ {M O : Type 0} {g : Ghosts M} where
     made = (λ i. map (row_by (who i)) (v i).made) ∙ (map-append (row_by p.who) (known p.seat).made (deed row ∷ []) ∙ ap (λ r. made p ++ r ∷ []) (row_back row p.who mine));
   }
 
+  -- a port that has seen just what it made, as its seat knows it
   pub is_true : (q : Port M O g) → rows_by (known q.seat).who (known q.seat).seen ≡ (known q.seat).made → ((known q.seat).who ≡ 0 → (n : ℕ) → n ≢ 0 → ¬ Contains (known q.seat).given n → rows_by n (known q.seat).seen ≡ []) → IsTrue q
   is_true q own others = record {
     own = rows_of_from q.who (known q.seat).seen ∙ ap (map (row_by q.who)) (ap (λ n. rows_by n (known q.seat).seen) (sym q.number) ∙ own);
     others = λ z n ne away. rows_of_from n (known q.seat).seen ∙ ap (map (row_by n)) (others (q.number ∙ z) n ne away);
   }
 
+  -- after a turn without a row
   pub true_after : (p q : Port M O g) → Turned (known p.seat) (known q.seat) → IsTrue q
   true_after p q t = is_true q (own_same (known p.seat) (known q.seat) t) (others_same (known p.seat) (known q.seat) t)
 
+  -- after a turn with one
   pub true_row : (p q : Port M O g) (row : Row M O) → RowTurned (known p.seat) (known q.seat) row → IsTrue q
   true_row p q row t = is_true q (own_row (known p.seat) (known q.seat) row t) (others_row (known p.seat) (known q.seat) row t)
 
+  -- after a meeting
   pub true_met : (q : Port M O g) → IsTrueOf (known q.seat) (known q.seat).seen → IsTrue q
   true_met q t = is_true q t.own t.others
 
@@ -98,9 +107,11 @@ module _ {M O : Type 0} (journal : List (Row M O)) (v : View (Deed M O)) (facts 
   rows_are : (n : ℕ) → rows_of n journal ≡ map (row_by n) (rows_by n (deeds journal))
   rows_are n = ap (rows_of n) (sym (rows_of_deeds journal)) ∙ rows_of_from n (deeds journal)
 
+  -- the network has made its rows
   pub end_own : rows_of 0 journal ≡ map (row_by 0) v.made
   end_own = rows_are 0 ∙ ap (map (row_by 0)) (ap (λ n. rows_by n (deeds journal)) (sym first) ∙ facts.own)
 
+  -- no other actor has a row than those that were split off
   pub end_others : (n : ℕ) → n ≢ 0 → ¬ Contains v.given n → rows_of n journal ≡ []
   end_others n ne away = rows_are n ∙ ap (map (row_by n)) (facts.others first n ne away)
 
@@ -110,22 +121,19 @@ module _ {M O : Type 0} (journal : List (Row M O)) (v : View (Deed M O)) (facts 
   each_map (x ∷ xs) h zero k lt e = subst (λ (y : ℕ × List (Row M O)). rows_of y.0 journal ≡ y.1) e (h x (0, omega arith, refl))
   each_map (x ∷ xs) h (suc i) k lt e = each_map xs (λ y c. h y (suc c.0, omega (arith, c.1), c.2)) i k (omega arith) e
 
+  -- each port that was joined has made the rows of its number
   pub end_each : (k : ℕ × List (Row M O)) → Contains (map (λ (x : ℕ × List (Deed M O)). (x.0, map (row_by x.0) x.1)) v.joined) k → rows_of k.0 journal ≡ k.1
   end_each k c =
       let f : ℕ × List (Deed M O) → ℕ × List (Row M O) = λ x. (x.0, map (row_by x.0) x.1) in
       each_map v.joined (λ y there. rows_are y.0 ∙ ap (map (row_by y.0)) (facts.joined first y there)) c.0 k (omega (arith, c.1, length-map v.joined f)) c.2
 
+-- the numbers of the ports that were joined, with rows or with deeds
 pub numbers_same : {M O : Type 0} → (xs : List (ℕ × List (Deed M O))) → map (λ (k : ℕ × List (Row M O)). k.0) (map (λ (x : ℕ × List (Deed M O)). (x.0, map (row_by x.0) x.1)) xs) ≡ map (λ (k : ℕ × List (Deed M O)). k.0) xs
 numbers_same [] = refl
 numbers_same (x ∷ xs) = ap (λ l. x.0 ∷ l) (numbers_same xs)
 
 -- a port that vouches for what another has seen
 module _ {M O : Type 0} where
-  rows_of-append : (n : ℕ) (xs ys : List (Row M O)) → rows_of n (xs ++ ys) ≡ rows_of n xs ++ rows_of n ys
-  rows_of-append n [] ys = refl
-  rows_of-append n (x ∷ xs) ys = let e = rows_of-append n xs ys in
-      elim (eqb x.who n) as (λ b. cond b (x ∷ rows_of n (xs ++ ys)) (rows_of n (xs ++ ys)) ≡ cond b (x ∷ rows_of n xs) (rows_of n xs) ++ rows_of n ys) [ true ↦ ap (λ l. x ∷ l) e | false ↦ e ]
-
   nothing_more : (xs ys zs : List (Row M O)) → xs ++ ys ≡ zs → length zs ≤ length xs → xs ≡ zs
   nothing_more xs [] zs e le = sym (append-nil xs) ∙ e
   nothing_more xs (y ∷ ys) zs e le = absurd (omega (arith, le, ap length e, length-append xs (y ∷ ys)))
@@ -137,21 +145,37 @@ module _ {M O : Type 0} where
       (omega (arith, own, ap (λ l. length (rows_of n l)) p.1, ap length (rows_of-append n low p.0), length-append (rows_of n low) (rows_of n p.0)))
 
 module _ {M O : Type 0} {g : Ghosts M} where
-  own_count : (p : Port M O g) → length (rows_of p.who (seen p)) ≡ length (made p)
-  own_count p =
+  -- a port has seen as many rows of its own as it made
+  pub own_length : (p : Port M O g) → length (rows_of p.who (seen p)) ≡ length (made p)
+  own_length p =
       ap length (rows_of_from p.who (known p.seat).seen)
       ∙ (length-map (rows_by p.who (known p.seat).seen) (row_by p.who) ∙ (p.own ∙ sym (length-map (known p.seat).made (row_by p.who))))
 
+  -- the rows of a port's number in what another has seen are those that it made
   pub vouched : (p : Port M O g) (v : View (Deed M O)) (other before : List (Deed M O × ℕ)) → v ≡ known p.seat → other ≡ before → IsTrueOver v other → StartsWith (rows_from before) (seen p) → rows_of p.who (rows_from other) ≡ map (row_by p.who) v.made
   vouched p v other before same is t later =
       let mine : v.who ≡ p.who = ap (λ (x : View (Deed M O)). x.who) same ∙ p.number in
-      let count : length (rows_of p.who (seen p)) ≡ length (map (row_by p.who) v.made) = own_count p ∙ ap (λ (x : View (Deed M O)). length (map (row_by p.who) x.made)) (sym same) in
+      let count : length (rows_of p.who (seen p)) ≡ length (map (row_by p.who) v.made) = own_length p ∙ ap (λ (x : View (Deed M O)). length (map (row_by p.who) x.made)) (sym same) in
       between p.who (seen p) (rows_from other) (rows_from t.list) (map (row_by p.who) v.made) (subst (λ l. StartsWith (rows_from l) (seen p)) (sym is) later) (begins_rows t.list other t.over)
       (rows_of_from p.who t.list ∙ ap (map (row_by p.who)) (ap (λ n. rows_by n t.list) (sym mine) ∙ t.facts.own)) count
 
+  -- a port that has seen nothing more
   pub looked_seen : (p q : Port M O g) → OfOneStart p.seat q.seat → q.who ≡ p.who → q.actors ≡ p.actors → q.limit ≡ p.limit → known q.seat ≡ known p.seat → Looked p q
   looked_seen p q start who actors limit v = record {
     stays = record { exchange = (start, actors, limit); who = who; given = ap (λ (x : View (Deed M O)). x.given) v; joined = ap (λ (x : View (Deed M O)). map (λ k. (k.0, map (row_by k.0) k.1)) x.joined) v };
     later = ([], ap (λ (x : View (Deed M O)). rows_from x.seen) v ∙ sym (append-nil (seen p)));
     made = λ i. map (row_by (who i)) (v i).made;
   }
+
+  -- a port that stays the same twice
+  pub stays_trans : (p q r : Port M O g) → Stays p q → Stays q r → Stays p r
+  stays_trans p q r a b = record {
+    exchange = (b.exchange.0 ∙ a.exchange.0, b.exchange.1 ∙ a.exchange.1, b.exchange.2 ∙ a.exchange.2);
+    who = b.who ∙ a.who;
+    given = b.given ∙ a.given;
+    joined = b.joined ∙ a.joined;
+  }
+
+  -- a port that looked twice
+  pub looked_trans : (p q r : Port M O g) → Looked p q → Looked q r → Looked p r
+  looked_trans p q r a b = record { stays = stays_trans p q r a.stays b.stays; later = starts_trans (seen r) (seen q) (seen p) b.later a.later; made = b.made ∙ a.made }

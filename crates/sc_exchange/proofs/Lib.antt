@@ -5,3 +5,4 @@ pub mod Knowing
 pub mod Fetching
 pub mod Addressing
 pub mod Halting
+pub mod Seats

@@ -2,18 +2,17 @@
 use Rattle.std.proofs.Common.{Result, Ok, Err, IfOk, IfErr, OnOk}
 
 module _ {T E : Type 0} where
+  -- of a value, with a fact beside it
   pub ok_with : {P Q : T → Type 0} {F : Type 0} (r : Result T E) → ((t : T) → P t → F → Q t) → IfOk r P → OnOk r F → IfOk r Q
   ok_with (Ok t) f p q = f t p q
   ok_with (Err e) f p q = tt
 
-  pub err_with : {P Q : E → Type 0} (r : Result T E) → ((e : E) → P e → Q e) → IfErr r P → IfErr r Q
-  err_with (Ok t) f p = tt
-  err_with (Err e) f p = f e p
-
+  -- of a value
   pub ok_maps : {P Q : T → Type 0} (r : Result T E) → ((t : T) → P t → Q t) → IfOk r P → IfOk r Q
   ok_maps (Ok t) f p = f t p
   ok_maps (Err e) f p = tt
 
+  -- of an error
   pub err_maps : {P Q : E → Type 0} (r : Result T E) → ((e : E) → P e → Q e) → IfErr r P → IfErr r Q
   err_maps (Ok t) f p = tt
   err_maps (Err e) f p = f e p

@@ -2,7 +2,7 @@
 use Rattle.std.specs.Prelude.{ℕ, ◌==◌, List, [], ◌∷◌, ◌++◌, Bool, true, false, ◌&&◌, Option, None, Some}
 use Rattle.sc_actor.specs.declared.rows.Row.{Row}
 use Rattle.sc_actor.specs.declared.rows.Event.{Event}
-use Rattle.sc_actor.specs.declared.rows.Event.TheVariants.{Deliver, Drop, Again}
+use Rattle.sc_actor.specs.declared.rows.Event.TheVariants.{Deliver, Drop, Again, Tick, Go, Told, Crash}
 use Rattle.sc_actor.specs.Mail.{numbered}
 
 -- whether a mail was found, and is for this actor
@@ -15,7 +15,10 @@ abbrev pub is_addressed : {M O : Type 0} → (M → ℕ) → List M → ℕ → 
 is_addressed receiver sent who (Deliver number) = is_mail_to receiver who (numbered sent number)
 is_addressed receiver sent who (Drop number) = who == 0
 is_addressed receiver sent who (Again number) = who == 0
-is_addressed receiver sent who _ = true
+is_addressed receiver sent who Tick = true
+is_addressed receiver sent who Go = true
+is_addressed receiver sent who (Told order) = true
+is_addressed receiver sent who Crash = true
 
 -- whether each row may stand where it does, where these mails were sent before the first
 abbrev pub all_addressed : {M O : Type 0} → (M → ℕ) → List M → List (Row M O) → Bool

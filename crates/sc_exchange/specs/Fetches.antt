@@ -3,7 +3,7 @@ use Rattle.std.specs.Prelude.{◌≡◌, ◌≢◌, ℕ, List, Option, None, Som
 use Rattle.sc_turn.specs.Turn.{StartsWith as Begins}
 use Rattle.sc_actor.specs.declared.rows.Row.{Row}
 use Rattle.sc_actor.specs.declared.rows.Event.{Event}
-use Rattle.sc_actor.specs.declared.rows.Event.TheVariants.{Deliver}
+use Rattle.sc_actor.specs.declared.rows.Event.TheVariants.{Deliver, Drop, Again, Tick, Go, Told, Crash}
 use Rattle.sc_ledger.specs.Pending.{kth_pending}
 use Rattle.sc_exchange.specs.Deeds.{rows_of}
 
@@ -24,4 +24,9 @@ module _ {M O : Type 0} where
 -- the mail that an event delivers, if it is a delivery
 abbrev pub delivered : {O : Type 0} → Event O → Option ℕ
 delivered (Deliver number) = Some number
-delivered _ = None
+delivered (Drop number) = None
+delivered (Again number) = None
+delivered Tick = None
+delivered Go = None
+delivered (Told order) = None
+delivered Crash = None

@@ -4,7 +4,7 @@ use Rattle.sc_turn.specs.Turn.{longer, StartsWith as Begins}
 use Rattle.sc_turn.specs.Seats.{known, OfOneStart}
 use Rattle.sc_actor.specs.declared.rows.Row.{Row}
 use Rattle.sc_actor.specs.declared.rows.Event.{Event}
-use Rattle.sc_actor.specs.declared.rows.Event.TheVariants.{Deliver, Drop, Again}
+use Rattle.sc_actor.specs.declared.rows.Event.TheVariants.{Deliver, Drop, Again, Tick, Go, Told, Crash}
 use Rattle.sc_actor.specs.declared.actors.Parcel.{Ghosts}
 use Rattle.sc_actor.specs.Mail.{is_crash}
 use Rattle.sc_actor.specs.Counted.{row_bytes, journal_bytes}
@@ -21,7 +21,10 @@ abbrev pub MayPost : {O : Type 0} → Option ℕ → Event O → Type 0
 MayPost fetched (Deliver number) = fetched ≡ Some number
 MayPost fetched (Drop number) = ⊥
 MayPost fetched (Again number) = ⊥
-MayPost fetched _ = ⊤
+MayPost fetched Tick = ⊤
+MayPost fetched Go = ⊤
+MayPost fetched (Told order) = ⊤
+MayPost fetched Crash = ⊤
 
 -- no actor has a row among these but those with these numbers
 abbrev pub HasNoOthers : {M O : Type 0} → List ℕ → List (Row M O) → Type 0

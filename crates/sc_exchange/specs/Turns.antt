@@ -1,15 +1,20 @@
 -- What a turn makes of a seat's knowledge.
-use Rattle.std.specs.Prelude.{◌≡◌, ℕ, List, [], Bool, true, false}
+use Rattle.std.specs.Prelude.{◌≡◌, ℕ, List, [], length, Bool, true, false}
 use Rattle.sc_turn.specs.declared.rule.View.{View}
-use Rattle.sc_turn.specs.Turn.{StartsWith, IsTrueOf, entered, with_turn, with_row}
+use Rattle.sc_turn.specs.declared.seat.TurnSeat.{TurnSeat}
+use Rattle.sc_turn.specs.Seats.{known, OfOneStart}
+use Rattle.sc_turn.specs.Turn.{StartsWith, IsTrueOf, entered, with_turn, with_row, rows_by}
+use Rattle.sc_actor.specs.declared.actors.Parcel.{Ghosts}
 use Rattle.sc_actor.specs.declared.rows.Row.{Row}
 use Rattle.sc_actor.specs.declared.rows.Event.{Event}
 use Rattle.sc_actor.specs.declared.rows.Event.TheVariants.{Drop, Again}
 use Rattle.sc_ledger.specs.Pending.{is_pending, may_repeat}
 use Rattle.sc_exchange.specs.declared.deeds.Deed.{Deed}
+use Rattle.sc_exchange.specs.declared.deeds.Exchange.{Exchange}
 use Rattle.sc_exchange.specs.declared.fates.Fate.{Fate}
 use Rattle.sc_exchange.specs.declared.fates.Fate.TheVariants.{Lost, Repeated}
-use Rattle.sc_exchange.specs.Deeds.{deeds}
+use Rattle.sc_exchange.specs.Addressed.{all_addressed}
+use Rattle.sc_exchange.specs.Deeds.{deeds, rows_from}
 
 -- the event of the network at a mail
 abbrev pub change_event : {O : Type 0} → Fate → ℕ → Event O
@@ -44,3 +49,30 @@ module _ {M O : Type 0} where
   pub record Changed (receiver : M → ℕ) (actors : ℕ) (fate : Fate) (number : ℕ) (w v : View (Deed M O)) : Type 0 where
     pub turned : RowTurned w v (change fate number)
     pub may : may_change fate receiver actors turned.rows number ≡ true
+
+module _ {M O : Type 0} {g : Ghosts M} where
+  -- the rows of the journal
+  abbrev pub rows_in : Exchange M O g → List (Row M O)
+  rows_in exchange = exchange.ledger.value.rows.items
+
+  -- A seat has had a turn, and has made nothing.
+  pub record SeatLooked (s t : TurnSeat (Exchange M O g) (Deed M O)) : Type 0 where
+    -- it is of the same start
+    pub start : OfOneStart s t
+    -- each row that it has seen may stand where it does
+    pub addressed : all_addressed g.receiver [] (rows_from (known t).seen) ≡ true
+    -- the turn was left with the rows that were found
+    pub turned : Turned (known s) (known t)
+
+  -- A seat has had a turn, with a row or without one.
+  pub record SeatTurned (s t : TurnSeat (Exchange M O g) (Deed M O)) : Type 0 where
+    -- it is of the same start
+    pub start : OfOneStart s t
+    -- each row that it has seen may stand where it does
+    pub addressed : all_addressed g.receiver [] (rows_from (known t).seen) ≡ true
+    -- it has seen as many rows of its number as it made
+    pub own : length (rows_by (known s).who (known t).seen) ≡ length (known t).made
+    -- it has split off no seat
+    pub given : (known t).given ≡ (known s).given
+    -- it has joined none
+    pub joined : (known t).joined ≡ (known s).joined

@@ -38,6 +38,7 @@ impl<M: Parcel + Drop, O: Drop> Listed for Exchange<M, O> {
 }
 
 impl<M: Parcel + Drop, O: Drop> Exchange<M, O> {
+    /// An exchange of so many actors, whose journal is empty.
     pub(crate) fn new(alloc: Global, actors: u32) -> Result<Exchange<M, O>, OutOfMemory>
         ensures { IfOk result (λ e. e.ledger.value.rows.items ≡ []) }
     {

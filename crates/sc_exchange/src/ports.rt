@@ -41,7 +41,8 @@ pub struct Port<M: Parcel + Drop, O: Drop> {
     ghost halted: { crashed ≡ list_any (λ d. is_crash d.event) (known seat).made },
     ghost small: { limit ≤ 2 ^ 30 },
     ghost own: { length (rows_by who (known seat).seen) ≡ length (known seat).made },
-    ghost asked: { ∥ HasFetched M.receiver actors who fetched (map (row_by who) (known seat).made) (rows_from (known seat).seen) ∥₁ },
+    ghost asked: { ∥ HasFetched M.receiver actors who fetched (map (row_by who) (known seat).made)
+        (rows_from (known seat).seen) ∥₁ },
 }
 
 impl<M: Parcel + Drop, O: Drop> Port<M, O> {
@@ -92,7 +93,8 @@ impl<M: Parcel + Drop, O: Drop> Port<M, O> {
     pub fn fetch<R: Wait>(&mut self, rt: &R, k: u32) -> Result<Fetched<M>, OutOfMemory>
         requires { 0 < k }
         ensures looked { HasLooked self.old self.new (number_in result) }
-        ensures found { IfOk result (λ found. IsFetch M.receiver self.old.actors (seen self.new) self.old.who k found) }
+        ensures found { IfOk result
+            (λ found. IsFetch M.receiver self.old.actors (seen self.new) self.old.who k found) }
     {
         self.fetched = None;
         let found = fetch_at(rt, self.alloc, &mut self.seat, self.actors, self.who, k);
@@ -114,9 +116,16 @@ impl<M: Parcel + Drop, O: Drop> Port<M, O> {
         requires event { MayPost self.old.fetched event }
         requires runs { self.old.crashed ≡ false }
         ensures turned { HasTurned self.old self.new }
-        ensures delivered { ∥ HasFetched M.receiver self.old.actors self.old.who (delivered event) (made self.old) (seen self.old) ∥₁ }
-        ensures ok { IfOk result (λ at. HasPosted self.old self.new (record { who = self.old.who; event = event; sent = sent }) at) }
-        ensures refused { IfErr result (λ e. IsRefused self.old self.new (record { who = self.old.who; event = event; sent = sent }) e) }
+        ensures delivered { ∥ HasFetched M.receiver self.old.actors self.old.who (delivered event)
+            (made self.old) (seen self.old) ∥₁ }
+        ensures ok { IfOk result
+            (λ at.
+            HasPosted self.old self.new (record { who = self.old.who; event = event; sent = sent })
+            at) }
+        ensures refused { IfErr result
+            (λ e.
+            IsRefused self.old self.new (record { who = self.old.who; event = event; sent = sent })
+            e) }
     {
         let crashes = is_crash(&event);
         let row = Row {
@@ -190,7 +199,8 @@ impl<M: Parcel + Drop, O: Drop> Port<M, O> {
     /// To whom the mail with this number goes. None exactly where at this turn it was not sent.
     pub fn receiver<R: Wait>(&mut self, rt: &R, number: u32) -> Option<u32>
         ensures looked { HasLooked self.old self.new self.old.fetched }
-        ensures receiver { result ≡ option_map M.receiver (numbered (mails (seen self.new)) number) }
+        ensures receiver { result
+            ≡ option_map M.receiver (numbered (mails (seen self.new)) number) }
     {
         receiver_at(rt, &mut self.seat, number)
     }
@@ -198,7 +208,11 @@ impl<M: Parcel + Drop, O: Drop> Port<M, O> {
     /// For each of these actors, whether mail is pending for it, all at this one turn.
     pub fn waiting<R: Wait>(&mut self, rt: &R, whos: &[u32]) -> Result<Vec<bool>, OutOfMemory>
         ensures looked { HasLooked self.old self.new self.old.fetched }
-        ensures waiting { IfOk result (λ waits. waits.items ≡ map (λ who. is_some (kth_pending M.receiver self.new.actors (seen self.new) who 1)) whos.now) }
+        ensures waiting { IfOk result
+            (λ waits.
+            waits.items
+            ≡ map (λ who. is_some (kth_pending M.receiver self.new.actors (seen self.new) who 1))
+            whos.now) }
     {
         waiting_at(rt, self.alloc, &mut self.seat, self.actors, whos)
     }
@@ -208,7 +222,8 @@ impl<M: Parcel + Drop, O: Drop> Port<M, O> {
     pub fn look<R: Wait>(&mut self, rt: &R) -> Result<Look, OutOfMemory>
         requires net { self.old.who ≡ 0 }
         ensures looked { HasLooked self.old self.new self.old.fetched }
-        ensures look { IfOk result (λ look. IsLook M.receiver self.old.actors (seen self.new) look) }
+        ensures look { IfOk result
+            (λ look. IsLook M.receiver self.old.actors (seen self.new) look) }
     {
         look_at(rt, self.alloc, &mut self.seat, self.actors)
     }
@@ -296,7 +311,9 @@ fn number_in<M>(found: &Result<Fetched<M>, OutOfMemory>) -> Option<u32>
 }
 
 fn unposted<M: Drop, O: Drop>(unkept: Unkept<M, O>) -> Unposted<M, O>
-    ensures { (result.why ≡ unkept.why) × (result.event ≡ unkept.row.event) × (result.sent ≡ unkept.row.sent) }
+    ensures { (result.why ≡ unkept.why)
+        × (result.event ≡ unkept.row.event)
+        × (result.sent ≡ unkept.row.sent) }
 {
     let Unkept { why, row } = unkept;
     let Row {

@@ -1,7 +1,7 @@
 //! What is done at one turn.
 ghost use Rattle.std.specs.Prelude.{◌≡◌, ◌<◌, ◌≤◌, ◌+◌, ◌^◌, ◌++◌, ◌∷◌, [], true, false, length, map, IfOk, IfErr, OnOk, OnErr, MatchBool, is_some, Some, IsSome};
 ghost use Rattle.sc_turn.specs.Seats.{known, OfOneStart};
-ghost use Rattle.sc_turn.specs.Turn.{with_turn, with_row, rows_by};
+ghost use Rattle.sc_turn.specs.Turn.{with_turn, with_row};
 ghost use Rattle.sc_actor.specs.Counted.{row_bytes, journal_bytes};
 ghost use Rattle.sc_ledger.specs.Fault.{IsCause};
 ghost use Rattle.sc_ledger.specs.Pending.{kth_pending};
@@ -10,8 +10,8 @@ ghost use Rattle.sc_exchange.specs.Deeds.{deeds, rows_from};
 ghost use Rattle.sc_exchange.specs.Answers.{IsFetch, IsLook};
 ghost use Rattle.std.specs.Option.{option_map};
 ghost use Rattle.sc_actor.specs.Mail.{mails, numbered};
-ghost use Rattle.sc_exchange.specs.Addressed.{is_addressed, all_addressed};
-ghost use Rattle.sc_exchange.specs.Turns.{Turned, RowTurned, Changed, may_change, change};
+ghost use Rattle.sc_exchange.specs.Addressed.{is_addressed};
+ghost use Rattle.sc_exchange.specs.Turns.{Turned, RowTurned, Changed, may_change, change, SeatLooked, SeatTurned, rows_in};
 
 use crate::answers::Fetched;
 use crate::deeds::Exchange;
@@ -29,7 +29,7 @@ fn keep_same<M: Parcel + Drop, O: Drop>(
     exchange: Exchange<M, O>,
 )
     requires turn { (known seat.old).turn ≡ true }
-    requires list { deeds exchange.ledger.value.rows.items ≡ (known seat.old).seen }
+    requires list { deeds (rows_in exchange) ≡ (known seat.old).seen }
     ensures start { OfOneStart seat.old seat.new }
     ensures view { known seat.new ≡ with_turn (known seat.old) false }
 {
@@ -42,9 +42,14 @@ fn keep_row<M: Parcel + Drop, O: Drop>(
     exchange: Exchange<M, O>,
 )
     requires turn { (known seat.old).turn ≡ true }
-    requires list { (deed : Deed M O) × (deeds exchange.ledger.value.rows.items ≡ (known seat.old).seen ++ (deed, (known seat.old).who) ∷ []) }
+    requires list { (deed : Deed M O)
+        × (deeds (rows_in exchange)
+        ≡ (known seat.old).seen ++ (deed, (known seat.old).who) ∷ []) }
     ensures start { OfOneStart seat.old seat.new }
-    ensures view { (deed : Deed M O) → deeds exchange.ledger.value.rows.items ≡ (known seat.old).seen ++ (deed, (known seat.old).who) ∷ [] → known seat.new ≡ with_turn (with_row (known seat.old) deed) false }
+    ensures view { (deed : Deed M O) →
+        deeds (rows_in exchange)
+        ≡ (known seat.old).seen ++ (deed, (known seat.old).who) ∷ [] →
+        known seat.new ≡ with_turn (with_row (known seat.old) deed) false }
 {
     seat.leave(exchange);
 }
@@ -59,9 +64,7 @@ pub(crate) fn kth_at<M: Parcel + Drop, O: Drop, R: Wait>(
 ) -> Option<u32>
     requires turn { (known seat.old).turn ≡ false }
     requires first { 0 < k }
-    ensures start { OfOneStart seat.old seat.new }
-    ensures addressed { all_addressed M.receiver [] (rows_from (known seat.new).seen) ≡ true }
-    ensures turned { Turned (known seat.old) (known seat.new) }
+    ensures looked { SeatLooked seat.old seat.new }
     ensures kth { result ≡ kth_pending M.receiver actors (rows_from (known seat.new).seen) who k }
 {
     let exchange = seat.enter(rt);
@@ -77,10 +80,9 @@ pub(crate) fn receiver_at<M: Parcel + Drop, O: Drop, R: Wait>(
     number: u32,
 ) -> Option<u32>
     requires turn { (known seat.old).turn ≡ false }
-    ensures start { OfOneStart seat.old seat.new }
-    ensures addressed { all_addressed M.receiver [] (rows_from (known seat.new).seen) ≡ true }
-    ensures turned { Turned (known seat.old) (known seat.new) }
-    ensures receiver { result ≡ option_map M.receiver (numbered (mails (rows_from (known seat.new).seen)) number) }
+    ensures looked { SeatLooked seat.old seat.new }
+    ensures receiver { result
+        ≡ option_map M.receiver (numbered (mails (rows_from (known seat.new).seen)) number) }
 {
     let exchange = seat.enter(rt);
     let found = exchange.ledger.receiver(number);
@@ -97,10 +99,13 @@ pub(crate) fn waiting_at<M: Parcel + Drop, O: Drop, R: Wait>(
     whos: &[u32],
 ) -> Result<Vec<bool>, OutOfMemory>
     requires turn { (known seat.old).turn ≡ false }
-    ensures start { OfOneStart seat.old seat.new }
-    ensures addressed { all_addressed M.receiver [] (rows_from (known seat.new).seen) ≡ true }
-    ensures turned { Turned (known seat.old) (known seat.new) }
-    ensures waiting { IfOk result (λ waits. waits.items ≡ map (λ who. is_some (kth_pending M.receiver actors (rows_from (known seat.new).seen) who 1)) whos.now) }
+    ensures looked { SeatLooked seat.old seat.new }
+    ensures waiting { IfOk result
+        (λ waits.
+        waits.items
+        ≡ map
+        (λ who. is_some (kth_pending M.receiver actors (rows_from (known seat.new).seen) who 1))
+        whos.now) }
 {
     let exchange = seat.enter(rt);
     let waits = waiting_in(&exchange.ledger, alloc, actors, whos);
@@ -114,7 +119,11 @@ fn waiting_in<M: Parcel + Drop, O: Drop>(
     actors: u32,
     whos: &[u32],
 ) -> Result<Vec<bool>, OutOfMemory>
-    ensures { IfOk result (λ waits. waits.items ≡ map (λ who. is_some (kth_pending M.receiver actors ledger.now.rows.items who 1)) whos.now) }
+    ensures { IfOk result
+        (λ waits.
+        waits.items
+        ≡ map (λ who. is_some (kth_pending M.receiver actors ledger.now.rows.items who 1))
+        whos.now) }
 {
     let mut waits = Vec::new(alloc);
     for who in whos {
@@ -155,10 +164,9 @@ pub(crate) fn fetch_at<M: Parcel + Drop, O: Drop, R: Wait>(
 ) -> Result<Fetched<M>, OutOfMemory>
     requires turn { (known seat.old).turn ≡ false }
     requires first { 0 < k }
-    ensures start { OfOneStart seat.old seat.new }
-    ensures addressed { all_addressed M.receiver [] (rows_from (known seat.new).seen) ≡ true }
-    ensures turned { Turned (known seat.old) (known seat.new) }
-    ensures found { IfOk result (λ found. IsFetch M.receiver actors (rows_from (known seat.new).seen) who k found) }
+    ensures looked { SeatLooked seat.old seat.new }
+    ensures found { IfOk result
+        (λ found. IsFetch M.receiver actors (rows_from (known seat.new).seen) who k found) }
 {
     let exchange = seat.enter(rt);
     let Some(number) = exchange.ledger.kth(actors, who, k) else {
@@ -179,10 +187,9 @@ pub(crate) fn look_at<M: Parcel + Drop, O: Drop, R: Wait>(
     actors: u32,
 ) -> Result<Look, OutOfMemory>
     requires turn { (known seat.old).turn ≡ false }
-    ensures start { OfOneStart seat.old seat.new }
-    ensures addressed { all_addressed M.receiver [] (rows_from (known seat.new).seen) ≡ true }
-    ensures turned { Turned (known seat.old) (known seat.new) }
-    ensures look { IfOk result (λ look. IsLook M.receiver actors (rows_from (known seat.new).seen) look) }
+    ensures looked { SeatLooked seat.old seat.new }
+    ensures look { IfOk result
+        (λ look. IsLook M.receiver actors (rows_from (known seat.new).seen) look) }
 {
     let exchange = seat.enter(rt);
     let look = look_in(&exchange.ledger, alloc, actors);
@@ -208,14 +215,24 @@ fn append_row<M: Parcel + Drop, O: Drop>(
     limit: u64,
 ) -> Result<u32, Unkept<M, O>>
     requires turn { (known seat.old).turn ≡ true }
-    requires list { deeds found.ledger.value.rows.items ≡ (known seat.old).seen }
+    requires list { deeds (rows_in found) ≡ (known seat.old).seen }
     requires maker { row.who ≡ (known seat.old).who }
-    requires addressed { is_addressed M.receiver (mails found.ledger.value.rows.items) row.who row.event ≡ true }
+    requires addressed { is_addressed M.receiver (mails (rows_in found)) row.who row.event ≡ true }
     requires limit { limit ≤ 2 ^ 30 }
     ensures start { OfOneStart seat.old seat.new }
-    ensures ok { IfOk result (λ place. (known seat.new ≡ with_turn (with_row (known seat.old) (record { event = row.event; sent = row.sent })) false) × (place ≡ length (found.ledger.value.rows.items ++ row ∷ []))) }
-    ensures fits { OnOk result (journal_bytes M.weighs found.ledger.value.rows.items + row_bytes M.weighs row ≤ limit) }
-    ensures refused { IfErr result (λ e. (known seat.new ≡ with_turn (known seat.old) false) × (e.row ≡ row) × IsCause e.why (journal_bytes M.weighs found.ledger.value.rows.items) (row_bytes M.weighs row) limit) }
+    ensures ok { IfOk result
+        (λ place.
+        (known seat.new
+        ≡ with_turn (with_row (known seat.old) (record { event = row.event; sent = row.sent }))
+        false)
+        × (place ≡ length (rows_in found ++ row ∷ []))) }
+    ensures fits { OnOk result
+        (journal_bytes M.weighs (rows_in found) + row_bytes M.weighs row ≤ limit) }
+    ensures refused { IfErr result
+        (λ e.
+        (known seat.new ≡ with_turn (known seat.old) false)
+        × (e.row ≡ row)
+        × IsCause e.why (journal_bytes M.weighs (rows_in found)) (row_bytes M.weighs row) limit) }
 {
     let mut exchange = found;
     match exchange.ledger.append(row, limit) {
@@ -240,14 +257,22 @@ pub(crate) fn post_at<M: Parcel + Drop, O: Drop, R: Wait>(
 ) -> Result<u32, Unkept<M, O>>
     requires turn { (known seat.old).turn ≡ false }
     requires maker { row.who ≡ (known seat.old).who }
-    requires addressed { is_addressed M.receiver (mails (rows_from (known seat.old).seen)) row.who row.event ≡ true }
+    requires addressed { is_addressed M.receiver (mails (rows_from (known seat.old).seen)) row.who
+        row.event
+        ≡ true }
     requires limit { limit ≤ 2 ^ 30 }
-    ensures start { OfOneStart seat.old seat.new }
-    ensures addressed { all_addressed M.receiver [] (rows_from (known seat.new).seen) ≡ true }
-    ensures own { length (rows_by (known seat.old).who (known seat.new).seen) ≡ length (known seat.new).made }
-    ensures kept { ((known seat.new).given ≡ (known seat.old).given) × ((known seat.new).joined ≡ (known seat.old).joined) }
-    ensures ok { IfOk result (λ place. RowTurned (known seat.old) (known seat.new) row × (place ≡ length (rows_from (known seat.new).seen)) × (journal_bytes M.weighs (rows_from (known seat.new).seen) ≤ limit)) }
-    ensures refused { IfErr result (λ e. Turned (known seat.old) (known seat.new) × (e.row ≡ row) × IsCause e.why (journal_bytes M.weighs (rows_from (known seat.new).seen)) (row_bytes M.weighs row) limit) }
+    ensures turned { SeatTurned seat.old seat.new }
+    ensures ok { IfOk result
+        (λ place.
+        RowTurned (known seat.old) (known seat.new) row
+        × (place ≡ length (rows_from (known seat.new).seen))
+        × (journal_bytes M.weighs (rows_from (known seat.new).seen) ≤ limit)) }
+    ensures refused { IfErr result
+        (λ e.
+        Turned (known seat.old) (known seat.new)
+        × (e.row ≡ row)
+        × IsCause e.why (journal_bytes M.weighs (rows_from (known seat.new).seen))
+        (row_bytes M.weighs row) limit) }
 {
     let exchange = seat.enter(rt);
     append_row(seat, exchange, row, limit)
@@ -295,13 +320,22 @@ pub(crate) fn change_at<M: Parcel + Drop, O: Drop, R: Wait>(
     requires turn { (known seat.old).turn ≡ false }
     requires net { (known seat.old).who ≡ 0 }
     requires limit { limit ≤ 2 ^ 30 }
-    ensures start { OfOneStart seat.old seat.new }
-    ensures addressed { all_addressed M.receiver [] (rows_from (known seat.new).seen) ≡ true }
-    ensures own { length (rows_by (known seat.old).who (known seat.new).seen) ≡ length (known seat.new).made }
-    ensures kept { ((known seat.new).given ≡ (known seat.old).given) × ((known seat.new).joined ≡ (known seat.old).joined) }
-    ensures ok { IfOk result (λ done. MatchBool done (Changed M.receiver actors fate number (known seat.old) (known seat.new) × (journal_bytes M.weighs (rows_from (known seat.new).seen) ≤ limit)) (Turned (known seat.old) (known seat.new) × (may_change fate M.receiver actors (rows_from (known seat.new).seen) number ≡ false))) }
-    ensures may { OnErr result (may_change fate M.receiver actors (rows_from (known seat.new).seen) number ≡ true) }
-    ensures refused { IfErr result (λ e. Turned (known seat.old) (known seat.new) × (e.row ≡ change fate number) × IsCause e.why (journal_bytes M.weighs (rows_from (known seat.new).seen)) (row_bytes M.weighs e.row) limit) }
+    ensures turned { SeatTurned seat.old seat.new }
+    ensures ok { IfOk result
+        (λ done.
+        MatchBool done
+        (Changed M.receiver actors fate number (known seat.old) (known seat.new)
+        × (journal_bytes M.weighs (rows_from (known seat.new).seen) ≤ limit))
+        (Turned (known seat.old) (known seat.new)
+        × (may_change fate M.receiver actors (rows_from (known seat.new).seen) number ≡ false))) }
+    ensures may { OnErr result
+        (may_change fate M.receiver actors (rows_from (known seat.new).seen) number ≡ true) }
+    ensures refused { IfErr result
+        (λ e.
+        Turned (known seat.old) (known seat.new)
+        × (e.row ≡ change fate number)
+        × IsCause e.why (journal_bytes M.weighs (rows_from (known seat.new).seen))
+        (row_bytes M.weighs e.row) limit) }
 {
     let exchange = seat.enter(rt);
     if !may_change_at(&exchange.ledger, actors, number, fate) {

@@ -113,6 +113,7 @@ module _ (test : ℕ → Bool) where
       insert_skip key n c count (test r && nat_lt 0 c) (open_entries test (suc n) rs cs) (ne_eqb key n (omega arith))
       ∙ ap (λ l. head (test r && nat_lt 0 c) n c ++ l) (replace_at key p (suc n) count rs cs (omega arith) (omega arith) (omega (arith, same)) ok some had)
 
+-- no more entries are lower than there are
 pub lower_most : (es : List (ℕ × ℕ)) (key : ℕ) → lower es key ≤ length es
 lower_most [] key = omega arith
 lower_most (e ∷ es) key = elim (nat_lt e.0 key) as (λ b. length (cond b (e ∷ filter (λ x. nat_lt x.0 key) es) (filter (λ x. nat_lt x.0 key) es)) ≤ length (e ∷ es)) [ true ↦ omega (arith, lower_most es key) | false ↦ omega (arith, lower_most es key) ]
@@ -184,11 +185,13 @@ module _ (test : ℕ → Bool) where
       copies_append (head (test r && nat_lt 0 c) n c) (open_entries test (suc n) rs cs)
       ∙ (λ i. expand_if (test r) c n i ++ expand (suc n) rs cs i)
 
+  -- where no receiver passes, nothing is pending
   pub open_none : ((r : ℕ) → test r ≡ false) → (n : ℕ) (rs cs : List ℕ) → open_entries test n rs cs ≡ []
   open_none fails n [] cs = refl
   open_none fails n (r ∷ rs) [] = refl
   open_none fails n (r ∷ rs) (c ∷ cs) = rw (fails r) (open_none fails (suc n) rs cs)
 
+-- two tests that agree find the same
 pub open_same : (test other : ℕ → Bool) → ((r : ℕ) → test r ≡ other r) → (n : ℕ) (rs cs : List ℕ) → open_entries test n rs cs ≡ open_entries other n rs cs
 open_same test other same n [] cs = refl
 open_same test other same n (r ∷ rs) [] = refl
@@ -196,6 +199,7 @@ open_same test other same n (r ∷ rs) (c ∷ cs) = λ i. head (same r i && nat_
 
 -- a list of which one element is changed, seen through a function
 module _ {A E : Type 0} (f : A → E) where
+  -- a map over a list of which one item was set
   pub map_set : (xs : List A) (i : ℕ) (x : A) → map f (set xs i x) ≡ set (map f xs) i (f x)
   map_set [] i x = refl
   map_set (y ∷ xs) zero x = refl
@@ -206,6 +210,7 @@ module _ {A E : Type 0} (f : A → E) where
   map_get (y ∷ xs) zero x d lt is = ap f is
   map_get (y ∷ xs) (suc i) x d lt is = map_get xs i x d (omega arith) is
 
+  -- an item changed in its place, as a list of what its items show
   pub changed_one : {R : Type 0} (r : Result (Unit {0}) R) (g : E → E) (xs : List A) (i : ℕ) (item new : A) (d : E) → i < length xs → item ≡ get_or xs i item → OnOk r (f new ≡ g (f item)) → OnOk r (map f (set xs i new) ≡ set (map f xs) i (g (get_or (map f xs) i d)))
   changed_one (Err e) g xs i item new d lt is p = tt
   changed_one (Ok u) g xs i item new d lt is p = map_set xs i new ∙ ap (set (map f xs) i) (p ∙ ap g (map_get xs i item d lt is))

@@ -2,7 +2,7 @@
 use Rattle.std.proofs.Common.{◌≡◌, ◌≢◌, ℕ, zero, suc, ◌+◌, ◌-◌, ◌<◌, ◌≤◌, eqb, nat_eq, List, [], ◌∷◌, ◌++◌, length, Bool, true, false, cond, ◌&&◌, ◌||◌, not, nat_lt, take, length-take-le, add-one, get_or, set, refl, sym, ap, ◌∙◌, subst, arith, ne_eqb, eq-eqb, get_or-set_other, get_or-set_same, None, Some, Option, true≢false, Result, Ok, Err, OnOk}
 use mathlib.Core.Logic.{dite}
 use native.Mathlib.Decide.{ℕ_discrete}
-use Rattle.std.proofs.lemmas.List.{set_past, length-set}
+use Rattle.std.proofs.lemmas.List.{length-set}
 use Rattle.std.proofs.lemmas.Bool.{ltb-true, and_parts, eqb-true, eqb-false}
 use Rattle.sc_actor.specs.Mail.{one_less, one_more}
 use Rattle.std.specs.Map.{lookup, remove_entry}
@@ -47,9 +47,6 @@ module _ (actors : ℕ) (crashed : List ℕ) where
       all = h.all ∙ sym (set_other (counts_for actors crashed 0) p 1 count rs cs (counts_not 0 (get_or rs p 0) e));
       each = λ k lt. h.each k lt ∙ sym (set_other (counts_for actors crashed (suc k)) p 1 count rs cs (counts_not (suc k) (get_or rs p 0) e));
     }
-
-    pub holds_past : (p count : ℕ) → length cs ≤ p → Holds q actors crashed rs (set cs p count)
-    holds_past p count past = subst (λ l. Holds q actors crashed rs l) (sym (set_past cs p count past)) h
 
     pub absent_all : (key p : ℕ) → key ≡ 1 + p → get_or cs p 0 ≡ 0 → lookup (nat_eq key) q.all.entries ≡ None
     absent_all key p is none = ap (lookup (nat_eq key)) h.all ∙ lookup_none (counts_for actors crashed 0) key p 1 rs cs is none
@@ -145,6 +142,7 @@ module _ (actors : ℕ) (crashed : List ℕ) where
           (subst (λ n. Holds t actors crashed rs (set cs p n)) less
           (holds_set q rs cs h t number p r count false (omega (arith, is)) lt same to ok (λ e. absurd (true≢false (sym e))) (λ e ne. omega (arith, ne, less)) all each))
 
+  -- mail of one who does not run has no part in the queues
   pub change_not : (q : Queues) (rs cs : List ℕ) → Holds q actors crashed rs cs → (number p : ℕ) (more : Bool) → number ≡ suc p → runs actors crashed (get_or rs p 0) ≡ false → Holds q actors crashed rs (cond more (one_more cs number) (one_less cs number))
   change_not q rs cs h number p true is e = subst (λ n. Holds q actors crashed rs (one_more cs n)) (sym is) (holds_not q rs cs h p (get_or cs p 0 + 1) e)
   change_not q rs cs h number p false is e = subst (λ n. Holds q actors crashed rs (one_less cs n)) (sym is) (holds_not q rs cs h p (get_or cs p 0 - 1) e)
@@ -218,6 +216,7 @@ module _ (test : ℕ → Bool) (i : ℕ) (rs cs : List ℕ) (lt : i < length rs)
   lengths : (length (take i rs) ≡ i) × (length (take i cs) ≡ i)
   lengths = (length-take-le i rs (omega arith), length-take-le i cs (omega (arith, same)))
 
+  -- one mail more, which is pending
   pub take_here : (all next : List (ℕ × ℕ)) (key : ℕ) → all ≡ open_entries test 1 (take i rs) (take i cs) → key ≡ i + 1 → (test (get_or rs i 0) && nat_lt 0 (get_or cs i 0)) ≡ true → next ≡ recounted all key false (get_or cs i 0) →
       next ≡ open_entries test 1 (take (i + 1) rs) (take (i + 1) cs)
   take_here all next key is number stays new =
@@ -229,6 +228,7 @@ module _ (test : ℕ → Bool) (i : ℕ) (rs cs : List ℕ) (lt : i < length rs)
       ∙ (push_here test key (get_or cs i 0) (get_or rs i 0) (take i rs) (take i cs) (omega (arith, number, lengths.0)) (lengths.1 ∙ sym lengths.0) parts.0 some
       ∙ (λ j. open_entries test 1 (sym (longer_take rs i lt) j) (sym (longer_take cs i (omega (arith, lt, same))) j)))))
 
+  -- one mail more, which is not
   pub take_other : (all : List (ℕ × ℕ)) → all ≡ open_entries test 1 (take i rs) (take i cs) → (test (get_or rs i 0) && nat_lt 0 (get_or cs i 0)) ≡ false → all ≡ open_entries test 1 (take (i + 1) rs) (take (i + 1) cs)
   take_other all is stays =
       is
@@ -245,15 +245,15 @@ module _ (q : Queues) (actors : ℕ) (crashed rs cs : List ℕ) (h : Holds q act
       ∙ (ap (λ k. copies_in (get_or (kept q) k [])) back
       ∙ (ap copies_in (h.each w (omega arith)) ∙ expand (counts_for actors crashed (suc w)) 1 rs cs))
 
+  -- the k-th of a queue is the k-th that is pending
   pub queue_kth : (who k number : ℕ) (found : Option ℕ) → number ≡ actors → who ≤ number → found ≡ kth (copies_in (queue_of q who)) k → found ≡ kth (numbers (counts_for number crashed who) 1 rs cs) k
   queue_kth who k number found same within is =
       is ∙ (ap (λ l. kth l k) (queue_is who (subst (λ n. who ≤ n) same within)) ∙ ap (λ n. kth (numbers (counts_for n crashed who) 1 rs cs) k) (sym same))
 
+  -- the queue of all has what is pending for all
   pub queue_all : (number : ℕ) → number ≡ actors → copies_in q.all.entries ≡ numbers (counts_for number crashed 0) 1 rs cs
   queue_all number same = queue_is 0 (omega arith) ∙ ap (λ n. numbers (counts_for n crashed 0) 1 rs cs) (sym same)
 
+-- queues that are there hold what is pending
 pub held : (queues : Option Queues) (q : Queues) (actors : ℕ) (crashed rs cs : List ℕ) → queues ≡ Some q → IfSome queues (λ x. Holds x actors crashed rs cs) → Holds q actors crashed rs cs
 held queues q actors crashed rs cs is h = subst (λ x. IfSome x (λ y. Holds y actors crashed rs cs)) is h
-
-pub held_same : (queues : Option Queues) (actors : ℕ) (crashed rs cs crashed' rs' cs' : List ℕ) → crashed' ≡ crashed → rs' ≡ rs → cs' ≡ cs → IfSome queues (λ x. Holds x actors crashed rs cs) → IfSome queues (λ x. Holds x actors crashed' rs' cs')
-held_same queues actors crashed rs cs crashed' rs' cs' c r n h = subst (λ l. IfSome queues (λ x. Holds x actors l rs' cs')) (sym c) (subst (λ l. IfSome queues (λ x. Holds x actors crashed l cs')) (sym r) (subst (λ l. IfSome queues (λ x. Holds x actors crashed rs l)) (sym n) h))

@@ -21,12 +21,14 @@ get_past (suc c) n zero xs le = absurd (omega arith)
 get_past (suc c) n (suc i) xs le = get_past c n i xs (omega arith) ∙ ap (λ k. get_or xs k 0) (omega arith)
 
 module _ {M O : Type 0} where
+  -- the places of mail, after one more row
   pub homes-push : (place : ℕ) (rows : List (Row M O)) (row : Row M O) → homes_from place (rows ++ row ∷ []) ≡ homes_from place rows ++ replicate (length row.sent) (place + length rows)
   homes-push place [] row = append-nil (replicate (length row.sent) place) ∙ ap (replicate (length row.sent)) (omega arith)
   homes-push place (r ∷ rows) row =
       ap (λ l. replicate (length r.sent) place ++ l) (homes-push (suc place) rows row ∙ ap (λ n. homes_from (suc place) rows ++ replicate (length row.sent) n) (omega arith))
       ∙ sym (append_assoc (replicate (length r.sent) place) (homes_from (suc place) rows) (replicate (length row.sent) (place + length (r ∷ rows))))
 
+  -- the mails before each row, after one more row
   pub firsts-push : (before : ℕ) (rows : List (Row M O)) (row : Row M O) → firsts_from before (rows ++ row ∷ []) ≡ firsts_from before rows ++ (before + length (mails rows)) ∷ []
   firsts-push before [] row = ap (λ n. n ∷ []) (omega arith)
   firsts-push before (r ∷ rows) row =
@@ -114,6 +116,7 @@ module _ {M O : Type 0} where
         mail_same mail e = at.same row ∙ ((λ i. slice_get (sent_is i) (p - sym first_at i)) ∙ e)
 
 module _ {M O : Type 0} (rows after : List (Row M O)) (row : Row M O) (is : after ≡ rows ++ row ∷ []) where
+  -- the list of places is kept
   pub kept_homes : (homes last : List ℕ) (place n : ℕ) → homes ≡ homes_from 0 rows → place ≡ length rows → n ≡ length row.sent → last ≡ homes ++ replicate n place → last ≡ homes_from 0 after
   kept_homes homes last place n h p l e =
       e ∙ ((λ i. h i ++ replicate (l i) ((p ∙ zeroth) i)) ∙ (sym (homes-push 0 rows row) ∙ ap (homes_from 0) (sym is)))
@@ -121,6 +124,7 @@ module _ {M O : Type 0} (rows after : List (Row M O)) (row : Row M O) (is : afte
       zeroth : length rows ≡ 0 + length rows
       zeroth = omega arith
 
+  -- the list of mails before each row is kept
   pub kept_firsts : (firsts last : List ℕ) (before : ℕ) → firsts ≡ firsts_from 0 rows → before ≡ length (mails rows) → last ≡ firsts ++ before ∷ [] → last ≡ firsts_from 0 after
   kept_firsts firsts last before f b e =
       e ∙ ((λ i. f i ++ (b ∙ zeroth) i ∷ []) ∙ (sym (firsts-push 0 rows row) ∙ ap (firsts_from 0) (sym is)))
@@ -128,11 +132,8 @@ module _ {M O : Type 0} (rows after : List (Row M O)) (row : Row M O) (is : afte
       zeroth : length (mails rows) ≡ 0 + length (mails rows)
       zeroth = omega arith
 
+-- no mail has a number past the last
 pub none_past : {M O : Type 0} (rows : List (Row M O)) (homes : List ℕ) (number : ℕ) → homes ≡ homes_from 0 rows → (number ≡ 0) ⊎ (length homes < number) → None ≡ numbered (mails rows) number
 none_past rows homes zero h e = refl
 none_past rows homes (suc place) h e =
     sym (slice_get_past (mails rows) place (⊎_elim (λ z. absurd (omega (arith, z))) (λ (lt : length homes < suc place). omega (arith, lt, ap length h, homes_all 0 rows)) e))
-
-pub some_at : {M O : Type 0} (rows : List (Row M O)) (number : ℕ) (mail : M) → number ≢ 0 → slice_get (mails rows) (number - 1) ≡ Some mail → Some mail ≡ numbered (mails rows) number
-some_at rows zero mail ne e = absurd (ne refl)
-some_at rows (suc place) mail ne e = let back : suc place - 1 ≡ place = omega arith in sym (ap (slice_get (mails rows)) (sym back) ∙ e)

@@ -9,49 +9,38 @@ use Rattle.sc_actor.specs.declared.rows.Event.{Event}
 use Rattle.sc_actor.specs.declared.rows.Event.TheVariants.{Deliver, Drop, Again, Go, Tick, Crash, Told}
 use Rattle.sc_actor.specs.Mail.{mails, copies, counts_at, counts_after, is_crash, has_crashed}
 use Rattle.sc_actor.specs.Counted.{mail_bytes, row_bytes, journal_bytes}
+use Rattle.sc_actor.proofs.BoundLemmas.{mails_count, journal_counts, journal_bytes-snoc}
 use Rattle.sc_actor.proofs.CountLemmas.{counted}
 use Rattle.sc_actor.proofs.ReplayLemmas.{mails-snoc, copies-snoc}
 use Rattle.sc_ledger.specs.Kept.{crashed_in}
 
-mails_bytes : {M : Type 0} (weighs : M → ℕ) (sent : List M) → 256 * length sent ≤ sum_by (mail_bytes weighs) sent
-mails_bytes weighs [] = omega arith
-mails_bytes weighs (m ∷ sent) =
-    let e : sum_by (mail_bytes weighs) (m ∷ sent) ≡ (0 + (256 + weighs m)) + sum_by (mail_bytes weighs) sent = sum_by-append (mail_bytes weighs) (m ∷ []) sent in
-    omega (arith, mails_bytes weighs sent, e)
-
 -- a row that fits within a limit has few mails
 pub few_sent : {M : Type 0} (weighs : M → ℕ) (sent : List M) (before total limit : ℕ) → total ≡ min (before + (64 + sum_by (mail_bytes weighs) sent)) (2 ^ 64 - 1) → total ≤ limit → limit ≤ 1073741824 → length sent < 1099511627776
-few_sent weighs sent before total limit e fits most = omega (arith, e, mails_bytes weighs sent)
+few_sent weighs sent before total limit e fits most = omega (arith, e, mails_count weighs sent)
 
 crash_here : (w who : ℕ) (b rest : Bool) → (list_any (λ c. eqb c who) (cond b (w ∷ []) []) || rest) ≡ ((eqb w who && b) || rest)
 crash_here w who true rest = elim (eqb w who) as (λ e. ((e || false) || rest) ≡ ((e && true) || rest)) [ true ↦ refl | false ↦ refl ]
 crash_here w who false rest = elim (eqb w who) as (λ e. rest ≡ ((e && false) || rest)) [ true ↦ refl | false ↦ refl ]
 
 module _ {M O : Type 0} where
+  -- the crashed, after one more row
   pub crashed-push : (rows : List (Row M O)) (row : Row M O) → crashed_in (rows ++ row ∷ []) ≡ crashed_in rows ++ cond (is_crash row.event) (row.who ∷ []) []
   crashed-push [] row = append-nil (cond (is_crash row.event) (row.who ∷ []) [])
   crashed-push (r ∷ rows) row =
       ap (λ l. cond (is_crash r.event) (r.who ∷ []) [] ++ l) (crashed-push rows row)
       ∙ sym (append_assoc (cond (is_crash r.event) (r.who ∷ []) []) (crashed_in rows) (cond (is_crash row.event) (row.who ∷ []) []))
 
+  -- the receivers of mail, after one more row
   pub receivers-push : (receiver : M → ℕ) (rows : List (Row M O)) (row : Row M O) → map receiver (mails (rows ++ row ∷ [])) ≡ map receiver (mails rows) ++ map receiver row.sent
   receivers-push receiver rows row = ap (map receiver) (mails-snoc rows row) ∙ map-append receiver (mails rows) row.sent
 
+  -- the copies of mail, after one more row
   pub copies-push : (rows : List (Row M O)) (row : Row M O) → copies (rows ++ row ∷ []) ≡ counts_at (copies rows) row.event ++ replicate (length row.sent) 1
   copies-push rows row = copies-snoc rows row
 
+  -- the counted bytes, after one more row
   pub bytes-push : (weighs : M → ℕ) (rows : List (Row M O)) (row : Row M O) → journal_bytes weighs (rows ++ row ∷ []) ≡ journal_bytes weighs rows + row_bytes weighs row
-  bytes-push weighs rows row =
-      let e : journal_bytes weighs (rows ++ row ∷ []) ≡ journal_bytes weighs rows + (0 + row_bytes weighs row) = sum_by-append (row_bytes weighs) rows (row ∷ []) in
-      omega (arith, e)
-
-  -- a journal counts 64 for each row, and 256 for each mail
-  pub few_rows : (weighs : M → ℕ) (rows : List (Row M O)) → 64 * length rows + 256 * length (mails rows) ≤ journal_bytes weighs rows
-  few_rows weighs [] = omega arith
-  few_rows weighs (row ∷ rows) =
-      let e : journal_bytes weighs (row ∷ rows) ≡ (0 + (64 + sum_by (mail_bytes weighs) row.sent)) + journal_bytes weighs rows = sum_by-append (row_bytes weighs) (row ∷ []) rows in
-      let l : length (mails (row ∷ rows)) ≡ length row.sent + length (mails rows) = length-append row.sent (mails rows) in
-      omega (arith, few_rows weighs rows, mails_bytes weighs row.sent, e, l)
+  bytes-push weighs rows row = journal_bytes-snoc weighs rows row
 
   -- the crashed are those of whom a row says so
   pub crashed_any : (rows : List (Row M O)) (who : ℕ) → list_any (λ c. eqb c who) (crashed_in rows) ≡ has_crashed rows who
@@ -107,51 +96,63 @@ pub few_copies : {M O : Type 0} (rows : List (Row M O)) (i : ℕ) → get_or (co
 few_copies rows i = omega (arith, below_from [] rows 0 (λ j. omega arith) i)
 
 module _ {M O : Type 0} (weighs : M → ℕ) (receiver : M → ℕ) (rows : List (Row M O)) (bytes limit : ℕ) (is : bytes ≡ journal_bytes weighs rows) (fits : bytes ≤ limit) (most : limit ≤ 1073741824) where
+  -- a journal within the limit has fewer mails than a number of 32 bits tells
   pub few_mails : (receivers : List ℕ) → receivers ≡ map receiver (mails rows) → length receivers < 4294967295
   few_mails receivers all =
       let l : length receivers ≡ length (mails rows) = ap length all ∙ length-map (mails rows) receiver in
-      omega (arith, few_rows weighs rows, l)
+      omega (arith, journal_counts weighs rows, l)
 
+  -- no mail has more copies than a number of 32 bits tells
   pub small_copies : (counts : List ℕ) → counts ≡ copies rows → (i : ℕ) → get_or counts i 0 < 4294967295
   small_copies counts all i =
       let c : get_or counts i 0 ≡ get_or (copies rows) i 0 = ap (λ l. get_or l i 0) all in
-      omega (arith, few_rows weighs rows, few_copies rows i, c)
+      omega (arith, journal_counts weighs rows, few_copies rows i, c)
 
 module _ {M O : Type 0} (rows after : List (Row M O)) (row : Row M O) (is : after ≡ rows ++ row ∷ []) where
+  -- the counted bytes are kept
   pub kept_bytes : (weighs : M → ℕ) (bytes : ℕ) → bytes ≡ journal_bytes weighs rows + row_bytes weighs row → bytes ≡ journal_bytes weighs after
   kept_bytes weighs bytes e = e ∙ (sym (bytes-push weighs rows row) ∙ ap (journal_bytes weighs) (sym is))
 
+  -- the copies are kept
   pub kept_counts : (counts last : List ℕ) → counts ≡ copies rows → last ≡ counts_at counts row.event ++ replicate (length row.sent) 1 → last ≡ copies after
   kept_counts counts last c e =
       e ∙ (ap (λ x. counts_at x row.event ++ replicate (length row.sent) 1) c ∙ (sym (copies-push rows row) ∙ ap copies (sym is)))
 
+  -- the receivers are kept
   pub kept_receivers : (receiver : M → ℕ) (receivers last : List ℕ) → receivers ≡ map receiver (mails rows) → last ≡ receivers ++ map receiver row.sent → last ≡ map receiver (mails after)
   kept_receivers receiver receivers last r e =
       e ∙ (ap (λ x. x ++ map receiver row.sent) r ∙ (sym (receivers-push receiver rows row) ∙ ap (λ x. map receiver (mails x)) (sym is)))
 
+  -- the crashed are kept
   pub kept_crashed : (crashed last : List ℕ) → crashed ≡ crashed_in rows → last ≡ crashed ++ cond (is_crash row.event) (row.who ∷ []) [] → last ≡ crashed_in after
   kept_crashed crashed last c e =
       e ∙ (ap (λ l. l ++ cond (is_crash row.event) (row.who ∷ []) []) c ∙ (sym (crashed-push rows row) ∙ ap crashed_in (sym is)))
 
+-- a journal within the limit has few rows
 pub few_all : {M O : Type 0} (weighs : M → ℕ) (rows : List (Row M O)) (bytes n : ℕ) → bytes ≡ journal_bytes weighs rows → bytes ≤ 1073741824 → n ≡ length rows → n ≤ 16777216
-few_all weighs rows bytes n is fits l = omega (arith, few_rows weighs rows, is, l)
+few_all weighs rows bytes n is fits l = omega (arith, journal_counts weighs rows, is, l)
 
+-- as many counts are kept as receivers
 pub same_lengths : {M O : Type 0} (receiver : M → ℕ) (rows : List (Row M O)) (counts receivers : List ℕ) → counts ≡ copies rows → receivers ≡ map receiver (mails rows) → length counts ≡ length receivers
 same_lengths receiver rows counts receivers c r = ap length c ∙ (counted rows ∙ (sym (length-map (mails rows) receiver) ∙ ap length (sym r)))
 
+-- with a row that fits there are few mails
 pub few_after : {M O : Type 0} (weighs receiver : M → ℕ) (rows : List (Row M O)) (row : Row M O) (receivers : List ℕ) → receivers ≡ map receiver (mails rows) → (bytes limit : ℕ) → bytes ≡ journal_bytes weighs rows + row_bytes weighs row → bytes ≤ limit → limit ≤ 1073741824 →
     length receivers + length row.sent < 4294967295
 few_after weighs receiver rows row receivers r bytes limit is fits most =
     let l : length receivers ≡ length (mails rows) = ap length r ∙ length-map (mails rows) receiver in
-    omega (arith, few_rows weighs rows, mails_bytes weighs row.sent, l, is)
+    omega (arith, journal_counts weighs rows, mails_count weighs row.sent, l, is)
 
+-- as many receivers are kept as mails were sent
 pub sent_length : {M O : Type 0} (receiver : M → ℕ) (rows : List (Row M O)) (receivers : List ℕ) → receivers ≡ map receiver (mails rows) → length receivers ≡ length (mails rows)
 sent_length receiver rows receivers r = ap length r ∙ length-map (mails rows) receiver
 
+-- the same of the first rows
 pub small_taken : {M O : Type 0} (rows first : List (Row M O)) (counts : List ℕ) → counts ≡ copies first → length first ≤ length rows → length rows < 4294967295 → (i : ℕ) → get_or counts i 0 < 4294967295
 small_taken rows first counts is few most i =
     let c : get_or counts i 0 ≡ get_or (copies first) i 0 = ap (λ l. get_or l i 0) is in
     omega (arith, few_copies first i, few, most, c)
 
+-- a journal within the limit has few rows and few mails
 pub mails_few : {M O : Type 0} (weighs : M → ℕ) (rows : List (Row M O)) (bytes : ℕ) → bytes ≡ journal_bytes weighs rows → bytes ≤ 1073741824 → (length rows < 4294967295) × (length (mails rows) < 4294967295)
-mails_few weighs rows bytes is fits = (omega (arith, few_rows weighs rows, is, fits), omega (arith, few_rows weighs rows, is, fits))
+mails_few weighs rows bytes is fits = (omega (arith, journal_counts weighs rows, is, fits), omega (arith, journal_counts weighs rows, is, fits))

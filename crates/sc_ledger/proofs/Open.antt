@@ -1,5 +1,6 @@
 -- The tests of the ledger are those of the definitions of pending mail.
 use Rattle.std.proofs.Common.{◌≡◌, ℕ, zero, suc, ◌+◌, ◌-◌, ◌<◌, ◌≤◌, eqb, nat_lt, List, [], ◌∷◌, ◌++◌, length, map, Bool, true, false, cond, ◌&&◌, ◌||◌, not, replicate, get_or, refl, sym, ap, ◌∙◌, subst, arith, None, Some, Option, ne_eqb, eq-eqb, ◌⊎◌, ⊎_elim}
+use Rattle.std.proofs.Math.Bool.{and_assoc}
 use Rattle.std.proofs.lemmas.Bool.{eqb-true}
 use Rattle.std.proofs.lemmas.Option.{slice_get_past}
 use Rattle.std.proofs.lemmas.List.{length-map}
@@ -29,19 +30,17 @@ upto_any (suc n) r =
     list_any-append (λ a. eqb a r) (upto n) (suc n ∷ [])
     ∙ (ap (λ b. b || (eqb (suc n) r || false)) (upto_any n r) ∙ one_more_number n r)
 
-and_assoc : (a b c : Bool) → (a && (b && c)) ≡ ((a && b) && c)
-and_assoc true b c = refl
-and_assoc false b c = refl
-
 module _ {M O : Type 0} (receiver : M → ℕ) (actors : ℕ) (rows : List (Row M O)) where
+  -- an actor runs where it may get mail
   pub runs_is : (r : ℕ) → runs actors (crashed_in rows) r ≡ may_get (upto actors) rows r
   runs_is r =
-      and_assoc (nat_lt 0 r) (nat_lt r (actors + 1)) (not (list_any (λ c. eqb c r) (crashed_in rows)))
+      sym (and_assoc (nat_lt 0 r) (nat_lt r (actors + 1)) (not (list_any (λ c. eqb c r) (crashed_in rows))))
       ∙ (λ i. sym (upto_any actors r) i && not (crashed_any rows r i))
 
   same_one : (r who : ℕ) (t : ℕ → Bool) → (eqb r who && t r) ≡ (eqb r who && t who)
   same_one r who t = elim (eqb r who) as (λ b. eqb r who ≡ b → (b && t r) ≡ (b && t who)) [ true ↦ λ e. ap t (eqb-true r who e) | false ↦ λ _. refl ] refl
 
+  -- mail counts for an actor where it is pending for it
   pub counts_is : (who : ℕ) (mail : M) → counts_for actors (crashed_in rows) who (receiver mail) ≡ is_for receiver (upto actors) rows (whose who) mail
   counts_is zero mail = runs_is (receiver mail)
   counts_is (suc n) mail =
@@ -116,6 +115,7 @@ module _ {M O : Type 0} (receiver : M → ℕ) (actors : ℕ) (rows : List (Row 
   found_is None = refl
   found_is (Some m) = refl
 
+  -- a mail is pending where it may be repeated and has a copy
   pub pending_is : (number : ℕ) → is_pending receiver actors rows number ≡ (may_repeat receiver actors rows number && nat_lt 0 (get_or (copies rows) (number - 1) 0))
   pending_is zero = any_below (is_for receiver (upto actors) rows None) 1 0 (mails rows) (copies rows) (omega arith)
   pending_is (suc place) =
@@ -153,17 +153,13 @@ module _ {M O : Type 0} (receiver : M → ℕ) (actors : ℕ) (rows : List (Row 
       ∙ (get_map (mails rows) place (runs actors (crashed_in rows)) (is_for receiver (upto actors) rows None) (λ m. runs_is receiver actors rows (receiver m)) (omega arith)
       ∙ found_is (slice_get (mails rows) place))
 
-  pub repeat_none : (number : ℕ) (receivers : List ℕ) → receivers ≡ map receiver (mails rows) → (number ≡ 0) ⊎ (length receivers < number) → may_repeat receiver actors rows number ≡ false
-  repeat_none zero receivers r e = refl
-  repeat_none (suc place) receivers r e =
-      let inside : length receivers ≡ length (mails rows) = ap length r ∙ length-map (mails rows) receiver in
-      ap (may_have receiver actors rows) (slice_get_past (mails rows) place (⊎_elim (λ z. absurd (omega (arith, z))) (λ (lt : length receivers < suc place). omega (arith, lt, inside)) e))
-
+  -- this is told by its count, where it may be repeated
   pub pending_then : (number : ℕ) (r : Bool) (counts : List ℕ) → counts ≡ copies rows → r ≡ nat_lt 0 (get_or counts (number - 1) 0) → may_repeat receiver actors rows number ≡ true → r ≡ is_pending receiver actors rows number
   pending_then number r counts all is may =
       is ∙ (ap (λ l. nat_lt 0 (get_or l (number - 1) 0)) all
       ∙ (ap (λ b. b && nat_lt 0 (get_or (copies rows) (number - 1) 0)) (sym may) ∙ sym (pending_is number)))
 
+  -- where it may not be, it is not pending
   pub pending_else : (number : ℕ) (r : Bool) → r ≡ may_repeat receiver actors rows number → r ≡ false → r ≡ is_pending receiver actors rows number
   pending_else number r is none =
       none ∙ (ap (λ b. b && nat_lt 0 (get_or (copies rows) (number - 1) 0)) (sym none ∙ is) ∙ sym (pending_is number))

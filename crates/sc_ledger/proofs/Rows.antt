@@ -5,11 +5,13 @@ use Rattle.sc_actor.specs.declared.rows.Row.{Row}
 use Rattle.sc_actor.specs.Mail.{mails}
 
 module _ {A : Type 0} where
+  -- a place in the first of two lists
   pub get_first : (xs ys : List A) (i : ℕ) → i < length xs → slice_get (xs ++ ys) i ≡ slice_get xs i
   get_first [] ys i lt = absurd (omega arith)
   get_first (x ∷ xs) ys zero lt = refl
   get_first (x ∷ xs) ys (suc i) lt = get_first xs ys i (omega arith)
 
+  -- a place in the second
   pub get_second : (xs ys : List A) (i : ℕ) → length xs ≤ i → slice_get (xs ++ ys) i ≡ slice_get ys (i - length xs)
   get_second [] ys i le = let z : i - 0 ≡ i = omega arith in ap (slice_get ys) (sym z)
   get_second (x ∷ xs) ys zero le = absurd (omega arith)
@@ -24,9 +26,7 @@ module _ {M O : Type 0} (rows : List (Row M O)) (i : ℕ) (row : Row M O) (lt : 
   split : mails (drop i rows) ≡ row.sent ++ mails (drop (suc i) rows)
   split = ap mails (drop_at rows i row lt is)
 
-  pub mail_here : (left : ℕ) → left < length row.sent → slice_get (mails (drop i rows)) left ≡ slice_get row.sent left
-  mail_here left inside = ap (λ l. slice_get l left) split ∙ get_first row.sent (mails (drop (suc i) rows)) left inside
-
+  -- a mail that the first row did not send stands in the rows behind it
   pub mail_later : (left : ℕ) → length row.sent ≤ left → slice_get (mails (drop i rows)) left ≡ slice_get (mails (drop (i + 1) rows)) (left - length row.sent)
   mail_later left past = rw add-one (ap (λ l. slice_get l left) split ∙ get_second row.sent (mails (drop (suc i) rows)) left past)
 
@@ -37,15 +37,18 @@ module _ {M O : Type 0} where
   take_more (r ∷ rows) zero row lt is = ap (λ x. x ∷ []) (sym is)
   take_more (r ∷ rows) (suc i) row lt is = ap (λ l. r ∷ l) (take_more rows i row (omega arith) is)
 
+  -- one row more of the first rows
   pub take_row : (rows : List (Row M O)) (i : ℕ) (row : Row M O) → i < length rows → row ≡ get_or rows i row → take (i + 1) rows ≡ take i rows ++ row ∷ []
   take_row rows i row lt is = rw add-one (take_more rows i row lt is)
 
+  -- the first rows are all, where there are no more
   pub take_whole : (rows : List (Row M O)) (i : ℕ) → length rows ≤ i → take i rows ≡ rows
   take_whole [] zero le = refl
   take_whole [] (suc i) le = refl
   take_whole (r ∷ rows) zero le = absurd (omega arith)
   take_whole (r ∷ rows) (suc i) le = ap (λ l. r ∷ l) (take_whole rows i (omega arith))
 
+  -- there are no more first rows than rows
   pub few_taken : (rows : List (Row M O)) (i : ℕ) → length (take i rows) ≤ length rows
   few_taken [] zero = omega arith
   few_taken [] (suc i) = omega arith

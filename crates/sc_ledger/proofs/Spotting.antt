@@ -74,6 +74,7 @@ module _ (receivers : List ℕ) where
       (sound rest (before ++ n ∷ []) (done ++ s ∷ []) some.1 (counts_more to done before s n refl is)
       (subst (λ (l : List ℕ). All (Fine to l) (done ++ s ∷ [])) (sym (append_assoc before (n ∷ []) rest)) all))
 
+  -- each copy is where it is told to be
   pub spots_sound : (all : List ℕ) → AllByRecursion (λ n. 0 < to n) all → All (Fine to all) (spots_from receivers all)
   spots_sound all some = sound all [] [] some (λ x. refl) (All-nil (Fine to all))
 
@@ -93,6 +94,7 @@ module _ (receivers : List ℕ) where
   runs_some : (actors who : ℕ) (crashed : List ℕ) → runs actors crashed who ≡ true → 0 < who
   runs_some actors who crashed e = ltb-true 0 who (and_parts (nat_lt 0 who) (nat_lt who (actors + 1) && not (list_any (λ c. eqb c who) crashed)) e).0
 
+  -- each pending mail has a receiver
   pub open_some : (actors : ℕ) (crashed : List ℕ) (first : ℕ) (rs counts : List ℕ) → ((j : ℕ) → to (first + j) ≡ get_or rs j 0) → AllByRecursion (λ n. 0 < to n) (numbers (counts_for actors crashed 0) first rs counts)
   open_some actors crashed first [] counts is = tt
   open_some actors crashed first (r ∷ rs) [] is = tt
@@ -144,6 +146,7 @@ module _ {M O : Type 0} (receiver : M → ℕ) (actors : ℕ) (rows : List (Row 
   look_spots receivers counts crashed all spots r c n is found =
       found ∙ (λ i. spots_from (r i) ((is ∙ ((λ j. numbers (counts_for actors (n j) 0) 1 (r j) (c j)) ∙ open_is receiver actors rows 0)) i))
 
+  -- each copy of a look is where its receiver would find it
   pub look_each : (spots : List Spot) → spots ≡ spots_of receiver actors rows → All (λ (s : Spot). kth_pending receiver actors rows s.who s.k ≡ Some s.number) spots
   look_each spots is =
       let all = numbers (counts_for actors (crashed_in rows) 0) 1 sent_to (copies rows) in

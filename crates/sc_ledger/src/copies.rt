@@ -29,7 +29,9 @@ fn lower(copies: &Copies, number: u32) -> usize
 // Puts a number without a copy into its place.
 fn put_back(copies: &mut Copies, number: u32, count: u32) -> Result<(), OutOfMemory>
     requires { get nat_eq copies.old number ≡ None }
-    ensures { OnOk result (copies.new.entries ≡ insert copies.old.entries (lower copies.old.entries number) (number, count)) }
+    ensures { OnOk result
+        (copies.new.entries
+        ≡ insert copies.old.entries (lower copies.old.entries number) (number, count)) }
 {
     let place = lower(copies, number);
     copies.shift_insert(place, number, count)?;

@@ -21,7 +21,8 @@ pub(crate) fn bytes_with<M: Parcel>(sent: &[M], before: u64) -> u64
 pub(crate) fn count_event<O>(counts: &mut Vec<u32>, event: &Event<O>)
     requires { (i : ℕ) → slice_index counts.old.items i < 2 ^ 32 - 1 }
     ensures items { counts.new.items ≡ counts_at counts.old.items event.now }
-    ensures room { (vec_len counts.new ≡ vec_len counts.old) × (vec_capacity counts.new ≡ vec_capacity counts.old) }
+    ensures room { (vec_len counts.new ≡ vec_len counts.old)
+        × (vec_capacity counts.new ≡ vec_capacity counts.old) }
 {
     match event {
         Event::Deliver(number) | Event::Drop(number) => {
@@ -92,7 +93,8 @@ pub(crate) fn add_receivers<M: Parcel>(receivers: &mut Vec<u32>, sent: &[M])
 /// Notes the actor of a crash.
 pub(crate) fn add_crash<O>(crashed: &mut Vec<u32>, who: u32, event: &Event<O>)
     requires { vec_len crashed.old + 1 ≤ vec_capacity crashed.old }
-    ensures { crashed.new.items ≡ crashed.old.items ++ (if is_crash event.now then who ∷ [] else []) }
+    ensures { crashed.new.items
+        ≡ crashed.old.items ++ (if is_crash event.now then who ∷ [] else []) }
 {
     match event {
         Event::Crash => crashed.push_reserved(who),

@@ -58,7 +58,8 @@ pub(crate) fn kth_open(
 ) -> Option<u32>
     requires first { 0 < k }
     requires few { length receivers.now < 2 ^ 32 - 1 }
-    ensures { result ≡ kth (numbers (counts_for actors crashed.now who) 1 receivers.now counts.now) k }
+    ensures { result
+        ≡ kth (numbers (counts_for actors crashed.now who) 1 receivers.now counts.now) k }
 {
     let mut left = k;
     let both = receivers.len().min(counts.len());
@@ -92,7 +93,9 @@ pub(crate) fn open_numbers(
     crashed: &[u32],
 ) -> Result<Vec<u32>, OutOfMemory>
     requires few { length receivers.now < 2 ^ 32 - 1 }
-    ensures { IfOk result (λ found. found.items ≡ numbers (counts_for actors crashed.now 0) 1 receivers.now counts.now) }
+    ensures { IfOk result
+        (λ found.
+        found.items ≡ numbers (counts_for actors crashed.now 0) 1 receivers.now counts.now) }
 {
     let mut found = Vec::new(alloc);
     let both = receivers.len().min(counts.len());

@@ -35,7 +35,8 @@ pub struct Ledger<M: Parcel + Drop, O: Drop> {
     // Of each mail the place of its row, and of each row how many mails came before it.
     homes: Vec<u32>,
     firsts: Vec<u32>,
-    // What is pending, by actor, for this many of them. None once there was no memory for it; then it is found by a scan.
+    // What is pending, by actor, for this many of them. None once there was no memory for it; then
+    // it is found by a scan.
     queues: Option<Queues>,
     actors: u32,
     alloc: Global,
@@ -50,7 +51,8 @@ pub struct Ledger<M: Parcel + Drop, O: Drop> {
 }
 
 impl<M: Parcel + Drop, O: Drop> Ledger<M, O> {
-    /// The empty ledger of so many actors. They have the numbers from 1 to `actors`, here and below.
+    /// The empty ledger of so many actors. They have the numbers from 1 to `actors`, here and
+    /// below.
     pub fn new(alloc: Global, actors: u32) -> Ledger<M, O>
         ensures { result.rows.items ≡ [] }
     {
@@ -90,11 +92,13 @@ impl<M: Parcel + Drop, O: Drop> Ledger<M, O> {
         self.bytes
     }
 
-    /// The number of the k-th pending mail of an actor, or of all where `who` is 0. For the actors of this ledger it is found without a scan.
+    /// The number of the k-th pending mail of an actor, or of all where `who` is 0. For the actors
+    /// of this ledger it is found without a scan.
     pub fn kth(&self, actors: u32, who: u32, k: u32) -> Option<u32>
         requires { 0 < k }
         ensures kth { result ≡ kth_pending M.receiver actors self.now.rows.items who k }
-        ensures sent { IfSome result (λ number. IsSome (numbered (mails self.now.rows.items) number)) }
+        ensures sent { IfSome result
+            (λ number. IsSome (numbered (mails self.now.rows.items) number)) }
     {
         self.find(actors, who, k)
     }
@@ -108,15 +112,21 @@ impl<M: Parcel + Drop, O: Drop> Ledger<M, O> {
         k: u32,
     ) -> Result<Option<u32>, OutOfMemory>
         requires { 0 < k }
-        ensures kth { IfOk result (λ found. found ≡ kth_pending M.receiver actors self.now.rows.items who k) }
+        ensures kth { IfOk result
+            (λ found. found ≡ kth_pending M.receiver actors self.now.rows.items who k) }
     {
         kth_after(alloc, self.rows.as_slice(), actors, who, k)
     }
 
-    // The k-th in the queues, where they are those of so many actors, or else by what is kept of each mail.
+    // The k-th in the queues, where they are those of so many actors, or else by what is kept of
+    // each mail.
     fn find(&self, actors: u32, who: u32, k: u32) -> Option<u32>
         requires { 0 < k }
-        ensures { result ≡ kth (numbers (counts_for actors self.now.crashed.items who) 1 self.now.receivers.items self.now.counts.items) k }
+        ensures { result
+            ≡ kth
+            (numbers (counts_for actors self.now.crashed.items who) 1 self.now.receivers.items
+            self.now.counts.items)
+            k }
     {
         if let Some(queues) = &self.queues {
             if actors == self.actors && who <= actors {
@@ -135,7 +145,11 @@ impl<M: Parcel + Drop, O: Drop> Ledger<M, O> {
 
     // The numbers of all pending mail, each as often as it has copies.
     fn find_all(&self, alloc: Global, actors: u32) -> Result<Vec<u32>, OutOfMemory>
-        ensures { IfOk result (λ found. found.items ≡ numbers (counts_for actors self.now.crashed.items 0) 1 self.now.receivers.items self.now.counts.items) }
+        ensures { IfOk result
+            (λ found.
+            found.items
+            ≡ numbers (counts_for actors self.now.crashed.items 0) 1 self.now.receivers.items
+            self.now.counts.items) }
     {
         if let Some(queues) = &self.queues {
             if actors == self.actors {
@@ -204,8 +218,14 @@ impl<M: Parcel + Drop, O: Drop> Ledger<M, O> {
     /// How many mails were sent, and each pending copy of all mail, in ascending order of number.
     pub fn look(&self, alloc: Global, actors: u32) -> Result<Look, OutOfMemory>
         ensures sent { IfOk result (λ look. look.sent ≡ length (mails self.now.rows.items)) }
-        ensures spots { IfOk result (λ look. look.pending ≡ spots_of M.receiver actors self.now.rows.items) }
-        ensures each { IfOk result (λ look. All (λ spot. kth_pending M.receiver actors self.now.rows.items spot.who spot.k ≡ Some spot.number) look.pending) }
+        ensures spots { IfOk result
+            (λ look. look.pending ≡ spots_of M.receiver actors self.now.rows.items) }
+        ensures each { IfOk result
+            (λ look.
+            All
+            (λ spot.
+            kth_pending M.receiver actors self.now.rows.items spot.who spot.k ≡ Some spot.number)
+            look.pending) }
     {
         let numbers = self.find_all(alloc, actors)?;
         let receivers = self.receivers.as_slice();
@@ -217,11 +237,14 @@ impl<M: Parcel + Drop, O: Drop> Ledger<M, O> {
     // Room for one row with so many mails. Nothing else changes.
     fn make_room(&mut self, n: usize) -> Result<(), OutOfMemory>
         requires { n < 2 ^ 40 }
-        ensures same { (self.new.rows.items ≡ self.old.rows.items) × (self.new.bytes ≡ self.old.bytes) }
+        ensures same { (self.new.rows.items ≡ self.old.rows.items)
+            × (self.new.bytes ≡ self.old.bytes) }
         ensures rows { OnOk result (vec_len self.new.rows + 1 ≤ vec_capacity self.new.rows) }
         ensures counts { OnOk result (vec_len self.new.counts + n ≤ vec_capacity self.new.counts) }
-        ensures receivers { OnOk result (vec_len self.new.receivers + n ≤ vec_capacity self.new.receivers) }
-        ensures crashed { OnOk result (vec_len self.new.crashed + 1 ≤ vec_capacity self.new.crashed) }
+        ensures receivers { OnOk result
+            (vec_len self.new.receivers + n ≤ vec_capacity self.new.receivers) }
+        ensures crashed { OnOk result
+            (vec_len self.new.crashed + 1 ≤ vec_capacity self.new.crashed) }
         ensures homes { OnOk result (vec_len self.new.homes + n ≤ vec_capacity self.new.homes) }
         ensures firsts { OnOk result (vec_len self.new.firsts + 1 ≤ vec_capacity self.new.firsts) }
     {
@@ -236,10 +259,13 @@ impl<M: Parcel + Drop, O: Drop> Ledger<M, O> {
 
     // Appends a row for which there is room, after which the counted bytes are these.
     fn keep(&mut self, row: Row<M, O>, bytes: u64)
-        requires bytes { (bytes ≡ journal_bytes M.weighs self.old.rows.items + row_bytes M.weighs row) × (bytes ≤ 2 ^ 30) }
+        requires bytes { (bytes
+            ≡ journal_bytes M.weighs self.old.rows.items + row_bytes M.weighs row)
+            × (bytes ≤ 2 ^ 30) }
         requires rows { vec_len self.old.rows + 1 ≤ vec_capacity self.old.rows }
         requires counts { vec_len self.old.counts + length row.sent ≤ vec_capacity self.old.counts }
-        requires receivers { vec_len self.old.receivers + length row.sent ≤ vec_capacity self.old.receivers }
+        requires receivers { vec_len self.old.receivers + length row.sent
+            ≤ vec_capacity self.old.receivers }
         requires crashed { vec_len self.old.crashed + 1 ≤ vec_capacity self.old.crashed }
         requires homes { vec_len self.old.homes + length row.sent ≤ vec_capacity self.old.homes }
         requires firsts { vec_len self.old.firsts + 1 ≤ vec_capacity self.old.firsts }
@@ -268,12 +294,19 @@ impl<M: Parcel + Drop, O: Drop> Ledger<M, O> {
         self.rows.push_reserved(row);
     }
 
-    /// Appends a row, unless with it the counted bytes pass the limit. A row that is not kept is handed back, and the ledger is unchanged.
+    /// Appends a row, unless with it the counted bytes pass the limit. A row that is not kept is
+    /// handed back, and the ledger is unchanged.
     pub fn append(&mut self, row: Row<M, O>, limit: u64) -> Result<(), Unkept<M, O>>
         requires { limit ≤ 2 ^ 30 }
         ensures ok { OnOk result (self.new.rows.items ≡ self.old.rows.items ++ row ∷ []) }
-        ensures fits { OnOk result (journal_bytes M.weighs self.old.rows.items + row_bytes M.weighs row ≤ limit) }
-        ensures refused { IfErr result (λ e. (e.row ≡ row) × (self.new.rows.items ≡ self.old.rows.items) × IsCause e.why (journal_bytes M.weighs self.old.rows.items) (row_bytes M.weighs row) limit) }
+        ensures fits { OnOk result
+            (journal_bytes M.weighs self.old.rows.items + row_bytes M.weighs row ≤ limit) }
+        ensures refused { IfErr result
+            (λ e.
+            (e.row ≡ row)
+            × (self.new.rows.items ≡ self.old.rows.items)
+            × IsCause e.why (journal_bytes M.weighs self.old.rows.items) (row_bytes M.weighs row)
+            limit) }
     {
         let bytes = bytes_with(row.sent.as_slice(), self.bytes);
         if bytes > limit {

@@ -1,4 +1,5 @@
-//! The ledger of one exchange: the rows so far, their counted bytes, and the mail that is pending. It has no handle and no lock.
+//! The ledger of one exchange: the rows so far, their counted bytes, and the mail that is pending.
+//! It has no handle and no lock.
 #![tactic(auto)]
 
 mod copies;
@@ -13,6 +14,3 @@ mod spots;
 pub use faults::{PostFault, Unkept};
 pub use ledger::Ledger;
 pub use spots::{Look, Spot};
-
-#[cfg(test)]
-mod tests;

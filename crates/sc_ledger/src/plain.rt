@@ -17,9 +17,14 @@ fn count_row<M: Parcel, O>(
     row: &Row<M, O>,
 ) -> Result<(), OutOfMemory>
     requires { (i : ℕ) → slice_index counts.old.items i < 2 ^ 32 - 1 }
-    ensures counts { OnOk result (counts.new.items ≡ counts_at counts.old.items row.now.event ++ replicate (length row.now.sent) 1) }
-    ensures receivers { OnOk result (receivers.new.items ≡ receivers.old.items ++ map M.receiver row.now.sent) }
-    ensures crashed { OnOk result (crashed.new.items ≡ crashed.old.items ++ (if is_crash row.now.event then row.now.who ∷ [] else [])) }
+    ensures counts { OnOk result
+        (counts.new.items
+        ≡ counts_at counts.old.items row.now.event ++ replicate (length row.now.sent) 1) }
+    ensures receivers { OnOk result
+        (receivers.new.items ≡ receivers.old.items ++ map M.receiver row.now.sent) }
+    ensures crashed { OnOk result
+        (crashed.new.items
+        ≡ crashed.old.items ++ (if is_crash row.now.event then row.now.who ∷ [] else [])) }
 {
     counts.reserve(row.sent.len())?;
     receivers.reserve(row.sent.len())?;

@@ -59,9 +59,14 @@ impl Queues {
     ) -> Result<(), OutOfMemory>
         requires receiver { (0 < receiver) × (receiver ≤ length self.old.each.items) }
         requires all { back ≡ true → lookup (nat_eq number) self.old.all.entries ≡ None }
-        requires own { back ≡ true → lookup (nat_eq number) (slice_index_or (kept self.old) (receiver - 1) []) ≡ None }
-        ensures all { OnOk result (self.new.all.entries ≡ recounted self.old.all.entries number back count) }
-        ensures each { OnOk result (kept self.new ≡ slice_set (kept self.old) (receiver - 1) (recounted (slice_index_or (kept self.old) (receiver - 1) []) number back count)) }
+        requires own { back ≡ true →
+            lookup (nat_eq number) (slice_index_or (kept self.old) (receiver - 1) []) ≡ None }
+        ensures all { OnOk result
+            (self.new.all.entries ≡ recounted self.old.all.entries number back count) }
+        ensures each { OnOk result
+            (kept self.new
+            ≡ slice_set (kept self.old) (receiver - 1)
+            (recounted (slice_index_or (kept self.old) (receiver - 1) []) number back count)) }
     {
         recount(&mut self.all, number, back, count)?;
         let own = &mut self.each[receiver as usize - 1];
@@ -81,7 +86,9 @@ impl Queues {
         requires holds { Holds self.old actors crashed.now receivers.now counts.now }
         requires same { length counts.now ≡ length receivers.now }
         requires small { (i : ℕ) → slice_index counts.now i < 2 ^ 32 - 1 }
-        ensures { OnOk result (Holds self.new actors crashed.now receivers.now (if more then one_more counts.now number else one_less counts.now number)) }
+        ensures { OnOk result
+            (Holds self.new actors crashed.now receivers.now
+            (if more then one_more counts.now number else one_less counts.now number)) }
     {
         if number == 0 || number as usize > counts.len() {
             return Ok(());
@@ -108,7 +115,10 @@ impl Queues {
         receiver: u32,
     ) -> Result<(), OutOfMemory>
         requires { length (kept self.old) ≡ actors }
-        ensures { OnOk result ((receivers counts : List ℕ) → Holds self.old actors crashed.now receivers counts → length counts ≡ length receivers → number ≡ 1 + length receivers → Holds self.new actors crashed.now (receivers ++ receiver ∷ []) (counts ++ 1 ∷ [])) }
+        ensures { OnOk result
+            ((receivers counts : List ℕ) → Holds self.old actors crashed.now receivers counts →
+            length counts ≡ length receivers → number ≡ 1 + length receivers →
+            Holds self.new actors crashed.now (receivers ++ receiver ∷ []) (counts ++ 1 ∷ [])) }
     {
         if !runs(actors, crashed, receiver) {
             return Ok(());
@@ -129,7 +139,8 @@ impl Queues {
         requires holds { Holds self.old actors crashed.now receivers.now counts.now }
         requires same { length counts.now ≡ length receivers.now }
         requires few { length receivers.now < 2 ^ 32 - 1 }
-        ensures { OnOk result (Holds self.new actors (crashed.now ++ who ∷ []) receivers.now counts.now) }
+        ensures { OnOk result
+            (Holds self.new actors (crashed.now ++ who ∷ []) receivers.now counts.now) }
     {
         self.all = without(alloc, actors, crashed, receivers, counts, who)?;
         if 0 < who && who <= actors {
@@ -152,7 +163,8 @@ pub(crate) fn after_event<O>(
     requires holds { IfSome queues (λ q. Holds q actors crashed.now receivers.now counts.now) }
     requires same { length counts.now ≡ length receivers.now }
     requires small { (i : ℕ) → slice_index counts.now i < 2 ^ 32 - 1 }
-    ensures { IfSome result (λ q. Holds q actors crashed.now receivers.now (counts_at counts.now event.now)) }
+    ensures { IfSome result
+        (λ q. Holds q actors crashed.now receivers.now (counts_at counts.now event.now)) }
 {
     let Some(mut queues) = queues else {
         return None;
@@ -188,7 +200,10 @@ fn without(
 ) -> Result<Copies, OutOfMemory>
     requires same { length counts.now ≡ length receivers.now }
     requires few { length receivers.now < 2 ^ 32 - 1 }
-    ensures { IfOk result (λ all. all.entries ≡ open_entries (counts_for actors (crashed.now ++ who ∷ []) 0) 1 receivers.now counts.now) }
+    ensures { IfOk result
+        (λ all.
+        all.entries
+        ≡ open_entries (counts_for actors (crashed.now ++ who ∷ []) 0) 1 receivers.now counts.now) }
 {
     let mut all = IndexMap::new(alloc);
     for i in 0..receivers.len() {
@@ -213,7 +228,10 @@ pub(crate) fn after_crash<O>(
     requires holds { IfSome queues (λ q. Holds q actors crashed.now receivers.now counts.now) }
     requires same { length counts.now ≡ length receivers.now }
     requires few { length receivers.now < 2 ^ 32 - 1 }
-    ensures { IfSome result (λ q. Holds q actors (crashed.now ++ (if is_crash event.now then who ∷ [] else [])) receivers.now counts.now) }
+    ensures { IfSome result
+        (λ q.
+        Holds q actors (crashed.now ++ (if is_crash event.now then who ∷ [] else [])) receivers.now
+        counts.now) }
 {
     let Some(mut queues) = queues else {
         return None;
@@ -239,7 +257,10 @@ pub(crate) fn after_sent<M: Parcel>(
     requires holds { IfSome queues (λ q. Holds q actors crashed.now receivers.now counts.now) }
     requires same { length counts.now ≡ length receivers.now }
     requires few { length receivers.now + length sent.now < 2 ^ 32 - 1 }
-    ensures { IfSome result (λ q. Holds q actors crashed.now (receivers.now ++ map M.receiver sent.now) (counts.now ++ replicate (length sent.now) 1)) }
+    ensures { IfSome result
+        (λ q.
+        Holds q actors crashed.now (receivers.now ++ map M.receiver sent.now)
+        (counts.now ++ replicate (length sent.now) 1)) }
 {
     let Some(mut queues) = queues else {
         return None;
@@ -254,7 +275,42 @@ pub(crate) fn after_sent<M: Parcel>(
     Some(queues)
 }
 
-/// Notes a row in what is kept beside the rows, and in the queues. None for want of memory for these.
+// Notes an event in the copies, the crashed and the queues. None for want of memory for these.
+fn note_event<O>(
+    queues: Option<Queues>,
+    alloc: Global,
+    actors: u32,
+    receivers: &[u32],
+    counts: &mut Vec<u32>,
+    crashed: &mut Vec<u32>,
+    who: u32,
+    event: &Event<O>,
+) -> Option<Queues>
+    requires holds { IfSome queues
+        (λ q. Holds q actors crashed.old.items receivers.now counts.old.items) }
+    requires same { length counts.old.items ≡ length receivers.now }
+    requires small { (i : ℕ) → slice_index counts.old.items i < 2 ^ 32 - 1 }
+    requires few { length receivers.now < 2 ^ 32 - 1 }
+    requires crashed { vec_len crashed.old + 1 ≤ vec_capacity crashed.old }
+    ensures holds { IfSome result
+        (λ q. Holds q actors crashed.new.items receivers.now counts.new.items) }
+    ensures counts { counts.new.items ≡ counts_at counts.old.items event.now }
+    ensures room { (vec_len counts.new ≡ vec_len counts.old)
+        × (vec_capacity counts.new ≡ vec_capacity counts.old) }
+    ensures crashed { crashed.new.items
+        ≡ crashed.old.items ++ (if is_crash event.now then who ∷ [] else []) }
+{
+    let ended = crashed.as_slice();
+    let queues = after_event(queues, actors, ended, receivers, counts.as_slice(), event);
+    count_event(counts, event);
+    let left = counts.as_slice();
+    let queues = after_crash(queues, alloc, actors, ended, receivers, left, who, event);
+    add_crash(crashed, who, event);
+    queues
+}
+
+/// Notes a row in what is kept beside the rows, and in the queues. None for want of memory for
+/// these.
 pub(crate) fn note_row<M: Parcel, O>(
     queues: Option<Queues>,
     alloc: Global,
@@ -264,48 +320,28 @@ pub(crate) fn note_row<M: Parcel, O>(
     crashed: &mut Vec<u32>,
     row: &Row<M, O>,
 ) -> Option<Queues>
-    requires holds { IfSome queues (λ q. Holds q actors crashed.old.items receivers.old.items counts.old.items) }
+    requires holds { IfSome queues
+        (λ q. Holds q actors crashed.old.items receivers.old.items counts.old.items) }
     requires same { length counts.old.items ≡ length receivers.old.items }
     requires small { (i : ℕ) → slice_index counts.old.items i < 2 ^ 32 - 1 }
     requires few { length receivers.old.items + length row.now.sent < 2 ^ 32 - 1 }
     requires counts { vec_len counts.old + length row.now.sent ≤ vec_capacity counts.old }
-    requires receivers { vec_len receivers.old + length row.now.sent ≤ vec_capacity receivers.old }
+    requires receivers { vec_len receivers.old + length row.now.sent
+        ≤ vec_capacity receivers.old }
     requires crashed { vec_len crashed.old + 1 ≤ vec_capacity crashed.old }
-    ensures holds { IfSome result (λ q. Holds q actors crashed.new.items receivers.new.items counts.new.items) }
-    ensures counts { counts.new.items ≡ counts_at counts.old.items row.now.event ++ replicate (length row.now.sent) 1 }
+    ensures holds { IfSome result
+        (λ q. Holds q actors crashed.new.items receivers.new.items counts.new.items) }
+    ensures counts { counts.new.items
+        ≡ counts_at counts.old.items row.now.event ++ replicate (length row.now.sent) 1 }
     ensures receivers { receivers.new.items ≡ receivers.old.items ++ map M.receiver row.now.sent }
-    ensures crashed { crashed.new.items ≡ crashed.old.items ++ (if is_crash row.now.event then row.now.who ∷ [] else []) }
+    ensures crashed { crashed.new.items
+        ≡ crashed.old.items ++ (if is_crash row.now.event then row.now.who ∷ [] else []) }
 {
-    let event = &row.event;
-    let sent = row.sent.as_slice();
-    let queues = after_event(
-        queues,
-        actors,
-        crashed.as_slice(),
-        receivers.as_slice(),
-        counts.as_slice(),
-        event,
-    );
-    count_event(counts, event);
-    let queues = after_crash(
-        queues,
-        alloc,
-        actors,
-        crashed.as_slice(),
-        receivers.as_slice(),
-        counts.as_slice(),
-        row.who,
-        event,
-    );
-    add_crash(crashed, row.who, event);
-    let queues = after_sent(
-        queues,
-        actors,
-        crashed.as_slice(),
-        receivers.as_slice(),
-        counts.as_slice(),
-        sent,
-    );
+    let (who, event, sent) = (row.who, &row.event, row.sent.as_slice());
+    let to = receivers.as_slice();
+    let queues = note_event(queues, alloc, actors, to, counts, crashed, who, event);
+    let ended = crashed.as_slice();
+    let queues = after_sent(queues, actors, ended, to, counts.as_slice(), sent);
     add_counts(counts, sent.len());
     add_receivers(receivers, sent);
     queues

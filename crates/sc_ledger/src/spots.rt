@@ -5,7 +5,8 @@ ghost use Rattle.sc_ledger.specs.Spots.{spot_after, spots_from};
 use sc_base::{OutOfMemory, Sequence};
 use std::alloc::Global;
 
-/// A pending copy of a mail: the number of the mail, its receiver `who`, and the copy's place `k`, from 1, among the receiver's pending mail.
+/// A pending copy of a mail: the number of the mail, its receiver `who`, and the copy's place `k`,
+/// from 1, among the receiver's pending mail.
 #[derive(Clone, Copy, Debug, PartialEq, Eq)]
 pub struct Spot {
     pub number: u32,

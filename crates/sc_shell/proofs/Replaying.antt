@@ -1,6 +1,6 @@
 -- Rows of others leave an actor as it is.
 use Rattle.std.proofs.Common.{◌≡◌, ℕ, zero, suc, ◌+◌, eqb, Bool, true, false, cond, List, [], ◌∷◌, ◌++◌, length, refl, sym, ap, ◌∙◌, arith, append_assoc, length-append, eq-eqb}
-use Rattle.std.proofs.lemmas.List.{length-map, append-nil}
+use Rattle.std.proofs.lemmas.List.{append-nil, nil_from_length}
 use Rattle.std.specs.Prelude.{slice_get, Option, Some}
 use Rattle.sc_turn.specs.Turn.{StartsWith, rows_by}
 use Rattle.sc_turn.specs.Seats.{known}
@@ -9,45 +9,25 @@ use Rattle.sc_actor.specs.declared.actors.Seat.{Seat}
 use Rattle.sc_actor.specs.declared.actors.Parcel.{Ghosts}
 use Rattle.sc_actor.specs.declared.rows.Input.{Input}
 use Rattle.sc_actor.specs.Mail.{mails, numbered}
-use Rattle.sc_actor.proofs.ReplayLemmas.{value-snoc}
+use Rattle.sc_actor.proofs.ReplayLemmas.{mails-append, value-snoc}
+use Rattle.sc_actor.proofs.PendingLemmas.{get_left}
 use Rattle.sc_actor.specs.Replay.{Table, input_of, acted, replay, value}
 use Rattle.sc_exchange.specs.declared.ports.Port.{Port}
 use Rattle.sc_exchange.specs.Deeds.{row_by, rows_of}
 use Rattle.sc_exchange.specs.Ports.{seen, made, Looked, Appended}
-use Rattle.sc_exchange.proofs.Done.{rows_of_from}
-
-get_more : {B : Type 0} (xs ys : List B) (i : ℕ) (x : B) → slice_get xs i ≡ Some x → slice_get (xs ++ ys) i ≡ Some x
-get_more [] ys i x e = cc
-get_more (y ∷ xs) ys zero x e = e
-get_more (y ∷ xs) ys (suc i) x e = get_more xs ys i x e
+use Rattle.sc_exchange.proofs.Done.{rows_of-append, quiet}
+use Rattle.sc_exchange.proofs.Knowing.{own_length}
 
 module _ {M O : Type 0} where
-  rows_of-append : (n : ℕ) (xs ys : List (Row M O)) → rows_of n (xs ++ ys) ≡ rows_of n xs ++ rows_of n ys
-  rows_of-append n [] ys = refl
-  rows_of-append n (x ∷ xs) ys = let e = rows_of-append n xs ys in
-      elim (eqb x.who n) as (λ b. cond b (x ∷ rows_of n (xs ++ ys)) (rows_of n (xs ++ ys)) ≡ cond b (x ∷ rows_of n xs) (rows_of n xs) ++ rows_of n ys) [ true ↦ ap (λ l. x ∷ l) e | false ↦ e ]
-
-  none_left : (xs : List (Row M O)) → length xs ≡ 0 → xs ≡ []
-  none_left [] e = refl
-  none_left (x ∷ xs) e = absurd (omega arith)
-
-  -- of two lists with as many rows of a number, the longer has none more
-  quiet : (n : ℕ) (xs more : List (Row M O)) → length (rows_of n (xs ++ more)) ≡ length (rows_of n xs) → rows_of n more ≡ []
-  quiet n xs more e = none_left (rows_of n more) (omega (arith, e, ap length (rows_of-append n xs more), length-append (rows_of n xs) (rows_of n more)))
-
   rows_of_last : (n : ℕ) (xs : List (Row M O)) (row : Row M O) → row.who ≡ n → length (rows_of n (xs ++ row ∷ [])) ≡ length (rows_of n xs) + 1
   rows_of_last n xs row who =
       let one : rows_of n (row ∷ []) ≡ row ∷ [] = ap (λ b. cond b (row ∷ []) []) (eq-eqb row.who n who) in
       omega (arith, ap length (rows_of-append n xs (row ∷ [])), length-append (rows_of n xs) (rows_of n (row ∷ [])), ap length one)
 
-  mails-append : (xs ys : List (Row M O)) → mails (xs ++ ys) ≡ mails xs ++ mails ys
-  mails-append [] ys = refl
-  mails-append (x ∷ xs) ys = ap (λ l. x.sent ++ l) (mails-append xs ys) ∙ sym (append_assoc x.sent (mails xs) (mails ys))
-
   -- a mail keeps its number
   pub numbered_more : (xs more : List (Row M O)) (number : ℕ) (mail : M) → numbered (mails xs) number ≡ Some mail → numbered (mails (xs ++ more)) number ≡ Some mail
   numbered_more xs more zero mail e = cc
-  numbered_more xs more (suc place) mail e = ap (λ l. slice_get l place) (mails-append xs more) ∙ get_more (mails xs) (mails more) place mail e
+  numbered_more xs more (suc place) mail e = ap (λ l. slice_get l place) (mails-append xs more) ∙ get_left (mails xs) (mails more) place mail e
 
 module _ {A M O : Type 0} (table : Table A M O) (who : ℕ) where
   replay_quiet : (actor : A) (sent : List M) (rows : List (Row M O)) → rows_of who rows ≡ [] → replay table who actor sent rows ≡ actor
@@ -66,21 +46,18 @@ module _ {A M O : Type 0} (table : Table A M O) (who : ℕ) where
       let next = cond (eqb x.who who) (acted table actor (input_of sent x.event)).0 actor in
       replay-append next (sent ++ x.sent) xs ys ∙ ap (λ l. replay table who (replay table who next (sent ++ x.sent) xs) l ys) (append_assoc sent x.sent (mails xs))
 
+  -- rows of others leave the replay as it is
   pub value_later : (birth : A) (xs more : List (Row M O)) → rows_of who more ≡ [] → value table (record { who = who; actor = birth }) (xs ++ more) ≡ value table (record { who = who; actor = birth }) xs
   value_later birth xs more none = replay-append birth [] xs more ∙ replay_quiet (replay table who birth [] xs) (mails xs) more none
 
 module _ {M O : Type 0} {h : Ghosts M} where
-  -- a port has seen as many rows of its own as it made
-  pub own_length : (p : Port M O h) → length (rows_of p.who (seen p)) ≡ length (made p)
-  own_length p =
-      ap length (rows_of_from p.who (known p.seat).seen)
-      ∙ (length-map (rows_by p.who (known p.seat).seen) (row_by p.who) ∙ (p.own ∙ sym (length-map (known p.seat).made (row_by p.who))))
-
+  -- what a port has seen more has no row of its actor
   pub quiet_looked : (p q : Port M O h) (l : Looked p q) → rows_of p.who l.later.0 ≡ []
   quiet_looked p q l =
       let mine : length (rows_of p.who (seen q)) ≡ length (made q) = ap (λ n. length (rows_of n (seen q))) (sym l.stays.who) ∙ own_length q in
       quiet p.who (seen p) l.later.0 (ap (λ x. length (rows_of p.who x)) (sym l.later.1) ∙ (mine ∙ (ap length l.made ∙ sym (own_length p))))
 
+  -- nor has what comes before its new row
   pub quiet_appended : (p q : Port M O h) (row : Row M O) (a : Appended p q row) → row.who ≡ p.who → rows_of p.who a.later.0 ≡ []
   quiet_appended p q row a mine =
       let all : length (rows_of p.who (seen q)) ≡ length (made p) + 1 =
@@ -92,13 +69,16 @@ abbrev at : {A : Type 0} → ℕ → A → Seat A
 at who birth = record { who = who; actor = birth }
 
 module _ {A M O : Type 0} {h : Ghosts M} (table : Table A M O) where
+  -- an actor that is the replay of its rows still is, when its port has seen more
   pub replay_looked : (p q : Port M O h) → Looked p q → (actor birth : A) → actor ≡ value table (at p.who birth) (seen p) → actor ≡ value table (at q.who birth) (seen q)
   replay_looked p q l actor birth is =
       is ∙ (sym (value_later table p.who birth (seen p) l.later.0 (quiet_looked p q l)) ∙ (λ i. value table (at (sym l.stays.who i) birth) (sym l.later.1 i)))
 
+  -- a new actor is the replay of no rows
   pub replay_born : (p : Port M O h) (actor : A) → made p ≡ [] → actor ≡ value table (at p.who actor) (seen p)
-  replay_born p actor none = sym (value_later table p.who actor [] (seen p) (none_left (rows_of p.who (seen p)) (own_length p ∙ ap length none)))
+  replay_born p actor none = sym (value_later table p.who actor [] (seen p) (nil_from_length (rows_of p.who (seen p)) (own_length p ∙ ap length none)))
 
+  -- an actor that took a step is the replay with the row of that step
   pub replay_appended : (p q : Port M O h) (row : Row M O) (a : Appended p q row) → row.who ≡ p.who → (actor next birth : A) → actor ≡ value table (at p.who birth) (seen p) → (input : Option (Input M O)) →
       ((more : List (Row M O)) → input_of (mails (seen p ++ more)) row.event ≡ input) → next ≡ (acted table actor input).0 → next ≡ value table (at q.who birth) (seen q)
   replay_appended p q row a mine actor next birth is input given new =
@@ -111,6 +91,7 @@ module _ {A M O : Type 0} {h : Ghosts M} (table : Table A M O) where
 
 -- a list that begins with what the port has seen, and has no more rows of it
 module _ {A M O : Type 0} {h : Ghosts M} (table : Table A M O) where
+  -- an actor is the replay of its rows among others, where these are all that it made
   pub replay_over : (p : Port M O h) (rows : List (Row M O)) → StartsWith rows (seen p) → rows_of p.who rows ≡ made p → (actor birth : A) → actor ≡ value table (at p.who birth) (seen p) → actor ≡ value table (at p.who birth) rows
   replay_over p rows later own actor birth is =
       let none : rows_of p.who later.0 ≡ [] = quiet p.who (seen p) later.0 (ap (λ l. length (rows_of p.who l)) (sym later.1) ∙ (ap length own ∙ sym (own_length p))) in

@@ -2,6 +2,7 @@
 use Rattle.std.proofs.Common.{◌≡◌, ℕ, ◌+◌, ◌<◌, ◌≤◌, false, List, [], ◌∷◌, ◌++◌, refl, sym, ap, ◌∙◌, subst, append_assoc, Option, Some}
 use Rattle.std.proofs.lemmas.List.{append-nil}
 use Rattle.sc_turn.specs.Turn.{StartsWith}
+use Rattle.sc_turn.proofs.Lists.{starts_trans}
 use Rattle.sc_actor.specs.declared.actors.Actor.{Ghosts}
 use Rattle.sc_actor.specs.declared.actors.Parcel.{Ghosts as MailGhosts}
 use Rattle.sc_actor.specs.declared.rows.Row.{Row}
@@ -15,14 +16,12 @@ use Rattle.sc_actor.specs.Counted.{row_bytes, journal_bytes}
 use Rattle.sc_ledger.specs.Pending.{kth_pending}
 use Rattle.sc_exchange.specs.declared.ports.Port.{Port}
 use Rattle.sc_exchange.specs.Deeds.{rows_of}
-use Rattle.sc_exchange.specs.Ports.{seen, made, Stays, Looked, Appended, MayPost}
+use Rattle.sc_exchange.specs.Ports.{seen, made, Looked, Appended, MayPost}
+use Rattle.sc_exchange.proofs.Knowing.{stays_trans, looked_trans}
 use Rattle.sc_shell.specs.declared.turns.Turn.{Turn}
 use Rattle.sc_shell.specs.declared.turns.Turn.TheVariants.{Did, Empty, Full, Spent, OutOfMemory}
 use Rattle.sc_shell.specs.Answers.{MayHappen}
 use Rattle.sc_shell.specs.Shells.{State, Acts, Takes, Happens, row_at}
-
-begins_trans : {E : Type 0} → (xs ys zs : List E) → StartsWith xs ys → StartsWith ys zs → StartsWith xs zs
-begins_trans xs ys zs p q = (q.0 ++ p.0, p.1 ∙ (ap (λ l. l ++ p.0) q.1 ∙ append_assoc zs q.0 p.0))
 
 -- the input of an event that is no delivery does not depend on the mail
 pub input_steady : {M O : Type 0} (event : Event O) → MayHappen event → (sent : List M) → input_of sent event ≡ input_of [] event
@@ -34,6 +33,7 @@ input_steady Crash may sent = refl
 input_steady (Drop number) may sent = absurd may
 input_steady (Again number) may sent = absurd may
 
+-- an event that may happen may be posted
 pub may_post : {O : Type 0} (fetched : Option ℕ) (event : Event O) → MayHappen event → MayPost fetched event
 may_post fetched (Deliver number) may = absurd may
 may_post fetched Tick may = tt
@@ -44,37 +44,16 @@ may_post fetched (Drop number) may = absurd may
 may_post fetched (Again number) may = absurd may
 
 module _ {M O : Type 0} {h : MailGhosts M} where
-  stays_trans : (p q r : Port M O h) → Stays p q → Stays q r → Stays p r
-  stays_trans p q r a b = record {
-    exchange = (b.exchange.0 ∙ a.exchange.0, b.exchange.1 ∙ a.exchange.1, b.exchange.2 ∙ a.exchange.2);
-    who = b.who ∙ a.who;
-    given = b.given ∙ a.given;
-    joined = b.joined ∙ a.joined;
-  }
-
-  pub looked_trans : (p q r : Port M O h) → Looked p q → Looked q r → Looked p r
-  looked_trans p q r a b = record { stays = stays_trans p q r a.stays b.stays; later = begins_trans (seen r) (seen q) (seen p) b.later a.later; made = b.made ∙ a.made }
-
-  pub looked_same : (p : Port M O h) → Looked p p
-  looked_same p = record { stays = record { exchange = (refl, refl, refl); who = refl; given = refl; joined = refl }; later = ([], sym (append-nil (seen p))); made = refl }
-
   appended_trans : (p q r : Port M O h) (row : Row M O) → Looked p q → Appended q r row → Appended p r row
   appended_trans p q r row a b = record {
     stays = stays_trans p q r a.stays b.stays;
     before = b.before;
-    later = begins_trans b.before (seen q) (seen p) b.later a.later;
+    later = starts_trans b.before (seen q) (seen p) b.later a.later;
     seen = b.seen;
     made = b.made ∙ ap (λ l. l ++ row ∷ []) a.made;
   }
 
 module _ {A M O : Type 0} {g : Ghosts A M O} {h : MailGhosts M} where
-  pub happens_acts : (s t : State A M O g h) (event : Event O) (input : Option (Input M O)) (r : Turn) → s.spent ≡ false → input ≡ input_of [] event → Acts s t event input r → Happens s t event r
-  happens_acts s t event input (Did at) free is x = (free, subst (λ i. Acts s t event i (Did at)) is x)
-  happens_acts s t event input (Empty told) free is x = absurd x
-  happens_acts s t event input (Full bytes) free is x = (free, subst (λ i. Acts s t event i (Full bytes)) is x)
-  happens_acts s t event input Spent free is x = absurd x
-  happens_acts s t event input OutOfMemory free is x = (free, subst (λ i. Acts s t event i OutOfMemory) is x)
-
   row_same : (s m : State A M O g h) (event : Event O) (input : Option (Input M O)) → m.actor ≡ s.actor → m.port.who ≡ s.port.who → row_at m event input ≡ row_at s event input
   row_same s m event input a w = λ i. record { who = w i; event = event; sent = (acted g.table (a i) input).1 }
 
@@ -88,7 +67,7 @@ module _ {A M O : Type 0} {g : Ghosts A M O} {h : MailGhosts M} where
       let row : Row M O = row_at m (Deliver number) (Some (Got mail)) in
       let same = row_same s m (Deliver number) (Some (Got mail)) actor l.stays.who in (
         free,
-        record { rows = seen m.port; later = l.later; before = begins_trans (seen t.port) x.0.before (seen m.port) (row ∷ [], x.0.seen) x.0.later; own = own_was s m l true_own; number = number; mail = mail; kth = kth; mail_is = is },
+        record { rows = seen m.port; later = l.later; before = starts_trans (seen t.port) x.0.before (seen m.port) (row ∷ [], x.0.seen) x.0.later; own = own_was s m l true_own; number = number; mail = mail; kth = kth; mail_is = is },
         (subst (Appended s.port t.port) same (appended_trans s.port m.port t.port row l x.0), x.1, x.2 ∙ ap (λ a. (acted g.table a (Some (Got mail))).0) actor, x.3, x.4, x.5, subst (λ n. journal_bytes h.weighs (seen t.port) ≤ n) l.stays.exchange.2 x.6),
       )
   takes_acts s m t k number mail free actor l true_own kth is (Empty told) x = absurd x

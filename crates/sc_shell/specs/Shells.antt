@@ -105,7 +105,8 @@ module _ {A M O : Type 0} {g : Ghosts A M O} {h : MailGhosts M} where
   Acts s t event input (Full bytes) =
       Looked s.port t.port × IsCause (JournalFull bytes) (journal_bytes h.weighs (seen t.port)) (row_bytes h.weighs (row_at s event input)) s.port.limit × (t.spent ≡ true) × (t.port.crashed ≡ false) × IsAddressed t.port
   Acts s t event input OutOfMemory = Looked s.port t.port × (t.spent ≡ true) × (t.port.crashed ≡ false)
-  Acts s t event input _ = ⊥
+  Acts s t event input (Empty told) = ⊥
+  Acts s t event input Spent = ⊥
 
   -- nothing was done, since the shell was spent before
   abbrev pub IsSpent : State A M O g h → State A M O g h → Type 0
@@ -127,4 +128,7 @@ module _ {A M O : Type 0} {g : Ghosts A M O} {h : MailGhosts M} where
   -- what an event answers, and what it did
   abbrev pub Happens : State A M O g h → State A M O g h → Event O → Turn → Type 0
   Happens s t event Spent = IsSpent s t
-  Happens s t event turn = (s.spent ≡ false) × Acts s t event (input_of [] event) turn
+  Happens s t event (Did at) = (s.spent ≡ false) × Acts s t event (input_of [] event) (Did at)
+  Happens s t event (Empty told) = (s.spent ≡ false) × Acts s t event (input_of [] event) (Empty told)
+  Happens s t event (Full bytes) = (s.spent ≡ false) × Acts s t event (input_of [] event) (Full bytes)
+  Happens s t event OutOfMemory = (s.spent ≡ false) × Acts s t event (input_of [] event) OutOfMemory

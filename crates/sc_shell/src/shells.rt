@@ -86,7 +86,8 @@ impl<A: Actor> Shell<A> {
     ) -> Turn
         requires runs { self.old.spent ≡ false }
         requires event { MayPost self.old.port.fetched event }
-        requires input { (more : List (Row A.Mail A.Order)) → input_of (mails (seen self.old.port ++ more)) event ≡ input }
+        requires input { (more : List (Row A.Mail A.Order)) →
+            input_of (mails (seen self.old.port ++ more)) event ≡ input }
         ensures acts { Acts (state self.old) (state self.new) event input result }
         ensures stays { Stays (port_of self.old) (port_of self.new) }
         ensures replay { KeepsReplay self.old self.new }
@@ -199,11 +200,15 @@ impl<A: Actor> Shell<A> {
         self.port.vouch(net);
     }
 
-    /// The number of the first pending mail of this actor. None exactly where at this turn there was none.
+    /// The number of the first pending mail of this actor. None exactly where at this turn there
+    /// was none.
     pub fn waiting<R: Wait>(&mut self, rt: &R) -> Option<u32>
         ensures rested { HasRested self.old self.new }
-        ensures looked { HasLooked (port_of self.old) (port_of self.new) (port_of self.old).fetched }
-        ensures first { result ≡ kth_pending A.Mail.receiver (port_of self.old).actors (seen (port_of self.new)) (port_of self.old).who 1 }
+        ensures looked { HasLooked (port_of self.old) (port_of self.new)
+            (port_of self.old).fetched }
+        ensures first { result
+            ≡ kth_pending A.Mail.receiver (port_of self.old).actors (seen (port_of self.new))
+            (port_of self.old).who 1 }
     {
         let who = self.port.who;
         self.port.pending(rt, who, 1)

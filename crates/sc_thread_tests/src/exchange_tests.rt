@@ -61,7 +61,10 @@ fn post_one<R: Wait>(
     event: Event<u32>,
     sent: Sequence<Note>,
 ) -> Result<u32, OutOfMemory>
-    requires { (port.old.who ≢ 0) × (port.old.crashed ≡ false) × MayPost port.old.fetched event × (is_crash event ≡ false) }
+    requires { (port.old.who ≢ 0)
+        × (port.old.crashed ≡ false)
+        × MayPost port.old.fetched event
+        × (is_crash event ≡ false) }
     ensures { Stays port.old port.new × (port.new.crashed ≡ false) }
 {
     match port.post(rt, event, sent) {
@@ -160,7 +163,8 @@ fn by_two<R: Threads + Wait + Sync>(
     two: Port<Note, u32>,
 ) -> Result<(Port<Note, u32>, Port<Note, u32>), OutOfMemory>
     requires { (one.who ≡ 1) × (one.crashed ≡ false) × (two.who ≡ 2) × (two.crashed ≡ false) }
-    ensures { IfOk result (λ p. SameExchange one p.0 × (p.0.who ≡ 1) × SameExchange two p.1 × (p.1.who ≡ 2)) }
+    ensures { IfOk result
+        (λ p. SameExchange one p.0 × (p.0.who ≡ 1) × SameExchange two p.1 × (p.1.who ≡ 2)) }
 {
     let (a, b) = join(
         rt,
@@ -180,7 +184,10 @@ fn by_two<R: Threads + Wait + Sync>(
 
 fn take_in(net: &mut Port<Note, u32>, other: Port<Note, u32>)
     requires { (net.old.who ≡ 0) × SameExchange net.old other }
-    ensures { SameExchange net.old net.new × (net.new.who ≡ 0) × (given net.new ≡ given net.old) × (map (λ k. k.0) (joined net.new) ≡ map (λ k. k.0) (joined net.old) ++ other.who ∷ []) }
+    ensures { SameExchange net.old net.new
+        × (net.new.who ≡ 0)
+        × (given net.new ≡ given net.old)
+        × (map (λ k. k.0) (joined net.new) ≡ map (λ k. k.0) (joined net.old) ++ other.who ∷ []) }
 {
     net.join(other);
 }

@@ -5,6 +5,10 @@
 #[cfg(test)]
 mod exchange_tests;
 #[cfg(test)]
+mod ledger_tests;
+#[cfg(test)]
 mod notes;
 #[cfg(test)]
 mod shell_tests;
+#[cfg(test)]
+mod turn_tests;

@@ -1,5 +1,5 @@
 //! Two actors that send each other notes.
-ghost use Rattle.std.specs.Prelude.{◌≡◌, ◌<◌, [], ◌∷◌, false};
+ghost use Rattle.std.specs.Prelude.{◌≡◌, ◌<◌, ◌≤◌, ◌^◌, [], ◌∷◌, false};
 ghost use Rattle.sc_exchange.specs.Ports.{made};
 ghost use Rattle.sc_shell.specs.Shells.{port_of};
 
@@ -59,18 +59,27 @@ fn seated(port: Port<Note, u32>, other: u32, starved: bool) -> Shell<Player>
     Shell::new(Player { other, starved }, port)
 }
 
+// The network's port, and the shells of two actors that send each other notes. The second has no
+// memory where it is `starved`.
+fn two_seated(
+    alloc: Global,
+    limit: u64,
+    starved: bool,
+) -> Result<(Port<Note, u32>, Shell<Player>, Shell<Player>), OutOfMemory>
+    requires { limit ≤ 2 ^ 30 }
+{
+    let mut net: Port<Note, u32> = Port::start(alloc, 2, limit)?;
+    let one = net.split(1)?;
+    let two = net.split(2)?;
+    Ok((net, seated(one, 2, false), seated(two, 1, starved)))
+}
+
 #[test]
-fn shells_pass_the_gate_and_are_spent(rt: HostRuntime) -> Result<(), Fail> {
+fn shells_take_turns_and_pass_the_gate(rt: HostRuntime) -> Result<(), Fail> {
     let gate = Counter {
         passes: AtomicU64::new(0),
     };
-    let mut net: Port<Note, u32> = Port::start(rt.alloc(), 3, 1280)?;
-    let one = net.split(1)?;
-    let two = net.split(2)?;
-    let three = net.split(3)?;
-    let mut one = seated(one, 2, false);
-    let mut two = seated(two, 1, false);
-    let mut three = seated(three, 1, true);
+    let (_net, mut one, mut two) = two_seated(rt.alloc(), 1280, false)?;
     assert_eq!(rt; one.who(), 1);
     assert!(rt; one.last().is_none());
     assert_eq!(rt;
@@ -82,20 +91,47 @@ fn shells_pass_the_gate_and_are_spent(rt: HostRuntime) -> Result<(), Fail> {
     assert_eq!(rt; two.turn(&rt, rt.alloc(), 1, &gate), Turn::Did { at: 2 });
     assert_eq!(rt; one.turn(&rt, rt.alloc(), 1, &gate), Turn::Did { at: 3 });
     assert_eq!(rt; gate.passes.load(Ordering::SeqCst), 2);
+    assert!(rt; !one.is_spent());
+    Ok(())
+}
+
+#[test]
+fn a_shell_that_crashed_is_spent(rt: HostRuntime) -> Result<(), Fail> {
+    let gate = Counter {
+        passes: AtomicU64::new(0),
+    };
+    let (_net, mut one, _two) = two_seated(rt.alloc(), 1280, false)?;
     assert_eq!(rt;
-        two.event(&rt, rt.alloc(), Event::Crash),
-        Turn::Did { at: 4 }
+        one.event(&rt, rt.alloc(), Event::Crash),
+        Turn::Did { at: 1 }
     );
-    assert_eq!(rt; two.turn(&rt, rt.alloc(), 1, &gate), Turn::Spent);
-    assert_eq!(rt;
-        three.event(&rt, rt.alloc(), Event::Tick),
-        Turn::OutOfMemory
-    );
-    assert_eq!(rt; three.event(&rt, rt.alloc(), Event::Tick), Turn::Spent);
+    assert_eq!(rt; one.turn(&rt, rt.alloc(), 1, &gate), Turn::Spent);
+    assert!(rt; one.is_spent());
+    assert!(rt; one.has_crashed());
+    Ok(())
+}
+
+#[test]
+fn a_shell_without_memory_is_spent(rt: HostRuntime) -> Result<(), Fail> {
+    let (_net, _one, mut two) = two_seated(rt.alloc(), 1280, true)?;
+    assert_eq!(rt; two.event(&rt, rt.alloc(), Event::Tick), Turn::OutOfMemory);
+    assert_eq!(rt; two.event(&rt, rt.alloc(), Event::Tick), Turn::Spent);
+    assert!(rt; !two.has_crashed());
+    Ok(())
+}
+
+#[test]
+fn a_shell_whose_row_is_refused_is_spent(rt: HostRuntime) -> Result<(), Fail> {
+    let (_net, mut one, _two) = two_seated(rt.alloc(), 400, false)?;
     assert_eq!(rt;
         one.event(&rt, rt.alloc(), Event::Tick),
-        Turn::Full { bytes: 1024 }
+        Turn::Did { at: 1 }
     );
-    assert_eq!(rt; one.last(), Some(Turn::Full { bytes: 1024 }));
+    assert_eq!(rt;
+        one.event(&rt, rt.alloc(), Event::Tick),
+        Turn::Full { bytes: 320 }
+    );
+    assert_eq!(rt; one.last(), Some(Turn::Full { bytes: 320 }));
+    assert_eq!(rt; one.event(&rt, rt.alloc(), Event::Tick), Turn::Spent);
     Ok(())
 }

@@ -1,6 +1,7 @@
 -- How a turn is left: what is counted.
 use Rattle.std.proofs.Common.{◌≡◌, ◌≢◌, ℕ, ◌+◌, ◌%◌, ◌^◌, ◌<◌, true, List, [], ◌∷◌, ◌++◌, map, drop, length, sym, refl, ap, ◌∙◌, subst, ⊎_elim, inr, arith, length-append, Contains, Option, Some, None}
 use Rattle.std.proofs.lemmas.List.{append-nil}
+use Rattle.std.proofs.Math.Seq.{drop-append_seam}
 use mathlib.Core.Option.{none}
 use Rattle.atomic_table.specs.Table.{Me, step, rest, Allows}
 use Rattle.sc_turn.specs.declared.rule.View.{View}
@@ -8,19 +9,10 @@ use Rattle.sc_turn.specs.Turn.{view, with_seen, with_row, counted, rows_by, CanL
 use Rattle.sc_turn.proofs.Lists.{rows_by_none}
 use Rattle.sc_turn.proofs.Keeps.{appends, releases}
 
-drop_whole : {A : Type 0} → (xs ys : List A) → drop (length xs) (xs ++ ys) ≡ ys
-drop_whole [] ys = refl
-drop_whole (x ∷ xs) ys = drop_whole xs ys
-
 module _ {E : Type 0} where
-  made_more : (seen rows : List (E × ℕ)) (made : List E) → made ++ map (λ r. r.0) (drop (length seen) (seen ++ rows)) ≡ made ++ map (λ r. r.0) rows
-  made_more seen rows made = ap (λ (l : List (E × ℕ)). made ++ map (λ r. r.0) l) (drop_whole seen rows)
-
-  counted_none : (v : View E) (rows : List (E × ℕ)) → v.told ≡ [] → rows ≡ v.seen → with_seen v v.seen ≡ counted v rows
-  counted_none v rows told is =
-      let a : rows ≡ v.seen ++ [] = is ∙ sym (append-nil v.seen) in
-      let m : v.made ++ map (λ r. r.0) (drop (length v.seen) rows) ≡ v.made = ap (λ (l : List (E × ℕ)). v.made ++ map (λ r. r.0) (drop (length v.seen) l)) a ∙ (made_more v.seen [] v.made ∙ append-nil v.made) in
-      λ i. view v.who v.live v.turn (sym is i) (sym told i) (sym m i) v.given v.joined
+  -- what is made of the rows behind those that were seen
+  pub made_more : (seen rows : List (E × ℕ)) (made : List E) → made ++ map (λ r. r.0) (drop (length seen) (seen ++ rows)) ≡ made ++ map (λ r. r.0) rows
+  made_more seen rows made = ap (λ (l : List (E × ℕ)). made ++ map (λ r. r.0) l) (drop-append_seam seen rows)
 
   counted_one : (v : View E) (row : E) (rows : List (E × ℕ)) → rows ≡ v.seen ++ (row, v.who) ∷ [] → with_row v row ≡ counted v rows
   counted_one v row rows is =
@@ -35,17 +27,11 @@ module _ {T E : Type 0} (entries : T → List (E × ℕ)) where
   abbrev M : Type 0
   M = Me (Option T) (View E)
 
-  -- the number read is the number of rows that the value has: nothing is to be counted
-  pub counts_none : (m m' : M) (r rows : ℕ) (x : T) → Reads entries m r m' → m.0.turn ≡ true → m.0.told ≡ [] → CanLeave m.0 (entries x) → rows ≡ length (entries x) → r ≡ rows → m' ≡ (counted m.0 (entries x), m.1)
-  counts_none m m' r rows x read has told may count same = read.same ∙ ⊎_elim
-      (λ (is : entries x ≡ m.0.seen). ap (λ (v : View E). (v, m.1)) (counted_none m.0 (entries x) told is))
-      (λ (t : (row : E) × (entries x ≡ m.0.seen ++ (row, m.0.who) ∷ [])). absurd (omega (arith, read.count has, ap length t.1, length-append m.0.seen ((t.0, m.0.who) ∷ []))))
-      may
-
-  -- else the value has one row more
+  -- Where the number read is not that of the value's rows, the value has one row more.
   one_more : (m : M) (r rows : ℕ) (x : T) → r ≡ length m.0.seen → CanLeave m.0 (entries x) → rows ≡ length (entries x) → r ≢ rows → (row : E) × (entries x ≡ m.0.seen ++ (row, m.0.who) ∷ [])
   one_more m r rows x read may count other = ⊎_elim (λ (is : entries x ≡ m.0.seen). absurd (other (omega (arith, ap length is)))) (λ t. t) may
 
+  -- then it may be counted
   pub counts_one : (slots id : ℕ) (m m' : M) (r rows : ℕ) (x : T) → Reads entries m r m' → m.0.turn ≡ true → m.0.live ≡ true → m.0.told ≡ [] → m.1 ≡ (0, Some x) ∷ [] → CanLeave m.0 (entries x) → rows ≡ length (entries x) → r ≢ rows → rows + 1 < 2 ^ 64
       → Allows (Kept entries) slots id m' 1 (λ n. (n + 1) % 2 ^ 64) (appended entries (step slots 1 1 0 none) m')
   counts_one slots id m m' r rows x read has live told out may count other small =
@@ -55,6 +41,7 @@ module _ {T E : Type 0} (entries : T → List (E × ℕ)) where
       subst (λ (z : M). Allows (Kept entries) slots id z 1 (λ n. (n + 1) % 2 ^ 64) (appended entries (step slots 1 1 0 none) z)) back
       (appends entries slots id (with_seen m.0 m.0.seen, m.1) x t.0 out has live t.1 (omega arith))
 
+  -- and once it counts, the view is that with the row
   pub counts : (m m' m'' : M) (r : ℕ) (x : T) → Reads entries m r m' → m.0.told ≡ [] → m.1 ≡ (0, Some x) ∷ [] → Appends entries m' m'' → m'' ≡ (counted m.0 (entries x), m.1)
   counts m m' m'' r x read told out a =
       let v : View E = m.0 in
@@ -90,5 +77,6 @@ module _ {T E : Type 0} (entries : T → List (E × ℕ)) where
   true_over m m' r rows read live told = let f = read.over live in
       subst (λ (z : M). IsTrueOver z.0 rows) (sym read.same) record { list = f.list; later = f.later; over = subst (StartsWith f.list) told f.over; facts = record { own = f.facts.own; joined = f.facts.joined; others = f.facts.others } }
 
+-- no other number has a row among those that the first seat has seen
 pub others_later : {E : Type 0} → (v : View E) → v.who ≡ 0 → IsTrueLater v → (n : ℕ) → n ≢ 0 → ¬ Contains v.given n → rows_by n v.seen ≡ []
 others_later v first t n ne free = rows_by_none n t.list v.seen t.later (t.facts.others first n ne free)

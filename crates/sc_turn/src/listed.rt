@@ -3,6 +3,7 @@ ghost use Rattle.std.specs.Prelude.{◌≡◌, ℕ, ◌<◌, ◌^◌, List, leng
 
 /// A value that stands for a list of rows.
 pub trait Listed: Drop {
+    /// A row without the number of its maker.
     type Entry;
 
     /// The rows, each with the number of its maker.

@@ -14,7 +14,8 @@ use std::marker::Brand;
 use std::sync::atomic::{AtomicU32, Ordering};
 use std::sync::{Arc, Wait};
 
-// What the seats share: the table, and a count of those that sleep until the turn is free. The count carries no fact: it only saves a call to wake nobody.
+// What the seats share: the table, and a count of those that sleep until the turn is free. The
+// count carries no fact: it only saves a call to wake nobody.
 #[derive(Drop)]
 struct Desk<T: Listed> {
     table: Table<Option<T>, View<T::Entry>, (), Turning<T>, Global>,
@@ -22,7 +23,8 @@ struct Desk<T: Listed> {
 }
 
 /// A seat at the table, by which one thread takes turns at the shared value.
-/// Its meaning is what it knows: its number, the rows that it has seen, the rows that were made under its number, and whether it has the turn.
+/// Its meaning is what it knows: its number, the rows that it has seen, the rows that were made
+/// under its number, and whether it has the turn.
 #[derive(Drop)]
 pub struct TurnSeat<T: Listed> {
     desk: Arc<Desk<T>>,
@@ -51,7 +53,8 @@ impl<T: Listed> TurnSeat<T> {
     }
 
     /// Waits for the turn, asleep while another seat has it, and takes the value.
-    /// The value's list begins with all that this seat has seen, and has the rows of its number, and of each number that it joined, as they were made.
+    /// The value's list begins with all that this seat has seen, and has the rows of its number,
+    /// and of each number that it joined, as they were made.
     /// It may wait forever: no clause says that a turn is ever got.
     pub fn enter<R: Wait>(&mut self, rt: &R) -> T
         requires { (known self.old).turn ≡ false }
@@ -81,7 +84,8 @@ impl<T: Listed> TurnSeat<T> {
         shared.exchange(&mut self.place, 0, Some(value));
         count_row(shared, &mut self.place, rows);
         shared.store::<Release<T>>(&mut self.place, 0, 0);
-        // Each step here and in `acquire` is sequentially consistent. So one who is not counted yet finds the turn free before it sleeps.
+        // Each step here and in `acquire` is sequentially consistent. So one who is not counted yet
+        // finds the turn free before it sleeps.
         if 0 < desk.sleepers.load(Ordering::SeqCst) {
             shared.wake_one(0);
         }
@@ -94,7 +98,8 @@ impl<T: Listed> TurnSeat<T> {
         requires number { who ≢ 0 }
         requires fresh { ¬ Contains (known self.old).given who }
         ensures start { OfOneStart self.old self.new }
-        ensures ok { IfOk result (λ s. OfOneStart self.old s × (known s ≡ newcomer who (known self.old).seen)) }
+        ensures ok { IfOk result
+            (λ s. OfOneStart self.old s × (known s ≡ newcomer who (known self.old).seen)) }
         ensures facts { IfOk result (λ s. IsTrueLater (known s)) }
         ensures given { OnOk result (known self.new ≡ with_given (known self.old) who) }
         ensures err { OnErr result (known self.new ≡ known self.old) }
@@ -114,7 +119,8 @@ impl<T: Listed> TurnSeat<T> {
         requires number { who ≢ 0 }
         requires fresh { ¬ Contains (known self.old).given who }
         ensures start { OfOneStart self.old self.new }
-        ensures ok { IfOk result (λ s. OfOneStart self.old s × (known s ≡ newcomer who (known self.old).seen)) }
+        ensures ok { IfOk result
+            (λ s. OfOneStart self.old s × (known s ≡ newcomer who (known self.old).seen)) }
         ensures facts { IfOk result (λ s. IsTrueLater (known s)) }
         ensures given { OnOk result (known self.new ≡ with_given (known self.old) who) }
         ensures err { OnErr result (known self.new ≡ known self.old) }
@@ -139,7 +145,9 @@ impl<T: Listed> TurnSeat<T> {
         shared.load::<Look<T>>(&mut self.place, 1);
     }
 
-    /// Vouches for what the other seat has seen: with what this seat has seen it goes on to one list, in which the rows of this seat's number are those that were made under it. Neither seat sees more by it.
+    /// Vouches for what the other seat has seen: with what this seat has seen it goes on to one
+    /// list, in which the rows of this seat's number are those that were made under it. Neither
+    /// seat sees more by it.
     pub fn vouch(&mut self, other: &mut TurnSeat<T>)
         requires one_start { OfOneStart self.old other.old }
         requires turn { ((known self.old).turn ≡ false) × ((known other.old).turn ≡ false) }
@@ -154,24 +162,31 @@ impl<T: Listed> TurnSeat<T> {
         shared.load::<Read<T>>(&mut self.place, 1);
     }
 
-    /// Two seats of one start tell each other: afterwards what each has seen begins with what the two had seen before, and what `other` has seen begins with what this seat has.
-    /// It takes no memory. After `OutOfMemory`, which this form never answers, both would have seen what they had.
+    /// Two seats of one start tell each other: afterwards what each has seen begins with what the
+    /// two had seen before, and what `other` has seen begins with what this seat has.
+    /// It takes no memory. After `OutOfMemory`, which this form never answers, both would have seen
+    /// what they had.
     pub fn meet<R: Wait>(&mut self, _rt: &R, other: &mut TurnSeat<T>) -> Result<(), OutOfMemory>
         requires one_start { OfOneStart self.old other.old }
         requires turn { ((known self.old).turn ≡ false) × ((known other.old).turn ≡ false) }
         ensures start { OfOneStart self.old self.new × OfOneStart other.old other.new }
-        ensures view { (known self.new ≡ with_seen (known self.old) (known self.new).seen) × (known other.new ≡ with_seen (known other.old) (known other.new).seen) }
-        ensures mine { StartsWith (known self.new).seen (known self.old).seen × StartsWith (known self.new).seen (known other.old).seen }
-        ensures theirs { StartsWith (known other.new).seen (known self.old).seen × StartsWith (known other.new).seen (known other.old).seen }
+        ensures view { (known self.new ≡ with_seen (known self.old) (known self.new).seen)
+            × (known other.new ≡ with_seen (known other.old) (known other.new).seen) }
+        ensures mine { StartsWith (known self.new).seen (known self.old).seen
+            × StartsWith (known self.new).seen (known other.old).seen }
+        ensures theirs { StartsWith (known other.new).seen (known self.old).seen
+            × StartsWith (known other.new).seen (known other.old).seen }
         ensures last { StartsWith (known other.new).seen (known self.new).seen }
-        ensures facts { IsTrueOf (known self.new) (known self.new).seen × IsTrueOf (known other.new) (known other.new).seen }
+        ensures facts { IsTrueOf (known self.new) (known self.new).seen
+            × IsTrueOf (known other.new) (known other.new).seen }
     {
         self.hear(other);
         other.hear(self);
         Ok(())
     }
 
-    /// The seat of the start takes in another of the same start, and from then on knows what the other had made.
+    /// The seat of the start takes in another of the same start, and from then on knows what the
+    /// other had made.
     /// It keeps the longer of what the two have seen, which begins with the other.
     pub fn join(&mut self, other: TurnSeat<T>)
         requires start { (known self.old).who ≡ 0 }
@@ -179,9 +194,11 @@ impl<T: Listed> TurnSeat<T> {
         requires turn { ((known self.old).turn ≡ false) × ((known other).turn ≡ false) }
         ensures start { OfOneStart self.old self.new }
         ensures view { known self.new ≡ joined_with (known self.old) (known other) }
-        ensures later { StartsWith (known self.new).seen (known self.old).seen × StartsWith (known self.new).seen (known other).seen }
+        ensures later { StartsWith (known self.new).seen (known self.old).seen
+            × StartsWith (known self.new).seen (known other).seen }
         ensures facts { IsTrueLater (known self.new) }
-        ensures others { (n : ℕ) → n ≢ 0 → ¬ Contains (known self.new).given n → rows_by n (known self.new).seen ≡ [] }
+        ensures others { (n : ℕ) → n ≢ 0 → ¬ Contains (known self.new).given n →
+            rows_by n (known self.new).seen ≡ [] }
     {
         let TurnSeat { desk: _, place } = other;
         let desk = &self.desk;

@@ -1,7 +1,8 @@
 use Rattle.std.proofs.Common.{rules, ◌≡◌, sym, ap, ◌∙◌, true, false}
 use Rattle.sc_turn.specs.Seats.{known}
 use Rattle.sc_exchange.specs.Turns.{may_change, change}
-use Rattle.sc_exchange.proofs.Views.{seen_same, seen_row, turned_same, changed, bytes_row, own_turned, own_row_turned, kept_turned, kept_row_turned}
+use Rattle.sc_exchange.proofs.Views.{seen_same, seen_row, turned_same, changed, bytes_row}
+use Rattle.sc_exchange.proofs.Seats.{seat_looked, seat_same, seat_row}
 use Rattle.std.proofs.Common.{[]}
 use Rattle.sc_exchange.specs.Addressed.{all_addressed}
 use Rattle.sc_exchange.proofs.Addressing.{addressed_push, change_addressed}
@@ -25,47 +26,27 @@ returns-in-Ok-clause-ok g c =
       bytes_row g.M.Parcel.weighs rows row _ c.args.limit (seen_row w s v rows row (ap (λ r. r.who) c.change_of.ensures ∙ sym c.requires.net) e.view c.in-Ok.ensures.ok.0) c.in-Ok.ensures.fits,
     )
 
-pub returns-then-not-may_change_at-clause-own : goal.returns-then-not-may_change_at-clause-own
-returns-then-not-may_change_at-clause-own g c =
-    let w = known c.args.seat.now in let s = known c.enter-exchange.new.self in let v = known c.keep_same.new.seat in let e = c.enter-exchange.ensures in
-    own_turned w v (turned_same w s v c.enter-exchange.result.ledger.value.rows.items e.view e.later e.facts c.keep_same.ensures.view)
+pub returns-then-not-may_change_at-clause-turned : goal.returns-then-not-may_change_at-clause-turned
+returns-then-not-may_change_at-clause-turned g c =
+    let seat = c.args.seat.now in let next = c.keep_same.new.seat in let e = c.enter-exchange.ensures in
+    seat_same seat next (seat_looked seat c.enter-exchange.new.self next c.enter-exchange.result.ledger.value.rows.items e.start c.keep_same.ensures.start e.view e.later e.facts c.keep_same.ensures.view c.enter-exchange.result.addressed)
 
-pub returns-in-Ok-clause-own : goal.returns-in-Ok-clause-own
-returns-in-Ok-clause-own g c = own_row_turned (known c.args.seat.now) (known c.append_row.new.seat) (change c.args.fate c.args.number) (returns-in-Ok-clause-ok g c).0.turned
+pub returns-in-Ok-clause-turned : goal.returns-in-Ok-clause-turned
+returns-in-Ok-clause-turned g c =
+    let seat = c.args.seat.now in let met = c.enter-exchange.new.self in let next = c.append_row.new.seat in
+    let rows = c.enter-exchange.result.ledger.value.rows.items in let e = c.enter-exchange.ensures in let row = c.change_of.result in
+    seat_row seat next (change c.args.fate c.args.number) (c.append_row.ensures.start ∙ e.start)
+    (ap (all_addressed g.M.Parcel.receiver []) (seen_row (known seat) (known met) (known next) rows row (ap (λ r. r.who) c.change_of.ensures ∙ sym c.requires.net) e.view c.in-Ok.ensures.ok.0)
+    ∙ addressed_push g.M.Parcel.receiver rows row c.enter-exchange.result.addressed (change_addressed g.M.Parcel.receiver c.args.fate c.args.number _ row c.change_of.ensures))
+    (returns-in-Ok-clause-ok g c).0.turned
 
-pub returns-in-Err-clause-own : goal.returns-in-Err-clause-own
-returns-in-Err-clause-own g c =
-    let w = known c.args.seat.now in let s = known c.enter-exchange.new.self in let v = known c.append_row.new.seat in let e = c.enter-exchange.ensures in
-    own_turned w v (turned_same w s v c.enter-exchange.result.ledger.value.rows.items e.view e.later e.facts c.in-Err.ensures.refused.0)
-
-pub returns-then-not-may_change_at-clause-kept : goal.returns-then-not-may_change_at-clause-kept
-returns-then-not-may_change_at-clause-kept g c =
-    let w = known c.args.seat.now in let s = known c.enter-exchange.new.self in let v = known c.keep_same.new.seat in let e = c.enter-exchange.ensures in
-    kept_turned w v (turned_same w s v c.enter-exchange.result.ledger.value.rows.items e.view e.later e.facts c.keep_same.ensures.view)
-
-pub returns-in-Ok-clause-kept : goal.returns-in-Ok-clause-kept
-returns-in-Ok-clause-kept g c = kept_row_turned (known c.args.seat.now) (known c.append_row.new.seat) (change c.args.fate c.args.number) (returns-in-Ok-clause-ok g c).0.turned
-
-pub returns-in-Err-clause-kept : goal.returns-in-Err-clause-kept
-returns-in-Err-clause-kept g c =
-    let w = known c.args.seat.now in let s = known c.enter-exchange.new.self in let v = known c.append_row.new.seat in let e = c.enter-exchange.ensures in
-    kept_turned w v (turned_same w s v c.enter-exchange.result.ledger.value.rows.items e.view e.later e.facts c.in-Err.ensures.refused.0)
+pub returns-in-Err-clause-turned : goal.returns-in-Err-clause-turned
+returns-in-Err-clause-turned g c =
+    let seat = c.args.seat.now in let next = c.append_row.new.seat in let e = c.enter-exchange.ensures in
+    seat_same seat next (seat_looked seat c.enter-exchange.new.self next c.enter-exchange.result.ledger.value.rows.items e.start c.append_row.ensures.start e.view e.later e.facts c.in-Err.ensures.refused.0 c.enter-exchange.result.addressed)
 
 pub append_row-requires-clause-addressed : goal.append_row-requires-clause-addressed
 append_row-requires-clause-addressed g c = change_addressed g.M.Parcel.receiver c.args.fate c.args.number _ c.change_of.result c.change_of.ensures
-
-pub returns-then-not-may_change_at-clause-addressed : goal.returns-then-not-may_change_at-clause-addressed
-returns-then-not-may_change_at-clause-addressed g c = ap (all_addressed g.M.Parcel.receiver []) (seen_same (known c.args.seat.now) (known c.enter-exchange.new.self) (known c.keep_same.new.seat) c.enter-exchange.result.ledger.value.rows.items c.enter-exchange.ensures.view c.keep_same.ensures.view) ∙ c.enter-exchange.result.addressed
-
-pub returns-in-Ok-clause-addressed : goal.returns-in-Ok-clause-addressed
-returns-in-Ok-clause-addressed g c =
-    let w = known c.args.seat.now in let s = known c.enter-exchange.new.self in let v = known c.append_row.new.seat in
-    let rows = c.enter-exchange.result.ledger.value.rows.items in let e = c.enter-exchange.ensures in let row = c.change_of.result in
-    ap (all_addressed g.M.Parcel.receiver []) (seen_row w s v rows row (ap (λ r. r.who) c.change_of.ensures ∙ sym c.requires.net) e.view c.in-Ok.ensures.ok.0)
-    ∙ addressed_push g.M.Parcel.receiver rows row c.enter-exchange.result.addressed (change_addressed g.M.Parcel.receiver c.args.fate c.args.number _ row c.change_of.ensures)
-
-pub returns-in-Err-clause-addressed : goal.returns-in-Err-clause-addressed
-returns-in-Err-clause-addressed g c = ap (all_addressed g.M.Parcel.receiver []) (seen_same (known c.args.seat.now) (known c.enter-exchange.new.self) (known c.append_row.new.seat) c.enter-exchange.result.ledger.value.rows.items c.enter-exchange.ensures.view c.in-Err.ensures.refused.0) ∙ c.enter-exchange.result.addressed
 
 pub returns-in-Err-clause-may : goal.returns-in-Err-clause-may
 returns-in-Err-clause-may g c =

@@ -1,10 +1,10 @@
-use Rattle.std.proofs.Common.{rules, ◌≡◌, ap, ◌∙◌, sym, subst, []}
+use Rattle.std.proofs.Common.{rules, ◌≡◌, ap, ◌∙◌, sym, subst}
 use Rattle.sc_turn.specs.Seats.{known}
 use Rattle.sc_exchange.specs.Deeds.{rows_from}
 use Rattle.sc_exchange.specs.Answers.{IsFetch}
 use Rattle.sc_exchange.proofs.Results.{ok_maps}
 use Rattle.sc_exchange.proofs.Views.{seen_same}
-use Rattle.sc_exchange.specs.Addressed.{all_addressed}
+use Rattle.sc_exchange.proofs.Seats.{seat_looked}
 use Rattle.sc_exchange.proofs.turns.fetch_at.Goals as goal
 
 pub returns-clause-found : goal.returns-clause-found
@@ -14,11 +14,13 @@ returns-clause-found g c =
     (ap (λ ledger. ledger.rows.items) c.deref-2.ensures ∙ sym (seen_same (known c.args.seat.now) (known c.enter-exchange.new.self) (known c.keep_same-2.new.seat) c.enter-exchange.result.ledger.value.rows.items c.enter-exchange.ensures.view c.keep_same-2.ensures.view)) p)
     c.found_in-found.ensures
 
-pub returns-clause-addressed : goal.returns-clause-addressed
-returns-clause-addressed g c = ap (all_addressed g.M.Parcel.receiver []) (seen_same (known c.args.seat.now) (known c.enter-exchange.new.self) (known c.keep_same-2.new.seat) c.enter-exchange.result.ledger.value.rows.items c.enter-exchange.ensures.view c.keep_same-2.ensures.view) ∙ c.enter-exchange.result.addressed
+pub returns-clause-looked : goal.returns-clause-looked
+returns-clause-looked g c = let e = c.enter-exchange.ensures in
+    seat_looked c.args.seat.now c.enter-exchange.new.self c.keep_same-2.new.seat c.enter-exchange.result.ledger.value.rows.items e.start c.keep_same-2.ensures.start e.view e.later e.facts c.keep_same-2.ensures.view c.enter-exchange.result.addressed
 
-pub returns-in_default-clause-addressed : goal.returns-in_default-clause-addressed
-returns-in_default-clause-addressed g c = ap (all_addressed g.M.Parcel.receiver []) (seen_same (known c.args.seat.now) (known c.enter-exchange.new.self) (known c.keep_same.new.seat) c.enter-exchange.result.ledger.value.rows.items c.enter-exchange.ensures.view c.keep_same.ensures.view) ∙ c.enter-exchange.result.addressed
+pub returns-in_default-clause-looked : goal.returns-in_default-clause-looked
+returns-in_default-clause-looked g c = let e = c.enter-exchange.ensures in
+    seat_looked c.args.seat.now c.enter-exchange.new.self c.keep_same.new.seat c.enter-exchange.result.ledger.value.rows.items e.start c.keep_same.ensures.start e.view e.later e.facts c.keep_same.ensures.view c.enter-exchange.result.addressed
 
 pub returns-in_default-clause-found : goal.returns-in_default-clause-found
 returns-in_default-clause-found g c =

@@ -2,8 +2,7 @@ use Rattle.std.proofs.Common.{ap, sym, ◌∙◌}
 use Rattle.sc_turn.specs.Seats.{known}
 use Rattle.sc_ledger.specs.Pending.{kth_pending}
 use Rattle.sc_exchange.proofs.Views.{seen_same}
-use Rattle.std.proofs.Common.{[]}
-use Rattle.sc_exchange.specs.Addressed.{all_addressed}
+use Rattle.sc_exchange.proofs.Seats.{seat_looked}
 use Rattle.sc_exchange.proofs.turns.kth_at.Goals as goal
 
 pub returns-clause-kth : goal.returns-clause-kth
@@ -12,5 +11,6 @@ returns-clause-kth g c =
     ∙ (ap (λ ledger. kth_pending g.M.Parcel.receiver c.args.actors ledger.rows.items c.args.who c.args.k) c.deref.ensures
     ∙ ap (λ l. kth_pending g.M.Parcel.receiver c.args.actors l c.args.who c.args.k) (sym (seen_same (known c.args.seat.now) (known c.enter-exchange.new.self) (known c.keep_same.new.seat) c.enter-exchange.result.ledger.value.rows.items c.enter-exchange.ensures.view c.keep_same.ensures.view)))
 
-pub returns-clause-addressed : goal.returns-clause-addressed
-returns-clause-addressed g c = ap (all_addressed g.M.Parcel.receiver []) (seen_same (known c.args.seat.now) (known c.enter-exchange.new.self) (known c.keep_same.new.seat) c.enter-exchange.result.ledger.value.rows.items c.enter-exchange.ensures.view c.keep_same.ensures.view) ∙ c.enter-exchange.result.addressed
+pub returns-clause-looked : goal.returns-clause-looked
+returns-clause-looked g c = let e = c.enter-exchange.ensures in
+    seat_looked c.args.seat.now c.enter-exchange.new.self c.keep_same.new.seat c.enter-exchange.result.ledger.value.rows.items e.start c.keep_same.ensures.start e.view e.later e.facts c.keep_same.ensures.view c.enter-exchange.result.addressed

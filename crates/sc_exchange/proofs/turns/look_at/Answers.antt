@@ -3,8 +3,7 @@ use Rattle.sc_turn.specs.Seats.{known}
 use Rattle.sc_exchange.specs.Answers.{IsLook}
 use Rattle.sc_exchange.proofs.Results.{ok_maps}
 use Rattle.sc_exchange.proofs.Views.{seen_same}
-use Rattle.std.proofs.Common.{[]}
-use Rattle.sc_exchange.specs.Addressed.{all_addressed}
+use Rattle.sc_exchange.proofs.Seats.{seat_looked}
 use Rattle.sc_exchange.proofs.turns.look_at.Goals as goal
 
 pub returns-clause-look : goal.returns-clause-look
@@ -14,5 +13,6 @@ returns-clause-look g c =
     (ap (λ ledger. ledger.rows.items) c.deref.ensures ∙ sym (seen_same (known c.args.seat.now) (known c.enter-exchange.new.self) (known c.keep_same.new.seat) c.enter-exchange.result.ledger.value.rows.items c.enter-exchange.ensures.view c.keep_same.ensures.view)) p)
     c.look_in-look.ensures
 
-pub returns-clause-addressed : goal.returns-clause-addressed
-returns-clause-addressed g c = ap (all_addressed g.M.Parcel.receiver []) (seen_same (known c.args.seat.now) (known c.enter-exchange.new.self) (known c.keep_same.new.seat) c.enter-exchange.result.ledger.value.rows.items c.enter-exchange.ensures.view c.keep_same.ensures.view) ∙ c.enter-exchange.result.addressed
+pub returns-clause-looked : goal.returns-clause-looked
+returns-clause-looked g c = let e = c.enter-exchange.ensures in
+    seat_looked c.args.seat.now c.enter-exchange.new.self c.keep_same.new.seat c.enter-exchange.result.ledger.value.rows.items e.start c.keep_same.ensures.start e.view e.later e.facts c.keep_same.ensures.view c.enter-exchange.result.addressed

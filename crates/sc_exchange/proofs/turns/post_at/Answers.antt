@@ -2,11 +2,11 @@ use Rattle.std.proofs.Common.{sym, subst, ap, ◌∙◌, length}
 use Rattle.sc_turn.specs.Seats.{known}
 use Rattle.sc_actor.specs.Counted.{row_bytes, journal_bytes}
 use Rattle.sc_ledger.specs.Fault.{IsCause}
-use Rattle.sc_exchange.proofs.Results.{ok_with, err_with}
-use Rattle.sc_exchange.proofs.Views.{seen_same, seen_row, turned_same, turned_row, bytes_row, own_either, kept_either}
+use Rattle.sc_exchange.proofs.Results.{ok_with, err_maps, either}
+use Rattle.sc_exchange.proofs.Views.{seen_same, seen_row, turned_same, turned_row, bytes_row}
+use Rattle.sc_exchange.proofs.Seats.{seat_looked, seat_same, seat_row}
 use Rattle.std.proofs.Common.{[]}
 use Rattle.sc_exchange.specs.Addressed.{all_addressed}
-use Rattle.sc_exchange.proofs.Results.{either}
 use Rattle.sc_exchange.proofs.Addressing.{addressed_push, addressed_found}
 use Rattle.sc_exchange.proofs.turns.post_at.Goals as goal
 
@@ -23,35 +23,25 @@ pub returns-clause-refused : goal.returns-clause-refused
 returns-clause-refused g c =
     let w = known c.args.seat.now in let s = known c.enter-exchange.new.self in let v = known c.append_row.new.seat in
     let rows = c.enter-exchange.result.ledger.value.rows.items in let e = c.enter-exchange.ensures in
-    err_with c.append_row.result
+    err_maps c.append_row.result
     (λ x p. (turned_same w s v rows e.view e.later e.facts p.0, p.1, subst (λ l. IsCause x.why (journal_bytes g.M.Parcel.weighs l) (row_bytes g.M.Parcel.weighs c.args.row) c.args.limit) (sym (seen_same w s v rows e.view p.0)) p.2))
     c.append_row.ensures.refused
 
-pub returns-clause-own : goal.returns-clause-own
-returns-clause-own g c =
-    let w = known c.args.seat.now in let s = known c.enter-exchange.new.self in let v = known c.append_row.new.seat in
-    let rows = c.enter-exchange.result.ledger.value.rows.items in let e = c.enter-exchange.ensures in
-    own_either w v c.args.row c.append_row.result
-    (ok_with c.append_row.result (λ place p fits. turned_row w s v rows c.args.row e.view e.later e.facts p.0) c.append_row.ensures.ok c.append_row.ensures.fits)
-    (err_with c.append_row.result (λ x p. turned_same w s v rows e.view e.later e.facts p.0) c.append_row.ensures.refused)
-
-pub returns-clause-kept : goal.returns-clause-kept
-returns-clause-kept g c =
-    let w = known c.args.seat.now in let s = known c.enter-exchange.new.self in let v = known c.append_row.new.seat in
-    let rows = c.enter-exchange.result.ledger.value.rows.items in let e = c.enter-exchange.ensures in
-    kept_either w v c.args.row c.append_row.result
-    (ok_with c.append_row.result (λ place p fits. turned_row w s v rows c.args.row e.view e.later e.facts p.0) c.append_row.ensures.ok c.append_row.ensures.fits)
-    (err_with c.append_row.result (λ x p. turned_same w s v rows e.view e.later e.facts p.0) c.append_row.ensures.refused)
+pub returns-clause-turned : goal.returns-clause-turned
+returns-clause-turned g c =
+    let seat = c.args.seat.now in let met = c.enter-exchange.new.self in let next = c.append_row.new.seat in
+    let rows = c.enter-exchange.result.ledger.value.rows.items in let e = c.enter-exchange.ensures in let row = c.args.row in
+    either c.append_row.result
+    (ok_with c.append_row.result
+    (λ place p fits. seat_row seat next row (c.append_row.ensures.start ∙ e.start)
+    (ap (all_addressed g.M.Parcel.receiver []) (seen_row (known seat) (known met) (known next) rows row c.requires.maker e.view p.0)
+    ∙ addressed_push g.M.Parcel.receiver rows row c.enter-exchange.result.addressed (addressed_found g.M.Parcel.receiver row.who row.event (known seat) rows e.later c.requires.addressed))
+    (turned_row (known seat) (known met) (known next) rows row e.view e.later e.facts p.0))
+    c.append_row.ensures.ok c.append_row.ensures.fits)
+    (err_maps c.append_row.result
+    (λ x p. seat_same seat next (seat_looked seat met next rows e.start c.append_row.ensures.start e.view e.later e.facts p.0 c.enter-exchange.result.addressed))
+    c.append_row.ensures.refused)
 
 pub append_row-requires-clause-addressed : goal.append_row-requires-clause-addressed
 append_row-requires-clause-addressed g c =
     addressed_found g.M.Parcel.receiver c.args.row.who c.args.row.event (known c.args.seat.now) c.enter-exchange.result.ledger.value.rows.items c.enter-exchange.ensures.later c.requires.addressed
-
-pub returns-clause-addressed : goal.returns-clause-addressed
-returns-clause-addressed g c =
-    let w = known c.args.seat.now in let s = known c.enter-exchange.new.self in let v = known c.append_row.new.seat in
-    let rows = c.enter-exchange.result.ledger.value.rows.items in let e = c.enter-exchange.ensures in let row = c.args.row in
-    either c.append_row.result
-    (ok_with c.append_row.result (λ place p fits. ap (all_addressed g.M.Parcel.receiver []) (seen_row w s v rows row c.requires.maker e.view p.0) ∙ addressed_push g.M.Parcel.receiver rows row c.enter-exchange.result.addressed (addressed_found g.M.Parcel.receiver row.who row.event w rows e.later c.requires.addressed))
-    c.append_row.ensures.ok c.append_row.ensures.fits)
-    (err_with c.append_row.result (λ x p. ap (all_addressed g.M.Parcel.receiver []) (seen_same w s v rows e.view p.0) ∙ c.enter-exchange.result.addressed) c.append_row.ensures.refused)

@@ -12,13 +12,13 @@ use Rattle.sc_exchange.proofs.ports.Port.change.Goals as goal
 pub returns-in-Ok : goal.returns-in-Ok
 returns-in-Ok g c = let e = c.change_at.ensures in record {
   turned = record {
-    stays = stays_after c.args.self.now _ e.start refl refl refl e.kept;
+    stays = stays_after c.args.self.now _ e.turned.start refl refl refl (e.turned.given, e.turned.joined);
     rows = change_true _ _ c.args.fate c.args.number c.args.self.now _ c.in-Ok.done c.in-Ok.ensures.ok;
-    addressed = e.addressed;
+    addressed = e.turned.addressed;
   };
   fetched = refl;
   crashed = refl;
-  ok = change_answers c.args.fate c.args.number c.args.self.now _ c.in-Ok.done e.start refl refl refl c.requires c.in-Ok.ensures.ok;
+  ok = change_answers c.args.fate c.args.number c.args.self.now _ c.in-Ok.done e.turned.start refl refl refl c.requires c.in-Ok.ensures.ok;
   may = tt;
   refused = tt;
 }
@@ -27,16 +27,16 @@ pub returns-in-Err : goal.returns-in-Err
 returns-in-Err g c =
     let e = c.change_at.ensures in let t = c.in-Err.ensures.refused in let u = c.unposted.ensures in record {
       turned = record {
-        stays = stays_after c.args.self.now _ e.start refl refl refl e.kept;
+        stays = stays_after c.args.self.now _ e.turned.start refl refl refl (e.turned.given, e.turned.joined);
         rows = true_after c.args.self.now _ t.0;
-        addressed = e.addressed;
+        addressed = e.turned.addressed;
       };
       fetched = refl;
       crashed = refl;
       ok = tt;
       may = c.in-Err.ensures.may;
       refused = record {
-        looked = looked_after c.args.self.now _ e.start refl refl refl t.0;
+        looked = looked_after c.args.self.now _ e.turned.start refl refl refl t.0;
         event = u.1 ∙ ap (λ (r : Row g.row.M.Denot g.row.O.Denot). r.event) t.1;
         sent = u.2 ∙ ap (λ (r : Row g.row.M.Denot g.row.O.Denot). r.sent) t.1;
         cause = cause_back _ _ _ _ _ _ u.0 (ap (row_bytes g.M.Parcel.weighs) (sym t.1)) t.2;
@@ -53,7 +53,7 @@ invariant_of-self-clause-asked g c = let s = c.args.self.now in let e = c.change
     (err_maps c.change_at.result (λ x p. turned_later (known s.seat) (known c.change_at.new.seat) p.0) e.refused)))
 
 pub invariant_of-self-clause-own : goal.invariant_of-self-clause-own
-invariant_of-self-clause-own g c = let s = c.args.self.now in own_again (known s.seat) (known c.change_at.new.seat) s.who s.number c.change_at.ensures.own
+invariant_of-self-clause-own g c = let s = c.args.self.now in own_again (known s.seat) (known c.change_at.new.seat) s.who s.number c.change_at.ensures.turned.own
 
 pub invariant_of-self-clause-halted : goal.invariant_of-self-clause-halted
 invariant_of-self-clause-halted g c = let s = c.args.self.now in let e = c.change_at.ensures in

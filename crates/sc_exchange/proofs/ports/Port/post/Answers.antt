@@ -13,7 +13,7 @@ pub returns-in-Ok-clause-ok : goal.returns-in-Ok-clause-ok
 returns-in-Ok-clause-ok g c =
     let t = c.in-Ok.ensures.ok in
     let row : Row g.row.M.Denot g.row.O.Denot = record { who = c.args.self.now.who; event = c.args.event; sent = c.args.sent } in record {
-      appended = appended_after c.args.self.now _ row c.post_at.ensures.start refl refl refl refl t.0;
+      appended = appended_after c.args.self.now _ row c.post_at.ensures.turned.start refl refl refl refl t.0;
       place = t.1;
       within = t.2;
       fetched = refl;
@@ -23,7 +23,7 @@ returns-in-Ok-clause-ok g c =
 pub returns-in-Err-clause-refused : goal.returns-in-Err-clause-refused
 returns-in-Err-clause-refused g c =
     let t = c.in-Err.ensures.refused in let u = c.unposted.ensures in record {
-      looked = looked_after c.args.self.now _ c.post_at.ensures.start refl refl refl t.0;
+      looked = looked_after c.args.self.now _ c.post_at.ensures.turned.start refl refl refl t.0;
       event = u.1 ∙ ap (λ (r : Row g.row.M.Denot g.row.O.Denot). r.event) t.1;
       sent = u.2 ∙ ap (λ (r : Row g.row.M.Denot g.row.O.Denot). r.sent) t.1;
       cause = cause_back _ _ _ _ _ _ u.0 refl t.2;
@@ -34,16 +34,16 @@ returns-in-Err-clause-refused g c =
 pub returns-in-Ok-clause-turned : goal.returns-in-Ok-clause-turned
 returns-in-Ok-clause-turned g c =
     let row : Row g.row.M.Denot g.row.O.Denot = record { who = c.args.self.now.who; event = c.args.event; sent = c.args.sent } in record {
-      stays = stays_after c.args.self.now _ c.post_at.ensures.start refl refl refl c.post_at.ensures.kept;
+      stays = stays_after c.args.self.now _ c.post_at.ensures.turned.start refl refl refl (c.post_at.ensures.turned.given, c.post_at.ensures.turned.joined);
       rows = true_row c.args.self.now _ row c.in-Ok.ensures.ok.0;
-      addressed = c.post_at.ensures.addressed;
+      addressed = c.post_at.ensures.turned.addressed;
     }
 
 pub returns-in-Err-clause-turned : goal.returns-in-Err-clause-turned
 returns-in-Err-clause-turned g c = record {
-  stays = stays_after c.args.self.now _ c.post_at.ensures.start refl refl refl c.post_at.ensures.kept;
+  stays = stays_after c.args.self.now _ c.post_at.ensures.turned.start refl refl refl (c.post_at.ensures.turned.given, c.post_at.ensures.turned.joined);
   rows = true_after c.args.self.now _ c.in-Err.ensures.refused.0;
-  addressed = c.post_at.ensures.addressed;
+  addressed = c.post_at.ensures.turned.addressed;
 }
 
 pub invariant_of-self-in-Err-1 : goal.invariant_of-self-in-Err-1

@@ -1,11 +1,9 @@
 //! One ledger, row by row.
 ghost use Rattle.std.specs.Prelude.{◌≡◌, ◌≤◌, min, ◌^◌, ◌-◌};
 
-use crate::faults::PostFault;
-use crate::ledger::Ledger;
-use crate::spots::{Look, Spot};
 use sc_actor::{Event, Parcel, Row};
 use sc_base::{Dup, OutOfMemory, Sequence};
+use sc_ledger::{Ledger, Look, PostFault, Spot};
 use std::alloc::Global;
 use std::process::Abort;
 use std::test::Fail;

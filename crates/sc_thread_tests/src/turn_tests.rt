@@ -2,14 +2,15 @@
 ghost use Rattle.std.specs.Prelude.{◌≡◌, ◌++◌, ◌∷◌, [], ◌+◌, ◌<◌, false, map, IfOk};
 ghost use Rattle.std.specs.Thread.{IsSync};
 ghost use Rattle.sc_turn.specs.Seats.{known, OfOneStart};
+ghost use Rattle.sc_thread_tests.specs.Seated.{IsIdle};
 
-use crate::listed::Listed;
-use crate::seat::TurnSeat;
 use sc_base::OutOfMemory;
+use sc_turn::{Listed, TurnSeat};
 use std::alloc::Global;
 use std::sync::Wait;
+use std::sync::atomic::{AtomicU64, Ordering};
 use std::test::Fail;
-use std::thread::{Threads, join};
+use std::thread::{Threads, join, yield_now};
 
 // Values, each with the number of its maker.
 #[derive(Drop)]
@@ -38,8 +39,11 @@ impl Log {
 }
 
 fn add<R: Wait>(rt: &R, seat: &mut TurnSeat<Log>, who: u32, value: u8) -> Result<(), OutOfMemory>
-    requires { ((known seat.old).who ≡ who) × ((known seat.old).turn ≡ false) }
-    ensures { OfOneStart seat.old seat.new × ((known seat.new).who ≡ who) × ((known seat.new).turn ≡ false) × ((known seat.new).given ≡ (known seat.old).given) × ((known seat.new).joined ≡ (known seat.old).joined) }
+    requires { IsIdle seat.old who }
+    ensures { OfOneStart seat.old seat.new
+        × IsIdle seat.new who
+        × ((known seat.new).given ≡ (known seat.old).given)
+        × ((known seat.new).joined ≡ (known seat.old).joined) }
 {
     let mut log = seat.enter(rt);
     if log.entries.reserve(1).is_err() {
@@ -56,8 +60,8 @@ fn added_three<R: Wait>(
     mut seat: TurnSeat<Log>,
     who: u32,
 ) -> Result<TurnSeat<Log>, OutOfMemory>
-    requires { ((known seat).who ≡ who) × ((known seat).turn ≡ false) }
-    ensures { IfOk result (λ s. OfOneStart seat s × ((known s).who ≡ who) × ((known s).turn ≡ false)) }
+    requires { IsIdle seat who }
+    ensures { IfOk result (λ s. OfOneStart seat s × IsIdle s who) }
 {
     add(rt, &mut seat, who, 1)?;
     add(rt, &mut seat, who, 2)?;
@@ -72,21 +76,23 @@ fn by_two<R: Threads + Wait + Sync>(
     other: TurnSeat<Log>,
     first: u32,
 ) -> Result<(TurnSeat<Log>, TurnSeat<Log>), OutOfMemory>
-    requires one { ((known one).who ≡ first) × ((known one).turn ≡ false) }
-    requires other { ((known other).who ≡ first + 1) × ((known other).turn ≡ false) }
+    requires one { IsIdle one first }
+    requires other { IsIdle other (first + 1) }
     requires small { first < 9 }
-    ensures { IfOk result (λ s. OfOneStart one s.0 × OfOneStart other s.1 × ((known s.0).who ≡ first) × ((known s.0).turn ≡ false) × ((known s.1).who ≡ first + 1) × ((known s.1).turn ≡ false)) }
+    ensures { IfOk result
+        (λ s.
+        OfOneStart one s.0 × OfOneStart other s.1 × IsIdle s.0 first × IsIdle s.1 (first + 1)) }
 {
     let second = first + 1;
     let (a, b) = join(
         rt,
         || -> Result<TurnSeat<Log>, OutOfMemory>
-            requires { ((known one).who ≡ first) × ((known one).turn ≡ false) }
-            ensures { IfOk result (λ s. OfOneStart one s × ((known s).who ≡ first) × ((known s).turn ≡ false)) }
+            requires { IsIdle one first }
+            ensures { IfOk result (λ s. OfOneStart one s × IsIdle s first) }
         { added_three(rt, one, first) },
         || -> Result<TurnSeat<Log>, OutOfMemory>
-            requires { ((known other).who ≡ second) × ((known other).turn ≡ false) }
-            ensures { IfOk result (λ s. OfOneStart other s × ((known s).who ≡ second) × ((known s).turn ≡ false)) }
+            requires { IsIdle other second }
+            ensures { IfOk result (λ s. OfOneStart other s × IsIdle s second) }
         { added_three(rt, other, second) },
     );
     let a = a?;
@@ -95,8 +101,12 @@ fn by_two<R: Threads + Wait + Sync>(
 }
 
 fn take_in(net: &mut TurnSeat<Log>, other: TurnSeat<Log>)
-    requires { ((known net.old).who ≡ 0) × ((known net.old).turn ≡ false) × OfOneStart net.old other × ((known other).turn ≡ false) }
-    ensures { OfOneStart net.old net.new × ((known net.new).who ≡ 0) × ((known net.new).turn ≡ false) × ((known net.new).given ≡ (known net.old).given) × (map (λ k. k.0) (known net.new).joined ≡ map (λ k. k.0) (known net.old).joined ++ (known other).who ∷ []) }
+    requires { IsIdle net.old 0 × OfOneStart net.old other × ((known other).turn ≡ false) }
+    ensures { OfOneStart net.old net.new
+        × IsIdle net.new 0
+        × ((known net.new).given ≡ (known net.old).given)
+        × (map (λ k. k.0) (known net.new).joined
+        ≡ map (λ k. k.0) (known net.old).joined ++ (known other).who ∷ []) }
 {
     net.join(other);
 }
@@ -143,12 +153,14 @@ fn four_write<R: Threads + Wait + Sync>(rt: &R, alloc: Global) -> Result<Log, Ou
     let (left, right) = join(
         rt,
         || -> Result<(TurnSeat<Log>, TurnSeat<Log>), OutOfMemory>
-            requires { IsSync R.row × ((known one).who ≡ 1) × ((known one).turn ≡ false) × ((known two).who ≡ 2) × ((known two).turn ≡ false) }
-            ensures { IfOk result (λ s. OfOneStart one s.0 × OfOneStart two s.1 × ((known s.0).who ≡ 1) × ((known s.0).turn ≡ false) × ((known s.1).who ≡ 2) × ((known s.1).turn ≡ false)) }
+            requires { IsSync R.row × IsIdle one 1 × IsIdle two 2 }
+            ensures { IfOk result
+                (λ s. OfOneStart one s.0 × OfOneStart two s.1 × IsIdle s.0 1 × IsIdle s.1 2) }
         { by_two(rt, one, two, 1) },
         || -> Result<(TurnSeat<Log>, TurnSeat<Log>), OutOfMemory>
-            requires { IsSync R.row × ((known three).who ≡ 3) × ((known three).turn ≡ false) × ((known four).who ≡ 4) × ((known four).turn ≡ false) }
-            ensures { IfOk result (λ s. OfOneStart three s.0 × OfOneStart four s.1 × ((known s.0).who ≡ 3) × ((known s.0).turn ≡ false) × ((known s.1).who ≡ 4) × ((known s.1).turn ≡ false)) }
+            requires { IsSync R.row × IsIdle three 3 × IsIdle four 4 }
+            ensures { IfOk result
+                (λ s. OfOneStart three s.0 × OfOneStart four s.1 × IsIdle s.0 3 × IsIdle s.1 4) }
         { by_two(rt, three, four, 3) },
     );
     let (one, two) = left?;
@@ -191,5 +203,94 @@ fn seats_of_one_thread_meet_and_join(rt: HostRuntime) -> Result<(), Fail> {
         log.entries.as_slice(),
         [(10u8, 1u32), (20, 0), (30, 1), (40, 0)].as_slice()
     );
+    Ok(())
+}
+
+// How far two threads are: 0 at first, 1 once the one has the turn, 2 once the other goes for it.
+#[derive(Drop)]
+struct Stage {
+    reached: AtomicU64,
+}
+
+// Waits until the stage is reached, or for very long.
+fn await_stage(stage: &Stage, number: u64) {
+    for i in 0..10_000_000 {
+        let _ = i;
+        if stage.reached.load(Ordering::SeqCst) >= number {
+            return;
+        }
+        yield_now();
+    }
+}
+
+// Takes so long that one who goes for the turn is asleep by then.
+fn linger(stage: &Stage) {
+    for i in 0..20_000_000 {
+        let _ = i;
+        if stage.reached.load(Ordering::SeqCst) > 2 {
+            return;
+        }
+    }
+}
+
+// Adds an entry, and leaves the turn when the other seat sleeps. After that it does nothing.
+fn holds_long<R: Wait>(rt: &R, stage: &Stage, mut seat: TurnSeat<Log>) -> TurnSeat<Log>
+    requires { IsIdle seat 1 }
+    ensures { OfOneStart seat result × IsIdle result 1 }
+{
+    let mut log = seat.enter(rt);
+    stage.reached.store(1, Ordering::SeqCst);
+    await_stage(stage, 2);
+    linger(stage);
+    if log.entries.reserve(1).is_ok() {
+        log.entries.push_reserved((1, 1));
+    }
+    seat.leave(log);
+    seat
+}
+
+// Goes for the turn while the other seat has it.
+fn comes_late<R: Wait>(
+    rt: &R,
+    stage: &Stage,
+    mut seat: TurnSeat<Log>,
+) -> Result<TurnSeat<Log>, OutOfMemory>
+    requires { IsIdle seat 2 }
+    ensures { IfOk result (λ s. OfOneStart seat s × IsIdle s 2) }
+{
+    await_stage(stage, 1);
+    stage.reached.store(2, Ordering::SeqCst);
+    add(rt, &mut seat, 2, 2)?;
+    Ok(seat)
+}
+
+fn one_sleeps<R: Threads + Wait + Sync>(rt: &R, alloc: Global) -> Result<Log, OutOfMemory> {
+    let stage = Stage {
+        reached: AtomicU64::new(0),
+    };
+    let mut net = TurnSeat::start(alloc, Log::new(alloc))?;
+    let one = net.split(1)?;
+    let two = net.split(2)?;
+    let (one, two) = join(
+        rt,
+        || -> TurnSeat<Log>
+            requires { IsIdle one 1 }
+            ensures { OfOneStart one result × IsIdle result 1 }
+        { holds_long(rt, &stage, one) },
+        || -> Result<TurnSeat<Log>, OutOfMemory>
+            requires { IsIdle two 2 }
+            ensures { IfOk result (λ s. OfOneStart two s × IsIdle s 2) }
+        { comes_late(rt, &stage, two) },
+    );
+    take_in(&mut net, one);
+    take_in(&mut net, two?);
+    Ok(net.close(rt))
+}
+
+// The seat that sleeps is woken by that `leave` or never, and then this test does not end.
+#[test]
+fn leaving_wakes_the_seat_that_sleeps(rt: HostRuntime) -> Result<(), Fail> {
+    let log = one_sleeps(&rt, rt.alloc())?;
+    assert_eq!(rt; log.entries.as_slice(), [(1u8, 1u32), (2, 2)].as_slice());
     Ok(())
 }

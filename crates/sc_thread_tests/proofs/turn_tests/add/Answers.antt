@@ -1,7 +1,7 @@
 use Rattle.std.proofs.Common.{ℕ, List, [], ◌∷◌, ◌++◌, ap, ◌∙◌, inr}
 use Rattle.sc_turn.specs.Seats.{known}
 use Rattle.sc_turn.proofs.Leaving.{one_row_more}
-use Rattle.sc_turn.proofs.tests.add.Goals as goal
+use Rattle.sc_thread_tests.proofs.turn_tests.add.Goals as goal
 
 pub leave-requires-2-clause-list : goal.leave-requires-2-clause-list
 leave-requires-2-clause-list g c =
