@@ -10,7 +10,8 @@ use sc_paxos_words::{AcceptAnswer, PrepareAnswer, Report};
 use std::alloc::Global;
 use std::marker::Model;
 
-/// One acceptor of one group's log. Contracts see what it holds, and for how many more slots it has room.
+/// One acceptor of one group's log. Contracts see what it holds, and for how many more slots it has
+/// room.
 #[derive(Drop)]
 pub struct Acceptor<V> {
     promised: Ballot,
@@ -27,13 +28,19 @@ impl<V> Model for Acceptor<V> {
 
     ghost Value = { Roomy V };
 
-    ghost view = { λ a. record { state = record { promised = a.promised; floor = a.floor; accepted = a.accepted.items }; room = vec_capacity a.accepted - vec_len a.accepted } };
+    ghost view = { λ a.
+        record {
+          state = record { promised = a.promised; floor = a.floor; accepted = a.accepted.items };
+          room = vec_capacity a.accepted - vec_len a.accepted;
+        } };
 
-    ghost invariant = { λ a. IsWhole (record { promised = a.promised; floor = a.floor; accepted = a.accepted.items }) };
+    ghost invariant = { λ a.
+        IsWhole (record { promised = a.promised; floor = a.floor; accepted = a.accepted.items }) };
 }
 
 impl<V> Acceptor<V> {
-    /// The acceptor at its group's birth: it has promised the first ballot and accepted nothing. It has no room yet.
+    /// The acceptor at its group's birth: it has promised the first ballot and accepted nothing. It
+    /// has no room yet.
     pub fn born(alloc: Global, first: Ballot) -> Acceptor<V>
         ensures { result.state ≡ born first }
     {
@@ -72,11 +79,15 @@ impl<V> Acceptor<V> {
 }
 
 impl<V: Drop> Acceptor<V> {
-    /// Accepts a value at a slot, unless the ballot is below its promise (Paxos Made Simple, section 2.2, phase 2). The slot is above the floor, and there is room for one slot: it takes no memory. Ignored, nothing changes but that the value is dropped.
+    /// Accepts a value at a slot, unless the ballot is below its promise (Paxos Made Simple,
+    /// section 2.2, phase 2). The slot is above the floor, and there is room for one slot: it takes
+    /// no memory. Ignored, nothing changes but that the value is dropped.
     pub fn on_accept(&mut self, ballot: Ballot, slot: u32, value: V) -> AcceptAnswer
         requires room { 1 ≤ self.old.room }
         requires above { self.old.state.floor < slot }
-        ensures answer { accepted (record { slot = slot; ballot = ballot; value = value }) self.old.state ≡ (result, self.new.state) }
+        ensures answer { accepted (record { slot = slot; ballot = ballot; value = value })
+            self.old.state
+            ≡ (result, self.new.state) }
         ensures room { self.old.room ≤ self.new.room + 1 }
     {
         if ballot < self.promised {
@@ -96,7 +107,8 @@ impl<V: Drop> Acceptor<V> {
         AcceptAnswer::Accepted
     }
 
-    /// Forgets the accepted slots not above `upto`, and raises the floor to it where it is lower. It takes no memory.
+    /// Forgets the accepted slots not above `upto`, and raises the floor to it where it is lower.
+    /// It takes no memory.
     pub fn cut(&mut self, upto: u32)
         ensures state { self.new.state ≡ after_cut upto self.old.state }
         ensures room { self.old.room ≤ self.new.room }
@@ -107,10 +119,14 @@ impl<V: Drop> Acceptor<V> {
 }
 
 impl<V: Dup + Drop> Acceptor<V> {
-    /// Promises a ballot above its promise, and reports what it accepted at the slots not below `from`, by rising slot (Paxos Made Simple, section 2.2, phase 1). Any other ballot is ignored, and then nothing changes. `from` is above the floor, so nothing that it covers is forgotten. After want of memory nothing has changed.
+    /// Promises a ballot above its promise, and reports what it accepted at the slots not below
+    /// `from`, by rising slot (Paxos Made Simple, section 2.2, phase 1). Any other ballot is
+    /// ignored, and then nothing changes. `from` is above the floor, so nothing that it covers is
+    /// forgotten. After want of memory nothing has changed.
     pub fn on_prepare(&mut self, ballot: Ballot, from: u32) -> Result<PrepareAnswer<V>, OutOfMemory>
         requires { self.old.state.floor < from }
-        ensures answer { IfOk result (λ answer. prepared ballot from self.old.state ≡ (answer, self.new.state)) }
+        ensures answer { IfOk result
+            (λ answer. prepared ballot from self.old.state ≡ (answer, self.new.state)) }
         ensures err { OnErr result (self.new.state ≡ self.old.state) }
         ensures room { self.new.room ≡ self.old.room }
     {
@@ -148,7 +164,8 @@ fn put<V: Drop>(accepted: &mut Vec<Report<V>>, report: Report<V>)
     requires by_slot { IsBySlot accepted.old.items }
     requires room { vec_len accepted.old < vec_capacity accepted.old }
     ensures items { accepted.new.items ≡ with_report report accepted.old.items }
-    ensures room { vec_capacity accepted.old - vec_len accepted.old ≤ vec_capacity accepted.new - vec_len accepted.new + 1 }
+    ensures room { vec_capacity accepted.old - vec_len accepted.old
+        ≤ vec_capacity accepted.new - vec_len accepted.new + 1 }
 {
     let at = count_below(accepted.as_slice(), report.slot);
     if at < accepted.len() && accepted[at].slot == report.slot {
@@ -160,7 +177,8 @@ fn put<V: Drop>(accepted: &mut Vec<Report<V>>, report: Report<V>)
 
 /// Drops the reports of the slots not above `upto`.
 fn forget<V: Drop>(accepted: &mut Vec<Report<V>>, upto: u32)
-    ensures items { accepted.new.items ≡ filter (λ report. nat_lt upto report.slot) accepted.old.items }
+    ensures items { accepted.new.items
+        ≡ filter (λ report. nat_lt upto report.slot) accepted.old.items }
     ensures fewer { vec_len accepted.new ≤ vec_len accepted.old }
     ensures capacity { vec_capacity accepted.new ≡ vec_capacity accepted.old }
 {

@@ -52,6 +52,7 @@ mails_count weighs (mail ∷ sent) =
     omega (arith, le, split)
 
 module _ {M O : Type 0} (weighs : M → ℕ) where
+  -- the bytes of one more row
   pub journal_bytes-snoc : (rows : List (Row M O)) (row : Row M O) → journal_bytes weighs (rows ++ row ∷ []) ≡ journal_bytes weighs rows + row_bytes weighs row
   journal_bytes-snoc rows row =
       let last : journal_bytes weighs (row ∷ []) ≡ row_bytes weighs row + sum_by (row_bytes {M = M} {O = O} weighs) [] = sum_by-cons (row_bytes weighs) row [] in

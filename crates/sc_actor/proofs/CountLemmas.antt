@@ -6,6 +6,7 @@ use Rattle.sc_actor.specs.declared.rows.Event.{Event}
 use Rattle.sc_actor.specs.declared.rows.Event.TheVariants.{Deliver, Drop, Again, Go, Tick, Crash, Told}
 use Rattle.sc_actor.specs.Mail.{mails, copies, counts_at, counts_after}
 
+-- an event changes no number of counts
 pub length-counts_at : {O : Type 0} (counts : List ℕ) (event : Event O) → length (counts_at counts event) ≡ length counts
 length-counts_at counts (Deliver zero) = refl
 length-counts_at counts (Deliver (suc place)) = length-set counts place (get_or counts place 0 - 1)

@@ -4,6 +4,8 @@ use Rattle.std.specs.Prelude.{slice_get, option_and_then}
 use Rattle.std.specs.Option.{option_map}
 use Rattle.std.specs.List.{flat_map}
 use Rattle.std.proofs.lemmas.Bool.{eqb-true}
+use Rattle.std.proofs.lemmas.Option.{same_Some, cond_some}
+use Rattle.sc_base.proofs.CommonLemmas.{and_then-some, map-some}
 use Rattle.sc_actor.specs.declared.rows.Row.{Row}
 use Rattle.sc_actor.specs.declared.actors.Seat.{Seat}
 use Rattle.sc_actor.specs.declared.rows.Event.{Event}
@@ -13,25 +15,13 @@ use Rattle.sc_actor.specs.declared.schedules.Line.TheVariants.{Go as GoLine, Del
 use Rattle.sc_actor.specs.Mail.{mails, numbered, may_get, has_crashed}
 use Rattle.sc_actor.specs.System.{System, acts, row_of, network, waiting, kth, numbers_of, has_gone}
 use Rattle.sc_actor.specs.Steps.{IsUnderWay, IsOpen, IsLoose, IsStep}
-use Rattle.sc_actor.specs.Walk.{Task, Once, Settles, Frees, Storms, Place, Allows, MayAdd, IsWalk, IsLawful, after_row, start, rest_of_all, tasks_of, delivery, repeat_of, picked, storm_row}
+use Rattle.sc_actor.specs.Walk.{Task, Once, Settles, Frees, Storms, WalkPlace, Allows, MayAdd, IsWalk, IsLawful, after_row, start, rest_of_all, tasks_of, delivery, repeat_of, picked, storm_row}
 use Rattle.sc_actor.proofs.PendingLemmas.{waiting_one, waiting_any, waiting_at}
 use Rattle.sc_actor.proofs.WalkLemmas.{onward-rows}
-
-and_then-some : {X Y : Type 0} (f : X → Option Y) (o : Option X) (y : Y) → option_and_then f o ≡ Some y → (x : X) × (o ≡ Some x) × (f x ≡ Some y)
-and_then-some f None y e = cc
-and_then-some f (Some x) y e = (x, refl, e)
-
-map-some : {X Y : Type 0} (f : X → Y) (o : Option X) (y : Y) → option_map f o ≡ Some y → (x : X) × (o ≡ Some x) × (f x ≡ y)
-map-some f None y e = cc
-map-some f (Some x) y e = (x, refl, cc)
 
 unless-some : {Y : Type 0} (b : Bool) (o : Option Y) (y : Y) → cond b None o ≡ Some y → (b ≡ false) × (o ≡ Some y)
 unless-some true o y e = cc
 unless-some false o y e = (refl, e)
-
-when-some : {Y : Type 0} (b : Bool) (x y : Y) → cond b (Some x) None ≡ Some y → (b ≡ true) × (x ≡ y)
-when-some true x y e = (refl, cc)
-when-some false x y e = cc
 
 find-who_by : {A : Type 0} (s : Seat A) (ss : List (Seat A)) (who : ℕ) (seat : Seat A) → (find (λ other. eqb other.who who) ss ≡ Some seat → seat.who ≡ who) → (b : Bool) → eqb s.who who ≡ b → cond b (Some s) (find (λ other. eqb other.who who) ss) ≡ Some seat → seat.who ≡ who
 find-who_by s ss who seat more true t e = let same : s ≡ seat = cc in ap (λ x. x.who) (sym same) ∙ eqb-true s.who who t
@@ -61,16 +51,13 @@ module _ {A M O : Type 0} (s : System A M O) (rows : List (Row M O)) where
   delivery-step : (mail : ℕ) (row : Row M O) → (m : M) × IsUnderWay s rows mail m → delivery s rows mail ≡ Some row → IsStep s rows row
   delivery-step mail row under e =
       let p = and_then-some (λ m. acts s rows (s.receiver m) (Deliver mail)) (numbered (mails rows) mail) row e in
-      let same : under.0 ≡ p.0 = some-same under.0 p.0 (sym under.1.sent ∙ p.1) in
+      let same : under.0 ≡ p.0 = same_Some under.0 p.0 (sym under.1.sent ∙ p.1) in
       acts-step (s.receiver p.0) (Deliver mail) row (under.0, under.1, ap s.receiver same) p.2
-    where
-      some-same : (x y : M) → Some x ≡ Some y → x ≡ y
-      some-same x y e = cc
 
   repeat-step : (mail : ℕ) (row : Row M O) → repeat_of s rows mail ≡ Some row → IsStep s rows row
   repeat-step mail row e =
       let p = and_then-some (λ m. cond (may_get (numbers_of s.births) rows (s.receiver m)) (Some (network (Again mail))) None) (numbered (mails rows) mail) row e in
-      let q = when-some (may_get (numbers_of s.births) rows (s.receiver p.0)) (network (Again mail)) row p.2 in
+      let q = cond_some (may_get (numbers_of s.births) rows (s.receiver p.0)) (network (Again mail)) row p.2 in
       network-step (Again mail) row (p.0, p.1, q.0) q.1
 
   line-step : (line : Line O) (row : Row M O) → Allows s rows (Once line) row → IsStep s rows row
@@ -119,7 +106,7 @@ module _ {A M O : Type 0} (s : System A M O) (rows : List (Row M O)) where
   MayAdd-step (task ∷ tasks) row e = Allows-step task row e
 
 module _ {A M O : Type 0} (s : System A M O) (P : List (Row M O) → Type 0) (keeps : (rows : List (Row M O)) (row : Row M O) → P rows → IsStep s rows row → P (rows ++ row ∷ [])) where
-  walk-keeps : (place : Place M O) (rows : List (Row M O)) → P place.rows → IsWalk s place rows → P (place.rows ++ rows)
+  walk-keeps : (place : WalkPlace M O) (rows : List (Row M O)) → P place.rows → IsWalk s place rows → P (place.rows ++ rows)
   walk-keeps place [] now walk = subst P (sym (append-nil place.rows)) now
   walk-keeps place (row ∷ rows) now walk =
       let there : (after_row s place row).rows ≡ place.rows ++ row ∷ [] = onward-rows s (place.rows ++ row ∷ []) (rest_of_all place.tasks) place.skipped place.unsettled in

@@ -5,3 +5,4 @@ pub mod Induction
 pub mod CountLemmas
 pub mod BoundLemmas
 pub mod Numbers
+pub mod TaskLemmas

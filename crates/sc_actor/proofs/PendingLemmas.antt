@@ -1,7 +1,7 @@
 -- What is pending was sent, and has a copy.
-use Rattle.std.proofs.Common.{◌≡◌, ℕ, zero, suc, ◌+◌, ◌-◌, ◌<◌, List, [], ◌∷◌, ◌++◌, Bool, true, false, cond, eqb, replicate, refl, sym, subst, arith, get_or, None, Some, inl, inr, ◌⊎◌}
+use Rattle.std.proofs.Common.{◌≡◌, ℕ, zero, suc, ◌+◌, ◌-◌, ◌<◌, List, [], ◌∷◌, ◌++◌, Bool, true, false, cond, eqb, replicate, refl, sym, ◌∙◌, ap, subst, arith, get_or, None, Some, inl, inr, ◌⊎◌}
 use Rattle.std.specs.Prelude.{slice_get}
-use Rattle.std.proofs.lemmas.Bool.{eqb-true, and_parts}
+use Rattle.std.proofs.lemmas.Bool.{eqb-true, and_parts, false≢true}
 use Rattle.sc_actor.specs.declared.rows.Row.{Row}
 use Rattle.sc_actor.specs.Mail.{mails, copies, numbers, may_get, is_for}
 use Rattle.sc_actor.specs.System.{System, waiting, kth, numbers_of}
@@ -43,6 +43,7 @@ module _ {M : Type 0} (test : M → Bool) where
       ]
   sound_by first m sent c counts k number more false t e = later test first m sent c counts number (more k e)
 
+  -- what is pending was sent, passes the test and has a copy
   pub pending_sound : (first : ℕ) (sent : List M) (counts : List ℕ) (k number : ℕ) → slice_get (numbers test first sent counts) k ≡ Some number → Pending test first sent counts number
   pending_sound first [] counts k number e = cc
   pending_sound first (m ∷ sent) [] k number e = cc
@@ -64,6 +65,7 @@ module _ {A M O : Type 0} (s : System A M O) (rows : List (Row M O)) where
       let to_who : s.receiver p.mail ≡ who = eqb-true (s.receiver p.mail) who parts.0 in
       (p.mail, way number p.place p.mail (omega (arith, p.number_is)) p.at (subst (λ w. may_get (numbers_of s.births) rows w ≡ true) (sym to_who) parts.1) p.copies, to_who)
 
+  -- the mail at a place among all that are pending
   pub waiting_at : (place number : ℕ) → slice_get (waiting s rows None) place ≡ Some number → (mail : M) × IsUnderWay s rows number mail
   waiting_at place number e =
       let p = pending_sound (is_for s.receiver (numbers_of s.births) rows None) 1 (mails rows) (copies rows) place number e in
@@ -73,3 +75,39 @@ module _ {A M O : Type 0} (s : System A M O) (rows : List (Row M O)) where
   pub waiting_any : (k number : ℕ) → kth (waiting s rows None) k ≡ Some number → (mail : M) × IsUnderWay s rows number mail
   waiting_any zero number e = cc
   waiting_any (suc k) number e = waiting_at k number e
+
+-- The first number of a test is the first of a narrower one that its mail passes.
+module _ {M : Type 0} (p q : M → Bool) (narrower : (m : M) → q m ≡ true → p m ≡ true) where
+  first_empty : (b c : Bool) (number : ℕ) (xs ys : List ℕ) (n : ℕ) → slice_get (cond b (replicate 0 number) [] ++ xs) 0 ≡ Some n → (slice_get xs 0 ≡ Some n → slice_get ys 0 ≡ Some n) → slice_get (cond c (replicate 0 number) [] ++ ys) 0 ≡ Some n
+  first_empty true true number xs ys n e f = f e
+  first_empty true false number xs ys n e f = f e
+  first_empty false true number xs ys n e f = f e
+  first_empty false false number xs ys n e f = f e
+
+  first_by : (first : ℕ) (m : M) (sent : List M) (c : ℕ) (counts : List ℕ) (n : ℕ) →
+      ((place : ℕ) (x : M) → slice_get (numbers p (suc first) sent counts) 0 ≡ Some n → n ≡ suc first + place → slice_get sent place ≡ Some x → q x ≡ true → slice_get (numbers q (suc first) sent counts) 0 ≡ Some n) →
+      (a b : Bool) → p m ≡ a → q m ≡ b → (place : ℕ) (x : M) → slice_get (cond a (replicate c first) [] ++ numbers p (suc first) sent counts) 0 ≡ Some n → n ≡ first + place → slice_get (m ∷ sent) place ≡ Some x → q x ≡ true →
+      slice_get (cond b (replicate c first) [] ++ numbers q (suc first) sent counts) 0 ≡ Some n
+  first_by first m sent zero counts n more a b pa qb place x e at is passes =
+      first_empty a b first (numbers p (suc first) sent counts) (numbers q (suc first) sent counts) n e (λ e'. later place x at is passes e')
+    where
+      later : (place : ℕ) (x : M) → n ≡ first + place → slice_get (m ∷ sent) place ≡ Some x → q x ≡ true → slice_get (numbers p (suc first) sent counts) 0 ≡ Some n → slice_get (numbers q (suc first) sent counts) 0 ≡ Some n
+      later zero x at is passes e' = let s = pending_sound p (suc first) sent counts 0 n e' in absurd (omega (arith, at, s.number_is))
+      later (suc place) x at is passes e' = more place x e' (omega (arith, at)) is passes
+  first_by first m sent (suc c) counts n more true true pa qb place x e at is passes = e
+  first_by first m sent (suc c) counts n more true false pa qb zero x e at is passes =
+      let same : m ≡ x = cc in
+      absurd (false≢true (sym qb ∙ ap q same ∙ passes))
+  first_by first m sent (suc c) counts n more true false pa qb (suc place) x e at is passes = let same : first ≡ n = cc in absurd (omega (arith, at, same))
+  first_by first m sent (suc c) counts n more false true pa qb place x e at is passes = absurd (false≢true (sym pa ∙ narrower m qb))
+  first_by first m sent (suc c) counts n more false false pa qb zero x e at is passes =
+      let same : m ≡ x = cc in
+      absurd (false≢true (sym qb ∙ ap q same ∙ passes))
+  first_by first m sent (suc c) counts n more false false pa qb (suc place) x e at is passes = more place x e (omega (arith, at)) is passes
+
+  -- the first number that passes the wider test passes the narrower one
+  pub first_own : (first : ℕ) (sent : List M) (counts : List ℕ) (n place : ℕ) (x : M) → slice_get (numbers p first sent counts) 0 ≡ Some n → n ≡ first + place → slice_get sent place ≡ Some x → q x ≡ true → slice_get (numbers q first sent counts) 0 ≡ Some n
+  first_own first [] counts n place x e at is passes = cc
+  first_own first (m ∷ sent) [] n place x e at is passes = cc
+  first_own first (m ∷ sent) (c ∷ counts) n place x e at is passes =
+      first_by first m sent c counts n (λ place' x' e' at' is' passes'. first_own (suc first) sent counts n place' x' e' at' is' passes') (p m) (q m) refl refl place x e at is passes

@@ -16,6 +16,7 @@ module _ {M O : Type 0} where
   pub mails-snoc : (rows : List (Row M O)) (row : Row M O) → mails (rows ++ row ∷ []) ≡ mails rows ++ row.sent
   mails-snoc rows row = mails-append rows (row ∷ []) ∙ ap (λ t. mails rows ++ t) (append-nil row.sent)
 
+  -- the copies under way after one more row
   pub copies-snoc : (rows : List (Row M O)) (row : Row M O) → copies (rows ++ row ∷ []) ≡ counts_after (copies rows) row
   copies-snoc rows row = fold-append counts_after [] rows (row ∷ [])
 
@@ -27,6 +28,7 @@ module _ {A M O : Type 0} (table : Table A M O) (who : ℕ) where
       let next = cond (eqb r.who who) (acted table actor (input_of sent r.event)).0 actor in
       rw append_assoc at (replay-snoc next (sent ++ r.sent) rows row)
 
+-- what an actor is after one more row
 pub value-snoc : {A M O : Type 0} (table : Table A M O) (seat : Seat A) (rows : List (Row M O)) (row : Row M O) →
     value table seat (rows ++ row ∷ []) ≡ cond (eqb row.who seat.who) (acted table (value table seat rows) (input_of (mails rows) row.event)).0 (value table seat rows)
 value-snoc table seat rows row = replay-snoc table seat.who seat.actor [] rows row

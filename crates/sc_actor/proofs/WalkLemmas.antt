@@ -6,23 +6,24 @@ use Rattle.std.proofs.lemmas.List.Sums.{fold-append}
 use Rattle.sc_actor.specs.declared.rows.Row.{Row}
 use Rattle.sc_actor.specs.declared.schedules.Line.{Line}
 use Rattle.sc_actor.specs.System.{System}
-use Rattle.sc_actor.specs.Walk.{Task, Place, Allows, MayAdd, IsWalk, IsLawful, IsWhole, IsNext, is_over, skips, cuts, rest_of, rest_of_all, onward, start, tasks_of, after_row, place_after, skipped, unsettled}
+use Rattle.sc_actor.specs.Walk.{Task, WalkPlace, Allows, MayAdd, IsWalk, IsLawful, IsWhole, IsNext, is_over, skips, cuts, rest_of, rest_of_all, onward, start, tasks_of, after_row, place_after, skipped, unsettled}
 
 module _ {A M O : Type 0} (s : System A M O) where
   -- a walk goes on by a row that it may add
-  pub IsWalk-snoc : (place : Place M O) (rows : List (Row M O)) (row : Row M O) → IsWalk s place rows → MayAdd s (fold (after_row s) place rows).rows (fold (after_row s) place rows).tasks row → IsWalk s place (rows ++ row ∷ [])
+  pub IsWalk-snoc : (place : WalkPlace M O) (rows : List (Row M O)) (row : Row M O) → IsWalk s place rows → MayAdd s (fold (after_row s) place rows).rows (fold (after_row s) place rows).tasks row → IsWalk s place (rows ++ row ∷ [])
   IsWalk-snoc place [] row walk may = (may, tt)
   IsWalk-snoc place (r ∷ rows) row walk may = (walk.0, IsWalk-snoc (after_row s place r) rows row walk.1 may)
 
   -- a walk of two parts is a walk of the first, and then one of the second
-  pub IsWalk-first : (place : Place M O) (xs ys : List (Row M O)) → IsWalk s place (xs ++ ys) → IsWalk s place xs
+  pub IsWalk-first : (place : WalkPlace M O) (xs ys : List (Row M O)) → IsWalk s place (xs ++ ys) → IsWalk s place xs
   IsWalk-first place [] ys walk = tt
   IsWalk-first place (x ∷ xs) ys walk = (walk.0, IsWalk-first (after_row s place x) xs ys walk.1)
 
-  pub IsWalk-second : (place : Place M O) (xs ys : List (Row M O)) → IsWalk s place (xs ++ ys) → IsWalk s (fold (after_row s) place xs) ys
+  pub IsWalk-second : (place : WalkPlace M O) (xs ys : List (Row M O)) → IsWalk s place (xs ++ ys) → IsWalk s (fold (after_row s) place xs) ys
   IsWalk-second place [] ys walk = walk
   IsWalk-second place (x ∷ xs) ys walk = IsWalk-second (after_row s place x) xs ys walk.1
 
+  -- passing tasks changes no row
   pub onward-rows : (rows : List (Row M O)) (tasks : List (Task O)) (skips_ : ℕ) (cut : Bool) → (onward s rows tasks skips_ cut).rows ≡ rows
   onward-rows rows [] skips_ cut = refl
   onward-rows rows (task ∷ tasks) skips_ cut =
@@ -36,7 +37,7 @@ module _ {A M O : Type 0} (s : System A M O) where
   onward-open rows task tasks skips_ cut open_ = rw open_ refl
 
   -- the walk keeps the rows that it was given
-  pub walk-rows : (place : Place M O) (rows : List (Row M O)) → (fold (after_row s) place rows).rows ≡ place.rows ++ rows
+  pub walk-rows : (place : WalkPlace M O) (rows : List (Row M O)) → (fold (after_row s) place rows).rows ≡ place.rows ++ rows
   walk-rows place [] = sym (append-nil place.rows)
   walk-rows place (row ∷ rows) =
       walk-rows (after_row s place row) rows
@@ -49,6 +50,7 @@ pub record Stands {A M O : Type 0} (s : System A M O) (lines : List (Line O)) (j
   pub place : place_after s lines journal ≡ onward s journal tasks skips_ cut
 
 module _ {A M O : Type 0} (s : System A M O) (lines : List (Line O)) where
+  -- where the walk begins
   pub Stands-begin : Stands s lines [] (flat_map (tasks_of s.words) lines) 0 false
   Stands-begin = record { lawful = tt; place = refl }
 
@@ -57,6 +59,7 @@ module _ {A M O : Type 0} (s : System A M O) (lines : List (Line O)) where
   Stands-over journal task tasks skips_ cut stands over =
       record { lawful = stands.lawful; place = stands.place ∙ onward-over s journal task tasks skips_ cut over }
 
+  -- the walk stands before a task that is not over
   pub Stands-at : (journal : List (Row M O)) (task : Task O) (tasks : List (Task O)) (skips_ : ℕ) (cut : Bool) → Stands s lines journal (task ∷ tasks) skips_ cut → is_over s journal task ≡ false →
       place_after s lines journal ≡ record { tasks = task ∷ tasks; rows = journal; skipped = skips_; unsettled = cut }
   Stands-at journal task tasks skips_ cut stands open_ = stands.place ∙ onward-open s journal task tasks skips_ cut open_
@@ -80,6 +83,7 @@ module _ {A M O : Type 0} (s : System A M O) (lines : List (Line O)) where
         place = fold-append (after_row s) (start s lines) journal (row ∷ []) ∙ ap (λ p. after_row s p row) at;
       }
 
+  -- past the last task the journal is whole
   pub Stands-whole : (journal : List (Row M O)) (skips_ : ℕ) (cut : Bool) → Stands s lines journal [] skips_ cut → IsWhole s lines journal × (skipped s lines journal ≡ skips_) × (unsettled s lines journal ≡ cut)
   Stands-whole journal skips_ cut stands = (ap (λ p. p.tasks) stands.place, ap (λ p. p.skipped) stands.place, ap (λ p. p.unsettled) stands.place)
 
@@ -91,17 +95,16 @@ module _ {A M O : Type 0} (s : System A M O) (lines : List (Line O)) where
   pub place_after-rows : (journal : List (Row M O)) → (place_after s lines journal).rows ≡ journal
   place_after-rows journal = walk-rows s (start s lines) journal ∙ ap (λ xs. xs ++ journal) (onward-rows s [] (flat_map (tasks_of s.words) lines) 0 false)
 
-  pub place_after-snoc : (journal : List (Row M O)) (row : Row M O) → place_after s lines (journal ++ row ∷ []) ≡ after_row s (place_after s lines journal) row
-  place_after-snoc journal row = fold-append (after_row s) (start s lines) journal (row ∷ [])
-
   -- a lawful journal goes on by each row that may come next, and by no other
   pub lawful-snoc : (journal : List (Row M O)) (row : Row M O) → IsLawful s lines journal → IsNext s lines journal row → IsLawful s lines (journal ++ row ∷ [])
   lawful-snoc journal row lawful next =
       IsWalk-snoc s (start s lines) journal row lawful (subst (λ xs. MayAdd s xs (place_after s lines journal).tasks row) (sym (place_after-rows journal)) next)
 
+  -- a first part of a lawful journal is lawful
   pub lawful-prefix : (xs ys : List (Row M O)) → IsLawful s lines (xs ++ ys) → IsLawful s lines xs
   lawful-prefix xs ys lawful = IsWalk-first s (start s lines) xs ys lawful
 
+  -- the last row of a lawful journal may come next after the others
   pub lawful-last : (journal : List (Row M O)) (row : Row M O) → IsLawful s lines (journal ++ row ∷ []) → IsNext s lines journal row
   lawful-last journal row lawful =
       subst (λ xs. MayAdd s xs (place_after s lines journal).tasks row) (place_after-rows journal) (IsWalk-second s (start s lines) journal (row ∷ []) lawful).0

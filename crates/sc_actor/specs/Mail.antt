@@ -3,7 +3,7 @@ use Rattle.std.specs.Prelude.{ℕ, zero, suc, ◌+◌, ◌-◌, ◌==◌, List, 
 use Rattle.std.specs.List.{flat_map, list_any}
 use Rattle.sc_actor.specs.declared.rows.Row.{Row}
 use Rattle.sc_actor.specs.declared.rows.Event.{Event}
-use Rattle.sc_actor.specs.declared.rows.Event.TheVariants.{Deliver, Crash, Drop, Again}
+use Rattle.sc_actor.specs.declared.rows.Event.TheVariants.{Deliver, Tick, Go, Told, Crash, Drop, Again}
 
 -- all that was sent, in order
 abbrev pub mails : {M O : Type 0} → List (Row M O) → List M
@@ -14,10 +14,17 @@ abbrev pub numbered : {M : Type 0} → List M → ℕ → Option M
 numbered sent zero = None
 numbered sent (suc place) = slice_get sent place
 
+-- whether an event is a crash
 abbrev pub is_crash : {O : Type 0} → Event O → Bool
 is_crash Crash = true
-is_crash _ = false
+is_crash (Deliver mail) = false
+is_crash Tick = false
+is_crash Go = false
+is_crash (Told order) = false
+is_crash (Drop mail) = false
+is_crash (Again mail) = false
 
+-- whether an actor has crashed
 abbrev pub has_crashed : {M O : Type 0} → List (Row M O) → ℕ → Bool
 has_crashed rows who = list_any (λ row. row.who == who && is_crash row.event) rows
 
@@ -35,7 +42,10 @@ abbrev pub counts_at : {O : Type 0} → List ℕ → Event O → List ℕ
 counts_at counts (Deliver mail) = one_less counts mail
 counts_at counts (Drop mail) = one_less counts mail
 counts_at counts (Again mail) = one_more counts mail
-counts_at counts _ = counts
+counts_at counts Tick = counts
+counts_at counts Go = counts
+counts_at counts (Told order) = counts
+counts_at counts Crash = counts
 
 -- what a row sends has one copy each
 abbrev pub counts_after : {M O : Type 0} → List ℕ → Row M O → List ℕ

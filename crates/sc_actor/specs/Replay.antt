@@ -40,6 +40,7 @@ replay table who actor sent (row ∷ rows) =
 abbrev pub value : {A M O : Type 0} → Table A M O → Seat A → List (Row M O) → A
 value table seat rows = replay table seat.who seat.actor [] rows
 
+-- all actors after these rows
 abbrev pub values : {A M O : Type 0} → Table A M O → List (Seat A) → List (Row M O) → List (Seat A)
 values table seats rows = map (λ seat. record { who = seat.who; actor = value table seat rows }) seats
 

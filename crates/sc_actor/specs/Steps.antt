@@ -47,5 +47,6 @@ pub record NetworkStep {A M O : Type 0} (s : System A M O) (rows : List (Row M O
   pub row_is : row ≡ network event
   pub loose : IsLoose s rows event
 
+-- a row of an actor or of the network
 abbrev pub IsStep : {A M O : Type 0} → System A M O → List (Row M O) → Row M O → Type 0
 IsStep s rows row = ActorStep s rows row ⊎ NetworkStep s rows row

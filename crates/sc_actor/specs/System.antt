@@ -1,11 +1,11 @@
 -- The actors of a system, and the rows that they and the network make.
-use Rattle.std.specs.Prelude.{ℕ, ◌==◌, List, [], map, find, Bool, true, false, ◌&&◌, Option}
+use Rattle.std.specs.Prelude.{ℕ, ◌==◌, List, [], map, find, Bool, true, false, ◌&&◌, not, ◌∷◌, Option}
 use Rattle.std.specs.Option.{option_map}
 use Rattle.std.specs.List.{list_any}
 use Rattle.sc_actor.specs.declared.rows.Row.{Row}
 use Rattle.sc_actor.specs.declared.actors.Seat.{Seat}
 use Rattle.sc_actor.specs.declared.rows.Event.{Event}
-use Rattle.sc_actor.specs.declared.rows.Event.TheVariants.{Go}
+use Rattle.sc_actor.specs.declared.rows.Event.TheVariants.{Deliver, Tick, Go, Told, Crash, Drop, Again}
 use Rattle.sc_actor.specs.Mail.{mails, numbered, pending}
 use Rattle.sc_actor.specs.Replay.{Table, input_of, acted, value}
 
@@ -16,6 +16,7 @@ pub record System (A M O : Type 0) : Type 0 where
   pub words : ℕ → ℕ → ℕ × ℕ
   pub births : List (Seat A)  -- in the order of the actors
 
+-- the system of these parts
 abbrev pub system : {A M O : Type 0} → Table A M O → (M → ℕ) → (ℕ → ℕ → ℕ × ℕ) → List (Seat A) → System A M O
 system table receiver words births = record { table = table; receiver = receiver; words = words; births = births }
 
@@ -23,8 +24,14 @@ system table receiver words births = record { table = table; receiver = receiver
 abbrev pub no_words : ℕ → ℕ → ℕ × ℕ
 no_words number step = (0, 0)
 
+-- the numbers of the actors
 abbrev pub numbers_of : {A : Type 0} → List (Seat A) → List ℕ
 numbers_of seats = map (λ seat. seat.who) seats
+
+-- no two seats have one number
+abbrev pub are_apart : {A : Type 0} → List (Seat A) → Bool
+are_apart [] = true
+are_apart (seat ∷ seats) = not (list_any (λ other. other.who == seat.who) seats) && are_apart seats
 
 -- the pending mail of one actor, or of all
 abbrev pub waiting : {A M O : Type 0} → System A M O → List (Row M O) → Option ℕ → List ℕ
@@ -47,9 +54,15 @@ network event = record { who = 0; event = event; sent = [] }
 abbrev pub kth : List ℕ → ℕ → Option ℕ
 kth xs k = numbered xs k
 
+-- whether an event tells to go
 abbrev pub is_go : {O : Type 0} → Event O → Bool
 is_go Go = true
-is_go _ = false
+is_go (Deliver mail) = false
+is_go Tick = false
+is_go (Told order) = false
+is_go Crash = false
+is_go (Drop mail) = false
+is_go (Again mail) = false
 
 -- whether an actor was told to go
 abbrev pub has_gone : {M O : Type 0} → List (Row M O) → ℕ → Bool

@@ -1,5 +1,5 @@
 -- Which journals a schedule allows.
-use Rattle.std.specs.Prelude.{◌≡◌, ℕ, zero, suc, ◌+◌, ◌-◌, ◌%◌, ◌==◌, List, [], ◌∷◌, ◌++◌, length, fold, ⊤, Bool, false, ◌||◌, not, if◌then◌else◌, Option, None, Some, is_none, slice_get, option_and_then}
+use Rattle.std.specs.Prelude.{◌≡◌, ℕ, zero, suc, ◌+◌, ◌-◌, ◌%◌, ◌==◌, List, [], ◌∷◌, ◌++◌, length, fold, ⊤, Bool, true, false, ◌||◌, not, if◌then◌else◌, Option, None, Some, is_none, slice_get, option_and_then}
 use Rattle.std.specs.Option.{option_map}
 use Rattle.std.specs.List.{flat_map}
 use Rattle.sc_actor.specs.declared.rows.Row.{Row}
@@ -27,6 +27,25 @@ tasks_of words (Settle most) = Settles most ∷ []
 tasks_of words (Free most workers) = Frees most ∷ []
 tasks_of words (Storm number most) = storm_steps (words number) 0 most
 tasks_of words line = Once line ∷ []
+
+-- whether a line has one task: all lines but storms
+abbrev pub has_one_task : {O : Type 0} → Line O → Bool
+has_one_task (GoLine who) = true
+has_one_task (DeliverLine who k) = true
+has_one_task (DropLine who k) = true
+has_one_task (AgainLine mail) = true
+has_one_task (TickLine who) = true
+has_one_task (CrashLine who) = true
+has_one_task (ToldLine who order) = true
+has_one_task (Settle most) = true
+has_one_task (Free most workers) = true
+has_one_task (Storm number most) = false
+
+-- the task of a line that has one
+abbrev pub line_task : {O : Type 0} → Line O → Task O
+line_task (Settle most) = Settles most
+line_task (Free most workers) = Frees most
+line_task line = Once line
 
 -- the delivery of a mail to its receiver
 abbrev pub delivery : {A M O : Type 0} → System A M O → List (Row M O) → ℕ → Option (Row M O)
@@ -91,8 +110,11 @@ is_over s rows (Storms words) = is_none (storm_row s rows (words.0 % 16) words.1
 -- A line of one row that makes none is skipped. A line of many is cut off where mail is still pending.
 abbrev pub skips : {O : Type 0} → Task O → ℕ
 skips (Once line) = 1
-skips _ = 0
+skips (Settles left) = 0
+skips (Frees left) = 0
+skips (Storms words) = 0
 
+-- whether a task that is over is cut off
 abbrev pub cuts : {A M O : Type 0} → System A M O → List (Row M O) → Task O → Bool
 cuts s rows (Once line) = false
 cuts s rows (Settles left) = not (is_quiet s rows)
@@ -107,21 +129,22 @@ rest_of (Frees left) = Frees (left - 1) ∷ []
 rest_of (Storms words) = []
 
 -- How far the walk has come: the tasks left, the first of which makes a row, the rows, the lines that were skipped, and whether a line was cut off.
-pub record Place (M O : Type 0) : Type 0 where
+pub record WalkPlace (M O : Type 0) : Type 0 where
   pub tasks : List (Task O)
   pub rows : List (Row M O)
   pub skipped : ℕ
   pub unsettled : Bool
 
 -- past the tasks that make no row
-abbrev pub onward : {A M O : Type 0} → System A M O → List (Row M O) → List (Task O) → ℕ → Bool → Place M O
+abbrev pub onward : {A M O : Type 0} → System A M O → List (Row M O) → List (Task O) → ℕ → Bool → WalkPlace M O
 onward s rows [] skipped unsettled = record { tasks = []; rows = rows; skipped = skipped; unsettled = unsettled }
 onward s rows (task ∷ tasks) skipped unsettled =
     if is_over s rows task
     then onward s rows tasks (skipped + skips task) (unsettled || cuts s rows task)
     else record { tasks = task ∷ tasks; rows = rows; skipped = skipped; unsettled = unsettled }
 
-abbrev pub start : {A M O : Type 0} → System A M O → List (Line O) → Place M O
+-- where the walk stands before the first row
+abbrev pub start : {A M O : Type 0} → System A M O → List (Line O) → WalkPlace M O
 start s lines = onward s [] (flat_map (tasks_of s.words) lines) 0 false
 
 -- the tasks after one more row
@@ -129,7 +152,8 @@ abbrev pub rest_of_all : {O : Type 0} → List (Task O) → List (Task O)
 rest_of_all [] = []
 rest_of_all (task ∷ tasks) = rest_of task ++ tasks
 
-abbrev pub after_row : {A M O : Type 0} → System A M O → Place M O → Row M O → Place M O
+-- where the walk stands after one more row
+abbrev pub after_row : {A M O : Type 0} → System A M O → WalkPlace M O → Row M O → WalkPlace M O
 after_row s place row = onward s (place.rows ++ row ∷ []) (rest_of_all place.tasks) place.skipped place.unsettled
 
 -- the walk may add this row next
@@ -137,7 +161,8 @@ abbrev pub MayAdd : {A M O : Type 0} → System A M O → List (Row M O) → Lis
 MayAdd s rows [] row = ⊥
 MayAdd s rows (task ∷ tasks) row = Allows s rows task row
 
-abbrev pub IsWalk : {A M O : Type 0} → System A M O → Place M O → List (Row M O) → Type 0
+-- the walk may add these rows one after another
+abbrev pub IsWalk : {A M O : Type 0} → System A M O → WalkPlace M O → List (Row M O) → Type 0
 IsWalk s place [] = ⊤
 IsWalk s place (row ∷ rows) = MayAdd s place.rows place.tasks row × IsWalk s (after_row s place row) rows
 
@@ -146,7 +171,7 @@ abbrev pub IsLawful : {A M O : Type 0} → System A M O → List (Line O) → Li
 IsLawful s lines journal = IsWalk s (start s lines) journal
 
 -- where the walk is after a journal
-abbrev pub place_after : {A M O : Type 0} → System A M O → List (Line O) → List (Row M O) → Place M O
+abbrev pub place_after : {A M O : Type 0} → System A M O → List (Line O) → List (Row M O) → WalkPlace M O
 place_after s lines journal = fold (after_row s) (start s lines) journal
 
 -- A journal is whole where the walk has come past the last line.

@@ -14,38 +14,62 @@ use crate::actors::Actor;
 
 /// What one more row makes of the mail, the copies under way and each actor.
 pub fn journals_grow<A: Actor>()
-    ensures mails { (rows : List (Row A.Mail A.Order)) (row : Row A.Mail A.Order) → mails (rows ++ row ∷ []) ≡ mails rows ++ row.sent }
-    ensures copies { (rows : List (Row A.Mail A.Order)) (row : Row A.Mail A.Order) → copies (rows ++ row ∷ []) ≡ counts_after (copies rows) row }
-    ensures counted { (rows : List (Row A.Mail A.Order)) → length (copies rows) ≡ length (mails rows) }
-    ensures value { (seat : Seat A) (rows : List (Row A.Mail A.Order)) (row : Row A.Mail A.Order) → value A.table seat (rows ++ row ∷ []) ≡ value_after A.table seat rows row }
+    ensures mails { (rows : List (Row A.Mail A.Order)) (row : Row A.Mail A.Order) →
+        mails (rows ++ row ∷ []) ≡ mails rows ++ row.sent }
+    ensures copies { (rows : List (Row A.Mail A.Order)) (row : Row A.Mail A.Order) →
+        copies (rows ++ row ∷ []) ≡ counts_after (copies rows) row }
+    ensures counted { (rows : List (Row A.Mail A.Order)) →
+        length (copies rows) ≡ length (mails rows) }
+    ensures value { (seat : Seat A) (rows : List (Row A.Mail A.Order)) (row : Row A.Mail A.Order) →
+        value A.table seat (rows ++ row ∷ []) ≡ value_after A.table seat rows row }
 {}
 
-/// A lawful journal goes on by each row that may come next and by no other, and each first part of it is lawful.
+/// A lawful journal goes on by each row that may come next and by no other, and each first part of
+/// it is lawful.
 pub fn lawful_journals_grow<A: Actor>()
-    ensures next { (words : ℕ → ℕ → ℕ × ℕ) (births : List (Seat A)) (lines : List (Line A.Order)) (rows : List (Row A.Mail A.Order)) (row : Row A.Mail A.Order) →
-        IsLawful (system A.table A.Mail.receiver words births) lines rows → IsNext (system A.table A.Mail.receiver words births) lines rows row →
+    ensures next { (words : ℕ → ℕ → ℕ × ℕ) (births : List (Seat A)) (lines : List (Line A.Order))
+        (rows : List (Row A.Mail A.Order)) (row : Row A.Mail A.Order) →
+        IsLawful (system A.table A.Mail.receiver words births) lines rows →
+        IsNext (system A.table A.Mail.receiver words births) lines rows row →
         IsLawful (system A.table A.Mail.receiver words births) lines (rows ++ row ∷ []) }
-    ensures last { (words : ℕ → ℕ → ℕ × ℕ) (births : List (Seat A)) (lines : List (Line A.Order)) (rows : List (Row A.Mail A.Order)) (row : Row A.Mail A.Order) →
-        IsLawful (system A.table A.Mail.receiver words births) lines (rows ++ row ∷ []) → IsNext (system A.table A.Mail.receiver words births) lines rows row }
-    ensures first { (words : ℕ → ℕ → ℕ × ℕ) (births : List (Seat A)) (lines : List (Line A.Order)) (rows more : List (Row A.Mail A.Order)) →
-        IsLawful (system A.table A.Mail.receiver words births) lines (rows ++ more) → IsLawful (system A.table A.Mail.receiver words births) lines rows }
+    ensures last { (words : ℕ → ℕ → ℕ × ℕ) (births : List (Seat A)) (lines : List (Line A.Order))
+        (rows : List (Row A.Mail A.Order)) (row : Row A.Mail A.Order) →
+        IsLawful (system A.table A.Mail.receiver words births) lines (rows ++ row ∷ []) →
+        IsNext (system A.table A.Mail.receiver words births) lines rows row }
+    ensures first { (words : ℕ → ℕ → ℕ × ℕ) (births : List (Seat A)) (lines : List (Line A.Order))
+        (rows more : List (Row A.Mail A.Order)) →
+        IsLawful (system A.table A.Mail.receiver words births) lines (rows ++ more) →
+        IsLawful (system A.table A.Mail.receiver words births) lines rows }
 {}
 
-/// Each row that may come next is a step of an actor or of the network, and what is pending was sent and is under way.
+/// Each row that may come next is a step of an actor or of the network, and what is pending was
+/// sent and is under way.
 pub fn next_rows_are_steps<A: Actor>()
-    ensures step { (words : ℕ → ℕ → ℕ × ℕ) (births : List (Seat A)) (lines : List (Line A.Order)) (rows : List (Row A.Mail A.Order)) (row : Row A.Mail A.Order) →
-        IsNext (system A.table A.Mail.receiver words births) lines rows row → IsStep (system A.table A.Mail.receiver words births) rows row }
-    ensures any { (words : ℕ → ℕ → ℕ × ℕ) (births : List (Seat A)) (rows : List (Row A.Mail A.Order)) (k number : ℕ) →
+    ensures step { (words : ℕ → ℕ → ℕ × ℕ) (births : List (Seat A)) (lines : List (Line A.Order))
+        (rows : List (Row A.Mail A.Order)) (row : Row A.Mail A.Order) →
+        IsNext (system A.table A.Mail.receiver words births) lines rows row →
+        IsStep (system A.table A.Mail.receiver words births) rows row }
+    ensures any { (words : ℕ → ℕ → ℕ × ℕ) (births : List (Seat A))
+        (rows : List (Row A.Mail A.Order)) (k number : ℕ) →
         kth (waiting (system A.table A.Mail.receiver words births) rows None) k ≡ Some number →
-        (mail : A.Mail) × IsUnderWay (system A.table A.Mail.receiver words births) rows number mail }
-    ensures one { (words : ℕ → ℕ → ℕ × ℕ) (births : List (Seat A)) (rows : List (Row A.Mail A.Order)) (who k number : ℕ) →
-        kth (waiting (system A.table A.Mail.receiver words births) rows (Some who)) k ≡ Some number →
-        (mail : A.Mail) × IsUnderWay (system A.table A.Mail.receiver words births) rows number mail × (A.Mail.receiver mail ≡ who) }
+        (mail : A.Mail)
+        × IsUnderWay (system A.table A.Mail.receiver words births) rows number mail }
+    ensures one { (words : ℕ → ℕ → ℕ × ℕ) (births : List (Seat A))
+        (rows : List (Row A.Mail A.Order)) (who k number : ℕ) →
+        kth (waiting (system A.table A.Mail.receiver words births) rows (Some who)) k
+        ≡ Some number →
+        (mail : A.Mail) × IsUnderWay (system A.table A.Mail.receiver words births) rows number mail
+        × (A.Mail.receiver mail ≡ who) }
 {}
 
-/// How large a journal is by its counted bytes: no mail has more copies than there are rows, a row counts at least 64 and a mail 256.
+/// How large a journal is by its counted bytes: no mail has more copies than there are rows, a row
+/// counts at least 64 and a mail 256.
 pub fn journals_are_counted<A: Actor>()
-    ensures copies { (rows : List (Row A.Mail A.Order)) → All (λ count. count ≤ length rows) (copies rows) }
-    ensures bytes { (rows : List (Row A.Mail A.Order)) → 64 * length rows + 256 * length (mails rows) ≤ journal_bytes A.Mail.weighs rows }
-    ensures next { (rows : List (Row A.Mail A.Order)) (row : Row A.Mail A.Order) → journal_bytes A.Mail.weighs (rows ++ row ∷ []) ≡ journal_bytes A.Mail.weighs rows + row_bytes A.Mail.weighs row }
+    ensures copies { (rows : List (Row A.Mail A.Order)) →
+        All (λ count. count ≤ length rows) (copies rows) }
+    ensures bytes { (rows : List (Row A.Mail A.Order)) →
+        64 * length rows + 256 * length (mails rows) ≤ journal_bytes A.Mail.weighs rows }
+    ensures next { (rows : List (Row A.Mail A.Order)) (row : Row A.Mail A.Order) →
+        journal_bytes A.Mail.weighs (rows ++ row ∷ [])
+        ≡ journal_bytes A.Mail.weighs rows + row_bytes A.Mail.weighs row }
 {}

@@ -2,12 +2,14 @@
 #![tactic(auto)]
 
 mod actors;
+mod conditions;
 mod gates;
 mod laws;
 mod rows;
 mod schedules;
 
 pub use actors::{Actor, Parcel, Seat};
+pub use conditions::{are_apart, are_few, have_one_task};
 pub use gates::Gate;
 pub use laws::{journals_are_counted, journals_grow, lawful_journals_grow, next_rows_are_steps};
 pub use rows::{Event, Input, Journal, Row};

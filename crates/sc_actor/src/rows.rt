@@ -1,5 +1,5 @@
 //! What an actor is given, and the rows of a journal.
-use sc_base::Sequence;
+use sc_base::{Same, Sequence};
 
 /// What an actor is given.
 #[derive(Drop)]
@@ -28,7 +28,8 @@ pub enum Event<O> {
 
 /// A row of the journal: who acted, at what event, and what it sent.
 ///
-/// `who` is the number of an actor, or 0 for the network, whose rows are `Drop` and `Again` with nothing sent.
+/// `who` is the number of an actor, or 0 for the network, whose rows are `Drop` and `Again` with
+/// nothing sent.
 #[derive(Drop)]
 pub struct Row<M, O> {
     pub who: u32,
@@ -38,3 +39,24 @@ pub struct Row<M, O> {
 
 /// All rows, in the order of their events.
 pub type Journal<M, O> = Sequence<Row<M, O>>;
+
+impl<O: Same> Same for Event<O> {
+    fn is_same(&self, other: &Event<O>) -> bool {
+        match (self, other) {
+            (Event::Deliver(mail), Event::Deliver(second)) => mail == second,
+            (Event::Tick, Event::Tick) => true,
+            (Event::Go, Event::Go) => true,
+            (Event::Told(order), Event::Told(second)) => order.is_same(second),
+            (Event::Crash, Event::Crash) => true,
+            (Event::Drop(mail), Event::Drop(second)) => mail == second,
+            (Event::Again(mail), Event::Again(second)) => mail == second,
+            _ => false,
+        }
+    }
+}
+
+impl<M: Same, O: Same> Same for Row<M, O> {
+    fn is_same(&self, other: &Row<M, O>) -> bool {
+        self.who == other.who && self.event.is_same(&other.event) && self.sent.is_same(&other.sent)
+    }
+}

@@ -1,6 +1,7 @@
 //! The lines of a schedule.
 
-/// A line of a schedule. Actors are named by their numbers, mail by its number or by its place among an actor's pending mail, from 1.
+/// A line of a schedule. Actors are named by their numbers, mail by its number or by its place
+/// among an actor's pending mail, from 1.
 #[derive(Drop)]
 pub enum Line<O> {
     Go { who: u32 },

@@ -1,22 +1,27 @@
-//! Keys, values, arcs, ballots, draws and operations, the lists of them, and how they are copied.
+//! Keys, values, arcs, ballots, draws and operations, the lists of them, and how they are copied
+//! and compared.
 #![tactic(auto)]
 
 mod arcs;
 mod dups;
+mod limits;
 mod lists;
 mod names;
 mod numbers;
 mod ops;
 mod ordered;
+mod sames;
 mod texts;
 
 pub use arcs::{BadBoundary, BadLen, NotAdjacent, RingArc, arcs_are_sound};
 pub use dups::{Dup, OutOfMemory, dup_found};
+pub use limits::{LONGEST_KEY, LONGEST_VALUE, MOST_CLIENTS, MOST_NODES, MOST_REQUESTS};
 pub use lists::Sequence;
 pub use names::{Ballot, Draw, Draws, draws_are_apart};
 pub use numbers::read_number;
 pub use ops::{Noted, Op, Pairs, Reply, SeenList};
 pub use ordered::Ordered;
+pub use sames::{Same, are_same};
 pub use texts::{Key, KeyFault, Value};
 
 #[cfg(test)]

@@ -2,6 +2,7 @@
 ghost use Rattle.std.specs.Prelude.{◌≡◌, ◌<◌, [], ◌∷◌, ◌++◌, length, slice_get, Some, OnOk, OnErr};
 
 use crate::dups::{Dup, OutOfMemory};
+use crate::sames::{Same, are_same};
 use std::alloc::Global;
 use std::marker::Model;
 
@@ -67,7 +68,8 @@ impl<T> Sequence<T> {
 }
 
 impl<T: Drop> Sequence<T> {
-    /// Adds an item at the end. After want of memory the list is unchanged, and the item is dropped.
+    /// Adds an item at the end. After want of memory the list is unchanged, and the item is
+    /// dropped.
     pub fn push(&mut self, item: T) -> Result<(), OutOfMemory>
         ensures ok { OnOk result (self.new ≡ self.old ++ item ∷ []) }
         ensures err { OnErr result (self.new ≡ self.old) }
@@ -84,5 +86,11 @@ impl<T: Dup + Drop> Dup for Sequence<T> {
             copy.push(item.dup(alloc)?)?;
         }
         Ok(copy)
+    }
+}
+
+impl<T: Same> Same for Sequence<T> {
+    fn is_same(&self, other: &Sequence<T>) -> bool {
+        are_same(self.as_slice(), other.as_slice())
     }
 }

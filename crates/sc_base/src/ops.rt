@@ -4,11 +4,13 @@ ghost use Rattle.sc_base.specs.Operation.{key_of};
 
 use crate::dups::{Dup, OutOfMemory};
 use crate::ordered::Ordered;
+use crate::sames::Same;
 use crate::texts::{Key, Value};
 use std::alloc::Global;
 
 /// One operation on one key. Each answers the key's old value or none: `Get` changes nothing, `Put`
-/// sets the key, `Del` takes it out, `Add` sets it where it had no value, and `Cas` sets it where its
+/// sets the key, `Del` takes it out, `Add` sets it where it had no value, and `Cas` sets it where
+/// its
 /// value was `expect`.
 #[derive(PartialEq, Eq, Drop)]
 pub enum Op {
@@ -107,5 +109,23 @@ impl Dup for Noted {
             seq: self.seq,
             reply: self.reply.dup(alloc)?,
         })
+    }
+}
+
+impl Same for Op {
+    fn is_same(&self, other: &Op) -> bool {
+        self == other
+    }
+}
+
+impl Same for Reply {
+    fn is_same(&self, other: &Reply) -> bool {
+        self == other
+    }
+}
+
+impl Same for Noted {
+    fn is_same(&self, other: &Noted) -> bool {
+        self == other
     }
 }

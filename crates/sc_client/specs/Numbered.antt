@@ -1,9 +1,10 @@
 -- The number of the waiting request is that of a request.
 use Rattle.std.specs.Prelude.{◌≡◌, ℕ, ◌≤◌, List, length, Option, Some}
+use Rattle.sc_base.specs.Limits.{most_requests}
 use Rattle.sc_base.specs.declared.ops.Op.{Op}
 
--- at most 1,000 requests, and a request that waits is one of them
+-- no more requests than a client may have, and a request that waits is one of them
 pub record IsNumbered (requests : List Op) (waiting : Option ℕ) : Type 0 where
-  pub few : length requests ≤ 1000
+  pub few : length requests ≤ most_requests
   pub least : (seq : ℕ) → waiting ≡ Some seq → 1 ≤ seq
   pub most : (seq : ℕ) → waiting ≡ Some seq → seq ≤ length requests

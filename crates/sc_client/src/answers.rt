@@ -11,7 +11,8 @@ use std::alloc::Global;
 impl ClientCore {
     /// A mail; one that is no answer to the waiting request is ignored.
     pub(crate) fn got(&mut self, alloc: Global, mail: &Mail) -> Result<Sequence<Mail>, OutOfMemory>
-        ensures { IfOk result (λ mails. got mail.now.from mail.now.body self.old ≡ (self.new, mails)) }
+        ensures { IfOk result
+            (λ mails. got mail.now.from mail.now.body self.old ≡ (self.new, mails)) }
     {
         match &mail.body {
             MailBody::Answer { group, seq, answer } if self.waits_for(*seq) => {
@@ -53,7 +54,8 @@ impl ClientCore {
         answer: &AnswerBody,
     ) -> Result<Sequence<Mail>, OutOfMemory>
         requires { self.old.waiting ≡ Some seq }
-        ensures { IfOk result (λ mails. answered from group seq answer.now self.old ≡ (self.new, mails)) }
+        ensures { IfOk result
+            (λ mails. answered from group seq answer.now self.old ≡ (self.new, mails)) }
     {
         match answer {
             AnswerBody::Value(reply) => self.replied(alloc, seq, reply),
@@ -75,7 +77,10 @@ impl ClientCore {
         reply: &Reply,
     ) -> Result<Sequence<Mail>, OutOfMemory>
         requires { self.old.waiting ≡ Some seq }
-        ensures { IfOk result (λ mails. started (seq + 1) (record self.old { replies = self.old.replies ++ reply.now ∷ [] }) ≡ (self.new, mails)) }
+        ensures { IfOk result
+            (λ mails.
+            started (seq + 1) (record self.old { replies = self.old.replies ++ reply.now ∷ [] })
+            ≡ (self.new, mails)) }
     {
         self.replies.push(reply.dup(alloc)?)?;
         self.start(alloc, seq + 1)

@@ -1,5 +1,6 @@
 //! The value of a client, and what each input makes of it.
 ghost use Rattle.std.specs.Prelude.{◌≡◌, ◌≤◌, length, IfOk};
+ghost use Rattle.sc_base.specs.Limits.{most_requests};
 ghost use Rattle.sc_client_table.specs.Client.{born};
 ghost use Rattle.sc_client_table.specs.Table.{table};
 
@@ -29,7 +30,15 @@ impl Model for ClientCore {
 
     ghost Value = { Client };
 
-    ghost view = { λ c. record { me = c.me; requests = c.requests; waiting = c.waiting; known = c.routes; asked = c.asked; replies = c.replies } };
+    ghost view = { λ c.
+        record {
+          me = c.me;
+          requests = c.requests;
+          waiting = c.waiting;
+          known = c.routes;
+          asked = c.asked;
+          replies = c.replies;
+        } };
 
     ghost invariant = { λ c. IsNumbered c.requests c.waiting };
 }
@@ -42,7 +51,7 @@ impl ClientCore {
         requests: Sequence<Op>,
         first: Route,
     ) -> Result<ClientCore, OutOfMemory>
-        requires { length requests ≤ 1000 }
+        requires { length requests ≤ most_requests }
         ensures { IfOk result (λ client. client ≡ born me requests first) }
     {
         Ok(ClientCore {

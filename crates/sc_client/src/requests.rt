@@ -43,7 +43,8 @@ fn just(alloc: Global, mail: Mail) -> Result<Sequence<Mail>, OutOfMemory>
 impl ClientCore {
     /// The request that waits, with its number.
     fn waiting_request(&self) -> Option<(u32, &Op)>
-        ensures { option_map (λ request. (request.0, request.1.now)) result ≡ waiting_request self.now }
+        ensures { option_map (λ request. (request.0, request.1.now)) result
+            ≡ waiting_request self.now }
     {
         match self.waiting {
             Some(seq) => Some((seq, self.requests.at(seq as usize - 1))),
@@ -108,7 +109,8 @@ impl ClientCore {
 
     /// With a request waiting, the group last asked is asked again, at the next node.
     pub(crate) fn tick(&mut self, alloc: Global) -> Result<Sequence<Mail>, OutOfMemory>
-        ensures { IfOk result (λ mails. ticked self.old self.old.waiting self.old.asked ≡ (self.new, mails)) }
+        ensures { IfOk result
+            (λ mails. ticked self.old self.old.waiting self.old.asked ≡ (self.new, mails)) }
     {
         match (self.waiting, self.asked) {
             (Some(_seq), Some((group, _target))) => self.turn_on(alloc, group),

@@ -17,7 +17,8 @@ fn group(count: u32) -> Draw {
     Draw { node: 0, count }
 }
 
-/// Client 1 with the requests put a x and get a, which knows group 0.1 from 0 on with members 1 2 3.
+/// Client 1 with the requests put a x and get a, which knows group 0.1 from 0 on with members 1 2
+/// 3.
 fn client(rt: &HostRuntime) -> Result<ClientCore, Fail> {
     let mut requests = Sequence::new(rt.alloc());
     let key = Key::try_new(rt.alloc(), b"a")?;

@@ -1,5 +1,6 @@
 -- The table of a client: what each input makes of it, and what it sends.
 use Rattle.std.specs.Prelude.{ℕ, ◌+◌, Bool, false, ◌&&◌, ◌==◌, nat_le, List, [], ◌∷◌, ◌++◌, length, Option, Some, None, if◌then◌else◌}
+use Rattle.sc_base.specs.Limits.{client_actor}
 use Rattle.sc_base.specs.declared.names.Draw.{Draw}
 use Rattle.sc_base.specs.declared.ops.Op.{Op}
 use Rattle.sc_base.specs.Operation.{key_of}
@@ -22,7 +23,7 @@ Step = Client × List Mail
 
 -- the mail of a request
 abbrev pub request_of : ℕ → Draw → ℕ → ℕ × Op → Mail
-request_of me group target request = record { from = 32 + me; to = target; body = Request group me request.0 request.1 }
+request_of me group target request = record { from = client_actor me; to = target; body = Request group me request.0 request.1 }
 
 -- a request goes to a node of a group, where there is such a node and such a request
 abbrev pub asked_of : Client → Draw → Option ℕ → Option (ℕ × Op) → Step

@@ -1,4 +1,5 @@
-//! The table of a client: what each input makes of it, and what it sends. Definitions and a law, no logic.
+//! The table of a client: what each input makes of it, and what it sends. Definitions and a law, no
+//! logic.
 #![tactic(auto)]
 
 ghost use Rattle.sc_client_table.specs.Turns.{SendsInTurn};

@@ -63,7 +63,8 @@ impl ClientTable {
 
     /// The reply to the client's last request; none exactly where the client is absent.
     pub fn reply(&self, client: u16) -> Option<&Reply>
-        ensures { option_copied result ≡ option_map (λ noted. noted.reply) (map.get self.now client) }
+        ensures { option_copied result
+            ≡ option_map (λ noted. noted.reply) (map.get self.now client) }
     {
         match self.find(client) {
             None => None,
@@ -75,7 +76,8 @@ impl ClientTable {
     /// table is unchanged, and the reply is dropped.
     pub fn note(&mut self, client: u16, seq: u32, reply: Reply) -> Result<(), OutOfMemory>
         requires { seen_of (map.get self.old client) seq ≡ Seen.New }
-        ensures ok { OnOk result (self.new ≡ map.insert self.old client (record { seq = seq; reply = reply })) }
+        ensures ok { OnOk result
+            (self.new ≡ map.insert self.old client (record { seq = seq; reply = reply })) }
         ensures err { OnErr result (self.new ≡ self.old) }
     {
         self.set(client, Noted { seq, reply })
@@ -85,7 +87,8 @@ impl ClientTable {
     /// stays. After want of memory a prefix of the entries was joined.
     pub fn join(&mut self, other: &SeenList) -> Result<(), OutOfMemory>
         ensures ok { OnOk result (self.new ≡ joined_with self.old other.now) }
-        ensures err { OnErr result ((n : ℕ) × (self.new ≡ joined_with self.old (take n other.now))) }
+        ensures err { OnErr result
+            ((n : ℕ) × (self.new ≡ joined_with self.old (take n other.now))) }
     {
         for entry in other.as_slice() {
             self.join_one(entry.0, &entry.1)?;

@@ -20,8 +20,8 @@ use Rattle.sc_cmd.specs.declared.cores.Lock.TheVariants.{Free, Coordinating, Pro
 use Rattle.sc_cmd.specs.declared.cores.Base.{Base}
 
 -- a weight as a 64-bit number tells it
-abbrev pub told : ℕ → ℕ
-told weight = min weight (2 ^ 64 - 1)
+abbrev pub capped : ℕ → ℕ
+capped weight = min weight (2 ^ 64 - 1)
 
 -- an operation: its key and each value
 abbrev pub op_weight : Op → ℕ

@@ -1,6 +1,6 @@
 //! What a transaction between groups is to do, and what it asks of its parties.
 use crate::links::Link;
-use sc_base::{Draw, Dup, OutOfMemory, RingArc};
+use sc_base::{Draw, Dup, OutOfMemory, RingArc, Same};
 use sc_member::Members;
 use std::alloc::Global;
 
@@ -55,5 +55,47 @@ impl Dup for Offer {
 impl Dup for Watch {
     fn dup(&self, _alloc: Global) -> Result<Watch, OutOfMemory> {
         Ok(*self)
+    }
+}
+
+impl Same for Body {
+    fn is_same(&self, other: &Body) -> bool {
+        match (self, other) {
+            (Body::Merge, Body::Merge) => true,
+            (Body::Repart { at }, Body::Repart { at: second_at }) => at.is_same(second_at),
+            (Body::Migrate { node }, Body::Migrate { node: second_node }) => node.is_same(
+                second_node,
+            ),
+            (
+                Body::Split { at, child },
+                Body::Split {
+                    at: second_at,
+                    child: second_child,
+                },
+            ) => at.is_same(second_at) && child.is_same(second_child),
+            _ => false,
+        }
+    }
+}
+
+impl Same for Offer {
+    fn is_same(&self, other: &Offer) -> bool {
+        self.coord.is_same(&other.coord)
+            && self.part.is_same(&other.part)
+            && self.arc.is_same(&other.arc)
+            && self.members.is_same(&other.members)
+            && self.body.is_same(&other.body)
+            && self.by.is_same(&other.by)
+    }
+}
+
+impl Same for Watch {
+    fn is_same(&self, other: &Watch) -> bool {
+        self.coord.is_same(&other.coord)
+            && self.members.is_same(&other.members)
+            && self.part.is_same(&other.part)
+            && self.old.is_same(&other.old)
+            && self.next.is_same(&other.next)
+            && self.by.is_same(&other.by)
     }
 }

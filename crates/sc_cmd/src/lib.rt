@@ -1,4 +1,5 @@
-//! What stands in the logs of groups: commands, the records they carry, the state of a group, and orders.
+//! What stands in the logs of groups: commands, the records they carry, the state of a group, and
+//! orders.
 #![tactic(auto)]
 
 mod bodies;

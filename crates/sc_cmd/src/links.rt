@@ -1,5 +1,5 @@
 //! Where a group is, as another group or a client knows it.
-use sc_base::{Draw, Dup, OutOfMemory, Sequence};
+use sc_base::{Draw, Dup, OutOfMemory, Same, Sequence};
 use sc_member::Members;
 use std::alloc::Global;
 
@@ -30,5 +30,19 @@ impl Dup for Link {
 impl Dup for Route {
     fn dup(&self, _alloc: Global) -> Result<Route, OutOfMemory> {
         Ok(*self)
+    }
+}
+
+impl Same for Link {
+    fn is_same(&self, other: &Link) -> bool {
+        self.group.is_same(&other.group) && self.members.is_same(&other.members)
+    }
+}
+
+impl Same for Route {
+    fn is_same(&self, other: &Route) -> bool {
+        self.group.is_same(&other.group)
+            && self.lo.is_same(&other.lo)
+            && self.members.is_same(&other.members)
     }
 }

@@ -94,48 +94,72 @@ fn commands_are_copied_and_weighed(rt: HostRuntime) -> Result<(), Fail> {
     Ok(())
 }
 
-#[test]
-fn a_base_counts_its_gifts_and_what_it_heard(rt: HostRuntime) -> Result<(), Fail> {
-    let alloc = rt.alloc();
-    let members = Members::one(1);
-    let succ = Link {
-        group: GROUP,
-        members,
-    };
-    let pred = Link {
-        group: GROUP,
-        members,
-    };
-    let mut decided = Sequence::new(alloc);
-    decided.push((GROUP, gift(alloc)?))?;
+// A lock that has heard of a participant's record.
+fn coordinating(alloc: Global) -> Result<Lock, Fail> {
     let heard = Some(Heard {
         frozen: frozen(alloc)?,
         by: 2,
     });
-    let base = Base {
-        core: Core {
-            id: GROUP,
-            first: 1,
-            arc: RingArc::try_new(0, 1)?,
-            members,
-            succ,
-            pred,
-            lock: Lock::Coordinating {
-                tx: GROUP,
-                body: Body::Merge,
-                order: 1,
-                heard,
-            },
-            begun: 1,
-            decided,
-            voted: Sequence::new(alloc),
-            born: Sequence::new(alloc),
-            gone: None,
-        },
-        pairs: pairs(alloc)?,
-        clients: clients(alloc)?,
+    Ok(Lock::Coordinating {
+        tx: GROUP,
+        body: Body::Merge,
+        order: 1,
+        heard,
+    })
+}
+
+// The outcomes that a group has decided: one moved boundary with a gift.
+fn decided(alloc: Global) -> Result<DecidedList, Fail> {
+    let mut decided = Sequence::new(alloc);
+    decided.push((GROUP, gift(alloc)?))?;
+    Ok(decided)
+}
+
+// A group of one node alone on a ring, with this lock and these outcomes.
+fn core_with(alloc: Global, arc: RingArc, lock: Lock, decided: DecidedList) -> Core {
+    let members = Members::one(1);
+    let neighbour = Link {
+        group: GROUP,
+        members,
     };
-    let copy = copied(alloc, &base)?;
+    Core {
+        id: GROUP,
+        first: 1,
+        arc,
+        members,
+        succ: neighbour,
+        pred: neighbour,
+        lock,
+        begun: 1,
+        decided,
+        voted: Sequence::new(alloc),
+        born: Sequence::new(alloc),
+        gone: None,
+    }
+}
+
+fn core(alloc: Global) -> Result<Core, Fail> {
+    let arc = RingArc::try_new(0, 1)?;
+    let lock = coordinating(alloc)?;
+    let decided = decided(alloc)?;
+    Ok(core_with(alloc, arc, lock, decided))
+}
+
+fn base(alloc: Global) -> Result<Base, Fail> {
+    let core = core(alloc)?;
+    let pairs = pairs(alloc)?;
+    let clients = clients(alloc)?;
+    Ok(Base {
+        core,
+        pairs,
+        clients,
+    })
+}
+
+#[test]
+fn a_base_counts_its_gifts_and_what_it_heard(rt: HostRuntime) -> Result<(), Fail> {
+    let alloc = rt.alloc();
+    let copy = copied(alloc, &base(alloc)?)?;
     assert_eq!(rt; base_weight(&copy), 201);
     Ok(())
 }

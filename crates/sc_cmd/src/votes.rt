@@ -1,6 +1,6 @@
 //! What the parties of a transaction answer, and what was decided.
 use crate::links::{Link, Route};
-use sc_base::{Draw, Dup, OutOfMemory, Pairs, RingArc, SeenList, Sequence};
+use sc_base::{Draw, Dup, OutOfMemory, Pairs, RingArc, Same, SeenList, Sequence};
 use sc_member::Members;
 use std::alloc::Global;
 
@@ -138,5 +138,83 @@ impl Dup for Outcome {
             Outcome::Migrated { node } => Outcome::Migrated { node: *node },
             Outcome::Divided => Outcome::Divided,
         })
+    }
+}
+
+impl Same for Frozen {
+    fn is_same(&self, other: &Frozen) -> bool {
+        self.arc.is_same(&other.arc)
+            && self.members.is_same(&other.members)
+            && self.succ.is_same(&other.succ)
+            && self.pairs.is_same(&other.pairs)
+            && self.clients.is_same(&other.clients)
+    }
+}
+
+impl Same for Heard {
+    fn is_same(&self, other: &Heard) -> bool {
+        self.frozen.is_same(&other.frozen) && self.by.is_same(&other.by)
+    }
+}
+
+impl Same for No {
+    fn is_same(&self, other: &No) -> bool {
+        match (self, other) {
+            (No::Busy { tx }, No::Busy { tx: second_tx }) => tx.is_same(second_tx),
+            (No::Gone, No::Gone) => true,
+            (No::Apart, No::Apart) => true,
+            (No::TooMany { n }, No::TooMany { n: second_n }) => n == second_n,
+            _ => false,
+        }
+    }
+}
+
+impl Same for Vote {
+    fn is_same(&self, other: &Vote) -> bool {
+        match (self, other) {
+            (Vote::Yes(one), Vote::Yes(second)) => one.is_same(second),
+            (Vote::No(one), Vote::No(second)) => one.is_same(second),
+            _ => false,
+        }
+    }
+}
+
+impl Same for Past {
+    fn is_same(&self, other: &Past) -> bool {
+        match (self, other) {
+            (Past::Yes, Past::Yes) => true,
+            (Past::No(one), Past::No(second)) => one.is_same(second),
+            (Past::Ended, Past::Ended) => true,
+            _ => false,
+        }
+    }
+}
+
+impl Same for Gift {
+    fn is_same(&self, other: &Gift) -> bool {
+        self.pairs.is_same(&other.pairs) && self.clients.is_same(&other.clients)
+    }
+}
+
+impl Same for Outcome {
+    fn is_same(&self, other: &Outcome) -> bool {
+        match (self, other) {
+            (Outcome::Abort, Outcome::Abort) => true,
+            (Outcome::Merged { into }, Outcome::Merged { into: second_into }) => into.is_same(
+                second_into,
+            ),
+            (
+                Outcome::Moved { at, gift },
+                Outcome::Moved {
+                    at: second_at,
+                    gift: second_gift,
+                },
+            ) => at.is_same(second_at) && gift.is_same(second_gift),
+            (Outcome::Migrated { node }, Outcome::Migrated { node: second_node }) => node.is_same(
+                second_node,
+            ),
+            (Outcome::Divided, Outcome::Divided) => true,
+            _ => false,
+        }
     }
 }

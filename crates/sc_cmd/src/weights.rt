@@ -1,7 +1,9 @@
-//! What commands and records count, told as 64-bit numbers: a greater weight is told as the greatest.
+//! What commands and records count, told as 64-bit numbers: a greater weight is told as the
+//! greatest.
 ghost use Rattle.std.specs.Prelude.{◌≡◌, ◌+◌, ◌≤◌, length};
 ghost use Rattle.std.specs.List.{sum_by};
-ghost use Rattle.sc_cmd.specs.Weight.{told, op_weight, value_weight, reply_weight, pair_weight, pairs_weight, seen_weight, clients_weight, frozen_weight, vote_weight, gift_weight, outcome_weight, command_weight, heard_weight, lock_weight, decision_weight, base_weight};
+ghost use Rattle.sc_base.specs.Limits.{longest_key, longest_value};
+ghost use Rattle.sc_cmd.specs.Weight.{capped, op_weight, value_weight, reply_weight, pair_weight, pairs_weight, seen_weight, clients_weight, frozen_weight, vote_weight, gift_weight, outcome_weight, command_weight, heard_weight, lock_weight, decision_weight, base_weight};
 
 use crate::commands::Command;
 use crate::cores::{Base, Lock};
@@ -10,14 +12,14 @@ use sc_base::{Key, Noted, Op, Pairs, Reply, SeenList, Value};
 
 fn key_weight(key: &Key) -> u64
     ensures same { result ≡ length key.now }
-    ensures short { result ≤ 64 }
+    ensures short { result ≤ longest_key }
 {
     key.bytes().len() as u64
 }
 
 fn text_weight(value: &Value) -> u64
     ensures same { result ≡ length value.now }
-    ensures short { result ≤ 256 }
+    ensures short { result ≤ longest_value }
 {
     value.bytes().len() as u64
 }
@@ -38,7 +40,7 @@ pub fn op_weight(op: &Op) -> u64
 /// The length of the value that was there before.
 pub fn reply_weight(reply: &Reply) -> u64
     ensures same { result ≡ reply_weight reply.now }
-    ensures short { result ≤ 256 }
+    ensures short { result ≤ longest_value }
 {
     match &reply.old {
         Some(value) => text_weight(value),
@@ -53,7 +55,7 @@ fn pair_weight(pair: &(Key, Value)) -> u64
 }
 
 fn pairs_weight(pairs: &Pairs) -> u64
-    ensures { result ≡ told (pairs_weight pairs.now) }
+    ensures { result ≡ capped (pairs_weight pairs.now) }
 {
     let mut total = 0u64;
     for pair in pairs.as_slice() {
@@ -69,7 +71,7 @@ fn seen_weight(seen: &(u16, Noted)) -> u64
 }
 
 fn clients_weight(clients: &SeenList) -> u64
-    ensures { result ≡ told (clients_weight clients.now) }
+    ensures { result ≡ capped (clients_weight clients.now) }
 {
     let mut total = 0u64;
     for seen in clients.as_slice() {
@@ -79,14 +81,14 @@ fn clients_weight(clients: &SeenList) -> u64
 }
 
 fn frozen_weight(frozen: &Frozen) -> u64
-    ensures { result ≡ told (frozen_weight frozen.now) }
+    ensures { result ≡ capped (frozen_weight frozen.now) }
 {
     pairs_weight(&frozen.pairs).saturating_add(clients_weight(&frozen.clients))
 }
 
 /// A Yes counts what its frozen record holds.
 pub fn vote_weight(vote: &Vote) -> u64
-    ensures { result ≡ told (vote_weight vote.now) }
+    ensures { result ≡ capped (vote_weight vote.now) }
 {
     match vote {
         Vote::Yes(frozen) => frozen_weight(frozen),
@@ -95,7 +97,7 @@ pub fn vote_weight(vote: &Vote) -> u64
 }
 
 fn gift_weight(gift: &Option<Gift>) -> u64
-    ensures { result ≡ told (gift_weight gift.now) }
+    ensures { result ≡ capped (gift_weight gift.now) }
 {
     match gift {
         Some(gift) => pairs_weight(&gift.pairs).saturating_add(clients_weight(&gift.clients)),
@@ -105,7 +107,7 @@ fn gift_weight(gift: &Option<Gift>) -> u64
 
 /// A moved boundary counts its gift.
 pub fn outcome_weight(outcome: &Outcome) -> u64
-    ensures { result ≡ told (outcome_weight outcome.now) }
+    ensures { result ≡ capped (outcome_weight outcome.now) }
 {
     match outcome {
         Outcome::Moved { gift, .. } => gift_weight(gift),
@@ -115,7 +117,7 @@ pub fn outcome_weight(outcome: &Outcome) -> u64
 
 /// What the operation, vote or outcome in a command counts.
 pub fn command_weight(command: &Command) -> u64
-    ensures { result ≡ told (command_weight command.now) }
+    ensures { result ≡ capped (command_weight command.now) }
 {
     match command {
         Command::Call { op, .. } => op_weight(op),
@@ -134,7 +136,7 @@ pub fn command_weight(command: &Command) -> u64
 }
 
 fn heard_weight(heard: &Option<Heard>) -> u64
-    ensures { result ≡ told (heard_weight heard.now) }
+    ensures { result ≡ capped (heard_weight heard.now) }
 {
     match heard {
         Some(heard) => frozen_weight(&heard.frozen),
@@ -143,7 +145,7 @@ fn heard_weight(heard: &Option<Heard>) -> u64
 }
 
 fn lock_weight(lock: &Lock) -> u64
-    ensures { result ≡ told (lock_weight lock.now) }
+    ensures { result ≡ capped (lock_weight lock.now) }
 {
     match lock {
         Lock::Coordinating { heard, .. } => heard_weight(heard),
@@ -152,7 +154,7 @@ fn lock_weight(lock: &Lock) -> u64
 }
 
 fn decided_weight(decided: &DecidedList) -> u64
-    ensures { result ≡ told (sum_by decision_weight decided.now) }
+    ensures { result ≡ capped (sum_by decision_weight decided.now) }
 {
     let mut total = 0u64;
     for decision in decided.as_slice() {
@@ -163,7 +165,7 @@ fn decided_weight(decided: &DecidedList) -> u64
 
 /// What a whole group counts.
 pub fn base_weight(base: &Base) -> u64
-    ensures { result ≡ told (base_weight base.now) }
+    ensures { result ≡ capped (base_weight base.now) }
 {
     pairs_weight(&base.pairs)
         .saturating_add(clients_weight(&base.clients))

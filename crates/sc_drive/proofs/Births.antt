@@ -8,7 +8,7 @@ use Rattle.sc_actor.specs.declared.actors.Actor.{Ghosts}
 use Rattle.sc_actor.specs.declared.actors.Parcel.{Ghosts as MailGhosts}
 use Rattle.sc_actor.specs.declared.actors.Seat.{Seat}
 use Rattle.sc_actor.specs.System.{numbers_of}
-use Rattle.sc_play.specs.Stages.{are_apart}
+use Rattle.sc_actor.specs.System.{are_apart}
 use Rattle.sc_exchange.specs.declared.ports.Port.{Port}
 use Rattle.sc_exchange.specs.Ports.{made, given, joined, SameExchange}
 use Rattle.sc_shell.specs.declared.shells.Shell.{Shell}

@@ -14,7 +14,7 @@ use Rattle.sc_actor.specs.System.{System, system, acts, waiting, kth, has_gone}
 use Rattle.sc_actor.specs.Walk.{Task, Settles, is_over, is_quiet, line_row, lowest, delivery}
 use Rattle.sc_actor.proofs.WalkLemmas.{Stands, Stands-over, Stands-row, Stands-next}
 use Rattle.sc_ledger.proofs.Kept.{bytes-push}
-use Rattle.sc_play.specs.Moves.{IsFull}
+use Rattle.sc_actor.specs.Counted.{IsFull}
 use Rattle.sc_exchange.specs.declared.ports.Port.{Port}
 use Rattle.sc_exchange.specs.Ports.{seen}
 use Rattle.sc_shell.specs.declared.shells.Shell.{Shell}

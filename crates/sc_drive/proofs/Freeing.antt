@@ -19,7 +19,7 @@ use Rattle.sc_actor.specs.Steps.{IsUnderWay}
 use Rattle.sc_actor.specs.Walk.{Task, Frees, is_over, is_quiet, first_of}
 use Rattle.sc_actor.proofs.WalkLemmas.{Stands, Stands-row}
 use Rattle.sc_actor.proofs.PendingLemmas.{waiting_any}
-use Rattle.sc_play.proofs.DeedLemmas.{first_own}
+use Rattle.sc_actor.proofs.PendingLemmas.{first_own}
 use Rattle.sc_ledger.specs.Pending.{kth_pending}
 use Rattle.sc_exchange.specs.declared.ports.Port.{Port}
 use Rattle.sc_exchange.specs.Deeds.{rows_of}

@@ -14,7 +14,7 @@ use Rattle.sc_actor.specs.Walk.{Task, Frees, is_over, is_quiet, first_of}
 use Rattle.sc_actor.proofs.WalkLemmas.{Stands, Stands-over, Stands-next}
 use Rattle.sc_ledger.specs.Pending.{kth_pending}
 use Rattle.sc_ledger.proofs.Kept.{bytes-push}
-use Rattle.sc_play.specs.Moves.{IsFull}
+use Rattle.sc_actor.specs.Counted.{IsFull}
 use Rattle.sc_exchange.specs.declared.ports.Port.{Port}
 use Rattle.sc_exchange.specs.Ports.{seen, Looked, IsTrue}
 use Rattle.sc_shell.specs.declared.shells.Shell.{Shell}

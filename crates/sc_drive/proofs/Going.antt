@@ -19,7 +19,8 @@ use Rattle.sc_actor.specs.System.{System, system, numbers_of, row_of, acts, wait
 use Rattle.sc_actor.specs.Walk.{Once, line_row}
 use Rattle.sc_actor.proofs.WalkLemmas.{Stands, Stands-over, Stands-row, Stands-next}
 use Rattle.sc_ledger.proofs.Kept.{bytes-push}
-use Rattle.sc_play.specs.Moves.{IsFull, line_task}
+use Rattle.sc_actor.specs.Counted.{IsFull}
+use Rattle.sc_actor.specs.Walk.{line_task}
 use Rattle.sc_exchange.specs.declared.ports.Port.{Port}
 use Rattle.sc_exchange.specs.Ports.{seen}
 use Rattle.sc_shell.specs.declared.shells.Shell.{Shell}

@@ -11,7 +11,7 @@ use Rattle.sc_actor.specs.Mail.{mails, copies, numbered, is_for, may_get, has_cr
 use Rattle.sc_actor.specs.System.{numbers_of, waiting, kth}
 use Rattle.sc_actor.specs.Walk.{is_quiet}
 use Rattle.sc_actor.proofs.PendingLemmas.{pending_sound}
-use Rattle.sc_play.proofs.DeedLemmas.{first_own}
+use Rattle.sc_actor.proofs.PendingLemmas.{first_own}
 use Rattle.sc_ledger.specs.Pending.{upto, kth_pending}
 use Rattle.sc_exchange.specs.declared.ports.Port.{Port}
 use Rattle.sc_exchange.specs.declared.answers.Fetched.TheVariants.{Mail, Empty}

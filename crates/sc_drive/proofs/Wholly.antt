@@ -12,9 +12,10 @@ use Rattle.sc_actor.specs.Replay.{value, values}
 use Rattle.sc_actor.specs.System.{system, numbers_of, has_gone}
 use Rattle.sc_actor.specs.Walk.{IsLawful, IsWhole, tasks_of, skipped, unsettled, is_quiet}
 use Rattle.sc_actor.proofs.WalkLemmas.{Stands, Stands-begin, Stands-whole}
-use Rattle.sc_play.specs.Deeds.{is_built}
-use Rattle.sc_play.specs.Moves.{IsFull, line_task}
-use Rattle.sc_play.proofs.Steps.{split}
+use Rattle.sc_actor.specs.Walk.{has_one_task}
+use Rattle.sc_actor.specs.Counted.{IsFull}
+use Rattle.sc_actor.specs.Walk.{line_task}
+use Rattle.sc_actor.proofs.TaskLemmas.{split}
 use Rattle.sc_exchange.specs.declared.ports.Port.{Port}
 use Rattle.sc_exchange.specs.Ports.{seen}
 use Rattle.sc_shell.specs.declared.shells.Shell.{Shell}
@@ -58,13 +59,13 @@ module _ {A M O : Type 0} {g : Ghosts A M O} {h : MailGhosts M} where
         }
 
     -- past a line
-    pub drive_on : (net next : Port M O h) (ss after : List (Shell A M O g h)) (score now : Score) (i : ℕ) (line : Line O) → i < length lines → line ≡ get_or lines i line → is_built line ≡ true → At words births lines net ss score (flat_map (tasks_of words) (drop i lines)) →
+    pub drive_on : (net next : Port M O h) (ss after : List (Shell A M O g h)) (score now : Score) (i : ℕ) (line : Line O) → i < length lines → line ≡ get_or lines i line → has_one_task line ≡ true → At words births lines net ss score (flat_map (tasks_of words) (drop i lines)) →
         Goes net ss score (line_task line ∷ []) next after now [] → At words births lines next after now (flat_map (tasks_of words) (drop (i + 1) lines))
     drive_on net next ss after score now i line lt is built at goes =
         goes words births lines (flat_map (tasks_of words) (drop (i + 1) lines)) (subst (λ ts. At words births lines net ss score ts) (split words lines i line lt is built) at)
 
     -- to a row that passes the limit
-    pub drive_fills : (start net next : Port M O h) (ss : List (Shell A M O g h)) (score : Score) (i : ℕ) (line : Line O) → net.limit ≡ start.limit → i < length lines → line ≡ get_or lines i line → is_built line ≡ true → At words births lines net ss score (flat_map (tasks_of words) (drop i lines)) →
+    pub drive_fills : (start net next : Port M O h) (ss : List (Shell A M O g h)) (score : Score) (i : ℕ) (line : Line O) → net.limit ≡ start.limit → i < length lines → line ≡ get_or lines i line → has_one_task line ≡ true → At words births lines net ss score (flat_map (tasks_of words) (drop i lines)) →
         Fills net ss score (line_task line ∷ []) next → IsFull (system g.table h.receiver words births) h.weighs lines start.limit (seen next)
     drive_fills start net next ss score i line limit lt is built at fills =
         subst (λ n. IsFull (system g.table h.receiver words births) h.weighs lines n (seen next)) limit

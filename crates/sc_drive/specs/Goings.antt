@@ -9,7 +9,7 @@ use Rattle.sc_actor.specs.Counted.{journal_bytes}
 use Rattle.sc_actor.specs.Replay.{values}
 use Rattle.sc_actor.specs.System.{system, has_gone}
 use Rattle.sc_actor.specs.Walk.{Task, IsLawful, IsWhole, place_after, onward, line_row, skipped, unsettled, is_quiet}
-use Rattle.sc_play.specs.Moves.{IsFull}
+use Rattle.sc_actor.specs.Counted.{IsFull}
 use Rattle.sc_exchange.specs.declared.ports.Port.{Port}
 use Rattle.sc_exchange.specs.Ports.{seen, Stays, IsTrue}
 use Rattle.sc_workers.specs.Crews.{AllOf, AllOver, numbers}

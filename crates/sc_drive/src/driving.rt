@@ -1,8 +1,7 @@
 //! A schedule driven to its end.
 ghost use Rattle.std.specs.Prelude.{◌≡◌, ◌≢◌, ℕ, [], ◌∷◌, List, length, OnOk, IsErrOf, true, All};
 ghost use Rattle.sc_actor.specs.declared.actors.Seat.{Seat};
-ghost use Rattle.sc_play.specs.Deeds.{is_built};
-ghost use Rattle.sc_play.specs.Moves.{line_task};
+ghost use Rattle.sc_actor.specs.Walk.{has_one_task, line_task};;
 ghost use Rattle.sc_exchange.specs.Ports.{seen, Stays};
 ghost use Rattle.sc_workers.specs.Crews.{AllOf, numbers};
 ghost use Rattle.sc_drive.specs.Companies.{AtBirth};
@@ -63,7 +62,7 @@ pub fn drive<A: Actor, G: Gate, R: Threads + Wait + Sync>(
 ) -> Driven
     requires net { net.old.who ≡ 0 }
     requires exchange { AllOf net.old shells.old.items }
-    requires built { All (λ line. is_built line ≡ true) lines.now }
+    requires built { All (λ line. has_one_task line ≡ true) lines.now }
     ensures kept { result ≢ Driven.OutOfMemory → IsKept net.old shells.old.items net.new shells.new.items }
     ensures driven { (words : ℕ → ℕ → ℕ × ℕ) (births : List (Seat A)) → AtBirth births net.old shells.old.items → IsDriven words births lines.now net.old.limit net.new shells.new.items result }
 {

@@ -1,6 +1,6 @@
 //! Exchanges that are opened, driven and closed.
 ghost use Rattle.std.specs.Prelude.{◌≡◌, ◌<◌, ◌≤◌, [], true, All, IfOk, OnOk};
-ghost use Rattle.sc_play.specs.Stages.{are_apart};
+ghost use Rattle.sc_actor.specs.System.{are_apart};
 ghost use Rattle.sc_exchange.specs.Ports.{given, joined};
 ghost use Rattle.sc_workers.specs.Crews.{AllOf, numbers};
 ghost use Rattle.sc_drive.specs.Goings.{IsKept};
@@ -10,10 +10,10 @@ use crate::driving::drive;
 use crate::opening::open;
 use crate::steps::Driven;
 use crate::tests::{Note, Open, Player};
-use sc_actor::{Event, Line, Row, Seat};
-use sc_base::OutOfMemory;
+use sc_actor::{Event, Line, Row, Seat, are_few, have_one_task};
+use sc_base::{OutOfMemory, Same};
 use sc_exchange::Port;
-use sc_play::{Equality, are_built, are_few, replay};
+use sc_checker::replay;
 use sc_shell::Shell;
 use sc_workers::gather;
 use std::alloc::Global;
@@ -60,15 +60,9 @@ fn seated(seats: &[Seat<Player>]) -> u32 {
     digits
 }
 
-struct Plain;
-
-impl Equality<Note, u32> for Plain {
-    fn same_mail(&self, one: &Note, other: &Note) -> bool {
-        one == other
-    }
-
-    fn same_order(&self, one: &u32, other: &u32) -> bool {
-        one == other
+impl Same for Note {
+    fn is_same(&self, other: &Note) -> bool {
+        self == other
     }
 }
 
@@ -145,7 +139,7 @@ fn drive_all<R: Threads + Wait + Sync>(
     requires exchange { AllOf net.old shells.old.items }
     ensures kept { OnOk result (IsKept net.old shells.old.items net.new shells.new.items) }
 {
-    if !are_built(lines) {
+    if !have_one_task(lines) {
         return Err(OutOfMemory);
     }
     match drive(rt, alloc, net, shells, lines, &Open) {
@@ -161,10 +155,10 @@ fn replayed(
     lines: &[Line<u32>],
     rows: &[Row<Note, u32>],
 ) -> Result<Option<u32>, OutOfMemory> {
-    if !are_built(lines) || !are_few(rows) {
+    if !have_one_task(lines) || !are_few(rows) {
         return Err(OutOfMemory);
     }
-    match replay(alloc, &Plain, seats(alloc)?, lines, rows)? {
+    match replay(alloc, seats(alloc)?, lines, rows)? {
         None => Ok(None),
         Some(left) => Ok(Some(seated(&left.seats))),
     }

@@ -1,6 +1,6 @@
 //! The beginning of an exchange.
 ghost use Rattle.std.specs.Prelude.{◌≡◌, ◌<◌, ◌≤◌, ◌^◌, [], true, All, Contains, IfOk};
-ghost use Rattle.sc_play.specs.Stages.{are_apart};
+ghost use Rattle.sc_actor.specs.System.{are_apart};
 ghost use Rattle.sc_exchange.specs.Ports.{given, joined};
 ghost use Rattle.sc_drive.specs.Companies.{AtBirth};
 ghost use Rattle.sc_drive.specs.Ends.{Seated};

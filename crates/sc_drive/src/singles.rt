@@ -3,7 +3,7 @@ ghost use Rattle.std.specs.Prelude.{◌≡◌, ◌+◌, ℕ, [], ◌∷◌, List
 ghost use Rattle.sc_actor.specs.declared.actors.Seat.{Seat};
 ghost use Rattle.sc_actor.specs.System.{system, acts};
 ghost use Rattle.sc_actor.specs.Walk.{Once, line_row};
-ghost use Rattle.sc_play.specs.Moves.{line_task};
+ghost use Rattle.sc_actor.specs.Walk.{line_task};
 ghost use Rattle.sc_exchange.specs.Ports.{seen, Stays};
 ghost use Rattle.sc_workers.specs.Crews.{AllOf, numbers};
 ghost use Rattle.sc_drive.specs.Numbers.{is_in};

@@ -5,10 +5,9 @@ ghost use Rattle.sc_workers.specs.Crews.{AllOf};
 
 use crate::driving::drive;
 use crate::steps::Driven;
-use sc_actor::{Actor, Gate, Input, Line, Parcel};
+use sc_actor::{Actor, Gate, Input, Line, Parcel, have_one_task};
 use sc_base::{Dup, OutOfMemory, Sequence};
 use sc_exchange::Port;
-use sc_play::are_built;
 use sc_shell::Shell;
 use std::alloc::Global;
 use std::sync::Wait;
@@ -153,7 +152,7 @@ fn driven<G: Gate, R: Threads + Wait + Sync>(
 ) -> Result<Driven, OutOfMemory>
     requires { bytes ≤ 1000000 }
 {
-    if !are_built(lines) {
+    if !have_one_task(lines) {
         return Err(OutOfMemory);
     }
     let mut net: Port<Note, u32> = Port::start(alloc, 2, bytes)?;

@@ -9,7 +9,8 @@ use sc_base::OutOfMemory;
 use std::alloc::Global;
 use std::marker::Model;
 
-/// A source of given bytes. A call fails, and takes nothing, exactly where its number, from 1, is listed.
+/// A source of given bytes. A call fails, and takes nothing, exactly where its number, from 1, is
+/// listed.
 #[derive(Drop)]
 pub struct MemSource {
     bytes: Vec<u8>,
@@ -25,7 +26,13 @@ impl Model for MemSource {
 
     ghost Value = { SourceState };
 
-    ghost view = { λ s. record { left = drop s.at s.bytes.items; failing = s.failing.items; calls = s.calls; faults = s.faults } };
+    ghost view = { λ s.
+        record {
+          left = drop s.at s.bytes.items;
+          failing = s.failing.items;
+          calls = s.calls;
+          faults = s.faults;
+        } };
 
     ghost invariant = { λ s. s.at ≤ vec_len s.bytes };
 }
@@ -33,7 +40,8 @@ impl Model for MemSource {
 impl MemSource {
     /// A source of these bytes, before its first call.
     pub fn new(alloc: Global, bytes: &[u8], failing: &[u64]) -> Result<MemSource, OutOfMemory>
-        ensures { IfOk result (λ s. s ≡ record { left = bytes.now; failing = failing.now; calls = 0; faults = 0 }) }
+        ensures { IfOk result
+            (λ s. s ≡ record { left = bytes.now; failing = failing.now; calls = 0; faults = 0 }) }
     {
         Ok(MemSource {
             bytes: Vec::from_slice(alloc, bytes)?,
@@ -53,7 +61,8 @@ impl Source for MemSource {
     ghost calls = { λ s. s.calls };
 
     fn take(&mut self, buf: &mut [u8]) -> Result<usize, Failed>
-        ensures taken { IfOk result (λ n. Gives (Some self.old.left) (Some self.new.left) n buf.new) }
+        ensures taken { IfOk result
+            (λ n. Gives (Some self.old.left) (Some self.new.left) n buf.new) }
         ensures cause { HasCause self.old.faults self.new.faults result }
         ensures call { self.new.calls ≤ self.old.calls + 1 }
         ensures fails { IsErr result ↔ Contains self.old.failing self.new.calls }
@@ -75,7 +84,8 @@ impl Source for MemSource {
     }
 }
 
-/// A sink with room for so many bytes. A call fails, and appends nothing, exactly where its number, from 1, is listed or the piece does not fit into the room that is left.
+/// A sink with room for so many bytes. A call fails, and appends nothing, exactly where its number,
+/// from 1, is listed or the piece does not fit into the room that is left.
 #[derive(Drop)]
 pub struct MemSink {
     held: Vec<u8>,
@@ -91,15 +101,25 @@ impl Model for MemSink {
 
     ghost Value = { SinkState };
 
-    ghost view = { λ s. record { held = s.held.items; room = s.room; failing = s.failing.items; calls = s.calls; faults = s.faults } };
+    ghost view = { λ s.
+        record {
+          held = s.held.items;
+          room = s.room;
+          failing = s.failing.items;
+          calls = s.calls;
+          faults = s.faults;
+        } };
 
     ghost invariant = { λ s. vec_len s.held + s.room ≤ vec_capacity s.held };
 }
 
 impl MemSink {
-    /// A sink with room for so many bytes, before its first call. It takes memory here and none later.
+    /// A sink with room for so many bytes, before its first call. It takes memory here and none
+    /// later.
     pub fn new(alloc: Global, room: usize, failing: &[u64]) -> Result<MemSink, OutOfMemory>
-        ensures { IfOk result (λ s. s ≡ record { held = []; room = room; failing = failing.now; calls = 0; faults = 0 }) }
+        ensures { IfOk result
+            (λ s.
+            s ≡ record { held = []; room = room; failing = failing.now; calls = 0; faults = 0 }) }
     {
         Ok(MemSink {
             held: Vec::with_capacity(alloc, room)?,
@@ -125,13 +145,18 @@ impl Sink for MemSink {
 
     fn put(&mut self, piece: &[u8]) -> Result<(), Failed>
         ensures whole { OnOk result (Appends (Some self.old.held) (Some self.new.held) piece.now) }
-        ensures part { OnErr result (AppendsPart (Some self.old.held) (Some self.new.held) piece.now) }
+        ensures part { OnErr result
+            (AppendsPart (Some self.old.held) (Some self.new.held) piece.now) }
         ensures cause { HasCause self.old.faults self.new.faults result }
-        ensures fails { IsErr result ↔ (Contains self.old.failing self.new.calls ⊎ self.old.room < length piece.now) }
+        ensures fails { IsErr result ↔
+            (Contains self.old.failing self.new.calls ⊎ self.old.room < length piece.now) }
         ensures calls { self.new.calls ≡ min (self.old.calls + 1) u64.MAX }
         ensures failing { self.new.failing ≡ self.old.failing }
-        ensures unchanged { OnErr result ((self.new.held ≡ self.old.held) × (self.new.room ≡ self.old.room)) }
-        ensures room { OnOk result ((self.new.faults ≡ self.old.faults) × (self.new.room + length piece.now ≡ self.old.room)) }
+        ensures unchanged { OnErr result
+            ((self.new.held ≡ self.old.held) × (self.new.room ≡ self.old.room)) }
+        ensures room { OnOk result
+            ((self.new.faults ≡ self.old.faults)
+            × (self.new.room + length piece.now ≡ self.old.room)) }
     {
         self.calls = self.calls.saturating_add(1);
         if self.failing.contains(&self.calls)

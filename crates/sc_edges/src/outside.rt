@@ -1,4 +1,5 @@
-//! Sources and sinks over the readers and writers of std. Over the real input and output they tell no bytes.
+//! Sources and sinks over the readers and writers of std. Over the real input and output they tell
+//! no bytes.
 ghost use Rattle.std.specs.Prelude.{◌≡◌, ◌+◌, min, IfOk, OnOk, OnErr};
 ghost use Rattle.std.specs.Io.KnownBytes.{Appends};
 ghost use Rattle.sc_edges.specs.Bytes.{Gives, AppendsPart};
@@ -29,7 +30,8 @@ impl<R: Read> Source for StdSource<R> {
     ghost faults = { λ s. s.faults };
 
     fn take(&mut self, buf: &mut [u8]) -> Result<usize, Failed>
-        ensures taken { IfOk result (λ n. Gives (R.remaining self.old.reader) (R.remaining self.new.reader) n buf.new) }
+        ensures taken { IfOk result
+            (λ n. Gives (R.remaining self.old.reader) (R.remaining self.new.reader) n buf.new) }
         ensures cause { HasCause self.old.faults self.new.faults result }
         ensures same { OnOk result (self.new.faults ≡ self.old.faults) }
         ensures risen { OnErr result (self.new.faults ≡ min (self.old.faults + 1) u64.MAX) }
@@ -66,8 +68,10 @@ impl<W: Write> Sink for StdSink<W> {
     ghost faults = { λ s. s.faults };
 
     fn put(&mut self, piece: &[u8]) -> Result<(), Failed>
-        ensures whole { OnOk result (Appends (W.contents self.old.writer) (W.contents self.new.writer) piece.now) }
-        ensures part { OnErr result (AppendsPart (W.contents self.old.writer) (W.contents self.new.writer) piece.now) }
+        ensures whole { OnOk result
+            (Appends (W.contents self.old.writer) (W.contents self.new.writer) piece.now) }
+        ensures part { OnErr result
+            (AppendsPart (W.contents self.old.writer) (W.contents self.new.writer) piece.now) }
         ensures cause { HasCause self.old.faults self.new.faults result }
         ensures same { OnOk result (self.new.faults ≡ self.old.faults) }
         ensures risen { OnErr result (self.new.faults ≡ min (self.old.faults + 1) u64.MAX) }

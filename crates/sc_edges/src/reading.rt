@@ -16,12 +16,15 @@ pub enum ReadFault {
 // How many bytes one call asks for at most.
 const PIECE: usize = 4096;
 
-/// Reads to the end of input, or until `most` + 1 bytes were taken, by at most `most` + 2 calls of `take`.
+/// Reads to the end of input, or until `most` + 1 bytes were taken, by at most `most` + 2 calls of
+/// `take`.
 ///
 /// `Failed` comes only where the source's count of faults rose in this call.
 pub fn read_all<S: Source>(alloc: Global, source: &mut S, most: u64) -> Result<Vec<u8>, ReadFault>
-    ensures taken { IfOk result (λ bytes. TakesUpTo (S.left source.old) (S.left source.new) most bytes.items) }
-    ensures failed { IsErrOf result ReadFault.Failed → Rose (S.faults source.old) (S.faults source.new) }
+    ensures taken { IfOk result
+        (λ bytes. TakesUpTo (S.left source.old) (S.left source.new) most bytes.items) }
+    ensures failed { IsErrOf result ReadFault.Failed →
+        Rose (S.faults source.old) (S.faults source.new) }
     ensures later { S.faults source.old ≤ S.faults source.new }
     ensures calls { S.calls source.new ≤ S.calls source.old + (most + 2) }
 {

@@ -13,13 +13,15 @@ pub trait Source {
     /// The bytes that are left, where the source tells them.
     ghost left: { Self → Option (List ℕ) };
 
-    /// How many faults there were. It never falls, and is read as risen where it stands at 2^64 - 1.
+    /// How many faults there were. It never falls, and is read as risen where it stands at 2^64 -
+    /// 1.
     ghost faults: { Self → ℕ };
 
     /// How many calls there were, where the source counts them.
     ghost calls: { Self → ℕ } = { λ _. 0 };
 
-    /// Fills a first part of the buffer with the next bytes, and answers how many. 0 for a buffer with room means the end of input, and comes only there.
+    /// Fills a first part of the buffer with the next bytes, and answers how many. 0 for a buffer
+    /// with room means the end of input, and comes only there.
     fn take(&mut self, buf: &mut [u8]) -> Result<usize, Failed>
         ensures taken { IfOk result (λ n. Gives (left self.old) (left self.new) n buf.new) }
         ensures cause { HasCause (faults self.old) (faults self.new) result }
@@ -31,7 +33,8 @@ pub trait Sink {
     /// The bytes that it holds, where the sink tells them.
     ghost held: { Self → Option (List ℕ) };
 
-    /// How many faults there were. It never falls, and is read as risen where it stands at 2^64 - 1.
+    /// How many faults there were. It never falls, and is read as risen where it stands at 2^64 -
+    /// 1.
     ghost faults: { Self → ℕ };
 
     /// Appends the whole piece, or, where it failed, a first part of it.

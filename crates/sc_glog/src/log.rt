@@ -9,7 +9,8 @@ use std::alloc::Global;
 use std::collections::VecDeque;
 use std::marker::Model;
 
-/// The entries of a group's log that a node has executed and not dropped. Contracts see the slot after which they start, and the entries.
+/// The entries of a group's log that a node has executed and not dropped. Contracts see the slot
+/// after which they start, and the entries.
 #[derive(Drop)]
 pub struct Glog<V> {
     base: u32,
@@ -58,7 +59,9 @@ impl<V> Glog<V> {
 }
 
 impl<V: Drop> Glog<V> {
-    /// Takes a chosen value as the entry of its slot, where that is the next slot. Any other value is dropped, and nothing changes. The slot is below 2^32 - 1. After want of memory nothing has changed.
+    /// Takes a chosen value as the entry of its slot, where that is the next slot. Any other value
+    /// is dropped, and nothing changes. The slot is below 2^32 - 1. After want of memory nothing
+    /// has changed.
     pub fn learn(&mut self, slot: u32, value: V) -> Result<Learnt, OutOfMemory>
         requires { slot < 2 ^ 32 - 1 }
         ensures ok { IfOk result (λ answer. learnt slot value self.old ≡ (answer, self.new)) }
@@ -75,7 +78,8 @@ impl<V: Drop> Glog<V> {
         Ok(Learnt::Learnt)
     }
 
-    /// Starts the log after a slot, which is at least the next one and below 2^32 - 1. It holds no entry then.
+    /// Starts the log after a slot, which is at least the next one and below 2^32 - 1. It holds no
+    /// entry then.
     pub fn install(&mut self, slot: u32)
         requires least { next_of self.old ≤ slot }
         requires most { slot < 2 ^ 32 - 1 }
@@ -85,7 +89,8 @@ impl<V: Drop> Glog<V> {
         self.base = slot;
     }
 
-    /// Drops the entries at slots not above `upto`, which is below the next slot. It takes no memory.
+    /// Drops the entries at slots not above `upto`, which is below the next slot. It takes no
+    /// memory.
     pub fn cut(&mut self, upto: u32)
         requires { upto < next_of self.old }
         ensures { self.new ≡ log_cut upto self.old }

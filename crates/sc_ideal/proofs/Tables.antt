@@ -7,6 +7,7 @@ use Rattle.std.proofs.lemmas.Map.Lookups.{exact_unsigned}
 use Rattle.std.proofs.lemmas.Bool.Decides.{nat_tests}
 use Rattle.std.proofs.lemmas.Bool.{lt-ltb, le-ltb, cases_lt}
 use Rattle.sc_base.specs.declared.ops.Noted.{Noted}
+use Rattle.sc_base.proofs.CommonLemmas.{cond-same}
 use Rattle.sc_ideal.specs.Clients.{Table, is_later, with_later, joined_with, later}
 use Rattle.sc_ideal.specs.Laws.{JoinedByNumber, JoinedInAnyOrder, Agree, number_of}
 use Rattle.sc_ideal.proofs.Joins.{ties, none_past, sorted_rest}
@@ -16,10 +17,6 @@ get-choice : (b : Bool) (m n : Table) (q : ℕ) → get (cond b m n) q ≡ cond 
 get-choice true m n q = refl
 get-choice false m n q = refl
 
-same_of : {X : Type 0} (b : Bool) (x : X) → cond b x x ≡ x
-same_of true x = refl
-same_of false x = refl
-
 -- what a table has at a client after one entry
 get-with_later : (table : Table) (client : ℕ) (noted : Noted) (q : ℕ) → get (with_later table client noted) q ≡ cond (eq_by_cmp nat_cmp q client) (later (get table q) (Some noted)) (get table q)
 get-with_later table client noted q =
@@ -27,7 +24,7 @@ get-with_later table client noted q =
     ∙ ap (λ o. cond (is_later (get table client) noted.seq) o (get table q)) (get-insert nat_cmp_total table client noted q)
     ∙ elim (eq_by_cmp nat_cmp q client) as (λ tie. eq_by_cmp nat_cmp q client ≡ tie → cond (is_later (get table client) noted.seq) (cond tie (Some noted) (get table q)) (get table q) ≡ cond tie (later (get table q) (Some noted)) (get table q)) [
       | true ↦ λ e. ap (λ k. cond (is_later (get table k) noted.seq) (Some noted) (get table q)) (sym (exact_unsigned q client (ties _ e)))
-      | false ↦ λ e. same_of (is_later (get table client) noted.seq) (get table q)
+      | false ↦ λ e. cond-same (is_later (get table client) noted.seq) (get table q)
     ] refl
 
 one_more : (tie : Bool) (old : Option Noted) (noted : Noted) (found : Option Noted) → (tie ≡ true → found ≡ None) → later (cond tie (later old (Some noted)) old) found ≡ later old (cond tie (Some noted) found)

@@ -1,13 +1,14 @@
 -- How a vote is counted, case by case.
-use Rattle.std.proofs.Common.{◌≡◌, ℕ, true, false, eqb, List, length, Option, Some, None, refl, sym, ◌∙◌, ap}
+use Rattle.std.proofs.Common.{◌≡◌, ℕ, true, false, List, length, Option, Some, None, refl, sym, ◌∙◌, ap}
 use Rattle.std.specs.Option.{option_map}
-use Rattle.std.proofs.lemmas.Bool.{cond-true, cond-false, eq-eqb, and_from}
+use Rattle.std.proofs.lemmas.Bool.{cond-true, cond-false}
 use Rattle.sc_base.specs.declared.names.Ballot.{Ballot}
 use Rattle.sc_member.specs.Majority.{is_majority}
 use Rattle.sc_paxos_words.specs.declared.flights.Flight.{Flight}
 use Rattle.sc_paxos_words.specs.declared.answers.Counted.{Counted}
 use Rattle.sc_paxos_words.specs.declared.answers.Counted.TheVariants.{Chosen, NotYet}
 use Rattle.sc_base.specs.Same.{same_ballot}
+use Rattle.sc_base.proofs.NameLemmas.{ballot_itself}
 use Rattle.sc_paxos_words.specs.Leaders.{LeaderState, flight_at, landed, without_flight}
 use Rattle.sc_paxos_words.specs.Votes.{voters_of, voters_after, with_voters, tallied, vote_at, counted}
 
@@ -16,16 +17,13 @@ pub in_flight : {V : Type 0} (o : Option (Flight V)) (kept : Option (List ℕ)) 
 in_flight None kept e = cc
 in_flight (Some f) kept e = (f, refl, cc)
 
-itself : (ballot : Ballot) → same_ballot ballot ballot ≡ true
-itself ballot = and_from (eqb ballot.round ballot.round) (eqb ballot.node ballot.node) (eq-eqb ballot.round ballot.round refl) (eq-eqb ballot.node ballot.node refl)
-
 -- a vote in the leader's ballot for what is in flight is tallied
-pub is_tallied : {V : Type 0} (node : ℕ) (ballot : Ballot) (slot : ℕ) (members : List ℕ) (leader : LeaderState V) (f : Flight V) (kept : Option (List ℕ))
+is_tallied : {V : Type 0} (node : ℕ) (ballot : Ballot) (slot : ℕ) (members : List ℕ) (leader : LeaderState V) (f : Flight V) (kept : Option (List ℕ))
     → ballot ≡ leader.ballot → flight_at slot leader.flights ≡ Some f → f.voters ≡ kept
     → counted node ballot slot members leader ≡ tallied slot f.value members (voters_after members node kept) leader
 is_tallied {V} node ballot slot members leader f kept same there voters =
     cond-true (same_ballot ballot leader.ballot) (vote_at node slot members (flight_at slot leader.flights) leader) (NotYet 0, leader)
-    (ap (λ b. same_ballot b leader.ballot) same ∙ itself leader.ballot)
+    (ap (λ b. same_ballot b leader.ballot) same ∙ ballot_itself leader.ballot)
     ∙ ap (λ o. vote_at node slot members o leader) there
     ∙ ap (λ (vs : Option (List ℕ)). tallied slot f.value members (voters_after members node vs) leader) voters
 

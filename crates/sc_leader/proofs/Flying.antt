@@ -29,6 +29,7 @@ put_last slot [] new same other is = (tt, tt)
 put_last slot (f ∷ fs) new same other is =
     (Each-append (Other f.slot) fs (new ∷ []) is.0 ((λ e. other.0 (sym e ∙ same)), tt), put_last slot fs new same other.1 is.1)
 
+-- one more flight at a free slot
 pub one_with : {V : Type 0} (fs : List (Flight V)) (new : Flight V) → flight_at new.slot fs ≡ None → IsOneEach fs → IsOneEach (fs ++ new ∷ [])
 one_with fs new free is = put_last new.slot fs new refl (none_there new.slot fs free) is
 
@@ -40,6 +41,7 @@ others_stay a slot (f ∷ fs) e =
       | inr n ↦ subst (Each (Other a)) (sym (cond-false (eqb f.slot slot) fs (f ∷ without_flight slot fs) n)) (e.0, others_stay a slot fs e.1)
     ]
 
+-- without the flight of a slot
 pub one_without : {V : Type 0} (slot : ℕ) (fs : List (Flight V)) → IsOneEach fs → IsOneEach (without_flight slot fs)
 one_without slot [] is = tt
 one_without slot (f ∷ fs) is =
@@ -48,6 +50,7 @@ one_without slot (f ∷ fs) is =
       | inr n ↦ subst IsOneEach (sym (cond-false (eqb f.slot slot) fs (f ∷ without_flight slot fs) n)) (others_stay f.slot slot fs is.0, one_without slot fs is.1)
     ]
 
+-- without the flight of a slot nothing is in flight there
 pub gone : {V : Type 0} (slot : ℕ) (fs : List (Flight V)) → IsOneEach fs → flight_at slot (without_flight slot fs) ≡ None
 gone slot [] is = refl
 gone slot (f ∷ fs) is =
@@ -66,6 +69,7 @@ others_written a slot voters (f ∷ fs) e =
       | inr n ↦ subst (Each (Other a)) (sym (cond-false (eqb f.slot slot) (changed f voters ∷ fs) (f ∷ with_voters slot voters fs) n)) (e.0, others_written a slot voters fs e.1)
     ]
 
+-- with other voters at a slot
 pub one_written : {V : Type 0} (slot : ℕ) (voters : Option (List ℕ)) (fs : List (Flight V)) → IsOneEach fs → IsOneEach (with_voters slot voters fs)
 one_written slot voters [] is = tt
 one_written slot voters (f ∷ fs) is =

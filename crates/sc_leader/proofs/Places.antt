@@ -6,12 +6,14 @@ use Rattle.sc_paxos_words.specs.declared.flights.Flight.{Flight}
 use Rattle.sc_paxos_words.specs.Leaders.{flight_at, without_flight}
 use Rattle.sc_paxos_words.specs.Votes.{with_voters}
 
+-- whether a flight is at a slot
 abbrev pub At : {V : Type 0} → ℕ → Flight V → Bool
 At slot flight = eqb flight.slot slot
 
 abbrev place : {V : Type 0} → ℕ → List (Flight V) → ℕ
 place slot xs = position_or_len (At slot) xs
 
+-- a flight with other voters
 abbrev pub changed : {V : Type 0} → Flight V → Option (List ℕ) → Flight V
 changed flight voters = record flight { voters = voters }
 
@@ -72,6 +74,7 @@ is_nowhere {V} slot (x ∷ xs) le =
           })
     ]
 
+-- where a flight is found there is one at the slot
 pub at_place : {V : Type 0} (slot : ℕ) (xs : List (Flight V)) (n : ℕ) → position (At slot) xs ≡ Some n → IsPlace slot xs n
 at_place slot xs n e =
     elim (cases_Bool (ltb (place slot xs) (length xs))) [
@@ -82,6 +85,7 @@ at_place slot xs n e =
       | inr f ↦ (let other = sym (cond-false (ltb (place slot xs) (length xs)) (Some (place slot xs)) None f) ∙ e in cc)
     ]
 
+-- where none is found there is none at the slot
 pub at_none : {V : Type 0} (slot : ℕ) (xs : List (Flight V)) → position (At slot) xs ≡ None → IsNowhere slot xs
 at_none slot xs e =
     elim (cases_Bool (ltb (place slot xs) (length xs))) [

@@ -7,15 +7,17 @@ ghost use Rattle.sc_paxos_words.specs.Leaders.{Obeys, first_leader, elected, pro
 ghost use Rattle.sc_paxos_words.specs.Votes.{counted, has_voted};
 
 use crate::flights::{flight_at, set_voters, take_out};
+use crate::picking::pick;
 use crate::voters::{are_majority, count_of, voters_after};
-use sc_ballot::pick;
 use sc_base::{Ballot, Dup, OutOfMemory};
 use sc_member::Members;
 use sc_paxos_words::{Counted, Flight, Must, Report};
 use std::alloc::Global;
 use std::marker::Model;
 
-/// A leader of one ballot of one group's log. Contracts see its ballot, whether it is the group's first, the next slot when it was elected, who promised it, their reports in the order in which they were counted, and what is in flight.
+/// A leader of one ballot of one group's log. Contracts see its ballot, whether it is the group's
+/// first, the next slot when it was elected, who promised it, their reports in the order in which
+/// they were counted, and what is in flight.
 #[derive(Drop)]
 pub struct Leader<V> {
     ballot: Ballot,
@@ -33,7 +35,15 @@ impl<V> Model for Leader<V> {
 
     ghost Value = { LeaderState V };
 
-    ghost view = { λ l. record { ballot = l.ballot; is_first = l.is_first; from = l.from; promisers = l.promisers.items; reports = l.reports.items; flights = l.flights.items } };
+    ghost view = { λ l.
+        record {
+          ballot = l.ballot;
+          is_first = l.is_first;
+          from = l.from;
+          promisers = l.promisers.items;
+          reports = l.reports.items;
+          flights = l.flights.items;
+        } };
 
     ghost invariant = { λ l. IsOneEach l.flights.items };
 }
@@ -54,7 +64,8 @@ impl<V> Leader<V> {
         }
     }
 
-    /// A leader of another ballot, elected when `from` was the next slot: no promise is counted and nothing is in flight.
+    /// A leader of another ballot, elected when `from` was the next slot: no promise is counted and
+    /// nothing is in flight.
     pub fn elect(alloc: Global, ballot: Ballot, from: u32) -> Leader<V>
         ensures { result ≡ elected ballot from }
     {
@@ -83,7 +94,8 @@ impl<V> Leader<V> {
         self.is_first
     }
 
-    /// Whether it is settled: its ballot is not below the promise of its own acceptor, and it is the first or a majority of the members of the next slot promised it.
+    /// Whether it is settled: its ballot is not below the promise of its own acceptor, and it is
+    /// the first or a majority of the members of the next slot promised it.
     pub fn settled(&self, promised: Ballot, members: &Members) -> bool
         ensures { result ≡ is_settled promised members.now self.now }
     {
@@ -95,7 +107,8 @@ impl<V> Leader<V> {
 
     /// The value in flight at a slot, if there is one.
     pub fn flight(&self, slot: u32) -> Option<&V>
-        ensures { option_copied result ≡ option_map (λ flight. flight.value) (flight_at slot self.now.flights) }
+        ensures { option_copied result
+            ≡ option_map (λ flight. flight.value) (flight_at slot self.now.flights) }
     {
         match flight_at(self.flights.as_slice(), slot) {
             Some(flight) => Some(&flight.value),
@@ -118,9 +131,10 @@ impl<V> Leader<V> {
 
     /// Takes out what is in flight at a slot; there is none exactly where nothing is.
     pub fn land(&mut self, slot: u32) -> Option<V>
-        ensures value { result ≡ option_map (λ flight. flight.value) (flight_at slot self.old.flights) }
+        ensures value { result
+            ≡ option_map (λ flight. flight.value) (flight_at slot self.old.flights) }
         ensures after { self.new ≡ landed slot self.old }
-        ensures gone { flight_at slot self.new.flights ≡ None }
+        ensures empty { flight_at slot self.new.flights ≡ None }
     {
         match take_out(&mut self.flights, slot) {
             Some(flight) => Some(value_of(flight)),
@@ -130,14 +144,18 @@ impl<V> Leader<V> {
 }
 
 impl<V: Drop> Leader<V> {
-    /// Counts the promise of a node, with its reports. False exactly where the ballot is not this leader's or the node was counted already, and then nothing changes. Refused only for want of memory.
+    /// Counts the promise of a node, with its reports. False exactly where the ballot is not this
+    /// leader's or the node was counted already, and then nothing changes. Refused only for want of
+    /// memory.
     pub fn on_promise(
         &mut self,
         from: u16,
         ballot: Ballot,
         mut reports: Vec<Report<V>>,
     ) -> Result<bool, OutOfMemory>
-        ensures { IfOk result (λ is_counted. promise_counted from ballot reports.items self.old ≡ (is_counted, self.new)) }
+        ensures { IfOk result
+            (λ is_counted.
+            promise_counted from ballot reports.items self.old ≡ (is_counted, self.new)) }
     {
         if ballot != self.ballot || occurs(self.promisers.as_slice(), from) {
             return Ok(false);
@@ -147,7 +165,9 @@ impl<V: Drop> Leader<V> {
         Ok(true)
     }
 
-    /// Puts a value in flight at a slot, with no votes. Nothing is in flight there, and the value is the one that it must propose, where there is one. After want of memory nothing has changed, and the value is dropped.
+    /// Puts a value in flight at a slot, with no votes. Nothing is in flight there, and the value
+    /// is the one that it must propose, where there is one. After want of memory nothing has
+    /// changed, and the value is dropped.
     pub fn offer(&mut self, slot: u32, value: V) -> Result<(), OutOfMemory>
         requires free { flight_at slot self.old.flights ≡ None }
         requires obeys { Obeys (must slot self.old) value }
@@ -162,7 +182,11 @@ impl<V: Drop> Leader<V> {
         Ok(())
     }
 
-    /// Counts a vote for what is in flight at a slot. Only a vote in this leader's ballot counts; that of a member is kept, once, and that of another node is not. The value is chosen, and the flight taken out, exactly where the kept voters are now a majority of the members; else their number is told, 0 where nothing is in flight there in that ballot. At most nine votes are kept for a slot.
+    /// Counts a vote for what is in flight at a slot. Only a vote in this leader's ballot counts;
+    /// that of a member is kept, once, and that of another node is not. The value is chosen, and
+    /// the flight taken out, exactly where the kept voters are now a majority of the members; else
+    /// their number is told, 0 where nothing is in flight there in that ballot. At most nine votes
+    /// are kept for a slot.
     pub fn on_accepted(
         &mut self,
         from: u16,
@@ -193,7 +217,9 @@ impl<V: Drop> Leader<V> {
 }
 
 impl<V: Dup + Drop> Leader<V> {
-    /// What it must propose at a slot: what `pick` chooses from the reports in the order in which they were counted; a gap where no report names the slot and one names a greater slot; else it is free. Refused only for want of memory.
+    /// What it must propose at a slot: what `pick` chooses from the reports in the order in which
+    /// they were counted; a gap where no report names the slot and one names a greater slot; else
+    /// it is free. Refused only for want of memory.
     pub fn must(&self, slot: u32) -> Result<Must<V>, OutOfMemory>
         ensures { IfOk result (λ found. found ≡ must slot self.now) }
     {

@@ -3,10 +3,14 @@
 
 mod flights;
 mod leader;
+mod picking;
 mod voters;
 
 pub use leader::Leader;
+pub use picking::pick;
 pub use sc_paxos_words::{Counted, Must};
 
+#[cfg(test)]
+mod picking_tests;
 #[cfg(test)]
 mod tests;

@@ -35,7 +35,8 @@ impl Model for Routes {
 impl Routes {
     /// The routes of a client that knows one group.
     pub fn start(alloc: Global, route: Route) -> Result<Routes, OutOfMemory>
-        ensures { IfOk result (λ routes. routes ≡ (route.group, new_way route.lo route.members) ∷ []) }
+        ensures { IfOk result
+            (λ routes. routes ≡ (route.group, new_way route.lo route.members) ∷ []) }
     {
         let mut known = IndexMap::new(alloc);
         known.insert(route.group, Way::new(route.lo, route.members))?;

@@ -1,7 +1,8 @@
 //! What a mail says.
-ghost use Rattle.std.specs.Prelude.{◌≡◌, ◌+◌};
+ghost use Rattle.std.specs.Prelude.{◌≡◌};
+ghost use Rattle.sc_base.specs.Limits.{client_actor};
 
-use sc_base::{Ballot, Draw, Op, Reply, RingArc, Sequence};
+use sc_base::{Ballot, Draw, MOST_NODES, Op, Reply, RingArc, Sequence};
 use sc_cmd::{
     Base, Command, Link, MemberSets, Offer, Outcome, Past, Route, ToldResult, Vote, Watch,
 };
@@ -12,9 +13,9 @@ pub const DESK: u32 = 0;
 
 /// The actor number of a client: nodes are 1 to 32, and client C is 32 + C.
 pub fn client_number(client: u16) -> u32
-    ensures { result ≡ 32 + client }
+    ensures { result ≡ client_actor client }
 {
-    32 + client as u32
+    MOST_NODES + client as u32
 }
 
 /// A promise's reports of what its node accepted last, ascending by slot.

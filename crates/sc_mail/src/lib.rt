@@ -3,6 +3,7 @@
 
 mod bodies;
 mod copies;
+mod sames;
 mod weights;
 
 pub use bodies::{AnswerBody, DESK, Mail, MailBody, Reports, client_number};

@@ -1,6 +1,6 @@
 use super::*;
 use sc_actor::Parcel;
-use sc_base::{Ballot, Draw, Dup, Key, Op, OutOfMemory, Reply, Sequence, Value};
+use sc_base::{Ballot, Draw, Dup, Key, Op, OutOfMemory, Reply, Same, Sequence, Value};
 use sc_cmd::Command;
 use sc_paxos_words::Report;
 use std::alloc::Global;
@@ -26,30 +26,42 @@ fn call(alloc: Global) -> Result<Command, Fail> {
     })
 }
 
-fn accept(alloc: Global) -> Result<MailBody, Fail> {
+fn accept(alloc: Global, slot: u32) -> Result<MailBody, Fail> {
     let command = call(alloc)?;
     Ok(MailBody::Accept {
         group: GROUP,
         ballot: FIRST,
-        slot: 1,
+        slot,
         command,
     })
 }
 
-fn promise(alloc: Global) -> Result<MailBody, Fail> {
+fn report(alloc: Global) -> Result<Report<Command>, Fail> {
     let value = call(alloc)?;
-    let report = Report {
+    Ok(Report {
         slot: 1,
         ballot: FIRST,
         value,
-    };
+    })
+}
+
+fn one_report(alloc: Global, report: Report<Command>) -> Result<Reports, OutOfMemory> {
     let mut reports = Sequence::new(alloc);
     reports.push(report)?;
-    Ok(MailBody::Promise {
+    Ok(reports)
+}
+
+fn promised(reports: Reports) -> MailBody {
+    MailBody::Promise {
         group: GROUP,
         ballot: FIRST,
         reports,
-    })
+    }
+}
+
+fn promise(alloc: Global) -> Result<MailBody, Fail> {
+    let reports = one_report(alloc, report(alloc)?)?;
+    Ok(promised(reports))
 }
 
 fn answer(alloc: Global) -> Result<MailBody, Fail> {
@@ -84,7 +96,7 @@ fn check<R: Abort>(rt: &R, alloc: Global, body: MailBody, weight: u64) -> Result
 
 #[test]
 fn an_accept_counts_its_key_and_value(rt: HostRuntime) -> Result<(), Fail> {
-    check(&rt, rt.alloc(), accept(rt.alloc())?, 8)
+    check(&rt, rt.alloc(), accept(rt.alloc(), 1)?, 8)
 }
 
 #[test]
@@ -95,4 +107,26 @@ fn a_promise_counts_32_for_each_report(rt: HostRuntime) -> Result<(), Fail> {
 #[test]
 fn an_answer_counts_its_value(rt: HostRuntime) -> Result<(), Fail> {
     check(&rt, rt.alloc(), answer(rt.alloc())?, 5)
+}
+
+// Whether the accepts of slot 1 and of another slot are the same.
+fn accepts_are_same(alloc: Global, slot: u32) -> Result<bool, Fail> {
+    let one = accept(alloc, 1)?;
+    let other = accept(alloc, slot)?;
+    Ok(one.is_same(&other))
+}
+
+// Whether an answer is the same as an accept.
+fn kinds_are_same(alloc: Global) -> Result<bool, Fail> {
+    let one = accept(alloc, 1)?;
+    let other = answer(alloc)?;
+    Ok(one.is_same(&other))
+}
+
+#[test]
+fn mails_are_the_same_where_every_part_is(rt: HostRuntime) -> Result<(), Fail> {
+    assert!(rt; accepts_are_same(rt.alloc(), 1)?);
+    assert!(rt; !accepts_are_same(rt.alloc(), 2)?);
+    assert!(rt; !kinds_are_same(rt.alloc())?);
+    Ok(())
 }

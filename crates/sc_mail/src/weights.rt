@@ -1,7 +1,7 @@
 //! What a mail counts.
 ghost use Rattle.std.specs.Prelude.{◌≡◌};
 ghost use Rattle.std.specs.List.{sum_by};
-ghost use Rattle.sc_cmd.specs.Weight.{told};
+ghost use Rattle.sc_cmd.specs.Weight.{capped};
 ghost use Rattle.sc_mail.specs.Weight.{answer_weight, report_weight, body_weight};
 
 use crate::bodies::{AnswerBody, Mail, MailBody, Reports};
@@ -21,7 +21,7 @@ fn answer_weight(answer: &AnswerBody) -> u64
 }
 
 fn reports_weight(reports: &Reports) -> u64
-    ensures { result ≡ told (sum_by report_weight reports.now) }
+    ensures { result ≡ capped (sum_by report_weight reports.now) }
 {
     let mut total = 0u64;
     for report in reports.as_slice() {
@@ -33,7 +33,7 @@ fn reports_weight(reports: &Reports) -> u64
 }
 
 fn body_weight(body: &MailBody) -> u64
-    ensures { result ≡ told (body_weight body.now) }
+    ensures { result ≡ capped (body_weight body.now) }
 {
     match body {
         MailBody::Request { op, .. } => op_weight(op),

@@ -22,7 +22,8 @@ impl Model for Nodes {
 
     ghost inverse = { λ l. record { places = l ++ replicate (9 - length l) 0; count = length l } };
 
-    ghost inverse_ok = { λ n h. inverse_of n.places n.count h (λ places count. record { places = places; count = count }) };
+    ghost inverse_ok = { λ n h.
+        inverse_of n.places n.count h (λ places count. record { places = places; count = count }) };
 }
 
 impl Nodes {

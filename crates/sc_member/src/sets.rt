@@ -5,7 +5,7 @@ ghost use Rattle.sc_member.specs.Faults.{add_fault, remove_fault};
 ghost use Rattle.sc_member.specs.Majority.{is_majority, votes_of};
 
 use crate::nodes::Nodes;
-use sc_base::{Dup, OutOfMemory};
+use sc_base::{Dup, OutOfMemory, Same, are_same};
 use std::alloc::Global;
 use std::marker::Model;
 
@@ -53,7 +53,9 @@ impl Members {
 
     /// Puts a node into the set. Refused with `Present` or `Full`, and then nothing changes.
     pub fn add(&mut self, node: u16) -> Result<(), MemberFault>
-        ensures { MatchResult result (λ _. (add_fault self.old node ≡ None) × (self.new ≡ with_member self.old node)) (λ fault. (add_fault self.old node ≡ Some fault) × (self.new ≡ self.old)) }
+        ensures { MatchResult result
+            (λ _. (add_fault self.old node ≡ None) × (self.new ≡ with_member self.old node))
+            (λ fault. (add_fault self.old node ≡ Some fault) × (self.new ≡ self.old)) }
     {
         if self.has(node) {
             return Err(MemberFault::Present);
@@ -67,7 +69,9 @@ impl Members {
 
     /// Takes a node out of the set. Refused with `Absent` or `Last`, and then nothing changes.
     pub fn remove(&mut self, node: u16) -> Result<(), MemberFault>
-        ensures { MatchResult result (λ _. (remove_fault self.old node ≡ None) × (self.new ≡ without_member self.old node)) (λ fault. (remove_fault self.old node ≡ Some fault) × (self.new ≡ self.old)) }
+        ensures { MatchResult result
+            (λ _. (remove_fault self.old node ≡ None) × (self.new ≡ without_member self.old node))
+            (λ fault. (remove_fault self.old node ≡ Some fault) × (self.new ≡ self.old)) }
     {
         if !self.has(node) {
             return Err(MemberFault::Absent);
@@ -121,7 +125,8 @@ impl Members {
         }
     }
 
-    /// Whether more than half of the members occur among the voters. Voters that are no members, and voters that come twice, count for nothing.
+    /// Whether more than half of the members occur among the voters. Voters that are no members,
+    /// and voters that come twice, count for nothing.
     pub fn is_majority(&self, voters: &[u16]) -> bool
         ensures { result ≡ is_majority self.now voters.now }
     {
@@ -133,6 +138,12 @@ impl Members {
 impl Dup for Members {
     fn dup(&self, _alloc: Global) -> Result<Members, OutOfMemory> {
         Ok(*self)
+    }
+}
+
+impl Same for Members {
+    fn is_same(&self, other: &Members) -> bool {
+        are_same(self.as_slice(), other.as_slice())
     }
 }
 

@@ -13,7 +13,8 @@ impl Members {
         self.len() + self.count_strangers(other.as_slice())
     }
 
-    /// The nodes that are in this set or the other. `count_with` tells how many there are: nine at most.
+    /// The nodes that are in this set or the other. `count_with` tells how many there are: nine at
+    /// most.
     pub fn union(&self, other: &Members) -> Members
         requires { length (united self.now other.now) ≤ 9 }
         ensures { result ≡ united self.now other.now }

@@ -54,7 +54,8 @@ whole_by_promise {V} state ballot is t = record {
   kept = Each-weaker _ (λ (r : Report V). IsAtLeast ballot r.ballot) (λ r h. at_least_trans ballot state.promised r.ballot (at_least_from_below state.promised ballot t) h) state.accepted is.kept;
 }
 
-may_is : {V : Type 0} (state : AcceptorState V) (ballot : Ballot) → may_accept state ballot ≡ true → IsAtLeast ballot state.promised
+-- an acceptor that may accept in a ballot has promised none above it
+pub may_is : {V : Type 0} (state : AcceptorState V) (ballot : Ballot) → may_accept state ballot ≡ true → IsAtLeast ballot state.promised
 may_is state ballot t = not-true (below ballot state.promised) t
 
 pub whole_by_accept : {V : Type 0} (state : AcceptorState V) (report : Report V) → IsWhole state → may_accept state report.ballot ≡ true → state.floor < report.slot → IsWhole (after_accept report state)

@@ -4,6 +4,7 @@ use Rattle.std.specs.Ordering.{nat_cmp, ordering_then, is_lt}
 use Rattle.std.specs.declared.cmp.Ordering.TheVariants.{Less, Equal, Greater}
 use Rattle.std.proofs.lemmas.Bool.{cases_Bool, cases_lt, cases_order, cond-true, cond-false, lt-ltb, le-ltb, eq-eqb, ne_eqb}
 use Rattle.sc_base.specs.declared.names.Ballot.{Ballot}
+use Rattle.sc_base.proofs.NameLemmas.{ballots_equal}
 use Rattle.sc_paxos_words.specs.Ballots.{below, IsAtLeast}
 
 less : (m n : ℕ) → m < n → nat_cmp m n ≡ Less
@@ -56,13 +57,6 @@ before_trans a b c (inl h) (inr k) = inl (omega (arith, k.0))
 before_trans a b c (inr h) (inl k) = inl (omega (arith, h.0))
 before_trans a b c (inr h) (inr k) = inr (h.0 ∙ k.0, omega (arith, h.1, k.1))
 
--- what is below one that is not above another is below the other
-before_not_after : (a b c : Ballot) → ComesBefore a b → ComesNotBefore c b → ComesBefore a c
-before_not_after a b c (inl h) (inl k) = inl (omega arith)
-before_not_after a b c (inl h) (inr k) = inl (omega (arith, k.0))
-before_not_after a b c (inr h) (inl k) = inl (omega (arith, h.0))
-before_not_after a b c (inr h) (inr k) = inr (h.0 ∙ sym k.0, omega (arith, h.1, k.1))
-
 not_after_before : (a b c : Ballot) → ComesNotBefore b a → ComesBefore b c → ComesBefore a c
 not_after_before a b c (inl h) (inl k) = inl (omega arith)
 not_after_before a b c (inl h) (inr k) = inl (omega (arith, k.0))
@@ -77,10 +71,6 @@ not_before_trans a b c (inr h) (inr k) = inr (h.0 ∙ k.0, omega (arith, h.1, k.
 
 pub below_trans : (a b c : Ballot) → below a b ≡ true → below b c ≡ true → below a c ≡ true
 below_trans a b c h k = below_from a c (before_trans a b c (below_parts a b h) (below_parts b c k))
-
--- a < b, and b is not above c: a < c
-pub below_at_least : (a b c : Ballot) → below a b ≡ true → IsAtLeast c b → below a c ≡ true
-below_at_least a b c h k = below_from a c (before_not_after a b c (below_parts a b h) (not_below_parts c b k))
 
 -- a is not above b, and b < c: a < c
 pub at_least_below : (a b c : Ballot) → IsAtLeast b a → below b c ≡ true → below a c ≡ true
@@ -99,14 +89,12 @@ at_least_from_below a b h = elim (below_parts a b h) [ inl k ↦ not_below_from 
 pub not_both : (a b : Ballot) → below a b ≡ true → IsAtLeast a b → ⊥
 not_both a b h k = cc
 
-made_equal : (r n s m : ℕ) → r ≡ s → n ≡ m → (let a : Ballot = record { round = r; node = n } in a) ≡ record { round = s; node = m }
-made_equal r n s m e f = ap (λ x. (let a : Ballot = record { round = x; node = n } in a)) e ∙ ap (λ x. (let a : Ballot = record { round = s; node = x } in a)) f
-
+-- neither is above the other: they are the same
 pub same_from_at_least : (a b : Ballot) → IsAtLeast a b → IsAtLeast b a → a ≡ b
 same_from_at_least a b h k =
     elim (not_below_parts a b h) [
       | inl p ↦ elim (not_below_parts b a k) [ inl q ↦ absurd (omega arith) | inr q ↦ absurd (omega (arith, q.0)) ]
-      | inr p ↦ elim (not_below_parts b a k) [ inl q ↦ absurd (omega (arith, p.0)) | inr q ↦ made_equal a.round a.node b.round b.node p.0 (omega (arith, p.1, q.1)) ]
+      | inr p ↦ elim (not_below_parts b a k) [ inl q ↦ absurd (omega (arith, p.0)) | inr q ↦ ballots_equal a.round a.node b.round b.node p.0 (omega (arith, p.1, q.1)) ]
     ]
 
 -- a ballot is below another, or it is that one or a later one

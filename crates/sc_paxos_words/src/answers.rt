@@ -5,7 +5,8 @@ use sc_base::{Ballot, Sequence};
 /// What an acceptor answers to a prepare.
 #[derive(Drop)]
 pub enum PrepareAnswer<V> {
-    /// It promises to accept in no lower ballot, and reports what it accepted at the slots asked for, by rising slot.
+    /// It promises to accept in no lower ballot, and reports what it accepted at the slots asked
+    /// for, by rising slot.
     Promise { reports: Sequence<Report<V>> },
     /// The ballot is not above its promise, which it tells.
     Ignored { promised: Ballot },

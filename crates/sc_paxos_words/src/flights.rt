@@ -1,7 +1,8 @@
 //! Proposals in flight.
 use sc_member::Members;
 
-/// A value that a leader has proposed at a slot, and the members that have accepted it, if any have.
+/// A value that a leader has proposed at a slot, and the members that have accepted it, if any
+/// have.
 #[derive(Drop)]
 pub struct Flight<V> {
     /// The slot of the log, from 1 on.

@@ -6,7 +6,8 @@ pub fn ballots_are_ordered()
     ensures { BallotsAreOrdered }
 {}
 
-/// The choice is a report of the slot, none before it has its ballot or a higher one, and none after it a higher one. There is none only where no report names the slot.
+/// The choice is a report of the slot, none before it has its ballot or a higher one, and none
+/// after it a higher one. There is none only where no report names the slot.
 pub fn choice_is_first_highest<V>()
     ensures some { ChoiceIsFirstHighest V }
     ensures none { NoChoiceWithoutReport V }

@@ -1,10 +1,11 @@
 //! Reports of what was accepted.
 ghost use Rattle.std.specs.Prelude.{◌≡◌, IfOk};
 
-use sc_base::{Ballot, Dup, OutOfMemory};
+use sc_base::{Ballot, Dup, OutOfMemory, Same};
 use std::alloc::Global;
 
-/// What an acceptor reports of a slot: the last value that it accepted there, and in which ballot (Paxos Made Simple, section 2.2).
+/// What an acceptor reports of a slot: the last value that it accepted there, and in which ballot
+/// (Paxos Made Simple, section 2.2).
 #[derive(Debug, PartialEq, Eq, Drop)]
 pub struct Report<V> {
     /// The slot of the log, from 1 on.
@@ -22,5 +23,13 @@ impl<V: Dup> Dup for Report<V> {
             ballot: self.ballot,
             value: self.value.dup(alloc)?,
         })
+    }
+}
+
+impl<V: Same> Same for Report<V> {
+    fn is_same(&self, other: &Report<V>) -> bool {
+        self.slot == other.slot
+            && self.ballot.is_same(&other.ballot)
+            && self.value.is_same(&other.value)
     }
 }

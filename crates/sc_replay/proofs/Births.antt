@@ -6,7 +6,7 @@ use Rattle.std.proofs.lemmas.List.Elements.{All-nil, All-cons}
 use Rattle.sc_cmd.specs.declared.cores.Base.{Base}
 use Rattle.sc_cmd.specs.declared.links.Route.{Route}
 use Rattle.sc_actor.specs.declared.actors.Seat.{Seat}
-use Rattle.sc_play.specs.Stages.{are_apart}
+use Rattle.sc_actor.specs.System.{are_apart}
 use Rattle.sc_node_table.specs.Slots.{slots_ahead, numbers}
 use Rattle.sc_scenario.specs.Groups.{lone_group}
 use Rattle.sc_scenario.specs.Valid.{IsEarly, IsEarlyClient}

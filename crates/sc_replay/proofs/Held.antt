@@ -5,8 +5,8 @@ use Rattle.sc_cmd.specs.declared.orders.OrderLine.{OrderLine}
 use Rattle.sc_mail.specs.declared.bodies.Mail.{Mail}
 use Rattle.sc_actor.specs.declared.rows.Row.{Row}
 use Rattle.sc_actor.specs.System.{no_words}
-use Rattle.sc_play.specs.declared.judging.Replayed.{Replayed}
-use Rattle.sc_play.specs.Replays.{Leaves}
+use Rattle.sc_checker.specs.declared.judging.Replayed.{Replayed}
+use Rattle.sc_checker.specs.Replays.{Leaves}
 use Rattle.sc_scenario.specs.Valid.{IsValid}
 use Rattle.sc_scenario.specs.declared.scenarios.Scenario.{Scenario}
 use Rattle.sc_world.specs.World.{system_of, schedule, Lawful}

@@ -1,7 +1,7 @@
 -- Scenarios that can be played.
 use Rattle.std.specs.Prelude.{◌≡◌, ◌<◌, ◌≤◌, true, All}
-use Rattle.sc_play.specs.Deeds.{is_built}
-use Rattle.sc_play.specs.Stages.{are_apart}
+use Rattle.sc_actor.specs.Walk.{has_one_task}
+use Rattle.sc_actor.specs.System.{are_apart}
 use Rattle.sc_scenario.specs.Valid.{IsValid}
 use Rattle.sc_scenario.specs.declared.scenarios.Scenario.{Scenario}
 use Rattle.sc_world.specs.World.{most_actor, births, schedule, AreFew}
@@ -10,7 +10,7 @@ use Rattle.sc_world.specs.World.{most_actor, births, schedule, AreFew}
 pub record CanPlay (scenario : Scenario) : Type 0 where
   pub apart : are_apart (births scenario) ≡ true
   pub numbered : All (λ seat. (0 < seat.who) × (seat.who ≤ most_actor)) (births scenario)
-  pub built : All (λ line. is_built line ≡ true) (schedule scenario)
+  pub built : All (λ line. has_one_task line ≡ true) (schedule scenario)
   pub few : AreFew scenario
 
 -- each valid scenario can be played

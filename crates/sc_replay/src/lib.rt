@@ -3,7 +3,6 @@
 
 mod accepting;
 mod deciding;
-mod exact;
 mod histories;
 mod indexing;
 mod laws;

@@ -2,12 +2,11 @@
 ghost use Rattle.std.specs.Prelude.{◌≡◌, ◌<◌, ◌≤◌, ◌^◌, ◌↔◌, IsTrue, length, take, IfOk, MatchResult};
 ghost use Rattle.sc_actor.specs.Mail.{mails};
 ghost use Rattle.sc_scenario.specs.Valid.{IsValid};
-ghost use Rattle.sc_play.specs.Replays.{IsReplayed};
+ghost use Rattle.sc_checker.specs.Replays.{IsReplayed};
 ghost use Rattle.sc_world.specs.World.{system_of, schedule, Lawful};
 ghost use Rattle.sc_replay.specs.Replays.{IsBadRow, IsFault};
 ghost use Rattle.sc_replay.specs.Worlds.{MayReplay, Replays};
 
-use crate::exact::Exact;
 use crate::laws::valid_scenarios_can_play;
 use crate::worlds::World;
 use sc_actor::{Journal, Row};
@@ -15,7 +14,7 @@ use sc_base::OutOfMemory;
 use sc_cmd::OrderLine;
 use sc_group_law::{group_journals_are_sound, valid_scenarios_have_one_group};
 use sc_mail::Mail;
-use sc_play::{Replayed, replay};
+use sc_checker::{Replayed, replay};
 use sc_scenario::Scenario;
 use sc_world::{Party, births, parties_of, schedule};
 use std::alloc::Global;
@@ -42,7 +41,7 @@ fn left_by(
     valid_scenarios_can_play();
     let seats = births(alloc, scenario)?;
     let lines = schedule(alloc, scenario)?;
-    replay(alloc, &Exact, seats, lines.as_slice(), rows)
+    replay(alloc, seats, lines.as_slice(), rows)
 }
 
 // Whether so many first rows are lawful.

@@ -1,11 +1,10 @@
 ghost use Rattle.std.specs.Prelude.{◌≡◌};
 
 use super::*;
-use sc_actor::{Event, Journal, Row};
+use sc_actor::{Event, Journal, Row, are_few};
 use sc_base::Sequence;
 use sc_cmd::OrderLine;
 use sc_mail::Mail;
-use sc_play::are_few;
 use sc_scenario::read_scenario;
 use std::alloc::Global;
 use std::process::Abort;

@@ -1,29 +1,17 @@
 -- What options that are made of options gave.
 use Rattle.std.proofs.Common.{◌≡◌, ◌≤◌, ◌&&◌, ℕ, List, Some, None, Option, Bool, true, false, if◌then◌else◌, nat_le, refl, rules, arith}
-use Rattle.std.specs.Option.{option_map, option_and_then}
+use Rattle.std.proofs.lemmas.Option.{same_Some}
+use Rattle.sc_base.proofs.CommonLemmas.{and_then-some}
 use Rattle.sc_base.specs.Number.{number_of, is_numeral, value_from}
 use Rattle.sc_scenario.specs.Words.{count_in}
-
--- what a mapped option gives, the option gave
-pub mapped : {X Y : Type 0} (f : X → Y) (o : Option X) (y : Y) → option_map f o ≡ Some y → (x : X) × (o ≡ Some x) × (y ≡ f x)
-mapped f None y e = search (rules, e)
-mapped f (Some x) y e = (x, refl, search (rules, e))
-
--- what two steps give, the first gave and then the second
-pub bound : {X Y : Type 0} (f : X → Option Y) (o : Option X) (y : Y) → option_and_then f o ≡ Some y → (x : X) × (o ≡ Some x) × (f x ≡ Some y)
-bound f None y e = search (rules, e)
-bound f (Some x) y e = (x, refl, e)
 
 -- what a choice gives against nothing was given, and the test holds
 pub chosen : {X : Type 0} (b : Bool) (o : Option X) (x : X) → (if b then o else None) ≡ Some x → (b ≡ true) × (o ≡ Some x)
 chosen true o x e = (refl, e)
 chosen false o x e = search (rules, e)
 
-pub some_is : {X : Type 0} (x y : X) → Some x ≡ Some y → x ≡ y
-some_is x y e = search (rules, e)
-
 both_chosen : (a b : Bool) (x y : ℕ) → (if a && b then Some x else None) ≡ Some y → (b ≡ true) × (x ≡ y)
-both_chosen true true x y e = (refl, some_is x y e)
+both_chosen true true x y e = (refl, same_Some x y e)
 both_chosen true false x y e = search (rules, e)
 both_chosen false b x y e = search (rules, e)
 
@@ -36,9 +24,9 @@ is_up_to most word n e =
 
 pub counted : (most : ℕ) (word : List ℕ) (n : ℕ) → count_in most word ≡ Some n → (1 ≤ n) × (n ≤ most)
 counted most word n e =
-    let b = bound (λ m. if nat_le 1 m then Some m else None) (number_of word most) n e in
+    let b = and_then-some (λ m. if nat_le 1 m then Some m else None) (number_of word most) n e in
     let c = chosen (nat_le 1 b.0) (Some b.0) n b.2 in
-    let same = some_is b.0 n c.1 in
+    let same = same_Some b.0 n c.1 in
     let le : 1 ≤ b.0 = search (rules, c.0) in
     let up = is_up_to most word b.0 b.1 in
     (omega arith, omega arith)

@@ -2,13 +2,14 @@
 use Rattle.std.specs.Prelude.{ℕ, ◌+◌, ◌-◌, ◌==◌, ◌&&◌, not, nat_le, nat_lt, Bool, false, get_or, List, [], ◌∷◌, ◌++◌, length, take, drop, codes, Option, Some, None, if◌then◌else◌, option_and_then}
 use Rattle.std.specs.Option.{option_map}
 use Rattle.std.specs.List.{insert}
+use Rattle.sc_base.specs.Limits.{most_nodes, most_clients, most_requests}
 use Rattle.sc_base.specs.declared.ops.Op.{Op}
 use Rattle.sc_cmd.specs.declared.cores.Base.{Base}
 use Rattle.sc_scenario.specs.Words.{same, pieces, words_of, nth, is_line, count_in}
 use Rattle.sc_scenario.specs.Requests.{request_in}
 use Rattle.sc_scenario.specs.Groups.{group_in}
 use Rattle.sc_scenario.specs.Orders.{told_in}
-use Rattle.sc_scenario.specs.Schedules.{most_clients, is_client, schedule_in}
+use Rattle.sc_scenario.specs.Schedules.{is_client, schedule_in}
 use Rattle.sc_scenario.specs.declared.drafts.Draft.{Draft}
 use Rattle.sc_scenario.specs.declared.drafts.Reading.{Reading}
 use Rattle.sc_scenario.specs.declared.drafts.Reading.TheVariants.{Outside, Within}
@@ -16,18 +17,12 @@ use Rattle.sc_scenario.specs.declared.scenarios.Asks.{Asks}
 use Rattle.sc_scenario.specs.declared.scenarios.Scenario.{Scenario}
 use Rattle.sc_scenario.specs.declared.scenarios.SchedLine.{SchedLine}
 
--- the most bytes and lines that an input has, the most nodes, and the most requests of a client
+-- the most bytes and lines that an input has
 abbrev pub most_bytes : ℕ
 most_bytes = 16777216
 
 abbrev pub most_lines : ℕ
 most_lines = 20000
-
-abbrev pub most_nodes : ℕ
-most_nodes = 32
-
-abbrev pub most_requests : ℕ
-most_requests = 1000
 
 -- ---- inside a client's section
 

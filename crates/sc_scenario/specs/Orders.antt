@@ -1,6 +1,7 @@
 -- The lines that tell a node an order.
 use Rattle.std.specs.Prelude.{ℕ, ◌==◌, List, length, codes, Option, None, if◌then◌else◌, option_and_then}
 use Rattle.std.specs.Option.{option_map}
+use Rattle.sc_base.specs.Limits.{most_nodes}
 use Rattle.sc_base.specs.Number.{number_of}
 use Rattle.sc_base.specs.declared.names.Draw.{Draw}
 use Rattle.sc_cmd.specs.declared.orders.Order.{Order}
@@ -10,15 +11,11 @@ use Rattle.sc_scenario.specs.Schedules.{most_mails}
 use Rattle.sc_scenario.specs.declared.scenarios.SchedLine.{SchedLine}
 use Rattle.sc_scenario.specs.declared.scenarios.SchedLine.TheVariants.{Told}
 
--- the greatest number of a node in a group's name, which is 0 where the scenario named it
-abbrev pub most_makers : ℕ
-most_makers = 32
-
--- a group's name `A.B`
+-- a group's name `A.B`: A is the node that drew it, or 0 where the scenario named it
 abbrev pub name_of : List (List ℕ) → Option Draw
 name_of parts =
     if length parts == 2
-    then option_and_then (λ node. option_map (λ count. record { node = node; count = count }) (count_in most_mails (nth parts 1))) (number_of (nth parts 0) most_makers)
+    then option_and_then (λ node. option_map (λ count. record { node = node; count = count }) (count_in most_mails (nth parts 1))) (number_of (nth parts 0) most_nodes)
     else None
 
 abbrev pub name_in : List ℕ → Option Draw

@@ -1,16 +1,14 @@
 -- The lines of the schedule, by the number of nodes and the clients that have a section.
-use Rattle.std.specs.Prelude.{ℕ, ◌+◌, ◌==◌, Bool, List, [], ◌∷◌, codes, Option, Some, None, if◌then◌else◌, option_and_then}
+use Rattle.std.specs.Prelude.{ℕ, ◌==◌, Bool, List, [], ◌∷◌, codes, Option, Some, None, if◌then◌else◌, option_and_then}
 use Rattle.std.specs.List.{list_any}
 use Rattle.std.specs.Option.{option_map}
+use Rattle.sc_base.specs.Limits.{most_clients, client_actor}
 use Rattle.sc_scenario.specs.Words.{nth, is_line, count_in}
 use Rattle.sc_scenario.specs.declared.scenarios.Asks.{Asks}
 use Rattle.sc_scenario.specs.declared.scenarios.SchedLine.{SchedLine}
 use Rattle.sc_scenario.specs.declared.scenarios.SchedLine.TheVariants.{Go, Deliver, Drop, Again, Tick, Crash, Settle, Free}
 
--- the greatest number of a client, the greatest number of a mail and of a place among pending mail, and the most deliveries and workers of a line
-abbrev pub most_clients : ℕ
-most_clients = 64
-
+-- the greatest number of a mail and of a place among pending mail, and the most deliveries and workers of a line
 abbrev pub most_mails : ℕ
 most_mails = 4294967295
 
@@ -29,12 +27,12 @@ abbrev pub client_in : List Asks → List ℕ → Option ℕ
 client_in clients word =
     option_and_then (λ client. if is_client clients client then Some client else None) (count_in most_clients word)
 
--- `nN` and `cC`: nodes are actors 1 to 32, and client C is actor 32 + C
+-- `nN` and `cC`: a node is the actor of its number
 abbrev pub actor_in : ℕ → List Asks → List ℕ → Option ℕ
 actor_in nodes clients [] = None
 actor_in nodes clients (letter ∷ digits) =
     if letter == 110 then count_in nodes digits
-    else if letter == 99 then option_map (λ client. 32 + client) (client_in clients digits)
+    else if letter == 99 then option_map (λ client. client_actor client) (client_in clients digits)
     else None
 
 -- an actor and the place of one of its pending mails

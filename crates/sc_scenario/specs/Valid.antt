@@ -1,12 +1,13 @@
 -- Scenarios that some text is.
-use Rattle.std.specs.Prelude.{◌≡◌, ◌<◌, ◌≤◌, ℕ, ◌^◌, ◌+◌, false, true, List, [], ◌∷◌, Some, length, All, ◌⊎◌}
+use Rattle.std.specs.Prelude.{◌≡◌, ◌<◌, ◌≤◌, ℕ, ◌^◌, false, true, List, [], ◌∷◌, Some, length, All, ◌⊎◌}
 use Rattle.std.specs.List.{AllPairs}
 use Rattle.sc_member.specs.Roster.{IsRoster}
 use Rattle.sc_cmd.specs.declared.orders.Order.{Order}
 use Rattle.sc_cmd.specs.declared.orders.Order.TheVariants.{Join, Leave}
 use Rattle.sc_scenario.specs.Groups.{lone_group}
-use Rattle.sc_scenario.specs.Schedules.{is_client, most_clients, most_mails, most_deliveries, most_workers}
-use Rattle.sc_scenario.specs.Early.{scenario_of, most_nodes, most_requests}
+use Rattle.sc_base.specs.Limits.{most_nodes, most_clients, most_requests, client_actor}
+use Rattle.sc_scenario.specs.Schedules.{is_client, most_mails, most_deliveries, most_workers}
+use Rattle.sc_scenario.specs.Early.{scenario_of}
 use Rattle.sc_scenario.specs.declared.scenarios.Asks.{Asks}
 use Rattle.sc_scenario.specs.declared.scenarios.Scenario.{Scenario}
 use Rattle.sc_scenario.specs.declared.scenarios.SchedLine.{SchedLine}
@@ -23,7 +24,7 @@ IsUpTo most n = (1 ≤ n) × (n ≤ most)
 
 -- a node, or a client with a section
 abbrev pub IsActor : ℕ → List Asks → ℕ → Type 0
-IsActor nodes clients who = IsUpTo nodes who ⊎ ((client : ℕ) × (who ≡ 32 + client) × (is_client clients client ≡ true))
+IsActor nodes clients who = IsUpTo nodes who ⊎ ((client : ℕ) × (who ≡ client_actor client) × (is_client clients client ≡ true))
 
 -- an order names a node that there is
 abbrev pub IsEarlyOrder : ℕ → Order → Type 0
@@ -48,7 +49,7 @@ IsEarlyLine nodes clients (Storm number most) = ⊥
 abbrev pub IsEarlyClient : Asks → Type 0
 IsEarlyClient asks = IsUpTo most_clients asks.client × (length asks.ops ≤ most_requests)
 
--- one to 32 nodes, one group of some of them, clients in order of number, and a schedule that names these
+-- one node or more, one group of some of them, clients in order of number, and a schedule that names these
 pub record IsEarly (scenario : Scenario) : Type 0 where
   pub lo : ℕ
   pub members : List ℕ

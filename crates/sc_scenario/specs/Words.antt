@@ -3,6 +3,7 @@ use Rattle.std.specs.Prelude.{ℕ, ◌==◌, ◌&&◌, nat_le, nat_eq, Bool, get
 use Rattle.std.specs.List.{slice_split}
 use Rattle.std.specs.Cmp.Lexicographic.{pointwise}
 use Rattle.sc_base.specs.Number.{number_of}
+use Rattle.sc_base.specs.Limits.{longest_key, longest_value}
 use Rattle.sc_base.specs.TextFault.{text_fault}
 
 -- whether two texts are the same
@@ -31,7 +32,7 @@ count_in most word = option_and_then (λ n. if nat_le 1 n then Some n else None)
 
 -- a key and a value, as they are spelled
 abbrev pub key_in : List ℕ → Option (List ℕ)
-key_in word = if is_none (text_fault 64 word) then Some word else None
+key_in word = if is_none (text_fault longest_key word) then Some word else None
 
 abbrev pub value_in : List ℕ → Option (List ℕ)
-value_in word = if is_none (text_fault 256 word) then Some word else None
+value_in word = if is_none (text_fault longest_value word) then Some word else None

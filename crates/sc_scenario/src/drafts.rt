@@ -1,7 +1,8 @@
 //! What was read of a scenario's lines so far.
 use crate::scenarios::{Asks, ClientList, Schedule};
 
-/// The number of nodes, the clients whose sections were ended, by number, the schedule, and how many
+/// The number of nodes, the clients whose sections were ended, by number, the schedule, and how
+/// many
 /// orders it has.
 #[derive(Drop)]
 pub struct Draft {

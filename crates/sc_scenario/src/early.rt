@@ -1,4 +1,5 @@
-//! The early form of the scenario: nodes, one group, clients that get, put and delete, and a schedule.
+//! The early form of the scenario: nodes, one group, clients that get, put and delete, and a
+//! schedule.
 ghost use Rattle.std.specs.Prelude.{◌≡◌, map, IfOk, MatchResult, ◌⊎◌, Some, None};
 ghost use Rattle.sc_scenario.specs.Early.{scenario_of, scenario_in, rest_in, finished, nodes_in, is_ended, lines_of};
 ghost use Rattle.sc_scenario.specs.Valid.{TextsAreEarly};
@@ -10,7 +11,7 @@ use crate::pieces::{lines_in, words_of};
 use crate::reading::{begun, read_lines};
 use crate::scenarios::Scenario;
 use crate::words::{count_in, is_line, is_text, nth, rest};
-use sc_base::{self, Sequence};
+use sc_base::{self, MOST_NODES, Sequence};
 use sc_cmd::Base;
 use std::alloc::{AllocError, Global};
 
@@ -23,7 +24,8 @@ pub const LINE_LIMIT: usize = 20_000;
 /// Why a text is no scenario.
 #[derive(Clone, Copy, Debug, PartialEq, Eq)]
 pub enum ScenarioFault {
-    /// The line, from 1, and the number of the reason. Both are 0 while only the early form is read.
+    /// The line, from 1, and the number of the reason. Both are 0 while only the early form is
+    /// read.
     Bad { line: u32, why: u8 },
     OutOfMemory,
 }
@@ -42,7 +44,7 @@ fn nodes_in(words: &[&[u8]]) -> Option<u16>
     if !is_line(words, b"nodes", 2) {
         return None;
     }
-    let nodes = count_in(nth(words, 1), 32)?;
+    let nodes = count_in(nth(words, 1), MOST_NODES)?;
     Some(nodes as u16)
 }
 
@@ -77,7 +79,8 @@ fn rest_in(
     lines: &[&[u8]],
     base: Base,
 ) -> Result<Option<Scenario>, sc_base::OutOfMemory>
-    ensures { IfOk result (λ scenario. scenario ≡ rest_in nodes (map (λ line. line.now) lines.now) base) }
+    ensures { IfOk result
+        (λ scenario. scenario ≡ rest_in nodes (map (λ line. line.now) lines.now) base) }
 {
     match read_lines(alloc, begun(alloc, nodes), lines)? {
         Some(reading) => finished(alloc, base, reading),
@@ -132,7 +135,8 @@ fn read_early(alloc: Global, text: &[u8]) -> Result<Option<Scenario>, sc_base::O
 /// The scenario that a text is. `Bad` with 0 and 0 exactly where it is none of the early form.
 pub fn read_scenario(alloc: Global, text: &[u8]) -> Result<Scenario, ScenarioFault>
     ensures { MatchResult result (λ scenario. scenario_of text.now ≡ Some scenario)
-        (λ fault. (fault ≡ OutOfMemory) ⊎ ((fault ≡ ScenarioFault.Bad 0 0) × (scenario_of text.now ≡ None))) }
+        (λ fault. (fault ≡ OutOfMemory)
+        ⊎ ((fault ≡ ScenarioFault.Bad 0 0) × (scenario_of text.now ≡ None))) }
 {
     match read_early(alloc, text)? {
         Some(scenario) => Ok(scenario),

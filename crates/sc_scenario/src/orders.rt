@@ -5,7 +5,7 @@ ghost use Rattle.sc_scenario.specs.Orders.{name_of, name_in, node_and_group, ord
 use crate::pieces::parts_of;
 use crate::scenarios::SchedLine;
 use crate::words::{count_in, is_text, nth};
-use sc_base::{Draw, OutOfMemory, read_number};
+use sc_base::{Draw, MOST_NODES, OutOfMemory, read_number};
 use sc_cmd::{Order, OrderLine};
 use std::alloc::Global;
 
@@ -17,7 +17,7 @@ fn name_of(parts: &[&[u8]]) -> Option<Draw>
     if parts.len() != 2 {
         return None;
     }
-    let node = read_number(nth(parts, 0), 32)? as u16;
+    let node = read_number(nth(parts, 0), MOST_NODES as u64)? as u16;
     let count = count_in(nth(parts, 1), MOST_NAMES)?;
     Some(Draw { node, count })
 }
@@ -35,7 +35,8 @@ fn node_and_group(
     nodes: u16,
     words: &[&[u8]],
 ) -> Result<Option<(u16, Draw)>, OutOfMemory>
-    ensures { IfOk result (λ named. named ≡ node_and_group nodes (map (λ word. word.now) words.now)) }
+    ensures { IfOk result
+        (λ named. named ≡ node_and_group nodes (map (λ word. word.now) words.now)) }
 {
     let Some(node) = count_in(nth(words, 3), nodes as u32) else {
         return Ok(None);

@@ -11,7 +11,7 @@ use crate::requests::request_in;
 use crate::scenarios::{Asks, SchedLine};
 use crate::schedules::{is_client, schedule_in};
 use crate::words::{count_in, is_line, nth};
-use sc_base::{OutOfMemory, Sequence};
+use sc_base::{MOST_CLIENTS, MOST_REQUESTS, OutOfMemory, Sequence};
 use std::alloc::Global;
 
 // The place of a client among others: before the first of a greater number.
@@ -60,7 +60,7 @@ fn within(
     if is_line(words, b"end", 1) {
         return Ok(Some(Reading::Outside(with_client(draft, asks)?)));
     }
-    if asks.ops.len() >= 1000 {
+    if asks.ops.len() >= MOST_REQUESTS {
         return Ok(None);
     }
     let Some(op) = request_in(alloc, words)? else {
@@ -126,7 +126,11 @@ fn with_order(draft: Draft, line: SchedLine, number: u32) -> Result<Draft, OutOf
 
 // An order. More orders than there are numbers have no room in memory.
 fn ordered(alloc: Global, draft: Draft, words: &[&[u8]]) -> Result<Option<Reading>, OutOfMemory>
-    ensures { IfOk result (λ more. more ≡ option_map (λ line. Reading.Outside (with_order draft line)) (told_in draft.nodes (draft.orders + 1) (map (λ word. word.now) words.now))) }
+    ensures { IfOk result
+        (λ more.
+        more
+        ≡ option_map (λ line. Reading.Outside (with_order draft line))
+        (told_in draft.nodes (draft.orders + 1) (map (λ word. word.now) words.now))) }
 {
     let Some(number) = draft.orders.checked_add(1) else {
         return Err(OutOfMemory);
@@ -142,7 +146,7 @@ fn outside(alloc: Global, draft: Draft, words: &[&[u8]]) -> Result<Option<Readin
     ensures { IfOk result (λ more. more ≡ outside draft (map (λ word. word.now) words.now)) }
 {
     if is_line(words, b"client", 2) {
-        return match count_in(nth(words, 1), 64) {
+        return match count_in(nth(words, 1), MOST_CLIENTS) {
             Some(client) => Ok(opened(alloc, draft, client as u16)),
             None => Ok(None),
         };

@@ -4,6 +4,7 @@ ghost use Rattle.sc_scenario.specs.Schedules.{is_client, client_in, actor_in, go
 
 use crate::scenarios::{Asks, SchedLine};
 use crate::words::{count_in, is_line, nth};
+use sc_base::{MOST_CLIENTS, MOST_NODES};
 
 const MOST_MAILS: u32 = 4_294_967_295;
 
@@ -22,7 +23,7 @@ pub fn is_client(clients: &[Asks], client: u16) -> bool
 fn client_in(clients: &[Asks], word: &[u8]) -> Option<u16>
     ensures { result ≡ client_in clients.now word.now }
 {
-    let client = count_in(word, 64)? as u16;
+    let client = count_in(word, MOST_CLIENTS)? as u16;
     if is_client(clients, client) {
         Some(client)
     } else {
@@ -36,7 +37,7 @@ fn actor_in(nodes: u16, clients: &[Asks], word: &[u8]) -> Option<u32>
 {
     match word {
         [b'n', digits @ ..] => count_in(digits, nodes as u32),
-        [b'c', digits @ ..] => Some(32 + client_in(clients, digits)? as u32),
+        [b'c', digits @ ..] => Some(MOST_NODES + client_in(clients, digits)? as u32),
         _ => None,
     }
 }

@@ -87,7 +87,8 @@ impl Store {
         self.pairs.retain(|key, _value| arc.holds(key.pos()));
     }
 
-    /// Adds pairs. A key that is there already takes the new value; the plans of a group bring none.
+    /// Adds pairs. A key that is there already takes the new value; the plans of a group bring
+    /// none.
     /// After want of memory a prefix of the pairs was added.
     pub fn join(&mut self, more: &Pairs) -> Result<(), OutOfMemory>
         ensures ok { OnOk result (self.new ≡ with_pairs self.old more.now) }

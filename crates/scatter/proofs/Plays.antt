@@ -10,7 +10,7 @@ use Rattle.sc_actor.specs.declared.schedules.Line.{Line}
 use Rattle.sc_actor.specs.Counted.{journal_bytes}
 use Rattle.sc_actor.specs.System.{no_words}
 use Rattle.sc_actor.specs.Walk.{IsLawful, IsWhole, skipped, unsettled, is_quiet}
-use Rattle.sc_play.specs.Moves.{IsFull}
+use Rattle.sc_actor.specs.Counted.{IsFull}
 use Rattle.sc_shell.specs.declared.shells.Shell.{Shell}
 use Rattle.sc_drive.specs.Companies.{seats}
 use Rattle.sc_drive.specs.declared.steps.Driven.{Driven}

@@ -6,7 +6,7 @@ use Rattle.sc_mail.specs.Weight.{body_weight}
 use Rattle.sc_actor.specs.declared.rows.Row.{Row}
 use Rattle.sc_actor.specs.Counted.{journal_bytes}
 use Rattle.sc_actor.specs.Walk.{skipped, unsettled, is_quiet}
-use Rattle.sc_play.specs.Moves.{IsFull}
+use Rattle.sc_actor.specs.Counted.{IsFull}
 use Rattle.sc_scenario.specs.declared.scenarios.Scenario.{Scenario}
 use Rattle.sc_world.specs.World.{system_of, schedule, Lawful, Whole, parties}
 use Rattle.sc_world.specs.declared.party.Party.{Party}

@@ -1,6 +1,6 @@
 use Rattle.std.proofs.Common.{◌≡◌, ◌∙◌, ℕ, refl, ap, subst, arith, Bool, true, false, not, Option, Some, None, is_some, Err}
 use Rattle.std.specs.Prelude.{is_none}
-use Rattle.sc_play.proofs.Steps.{built_at}
+use Rattle.sc_actor.proofs.TaskLemmas.{one_task_at}
 use Rattle.sc_drive.specs.Goings.{HasEnded}
 use Rattle.sc_drive.proofs.Beginning.{company_born, nothing_seen}
 use Rattle.sc_drive.proofs.Keeping.{kept_then, kept_gathered}
@@ -13,7 +13,7 @@ pub returns-in-Err-Full-clause-driven : goal.returns-in-Err-Full-clause-driven
 returns-in-Err-Full-clause-driven g c = λ words births born.
     let inv = c.loop-line.invariant in
     drive_fills words births c.args.lines.now c.args.net.now c.loop-line.net c.run_line.new.net c.loop-line.shells.items c.loop-line.score c.loop-line.line-index c.line-item.result inv.net.exchange.2 c.loop-line-test.true c.line-item.is
-    (built_at c.args.lines.now c.requires.built c.loop-line.line-index c.line-item.result c.loop-line-test.true c.line-item.is) (inv.at words births born) (c.in-Err-Full.ensures.fills (ap Err c.in-Err-Full.field-0-is))
+    (one_task_at c.args.lines.now c.requires.built c.loop-line.line-index c.line-item.result c.loop-line-test.true c.line-item.is) (inv.at words births born) (c.in-Err-Full.ensures.fills (ap Err c.in-Err-Full.field-0-is))
 
 pub loop-line-preserved : goal.loop-line-preserved
 loop-line-preserved g c = let inv = c.loop-line.invariant in record {
@@ -22,7 +22,7 @@ loop-line-preserved g c = let inv = c.loop-line.invariant in record {
   same = c.in-Ok-run_line.ensures.same ∙ inv.same;
   at = λ words births born.
       drive_on words births c.args.lines.now c.loop-line.net c.run_line.new.net c.loop-line.shells.items c.run_line.new.shells.items c.loop-line.score c.run_line.new.score c.loop-line.line-index c.line-item.result c.loop-line-test.true c.line-item.is
-      (built_at c.args.lines.now c.requires.built c.loop-line.line-index c.line-item.result c.loop-line-test.true c.line-item.is) (inv.at words births born) c.in-Ok-run_line.ensures.goes;
+      (one_task_at c.args.lines.now c.requires.built c.loop-line.line-index c.line-item.result c.loop-line-test.true c.line-item.is) (inv.at words births born) c.in-Ok-run_line.ensures.goes;
 }
 
 pub returns-in-Err-Full-clause-kept : goal.returns-in-Err-Full-clause-kept

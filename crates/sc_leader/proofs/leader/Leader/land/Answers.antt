@@ -7,5 +7,5 @@ use Rattle.sc_leader.proofs.leader.Leader.land.Goals as goal
 pub invariant_of-self : goal.invariant_of-self
 invariant_of-self g c = subst IsOneEach (sym c.take_out.ensures.after) (one_without c.args.slot c.self.inside.flights.items c.self.invariant)
 
-pub returns-clause-gone : goal.returns-clause-gone
-returns-clause-gone g c = ap (flight_at c.args.slot) c.take_out.ensures.after ∙ gone c.args.slot c.self.inside.flights.items c.self.invariant
+pub returns-clause-empty : goal.returns-clause-empty
+returns-clause-empty g c = ap (flight_at c.args.slot) c.take_out.ensures.after ∙ gone c.args.slot c.self.inside.flights.items c.self.invariant

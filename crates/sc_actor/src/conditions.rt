@@ -1,0 +1,63 @@
+//! The conditions of a schedule and its rows, as tests.
+ghost use Rattle.std.specs.Prelude.{◌≡◌, ◌↔◌, ◌==◌, ◌<◌, ◌^◌, IsTrue, true, length, All};
+ghost use Rattle.sc_actor.specs.Mail.{mails};
+ghost use Rattle.std.specs.List.{list_any};
+ghost use Rattle.sc_actor.specs.Walk.{has_one_task};
+ghost use Rattle.sc_actor.specs.System.{are_apart};
+
+use crate::actors::Seat;
+use crate::rows::Row;
+use crate::schedules::Line;
+
+fn has_one_task<O>(line: &Line<O>) -> bool
+    ensures { result ≡ has_one_task line.now }
+{
+    match line {
+        Line::Storm { .. } => false,
+        Line::Go { .. }
+        | Line::Deliver { .. }
+        | Line::Drop { .. }
+        | Line::Again { .. }
+        | Line::Tick { .. }
+        | Line::Crash { .. }
+        | Line::Told { .. }
+        | Line::Settle { .. }
+        | Line::Free { .. } => true,
+    }
+}
+
+/// Whether each line has one task: none is a storm.
+pub fn have_one_task<O>(lines: &[Line<O>]) -> bool
+    ensures { IsTrue result ↔ All (λ line. has_one_task line ≡ true) lines.now }
+{
+    lines.iter().all(|line| has_one_task(line))
+}
+
+fn has_number<A>(seats: &[Seat<A>], who: u32) -> bool
+    ensures { result ≡ list_any (λ seat. seat.who == who) seats.now }
+{
+    seats.iter().any(|seat| seat.who == who)
+}
+
+/// Whether no two actors have one number.
+pub fn are_apart<A>(seats: &[Seat<A>]) -> bool
+    ensures { result ≡ are_apart seats.now }
+{
+    for i in 0..seats.len() {
+        if has_number(&seats[i + 1..], seats[i].who) {
+            return false;
+        }
+    }
+    true
+}
+
+/// Whether there are fewer than 2^31 rows and mails.
+pub fn are_few<M, O>(rows: &[Row<M, O>]) -> bool
+    ensures { IsTrue result ↔ (length rows.now < 2 ^ 31) × (length (mails rows.now) < 2 ^ 31) }
+{
+    let mut sent = 0u64;
+    for row in rows {
+        sent = sent.saturating_add(row.sent.len() as u64);
+    }
+    rows.len() < 1 << 31 && sent < 1 << 31
+}

@@ -1,0 +1,24 @@
+-- The limits of a scenario, and the numbers of actors.
+use Rattle.std.specs.Prelude.{ℕ, ◌+◌}
+
+-- the most bytes of a key, and of a value
+abbrev pub longest_key : ℕ
+longest_key = 64
+
+abbrev pub longest_value : ℕ
+longest_value = 256
+
+-- the most nodes, and the greatest number of a node
+abbrev pub most_nodes : ℕ
+most_nodes = 32
+
+-- the greatest number of a client, and the most requests of one
+abbrev pub most_clients : ℕ
+most_clients = 64
+
+abbrev pub most_requests : ℕ
+most_requests = 1000
+
+-- the number of a client as an actor: nodes come before
+abbrev pub client_actor : ℕ → ℕ
+client_actor client = most_nodes + client

@@ -1,0 +1,240 @@
+-- How a stage goes on.
+use Rattle.std.proofs.Common.{◌≡◌, ℕ, suc, ◌+◌, ◌<◌, ◌≤◌, List, [], ◌∷◌, ◌++◌, length, Bool, true, false, ◌||◌, not, cond, eqb, refl, sym, ◌∙◌, ap, subst, set, get_or, drop, drop-cons, add-zero, add-one, None, Some}
+use Rattle.std.specs.Prelude.{slice_get, is_none, option_and_then}
+use Rattle.std.specs.List.{flat_map, All}
+use Rattle.std.specs.Option.{option_map}
+use Rattle.std.proofs.Math.ListN.{drop_of_length-le}
+use Rattle.std.proofs.lemmas.Bool.{false≢true}
+use Rattle.sc_base.proofs.CommonLemmas.{cond-same}
+use Rattle.sc_actor.specs.declared.rows.Row.{Row}
+use Rattle.sc_actor.specs.declared.actors.Seat.{Seat}
+use Rattle.sc_actor.specs.declared.rows.Event.{Event}
+use Rattle.sc_actor.specs.declared.rows.Event.TheVariants.{Deliver, Tick, Go, Told, Crash, Drop, Again}
+use Rattle.sc_actor.specs.declared.schedules.Line.{Line}
+use Rattle.sc_actor.specs.declared.schedules.Line.TheVariants.{Go as GoLine, Deliver as DeliverLine, Drop as DropLine, Again as AgainLine, Tick as TickLine, Crash as CrashLine, Told as ToldLine, Settle, Free, Storm}
+use Rattle.sc_actor.specs.Mail.{mails}
+use Rattle.sc_actor.specs.Replay.{Table, input_of, acted, value, values}
+use Rattle.sc_actor.specs.System.{System, are_apart, numbers_of, row_of, network}
+use Rattle.sc_actor.specs.Walk.{Task, Once, Allows, is_over, is_quiet, skips, cuts, rest_of, line_row, tasks_of, has_one_task, line_task}
+use Rattle.sc_actor.proofs.ReplayLemmas.{value-snoc}
+use Rattle.sc_actor.proofs.TaskLemmas.{split}
+use Rattle.sc_actor.proofs.WalkLemmas.{Stands-begin, Stands-over, Stands-row}
+use Rattle.sc_checker.specs.declared.stages.Stage.{Stage}
+use Rattle.sc_checker.specs.declared.stages.Deed.{Deed}
+use Rattle.sc_checker.specs.Deeds.{is_of_network, is_number, can_act, row_made, line_deed, lowest_deed}
+use Rattle.sc_checker.specs.Stages.{Makes, place_of, seat_after}
+use Rattle.sc_checker.specs.Moves.{At, Rules, with_births, Did, Goes, many}
+use Rattle.sc_checker.proofs.Seats.{found_at, has_place, place_of-values, values-snoc, slice_get-values, numbers_of-values}
+use Rattle.sc_checker.proofs.DeedLemmas.{line_row-deed, line_deed-can, quiet_is}
+
+-- a row of the network leaves each actor as it is
+network-nothing : {M O : Type 0} (sent : List M) (event : Event O) → is_of_network event ≡ true → input_of sent event ≡ None
+network-nothing sent (Drop mail) e = refl
+network-nothing sent (Again mail) e = refl
+network-nothing sent (Deliver mail) e = absurd (false≢true e)
+network-nothing sent Tick e = absurd (false≢true e)
+network-nothing sent Go e = absurd (false≢true e)
+network-nothing sent (Told order) e = absurd (false≢true e)
+network-nothing sent Crash e = absurd (false≢true e)
+
+module _ {A M O : Type 0} (table : Table A M O) where
+  value-network : (seat : Seat A) (rows : List (Row M O)) (event : Event O) → is_of_network event ≡ true → value table seat (rows ++ network event ∷ []) ≡ value table seat rows
+  value-network seat rows event own =
+      value-snoc table seat rows (network event)
+      ∙ ap (λ input. cond (eqb 0 seat.who) (acted table (value table seat rows) input).0 (value table seat rows)) (network-nothing (mails rows) event own)
+      ∙ cond-same (eqb 0 seat.who) (value table seat rows)
+
+  values-network : (seats : List (Seat A)) (rows : List (Row M O)) (event : Event O) → is_of_network event ≡ true → values table seats (rows ++ network event ∷ []) ≡ values table seats rows
+  values-network [] rows event own = refl
+  values-network (s ∷ ss) rows event own =
+      let head = value-network s rows event own in
+      let rest = values-network ss rows event own in
+      rw (head, rest) refl
+
+  values-none : (births : List (Seat A)) → values {A = A} {M = M} {O = O} table births [] ≡ births
+  values-none [] = refl
+  values-none (s ∷ ss) = ap (λ xs. s ∷ xs) (values-none ss)
+
+-- What a deed makes is the row of the walk, and the actors after it.
+pub record Made {A M O : Type 0} (s : System A M O) (rows : List (Row M O)) (seats : List (Seat A)) (deed : Deed O) (row : Row M O) : Type 0 where
+  pub row_is : row_made s rows deed ≡ Some row
+  pub seats_are : seats ≡ values s.table s.births (rows ++ row ∷ [])
+
+-- of two of which one holds and not the first, the second
+pub or_is : (a b : Bool) → a ≡ false → (a || b) ≡ true → b ≡ true
+or_is true b e h = absurd (false≢true (sym e))
+or_is false b e h = h
+
+module _ {A M O : Type 0} (s : System A M O) (rows : List (Row M O)) (old new : List (Seat A)) (deed : Deed O) (row : Row M O) (seats : old ≡ values s.table s.births rows) (apart : are_apart s.births ≡ true) (makes : Makes s.table (mails rows) old new deed row) where
+  made_by_network : is_of_network deed.event ≡ true → Made s rows new deed row
+  made_by_network own =
+      let did = makes.by_network own in
+      record {
+        row_is = rw (own, did.0) refl;
+        seats_are = did.1 ∙ seats ∙ sym (values-network s.table s.births rows deed.event own) ∙ ap (λ r. values s.table s.births (rows ++ r ∷ [])) (sym did.0);
+      }
+
+  made_by_actor : is_of_network deed.event ≡ false → is_number (numbers_of old) deed.who ≡ true → Made s rows new deed row
+  made_by_actor own number =
+      let there = has_place old deed.who number in
+      let birth_placed : place_of s.births deed.who ≡ Some there.0 = sym (place_of-values s.table s.births rows deed.who) ∙ ap (λ xs. place_of xs deed.who) (sym seats) ∙ there.1 in
+      let birth = found_at s.births deed.who there.0 birth_placed in
+      let now : Seat A = record { who = birth.0.who; actor = value s.table birth.0 rows } in
+      let now_at : slice_get old there.0 ≡ Some now = ap (λ xs. slice_get xs there.0) seats ∙ slice_get-values s.table s.births rows there.0 birth.0 birth.1.at in
+      let did = makes.by_actor own there.0 now there.1 now_at in
+      record {
+        row_is = rw own (ap (option_map (λ seat. row_of s.table seat rows deed.event)) birth.1.found ∙ ap Some (sym did.0));
+        seats_are =
+            did.1
+            ∙ ap (λ xs. set xs there.0 (seat_after s.table now (mails rows) deed.event)) seats
+            ∙ sym (values-snoc s.table s.births rows (row_of s.table birth.0 rows deed.event) there.0 birth.0 apart birth.1.at refl)
+            ∙ ap (λ r. values s.table s.births (rows ++ r ∷ [])) (sym did.0);
+      }
+
+  made_cases : (b : Bool) → is_of_network deed.event ≡ b → can_act (numbers_of old) deed ≡ true → Made s rows new deed row
+  made_cases true own can = made_by_network own
+  made_cases false own can = made_by_actor own (or_is (is_of_network deed.event) (is_number (numbers_of old) deed.who) own can)
+
+  -- what a deed makes is the row of the walk
+  pub made : can_act (numbers_of old) deed ≡ true → Made s rows new deed row
+  made can = made_cases (is_of_network deed.event) refl can
+
+-- two stages that differ in what they count
+pub record SameJournal {A M O : Type 0} (old new : Stage A M O) : Type 0 where
+  pub rows : new.rows ≡ old.rows
+  pub seats : new.seats.items ≡ old.seats.items
+
+-- A deed that a task allows: the task is not over, and its row is that of the deed.
+abbrev pub Fits : {A M O : Type 0} → System A M O → List (Row M O) → Task O → Deed O → Type 0
+Fits {A} {M} {O} s rows task deed = (row : Row M O) → row_made s rows deed ≡ Some row → (is_over s rows task ≡ false) × Allows s rows task row
+
+module _ {A M O : Type 0} (r : Rules A M O) (words : ℕ → ℕ → ℕ × ℕ) (births : List (Seat A)) (lines : List (Line O)) (old new : Stage A M O) (task : Task O) (rest : List (Task O)) (at : At (with_births r words births) lines old (task ∷ rest)) where
+  -- a task that makes no row any more
+  At-over : SameJournal old new → is_over (with_births r words births) old.rows task ≡ true → new.skipped ≡ old.skipped + skips task → new.unsettled ≡ (old.unsettled || cuts (with_births r words births) old.rows task) → At (with_births r words births) lines new rest
+  At-over same over skips_ cut =
+      let s = with_births r words births in
+      let stands = Stands-over s lines old.rows task rest old.skipped old.unsettled (record { lawful = at.lawful; place = at.place }) over in
+      record {
+        lawful = rw same.rows stands.lawful;
+        place = rw (same.rows, skips_, cut) stands.place;
+        seats = rw (same.rows, same.seats) at.seats;
+        apart = at.apart;
+      }
+
+  -- a row of the first task
+  pub At-did : (deed : Deed O) → can_act (numbers_of old.seats.items) deed ≡ true → Did r old new deed → Fits (with_births r words births) old.rows task deed → At (with_births r words births) lines new (rest_of task ++ rest)
+  At-did deed can did fits =
+      let s = with_births r words births in
+      let m = made s old.rows old.seats.items new.seats.items deed did.row at.seats at.apart did.makes can in
+      let stands = Stands-row s lines old.rows task rest old.skipped old.unsettled did.row (record { lawful = at.lawful; place = at.place }) (fits did.row m.row_is).0 (fits did.row m.row_is).1 in
+      record {
+        lawful = rw did.rows stands.lawful;
+        place = rw (did.rows, did.skipped, did.unsettled) stands.place;
+        seats = rw did.rows m.seats_are;
+        apart = at.apart;
+      }
+
+or_true : (b : Bool) → (b || true) ≡ true
+or_true true = refl
+or_true false = refl
+
+or_false : (b : Bool) → (b || false) ≡ b
+or_false true = refl
+or_false false = refl
+
+module _ {A M O : Type 0} (s : System A M O) (rows : List (Row M O)) where
+  pub fits_line : (line : Line O) (deed : Deed O) → line_deed s.receiver (numbers_of s.births) rows line ≡ Some deed → Fits s rows (Once line) deed
+  fits_line line deed is row made_row =
+      let same : line_row s rows line ≡ Some row = line_row-deed s rows line ∙ ap (option_and_then (row_made s rows)) is ∙ made_row in
+      (ap is_none same, same)
+
+module _ {A M O : Type 0} (r : Rules A M O) (old new : Stage A M O) where
+  -- the actors of a stage have the numbers of the births
+  pub numbers-at : (words : ℕ → ℕ → ℕ × ℕ) (births : List (Seat A)) (lines : List (Line O)) (tasks : List (Task O)) → At (with_births r words births) lines old tasks → numbers_of old.seats.items ≡ numbers_of births
+  numbers-at words births lines tasks at = ap numbers_of at.seats ∙ numbers_of-values r.table births old.rows
+
+  module _ (line : Line O) where
+    -- a line has the same deed by the births and by the actors as they are
+    pub line-at : (words : ℕ → ℕ → ℕ × ℕ) (births : List (Seat A)) (lines : List (Line O)) (tasks : List (Task O)) → At (with_births r words births) lines old tasks → line_deed r.receiver (numbers_of births) old.rows line ≡ line_deed r.receiver (numbers_of old.seats.items) old.rows line
+    line-at words births lines tasks at = ap (λ numbers. line_deed r.receiver numbers old.rows line) (sym (numbers-at words births lines tasks at))
+
+    -- a line that is skipped
+    pub Goes-skip : line_deed r.receiver (numbers_of old.seats.items) old.rows line ≡ None → SameJournal old new → new.skipped ≡ old.skipped + 1 → new.unsettled ≡ old.unsettled → Goes r old (Once line ∷ []) new []
+    Goes-skip none same skips_ cut = λ words births lines rest at.
+        let s = with_births r words births in
+        let row_is : line_row s old.rows line ≡ None = line_row-deed s old.rows line ∙ ap (option_and_then (row_made s old.rows)) (line-at words births lines (Once line ∷ rest) at ∙ none) in
+        At-over r words births lines old new (Once line) rest at same (ap is_none row_is) skips_ (cut ∙ sym (or_false old.unsettled))
+
+    -- a line that makes its row
+    pub Goes-line : (deed : Deed O) → line_deed r.receiver (numbers_of old.seats.items) old.rows line ≡ Some deed → Did r old new deed → Goes r old (Once line ∷ []) new []
+    Goes-line deed is did = λ words births lines rest at.
+        At-did r words births lines old new (Once line) rest at deed (line_deed-can r.receiver old.seats.items old.rows line deed is) did
+        (fits_line (with_births r words births) old.rows line deed (line-at words births lines (Once line ∷ rest) at ∙ is))
+
+  -- the lowest delivery is the same by the births and by the actors as they are
+  pub lowest-at : (words : ℕ → ℕ → ℕ × ℕ) (births : List (Seat A)) (lines : List (Line O)) (tasks : List (Task O)) → At (with_births r words births) lines old tasks → lowest_deed {O = O} r.receiver (numbers_of births) old.rows ≡ lowest_deed r.receiver (numbers_of old.seats.items) old.rows
+  lowest-at words births lines tasks at = ap (λ numbers. lowest_deed r.receiver numbers old.rows) (sym (numbers-at words births lines tasks at))
+
+  quiet-at : (words : ℕ → ℕ → ℕ × ℕ) (births : List (Seat A)) (lines : List (Line O)) (tasks : List (Task O)) → At (with_births r words births) lines old tasks → is_quiet (with_births r words births) old.rows ≡ is_none (lowest_deed {O = O} r.receiver (numbers_of old.seats.items) old.rows)
+  quiet-at words births lines tasks at = quiet_is {O = O} r.receiver births old.rows ∙ ap is_none (lowest-at words births lines tasks at)
+
+  many_over : (s : System A M O) (free : Bool) (left : ℕ) → (eqb left 0 || is_quiet s old.rows) ≡ true → is_over s old.rows (many free left) ≡ true
+  many_over s true left e = e
+  many_over s false left e = e
+
+  many_skips : (free : Bool) (left : ℕ) → skips {O = O} (many free left) ≡ 0
+  many_skips true left = refl
+  many_skips false left = refl
+
+  many_cuts : (s : System A M O) (free : Bool) (left : ℕ) → cuts s old.rows (many free left) ≡ not (is_quiet s old.rows)
+  many_cuts s true left = refl
+  many_cuts s false left = refl
+
+  -- no mail is pending
+  pub Goes-quiet : (free : Bool) (left : ℕ) → lowest_deed {O = O} r.receiver (numbers_of old.seats.items) old.rows ≡ None → SameJournal old new → new.skipped ≡ old.skipped → new.unsettled ≡ old.unsettled → Goes r old (many free left ∷ []) new []
+  Goes-quiet free left none same skips_ cut = λ words births lines rest at.
+      let s = with_births r words births in
+      let quiet : is_quiet s old.rows ≡ true = quiet-at words births lines (many free left ∷ rest) at ∙ ap is_none none in
+      At-over r words births lines old new (many free left) rest at same (many_over s free left (rw quiet (or_true (eqb left 0))))
+      (skips_ ∙ sym (add-zero old.skipped) ∙ ap (λ n. old.skipped + n) (sym (many_skips free left)))
+      (rw (many_cuts s free left, quiet) (cut ∙ sym (or_false old.unsettled)))
+
+  -- no delivery is left
+  pub Goes-close : (free : Bool) → SameJournal old new → new.skipped ≡ old.skipped → new.unsettled ≡ (old.unsettled || not (is_none (lowest_deed {O = O} r.receiver (numbers_of old.seats.items) old.rows))) → Goes r old (many free 0 ∷ []) new []
+  Goes-close free same skips_ cut = λ words births lines rest at.
+      let s = with_births r words births in
+      At-over r words births lines old new (many free 0) rest at same (many_over s free 0 refl)
+      (skips_ ∙ sym (add-zero old.skipped) ∙ ap (λ n. old.skipped + n) (sym (many_skips free 0)))
+      (rw (many_cuts s free 0, quiet-at words births lines (many free 0 ∷ rest) at) cut)
+
+module _ {A M O : Type 0} (r : Rules A M O) where
+  -- two moves make one
+  pub Goes-then : (first second third : Stage A M O) (a b c : List (Task O)) → Goes r first a second b → Goes r second b third c → Goes r first a third c
+  Goes-then first second third a b c p q = λ words births lines rest at. q words births lines rest (p words births lines rest at)
+
+  -- a move by equal counts
+  pub Goes-count : (old new : Stage A M O) (free : Bool) (m n n' : ℕ) → n ≡ n' → Goes r old (many free m ∷ []) new (many free n ∷ []) → Goes r old (many free m ∷ []) new (many free n' ∷ [])
+  Goes-count old new free m n n' e p = subst (λ x. Goes r old (many free m ∷ []) new (many free x ∷ [])) e p
+
+module _ {A M O : Type 0} (r : Rules A M O) (words : ℕ → ℕ → ℕ × ℕ) (births : List (Seat A)) (lines : List (Line O)) where
+  -- the walk begins at the births
+  pub At-begin : (stage : Stage A M O) → are_apart births ≡ true → stage.seats.items ≡ births → stage.rows ≡ [] → stage.skipped ≡ 0 → stage.unsettled ≡ false →
+      At (with_births r words births) lines stage (flat_map (tasks_of words) (drop 0 lines))
+  At-begin stage apart seats rows skips_ cut =
+      let stands = Stands-begin (with_births r words births) lines in
+      record {
+        lawful = rw rows stands.lawful;
+        place = rw (rows, skips_, cut) stands.place;
+        seats = rw rows (seats ∙ sym (values-none r.table births));
+        apart = apart;
+      }
+
+  -- past a line
+  pub At-line : (old new : Stage A M O) (i : ℕ) (line : Line O) → i < length lines → line ≡ get_or lines i line → has_one_task line ≡ true → At (with_births r words births) lines old (flat_map (tasks_of words) (drop i lines)) → Goes r old (line_task line ∷ []) new [] →
+      At (with_births r words births) lines new (flat_map (tasks_of words) (drop (i + 1) lines))
+  At-line old new i line lt is one at goes =
+      goes words births lines (flat_map (tasks_of words) (drop (i + 1) lines)) (subst (λ ts. At (with_births r words births) lines old ts) (split words lines i line lt is one) at)
+
+  -- past the last line
+  pub At-end : (stage : Stage A M O) (i : ℕ) → length lines ≤ i → At (with_births r words births) lines stage (flat_map (tasks_of words) (drop i lines)) → At (with_births r words births) lines stage []
+  At-end stage i le at = subst (λ ts. At (with_births r words births) lines stage (flat_map (tasks_of words) ts)) (drop_of_length-le lines le) at

@@ -1,0 +1,38 @@
+-- What a stage keeps of its journal, and what a deed makes of its actors.
+use Rattle.std.specs.Prelude.{◌≡◌, ℕ, suc, ◌^◌, ◌==◌, ◌<◌, List, [], ◌∷◌, Bool, true, false, if◌then◌else◌, Option, None, Some, length, slice_get, slice_set}
+use Rattle.std.specs.Option.{option_map}
+use Rattle.sc_actor.specs.declared.rows.Row.{Row}
+use Rattle.sc_actor.specs.declared.actors.Seat.{Seat}
+use Rattle.sc_actor.specs.declared.rows.Event.{Event}
+use Rattle.sc_actor.specs.Mail.{mails, copies}
+use Rattle.sc_actor.specs.Replay.{Table, input_of, acted}
+use Rattle.sc_actor.specs.System.{network}
+use Rattle.sc_checker.specs.declared.stages.Stage.{Stage}
+use Rattle.sc_checker.specs.declared.stages.Deed.{Deed}
+use Rattle.sc_checker.specs.Deeds.{is_of_network}
+
+-- The mail and the copies are those of the journal, which is small enough to be counted.
+pub record IsKept {A M O : Type 0} (stage : Stage A M O) : Type 0 where
+  pub all_mails : stage.mails.items ≡ mails stage.rows
+  pub all_copies : stage.copies.items ≡ copies stage.rows
+  pub few_rows : length stage.rows < 2 ^ 31
+  pub few_mails : length (mails stage.rows) < 2 ^ 31
+
+-- the place of the first seat with a number
+abbrev pub place_of : {A : Type 0} → List (Seat A) → ℕ → Option ℕ
+place_of [] who = None
+place_of (seat ∷ seats) who = if seat.who == who then Some 0 else option_map suc (place_of seats who)
+
+-- the row of an event of the actor in a seat, where these mails were sent before it
+abbrev pub row_in : {A M O : Type 0} → Table A M O → Seat A → List M → Event O → Row M O
+row_in table seat sent event = record { who = seat.who; event = event; sent = (acted table seat.actor (input_of sent event)).1 }
+
+-- the seat after an event of its actor
+abbrev pub seat_after : {A M O : Type 0} → Table A M O → Seat A → List M → Event O → Seat A
+seat_after table seat sent event = record { who = seat.who; actor = (acted table seat.actor (input_of sent event)).0 }
+
+-- What a deed makes of the seats, and its row, where these mails were sent before it.
+pub record Makes {A M O : Type 0} (table : Table A M O) (sent : List M) (old new : List (Seat A)) (deed : Deed O) (row : Row M O) : Type 0 where
+  pub by_network : is_of_network deed.event ≡ true → (row ≡ network deed.event) × (new ≡ old)
+  pub by_actor : is_of_network deed.event ≡ false → (place : ℕ) (seat : Seat A) → place_of old deed.who ≡ Some place → slice_get old place ≡ Some seat →
+      (row ≡ row_in table seat sent deed.event) × (new ≡ slice_set old place (seat_after table seat sent deed.event))

@@ -1,0 +1,160 @@
+//! Whether rows are those of a schedule, line by line.
+ghost use Rattle.std.specs.Prelude.{◌≡◌, ◌<◌, ◌≤◌, ◌+◌, ◌^◌, ◌-◌, [], ◌∷◌, true, length, IfOk, IfSome, OnOk, MatchBool};
+ghost use Rattle.sc_actor.specs.Mail.{mails};
+ghost use Rattle.sc_actor.specs.System.{numbers_of};
+ghost use Rattle.sc_actor.specs.Walk.{Once, line_task};
+ghost use Rattle.sc_checker.specs.Checks.{IsTaking, Took, Misses, IsChecked};
+ghost use Rattle.sc_checker.specs.Deeds.{can_act, chosen_deed};
+ghost use Rattle.sc_checker.specs.Moves.{rules_of, many};
+ghost use Rattle.sc_checker.specs.Stages.{IsKept};
+
+use crate::appending::append;
+use crate::checked::Checked;
+use crate::deeds::{first_deed, line_deed, lowest_deed};
+use crate::making::make_row;
+use crate::pending::is_quiet;
+use crate::stages::{Deed, Stage};
+use sc_actor::{Actor, Line, Parcel, Row};
+use sc_base::{OutOfMemory, Same};
+use std::alloc::Global;
+
+// Does a deed, if its row is this one.
+fn take_row<A: Actor>(
+    alloc: Global,
+    stage: &mut Stage<A, A::Mail, A::Order>,
+    deed: Deed<A::Order>,
+    row: &Row<A::Mail, A::Order>,
+) -> Result<bool, OutOfMemory>
+where
+    A::Mail: Same,
+    A::Order: Same,
+    requires kept { IsKept stage.old }
+    requires can { can_act (numbers_of stage.old.seats.items) deed ≡ true }
+    requires rows { length stage.old.rows + 1 < 2 ^ 31 }
+    requires mails { length (mails stage.old.rows) + length row.now.sent < 2 ^ 31 }
+    ensures took { IfOk result (λ same. MatchBool same
+        (Took (rules_of A.table A.Mail.receiver) stage.old stage.new deed row.now)
+        (Misses (rules_of A.table A.Mail.receiver) stage.old deed row.now)) }
+    ensures skipped { OnOk result (stage.new.skipped ≡ stage.old.skipped) }
+{
+    let made = make_row(alloc, &mut stage.seats, &stage.mails, deed)?;
+    if !made.is_same(row) {
+        return Ok(false);
+    }
+    append(alloc, stage, made)?;
+    Ok(true)
+}
+
+// A line of one row.
+fn check_once<A: Actor>(
+    alloc: Global,
+    stage: &mut Stage<A, A::Mail, A::Order>,
+    line: &Line<A::Order>,
+    rows: &[Row<A::Mail, A::Order>],
+) -> Result<Checked, OutOfMemory>
+where
+    A::Mail: Same,
+    A::Order: Same,
+    requires taking { IsTaking stage.old rows.now }
+    requires room { stage.old.skipped < 2 ^ 64 - 1 }
+    ensures is { IfOk result
+        (λ checked.
+        IsChecked (rules_of A.table A.Mail.receiver) stage.old (Once line.now ∷ []) stage.new
+        rows.now checked) }
+    ensures skipped { OnOk result (stage.new.skipped ≤ stage.old.skipped + 1) }
+{
+    let Some(deed) = line_deed(alloc, stage, line)? else {
+        stage.skipped += 1;
+        return Ok(Checked::On);
+    };
+    let at = stage.rows.len();
+    if at >= rows.len() {
+        return Ok(Checked::Ended);
+    }
+    let row = &rows[at];
+    if take_row(alloc, stage, deed, row)? {
+        Ok(Checked::On)
+    } else {
+        Ok(Checked::Wrong)
+    }
+}
+
+// The delivery that a line of many may make next: the lowest of all, or the first of one actor.
+fn chosen_deed<A, M: Parcel, O>(stage: &Stage<A, M, O>, free: bool, who: u32) -> Option<Deed<O>>
+    requires { IsKept stage.now }
+    ensures is { result
+        ≡ chosen_deed M.receiver (numbers_of stage.now.seats.items) stage.now.rows free who }
+    ensures can { IfSome result (λ deed. can_act (numbers_of stage.now.seats.items) deed ≡ true) }
+{
+    if free {
+        first_deed(stage, who)
+    } else {
+        lowest_deed(stage)
+    }
+}
+
+// A line of many deliveries, free or not.
+fn check_many<A: Actor>(
+    alloc: Global,
+    stage: &mut Stage<A, A::Mail, A::Order>,
+    most: u32,
+    free: bool,
+    rows: &[Row<A::Mail, A::Order>],
+) -> Result<Checked, OutOfMemory>
+where
+    A::Mail: Same,
+    A::Order: Same,
+    requires taking { IsTaking stage.old rows.now }
+    ensures is { IfOk result
+        (λ checked.
+        IsChecked (rules_of A.table A.Mail.receiver) stage.old (many free most ∷ []) stage.new
+        rows.now checked) }
+    ensures skipped { OnOk result (stage.new.skipped ≡ stage.old.skipped) }
+{
+    for done in 0..most {
+        let _ = done;
+        if is_quiet(stage) {
+            return Ok(Checked::On);
+        }
+        let at = stage.rows.len();
+        if at >= rows.len() {
+            return Ok(Checked::Ended);
+        }
+        let row = &rows[at];
+        let Some(deed) = chosen_deed(stage, free, row.who) else {
+            return Ok(Checked::Wrong);
+        };
+        if !take_row(alloc, stage, deed, row)? {
+            return Ok(Checked::Wrong);
+        }
+    }
+    if !is_quiet(stage) {
+        stage.unsettled = true;
+    }
+    Ok(Checked::On)
+}
+
+/// Checks a line against the rows from where the stage stands.
+pub fn check_line<A: Actor>(
+    alloc: Global,
+    stage: &mut Stage<A, A::Mail, A::Order>,
+    line: &Line<A::Order>,
+    rows: &[Row<A::Mail, A::Order>],
+) -> Result<Checked, OutOfMemory>
+where
+    A::Mail: Same,
+    A::Order: Same,
+    requires taking { IsTaking stage.old rows.now }
+    requires room { stage.old.skipped < 2 ^ 64 - 1 }
+    ensures is { IfOk result
+        (λ checked.
+        IsChecked (rules_of A.table A.Mail.receiver) stage.old (line_task line.now ∷ []) stage.new
+        rows.now checked) }
+    ensures skipped { OnOk result (stage.new.skipped ≤ stage.old.skipped + 1) }
+{
+    match line {
+        Line::Settle { most } => check_many(alloc, stage, *most, false, rows),
+        Line::Free { most, .. } => check_many(alloc, stage, *most, true, rows),
+        _ => check_once(alloc, stage, line, rows),
+    }
+}

@@ -1,0 +1,108 @@
+//! Who acts next by a line, at what event.
+ghost use Rattle.std.specs.Prelude.{◌≡◌, true, IfOk, IfSome};
+ghost use Rattle.sc_actor.specs.System.{numbers_of};
+ghost use Rattle.sc_checker.specs.Deeds.{line_deed, lowest_deed, may_come_again, when, can_act};
+ghost use Rattle.sc_checker.specs.Stages.{IsKept};
+
+use crate::pending::{has_gone, is_actor, may_get, waiting};
+use crate::stages::{Deed, Stage};
+use sc_actor::{Event, Line, Parcel};
+use sc_base::{Dup, OutOfMemory};
+use std::alloc::Global;
+
+// Whether a mail was sent to an actor that has not crashed.
+fn may_come_again<A, M: Parcel, O>(stage: &Stage<A, M, O>, mail: u32) -> bool
+    requires { IsKept stage.now }
+    ensures { result
+        ≡ may_come_again M.receiver (numbers_of stage.now.seats.items) stage.now.rows mail }
+{
+    if mail == 0 || mail as usize > stage.mails.len() {
+        return false;
+    }
+    let receiver = stage.mails[mail as usize - 1].to();
+    may_get(&stage.seats, stage.rows.as_slice(), receiver)
+}
+
+// The deed, if it may come.
+fn when_may<O: Drop>(may: bool, who: u32, event: Event<O>) -> Option<Deed<O>>
+    ensures { result ≡ when may (record { who = who; event = event }) }
+{
+    if may { Some(Deed { who, event }) } else { None }
+}
+
+fn go<A, M: Parcel, O: Drop>(stage: &Stage<A, M, O>, who: u32) -> Option<Deed<O>>
+    ensures { result
+        ≡ line_deed M.receiver (numbers_of stage.now.seats.items) stage.now.rows (Line.Go who) }
+{
+    let may = is_actor(&stage.seats, who) && !has_gone(stage.rows.as_slice(), who);
+    when_may(may, who, Event::Go)
+}
+
+/// The deed of a line of one row, or none where the line is skipped.
+pub fn line_deed<A, M: Parcel, O: Dup + Drop>(
+    alloc: Global,
+    stage: &Stage<A, M, O>,
+    line: &Line<O>,
+) -> Result<Option<Deed<O>>, OutOfMemory>
+    requires { IsKept stage.now }
+    ensures is { IfOk result
+        (λ deed.
+        deed ≡ line_deed M.receiver (numbers_of stage.now.seats.items) stage.now.rows line.now) }
+    ensures can { IfOk result
+        (λ found. IfSome found (λ deed. can_act (numbers_of stage.now.seats.items) deed ≡ true)) }
+{
+    let rows = stage.rows.as_slice();
+    Ok(match line {
+        Line::Go { who } => go(stage, *who),
+        Line::Deliver { who, k } => {
+            waiting(stage, Some(*who), *k).map(|mail| Deed {
+                who: *who,
+                event: Event::Deliver(mail),
+            })
+        }
+        Line::Drop { who, k } => waiting(stage, Some(*who), *k).map(|mail| Deed {
+            who: 0,
+            event: Event::Drop(mail),
+        }),
+        Line::Again { mail } => when_may(may_come_again(stage, *mail), 0, Event::Again(*mail)),
+        Line::Tick { who } => when_may(may_get(&stage.seats, rows, *who), *who, Event::Tick),
+        Line::Crash { who } => when_may(may_get(&stage.seats, rows, *who), *who, Event::Crash),
+        Line::Told { who, order } => {
+            let order = order.dup(alloc)?;
+            when_may(may_get(&stage.seats, rows, *who), *who, Event::Told(order))
+        }
+        Line::Settle { .. } | Line::Free { .. } | Line::Storm { .. } => None,
+    })
+}
+
+/// The delivery of the lowest-numbered pending mail of all, or none where no mail is pending.
+pub fn lowest_deed<A, M: Parcel, O>(stage: &Stage<A, M, O>) -> Option<Deed<O>>
+    requires { IsKept stage.now }
+    ensures is { result ≡ lowest_deed M.receiver (numbers_of stage.now.seats.items) stage.now.rows }
+    ensures can { IfSome result (λ deed. can_act (numbers_of stage.now.seats.items) deed ≡ true) }
+{
+    match waiting(stage, None, 1) {
+        None => None,
+        Some(mail) => Some(Deed {
+            who: stage.mails[mail as usize - 1].to(),
+            event: Event::Deliver(mail),
+        }),
+    }
+}
+
+/// The delivery of the first pending mail of an actor, or none where it has no pending mail.
+pub fn first_deed<A, M: Parcel, O>(stage: &Stage<A, M, O>, who: u32) -> Option<Deed<O>>
+    requires { IsKept stage.now }
+    ensures is { result
+        ≡ line_deed M.receiver (numbers_of stage.now.seats.items) stage.now.rows
+        (Line.Deliver who 1) }
+    ensures can { IfSome result (λ deed. can_act (numbers_of stage.now.seats.items) deed ≡ true) }
+{
+    match waiting(stage, Some(who), 1) {
+        None => None,
+        Some(mail) => Some(Deed {
+            who,
+            event: Event::Deliver(mail),
+        }),
+    }
+}

@@ -1,6 +1,0 @@
-use Rattle.std.proofs.Common.{◌≡◌, drop}
-use Rattle.sc_play.specs.Stages.{are_apart}
-use Rattle.sc_play.proofs.conditions.are_apart.Given as goal
-
-abbrev pub invariant-loop-i : goal.invariant-loop-i
-invariant-loop-i g l = are_apart l.seats ≡ are_apart (drop l.i l.seats)
