@@ -42,6 +42,7 @@ more {V} slot x xs lt rest =
       | inr e ↦ inr (e.0, e.1, ap (λ ys. x ∷ ys) e.2 ∙ ap (λ ys. ys ++ e.0 ∷ high_of slot xs) (sym low) ∙ ap (λ ys. low_of slot (x ∷ xs) ++ e.0 ∷ ys) (sym high))
     ]
 
+-- a list by slot splits at each slot
 pub split : {V : Type 0} (slot : ℕ) (xs : List (Report V)) → IsBySlot xs → IsSplit slot xs
 split slot [] up = inl refl
 split slot (x ∷ xs) up =

@@ -124,6 +124,7 @@ gets : (client : Client) (mail : Mail) (body : MailBody) → mail.body ≡ body 
 gets client mail (Answer group seq answer) is = where_waited client mail group seq answer is (waits_for client.waiting seq) refl
 gets client mail _ is = waits client (Got mail) (client, []) (silent client)
 
+-- whatever comes, a client sends in turn
 pub sends_in_turn : SendsInTurn
 sends_in_turn client (Got mail) = gets client mail mail.body refl
 sends_in_turn client Tick = ticks client client.waiting client.asked

@@ -8,6 +8,7 @@ use Rattle.sc_cmd.specs.declared.links.Route.{Route}
 use Rattle.sc_lookup.specs.Ways.{new_way}
 use Rattle.sc_lookup.specs.Known.{Known}
 
+-- what a client keeps
 pub record Client : Type 0 where
   -- its number, from 1
   pub me : ℕ

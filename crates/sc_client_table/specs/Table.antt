@@ -44,6 +44,7 @@ abbrev pub chosen_for : Client → Option (ℕ × Op) → Option Draw
 chosen_for client (Some request) = chosen (pos_of (key_of request.1)) client.known
 chosen_for client None = None
 
+-- the waiting request goes out, where there is one
 abbrev pub sent : Client → Step
 sent client = sent_where client (chosen_for client (waiting_request client))
 
@@ -90,6 +91,7 @@ abbrev pub got : ℕ → MailBody → Client → Step
 got from (Answer group seq answer) client = if waits_for client.waiting seq then answered from group seq answer client else (client, [])
 got from _ client = (client, [])
 
+-- what an input makes of a client, and what it sends
 abbrev pub table : Client → Input Mail OrderLine → Step
 table client (Got mail) = got mail.from mail.body client
 table client Tick = ticked client client.waiting client.asked

@@ -40,11 +40,13 @@ pub record Takes (before after : Client) (input : Input Mail OrderLine) : Type 0
   pub number : (after.waiting ≡ Some (seq + 1)) ⊎ (after.waiting ≡ None)
   pub replies : after.replies ≡ before.replies ++ reply ∷ []
 
+-- what an input makes of a client and of its mail
 pub record InTurn (before after : Client) (input : Input Mail OrderLine) (mails : List Mail) : Type 0 where
   pub me : after.me ≡ before.me
   pub requests : after.requests ≡ before.requests
   pub sends : SendsWaiting after mails
   pub moves : Waits before after ⊎ Begins before after input ⊎ Takes before after input
 
+-- this holds of every client and input
 abbrev pub SendsInTurn : Type 0
 SendsInTurn = (client : Client) (input : Input Mail OrderLine) → InTurn client (table client input).0 input (table client input).1

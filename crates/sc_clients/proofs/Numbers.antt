@@ -11,14 +11,18 @@ use Rattle.sc_base.specs.Ascending.{EndsBelow}
 use Rattle.sc_base.specs.declared.ops.Noted.{Noted}
 use Rattle.sc_ideal.proofs.Kept.{get-kept, insert-kept, entries-kept, is_sorted_from, all_end_below}
 
+-- look-ups by number
 pub get-numbers : (es : List (ℕ × Noted)) (q : ℕ) → get (from_entries {R = nat_cmp} es) q ≡ lookup (is_at (nat_cmp q)) es
 get-numbers = get-kept nat_cmp nat_cmp_total exact_unsigned
 
+-- entries with one more
 pub insert-numbers : (es fs : List (ℕ × Noted)) (k : ℕ) (v : Noted) → ((q : ℕ) → lookup (is_at (nat_cmp q)) fs ≡ cond (is_at (nat_cmp k) q) (Some v) (lookup (is_at (nat_cmp q)) es)) → from_entries {R = nat_cmp} fs ≡ insert (from_entries es) k v
 insert-numbers = insert-kept nat_cmp nat_cmp_total exact_unsigned
 
+-- the entries of the map of sorted ones
 pub entries-numbers : (es : List (ℕ × Noted)) → IsStrictlySortedBy nat_cmp (map (λ e. e.0) es) → entries (from_entries {R = nat_cmp} es) ≡ es
 entries-numbers es up = entries-kept nat_cmp nat_cmp_total exact_unsigned es (is_sorted_from nat_cmp es up)
 
+-- the next entry is above those before it
 pub next_below : (all xs : List (ℕ × Noted)) (e : ℕ × Noted) (ys : List (ℕ × Noted)) → all ≡ xs ++ e ∷ ys → IsStrictlySortedBy nat_cmp (map (λ f. f.0) all) → EndsBelow nat_cmp xs e.0
 next_below all xs e ys is up = all_end_below nat_cmp xs e ys (subst (λ l. IsStrictlySortedBy nat_cmp (map (λ f. f.0) l)) is up)

@@ -14,6 +14,7 @@ pub some_best : (p : ℕ) (best : Draw × Way) (known : Known) → fold (better 
 some_best p best [] e = cc
 some_best p best (entry ∷ known) e = some_best p (nearer p best entry) known e
 
+-- where some group is known one is chosen
 pub some_chosen : (p : ℕ) (known : Known) → 1 ≤ length known → fold (better p) None known ≡ None → ⊥
 some_chosen p [] some e = absurd (omega arith)
 some_chosen p (entry ∷ known) some e = some_best p entry known e
@@ -52,6 +53,7 @@ nearest_on p before mid (entry ∷ rest) best chosen none_nearer each_farther e 
 as_nearest : (p : ℕ) (known : Known) (best : Draw × Way) → Nearest p known best → IsNearest p known best.0
 as_nearest p known best is = record { before = is.0; way = best.1; after = is.1; stands = is.2; none_nearer = is.3; each_farther = is.4 }
 
+-- the chosen group is the nearest
 pub chooses_nearest : ChoosesNearest
 chooses_nearest p [] group e = absurd (cc)
 chooses_nearest p (entry ∷ known) group e =

@@ -26,12 +26,12 @@ fn call(alloc: Global) -> Result<Command, Fail> {
     })
 }
 
-fn accept(alloc: Global, slot: u32) -> Result<MailBody, Fail> {
+fn accept(alloc: Global) -> Result<MailBody, Fail> {
     let command = call(alloc)?;
     Ok(MailBody::Accept {
         group: GROUP,
         ballot: FIRST,
-        slot,
+        slot: 1,
         command,
     })
 }
@@ -96,7 +96,7 @@ fn check<R: Abort>(rt: &R, alloc: Global, body: MailBody, weight: u64) -> Result
 
 #[test]
 fn an_accept_counts_its_key_and_value(rt: HostRuntime) -> Result<(), Fail> {
-    check(&rt, rt.alloc(), accept(rt.alloc(), 1)?, 8)
+    check(&rt, rt.alloc(), accept(rt.alloc())?, 8)
 }
 
 #[test]
@@ -109,24 +109,31 @@ fn an_answer_counts_its_value(rt: HostRuntime) -> Result<(), Fail> {
     check(&rt, rt.alloc(), answer(rt.alloc())?, 5)
 }
 
-// Whether the accepts of slot 1 and of another slot are the same.
-fn accepts_are_same(alloc: Global, slot: u32) -> Result<bool, Fail> {
-    let one = accept(alloc, 1)?;
-    let other = accept(alloc, slot)?;
-    Ok(one.is_same(&other))
+fn ask(slot: u32) -> MailBody {
+    MailBody::Ask {
+        group: GROUP,
+        from_slot: slot,
+    }
 }
 
-// Whether an answer is the same as an accept.
-fn kinds_are_same(alloc: Global) -> Result<bool, Fail> {
-    let one = accept(alloc, 1)?;
-    let other = answer(alloc)?;
-    Ok(one.is_same(&other))
+// Whether what asks from a slot is the same as what asks from another.
+fn asks_are_same(slot: u32, other: u32) -> bool {
+    ask(slot).is_same(&ask(other))
+}
+
+// Whether it is the same as a vote at its slot.
+fn kinds_are_same(slot: u32) -> bool {
+    let vote = MailBody::Accepted {
+        group: GROUP,
+        ballot: FIRST,
+        slot,
+    };
+    ask(slot).is_same(&vote)
 }
 
 #[test]
-fn mails_are_the_same_where_every_part_is(rt: HostRuntime) -> Result<(), Fail> {
-    assert!(rt; accepts_are_same(rt.alloc(), 1)?);
-    assert!(rt; !accepts_are_same(rt.alloc(), 2)?);
-    assert!(rt; !kinds_are_same(rt.alloc())?);
-    Ok(())
+fn mails_are_the_same_where_every_part_is(rt: HostRuntime) {
+    assert!(rt; asks_are_same(1, 1));
+    assert!(rt; !asks_are_same(1, 2));
+    assert!(rt; !kinds_are_same(1));
 }
