@@ -9,6 +9,7 @@ use sc_actor::{Event, Journal};
 use sc_base::{OutOfMemory, Sequence};
 use sc_exchange::{Fetched, Port};
 use std::alloc::Global;
+use std::process::Abort;
 use std::sync::Wait;
 use std::test::Fail;
 use std::thread::{Threads, join};
@@ -20,18 +21,78 @@ fn number_of(found: Fetched<Note>) -> u32 {
     }
 }
 
-#[test]
-fn fresh_ports(rt: HostRuntime) -> Result<(), Fail> {
-    let mut net: Port<Note, u32> = Port::start(rt.alloc(), 2, 1000)?;
-    let mut one = net.split(1)?;
-    let found = one.fetch(&rt, 1)?;
-    assert!(rt; matches!(found, Fetched::Empty { seen: 0 }));
-    assert!(rt; one.pending(&rt, 1, 1).is_none());
-    assert!(rt; matches!(net.lose(&rt, 1), Ok(false)));
-    assert!(rt; matches!(net.again(&rt, 1), Ok(false)));
-    let look = net.look(&rt)?;
+// How many rows there were where nothing was found.
+fn seen_of(found: Fetched<Note>) -> u32 {
+    match found {
+        Fetched::Mail { number: _, mail: _ } => 9,
+        Fetched::Empty { seen } => seen,
+    }
+}
+
+// The ports of the network and of two actors.
+fn three_ports(
+    alloc: Global,
+) -> Result<(Port<Note, u32>, Port<Note, u32>, Port<Note, u32>), OutOfMemory>
+    ensures { IfOk result
+        (λ p.
+        (p.0.who ≡ 0)
+        × (p.1.who ≡ 1)
+        × (p.1.crashed ≡ false)
+        × (p.2.who ≡ 2)
+        × (p.2.crashed ≡ false)) }
+{
+    let mut net: Port<Note, u32> = Port::start(alloc, 2, 1 << 20)?;
+    let one = net.split(1)?;
+    let two = net.split(2)?;
+    Ok((net, one, two))
+}
+
+// Whether the network repeats a mail: 1, or 0 where it may not, or 9 where the row is refused.
+fn repeats<R: Wait>(rt: &R, net: &mut Port<Note, u32>, number: u32) -> u32
+    requires { net.old.who ≡ 0 }
+    ensures { Stays net.old net.new }
+{
+    match net.again(rt, number) {
+        Ok(true) => 1,
+        Ok(false) => 0,
+        Err(_) => 9,
+    }
+}
+
+// The same of a loss.
+fn loses<R: Wait>(rt: &R, net: &mut Port<Note, u32>, number: u32) -> u32
+    requires { net.old.who ≡ 0 }
+    ensures { Stays net.old net.new }
+{
+    match net.lose(rt, number) {
+        Ok(true) => 1,
+        Ok(false) => 0,
+        Err(_) => 9,
+    }
+}
+
+fn nothing_is_pending<R: Wait + Abort>(
+    rt: &R,
+    net: &mut Port<Note, u32>,
+    one: &mut Port<Note, u32>,
+) -> Result<(), OutOfMemory>
+    requires { net.old.who ≡ 0 }
+{
+    let seen = seen_of(one.fetch(rt, 1)?);
+    assert_eq!(rt; seen, 0);
+    assert!(rt; one.pending(rt, 1, 1).is_none());
+    assert_eq!(rt; loses(rt, net, 1), 0);
+    assert_eq!(rt; repeats(rt, net, 1), 0);
+    let look = net.look(rt)?;
     assert_eq!(rt; look.sent, 0);
     assert_eq!(rt; look.pending.len(), 0);
+    Ok(())
+}
+
+#[test]
+fn fresh_ports(rt: HostRuntime) -> Result<(), Fail> {
+    let (mut net, mut one, _two) = three_ports(rt.alloc())?;
+    nothing_is_pending(&rt, &mut net, &mut one)?;
     Ok(())
 }
 
@@ -73,24 +134,61 @@ fn post_one<R: Wait>(
     }
 }
 
+// Actor 2 sends three notes to actor 1, which takes the second and sends one to the desk.
+fn second_is_taken<R: Wait + Abort>(
+    rt: &R,
+    alloc: Global,
+    one: &mut Port<Note, u32>,
+    two: &mut Port<Note, u32>,
+) -> Result<(), OutOfMemory>
+    requires { (one.old.who ≢ 0)
+        × (one.old.crashed ≡ false)
+        × (two.old.who ≢ 0)
+        × (two.old.crashed ≡ false) }
+{
+    post_one(rt, two, Event::Go, notes(alloc, 1, 3)?)?;
+    let taken = take(rt, alloc, one, 2, 0, 1)?;
+    assert_eq!(rt; taken, 2);
+    Ok(())
+}
+
+// The second is repeated twice.
+fn second_is_doubled<R: Wait + Abort>(rt: &R, net: &mut Port<Note, u32>)
+    requires { net.old.who ≡ 0 }
+    ensures { Stays net.old net.new }
+{
+    assert_eq!(rt; repeats(rt, net, 2), 1);
+    assert_eq!(rt; repeats(rt, net, 2), 1);
+    assert_eq!(rt; net.pending(rt, 1, 1), Some(1));
+    assert_eq!(rt; net.pending(rt, 1, 2), Some(2));
+    assert_eq!(rt; net.pending(rt, 1, 3), Some(2));
+    assert_eq!(rt; net.pending(rt, 1, 4), Some(3));
+    assert_eq!(rt; net.pending(rt, 0, 5), None);
+}
+
+// One copy of it is lost.
+fn second_is_lost<R: Wait + Abort>(
+    rt: &R,
+    net: &mut Port<Note, u32>,
+    one: &mut Port<Note, u32>,
+) -> Result<(), OutOfMemory>
+    requires { net.old.who ≡ 0 }
+{
+    let look = net.look(rt)?;
+    assert_eq!(rt; look.pending.len(), 4);
+    assert_eq!(rt; loses(rt, net, 2), 1);
+    let found = number_of(one.fetch(rt, 3)?);
+    assert_eq!(rt; found, 3);
+    assert_eq!(rt; repeats(rt, net, 4), 0);
+    Ok(())
+}
+
 #[test]
 fn doubled_mail_order(rt: HostRuntime) -> Result<(), Fail> {
-    let mut net: Port<Note, u32> = Port::start(rt.alloc(), 2, 1 << 20)?;
-    let mut one = net.split(1)?;
-    let mut two = net.split(2)?;
-    post_one(&rt, &mut two, Event::Go, notes(rt.alloc(), 1, 3)?)?;
-    assert_eq!(rt; take(&rt, rt.alloc(), &mut one, 2, 0, 1)?, 2);
-    assert!(rt; matches!(net.again(&rt, 2), Ok(true)));
-    assert!(rt; matches!(net.again(&rt, 2), Ok(true)));
-    assert_eq!(rt; net.pending(&rt, 1, 1), Some(1));
-    assert_eq!(rt; net.pending(&rt, 1, 2), Some(2));
-    assert_eq!(rt; net.pending(&rt, 1, 3), Some(2));
-    assert_eq!(rt; net.pending(&rt, 1, 4), Some(3));
-    assert_eq!(rt; net.pending(&rt, 0, 5), None);
-    assert_eq!(rt; net.look(&rt)?.pending.len(), 4);
-    assert!(rt; matches!(net.lose(&rt, 2), Ok(true)));
-    assert_eq!(rt; number_of(one.fetch(&rt, 3)?), 3);
-    assert!(rt; matches!(net.again(&rt, 4), Ok(false)));
+    let (mut net, mut one, mut two) = three_ports(rt.alloc())?;
+    second_is_taken(&rt, rt.alloc(), &mut one, &mut two)?;
+    second_is_doubled(&rt, &mut net);
+    second_is_lost(&rt, &mut net, &mut one)?;
     Ok(())
 }
 
@@ -112,16 +210,31 @@ fn told(waits: &[bool], place: usize) -> u32 {
     }
 }
 
+fn each_waits<R: Wait + Abort>(
+    rt: &R,
+    alloc: Global,
+    net: &mut Port<Note, u32>,
+    one: &mut Port<Note, u32>,
+    two: &mut Port<Note, u32>,
+) -> Result<(), OutOfMemory>
+    requires { (one.old.who ≢ 0)
+        × (one.old.crashed ≡ false)
+        × (two.old.who ≢ 0)
+        × (two.old.crashed ≡ false) }
+{
+    assert_eq!(rt; waits_of(rt, net), (0, 0, 0));
+    post_one(rt, two, Event::Go, notes(alloc, 1, 1)?)?;
+    assert_eq!(rt; waits_of(rt, net), (1, 0, 0));
+    let taken = take(rt, alloc, one, 1, 2, 1)?;
+    assert_eq!(rt; taken, 1);
+    assert_eq!(rt; waits_of(rt, net), (0, 0, 1));
+    Ok(())
+}
+
 #[test]
 fn waiting_for_each(rt: HostRuntime) -> Result<(), Fail> {
-    let mut net: Port<Note, u32> = Port::start(rt.alloc(), 2, 1 << 20)?;
-    let mut one = net.split(1)?;
-    let mut two = net.split(2)?;
-    assert_eq!(rt; waits_of(&rt, &mut net), (0, 0, 0));
-    post_one(&rt, &mut two, Event::Go, notes(rt.alloc(), 1, 1)?)?;
-    assert_eq!(rt; waits_of(&rt, &mut net), (1, 0, 0));
-    assert_eq!(rt; take(&rt, rt.alloc(), &mut one, 1, 2, 1)?, 1);
-    assert_eq!(rt; waits_of(&rt, &mut net), (0, 0, 1));
+    let (mut net, mut one, mut two) = three_ports(rt.alloc())?;
+    each_waits(&rt, rt.alloc(), &mut net, &mut one, &mut two)?;
     Ok(())
 }
 
