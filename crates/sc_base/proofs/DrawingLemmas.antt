@@ -7,6 +7,7 @@ count_after : (n : ℕ) (drawer : Drawer) → (drawn_by n drawer).next ≡ drawe
 count_after zero drawer = omega arith
 count_after (suc n) drawer = omega (arith, count_after n drawer)
 
+-- no name is drawn twice
 pub apart : Apart
 apart drawer m n below same =
     let counts : (drawn_by m drawer).next ≡ (drawn_by n drawer).next = ap (λ d. d.count) same in

@@ -31,10 +31,12 @@ op_weight (Del key) = length key
 op_weight (Add key value) = length key + length value
 op_weight (Cas key expect value) = length key + length expect + length value
 
+-- a value, if there is one
 abbrev pub value_weight : Option (List ℕ) → ℕ
 value_weight None = 0
 value_weight (Some value) = length value
 
+-- the value of a reply
 abbrev pub reply_weight : Reply → ℕ
 reply_weight reply = value_weight reply.old
 
@@ -42,6 +44,7 @@ reply_weight reply = value_weight reply.old
 abbrev pub pair_weight : List ℕ × List ℕ → ℕ
 pair_weight pair = 32 + length pair.0 + length pair.1
 
+-- all pairs
 abbrev pub pairs_weight : List (List ℕ × List ℕ) → ℕ
 pairs_weight pairs = sum_by pair_weight pairs
 
@@ -49,20 +52,25 @@ pairs_weight pairs = sum_by pair_weight pairs
 abbrev pub seen_weight : ℕ × Noted → ℕ
 seen_weight seen = 32 + reply_weight seen.1.reply
 
+-- all entries of a client table
 abbrev pub clients_weight : List (ℕ × Noted) → ℕ
 clients_weight clients = sum_by seen_weight clients
 
+-- a participant's record: its pairs and its client table
 abbrev pub frozen_weight : Frozen → ℕ
 frozen_weight frozen = pairs_weight frozen.pairs + clients_weight frozen.clients
 
+-- a Yes: its record
 abbrev pub vote_weight : Vote → ℕ
 vote_weight (Yes frozen) = frozen_weight frozen
 vote_weight (No why) = 0
 
+-- a gift: its pairs and its client table
 abbrev pub gift_weight : Option Gift → ℕ
 gift_weight None = 0
 gift_weight (Some gift) = pairs_weight gift.pairs + clients_weight gift.clients
 
+-- a moved boundary: its gift
 abbrev pub outcome_weight : Outcome → ℕ
 outcome_weight Abort = 0
 outcome_weight (Merged into) = 0
@@ -70,6 +78,7 @@ outcome_weight (Moved at gift) = gift_weight gift
 outcome_weight (Migrated node) = 0
 outcome_weight Divided = 0
 
+-- the operation, vote or outcome in a command
 abbrev pub command_weight : Command → ℕ
 command_weight Noop = 0
 command_weight (Call client seq op) = op_weight op
@@ -84,6 +93,7 @@ command_weight (Finish tx outcome) = outcome_weight outcome
 command_weight (Watched tx watch) = 0
 command_weight (RecordWatch tx vote by) = 0
 
+-- the record that was heard
 abbrev pub heard_weight : Option Heard → ℕ
 heard_weight None = 0
 heard_weight (Some heard) = frozen_weight heard.frozen
@@ -95,6 +105,7 @@ lock_weight (Coordinating tx body order heard) = heard_weight heard
 lock_weight (Promised tx offer) = 0
 lock_weight (Watching tx watch) = 0
 
+-- an outcome that a group has decided
 abbrev pub decision_weight : Draw × Outcome → ℕ
 decision_weight decision = outcome_weight decision.1
 

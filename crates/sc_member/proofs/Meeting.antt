@@ -43,6 +43,7 @@ shared members one other h =
     let r = both_pass (is_member one) (is_member other) members h in
     record { node = r.0; member = r.1; in_one = r.2; in_other = r.3 }
 
+-- two majorities of one set share a member
 pub meeting : (members one other : List ℕ) → IsMajority members one → IsMajority members other → SharesMember members one other
 meeting members one other h k = shared members one other (omega (arith, h, k))
 
@@ -63,6 +64,7 @@ length_with members node absent =
     let above = filter (λ member. ltb node member) members in
     omega (arith, length-append below (node ∷ above), split_length members node absent)
 
+-- a majority of a set and one of the set with one node more share a member
 pub meeting_with : (members : List ℕ) (node : ℕ) (one other : List ℕ) → is_member members node ≡ false
     → IsMajority members one → IsMajority (with_member members node) other → SharesMember members one other
 meeting_with members node one other absent h k =

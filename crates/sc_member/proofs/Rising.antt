@@ -9,6 +9,7 @@ use Rattle.std.proofs.lemmas.List.{length-append}
 use Rattle.sc_member.specs.Roster.{IsRoster, is_member, with_member, without_member}
 use Rattle.sc_member.proofs.SetLemmas.{split_length, length-filter-le}
 
+-- one node is below another
 abbrev pub Below : ℕ → ℕ → Type 0
 Below x y = x < y
 
@@ -16,6 +17,7 @@ Below x y = x < y
 pub head_below : (x : ℕ) (xs : List ℕ) → AllPairs Below (x ∷ xs) → All (Below x) xs
 head_below x xs up = All-from_get_or (Below x) xs 0 (λ i within. up 0 (suc i) 0 (omega arith) (omega arith))
 
+-- the rest of a rising list rises
 pub tail_up : (x : ℕ) (xs : List ℕ) → AllPairs Below (x ∷ xs) → AllPairs Below xs
 tail_up x xs up i j d lt within = up (suc i) (suc j) d (omega arith) (omega arith)
 
@@ -37,6 +39,7 @@ ascending_with members n up =
     let all = joined low n high (AllPairs-filter Below (λ x. ltb x n) members pairs) under (AllPairs-filter Below (λ x. ltb n x) members pairs) over in
     λ k within. all k (k + 1) 0 (omega arith) within
 
+-- a set with one more node is a set
 pub roster_with : (members : List ℕ) (n : ℕ) → IsRoster members → is_member members n ≡ false → length members < 9 → IsRoster (with_member members n)
 roster_with members n is absent room =
     let low = filter (λ x. ltb x n) members in
@@ -63,6 +66,7 @@ one_stays (x ∷ y ∷ rest) n up two =
       | inr f ↦ (let a = stays x (y ∷ rest) (not_from_false (eqb x n) f) in omega arith)
     ]
 
+-- a set without one of its nodes is a set
 pub roster_without : (members : List ℕ) (n : ℕ) → IsRoster members → 2 ≤ length members → IsRoster (without_member members n)
 roster_without members n is two =
     let few = length-filter-le (λ x. not (eqb x n)) members in

@@ -19,6 +19,7 @@ grows_by members node =
     (λ _. omega arith)
     (λ f. (let one = length_with members node f in omega (arith, one)))
 
+-- a union is not smaller
 pub grows : (members others : List ℕ) → length members ≤ length (united members others)
 grows members [] = omega arith
 grows members (node ∷ others) =

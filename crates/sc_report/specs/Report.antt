@@ -1,10 +1,8 @@
 -- The text of a report, line by line.
-use Rattle.std.specs.Prelude.{ℕ, suc, ◌+◌, Bool, true, false, List, [], ◌∷◌, ◌++◌, length, map, codes, count_by, if◌then◌else◌, Option, Some, None}
+use Rattle.std.specs.Prelude.{ℕ, suc, ◌+◌, Bool, true, false, List, [], ◌∷◌, ◌++◌, length, map, codes, count_by, Option, Some, None}
 use Rattle.std.specs.Fmt.{decimal}
-use Rattle.sc_base.specs.declared.names.Draw.{Draw}
 use Rattle.sc_base.specs.declared.ops.Op.{Op}
 use Rattle.sc_base.specs.declared.ops.Op.TheVariants.{Get, Put, Del, Add, Cas}
-use Rattle.sc_base.specs.declared.ops.Reply.{Reply}
 use Rattle.sc_cmd.specs.Order.{code_of, name_of}
 use Rattle.sc_cmd.specs.declared.links.Route.{Route}
 use Rattle.sc_cmd.specs.declared.orders.ToldResult.{ToldResult}
@@ -22,6 +20,7 @@ ended text = text ++ 10 ∷ []
 abbrev pub counted : List ℕ → ℕ → List ℕ
 counted label n = ended (label ++ decimal n)
 
+-- the word of an operation
 abbrev pub word_of : Op → List ℕ
 word_of (Get key) = codes "get"
 word_of (Put key value) = codes "put"
@@ -33,6 +32,7 @@ word_of (Cas key expect value) = codes "cas"
 abbrev pub request : List ℕ → Asked → List ℕ
 request what asked = what ++ decimal asked.client ++ codes " " ++ decimal asked.seq ++ codes " " ++ word_of asked.op
 
+-- a request and its reply
 abbrev pub replied : Option (List ℕ) → Asked → List ℕ
 replied None asked = ended (request (codes "reply ") asked ++ codes " none")
 replied (Some old) asked = ended (request (codes "reply ") asked ++ codes " value " ++ old)
@@ -42,6 +42,7 @@ got_line Unsent asked = ended (request (codes "unsent ") asked)
 got_line Unanswered asked = ended (request (codes "unanswered ") asked)
 got_line (Replied reply) asked = replied reply.old asked
 
+-- the line of a request
 abbrev pub asked_line : Asked → List ℕ
 asked_line asked = got_line asked.got asked
 
@@ -51,9 +52,11 @@ is_replied (Replied reply) = true
 is_replied Unsent = false
 is_replied Unanswered = false
 
+-- how many requests were answered
 abbrev pub answered_line : List Asked → List ℕ
 answered_line asked = ended (codes "answered " ++ decimal (count_by (λ one. is_replied one.got) asked) ++ codes " of " ++ decimal (length asked))
 
+-- the lines of the requests
 abbrev pub asked_lines : Bool → List Asked → List (List ℕ)
 asked_lines true asked = answered_line asked ∷ []
 asked_lines false asked = map asked_line asked
@@ -82,10 +85,12 @@ abbrev pub ring_line : Route → List ℕ
 ring_line route =
     ended (with_nodes (codes "ring " ++ decimal route.lo ++ codes " group " ++ decimal route.group.node ++ codes "." ++ decimal route.group.count ++ codes " members") route.members)
 
+-- whether no mail is pending
 abbrev pub quiet_line : Bool → List ℕ
 quiet_line true = ended (codes "quiet yes")
 quiet_line false = ended (codes "quiet no")
 
+-- the lines of counts
 abbrev pub counts : Summary → List (List ℕ)
 counts summary =
     counted (codes "rows ") summary.rows ∷ counted (codes "mail ") summary.mail ∷ counted (codes "delivered ") summary.delivered

@@ -7,6 +7,3 @@ mod texts;
 
 pub use printed::{Line, lines};
 pub use summaries::{Asked, Got, Summary};
-
-#[cfg(test)]
-mod tests;

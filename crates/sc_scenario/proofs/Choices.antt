@@ -15,6 +15,7 @@ both_chosen true true x y e = (refl, same_Some x y e)
 both_chosen true false x y e = search (rules, e)
 both_chosen false b x y e = search (rules, e)
 
+-- a number that is read is up to the most
 pub is_up_to : (most : ℕ) (word : List ℕ) (n : ℕ) → number_of word most ≡ Some n → n ≤ most
 is_up_to most word n e =
     let c = both_chosen (is_numeral word) (nat_le (value_from 0 word) most) (value_from 0 word) n e in
@@ -22,6 +23,7 @@ is_up_to most word n e =
     let same = c.1 in
     omega arith
 
+-- a count that is read is from 1 to the most
 pub counted : (most : ℕ) (word : List ℕ) (n : ℕ) → count_in most word ≡ Some n → (1 ≤ n) × (n ≤ most)
 counted most word n e =
     let b = and_then-some (λ m. if nat_le 1 m then Some m else None) (number_of word most) n e in

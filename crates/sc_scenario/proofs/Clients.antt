@@ -8,6 +8,7 @@ use Rattle.sc_scenario.specs.Schedules.{is_client}
 use Rattle.sc_scenario.specs.Early.{place_of}
 use Rattle.sc_scenario.specs.declared.scenarios.Asks.{Asks}
 
+-- clients in order of number
 abbrev pub Below : Asks → Asks → Type 0
 Below one other = one.client < other.client
 
@@ -23,9 +24,11 @@ head_below x xs up = All-from_get_or (Below x) xs x (λ i within. up 0 (suc i) x
 tail_up : (x : Asks) (xs : List Asks) → AllPairs Below (x ∷ xs) → AllPairs Below xs
 tail_up x xs up i j d lt within = up (suc i) (suc j) d (omega arith) (omega arith)
 
+-- what holds of all and of one more holds where it is put among them
 pub all_inserted : (P : Asks → Type 0) (xs : List Asks) (i : ℕ) (y : Asks) → All P xs → P y → All P (insert xs i y)
 all_inserted P xs i y all here = All-append P (take i xs) (y ∷ drop i xs) (All-take P i xs all) (All-cons P y (drop i xs) here (All-drop P i xs all))
 
+-- clients stay in order with one more in its place
 pub rising_with : (asks : Asks) (clients : List Asks) → AllPairs Below clients → is_client clients asks.client ≡ false → AllPairs Below (insert clients (place_of asks.client clients) asks)
 rising_with asks [] up absent = AllPairs-cons Below asks [] (λ k d within. absurd (omega arith)) up
 rising_with asks (other ∷ others) up absent =

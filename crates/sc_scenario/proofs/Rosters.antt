@@ -1,11 +1,8 @@
 -- Lists that rise stay so when an element is put into its place.
-use Rattle.std.proofs.Common.{◌≡◌, ℕ, suc, ◌+◌, ◌<◌, ◌≤◌, Bool, true, false, cond, refl, eqb, ltb, List, [], ◌∷◌, ◌++◌, length, filter, None, Some, inl, inr, ap, arith, is_none}
-use Rattle.std.specs.List.{All, AllPairs}
-use Rattle.std.specs.List.Sorted.{IsStrictlyIncreasing}
-use Rattle.std.proofs.lemmas.Bool.{cases_order, cond-true, cond-false, ltb-true, lt-ltb, le-ltb, eqb-false}
-use Rattle.std.proofs.lemmas.List.Kept.{AllPairs-cons, AllPairs-filter, AllPairs-from_increasing}
-use Rattle.std.proofs.lemmas.List.Elements.{All-cons, All-tail, All-head, All-append, All-weaker, All-from_get_or, All-filter, filter_passes}
-use Rattle.std.proofs.lemmas.List.{length-append}
+use Rattle.std.proofs.Common.{◌≡◌, ℕ, ◌<◌, Bool, true, false, cond, refl, eqb, ltb, List, [], ◌∷◌, length, filter, None, Some, arith, is_none}
+use Rattle.std.specs.List.{All}
+use Rattle.std.proofs.lemmas.Bool.{eqb-false}
+use Rattle.std.proofs.lemmas.List.Elements.{All-cons, All-append, All-filter}
 use Rattle.sc_member.specs.Roster.{IsRoster, is_member, with_member}
 use Rattle.sc_member.proofs.Rising.{roster_with as roster_put}
 use Rattle.sc_member.specs.Faults.{add_fault}

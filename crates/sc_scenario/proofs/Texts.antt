@@ -266,6 +266,7 @@ scenario_is nodes base (Outside draft) scenario few has is e =
       version = refl;
     })
 
+-- what a text gives is of the early form
 pub texts_early : TextsAreEarly
 texts_early scenario valid =
     let lines = lines_of valid.text in

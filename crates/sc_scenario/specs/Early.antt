@@ -35,6 +35,7 @@ place_of client (other ∷ others) = if nat_lt client other.client then 0 else 1
 abbrev pub with_client : Draft → Asks → Draft
 with_client draft asks = record draft { clients = insert draft.clients (place_of asks.client draft.clients) asks }
 
+-- a client with one more request
 abbrev pub with_request : Asks → Op → Asks
 with_request asks op = record asks { ops = asks.ops ++ op ∷ [] }
 
@@ -52,6 +53,7 @@ abbrev pub opened : Draft → ℕ → Option Reading
 opened draft client =
     if (length draft.lines == 0) && not (is_client draft.clients client) then Some (Within draft (record { client = client; ops = [] })) else None
 
+-- a draft with one more line of the schedule
 abbrev pub with_line : Draft → SchedLine → Draft
 with_line draft line = record draft { lines = draft.lines ++ line ∷ [] }
 
@@ -73,6 +75,7 @@ abbrev pub read_line : Reading → List (List ℕ) → Option Reading
 read_line (Outside draft) words = outside draft words
 read_line (Within draft asks) words = within draft asks words
 
+-- line after line
 abbrev pub read_lines : Reading → List (List ℕ) → Option Reading
 read_lines reading [] = Some reading
 read_lines reading (line ∷ lines) = option_and_then (λ more. read_lines more lines) (read_line reading (words_of line))
@@ -106,6 +109,7 @@ scenario_in lines =
 abbrev pub is_ended : List ℕ → Bool
 is_ended text = get_or text (length text - 1) 0 == 10
 
+-- the lines of a text
 abbrev pub lines_of : List ℕ → List (List ℕ)
 lines_of text = pieces 10 (take (length text - 1) text)
 

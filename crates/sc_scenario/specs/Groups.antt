@@ -20,6 +20,7 @@ abbrev pub with_word : ℕ → List ℕ → List ℕ → Option (List ℕ)
 with_word nodes members word =
     option_and_then (λ node. if is_none (add_fault members node) then Some (with_member members node) else None) (count_in nodes word)
 
+-- the members with those of these words
 abbrev pub with_words : ℕ → List ℕ → List (List ℕ) → Option (List ℕ)
 with_words nodes members [] = Some members
 with_words nodes members (word ∷ words) = option_and_then (λ more. with_words nodes more words) (with_word nodes members word)

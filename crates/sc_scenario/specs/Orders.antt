@@ -18,6 +18,7 @@ name_of parts =
     then option_and_then (λ node. option_map (λ count. record { node = node; count = count }) (count_in most_mails (nth parts 1))) (number_of (nth parts 0) most_nodes)
     else None
 
+-- the group's name that a word spells
 abbrev pub name_in : List ℕ → Option Draw
 name_in word = name_of (pieces 46 word)
 

@@ -65,5 +65,6 @@ pub record IsEarly (scenario : Scenario) : Type 0 where
   pub brief : scenario.brief ≡ false
   pub version : scenario.version ≡ 1
 
+-- every scenario that some text is has the early form
 abbrev pub TextsAreEarly : Type 0
 TextsAreEarly = (scenario : Scenario) → IsValid scenario → IsEarly scenario

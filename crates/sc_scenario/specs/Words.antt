@@ -34,5 +34,6 @@ count_in most word = option_and_then (λ n. if nat_le 1 n then Some n else None)
 abbrev pub key_in : List ℕ → Option (List ℕ)
 key_in word = if is_none (text_fault longest_key word) then Some word else None
 
+-- the value that a word spells
 abbrev pub value_in : List ℕ → Option (List ℕ)
 value_in word = if is_none (text_fault longest_value word) then Some word else None

@@ -14,6 +14,3 @@ mod words;
 
 pub use early::{INPUT_LIMIT, LINE_LIMIT, ScenarioFault, read_scenario, texts_are_early};
 pub use scenarios::{Asks, ClientList, GroupList, Scenario, SchedLine, Schedule};
-
-#[cfg(test)]
-mod tests;

@@ -1,7 +1,8 @@
-use super::*;
+//! Reports line by line.
 use sc_base::{Draw, Key, Op, Reply, Sequence, Value};
 use sc_cmd::{OrderRefusal, Route, ToldResult};
 use sc_member::Members;
+use sc_report::{Asked, Got, Summary, lines};
 use std::alloc::Global;
 use std::test::Fail;
 

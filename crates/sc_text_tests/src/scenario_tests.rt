@@ -1,5 +1,6 @@
-use super::*;
+//! Texts that are scenarios, and texts that are not.
 use sc_cmd::Order;
+use sc_scenario::{ClientList, GroupList, ScenarioFault, SchedLine, read_scenario};
 use std::alloc::Global;
 use std::process::Abort;
 use std::test::Fail;
