@@ -14,6 +14,3 @@ mod stages;
 
 pub use judging::{Replayed, is_lawful, replay};
 pub use looking::pending_of;
-
-#[cfg(test)]
-mod tests;

@@ -1,11 +1,11 @@
 //! Journals of toy actors, each of which sends one note at each input while it has turns left.
 ghost use Rattle.std.specs.Prelude.{[], ◌∷◌, ◌-◌, ◌==◌, if◌then◌else◌};
 
-use super::*;
 use sc_actor::{
     Actor, Event, Input, Journal, Line, Parcel, Row, Seat, are_apart, are_few, have_one_task,
 };
 use sc_base::{Dup, OutOfMemory, Same, Sequence};
+use sc_checker::{is_lawful, pending_of, replay};
 use std::alloc::Global;
 use std::test::Fail;
 
