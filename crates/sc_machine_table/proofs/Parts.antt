@@ -1,11 +1,12 @@
 -- Parts of maps on arcs: a part of a part, and parts that are joined; and records that start their groups again.
-use Rattle.std.proofs.Common.{◌≡◌, ℕ, ◌<◌, ◌^◌, Bool, true, false, cond, ◌||◌, List, Option, Some, None, refl, sym, ap, ◌∙◌}
+use Rattle.std.proofs.Common.{◌≡◌, ℕ, ◌<◌, ◌^◌, Bool, true, false, cond, ◌||◌, List, Option, Some, None, refl, sym, ap, subst, ◌∙◌}
 use Rattle.std.specs.FinMap.{empty, find, entries, get, same_map, get-empty, get-entries, entries_sorted}
 use Rattle.std.specs.Ordering.{nat_cmp}
 use Rattle.std.specs.Cmp.{nat_cmp_total}
 use Rattle.std.specs.Cmp.Lexicographic.{slice_cmp}
 use Rattle.std.proofs.lemmas.Map.Lookups.{exact_unsigned}
-use Rattle.sc_base.specs.Arc.{Arc, IsArc, CanJoin, joined, holds}
+use Rattle.sc_base.specs.Arc.{Arc, IsArc, CanJoin, before, from, joined, holds}
+use Rattle.sc_base.specs.ArcLaws.{PartsJoin}
 use Rattle.sc_base.specs.Text.{pos_of}
 use Rattle.sc_base.specs.declared.ops.Noted.{Noted}
 use Rattle.sc_base.proofs.ArcLemmas.{joins_hold}
@@ -37,11 +38,18 @@ second_or : (a b : Bool) → b ≡ true → (a || b) ≡ true
 second_or true b t = refl
 second_or false b t = t
 
-pub first_lies : (arc next : Arc) → arc.lo < 2 ^ 32 → IsArc arc → IsArc next → CanJoin arc next → (p : ℕ) → holds arc p ≡ true → holds (joined arc next) p ≡ true
+first_lies : (arc next : Arc) → arc.lo < 2 ^ 32 → IsArc arc → IsArc next → CanJoin arc next → (p : ℕ) → holds arc p ≡ true → holds (joined arc next) p ≡ true
 first_lies arc next fits is is' can p t = (joins_hold arc next fits is is' can).both p ∙ first_or (holds arc p) (holds next p) t
 
-pub second_lies : (arc next : Arc) → arc.lo < 2 ^ 32 → IsArc arc → IsArc next → CanJoin arc next → (p : ℕ) → holds next p ≡ true → holds (joined arc next) p ≡ true
+second_lies : (arc next : Arc) → arc.lo < 2 ^ 32 → IsArc arc → IsArc next → CanJoin arc next → (p : ℕ) → holds next p ≡ true → holds (joined arc next) p ≡ true
 second_lies arc next fits is is' can p t = (joins_hold arc next fits is is' can).both p ∙ second_or (holds arc p) (holds next p) t
+
+-- the two parts of an arc lie in it
+pub first_inside : (arc : Arc) (at : ℕ) → arc.lo < 2 ^ 32 → PartsJoin arc at → (p : ℕ) → holds (before arc at) p ≡ true → holds arc p ≡ true
+first_inside arc at fits parts p t = subst (λ a. holds a p ≡ true) parts.same (first_lies (before arc at) (from arc at) fits parts.first parts.second parts.can p t)
+
+pub second_inside : (arc : Arc) (at : ℕ) → arc.lo < 2 ^ 32 → PartsJoin arc at → (p : ℕ) → holds (from arc at) p ≡ true → holds arc p ≡ true
+second_inside arc at fits parts p t = subst (λ a. holds a p ≡ true) parts.same (second_lies (before arc at) (from arc at) fits parts.first parts.second parts.can p t)
 
 -- parts on two arcs that meet, joined from the second on
 turned : {X : Type 0} (a b : Bool) (old : Option X) → or_else (cond a old None) (cond b old None) ≡ cond (a || b) old None
@@ -73,7 +81,7 @@ pairs_again pairs = same_contents _ _ (λ key.
     none_else None = refl
     none_else (Some value) = refl
 
-clients_again : (clients : Table) → joined_with empty (entries clients) ≡ clients
+pub clients_again : (clients : Table) → joined_with empty (entries clients) ≡ clients
 clients_again clients = same_map nat_cmp_total exact_unsigned _ _ (λ client.
     get-joined_with (entries clients) (entries_sorted clients) empty client
     ∙ ap (λ o. later o (find nat_cmp client (entries clients))) (get-empty nat_cmp client)

@@ -10,7 +10,7 @@ use Rattle.sc_cmd.specs.declared.orders.OrderRefusal.{OrderRefusal}
 use Rattle.sc_cmd.specs.declared.cores.Lock.{Lock}
 use Rattle.sc_cmd.specs.declared.cores.Lock.TheVariants.{Free, Coordinating, Promised, Watching}
 use Rattle.sc_cmd.specs.declared.commands.Command.{Command}
-use Rattle.sc_cmd.specs.declared.commands.Command.TheVariants.{Noop, Call, Join, Leave, Split}
+use Rattle.sc_cmd.specs.declared.commands.Command.TheVariants.{Noop, Call, Join, Leave, Split, Begin, Prepared, RecordVote, GiveUp, Finish, Watched, RecordWatch}
 use Rattle.sc_cmd.specs.declared.effects.Effect.{Effect}
 use Rattle.sc_cmd.specs.declared.effects.Effect.TheVariants.{Done, Again, Stale, NotMine, Gone, NoEffect, Idle}
 use Rattle.sc_machine_table.specs.Group.{Group}
@@ -59,4 +59,10 @@ applied group (Call client seq op) = called group.core.gone group.core.lock grou
 applied group (Join node order) = ordered group.core.gone (refusal_of group.core (Join node order)) (with_node group node) group
 applied group (Leave node order) = ordered group.core.gone (refusal_of group.core (Leave node order)) (without_node group node) group
 applied group (Split at child order) = if is_alone group.core then divided (refusal_of group.core (Split at child order)) group at child else (group, Idle)
-applied group _ = (group, Idle)
+applied group (Begin tx body order) = (group, Idle)
+applied group (Prepared tx offer) = (group, Idle)
+applied group (RecordVote tx vote by) = (group, Idle)
+applied group (GiveUp tx) = (group, Idle)
+applied group (Finish tx outcome) = (group, Idle)
+applied group (Watched tx watch) = (group, Idle)
+applied group (RecordWatch tx vote by) = (group, Idle)

@@ -13,15 +13,8 @@ use Rattle.sc_machine_table.specs.Group.{Group}
 use Rattle.sc_machine_table.specs.Plans.{frozen_of, giving_group, taking_group, given}
 use Rattle.sc_machine_table.specs.Finishes.{gained_group, lost_group}
 use Rattle.sc_machine_table.specs.Totals.{AreNeighbours, KeepTheTotal}
-use Rattle.sc_machine_table.proofs.Parts.{part_within, first_lies, second_lies, parts_turned, pairs_again}
+use Rattle.sc_machine_table.proofs.Parts.{part_within, first_inside, second_inside, parts_turned, pairs_again}
 use Rattle.sc_repart.specs.Laws.{Gives, GivingKeepsTheTotal, Takes, TakingKeepsTheTotal}
-
--- the two parts of an arc lie in it
-first_inside : (arc : Arc) (at : ℕ) → arc.lo < 2 ^ 32 → PartsJoin arc at → (p : ℕ) → holds (before arc at) p ≡ true → holds arc p ≡ true
-first_inside arc at fits parts p t = subst (λ a. holds a p ≡ true) parts.same (first_lies (before arc at) (from arc at) fits parts.first parts.second parts.can p t)
-
-second_inside : (arc : Arc) (at : ℕ) → arc.lo < 2 ^ 32 → PartsJoin arc at → (p : ℕ) → holds (from arc at) p ≡ true → holds arc p ≡ true
-second_inside arc at fits parts p t = subst (λ a. holds a p ≡ true) parts.same (second_lies (before arc at) (from arc at) fits parts.first parts.second parts.can p t)
 
 -- the second part of an arc ends where the arc does
 second_end : (arc : Arc) (at : ℕ) → arc.lo < 2 ^ 32 → PartsJoin arc at → end_of arc ≡ end_of (from arc at)

@@ -1,1 +1,2 @@
 mod Rising
+pub mod Totals

@@ -1,5 +1,5 @@
-//! What holds of the parts of a split.
-ghost use Rattle.sc_split_merge.specs.Laws.{SplitsKeepTheWhole};
+//! What holds of the parts of a split, and of a merge.
+ghost use Rattle.sc_split_merge.specs.Laws.{SplitsKeepTheWhole, SplitsShareThePairs, MergesKeepTheTotal};
 
 use sc_base::arcs_are_sound;
 
@@ -9,3 +9,15 @@ pub fn splits_keep_the_whole()
 {
     arcs_are_sound();
 }
+
+/// The pairs of the two parts are the group's, each on the side whose arc holds it; the child has its
+/// parent's client table, and no other table changes.
+pub fn splits_share_the_pairs()
+    ensures { SplitsShareThePairs }
+{}
+
+/// A merged group has the arcs of both, the pairs of both and the client tables of both; the group
+/// that is gone has no pair and no client.
+pub fn merges_keep_the_total()
+    ensures { MergesKeepTheTotal }
+{}

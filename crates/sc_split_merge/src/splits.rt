@@ -4,6 +4,7 @@ ghost use Rattle.sc_base.specs.Arc.{CanCut, before, from};
 ghost use Rattle.sc_cmd.specs.declared.cores.Lock.TheVariants.{Free};
 ghost use Rattle.sc_member.specs.Roster.{IsRoster, least_of};
 ghost use Rattle.sc_machine_table.specs.Orders.{is_alone};
+ghost use Rattle.sc_machine_table.specs.Plans.{can_split};
 ghost use Rattle.sc_machine_table.specs.Splits.{CanSplit, staying, left_members, right_members, left_core, right_core, left_pred, right_succ};
 
 use sc_base::{Draw, Dup, OutOfMemory, RingArc, Sequence};
@@ -13,7 +14,8 @@ use std::alloc::Global;
 
 /// Whether a group of that record can be split at `at`: its arc holds `at` after its start, and it has two members at least.
 pub fn can_split(core: &Core, at: u32) -> bool
-    ensures { IsTrue result ↔ CanSplit core.now at }
+    ensures can { IsTrue result ↔ CanSplit core.now at }
+    ensures same { result ≡ can_split core.now at }
 {
     at != core.arc.lo() && core.arc.holds(at) && core.members.len() >= 2
 }

@@ -1,10 +1,11 @@
 //! The refusals of orders. Of those that hold of an order the one with the least number counts.
-ghost use Rattle.std.specs.Prelude.{◌≡◌, ◌≤◌, true, Some, None, MatchResult, OnOk, nat_eq, nat_le, length};
+ghost use Rattle.std.specs.Prelude.{◌≡◌, ◌≤◌, ◌<◌, true, false, Some, None, MatchResult, OnOk, nat_eq, nat_le, length};
 ghost use Rattle.std.specs.List.{list_any};
 ghost use Rattle.sc_member.specs.Faults.{add_fault, remove_fault};
 ghost use Rattle.sc_base.specs.Same.{same_draw};
 ghost use Rattle.sc_machine_table.specs.Splits.{CanSplit, has_named, is_locked_in};
 ghost use Rattle.sc_machine_table.specs.Orders.{locked_in, is_alone, refusal_of, refused_free, join_refused, leave_refused, split_refused, limit_refused, repart_refused, migrate_refused, body_refused, begin_refused};
+ghost use Rattle.sc_machine_table.specs.Votes.{has_voted};
 ghost use Rattle.sc_txn.specs.Checked.{is_checked, IsPossible};
 
 use sc_base::Draw;
@@ -95,6 +96,7 @@ fn is_alone(core: &Core) -> bool
 fn check_split(core: &Core, at: u32) -> Result<(), OrderRefusal>
     ensures why { MatchResult result (λ _. split_refused core.now at ≡ None) (λ why. split_refused core.now at ≡ Some why) }
     ensures possible { OnOk result (CanSplit core.now at) }
+    ensures few { OnOk result (is_alone core.now ≡ false → core.now.begun < 256) }
 {
     if at == core.arc.lo() || !core.arc.holds(at) {
         return Err(OrderRefusal::BadBoundary);
@@ -116,6 +118,7 @@ fn has_begun_all(core: &Core) -> bool
 
 fn check_limit(core: &Core) -> Result<(), OrderRefusal>
     ensures why { MatchResult result (λ _. limit_refused core.now ≡ None) (λ why. limit_refused core.now ≡ Some why) }
+    ensures possible { OnOk result (core.now.begun < 256) }
 {
     if has_begun_all(core) {
         return Err(OrderRefusal::TxLimit);
@@ -125,6 +128,7 @@ fn check_limit(core: &Core) -> Result<(), OrderRefusal>
 
 fn check_repart(core: &Core, at: u32) -> Result<(), OrderRefusal>
     ensures why { MatchResult result (λ _. repart_refused core.now at ≡ None) (λ why. repart_refused core.now at ≡ Some why) }
+    ensures possible { OnOk result (core.now.begun < 256) }
 {
     if at == core.arc.lo() || at == core.arc.end() {
         return Err(OrderRefusal::BadBoundary);
@@ -134,6 +138,7 @@ fn check_repart(core: &Core, at: u32) -> Result<(), OrderRefusal>
 
 fn check_migrate(core: &Core, node: u16) -> Result<(), OrderRefusal>
     ensures why { MatchResult result (λ _. migrate_refused core.now node ≡ None) (λ why. migrate_refused core.now node ≡ Some why) }
+    ensures possible { OnOk result (core.now.begun < 256) }
 {
     if !core.members.has(node) {
         return Err(OrderRefusal::NotMember);
@@ -146,6 +151,7 @@ fn check_migrate(core: &Core, node: u16) -> Result<(), OrderRefusal>
 
 fn check_body(core: &Core, body: &Body) -> Result<(), OrderRefusal>
     ensures why { MatchResult result (λ _. body_refused body.now core.now ≡ None) (λ why. body_refused body.now core.now ≡ Some why) }
+    ensures possible { OnOk result (core.now.begun < 256) }
 {
     match body {
         Body::Merge | Body::Split { .. } => check_limit(core),
@@ -156,6 +162,7 @@ fn check_body(core: &Core, body: &Body) -> Result<(), OrderRefusal>
 
 fn check_begin(core: &Core, body: &Body) -> Result<(), OrderRefusal>
     ensures why { MatchResult result (λ _. begin_refused core.now body.now ≡ None) (λ why. begin_refused core.now body.now ≡ Some why) }
+    ensures possible { OnOk result (core.now.begun < 256) }
 {
     if is_alone(core) {
         return Err(OrderRefusal::NoNeighbour);
@@ -169,6 +176,16 @@ pub fn has_named(core: &Core, draw: Draw) -> bool
     ensures { result ≡ has_named core.now draw }
 {
     is_born(core, draw) || is_decided(core, draw) || is_locked_in(&core.lock, draw)
+}
+
+/// Whether a group of that record has voted on a transaction.
+pub fn has_voted(core: &Core, tx: Draw) -> bool
+    ensures { result ≡ has_voted core.now tx }
+{
+    core.voted
+        .as_slice()
+        .iter()
+        .any(|vote| same_draw(vote.0, tx))
 }
 
 fn is_born(core: &Core, draw: Draw) -> bool

@@ -4,7 +4,7 @@
 mod checks;
 mod votes;
 
-pub use checks::{check, has_named};
+pub use checks::{check, has_named, has_voted};
 pub use votes::{Decision, decide, vote, watch_vote};
 
 #[cfg(test)]
