@@ -23,6 +23,7 @@ use Rattle.sc_node_table.specs.Replica.{floor_of}
 
 -- ---- lists
 
+-- a place behind the first entries is a later place of all
 pub get_dropped : {X : Type 0} (n : ℕ) (xs : List X) (k : ℕ) → slice_get (drop n xs) k ≡ slice_get xs (n + k)
 get_dropped zero xs k = (let same : k ≡ 0 + k = omega arith in ap (slice_get xs) same)
 get_dropped (suc n) [] zero = refl
@@ -65,9 +66,11 @@ pub record Mirrors {V : Type 0} (kept whole : AcceptorState V) : Type 0 where
   pub low : whole.floor ≤ kept.floor
   pub reports_are : (from : ℕ) → kept.floor < from → reports_from from kept.accepted ≡ reports_from from whole.accepted
 
+-- an acceptor that has forgotten nothing mirrors itself
 pub mirrors_itself : {V : Type 0} (state : AcceptorState V) → Mirrors state state
 mirrors_itself state = record { promised_is = refl; low = omega arith; reports_are = λ from lt. refl }
 
+-- one that forgets more mirrors it still
 pub cut_mirrors : {V : Type 0} (upto : ℕ) (kept whole : AcceptorState V) → Mirrors kept whole → Mirrors (after_cut upto kept) whole
 cut_mirrors {V} upto kept whole m =
     let low = m.low in
@@ -82,6 +85,7 @@ cut_mirrors {V} upto kept whole m =
           ∙ m.reports_are from (omega (arith, lt, left)));
     }
 
+-- a promise keeps that one mirrors the other
 pub promise_mirrors : {V : Type 0} (ballot : Ballot) (kept whole : AcceptorState V) → Mirrors kept whole → Mirrors (after_promise ballot kept) (after_promise ballot whole)
 promise_mirrors ballot kept whole m = record { promised_is = refl; low = m.low; reports_are = m.reports_are }
 
@@ -98,6 +102,7 @@ reports_with {V} from new accepted =
     ∙ ap (λ (l : List (Report V)). filter lower (filter p accepted) ++ l) (filter-append p (new ∷ []) (filter higher accepted) ∙ ap (λ (l : List (Report V)). filter p (new ∷ []) ++ l) (filters_turn p higher accepted))
     ∙ sym (append_assoc (filter lower (filter p accepted)) (filter p (new ∷ [])) (filter higher (filter p accepted)))
 
+-- so does an acceptance
 pub accept_mirrors : {V : Type 0} (new : Report V) (kept whole : AcceptorState V) → Mirrors kept whole → Mirrors (after_accept new kept) (after_accept new whole)
 accept_mirrors {V} new kept whole m = record {
   promised_is = refl;
@@ -110,6 +115,7 @@ accept_mirrors {V} new kept whole m = record {
 
 -- ---- what is forgotten
 
+-- what is added up to a greater number
 pub max_is : (low upto : ℕ) → low + (upto - low) ≡ max low upto
 max_is low upto =
     elim (cases_lt low upto) [

@@ -32,13 +32,13 @@ use Rattle.sc_node_table.specs.Install.{jumped}
 use Rattle.sc_node_table.specs.Rows.{looked_up, took_over, install_row, made_by, command_of, order_queued, order_taken, order_row}
 use Rattle.sc_hist_law.specs.Laws.{LogTells}
 use Rattle.sc_hist_law.proofs.Logs.{state_same}
-use Rattle.sc_sound.specs.Logs.{Ahead}
+use Rattle.sc_players.specs.Players.{Ahead}
 use Rattle.sc_group_law.proofs.Growth.{IsFresh, fresh_state}
 use Rattle.sc_group_law.proofs.Held.{Mirrors, mirrors_itself, floor_low}
 use Rattle.sc_group_law.proofs.Invariant.{Steps, rule, first, birth, Grants, AreSets, HasLog, IsReplica, next_after, forgotten_replica, IsState, grown_state, Fine, turn, says}
 use Rattle.sc_group_law.proofs.Sending.{fine_stopped}
-use Rattle.sc_group_law.proofs.Offering.{with_calls}
-use Rattle.sc_group_law.proofs.Executing.{hinted_place, looked_place, pumps}
+use Rattle.sc_group_law.proofs.Offering.{with_calls, fine_pumped}
+use Rattle.sc_group_law.proofs.Executing.{hinted_place, looked_place}
 
 module _ (ahead : Ahead) (base : Base) (made : Command → Type 0) (grants : Grants ahead base made) (me : ℕ) (before : Steps)
     (some : (log : List Command) → Each made log → (node : ℕ) × (rest : List ℕ) × ((rule ahead base).members log ≡ node ∷ rest))
@@ -168,6 +168,7 @@ module _ (ahead : Ahead) (base : Base) (made : Command → Type 0) (grants : Gra
       } in
       forgotten_replica ahead base made before me slot _ here (omega (arith, low, count))
 
+  -- a replica that is made of a true state is as the steps say
   pub made_place : (own from slot : ℕ) (state : Base) (sets : List (List ℕ)) → own ≡ me → IsFresh me before → IsLawful (rule ahead base) (first ahead base) before
       → ((b : Ballot) (at : ℕ) (c : Command) → Among (Offered b at c) before → made c) → length sets ≡ ahead.slots → IsState ahead base made before slot state sets → Ok (made_by own from slot state sets)
   unfolding made_by
@@ -188,7 +189,7 @@ module _ (ahead : Ahead) (base : Base) (made : Command → Type 0) (grants : Gra
   queued_place : (o : Option OrderRefusal) (number : ℕ) (c : Command) (r : ReplicaState) (mails : List Mail) → Ok (r, mails) → made c → Ok (order_queued o number c (r, mails))
   queued_place (Some why) number c r mails f m = told_place number (Refused why) r mails f
   queued_place None number c r mails f m =
-      pumps ahead base made grants me before some law _
+      fine_pumped ahead base made grants me before some _
       (turn ahead base made me before r (record r { calls = r.calls ++ c ∷ [] }) mails f
       (with_calls ahead base made grants me before some (f.newer ++ before) r (r.calls ++ c ∷ []) f.replica (Each-append made r.calls (c ∷ []) f.replica.calls (m, tt))))
 

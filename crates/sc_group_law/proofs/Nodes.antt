@@ -26,7 +26,7 @@ use Rattle.sc_node_table.specs.Voting.{prepare_row}
 use Rattle.sc_node_table.specs.Rows.{made_by, mailed, tick_row, order_row}
 use Rattle.sc_hist_law.specs.Laws.{LogTells}
 use Rattle.sc_sound.specs.Accepts.{accepts_of, is_accepted}
-use Rattle.sc_sound.specs.Logs.{Ahead}
+use Rattle.sc_players.specs.Players.{Ahead}
 use Rattle.sc_group_law.specs.Steps.{asked_by, asked_in, promises_of}
 use Rattle.sc_group_law.proofs.Growth.{By, IsFresh}
 use Rattle.sc_group_law.proofs.Invariant.{Steps, rule, first, birth, Grants, IsReplica, IsState, IsTrue, Fine}
@@ -59,6 +59,7 @@ none_asked group (Prepare g b start) e = absurd e
 none_asked group (Accept g b slot c) e = absurd e
 none_asked group _ e = refl
 
+-- mails that ask for nothing are no steps
 pub no_asked : (group : Draw) (mails : List Mail) (before : Steps) → ArePlain mails → asked_in group mails before ≡ before
 no_asked group [] before e = refl
 no_asked group (mail ∷ mails) before e = ap (λ x. asked_in group mails (x ++ before)) (none_asked group mail.body e.0) ∙ no_asked group mails before e.1
@@ -73,6 +74,7 @@ quiet_accepts group who event sent e (Accept g b slot c) =
     (and_right (same_draw g group) (list_any (λ (mail : Mail). is_accepted g b slot mail.body) sent) (any_accepted g b slot sent e))
 quiet_accepts group who event sent e _ = refl
 
+-- a row that sends only these is no step
 pub quiet_steps : (group : Draw) (who : ℕ) (event : Event OrderLine) (body : MailBody) (sent : List Mail) (before : Steps) → ArePlain sent → steps_of group who event body sent before ≡ before
 quiet_steps group who event body sent before e =
     ap (λ (x : Steps). x ++ accepts_of group (node_row who event sent) body ++ asked_in group sent before) (quiet_promises group who event sent e body)
@@ -103,6 +105,7 @@ module _ (ahead : Ahead) (base : Base) (made : Command → Type 0) where
   abbrev pub Holds : Steps → ℕ → List ReplicaState → Type 0
   Holds h me replicas = ((replicas ≡ []) × IsFresh me h) ⊎ ((r : ReplicaState) × (replicas ≡ r ∷ []) × IsReplica ahead base made h me r)
 
+  -- a node as the steps say: a replica of the group, or none and no step
   pub record IsNode (h : Steps) (me : ℕ) (node : NodeState) : Type 0 where
     pub me_is : node.me ≡ me
     pub ahead_is : node.ahead ≡ ahead.slots
@@ -267,6 +270,7 @@ module _ (ahead : Ahead) (base : Base) (made : Command → Type 0) where
         (let f = fine_tick_row ahead base made grants me before some law r [] (start r k) in
         record { newer = f.newer; are = f.are; by = f.by; lawful = f.lawful; requested = f.requested; node = record { me_is = at.me_is; ahead_is = at.ahead_is; holds = inr ((tick_row (r, [])).0, refl, f.replica) }; mails = f.mails })
 
+    -- the end of a tick
     pub tick_ended : (node : NodeState) → IsNode before me node → Ticked (on_tick node)
     tick_ended node k = tick_all node k node.replicas k.holds
 
@@ -282,6 +286,7 @@ module _ (ahead : Ahead) (base : Base) (made : Command → Type 0) where
       mails = λ m a. elim a [ inl e ↦ subst (λ (x : Mail). IsTrue ahead base made before x x.body) e tt | inr n ↦ absurd n ];
     }
 
+    -- the end of an order
     pub order_ended : (line : OrderLine) (node : NodeState) → IsNode before me node → Ticked (on_order line node)
     order_ended line node at = by at.holds
       where

@@ -3,14 +3,13 @@
 
 ghost use Rattle.std.specs.Prelude.{◌≡◌, [], ◌∷◌, Some};
 ghost use Rattle.sc_actor.specs.System.{no_words};
-ghost use Rattle.sc_sound.specs.Example.{four};
-ghost use Rattle.sc_sound.specs.Logs.{decided_log};
+ghost use Rattle.sc_sound.specs.Example.{four, alone};
+ghost use Rattle.sc_sound.specs.Logs.{decided_log, decided_state};
 ghost use Rattle.sc_sound.specs.Histories.{decided_row};
 ghost use Rattle.sc_sound.specs.Requests.{issue_row};
-ghost use Rattle.sc_group_law.specs.Players.{HasOneGroup, Lawful};
+ghost use Rattle.sc_group_law.specs.OneGroup.{HasOneGroup};
+ghost use Rattle.sc_players.specs.Players.{Lawful};
 ghost use Rattle.sc_group_law.specs.Example.{three_nodes, example_scenario, example, call};
-ghost use Rattle.sc_sound.specs.Example.{alone};
-ghost use Rattle.sc_sound.specs.Logs.{decided_state};
 ghost use Rattle.sc_group_law.specs.JoinExample.{join_scenario, join_example, join};
 ghost use Rattle.sc_group_law.specs.Laws.{GroupJournalsAreSound, ValidHaveOneGroup};
 

@@ -10,7 +10,7 @@ use Rattle.std.specs.Option.{option_map}
 use Rattle.sc_paxos_words.specs.Ballots.{below, IsAtLeast}
 use Rattle.sc_base.specs.Same.{same_ballot}
 use Rattle.sc_paxos_words.specs.declared.reports.Report.{Report}
-use Rattle.sc_paxos_words.proofs.BallotLemmas.{at_least_itself, at_least_trans, at_least_from_below}
+use Rattle.sc_paxos_words.proofs.BallotLemmas.{at_least_itself, at_least_trans, at_least_from_below, not_below_from, same_from_at_least}
 use Rattle.sc_paxos_words.proofs.ListLemmas.{Each-among, Each-weaker}
 use Rattle.sc_paxos_law.specs.Steps.{Step, Prepared, Promised, Offered, Accepted, Cut}
 use Rattle.sc_paxos_law.specs.Chosen.{Rule, needed, members_of, IsChosen, IsChosenAfter, IsLog}
@@ -25,13 +25,13 @@ use Rattle.sc_paxos_law.proofs.Law.{earlier, agree_members, logs_agree, element,
 itself : (b : Ballot) → same_ballot b b ≡ true
 itself b = and_from (eqb b.round b.round) (eqb b.node b.node) (eq-eqb b.round b.round refl) (eq-eqb b.node b.node refl)
 
-made_equal : (r n s m : ℕ) → r ≡ s → n ≡ m → (let a : Ballot = record { round = r; node = n } in a) ≡ record { round = s; node = m }
-made_equal r n s m e f = ap (λ x. (let a : Ballot = record { round = x; node = n } in a)) e ∙ ap (λ x. (let a : Ballot = record { round = s; node = x } in a)) f
-
-same_is : (a b : Ballot) → same_ballot a b ≡ true → a ≡ b
+-- ballots that are told to be the same are
+pub same_is : (a b : Ballot) → same_ballot a b ≡ true → a ≡ b
 same_is a b t =
     let parts = and_parts (eqb a.round b.round) (eqb a.node b.node) t in
-    made_equal a.round a.node b.round b.node (eqb-true a.round b.round parts.0) (eqb-true a.node b.node parts.1)
+    let round = eqb-true a.round b.round parts.0 in
+    let node = eqb-true a.node b.node parts.1 in
+    same_from_at_least a b (not_below_from a b (inr (round, omega (arith, node)))) (not_below_from b a (inr (sym round, omega (arith, node))))
 
 -- each voter accepted some value
 abbrev Accepts : {V : Type 0} → List (Step V) → Ballot → ℕ → ℕ → Type 0
@@ -150,7 +150,7 @@ finds {V} members all slot (Accepted m c s w ∷ h) n b v (inr a) most e =
     cond_both (eqb s slot && is_majority members (voters_of all c slot)) (Some (lesser_of here (found_in members all slot h))) (found_in members all slot h) (λ (o : Option (Report V)). o ≡ None → ⊥)
     (λ t k. cc) (λ f k. finds members all slot h n b v a most k) e
 
-pub chosen-found : {V : Type 0} (h : List (Step V)) (members : List ℕ) (slot : ℕ) (v : V) → IsChosen members h slot v → chosen_at members h slot ≡ None → ⊥
+chosen-found : {V : Type 0} (h : List (Step V)) (members : List ℕ) (slot : ℕ) (v : V) → IsChosen members h slot v → chosen_at members h slot ≡ None → ⊥
 chosen-found h members slot v c e =
     let voter = shared_member members c.voters c.voters c.majority c.majority in
     finds members h slot h voter.0 c.ballot v (Each-among _ c.voters voter.0 c.each voter.1)
@@ -193,6 +193,7 @@ least_found {V} members all slot (Accepted m c s v ∷ h) r e n b w (inr a) most
     (not_above_rest here (found_in members all slot h) b (finds members all slot h n b w a most) (λ q f. least_found members all slot h q f n b w a most))))
     (λ f k. least_found members all slot h r k n b w a most) e
 
+-- what is found chosen at a slot is the value of the least ballot in which one was chosen
 pub least_stands : {V : Type 0} (members : List ℕ) (h : List (Step V)) (slot : ℕ) (v : V) → chosen_at members h slot ≡ Some v
     → (b : Ballot) × ((n : ℕ) × Among (Accepted n b slot v) h) × ((w : V) (c : IsChosen members h slot w) → IsAtLeast c.ballot b)
 least_stands {V} members h slot v e =
@@ -259,9 +260,11 @@ longer_longest rule first h l (suc more) log a enough =
     go_on rule first h more log l a (chosen_at (members_of rule log (length log + 1)) h (length log + 1)) refl
     (λ v b. longer_longest rule first h l more (log ++ v ∷ []) b (omega (arith, length_push log v)))
 
+-- the decided log is a log, and no log is longer
 pub log_of-longest : {V : Type 0} (rule : Rule V) (first : Ballot) (h : List (Step V)) → IsLawful rule first h → IsLongest rule h (log_of rule h)
 log_of-longest rule first h l = longer_longest rule first h l (top_slot h) [] (λ k v e. cc) (omega arith)
 
+-- each log is a front of the decided one
 pub front_of_log : {V : Type 0} (rule : Rule V) (first : Ballot) (h : List (Step V)) → IsLawful rule first h → (other : List V) → IsLog rule h other
     → (length other ≤ length (log_of rule h)) × (take (length other) (log_of rule h) ≡ other)
 front_of_log rule first h l other b =
@@ -271,7 +274,8 @@ front_of_log rule first h l other b =
 
 -- ---- more steps
 
-later_logs : {V : Type 0} (rule : Rule V) (newer h : List (Step V)) (log : List V) → IsLog rule h log → IsLog rule (newer ++ h) log
+-- a log is one after more steps too
+pub later_logs : {V : Type 0} (rule : Rule V) (newer h : List (Step V)) (log : List V) → IsLog rule h log → IsLog rule (newer ++ h) log
 later_logs rule [] h log is = is
 later_logs rule (s ∷ newer) h log is = later_log rule s (newer ++ h) log (later_logs rule newer h log is)
 
@@ -279,6 +283,7 @@ older_lawful : {V : Type 0} (rule : Rule V) (first : Ballot) (newer h : List (St
 older_lawful rule first [] h l = l
 older_lawful rule first (s ∷ newer) h l = older_lawful rule first newer h l.1
 
+-- after more steps the decided log goes on as it was
 pub log_grows : {V : Type 0} (rule : Rule V) (first : Ballot) (newer h : List (Step V)) → IsLawful rule first (newer ++ h)
     → (length (log_of rule h) ≤ length (log_of rule (newer ++ h))) × (take (length (log_of rule h)) (log_of rule (newer ++ h)) ≡ log_of rule h)
 log_grows rule first newer h l =

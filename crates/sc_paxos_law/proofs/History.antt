@@ -82,6 +82,7 @@ first_is_least rule first (s ∷ older) n b slot v l (inr a) = first_is_least ru
 
 -- ---- offers
 
+-- what was accepted was offered
 pub was_offered : {V : Type 0} (rule : Rule V) (first : Ballot) (h : List (Step V)) (n : ℕ) (b : Ballot) (slot : ℕ) (v : V) → IsLawful rule first h
     → Among (Accepted n b slot v) h → Among (Offered b slot v) h
 was_offered rule first [] n b slot v l a = absurd a

@@ -1,7 +1,7 @@
 //! The actors and the schedule of a scenario.
 ghost use Rattle.std.specs.Prelude.{◌≡◌, ◌≤◌, ◌↔◌, IsTrue, length, All, IfOk, OnOk, ◌++◌, map};
-ghost use Rattle.sc_node_table.specs.Slots.{slots_ahead, numbers};
-ghost use Rattle.sc_world.specs.World.{births, schedule, node_seat, client_seat, client_seats, route_of, line_of, AreFew};
+ghost use Rattle.sc_node_table.specs.Slots.{numbers};
+ghost use Rattle.sc_players.specs.Players.{births, schedule, node_seat, client_seat, client_seats, route_of, line_of, AreFew, as_nodes};
 
 use crate::party::Party;
 use sc_actor::{Line, Seat};
@@ -17,7 +17,7 @@ use std::alloc::Global;
 pub const MOST_ACTOR: u32 = 96;
 
 fn node_seat(alloc: Global, groups: &Sequence<Base>, me: u16) -> Result<Seat<Party>, OutOfMemory>
-    ensures { IfOk result (λ seat. seat ≡ node_seat slots_ahead groups.now me) }
+    ensures { IfOk result (λ seat. seat ≡ node_seat as_nodes groups.now me) }
 {
     let node = NodeCore::born(alloc, me, groups)?;
     Ok(Seat {
@@ -53,7 +53,8 @@ fn add_nodes(
     groups: &Sequence<Base>,
     nodes: u16,
 ) -> Result<(), OutOfMemory>
-    ensures { OnOk result (seats.new.items ≡ seats.old.items ++ map (node_seat slots_ahead groups.now) (numbers 1 nodes)) }
+    ensures { OnOk result (seats.new.items ≡
+        seats.old.items ++ map (node_seat as_nodes groups.now) (numbers 1 nodes)) }
 {
     for done in 0..nodes {
         seats.push(node_seat(alloc, groups, done + 1)?)?;
@@ -68,7 +69,8 @@ fn add_asking(
     clients: &[Asks],
 ) -> Result<(), OutOfMemory>
     requires { All (λ asks. length asks.ops ≤ 1000) clients.now }
-    ensures { OnOk result (seats.new.items ≡ seats.old.items ++ map (client_seat first.now) clients.now) }
+    ensures { OnOk result (seats.new.items ≡
+        seats.old.items ++ map (client_seat first.now) clients.now) }
 {
     for asks in clients {
         seats.push(client_seat(alloc, first, asks)?)?;
@@ -83,7 +85,8 @@ fn add_clients(
     clients: &[Asks],
 ) -> Result<(), OutOfMemory>
     requires { All (λ asks. length asks.ops ≤ 1000) clients.now }
-    ensures { OnOk result (seats.new.items ≡ seats.old.items ++ client_seats groups.now clients.now) }
+    ensures { OnOk result (seats.new.items ≡
+        seats.old.items ++ client_seats groups.now clients.now) }
 {
     match groups {
         [] => Ok(()),
@@ -94,7 +97,7 @@ fn add_clients(
 /// The nodes and then the clients of a scenario, as they are born.
 pub fn births(alloc: Global, scenario: &Scenario) -> Result<Vec<Seat<Party>>, OutOfMemory>
     requires { AreFew scenario.now }
-    ensures { IfOk result (λ seats. seats.items ≡ births scenario.now) }
+    ensures { IfOk result (λ seats. seats.items ≡ births as_nodes scenario.now) }
 {
     let mut seats = Vec::new(alloc);
     add_nodes(alloc, &mut seats, &scenario.groups, scenario.nodes)?;

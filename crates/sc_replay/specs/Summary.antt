@@ -18,9 +18,10 @@ use Rattle.sc_report.specs.declared.summaries.Summary.{Summary}
 use Rattle.sc_scenario.specs.declared.scenarios.Scenario.{Scenario}
 use Rattle.sc_scenario.specs.declared.scenarios.SchedLine.{SchedLine}
 use Rattle.sc_scenario.specs.declared.scenarios.SchedLine.TheVariants.{Told}
-use Rattle.sc_world.specs.World.{system_of, schedule, parties}
-use Rattle.sc_world.specs.Summary.{asked_by, is_delivery}
-use Rattle.sc_sound.specs.Logs.{as_nodes, decided_state}
+use Rattle.sc_players.specs.Players.{system_of, schedule, parties, as_nodes}
+use Rattle.sc_players.specs.Summary.{asked_by, is_delivery}
+use Rattle.sc_sound.specs.Logs.{decided_state}
+use Rattle.sc_actor.specs.System.{no_words}
 
 -- what a mail tells of the order of a number
 abbrev pub told_in : ℕ → MailBody → Option ToldResult
@@ -32,6 +33,7 @@ abbrev pub told_of : ℕ → List Mail → Option ToldResult
 told_of number [] = None
 told_of number (mail ∷ more) = either (told_in number mail.body) (told_of number more)
 
+-- whether a line is an order
 abbrev pub is_order : SchedLine → Bool
 is_order (Told node line) = true
 is_order _ = false
@@ -57,12 +59,12 @@ abbrev pub summary_of : Scenario → List (Row Mail OrderLine) → Summary
 summary_of scenario journal = record {
   version = scenario.version;
   brief = scenario.brief;
-  asked = flat_map asked_by (parties scenario journal);
+  asked = flat_map asked_by (parties as_nodes scenario journal);
   orders = orders_told (orders_in scenario) (mails journal);
   ring = map (decided_cut journal) scenario.groups;
   rows = length journal;
   mail = length (mails journal);
   delivered = count_by (λ row. is_delivery row.event) journal;
-  skipped = skipped (system_of scenario) (schedule scenario) journal;
-  quiet = is_quiet (system_of scenario) journal;
+  skipped = skipped (system_of as_nodes no_words scenario) (schedule scenario) journal;
+  quiet = is_quiet (system_of as_nodes no_words scenario) journal;
 }
