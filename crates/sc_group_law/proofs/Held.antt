@@ -1,22 +1,12 @@
 -- What a replica keeps where it forgets what is old: the entries of its log after a base, and what its acceptor reports from above its floor. And the state that is sent to another.
-use Rattle.std.proofs.Common.{◌≡◌, ℕ, zero, suc, ◌+◌, ◌-◌, ◌<◌, ◌≤◌, nat_lt, nat_le, max, Bool, true, false, cond, List, [], ◌∷◌, ◌++◌, filter, drop, Option, Some, None, inl, inr, refl, sym, ◌∙◌, ap, append_assoc, arith}
+use Rattle.std.proofs.Common.{◌≡◌, ℕ, zero, suc, ◌+◌, ◌-◌, ◌<◌, ◌≤◌, nat_lt, nat_le, max, Bool, true, false, cond, List, [], ◌∷◌, ◌++◌, filter, drop, inl, inr, refl, sym, ◌∙◌, ap, append_assoc, arith}
 use Rattle.std.specs.Prelude.{slice_get}
-use Rattle.std.specs.FinMap.{empty, find, entries, same_map, get-empty, get-entries, entries_sorted}
-use Rattle.std.specs.Ordering.{nat_cmp}
-use Rattle.std.specs.Cmp.{nat_cmp_total}
-use Rattle.std.specs.Cmp.Lexicographic.{slice_cmp}
+use Rattle.std.specs.FinMap.{entries}
 use Rattle.std.proofs.Math.Nat.{le-max_left, le-max_right, max-eq_left, max-eq_right, mul-div-le}
 use Rattle.std.proofs.lemmas.Bool.{cases_Bool, cases_lt, leb-true, lt-ltb, cond-true, cond-false, cond_both}
 use Rattle.std.proofs.lemmas.List.Elements.{filter-append}
-use Rattle.std.proofs.lemmas.Map.Lookups.{exact_unsigned}
 use Rattle.sc_base.specs.declared.names.Ballot.{Ballot}
-use Rattle.sc_base.specs.declared.ops.Noted.{Noted}
-use Rattle.sc_ideal.specs.IdealStore.{Contents, with_pairs}
-use Rattle.sc_ideal.specs.Clients.{Table, later, joined_with}
-use Rattle.sc_ideal.proofs.Apart.{same_contents}
-use Rattle.sc_ideal.proofs.Joins.{or_else, get-with_pairs}
-use Rattle.sc_ideal.proofs.Tables.{get-joined_with}
-use Rattle.sc_machine_table.specs.Group.{Group, group_of, base_of}
+use Rattle.sc_ideal.specs.Clients.{later}
 use Rattle.sc_paxos_words.specs.declared.reports.Report.{Report}
 use Rattle.sc_paxos_words.specs.Acceptors.{AcceptorState, reports_from, with_report, after_promise, after_accept, after_cut}
 use Rattle.sc_node_table.specs.Replica.{floor_of}
@@ -126,31 +116,3 @@ max_is low upto =
 -- the floor is not above the last executed slot
 pub floor_low : (last : ℕ) → floor_of last ≤ last
 floor_low last = let le = mul-div-le last 64 in omega (arith, le)
-
--- ---- the state that is sent, and taken over
-
-pairs_again : (pairs : Contents) → with_pairs empty (entries pairs) ≡ pairs
-pairs_again pairs = same_contents _ _ (λ key.
-    get-with_pairs (entries pairs) (entries_sorted pairs) empty key
-    ∙ ap (or_else (find (slice_cmp nat_cmp) key (entries pairs))) (get-empty (slice_cmp nat_cmp) key)
-    ∙ none_else (find (slice_cmp nat_cmp) key (entries pairs)) ∙ sym (get-entries pairs key))
-  where
-    none_else : (o : Option (List ℕ)) → or_else o None ≡ o
-    none_else None = refl
-    none_else (Some value) = refl
-
-clients_again : (clients : Table) → joined_with empty (entries clients) ≡ clients
-clients_again clients = same_map nat_cmp_total exact_unsigned _ _ (λ client.
-    get-joined_with (entries clients) (entries_sorted clients) empty client
-    ∙ ap (λ o. later o (find nat_cmp client (entries clients))) (get-empty nat_cmp client)
-    ∙ none_later (find nat_cmp client (entries clients)) ∙ sym (get-entries clients client))
-  where
-    none_later : (o : Option Noted) → later None o ≡ o
-    none_later None = refl
-    none_later (Some noted) = refl
-
--- the record of a group starts the group again
-pub group_again : (group : Group) → group_of (base_of group) ≡ group
-group_again group =
-    ap (λ pairs. (let g : Group = record { core = group.core; pairs = pairs; clients = joined_with empty (entries group.clients) } in g)) (pairs_again group.pairs)
-    ∙ ap (λ clients. (let g : Group = record { core = group.core; pairs = group.pairs; clients = clients } in g)) (clients_again group.clients)

@@ -25,7 +25,7 @@ use Rattle.sc_paxos_law.specs.Steps.{Offered}
 use Rattle.sc_paxos_law.specs.Chosen.{members_of, IsChosenAfter}
 use Rattle.sc_paxos_law.specs.Decided.{log_of}
 use Rattle.sc_paxos_law.specs.Lawful.{IsLawful}
-use Rattle.sc_paxos_law.proofs.Among.{Among-left, Among-either, shared_member, get_left}
+use Rattle.sc_paxos_law.proofs.Among.{Among-left, Among-either, shared_member}
 use Rattle.sc_paxos_law.proofs.History.{was_offered}
 use Rattle.sc_paxos_law.proofs.Law.{element}
 use Rattle.sc_paxos_law.proofs.Decided.{log_of-longest, front_of_log, log_grows}
@@ -46,6 +46,7 @@ use Rattle.sc_group_law.proofs.Nodes.{Holds, IsNode}
 use Rattle.sc_group_law.proofs.Projected.{log_only, only_steps}
 use Rattle.sc_group_law.proofs.Places.{Journal, or_now, issue-push, decided-push, answered-push, split_at, done_append, done_later, history_on}
 use Rattle.sc_group_law.proofs.Clients.{Made, made_later, made_whole, IsAnswered, IsClient, Grew}
+use Rattle.sc_actor.proofs.PendingLemmas.{get_left}
 
 get_front : (log more : List Command) (k : ℕ) (c : Command) → k < length log → slice_get (log ++ more) k ≡ Some c → slice_get log k ≡ Some c
 get_front log more k c lt e =

@@ -23,7 +23,7 @@ use Rattle.sc_sound.specs.Histories.{gained, history, decided_from, decided_row}
 use Rattle.sc_sound.specs.Requests.{issues, issued_from, issue_row, kept_replies, answered_from, answer_row}
 use Rattle.sc_sound.proofs.Rows.{history-push}
 use Rattle.sc_hist_law.specs.Laws.{IsDone}
-use Rattle.sc_paxos_law.proofs.Among.{get_left}
+use Rattle.sc_actor.proofs.PendingLemmas.{get_left}
 
 -- the rows of a scenario
 abbrev pub Journal : Type 0

@@ -342,7 +342,7 @@ module _ (ahead : Ahead) (words : ℕ → ℕ → ℕ × ℕ) (scenario : Scenar
               absurd (omega (arith, order, before, le, one_issue, after)))
         ]
 
-    pub sound_rows : (more : Journal) → K (rows ++ more) → IsSound ahead scenario base rows more
+    sound_rows : (more : Journal) → K (rows ++ more) → IsSound ahead scenario base rows more
     sound_rows more all = record { replicated = replicated more all; tells = tells; in_time = in_time_of; in_order = in_order_of }
 
 -- each first part of a lawful journal is sound

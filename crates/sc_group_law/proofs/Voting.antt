@@ -268,7 +268,7 @@ module _ (ahead : Ahead) (base : Base) (made : Command → Type 0) (grants : Gra
         (λ b slot c e. cc) (λ b start e. cc)
         (λ _. (from_slot, inl (ap (λ n. Promised n ballot from_slot reports) (sym k.me_is)), inr asked))
 
-    pub promised_ended : After (promised from ballot from_slot (r, mails))
+    promised_ended : After (promised from ballot from_slot (r, mails))
     unfolding promised install_to
     promised_ended =
         cond_both (nat_le from_slot r.acceptor.floor) _ _ After
@@ -312,7 +312,7 @@ module _ (ahead : Ahead) (base : Base) (made : Command → Type 0) (grants : Gra
         (λ b at d e. cc) (λ b start e. cc)
         (λ _. (c, inl (ap (λ n. Accepted n ballot slot c) (sym k.me_is))))
 
-    pub took_ended : Then (took from report (r, mails))
+    took_ended : Then (took from report (r, mails))
     unfolding took install_to
     took_ended =
         cond_both (nat_le slot r.acceptor.floor) _ _ Then

@@ -97,12 +97,6 @@ place_among [] k x e = cc
 place_among {X} (y ∷ ys) zero x e = let same : y ≡ x = cc in inl same
 place_among (y ∷ ys) (suc k) x e = inr (place_among ys k x e)
 
--- an element keeps its place where more comes behind
-pub get_left : {X : Type 0} (xs ys : List X) (k : ℕ) (x : X) → slice_get xs k ≡ Some x → slice_get (xs ++ ys) k ≡ Some x
-get_left [] ys k x e = cc
-get_left (y ∷ xs) ys zero x e = e
-get_left (y ∷ xs) ys (suc k) x e = get_left xs ys k x e
-
 -- an element of a list with one more stood there before, or is the new one
 pub get_pushed : {X : Type 0} (xs : List X) (y : X) (k : ℕ) (x : X) → slice_get (xs ++ y ∷ []) k ≡ Some x → (slice_get xs k ≡ Some x) ⊎ ((k ≡ length xs) × (y ≡ x))
 get_pushed [] y zero x e = inr (refl, cc)

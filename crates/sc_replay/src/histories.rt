@@ -73,7 +73,8 @@ fn add_group(
 }
 
 /// The history of a journal: row by row the calls decided there that took effect, by slot. Read
-/// from the mail that the rows send, never from what an actor holds. Refused only for want of memory.
+/// from the mail that the rows send, never from what an actor holds. Refused only for want of
+/// memory.
 pub fn history(alloc: Global, world: &World<'_>) -> Result<Vec<Entry>, OutOfMemory>
     ensures { IfOk result (λ entries. entries.items ≡ history_of world.now) }
 {

@@ -3,6 +3,6 @@ use sc_client::ClientCore;
 use sc_node::NodeCore;
 use sc_players::Role;
 
-/// An actor of a scenario, a node or a client. Contracts see it as the player that it is, and it keeps
-/// to that player's table.
+/// An actor of a scenario, a node or a client. Contracts see it as the player that it is, and it
+/// keeps to that player's table.
 pub type Party = Role<NodeCore, ClientCore>;
