@@ -32,8 +32,8 @@ use Rattle.sc_group_law.proofs.Invariant.{Steps, rule, first, birth, IsFlying, I
 use Rattle.sc_group_law.proofs.Parts.{among_without_flight, Each-without_flight}
 use Rattle.sc_group_law.proofs.Executing.{fine_executed}
 use Rattle.std.proofs.lemmas.List.{map-append}
-use Rattle.sc_paxos_law.proofs.Decided.{same_is}
 use Rattle.sc_group_law.proofs.Offering.{fine_pumped}
+use Rattle.sc_base.proofs.NameLemmas.{ballot_is}
 
 reports_push : (votes : List (Vote Command)) (vote : Vote Command) → flat_map (λ (v : Vote Command). v.reports) (votes ++ vote ∷ []) ≡ flat_map (λ (v : Vote Command). v.reports) votes ++ vote.reports
 reports_push [] vote = append-nil vote.reports
@@ -140,7 +140,7 @@ module _ (ahead : Ahead) (base : Base) (made : Command → Type 0) (grants : Gra
       let parts = and_parts r.running (same_ballot ballot r.leader.ballot) t in
       let after = cond_both (same_ballot ballot r.leader.ballot && not (is_member r.leader.promisers from)) _ _
       (λ (x : Bool × LeaderState Command). Replica (f.newer ++ before) (record r { leader = x.1 }))
-      (λ _. voter_replica (f.newer ++ before) from ballot reports start r f.replica parts.0 (same_is ballot r.leader.ballot parts.1) promised asked) (λ _. f.replica) in
+      (λ _. voter_replica (f.newer ++ before) from ballot reports start r f.replica parts.0 (ballot_is ballot r.leader.ballot parts.1) promised asked) (λ _. f.replica) in
       fine_pumped ahead base made grants me before some _ (turn ahead base made me before r (record r { leader = (promise_counted from ballot reports r.leader).1 }) mails f after)))
       (λ _. f)
 
@@ -291,7 +291,7 @@ module _ (ahead : Ahead) (base : Base) (made : Command → Type 0) (grants : Gra
       cond_both (leads ballot r) _ _ Ok
       (λ t. (
       let parts = and_parts r.running (same_ballot ballot r.leader.ballot) t in
-      by_set parts.0 (same_is ballot r.leader.ballot parts.1) (set_at slot r) refl))
+      by_set parts.0 (ballot_is ballot r.leader.ballot parts.1) (set_at slot r) refl))
       (λ _. f)
     where
       by_set : r.running ≡ true → ballot ≡ r.leader.ballot → (o : Option (List ℕ)) → set_at slot r ≡ o → Ok (voted from ballot slot o (r, mails))

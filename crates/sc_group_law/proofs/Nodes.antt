@@ -1,7 +1,7 @@
 -- What holds of a node, and what comes of its inputs.
 use Rattle.std.proofs.Common.{◌≡◌, ℕ, ◌&&◌, ◌||◌, not, nat_lt, true, false, eqb, List, [], ◌∷◌, ◌++◌, length, Option, Some, None, ◌⊎◌, inl, inr, refl, sym, ◌∙◌, ap, subst, append-nil}
 use Rattle.std.specs.List.{list_any}
-use Rattle.std.proofs.lemmas.Bool.{eqb-true, and_parts, and_right, or_parts, not-false, cond-true, cond-false, cond_both}
+use Rattle.std.proofs.lemmas.Bool.{eqb-true, and_right, or_parts, not-false, cond-true, cond-false, cond_both}
 use Rattle.sc_base.specs.declared.names.Ballot.{Ballot}
 use Rattle.sc_base.specs.declared.names.Draw.{Draw}
 use Rattle.sc_base.specs.Same.{same_draw}
@@ -31,18 +31,11 @@ use Rattle.sc_group_law.specs.Steps.{asked_by, asked_in, promises_of}
 use Rattle.sc_group_law.proofs.Growth.{By, IsFresh}
 use Rattle.sc_group_law.proofs.Invariant.{Steps, rule, first, birth, Grants, IsReplica, IsState, IsTrue, Fine}
 use Rattle.sc_group_law.proofs.Installs.{fine_install_row, made_place, fine_order_row}
-use Rattle.sc_group_law.proofs.Sending.{same_name, name_is}
+use Rattle.sc_group_law.proofs.Sending.{name_is}
 use Rattle.sc_group_law.proofs.Counting.{fine_promise_row, fine_accepted_row}
 use Rattle.sc_group_law.proofs.Rows.{fine_nack_row, fine_learn_row, fine_ask_row, fine_request_row, fine_tick_row}
 use Rattle.sc_group_law.proofs.Voting.{IsPlain, ArePlain, promised_in, no_promises, any_accepted, Ended, ended_by, prepare_ended, accept_ended}
-
-draw_equal : (n c m d : ℕ) → n ≡ m → c ≡ d → (let a : Draw = record { node = n; count = c } in a) ≡ record { node = m; count = d }
-draw_equal n c m d e f = ap (λ x. (let a : Draw = record { node = x; count = c } in a)) e ∙ ap (λ x. (let a : Draw = record { node = m; count = x } in a)) f
-
-pub draw_is : (a b : Draw) → same_draw a b ≡ true → a ≡ b
-draw_is a b t =
-    let parts = and_parts (eqb a.node b.node) (eqb a.count b.count) t in
-    draw_equal a.node a.count b.node b.count (eqb-true a.node b.node parts.0) (eqb-true a.count b.count parts.1)
+use Rattle.sc_base.proofs.NameLemmas.{same_name, draw_is}
 
 -- a row of a node
 abbrev pub node_row : ℕ → Event OrderLine → List Mail → Row Mail OrderLine

@@ -1,6 +1,6 @@
 -- Mails that a row sends, and elections.
 use Rattle.std.proofs.Common.{◌≡◌, ℕ, ◌+◌, ◌≤◌, ◌-◌, ◌^◌, ◌&&◌, true, false, cond, eqb, nat_lt, List, [], ◌∷◌, ◌++◌, Option, Some, inl, inr, refl, ◌∙◌, ap, subst, arith}
-use Rattle.std.proofs.lemmas.Bool.{eq-eqb, and_from, cond-true, cond_both}
+use Rattle.std.proofs.lemmas.Bool.{cond-true, cond_both}
 use Rattle.sc_base.specs.declared.names.Ballot.{Ballot}
 use Rattle.sc_base.specs.declared.names.Draw.{Draw}
 use Rattle.sc_base.specs.Same.{same_draw}
@@ -28,10 +28,7 @@ use Rattle.sc_hist_law.proofs.Logs.{state_same}
 use Rattle.sc_group_law.specs.Steps.{asked_by}
 use Rattle.sc_group_law.proofs.Growth.{IsLearnt, offer_again}
 use Rattle.sc_group_law.proofs.Invariant.{Steps, rule, first, birth, IsReplica, next_after, IsTrueAnswer, Fine, more_steps, turn, says, steps}
-
--- equal names are told to be the same
-pub same_name : (group other : Draw) → group ≡ other → same_draw group other ≡ true
-same_name group other e = and_from (eqb group.node other.node) (eqb group.count other.count) (eq-eqb group.node other.node (ap (λ (d : Draw). d.node) e)) (eq-eqb group.count other.count (ap (λ (d : Draw). d.count) e))
+use Rattle.sc_base.proofs.NameLemmas.{same_name}
 
 pub asked_prepare : (group other : Draw) (b : Ballot) (from : ℕ) → group ≡ other → asked_by other (Prepare group b from) ≡ Prepared b from ∷ []
 asked_prepare group other b from e = cond-true (same_draw group other) (Prepared b from ∷ []) [] (same_name group other e)

@@ -37,9 +37,10 @@ use Rattle.sc_group_law.specs.Steps.{asked_in, promised_by}
 use Rattle.sc_group_law.proofs.Growth.{By, later_learnt}
 use Rattle.sc_group_law.proofs.Held.{Mirrors, promise_mirrors, accept_mirrors}
 use Rattle.sc_group_law.proofs.Invariant.{Steps, rule, first, birth, Grants, later_has, IsReplica, IsTrue, Fine, later_flying, grown_true, asked_push, says}
-use Rattle.sc_group_law.proofs.Sending.{same_name, name_is, fine_saw}
+use Rattle.sc_group_law.proofs.Sending.{name_is, fine_saw}
 use Rattle.sc_group_law.proofs.Executing.{hint_replica}
 use Rattle.sc_group_law.proofs.Welcoming.{installed_place}
+use Rattle.sc_base.proofs.NameLemmas.{same_name, ballot_itself}
 
 -- ---- mails that are no step
 
@@ -144,9 +145,6 @@ no_accepted group who b slot c mails e =
     let none = any_accepted group b slot mails e in
     cond_both (same_draw group group && list_any (λ (mail : Mail). is_accepted group b slot mail.body) mails) (Accepted who b slot c ∷ []) [] (λ x. x ≡ [])
     (λ t. (let no_way : true ≡ false = sym (and_parts (same_draw group group) _ t).1 ∙ none in absurd (cc))) (λ _. refl)
-
-same_itself : (b : Ballot) → same_ballot b b ≡ true
-same_itself b = and_from (eqb b.round b.round) (eqb b.node b.node) (eq-eqb b.round b.round refl) (eq-eqb b.node b.node refl)
 
 own_state : (me : ℕ) (here there : AcceptorState Command) → cond (eqb me me) here there ≡ here
 own_state me here there = cond-true (eqb me me) here there (eq-eqb me me refl)
@@ -255,7 +253,7 @@ module _ (ahead : Ahead) (base : Base) (made : Command → Type 0) (grants : Gra
         let above = leb-false from_slot r.acceptor.floor low in
         let under = k.acceptor_is.low in
         let is_promise : promised_by group me ballot from_slot answer.body ≡ s ∷ [] = cond-true (same_draw (name_of r) group && same_ballot ballot ballot) (s ∷ []) []
-        (and_from (same_draw (name_of r) group) (same_ballot ballot ballot) (same_name (name_of r) group named) (same_itself ballot)) in
+        (and_from (same_draw (name_of r) group) (same_ballot ballot ballot) (same_name (name_of r) group named) (ballot_itself ballot)) in
         acceptor_ended s ballot r mails answer (after_promise ballot r.acceptor) _ f
         (ap (λ (x : Steps). x ++ asked_in group (mails ++ answer ∷ []) before) (one_promise group me ballot from_slot mails answer replies ∙ is_promise)
         ∙ ap (λ (x : Steps). s ∷ x) (asked_push ahead base mails answer before ∙ f.are))
@@ -301,7 +299,7 @@ module _ (ahead : Ahead) (base : Base) (made : Command → Type 0) (grants : Gra
         let state = state_of (first ahead base) me h in
         let named = name_is ahead base made me before h r k in
         let is_vote : is_accepted group ballot slot vote.body ≡ true = and_from (same_draw (name_of r) group && same_ballot ballot ballot) (eqb slot slot)
-        (and_from (same_draw (name_of r) group) (same_ballot ballot ballot) (same_name (name_of r) group named) (same_itself ballot)) (eq-eqb slot slot refl) in
+        (and_from (same_draw (name_of r) group) (same_ballot ballot ballot) (same_name (name_of r) group named) (ballot_itself ballot)) (eq-eqb slot slot refl) in
         let one : accepted_in group me ballot slot c (mails ++ vote ∷ []) ≡ s ∷ [] = cond-true (same_draw group group && list_any (λ (m : Mail). is_accepted group ballot slot m.body) (mails ++ vote ∷ [])) (s ∷ []) []
         (and_from (same_draw group group) _ (same_name group group refl) (one_accepted group ballot slot mails vote replies is_vote)) in
         acceptor_ended s ballot r mails vote (after_accept report r.acceptor) _ f

@@ -14,7 +14,8 @@ use Rattle.sc_node_table.specs.Execute.{welcomed}
 use Rattle.sc_players.specs.Players.{Ahead}
 use Rattle.sc_machine_table.proofs.Parts.{group_again}
 use Rattle.sc_group_law.proofs.Invariant.{Steps, AreSets, next_after, Fine, says}
-use Rattle.sc_group_law.proofs.Sending.{same_name, name_is, prepared_all}
+use Rattle.sc_group_law.proofs.Sending.{name_is, prepared_all}
+use Rattle.sc_base.proofs.NameLemmas.{same_name}
 
 module _ (ahead : Ahead) (base : Base) (made : Command → Type 0) (me : ℕ) (before : Steps) where
   abbrev Ok : Place → Type 0

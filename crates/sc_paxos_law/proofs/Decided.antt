@@ -10,7 +10,7 @@ use Rattle.std.specs.Option.{option_map}
 use Rattle.sc_paxos_words.specs.Ballots.{below, IsAtLeast}
 use Rattle.sc_base.specs.Same.{same_ballot}
 use Rattle.sc_paxos_words.specs.declared.reports.Report.{Report}
-use Rattle.sc_paxos_words.proofs.BallotLemmas.{at_least_itself, at_least_trans, at_least_from_below, not_below_from, same_from_at_least}
+use Rattle.sc_paxos_words.proofs.BallotLemmas.{at_least_itself, at_least_trans, at_least_from_below}
 use Rattle.sc_paxos_words.proofs.ListLemmas.{Each-among, Each-weaker}
 use Rattle.sc_paxos_law.specs.Steps.{Step, Prepared, Promised, Offered, Accepted, Cut}
 use Rattle.sc_paxos_law.specs.Chosen.{Rule, needed, members_of, IsChosen, IsChosenAfter, IsLog}
@@ -19,19 +19,9 @@ use Rattle.sc_paxos_law.specs.Decided.{voters_of, lesser_of, found_in, chosen_at
 use Rattle.sc_paxos_law.proofs.Among.{shared_member, member-among, among-member, count_by-le}
 use Rattle.sc_paxos_law.proofs.History.{was_offered, one_offer}
 use Rattle.sc_paxos_law.proofs.Law.{earlier, agree_members, logs_agree, element, chosen_by, later_log, longer_log}
+use Rattle.sc_base.proofs.NameLemmas.{ballot_is, ballot_itself}
 
 -- ---- voters
-
-itself : (b : Ballot) → same_ballot b b ≡ true
-itself b = and_from (eqb b.round b.round) (eqb b.node b.node) (eq-eqb b.round b.round refl) (eq-eqb b.node b.node refl)
-
--- ballots that are told to be the same are
-pub same_is : (a b : Ballot) → same_ballot a b ≡ true → a ≡ b
-same_is a b t =
-    let parts = and_parts (eqb a.round b.round) (eqb a.node b.node) t in
-    let round = eqb-true a.round b.round parts.0 in
-    let node = eqb-true a.node b.node parts.1 in
-    same_from_at_least a b (not_below_from a b (inr (round, omega (arith, node)))) (not_below_from b a (inr (sym round, omega (arith, node))))
 
 -- each voter accepted some value
 abbrev Accepts : {V : Type 0} → List (Step V) → Ballot → ℕ → ℕ → Type 0
@@ -51,7 +41,7 @@ voters_accept {V} (Accepted n c s v ∷ h) b slot =
     elim (cases_Bool (same_ballot c b && eqb s slot)) [
       | inl t ↦ (
           let parts = and_parts (same_ballot c b) (eqb s slot) t in
-          let same = ap (λ x. Accepted n x s v) (same_is c b parts.0) ∙ ap (λ x. Accepted n b x v) (eqb-true s slot parts.1) in
+          let same = ap (λ x. Accepted n x s v) (ballot_is c b parts.0) ∙ ap (λ x. Accepted n b x v) (eqb-true s slot parts.1) in
           subst (Each (Accepts (Accepted n c s v ∷ h) b slot)) (sym (cond-true (same_ballot c b && eqb s slot) (n ∷ voters_of h b slot) (voters_of h b slot) t)) ((v, inl same), rest))
       | inr f ↦ subst (Each (Accepts (Accepted n c s v ∷ h) b slot)) (sym (cond-false (same_ballot c b && eqb s slot) (n ∷ voters_of h b slot) (voters_of h b slot) f)) rest
     ]
@@ -60,7 +50,7 @@ is_voter : {V : Type 0} (h : List (Step V)) (n : ℕ) (b : Ballot) (slot : ℕ) 
 is_voter [] n b slot v a = absurd a
 is_voter {V} (x ∷ h) n b slot v (inl e) =
     subst (λ (y : Step V). Among n (voters_of (y ∷ h) b slot)) (sym e)
-    (subst (Among n) (sym (cond-true (same_ballot b b && eqb slot slot) (n ∷ voters_of h b slot) (voters_of h b slot) (and_from (same_ballot b b) (eqb slot slot) (itself b) (eq-eqb slot slot refl)))) (inl refl))
+    (subst (Among n) (sym (cond-true (same_ballot b b && eqb slot slot) (n ∷ voters_of h b slot) (voters_of h b slot) (and_from (same_ballot b b) (eqb slot slot) (ballot_itself b) (eq-eqb slot slot refl)))) (inl refl))
 is_voter (Prepared c from ∷ h) n b slot v (inr a) = is_voter h n b slot v a
 is_voter (Promised m c from rs ∷ h) n b slot v (inr a) = is_voter h n b slot v a
 is_voter (Cut m upto ∷ h) n b slot v (inr a) = is_voter h n b slot v a
