@@ -31,7 +31,7 @@ use Rattle.sc_paxos_law.proofs.Law.{element}
 use Rattle.sc_paxos_law.proofs.Decided.{log_of-longest, front_of_log, log_grows}
 use Rattle.sc_scenario.specs.declared.scenarios.Asks.{Asks}
 use Rattle.sc_scenario.specs.declared.scenarios.Scenario.{Scenario}
-use Rattle.sc_players.specs.Players.{route_of, client_actor, Ahead, node_seat, player_table, client_seat}
+use Rattle.sc_players.specs.Players.{route_of, Ahead, node_seat, player_table, client_seat}
 use Rattle.sc_hist_law.specs.Laws.{IsDone, LeavesWhole, LogTells}
 use Rattle.sc_machine_table.specs.Logs.{state_after, done_by}
 use Rattle.sc_sound.specs.Logs.{decided_log}
@@ -47,6 +47,7 @@ use Rattle.sc_group_law.proofs.Projected.{log_only, only_steps}
 use Rattle.sc_group_law.proofs.Places.{Journal, or_now, issue-push, decided-push, answered-push, split_at, done_append, done_later, history_on}
 use Rattle.sc_group_law.proofs.Clients.{Made, made_later, made_whole, IsAnswered, IsClient, Grew}
 use Rattle.sc_actor.proofs.PendingLemmas.{get_left}
+use Rattle.sc_base.specs.Limits.{client_actor}
 
 get_front : (log more : List Command) (k : ℕ) (c : Command) → k < length log → slice_get (log ++ more) k ≡ Some c → slice_get log k ≡ Some c
 get_front log more k c lt e =

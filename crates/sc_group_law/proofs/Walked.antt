@@ -31,7 +31,7 @@ use Rattle.sc_paxos_words.proofs.ListLemmas.{Each-among, Each-weaker, find_found
 use Rattle.sc_paxos_law.proofs.Among.{Among-either, from_map, place_among}
 use Rattle.sc_scenario.specs.declared.scenarios.Asks.{Asks}
 use Rattle.sc_scenario.specs.declared.scenarios.Scenario.{Scenario}
-use Rattle.sc_players.specs.Players.{route_of, client_actor, Ahead, node_seat, births, system_of, player_table, client_seat, client_seats, Player, replies_of}
+use Rattle.sc_players.specs.Players.{route_of, Ahead, node_seat, births, system_of, player_table, client_seat, client_seats, Player, replies_of}
 use Rattle.sc_hist_law.specs.Laws.{LeavesWhole, LogTells}
 use Rattle.sc_sound.specs.Accepts.{accepts_got}
 use Rattle.sc_sound.specs.Requests.{issues, asks_for}
@@ -47,6 +47,7 @@ use Rattle.sc_group_law.proofs.Projected.{steps-push}
 use Rattle.sc_group_law.proofs.Places.{Journal}
 use Rattle.sc_group_law.proofs.Clients.{Made, made_later, made_whole, grants, issued_now, IsAsk, IsClient, Grew, later_client, client_after, client_sends}
 use Rattle.sc_group_law.proofs.Journal.{h_of, IsNodeAt, IsClientAt, replies_in, Kept, ClientMoved, push}
+use Rattle.sc_base.specs.Limits.{client_actor}
 
 number_among : (sent : List Mail) (number : ℕ) (m : Mail) → numbered sent number ≡ Some m → Among m sent
 number_among sent zero m e = cc

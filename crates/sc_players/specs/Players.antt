@@ -2,6 +2,7 @@
 use Rattle.std.specs.Prelude.{ℕ, ◌+◌, ◌≤◌, List, [], ◌∷◌, ◌++◌, length, map, All}
 use Rattle.std.proofs.Common.{lit≤}
 use Rattle.sc_base.specs.declared.ops.Reply.{Reply}
+use Rattle.sc_base.specs.Limits.{client_actor, most_clients, most_requests}
 use Rattle.sc_cmd.specs.declared.cores.Base.{Base}
 use Rattle.sc_cmd.specs.declared.links.Route.{Route}
 use Rattle.sc_cmd.specs.declared.orders.OrderLine.{OrderLine}
@@ -42,13 +43,9 @@ pub record Ahead : Type 0 where
 abbrev pub as_nodes : Ahead
 as_nodes = record { slots = slots_ahead; some = lit≤ tt }
 
--- the actor number of a client
-abbrev pub client_actor : ℕ → ℕ
-client_actor client = 32 + client
-
--- the greatest number of an actor: nodes are 1 to 32, and client C, up to 64, is 32 + C
+-- the greatest number of an actor: that of the last client
 abbrev pub most_actor : ℕ
-most_actor = 96
+most_actor = client_actor most_clients
 
 -- a node at the birth of the groups, so many slots of which are open at a time: it has a replica of each of which it is a member
 abbrev pub node_seat : Ahead → List Base → ℕ → Seat Player
@@ -69,7 +66,7 @@ client_seats (base ∷ bases) clients = map (client_seat (route_of base)) client
 
 -- no client has more requests than it may
 abbrev pub AreFew : Scenario → Type 0
-AreFew scenario = All (λ asks. length asks.ops ≤ 1000) scenario.clients
+AreFew scenario = All (λ asks. length asks.ops ≤ most_requests) scenario.clients
 
 -- the nodes and then the clients, in order of number, as they are born where so many slots are open
 abbrev pub births : Ahead → Scenario → List (Seat Player)
