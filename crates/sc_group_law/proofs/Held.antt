@@ -1,12 +1,10 @@
 -- What a replica keeps where it forgets what is old: the entries of its log after a base, and what its acceptor reports from above its floor. And the state that is sent to another.
 use Rattle.std.proofs.Common.{◌≡◌, ℕ, zero, suc, ◌+◌, ◌-◌, ◌<◌, ◌≤◌, nat_lt, nat_le, max, Bool, true, false, cond, List, [], ◌∷◌, ◌++◌, filter, drop, inl, inr, refl, sym, ◌∙◌, ap, append_assoc, arith}
 use Rattle.std.specs.Prelude.{slice_get}
-use Rattle.std.specs.FinMap.{entries}
 use Rattle.std.proofs.Math.Nat.{le-max_left, le-max_right, max-eq_left, max-eq_right, mul-div-le}
 use Rattle.std.proofs.lemmas.Bool.{cases_Bool, cases_lt, leb-true, lt-ltb, cond-true, cond-false, cond_both}
 use Rattle.std.proofs.lemmas.List.Elements.{filter-append}
 use Rattle.sc_base.specs.declared.names.Ballot.{Ballot}
-use Rattle.sc_ideal.specs.Clients.{later}
 use Rattle.sc_paxos_words.specs.declared.reports.Report.{Report}
 use Rattle.sc_paxos_words.specs.Acceptors.{AcceptorState, reports_from, with_report, after_promise, after_accept, after_cut}
 use Rattle.sc_node_table.specs.Replica.{floor_of}

@@ -197,7 +197,7 @@ module _ (ahead : Ahead) (base : Base) where
   IsTrueAnswer h to seq (Says.Value reply) = (log : List Command) × IsLog rule h log × ((client : ℕ) → to ≡ 32 + client → HasEntry (done_by birth log) client seq reply)
   IsTrueAnswer h to seq _ = Unit {0}
 
-  -- the group of a record is the state after a log up to a slot, and the sets are the members of the slots after it
+  -- the group of a record is the state after a log up to a slot, and the sets are the members of the open slots after it
   pub record IsState (made : Command → Type 0) (h : Steps) (slot : ℕ) (record_of : Base) (sets : List (List ℕ)) : Type 0 where
     pub log : List Command
     pub is_log : IsLog rule h log
@@ -205,6 +205,7 @@ module _ (ahead : Ahead) (base : Base) where
     pub group_is : group_of record_of ≡ state_after birth log
     pub all_made : Each made log
     pub sets_are : AreSets log (slot + 1) sets
+    pub many : length sets ≡ ahead.slots
 
   -- what a mail says is true of the steps
   abbrev pub IsTrue : (Command → Type 0) → Steps → Mail → MailBody → Type 0
@@ -225,7 +226,7 @@ module _ (ahead : Ahead) (base : Base) where
   -- a state that is sent is true after more steps
   pub grown_state : (made more : Command → Type 0) → ((c : Command) → made c → more c) → (newer h : Steps) (slot : ℕ) (record_of : Base) (sets : List (List ℕ)) → IsState made h slot record_of sets → IsState more (newer ++ h) slot record_of sets
   grown_state made more f newer h slot record_of sets t =
-      record { log = t.log; is_log = later_logs rule newer h t.log t.is_log; count = t.count; group_is = t.group_is; all_made = Each-weaker made more f t.log t.all_made; sets_are = t.sets_are }
+      record { log = t.log; is_log = later_logs rule newer h t.log t.is_log; count = t.count; group_is = t.group_is; all_made = Each-weaker made more f t.log t.all_made; sets_are = t.sets_are; many = t.many }
 
   -- what a mail says is true after more steps
   pub grown_true : (made more : Command → Type 0) → ((c : Command) → made c → more c) → (newer h : Steps) (mail : Mail) (body : MailBody) → IsTrue made h mail body → IsTrue more (newer ++ h) mail body

@@ -2,7 +2,7 @@
 use Rattle.std.proofs.Common.{refl, lit≤}
 use Rattle.sc_actor.specs.System.{no_words}
 use Rattle.sc_node_table.specs.Election.{elected, ended, saw}
-use Rattle.sc_node_table.specs.Execute.{entered, told_call, told_effect, told, learnt_to, welcomed, landed, left, looked, executed_one, executed_ready, executed}
+use Rattle.sc_node_table.specs.Execute.{entered, told_call, told_effect, announced, learnt_to, welcomed, landed, left, looked, executed_one, executed_ready, executed}
 use Rattle.sc_node_table.specs.Install.{install_to, welcomed_all, jumped}
 use Rattle.sc_node_table.specs.Mails.{sent_all, sent_others, told_order}
 use Rattle.sc_node_table.specs.Pump.{next_call, from_calls, from_queues, found_for, offered, pumped_from, pumped}
@@ -21,6 +21,6 @@ has_one_group = record { groups = refl; roster = one_member; pairs = refl; clien
 
 -- the example is lawful
 pub join_is_lawful : Lawful four no_words join_scenario join_example
-unfolding elected ended entered told_call told_effect told learnt_to welcomed landed left looked executed_one executed_ready executed install_to welcomed_all jumped sent_all sent_others told_order
+unfolding elected ended entered told_call told_effect announced learnt_to welcomed landed left looked executed_one executed_ready executed install_to welcomed_all jumped sent_all sent_others told_order
     next_call from_calls from_queues found_for offered pumped_from pumped forgotten looked_up made_by order_row mailed readied took accept_row accepted_row saw
 join_is_lawful = (refl, (refl, (refl, (refl, tt))))

@@ -142,7 +142,7 @@ module _ (ahead : Ahead) (scenario : Scenario) (base : Base) where
     pub clients : (asks : Asks) → Among asks scenario.clients → ClientMoved newer rows row asks
 
   node_made : (made more : Command → Type 0) → ((c : Command) → made c → more c) → (h : Steps) (me : ℕ) (node : NodeState) → IsNode ahead base made h me node → IsNode ahead base more h me node
-  node_made made more f h me node at = record { me_is = at.me_is; ahead_is = at.ahead_is; holds = later at.holds }
+  node_made made more f h me node at = record { me_is = at.me_is; holds = later at.holds }
     where
       later : Holds ahead base made h me node.replicas → Holds ahead base more h me node.replicas
       later (inl none) = inl none

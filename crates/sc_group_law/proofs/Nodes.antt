@@ -1,7 +1,7 @@
 -- What holds of a node, and what comes of its inputs.
 use Rattle.std.proofs.Common.{◌≡◌, ℕ, ◌&&◌, ◌||◌, not, nat_lt, true, false, eqb, List, [], ◌∷◌, ◌++◌, length, Option, Some, None, ◌⊎◌, inl, inr, refl, sym, ◌∙◌, ap, subst, append-nil}
 use Rattle.std.specs.List.{list_any}
-use Rattle.std.proofs.lemmas.Bool.{eqb-true, and_right, or_parts, not-false, cond-true, cond-false, cond_both}
+use Rattle.std.proofs.lemmas.Bool.{eqb-true, and_right, cond-true, cond-false, cond_both}
 use Rattle.sc_base.specs.declared.names.Ballot.{Ballot}
 use Rattle.sc_base.specs.declared.names.Draw.{Draw}
 use Rattle.sc_base.specs.Same.{same_draw}
@@ -20,6 +20,7 @@ use Rattle.sc_paxos_words.specs.Among.{Among, Each}
 use Rattle.sc_paxos_law.specs.Steps.{Offered, Accepted}
 use Rattle.sc_paxos_law.specs.Lawful.{IsLawful}
 use Rattle.sc_node_table.specs.Node.{NodeState, replica_of, with_replica, with_new, group_in, absent, with_made, unknown, may_come, taken_by, routed, on_mail, group_of_order, ordered_of, on_order, ticked, on_tick}
+use Rattle.sc_node_table.specs.Slots.{slots_ahead}
 use Rattle.sc_node_table.specs.Mails.{told_desk}
 use Rattle.sc_node_table.specs.Replica.{ReplicaState, Place, name_of, last_slot}
 use Rattle.sc_node_table.specs.Voting.{prepare_row}
@@ -101,7 +102,6 @@ module _ (ahead : Ahead) (base : Base) (made : Command → Type 0) where
   -- a node as the steps say: a replica of the group, or none and no step
   pub record IsNode (h : Steps) (me : ℕ) (node : NodeState) : Type 0 where
     pub me_is : node.me ≡ me
-    pub ahead_is : node.ahead ≡ ahead.slots
     pub holds : Holds h me node.replicas
 
   -- the end of a node's row
@@ -182,7 +182,7 @@ module _ (ahead : Ahead) (base : Base) (made : Command → Type 0) where
       by = e.by;
       lawful = e.lawful;
       requested = e.requested;
-      node = record { me_is = k.me_is; ahead_is = k.ahead_is; holds = inr (place.0, ap (with_replica g place.0) is ∙ with_it g place.0 r t, e.replica) };
+      node = record { me_is = k.me_is; holds = inr (place.0, ap (with_replica g place.0) is ∙ with_it g place.0 r t, e.replica) };
       mails = e.mails;
     }
 
@@ -193,29 +193,27 @@ module _ (ahead : Ahead) (base : Base) (made : Command → Type 0) where
     Goal event body step = NodeEnded me before (steps_of group me event body step.1 before) step
 
     -- a node without a replica of the group makes one of the state that it is sent
-    made_ended : (event : Event OrderLine) (mail : Mail) (g : Draw) (slot : ℕ) (state : Base) (sets : List (List ℕ)) (node : NodeState) → IsNode before me node → node.replicas ≡ [] → IsFresh me before → length sets ≡ node.ahead
-        → IsState ahead base made before slot state sets → Goal event (Install g slot state sets) (with_made (made_by node.me mail.from slot state sets) node)
-    made_ended event mail g slot state sets node k none fresh many t =
-        let f = made_place ahead base made grants me before some law node.me mail.from slot state sets k.me_is fresh lawful requested (many ∙ k.ahead_is) t in
-        let place = made_by node.me mail.from slot state sets in
+    made_ended : (event : Event OrderLine) (mail : Mail) (g : Draw) (slot : ℕ) (state : Base) (sets : List (List ℕ)) (node : NodeState) → IsNode before me node → node.replicas ≡ [] → IsFresh me before → g ≡ group
+        → IsState ahead base made before slot state sets → Goal event (Install g slot state sets) (with_made (made_by node.me mail.from g slot state sets) node)
+    made_ended event mail g slot state sets node k none fresh into t =
+        let f = made_place ahead base made grants me before some law node.me mail.from g slot state sets k.me_is into fresh lawful requested t in
+        let place = made_by node.me mail.from g slot state sets in
         record {
           newer = f.newer;
           are = f.are;
           by = f.by;
           lawful = f.lawful;
           requested = f.requested;
-          node = record { me_is = k.me_is; ahead_is = k.ahead_is; holds = inr (place.0, ap (with_new place.0) none, f.replica) };
+          node = record { me_is = k.me_is; holds = inr (place.0, ap (with_new place.0) none, f.replica) };
           mails = f.mails;
         }
 
     unknown_ended : (event : Event OrderLine) (mail : Mail) (body : MailBody) (node : NodeState) → IsNode before me node → node.replicas ≡ [] → IsFresh me before → IsTrue ahead base made before mail body
         → Goal event body (unknown mail.from body node)
     unknown_ended event mail (Install g slot state sets) node k none fresh t =
-        cond_both (not (eqb (length sets) node.ahead) || nat_lt last_slot slot) _ _ (Goal event (Install g slot state sets))
+        cond_both (not (eqb (length sets) slots_ahead) || nat_lt last_slot slot) _ _ (Goal event (Install g slot state sets))
         (λ _. unchanged event (Install g slot state sets) node [] k tt (λ m a. absurd a))
-        (λ e. (
-        let parts = or_parts (not (eqb (length sets) node.ahead)) (nat_lt last_slot slot) e in
-        made_ended event mail g slot state sets node k none fresh (eqb-true (length sets) node.ahead (not-false (eqb (length sets) node.ahead) parts.0)) t.1))
+        (λ _. made_ended event mail g slot state sets node k none fresh (draw_is g group t.0) t.1)
     unknown_ended event mail body node k none fresh t = absent_ended event mail body node k
 
     -- no state of another group is sent
@@ -257,11 +255,11 @@ module _ (ahead : Ahead) (base : Base) (made : Command → Type 0) where
     unfolding ticked
     tick_all node at rs (inl (none, fresh)) =
         subst (λ xs. Ticked (record node { replicas = (ticked xs []).0 }, (ticked xs []).1)) (sym none)
-        (record { newer = []; are = refl; by = tt; lawful = lawful; requested = requested; node = record { me_is = at.me_is; ahead_is = at.ahead_is; holds = inl (refl, fresh) }; mails = λ m a. absurd a })
+        (record { newer = []; are = refl; by = tt; lawful = lawful; requested = requested; node = record { me_is = at.me_is; holds = inl (refl, fresh) }; mails = λ m a. absurd a })
     tick_all node at rs (inr (r, is, k)) =
         subst (λ xs. Ticked (record node { replicas = (ticked xs []).0 }, (ticked xs []).1)) (sym is)
         (let f = fine_tick_row ahead base made grants me before some law r [] (start r k) in
-        record { newer = f.newer; are = f.are; by = f.by; lawful = f.lawful; requested = f.requested; node = record { me_is = at.me_is; ahead_is = at.ahead_is; holds = inr ((tick_row (r, [])).0, refl, f.replica) }; mails = f.mails })
+        record { newer = f.newer; are = f.are; by = f.by; lawful = f.lawful; requested = f.requested; node = record { me_is = at.me_is; holds = inr ((tick_row (r, [])).0, refl, f.replica) }; mails = f.mails })
 
     -- the end of a tick
     pub tick_ended : (node : NodeState) → IsNode before me node → Ticked (on_tick node)
@@ -301,7 +299,7 @@ module _ (ahead : Ahead) (base : Base) (made : Command → Type 0) where
               by = f.by;
               lawful = f.lawful;
               requested = f.requested;
-              node = record { me_is = at.me_is; ahead_is = at.ahead_is; holds = inr (after, ap (with_replica (group_of_order line.order) after) is ∙ with_it (group_of_order line.order) after r e, f.replica) };
+              node = record { me_is = at.me_is; holds = inr (after, ap (with_replica (group_of_order line.order) after) is ∙ with_it (group_of_order line.order) after r e, f.replica) };
               mails = f.mails;
             }))
             (λ _. desk_ended line.number (Refused (NotLeader None)) node at))

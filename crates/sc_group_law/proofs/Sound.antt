@@ -148,11 +148,10 @@ module _ (ahead : Ahead) (words : ℕ → ℕ → ℕ × ℕ) (scenario : Scenar
     requested = λ b slot c a. absurd a;
     true_mail = λ m a. absurd a;
     nodes = λ n low high. record {
-      node = record { me = n; ahead = ahead.slots; replicas = map (λ b. born_replica ahead.slots n b) (filter (λ b. is_member b.core.members n) (base ∷ [])) };
+      node = record { me = n; replicas = map (λ b. born_replica ahead.slots n b) (filter (λ b. is_member b.core.members n) (base ∷ [])) };
       value_is = refl;
       is = record {
         me_is = refl;
-        ahead_is = refl;
         holds = cond_both (is_member base.core.members n) (base ∷ []) []
             (λ bs. Holds ahead base (Made scenario []) [] n (map (λ b. born_replica ahead.slots n b) bs))
             (λ _. inr (born_replica ahead.slots n base, refl, born_replica_is n)) (λ _. inl (refl, tt));

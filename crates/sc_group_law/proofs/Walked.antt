@@ -99,7 +99,7 @@ module _ (ahead : Ahead) (words : ℕ → ℕ → ℕ × ℕ) (scenario : Scenar
   own_value seat rows row e = value-snoc player_table seat rows row ∙ cond-true (eqb row.who seat.who) _ _ (eq-eqb row.who seat.who e)
 
   node_still : (newer : Steps) (who : ℕ) (h : Steps) (made : Command → Type 0) (n : ℕ) (node : NodeState) → Each (By who) newer → (who ≡ n → ⊥) → IsNode ahead base made h n node → IsNode ahead base made (newer ++ h) n node
-  node_still newer who h made n node by ne at = record { me_is = at.me_is; ahead_is = at.ahead_is; holds = still at.holds }
+  node_still newer who h made n node by ne at = record { me_is = at.me_is; holds = still at.holds }
     where
       still : Holds ahead base made h n node.replicas → Holds ahead base made (newer ++ h) n node.replicas
       still (inl (none, fresh)) = inl (none, fresh_on n who newer h by ne fresh)

@@ -38,6 +38,7 @@ module _ (ahead : Ahead) (base : Base) (made : Command → Type 0) (me : ℕ) (b
           group_is = group_again r.group ∙ k.log_is.group_is;
           all_made = k.log_is.all_made;
           sets_are = subst (λ n. AreSets ahead base k.whole (n + 1) r.sets) last k.sets;
+          many = k.count;
         },
       )
 

@@ -1,122 +1,18 @@
 //! What a replica answers of slots that it has forgotten, and a replica that is made of a state.
-ghost use Rattle.std.specs.Prelude.{◌≡◌, ◌≤◌, IfOk, length, true};
+ghost use Rattle.std.specs.Prelude.{◌≡◌, IfOk, length, true};
+ghost use Rattle.sc_node_table.specs.Slots.{slots_ahead};
 ghost use Rattle.sc_node_table.specs.Node.{may_come};
 
-use super::*;
-use sc_base::{Ballot, Draw, Dup, Key, Op, OutOfMemory, Pairs, RingArc, SeenList, Sequence};
-use sc_cmd::{Base, Command, Core, Link, Lock, MemberSets};
+use crate::samples::{Brief, GROUP, accept, accepted, all_in_brief, get, group, request};
+use sc_base::{Ballot, Dup, Op, OutOfMemory, Sequence};
+use sc_cmd::{Base, MemberSets};
 use sc_mail::{Mail, MailBody};
 use sc_member::Members;
+use sc_replica::Replica;
 use std::alloc::Global;
 use std::test::Fail;
 
-const GROUP: Draw = Draw { node: 0, count: 1 };
-
-const FIRST: Ballot = Ballot { round: 1, node: 1 };
-
 const SECOND: Ballot = Ballot { round: 2, node: 2 };
-
-fn link(members: &Members) -> Link {
-    Link {
-        group: GROUP,
-        members: *members,
-    }
-}
-
-// A group of one node that holds the whole ring, whose first leader is node 1.
-fn core(alloc: Global, arc: RingArc, members: &Members) -> Core {
-    Core {
-        id: GROUP,
-        first: 1,
-        arc,
-        members: *members,
-        succ: link(members),
-        pred: link(members),
-        lock: Lock::Free,
-        begun: 0,
-        decided: Sequence::new(alloc),
-        voted: Sequence::new(alloc),
-        born: Sequence::new(alloc),
-        gone: None,
-    }
-}
-
-fn group(alloc: Global, node: u16) -> Result<Base, Fail>
-    requires least { 1 ≤ node }
-    requires most { node ≤ 32 }
-{
-    let arc = RingArc::try_new(0, 0x1_0000_0000)?;
-    Ok(Base {
-        core: core(alloc, arc, &Members::one(node)),
-        pairs: Pairs::new(alloc),
-        clients: SeenList::new(alloc),
-    })
-}
-
-// What a mail is, and its slot, or how many reports it has.
-#[derive(Clone, Copy, Debug, PartialEq)]
-enum Brief {
-    Install(u32),
-    Learn(u32),
-    Prepare(u32),
-    Promise(usize),
-    Other,
-}
-
-fn in_brief(body: &MailBody) -> Brief {
-    match body {
-        MailBody::Install { slot, .. } => Brief::Install(*slot),
-        MailBody::Learn { slot, .. } => Brief::Learn(*slot),
-        MailBody::Prepare { from_slot, .. } => Brief::Prepare(*from_slot),
-        MailBody::Promise { reports, .. } => Brief::Promise(reports.len()),
-        _ => Brief::Other,
-    }
-}
-
-fn all_in_brief(alloc: Global, sent: &[Mail]) -> Result<Vec<Brief>, OutOfMemory> {
-    let mut briefs = Vec::new(alloc);
-    for mail in sent {
-        briefs.push(in_brief(&mail.body))?;
-    }
-    Ok(briefs)
-}
-
-// An operation as the request of client 1 with a number.
-fn request(seq: u32, op: Op) -> MailBody
-    ensures { may_come 33 result ≡ true }
-{
-    MailBody::Request {
-        group: GROUP,
-        client: 1,
-        seq,
-        op,
-    }
-}
-
-fn accept(slot: u32, op: Op) -> MailBody
-    ensures { may_come 1 result ≡ true }
-{
-    MailBody::Accept {
-        group: GROUP,
-        ballot: FIRST,
-        slot,
-        command: Command::Call {
-            client: 1,
-            seq: slot,
-            op,
-        },
-    }
-}
-
-fn accepted(slot: u32) -> MailBody
-    ensures { may_come 1 result ≡ true }
-{
-    MailBody::Accepted {
-        group: GROUP,
-        ballot: FIRST,
-        slot,
-    }
-}
 
 // What node 2 wants, from a slot on.
 #[derive(Clone, Copy)]
@@ -200,12 +96,6 @@ fn told_by_born(
     told_late(alloc, &mut replica, op, wanted)
 }
 
-fn get(alloc: Global) -> Result<Op, Fail> {
-    Ok(Op::Get {
-        key: Key::try_new(alloc, b"a")?,
-    })
-}
-
 // What a replica of the only member that executed 128 calls tells node 2.
 fn told_after_128(alloc: Global, wanted: Wanted) -> Result<Vec<Brief>, Fail> {
     let op = get(alloc)?;
@@ -241,7 +131,7 @@ fn a_kept_slot_is_promised_with_the_reports_that_are_kept(rt: HostRuntime) -> Re
 
 // The members of the four open slots.
 fn four(alloc: Global, members: Members) -> Result<MemberSets, OutOfMemory>
-    ensures { IfOk result (λ sets. length sets ≡ 4) }
+    ensures { IfOk result (λ sets. length sets ≡ slots_ahead) }
 {
     let mut sets = Sequence::new(alloc);
     sets.push(members)?;
@@ -251,11 +141,12 @@ fn four(alloc: Global, members: Members) -> Result<MemberSets, OutOfMemory>
     Ok(sets)
 }
 
-// What a replica of the only member, node 2, sends first that is made of the state after slot 70, as node 1 sent it.
+// What a replica of the only member, node 2, sends first that is made of the state after slot 70,
+// as node 1 sent it.
 fn sent_first(alloc: Global, base: &Base, sets: &MemberSets) -> Result<Vec<Brief>, OutOfMemory>
-    requires { length sets.now ≡ 4 }
+    requires { length sets.now ≡ slots_ahead }
 {
-    let (_replica, sent) = Replica::installed(alloc, 2, 1, 70, base, sets)?;
+    let (_replica, sent) = Replica::installed(alloc, 2, 1, GROUP, 70, base, sets)?;
     all_in_brief(alloc, sent.as_slice())
 }
 
@@ -266,9 +157,9 @@ fn told_then(
     sets: &MemberSets,
     wanted: Wanted,
 ) -> Result<Vec<Brief>, OutOfMemory>
-    requires { length sets.now ≡ 4 }
+    requires { length sets.now ≡ slots_ahead }
 {
-    let (mut replica, _sent) = Replica::installed(alloc, 2, 1, 70, base, sets)?;
+    let (mut replica, _sent) = Replica::installed(alloc, 2, 1, GROUP, 70, base, sets)?;
     told(alloc, &mut replica, wanted)
 }
 
