@@ -23,15 +23,14 @@ use Rattle.sc_paxos_words.specs.Among.{Among}
 use Rattle.sc_paxos_law.specs.Chosen.{IsLog}
 use Rattle.sc_scenario.specs.declared.scenarios.Asks.{Asks}
 use Rattle.sc_scenario.specs.declared.scenarios.Scenario.{Scenario}
-use Rattle.sc_sound.specs.Laws.{HasEntry}
-use Rattle.sc_sound.specs.Logs.{Ahead}
-use Rattle.sc_sound.specs.Histories.{done_by}
+use Rattle.sc_hist_law.specs.Laws.{HasEntry, LeavesWhole}
+use Rattle.sc_players.specs.Players.{Ahead}
+use Rattle.sc_machine_table.specs.Logs.{done_by}
 use Rattle.sc_sound.specs.Requests.{issues, issued_from, issue_row}
-use Rattle.sc_group_law.proofs.Lists.{get_pushed}
-use Rattle.sc_group_law.proofs.Growth.{grown_log}
-use Rattle.sc_hist_law.specs.Laws.{LeavesWhole}
 use Rattle.sc_group_law.proofs.Invariant.{Steps, rule, birth, Grants, IsTrue, IsTrueAnswer}
 use Rattle.sc_group_law.proofs.Places.{Journal, or_now, issue-push}
+use Rattle.sc_paxos_law.proofs.Among.{get_pushed}
+use Rattle.sc_paxos_law.proofs.Decided.{later_logs}
 
 -- ---- requests
 
@@ -74,9 +73,11 @@ pub made_whole : (scenario : Scenario) (rows : Journal) (c : Command) → Made s
 made_whole scenario rows (Split at child order) m = m
 made_whole scenario rows _ m = tt
 
+-- what replicas make themselves counts as made
 pub grants : (ahead : Ahead) (base : Base) (scenario : Scenario) (rows : Journal) → Grants ahead base (Made scenario rows)
 grants ahead base scenario rows = record { noop = tt; joins = λ node order. tt; leaves = λ node order. tt }
 
+-- what was made stays made with one more row
 pub made_later : (scenario : Scenario) (rows : Journal) (row : Row Mail OrderLine) (c : Command) → Made scenario rows c → Made scenario (rows ++ row ∷ []) c
 made_later scenario rows row (Call client seq op) m = issued_later scenario rows row client seq op m
 made_later scenario rows row _ m = m
@@ -155,18 +156,20 @@ module _ (ahead : Ahead) (base : Base) where
   abbrev pub IsAnswered : Steps → ℕ → ℕ → Reply → Type 0
   IsAnswered h client seq reply = (log : List Command) × IsLog (rule ahead base) h log × HasEntry (done_by (birth ahead base) log) client seq reply
 
+  -- a client as the steps say: its requests, and replies that the logs tell
   pub record IsClient (h : Steps) (asks : Asks) (client : Client) : Type 0 where
     pub me : client.me ≡ asks.client
     pub requests : client.requests ≡ asks.ops
     pub waits : IsNextOf client.waiting (length client.replies)
     pub replies : (k : ℕ) (reply : Reply) → slice_get client.replies k ≡ Some reply → IsAnswered h asks.client (k + 1) reply
 
+  -- a client stays as the steps say after more of them
   pub later_client : (newer h : Steps) (asks : Asks) (client : Client) → IsClient h asks client → IsClient (newer ++ h) asks client
   later_client newer h asks client c = record {
     me = c.me;
     requests = c.requests;
     waits = c.waits;
-    replies = λ k reply e. (let a = c.replies k reply e in (a.0, grown_log (rule ahead base) newer h a.0 a.1, a.2));
+    replies = λ k reply e. (let a = c.replies k reply e in (a.0, later_logs (rule ahead base) newer h a.0 a.1, a.2));
   }
 
   -- what became of the replies
@@ -216,6 +219,7 @@ module _ (ahead : Ahead) (base : Base) where
           inr (s.reply, s.replies, answer),
         )
 
+    -- after a client's row it is as the steps say, and its replies stay or are one more
     pub client_after : IsClient h asks after × Grew h asks client.replies after.replies
     client_after = elim turn.moves [ inl s ↦ waited s | inr (inl s) ↦ begun s | inr (inr s) ↦ took s ]
 

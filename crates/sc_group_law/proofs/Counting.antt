@@ -26,20 +26,14 @@ use Rattle.sc_node_table.specs.Replica.{ReplicaState, Place, next, set_at}
 use Rattle.sc_node_table.specs.Execute.{has_room}
 use Rattle.sc_node_table.specs.Voting.{leads, promise_row, readied, tallied, voted, accepted_row}
 use Rattle.sc_hist_law.specs.Laws.{LogTells}
-use Rattle.sc_sound.specs.Logs.{Ahead}
-use Rattle.sc_group_law.proofs.Lists.{map-push}
+use Rattle.sc_players.specs.Players.{Ahead}
 use Rattle.sc_group_law.proofs.Growth.{IsLearnt}
 use Rattle.sc_group_law.proofs.Invariant.{Steps, rule, first, birth, IsFlying, IsTaken, Grants, IsReplica, next_after, Fine, turn}
 use Rattle.sc_group_law.proofs.Parts.{among_without_flight, Each-without_flight}
-use Rattle.sc_group_law.proofs.Executing.{pumps, fine_executed}
-
-made_equal : (r n s m : ℕ) → r ≡ s → n ≡ m → (let a : Ballot = record { round = r; node = n } in a) ≡ record { round = s; node = m }
-made_equal r n s m e f = ap (λ x. (let a : Ballot = record { round = x; node = n } in a)) e ∙ ap (λ x. (let a : Ballot = record { round = s; node = x } in a)) f
-
-pub ballot_is : (a b : Ballot) → same_ballot a b ≡ true → a ≡ b
-ballot_is a b t =
-    let parts = and_parts (eqb a.round b.round) (eqb a.node b.node) t in
-    made_equal a.round a.node b.round b.node (eqb-true a.round b.round parts.0) (eqb-true a.node b.node parts.1)
+use Rattle.sc_group_law.proofs.Executing.{fine_executed}
+use Rattle.std.proofs.lemmas.List.{map-append}
+use Rattle.sc_group_law.proofs.Offering.{fine_pumped}
+use Rattle.sc_base.proofs.NameLemmas.{ballot_is}
 
 reports_push : (votes : List (Vote Command)) (vote : Vote Command) → flat_map (λ (v : Vote Command). v.reports) (votes ++ vote ∷ []) ≡ flat_map (λ (v : Vote Command). v.reports) votes ++ vote.reports
 reports_push [] vote = append-nil vote.reports
@@ -128,7 +122,7 @@ module _ (ahead : Ahead) (base : Base) (made : Command → Type 0) (grants : Gra
           low = l.low;
           first_is = l.first_is;
           votes = l.votes ++ vote ∷ [];
-          promisers = ap (λ ns. ns ++ from ∷ []) l.promisers ∙ sym (map-push (λ (v : Vote Command). v.node) l.votes (vote ∷ []));
+          promisers = ap (λ ns. ns ++ from ∷ []) l.promisers ∙ sym (map-append (λ (v : Vote Command). v.node) l.votes (vote ∷ []));
           reports = ap (λ rs. rs ++ reports) l.reports ∙ sym (reports_push l.votes vote);
           made = Each-append _ l.votes (vote ∷ []) l.made
               ((subst (λ b. Among (Promised from b start reports) h) same promised, k.prepares ballot start asked (ap (λ (b : Ballot). b.node) same ∙ l.own)), tt);
@@ -136,6 +130,7 @@ module _ (ahead : Ahead) (base : Base) (made : Command → Type 0) (grants : Gra
         };
       }
 
+  -- the row of a Promise keeps what holds
   pub fine_promise_row : (from : ℕ) (ballot : Ballot) (reports : List (Report Command)) (start : ℕ) (r : ReplicaState) (mails : List Mail) → (f : Ok (r, mails))
       → Among (Promised from ballot start reports) (f.newer ++ before) → Among (Prepared ballot start) (f.newer ++ before) → Ok (promise_row from ballot reports (r, mails))
   unfolding promise_row
@@ -146,7 +141,7 @@ module _ (ahead : Ahead) (base : Base) (made : Command → Type 0) (grants : Gra
       let after = cond_both (same_ballot ballot r.leader.ballot && not (is_member r.leader.promisers from)) _ _
       (λ (x : Bool × LeaderState Command). Replica (f.newer ++ before) (record r { leader = x.1 }))
       (λ _. voter_replica (f.newer ++ before) from ballot reports start r f.replica parts.0 (ballot_is ballot r.leader.ballot parts.1) promised asked) (λ _. f.replica) in
-      pumps ahead base made grants me before some law _ (turn ahead base made me before r (record r { leader = (promise_counted from ballot reports r.leader).1 }) mails f after)))
+      fine_pumped ahead base made grants me before some _ (turn ahead base made me before r (record r { leader = (promise_counted from ballot reports r.leader).1 }) mails f after)))
       (λ _. f)
 
   -- ---- a vote
@@ -288,6 +283,7 @@ module _ (ahead : Ahead) (base : Base) (made : Command → Type 0) (grants : Gra
       let same : length k.whole + 1 + (slot - next r) ≡ slot = omega (arith, up, at) in
       subst (λ m. (set ≡ members_of (rule ahead base) k.whole m) × (needed (rule ahead base) m ≤ length k.whole)) same (k.sets (slot - next r) set x))) e
 
+  -- the row of an Accepted keeps what holds
   pub fine_accepted_row : (from : ℕ) (ballot : Ballot) (slot : ℕ) (d : Command) (r : ReplicaState) (mails : List Mail) → (f : Ok (r, mails)) → Among (Accepted from ballot slot d) (f.newer ++ before)
       → Ok (accepted_row from ballot slot (r, mails))
   unfolding accepted_row

@@ -14,11 +14,11 @@ use Rattle.sc_paxos_law.proofs.Law.{longer_log}
 use Rattle.sc_node_table.specs.Slots.{rest_of}
 use Rattle.sc_node_table.specs.Replica.{ReplicaState, next, floor_of, forgotten, waits_in}
 use Rattle.sc_node_table.specs.Execute.{with_entry, entered}
-use Rattle.sc_sound.specs.Logs.{Ahead}
-use Rattle.sc_group_law.proofs.Lists.{get_pushed}
+use Rattle.sc_players.specs.Players.{Ahead}
 use Rattle.sc_group_law.proofs.Held.{floor_low}
 use Rattle.sc_group_law.proofs.Invariant.{Steps, rule, AreSets, HasLog, next_is, pushed_has, cut_has, IsReplica, next_after, forgotten_replica}
 use Rattle.sc_group_law.proofs.Parts.{rest_length, rest_count, rest_get}
+use Rattle.sc_paxos_law.proofs.Among.{get_pushed}
 
 with_entry-is : (c : Command) (log : LogState Command) → with_entry c log ≡ record log { entries = log.entries ++ c ∷ [] }
 with_entry-is c log =
@@ -104,6 +104,7 @@ module _ (ahead : Ahead) (base : Base) (made : Command → Type 0) (me : ℕ) wh
   unfolding entered
   entered_is c r = ap (λ l. forgotten (next r) (record r { group = (applied r.group c).0; log = l; sets = rest_of r.sets ++ (applied r.group c).0.core.members ∷ []; waits = waits_in (applied r.group c).0.core.lock r.waits })) (with_entry-is c r.log)
 
+  -- a replica that has executed a chosen command is as the steps say
   pub entered_replica : (h : Steps) (c : Command) (r : ReplicaState) (k : Replica h r) → made c → IsChosenAfter (rule ahead base) h k.whole (length k.whole + 1) c → Replica h (entered c r)
   entered_replica h c r k m chosen = subst (Replica h) (sym (entered_is c r)) (entered_to h c (waits_in (applied r.group c).0.core.lock r.waits) r k m chosen)
 
@@ -120,6 +121,7 @@ module _ (ahead : Ahead) (base : Base) (made : Command → Type 0) (me : ℕ) wh
       let same : next (entered c r) ≡ length (k.whole ++ c ∷ []) + 1 = ap (λ (s : ReplicaState). next s) (entered_is c r) ∙ after in
       omega (arith, same, at, longer)
 
+  -- to execute stops nobody
   pub entered_runs : (c : Command) (r : ReplicaState) → (entered c r).running ≡ r.running
   unfolding forgotten
   entered_runs c r = ap (λ (s : ReplicaState). s.running) (entered_is c r)

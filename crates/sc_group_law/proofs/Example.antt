@@ -16,7 +16,8 @@ use Rattle.sc_node_table.specs.Pump.{next_call, from_calls, from_queues, found_f
 use Rattle.sc_node_table.specs.Rows.{queued, requested, request_row, tick_row, mailed}
 use Rattle.sc_node_table.specs.Voting.{promised, prepare_row, took, accept_row, promise_row}
 use Rattle.sc_sound.specs.Example.{four}
-use Rattle.sc_group_law.specs.Players.{HasOneGroup, Lawful}
+use Rattle.sc_group_law.specs.OneGroup.{HasOneGroup}
+use Rattle.sc_players.specs.Players.{Lawful}
 use Rattle.sc_group_law.specs.Example.{three_nodes, example_scenario, example}
 
 -- the first of clients that rise is below each later one
@@ -45,6 +46,7 @@ each_of : {X : Type 0} (P : X → Type 0) (xs : List X) → All P xs → Each P 
 each_of P [] all = tt
 each_of P (x ∷ xs) all = (all 0 x (omega arith), each_of P xs (λ k d lt. all (suc k) d (omega (arith, lt))))
 
+-- each valid scenario has one group
 pub valid_one_group : TextsAreEarly → ValidHaveOneGroup
 valid_one_group early scenario valid =
     let is = early scenario valid in (
@@ -65,6 +67,7 @@ once one other (inl e) (inl f) same = sym e ∙ f
 once one other (inl e) (inr n) same = absurd n
 once one other (inr n) b same = absurd n
 
+-- one node is a roster
 pub one_member : IsRoster (1 ∷ [])
 one_member = record { some = lit≤ tt; most = lit≤ tt; ascending = λ k within. absurd (omega (arith, within)) }
 
@@ -74,9 +77,11 @@ pair = roster_with (1 ∷ []) 2 one_member refl (lit≤ tt)
 trio : IsRoster (1 ∷ 2 ∷ 3 ∷ [])
 trio = roster_with (1 ∷ 2 ∷ []) 3 pair refl (lit≤ tt)
 
+-- the example's scenario has one group
 pub one_group : HasOneGroup example_scenario three_nodes
 one_group = record { groups = refl; roster = trio; pairs = refl; clients = refl; nodes = lit≤ tt; numbered = (lit≤ tt, tt); once = once }
 
+-- the example is lawful
 pub example_is_lawful : Lawful four no_words example_scenario example
 unfolding nodes_to elected ended saw sent_all ticked next_call from_calls from_queues found_for offered pumped_from pumped queued requested request_row tick_row mailed promised prepare_row took accept_row promise_row
 example_is_lawful = (refl, (refl, (refl, (refl, (refl, (refl, (refl, (refl, (refl, tt)))))))))

@@ -27,13 +27,13 @@ use Rattle.sc_paxos_law.proofs.Law.{earlier}
 use Rattle.sc_node_table.specs.Slots.{at_slot, without_slot}
 use Rattle.sc_node_table.specs.Replica.{ReplicaState, Place, name_of, next, members, flying}
 use Rattle.sc_node_table.specs.Mails.{sent, order_in, told_order}
-use Rattle.sc_node_table.specs.Queues.{call_of, without_call, call_before, put_back, same_command}
-use Rattle.sc_node_table.specs.Execute.{entered, answer_of, told_call, result_of, told_effect, told, learnt_to, lost, landed, left_gone, left, is_among, looked_for, looked, executed_one, has_room, next_ready, executed_ready, executed}
+use Rattle.sc_node_table.specs.Queues.{call_of, without_call, call_before, put_back}
+use Rattle.sc_node_table.specs.Sameness.{same_command}
+use Rattle.sc_node_table.specs.Execute.{entered, answer_of, told_call, result_of, told_effect, announced, learnt_to, lost, landed, left_gone, left, is_among, looked_for, looked, executed_one, has_room, next_ready, executed_ready, executed}
 use Rattle.sc_node_table.specs.Pump.{pumped}
-use Rattle.sc_hist_law.specs.Laws.{IsReplied, LogTells}
-use Rattle.sc_sound.specs.Laws.{HasEntry}
-use Rattle.sc_sound.specs.Logs.{Ahead}
-use Rattle.sc_sound.specs.Histories.{done_by}
+use Rattle.sc_hist_law.specs.Laws.{IsReplied, LogTells, HasEntry}
+use Rattle.sc_players.specs.Players.{Ahead}
+use Rattle.sc_machine_table.specs.Logs.{done_by}
 use Rattle.sc_group_law.proofs.Growth.{IsLearnt, by_own_log, learnt_offered}
 use Rattle.sc_group_law.proofs.Invariant.{Steps, rule, first, birth, Grants, IsTaken, IsReplica, next_after, IsTrueAnswer, Fine, turn, says}
 use Rattle.sc_group_law.proofs.Sending.{learnt_others, fine_elected, fine_ended, fine_stopped}
@@ -216,6 +216,7 @@ module _ (ahead : Ahead) (base : Base) (made : Command → Type 0) (grants : Gra
 
   -- ---- 5 and 6
 
+  -- a hint is no part of what holds of a replica
   pub hint_replica : (h : Steps) (r : ReplicaState) (hint : Option ℕ) → Replica h r → Replica h (record r { hint = hint })
   hint_replica h r hint k = record {
     me_is = k.me_is;
@@ -234,6 +235,7 @@ module _ (ahead : Ahead) (base : Base) (made : Command → Type 0) (grants : Gra
         record { own = l.own; low = l.low; first_is = l.first_is; votes = l.votes; promisers = l.promisers; reports = l.reports; made = l.made; offers = l.offers });
   }
 
+  -- ... nor of what holds in the middle of a row
   pub hinted_place : (r : ReplicaState) (hint : Option ℕ) (mails : List Mail) → Ok (r, mails) → Ok (record r { hint = hint }, mails)
   hinted_place r hint mails f = turn ahead base made me before r (record r { hint = hint }) mails f (hint_replica (f.newer ++ before) r hint f.replica)
 
@@ -253,6 +255,7 @@ module _ (ahead : Ahead) (base : Base) (made : Command → Type 0) (grants : Gra
       (λ _. fine_elected ahead base made me before (record r { hint = Some r.me }) mails (hinted_place r (Some r.me) mails f))
       (λ _. hinted_place r (Some (least_of (members r))) mails f))
 
+  -- a replica that looks for a policy's deed keeps what holds
   pub looked_place : (place : Place) → Ok place → Ok (looked place)
   unfolding looked
   looked_place (r, mails) f = cond_both r.running _ _ Ok (λ _. f) (λ _. looked_for_place r.group.core.gone r mails f)
@@ -261,7 +264,7 @@ module _ (ahead : Ahead) (base : Base) (made : Command → Type 0) (grants : Gra
 
   pub fine_executed_one : (counted : Bool) (c : Command) (r : ReplicaState) (mails : List Mail) → (f : Ok (r, mails)) → IsLearnt (rule ahead base) (f.newer ++ before) (next r) c → made c
       → (counted ≡ true → r.running ≡ true) → Ok (executed_one counted c (r, mails))
-  unfolding executed_one told turn
+  unfolding executed_one announced turn
   fine_executed_one counted c r mails f t m runs =
       let h = f.newer ++ before in
       let k = f.replica in
@@ -283,8 +286,8 @@ module _ (ahead : Ahead) (base : Base) (made : Command → Type 0) (grants : Gra
       let answered_it : Past counted (next r) c (cond counted (told_call (answer_of effect) c (entered c r, mails)) (entered c r, mails)) = (
       cond_both counted (told_call (answer_of effect) c (entered c r, mails)) (entered c r, mails) (Past counted (next r) c)
       (λ _. told_place counted (next r) c (answer_of effect) c (entered c r) mails start m answers) (λ _. start)) in
-      let spoken : Past counted (next r) c (told counted effect c (entered c r, mails)) = ordered_place counted (next r) c (result_of effect) c _ answered_it in
-      let said = told counted effect c (entered c r, mails) in
+      let spoken : Past counted (next r) c (announced counted effect c (entered c r, mails)) = ordered_place counted (next r) c (result_of effect) c _ answered_it in
+      let said = announced counted effect c (entered c r, mails) in
       let taught = learnt_place counted (members r) (next r) c said spoken in
       let welcome = welcomed_place ahead base made me before counted (members r) said.0 (learnt_to counted (members r) (next r) c said) (learnt_same counted (members r) (next r) c said) taught spoken.runs_is in
       let past = subst (λ (s : ReplicaState). next r < next s) (sym welcome.1) spoken.executed_is in
@@ -295,9 +298,6 @@ module _ (ahead : Ahead) (base : Base) (made : Command → Type 0) (grants : Gra
   learnt_made place f slot c t =
       let offer = learnt_offered (rule ahead base) (first ahead base) (f.newer ++ before) f.lawful slot c t in
       f.requested offer.0 slot c offer.1
-
-  pub pumps : (place : Place) → Ok place → Ok (pumped place)
-  pumps = fine_pumped ahead base made grants me before some
 
   next_ready_among : (r : ReplicaState) (c : Command) → next_ready r ≡ Some c → Among (next r, c) r.ready
   next_ready_among r c e =
@@ -317,11 +317,11 @@ module _ (ahead : Ahead) (base : Base) (made : Command → Type 0) (grants : Gra
       go rest None is = f
       go rest (Some c) is =
           let t = Each-among _ place.0.ready (next place.0, c) f.replica.ready (next_ready_among place.0 c is) in
-          pumps _ (rest _ (fine_executed_one true c place.0 place.1 f t (learnt_made place f (next place.0) c t) (λ _. next_ready_runs place.0 c is)))
+          fine_pumped ahead base made grants me before some _ (rest _ (fine_executed_one true c place.0 place.1 f t (learnt_made place f (next place.0) c t) (λ _. next_ready_runs place.0 c is)))
 
   -- Execute
   pub fine_executed : (counted : Bool) (c : Command) (r : ReplicaState) (mails : List Mail) → (f : Ok (r, mails)) → IsLearnt (rule ahead base) (f.newer ++ before) (next r) c → (counted ≡ true → r.running ≡ true) → Ok (executed counted c (r, mails))
   unfolding executed
   fine_executed counted c r mails f t runs =
       let one = fine_executed_one counted c r mails f t (learnt_made (r, mails) f (next r) c t) runs in
-      pumps _ (fine_executed_ready (executed_one counted c (r, mails)).0.ready (executed_one counted c (r, mails)) one)
+      fine_pumped ahead base made grants me before some _ (fine_executed_ready (executed_one counted c (r, mails)).0.ready (executed_one counted c (r, mails)) one)

@@ -4,13 +4,13 @@ use Rattle.std.proofs.lemmas.Bool.{ne_eqb, cond-false}
 use Rattle.sc_base.specs.declared.names.Ballot.{Ballot}
 use Rattle.sc_paxos_words.specs.Among.{Among, Each}
 use Rattle.sc_paxos_words.specs.Acceptors.{born}
-use Rattle.sc_paxos_words.proofs.ListLemmas.{Each-among, Each-weaker}
+use Rattle.sc_paxos_words.proofs.ListLemmas.{Each-among}
 use Rattle.sc_paxos_law.specs.Steps.{Step, Prepared, Promised, Offered, Accepted, Cut, state_of}
 use Rattle.sc_paxos_law.specs.Chosen.{Rule, needed, members_of, IsChosen, IsChosenAfter, IsLog}
-use Rattle.sc_paxos_law.specs.Lawful.{IsElected, MayOffer, IsLawfulStep, IsLawful}
+use Rattle.sc_paxos_law.specs.Lawful.{MayOffer, IsLawfulStep, IsLawful}
 use Rattle.sc_paxos_law.proofs.Among.{shared_member}
 use Rattle.sc_paxos_law.proofs.History.{was_offered, one_offer}
-use Rattle.sc_paxos_law.proofs.Law.{later_log, later_chosen, agree_members, logs_agree}
+use Rattle.sc_paxos_law.proofs.Law.{later_log, later_chosen, agree_members, logs_agree, later_elected}
 
 pub later_after : {V : Type 0} (rule : Rule V) (s : Step V) (h : List (Step V)) (log : List V) (slot : ℕ) (v : V) → IsChosenAfter rule h log slot v → IsChosenAfter rule (s ∷ h) log slot v
 later_after rule s h log slot v c = record { known = c.known; chosen = later_chosen _ s h slot v c.chosen }
@@ -21,13 +21,11 @@ pub record IsLearnt {V : Type 0} (rule : Rule V) (h : List (Step V)) (slot : ℕ
   pub is_log : IsLog rule h log
   pub chosen : IsChosenAfter rule h log slot value
 
+-- what is learnt stays learnt after one more step
 pub later_learnt : {V : Type 0} (rule : Rule V) (s : Step V) (h : List (Step V)) (slot : ℕ) (v : V) → IsLearnt rule h slot v → IsLearnt rule (s ∷ h) slot v
 later_learnt rule s h slot v l = record { log = l.log; is_log = later_log rule s h l.log l.is_log; chosen = later_after rule s h l.log slot v l.chosen }
 
-pub grown_log : {V : Type 0} (rule : Rule V) (newer h : List (Step V)) (log : List V) → IsLog rule h log → IsLog rule (newer ++ h) log
-grown_log rule [] h log l = l
-grown_log rule (s ∷ newer) h log l = later_log rule s (newer ++ h) log (grown_log rule newer h log l)
-
+-- ... after more steps
 pub grown_learnt : {V : Type 0} (rule : Rule V) (newer h : List (Step V)) (slot : ℕ) (v : V) → IsLearnt rule h slot v → IsLearnt rule (newer ++ h) slot v
 grown_learnt rule [] h slot v l = l
 grown_learnt rule (s ∷ newer) h slot v l = later_learnt rule s (newer ++ h) slot v (grown_learnt rule newer h slot v l)
@@ -49,10 +47,6 @@ learnt_offered rule first h l slot v t =
 
 -- ---- an offer may be made again
 
-later_elected : {V : Type 0} (members : List ℕ) (b : Ballot) (slot : ℕ) (v : V) (s : Step V) (h : List (Step V)) → IsElected members b slot v h → IsElected members b slot v (s ∷ h)
-later_elected members b slot v s h e =
-    record { votes = e.votes; made = Each-weaker _ _ (λ x m. (inr m.0, m.1)) e.votes e.made; majority = e.majority; choice = e.choice }
-
 later_offer : {V : Type 0} (rule : Rule V) (first b : Ballot) (slot : ℕ) (v : V) (s : Step V) (h : List (Step V)) → IsLawful rule first (s ∷ h) → Among (Offered b slot v) (s ∷ h)
     → MayOffer rule first b slot v h → MayOffer rule first b slot v (s ∷ h)
 later_offer rule first b slot v s h l a m = record {
@@ -63,6 +57,7 @@ later_offer rule first b slot v s h l a m = record {
   only = λ other o. one_offer rule first (s ∷ h) b slot other v l o a;
 }
 
+-- what was offered may be offered again in its ballot
 pub offer_again : {V : Type 0} (rule : Rule V) (first : Ballot) (h : List (Step V)) (b : Ballot) (slot : ℕ) (v : V) → IsLawful rule first h → Among (Offered b slot v) h → MayOffer rule first b slot v h
 offer_again rule first [] b slot v l a = absurd a
 offer_again rule first (s ∷ h) b slot v l (inl e) =
@@ -71,6 +66,7 @@ offer_again rule first (s ∷ h) b slot v l (inr a) = later_offer rule first b s
 
 -- ---- whose a step is
 
+-- whose a step is: an acceptor's, or a proposer's in its own ballots
 abbrev pub By : {V : Type 0} → ℕ → Step V → Type 0
 By me (Prepared ballot from) = ballot.node ≡ me
 By me (Promised node ballot from reports) = node ≡ me
@@ -88,6 +84,7 @@ state_kept first me other (Cut n upto) h by ne = cond-false (eqb n other) _ _ (n
 
 -- ---- a node that has taken no step
 
+-- a node has taken no step as an acceptor
 abbrev pub IsFresh : {V : Type 0} → ℕ → List (Step V) → Type 0
 IsFresh me h = Each (λ s. By me s → ⊥) h
 

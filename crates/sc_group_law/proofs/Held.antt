@@ -1,28 +1,17 @@
 -- What a replica keeps where it forgets what is old: the entries of its log after a base, and what its acceptor reports from above its floor. And the state that is sent to another.
-use Rattle.std.proofs.Common.{◌≡◌, ℕ, zero, suc, ◌+◌, ◌-◌, ◌<◌, ◌≤◌, nat_lt, nat_le, max, Bool, true, false, cond, List, [], ◌∷◌, ◌++◌, filter, drop, Option, Some, None, inl, inr, refl, sym, ◌∙◌, ap, append_assoc, arith}
+use Rattle.std.proofs.Common.{◌≡◌, ℕ, zero, suc, ◌+◌, ◌-◌, ◌<◌, ◌≤◌, nat_lt, nat_le, max, Bool, true, false, cond, List, [], ◌∷◌, ◌++◌, filter, drop, inl, inr, refl, sym, ◌∙◌, ap, append_assoc, arith}
 use Rattle.std.specs.Prelude.{slice_get}
-use Rattle.std.specs.FinMap.{empty, find, entries, same_map, get-empty, get-entries, entries_sorted}
-use Rattle.std.specs.Ordering.{nat_cmp}
-use Rattle.std.specs.Cmp.{nat_cmp_total}
-use Rattle.std.specs.Cmp.Lexicographic.{slice_cmp}
 use Rattle.std.proofs.Math.Nat.{le-max_left, le-max_right, max-eq_left, max-eq_right, mul-div-le}
 use Rattle.std.proofs.lemmas.Bool.{cases_Bool, cases_lt, leb-true, lt-ltb, cond-true, cond-false, cond_both}
 use Rattle.std.proofs.lemmas.List.Elements.{filter-append}
-use Rattle.std.proofs.lemmas.Map.Lookups.{exact_unsigned}
 use Rattle.sc_base.specs.declared.names.Ballot.{Ballot}
-use Rattle.sc_base.specs.declared.ops.Noted.{Noted}
-use Rattle.sc_ideal.specs.IdealStore.{Contents, with_pairs}
-use Rattle.sc_ideal.specs.Clients.{Table, later, joined_with}
-use Rattle.sc_ideal.proofs.Apart.{same_contents}
-use Rattle.sc_ideal.proofs.Joins.{or_else, get-with_pairs}
-use Rattle.sc_ideal.proofs.Tables.{get-joined_with}
-use Rattle.sc_machine_table.specs.Group.{Group, group_of, base_of}
 use Rattle.sc_paxos_words.specs.declared.reports.Report.{Report}
 use Rattle.sc_paxos_words.specs.Acceptors.{AcceptorState, reports_from, with_report, after_promise, after_accept, after_cut}
 use Rattle.sc_node_table.specs.Replica.{floor_of}
 
 -- ---- lists
 
+-- a place behind the first entries is a later place of all
 pub get_dropped : {X : Type 0} (n : ℕ) (xs : List X) (k : ℕ) → slice_get (drop n xs) k ≡ slice_get xs (n + k)
 get_dropped zero xs k = (let same : k ≡ 0 + k = omega arith in ap (slice_get xs) same)
 get_dropped (suc n) [] zero = refl
@@ -65,9 +54,11 @@ pub record Mirrors {V : Type 0} (kept whole : AcceptorState V) : Type 0 where
   pub low : whole.floor ≤ kept.floor
   pub reports_are : (from : ℕ) → kept.floor < from → reports_from from kept.accepted ≡ reports_from from whole.accepted
 
+-- an acceptor that has forgotten nothing mirrors itself
 pub mirrors_itself : {V : Type 0} (state : AcceptorState V) → Mirrors state state
 mirrors_itself state = record { promised_is = refl; low = omega arith; reports_are = λ from lt. refl }
 
+-- one that forgets more mirrors it still
 pub cut_mirrors : {V : Type 0} (upto : ℕ) (kept whole : AcceptorState V) → Mirrors kept whole → Mirrors (after_cut upto kept) whole
 cut_mirrors {V} upto kept whole m =
     let low = m.low in
@@ -82,6 +73,7 @@ cut_mirrors {V} upto kept whole m =
           ∙ m.reports_are from (omega (arith, lt, left)));
     }
 
+-- a promise keeps that one mirrors the other
 pub promise_mirrors : {V : Type 0} (ballot : Ballot) (kept whole : AcceptorState V) → Mirrors kept whole → Mirrors (after_promise ballot kept) (after_promise ballot whole)
 promise_mirrors ballot kept whole m = record { promised_is = refl; low = m.low; reports_are = m.reports_are }
 
@@ -98,6 +90,7 @@ reports_with {V} from new accepted =
     ∙ ap (λ (l : List (Report V)). filter lower (filter p accepted) ++ l) (filter-append p (new ∷ []) (filter higher accepted) ∙ ap (λ (l : List (Report V)). filter p (new ∷ []) ++ l) (filters_turn p higher accepted))
     ∙ sym (append_assoc (filter lower (filter p accepted)) (filter p (new ∷ [])) (filter higher (filter p accepted)))
 
+-- so does an acceptance
 pub accept_mirrors : {V : Type 0} (new : Report V) (kept whole : AcceptorState V) → Mirrors kept whole → Mirrors (after_accept new kept) (after_accept new whole)
 accept_mirrors {V} new kept whole m = record {
   promised_is = refl;
@@ -110,6 +103,7 @@ accept_mirrors {V} new kept whole m = record {
 
 -- ---- what is forgotten
 
+-- what is added up to a greater number
 pub max_is : (low upto : ℕ) → low + (upto - low) ≡ max low upto
 max_is low upto =
     elim (cases_lt low upto) [
@@ -120,31 +114,3 @@ max_is low upto =
 -- the floor is not above the last executed slot
 pub floor_low : (last : ℕ) → floor_of last ≤ last
 floor_low last = let le = mul-div-le last 64 in omega (arith, le)
-
--- ---- the state that is sent, and taken over
-
-pairs_again : (pairs : Contents) → with_pairs empty (entries pairs) ≡ pairs
-pairs_again pairs = same_contents _ _ (λ key.
-    get-with_pairs (entries pairs) (entries_sorted pairs) empty key
-    ∙ ap (or_else (find (slice_cmp nat_cmp) key (entries pairs))) (get-empty (slice_cmp nat_cmp) key)
-    ∙ none_else (find (slice_cmp nat_cmp) key (entries pairs)) ∙ sym (get-entries pairs key))
-  where
-    none_else : (o : Option (List ℕ)) → or_else o None ≡ o
-    none_else None = refl
-    none_else (Some value) = refl
-
-clients_again : (clients : Table) → joined_with empty (entries clients) ≡ clients
-clients_again clients = same_map nat_cmp_total exact_unsigned _ _ (λ client.
-    get-joined_with (entries clients) (entries_sorted clients) empty client
-    ∙ ap (λ o. later o (find nat_cmp client (entries clients))) (get-empty nat_cmp client)
-    ∙ none_later (find nat_cmp client (entries clients)) ∙ sym (get-entries clients client))
-  where
-    none_later : (o : Option Noted) → later None o ≡ o
-    none_later None = refl
-    none_later (Some noted) = refl
-
--- the record of a group starts the group again
-pub group_again : (group : Group) → group_of (base_of group) ≡ group
-group_again group =
-    ap (λ pairs. (let g : Group = record { core = group.core; pairs = pairs; clients = joined_with empty (entries group.clients) } in g)) (pairs_again group.pairs)
-    ∙ ap (λ clients. (let g : Group = record { core = group.core; pairs = group.pairs; clients = clients } in g)) (clients_again group.clients)

@@ -3,6 +3,7 @@ use Rattle.std.proofs.Common.{◌≡◌, ℕ, ◌+◌, ◌≤◌, ◌||◌, not,
 use Rattle.std.proofs.lemmas.Bool.{eqb-true, ltb-false, or_parts, not-false, cond_both}
 use Rattle.std.proofs.lemmas.List.{drop_all}
 use Rattle.sc_base.specs.declared.names.Ballot.{Ballot}
+use Rattle.sc_base.specs.declared.names.Draw.{Draw}
 use Rattle.sc_cmd.specs.declared.commands.Command.{Command}
 use Rattle.sc_cmd.specs.declared.commands.Command.TheVariants.{Join, Leave}
 use Rattle.sc_cmd.specs.declared.cores.Base.{Base}
@@ -25,20 +26,20 @@ use Rattle.sc_paxos_words.specs.Leaders.{first_leader}
 use Rattle.sc_paxos_words.proofs.ListLemmas.{Each-among, Each-append}
 use Rattle.sc_paxos_law.specs.Steps.{Offered}
 use Rattle.sc_paxos_law.specs.Lawful.{IsLawful}
-use Rattle.sc_node_table.specs.Replica.{ReplicaState, Place, first_ballot, next, members, settled, last_slot, forgotten, waits_in, installed_replica}
+use Rattle.sc_node_table.specs.Replica.{ReplicaState, Place, first_ballot, name_of, next, members, settled, last_slot, forgotten, waits_in, installed_replica}
 use Rattle.sc_node_table.specs.Mails.{told_desk}
 use Rattle.sc_node_table.specs.Election.{ended, stopped}
-use Rattle.sc_node_table.specs.Install.{jumped}
+use Rattle.sc_node_table.specs.Install.{named, jumped}
 use Rattle.sc_node_table.specs.Rows.{looked_up, took_over, install_row, made_by, command_of, order_queued, order_taken, order_row}
 use Rattle.sc_hist_law.specs.Laws.{LogTells}
 use Rattle.sc_hist_law.proofs.Logs.{state_same}
-use Rattle.sc_sound.specs.Logs.{Ahead}
+use Rattle.sc_players.specs.Players.{Ahead}
 use Rattle.sc_group_law.proofs.Growth.{IsFresh, fresh_state}
 use Rattle.sc_group_law.proofs.Held.{Mirrors, mirrors_itself, floor_low}
 use Rattle.sc_group_law.proofs.Invariant.{Steps, rule, first, birth, Grants, AreSets, HasLog, IsReplica, next_after, forgotten_replica, IsState, grown_state, Fine, turn, says}
-use Rattle.sc_group_law.proofs.Sending.{fine_stopped}
-use Rattle.sc_group_law.proofs.Offering.{with_calls}
-use Rattle.sc_group_law.proofs.Executing.{hinted_place, looked_place, pumps}
+use Rattle.sc_group_law.proofs.Sending.{name_is, fine_stopped}
+use Rattle.sc_group_law.proofs.Offering.{with_calls, fine_pumped}
+use Rattle.sc_group_law.proofs.Executing.{hinted_place, looked_place}
 
 module _ (ahead : Ahead) (base : Base) (made : Command → Type 0) (grants : Grants ahead base made) (me : ℕ) (before : Steps)
     (some : (log : List Command) → Each made log → (node : ℕ) × (rest : List ℕ) × ((rule ahead base).members log ≡ node ∷ rest))
@@ -63,6 +64,12 @@ module _ (ahead : Ahead) (base : Base) (made : Command → Type 0) (grants : Gra
 
   state_sets : (h : Steps) (slot : ℕ) (from : Base) (sets : List (List ℕ)) (t : IsState ahead base made h slot from sets) → AreSets ahead base t.log (length t.log + 1) sets
   state_sets h slot from sets t = subst (λ n. AreSets ahead base t.log (n + 1) sets) (sym t.count) t.sets_are
+
+  -- it has the group's name, so it stays what it is under that name
+  state_named : (g : Draw) (h : Steps) (slot : ℕ) (state : Base) (sets : List (List ℕ)) → g ≡ base.core.id → IsState ahead base made h slot state sets → named g state ≡ state
+  state_named g h slot state sets e t =
+      let same = ap (λ (g : Group). g.core.id) t.group_is ∙ (state_same (birth ahead base) t.log).0 in
+      ap (λ d. named d state) (e ∙ sym same)
 
   -- ---- a replica jumps to it
 
@@ -103,7 +110,10 @@ module _ (ahead : Ahead) (base : Base) (made : Command → Type 0) (grants : Gra
       let h = f.newer ++ before in
       let now = grown_state ahead base made made (λ c m. m) f.newer before slot state sets t in
       looked_up_place from (jumped slot state sets r) mails
-      (turn ahead base made me before r (jumped slot state sets r) mails f (jumped_to h slot state sets (waits_in state.core.lock r.waits) r f.replica still many up now))
+      (turn ahead base made me before r (jumped slot state sets r) mails f
+      (subst (λ (s : Base). Replica h (forgotten slot (record r { group = group_of s; log = installed slot; sets = sets; waits = waits_in state.core.lock r.waits })))
+      (sym (state_named (name_of r) h slot state sets (name_is ahead base made me before h r f.replica) now))
+      (jumped_to h slot state sets (waits_in state.core.lock r.waits) r f.replica still many up now)))
 
   took_over_place : (from slot : ℕ) (state : Base) (sets : List (List ℕ)) (r : ReplicaState) (mails : List Mail) → Ok (r, mails) → length sets ≡ length r.sets → next r ≤ slot → IsState ahead base made before slot state sets
       → Ok (took_over from slot state sets (r, mails))
@@ -168,12 +178,14 @@ module _ (ahead : Ahead) (base : Base) (made : Command → Type 0) (grants : Gra
       } in
       forgotten_replica ahead base made before me slot _ here (omega (arith, low, count))
 
-  pub made_place : (own from slot : ℕ) (state : Base) (sets : List (List ℕ)) → own ≡ me → IsFresh me before → IsLawful (rule ahead base) (first ahead base) before
-      → ((b : Ballot) (at : ℕ) (c : Command) → Among (Offered b at c) before → made c) → length sets ≡ ahead.slots → IsState ahead base made before slot state sets → Ok (made_by own from slot state sets)
+  -- a replica that is made of a true state is as the steps say
+  pub made_place : (own from : ℕ) (g : Draw) (slot : ℕ) (state : Base) (sets : List (List ℕ)) → own ≡ me → g ≡ base.core.id → IsFresh me before → IsLawful (rule ahead base) (first ahead base) before
+      → ((b : Ballot) (at : ℕ) (c : Command) → Among (Offered b at c) before → made c) → IsState ahead base made before slot state sets → Ok (made_by own from g slot state sets)
   unfolding made_by
-  made_place own from slot state sets mine fresh lawful requested many t =
-      looked_up_place from (installed_replica own slot state sets) []
-      (record { newer = []; are = refl; by = tt; lawful = lawful; requested = requested; replica = installed_is own slot state sets mine fresh many t; mails = λ m a. absurd a })
+  made_place own from g slot state sets mine e fresh lawful requested t =
+      subst (λ (s : Base). Ok (looked_up from (installed_replica own slot s sets, []))) (sym (state_named g before slot state sets e t))
+      (looked_up_place from (installed_replica own slot state sets) []
+      (record { newer = []; are = refl; by = tt; lawful = lawful; requested = requested; replica = installed_is own slot state sets mine fresh t.many t; mails = λ m a. absurd a }))
 
   -- ---- an order
 
@@ -188,7 +200,7 @@ module _ (ahead : Ahead) (base : Base) (made : Command → Type 0) (grants : Gra
   queued_place : (o : Option OrderRefusal) (number : ℕ) (c : Command) (r : ReplicaState) (mails : List Mail) → Ok (r, mails) → made c → Ok (order_queued o number c (r, mails))
   queued_place (Some why) number c r mails f m = told_place number (Refused why) r mails f
   queued_place None number c r mails f m =
-      pumps ahead base made grants me before some law _
+      fine_pumped ahead base made grants me before some _
       (turn ahead base made me before r (record r { calls = r.calls ++ c ∷ [] }) mails f
       (with_calls ahead base made grants me before some (f.newer ++ before) r (r.calls ++ c ∷ []) f.replica (Each-append made r.calls (c ∷ []) f.replica.calls (m, tt))))
 

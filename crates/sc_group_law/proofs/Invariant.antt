@@ -29,27 +29,33 @@ use Rattle.sc_paxos_law.specs.Lawful.{Vote, IsLawfulStep, IsLawful}
 use Rattle.sc_paxos_law.proofs.Among.{Among-right, Among-either}
 use Rattle.sc_paxos_law.proofs.Law.{later_log}
 use Rattle.sc_node_table.specs.Replica.{ReplicaState, Place, first_ballot, next, floor_of, forgotten}
-use Rattle.sc_sound.specs.Laws.{HasEntry}
-use Rattle.sc_sound.specs.Logs.{Ahead, state_after, rule_of}
-use Rattle.sc_sound.specs.Histories.{done_by}
+use Rattle.sc_hist_law.specs.Laws.{HasEntry}
+use Rattle.sc_players.specs.Players.{Ahead}
+use Rattle.sc_machine_table.specs.Logs.{state_after, done_by}
+use Rattle.sc_sound.specs.Logs.{rule_of}
 use Rattle.sc_group_law.specs.Steps.{asked_by, asked_in}
-use Rattle.sc_hist_law.proofs.Logs.{state_push}
-use Rattle.sc_group_law.proofs.Growth.{IsLearnt, By, later_learnt, grown_log, grown_learnt, state_kept}
+use Rattle.sc_machine_table.proofs.LogLemmas.{state_push}
+use Rattle.sc_group_law.proofs.Growth.{IsLearnt, By, later_learnt, grown_learnt, state_kept}
 use Rattle.sc_group_law.proofs.Held.{Mirrors, cut_mirrors, max_is}
+use Rattle.sc_paxos_law.proofs.Decided.{later_logs}
 
+-- steps of commands
 abbrev pub Steps : Type 0
 Steps = List (Step Command)
 
 module _ (ahead : Ahead) (base : Base) where
+  -- the group's rule of members
   abbrev pub rule : Rule Command
   rule = rule_of ahead base
 
+  -- the ballot of the first leader
   abbrev pub first : Ballot
   first = first_ballot base.core
 
   abbrev pub name : Draw
   name = base.core.id
 
+  -- the group at its birth
   abbrev pub birth : Group
   birth = group_of base
 
@@ -79,12 +85,14 @@ module _ (ahead : Ahead) (base : Base) where
     pub is_log : IsLog rule h whole
     pub all_made : Each made whole
 
+  -- a replica executes next the slot behind the log that it has executed
   pub next_is : (made : Command → Type 0) (h : Steps) (whole : List Command) (log : LogState Command) (group : Group) → HasLog made h whole log group → next_of log ≡ length whole + 1
   next_is made h whole log group k =
       let low = k.low in
       let count = ap length k.entries_are ∙ length-drop log.base whole in
       omega (arith, low, count)
 
+  -- a log that was executed is one after one more step
   pub later_has : (made : Command → Type 0) (s : Step Command) (h : Steps) (whole : List Command) (log : LogState Command) (group : Group) → HasLog made h whole log group → HasLog made (s ∷ h) whole log group
   later_has made s h whole log group k = record { low = k.low; entries_are = k.entries_are; group_is = k.group_is; is_log = later_log rule s h whole k.is_log; all_made = k.all_made }
 
@@ -137,6 +145,7 @@ module _ (ahead : Ahead) (base : Base) where
   abbrev pub AreSets : List Command → ℕ → List (List ℕ) → Type 0
   AreSets log slot sets = (k : ℕ) (set : List ℕ) → slice_get sets k ≡ Some set → (set ≡ members_of rule log (slot + k)) × (needed rule (slot + k) ≤ length log)
 
+  -- a replica as the steps say
   pub record IsReplica (made : Command → Type 0) (h : Steps) (me : ℕ) (r : ReplicaState) : Type 0 where
     pub me_is : r.me ≡ me
     -- what it executed is a log, and its group is the state after it
@@ -157,6 +166,7 @@ module _ (ahead : Ahead) (base : Base) where
     pub ready : Each (λ e. IsLearnt rule h e.0 e.1) r.ready
     pub leads : r.running ≡ true → IsLeader h me (length whole + 1) r
 
+  -- ... of its own log
   pub next_after : (made : Command → Type 0) (h : Steps) (me : ℕ) (r : ReplicaState) (k : IsReplica made h me r) → next r ≡ length k.whole + 1
   next_after made h me r k = next_is made h k.whole r.log r.group k.log_is
 
@@ -187,7 +197,7 @@ module _ (ahead : Ahead) (base : Base) where
   IsTrueAnswer h to seq (Says.Value reply) = (log : List Command) × IsLog rule h log × ((client : ℕ) → to ≡ 32 + client → HasEntry (done_by birth log) client seq reply)
   IsTrueAnswer h to seq _ = Unit {0}
 
-  -- the group of a record is the state after a log up to a slot, and the sets are the members of the slots after it
+  -- the group of a record is the state after a log up to a slot, and the sets are the members of the open slots after it
   pub record IsState (made : Command → Type 0) (h : Steps) (slot : ℕ) (record_of : Base) (sets : List (List ℕ)) : Type 0 where
     pub log : List Command
     pub is_log : IsLog rule h log
@@ -195,7 +205,9 @@ module _ (ahead : Ahead) (base : Base) where
     pub group_is : group_of record_of ≡ state_after birth log
     pub all_made : Each made log
     pub sets_are : AreSets log (slot + 1) sets
+    pub many : length sets ≡ ahead.slots
 
+  -- what a mail says is true of the steps
   abbrev pub IsTrue : (Command → Type 0) → Steps → Mail → MailBody → Type 0
   IsTrue made h mail (Request group client seq op) = made (Call client seq op)
   IsTrue made h mail (Answer group seq answer) = IsTrueAnswer h mail.to seq answer
@@ -208,13 +220,15 @@ module _ (ahead : Ahead) (base : Base) where
   IsTrue made h mail _ = Unit {0}
 
   grown_answer : (newer h : Steps) (to seq : ℕ) (answer : AnswerBody) → IsTrueAnswer h to seq answer → IsTrueAnswer (newer ++ h) to seq answer
-  grown_answer newer h to seq (Says.Value reply) t = (t.0, grown_log rule newer h t.0 t.1, t.2)
+  grown_answer newer h to seq (Says.Value reply) t = (t.0, later_logs rule newer h t.0 t.1, t.2)
   grown_answer newer h to seq _ t = tt
 
+  -- a state that is sent is true after more steps
   pub grown_state : (made more : Command → Type 0) → ((c : Command) → made c → more c) → (newer h : Steps) (slot : ℕ) (record_of : Base) (sets : List (List ℕ)) → IsState made h slot record_of sets → IsState more (newer ++ h) slot record_of sets
   grown_state made more f newer h slot record_of sets t =
-      record { log = t.log; is_log = grown_log rule newer h t.log t.is_log; count = t.count; group_is = t.group_is; all_made = Each-weaker made more f t.log t.all_made; sets_are = t.sets_are }
+      record { log = t.log; is_log = later_logs rule newer h t.log t.is_log; count = t.count; group_is = t.group_is; all_made = Each-weaker made more f t.log t.all_made; sets_are = t.sets_are; many = t.many }
 
+  -- what a mail says is true after more steps
   pub grown_true : (made more : Command → Type 0) → ((c : Command) → made c → more c) → (newer h : Steps) (mail : Mail) (body : MailBody) → IsTrue made h mail body → IsTrue more (newer ++ h) mail body
   grown_true made more f newer h mail (Request group client seq op) t = f (Call client seq op) t
   grown_true made more f newer h mail (Answer group seq answer) t = grown_answer newer h mail.to seq answer t
@@ -229,6 +243,7 @@ module _ (ahead : Ahead) (base : Base) where
   -- ---- more steps
 
   module _ (made : Command → Type 0) (me : ℕ) where
+    -- what is in flight is so after one more step
     pub later_flying : (s : Step Command) (h : Steps) (b : Ballot) (flight : Flight Command) → IsFlying h b flight → IsFlying (s ∷ h) b flight
     later_flying s h b flight f = (inr f.0, Each-weaker _ _ (λ n a. inr a) (voters_of flight.voters) f.1)
 
@@ -273,6 +288,7 @@ module _ (ahead : Ahead) (base : Base) where
         (λ b from e own. absurd (ne (sym (subst (By other) e by) ∙ own)))
         (λ runs slot c e. absurd (ne (sym (subst (By other) e by) ∙ (k.leads runs).own)))
 
+    -- steps of others change nothing of what holds of a replica
     pub other_steps : (other : ℕ) (newer h : Steps) (r : ReplicaState) → Each (By other) newer → (other ≡ me → ⊥) → IsReplica made h me r → IsReplica made (newer ++ h) me r
     other_steps other [] h r by ne k = k
     other_steps other (s ∷ newer) h r by ne k = other_step other s (newer ++ h) r by.0 ne (other_steps other newer h r by.1 ne k)
@@ -297,6 +313,7 @@ module _ (ahead : Ahead) (base : Base) where
 
   -- ---- a place in the middle of a row of a node, where these steps were taken before the row
 
+  -- what holds in the middle of a row: the steps so far, the replica, and the mails
   pub record Fine (made : Command → Type 0) (me : ℕ) (before : Steps) (place : Place) : Type 0 where
     pub newer : Steps
     pub are : asked_in name place.1 before ≡ newer ++ before
@@ -306,6 +323,7 @@ module _ (ahead : Ahead) (base : Base) where
     pub replica : IsReplica made (newer ++ before) me place.0
     pub mails : (mail : Mail) → Among mail place.1 → IsTrue made (newer ++ before) mail mail.body
 
+  -- one mail more, and what it asks for
   pub asked_push : (mails : List Mail) (mail : Mail) (h : Steps) → asked_in name (mails ++ mail ∷ []) h ≡ asked_by name mail.body ++ asked_in name mails h
   asked_push [] mail h = refl
   asked_push (m ∷ mails) mail h = asked_push mails mail (asked_by name m.body ++ h)

@@ -31,23 +31,23 @@ use Rattle.sc_paxos_law.proofs.Law.{element}
 use Rattle.sc_paxos_law.proofs.Decided.{log_of-longest, front_of_log, log_grows}
 use Rattle.sc_scenario.specs.declared.scenarios.Asks.{Asks}
 use Rattle.sc_scenario.specs.declared.scenarios.Scenario.{Scenario}
-use Rattle.sc_world.specs.World.{route_of, client_actor}
+use Rattle.sc_players.specs.Players.{route_of, Ahead, node_seat, player_table, client_seat}
 use Rattle.sc_hist_law.specs.Laws.{IsDone, LeavesWhole, LogTells}
-use Rattle.sc_sound.specs.Logs.{Ahead, state_after, decided_log}
-use Rattle.sc_sound.specs.Histories.{done_by, history, decided_row}
-use Rattle.sc_sound.specs.Requests.{issues, issue_row}
-use Rattle.sc_group_law.proofs.Lists.{get_left, each_got}
+use Rattle.sc_machine_table.specs.Logs.{state_after, done_by}
+use Rattle.sc_sound.specs.Logs.{decided_log}
+use Rattle.sc_sound.specs.Histories.{history, decided_row}
+use Rattle.sc_sound.specs.Requests.{issues, issue_row, kept_replies, answer_row}
+use Rattle.sc_group_law.proofs.Lists.{each_got}
 use Rattle.sc_group_law.specs.Steps.{steps}
-use Rattle.sc_group_law.specs.Players.{node_seat}
-use Rattle.sc_world.specs.World.{party_table, client_seat}
-use Rattle.sc_world.specs.declared.party.Party.TheVariants.{Node as ANode, Client as AClient}
+use Rattle.sc_players.specs.declared.roles.Role.TheVariants.{Node as ANode, Client as AClient}
 use Rattle.sc_group_law.specs.Told.{IsDoneAt}
-use Rattle.sc_sound.specs.Requests.{kept_replies, answer_row}
 use Rattle.sc_group_law.proofs.Invariant.{Steps, rule, first, birth, IsTrue, grown_true, more_made}
 use Rattle.sc_group_law.proofs.Nodes.{Holds, IsNode}
 use Rattle.sc_group_law.proofs.Projected.{log_only, only_steps}
 use Rattle.sc_group_law.proofs.Places.{Journal, or_now, issue-push, decided-push, answered-push, split_at, done_append, done_later, history_on}
 use Rattle.sc_group_law.proofs.Clients.{Made, made_later, made_whole, IsAnswered, IsClient, Grew}
+use Rattle.sc_actor.proofs.PendingLemmas.{get_left}
+use Rattle.sc_base.specs.Limits.{client_actor}
 
 get_front : (log more : List Command) (k : ℕ) (c : Command) → k < length log → slice_get (log ++ more) k ≡ Some c → slice_get log k ≡ Some c
 get_front log more k c lt e =
@@ -55,6 +55,7 @@ get_front log more k c lt e =
     here.1 ∙ sym (get_left log more k here.0 here.1) ∙ e
 
 module _ (ahead : Ahead) (scenario : Scenario) (base : Base) where
+  -- the steps of a journal for the group
   abbrev pub h_of : Journal → Steps
   h_of rows = steps base.core.id rows
 
@@ -67,17 +68,20 @@ module _ (ahead : Ahead) (scenario : Scenario) (base : Base) where
 
   -- ---- players
 
+  -- a node of the journal as the steps say
   pub record IsNodeAt (h : Steps) (made rows : Journal) (n : ℕ) : Type 0 where
     pub node : NodeState
-    pub value_is : value party_table (node_seat ahead (base ∷ []) n) rows ≡ ANode node
+    pub value_is : value player_table (node_seat ahead (base ∷ []) n) rows ≡ ANode node
     pub is : IsNode ahead base (Made scenario made) h n node
 
+  -- a client of the journal as the steps say
   pub record IsClientAt (h : Steps) (rows : Journal) (asks : Asks) : Type 0 where
     pub client : Client
-    pub value_is : value party_table (client_seat (route_of base) asks) rows ≡ AClient client
+    pub value_is : value player_table (client_seat (route_of base) asks) rows ≡ AClient client
     pub is : IsClient ahead base h asks client
     pub fresh : has_gone rows (client_actor asks.client) ≡ false → (client.replies ≡ []) × (client.waiting ≡ None)
 
+  -- a client's replies in a journal
   abbrev pub replies_in : Asks → Journal → List Reply
   replies_in asks rows = kept_replies (route_of base) asks rows
 
@@ -102,6 +106,7 @@ module _ (ahead : Ahead) (scenario : Scenario) (base : Base) where
     pub is_answered : answer_row (route_of base) asks seq rows ≡ Some answered
     pub before : decided < answered
 
+  -- what holds of each lawful journal
   pub record Kept (rows : Journal) : Type 0 where
     -- the steps are lawful, and each command that is offered was requested
     pub lawful : IsLawful (rule ahead base) (first ahead base) (h_of rows)
@@ -122,6 +127,7 @@ module _ (ahead : Ahead) (scenario : Scenario) (base : Base) where
 
   -- ---- one more row
 
+  -- a client after a row of its own, or as it was
   pub record ClientMoved (newer : Steps) (rows : Journal) (row : Row Mail OrderLine) (asks : Asks) : Type 0 where
     pub after : IsClientAt (newer ++ h_of rows) (rows ++ row ∷ []) asks
     pub grew : Grew ahead base (h_of rows) asks (replies_in asks rows) (replies_in asks (rows ++ row ∷ []))
@@ -136,7 +142,7 @@ module _ (ahead : Ahead) (scenario : Scenario) (base : Base) where
     pub clients : (asks : Asks) → Among asks scenario.clients → ClientMoved newer rows row asks
 
   node_made : (made more : Command → Type 0) → ((c : Command) → made c → more c) → (h : Steps) (me : ℕ) (node : NodeState) → IsNode ahead base made h me node → IsNode ahead base more h me node
-  node_made made more f h me node at = record { me_is = at.me_is; ahead_is = at.ahead_is; holds = later at.holds }
+  node_made made more f h me node at = record { me_is = at.me_is; holds = later at.holds }
     where
       later : Holds ahead base made h me node.replicas → Holds ahead base more h me node.replicas
       later (inl none) = inl none
@@ -316,6 +322,7 @@ module _ (ahead : Ahead) (scenario : Scenario) (base : Base) where
           answered_now seq None (k.unanswered asks stands seq (omega (arith, out, up)))
           ∙ cond-false (nat_le seq (length (replies_in asks next))) (Some (length rows + 1)) None (lt-leb seq (length (replies_in asks next)) out)
 
+    -- what holds of a journal holds with one more row
     pub push : Kept next
     push = record {
       lawful = subst (IsLawful (rule ahead base) (first ahead base)) (sym m.are) m.lawful;

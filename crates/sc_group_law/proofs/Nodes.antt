@@ -1,7 +1,7 @@
 -- What holds of a node, and what comes of its inputs.
 use Rattle.std.proofs.Common.{◌≡◌, ℕ, ◌&&◌, ◌||◌, not, nat_lt, true, false, eqb, List, [], ◌∷◌, ◌++◌, length, Option, Some, None, ◌⊎◌, inl, inr, refl, sym, ◌∙◌, ap, subst, append-nil}
 use Rattle.std.specs.List.{list_any}
-use Rattle.std.proofs.lemmas.Bool.{eqb-true, and_parts, and_right, or_parts, not-false, cond-true, cond-false, cond_both}
+use Rattle.std.proofs.lemmas.Bool.{eqb-true, and_right, cond-true, cond-false, cond_both}
 use Rattle.sc_base.specs.declared.names.Ballot.{Ballot}
 use Rattle.sc_base.specs.declared.names.Draw.{Draw}
 use Rattle.sc_base.specs.Same.{same_draw}
@@ -20,29 +20,23 @@ use Rattle.sc_paxos_words.specs.Among.{Among, Each}
 use Rattle.sc_paxos_law.specs.Steps.{Offered, Accepted}
 use Rattle.sc_paxos_law.specs.Lawful.{IsLawful}
 use Rattle.sc_node_table.specs.Node.{NodeState, replica_of, with_replica, with_new, group_in, absent, with_made, unknown, may_come, taken_by, routed, on_mail, group_of_order, ordered_of, on_order, ticked, on_tick}
+use Rattle.sc_node_table.specs.Slots.{slots_ahead}
 use Rattle.sc_node_table.specs.Mails.{told_desk}
 use Rattle.sc_node_table.specs.Replica.{ReplicaState, Place, name_of, last_slot}
 use Rattle.sc_node_table.specs.Voting.{prepare_row}
 use Rattle.sc_node_table.specs.Rows.{made_by, mailed, tick_row, order_row}
 use Rattle.sc_hist_law.specs.Laws.{LogTells}
 use Rattle.sc_sound.specs.Accepts.{accepts_of, is_accepted}
-use Rattle.sc_sound.specs.Logs.{Ahead}
+use Rattle.sc_players.specs.Players.{Ahead}
 use Rattle.sc_group_law.specs.Steps.{asked_by, asked_in, promises_of}
 use Rattle.sc_group_law.proofs.Growth.{By, IsFresh}
 use Rattle.sc_group_law.proofs.Invariant.{Steps, rule, first, birth, Grants, IsReplica, IsState, IsTrue, Fine}
 use Rattle.sc_group_law.proofs.Installs.{fine_install_row, made_place, fine_order_row}
-use Rattle.sc_group_law.proofs.Sending.{same_name, name_is}
+use Rattle.sc_group_law.proofs.Sending.{name_is}
 use Rattle.sc_group_law.proofs.Counting.{fine_promise_row, fine_accepted_row}
 use Rattle.sc_group_law.proofs.Rows.{fine_nack_row, fine_learn_row, fine_ask_row, fine_request_row, fine_tick_row}
 use Rattle.sc_group_law.proofs.Voting.{IsPlain, ArePlain, promised_in, no_promises, any_accepted, Ended, ended_by, prepare_ended, accept_ended}
-
-draw_equal : (n c m d : ℕ) → n ≡ m → c ≡ d → (let a : Draw = record { node = n; count = c } in a) ≡ record { node = m; count = d }
-draw_equal n c m d e f = ap (λ x. (let a : Draw = record { node = x; count = c } in a)) e ∙ ap (λ x. (let a : Draw = record { node = m; count = x } in a)) f
-
-pub draw_is : (a b : Draw) → same_draw a b ≡ true → a ≡ b
-draw_is a b t =
-    let parts = and_parts (eqb a.node b.node) (eqb a.count b.count) t in
-    draw_equal a.node a.count b.node b.count (eqb-true a.node b.node parts.0) (eqb-true a.count b.count parts.1)
+use Rattle.sc_base.proofs.NameLemmas.{same_name, draw_is}
 
 -- a row of a node
 abbrev pub node_row : ℕ → Event OrderLine → List Mail → Row Mail OrderLine
@@ -59,6 +53,7 @@ none_asked group (Prepare g b start) e = absurd e
 none_asked group (Accept g b slot c) e = absurd e
 none_asked group _ e = refl
 
+-- mails that ask for nothing are no steps
 pub no_asked : (group : Draw) (mails : List Mail) (before : Steps) → ArePlain mails → asked_in group mails before ≡ before
 no_asked group [] before e = refl
 no_asked group (mail ∷ mails) before e = ap (λ x. asked_in group mails (x ++ before)) (none_asked group mail.body e.0) ∙ no_asked group mails before e.1
@@ -73,6 +68,7 @@ quiet_accepts group who event sent e (Accept g b slot c) =
     (and_right (same_draw g group) (list_any (λ (mail : Mail). is_accepted g b slot mail.body) sent) (any_accepted g b slot sent e))
 quiet_accepts group who event sent e _ = refl
 
+-- a row that sends only these is no step
 pub quiet_steps : (group : Draw) (who : ℕ) (event : Event OrderLine) (body : MailBody) (sent : List Mail) (before : Steps) → ArePlain sent → steps_of group who event body sent before ≡ before
 quiet_steps group who event body sent before e =
     ap (λ (x : Steps). x ++ accepts_of group (node_row who event sent) body ++ asked_in group sent before) (quiet_promises group who event sent e body)
@@ -103,9 +99,9 @@ module _ (ahead : Ahead) (base : Base) (made : Command → Type 0) where
   abbrev pub Holds : Steps → ℕ → List ReplicaState → Type 0
   Holds h me replicas = ((replicas ≡ []) × IsFresh me h) ⊎ ((r : ReplicaState) × (replicas ≡ r ∷ []) × IsReplica ahead base made h me r)
 
+  -- a node as the steps say: a replica of the group, or none and no step
   pub record IsNode (h : Steps) (me : ℕ) (node : NodeState) : Type 0 where
     pub me_is : node.me ≡ me
-    pub ahead_is : node.ahead ≡ ahead.slots
     pub holds : Holds h me node.replicas
 
   -- the end of a node's row
@@ -186,7 +182,7 @@ module _ (ahead : Ahead) (base : Base) (made : Command → Type 0) where
       by = e.by;
       lawful = e.lawful;
       requested = e.requested;
-      node = record { me_is = k.me_is; ahead_is = k.ahead_is; holds = inr (place.0, ap (with_replica g place.0) is ∙ with_it g place.0 r t, e.replica) };
+      node = record { me_is = k.me_is; holds = inr (place.0, ap (with_replica g place.0) is ∙ with_it g place.0 r t, e.replica) };
       mails = e.mails;
     }
 
@@ -197,29 +193,27 @@ module _ (ahead : Ahead) (base : Base) (made : Command → Type 0) where
     Goal event body step = NodeEnded me before (steps_of group me event body step.1 before) step
 
     -- a node without a replica of the group makes one of the state that it is sent
-    made_ended : (event : Event OrderLine) (mail : Mail) (g : Draw) (slot : ℕ) (state : Base) (sets : List (List ℕ)) (node : NodeState) → IsNode before me node → node.replicas ≡ [] → IsFresh me before → length sets ≡ node.ahead
-        → IsState ahead base made before slot state sets → Goal event (Install g slot state sets) (with_made (made_by node.me mail.from slot state sets) node)
-    made_ended event mail g slot state sets node k none fresh many t =
-        let f = made_place ahead base made grants me before some law node.me mail.from slot state sets k.me_is fresh lawful requested (many ∙ k.ahead_is) t in
-        let place = made_by node.me mail.from slot state sets in
+    made_ended : (event : Event OrderLine) (mail : Mail) (g : Draw) (slot : ℕ) (state : Base) (sets : List (List ℕ)) (node : NodeState) → IsNode before me node → node.replicas ≡ [] → IsFresh me before → g ≡ group
+        → IsState ahead base made before slot state sets → Goal event (Install g slot state sets) (with_made (made_by node.me mail.from g slot state sets) node)
+    made_ended event mail g slot state sets node k none fresh into t =
+        let f = made_place ahead base made grants me before some law node.me mail.from g slot state sets k.me_is into fresh lawful requested t in
+        let place = made_by node.me mail.from g slot state sets in
         record {
           newer = f.newer;
           are = f.are;
           by = f.by;
           lawful = f.lawful;
           requested = f.requested;
-          node = record { me_is = k.me_is; ahead_is = k.ahead_is; holds = inr (place.0, ap (with_new place.0) none, f.replica) };
+          node = record { me_is = k.me_is; holds = inr (place.0, ap (with_new place.0) none, f.replica) };
           mails = f.mails;
         }
 
     unknown_ended : (event : Event OrderLine) (mail : Mail) (body : MailBody) (node : NodeState) → IsNode before me node → node.replicas ≡ [] → IsFresh me before → IsTrue ahead base made before mail body
         → Goal event body (unknown mail.from body node)
     unknown_ended event mail (Install g slot state sets) node k none fresh t =
-        cond_both (not (eqb (length sets) node.ahead) || nat_lt last_slot slot) _ _ (Goal event (Install g slot state sets))
+        cond_both (not (eqb (length sets) slots_ahead) || nat_lt last_slot slot) _ _ (Goal event (Install g slot state sets))
         (λ _. unchanged event (Install g slot state sets) node [] k tt (λ m a. absurd a))
-        (λ e. (
-        let parts = or_parts (not (eqb (length sets) node.ahead)) (nat_lt last_slot slot) e in
-        made_ended event mail g slot state sets node k none fresh (eqb-true (length sets) node.ahead (not-false (eqb (length sets) node.ahead) parts.0)) t.1))
+        (λ _. made_ended event mail g slot state sets node k none fresh (draw_is g group t.0) t.1)
     unknown_ended event mail body node k none fresh t = absent_ended event mail body node k
 
     -- no state of another group is sent
@@ -261,12 +255,13 @@ module _ (ahead : Ahead) (base : Base) (made : Command → Type 0) where
     unfolding ticked
     tick_all node at rs (inl (none, fresh)) =
         subst (λ xs. Ticked (record node { replicas = (ticked xs []).0 }, (ticked xs []).1)) (sym none)
-        (record { newer = []; are = refl; by = tt; lawful = lawful; requested = requested; node = record { me_is = at.me_is; ahead_is = at.ahead_is; holds = inl (refl, fresh) }; mails = λ m a. absurd a })
+        (record { newer = []; are = refl; by = tt; lawful = lawful; requested = requested; node = record { me_is = at.me_is; holds = inl (refl, fresh) }; mails = λ m a. absurd a })
     tick_all node at rs (inr (r, is, k)) =
         subst (λ xs. Ticked (record node { replicas = (ticked xs []).0 }, (ticked xs []).1)) (sym is)
         (let f = fine_tick_row ahead base made grants me before some law r [] (start r k) in
-        record { newer = f.newer; are = f.are; by = f.by; lawful = f.lawful; requested = f.requested; node = record { me_is = at.me_is; ahead_is = at.ahead_is; holds = inr ((tick_row (r, [])).0, refl, f.replica) }; mails = f.mails })
+        record { newer = f.newer; are = f.are; by = f.by; lawful = f.lawful; requested = f.requested; node = record { me_is = at.me_is; holds = inr ((tick_row (r, [])).0, refl, f.replica) }; mails = f.mails })
 
+    -- the end of a tick
     pub tick_ended : (node : NodeState) → IsNode before me node → Ticked (on_tick node)
     tick_ended node k = tick_all node k node.replicas k.holds
 
@@ -282,6 +277,7 @@ module _ (ahead : Ahead) (base : Base) (made : Command → Type 0) where
       mails = λ m a. elim a [ inl e ↦ subst (λ (x : Mail). IsTrue ahead base made before x x.body) e tt | inr n ↦ absurd n ];
     }
 
+    -- the end of an order
     pub order_ended : (line : OrderLine) (node : NodeState) → IsNode before me node → Ticked (on_order line node)
     order_ended line node at = by at.holds
       where
@@ -303,7 +299,7 @@ module _ (ahead : Ahead) (base : Base) (made : Command → Type 0) where
               by = f.by;
               lawful = f.lawful;
               requested = f.requested;
-              node = record { me_is = at.me_is; ahead_is = at.ahead_is; holds = inr (after, ap (with_replica (group_of_order line.order) after) is ∙ with_it (group_of_order line.order) after r e, f.replica) };
+              node = record { me_is = at.me_is; holds = inr (after, ap (with_replica (group_of_order line.order) after) is ∙ with_it (group_of_order line.order) after r e, f.replica) };
               mails = f.mails;
             }))
             (λ _. desk_ended line.number (Refused (NotLeader None)) node at))

@@ -37,7 +37,7 @@ use Rattle.sc_node_table.specs.Pump.{Found, is_act, waits, refused_by, turned_do
 use Rattle.sc_node_table.specs.Mails.{sent_all, answered}
 use Rattle.sc_node_table.specs.Slots.{at_slot}
 use Rattle.sc_node_table.specs.Replica.{ReplicaState, Place, name_of, next, flying, either, taken_at, may_offer, settled, under_way, is_idle, last_slot}
-use Rattle.sc_sound.specs.Logs.{Ahead}
+use Rattle.sc_players.specs.Players.{Ahead}
 use Rattle.sc_group_law.proofs.Growth.{later_learnt}
 use Rattle.sc_group_law.proofs.Invariant.{Steps, rule, first, Grants, later_has, IsTaken, AreSets, IsReplica, next_after, IsTrueAnswer, Fine, later_flying, turn, steps}
 use Rattle.sc_group_law.proofs.Lists.{Each-take}
@@ -205,6 +205,7 @@ module _ (ahead : Ahead) (base : Base) (made : Command → Type 0) (grants : Gra
     pub acceptor_is : found.1.0.acceptor ≡ r.acceptor
     pub command : IfSome found.0 (λ c. made c × Obeys (must slot r.leader) c)
 
+  -- other calls that were made may wait
   pub with_calls : (h : Steps) (r : ReplicaState) (calls : List Command) → IsReplica ahead base made h me r → Each made calls → IsReplica ahead base made h me (record r { calls = calls })
   with_calls h r calls k e = record {
     me_is = k.me_is;
@@ -223,6 +224,7 @@ module _ (ahead : Ahead) (base : Base) (made : Command → Type 0) (grants : Gra
         record { own = l.own; low = l.low; first_is = l.first_is; votes = l.votes; promisers = l.promisers; reports = l.reports; made = l.made; offers = l.offers });
   }
 
+  -- other acts that were made may wait
   pub with_acts : (h : Steps) (r : ReplicaState) (acts : List Command) → IsReplica ahead base made h me r → Each made acts → IsReplica ahead base made h me (record r { acts = acts })
   with_acts h r acts k e = record {
     me_is = k.me_is;

@@ -16,14 +16,16 @@ use Rattle.sc_machine_table.specs.Group.{Group, group_of}
 use Rattle.sc_machine_table.specs.Machine.{applied}
 use Rattle.sc_actor.specs.declared.rows.Row.{Row}
 use Rattle.sc_scenario.specs.declared.scenarios.Asks.{Asks}
-use Rattle.sc_sound.specs.Logs.{Ahead, state_after, effects_of, decided_log}
-use Rattle.sc_sound.specs.Histories.{entry_of, done_by, gained, history, decided_from, decided_row}
-use Rattle.sc_sound.specs.Requests.{issues, issued_from, issue_row}
-use Rattle.sc_group_law.proofs.Lists.{history-push}
-use Rattle.sc_group_law.proofs.Lists.{get_left}
+use Rattle.sc_players.specs.Players.{Ahead}
+use Rattle.sc_machine_table.specs.Logs.{state_after, effects_of, entry_of, done_by}
+use Rattle.sc_sound.specs.Logs.{decided_log}
+use Rattle.sc_sound.specs.Histories.{gained, history, decided_from, decided_row}
+use Rattle.sc_sound.specs.Requests.{issues, issued_from, issue_row, kept_replies, answered_from, answer_row}
+use Rattle.sc_sound.proofs.Rows.{history-push}
 use Rattle.sc_hist_law.specs.Laws.{IsDone}
-use Rattle.sc_sound.specs.Requests.{kept_replies, answered_from, answer_row}
+use Rattle.sc_actor.proofs.PendingLemmas.{get_left}
 
+-- the rows of a scenario
 abbrev pub Journal : Type 0
 Journal = List (Row Mail OrderLine)
 
@@ -48,6 +50,7 @@ issued_from-push client seq before (r ∷ rows) row =
           ∙ ap (λ o. or_now o (issues client seq row) (before + length (r ∷ rows) + 1)) (sym (cond-false (issues client seq r) (Some (before + 1)) (issued_from client seq (before + 1) rows) f)))
     ]
 
+-- where a request is issued, with one more row
 pub issue-push : (client seq : ℕ) (rows : Journal) (row : Row Mail OrderLine) → issue_row client seq (rows ++ row ∷ []) ≡ or_now (issue_row client seq rows) (issues client seq row) (length rows + 1)
 issue-push client seq rows row =
     let same : 0 + length rows + 1 ≡ length rows + 1 = omega arith in
@@ -73,6 +76,7 @@ decided_from-push ahead base place before (r ∷ rows) row =
           ∙ ap later (append_assoc before (r ∷ []) rows)
     ]
 
+-- where an entry is decided, with one more row
 pub decided-push : (ahead : Ahead) (base : Base) (place : ℕ) (rows : Journal) (row : Row Mail OrderLine)
     → decided_row ahead base place (rows ++ row ∷ []) ≡ or_now (decided_row ahead base place rows) (nat_lt place (length (decided_log ahead base (rows ++ row ∷ [])))) (length rows + 1)
 decided-push ahead base place rows row = decided_from-push ahead base place [] rows row
@@ -123,12 +127,14 @@ answered_from-push first asks seq before (r ∷ rows) row =
           ∙ ap later (append_assoc before (r ∷ []) rows)
     ]
 
+-- where a request is answered, with one more row
 pub answered-push : (first : Route) (asks : Asks) (seq : ℕ) (rows : Journal) (row : Row Mail OrderLine)
     → answer_row first asks seq (rows ++ row ∷ []) ≡ or_now (answer_row first asks seq rows) (nat_le seq (length (kept_replies first asks (rows ++ row ∷ [])))) (length rows + 1)
 answered-push first asks seq rows row = answered_from-push first asks seq [] rows row
 
 -- ---- a log that goes on
 
+-- a list is its front and the rest
 pub split_at : (n : ℕ) (log longer : List Command) → take n longer ≡ log → longer ≡ log ++ drop n longer
 split_at n log longer e = sym (take-append-drop n longer) ∙ ap (λ l. l ++ drop n longer) e
 
@@ -136,6 +142,7 @@ drop_front : {X : Type 0} (xs ys : List X) → drop (length xs) (xs ++ ys) ≡ y
 drop_front [] ys = refl
 drop_front (x ∷ xs) ys = drop_front xs ys
 
+-- the entries of a log that goes on
 pub done_append : (group : Group) (log more : List Command) → done_by group (log ++ more) ≡ done_by group log ++ done_by (state_after group log) more
 done_append group [] more = refl
 done_append group (c ∷ log) more =
@@ -146,6 +153,7 @@ effects_append : (group : Group) (log more : List Command) → effects_of group 
 effects_append group [] more = refl
 effects_append group (c ∷ log) more = ap (λ (es : List Effect). (applied group c).1 ∷ es) (effects_append (applied group c).0 log more)
 
+-- a request that took effect did so in the log that goes on
 pub done_later : (group : Group) (log more : List Command) (place client seq : ℕ) → IsDone group log place client seq → IsDone group (log ++ more) place client seq
 done_later group log more place client seq d = record {
   op = d.op;

@@ -81,6 +81,7 @@ module _ {V : Type 0} (rule : Rule V) (h : List (Step V)) where
       either rest None = refl
       either rest (Some v) = rest v
 
+  -- the decided log is told by acceptances alone
   pub log_only : log_of rule (only h) ≡ log_of rule h
   log_only = ap (λ n. longer rule (only h) n []) (top_only h) ∙ longer_only (top_slot h) []
 
@@ -108,15 +109,18 @@ to_only (Accepted m c t w ∷ h) n b slot v (inr a) = inr (to_only h n b slot v 
 to_only (Cut m upto ∷ h) n b slot v (inl e) = cc
 to_only (Cut m upto ∷ h) n b slot v (inr a) = to_only h n b slot v a
 
+-- what acceptances choose all steps choose
 pub after_from_only : {V : Type 0} (rule : Rule V) (h : List (Step V)) (log : List V) (slot : ℕ) (v : V) → IsChosenAfter rule (only h) log slot v → IsChosenAfter rule h log slot v
 after_from_only rule h log slot v c = record {
   known = c.known;
   chosen = record { ballot = c.chosen.ballot; voters = c.chosen.voters; each = Each-weaker _ _ (λ n a. from_only h _ a) c.chosen.voters c.chosen.each; majority = c.chosen.majority };
 }
 
+-- a log of the acceptances is one of all steps
 pub log_from_only : {V : Type 0} (rule : Rule V) (h : List (Step V)) (log : List V) → IsLog rule (only h) log → IsLog rule h log
 log_from_only rule h log l k v e = after_from_only rule h _ (k + 1) v (l k v e)
 
+-- ... and the other way
 pub log_to_only : {V : Type 0} (rule : Rule V) (h : List (Step V)) (log : List V) → IsLog rule h log → IsLog rule (only h) log
 log_to_only rule h log l k v e = let c = l k v e in record {
   known = c.known;

@@ -16,7 +16,7 @@ use Rattle.sc_member.proofs.Rising.{roster_with, roster_without}
 use Rattle.sc_paxos_words.specs.Among.{Each}
 use Rattle.sc_hist_law.specs.Laws.{LeavesWhole}
 use Rattle.sc_hist_law.proofs.Logs.{called_members}
-use Rattle.sc_sound.specs.Logs.{state_after}
+use Rattle.sc_machine_table.specs.Logs.{state_after}
 
 -- an order makes the group another one only where it is not refused
 ordered_if : (P : Group → Type 0) (gone : Option Route) (why : Option OrderRefusal) (after group : Group) → (why ≡ None → P after) → P group → P (ordered gone why after group).0
@@ -69,6 +69,7 @@ applied_roster group (Leave node order) whole roster =
 applied_roster group (Split at child order) whole roster = absurd whole
 applied_roster group _ whole roster = roster
 
+-- the members are a roster after each log that divides no group
 pub state_roster : (group : Group) (log : List Command) → Each LeavesWhole log → IsRoster group.core.members → IsRoster (state_after group log).core.members
 state_roster group [] whole roster = roster
 state_roster group (c ∷ log) whole roster = state_roster (applied group c).0 log whole.1 (applied_roster group c whole.0 roster)

@@ -25,19 +25,19 @@ use Rattle.sc_paxos_law.proofs.Law.{chosen_by, earlier}
 use Rattle.sc_node_table.specs.Replica.{ReplicaState, Place, name_of, next, members, settled, may_offer, first_set, flying, is_idle, last_slot}
 use Rattle.sc_node_table.specs.Mails.{sent, sent_all}
 use Rattle.sc_node_table.specs.Queues.{call_of, without_call}
-use Rattle.sc_node_table.specs.Pump.{pumped, serves_calls}
+use Rattle.sc_node_table.specs.Pump.{serves_calls}
 use Rattle.sc_node_table.specs.Voting.{nack_row}
 use Rattle.sc_node_table.specs.Rows.{refused_at, queued, requested, request_row, learn_row, taught, asked_from, ask_row, uncounted, asked_again, told_last, tick_row}
 use Rattle.sc_hist_law.specs.Laws.{LogTells}
-use Rattle.sc_sound.specs.Logs.{Ahead}
+use Rattle.sc_players.specs.Players.{Ahead}
 use Rattle.sc_group_law.proofs.Growth.{IsLearnt}
 use Rattle.sc_group_law.proofs.Invariant.{Steps, rule, birth, Grants, IsReplica, IsTrueAnswer, Fine, turn, says}
 use Rattle.sc_group_law.proofs.Sending.{offered_again, learnt_others, fine_elected, fine_saw}
-use Rattle.sc_group_law.proofs.Offering.{with_calls}
+use Rattle.sc_group_law.proofs.Offering.{with_calls, fine_pumped}
 use Rattle.sc_group_law.proofs.Parts.{Each-without_call, flying_found}
 use Rattle.sc_group_law.proofs.Held.{get_dropped}
 use Rattle.sc_group_law.proofs.Welcoming.{installed_place}
-use Rattle.sc_group_law.proofs.Executing.{pumps, fine_executed}
+use Rattle.sc_group_law.proofs.Executing.{fine_executed}
 
 module _ (ahead : Ahead) (base : Base) (made : Command → Type 0) (grants : Grants ahead base made) (me : ℕ) (before : Steps)
     (some : (log : List Command) → Each made log → (node : ℕ) × (rest : List ℕ) × ((rule ahead base).members log ≡ node ∷ rest))
@@ -47,9 +47,6 @@ module _ (ahead : Ahead) (base : Base) (made : Command → Type 0) (grants : Gra
 
   abbrev Replica : Steps → ReplicaState → Type 0
   Replica h r = IsReplica ahead base made h me r
-
-  pumps_it : (place : Place) → Ok place → Ok (pumped place)
-  pumps_it = pumps ahead base made grants me before some law
 
   -- Nack
   pub fine_nack_row : (promised : Ballot) (r : ReplicaState) (mails : List Mail) → Ok (r, mails) → Ok (nack_row promised (r, mails))
@@ -100,6 +97,7 @@ module _ (ahead : Ahead) (base : Base) (made : Command → Type 0) (grants : Gra
   asked_from_place None from slot r mails f = installed_place ahead base made me before from r mails f
   asked_from_place (Some c) from slot r mails f = fine_taught 32 from slot r mails f
 
+  -- the row of an Ask keeps what holds
   pub fine_ask_row : (from slot : ℕ) (r : ReplicaState) (mails : List Mail) → Ok (r, mails) → Ok (ask_row from slot (r, mails))
   unfolding ask_row
   fine_ask_row from slot r mails f = cond_both (nat_lt slot (next r)) _ _ Ok (λ _. asked_from_place (entry_at slot r.log) from slot r mails f) (λ _. f)
@@ -119,10 +117,10 @@ module _ (ahead : Ahead) (base : Base) (made : Command → Type 0) (grants : Gra
 
   fine_queued : (o : Option ℕ) (client seq : ℕ) (op : Op) (r : ReplicaState) (mails : List Mail) → Ok (r, mails) → made (Call client seq op) → Ok (queued o client seq op (r, mails))
   unfolding queued
-  fine_queued None client seq op r mails f m = pumps_it _ (with_calls_place r (r.calls ++ Call client seq op ∷ []) mails f (Each-append made r.calls (Call client seq op ∷ []) f.replica.calls (m, tt)))
+  fine_queued None client seq op r mails f m = fine_pumped ahead base made grants me before some _ (with_calls_place r (r.calls ++ Call client seq op ∷ []) mails f (Each-append made r.calls (Call client seq op ∷ []) f.replica.calls (m, tt)))
   fine_queued (Some other) client seq op r mails f m =
       cond_both (nat_le seq other) _ _ Ok (λ _. f)
-      (λ _. pumps_it _ (with_calls_place r (without_call r.calls client ++ Call client seq op ∷ []) mails f
+      (λ _. fine_pumped ahead base made grants me before some _ (with_calls_place r (without_call r.calls client ++ Call client seq op ∷ []) mails f
       (Each-append made (without_call r.calls client) (Call client seq op ∷ []) (Each-without_call made r.calls client f.replica.calls) (m, tt))))
 
   fine_requested : (o : Option AnswerBody) (client seq : ℕ) (op : Op) (r : ReplicaState) (mails : List Mail) → ((answer : AnswerBody) → o ≡ Some answer → (h : Steps) (to seq : ℕ) → IsTrueAnswer ahead base h to seq answer)
@@ -132,6 +130,7 @@ module _ (ahead : Ahead) (base : Base) (made : Command → Type 0) (grants : Gra
       says ahead base made me before r mails (record { from = r.me; to = 32 + client; body = Answer (name_of r) seq answer }) f refl (dull answer refl (f.newer ++ before) (32 + client) seq)
   fine_requested None client seq op r mails dull f m = fine_queued (call_of r.calls client) client seq op r mails f m
 
+  -- the row of a Request keeps what holds
   pub fine_request_row : (client seq : ℕ) (op : Op) (r : ReplicaState) (mails : List Mail) → Ok (r, mails) → made (Call client seq op) → Ok (request_row client seq op (r, mails))
   unfolding request_row
   fine_request_row client seq op r mails f m =
@@ -164,11 +163,12 @@ module _ (ahead : Ahead) (base : Base) (made : Command → Type 0) (grants : Gra
   settled_runs : (r : ReplicaState) → not (settled r) ≡ false → r.running ≡ true
   settled_runs r e = (and_parts r.running (may_offer r (first_set r.sets)) (not-false (settled r) e)).0
 
+  -- the row of a tick keeps what holds
   pub fine_tick_row : (r : ReplicaState) (mails : List Mail) → Ok (r, mails) → Ok (tick_row (r, mails))
   unfolding tick_row
   fine_tick_row r mails f =
       cond_both (is_some r.group.core.gone || not (is_member (members r) r.me)) _ _ Ok (λ _. f)
       (λ _. cond_both (not (settled r)) _ _ Ok (λ _. fine_elected ahead base made me before r mails f)
       (λ runs. cond_both (is_idle r) _ _ Ok
-      (λ _. pumps_it _ (fine_told_last (entry_at (next r - 1) r.log) r mails refl f))
-      (λ _. pumps_it _ (fine_asked_again (next r) r.sets r mails f (f.replica.leads (settled_runs r runs)).own))))
+      (λ _. fine_pumped ahead base made grants me before some _ (fine_told_last (entry_at (next r - 1) r.log) r mails refl f))
+      (λ _. fine_pumped ahead base made grants me before some _ (fine_asked_again (next r) r.sets r mails f (f.replica.leads (settled_runs r runs)).own))))

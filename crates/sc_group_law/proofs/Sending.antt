@@ -1,6 +1,6 @@
 -- Mails that a row sends, and elections.
 use Rattle.std.proofs.Common.{◌≡◌, ℕ, ◌+◌, ◌≤◌, ◌-◌, ◌^◌, ◌&&◌, true, false, cond, eqb, nat_lt, List, [], ◌∷◌, ◌++◌, Option, Some, inl, inr, refl, ◌∙◌, ap, subst, arith}
-use Rattle.std.proofs.lemmas.Bool.{eq-eqb, and_from, cond-true, cond_both}
+use Rattle.std.proofs.lemmas.Bool.{cond-true, cond_both}
 use Rattle.sc_base.specs.declared.names.Ballot.{Ballot}
 use Rattle.sc_base.specs.declared.names.Draw.{Draw}
 use Rattle.sc_base.specs.Same.{same_draw}
@@ -23,18 +23,17 @@ use Rattle.sc_paxos_law.specs.Steps.{Step, Prepared, Offered}
 use Rattle.sc_node_table.specs.Election.{elected, ended, stopped, saw, open_nodes}
 use Rattle.sc_node_table.specs.Mails.{sent, sent_all, sent_others, answered, answered_all, order_in, told_order, dismissed, dismissed_all}
 use Rattle.sc_node_table.specs.Replica.{ReplicaState, Place, name_of, next, under_way}
-use Rattle.sc_sound.specs.Logs.{Ahead}
+use Rattle.sc_players.specs.Players.{Ahead}
 use Rattle.sc_hist_law.proofs.Logs.{state_same}
 use Rattle.sc_group_law.specs.Steps.{asked_by}
 use Rattle.sc_group_law.proofs.Growth.{IsLearnt, offer_again}
 use Rattle.sc_group_law.proofs.Invariant.{Steps, rule, first, birth, IsReplica, next_after, IsTrueAnswer, Fine, more_steps, turn, says, steps}
-
-pub same_name : (group other : Draw) → group ≡ other → same_draw group other ≡ true
-same_name group other e = and_from (eqb group.node other.node) (eqb group.count other.count) (eq-eqb group.node other.node (ap (λ (d : Draw). d.node) e)) (eq-eqb group.count other.count (ap (λ (d : Draw). d.count) e))
+use Rattle.sc_base.proofs.NameLemmas.{same_name}
 
 pub asked_prepare : (group other : Draw) (b : Ballot) (from : ℕ) → group ≡ other → asked_by other (Prepare group b from) ≡ Prepared b from ∷ []
 asked_prepare group other b from e = cond-true (same_draw group other) (Prepared b from ∷ []) [] (same_name group other e)
 
+-- an Accept of the group is an offer
 pub asked_accept : (group other : Draw) (b : Ballot) (slot : ℕ) (c : Command) → group ≡ other → asked_by other (Accept group b slot c) ≡ Offered b slot c ∷ []
 asked_accept group other b slot c e = cond-true (same_draw group other) (Offered b slot c ∷ []) [] (same_name group other e)
 
@@ -51,6 +50,7 @@ module _ (ahead : Ahead) (base : Base) (made : Command → Type 0) (me : ℕ) (b
 
   -- ---- one mail and several
 
+  -- a Prepare to each of some nodes keeps what holds
   pub prepared_all : (nodes : List ℕ) (r : ReplicaState) (mails : List Mail) (b : Ballot) (from : ℕ) → Ok (r, mails) → b.node ≡ me → from ≤ next r
       → Ok (r, sent_all r.me nodes (Prepare (name_of r) b from) mails)
   unfolding sent_all
@@ -82,6 +82,7 @@ module _ (ahead : Ahead) (base : Base) (made : Command → Type 0) (me : ℕ) (b
       (offer_again (rule ahead base) (first ahead base) h b slot c f.lawful a) (λ d s v e. f.requested d s v (there d s v e)) more (λ _. inl refl) in
       offered_again nodes r (mails ++ mail ∷ []) b slot c after own (inl refl)
 
+  -- a Learn to each of some nodes keeps what holds
   pub learnt_others : (nodes : List ℕ) (r : ReplicaState) (mails : List Mail) (group : Draw) (slot : ℕ) (c : Command) → (f : Ok (r, mails)) → IsLearnt (rule ahead base) (f.newer ++ before) slot c
       → Ok (r, sent_others r.me nodes (Learn group slot c) mails)
   unfolding sent_others says
@@ -96,6 +97,7 @@ module _ (ahead : Ahead) (base : Base) (made : Command → Type 0) (me : ℕ) (b
   abbrev pub IsDull : AnswerBody → Type 0
   IsDull answer = (h : Steps) (to seq : ℕ) → IsTrueAnswer ahead base h to seq answer
 
+  -- an answer that tells of no entry keeps what holds
   pub answered_one : (r : ReplicaState) (mails : List Mail) (group : Draw) (answer : AnswerBody) → IsDull answer → (c : Command) → Ok (r, mails) → Ok (r, answered r.me group answer c mails)
   unfolding answered
   answered_one r mails group answer dull (Call client seq op) f =
@@ -157,6 +159,7 @@ module _ (ahead : Ahead) (base : Base) (made : Command → Type 0) (me : ℕ) (b
     };
   }
 
+  -- an election that is begun keeps what holds
   pub fine_elected : (r : ReplicaState) (mails : List Mail) → Ok (r, mails) → Ok (elected (r, mails))
   unfolding elected
   fine_elected r mails f =
@@ -186,6 +189,7 @@ module _ (ahead : Ahead) (base : Base) (made : Command → Type 0) (me : ℕ) (b
     leads = λ e. cc;
   }
 
+  -- the end of a leadership keeps what holds
   pub fine_ended : (hint : Option ℕ) (answer : AnswerBody) → IsDull answer → (r : ReplicaState) (mails : List Mail) → Ok (r, mails) → Ok (ended hint answer (r, mails))
   unfolding ended
   fine_ended hint answer dull r mails f =
@@ -193,6 +197,7 @@ module _ (ahead : Ahead) (base : Base) (made : Command → Type 0) (me : ℕ) (b
       (answered_each r mails (name_of r) answer dull (under_way r) f) in
       turn ahead base made me before r _ _ told (ended_replica (told.newer ++ before) r hint told.replica)
 
+  -- a stop keeps what holds
   pub fine_stopped : (hint : Option ℕ) (r : ReplicaState) (mails : List Mail) → Ok (r, mails) → Ok (stopped hint (r, mails))
   fine_stopped hint r mails f = fine_ended hint (Says.NotLeader hint) (λ h to seq. tt) r mails f
 
@@ -222,6 +227,7 @@ module _ (ahead : Ahead) (base : Base) (made : Command → Type 0) (me : ℕ) (b
   seen_place : (b : Ballot) (r : ReplicaState) (mails : List Mail) → Ok (r, mails) → (after : ReplicaState) → Ok (after, mails) → Ok (cond (r.running && below r.leader.ballot b) (stopped (Some b.node) (after, mails)) (after, mails))
   seen_place b r mails f after k = cond_both (r.running && below r.leader.ballot b) _ _ Ok (λ _. fine_stopped (Some b.node) after mails k) (λ _. k)
 
+  -- a ballot that is seen keeps what holds
   pub fine_saw : (b : Ballot) (r : ReplicaState) (mails : List Mail) → Ok (r, mails) → Ok (saw b (r, mails))
   unfolding saw
   fine_saw b r mails f =

@@ -33,22 +33,20 @@ use Rattle.sc_paxos_law.proofs.Law.{one_value_per_slot}
 use Rattle.sc_paxos_law.proofs.Decided.{log_of-longest, front_of_log, log_grows}
 use Rattle.sc_scenario.specs.declared.scenarios.Asks.{Asks}
 use Rattle.sc_scenario.specs.declared.scenarios.Scenario.{Scenario}
-use Rattle.sc_world.specs.World.{route_of, schedule}
-use Rattle.sc_hist_law.specs.Laws.{IsDone, LeavesWhole, LogTells}
+use Rattle.sc_players.specs.Players.{route_of, schedule, Ahead, system_of, Lawful, Player, replies_of}
+use Rattle.sc_hist_law.specs.Laws.{IsDone, LeavesWhole, LogTells, HasEntry}
 use Rattle.sc_hist_law.proofs.Told.{log_tells}
 use Rattle.sc_sound.specs.Accepts.{accepts, accepts_at}
-use Rattle.sc_sound.specs.Laws.{HasEntry}
-use Rattle.sc_sound.specs.Logs.{Ahead, state_after, IsChosenIn, decided_log}
-use Rattle.sc_sound.specs.Histories.{done_by, history, decided_row}
-use Rattle.sc_sound.specs.Requests.{IsRequest}
+use Rattle.sc_machine_table.specs.Logs.{state_after, done_by}
+use Rattle.sc_sound.specs.Logs.{IsChosenIn, decided_log}
+use Rattle.sc_sound.specs.Histories.{history, decided_row}
+use Rattle.sc_sound.specs.Requests.{IsRequest, kept_replies, kept_reply}
 use Rattle.sc_hist_law.proofs.Logs.{state_core}
 use Rattle.sc_group_law.specs.Laws.{GoesOn, IsReplicated, TellsHistory, IsInTime, KeepsOrder, IsSound, GroupJournalsAreSound}
-use Rattle.sc_group_law.specs.Players.{system_of, Lawful, HasOneGroup}
-use Rattle.sc_world.specs.declared.party.Party.{Party}
-use Rattle.sc_world.specs.declared.party.Party.TheVariants.{Node as ANode}
+use Rattle.sc_group_law.specs.OneGroup.{HasOneGroup}
+use Rattle.sc_players.specs.declared.roles.Role.TheVariants.{Node as ANode}
 use Rattle.sc_group_law.specs.Steps.{asked_by, asked_in, promises_at, steps_at, steps}
 use Rattle.sc_group_law.specs.Told.{HasExecuted, IsDoneAt}
-use Rattle.sc_sound.specs.Requests.{replies_of, kept_replies, kept_reply}
 use Rattle.sc_group_law.proofs.Invariant.{Steps, rule, first, birth, IsReplica, next_after}
 use Rattle.sc_group_law.proofs.Nodes.{Holds, IsNode}
 use Rattle.sc_group_law.proofs.Held.{mirrors_itself}
@@ -58,11 +56,6 @@ use Rattle.sc_group_law.proofs.Places.{Journal, split_at, done_append, decided_i
 use Rattle.sc_group_law.proofs.Clients.{Made, IsAnswered}
 use Rattle.sc_group_law.proofs.Journal.{h_of, decided_is, chosen_offered, entries_whole, Kept}
 use Rattle.sc_group_law.proofs.Walked.{keeps}
-
-place_among : {X : Type 0} (xs : List X) (k : ℕ) (x : X) → slice_get xs k ≡ Some x → Among x xs
-place_among [] k x e = cc
-place_among {X} (y ∷ ys) zero x e = let same : y ≡ x = cc in inl same
-place_among (y ∷ ys) (suc k) x e = inr (place_among ys k x e)
 
 among_place : {X : Type 0} (xs : List X) (x : X) → Among x xs → (k : ℕ) × (slice_get xs k ≡ Some x)
 among_place [] x a = absurd a
@@ -155,11 +148,10 @@ module _ (ahead : Ahead) (words : ℕ → ℕ → ℕ × ℕ) (scenario : Scenar
     requested = λ b slot c a. absurd a;
     true_mail = λ m a. absurd a;
     nodes = λ n low high. record {
-      node = record { me = n; ahead = ahead.slots; replicas = map (λ b. born_replica ahead.slots n b) (filter (λ b. is_member b.core.members n) (base ∷ [])) };
+      node = record { me = n; replicas = map (λ b. born_replica ahead.slots n b) (filter (λ b. is_member b.core.members n) (base ∷ [])) };
       value_is = refl;
       is = record {
         me_is = refl;
-        ahead_is = refl;
         holds = cond_both (is_member base.core.members n) (base ∷ []) []
             (λ bs. Holds ahead base (Made scenario []) [] n (map (λ b. born_replica ahead.slots n b) bs))
             (λ _. inr (born_replica ahead.slots n base, refl, born_replica_is n)) (λ _. inl (refl, tt));
@@ -293,7 +285,7 @@ module _ (ahead : Ahead) (words : ℕ → ℕ → ℕ × ℕ) (scenario : Scenar
           | inr f ↦ (
               let at = k.clients asks stands in
               let there : slice_get (kept_replies (route_of base) asks rows) (seq - 1) ≡ Some reply = sym (cond-false (eqb seq 0) None (slice_get (kept_replies (route_of base) asks rows) (seq - 1)) f) ∙ e in
-              let here = subst (λ (p : Party). slice_get (replies_of p) (seq - 1) ≡ Some reply) at.value_is there in
+              let here = subst (λ (p : Player). slice_get (replies_of p) (seq - 1) ≡ Some reply) at.value_is there in
               let apart = eqb-false seq 0 f in
               let number : (seq - 1) + 1 ≡ seq = omega (arith, apart) in
               answered_in asks.client seq reply (subst (λ n. IsAnswered ahead base h asks.client n reply) number (at.is.replies (seq - 1) reply here)))
@@ -349,9 +341,10 @@ module _ (ahead : Ahead) (words : ℕ → ℕ → ℕ × ℕ) (scenario : Scenar
               absurd (omega (arith, order, before, le, one_issue, after)))
         ]
 
-    pub sound_rows : (more : Journal) → K (rows ++ more) → IsSound ahead scenario base rows more
+    sound_rows : (more : Journal) → K (rows ++ more) → IsSound ahead scenario base rows more
     sound_rows more all = record { replicated = replicated more all; tells = tells; in_time = in_time_of; in_order = in_order_of }
 
+-- each first part of a lawful journal is sound
 pub journals_sound : GroupJournalsAreSound
 journals_sound ahead words scenario base one rows more lawful =
     sound_rows ahead words scenario base one rows (all_keep ahead words scenario base one rows (lawful-prefix (system_of ahead words scenario) (schedule scenario) rows more lawful)) more

@@ -32,17 +32,19 @@ use Rattle.sc_node_table.specs.Replica.{ReplicaState, Place, name_of}
 use Rattle.sc_node_table.specs.Voting.{hinted, promise_to, promised, prepare_row, accepted_to, took, accept_row}
 use Rattle.sc_hist_law.specs.Laws.{LogTells}
 use Rattle.sc_sound.specs.Accepts.{is_accepted}
-use Rattle.sc_sound.specs.Logs.{Ahead}
+use Rattle.sc_players.specs.Players.{Ahead}
 use Rattle.sc_group_law.specs.Steps.{asked_in, promised_by}
 use Rattle.sc_group_law.proofs.Growth.{By, later_learnt}
 use Rattle.sc_group_law.proofs.Held.{Mirrors, promise_mirrors, accept_mirrors}
 use Rattle.sc_group_law.proofs.Invariant.{Steps, rule, first, birth, Grants, later_has, IsReplica, IsTrue, Fine, later_flying, grown_true, asked_push, says}
-use Rattle.sc_group_law.proofs.Sending.{same_name, name_is, fine_saw}
+use Rattle.sc_group_law.proofs.Sending.{name_is, fine_saw}
 use Rattle.sc_group_law.proofs.Executing.{hint_replica}
 use Rattle.sc_group_law.proofs.Welcoming.{installed_place}
+use Rattle.sc_base.proofs.NameLemmas.{same_name, ballot_itself}
 
 -- ---- mails that are no step
 
+-- a mail that is no step
 abbrev pub IsPlain : MailBody → Type 0
 IsPlain (Request group client seq op) = Unit {0}
 IsPlain (Answer group seq answer) = Unit {0}
@@ -52,6 +54,7 @@ IsPlain (Install group slot record_of sets) = Unit {0}
 IsPlain (Told number result) = Unit {0}
 IsPlain _ = ⊥
 
+-- mails that are no steps
 abbrev pub ArePlain : List Mail → Type 0
 ArePlain mails = Each (λ mail. IsPlain mail.body) mails
 
@@ -88,6 +91,7 @@ unfolding saw
 saw_replies b r mails e =
     cond_both (r.running && below r.leader.ballot b) _ _ (λ (place : Place). ArePlain place.1) (λ _. ended_replies (Some b.node) _ _ mails e) (λ _. e)
 
+-- what these mails promise, newest first
 abbrev pub promised_in : Draw → ℕ → Ballot → ℕ → List Mail → Steps
 promised_in group who b from_slot mails = flat_map (λ mail. promised_by group who b from_slot mail.body) mails
 
@@ -112,6 +116,7 @@ none_accepted group b slot (Install g at record_of sets) e = refl
 none_accepted group b slot (Told number result) e = refl
 none_accepted group b slot _ e = absurd e
 
+-- plain mails promise nothing
 pub no_promises : (group : Draw) (who : ℕ) (b : Ballot) (from_slot : ℕ) (mails : List Mail) → ArePlain mails → promised_in group who b from_slot mails ≡ []
 no_promises group who b from_slot [] e = refl
 no_promises group who b from_slot (mail ∷ mails) e =
@@ -123,6 +128,7 @@ one_promise group who b from_slot [] mail e = append-nil (promised_by group who 
 one_promise group who b from_slot (m ∷ mails) mail e =
     ap (λ (x : Steps). x ++ promised_in group who b from_slot (mails ++ mail ∷ [])) (none_promised group who b from_slot m.body e.0) ∙ one_promise group who b from_slot mails mail e.1
 
+-- plain mails say nothing of an acceptance
 pub any_accepted : (group : Draw) (b : Ballot) (slot : ℕ) (mails : List Mail) → ArePlain mails → list_any (λ mail. is_accepted group b slot mail.body) mails ≡ false
 any_accepted group b slot [] e = refl
 any_accepted group b slot (mail ∷ mails) e =
@@ -140,14 +146,12 @@ no_accepted group who b slot c mails e =
     cond_both (same_draw group group && list_any (λ (mail : Mail). is_accepted group b slot mail.body) mails) (Accepted who b slot c ∷ []) [] (λ x. x ≡ [])
     (λ t. (let no_way : true ≡ false = sym (and_parts (same_draw group group) _ t).1 ∙ none in absurd (cc))) (λ _. refl)
 
-same_itself : (b : Ballot) → same_ballot b b ≡ true
-same_itself b = and_from (eqb b.round b.round) (eqb b.node b.node) (eq-eqb b.round b.round refl) (eq-eqb b.node b.node refl)
-
 own_state : (me : ℕ) (here there : AcceptorState Command) → cond (eqb me me) here there ≡ here
 own_state me here there = cond-true (eqb me me) here there (eq-eqb me me refl)
 
 -- ---- the end of a row: the steps of the whole row
 
+-- the end of a row: the steps of the whole row, the replica, and the mails
 pub record Ended (ahead : Ahead) (base : Base) (made : Command → Type 0) (me : ℕ) (before after : Steps) (place : Place) : Type 0 where
   pub newer : Steps
   pub are : after ≡ newer ++ before
@@ -169,6 +173,7 @@ module _ (ahead : Ahead) (base : Base) (made : Command → Type 0) (grants : Gra
   abbrev group : Draw
   group = base.core.id
 
+  -- a row that votes for nothing
   pub ended_by : (place : Place) (after : Steps) → Ok place → after ≡ asked_in group place.1 before → Ended ahead base made me before after place
   ended_by place after f e = record { newer = f.newer; are = e ∙ f.are; by = f.by; lawful = f.lawful; requested = f.requested; replica = f.replica; mails = f.mails }
 
@@ -248,7 +253,7 @@ module _ (ahead : Ahead) (base : Base) (made : Command → Type 0) (grants : Gra
         let above = leb-false from_slot r.acceptor.floor low in
         let under = k.acceptor_is.low in
         let is_promise : promised_by group me ballot from_slot answer.body ≡ s ∷ [] = cond-true (same_draw (name_of r) group && same_ballot ballot ballot) (s ∷ []) []
-        (and_from (same_draw (name_of r) group) (same_ballot ballot ballot) (same_name (name_of r) group named) (same_itself ballot)) in
+        (and_from (same_draw (name_of r) group) (same_ballot ballot ballot) (same_name (name_of r) group named) (ballot_itself ballot)) in
         acceptor_ended s ballot r mails answer (after_promise ballot r.acceptor) _ f
         (ap (λ (x : Steps). x ++ asked_in group (mails ++ answer ∷ []) before) (one_promise group me ballot from_slot mails answer replies ∙ is_promise)
         ∙ ap (λ (x : Steps). s ∷ x) (asked_push ahead base mails answer before ∙ f.are))
@@ -261,7 +266,7 @@ module _ (ahead : Ahead) (base : Base) (made : Command → Type 0) (grants : Gra
         (λ b slot c e. cc) (λ b start e. cc)
         (λ _. (from_slot, inl (ap (λ n. Promised n ballot from_slot reports) (sym k.me_is)), inr asked))
 
-    pub promised_ended : After (promised from ballot from_slot (r, mails))
+    promised_ended : After (promised from ballot from_slot (r, mails))
     unfolding promised install_to
     promised_ended =
         cond_both (nat_le from_slot r.acceptor.floor) _ _ After
@@ -294,7 +299,7 @@ module _ (ahead : Ahead) (base : Base) (made : Command → Type 0) (grants : Gra
         let state = state_of (first ahead base) me h in
         let named = name_is ahead base made me before h r k in
         let is_vote : is_accepted group ballot slot vote.body ≡ true = and_from (same_draw (name_of r) group && same_ballot ballot ballot) (eqb slot slot)
-        (and_from (same_draw (name_of r) group) (same_ballot ballot ballot) (same_name (name_of r) group named) (same_itself ballot)) (eq-eqb slot slot refl) in
+        (and_from (same_draw (name_of r) group) (same_ballot ballot ballot) (same_name (name_of r) group named) (ballot_itself ballot)) (eq-eqb slot slot refl) in
         let one : accepted_in group me ballot slot c (mails ++ vote ∷ []) ≡ s ∷ [] = cond-true (same_draw group group && list_any (λ (m : Mail). is_accepted group ballot slot m.body) (mails ++ vote ∷ [])) (s ∷ []) []
         (and_from (same_draw group group) _ (same_name group group refl) (one_accepted group ballot slot mails vote replies is_vote)) in
         acceptor_ended s ballot r mails vote (after_accept report r.acceptor) _ f
@@ -305,7 +310,7 @@ module _ (ahead : Ahead) (base : Base) (made : Command → Type 0) (grants : Gra
         (λ b at d e. cc) (λ b start e. cc)
         (λ _. (c, inl (ap (λ n. Accepted n ballot slot c) (sym k.me_is))))
 
-    pub took_ended : Then (took from report (r, mails))
+    took_ended : Then (took from report (r, mails))
     unfolding took install_to
     took_ended =
         cond_both (nat_le slot r.acceptor.floor) _ _ Then
@@ -317,6 +322,7 @@ module _ (ahead : Ahead) (base : Base) (made : Command → Type 0) (grants : Gra
 
   -- ---- the rows
 
+  -- the end of the row of a Prepare
   pub prepare_ended : (from : ℕ) (ballot : Ballot) (from_slot : ℕ) (r : ReplicaState) → Ok (r, []) → Among (Prepared ballot from_slot) before
       → Ended ahead base made me before (promised_in group me ballot from_slot (prepare_row from ballot from_slot (r, [])).1 ++ asked_in group (prepare_row from ballot from_slot (r, [])).1 before) (prepare_row from ballot from_slot (r, []))
   unfolding prepare_row
@@ -325,6 +331,7 @@ module _ (ahead : Ahead) (base : Base) (made : Command → Type 0) (grants : Gra
       let place = saw ballot (r, []) in
       promised_ended from ballot from_slot place.0 place.1 seen (saw_replies ballot r [] tt) (Among-right (Prepared ballot from_slot) seen.newer before asked)
 
+  -- the end of the row of an Accept
   pub accept_ended : (from : ℕ) (ballot : Ballot) (slot : ℕ) (c : Command) (r : ReplicaState) → Ok (r, []) → Among (Offered ballot slot c) before
       → Ended ahead base made me before (accepted_in group me ballot slot c (accept_row from ballot slot c (r, [])).1 ++ asked_in group (accept_row from ballot slot c (r, [])).1 before) (accept_row from ballot slot c (r, []))
   unfolding accept_row

@@ -1,6 +1,5 @@
 -- Each row of a lawful journal keeps what holds: the rows of nodes, of clients and of the network.
 use Rattle.std.proofs.Common.{◌≡◌, ℕ, zero, suc, ◌+◌, ◌<◌, ◌≤◌, ◌&&◌, Bool, true, false, eqb, List, [], ◌∷◌, ◌++◌, map, Option, Some, None, ◌⊎◌, inl, inr, refl, sym, ◌∙◌, ap, subst, arith}
-use Rattle.std.specs.Prelude.{slice_get}
 use Rattle.std.specs.Option.{option_map}
 use Rattle.std.specs.List.{list_any}
 use Rattle.std.proofs.lemmas.Bool.{cases_Bool, eqb-true, eqb-false, eq-eqb, ne_eqb, and_from, or_left, cond-true, cond-false}
@@ -29,21 +28,17 @@ use Rattle.sc_node_table.specs.Node.{NodeState, on_mail, on_tick, on_order}
 use Rattle.sc_node_table.specs.Slots.{numbers}
 use Rattle.sc_paxos_words.specs.Among.{Among, Each}
 use Rattle.sc_paxos_words.proofs.ListLemmas.{Each-among, Each-weaker, find_found}
-use Rattle.sc_paxos_law.proofs.Among.{Among-either, from_map}
+use Rattle.sc_paxos_law.proofs.Among.{Among-either, from_map, place_among}
 use Rattle.sc_scenario.specs.declared.scenarios.Asks.{Asks}
 use Rattle.sc_scenario.specs.declared.scenarios.Scenario.{Scenario}
-use Rattle.sc_world.specs.World.{route_of, client_actor}
+use Rattle.sc_players.specs.Players.{route_of, Ahead, node_seat, births, system_of, player_table, client_seat, client_seats, Player, replies_of}
 use Rattle.sc_hist_law.specs.Laws.{LeavesWhole, LogTells}
 use Rattle.sc_sound.specs.Accepts.{accepts_got}
-use Rattle.sc_sound.specs.Logs.{Ahead}
 use Rattle.sc_sound.specs.Requests.{issues, asks_for}
-use Rattle.sc_group_law.proofs.Lists.{any_push}
+use Rattle.sc_sound.proofs.Rows.{any_push}
 use Rattle.sc_group_law.specs.Steps.{asked_in, promises_got, steps_at}
-use Rattle.sc_group_law.specs.Players.{node_seat, births, system_of, HasOneGroup}
-use Rattle.sc_world.specs.World.{party_table, client_seat, client_seats}
-use Rattle.sc_world.specs.declared.party.Party.{Party}
-use Rattle.sc_world.specs.declared.party.Party.TheVariants.{Node as ANode, Client as AClient}
-use Rattle.sc_sound.specs.Requests.{replies_of}
+use Rattle.sc_group_law.specs.OneGroup.{HasOneGroup}
+use Rattle.sc_players.specs.declared.roles.Role.TheVariants.{Node as ANode, Client as AClient}
 use Rattle.sc_group_law.proofs.Growth.{By, fresh_on}
 use Rattle.sc_group_law.proofs.Invariant.{Steps, rule, birth, IsTrue, grown_true, other_steps}
 use Rattle.sc_group_law.proofs.Nodes.{node_row, steps_of, quiet_steps, no_asked, Holds, IsNode, NodeEnded, mail_ended, tick_ended, order_ended}
@@ -52,11 +47,7 @@ use Rattle.sc_group_law.proofs.Projected.{steps-push}
 use Rattle.sc_group_law.proofs.Places.{Journal}
 use Rattle.sc_group_law.proofs.Clients.{Made, made_later, made_whole, grants, issued_now, IsAsk, IsClient, Grew, later_client, client_after, client_sends}
 use Rattle.sc_group_law.proofs.Journal.{h_of, IsNodeAt, IsClientAt, replies_in, Kept, ClientMoved, push}
-
-place_among : {X : Type 0} (xs : List X) (k : ℕ) (x : X) → slice_get xs k ≡ Some x → Among x xs
-place_among [] k x e = cc
-place_among {X} (y ∷ ys) zero x e = let same : y ≡ x = cc in inl same
-place_among (y ∷ ys) (suc k) x e = inr (place_among ys k x e)
+use Rattle.sc_base.specs.Limits.{client_actor}
 
 number_among : (sent : List Mail) (number : ℕ) (m : Mail) → numbered sent number ≡ Some m → Among m sent
 number_among sent zero m e = cc
@@ -89,10 +80,10 @@ module _ (ahead : Ahead) (words : ℕ → ℕ → ℕ × ℕ) (scenario : Scenar
   abbrev group : Draw
   group = base.core.id
 
-  abbrev nseat : ℕ → Seat Party
+  abbrev nseat : ℕ → Seat Player
   nseat n = node_seat ahead (base ∷ []) n
 
-  abbrev cseat : Asks → Seat Party
+  abbrev cseat : Asks → Seat Player
   cseat asks = client_seat (route_of base) asks
 
   abbrev K : Journal → Type 0
@@ -100,15 +91,15 @@ module _ (ahead : Ahead) (words : ℕ → ℕ → ℕ × ℕ) (scenario : Scenar
 
   -- ---- players that do not act
 
-  other_value : (seat : Seat Party) (rows : Journal) (row : Row Mail OrderLine) → eqb row.who seat.who ≡ false → value party_table seat (rows ++ row ∷ []) ≡ value party_table seat rows
-  other_value seat rows row f = value-snoc party_table seat rows row ∙ cond-false (eqb row.who seat.who) _ _ f
+  other_value : (seat : Seat Player) (rows : Journal) (row : Row Mail OrderLine) → eqb row.who seat.who ≡ false → value player_table seat (rows ++ row ∷ []) ≡ value player_table seat rows
+  other_value seat rows row f = value-snoc player_table seat rows row ∙ cond-false (eqb row.who seat.who) _ _ f
 
-  own_value : (seat : Seat Party) (rows : Journal) (row : Row Mail OrderLine) → row.who ≡ seat.who
-      → value party_table seat (rows ++ row ∷ []) ≡ (acted party_table (value party_table seat rows) (input_of (mails rows) row.event)).0
-  own_value seat rows row e = value-snoc party_table seat rows row ∙ cond-true (eqb row.who seat.who) _ _ (eq-eqb row.who seat.who e)
+  own_value : (seat : Seat Player) (rows : Journal) (row : Row Mail OrderLine) → row.who ≡ seat.who
+      → value player_table seat (rows ++ row ∷ []) ≡ (acted player_table (value player_table seat rows) (input_of (mails rows) row.event)).0
+  own_value seat rows row e = value-snoc player_table seat rows row ∙ cond-true (eqb row.who seat.who) _ _ (eq-eqb row.who seat.who e)
 
   node_still : (newer : Steps) (who : ℕ) (h : Steps) (made : Command → Type 0) (n : ℕ) (node : NodeState) → Each (By who) newer → (who ≡ n → ⊥) → IsNode ahead base made h n node → IsNode ahead base made (newer ++ h) n node
-  node_still newer who h made n node by ne at = record { me_is = at.me_is; ahead_is = at.ahead_is; holds = still at.holds }
+  node_still newer who h made n node by ne at = record { me_is = at.me_is; holds = still at.holds }
     where
       still : Holds ahead base made h n node.replicas → Holds ahead base made (newer ++ h) n node.replicas
       still (inl (none, fresh)) = inl (none, fresh_on n who newer h by ne fresh)
@@ -153,7 +144,7 @@ module _ (ahead : Ahead) (words : ℕ → ℕ → ℕ × ℕ) (scenario : Scenar
     law_made log e = law log (whole log e)
 
     node_moved : (n : ℕ) → 1 ≤ n → n ≤ scenario.nodes → (event : Event OrderLine) (step : NodeState × List Mail)
-        → acted party_table (value party_table (nseat n) rows) (input_of (mails rows) event) ≡ (ANode step.0, step.1)
+        → acted player_table (value player_table (nseat n) rows) (input_of (mails rows) event) ≡ (ANode step.0, step.1)
         → NodeEnded ahead base made n h (steps_at group (mails rows) (node_row n event step.1) h) step → K (rows ++ node_row n event step.1 ∷ [])
     node_moved n low high event step acts ended =
         let row = node_row n event step.1 in
@@ -176,25 +167,25 @@ module _ (ahead : Ahead) (words : ℕ → ℕ → ℕ × ℕ) (scenario : Scenar
               client_still ended.newer rows row asks (k.clients asks stands) (ne_eqb n (client_actor asks.client) (λ e. absurd (omega (arith, e, up, high, limit)))));
         })
 
-    node_event : (n : ℕ) → 1 ≤ n → n ≤ scenario.nodes → (event : Event OrderLine) → IsOpen (system_of ahead words scenario) rows n event → K (rows ++ row_of party_table (nseat n) rows event ∷ [])
+    node_event : (n : ℕ) → 1 ≤ n → n ≤ scenario.nodes → (event : Event OrderLine) → IsOpen (system_of ahead words scenario) rows n event → K (rows ++ row_of player_table (nseat n) rows event ∷ [])
     node_event n low high event open_ = by event open_
       where
         at : IsNodeAt ahead scenario base h rows rows n
         at = k.nodes n low high
 
-        acting : (e : Event OrderLine) (step : NodeState × List Mail) → acted party_table (ANode at.node) (input_of (mails rows) e) ≡ (ANode step.0, step.1)
-            → NodeEnded ahead base made n h (steps_at group (mails rows) (node_row n e step.1) h) step → K (rows ++ row_of party_table (nseat n) rows e ∷ [])
+        acting : (e : Event OrderLine) (step : NodeState × List Mail) → acted player_table (ANode at.node) (input_of (mails rows) e) ≡ (ANode step.0, step.1)
+            → NodeEnded ahead base made n h (steps_at group (mails rows) (node_row n e step.1) h) step → K (rows ++ row_of player_table (nseat n) rows e ∷ [])
         acting e step acts ended =
-            let all = ap (λ p. acted party_table p (input_of (mails rows) e)) at.value_is ∙ acts in
+            let all = ap (λ p. acted player_table p (input_of (mails rows) e)) at.value_is ∙ acts in
             subst (λ (sent : List Mail). K (rows ++ node_row n e sent ∷ [])) (sym (ap (λ x. x.1) all)) (node_moved n low high e step all ended)
 
         quiet : (e : Event OrderLine) → NodeEnded ahead base made n h (steps_at group (mails rows) (node_row n e []) h) (at.node, [])
         quiet e = record { newer = []; are = steps_plain group (mails rows) n e [] h tt; by = tt; lawful = k.lawful; requested = k.requested; node = at.is; mails = λ m a. absurd a }
 
-        by : (e : Event OrderLine) → IsOpen (system_of ahead words scenario) rows n e → K (rows ++ row_of party_table (nseat n) rows e ∷ [])
+        by : (e : Event OrderLine) → IsOpen (system_of ahead words scenario) rows n e → K (rows ++ row_of player_table (nseat n) rows e ∷ [])
         by (Deliver number) (m, under, to) =
             let step = on_mail m.from m.body at.node in
-            acting (Deliver number) step (ap (λ o. acted party_table (ANode at.node) (option_map Got o)) under.sent)
+            acting (Deliver number) step (ap (λ o. acted player_table (ANode at.node) (option_map Got o)) under.sent)
             (subst (λ (after : Steps). NodeEnded ahead base made n h after step) (sym (steps_deliver group (mails rows) n number m step.1 h under.sent))
             (mail_ended ahead base made (grants ahead base scenario rows) n h some_made law_made k.lawful k.requested (Deliver number) m at.node at.is (k.true_mail m (number_among (mails rows) number m under.sent))))
         by Tick o = acting Tick (on_tick at.node) refl (tick_ended ahead base made (grants ahead base scenario rows) n h some_made law_made k.lawful k.requested at.node at.is)
@@ -236,15 +227,15 @@ module _ (ahead : Ahead) (words : ℕ → ℕ → ℕ × ℕ) (scenario : Scenar
 
       -- what becomes of the client: it and its replies, and what it sends
       record IsTurned (event : Event OrderLine) (after : Client) (sent : List Mail) : Type 0 where
-        acts : acted party_table (AClient at.client) (input_of (mails rows) event) ≡ (AClient after, sent)
+        acts : acted player_table (AClient at.client) (input_of (mails rows) event) ≡ (AClient after, sent)
         is : IsClient ahead base h asks after
         grew : Grew ahead base h asks at.client.replies after.replies
         sends : (sent ≡ []) ⊎ ((g : Draw) × (target : ℕ) × (request : ℕ × Op) × IsAsk asks request × (sent ≡ request_of asks.client g target request ∷ []))
         fresh : is_go event ≡ false → (at.client.replies ≡ []) × (at.client.waiting ≡ None) → (after.replies ≡ []) × (after.waiting ≡ None)
 
-      client_moved : (event : Event OrderLine) (after : Client) (sent : List Mail) → IsTurned event after sent → K (rows ++ row_of party_table (cseat asks) rows event ∷ [])
+      client_moved : (event : Event OrderLine) (after : Client) (sent : List Mail) → IsTurned event after sent → K (rows ++ row_of player_table (cseat asks) rows event ∷ [])
       client_moved event after sent t =
-          let all = ap (λ p. acted party_table p (input_of (mails rows) event)) at.value_is ∙ t.acts in
+          let all = ap (λ p. acted player_table p (input_of (mails rows) event)) at.value_is ∙ t.acts in
           let row = node_row who event sent in
           let limit = one.nodes in
           let up = some_client asks stands in
@@ -292,9 +283,9 @@ module _ (ahead : Ahead) (words : ℕ → ℕ → ℕ × ℕ) (scenario : Scenar
             | inr (inr s) ↦ (let no_way : Some s.seq ≡ None = sym s.waited ∙ f.1 in absurd (cc))
           ]
 
-      by_input : (event : Event OrderLine) (input : Input Mail OrderLine) → acted party_table (AClient at.client) (input_of (mails rows) event) ≡ (AClient (table at.client input).0, (table at.client input).1)
+      by_input : (event : Event OrderLine) (input : Input Mail OrderLine) → acted player_table (AClient at.client) (input_of (mails rows) event) ≡ (AClient (table at.client input).0, (table at.client input).1)
           → ((m : Mail) → input ≡ Got m → (m.to ≡ 32 + asks.client) × IsTrue ahead base made h m m.body) → (input ≡ GoInput → (at.client.replies ≡ []) × (is_go event ≡ true))
-          → K (rows ++ row_of party_table (cseat asks) rows event ∷ [])
+          → K (rows ++ row_of player_table (cseat asks) rows event ∷ [])
       by_input event input acts told went =
           let turn = sends_in_turn at.client input in
           let after = (table at.client input).0 in
@@ -309,9 +300,9 @@ module _ (ahead : Ahead) (words : ℕ → ℕ → ℕ × ℕ) (scenario : Scenar
             fresh = λ no f. still_fresh after input sent turn (λ go. (let yes : true ≡ false = sym (went go).1 ∙ no in cc)) f;
           })
 
-      client_event : (event : Event OrderLine) → IsOpen (system_of ahead words scenario) rows who event → K (rows ++ row_of party_table (cseat asks) rows event ∷ [])
+      client_event : (event : Event OrderLine) → IsOpen (system_of ahead words scenario) rows who event → K (rows ++ row_of player_table (cseat asks) rows event ∷ [])
       client_event (Deliver number) (m, under, to) =
-          by_input (Deliver number) (Got m) (ap (λ o. acted party_table (AClient at.client) (option_map Got o)) under.sent)
+          by_input (Deliver number) (Got m) (ap (λ o. acted player_table (AClient at.client) (option_map Got o)) under.sent)
           (λ other e. (
           let same : m ≡ other = cc in
           subst (λ (x : Mail). (x.to ≡ 32 + asks.client) × IsTrue ahead base made h x x.body) same (to, k.true_mail m (number_among (mails rows) number m under.sent))))
@@ -347,22 +338,23 @@ module _ (ahead : Ahead) (words : ℕ → ℕ → ℕ × ℕ) (scenario : Scenar
 
   actor_step : (rows : Journal) (row : Row Mail OrderLine) → K rows → ActorStep (system_of ahead words scenario) rows row → K (rows ++ row ∷ [])
   actor_step rows row k step =
-      let found = find_found (λ (other : Seat Party). eqb other.who step.seat.who) (births ahead scenario) step.seat step.born in
+      let found = find_found (λ (other : Seat Player). eqb other.who step.seat.who) (births ahead scenario) step.seat step.born in
       let there = subst (Among step.seat) births_are found.0 in
       elim (Among-either step.seat (map nseat (numbers 1 scenario.nodes)) (map cseat scenario.clients) there) [
         | inl a ↦ (
             let from = from_map nseat (numbers 1 scenario.nodes) step.seat a in
             let bounds = among_numbers 1 scenario.nodes from.0 from.1 in
-            let is : row ≡ row_of party_table (nseat from.0) rows step.event = step.row_is ∙ ap (λ (seat : Seat Party). row_of party_table seat rows step.event) (sym from.2) in
+            let is : row ≡ row_of player_table (nseat from.0) rows step.event = step.row_is ∙ ap (λ (seat : Seat Player). row_of player_table seat rows step.event) (sym from.2) in
             subst (λ (r : Row Mail OrderLine). K (rows ++ r ∷ [])) (sym is)
-            (node_event rows k from.0 bounds.0 (omega (arith, bounds.1)) step.event (subst (λ (seat : Seat Party). IsOpen (system_of ahead words scenario) rows seat.who step.event) (sym from.2) step.open_)))
+            (node_event rows k from.0 bounds.0 (omega (arith, bounds.1)) step.event (subst (λ (seat : Seat Player). IsOpen (system_of ahead words scenario) rows seat.who step.event) (sym from.2) step.open_)))
         | inr a ↦ (
             let from = from_map cseat scenario.clients step.seat a in
-            let is : row ≡ row_of party_table (cseat from.0) rows step.event = step.row_is ∙ ap (λ (seat : Seat Party). row_of party_table seat rows step.event) (sym from.2) in
+            let is : row ≡ row_of player_table (cseat from.0) rows step.event = step.row_is ∙ ap (λ (seat : Seat Player). row_of player_table seat rows step.event) (sym from.2) in
             subst (λ (r : Row Mail OrderLine). K (rows ++ r ∷ [])) (sym is)
-            (client_event rows k from.0 from.1 step.event (subst (λ (seat : Seat Party). IsOpen (system_of ahead words scenario) rows seat.who step.event) (sym from.2) step.open_)))
+            (client_event rows k from.0 from.1 step.event (subst (λ (seat : Seat Player). IsOpen (system_of ahead words scenario) rows seat.who step.event) (sym from.2) step.open_)))
       ]
 
+  -- what holds of a journal holds after each step that may come next
   pub keeps : (rows : Journal) (row : Row Mail OrderLine) → K rows → IsStep (system_of ahead words scenario) rows row → K (rows ++ row ∷ [])
   keeps rows row k (inl step) = actor_step rows row k step
   keeps rows row k (inr step) = subst (λ (r : Row Mail OrderLine). K (rows ++ r ∷ [])) (sym step.row_is) (network_event rows k step.event)

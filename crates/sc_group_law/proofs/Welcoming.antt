@@ -11,10 +11,11 @@ use Rattle.sc_node_table.specs.Replica.{ReplicaState, Place, name_of, next, memb
 use Rattle.sc_node_table.specs.Mails.{sent, sent_all}
 use Rattle.sc_node_table.specs.Install.{install_to, asked_to_promise, welcomed_all}
 use Rattle.sc_node_table.specs.Execute.{welcomed}
-use Rattle.sc_sound.specs.Logs.{Ahead}
-use Rattle.sc_group_law.proofs.Held.{group_again}
+use Rattle.sc_players.specs.Players.{Ahead}
+use Rattle.sc_machine_table.proofs.Parts.{group_again}
 use Rattle.sc_group_law.proofs.Invariant.{Steps, AreSets, next_after, Fine, says}
-use Rattle.sc_group_law.proofs.Sending.{same_name, name_is, prepared_all}
+use Rattle.sc_group_law.proofs.Sending.{name_is, prepared_all}
+use Rattle.sc_base.proofs.NameLemmas.{same_name}
 
 module _ (ahead : Ahead) (base : Base) (made : Command → Type 0) (me : ℕ) (before : Steps) where
   abbrev Ok : Place → Type 0
@@ -37,6 +38,7 @@ module _ (ahead : Ahead) (base : Base) (made : Command → Type 0) (me : ℕ) (b
           group_is = group_again r.group ∙ k.log_is.group_is;
           all_made = k.log_is.all_made;
           sets_are = subst (λ n. AreSets ahead base k.whole (n + 1) r.sets) last k.sets;
+          many = k.count;
         },
       )
 
@@ -57,6 +59,7 @@ module _ (ahead : Ahead) (base : Base) (made : Command → Type 0) (me : ℕ) (b
       let to = (install_to node (s, mails)).1 in
       welcomed_each nodes r (asked_to_promise node (s, to)) (asked_same node s to ∙ same) (asked_place node s to sends (ap (λ (x : ReplicaState). x.running) same ∙ runs)) runs
 
+  -- a state that is sent to a new member keeps what holds
   pub welcomed_place : (counted : Bool) (nodes : List ℕ) (r : ReplicaState) (place : Place) → place.0 ≡ r → Ok place → (counted ≡ true → r.running ≡ true) → Ok (welcomed counted nodes place) × ((welcomed counted nodes place).0 ≡ r)
   unfolding welcomed
   welcomed_place true nodes r (s, mails) same f runs = welcomed_each (filter (λ node. not (is_member nodes node)) (members s)) r (s, mails) same f (runs refl)

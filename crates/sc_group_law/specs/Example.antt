@@ -31,12 +31,15 @@ example_scenario = record {
   version = 1;
 }
 
+-- the ballot of the first leader
 abbrev pub first : Ballot
 first = record { round = 1; node = 1 }
 
+-- the ballot in which node 2 is elected
 abbrev pub second : Ballot
 second = record { round = 2; node = 2 }
 
+-- the one request, as a command
 abbrev pub call : Command
 call = Call 1 1 put_it
 

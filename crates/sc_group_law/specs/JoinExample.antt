@@ -17,12 +17,15 @@ use Rattle.sc_scenario.specs.declared.scenarios.SchedLine.TheVariants as line
 use Rattle.sc_scenario.specs.declared.scenarios.Scenario.{Scenario}
 use Rattle.sc_sound.specs.Example.{alone, mail, row}
 
+-- node 2 joins the group
 abbrev pub order : OrderLine
 order = record { number = 1; order = An.Join 2 lone_name }
 
+-- the order, as a command
 abbrev pub join : Command
 join = Join 2 1
 
+-- one order, and the deliveries that carry it out
 abbrev pub join_scenario : Scenario
 join_scenario = record {
   nodes = 2;
@@ -34,6 +37,7 @@ join_scenario = record {
   version = 1;
 }
 
+-- the ballot of the first leader
 abbrev pub leading : Ballot
 leading = record { round = 1; node = 1 }
 

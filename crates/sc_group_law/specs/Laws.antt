@@ -17,18 +17,17 @@ use Rattle.sc_paxos_law.specs.Chosen.{IsLog}
 use Rattle.sc_scenario.specs.Valid.{IsValid}
 use Rattle.sc_scenario.specs.declared.scenarios.Asks.{Asks}
 use Rattle.sc_scenario.specs.declared.scenarios.Scenario.{Scenario}
-use Rattle.sc_world.specs.World.{route_of}
+use Rattle.sc_players.specs.Players.{route_of, Ahead, node_seat, Lawful, player_table}
 use Rattle.sc_sound.specs.Accepts.{accepts}
-use Rattle.sc_sound.specs.Laws.{HasEntry}
-use Rattle.sc_sound.specs.Logs.{Ahead, rule_of, IsChosenIn, decided_log, decided_state}
+use Rattle.sc_hist_law.specs.Laws.{HasEntry}
+use Rattle.sc_sound.specs.Logs.{rule_of, IsChosenIn, decided_log, decided_state}
 use Rattle.sc_machine_table.specs.Group.{group_of}
-use Rattle.sc_sound.specs.Histories.{history, done_by, decided_row}
-use Rattle.sc_sound.specs.Requests.{IsRequest, issue_row}
-use Rattle.sc_group_law.specs.Players.{node_seat, Lawful, HasOneGroup}
-use Rattle.sc_world.specs.World.{party_table}
-use Rattle.sc_world.specs.declared.party.Party.TheVariants.{Node as ANode}
+use Rattle.sc_sound.specs.Histories.{history, decided_row}
+use Rattle.sc_machine_table.specs.Logs.{done_by}
+use Rattle.sc_sound.specs.Requests.{IsRequest, issue_row, kept_reply, answer_row}
+use Rattle.sc_group_law.specs.OneGroup.{HasOneGroup}
+use Rattle.sc_players.specs.declared.roles.Role.TheVariants.{Node as ANode}
 use Rattle.sc_group_law.specs.Told.{HasExecuted, IsDoneAt}
-use Rattle.sc_sound.specs.Requests.{kept_reply, answer_row}
 
 -- a list that goes on
 abbrev pub GoesOn : List Command → List Command → Type 0
@@ -44,7 +43,7 @@ pub record IsReplicated (ahead : Ahead) (scenario : Scenario) (base : Base) (row
   -- with more rows it goes on as it was
   pub grows : GoesOn (decided_log ahead base rows) (decided_log ahead base (rows ++ more))
   -- each replica of each node has executed a front of it, and its group is the state there
-  pub executed : (number : ℕ) → 1 ≤ number → number ≤ scenario.nodes → (node : NodeState) → value party_table (node_seat ahead (base ∷ []) number) rows ≡ ANode node
+  pub executed : (number : ℕ) → 1 ≤ number → number ≤ scenario.nodes → (node : NodeState) → value player_table (node_seat ahead (base ∷ []) number) rows ≡ ANode node
       → (r : ReplicaState) → Among r node.replicas → HasExecuted ahead base rows r
   -- the group keeps its arc, and it does not go
   pub arc : (decided_state ahead base rows).core.arc ≡ base.core.arc
@@ -79,6 +78,7 @@ KeepsOrder ahead scenario base rows = (place client seq other who number : ℕ) 
     → (asks : Asks) → Among asks scenario.clients → asks.client ≡ client → (answered issued : ℕ) → answer_row (route_of base) asks seq rows ≡ Some answered → issue_row who number rows ≡ Some issued
     → answered ≤ issued → place < other
 
+-- the first part of a journal is sound: one value per slot, one legal history, in the order of real time
 pub record IsSound (ahead : Ahead) (scenario : Scenario) (base : Base) (rows more : List (Row Mail OrderLine)) : Type 0 where
   pub replicated : IsReplicated ahead scenario base rows more
   pub tells : TellsHistory ahead scenario base rows

@@ -1,6 +1,6 @@
 pub mod Example
 pub mod JoinExample
 pub mod Laws
-pub mod Players
+pub mod OneGroup
 pub mod Steps
 pub mod Told

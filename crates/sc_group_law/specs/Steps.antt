@@ -37,6 +37,7 @@ abbrev pub promises_of : Draw → Row Mail OrderLine → MailBody → List (Step
 promises_of group row (Prepare g ballot from_slot) = flat_map (λ mail. promised_by group row.who ballot from_slot mail.body) row.sent
 promises_of group row _ = []
 
+-- ... of the mail that comes, if there is one
 abbrev pub promises_got : Draw → Row Mail OrderLine → Option Mail → List (Step Command)
 promises_got group row None = []
 promises_got group row (Some mail) = promises_of group row mail.body
@@ -50,6 +51,7 @@ promises_at group sent row _ = []
 abbrev pub steps_at : Draw → List Mail → Row Mail OrderLine → List (Step Command) → List (Step Command)
 steps_at group sent row older = promises_at group sent row row.event ++ accepts_at group sent row row.event ++ asked_in group row.sent older
 
+-- the steps of later rows, before which these mails were sent, after older steps
 abbrev pub steps_from : Draw → List Mail → List (Row Mail OrderLine) → List (Step Command) → List (Step Command)
 steps_from group sent [] steps = steps
 steps_from group sent (row ∷ rows) steps = steps_from group (sent ++ row.sent) rows (steps_at group sent row steps)

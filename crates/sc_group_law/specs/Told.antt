@@ -6,7 +6,9 @@ use Rattle.sc_mail.specs.declared.bodies.Mail.{Mail}
 use Rattle.sc_machine_table.specs.Group.{group_of}
 use Rattle.sc_actor.specs.declared.rows.Row.{Row}
 use Rattle.sc_node_table.specs.Replica.{ReplicaState, next}
-use Rattle.sc_sound.specs.Logs.{Ahead, state_after, decided_log}
+use Rattle.sc_players.specs.Players.{Ahead}
+use Rattle.sc_machine_table.specs.Logs.{state_after}
+use Rattle.sc_sound.specs.Logs.{decided_log}
 use Rattle.sc_hist_law.specs.Laws.{IsDone}
 
 -- a replica has executed a front of its group's log, holds the entries of it that it has not forgotten, and its group is the state after it

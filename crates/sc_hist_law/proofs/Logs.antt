@@ -1,4 +1,4 @@
--- A log with one command more, and what it leaves of the group's record.
+-- What a log leaves of the group's record.
 use Rattle.std.proofs.Common.{◌≡◌, ℕ, Bool, true, false, cond, eqb, nat_lt, List, [], ◌∷◌, ◌++◌, Option, Some, None, refl, sym, ◌∙◌, ap, append-nil, append_assoc}
 use Rattle.std.specs.FinMap.{get}
 use Rattle.sc_base.specs.declared.ops.Noted.{Noted}
@@ -20,8 +20,7 @@ use Rattle.sc_machine_table.specs.Orders.{is_alone, refusal_of, ordered, with_no
 use Rattle.sc_machine_table.specs.Splits.{has_named, left_group}
 use Rattle.sc_paxos_words.specs.Among.{Each}
 use Rattle.sc_hist_law.specs.Laws.{LeavesWhole}
-use Rattle.sc_sound.specs.Logs.{state_after}
-use Rattle.sc_sound.specs.Histories.{entry_of, done_by}
+use Rattle.sc_machine_table.specs.Logs.{state_after}
 
 -- ---- the core of the group stays
 
@@ -47,6 +46,7 @@ called_core None (Watching tx watch) group client seq op = served_core group cli
 called_core None (Coordinating tx body order heard) group client seq op = refl
 called_core None (Promised tx offer) group client seq op = refl
 
+-- a call changes no members
 pub called_members : (group : Group) (client seq : ℕ) (op : Op) → (applied group (Call client seq op)).0.core.members ≡ group.core.members
 called_members group client seq op = ap (λ (c : Core). c.members) (called_core group.core.gone group.core.lock group client seq op)
 
@@ -114,15 +114,3 @@ state_core group [] keeps = refl
 state_core group (c ∷ log) keeps =
     let after = (state_after group (c ∷ log)).core.members in
     state_core (applied group c).0 log keeps.1 ∙ ap (λ (core : Core). record core { members = after }) (applied_core group c keeps.0)
-
--- ---- the entries of a log with one command more
-
-pub done_push : (group : Group) (log : List Command) (c : Command) → done_by group (log ++ c ∷ []) ≡ done_by group log ++ entry_of c (applied (state_after group log) c).1
-done_push group [] c = append-nil (entry_of c (applied group c).1)
-done_push group (d ∷ log) c =
-    ap (λ es. entry_of d (applied group d).1 ++ es) (done_push (applied group d).0 log c)
-    ∙ sym (append_assoc (entry_of d (applied group d).1) (done_by (applied group d).0 log) (entry_of c (applied (state_after group (d ∷ log)) c).1))
-
-pub state_push : (group : Group) (log : List Command) (c : Command) → state_after group (log ++ c ∷ []) ≡ (applied (state_after group log) c).0
-state_push group [] c = refl
-state_push group (d ∷ log) c = state_push (applied group d).0 log c

@@ -24,11 +24,10 @@ use Rattle.sc_machine_table.specs.Orders.{refusal_of, with_node, without_node}
 use Rattle.sc_paxos_words.specs.Among.{Among, Each}
 use Rattle.sc_paxos_words.proofs.ListLemmas.{Each-among}
 use Rattle.sc_paxos_law.proofs.Among.{Among-left, Among-right, Among-either}
-use Rattle.sc_sound.specs.Laws.{HasEntry}
-use Rattle.sc_sound.specs.Logs.{state_after}
-use Rattle.sc_sound.specs.Histories.{entry_by, entry_of, done_by}
-use Rattle.sc_hist_law.specs.Laws.{IsEmpty, IsNoted, IsReplied, IsDone, LeavesWhole, LogsTellHistories}
-use Rattle.sc_hist_law.proofs.Logs.{done_push, ordered_either}
+use Rattle.sc_hist_law.specs.Laws.{HasEntry, IsEmpty, IsNoted, IsReplied, IsDone, LeavesWhole, LogsTellHistories}
+use Rattle.sc_machine_table.specs.Logs.{state_after, entry_by, entry_of, done_by}
+use Rattle.sc_machine_table.proofs.LogLemmas.{done_push}
+use Rattle.sc_hist_law.proofs.Logs.{ordered_either}
 use Rattle.sc_hist_law.proofs.Kept.{IsApart, all_pairs, apart_push, apart_right}
 
 replay_push : (contents : Contents) (entries : List Entry) (e : Entry) → IsReplay contents entries → e.reply ≡ reply_of e.op (contents_after contents entries) → IsReplay contents (entries ++ e ∷ [])
@@ -277,6 +276,7 @@ one_place group (c ∷ log) a (suc place) (suc other) client seq d f =
     ap suc (one_place (applied group c).0 log (apart_right (entry_of c (applied group c).1) (done_by (applied group c).0 log) a) place other client seq
     (record { op = d.op; reply = d.reply; call = d.call; effect = d.effect }) (record { op = f.op; reply = f.reply; call = f.call; effect = f.effect }))
 
+-- each log of calls, joins and leaves tells a history
 pub log_tells : LogsTellHistories
 log_tells group none log keeps =
     let told = told_on [] group log keeps (at_start group none) in

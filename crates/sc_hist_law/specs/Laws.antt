@@ -13,9 +13,7 @@ use Rattle.sc_ideal.specs.declared.Entry.{Entry}
 use Rattle.sc_machine_table.specs.Group.{Group}
 use Rattle.sc_machine_table.specs.Machine.{applied}
 use Rattle.sc_paxos_words.specs.Among.{Among, Each}
-use Rattle.sc_sound.specs.Laws.{HasEntry}
-use Rattle.sc_sound.specs.Logs.{state_after, effects_of}
-use Rattle.sc_sound.specs.Histories.{done_by}
+use Rattle.sc_machine_table.specs.Logs.{state_after, effects_of, done_by}
 
 -- a group that holds nothing and has noted nothing
 pub record IsEmpty (group : Group) : Type 0 where
@@ -27,6 +25,14 @@ pub record IsNoted (group : Group) (entry : Entry) : Type 0 where
   pub noted : Noted
   pub found : get group.clients entry.client ≡ Some noted
   pub most : entry.seq ≤ noted.seq
+
+-- some entry has this client, number and reply
+pub record HasEntry (entries : List Entry) (client seq : ℕ) (reply : Reply) : Type 0 where
+  pub entry : Entry
+  pub stands : Among entry entries
+  pub client_is : entry.client ≡ client
+  pub seq_is : entry.seq ≡ seq
+  pub reply_is : entry.reply ≡ reply
 
 -- These entries are a legal history; the map after it is the group's pairs; and the group's table notes of each client its last entry.
 pub record Tells (entries : List Entry) (group : Group) : Type 0 where
@@ -60,5 +66,6 @@ abbrev pub LeavesWhole : Command → Type 0
 LeavesWhole (Split at child order) = ⊥
 LeavesWhole _ = Unit {0}
 
+-- each log that divides no group tells a history from an empty start
 abbrev pub LogsTellHistories : Type 0
 LogsTellHistories = (group : Group) → IsEmpty group → (log : List Command) → Each LeavesWhole log → LogTells group log

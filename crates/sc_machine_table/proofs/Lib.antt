@@ -1,2 +1,3 @@
 pub mod Parts
 mod Runs
+pub mod LogLemmas

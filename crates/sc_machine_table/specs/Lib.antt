@@ -7,3 +7,4 @@ pub mod Splits
 pub mod Totals
 pub mod Transactions
 pub mod Votes
+pub mod Logs

@@ -1,7 +1,6 @@
 -- Where a group's replica stands, and a tick of each replica.
 use Rattle.std.proofs.Common.{◌≡◌, ℕ, ◌+◌, ◌<◌, ◌≤◌, Bool, true, false, List, [], ◌∷◌, ◌++◌, length, take, drop, set, get_or, zero, suc, Option, Some, None, Result, Ok, Err, IfOk, refl, sym, ap, ◌∙◌, arith, if◌then◌else◌}
-use Rattle.std.proofs.Math.Seq.{drop-nil}
-use Rattle.std.proofs.lemmas.List.{append-nil}
+use Rattle.std.proofs.lemmas.List.{append-nil, drop_all, take_all}
 use Rattle.sc_base.specs.declared.names.Draw.{Draw}
 use Rattle.sc_base.specs.Same.{same_draw}
 use Rattle.sc_cmd.specs.declared.orders.OrderLine.{OrderLine}
@@ -52,6 +51,7 @@ stands-from : (group : Draw) (rs : List ReplicaState) (at k : ℕ) → place_fro
 stands-from group [] at k e = absurd (cc)
 stands-from group (r ∷ rs) at k e = stands-test group r rs (same_draw (name_of r) group) at k refl (stands-from group rs (at + 1)) e
 
+-- where its place is told
 pub stands-at : (group : Draw) (rs : List ReplicaState) (n : ℕ) → place_from 0 group rs ≡ Some n → StandsAt group rs n
 stands-at group rs n e = let same : n ≡ 0 + n = omega arith in stands-from group rs 0 n (e ∙ ap (λ m. Some m) same)
 
@@ -60,6 +60,7 @@ nowhere-test : (group : Draw) (r : ReplicaState) (rs : List ReplicaState) (b : B
 nowhere-test group r rs true at is rest e = absurd (cc)
 nowhere-test group r rs false at is rest e = rw is (rest e)
 
+-- where no place is told
 pub stands-nowhere : (group : Draw) (rs : List ReplicaState) (at : ℕ) → place_from at group rs ≡ None → replica_of group rs ≡ None
 stands-nowhere group [] at e = refl
 stands-nowhere group (r ∷ rs) at e = nowhere-test group r rs (same_draw (name_of r) group) at refl (stands-nowhere group rs (at + 1)) e
@@ -76,6 +77,7 @@ ticked-suc (r ∷ rs) zero d new mails more less e = ap (λ (p : Place). (p.0 �
 ticked-suc (r ∷ rs) (suc i) d new mails more less e =
     ap (λ (p : List ReplicaState × List Mail). (r ∷ p.0, p.1)) (ticked-suc rs i d new mails more (omega arith) e)
 
+-- one replica more has ticked
 pub ticked-step : (rs : List ReplicaState) (i : ℕ) (d new : ReplicaState) (mails more : List Mail) → i < length rs → (new, more) ≡ tick_row (get_or rs i d, mails)
     → before (take (i + 1) (set rs i new)) (ticked (drop (i + 1) (set rs i new)) more) ≡ before (take i rs) (ticked (drop i rs) mails)
 ticked-step rs i d new mails more less e =
@@ -83,23 +85,12 @@ ticked-step rs i d new mails more less e =
     ap (λ m. before (take m (set rs i new)) (ticked (drop m (set rs i new)) more)) n ∙ ticked-suc rs i d new mails more less e
 
 -- all have ticked
-drop-past : (rs : List ReplicaState) (i : ℕ) → length rs ≤ i → drop i rs ≡ []
-drop-past [] i le = drop-nil i
-drop-past (r ∷ rs) zero le = absurd (omega arith)
-drop-past (r ∷ rs) (suc i) le = drop-past rs i (omega arith)
-
-take-past : (rs : List ReplicaState) (i : ℕ) → length rs ≤ i → take i rs ≡ rs
-take-past [] zero le = refl
-take-past [] (suc i) le = refl
-take-past (r ∷ rs) zero le = absurd (omega arith)
-take-past (r ∷ rs) (suc i) le = ap (λ ys. r ∷ ys) (take-past rs i (omega arith))
-
 pub ticked-all : (rs : List ReplicaState) (i : ℕ) (mails : List Mail) → length rs ≤ i → (rs, mails) ≡ before (take i rs) (ticked (drop i rs) mails)
 unfolding ticked
 ticked-all rs i mails le =
     ap (λ ys. (ys, mails)) (sym (append-nil rs))
-    ∙ ap (λ ys. before ys ([], mails)) (sym (take-past rs i le))
-    ∙ ap (λ ys. before (take i rs) (ticked ys mails)) (sym (drop-past rs i le))
+    ∙ ap (λ ys. before ys ([], mails)) (sym (take_all i rs le))
+    ∙ ap (λ ys. before (take i rs) (ticked ys mails)) (sym (drop_all i rs le))
 
 -- a mail for a group whose replica stands at a place
 pub taken-at : (group : Draw) (from : ℕ) (body : MailBody) (node : NodeState) (n : ℕ) (d new : ReplicaState) (more : List Mail) → StandsAt group node.replicas n

@@ -1,17 +1,19 @@
 //! Which mails a node takes, and what it sends where it has no replica of the group.
 ghost use Rattle.std.specs.Prelude.{◌≡◌, [], IfOk, None};
 ghost use Rattle.sc_node_table.specs.Node.{group_in, absent, is_node, may_come};
-ghost use Rattle.sc_node_table.specs.Mails.{sent};
+ghost use Rattle.sc_node_table.specs.Mails.{sent, answer_to};
+ghost use Rattle.sc_mail.specs.declared.bodies.AnswerBody.TheVariants.{NotLeader};
+ghost use Rattle.sc_mail.specs.declared.bodies.MailBody.TheVariants.{Ask};
 
-use sc_base::{Draw, OutOfMemory, Sequence};
+use sc_base::{Draw, MOST_NODES, OutOfMemory, Sequence};
 use sc_mail::{AnswerBody, Mail, MailBody, client_number};
 use std::alloc::Global;
 
-/// Whether an actor is one of the nodes 1 to 32.
+/// Whether an actor is one of the nodes.
 fn is_node(from: u32) -> bool
     ensures { result ≡ is_node from }
 {
-    1 <= from && from <= 32
+    1 <= from && from <= MOST_NODES
 }
 
 /// Whether a mail may come from an actor: only a request comes from others than nodes.
@@ -38,7 +40,14 @@ pub(crate) fn group_in(body: &MailBody) -> Option<Draw>
         | MailBody::Learn { group, .. }
         | MailBody::Ask { group, .. }
         | MailBody::Install { group, .. } => Some(*group),
-        _ => None,
+        MailBody::Answer { .. }
+        | MailBody::TxPrepare { .. }
+        | MailBody::TxVote { .. }
+        | MailBody::TxOutcome { .. }
+        | MailBody::TxElsewhere { .. }
+        | MailBody::TxWatch { .. }
+        | MailBody::TxWatched { .. }
+        | MailBody::Told { .. } => None,
     }
 }
 
@@ -60,6 +69,33 @@ pub(crate) fn alone(
     Ok(mails)
 }
 
+/// A client is told that its group is not led here.
+fn refuse(
+    alloc: Global,
+    me: u16,
+    group: Draw,
+    client: u16,
+    seq: u32,
+) -> Result<Sequence<Mail>, OutOfMemory>
+    ensures { IfOk result (λ mails. mails ≡ answer_to me group client seq (NotLeader None) []) }
+{
+    let answer = AnswerBody::NotLeader { hint: None };
+    alone(
+        alloc,
+        me,
+        client_number(client),
+        MailBody::Answer { group, seq, answer },
+    )
+}
+
+/// The sender is asked for all slots of a group.
+fn ask_whole(alloc: Global, me: u16, from: u32, group: Draw) -> Result<Sequence<Mail>, OutOfMemory>
+    ensures { IfOk result (λ mails. mails ≡ sent me from (Ask group 0) []) }
+{
+    let from_slot = 0;
+    alone(alloc, me, from, MailBody::Ask { group, from_slot })
+}
+
 /// What is sent where there is no replica of the group.
 pub(crate) fn absent(
     alloc: Global,
@@ -75,30 +111,22 @@ pub(crate) fn absent(
             client,
             seq,
             ..
-        } => {
-            let answer = AnswerBody::NotLeader { hint: None };
-            alone(
-                alloc,
-                me,
-                client_number(*client),
-                MailBody::Answer {
-                    group: *group,
-                    seq: *seq,
-                    answer,
-                },
-            )
-        }
+        } => refuse(alloc, me, *group, *client, *seq),
         MailBody::Prepare { group, .. }
         | MailBody::Accept { group, .. }
-        | MailBody::Learn { group, .. } => alone(
-            alloc,
-            me,
-            from,
-            MailBody::Ask {
-                group: *group,
-                from_slot: 0,
-            },
-        ),
-        _ => Ok(Sequence::new(alloc)),
+        | MailBody::Learn { group, .. } => ask_whole(alloc, me, from, *group),
+        MailBody::Answer { .. }
+        | MailBody::Promise { .. }
+        | MailBody::Accepted { .. }
+        | MailBody::Nack { .. }
+        | MailBody::Ask { .. }
+        | MailBody::Install { .. }
+        | MailBody::TxPrepare { .. }
+        | MailBody::TxVote { .. }
+        | MailBody::TxOutcome { .. }
+        | MailBody::TxElsewhere { .. }
+        | MailBody::TxWatch { .. }
+        | MailBody::TxWatched { .. }
+        | MailBody::Told { .. } => Ok(Sequence::new(alloc)),
     }
 }

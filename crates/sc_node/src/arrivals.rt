@@ -1,5 +1,6 @@
 //! A mail for a group of which the node has no replica: it makes one of the state that it is sent.
 ghost use Rattle.std.specs.Prelude.{◌≡◌, ◌≤◌, ◌||◌, ◌==◌, not, nat_lt, length, true, IfOk, OnOk};
+ghost use Rattle.sc_node_table.specs.Slots.{slots_ahead};
 ghost use Rattle.sc_node_table.specs.Replica.{last_slot};
 ghost use Rattle.sc_node_table.specs.Rows.{made_by};
 ghost use Rattle.sc_node_table.specs.Node.{is_before, with_new, with_made, unknown, may_come};
@@ -14,7 +15,7 @@ use sc_replica::{LAST_SLOT, Replica};
 use std::alloc::Global;
 
 /// Whether a name stands before another.
-fn is_before(a: Draw, b: Draw) -> bool
+pub(crate) fn is_before(a: Draw, b: Draw) -> bool
     ensures { result ≡ is_before a b }
 {
     a.node < b.node || (a.node == b.node && a.count < b.count)
@@ -34,38 +35,33 @@ fn put_new(replicas: &mut Vec<Replica>, made: Replica) -> Result<(), OutOfMemory
     Ok(())
 }
 
+/// Whether an Install makes no replica: it is of too late a slot, or it has not the members of the
+/// open slots.
+fn ignores(slot: u32, sets: &MemberSets) -> bool
+    ensures { result ≡ (not (length sets.now == slots_ahead) || nat_lt last_slot slot) }
+{
+    sets.len() != OPEN_SLOTS || LAST_SLOT < slot
+}
+
 impl NodeCore {
-    /// How many slots of a log are open at a time.
-    fn open_slots(&self) -> usize
-        ensures same { result ≡ self.now.ahead }
-        ensures four { self.now.ahead ≡ 4 }
-    {
-        let _ = &self.me;
-        OPEN_SLOTS
-    }
-
-    /// Whether an Install makes no replica: it is of too late a slot, or it has not the members of the open slots.
-    fn ignores(&self, slot: u32, sets: &MemberSets) -> bool
-        ensures same { result ≡ (not (length sets.now == self.now.ahead) || nat_lt last_slot slot) }
-        ensures four { self.now.ahead ≡ 4 }
-    {
-        sets.len() != self.open_slots() || LAST_SLOT < slot
-    }
-
-    /// The replica that an Install makes.
+    /// The replica that an Install for a group makes.
     fn make(
         &mut self,
         alloc: Global,
         from: u16,
+        group: Draw,
         slot: u32,
         base: &Base,
         sets: &MemberSets,
     ) -> Result<Sequence<Mail>, OutOfMemory>
         requires most { slot ≤ last_slot }
-        requires four { length sets.now ≡ 4 }
-        ensures { IfOk result (λ sent. with_made (made_by self.old.me from slot base.now sets.now) self.old ≡ (self.new, sent)) }
+        requires four { length sets.now ≡ slots_ahead }
+        ensures { IfOk result
+            (λ sent.
+            with_made (made_by self.old.me from group slot base.now sets.now) self.old
+            ≡ (self.new, sent)) }
     {
-        let (made, sent) = Replica::installed(alloc, self.me, from, slot, base, sets)?;
+        let (made, sent) = Replica::installed(alloc, self.me, from, group, slot, base, sets)?;
         put_new(&mut self.replicas, made)?;
         Ok(sent)
     }
@@ -82,15 +78,15 @@ impl NodeCore {
     {
         match body {
             MailBody::Install {
+                group,
                 slot,
                 base,
                 sets,
-                ..
             } => {
-                if self.ignores(*slot, sets) {
+                if ignores(*slot, sets) {
                     return Ok(Sequence::new(alloc));
                 }
-                self.make(alloc, from as u16, *slot, base, sets)
+                self.make(alloc, from as u16, *group, *slot, base, sets)
             }
             _ => absent(alloc, self.me, from, body),
         }

@@ -6,4 +6,4 @@ mod arrivals;
 mod node;
 mod ordered;
 
-pub use node::NodeCore;
+pub use node::{NodeCore, are_in_order};

@@ -1,10 +1,14 @@
 //! The node.
 ghost use Rattle.std.specs.Prelude.{◌≡◌, [], Some, true, IfOk, OnOk};
+ghost use Rattle.std.specs.List.{list_all};
+ghost use Rattle.sc_cmd.specs.declared.cores.Base.{Base};
+ghost use Rattle.sc_node_table.specs.Slots.{slots_ahead};
 ghost use Rattle.sc_node_table.specs.Replica.{name_of};
-ghost use Rattle.sc_node_table.specs.Node.{born_node, replica_of, taken_by, routed, on_mail, ticked, on_tick, node_table, may_come};
+ghost use Rattle.sc_node_table.specs.Node.{is_before, are_in_order, born_node, replica_of, taken_by, routed, on_mail, ticked, on_tick, node_table, may_come};
 ghost use Rattle.sc_node.specs.Places.{place_from};
 
 use crate::absent::{group_in, may_come};
+use crate::arrivals::is_before;
 use sc_actor::Input;
 use sc_base::{Draw, Dup, OutOfMemory, Sequence};
 use sc_cmd::{Base, OrderLine, same_draw};
@@ -31,14 +35,35 @@ impl Model for NodeCore {
 
     ghost Value = { NodeState };
 
-    ghost coded = { let pairs : Coded Contents = map.code (coded_list coded_ℕ) (coded_list coded_ℕ) in let clients : Coded Table = map.code coded_ℕ (Prim.hlevel codes) in let group : Coded Group = Prim.hlevel (codes, pairs, clients) in let replica : Coded ReplicaState = Prim.hlevel (codes, group) in Prim.hlevel (codes, replica) };
+    ghost coded = { let pairs : Coded Contents = map.code (coded_list coded_ℕ) (coded_list coded_ℕ)
+        in let clients : Coded Table = map.code coded_ℕ (Prim.hlevel codes) in let group : Coded
+        Group = Prim.hlevel (codes, pairs, clients) in let replica : Coded ReplicaState =
+        Prim.hlevel (codes, group) in Prim.hlevel (codes, replica) };
 
-    ghost view = { λ n. record { me = n.me; ahead = 4; replicas = n.replicas.items } };
+    ghost view = { λ n. record { me = n.me; replicas = n.replicas.items } };
+}
+
+/// Whether a group's name stands before those of all these groups.
+fn is_first(group: Draw, others: &[Base]) -> bool
+    ensures { result ≡ list_all (λ (other : Base). is_before group other.core.id) others.now }
+{
+    others.iter().all(|other| is_before(group, other.core.id))
+}
+
+/// Whether groups stand in the order of their names, none twice.
+pub fn are_in_order(groups: &[Base]) -> bool
+    ensures { result ≡ are_in_order groups.now }
+{
+    match groups {
+        [] => true,
+        [base, others @ ..] => is_first(base.core.id, others) && are_in_order(others),
+    }
 }
 
 /// The replicas at the birth of groups, of each of which the node is a member.
 fn born_replicas(alloc: Global, me: u16, groups: &[Base]) -> Result<Vec<Replica>, OutOfMemory>
-    ensures { IfOk result (λ replicas. replicas.items ≡ (born_node 4 me groups.now).replicas) }
+    ensures { IfOk result
+        (λ replicas. replicas.items ≡ (born_node slots_ahead me groups.now).replicas) }
 {
     let mut replicas = Vec::new(alloc);
     for base in groups {
@@ -72,9 +97,11 @@ fn tick_all(replicas: &mut Vec<Replica>, sent: &mut Sequence<Mail>) -> Result<()
 }
 
 impl NodeCore {
-    /// A node at the birth of groups, in the order of their names: it has a replica of each of which it is a member. Four slots of a log are open at a time.
+    /// A node at the birth of groups, in the order of their names: it has a replica of each of
+    /// which it is a member. `OPEN_SLOTS` slots of a log are open at a time. `are_in_order` tests
+    /// the order.
     pub fn born(alloc: Global, me: u16, groups: &Sequence<Base>) -> Result<NodeCore, OutOfMemory>
-        ensures { IfOk result (λ node. node ≡ born_node 4 me groups.now) }
+        ensures { IfOk result (λ node. node ≡ born_node slots_ahead me groups.now) }
     {
         Ok(NodeCore {
             me,
@@ -96,7 +123,8 @@ impl NodeCore {
         self.replicas.as_slice()
     }
 
-    /// One step by the node's table: the new value, and what is sent. After want of memory the node may only be dropped.
+    /// One step by the node's table: the new value, and what is sent. After want of memory the node
+    /// may only be dropped.
     pub fn step(
         &mut self,
         alloc: Global,
@@ -138,7 +166,10 @@ impl NodeCore {
         body: &MailBody,
     ) -> Result<Sequence<Mail>, OutOfMemory>
         requires { may_come from body.now ≡ true }
-        ensures { IfOk result (λ sent. taken_by (replica_of group self.old.replicas) group from body.now self.old ≡ (self.new, sent)) }
+        ensures { IfOk result
+            (λ sent.
+            taken_by (replica_of group self.old.replicas) group from body.now self.old
+            ≡ (self.new, sent)) }
     {
         match place_of(self.replicas.as_slice(), group) {
             None => self.take_unknown(alloc, from, body),
@@ -156,7 +187,10 @@ impl NodeCore {
     ) -> Result<Sequence<Mail>, OutOfMemory>
         requires may_come { may_come from body.now ≡ true }
         requires place { place_from 0 group self.old.replicas ≡ Some i }
-        ensures { IfOk result (λ sent. taken_by (replica_of group self.old.replicas) group from body.now self.old ≡ (self.new, sent)) }
+        ensures { IfOk result
+            (λ sent.
+            taken_by (replica_of group self.old.replicas) group from body.now self.old
+            ≡ (self.new, sent)) }
     {
         let mut sent = Sequence::new(alloc);
         self.replicas[i].take_mail(from, body, &mut sent)?;

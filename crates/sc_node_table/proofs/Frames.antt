@@ -1,12 +1,12 @@
 -- What the pump leaves as it is: all but what is in flight and the queues. So a replica that is settled stays settled, and to test it once is to test it before each slot.
-use Rattle.std.proofs.Common.{◌≡◌, ℕ, ◌+◌, Bool, true, false, List, [], ◌∷◌, Option, Some, None, is_some, refl, ◌∙◌, ap, if◌then◌else◌, ◌&&◌, nat_le}
+use Rattle.std.proofs.Common.{◌≡◌, ℕ, ◌+◌, Bool, true, false, List, [], ◌∷◌, Option, Some, None, is_some, refl, ◌∙◌, ap, if◌then◌else◌}
 use Rattle.std.specs.List.{list_any}
 use Rattle.sc_cmd.specs.declared.commands.Command.{Command}
 use Rattle.sc_paxos_words.specs.declared.answers.Must.{Must}
 use Rattle.sc_paxos_words.specs.declared.answers.Must.TheVariants.{Value, Gap, Free}
 use Rattle.sc_paxos_words.specs.Leaders.{must}
-use Rattle.sc_node_table.specs.Replica.{ReplicaState, Place, next, settled, may_offer, taken_at, under_way, is_idle, last_slot}
-use Rattle.sc_node_table.specs.Pump.{Found, is_act, from_calls, from_acts, from_queues, found_by, found_for, offered, pumped_from, pumped}
+use Rattle.sc_node_table.specs.Replica.{ReplicaState, Place, next, settled, may_offer, taken_at, under_way, is_idle}
+use Rattle.sc_node_table.specs.Pump.{Found, is_act, from_calls, from_acts, from_queues, found_by, found_for, offered, pumped_from, StaysSettled}
 
 -- a replica but for what is in flight and the queues
 abbrev pub frame : ReplicaState → ReplicaState
@@ -50,7 +50,7 @@ slot-frame false true None place next on put rest kept offers = kept
 slot-frame false true (Some command) place next on put rest kept offers = rest (put command) ∙ offers command
 slot-frame false false o place next on put rest kept offers = refl
 
-pub pumped_from-frame : (slot : ℕ) (sets : List (List ℕ)) (place : Place) → frame (pumped_from slot sets place).0 ≡ frame place.0
+pumped_from-frame : (slot : ℕ) (sets : List (List ℕ)) (place : Place) → frame (pumped_from slot sets place).0 ≡ frame place.0
 unfolding pumped_from
 pumped_from-frame slot [] place = refl
 pumped_from-frame slot (set ∷ sets) place =
@@ -60,14 +60,6 @@ pumped_from-frame slot (set ∷ sets) place =
     (λ p. pumped_from-frame (slot + 1) sets p) (found-frame slot place)
     (λ command. offered-frame slot set command found.1 ∙ found-frame slot place)
 
-test-frame : (b : Bool) (place after : Place) → frame after.0 ≡ frame place.0 → frame (if b then after else place).0 ≡ frame place.0
-test-frame true place after e = e
-test-frame false place after e = refl
-
-pub pumped-frame : (place : Place) → frame (pumped place).0 ≡ frame place.0
-unfolding pumped
-pumped-frame place =
-    test-frame (settled place.0 && nat_le (next place.0) last_slot) place (pumped_from (next place.0) place.0.sets place) (pumped_from-frame (next place.0) place.0.sets place)
-
-pub pumped_from-settled : (slot : ℕ) (sets : List (List ℕ)) (place : Place) → settled (pumped_from slot sets place).0 ≡ settled place.0
+-- a replica that is settled stays settled
+pub pumped_from-settled : StaysSettled
 pumped_from-settled slot sets place = ap settled (pumped_from-frame slot sets place)

@@ -1,3 +1,4 @@
 mod Runs
-mod Frames
+pub mod Frames
+pub mod SamenessLemmas
 pub mod MemberRuns

@@ -1,6 +1,7 @@
 -- A replica begins to run, or runs no longer.
 use Rattle.std.specs.Prelude.{ℕ, ◌+◌, ◌-◌, ◌^◌, ◌==◌, ◌&&◌, Bool, true, false, List, [], filter, if◌then◌else◌, Option, Some}
 use Rattle.std.specs.List.{list_any}
+use Rattle.sc_base.specs.Limits.{most_nodes}
 use Rattle.sc_base.specs.declared.names.Ballot.{Ballot}
 use Rattle.sc_mail.specs.declared.bodies.AnswerBody.{AnswerBody}
 use Rattle.sc_mail.specs.declared.bodies.AnswerBody.TheVariants as Says
@@ -20,9 +21,9 @@ is_in_some sets node = list_any (λ set. is_member set node) sets
 unfoldable pub nodes_to : ℕ → List (List ℕ) → List ℕ
 nodes_to most sets = filter (λ node. is_in_some sets node) (numbers 1 most)
 
--- the nodes, of 1 to 32, that are in one of these sets
+-- the nodes that are in one of these sets
 abbrev pub open_nodes : List (List ℕ) → List ℕ
-open_nodes sets = nodes_to 32 sets
+open_nodes sets = nodes_to most_nodes sets
 
 -- Election: it runs with the next ballot of its own and asks the members of the open slots to promise it (Paxos Made Simple, section 2.2, phase 1). The queues stay. No round is above 2^32 - 1
 unfoldable pub elected : Place → Place

@@ -1,5 +1,5 @@
 -- Execute: the command of the next slot, counted where it was ready, else learnt. The parts stand in the order of their numbers.
-use Rattle.std.specs.Prelude.{ℕ, ◌+◌, ◌==◌, ◌&&◌, ◌||◌, not, filter, nat_lt, Bool, true, false, List, [], ◌∷◌, ◌++◌, if◌then◌else◌, Option, Some, None}
+use Rattle.std.specs.Prelude.{ℕ, ◌+◌, ◌==◌, ◌&&◌, ◌||◌, not, filter, nat_lt, Bool, true, false, List, [], ◌∷◌, ◌++◌, length, if◌then◌else◌, Option, Some, None}
 use Rattle.sc_cmd.specs.declared.links.Route.{Route}
 use Rattle.sc_cmd.specs.declared.commands.Command.{Command}
 use Rattle.sc_cmd.specs.declared.commands.Command.TheVariants.{Call}
@@ -14,10 +14,11 @@ use Rattle.sc_member.specs.Roster.{is_member, least_of}
 use Rattle.sc_paxos_words.specs.Logs.{LogState, learnt, next_of}
 use Rattle.sc_paxos_words.specs.Leaders.{landed as without_flight_at}
 use Rattle.sc_machine_table.specs.Machine.{applied}
-use Rattle.sc_node_table.specs.Slots.{slots_ahead, rest_of, at_slot, without_slot}
+use Rattle.sc_node_table.specs.Slots.{rest_of, at_slot, without_slot}
 use Rattle.sc_node_table.specs.Replica.{ReplicaState, Place, name_of, next, members, flying, last_slot, forgotten, waits_in}
 use Rattle.sc_node_table.specs.Mails.{answer_to, sent_others, order_in, told_order}
-use Rattle.sc_node_table.specs.Queues.{put_back, same_command}
+use Rattle.sc_node_table.specs.Queues.{put_back}
+use Rattle.sc_node_table.specs.Sameness.{same_command}
 use Rattle.sc_node_table.specs.Election.{elected, ended, stopped}
 use Rattle.sc_node_table.specs.Pump.{pumped}
 use Rattle.sc_node_table.specs.Install.{welcomed_all}
@@ -39,7 +40,12 @@ answer_of (Was.Again reply) = Some (Says.Value reply)
 answer_of (Was.Stale last) = Some (Says.Stale last)
 answer_of (Was.NotMine arc succ) = Some (Says.NotMine arc succ)
 answer_of (Was.Gone into) = Some (Says.Gone into)
-answer_of _ = None
+answer_of (Was.NoEffect tx) = None
+answer_of Was.Idle = None
+answer_of Was.Changed = None
+answer_of (Was.Voted vote) = None
+answer_of (Was.Decided outcome) = None
+answer_of (Was.Refused why) = None
 
 unfoldable pub told_call : Option AnswerBody → Command → Place → Place
 told_call (Some answer) (Call client seq op) (r, mails) = (r, answer_to r.me (name_of r) client seq answer mails)
@@ -50,14 +56,23 @@ told_call answer command place = place
 abbrev pub result_of : Effect → Option ToldResult
 result_of Was.Changed = Some Tells.Done
 result_of (Was.Refused why) = Some (Tells.Refused why)
-result_of _ = None
+result_of (Was.Done reply) = None
+result_of (Was.Again reply) = None
+result_of (Was.Stale last) = None
+result_of (Was.NotMine arc succ) = None
+result_of (Was.Gone into) = None
+result_of (Was.NoEffect tx) = None
+result_of Was.Idle = None
+result_of (Was.Voted vote) = None
+result_of (Was.Decided outcome) = None
 
 unfoldable pub told_effect : Option ToldResult → Command → Place → Place
 told_effect None command place = place
 told_effect (Some result) command (r, mails) = (r, told_order r.me (order_in command) result mails)
 
-unfoldable pub told : Bool → Effect → Command → Place → Place
-told counted effect command place =
+-- .. both
+unfoldable pub announced : Bool → Effect → Command → Place → Place
+announced counted effect command place =
     told_effect (result_of effect) command (if counted then told_call (answer_of effect) command place else place)
 
 -- 2. the members before a counted command learn it ..
@@ -106,7 +121,7 @@ looked (r, mails) = if r.running then (r, mails) else looked_for r.group.core.go
 -- 1 to 6
 unfoldable pub executed_one : Bool → Command → Place → Place
 executed_one counted command (r, mails) =
-    let place1 = told counted (applied r.group command).1 command (entered command r, mails) in
+    let place1 = announced counted (applied r.group command).1 command (entered command r, mails) in
     let place2 = learnt_to counted (members r) (next r) command place1 in
     let place3 = welcomed counted (members r) place2 in
     let place4 = landed counted (next r) command place3 in
@@ -114,7 +129,7 @@ executed_one counted command (r, mails) =
 
 -- whether a counted command may be executed at the next slot: the pump offers none above the last slot by more than the other open slots
 abbrev pub has_room : ReplicaState → Bool
-has_room r = nat_lt (next r) (last_slot + slots_ahead)
+has_room r = nat_lt (next r) (last_slot + length r.sets)
 
 -- 7. where it runs, the ready command of the new next slot
 abbrev pub next_ready : ReplicaState → Option Command

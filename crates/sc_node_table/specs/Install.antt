@@ -1,5 +1,6 @@
 -- Install: the executed state is sent, and is taken over by one that has executed less.
 use Rattle.std.specs.Prelude.{ℕ, ◌-◌, List, [], ◌∷◌, if◌then◌else◌}
+use Rattle.sc_base.specs.declared.names.Draw.{Draw}
 use Rattle.sc_cmd.specs.declared.cores.Base.{Base}
 use Rattle.sc_mail.specs.declared.bodies.MailBody.TheVariants.{Prepare, Install}
 use Rattle.sc_paxos_words.specs.Logs.{installed}
@@ -21,7 +22,11 @@ unfoldable pub welcomed_all : List ℕ → Place → Place
 welcomed_all [] place = place
 welcomed_all (node ∷ nodes) place = welcomed_all nodes (asked_to_promise node (install_to node place))
 
+-- the state under a group's name: a replica is of the group under which it is filed, whatever name the state that is sent has
+abbrev pub named : Draw → Base → Base
+named group base = record base { core = record base.core { id = group } }
+
 -- state and log jump to those after a slot, and the open slots with them
 unfoldable pub jumped : ℕ → Base → List (List ℕ) → ReplicaState → ReplicaState
 jumped slot base sets r =
-    forgotten slot (record r { group = group_of base; log = installed slot; sets = sets; waits = waits_in base.core.lock r.waits })
+    forgotten slot (record r { group = group_of (named (name_of r) base); log = installed slot; sets = sets; waits = waits_in base.core.lock r.waits })

@@ -7,5 +7,6 @@ pub mod Pump
 pub mod Queues
 pub mod Replica
 pub mod Rows
+pub mod Sameness
 pub mod Slots
 pub mod Voting

@@ -1,8 +1,9 @@
 -- Mails of a replica, each put behind those that are there.
 use Rattle.std.specs.Prelude.{ℕ, ◌+◌, ◌==◌, nat_lt, List, [], ◌∷◌, ◌++◌, if◌then◌else◌, Option}
+use Rattle.sc_base.specs.Limits.{client_actor}
 use Rattle.sc_base.specs.declared.names.Draw.{Draw}
 use Rattle.sc_cmd.specs.declared.commands.Command.{Command}
-use Rattle.sc_cmd.specs.declared.commands.Command.TheVariants.{Call, Join, Leave, Split, Begin}
+use Rattle.sc_cmd.specs.declared.commands.Command.TheVariants.{Noop, Call, Join, Leave, Split, Begin, Prepared, RecordVote, GiveUp, Finish, Watched, RecordWatch}
 use Rattle.sc_cmd.specs.declared.orders.OrderRefusal.TheVariants.{NotLeader}
 use Rattle.sc_cmd.specs.declared.orders.ToldResult.{ToldResult}
 use Rattle.sc_cmd.specs.declared.orders.ToldResult.TheVariants.{Refused}
@@ -27,7 +28,7 @@ sent_others me (node ∷ nodes) body mails = sent_others me nodes body (if node 
 
 -- an answer to a client
 abbrev pub answer_to : ℕ → Draw → ℕ → ℕ → AnswerBody → List Mail → List Mail
-answer_to me group client seq answer mails = sent me (32 + client) (Answer group seq answer) mails
+answer_to me group client seq answer mails = sent me (client_actor client) (Answer group seq answer) mails
 
 -- the client of a call is answered so
 unfoldable pub answered : ℕ → Draw → AnswerBody → Command → List Mail → List Mail
@@ -49,7 +50,14 @@ order_in (Join node order) = order
 order_in (Leave node order) = order
 order_in (Split at child order) = order
 order_in (Begin tx body order) = order
-order_in _ = 0
+order_in Noop = 0
+order_in (Call client seq op) = 0
+order_in (Prepared tx offer) = 0
+order_in (RecordVote tx vote by) = 0
+order_in (GiveUp tx) = 0
+order_in (Finish tx outcome) = 0
+order_in (Watched tx watch) = 0
+order_in (RecordWatch tx vote by) = 0
 
 -- ... and nothing of an order without a number
 unfoldable pub told_order : ℕ → ℕ → ToldResult → List Mail → List Mail

@@ -1,8 +1,10 @@
 -- A node: its replicas, one a group, and its table.
 use Rattle.std.specs.Prelude.{ℕ, ◌==◌, ◌&&◌, ◌||◌, not, nat_le, nat_lt, length, Bool, true, List, [], ◌∷◌, map, filter, find, if◌then◌else◌, Option, Some, None}
+use Rattle.std.specs.List.{list_all}
+use Rattle.sc_base.specs.Limits.{most_nodes}
 use Rattle.sc_base.specs.declared.names.Draw.{Draw}
 use Rattle.sc_actor.specs.declared.rows.Input.{Input}
-use Rattle.sc_actor.specs.declared.rows.Input.TheVariants.{Got, Tick, Told}
+use Rattle.sc_actor.specs.declared.rows.Input.TheVariants.{Got, Tick, Go, Told}
 use Rattle.sc_base.specs.Same.{same_draw}
 use Rattle.sc_cmd.specs.declared.cores.Base.{Base}
 use Rattle.sc_cmd.specs.declared.orders.Order.{Order}
@@ -12,22 +14,22 @@ use Rattle.sc_cmd.specs.declared.orders.OrderRefusal.TheVariants.{NotLeader}
 use Rattle.sc_cmd.specs.declared.orders.ToldResult.TheVariants.{Refused}
 use Rattle.sc_mail.specs.declared.bodies.AnswerBody.TheVariants as Says
 use Rattle.sc_mail.specs.declared.bodies.MailBody.{MailBody}
-use Rattle.sc_mail.specs.declared.bodies.MailBody.TheVariants.{Request, Prepare, Promise, Accept, Accepted, Nack, Learn, Ask, Install}
+use Rattle.sc_mail.specs.declared.bodies.MailBody.TheVariants.{Request, Answer, Prepare, Promise, Accept, Accepted, Nack, Learn, Ask, Install, TxPrepare, TxVote, TxOutcome, TxElsewhere, TxWatch, TxWatched, Told as ToldMail}
 use Rattle.sc_mail.specs.declared.bodies.Mail.{Mail}
 use Rattle.sc_member.specs.Roster.{is_member}
+use Rattle.sc_node_table.specs.Slots.{slots_ahead}
 use Rattle.sc_node_table.specs.Replica.{ReplicaState, Place, name_of, born_replica, last_slot}
 use Rattle.sc_node_table.specs.Mails.{sent, answer_to, told_desk}
 use Rattle.sc_node_table.specs.Rows.{mailed, tick_row, order_row, made_by}
 
--- the node's number, how many slots of a log are open at a time, and its replicas in the order of their groups' names
+-- the node's number, and its replicas in the order of their groups' names
 pub record NodeState : Type 0 where
   pub me : ℕ
-  pub ahead : ℕ
   pub replicas : List ReplicaState
 
--- a node at the birth of groups that are in the order of their names: it has a replica of each of which it is a member
+-- a node at the birth of groups that are in the order of their names, so many slots of a log of which are open at a time: it has a replica of each of which it is a member
 abbrev pub born_node : ℕ → ℕ → List Base → NodeState
-born_node ahead me groups = record { me = me; ahead = ahead; replicas = map (λ base. born_replica ahead me base) (filter (λ base. is_member base.core.members me) groups) }
+born_node ahead me groups = record { me = me; replicas = map (λ base. born_replica ahead me base) (filter (λ base. is_member base.core.members me) groups) }
 
 -- the replica of a group
 abbrev pub replica_of : Draw → List ReplicaState → Option ReplicaState
@@ -46,6 +48,11 @@ abbrev pub with_new : ReplicaState → List ReplicaState → List ReplicaState
 with_new new [] = new ∷ []
 with_new new (r ∷ replicas) = if is_before (name_of r) (name_of new) then r ∷ with_new new replicas else new ∷ r ∷ replicas
 
+-- whether these groups stand in the order of their names, none twice
+abbrev pub are_in_order : List Base → Bool
+are_in_order [] = true
+are_in_order (base ∷ groups) = list_all (λ other. is_before base.core.id other.core.id) groups && are_in_order groups
+
 -- the group that a mail is for, if a row of the table takes it
 abbrev pub group_in : MailBody → Option Draw
 group_in (Request group client seq op) = Some group
@@ -57,7 +64,14 @@ group_in (Nack group promised) = Some group
 group_in (Learn group slot command) = Some group
 group_in (Ask group from_slot) = Some group
 group_in (Install group slot base sets) = Some group
-group_in _ = None
+group_in (Answer group seq answer) = None
+group_in (TxPrepare tx offer) = None
+group_in (TxVote tx coord part vote) = None
+group_in (TxOutcome tx part outcome) = None
+group_in (TxElsewhere tx coord hint) = None
+group_in (TxWatch tx watch) = None
+group_in (TxWatched tx coord part vote) = None
+group_in (ToldMail order result) = None
 
 -- what is sent where there is no replica of the group
 abbrev pub absent : ℕ → ℕ → MailBody → List Mail
@@ -65,21 +79,33 @@ absent me from (Request group client seq op) = answer_to me group client seq (Sa
 absent me from (Prepare group ballot from_slot) = sent me from (Ask group 0) []
 absent me from (Accept group ballot slot command) = sent me from (Ask group 0) []
 absent me from (Learn group slot command) = sent me from (Ask group 0) []
-absent me from _ = []
+absent me from (Answer group seq answer) = []
+absent me from (Promise group ballot reports) = []
+absent me from (Accepted group ballot slot) = []
+absent me from (Nack group promised) = []
+absent me from (Ask group from_slot) = []
+absent me from (Install group slot base sets) = []
+absent me from (TxPrepare tx offer) = []
+absent me from (TxVote tx coord part vote) = []
+absent me from (TxOutcome tx part outcome) = []
+absent me from (TxElsewhere tx coord hint) = []
+absent me from (TxWatch tx watch) = []
+absent me from (TxWatched tx coord part vote) = []
+absent me from (ToldMail order result) = []
 
--- a node without a replica of the group makes one of the state that it is sent
+-- a node without a replica of the group makes one of the state that it is sent, with the members of the open slots
 abbrev pub with_made : Place → NodeState → NodeState × List Mail
 with_made (r, mails) node = (record node { replicas = with_new r node.replicas }, mails)
 
 abbrev pub unknown : ℕ → MailBody → NodeState → NodeState × List Mail
 unknown from (Install group slot base sets) node =
-    if not (length sets == node.ahead) || nat_lt last_slot slot then (node, [])
-    else with_made (made_by node.me from slot base sets) node
+    if not (length sets == slots_ahead) || nat_lt last_slot slot then (node, [])
+    else with_made (made_by node.me from group slot base sets) node
 unknown from body node = (node, absent node.me from body)
 
 -- only a request may come from others than nodes
 abbrev pub is_node : ℕ → Bool
-is_node from = nat_le 1 from && nat_le from 32
+is_node from = nat_le 1 from && nat_le from most_nodes
 
 abbrev pub may_come : ℕ → MailBody → Bool
 may_come from (Request group client seq op) = true
@@ -136,4 +162,4 @@ abbrev pub node_table : NodeState → Input Mail OrderLine → NodeState × List
 node_table node (Got mail) = on_mail mail.from mail.body node
 node_table node Tick = on_tick node
 node_table node (Told line) = on_order line node
-node_table node _ = (node, [])
+node_table node Go = (node, [])

@@ -1,12 +1,12 @@
 -- Pump: what a settled replica offers at its open slots.
-use Rattle.std.specs.Prelude.{ℕ, ◌+◌, ◌&&◌, ◌||◌, not, nat_le, Bool, true, false, List, [], ◌∷◌, if◌then◌else◌, Option, Some, None, is_some}
+use Rattle.std.specs.Prelude.{◌≡◌, ℕ, ◌+◌, ◌&&◌, ◌||◌, not, nat_le, Bool, true, false, List, [], ◌∷◌, if◌then◌else◌, Option, Some, None, is_some}
 use Rattle.std.specs.List.{list_any}
 use Rattle.sc_base.specs.declared.ops.Op.{Op}
 use Rattle.sc_ideal.specs.IdealStore.{key_of, holds_key}
 use Rattle.sc_cmd.specs.declared.links.Route.{Route}
 use Rattle.sc_cmd.specs.declared.cores.Core.{Core}
 use Rattle.sc_cmd.specs.declared.cores.Lock.{Lock}
-use Rattle.sc_cmd.specs.declared.cores.Lock.TheVariants.{Free, Watching}
+use Rattle.sc_cmd.specs.declared.cores.Lock.TheVariants.{Free, Coordinating, Promised, Watching}
 use Rattle.sc_cmd.specs.declared.commands.Command.{Command}
 use Rattle.sc_cmd.specs.declared.commands.Command.TheVariants.{Noop, Call}
 use Rattle.sc_mail.specs.declared.bodies.AnswerBody.{AnswerBody}
@@ -33,7 +33,8 @@ is_act _ = true
 abbrev pub serves_calls : Lock → Bool
 serves_calls Free = true
 serves_calls (Watching tx watch) = true
-serves_calls _ = false
+serves_calls (Coordinating tx body order heard) = false
+serves_calls (Promised tx offer) = false
 
 -- whether the head of `calls` waits: a call for the lock, and an order also for what is under way
 abbrev pub waits : Bool → Lock → Command → Bool
@@ -96,3 +97,7 @@ pumped_from slot (set ∷ sets) place =
 
 unfoldable pub pumped : Place → Place
 pumped place = if settled place.0 && nat_le (next place.0) last_slot then pumped_from (next place.0) place.0.sets place else place
+
+-- to test a replica before each slot whether it is settled is to test it once
+abbrev pub StaysSettled : Type 0
+StaysSettled = (slot : ℕ) (sets : List (List ℕ)) (place : Place) → settled (pumped_from slot sets place).0 ≡ settled place.0

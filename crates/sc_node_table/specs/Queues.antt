@@ -1,10 +1,7 @@
 -- The waiting commands of a replica.
-use Rattle.std.specs.Prelude.{ℕ, ◌==◌, ◌&&◌, nat_lt, nat_eq, Bool, true, false, List, [], ◌∷◌, if◌then◌else◌, Option, Some, None}
-use Rattle.std.specs.Cmp.Lexicographic.{pointwise}
-use Rattle.sc_base.specs.declared.ops.Op.{Op}
-use Rattle.sc_base.specs.declared.ops.Op.TheVariants.{Get, Put, Del, Add, Cas}
+use Rattle.std.specs.Prelude.{ℕ, ◌==◌, nat_lt, Bool, false, List, [], ◌∷◌, if◌then◌else◌, Option, Some, None}
 use Rattle.sc_cmd.specs.declared.commands.Command.{Command}
-use Rattle.sc_cmd.specs.declared.commands.Command.TheVariants.{Noop, Call, Join, Leave, Split, Begin}
+use Rattle.sc_cmd.specs.declared.commands.Command.TheVariants.{Noop, Call, Join, Leave, Split, Begin, Prepared, RecordVote, GiveUp, Finish, Watched, RecordWatch}
 use Rattle.sc_node_table.specs.Replica.{ReplicaState}
 
 -- the number of a client's waiting call
@@ -35,23 +32,9 @@ put_back (Join node order) r = record r { calls = Join node order ∷ r.calls }
 put_back (Leave node order) r = record r { calls = Leave node order ∷ r.calls }
 put_back (Split at child order) r = record r { calls = Split at child order ∷ r.calls }
 put_back (Begin tx body order) r = record r { calls = Begin tx body order ∷ r.calls }
-put_back command r = record r { acts = command ∷ r.acts }
-
--- whether two byte strings, two operations, two commands are one; of the commands of transactions, which are not built yet, none is
-abbrev pub same_bytes : List ℕ → List ℕ → Bool
-same_bytes a b = pointwise nat_eq a b
-
-abbrev pub same_op : Op → Op → Bool
-same_op (Get k) (Get l) = same_bytes k l
-same_op (Put k v) (Put l w) = same_bytes k l && same_bytes v w
-same_op (Del k) (Del l) = same_bytes k l
-same_op (Add k v) (Add l w) = same_bytes k l && same_bytes v w
-same_op (Cas k e v) (Cas l f w) = same_bytes k l && (same_bytes e f && same_bytes v w)
-same_op a b = false
-
-abbrev pub same_command : Command → Command → Bool
-same_command Noop Noop = true
-same_command (Call c n a) (Call d m b) = (c == d) && ((n == m) && same_op a b)
-same_command (Join a n) (Join b m) = (a == b) && (n == m)
-same_command (Leave a n) (Leave b m) = (a == b) && (n == m)
-same_command a b = false
+put_back (Prepared tx offer) r = record r { acts = Prepared tx offer ∷ r.acts }
+put_back (RecordVote tx vote by) r = record r { acts = RecordVote tx vote by ∷ r.acts }
+put_back (GiveUp tx) r = record r { acts = GiveUp tx ∷ r.acts }
+put_back (Finish tx outcome) r = record r { acts = Finish tx outcome ∷ r.acts }
+put_back (Watched tx watch) r = record r { acts = Watched tx watch ∷ r.acts }
+put_back (RecordWatch tx vote by) r = record r { acts = RecordWatch tx vote by ∷ r.acts }

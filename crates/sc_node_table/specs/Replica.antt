@@ -7,7 +7,7 @@ use Rattle.sc_cmd.specs.declared.commands.Command.{Command}
 use Rattle.sc_cmd.specs.declared.cores.Base.{Base}
 use Rattle.sc_cmd.specs.declared.cores.Core.{Core}
 use Rattle.sc_cmd.specs.declared.cores.Lock.{Lock}
-use Rattle.sc_cmd.specs.declared.cores.Lock.TheVariants.{Free}
+use Rattle.sc_cmd.specs.declared.cores.Lock.TheVariants.{Free, Coordinating, Promised, Watching}
 use Rattle.sc_mail.specs.declared.bodies.Mail.{Mail}
 use Rattle.sc_paxos_words.specs.Logs.{LogState, empty_log, next_of, installed, log_cut}
 use Rattle.sc_paxos_words.specs.Acceptors.{AcceptorState, born, after_cut}
@@ -72,7 +72,9 @@ forgotten last r = record r { log = log_cut (floor_of last) r.log; acceptor = af
 -- a transaction waits no more where the group is not locked
 abbrev pub waits_in : Lock → ℕ → ℕ
 waits_in Free waits = 0
-waits_in _ waits = waits
+waits_in (Coordinating tx body order heard) waits = waits
+waits_in (Promised tx offer) waits = waits
+waits_in (Watching tx watch) waits = waits
 
 -- a replica that is made of the state after a slot, with the members of the open slots: it is as at birth, but it does not run, and it holds no entry
 abbrev pub installed_replica : ℕ → ℕ → Base → List (List ℕ) → ReplicaState

@@ -3,6 +3,7 @@ use Rattle.std.specs.Prelude.{ℕ, zero, suc, ◌+◌, ◌-◌, ◌==◌, ◌&&�
 use Rattle.sc_base.specs.declared.ops.Op.{Op}
 use Rattle.sc_ideal.specs.IdealStore.{key_of, holds_key}
 use Rattle.sc_cmd.specs.declared.links.Route.{Route}
+use Rattle.sc_base.specs.declared.names.Draw.{Draw}
 use Rattle.sc_cmd.specs.declared.commands.Command.{Command}
 use Rattle.sc_cmd.specs.declared.commands.Command.TheVariants.{Call, Join, Leave}
 use Rattle.sc_cmd.specs.declared.cores.Base.{Base}
@@ -14,7 +15,7 @@ use Rattle.sc_cmd.specs.declared.orders.ToldResult.TheVariants.{Refused}
 use Rattle.sc_mail.specs.declared.bodies.AnswerBody.{AnswerBody}
 use Rattle.sc_mail.specs.declared.bodies.AnswerBody.TheVariants as Says
 use Rattle.sc_mail.specs.declared.bodies.MailBody.{MailBody}
-use Rattle.sc_mail.specs.declared.bodies.MailBody.TheVariants.{Request, Prepare, Promise, Accept, Accepted, Nack, Learn, Ask, Install}
+use Rattle.sc_mail.specs.declared.bodies.MailBody.TheVariants.{Request, Answer, Prepare, Promise, Accept, Accepted, Nack, Learn, Ask, Install, TxPrepare, TxVote, TxOutcome, TxElsewhere, TxWatch, TxWatched, Told}
 use Rattle.sc_mail.specs.declared.bodies.Mail.{Mail}
 use Rattle.sc_member.specs.Roster.{is_member}
 use Rattle.sc_paxos_words.specs.Logs.{entry_at}
@@ -27,7 +28,7 @@ use Rattle.sc_node_table.specs.Mails.{sent, sent_all, sent_others, answer_to, to
 use Rattle.sc_node_table.specs.Queues.{call_of, without_call}
 use Rattle.sc_node_table.specs.Election.{elected, stopped}
 use Rattle.sc_node_table.specs.Execute.{executed, looked}
-use Rattle.sc_node_table.specs.Install.{install_to, jumped}
+use Rattle.sc_node_table.specs.Install.{install_to, named, jumped}
 use Rattle.sc_node_table.specs.Pump.{pumped, serves_calls}
 use Rattle.sc_node_table.specs.Voting.{prepare_row, promise_row, accept_row, accepted_row, nack_row}
 
@@ -62,6 +63,10 @@ learn_row from slot command (r, mails) =
     else if nat_lt (next r) slot then (r, sent r.me from (Ask (name_of r) (next r)) mails)
     else (r, mails)
 
+-- the most entries that an Ask is answered with
+abbrev pub most_taught : ℕ
+most_taught = 32
+
 -- at most so many entries, from a slot on
 unfoldable pub taught : ℕ → ReplicaState → ℕ → ℕ → List Mail → List Mail
 taught zero r from slot mails = mails
@@ -71,9 +76,9 @@ taught (suc count) r from slot mails =
 -- an entry that is held is followed by others; where it is not held the executed state is sent
 abbrev pub asked_from : Option Command → ℕ → ℕ → Place → Place
 asked_from None from slot place = install_to from place
-asked_from (Some command) from slot (r, mails) = (r, taught 32 r from slot mails)
+asked_from (Some command) from slot (r, mails) = (r, taught most_taught r from slot mails)
 
--- Ask: of an executed slot, and from 0. At most 32 entries that are held, or the executed state
+-- Ask: of an executed slot, and from 0. Entries that are held, or the executed state
 unfoldable pub ask_row : ℕ → ℕ → Place → Place
 ask_row from slot (r, mails) = if nat_lt slot (next r) then asked_from (entry_at slot r.log) from slot (r, mails) else (r, mails)
 
@@ -93,16 +98,19 @@ install_row from slot base sets (r, mails) =
     if not (length sets == length r.sets) || (nat_lt last_slot slot || nat_lt slot (next r)) then (r, mails)
     else took_over from slot base sets (r, mails)
 
--- a replica that is made by an Install
-unfoldable pub made_by : ℕ → ℕ → ℕ → Base → List (List ℕ) → Place
-made_by me from slot base sets = looked_up from (installed_replica me slot base sets, [])
+-- a replica that is made by an Install for a group
+unfoldable pub made_by : ℕ → ℕ → Draw → ℕ → Base → List (List ℕ) → Place
+made_by me from group slot base sets = looked_up from (installed_replica me slot (named group base) sets, [])
 
 -- the command of an order; those of splits and transactions are not built yet
 abbrev pub command_of : OrderLine → Option Command
 command_of line = elim (line.order) [
   | An.Join node group ↦ Some (Join node line.number)
   | An.Leave node group ↦ Some (Leave node line.number)
-  | _ ↦ None
+  | An.Split group at ↦ None
+  | An.Merge group ↦ None
+  | An.Repart group at ↦ None
+  | An.Migrate group node ↦ None
 ]
 
 -- an order that is not refused waits last
@@ -157,7 +165,14 @@ mailed from (Nack group promised) place = nack_row promised place
 mailed from (Learn group slot command) place = learn_row from slot command place
 mailed from (Ask group from_slot) place = ask_row from from_slot place
 mailed from (Install group slot base sets) place = install_row from slot base sets place
-mailed from _ place = place
+mailed from (Answer group seq answer) place = place
+mailed from (TxPrepare tx offer) place = place
+mailed from (TxVote tx coord part vote) place = place
+mailed from (TxOutcome tx part outcome) place = place
+mailed from (TxElsewhere tx coord hint) place = place
+mailed from (TxWatch tx watch) place = place
+mailed from (TxWatched tx coord part vote) place = place
+mailed from (Told order result) place = place
 
 -- a replica's table
 unfoldable pub stepped : ReplicaInput → Place → Place

@@ -1,19 +1,39 @@
-//! The tables of a replica and of a node: what each input makes of them, and what they send. Definitions, no logic.
+//! The tables of a replica and of a node: what each input makes of them, and what they send.
+//! Definitions, no logic.
 #![tactic(auto)]
+
+ghost use Rattle.sc_node_table.specs.Pump.{StaysSettled};
+ghost use Rattle.sc_node_table.specs.Sameness.{TellsCommands};
 
 use sc_cmd::OrderLine;
 use sc_mail::Mail;
 
-/// How many slots of a log are open at a time: each is decided by the members of the state so many entries before it (Paxos Made Simple, section 3).
+/// How many slots of a log are open at a time: each is decided by the members of the state so many
+/// entries before it (Paxos Made Simple, section 3).
 pub const OPEN_SLOTS: usize = 4;
 
 /// How many slots are kept or forgotten at a time.
 pub const CUT_UNIT: u32 = 64;
 
-/// What a replica takes: a mail for its group, a tick of its node's clock, or an order to its group.
+/// How many entries an Ask is answered with at most.
+pub const MOST_TAUGHT: u32 = 32;
+
+/// What a replica takes: a mail for its group, a tick of its node's clock, or an order to its
+/// group.
 #[derive(Drop)]
 pub enum ReplicaInput {
     Got(Mail),
     Tick,
     Told(OrderLine),
 }
+
+/// Two commands are the same by the table's test exactly where they are equal.
+pub fn commands_are_told_apart()
+    ensures { TellsCommands }
+{}
+
+/// What the pump offers leaves a settled replica settled: the pump goes on while it is, and tests
+/// it once.
+pub fn settled_replicas_stay_settled()
+    ensures { StaysSettled }
+{}

@@ -19,19 +19,9 @@ use Rattle.sc_paxos_law.specs.Decided.{voters_of, lesser_of, found_in, chosen_at
 use Rattle.sc_paxos_law.proofs.Among.{shared_member, member-among, among-member, count_by-le}
 use Rattle.sc_paxos_law.proofs.History.{was_offered, one_offer}
 use Rattle.sc_paxos_law.proofs.Law.{earlier, agree_members, logs_agree, element, chosen_by, later_log, longer_log}
+use Rattle.sc_base.proofs.NameLemmas.{ballot_is, ballot_itself}
 
 -- ---- voters
-
-itself : (b : Ballot) → same_ballot b b ≡ true
-itself b = and_from (eqb b.round b.round) (eqb b.node b.node) (eq-eqb b.round b.round refl) (eq-eqb b.node b.node refl)
-
-made_equal : (r n s m : ℕ) → r ≡ s → n ≡ m → (let a : Ballot = record { round = r; node = n } in a) ≡ record { round = s; node = m }
-made_equal r n s m e f = ap (λ x. (let a : Ballot = record { round = x; node = n } in a)) e ∙ ap (λ x. (let a : Ballot = record { round = s; node = x } in a)) f
-
-same_is : (a b : Ballot) → same_ballot a b ≡ true → a ≡ b
-same_is a b t =
-    let parts = and_parts (eqb a.round b.round) (eqb a.node b.node) t in
-    made_equal a.round a.node b.round b.node (eqb-true a.round b.round parts.0) (eqb-true a.node b.node parts.1)
 
 -- each voter accepted some value
 abbrev Accepts : {V : Type 0} → List (Step V) → Ballot → ℕ → ℕ → Type 0
@@ -51,7 +41,7 @@ voters_accept {V} (Accepted n c s v ∷ h) b slot =
     elim (cases_Bool (same_ballot c b && eqb s slot)) [
       | inl t ↦ (
           let parts = and_parts (same_ballot c b) (eqb s slot) t in
-          let same = ap (λ x. Accepted n x s v) (same_is c b parts.0) ∙ ap (λ x. Accepted n b x v) (eqb-true s slot parts.1) in
+          let same = ap (λ x. Accepted n x s v) (ballot_is c b parts.0) ∙ ap (λ x. Accepted n b x v) (eqb-true s slot parts.1) in
           subst (Each (Accepts (Accepted n c s v ∷ h) b slot)) (sym (cond-true (same_ballot c b && eqb s slot) (n ∷ voters_of h b slot) (voters_of h b slot) t)) ((v, inl same), rest))
       | inr f ↦ subst (Each (Accepts (Accepted n c s v ∷ h) b slot)) (sym (cond-false (same_ballot c b && eqb s slot) (n ∷ voters_of h b slot) (voters_of h b slot) f)) rest
     ]
@@ -60,7 +50,7 @@ is_voter : {V : Type 0} (h : List (Step V)) (n : ℕ) (b : Ballot) (slot : ℕ) 
 is_voter [] n b slot v a = absurd a
 is_voter {V} (x ∷ h) n b slot v (inl e) =
     subst (λ (y : Step V). Among n (voters_of (y ∷ h) b slot)) (sym e)
-    (subst (Among n) (sym (cond-true (same_ballot b b && eqb slot slot) (n ∷ voters_of h b slot) (voters_of h b slot) (and_from (same_ballot b b) (eqb slot slot) (itself b) (eq-eqb slot slot refl)))) (inl refl))
+    (subst (Among n) (sym (cond-true (same_ballot b b && eqb slot slot) (n ∷ voters_of h b slot) (voters_of h b slot) (and_from (same_ballot b b) (eqb slot slot) (ballot_itself b) (eq-eqb slot slot refl)))) (inl refl))
 is_voter (Prepared c from ∷ h) n b slot v (inr a) = is_voter h n b slot v a
 is_voter (Promised m c from rs ∷ h) n b slot v (inr a) = is_voter h n b slot v a
 is_voter (Cut m upto ∷ h) n b slot v (inr a) = is_voter h n b slot v a
@@ -150,7 +140,7 @@ finds {V} members all slot (Accepted m c s w ∷ h) n b v (inr a) most e =
     cond_both (eqb s slot && is_majority members (voters_of all c slot)) (Some (lesser_of here (found_in members all slot h))) (found_in members all slot h) (λ (o : Option (Report V)). o ≡ None → ⊥)
     (λ t k. cc) (λ f k. finds members all slot h n b v a most k) e
 
-pub chosen-found : {V : Type 0} (h : List (Step V)) (members : List ℕ) (slot : ℕ) (v : V) → IsChosen members h slot v → chosen_at members h slot ≡ None → ⊥
+chosen-found : {V : Type 0} (h : List (Step V)) (members : List ℕ) (slot : ℕ) (v : V) → IsChosen members h slot v → chosen_at members h slot ≡ None → ⊥
 chosen-found h members slot v c e =
     let voter = shared_member members c.voters c.voters c.majority c.majority in
     finds members h slot h voter.0 c.ballot v (Each-among _ c.voters voter.0 c.each voter.1)
@@ -193,6 +183,7 @@ least_found {V} members all slot (Accepted m c s v ∷ h) r e n b w (inr a) most
     (not_above_rest here (found_in members all slot h) b (finds members all slot h n b w a most) (λ q f. least_found members all slot h q f n b w a most))))
     (λ f k. least_found members all slot h r k n b w a most) e
 
+-- what is found chosen at a slot is the value of the least ballot in which one was chosen
 pub least_stands : {V : Type 0} (members : List ℕ) (h : List (Step V)) (slot : ℕ) (v : V) → chosen_at members h slot ≡ Some v
     → (b : Ballot) × ((n : ℕ) × Among (Accepted n b slot v) h) × ((w : V) (c : IsChosen members h slot w) → IsAtLeast c.ballot b)
 least_stands {V} members h slot v e =
@@ -259,9 +250,11 @@ longer_longest rule first h l (suc more) log a enough =
     go_on rule first h more log l a (chosen_at (members_of rule log (length log + 1)) h (length log + 1)) refl
     (λ v b. longer_longest rule first h l more (log ++ v ∷ []) b (omega (arith, length_push log v)))
 
+-- the decided log is a log, and no log is longer
 pub log_of-longest : {V : Type 0} (rule : Rule V) (first : Ballot) (h : List (Step V)) → IsLawful rule first h → IsLongest rule h (log_of rule h)
 log_of-longest rule first h l = longer_longest rule first h l (top_slot h) [] (λ k v e. cc) (omega arith)
 
+-- each log is a front of the decided one
 pub front_of_log : {V : Type 0} (rule : Rule V) (first : Ballot) (h : List (Step V)) → IsLawful rule first h → (other : List V) → IsLog rule h other
     → (length other ≤ length (log_of rule h)) × (take (length other) (log_of rule h) ≡ other)
 front_of_log rule first h l other b =
@@ -271,7 +264,8 @@ front_of_log rule first h l other b =
 
 -- ---- more steps
 
-later_logs : {V : Type 0} (rule : Rule V) (newer h : List (Step V)) (log : List V) → IsLog rule h log → IsLog rule (newer ++ h) log
+-- a log is one after more steps too
+pub later_logs : {V : Type 0} (rule : Rule V) (newer h : List (Step V)) (log : List V) → IsLog rule h log → IsLog rule (newer ++ h) log
 later_logs rule [] h log is = is
 later_logs rule (s ∷ newer) h log is = later_log rule s (newer ++ h) log (later_logs rule newer h log is)
 
@@ -279,6 +273,7 @@ older_lawful : {V : Type 0} (rule : Rule V) (first : Ballot) (newer h : List (St
 older_lawful rule first [] h l = l
 older_lawful rule first (s ∷ newer) h l = older_lawful rule first newer h l.1
 
+-- after more steps the decided log goes on as it was
 pub log_grows : {V : Type 0} (rule : Rule V) (first : Ballot) (newer h : List (Step V)) → IsLawful rule first (newer ++ h)
     → (length (log_of rule h) ≤ length (log_of rule (newer ++ h))) × (take (length (log_of rule h)) (log_of rule (newer ++ h)) ≡ log_of rule h)
 log_grows rule first newer h l =

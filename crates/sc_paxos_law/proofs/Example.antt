@@ -74,6 +74,7 @@ offers_next = record {
   only = λ other a. absurd (not_before_second other a);
 }
 
+-- the example's steps are lawful
 pub lawful : IsLawful three first example
 lawful = (
   tt,

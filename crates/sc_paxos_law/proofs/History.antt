@@ -1,6 +1,6 @@
 -- What holds of each lawful history.
 use Rattle.std.proofs.Common.{◌≡◌, ◌≢◌, ℕ, ◌<◌, ◌≤◌, true, cond, eqb, leb, ltb, List, [], ◌∷◌, filter, ◌⊎◌, inl, inr, refl, sym, ◌∙◌, ap, subst, arith}
-use Rattle.std.proofs.lemmas.Bool.{cases_order, eqb-true, eq-eqb, cond-true, cond_both, not-true, lt-ltb, le-leb}
+use Rattle.std.proofs.lemmas.Bool.{cases_order, eqb-true, eq-eqb, cond-true, cond_both, lt-ltb, le-leb}
 use Rattle.sc_base.specs.declared.names.Ballot.{Ballot}
 use Rattle.sc_paxos_words.specs.declared.reports.Report.{Report}
 use Rattle.sc_paxos_words.specs.Among.{Among}
@@ -12,6 +12,7 @@ use Rattle.sc_paxos_law.specs.Steps.{Step, Prepared, Promised, Offered, Accepted
 use Rattle.sc_paxos_law.specs.Chosen.{Rule}
 use Rattle.sc_paxos_law.specs.Lawful.{IsLawfulStep, IsLawful}
 use Rattle.sc_paxos_law.proofs.Among.{Among-left, Among-right, Among-either}
+use Rattle.sc_paxos_words.proofs.AcceptorLemmas.{may_is}
 
 abbrev pub promise_of : {V : Type 0} → Ballot → ℕ → List (Step V) → Ballot
 promise_of first node h = (state_of first node h).promised
@@ -24,9 +25,6 @@ by_node : {V : Type 0} (n node : ℕ) (here there : AcceptorState V) (P : Accept
 by_node n node here there P f p = cond_both (eqb n node) here there P (λ t. f (eqb-true n node t)) (λ _. p)
 
 -- ---- a promise never falls
-
-may_is : {V : Type 0} (state : AcceptorState V) (ballot : Ballot) → may_accept state ballot ≡ true → IsAtLeast ballot state.promised
-may_is state ballot t = not-true (below ballot state.promised) t
 
 pub step_keeps : {V : Type 0} (rule : Rule V) (first : Ballot) (node : ℕ) (s : Step V) (older : List (Step V)) → IsLawfulStep rule first s older
     → IsAtLeast (promise_of first node (s ∷ older)) (promise_of first node older)
@@ -82,6 +80,7 @@ first_is_least rule first (s ∷ older) n b slot v l (inr a) = first_is_least ru
 
 -- ---- offers
 
+-- what was accepted was offered
 pub was_offered : {V : Type 0} (rule : Rule V) (first : Ballot) (h : List (Step V)) (n : ℕ) (b : Ballot) (slot : ℕ) (v : V) → IsLawful rule first h
     → Among (Accepted n b slot v) h → Among (Offered b slot v) h
 was_offered rule first [] n b slot v l a = absurd a

@@ -15,15 +15,17 @@ use Rattle.sc_paxos_words.proofs.ChoiceLemmas.{choice_among, choice_best}
 use Rattle.sc_paxos_law.specs.Steps.{Step, Offered, Accepted}
 use Rattle.sc_paxos_law.specs.Chosen.{Rule, needed, members_of, IsChosen, IsChosenAfter, IsLog}
 use Rattle.sc_paxos_law.specs.Lawful.{Vote, IsElected, IsLawfulStep, IsLawful}
-use Rattle.sc_paxos_law.proofs.Among.{Among-flat_map, from_flat_map, from_map, shared_member}
+use Rattle.sc_paxos_law.proofs.Among.{Among-flat_map, from_flat_map, from_map, shared_member, get_pushed}
 use Rattle.sc_paxos_law.proofs.History.{first_is_least, was_offered, one_offer, reported, report_accepted}
 
 -- ---- what holds of a history holds after one more step
 
+-- what is chosen stays chosen after one more step
 pub later_chosen : {V : Type 0} (members : List ℕ) (s : Step V) (older : List (Step V)) (slot : ℕ) (v : V) → IsChosen members older slot v → IsChosen members (s ∷ older) slot v
 later_chosen members s older slot v c =
     record { ballot = c.ballot; voters = c.voters; each = Each-weaker _ _ (λ n a. inr a) c.voters c.each; majority = c.majority }
 
+-- a log is one after one more step
 pub later_log : {V : Type 0} (rule : Rule V) (s : Step V) (older : List (Step V)) (log : List V) → IsLog rule older log → IsLog rule (s ∷ older) log
 later_log rule s older log l k v e = let c = l k v e in record { known = c.known; chosen = later_chosen _ s older (k + 1) v c.chosen }
 
@@ -34,7 +36,8 @@ record IsMade {V : Type 0} (rule : Rule V) (first ballot : Ballot) (slot : ℕ) 
   known : needed rule slot ≤ length log
   elected : (ballot ≡ first) ⊎ IsElected (members_of rule log slot) ballot slot value h
 
-later_elected : {V : Type 0} (members : List ℕ) (b : Ballot) (slot : ℕ) (v : V) (s : Step V) (older : List (Step V)) → IsElected members b slot v older → IsElected members b slot v (s ∷ older)
+-- an election is one after more steps too
+pub later_elected : {V : Type 0} (members : List ℕ) (b : Ballot) (slot : ℕ) (v : V) (s : Step V) (older : List (Step V)) → IsElected members b slot v older → IsElected members b slot v (s ∷ older)
 later_elected members b slot v s older e =
     record { votes = e.votes; made = Each-weaker _ _ (λ x m. (inr m.0, m.1)) e.votes e.made; majority = e.majority; choice = e.choice }
 
@@ -148,10 +151,12 @@ one_value rule first h slot members v w l same c d =
 abbrev pub Agree : {V : Type 0} → Rule V → List (Step V) → ℕ → Type 0
 Agree {V} rule h n = (log other : List V) → IsLog rule h log → IsLog rule h other → n ≤ length log → n ≤ length other → take n log ≡ take n other
 
+-- logs that agree as far as is needed give a slot the same members
 pub agree_members : {V : Type 0} (rule : Rule V) (h : List (Step V)) (slot : ℕ) (log : List V) → IsLog rule h log → needed rule slot ≤ length log → Agree rule h (needed rule slot)
     → HasMembers rule h slot (members_of rule log slot)
 agree_members rule h slot log l known agree other k enough = ap rule.members (agree other log k l enough known)
 
+-- each place within a list has its element
 pub element : {V : Type 0} (xs : List V) (n : ℕ) → n < length xs → (v : V) × (slice_get xs n ≡ Some v) × (get_or xs n v ≡ v)
 element xs n h =
     elim (slice_get_cases xs n).1 [ inl k ↦ (k.0, k.2, k.3) | inr k ↦ absurd (omega (arith, k.0)) ]
@@ -189,6 +194,7 @@ agree_up_to rule first h l (suc n) k le =
 pub logs_agree : {V : Type 0} (rule : Rule V) (first : Ballot) (h : List (Step V)) → IsLawful rule first h → (n : ℕ) → Agree rule h n
 logs_agree rule first h l n = agree_up_to rule first h l n n (omega arith)
 
+-- no two values are chosen at one slot
 pub one_value_per_slot : {V : Type 0} (rule : Rule V) (first : Ballot) (h : List (Step V)) → IsLawful rule first h
     → (log other : List V) → IsLog rule h log → IsLog rule h other
     → (slot : ℕ) (v w : V) → IsChosenAfter rule h log (slot + 1) v → IsChosenAfter rule h other (slot + 1) w → v ≡ w
@@ -196,16 +202,10 @@ one_value_per_slot rule first h l log other a b slot v w c d =
     let here = agree_members rule h (slot + 1) log a c.known (logs_agree rule first h l (needed rule (slot + 1))) in
     one_value rule first h (slot + 1) _ v w l here c.chosen (subst (λ ms. IsChosen ms h (slot + 1) w) (here other b d.known) d.chosen)
 
-slice_get-push : {X : Type 0} (xs : List X) (y : X) (k : ℕ) (v : X) → slice_get (xs ++ y ∷ []) k ≡ Some v → (slice_get xs k ≡ Some v) ⊎ ((k ≡ length xs) × (y ≡ v))
-slice_get-push [] y zero v e = inr (refl, cc)
-slice_get-push [] y (suc k) v e = cc
-slice_get-push (x ∷ xs) y zero v e = inl e
-slice_get-push (x ∷ xs) y (suc k) v e = elim (slice_get-push xs y k v e) [ inl p ↦ inl p | inr q ↦ inr (ap suc q.0, q.1) ]
-
 -- one entry more
 pub longer_log : {V : Type 0} (rule : Rule V) (h : List (Step V)) (log : List V) (v : V) → IsLog rule h log → IsChosenAfter rule h log (length log + 1) v → IsLog rule h (log ++ v ∷ [])
 longer_log {V} rule h log v is c k w e =
-    elim (slice_get-push log v k w e) [
+    elim (get_pushed log v k w e) [
       | inl old ↦ (
           let within = slice_get_within log k w old in
           subst (λ xs. IsChosenAfter rule h xs (k + 1) w) (sym (take-append-le k log (v ∷ []) (omega arith))) (is k w old))

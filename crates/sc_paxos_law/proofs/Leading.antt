@@ -19,6 +19,7 @@ obeys : {V : Type 0} (above : Bool) (o : Option (Report V)) (value : V) → Obey
 obeys above None value h = tt
 obeys above (Some best) value h = sym h
 
+-- a leader's counted votes are an election
 pub elected_by : {V : Type 0} (members : List ℕ) (older : List (Step V)) (slot : ℕ) (value : V) (leader : LeaderState V) (votes : List (Vote V))
     → leader.promisers ≡ map (λ (vote : Vote V). vote.node) votes → leader.reports ≡ flat_map (λ (vote : Vote V). vote.reports) votes
     → Each (λ (vote : Vote V). Among (Promised vote.node leader.ballot vote.from vote.reports) older × (vote.from ≤ slot)) votes
@@ -39,6 +40,7 @@ counts_within p q (x ∷ xs) f =
     let here : cond (p x) 1 0 ≤ cond (q x) 1 0 = cond_both (p x) 1 0 (λ n. n ≤ cond (q x) 1 0) (λ t. (let e = cond-true {A = ℕ} (q x) 1 0 (f x (inl refl) t) in omega (arith, e))) (λ t. omega arith) in
     omega (arith, here, rest, sum_by-cons (λ y. cond (p y) 1 0) x xs, sum_by-cons (λ y. cond (q y) 1 0) x xs)
 
+-- voters who are no members can be left out of a majority
 pub strangers : (members voters : List ℕ) → IsMajority members voters → IsMajority members (filter (λ voter. is_member members voter) voters)
 strangers members voters most =
     let le = counts_within (is_member voters) (is_member (filter (λ voter. is_member members voter) voters)) members

@@ -1,4 +1,5 @@
-//! One value per slot, over any steps of proposers and acceptors, for any values and any rule that gives a slot's members from the earlier entries.
+//! One value per slot, over any steps of proposers and acceptors, for any values and any rule that
+//! gives a slot's members from the earlier entries.
 #![tactic(auto)]
 
 ghost use Rattle.std.specs.Prelude.{◌≡◌, [], ◌∷◌};
@@ -13,7 +14,9 @@ pub fn one_value_per_slot<V>()
     ensures logs { LogsAgree V }
 {}
 
-/// The computed log is the longest list whose entries are chosen, and each other such list is a front of it. With more steps it only grows. Were two values chosen at a slot, that of the least ballot would stand.
+/// The computed log is the longest list whose entries are chosen, and each other such list is a
+/// front of it. With more steps it only grows. Were two values chosen at a slot, that of the least
+/// ballot would stand.
 pub fn one_log<V>()
     ensures longest { LogIsLongest V }
     ensures grows { LogOnlyGrows V }
@@ -25,7 +28,8 @@ pub fn acceptors_are_lawful<V>()
     ensures { AcceptorsAreLawful V }
 {}
 
-/// A leader that was promised by a majority of a slot's members, and proposes what it must, is elected. Votes of nodes that are no members change nothing.
+/// A leader that was promised by a majority of a slot's members, and proposes what it must, is
+/// elected. Votes of nodes that are no members change nothing.
 pub fn leaders_are_lawful<V>()
     ensures elected { LeadersAreLawful V }
     ensures strangers { StrangersDoNotCount }
@@ -36,6 +40,3 @@ pub fn a_lawful_history()
     ensures lawful { IsLawful three first example }
     ensures log { log_of three example ≡ 7 ∷ 8 ∷ [] }
 {}
-
-#[cfg(test)]
-mod tests;

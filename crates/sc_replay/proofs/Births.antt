@@ -7,47 +7,46 @@ use Rattle.sc_cmd.specs.declared.cores.Base.{Base}
 use Rattle.sc_cmd.specs.declared.links.Route.{Route}
 use Rattle.sc_actor.specs.declared.actors.Seat.{Seat}
 use Rattle.sc_actor.specs.System.{are_apart}
-use Rattle.sc_node_table.specs.Slots.{slots_ahead, numbers}
+use Rattle.sc_node_table.specs.Slots.{numbers}
 use Rattle.sc_scenario.specs.Groups.{lone_group}
 use Rattle.sc_scenario.specs.Valid.{IsEarly, IsEarlyClient}
 use Rattle.sc_scenario.specs.declared.scenarios.Asks.{Asks}
 use Rattle.sc_scenario.specs.declared.scenarios.Scenario.{Scenario}
-use Rattle.sc_world.specs.World.{node_seat, client_seat, client_seats, route_of, births, most_actor}
-use Rattle.sc_world.specs.declared.party.Party.{Party}
+use Rattle.sc_players.specs.Players.{node_seat, client_seat, client_seats, route_of, births, most_actor, Player, as_nodes}
 
 -- the numbers rise, from above a number on
-abbrev Rises : ℕ → List (Seat Party) → Type 0
+abbrev Rises : ℕ → List (Seat Player) → Type 0
 Rises low [] = Unit {0}
 Rises low (seat ∷ seats) = (low < seat.who) × Rises seat.who seats
 
-none_same : (number low : ℕ) (seats : List (Seat Party)) → number ≤ low → Rises low seats → list_any (λ (other : Seat Party). eqb other.who number) seats ≡ false
+none_same : (number low : ℕ) (seats : List (Seat Player)) → number ≤ low → Rises low seats → list_any (λ (other : Seat Player). eqb other.who number) seats ≡ false
 none_same number low [] le r = refl
 none_same number low (seat ∷ seats) le r =
     let other : eqb seat.who number ≡ false = ne_eqb seat.who number (λ e. absurd (omega (arith, e, le, r.0))) in
     rw other (none_same number seat.who seats (omega (arith, le, r.0)) r.1)
 
-apart_rising : (low : ℕ) (seats : List (Seat Party)) → Rises low seats → are_apart seats ≡ true
+apart_rising : (low : ℕ) (seats : List (Seat Player)) → Rises low seats → are_apart seats ≡ true
 apart_rising low [] r = refl
 apart_rising low (seat ∷ seats) r = and_from _ _ (ap not (none_same seat.who seat.who seats (omega arith) r.1)) (apart_rising seat.who seats r.1)
 
 -- none is above a number
-abbrev Within : ℕ → List (Seat Party) → Type 0
+abbrev Within : ℕ → List (Seat Player) → Type 0
 Within top [] = Unit {0}
 Within top (seat ∷ seats) = (seat.who ≤ top) × Within top seats
 
-lower : (low top : ℕ) (seats : List (Seat Party)) → low ≤ top → Rises top seats → Rises low seats
+lower : (low top : ℕ) (seats : List (Seat Player)) → low ≤ top → Rises top seats → Rises low seats
 lower low top [] le r = tt
 lower low top (seat ∷ seats) le r = (omega (arith, le, r.0), r.1)
 
-rise_on : (low top : ℕ) (xs ys : List (Seat Party)) → low ≤ top → Rises low xs → Within top xs → Rises top ys → Rises low (xs ++ ys)
+rise_on : (low top : ℕ) (xs ys : List (Seat Player)) → low ≤ top → Rises low xs → Within top xs → Rises top ys → Rises low (xs ++ ys)
 rise_on low top [] ys le r w s = lower low top ys le s
 rise_on low top (x ∷ xs) ys le r w s = (r.0, rise_on x.who top xs ys w.0 r.1 w.1 s)
 
-nodes_rise : (groups : List Base) (low from count : ℕ) → low < from → Rises low (map (node_seat slots_ahead groups) (numbers from count))
+nodes_rise : (groups : List Base) (low from count : ℕ) → low < from → Rises low (map (node_seat as_nodes groups) (numbers from count))
 nodes_rise groups low from zero lt = tt
 nodes_rise groups low from (suc count) lt = (lt, nodes_rise groups from (from + 1) count (omega arith))
 
-nodes_within : (groups : List Base) (top from count : ℕ) → from + count ≤ top + 1 → Within top (map (node_seat slots_ahead groups) (numbers from count))
+nodes_within : (groups : List Base) (top from count : ℕ) → from + count ≤ top + 1 → Within top (map (node_seat as_nodes groups) (numbers from count))
 nodes_within groups top from zero le = tt
 nodes_within groups top from (suc count) le = (omega (arith, le), nodes_within groups top (from + 1) count (omega (arith, le)))
 
@@ -62,7 +61,7 @@ clients_rise first low (asks ∷ clients) above rising = (
     later : (k : ℕ) (d : Asks) → k < length clients → asks.client < (slice_index_or clients k d).client
     later k d lt = rising 0 (suc k) d (omega arith) (omega (arith, lt))
 
-within_on : (top : ℕ) (xs ys : List (Seat Party)) → Within top xs → Within top ys → Within top (xs ++ ys)
+within_on : (top : ℕ) (xs ys : List (Seat Player)) → Within top xs → Within top ys → Within top (xs ++ ys)
 within_on top [] ys w v = v
 within_on top (x ∷ xs) ys w v = (w.0, within_on top xs ys w.1 v)
 
@@ -74,14 +73,14 @@ clients_within first (asks ∷ clients) all = (
 )
 
 -- those that rise from above a number and are not above another lie between
-between : (low top : ℕ) (seats : List (Seat Party)) → Rises low seats → Within top seats → All (λ (seat : Seat Party). (low < seat.who) × (seat.who ≤ top)) seats
-between low top [] r w = All-nil (λ (seat : Seat Party). (low < seat.who) × (seat.who ≤ top))
+between : (low top : ℕ) (seats : List (Seat Player)) → Rises low seats → Within top seats → All (λ (seat : Seat Player). (low < seat.who) × (seat.who ≤ top)) seats
+between low top [] r w = All-nil (λ (seat : Seat Player). (low < seat.who) × (seat.who ≤ top))
 between low top (seat ∷ seats) r w =
-    All-cons (λ (seat : Seat Party). (low < seat.who) × (seat.who ≤ top)) seat seats (r.0, w.0)
+    All-cons (λ (seat : Seat Player). (low < seat.who) × (seat.who ≤ top)) seat seats (r.0, w.0)
     (between low top seats (lower low seat.who seats (omega (arith, r.0)) r.1) w.1)
 
 -- the births of an early scenario rise
-births_rise : (scenario : Scenario) → IsEarly scenario → Rises 0 (births scenario)
+births_rise : (scenario : Scenario) → IsEarly scenario → Rises 0 (births as_nodes scenario)
 births_rise scenario early =
     let clients : Rises 32 (client_seats scenario.groups scenario.clients) =
     subst (λ (groups : List Base). Rises 32 (client_seats groups scenario.clients)) (sym early.group)
@@ -90,14 +89,14 @@ births_rise scenario early =
     (nodes_within scenario.groups 32 1 scenario.nodes (omega (arith, early.nodes.1))) clients
 
 -- so they have different numbers
-pub all_apart : (scenario : Scenario) → IsEarly scenario → are_apart (births scenario) ≡ true
-all_apart scenario early = apart_rising 0 (births scenario) (births_rise scenario early)
+pub all_apart : (scenario : Scenario) → IsEarly scenario → are_apart (births as_nodes scenario) ≡ true
+all_apart scenario early = apart_rising 0 (births as_nodes scenario) (births_rise scenario early)
 
 -- and numbers from 1 to 96
-pub all_numbered : (scenario : Scenario) → IsEarly scenario → All (λ (seat : Seat Party). (0 < seat.who) × (seat.who ≤ most_actor)) (births scenario)
+pub all_numbered : (scenario : Scenario) → IsEarly scenario → All (λ (seat : Seat Player). (0 < seat.who) × (seat.who ≤ most_actor)) (births as_nodes scenario)
 all_numbered scenario early =
     let clients : Within most_actor (client_seats scenario.groups scenario.clients) =
     subst (λ (groups : List Base). Within most_actor (client_seats groups scenario.clients)) (sym early.group)
     (clients_within (route_of (lone_group early.lo early.members)) scenario.clients early.clients) in
-    between 0 most_actor (births scenario) (births_rise scenario early)
+    between 0 most_actor (births as_nodes scenario) (births_rise scenario early)
     (within_on most_actor _ (client_seats scenario.groups scenario.clients) (nodes_within scenario.groups most_actor 1 scenario.nodes (omega (arith, early.nodes.1))) clients)

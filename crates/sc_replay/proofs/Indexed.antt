@@ -1,5 +1,5 @@
 -- What is found at a slot depends on the acceptances of that slot alone.
-use Rattle.std.proofs.Common.{◌≡◌, ℕ, Bool, true, false, cond, List, [], ◌∷◌, ◌++◌, map, reverse, filter, ◌&&◌, ◌==◌, if◌then◌else◌, Option, Some, refl, sym, ap, ◌∙◌}
+use Rattle.std.proofs.Common.{◌≡◌, ℕ, Bool, true, false, cond, List, [], ◌∷◌, ◌++◌, map, reverse, ◌&&◌, ◌==◌, if◌then◌else◌, Option, Some, refl, sym, ap, ◌∙◌}
 use Rattle.std.specs.Option.{option_map}
 use Rattle.std.proofs.lemmas.List.{map-append, append-nil}
 use Rattle.std.proofs.lemmas.List.Elements.{filter-append}
@@ -14,7 +14,6 @@ use Rattle.sc_paxos_law.specs.Decided.{voters_of, found_in, chosen_at, lesser_of
 use Rattle.sc_replay.specs.Acceptances.{step_of, steps_of, report_of}
 use Rattle.sc_replay.specs.Indexes.{at_slot}
 use Rattle.sc_replay.specs.declared.accepting.Acceptance.{Acceptance}
-use Rattle.sc_replay.proofs.Newest.{steps_of-last}
 
 -- steps, and those of them that are at a slot
 abbrev steps_in : List Acceptance → List (Step Command)

@@ -9,7 +9,7 @@ use Rattle.sc_scenario.specs.declared.scenarios.Asks.{Asks}
 use Rattle.sc_scenario.specs.declared.scenarios.Scenario.{Scenario}
 use Rattle.sc_scenario.specs.declared.scenarios.SchedLine.{SchedLine}
 use Rattle.sc_scenario.specs.declared.scenarios.SchedLine.TheVariants.{Go, Deliver, Drop, Again, Tick, Crash, Told, Settle, Free, Storm}
-use Rattle.sc_world.specs.World.{line_of, schedule, AreFew}
+use Rattle.sc_players.specs.Players.{line_of, schedule, AreFew}
 
 -- a line of the early form is built
 built_one : (nodes : ℕ) (clients : List Asks) (x : SchedLine) → IsEarlyLine nodes clients x → has_one_task (line_of x) ≡ true
@@ -29,6 +29,7 @@ built_all nodes clients [] all k d lt = absurd (omega (arith, lt))
 built_all nodes clients (x ∷ xs) all zero d lt = built_one nodes clients x (all 0 x (omega arith))
 built_all nodes clients (x ∷ xs) all (suc k) d lt = built_all nodes clients xs (λ j e le. all (suc j) e (omega (arith, le))) k d (omega (arith, lt))
 
+-- each line of an early scenario's schedule is built
 pub built : (scenario : Scenario) → IsEarly scenario → (lines : List (Line OrderLine)) → lines ≡ schedule scenario → (k : ℕ) (d : Line OrderLine) → k < length lines → has_one_task (slice_index_or lines k d) ≡ true
 built scenario early lines is =
     let P : List (Line OrderLine) → Type 0 = λ ls. (k : ℕ) (d : Line OrderLine) → k < length ls → has_one_task (slice_index_or ls k d) ≡ true in

@@ -17,6 +17,7 @@ use Rattle.sc_sound.specs.Accepts.{is_accepted, accepts_of}
 use Rattle.sc_replay.specs.Acceptances.{step_of, steps_of, report_of, with_chosen}
 use Rattle.sc_replay.specs.declared.accepting.Acceptance.{Acceptance}
 
+-- one acceptance more is the newest step
 pub steps_of-last : (xs : List Acceptance) (a : Acceptance) → steps_of (xs ++ a ∷ []) ≡ step_of a ∷ steps_of xs
 steps_of-last xs a = ap reverse (map-append step_of xs (a ∷ [])) ∙ reverse-append (map step_of xs) (step_of a ∷ [])
 

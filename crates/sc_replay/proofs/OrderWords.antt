@@ -3,29 +3,28 @@ use Rattle.std.proofs.Common.{◌≡◌, ℕ, zero, suc, ◌+◌, ◌<◌, List,
 use Rattle.sc_mail.specs.declared.bodies.Mail.{Mail}
 use Rattle.sc_node_table.specs.Slots.{numbers}
 use Rattle.sc_node_table.specs.Replica.{either}
-use Rattle.sc_sound.specs.Summary.{told_in, told_of}
+use Rattle.sc_replay.specs.Summary.{told_in, told_of}
 
-first-again : {X : Type 0} (a b c : Option X) → either (either a b) c ≡ either a (either b c)
-first-again (Some x) b c = refl
-first-again None b c = refl
+-- which of three words stands first, whichever two are asked first
+pub first_then : {X : Type 0} (a b c : Option X) → either (either a b) c ≡ either a (either b c)
+first_then (Some x) b c = refl
+first_then None b c = refl
 
-first-none : {X : Type 0} (a : Option X) → either a None ≡ a
-first-none (Some x) = refl
-first-none None = refl
+-- no word behind one changes nothing
+pub first_alone : {X : Type 0} (a : Option X) → either a None ≡ a
+first_alone (Some x) = refl
+first_alone None = refl
 
+-- what more mails tell of an order
 pub told-append : (number : ℕ) (xs ys : List Mail) → told_of number (xs ++ ys) ≡ either (told_of number xs) (told_of number ys)
 told-append number [] ys = refl
-told-append number (x ∷ xs) ys = ap (either (told_in number x.body)) (told-append number xs ys) ∙ sym (first-again (told_in number x.body) (told_of number xs) (told_of number ys))
+told-append number (x ∷ xs) ys = ap (either (told_in number x.body)) (told-append number xs ys) ∙ sym (first_then (told_in number x.body) (told_of number xs) (told_of number ys))
 
+-- what one more mail tells of an order
 pub told-last : (number : ℕ) (xs : List Mail) (x : Mail) → told_of number (xs ++ x ∷ []) ≡ either (told_of number xs) (told_in number x.body)
-told-last number xs x = told-append number xs (x ∷ []) ∙ ap (either (told_of number xs)) (first-none (told_in number x.body))
+told-last number xs x = told-append number xs (x ∷ []) ∙ ap (either (told_of number xs)) (first_alone (told_in number x.body))
 
-pub first_then : {X : Type 0} (a b c : Option X) → either (either a b) c ≡ either a (either b c)
-first_then = first-again
-
-pub first_alone : {X : Type 0} (a : Option X) → either a None ≡ a
-first_alone = first-none
-
+-- so many are made of so many numbers
 pub length-numbered : {X : Type 0} (f : ℕ → X) (from count : ℕ) → length (map f (numbers from count)) ≡ count
 length-numbered f from zero = refl
 length-numbered f from (suc count) = ap suc (length-numbered f (from + 1) count)

@@ -7,6 +7,7 @@ use Rattle.sc_paxos_law.specs.Decided.{lesser_of}
 use Rattle.sc_paxos_law.specs.Steps.{Step, Accepted}
 use Rattle.sc_replay.specs.declared.accepting.Acceptance.{Acceptance}
 
+-- an acceptance, as a step
 abbrev pub step_of : Acceptance → Step Command
 step_of acceptance = Accepted acceptance.node acceptance.ballot acceptance.slot acceptance.command
 

@@ -3,3 +3,4 @@ pub mod Indexes
 pub mod Plays
 pub mod Replays
 pub mod Worlds
+pub mod Summary

@@ -12,10 +12,11 @@ use Rattle.sc_actor.specs.Walk.{skipped, is_quiet}
 use Rattle.sc_ideal.specs.declared.Entry.{Entry}
 use Rattle.sc_machine_table.specs.Group.{group_of}
 use Rattle.sc_scenario.specs.declared.scenarios.Scenario.{Scenario}
-use Rattle.sc_world.specs.World.{system_of, schedule, Lawful, parties}
-use Rattle.sc_world.specs.declared.party.Party.{Party}
-use Rattle.sc_sound.specs.Logs.{as_nodes, decided_log}
-use Rattle.sc_sound.specs.Histories.{done_by, history}
+use Rattle.sc_players.specs.Players.{system_of, schedule, Lawful, parties, Player, as_nodes}
+use Rattle.sc_sound.specs.Logs.{decided_log}
+use Rattle.sc_machine_table.specs.Logs.{done_by}
+use Rattle.sc_sound.specs.Histories.{history}
+use Rattle.sc_actor.specs.System.{no_words}
 
 -- a scenario, and rows of it
 pub record Standing : Type 0 where
@@ -44,19 +45,19 @@ abbrev pub history_of : Standing → List Entry
 history_of standing = history as_nodes standing.scenario.groups standing.rows
 
 -- what a world holds: the parties as their rows leave them, how many lines were skipped, and whether no mail is pending; and its history is told by the groups' decided logs
-pub record Holds (scenario : Scenario) (rows : List (Row Mail OrderLine)) (left : List Party) (skips : ℕ) (quiet : Bool) : Type 0 where
-  pub parties_are : left ≡ parties scenario rows
-  pub skips_are : skips ≡ skipped (system_of scenario) (schedule scenario) rows
-  pub quiet_is : quiet ≡ is_quiet (system_of scenario) rows
+pub record Holds (scenario : Scenario) (rows : List (Row Mail OrderLine)) (left : List Player) (skips : ℕ) (quiet : Bool) : Type 0 where
+  pub parties_are : left ≡ parties as_nodes scenario rows
+  pub skips_are : skips ≡ skipped (system_of as_nodes no_words scenario) (schedule scenario) rows
+  pub quiet_is : quiet ≡ is_quiet (system_of as_nodes no_words scenario) rows
   pub told : history as_nodes scenario.groups rows ≡ flat_map (entries_in rows) scenario.groups
 
 -- a world stands for these rows of a scenario, which are lawful
 pub record Replays (scenario : Scenario) (rows : List (Row Mail OrderLine)) (world : Standing) : Type 0 where
-  pub lawful : Lawful scenario rows
+  pub lawful : Lawful as_nodes no_words scenario rows
   pub scenario_is : world.scenario ≡ scenario
   pub rows_are : world.rows ≡ rows
 
 -- there is a world exactly where the rows are lawful
 abbrev pub MayReplay : Scenario → List (Row Mail OrderLine) → Option Standing → Type 0
-MayReplay scenario rows None = Lawful scenario rows → ⊥
+MayReplay scenario rows None = Lawful as_nodes no_words scenario rows → ⊥
 MayReplay scenario rows (Some world) = Replays scenario rows world

@@ -48,7 +48,8 @@ fn says_accepted(group: Draw, ballot: Ballot, slot: u32, sent: &[Mail]) -> bool
 
 // Whether a row accepts what an accept of some group asks.
 fn is_taken(group: Draw, of: Draw, ballot: Ballot, slot: u32, row: &Row<Mail, OrderLine>) -> bool
-    ensures { result ≡ (same_draw of group && list_any (λ mail. is_accepted of ballot slot mail.body) row.now.sent) }
+    ensures { result ≡ (same_draw of group &&
+        list_any (λ mail. is_accepted of ballot slot mail.body) row.now.sent) }
 {
     if !same_draw(of, group) {
         return false;
@@ -63,7 +64,8 @@ fn note_accept(
     body: &MailBody,
     found: &mut Vec<Acceptance>,
 ) -> Result<(), OutOfMemory>
-    ensures { OnOk result (steps_of found.new.items ≡ accepts_of group row.now body.now ++ steps_of found.old.items) }
+    ensures { OnOk result (steps_of found.new.items ≡
+        accepts_of group row.now body.now ++ steps_of found.old.items) }
 {
     match body {
         MailBody::Accept {
@@ -106,7 +108,9 @@ fn note_row(
     row: &Row<Mail, OrderLine>,
     found: &mut Vec<Acceptance>,
 ) -> Result<(), OutOfMemory>
-    ensures { OnOk result (steps_of found.new.items ≡ accepts_at group (map (λ mail. mail.now) sent.now) row.now row.now.event ++ steps_of found.old.items) }
+    ensures { OnOk result (steps_of found.new.items ≡
+        accepts_at group (map (λ mail. mail.now) sent.now) row.now row.now.event
+        ++ steps_of found.old.items) }
 {
     let Event::Deliver(number) = &row.event else {
         return Ok(());
@@ -118,7 +122,8 @@ fn note_row(
 }
 
 fn add_mails<'a>(sent: &mut Vec<&'a Mail>, more: &'a [Mail]) -> Result<(), OutOfMemory>
-    ensures { OnOk result (map (λ mail. mail.now) sent.new.items ≡ map (λ mail. mail.now) sent.old.items ++ more.now) }
+    ensures { OnOk result (map (λ mail. mail.now) sent.new.items ≡
+        map (λ mail. mail.now) sent.old.items ++ more.now) }
 {
     for mail in more {
         sent.push(mail)?;
@@ -126,7 +131,8 @@ fn add_mails<'a>(sent: &mut Vec<&'a Mail>, more: &'a [Mail]) -> Result<(), OutOf
     Ok(())
 }
 
-/// What the rows of a journal accept for a group, in the order of the rows: each row that delivers an accept of the group and sends that it accepted. Refused only for want of memory.
+/// What the rows of a journal accept for a group, in the order of the rows: each row that delivers
+/// an accept of the group and sends that it accepted. Refused only for want of memory.
 pub(crate) fn accepts(
     alloc: Global,
     group: Draw,

@@ -2,15 +2,16 @@
 ghost use Rattle.std.specs.Prelude.{◌≡◌, ℕ, List, ◌==◌, ◌&&◌, ◌≤◌, ◌<◌, ◌-◌, ◌+◌, ◌^◌, length, take, ◌++◌, ◌∷◌, [], IfOk, OnOk};
 ghost use Rattle.std.specs.Option.{option_copied, option_map};
 ghost use Rattle.sc_member.specs.Roster.{is_member};
-ghost use Rattle.sc_member.specs.Majority.{is_majority, votes_of as member_votes};
+ghost use Rattle.sc_member.specs.Majority.{is_majority};
 ghost use Rattle.sc_paxos_law.specs.Decided.{voters_of, found_in, chosen_at, top_slot, log_of};
-ghost use Rattle.sc_machine_table.specs.Group.{Group, group_of};
+ghost use Rattle.sc_machine_table.specs.Group.{Group};
 ghost use Rattle.sc_machine_table.specs.Machine.{applied};
-ghost use Rattle.sc_sound.specs.Logs.{decided_log, rule_of, state_after};
+ghost use Rattle.sc_sound.specs.Logs.{decided_log, rule_of};
+ghost use Rattle.sc_machine_table.specs.Logs.{state_after};
 ghost use Rattle.std.specs.Ordering.{nat_cmp};
 ghost use Rattle.std.specs.BTreeMap.{get_by};
 ghost use Rattle.sc_replay.specs.declared.accepting.Acceptance.{Acceptance};
-ghost use Rattle.sc_replay.specs.Indexes.{at_slot, listed_in};
+ghost use Rattle.sc_replay.specs.Indexes.{listed_in, IsIndexed};
 ghost use Rattle.sc_replay.specs.Acceptances.{steps_of, report_of, is_lesser, with_chosen};
 ghost use Rattle.sc_replay.specs.Worlds.{group_named, named_log};
 
@@ -23,6 +24,7 @@ use sc_cmd::{Base, Command, OrderLine, same_ballot, same_draw};
 use sc_machine::Machine;
 use sc_mail::Mail;
 use sc_member::Members;
+use sc_node_table::OPEN_SLOTS;
 use std::alloc::Global;
 
 // Whether a node accepted at a slot in a ballot.
@@ -53,7 +55,7 @@ fn is_majority(members: &[u16], found: &[Acceptance], ballot: Ballot, slot: u32)
     members.len() < 2 * votes
 }
 
-// Whether an acceptance has a ballot not above that of the one found among older ones, if there is one.
+// Whether an acceptance has a ballot not above that of the one found among older ones, if any is.
 fn is_lesser<'a>(here: &Acceptance, least: Option<&'a Acceptance>) -> bool
     ensures { result ≡ is_lesser here.now (option_copied least.entry) }
 {
@@ -69,7 +71,8 @@ fn better_of<'a>(
     here: &'a Acceptance,
     least: Option<&'a Acceptance>,
 ) -> Option<&'a Acceptance>
-    ensures { option_map report_of (option_copied result) ≡ with_chosen is_chosen (report_of here.now) (option_map report_of (option_copied least.entry)) }
+    ensures { option_map report_of (option_copied result) ≡
+        with_chosen is_chosen (report_of here.now) (option_map report_of (option_copied least.entry)) }
 {
     if is_chosen && is_lesser(here, least) {
         return Some(here);
@@ -77,10 +80,11 @@ fn better_of<'a>(
     least
 }
 
-// Whether an acceptance is at a slot, in a ballot in which a majority of the members accepted there.
+// Whether an acceptance is at a slot, and in its ballot a majority of the members accepted there.
 fn is_chosen(members: &[u16], found: &[Acceptance], slot: u32, here: &Acceptance) -> bool
     requires { length members.now ≤ 9 }
-    ensures { result ≡ ((here.now.slot == slot) && is_majority members.now (voters_of (steps_of found.now) here.now.ballot slot)) }
+    ensures { result ≡ ((here.now.slot == slot) &&
+        is_majority members.now (voters_of (steps_of found.now) here.now.ballot slot)) }
 {
     if here.slot != slot {
         return false;
@@ -88,10 +92,12 @@ fn is_chosen(members: &[u16], found: &[Acceptance], slot: u32, here: &Acceptance
     is_majority(members, found, here.ballot, slot)
 }
 
-// Of the acceptances at a slot in ballots in which a majority of the members accepted there, the one with the least ballot.
+// Of the acceptances at a slot in ballots in which a majority of the members accepted there, the
+// one with the least ballot.
 fn find_at<'a>(members: &[u16], found: &'a [Acceptance], slot: u32) -> Option<&'a Acceptance>
     requires { length members.now ≤ 9 }
-    ensures { option_map report_of (option_copied result) ≡ found_in members.now (steps_of found.now) slot (steps_of found.now) }
+    ensures { option_map report_of (option_copied result) ≡
+        found_in members.now (steps_of found.now) slot (steps_of found.now) }
 {
     let mut best: Option<&'a Acceptance> = None;
     for acceptance in found {
@@ -130,7 +136,8 @@ fn top_slot(found: &[Acceptance]) -> u32
     top
 }
 
-/// One more entry is executed. What the machine does not carry out yet, the split of a group that has another successor and the commands of transactions, does nothing.
+/// One more entry is executed. What the machine does not carry out yet, the split of a group that
+/// has another successor and the commands of transactions, does nothing.
 pub(crate) fn execute(machine: &mut Machine, command: &Command) -> Result<(), OutOfMemory>
     ensures { OnOk result (machine.new ≡ (applied machine.old command.now).0) }
 {
@@ -140,7 +147,8 @@ pub(crate) fn execute(machine: &mut Machine, command: &Command) -> Result<(), Ou
     Ok(())
 }
 
-// The log grows by one entry, and the state that decides the members of its next slot by the entry that is then so far behind.
+// The log grows by one entry, and the state that decides the members of its next slot by the entry
+// that is then so far behind.
 fn grow(
     behind: &mut Machine,
     log: &mut Vec<Command>,
@@ -149,7 +157,9 @@ fn grow(
 ) -> Result<(), OutOfMemory>
     requires { 1 ≤ ahead }
     ensures log { OnOk result (log.new.items ≡ log.old.items ++ command ∷ []) }
-    ensures behind { OnOk result ((group : Group) → behind.old ≡ state_after group (take (length log.old.items + 1 - ahead) log.old.items) → behind.new ≡ state_after group (take (length log.new.items + 1 - ahead) log.new.items)) }
+    ensures behind { OnOk result ((group : Group) →
+        behind.old ≡ state_after group (take (length log.old.items + 1 - ahead) log.old.items) →
+        behind.new ≡ state_after group (take (length log.new.items + 1 - ahead) log.new.items)) }
 {
     log.push(command)?;
     if ahead <= log.len() {
@@ -158,10 +168,8 @@ fn grow(
     Ok(())
 }
 
-/// How many slots of a log are open at a time.
-pub(crate) const SLOTS_AHEAD: usize = 4;
-
-/// The decided log of a group in a journal, where so many slots are open at a time: the longest list whose entry k is chosen at slot k.
+/// The decided log of a group in a journal, where so many slots are open at a time: the longest
+/// list whose entry k is chosen at slot k.
 pub(crate) fn log_of_group(
     alloc: Global,
     ahead: usize,
@@ -169,7 +177,8 @@ pub(crate) fn log_of_group(
     rows: &[Row<Mail, OrderLine>],
 ) -> Result<Vec<Command>, OutOfMemory>
     requires { 1 ≤ ahead }
-    ensures { IfOk result (λ log. (some : 1 ≤ ahead) → log.items ≡ decided_log (record { slots = ahead; some = some }) base.now rows.now) }
+    ensures { IfOk result (λ log. (some : 1 ≤ ahead) →
+        log.items ≡ decided_log (record { slots = ahead; some = some }) base.now rows.now) }
 {
     let found = accepts(alloc, base.core.id, rows)?;
     let top = top_slot(found.as_slice());
@@ -185,7 +194,10 @@ fn log_of(
     index: &BySlot,
 ) -> Result<Vec<Command>, OutOfMemory>
     requires { 1 ≤ ahead }
-    ensures { IfOk result (λ log. (some : 1 ≤ ahead) (found : List Acceptance) → top ≡ top_slot (steps_of found) → ((slot : ℕ) → listed_in (λ kept. kept.items) (get_by (nat_cmp slot) index.now) ≡ at_slot slot found) → log.items ≡ log_of (rule_of (record { slots = ahead; some = some }) base.now) (steps_of found)) }
+    ensures { IfOk result (λ log. (some : 1 ≤ ahead) (found : List Acceptance) →
+        top ≡ top_slot (steps_of found) →
+        IsIndexed (λ slot. listed_in (λ kept. kept.items) (get_by (nat_cmp slot) index.now)) found →
+        log.items ≡ log_of (rule_of (record { slots = ahead; some = some }) base.now) (steps_of found)) }
 {
     let mut behind = Machine::born(alloc, base.dup(alloc)?)?;
     let mut log = Vec::new(alloc);
@@ -210,7 +222,9 @@ fn group_named(groups: &[Base], name: Draw) -> Option<&Base>
     groups.iter().find(|base| same_draw(base.core.id, name))
 }
 
-/// The decided log of the group with a name in a journal: the longest list whose entry k is chosen at slot k. It is empty where the scenario has no such group. Read from the mail that the rows send, never from what an actor holds. Refused only for want of memory.
+/// The decided log of the group with a name in a journal: the longest list whose entry k is chosen
+/// at slot k. It is empty where the scenario has no such group. Read from the mail that the rows
+/// send, never from what an actor holds. Refused only for want of memory.
 pub fn decided_log(
     alloc: Global,
     world: &World<'_>,
@@ -220,6 +234,6 @@ pub fn decided_log(
 {
     match group_named(world.scenario.groups.as_slice(), group) {
         None => Ok(Vec::new(alloc)),
-        Some(base) => log_of_group(alloc, SLOTS_AHEAD, base, world.rows.as_slice()),
+        Some(base) => log_of_group(alloc, OPEN_SLOTS, base, world.rows.as_slice()),
     }
 }

@@ -3,7 +3,7 @@ ghost use Rattle.std.specs.Prelude.{◌≡◌, ◌++◌, ◌∷◌, [], ℕ, Lis
 ghost use Rattle.std.specs.Ordering.{nat_cmp};
 ghost use Rattle.std.specs.BTreeMap.{get_by};
 ghost use Rattle.sc_replay.specs.declared.accepting.Acceptance.{Acceptance};
-ghost use Rattle.sc_replay.specs.Indexes.{at_slot, listed_in};
+ghost use Rattle.sc_replay.specs.Indexes.{listed_in, IsIndexed};
 
 use crate::accepting::Acceptance;
 use sc_base::OutOfMemory;
@@ -15,7 +15,10 @@ pub type BySlot = BTreeMap<u32, Vec<Acceptance>>;
 
 // One more acceptance.
 fn add(alloc: Global, index: &mut BySlot, acceptance: Acceptance) -> Result<(), OutOfMemory>
-    ensures { OnOk result ((found : List Acceptance) → ((slot : ℕ) → listed_in (λ kept. kept.items) (get_by (nat_cmp slot) index.old) ≡ at_slot slot found) → (slot : ℕ) → listed_in (λ kept. kept.items) (get_by (nat_cmp slot) index.new) ≡ at_slot slot (found ++ acceptance ∷ [])) }
+    ensures { OnOk result ((found : List Acceptance) →
+        IsIndexed (λ slot. listed_in (λ kept. kept.items) (get_by (nat_cmp slot) index.old)) found →
+        IsIndexed (λ slot. listed_in (λ kept. kept.items) (get_by (nat_cmp slot) index.new))
+        (found ++ acceptance ∷ [])) }
 {
     let slot = acceptance.slot;
     let mut kept = match index.remove(&slot) {
@@ -29,7 +32,8 @@ fn add(alloc: Global, index: &mut BySlot, acceptance: Acceptance) -> Result<(), 
 
 /// The acceptances by their slots.
 pub fn by_slot(alloc: Global, found: Vec<Acceptance>) -> Result<BySlot, OutOfMemory>
-    ensures { IfOk result (λ index. (slot : ℕ) → listed_in (λ kept. kept.items) (get_by (nat_cmp slot) index) ≡ at_slot slot found.items) }
+    ensures { IfOk result (λ index.
+        IsIndexed (λ slot. listed_in (λ kept. kept.items) (get_by (nat_cmp slot) index)) found.items) }
 {
     let mut index = BTreeMap::new(alloc);
     for acceptance in found {

@@ -1,4 +1,5 @@
-//! What a journal says: whether it is lawful, what it leaves of each actor, each group's decided log, its history and its summary.
+//! What a journal says: whether it is lawful, what it leaves of each actor, each group's decided
+//! log, its history and its summary.
 #![tactic(auto)]
 
 mod accepting;
@@ -17,6 +18,3 @@ pub use laws::valid_scenarios_can_play;
 pub use replaying::{ReplayFault, replay_rows};
 pub use summing::{sum_up, summary};
 pub use worlds::World;
-
-#[cfg(test)]
-mod tests;

@@ -2,7 +2,7 @@
 ghost use Rattle.std.specs.Prelude.{◌≡◌, ℕ, ◌+◌, ◌<◌, ◌==◌, length, get_or, replicate, count_by, if◌then◌else◌, Some, None, IfOk};
 ghost use Rattle.sc_actor.specs.Mail.{mails};
 ghost use Rattle.sc_node_table.specs.Replica.{either};
-ghost use Rattle.sc_sound.specs.Summary.{is_order, told_in, told_of, orders_told};
+ghost use Rattle.sc_replay.specs.Summary.{is_order, told_in, told_of, orders_told};
 
 use sc_actor::Row;
 use sc_base::{OutOfMemory, Sequence};
@@ -30,7 +30,8 @@ pub(crate) fn order_count(lines: &[SchedLine]) -> usize
 // The word on an order is kept, if it is the first on it.
 fn keep(told: &mut [Option<ToldResult>], order: u32, word: ToldResult)
     ensures len { length told.new ≡ length told.old }
-    ensures kept { (k : ℕ) → k < length told.old → get_or told.new k None ≡ either (get_or told.old k None) (if order == k + 1 then Some word else None) }
+    ensures kept { (k : ℕ) → k < length told.old → get_or told.new k None ≡
+        either (get_or told.old k None) (if order == k + 1 then Some word else None) }
 {
     if order == 0 {
         return;
@@ -44,7 +45,8 @@ fn keep(told: &mut [Option<ToldResult>], order: u32, word: ToldResult)
 
 fn note(told: &mut [Option<ToldResult>], body: &MailBody)
     ensures len { length told.new ≡ length told.old }
-    ensures kept { (k : ℕ) → k < length told.old → get_or told.new k None ≡ either (get_or told.old k None) (told_in (k + 1) body.now) }
+    ensures kept { (k : ℕ) → k < length told.old → get_or told.new k None ≡
+        either (get_or told.old k None) (told_in (k + 1) body.now) }
 {
     if let MailBody::Told { order, result } = body {
         keep(told, *order, *result);
@@ -53,7 +55,8 @@ fn note(told: &mut [Option<ToldResult>], body: &MailBody)
 
 fn note_all(told: &mut [Option<ToldResult>], sent: &[Mail])
     ensures len { length told.new ≡ length told.old }
-    ensures kept { (k : ℕ) → k < length told.old → get_or told.new k None ≡ either (get_or told.old k None) (told_of (k + 1) sent.now) }
+    ensures kept { (k : ℕ) → k < length told.old → get_or told.new k None ≡
+        either (get_or told.old k None) (told_of (k + 1) sent.now) }
 {
     for mail in sent {
         note(told, &mail.body);
@@ -62,7 +65,8 @@ fn note_all(told: &mut [Option<ToldResult>], sent: &[Mail])
 
 fn note_rows(told: &mut [Option<ToldResult>], rows: &[Row<Mail, OrderLine>])
     ensures len { length told.new ≡ length told.old }
-    ensures kept { (k : ℕ) → k < length told.old → get_or told.new k None ≡ either (get_or told.old k None) (told_of (k + 1) (mails rows.now)) }
+    ensures kept { (k : ℕ) → k < length told.old → get_or told.new k None ≡
+        either (get_or told.old k None) (told_of (k + 1) (mails rows.now)) }
 {
     for row in rows {
         note_all(told, row.sent.as_slice());

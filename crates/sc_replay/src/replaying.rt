@@ -3,18 +3,19 @@ ghost use Rattle.std.specs.Prelude.{◌≡◌, ◌<◌, ◌≤◌, ◌^◌, ◌�
 ghost use Rattle.sc_actor.specs.Mail.{mails};
 ghost use Rattle.sc_scenario.specs.Valid.{IsValid};
 ghost use Rattle.sc_checker.specs.Replays.{IsReplayed};
-ghost use Rattle.sc_world.specs.World.{system_of, schedule, Lawful};
+ghost use Rattle.sc_players.specs.Players.{system_of, schedule, Lawful, as_nodes};
 ghost use Rattle.sc_replay.specs.Replays.{IsBadRow, IsFault};
 ghost use Rattle.sc_replay.specs.Worlds.{MayReplay, Replays};
+ghost use Rattle.sc_actor.specs.System.{no_words};
 
 use crate::laws::valid_scenarios_can_play;
 use crate::worlds::World;
 use sc_actor::{Journal, Row};
 use sc_base::OutOfMemory;
+use sc_checker::{Replayed, replay};
 use sc_cmd::OrderLine;
 use sc_group_law::{group_journals_are_sound, valid_scenarios_have_one_group};
 use sc_mail::Mail;
-use sc_checker::{Replayed, replay};
 use sc_scenario::Scenario;
 use sc_world::{Party, births, parties_of, schedule};
 use std::alloc::Global;
@@ -36,7 +37,8 @@ fn left_by(
     requires valid { IsValid scenario.now }
     requires few_rows { length rows.now < 2 ^ 31 }
     requires few_mails { length (mails rows.now) < 2 ^ 31 }
-    ensures { IfOk result (λ left. IsReplayed (system_of scenario.now) (schedule scenario.now) rows.now left) }
+    ensures { IfOk result (λ left.
+        IsReplayed (system_of as_nodes no_words scenario.now) (schedule scenario.now) rows.now left) }
 {
     valid_scenarios_can_play();
     let seats = births(alloc, scenario)?;
@@ -55,7 +57,8 @@ fn front_is_lawful(
     requires within { count ≤ length rows.now }
     requires few_rows { length rows.now < 2 ^ 31 }
     requires few_mails { length (mails rows.now) < 2 ^ 31 }
-    ensures { IfOk result (λ lawful. IsTrue lawful ↔ Lawful scenario.now (take count rows.now)) }
+    ensures { IfOk result (λ lawful. IsTrue lawful ↔
+        Lawful as_nodes no_words scenario.now (take count rows.now)) }
 {
     match left_by(alloc, scenario, &rows[..count])? {
         Some(_) => Ok(true),
@@ -72,7 +75,7 @@ fn bad_row(
     requires valid { IsValid scenario.now }
     requires few_rows { length rows.now < 2 ^ 31 }
     requires few_mails { length (mails rows.now) < 2 ^ 31 }
-    requires not_lawful { Lawful scenario.now rows.now → ⊥ }
+    requires not_lawful { Lawful as_nodes no_words scenario.now rows.now → ⊥ }
     ensures { IfOk result (λ at. IsBadRow scenario.now rows.now at) }
 {
     let mut low = 0;
@@ -116,7 +119,9 @@ fn world_of<'a>(
     }
 }
 
-/// Replays rows: the world that they leave where they are a lawful journal of a scenario, and else which row, from 1, is the first that is not. The scenario is one that some text is, and rows and their mails are fewer than 2^31 each.
+/// Replays rows: the world that they leave where they are a lawful journal of a scenario, and else
+/// which row, from 1, is the first that is not. The scenario is one that some text is, and rows and
+/// their mails are fewer than 2^31 each.
 pub fn replay_rows<'a>(
     alloc: Global,
     scenario: &'a Scenario,
@@ -125,7 +130,8 @@ pub fn replay_rows<'a>(
     requires valid { IsValid scenario.now }
     requires few_rows { length rows.now < 2 ^ 31 }
     requires few_mails { length (mails rows.now) < 2 ^ 31 }
-    ensures { MatchResult result (λ world. Replays scenario.now rows.now world) (λ fault. IsFault scenario.now rows.now fault) }
+    ensures { MatchResult result (λ world. Replays scenario.now rows.now world)
+        (λ fault. IsFault scenario.now rows.now fault) }
 {
     match world_of(alloc, scenario, rows) {
         Err(OutOfMemory) => Err(ReplayFault::OutOfMemory),

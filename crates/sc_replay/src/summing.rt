@@ -2,11 +2,12 @@
 ghost use Rattle.std.specs.Prelude.{◌≡◌, map, IfOk};
 ghost use Rattle.sc_actor.specs.Walk.{is_quiet, skipped};
 ghost use Rattle.sc_machine_table.specs.Group.{group_of};
-ghost use Rattle.sc_world.specs.World.{system_of, schedule, parties};
-ghost use Rattle.sc_sound.specs.Logs.{state_after};
-ghost use Rattle.sc_sound.specs.Summary.{cut_of, decided_cut, summary_of};
+ghost use Rattle.sc_players.specs.Players.{system_of, schedule, parties, as_nodes};
+ghost use Rattle.sc_machine_table.specs.Logs.{state_after};
+ghost use Rattle.sc_replay.specs.Summary.{cut_of, decided_cut, summary_of};
+ghost use Rattle.sc_actor.specs.System.{no_words};
 
-use crate::deciding::{SLOTS_AHEAD, execute, log_of_group};
+use crate::deciding::{execute, log_of_group};
 use crate::orders::{order_count, orders_told};
 use crate::worlds::World;
 use sc_actor::{Journal, Row};
@@ -14,6 +15,7 @@ use sc_base::{Dup, OutOfMemory, Sequence};
 use sc_cmd::{Base, Command, OrderLine, Route};
 use sc_machine::Machine;
 use sc_mail::Mail;
+use sc_node_table::OPEN_SLOTS;
 use sc_report::Summary;
 use sc_scenario::Scenario;
 use sc_world::{Party, all_asked, deliveries, mail_count, small};
@@ -42,7 +44,7 @@ fn decided_cut(
 ) -> Result<Route, OutOfMemory>
     ensures { IfOk result (λ cut. cut ≡ decided_cut rows.now base.now) }
 {
-    let log = log_of_group(alloc, SLOTS_AHEAD, base, rows)?;
+    let log = log_of_group(alloc, OPEN_SLOTS, base, rows)?;
     cut_after(alloc, base, &log)
 }
 
@@ -60,8 +62,8 @@ fn ring_of(
     Ok(ring)
 }
 
-/// What the report tells of a journal, with the parties that its rows leave, the lines that were skipped,
-/// and whether no mail is pending. Refused only for want of memory.
+/// What the report tells of a journal, with the parties that its rows leave, the lines that were
+/// skipped, and whether no mail is pending. Refused only for want of memory.
 pub fn sum_up(
     alloc: Global,
     scenario: &Scenario,
@@ -70,9 +72,10 @@ pub fn sum_up(
     skips: u64,
     quiet: bool,
 ) -> Result<Summary, OutOfMemory>
-    requires parties { left.now ≡ parties scenario.now journal.now }
-    requires skipped { skips ≡ skipped (system_of scenario.now) (schedule scenario.now) journal.now }
-    requires quiet { quiet ≡ is_quiet (system_of scenario.now) journal.now }
+    requires parties { left.now ≡ parties as_nodes scenario.now journal.now }
+    requires skipped { skips ≡
+        skipped (system_of as_nodes no_words scenario.now) (schedule scenario.now) journal.now }
+    requires quiet { quiet ≡ is_quiet (system_of as_nodes no_words scenario.now) journal.now }
     ensures { IfOk result (λ told. told ≡ summary_of scenario.now journal.now) }
 {
     if skips > 4_294_967_295 {

@@ -1,6 +1,6 @@
 //! What a journal of a scenario leaves.
 ghost use Rattle.std.specs.Prelude.{◌≡◌};
-ghost use Rattle.sc_world.specs.World.{parties};
+ghost use Rattle.sc_players.specs.Players.{parties, as_nodes};
 
 use sc_actor::Journal;
 use sc_base::Sequence;
@@ -36,7 +36,7 @@ impl<'a> Model for World<'a> {
 impl<'a> World<'a> {
     /// The nodes and then the clients, in order of number, each as its rows leave it.
     pub fn parties(&self) -> &[Party]
-        ensures { result.now ≡ parties self.now.scenario self.now.rows }
+        ensures { result.now ≡ parties as_nodes self.now.scenario self.now.rows }
     {
         self.parties.as_slice()
     }

@@ -2,3 +2,4 @@ mod Places
 mod Rounds
 mod Calls
 mod Readiness
+mod SlotMaps

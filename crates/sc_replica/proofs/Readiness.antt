@@ -12,10 +12,11 @@ use Rattle.sc_machine_table.specs.Machine.{applied}
 use Rattle.sc_node_table.specs.Slots.{at_slot, without_slot}
 use Rattle.sc_node_table.specs.Replica.{ReplicaState, Place, next, members, flying, forgotten}
 use Rattle.sc_node_table.specs.Install.{install_to, asked_to_promise, welcomed_all}
-use Rattle.sc_node_table.specs.Queues.{put_back, same_command}
+use Rattle.sc_node_table.specs.Queues.{put_back}
+use Rattle.sc_node_table.specs.Sameness.{same_command}
 use Rattle.sc_node_table.specs.Election.{elected, ended}
 use Rattle.sc_node_table.specs.Pump.{pumped}
-use Rattle.sc_node_table.specs.Execute.{entered, answer_of, told, told_call, told_effect, result_of, learnt_to, welcomed, lost, landed, left, left_gone, is_among, looked, looked_for, executed_one, has_room, next_ready, executed_ready}
+use Rattle.sc_node_table.specs.Execute.{entered, answer_of, announced, told_call, told_effect, result_of, learnt_to, welcomed, lost, landed, left, left_gone, is_among, looked, looked_for, executed_one, has_room, next_ready, executed_ready}
 
 -- taking a slot out makes the list shorter
 shorter_by : {X : Type 0} (f : ℕ × X) (es : List (ℕ × X)) (slot : ℕ) (x : X) (b : Bool) → (at_slot es slot ≡ Some x → length (without_slot es slot) < length es)
@@ -23,6 +24,7 @@ shorter_by : {X : Type 0} (f : ℕ × X) (es : List (ℕ × X)) (slot : ℕ) (x 
 shorter_by f es slot x true rest e = omega arith
 shorter_by f es slot x false rest e = let less : length (without_slot es slot) < length es = rest e in omega arith
 
+-- one value less
 pub without_slot-shorter : {X : Type 0} (es : List (ℕ × X)) (slot : ℕ) (x : X) → at_slot es slot ≡ Some x → length (without_slot es slot) < length es
 without_slot-shorter [] slot x e = absurd (cc)
 without_slot-shorter (f ∷ es) slot x e = shorter_by f es slot x (f.0 == slot) (without_slot-shorter es slot x) e
@@ -83,9 +85,9 @@ counted-ready : (counted : Bool) (answer : Option AnswerBody) (command : Command
 counted-ready true answer command place = call-ready answer command place
 counted-ready false answer command place = refl
 
-told-ready : (counted : Bool) (effect : Effect) (command : Command) (place : Place) → (told counted effect command place).0.ready ≡ place.0.ready
-unfolding told
-told-ready counted effect command place =
+announced-ready : (counted : Bool) (effect : Effect) (command : Command) (place : Place) → (announced counted effect command place).0.ready ≡ place.0.ready
+unfolding announced
+announced-ready counted effect command place =
     effect-ready (result_of effect) command (if counted then told_call (answer_of effect) command place else place)
     ∙ counted-ready counted (answer_of effect) command place
 
@@ -155,11 +157,12 @@ landed-ready : (counted : Bool) (slot : ℕ) (command : Command) (place : Place)
 unfolding landed
 landed-ready counted slot command place = lost-ready counted command (flying place.0 slot) _
 
+-- an execution makes nothing ready
 pub one-ready : (counted : Bool) (command : Command) (place : Place) → length (executed_one counted command place).0.ready ≤ length (without_slot place.0.ready (next place.0))
 unfolding executed_one
 one-ready counted command place =
     let place0 : Place = (entered command place.0, place.1) in
-    let place1 = told counted (applied place.0.group command).1 command place0 in
+    let place1 = announced counted (applied place.0.group command).1 command place0 in
     let place2 = learnt_to counted (members place.0) (next place.0) command place1 in
     let place3 = welcomed counted (members place.0) place2 in
     let place4 = landed counted (next place.0) command place3 in
@@ -168,7 +171,7 @@ one-ready counted command place =
     ∙ ap (λ es. without_slot es (next place.0))
     (welcomed-ready counted (members place.0) place2
     ∙ learnt-ready counted (members place.0) (next place.0) command place1
-    ∙ told-ready counted (applied place.0.group command).1 command place0
+    ∙ announced-ready counted (applied place.0.group command).1 command place0
     ∙ entered-ready command place.0) in
     omega (arith, looked-ready (left place4), left-ready place4, ap length same)
 
@@ -252,11 +255,13 @@ executed_ready-none place e = executed_ready-stop place.0.ready place e
 
 -- ---- the same for a turn of the loop
 
+-- what is ready is executed, and then what is ready after it
 pub turn-next : (r after : ReplicaState) (mails more : List Mail) (command : Command) → next_ready r ≡ Some command → (after, more) ≡ executed_one true command (r, mails)
     → pumped (executed_ready after.ready (after, more)) ≡ executed_ready r.ready (r, mails)
 turn-next r after mails more command e is =
     ap (λ (place : Place). pumped (executed_ready place.0.ready place)) is ∙ executed_ready-next (r, mails) command e
 
+-- less is ready after an execution
 pub turn-shorter : (r after : ReplicaState) (mails more : List Mail) (command : Command) → next_ready r ≡ Some command → (after, more) ≡ executed_one true command (r, mails)
     → length after.ready < length r.ready
 turn-shorter r after mails more command e is =

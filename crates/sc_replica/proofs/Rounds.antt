@@ -1,7 +1,7 @@
 -- One round over nodes, and over the open slots.
 use Rattle.std.proofs.Common.{◌≡◌, ℕ, ◌+◌, ◌-◌, ◌<◌, ◌≤◌, Bool, true, false, List, [], ◌∷◌, ◌++◌, length, filter, drop, zero, suc, add-one, add-suc, refl, ap, sym, ◌∙◌, arith, if◌then◌else◌, ◌||◌, nat_lt, slice_get, get_or, is_some, Option, Some, None}
 use Rattle.std.proofs.Math.Seq.{append_snoc}
-use Rattle.std.proofs.lemmas.List.{append-nil}
+use Rattle.std.proofs.lemmas.List.{append-nil, drop_all}
 use Rattle.sc_base.specs.declared.names.Draw.{Draw}
 use Rattle.sc_cmd.specs.declared.commands.Command.{Command}
 use Rattle.sc_mail.specs.declared.bodies.AnswerBody.{AnswerBody}
@@ -22,6 +22,7 @@ use Rattle.std.proofs.Math.Seq.{drop-cons, drop-nil}
 abbrev pub numbers_to : ℕ → ℕ → List ℕ
 numbers_to end from = numbers from (end - from)
 
+-- the first of them, and those after it
 pub numbers-step : (end from : ℕ) → from < end → numbers_to end from ≡ from ∷ numbers_to end (from + 1)
 numbers-step end from less =
     let e : end - from ≡ suc (end - (from + 1)) = omega arith in
@@ -31,27 +32,25 @@ numbers-step end from less =
 filtered_by : (f : ℕ → Bool) (node : ℕ) (rest : List ℕ) (b : Bool) → f node ≡ b → filter f (node ∷ rest) ≡ (if b then node ∷ filter f rest else filter f rest)
 filtered_by f node rest b e = rw e refl
 
+-- a node that is in one of the sets
 pub nodes-taken : (f : ℕ → Bool) (end node : ℕ) (so_far whole : List ℕ) → node < end → f node ≡ true
     → so_far ++ filter f (numbers_to end node) ≡ whole → (so_far ++ node ∷ []) ++ filter f (numbers_to end (node + 1)) ≡ whole
 nodes-taken f end node so_far whole less e is =
     let step : filter f (numbers_to end node) ≡ node ∷ filter f (numbers_to end (node + 1)) = ap (filter f) (numbers-step end node less) ∙ filtered_by f node (numbers_to end (node + 1)) true e in
     append_snoc so_far node (filter f (numbers_to end (node + 1))) ∙ ap (λ ys. so_far ++ ys) (sym step) ∙ is
 
+-- a node that is in none
 pub nodes-passed : (f : ℕ → Bool) (end node : ℕ) (so_far whole : List ℕ) → node < end → f node ≡ false
     → so_far ++ filter f (numbers_to end node) ≡ whole → so_far ++ filter f (numbers_to end (node + 1)) ≡ whole
 nodes-passed f end node so_far whole less e is =
     let step : filter f (numbers_to end node) ≡ filter f (numbers_to end (node + 1)) = ap (filter f) (numbers-step end node less) ∙ filtered_by f node (numbers_to end (node + 1)) false e in
     ap (λ ys. so_far ++ ys) (sym step) ∙ is
 
-pub nodes-end : (f : ℕ → Bool) (end node : ℕ) (so_far whole : List ℕ) → end ≤ node → so_far ++ filter f (numbers_to end node) ≡ whole → so_far ≡ whole
-nodes-end f end node so_far whole le is =
-    let e : end - node ≡ 0 = omega arith in
-    sym (append-nil so_far) ∙ ap (λ n. so_far ++ filter f (numbers node n)) (sym e) ∙ is
-
 -- what is in flight or ready from one of the open slots on
 abbrev pub left_from : ReplicaState → ℕ → List Command
 left_from r i = taken_from r (numbers (next r + i) (length r.sets - i))
 
+-- at the first of the slots that are left, and from the next one on
 pub left-step : (r : ReplicaState) (i : ℕ) → i < length r.sets → left_from r i ≡ taken_from r ((next r + i) ∷ numbers (next r + (i + 1)) (length r.sets - (i + 1)))
 left-step r i less =
     let e : length r.sets - i ≡ suc (length r.sets - (i + 1)) = omega arith in
@@ -64,6 +63,7 @@ unfolding answered_all
 answered-append me group answer [] ys mails = refl
 answered-append me group answer (x ∷ xs) ys mails = answered-append me group answer xs ys (answered me group answer x mails)
 
+-- one slot more is answered
 pub answered-step : (me : ℕ) (group : Draw) (answer : AnswerBody) (r : ReplicaState) (i slot : ℕ) (mails more : List Mail) → i < length r.sets → slot ≡ next r + i
     → more ≡ answered_all me group answer (listed (taken_at r slot)) mails → answered_all me group answer (left_from r (i + 1)) more ≡ answered_all me group answer (left_from r i) mails
 answered-step me group answer r i slot mails more less at is =
@@ -71,6 +71,7 @@ answered-step me group answer r i slot mails more less at is =
     ∙ sym (answered-append me group answer (listed (taken_at r (next r + i))) (left_from r (i + 1)) mails)
     ∙ sym (ap (λ commands. answered_all me group answer commands mails) (left-step r i less))
 
+-- after the last slot nothing is left
 pub answered-end : (me : ℕ) (group : Draw) (answer : AnswerBody) (r : ReplicaState) (i : ℕ) (mails : List Mail) → length r.sets ≤ i → answered_all me group answer (left_from r i) mails ≡ mails
 unfolding answered_all
 answered-end me group answer r i mails le =
@@ -86,6 +87,7 @@ any-append f (x ∷ xs) ys = by_head (f x) (any-append f xs ys)
     by_head true e = refl
     by_head false e = e
 
+-- one slot more is looked at
 pub any-step : (f : Command → Bool) (r : ReplicaState) (i slot : ℕ) (b : Bool) → i < length r.sets → slot ≡ next r + i → b ≡ list_any f (listed (taken_at r slot))
     → list_any f (left_from r i) ≡ (b || list_any f (left_from r (i + 1)))
 any-step f r i slot b less at is =
@@ -105,6 +107,7 @@ asked-cons : (r : ReplicaState) (slot : ℕ) (set : List ℕ) (rest : List (List
 unfolding asked_again
 asked-cons r slot set rest mails = asked-by (flying r slot) r slot set rest mails
 
+-- one slot more is asked again
 pub asked-step : (r : ReplicaState) (first i slot : ℕ) (sets : List (List ℕ)) (set : List ℕ) (mails more : List Mail) → i < length sets → slot ≡ first + i → set ≡ get_or sets i []
     → more ≡ asked_at r slot set mails → asked_again r (first + (i + 1)) (drop (i + 1) sets) more ≡ asked_again r (first + i) (drop i sets) mails
 asked-step r first i slot sets set mails more less at of_slot is =
@@ -116,14 +119,10 @@ asked-step r first i slot sets set mails more less at of_slot is =
     ∙ asked-cons r (first + i) (get_or sets i []) (drop (suc i) sets) mails
     ∙ ap (λ xs. asked_again r (first + i) xs mails) (sym (drop-cons sets i [] less))
 
-drop_past : {X : Type 0} (xs : List X) (i : ℕ) → length xs ≤ i → drop i xs ≡ []
-drop_past [] i le = drop-nil i
-drop_past (x ∷ xs) zero le = absurd (omega arith)
-drop_past (x ∷ xs) (suc i) le = drop_past xs i (omega arith)
-
+-- after the last slot nobody is asked
 pub asked-end : (r : ReplicaState) (slot i : ℕ) (sets : List (List ℕ)) (mails : List Mail) → length sets ≤ i → asked_again r slot (drop i sets) mails ≡ mails
 unfolding asked_again
-asked-end r slot i sets mails le = ap (λ xs. asked_again r slot xs mails) (drop_past sets i le)
+asked-end r slot i sets mails le = ap (λ xs. asked_again r slot xs mails) (drop_all i sets le)
 
 -- entries, slot by slot
 taught-by : (o : Option Command) (r : ReplicaState) (count from slot : ℕ) (command : Command) (mails : List Mail) → o ≡ Some command
@@ -137,6 +136,7 @@ taught-suc : (r : ReplicaState) (count from slot : ℕ) (command : Command) (mai
 unfolding taught
 taught-suc r count from slot command mails e = taught-by (entry_at slot r.log) r count from slot command mails e
 
+-- one entry more is sent
 pub taught-step : (r : ReplicaState) (most so_many from slot : ℕ) (command : Command) (mails more : List Mail) → so_many < most → entry_at slot r.log ≡ Some command
     → more ≡ sent r.me from (Learn (name_of r) slot command) mails → taught (most - (so_many + 1)) r from (slot + 1) more ≡ taught (most - so_many) r from slot mails
 taught-step r most so_many from slot command mails more less e is =
@@ -144,16 +144,6 @@ taught-step r most so_many from slot command mails more less e is =
     ap (taught (most - (so_many + 1)) r from (slot + 1)) is
     ∙ taught-suc r (most - (so_many + 1)) from slot command mails e
     ∙ ap (λ count. taught count r from slot mails) (sym n)
-
--- an entry that is held is below the next slot
-pub held-below : (slot : ℕ) (log : LogState Command) (command : Command) → entry_at slot log ≡ Some command → slot < next_of log
-held-below slot log command e = by_test (nat_lt log.base slot) (slice_get log.entries (slot - log.base - 1)) refl e
-  where
-    by_test : (b : Bool) (o : Option Command) → slice_get log.entries (slot - log.base - 1) ≡ o → (if b then o else None) ≡ Some command → slot < next_of log
-    by_test true o is e =
-        let less : slot - log.base - 1 < length log.entries = slice_get_within log.entries (slot - log.base - 1) command (is ∙ e) in
-        omega arith
-    by_test false o is e = absurd (cc)
 
 -- a slot that is taken is passed by
 pub pumped_from-passed : (first i : ℕ) (sets : List (List ℕ)) (place : Place) → i < length sets → is_some (taken_at place.0 (first + i)) ≡ true

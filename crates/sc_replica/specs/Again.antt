@@ -12,5 +12,6 @@ abbrev pub asked_for : Option Command → ReplicaState → ℕ → List ℕ → 
 asked_for None r slot set mails = mails
 asked_for (Some command) r slot set mails = sent_all r.me (uncounted r slot set) (Accept (name_of r) r.leader.ballot slot command) mails
 
+-- .. the command in flight there
 abbrev pub asked_at : ReplicaState → ℕ → List ℕ → List Mail → List Mail
 asked_at r slot set mails = asked_for (flying r slot) r slot set mails

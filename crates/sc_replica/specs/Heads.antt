@@ -4,6 +4,7 @@ use Rattle.sc_cmd.specs.declared.cores.Lock.{Lock}
 use Rattle.sc_cmd.specs.declared.commands.Command.{Command}
 use Rattle.sc_node_table.specs.Pump.{waits}
 
+-- the first of a list, if it has one
 abbrev pub head_of : {X : Type 0} → List X → Option X
 head_of [] = None
 head_of (x ∷ xs) = Some x

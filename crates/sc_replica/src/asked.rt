@@ -4,6 +4,7 @@ ghost use Rattle.std.specs.Option.{option_copied};
 ghost use Rattle.sc_paxos_words.specs.Logs.{entry_at};
 ghost use Rattle.sc_mail.specs.declared.bodies.MailBody.TheVariants.{Learn};
 ghost use Rattle.sc_node_table.specs.Mails.{sent};
+ghost use Rattle.sc_node_table.specs.Slots.{slots_ahead};
 ghost use Rattle.sc_node_table.specs.Replica.{name_of, next, last_slot};
 ghost use Rattle.sc_node_table.specs.Rows.{taught, asked_from, ask_row};
 
@@ -12,13 +13,14 @@ use crate::replica::Replica;
 use sc_base::{Dup, OutOfMemory, Sequence};
 use sc_cmd::Command;
 use sc_mail::{Mail, MailBody};
+use sc_node_table::MOST_TAUGHT;
 
 impl Replica {
     /// The entry of a slot, if it is held.
     pub(crate) fn entry(&self, slot: u32) -> Option<&Command>
         ensures same { option_copied result ≡ entry_at slot self.now.log }
         ensures held { IfSome result (λ _. slot < next self.now) }
-        ensures most { next self.now ≤ last_slot + 4 }
+        ensures most { next self.now ≤ last_slot + slots_ahead }
     {
         self.log.entry(slot)
     }
@@ -30,7 +32,8 @@ impl Replica {
         command: &Command,
         out: &mut Sequence<Mail>,
     ) -> Result<(), OutOfMemory>
-        ensures { OnOk result (out.new ≡ sent self.now.me from (Learn (name_of self.now) slot command.now) out.old) }
+        ensures { OnOk result
+            (out.new ≡ sent self.now.me from (Learn (name_of self.now) slot command.now) out.old) }
     {
         let group = self.name();
         send(
@@ -67,14 +70,17 @@ impl Replica {
         Ok(())
     }
 
-    /// What is sent to one that asked from an executed slot: at most 32 entries where its entry is held, else the executed state.
+    /// What is sent to one that asked from an executed slot: entries where its entry is held, else
+    /// the executed state.
     fn answer_ask(&self, from: u16, slot: u32, out: &mut Sequence<Mail>) -> Result<(), OutOfMemory>
-        ensures { OnOk result ((self.now, out.new) ≡ asked_from (entry_at slot self.now.log) from slot (self.now, out.old)) }
+        ensures { OnOk result
+            ((self.now, out.new)
+            ≡ asked_from (entry_at slot self.now.log) from slot (self.now, out.old)) }
     {
         if self.entry(slot).is_none() {
             return self.send_install(from, out);
         }
-        self.teach(32, from, slot, out)
+        self.teach(MOST_TAUGHT, from, slot, out)
     }
 
     /// Ask, of an executed slot or from 0.

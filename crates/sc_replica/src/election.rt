@@ -4,22 +4,24 @@ ghost use Rattle.std.specs.List.{list_any};
 ghost use Rattle.std.specs.Option.{option_copied};
 ghost use Rattle.sc_node_table.specs.Replica.{taken_at, listed, under_way, is_idle, next, name_of, last_slot};
 ghost use Rattle.sc_node_table.specs.Mails.{answered_all};
+ghost use Rattle.sc_base.specs.Limits.{most_nodes};
 ghost use Rattle.sc_node_table.specs.Election.{nodes_to, elected, ended, stopped, saw};
 
 use crate::mails::{answer_command, dismiss_all};
 use crate::open_sets::Sets;
-use crate::ready_slots::Slots;
+use crate::ready::ready_at;
 use crate::replica::Replica;
-use sc_base::{Ballot, OutOfMemory, Sequence};
+use sc_base::{Ballot, MOST_NODES, OutOfMemory, Sequence};
 use sc_cmd::Command;
 use sc_leader::Leader;
 use sc_mail::{AnswerBody, Mail};
 use std::alloc::Global;
+use std::collections::BTreeMap;
 
 /// The nodes, of 1 to so many, that are in one of these sets.
 #[tactic(auto, unfolding(sc_node_table::specs::Election::nodes_to))]
 fn nodes_to(alloc: Global, most: u16, sets: &Sets) -> Result<Vec<u16>, OutOfMemory>
-    requires { most ≤ 32 }
+    requires { most ≤ most_nodes }
     ensures { IfOk result (λ nodes. nodes.items ≡ nodes_to most sets.now) }
 {
     let mut nodes = Vec::new(alloc);
@@ -49,9 +51,9 @@ impl Replica {
         self.hint = Some(self.me);
         self.running = true;
         self.leader = Leader::elect(self.alloc, ballot, from_slot);
-        self.ready = Slots::new(self.alloc);
+        self.ready = BTreeMap::new(self.alloc);
         self.waits = 0;
-        let nodes = nodes_to(self.alloc, 32, &self.sets)?;
+        let nodes = nodes_to(self.alloc, MOST_NODES as u16, &self.sets)?;
         self.send_prepares(nodes.as_slice(), ballot, from_slot, out)
     }
 
@@ -61,7 +63,7 @@ impl Replica {
     {
         match self.leader.flight(slot) {
             Some(command) => Some(command),
-            None => self.ready.at(slot),
+            None => ready_at(&self.ready, slot),
         }
     }
 
@@ -73,7 +75,10 @@ impl Replica {
         body: &AnswerBody,
         out: &mut Sequence<Mail>,
     ) -> Result<(), OutOfMemory>
-        ensures { OnOk result (out.new ≡ answered_all self.now.me (name_of self.now) body.now (listed (taken_at self.now slot)) out.old) }
+        ensures { OnOk result
+            (out.new
+            ≡ answered_all self.now.me (name_of self.now) body.now (listed (taken_at self.now slot))
+            out.old) }
     {
         match self.taken(slot) {
             Some(command) => {
@@ -89,7 +94,9 @@ impl Replica {
         body: &AnswerBody,
         out: &mut Sequence<Mail>,
     ) -> Result<(), OutOfMemory>
-        ensures { OnOk result (out.new ≡ answered_all self.now.me (name_of self.now) body.now (under_way self.now) out.old) }
+        ensures { OnOk result
+            (out.new
+            ≡ answered_all self.now.me (name_of self.now) body.now (under_way self.now) out.old) }
     {
         let next = self.next();
         for i in 0..self.open_slots() {
@@ -98,7 +105,8 @@ impl Replica {
         Ok(())
     }
 
-    /// It runs no longer: each call in flight, ready or waiting is answered so, and the desk is told of each waiting order.
+    /// It runs no longer: each call in flight, ready or waiting is answered so, and the desk is
+    /// told of each waiting order.
     #[tactic(auto, unfolding(sc_node_table::specs::Election::ended))]
     pub(crate) fn end(
         &mut self,
@@ -115,12 +123,12 @@ impl Replica {
             self.name(),
             hint,
             body,
-            self.calls.as_slice(),
+            &self.calls,
             out,
         )?;
         self.running = false;
         self.leader = Leader::elect(self.alloc, self.leader.ballot(), self.next());
-        self.ready = Slots::new(self.alloc);
+        self.ready = BTreeMap::new(self.alloc);
         self.acts.clear();
         self.calls.clear();
         self.hint = hint;

@@ -3,12 +3,14 @@ ghost use Rattle.std.specs.Prelude.{◌≡◌, ◌+◌, ◌<◌, ◌||◌, not, 
 ghost use Rattle.sc_member.specs.Roster.{is_member};
 ghost use Rattle.sc_cmd.specs.declared.commands.Command.TheVariants.{Call};
 ghost use Rattle.sc_machine_table.specs.Machine.{applied};
+ghost use Rattle.sc_node_table.specs.Slots.{slots_ahead};
 ghost use Rattle.sc_node_table.specs.Replica.{next, members, last_slot};
-ghost use Rattle.sc_node_table.specs.Execute.{entered, answer_of, told_call, told, learnt_to, welcomed, lost, landed, left_gone, left, is_among, looked, executed_one, next_ready, executed_ready, executed};
+ghost use Rattle.sc_node_table.specs.Execute.{entered, answer_of, told_call, announced, learnt_to, welcomed, lost, landed, left_gone, left, is_among, looked, executed_one, has_room, next_ready, executed_ready, executed};
 
 use crate::install::waits_in;
 use crate::mails::answer;
 use crate::orders::result_of;
+use crate::ready::{drop_ready, ready_at};
 use crate::replica::{LAST_SLOT, Replica};
 use crate::same::same_command;
 use sc_base::{Dup, OutOfMemory, Sequence, dup_found};
@@ -18,7 +20,8 @@ use sc_mail::{AnswerBody, Mail};
 use sc_member::Members;
 use std::alloc::Global;
 
-/// One command on the group. What the machine does not carry out yet, the split of a group that has another successor and the commands of transactions, does nothing.
+/// One command on the group. What the machine does not carry out yet, the split of a group that has
+/// another successor and the commands of transactions, does nothing.
 fn apply(machine: &mut Machine, command: &Command) -> Result<Effect, OutOfMemory>
     ensures { IfOk result (λ effect. applied machine.old command.now ≡ (machine.new, effect)) }
 {
@@ -48,7 +51,8 @@ fn answer_of(effect: Effect) -> Option<AnswerBody>
 
 /// The nodes that are not in a set.
 fn not_among(alloc: Global, nodes: &[u16], set: &Members) -> Result<Vec<u16>, OutOfMemory>
-    ensures { IfOk result (λ others. others.items ≡ filter (λ node. not (is_member set.now node)) nodes.now) }
+    ensures { IfOk result
+        (λ others. others.items ≡ filter (λ node. not (is_member set.now node)) nodes.now) }
 {
     let mut others = Vec::new(alloc);
     for node in nodes {
@@ -60,10 +64,11 @@ fn not_among(alloc: Global, nodes: &[u16], set: &Members) -> Result<Vec<u16>, Ou
 }
 
 impl Replica {
-    /// The command is applied and kept, one more slot is open, and what is not above the floor is forgotten.
+    /// The command is applied and kept, one more slot is open, and what is not above the floor is
+    /// forgotten.
     #[tactic(auto, unfolding(sc_node_table::specs::Execute::entered))]
     fn enter(&mut self, command: &Command) -> Result<Effect, OutOfMemory>
-        requires { next self.old < last_slot + 4 }
+        requires { next self.old < last_slot + slots_ahead }
         ensures effect { IfOk result (λ effect. effect ≡ (applied self.old.group command.now).1) }
         ensures entered { OnOk result (self.new ≡ entered command.now self.old) }
     {
@@ -85,7 +90,8 @@ impl Replica {
         command: &Command,
         out: &mut Sequence<Mail>,
     ) -> Result<(), OutOfMemory>
-        ensures { OnOk result ((self.now, out.new) ≡ told_call (Some body) command.now (self.now, out.old)) }
+        ensures { OnOk result
+            ((self.now, out.new) ≡ told_call (Some body) command.now (self.now, out.old)) }
     {
         match command {
             Command::Call { client, seq, .. } => {
@@ -98,7 +104,8 @@ impl Replica {
     /// A call goes back.
     #[tactic(auto, unfolding(sc_node_table::specs::Execute::told_call))]
     fn call_again(&mut self, command: &Command, out: &Sequence<Mail>) -> Result<(), OutOfMemory>
-        ensures { OnOk result ((self.new, out.now) ≡ told_call None command.now (self.old, out.now)) }
+        ensures { OnOk result
+            ((self.new, out.now) ≡ told_call None command.now (self.old, out.now)) }
     {
         match command {
             Command::Call { .. } => self.put_back(command.dup(self.alloc)?),
@@ -113,7 +120,8 @@ impl Replica {
         command: &Command,
         out: &mut Sequence<Mail>,
     ) -> Result<(), OutOfMemory>
-        ensures { OnOk result ((self.new, out.new) ≡ told_call (answer_of effect) command.now (self.old, out.old)) }
+        ensures { OnOk result
+            ((self.new, out.new) ≡ told_call (answer_of effect) command.now (self.old, out.old)) }
     {
         match answer_of(effect) {
             Some(body) => self.answer_call(body, command, out),
@@ -122,7 +130,7 @@ impl Replica {
     }
 
     /// A counted call is answered, and of an order the desk is told.
-    #[tactic(auto, unfolding(sc_node_table::specs::Execute::told))]
+    #[tactic(auto, unfolding(sc_node_table::specs::Execute::announced))]
     fn tell(
         &mut self,
         counted: bool,
@@ -130,7 +138,8 @@ impl Replica {
         command: &Command,
         out: &mut Sequence<Mail>,
     ) -> Result<(), OutOfMemory>
-        ensures { OnOk result ((self.new, out.new) ≡ told counted effect command.now (self.old, out.old)) }
+        ensures { OnOk result
+            ((self.new, out.new) ≡ announced counted effect command.now (self.old, out.old)) }
     {
         let result = result_of(&effect);
         if counted {
@@ -149,7 +158,9 @@ impl Replica {
         command: &Command,
         out: &mut Sequence<Mail>,
     ) -> Result<(), OutOfMemory>
-        ensures { OnOk result ((self.now, out.new) ≡ learnt_to counted before.now slot command.now (self.now, out.old)) }
+        ensures { OnOk result
+            ((self.now, out.new)
+            ≡ learnt_to counted before.now slot command.now (self.now, out.old)) }
     {
         if !counted {
             return Ok(());
@@ -159,13 +170,16 @@ impl Replica {
 
     /// The members that were not there before.
     fn added_to(&self, before: &Members) -> Result<Vec<u16>, OutOfMemory>
-        ensures { IfOk result (λ nodes. nodes.items ≡ filter (λ node. not (is_member before.now node)) (members self.now)) }
+        ensures { IfOk result
+            (λ nodes.
+            nodes.items ≡ filter (λ node. not (is_member before.now node)) (members self.now)) }
     {
         let members = self.machine.core().members;
         not_among(self.alloc, members.as_slice(), before)
     }
 
-    /// Each member that a counted command added is sent the state, and asked to promise this leader's ballot.
+    /// Each member that a counted command added is sent the state, and asked to promise this
+    /// leader's ballot.
     #[tactic(auto, unfolding(sc_node_table::specs::Execute::welcomed))]
     fn welcome(
         &self,
@@ -173,7 +187,8 @@ impl Replica {
         before: &Members,
         out: &mut Sequence<Mail>,
     ) -> Result<(), OutOfMemory>
-        ensures { OnOk result ((self.now, out.new) ≡ welcomed counted before.now (self.now, out.old)) }
+        ensures { OnOk result
+            ((self.now, out.new) ≡ welcomed counted before.now (self.now, out.old)) }
     {
         if !counted {
             return Ok(());
@@ -209,9 +224,10 @@ impl Replica {
         command: &Command,
         out: &Sequence<Mail>,
     ) -> Result<(), OutOfMemory>
-        ensures { OnOk result ((self.new, out.now) ≡ landed counted slot command.now (self.old, out.now)) }
+        ensures { OnOk result
+            ((self.new, out.now) ≡ landed counted slot command.now (self.old, out.now)) }
     {
-        self.ready.drop_at(slot);
+        drop_ready(&mut self.ready, slot);
         let other = self.leader.land(slot);
         self.lose(counted, command, other)
     }
@@ -237,7 +253,9 @@ impl Replica {
 
     /// Whether it need not look for a leader: it runs, the group is gone, or its hint is a member.
     fn is_led(&self) -> bool
-        ensures { result ≡ (self.now.running || (is_some self.now.group.core.gone || is_among (members self.now) self.now.hint)) }
+        ensures { result
+            ≡ (self.now.running
+            || (is_some self.now.group.core.gone || is_among (members self.now) self.now.hint)) }
     {
         if self.running || self.machine.core().gone.is_some() {
             return true;
@@ -272,8 +290,9 @@ impl Replica {
         command: &Command,
         out: &mut Sequence<Mail>,
     ) -> Result<(), OutOfMemory>
-        requires { next self.old < last_slot + 4 }
-        ensures { OnOk result ((self.new, out.new) ≡ executed_one counted command.now (self.old, out.old)) }
+        requires { next self.old < last_slot + slots_ahead }
+        ensures { OnOk result
+            ((self.new, out.new) ≡ executed_one counted command.now (self.old, out.old)) }
     {
         let slot = self.next();
         let before = self.machine.core().members;
@@ -286,21 +305,30 @@ impl Replica {
         self.look(out)
     }
 
+    /// Whether a counted command may be executed at the next slot.
+    pub(crate) fn has_room(&self) -> bool
+        ensures same { result ≡ has_room self.now }
+        ensures room { result ≡ true → next self.now < last_slot + slots_ahead }
+    {
+        self.next() < LAST_SLOT + self.open_slots() as u32
+    }
+
     /// The ready command of the next slot, where it runs.
     fn next_ready(&self) -> Result<Option<Command>, OutOfMemory>
         ensures ready { IfOk result (λ command. command ≡ next_ready self.now) }
-        ensures room { IfOk result (λ command. IfSome command (λ _. next self.now < last_slot + 4)) }
+        ensures room { IfOk result
+            (λ command. IfSome command (λ _. next self.now < last_slot + slots_ahead)) }
     {
-        let slot = self.next();
-        if self.running && slot < LAST_SLOT + 4 {
-            return dup_found(self.ready.at(slot), self.alloc);
+        if self.running && self.has_room() {
+            return dup_found(ready_at(&self.ready, self.next()), self.alloc);
         }
         Ok(None)
     }
 
     /// Step 7: what is ready at the next slot is executed, and so on.
     fn execute_ready(&mut self, out: &mut Sequence<Mail>) -> Result<(), OutOfMemory>
-        ensures { OnOk result ((self.new, out.new) ≡ executed_ready self.old.ready (self.old, out.old)) }
+        ensures { OnOk result
+            ((self.new, out.new) ≡ executed_ready self.old.ready (self.old, out.old)) }
     {
         let Some(command) = self.next_ready()? else {
             return Ok(());
@@ -318,8 +346,9 @@ impl Replica {
         command: &Command,
         out: &mut Sequence<Mail>,
     ) -> Result<(), OutOfMemory>
-        requires { next self.old < last_slot + 4 }
-        ensures { OnOk result ((self.new, out.new) ≡ executed counted command.now (self.old, out.old)) }
+        requires { next self.old < last_slot + slots_ahead }
+        ensures { OnOk result
+            ((self.new, out.new) ≡ executed counted command.now (self.old, out.old)) }
     {
         self.execute_one(counted, command, out)?;
         self.execute_ready(out)?;

@@ -2,6 +2,7 @@
 ghost use Rattle.std.specs.Prelude.{◌≡◌, ◌+◌, ◌<◌, ◌≤◌, OnOk};
 ghost use Rattle.std.specs.Option.{option_copied};
 ghost use Rattle.sc_paxos_words.specs.Logs.{empty_log, entry_at, installed, log_cut, next_of};
+ghost use Rattle.sc_node_table.specs.Slots.{slots_ahead};
 ghost use Rattle.sc_node_table.specs.Replica.{last_slot};
 ghost use Rattle.sc_node_table.specs.Execute.{with_entry};
 
@@ -11,7 +12,8 @@ use sc_glog::Glog;
 use std::alloc::Global;
 use std::marker::Model;
 
-/// A log that ends at the last slot that a replica can execute, so that the open slots are numbers of 32 bits.
+/// A log that ends at the last slot that a replica can execute, so that the open slots are numbers
+/// of 32 bits.
 #[derive(Drop)]
 pub(crate) struct Entries {
     log: Glog<Command>,
@@ -21,13 +23,14 @@ impl Model for Entries {
     ghost use Rattle.std.specs.Prelude.{◌+◌, ◌≤◌};
     ghost use Rattle.sc_cmd.specs.declared.commands.Command.{Command};
     ghost use Rattle.sc_paxos_words.specs.Logs.{LogState, next_of};
+    ghost use Rattle.sc_node_table.specs.Slots.{slots_ahead};
     ghost use Rattle.sc_node_table.specs.Replica.{last_slot};
 
     ghost Value = { LogState Command };
 
     ghost view = { λ e. e.log };
 
-    ghost invariant = { λ e. next_of e.log ≤ last_slot + 4 };
+    ghost invariant = { λ e. next_of e.log ≤ last_slot + slots_ahead };
 }
 
 impl Entries {
@@ -54,7 +57,7 @@ impl Entries {
     /// The slot after the last entry.
     pub(crate) fn next(&self) -> u32
         ensures same { result ≡ next_of self.now }
-        ensures most { next_of self.now ≤ last_slot + 4 }
+        ensures most { next_of self.now ≤ last_slot + slots_ahead }
     {
         self.log.next()
     }
@@ -62,14 +65,14 @@ impl Entries {
     /// The entry of a slot, if it is held.
     pub(crate) fn entry(&self, slot: u32) -> Option<&Command>
         ensures same { option_copied result ≡ entry_at slot self.now }
-        ensures most { next_of self.now ≤ last_slot + 4 }
+        ensures most { next_of self.now ≤ last_slot + slots_ahead }
     {
         self.log.entry(slot)
     }
 
     /// Puts the entry of the next slot in.
     pub(crate) fn put(&mut self, command: Command) -> Result<(), OutOfMemory>
-        requires { next_of self.old < last_slot + 4 }
+        requires { next_of self.old < last_slot + slots_ahead }
         ensures { OnOk result (self.new ≡ with_entry command self.old) }
     {
         let next = self.log.next();

@@ -1,14 +1,15 @@
 //! Install: the executed state is sent, and is taken over by a replica that has executed less.
 ghost use Rattle.std.specs.Prelude.{◌≡◌, ◌≤◌, ◌||◌, not, nat_lt, ◌==◌, IfOk, OnOk, length, Some, if◌then◌else◌};
+ghost use Rattle.sc_node_table.specs.Slots.{slots_ahead};
 ghost use Rattle.sc_node_table.specs.Replica.{last_slot, next, waits_in};
 ghost use Rattle.sc_node_table.specs.Election.{stopped};
-ghost use Rattle.sc_node_table.specs.Install.{install_to, asked_to_promise, welcomed_all, jumped};
+ghost use Rattle.sc_node_table.specs.Install.{install_to, asked_to_promise, welcomed_all, named, jumped};
 ghost use Rattle.sc_node_table.specs.Rows.{looked_up, took_over, install_row, made_by};
 
 use crate::mails::send;
 use crate::open_sets::Sets;
 use crate::replica::{LAST_SLOT, Replica};
-use sc_base::{Dup, OutOfMemory, Sequence};
+use sc_base::{Draw, Dup, OutOfMemory, Sequence};
 use sc_cmd::{Base, Lock, MemberSets};
 use sc_machine::Machine;
 use sc_mail::{Mail, MailBody};
@@ -22,6 +23,15 @@ pub(crate) fn waits_in(lock: &Lock, waits: u32) -> u32
         Lock::Free => 0,
         Lock::Coordinating { .. } | Lock::Promised { .. } | Lock::Watching { .. } => waits,
     }
+}
+
+/// A copy of the state under a group's name.
+fn named(alloc: Global, group: Draw, base: &Base) -> Result<Base, OutOfMemory>
+    ensures { IfOk result (λ made. made ≡ named group base.now) }
+{
+    let mut base = base.dup(alloc)?;
+    base.core.id = group;
+    Ok(base)
 }
 
 impl Replica {
@@ -79,18 +89,20 @@ impl Replica {
     fn jump(&mut self, slot: u32, base: &Base, sets: &MemberSets) -> Result<(), OutOfMemory>
         requires later { next self.old ≤ slot }
         requires most { slot ≤ last_slot }
-        requires four { length sets.now ≡ 4 }
+        requires four { length sets.now ≡ slots_ahead }
         ensures { OnOk result (self.new ≡ jumped slot base.now sets.now self.old) }
     {
+        let base = named(self.alloc, self.name(), base)?;
         self.waits = waits_in(&base.core.lock, self.waits);
-        self.machine = Machine::born(self.alloc, base.dup(self.alloc)?)?;
+        self.machine = Machine::born(self.alloc, base)?;
         self.log.install(slot);
         self.sets = Sets::of(self.alloc, sets)?;
         self.forget(slot);
         Ok(())
     }
 
-    /// The sender of the state is taken for the leader if it is a member, and else one is looked for.
+    /// The sender of the state is taken for the leader if it is a member, and else one is looked
+    /// for.
     #[tactic(auto, unfolding(sc_node_table::specs::Rows::looked_up))]
     fn look_up(&mut self, from: u16, out: &mut Sequence<Mail>) -> Result<(), OutOfMemory>
         ensures { OnOk result ((self.new, out.new) ≡ looked_up from (self.old, out.old)) }
@@ -105,7 +117,10 @@ impl Replica {
     /// One that runs stops, with the sender as its hint.
     #[tactic(auto, unfolding(sc_node_table::specs::Election::ended))]
     fn make_way(&mut self, from: u16, out: &mut Sequence<Mail>) -> Result<(), OutOfMemory>
-        ensures way { OnOk result ((self.new, out.new) ≡ (if self.old.running then stopped (Some from) (self.old, out.old) else (self.old, out.old))) }
+        ensures way { OnOk result
+            ((self.new, out.new)
+            ≡ (if self.old.running then stopped (Some from) (self.old, out.old) else
+            (self.old, out.old))) }
         ensures log { OnOk result (self.new.log ≡ self.old.log) }
     {
         if !self.running {
@@ -126,18 +141,22 @@ impl Replica {
     ) -> Result<(), OutOfMemory>
         requires later { next self.old ≤ slot }
         requires most { slot ≤ last_slot }
-        requires four { length sets.now ≡ 4 }
-        ensures { OnOk result ((self.new, out.new) ≡ took_over from slot base.now sets.now (self.old, out.old)) }
+        requires four { length sets.now ≡ slots_ahead }
+        ensures { OnOk result
+            ((self.new, out.new) ≡ took_over from slot base.now sets.now (self.old, out.old)) }
     {
         self.make_way(from, out)?;
         self.jump(slot, base, sets)?;
         self.look_up(from, out)
     }
 
-    /// Whether an Install is not taken: it is of no later slot than those that are executed, or it has not the members of the open slots.
+    /// Whether an Install is not taken: it is of no later slot than those that are executed, or it
+    /// has not the members of the open slots.
     fn ignores(&self, slot: u32, sets: &MemberSets) -> bool
-        ensures same { result ≡ (not (length sets.now == length self.now.sets) || (nat_lt last_slot slot || nat_lt slot (next self.now))) }
-        ensures four { length self.now.sets ≡ 4 }
+        ensures same { result
+            ≡ (not (length sets.now == length self.now.sets)
+            || (nat_lt last_slot slot || nat_lt slot (next self.now))) }
+        ensures four { length self.now.sets ≡ slots_ahead }
     {
         sets.len() != self.open_slots() || LAST_SLOT < slot || slot < self.next()
     }
@@ -152,7 +171,8 @@ impl Replica {
         sets: &MemberSets,
         out: &mut Sequence<Mail>,
     ) -> Result<(), OutOfMemory>
-        ensures { OnOk result ((self.new, out.new) ≡ install_row from slot base.now sets.now (self.old, out.old)) }
+        ensures { OnOk result
+            ((self.new, out.new) ≡ install_row from slot base.now sets.now (self.old, out.old)) }
     {
         if self.ignores(slot, sets) {
             return Ok(());
@@ -160,22 +180,25 @@ impl Replica {
         self.take_over(from, slot, base, sets, out)
     }
 
-    /// A replica that is made of the state after a slot, as a node sent it, and the mails of an election that it begins. It holds no entry. The slot is at most 2^32 - 8, and there is a set of members for each of the four open slots.
+    /// A replica of a group that is made of the state after a slot, as a node sent it, and the
+    /// mails of an election that it begins. It holds no entry. The slot is at most 2^32 - 8, and
+    /// there is a set of members for each open slot.
     #[tactic(auto, unfolding(sc_node_table::specs::Rows::made_by))]
     pub fn installed(
         alloc: Global,
         me: u16,
         from: u16,
+        group: Draw,
         slot: u32,
         base: &Base,
         sets: &MemberSets,
     ) -> Result<(Replica, Sequence<Mail>), OutOfMemory>
         requires most { slot ≤ last_slot }
-        requires four { length sets.now ≡ 4 }
-        ensures { IfOk result (λ made. made ≡ made_by me from slot base.now sets.now) }
+        requires four { length sets.now ≡ slots_ahead }
+        ensures { IfOk result (λ made. made ≡ made_by me from group slot base.now sets.now) }
     {
         let sets = Sets::of(alloc, sets)?;
-        let mut replica = Replica::after(alloc, me, slot, base.dup(alloc)?, sets)?;
+        let mut replica = Replica::after(alloc, me, slot, named(alloc, group, base)?, sets)?;
         let mut out = Sequence::new(alloc);
         replica.look_up(from, &mut out)?;
         Ok((replica, out))

@@ -2,7 +2,6 @@
 #![tactic(auto)]
 
 mod asked;
-mod command_queue;
 mod election;
 mod execute;
 mod executed_log;
@@ -13,7 +12,7 @@ mod open_sets;
 mod orders;
 mod pump;
 mod queues;
-mod ready_slots;
+mod ready;
 mod replica;
 mod rows;
 mod same;
@@ -21,6 +20,3 @@ mod voting;
 
 pub use replica::{LAST_SLOT, Replica};
 pub use sc_node_table::ReplicaInput;
-
-#[cfg(test)]
-mod tests;

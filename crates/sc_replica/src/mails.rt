@@ -11,6 +11,7 @@ use sc_base::{Ballot, Draw, Dup, OutOfMemory, Sequence};
 use sc_cmd::{Command, OrderRefusal, ToldResult};
 use sc_mail::{AnswerBody, DESK, Mail, MailBody, client_number};
 use std::alloc::Global;
+use std::collections::VecDeque;
 
 /// One mail more.
 pub(crate) fn send(
@@ -123,7 +124,8 @@ pub(crate) fn tell_order(
     tell_desk(me, number, told, out)
 }
 
-/// The client of a waiting call is answered so, and of a waiting order the desk is told that its node does not lead.
+/// The client of a waiting call is answered so, and of a waiting order the desk is told that its
+/// node does not lead.
 #[tactic(auto, unfolding(sc_node_table::specs::Mails::dismissed))]
 fn dismiss(
     alloc: Global,
@@ -155,13 +157,14 @@ pub(crate) fn dismiss_all(
     group: Draw,
     hint: Option<u16>,
     body: &AnswerBody,
-    commands: &[Command],
+    commands: &VecDeque<Command>,
     out: &mut Sequence<Mail>,
 ) -> Result<(), OutOfMemory>
-    ensures { OnOk result (out.new ≡ dismissed_all me group hint body.now commands.now out.old) }
+    ensures { OnOk result
+        (out.new ≡ dismissed_all me group hint body.now commands.now.items out.old) }
 {
-    for command in commands {
-        dismiss(alloc, me, group, hint, body, command, out)?;
+    for i in 0..commands.len() {
+        dismiss(alloc, me, group, hint, body, &commands[i], out)?;
     }
     Ok(())
 }
@@ -176,7 +179,10 @@ impl Replica {
         from_slot: u32,
         out: &mut Sequence<Mail>,
     ) -> Result<(), OutOfMemory>
-        ensures { OnOk result (out.new ≡ sent_all self.now.me nodes.now (Prepare (name_of self.now) ballot from_slot) out.old) }
+        ensures { OnOk result
+            (out.new
+            ≡ sent_all self.now.me nodes.now (Prepare (name_of self.now) ballot from_slot)
+            out.old) }
     {
         let group = self.name();
         for node in nodes {
@@ -203,7 +209,10 @@ impl Replica {
         command: &Command,
         out: &mut Sequence<Mail>,
     ) -> Result<(), OutOfMemory>
-        ensures { OnOk result (out.new ≡ sent_all self.now.me nodes.now (Accept (name_of self.now) self.now.leader.ballot slot command.now) out.old) }
+        ensures { OnOk result
+            (out.new
+            ≡ sent_all self.now.me nodes.now
+            (Accept (name_of self.now) self.now.leader.ballot slot command.now) out.old) }
     {
         let group = self.name();
         let ballot = self.leader.ballot();
@@ -232,7 +241,10 @@ impl Replica {
         command: &Command,
         out: &mut Sequence<Mail>,
     ) -> Result<(), OutOfMemory>
-        ensures { OnOk result (out.new ≡ sent_others self.now.me nodes.now (Learn (name_of self.now) slot command.now) out.old) }
+        ensures { OnOk result
+            (out.new
+            ≡ sent_others self.now.me nodes.now (Learn (name_of self.now) slot command.now)
+            out.old) }
     {
         let group = self.name();
         for node in nodes {

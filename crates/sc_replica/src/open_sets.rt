@@ -1,7 +1,7 @@
 //! The members of the open slots.
 ghost use Rattle.std.specs.Prelude.{◌≡◌, ◌<◌, ◌∷◌, ◌++◌, [], length, replicate, IfOk, OnOk, slice_get, slice_index_or};
 ghost use Rattle.std.specs.Option.{option_copied};
-ghost use Rattle.sc_node_table.specs.Slots.{rest_of};
+ghost use Rattle.sc_node_table.specs.Slots.{slots_ahead, rest_of};
 ghost use Rattle.sc_node_table.specs.Replica.{first_set};
 ghost use Rattle.sc_node_table.specs.Election.{is_in_some};
 
@@ -20,18 +20,19 @@ pub(crate) struct Sets {
 
 impl Model for Sets {
     ghost use Rattle.std.specs.Prelude.{List, ℕ, length, ◌≡◌};
+    ghost use Rattle.sc_node_table.specs.Slots.{slots_ahead};
 
     ghost Value = { List (List ℕ) };
 
     ghost view = { λ s. s.sets.items };
 
-    ghost invariant = { λ s. length s.sets.items ≡ 4 };
+    ghost invariant = { λ s. length s.sets.items ≡ slots_ahead };
 }
 
 impl Sets {
     /// One set for each open slot.
     pub(crate) fn born(alloc: Global, members: &Members) -> Result<Sets, OutOfMemory>
-        ensures { IfOk result (λ sets. sets ≡ replicate 4 members.now) }
+        ensures { IfOk result (λ sets. sets ≡ replicate slots_ahead members.now) }
     {
         let mut sets = Vec::new(alloc);
         for _slot in 0..OPEN_SLOTS {
@@ -42,7 +43,7 @@ impl Sets {
 
     /// These sets, one for each open slot.
     pub(crate) fn of(alloc: Global, sets: &MemberSets) -> Result<Sets, OutOfMemory>
-        requires { length sets.now ≡ 4 }
+        requires { length sets.now ≡ slots_ahead }
         ensures { IfOk result (λ made. made ≡ sets.now) }
     {
         Ok(Sets {
@@ -59,7 +60,7 @@ impl Sets {
 
     /// How many slots are open.
     pub(crate) fn len(&self) -> usize
-        ensures four { result ≡ 4 }
+        ensures four { result ≡ slots_ahead }
         ensures all { result ≡ length self.now }
     {
         self.sets.len()
@@ -67,7 +68,7 @@ impl Sets {
 
     /// The set of an open slot, counted from the next one.
     pub(crate) fn at(&self, i: usize) -> &Members
-        requires { i < 4 }
+        requires { i < slots_ahead }
         ensures { result.now ≡ slice_index_or self.now i [] }
     {
         &self.sets[i]

@@ -7,6 +7,7 @@ ghost use Rattle.sc_node_table.specs.Execute.{result_of, told_effect};
 ghost use Rattle.sc_node_table.specs.Rows.{order_queued, order_taken, order_row};
 
 use crate::mails::{order_in, tell_desk, tell_order};
+use crate::queues::push_back;
 use crate::replica::Replica;
 use sc_base::{OutOfMemory, Sequence};
 use sc_cmd::{Command, Core, Effect, Order, OrderLine, OrderRefusal, ToldResult};
@@ -52,7 +53,8 @@ impl Replica {
         command: &Command,
         out: &mut Sequence<Mail>,
     ) -> Result<(), OutOfMemory>
-        ensures { OnOk result ((self.now, out.new) ≡ told_effect told command.now (self.now, out.old)) }
+        ensures { OnOk result
+            ((self.now, out.new) ≡ told_effect told command.now (self.now, out.old)) }
     {
         match told {
             Some(result) => tell_order(self.me, order_in(command), result, out),
@@ -68,12 +70,15 @@ impl Replica {
         out: &mut Sequence<Mail>,
     ) -> Result<(), OutOfMemory>
         requires { is_checked command ≡ true }
-        ensures { OnOk result ((self.new, out.new) ≡ order_queued (refusal_of self.old.group.core command) number command (self.old, out.old)) }
+        ensures { OnOk result
+            ((self.new, out.new)
+            ≡ order_queued (refusal_of self.old.group.core command) number command
+            (self.old, out.old)) }
     {
         match refusal_of(self.machine.core(), &command) {
             Some(why) => tell_desk(self.me, number, ToldResult::Refused(why), out),
             None => {
-                self.calls.push_back(command)?;
+                push_back(&mut self.calls, command)?;
                 self.pump(out)
             }
         }
@@ -94,7 +99,8 @@ impl Replica {
         out: &mut Sequence<Mail>,
     ) -> Result<(), OutOfMemory>
         requires { is_checked command ≡ true }
-        ensures { OnOk result ((self.new, out.new) ≡ order_taken (Some command) number (self.old, out.old)) }
+        ensures { OnOk result
+            ((self.new, out.new) ≡ order_taken (Some command) number (self.old, out.old)) }
     {
         if self.takes_no_order() {
             let why = OrderRefusal::NotLeader { hint: self.hint };
@@ -103,7 +109,9 @@ impl Replica {
         self.queue_order(number, command, out)
     }
 
-    /// An order to its group. Orders of splits and transactions are not built yet: they change nothing. The mails come behind those that are there. After want of memory the replica may only be dropped.
+    /// An order to its group. Orders of splits and transactions are not built yet: they change
+    /// nothing. The mails come behind those that are there. After want of memory the replica may
+    /// only be dropped.
     #[tactic(auto, unfolding(sc_node_table::specs::Rows::order_row))]
     pub fn on_order(
         &mut self,

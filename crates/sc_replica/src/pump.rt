@@ -3,18 +3,20 @@ ghost use Rattle.std.specs.Prelude.{◌≡◌, ◌+◌, ◌<◌, ◌≤◌, ◌=
 ghost use Rattle.std.specs.List.{list_any};
 ghost use Rattle.sc_ideal.specs.IdealStore.{key_of, holds_key};
 ghost use Rattle.sc_paxos_words.specs.Leaders.{Obeys, flight_at, must};
+ghost use Rattle.sc_node_table.specs.Slots.{slots_ahead};
 ghost use Rattle.sc_node_table.specs.Replica.{next, settled, may_offer, taken_at, listed, under_way, is_idle, last_slot};
 ghost use Rattle.sc_node_table.specs.Pump.{is_act, serves_calls, waits, turned_down, refused_by, next_call, from_calls, from_acts, from_queues, found_for, offered, pumped_from, pumped};
 ghost use Rattle.sc_replica.specs.Heads.{head_waits};
 
-use crate::command_queue::Queue;
 use crate::mails::answer_command;
+use crate::queues::{head, is_empty, take_head};
 use crate::replica::{LAST_SLOT, Replica};
 use sc_base::{Draw, Dup, Op, OutOfMemory, RingArc, Sequence};
 use sc_cmd::{Command, Core, Lock};
 use sc_leader::Must;
 use sc_mail::{AnswerBody, Mail};
 use std::alloc::Global;
+use std::collections::VecDeque;
 
 /// Whether a command is other than Call and Noop: while one is under way nothing new is offered.
 fn is_act(command: &Command) -> bool
@@ -53,10 +55,10 @@ fn waits(idle: bool, lock: &Lock, command: &Command) -> bool
 }
 
 /// Whether the head of the calls waits, or there is none.
-fn head_waits(idle: bool, lock: &Lock, calls: &Queue<Command>) -> bool
-    ensures { result ≡ head_waits idle lock.now calls.now }
+fn head_waits(idle: bool, lock: &Lock, calls: &VecDeque<Command>) -> bool
+    ensures { result ≡ head_waits idle lock.now calls.now.items }
 {
-    match calls.head() {
+    match head(calls) {
         None => true,
         Some(command) => waits(idle, lock, command),
     }
@@ -87,19 +89,22 @@ fn refused_by(core: &Core, op: &Op) -> Option<AnswerBody>
     })
 }
 
-/// The command at the head of the calls that a slot may have; the calls before it that the group does not serve are answered.
+/// The command at the head of the calls that a slot may have; the calls before it that the group
+/// does not serve are answered.
 fn next_call(
     alloc: Global,
     me: u16,
     idle: bool,
     core: &Core,
-    calls: &mut Queue<Command>,
+    calls: &mut VecDeque<Command>,
     out: &mut Sequence<Mail>,
 ) -> Result<Option<Command>, OutOfMemory>
-    ensures { IfOk result (λ command. (command, calls.new, out.new) ≡ next_call me idle core.now calls.old out.old) }
+    ensures { IfOk result
+        (λ command.
+        (command, calls.new.items, out.new) ≡ next_call me idle core.now calls.old.items out.old) }
 {
     while !head_waits(idle, &core.lock, calls) {
-        let Some(command) = calls.take_head() else {
+        let Some(command) = take_head(calls) else {
             return Ok(None);
         };
         match turned_down(core, &command) {
@@ -113,7 +118,7 @@ fn next_call(
 impl Replica {
     /// Whether its leader may offer at an open slot, counted from the next one.
     fn may_offer(&self, i: usize) -> bool
-        requires { i < 4 }
+        requires { i < slots_ahead }
         ensures { result ≡ may_offer self.now (slice_index_or self.now.sets i []) }
     {
         self.leader
@@ -175,7 +180,8 @@ impl Replica {
     /// What the calls have for a slot.
     #[tactic(auto, unfolding(sc_node_table::specs::Pump::from_calls))]
     fn find_in_calls(&mut self, out: &mut Sequence<Mail>) -> Result<Option<Command>, OutOfMemory>
-        ensures found { IfOk result (λ command. (command, (self.new, out.new)) ≡ from_calls (self.old, out.old)) }
+        ensures found { IfOk result
+            (λ command. (command, (self.new, out.new)) ≡ from_calls (self.old, out.old)) }
         ensures leader { OnOk result (self.new.leader ≡ self.old.leader) }
         ensures sets { OnOk result (self.new.sets ≡ self.old.sets) }
     {
@@ -192,23 +198,26 @@ impl Replica {
 
     /// What the commands of transactions have for a slot, else the calls.
     fn find_in_acts(&mut self, out: &mut Sequence<Mail>) -> Result<Option<Command>, OutOfMemory>
-        ensures found { IfOk result (λ command. (command, (self.new, out.new)) ≡ from_acts self.old.acts (self.old, out.old)) }
+        ensures found { IfOk result
+            (λ command.
+            (command, (self.new, out.new)) ≡ from_acts self.old.acts (self.old, out.old)) }
         ensures leader { OnOk result (self.new.leader ≡ self.old.leader) }
         ensures sets { OnOk result (self.new.sets ≡ self.old.sets) }
     {
-        if self.acts.is_empty() {
+        if is_empty(&self.acts) {
             return self.find_in_calls(out);
         }
         if !self.is_idle() {
             return Ok(None);
         }
-        Ok(self.acts.take_head())
+        Ok(take_head(&mut self.acts))
     }
 
     /// What waits for a slot.
     #[tactic(auto, unfolding(sc_node_table::specs::Pump::from_queues))]
     fn find_in_queues(&mut self, out: &mut Sequence<Mail>) -> Result<Option<Command>, OutOfMemory>
-        ensures found { IfOk result (λ command. (command, (self.new, out.new)) ≡ from_queues (self.old, out.old)) }
+        ensures found { IfOk result
+            (λ command. (command, (self.new, out.new)) ≡ from_queues (self.old, out.old)) }
         ensures leader { OnOk result (self.new.leader ≡ self.old.leader) }
         ensures sets { OnOk result (self.new.sets ≡ self.old.sets) }
     {
@@ -225,10 +234,12 @@ impl Replica {
         slot: u32,
         out: &mut Sequence<Mail>,
     ) -> Result<Option<Command>, OutOfMemory>
-        ensures found { IfOk result (λ command. (command, (self.new, out.new)) ≡ found_for slot (self.old, out.old)) }
+        ensures found { IfOk result
+            (λ command. (command, (self.new, out.new)) ≡ found_for slot (self.old, out.old)) }
         ensures leader { OnOk result (self.new.leader ≡ self.old.leader) }
         ensures sets { OnOk result (self.new.sets ≡ self.old.sets) }
-        ensures obeys { IfOk result (λ found. IfSome found (λ command. Obeys (must slot self.old.leader) command)) }
+        ensures obeys { IfOk result
+            (λ found. IfSome found (λ command. Obeys (must slot self.old.leader) command)) }
     {
         match self.leader.must(slot)? {
             Must::Value(command) => Ok(Some(command)),
@@ -246,10 +257,12 @@ impl Replica {
         command: &Command,
         out: &mut Sequence<Mail>,
     ) -> Result<(), OutOfMemory>
-        requires open { i < 4 }
+        requires open { i < slots_ahead }
         requires free { flight_at slot self.old.leader.flights ≡ None }
         requires obeys { Obeys (must slot self.old.leader) command.now }
-        ensures offered { OnOk result ((self.new, out.new) ≡ offered slot (slice_index_or self.old.sets i []) command.now (self.old, out.old)) }
+        ensures offered { OnOk result
+            ((self.new, out.new)
+            ≡ offered slot (slice_index_or self.old.sets i []) command.now (self.old, out.old)) }
         ensures sets { OnOk result (self.new.sets ≡ self.old.sets) }
     {
         self.leader.offer(slot, command.dup(self.alloc)?)?;
@@ -260,7 +273,8 @@ impl Replica {
     #[tactic(auto, unfolding(sc_node_table::specs::Pump::pumped_from))]
     fn pump_from(&mut self, first: u32, out: &mut Sequence<Mail>) -> Result<(), OutOfMemory>
         requires { first ≤ last_slot }
-        ensures { OnOk result ((self.new, out.new) ≡ pumped_from first self.old.sets (self.old, out.old)) }
+        ensures { OnOk result
+            ((self.new, out.new) ≡ pumped_from first self.old.sets (self.old, out.old)) }
     {
         for i in 0..self.open_slots() {
             let slot = first + i as u32;

@@ -1,12 +1,11 @@
 //! The replica.
 ghost use Rattle.std.specs.Prelude.{◌≡◌, ◌+◌, ◌≤◌, IfOk, OnOk, length, true};
+ghost use Rattle.sc_node_table.specs.Slots.{slots_ahead};
 ghost use Rattle.sc_node_table.specs.Replica.{born_replica, installed_replica, name_of, next, last_slot};
 ghost use Rattle.sc_replica.specs.Bare.{bare_replica};
 
-use crate::command_queue::Queue;
 use crate::executed_log::Entries;
 use crate::open_sets::Sets;
-use crate::ready_slots::Slots;
 use sc_acceptor::Acceptor;
 use sc_base::{Ballot, Draw, OutOfMemory, Sequence};
 use sc_cmd::{Base, Command};
@@ -15,6 +14,7 @@ use sc_machine::Machine;
 use sc_mail::Mail;
 use sc_node_table::ReplicaInput;
 use std::alloc::Global;
+use std::collections::{BTreeMap, VecDeque};
 use std::marker::Model;
 
 /// No slot above this one is learnt, and after it none is offered.
@@ -34,10 +34,10 @@ pub struct Replica {
     pub(crate) running: bool,
     /// It counts only where the replica runs.
     pub(crate) leader: Leader<Command>,
-    pub(crate) ready: Slots<Command>,
+    pub(crate) ready: BTreeMap<u32, Command>,
     pub(crate) sets: Sets,
-    pub(crate) acts: Queue<Command>,
-    pub(crate) calls: Queue<Command>,
+    pub(crate) acts: VecDeque<Command>,
+    pub(crate) calls: VecDeque<Command>,
     pub(crate) waits: u32,
     pub(crate) alloc: Global,
 }
@@ -52,7 +52,9 @@ impl Model for Replica {
 
     ghost Value = { ReplicaState };
 
-    ghost coded = { let pairs : Coded Contents = map.code (coded_list coded_ℕ) (coded_list coded_ℕ) in let clients : Coded Table = map.code coded_ℕ (Prim.hlevel codes) in let group : Coded Group = Prim.hlevel (codes, pairs, clients) in Prim.hlevel (codes, group) };
+    ghost coded = { let pairs : Coded Contents = map.code (coded_list coded_ℕ) (coded_list coded_ℕ)
+        in let clients : Coded Table = map.code coded_ℕ (Prim.hlevel codes) in let group : Coded
+        Group = Prim.hlevel (codes, pairs, clients) in Prim.hlevel (codes, group) };
 
     ghost view = { λ r. record {
       me = r.me;
@@ -63,10 +65,10 @@ impl Model for Replica {
       top = r.top;
       running = r.running;
       leader = r.leader;
-      ready = r.ready;
+      ready = r.ready.entries;
       sets = r.sets;
-      acts = r.acts;
-      calls = r.calls;
+      acts = r.acts.items;
+      calls = r.calls.items;
       waits = r.waits;
     } };
 }
@@ -90,18 +92,18 @@ impl Replica {
             top: ballot,
             running: false,
             leader: Leader::first(alloc, ballot),
-            ready: Slots::new(alloc),
+            ready: BTreeMap::new(alloc),
             sets,
-            acts: Queue::new(alloc),
-            calls: Queue::new(alloc),
+            acts: VecDeque::new(alloc),
+            calls: VecDeque::new(alloc),
             waits: 0,
             alloc,
         }
     }
 
-    /// A replica that was made at its group's birth. Four slots are open at a time.
+    /// A replica that was made at its group's birth. `OPEN_SLOTS` slots are open at a time.
     pub fn born(alloc: Global, me: u16, base: Base) -> Result<Replica, OutOfMemory>
-        ensures { IfOk result (λ replica. replica ≡ born_replica 4 me base) }
+        ensures { IfOk result (λ replica. replica ≡ born_replica slots_ahead me base) }
     {
         let machine = Machine::born(alloc, base)?;
         let sets = Sets::born(alloc, &machine.core().members)?;
@@ -145,14 +147,14 @@ impl Replica {
     /// The slot after the last executed one.
     pub(crate) fn next(&self) -> u32
         ensures same { result ≡ next self.now }
-        ensures most { next self.now ≤ last_slot + 4 }
+        ensures most { next self.now ≤ last_slot + slots_ahead }
     {
         self.log.next()
     }
 
     /// How many slots are open.
     pub(crate) fn open_slots(&self) -> usize
-        ensures four { result ≡ 4 }
+        ensures four { result ≡ slots_ahead }
         ensures all { result ≡ length self.now.sets }
     {
         self.sets.len()

@@ -11,13 +11,13 @@ ghost use Rattle.sc_replica.specs.Again.{asked_at};
 ghost use Rattle.sc_node_table.specs.Replica.{name_of, next, members, settled, flying, is_idle, last_slot};
 ghost use Rattle.sc_node_table.specs.Node.{is_node, may_come};
 ghost use Rattle.sc_node_table.specs.Rows.{refused_at, queued, requested, request_row, learn_row, taught, ask_row, uncounted, asked_again, told_last, tick_row, mailed, stepped};
-ghost use Rattle.sc_replica.specs.Given.{may_take};
+ghost use Rattle.sc_replica.specs.Given.{is_vote, may_take};
 
-use crate::command_queue::{call_of, drop_call};
 use crate::mails::{answer, send};
 use crate::pump::{holds_key, serves_calls};
+use crate::queues::{call_of, drop_call, push_back};
 use crate::replica::{LAST_SLOT, Replica};
-use sc_base::{Dup, Op, OutOfMemory, Sequence};
+use sc_base::{Dup, MOST_NODES, Op, OutOfMemory, Sequence};
 use sc_cmd::Command;
 use sc_mail::{AnswerBody, Mail, MailBody};
 use sc_member::Members;
@@ -44,7 +44,8 @@ impl Replica {
         None
     }
 
-    /// A call waits last, unless the same or a later one of its client waits; an earlier one waits no more.
+    /// A call waits last, unless the same or a later one of its client waits; an earlier one waits
+    /// no more.
     #[tactic(auto, unfolding(sc_node_table::specs::Rows::queued))]
     fn queue(
         &mut self,
@@ -53,16 +54,18 @@ impl Replica {
         op: &Op,
         out: &mut Sequence<Mail>,
     ) -> Result<(), OutOfMemory>
-        ensures { OnOk result ((self.new, out.new) ≡ queued (call_of self.old.calls client) client seq op.now (self.old, out.old)) }
+        ensures { OnOk result
+            ((self.new, out.new)
+            ≡ queued (call_of self.old.calls client) client seq op.now (self.old, out.old)) }
     {
-        if let Some(other) = call_of(self.calls.as_slice(), client) {
+        if let Some(other) = call_of(&self.calls, client) {
             if seq <= other {
                 return Ok(());
             }
             drop_call(&mut self.calls, client);
         }
         let op = op.dup(self.alloc)?;
-        self.calls.push_back(Command::Call { client, seq, op })?;
+        push_back(&mut self.calls, Command::Call { client, seq, op })?;
         self.pump(out)
     }
 
@@ -75,7 +78,8 @@ impl Replica {
         op: &Op,
         out: &mut Sequence<Mail>,
     ) -> Result<(), OutOfMemory>
-        ensures { OnOk result ((self.new, out.new) ≡ request_row client seq op.now (self.old, out.old)) }
+        ensures { OnOk result
+            ((self.new, out.new) ≡ request_row client seq op.now (self.old, out.old)) }
     {
         match self.refused_at(op) {
             Some(body) => answer(self.me, self.name(), client, seq, body, out),
@@ -83,7 +87,8 @@ impl Replica {
         }
     }
 
-    /// Learn: the next slot's command is executed; for a later one the slots from the next on are asked for.
+    /// Learn: the next slot's command is executed; for a later one the slots from the next on are
+    /// asked for.
     #[tactic(auto, unfolding(sc_node_table::specs::Rows::learn_row))]
     fn on_learn(
         &mut self,
@@ -92,7 +97,8 @@ impl Replica {
         command: &Command,
         out: &mut Sequence<Mail>,
     ) -> Result<(), OutOfMemory>
-        ensures { OnOk result ((self.new, out.new) ≡ learn_row from slot command.now (self.old, out.old)) }
+        ensures { OnOk result
+            ((self.new, out.new) ≡ learn_row from slot command.now (self.old, out.old)) }
     {
         let next = self.next();
         if LAST_SLOT < slot {
@@ -108,7 +114,8 @@ impl Replica {
     }
 
     fn ask(&self, from: u16, from_slot: u32, out: &mut Sequence<Mail>) -> Result<(), OutOfMemory>
-        ensures { OnOk result (out.new ≡ sent self.now.me from (Ask (name_of self.now) from_slot) out.old) }
+        ensures { OnOk result
+            (out.new ≡ sent self.now.me from (Ask (name_of self.now) from_slot) out.old) }
     {
         let group = self.name();
         send(
@@ -150,7 +157,8 @@ impl Replica {
 
     /// Accept again for each slot in flight, to each of its members that was not counted.
     fn ask_again(&self, out: &mut Sequence<Mail>) -> Result<(), OutOfMemory>
-        ensures { OnOk result (out.new ≡ asked_again self.now (next self.now) self.now.sets out.old) }
+        ensures { OnOk result
+            (out.new ≡ asked_again self.now (next self.now) self.now.sets out.old) }
     {
         let next = self.next();
         for i in 0..self.open_slots() {
@@ -162,7 +170,8 @@ impl Replica {
     /// The last entry to each other member.
     #[tactic(auto, unfolding(sc_node_table::specs::Rows::told_last))]
     fn tell_last(&self, out: &mut Sequence<Mail>) -> Result<(), OutOfMemory>
-        ensures { OnOk result (out.new ≡ told_last (entry_at (next self.now - 1) self.now.log) self.now out.old) }
+        ensures { OnOk result
+            (out.new ≡ told_last (entry_at (next self.now - 1) self.now.log) self.now out.old) }
     {
         let slot = self.next() - 1;
         match self.entry(slot) {
@@ -176,7 +185,9 @@ impl Replica {
 
     /// Whether its group is not gone and its node is a member.
     fn takes_part(&self) -> bool
-        ensures { result ≡ not (is_some self.now.group.core.gone || not (is_member (members self.now) self.now.me)) }
+        ensures { result
+            ≡ not
+            (is_some self.now.group.core.gone || not (is_member (members self.now) self.now.me)) }
     {
         let core = self.machine.core();
         if core.gone.is_some() {
@@ -185,7 +196,8 @@ impl Replica {
         core.members.has(self.me)
     }
 
-    /// A tick of its node's clock, by the row of Tick. The mails come behind those that are there. After want of memory the replica may only be dropped.
+    /// A tick of its node's clock, by the row of Tick. The mails come behind those that are there.
+    /// After want of memory the replica may only be dropped.
     #[tactic(auto, unfolding(sc_node_table::specs::Rows::tick_row))]
     pub fn on_tick(&mut self, out: &mut Sequence<Mail>) -> Result<(), OutOfMemory>
         ensures { OnOk result ((self.new, out.new) ≡ tick_row (self.old, out.old)) }
@@ -204,23 +216,18 @@ impl Replica {
         self.pump(out)
     }
 
-    /// A mail from a node.
+    /// A mail of a round of votes.
     #[tactic(auto, unfolding(sc_node_table::specs::Rows::mailed, sc_node_table::specs::Voting::nack_row))]
-    fn on_mail(
+    fn on_vote(
         &mut self,
         from: u16,
         body: &MailBody,
         out: &mut Sequence<Mail>,
     ) -> Result<(), OutOfMemory>
+        requires { is_vote body.now ≡ true }
         ensures { OnOk result ((self.new, out.new) ≡ mailed from body.now (self.old, out.old)) }
     {
         match body {
-            MailBody::Request {
-                client,
-                seq,
-                op,
-                ..
-            } => self.on_request(*client, *seq, op, out),
             MailBody::Prepare {
                 ballot,
                 from_slot,
@@ -239,6 +246,32 @@ impl Replica {
             } => self.on_accept(from, *ballot, *slot, command, out),
             MailBody::Accepted { ballot, slot, .. } => self.on_accepted(from, *ballot, *slot, out),
             MailBody::Nack { promised, .. } => self.see(*promised, out),
+            _ => unreachable!(),
+        }
+    }
+
+    /// A mail from a node.
+    #[tactic(auto, unfolding(sc_node_table::specs::Rows::mailed))]
+    fn on_mail(
+        &mut self,
+        from: u16,
+        body: &MailBody,
+        out: &mut Sequence<Mail>,
+    ) -> Result<(), OutOfMemory>
+        ensures { OnOk result ((self.new, out.new) ≡ mailed from body.now (self.old, out.old)) }
+    {
+        match body {
+            MailBody::Request {
+                client,
+                seq,
+                op,
+                ..
+            } => self.on_request(*client, *seq, op, out),
+            MailBody::Prepare { .. }
+            | MailBody::Promise { .. }
+            | MailBody::Accept { .. }
+            | MailBody::Accepted { .. }
+            | MailBody::Nack { .. } => self.on_vote(from, body, out),
             MailBody::Learn { slot, command, .. } => self.on_learn(from, *slot, command, out),
             MailBody::Ask { from_slot, .. } => self.on_ask(from, *from_slot, out),
             MailBody::Install {
@@ -247,11 +280,20 @@ impl Replica {
                 sets,
                 ..
             } => self.on_install(from, *slot, base, sets, out),
-            _ => Ok(()),
+            MailBody::Answer { .. }
+            | MailBody::TxPrepare { .. }
+            | MailBody::TxVote { .. }
+            | MailBody::TxOutcome { .. }
+            | MailBody::TxElsewhere { .. }
+            | MailBody::TxWatch { .. }
+            | MailBody::TxWatched { .. }
+            | MailBody::Told { .. } => Ok(()),
         }
     }
 
-    /// A mail for its group, by its row. Only a request may come from others than the nodes 1 to 32. The mails come behind those that are there. After want of memory the replica may only be dropped.
+    /// A mail for its group, by its row. Only a request may come from others than the nodes. The
+    /// mails come behind those that are there. After want of memory the replica may only be
+    /// dropped.
     #[tactic(auto, unfolding(sc_node_table::specs::Rows::mailed))]
     pub fn take_mail(
         &mut self,
@@ -262,7 +304,7 @@ impl Replica {
         requires { may_come from body.now ≡ true }
         ensures { OnOk result ((self.new, out.new) ≡ mailed from body.now (self.old, out.old)) }
     {
-        if from <= 32 {
+        if from <= MOST_NODES {
             return self.on_mail(from as u16, body, out);
         }
         match body {
@@ -272,11 +314,13 @@ impl Replica {
                 op,
                 ..
             } => self.on_request(*client, *seq, op, out),
-            _ => Ok(()),
+            _ => unreachable!(),
         }
     }
 
-    /// One step by the replica's table: the new value, and the mails behind those that are there. Only a request may come from others than the nodes 1 to 32. After want of memory the replica may only be dropped.
+    /// One step by the replica's table: the new value, and the mails behind those that are there.
+    /// Only a request may come from others than the nodes. After want of memory the replica may
+    /// only be dropped.
     #[tactic(auto, unfolding(sc_node_table::specs::Rows::stepped))]
     pub fn step(
         &mut self,

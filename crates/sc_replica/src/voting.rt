@@ -7,11 +7,13 @@ ghost use Rattle.sc_paxos_words.specs.Accepting.{accepted as accepted_by};
 ghost use Rattle.sc_paxos_words.specs.Votes.{counted};
 ghost use Rattle.sc_mail.specs.declared.bodies.MailBody.TheVariants.{Nack};
 ghost use Rattle.sc_node_table.specs.Mails.{sent};
+ghost use Rattle.sc_node_table.specs.Slots.{slots_ahead};
 ghost use Rattle.sc_node_table.specs.Replica.{name_of, next, set_at, last_slot};
 ghost use Rattle.sc_node_table.specs.Voting.{hinted, promise_to, promised, prepare_row, accepted_to, took, accept_row, leads, promise_row, readied, tallied, voted, accepted_row};
 
 use crate::mails::send;
-use crate::replica::{LAST_SLOT, Replica};
+use crate::ready::put_ready;
+use crate::replica::Replica;
 use sc_acceptor::{AcceptAnswer, PrepareAnswer};
 use sc_base::{Ballot, Dup, OutOfMemory, Sequence};
 use sc_cmd::{Command, same_ballot};
@@ -30,7 +32,8 @@ impl Replica {
     }
 
     fn nack(&self, from: u16, promised: Ballot, out: &mut Sequence<Mail>) -> Result<(), OutOfMemory>
-        ensures { OnOk result (out.new ≡ sent self.now.me from (Nack (name_of self.now) promised) out.old) }
+        ensures { OnOk result
+            (out.new ≡ sent self.now.me from (Nack (name_of self.now) promised) out.old) }
     {
         let body = MailBody::Nack {
             group: self.name(),
@@ -39,7 +42,8 @@ impl Replica {
         send(self.me, from as u32, body, out)
     }
 
-    /// A prepare from a slot whose reports are kept; to one from a slot that is forgotten the executed state is sent.
+    /// A prepare from a slot whose reports are kept; to one from a slot that is forgotten the
+    /// executed state is sent.
     #[tactic(auto, unfolding(sc_node_table::specs::Voting::promised))]
     fn promise(
         &mut self,
@@ -48,7 +52,8 @@ impl Replica {
         from_slot: u32,
         out: &mut Sequence<Mail>,
     ) -> Result<(), OutOfMemory>
-        ensures { OnOk result ((self.new, out.new) ≡ promised from ballot from_slot (self.old, out.old)) }
+        ensures { OnOk result
+            ((self.new, out.new) ≡ promised from ballot from_slot (self.old, out.old)) }
     {
         if from_slot <= self.acceptor.floor() {
             return self.send_install(from, out);
@@ -81,13 +86,15 @@ impl Replica {
         from_slot: u32,
         out: &mut Sequence<Mail>,
     ) -> Result<(), OutOfMemory>
-        ensures { OnOk result ((self.new, out.new) ≡ prepare_row from ballot from_slot (self.old, out.old)) }
+        ensures { OnOk result
+            ((self.new, out.new) ≡ prepare_row from ballot from_slot (self.old, out.old)) }
     {
         self.see(ballot, out)?;
         self.promise(from, ballot, from_slot, out)
     }
 
-    /// An accept at a slot that is kept; to one at a slot that is forgotten the executed state is sent.
+    /// An accept at a slot that is kept; to one at a slot that is forgotten the executed state is
+    /// sent.
     #[tactic(auto, unfolding(sc_node_table::specs::Voting::took))]
     fn take(
         &mut self,
@@ -97,7 +104,10 @@ impl Replica {
         command: &Command,
         out: &mut Sequence<Mail>,
     ) -> Result<(), OutOfMemory>
-        ensures { OnOk result ((self.new, out.new) ≡ took from (record { slot = slot; ballot = ballot; value = command.now }) (self.old, out.old)) }
+        ensures { OnOk result
+            ((self.new, out.new)
+            ≡ took from (record { slot = slot; ballot = ballot; value = command.now })
+            (self.old, out.old)) }
     {
         if slot <= self.acceptor.floor() {
             return self.send_install(from, out);
@@ -129,7 +139,8 @@ impl Replica {
         command: &Command,
         out: &mut Sequence<Mail>,
     ) -> Result<(), OutOfMemory>
-        ensures { OnOk result ((self.new, out.new) ≡ accept_row from ballot slot command.now (self.old, out.old)) }
+        ensures { OnOk result
+            ((self.new, out.new) ≡ accept_row from ballot slot command.now (self.old, out.old)) }
     {
         self.see(ballot, out)?;
         self.take(from, ballot, slot, command, out)
@@ -151,7 +162,8 @@ impl Replica {
         reports: &Reports,
         out: &mut Sequence<Mail>,
     ) -> Result<(), OutOfMemory>
-        ensures { OnOk result ((self.new, out.new) ≡ promise_row from ballot reports.now (self.old, out.old)) }
+        ensures { OnOk result
+            ((self.new, out.new) ≡ promise_row from ballot reports.now (self.old, out.old)) }
     {
         if !self.leads(ballot) {
             return Ok(());
@@ -171,9 +183,8 @@ impl Replica {
     ) -> Result<(), OutOfMemory>
         ensures { OnOk result ((self.new, out.new) ≡ readied slot command.now (self.old, out.old)) }
     {
-        self.ready.put(slot, command.dup(self.alloc)?)?;
-        let next = self.next();
-        if slot == next && next < LAST_SLOT + 4 {
+        put_ready(&mut self.ready, slot, command.dup(self.alloc)?)?;
+        if slot == self.next() && self.has_room() {
             return self.execute(true, command, out);
         }
         Ok(())
@@ -188,7 +199,8 @@ impl Replica {
         set: &Members,
         out: &mut Sequence<Mail>,
     ) -> Result<(), OutOfMemory>
-        ensures { OnOk result ((self.new, out.new) ≡ voted from ballot slot (Some set.now) (self.old, out.old)) }
+        ensures { OnOk result
+            ((self.new, out.new) ≡ voted from ballot slot (Some set.now) (self.old, out.old)) }
     {
         match self.leader.on_accepted(from, ballot, slot, set) {
             Counted::Chosen(command) => self.make_ready(slot, &command, out),
@@ -216,7 +228,8 @@ impl Replica {
         slot: u32,
         out: &mut Sequence<Mail>,
     ) -> Result<(), OutOfMemory>
-        ensures { OnOk result ((self.new, out.new) ≡ accepted_row from ballot slot (self.old, out.old)) }
+        ensures { OnOk result
+            ((self.new, out.new) ≡ accepted_row from ballot slot (self.old, out.old)) }
     {
         if !self.leads(ballot) {
             return Ok(());

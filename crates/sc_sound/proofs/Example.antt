@@ -11,7 +11,8 @@ use Rattle.sc_ideal.specs.declared.Entry.{Entry}
 use Rattle.sc_ideal.specs.IdealStore.{reply_of}
 use Rattle.sc_machine_table.specs.Group.{Group, group_of}
 use Rattle.sc_machine_table.specs.Machine.{applied, done, numbered}
-use Rattle.sc_sound.specs.Histories.{history, entry_of}
+use Rattle.sc_sound.specs.Histories.{history}
+use Rattle.sc_machine_table.specs.Logs.{entry_of}
 use Rattle.sc_sound.specs.Example.{four, alone, example, example_history, put_it, get_it}
 
 abbrev pub born : Group
@@ -47,6 +48,7 @@ nothing = get-empty (slice_cmp nat_cmp) (97 ∷ [])
 pub value : get next.pairs (97 ∷ []) ≡ Some (120 ∷ [])
 value = get-insert nat_list_cmp_total born.pairs (97 ∷ []) (120 ∷ []) (97 ∷ [])
 
+-- its history is the put and the get after it
 pub example_is_told : history four (alone ∷ []) example ≡ example_history
 example_is_told =
     ap by_put put ∙ ap by_get got

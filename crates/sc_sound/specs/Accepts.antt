@@ -26,6 +26,7 @@ accepts_of group row (Accept g ballot slot command) =
     if same_draw g group && list_any (λ mail. is_accepted g ballot slot mail.body) row.sent then Accepted row.who ballot slot command ∷ [] else []
 accepts_of group row _ = []
 
+-- ... of the mail that comes, if there is one
 abbrev pub accepts_got : Draw → Row Mail OrderLine → Option Mail → List (Step Command)
 accepts_got group row None = []
 accepts_got group row (Some mail) = accepts_of group row mail.body

@@ -18,24 +18,29 @@ use Rattle.sc_cmd.specs.declared.cores.Base.{Base}
 use Rattle.sc_scenario.specs.Groups.{lone_name, lone_group}
 use Rattle.sc_scenario.specs.declared.scenarios.SchedLine.TheVariants.{Go as GoLine, Settle}
 use Rattle.sc_scenario.specs.declared.scenarios.Scenario.{Scenario}
-use Rattle.sc_sound.specs.Logs.{Ahead}
+use Rattle.sc_players.specs.Players.{Ahead}
 
 -- four slots are open
 abbrev pub four : Ahead
 four = record { slots = 4; some = lit≤ tt }
 
+-- the first request: x at the key a
 abbrev pub put_it : Op
 put_it = Put (97 ∷ []) (120 ∷ [])
 
+-- the second: what is at a
 abbrev pub get_it : Op
 get_it = Get (97 ∷ [])
 
+-- the ballot of the one member
 abbrev pub ballot : Ballot
 ballot = record { round = 1; node = 1 }
 
+-- what a row sends, of one mail
 abbrev pub mail : ℕ → ℕ → MailBody → List Mail
 mail from to body = record { from = from; to = to; body = body } ∷ []
 
+-- a row of the journal
 abbrev pub row : ℕ → Event OrderLine → List Mail → Row Mail OrderLine
 row who event sent = record { who = who; event = event; sent = sent }
 

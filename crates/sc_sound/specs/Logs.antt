@@ -1,36 +1,16 @@
 -- The decided log of a group in a journal, and the group's state after it.
-use Rattle.std.specs.Prelude.{ℕ, ◌≤◌, List, [], ◌∷◌, fold}
-use Rattle.std.proofs.Common.{lit≤}
+use Rattle.std.specs.Prelude.{ℕ, List}
 use Rattle.sc_cmd.specs.declared.commands.Command.{Command}
 use Rattle.sc_cmd.specs.declared.cores.Base.{Base}
-use Rattle.sc_cmd.specs.declared.effects.Effect.{Effect}
 use Rattle.sc_cmd.specs.declared.orders.OrderLine.{OrderLine}
 use Rattle.sc_mail.specs.declared.bodies.Mail.{Mail}
 use Rattle.sc_actor.specs.declared.rows.Row.{Row}
+use Rattle.sc_machine_table.specs.Logs.{state_after}
 use Rattle.sc_machine_table.specs.Group.{Group, group_of}
-use Rattle.sc_machine_table.specs.Machine.{applied}
-use Rattle.sc_node_table.specs.Slots.{slots_ahead}
+use Rattle.sc_players.specs.Players.{Ahead}
 use Rattle.sc_paxos_law.specs.Chosen.{Rule, IsChosenAfter}
 use Rattle.sc_paxos_law.specs.Decided.{log_of}
 use Rattle.sc_sound.specs.Accepts.{accepts}
-
--- how many slots are open at a time: at least one
-pub record Ahead : Type 0 where
-  pub slots : ℕ
-  pub some : 1 ≤ slots
-
--- as many slots are open as nodes have
-abbrev pub as_nodes : Ahead
-as_nodes = record { slots = slots_ahead; some = lit≤ tt }
-
--- a group after some entries
-abbrev pub state_after : Group → List Command → Group
-state_after = fold (λ group command. (applied group command).0)
-
--- the effect of each entry
-abbrev pub effects_of : Group → List Command → List Effect
-effects_of group [] = []
-effects_of group (command ∷ commands) = (applied group command).1 ∷ effects_of (applied group command).0 commands
 
 -- the members of a slot are those in the state after the entries up to so many slots before it (Paxos Made Simple, section 3)
 abbrev pub rule_of : Ahead → Base → Rule Command

@@ -13,9 +13,8 @@ use Rattle.sc_ideal.specs.declared.Entry.{Entry}
 use Rattle.sc_paxos_words.specs.Among.{Among}
 use Rattle.sc_scenario.specs.declared.scenarios.Asks.{Asks}
 use Rattle.sc_scenario.specs.declared.scenarios.Scenario.{Scenario}
-use Rattle.sc_world.specs.World.{party_table, client_actor, client_seat}
-use Rattle.sc_world.specs.declared.party.Party.{Party}
-use Rattle.sc_world.specs.declared.party.Party.TheVariants.{Node, Client}
+use Rattle.sc_players.specs.Players.{player_table, client_seat, replies_of}
+use Rattle.sc_base.specs.Limits.{client_actor}
 
 -- an entry is a request of a client with its own operation; requests are numbered from 1
 pub record IsAsked (asks : Asks) (entry : Entry) : Type 0 where
@@ -27,6 +26,7 @@ pub record IsAsked (asks : Asks) (entry : Entry) : Type 0 where
 abbrev pub IsRequest : Scenario → Entry → Type 0
 IsRequest scenario entry = (asks : Asks) × Among asks scenario.clients × IsAsked asks entry
 
+-- whether a mail is the request of a client with a number
 abbrev pub asks_for : ℕ → ℕ → MailBody → Bool
 asks_for client seq (Request group who number op) = who == client && number == seq
 asks_for client seq _ = false
@@ -40,16 +40,13 @@ abbrev pub issued_from : ℕ → ℕ → ℕ → List (Row Mail OrderLine) → O
 issued_from client seq before [] = None
 issued_from client seq before (row ∷ rows) = if issues client seq row then Some (before + 1) else issued_from client seq (before + 1) rows
 
+-- the row of the journal in which a request is issued, if it is
 abbrev pub issue_row : ℕ → ℕ → List (Row Mail OrderLine) → Option ℕ
 issue_row client seq rows = issued_from client seq 0 rows
 
-abbrev pub replies_of : Party → List Reply
-replies_of (Node node) = []
-replies_of (Client client) = client.replies
-
 -- the replies that a client took, in order of its requests
 abbrev pub kept_replies : Route → Asks → List (Row Mail OrderLine) → List Reply
-kept_replies first asks rows = replies_of (value party_table (client_seat first asks) rows)
+kept_replies first asks rows = replies_of (value player_table (client_seat first asks) rows)
 
 -- the reply that a client kept of its request with a number, if it has one
 abbrev pub kept_reply : Route → Asks → ℕ → List (Row Mail OrderLine) → Option Reply
@@ -62,5 +59,6 @@ answered_from first asks seq before (row ∷ rows) =
     if nat_le seq (length (kept_replies first asks (before ++ row ∷ []))) then Some (length before + 1)
     else answered_from first asks seq (before ++ row ∷ []) rows
 
+-- the row of the journal in which a request is answered, if it is
 abbrev pub answer_row : Route → Asks → ℕ → List (Row Mail OrderLine) → Option ℕ
 answer_row first asks seq rows = answered_from first asks seq [] rows

@@ -1,4 +1,5 @@
-//! What a journal says: chosen commands, decided logs, its history, and where requests are issued and answered. Definitions, no logic.
+//! What a journal says: chosen commands, decided logs, its history, and where requests are issued
+//! and answered. Definitions, no logic.
 #![tactic(auto)]
 
 ghost use Rattle.std.specs.Prelude.{◌≡◌, [], ◌∷◌, Some, None};

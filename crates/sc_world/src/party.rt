@@ -1,37 +1,8 @@
-//! A node or a client.
-ghost use Rattle.std.specs.Prelude.{◌≡◌, IfOk};
-ghost use Rattle.sc_world.specs.World.{party_table};
-
-use sc_actor::{Actor, Input};
-use sc_base::{OutOfMemory, Sequence};
+//! A node or a client, as it runs.
 use sc_client::ClientCore;
-use sc_cmd::OrderLine;
-use sc_mail::Mail;
 use sc_node::NodeCore;
-use std::alloc::Global;
+use sc_players::Role;
 
-/// An actor of a scenario.
-#[derive(Drop)]
-pub enum Party {
-    Node(NodeCore),
-    Client(ClientCore),
-}
-
-impl Actor for Party {
-    type Mail = Mail;
-
-    type Order = OrderLine;
-
-    ghost table = { party_table };
-
-    fn step(
-        &mut self,
-        alloc: Global,
-        input: &Input<Mail, OrderLine>,
-    ) -> Result<Sequence<Mail>, OutOfMemory> {
-        match self {
-            Party::Node(node) => node.step(alloc, input),
-            Party::Client(client) => client.step(alloc, input),
-        }
-    }
-}
+/// An actor of a scenario, a node or a client. Contracts see it as the player that it is, and it
+/// keeps to that player's table.
+pub type Party = Role<NodeCore, ClientCore>;

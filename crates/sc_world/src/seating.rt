@@ -1,11 +1,12 @@
 //! The actors and the schedule of a scenario.
 ghost use Rattle.std.specs.Prelude.{◌≡◌, ◌≤◌, ◌↔◌, IsTrue, length, All, IfOk, OnOk, ◌++◌, map};
-ghost use Rattle.sc_node_table.specs.Slots.{slots_ahead, numbers};
-ghost use Rattle.sc_world.specs.World.{births, schedule, node_seat, client_seat, client_seats, route_of, line_of, AreFew};
+ghost use Rattle.sc_base.specs.Limits.{most_requests};
+ghost use Rattle.sc_node_table.specs.Slots.{numbers};
+ghost use Rattle.sc_players.specs.Players.{births, schedule, node_seat, client_seat, client_seats, route_of, line_of, AreFew, as_nodes};
 
 use crate::party::Party;
 use sc_actor::{Line, Seat};
-use sc_base::{Dup, OutOfMemory, Sequence};
+use sc_base::{Dup, MOST_CLIENTS, MOST_NODES, MOST_REQUESTS, OutOfMemory, Sequence};
 use sc_client::ClientCore;
 use sc_cmd::{Base, OrderLine, Route};
 use sc_mail::client_number;
@@ -13,11 +14,11 @@ use sc_node::NodeCore;
 use sc_scenario::{Asks, Scenario, SchedLine};
 use std::alloc::Global;
 
-/// The greatest number of an actor: nodes are 1 to 32, and client C, up to 64, is 32 + C.
-pub const MOST_ACTOR: u32 = 96;
+/// The greatest number of an actor: that of the last client.
+pub const MOST_ACTOR: u32 = MOST_NODES + MOST_CLIENTS;
 
 fn node_seat(alloc: Global, groups: &Sequence<Base>, me: u16) -> Result<Seat<Party>, OutOfMemory>
-    ensures { IfOk result (λ seat. seat ≡ node_seat slots_ahead groups.now me) }
+    ensures { IfOk result (λ seat. seat ≡ node_seat as_nodes groups.now me) }
 {
     let node = NodeCore::born(alloc, me, groups)?;
     Ok(Seat {
@@ -37,7 +38,7 @@ pub(crate) fn route_of(base: &Base) -> Route
 }
 
 fn client_seat(alloc: Global, first: &Route, asks: &Asks) -> Result<Seat<Party>, OutOfMemory>
-    requires { length asks.now.ops ≤ 1000 }
+    requires { length asks.now.ops ≤ most_requests }
     ensures { IfOk result (λ seat. seat ≡ client_seat first.now asks.now) }
 {
     let client = ClientCore::born(alloc, asks.client, asks.ops.dup(alloc)?, *first)?;
@@ -53,7 +54,8 @@ fn add_nodes(
     groups: &Sequence<Base>,
     nodes: u16,
 ) -> Result<(), OutOfMemory>
-    ensures { OnOk result (seats.new.items ≡ seats.old.items ++ map (node_seat slots_ahead groups.now) (numbers 1 nodes)) }
+    ensures { OnOk result (seats.new.items ≡
+        seats.old.items ++ map (node_seat as_nodes groups.now) (numbers 1 nodes)) }
 {
     for done in 0..nodes {
         seats.push(node_seat(alloc, groups, done + 1)?)?;
@@ -67,8 +69,9 @@ fn add_asking(
     first: &Route,
     clients: &[Asks],
 ) -> Result<(), OutOfMemory>
-    requires { All (λ asks. length asks.ops ≤ 1000) clients.now }
-    ensures { OnOk result (seats.new.items ≡ seats.old.items ++ map (client_seat first.now) clients.now) }
+    requires { All (λ asks. length asks.ops ≤ most_requests) clients.now }
+    ensures { OnOk result (seats.new.items ≡
+        seats.old.items ++ map (client_seat first.now) clients.now) }
 {
     for asks in clients {
         seats.push(client_seat(alloc, first, asks)?)?;
@@ -82,8 +85,9 @@ fn add_clients(
     groups: &[Base],
     clients: &[Asks],
 ) -> Result<(), OutOfMemory>
-    requires { All (λ asks. length asks.ops ≤ 1000) clients.now }
-    ensures { OnOk result (seats.new.items ≡ seats.old.items ++ client_seats groups.now clients.now) }
+    requires { All (λ asks. length asks.ops ≤ most_requests) clients.now }
+    ensures { OnOk result (seats.new.items ≡
+        seats.old.items ++ client_seats groups.now clients.now) }
 {
     match groups {
         [] => Ok(()),
@@ -94,7 +98,7 @@ fn add_clients(
 /// The nodes and then the clients of a scenario, as they are born.
 pub fn births(alloc: Global, scenario: &Scenario) -> Result<Vec<Seat<Party>>, OutOfMemory>
     requires { AreFew scenario.now }
-    ensures { IfOk result (λ seats. seats.items ≡ births scenario.now) }
+    ensures { IfOk result (λ seats. seats.items ≡ births as_nodes scenario.now) }
 {
     let mut seats = Vec::new(alloc);
     add_nodes(alloc, &mut seats, &scenario.groups, scenario.nodes)?;
@@ -142,7 +146,7 @@ pub fn schedule(alloc: Global, scenario: &Scenario) -> Result<Vec<Line<OrderLine
     Ok(lines)
 }
 
-/// Whether no client has more requests than it may, 1,000.
+/// Whether no client has more requests than it may.
 pub fn are_few(scenario: &Scenario) -> bool
     ensures { IsTrue result ↔ AreFew scenario.now }
 {
@@ -150,5 +154,5 @@ pub fn are_few(scenario: &Scenario) -> bool
         .clients
         .as_slice()
         .iter()
-        .all(|asks| asks.ops.len() <= 1000)
+        .all(|asks| asks.ops.len() <= MOST_REQUESTS)
 }

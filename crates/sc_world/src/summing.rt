@@ -2,7 +2,7 @@
 ghost use Rattle.std.specs.Prelude.{◌≡◌, ◌++◌, map, length, count_by, IfOk, OnOk, slice_get};
 ghost use Rattle.std.specs.List.{flat_map};
 ghost use Rattle.sc_actor.specs.Mail.{mails};
-ghost use Rattle.sc_world.specs.Summary.{asked_by, asked_from, asked_after, got_of, is_delivery};
+ghost use Rattle.sc_players.specs.Summary.{asked_by, asked_from, asked_after, got_of, is_delivery};
 
 use crate::party::Party;
 use sc_actor::{Event, Row, Seat};

@@ -29,9 +29,11 @@ part-take (y ∷ xs) (suc i) x n lt is =
     (length y + rest.0, take-append-add y (concat xs) rest.0 ∙ ap (λ t. y ++ t) rest.1 ∙ sym (append_assoc y (concat (take i xs)) (take n x)))
 
 module _ (old mid new : Option (List ℕ)) (pieces : List (List ℕ)) (i : ℕ) (piece : List ℕ) (lt : i < length pieces) (is : piece ≡ get_or pieces i piece) (so_far : Appends old mid (concat (take i pieces))) where
+  -- one piece more was put whole
   pub Appends-more : Appends mid new piece → Appends old new (concat (take (i + 1) pieces))
   Appends-more whole = rw (add-one, concat-take pieces i piece lt is) (Appends-trans old mid new (concat (take i pieces)) piece so_far whole)
 
+  -- of one piece more a part was put, and so of all of them
   pub AppendsPart-more : AppendsPart mid new piece → AppendsPart old new (concat pieces)
   AppendsPart-more part =
       let m = part-take pieces i piece part.0 lt is in

@@ -18,11 +18,9 @@ use Rattle.sc_drive.specs.declared.steps.Driven.TheVariants as driven
 use Rattle.sc_scenario.specs.Valid.{IsValid}
 use Rattle.sc_scenario.specs.declared.scenarios.Scenario.{Scenario}
 use Rattle.sc_report.specs.Report.{report_lines}
-use Rattle.sc_world.specs.World.{schedule, system_of, Lawful, parties}
-use Rattle.sc_sound.specs.Summary.{summary_of}
-use Rattle.sc_world.specs.declared.party.Party.{Party}
+use Rattle.sc_players.specs.Players.{schedule, system_of, Lawful, parties, Player, as_nodes}
+use Rattle.sc_replay.specs.Summary.{summary_of}
 use Rattle.sc_group_law.specs.Laws.{ValidHaveOneGroup, GroupJournalsAreSound}
-use Rattle.sc_sound.specs.Logs.{as_nodes}
 use Rattle.scatter.specs.Sound.{IsSoundThroughout}
 use Rattle.scatter.specs.declared.done.Text.{Text}
 use Rattle.scatter.specs.Played.{mail_weight, HasEnded as Ends, HasFilled}
@@ -34,17 +32,18 @@ Drove (driven.Ended cut quiet skips) = ⊤
 Drove driven.Full = ⊤
 Drove driven.OutOfMemory = ⊥
 
+-- a run that ended is no want of memory
 pub drove_on : (cut quiet : Bool) (skips : ℕ) → driven.Ended cut quiet skips ≢ driven.OutOfMemory
 drove_on cut quiet skips e = subst Drove e tt
 
 -- each first part of a lawful journal is sound
-sound_throughout : ValidHaveOneGroup → GroupJournalsAreSound → (scenario : Scenario) → IsValid scenario → (journal : List (Row Mail OrderLine)) → Lawful scenario journal → IsSoundThroughout scenario journal
+sound_throughout : ValidHaveOneGroup → GroupJournalsAreSound → (scenario : Scenario) → IsValid scenario → (journal : List (Row Mail OrderLine)) → Lawful as_nodes no_words scenario journal → IsSoundThroughout scenario journal
 sound_throughout one law scenario valid journal lawful =
     let group = one scenario valid in
     record {
       base = group.0;
       one_group = group.1.groups;
-      sound = λ rows more is. law as_nodes no_words scenario group.0 group.1 rows more (subst (Lawful scenario) is lawful);
+      sound = λ rows more is. law as_nodes no_words scenario group.0 group.1 rows more (subst (Lawful as_nodes no_words scenario) is lawful);
     }
 
 -- the actors of shells are those of their seats
@@ -53,29 +52,31 @@ actors_of [] = refl
 actors_of (s ∷ ss) = ap (λ rest. s.actor ∷ rest) (actors_of ss)
 
 module _ (one : ValidHaveOneGroup) (law : GroupJournalsAreSound) (scenario : Scenario) (valid : IsValid scenario) (lines : List (Line OrderLine)) (lines_are : lines ≡ schedule scenario) (limit : ℕ) (journal : List (Row Mail OrderLine)) where
-  pub ends : (cut quiet : Bool) (skips : ℕ) (left : List Party) →
-      IsLawful (system_of scenario) lines journal → IsWhole (system_of scenario) lines journal → journal_bytes mail_weight journal ≤ limit →
-      cut ≡ unsettled (system_of scenario) lines journal → quiet ≡ is_quiet (system_of scenario) journal → skips ≡ skipped (system_of scenario) lines journal →
-      left ≡ parties scenario journal → Ends scenario limit cut quiet skips journal left
+  -- a driver's end is a play's
+  pub ends : (cut quiet : Bool) (skips : ℕ) (left : List Player) →
+      IsLawful (system_of as_nodes no_words scenario) lines journal → IsWhole (system_of as_nodes no_words scenario) lines journal → journal_bytes mail_weight journal ≤ limit →
+      cut ≡ unsettled (system_of as_nodes no_words scenario) lines journal → quiet ≡ is_quiet (system_of as_nodes no_words scenario) journal → skips ≡ skipped (system_of as_nodes no_words scenario) lines journal →
+      left ≡ parties as_nodes scenario journal → Ends scenario limit cut quiet skips journal left
   ends cut quiet skips left lawful whole within cut_is quiet_is skips_are parties_are =
-      let allowed : Lawful scenario journal = subst (λ l. IsLawful (system_of scenario) l journal) lines_are lawful in
+      let allowed : Lawful as_nodes no_words scenario journal = subst (λ l. IsLawful (system_of as_nodes no_words scenario) l journal) lines_are lawful in
       record {
         lawful = allowed;
-        whole = subst (λ l. IsWhole (system_of scenario) l journal) lines_are whole;
+        whole = subst (λ l. IsWhole (system_of as_nodes no_words scenario) l journal) lines_are whole;
         sound = sound_throughout one law scenario valid journal allowed;
         within = within;
-        cut_is = cut_is ∙ ap (λ l. unsettled (system_of scenario) l journal) lines_are;
+        cut_is = cut_is ∙ ap (λ l. unsettled (system_of as_nodes no_words scenario) l journal) lines_are;
         quiet_is = quiet_is;
-        skips_are = skips_are ∙ ap (λ l. skipped (system_of scenario) l journal) lines_are;
+        skips_are = skips_are ∙ ap (λ l. skipped (system_of as_nodes no_words scenario) l journal) lines_are;
         parties_are = parties_are;
       }
 
-  pub fills : IsFull (system_of scenario) mail_weight lines limit journal → HasFilled scenario limit journal
+  -- a journal that a driver has filled is a play's
+  pub fills : IsFull (system_of as_nodes no_words scenario) mail_weight lines limit journal → HasFilled scenario limit journal
   fills h =
-      let full : IsFull (system_of scenario) mail_weight (schedule scenario) limit journal = subst (λ l. IsFull (system_of scenario) mail_weight l limit journal) lines_are h in
+      let full : IsFull (system_of as_nodes no_words scenario) mail_weight (schedule scenario) limit journal = subst (λ l. IsFull (system_of as_nodes no_words scenario) mail_weight l limit journal) lines_are h in
       record { full = full; sound = sound_throughout one law scenario valid journal full.lawful }
 
-plays : (scenario : Scenario) (cut quiet : Bool) (skips : ℕ) (journal : List (Row Mail OrderLine)) (parties : List Party) (text : Text) →
+plays : (scenario : Scenario) (cut quiet : Bool) (skips : ℕ) (journal : List (Row Mail OrderLine)) (parties : List Player) (text : Text) →
     Ends scenario journal_limit cut quiet skips journal parties → text.lines ≡ report_lines (summary_of scenario journal) → text.journal ≡ Some journal → text.parties ≡ parties → Plays scenario cut text
 plays scenario cut quiet skips journal parties text e lines journal_is parties_is = record {
   journal = journal;
@@ -83,7 +84,8 @@ plays scenario cut quiet skips journal parties text e lines journal_is parties_i
   cut_is = sym e.cut_is;
 }
 
-pub reports_as : (scenario : Scenario) (cut quiet : Bool) (skips : ℕ) (journal : List (Row Mail OrderLine)) (parties : List Party) (text : Text) →
+-- the text of a run that ended, by whether a line was cut off
+pub reports_as : (scenario : Scenario) (cut quiet : Bool) (skips : ℕ) (journal : List (Row Mail OrderLine)) (parties : List Player) (text : Text) →
     Ends scenario journal_limit cut quiet skips journal parties → text.lines ≡ report_lines (summary_of scenario journal) → text.journal ≡ Some journal → text.parties ≡ parties → ReportsAs (said_of cut) scenario text
 reports_as scenario true quiet skips journal parties text e lines journal_is parties_is = plays scenario true quiet skips journal parties text e lines journal_is parties_is
 reports_as scenario false quiet skips journal parties text e lines journal_is parties_is = plays scenario false quiet skips journal parties text e lines journal_is parties_is

@@ -10,23 +10,26 @@ use Rattle.sc_mail.specs.declared.bodies.Mail.{Mail}
 use Rattle.sc_actor.specs.declared.rows.Row.{Row}
 use Rattle.sc_actor.specs.Walk.{unsettled}
 use Rattle.sc_scenario.specs.Early.{scenario_of}
+use Rattle.sc_scenario.specs.Valid.{IsValid}
 use Rattle.sc_scenario.specs.Words.{same, nth}
 use Rattle.sc_actor.specs.Counted.{journal_bytes}
 use Rattle.sc_scenario.specs.declared.scenarios.Scenario.{Scenario}
 use Rattle.sc_report.specs.Report.{report_lines}
-use Rattle.sc_world.specs.World.{system_of, schedule, Lawful, Whole, parties}
-use Rattle.sc_sound.specs.Summary.{summary_of}
+use Rattle.sc_players.specs.Players.{system_of, schedule, Lawful, Whole, parties, as_nodes}
+use Rattle.sc_replay.specs.Summary.{summary_of}
 use Rattle.scatter.specs.Sound.{IsSoundThroughout}
 use Rattle.scatter.specs.Played.{mail_weight, HasFilled}
 use Rattle.scatter.specs.declared.done.Text.{Text}
 use Rattle.scatter.specs.declared.done.Done.{Done}
 use Rattle.scatter.specs.declared.done.Said.{Said}
 use Rattle.scatter.specs.declared.done.Said.TheVariants.{Ended, Unsettled, Filled, Usage, BadScenario, ReadFault}
+use Rattle.sc_actor.specs.System.{no_words}
 
 -- the grammar of the words: the one word `run`
 abbrev pub is_run : List (List ℕ) → Bool
 is_run words = (length words == 1) && same (nth words 0) (codes "run")
 
+-- the text for other words
 abbrev pub usage : List ℕ
 usage = codes "usage: scatter run | scatter make N S"
 
@@ -56,19 +59,19 @@ journal_limit = 2 ^ 30
 
 -- The text is the report of a scenario and a journal of it that is lawful, whole and within the limit, of which each first part tells one legal history, and the parties are the replays of their rows.
 pub record Reports (scenario : Scenario) (journal : List (Row Mail OrderLine)) (text : Text) : Type 0 where
-  pub lawful : Lawful scenario journal
-  pub whole : Whole scenario journal
+  pub lawful : Lawful as_nodes no_words scenario journal
+  pub whole : Whole as_nodes no_words scenario journal
   pub within : journal_bytes mail_weight journal ≤ journal_limit
   pub sound : IsSoundThroughout scenario journal
   pub lines : text.lines ≡ report_lines (summary_of scenario journal)
   pub journal_is : text.journal ≡ Some journal
-  pub parties_are : text.parties ≡ parties scenario journal
+  pub parties_are : text.parties ≡ parties as_nodes scenario journal
 
 -- The text is the report of some journal of the scenario, which is unsettled or not.
 pub record Plays (scenario : Scenario) (cut : Bool) (text : Text) : Type 0 where
   pub journal : List (Row Mail OrderLine)
   pub reports : Reports scenario journal text
-  pub cut_is : unsettled (system_of scenario) (schedule scenario) journal ≡ cut
+  pub cut_is : unsettled (system_of as_nodes no_words scenario) (schedule scenario) journal ≡ cut
 
 -- The text tells of some journal of the scenario that it is full: a row that may come next passes the limit.
 pub record Fills (scenario : Scenario) (text : Text) : Type 0 where
@@ -81,6 +84,7 @@ abbrev pub said_of : Bool → Said
 said_of true = Unsettled
 said_of false = Ended
 
+-- what a text that was begun says of a scenario
 abbrev pub ReportsAs : Said → Scenario → Text → Type 0
 ReportsAs Ended scenario text = Plays scenario false text
 ReportsAs Unsettled scenario text = Plays scenario true text
@@ -102,9 +106,10 @@ ReadsBytes bytes Usage text = ⊥
 ReadsBytes bytes BadScenario text = (scenario_of bytes ≡ None) × Tells (codes "line 0: bad scenario") text
 ReadsBytes bytes ReadFault text = ⊥
 
--- the same of the scenario that was read
+-- the same of the scenario that was read, which is valid whether or not the source told its bytes
 pub record ReadsAndPlays (left : Option (List ℕ)) (said : Said) (text : Text) : Type 0 where
   pub scenario : Scenario
+  pub valid : IsValid scenario
   pub read : ReadsAs left (Some scenario)
   pub reports : ReportsAs said scenario text
 

@@ -3,7 +3,7 @@ ghost use Rattle.std.specs.Prelude.{◌≡◌, ◌≤◌, ◌^◌, [], IfOk};
 ghost use Rattle.sc_exchange.specs.Ports.{joined};
 ghost use Rattle.sc_drive.specs.Companies.{AtBirth};
 ghost use Rattle.sc_scenario.specs.Valid.{IsValid};
-ghost use Rattle.sc_world.specs.World.{births};
+ghost use Rattle.sc_players.specs.Players.{births, as_nodes};
 
 use sc_base::OutOfMemory;
 use sc_cmd::OrderLine;
@@ -27,7 +27,8 @@ pub fn begin(
 ) -> Result<(Port<Mail, OrderLine>, Vec<Shell<Party>>), OutOfMemory>
     requires valid { IsValid scenario.now }
     requires limit { limit ≤ 2 ^ 30 }
-    ensures births { IfOk result (λ begun. AtBirth (births scenario.now) begun.0 begun.1.items) }
+    ensures births { IfOk result
+        (λ begun. AtBirth (births as_nodes scenario.now) begun.0 begun.1.items) }
     ensures unjoined { IfOk result (λ begun. joined begun.0 ≡ []) }
     ensures limit { IfOk result (λ begun. begun.0.limit ≡ limit) }
 {

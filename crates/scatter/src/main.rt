@@ -22,6 +22,8 @@ mod replay_tests;
 mod tests;
 #[cfg(test)]
 mod thread_tests;
+#[cfg(test)]
+mod tick_tests;
 
 /// The gate that holds nobody.
 struct Open;

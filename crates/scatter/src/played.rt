@@ -4,7 +4,7 @@ ghost use Rattle.sc_exchange.specs.Ports.{seen};
 ghost use Rattle.sc_drive.specs.Companies.{AtBirth};
 ghost use Rattle.sc_drive.specs.Goings.{IsKept};
 ghost use Rattle.sc_scenario.specs.Valid.{IsValid};
-ghost use Rattle.sc_world.specs.World.{births};
+ghost use Rattle.sc_players.specs.Players.{births, as_nodes};
 ghost use Rattle.scatter.specs.Played.{IsPlayed};
 
 use sc_actor::Gate;
@@ -24,7 +24,8 @@ use std::thread::Threads;
 /// How a scenario was played.
 #[derive(Clone, Copy, Debug, PartialEq, Eq)]
 pub enum Played {
-    /// To its end: whether a line ended with mail pending, whether none is pending now, and how many lines were skipped.
+    /// To its end: whether a line ended with mail pending, whether none is pending now, and how
+    /// many lines were skipped.
     Ended {
         unsettled: bool,
         quiet: bool,
@@ -49,9 +50,11 @@ pub fn play<G: Gate, R: Threads + Wait + Sync>(
     gate: &G,
 ) -> Played
     requires valid { IsValid scenario.now }
-    requires begins { AtBirth (births scenario.now) net.old shells.old.items }
-    ensures kept { result ≢ Played.OutOfMemory → IsKept net.old shells.old.items net.new shells.new.items }
-    ensures played { IsPlayed scenario.now net.old.limit (seen net.new) (map (λ s. s.actor) shells.new.items) result }
+    requires begins { AtBirth (births as_nodes scenario.now) net.old shells.old.items }
+    ensures kept { result ≢ Played.OutOfMemory →
+        IsKept net.old shells.old.items net.new shells.new.items }
+    ensures played { IsPlayed scenario.now net.old.limit (seen net.new)
+        (map (λ s. s.actor) shells.new.items) result }
 {
     valid_scenarios_can_play();
     valid_scenarios_have_one_group();

@@ -1,4 +1,5 @@
-//! Journals that were played, replayed whole and with one row changed, and what a replay says of them.
+//! Journals that were played, replayed whole and with one row changed, and what a replay says of
+//! them.
 ghost use Rattle.std.specs.Prelude.{◌≡◌, IfOk};
 ghost use Rattle.sc_scenario.specs.Valid.{IsValid};
 
@@ -25,27 +26,33 @@ const PUT_GET: &[u8] =
     b"scatter 1\nnodes 1\ngroup 0 1\nclient 1\nput a x\nget a\nend\ngo 1\nsettle 100\n";
 
 const PUT_GET_REPORT: &[u8] =
-    b"scatter report 1\nreply 1 1 put none\nreply 1 2 get value x\nring 0 group 0.1 members 1\nrows 9\nmail 8\ndelivered 8\nskipped 0\nquiet yes\n";
+    b"scatter report 1\nreply 1 1 put none\nreply 1 2 get value x\nring 0 group 0.1 members 1\n\
+        rows 9\nmail 8\ndelivered 8\nskipped 0\nquiet yes\n";
 
 const CRASHED: &[u8] =
-    b"scatter 1\nnodes 3\ngroup 0 1 2 3\nclient 1\nput a x\nend\ncrash 2\ncrash 3\ngo 1\nsettle 100\n";
+    b"scatter 1\nnodes 3\ngroup 0 1 2 3\nclient 1\nput a x\nend\ncrash 2\ncrash 3\ngo 1\n\
+        settle 100\n";
 
 const REPEATED: &[u8] =
-    b"scatter 1\nnodes 1\ngroup 0 1\nclient 1\nput a x\nend\ngo 1\ndeliver n1 1\nagain 2\nagain 2\nsettle 100\n";
+    b"scatter 1\nnodes 1\ngroup 0 1\nclient 1\nput a x\nend\ngo 1\ndeliver n1 1\nagain 2\n\
+        again 2\nsettle 100\n";
 
 const ELECTION: &[u8] =
-    b"scatter 1\nnodes 3\ngroup 0 1 2 3\nclient 1\nput a x\nend\ngo 1\ndeliver n1 1\ntick n2\ndeliver n3 2\ndeliver n2 2\nsettle 100\n";
+    b"scatter 1\nnodes 3\ngroup 0 1 2 3\nclient 1\nput a x\nend\ngo 1\ndeliver n1 1\ntick n2\n\
+        deliver n3 2\ndeliver n2 2\nsettle 100\n";
 
 const SKIPPED: &[u8] = b"scatter 1\nnodes 1\ngroup 0 1\ndeliver n1 3\n";
 
 const SKIPPED_REPORT: &[u8] =
-    b"scatter report 1\nring 0 group 0.1 members 1\nrows 0\nmail 0\ndelivered 0\nskipped 1\nquiet yes\n";
+    b"scatter report 1\nring 0 group 0.1 members 1\nrows 0\nmail 0\ndelivered 0\nskipped 1\n\
+        quiet yes\n";
 
 const CUT_SHORT: &[u8] =
     b"scatter 1\nnodes 1\ngroup 0 1\nclient 1\nput a x\nget a\nend\ngo 1\nsettle 1\n";
 
 const CUT_SHORT_REPORT: &[u8] =
-    b"scatter report 1\nunanswered 1 1 put\nunsent 1 2 get\nring 0 group 0.1 members 1\nrows 2\nmail 2\ndelivered 1\nskipped 0\nquiet no\n";
+    b"scatter report 1\nunanswered 1 1 put\nunsent 1 2 get\nring 0 group 0.1 members 1\nrows 2\n\
+        mail 2\ndelivered 1\nskipped 0\nquiet no\n";
 
 // What is changed of one row.
 #[derive(Clone, Copy)]
@@ -58,7 +65,8 @@ enum Change {
     Twice,
 }
 
-// A scenario, what is changed of which row of its journal, and the row that a replay must name (0: none).
+// A scenario, what is changed of which row of its journal, and the row that a replay must name (0:
+// none).
 #[derive(Drop)]
 struct Case {
     input: &'static [u8],

@@ -41,7 +41,8 @@ pub fn play_whole<G: Gate, R: Threads + Wait + Sync>(
 ) -> Result<Left, OutOfMemory>
     requires valid { IsValid scenario.now }
     requires limit { limit ≤ 2 ^ 30 }
-    ensures { IfOk result (λ left. IsPlayed scenario.now limit left.journal left.parties left.played) }
+    ensures { IfOk result
+        (λ left. IsPlayed scenario.now limit left.journal left.parties left.played) }
 {
     let (mut net, mut shells) = begin(alloc, scenario, limit)?;
     let played = play(rt, alloc, scenario, &mut net, &mut shells, gate);

@@ -59,7 +59,8 @@ fn work<S: Source, G: Gate, R: Threads + Wait + Sync>(
     input: &mut S,
     gate: &G,
 ) -> Result<(Said, Text), OutOfMemory>
-    ensures { IfOk result (λ begun. Reads (S.left input.old) (S.faults input.old) (S.faults input.new) begun.0 begun.1) }
+    ensures { IfOk result (λ begun. Reads (S.left input.old)
+        (S.faults input.old) (S.faults input.new) begun.0 begun.1) }
 {
     let bytes = match read_all(alloc, input, INPUT_LIMIT) {
         Ok(bytes) => bytes,
@@ -80,7 +81,8 @@ fn say<S: Source, G: Gate, R: Threads + Wait + Sync>(
     input: &mut S,
     gate: &G,
 ) -> Result<(Said, Text), OutOfMemory>
-    ensures says { IfOk result (λ begun. Says (map string_bytes words.now) (S.left input.old) (S.faults input.old) (S.faults input.new) begun.0 begun.1) }
+    ensures says { IfOk result (λ begun. Says (map string_bytes words.now) (S.left input.old)
+        (S.faults input.old) (S.faults input.new) begun.0 begun.1) }
     ensures unread { is_run (map string_bytes words.now) ≡ false → input.new ≡ input.old }
 {
     if !is_run(words) {
@@ -103,7 +105,8 @@ pub fn run<S: Source, K: Sink, G: Gate, R: Threads + Wait + Sync>(
     output: &mut K,
     gate: &G,
 ) -> Done
-    ensures runs { Runs (map string_bytes words.now.items) (S.left input.old) (S.faults input.old) (S.faults input.new)
+    ensures runs { Runs (map string_bytes words.now.items)
+        (S.left input.old) (S.faults input.old) (S.faults input.new)
         (K.held output.old) (K.held output.new) (K.faults output.old) (K.faults output.new) result }
     ensures unread { is_run (map string_bytes words.now.items) ≡ false → input.new ≡ input.old }
 {

@@ -28,11 +28,29 @@ struct Case {
     output: &'static [u8],
 }
 
+const fn make_case(
+    word: &'static str,
+    input: &'static [u8],
+    fails: (u64, u64),
+    expected: (u8, bool, &'static [u8]),
+) -> Case {
+    Case {
+        word,
+        input,
+        source_fails: fails.0,
+        sink_fails: fails.1,
+        status: expected.0,
+        journal: expected.1,
+        output: expected.2,
+    }
+}
+
 const FIRST: &[u8] =
     b"scatter 1\nnodes 1\ngroup 0 1\nclient 1\nput a x\nget a\nend\ngo 1\nsettle 100\n";
 
 const FIRST_REPORT: &[u8] =
-    b"scatter report 1\nreply 1 1 put none\nreply 1 2 get value x\nring 0 group 0.1 members 1\nrows 9\nmail 8\ndelivered 8\nskipped 0\nquiet yes\n";
+    b"scatter report 1\nreply 1 1 put none\nreply 1 2 get value x\nring 0 group 0.1 members 1\n\
+        rows 9\nmail 8\ndelivered 8\nskipped 0\nquiet yes\n";
 
 const FULL_AFTER_TWO: &[u8] = b"journal full after 2 rows\n";
 
@@ -42,7 +60,8 @@ const CUT_SHORT: &[u8] =
     b"scatter 1\nnodes 1\ngroup 0 1\nclient 1\nput a x\nget a\nend\ngo 1\nsettle 1\n";
 
 const CUT_SHORT_REPORT: &[u8] =
-    b"scatter report 1\nunanswered 1 1 put\nunsent 1 2 get\nring 0 group 0.1 members 1\nrows 2\nmail 2\ndelivered 1\nskipped 0\nquiet no\n";
+    b"scatter report 1\nunanswered 1 1 put\nunsent 1 2 get\nring 0 group 0.1 members 1\nrows 2\n\
+        mail 2\ndelivered 1\nskipped 0\nquiet no\n";
 
 pub fn words_of(alloc: Global, word: &str) -> Result<Vec<String>, Fail> {
     let mut words = Vec::new(alloc);
@@ -66,60 +85,12 @@ fn check<R: Abort + Threads + Wait + Sync>(rt: &R, alloc: Global, case: &Case) -
 #[test]
 fn each_status_comes_with_its_text(rt: HostRuntime) -> Result<(), Fail> {
     let cases = [
-        Case {
-            word: "run",
-            input: FIRST,
-            source_fails: 0,
-            sink_fails: 0,
-            status: 0,
-            journal: true,
-            output: FIRST_REPORT,
-        },
-        Case {
-            word: "run",
-            input: CUT_SHORT,
-            source_fails: 0,
-            sink_fails: 0,
-            status: 6,
-            journal: true,
-            output: CUT_SHORT_REPORT,
-        },
-        Case {
-            word: "run",
-            input: FIRST,
-            source_fails: 0,
-            sink_fails: 2,
-            status: 5,
-            journal: true,
-            output: b"scatter report 1\n",
-        },
-        Case {
-            word: "run",
-            input: FIRST,
-            source_fails: 1,
-            sink_fails: 0,
-            status: 4,
-            journal: false,
-            output: b"read fault\n",
-        },
-        Case {
-            word: "make 0 7",
-            input: FIRST,
-            source_fails: 0,
-            sink_fails: 0,
-            status: 2,
-            journal: false,
-            output: USAGE,
-        },
-        Case {
-            word: "run",
-            input: b"",
-            source_fails: 0,
-            sink_fails: 0,
-            status: 3,
-            journal: false,
-            output: b"line 0: bad scenario\n",
-        },
+        make_case("run", FIRST, (0, 0), (0, true, FIRST_REPORT)),
+        make_case("run", CUT_SHORT, (0, 0), (6, true, CUT_SHORT_REPORT)),
+        make_case("run", FIRST, (0, 2), (5, true, b"scatter report 1\n")),
+        make_case("run", FIRST, (1, 0), (4, false, b"read fault\n")),
+        make_case("make 0 7", FIRST, (0, 0), (2, false, USAGE)),
+        make_case("run", b"", (0, 0), (3, false, b"line 0: bad scenario\n")),
     ];
     for case in &cases {
         check(&rt, rt.alloc(), case)?;
@@ -254,7 +225,8 @@ fn history<R: Threads + Wait + Sync>(
 }
 
 const FOUR: &[u8] =
-    b"scatter 1\nnodes 1\ngroup 0 1\nclient 1\nput a x\nput a y\nget b\nget a\nend\ngo 1\nsettle 100\n";
+    b"scatter 1\nnodes 1\ngroup 0 1\nclient 1\nput a x\nput a y\nget b\nget a\nend\ngo 1\n\
+        settle 100\n";
 
 fn check_history<R: Abort + Threads + Wait + Sync>(
     rt: &R,
@@ -297,62 +269,85 @@ const ONE_CRASHED: &[u8] =
     b"scatter 1\nnodes 3\ngroup 0 1 2 3\nclient 1\nput a x\nend\ncrash 3\ngo 1\nsettle 100\n";
 
 const ONE_CRASHED_REPORT: &[u8] =
-    b"scatter report 1\nreply 1 1 put none\nring 0 group 0.1 members 1 2 3\nrows 9\nmail 9\ndelivered 7\nskipped 0\nquiet yes\n";
+    b"scatter report 1\nreply 1 1 put none\nring 0 group 0.1 members 1 2 3\nrows 9\nmail 9\n\
+        delivered 7\nskipped 0\nquiet yes\n";
 
 const MAJORITY_CRASHED: &[u8] =
-    b"scatter 1\nnodes 3\ngroup 0 1 2 3\nclient 1\nput a x\nend\ncrash 2\ncrash 3\ngo 1\nsettle 100\n";
+    b"scatter 1\nnodes 3\ngroup 0 1 2 3\nclient 1\nput a x\nend\ncrash 2\ncrash 3\ngo 1\n\
+        settle 100\n";
 
 const MAJORITY_CRASHED_REPORT: &[u8] =
-    b"scatter report 1\nunanswered 1 1 put\nring 0 group 0.1 members 1 2 3\nrows 6\nmail 5\ndelivered 3\nskipped 0\nquiet yes\n";
+    b"scatter report 1\nunanswered 1 1 put\nring 0 group 0.1 members 1 2 3\nrows 6\nmail 5\n\
+        delivered 3\nskipped 0\nquiet yes\n";
 
 const ACCEPT_THRICE: &[u8] =
-    b"scatter 1\nnodes 1\ngroup 0 1\nclient 1\nput a x\nend\ngo 1\ndeliver n1 1\nagain 2\nagain 2\nsettle 100\n";
+    b"scatter 1\nnodes 1\ngroup 0 1\nclient 1\nput a x\nend\ngo 1\ndeliver n1 1\nagain 2\n\
+        again 2\nsettle 100\n";
 
 const ACCEPT_THRICE_REPORT: &[u8] =
-    b"scatter report 1\nreply 1 1 put none\nring 0 group 0.1 members 1\nrows 11\nmail 6\ndelivered 8\nskipped 0\nquiet yes\n";
+    b"scatter report 1\nreply 1 1 put none\nring 0 group 0.1 members 1\nrows 11\nmail 6\n\
+        delivered 8\nskipped 0\nquiet yes\n";
 
 const TWO_LEADERS: &[u8] =
-    b"scatter 1\nnodes 3\ngroup 0 1 2 3\nclient 1\nput a x\nend\ngo 1\ndeliver n1 1\ntick n2\ndeliver n3 2\ndeliver n2 2\nsettle 100\n";
+    b"scatter 1\nnodes 3\ngroup 0 1 2 3\nclient 1\nput a x\nend\ngo 1\ndeliver n1 1\ntick n2\n\
+        deliver n3 2\ndeliver n2 2\nsettle 100\n";
 
 const TWO_LEADERS_REPORT: &[u8] =
-    b"scatter report 1\nreply 1 1 put none\nring 0 group 0.1 members 1 2 3\nrows 35\nmail 33\ndelivered 33\nskipped 0\nquiet yes\n";
+    b"scatter report 1\nreply 1 1 put none\nring 0 group 0.1 members 1 2 3\nrows 35\nmail 33\n\
+        delivered 33\nskipped 0\nquiet yes\n";
 
 const SKIPPED_DELIVERY: &[u8] = b"scatter 1\nnodes 1\ngroup 0 1\ndeliver n1 3\n";
 
 const SKIPPED_DELIVERY_REPORT: &[u8] =
-    b"scatter report 1\nring 0 group 0.1 members 1\nrows 0\nmail 0\ndelivered 0\nskipped 1\nquiet yes\n";
+    b"scatter report 1\nring 0 group 0.1 members 1\nrows 0\nmail 0\ndelivered 0\nskipped 1\n\
+        quiet yes\n";
 
 const PUT_PUT_DEL_GET: &[u8] =
-    b"scatter 1\nnodes 1\ngroup 0 1\nclient 1\nput a x\nput a y\ndel a\nget a\nend\ngo 1\nsettle 100\n";
+    b"scatter 1\nnodes 1\ngroup 0 1\nclient 1\nput a x\nput a y\ndel a\nget a\nend\ngo 1\n\
+        settle 100\n";
 
 const PUT_PUT_DEL_GET_REPORT: &[u8] =
-    b"scatter report 1\nreply 1 1 put none\nreply 1 2 put value x\nreply 1 3 del value y\nreply 1 4 get none\nring 0 group 0.1 members 1\nrows 17\nmail 16\ndelivered 16\nskipped 0\nquiet yes\n";
+    b"scatter report 1\nreply 1 1 put none\nreply 1 2 put value x\nreply 1 3 del value y\n\
+        reply 1 4 get none\nring 0 group 0.1 members 1\nrows 17\nmail 16\ndelivered 16\n\
+        skipped 0\nquiet yes\n";
 
 const FOUR_UNANSWERED: &[u8] =
-    b"scatter 1\nnodes 1\ngroup 0 1\nclient 1\nput a x\nend\nclient 2\nput b y\nend\ngo 1\ngo 2\nsettle 2\n";
+    b"scatter 1\nnodes 1\ngroup 0 1\nclient 1\nput a x\nend\nclient 2\nput b y\nend\ngo 1\ngo 2\n\
+        settle 2\n";
 
 const FOUR_UNANSWERED_REPORT: &[u8] =
-    b"scatter report 1\nunanswered 1 1 put\nunanswered 2 1 put\nring 0 group 0.1 members 1\nrows 4\nmail 4\ndelivered 2\nskipped 0\nquiet no\n";
+    b"scatter report 1\nunanswered 1 1 put\nunanswered 2 1 put\nring 0 group 0.1 members 1\n\
+        rows 4\nmail 4\ndelivered 2\nskipped 0\nquiet no\n";
 
-// Five requests come to a leader and nothing else: four are offered at the four open slots, and the fifth waits.
+// Five requests come to a leader and nothing else: four are offered at the four open slots, and the
+// fifth waits.
 const FIFTH_WAITS: &[u8] =
-    b"scatter 1\nnodes 1\ngroup 0 1\nclient 1\nput a x\nend\nclient 2\nput b x\nend\nclient 3\nput c x\nend\nclient 4\nput d x\nend\nclient 5\nput e x\nend\ngo 1\ngo 2\ngo 3\ngo 4\ngo 5\ndeliver n1 1\ndeliver n1 1\ndeliver n1 1\ndeliver n1 1\ndeliver n1 1\n";
+    b"scatter 1\nnodes 1\ngroup 0 1\nclient 1\nput a x\nend\nclient 2\nput b x\nend\nclient 3\n\
+        put c x\nend\nclient 4\nput d x\nend\nclient 5\nput e x\nend\ngo 1\ngo 2\ngo 3\ngo 4\n\
+        go 5\ndeliver n1 1\ndeliver n1 1\ndeliver n1 1\ndeliver n1 1\ndeliver n1 1\n";
 
 const FIFTH_WAITS_REPORT: &[u8] =
-    b"scatter report 1\nunanswered 1 1 put\nunanswered 2 1 put\nunanswered 3 1 put\nunanswered 4 1 put\nunanswered 5 1 put\nring 0 group 0.1 members 1\nrows 10\nmail 9\ndelivered 5\nskipped 0\nquiet no\n";
+    b"scatter report 1\nunanswered 1 1 put\nunanswered 2 1 put\nunanswered 3 1 put\n\
+        unanswered 4 1 put\nunanswered 5 1 put\nring 0 group 0.1 members 1\nrows 10\nmail 9\n\
+        delivered 5\nskipped 0\nquiet no\n";
 
 // A node joins, the leader leaves, and the other serves a request.
 const LEADER_LEAVES: &[u8] =
-    b"scatter 1\nnodes 2\ngroup 0 1\nclient 1\nput a x\nend\norder 1 join 2 0.1\nsettle 100\norder 1 leave 1 0.1\nsettle 100\ngo 1\nsettle 100\n";
+    b"scatter 1\nnodes 2\ngroup 0 1\nclient 1\nput a x\nend\norder 1 join 2 0.1\nsettle 100\n\
+        order 1 leave 1 0.1\nsettle 100\ngo 1\nsettle 100\n";
 
 const LEADER_LEAVES_REPORT: &[u8] =
-    b"scatter report 1\nreply 1 1 put none\norder 1 done\norder 2 done\nring 0 group 0.1 members 2\nrows 19\nmail 19\ndelivered 16\nskipped 0\nquiet yes\n";
+    b"scatter report 1\nreply 1 1 put none\norder 1 done\norder 2 done\n\
+        ring 0 group 0.1 members 2\nrows 19\nmail 19\ndelivered 16\nskipped 0\nquiet yes\n";
 
 const JOIN_LEAVE_REFUSALS: &[u8] =
-    b"scatter 1\nnodes 2\ngroup 0 1\norder 2 join 2 0.1\norder 1 join 1 0.1\norder 1 leave 2 0.1\norder 1 leave 1 0.1\n";
+    b"scatter 1\nnodes 2\ngroup 0 1\norder 2 join 2 0.1\norder 1 join 1 0.1\n\
+        order 1 leave 2 0.1\norder 1 leave 1 0.1\n";
 
 const JOIN_LEAVE_REFUSALS_REPORT: &[u8] =
-    b"scatter report 1\norder 1 refused 1 not-leader\norder 2 refused 9 is-member\norder 3 refused 6 not-member\norder 4 refused 7 last-member\nring 0 group 0.1 members 1\nrows 4\nmail 4\ndelivered 0\nskipped 0\nquiet yes\n";
+    b"scatter report 1\norder 1 refused 1 not-leader\norder 2 refused 9 is-member\n\
+        order 3 refused 6 not-member\norder 4 refused 7 last-member\nring 0 group 0.1 members 1\n\
+        rows 4\nmail 4\ndelivered 0\nskipped 0\nquiet yes\n";
 
 fn check_row<R: Abort + Threads + Wait + Sync>(
     rt: &R,

@@ -36,19 +36,23 @@ const ONE_NODE_REPLIES: &[u8] =
     b"scatter report 1\nreply 1 1 put none\nreply 1 2 get value x\nring ";
 
 const THREE_NODES: &[u8] =
-    b"scatter 1\nnodes 3\ngroup 0 1 2 3\nclient 1\nput a x\nend\nclient 2\nput b y\nget b\nend\ngo 1\ngo 2\n";
+    b"scatter 1\nnodes 3\ngroup 0 1 2 3\nclient 1\nput a x\nend\nclient 2\nput b y\nget b\nend\n\
+        go 1\ngo 2\n";
 
 const THREE_NODES_REPLIES: &[u8] =
     b"scatter report 1\nreply 1 1 put none\nreply 2 1 put none\nreply 2 2 get value y\nring ";
 
 const FIVE_NODES: &[u8] =
-    b"scatter 1\nnodes 5\ngroup 0 1 2 3 4 5\nclient 1\nput a x\ndel a\nget a\nend\nclient 2\nput b y\nput b z\nend\ngo 1\ngo 2\n";
+    b"scatter 1\nnodes 5\ngroup 0 1 2 3 4 5\nclient 1\nput a x\ndel a\nget a\nend\nclient 2\n\
+        put b y\nput b z\nend\ngo 1\ngo 2\n";
 
 const FIVE_NODES_REPLIES: &[u8] =
-    b"scatter report 1\nreply 1 1 put none\nreply 1 2 del value x\nreply 1 3 get none\nreply 2 1 put none\nreply 2 2 put value y\nring ";
+    b"scatter report 1\nreply 1 1 put none\nreply 1 2 del value x\nreply 1 3 get none\n\
+        reply 2 1 put none\nreply 2 2 put value y\nring ";
 
 const ONE_CRASHED: &[u8] =
-    b"scatter 1\nnodes 3\ngroup 0 1 2 3\nclient 1\nput a x\nend\nclient 2\nget b\nend\ncrash 3\ngo 1\ngo 2\n";
+    b"scatter 1\nnodes 3\ngroup 0 1 2 3\nclient 1\nput a x\nend\nclient 2\nget b\nend\ncrash 3\n\
+        go 1\ngo 2\n";
 
 const ONE_CRASHED_REPLIES: &[u8] =
     b"scatter report 1\nreply 1 1 put none\nreply 2 1 get none\nring ";
@@ -60,7 +64,8 @@ const TWO_LINES_REPLIES: &[u8] =
     b"scatter report 1\nreply 1 1 put none\nreply 2 1 get value x\nring ";
 
 const JOINED: &[u8] =
-    b"scatter 1\nnodes 2\ngroup 0 1\nclient 1\nput a x\nend\norder 1 join 2 0.1\nsettle 100\ngo 1\n";
+    b"scatter 1\nnodes 2\ngroup 0 1\nclient 1\nput a x\nend\norder 1 join 2 0.1\nsettle 100\n\
+        go 1\n";
 
 const JOINED_REPLIES: &[u8] = b"scatter report 1\nreply 1 1 put none\norder 1 done\nring ";
 
@@ -74,10 +79,17 @@ const ELECTED: &[u8] =
     b"scatter 1\nnodes 3\ngroup 0 1 2 3\nclient 1\nput a x\nend\ntick n2\nsettle 100\ngo 1\n";
 
 const EIGHT_CLIENTS: &[u8] =
-    b"scatter 1\nnodes 3\ngroup 0 1 2 3\nclient 1\nput a x\nget a\nend\nclient 2\nput b x\nget b\nend\nclient 3\nput c x\nget c\nend\nclient 4\nput d x\nget d\nend\nclient 5\nput e x\nget e\nend\nclient 6\nput f x\nget f\nend\nclient 7\nput g x\nget g\nend\nclient 8\nput h x\nget h\nend\ngo 1\ngo 2\ngo 3\ngo 4\ngo 5\ngo 6\ngo 7\ngo 8\n";
+    b"scatter 1\nnodes 3\ngroup 0 1 2 3\nclient 1\nput a x\nget a\nend\nclient 2\nput b x\n\
+        get b\nend\nclient 3\nput c x\nget c\nend\nclient 4\nput d x\nget d\nend\nclient 5\n\
+        put e x\nget e\nend\nclient 6\nput f x\nget f\nend\nclient 7\nput g x\nget g\nend\n\
+        client 8\nput h x\nget h\nend\ngo 1\ngo 2\ngo 3\ngo 4\ngo 5\ngo 6\ngo 7\ngo 8\n";
 
 const EIGHT_REPLIES: &[u8] =
-    b"scatter report 1\nreply 1 1 put none\nreply 1 2 get value x\nreply 2 1 put none\nreply 2 2 get value x\nreply 3 1 put none\nreply 3 2 get value x\nreply 4 1 put none\nreply 4 2 get value x\nreply 5 1 put none\nreply 5 2 get value x\nreply 6 1 put none\nreply 6 2 get value x\nreply 7 1 put none\nreply 7 2 get value x\nreply 8 1 put none\nreply 8 2 get value x\nring ";
+    b"scatter report 1\nreply 1 1 put none\nreply 1 2 get value x\nreply 2 1 put none\n\
+        reply 2 2 get value x\nreply 3 1 put none\nreply 3 2 get value x\nreply 4 1 put none\n\
+        reply 4 2 get value x\nreply 5 1 put none\nreply 5 2 get value x\nreply 6 1 put none\n\
+        reply 6 2 get value x\nreply 7 1 put none\nreply 7 2 get value x\nreply 8 1 put none\n\
+        reply 8 2 get value x\nring ";
 
 // The text with a line of deliveries by so many workers.
 fn input_of(alloc: Global, case: &Case, workers: &[u8]) -> Result<Vec<u8>, Fail> {
@@ -143,7 +155,8 @@ fn replies_do_not_depend_on_the_number_of_workers(rt: HostRuntime) -> Result<(),
     Ok(())
 }
 
-// Holds node 1 and node 2, each in its first pass of the line of deliveries until the other has come to its own, for so many turns of waiting.
+// Holds node 1 and node 2, each in its first pass of the line of deliveries until the other has
+// come to its own, for so many turns of waiting.
 #[derive(Drop)]
 struct Pair {
     turns: u32,
@@ -185,9 +198,11 @@ const GATE_AT_ONE: &[u8] =
     b"scatter 1\nnodes 2\ngroup 0 1 2\nclient 1\nput a x\nend\ngo 1\ndeliver n1 1\nfree 100 1\n";
 
 const GATE_REPORT: &[u8] =
-    b"scatter report 1\nreply 1 1 put none\nring 0 group 0.1 members 1 2\nrows 8\nmail 7\ndelivered 7\nskipped 0\nquiet yes\n";
+    b"scatter report 1\nreply 1 1 put none\nring 0 group 0.1 members 1 2\nrows 8\nmail 7\n\
+        delivered 7\nskipped 0\nquiet yes\n";
 
-// How many waits ended late in a run with that report, or 9 where there was another report or one of the two did not come.
+// How many waits ended late in a run with that report, or 9 where there was another report or one
+// of the two did not come.
 fn lateness<R: Threads + Wait + Sync>(
     rt: &R,
     alloc: Global,

@@ -3,7 +3,7 @@ use Rattle.std.proofs.lemmas.List.{length-append}
 use Rattle.sc_cmd.specs.declared.commands.Command.{Command}
 use Rattle.sc_cmd.specs.declared.cores.Core.{Core}
 use Rattle.sc_paxos_law.specs.Chosen.{Rule, members_of}
-use Rattle.sc_paxos_law.specs.Decided.{chosen_at, longer, top_slot}
+use Rattle.sc_paxos_law.specs.Decided.{chosen_at, longer}
 use Rattle.sc_machine_table.specs.Group.{Group, group_of}
 use Rattle.sc_sound.specs.Logs.{rule_of}
 use Rattle.sc_replay.specs.Acceptances.{steps_of}

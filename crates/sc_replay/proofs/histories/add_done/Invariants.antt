@@ -1,6 +1,6 @@
 use Rattle.std.proofs.Common.{◌≡◌, ◌++◌, drop}
 use Rattle.sc_machine_table.specs.Group.{group_of}
-use Rattle.sc_sound.specs.Histories.{done_by}
+use Rattle.sc_machine_table.specs.Logs.{done_by}
 use Rattle.sc_replay.proofs.histories.add_done.Given as goal
 
 -- what was added, and then what is left, are the entries

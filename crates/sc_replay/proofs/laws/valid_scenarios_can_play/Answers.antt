@@ -1,5 +1,5 @@
 use Rattle.std.proofs.Common.{refl}
-use Rattle.sc_world.specs.World.{schedule}
+use Rattle.sc_players.specs.Players.{schedule}
 use Rattle.sc_replay.proofs.Births.{all_apart, all_numbered}
 use Rattle.sc_replay.proofs.Lines.{built, few}
 use Rattle.sc_replay.proofs.laws.valid_scenarios_can_play.Goals as goal

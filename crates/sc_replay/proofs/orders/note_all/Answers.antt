@@ -1,11 +1,10 @@
-use Rattle.std.proofs.Common.{◌≡◌, ℕ, ◌+◌, ◌∷◌, ◌++◌, [], List, take, None, suc, sym, ap, ◌∙◌, arith}
+use Rattle.std.proofs.Common.{◌≡◌, ℕ, ◌+◌, ◌∷◌, ◌++◌, [], take, None, suc, sym, ap, ◌∙◌, arith, Option, get_or}
 use Rattle.std.proofs.Math.Seq.{take-suc}
 use Rattle.sc_mail.specs.declared.bodies.Mail.{Mail}
 use Rattle.sc_cmd.specs.declared.orders.ToldResult.{ToldResult}
-use Rattle.std.proofs.Common.{Option, get_or}
 use Rattle.sc_node_table.specs.Replica.{either}
-use Rattle.sc_sound.specs.Summary.{told_in, told_of}
-use Rattle.sc_replay.proofs.OrderWords.{told-last, first_then, first_alone}
+use Rattle.sc_replay.specs.Summary.{told_in, told_of}
+use Rattle.sc_replay.proofs.OrderWords.{told-last, first_then}
 use Rattle.sc_replay.proofs.orders.note_all.Goals as goal
 
 pub loop-mail-preserved : goal.loop-mail-preserved

@@ -8,7 +8,7 @@ use Rattle.sc_mail.specs.declared.bodies.Mail.{Mail}
 use Rattle.sc_actor.specs.declared.rows.Row.{Row}
 use Rattle.sc_actor.specs.Mail.{mails}
 use Rattle.sc_node_table.specs.Replica.{either}
-use Rattle.sc_sound.specs.Summary.{told_of}
+use Rattle.sc_replay.specs.Summary.{told_of}
 use Rattle.sc_replay.proofs.OrderWords.{told-append, first_then}
 use Rattle.sc_replay.proofs.orders.note_rows.Goals as goal
 

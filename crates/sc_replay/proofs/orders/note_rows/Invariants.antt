@@ -1,7 +1,7 @@
 use Rattle.std.proofs.Common.{◌≡◌, ℕ, ◌+◌, ◌<◌, length, get_or, take, None}
 use Rattle.sc_actor.specs.Mail.{mails}
 use Rattle.sc_node_table.specs.Replica.{either}
-use Rattle.sc_sound.specs.Summary.{told_of}
+use Rattle.sc_replay.specs.Summary.{told_of}
 use Rattle.sc_replay.proofs.orders.note_rows.Given as goal
 
 -- what the rows so far tell

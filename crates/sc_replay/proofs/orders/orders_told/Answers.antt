@@ -5,7 +5,7 @@ use Rattle.sc_cmd.specs.declared.orders.ToldResult.{ToldResult}
 use Rattle.sc_actor.specs.Mail.{mails}
 use Rattle.sc_node_table.specs.Slots.{numbers}
 use Rattle.sc_node_table.specs.Replica.{either}
-use Rattle.sc_sound.specs.Summary.{told_of}
+use Rattle.sc_replay.specs.Summary.{told_of}
 use Rattle.sc_replay.proofs.OrderWords.{length-numbered, get_or-numbered}
 use Rattle.sc_replay.proofs.orders.orders_told.Goals as goal
 

@@ -1,5 +1,5 @@
 use Rattle.std.proofs.Common.{◌<◌, ◌≤◌, ◌-◌, length, take}
-use Rattle.sc_world.specs.World.{Lawful}
+use Rattle.sc_players.specs.Players.{Lawful}
 use Rattle.sc_replay.proofs.replaying.bad_row.Given as goal
 
 -- the lower front is lawful, and the higher one is not

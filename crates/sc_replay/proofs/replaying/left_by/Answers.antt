@@ -1,10 +1,7 @@
 use Rattle.std.proofs.Common.{◌≡◌, true, ◌∙◌, ap, sym, subst}
 use Rattle.std.specs.List.{All}
-use Rattle.sc_actor.specs.System.{system, no_words}
 use Rattle.sc_actor.specs.Walk.{has_one_task}
-use Rattle.sc_checker.specs.Replays.{IsReplayed}
 use Rattle.sc_actor.specs.System.{are_apart}
-use Rattle.sc_world.specs.World.{party_table, receiver_of, system_of}
 use Rattle.sc_replay.proofs.replaying.left_by.Goals as goal
 
 pub births-requires : goal.births-requires

@@ -1,6 +1,6 @@
 use Rattle.std.proofs.Common.{subst}
 use Rattle.sc_checker.specs.Replays.{IsReplayed, Leaves}
-use Rattle.sc_world.specs.World.{system_of, schedule}
+use Rattle.sc_players.specs.Players.{system_of, schedule}
 use Rattle.sc_replay.proofs.Held.{holds}
 use Rattle.sc_replay.proofs.replaying.world_of.Goals as goal
 

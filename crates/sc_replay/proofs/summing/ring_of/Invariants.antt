@@ -1,5 +1,5 @@
 use Rattle.std.proofs.Common.{◌≡◌, map, take}
-use Rattle.sc_sound.specs.Summary.{decided_cut}
+use Rattle.sc_replay.specs.Summary.{decided_cut}
 use Rattle.sc_replay.proofs.summing.ring_of.Given as goal
 
 -- the cuts of the groups so far

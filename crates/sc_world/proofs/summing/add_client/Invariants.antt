@@ -1,5 +1,5 @@
 use Rattle.std.proofs.Common.{◌≡◌, ◌++◌, drop}
-use Rattle.sc_world.specs.Summary.{asked_from}
+use Rattle.sc_players.specs.Summary.{asked_from}
 use Rattle.sc_world.proofs.summing.add_client.Given as goal
 
 -- what was added, and then what is left, are the requests

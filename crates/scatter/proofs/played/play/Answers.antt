@@ -3,7 +3,7 @@ use Rattle.sc_actor.specs.Counted.{journal_bytes}
 use Rattle.sc_actor.specs.System.{no_words}
 use Rattle.sc_exchange.specs.Ports.{seen}
 use Rattle.sc_drive.specs.Goings.{HasEnded, IsKept}
-use Rattle.sc_world.specs.World.{births}
+use Rattle.sc_players.specs.Players.{births, as_nodes}
 use Rattle.scatter.specs.Played.{mail_weight}
 use Rattle.scatter.proofs.Plays.{drove_on, actors_of, ends, fills}
 use Rattle.scatter.proofs.played.play.Goals as goal
@@ -11,7 +11,7 @@ use Rattle.scatter.proofs.played.play.Goals as goal
 pub returns-in-Ended-clause-played : goal.returns-in-Ended-clause-played
 returns-in-Ended-clause-played g c =
     let net = c.drive.new.net in let ss = c.drive.new.shells.items in let scenario = c.args.scenario.now in let cut = c.in-Ended.unsettled in let quiet = c.in-Ended.quiet in let skips = c.in-Ended.skipped in
-    let e : HasEnded no_words (births scenario) c.as_slice.result.now net ss cut quiet skips = c.in-Ended.ensures.driven no_words (births scenario) c.requires.begins in
+    let e : HasEnded no_words (births as_nodes scenario) c.as_slice.result.now net ss cut quiet skips = c.in-Ended.ensures.driven no_words (births as_nodes scenario) c.requires.begins in
     let kept : IsKept c.args.net.now c.args.shells.now.items net ss = c.in-Ended.ensures.kept (drove_on cut quiet skips) in
     ends c.valid_scenarios_have_one_group.ensures c.group_journals_are_sound.ensures scenario c.requires.valid c.as_slice.result.now (c.as_slice.ensures.value ∙ c.in-Ok.ensures) c.args.net.now.limit (seen net) cut quiet skips (map (λ s. s.actor) ss)
     e.lawful e.whole (subst (λ limit. journal_bytes mail_weight (seen net) ≤ limit) kept.stays.exchange.2 e.within) e.cut_is e.quiet_is e.skips_are (actors_of ss ∙ ap (map (λ seat. seat.actor)) e.left)
@@ -20,4 +20,4 @@ pub returns-in-Full-clause-played : goal.returns-in-Full-clause-played
 returns-in-Full-clause-played g c =
     let scenario = c.args.scenario.now in
     fills c.valid_scenarios_have_one_group.ensures c.group_journals_are_sound.ensures scenario c.requires.valid c.as_slice.result.now (c.as_slice.ensures.value ∙ c.in-Ok.ensures) c.args.net.now.limit (seen c.drive.new.net)
-    (c.in-Full.ensures.driven no_words (births scenario) c.requires.begins)
+    (c.in-Full.ensures.driven no_words (births as_nodes scenario) c.requires.begins)

@@ -1,0 +1,17 @@
+-- Scenarios of one group.
+use Rattle.std.specs.Prelude.{◌≡◌, ◌≤◌, [], ◌∷◌}
+use Rattle.sc_cmd.specs.declared.cores.Base.{Base}
+use Rattle.sc_member.specs.Roster.{IsRoster}
+use Rattle.sc_paxos_words.specs.Among.{Among, Each}
+use Rattle.sc_scenario.specs.declared.scenarios.Asks.{Asks}
+use Rattle.sc_scenario.specs.declared.scenarios.Scenario.{Scenario}
+
+-- a scenario of one group, which starts with one to nine members and no pairs; nodes are numbered up to 32, and clients from 1, each once
+pub record HasOneGroup (scenario : Scenario) (base : Base) : Type 0 where
+  pub groups : scenario.groups ≡ base ∷ []
+  pub roster : IsRoster base.core.members
+  pub pairs : base.pairs ≡ []
+  pub clients : base.clients ≡ []
+  pub nodes : scenario.nodes ≤ 32
+  pub numbered : Each (λ asks. 1 ≤ asks.client) scenario.clients
+  pub once : (one other : Asks) → Among one scenario.clients → Among other scenario.clients → one.client ≡ other.client → one ≡ other

@@ -1,0 +1,10 @@
+//! Tests of the step machines, over public calls alone. They stand apart, since a crate with tests
+//! is proved twice.
+#![tactic(auto)]
+
+#[cfg(test)]
+mod node_tests;
+#[cfg(test)]
+mod replica_tests;
+#[cfg(test)]
+mod samples;

@@ -1,0 +1,128 @@
+//! What the tests of replicas and of nodes step on.
+ghost use Rattle.std.specs.Prelude.{◌≡◌, ◌≤◌, true};
+ghost use Rattle.sc_node_table.specs.Node.{may_come};
+
+use sc_base::{Ballot, Draw, Key, Op, OutOfMemory, Pairs, RingArc, SeenList, Sequence};
+use sc_cmd::{Base, Command, Core, Link, Lock};
+use sc_mail::{Mail, MailBody};
+use sc_member::Members;
+use std::alloc::Global;
+use std::test::Fail;
+
+pub(crate) const GROUP: Draw = Draw { node: 0, count: 1 };
+
+pub(crate) const FIRST: Ballot = Ballot { round: 1, node: 1 };
+
+fn link(members: &Members) -> Link {
+    Link {
+        group: GROUP,
+        members: *members,
+    }
+}
+
+// A group of one node that holds the whole ring, whose first leader is node 1.
+fn core(alloc: Global, arc: RingArc, members: &Members) -> Core {
+    Core {
+        id: GROUP,
+        first: 1,
+        arc,
+        members: *members,
+        succ: link(members),
+        pred: link(members),
+        lock: Lock::Free,
+        begun: 0,
+        decided: Sequence::new(alloc),
+        voted: Sequence::new(alloc),
+        born: Sequence::new(alloc),
+        gone: None,
+    }
+}
+
+pub(crate) fn group(alloc: Global, node: u16) -> Result<Base, Fail>
+    requires least { 1 ≤ node }
+    requires most { node ≤ 32 }
+{
+    let arc = RingArc::try_new(0, 0x1_0000_0000)?;
+    Ok(Base {
+        core: core(alloc, arc, &Members::one(node)),
+        pairs: Pairs::new(alloc),
+        clients: SeenList::new(alloc),
+    })
+}
+
+// What a mail is, and its slot, or how many reports it has.
+#[derive(Clone, Copy, Debug, PartialEq)]
+pub(crate) enum Brief {
+    Answer,
+    Install(u32),
+    Learn(u32),
+    Prepare(u32),
+    Promise(usize),
+    Accept(u32),
+    Accepted(u32),
+    Other,
+}
+
+fn in_brief(body: &MailBody) -> Brief {
+    match body {
+        MailBody::Answer { .. } => Brief::Answer,
+        MailBody::Install { slot, .. } => Brief::Install(*slot),
+        MailBody::Learn { slot, .. } => Brief::Learn(*slot),
+        MailBody::Prepare { from_slot, .. } => Brief::Prepare(*from_slot),
+        MailBody::Promise { reports, .. } => Brief::Promise(reports.len()),
+        MailBody::Accept { slot, .. } => Brief::Accept(*slot),
+        MailBody::Accepted { slot, .. } => Brief::Accepted(*slot),
+        _ => Brief::Other,
+    }
+}
+
+pub(crate) fn all_in_brief(alloc: Global, sent: &[Mail]) -> Result<Vec<Brief>, OutOfMemory> {
+    let mut briefs = Vec::new(alloc);
+    for mail in sent {
+        briefs.push(in_brief(&mail.body))?;
+    }
+    Ok(briefs)
+}
+
+pub(crate) fn get(alloc: Global) -> Result<Op, Fail> {
+    Ok(Op::Get {
+        key: Key::try_new(alloc, b"a")?,
+    })
+}
+
+// An operation as the request of client 1 with a number.
+pub(crate) fn request(seq: u32, op: Op) -> MailBody
+    ensures { may_come 33 result ≡ true }
+{
+    MailBody::Request {
+        group: GROUP,
+        client: 1,
+        seq,
+        op,
+    }
+}
+
+pub(crate) fn accept(slot: u32, op: Op) -> MailBody
+    ensures { may_come 1 result ≡ true }
+{
+    MailBody::Accept {
+        group: GROUP,
+        ballot: FIRST,
+        slot,
+        command: Command::Call {
+            client: 1,
+            seq: slot,
+            op,
+        },
+    }
+}
+
+pub(crate) fn accepted(slot: u32) -> MailBody
+    ensures { may_come 1 result ≡ true }
+{
+    MailBody::Accepted {
+        group: GROUP,
+        ballot: FIRST,
+        slot,
+    }
+}
