@@ -1,0 +1,8 @@
+//! Tests of the step machines, over public calls alone. They stand apart, since a crate with tests
+//! is proved twice.
+#![tactic(auto)]
+
+#[cfg(test)]
+mod machine_tests;
+#[cfg(test)]
+mod plan_tests;
