@@ -8,13 +8,14 @@ ghost use Rattle.sc_cmd.specs.declared.effects.Effect.TheVariants.{Refused};
 ghost use Rattle.sc_machine_table.specs.Group.{Group, base_of, group_of};
 ghost use Rattle.sc_machine_table.specs.Machine.{applied, called, served, numbered, done, divided};
 ghost use Rattle.sc_machine_table.specs.Orders.{ordered, refusal_of, with_node, without_node};
+ghost use Rattle.sc_machine_table.specs.Plans.{frozen_of};
 ghost use Rattle.sc_machine_table.specs.Splits.{CanSplit, child_of};
 ghost use Rattle.sc_txn.specs.Checked.{is_checked, IsPossible};
 ghost use Rattle.sc_machine.specs.Built.{is_built};
 
 use sc_base::{Draw, Dup, Op, OutOfMemory, RingArc};
 use sc_clients::ClientTable;
-use sc_cmd::{Base, Command, Core, Effect, Lock, OrderRefusal, same_draw};
+use sc_cmd::{Base, Command, Core, Effect, Frozen, Lock, OrderRefusal, same_draw};
 use sc_ideal::Seen;
 use sc_split_merge::plan_split;
 use sc_store::Store;
@@ -80,9 +81,11 @@ impl Machine {
         &self.core
     }
 
-    /// The group's whole record: what a machine is born from to be this one.
+    /// The group's whole record. A machine that is born from it is the same as this one.
+    #[tactic(auto, using(sc_machine_table::proofs::Parts::group_again))]
     pub fn base(&self) -> Result<Base, OutOfMemory>
-        ensures { IfOk result (λ base. base ≡ base_of self.now) }
+        ensures whole { IfOk result (λ base. base ≡ base_of self.now) }
+        ensures again { IfOk result (λ base. group_of base ≡ self.now) }
     {
         Ok(Base {
             core: self.core.dup(self.alloc)?,
@@ -91,7 +94,21 @@ impl Machine {
         })
     }
 
-    /// The record of the child, where the group is split at `at`; to be taken before the entry that splits is applied. `can_split` tells whether the group can be split there.
+    /// What the group hands to its coordinator when it votes Yes.
+    pub fn frozen(&self) -> Result<Frozen, OutOfMemory>
+        ensures { IfOk result (λ frozen. frozen ≡ frozen_of self.now) }
+    {
+        Ok(Frozen {
+            arc: self.core.arc,
+            members: self.core.members,
+            succ: self.core.succ,
+            pairs: self.store.list()?,
+            clients: self.clients.list()?,
+        })
+    }
+
+    /// The record of the child, where the group is split at `at`; to be taken before the entry that
+    /// splits is applied. `can_split` tells whether the group can be split there.
     pub fn child(&self, at: u32, child: Draw) -> Result<Base, OutOfMemory>
         requires { CanSplit self.now.core at }
         ensures { IfOk result (λ base. base ≡ child_of self.now at child) }
@@ -107,7 +124,8 @@ impl Machine {
     }
 
     /// Applies a command, by the group machine's table. After want of memory the machine may only be dropped.
-    /// Built are the commands `Noop`, `Call`, `Join` and `Leave`, and `Split` for a group that is its own successor; `can_apply` tells.
+    /// Built are the commands `Noop`, `Call`, `Join` and `Leave`, and `Split` for a group that is its
+    /// own successor; `can_apply` tells.
     pub fn apply(&mut self, command: &Command) -> Result<Effect, OutOfMemory>
         requires { is_built self.old command.now ≡ true }
         ensures { IfOk result (λ effect. applied self.old command.now ≡ (self.new, effect)) }

@@ -1,6 +1,6 @@
-use super::*;
 use sc_base::{Draw, Key, Op, Pairs, RingArc, SeenList, Sequence, Value};
 use sc_cmd::{Base, Command, Core, Effect, Link, Lock};
+use sc_machine::Machine;
 use sc_member::Members;
 use sc_split_merge::can_split;
 use std::alloc::Global;
