@@ -41,7 +41,9 @@ impl Model for Machine {
 
     ghost Value = { Group };
 
-    ghost coded = { let pairs : Coded Contents = map.code (coded_list coded_ℕ) (coded_list coded_ℕ) in let clients : Coded Table = map.code coded_ℕ (Prim.hlevel codes) in Prim.hlevel (codes, pairs, clients) };
+    ghost coded = { let pairs : Coded Contents = map.code (coded_list coded_ℕ) (coded_list coded_ℕ)
+        in let clients : Coded Table = map.code coded_ℕ (Prim.hlevel codes) in Prim.hlevel
+        (codes, pairs, clients) };
 
     ghost view = { λ m. record { core = m.core; pairs = m.store; clients = m.clients } };
 }
@@ -123,8 +125,10 @@ impl Machine {
         })
     }
 
-    /// Applies a command, by the group machine's table. After want of memory the machine may only be dropped.
-    /// Built are the commands `Noop`, `Call`, `Join` and `Leave`, and `Split` for a group that is its
+    /// Applies a command, by the group machine's table. After want of memory the machine may only
+    /// be dropped.
+    /// Built are the commands `Noop`, `Call`, `Join` and `Leave`, and `Split` for a group that is
+    /// its
     /// own successor; `can_apply` tells.
     pub fn apply(&mut self, command: &Command) -> Result<Effect, OutOfMemory>
         requires { is_built self.old command.now ≡ true }
@@ -153,7 +157,10 @@ impl Machine {
     }
 
     fn call(&mut self, client: u16, seq: u32, op: &Op) -> Result<Effect, OutOfMemory>
-        ensures { IfOk result (λ effect. called self.old.core.gone self.old.core.lock self.old client seq op.now ≡ (self.new, effect)) }
+        ensures { IfOk result
+            (λ effect.
+            called self.old.core.gone self.old.core.lock self.old client seq op.now
+            ≡ (self.new, effect)) }
     {
         if let Some(into) = &self.core.gone {
             return Ok(Effect::Gone { into: *into });
@@ -195,7 +202,10 @@ impl Machine {
     // The reply that is noted, of a request whose number is the noted one.
     fn repeat(&self, client: u16, seq: u32, op: &Op) -> Result<Effect, OutOfMemory>
         requires { seen_of (get self.now.clients client) seq ≡ Seen.Again }
-        ensures { IfOk result (λ effect. numbered (get self.now.clients client) self.now client seq op.now ≡ (self.now, effect)) }
+        ensures { IfOk result
+            (λ effect.
+            numbered (get self.now.clients client) self.now client seq op.now
+            ≡ (self.now, effect)) }
     {
         match self.clients.reply(client) {
             Some(reply) => Ok(Effect::Again(reply.dup(self.alloc)?)),
@@ -205,7 +215,14 @@ impl Machine {
     // Why an order is refused, if it is: a group that is gone leads nothing.
     fn refusal(&self, command: &Command) -> Option<OrderRefusal>
         requires { is_checked command.now ≡ true }
-        ensures { MatchOption result ((self.now.core.gone ≡ None) × (refusal_of self.now.core command.now ≡ None) × IsPossible self.now.core command.now) (λ why. (after : Group) → ordered self.now.core.gone (refusal_of self.now.core command.now) after self.now ≡ (self.now, Refused why)) }
+        ensures { MatchOption result
+            ((self.now.core.gone ≡ None)
+            × (refusal_of self.now.core command.now ≡ None)
+            × IsPossible self.now.core command.now)
+            (λ why.
+            (after : Group) →
+            ordered self.now.core.gone (refusal_of self.now.core command.now) after self.now
+            ≡ (self.now, Refused why)) }
     {
         if self.core.gone.is_some() {
             return Some(OrderRefusal::NotLeader { hint: None });
@@ -218,7 +235,9 @@ impl Machine {
 
     fn join(&mut self, command: &Command, node: u16) -> Effect
         requires { (order : ℕ) × (command.now ≡ Join node order) }
-        ensures { ordered self.old.core.gone (refusal_of self.old.core command.now) (with_node self.old node) self.old ≡ (self.new, result) }
+        ensures { ordered self.old.core.gone (refusal_of self.old.core command.now)
+            (with_node self.old node) self.old
+            ≡ (self.new, result) }
     {
         if let Some(why) = self.refusal(command) {
             return Effect::Refused(why);
@@ -231,7 +250,9 @@ impl Machine {
 
     fn leave(&mut self, command: &Command, node: u16) -> Effect
         requires { (order : ℕ) × (command.now ≡ Leave node order) }
-        ensures { ordered self.old.core.gone (refusal_of self.old.core command.now) (without_node self.old node) self.old ≡ (self.new, result) }
+        ensures { ordered self.old.core.gone (refusal_of self.old.core command.now)
+            (without_node self.old node) self.old
+            ≡ (self.new, result) }
     {
         if let Some(why) = self.refusal(command) {
             return Effect::Refused(why);
@@ -244,7 +265,9 @@ impl Machine {
 
     fn split(&mut self, command: &Command, at: u32, child: Draw) -> Result<Effect, OutOfMemory>
         requires { (order : ℕ) × (command.now ≡ Split at child order) }
-        ensures { IfOk result (λ effect. divided (refusal_of self.old.core command.now) self.old at child ≡ (self.new, effect)) }
+        ensures { IfOk result
+            (λ effect.
+            divided (refusal_of self.old.core command.now) self.old at child ≡ (self.new, effect)) }
     {
         if has_named(&self.core, child) {
             return Ok(Effect::NoEffect { tx: child });

@@ -81,7 +81,8 @@ fn effect_of(machine: &mut Machine, command: &Command) -> Result<&'static str, F
     Ok(word(&effect))
 }
 
-// What is asked of a machine: of nodes, of the boundary of a split, or a put of client 1 by its number, key and value.
+// What is asked of a machine: of nodes, of the boundary of a split, or a put of client 1 by its
+// number, key and value.
 #[derive(Clone, Copy)]
 enum Ask {
     Join(u16),
