@@ -1,4 +1,5 @@
-//! Each function that carries a law takes no input and answers nothing: calling it shows that its contract can be met.
+//! Each function that carries a law takes no input and answers nothing: calling it shows that its
+//! contract can be met.
 use sc_group_law::{
     a_journal_with_a_join, a_journal_with_an_election, group_journals_are_sound,
     valid_scenarios_have_one_group,

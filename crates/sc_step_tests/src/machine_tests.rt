@@ -1,6 +1,6 @@
-use super::*;
 use sc_base::{Draw, Key, Op, Pairs, RingArc, SeenList, Sequence, Value};
 use sc_cmd::{Base, Command, Core, Effect, Link, Lock};
+use sc_machine::Machine;
 use sc_member::Members;
 use sc_split_merge::can_split;
 use std::alloc::Global;
@@ -81,7 +81,8 @@ fn effect_of(machine: &mut Machine, command: &Command) -> Result<&'static str, F
     Ok(word(&effect))
 }
 
-// What is asked of a machine: of nodes, of the boundary of a split, or a put of client 1 by its number, key and value.
+// What is asked of a machine: of nodes, of the boundary of a split, or a put of client 1 by its
+// number, key and value.
 #[derive(Clone, Copy)]
 enum Ask {
     Join(u16),
