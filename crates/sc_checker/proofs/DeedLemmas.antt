@@ -1,6 +1,6 @@
 -- The deed of a task makes the row that the walk allows.
-use Rattle.std.proofs.Common.{◌≡◌, ℕ, zero, suc, ◌+◌, List, [], ◌∷◌, ◌++◌, Bool, true, false, not, cond, eqb, find, replicate, refl, sym, ◌∙◌, ap, subst, arith, Option, None, Some, ◌&&◌, ◌||◌}
-use Rattle.std.specs.Prelude.{slice_get, is_none, is_some, option_and_then}
+use Rattle.std.proofs.Common.{◌≡◌, ℕ, List, [], ◌∷◌, Bool, true, false, not, cond, eqb, find, refl, sym, ◌∙◌, ap, subst, Option, None, Some, ◌&&◌, ◌||◌}
+use Rattle.std.specs.Prelude.{is_none, is_some, option_and_then}
 use Rattle.std.specs.Option.{option_map}
 use Rattle.std.proofs.lemmas.Bool.{false≢true, and_parts}
 use Rattle.sc_actor.specs.declared.rows.Row.{Row}
@@ -9,10 +9,10 @@ use Rattle.sc_actor.specs.declared.rows.Event.{Event}
 use Rattle.sc_actor.specs.declared.rows.Event.TheVariants.{Deliver, Tick, Go, Told, Crash, Drop, Again}
 use Rattle.sc_actor.specs.declared.schedules.Line.{Line}
 use Rattle.sc_actor.specs.declared.schedules.Line.TheVariants.{Go as GoLine, Deliver as DeliverLine, Drop as DropLine, Again as AgainLine, Tick as TickLine, Crash as CrashLine, Told as ToldLine, Settle, Free, Storm}
-use Rattle.sc_actor.specs.Mail.{mails, numbers, numbered, has_crashed, may_get, pending}
+use Rattle.sc_actor.specs.Mail.{mails, numbered, has_crashed, may_get, pending}
 use Rattle.sc_actor.specs.System.{System, system, no_words, numbers_of, row_of, acts, network, waiting, kth, has_gone}
 use Rattle.sc_actor.specs.Walk.{line_row, delivery, lowest}
-use Rattle.sc_actor.proofs.PendingLemmas.{pending_sound, waiting_one, waiting_any}
+use Rattle.sc_actor.proofs.PendingLemmas.{waiting_one, waiting_any}
 use Rattle.sc_checker.specs.declared.stages.Deed.{Deed}
 use Rattle.sc_checker.specs.Deeds.{is_of_network, is_number, can_act, row_made, deed, holds_of, may_come_again, when, line_deed, lowest_deed}
 

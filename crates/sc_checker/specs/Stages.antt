@@ -1,5 +1,5 @@
 -- What a stage keeps of its journal, and what a deed makes of its actors.
-use Rattle.std.specs.Prelude.{◌≡◌, ℕ, suc, ◌^◌, ◌==◌, ◌<◌, List, [], ◌∷◌, Bool, true, false, if◌then◌else◌, Option, None, Some, length, slice_get, slice_set}
+use Rattle.std.specs.Prelude.{◌≡◌, ℕ, suc, ◌^◌, ◌==◌, ◌<◌, List, [], ◌∷◌, true, false, if◌then◌else◌, Option, None, Some, length, slice_get, slice_set}
 use Rattle.std.specs.Option.{option_map}
 use Rattle.sc_actor.specs.declared.rows.Row.{Row}
 use Rattle.sc_actor.specs.declared.actors.Seat.{Seat}

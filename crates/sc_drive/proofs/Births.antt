@@ -1,105 +1,102 @@
--- An exchange at its beginning.
-use Rattle.std.proofs.Common.{◌≡◌, ℕ, zero, suc, ◌<◌, ◌≤◌, true, false, true≢false, eqb, eq-eqb, not, List, [], ◌∷◌, ◌++◌, length, take, get_or, refl, sym, ap, ◌∙◌, subst, arith, Contains}
-use Rattle.std.specs.List.{All, list_any}
-use Rattle.std.proofs.lemmas.Bool.{and_parts, or_parts, not-true}
-use Rattle.std.proofs.lemmas.List.{map-append}
-use Rattle.std.proofs.lemmas.List.Elements.{All-push}
+-- Shells at their births, once all have gathered.
+use Rattle.std.proofs.Common.{◌≡◌, ℕ, suc, ◌<◌, Bool, true, false, eqb, not, ◌||◌, ◌&&◌, List, [], ◌∷◌, length, get_or, refl, sym, ap, ◌∙◌, subst, arith}
+use Rattle.std.specs.List.{list_any}
+use Rattle.std.proofs.lemmas.Bool.{eqb-true, and_parts}
 use Rattle.sc_actor.specs.declared.actors.Actor.{Ghosts}
 use Rattle.sc_actor.specs.declared.actors.Parcel.{Ghosts as MailGhosts}
 use Rattle.sc_actor.specs.declared.actors.Seat.{Seat}
-use Rattle.sc_actor.specs.System.{numbers_of}
-use Rattle.sc_actor.specs.System.{are_apart}
+use Rattle.sc_actor.specs.Replay.{value}
+use Rattle.sc_actor.specs.System.{numbers_of, are_apart}
 use Rattle.sc_exchange.specs.declared.ports.Port.{Port}
-use Rattle.sc_exchange.specs.Ports.{made, given, joined, SameExchange}
+use Rattle.sc_exchange.specs.Ports.{seen, made, Looked, IsTrue}
 use Rattle.sc_shell.specs.declared.shells.Shell.{Shell}
-use Rattle.sc_workers.specs.Crews.{AllOf, numbers}
-use Rattle.sc_drive.specs.Companies.{AtBirth, seats}
-use Rattle.sc_drive.specs.Ends.{Seated}
-
--- a list is what comes before an element, the element, and what follows
-pub cut_at : {X : Type 0} (xs : List X) (n : ℕ) (x : X) → n < length xs → x ≡ get_or xs n x → (rest : List X) × (xs ≡ take n xs ++ x ∷ rest)
-cut_at [] n x lt is = absurd (omega arith)
-cut_at (y ∷ ys) zero x lt is = (ys, ap (λ z. z ∷ ys) (sym is))
-cut_at (y ∷ ys) (suc n) x lt is = let c = cut_at ys n x (omega (arith, lt)) is in (c.0, ap (λ l. y ∷ l) c.1)
+use Rattle.sc_shell.specs.Shells.{Replays}
+use Rattle.sc_shell.proofs.Replaying.{replay_born}
+use Rattle.sc_workers.specs.Crews.{AllStill, numbers, rows_made}
+use Rattle.sc_workers.specs.Ends.{IsGathered}
+use Rattle.sc_workers.proofs.Crews.{still_all_go, still_sound, still_rows}
+use Rattle.sc_workers.proofs.Serving.{numbers_go}
+use Rattle.sc_drive.specs.Numbers.{is_in, apart}
+use Rattle.sc_drive.specs.Companies.{Company, AtBirth, seats}
+use Rattle.sc_drive.proofs.RowCounts.{sum_each, sum_nothing, flip}
+use Rattle.sc_drive.proofs.OneActed.{replays_of, count_company}
+use Rattle.std.proofs.lemmas.List.{get_or-map, length-map, nil_from_length}
 
 module _ {A : Type 0} where
-  none_has : (n : ℕ) (front : List (Seat A)) (seat : Seat A) (rest : List (Seat A)) → list_any (λ (other : Seat A). eqb other.who n) (front ++ seat ∷ rest) ≡ false → eqb seat.who n ≡ false
-  none_has n [] seat rest e = (or_parts (eqb seat.who n) (list_any (λ (other : Seat A). eqb other.who n) rest) e).0
-  none_has n (f ∷ front) seat rest e = none_has n front seat rest (or_parts (eqb f.who n) (list_any (λ (other : Seat A). eqb other.who n) (front ++ seat ∷ rest)) e).1
+  -- different seats have different numbers
+  any_in : (n : ℕ) (births : List (Seat A)) → list_any (λ other. eqb other.who n) births ≡ is_in n (numbers_of births)
+  any_in n [] = refl
+  any_in n (b ∷ births) = λ i. flip b.who n i || any_in n births i
 
-  -- a seat's number is none of those before it
-  pub new_number : (front : List (Seat A)) (seat : Seat A) (rest : List (Seat A)) → are_apart (front ++ seat ∷ rest) ≡ true → ¬ Contains (numbers_of front) seat.who
-  new_number [] seat rest far = λ c. absurd (omega (arith, c.1))
-  new_number (f ∷ front) seat rest far = λ c. at c.0 c.1 c.2 (new_number front seat rest)
+  far_apart : (births : List (Seat A)) → are_apart births ≡ true → apart (numbers_of births) ≡ true
+  far_apart [] far = refl
+  far_apart (b ∷ births) far =
+      let parts = and_parts (not (list_any (λ other. eqb other.who b.who) births)) (are_apart births) far in
+      λ i. (ap not (sym (any_in b.who births)) ∙ parts.0) i && far_apart births parts.1 i
+
+  -- no seat has the network's number
+  zero_out : (births : List (Seat A)) → ((k : ℕ) (e : Seat A) → k < length births → 0 < (get_or births k e).who) → is_in 0 (numbers_of births) ≡ false
+  zero_out [] some = refl
+  zero_out (b ∷ births) some =
+      λ i. by (eqb 0 b.who) refl i || zero_out births (λ k e lt. some (suc k) e (omega (arith, lt))) i
     where
-      parts : (not (list_any (λ (other : Seat A). eqb other.who f.who) (front ++ seat ∷ rest)) ≡ true) × (are_apart (front ++ seat ∷ rest) ≡ true)
-      parts = and_parts (not (list_any (λ (other : Seat A). eqb other.who f.who) (front ++ seat ∷ rest))) (are_apart (front ++ seat ∷ rest)) far
-
-      at : (i : ℕ) → i < length (numbers_of (f ∷ front)) → get_or (numbers_of (f ∷ front)) i seat.who ≡ seat.who → (are_apart (front ++ seat ∷ rest) ≡ true → ¬ Contains (numbers_of front) seat.who) → ⊥
-      at zero lt is before = true≢false (sym (eq-eqb seat.who f.who (sym is)) ∙ none_has f.who front seat rest (not-true (list_any (λ (other : Seat A). eqb other.who f.who) (front ++ seat ∷ rest)) parts.0))
-      at (suc i) lt is before = before parts.1 (i, omega (arith, lt), is)
-
-module _ {M O : Type 0} {h : MailGhosts M} where
-  pub same_then : (p q r : Port M O h) → SameExchange p q → SameExchange q r → SameExchange p r
-  same_then p q r a b = (b.0 ∙ a.0, b.1 ∙ a.1, b.2 ∙ a.2)
-
-  pub same_back : (p q : Port M O h) → SameExchange p q → SameExchange q p
-  same_back p q a = (sym a.0, sym a.1, sym a.2)
+      by : (t : Bool) → eqb 0 b.who ≡ t → eqb 0 b.who ≡ false
+      by true is = absurd (let first : 0 < b.who = some 0 b (omega arith) in omega (arith, first, eqb-true 0 b.who is))
+      by false is = is
 
 module _ {A M O : Type 0} {g : Ghosts A M O} {h : MailGhosts M} where
-  -- the shells of the first seats
-  pub record Begun (many most : ℕ) (done : List (Seat A)) (net : Port M O h) (ss : List (Shell A M O g h)) : Type 0 where
-    pub first : net.who ≡ 0
-    pub exchange : AllOf net ss
-    pub all : given net ≡ numbers ss
-    pub born : seats ss ≡ done
-    pub unmade : made net ≡ []
-    pub unjoined : joined net ≡ []
-    pub fresh : All (λ (s : Shell A M O g h). (made s.port ≡ []) × (s.spent ≡ false)) ss
-    pub actors : net.actors ≡ many
-    pub limit : net.limit ≡ most
+  numbers_born : (ss : List (Shell A M O g h)) → numbers ss ≡ numbers_of (seats ss)
+  numbers_born [] = refl
+  numbers_born (s ∷ ss) = ap (λ l. s.port.who ∷ l) (numbers_born ss)
 
-  numbers_are : (ss : List (Shell A M O g h)) → numbers_of (seats ss) ≡ numbers ss
-  numbers_are [] = refl
-  numbers_are (s ∷ ss) = ap (λ l. s.port.who ∷ l) (numbers_are ss)
+  abbrev seat : Shell A M O g h → Seat A
+  seat s = record { who = s.port.who; actor = s.actor }
 
-  module _ (actors limit : ℕ) (births done : List (Seat A)) (net : Port M O h) (ss : List (Shell A M O g h)) (b : Begun actors limit done net ss) (n : ℕ) (so_far : done ≡ take n births) (seat : Seat A) (lt : n < length births) (is : seat ≡ get_or births n seat) where
-    -- the next seat's number was not given
-    pub not_given : are_apart births ≡ true → ¬ Contains (given net) seat.who
-    not_given far =
-        let cut = cut_at births n seat lt is in
-        let apart_ : are_apart (done ++ seat ∷ cut.0) ≡ true = subst (λ l. are_apart l ≡ true) (cut.1 ∙ ap (λ l. l ++ seat ∷ cut.0) (sym so_far)) far in
-        let same : numbers_of done ≡ given net = ap numbers_of (sym b.born) ∙ (numbers_are ss ∙ sym b.all) in
-        subst (λ l. ¬ Contains l seat.who) same (new_number done seat cut.0 apart_)
+  module _ (births : List (Seat A)) (net next : Port M O h) (ss after : List (Shell A M O g h)) (b : AtBirth births net ss) (looked : Looked net next) (len : length after ≡ length ss) (still : AllStill ss after) (gathered : IsGathered next after) (rows : IsTrue next) where
+    births_long : length births ≡ length ss
+    births_long = ap length (sym b.born) ∙ length-map ss seat
 
-    pub may_number : All (λ (s : Seat A). (0 < s.who) × (s.who ≤ actors)) births → (0 < seat.who) × (seat.who ≤ net.actors)
-    may_number numbered =
-        let here : (0 < (get_or births n seat).who) × ((get_or births n seat).who ≤ actors) = numbered n seat lt in
-        subst (λ (p : Seat A × ℕ). (0 < p.0.who) × (p.0.who ≤ p.1)) (λ i. (sym is i, sym b.actors i)) here
+    seat_is : (k : ℕ) (d : Shell A M O g h) (e : Seat A) → k < length ss → seat (get_or ss k d) ≡ get_or births k e
+    seat_is k d e lt = sym (get_or-map seat ss k d e lt) ∙ ap (λ l. get_or l k e) b.born
 
-  -- and one more seat
-  pub begun_more : (actors limit : ℕ) (done : List (Seat A)) (net next : Port M O h) (ss : List (Shell A M O g h)) (seat : Seat A) (s : Shell A M O g h) → Begun actors limit done net ss → Seated net next seat s → Begun actors limit (done ++ seat ∷ []) next (ss ++ s ∷ [])
-  begun_more actors limit done net next ss seat s b t = record {
-    first = t.first;
-    exchange = All-push (λ (x : Shell A M O g h). SameExchange x.port next) ss s (λ k d lt. same_then (get_or ss k d).port net next (b.exchange k d lt) t.exchange) (same_then s.port net next (same_back net s.port t.port.0) t.exchange);
-    all = t.given ∙ ((λ i. b.all i ++ sym t.port.1 i ∷ []) ∙ sym (map-append (λ (x : Shell A M O g h). x.port.who) ss (s ∷ [])));
-    born = map-append (λ (x : Shell A M O g h). record { who = x.port.who; actor = x.actor }) ss (s ∷ []) ∙ (λ i. b.born i ++ record { who = t.port.1 i; actor = t.actor i } ∷ []);
-    unmade = t.made ∙ b.unmade;
-    unjoined = t.joined ∙ b.unjoined;
-    fresh = All-push (λ (x : Shell A M O g h). (made x.port ≡ []) × (x.spent ≡ false)) ss s b.fresh t.fresh;
-    actors = t.exchange.1 ∙ b.actors;
-    limit = t.exchange.2 ∙ b.limit;
-  }
+    numbers_are : numbers after ≡ numbers ss
+    numbers_are = numbers_go ss after len (still_all_go ss after still)
 
-  -- all are seated
-  pub at_birth : (actors limit : ℕ) (births : List (Seat A)) (net : Port M O h) (ss : List (Shell A M O g h)) → Begun actors limit births net ss → are_apart births ≡ true → All (λ (s : Seat A). (0 < s.who) × (s.who ≤ actors)) births → AtBirth births net ss
-  at_birth actors limit births net ss b far numbered = record {
-    first = b.first;
-    exchange = b.exchange;
-    all = b.all;
-    born = b.born;
-    far = far;
-    numbered = subst (λ n. All (λ (s : Seat A). (0 < s.who) × (s.who ≤ n)) births) (sym b.actors) numbered;
-    unmade = b.unmade;
-    fresh = b.fresh;
-  }
+    born_is : numbers after ≡ numbers_of births
+    born_is = numbers_are ∙ (numbers_born ss ∙ ap numbers_of b.born)
+
+    far_is : apart (0 ∷ numbers_of births) ≡ true
+    far_is = λ i. ap not (zero_out births (λ k e lt. (b.numbered k e lt).0)) i && far_apart births b.far i
+
+    replays_before : (k : ℕ) (d : Shell A M O g h) (e : Seat A) → k < length ss → Replays (get_or ss k d) (get_or births k e).actor
+    replays_before k d e lt =
+        let s = get_or ss k d in
+        subst (λ (birth : A). s.actor ≡ value g.table (record { who = s.port.who; actor = birth }) (seen s.port)) (ap (λ (x : Seat A). x.actor) (seat_is k d e lt)) (replay_born g.table s.port s.actor (b.fresh k d lt).0)
+
+    -- a company at its birth
+    pub company_born : Company births next after
+    company_born = record {
+      first = looked.stays.who ∙ b.crew.first;
+      all = looked.stays.given ∙ (b.all ∙ sym numbers_are);
+      born = born_is;
+      far = ap (λ ws. apart (0 ∷ ws)) born_is ∙ far_is;
+      within = λ k d lt.
+          let le : k < length ss = omega (arith, lt, len) in
+          let e = seat d in
+          let most = (b.numbered k e (omega (arith, le, births_long))).1 in
+          let number : (get_or ss k d).port.who ≡ (get_or births k e).who = ap (λ (x : Seat A). x.who) (seat_is k d e le) in
+          omega (arith, (still k d le).goes.stays.who, looked.stays.exchange.1, most, number);
+      over = gathered.over;
+      rows = rows;
+      sound = still_sound ss after len still b.crew.sound;
+      replay = λ k d e lt. let le : k < length ss = omega (arith, lt, len) in replays_of (get_or after k d) (get_or births k e).actor (still_sound ss after len still b.crew.sound k d lt) ((still k d le).goes.replay (get_or births k e).actor (λ _. replays_before k d e le));
+    }
+
+    none_made : rows_made ss ≡ 0
+    none_made = sum_each (λ (s : Shell A M O g h). length (made s.port)) (λ (s : Shell A M O g h). 0) ss (λ k d lt. ap length (b.fresh k d lt).0) ∙ sum_nothing ss
+
+    -- no row is there at birth
+    pub nothing_seen : seen next ≡ []
+    nothing_seen =
+        let c = company_born in
+        nil_from_length (seen next) (omega (arith, count_company births next after c, still_rows ss after len still, none_made, ap length (looked.made ∙ b.unmade)))

@@ -15,7 +15,7 @@ use Rattle.sc_shell.specs.declared.shells.Shell.{Shell}
 use Rattle.sc_shell.specs.declared.turns.Turn.{Turn}
 use Rattle.sc_shell.specs.declared.turns.Turn.TheVariants.{Did, Empty, Full, Spent, OutOfMemory}
 use Rattle.sc_shell.specs.Shells.{Happens, Takes, KeepsReplay, state}
-use Rattle.sc_workers.specs.Crews.{Still, IsAhead}
+use Rattle.sc_workers.specs.Crews.{AllSound, Still, IsAhead}
 use Rattle.sc_drive.specs.Companies.{Company}
 
 module _ {A M O : Type 0} {h : MailGhosts M} where
@@ -68,3 +68,26 @@ module _ {A M O : Type 0} {g : Ghosts A M O} {h : MailGhosts M} where
   Served births place k net next ss after (Empty told) = Company births next after × (seen next ≡ seen net) × ((d : Shell A M O g h) → kth_pending h.receiver net.actors (seen net) (slice_index_or ss place d).port.who k ≡ None)
   Served births place k net next ss after Spent = Company births next after × (seen next ≡ seen net) × HasHalted ss place true
   Served births place k net next ss after OutOfMemory = ⊤
+
+  -- the same, whatever the actors' births are
+  abbrev pub ToldAll : ℕ → Event O → Port M O h → Port M O h → List (Shell A M O g h) → List (Shell A M O g h) → Turn → Type 0
+  ToldAll place event net next ss after turn = (births : List (Seat A)) → Company births net ss → Told births place event net next ss after turn
+
+  abbrev pub ServedAll : ℕ → ℕ → Port M O h → Port M O h → List (Shell A M O g h) → List (Shell A M O g h) → Turn → Type 0
+  ServedAll place k net next ss after turn = (births : List (Seat A)) → Company births net ss → Served births place k net next ss after turn
+
+  -- each shell that is spent has posted a Crash, where the turn was not refused
+  abbrev pub SoundAfter : Turn → List (Shell A M O g h) → Type 0
+  SoundAfter (Did at) ss = AllSound ss
+  SoundAfter (Empty told) ss = AllSound ss
+  SoundAfter Spent ss = AllSound ss
+  SoundAfter (Full bytes) ss = ⊤
+  SoundAfter OutOfMemory ss = ⊤
+
+-- an answer to an event: it is no fetch
+abbrev pub IsTold : Turn → Type 0
+IsTold (Did at) = ⊤
+IsTold (Empty told) = ⊥
+IsTold (Full bytes) = ⊤
+IsTold Spent = ⊤
+IsTold OutOfMemory = ⊤

@@ -3,13 +3,12 @@ use Rattle.std.specs.Prelude.{◌≡◌, ℕ, ◌<◌, ◌≤◌, List, [], ◌�
 use Rattle.sc_actor.specs.declared.actors.Actor.{Ghosts}
 use Rattle.sc_actor.specs.declared.actors.Parcel.{Ghosts as MailGhosts}
 use Rattle.sc_actor.specs.declared.actors.Seat.{Seat}
-use Rattle.sc_actor.specs.System.{numbers_of}
-use Rattle.sc_actor.specs.System.{are_apart}
+use Rattle.sc_actor.specs.System.{numbers_of, are_apart}
 use Rattle.sc_exchange.specs.declared.ports.Port.{Port}
 use Rattle.sc_exchange.specs.Ports.{given, made, IsTrue}
 use Rattle.sc_shell.specs.declared.shells.Shell.{Shell}
 use Rattle.sc_shell.specs.Shells.{Replays}
-use Rattle.sc_workers.specs.Crews.{AllOf, AllOver, AllSound, numbers}
+use Rattle.sc_workers.specs.Crews.{AllOver, AllSound, IsCrew, numbers}
 use Rattle.sc_drive.specs.Numbers.{apart}
 
 module _ {A M O : Type 0} {g : Ghosts A M O} {h : MailGhosts M} where
@@ -31,8 +30,7 @@ module _ {A M O : Type 0} {g : Ghosts A M O} {h : MailGhosts M} where
 
   -- The network's port and the shells of all actors as they begin: a shell of this exchange for each birth, in order, at the one port of its number, from 1 to the number of actors. No other port was split off, and no port has made a row.
   pub record AtBirth (births : List (Seat A)) (net : Port M O h) (ss : List (Shell A M O g h)) : Type 0 where
-    pub first : net.who ≡ 0
-    pub exchange : AllOf net ss
+    pub crew : IsCrew net ss
     pub all : given net ≡ numbers ss
     pub born : seats ss ≡ births
     pub far : are_apart births ≡ true

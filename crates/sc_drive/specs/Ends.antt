@@ -1,11 +1,10 @@
--- The beginning and the end of an exchange, one shell at a time.
+-- The beginning of an exchange, one shell at a time.
 use Rattle.std.specs.Prelude.{◌≡◌, [], ◌∷◌, ◌++◌, false}
-use Rattle.sc_turn.specs.Turn.{StartsWith as Begins}
 use Rattle.sc_actor.specs.declared.actors.Actor.{Ghosts}
 use Rattle.sc_actor.specs.declared.actors.Parcel.{Ghosts as MailGhosts}
 use Rattle.sc_actor.specs.declared.actors.Seat.{Seat}
 use Rattle.sc_exchange.specs.declared.ports.Port.{Port}
-use Rattle.sc_exchange.specs.Ports.{seen, made, given, joined, SameExchange}
+use Rattle.sc_exchange.specs.Ports.{made, given, joined, SameExchange}
 use Rattle.sc_shell.specs.declared.shells.Shell.{Shell}
 
 module _ {A M O : Type 0} {g : Ghosts A M O} {h : MailGhosts M} where
@@ -19,12 +18,3 @@ module _ {A M O : Type 0} {g : Ghosts A M O} {h : MailGhosts M} where
     pub actor : s.actor ≡ seat.actor
     pub fresh : (made s.port ≡ []) × (s.spent ≡ false)
     pub made : made next ≡ made net
-
--- The network's port joined another.
-pub record Rejoined {M O : Type 0} {h : MailGhosts M} (net next port : Port M O h) : Type 0 where
-  pub exchange : SameExchange net next
-  pub first : next.who ≡ 0
-  pub given : given next ≡ given net
-  pub joined : joined next ≡ joined net ++ (port.who, made port) ∷ []
-  pub made : made next ≡ made net
-  pub later : Begins (seen next) (seen net)

@@ -1,26 +1,29 @@
 -- How a driver stands with the walk of a schedule.
-use Rattle.std.specs.Prelude.{◌≡◌, ℕ, ◌≤◌, List, ◌++◌, Bool, ⊤}
+use Rattle.std.specs.Prelude.{◌≡◌, ℕ, ◌≤◌, List, ◌++◌, Bool, Option, ⊤}
 use Rattle.sc_actor.specs.declared.actors.Actor.{Ghosts}
 use Rattle.sc_actor.specs.declared.actors.Parcel.{Ghosts as MailGhosts}
 use Rattle.sc_actor.specs.declared.actors.Seat.{Seat}
+use Rattle.sc_actor.specs.declared.rows.Event.{Event}
+use Rattle.sc_actor.specs.declared.rows.Event.TheVariants.{Go as GoEvent}
+use Rattle.sc_actor.specs.declared.rows.Row.{Row}
 use Rattle.sc_actor.specs.declared.schedules.Line.{Line}
 use Rattle.sc_actor.specs.declared.schedules.Line.TheVariants.{Go, Settle, Free, Storm}
-use Rattle.sc_actor.specs.Counted.{journal_bytes}
+use Rattle.sc_actor.specs.Counted.{journal_bytes, IsFull}
 use Rattle.sc_actor.specs.Replay.{values}
-use Rattle.sc_actor.specs.System.{system, has_gone}
+use Rattle.sc_actor.specs.System.{System, system, acts, has_gone}
 use Rattle.sc_actor.specs.Walk.{Task, IsLawful, IsWhole, place_after, onward, line_row, skipped, unsettled, is_quiet}
-use Rattle.sc_actor.specs.Counted.{IsFull}
 use Rattle.sc_exchange.specs.declared.ports.Port.{Port}
 use Rattle.sc_exchange.specs.Ports.{seen, Stays, IsTrue}
-use Rattle.sc_workers.specs.Crews.{AllOf, AllOver, numbers}
+use Rattle.sc_workers.specs.Crews.{AllOf, AllOver, AllSound, IsCrew, numbers}
 use Rattle.sc_shell.specs.declared.shells.Shell.{Shell}
 use Rattle.sc_drive.specs.declared.steps.Score.{Score}
 use Rattle.sc_drive.specs.declared.steps.Step.{Step}
+use Rattle.sc_drive.specs.declared.steps.Step.TheVariants.{Made, Skipped, Full}
 use Rattle.sc_drive.specs.declared.steps.Driven.{Driven}
-use Rattle.sc_drive.specs.declared.steps.Driven.TheVariants.{Ended, Full, OutOfMemory}
+use Rattle.sc_drive.specs.declared.steps.Driven.TheVariants.{Ended, Full as TooMuch, OutOfMemory}
 use Rattle.sc_drive.specs.Numbers.{is_in}
 use Rattle.sc_drive.specs.Companies.{Company, seats}
-use Rattle.sc_drive.specs.Stepping.{Stepped}
+use Rattle.sc_drive.specs.Stepping.{Stepped, unless_crashed}
 
 -- a line of one row at which no actor is told to go
 abbrev pub IsCalm : {O : Type 0} → Line O → Type 0
@@ -31,6 +34,23 @@ IsCalm (Storm number most) = ⊥
 IsCalm line = ⊤
 
 module _ {A M O : Type 0} {g : Ghosts A M O} {h : MailGhosts M} where
+  -- What it came to that this row might be made.
+  abbrev pub MakesSo : (System A M O → List (Row M O) → Option (Row M O)) → Port M O h → List (Shell A M O g h) → Port M O h → List (Shell A M O g h) → Step → Type 0
+  MakesSo may net ss next after step =
+      (words : ℕ → ℕ → ℕ × ℕ) (births : List (Seat A)) → Company births net ss → Stepped (system g.table h.receiver words births) (may (system g.table h.receiver words births) (seen net)) net next after step
+
+  -- the row of a line
+  abbrev pub LineMade : Line O → Port M O h → List (Shell A M O g h) → Port M O h → List (Shell A M O g h) → Step → Type 0
+  LineMade line = MakesSo (λ s rows. line_row s rows line)
+
+  -- the row of an event of an actor, unless it has crashed
+  abbrev pub EventMade : ℕ → Event O → Port M O h → List (Shell A M O g h) → Port M O h → List (Shell A M O g h) → Step → Type 0
+  EventMade who event = MakesSo (λ s rows. unless_crashed s rows who event)
+
+  -- the row of an actor that is told to go
+  abbrev pub GoMade : ℕ → Port M O h → List (Shell A M O g h) → Port M O h → List (Shell A M O g h) → Step → Type 0
+  GoMade who = MakesSo (λ s rows. acts s rows who GoEvent)
+
   -- what a line of one row came to, where it is noted who was told to go
   abbrev pub StepsSo : Line O → Port M O h → List (Shell A M O g h) → Score → Port M O h → List (Shell A M O g h) → Step → Type 0
   StepsSo line net ss score next after step =
@@ -62,6 +82,23 @@ module _ {A M O : Type 0} {g : Ghosts A M O} {h : MailGhosts M} where
     pub over : AllOver next after
     pub rows : IsTrue next
 
+  -- The same, and each shell that is spent has posted a Crash.
+  pub record IsOn (net : Port M O h) (ss : List (Shell A M O g h)) (next : Port M O h) (after : List (Shell A M O g h)) : Type 0 where
+    pub kept : IsKept net ss next after
+    pub sound : AllSound after
+
+  -- The network's port with shells of its exchange, all of which have gathered.
+  pub record IsTogether (net : Port M O h) (ss : List (Shell A M O g h)) : Type 0 where
+    pub crew : IsCrew net ss
+    pub over : AllOver net ss
+    pub rows : IsTrue net
+
+  -- how the exchange stands after a line of one row
+  abbrev pub StaysSo : Step → Port M O h → List (Shell A M O g h) → Port M O h → List (Shell A M O g h) → Type 0
+  StaysSo Made net ss next after = IsOn net ss next after
+  StaysSo Skipped net ss next after = IsOn net ss next after
+  StaysSo Full net ss next after = IsKept net ss next after
+
   -- The journal is lawful, whole and within the limit, the lines that were cut off and skipped are the walk's, it is told whether mail is pending, and each actor is the replay of its rows.
   pub record HasEnded (words : ℕ → ℕ → ℕ × ℕ) (births : List (Seat A)) (lines : List (Line O)) (net : Port M O h) (ss : List (Shell A M O g h)) (cut quiet : Bool) (skips : ℕ) : Type 0 where
     pub lawful : IsLawful (system g.table h.receiver words births) lines (seen net)
@@ -75,5 +112,5 @@ module _ {A M O : Type 0} {g : Ghosts A M O} {h : MailGhosts M} where
   -- how a schedule was driven, from an empty journal
   abbrev pub IsDriven : (ℕ → ℕ → ℕ × ℕ) → List (Seat A) → List (Line O) → ℕ → Port M O h → List (Shell A M O g h) → Driven → Type 0
   IsDriven words births lines limit net ss (Ended cut quiet skips) = HasEnded words births lines net ss cut quiet skips
-  IsDriven words births lines limit net ss Full = IsFull (system g.table h.receiver words births) h.weighs lines limit (seen net)
+  IsDriven words births lines limit net ss TooMuch = IsFull (system g.table h.receiver words births) h.weighs lines limit (seen net)
   IsDriven words births lines limit net ss OutOfMemory = ⊤

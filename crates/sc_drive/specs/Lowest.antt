@@ -1,10 +1,13 @@
 -- The lowest-numbered pending mail of all.
-use Rattle.std.specs.Prelude.{◌≡◌, ℕ, List, true, Option, None, Some}
+use Rattle.std.specs.Prelude.{◌≡◌, ℕ, ◌<◌, List, length, true, ⊤, Option, None, Some, IfSome}
 use Rattle.sc_actor.specs.declared.actors.Actor.{Ghosts}
 use Rattle.sc_actor.specs.declared.actors.Parcel.{Ghosts as MailGhosts}
+use Rattle.sc_actor.specs.declared.actors.Seat.{Seat}
 use Rattle.sc_actor.specs.Mail.{mails, numbered}
-use Rattle.sc_actor.specs.System.{System, waiting, kth}
+use Rattle.sc_actor.specs.System.{System, system, waiting, kth}
 use Rattle.sc_actor.specs.Walk.{is_quiet}
+use Rattle.sc_exchange.specs.declared.answers.Fetched.{Fetched}
+use Rattle.sc_exchange.specs.declared.answers.Fetched.TheVariants.{Mail, Empty}
 use Rattle.sc_exchange.specs.declared.ports.Port.{Port}
 use Rattle.sc_exchange.specs.Ports.{seen}
 use Rattle.sc_shell.specs.declared.shells.Shell.{Shell}
@@ -20,7 +23,23 @@ module _ {A M O : Type 0} {g : Ghosts A M O} {h : MailGhosts M} where
     pub sent : numbered (mails (seen net)) number ≡ Some mail
     pub at : IsPlace ss (s.receiver mail) place
 
-  -- none is pending, or this is the place of its receiver's shell; nothing was made
-  abbrev pub Lowest : System A M O → Port M O h → Port M O h → List (Shell A M O g h) → Option ℕ → Type 0
-  Lowest s net next after None = Company s.births next after × (seen next ≡ seen net) × (is_quiet s (seen net) ≡ true)
-  Lowest s net next after (Some place) = Company s.births next after × (seen next ≡ seen net) × LowestAt s next after place
+  -- none is pending, or this is the place of its receiver's shell
+  abbrev pub Lowest : System A M O → Port M O h → List (Shell A M O g h) → Option ℕ → Type 0
+  Lowest s net ss None = is_quiet s (seen net) ≡ true
+  Lowest s net ss (Some place) = LowestAt s net ss place
+
+  -- what was found by all that gathered, whatever the actors' births are
+  pub record Finds (net : Port M O h) (ss : List (Shell A M O g h)) (found : Option ℕ) : Type 0 where
+    pub inside : IfSome found (λ place. place < length ss)
+    pub lowest : (words : ℕ → ℕ → ℕ × ℕ) (births : List (Seat A)) → Company births net ss → Lowest (system g.table h.receiver words births) net ss found
+
+  -- all gathered once more, and nothing was made
+  abbrev pub Rests : Port M O h → List (Shell A M O g h) → Port M O h → List (Shell A M O g h) → Type 0
+  Rests net ss next after = (births : List (Seat A)) → Company births net ss → Company births next after × (seen next ≡ seen net)
+
+  -- the place of the shell that gets what was fetched, if anything was
+  abbrev pub IsPlaced : List (Shell A M O g h) → Fetched M → Option ℕ → Type 0
+  IsPlaced ss (Empty told) None = ⊤
+  IsPlaced ss (Empty told) (Some place) = ⊥
+  IsPlaced ss (Mail number mail) None = ⊥
+  IsPlaced ss (Mail number mail) (Some place) = IsPlace ss (h.receiver mail) place

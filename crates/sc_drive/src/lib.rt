@@ -1,23 +1,18 @@
 //! A schedule driven through the network's port and the shells of its actors.
 #![tactic(auto)]
 
-mod acting;
-mod closing;
-mod driving;
-mod lines;
-mod network;
-mod opening;
-mod running;
-mod settling;
-mod singles;
+mod actor_lines;
+mod acts;
+mod end;
+mod free_lines;
+mod network_lines;
+mod schedules;
+mod settle_lines;
+mod single_lines;
+mod start;
 mod steps;
 
-pub use closing::close;
-pub use driving::drive;
-pub use opening::open;
+pub use end::close;
+pub use schedules::drive;
+pub use start::open;
 pub use steps::Driven;
-
-#[cfg(test)]
-mod ends_tests;
-#[cfg(test)]
-mod tests;

@@ -11,7 +11,8 @@ pub enum Step {
     Full,
 }
 
-/// What the walk has counted: the lines that made no row, whether a line of many deliveries ended with mail pending, and who was told to go.
+/// What the walk has counted: the lines that made no row, whether a line of many deliveries ended
+/// with mail pending, and who was told to go.
 #[derive(Drop)]
 pub struct Score {
     pub skipped: u64,
@@ -26,19 +27,11 @@ pub enum Stop {
     OutOfMemory,
 }
 
-/// What became of a row of the network.
-#[derive(Clone, Copy, Debug, PartialEq, Eq)]
-pub enum Changed {
-    Done,
-    Undone,
-    Full,
-    OutOfMemory,
-}
-
 /// How a schedule was driven.
 #[derive(Clone, Copy, Debug, PartialEq, Eq)]
 pub enum Driven {
-    /// To its end: whether a line of many deliveries ended with mail pending, whether none is pending now, and how many lines made no row.
+    /// To its end: whether a line of many deliveries ended with mail pending, whether none is
+    /// pending now, and how many lines made no row.
     Ended {
         unsettled: bool,
         quiet: bool,

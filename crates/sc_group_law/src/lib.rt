@@ -54,6 +54,3 @@ pub fn a_journal_with_a_join()
     ensures decided { decided_row four alone 0 join_example ≡ Some 2 }
     ensures members { (decided_state four alone join_example).core.members ≡ 1 ∷ 2 ∷ [] }
 {}
-
-#[cfg(test)]
-mod tests;

@@ -10,6 +10,3 @@ ghost use Rattle.sc_hist_law.specs.Laws.{LogsTellHistories};
 pub fn logs_tell_histories()
     ensures { LogsTellHistories }
 {}
-
-#[cfg(test)]
-mod tests;

@@ -70,6 +70,7 @@ tested : (test : Option (List ℕ) → Bool) (contents : Contents) (key value : 
     → retain_keys (cond (test (get contents key)) (insert contents key value) contents) part ≡ cond (part key) (cond (test (get (retain_keys contents part) key)) (insert (retain_keys contents part) key value) (retain_keys contents part)) (retain_keys contents part)
 tested test contents key value part = where_tested test (part key) (get contents key) (get (retain_keys contents part) key) contents (insert contents key value) (insert (retain_keys contents part) key value) (retain_keys contents part) (λ m. retain_keys m part) (get-part contents part key) refl (set_apart contents key value part)
 
+-- a part changes by operations on its own keys alone
 pub apart : ServesApart
 apart (Get key) contents part = same_both (part key) _
 apart (Put key value) contents part = set_apart contents key value part

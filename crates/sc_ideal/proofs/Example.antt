@@ -67,5 +67,6 @@ once (suc (suc zero)) (suc (suc zero)) d below inside client seq = absurd (omega
 once (suc (suc zero)) (suc (suc (suc zero))) d below inside client seq = absurd (omega arith)
 once i j d below inside client seq = absurd (omega arith)
 
+-- the example is a legal history
 pub example_is_legal : Legal example
 example_is_legal = record { replay = replay; once = once }

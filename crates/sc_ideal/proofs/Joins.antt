@@ -23,6 +23,7 @@ second_holds : (a b : Bool) → T (a && b) → T b
 second_holds true b h = h
 second_holds false b h = absurd h
 
+-- an ordering that is a tie
 pub ties : (o : Ordering) → is_eq o ≡ true → o ≡ Equal
 ties Less e = absurd (let f : false ≡ true = e in cc)
 ties Equal e = refl
@@ -44,6 +45,7 @@ module _ {K X : Type 0} (R : K → K → Ordering) (total : IsTotalOrder R) wher
   pub none_past : (q : K) (e : K × X) (es : List (K × X)) → T (is_sorted R (e ∷ es)) → eq_by_cmp R q e.0 ≡ true → find R q es ≡ None
   none_past q e es up tie = none_above q e.0 (ties _ tie) es (first_holds _ _ up)
 
+  -- the rest of a sorted list is sorted
   pub sorted_rest : (e : K × X) (es : List (K × X)) → T (is_sorted R (e ∷ es)) → T (is_sorted R es)
   sorted_rest e es up = second_holds (below_all R e.0 es) (is_sorted R es) up
 
@@ -56,6 +58,7 @@ turned : {X : Type 0} (tie : Bool) (value old found : Option X) (new : X) → va
 turned true value old found new is none = rw (none refl, is) refl
 turned false value old found new is none = refl
 
+-- look-ups after pairs were added
 pub get-with_pairs : (es : List (List ℕ × List ℕ)) → T (is_sorted (slice_cmp nat_cmp) es) → (m : Contents) (q : List ℕ) → get (with_pairs m es) q ≡ or_else (find (slice_cmp nat_cmp) q es) (get m q)
 get-with_pairs [] up m q = refl
 get-with_pairs (e ∷ es) up m q =
@@ -72,6 +75,7 @@ either false true None = refl
 either false true (Some x) = refl
 either false false old = refl
 
+-- the parts on two arcs that meet join to the part on the joined arc
 pub parts_join : PartsJoin
 parts_join arc next contents lo_fits is is' can = same_contents _ _ (λ q.
     let here : get (part_of next contents) q ≡ cond (holds_key next q) (get contents q) None = get-part contents (holds_key next) q in

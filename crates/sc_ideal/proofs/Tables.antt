@@ -31,6 +31,7 @@ one_more : (tie : Bool) (old : Option Noted) (noted : Noted) (found : Option Not
 one_more true old noted found none = rw (none refl) refl
 one_more false old noted found none = refl
 
+-- look-ups in joined tables
 pub get-joined_with : (es : List (ℕ × Noted)) → T (is_sorted nat_cmp es) → (table : Table) (q : ℕ) → get (joined_with table es) q ≡ later (get table q) (find nat_cmp q es)
 get-joined_with [] up table q = refl
 get-joined_with (e ∷ es) up table q =
@@ -38,6 +39,7 @@ get-joined_with (e ∷ es) up table q =
     ∙ ap (λ o. later o (find nat_cmp q es)) (get-with_later table e.0 e.1 q)
     ∙ one_more (eq_by_cmp nat_cmp q e.0) (get table q) e.1 (find nat_cmp q es) (none_past nat_cmp nat_cmp_total q e es up)
 
+-- tables join client by client by the greater number
 pub joined_by_number : JoinedByNumber
 joined_by_number table other client = get-joined_with (entries other) (entries_sorted other) table client ∙ ap (later (get table client)) (sym (get-entries other client))
 
@@ -66,6 +68,7 @@ turns None (Some b) agree = refl
 turns (Some a) None agree = refl
 turns (Some a) (Some b) agree = notes_turn a b agree
 
+-- tables join in whatever order
 pub joined_in_any_order : JoinedInAnyOrder
 joined_in_any_order table other = record {
   numbers = λ client. ap number_of (joined_by_number table other client) ∙ numbers_turn (get table client) (get other client) ∙ ap number_of (sym (joined_by_number other table client));

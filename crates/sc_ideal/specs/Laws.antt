@@ -34,5 +34,6 @@ pub record SameJoined (table other : Table) : Type 0 where
   pub numbers : (client : ℕ) → number_of (get (joined_with table (entries other)) client) ≡ number_of (get (joined_with other (entries table)) client)
   pub whole : ((client : ℕ) → Agree (get table client) (get other client)) → joined_with table (entries other) ≡ joined_with other (entries table)
 
+-- two tables that agree join in any order
 abbrev pub JoinedInAnyOrder : Type 0
 JoinedInAnyOrder = (table other : Table) → SameJoined table other

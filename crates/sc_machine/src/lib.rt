@@ -4,6 +4,3 @@
 mod machine;
 
 pub use machine::Machine;
-
-#[cfg(test)]
-mod tests;

@@ -8,13 +8,14 @@ ghost use Rattle.sc_cmd.specs.declared.effects.Effect.TheVariants.{Refused};
 ghost use Rattle.sc_machine_table.specs.Group.{Group, base_of, group_of};
 ghost use Rattle.sc_machine_table.specs.Machine.{applied, called, served, numbered, done, divided};
 ghost use Rattle.sc_machine_table.specs.Orders.{ordered, refusal_of, with_node, without_node};
+ghost use Rattle.sc_machine_table.specs.Plans.{frozen_of};
 ghost use Rattle.sc_machine_table.specs.Splits.{CanSplit, child_of};
 ghost use Rattle.sc_txn.specs.Checked.{is_checked, IsPossible};
 ghost use Rattle.sc_machine.specs.Built.{is_built};
 
 use sc_base::{Draw, Dup, Op, OutOfMemory, RingArc};
 use sc_clients::ClientTable;
-use sc_cmd::{Base, Command, Core, Effect, Lock, OrderRefusal, same_draw};
+use sc_cmd::{Base, Command, Core, Effect, Frozen, Lock, OrderRefusal, same_draw};
 use sc_ideal::Seen;
 use sc_split_merge::plan_split;
 use sc_store::Store;
@@ -40,7 +41,9 @@ impl Model for Machine {
 
     ghost Value = { Group };
 
-    ghost coded = { let pairs : Coded Contents = map.code (coded_list coded_ℕ) (coded_list coded_ℕ) in let clients : Coded Table = map.code coded_ℕ (Prim.hlevel codes) in Prim.hlevel (codes, pairs, clients) };
+    ghost coded = { let pairs : Coded Contents = map.code (coded_list coded_ℕ) (coded_list coded_ℕ)
+        in let clients : Coded Table = map.code coded_ℕ (Prim.hlevel codes) in Prim.hlevel
+        (codes, pairs, clients) };
 
     ghost view = { λ m. record { core = m.core; pairs = m.store; clients = m.clients } };
 }
@@ -80,9 +83,11 @@ impl Machine {
         &self.core
     }
 
-    /// The group's whole record: what a machine is born from to be this one.
+    /// The group's whole record. A machine that is born from it is the same as this one.
+    #[tactic(auto, using(sc_machine_table::proofs::Parts::group_again))]
     pub fn base(&self) -> Result<Base, OutOfMemory>
-        ensures { IfOk result (λ base. base ≡ base_of self.now) }
+        ensures whole { IfOk result (λ base. base ≡ base_of self.now) }
+        ensures again { IfOk result (λ base. group_of base ≡ self.now) }
     {
         Ok(Base {
             core: self.core.dup(self.alloc)?,
@@ -91,7 +96,21 @@ impl Machine {
         })
     }
 
-    /// The record of the child, where the group is split at `at`; to be taken before the entry that splits is applied. `can_split` tells whether the group can be split there.
+    /// What the group hands to its coordinator when it votes Yes.
+    pub fn frozen(&self) -> Result<Frozen, OutOfMemory>
+        ensures { IfOk result (λ frozen. frozen ≡ frozen_of self.now) }
+    {
+        Ok(Frozen {
+            arc: self.core.arc,
+            members: self.core.members,
+            succ: self.core.succ,
+            pairs: self.store.list()?,
+            clients: self.clients.list()?,
+        })
+    }
+
+    /// The record of the child, where the group is split at `at`; to be taken before the entry that
+    /// splits is applied. `can_split` tells whether the group can be split there.
     pub fn child(&self, at: u32, child: Draw) -> Result<Base, OutOfMemory>
         requires { CanSplit self.now.core at }
         ensures { IfOk result (λ base. base ≡ child_of self.now at child) }
@@ -106,8 +125,11 @@ impl Machine {
         })
     }
 
-    /// Applies a command, by the group machine's table. After want of memory the machine may only be dropped.
-    /// Built are the commands `Noop`, `Call`, `Join` and `Leave`, and `Split` for a group that is its own successor; `can_apply` tells.
+    /// Applies a command, by the group machine's table. After want of memory the machine may only
+    /// be dropped.
+    /// Built are the commands `Noop`, `Call`, `Join` and `Leave`, and `Split` for a group that is
+    /// its
+    /// own successor; `can_apply` tells.
     pub fn apply(&mut self, command: &Command) -> Result<Effect, OutOfMemory>
         requires { is_built self.old command.now ≡ true }
         ensures { IfOk result (λ effect. applied self.old command.now ≡ (self.new, effect)) }
@@ -135,7 +157,10 @@ impl Machine {
     }
 
     fn call(&mut self, client: u16, seq: u32, op: &Op) -> Result<Effect, OutOfMemory>
-        ensures { IfOk result (λ effect. called self.old.core.gone self.old.core.lock self.old client seq op.now ≡ (self.new, effect)) }
+        ensures { IfOk result
+            (λ effect.
+            called self.old.core.gone self.old.core.lock self.old client seq op.now
+            ≡ (self.new, effect)) }
     {
         if let Some(into) = &self.core.gone {
             return Ok(Effect::Gone { into: *into });
@@ -177,7 +202,10 @@ impl Machine {
     // The reply that is noted, of a request whose number is the noted one.
     fn repeat(&self, client: u16, seq: u32, op: &Op) -> Result<Effect, OutOfMemory>
         requires { seen_of (get self.now.clients client) seq ≡ Seen.Again }
-        ensures { IfOk result (λ effect. numbered (get self.now.clients client) self.now client seq op.now ≡ (self.now, effect)) }
+        ensures { IfOk result
+            (λ effect.
+            numbered (get self.now.clients client) self.now client seq op.now
+            ≡ (self.now, effect)) }
     {
         match self.clients.reply(client) {
             Some(reply) => Ok(Effect::Again(reply.dup(self.alloc)?)),
@@ -187,7 +215,14 @@ impl Machine {
     // Why an order is refused, if it is: a group that is gone leads nothing.
     fn refusal(&self, command: &Command) -> Option<OrderRefusal>
         requires { is_checked command.now ≡ true }
-        ensures { MatchOption result ((self.now.core.gone ≡ None) × (refusal_of self.now.core command.now ≡ None) × IsPossible self.now.core command.now) (λ why. (after : Group) → ordered self.now.core.gone (refusal_of self.now.core command.now) after self.now ≡ (self.now, Refused why)) }
+        ensures { MatchOption result
+            ((self.now.core.gone ≡ None)
+            × (refusal_of self.now.core command.now ≡ None)
+            × IsPossible self.now.core command.now)
+            (λ why.
+            (after : Group) →
+            ordered self.now.core.gone (refusal_of self.now.core command.now) after self.now
+            ≡ (self.now, Refused why)) }
     {
         if self.core.gone.is_some() {
             return Some(OrderRefusal::NotLeader { hint: None });
@@ -200,7 +235,9 @@ impl Machine {
 
     fn join(&mut self, command: &Command, node: u16) -> Effect
         requires { (order : ℕ) × (command.now ≡ Join node order) }
-        ensures { ordered self.old.core.gone (refusal_of self.old.core command.now) (with_node self.old node) self.old ≡ (self.new, result) }
+        ensures { ordered self.old.core.gone (refusal_of self.old.core command.now)
+            (with_node self.old node) self.old
+            ≡ (self.new, result) }
     {
         if let Some(why) = self.refusal(command) {
             return Effect::Refused(why);
@@ -213,7 +250,9 @@ impl Machine {
 
     fn leave(&mut self, command: &Command, node: u16) -> Effect
         requires { (order : ℕ) × (command.now ≡ Leave node order) }
-        ensures { ordered self.old.core.gone (refusal_of self.old.core command.now) (without_node self.old node) self.old ≡ (self.new, result) }
+        ensures { ordered self.old.core.gone (refusal_of self.old.core command.now)
+            (without_node self.old node) self.old
+            ≡ (self.new, result) }
     {
         if let Some(why) = self.refusal(command) {
             return Effect::Refused(why);
@@ -226,7 +265,9 @@ impl Machine {
 
     fn split(&mut self, command: &Command, at: u32, child: Draw) -> Result<Effect, OutOfMemory>
         requires { (order : ℕ) × (command.now ≡ Split at child order) }
-        ensures { IfOk result (λ effect. divided (refusal_of self.old.core command.now) self.old at child ≡ (self.new, effect)) }
+        ensures { IfOk result
+            (λ effect.
+            divided (refusal_of self.old.core command.now) self.old at child ≡ (self.new, effect)) }
     {
         if has_named(&self.core, child) {
             return Ok(Effect::NoEffect { tx: child });

@@ -1,6 +1,6 @@
 use super::*;
 use sc_actor::Parcel;
-use sc_base::{Ballot, Draw, Dup, Key, Op, OutOfMemory, Reply, Same, Sequence, Value};
+use sc_base::{Ballot, Draw, Dup, Key, Op, OutOfMemory, Reply, Sequence, Value};
 use sc_cmd::Command;
 use sc_paxos_words::Report;
 use std::alloc::Global;
@@ -107,33 +107,4 @@ fn a_promise_counts_32_for_each_report(rt: HostRuntime) -> Result<(), Fail> {
 #[test]
 fn an_answer_counts_its_value(rt: HostRuntime) -> Result<(), Fail> {
     check(&rt, rt.alloc(), answer(rt.alloc())?, 5)
-}
-
-fn ask(slot: u32) -> MailBody {
-    MailBody::Ask {
-        group: GROUP,
-        from_slot: slot,
-    }
-}
-
-// Whether what asks from a slot is the same as what asks from another.
-fn asks_are_same(slot: u32, other: u32) -> bool {
-    ask(slot).is_same(&ask(other))
-}
-
-// Whether it is the same as a vote at its slot.
-fn kinds_are_same(slot: u32) -> bool {
-    let vote = MailBody::Accepted {
-        group: GROUP,
-        ballot: FIRST,
-        slot,
-    };
-    ask(slot).is_same(&vote)
-}
-
-#[test]
-fn mails_are_the_same_where_every_part_is(rt: HostRuntime) {
-    assert!(rt; asks_are_same(1, 1));
-    assert!(rt; !asks_are_same(1, 2));
-    assert!(rt; !kinds_are_same(1));
 }

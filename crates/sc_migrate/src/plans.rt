@@ -9,7 +9,8 @@ use sc_cmd::{Core, Frozen, Link};
 use sc_member::Members;
 use std::alloc::Global;
 
-/// Whether the node can leave a group of that record for its successor, which was frozen so: it is a
+/// Whether the node can leave a group of that record for its successor, which was frozen so: it is
+/// a
 /// member and not the only one, and the successor has at most nine members with it.
 pub fn can_migrate(core: &Core, node: u16, frozen: &Frozen) -> bool
     ensures { result ≡ can_migrate core.now node frozen.now }
@@ -41,7 +42,9 @@ pub fn plan_migrate(
 
 /// The members of the successor with the node, which may be one of them; none where they are ten.
 pub fn welcomed_members(core: &Core, node: u16) -> Option<Members>
-    ensures { result ≡ (if nat_le (length (united core.now.members (node ∷ []))) 9 then Some (united core.now.members (node ∷ [])) else None) }
+    ensures { result
+        ≡ (if nat_le (length (united core.now.members (node ∷ []))) 9 then Some
+        (united core.now.members (node ∷ [])) else None) }
 {
     let comer = Members::one(node);
     if core.members.count_with(&comer) > 9 {

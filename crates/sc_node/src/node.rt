@@ -9,7 +9,7 @@ ghost use Rattle.sc_node.specs.Places.{place_from};
 
 use crate::absent::{group_in, may_come};
 use crate::arrivals::is_before;
-use sc_actor::Input;
+use sc_actor::{Actor, Input};
 use sc_base::{Draw, Dup, OutOfMemory, Sequence};
 use sc_cmd::{Base, OrderLine, same_draw};
 use sc_mail::{Mail, MailBody};
@@ -203,5 +203,21 @@ impl NodeCore {
         let mut sent = Sequence::new(alloc);
         tick_all(&mut self.replicas, &mut sent)?;
         Ok(sent)
+    }
+}
+
+impl Actor for NodeCore {
+    type Mail = Mail;
+
+    type Order = OrderLine;
+
+    ghost table = { node_table };
+
+    fn step(
+        &mut self,
+        alloc: Global,
+        input: &Input<Mail, OrderLine>,
+    ) -> Result<Sequence<Mail>, OutOfMemory> {
+        NodeCore::step(self, alloc, input)
     }
 }

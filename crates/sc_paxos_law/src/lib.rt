@@ -40,6 +40,3 @@ pub fn a_lawful_history()
     ensures lawful { IsLawful three first example }
     ensures log { log_of three example ≡ 7 ∷ 8 ∷ [] }
 {}
-
-#[cfg(test)]
-mod tests;

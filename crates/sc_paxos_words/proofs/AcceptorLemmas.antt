@@ -44,9 +44,11 @@ by_slot_with new xs up =
 each_with : {V : Type 0} (P : Report V → Type 0) (new : Report V) (xs : List (Report V)) → P new → Each P xs → Each P (with_report new xs)
 each_with P new xs h all = Each-append P (filter (λ r. ltb r.slot new.slot) xs) (new ∷ filter (λ r. ltb new.slot r.slot) xs) (Each-filter P _ xs all) (h, Each-filter P _ xs all)
 
+-- an acceptor is whole at birth
 pub whole_at_birth : {V : Type 0} (first : Ballot) → IsWhole {V = V} (born first)
 whole_at_birth first = record { by_slot = tt; above = tt; kept = tt }
 
+-- and stays so by a promise
 pub whole_by_promise : {V : Type 0} (state : AcceptorState V) (ballot : Ballot) → IsWhole state → may_promise state ballot ≡ true → IsWhole (after_promise ballot state)
 whole_by_promise {V} state ballot is t = record {
   by_slot = is.by_slot;
@@ -58,6 +60,7 @@ whole_by_promise {V} state ballot is t = record {
 pub may_is : {V : Type 0} (state : AcceptorState V) (ballot : Ballot) → may_accept state ballot ≡ true → IsAtLeast ballot state.promised
 may_is state ballot t = not-true (below ballot state.promised) t
 
+-- by what it accepts
 pub whole_by_accept : {V : Type 0} (state : AcceptorState V) (report : Report V) → IsWhole state → may_accept state report.ballot ≡ true → state.floor < report.slot → IsWhole (after_accept report state)
 whole_by_accept {V} state report is t up = record {
   by_slot = by_slot_with report state.accepted is.by_slot;
@@ -74,6 +77,7 @@ above_cut {V} floor upto xs all =
     both [] a b = tt
     both (y ∷ ys) a b = (omega (arith, a.0, b.0), both ys a.1 b.1)
 
+-- and by what it forgets
 pub whole_by_cut : {V : Type 0} (state : AcceptorState V) (upto : ℕ) → IsWhole state → IsWhole (after_cut upto state)
 whole_by_cut {V} state upto is = record {
   by_slot = filtered (λ (r : Report V). ltb upto r.slot) state.accepted is.by_slot;
@@ -113,6 +117,7 @@ accepted_elsewhere {V} new xs slot other =
       ]
     ]
 
+-- at a slot it accepts no lower ballot than before
 pub ballots_never_fall : {V : Type 0} (state : AcceptorState V) (report older : Report V) → IsWhole state → may_accept state report.ballot ≡ true
     → last_at report.slot state.accepted ≡ Some older → IsAtLeast report.ballot older.ballot
 ballots_never_fall {V} state report older is t e =

@@ -20,6 +20,7 @@ greater m n gt = cond-false (ltb m n) Less (cond (eqb m n) Equal Greater) (le-lt
 abbrev pub ComesBefore : Ballot → Ballot → Type 0
 ComesBefore a b = (a.round < b.round) ⊎ ((a.round ≡ b.round) × (a.node < b.node))
 
+-- a ballot that comes before is below
 pub below_from : (a b : Ballot) → ComesBefore a b → below a b ≡ true
 below_from a b (inl lt) = ap (λ o. is_lt (ordering_then o (nat_cmp a.node b.node))) (less a.round b.round lt)
 below_from a b (inr h) =
@@ -45,6 +46,7 @@ cases_before a b =
       | inr o ↦ elim o [ inl lt ↦ inl (inl lt) | inr gt ↦ inr (inl gt) ]
     ]
 
+-- a ballot that is below comes before
 pub below_parts : (a b : Ballot) → below a b ≡ true → ComesBefore a b
 below_parts a b t = elim (cases_before a b) [ inl h ↦ h | inr h ↦ (let f = not_below_from a b h in cc) ]
 
@@ -69,6 +71,7 @@ not_before_trans a b c (inl h) (inr k) = inl (omega (arith, k.0))
 not_before_trans a b c (inr h) (inl k) = inl (omega (arith, h.0))
 not_before_trans a b c (inr h) (inr k) = inr (h.0 ∙ k.0, omega (arith, h.1, k.1))
 
+-- below what is below
 pub below_trans : (a b c : Ballot) → below a b ≡ true → below b c ≡ true → below a c ≡ true
 below_trans a b c h k = below_from a c (before_trans a b c (below_parts a b h) (below_parts b c k))
 
@@ -76,9 +79,11 @@ below_trans a b c h k = below_from a c (before_trans a b c (below_parts a b h) (
 pub at_least_below : (a b c : Ballot) → IsAtLeast b a → below b c ≡ true → below a c ≡ true
 at_least_below a b c h k = below_from a c (not_after_before a b c (not_below_parts b a h) (below_parts b c k))
 
+-- at least what is at least
 pub at_least_trans : (a b c : Ballot) → IsAtLeast a b → IsAtLeast b c → IsAtLeast a c
 at_least_trans a b c h k = not_below_from a c (not_before_trans a b c (not_below_parts a b h) (not_below_parts b c k))
 
+-- a ballot is at least itself
 pub at_least_itself : (a : Ballot) → IsAtLeast a a
 at_least_itself a = not_below_from a a (inr (refl, omega arith))
 
@@ -86,6 +91,7 @@ at_least_itself a = not_below_from a a (inr (refl, omega arith))
 pub at_least_from_below : (a b : Ballot) → below a b ≡ true → IsAtLeast b a
 at_least_from_below a b h = elim (below_parts a b h) [ inl k ↦ not_below_from b a (inl k) | inr k ↦ not_below_from b a (inr (sym k.0, omega (arith, k.1))) ]
 
+-- below and at least exclude each other
 pub not_both : (a b : Ballot) → below a b ≡ true → IsAtLeast a b → ⊥
 not_both a b h k = cc
 

@@ -106,6 +106,7 @@ outcome slot acc (r ∷ rs) best e =
       | inr f ↦ passed slot acc r rs best f (outcome slot acc rs best (sym (ap (λ o. fold (better_of slot) o rs) (cond-false (is_better slot acc r) (Some r) acc f)) ∙ e))
     ]
 
+-- the choice is the first of the highest ballot
 pub choice_is : {V : Type 0} (slot : ℕ) (reports : List (Report V)) (best : Report V) → choice slot reports ≡ Some best → IsFirstHighest slot reports best
 choice_is slot reports best e = elim (outcome slot None reports best e) [ inl kept ↦ (let none = kept.0 in cc) | inr there ↦ there.1 ]
 
@@ -128,6 +129,7 @@ no_outcome {V} slot acc (r ∷ rs) e =
           ))
     ]
 
+-- no choice: no report names the slot
 pub no_choice : {V : Type 0} (slot : ℕ) (reports : List (Report V)) → choice slot reports ≡ None → Each (λ (r : Report V). r.slot ≡ slot → ⊥) reports
 no_choice slot reports e = (no_outcome slot None reports e).1
 

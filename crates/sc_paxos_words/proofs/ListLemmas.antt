@@ -4,6 +4,7 @@ use Rattle.std.specs.List.{find}
 use Rattle.std.proofs.lemmas.Bool.{cases_Bool, cond-true, cond-false}
 use Rattle.sc_paxos_words.specs.Among.{Among, Each}
 
+-- what holds of each holds of one among them
 pub Each-among : {X : Type 0} (P : X → Type 0) (xs : List X) (x : X) → Each P xs → Among x xs → P x
 Each-among P [] x e a = absurd a
 Each-among P (y ∷ ys) x e (inl same) = subst P same e.0
@@ -13,10 +14,12 @@ pub Each-from : {X : Type 0} (P : X → Type 0) (xs : List X) → ((x : X) → A
 Each-from P [] f = tt
 Each-from P (x ∷ xs) f = (f x (inl refl), Each-from P xs (λ y a. f y (inr a)))
 
+-- what follows from what holds of each
 pub Each-weaker : {X : Type 0} (P Q : X → Type 0) → ((x : X) → P x → Q x) → (xs : List X) → Each P xs → Each Q xs
 Each-weaker P Q f [] e = tt
 Each-weaker P Q f (x ∷ xs) e = (f x e.0, Each-weaker P Q f xs e.1)
 
+-- what holds of each of two lists
 pub Each-append : {X : Type 0} (P : X → Type 0) (xs ys : List X) → Each P xs → Each P ys → Each P (xs ++ ys)
 Each-append P [] ys e f = f
 Each-append P (x ∷ xs) ys e f = (e.0, Each-append P xs ys e.1 f)
@@ -27,6 +30,7 @@ filter-yes p x xs t = cond-true (p x) (x ∷ filter p xs) (filter p xs) t
 filter-no : {X : Type 0} (p : X → Bool) (x : X) (xs : List X) → p x ≡ false → filter p (x ∷ xs) ≡ filter p xs
 filter-no p x xs f = cond-false (p x) (x ∷ filter p xs) (filter p xs) f
 
+-- what holds of each holds of those that pass a test
 pub Each-filter : {X : Type 0} (P : X → Type 0) (p : X → Bool) (xs : List X) → Each P xs → Each P (filter p xs)
 Each-filter P p [] e = tt
 Each-filter P p (x ∷ xs) e =
@@ -35,6 +39,7 @@ Each-filter P p (x ∷ xs) e =
       | inr f ↦ subst (Each P) (sym (filter-no p x xs f)) (Each-filter P p xs e.1)
     ]
 
+-- those that pass a test pass it
 pub Each-passes : {X : Type 0} (p : X → Bool) (xs : List X) → Each (λ x. p x ≡ true) (filter p xs)
 Each-passes p [] = tt
 Each-passes {X} p (x ∷ xs) =
@@ -43,6 +48,7 @@ Each-passes {X} p (x ∷ xs) =
       | inr f ↦ subst (Each (λ (y : X). p y ≡ true)) (sym (filter-no p x xs f)) (Each-passes p xs)
     ]
 
+-- one that passes is among those that pass
 pub Among-filter : {X : Type 0} (p : X → Bool) (xs : List X) (x : X) → Among x xs → p x ≡ true → Among x (filter p xs)
 Among-filter p [] x a t = absurd a
 Among-filter p (y ∷ ys) x (inl e) t = subst (Among x) (sym (filter-yes p y ys (ap p e ∙ t))) (inl e)
@@ -52,6 +58,7 @@ Among-filter p (y ∷ ys) x (inr a) t =
       | inr u ↦ subst (Among x) (sym (filter-no p y ys u)) (Among-filter p ys x a t)
     ]
 
+-- one among those that pass is one of all
 pub from_filter : {X : Type 0} (p : X → Bool) (xs : List X) (x : X) → Among x (filter p xs) → Among x xs × (p x ≡ true)
 from_filter p xs x a = (from_part p xs x a, Each-among (λ y. p y ≡ true) (filter p xs) x (Each-passes p xs) a)
   where
@@ -82,6 +89,7 @@ pub find_past : {X : Type 0} (p : X → Bool) (xs ys : List X) → Each (λ x. p
 find_past p [] ys e = refl
 find_past p (x ∷ xs) ys e = cond-false (p x) (Some x) (find p (xs ++ ys)) e.0 ∙ find_past p xs ys e.1
 
+-- what is found before a list that has none
 pub find_within : {X : Type 0} (p : X → Bool) (xs ys : List X) → find p ys ≡ None → find p (xs ++ ys) ≡ find p xs
 find_within p [] ys e = e
 find_within p (x ∷ xs) ys e = ap (λ o. cond (p x) (Some x) o) (find_within p xs ys e)

@@ -22,6 +22,7 @@ pub record IsFirstHighest {V : Type 0} (slot : ℕ) (reports : List (Report V)) 
   pub lower : Each (λ report. report.slot ≡ slot → below report.ballot best.ballot ≡ true) before
   pub none_higher : Each (λ report. report.slot ≡ slot → IsAtLeast best.ballot report.ballot) after
 
+-- the choice from reports is the first of the highest ballot
 abbrev pub ChoiceIsFirstHighest : Type 0 → Type 0
 ChoiceIsFirstHighest V = (slot : ℕ) (reports : List (Report V)) (best : Report V) → choice slot reports ≡ Some best → IsFirstHighest slot reports best
 

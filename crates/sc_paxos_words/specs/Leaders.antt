@@ -44,6 +44,7 @@ abbrev pub must_without : Bool → {V : Type 0} → Option V → Must V
 must_without above (Some value) = Value value
 must_without above None = if above then Gap else Free
 
+-- what a leader must propose at a slot
 abbrev pub must : {V : Type 0} → ℕ → LeaderState V → Must V
 must slot leader = must_without (names_above slot leader.reports) (chosen_value slot leader.reports)
 

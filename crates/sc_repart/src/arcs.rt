@@ -52,7 +52,9 @@ fn can_gain(core: &Core, offer: &Offer, at: u32) -> bool
 /// The arc of a participant that gains what the coordinator's arc, as it was offered, has from `at`
 /// on; none where that arc cannot be cut there, or the two do not meet.
 pub fn gained_arc(core: &Core, offer: &Offer, at: u32) -> Option<RingArc>
-    ensures { result ≡ (if can_gain core.now offer.now at then Some (joined (from offer.now.arc at) core.now.arc) else None) }
+    ensures { result
+        ≡ (if can_gain core.now offer.now at then Some (joined (from offer.now.arc at) core.now.arc)
+        else None) }
 {
     if !can_gain(core, offer, at) {
         return None;
@@ -61,7 +63,8 @@ pub fn gained_arc(core: &Core, offer: &Offer, at: u32) -> Option<RingArc>
     Some(join(&gift, &core.arc))
 }
 
-/// The arc of a participant that loses what lies before `at`; none where its arc cannot be cut there.
+/// The arc of a participant that loses what lies before `at`; none where its arc cannot be cut
+/// there.
 pub fn lost_arc(core: &Core, at: u32) -> Option<RingArc>
     ensures { result ≡ (if can_cut core.now.arc at then Some (from core.now.arc at) else None) }
 {

@@ -29,7 +29,8 @@ pub fn plan_repart(
     frozen: &Frozen,
 ) -> Result<(Core, RingArc), OutOfMemory>
     requires { can_repart core.now at frozen.now ≡ true }
-    ensures { IfOk result (λ plan. plan ≡ (repart_core core.now at frozen.now, moved_arc core.now at frozen.now)) }
+    ensures { IfOk result
+        (λ plan. plan ≡ (repart_core core.now at frozen.now, moved_arc core.now at frozen.now)) }
 {
     let (kept, moved) = arcs(core, at, frozen);
     let mut after = core.dup(alloc)?;
@@ -42,7 +43,8 @@ pub fn plan_repart(
 }
 
 fn can_take(core: &Core, at: u32, frozen: &Frozen) -> bool
-    ensures { result ≡ (can_cut frozen.now.arc at && can_join core.now.arc (before frozen.now.arc at)) }
+    ensures { result
+        ≡ (can_cut frozen.now.arc at && can_join core.now.arc (before frozen.now.arc at)) }
 {
     if !can_cut(&frozen.arc, at) {
         return false;

@@ -10,7 +10,8 @@ pub fn splits_keep_the_whole()
     arcs_are_sound();
 }
 
-/// The pairs of the two parts are the group's, each on the side whose arc holds it; the child has its
+/// The pairs of the two parts are the group's, each on the side whose arc holds it; the child has
+/// its
 /// parent's client table, and no other table changes.
 pub fn splits_share_the_pairs()
     ensures { SplitsShareThePairs }

@@ -12,7 +12,8 @@ use sc_cmd::{Core, Link, Lock, same_draw};
 use sc_member::Members;
 use std::alloc::Global;
 
-/// Whether a group of that record can be split at `at`: its arc holds `at` after its start, and it has two members at least.
+/// Whether a group of that record can be split at `at`: its arc holds `at` after its start, and it
+/// has two members at least.
 pub fn can_split(core: &Core, at: u32) -> bool
     ensures can { IsTrue result ↔ CanSplit core.now at }
     ensures same { result ≡ can_split core.now at }
@@ -20,8 +21,11 @@ pub fn can_split(core: &Core, at: u32) -> bool
     at != core.arc.lo() && core.arc.holds(at) && core.members.len() >= 2
 }
 
-/// The group after a split at `at`, and its child: the group keeps its name, the arc before `at` and its first `n - n/2` members of `n`, and the child has the rest. Each is the other's neighbour there; a group that was its own successor is so on both sides.
-/// `can_split` tells whether the group can be split there. Pairs and client table lie beside the record, and are no part of the plan.
+/// The group after a split at `at`, and its child: the group keeps its name, the arc before `at`
+/// and its first `n - n/2` members of `n`, and the child has the rest. Each is the other's
+/// neighbour there; a group that was its own successor is so on both sides.
+/// `can_split` tells whether the group can be split there. Pairs and client table lie beside the
+/// record, and are no part of the plan.
 pub fn plan_split(
     alloc: Global,
     core: &Core,
@@ -29,7 +33,8 @@ pub fn plan_split(
     child: Draw,
 ) -> Result<(Core, Core), OutOfMemory>
     requires { CanSplit core.now at }
-    ensures { IfOk result (λ parts. parts ≡ (left_core core.now at child, right_core core.now at child)) }
+    ensures { IfOk result
+        (λ parts. parts ≡ (left_core core.now at child, right_core core.now at child)) }
 {
     let (before, from) = cut(&core.arc, at);
     let (staying, leaving) = halves(&core.members);
@@ -104,7 +109,11 @@ fn left_part(
     own: &Link,
     child: &Link,
 ) -> Result<Core, OutOfMemory>
-    ensures { IfOk result (λ left. left ≡ record core.now { arc = arc; members = own.now.members; succ = child.now; pred = if is_alone core.now then child.now else core.now.pred; born = core.now.born ++ child.now.group ∷ [] }) }
+    ensures { IfOk result
+        (λ left.
+        left
+        ≡ record core.now
+        { arc = arc; members = own.now.members; succ = child.now; pred = if is_alone core.now then child.now else core.now.pred; born = core.now.born ++ child.now.group ∷ [] }) }
 {
     let pred = if is_alone(core) { *child } else { core.pred };
     let mut left = core.dup(alloc)?;
@@ -118,7 +127,9 @@ fn left_part(
 
 /// The child on this arc, of a group that is `parent` from now on.
 fn right_part(alloc: Global, core: &Core, arc: RingArc, parent: &Link, child: &Link) -> Core
-    ensures { result ≡ record { id = child.now.group; first = least_of child.now.members; arc = arc; members = child.now.members; succ = if is_alone core.now then parent.now else core.now.succ; pred = parent.now; lock = Free; begun = 0; decided = []; voted = []; born = []; gone = None } }
+    ensures { result
+        ≡ record
+        { id = child.now.group; first = least_of child.now.members; arc = arc; members = child.now.members; succ = if is_alone core.now then parent.now else core.now.succ; pred = parent.now; lock = Free; begun = 0; decided = []; voted = []; born = []; gone = None } }
 {
     let succ = if is_alone(core) { *parent } else { core.succ };
     Core {

@@ -3,7 +3,11 @@
 #![tactic(auto)]
 
 #[cfg(test)]
+mod machine_tests;
+#[cfg(test)]
 mod node_tests;
+#[cfg(test)]
+mod plan_tests;
 #[cfg(test)]
 mod replica_tests;
 #[cfg(test)]

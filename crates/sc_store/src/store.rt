@@ -1,5 +1,6 @@
 //! A map from keys to values, on which one operation after another is carried out.
 ghost use Rattle.std.specs.Prelude.{◌≡◌, ℕ, IfOk, OnOk, OnErr, take, is_some};
+ghost use Rattle.std.specs.List.{list_any};
 ghost use Rattle.std.specs.Option.{option_copied};
 ghost use Rattle.std.specs.FinMap as map;
 ghost use Rattle.sc_base.specs.declared.ops.Op.TheVariants.{Add, Cas};
@@ -98,6 +99,13 @@ impl Store {
             self.put(&pair.0, &pair.1)?;
         }
         Ok(())
+    }
+
+    /// Whether one of these keys is there.
+    pub fn has_any(&self, pairs: &Pairs) -> bool
+        ensures { result ≡ list_any (λ pair. is_some (map.get self.now pair.0)) pairs.now }
+    {
+        pairs.as_slice().iter().any(|pair| self.has(&pair.0))
     }
 
     fn find(&self, key: &Key) -> Option<&Value>

@@ -3,11 +3,19 @@
 #![tactic(auto)]
 
 #[cfg(test)]
+mod drive_tests;
+#[cfg(test)]
+mod ends_tests;
+#[cfg(test)]
 mod exchange_tests;
 #[cfg(test)]
 mod ledger_tests;
 #[cfg(test)]
 mod notes;
+#[cfg(test)]
+mod players;
+#[cfg(test)]
+mod rounds_tests;
 #[cfg(test)]
 mod shell_tests;
 #[cfg(test)]

@@ -1,7 +1,7 @@
 //! Mail that says nothing.
 
 use sc_actor::Parcel;
-use sc_base::{Dup, OutOfMemory, Sequence};
+use sc_base::{Dup, OutOfMemory, Same, Sequence};
 use std::alloc::Global;
 
 /// A note to an actor.
@@ -13,6 +13,12 @@ pub struct Note {
 impl Dup for Note {
     fn dup(&self, _alloc: Global) -> Result<Note, OutOfMemory> {
         Ok(Note { to: self.to })
+    }
+}
+
+impl Same for Note {
+    fn is_same(&self, other: &Note) -> bool {
+        self == other
     }
 }
 

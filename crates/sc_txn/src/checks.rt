@@ -19,7 +19,8 @@ const MOST_BEGUN: u32 = 256;
 /// accepted can be carried out. Whether the group is gone is not looked at here.
 pub fn check(core: &Core, command: &Command) -> Result<(), OrderRefusal>
     requires { is_checked command.now ≡ true }
-    ensures why { MatchResult result (λ _. refusal_of core.now command.now ≡ None) (λ why. refusal_of core.now command.now ≡ Some why) }
+    ensures why { MatchResult result (λ _. refusal_of core.now command.now ≡ None)
+        (λ why. refusal_of core.now command.now ≡ Some why) }
     ensures possible { OnOk result (IsPossible core.now command.now) }
 {
     if let Some(tx) = locked_in(&core.lock) {
@@ -54,7 +55,8 @@ pub(crate) fn locked_in(lock: &Lock) -> Option<Draw>
 }
 
 fn check_join(core: &Core, node: u16) -> Result<(), OrderRefusal>
-    ensures why { MatchResult result (λ _. join_refused core.now node ≡ None) (λ why. join_refused core.now node ≡ Some why) }
+    ensures why { MatchResult result (λ _. join_refused core.now node ≡ None)
+        (λ why. join_refused core.now node ≡ Some why) }
     ensures possible { OnOk result (add_fault core.now.members node ≡ None) }
 {
     let is_member = core.members.has(node);
@@ -75,7 +77,8 @@ fn has_one_member(core: &Core) -> bool
 }
 
 fn check_leave(core: &Core, node: u16) -> Result<(), OrderRefusal>
-    ensures why { MatchResult result (λ _. leave_refused core.now node ≡ None) (λ why. leave_refused core.now node ≡ Some why) }
+    ensures why { MatchResult result (λ _. leave_refused core.now node ≡ None)
+        (λ why. leave_refused core.now node ≡ Some why) }
     ensures possible { OnOk result (remove_fault core.now.members node ≡ None) }
 {
     if !core.members.has(node) {
@@ -94,7 +97,8 @@ fn is_alone(core: &Core) -> bool
 }
 
 fn check_split(core: &Core, at: u32) -> Result<(), OrderRefusal>
-    ensures why { MatchResult result (λ _. split_refused core.now at ≡ None) (λ why. split_refused core.now at ≡ Some why) }
+    ensures why { MatchResult result (λ _. split_refused core.now at ≡ None)
+        (λ why. split_refused core.now at ≡ Some why) }
     ensures possible { OnOk result (CanSplit core.now at) }
     ensures few { OnOk result (is_alone core.now ≡ false → core.now.begun < 256) }
 {
@@ -117,7 +121,8 @@ fn has_begun_all(core: &Core) -> bool
 }
 
 fn check_limit(core: &Core) -> Result<(), OrderRefusal>
-    ensures why { MatchResult result (λ _. limit_refused core.now ≡ None) (λ why. limit_refused core.now ≡ Some why) }
+    ensures why { MatchResult result (λ _. limit_refused core.now ≡ None)
+        (λ why. limit_refused core.now ≡ Some why) }
     ensures possible { OnOk result (core.now.begun < 256) }
 {
     if has_begun_all(core) {
@@ -127,7 +132,8 @@ fn check_limit(core: &Core) -> Result<(), OrderRefusal>
 }
 
 fn check_repart(core: &Core, at: u32) -> Result<(), OrderRefusal>
-    ensures why { MatchResult result (λ _. repart_refused core.now at ≡ None) (λ why. repart_refused core.now at ≡ Some why) }
+    ensures why { MatchResult result (λ _. repart_refused core.now at ≡ None)
+        (λ why. repart_refused core.now at ≡ Some why) }
     ensures possible { OnOk result (core.now.begun < 256) }
 {
     if at == core.arc.lo() || at == core.arc.end() {
@@ -137,7 +143,8 @@ fn check_repart(core: &Core, at: u32) -> Result<(), OrderRefusal>
 }
 
 fn check_migrate(core: &Core, node: u16) -> Result<(), OrderRefusal>
-    ensures why { MatchResult result (λ _. migrate_refused core.now node ≡ None) (λ why. migrate_refused core.now node ≡ Some why) }
+    ensures why { MatchResult result (λ _. migrate_refused core.now node ≡ None)
+        (λ why. migrate_refused core.now node ≡ Some why) }
     ensures possible { OnOk result (core.now.begun < 256) }
 {
     if !core.members.has(node) {
@@ -150,7 +157,8 @@ fn check_migrate(core: &Core, node: u16) -> Result<(), OrderRefusal>
 }
 
 fn check_body(core: &Core, body: &Body) -> Result<(), OrderRefusal>
-    ensures why { MatchResult result (λ _. body_refused body.now core.now ≡ None) (λ why. body_refused body.now core.now ≡ Some why) }
+    ensures why { MatchResult result (λ _. body_refused body.now core.now ≡ None)
+        (λ why. body_refused body.now core.now ≡ Some why) }
     ensures possible { OnOk result (core.now.begun < 256) }
 {
     match body {
@@ -161,7 +169,8 @@ fn check_body(core: &Core, body: &Body) -> Result<(), OrderRefusal>
 }
 
 fn check_begin(core: &Core, body: &Body) -> Result<(), OrderRefusal>
-    ensures why { MatchResult result (λ _. begin_refused core.now body.now ≡ None) (λ why. begin_refused core.now body.now ≡ Some why) }
+    ensures why { MatchResult result (λ _. begin_refused core.now body.now ≡ None)
+        (λ why. begin_refused core.now body.now ≡ Some why) }
     ensures possible { OnOk result (core.now.begun < 256) }
 {
     if is_alone(core) {
@@ -171,7 +180,8 @@ fn check_begin(core: &Core, body: &Body) -> Result<(), OrderRefusal>
 }
 
 /// Whether the draw has named something in a group of that record: a child that was split off, or a
-/// transaction that is decided or that the group is locked in. An order under such a name has no effect.
+/// transaction that is decided or that the group is locked in. An order under such a name has no
+/// effect.
 pub fn has_named(core: &Core, draw: Draw) -> bool
     ensures { result ≡ has_named core.now draw }
 {

@@ -1,4 +1,5 @@
-//! Whether an order is refused and why, how a group votes in a transaction, and what it has decided.
+//! Whether an order is refused and why, how a group votes in a transaction, and what it has
+//! decided.
 #![tactic(auto)]
 
 mod checks;

@@ -23,10 +23,12 @@ pub enum Decision {
     Abort,
 }
 
-/// How a group of that record votes on the offer of the group before it; Ok means Yes. Of the reasons
+/// How a group of that record votes on the offer of the group before it; Ok means Yes. Of the
+/// reasons
 /// for a No the first that holds counts. Whether it has voted already is not looked at here.
 pub fn vote(core: &Core, offer: &Offer) -> Result<(), No>
-    ensures { MatchResult result (λ _. vote_of core.now offer.now ≡ None) (λ why. vote_of core.now offer.now ≡ Some why) }
+    ensures { MatchResult result (λ _. vote_of core.now offer.now ≡ None)
+        (λ why. vote_of core.now offer.now ≡ Some why) }
 {
     if let Some(why) = bound(core) {
         return Err(why);
@@ -39,7 +41,8 @@ pub fn vote(core: &Core, offer: &Offer) -> Result<(), No>
 
 /// How it votes on becoming a watcher; Ok means Yes.
 pub fn watch_vote(core: &Core, watch: &Watch) -> Result<(), No>
-    ensures { MatchResult result (λ _. watch_vote_of core.now watch.now ≡ None) (λ why. watch_vote_of core.now watch.now ≡ Some why) }
+    ensures { MatchResult result (λ _. watch_vote_of core.now watch.now ≡ None)
+        (λ why. watch_vote_of core.now watch.now ≡ Some why) }
 {
     if let Some(why) = bound(core) {
         return Err(why);

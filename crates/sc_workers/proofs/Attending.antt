@@ -1,6 +1,5 @@
 -- The row that a shell makes in a round is a service: it delivers what is then its actor's first pending mail, and sends what the table gives.
-use Rattle.std.proofs.Common.{◌≡◌, ◌≢◌, ℕ, zero, suc, ◌+◌, ◌<◌, ◌≤◌, ⊎_elim, inl, inr, ◌⊎◌, Bool, true, false, true≢false, ◌&&◌, eqb, eq-eqb, cond, List, [], ◌∷◌, ◌++◌, length, get_or, refl, sym, ap, ◌∙◌, subst, arith, length-append, append_assoc, Option, Some, None}
-use Rattle.std.proofs.lemmas.List.{append-nil}
+use Rattle.std.proofs.Common.{◌≡◌, ◌≢◌, ℕ, ◌+◌, ◌<◌, ◌≤◌, ⊎_elim, inl, inr, ◌⊎◌, true, false, true≢false, ◌&&◌, eqb, eq-eqb, cond, List, [], ◌∷◌, ◌++◌, length, get_or, refl, sym, ap, ◌∙◌, subst, arith, length-append, append_assoc, Some}
 use Rattle.std.proofs.lemmas.Bool.{and_parts}
 use Rattle.std.specs.Option.{option_map}
 use Rattle.sc_turn.specs.Turn.{StartsWith}
@@ -11,7 +10,7 @@ use Rattle.sc_actor.specs.declared.rows.Event.TheVariants.{Deliver}
 use Rattle.sc_actor.specs.declared.rows.Input.TheVariants.{Got}
 use Rattle.sc_actor.specs.Mail.{mails, numbered}
 use Rattle.sc_actor.specs.Counted.{journal_bytes}
-use Rattle.sc_actor.specs.Replay.{acted, input_of, value}
+use Rattle.sc_actor.specs.Replay.{acted, value}
 use Rattle.sc_actor.specs.System.{row_of}
 use Rattle.sc_ledger.specs.Pending.{kth_pending}
 use Rattle.sc_exchange.specs.declared.ports.Port.{Port}
@@ -23,12 +22,13 @@ use Rattle.sc_shell.specs.declared.shells.Shell.{Shell}
 use Rattle.sc_shell.specs.declared.turns.Turn.{Turn}
 use Rattle.sc_shell.specs.declared.turns.Turn.TheVariants.{Did, Empty, Full, Spent, OutOfMemory}
 use Rattle.sc_shell.specs.Shells.{Takes, IsReplay, state, row_at}
-use Rattle.sc_shell.proofs.Replaying.{own_length, numbered_more, replay_over}
-use Rattle.sc_workers.specs.Crews.{Goes, AllGo, Took, AllTook, Passed, AllPassed, AllOf, AllOver, IsOver, IsAhead, AllAhead, Still, AllStill}
+use Rattle.sc_shell.proofs.Replaying.{numbered_more, replay_over}
+use Rattle.sc_workers.specs.Crews.{Goes, AllGo, Took, Passed, AllPassed, AllOf, AllOver, IsOver, IsAhead, AllAhead, Still, AllStill}
 use Rattle.sc_workers.specs.Services.{IsService, Serves, AllServe}
 use Rattle.sc_workers.specs.Ends.{IsGathered}
-use Rattle.sc_workers.proofs.Lists.{starts_trans}
 use Rattle.sc_workers.proofs.Serving.{count_later, list_same, net_same}
+use Rattle.sc_exchange.proofs.Knowing.{own_length}
+use Rattle.sc_turn.proofs.Lists.{starts_trans}
 
 -- lists
 module _ {X : Type 0} where
@@ -55,6 +55,7 @@ module _ {X : Type 0} where
       ⊎_elim (λ q. inl (q.0, λ i. head i ∷ q.1 i)) (λ q. inr (q.0, λ i. sym head i ∷ q.1 i)) (cut_in front more before after x tail)
 
 module _ {M O : Type 0} where
+  -- how many rows of a number there are, where one of them is pointed out
   pub count_split : (n : ℕ) (before after : List (Row M O)) (row : Row M O) → row.who ≡ n → length (rows_of n (before ++ row ∷ after)) ≡ length (rows_of n before) + (1 + length (rows_of n after))
   count_split n [] after row is = ap (λ b. length (cond b (row ∷ rows_of n after) (rows_of n after))) (eq-eqb row.who n is) ∙ omega arith
   count_split n (x ∷ before) after row is = let e = count_split n before after row is in
@@ -181,7 +182,7 @@ module _ {A M O : Type 0} {g : Ghosts A M O} {h : MailGhosts M} where
     same_serves : t ≡ before → Serves next start
     same_serves e = record { each = λ front r rest is own new. no_row (ap (λ (s : Shell A M O g h). length (made s.port)) e) front r rest is own new (ap (λ (s : Shell A M O g h). s.port.who) e) }
 
-    pub passed_serves : Passed before t → Serves next start
+    passed_serves : Passed before t → Serves next start
     passed_serves p = ⊎_elim same_serves (λ (took : Took before t). ⊎_elim (λ x. same_serves x.1) (λ x. took_serves x.1.0 x.0 x.1.1) took.acts) p
 
   -- a round
@@ -207,6 +208,7 @@ module _ {A M O : Type 0} {g : Ghosts A M O} {h : MailGhosts M} where
           let s = second.each front r rest is (own ∙ sym goes.stays.who) new in
           record { number = s.number; event = s.event; first = s.first; within = s.within; by_table = λ birth rep. s.by_table birth (goes.replay birth rep) }
 
+  -- the same of all shells
   pub all_serve_then : (net next : Port M O h) (start mid : List (Shell A M O g h)) → length mid ≡ length start → Looked net next → AllGo start mid → AllOver net mid → AllServe net start → AllServe next mid → AllServe next start
   all_serve_then net next start mid l looked go over first second k d lt =
       serves_then net next (get_or start k d) (get_or mid k d) looked (go k d lt) (over k d (omega (arith, lt, l))) (first k d lt) (second k d (omega (arith, lt, l)))

@@ -1,5 +1,5 @@
 -- Lists of shells that go on.
-use Rattle.std.proofs.Common.{◌≡◌, ℕ, suc, ◌+◌, ◌<◌, ◌≤◌, ⊎_elim, inl, inr, Bool, true, false, true≢false, cond, ◌&&◌, not, List, [], ◌∷◌, ◌++◌, length, sum_by, get_or, refl, sym, ap, ◌∙◌, subst, arith, append_assoc, length-append, Option, Some, None}
+use Rattle.std.proofs.Common.{◌≡◌, ℕ, suc, ◌+◌, ◌<◌, ◌≤◌, ⊎_elim, Bool, true, false, true≢false, cond, ◌&&◌, not, List, [], ◌∷◌, ◌++◌, length, sum_by, get_or, refl, sym, ap, ◌∙◌, subst, arith, append_assoc, length-append, Option, Some, None}
 use Rattle.std.specs.List.{AllByRecursion}
 use Rattle.std.proofs.lemmas.Bool.Decides.{leb_tells}
 use Rattle.std.proofs.lemmas.List.{append-nil}
@@ -14,9 +14,11 @@ use Rattle.sc_shell.specs.declared.turns.Turn.{Turn}
 use Rattle.sc_shell.specs.declared.turns.Turn.TheVariants.{Did, Empty, Full, Spent, OutOfMemory}
 use Rattle.sc_turn.specs.Turn.{StartsWith}
 use Rattle.sc_actor.specs.Replay.{value}
-use Rattle.sc_shell.specs.Shells.{State, Takes, state, IsReplay, KeepsReplay, Replays, ReplaysOver}
-use Rattle.sc_workers.specs.Crews.{Delivers, is_delivery, is_did, refusal_in, Goes, AllGo, Took, AllTook, Passed, AllPassed, Sound, AllSound, AllOf, AllMet, HasMet, IsAhead, IsOver, AllOver, rows_made, Still, AllStill, HasRefusal, did, refusal}
-use Rattle.sc_workers.proofs.Lists.{starts_trans, sum_with, sum_zero, sum_short}
+use Rattle.sc_shell.specs.Shells.{State, Takes, state, KeepsReplay, Replays, ReplaysOver}
+use Rattle.sc_workers.specs.Crews.{Delivers, is_delivery, is_did, refusal_in, Goes, AllGo, Took, AllTook, Passed, AllPassed, Sound, AllSound, AllOf, AllMet, HasMet, IsAhead, IsOver, rows_made, Still, AllStill, AreStill, AreLater, HasRefusal, did, refusal}
+use Rattle.sc_workers.proofs.Lists.{sum_with, sum_zero, sum_short}
+use Rattle.sc_exchange.proofs.Knowing.{looked_trans, stays_trans}
+use Rattle.sc_turn.proofs.Lists.{starts_trans}
 
 module _ {M O : Type 0} where
   deliveries_append : (xs ys : List (Row M O)) → AllByRecursion (λ (r : Row M O). is_delivery r.event ≡ true) xs → AllByRecursion (λ (r : Row M O). is_delivery r.event ≡ true) ys → AllByRecursion (λ (r : Row M O). is_delivery r.event ≡ true) (xs ++ ys)
@@ -34,19 +36,17 @@ module _ {M O : Type 0} where
   }
 
 module _ {M O : Type 0} {h : MailGhosts M} where
+  -- a port is of the exchange of one that looked
   pub of_later : (net next : Port M O h) (p : Port M O h) → Looked net next → SameExchange p net → SameExchange p next
   of_later net next p l o = let e = l.stays.exchange in (e.0 ∙ o.0, e.1 ∙ o.1, e.2 ∙ o.2)
 
-  stays_same : (p : Port M O h) → Stays p p
+  -- a port is as it was
+  pub stays_same : (p : Port M O h) → Stays p p
   stays_same p = record { exchange = (refl, refl, refl); who = refl; given = refl; joined = refl }
 
-  stays_then : (p q r : Port M O h) → Stays p q → Stays q r → Stays p r
-  stays_then p q r a b = record {
-    exchange = (b.exchange.0 ∙ a.exchange.0, b.exchange.1 ∙ a.exchange.1, b.exchange.2 ∙ a.exchange.2);
-    who = b.who ∙ a.who;
-    given = b.given ∙ a.given;
-    joined = b.joined ∙ a.joined;
-  }
+  -- and has looked at nothing
+  looked_same : (p : Port M O h) → Looked p p
+  looked_same p = record { stays = stays_same p; later = ([], sym (append-nil (seen p))); made = refl }
 
 some_injective : (x y : Turn) → Some x ≡ Some y → x ≡ y
 some_injective x y e = cc
@@ -68,7 +68,7 @@ module _ {A M O : Type 0} {g : Ghosts A M O} {h : MailGhosts M} where
 
   pub goes_trans : (s t u : Shell A M O g h) → Goes s t → Goes t u → Goes s u
   goes_trans s t u a b = record {
-    stays = stays_then s.port t.port u.port a.stays b.stays;
+    stays = stays_trans s.port t.port u.port a.stays b.stays;
     replay = λ birth r. b.replay birth (a.replay birth r);
     made = delivers_trans (made s.port) (made t.port) (made u.port) a.made b.made;
   }
@@ -80,15 +80,6 @@ module _ {A M O : Type 0} {g : Ghosts A M O} {h : MailGhosts M} where
   takes_made s t (Full bytes) x = delivers_none (made s.port) (made t.port) x.2.0.made
   takes_made s t Spent x = delivers_none (made s.port) (made t.port) (ap made x.2)
   takes_made s t OutOfMemory x = delivers_none (made s.port) (made t.port) x.1.made
-
-  pub took_turn : (s t : Shell A M O g h) (r : Turn) → s.spent ≡ false → Stays s.port t.port → ((birth : A) → IsReplay s birth → IsReplay t birth) → Takes (state s) (state t) 1 r → t.last ≡ Some r → Took s t
-  took_turn s t r free stays replay takes last = record {
-    goes = record { stays = stays; replay = replay; made = takes_made (state s) (state t) r takes };
-    acts = inr (free, (r, takes, last));
-  }
-
-  pub took_none : (s : Shell A M O g h) → s.spent ≡ true → Took s s
-  took_none s spent = record { goes = goes_same s; acts = inl (spent, refl) }
 
   did_last : (t : Shell A M O g h) (r : Turn) → t.last ≡ Some r → t.port.crashed ≡ false → did t ≡ cond {A = ℕ} (is_did (Some r)) 1 0
   did_last t r last runs = λ i. cond (not (runs i) && is_did (last i)) 1 0
@@ -116,14 +107,6 @@ module _ {A M O : Type 0} {g : Ghosts A M O} {h : MailGhosts M} where
 
   pub passed_goes : (s t : Shell A M O g h) → Passed s t → Goes s t
   passed_goes s t p = ⊎_elim (λ same. subst (Goes s) (sym same) (goes_same s)) (λ (took : Took s t). took.goes) p
-
-  -- a shell that was not refused is sound
-  pub calm_sound : (s : Shell A M O g h) → refusal s ≡ None → Sound s
-  calm_sound s calm spent = by s.port.crashed refl
-    where
-      by : (b : Bool) → s.port.crashed ≡ b → s.port.crashed ≡ true
-      by true e = e
-      by false e = (let told : Some (refusal_in s.last) ≡ None = sym (λ i. cond (spent i && not (e i)) (Some (refusal_in s.last)) None) ∙ calm in cc)
 
   pub refused_so : (s : Shell A M O g h) (r : Turn) → refusal s ≡ Some r → (s.spent ≡ true) × (s.port.crashed ≡ false) × (refusal_in s.last ≡ r)
   refused_so s r e = by s.spent s.port.crashed refl refl
@@ -160,6 +143,7 @@ module _ {A M O : Type 0} {g : Ghosts A M O} {h : MailGhosts M} where
       by Spent free x last spent = did_not t (ap is_did last)
       by OutOfMemory free x last spent = did_not t (ap is_did last)
 
+  -- a shell that was refused is not sound
   pub refused_unsound : (t : Shell A M O g h) (r : Turn) → refusal t ≡ Some r → ¬ Sound t
   refused_unsound t r e = λ sound. let told = refused_so t r e in true≢false (sym (sound told.0) ∙ told.1)
 
@@ -169,6 +153,7 @@ module _ {A M O : Type 0} {g : Ghosts A M O} {h : MailGhosts M} where
       sum_short did ts (λ k d lt. did_most (get_or ts k d)) refused.place refused.inside
       (λ d. refused_idle (get_or ss refused.place d) (get_or ts refused.place d) r (sound refused.place d (omega (arith, refused.inside, l))) (took refused.place d (omega (arith, refused.inside, l))) (refused.told d))
 
+  -- a shell is as it was
   pub still_same : (s : Shell A M O g h) → Still s s
   still_same s = record { goes = goes_same s; made = refl; later = ([], sym (append-nil (seen s.port))); spent = refl; crashed = refl }
 
@@ -181,6 +166,7 @@ module _ {A M O : Type 0} {g : Ghosts A M O} {h : MailGhosts M} where
     crashed = b.crashed ∙ a.crashed;
   }
 
+  -- a shell that made nothing goes on
   pub still_made : (s t : Shell A M O g h) → Stays s.port t.port → KeepsReplay s t → made t.port ≡ made s.port → Goes s t
   still_made s t stays replay same = record { stays = stays; replay = replay; made = delivers_none (made s.port) (made t.port) same }
 
@@ -188,27 +174,22 @@ module _ {A M O : Type 0} {g : Ghosts A M O} {h : MailGhosts M} where
   pub all_go_trans : (ss ts us : List (Shell A M O g h)) → length ts ≡ length ss → AllGo ss ts → AllGo ts us → AllGo ss us
   all_go_trans ss ts us l a b k d lt = goes_trans (get_or ss k d) (get_or ts k d) (get_or us k d) (a k d lt) (b k d (omega (arith, l, lt)))
 
-  pub all_go_same : (ss : List (Shell A M O g h)) → AllGo ss ss
-  all_go_same ss k d lt = goes_same (get_or ss k d)
-
+  -- shells that made nothing have gone on
   pub still_all_go : (ss ts : List (Shell A M O g h)) → AllStill ss ts → AllGo ss ts
   still_all_go ss ts a k d lt = (a k d lt).goes
 
+  -- shells that took a turn or none have gone on
   pub passed_all_go : (ss ts : List (Shell A M O g h)) → AllPassed ss ts → AllGo ss ts
   passed_all_go ss ts a k d lt = passed_goes (get_or ss k d) (get_or ts k d) (a k d lt)
-
-  pub took_all_passed : (ss ts : List (Shell A M O g h)) → AllTook ss ts → AllPassed ss ts
-  took_all_passed ss ts a k d lt = inr (a k d lt)
 
   pub all_still_trans : (ss ts us : List (Shell A M O g h)) → length ts ≡ length ss → AllStill ss ts → AllStill ts us → AllStill ss us
   all_still_trans ss ts us l a b k d lt = still_trans (get_or ss k d) (get_or ts k d) (get_or us k d) (a k d lt) (b k d (omega (arith, l, lt)))
 
-  pub all_still_same : (ss : List (Shell A M O g h)) → AllStill ss ss
-  all_still_same ss k d lt = still_same (get_or ss k d)
-
+  -- sound shells that made nothing are sound
   pub still_sound : (ss ts : List (Shell A M O g h)) → length ts ≡ length ss → AllStill ss ts → AllSound ss → AllSound ts
   still_sound ss ts l a sound k d lt spent = let s = a k d (omega (arith, l, lt)) in s.crashed ∙ sound k d (omega (arith, l, lt)) (sym s.spent ∙ spent)
 
+  -- and as many rows were made
   pub still_rows : (ss ts : List (Shell A M O g h)) → length ts ≡ length ss → AllStill ss ts → rows_made ts ≡ rows_made ss
   still_rows ss ts l a =
       let e = sum_with (λ (s : Shell A M O g h). length (made s.port)) (λ (s : Shell A M O g h). 0) ss ts l (λ k d lt. omega (arith, ap length (a k d lt).made)) in
@@ -219,29 +200,33 @@ module _ {A M O : Type 0} {g : Ghosts A M O} {h : MailGhosts M} where
   took_rows ss ts l sound a =
       sum_with (λ (s : Shell A M O g h). length (made s.port)) did ss ts l (λ k d lt. took_did (get_or ss k d) (get_or ts k d) (sound k d lt) (a k d lt))
 
+  -- shells that have gone on are of the exchange as before
   pub all_of_go : (net : Port M O h) (ss ts : List (Shell A M O g h)) → length ts ≡ length ss → AllGo ss ts → AllOf net ss → AllOf net ts
   all_of_go net ss ts l a of k d lt =
       let o = of k d (omega (arith, l, lt)) in let e = (a k d (omega (arith, l, lt))).stays.exchange in
       (o.0 ∙ sym e.0, o.1 ∙ sym e.1, o.2 ∙ sym e.2)
 
+  -- and so they are where the port looked
   pub all_of_later : (net next : Port M O h) (ss : List (Shell A M O g h)) → Looked net next → AllOf net ss → AllOf next ss
   all_of_later net next ss l of k d lt = of_later net next (get_or ss k d).port l (of k d lt)
 
+  -- a shell that has met the port has met it when it looked
   pub has_later : (net next : Port M O h) (s : Shell A M O g h) → Looked net next → HasMet net s → HasMet next s
   has_later net next s l m = record { begins = starts_trans (seen next) (seen net) (seen s.port) l.later m.begins }
 
+  -- a shell that is ahead of a port is ahead of it as it was
   pub ahead_before : (net next : Port M O h) (s : Shell A M O g h) → Looked net next → IsAhead next s → IsAhead net s
   ahead_before net next s l a = record { begins = starts_trans (seen s.port) (seen next) (seen net) a.begins l.later; own = a.own }
 
-  pub over_met : (net : Port M O h) (ss : List (Shell A M O g h)) → AllOver net ss → AllMet net ss
-  over_met net ss over k d lt = record { begins = (over k d lt).begins }
-
+  -- what was met is what was seen
   pub met_same : (net next : Port M O h) (s : Shell A M O g h) → seen next ≡ seen net → HasMet net s → HasMet next s
   met_same net next s e m = record { begins = subst (λ l. StartsWith l (seen s.port)) (sym e) m.begins }
 
+  -- the same of all shells
   pub all_met_later : (net next : Port M O h) (ss : List (Shell A M O g h)) → Looked net next → AllMet net ss → AllMet next ss
   all_met_later net next ss l met k d lt = has_later net next (get_or ss k d) l (met k d lt)
 
+  -- what is over the rows that were seen is over the same rows
   pub over_same : (net next : Port M O h) (s : Shell A M O g h) → seen next ≡ seen net → IsOver net s → IsOver next s
   over_same net next s e o = record {
     begins = subst (λ l. StartsWith l (seen s.port)) (sym e) o.begins;
@@ -249,8 +234,47 @@ module _ {A M O : Type 0} {g : Ghosts A M O} {h : MailGhosts M} where
     replay = λ birth r. subst (λ l. ReplaysOver s l birth) (sym e) (o.replay birth r);
   }
 
-  pub all_over_same : (net next : Port M O h) (ss : List (Shell A M O g h)) → seen next ≡ seen net → AllOver net ss → AllOver next ss
-  all_over_same net next ss e over k d lt = over_same net next (get_or ss k d) e (over k d lt)
+-- what all shells did, one after another
+module _ {A M O : Type 0} {g : Ghosts A M O} {h : MailGhosts M} where
+  -- nothing was done
+  pub are_still_same : (net : Port M O h) (ss : List (Shell A M O g h)) → AreStill net net ss ss
+  are_still_same net ss = record { len = refl; still = λ k d lt. still_same (get_or ss k d); looked = looked_same net }
+
+  -- and once more nothing was made
+  pub are_still_then : (a b c : Port M O h) (ss ts us : List (Shell A M O g h)) → AreStill a b ss ts → AreStill b c ts us → AreStill a c ss us
+  are_still_then a b c ss ts us one two = record {
+    len = two.len ∙ one.len;
+    still = all_still_trans ss ts us one.len one.still two.still;
+    looked = looked_trans a b c one.looked two.looked;
+  }
+
+  -- the port looked once more
+  pub are_still_looked : (a b c : Port M O h) (ss ts : List (Shell A M O g h)) → AreStill a b ss ts → Looked b c → AreStill a c ss ts
+  are_still_looked a b c ss ts one two = record { len = one.len; still = one.still; looked = looked_trans a b c one.looked two }
+
+  -- shells that made nothing are later
+  pub still_later : (a b : Port M O h) (ss ts : List (Shell A M O g h)) → AreStill a b ss ts → AreLater a b ss ts
+  still_later a b ss ts one = record { len = one.len; go = still_all_go ss ts one.still; looked = one.looked }
+
+  -- later and later
+  pub later_then : (a b c : Port M O h) (ss ts us : List (Shell A M O g h)) → AreLater a b ss ts → AreLater b c ts us → AreLater a c ss us
+  later_then a b c ss ts us one two = record {
+    len = two.len ∙ one.len;
+    go = all_go_trans ss ts us one.len one.go two.go;
+    looked = looked_trans a b c one.looked two.looked;
+  }
+
+  -- the shells took their turns
+  pub later_passed : (a b : Port M O h) (ss ts us : List (Shell A M O g h)) → AreStill a b ss ts → length us ≡ length ts → AllPassed ts us → AreLater a b ss us
+  later_passed a b ss ts us one len passed = record {
+    len = len ∙ one.len;
+    go = all_go_trans ss ts us one.len (still_all_go ss ts one.still) (passed_all_go ts us passed);
+    looked = one.looked;
+  }
+
+  -- they are of the exchange as before
+  pub all_of_on : (a b : Port M O h) (ss ts : List (Shell A M O g h)) → AreLater a b ss ts → AllOf a ss → AllOf b ts
+  all_of_on a b ss ts one of = all_of_go b ss ts one.len one.go (all_of_later a b ss one.looked of)
 
 -- the elements before a place are related, and the others are as they were
 pub all_partly : {X : Type 0} (R : X → X → Type 0) → ((x : X) → R x x) → (before now : List X) (i : ℕ) → ((k : ℕ) (d : X) → k < i → R (get_or before k d) (get_or now k d)) → ((k : ℕ) (d : X) → i ≤ k → get_or now k d ≡ get_or before k d) → (k : ℕ) (d : X) → k < length before → R (get_or before k d) (get_or now k d)

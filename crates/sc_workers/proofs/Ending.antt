@@ -4,7 +4,10 @@ use Rattle.std.specs.List.{list_any}
 use Rattle.sc_actor.specs.declared.actors.Actor.{Ghosts}
 use Rattle.sc_actor.specs.declared.actors.Parcel.{Ghosts as MailGhosts}
 use Rattle.sc_ledger.specs.Pending.{kth_pending}
+use Rattle.sc_actor.specs.declared.rows.Row.{Row}
+use Rattle.sc_exchange.specs.declared.answers.Fetched.{Fetched}
 use Rattle.sc_exchange.specs.declared.ports.Port.{Port}
+use Rattle.sc_exchange.specs.Answers.{IsFetch}
 use Rattle.sc_exchange.specs.Addressed.{all_addressed}
 use Rattle.sc_exchange.specs.Deeds.{rows_of}
 use Rattle.sc_exchange.specs.Ports.{seen, Looked, IsTrue, IsAddressed}
@@ -13,9 +16,9 @@ use Rattle.sc_shell.specs.declared.turns.Turn.{Turn}
 use Rattle.sc_shell.specs.declared.turns.Turn.TheVariants.{Full as RefusedFull}
 use Rattle.sc_workers.specs.declared.answers.Rounds.{Rounds}
 use Rattle.sc_workers.specs.declared.answers.Rounds.TheVariants.{Quiet, Limit, Full, OutOfMemory}
-use Rattle.sc_workers.specs.Crews.{rows_made, AllSound}
+use Rattle.sc_workers.specs.Crews.{rows_made, AllSound, AreStill, HaveVouched}
 use Rattle.sc_workers.specs.Services.{AllServe}
-use Rattle.sc_workers.specs.Ends.{any_waits, IsFull, IsEnd, StepEnd, RefusedEnd, IsGathered, IfCalm, IfHeld}
+use Rattle.sc_workers.specs.Ends.{any_waits, IsFirst, IsFull, IsEnd, StepEnd, RefusedEnd, IsGathered, IfCalm, IfHeld}
 
 any_map : {A : Type 0} (f : A → Bool) (xs : List A) → list_any (λ (b : Bool). b) (map f xs) ≡ list_any f xs
 any_map f [] = refl
@@ -26,6 +29,7 @@ module _ {M O : Type 0} {h : MailGhosts M} where
   pub any_found : (net : Port M O h) (whos : List ℕ) (waits : List Bool) (any : Bool) → waits ≡ map (λ who. is_some (kth_pending h.receiver net.actors (seen net) who 1)) whos → any ≡ list_any (λ (b : Bool). b) waits → any_waits net whos ≡ any
   any_found net whos waits any is told = sym (any_map (λ who. is_some (kth_pending h.receiver net.actors (seen net) who 1)) whos) ∙ (ap (list_any (λ (b : Bool). b)) (sym is) ∙ sym told)
 
+  -- mail waits as before, where the same rows were seen
   pub waits_same : (net next : Port M O h) (whos : List ℕ) → next.actors ≡ net.actors → seen next ≡ seen net → any_waits next whos ≡ any_waits net whos
   waits_same net next whos actors rows = λ i. list_any (λ who. is_some (kth_pending h.receiver (actors i) (rows i) who 1)) whos
 
@@ -38,7 +42,23 @@ module _ {M O : Type 0} {h : MailGhosts M} where
     others = λ z n ne away. ap (rows_of n) rows ∙ t.others (sym l.stays.who ∙ z) n ne (λ there. away (subst (λ ws. Contains ws n) (sym l.stays.given) there));
   }
 
+  -- what a look found, once all have vouched
+  pub first_so : (net mid next : Port M O h) (found : Fetched M) → Looked net mid → Looked mid next → seen next ≡ seen mid → IsFetch h.receiver net.actors (seen mid) net.who 1 found → IsFirst next found
+  first_so net mid next found a b same f =
+      let actors : net.actors ≡ next.actors = sym (b.stays.exchange.1 ∙ a.stays.exchange.1) in
+      let who : net.who ≡ next.who = sym (b.stays.who ∙ a.stays.who) in
+      subst (λ (p : ℕ × List (Row M O) × ℕ). IsFetch h.receiver p.0 p.1 p.2 1 found) (λ i. (actors i, sym same i, who i)) f
+
 module _ {A M O : Type 0} {g : Ghosts A M O} {h : MailGhosts M} where
+  -- after a meeting the port looked, and then all vouched
+  pub gathered_so : (mid next : Port M O h) (ss ts : List (Shell A M O g h)) → IsTrue mid → IsAddressed mid → AreStill mid next ss ts → HaveVouched mid next ts → IsGathered next ts
+  gathered_so mid next ss ts rows addressed still vouched = record {
+    over = vouched.over;
+    rows = true_same mid next still.looked vouched.seen rows;
+    addressed = addressed_same mid next vouched.seen addressed;
+  }
+
+  -- a round that ends by a refusal
   pub step_end : (r : Rounds) (refused : Turn) (net : Port M O h) (start ss : List (Shell A M O g h)) (whos : List ℕ) (limit used : ℕ) → RefusedEnd r refused net ss
       → ((bytes : ℕ) → refused ≡ RefusedFull bytes → IsGathered net ss → IsFull start net ss bytes × (used < limit)) → StepEnd r net start ss whos limit used
   step_end (Quiet told) refused net start ss whos limit used p f = absurd p
@@ -46,6 +66,7 @@ module _ {A M O : Type 0} {g : Ghosts A M O} {h : MailGhosts M} where
   step_end (Full bytes) refused net start ss whos limit used p f = (let e = f bytes p.0 p.1 in (p.1.over, e.0, e.1))
   step_end OutOfMemory refused net start ss whos limit used p f = tt
 
+  -- the end of a round, told from an earlier start
   pub step_from : (o : Option Rounds) (net : Port M O h) (first mid ss : List (Shell A M O g h)) (whos : List ℕ) (limit used : ℕ) → ((bytes : ℕ) → IsFull mid net ss bytes → IsFull first net ss bytes) → IfSome o (λ r. StepEnd r net mid ss whos limit used) → IfSome o (λ r. StepEnd r net first ss whos limit used)
   step_from None net first mid ss whos limit used f p = tt
   step_from (Some (Quiet told)) net first mid ss whos limit used f p = p
@@ -53,6 +74,7 @@ module _ {A M O : Type 0} {g : Ghosts A M O} {h : MailGhosts M} where
   step_from (Some (Full bytes)) net first mid ss whos limit used f p = (p.0, f bytes p.1, p.2)
   step_from (Some OutOfMemory) net first mid ss whos limit used f p = tt
 
+  -- the end of all rounds, from that of the last
   pub end_so : (r : Rounds) (net : Port M O h) (first mid ss : List (Shell A M O g h)) (whos all : List ℕ) (limit used : ℕ) → StepEnd r net mid ss whos limit used → whos ≡ all → used ≤ limit → rows_made ss ≡ rows_made first + used
       → ((bytes : ℕ) → IsFull mid net ss bytes → IsFull first net ss bytes) → IfHeld (Some r) (AllServe net first) → IfCalm (Some r) (AllSound ss) → IsEnd r net first ss all limit
   end_so (Quiet told) net first mid ss whos all limit used p same fits count f served sound =
@@ -85,6 +107,7 @@ held_maps (Some (Limit used)) f p = f p
 held_maps (Some (Full bytes)) f p = f p
 held_maps (Some OutOfMemory) f p = tt
 
+-- a calm round had memory
 pub held_calm : (P : Type 0) (r : Option Rounds) → IfHeld r P → IfCalm r P
 held_calm P None p = p
 held_calm P (Some (Quiet used)) p = p
@@ -92,12 +115,14 @@ held_calm P (Some (Limit used)) p = p
 held_calm P (Some (Full bytes)) p = tt
 held_calm P (Some OutOfMemory) p = tt
 
+-- a refusal but for want of memory had memory
 pub refused_held : {P : Type 0} {A M O : Type 0} {g : Ghosts A M O} {h : MailGhosts M} (r : Rounds) (refused : Turn) (net : Port M O h) (ss : List (Shell A M O g h)) → (IsGathered net ss → P) → RefusedEnd r refused net ss → IfHeld (Some r) P
 refused_held (Quiet used) refused net ss f e = absurd e
 refused_held (Limit used) refused net ss f e = absurd e
 refused_held (Full bytes) refused net ss f e = f e.1
 refused_held OutOfMemory refused net ss f e = tt
 
+-- what holds anyway
 pub calm_of : (P : Type 0) (r : Option Rounds) → P → IfCalm r P
 calm_of P None p = p
 calm_of P (Some (Quiet used)) p = p

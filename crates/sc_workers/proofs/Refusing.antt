@@ -24,9 +24,9 @@ use Rattle.sc_shell.specs.Shells.{Takes, IsReplay, state, row_at}
 use Rattle.sc_shell.proofs.Replaying.{numbered_more, replay_over}
 use Rattle.sc_workers.specs.Crews.{Goes, AllGo, AllPassed, AllSound, AllStill, AllOf, AllOver, IsAhead, AllAhead, HasRefusal, Still, IsOver}
 use Rattle.sc_workers.specs.Ends.{IsRefused, IsFull}
-use Rattle.sc_workers.proofs.Lists.{starts_trans}
 use Rattle.sc_workers.proofs.Crews.{passed_full}
 use Rattle.sc_workers.proofs.Serving.{net_same}
+use Rattle.sc_turn.proofs.Lists.{starts_trans}
 
 -- a longer journal counts no less
 counts_more : {M O : Type 0} (weighs : M → ℕ) (xs ys : List (Row M O)) → StartsWith xs ys → journal_bytes weighs ys ≤ journal_bytes weighs xs
@@ -76,6 +76,7 @@ module _ {A M O : Type 0} {g : Ghosts A M O} {h : MailGhosts M} where
         (λ i. record { who = s.port.who; event = Deliver x.1.number; sent = (acted g.table (value_is birth r i) (sym (ap (option_map Got) mail_there) i)).1 })
         ∙ ap (λ n. row_of g.table (record { who = n; actor = birth }) (seen net) (Deliver x.1.number)) (sym who_is)
 
+    -- the shell that was refused
     pub refused_at : IsRefused start net u bytes
     refused_at = record {
       spent = still.spent ∙ x.2.2;

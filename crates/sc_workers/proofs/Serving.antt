@@ -1,7 +1,7 @@
 -- A round that begins with pending mail, and in which no turn is refused, makes a delivery.
-use Rattle.std.proofs.Common.{◌≡◌, ◌≢◌, ℕ, zero, suc, ◌+◌, ◌<◌, ◌≤◌, ⊎_elim, Bool, true, false, true≢false, ◌||◌, List, [], ◌∷◌, ◌++◌, length, map, get_or, refl, sym, ap, ◌∙◌, arith, length-append, eqb, cond, Option, Some, None, is_some}
+use Rattle.std.proofs.Common.{◌≡◌, ◌≢◌, ℕ, zero, suc, ◌+◌, ◌<◌, ◌≤◌, ⊎_elim, Bool, true, false, true≢false, ◌||◌, List, [], ◌∷◌, ◌++◌, length, map, get_or, refl, sym, ap, ◌∙◌, arith, length-append, Option, Some, None, is_some}
 use Rattle.std.specs.List.{list_any}
-use Rattle.std.proofs.lemmas.List.{append-nil}
+use Rattle.std.proofs.lemmas.List.{append-nil, nil_from_length}
 use Rattle.sc_turn.specs.Turn.{StartsWith}
 use Rattle.sc_turn.specs.Seats.{known}
 use Rattle.sc_actor.specs.declared.actors.Actor.{Ghosts}
@@ -18,45 +18,39 @@ use Rattle.sc_shell.specs.declared.shells.Shell.{Shell}
 use Rattle.sc_shell.specs.declared.turns.Turn.{Turn}
 use Rattle.sc_shell.specs.declared.turns.Turn.TheVariants.{Did, Empty, Full, Spent, OutOfMemory}
 use Rattle.sc_shell.specs.Shells.{Takes, state}
-use Rattle.sc_shell.proofs.Replaying.{own_length}
 use Rattle.sc_workers.specs.Crews.{Goes, AllGo, Took, AllTook, Sound, AllSound, AllOf, HasMet, AllMet, AllOver, IsAhead, AllAhead, Still, AllStill, numbers, rows_made}
 use Rattle.sc_workers.specs.Ends.{CanBegin}
-use Rattle.sc_workers.proofs.Lists.{starts_trans, sum_same}
+use Rattle.sc_workers.proofs.Lists.{sum_same}
+use Rattle.sc_exchange.proofs.Done.{rows_of-append}
+use Rattle.sc_exchange.proofs.Knowing.{own_length}
+use Rattle.sc_turn.proofs.Lists.{starts_trans}
 
 module _ {M O : Type 0} where
-  rows_of-append : (n : ℕ) (xs ys : List (Row M O)) → length (rows_of n (xs ++ ys)) ≡ length (rows_of n xs) + length (rows_of n ys)
-  rows_of-append n [] ys = omega arith
-  rows_of-append n (x ∷ xs) ys = let e = rows_of-append n xs ys in
-      elim (eqb x.who n) as (λ b. length (cond b (x ∷ rows_of n (xs ++ ys)) (rows_of n (xs ++ ys))) ≡ length (cond b (x ∷ rows_of n xs) (rows_of n xs)) + length (rows_of n ys)) [ true ↦ omega (arith, e) | false ↦ e ]
+  count_append : (n : ℕ) (xs ys : List (Row M O)) → length (rows_of n (xs ++ ys)) ≡ length (rows_of n xs) + length (rows_of n ys)
+  count_append n xs ys = ap length (rows_of-append n xs ys) ∙ length-append (rows_of n xs) (rows_of n ys)
 
   -- a longer list has no fewer rows of a number
   pub count_later : (n : ℕ) (xs ys : List (Row M O)) → StartsWith xs ys → length (rows_of n ys) ≤ length (rows_of n xs)
-  count_later n xs ys later = omega (arith, ap (λ l. length (rows_of n l)) later.1, rows_of-append n ys later.0)
+  count_later n xs ys later = omega (arith, ap (λ l. length (rows_of n l)) later.1, count_append n ys later.0)
 
+  -- of two lists, one the front of the other, with as many rows of a number, the rows of it are the same
   pub list_same : (n : ℕ) (xs ys : List (Row M O)) → StartsWith xs ys → length (rows_of n xs) ≡ length (rows_of n ys) → rows_of n xs ≡ rows_of n ys
-  list_same n xs ys later same = ap (rows_of n) later.1 ∙ split n ys later.0 (omega (arith, ap (λ l. length (rows_of n l)) later.1, rows_of-append n ys later.0, same))
+  list_same n xs ys later same = ap (rows_of n) later.1 ∙ split n ys later.0 (omega (arith, ap (λ l. length (rows_of n l)) later.1, count_append n ys later.0, same))
     where
-      none_left : (zs : List (Row M O)) → length zs ≡ 0 → zs ≡ []
-      none_left [] e = refl
-      none_left (z ∷ zs) e = absurd (omega arith)
-
-      whole : (n : ℕ) (ys more : List (Row M O)) → rows_of n (ys ++ more) ≡ rows_of n ys ++ rows_of n more
-      whole n [] more = refl
-      whole n (y ∷ ys) more = let e = whole n ys more in
-          elim (eqb y.who n) as (λ b. cond b (y ∷ rows_of n (ys ++ more)) (rows_of n (ys ++ more)) ≡ cond b (y ∷ rows_of n ys) (rows_of n ys) ++ rows_of n more) [ true ↦ ap (λ l. y ∷ l) e | false ↦ e ]
-
       split : (n : ℕ) (ys more : List (Row M O)) → length (rows_of n more) ≡ 0 → rows_of n (ys ++ more) ≡ rows_of n ys
-      split n ys more none = whole n ys more ∙ (ap (λ l. rows_of n ys ++ l) (none_left (rows_of n more) none) ∙ append-nil (rows_of n ys))
+      split n ys more none = rows_of-append n ys more ∙ (ap (λ l. rows_of n ys ++ l) (nil_from_length (rows_of n more) none) ∙ append-nil (rows_of n ys))
 
   crash_rows : (who : ℕ) (made : List (Deed M O)) → list_any (λ (row : Row M O). is_crash row.event) (map (row_by who) made) ≡ list_any (λ (d : Deed M O). is_crash d.event) made
   crash_rows who [] = refl
   crash_rows who (d ∷ made) = ap (λ b. is_crash d.event || b) (crash_rows who made)
 
-is_some_is : (o : Option ℕ) → is_some o ≡ true → (n : ℕ) × (o ≡ Some n)
+-- what is there, where something is
+pub is_some_is : (o : Option ℕ) → is_some o ≡ true → (n : ℕ) × (o ≡ Some n)
 is_some_is None e = absurd (true≢false (sym e))
 is_some_is (Some n) e = (n, refl)
 
 module _ {M O : Type 0} {h : MailGhosts M} where
+  -- a port tells whether it has posted a Crash
   pub crashed_is : (p : Port M O h) → p.crashed ≡ list_any (λ (row : Row M O). is_crash row.event) (made p)
   crashed_is p = p.halted ∙ sym (crash_rows p.who (known p.seat).made)
 
@@ -129,6 +123,7 @@ module _ {A M O : Type 0} {g : Ghosts A M O} {h : MailGhosts M} where
     no_turn Spent free x same calm = true≢false (sym x.0 ∙ free)
     no_turn OutOfMemory free x same calm = true≢false (sym (calm x.2) ∙ (crash_kept x.1.made ∙ was_running before.port.crashed refl))
 
+    -- so the turn made a row, or was refused
     pub served : Took before t → length (made t.port) ≡ length (made before.port) → Sound t → ⊥
     served took same calm = ⊎_elim (λ x. not_crashed (sound x.0)) (λ x. no_turn x.1.0 x.0 x.1.1 same calm) took.acts
 
@@ -165,6 +160,7 @@ module _ {A M O : Type 0} {g : Ghosts A M O} {h : MailGhosts M} where
       absurd (serves net next ss before ts after l m n looked first begin still ahead sound (whole refl some calm) later (λ k d lt. record { begins = (over k d lt).begins }) one calm (omega (arith, count)))
   delivers_one net next ss before ts after (suc did) left l m n looked first begin still ahead sound whole some later over one calm count = omega arith
 
+  -- the shells have the numbers that they had
   pub numbers_go : (ss ts : List (Shell A M O g h)) → length ts ≡ length ss → AllGo ss ts → numbers ts ≡ numbers ss
   numbers_go [] [] l a = refl
   numbers_go [] (t ∷ ts) l a = absurd (omega arith)

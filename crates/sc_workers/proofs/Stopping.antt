@@ -15,6 +15,7 @@ module _ {A M O : Type 0} {g : Ghosts A M O} {h : MailGhosts M} where
       by [] e = absurd (omega (arith, stopped.inside, l, ap length e))
       by (d ∷ us) e = stopped.unsound d (sound stopped.place d (omega (arith, stopped.inside, l)))
 
+  -- where no turn was refused, each shell took one
   pub took_all : (ss ts : List (Shell A M O g h)) (stopped : Bool) (many : ℕ) → many ≡ length ss → length ts ≡ length ss → (stopped ≡ false → (k : ℕ) (d : Shell A M O g h) → k < many → Took (get_or ss k d) (get_or ts k d)) → (stopped ≡ true → HasStopped ts many) → AllSound ts → AllTook ss ts
   took_all ss ts true many l m whole halted sound = absurd (none_stopped ts many (omega (arith, l, m)) (halted refl) sound)
   took_all ss ts false many l m whole halted sound = λ k d lt. whole refl k d (omega (arith, l, lt))
@@ -32,6 +33,7 @@ module _ {A M O : Type 0} {g : Ghosts A M O} {h : MailGhosts M} where
     unsound = λ d. subst (λ s. ¬ Sound s) (sym (get_or-set_same ts i new d lt)) (here refl stops);
   }
 
+-- what is calm now was calm before
 pub was_calm : (was now : Bool) → (was ≡ true → now ≡ true) → now ≡ false → was ≡ false
 was_calm true now stays calm = absurd (true≢false (sym (stays refl) ∙ calm))
 was_calm false now stays calm = refl
@@ -46,6 +48,7 @@ module _ {A M O : Type 0} {g : Ghosts A M O} {h : MailGhosts M} where
       by [] e = absurd (omega (arith, refused.inside, ap length e))
       by (d ∷ us) e = absurd (refused_unsound (get_or ts refused.place d) r (refused.told d) (calm refl refused.place d (omega (arith, refused.inside, l))))
 
+-- fewer than the most were made, one shell more
 pub less_more : (was now : Bool) (before after most : ℕ) → (was ≡ true → before < most) → (was ≡ true → after ≡ before) → (was ≡ false → now ≡ true → after < most) → now ≡ true → after < most
 less_more true now before after most less same stops is = omega (arith, less refl, same refl)
 less_more false now before after most less same stops is = stops refl is

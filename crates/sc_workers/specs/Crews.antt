@@ -128,6 +128,34 @@ module _ {A M O : Type 0} {g : Ghosts A M O} {h : MailGhosts M} where
     pub same : (seen m ≡ seen n) × (seen t.port ≡ seen s.port)
     pub over : IsOver m t
 
+  -- The shells of the same actors in the same order. Each is as it was, but may have seen more, and the port looked.
+  pub record AreStill (net next : Port M O h) (ss ts : List (Shell A M O g h)) : Type 0 where
+    pub len : length ts ≡ length ss
+    pub still : AllStill ss ts
+    pub looked : Looked net next
+
+  -- The shells of the same actors in the same order. Each row that one made since is a delivery, and the port looked.
+  pub record AreLater (net next : Port M O h) (ss ts : List (Shell A M O g h)) : Type 0 where
+    pub len : length ts ≡ length ss
+    pub go : AllGo ss ts
+    pub looked : Looked net next
+
+  -- each shell has met the port
+  pub record HaveMet (net next : Port M O h) (ts : List (Shell A M O g h)) : Type 0 where
+    pub met : AllMet next ts
+    pub ahead : AllAhead net ts
+
+  -- each shell has vouched for what the port has seen
+  pub record HaveVouched (net next : Port M O h) (ts : List (Shell A M O g h)) : Type 0 where
+    pub seen : seen next ≡ seen net
+    pub over : AllOver next ts
+
+  -- The network's port with shells of its exchange, of which each that is spent has posted a Crash.
+  pub record IsCrew (net : Port M O h) (ss : List (Shell A M O g h)) : Type 0 where
+    pub first : net.who ≡ 0
+    pub exchange : AllOf net ss
+    pub sound : AllSound ss
+
   -- 1 where the shell's last turn made a row
   abbrev pub did : Shell A M O g h → ℕ
   did s = if not s.port.crashed && is_did s.last then 1 else 0

@@ -8,8 +8,10 @@ use Rattle.sc_actor.specs.Mail.{mails, numbered}
 use Rattle.sc_actor.specs.Counted.{row_bytes, journal_bytes}
 use Rattle.sc_actor.specs.System.{row_of}
 use Rattle.sc_ledger.specs.Pending.{kth_pending}
+use Rattle.sc_exchange.specs.declared.answers.Fetched.{Fetched}
 use Rattle.sc_exchange.specs.declared.ports.Port.{Port}
-use Rattle.sc_exchange.specs.Ports.{seen, IsAddressed}
+use Rattle.sc_exchange.specs.Answers.{IsFetch}
+use Rattle.sc_exchange.specs.Ports.{seen, IsTrue, IsAddressed}
 use Rattle.sc_shell.specs.declared.shells.Shell.{Shell}
 use Rattle.sc_shell.specs.declared.turns.Turn.{Turn}
 use Rattle.sc_shell.specs.declared.turns.Turn.TheVariants.{Full as RefusedFull}
@@ -22,6 +24,10 @@ use Rattle.sc_workers.specs.Services.{AllServe}
 -- whether, after what the port has seen, mail is pending for one of these actors
 abbrev pub any_waits : {M O : Type 0} {h : MailGhosts M} → Port M O h → List ℕ → Bool
 any_waits {M} {O} {h} net whos = list_any (λ who. is_some (kth_pending h.receiver net.actors (seen net) who 1)) whos
+
+-- the first mail that is pending for the port's actor, or for any where it is the network's
+abbrev pub IsFirst : {M O : Type 0} {h : MailGhosts M} → Port M O h → Fetched M → Type 0
+IsFirst {M} {O} {h} net found = IsFetch h.receiver net.actors (seen net) net.who 1 found
 
 module _ {A M O : Type 0} {g : Ghosts A M O} {h : MailGhosts M} where
   -- A shell that is spent and has not crashed. After all rows that the port has seen its actor has a first pending mail, whose row by the actor's table passes the limit, and `bytes` is at most their counted bytes.
@@ -56,9 +62,10 @@ module _ {A M O : Type 0} {g : Ghosts A M O} {h : MailGhosts M} where
   StepEnd (Full bytes) net start ss whos limit used = AllOver net ss × IsFull start net ss bytes × (used < limit)
   StepEnd OutOfMemory net start ss whos limit used = ⊤
 
-  -- The port has seen all that the shells have, the rows of their actors there are those that they made, and each row there may stand where it does.
+  -- The port has seen all that the shells have, the rows of their actors there are those that they made, of its own number and of those that have no port there are none but its own, and each row there may stand where it does.
   pub record IsGathered (net : Port M O h) (ss : List (Shell A M O g h)) : Type 0 where
     pub over : AllOver net ss
+    pub rows : IsTrue net
     pub addressed : IsAddressed net
 
   -- the end by a refusal

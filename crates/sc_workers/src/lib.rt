@@ -9,6 +9,3 @@ mod turns;
 pub use answers::Rounds;
 pub use meetings::gather;
 pub use playing::rounds;
-
-#[cfg(test)]
-mod tests;

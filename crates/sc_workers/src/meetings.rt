@@ -1,12 +1,13 @@
 //! Meetings of the shells with the network's port.
-ghost use Rattle.std.specs.Prelude.{◌≡◌, length, OnOk, IfOk};
-ghost use Rattle.sc_exchange.specs.Ports.{SameExchange, Looked, IsTrue, seen};
-ghost use Rattle.sc_workers.specs.Ends.{IsGathered};
-ghost use Rattle.sc_workers.specs.Crews.{AllStill, AllOf, AllMet, AllAhead, AllOver, HasMet, Met, VouchedFor, numbers};
+ghost use Rattle.std.specs.Prelude.{◌≡◌, OnOk, IfOk};
+ghost use Rattle.sc_exchange.specs.Ports.{SameExchange};
+ghost use Rattle.sc_shell.specs.Shells.{port_of};
+ghost use Rattle.sc_workers.specs.Ends.{IsGathered, IsFirst};
+ghost use Rattle.sc_workers.specs.Crews.{AllOf, AllMet, AreStill, HaveMet, HaveVouched, HasMet, Met, VouchedFor, numbers};
 
 use sc_actor::Actor;
 use sc_base::OutOfMemory;
-use sc_exchange::Port;
+use sc_exchange::{Fetched, Port};
 use sc_shell::Shell;
 use std::alloc::Global;
 use std::sync::Wait;
@@ -16,7 +17,7 @@ fn meet_one<A: Actor, R: Wait>(
     net: &mut Port<A::Mail, A::Order>,
     shell: &mut Shell<A>,
 ) -> Result<(), OutOfMemory>
-    requires exchange { SameExchange shell.old.port net.old }
+    requires exchange { SameExchange (port_of shell.old) net.old }
     ensures { Met shell.old shell.new net.old net.new }
 {
     shell.meet(rt, net)
@@ -29,10 +30,8 @@ pub(crate) fn meet_all<A: Actor, R: Wait>(
     shells: &mut [Shell<A>],
 ) -> Result<(), OutOfMemory>
     requires exchange { AllOf net.old shells.old }
-    ensures same { AllStill shells.old shells.new }
-    ensures net { Looked net.old net.new }
-    ensures met { OnOk result (AllMet net.new shells.new) }
-    ensures ahead { OnOk result (AllAhead net.old shells.new) }
+    ensures still { AreStill net.old net.new shells.old shells.new }
+    ensures met { OnOk result (HaveMet net.old net.new shells.new) }
 {
     for shell in shells.iter_mut() {
         meet_one(rt, net, shell)?;
@@ -47,17 +46,14 @@ pub(crate) fn meet<A: Actor, R: Wait>(
     shells: &mut Vec<Shell<A>>,
 ) -> Result<(), OutOfMemory>
     requires exchange { AllOf net.old shells.old.items }
-    ensures len { length shells.new.items ≡ length shells.old.items }
-    ensures same { AllStill shells.old.items shells.new.items }
-    ensures net { Looked net.old net.new }
-    ensures met { OnOk result (AllMet net.new shells.new.items) }
-    ensures ahead { OnOk result (AllAhead net.old shells.new.items) }
+    ensures still { AreStill net.old net.new shells.old.items shells.new.items }
+    ensures met { OnOk result (HaveMet net.old net.new shells.new.items) }
 {
     meet_all(rt, net, shells.as_mut_slice())
 }
 
 fn vouch_one<A: Actor>(net: &mut Port<A::Mail, A::Order>, shell: &mut Shell<A>)
-    requires exchange { SameExchange shell.old.port net.old }
+    requires exchange { SameExchange (port_of shell.old) net.old }
     requires met { HasMet net.old shell.old }
     ensures { VouchedFor shell.old shell.new net.old net.new }
 {
@@ -68,9 +64,8 @@ fn vouch_one<A: Actor>(net: &mut Port<A::Mail, A::Order>, shell: &mut Shell<A>)
 pub(crate) fn vouch_all<A: Actor>(net: &mut Port<A::Mail, A::Order>, shells: &mut [Shell<A>])
     requires exchange { AllOf net.old shells.old }
     requires met { AllMet net.old shells.old }
-    ensures same { AllStill shells.old shells.new }
-    ensures net { Looked net.old net.new × (seen net.new ≡ seen net.old) }
-    ensures over { AllOver net.new shells.new }
+    ensures still { AreStill net.old net.new shells.old shells.new }
+    ensures vouched { HaveVouched net.old net.new shells.new }
 {
     for shell in shells.iter_mut() {
         vouch_one(net, shell);
@@ -81,32 +76,31 @@ pub(crate) fn vouch_all<A: Actor>(net: &mut Port<A::Mail, A::Order>, shells: &mu
 pub(crate) fn vouch<A: Actor>(net: &mut Port<A::Mail, A::Order>, shells: &mut Vec<Shell<A>>)
     requires exchange { AllOf net.old shells.old.items }
     requires met { AllMet net.old shells.old.items }
-    ensures len { length shells.new.items ≡ length shells.old.items }
-    ensures same { AllStill shells.old.items shells.new.items }
-    ensures net { Looked net.old net.new × (seen net.new ≡ seen net.old) }
-    ensures over { AllOver net.new shells.new.items }
+    ensures still { AreStill net.old net.new shells.old.items shells.new.items }
+    ensures vouched { HaveVouched net.old net.new shells.new.items }
 {
     vouch_all(net, shells.as_mut_slice());
 }
 
-/// Each shell meets the port, which then looks, and each vouches for what the port has seen.
-/// Afterwards the port has seen all that the shells have, and the rows of each actor there are those that its shell made.
+/// Each shell meets the port, which then looks for its first pending mail, and each vouches for
+/// what the port has seen. Answers what was found.
+///
+/// Afterwards the port has seen all that the shells have, and the rows of each actor there are
+/// those that its shell made.
 pub fn gather<A: Actor, R: Wait>(
     rt: &R,
     net: &mut Port<A::Mail, A::Order>,
     shells: &mut Vec<Shell<A>>,
-) -> Result<(), OutOfMemory>
+) -> Result<Fetched<A::Mail>, OutOfMemory>
     requires exchange { AllOf net.old shells.old.items }
-    ensures len { length shells.new.items ≡ length shells.old.items }
-    ensures same { AllStill shells.old.items shells.new.items }
-    ensures net { Looked net.old net.new }
+    ensures still { AreStill net.old net.new shells.old.items shells.new.items }
     ensures gathered { OnOk result (IsGathered net.new shells.new.items) }
-    ensures rows { OnOk result (IsTrue net.new) }
+    ensures found { IfOk result (λ found. IsFirst net.new found) }
 {
     meet(rt, net, shells)?;
-    let _ = net.pending(rt, 0, 1);
+    let found = net.fetch(rt, 1)?;
     vouch(net, shells);
-    Ok(())
+    Ok(found)
 }
 
 /// The numbers of the shells' actors.

@@ -1,13 +1,12 @@
 //! The rounds.
-ghost use Rattle.std.specs.Prelude.{◌≡◌, ◌<◌, ◌≤◌, ◌+◌, None, IfSome, IfNone, length};
-ghost use Rattle.sc_exchange.specs.Ports.{Looked};
+ghost use Rattle.std.specs.Prelude.{◌≡◌, ◌<◌, ◌≤◌, ◌+◌, None, IfSome, length};
 ghost use Rattle.sc_workers.specs.Ends.{IsEnd, StepEnd, RefusedEnd, IsGathered, CanBegin, IfCalm, IfHeld};
-ghost use Rattle.sc_workers.specs.Crews.{AllGo, AllOf, AllTook, AllPassed, AllSound, AllStill, HasRefusal, numbers, rows_made};
+ghost use Rattle.sc_workers.specs.Crews.{AllOf, AllTook, AllPassed, AllSound, AreLater, AreStill, HasRefusal, IsCrew, numbers, rows_made};
 ghost use Rattle.sc_shell.specs.declared.turns.Turn.{Turn};
 ghost use Rattle.sc_workers.specs.Services.{AllServe};
 
 use crate::answers::Rounds;
-use crate::meetings::{meet, numbers_of, vouch};
+use crate::meetings::{gather, meet, numbers_of, vouch};
 use crate::turns::{any_of, at_once, did_in, in_order, refused_in};
 use sc_actor::{Actor, Gate};
 use sc_exchange::Port;
@@ -32,7 +31,8 @@ fn play_round<A: Actor, G: Gate, R: Threads + Wait + Sync>(
     ensures passed { AllPassed shells.old.items shells.new.items }
     ensures most { result ≤ left }
     ensures did { rows_made shells.new.items ≡ rows_made shells.old.items + result }
-    ensures whole { result ≡ 0 → 0 < left → AllSound shells.new.items → AllTook shells.old.items shells.new.items }
+    ensures whole { result ≡ 0 → 0 < left → AllSound shells.new.items →
+        AllTook shells.old.items shells.new.items }
     ensures short { (refused : Turn) → HasRefusal shells.new.items refused → result < left }
 {
     let size = shells.len().div_ceil(workers as usize);
@@ -43,7 +43,7 @@ fn play_round<A: Actor, G: Gate, R: Threads + Wait + Sync>(
     did_in(shells.as_slice())
 }
 
-// What comes before a round: the meetings, the ends that are found there, and for whom mail waits.
+// What comes before a round: the meetings, the ends found there, and for whom mail waits.
 fn prepare<A: Actor, R: Wait>(
     rt: &R,
     net: &mut Port<A::Mail, A::Order>,
@@ -55,12 +55,11 @@ fn prepare<A: Actor, R: Wait>(
 ) -> Option<Rounds>
     requires exchange { AllOf net.old shells.old.items }
     requires used { used ≤ limit }
-    ensures len { length shells.new.items ≡ length shells.old.items }
-    ensures same { AllStill shells.old.items shells.new.items }
-    ensures net { Looked net.old net.new }
+    ensures still { AreStill net.old net.new shells.old.items shells.new.items }
     ensures gathered { IfHeld result (IsGathered net.new shells.new.items) }
     ensures begin { result ≡ None → CanBegin net.new shells.new.items whos.now × (used < limit) }
-    ensures end { IfSome result (λ answer. StepEnd answer net.new shells.old.items shells.new.items whos.now limit used) }
+    ensures end { IfSome result
+        (λ answer. StepEnd answer net.new shells.old.items shells.new.items whos.now limit used) }
 {
     let Ok(()) = meet(rt, net, shells) else {
         return Some(Rounds::OutOfMemory);
@@ -88,24 +87,20 @@ fn ended<A: Actor, R: Wait>(
     refused: Turn,
 ) -> Rounds
     requires exchange { AllOf net.old shells.old.items }
-    ensures len { length shells.new.items ≡ length shells.old.items }
-    ensures same { AllStill shells.old.items shells.new.items }
-    ensures net { Looked net.old net.new }
+    ensures still { AreStill net.old net.new shells.old.items shells.new.items }
     ensures end { RefusedEnd result refused net.new shells.new.items }
 {
     let Turn::Full { bytes } = refused else {
         return Rounds::OutOfMemory;
     };
-    let Ok(()) = meet(rt, net, shells) else {
+    let Ok(_) = gather(rt, net, shells) else {
         return Rounds::OutOfMemory;
     };
-    // At its own turn the port sees a journal of which it is known to whom mail was delivered.
-    let _ = net.pending(rt, 0, 1);
-    vouch(net, shells);
     Rounds::Full { bytes }
 }
 
-// One round with what comes after it. Some where the call ends. A round that is not refused delivers at least one.
+// One round with what comes after it. Some where the call ends. A round that is not refused
+// delivers at least one.
 fn step<A: Actor, G: Gate, R: Threads + Wait + Sync>(
     rt: &R,
     alloc: Global,
@@ -119,22 +114,21 @@ fn step<A: Actor, G: Gate, R: Threads + Wait + Sync>(
     gate: &G,
 ) -> Option<Rounds>
     requires workers { 0 < workers }
-    requires net { net.old.who ≡ 0 }
-    requires exchange { AllOf net.old shells.old.items }
-    requires sound { AllSound shells.old.items }
+    requires crew { IsCrew net.old shells.old.items }
     requires whos { whos.now ≡ numbers shells.old.items }
     requires begin { CanBegin net.old shells.old.items whos.now }
     requires used { used.old < limit }
-    ensures len { length shells.new.items ≡ length shells.old.items }
-    ensures same { AllGo shells.old.items shells.new.items }
-    ensures net { Looked net.old net.new }
+    ensures later { AreLater net.old net.new shells.old.items shells.new.items }
     ensures used { used.new ≤ limit }
     ensures count { rows_made shells.new.items + used.old ≡ rows_made shells.old.items + used.new }
     ensures serves { IfCalm result (used.old < used.new) }
     ensures served { IfHeld result (AllServe net.new shells.old.items) }
     ensures sound { IfCalm result (AllSound shells.new.items) }
-    ensures begin { result ≡ None → CanBegin net.new shells.new.items whos.now × (used.new < limit) }
-    ensures end { IfSome result (λ answer. StepEnd answer net.new shells.old.items shells.new.items whos.now limit used.new) }
+    ensures begin { result ≡ None → CanBegin net.new shells.new.items whos.now
+        × (used.new < limit) }
+    ensures end { IfSome result
+        (λ answer.
+        StepEnd answer net.new shells.old.items shells.new.items whos.now limit used.new) }
 {
     let Ok(()) = meet(rt, net, shells) else {
         return Some(Rounds::OutOfMemory);
@@ -148,9 +142,15 @@ fn step<A: Actor, G: Gate, R: Threads + Wait + Sync>(
     }
 }
 
-/// Rounds in which each shell that is not spent takes a turn, runs of neighbours at the same time, until nothing is pending for the shells' actors, `limit` deliveries were made, or a row is refused.
+/// Rounds in which each shell that is not spent takes a turn, runs of neighbours at the same time,
+/// until nothing is pending for the shells' actors, `limit` deliveries were made, or a row is
+/// refused.
 ///
-/// Before each round every shell meets `net`, which is the network's port and makes no row. A round in which no turn is refused makes at least one delivery, so there are at most as many rounds as `limit`. There are as many runs as `workers`, or fewer. Where mail waits for the shells of one run alone, no thread is started. Where fewer deliveries are left than there are shells, the shells take their turns one after the other.
+/// Before each round every shell meets `net`, which is the network's port and makes no row. A round
+/// in which no turn is refused makes at least one delivery, so there are at most as many rounds as
+/// `limit`. There are as many runs as `workers`, or fewer, and none waits for one with mail. Where
+/// mail waits for the shells of one run alone, no thread is started. Where fewer deliveries are
+/// left than there are shells, the shells take their turns one after the other.
 pub fn rounds<A: Actor, G: Gate, R: Threads + Wait + Sync>(
     rt: &R,
     alloc: Global,
@@ -161,13 +161,10 @@ pub fn rounds<A: Actor, G: Gate, R: Threads + Wait + Sync>(
     gate: &G,
 ) -> Rounds
     requires workers { (1 ≤ workers) × (workers ≤ 16) }
-    requires net { net.old.who ≡ 0 }
-    requires exchange { AllOf net.old shells.old.items }
-    requires sound { AllSound shells.old.items }
-    ensures len { length shells.new.items ≡ length shells.old.items }
-    ensures same { AllGo shells.old.items shells.new.items }
-    ensures net { Looked net.old net.new }
-    ensures end { IsEnd result net.new shells.old.items shells.new.items (numbers shells.old.items) limit }
+    requires crew { IsCrew net.old shells.old.items }
+    ensures later { AreLater net.old net.new shells.old.items shells.new.items }
+    ensures end { IsEnd result net.new shells.old.items shells.new.items (numbers shells.old.items)
+        limit }
 {
     let Ok(whos) = numbers_of(alloc, shells.as_slice()) else {
         return Rounds::OutOfMemory;
@@ -178,20 +175,11 @@ pub fn rounds<A: Actor, G: Gate, R: Threads + Wait + Sync>(
     }
     let mut used = 0u32;
     loop {
-        match step(
-            rt,
-            alloc,
-            net,
-            shells,
-            whos.as_slice(),
-            workers,
-            limit,
-            &mut used,
-            &mut waits,
-            gate,
+        let whos = whos.as_slice();
+        if let Some(answer) = step(
+            rt, alloc, net, shells, whos, workers, limit, &mut used, &mut waits, gate,
         ) {
-            Some(answer) => return answer,
-            None => {}
+            return answer;
         }
     }
 }

@@ -16,7 +16,7 @@ use std::thread::Threads;
 fn one<A: Actor, G: Gate, R: Wait>(rt: &R, alloc: Global, gate: &G, shell: &mut Shell<A>)
     ensures { Took shell.old shell.new }
 {
-    if !shell.spent {
+    if !shell.is_spent() {
         let _ = shell.turn(rt, alloc, 1, gate);
     }
 }
@@ -36,21 +36,28 @@ pub(crate) fn any_of(waits: &[bool]) -> bool
     waits.iter().any(|wait| *wait)
 }
 
-// In how many runs of `size` mail waits, told up to three, and the place of the second of them.
+// In how many runs of `size` mail waits, told up to three, and the places of the first two of them.
 #[derive(Clone, Copy, Debug, PartialEq, Eq)]
 struct Busy {
     runs: u32,
+    first: usize,
     second: usize,
 }
 
 fn busy_in(waits: &[bool], size: usize) -> Busy
     requires { 0 < size }
 {
-    let mut busy = Busy { runs: 0, second: 0 };
+    let mut busy = Busy {
+        runs: 0,
+        first: 0,
+        second: 0,
+    };
     for (place, run) in waits.chunks(size).enumerate() {
         if any_of(run) {
             busy.runs = busy.runs.saturating_add(1).min(3);
-            if busy.runs == 2 {
+            if busy.runs == 1 {
+                busy.first = place;
+            } else if busy.runs == 2 {
                 busy.second = place;
             }
         }
@@ -58,38 +65,115 @@ fn busy_in(waits: &[bool], size: usize) -> Busy
     busy
 }
 
-// Runs of `size` shells take their turns at the same time, each in a thread of its own but one.
-fn by_threads<A: Actor, G: Gate, R: Threads + Wait + Sync>(
+// The shells behind the first `size` take their turns, and then those: where the first run has
+// mail, no other waits for it.
+fn first_last<A: Actor, G: Gate, R: Wait>(
     rt: &R,
     alloc: Global,
     gate: &G,
     size: usize,
     part: &mut [Shell<A>],
 )
-    requires { 0 < size }
     ensures { AllTook part.old part.new }
 {
-    thread::for_each_chunk_mut(rt, part, size, &|_, run| turns(rt, alloc, gate, run));
+    let cut = size.min(part.len());
+    let (first, others) = part.split_at_mut(cut);
+    turns(rt, alloc, gate, others);
+    turns(rt, alloc, gate, first);
 }
 
-// The first `cut` shells and the next `cut` take their turns at the same time, and then the others.
+// Parts of so many shells take their turns at the same time, each in a thread of its own but one.
+// In each the first run comes last.
+fn by_threads<A: Actor, G: Gate, R: Threads + Wait + Sync>(
+    rt: &R,
+    alloc: Global,
+    gate: &G,
+    size: usize,
+    many: usize,
+    shells: &mut [Shell<A>],
+)
+    requires { 0 < many }
+    ensures { AllTook shells.old shells.new }
+{
+    thread::for_each_chunk_mut(
+        rt,
+        shells,
+        many,
+        &|_, part| first_last(rt, alloc, gate, size, part),
+    );
+}
+
+// The shells behind the first two parts of so many take their turns, and then those parts at the
+// same time.
 fn in_two<A: Actor, G: Gate, R: Threads + Wait + Sync>(
     rt: &R,
     alloc: Global,
     gate: &G,
-    cut: usize,
+    size: usize,
+    many: usize,
     shells: &mut [Shell<A>],
 )
-    requires { 0 < cut }
+    requires { 0 < many }
     ensures { AllTook shells.old shells.new }
 {
-    let both = cut.saturating_mul(2).min(shells.len());
-    let (first, others) = shells.split_at_mut(both);
-    by_threads(rt, alloc, gate, cut, first);
+    let both = many.saturating_mul(2).min(shells.len());
+    let (parts, others) = shells.split_at_mut(both);
     turns(rt, alloc, gate, others);
+    by_threads(rt, alloc, gate, size, many, parts);
 }
 
-/// Each shell takes a turn, runs of `size` neighbours at the same time. `waits` tells for which of the shells mail waits: where that is the shells of one run alone, no thread is started, and where it is those of two, only one is.
+// Shells of which the first run has mail, and perhaps one more.
+fn with_mail<A: Actor, G: Gate, R: Threads + Wait + Sync>(
+    rt: &R,
+    alloc: Global,
+    gate: &G,
+    size: usize,
+    busy: Busy,
+    shells: &mut [Shell<A>],
+)
+    requires { 0 < size }
+    ensures { AllTook shells.old shells.new }
+{
+    if busy.runs == 1 {
+        first_last(rt, alloc, gate, size, shells);
+    } else {
+        let apart = busy.second.saturating_sub(busy.first);
+        in_two(
+            rt,
+            alloc,
+            gate,
+            size,
+            apart.saturating_mul(size).max(size),
+            shells,
+        );
+    }
+}
+
+// The shells before the first run with mail take their turns, and then the others. Mail waits in
+// one run or in two.
+fn from_busy<A: Actor, G: Gate, R: Threads + Wait + Sync>(
+    rt: &R,
+    alloc: Global,
+    gate: &G,
+    size: usize,
+    busy: Busy,
+    shells: &mut [Shell<A>],
+)
+    requires { 0 < size }
+    ensures { AllTook shells.old shells.new }
+{
+    let cut = busy.first.saturating_mul(size).min(shells.len());
+    let (idle, others) = shells.split_at_mut(cut);
+    turns(rt, alloc, gate, idle);
+    with_mail(rt, alloc, gate, size, busy, others);
+}
+
+/// Each shell takes a turn, runs of `size` neighbours at the same time. `waits` tells for which of
+/// the shells mail waits.
+///
+/// No run waits for one with mail. Where mail waits in one run or in two, those without take their
+/// turns first, in the caller's thread; where it waits in more, each run has a thread of its own
+/// but one. So no thread is started where mail waits in one run alone, and one where in two.
 pub(crate) fn at_once<A: Actor, G: Gate, R: Threads + Wait + Sync>(
     rt: &R,
     alloc: Global,
@@ -105,12 +189,9 @@ pub(crate) fn at_once<A: Actor, G: Gate, R: Threads + Wait + Sync>(
     let busy = busy_in(waits, size);
     let all = shells.as_mut_slice();
     match busy.runs {
-        0 | 1 => turns(rt, alloc, gate, all),
-        2 => {
-            let cut = busy.second.saturating_mul(size).max(size);
-            in_two(rt, alloc, gate, cut, all);
-        }
-        _ => by_threads(rt, alloc, gate, size, all),
+        0 => turns(rt, alloc, gate, all),
+        1 | 2 => from_busy(rt, alloc, gate, size, busy, all),
+        _ => by_threads(rt, alloc, gate, size, size, all),
     }
 }
 
@@ -136,7 +217,7 @@ fn refusal_in(last: Option<Turn>) -> Turn
 fn did_of<A: Actor>(shell: &Shell<A>) -> u32
     ensures { result ≡ did shell.now }
 {
-    if !shell.port.crashed && is_did(shell.last) {
+    if !shell.has_crashed() && is_did(shell.last()) {
         1
     } else {
         0
@@ -147,8 +228,8 @@ fn did_of<A: Actor>(shell: &Shell<A>) -> u32
 fn refusal_of<A: Actor>(shell: &Shell<A>) -> Option<Turn>
     ensures { result ≡ refusal shell.now }
 {
-    if shell.spent && !shell.port.crashed {
-        Some(refusal_in(shell.last))
+    if shell.is_spent() && !shell.has_crashed() {
+        Some(refusal_in(shell.last()))
     } else {
         None
     }
@@ -187,7 +268,8 @@ struct Progress {
     stopped: bool,
 }
 
-/// The shells take their turns one after the other, until `most` deliveries were made or a turn is refused. Answers how many were made.
+/// The shells take their turns one after the other, until `most` deliveries were made or a turn is
+/// refused. Answers how many were made.
 pub(crate) fn in_order<A: Actor, G: Gate, R: Wait>(
     rt: &R,
     alloc: Global,
@@ -224,11 +306,13 @@ fn next_in_order<A: Actor, G: Gate, R: Wait>(
     requires sound { Sound shell.old }
     ensures most { result.did ≤ most }
     ensures passed { Passed shell.old shell.new }
-    ensures did { length (made shell.new.port) + so_far.did ≡ length (made shell.old.port) + result.did }
+    ensures did { length (made shell.new.port) + so_far.did
+        ≡ length (made shell.old.port) + result.did }
     ensures more { so_far.did ≤ result.did }
     ensures took { so_far.did < most → so_far.stopped ≡ false → Took shell.old shell.new }
     ensures stays { so_far.stopped ≡ true → result ≡ so_far }
-    ensures stops { so_far.stopped ≡ false → result.stopped ≡ true → ¬ Sound shell.new × (result.did < most) }
+    ensures stops { so_far.stopped ≡ false → result.stopped ≡ true →
+        ¬ Sound shell.new × (result.did < most) }
     ensures goes { result.stopped ≡ false → Sound shell.new }
 {
     if so_far.did == most || so_far.stopped {

@@ -11,7 +11,8 @@ use sc_report::Line;
 /// Puts each line. After a fault the sink has gained a first part of the whole.
 pub fn put_all<K: Sink>(sink: &mut K, lines: &[Line]) -> Result<(), Failed>
     ensures whole { OnOk result (Appends (K.held sink.old) (K.held sink.new) (concat lines.now)) }
-    ensures part { OnErr result (AppendsPart (K.held sink.old) (K.held sink.new) (concat lines.now)) }
+    ensures part { OnErr result
+        (AppendsPart (K.held sink.old) (K.held sink.new) (concat lines.now)) }
     ensures cause { HasCause (K.faults sink.old) (K.faults sink.new) result }
 {
     for line in lines {

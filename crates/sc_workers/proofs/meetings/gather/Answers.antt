@@ -1,18 +1,30 @@
-use Rattle.sc_workers.specs.Crews.{AllMet}
-use Rattle.sc_workers.proofs.Crews.{all_still_trans, all_met_later}
-use Rattle.sc_workers.proofs.Ending.{addressed_same, true_same}
+use Rattle.sc_workers.specs.Crews.{HaveMet}
+use Rattle.sc_workers.proofs.Crews.{all_met_later, all_of_on, are_still_looked, are_still_then, still_later}
+use Rattle.sc_workers.proofs.Ending.{first_so, gathered_so}
 use Rattle.sc_workers.proofs.meetings.gather.Goals as goal
+
+pub vouch-requires-clause-exchange : goal.vouch-requires-clause-exchange
+vouch-requires-clause-exchange g c κs within =
+    all_of_on c.args.net.now c.fetch.new.self c.args.shells.now.items c.meet.new.shells.items
+    (still_later c.args.net.now c.fetch.new.self c.args.shells.now.items c.meet.new.shells.items
+    (are_still_looked c.args.net.now c.meet.new.net c.fetch.new.self c.args.shells.now.items c.meet.new.shells.items c.meet.ensures.still c.fetch.ensures.looked.looked)) c.requires.exchange
 
 pub vouch-requires-clause-met : goal.vouch-requires-clause-met
 vouch-requires-clause-met g c κs within =
-    let met : AllMet c.meet.new.net c.meet.new.shells.items = c.in_ok-meet.ensures.met in
-    all_met_later c.meet.new.net c.pending.new.self c.meet.new.shells.items c.pending.ensures.looked.0 met
+    let met : HaveMet c.args.net.now c.meet.new.net c.meet.new.shells.items = c.in_ok-meet.ensures.met in
+    all_met_later c.meet.new.net c.fetch.new.self c.meet.new.shells.items c.fetch.ensures.looked.looked met.met
 
-pub returns-clause-same : goal.returns-clause-same
-returns-clause-same g c = all_still_trans c.args.shells.now.items c.meet.new.shells.items c.vouch.new.shells.items c.meet.ensures.len c.meet.ensures.same c.vouch.ensures.same
+pub returns-in_err-found-clause-still : goal.returns-in_err-found-clause-still
+returns-in_err-found-clause-still g c = are_still_looked c.args.net.now c.meet.new.net c.fetch.new.self c.args.shells.now.items c.meet.new.shells.items c.meet.ensures.still c.fetch.ensures.looked.looked
+
+pub returns-clause-still : goal.returns-clause-still
+returns-clause-still g c =
+    are_still_then c.args.net.now c.fetch.new.self c.vouch.new.net c.args.shells.now.items c.meet.new.shells.items c.vouch.new.shells.items
+    (are_still_looked c.args.net.now c.meet.new.net c.fetch.new.self c.args.shells.now.items c.meet.new.shells.items c.meet.ensures.still c.fetch.ensures.looked.looked) c.vouch.ensures.still
 
 pub returns-clause-gathered : goal.returns-clause-gathered
-returns-clause-gathered g c = record { over = c.vouch.ensures.over; addressed = addressed_same c.pending.new.self c.vouch.new.net c.vouch.ensures.net.1 c.pending.ensures.addressed }
+returns-clause-gathered g c = gathered_so c.fetch.new.self c.vouch.new.net c.meet.new.shells.items c.vouch.new.shells.items c.fetch.ensures.looked.rows c.fetch.ensures.looked.addressed c.vouch.ensures.still c.vouch.ensures.vouched
 
-pub returns-clause-rows : goal.returns-clause-rows
-returns-clause-rows g c = true_same c.pending.new.self c.vouch.new.net c.vouch.ensures.net.0 c.vouch.ensures.net.1 c.pending.ensures.looked.1
+pub returns-clause-found : goal.returns-clause-found
+returns-clause-found g c =
+    first_so c.meet.new.net c.fetch.new.self c.vouch.new.net c.in_ok-found.found c.fetch.ensures.looked.looked c.vouch.ensures.still.looked c.vouch.ensures.vouched.seen c.in_ok-found.ensures.found

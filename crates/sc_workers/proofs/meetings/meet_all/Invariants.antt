@@ -1,14 +1,15 @@
 use Rattle.std.proofs.Common.{ℕ, ◌<◌, ◌≤◌, ◌≡◌, slice_index_or}
 use Rattle.sc_exchange.specs.Ports.{Looked}
 use Rattle.sc_workers.specs.Crews.{Still, HasMet, IsAhead}
+use Rattle.sc_workers.proofs.Lists.{AllBelow, IsLeft}
 use Rattle.sc_workers.proofs.meetings.meet_all.Given as goal
 
 -- the shells before the index have met the port, and the others are as they were
 abbrev pub invariant-loop-shell : goal.invariant-loop-shell
 invariant-loop-shell g l = record {
   net : Looked l.initial.net l.net;
-  done : (k : ℕ) (d : _) → k < l.shell-index → Still (slice_index_or l.initial.shells k d) (slice_index_or l.shells k d);
+  done : AllBelow Still l.initial.shells l.shells l.shell-index;
   met : (k : ℕ) (d : _) → k < l.shell-index → HasMet l.net (slice_index_or l.shells k d);
   ahead : (k : ℕ) (d : _) → k < l.shell-index → IsAhead l.initial.net (slice_index_or l.shells k d);
-  left : (k : ℕ) (d : _) → l.shell-index ≤ k → slice_index_or l.shells k d ≡ slice_index_or l.initial.shells k d;
+  left : IsLeft l.initial.shells l.shells l.shell-index;
 }

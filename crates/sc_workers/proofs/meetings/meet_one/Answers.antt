@@ -4,13 +4,13 @@ use Rattle.sc_workers.proofs.meetings.meet_one.Goals as goal
 pub returns : goal.returns
 returns g c = let e = c.meet.ensures in record {
   still = record {
-    goes = still_made c.args.shell.now _ e.mine.0.stays e.replay e.mine.0.made;
-    made = e.mine.0.made;
-    later = e.mine.0.later;
-    spent = e.same.1;
-    crashed = e.mine.3;
+    goes = still_made c.args.shell.now _ e.mine.looked.stays e.rested.replay e.mine.looked.made;
+    made = e.mine.looked.made;
+    later = e.mine.looked.later;
+    spent = e.rested.spent;
+    crashed = e.mine.crashed;
   };
-  net = e.theirs.0;
+  net = e.theirs.looked;
   has = record { begins = e.last };
-  ahead = record { begins = e.mine.1; own = e.mine.2.own };
+  ahead = record { begins = e.mine.begins; own = e.mine.rows.own };
 }

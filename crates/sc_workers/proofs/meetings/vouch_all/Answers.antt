@@ -1,10 +1,10 @@
 use Rattle.std.proofs.Common.{rules, arith, get_or, ◌∙◌, subst, sym}
 use Rattle.sc_exchange.specs.Ports.{SameExchange}
 use Rattle.sc_workers.specs.Crews.{Still, VouchedFor, IsOver, HasMet}
-use Rattle.sc_shell.proofs.Taking.{looked_trans}
 use Rattle.sc_workers.proofs.Lists.{changed_more, left_more, item_was}
 use Rattle.sc_workers.proofs.Crews.{over_same, met_same, of_later, all_partly, still_same}
 use Rattle.sc_workers.proofs.meetings.vouch_all.Goals as goal
+use Rattle.sc_exchange.proofs.Knowing.{looked_trans}
 
 pub loop-shell-preserved : goal.loop-shell-preserved
 loop-shell-preserved g c =
@@ -34,8 +34,12 @@ vouch_one-requires-clause-met g c κs within =
     (subst (λ s. HasMet c.args.net.now s) (sym (item_was c.args.shells.now c.loop-shell.shells c.loop-shell.shell-index c.shell-item.result (omega arith) (omega arith) c.shell-item.is inv.left)) (c.requires.met c.loop-shell.shell-index c.shell-item.result (omega arith))) in
     subst (λ s. HasMet c.loop-shell.net s) c.shell-item.is one
 
-pub returns-clause-same : goal.returns-clause-same
-returns-clause-same g c = let inv = c.loop-shell.invariant in all_partly Still still_same c.args.shells.now c.loop-shell.shells c.loop-shell.shell-index inv.done inv.left
+pub returns-clause-still : goal.returns-clause-still
+returns-clause-still g c = let inv = c.loop-shell.invariant in record {
+  len = search rules;
+  still = all_partly Still still_same c.args.shells.now c.loop-shell.shells c.loop-shell.shell-index inv.done inv.left;
+  looked = inv.net;
+}
 
-pub returns-clause-over : goal.returns-clause-over
-returns-clause-over g c = λ k d lt. c.loop-shell.invariant.over k d (search rules)
+pub returns-clause-vouched : goal.returns-clause-vouched
+returns-clause-vouched g c = record { seen = c.loop-shell.invariant.same; over = λ k d lt. c.loop-shell.invariant.over k d (search rules) }

@@ -1,6 +1,7 @@
 use Rattle.std.proofs.Common.{ℕ, ◌<◌, ◌≤◌, ◌≡◌, slice_index_or}
 use Rattle.sc_exchange.specs.Ports.{Looked, seen}
 use Rattle.sc_workers.specs.Crews.{Still, IsOver}
+use Rattle.sc_workers.proofs.Lists.{AllBelow, IsLeft}
 use Rattle.sc_workers.proofs.meetings.vouch_all.Given as goal
 
 -- the shells before the index have vouched for what the port has seen, and the others are as they were
@@ -8,7 +9,7 @@ abbrev pub invariant-loop-shell : goal.invariant-loop-shell
 invariant-loop-shell g l = record {
   net : Looked l.initial.net l.net;
   same : seen l.net ≡ seen l.initial.net;
-  done : (k : ℕ) (d : _) → k < l.shell-index → Still (slice_index_or l.initial.shells k d) (slice_index_or l.shells k d);
+  done : AllBelow Still l.initial.shells l.shells l.shell-index;
   over : (k : ℕ) (d : _) → k < l.shell-index → IsOver l.net (slice_index_or l.shells k d);
-  left : (k : ℕ) (d : _) → l.shell-index ≤ k → slice_index_or l.shells k d ≡ slice_index_or l.initial.shells k d;
+  left : IsLeft l.initial.shells l.shells l.shell-index;
 }

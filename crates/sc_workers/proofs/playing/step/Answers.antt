@@ -1,50 +1,43 @@
 use Rattle.std.proofs.Common.{rules, ◌+◌, ◌-◌, ap, ◌∙◌, subst, arith}
-use Rattle.sc_shell.proofs.Taking.{looked_trans}
 use Rattle.sc_workers.specs.Crews.{HasRefusal, AllSound, AllAhead}
 use Rattle.sc_workers.specs.Ends.{IsGathered, CanBegin}
-use Rattle.sc_workers.proofs.Crews.{all_go_trans, all_of_go, all_of_later, still_all_go, passed_all_go, still_rows, still_sound}
+use Rattle.sc_workers.proofs.Crews.{all_go_trans, all_of_go, all_of_later, all_of_on, later_passed, later_then, passed_all_go, still_all_go, still_later, still_rows, still_sound}
 use Rattle.sc_workers.proofs.Refusing.{full_so, full_from}
 use Rattle.sc_workers.proofs.Serving.{delivers_one}
 use Rattle.sc_workers.proofs.Attending.{round_serves}
 use Rattle.sc_workers.proofs.Ending.{step_end, calm_maps, calm_of, calm_never, held_calm, held_maps, refused_held, step_from}
 use Rattle.sc_workers.proofs.playing.step.Goals as goal
+use Rattle.sc_exchange.proofs.Knowing.{looked_trans}
 
 pub returns-in_default-clause-count : goal.returns-in_default-clause-count
-returns-in_default-clause-count g c = ap (λ n. n + c.args.used.now) (still_rows c.args.shells.now.items c.meet.new.shells.items c.meet.ensures.len c.meet.ensures.same)
+returns-in_default-clause-count g c = ap (λ n. n + c.args.used.now) (still_rows c.args.shells.now.items c.meet.new.shells.items c.meet.ensures.still.len c.meet.ensures.still.still)
 
 pub prepare-requires-clause-exchange : goal.prepare-requires-clause-exchange
-prepare-requires-clause-exchange g c κs within =
-    all_of_go c.meet.new.net c.meet.new.shells.items c.play_round-did.new.shells.items c.play_round-did.ensures.len (passed_all_go c.meet.new.shells.items c.play_round-did.new.shells.items c.play_round-did.ensures.passed)
-    (all_of_go c.meet.new.net c.args.shells.now.items c.meet.new.shells.items c.meet.ensures.len (still_all_go c.args.shells.now.items c.meet.new.shells.items c.meet.ensures.same)
-    (all_of_later c.args.net.now c.meet.new.net c.args.shells.now.items c.meet.ensures.net c.requires.exchange))
+prepare-requires-clause-exchange g c κs within = all_of_on c.args.net.now c.meet.new.net c.args.shells.now.items c.play_round-did.new.shells.items (later_passed c.args.net.now c.meet.new.net c.args.shells.now.items c.meet.new.shells.items c.play_round-did.new.shells.items c.meet.ensures.still c.play_round-did.ensures.len c.play_round-did.ensures.passed) c.requires.crew.exchange
 
 pub ended-requires-clause-exchange : goal.ended-requires-clause-exchange
-ended-requires-clause-exchange g c κs within =
-    all_of_go c.meet.new.net c.meet.new.shells.items c.play_round-did.new.shells.items c.play_round-did.ensures.len (passed_all_go c.meet.new.shells.items c.play_round-did.new.shells.items c.play_round-did.ensures.passed)
-    (all_of_go c.meet.new.net c.args.shells.now.items c.meet.new.shells.items c.meet.ensures.len (still_all_go c.args.shells.now.items c.meet.new.shells.items c.meet.ensures.same)
-    (all_of_later c.args.net.now c.meet.new.net c.args.shells.now.items c.meet.ensures.net c.requires.exchange))
+ended-requires-clause-exchange g c κs within = all_of_on c.args.net.now c.meet.new.net c.args.shells.now.items c.play_round-did.new.shells.items (later_passed c.args.net.now c.meet.new.net c.args.shells.now.items c.meet.new.shells.items c.play_round-did.new.shells.items c.meet.ensures.still c.play_round-did.ensures.len c.play_round-did.ensures.passed) c.requires.crew.exchange
 
-pub returns-in-None-clause-same : goal.returns-in-None-clause-same
-returns-in-None-clause-same g c =
-    all_go_trans c.args.shells.now.items c.play_round-did.new.shells.items c.prepare.new.shells.items (c.play_round-did.ensures.len ∙ c.meet.ensures.len)
-    (all_go_trans c.args.shells.now.items c.meet.new.shells.items c.play_round-did.new.shells.items c.meet.ensures.len
-    (still_all_go c.args.shells.now.items c.meet.new.shells.items c.meet.ensures.same) (passed_all_go c.meet.new.shells.items c.play_round-did.new.shells.items c.play_round-did.ensures.passed))
-    (still_all_go c.play_round-did.new.shells.items c.prepare.new.shells.items c.prepare.ensures.same)
+pub returns-in_default-clause-later : goal.returns-in_default-clause-later
+returns-in_default-clause-later g c = still_later c.args.net.now c.meet.new.net c.args.shells.now.items c.meet.new.shells.items c.meet.ensures.still
 
-pub returns-in-Some-clause-same : goal.returns-in-Some-clause-same
-returns-in-Some-clause-same g c =
-    all_go_trans c.args.shells.now.items c.play_round-did.new.shells.items c.ended.new.shells.items (c.play_round-did.ensures.len ∙ c.meet.ensures.len)
-    (all_go_trans c.args.shells.now.items c.meet.new.shells.items c.play_round-did.new.shells.items c.meet.ensures.len
-    (still_all_go c.args.shells.now.items c.meet.new.shells.items c.meet.ensures.same) (passed_all_go c.meet.new.shells.items c.play_round-did.new.shells.items c.play_round-did.ensures.passed))
-    (still_all_go c.play_round-did.new.shells.items c.ended.new.shells.items c.ended.ensures.same)
+pub returns-in-None-clause-later : goal.returns-in-None-clause-later
+returns-in-None-clause-later g c =
+    later_then c.args.net.now c.meet.new.net c.prepare.new.net c.args.shells.now.items c.play_round-did.new.shells.items c.prepare.new.shells.items (later_passed c.args.net.now c.meet.new.net c.args.shells.now.items c.meet.new.shells.items c.play_round-did.new.shells.items c.meet.ensures.still c.play_round-did.ensures.len c.play_round-did.ensures.passed)
+    (still_later c.meet.new.net c.prepare.new.net c.play_round-did.new.shells.items c.prepare.new.shells.items c.prepare.ensures.still)
+
+pub returns-in-Some-clause-later : goal.returns-in-Some-clause-later
+returns-in-Some-clause-later g c =
+    later_then c.args.net.now c.meet.new.net c.ended.new.net c.args.shells.now.items c.play_round-did.new.shells.items c.ended.new.shells.items (later_passed c.args.net.now c.meet.new.net c.args.shells.now.items c.meet.new.shells.items c.play_round-did.new.shells.items c.meet.ensures.still c.play_round-did.ensures.len c.play_round-did.ensures.passed)
+    (still_later c.meet.new.net c.ended.new.net c.play_round-did.new.shells.items c.ended.new.shells.items c.ended.ensures.still)
 
 pub returns-in-None-clause-count : goal.returns-in-None-clause-count
 returns-in-None-clause-count g c =
     omega (
       arith,
       c.play_round-did.ensures.did,
-      still_rows c.args.shells.now.items c.meet.new.shells.items c.meet.ensures.len c.meet.ensures.same,
-      still_rows c.play_round-did.new.shells.items c.prepare.new.shells.items c.prepare.ensures.len c.prepare.ensures.same,
+      still_rows c.args.shells.now.items c.meet.new.shells.items c.meet.ensures.still.len c.meet.ensures.still.still,
+      still_rows c.play_round-did.new.shells.items c.prepare.new.shells.items c.prepare.ensures.still.len c.prepare.ensures.still.still,
     )
 
 pub returns-in-Some-clause-count : goal.returns-in-Some-clause-count
@@ -52,20 +45,20 @@ returns-in-Some-clause-count g c =
     omega (
       arith,
       c.play_round-did.ensures.did,
-      still_rows c.args.shells.now.items c.meet.new.shells.items c.meet.ensures.len c.meet.ensures.same,
-      still_rows c.play_round-did.new.shells.items c.ended.new.shells.items c.ended.ensures.len c.ended.ensures.same,
+      still_rows c.args.shells.now.items c.meet.new.shells.items c.meet.ensures.still.len c.meet.ensures.still.still,
+      still_rows c.play_round-did.new.shells.items c.ended.new.shells.items c.ended.ensures.still.len c.ended.ensures.still.still,
     )
 
 pub returns-in-None-clause-serves : goal.returns-in-None-clause-serves
 returns-in-None-clause-serves g c =
     let start = c.args.shells.now.items in let met = c.meet.new.shells.items in let after = c.play_round-did.new.shells.items in let last = c.prepare.new.shells.items in
     let calm : AllSound after = subst AllSound c.as_slice.ensures.value (c.refused_in.ensures.none (search rules)) in
-    let ahead : AllAhead c.args.net.now met = c.in-Ok.ensures.ahead in
+    let ahead : AllAhead c.args.net.now met = c.in-Ok.ensures.met.ahead in
     calm_maps c.prepare.result
     (λ (gathered : IsGathered c.prepare.new.net last).
-    let some = delivers_one c.args.net.now c.prepare.new.net start met after last c.play_round-did.result (c.args.limit - c.args.used.now) c.meet.ensures.len c.play_round-did.ensures.len c.prepare.ensures.len
-    (looked_trans c.args.net.now c.meet.new.net c.prepare.new.net c.meet.ensures.net c.prepare.ensures.net) c.requires.net (subst (CanBegin c.args.net.now start) c.requires.whos c.requires.begin) c.meet.ensures.same ahead
-    (still_sound start met c.meet.ensures.len c.meet.ensures.same c.requires.sound) c.play_round-did.ensures.whole (omega (arith, c.requires.used)) c.prepare.ensures.same gathered.over c.requires.exchange calm c.play_round-did.ensures.did in
+    let some = delivers_one c.args.net.now c.prepare.new.net start met after last c.play_round-did.result (c.args.limit - c.args.used.now) c.meet.ensures.still.len c.play_round-did.ensures.len c.prepare.ensures.still.len
+    (looked_trans c.args.net.now c.meet.new.net c.prepare.new.net c.meet.ensures.still.looked c.prepare.ensures.still.looked) c.requires.crew.first (subst (CanBegin c.args.net.now start) c.requires.whos c.requires.begin) c.meet.ensures.still.still ahead
+    (still_sound start met c.meet.ensures.still.len c.meet.ensures.still.still c.requires.crew.sound) c.play_round-did.ensures.whole (omega (arith, c.requires.used)) c.prepare.ensures.still.still gathered.over c.requires.crew.exchange calm c.play_round-did.ensures.did in
     omega (arith, some))
     (held_calm _ c.prepare.result c.prepare.ensures.gathered)
 
@@ -73,57 +66,57 @@ pub returns-in-None-clause-end : goal.returns-in-None-clause-end
 returns-in-None-clause-end g c =
     let start = c.args.shells.now.items in let met = c.meet.new.shells.items in let after = c.play_round-did.new.shells.items in let last = c.prepare.new.shells.items in
     step_from c.prepare.result c.prepare.new.net start after last _ c.args.limit _
-    (λ bytes f. full_from start after last c.prepare.new.net bytes (c.play_round-did.ensures.len ∙ c.meet.ensures.len) c.prepare.ensures.len
-    (all_go_trans start met after c.meet.ensures.len (still_all_go start met c.meet.ensures.same) (passed_all_go met after c.play_round-did.ensures.passed)) f)
+    (λ bytes f. full_from start after last c.prepare.new.net bytes (c.play_round-did.ensures.len ∙ c.meet.ensures.still.len) c.prepare.ensures.still.len
+    (all_go_trans start met after c.meet.ensures.still.len (still_all_go start met c.meet.ensures.still.still) (passed_all_go met after c.play_round-did.ensures.passed)) f)
     c.prepare.ensures.end
 
 pub returns-in-Some-clause-end : goal.returns-in-Some-clause-end
 returns-in-Some-clause-end g c =
     let start = c.args.shells.now.items in let met = c.meet.new.shells.items in let after = c.play_round-did.new.shells.items in let last = c.ended.new.shells.items in
-    let ahead : AllAhead c.args.net.now met = c.in-Ok.ensures.ahead in
+    let ahead : AllAhead c.args.net.now met = c.in-Ok.ensures.met.ahead in
     let refusal : HasRefusal after c.in-Some.refused = subst (λ l. HasRefusal l c.in-Some.refused) c.as_slice.ensures.value c.in-Some.ensures.some in
     let short = c.play_round-did.ensures.short c.in-Some.refused refusal in
     step_end c.ended.result c.in-Some.refused c.ended.new.net start last _ c.args.limit _ c.ended.ensures.end
     (λ bytes e gathered. (
-      full_so start met after last c.ended.new.net bytes c.meet.ensures.len c.play_round-did.ensures.len c.ended.ensures.len
-          (still_all_go start met c.meet.ensures.same)
-          (still_sound start met c.meet.ensures.len c.meet.ensures.same c.requires.sound)
+      full_so start met after last c.ended.new.net bytes c.meet.ensures.still.len c.play_round-did.ensures.len c.ended.ensures.still.len
+          (still_all_go start met c.meet.ensures.still.still)
+          (still_sound start met c.meet.ensures.still.len c.meet.ensures.still.still c.requires.crew.sound)
           c.play_round-did.ensures.passed
           (subst (HasRefusal after) e refusal)
-          c.ended.ensures.same gathered.over
-          (all_of_later c.meet.new.net c.ended.new.net last c.ended.ensures.net
-          (all_of_go c.meet.new.net after last c.ended.ensures.len (still_all_go after last c.ended.ensures.same)
+          c.ended.ensures.still.still gathered.over
+          (all_of_later c.meet.new.net c.ended.new.net last c.ended.ensures.still.looked
+          (all_of_go c.meet.new.net after last c.ended.ensures.still.len (still_all_go after last c.ended.ensures.still.still)
           (all_of_go c.meet.new.net met after c.play_round-did.ensures.len (passed_all_go met after c.play_round-did.ensures.passed)
-          (all_of_go c.meet.new.net start met c.meet.ensures.len (still_all_go start met c.meet.ensures.same)
-          (all_of_later c.args.net.now c.meet.new.net start c.meet.ensures.net c.requires.exchange)))))
-          c.args.net.now ahead (looked_trans c.args.net.now c.meet.new.net c.ended.new.net c.meet.ensures.net c.ended.ensures.net) c.requires.net gathered.addressed,
+          (all_of_go c.meet.new.net start met c.meet.ensures.still.len (still_all_go start met c.meet.ensures.still.still)
+          (all_of_later c.args.net.now c.meet.new.net start c.meet.ensures.still.looked c.requires.crew.exchange)))))
+          c.args.net.now ahead (looked_trans c.args.net.now c.meet.new.net c.ended.new.net c.meet.ensures.still.looked c.ended.ensures.still.looked) c.requires.crew.first gathered.addressed,
       omega (arith, short),
     ))
 
 pub returns-in-None-clause-served : goal.returns-in-None-clause-served
 returns-in-None-clause-served g c =
     let start = c.args.shells.now.items in let met = c.meet.new.shells.items in let after = c.play_round-did.new.shells.items in let last = c.prepare.new.shells.items in
-    let ahead : AllAhead c.args.net.now met = c.in-Ok.ensures.ahead in
+    let ahead : AllAhead c.args.net.now met = c.in-Ok.ensures.met.ahead in
     held_maps c.prepare.result
     (λ (gathered : IsGathered c.prepare.new.net last).
-    round_serves c.args.net.now c.prepare.new.net start met after last c.meet.ensures.len c.play_round-did.ensures.len c.prepare.ensures.len
-    (looked_trans c.args.net.now c.meet.new.net c.prepare.new.net c.meet.ensures.net c.prepare.ensures.net) c.requires.net c.meet.ensures.same ahead c.play_round-did.ensures.passed c.prepare.ensures.same gathered c.requires.exchange)
+    round_serves c.args.net.now c.prepare.new.net start met after last c.meet.ensures.still.len c.play_round-did.ensures.len c.prepare.ensures.still.len
+    (looked_trans c.args.net.now c.meet.new.net c.prepare.new.net c.meet.ensures.still.looked c.prepare.ensures.still.looked) c.requires.crew.first c.meet.ensures.still.still ahead c.play_round-did.ensures.passed c.prepare.ensures.still.still gathered c.requires.crew.exchange)
     c.prepare.ensures.gathered
 
 pub returns-in-Some-clause-served : goal.returns-in-Some-clause-served
 returns-in-Some-clause-served g c =
     let start = c.args.shells.now.items in let met = c.meet.new.shells.items in let after = c.play_round-did.new.shells.items in let last = c.ended.new.shells.items in
-    let ahead : AllAhead c.args.net.now met = c.in-Ok.ensures.ahead in
+    let ahead : AllAhead c.args.net.now met = c.in-Ok.ensures.met.ahead in
     refused_held c.ended.result c.in-Some.refused c.ended.new.net last
-    (λ gathered. round_serves c.args.net.now c.ended.new.net start met after last c.meet.ensures.len c.play_round-did.ensures.len c.ended.ensures.len
-    (looked_trans c.args.net.now c.meet.new.net c.ended.new.net c.meet.ensures.net c.ended.ensures.net) c.requires.net c.meet.ensures.same ahead c.play_round-did.ensures.passed c.ended.ensures.same gathered c.requires.exchange)
+    (λ gathered. round_serves c.args.net.now c.ended.new.net start met after last c.meet.ensures.still.len c.play_round-did.ensures.len c.ended.ensures.still.len
+    (looked_trans c.args.net.now c.meet.new.net c.ended.new.net c.meet.ensures.still.looked c.ended.ensures.still.looked) c.requires.crew.first c.meet.ensures.still.still ahead c.play_round-did.ensures.passed c.ended.ensures.still.still gathered c.requires.crew.exchange)
     c.ended.ensures.end
 
 pub returns-in-None-clause-sound : goal.returns-in-None-clause-sound
 returns-in-None-clause-sound g c =
     let after = c.play_round-did.new.shells.items in let last = c.prepare.new.shells.items in
     let calm : AllSound after = subst AllSound c.as_slice.ensures.value (c.refused_in.ensures.none (search rules)) in
-    calm_of (AllSound last) c.prepare.result (still_sound after last c.prepare.ensures.len c.prepare.ensures.same calm)
+    calm_of (AllSound last) c.prepare.result (still_sound after last c.prepare.ensures.still.len c.prepare.ensures.still.still calm)
 
 pub returns-in-Some-clause-sound : goal.returns-in-Some-clause-sound
 returns-in-Some-clause-sound g c = calm_never (AllSound c.ended.new.shells.items) c.ended.result c.in-Some.refused c.ended.new.net c.ended.new.shells.items c.ended.ensures.end

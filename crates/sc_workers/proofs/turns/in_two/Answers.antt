@@ -5,7 +5,7 @@ use Rattle.sc_workers.proofs.turns.in_two.Goals as goal
 
 pub returns : goal.returns
 returns g c =
-    let first = c.split_at_mut-first.result.0.now in
-    let others = c.split_at_mut-first.result.1.now in
-    let len : length c.by_threads.new.part ≡ length first = search rules in
-    subst (λ l. AllTook l (c.by_threads.new.part ++ c.turns.new.part)) (sym c.split_at_mut-first.ensures.value) (took_both first c.by_threads.new.part others c.turns.new.part len c.by_threads.ensures c.turns.ensures)
+    let parts = c.split_at_mut-parts.result.0.now in
+    let others = c.split_at_mut-parts.result.1.now in
+    let len : length c.by_threads.new.shells ≡ length parts = search rules in
+    subst (λ l. AllTook l (c.by_threads.new.shells ++ c.turns.new.part)) (sym c.split_at_mut-parts.ensures.value) (took_both parts c.by_threads.new.shells others c.turns.new.part len c.by_threads.ensures c.turns.ensures)

@@ -1,0 +1,213 @@
+-- The rows of rounds are rows that the walk allows to a free line.
+use Rattle.std.proofs.Common.{◌≡◌, ℕ, zero, suc, ◌+◌, ◌-◌, ◌<◌, ◌≤◌, Bool, true, false, true≢false, eqb, eq-eqb, cond, ◌||◌, ◌&&◌, replicate, List, [], ◌∷◌, ◌++◌, length, get_or, refl, sym, ap, ◌∙◌, subst, arith, length-append, append_assoc, Option, Some, None, Contains}
+use Rattle.std.specs.Prelude.{slice_get, is_none, option_and_then}
+use Rattle.std.specs.List.{list_any}
+use Rattle.std.proofs.lemmas.List.{append-nil}
+use Rattle.std.proofs.lemmas.Bool.{eqb-true, ne_eqb, and_parts, or_parts}
+use Rattle.sc_turn.specs.Turn.{StartsWith}
+use Rattle.sc_actor.specs.declared.actors.Actor.{Ghosts}
+use Rattle.sc_actor.specs.declared.actors.Parcel.{Ghosts as MailGhosts}
+use Rattle.sc_actor.specs.declared.actors.Seat.{Seat}
+use Rattle.sc_actor.specs.declared.rows.Row.{Row}
+use Rattle.sc_actor.specs.declared.rows.Event.TheVariants.{Deliver}
+use Rattle.sc_actor.specs.declared.schedules.Line.{Line}
+use Rattle.sc_actor.specs.Mail.{mails, copies, numbers, numbered, is_for, may_get}
+use Rattle.sc_actor.specs.Counted.{journal_bytes}
+use Rattle.sc_actor.specs.System.{System, numbers_of, row_of, acts, waiting, kth, has_gone, is_go}
+use Rattle.sc_actor.specs.Steps.{IsUnderWay}
+use Rattle.sc_actor.specs.Walk.{Task, Frees, is_over, is_quiet, first_of}
+use Rattle.sc_actor.proofs.WalkLemmas.{Stands, Stands-row}
+use Rattle.sc_actor.proofs.PendingLemmas.{waiting_any, first_own}
+use Rattle.sc_ledger.specs.Pending.{kth_pending}
+use Rattle.sc_exchange.specs.declared.ports.Port.{Port}
+use Rattle.sc_exchange.specs.Deeds.{rows_of}
+use Rattle.sc_exchange.specs.Ports.{seen, made, Looked, IsTrue}
+use Rattle.sc_shell.specs.declared.shells.Shell.{Shell}
+use Rattle.sc_workers.specs.Crews.{AllGo, AllOver, numbers as crew_numbers, rows_made}
+use Rattle.sc_workers.specs.Services.{IsService, AllServe}
+use Rattle.sc_workers.proofs.Serving.{numbers_go, count_later}
+use Rattle.sc_workers.proofs.Attending.{count_split}
+use Rattle.sc_drive.specs.Numbers.{is_in, apart}
+use Rattle.sc_drive.specs.Companies.{Company}
+use Rattle.sc_drive.proofs.RowCounts.{not_in, or_second}
+use Rattle.sc_drive.proofs.OneActed.{count_seen, count_company}
+use Rattle.sc_drive.proofs.ActRows.{birth_number}
+use Rattle.sc_drive.proofs.SystemWords.{sys, acts_at, waiting_at, gone_push}
+use Rattle.sc_workers.proofs.Lists.{one_of}
+
+-- a wider test has a first number where a narrower one has
+wide_some : {M : Type 0} (p q : M → Bool) → ((m : M) → q m ≡ true → p m ≡ true) → (first : ℕ) (sent : List M) (counts : List ℕ) (n : ℕ) → slice_get (numbers q first sent counts) 0 ≡ Some n → is_none (slice_get (numbers p first sent counts) 0) ≡ false
+wide_some p q wider first [] counts n e = cc
+wide_some p q wider first (m ∷ sent) [] n e = cc
+wide_some {M} p q wider first (m ∷ sent) (c ∷ counts) n e = by c (q m) (p m) refl refl e (wide_some p q wider (suc first) sent counts n)
+  where
+    by : (c : ℕ) (a b : Bool) → q m ≡ a → p m ≡ b → slice_get (cond a (replicate c first) [] ++ numbers q (suc first) sent counts) 0 ≡ Some n →
+        (slice_get (numbers q (suc first) sent counts) 0 ≡ Some n → is_none (slice_get (numbers p (suc first) sent counts) 0) ≡ false) → is_none (slice_get (cond b (replicate c first) [] ++ numbers p (suc first) sent counts) 0) ≡ false
+    by zero true true qa pb e later = later e
+    by zero true false qa pb e later = later e
+    by zero false true qa pb e later = later e
+    by zero false false qa pb e later = later e
+    by (suc c) true true qa pb e later = refl
+    by (suc c) true false qa pb e later = absurd (true≢false (sym (wider m qa) ∙ pb))
+    by (suc c) false true qa pb e later = refl
+    by (suc c) false false qa pb e later = later e
+
+-- and none where the wider one has none
+pub wide_none : {M : Type 0} (p q : M → Bool) → ((m : M) → q m ≡ true → p m ≡ true) → (first : ℕ) (sent : List M) (counts : List ℕ) → is_none (slice_get (numbers p first sent counts) 0) ≡ true → is_none (slice_get (numbers q first sent counts) 0) ≡ true
+wide_none p q wider first sent counts none = by (slice_get (numbers q first sent counts) 0) refl
+  where
+    by : (o : Option ℕ) → slice_get (numbers q first sent counts) 0 ≡ o → is_none (slice_get (numbers q first sent counts) 0) ≡ true
+    by None e = ap is_none e
+    by (Some n) e = absurd (true≢false (sym none ∙ wide_some p q wider first sent counts n e))
+
+module _ {A M O : Type 0} (s : System A M O) (rows : List (Row M O)) where
+  -- mail that waits for one waits
+  pub some_waits : (who n : ℕ) → kth (waiting s rows (Some who)) 1 ≡ Some n → is_quiet s rows ≡ false
+  some_waits who n e =
+      wide_some (is_for s.receiver (numbers_of s.births) rows None) (is_for s.receiver (numbers_of s.births) rows (Some who))
+      (λ m t. let parts = and_parts (eqb (s.receiver m) who) (may_get (numbers_of s.births) rows who) t in subst (λ w. may_get (numbers_of s.births) rows w ≡ true) (sym (eqb-true (s.receiver m) who parts.0)) parts.1)
+      1 (mails rows) (copies rows) n e
+
+  -- the first of all is the first of its receiver
+  pub first_is : (n : ℕ) → kth (waiting s rows None) 1 ≡ Some n → (mail : M) × (numbered (mails rows) n ≡ Some mail) × (may_get (numbers_of s.births) rows (s.receiver mail) ≡ true) × (kth (waiting s rows (Some (s.receiver mail))) 1 ≡ Some n)
+  first_is n e = by n e (waiting_any s rows 1 n e)
+    where
+      by : (n : ℕ) → kth (waiting s rows None) 1 ≡ Some n → ((mail : M) × IsUnderWay s rows n mail) → (mail : M) × (numbered (mails rows) n ≡ Some mail) × (may_get (numbers_of s.births) rows (s.receiver mail) ≡ true) × (kth (waiting s rows (Some (s.receiver mail))) 1 ≡ Some n)
+      by zero e u = (let bad : None ≡ Some u.0 = u.1.sent in cc)
+      by (suc place) e u = (
+        u.0,
+        u.1.sent,
+        u.1.may,
+        first_own (is_for s.receiver (numbers_of s.births) rows None) (is_for s.receiver (numbers_of s.births) rows (Some (s.receiver u.0)))
+            (λ x t. let parts = and_parts (eqb (s.receiver x) (s.receiver u.0)) (may_get (numbers_of s.births) rows (s.receiver u.0)) t in subst (λ w. may_get (numbers_of s.births) rows w ≡ true) (sym (eqb-true (s.receiver x) (s.receiver u.0) parts.0)) parts.1)
+            1 (mails rows) (copies rows) (suc place) place u.0 e (omega arith) u.1.sent
+            (ap (λ b. b && may_get (numbers_of s.births) rows (s.receiver u.0)) (eq-eqb (s.receiver u.0) (s.receiver u.0) refl) ∙ u.1.may),
+      )
+
+-- a number that is in a list
+pub flip_in : (n : ℕ) (ws : List ℕ) → list_any (λ a. eqb a n) ws ≡ true → is_in n ws ≡ true
+flip_in n [] e = e
+flip_in n (w ∷ ws) e = by (eqb w n) refl (flip_in n ws)
+  where
+    or_right : (a b : Bool) → b ≡ true → (a || b) ≡ true
+    or_right true b e = refl
+    or_right false b e = e
+
+    by : (b : Bool) → eqb w n ≡ b → (list_any (λ a. eqb a n) ws ≡ true → is_in n ws ≡ true) → is_in n (w ∷ ws) ≡ true
+    by true is later = ap (λ b. b || is_in n ws) (eq-eqb n w (sym (eqb-true w n is)))
+    by false is later = or_right (eqb n w) (is_in n ws) (later (ap (λ b. b || list_any (λ a. eqb a n) ws) (sym is) ∙ e))
+
+module _ {A M O : Type 0} {g : Ghosts A M O} {h : MailGhosts M} where
+  -- the place of a number
+  pub in_at : (n : ℕ) (ss : List (Shell A M O g h)) → is_in n (crew_numbers ss) ≡ true → (k : ℕ) × (k < length ss) × ((d : Shell A M O g h) → (get_or ss k d).port.who ≡ n)
+  in_at n [] e = absurd (true≢false (sym e))
+  in_at n (s ∷ ss) e = by (eqb n s.port.who) refl (in_at n ss)
+    where
+      by : (b : Bool) → eqb n s.port.who ≡ b → (is_in n (crew_numbers ss) ≡ true → (k : ℕ) × (k < length ss) × ((d : Shell A M O g h) → (get_or ss k d).port.who ≡ n)) → (k : ℕ) × (k < length (s ∷ ss)) × ((d : Shell A M O g h) → (get_or (s ∷ ss) k d).port.who ≡ n)
+      by true is later = (0, omega arith, λ d. sym (eqb-true n s.port.who is))
+      by false is later = let q = later (ap (λ b. b || is_in n (crew_numbers ss)) (sym is) ∙ e) in (suc q.0, omega (arith, q.1), λ d. q.2 d)
+
+  module _ (words : ℕ → ℕ → ℕ × ℕ) (births : List (Seat A)) (net next : Port M O h) (ss after : List (Shell A M O g h)) (c : Company births net ss) (looked : Looked net next) (len : length after ≡ length ss) (go : AllGo ss after) (over : AllOver next after) (rows : IsTrue next) (served : AllServe next ss) where
+    abbrev world : System A M O
+    world = sys words births net ss c
+
+    abbrev more : List (Row M O)
+    more = looked.later.0
+
+    numbers_are : crew_numbers after ≡ crew_numbers ss
+    numbers_are = numbers_go ss after len go
+
+    first_is_net : next.who ≡ 0
+    first_is_net = looked.stays.who ∙ c.first
+
+    -- as many rows as the shells made
+    pub more_count : length more + rows_made ss ≡ rows_made after
+    more_count =
+        let a = count_company births net ss c in
+        let b = count_seen next after first_is_net (looked.stays.given ∙ (c.all ∙ sym numbers_are)) (ap (λ ws. apart (0 ∷ ws)) numbers_are ∙ c.far) over rows in
+        omega (arith, a, b, ap length looked.made, ap length looked.later.1, length-append (seen net) more)
+
+    closed : (n : ℕ) → is_in n (0 ∷ crew_numbers ss) ≡ false → rows_of n (seen next) ≡ []
+    closed n out =
+        let parts = or_parts (eqb n 0) (is_in n (crew_numbers ss)) out in
+        rows.others first_is_net n (λ z. true≢false (sym (eq-eqb n 0 z) ∙ parts.0)) (λ x. not_in n (crew_numbers ss) parts.1 (subst (λ ws. Contains ws n) (looked.stays.given ∙ c.all) x))
+
+    -- the maker of a new row has a shell
+    maker_in : (front : List (Row M O)) (row : Row M O) (rest : List (Row M O)) → seen next ≡ front ++ row ∷ rest → StartsWith front (seen net) → is_in row.who (crew_numbers ss) ≡ true
+    maker_in front row rest is low = by (is_in row.who (0 ∷ crew_numbers ss)) refl
+      where
+        net_count : length (rows_of 0 (seen net)) ≡ length (rows_of 0 (seen next))
+        net_count =
+            ap (λ n. length (rows_of n (seen net))) (sym c.first) ∙ (ap length c.rows.own ∙ (ap length (sym looked.made) ∙ (ap length (sym rows.own) ∙ ap (λ n. length (rows_of n (seen next))) first_is_net)))
+
+        not_net : row.who ≡ 0 → ⊥
+        not_net z = absurd (omega (arith, net_count, ap (λ l. length (rows_of 0 l)) is, count_split 0 front rest row z, count_later 0 front (seen net) low))
+
+        by : (b : Bool) → is_in row.who (0 ∷ crew_numbers ss) ≡ b → is_in row.who (crew_numbers ss) ≡ true
+        by true e = or_second (eqb row.who 0) (is_in row.who (crew_numbers ss)) (ne_eqb row.who 0 not_net) e
+        by false e = absurd (omega (arith, ap length (closed row.who e), ap (λ l. length (rows_of row.who l)) is, count_split row.who front rest row refl))
+
+    -- a new row is the first delivery of its actor
+    allowed : (front : List (Row M O)) (row : Row M O) (rest : List (Row M O)) → seen next ≡ front ++ row ∷ rest → StartsWith front (seen net) → (number : ℕ) × (kth (waiting world front (Some row.who)) 1 ≡ Some number) × (acts world front row.who (Deliver number) ≡ Some row) × (row.event ≡ Deliver number) × (journal_bytes h.weighs (front ++ row ∷ []) ≤ next.limit)
+    allowed front row rest is low =
+        let place = in_at row.who ss (maker_in front row rest is low) in
+        let k = place.0 in
+        let lt : k < length ss = place.1 in
+        let d = one_of ss k lt in
+        let e : Seat A = record { who = 0; actor = d.actor } in
+        let who : (get_or ss k d).port.who ≡ row.who = place.2 d in
+        let own : length (rows_of (get_or ss k d).port.who (seen net)) ≡ length (made (get_or ss k d).port) = ap length (c.over k d lt).own in
+        let new : length (made (get_or ss k d).port) ≤ length (rows_of (get_or ss k d).port.who front) = omega (arith, own, count_later (get_or ss k d).port.who front (seen net) low) in
+        let v : IsService (get_or ss k d) next.actors next.limit front row = (served k d lt).each front row rest is (sym who) new in
+        let seat : (get_or births k e).who ≡ row.who = birth_number births net ss k d e c lt ∙ who in
+        let born : row ≡ row_of g.table (record { who = row.who; actor = (get_or births k e).actor }) front (Deliver v.number) = v.by_table (get_or births k e).actor (λ _. c.replay k d e lt) in
+        let same : row_of g.table (get_or births k e) front (Deliver v.number) ≡ row = (λ i. row_of g.table (record { who = seat i; actor = (get_or births k e).actor }) front (Deliver v.number)) ∙ sym born in (
+          v.number,
+          ap (λ n. kth (waiting world front (Some n)) 1) (sym who) ∙ (sym (waiting_at words births net ss c k lt d front 1) ∙ ((λ i. kth_pending h.receiver (sym looked.stays.exchange.1 i) front (who i) 1) ∙ v.first)),
+          ap (λ n. acts world front n (Deliver v.number)) (sym who) ∙ (acts_at words births net ss c k lt d e front (Deliver v.number) ∙ ap Some same),
+          v.event,
+          v.within,
+        )
+
+    module _ (lines : List (Line O)) (tasks : List (Task O)) (skips_ : ℕ) (cut : Bool) where
+      some_left : (left : ℕ) (b : Bool) → 0 < left → b ≡ false → (eqb left 0 || b) ≡ false
+      some_left zero b lt e = absurd (omega arith)
+      some_left (suc left) b lt e = ap (λ a. a || b) (ne_eqb (suc left) 0 (λ z. absurd (omega (arith, z)))) ∙ e
+
+      -- row by row
+      walk_on : (done rest : List (Row M O)) → more ≡ done ++ rest → (left : ℕ) → length rest ≤ left → journal_bytes h.weighs (seen net ++ done) ≤ next.limit → Stands world lines (seen net ++ done) (Frees left ∷ tasks) skips_ cut →
+          Stands world lines (seen next) (Frees (left - length rest) ∷ tasks) skips_ cut × (journal_bytes h.weighs (seen next) ≤ next.limit)
+      walk_on done [] is left enough fits stands =
+          let all : seen next ≡ seen net ++ done = looked.later.1 ∙ ap (λ l. seen net ++ l) (is ∙ append-nil done) in
+          (subst (λ l. Stands world lines l (Frees (left - 0) ∷ tasks) skips_ cut) (sym all) (subst (λ n. Stands world lines (seen net ++ done) (Frees n ∷ tasks) skips_ cut) (omega arith) stands), subst (λ l. journal_bytes h.weighs l ≤ next.limit) (sym all) fits)
+      walk_on done (row ∷ rest) is left enough fits stands =
+          let front = seen net ++ done in
+          let cut_here : seen next ≡ front ++ row ∷ rest = looked.later.1 ∙ (ap (λ l. seen net ++ l) is ∙ sym (append_assoc (seen net) done (row ∷ rest))) in
+          let a = allowed front row rest cut_here (done, refl) in
+          let may : first_of world front row.who ≡ Some row = ap (option_and_then (λ mail. acts world front row.who (Deliver mail))) a.1 ∙ a.2 in
+          let opens : is_over world front (Frees left) ≡ false = some_left left (is_quiet world front) (omega (arith, enough)) (some_waits world front row.who a.0 a.1) in
+          let next_stands : Stands world lines (front ++ row ∷ []) (Frees (left - 1) ∷ tasks) skips_ cut = Stands-row world lines front (Frees left) tasks skips_ cut row stands opens may in
+          let shift : front ++ row ∷ [] ≡ seen net ++ (done ++ row ∷ []) = append_assoc (seen net) done (row ∷ []) in
+          let step = walk_on (done ++ row ∷ []) rest (is ∙ sym (append_assoc done (row ∷ []) rest)) (left - 1) (omega (arith, enough))
+          (subst (λ l. journal_bytes h.weighs l ≤ next.limit) shift a.4) (subst (λ l. Stands world lines l (Frees (left - 1) ∷ tasks) skips_ cut) shift next_stands) in
+          let count : left - 1 - length rest ≡ left - length (row ∷ rest) = omega arith in
+          (subst (λ n. Stands world lines (seen next) (Frees n ∷ tasks) skips_ cut) count step.0, step.1)
+
+      -- all rows of the rounds
+      pub free_walk : (left : ℕ) → length more ≤ left → journal_bytes h.weighs (seen net) ≤ next.limit → Stands world lines (seen net) (Frees left ∷ tasks) skips_ cut →
+          Stands world lines (seen next) (Frees (left - length more) ∷ tasks) skips_ cut × (journal_bytes h.weighs (seen next) ≤ next.limit)
+      free_walk left enough fits stands =
+          walk_on [] more refl left enough (subst (λ l. journal_bytes h.weighs l ≤ next.limit) (sym (append-nil (seen net))) fits) (subst (λ l. Stands world lines l (Frees left ∷ tasks) skips_ cut) (sym (append-nil (seen net))) stands)
+
+    gone_on : (who : ℕ) (done rest : List (Row M O)) → more ≡ done ++ rest → has_gone (seen next) who ≡ has_gone (seen net ++ done) who
+    gone_on who done [] is = ap (λ l. has_gone l who) (looked.later.1 ∙ ap (λ l. seen net ++ l) (is ∙ append-nil done))
+    gone_on who done (row ∷ rest) is =
+        let front = seen net ++ done in
+        let cut_here : seen next ≡ front ++ row ∷ rest = looked.later.1 ∙ (ap (λ l. seen net ++ l) is ∙ sym (append_assoc (seen net) done (row ∷ rest))) in
+        let a = allowed front row rest cut_here (done, refl) in
+        gone_on who (done ++ row ∷ []) rest (is ∙ sym (append_assoc done (row ∷ []) rest))
+        ∙ (ap (λ l. has_gone l who) (sym (append_assoc (seen net) done (row ∷ []))) ∙ gone_push front row who (ap is_go a.3))
+
+    -- none was told to go
+    pub gone_same : (who : ℕ) → has_gone (seen next) who ≡ has_gone (seen net) who
+    gone_same who = gone_on who [] more refl ∙ ap (λ l. has_gone l who) (append-nil (seen net))

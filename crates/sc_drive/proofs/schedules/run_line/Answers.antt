@@ -1,0 +1,28 @@
+use Rattle.std.proofs.Common.{true, true≢false, sym, ◌∙◌, ap}
+use Rattle.sc_drive.proofs.SingleSteps.{calm_else}
+use Rattle.sc_drive.proofs.schedules.run_line.Goals as goal
+use Rattle.sc_actor.specs.Walk.{has_one_task}
+
+pub returns-in-Go-clause-goes : goal.returns-in-Go-clause-goes
+returns-in-Go-clause-goes g c = rw c.in-Go.is c.run_go.ensures.goes
+
+pub returns-in-Go-clause-fills : goal.returns-in-Go-clause-fills
+returns-in-Go-clause-fills g c = rw c.in-Go.is c.run_go.ensures.fills
+
+pub returns-in-Settle-clause-goes : goal.returns-in-Settle-clause-goes
+returns-in-Settle-clause-goes g c = rw c.in-Settle.is c.run_settle.ensures.goes
+
+pub returns-in-Settle-clause-fills : goal.returns-in-Settle-clause-fills
+returns-in-Settle-clause-fills g c = rw c.in-Settle.is c.run_settle.ensures.fills
+
+pub returns-in-Free-clause-goes : goal.returns-in-Free-clause-goes
+returns-in-Free-clause-goes g c = rw c.in-Free.is c.run_free.ensures.goes
+
+pub returns-in-Free-clause-fills : goal.returns-in-Free-clause-fills
+returns-in-Free-clause-fills g c = rw c.in-Free.is c.run_free.ensures.fills
+
+pub unreachable-requires : goal.unreachable-requires
+unreachable-requires g c = true≢false (sym c.requires.built ∙ ap has_one_task c.in-Storm.is)
+
+pub run_once-requires-clause-calm : goal.run_once-requires-clause-calm
+run_once-requires-clause-calm g c κs within = calm_else c.args.line.now c.in_default.not-Go c.in_default.not-Settle c.in_default.not-Free c.in_default.not-Storm

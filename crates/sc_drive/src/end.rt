@@ -1,0 +1,53 @@
+//! The end of an exchange.
+ghost use Rattle.std.specs.Prelude.{◌≡◌, [], map, IfOk};
+ghost use Rattle.sc_exchange.specs.Ports.{seen, given, joined, HasJoined, SameExchange, IsTrue};
+ghost use Rattle.sc_workers.specs.Crews.{AllOf, AllOver, numbers};
+ghost use Rattle.sc_shell.specs.Shells.{actor_of, port_of};
+
+use sc_actor::{Actor, Journal};
+use sc_base::{OutOfMemory, Sequence};
+use sc_exchange::Port;
+use sc_shell::Shell;
+use std::alloc::Global;
+use std::sync::Wait;
+
+// A shell's actor, whose port is joined.
+fn take_apart<A: Actor>(net: &mut Port<A::Mail, A::Order>, shell: Shell<A>) -> A
+    requires net { net.old.who ≡ 0 }
+    requires one { SameExchange net.old (port_of shell) }
+    ensures actor { result ≡ actor_of shell }
+    ensures joined { HasJoined net.old net.new (port_of shell) }
+{
+    let (actor, port) = shell.parts();
+    net.join(port);
+    actor
+}
+
+/// Takes the shells apart, joins their ports and closes the network's port: the journal, which is
+/// what that port has seen, and the actors in the order of their shells.
+///
+/// The shells are those of all ports that were split off, none was joined before, and all have
+/// gathered.
+pub fn close<A: Actor, R: Wait>(
+    rt: &R,
+    alloc: Global,
+    net: Port<A::Mail, A::Order>,
+    shells: Vec<Shell<A>>,
+) -> Result<(Journal<A::Mail, A::Order>, Sequence<A>), OutOfMemory>
+    requires net { net.who ≡ 0 }
+    requires exchange { AllOf net shells.items }
+    requires all { given net ≡ numbers shells.items }
+    requires none { joined net ≡ [] }
+    requires over { AllOver net shells.items }
+    requires rows { IsTrue net }
+    ensures journal { IfOk result (λ left. left.0 ≡ seen net) }
+    ensures actors { IfOk result (λ left. left.1 ≡ map actor_of shells.items) }
+{
+    let mut all = net;
+    let mut actors = Sequence::new(alloc);
+    for shell in shells {
+        let actor = take_apart(&mut all, shell);
+        actors.push(actor)?;
+    }
+    Ok((all.close(rt), actors))
+}

@@ -1,0 +1,105 @@
+//! A schedule driven to its end.
+ghost use Rattle.std.specs.Prelude.{◌≡◌, ◌≢◌, ℕ, [], ◌∷◌, List, OnOk, IsErrOf, false, true, All};
+ghost use Rattle.sc_actor.specs.declared.actors.Seat.{Seat};
+ghost use Rattle.sc_workers.specs.Crews.{IsCrew};
+ghost use Rattle.sc_drive.specs.Companies.{AtBirth};
+ghost use Rattle.sc_drive.specs.Goings.{Goes, Fills, IsDriven, IsKept, IsOn, IsTogether};
+ghost use Rattle.sc_actor.specs.Walk.{has_one_task, line_task};
+
+use crate::free_lines::run_free;
+use crate::settle_lines::{lowest, run_settle};
+use crate::single_lines::{run_go, run_once};
+use crate::steps::{Driven, Score, Stop};
+use sc_actor::{Actor, Gate, Line};
+use sc_exchange::Port;
+use sc_shell::Shell;
+use sc_workers::gather;
+use std::alloc::Global;
+use std::sync::Wait;
+use std::thread::Threads;
+
+// The score before the first line.
+fn no_score(alloc: Global) -> Score
+    ensures { (result.skipped ≡ 0) × (result.unsettled ≡ false) × (result.gone.items ≡ []) }
+{
+    Score {
+        skipped: 0,
+        unsettled: false,
+        gone: Vec::new(alloc),
+    }
+}
+
+// One line.
+fn run_line<A: Actor, G: Gate, R: Threads + Wait + Sync>(
+    rt: &R,
+    alloc: Global,
+    net: &mut Port<A::Mail, A::Order>,
+    shells: &mut Vec<Shell<A>>,
+    score: &mut Score,
+    line: &Line<A::Order>,
+    gate: &G,
+) -> Result<(), Stop>
+    requires together { IsTogether net.old shells.old.items }
+    requires built { has_one_task line.now ≡ true }
+    ensures on { OnOk result (IsOn net.old shells.old.items net.new shells.new.items) }
+    ensures kept { IsErrOf result Stop.Full →
+        IsKept net.old shells.old.items net.new shells.new.items }
+    ensures goes { OnOk result
+        (Goes net.old shells.old.items score.old (line_task line.now ∷ []) net.new shells.new.items
+        score.new []) }
+    ensures fills { IsErrOf result Stop.Full →
+        Fills net.old shells.old.items score.old (line_task line.now ∷ []) net.new }
+{
+    match line {
+        Line::Go { who } => run_go(rt, alloc, net, shells, score, *who),
+        Line::Settle { most } => run_settle(rt, alloc, net, shells, score, *most, gate),
+        Line::Free { most, workers } => {
+            run_free(rt, alloc, net, shells, score, *most, *workers, gate)
+        }
+        Line::Storm { .. } => unreachable!(),
+        _ => run_once(rt, alloc, net, shells, score, line, gate),
+    }
+}
+
+/// Drives a schedule through the network's port and the shells of its actors.
+///
+/// No line is a storm. Where the shells are those of actors at their births, each at its port, and
+/// no port has made a row, the journal is afterwards what the contract of a played schedule says. A
+/// line that tells a crashed actor to go is answered as a want of memory.
+pub fn drive<A: Actor, G: Gate, R: Threads + Wait + Sync>(
+    rt: &R,
+    alloc: Global,
+    net: &mut Port<A::Mail, A::Order>,
+    shells: &mut Vec<Shell<A>>,
+    lines: &[Line<A::Order>],
+    gate: &G,
+) -> Driven
+    requires crew { IsCrew net.old shells.old.items }
+    requires built { All (λ line. has_one_task line ≡ true) lines.now }
+    ensures kept { result ≢ Driven.OutOfMemory →
+        IsKept net.old shells.old.items net.new shells.new.items }
+    ensures driven { (words : ℕ → ℕ → ℕ × ℕ) (births : List (Seat A)) →
+        AtBirth births net.old shells.old.items →
+        IsDriven words births lines.now net.old.limit net.new shells.new.items result }
+{
+    let mut score = no_score(alloc);
+    // Until all have gathered it is not known that there is no row.
+    let Ok(_) = gather(rt, net, shells) else {
+        return Driven::OutOfMemory;
+    };
+    for line in lines {
+        match run_line(rt, alloc, net, shells, &mut score, line, gate) {
+            Ok(()) => {}
+            Err(Stop::Full) => return Driven::Full,
+            Err(Stop::OutOfMemory) => return Driven::OutOfMemory,
+        }
+    }
+    let Ok(found) = lowest(rt, net, shells) else {
+        return Driven::OutOfMemory;
+    };
+    Driven::Ended {
+        unsettled: score.unsettled,
+        quiet: found.is_none(),
+        skipped: score.skipped,
+    }
+}

@@ -1,0 +1,53 @@
+//! The beginning of an exchange.
+ghost use Rattle.std.specs.Prelude.{◌≡◌, ◌<◌, ◌≤◌, ◌^◌, [], true, All, Contains, IfOk};
+ghost use Rattle.sc_exchange.specs.Ports.{given, joined};
+ghost use Rattle.sc_drive.specs.Companies.{AtBirth};
+ghost use Rattle.sc_drive.specs.Ends.{Seated};
+ghost use Rattle.sc_actor.specs.System.{are_apart};
+
+use sc_actor::{Actor, Seat};
+use sc_base::OutOfMemory;
+use sc_exchange::Port;
+use sc_shell::Shell;
+use std::alloc::Global;
+
+// The actor of a seat at a port of its own.
+fn seat_one<A: Actor>(
+    net: &mut Port<A::Mail, A::Order>,
+    seat: Seat<A>,
+) -> Result<Shell<A>, OutOfMemory>
+    requires net { net.old.who ≡ 0 }
+    requires number { (0 < seat.who) × (seat.who ≤ net.old.actors) }
+    requires fresh { ¬ Contains (given net.old) seat.who }
+    ensures { IfOk result (λ shell. Seated net.old net.new seat shell) }
+{
+    let Seat { who, actor } = seat;
+    let port = net.split(who)?;
+    Ok(Shell::new(actor, port))
+}
+
+/// Starts an exchange of so many actors within a limit of counted bytes of at most 2^30, and seats
+/// each actor at a port of its own: the network's port, and the shells in the order of the seats.
+///
+/// The numbers of the seats are different, and each is from 1 to `actors`.
+pub fn open<A: Actor>(
+    alloc: Global,
+    seats: Vec<Seat<A>>,
+    actors: u32,
+    limit: u64,
+) -> Result<(Port<A::Mail, A::Order>, Vec<Shell<A>>), OutOfMemory>
+    requires limit { limit ≤ 2 ^ 30 }
+    requires far { are_apart seats.items ≡ true }
+    requires numbered { All (λ seat. (0 < seat.who) × (seat.who ≤ actors)) seats.items }
+    ensures births { IfOk result (λ begun. AtBirth seats.items begun.0 begun.1.items) }
+    ensures unjoined { IfOk result (λ begun. joined begun.0 ≡ []) }
+    ensures limit { IfOk result (λ begun. begun.0.limit ≡ limit) }
+{
+    let mut net = Port::start(alloc, actors, limit)?;
+    let mut shells = Vec::new(alloc);
+    for seat in seats {
+        let shell = seat_one(&mut net, seat)?;
+        shells.push(shell)?;
+    }
+    Ok((net, shells))
+}

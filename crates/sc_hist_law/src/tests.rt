@@ -1,6 +1,0 @@
-use super::*;
-
-#[test]
-fn the_law_is_called() {
-    logs_tell_histories();
-}

@@ -1,0 +1,32 @@
+//! Each function that carries a law takes no input and answers nothing: calling it shows that its
+//! contract can be met.
+use sc_group_law::{
+    a_journal_with_a_join, a_journal_with_an_election, group_journals_are_sound,
+    valid_scenarios_have_one_group,
+};
+use sc_hist_law::logs_tell_histories;
+use sc_paxos_law::{
+    a_lawful_history, acceptors_are_lawful, leaders_are_lawful, one_log, one_value_per_slot,
+};
+
+#[test]
+fn the_laws_of_paxos_are_of_any_value() {
+    one_value_per_slot::<u32>();
+    one_log::<u32>();
+    acceptors_are_lawful::<u32>();
+    leaders_are_lawful::<u32>();
+    a_lawful_history();
+}
+
+#[test]
+fn the_law_of_a_log_is_called() {
+    logs_tell_histories();
+}
+
+#[test]
+fn the_laws_of_one_group_are_called() {
+    group_journals_are_sound();
+    valid_scenarios_have_one_group();
+    a_journal_with_an_election();
+    a_journal_with_a_join();
+}

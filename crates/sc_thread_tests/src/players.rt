@@ -1,0 +1,107 @@
+//! Actors that send each other notes, and the gates that hold them.
+ghost use Rattle.std.specs.Prelude.{◌-◌, [], ◌∷◌, OnOk, if◌then◌else◌, ◌==◌};
+ghost use Rattle.sc_exchange.specs.Ports.{SameExchange};
+ghost use Rattle.sc_shell.specs.Shells.{port_of};
+ghost use Rattle.sc_workers.specs.Crews.{AllOf, AllSound, Sound};
+
+use crate::notes::Note;
+use sc_actor::{Actor, Gate, Input};
+use sc_base::{OutOfMemory, Sequence};
+use sc_exchange::Port;
+use sc_shell::Shell;
+use std::alloc::Global;
+use std::sync::atomic::{AtomicU64, Ordering};
+use std::thread;
+
+// Sends a note to another at each input, as long as it has notes left. It is out of memory when it
+// has `starves` left.
+#[derive(Drop)]
+pub(crate) struct Player {
+    pub(crate) other: u32,
+    pub(crate) left: u32,
+    pub(crate) starves: u32,
+}
+
+impl Actor for Player {
+    type Mail = Note;
+
+    type Order = u32;
+
+    ghost table = { λ player _.
+        if player.left == 0 then (player, []) else (
+          record { other = player.other; left = player.left - 1; starves = player.starves },
+          (record { to = player.other })
+              ∷ [],
+        ) };
+
+    fn step(
+        &mut self,
+        alloc: Global,
+        _input: &Input<Note, u32>,
+    ) -> Result<Sequence<Note>, OutOfMemory> {
+        let mut sent = Sequence::new(alloc);
+        if self.left == 0 {
+            return Ok(sent);
+        }
+        if self.left == self.starves {
+            return Err(OutOfMemory);
+        }
+        sent.push(Note { to: self.other })?;
+        self.left -= 1;
+        Ok(sent)
+    }
+}
+
+pub(crate) struct Open;
+
+impl Gate for Open {
+    fn pass(&self, _who: u32) {}
+}
+
+// Holds two actors, each until the other has come, for so many turns of waiting.
+#[derive(Drop)]
+pub(crate) struct Pair {
+    pub(crate) turns: u32,
+    pub(crate) come: AtomicU64,
+    pub(crate) late: AtomicU64,
+}
+
+impl Gate for Pair {
+    fn pass(&self, _who: u32) {
+        self.come.fetch_add(1, Ordering::SeqCst);
+        for i in 0..self.turns {
+            let _ = i;
+            if self.come.load(Ordering::SeqCst) >= 2 {
+                return;
+            }
+            thread::yield_now();
+        }
+        self.late.fetch_add(1, Ordering::SeqCst);
+    }
+}
+
+// Counts how often it is passed.
+#[derive(Drop)]
+pub(crate) struct Counter {
+    pub(crate) passes: AtomicU64,
+}
+
+impl Gate for Counter {
+    fn pass(&self, _who: u32) {
+        self.passes.fetch_add(1, Ordering::SeqCst);
+    }
+}
+
+// One shell more.
+pub(crate) fn add(
+    shells: &mut Vec<Shell<Player>>,
+    net: &Port<Note, u32>,
+    shell: Shell<Player>,
+) -> Result<(), OutOfMemory>
+    requires crew { AllOf net.now shells.old.items × AllSound shells.old.items }
+    requires one { SameExchange (port_of shell) net.now × Sound shell }
+    ensures { OnOk result (AllOf net.now shells.new.items × AllSound shells.new.items) }
+{
+    shells.push(shell)?;
+    Ok(())
+}
