@@ -13,7 +13,7 @@ use Rattle.sc_actor.specs.System.{acts, row_of, waiting, kth}
 use Rattle.sc_actor.specs.Walk.{line_row}
 use Rattle.sc_ledger.specs.Pending.{kth_pending}
 use Rattle.sc_exchange.specs.declared.ports.Port.{Port}
-use Rattle.sc_exchange.specs.Ports.{seen, Stays}
+use Rattle.sc_exchange.specs.Ports.{seen}
 use Rattle.sc_shell.specs.declared.shells.Shell.{Shell}
 use Rattle.sc_shell.specs.declared.turns.Turn.TheVariants.{Did, Empty, Full, Spent}
 use Rattle.sc_workers.specs.Crews.{numbers}

@@ -3,21 +3,20 @@ use Rattle.std.proofs.Common.{◌≡◌, ◌≢◌, ℕ, suc, ◌<◌, Bool, tru
 use mathlib.Core.Logic.{dite}
 use native.Mathlib.Decide.{ℕ_discrete}
 use Rattle.std.proofs.lemmas.Bool.{eqb-true}
-use Rattle.std.proofs.lemmas.List.{append-nil, map-append}
+use Rattle.std.proofs.lemmas.List.{append-nil}
 use Rattle.sc_turn.specs.Turn.{StartsWith}
 use Rattle.sc_actor.specs.declared.actors.Actor.{Ghosts}
 use Rattle.sc_actor.specs.declared.actors.Parcel.{Ghosts as MailGhosts}
 use Rattle.sc_actor.specs.declared.rows.Row.{Row}
 use Rattle.sc_exchange.specs.declared.ports.Port.{Port}
 use Rattle.sc_exchange.specs.Deeds.{rows_of}
-use Rattle.sc_exchange.specs.Ports.{seen, made, given, joined, SameExchange, IsTrue, HasJoined}
+use Rattle.sc_exchange.specs.Ports.{seen, made, given, joined, SameExchange, IsTrue}
 use Rattle.sc_shell.specs.declared.shells.Shell.{Shell}
-use Rattle.sc_workers.specs.Crews.{AllOver, numbers, AllOf}
+use Rattle.sc_workers.specs.Crews.{AllOver, numbers}
 use Rattle.sc_workers.proofs.Lists.{one_of}
 use Rattle.sc_workers.proofs.Attending.{count_split}
 use Rattle.sc_drive.specs.Numbers.{is_in}
 use Rattle.sc_drive.proofs.RowCounts.{not_in}
-use Rattle.sc_drive.proofs.Seats.{same_then, same_back}
 use Rattle.sc_turn.proofs.Lists.{starts_trans}
 
 module _ {M O : Type 0} where
@@ -43,25 +42,6 @@ module _ {A M O : Type 0} {g : Ghosts A M O} {h : MailGhosts M} where
     pub made : made now ≡ made net
     pub joined : joined now ≡ ports done
     pub later : StartsWith (seen now) (seen net)
-
-  pub ending_none : (net : Port M O h) → net.who ≡ 0 → joined net ≡ [] → Ending net net []
-  ending_none net first none = record { exchange = (refl, refl, refl); first = first; given = refl; made = refl; joined = none; later = ([], sym (append-nil (seen net))) }
-
-  pub ending_more : (net now next : Port M O h) (done : List (Shell A M O g h)) (s : Shell A M O g h) → Ending net now done → HasJoined now next s.port → Ending net next (done ++ s ∷ [])
-  ending_more net now next done s e r = record {
-    exchange = same_then net now next e.exchange r.exchange;
-    first = r.who;
-    given = r.given ∙ e.given;
-    made = r.made ∙ e.made;
-    joined = r.joined ∙ (ap (λ l. l ++ (s.port.who, made s.port) ∷ []) e.joined ∙ sym (map-append (λ (x : Shell A M O g h). (x.port.who, made x.port)) done (s ∷ [])));
-    later = starts_trans (seen next) (seen now) (seen net) r.later e.later;
-  }
-
-  -- the next shell's port is of the exchange
-  pub of_end : (net now : Port M O h) (ss done : List (Shell A M O g h)) (s : Shell A M O g h) (n : ℕ) → AllOf net ss → Ending net now done → n < length ss → s ≡ get_or ss n s → SameExchange now s.port
-  of_end net now ss done s n of e lt is =
-      let here : SameExchange s.port net = subst (λ (x : Shell A M O g h). SameExchange x.port net) (sym is) (of n s lt) in
-      same_then now net s.port (same_back net now e.exchange) (same_back s.port net here)
 
   firsts_are : (ss : List (Shell A M O g h)) → map (λ (k : ℕ × List (Row M O)). k.0) (ports ss) ≡ numbers ss
   firsts_are [] = refl

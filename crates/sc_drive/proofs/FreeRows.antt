@@ -29,7 +29,7 @@ use Rattle.sc_workers.proofs.Serving.{numbers_go, count_later}
 use Rattle.sc_workers.proofs.Attending.{count_split}
 use Rattle.sc_drive.specs.Numbers.{is_in, apart}
 use Rattle.sc_drive.specs.Companies.{Company}
-use Rattle.sc_drive.proofs.RowCounts.{not_in, or_second}
+use Rattle.sc_drive.proofs.RowCounts.{not_in}
 use Rattle.sc_drive.proofs.OneActed.{count_seen, count_company}
 use Rattle.sc_drive.proofs.ActRows.{birth_number}
 use Rattle.sc_drive.proofs.SystemWords.{sys, acts_at, waiting_at, gone_push}
@@ -144,7 +144,7 @@ module _ {A M O : Type 0} {g : Ghosts A M O} {h : MailGhosts M} where
         not_net z = absurd (omega (arith, net_count, ap (λ l. length (rows_of 0 l)) is, count_split 0 front rest row z, count_later 0 front (seen net) low))
 
         by : (b : Bool) → is_in row.who (0 ∷ crew_numbers ss) ≡ b → is_in row.who (crew_numbers ss) ≡ true
-        by true e = or_second (eqb row.who 0) (is_in row.who (crew_numbers ss)) (ne_eqb row.who 0 not_net) e
+        by true e = ap (λ b. b || is_in row.who (crew_numbers ss)) (sym (ne_eqb row.who 0 not_net)) ∙ e
         by false e = absurd (omega (arith, ap length (closed row.who e), ap (λ l. length (rows_of row.who l)) is, count_split row.who front rest row refl))
 
     -- a new row is the first delivery of its actor

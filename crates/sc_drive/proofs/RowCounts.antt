@@ -8,11 +8,6 @@ use Rattle.sc_actor.specs.declared.rows.Row.{Row}
 use Rattle.sc_exchange.specs.Deeds.{rows_of}
 use Rattle.sc_drive.specs.Numbers.{is_in, apart}
 
--- the second of two, where the first does not hold
-pub or_second : (a b : Bool) → a ≡ false → (a || b) ≡ true → b ≡ true
-or_second true b e t = absurd (true≢false e)
-or_second false b e t = t
-
 -- a test of two numbers the other way round
 pub flip : (a b : ℕ) → eqb a b ≡ eqb b a
 flip a b = by (eqb a b) (eqb b a) refl refl
@@ -44,7 +39,7 @@ same_one n (w ∷ ws) far there = by (eqb n w) refl (same_one n ws parts.1)
         let number : n ≡ w = eqb-true n w is in
         let none : sum_by (same n) ws ≡ 0 = same_none n ws (ap (λ v. is_in v ws) number ∙ not-true (is_in w ws) parts.0) in
         omega (arith, sum_by-cons (same n) w ws, none, ap (λ b. cond {A = ℕ} b 1 0) is)
-    by false is rest = omega (arith, sum_by-cons (same n) w ws, rest (or_second (eqb n w) (is_in n ws) is there), ap (λ b. cond {A = ℕ} b 1 0) is)
+    by false is rest = omega (arith, sum_by-cons (same n) w ws, rest (ap (λ b. b || is_in n ws) (sym is) ∙ there), ap (λ b. cond {A = ℕ} b 1 0) is)
 
 module _ {A : Type 0} where
   -- a sum of nothing

@@ -3,7 +3,7 @@ use Rattle.sc_shell.specs.declared.turns.Turn.{Turn}
 use Rattle.sc_drive.specs.Acts.{Served, SoundAfter}
 use Rattle.sc_drive.specs.Stepping.{IsPlace, IsNowhere}
 use Rattle.sc_drive.proofs.Kept.{on_same}
-use Rattle.sc_drive.proofs.ActorRows.{delivers_nowhere, delivers_did, delivers_empty, delivers_full, delivers_none, delivers_spent}
+use Rattle.sc_drive.proofs.ActorRows.{delivers_nowhere, delivers_did, delivers_empty, delivers_full, delivers_spent}
 use Rattle.sc_drive.proofs.actor_lines.deliver.Goals as goal
 
 pub returns-in_default-clause-made : goal.returns-in_default-clause-made

@@ -1,4 +1,4 @@
-use Rattle.std.proofs.Common.{rules, ◌≡◌, set, get_or, length, ◌∙◌, subst}
+use Rattle.std.proofs.Common.{rules, ◌≡◌, set, get_or, ◌∙◌, subst}
 use Rattle.sc_shell.specs.Shells.{state}
 use Rattle.sc_workers.specs.Crews.{AreStill}
 use Rattle.sc_workers.proofs.Lists.{get_any}

@@ -1,6 +1,6 @@
 use Rattle.std.proofs.Common.{◌≡◌, ◌∙◌, refl, ap, subst, arith, Bool, true, false, not, Option, Some, None, is_some, Err, ℕ}
 use Rattle.std.specs.Prelude.{is_none}
-use Rattle.sc_drive.specs.Goings.{HasEnded, IsOn}
+use Rattle.sc_drive.specs.Goings.{HasEnded}
 use Rattle.sc_drive.proofs.Births.{company_born, nothing_seen}
 use Rattle.sc_drive.proofs.Kept.{kept_then, on_gathered, on_then, together_on}
 use Rattle.sc_drive.proofs.WholeSchedules.{drive_begins, drive_on, drive_fills, drive_ends}

@@ -1,8 +1,7 @@
-use Rattle.std.proofs.Common.{rules, ◌≡◌, ◌-◌, ◌∙◌, Bool, Option, Result, Err, Some, None, [], ◌∷◌, refl, ap, sym, subst, ℕ}
+use Rattle.std.proofs.Common.{rules, ◌≡◌, ◌-◌, ◌∙◌, Option, Result, Err, None, [], ◌∷◌, refl, ap, subst, ℕ}
 use Rattle.sc_actor.specs.Walk.{Settles}
 use Rattle.sc_drive.specs.declared.steps.Stop.{Stop}
 use Rattle.sc_drive.specs.declared.steps.Stop.TheVariants.{Full}
-use Rattle.sc_drive.specs.Goings.{IsTogether}
 use Rattle.sc_drive.specs.Lowest.{Finds}
 use Rattle.sc_drive.proofs.SettleSteps.{fills_then, goes_rest, goes_then, settles_cut, settles_quiet}
 use Rattle.sc_drive.proofs.Kept.{kept_then, on_then, together_on}

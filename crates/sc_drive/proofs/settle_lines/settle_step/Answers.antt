@@ -1,4 +1,4 @@
-use Rattle.std.proofs.Common.{refl, subst, Some}
+use Rattle.std.proofs.Common.{refl, subst}
 use Rattle.sc_shell.specs.declared.turns.Turn.{Turn}
 use Rattle.sc_shell.specs.declared.turns.Turn.TheVariants.{Did, Full}
 use Rattle.sc_drive.specs.Acts.{ServedAll, SoundAfter}

@@ -3,7 +3,7 @@ use Rattle.std.proofs.lemmas.Result.{on_ok_weaker}
 use Rattle.sc_actor.specs.declared.schedules.Line.TheVariants.{Go}
 use Rattle.sc_drive.specs.declared.steps.Step.{Step}
 use Rattle.sc_drive.specs.declared.steps.Step.TheVariants.{Made, Skipped, Full}
-use Rattle.sc_drive.specs.Goings.{GoMade, IsOn, StaysSo}
+use Rattle.sc_drive.specs.Goings.{GoMade, StaysSo}
 use Rattle.sc_drive.specs.Numbers.{is_in}
 use Rattle.sc_drive.proofs.SingleSteps.{goes_go, goes_skipped, fills_full, go_pushed, go_steps}
 use Rattle.sc_drive.proofs.Kept.{on_same}

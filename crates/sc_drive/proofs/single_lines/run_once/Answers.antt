@@ -2,7 +2,7 @@ use Rattle.std.proofs.Common.{[], ◌∷◌, refl, subst}
 use Rattle.std.proofs.lemmas.Result.{on_ok_weaker}
 use Rattle.sc_drive.specs.declared.steps.Step.{Step}
 use Rattle.sc_drive.specs.declared.steps.Step.TheVariants.{Made, Skipped, Full}
-use Rattle.sc_drive.specs.Goings.{Fills, Goes, IsOn, LineMade, StaysSo}
+use Rattle.sc_drive.specs.Goings.{Fills, Goes, LineMade, StaysSo}
 use Rattle.sc_drive.proofs.SingleSteps.{goes_made, goes_skipped, fills_full, calm_task}
 use Rattle.sc_drive.proofs.single_lines.run_once.Goals as goal
 
