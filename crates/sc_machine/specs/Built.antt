@@ -5,6 +5,7 @@ use Rattle.sc_cmd.specs.declared.commands.Command.TheVariants.{Noop, Call, Join,
 use Rattle.sc_machine_table.specs.Group.{Group}
 use Rattle.sc_machine_table.specs.Orders.{is_alone}
 
+-- whether the machine carries out a command in a group
 abbrev pub is_built : Group → Command → Bool
 is_built group Noop = true
 is_built group (Call client seq op) = true

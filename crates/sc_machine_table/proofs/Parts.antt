@@ -22,6 +22,7 @@ inside : {X : Type 0} (a b : Bool) (found : Option X) → (a ≡ true → b ≡ 
 inside true b found in_b = rw (in_b refl) refl
 inside false b found in_b = refl
 
+-- a part of a part, on an arc that lies in the other, is that part of the whole
 pub part_within : (inner outer : Arc) (whole : Contents) → ((p : ℕ) → holds inner p ≡ true → holds outer p ≡ true) → part_of inner (part_of outer whole) ≡ part_of inner whole
 part_within inner outer whole lies = same_contents _ _ (λ q.
     get-part (part_of outer whole) (holds_key inner) q
@@ -48,6 +49,7 @@ second_lies arc next fits is is' can p t = (joins_hold arc next fits is is' can)
 pub first_inside : (arc : Arc) (at : ℕ) → arc.lo < 2 ^ 32 → PartsJoin arc at → (p : ℕ) → holds (before arc at) p ≡ true → holds arc p ≡ true
 first_inside arc at fits parts p t = subst (λ a. holds a p ≡ true) parts.same (first_lies (before arc at) (from arc at) fits parts.first parts.second parts.can p t)
 
+-- what the second part of an arc holds, the arc holds
 pub second_inside : (arc : Arc) (at : ℕ) → arc.lo < 2 ^ 32 → PartsJoin arc at → (p : ℕ) → holds (from arc at) p ≡ true → holds arc p ≡ true
 second_inside arc at fits parts p t = subst (λ a. holds a p ≡ true) parts.same (second_lies (before arc at) (from arc at) fits parts.first parts.second parts.can p t)
 
@@ -59,6 +61,7 @@ turned true false None = refl
 turned true false (Some x) = refl
 turned false b old = refl
 
+-- the part on the first of two arcs that meet, put into that on the second, makes the part on both
 pub parts_turned : (arc next : Arc) (whole : Contents) → arc.lo < 2 ^ 32 → IsArc arc → IsArc next → CanJoin arc next
     → with_pairs (part_of next whole) (entries (part_of arc whole)) ≡ part_of (joined arc next) whole
 parts_turned arc next whole fits is is' can = same_contents _ _ (λ q.
@@ -71,6 +74,7 @@ parts_turned arc next whole fits is is' can = same_contents _ _ (λ q.
 
 -- ---- the record of a group starts it again
 
+-- the pairs of a map, put into an empty one, make the same map
 pub pairs_again : (pairs : Contents) → with_pairs empty (entries pairs) ≡ pairs
 pairs_again pairs = same_contents _ _ (λ key.
     get-with_pairs (entries pairs) (entries_sorted pairs) empty key
@@ -81,6 +85,7 @@ pairs_again pairs = same_contents _ _ (λ key.
     none_else None = refl
     none_else (Some value) = refl
 
+-- the entries of a client table, put into an empty one, make the same table
 pub clients_again : (clients : Table) → joined_with empty (entries clients) ≡ clients
 clients_again clients = same_map nat_cmp_total exact_unsigned _ _ (λ client.
     get-joined_with (entries clients) (entries_sorted clients) empty client

@@ -32,12 +32,15 @@ gone_group group into = record { core = record group.core { gone = Some into }; 
 abbrev pub can_gain : Core → Offer → ℕ → Bool
 can_gain core offer at = can_cut offer.arc at && can_join (from offer.arc at) core.arc
 
+-- its record, with the joined arc
 abbrev pub gained_core : Core → Offer → ℕ → Core
 gained_core core offer at = record core { arc = joined (from offer.arc at) core.arc }
 
+-- the participant, with the gift put into its pairs and its client table
 abbrev pub gained_group : Group → Offer → ℕ → Gift → Group
 gained_group group offer at gift = enriched group (gained_core group.core offer at) gift
 
+-- it gains where the arcs fit and the gift brings no key that is there
 abbrev pub gained : Group → Offer → ℕ → Gift → Option Group
 gained group offer at gift =
     if can_gain group.core offer at && not (has_key_of group.pairs gift.pairs) then Some (gained_group group offer at gift) else None
@@ -46,9 +49,11 @@ gained group offer at gift =
 abbrev pub lost_core : Core → ℕ → Core
 lost_core core at = record core { arc = from core.arc at }
 
+-- the participant, with the pairs of the arc that it keeps
 abbrev pub lost_group : Group → ℕ → Group
 lost_group group at = record group { core = lost_core group.core at; pairs = part_of (from group.core.arc at) group.pairs }
 
+-- it loses where its arc can be cut
 abbrev pub lost : Group → ℕ → Option Group
 lost group at = if can_cut group.core.arc at then Some (lost_group group at) else None
 
@@ -61,9 +66,11 @@ moved None group offer at = lost group at
 abbrev pub welcomed_core : Core → ℕ → Core
 welcomed_core core node = record core { members = united core.members (node ∷ []) }
 
+-- the group with that member
 abbrev pub welcomed_group : Group → ℕ → Group
 welcomed_group group node = record group { core = welcomed_core group.core node }
 
+-- the member comes where the group then has at most nine
 abbrev pub welcomed : Group → ℕ → Option Group
 welcomed group node =
     if nat_le (length (united group.core.members (node ∷ []))) 9 then Some (welcomed_group group node) else None
@@ -84,6 +91,7 @@ pred_after (Moved at gift) next pred = next
 pred_after (Migrated node) next pred = next
 pred_after Divided next pred = next
 
+-- the watcher after an outcome: only who stands before it may change
 abbrev pub watcher_after : Outcome → Group → Watch → Group
 watcher_after outcome group watch = record group { core = record group.core { pred = pred_after outcome watch.next group.core.pred } }
 

@@ -5,6 +5,7 @@ use Rattle.sc_ideal.specs.Clients.{Table, joined_with}
 use Rattle.sc_cmd.specs.declared.cores.Core.{Core}
 use Rattle.sc_cmd.specs.declared.cores.Base.{Base}
 
+-- a group: its record, its pairs and its client table
 pub record Group : Type 0 where
   pub core : Core
   pub pairs : Contents

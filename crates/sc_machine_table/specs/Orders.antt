@@ -66,6 +66,7 @@ migrate_refused core node =
     else if length core.members == 1 then Some LastMember
     else limit_refused core
 
+-- 4 and 6 to 8. why a transaction with this body is refused, if it is
 abbrev pub body_refused : Body → Core → Option OrderRefusal
 body_refused At.Merge core = limit_refused core
 body_refused (At.Repart at) core = repart_refused core at
@@ -104,6 +105,7 @@ refusal_of core command = refused_in (locked_in core.lock) core command
 abbrev pub with_node : Group → ℕ → Group
 with_node group node = record group { core = record group.core { members = with_member group.core.members node } }
 
+-- one member less
 abbrev pub without_node : Group → ℕ → Group
 without_node group node = record group { core = record group.core { members = without_member group.core.members node } }
 

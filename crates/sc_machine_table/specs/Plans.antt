@@ -27,6 +27,7 @@ Plan = Option (Group × Outcome)
 abbrev pub can_cut : Arc → ℕ → Bool
 can_cut arc at = holds arc at && not (at == arc.lo)
 
+-- two arcs that meet, and are no longer together than the ring
 abbrev pub can_join : Arc → Arc → Bool
 can_join arc next = (next.lo == end_of arc) && nat_le (arc.len + next.len) (2 ^ 32)
 
@@ -46,14 +47,17 @@ frozen_of group = record {
 
 -- ---- a split
 
+-- whether a group can be split there: its arc can be cut and it has two members
 abbrev pub can_split : Core → ℕ → Bool
 can_split core at = can_cut core.arc at && nat_le 2 (length core.members)
 
+-- the group keeps the part before the boundary
 abbrev pub split_plan : Group → ℕ → Draw → Plan
 split_plan group at child = if can_split group.core at then Some (left_group group at child, Divided) else None
 
 -- ---- a merge: the coordinator takes over its successor
 
+-- whether the arcs can be joined, and both groups have at most nine members together
 abbrev pub can_merge : Core → Frozen → Bool
 can_merge core frozen = can_join core.arc frozen.arc && nat_le (length (united core.members frozen.members)) 9
 
@@ -65,6 +69,7 @@ merged_link core frozen = record { group = core.id; members = united core.member
 abbrev pub merged_succ : Core → Frozen → Link
 merged_succ core frozen = if same_draw frozen.succ.group core.id then merged_link core frozen else frozen.succ
 
+-- the coordinator's record afterwards, with the arcs and the members of both
 abbrev pub merged_core : Core → Frozen → Core
 merged_core core frozen = record core {
   arc = joined core.arc frozen.arc;
@@ -72,6 +77,7 @@ merged_core core frozen = record core {
   succ = merged_succ core frozen;
 }
 
+-- where the successor's keys are found from then on
 abbrev pub merged_route : Core → Frozen → Route
 merged_route core frozen = record { group = core.id; lo = core.arc.lo; members = united core.members frozen.members }
 
@@ -91,6 +97,7 @@ merged_group group frozen = enriched group (merged_core group.core frozen) (whol
 abbrev pub closing_core : Core → Frozen → Core
 closing_core core frozen = record (merged_core core frozen) { pred = merged_link core frozen }
 
+-- the group that has taken over the only other one of the ring
 abbrev pub closing_group : Group → Frozen → Group
 closing_group group frozen = enriched group (closing_core group.core frozen) (whole_gift frozen)
 
@@ -98,16 +105,19 @@ closing_group group frozen = enriched group (closing_core group.core frozen) (wh
 abbrev pub may_merge : Group → Frozen → Bool
 may_merge group frozen = can_merge group.core frozen && not (has_key_of group.pairs frozen.pairs)
 
+-- the plan of a merge where the successor has another one after it
 abbrev pub merge_plan : Group → Frozen → Plan
 merge_plan group frozen =
     if may_merge group frozen then Some (merged_group group frozen, Merged (merged_route group.core frozen)) else None
 
+-- the plan of a merge where the two groups make the ring
 abbrev pub closing_plan : Group → Frozen → Plan
 closing_plan group frozen =
     if may_merge group frozen then Some (closing_group group frozen, Merged (merged_route group.core frozen)) else None
 
 -- ---- a boundary that moves to `at`: into the coordinator's arc, which then loses what lies from there on, or else into the successor's
 
+-- whether the arc that gives can be cut there, and the part be joined to the coordinator's
 abbrev pub can_repart : Core → ℕ → Frozen → Bool
 can_repart core at frozen =
     if holds core.arc at then can_cut core.arc at
@@ -117,6 +127,7 @@ can_repart core at frozen =
 abbrev pub moved_arc : Core → ℕ → Frozen → Arc
 moved_arc core at frozen = if holds core.arc at then from core.arc at else before frozen.arc at
 
+-- the coordinator's arc afterwards
 abbrev pub kept_arc : Core → ℕ → Frozen → Arc
 kept_arc core at frozen = if holds core.arc at then before core.arc at else joined core.arc (before frozen.arc at)
 
@@ -124,6 +135,7 @@ kept_arc core at frozen = if holds core.arc at then before core.arc at else join
 abbrev pub succ_with : Core → List ℕ → Link
 succ_with core members = record { group = core.succ.group; members = members }
 
+-- the coordinator's record afterwards
 abbrev pub repart_core : Core → ℕ → Frozen → Core
 repart_core core at frozen = record core { arc = kept_arc core at frozen; succ = succ_with core frozen.members }
 
@@ -131,15 +143,19 @@ repart_core core at frozen = record core { arc = kept_arc core at frozen; succ =
 abbrev pub given : Group → ℕ → Gift
 given group at = record { pairs = entries (part_of (from group.core.arc at) group.pairs); clients = entries group.clients }
 
+-- what the coordinator takes: the successor's pairs before the boundary, and its client table
 abbrev pub taken : ℕ → Frozen → Gift
 taken at frozen = record { pairs = entries (part_of (before frozen.arc at) (with_pairs empty frozen.pairs)); clients = frozen.clients }
 
+-- the coordinator that gives: it keeps the pairs before the boundary
 abbrev pub giving_group : Group → ℕ → Frozen → Group
 giving_group group at frozen = record group { core = repart_core group.core at frozen; pairs = part_of (before group.core.arc at) group.pairs }
 
+-- the coordinator that takes: it has the successor's pairs before the boundary too
 abbrev pub taking_group : Group → ℕ → Frozen → Group
 taking_group group at frozen = enriched group (repart_core group.core at frozen) (taken at frozen)
 
+-- the plan where the coordinator gives
 abbrev pub giving_plan : Group → ℕ → Frozen → Plan
 giving_plan group at frozen =
     if can_repart group.core at frozen then Some (giving_group group at frozen, Moved at (Some (given group at))) else None
@@ -151,23 +167,28 @@ taking_plan group at frozen =
     then Some (taking_group group at frozen, Moved at None)
     else None
 
+-- the coordinator gives where the boundary lies in its arc, and else takes
 abbrev pub repart_plan : Group → ℕ → Frozen → Plan
 repart_plan group at frozen = if holds group.core.arc at then giving_plan group at frozen else taking_plan group at frozen
 
 -- ---- a member that leaves the coordinator for its successor
 
+-- whether the node is a member but not the last one, and the successor then has at most nine
 abbrev pub can_migrate : Core → ℕ → Frozen → Bool
 can_migrate core node frozen = is_member core.members node && nat_le 2 (length core.members) && nat_le (length (united frozen.members (node ∷ []))) 9
 
+-- the coordinator's record without the member, with a successor that has it
 abbrev pub migrated_core : Core → ℕ → Frozen → Core
 migrated_core core node frozen = record core {
   members = without_member core.members node;
   succ = succ_with core (united frozen.members (node ∷ []));
 }
 
+-- the coordinator without the member
 abbrev pub migrated_group : Group → ℕ → Frozen → Group
 migrated_group group node frozen = record group { core = migrated_core group.core node frozen }
 
+-- the plan of such a move
 abbrev pub migrate_plan : Group → ℕ → Frozen → Plan
 migrate_plan group node frozen =
     if can_migrate group.core node frozen then Some (migrated_group group node frozen, Migrated node) else None

@@ -23,6 +23,7 @@ pub record CanSplit (core : Core) (at : ℕ) : Type 0 where
 abbrev pub staying : List ℕ → ℕ
 staying members = length members - length members / 2
 
+-- the members that stay
 abbrev pub left_members : List ℕ → List ℕ
 left_members members = take (staying members) members
 
@@ -34,6 +35,7 @@ right_members members = drop (staying members) members
 abbrev pub left_link : Core → Link
 left_link core = record { group = core.id; members = left_members core.members }
 
+-- the link to the child
 abbrev pub right_link : Core → Draw → Link
 right_link core child = record { group = child; members = right_members core.members }
 
@@ -41,6 +43,7 @@ right_link core child = record { group = child; members = right_members core.mem
 abbrev pub left_pred : Core → Draw → Link
 left_pred core child = if is_alone core then right_link core child else core.pred
 
+-- who stands after the child
 abbrev pub right_succ : Core → Link
 right_succ core = if is_alone core then left_link core else core.succ
 

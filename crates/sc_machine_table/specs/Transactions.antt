@@ -24,6 +24,7 @@ use Rattle.sc_machine_table.specs.Plans.{Plan, split_plan, merge_plan, closing_p
 abbrev pub begun_core : Core → Draw → Body → ℕ → Core
 begun_core core tx body order = record core { lock = Coordinating tx body order None; begun = core.begun + 1 }
 
+-- the group with that record
 abbrev pub begun_group : Group → Draw → Body → ℕ → Group
 begun_group group tx body order = record group { core = begun_core group.core tx body order }
 
@@ -31,6 +32,7 @@ begun_group group tx body order = record group { core = begun_core group.core tx
 abbrev pub decided_group : Group → Draw → Outcome → Group
 decided_group group tx outcome = record group { core = record group.core { lock = Free; decided = group.core.decided ++ (tx, outcome) ∷ [] } }
 
+-- a group that has decided to abort one, and the effect
 abbrev pub aborted : Group → Draw → Group × Effect
 aborted group tx = (decided_group group tx Abort, Decided Abort)
 
@@ -52,6 +54,7 @@ granted (Repart at) group tx order frozen by = committed (repart_plan group at f
 granted (Migrate node) group tx order frozen by = committed (migrate_plan group node frozen) group tx
 granted (Split at child) group tx order frozen by = (group, NoEffect tx)
 
+-- what a participant's vote comes to: a No is an abort
 abbrev pub answered : Vote → Body → Group → Draw → ℕ → ℕ → Group × Effect
 answered (Yes frozen) body group tx order by = granted body group tx order frozen by
 answered (No why) body group tx order by = aborted group tx
@@ -80,6 +83,7 @@ released (Repart at) heard group tx = (group, NoEffect tx)
 released (Migrate node) heard group tx = (group, NoEffect tx)
 released (Split at child) heard group tx = committed (split_plan group at child) group tx
 
+-- what a watcher's vote comes to: all but a Yes is an abort
 abbrev pub watch_answered : Past → Body → Option Heard → Group → Draw → Group × Effect
 watch_answered Cast.Yes body heard group tx = released body heard group tx
 watch_answered (Cast.No why) body heard group tx = aborted group tx
@@ -101,5 +105,6 @@ is_coordinating (Coordinating locked body order heard) tx = same_draw locked tx
 is_coordinating (Promised locked offer) tx = false
 is_coordinating (Watching locked watch) tx = false
 
+-- only the coordinator of this transaction gives it up, and that is an abort
 abbrev pub given_up : Group → Draw → Group × Effect
 given_up group tx = if is_coordinating group.core.lock tx then aborted group tx else (group, NoEffect tx)

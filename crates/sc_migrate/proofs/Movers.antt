@@ -31,6 +31,7 @@ comes_in members node =
     ∙ ap (λ b. is_member low node || (b || is_member high node)) (eq-eqb node node refl)
     ∙ or-true (is_member low node)))
 
+-- a member's move changes no arc, pair or client table, and makes it a member of the other group
 pub moves_keep : MigrationsKeepAll
 moves_keep group next node = record {
   first = record { arc = refl; pairs = refl; table = refl };

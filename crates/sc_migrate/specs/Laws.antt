@@ -16,6 +16,7 @@ pub record MovesOn (node : ℕ) (first second : Group) : Type 0 where
   pub left : is_member first.core.members node ≡ false
   pub came : is_member second.core.members node ≡ true
 
+-- a move between these groups: both keep all that they have, and the node moves on
 pub record Migrates (group next : Group) (node : ℕ) : Type 0 where
   pub first : KeepsAll group (migrated_group group node (frozen_of next))
   pub second : KeepsAll next (welcomed_group next node)

@@ -25,12 +25,15 @@ use Rattle.sc_node_table.specs.Execute.{entered, announced, told_call, told_effe
 use Rattle.sc_node_table.specs.Voting.{promised, prepare_row, took, accept_row, promise_row, readied, accepted_row, nack_row}
 use Rattle.sc_node_table.specs.Rows.{queued, requested, request_row, learn_row, taught, ask_row, asked_again, told_last, tick_row, mailed, stepped}
 
+-- the name of the group in these runs
 abbrev pub g : Draw
 g = record { node = 0; count = 1 }
 
+-- a ballot of a round and a node
 abbrev pub b : ℕ → ℕ → Ballot
 b round node = record { round = round; node = node }
 
+-- a mail from one actor to another
 abbrev pub mail : ℕ → ℕ → MailBody → Mail
 mail from to body = record { from = from; to = to; body = body }
 
@@ -51,6 +54,7 @@ core members = record {
   gone = None;
 }
 
+-- its record at birth, without pairs and clients
 abbrev pub base : List ℕ → Base
 base members = record { core = core members; pairs = []; clients = [] }
 

@@ -47,6 +47,7 @@ answer_of (Was.Voted vote) = None
 answer_of (Was.Decided outcome) = None
 answer_of (Was.Refused why) = None
 
+-- the client of a call is sent the answer, if there is one; else the call goes back
 unfoldable pub told_call : Option AnswerBody → Command → Place → Place
 told_call (Some answer) (Call client seq op) (r, mails) = (r, answer_to r.me (name_of r) client seq answer mails)
 told_call None (Call client seq op) (r, mails) = (put_back (Call client seq op) r, mails)
@@ -66,6 +67,7 @@ result_of Was.Idle = None
 result_of (Was.Voted vote) = None
 result_of (Was.Decided outcome) = None
 
+-- the desk is told the result, if there is one
 unfoldable pub told_effect : Option ToldResult → Command → Place → Place
 told_effect None command place = place
 told_effect (Some result) command (r, mails) = (r, told_order r.me (order_in command) result mails)
@@ -90,6 +92,7 @@ abbrev pub lost : Bool → Command → Option Command → ReplicaState → Repli
 lost counted command None r = r
 lost counted command (Some other) r = if counted || same_command other command then r else put_back other r
 
+-- the slot has nothing in flight or ready any more
 unfoldable pub landed : Bool → ℕ → Command → Place → Place
 landed counted slot command (r, mails) =
     let over : ReplicaState = record r { leader = without_flight_at slot r.leader; ready = without_slot r.ready slot } in
@@ -100,6 +103,7 @@ abbrev pub left_gone : Option Route → Place → Place
 left_gone (Some into) place = ended None (Says.Gone into) place
 left_gone None (r, mails) = if is_member (members r) r.me then (r, mails) else stopped (Some (least_of (members r))) (r, mails)
 
+-- one that does not run stays as it is
 unfoldable pub left : Place → Place
 left (r, mails) = if r.running then left_gone r.group.core.gone (r, mails) else (r, mails)
 
@@ -108,6 +112,7 @@ abbrev pub is_among : List ℕ → Option ℕ → Bool
 is_among nodes None = false
 is_among nodes (Some node) = is_member nodes node
 
+-- where the group is gone, no leader is looked for
 abbrev pub looked_for : Option Route → Place → Place
 looked_for (Some into) place = place
 looked_for None (r, mails) =
@@ -115,6 +120,7 @@ looked_for None (r, mails) =
     else if least_of (members r) == r.me then elected (record r { hint = Some r.me }, mails)
     else (record r { hint = Some (least_of (members r)) }, mails)
 
+-- one that runs looks for none
 unfoldable pub looked : Place → Place
 looked (r, mails) = if r.running then (r, mails) else looked_for r.group.core.gone (r, mails)
 

@@ -68,6 +68,7 @@ unfoldable pub dismissed : ℕ → Draw → Option ℕ → AnswerBody → Comman
 dismissed me group hint answer (Call client seq op) mails = answer_to me group client seq answer mails
 dismissed me group hint answer command mails = told_order me (order_in command) (Refused (NotLeader hint)) mails
 
+-- each of these waiting commands, in their order
 unfoldable pub dismissed_all : ℕ → Draw → Option ℕ → AnswerBody → List Command → List Mail → List Mail
 dismissed_all me group hint answer [] mails = mails
 dismissed_all me group hint answer (command ∷ commands) mails = dismissed_all me group hint answer commands (dismissed me group hint answer command mails)

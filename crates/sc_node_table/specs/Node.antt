@@ -44,6 +44,7 @@ with_replica group new (r ∷ replicas) = if same_draw (name_of r) group then ne
 abbrev pub is_before : Draw → Draw → Bool
 is_before a b = nat_lt a.node b.node || ((a.node == b.node) && nat_lt a.count b.count)
 
+-- the replicas with this one more, at its place in the order
 abbrev pub with_new : ReplicaState → List ReplicaState → List ReplicaState
 with_new new [] = new ∷ []
 with_new new (r ∷ replicas) = if is_before (name_of r) (name_of new) then r ∷ with_new new replicas else new ∷ r ∷ replicas
@@ -97,6 +98,7 @@ absent me from (ToldMail order result) = []
 abbrev pub with_made : Place → NodeState → NodeState × List Mail
 with_made (r, mails) node = (record node { replicas = with_new r node.replicas }, mails)
 
+-- a mail for a group of which the node has no replica
 abbrev pub unknown : ℕ → MailBody → NodeState → NodeState × List Mail
 unknown from (Install group slot base sets) node =
     if not (length sets == slots_ahead) || nat_lt last_slot slot then (node, [])
@@ -107,6 +109,7 @@ unknown from body node = (node, absent node.me from body)
 abbrev pub is_node : ℕ → Bool
 is_node from = nat_le 1 from && nat_le from most_nodes
 
+-- whether a mail may come from this actor
 abbrev pub may_come : ℕ → MailBody → Bool
 may_come from (Request group client seq op) = true
 may_come from _ = is_node from
@@ -118,10 +121,12 @@ taken_by (Some r) group from body node =
     let after = mailed from body (r, []) in
     (record node { replicas = with_replica group after.0 node.replicas }, after.1)
 
+-- a mail by the group that it is for; one for no group changes nothing
 abbrev pub routed : Option Draw → ℕ → MailBody → NodeState → NodeState × List Mail
 routed None from body node = (node, [])
 routed (Some group) from body node = taken_by (replica_of group node.replicas) group from body node
 
+-- the node takes a mail
 abbrev pub on_mail : ℕ → MailBody → NodeState → NodeState × List Mail
 on_mail from body node = if may_come from body then routed (group_in body) from body node else (node, [])
 
@@ -141,6 +146,7 @@ ordered_of (Some r) line node =
     let after = order_row line (r, []) in
     (record node { replicas = with_replica (group_of_order line.order) after.0 node.replicas }, after.1)
 
+-- the node takes an order
 abbrev pub on_order : OrderLine → NodeState → NodeState × List Mail
 on_order line node = ordered_of (replica_of (group_of_order line.order) node.replicas) line node
 
@@ -152,6 +158,7 @@ ticked (r ∷ replicas) mails =
     let others = ticked replicas after.1 in
     (after.0 ∷ others.0, others.1)
 
+-- the node ticks
 abbrev pub on_tick : NodeState → NodeState × List Mail
 on_tick node =
     let after = ticked node.replicas [] in

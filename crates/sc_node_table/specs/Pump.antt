@@ -46,6 +46,7 @@ abbrev pub refused_by : Option Route → Core → Op → Option AnswerBody
 refused_by (Some into) core op = Some (Says.Gone into)
 refused_by None core op = if holds_key core.arc (key_of op) then None else Some (Says.NotMine core.arc core.succ)
 
+-- the answer of a command that gets no slot: only calls are turned down
 abbrev pub turned_down : Core → Command → Option AnswerBody
 turned_down core (Call client seq op) = refused_by core.gone core op
 turned_down core _ = None
@@ -57,6 +58,7 @@ next_call me idle core (command ∷ calls) mails =
     if waits idle core.lock command then (None, command ∷ calls, mails)
     else elim (turned_down core command) [ None ↦ (Some command, calls, mails) | Some answer ↦ next_call me idle core calls (answered me core.id answer command mails) ]
 
+-- what is found in `calls`, which the turned down calls have left
 unfoldable pub from_calls : Place → Found
 from_calls (r, mails) =
     let found = next_call r.me (is_idle r) r.group.core r.calls mails in
@@ -77,6 +79,7 @@ found_by (Value command) place = (Some command, place)
 found_by Gap place = (Some Noop, place)
 found_by Open place = from_queues place
 
+-- the command for a slot, by what the leader must propose there
 unfoldable pub found_for : ℕ → Place → Found
 found_for slot (r, mails) = found_by (must slot r.leader) (r, mails)
 
@@ -95,6 +98,7 @@ pumped_from slot (set ∷ sets) place =
     elim (found.0) [ None ↦ found.1 | Some command ↦ pumped_from (slot + 1) sets (offered slot set command found.1) ])
     else place
 
+-- the whole pump: a settled replica offers at its open slots, up to the last slot
 unfoldable pub pumped : Place → Place
 pumped place = if settled place.0 && nat_le (next place.0) last_slot then pumped_from (next place.0) place.0.sets place else place
 

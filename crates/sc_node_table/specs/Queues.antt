@@ -15,6 +15,7 @@ abbrev pub is_call_of : ℕ → Command → Bool
 is_call_of client (Call c seq op) = c == client
 is_call_of client _ = false
 
+-- the first call of that client is taken out
 abbrev pub without_call : List Command → ℕ → List Command
 without_call [] client = []
 without_call (command ∷ commands) client = if is_call_of client command then commands else command ∷ without_call commands client

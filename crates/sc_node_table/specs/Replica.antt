@@ -94,6 +94,7 @@ installed_replica me slot base sets = forgotten slot (record {
   waits = 0;
 })
 
+-- the name of its group
 abbrev pub name_of : ReplicaState → Draw
 name_of r = r.group.core.id
 
@@ -143,6 +144,7 @@ either None other = other
 abbrev pub taken_at : ReplicaState → ℕ → Option Command
 taken_at r slot = either (flying r slot) (at_slot r.ready slot)
 
+-- none or one, as a list
 abbrev pub listed : {X : Type 0} → Option X → List X
 listed None = []
 listed (Some x) = x ∷ []

@@ -47,6 +47,7 @@ queued (Some other) client seq op (r, mails) =
     if nat_le seq other then (r, mails)
     else pumped (record r { calls = without_call r.calls client ++ Call client seq op ∷ [] }, mails)
 
+-- a request that is not taken is answered why; another waits
 unfoldable pub requested : Option AnswerBody → ℕ → ℕ → Op → Place → Place
 requested (Some answer) client seq op (r, mails) = (r, answer_to r.me (name_of r) client seq answer mails)
 requested None client seq op (r, mails) = queued (call_of r.calls client) client seq op (r, mails)
@@ -118,6 +119,7 @@ abbrev pub order_queued : Option OrderRefusal → ℕ → Command → Place → 
 order_queued (Some why) number command (r, mails) = (r, told_desk r.me number (Refused why) mails)
 order_queued None number command (r, mails) = pumped (record r { calls = r.calls ++ command ∷ [] }, mails)
 
+-- the leader takes the command of an order; another replica, or a gone group, refuses it
 abbrev pub order_taken : Option Command → ℕ → Place → Place
 order_taken None number place = place
 order_taken (Some command) number (r, mails) =

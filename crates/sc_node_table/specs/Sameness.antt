@@ -56,6 +56,7 @@ same_route a b = same_draw a.group b.group && ((a.lo == b.lo) && same_numbers a.
 abbrev pub same_pair : List ℕ × List ℕ → List ℕ × List ℕ → Bool
 same_pair a b = same_numbers a.0 b.0 && same_numbers a.1 b.1
 
+-- two lists of such pairs
 abbrev pub same_pairs : List (List ℕ × List ℕ) → List (List ℕ × List ℕ) → Bool
 same_pairs a b = pointwise same_pair a b
 
@@ -63,6 +64,7 @@ same_pairs a b = pointwise same_pair a b
 abbrev pub same_client : ℕ × Noted → ℕ × Noted → Bool
 same_client a b = (a.0 == b.0) && ((a.1.seq == b.1.seq) && option_eq same_numbers a.1.reply.old b.1.reply.old)
 
+-- two lists of such clients
 abbrev pub same_clients : List (ℕ × Noted) → List (ℕ × Noted) → Bool
 same_clients a b = pointwise same_client a b
 

@@ -64,6 +64,7 @@ taken_pairs arc next at whole mine theirs fits next_fits parts is_arc can is_min
 
 -- ---- both
 
+-- where the coordinator gives, the two groups have the same arcs and pairs together as before
 pub giving_keeps : GivingKeepsTheTotal
 giving_keeps group next offer at n at_fits same can =
     let arc = group.core.arc in
@@ -86,6 +87,7 @@ giving_keeps group next offer at n at_fits same can =
       own = refl;
     }
 
+-- where the coordinator takes, the two groups have the same arcs and pairs together as before
 pub taking_keeps : TakingKeepsTheTotal
 taking_keeps group next at n at_fits out can =
     let arc = group.core.arc in

@@ -16,6 +16,7 @@ together arc at contents fits at_fits is can =
     let parts = cuts_join arc at fits at_fits is can in
     parts_join (before arc at) (from arc at) contents fits parts.first parts.second parts.can ∙ ap (λ a. part_of a contents) parts.same
 
+-- a split shares the pairs of the group out, and both parts have its client table
 pub splits_share : SplitsShareThePairs
 splits_share group at child fits at_fits is can =
     let arc = group.core.arc in
@@ -31,6 +32,7 @@ splits_share group at child fits at_fits is can =
       own = refl;
     }
 
+-- a merged group holds what the two held before, and the one that is gone holds nothing
 pub merges_keep : MergesKeepTheTotal
 merges_keep group next into n = (
   record {

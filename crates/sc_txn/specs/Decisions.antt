@@ -16,6 +16,7 @@ decision_by (Was.Moved at gift) = Commit
 decision_by (Was.Migrated node) = Commit
 decision_by Was.Divided = Commit
 
+-- the decision by what is noted, if anything is
 abbrev pub decision_in : Option (Draw × Outcome) → Decision
 decision_in None = Undecided
 decision_in (Some noted) = decision_by noted.1
