@@ -44,6 +44,7 @@ bounded_from n counts (row ∷ rows) all =
 pub copies_bounded : {M O : Type 0} (rows : List (Row M O)) → All (λ count. count ≤ length rows) (copies rows)
 copies_bounded rows = All-weaker (UpTo (0 + length rows)) (λ count. count ≤ length rows) (λ x le. omega arith) (copies rows) (bounded_from 0 [] rows (All-nil (UpTo 0)))
 
+-- each mail counts at least 256
 pub mails_count : {M : Type 0} (weighs : M → ℕ) (sent : List M) → 256 * length sent ≤ sum_by (mail_bytes weighs) sent
 mails_count weighs [] = omega arith
 mails_count weighs (mail ∷ sent) =

@@ -33,6 +33,7 @@ abbrev pub one_less : List ℕ → ℕ → List ℕ
 one_less counts zero = counts
 one_less counts (suc place) = slice_set counts place (slice_index counts place - 1)
 
+-- the counts with one more at a mail's number
 abbrev pub one_more : List ℕ → ℕ → List ℕ
 one_more counts zero = counts
 one_more counts (suc place) = slice_set counts place (slice_index counts place + 1)

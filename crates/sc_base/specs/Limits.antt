@@ -5,6 +5,7 @@ use Rattle.std.specs.Prelude.{ℕ, ◌+◌}
 abbrev pub longest_key : ℕ
 longest_key = 64
 
+-- the most bytes of a value
 abbrev pub longest_value : ℕ
 longest_value = 256
 
@@ -16,6 +17,7 @@ most_nodes = 32
 abbrev pub most_clients : ℕ
 most_clients = 64
 
+-- the most requests of a client
 abbrev pub most_requests : ℕ
 most_requests = 1000
 

@@ -20,6 +20,7 @@ use Rattle.sc_drive.proofs.OneActed.{length_set, numbers_set, set_all, sound_act
 use Rattle.sc_exchange.proofs.Knowing.{looked_trans, stays_trans}
 
 module _ {A M O : Type 0} {g : Ghosts A M O} {h : MailGhosts M} where
+  -- the shells are of the exchange of a port that stays
   pub all_of_stays : (net next : Port M O h) (ss : List (Shell A M O g h)) → Stays net next → AllOf net ss → AllOf next ss
   all_of_stays net next ss s of k d lt = let o = of k d lt in let e = s.exchange in (e.0 ∙ o.0, e.1 ∙ o.1, e.2 ∙ o.2)
 

@@ -46,6 +46,7 @@ module _ {A M O : Type 0} {g : Ghosts A M O} {h : MailGhosts M} where
   abbrev pub MetAndTook : ℕ → Turn → Shell A M O g h → Shell A M O g h → Port M O h → Port M O h → Type 0
   MetAndTook k turn s t net next = Met (λ met. Takes (state met) (state t) k turn) s t net next
 
+  -- whether the shell at a place has posted a Crash
   abbrev pub HasHalted : List (Shell A M O g h) → ℕ → Bool → Type 0
   HasHalted ss place halted = (d : Shell A M O g h) → (slice_index_or ss place d).port.crashed ≡ halted
 
@@ -73,6 +74,7 @@ module _ {A M O : Type 0} {g : Ghosts A M O} {h : MailGhosts M} where
   abbrev pub ToldAll : ℕ → Event O → Port M O h → Port M O h → List (Shell A M O g h) → List (Shell A M O g h) → Turn → Type 0
   ToldAll place event net next ss after turn = (births : List (Seat A)) → Company births net ss → Told births place event net next ss after turn
 
+  -- what a turn at a place did, whatever the actors' births are
   abbrev pub ServedAll : ℕ → ℕ → Port M O h → Port M O h → List (Shell A M O g h) → List (Shell A M O g h) → Turn → Type 0
   ServedAll place k net next ss after turn = (births : List (Seat A)) → Company births net ss → Served births place k net next ss after turn
 

@@ -158,9 +158,13 @@ module _ (ahead : Ahead) (base : Base) where
 
   -- a client as the steps say: its requests, and replies that the logs tell
   pub record IsClient (h : Steps) (asks : Asks) (client : Client) : Type 0 where
+    -- it has its number
     pub me : client.me ≡ asks.client
+    -- it has the requests of its section
     pub requests : client.requests ≡ asks.ops
+    -- it waits for the reply after those that it has, if for any
     pub waits : IsNextOf client.waiting (length client.replies)
+    -- each reply that it has is told by a log
     pub replies : (k : ℕ) (reply : Reply) → slice_get client.replies k ≡ Some reply → IsAnswered h asks.client (k + 1) reply
 
   -- a client stays as the steps say after more of them

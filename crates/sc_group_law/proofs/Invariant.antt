@@ -52,6 +52,7 @@ module _ (ahead : Ahead) (base : Base) where
   abbrev pub first : Ballot
   first = first_ballot base.core
 
+  -- the group's name
   abbrev pub name : Draw
   name = base.core.id
 

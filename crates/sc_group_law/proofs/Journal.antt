@@ -132,6 +132,7 @@ module _ (ahead : Ahead) (scenario : Scenario) (base : Base) where
     pub after : IsClientAt (newer ++ h_of rows) (rows ++ row ∷ []) asks
     pub grew : Grew ahead base (h_of rows) asks (replies_in asks rows) (replies_in asks (rows ++ row ∷ []))
 
+  -- after one more row: lawful steps, true mail, and nodes and clients as the steps say
   pub record Moved (rows : Journal) (row : Row Mail OrderLine) : Type 0 where
     pub newer : Steps
     pub are : h_of (rows ++ row ∷ []) ≡ newer ++ h_of rows

@@ -195,6 +195,7 @@ module _ (ahead : Ahead) (base : Base) (made : Command → Type 0) (grants : Gra
 
   -- ---- what is found for a slot
 
+  -- the replica is fine and as it was but for what waits, and what is found may be offered
   pub record IsFound (slot : ℕ) (r : ReplicaState) (found : Found) : Type 0 where
     pub fine : Ok found.1
     pub log_is : found.1.0.log ≡ r.log
@@ -202,7 +203,9 @@ module _ (ahead : Ahead) (base : Base) (made : Command → Type 0) (grants : Gra
     pub runs_is : found.1.0.running ≡ r.running
     pub leader_is : found.1.0.leader ≡ r.leader
     pub ready_is : found.1.0.ready ≡ r.ready
+    -- what it promised and accepted is the same
     pub acceptor_is : found.1.0.acceptor ≡ r.acceptor
+    -- what is found was made, and may be offered at the slot
     pub command : IfSome found.0 (λ c. made c × Obeys (must slot r.leader) c)
 
   -- other calls that were made may wait

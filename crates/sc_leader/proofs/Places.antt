@@ -19,8 +19,11 @@ changed flight voters = record flight { voters = voters }
 
 -- what stands at a place is what is in flight at the slot
 pub record IsPlace {V : Type 0} (slot : ℕ) (xs : List (Flight V)) (n : ℕ) : Type 0 where
+  -- the slot's flight is what stands there
   pub found : (d : Flight V) → flight_at slot xs ≡ Some (get_or xs n d)
+  -- without what stands there, nothing is in flight at the slot
   pub removed : take n xs ++ drop (suc n) xs ≡ without_flight slot xs
+  -- other voters there are other voters at the slot
   pub written : (voters : Option (List ℕ)) (d : Flight V) → set xs n (changed (get_or xs n d) voters) ≡ with_voters slot voters xs
 
 here : {V : Type 0} (slot : ℕ) (x : Flight V) (xs : List (Flight V)) → At slot x ≡ true → IsPlace slot (x ∷ xs) 0

@@ -48,9 +48,11 @@ module _ (actors : ℕ) (crashed : List ℕ) where
       each = λ k lt. h.each k lt ∙ sym (set_other (counts_for actors crashed (suc k)) p 1 count rs cs (counts_not (suc k) (get_or rs p 0) e));
     }
 
+    -- a mail without copies is not in the queue of all
     pub absent_all : (key p : ℕ) → key ≡ 1 + p → get_or cs p 0 ≡ 0 → lookup (nat_eq key) q.all.entries ≡ None
     absent_all key p is none = ap (lookup (nat_eq key)) h.all ∙ lookup_none (counts_for actors crashed 0) key p 1 rs cs is none
 
+    -- a mail without copies is in no actor's queue
     pub absent_own : (key p r : ℕ) → key ≡ 1 + p → get_or cs p 0 ≡ 0 → 0 < r → r ≤ actors → lookup (nat_eq key) (get_or (kept q) (r - 1) []) ≡ None
     absent_own key p r is none some within =
         ap (lookup (nat_eq key)) (h.each (r - 1) (omega arith)) ∙ lookup_none (counts_for actors crashed (suc (r - 1))) key p 1 rs cs is none
@@ -82,6 +84,7 @@ module _ (actors : ℕ) (crashed : List ℕ) where
         each = own_each;
       }
 
+    -- one more mail, which counts for nobody
     pub holds_new_not : (r : ℕ) → length cs ≡ length rs → runs actors crashed r ≡ false → Holds q actors crashed (rs ++ r ∷ []) (cs ++ 1 ∷ [])
     holds_new_not r same e = record {
       many = h.many;
@@ -113,6 +116,7 @@ module _ (actors : ℕ) (crashed : List ℕ) where
       }
 
   module _ (q t : Queues) where
+    -- the queues hold one more mail, if adding it did not fail
     pub add_done : {R : Type 0} (res : Result (Unit {0}) R) (key r : ℕ) → runs actors crashed r ≡ true →
         OnOk res (t.all.entries ≡ recounted q.all.entries key false 1) → OnOk res (kept t ≡ set (kept q) (r - 1) (recounted (get_or (kept q) (r - 1) []) key false 1)) →
         OnOk res ((rs cs : List ℕ) → Holds q actors crashed rs cs → length cs ≡ length rs → key ≡ 1 + length rs → Holds t actors crashed (rs ++ r ∷ []) (cs ++ 1 ∷ []))
@@ -120,6 +124,7 @@ module _ (actors : ℕ) (crashed : List ℕ) where
     add_done (Ok u) key r ok all each = λ rs cs h same is. holds_new q rs cs h t key r is same ok all each
 
     module _ (rs cs : List ℕ) (h : Holds q actors crashed rs cs) (number p r : ℕ) (is : number ≡ suc p) (lt : p < length rs) (same : length cs ≡ length rs) (to : get_or rs p 0 ≡ r) (ok : runs actors crashed r ≡ true) where
+      -- the queues hold one more copy, if counting it did not fail
       pub more_done : {R : Type 0} (res : Result (Unit {0}) R) (back : Bool) → back ≡ eqb (get_or cs p 0) 0 →
           OnOk res (t.all.entries ≡ recounted q.all.entries number back (get_or cs p 0 + 1)) →
           OnOk res (kept t ≡ set (kept q) (r - 1) (recounted (get_or (kept q) (r - 1) []) number back (get_or cs p 0 + 1))) →
@@ -132,6 +137,7 @@ module _ (actors : ℕ) (crashed : List ℕ) where
           some_left : (get_or cs p 0 ≡ 0 → ⊥) → 0 < get_or cs p 0
           some_left f = elim (get_or cs p 0) as (λ n. (n ≡ 0 → ⊥) → 0 < n) [ zero ↦ λ g. absurd (g refl) | suc n ↦ λ g. omega arith ] f
 
+      -- the queues hold one copy less, if counting it did not fail
       pub less_done : {R : Type 0} (res : Result (Unit {0}) R) (count : ℕ) → count ≡ get_or cs p 0 - 1 →
           OnOk res (t.all.entries ≡ recounted q.all.entries number false count) →
           OnOk res (kept t ≡ set (kept q) (r - 1) (recounted (get_or (kept q) (r - 1) []) number false count)) →

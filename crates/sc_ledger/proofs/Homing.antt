@@ -36,13 +36,21 @@ module _ {M O : Type 0} where
 
   -- the mail at a place stands in the row of its home
   pub record AtHome (rows : List (Row M O)) (place before p : ℕ) : Type 0 where
+    -- the row's place
     pub row : ℕ
+    -- how many mails come before the row's
     pub first : ℕ
+    -- the list of homes tells the row
     pub home : get_or (homes_from place rows) p 0 ≡ place + row
+    -- there is such a row
     pub inside : row < length rows
+    -- the list of firsts tells how many mails come before
     pub first_is : get_or (firsts_from before rows) row 0 ≡ before + first
+    -- the mail is not before the row's first
     pub below : first ≤ p
+    -- the mail is not past the row's last
     pub within : (d : Row M O) → p - first < length (get_or rows row d).sent
+    -- what the row sent there is the mail
     pub same : (d : Row M O) → slice_get (mails rows) p ≡ slice_get (get_or rows row d).sent (p - first)
 
   at_here : (rows : List (Row M O)) (row : Row M O) (place before p : ℕ) → p < length row.sent → AtHome (row ∷ rows) place before p
@@ -86,15 +94,18 @@ module _ {M O : Type 0} where
 
   -- what the code finds of the mail at a place
   module _ (rows : List (Row M O)) (homes firsts : List ℕ) (p : ℕ) (h : homes ≡ homes_from 0 rows) (f : firsts ≡ firsts_from 0 rows) (lt : p < length homes) (home : ℕ) (is : home ≡ get_or homes p home) where
+    -- where the mail stands
     pub at : AtHome rows 0 0 p
     at = at_home rows 0 0 p (omega (arith, lt, ap length h, homes_all 0 rows))
 
     pub home_is : home ≡ at.row
     home_is = is ∙ (sym (get_at homes p home lt) ∙ (ap (λ l. get_or l p 0) h ∙ (at.home ∙ omega arith)))
 
+    -- there is a row at the home
     pub home_inside : home < length rows
     home_inside = omega (arith, home_is, at.inside)
 
+    -- the list of firsts has a number for the home
     pub first_inside : home < length firsts
     first_inside = omega (arith, home_is, at.inside, ap length f, lengths 0 rows)
 
@@ -102,6 +113,7 @@ module _ {M O : Type 0} where
       pub first_at : first ≡ at.first
       first_at = first_is ∙ (sym (get_at firsts home first first_inside) ∙ ((λ i. get_or (f i) (home_is i) 0) ∙ (at.first_is ∙ omega arith)))
 
+      -- the mail is not before the row's first
       pub first_below : first ≤ p
       first_below = omega (arith, first_at, at.below)
 
@@ -109,9 +121,11 @@ module _ {M O : Type 0} where
         sent_is : (get_or rows at.row row).sent ≡ row.sent
         sent_is = ap (λ k. (get_or rows k row).sent) (sym home_is) ∙ ap (λ r. r.sent) (sym row_is)
 
+        -- the mail is not past the row's last
         pub mail_within : p - first < length row.sent
         mail_within = omega (arith, first_at, at.within row, ap length sent_is)
 
+        -- what the row sent there is the mail at the place
         pub mail_same : (mail : M) → slice_get row.sent (p - first) ≡ Some mail → slice_get (mails rows) p ≡ Some mail
         mail_same mail e = at.same row ∙ ((λ i. slice_get (sent_is i) (p - sym first_at i)) ∙ e)
 

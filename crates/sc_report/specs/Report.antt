@@ -37,6 +37,7 @@ abbrev pub replied : Option (List ℕ) → Asked → List ℕ
 replied None asked = ended (request (codes "reply ") asked ++ codes " none")
 replied (Some old) asked = ended (request (codes "reply ") asked ++ codes " value " ++ old)
 
+-- the line of a request, by what came of it
 abbrev pub got_line : Got → Asked → List ℕ
 got_line Unsent asked = ended (request (codes "unsent ") asked)
 got_line Unanswered asked = ended (request (codes "unanswered ") asked)

@@ -21,6 +21,7 @@ use Rattle.sc_scenario.specs.declared.scenarios.SchedLine.{SchedLine}
 abbrev pub most_bytes : ℕ
 most_bytes = 16777216
 
+-- the most lines of an input
 abbrev pub most_lines : ℕ
 most_lines = 20000
 

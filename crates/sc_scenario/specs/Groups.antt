@@ -34,9 +34,11 @@ members_in nodes (word ∷ words) = option_and_then (λ node. with_words nodes (
 abbrev pub lone_name : Draw
 lone_name = record { node = 0; count = 1 }
 
+-- the link of group 0.1 to itself
 abbrev pub lone_link : List ℕ → Link
 lone_link members = record { group = lone_name; members = members }
 
+-- the core of group 0.1: the whole circle, no lock, and nothing decided
 abbrev pub lone_core : ℕ → List ℕ → Core
 lone_core lo members = record {
   id = lone_name;

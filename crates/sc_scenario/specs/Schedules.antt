@@ -12,9 +12,11 @@ use Rattle.sc_scenario.specs.declared.scenarios.SchedLine.TheVariants.{Go, Deliv
 abbrev pub most_mails : ℕ
 most_mails = 4294967295
 
+-- the most deliveries of a line
 abbrev pub most_deliveries : ℕ
 most_deliveries = 1000000
 
+-- the most workers of a line
 abbrev pub most_workers : ℕ
 most_workers = 16
 

@@ -32,10 +32,13 @@ pub enum SchedLine {
     Storm { number: u64, most: u32 },
 }
 
+/// The groups that a run starts with.
 pub type GroupList = Sequence<Base>;
 
+/// The requests of each client.
 pub type ClientList = Sequence<Asks>;
 
+/// The lines of a schedule, in order.
 pub type Schedule = Sequence<SchedLine>;
 
 /// A run to be made: nodes 1 to `nodes`, groups, clients and a schedule.

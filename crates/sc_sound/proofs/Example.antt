@@ -15,6 +15,7 @@ use Rattle.sc_sound.specs.Histories.{history}
 use Rattle.sc_machine_table.specs.Logs.{entry_of}
 use Rattle.sc_sound.specs.Example.{four, alone, example, example_history, put_it, get_it}
 
+-- the group at its birth
 abbrev pub born : Group
 born = group_of alone
 
@@ -25,15 +26,18 @@ by_put x = ((entry_of (Call 1 1 put_it) x.1 ++ []) ++ []) ++ (((entry_of (Call 1
 abbrev by_get : Group × Effect → List Entry
 by_get y = ((entry_of (Call 1 1 put_it) (done born 1 1 put_it).1 ++ []) ++ []) ++ (((entry_of (Call 1 2 get_it) y.1 ++ []) ++ []) ++ [])
 
+-- the put is done, for the client has requested nothing before
 pub put : applied born (Call 1 1 put_it) ≡ done born 1 1 put_it
 put = ap (λ (o : Option Noted). numbered o born 1 1 put_it) (get-empty nat_cmp 1)
 
+-- the group after the put
 abbrev pub next : Group
 next = (done born 1 1 put_it).0
 
 abbrev note : Noted
 note = record { seq = 1; reply = reply_of put_it born.pairs }
 
+-- the get after it is done
 pub got : applied next (Call 1 2 get_it) ≡ done next 1 2 get_it
 got = ap (λ (o : Option Noted). numbered o next 1 2 get_it) (get-insert nat_cmp_total born.clients 1 note 1)
 
@@ -42,9 +46,11 @@ entries first second =
     (record { client = 1; seq = 1; op = put_it; reply = record { old = first } })
     ∷ (record { client = 1; seq = 2; op = get_it; reply = record { old = second } }) ∷ []
 
+-- at first there is nothing at the key a
 pub nothing : get born.pairs (97 ∷ []) ≡ None
 nothing = get-empty (slice_cmp nat_cmp) (97 ∷ [])
 
+-- after the put, x is at the key a
 pub value : get next.pairs (97 ∷ []) ≡ Some (120 ∷ [])
 value = get-insert nat_list_cmp_total born.pairs (97 ∷ []) (120 ∷ []) (97 ∷ [])
 

@@ -15,6 +15,7 @@ use Rattle.sc_shell.specs.declared.turns.Turn.{Turn}
 use Rattle.sc_shell.specs.declared.turns.Turn.TheVariants.{Did, Full, OutOfMemory}
 use Rattle.sc_shell.specs.Shells.{Replays, ReplaysOver, KeepsReplay, Takes, state}
 
+-- whether an event is a delivery
 abbrev pub is_delivery : {O : Type 0} → Event O → Bool
 is_delivery (Deliver number) = true
 is_delivery _ = false
@@ -25,6 +26,7 @@ pub record Delivers {M O : Type 0} (old new : List (Row M O)) : Type 0 where
   pub all : new ≡ old ++ rows
   pub each : AllByRecursion (λ (row : Row M O). is_delivery row.event ≡ true) rows
 
+-- whether an answer tells that a row was made
 abbrev pub is_did : Option Turn → Bool
 is_did (Some (Did at)) = true
 is_did _ = false
@@ -50,6 +52,7 @@ module _ {A M O : Type 0} {g : Ghosts A M O} {h : MailGhosts M} where
     pub goes : Goes s t
     pub acts : ((s.spent ≡ true) × (t ≡ s)) ⊎ ((s.spent ≡ false) × ((r : Turn) × Takes (state s) (state t) 1 r × (t.last ≡ Some r)))
 
+  -- each shell took a turn, or was spent
   abbrev pub AllTook : List (Shell A M O g h) → List (Shell A M O g h) → Type 0
   AllTook ss ts = (k : ℕ) (d : Shell A M O g h) → k < length ss → Took (slice_index_or ss k d) (slice_index_or ts k d)
 
@@ -57,6 +60,7 @@ module _ {A M O : Type 0} {g : Ghosts A M O} {h : MailGhosts M} where
   abbrev pub Passed : Shell A M O g h → Shell A M O g h → Type 0
   Passed s t = (t ≡ s) ⊎ Took s t
 
+  -- each shell took a turn or none
   abbrev pub AllPassed : List (Shell A M O g h) → List (Shell A M O g h) → Type 0
   AllPassed ss ts = (k : ℕ) (d : Shell A M O g h) → k < length ss → Passed (slice_index_or ss k d) (slice_index_or ts k d)
 
@@ -68,6 +72,7 @@ module _ {A M O : Type 0} {g : Ghosts A M O} {h : MailGhosts M} where
   abbrev pub Sound : Shell A M O g h → Type 0
   Sound s = s.spent ≡ true → s.port.crashed ≡ true
 
+  -- each shell that is spent has posted a Crash
   abbrev pub AllSound : List (Shell A M O g h) → Type 0
   AllSound ss = (k : ℕ) (d : Shell A M O g h) → k < length ss → Sound (slice_index_or ss k d)
 
@@ -80,9 +85,11 @@ module _ {A M O : Type 0} {g : Ghosts A M O} {h : MailGhosts M} where
     pub begins : Begins (seen s.port) (seen net)
     pub own : rows_of s.port.who (seen s.port) ≡ made s.port
 
+  -- each shell has seen all that the port had, and of its actor just the rows that it made
   abbrev pub AllAhead : Port M O h → List (Shell A M O g h) → Type 0
   AllAhead net ss = (k : ℕ) (d : Shell A M O g h) → k < length ss → IsAhead net (slice_index_or ss k d)
 
+  -- each shell has seen only what the port has seen
   abbrev pub AllMet : Port M O h → List (Shell A M O g h) → Type 0
   AllMet net ss = (k : ℕ) (d : Shell A M O g h) → k < length ss → HasMet net (slice_index_or ss k d)
 
@@ -92,6 +99,7 @@ module _ {A M O : Type 0} {g : Ghosts A M O} {h : MailGhosts M} where
     pub own : rows_of s.port.who (seen net) ≡ made s.port
     pub replay : (birth : A) → Replays s birth → ReplaysOver s (seen net) birth
 
+  -- what the port has seen has each shell's rows, and no others of its actor
   abbrev pub AllOver : Port M O h → List (Shell A M O g h) → Type 0
   AllOver net ss = (k : ℕ) (d : Shell A M O g h) → k < length ss → IsOver net (slice_index_or ss k d)
 
@@ -111,6 +119,7 @@ module _ {A M O : Type 0} {g : Ghosts A M O} {h : MailGhosts M} where
     pub spent : t.spent ≡ s.spent
     pub crashed : t.port.crashed ≡ s.port.crashed
 
+  -- each shell is the same, and may have seen more
   abbrev pub AllStill : List (Shell A M O g h) → List (Shell A M O g h) → Type 0
   AllStill ss ts = (k : ℕ) (d : Shell A M O g h) → k < length ss → Still (slice_index_or ss k d) (slice_index_or ts k d)
 

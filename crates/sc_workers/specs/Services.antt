@@ -27,5 +27,6 @@ module _ {A M O : Type 0} {g : Ghosts A M O} {h : MailGhosts M} where
     pub each : (before : List (Row M O)) (row : Row M O) (after : List (Row M O)) → seen net ≡ before ++ row ∷ after → row.who ≡ start.port.who →
         length (made start.port) ≤ length (rows_of start.port.who before) → IsService start net.actors net.limit before row
 
+  -- each row that the shells made since the start is such, where the port has seen it
   abbrev pub AllServe : Port M O h → List (Shell A M O g h) → Type 0
   AllServe net start = (k : ℕ) (d : Shell A M O g h) → k < length start → Serves net (slice_index_or start k d)
