@@ -1,12 +1,13 @@
 use Rattle.std.proofs.Common.{subst}
 use Rattle.sc_checker.specs.Replays.{IsReplayed, Leaves}
-use Rattle.sc_players.specs.Players.{system_of, schedule}
+use Rattle.sc_actor.specs.System.{no_words}
+use Rattle.sc_players.specs.Players.{as_nodes, system_of, schedule}
 use Rattle.sc_replay.proofs.Held.{holds}
 use Rattle.sc_replay.proofs.replaying.world_of.Goals as goal
 
 pub invariant_of-result : goal.invariant_of-result
 invariant_of-result c =
-    let s = system_of c.args.scenario.now in
+    let s = system_of as_nodes no_words c.args.scenario.now in
     let lines = schedule c.args.scenario.now in
     let leaves : Leaves s lines c.as_slice.result.now c.in-Some.left = subst (IsReplayed s lines c.as_slice.result.now) c.in-Some.is c.in_ok-left_by.ensures in
     holds c.valid_scenarios_have_one_group.ensures c.group_journals_are_sound.ensures c.args.scenario.now c.requires.valid c.args.rows.now c.in_ok-parties-in-Some.parties c.in-Some.left c.in_ok-parties-in-Some.ensures
