@@ -23,6 +23,3 @@ pub use ops::{Noted, Op, Pairs, Reply, SeenList};
 pub use ordered::Ordered;
 pub use sames::{Same, are_same};
 pub use texts::{Key, KeyFault, Value};
-
-#[cfg(test)]
-mod tests;

@@ -23,6 +23,3 @@ pub use votes::{DecidedList, Frozen, Gift, Heard, No, Outcome, Past, Vote, Voted
 pub use weights::{
     base_weight, command_weight, op_weight, outcome_weight, reply_weight, vote_weight,
 };
-
-#[cfg(test)]
-mod tests;

@@ -7,6 +7,3 @@ mod sames;
 mod weights;
 
 pub use bodies::{AnswerBody, DESK, Mail, MailBody, Reports, client_number};
-
-#[cfg(test)]
-mod tests;

@@ -1,6 +1,9 @@
-use super::*;
 use sc_base::{
     Draw, Dup, Key, Noted, Op, OutOfMemory, Pairs, Reply, RingArc, SeenList, Sequence, Value,
+};
+use sc_cmd::{
+    Base, Body, Command, Core, DecidedList, Frozen, Gift, Heard, Link, Lock, Outcome, Vote,
+    base_weight, command_weight,
 };
 use sc_member::Members;
 use std::alloc::Global;
@@ -53,44 +56,62 @@ fn copied<T: Dup + Drop>(alloc: Global, value: &T) -> Result<T, OutOfMemory> {
     value.dup(alloc)
 }
 
+fn call(alloc: Global) -> Result<Command, Fail> {
+    let key = Key::try_new(alloc, b"key")?;
+    let value = Value::try_new(alloc, b"value")?;
+    let op = Op::Put { key, value };
+    Ok(Command::Call {
+        client: 1,
+        seq: 1,
+        op,
+    })
+}
+
+fn yes(alloc: Global) -> Result<Command, Fail> {
+    let vote = Vote::Yes(frozen(alloc)?);
+    Ok(Command::RecordVote {
+        tx: GROUP,
+        vote,
+        by: 1,
+    })
+}
+
+fn finish(alloc: Global) -> Result<Command, Fail> {
+    let outcome = gift(alloc)?;
+    Ok(Command::Finish { tx: GROUP, outcome })
+}
+
+// What a copy of a command counts.
+fn weight_of(alloc: Global, command: &Command) -> Result<u64, OutOfMemory> {
+    let copy = copied(alloc, command)?;
+    Ok(command_weight(&copy))
+}
+
 #[test]
-fn commands_are_copied_and_weighed(rt: HostRuntime) -> Result<(), Fail> {
-    let alloc = rt.alloc();
-    let op = Op::Put {
-        key: Key::try_new(alloc, b"key")?,
-        value: Value::try_new(alloc, b"value")?,
-    };
-    let commands = [
-        (Command::Noop, 0),
-        (
-            Command::Call {
-                client: 1,
-                seq: 1,
-                op,
-            },
-            8,
-        ),
-        (
-            Command::RecordVote {
-                tx: GROUP,
-                vote: Vote::Yes(frozen(alloc)?),
-                by: 1,
-            },
-            67,
-        ),
-        (
-            Command::Finish {
-                tx: GROUP,
-                outcome: gift(alloc)?,
-            },
-            67,
-        ),
-        (Command::GiveUp { tx: GROUP }, 0),
-    ];
-    for (command, weight) in &commands {
-        let copy = copied(alloc, command)?;
-        assert_eq!(rt; command_weight(&copy), *weight);
-    }
+fn a_call_counts_its_key_and_value(rt: HostRuntime) -> Result<(), Fail> {
+    let command = call(rt.alloc())?;
+    assert_eq!(rt; weight_of(rt.alloc(), &command)?, 8);
+    Ok(())
+}
+
+#[test]
+fn a_vote_counts_the_record_that_it_carries(rt: HostRuntime) -> Result<(), Fail> {
+    let command = yes(rt.alloc())?;
+    assert_eq!(rt; weight_of(rt.alloc(), &command)?, 67);
+    Ok(())
+}
+
+#[test]
+fn an_outcome_counts_its_gift(rt: HostRuntime) -> Result<(), Fail> {
+    let command = finish(rt.alloc())?;
+    assert_eq!(rt; weight_of(rt.alloc(), &command)?, 67);
+    Ok(())
+}
+
+#[test]
+fn a_command_of_numbers_counts_nothing(rt: HostRuntime) -> Result<(), Fail> {
+    let command = Command::GiveUp { tx: GROUP };
+    assert_eq!(rt; weight_of(rt.alloc(), &command)?, 0);
     Ok(())
 }
 

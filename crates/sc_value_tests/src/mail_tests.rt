@@ -1,7 +1,7 @@
-use super::*;
 use sc_actor::Parcel;
 use sc_base::{Ballot, Draw, Dup, Key, Op, OutOfMemory, Reply, Sequence, Value};
 use sc_cmd::Command;
+use sc_mail::{AnswerBody, Mail, MailBody, Reports, client_number};
 use sc_paxos_words::Report;
 use std::alloc::Global;
 use std::process::Abort;
