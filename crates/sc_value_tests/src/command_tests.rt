@@ -136,20 +136,23 @@ fn decided(alloc: Global) -> Result<DecidedList, Fail> {
     Ok(decided)
 }
 
+// The group as its own neighbour.
+fn alone() -> Link {
+    Link {
+        group: GROUP,
+        members: Members::one(1),
+    }
+}
+
 // A group of one node alone on a ring, with this lock and these outcomes.
 fn core_with(alloc: Global, arc: RingArc, lock: Lock, decided: DecidedList) -> Core {
-    let members = Members::one(1);
-    let neighbour = Link {
-        group: GROUP,
-        members,
-    };
     Core {
         id: GROUP,
         first: 1,
         arc,
-        members,
-        succ: neighbour,
-        pred: neighbour,
+        members: Members::one(1),
+        succ: alone(),
+        pred: alone(),
         lock,
         begun: 1,
         decided,
