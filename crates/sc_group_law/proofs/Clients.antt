@@ -8,7 +8,7 @@ use Rattle.sc_base.specs.declared.names.Draw.{Draw}
 use Rattle.sc_base.specs.declared.ops.Op.{Op}
 use Rattle.sc_base.specs.declared.ops.Reply.{Reply}
 use Rattle.sc_cmd.specs.declared.commands.Command.{Command}
-use Rattle.sc_cmd.specs.declared.commands.Command.TheVariants.{Noop, Call, Join, Leave, Split}
+use Rattle.sc_cmd.specs.declared.commands.Command.TheVariants.{Noop, Call, Join, Leave, Split, Begin, Prepared, RecordVote, GiveUp, Finish, Watched, RecordWatch}
 use Rattle.sc_cmd.specs.declared.cores.Base.{Base}
 use Rattle.sc_cmd.specs.declared.orders.OrderLine.{OrderLine}
 use Rattle.sc_mail.specs.declared.bodies.AnswerBody.TheVariants.{Value}
@@ -70,8 +70,18 @@ issued_later scenario rows row client seq op i =
 
 -- nothing that is made divides the group
 pub made_whole : (scenario : Scenario) (rows : Journal) (c : Command) → Made scenario rows c → LeavesWhole c
+made_whole scenario rows Noop m = tt
+made_whole scenario rows (Call client seq op) m = tt
+made_whole scenario rows (Join node order) m = tt
+made_whole scenario rows (Leave node order) m = tt
 made_whole scenario rows (Split at child order) m = m
-made_whole scenario rows _ m = tt
+made_whole scenario rows (Begin tx body order) m = m
+made_whole scenario rows (Prepared tx offer) m = m
+made_whole scenario rows (RecordVote tx vote by) m = m
+made_whole scenario rows (GiveUp tx) m = m
+made_whole scenario rows (Finish tx outcome) m = m
+made_whole scenario rows (Watched tx watch) m = m
+made_whole scenario rows (RecordWatch tx vote by) m = m
 
 -- what replicas make themselves counts as made
 pub grants : (ahead : Ahead) (base : Base) (scenario : Scenario) (rows : Journal) → Grants ahead base (Made scenario rows)

@@ -1,6 +1,9 @@
 //! One command after another on a group.
 #![tactic(auto)]
 
+mod coordinator;
 mod machine;
+mod orders;
+mod parties;
 
 pub use machine::Machine;
