@@ -18,7 +18,7 @@ use Rattle.sc_machine_table.specs.Group.{Group}
 use Rattle.sc_machine_table.specs.Machine.{applied, numbered, served, called, done, divided}
 use Rattle.sc_machine_table.specs.Orders.{is_alone, refusal_of, ordered, with_node, without_node}
 use Rattle.sc_machine_table.specs.Splits.{has_named, left_group}
-use Rattle.sc_paxos_words.specs.Among.{Each}
+use Rattle.sc_base.specs.Among.{Each}
 use Rattle.sc_hist_law.specs.Laws.{LeavesWhole}
 use Rattle.sc_machine_table.specs.Logs.{state_after}
 
