@@ -19,11 +19,12 @@ use Rattle.sc_actor.specs.declared.rows.Input.TheVariants.{Got, Go}
 use Rattle.sc_client_table.specs.Client.{Client, request_at}
 use Rattle.sc_client_table.specs.Table.{request_of}
 use Rattle.sc_client_table.specs.Turns.{InTurn, Waits, Begins, Takes}
-use Rattle.sc_paxos_words.specs.Among.{Among}
+use Rattle.sc_base.specs.Among.{Among}
 use Rattle.sc_paxos_law.specs.Chosen.{IsLog}
 use Rattle.sc_scenario.specs.declared.scenarios.Asks.{Asks}
 use Rattle.sc_scenario.specs.declared.scenarios.Scenario.{Scenario}
-use Rattle.sc_hist_law.specs.Laws.{HasEntry, LeavesWhole}
+use Rattle.sc_ideal.specs.History.{HasEntry}
+use Rattle.sc_hist_law.specs.Laws.{LeavesWhole}
 use Rattle.sc_players.specs.Players.{Ahead}
 use Rattle.sc_machine_table.specs.Logs.{done_by}
 use Rattle.sc_sound.specs.Requests.{issues, issued_from, issue_row}

@@ -13,7 +13,7 @@ use Rattle.sc_member.specs.Majority.{is_majority}
 use Rattle.sc_paxos_words.specs.declared.answers.Counted.{Counted}
 use Rattle.sc_paxos_words.specs.declared.flights.Flight.{Flight}
 use Rattle.sc_paxos_words.specs.declared.reports.Report.{Report}
-use Rattle.sc_paxos_words.specs.Among.{Among, Each}
+use Rattle.sc_base.specs.Among.{Among, Each}
 use Rattle.sc_paxos_words.specs.Leaders.{LeaderState, flight_at, landed, promise_counted}
 use Rattle.sc_paxos_words.specs.Votes.{voters_of, add_voter, voters_after, with_voters, vote_at, counted}
 use Rattle.sc_paxos_words.proofs.ListLemmas.{Each-among, Each-weaker, Each-append, Each-filter, find_found}

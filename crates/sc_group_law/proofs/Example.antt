@@ -6,7 +6,7 @@ use Rattle.sc_member.proofs.Rising.{roster_with}
 use Rattle.sc_group_law.specs.Laws.{ValidHaveOneGroup}
 use Rattle.std.proofs.Common.{List, [], ◌∷◌, length, subst, ap, ◌≡◌, ℕ, suc, ◌<◌, ◌≤◌, inl, inr, refl, sym, ◌∙◌, lit≤, arith, slice_index_or}
 use Rattle.std.specs.List.{All, AllPairs}
-use Rattle.sc_paxos_words.specs.Among.{Among, Each}
+use Rattle.sc_base.specs.Among.{Among, Each}
 use Rattle.sc_scenario.specs.declared.scenarios.Asks.{Asks}
 use Rattle.sc_actor.specs.System.{no_words}
 use Rattle.sc_node_table.specs.Election.{nodes_to, elected, ended, saw}

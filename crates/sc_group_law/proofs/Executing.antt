@@ -18,7 +18,7 @@ use Rattle.sc_machine_table.specs.Group.{Group}
 use Rattle.sc_cmd.specs.declared.orders.ToldResult.{ToldResult}
 use Rattle.sc_machine_table.specs.Machine.{applied}
 use Rattle.sc_paxos_words.specs.declared.flights.Flight.{Flight}
-use Rattle.sc_paxos_words.specs.Among.{Among, Each}
+use Rattle.sc_base.specs.Among.{Among, Each}
 use Rattle.sc_paxos_words.specs.Logs.{LogState, next_of}
 use Rattle.sc_paxos_words.specs.Leaders.{flight_at, landed as without_flight_at}
 use Rattle.sc_paxos_words.proofs.ListLemmas.{Each-among, find_found}
@@ -31,7 +31,8 @@ use Rattle.sc_node_table.specs.Queues.{call_of, without_call, call_before, put_b
 use Rattle.sc_node_table.specs.Sameness.{same_command}
 use Rattle.sc_node_table.specs.Execute.{entered, answer_of, told_call, order_result, told_effect, announced, learnt_to, lost, landed, left_gone, left, is_among, looked_for, looked, executed_one, has_room, next_ready, executed_ready, executed}
 use Rattle.sc_node_table.specs.Pump.{pumped}
-use Rattle.sc_hist_law.specs.Laws.{IsReplied, LogTells, HasEntry}
+use Rattle.sc_ideal.specs.History.{HasEntry}
+use Rattle.sc_hist_law.specs.Laws.{IsReplied, LogTells}
 use Rattle.sc_players.specs.Players.{Ahead}
 use Rattle.sc_machine_table.specs.Logs.{done_by}
 use Rattle.sc_group_law.proofs.Growth.{IsLearnt, by_own_log, learnt_offered}

@@ -2,7 +2,7 @@
 use Rattle.std.proofs.Common.{◌≡◌, ℕ, ◌≤◌, eqb, List, [], ◌∷◌, ◌++◌, length, inl, inr, refl, sym, ◌∙◌, subst}
 use Rattle.std.proofs.lemmas.Bool.{ne_eqb, cond-false}
 use Rattle.sc_base.specs.declared.names.Ballot.{Ballot}
-use Rattle.sc_paxos_words.specs.Among.{Among, Each}
+use Rattle.sc_base.specs.Among.{Among, Each}
 use Rattle.sc_paxos_words.specs.Acceptors.{born}
 use Rattle.sc_paxos_words.proofs.ListLemmas.{Each-among}
 use Rattle.sc_paxos_law.specs.Steps.{Step, Prepared, Promised, Offered, Accepted, Cut, state_of}

@@ -19,7 +19,7 @@ use Rattle.sc_mail.specs.declared.bodies.MailBody.TheVariants.{Told}
 use Rattle.sc_machine_table.specs.Group.{Group, group_of}
 use Rattle.sc_machine_table.specs.Orders.{refusal_of}
 use Rattle.sc_member.specs.Roster.{is_member}
-use Rattle.sc_paxos_words.specs.Among.{Among, Each}
+use Rattle.sc_base.specs.Among.{Among, Each}
 use Rattle.sc_paxos_words.specs.Acceptors.{born}
 use Rattle.sc_paxos_words.specs.Logs.{installed}
 use Rattle.sc_paxos_words.specs.Leaders.{first_leader}

@@ -17,7 +17,7 @@ use Rattle.sc_mail.specs.declared.bodies.MailBody.{MailBody}
 use Rattle.sc_mail.specs.declared.bodies.MailBody.TheVariants.{Request, Answer, Prepare, Promise, Accept, Accepted as AcceptedMail, Learn, Install}
 use Rattle.sc_machine_table.specs.Group.{Group, group_of}
 use Rattle.sc_machine_table.specs.Machine.{applied}
-use Rattle.sc_paxos_words.specs.Among.{Among, Each}
+use Rattle.sc_base.specs.Among.{Among, Each}
 use Rattle.sc_paxos_words.specs.Leaders.{LeaderState}
 use Rattle.sc_paxos_words.specs.Logs.{LogState, next_of, log_cut}
 use Rattle.sc_paxos_words.specs.Votes.{voters_of}
@@ -29,7 +29,7 @@ use Rattle.sc_paxos_law.specs.Lawful.{Vote, IsLawfulStep, IsLawful}
 use Rattle.sc_paxos_law.proofs.Among.{Among-right, Among-either}
 use Rattle.sc_paxos_law.proofs.Law.{later_log}
 use Rattle.sc_node_table.specs.Replica.{ReplicaState, Place, first_ballot, next, floor_of, forgotten}
-use Rattle.sc_hist_law.specs.Laws.{HasEntry}
+use Rattle.sc_ideal.specs.History.{HasEntry}
 use Rattle.sc_players.specs.Players.{Ahead}
 use Rattle.sc_machine_table.specs.Logs.{state_after, done_by}
 use Rattle.sc_sound.specs.Logs.{rule_of}

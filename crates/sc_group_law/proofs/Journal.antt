@@ -19,7 +19,7 @@ use Rattle.sc_actor.specs.System.{has_gone}
 use Rattle.sc_actor.proofs.ReplayLemmas.{mails-snoc}
 use Rattle.sc_client_table.specs.Client.{Client}
 use Rattle.sc_node_table.specs.Node.{NodeState}
-use Rattle.sc_paxos_words.specs.Among.{Among, Each}
+use Rattle.sc_base.specs.Among.{Among, Each}
 use Rattle.sc_paxos_words.proofs.ListLemmas.{Each-among}
 use Rattle.sc_paxos_law.specs.Steps.{Offered}
 use Rattle.sc_paxos_law.specs.Chosen.{members_of, IsChosenAfter}

@@ -16,7 +16,7 @@ use Rattle.sc_cmd.specs.declared.orders.ToldResult.TheVariants.{Refused}
 use Rattle.sc_cmd.specs.declared.orders.OrderRefusal.TheVariants.{NotLeader}
 use Rattle.sc_actor.specs.declared.rows.Row.{Row}
 use Rattle.sc_actor.specs.declared.rows.Event.{Event}
-use Rattle.sc_paxos_words.specs.Among.{Among, Each}
+use Rattle.sc_base.specs.Among.{Among, Each}
 use Rattle.sc_paxos_law.specs.Steps.{Offered, Accepted}
 use Rattle.sc_paxos_law.specs.Lawful.{IsLawful}
 use Rattle.sc_node_table.specs.Node.{NodeState, replica_of, with_replica, with_new, group_in, absent, with_made, unknown, may_come, taken_by, routed, on_mail, group_of_order, ordered_of, on_order, ticked, on_tick}

@@ -6,7 +6,7 @@ use Rattle.std.proofs.lemmas.Bool.{cases_Bool, eqb-true, cond-true, cond-false, 
 use Rattle.std.proofs.lemmas.List.{length_push}
 use Rattle.sc_cmd.specs.declared.commands.Command.{Command}
 use Rattle.sc_paxos_words.specs.declared.flights.Flight.{Flight}
-use Rattle.sc_paxos_words.specs.Among.{Among, Each}
+use Rattle.sc_base.specs.Among.{Among, Each}
 use Rattle.sc_paxos_words.specs.Leaders.{without_flight}
 use Rattle.sc_node_table.specs.Slots.{rest_of, at_slot, without_slot}
 use Rattle.sc_node_table.specs.Queues.{is_call_of, without_call}

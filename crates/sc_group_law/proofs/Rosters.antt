@@ -13,7 +13,7 @@ use Rattle.sc_machine_table.specs.Machine.{applied}
 use Rattle.sc_machine_table.specs.Orders.{locked_in, join_refused, leave_refused, refused_in, refusal_of, ordered, with_node, without_node}
 use Rattle.sc_member.specs.Roster.{IsRoster, is_member}
 use Rattle.sc_member.proofs.Rising.{roster_with, roster_without}
-use Rattle.sc_paxos_words.specs.Among.{Each}
+use Rattle.sc_base.specs.Among.{Each}
 use Rattle.sc_hist_law.specs.Laws.{LeavesWhole}
 use Rattle.sc_hist_law.proofs.Logs.{called_members}
 use Rattle.sc_machine_table.specs.Logs.{state_after}

@@ -15,7 +15,7 @@ use Rattle.sc_mail.specs.declared.bodies.AnswerBody.TheVariants as Says
 use Rattle.sc_mail.specs.declared.bodies.Mail.{Mail}
 use Rattle.sc_mail.specs.declared.bodies.MailBody.TheVariants.{Answer, Prepare, Accept, Learn, Told}
 use Rattle.sc_machine_table.specs.Group.{Group}
-use Rattle.sc_paxos_words.specs.Among.{Among}
+use Rattle.sc_base.specs.Among.{Among}
 use Rattle.sc_paxos_words.specs.Ballots.{below}
 use Rattle.sc_paxos_words.specs.Leaders.{elected as new_leader}
 use Rattle.sc_paxos_words.proofs.BallotLemmas.{below_parts}

@@ -17,13 +17,13 @@ use Rattle.sc_actor.specs.Mail.{mails}
 use Rattle.sc_actor.proofs.Induction.{lawful-induction}
 use Rattle.sc_actor.proofs.WalkLemmas.{lawful-prefix}
 use Rattle.sc_client_table.specs.Client.{born as born_client}
-use Rattle.sc_ideal.specs.History.{Legal, contents_after}
+use Rattle.sc_ideal.specs.History.{HasEntry, Legal, contents_after}
 use Rattle.sc_ideal.specs.IdealStore.{with_pairs}
 use Rattle.sc_ideal.specs.Clients.{joined_with}
 use Rattle.sc_ideal.specs.declared.Entry.{Entry}
 use Rattle.sc_node_table.specs.Node.{NodeState}
 use Rattle.sc_node_table.specs.Replica.{ReplicaState, born_replica}
-use Rattle.sc_paxos_words.specs.Among.{Among, Each}
+use Rattle.sc_base.specs.Among.{Among, Each}
 use Rattle.sc_paxos_words.specs.Acceptors.{born as born_acceptor}
 use Rattle.sc_paxos_law.specs.Chosen.{needed, IsChosenAfter, IsLog}
 use Rattle.sc_paxos_law.specs.Decided.{log_of}
@@ -34,7 +34,7 @@ use Rattle.sc_paxos_law.proofs.Decided.{log_of-longest, front_of_log, log_grows}
 use Rattle.sc_scenario.specs.declared.scenarios.Asks.{Asks}
 use Rattle.sc_scenario.specs.declared.scenarios.Scenario.{Scenario}
 use Rattle.sc_players.specs.Players.{route_of, schedule, Ahead, system_of, Lawful, Player, replies_of}
-use Rattle.sc_hist_law.specs.Laws.{IsDone, LeavesWhole, LogTells, HasEntry}
+use Rattle.sc_hist_law.specs.Laws.{IsDone, LeavesWhole, LogTells}
 use Rattle.sc_hist_law.proofs.Told.{log_tells}
 use Rattle.sc_sound.specs.Accepts.{accepts, accepts_at}
 use Rattle.sc_machine_table.specs.Logs.{state_after, done_by}

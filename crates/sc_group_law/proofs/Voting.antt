@@ -18,7 +18,7 @@ use Rattle.sc_cmd.specs.declared.orders.OrderRefusal.TheVariants.{NotLeader}
 use Rattle.sc_paxos_words.specs.declared.reports.Report.{Report}
 use Rattle.sc_paxos_words.specs.declared.answers.PrepareAnswer.{PrepareAnswer}
 use Rattle.sc_paxos_words.specs.declared.answers.AcceptAnswer.{AcceptAnswer}
-use Rattle.sc_paxos_words.specs.Among.{Among, Each}
+use Rattle.sc_base.specs.Among.{Among, Each}
 use Rattle.sc_paxos_words.specs.Acceptors.{AcceptorState, may_promise, may_accept, after_promise, after_accept, reports_from}
 use Rattle.sc_paxos_words.specs.Ballots.{below}
 use Rattle.sc_paxos_words.proofs.ListLemmas.{Each-weaker, Each-append}

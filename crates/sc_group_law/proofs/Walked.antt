@@ -26,7 +26,7 @@ use Rattle.sc_client_table.specs.Turns.{InTurn}
 use Rattle.sc_client_table.proofs.TurnLemmas.{sends_in_turn}
 use Rattle.sc_node_table.specs.Node.{NodeState, on_mail, on_tick, on_order}
 use Rattle.sc_node_table.specs.Slots.{numbers}
-use Rattle.sc_paxos_words.specs.Among.{Among, Each}
+use Rattle.sc_base.specs.Among.{Among, Each}
 use Rattle.sc_paxos_words.proofs.ListLemmas.{Each-among, Each-weaker, find_found}
 use Rattle.sc_paxos_law.proofs.Among.{Among-either, from_map, place_among}
 use Rattle.sc_scenario.specs.declared.scenarios.Asks.{Asks}

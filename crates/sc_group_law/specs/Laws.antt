@@ -8,18 +8,17 @@ use Rattle.sc_cmd.specs.declared.orders.OrderLine.{OrderLine}
 use Rattle.sc_mail.specs.declared.bodies.Mail.{Mail}
 use Rattle.sc_actor.specs.declared.rows.Row.{Row}
 use Rattle.sc_actor.specs.Replay.{value}
-use Rattle.sc_ideal.specs.History.{Legal, contents_after}
+use Rattle.sc_ideal.specs.History.{HasEntry, Legal, contents_after}
 use Rattle.sc_ideal.specs.declared.Entry.{Entry}
 use Rattle.sc_node_table.specs.Node.{NodeState}
 use Rattle.sc_node_table.specs.Replica.{ReplicaState}
-use Rattle.sc_paxos_words.specs.Among.{Among}
+use Rattle.sc_base.specs.Among.{Among}
 use Rattle.sc_paxos_law.specs.Chosen.{IsLog}
 use Rattle.sc_scenario.specs.Valid.{IsValid}
 use Rattle.sc_scenario.specs.declared.scenarios.Asks.{Asks}
 use Rattle.sc_scenario.specs.declared.scenarios.Scenario.{Scenario}
 use Rattle.sc_players.specs.Players.{route_of, Ahead, node_seat, Lawful, player_table}
 use Rattle.sc_sound.specs.Accepts.{accepts}
-use Rattle.sc_hist_law.specs.Laws.{HasEntry}
 use Rattle.sc_sound.specs.Logs.{rule_of, IsChosenIn, decided_log, decided_state}
 use Rattle.sc_machine_table.specs.Group.{group_of}
 use Rattle.sc_sound.specs.Histories.{history, decided_row}

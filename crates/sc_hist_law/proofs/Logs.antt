@@ -38,7 +38,7 @@ use Rattle.sc_machine_table.specs.Plans.{Plan, can_cut, has_key_of, can_split, s
 use Rattle.sc_machine_table.specs.Splits.{has_named, left_group}
 use Rattle.sc_machine_table.specs.Transactions.{begun_group, aborted, committed, heard_group, granted, answered, asks_watcher, vote_recorded, released, watch_answered, watch_recorded, is_coordinating}
 use Rattle.sc_machine_table.specs.Votes.{has_voted, vote_of, watch_vote_of, voted_on}
-use Rattle.sc_paxos_words.specs.Among.{Each}
+use Rattle.sc_base.specs.Among.{Each}
 use Rattle.sc_hist_law.specs.Laws.{LeavesWhole}
 use Rattle.sc_machine_table.specs.Logs.{state_after}
 

@@ -9,7 +9,7 @@ use Rattle.sc_base.specs.declared.ops.Op.{Op}
 use Rattle.sc_base.specs.declared.ops.Reply.{Reply}
 use Rattle.sc_base.specs.declared.ops.Noted.{Noted}
 use Rattle.sc_ideal.specs.IdealStore.{Contents, key_of, reply_of, after, holds_key}
-use Rattle.sc_ideal.specs.History.{IsReplay, contents_after}
+use Rattle.sc_ideal.specs.History.{HasEntry, IsReplay, contents_after}
 use Rattle.sc_ideal.specs.declared.Entry.{Entry}
 use Rattle.sc_cmd.specs.declared.links.Route.{Route}
 use Rattle.sc_cmd.specs.declared.cores.Lock.{Lock}
@@ -21,10 +21,10 @@ use Rattle.sc_cmd.specs.declared.effects.Effect.TheVariants.{Done, Again, Stale,
 use Rattle.sc_machine_table.specs.Group.{Group}
 use Rattle.sc_machine_table.specs.Machine.{applied, done, numbered, served, called}
 use Rattle.sc_machine_table.specs.Orders.{refusal_of, with_node, without_node}
-use Rattle.sc_paxos_words.specs.Among.{Among, Each}
+use Rattle.sc_base.specs.Among.{Among, Each}
 use Rattle.sc_paxos_words.proofs.ListLemmas.{Each-among}
 use Rattle.sc_paxos_law.proofs.Among.{Among-left, Among-right, Among-either}
-use Rattle.sc_hist_law.specs.Laws.{HasEntry, IsEmpty, IsNoted, IsReplied, IsDone, LeavesWhole, LogsTellHistories}
+use Rattle.sc_hist_law.specs.Laws.{IsEmpty, IsNoted, IsReplied, IsDone, LeavesWhole, LogsTellHistories}
 use Rattle.sc_machine_table.specs.Logs.{state_after, entry_by, entry_of, done_by}
 use Rattle.sc_machine_table.proofs.LogLemmas.{done_push}
 use Rattle.sc_hist_law.proofs.Logs.{ordered_either}

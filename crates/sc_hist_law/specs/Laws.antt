@@ -8,11 +8,11 @@ use Rattle.sc_cmd.specs.declared.commands.Command.{Command}
 use Rattle.sc_cmd.specs.declared.commands.Command.TheVariants.{Noop, Call, Join, Leave, Split, Begin, Prepared, RecordVote, GiveUp, Finish, Watched, RecordWatch}
 use Rattle.sc_cmd.specs.declared.effects.Effect.{Effect}
 use Rattle.sc_cmd.specs.declared.effects.Effect.TheVariants.{Done, Again}
-use Rattle.sc_ideal.specs.History.{Legal, contents_after}
+use Rattle.sc_ideal.specs.History.{Legal, HasEntry, contents_after}
 use Rattle.sc_ideal.specs.declared.Entry.{Entry}
 use Rattle.sc_machine_table.specs.Group.{Group}
 use Rattle.sc_machine_table.specs.Machine.{applied}
-use Rattle.sc_paxos_words.specs.Among.{Among, Each}
+use Rattle.sc_base.specs.Among.{Among, Each}
 use Rattle.sc_machine_table.specs.Logs.{state_after, effects_of, done_by}
 
 -- a group that holds nothing and has noted nothing
@@ -25,14 +25,6 @@ pub record IsNoted (group : Group) (entry : Entry) : Type 0 where
   pub noted : Noted
   pub found : get group.clients entry.client ≡ Some noted
   pub most : entry.seq ≤ noted.seq
-
--- some entry has this client, number and reply
-pub record HasEntry (entries : List Entry) (client seq : ℕ) (reply : Reply) : Type 0 where
-  pub entry : Entry
-  pub stands : Among entry entries
-  pub client_is : entry.client ≡ client
-  pub seq_is : entry.seq ≡ seq
-  pub reply_is : entry.reply ≡ reply
 
 -- These entries are a legal history; the map after it is the group's pairs; and the group's table notes of each client its last entry.
 pub record Tells (entries : List Entry) (group : Group) : Type 0 where

@@ -1,6 +1,8 @@
 -- Histories of requests and replies, and which are legal on the ideal store.
 -- The ideal store is the sequential object of linearizability (Herlihy and Wing, 1990).
-use Rattle.std.specs.Prelude.{◌≡◌, List, [], ◌∷◌, Some, None, AllPairs}
+use Rattle.std.specs.Prelude.{◌≡◌, ℕ, List, [], ◌∷◌, Some, None, AllPairs}
+use Rattle.sc_base.specs.Among.{Among}
+use Rattle.sc_base.specs.declared.ops.Reply.{Reply}
 use Rattle.sc_base.specs.declared.ops.Op.TheVariants.{Get, Put, Add, Cas}
 use Rattle.std.specs.FinMap.{empty}
 use Rattle.sc_ideal.specs.declared.Entry.{Entry}
@@ -24,6 +26,14 @@ AreApart a b = a.client ≡ b.client → a.seq ≡ b.seq → ⊥
 pub record Legal (entries : List Entry) : Type 0 where
   pub replay : IsReplay empty entries
   pub once : AllPairs AreApart entries
+
+-- some entry has this client, number and reply
+pub record HasEntry (entries : List Entry) (client seq : ℕ) (reply : Reply) : Type 0 where
+  pub entry : Entry
+  pub stands : Among entry entries
+  pub client_is : entry.client ≡ client
+  pub seq_is : entry.seq ≡ seq
+  pub reply_is : entry.reply ≡ reply
 
 -- an example: put a x answers none, add a y answers x, cas a x z answers x, get a answers z
 abbrev pub example : List Entry

@@ -2,7 +2,7 @@
 use Rattle.std.proofs.Common.{◌≡◌, ◌≢◌, ℕ, eqb, List, [], ◌∷◌, ◌++◌, Option, Some, None, inl, inr, refl, sym, ◌∙◌, ap, subst}
 use Rattle.std.proofs.lemmas.Bool.{cases_Bool, cond-true, cond-false, eqb-true, eqb-false, ne_eqb}
 use Rattle.sc_paxos_words.specs.declared.flights.Flight.{Flight}
-use Rattle.sc_paxos_words.specs.Among.{Each}
+use Rattle.sc_base.specs.Among.{Each}
 use Rattle.sc_paxos_words.specs.Leaders.{flight_at, without_flight}
 use Rattle.sc_paxos_words.specs.Votes.{with_voters}
 use Rattle.sc_paxos_words.proofs.ListLemmas.{Each-append}

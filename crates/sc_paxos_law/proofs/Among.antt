@@ -6,7 +6,7 @@ use Rattle.std.proofs.lemmas.Bool.{cases_Bool, eqb-true, eq-eqb, or_cases, or_le
 use Rattle.std.proofs.lemmas.List.Sums.{sum_by-cons}
 use Rattle.sc_member.specs.Roster.{is_member}
 use Rattle.sc_member.specs.Majority.{IsMajority}
-use Rattle.sc_paxos_words.specs.Among.{Among}
+use Rattle.sc_base.specs.Among.{Among}
 
 -- what stands in the first of two lists stands in both joined
 pub Among-left : {X : Type 0} (x : X) (xs ys : List X) → Among x xs → Among x (xs ++ ys)

@@ -2,7 +2,7 @@
 use Rattle.std.proofs.Common.{◌≡◌, ℕ, ◌+◌, ◌*◌, ◌<◌, ◌≤◌, ◌&&◌, zero, suc, true, eqb, List, [], ◌∷◌, ◌++◌, length, take, count_by, Option, Some, None, inl, inr, refl, sym, ◌∙◌, ap, subst, arith}
 use Rattle.std.proofs.lemmas.Bool.{cases_Bool, eqb-true, eq-eqb, ltb-true, lt-ltb, cond-true, cond-false, cond_both, and_parts, and_from, cases_lt}
 use Rattle.std.proofs.lemmas.List.{length_push, take_all}
-use Rattle.sc_paxos_words.specs.Among.{Among, Each}
+use Rattle.sc_base.specs.Among.{Among, Each}
 use Rattle.sc_base.specs.declared.names.Ballot.{Ballot}
 use Rattle.sc_member.specs.Roster.{is_member}
 use Rattle.sc_member.specs.Majority.{IsMajority, is_majority}

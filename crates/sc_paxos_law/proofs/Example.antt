@@ -1,7 +1,7 @@
 -- A lawful history with a lost message and an election, so that the law is not about nothing.
 use Rattle.std.proofs.Common.{ℕ, List, [], ◌∷◌, inl, inr, refl, ap, arith, lit<, lit≤}
 use Rattle.sc_paxos_words.specs.declared.reports.Report.{Report}
-use Rattle.sc_paxos_words.specs.Among.{Among}
+use Rattle.sc_base.specs.Among.{Among}
 use Rattle.sc_paxos_law.specs.Steps.{Step, Prepared, Promised, Offered, Accepted}
 use Rattle.sc_paxos_law.specs.Chosen.{IsLog}
 use Rattle.sc_paxos_law.specs.Lawful.{Vote, MayOffer, IsLawful}

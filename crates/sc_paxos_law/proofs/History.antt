@@ -3,7 +3,7 @@ use Rattle.std.proofs.Common.{◌≡◌, ◌≢◌, ℕ, ◌<◌, ◌≤◌, tru
 use Rattle.std.proofs.lemmas.Bool.{cases_order, eqb-true, eq-eqb, cond-true, cond_both, lt-ltb, le-leb}
 use Rattle.sc_base.specs.declared.names.Ballot.{Ballot}
 use Rattle.sc_paxos_words.specs.declared.reports.Report.{Report}
-use Rattle.sc_paxos_words.specs.Among.{Among}
+use Rattle.sc_base.specs.Among.{Among}
 use Rattle.sc_paxos_words.specs.Ballots.{below, IsAtLeast}
 use Rattle.sc_paxos_words.specs.Acceptors.{AcceptorState, with_report, may_promise, may_accept, after_promise, after_accept, after_cut}
 use Rattle.sc_paxos_words.proofs.BallotLemmas.{at_least_trans, at_least_itself, at_least_from_below, at_least_below, not_both}

@@ -7,7 +7,7 @@ use Rattle.std.proofs.lemmas.List.Sums.{sum_by-cons}
 use Rattle.sc_member.specs.Roster.{is_member}
 use Rattle.sc_member.specs.Majority.{IsMajority, is_majority}
 use Rattle.sc_paxos_words.specs.declared.reports.Report.{Report}
-use Rattle.sc_paxos_words.specs.Among.{Among, Each}
+use Rattle.sc_base.specs.Among.{Among, Each}
 use Rattle.sc_paxos_words.specs.Choice.{choice, names_above}
 use Rattle.sc_paxos_words.specs.Leaders.{LeaderState, Obeys, must, must_without}
 use Rattle.sc_paxos_words.proofs.ListLemmas.{Among-filter}

@@ -8,7 +8,7 @@ use Rattle.sc_paxos_words.specs.declared.reports.Report.{Report}
 use Rattle.sc_paxos_words.specs.declared.answers.PrepareAnswer.TheVariants.{Promise}
 use Rattle.sc_paxos_words.specs.declared.answers.AcceptAnswer.TheVariants.{Accepted as Yes}
 use Rattle.sc_paxos_words.specs.Ballots.{IsAtLeast}
-use Rattle.sc_paxos_words.specs.Among.{Among, Each}
+use Rattle.sc_base.specs.Among.{Among, Each}
 use Rattle.sc_paxos_words.specs.Acceptors.{AcceptorState, after_cut}
 use Rattle.sc_paxos_words.specs.Preparing.{prepared}
 use Rattle.sc_paxos_words.specs.Accepting.{accepted}

@@ -3,7 +3,7 @@ use Rattle.std.proofs.Common.{◌≡◌, ℕ, true, false, eqb, List, [], ◌∷
 use Rattle.std.specs.List.{fold}
 use Rattle.std.proofs.lemmas.Bool.{cases_Bool, cond-true, cond-false, and_parts, and_cases, eqb-true, eqb-false}
 use Rattle.sc_paxos_words.specs.declared.reports.Report.{Report}
-use Rattle.sc_paxos_words.specs.Among.{Among, Each}
+use Rattle.sc_base.specs.Among.{Among, Each}
 use Rattle.sc_paxos_words.specs.Ballots.{below, IsAtLeast}
 use Rattle.sc_paxos_words.specs.Choice.{beats, is_better, better_of, choice}
 use Rattle.sc_paxos_words.specs.Laws.{IsFirstHighest}

@@ -1,6 +1,5 @@
 pub mod Accepting
 pub mod Acceptors
-pub mod Among
 pub mod Ballots
 pub mod Choice
 pub mod Laws

@@ -10,7 +10,7 @@ use Rattle.sc_mail.specs.declared.bodies.MailBody.TheVariants.{Request}
 use Rattle.sc_actor.specs.declared.rows.Row.{Row}
 use Rattle.sc_actor.specs.Replay.{value}
 use Rattle.sc_ideal.specs.declared.Entry.{Entry}
-use Rattle.sc_paxos_words.specs.Among.{Among}
+use Rattle.sc_base.specs.Among.{Among}
 use Rattle.sc_scenario.specs.declared.scenarios.Asks.{Asks}
 use Rattle.sc_scenario.specs.declared.scenarios.Scenario.{Scenario}
 use Rattle.sc_players.specs.Players.{player_table, client_seat, replies_of}
