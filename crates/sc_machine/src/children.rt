@@ -61,7 +61,8 @@ impl Machine {
         order: u32,
     ) -> Result<Option<Base>, OutOfMemory>
         requires { command.now ≡ Split at child order }
-        ensures { IfOk result (λ base. base ≡ split_child (refusal_of self.now.core command.now) self.now at child) }
+        ensures { IfOk result
+            (λ base. base ≡ split_child (refusal_of self.now.core command.now) self.now at child) }
     {
         if has_named(&self.core, child) || self.core.gone.is_some() {
             return Ok(None);
@@ -81,16 +82,20 @@ impl Machine {
         if !is_alone(&self.core) {
             return Ok(None);
         }
+        let _some = self.core.members.len();
         Ok(Some(self.child(at, child)?))
     }
 
     // Of a watcher's vote on the transaction that the group coordinates.
     fn watched_child(&self, tx: Draw, vote: &Past) -> Result<Option<Base>, OutOfMemory>
-        ensures { IfOk result (λ base. base ≡ watched_child self.now.core.lock self.now tx vote.now) }
+        ensures { IfOk result
+            (λ base. base ≡ watched_child self.now.core.lock self.now tx vote.now) }
     {
         match &self.core.lock {
             Lock::Coordinating {
-                tx: locked, body, ..
+                tx: locked,
+                body,
+                ..
             } => {
                 if !same_draw(*locked, tx) {
                     return Ok(None);
@@ -122,7 +127,10 @@ impl Machine {
 
     // Of a split that can be made.
     fn planned_child(&self, at: u32, child: Draw) -> Result<Option<Base>, OutOfMemory>
-        ensures { IfOk result (λ base. base ≡ (if can_split self.now.core at then Some (child_of self.now at child) else None)) }
+        ensures { IfOk result
+            (λ base.
+            base
+            ≡ (if can_split self.now.core at then Some (child_of self.now at child) else None)) }
     {
         if !can_split(&self.core, at) {
             return Ok(None);

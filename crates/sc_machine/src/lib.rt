@@ -2,6 +2,7 @@
 #![tactic(auto)]
 
 mod children;
+mod commits;
 mod coordinator;
 mod machine;
 mod orders;

@@ -123,7 +123,10 @@ impl Machine {
     }
 
     pub(crate) fn call(&mut self, client: u16, seq: u32, op: &Op) -> Result<Effect, OutOfMemory>
-        ensures { IfOk result (λ effect. called self.old.core.gone self.old.core.lock self.old client seq op.now ≡ (self.new, effect)) }
+        ensures { IfOk result
+            (λ effect.
+            called self.old.core.gone self.old.core.lock self.old client seq op.now
+            ≡ (self.new, effect)) }
     {
         if let Some(into) = &self.core.gone {
             return Ok(Effect::Gone { into: *into });

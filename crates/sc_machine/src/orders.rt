@@ -26,7 +26,13 @@ impl Machine {
     #[tactic(auto, using(crate::proofs::Accepted::free_of))]
     fn refusal(&self, command: &Command) -> Option<OrderRefusal>
         requires { is_checked command.now ≡ true }
-        ensures { MatchOption result ((self.now.core.gone ≡ None) × (refusal_of self.now.core command.now ≡ None) × (refused_free self.now.core command.now ≡ None)) (λ why. (after : Group) → ordered self.now.core.gone (refusal_of self.now.core command.now) after self.now ≡ (self.now, Refused why)) }
+        ensures { MatchOption result
+            ((self.now.core.gone ≡ None)
+            × (refusal_of self.now.core command.now ≡ None)
+            × (refused_free self.now.core command.now ≡ None))
+            (λ why. (after : Group)
+            → ordered self.now.core.gone (refusal_of self.now.core command.now) after self.now
+            ≡ (self.now, Refused why)) }
     {
         if self.core.gone.is_some() {
             return Some(OrderRefusal::NotLeader { hint: None });
@@ -39,7 +45,9 @@ impl Machine {
 
     pub(crate) fn join(&mut self, command: &Command, node: u16) -> Effect
         requires { (order : ℕ) × (command.now ≡ Join node order) }
-        ensures { ordered_by None (refusal_of self.old.core command.now) (with_node self.old node) self.old ≡ (self.new, result) }
+        ensures { ordered_by None (refusal_of self.old.core command.now) (with_node self.old node)
+            self.old
+            ≡ (self.new, result) }
     {
         if let Some(why) = self.refusal(command) {
             return Effect::Refused(why);
@@ -62,7 +70,9 @@ impl Machine {
 
     pub(crate) fn leave(&mut self, command: &Command, node: u16) -> Effect
         requires { (order : ℕ) × (command.now ≡ Leave node order) }
-        ensures { ordered_by None (refusal_of self.old.core command.now) (without_node self.old node) self.old ≡ (self.new, result) }
+        ensures { ordered_by None (refusal_of self.old.core command.now)
+            (without_node self.old node) self.old
+            ≡ (self.new, result) }
     {
         if let Some(why) = self.refusal(command) {
             return Effect::Refused(why);
@@ -86,7 +96,9 @@ impl Machine {
     #[tactic(auto, using(crate::proofs::Accepted::can_begin))]
     pub(crate) fn begin(&mut self, command: &Command, tx: Draw, body: &Body, order: u32) -> Effect
         requires { command.now ≡ Begin tx body.now order }
-        ensures { ordered_by (Some tx) (refusal_of self.old.core command.now) (begun_group self.old tx body.now order) self.old ≡ (self.new, result) }
+        ensures { ordered_by (Some tx) (refusal_of self.old.core command.now)
+            (begun_group self.old tx body.now order) self.old
+            ≡ (self.new, result) }
     {
         if has_named(&self.core, tx) {
             return Effect::NoEffect { tx };
@@ -120,7 +132,11 @@ impl Machine {
         order: u32,
     ) -> Result<Effect, OutOfMemory>
         requires { command.now ≡ Split at child order }
-        ensures { IfOk result (λ effect. ordered_by (Some child) (refusal_of self.old.core command.now) (split_group self.old at child order) self.old ≡ (self.new, effect)) }
+        ensures { IfOk result
+            (λ effect.
+            ordered_by (Some child) (refusal_of self.old.core command.now)
+            (split_group self.old at child order) self.old
+            ≡ (self.new, effect)) }
     {
         if has_named(&self.core, child) {
             return Ok(Effect::NoEffect { tx: child });
@@ -142,6 +158,7 @@ impl Machine {
             self.lock_for(child, Body::Split { at, child }, order);
             return Ok(());
         }
+        let _some = self.core.members.len();
         self.leave_right_part(at, child)
     }
 

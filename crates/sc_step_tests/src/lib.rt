@@ -3,10 +3,6 @@
 #![tactic(auto)]
 
 #[cfg(test)]
-mod asks;
-#[cfg(test)]
-mod line_tests;
-#[cfg(test)]
 mod machine_tests;
 #[cfg(test)]
 mod node_tests;
@@ -16,7 +12,5 @@ mod plan_tests;
 mod replica_tests;
 #[cfg(test)]
 mod samples;
-#[cfg(test)]
-mod starts;
 #[cfg(test)]
 mod transaction_tests;

@@ -337,3 +337,33 @@ fn outcomes(rt: HostRuntime) -> Result<(), Fail> {
         ],
     )
 }
+
+// Whether the command makes a child of the group that starts so.
+fn makes(alloc: Global, start: Start, ask: Ask) -> Result<bool, Fail> {
+    if start.members > 9 {
+        return Err(Fail::from("too many members"));
+    }
+    let machine = machine(alloc, start)?;
+    let command = command(alloc, ask)?;
+    let child = machine.child_by(&command)?;
+    Ok(child.is_some())
+}
+
+#[test]
+fn children(rt: HostRuntime) -> Result<(), Fail> {
+    let (split, yes) = (Ask::Split(TX, C), Ask::Watch(Past::Yes));
+    let lines: [(Start, Ask, bool); 8] = [
+        (alone(2), split, true),
+        (alone(1), split, false),
+        (FREE, split, false),
+        (begun(SPLIT), yes, true),
+        (begun(SPLIT), Ask::Watch(Past::Ended), false),
+        (begun(Body::Split { at: B, child: TX }), yes, false),
+        (heard(Body::Merge), yes, false),
+        (FREE, Ask::Noop, false),
+    ];
+    for (start, ask, child) in lines {
+        assert_eq!(rt; makes(rt.alloc(), start, ask)?, child);
+    }
+    Ok(())
+}
