@@ -1,6 +1,7 @@
 //! One command after another on a group.
 #![tactic(auto)]
 
+mod children;
 mod coordinator;
 mod machine;
 mod orders;
