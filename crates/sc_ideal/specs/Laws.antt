@@ -1,5 +1,5 @@
 -- What holds of the ideal store's parts, and of client tables.
-use Rattle.std.specs.Prelude.{◌≡◌, ℕ, ◌<◌, ◌^◌, Bool, List, Option, Some, if◌then◌else◌}
+use Rattle.std.specs.Prelude.{◌≡◌, ℕ, ◌<◌, ◌^◌, Bool, List, Option, Some, None, if◌then◌else◌}
 use Rattle.std.specs.Option.{option_map}
 use Rattle.std.specs.FinMap.{retain_keys, get, entries}
 use Rattle.sc_base.specs.Arc.{Arc, IsArc, CanJoin, joined}
