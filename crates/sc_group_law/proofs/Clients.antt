@@ -4,6 +4,7 @@ use Rattle.std.specs.Prelude.{slice_get}
 use Rattle.std.specs.Option.{option_map}
 use Rattle.std.proofs.lemmas.Bool.{cases_Bool, cond-true, cond-false}
 use Rattle.std.proofs.lemmas.List.{length_push}
+use Rattle.sc_base.specs.Limits.{client_actor}
 use Rattle.sc_base.specs.declared.names.Draw.{Draw}
 use Rattle.sc_base.specs.declared.ops.Op.{Op}
 use Rattle.sc_base.specs.declared.ops.Reply.{Reply}
@@ -209,7 +210,7 @@ module _ (ahead : Ahead) (base : Base) where
   Grew h asks old new = (new ≡ old) ⊎ ((reply : Reply) × (new ≡ old ++ reply ∷ []) × IsAnswered h asks.client (length old + 1) reply)
 
   module _ (made : Command → Type 0) (h : Steps) (asks : Asks) (client after : Client) (c : IsClient h asks client) (input : Input Mail OrderLine) (sent : List Mail) (turn : InTurn client after input sent)
-      (told : (m : Mail) → input ≡ Got m → (m.to ≡ 32 + asks.client) × IsTrue ahead base made h m m.body) (fresh : input ≡ Go → client.replies ≡ []) where
+      (told : (m : Mail) → input ≡ Got m → (m.to ≡ client_actor asks.client) × IsTrue ahead base made h m m.body) (fresh : input ≡ Go → client.replies ≡ []) where
     waited : Waits client after → IsClient h asks after × Grew h asks client.replies after.replies
     waited s = (
       record {

@@ -1,10 +1,7 @@
 -- What the report tells of players and rows.
-use Rattle.std.specs.Prelude.{ℕ, ◌+◌, Bool, true, false, List, [], ◌∷◌, if◌then◌else◌, Option, Some, None, slice_get}
+use Rattle.std.specs.Prelude.{ℕ, ◌+◌, List, [], ◌∷◌, if◌then◌else◌, Option, Some, None, slice_get}
 use Rattle.sc_base.specs.declared.ops.Op.{Op}
 use Rattle.sc_base.specs.declared.ops.Reply.{Reply}
-use Rattle.sc_cmd.specs.declared.orders.OrderLine.{OrderLine}
-use Rattle.sc_actor.specs.declared.rows.Event.{Event}
-use Rattle.sc_actor.specs.declared.rows.Event.TheVariants.{Deliver, Tick, Go, Told, Crash, Drop, Again}
 use Rattle.sc_report.specs.declared.summaries.Got.{Got}
 use Rattle.sc_report.specs.declared.summaries.Got.TheVariants.{Unsent, Unanswered, Replied}
 use Rattle.sc_report.specs.declared.summaries.Asked.{Asked}
@@ -32,13 +29,3 @@ asked_from client done (op ∷ ops) = asked_after client done op ∷ asked_from 
 abbrev pub asked_by : Player → List Asked
 asked_by (Node node) = []
 asked_by (Client client) = asked_from client 0 client.requests
-
--- whether an event delivers a mail
-abbrev pub is_delivery : Event OrderLine → Bool
-is_delivery (Deliver mail) = true
-is_delivery Tick = false
-is_delivery Go = false
-is_delivery (Told order) = false
-is_delivery Crash = false
-is_delivery (Drop mail) = false
-is_delivery (Again mail) = false

@@ -1,8 +1,8 @@
 //! What is counted for the summary of a journal.
 ghost use Rattle.std.specs.Prelude.{◌≡◌, ◌++◌, map, length, count_by, IfOk, OnOk, slice_get};
 ghost use Rattle.std.specs.List.{flat_map};
-ghost use Rattle.sc_actor.specs.Mail.{mails};
-ghost use Rattle.sc_players.specs.Summary.{asked_by, asked_from, asked_after, got_of, is_delivery};
+ghost use Rattle.sc_actor.specs.Mail.{is_delivery, mails};
+ghost use Rattle.sc_players.specs.Summary.{asked_by, asked_from, asked_after, got_of};
 
 use crate::party::Party;
 use sc_actor::{Event, Row, Seat};
