@@ -63,6 +63,19 @@ fn answer(rt: &impl Abort, alloc: Global) -> MailBody {
     }
 }
 
+fn told(mail: &Mail) -> (u32, u32, u64) {
+    (mail.from, mail.to(), mail.weight())
+}
+
+fn copy_of(rt: &impl Abort, alloc: Global, mail: &Mail) -> Mail {
+    mail.dup(alloc).expect(rt, "memory")
+}
+
+fn told_of_copy(rt: &impl Abort, alloc: Global, mail: &Mail) -> (u32, u32, u64) {
+    let copy = copy_of(rt, alloc, mail);
+    told(&copy)
+}
+
 // From whom and to whom a copy of a mail of client 1 with this body goes, and what it weighs.
 fn copied(rt: &impl Abort, alloc: Global, body: MailBody) -> (u32, u32, u64) {
     let mail = Mail {
@@ -70,8 +83,7 @@ fn copied(rt: &impl Abort, alloc: Global, body: MailBody) -> (u32, u32, u64) {
         to: 1,
         body,
     };
-    let copy = mail.dup(alloc).expect(rt, "memory");
-    (copy.from, copy.to(), copy.weight())
+    told_of_copy(rt, alloc, &mail)
 }
 
 #[test]
