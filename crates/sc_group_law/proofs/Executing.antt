@@ -29,7 +29,7 @@ use Rattle.sc_node_table.specs.Replica.{ReplicaState, Place, name_of, next, memb
 use Rattle.sc_node_table.specs.Mails.{sent, order_in, told_order}
 use Rattle.sc_node_table.specs.Queues.{call_of, without_call, call_before, put_back}
 use Rattle.sc_node_table.specs.Sameness.{same_command}
-use Rattle.sc_node_table.specs.Execute.{entered, answer_of, told_call, result_of, told_effect, announced, learnt_to, lost, landed, left_gone, left, is_among, looked_for, looked, executed_one, has_room, next_ready, executed_ready, executed}
+use Rattle.sc_node_table.specs.Execute.{entered, answer_of, told_call, order_result, told_effect, announced, learnt_to, lost, landed, left_gone, left, is_among, looked_for, looked, executed_one, has_room, next_ready, executed_ready, executed}
 use Rattle.sc_node_table.specs.Pump.{pumped}
 use Rattle.sc_ideal.specs.History.{HasEntry}
 use Rattle.sc_hist_law.specs.Laws.{IsReplied, LogTells}
@@ -287,7 +287,7 @@ module _ (ahead : Ahead) (base : Base) (made : Command → Type 0) (grants : Gra
       let answered_it : Past counted (next r) c (cond counted (told_call (answer_of effect) c (entered c r, mails)) (entered c r, mails)) = (
       cond_both counted (told_call (answer_of effect) c (entered c r, mails)) (entered c r, mails) (Past counted (next r) c)
       (λ _. told_place counted (next r) c (answer_of effect) c (entered c r) mails start m answers) (λ _. start)) in
-      let spoken : Past counted (next r) c (announced counted effect c (entered c r, mails)) = ordered_place counted (next r) c (result_of effect) c _ answered_it in
+      let spoken : Past counted (next r) c (announced counted effect c (entered c r, mails)) = ordered_place counted (next r) c (order_result c effect) c _ answered_it in
       let said = announced counted effect c (entered c r, mails) in
       let taught = learnt_place counted (members r) (next r) c said spoken in
       let welcome = welcomed_place ahead base made me before counted (members r) said.0 (learnt_to counted (members r) (next r) c said) (learnt_same counted (members r) (next r) c said) taught spoken.runs_is in

@@ -16,7 +16,7 @@ use Rattle.sc_node_table.specs.Queues.{put_back}
 use Rattle.sc_node_table.specs.Sameness.{same_command}
 use Rattle.sc_node_table.specs.Election.{elected, ended}
 use Rattle.sc_node_table.specs.Pump.{pumped}
-use Rattle.sc_node_table.specs.Execute.{entered, answer_of, announced, told_call, told_effect, result_of, learnt_to, welcomed, lost, landed, left, left_gone, is_among, looked, looked_for, executed_one, has_room, next_ready, executed_ready}
+use Rattle.sc_node_table.specs.Execute.{entered, answer_of, announced, told_call, told_effect, order_result, learnt_to, welcomed, lost, landed, left, left_gone, is_among, looked, looked_for, executed_one, has_room, next_ready, executed_ready}
 
 -- taking a slot out makes the list shorter
 shorter_by : {X : Type 0} (f : ℕ × X) (es : List (ℕ × X)) (slot : ℕ) (x : X) (b : Bool) → (at_slot es slot ≡ Some x → length (without_slot es slot) < length es)
@@ -88,7 +88,7 @@ counted-ready false answer command place = refl
 announced-ready : (counted : Bool) (effect : Effect) (command : Command) (place : Place) → (announced counted effect command place).0.ready ≡ place.0.ready
 unfolding announced
 announced-ready counted effect command place =
-    effect-ready (result_of effect) command (if counted then told_call (answer_of effect) command place else place)
+    effect-ready (order_result command effect) command (if counted then told_call (answer_of effect) command place else place)
     ∙ counted-ready counted (answer_of effect) command place
 
 -- the members that are added get mails, and no more

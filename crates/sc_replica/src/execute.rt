@@ -9,27 +9,15 @@ ghost use Rattle.sc_node_table.specs.Execute.{entered, answer_of, told_call, ann
 
 use crate::install::waits_in;
 use crate::mails::answer;
-use crate::orders::result_of;
+use crate::orders::order_result;
 use crate::ready::{drop_ready, ready_at};
 use crate::replica::{LAST_SLOT, Replica};
 use crate::same::same_command;
 use sc_base::{Dup, OutOfMemory, Sequence, dup_found};
 use sc_cmd::{Command, Effect};
-use sc_machine::Machine;
 use sc_mail::{AnswerBody, Mail};
 use sc_member::Members;
 use std::alloc::Global;
-
-/// One command on the group. What the machine does not carry out yet, the split of a group that has
-/// another successor and the commands of transactions, does nothing.
-fn apply(machine: &mut Machine, command: &Command) -> Result<Effect, OutOfMemory>
-    ensures { IfOk result (λ effect. applied machine.old command.now ≡ (machine.new, effect)) }
-{
-    if machine.can_apply(command) {
-        return machine.apply(command);
-    }
-    Ok(Effect::Idle)
-}
 
 /// What the effect of a call tells its client; no answer where the call has to wait.
 fn answer_of(effect: Effect) -> Option<AnswerBody>
@@ -73,7 +61,7 @@ impl Replica {
         ensures entered { OnOk result (self.new ≡ entered command.now self.old) }
     {
         let last = self.next();
-        let effect = apply(&mut self.machine, command)?;
+        let effect = self.machine.apply(command)?;
         self.log.put(command.dup(self.alloc)?)?;
         let members = self.machine.core().members;
         self.sets.shift(members)?;
@@ -141,7 +129,7 @@ impl Replica {
         ensures { OnOk result
             ((self.new, out.new) ≡ announced counted effect command.now (self.old, out.old)) }
     {
-        let result = result_of(&effect);
+        let result = order_result(command, &effect);
         if counted {
             self.tell_call(effect, command, out)?;
         }

@@ -72,11 +72,8 @@ fn word(effect: &Effect) -> &'static str {
     }
 }
 
-// What the effect of a command is.
+// The word for the effect of a command.
 fn effect_of(machine: &mut Machine, command: &Command) -> Result<&'static str, Fail> {
-    if !machine.can_apply(command) {
-        return Err(Fail::from("a command that is not built"));
-    }
     let effect = machine.apply(command)?;
     Ok(word(&effect))
 }
