@@ -6,7 +6,6 @@ use sc_machine::Machine;
 use sc_member::Members;
 use std::alloc::Global;
 use std::process::Abort;
-use std::test::Fail;
 
 const FIRST: Draw = Draw { node: 0, count: 1 };
 
@@ -30,45 +29,63 @@ fn link(group: Draw, node: u16) -> Link {
     }
 }
 
-// The first group, of node 1, holds the positions before that of `b`, and the second, of node 2, those
-// from there to that of `d`.
-fn group(alloc: Global, id: Draw, lock: Lock) -> Result<Base, Fail> {
-    let (lo, node, succ, pred) = if id.count == 1 {
-        (0, 1, link(SECOND, 2), link(THIRD, 3))
-    } else {
-        (B, 2, link(THIRD, 3), link(FIRST, 1))
-    };
-    let len = if id.count == 1 { B as u64 } else { 0x0200_0000 };
-    Ok(Base {
-        core: Core {
-            id,
-            first: node,
-            arc: RingArc::try_new(lo, len)?,
-            members: Members::one(node),
-            succ,
-            pred,
-            lock,
-            begun: 0,
-            decided: Sequence::new(alloc),
-            voted: Sequence::new(alloc),
-            born: Sequence::new(alloc),
-            gone: None,
-        },
+// One of three groups on a ring.
+fn core(alloc: Global, id: Draw, node: u16, arc: RingArc, around: (Link, Link)) -> Core {
+    Core {
+        id,
+        first: node,
+        arc,
+        members: Members::one(node),
+        succ: around.0,
+        pred: around.1,
+        lock: Lock::Free,
+        begun: 0,
+        decided: Sequence::new(alloc),
+        voted: Sequence::new(alloc),
+        born: Sequence::new(alloc),
+        gone: None,
+    }
+}
+
+fn arc_of(rt: &impl Abort, lo: u32, len: u64) -> RingArc {
+    RingArc::try_new(lo, len).expect(rt, "an arc")
+}
+
+fn machine_of(rt: &impl Abort, alloc: Global, core: Core) -> Machine {
+    let base = Base {
+        core,
         pairs: Pairs::new(alloc),
         clients: SeenList::new(alloc),
-    })
-}
-
-fn machine(alloc: Global, id: Draw, lock: Lock) -> Result<Machine, Fail> {
-    Ok(Machine::born(alloc, group(alloc, id, lock)?)?)
-}
-
-fn put(alloc: Global, client: u16, key: &[u8]) -> Result<Command, Fail> {
-    let op = Op::Put {
-        key: Key::try_new(alloc, key)?,
-        value: Value::try_new(alloc, b"x")?,
     };
-    Ok(Command::Call { client, seq: 1, op })
+    Machine::born(alloc, base).expect(rt, "memory")
+}
+
+// The first group, of node 1, holds the positions before that of `b`.
+fn first_group(rt: &impl Abort, alloc: Global) -> Machine {
+    let around = (link(SECOND, 2), link(THIRD, 3));
+    machine_of(
+        rt,
+        alloc,
+        core(alloc, FIRST, 1, arc_of(rt, 0, B as u64), around),
+    )
+}
+
+// The second group, of node 2, holds the positions from there to that of `d`.
+fn second_group(rt: &impl Abort, alloc: Global) -> Machine {
+    let around = (link(THIRD, 3), link(FIRST, 1));
+    machine_of(
+        rt,
+        alloc,
+        core(alloc, SECOND, 2, arc_of(rt, B, 0x0200_0000), around),
+    )
+}
+
+fn put(rt: &impl Abort, alloc: Global, client: u16, key: &[u8]) -> Command {
+    let op = Op::Put {
+        key: Key::try_new(alloc, key).expect(rt, "a key"),
+        value: Value::try_new(alloc, b"x").expect(rt, "a value"),
+    };
+    Command::Call { client, seq: 1, op }
 }
 
 fn no_word(no: &No) -> &'static str {
@@ -118,50 +135,37 @@ fn word(effect: &Effect) -> &'static str {
     }
 }
 
-// Carries out a command with this effect.
-fn step<R: Abort>(
-    rt: &R,
-    machine: &mut Machine,
-    command: Command,
-    effect: &'static str,
-) -> Result<(), Fail> {
-    let was = machine.apply(&command)?;
-    assert_eq!(rt; word(&was), effect);
-    Ok(())
+// What is asked of a machine: a put of a client, or a step of a transaction. `Yes` is the second
+// group's vote, and `Divided` an outcome that fits no transaction here.
+#[derive(Clone, Copy)]
+enum Ask {
+    Put(u16, &'static [u8]),
+    Begin(Draw, Body),
+    Prepared(Draw, Body),
+    Yes,
+    GiveUp,
+    Watched(Draw, Draw),
+    WatchedYes,
+    Divided,
 }
 
-fn begin(tx: Draw, body: Body) -> Command {
-    Command::Begin { tx, body, order: 1 }
-}
+// What is asked, and the word for its effect.
+type Step = (Ask, &'static str);
 
-fn offer(body: Body) -> Result<Offer, Fail> {
-    Ok(Offer {
+fn offer(rt: &impl Abort, body: Body) -> Offer {
+    Offer {
         coord: FIRST,
         part: SECOND,
-        arc: RingArc::try_new(0, B as u64)?,
+        arc: arc_of(rt, 0, B as u64),
         members: Members::one(1),
         body,
         by: 1,
-    })
+    }
 }
 
-// The second group's vote of Yes.
-fn yes(alloc: Global) -> Result<Command, Fail> {
-    let frozen = machine(alloc, SECOND, Lock::Free)?.frozen()?;
-    Ok(Command::RecordVote {
-        tx: TX,
-        vote: Vote::Yes(frozen),
-        by: 2,
-    })
-}
-
-#[test]
-fn give_up_then_yes(rt: HostRuntime) -> Result<(), Fail> {
-    let mut first = machine(rt.alloc(), FIRST, Lock::Free)?;
-    step(&rt, &mut first, begin(TX, Body::Merge), "changed")?;
-    step(&rt, &mut first, Command::GiveUp { tx: TX }, "abort")?;
-    step(&rt, &mut first, yes(rt.alloc())?, "no effect")?;
-    Ok(())
+fn vote_of_second(rt: &impl Abort, alloc: Global) -> Vote {
+    let second = second_group(rt, alloc);
+    Vote::Yes(second.frozen().expect(rt, "memory"))
 }
 
 fn watch(old: Draw) -> Watch {
@@ -175,101 +179,140 @@ fn watch(old: Draw) -> Watch {
     }
 }
 
-#[test]
-fn watching_machine(rt: HostRuntime) -> Result<(), Fail> {
-    let alloc = rt.alloc();
-    let mut first = machine(alloc, FIRST, Lock::Free)?;
-    let (far, near) = (watch(SECOND), watch(THIRD));
-    step(
-        &rt,
-        &mut first,
-        Command::Watched {
-            tx: LATER,
-            watch: far,
+fn command_of(rt: &impl Abort, alloc: Global, ask: Ask) -> Command {
+    match ask {
+        Ask::Put(client, key) => put(rt, alloc, client, key),
+        Ask::Begin(tx, body) => Command::Begin { tx, body, order: 1 },
+        Ask::Prepared(tx, body) => Command::Prepared {
+            tx,
+            offer: offer(rt, body),
         },
-        "apart",
-    )?;
-    step(
-        &rt,
-        &mut first,
-        Command::Watched {
+        Ask::Yes => Command::RecordVote {
             tx: TX,
-            watch: near,
+            vote: vote_of_second(rt, alloc),
+            by: 2,
         },
-        "yes",
-    )?;
-    step(&rt, &mut first, put(alloc, 1, b"a")?, "done")?;
-    step(&rt, &mut first, begin(OTHER, Body::Merge), "refused 2")?;
-    step(&rt, &mut first, prepared(OTHER, Body::Merge)?, "busy")?;
-    Ok(())
+        Ask::GiveUp => Command::GiveUp { tx: TX },
+        Ask::Watched(tx, old) => Command::Watched {
+            tx,
+            watch: watch(old),
+        },
+        Ask::WatchedYes => Command::RecordWatch {
+            tx: TX,
+            vote: Past::Yes,
+            by: 3,
+        },
+        Ask::Divided => Command::Finish {
+            tx: TX,
+            outcome: Outcome::Divided,
+        },
+    }
 }
 
-fn prepared(tx: Draw, body: Body) -> Result<Command, Fail> {
-    let offer = offer(body)?;
-    Ok(Command::Prepared { tx, offer })
+fn effect_of(rt: &impl Abort, machine: &mut Machine, command: &Command) -> &'static str {
+    word(&machine.apply(command).expect(rt, "memory"))
+}
+
+// Carries out these commands, one after the other, each with the effect beside it.
+fn take(rt: &impl Abort, alloc: Global, machine: &mut Machine, steps: &[Step]) {
+    for (ask, effect) in steps {
+        let command = command_of(rt, alloc, *ask);
+        assert_eq!(rt; effect_of(rt, machine, &command), *effect);
+    }
+}
+
+fn take_by_first(rt: &impl Abort, alloc: Global, steps: &[Step]) {
+    take(rt, alloc, &mut first_group(rt, alloc), steps);
+}
+
+#[test]
+fn give_up_then_yes(rt: HostRuntime) {
+    let steps: [Step; 3] = [
+        (Ask::Begin(TX, Body::Merge), "changed"),
+        (Ask::GiveUp, "abort"),
+        (Ask::Yes, "no effect"),
+    ];
+    take_by_first(&rt, rt.alloc(), &steps);
+}
+
+#[test]
+fn watching_machine(rt: HostRuntime) {
+    let steps: [Step; 5] = [
+        (Ask::Watched(LATER, SECOND), "apart"),
+        (Ask::Watched(TX, THIRD), "yes"),
+        (Ask::Put(1, b"a"), "done"),
+        (Ask::Begin(OTHER, Body::Merge), "refused 2"),
+        (Ask::Prepared(OTHER, Body::Merge), "busy"),
+    ];
+    take_by_first(&rt, rt.alloc(), &steps);
 }
 
 const MOVED: Body = Body::Repart { at: 0x6170_0000 };
 
-// The first group, after it gave what lies from `az` on.
-fn giver<R: Abort>(rt: &R, alloc: Global) -> Result<Machine, Fail> {
-    let mut first = machine(alloc, FIRST, Lock::Free)?;
-    step(rt, &mut first, put(alloc, 1, b"a")?, "done")?;
-    step(rt, &mut first, put(alloc, 2, b"az")?, "done")?;
-    step(rt, &mut first, begin(TX, MOVED), "changed")?;
-    step(rt, &mut first, yes(alloc)?, "given")?;
-    Ok(first)
+// By which the first group gives what lies from `az` on.
+const GIVING: &[Step] = &[
+    (Ask::Put(1, b"a"), "done"),
+    (Ask::Put(2, b"az"), "done"),
+    (Ask::Begin(TX, MOVED), "changed"),
+    (Ask::Yes, "given"),
+];
+
+#[test]
+fn a_boundary_moves_with_its_pairs(rt: HostRuntime) {
+    let mut first = first_group(&rt, rt.alloc());
+    take(&rt, rt.alloc(), &mut first, GIVING);
+    let after: [Step; 2] = [
+        (Ask::Put(1, b"a"), "again"),
+        (Ask::Put(2, b"az"), "not mine"),
+    ];
+    take(&rt, rt.alloc(), &mut first, &after);
 }
 
-// What the first group decided.
-fn decided(alloc: Global, machine: &Machine) -> Result<Command, Fail> {
-    for entry in machine.core().decided.as_slice() {
-        let outcome = entry.1.dup(alloc)?;
-        return Ok(Command::Finish { tx: TX, outcome });
+// What a group decided, if it decided one transaction.
+fn decided(rt: &impl Abort, alloc: Global, machine: &Machine) -> Outcome {
+    match machine.core().decided.as_slice() {
+        [entry] => entry.1.dup(alloc).expect(rt, "memory"),
+        _ => panic!(rt; "not one outcome"),
     }
-    Err(Fail::from("nothing is decided"))
 }
 
-#[test]
-fn a_boundary_moves_with_its_pairs(rt: HostRuntime) -> Result<(), Fail> {
-    let alloc = rt.alloc();
-    let mut first = giver(&rt, alloc)?;
-    step(&rt, &mut first, put(alloc, 1, b"a")?, "again")?;
-    step(&rt, &mut first, put(alloc, 2, b"az")?, "not mine")?;
-    Ok(())
-}
-
-#[test]
-fn a_gift_comes_with_its_clients(rt: HostRuntime) -> Result<(), Fail> {
-    let alloc = rt.alloc();
-    let finish = decided(alloc, &giver(&rt, alloc)?)?;
-    let mut second = machine(alloc, SECOND, Lock::Free)?;
-    step(&rt, &mut second, prepared(TX, MOVED)?, "yes")?;
-    step(&rt, &mut second, put(alloc, 3, b"c")?, "no effect")?;
-    let divided = Command::Finish {
+// The gift of the first group, as the second finishes with it.
+fn gift(rt: &impl Abort, alloc: Global) -> Command {
+    let mut first = first_group(rt, alloc);
+    take(rt, alloc, &mut first, GIVING);
+    Command::Finish {
         tx: TX,
-        outcome: Outcome::Divided,
-    };
-    step(&rt, &mut second, divided, "no effect")?;
-    step(&rt, &mut second, finish, "given")?;
-    step(&rt, &mut second, put(alloc, 2, b"az")?, "again")?;
-    step(&rt, &mut second, prepared(TX, MOVED)?, "no effect")?;
-    Ok(())
+        outcome: decided(rt, alloc, &first),
+    }
 }
 
 #[test]
-fn a_merge_waits_for_its_watcher(rt: HostRuntime) -> Result<(), Fail> {
-    let alloc = rt.alloc();
-    let mut first = machine(alloc, FIRST, Lock::Free)?;
-    step(&rt, &mut first, begin(TX, Body::Merge), "changed")?;
-    step(&rt, &mut first, yes(alloc)?, "changed")?;
-    step(&rt, &mut first, yes(alloc)?, "no effect")?;
-    let watched = Command::RecordWatch {
-        tx: TX,
-        vote: Past::Yes,
-        by: 3,
-    };
-    step(&rt, &mut first, watched, "merged")?;
-    step(&rt, &mut first, put(alloc, 3, b"c")?, "done")?;
-    Ok(())
+fn a_gift_comes_with_its_clients(rt: HostRuntime) {
+    let before: [Step; 3] = [
+        (Ask::Prepared(TX, MOVED), "yes"),
+        (Ask::Put(3, b"c"), "no effect"),
+        (Ask::Divided, "no effect"),
+    ];
+    let after: [Step; 2] = [
+        (Ask::Put(2, b"az"), "again"),
+        (Ask::Prepared(TX, MOVED), "no effect"),
+    ];
+    let mut second = second_group(&rt, rt.alloc());
+    take(&rt, rt.alloc(), &mut second, &before);
+    let finish = gift(&rt, rt.alloc());
+    let effect = effect_of(&rt, &mut second, &finish);
+    assert_eq!(rt; effect, "given");
+    take(&rt, rt.alloc(), &mut second, &after);
+}
+
+#[test]
+fn a_merge_waits_for_its_watcher(rt: HostRuntime) {
+    let steps: [Step; 5] = [
+        (Ask::Begin(TX, Body::Merge), "changed"),
+        (Ask::Yes, "changed"),
+        (Ask::Yes, "no effect"),
+        (Ask::WatchedYes, "merged"),
+        (Ask::Put(3, b"c"), "done"),
+    ];
+    take_by_first(&rt, rt.alloc(), &steps);
 }

@@ -17,6 +17,8 @@ use std::process::ExitCode;
 use std::{env, io};
 
 #[cfg(test)]
+mod history_tests;
+#[cfg(test)]
 mod replay_tests;
 #[cfg(test)]
 mod tests;
