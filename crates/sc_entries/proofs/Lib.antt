@@ -1,0 +1,6 @@
+mod Nothing
+mod WorkedBoundaries
+mod WorkedMerges
+mod WorkedMoves
+mod WorkedSplits
+pub mod Worked

@@ -1,0 +1,49 @@
+-- The effective record of a group, and which keys it serves.
+use Rattle.std.specs.Prelude.{ℕ, Bool, true, false, ◌&&◌, is_none, List, if◌then◌else◌, Option, Some, None}
+use Rattle.std.specs.Option.{option_map}
+use Rattle.sc_base.specs.declared.names.Draw.{Draw}
+use Rattle.sc_cmd.specs.declared.commands.Command.TheVariants.{Finish}
+use Rattle.sc_cmd.specs.declared.cores.Lock.{Lock}
+use Rattle.sc_cmd.specs.declared.cores.Lock.TheVariants.{Free, Coordinating, Promised, Watching}
+use Rattle.sc_cmd.specs.declared.votes.Outcome.{Outcome}
+use Rattle.sc_cmd.specs.declared.votes.Outcome.TheVariants.{Abort, Merged, Moved, Migrated, Divided}
+use Rattle.sc_ideal.specs.IdealStore.{holds_key}
+use Rattle.sc_machine_table.specs.Group.{Group}
+use Rattle.sc_machine_table.specs.Machine.{applied}
+use Rattle.sc_entries.specs.Decisions.{Transaction, decision}
+use Rattle.sc_entries.specs.Worlds.{World, group_in}
+
+-- whether an outcome is a commit: each but an abort
+abbrev pub is_commit : Outcome → Bool
+is_commit Abort = false
+is_commit (Merged into) = true
+is_commit (Moved at gift) = true
+is_commit (Migrated node) = true
+is_commit Divided = true
+
+-- a group after what its transaction decided: as after Finish where that is a commit, and else as it is
+abbrev pub settled : Option Outcome → Draw → Group → Group
+settled None tx group = group
+settled (Some outcome) tx group = if is_commit outcome then (applied group (Finish tx outcome)).0 else group
+
+-- a group by its lock: one that has promised or watches goes by what was decided, whether it has heard of it or not
+abbrev pub settled_in : Lock → List Transaction → Group → Group
+settled_in Free transactions group = group
+settled_in (Coordinating tx body order heard) transactions group = group
+settled_in (Promised tx offer) transactions group = settled (decision tx transactions) tx group
+settled_in (Watching tx watch) transactions group = settled (decision tx transactions) tx group
+
+-- the effective record of a group in a world, if it was born: as its own log makes it and as what was decided elsewhere makes it
+abbrev pub effective : World → Draw → Option Group
+effective world name = option_map (λ group. settled_in group.core.lock world.transactions group) (group_in name world.groups)
+
+-- whether a group with this lock serves calls
+abbrev pub is_open : Lock → Bool
+is_open Free = true
+is_open (Coordinating tx body order heard) = false
+is_open (Promised tx offer) = false
+is_open (Watching tx watch) = true
+
+-- whether a group serves a key: its arc holds the key's position, its lock leaves it open, and it is not gone
+abbrev pub serves : Group → List ℕ → Bool
+serves group key = holds_key group.core.arc key && is_open group.core.lock && is_none group.core.gone
