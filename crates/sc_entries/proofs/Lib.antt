@@ -1,5 +1,6 @@
 mod Nothing
 mod WorkedBoundaries
+mod WorkedCalls
 mod WorkedMerges
 mod WorkedMoves
 mod WorkedSplits

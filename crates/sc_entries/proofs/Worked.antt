@@ -8,9 +8,9 @@ use Rattle.sc_cmd.specs.declared.commands.Command.{Command}
 use Rattle.sc_cmd.specs.declared.cores.Base.{Base}
 use Rattle.sc_cmd.specs.declared.cores.Lock.TheVariants.{Free}
 use Rattle.sc_machine_table.specs.Group.{Group}
-use Rattle.sc_entries.specs.Entries.{LogEntry}
+use Rattle.sc_entries.specs.declared.LogEntry.{LogEntry}
 use Rattle.sc_entries.specs.Effective.{effective}
-use Rattle.sc_entries.specs.Rings.{Cut}
+use Rattle.sc_entries.specs.declared.Cut.{Cut}
 use Rattle.sc_entries.specs.Worlds.{World, told}
 
 -- a name
@@ -28,7 +28,7 @@ born name lo len members succ after pred before = record {
     succ = record { group = draw 0 succ; members = after };
     pred = record { group = draw 0 pred; members = before };
     lock = Free;
-    begun = 0;
+    begun_transaction = 0;
     decided = [];
     voted = [];
     born = [];

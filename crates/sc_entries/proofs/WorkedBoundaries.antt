@@ -16,10 +16,10 @@ use Rattle.sc_machine_table.specs.Group.{Group, group_of}
 use Rattle.sc_machine_table.specs.Machine.{applied}
 use Rattle.sc_machine_table.specs.Plans.{given, has_key_of, taking_group}
 use Rattle.sc_machine_table.specs.Transactions.{committed}
-use Rattle.sc_entries.specs.Decisions.{Transaction}
-use Rattle.sc_entries.specs.Effective.{settled}
-use Rattle.sc_entries.specs.Entries.{LogEntry}
-use Rattle.sc_entries.specs.Worlds.{World, first_world, world_of, world_after, landed}
+use Rattle.sc_entries.specs.declared.Transaction.{Transaction}
+use Rattle.sc_entries.specs.Effective.{after_outcome}
+use Rattle.sc_entries.specs.declared.LogEntry.{LogEntry}
+use Rattle.sc_entries.specs.Worlds.{World, first_world, world_of, world_after, with_result}
 use Rattle.sc_entries.proofs.Nothing.{nothing_in, nothing_on}
 use Rattle.sc_entries.proofs.Worked.{draw, born, entry, cut, shown, seen, Shape, shape, shapes}
 
@@ -74,7 +74,7 @@ nothing_given =
 
 -- what is seen of the participant after the decision, by the gift
 abbrev near_participant : Gift → Group
-near_participant gift = settled (Some (Moved 1677721600 (Some gift))) (draw 1 1) (applied (group_of two) near_promises).0
+near_participant gift = after_outcome (Some (Moved 1677721600 (Some gift))) (draw 1 1) (applied (group_of two) near_promises).0
 
 near_is : shapes (first_world pair) near_entries ≡ at_first ∷ at_first ∷ at_first ∷ near_second ∷ near_second ∷ []
 near_is = ap
@@ -123,8 +123,8 @@ takes : applied far_group far_records ≡ far_taken false
 takes = ap (λ pairs. far_taken (has_key_of far_group.pairs pairs)) (nothing_on (before its_yes.arc 3000000000))
 
 far_is : shapes (first_world pair) far_entries ≡ at_first ∷ at_first ∷ at_first ∷ far_second ∷ far_second ∷ []
-far_is = ap (λ result. at_first ∷ at_first ∷ at_first ∷ shapes (landed far_world far_group far_records result) (far_finishes ∷ [])) takes
+far_is = ap (λ result. at_first ∷ at_first ∷ at_first ∷ shapes (with_result far_world far_group far_records result) (far_finishes ∷ [])) takes
 
 far_tells : (world_of pair far_entries).transactions
     ≡ record { tx = draw 1 1; coordinator = draw 0 1; body = Repart 3000000000; participant = Some (draw 0 2); watcher = None; outcome = Some (Moved 3000000000 None) } ∷ []
-far_tells = ap (λ result. (world_after (landed far_world far_group far_records result) (far_finishes ∷ [])).transactions) takes
+far_tells = ap (λ result. (world_after (with_result far_world far_group far_records result) (far_finishes ∷ [])).transactions) takes

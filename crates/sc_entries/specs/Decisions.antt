@@ -14,22 +14,8 @@ use Rattle.sc_cmd.specs.declared.votes.Outcome.{Outcome}
 use Rattle.sc_cmd.specs.declared.votes.Vote.{Vote}
 use Rattle.sc_cmd.specs.declared.votes.Vote.TheVariants.{Yes, No}
 use Rattle.sc_machine_table.specs.Orders.{is_alone}
+use Rattle.sc_entries.specs.declared.Transaction.{Transaction}
 use Rattle.sc_entries.specs.Births.{is_changed}
-
--- a transaction
-pub record Transaction : Type 0 where
-  -- its name
-  pub tx : Draw
-  -- the group that coordinates it: its log has the Begin, or the Split that only locks
-  pub coordinator : Draw
-  -- what it is to do
-  pub body : Body
-  -- the group that is asked to take part, the coordinator's successor then: none of a split
-  pub participant : Option Draw
-  -- the group that has another one before it afterwards: of a split the successor, of a merge the successor of the participant that was heard
-  pub watcher : Option Draw
-  -- what its coordinator has decided; open while there is none
-  pub outcome : Option Outcome
 
 -- what an effect decides, if it decides something
 abbrev pub outcome_in : Effect → Option Outcome
@@ -39,8 +25,8 @@ outcome_in _ = None
 -- ---- how each entry of a coordinator adds to what is told of its transaction
 
 -- a transaction that a group begins with its successor
-abbrev pub begun : Core → Draw → Body → Transaction
-begun core tx body = record { tx = tx; coordinator = core.id; body = body; participant = Some core.succ.group; watcher = None; outcome = None }
+abbrev pub begun_transaction : Core → Draw → Body → Transaction
+begun_transaction core tx body = record { tx = tx; coordinator = core.id; body = body; participant = Some core.succ.group; watcher = None; outcome = None }
 
 -- a split that a group begins, which its successor is to watch
 abbrev pub begun_split : Core → ℕ → Draw → Transaction
@@ -74,7 +60,7 @@ concluded (Some outcome) tx coordinator transactions = amended tx coordinator (w
 
 -- the transactions after an entry of the log of a group, whose record was this before: what a Begin, or a Split of a group that is not its own successor, begins where it changes the group; the watcher, where a participant's Yes is heard and does not decide; and the outcome, where a vote or giving up decides
 abbrev pub transactions_after : Core → Command → Effect → List Transaction → List Transaction
-transactions_after core (Begin tx body order) effect transactions = if is_changed effect then transactions ++ begun core tx body ∷ [] else transactions
+transactions_after core (Begin tx body order) effect transactions = if is_changed effect then transactions ++ begun_transaction core tx body ∷ [] else transactions
 transactions_after core (Split at child order) effect transactions =
     if is_changed effect && not (is_alone core) then transactions ++ begun_split core at child ∷ [] else transactions
 transactions_after core (RecordVote tx vote by) effect transactions =

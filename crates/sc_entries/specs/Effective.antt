@@ -10,8 +10,9 @@ use Rattle.sc_cmd.specs.declared.votes.Outcome.TheVariants.{Abort, Merged, Moved
 use Rattle.sc_ideal.specs.IdealStore.{holds_key}
 use Rattle.sc_machine_table.specs.Group.{Group}
 use Rattle.sc_machine_table.specs.Machine.{applied}
-use Rattle.sc_entries.specs.Decisions.{Transaction, decision}
-use Rattle.sc_entries.specs.Worlds.{World, group_in}
+use Rattle.sc_entries.specs.declared.Transaction.{Transaction}
+use Rattle.sc_entries.specs.Decisions.{decision}
+use Rattle.sc_entries.specs.Worlds.{World, named_group}
 
 -- whether an outcome is a commit: each but an abort
 abbrev pub is_commit : Outcome → Bool
@@ -22,20 +23,20 @@ is_commit (Migrated node) = true
 is_commit Divided = true
 
 -- a group after what its transaction decided: as after Finish where that is a commit, and else as it is
-abbrev pub settled : Option Outcome → Draw → Group → Group
-settled None tx group = group
-settled (Some outcome) tx group = if is_commit outcome then (applied group (Finish tx outcome)).0 else group
+abbrev pub after_outcome : Option Outcome → Draw → Group → Group
+after_outcome None tx group = group
+after_outcome (Some outcome) tx group = if is_commit outcome then (applied group (Finish tx outcome)).0 else group
 
 -- a group by its lock: one that has promised or watches goes by what was decided, whether it has heard of it or not
-abbrev pub settled_in : Lock → List Transaction → Group → Group
-settled_in Free transactions group = group
-settled_in (Coordinating tx body order heard) transactions group = group
-settled_in (Promised tx offer) transactions group = settled (decision tx transactions) tx group
-settled_in (Watching tx watch) transactions group = settled (decision tx transactions) tx group
+abbrev pub effective_by : Lock → List Transaction → Group → Group
+effective_by Free transactions group = group
+effective_by (Coordinating tx body order heard) transactions group = group
+effective_by (Promised tx offer) transactions group = after_outcome (decision tx transactions) tx group
+effective_by (Watching tx watch) transactions group = after_outcome (decision tx transactions) tx group
 
 -- the effective record of a group in a world, if it was born: as its own log makes it and as what was decided elsewhere makes it
 abbrev pub effective : World → Draw → Option Group
-effective world name = option_map (λ group. settled_in group.core.lock world.transactions group) (group_in name world.groups)
+effective world name = option_map (λ group. effective_by group.core.lock world.transactions group) (named_group name world.groups)
 
 -- whether a group with this lock serves calls
 abbrev pub is_open : Lock → Bool

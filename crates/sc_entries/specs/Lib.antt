@@ -1,6 +1,5 @@
 pub mod Births
 pub mod Decisions
 pub mod Effective
-pub mod Entries
 pub mod Rings
 pub mod Worlds

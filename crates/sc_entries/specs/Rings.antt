@@ -9,19 +9,14 @@ use Rattle.sc_base.specs.declared.names.Draw.{Draw}
 use Rattle.sc_cmd.specs.declared.commands.Command.{Command}
 use Rattle.sc_cmd.specs.declared.commands.Command.TheVariants.{Noop, Call, Join, Leave, Split, Begin, Prepared, RecordVote, GiveUp, Finish, Watched, RecordWatch}
 use Rattle.sc_cmd.specs.declared.cores.Base.{Base}
+use Rattle.sc_cmd.specs.declared.cores.Core.{Core}
 use Rattle.sc_cmd.specs.declared.effects.Effect.{Effect}
 use Rattle.sc_cmd.specs.declared.votes.Outcome.{Outcome}
 use Rattle.sc_cmd.specs.declared.votes.Outcome.TheVariants.{Abort, Merged, Moved, Migrated, Divided}
-use Rattle.sc_machine_table.specs.Group.{Group}
-use Rattle.sc_entries.specs.Births.{Division, division_of}
+use Rattle.sc_entries.specs.declared.Cut.{Cut}
+use Rattle.sc_entries.specs.declared.Division.{Division}
+use Rattle.sc_entries.specs.Births.{division_of}
 use Rattle.sc_entries.specs.Decisions.{outcome_in}
-
--- a cut of the ring
-pub record Cut : Type 0 where
-  -- the positions of the cut
-  pub arc : Arc
-  -- the group that has them
-  pub group : Draw
 
 -- the ring covers: each position lies in the arc of exactly one cut, and no group has two
 pub record Covers (ring : List Cut) : Type 0 where
@@ -60,9 +55,9 @@ parts_of group division cut =
     else cut ∷ []
 
 -- the ring after a division of a group, if there is one
-abbrev pub divided : Option Division → Draw → List Cut → List Cut
-divided None group ring = ring
-divided (Some division) group ring = flat_map (parts_of group division) ring
+abbrev pub ring_divided : Option Division → Draw → List Cut → List Cut
+ring_divided None group ring = ring
+ring_divided (Some division) group ring = flat_map (parts_of group division) ring
 
 -- ---- a merge, and a boundary that moves
 
@@ -73,23 +68,23 @@ both_arcs (Some arc) None = None
 both_arcs None next = None
 
 -- the participant's cut is taken out, and the coordinator has both arcs
-abbrev pub merged : Option Arc → Draw → Draw → List Cut → List Cut
-merged None coordinator participant ring = ring
-merged (Some whole) coordinator participant ring = recut coordinator whole (filter (λ cut. not (is_cut_of participant cut)) ring)
+abbrev pub ring_merged : Option Arc → Draw → Draw → List Cut → List Cut
+ring_merged None coordinator participant ring = ring
+ring_merged (Some whole) coordinator participant ring = recut coordinator whole (filter (λ cut. not (is_cut_of participant cut)) ring)
 
 -- the coordinator has what lies before the boundary of both arcs, and the participant the rest
-abbrev pub moved : ℕ → Option Arc → Draw → Draw → List Cut → List Cut
-moved at None coordinator participant ring = ring
-moved at (Some whole) coordinator participant ring = recut coordinator (before whole at) (recut participant (from whole at) ring)
+abbrev pub ring_moved : ℕ → Option Arc → Draw → Draw → List Cut → List Cut
+ring_moved at None coordinator participant ring = ring
+ring_moved at (Some whole) coordinator participant ring = recut coordinator (before whole at) (recut participant (from whole at) ring)
 
 -- the ring after what a coordinator decides with its participant. A split is a division, and a member that moves on changes no arc.
-abbrev pub reshaped : Option Outcome → Draw → Draw → List Cut → List Cut
-reshaped None coordinator participant ring = ring
-reshaped (Some Abort) coordinator participant ring = ring
-reshaped (Some (Merged into)) coordinator participant ring = merged (both_arcs (arc_in coordinator ring) (arc_in participant ring)) coordinator participant ring
-reshaped (Some (Moved at gift)) coordinator participant ring = moved at (both_arcs (arc_in coordinator ring) (arc_in participant ring)) coordinator participant ring
-reshaped (Some (Migrated node)) coordinator participant ring = ring
-reshaped (Some Divided) coordinator participant ring = ring
+abbrev pub ring_decided : Option Outcome → Draw → Draw → List Cut → List Cut
+ring_decided None coordinator participant ring = ring
+ring_decided (Some Abort) coordinator participant ring = ring
+ring_decided (Some (Merged into)) coordinator participant ring = ring_merged (both_arcs (arc_in coordinator ring) (arc_in participant ring)) coordinator participant ring
+ring_decided (Some (Moved at gift)) coordinator participant ring = ring_moved at (both_arcs (arc_in coordinator ring) (arc_in participant ring)) coordinator participant ring
+ring_decided (Some (Migrated node)) coordinator participant ring = ring
+ring_decided (Some Divided) coordinator participant ring = ring
 
 -- ---- each entry
 
@@ -108,7 +103,7 @@ decided_by (GiveUp tx) effect = None
 decided_by (Finish tx outcome) effect = None
 decided_by (Watched tx watch) effect = None
 
--- the ring after an entry of the log of a group, as it was before: the participant is its successor, which stays while the group is locked
-abbrev pub ring_after : Group → Command → Effect → List Cut → List Cut
-ring_after group command effect ring =
-    divided (division_of group command effect) group.core.id (reshaped (decided_by command effect) group.core.id group.core.succ.group ring)
+-- the ring after an entry of the log of a group, whose record was this before: the participant is its successor, which stays while the group is locked
+abbrev pub ring_after : Core → Command → Effect → List Cut → List Cut
+ring_after core command effect ring =
+    ring_divided (division_of core command effect) core.id (ring_decided (decided_by command effect) core.id core.succ.group ring)

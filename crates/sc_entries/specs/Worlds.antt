@@ -11,9 +11,11 @@ use Rattle.sc_machine_table.specs.Group.{Group, group_of}
 use Rattle.sc_machine_table.specs.Logs.{entry_of}
 use Rattle.sc_machine_table.specs.Machine.{applied}
 use Rattle.sc_entries.specs.Births.{birth_of}
-use Rattle.sc_entries.specs.Decisions.{Transaction, transactions_after}
-use Rattle.sc_entries.specs.Entries.{LogEntry}
-use Rattle.sc_entries.specs.Rings.{Cut, first_cut, ring_after}
+use Rattle.sc_entries.specs.declared.Cut.{Cut}
+use Rattle.sc_entries.specs.declared.LogEntry.{LogEntry}
+use Rattle.sc_entries.specs.declared.Transaction.{Transaction}
+use Rattle.sc_entries.specs.Decisions.{transactions_after}
+use Rattle.sc_entries.specs.Rings.{first_cut, ring_after}
 
 -- all groups, after some entries
 pub record World : Type 0 where
@@ -35,8 +37,8 @@ abbrev pub is_named : Draw → Group → Bool
 is_named name group = same_draw group.core.id name
 
 -- the group with a name, if it was born
-abbrev pub group_in : Draw → List Group → Option Group
-group_in name = find (is_named name)
+abbrev pub named_group : Draw → List Group → Option Group
+named_group name = find (is_named name)
 
 -- the groups, with the one of this name replaced
 abbrev pub with_group : Draw → Group → List Group → List Group
@@ -47,22 +49,22 @@ abbrev pub groups_after : Group → Group → Option Base → List Group → Lis
 groups_after group after child groups = with_group group.core.id after groups ++ map group_of (option_to_list child)
 
 -- the world after an entry of the log of a group, as it was before, from what the table makes of it
-abbrev pub landed : World → Group → Command → Group × Effect → World
-landed world group command result = record {
+abbrev pub with_result : World → Group → Command → Group × Effect → World
+with_result world group command result = record {
   groups = groups_after group result.0 (birth_of group command result.1) world.groups;
   transactions = transactions_after group.core command result.1 world.transactions;
-  ring = ring_after group command result.1 world.ring;
+  ring = ring_after group.core command result.1 world.ring;
   history = world.history ++ entry_of command result.1;
 }
 
 -- the world after a command of a group that was found; a group that was not born executes nothing
-abbrev pub executed : World → Option Group → Command → World
-executed world None command = world
-executed world (Some group) command = landed world group command (applied group command)
+abbrev pub after_command : World → Option Group → Command → World
+after_command world None command = world
+after_command world (Some group) command = with_result world group command (applied group command)
 
 -- the world after one entry
 abbrev pub told : World → LogEntry → World
-told world entry = executed world (group_in entry.group world.groups) entry.command
+told world entry = after_command world (named_group entry.group world.groups) entry.command
 
 -- the world after the entries of all logs, in their order
 abbrev pub world_after : World → List LogEntry → World
