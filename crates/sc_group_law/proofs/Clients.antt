@@ -52,7 +52,14 @@ Made scenario rows (Call client seq op) = IsIssued scenario rows client seq op
 Made scenario rows Noop = Unit {0}
 Made scenario rows (Join node order) = Unit {0}
 Made scenario rows (Leave node order) = Unit {0}
-Made scenario rows _ = ⊥
+Made scenario rows (Split at child order) = ⊥
+Made scenario rows (Begin tx body order) = ⊥
+Made scenario rows (Prepared tx offer) = ⊥
+Made scenario rows (RecordVote tx vote by) = ⊥
+Made scenario rows (GiveUp tx) = ⊥
+Made scenario rows (Finish tx outcome) = ⊥
+Made scenario rows (Watched tx watch) = ⊥
+Made scenario rows (RecordWatch tx vote by) = ⊥
 
 issued_later : (scenario : Scenario) (rows : Journal) (row : Row Mail OrderLine) (client seq : ℕ) (op : Op) → IsIssued scenario rows client seq op → IsIssued scenario (rows ++ row ∷ []) client seq op
 issued_later scenario rows row client seq op i =
@@ -69,7 +76,7 @@ issued_later scenario rows row client seq op i =
       within = omega (arith, le, longer);
     }
 
--- nothing that is made divides the group
+-- what is made is what may be queued so far
 pub made_whole : (scenario : Scenario) (rows : Journal) (c : Command) → Made scenario rows c → LeavesWhole c
 made_whole scenario rows Noop m = tt
 made_whole scenario rows (Call client seq op) m = tt
@@ -91,7 +98,17 @@ grants ahead base scenario rows = record { noop = tt; joins = λ node order. tt;
 -- what was made stays made with one more row
 pub made_later : (scenario : Scenario) (rows : Journal) (row : Row Mail OrderLine) (c : Command) → Made scenario rows c → Made scenario (rows ++ row ∷ []) c
 made_later scenario rows row (Call client seq op) m = issued_later scenario rows row client seq op m
-made_later scenario rows row _ m = m
+made_later scenario rows row Noop m = tt
+made_later scenario rows row (Join node order) m = tt
+made_later scenario rows row (Leave node order) m = tt
+made_later scenario rows row (Split at child order) m = m
+made_later scenario rows row (Begin tx body order) m = m
+made_later scenario rows row (Prepared tx offer) m = m
+made_later scenario rows row (RecordVote tx vote by) m = m
+made_later scenario rows row (GiveUp tx) m = m
+made_later scenario rows row (Finish tx outcome) m = m
+made_later scenario rows row (Watched tx watch) m = m
+made_later scenario rows row (RecordWatch tx vote by) m = m
 
 issue_bound : (client seq before : ℕ) (rows : Journal) (i : ℕ) → issued_from client seq before rows ≡ Some i → i ≤ before + length rows
 issue_bound client seq before [] i e = cc

@@ -53,7 +53,7 @@ pub record LogTells (group : Group) (log : List Command) : Type 0 where
   pub places : (entry : Entry) → Among entry (done_by group log) → (place : ℕ) × IsDone group log place entry.client entry.seq
   pub once : (place other client seq : ℕ) → IsDone group log place client seq → IsDone group log other client seq → place ≡ other
 
--- a command that may be queued so far, and that divides no group: those of transactions come by no order yet
+-- a command that may be queued so far: it divides no group and begins no transaction
 abbrev pub LeavesWhole : Command → Type 0
 LeavesWhole Noop = Unit {0}
 LeavesWhole (Call client seq op) = Unit {0}
@@ -68,6 +68,6 @@ LeavesWhole (Finish tx outcome) = ⊥
 LeavesWhole (Watched tx watch) = ⊥
 LeavesWhole (RecordWatch tx vote by) = ⊥
 
--- each log that divides no group tells a history from an empty start
+-- each log of such commands tells a history from an empty start
 abbrev pub LogsTellHistories : Type 0
 LogsTellHistories = (group : Group) → IsEmpty group → (log : List Command) → Each LeavesWhole log → LogTells group log

@@ -6,13 +6,11 @@ ghost use Rattle.sc_ideal.specs.Clients.{seen_of};
 ghost use Rattle.sc_machine_table.specs.Group.{Group, base_of, group_of};
 ghost use Rattle.sc_machine_table.specs.Machine.{applied, called, served, numbered, done};
 ghost use Rattle.sc_machine_table.specs.Plans.{frozen_of};
-ghost use Rattle.sc_machine_table.specs.Splits.{CanSplit, child_of};
 
-use sc_base::{Draw, Dup, Op, OutOfMemory, RingArc};
+use sc_base::{Dup, Op, OutOfMemory, RingArc};
 use sc_clients::ClientTable;
 use sc_cmd::{Base, Command, Core, Effect, Frozen, Lock};
 use sc_ideal::Seen;
-use sc_split_merge::plan_split;
 use sc_store::Store;
 use std::alloc::Global;
 use std::marker::Model;
@@ -103,22 +101,6 @@ impl Machine {
         })
     }
 
-    /// The record of the child, where the group is split at `at`; to be taken before the entry that
-    /// splits is applied. `can_split` tells whether the group can be split there.
-    pub fn child(&self, at: u32, child: Draw) -> Result<Base, OutOfMemory>
-        requires { CanSplit self.now.core at }
-        ensures { IfOk result (λ base. base ≡ child_of self.now at child) }
-    {
-        let (_left, core) = plan_split(self.alloc, &self.core, at, child)?;
-        let pairs = self.store.part(&core.arc)?;
-        let clients = self.clients.list()?;
-        Ok(Base {
-            core,
-            pairs,
-            clients,
-        })
-    }
-
     /// Applies a command, by the group machine's table. After want of memory the machine may only be
     /// dropped.
     pub fn apply(&mut self, command: &Command) -> Result<Effect, OutOfMemory>
@@ -141,7 +123,10 @@ impl Machine {
     }
 
     pub(crate) fn call(&mut self, client: u16, seq: u32, op: &Op) -> Result<Effect, OutOfMemory>
-        ensures { IfOk result (λ effect. called self.old.core.gone self.old.core.lock self.old client seq op.now ≡ (self.new, effect)) }
+        ensures { IfOk result
+            (λ effect.
+            called self.old.core.gone self.old.core.lock self.old client seq op.now
+            ≡ (self.new, effect)) }
     {
         if let Some(into) = &self.core.gone {
             return Ok(Effect::Gone { into: *into });

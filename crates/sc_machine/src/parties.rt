@@ -45,21 +45,21 @@ fn closed(tx: Draw, vote: (Draw, Past)) -> (Draw, Past)
     vote
 }
 
-fn closed_votes(alloc: Global, core: &Core, tx: Draw) -> Result<VotedList, OutOfMemory>
-    ensures { IfOk result (λ votes. votes ≡ map (closed tx) core.now.voted) }
+fn closed_votes(alloc: Global, votes: &[(Draw, Past)], tx: Draw) -> Result<VotedList, OutOfMemory>
+    ensures { IfOk result (λ after. after ≡ map (closed tx) votes.now) }
 {
-    let mut votes = Sequence::new(alloc);
-    for vote in core.voted.as_slice() {
-        votes.push(closed(tx, *vote))?;
+    let mut after = Sequence::new(alloc);
+    for vote in votes {
+        after.push(closed(tx, *vote))?;
     }
-    Ok(votes)
+    Ok(after)
 }
 
 fn voted_after(alloc: Global, core: &Core, tx: Draw) -> Result<VotedList, OutOfMemory>
     ensures { IfOk result (λ votes. votes ≡ voted_after core.now tx) }
 {
     if has_voted(core, tx) {
-        return closed_votes(alloc, core, tx);
+        return closed_votes(alloc, core.voted.as_slice(), tx);
     }
     let mut votes = core.voted.dup(alloc)?;
     votes.push((tx, Past::Ended))?;
@@ -103,7 +103,8 @@ impl Machine {
     }
 
     pub(crate) fn finish(&mut self, tx: Draw, outcome: &Outcome) -> Result<Effect, OutOfMemory>
-        ensures { IfOk result (λ effect. finished self.old.core.lock self.old tx outcome.now ≡ (self.new, effect)) }
+        ensures { IfOk result
+            (λ effect. finished self.old.core.lock self.old tx outcome.now ≡ (self.new, effect)) }
     {
         match &self.core.lock {
             Lock::Promised { tx: locked, offer } => {
@@ -130,7 +131,10 @@ impl Machine {
         offer: &Offer,
         outcome: &Outcome,
     ) -> Result<Effect, OutOfMemory>
-        ensures { IfOk result (λ effect. settled_in (participant_after outcome.now self.old offer.now) self.old tx outcome.now ≡ (self.new, effect)) }
+        ensures { IfOk result
+            (λ effect.
+            settled_in (participant_after outcome.now self.old offer.now) self.old tx outcome.now
+            ≡ (self.new, effect)) }
     {
         if !self.take_outcome(offer, outcome)? {
             return Ok(Effect::NoEffect { tx });
@@ -145,7 +149,8 @@ impl Machine {
         watch: &Watch,
         outcome: &Outcome,
     ) -> Result<Effect, OutOfMemory>
-        ensures { IfOk result (λ effect. watch_ended outcome.now self.old tx watch.now ≡ (self.new, effect)) }
+        ensures { IfOk result
+            (λ effect. watch_ended outcome.now self.old tx watch.now ≡ (self.new, effect)) }
     {
         self.core.pred = pred_after(outcome, watch.next, self.core.pred);
         self.end(tx)?;
@@ -163,7 +168,10 @@ impl Machine {
 
     // Takes over an outcome; false where that cannot be made, and then nothing changes.
     fn take_outcome(&mut self, offer: &Offer, outcome: &Outcome) -> Result<bool, OutOfMemory>
-        ensures made { IfOk result (λ made. participant_after outcome.now self.old offer.now ≡ (if made then Some self.new else None)) }
+        ensures made { IfOk result
+            (λ made.
+            participant_after outcome.now self.old offer.now
+            ≡ (if made then Some self.new else None)) }
         ensures same { IfOk result (λ made. made ≡ false → self.new ≡ self.old) }
     {
         match outcome {
@@ -192,7 +200,9 @@ impl Machine {
         at: u32,
         gift: &Option<Gift>,
     ) -> Result<bool, OutOfMemory>
-        ensures made { IfOk result (λ made. moved gift.now self.old offer.now at ≡ (if made then Some self.new else None)) }
+        ensures made { IfOk result
+            (λ made.
+            moved gift.now self.old offer.now at ≡ (if made then Some self.new else None)) }
         ensures same { IfOk result (λ made. made ≡ false → self.new ≡ self.old) }
     {
         match gift {
@@ -202,7 +212,9 @@ impl Machine {
     }
 
     fn gain(&mut self, offer: &Offer, at: u32, gift: &Gift) -> Result<bool, OutOfMemory>
-        ensures made { IfOk result (λ made. gained self.old offer.now at gift.now ≡ (if made then Some self.new else None)) }
+        ensures made { IfOk result
+            (λ made.
+            gained self.old offer.now at gift.now ≡ (if made then Some self.new else None)) }
         ensures same { IfOk result (λ made. made ≡ false → self.new ≡ self.old) }
     {
         if self.store.has_any(&gift.pairs) {
