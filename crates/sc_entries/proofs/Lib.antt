@@ -1,4 +1,6 @@
+pub mod Children
 mod Nothing
+pub mod Pushes
 mod WorkedBoundaries
 mod WorkedCalls
 mod WorkedMerges

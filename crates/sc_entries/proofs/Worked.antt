@@ -28,7 +28,7 @@ born name lo len members succ after pred before = record {
     succ = record { group = draw 0 succ; members = after };
     pred = record { group = draw 0 pred; members = before };
     lock = Free;
-    begun_transaction = 0;
+    begun = 0;
     decided = [];
     voted = [];
     born = [];

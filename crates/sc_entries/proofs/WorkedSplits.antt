@@ -34,6 +34,10 @@ lone_is = refl
 lone_tells : (world_of lone lone_entries).transactions ≡ []
 lone_tells = refl
 
+-- A Split at the start of the arc is refused: it divides nothing.
+refused_is : shapes (first_world lone) (entry (draw 0 1) 1 (Split 0 (draw 1 1) 1) ∷ []) ≡ lone_first ∷ lone_first ∷ []
+refused_is = refl
+
 -- A group splits, and its successor watches.
 abbrev split : List Base
 split = born 1 0 2147483648 (1 ∷ 2 ∷ []) 2 (3 ∷ []) 2 (3 ∷ []) ∷ born 2 2147483648 2147483648 (3 ∷ []) 1 (1 ∷ 2 ∷ []) 1 (1 ∷ 2 ∷ []) ∷ []

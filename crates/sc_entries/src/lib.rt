@@ -1,6 +1,8 @@
 //! What the entries of all logs, in the order of the rows that decided them, make of all groups:
-//! their states, the ring, the transactions and the history. Definitions, no logic.
+//! their states, the ring, the transactions and the history. Definitions and a law, no logic.
 #![tactic(auto)]
+
+ghost use Rattle.sc_entries.specs.Laws.{BirthsAreChildren};
 
 use sc_base::{Draw, RingArc};
 use sc_cmd::{Body, Command, Outcome};
@@ -50,4 +52,20 @@ pub struct Cut {
     pub arc: RingArc,
     /// The group that has them.
     pub group: Draw,
+}
+
+/// The child that a command makes of a group, by the machine's table, is the group that its entry
+/// gives birth to, by its effect.
+pub fn births_are_children()
+    ensures { BirthsAreChildren }
+{}
+
+#[cfg(test)]
+mod tests {
+    use super::*;
+
+    #[test]
+    fn the_law_of_births_is_called() {
+        births_are_children();
+    }
 }
