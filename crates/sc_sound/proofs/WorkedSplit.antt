@@ -1,7 +1,5 @@
 -- The first rows of a journal in which a group that is its own successor splits: its groups, its entries and its ring, row by row, as a second implementation tells them.
 use Rattle.std.proofs.Common.{◌≡◌, ℕ, List, [], ◌∷◌, map, refl}
-use Rattle.sc_base.specs.declared.names.Ballot.{Ballot}
-use Rattle.sc_base.specs.declared.names.Draw.{Draw}
 use Rattle.sc_cmd.specs.declared.commands.Command.{Command}
 use Rattle.sc_cmd.specs.declared.commands.Command.TheVariants.{Split}
 use Rattle.sc_cmd.specs.declared.cores.Base.{Base}

@@ -27,7 +27,7 @@ use Rattle.sc_entries.specs.Effective.{effective, serves}
 use Rattle.sc_entries.specs.Rings.{Covers}
 use Rattle.sc_entries.specs.Worlds.{World, named_group}
 use Rattle.sc_sound.specs.Accepts.{accepts}
-use Rattle.sc_sound.specs.GroupsOf.{groups_at, log_at, state_at, world_at, ring_at, history_at}
+use Rattle.sc_sound.specs.GroupsOf.{groups_at, log_at, state_at, world_at, history_at}
 use Rattle.sc_sound.specs.Logs.{rule_of, IsChosenIn, decided_log}
 use Rattle.sc_sound.specs.Requests.{IsRequest, issue_row, kept_reply, answer_row}
 
