@@ -13,25 +13,24 @@ fn two_reads(
     alloc: Global,
     failing: &[u64],
     most: u64,
-) -> Result<[Result<usize, ReadFault>; 2], OutOfMemory> {
+) -> Result<(Result<usize, ReadFault>, Result<usize, ReadFault>), OutOfMemory> {
     let mut source = MemSource::new(alloc, b"scatter", failing)?;
     let first = read_len(alloc, &mut source, most);
-    Ok([first, read_len(alloc, &mut source, 100)])
+    Ok((first, read_len(alloc, &mut source, 100)))
 }
 
 #[test]
 fn a_source_is_read_to_its_end_or_past_the_limit(rt: HostRuntime) -> Result<(), Fail> {
-    assert_eq!(rt; two_reads(rt.alloc(), &[], 100)?, [Ok(7), Ok(0)]);
-    assert_eq!(rt; two_reads(rt.alloc(), &[], 3)?, [Ok(4), Ok(3)]);
+    assert!(rt; two_reads(rt.alloc(), &[], 100)? == (Ok(7), Ok(0)));
+    assert!(rt; two_reads(rt.alloc(), &[], 3)? == (Ok(4), Ok(3)));
     Ok(())
 }
 
 #[test]
 fn a_source_fails_at_once_or_in_mid_stream(rt: HostRuntime) -> Result<(), Fail> {
-    for failing in [1, 2] {
-        let [first, _] = two_reads(rt.alloc(), &[failing], 100)?;
-        assert_eq!(rt; first, Err(ReadFault::Failed));
-    }
+    let failed = Err(ReadFault::Failed);
+    assert!(rt; two_reads(rt.alloc(), &[1], 100)?.0 == failed);
+    assert!(rt; two_reads(rt.alloc(), &[2], 100)?.0 == failed);
     Ok(())
 }
 
@@ -67,9 +66,8 @@ fn a_sink_holds_what_was_put_before_it_failed(rt: HostRuntime) -> Result<(), Fai
 #[test]
 fn readers_and_writers_of_std_serve(rt: HostRuntime) {
     let mut source = StdSource::new(&b"scatter"[..]);
-    assert_eq!(rt; read_len(rt.alloc(), &mut source, 100), Ok(7));
+    assert!(rt; read_len(rt.alloc(), &mut source, 100) == Ok(7));
     let mut room = [0u8; 13];
     let mut sink = StdSink::new(&mut room[..]);
-    assert_eq!(rt; put_twice(&mut sink), Ok(()));
-    assert_eq!(rt; put_twice(&mut sink), Err(Failed));
+    assert!(rt; put_twice(&mut sink).is_ok() && put_twice(&mut sink) == Err(Failed));
 }

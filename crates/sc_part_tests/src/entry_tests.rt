@@ -1,7 +1,6 @@
 use sc_base::{Dup, Key, KeyFault, Op, Reply, Value};
 use sc_ideal::Entry;
 use std::alloc::Global;
-use std::test::Fail;
 
 fn entry(alloc: Global) -> Result<Entry, KeyFault> {
     let key = Key::try_new(alloc, b"a")?;
@@ -22,8 +21,10 @@ fn is_copied(alloc: Global, entry: &Entry) -> bool {
 }
 
 #[test]
-fn entries_are_copied(rt: HostRuntime) -> Result<(), Fail> {
-    let entry = entry(rt.alloc())?;
-    assert!(rt; is_copied(rt.alloc(), &entry));
-    Ok(())
+fn entries_are_copied(rt: HostRuntime) {
+    let is_same = match entry(rt.alloc()) {
+        Ok(entry) => is_copied(rt.alloc(), &entry),
+        Err(_) => false,
+    };
+    assert!(rt; is_same);
 }

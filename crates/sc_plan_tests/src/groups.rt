@@ -22,27 +22,32 @@ pub fn nodes_to(last: u16) -> Members {
     members
 }
 
-/// A group of these members with the same neighbour on both sides.
+/// A group with the members from 1 to `last`, as a neighbour.
+fn link(group: Draw, last: u16) -> Link {
+    Link {
+        group,
+        members: nodes_to(last),
+    }
+}
+
+/// A group with the members from 1 to `last` on an arc, with the same neighbour on both sides.
 pub fn group(
     alloc: Global,
-    (members, arc): (Members, RingArc),
-    (neighbour, begun): (Draw, u32),
+    last: u16,
+    arc: RingArc,
+    neighbour: Draw,
     lock: Lock,
     decided: DecidedList,
 ) -> Core {
-    let link = Link {
-        group: neighbour,
-        members,
-    };
     Core {
         id: GROUP,
         first: 1,
         arc,
-        members,
-        succ: link,
-        pred: link,
+        members: nodes_to(last),
+        succ: link(neighbour, last),
+        pred: link(neighbour, last),
         lock,
-        begun,
+        begun: 7,
         decided,
         voted: Sequence::new(alloc),
         born: Sequence::new(alloc),

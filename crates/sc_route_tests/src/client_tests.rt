@@ -143,12 +143,24 @@ fn only_request(mails: &Sequence<Mail>) -> Sent {
 fn sent_at<A: Actor<Mail = Mail, Order = OrderLine>>(
     alloc: Global,
     actor: &mut A,
-    given: Given,
+    input: &Input<Mail, OrderLine>,
 ) -> Option<Sent> {
-    let input = input(given)?;
-    match actor.step(alloc, &input) {
+    match actor.step(alloc, input) {
         Ok(mails) => Some(only_request(&mails)),
         Err(_) => None,
+    }
+}
+
+/// Whether the actor sends that at an input.
+fn sends<A: Actor<Mail = Mail, Order = OrderLine>>(
+    alloc: Global,
+    actor: &mut A,
+    given: Given,
+    wanted: Sent,
+) -> bool {
+    match input(given) {
+        Some(input) => sent_at(alloc, actor, &input) == Some(wanted),
+        None => false,
     }
 }
 
@@ -159,16 +171,27 @@ fn first_wrong<A: Actor<Mail = Mail, Order = OrderLine>>(
     rows: &[(Given, Sent)],
 ) -> Option<usize> {
     for (place, (given, sent)) in rows.iter().enumerate() {
-        if sent_at(alloc, actor, *given) != Some(*sent) {
+        if !sends(alloc, actor, *given, *sent) {
             return Some(place);
         }
     }
     None
 }
 
+/// The place of the first input at which a new client does otherwise, and then the number of the
+/// request that waits and how many replies it has; none where it has not kept its two requests.
+fn ended(alloc: Global, rows: &[(Given, Sent)]) -> Option<(Option<usize>, Option<u32>, usize)> {
+    let mut client = client(alloc)?;
+    let wrong = first_wrong(alloc, &mut client, rows);
+    if client.requests().len() == 2 {
+        Some((wrong, client.waiting(), client.replies().len()))
+    } else {
+        None
+    }
+}
+
 #[test]
 fn client_hints_and_stale_not_mine(rt: HostRuntime) -> Result<(), Fail> {
-    let mut client = client(rt.alloc()).ok_or("a client")?;
     let rows = [
         (Given::Go, Some((1, 1, 1))),
         (
@@ -180,13 +203,15 @@ fn client_hints_and_stale_not_mine(rt: HostRuntime) -> Result<(), Fail> {
         (Given::Answer(1, 1, 1, Told::NotMine), None),
         (Given::Answer(4, 2, 1, Told::Gone), Some((7, 5, 1))),
     ];
-    assert_eq!(rt; first_wrong(rt.alloc(), &mut client, &rows), None);
+    assert_eq!(rt;
+        ended(rt.alloc(), &rows).ok_or("a client")?,
+        (None, Some(1), 0)
+    );
     Ok(())
 }
 
 #[test]
 fn answers_of_others_are_ignored(rt: HostRuntime) -> Result<(), Fail> {
-    let mut client = client(rt.alloc()).ok_or("a client")?;
     let rows = [
         (Given::Answer(1, 1, 1, Told::Value), None),
         (Given::Tick, None),
@@ -202,14 +227,15 @@ fn answers_of_others_are_ignored(rt: HostRuntime) -> Result<(), Fail> {
             Some((2, 1, 1)),
         ),
     ];
-    assert_eq!(rt; first_wrong(rt.alloc(), &mut client, &rows), None);
-    assert!(rt; client.waiting() == Some(1) && client.replies().len() == 0);
+    assert_eq!(rt;
+        ended(rt.alloc(), &rows).ok_or("a client")?,
+        (None, Some(1), 0)
+    );
     Ok(())
 }
 
 #[test]
 fn replies_are_kept_in_turn(rt: HostRuntime) -> Result<(), Fail> {
-    let mut client = client(rt.alloc()).ok_or("a client")?;
     let rows = [
         (Given::Go, Some((1, 1, 1))),
         (Given::Answer(2, 9, 1, Told::Value), Some((1, 1, 2))),
@@ -217,8 +243,9 @@ fn replies_are_kept_in_turn(rt: HostRuntime) -> Result<(), Fail> {
         (Given::Answer(1, 1, 2, Told::Value), None),
         (Given::Tick, None),
     ];
-    assert_eq!(rt; first_wrong(rt.alloc(), &mut client, &rows), None);
-    assert!(rt; client.waiting() == None && client.replies().len() == 2);
-    assert!(rt; client.requests().len() == 2);
+    assert_eq!(rt;
+        ended(rt.alloc(), &rows).ok_or("a client")?,
+        (None, None, 2)
+    );
     Ok(())
 }

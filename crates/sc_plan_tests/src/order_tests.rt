@@ -1,7 +1,7 @@
 ghost use Rattle.std.specs.Prelude.{◌≡◌, true};
 ghost use Rattle.sc_txn.specs.Checked.{is_checked};
 
-use crate::groups::{CHILD, GROUP, OTHER, group, nodes_to};
+use crate::groups::{CHILD, GROUP, OTHER, group};
 use sc_base::{Draw, RingArc, Sequence};
 use sc_cmd::{Body, Command, Core, Lock};
 use sc_txn::check;
@@ -41,20 +41,34 @@ fn answer(core: &Core, ask: Ask) -> u8 {
     }
 }
 
-/// What a group with this lock answers.
-fn answer_of(alloc: Global, (count, neighbour, begun): Asked, lock: Lock, ask: Ask) -> Option<u8> {
-    let Ok(arc) = RingArc::try_new(100, 100) else {
-        return None;
-    };
-    let place = (nodes_to(count), arc);
-    let core = group(alloc, place, (neighbour, begun), lock, Sequence::new(alloc));
+/// A lock of a group that coordinates a merge, or none.
+fn lock(is_locked: bool) -> Lock {
+    if is_locked {
+        Lock::Coordinating {
+            tx: CHILD,
+            body: Body::Merge,
+            order: 1,
+            heard: None,
+        }
+    } else {
+        Lock::Free
+    }
+}
+
+/// What a group answers, which may be locked.
+fn answer_of(alloc: Global, asked: Asked, is_locked: bool, ask: Ask) -> Option<u8> {
+    let arc = RingArc::try_new(100, 100).ok()?;
+    let (last, neighbour, begun) = asked;
+    let decided = Sequence::new(alloc);
+    let mut core = group(alloc, last, arc, neighbour, lock(is_locked), decided);
+    core.begun = begun;
     Some(answer(&core, ask))
 }
 
 /// The place of the first order that a free group answers otherwise.
 fn first_wrong(alloc: Global, rows: &[(Asked, Ask, u8)]) -> Option<usize> {
-    for (place, (group, ask, code)) in rows.iter().enumerate() {
-        if answer_of(alloc, *group, Lock::Free, *ask) != Some(*code) {
+    for (place, (asked, ask, code)) in rows.iter().enumerate() {
+        if answer_of(alloc, *asked, false, *ask) != Some(*code) {
             return Some(place);
         }
     }
@@ -103,20 +117,10 @@ fn splits_are_refused_for_boundary_members_and_transactions_in_this_order(rt: Ho
     assert_eq!(rt; first_wrong(rt.alloc(), &rows), None);
 }
 
-/// A lock of a group that coordinates a merge.
-fn coordinating() -> Lock {
-    Lock::Coordinating {
-        tx: CHILD,
-        body: Body::Merge,
-        order: 1,
-        heard: None,
-    }
-}
-
 #[test]
 fn a_locked_group_refuses_before_all_else(rt: HostRuntime) {
     for ask in &[Ask::Join(1), Ask::Leave(2), Ask::Split(100)] {
-        let code = answer_of(rt.alloc(), (1, OTHER, 256), coordinating(), *ask);
+        let code = answer_of(rt.alloc(), (1, OTHER, 256), true, *ask);
         assert!(rt; code == Some(2));
     }
 }

@@ -1,4 +1,4 @@
-use crate::groups::{CHILD, GROUP, OTHER, group, nodes_to};
+use crate::groups::{CHILD, GROUP, OTHER, group};
 use sc_base::{Draw, OutOfMemory, RingArc, Sequence};
 use sc_cmd::{Core, DecidedList, Link, Lock, Outcome, same_draw};
 use sc_member::Members;
@@ -16,8 +16,7 @@ fn decided(alloc: Global) -> Result<DecidedList, OutOfMemory> {
 fn whole(alloc: Global, neighbour: Draw) -> Option<Core> {
     let arc = RingArc::try_new(0, 1 << 32).ok()?;
     let decided = decided(alloc).ok()?;
-    let place = (nodes_to(5), arc);
-    Some(group(alloc, place, (neighbour, 7), Lock::Free, decided))
+    Some(group(alloc, 5, arc, neighbour, Lock::Free, decided))
 }
 
 /// What a group and its child are, once it has split.
@@ -85,8 +84,7 @@ fn a_group_with_neighbours_keeps_the_outer_ones(rt: HostRuntime) -> Result<(), F
 /// Whether a group of the nodes from 1 to `last` on the positions from 100 to 199 can be split.
 fn can_be_split(alloc: Global, last: u16, at: u32) -> Option<bool> {
     let arc = RingArc::try_new(100, 100).ok()?;
-    let place = (nodes_to(last), arc);
-    let core = group(alloc, place, (GROUP, 7), Lock::Free, Sequence::new(alloc));
+    let core = group(alloc, last, arc, GROUP, Lock::Free, Sequence::new(alloc));
     Some(can_split(&core, at))
 }
 
