@@ -1,7 +1,10 @@
 //! An actor that passes what it gets on to the desk.
 ghost use Rattle.std.specs.Prelude.{[], ◌∷◌};
 
-use super::*;
+use sc_actor::{
+    Actor, Event, Gate, Input, Journal, Parcel, Row, Seat, journals_are_counted, journals_grow,
+    lawful_journals_grow, next_rows_are_steps,
+};
 use sc_base::{Dup, OutOfMemory, Sequence};
 use std::alloc::Global;
 use std::test::Fail;
