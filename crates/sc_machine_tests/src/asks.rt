@@ -4,7 +4,7 @@ use sc_base::{Draw, Key, Op, Pairs, SeenList, Value};
 use sc_cmd::{Body, Command, Effect, Gift, No, Outcome, Past, Route, Vote};
 use sc_member::Members;
 use std::alloc::Global;
-use std::test::Fail;
+use std::process::Abort;
 
 // What comes to the group.
 #[derive(Clone, Copy)]
@@ -37,12 +37,12 @@ pub(crate) enum End {
     Divided,
 }
 
-fn put(alloc: Global, seq: u32, key: &[u8]) -> Result<Command, Fail> {
+fn put(rt: &impl Abort, alloc: Global, seq: u32, key: &[u8]) -> Command {
     let op = Op::Put {
-        key: Key::try_new(alloc, key)?,
-        value: Value::try_new(alloc, b"x")?,
+        key: Key::try_new(alloc, key).expect(rt, "a key"),
+        value: Value::try_new(alloc, b"x").expect(rt, "a value"),
     };
-    Ok(Command::Call { client: 1, seq, op })
+    Command::Call { client: 1, seq, op }
 }
 
 fn outcome(alloc: Global, end: End) -> Outcome {
@@ -79,43 +79,41 @@ fn order(ask: Ask) -> Command {
     }
 }
 
-pub(crate) fn command(alloc: Global, ask: Ask) -> Result<Command, Fail> {
+pub(crate) fn command(rt: &impl Abort, alloc: Global, ask: Ask) -> Command {
     match ask {
-        Ask::Put(seq, key) => put(alloc, seq, key),
+        Ask::Put(seq, key) => put(rt, alloc, seq, key),
         Ask::Prepared(lo, members, body) => {
-            if members > 9 {
-                return Err(Fail::from("too many members"));
-            }
-            Ok(Command::Prepared {
+            assert!(rt; members <= 9);
+            Command::Prepared {
                 tx: TX,
-                offer: offer(lo, members, body)?,
-            })
+                offer: offer(rt, lo, members, body),
+            }
         }
-        Ask::Watched(old) => Ok(Command::Watched {
+        Ask::Watched(old) => Command::Watched {
             tx: TX,
             watch: watch(old),
-        }),
-        Ask::Yes(tx, succ) => Ok(Command::RecordVote {
+        },
+        Ask::Yes(tx, succ) => Command::RecordVote {
             tx,
-            vote: Vote::Yes(frozen(alloc, succ)?),
+            vote: Vote::Yes(frozen(rt, alloc, succ)),
             by: 11,
-        }),
-        Ask::No => Ok(Command::RecordVote {
+        },
+        Ask::No => Command::RecordVote {
             tx: TX,
             vote: Vote::No(No::Apart),
             by: 11,
-        }),
-        Ask::GiveUp => Ok(Command::GiveUp { tx: TX }),
-        Ask::Finish(end) => Ok(Command::Finish {
+        },
+        Ask::GiveUp => Command::GiveUp { tx: TX },
+        Ask::Finish(end) => Command::Finish {
             tx: TX,
             outcome: outcome(alloc, end),
-        }),
-        Ask::Watch(vote) => Ok(Command::RecordWatch {
+        },
+        Ask::Watch(vote) => Command::RecordWatch {
             tx: TX,
             vote,
             by: 11,
-        }),
-        _ => Ok(order(ask)),
+        },
+        _ => order(ask),
     }
 }
 

@@ -7,24 +7,19 @@ use crate::starts::{
 use sc_cmd::{Body, No, Past};
 use std::alloc::Global;
 use std::process::Abort;
-use std::test::Fail;
 
-fn was(alloc: Global, start: Start, ask: Ask) -> Result<Was, Fail> {
-    if start.members > 9 {
-        return Err(Fail::from("too many members"));
-    }
-    let mut machine = machine(alloc, start)?;
-    let command = command(alloc, ask)?;
-    let effect = machine.apply(&command)?;
-    Ok(brief(&effect))
+fn was(rt: &impl Abort, alloc: Global, start: Start, ask: Ask) -> Was {
+    assert!(rt; start.members <= 9);
+    let mut machine = machine(rt, alloc, start);
+    let command = command(rt, alloc, ask);
+    brief(&machine.apply(&command).expect(rt, "memory"))
 }
 
 // Each of these commands comes to a group that starts so, and has this effect.
-fn all_are<R: Abort>(rt: &R, alloc: Global, lines: &[(Start, Ask, Was)]) -> Result<(), Fail> {
+fn all_are(rt: &impl Abort, alloc: Global, lines: &[(Start, Ask, Was)]) {
     for (start, ask, effect) in lines {
-        assert_eq!(rt; was(alloc, *start, *ask)?, *effect);
+        assert_eq!(rt; was(rt, alloc, *start, *ask), *effect);
     }
-    Ok(())
 }
 
 // The position of the key `c`, in the middle of the arc.
@@ -35,7 +30,7 @@ const REPART: Body = Body::Repart { at: C };
 const SPLIT: Body = Body::Split { at: C, child: TX };
 
 #[test]
-fn calls(rt: HostRuntime) -> Result<(), Fail> {
+fn calls(rt: HostRuntime) {
     let noted = remembering(Memory::Put);
     all_are(
         &rt,
@@ -61,11 +56,11 @@ fn calls(rt: HostRuntime) -> Result<(), Fail> {
             (noted, Ask::Put(1, b"c"), Was::Stale),
             (noted, Ask::Put(3, b"c"), Was::Done),
         ],
-    )
+    );
 }
 
 #[test]
-fn orders_by_name_and_lock(rt: HostRuntime) -> Result<(), Fail> {
+fn orders_by_name_and_lock(rt: HostRuntime) {
     let (merge, gone) = (Ask::Begin(TX, Body::Merge), remembering(Memory::Gone));
     all_are(
         &rt,
@@ -99,11 +94,11 @@ fn orders_by_name_and_lock(rt: HostRuntime) -> Result<(), Fail> {
                 Was::Refused(2),
             ),
         ],
-    )
+    );
 }
 
 #[test]
-fn joins_and_leaves(rt: HostRuntime) -> Result<(), Fail> {
+fn joins_and_leaves(rt: HostRuntime) {
     all_are(
         &rt,
         rt.alloc(),
@@ -117,11 +112,11 @@ fn joins_and_leaves(rt: HostRuntime) -> Result<(), Fail> {
             (of(1), Ask::Leave(1), Was::Refused(7)),
             (FREE, Ask::Leave(1), Was::Changed),
         ],
-    )
+    );
 }
 
 #[test]
-fn splits(rt: HostRuntime) -> Result<(), Fail> {
+fn splits(rt: HostRuntime) {
     all_are(
         &rt,
         rt.alloc(),
@@ -134,11 +129,11 @@ fn splits(rt: HostRuntime) -> Result<(), Fail> {
             (alone(1), Ask::Split(TX, C), Was::Refused(7)),
             (alone(2), Ask::Split(TX, C), Was::Changed),
         ],
-    )
+    );
 }
 
 #[test]
-fn transactions_begin(rt: HostRuntime) -> Result<(), Fail> {
+fn transactions_begin(rt: HostRuntime) {
     let (moves, leaves) = (Body::Migrate { node: 1 }, Body::Migrate { node: 3 });
     all_are(
         &rt,
@@ -165,7 +160,7 @@ fn transactions_begin(rt: HostRuntime) -> Result<(), Fail> {
             (FREE, Ask::Begin(TX, Body::Repart { at: 0 }), Was::Changed),
             (FREE, Ask::Begin(TX, moves), Was::Changed),
         ],
-    )
+    );
 }
 
 // What the group votes on the offer of a transaction with this body.
@@ -174,7 +169,7 @@ fn offered(body: Body) -> Ask {
 }
 
 #[test]
-fn votes(rt: HostRuntime) -> Result<(), Fail> {
+fn votes(rt: HostRuntime) {
     let (merge, moves) = (offered(Body::Merge), offered(Body::Migrate { node: 2 }));
     let (comes, apart) = (
         offered(Body::Migrate { node: 11 }),
@@ -199,11 +194,11 @@ fn votes(rt: HostRuntime) -> Result<(), Fail> {
             (of(9), moves, Was::Yes),
             (of(8), comes, Was::Yes),
         ],
-    )
+    );
 }
 
 #[test]
-fn votes_of_a_watcher(rt: HostRuntime) -> Result<(), Fail> {
+fn votes_of_a_watcher(rt: HostRuntime) {
     let near = Ask::Watched(LAST);
     all_are(
         &rt,
@@ -215,11 +210,11 @@ fn votes_of_a_watcher(rt: HostRuntime) -> Result<(), Fail> {
             (FREE, Ask::Watched(NEXT), Was::Apart),
             (FREE, near, Was::Yes),
         ],
-    )
+    );
 }
 
 #[test]
-fn coordinators_that_give_up(rt: HostRuntime) -> Result<(), Fail> {
+fn coordinators_that_give_up(rt: HostRuntime) {
     all_are(
         &rt,
         rt.alloc(),
@@ -235,7 +230,7 @@ fn coordinators_that_give_up(rt: HostRuntime) -> Result<(), Fail> {
             (bound(Bond::Begun(SPLIT)), Ask::GiveUp, Was::Abort),
             (bound(Bond::Heard(Body::Merge)), Ask::GiveUp, Was::Abort),
         ],
-    )
+    );
 }
 
 fn begun(body: Body) -> Start {
@@ -250,7 +245,7 @@ fn merging(members: u16) -> Start {
 }
 
 #[test]
-fn votes_that_are_recorded(rt: HostRuntime) -> Result<(), Fail> {
+fn votes_that_are_recorded(rt: HostRuntime) {
     let (yes, closing) = (Ask::Yes(TX, LAST), Ask::Yes(TX, GROUP));
     all_are(
         &rt,
@@ -272,7 +267,7 @@ fn votes_that_are_recorded(rt: HostRuntime) -> Result<(), Fail> {
             (begun(Body::Migrate { node: 2 }), yes, Was::Migrated),
             (begun(Body::Migrate { node: 3 }), yes, Was::Nothing),
         ],
-    )
+    );
 }
 
 fn heard(body: Body) -> Start {
@@ -280,7 +275,7 @@ fn heard(body: Body) -> Start {
 }
 
 #[test]
-fn watches_that_are_recorded(rt: HostRuntime) -> Result<(), Fail> {
+fn watches_that_are_recorded(rt: HostRuntime) {
     let (yes, no) = (Ask::Watch(Past::Yes), Ask::Watch(Past::No(No::Gone)));
     all_are(
         &rt,
@@ -299,7 +294,7 @@ fn watches_that_are_recorded(rt: HostRuntime) -> Result<(), Fail> {
             (begun(SPLIT), yes, Was::Divided),
             (begun(Body::Split { at: B, child: TX }), yes, Was::Nothing),
         ],
-    )
+    );
 }
 
 fn promised(body: Body) -> Start {
@@ -307,7 +302,7 @@ fn promised(body: Body) -> Start {
 }
 
 #[test]
-fn outcomes(rt: HostRuntime) -> Result<(), Fail> {
+fn outcomes(rt: HostRuntime) {
     let (merge, watching) = (promised(Body::Merge), bound(Bond::Watching));
     all_are(
         &rt,
@@ -335,22 +330,20 @@ fn outcomes(rt: HostRuntime) -> Result<(), Fail> {
             (watching, Ask::Finish(End::Divided), Was::Divided),
             (watching, Ask::Finish(End::Merged), Was::Merged),
         ],
-    )
+    );
 }
 
 // Whether the command makes a child of the group that starts so.
-fn makes(alloc: Global, start: Start, ask: Ask) -> Result<bool, Fail> {
-    if start.members > 9 {
-        return Err(Fail::from("too many members"));
-    }
-    let machine = machine(alloc, start)?;
-    let command = command(alloc, ask)?;
-    let child = machine.child_by(&command)?;
-    Ok(child.is_some())
+fn makes(rt: &impl Abort, alloc: Global, start: Start, ask: Ask) -> bool {
+    assert!(rt; start.members <= 9);
+    let machine = machine(rt, alloc, start);
+    let command = command(rt, alloc, ask);
+    let child = machine.child_by(&command).expect(rt, "memory");
+    child.is_some()
 }
 
 #[test]
-fn children(rt: HostRuntime) -> Result<(), Fail> {
+fn children(rt: HostRuntime) {
     let (split, yes) = (Ask::Split(TX, C), Ask::Watch(Past::Yes));
     let lines: [(Start, Ask, bool); 8] = [
         (alone(2), split, true),
@@ -363,7 +356,6 @@ fn children(rt: HostRuntime) -> Result<(), Fail> {
         (FREE, Ask::Noop, false),
     ];
     for (start, ask, child) in lines {
-        assert_eq!(rt; makes(rt.alloc(), start, ask)?, child);
+        assert_eq!(rt; makes(&rt, rt.alloc(), start, ask), child);
     }
-    Ok(())
 }

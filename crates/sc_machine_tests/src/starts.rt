@@ -6,7 +6,7 @@ use sc_cmd::{Base, Body, Core, Frozen, Heard, Link, Lock, Offer, Outcome, Past, 
 use sc_machine::Machine;
 use sc_member::Members;
 use std::alloc::Global;
-use std::test::Fail;
+use std::process::Abort;
 
 pub(crate) const GROUP: Draw = Draw { node: 0, count: 1 };
 
@@ -87,20 +87,18 @@ pub(crate) fn busy(begun: u32) -> Start {
 }
 
 // So many nodes from `first` on.
-fn nodes(first: u16, count: u16) -> Result<Members, Fail>
+fn nodes(rt: &impl Abort, first: u16, count: u16) -> Members
     requires { first + count < 100 }
 {
     let mut members = Members::one(first);
     for node in first + 1..first + count {
-        if members.add(node).is_err() {
-            return Err(Fail::from("a node that is not added"));
-        }
+        members.add(node).expect(rt, "a node more");
     }
-    Ok(members)
+    members
 }
 
-fn arc(lo: u32) -> Result<RingArc, Fail> {
-    Ok(RingArc::try_new(lo, 0x0200_0000)?)
+fn arc(rt: &impl Abort, lo: u32) -> RingArc {
+    RingArc::try_new(lo, 0x0200_0000).expect(rt, "an arc")
 }
 
 fn link(group: Draw, members: Members) -> Link {
@@ -108,30 +106,29 @@ fn link(group: Draw, members: Members) -> Link {
 }
 
 // The group after this one, of the nodes 11 and 12, when it was frozen.
-pub(crate) fn frozen(alloc: Global, succ: Draw) -> Result<Frozen, Fail> {
-    let members = nodes(11, 2)?;
-    let arc = arc(D)?;
-    Ok(Frozen {
-        arc,
+pub(crate) fn frozen(rt: &impl Abort, alloc: Global, succ: Draw) -> Frozen {
+    let members = nodes(rt, 11, 2);
+    Frozen {
+        arc: arc(rt, D),
         members,
         succ: link(succ, members),
         pairs: Pairs::new(alloc),
         clients: SeenList::new(alloc),
-    })
+    }
 }
 
 // The offer of the group before this one, whose arc starts at `lo` and has so many members.
-pub(crate) fn offer(lo: u32, members: u16, body: Body) -> Result<Offer, Fail>
+pub(crate) fn offer(rt: &impl Abort, lo: u32, members: u16, body: Body) -> Offer
     requires { members < 80 }
 {
-    Ok(Offer {
+    Offer {
         coord: LAST,
         part: GROUP,
-        arc: arc(lo)?,
-        members: nodes(11, members)?,
+        arc: arc(rt, lo),
+        members: nodes(rt, 11, members),
         body,
         by: 11,
-    })
+    }
 }
 
 // The position where the arc of the group before this one starts.
@@ -148,36 +145,36 @@ pub(crate) fn watch(old: Draw) -> Watch {
     }
 }
 
-fn lock_of(alloc: Global, bond: Bond) -> Result<Lock, Fail> {
+fn lock_of(rt: &impl Abort, alloc: Global, bond: Bond) -> Lock {
     match bond {
-        Bond::Free => Ok(Lock::Free),
-        Bond::Begun(body) => Ok(Lock::Coordinating {
+        Bond::Free => Lock::Free,
+        Bond::Begun(body) => Lock::Coordinating {
             tx: TX,
             body,
             order: 1,
             heard: None,
-        }),
-        Bond::Heard(body) => Ok(Lock::Coordinating {
+        },
+        Bond::Heard(body) => Lock::Coordinating {
             tx: TX,
             body,
             order: 1,
             heard: Some(Heard {
-                frozen: frozen(alloc, LAST)?,
+                frozen: frozen(rt, alloc, LAST),
                 by: 11,
             }),
-        }),
-        Bond::Promised(body) => Ok(Lock::Promised {
+        },
+        Bond::Promised(body) => Lock::Promised {
             tx: TX,
-            offer: offer(BEFORE, 2, body)?,
-        }),
-        Bond::Watching => Ok(Lock::Watching {
+            offer: offer(rt, BEFORE, 2, body),
+        },
+        Bond::Watching => Lock::Watching {
             tx: TX,
             watch: watch(LAST),
-        }),
+        },
     }
 }
 
-fn core(alloc: Global, start: Start, arc: RingArc, members: Members) -> Core {
+fn core(alloc: Global, start: Start, arc: RingArc, members: Members, lock: Lock) -> Core {
     Core {
         id: GROUP,
         first: 1,
@@ -185,7 +182,7 @@ fn core(alloc: Global, start: Start, arc: RingArc, members: Members) -> Core {
         members,
         succ: link(start.succ, members),
         pred: link(LAST, members),
-        lock: Lock::Free,
+        lock,
         begun: start.begun,
         decided: Sequence::new(alloc),
         voted: Sequence::new(alloc),
@@ -194,58 +191,52 @@ fn core(alloc: Global, start: Start, arc: RingArc, members: Members) -> Core {
     }
 }
 
-fn remember(alloc: Global, core: &mut Core, memory: Memory) -> Result<(), Fail> {
+fn remember(rt: &impl Abort, core: &mut Core, memory: Memory) {
     match memory {
-        Memory::Nothing | Memory::Put => Ok(()),
+        Memory::Nothing | Memory::Put => {}
         Memory::Gone => {
             core.gone = Some(Route {
                 group: LAST,
                 lo: 0,
                 members: core.members,
             });
-            Ok(())
         }
-        Memory::Born => Ok(core.born.push(TX)?),
-        Memory::Decided => Ok(core.decided.push((TX, Outcome::Abort))?),
-        Memory::Voted => Ok(core.voted.push((TX, Past::Yes))?),
+        Memory::Born => core.born.push(TX).expect(rt, "memory"),
+        Memory::Decided => core.decided.push((TX, Outcome::Abort)).expect(rt, "memory"),
+        Memory::Voted => core.voted.push((TX, Past::Yes)).expect(rt, "memory"),
     }
 }
 
 // What the group knows of its clients: of client 1 the number 2, where it remembers a put.
-fn clients(alloc: Global, memory: Memory) -> Result<SeenList, Fail> {
+fn clients(rt: &impl Abort, alloc: Global, memory: Memory) -> SeenList {
     let mut clients = SeenList::new(alloc);
     if let Memory::Put = memory {
         let noted = Noted {
             seq: 2,
             reply: Reply { old: None },
         };
-        clients.push(1, noted)?;
+        clients.push(1, noted).expect(rt, "memory");
     }
-    Ok(clients)
+    clients
 }
 
-fn started(alloc: Global, start: Start) -> Result<Core, Fail>
+fn started(rt: &impl Abort, alloc: Global, start: Start) -> Core
     requires { start.members < 80 }
 {
-    let (arc, members) = (arc(B)?, nodes(1, start.members)?);
-    let mut core = core(alloc, start, arc, members);
-    remember(alloc, &mut core, start.memory)?;
-    core.lock = lock_of(alloc, start.bond)?;
-    Ok(core)
+    let members = nodes(rt, 1, start.members);
+    let lock = lock_of(rt, alloc, start.bond);
+    let mut core = core(alloc, start, arc(rt, B), members, lock);
+    remember(rt, &mut core, start.memory);
+    core
 }
 
-pub(crate) fn machine(alloc: Global, start: Start) -> Result<Machine, Fail>
+pub(crate) fn machine(rt: &impl Abort, alloc: Global, start: Start) -> Machine
     requires { start.members < 80 }
 {
-    let clients = clients(alloc, start.memory)?;
-    let core = started(alloc, start)?;
-    let pairs = Pairs::new(alloc);
-    Ok(Machine::born(
-        alloc,
-        Base {
-            core,
-            pairs,
-            clients,
-        },
-    )?)
+    let base = Base {
+        core: started(rt, alloc, start),
+        pairs: Pairs::new(alloc),
+        clients: clients(rt, alloc, start.memory),
+    };
+    Machine::born(alloc, base).expect(rt, "memory")
 }

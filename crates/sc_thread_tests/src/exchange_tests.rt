@@ -59,11 +59,12 @@ fn loses<R: Wait>(rt: &R, net: &mut Port<Note, u32>, number: u32) -> u32
 fn nothing_is_pending<R: Wait + Abort>(rt: &R, net: &mut Port<Note, u32>, one: &mut Port<Note, u32>)
     requires { net.old.who ≡ 0 }
 {
-    assert_eq!(rt; fetched(rt, one, 1), (0, 0));
-    assert_eq!(rt; one.pending(rt, 1, 1), None);
-    assert_eq!(rt; loses(rt, net, 1), 0);
-    assert_eq!(rt; repeats(rt, net, 1), 0);
-    assert_eq!(rt; looked(rt, net), (0, 0));
+    let fetched = fetched(rt, one, 1);
+    let pending = one.pending(rt, 1, 1);
+    let changed = (loses(rt, net, 1), repeats(rt, net, 1));
+    let looked = looked(rt, net);
+    assert_eq!(rt; (fetched, pending), ((0, 0), None));
+    assert_eq!(rt; (changed, looked), ((0, 0), (0, 0)));
 }
 
 // Takes the mail of this number, and sends n notes.
@@ -125,13 +126,16 @@ fn second_is_doubled<R: Wait + Abort>(rt: &R, net: &mut Port<Note, u32>)
     requires { net.old.who ≡ 0 }
     ensures { Stays net.old net.new }
 {
-    assert_eq!(rt; repeats(rt, net, 2), 1);
-    assert_eq!(rt; repeats(rt, net, 2), 1);
-    assert_eq!(rt; net.pending(rt, 1, 1), Some(1));
-    assert_eq!(rt; net.pending(rt, 1, 2), Some(2));
-    assert_eq!(rt; net.pending(rt, 1, 3), Some(2));
-    assert_eq!(rt; net.pending(rt, 1, 4), Some(3));
-    assert_eq!(rt; net.pending(rt, 0, 5), None);
+    let repeated = [repeats(rt, net, 2), repeats(rt, net, 2)];
+    let pending = [
+        net.pending(rt, 1, 1),
+        net.pending(rt, 1, 2),
+        net.pending(rt, 1, 3),
+        net.pending(rt, 1, 4),
+        net.pending(rt, 0, 5),
+    ];
+    assert_eq!(rt; repeated, [1, 1]);
+    assert_eq!(rt; pending, [Some(1), Some(2), Some(2), Some(3), None]);
 }
 
 // One copy of it is lost.
@@ -139,11 +143,10 @@ fn second_is_lost<R: Wait + Abort>(rt: &R, net: &mut Port<Note, u32>, one: &mut 
     requires { net.old.who ≡ 0 }
 {
     let (_, pending) = looked(rt, net);
-    assert_eq!(rt; pending, 4);
-    assert_eq!(rt; loses(rt, net, 2), 1);
+    let lost = loses(rt, net, 2);
     let (found, _) = fetched(rt, one, 3);
-    assert_eq!(rt; found, 3);
-    assert_eq!(rt; repeats(rt, net, 4), 0);
+    let repeated = repeats(rt, net, 4);
+    assert_eq!(rt; (pending, lost, found, repeated), (4, 1, 3, 0));
 }
 
 // Whether mail is pending for actor 1, for nobody and for actor 2.
