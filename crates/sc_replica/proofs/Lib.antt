@@ -1,5 +1,3 @@
-mod Places
 mod Rounds
 mod Calls
 mod Readiness
-mod SlotMaps

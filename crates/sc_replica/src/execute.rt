@@ -7,18 +7,14 @@ ghost use Rattle.sc_node_table.specs.Slots.{slots_ahead};
 ghost use Rattle.sc_node_table.specs.Replica.{next, members, last_slot};
 ghost use Rattle.sc_node_table.specs.Execute.{entered, answer_of, told_call, announced, learnt_to, welcomed, lost, landed, left_gone, left, is_among, looked, executed_one, has_room, next_ready, executed_ready, executed};
 
-use crate::install::waits_in;
-use crate::mails::answer;
 use crate::orders::result_of;
-use crate::ready::{drop_ready, ready_at};
 use crate::replica::{LAST_SLOT, Replica};
-use crate::same::same_command;
 use sc_base::{Dup, OutOfMemory, Sequence, dup_found};
 use sc_cmd::{Command, Effect};
 use sc_machine::Machine;
 use sc_mail::{AnswerBody, Mail};
 use sc_member::Members;
-use std::alloc::Global;
+use sc_replica_parts::{answer, drop_ready, not_among, ready_at, same_command, waits_in};
 
 /// One command on the group. What the machine does not carry out yet, the split of a group that has
 /// another successor and the commands of transactions, does nothing.
@@ -47,20 +43,6 @@ fn answer_of(effect: Effect) -> Option<AnswerBody>
         | Effect::Decided(_)
         | Effect::Refused(_) => None,
     }
-}
-
-/// The nodes that are not in a set.
-fn not_among(alloc: Global, nodes: &[u16], set: &Members) -> Result<Vec<u16>, OutOfMemory>
-    ensures { IfOk result
-        (λ others. others.items ≡ filter (λ node. not (is_member set.now node)) nodes.now) }
-{
-    let mut others = Vec::new(alloc);
-    for node in nodes {
-        if !set.has(*node) {
-            others.push(*node)?;
-        }
-    }
-    Ok(others)
 }
 
 impl Replica {

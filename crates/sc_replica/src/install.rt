@@ -1,29 +1,18 @@
 //! Install: the executed state is sent, and is taken over by a replica that has executed less.
 ghost use Rattle.std.specs.Prelude.{◌≡◌, ◌≤◌, ◌||◌, not, nat_lt, ◌==◌, IfOk, OnOk, length, Some, if◌then◌else◌};
 ghost use Rattle.sc_node_table.specs.Slots.{slots_ahead};
-ghost use Rattle.sc_node_table.specs.Replica.{last_slot, next, waits_in};
+ghost use Rattle.sc_node_table.specs.Replica.{last_slot, next};
 ghost use Rattle.sc_node_table.specs.Election.{stopped};
 ghost use Rattle.sc_node_table.specs.Install.{install_to, asked_to_promise, welcomed_all, named, jumped};
 ghost use Rattle.sc_node_table.specs.Rows.{looked_up, took_over, install_row, made_by};
 
-use crate::mails::send;
-use crate::open_sets::Sets;
 use crate::replica::{LAST_SLOT, Replica};
 use sc_base::{Draw, Dup, OutOfMemory, Sequence};
-use sc_cmd::{Base, Lock, MemberSets};
+use sc_cmd::{Base, MemberSets};
 use sc_machine::Machine;
 use sc_mail::{Mail, MailBody};
+use sc_replica_parts::{Sets, send, waits_in};
 use std::alloc::Global;
-
-/// How long a transaction has waited: it waits no more where the group is not locked.
-pub(crate) fn waits_in(lock: &Lock, waits: u32) -> u32
-    ensures { result ≡ waits_in lock.now waits }
-{
-    match lock {
-        Lock::Free => 0,
-        Lock::Coordinating { .. } | Lock::Promised { .. } | Lock::Watching { .. } => waits,
-    }
-}
 
 /// A copy of the state under a group's name.
 fn named(alloc: Global, group: Draw, base: &Base) -> Result<Base, OutOfMemory>

@@ -4,15 +4,13 @@ ghost use Rattle.sc_node_table.specs.Slots.{slots_ahead};
 ghost use Rattle.sc_node_table.specs.Replica.{born_replica, installed_replica, name_of, next, last_slot};
 ghost use Rattle.sc_replica.specs.Bare.{bare_replica};
 
-use crate::executed_log::Entries;
-use crate::open_sets::Sets;
 use sc_acceptor::Acceptor;
 use sc_base::{Ballot, Draw, OutOfMemory, Sequence};
 use sc_cmd::{Base, Command};
 use sc_leader::Leader;
 use sc_machine::Machine;
 use sc_mail::Mail;
-use sc_node_table::ReplicaInput;
+use sc_replica_parts::{Entries, Sets};
 use std::alloc::Global;
 use std::collections::{BTreeMap, VecDeque};
 use std::marker::Model;

@@ -1,0 +1,4 @@
+mod Numbers
+mod Calls
+mod Places
+mod SlotMaps

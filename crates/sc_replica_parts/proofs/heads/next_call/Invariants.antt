@@ -1,0 +1,11 @@
+use Rattle.std.proofs.Common.{◌≡◌, length}
+use Rattle.sc_node_table.specs.Pump.{next_call}
+use Rattle.sc_replica_parts.proofs.heads.next_call.Given as goal
+
+-- what is left makes the whole
+abbrev pub invariant-loop-alloc : goal.invariant-loop-alloc
+invariant-loop-alloc l = next_call l.me l.idle l.core l.calls.items l.out ≡ next_call l.me l.idle l.core l.fn.calls.items l.fn.out
+
+-- how many calls are left
+abbrev pub decreases-loop-alloc : goal.decreases-loop-alloc
+decreases-loop-alloc l = length l.calls.items
