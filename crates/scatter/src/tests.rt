@@ -1,5 +1,4 @@
 use super::*;
-use crate::played::Played;
 use crate::reporting::{Left, play_whole};
 use crate::telling::tells_full;
 use sc_actor::{Event, Parcel, Row};
@@ -9,6 +8,7 @@ use sc_edges::{MemSink, MemSource};
 use sc_machine::Machine;
 use sc_mail::{Mail, MailBody};
 use sc_scenario::{Scenario, read_scenario};
+use sc_statuses::Played;
 use std::alloc::Global;
 use std::process::Abort;
 use std::sync::Wait;

@@ -1,7 +1,7 @@
 use Rattle.std.proofs.Common.{◌≤◌, take}
 use Rattle.std.specs.List.{concat}
 use Rattle.std.specs.Io.KnownBytes.{Appends}
-use Rattle.scatter.proofs.printing.put_all.Given as goal
+use Rattle.sc_statuses.proofs.printing.put_all.Given as goal
 
 -- the lines so far were appended, and no fault was forgotten
 abbrev pub invariant-loop-line : goal.invariant-loop-line

@@ -1,8 +1,8 @@
 use Rattle.std.proofs.Common.{subst, arith}
 use Rattle.std.specs.Io.KnownBytes.{Appends}
 use Rattle.sc_edges.specs.Bytes.{AppendsPart}
-use Rattle.scatter.proofs.Pieces.{Appends-more, AppendsPart-more}
-use Rattle.scatter.proofs.printing.put_all.Goals as goal
+use Rattle.sc_statuses.proofs.Pieces.{Appends-more, AppendsPart-more}
+use Rattle.sc_statuses.proofs.printing.put_all.Goals as goal
 
 pub loop-line-preserved : goal.loop-line-preserved
 loop-line-preserved g c = (
