@@ -11,7 +11,8 @@ use sc_base::{Ballot, MOST_NODES, OutOfMemory, Sequence};
 use sc_cmd::Command;
 use sc_leader::Leader;
 use sc_mail::{AnswerBody, Mail};
-use sc_replica_parts::{answer_command, dismiss_all, nodes_to, ready_at};
+use sc_replica_choices::nodes_to;
+use sc_replica_parts::{answer_command, dismiss_all, ready_at};
 use std::collections::BTreeMap;
 
 impl Replica {

@@ -14,7 +14,8 @@ use sc_cmd::{Command, Effect};
 use sc_machine::Machine;
 use sc_mail::{AnswerBody, Mail};
 use sc_member::Members;
-use sc_replica_parts::{answer, drop_ready, not_among, ready_at, same_command, waits_in};
+use sc_replica_choices::{not_among, same_command, waits_in};
+use sc_replica_parts::{answer, drop_ready, ready_at};
 
 /// One command on the group. What the machine does not carry out yet, the split of a group that has
 /// another successor and the commands of transactions, does nothing.

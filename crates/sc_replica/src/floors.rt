@@ -3,7 +3,7 @@ ghost use Rattle.std.specs.Prelude.{◌≡◌, ◌<◌};
 ghost use Rattle.sc_node_table.specs.Replica.{forgotten, next};
 
 use crate::replica::Replica;
-use sc_replica_parts::floor_of;
+use sc_replica_choices::floor_of;
 
 impl Replica {
     /// Forgets what is not above the floor of the last executed slot. It takes no memory.

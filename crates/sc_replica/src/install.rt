@@ -11,7 +11,8 @@ use sc_base::{Draw, Dup, OutOfMemory, Sequence};
 use sc_cmd::{Base, MemberSets};
 use sc_machine::Machine;
 use sc_mail::{Mail, MailBody};
-use sc_replica_parts::{Sets, send, waits_in};
+use sc_replica_choices::{Sets, waits_in};
+use sc_replica_parts::send;
 use std::alloc::Global;
 
 /// A copy of the state under a group's name.

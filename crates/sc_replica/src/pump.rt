@@ -11,7 +11,8 @@ use sc_base::{Dup, OutOfMemory, Sequence};
 use sc_cmd::Command;
 use sc_leader::Must;
 use sc_mail::Mail;
-use sc_replica_parts::{is_act, is_empty, next_call, take_head};
+use sc_replica_choices::is_act;
+use sc_replica_parts::{is_empty, next_call, take_head};
 
 impl Replica {
     /// Whether its leader may offer at an open slot, counted from the next one.

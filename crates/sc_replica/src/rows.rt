@@ -19,7 +19,8 @@ use sc_cmd::Command;
 use sc_mail::{Mail, MailBody};
 use sc_member::Members;
 use sc_node_table::ReplicaInput;
-use sc_replica_parts::{answer, call_of, drop_call, push_back, refusal, send};
+use sc_replica_choices::refusal;
+use sc_replica_parts::{answer, call_of, drop_call, push_back, send};
 
 impl Replica {
     /// A call waits last, unless the same or a later one of its client waits; an earlier one waits

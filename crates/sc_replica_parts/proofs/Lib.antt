@@ -1,4 +1,3 @@
-mod Numbers
 mod Calls
 mod Places
 mod SlotMaps

@@ -3,12 +3,12 @@ ghost use Rattle.std.specs.Prelude.{◌≡◌, IfOk};
 ghost use Rattle.sc_node_table.specs.Pump.{waits, turned_down, refused_by, next_call};
 ghost use Rattle.sc_replica_parts.specs.Heads.{head_waits};
 
-use crate::choices::{holds_key, serves_calls};
 use crate::mails::answer_command;
 use crate::queues::{head, take_head};
 use sc_base::{Op, OutOfMemory, Sequence};
 use sc_cmd::{Command, Core, Lock};
 use sc_mail::{AnswerBody, Mail};
+use sc_replica_choices::{holds_key, serves_calls};
 use std::alloc::Global;
 use std::collections::VecDeque;
 

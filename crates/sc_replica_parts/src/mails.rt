@@ -4,10 +4,10 @@ ghost use Rattle.sc_cmd.specs.declared.orders.ToldResult.TheVariants.{Refused};
 ghost use Rattle.sc_cmd.specs.declared.orders.OrderRefusal.TheVariants.{NotLeader};
 ghost use Rattle.sc_node_table.specs.Mails.{sent, answer_to, answered, told_desk, order_in, told_order, dismissed, dismissed_all};
 
-use crate::commands::order_in;
 use sc_base::{Draw, Dup, OutOfMemory, Sequence};
 use sc_cmd::{Command, OrderRefusal, ToldResult};
 use sc_mail::{AnswerBody, DESK, Mail, MailBody, client_number};
+use sc_replica_choices::order_in;
 use std::alloc::Global;
 use std::collections::VecDeque;
 

@@ -18,7 +18,7 @@ pub enum Played {
 }
 
 /// Which text was begun.
-#[derive(Clone, Copy, Debug, PartialEq, Eq)]
+#[derive(Clone, Copy)]
 pub enum Said {
     Ended,
     Usage,

@@ -74,8 +74,8 @@ pub fn wanted_of<S: Source>(
         (S.left input.old) (S.faults input.old) (S.faults input.new) wanted) }
     ensures unread { is_run (map string_bytes words.now) ≡ false → input.new ≡ input.old }
 {
-    if !is_run(words) {
-        return Ok(Wanted::Usage);
+    if is_run(words) {
+        return read(alloc, input);
     }
-    read(alloc, input)
+    Ok(Wanted::Usage)
 }

@@ -1,7 +1,7 @@
 use Rattle.std.proofs.Common.{◌≡◌, ◌++◌, ◌+◌, filter}
 use Rattle.sc_node_table.specs.Election.{nodes_to, is_in_some}
-use Rattle.sc_replica_parts.proofs.Numbers.{numbers_to}
-use Rattle.sc_replica_parts.proofs.nodes.nodes_to.Given as goal
+use Rattle.sc_replica_choices.proofs.Numbers.{numbers_to}
+use Rattle.sc_replica_choices.proofs.nodes.nodes_to.Given as goal
 
 -- what is left makes the whole
 abbrev pub invariant-loop-node : goal.invariant-loop-node

@@ -1,6 +1,6 @@
 use Rattle.std.proofs.Common.{◌≡◌, filter, not, take}
 use Rattle.sc_member.specs.Roster.{is_member}
-use Rattle.sc_replica_parts.proofs.nodes.not_among.Given as goal
+use Rattle.sc_replica_choices.proofs.nodes.not_among.Given as goal
 
 -- those so far
 abbrev pub invariant-loop-node : goal.invariant-loop-node

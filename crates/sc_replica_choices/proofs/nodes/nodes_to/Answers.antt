@@ -1,8 +1,8 @@
 use Rattle.std.proofs.Common.{sym, ◌∙◌, ap, ◌++◌, ◌+◌, filter, arith}
 use Rattle.sc_node_table.specs.Election.{nodes_to, is_in_some}
-use Rattle.sc_replica_parts.proofs.Numbers.{numbers_to, nodes-taken, nodes-passed}
-use Rattle.sc_replica_parts.proofs.nodes.nodes_to.Goals.{then-has+in_ok-push, else-has}
-use Rattle.sc_replica_parts.proofs.nodes.nodes_to.Goals as goal
+use Rattle.sc_replica_choices.proofs.Numbers.{numbers_to, nodes-taken, nodes-passed}
+use Rattle.sc_replica_choices.proofs.nodes.nodes_to.Goals.{then-has+in_ok-push, else-has}
+use Rattle.sc_replica_choices.proofs.nodes.nodes_to.Goals as goal
 
 pub loop-node-preserved : goal.loop-node-preserved
 loop-node-preserved c =

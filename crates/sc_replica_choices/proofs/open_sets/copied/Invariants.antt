@@ -1,5 +1,5 @@
 use Rattle.std.proofs.Common.{◌≡◌, take}
-use Rattle.sc_replica_parts.proofs.open_sets.copied.Given as goal
+use Rattle.sc_replica_choices.proofs.open_sets.copied.Given as goal
 
 -- those so far
 abbrev pub invariant-loop-set : goal.invariant-loop-set
