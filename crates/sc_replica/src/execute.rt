@@ -227,7 +227,7 @@ impl Replica {
             let body = AnswerBody::Gone { into: *into };
             return self.end(None, &body, out);
         }
-        if self.machine.core().members.has(self.me) {
+        if self.has_member(self.me) {
             return Ok(());
         }
         let least = self.machine.core().members.least();
@@ -245,7 +245,7 @@ impl Replica {
         }
         match self.hint {
             None => false,
-            Some(node) => self.machine.core().members.has(node),
+            Some(node) => self.has_member(node),
         }
     }
 

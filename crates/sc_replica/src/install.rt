@@ -12,6 +12,7 @@ use sc_cmd::{Base, MemberSets};
 use sc_machine::Machine;
 use sc_mail::{Mail, MailBody};
 use sc_replica_choices::{Sets, waits_in};
+use sc_replica_parts as parts;
 use sc_replica_parts::send;
 use std::alloc::Global;
 
@@ -34,13 +35,10 @@ impl Replica {
     ) -> Result<(), OutOfMemory>
         ensures { OnOk result ((self.now, out.new) ≡ install_to node (self.now, out.old)) }
     {
-        let body = MailBody::Install {
-            group: self.name(),
-            slot: self.next() - 1,
-            base: self.machine.base()?,
-            sets: self.sets.list(self.alloc)?,
-        };
-        send(self.me, node as u32, body, out)
+        let base = self.machine.base()?;
+        let sets = self.sets.list(self.alloc)?;
+        let last = self.next() - 1;
+        parts::send_install(self.me, self.name(), node, last, base, sets, out)
     }
 
     /// A member that was added is asked to promise a ballot that is not the group's first.
@@ -82,11 +80,11 @@ impl Replica {
         requires four { length sets.now ≡ slots_ahead }
         ensures { OnOk result (self.new ≡ jumped slot base.now sets.now self.old) }
     {
-        let base = named(self.alloc, self.name(), base)?;
-        self.waits = waits_in(&base.core.lock, self.waits);
-        self.machine = Machine::born(self.alloc, base)?;
-        self.log.install(slot);
+        let machine = Machine::born(self.alloc, named(self.alloc, self.name(), base)?)?;
         self.sets = Sets::of(self.alloc, sets)?;
+        self.waits = waits_in(&machine.core().lock, self.waits);
+        self.machine = machine;
+        self.log.install(slot);
         self.forget(slot);
         Ok(())
     }
@@ -97,7 +95,7 @@ impl Replica {
     fn look_up(&mut self, from: u16, out: &mut Sequence<Mail>) -> Result<(), OutOfMemory>
         ensures { OnOk result ((self.new, out.new) ≡ looked_up from (self.old, out.old)) }
     {
-        if self.machine.core().members.has(from) {
+        if self.has_member(from) {
             self.hint = Some(from);
             return Ok(());
         }

@@ -10,8 +10,7 @@ use crate::replica::Replica;
 use sc_base::{OutOfMemory, Sequence};
 use sc_cmd::{Command, Core, Effect, Order, OrderLine, OrderRefusal, ToldResult};
 use sc_mail::Mail;
-use sc_replica_choices::order_in;
-use sc_replica_parts::{push_back, tell_desk, tell_order};
+use sc_replica_parts::{order_in, push_back, tell_desk, tell_order};
 use sc_txn::check;
 
 /// What an effect says of its order; nothing where the order goes on.

@@ -4,15 +4,54 @@ ghost use Rattle.std.specs.List.{list_any};
 ghost use Rattle.sc_paxos_words.specs.Leaders.{Obeys, flight_at, must};
 ghost use Rattle.sc_node_table.specs.Slots.{slots_ahead};
 ghost use Rattle.sc_node_table.specs.Replica.{next, settled, may_offer, taken_at, listed, under_way, is_idle, last_slot};
-ghost use Rattle.sc_node_table.specs.Pump.{is_act, from_calls, from_acts, from_queues, found_for, offered, pumped_from, pumped};
+ghost use Rattle.sc_replica_parts.specs.Heads.{head_waits};
+ghost use Rattle.sc_node_table.specs.Pump.{is_act, next_call, from_calls, from_acts, from_queues, found_for, offered, pumped_from, pumped};
 
 use crate::replica::{LAST_SLOT, Replica};
 use sc_base::{Dup, OutOfMemory, Sequence};
-use sc_cmd::Command;
+use sc_cmd::{Command, Core, Lock};
 use sc_leader::Must;
 use sc_mail::Mail;
-use sc_replica_choices::is_act;
-use sc_replica_parts::{is_empty, next_call, take_head};
+use sc_replica_choices::{is_act, turned_down, waits};
+use sc_replica_parts::{answer_command, head, is_empty, take_head};
+use std::alloc::Global;
+use std::collections::VecDeque;
+
+// Whether the head of the calls waits, or there is none.
+fn head_waits(idle: bool, lock: &Lock, calls: &VecDeque<Command>) -> bool
+    ensures { result ≡ head_waits idle lock.now calls.now.items }
+{
+    match head(calls) {
+        None => true,
+        Some(command) => waits(idle, lock, command),
+    }
+}
+
+/// The command at the head of the calls that a slot may have; the calls before it that the group
+/// does not serve are answered.
+fn next_call(
+    alloc: Global,
+    me: u16,
+    idle: bool,
+    core: &Core,
+    calls: &mut VecDeque<Command>,
+    out: &mut Sequence<Mail>,
+) -> Result<Option<Command>, OutOfMemory>
+    ensures { IfOk result
+        (λ command.
+        (command, calls.new.items, out.new) ≡ next_call me idle core.now calls.old.items out.old) }
+{
+    while !head_waits(idle, &core.lock, calls) {
+        let Some(command) = take_head(calls) else {
+            return Ok(None);
+        };
+        match turned_down(core, &command) {
+            None => return Ok(Some(command)),
+            Some(body) => answer_command(alloc, me, core.id, &body, &command, out)?,
+        }
+    }
+    Ok(None)
+}
 
 impl Replica {
     /// Whether its leader may offer at an open slot, counted from the next one.
@@ -38,7 +77,10 @@ impl Replica {
     fn is_taken(&self, slot: u32) -> bool
         ensures { result ≡ is_some (taken_at self.now slot) }
     {
-        self.taken(slot).is_some()
+        match self.taken(slot) {
+            Some(_) => true,
+            None => false,
+        }
     }
 
     /// Whether nothing is in flight or ready.

@@ -1,7 +1,8 @@
 //! The replica.
 ghost use Rattle.std.specs.Prelude.{◌≡◌, ◌+◌, ◌≤◌, IfOk, OnOk, length, true};
+ghost use Rattle.sc_member.specs.Roster.{is_member};
 ghost use Rattle.sc_node_table.specs.Slots.{slots_ahead};
-ghost use Rattle.sc_node_table.specs.Replica.{born_replica, installed_replica, name_of, next, last_slot};
+ghost use Rattle.sc_node_table.specs.Replica.{born_replica, installed_replica, members, name_of, next, last_slot};
 ghost use Rattle.sc_replica.specs.Bare.{bare_replica};
 
 use sc_acceptor::Acceptor;
@@ -141,6 +142,13 @@ impl Replica {
         ensures { result ≡ name_of self.now }
     {
         self.machine.core().id
+    }
+
+    /// Whether a node is a member in the executed state.
+    pub(crate) fn has_member(&self, node: u16) -> bool
+        ensures { result ≡ is_member (members self.now) node }
+    {
+        self.machine.core().members.has(node)
     }
 
     /// The slot after the last executed one.

@@ -2,16 +2,16 @@
 ghost use Rattle.std.specs.Prelude.{◌≡◌, ◌≤◌};
 ghost use Rattle.sc_ideal.specs.IdealStore.{key_of, holds_key};
 ghost use Rattle.sc_node_table.specs.Replica.{floor_of, waits_in};
-ghost use Rattle.sc_node_table.specs.Pump.{serves_calls};
+ghost use Rattle.sc_node_table.specs.Pump.{serves_calls, waits, turned_down, refused_by};
 ghost use Rattle.sc_node_table.specs.Rows.{refusal};
 
 use sc_base::{Op, RingArc};
-use sc_cmd::{Core, Lock};
+use sc_cmd::{Command, Core, Lock};
 use sc_mail::AnswerBody;
 use sc_node_table::CUT_UNIT;
 
-/// Whether calls are served under this lock.
-pub fn serves_calls(lock: &Lock) -> bool
+// Whether calls are served under this lock.
+fn serves_calls(lock: &Lock) -> bool
     ensures { result ≡ serves_calls lock.now }
 {
     match lock {
@@ -20,8 +20,8 @@ pub fn serves_calls(lock: &Lock) -> bool
     }
 }
 
-/// Whether an arc holds the key of an operation.
-pub fn holds_key(arc: &RingArc, op: &Op) -> bool
+// Whether an arc holds the key of an operation.
+fn holds_key(arc: &RingArc, op: &Op) -> bool
     ensures { result ≡ holds_key arc.now (key_of op.now) }
 {
     arc.holds(op.key().pos())
@@ -45,6 +45,42 @@ pub fn refusal(core: &Core, running: bool, hint: Option<u16>, op: &Op) -> Option
         });
     }
     None
+}
+
+/// Whether a command at the head of the calls waits: a call for the lock, and an order also for what
+/// is under way.
+pub fn waits(idle: bool, lock: &Lock, command: &Command) -> bool
+    ensures { result ≡ waits idle lock.now command.now }
+{
+    match command {
+        Command::Call { .. } => !serves_calls(lock),
+        _ => !serves_calls(lock) || !idle,
+    }
+}
+
+/// The answer of a call that the group does not serve.
+pub fn turned_down(core: &Core, command: &Command) -> Option<AnswerBody>
+    ensures { result ≡ turned_down core.now command.now }
+{
+    match command {
+        Command::Call { op, .. } => refused_by(core, op),
+        _ => None,
+    }
+}
+
+fn refused_by(core: &Core, op: &Op) -> Option<AnswerBody>
+    ensures { result ≡ refused_by core.now.gone core.now op.now }
+{
+    if let Some(into) = &core.gone {
+        return Some(AnswerBody::Gone { into: *into });
+    }
+    if holds_key(&core.arc, op) {
+        return None;
+    }
+    Some(AnswerBody::NotMine {
+        arc: core.arc,
+        succ: core.succ,
+    })
 }
 
 /// How long a transaction has waited: it waits no more where the group is not locked.

@@ -1,7 +1,6 @@
 //! What is asked of a command.
 ghost use Rattle.std.specs.Prelude.{◌≡◌};
 ghost use Rattle.sc_node_table.specs.Sameness.{same_command};
-ghost use Rattle.sc_node_table.specs.Mails.{order_in};
 ghost use Rattle.sc_node_table.specs.Pump.{is_act};
 
 use sc_base::Same;
@@ -21,25 +20,5 @@ pub fn is_act(command: &Command) -> bool
     match command {
         Command::Noop | Command::Call { .. } => false,
         _ => true,
-    }
-}
-
-/// The number of the order that a command is of: 0 where a policy made it, and where it is of none.
-pub fn order_in(command: &Command) -> u32
-    ensures { result ≡ order_in command.now }
-{
-    match command {
-        Command::Join { order, .. }
-        | Command::Leave { order, .. }
-        | Command::Split { order, .. }
-        | Command::Begin { order, .. } => *order,
-        Command::Noop
-        | Command::Call { .. }
-        | Command::Prepared { .. }
-        | Command::RecordVote { .. }
-        | Command::GiveUp { .. }
-        | Command::Finish { .. }
-        | Command::Watched { .. }
-        | Command::RecordWatch { .. } => 0,
     }
 }

@@ -7,7 +7,7 @@ mod commands;
 mod nodes;
 mod open_sets;
 
-pub use choices::{floor_of, holds_key, refusal, serves_calls, waits_in};
-pub use commands::{is_act, order_in, same_command};
-pub use nodes::{nodes_to, not_among};
+pub use choices::{floor_of, refusal, turned_down, waits, waits_in};
+pub use commands::{is_act, same_command};
+pub use nodes::{nodes_to, not_among, uncounted};
 pub use open_sets::Sets;

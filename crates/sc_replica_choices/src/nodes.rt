@@ -2,10 +2,12 @@
 ghost use Rattle.std.specs.Prelude.{◌≡◌, ◌≤◌, filter, not, IfOk};
 ghost use Rattle.sc_base.specs.Limits.{most_nodes};
 ghost use Rattle.sc_member.specs.Roster.{is_member};
+ghost use Rattle.sc_paxos_words.specs.Votes.{has_voted};
 ghost use Rattle.sc_node_table.specs.Election.{nodes_to};
 
 use crate::open_sets::Sets;
 use sc_base::OutOfMemory;
+use sc_leader::Leader;
 use sc_member::Members;
 use std::alloc::Global;
 
@@ -21,6 +23,26 @@ pub fn not_among(alloc: Global, nodes: &[u16], set: &Members) -> Result<Vec<u16>
         }
     }
     Ok(others)
+}
+
+/// The members of a slot whose vote was not counted.
+pub fn uncounted<V>(
+    alloc: Global,
+    leader: &Leader<V>,
+    slot: u32,
+    set: &Members,
+) -> Result<Vec<u16>, OutOfMemory>
+    ensures { IfOk result
+        (λ nodes.
+        nodes.items ≡ filter (λ node. not (has_voted slot node leader.now)) set.now) }
+{
+    let mut nodes = Vec::new(alloc);
+    for node in set.as_slice() {
+        if !leader.voted(slot, *node) {
+            nodes.push(*node)?;
+        }
+    }
+    Ok(nodes)
 }
 
 /// The nodes, of 1 to so many, that are in one of these sets.

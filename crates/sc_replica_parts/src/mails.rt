@@ -7,7 +7,6 @@ ghost use Rattle.sc_node_table.specs.Mails.{sent, answer_to, answered, told_desk
 use sc_base::{Draw, Dup, OutOfMemory, Sequence};
 use sc_cmd::{Command, OrderRefusal, ToldResult};
 use sc_mail::{AnswerBody, DESK, Mail, MailBody, client_number};
-use sc_replica_choices::order_in;
 use std::alloc::Global;
 use std::collections::VecDeque;
 
@@ -79,6 +78,26 @@ pub fn tell_desk(
         },
         out,
     )
+}
+
+/// The number of the order that a command is of: 0 where a policy made it, and where it is of none.
+pub fn order_in(command: &Command) -> u32
+    ensures { result ≡ order_in command.now }
+{
+    match command {
+        Command::Join { order, .. }
+        | Command::Leave { order, .. }
+        | Command::Split { order, .. }
+        | Command::Begin { order, .. } => *order,
+        Command::Noop
+        | Command::Call { .. }
+        | Command::Prepared { .. }
+        | Command::RecordVote { .. }
+        | Command::GiveUp { .. }
+        | Command::Finish { .. }
+        | Command::Watched { .. }
+        | Command::RecordWatch { .. } => 0,
+    }
 }
 
 /// The desk is told what became of an order, if it has a number.

@@ -1,12 +1,14 @@
 //! The waiting commands, in queues of std.
 ghost use Rattle.std.specs.Prelude.{◌≡◌, ◌<◌, ◌∷◌, ◌++◌, [], length, is_none, remove, OnOk};
 ghost use Rattle.std.specs.Option.{option_copied};
+ghost use Rattle.sc_cmd.specs.declared.commands.Command.TheVariants.{Call};
 ghost use Rattle.sc_node_table.specs.Slots.{rest_of};
 ghost use Rattle.sc_node_table.specs.Queues.{call_of, is_call_of, without_call, call_before};
 ghost use Rattle.sc_replica_parts.specs.Heads.{head_of};
 
-use sc_base::OutOfMemory;
+use sc_base::{Dup, Op, OutOfMemory};
 use sc_cmd::Command;
+use std::alloc::Global;
 use std::collections::VecDeque;
 
 /// Whether nothing waits.
@@ -48,6 +50,20 @@ pub fn push_back(queue: &mut VecDeque<Command>, command: Command) -> Result<(), 
 {
     queue.push_back(command)?;
     Ok(())
+}
+
+/// Puts a call behind the last.
+pub fn add_call(
+    alloc: Global,
+    calls: &mut VecDeque<Command>,
+    client: u16,
+    seq: u32,
+    op: &Op,
+) -> Result<(), OutOfMemory>
+    ensures { OnOk result (calls.new.items ≡ calls.old.items ++ Call client seq op.now ∷ []) }
+{
+    let op = op.dup(alloc)?;
+    push_back(calls, Command::Call { client, seq, op })
 }
 
 /// Takes the one at a place out.

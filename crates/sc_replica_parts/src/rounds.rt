@@ -1,11 +1,11 @@
-//! One mail to each of several nodes.
+//! One mail to one or to each of several nodes.
 ghost use Rattle.std.specs.Prelude.{◌≡◌, OnOk};
-ghost use Rattle.sc_mail.specs.declared.bodies.MailBody.TheVariants.{Prepare, Accept, Learn};
+ghost use Rattle.sc_mail.specs.declared.bodies.MailBody.TheVariants.{Prepare, Accept, Learn, Install};
 ghost use Rattle.sc_node_table.specs.Mails.{sent, sent_all, sent_others};
 
 use crate::mails::send;
 use sc_base::{Ballot, Draw, Dup, OutOfMemory, Sequence};
-use sc_cmd::Command;
+use sc_cmd::{Base, Command, MemberSets};
 use sc_mail::{Mail, MailBody};
 use std::alloc::Global;
 
@@ -112,4 +112,25 @@ pub fn send_learns(
         }
     }
     Ok(())
+}
+
+/// The state after a slot, with the members of the open slots, to a node.
+pub fn send_install(
+    me: u16,
+    group: Draw,
+    node: u16,
+    slot: u32,
+    base: Base,
+    sets: MemberSets,
+    out: &mut Sequence<Mail>,
+) -> Result<(), OutOfMemory>
+    ensures { OnOk result (out.new ≡ sent me node (Install group slot base sets) out.old) }
+{
+    let body = MailBody::Install {
+        group,
+        slot,
+        base,
+        sets,
+    };
+    send(me, node as u32, body, out)
 }

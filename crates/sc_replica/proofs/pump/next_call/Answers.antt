@@ -1,8 +1,8 @@
 use Rattle.std.proofs.Common.{List, Option, Some, sym, ap, ◌∙◌}
 use Rattle.sc_cmd.specs.declared.commands.Command.{Command}
 use Rattle.sc_mail.specs.declared.bodies.Mail.{Mail}
-use Rattle.sc_replica_parts.proofs.Calls.{next_call-ends, next_call-found, next_call-goes}
-use Rattle.sc_replica_parts.proofs.heads.next_call.Goals as goal
+use Rattle.sc_replica.proofs.Calls.{next_call-ends, next_call-found, next_call-goes}
+use Rattle.sc_replica.proofs.pump.next_call.Goals as goal
 
 pub returns-in-None : goal.returns-in-None
 returns-in-None c =

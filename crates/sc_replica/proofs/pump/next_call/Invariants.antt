@@ -1,6 +1,6 @@
 use Rattle.std.proofs.Common.{◌≡◌, length}
 use Rattle.sc_node_table.specs.Pump.{next_call}
-use Rattle.sc_replica_parts.proofs.heads.next_call.Given as goal
+use Rattle.sc_replica.proofs.pump.next_call.Given as goal
 
 -- what is left makes the whole
 abbrev pub invariant-loop-alloc : goal.invariant-loop-alloc
