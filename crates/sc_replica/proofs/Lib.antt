@@ -1,3 +1,2 @@
 mod Rounds
 mod Calls
-mod Readiness
