@@ -10,10 +10,14 @@ use Rattle.sc_client_table.specs.Table.{waits_for}
 use Rattle.sc_players.specs.Players.{Player}
 use Rattle.sc_players.specs.declared.roles.Role.TheVariants.{Node, Client}
 
+-- how far a request came, by its reply and whether its client waits for it
+abbrev pub got_by : Option Reply → Bool → Got
+got_by (Some reply) waits = Replied reply
+got_by None waits = if waits then Unanswered else Unsent
+
 -- how far a request came: its client has the reply, waits for it, or has not sent it
 abbrev pub got_of : Option Reply → ClientState → ℕ → Got
-got_of (Some reply) client seq = Replied reply
-got_of None client seq = if waits_for client.waiting seq then Unanswered else Unsent
+got_of reply client seq = got_by reply (waits_for client.waiting seq)
 
 -- the request after so many
 abbrev pub asked_after : ClientState → ℕ → Op → Asked

@@ -7,17 +7,14 @@ ghost use Rattle.sc_node_table.specs.Slots.{slots_ahead};
 ghost use Rattle.sc_node_table.specs.Replica.{next, members, last_slot};
 ghost use Rattle.sc_node_table.specs.Execute.{entered, answer_of, told_call, announced, learnt_to, welcomed, lost, landed, left_gone, left, is_among, looked, executed_one, has_room, next_ready, executed_ready, executed};
 
-use crate::install::waits_in;
-use crate::mails::answer;
 use crate::orders::order_result;
-use crate::ready::{drop_ready, ready_at};
 use crate::replica::{LAST_SLOT, Replica};
-use crate::same::same_command;
 use sc_base::{Dup, OutOfMemory, Sequence, dup_found};
 use sc_cmd::{Command, Effect};
 use sc_mail::{AnswerBody, Mail};
 use sc_member::Members;
-use std::alloc::Global;
+use sc_replica_choices::{not_among, same_command, waits_in};
+use sc_replica_parts::{answer, drop_ready, ready_at};
 
 /// What the effect of a call tells its client; no answer where the call has to wait.
 fn answer_of(effect: Effect) -> Option<AnswerBody>
@@ -35,20 +32,6 @@ fn answer_of(effect: Effect) -> Option<AnswerBody>
         | Effect::Decided(_)
         | Effect::Refused(_) => None,
     }
-}
-
-/// The nodes that are not in a set.
-fn not_among(alloc: Global, nodes: &[u16], set: &Members) -> Result<Vec<u16>, OutOfMemory>
-    ensures { IfOk result
-        (λ others. others.items ≡ filter (λ node. not (is_member set.now node)) nodes.now) }
-{
-    let mut others = Vec::new(alloc);
-    for node in nodes {
-        if !set.has(*node) {
-            others.push(*node)?;
-        }
-    }
-    Ok(others)
 }
 
 impl Replica {
@@ -232,7 +215,7 @@ impl Replica {
             let body = AnswerBody::Gone { into: *into };
             return self.end(None, &body, out);
         }
-        if self.machine.core().members.has(self.me) {
+        if self.has_member(self.me) {
             return Ok(());
         }
         let least = self.machine.core().members.least();
@@ -250,7 +233,7 @@ impl Replica {
         }
         match self.hint {
             None => false,
-            Some(node) => self.machine.core().members.has(node),
+            Some(node) => self.has_member(node),
         }
     }
 

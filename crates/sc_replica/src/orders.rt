@@ -6,12 +6,11 @@ ghost use Rattle.sc_node_table.specs.Replica.{settled};
 ghost use Rattle.sc_node_table.specs.Execute.{result_of, order_result, told_effect};
 ghost use Rattle.sc_node_table.specs.Rows.{order_queued, order_taken, order_row};
 
-use crate::mails::{order_in, tell_desk, tell_order};
-use crate::queues::push_back;
 use crate::replica::Replica;
 use sc_base::{OutOfMemory, Sequence};
 use sc_cmd::{Command, Core, Effect, Order, OrderLine, OrderRefusal, ToldResult};
 use sc_mail::Mail;
+use sc_replica_parts::{order_in, push_back, tell_desk, tell_order};
 use sc_txn::check;
 
 /// What an effect says of its order; nothing where the order goes on.

@@ -4,7 +4,6 @@
 mod begun;
 mod done;
 mod played;
-mod printing;
 mod reporting;
 mod running;
 mod telling;

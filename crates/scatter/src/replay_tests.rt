@@ -4,7 +4,6 @@ ghost use Rattle.std.specs.Prelude.{◌≡◌};
 ghost use Rattle.sc_scenario.specs.Valid.{IsValid};
 
 use crate::Open;
-use crate::played::Played;
 use crate::reporting::play_whole;
 use sc_actor::{Event, Journal, Row, are_few};
 use sc_base::{Draw, Op, Sequence};
@@ -14,6 +13,7 @@ use sc_mail::Mail;
 use sc_replay::{ReplayFault, World, decided_log, history, replay_rows, summary};
 use sc_report::{Summary, lines};
 use sc_scenario::{Scenario, read_scenario};
+use sc_statuses::Played;
 use sc_world::Party;
 use std::alloc::Global;
 use std::mem;
