@@ -3,7 +3,6 @@ ghost use Rattle.std.specs.Prelude.{◌≤◌, ◌^◌};
 ghost use Rattle.sc_scenario.specs.Valid.{IsValid};
 
 use crate::Open;
-use crate::played::Played;
 use crate::reporting::{Left, play_whole};
 use crate::telling::tells_full;
 use crate::tests::FIRST;
@@ -13,6 +12,7 @@ use sc_cmd::{Command, Effect, OrderLine};
 use sc_machine::Machine;
 use sc_mail::{Mail, MailBody};
 use sc_scenario::{Scenario, read_scenario};
+use sc_statuses::Played;
 use std::alloc::Global;
 use std::process::Abort;
 use std::sync::Wait;
