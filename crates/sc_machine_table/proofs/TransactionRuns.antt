@@ -1,7 +1,6 @@
 -- Small runs of transactions, computed: votes, a coordinator that gives up, a watcher, an outcome that cannot be taken over, and boundaries that move.
-use Rattle.std.proofs.Common.{◌≡◌, ℕ, ◌^◌, List, [], ◌∷◌, Some, None, refl}
+use Rattle.std.proofs.Common.{◌≡◌, ℕ, List, [], ◌∷◌, Some, None, refl}
 use Rattle.sc_base.specs.declared.names.Draw.{Draw}
-use Rattle.sc_base.specs.Arc.{Arc}
 use Rattle.sc_cmd.specs.declared.bodies.Body.{Body}
 use Rattle.sc_cmd.specs.declared.bodies.Body.TheVariants.{Merge, Repart}
 use Rattle.sc_cmd.specs.declared.bodies.Offer.{Offer}
