@@ -96,7 +96,7 @@ impl Replica {
         ensures { OnOk result ((self.new, out.new) ≡ looked_up from (self.old, out.old)) }
     {
         if self.has_member(from) {
-            self.hint = Some(from);
+            self.take_hint(from);
             return Ok(());
         }
         self.look(out)
