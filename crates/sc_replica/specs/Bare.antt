@@ -1,4 +1,4 @@
--- A replica that does not run, as it is made.
+-- A replica that does not run, as it is made, and one with another hint.
 use Rattle.std.specs.Prelude.{ℕ, false, List, [], Some}
 use Rattle.sc_cmd.specs.declared.commands.Command.{Command}
 use Rattle.sc_paxos_words.specs.Logs.{LogState}
@@ -24,3 +24,7 @@ bare_replica me group log sets = record {
   calls = [];
   waits = 0;
 }
+
+-- with this node taken for the leader
+abbrev pub with_hint : ℕ → ReplicaState → ReplicaState
+with_hint node r = record r { hint = Some node }

@@ -80,11 +80,11 @@ impl Replica {
         requires four { length sets.now ≡ slots_ahead }
         ensures { OnOk result (self.new ≡ jumped slot base.now sets.now self.old) }
     {
-        let machine = Machine::born(self.alloc, named(self.alloc, self.name(), base)?)?;
-        self.sets = Sets::of(self.alloc, sets)?;
-        self.waits = waits_in(&machine.core().lock, self.waits);
-        self.machine = machine;
+        let base = named(self.alloc, self.name(), base)?;
+        self.waits = waits_in(&base.core.lock, self.waits);
+        self.machine = Machine::born(self.alloc, base)?;
         self.log.install(slot);
+        self.sets = Sets::of(self.alloc, sets)?;
         self.forget(slot);
         Ok(())
     }
@@ -96,7 +96,7 @@ impl Replica {
         ensures { OnOk result ((self.new, out.new) ≡ looked_up from (self.old, out.old)) }
     {
         if self.has_member(from) {
-            self.hint = Some(from);
+            self.take_hint(from);
             return Ok(());
         }
         self.look(out)

@@ -3,7 +3,7 @@ ghost use Rattle.std.specs.Prelude.{◌≡◌, ◌+◌, ◌≤◌, IfOk, OnOk, l
 ghost use Rattle.sc_member.specs.Roster.{is_member};
 ghost use Rattle.sc_node_table.specs.Slots.{slots_ahead};
 ghost use Rattle.sc_node_table.specs.Replica.{born_replica, installed_replica, members, name_of, next, last_slot};
-ghost use Rattle.sc_replica.specs.Bare.{bare_replica};
+ghost use Rattle.sc_replica.specs.Bare.{bare_replica, with_hint};
 
 use sc_acceptor::Acceptor;
 use sc_base::{Ballot, Draw, OutOfMemory, Sequence};
@@ -149,6 +149,13 @@ impl Replica {
         ensures { result ≡ is_member (members self.now) node }
     {
         self.machine.core().members.has(node)
+    }
+
+    /// The node is taken for the leader.
+    pub(crate) fn take_hint(&mut self, node: u16)
+        ensures { self.new ≡ with_hint node self.old }
+    {
+        self.hint = Some(node);
     }
 
     /// The slot after the last executed one.
