@@ -6,15 +6,13 @@ use Rattle.sc_base.specs.Arc.{holds, end_of}
 use Rattle.sc_base.specs.declared.names.Draw.{Draw}
 use Rattle.sc_member.specs.Faults.{add_fault, remove_fault}
 use Rattle.sc_member.specs.Roster.{is_member}
-use Rattle.sc_member.specs.declared.sets.MemberFault.{MemberFault}
 use Rattle.sc_member.specs.declared.sets.MemberFault.TheVariants.{Present, Full}
 use Rattle.sc_cmd.specs.declared.bodies.Body.{Body}
 use Rattle.sc_cmd.specs.declared.bodies.Body.TheVariants.{Merge, Repart, Migrate, Split}
 use Rattle.sc_cmd.specs.declared.commands.Command.{Command}
 use Rattle.sc_cmd.specs.declared.cores.Core.{Core}
-use Rattle.sc_cmd.specs.declared.orders.OrderRefusal.{OrderRefusal}
 use Rattle.sc_cmd.specs.declared.orders.OrderRefusal.TheVariants.{NoNeighbour, BadBoundary, TooManyMembers, NotMember, LastMember, TxLimit, IsMember}
-use Rattle.sc_machine_table.specs.Orders.{is_alone, refused_in, refused_free, join_refused, leave_refused, split_refused, limit_refused, repart_refused, migrate_refused, body_refused, begin_refused}
+use Rattle.sc_machine_table.specs.Orders.{is_alone, refused_in, refused_free, join_refused, leave_refused, split_refused, limit_refused, body_refused, begin_refused}
 use Rattle.sc_machine_table.specs.Splits.{CanSplit}
 
 -- what is not refused passes the first test, and is not refused by what follows

@@ -4,7 +4,7 @@ ghost use Rattle.sc_base.specs.Arc.{holds};
 ghost use Rattle.sc_ideal.specs.IdealStore.{part_of, with_pairs};
 ghost use Rattle.std.specs.FinMap.{empty, entries};
 ghost use Rattle.sc_machine_table.specs.Plans.{has_key_of, can_repart, repart_core, taken, may_merge, merge_plan, closing_plan, repart_plan, giving_plan, taking_plan, migrate_plan, split_plan, enriched};
-ghost use Rattle.sc_machine_table.specs.Transactions.{committed};
+ghost use Rattle.sc_machine_table.specs.Transactions.{committed, decided};
 
 use crate::machine::Machine;
 use sc_base::{Draw, OutOfMemory, Pairs, RingArc, SeenList};
@@ -177,6 +177,24 @@ impl Machine {
         if self.store.has_any(pairs) {
             return Ok(Effect::NoEffect { tx });
         }
+        self.take_in(tx, at, core, pairs, clients)
+    }
+
+    fn take_in(
+        &mut self,
+        tx: Draw,
+        at: u32,
+        core: Core,
+        pairs: &Pairs,
+        clients: &SeenList,
+    ) -> Result<Effect, OutOfMemory>
+        ensures { IfOk result
+            (λ effect.
+            decided
+            (enriched self.old core (record { pairs = pairs.now; clients = clients.now })) tx
+            (Outcome.Moved at None)
+            ≡ (self.new, effect)) }
+    {
         self.enrich(core, pairs, clients)?;
         self.decide(tx, Outcome::Moved { at, gift: None })
     }
