@@ -3,7 +3,9 @@ mod Nothing
 pub mod Pushes
 mod WorkedBoundaries
 mod WorkedCalls
+mod WorkedCovers
 mod WorkedMerges
 mod WorkedMoves
+mod WorkedPairs
 mod WorkedSplits
 pub mod Worked
