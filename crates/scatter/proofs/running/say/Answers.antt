@@ -1,4 +1,3 @@
-use Rattle.std.proofs.Common.{subst}
 use Rattle.scatter.proofs.Readings.{if_ok, of_report}
 use Rattle.scatter.proofs.running.say.Goals as goal
 
