@@ -59,21 +59,31 @@ fn in_brief(body: &MailBody) -> Brief {
 
 // The first mail in brief, how many there are, and how many of these are the entries of that many
 // slots in order, from slot 65 on.
-type Sent = (Brief, usize, usize);
+type Sent = (Brief, usize, u32);
 
-fn told_in(sent: &[Mail]) -> Sent {
-    let mut first = Brief::Other;
-    let mut entries = 0usize;
-    for (mail, slot) in sent.iter().zip(65u32..129) {
-        let brief = in_brief(&mail.body);
-        if slot == 65 {
-            first = brief;
-        }
-        if brief == Brief::Learn(slot) {
+fn first_in(sent: &[Mail]) -> Brief {
+    match sent {
+        [mail, ..] => in_brief(&mail.body),
+        [] => Brief::Other,
+    }
+}
+
+fn is_entry(mail: &Mail, slot: u32) -> bool {
+    in_brief(&mail.body) == Brief::Learn(slot)
+}
+
+fn entries_in(sent: &[Mail]) -> u32 {
+    let mut entries = 0u32;
+    for mail in sent {
+        if is_entry(mail, entries.saturating_add(65)) {
             entries = entries.saturating_add(1);
         }
     }
-    (first, sent.len(), entries)
+    entries
+}
+
+fn told_in(sent: &[Mail]) -> Sent {
+    (first_in(sent), sent.len(), entries_in(sent))
 }
 
 fn take(
