@@ -56,7 +56,8 @@ module _ {A M O : Type 0} {g : Ghosts A M O} {h : MailGhosts M} where
       abbrev e : Seat A
       e = record { who = 0; actor = d.actor }
 
-      halted : (b : Bool) → HasHalted ss place b → has_crashed (seen net) who ≡ b
+      -- the shell tells whether the actor has crashed
+      pub halted : (b : Bool) → HasHalted ss place b → has_crashed (seen net) who ≡ b
       halted b is = ap (has_crashed (seen net)) (sym (at.number d)) ∙ (crashed_at words births net ss c place at.inside d ∙ is d)
 
       act_is : (event : Event O) → acts (sys words births net ss c) (seen net) who event ≡ Some (row_of g.table (get_or births place e) (seen net) event)

@@ -16,3 +16,4 @@ pub mod Births
 pub mod WholeSchedules
 pub mod Seats
 pub mod Closed
+pub mod Crashes

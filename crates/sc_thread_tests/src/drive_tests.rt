@@ -1,15 +1,11 @@
 //! Schedules driven with actors that send each other notes.
-ghost use Rattle.std.specs.Prelude.{◌≡◌, ◌≤◌, [], IfOk};
-ghost use Rattle.sc_exchange.specs.Ports.{given};
-ghost use Rattle.sc_workers.specs.Crews.{IsCrew};
+ghost use Rattle.std.specs.Prelude.{◌≡◌, ◌<◌, ◌≤◌, true, All, IfOk};
+ghost use Rattle.sc_actor.specs.System.{are_apart};
 
-use crate::notes::Note;
-use crate::players::{Open, Pair, Player, add};
-use sc_actor::{Gate, Line, have_one_task};
+use crate::players::{Open, Pair, Player};
+use sc_actor::{Gate, Line, Seat, have_one_task};
 use sc_base::OutOfMemory;
-use sc_drive::{Driven, drive};
-use sc_exchange::Port;
-use sc_shell::Shell;
+use sc_drive::{Driven, drive, goers_are_spared, open};
 use std::alloc::Global;
 use std::sync::Wait;
 use std::sync::atomic::{AtomicU64, Ordering};
@@ -18,16 +14,11 @@ use std::thread::Threads;
 
 // Two actors that send each other notes, four each. The second is out of memory when it has
 // `starves` left.
-fn two_players(
-    alloc: Global,
-    net: &mut Port<Note, u32>,
-    starves: u32,
-) -> Result<Vec<Shell<Player>>, OutOfMemory>
-    requires { (net.old.who ≡ 0) × (given net.old ≡ []) × (2 ≤ net.old.actors) }
-    ensures { IfOk result (λ s. IsCrew net.new s.items) }
+fn two_players(alloc: Global, starves: u32) -> Result<Vec<Seat<Player>>, OutOfMemory>
+    ensures far { IfOk result (λ seats. are_apart seats.items ≡ true) }
+    ensures numbered { IfOk result
+        (λ seats. All (λ seat. (0 < seat.who) × (seat.who ≤ 2)) seats.items) }
 {
-    let one = net.split(1)?;
-    let two = net.split(2)?;
     let first = Player {
         other: 2,
         left: 4,
@@ -38,10 +29,16 @@ fn two_players(
         left: 4,
         starves,
     };
-    let mut shells = Vec::new(alloc);
-    add(&mut shells, net, Shell::new(first, one))?;
-    add(&mut shells, net, Shell::new(second, two))?;
-    Ok(shells)
+    let mut seats = Vec::new(alloc);
+    seats.push(Seat {
+        who: 1,
+        actor: first,
+    })?;
+    seats.push(Seat {
+        who: 2,
+        actor: second,
+    })?;
+    Ok(seats)
 }
 
 // How a schedule of a pair is driven, within so many bytes.
@@ -55,11 +52,12 @@ fn driven<G: Gate, R: Threads + Wait + Sync>(
 ) -> Result<Driven, OutOfMemory>
     requires { bytes ≤ 1000000 }
 {
-    if !have_one_task(lines) {
+    if !have_one_task(lines) || !goers_are_spared(lines) {
         return Err(OutOfMemory);
     }
-    let mut net: Port<Note, u32> = Port::start(alloc, 2, bytes)?;
-    let mut shells = two_players(alloc, &mut net, starves)?;
+    let (net, shells) = open(alloc, two_players(alloc, starves)?, 2, bytes)?;
+    let mut net = net;
+    let mut shells = shells;
     Ok(drive(rt, alloc, &mut net, &mut shells, lines, gate))
 }
 

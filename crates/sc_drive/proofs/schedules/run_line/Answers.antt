@@ -26,3 +26,6 @@ unreachable-requires g c = true≢false (sym c.requires.built ∙ ap has_one_tas
 
 pub run_once-requires-clause-calm : goal.run_once-requires-clause-calm
 run_once-requires-clause-calm g c κs within = calm_else c.args.line.now c.in_default.not-Go c.in_default.not-Settle c.in_default.not-Free c.in_default.not-Storm
+
+pub run_go-requires-clause-runs : goal.run_go-requires-clause-runs
+run_go-requires-clause-runs g c κs within = c.requires.runs c.in-Go.who c.in-Go.is

@@ -1,7 +1,7 @@
 use Rattle.std.proofs.Common.{refl}
 use Rattle.sc_players.specs.Players.{schedule}
 use Rattle.sc_replay.proofs.Births.{all_apart, all_numbered, all_ordered}
-use Rattle.sc_replay.proofs.Lines.{built, few}
+use Rattle.sc_replay.proofs.Lines.{built, few, spared}
 use Rattle.sc_replay.proofs.laws.valid_scenarios_can_play.Goals as goal
 
 pub returns : goal.returns
@@ -12,5 +12,6 @@ returns c = λ scenario valid.
       apart = all_apart scenario early;
       numbered = all_numbered scenario early;
       built = built scenario early (schedule scenario) refl;
+      spared = spared scenario early;
       few = few scenario early;
     }
