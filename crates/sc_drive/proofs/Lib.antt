@@ -17,3 +17,4 @@ pub mod WholeSchedules
 pub mod Seats
 pub mod Closed
 pub mod Crashes
+pub mod FirstCopies

@@ -12,15 +12,15 @@ use std::sync::atomic::{AtomicU64, Ordering};
 use std::test::Fail;
 use std::thread::Threads;
 
-// Two actors that send each other notes, four each. The second is out of memory when it has
-// `starves` left.
-fn two_players(alloc: Global, starves: u32) -> Result<Vec<Seat<Player>>, OutOfMemory>
+// Two actors with four notes each: the second sends them to the first, and the first to `other`. The
+// second is out of memory when it has `starves` left.
+fn two_players(alloc: Global, other: u32, starves: u32) -> Result<Vec<Seat<Player>>, OutOfMemory>
     ensures far { IfOk result (λ seats. are_apart seats.items ≡ true) }
     ensures numbered { IfOk result
         (λ seats. All (λ seat. (0 < seat.who) × (seat.who ≤ 2)) seats.items) }
 {
     let first = Player {
-        other: 2,
+        other,
         left: 4,
         starves: 0,
     };
@@ -41,7 +41,28 @@ fn two_players(alloc: Global, starves: u32) -> Result<Vec<Seat<Player>>, OutOfMe
     Ok(seats)
 }
 
-// How a schedule of a pair is driven, within so many bytes.
+// How a schedule of a pair is driven, within so many bytes. There is no actor with the number 3.
+fn driven_to<G: Gate, R: Threads + Wait + Sync>(
+    rt: &R,
+    alloc: Global,
+    bytes: u64,
+    other: u32,
+    starves: u32,
+    lines: &[Line<u32>],
+    gate: &G,
+) -> Result<Driven, OutOfMemory>
+    requires { bytes ≤ 1000000 }
+{
+    if !have_one_task(lines) || !goers_are_spared(lines) {
+        return Err(OutOfMemory);
+    }
+    let (net, shells) = open(alloc, two_players(alloc, other, starves)?, 3, bytes)?;
+    let mut net = net;
+    let mut shells = shells;
+    Ok(drive(rt, alloc, &mut net, &mut shells, lines, gate))
+}
+
+// The same of a pair that send each other notes.
 fn driven<G: Gate, R: Threads + Wait + Sync>(
     rt: &R,
     alloc: Global,
@@ -52,13 +73,7 @@ fn driven<G: Gate, R: Threads + Wait + Sync>(
 ) -> Result<Driven, OutOfMemory>
     requires { bytes ≤ 1000000 }
 {
-    if !have_one_task(lines) || !goers_are_spared(lines) {
-        return Err(OutOfMemory);
-    }
-    let (net, shells) = open(alloc, two_players(alloc, starves)?, 2, bytes)?;
-    let mut net = net;
-    let mut shells = shells;
-    Ok(drive(rt, alloc, &mut net, &mut shells, lines, gate))
+    driven_to(rt, alloc, bytes, 2, starves, lines, gate)
 }
 
 #[test]
@@ -128,6 +143,25 @@ fn lines_of_one_row_are_made_or_skipped(rt: HostRuntime) -> Result<(), Fail> {
             unsettled: true,
             quiet: false,
             skipped: 5
+        }
+    );
+    Ok(())
+}
+
+#[test]
+fn mail_to_nobody_is_passed_over(rt: HostRuntime) -> Result<(), Fail> {
+    let lines: [Line<u32>; 3] = [
+        Line::Go { who: 1 },
+        Line::Go { who: 2 },
+        Line::Settle { most: 100 },
+    ];
+    let passed = driven_to(&rt, rt.alloc(), 1 << 19, 3, 0, &lines, &Open)?;
+    assert_eq!(rt;
+        passed,
+        Driven::Ended {
+            unsettled: false,
+            quiet: true,
+            skipped: 0
         }
     );
     Ok(())
