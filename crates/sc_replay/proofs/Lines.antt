@@ -1,6 +1,6 @@
 -- The lines and the clients of a scenario of the early form.
-use Rattle.std.proofs.Common.{◌≡◌, ℕ, zero, suc, ◌+◌, ◌<◌, ◌≤◌, List, [], ◌∷◌, length, map, Bool, true, false, true≢false, eqb, ◌||◌, refl, sym, ap, ◌∙◌, subst, arith, slice_index_or, Contains}
-use Rattle.std.specs.List.{All, list_any}
+use Rattle.std.proofs.Common.{◌≡◌, ℕ, zero, suc, ◌<◌, ◌≤◌, List, [], ◌∷◌, length, map, Bool, true, false, true≢false, eqb, ◌||◌, refl, sym, subst, arith, slice_index_or, Contains}
+use Rattle.std.specs.List.{All}
 use Rattle.std.proofs.lemmas.Bool.{eqb-true}
 use Rattle.std.proofs.lemmas.List.Elements.{All-nil, All-cons, All-contains}
 use Rattle.sc_cmd.specs.declared.orders.OrderLine.{OrderLine}
@@ -58,11 +58,12 @@ Parted (line.Storm number most) = Unit {0}
 
 client_some : (clients : List Asks) (client : ℕ) → All IsEarlyClient clients → is_client clients client ≡ true → 0 < client
 client_some [] client all e = absurd (true≢false (sym e))
-client_some (asks ∷ clients) client all e = by (eqb asks.client client) refl e
+client_some (asks ∷ clients) client all e =
+    by (eqb asks.client client) refl e (client_some clients client (λ k d lt. all (suc k) d (omega (arith, lt))))
   where
-    by : (b : Bool) → eqb asks.client client ≡ b → (b || list_any (λ (other : Asks). eqb other.client client) clients) ≡ true → 0 < client
-    by true t e = omega (arith, (all 0 asks (omega arith)).0.0, eqb-true asks.client client t)
-    by false t e = client_some clients client (λ k d lt. all (suc k) d (omega (arith, lt))) e
+    by : (b : Bool) → eqb asks.client client ≡ b → (b || is_client clients client) ≡ true → (is_client clients client ≡ true → 0 < client) → 0 < client
+    by true t e later = omega (arith, (all 0 asks (omega arith)).0.0, eqb-true asks.client client t)
+    by false t e later = later e
 
 parted_one : (nodes : ℕ) (clients : List Asks) (x : SchedLine) → nodes ≤ 32 → All IsEarlyClient clients → IsEarlyLine nodes clients x → Parted (line_of x)
 parted_one nodes clients (Go client) few all h = omega (arith, client_some clients client all h)
