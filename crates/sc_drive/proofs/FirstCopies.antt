@@ -1,8 +1,9 @@
 -- The first copy that an actor of the system gets, among all that are pending to the exchange.
-use Rattle.std.proofs.Common.{◌≡◌, ℕ, zero, suc, ◌+◌, ◌-◌, ◌<◌, ◌≤◌, Bool, true, false, true≢false, eqb, eq-eqb, cond, not, ◌||◌, ◌&&◌, replicate, find, fold, List, [], ◌∷◌, ◌++◌, length, map, get_or, refl, sym, ap, ◌∙◌, subst, arith, length-append, Option, Some, None}
+use Rattle.std.proofs.Common.{◌≡◌, ℕ, zero, suc, ◌+◌, ◌-◌, ◌<◌, ◌≤◌, Bool, true, false, true≢false, eqb, eq-eqb, cond, not, ◌||◌, ◌&&◌, replicate, find, fold, List, [], ◌∷◌, ◌++◌, length, map, take, get_or, refl, sym, ap, ◌∙◌, subst, arith, length-append, Option, Some, None}
 use Rattle.std.specs.Prelude.{slice_get, slice_index, is_none}
 use Rattle.std.specs.List.{list_any}
 use Rattle.std.proofs.lemmas.Bool.{and_parts}
+use Rattle.std.proofs.lemmas.List.{take_more, get_or_default}
 use Rattle.sc_turn.specs.Turn.{StartsWith}
 use Rattle.sc_actor.specs.declared.actors.Actor.{Ghosts}
 use Rattle.sc_actor.specs.declared.actors.Parcel.{Ghosts as MailGhosts}
@@ -29,6 +30,7 @@ use Rattle.sc_drive.proofs.SystemWords.{sys}
 use Rattle.sc_drive.proofs.LowestMail.{wider}
 use Rattle.sc_drive.proofs.OneActed.{count_seen, count_company, none_seen}
 use Rattle.sc_drive.proofs.RowCounts.{flip, whole_front}
+use Rattle.sc_drive.proofs.Seats.{cut_at}
 
 -- the first of the front and then of the rest
 module _ {X : Type 0} (test : X → Bool) where
@@ -212,3 +214,20 @@ module _ {A M O : Type 0} {g : Ghosts A M O} {h : MailGhosts M} where
       where
         there : (births : List (Seat A)) → Company births next after → (o : Option Spot) → find (λ spot. is_in spot.who (crew_numbers after)) spots ≡ o → find (λ spot. is_in spot.who (crew_numbers after)) (spots_of h.receiver next.actors (seen next)) ≡ o
         there births c o e = (λ i. find (λ spot. is_in spot.who (crew_numbers after)) (spots_of h.receiver (looked2.stays.exchange.1 i) (nothing_more births c i))) ∙ (ap (find (λ spot. is_in spot.who (crew_numbers after))) (sym is) ∙ e)
+
+module _ {A M O : Type 0} {g : Ghosts A M O} {h : MailGhosts M} (ss : List (Shell A M O g h)) (spots : List Spot) (i : ℕ) (d : Spot) (lt : i < length spots) (none : find (λ spot. is_in spot.who (crew_numbers ss)) (take i spots) ≡ None) where
+  -- no shell gets the copy at a place
+  pub past_spot : is_in (get_or spots i d).who (crew_numbers ss) ≡ false → find (λ spot. is_in spot.who (crew_numbers ss)) (take (i + 1) spots) ≡ None
+  past_spot out =
+      subst (λ l. find (λ spot. is_in spot.who (crew_numbers ss)) l ≡ None) (sym (take_more spots i d lt))
+      (find_push (λ (spot : Spot). is_in spot.who (crew_numbers ss)) (take i spots) (get_or spots i d) none out)
+
+  -- a shell gets it
+  pub at_spot : (place : ℕ) → IsPlace ss (get_or spots i d).who place → IsFirstPlaced ss spots (Some place)
+  at_spot place at =
+      let spot = get_or spots i d in
+      let cut = cut_at spots i spot lt (get_or_default spots i d spot lt) in (
+        spot,
+        ap (find (λ (s : Spot). is_in s.who (crew_numbers ss))) cut.1 ∙ find_here (λ (s : Spot). is_in s.who (crew_numbers ss)) (take i spots) cut.0 spot none (placed_in ss spot.who place at),
+        at,
+      )

@@ -39,8 +39,8 @@ returns-in-Full-clause-on g c = c.in_ok-tell.ensures.kept
 pub unreachable-requires : goal.unreachable-requires
 unreachable-requires g c = subst IsTold c.in-Empty.is c.in_ok-tell.ensures.answer
 
-pub unreachable-in-Spent-requires : goal.unreachable-in-Spent-requires
-unreachable-in-Spent-requires g c =
+pub unreachable-requires-in-Spent : goal.unreachable-requires-in-Spent
+unreachable-requires-in-Spent g c =
     let net = c.args.net.now in let ss = c.args.shells.now.items in let may = c.requires.runs in
     let at : IsPlace ss c.args.who c.in-Some.place = subst (λ l. IsPlace l c.args.who c.in-Some.place) c.as_slice.ensures.value c.in-Some.ensures.some in
     let told : Told may.0 c.in-Some.place Go net c.tell.new.net ss c.tell.new.shells.items Spent = subst (Told may.0 c.in-Some.place Go net c.tell.new.net ss c.tell.new.shells.items) c.in-Spent.is (c.in_ok-tell.ensures.told may.0 may.1) in
