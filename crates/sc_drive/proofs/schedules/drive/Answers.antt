@@ -24,6 +24,9 @@ loop-line-init g c =
           (nothing_seen births net next ss after born still.looked still.len still.still gathered gathered.rows) c.no_score-score.ensures.0 c.no_score-score.ensures.1 c.no_score-score.ensures.2;
     }
 
+pub gather-requires-clause-exchange : goal.gather-requires-clause-exchange
+gather-requires-clause-exchange g c κs within = c.requires.begins.1.crew.exchange
+
 pub run_line-requires-clause-together : goal.run_line-requires-clause-together
 run_line-requires-clause-together g c κs within = together_on c.args.net.now c.loop-line.net c.args.shells.now.items c.loop-line.shells.items c.requires.begins.1.crew.first c.loop-line.invariant.on
 
@@ -34,7 +37,7 @@ pub run_line-requires-clause-runs : goal.run_line-requires-clause-runs
 run_line-requires-clause-runs g c κs within = λ who is.
     let births = c.requires.begins.0 in let at = c.loop-line.invariant.at no_words births c.requires.begins.1 in
     let has : Contains c.args.lines.now (GoLine who) = subst (λ l. Contains c.args.lines.now l) (sym c.line-item.is ∙ is) (Contains-get_or c.args.lines.now c.loop-line.line-index c.line-item.result c.loop-line-test.true) in
-    (births, at.company, never_crashed (system g.A.Actor.table g.A.Actor.Mail.receiver no_words births) who c.args.lines.now (seen c.loop-line.net) at.lawful (c.requires.spared who has))
+    (births, at.company, never_crashed (system g.A.Actor.table g.A.Mail.Parcel.receiver no_words births) who c.args.lines.now (seen c.loop-line.net) at.lawful (c.requires.spared who has))
 
 pub lowest-requires-clause-together : goal.lowest-requires-clause-together
 lowest-requires-clause-together g c κs within = together_on c.args.net.now c.loop-line.net c.args.shells.now.items c.loop-line.shells.items c.requires.begins.1.crew.first c.loop-line.invariant.on
