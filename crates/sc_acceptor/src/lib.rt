@@ -5,6 +5,3 @@ mod acceptor;
 
 pub use acceptor::Acceptor;
 pub use sc_paxos_words::{AcceptAnswer, PrepareAnswer};
-
-#[cfg(test)]
-mod tests;

@@ -24,6 +24,16 @@ is_crash (Told order) = false
 is_crash (Drop mail) = false
 is_crash (Again mail) = false
 
+-- whether an event delivers a mail
+abbrev pub is_delivery : {O : Type 0} → Event O → Bool
+is_delivery (Deliver mail) = true
+is_delivery Tick = false
+is_delivery Go = false
+is_delivery (Told order) = false
+is_delivery Crash = false
+is_delivery (Drop mail) = false
+is_delivery (Again mail) = false
+
 -- whether an actor has crashed
 abbrev pub has_crashed : {M O : Type 0} → List (Row M O) → ℕ → Bool
 has_crashed rows who = list_any (λ row. row.who == who && is_crash row.event) rows

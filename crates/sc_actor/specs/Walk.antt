@@ -26,7 +26,13 @@ abbrev pub tasks_of : {O : Type 0} → (ℕ → ℕ → ℕ × ℕ) → Line O �
 tasks_of words (Settle most) = Settles most ∷ []
 tasks_of words (Free most workers) = Frees most ∷ []
 tasks_of words (Storm number most) = storm_steps (words number) 0 most
-tasks_of words line = Once line ∷ []
+tasks_of words (GoLine who) = Once (GoLine who) ∷ []
+tasks_of words (DeliverLine who k) = Once (DeliverLine who k) ∷ []
+tasks_of words (DropLine who k) = Once (DropLine who k) ∷ []
+tasks_of words (AgainLine mail) = Once (AgainLine mail) ∷ []
+tasks_of words (TickLine who) = Once (TickLine who) ∷ []
+tasks_of words (CrashLine who) = Once (CrashLine who) ∷ []
+tasks_of words (ToldLine who order) = Once (ToldLine who order) ∷ []
 
 -- whether a line has one task: all lines but storms
 abbrev pub has_one_task : {O : Type 0} → Line O → Bool
@@ -45,7 +51,14 @@ has_one_task (Storm number most) = false
 abbrev pub line_task : {O : Type 0} → Line O → Task O
 line_task (Settle most) = Settles most
 line_task (Free most workers) = Frees most
-line_task line = Once line
+line_task (GoLine who) = Once (GoLine who)
+line_task (DeliverLine who k) = Once (DeliverLine who k)
+line_task (DropLine who k) = Once (DropLine who k)
+line_task (AgainLine mail) = Once (AgainLine mail)
+line_task (TickLine who) = Once (TickLine who)
+line_task (CrashLine who) = Once (CrashLine who)
+line_task (ToldLine who order) = Once (ToldLine who order)
+line_task (Storm number most) = Once (Storm number most)
 
 -- the delivery of a mail to its receiver
 abbrev pub delivery : {A M O : Type 0} → System A M O → List (Row M O) → ℕ → Option (Row M O)

@@ -14,6 +14,3 @@ pub use gates::Gate;
 pub use laws::{journals_are_counted, journals_grow, lawful_journals_grow, next_rows_are_steps};
 pub use rows::{Event, Input, Journal, Row};
 pub use schedules::Line;
-
-#[cfg(test)]
-mod tests;

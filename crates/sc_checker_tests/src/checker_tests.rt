@@ -5,9 +5,9 @@ use sc_actor::{
     Actor, Event, Input, Journal, Line, Parcel, Row, Seat, are_apart, are_few, have_one_task,
 };
 use sc_base::{Dup, OutOfMemory, Same, Sequence};
-use sc_checker::{is_lawful, pending_of, replay};
+use sc_checker::{Replayed, is_lawful, pending_of, replay};
 use std::alloc::Global;
-use std::test::Fail;
+use std::process::Abort;
 
 #[derive(Debug, PartialEq, Eq, Drop)]
 struct Note {
@@ -73,296 +73,310 @@ impl Actor for Relay {
     }
 }
 
-// Actors 1 and 2, which send to each other, with two turns each.
-fn pair(alloc: Global) -> Result<Vec<Seat<Relay>>, OutOfMemory> {
-    let mut seats = Vec::new(alloc);
-    seats.push(Seat {
-        who: 1,
-        actor: Relay { left: 2, next: 2 },
-    })?;
-    seats.push(Seat {
-        who: 2,
-        actor: Relay { left: 2, next: 1 },
-    })?;
-    Ok(seats)
-}
-
 impl Same for Note {
     fn is_same(&self, other: &Note) -> bool {
         self == other
     }
 }
 
+// Actors 1 and 2, which send to each other, with two turns each.
+fn pair(rt: &impl Abort, alloc: Global) -> Vec<Seat<Relay>> {
+    let one = Seat {
+        who: 1,
+        actor: Relay { left: 2, next: 2 },
+    };
+    let two = Seat {
+        who: 2,
+        actor: Relay { left: 2, next: 1 },
+    };
+    let mut seats = Vec::new(alloc);
+    seats.push(one).expect(rt, "memory");
+    seats.push(two).expect(rt, "memory");
+    seats
+}
+
+// At what event an actor acted.
+#[derive(Clone, Copy)]
+enum When {
+    Deliver(u32),
+    Tick,
+    Go,
+    Crash,
+    Drop(u32),
+    Again(u32),
+}
+
 // A row: who acted, at what event, and to whom it sent a note, or 0 for nobody.
-#[derive(Drop)]
-struct Act {
-    who: u32,
-    event: Event<u32>,
-    to: u32,
-}
+type Act = (u32, When, u32);
 
-fn row_of(who: u32, event: Event<u32>, to: u32) -> Act {
-    Act { who, event, to }
-}
-
-fn event_of(act: &Act) -> Event<u32> {
-    match &act.event {
-        Event::Deliver(mail) => Event::Deliver(*mail),
-        Event::Tick => Event::Tick,
-        Event::Go => Event::Go,
-        Event::Told(order) => Event::Told(*order),
-        Event::Crash => Event::Crash,
-        Event::Drop(mail) => Event::Drop(*mail),
-        Event::Again(mail) => Event::Again(*mail),
+fn event_of(when: When) -> Event<u32> {
+    match when {
+        When::Deliver(mail) => Event::Deliver(mail),
+        When::Tick => Event::Tick,
+        When::Go => Event::Go,
+        When::Crash => Event::Crash,
+        When::Drop(mail) => Event::Drop(mail),
+        When::Again(mail) => Event::Again(mail),
     }
 }
 
-fn notes_to(alloc: Global, to: u32) -> Result<Sequence<Note>, OutOfMemory> {
+fn notes_to(rt: &impl Abort, alloc: Global, to: u32) -> Sequence<Note> {
     let mut notes = Sequence::new(alloc);
     if to > 0 {
-        notes.push(Note { to, size: 7 })?;
+        notes.push(Note { to, size: 7 }).expect(rt, "memory");
     }
-    Ok(notes)
+    notes
 }
 
-fn journal(alloc: Global, acts: &[Act]) -> Result<Journal<Note, u32>, OutOfMemory> {
+fn row_of(rt: &impl Abort, alloc: Global, act: Act) -> Row<Note, u32> {
+    let (who, when, to) = act;
+    Row {
+        who,
+        event: event_of(when),
+        sent: notes_to(rt, alloc, to),
+    }
+}
+
+fn journal(rt: &impl Abort, alloc: Global, acts: &[Act]) -> Journal<Note, u32> {
     let mut rows = Sequence::new(alloc);
     for act in acts {
-        let sent = notes_to(alloc, act.to)?;
-        let event = event_of(act);
-        rows.push(Row {
-            who: act.who,
-            event,
-            sent,
-        })?;
+        rows.push(row_of(rt, alloc, *act)).expect(rt, "memory");
     }
-    Ok(rows)
+    rows
 }
 
 // Whether rows are lawful for these lines.
-fn lawful(alloc: Global, lines: &[Line<u32>], acts: &[Act]) -> Result<bool, OutOfMemory> {
-    let rows = journal(alloc, acts)?;
-    let seats = pair(alloc)?;
-    if !have_one_task(lines) || !are_apart(&seats) || !are_few(rows.as_slice()) {
-        return Err(OutOfMemory);
-    }
-    is_lawful(alloc, seats, lines, rows.as_slice())
+fn lawful(rt: &impl Abort, alloc: Global, lines: &[Line<u32>], acts: &[Act]) -> bool {
+    let rows = journal(rt, alloc, acts);
+    let seats = pair(rt, alloc);
+    assert!(rt; have_one_task(lines) && are_apart(&seats) && are_few(rows.as_slice()));
+    is_lawful(alloc, seats, lines, rows.as_slice()).expect(rt, "memory")
 }
 
 // How many first parts of rows are lawful, all of them among these.
-fn lawful_parts(alloc: Global, lines: &[Line<u32>], acts: &[Act]) -> Result<usize, OutOfMemory> {
+fn lawful_parts(rt: &impl Abort, alloc: Global, lines: &[Line<u32>], acts: &[Act]) -> usize {
     let mut parts = 0usize;
     for n in 0..acts.len() {
-        if lawful(alloc, lines, &acts[..n])? {
+        if lawful(rt, alloc, lines, &acts[..n]) {
             parts = parts.saturating_add(1);
         }
     }
-    if lawful(alloc, lines, acts)? {
+    if lawful(rt, alloc, lines, acts) {
         parts = parts.saturating_add(1);
     }
-    Ok(parts)
+    parts
 }
 
-// What rows leave: skipped lines, whether a line was cut off, whether no mail is pending, and the
-// turns that each actor has left; or nothing.
-fn left(
-    alloc: Global,
-    lines: &[Line<u32>],
-    acts: &[Act],
-) -> Result<Option<(u64, bool, bool, u32, u32)>, OutOfMemory> {
-    let rows = journal(alloc, acts)?;
-    let seats = pair(alloc)?;
-    if !have_one_task(lines) || !are_apart(&seats) || !are_few(rows.as_slice()) {
-        return Err(OutOfMemory);
+// Skipped lines, whether a line was cut off, whether no mail is pending, and the turns that each
+// actor has left.
+type Left = (u64, bool, bool, u32, u32);
+
+fn left_in(left: &Replayed<Relay>) -> Option<Left> {
+    match left.seats.as_slice() {
+        [one, two] => Some((
+            left.skipped,
+            left.unsettled,
+            left.quiet,
+            one.actor.left,
+            two.actor.left,
+        )),
+        _ => None,
     }
-    let Some(left) = replay(alloc, seats, lines, rows.as_slice())? else {
-        return Ok(None);
-    };
-    if left.seats.len() != 2 {
-        return Ok(None);
+}
+
+// What rows leave, or nothing where they are not lawful.
+fn left(rt: &impl Abort, alloc: Global, lines: &[Line<u32>], acts: &[Act]) -> Option<Left> {
+    let rows = journal(rt, alloc, acts);
+    let seats = pair(rt, alloc);
+    assert!(rt; have_one_task(lines) && are_apart(&seats) && are_few(rows.as_slice()));
+    match replay(alloc, seats, lines, rows.as_slice()).expect(rt, "memory") {
+        Some(left) => left_in(&left),
+        None => None,
     }
-    Ok(Some((
-        left.skipped,
-        left.unsettled,
-        left.quiet,
-        left.seats[0].actor.left,
-        left.seats[1].actor.left,
-    )))
 }
 
 // The numbers of the mail that rows leave pending, as the digits of one number.
-fn pending(alloc: Global, acts: &[Act], whose: Option<u32>) -> Result<u32, OutOfMemory> {
-    let rows = journal(alloc, acts)?;
-    let seats = pair(alloc)?;
-    if !are_few(rows.as_slice()) {
-        return Err(OutOfMemory);
-    }
-    let found = pending_of(alloc, &seats, rows.as_slice(), whose)?;
+fn pending(rt: &impl Abort, alloc: Global, acts: &[Act], whose: Option<u32>) -> u32 {
+    let rows = journal(rt, alloc, acts);
+    let seats = pair(rt, alloc);
+    assert!(rt; are_few(rows.as_slice()));
+    let found = pending_of(alloc, &seats, rows.as_slice(), whose).expect(rt, "memory");
     let mut digits = 0u32;
     for number in found.as_slice() {
         digits = digits.wrapping_mul(10).wrapping_add(*number);
     }
-    Ok(digits)
+    digits
 }
 
 // Actor 1 goes, and all mail is delivered.
-fn settled() -> [Act; 5] {
-    [
-        row_of(1, Event::Go, 2),
-        row_of(2, Event::Deliver(1), 1),
-        row_of(1, Event::Deliver(2), 2),
-        row_of(2, Event::Deliver(3), 1),
-        row_of(1, Event::Deliver(4), 0),
-    ]
-}
+const SETTLED: [Act; 5] = [
+    (1, When::Go, 2),
+    (2, When::Deliver(1), 1),
+    (1, When::Deliver(2), 2),
+    (2, When::Deliver(3), 1),
+    (1, When::Deliver(4), 0),
+];
 
 // A repeat, two losses, a tick and a crash.
-fn troubled() -> [Act; 8] {
-    [
-        row_of(1, Event::Go, 2),
-        row_of(0, Event::Again(1), 0),
-        row_of(0, Event::Drop(1), 0),
-        row_of(1, Event::Tick, 2),
-        row_of(0, Event::Drop(1), 0),
-        row_of(2, Event::Deliver(2), 1),
-        row_of(2, Event::Crash, 0),
-        row_of(1, Event::Deliver(3), 0),
-    ]
-}
+const TROUBLED: [Act; 8] = [
+    (1, When::Go, 2),
+    (0, When::Again(1), 0),
+    (0, When::Drop(1), 0),
+    (1, When::Tick, 2),
+    (0, When::Drop(1), 0),
+    (2, When::Deliver(2), 1),
+    (2, When::Crash, 0),
+    (1, When::Deliver(3), 0),
+];
+
+const GO_AND_SETTLE: &[Line<u32>] = &[Line::Go { who: 1 }, Line::Settle { most: 10 }];
+
+const GO_AND_FREE: &[Line<u32>] = &[
+    Line::Go { who: 1 },
+    Line::Free {
+        most: 10,
+        workers: 1,
+    },
+];
+
+const GO_AND_TWO: &[Line<u32>] = &[Line::Go { who: 1 }, Line::Settle { most: 2 }];
+
+const OTHER_GOES: &[Line<u32>] = &[Line::Go { who: 2 }, Line::Settle { most: 10 }];
 
 #[test]
-fn the_tables_rows_are_lawful(rt: HostRuntime) -> Result<(), Fail> {
-    let alloc = rt.alloc();
-    let lines = [Line::Go { who: 1 }, Line::Settle { most: 10 }];
-    assert_eq!(rt; lawful_parts(alloc, &lines, &settled())?, 6);
-    let free = [
-        Line::Go { who: 1 },
-        Line::Free {
-            most: 10,
-            workers: 1,
-        },
+fn the_tables_rows_are_lawful(rt: HostRuntime) {
+    let parts = [
+        lawful_parts(&rt, rt.alloc(), GO_AND_SETTLE, &SETTLED),
+        lawful_parts(&rt, rt.alloc(), GO_AND_FREE, &SETTLED),
+        lawful_parts(&rt, rt.alloc(), GO_AND_TWO, &SETTLED),
+        lawful_parts(&rt, rt.alloc(), OTHER_GOES, &SETTLED),
     ];
-    assert_eq!(rt; lawful_parts(alloc, &free, &settled())?, 6);
-    let shorter = [Line::Go { who: 1 }, Line::Settle { most: 2 }];
-    assert_eq!(rt; lawful_parts(alloc, &shorter, &settled())?, 4);
-    let other = [Line::Go { who: 2 }, Line::Settle { most: 10 }];
-    assert_eq!(rt; lawful_parts(alloc, &other, &settled())?, 1);
-    Ok(())
+    assert_eq!(rt; parts, [6, 6, 4, 1]);
 }
 
+// The second row left out, the first one twice, the second one by another, to another, without its
+// note, and at another event.
+const CHANGED: [[Act; 2]; 6] = [
+    [(1, When::Go, 2), (1, When::Deliver(2), 2)],
+    [(1, When::Go, 2), (1, When::Go, 2)],
+    [(1, When::Go, 2), (1, When::Deliver(1), 1)],
+    [(1, When::Go, 2), (2, When::Deliver(1), 2)],
+    [(1, When::Go, 2), (2, When::Deliver(1), 0)],
+    [(1, When::Go, 2), (2, When::Tick, 1)],
+];
+
 #[test]
-fn changed_rows_are_not_lawful(rt: HostRuntime) -> Result<(), Fail> {
-    let alloc = rt.alloc();
-    let lines = [Line::Go { who: 1 }, Line::Settle { most: 10 }];
-    // The second row left out, the first one twice, the second one by another, to another, without
-    // its note, and at another event.
-    let changed = [
-        [row_of(1, Event::Go, 2), row_of(1, Event::Deliver(2), 2)],
-        [row_of(1, Event::Go, 2), row_of(1, Event::Go, 2)],
-        [row_of(1, Event::Go, 2), row_of(1, Event::Deliver(1), 1)],
-        [row_of(1, Event::Go, 2), row_of(2, Event::Deliver(1), 2)],
-        [row_of(1, Event::Go, 2), row_of(2, Event::Deliver(1), 0)],
-        [row_of(1, Event::Go, 2), row_of(2, Event::Tick, 1)],
-    ];
-    for acts in &changed {
-        assert_eq!(rt; lawful_parts(alloc, &lines, acts)?, 2);
+fn changed_rows_are_not_lawful(rt: HostRuntime) {
+    for acts in &CHANGED {
+        assert_eq!(rt; lawful_parts(&rt, rt.alloc(), GO_AND_SETTLE, acts), 2);
     }
     // A note too many.
-    let mut more = settled();
-    more[4].to = 2;
-    assert_eq!(rt; lawful_parts(alloc, &lines, &more)?, 5);
-    Ok(())
+    let mut more = SETTLED;
+    more[4].2 = 2;
+    assert_eq!(rt; lawful_parts(&rt, rt.alloc(), GO_AND_SETTLE, &more), 5);
+}
+
+const BOTH_AND_FREE: &[Line<u32>] = &[
+    Line::Go { who: 1 },
+    Line::Go { who: 2 },
+    Line::Free {
+        most: 2,
+        workers: 2,
+    },
+];
+
+const BOTH_AND_TWO: &[Line<u32>] = &[
+    Line::Go { who: 1 },
+    Line::Go { who: 2 },
+    Line::Settle { most: 2 },
+];
+
+const SECOND_FIRST: [Act; 4] = [
+    (1, When::Go, 2),
+    (2, When::Go, 1),
+    (1, When::Deliver(2), 2),
+    (2, When::Deliver(1), 1),
+];
+
+// Of one actor's mail only the first may come.
+const LATER_MAIL: [Act; 4] = [
+    (1, When::Go, 2),
+    (2, When::Go, 1),
+    (1, When::Deliver(2), 2),
+    (2, When::Deliver(3), 1),
+];
+
+#[test]
+fn free_lines_leave_the_order_of_actors_open(rt: HostRuntime) {
+    let left = left(&rt, rt.alloc(), BOTH_AND_FREE, &SECOND_FIRST);
+    let settled = lawful_parts(&rt, rt.alloc(), BOTH_AND_TWO, &SECOND_FIRST);
+    let later = lawful_parts(&rt, rt.alloc(), BOTH_AND_FREE, &LATER_MAIL);
+    assert_eq!(rt; left, Some((0, true, false, 0, 0)));
+    assert_eq!(rt; (settled, later), (3, 4));
+}
+
+const SKIPPED: &[Line<u32>] = &[
+    Line::Go { who: 1 },
+    Line::Go { who: 1 },
+    Line::Deliver { who: 2, k: 2 },
+    Line::Again { mail: 1 },
+    Line::Drop { who: 2, k: 1 },
+    Line::Tick { who: 1 },
+    Line::Drop { who: 2, k: 1 },
+    Line::Deliver { who: 2, k: 2 },
+    Line::Deliver { who: 2, k: 1 },
+    Line::Crash { who: 2 },
+    Line::Told { who: 2, order: 7 },
+    Line::Again { mail: 1 },
+    Line::Deliver { who: 2, k: 1 },
+    Line::Settle { most: 5 },
+];
+
+#[test]
+fn lines_are_skipped_where_they_make_no_row(rt: HostRuntime) {
+    let parts = lawful_parts(&rt, rt.alloc(), SKIPPED, &TROUBLED);
+    let left = left(&rt, rt.alloc(), SKIPPED, &TROUBLED);
+    assert_eq!(rt; parts, 9);
+    assert_eq!(rt; left, Some((6, false, true, 0, 1)));
+}
+
+const TWO_SETTLES: &[Line<u32>] = &[
+    Line::Deliver { who: 2, k: 1 },
+    Line::Go { who: 1 },
+    Line::Settle { most: 2 },
+    Line::Settle { most: 9 },
+];
+
+#[test]
+fn a_replay_tells_what_rows_leave(rt: HostRuntime) {
+    let left = [
+        left(&rt, rt.alloc(), TWO_SETTLES, &[]),
+        left(&rt, rt.alloc(), TWO_SETTLES, &SETTLED[..2]),
+        left(&rt, rt.alloc(), TWO_SETTLES, &SETTLED[..3]),
+        left(&rt, rt.alloc(), TWO_SETTLES, &SETTLED),
+        left(&rt, rt.alloc(), TWO_SETTLES, &SETTLED[1..]),
+    ];
+    let wanted = [
+        Some((1, false, true, 2, 2)),
+        Some((1, false, false, 1, 1)),
+        Some((1, true, false, 0, 1)),
+        Some((1, true, true, 0, 0)),
+        None,
+    ];
+    assert_eq!(rt; left, wanted);
 }
 
 #[test]
-fn free_lines_leave_the_order_of_actors_open(rt: HostRuntime) -> Result<(), Fail> {
-    let alloc = rt.alloc();
-    let acts = [
-        row_of(1, Event::Go, 2),
-        row_of(2, Event::Go, 1),
-        row_of(1, Event::Deliver(2), 2),
-        row_of(2, Event::Deliver(1), 1),
-    ];
-    let free = [
-        Line::Go { who: 1 },
-        Line::Go { who: 2 },
-        Line::Free {
-            most: 2,
-            workers: 2,
-        },
-    ];
-    assert!(rt; left(alloc, &free, &acts)? == Some((0, true, false, 0, 0)));
-    let settle = [
-        Line::Go { who: 1 },
-        Line::Go { who: 2 },
-        Line::Settle { most: 2 },
-    ];
-    assert_eq!(rt; lawful_parts(alloc, &settle, &acts)?, 3);
-    // Of one actor's mail only the first may come.
-    let later = [
-        row_of(1, Event::Go, 2),
-        row_of(2, Event::Go, 1),
-        row_of(1, Event::Deliver(2), 2),
-        row_of(2, Event::Deliver(3), 1),
-    ];
-    assert_eq!(rt; lawful_parts(alloc, &free, &later)?, 4);
-    Ok(())
-}
-
-#[test]
-fn lines_are_skipped_where_they_make_no_row(rt: HostRuntime) -> Result<(), Fail> {
-    let alloc = rt.alloc();
-    let lines = [
-        Line::Go { who: 1 },
-        Line::Go { who: 1 },
-        Line::Deliver { who: 2, k: 2 },
-        Line::Again { mail: 1 },
-        Line::Drop { who: 2, k: 1 },
-        Line::Tick { who: 1 },
-        Line::Drop { who: 2, k: 1 },
-        Line::Deliver { who: 2, k: 2 },
-        Line::Deliver { who: 2, k: 1 },
-        Line::Crash { who: 2 },
-        Line::Told { who: 2, order: 7 },
-        Line::Again { mail: 1 },
-        Line::Deliver { who: 2, k: 1 },
-        Line::Settle { most: 5 },
-    ];
-    let acts = troubled();
-    assert_eq!(rt; lawful_parts(alloc, &lines, &acts)?, 9);
-    assert!(rt; left(alloc, &lines, &acts)? == Some((6, false, true, 0, 1)));
-    Ok(())
-}
-
-#[test]
-fn a_replay_tells_what_rows_leave(rt: HostRuntime) -> Result<(), Fail> {
-    let alloc = rt.alloc();
-    let lines = [
-        Line::Deliver { who: 2, k: 1 },
-        Line::Go { who: 1 },
-        Line::Settle { most: 2 },
-        Line::Settle { most: 9 },
-    ];
-    let acts = settled();
-    assert!(rt; left(alloc, &lines, &[])? == Some((1, false, true, 2, 2)));
-    assert!(rt; left(alloc, &lines, &acts[..2])? == Some((1, false, false, 1, 1)));
-    assert!(rt; left(alloc, &lines, &acts[..3])? == Some((1, true, false, 0, 1)));
-    assert!(rt; left(alloc, &lines, &acts)? == Some((1, true, true, 0, 0)));
-    assert!(rt; left(alloc, &lines, &acts[1..])?.is_none());
-    Ok(())
-}
-
-#[test]
-fn pending_mail_is_looked_up(rt: HostRuntime) -> Result<(), Fail> {
-    let alloc = rt.alloc();
-    let acts = troubled();
+fn pending_mail_is_looked_up(rt: HostRuntime) {
     // Before each row, the mail of all actors.
     let all = [0u32, 1, 11, 1, 12, 2, 3, 3];
     for n in 0..8usize {
-        assert_eq!(rt; pending(alloc, &acts[..n], None)?, all[n]);
+        assert_eq!(rt; pending(&rt, rt.alloc(), &TROUBLED[..n], None), all[n]);
     }
-    assert_eq!(rt; pending(alloc, &acts, None)?, 0);
-    assert_eq!(rt; pending(alloc, &acts[..4], Some(1))?, 0);
-    assert_eq!(rt; pending(alloc, &acts[..4], Some(2))?, 12);
-    Ok(())
+    let found = [
+        pending(&rt, rt.alloc(), &TROUBLED, None),
+        pending(&rt, rt.alloc(), &TROUBLED[..4], Some(1)),
+        pending(&rt, rt.alloc(), &TROUBLED[..4], Some(2)),
+    ];
+    assert_eq!(rt; found, [0, 0, 12]);
 }

@@ -6,6 +6,3 @@ mod client;
 mod requests;
 
 pub use client::ClientCore;
-
-#[cfg(test)]
-mod tests;

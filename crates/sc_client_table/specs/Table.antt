@@ -11,9 +11,9 @@ use Rattle.sc_base.specs.Same.{same_draw}
 use Rattle.sc_cmd.specs.declared.orders.OrderLine.{OrderLine}
 use Rattle.sc_mail.specs.declared.bodies.Mail.{Mail}
 use Rattle.sc_mail.specs.declared.bodies.MailBody.{MailBody}
-use Rattle.sc_mail.specs.declared.bodies.MailBody.TheVariants.{Request, Answer}
+use Rattle.sc_mail.specs.declared.bodies.MailBody.TheVariants.{Request, Answer, Prepare, Promise, Accept, Accepted, Nack, Learn, Ask, Install, TxPrepare, TxVote, TxOutcome, TxElsewhere, TxWatch, TxWatched, Told as ToldMail}
 use Rattle.sc_mail.specs.declared.bodies.AnswerBody.{AnswerBody}
-use Rattle.sc_mail.specs.declared.bodies.AnswerBody.TheVariants.{Value, NotLeader, NotMine, Gone}
+use Rattle.sc_mail.specs.declared.bodies.AnswerBody.TheVariants.{Value, NotLeader, NotMine, Gone, Stale}
 use Rattle.sc_lookup.specs.Known.{chosen, target_in, preferring, passed_on, told_not_mine, told_gone}
 use Rattle.sc_client_table.specs.Client.{Client, waiting_request}
 
@@ -28,7 +28,8 @@ request_of me group target request = record { from = client_actor me; to = targe
 -- a request goes to a node of a group, where there is such a node and such a request
 abbrev pub asked_of : Client → Draw → Option ℕ → Option (ℕ × Op) → Step
 asked_of client group (Some target) (Some request) = (record client { asked = Some (group, target) }, request_of client.me group target request ∷ [])
-asked_of client group _ _ = (client, [])
+asked_of client group (Some target) None = (client, [])
+asked_of client group None request = (client, [])
 
 -- the waiting request goes to a group's target
 abbrev pub sent_to : Draw → Client → Step
@@ -61,7 +62,8 @@ turned_on group client = sent_to group (record client { known = passed_on group 
 -- with a request waiting, the group last asked is asked again, at the next node
 abbrev pub ticked : Client → Option ℕ → Option (Draw × ℕ) → Step
 ticked client (Some seq) (Some asked) = turned_on asked.0 client
-ticked client _ _ = (client, [])
+ticked client (Some seq) None = (client, [])
+ticked client None asked = (client, [])
 
 -- whether a number is the waiting one
 abbrev pub waits_for : Option ℕ → ℕ → Bool
@@ -79,7 +81,8 @@ redirected group (NotLeader (Some hint)) client = sent_to group (record client {
 redirected group (NotLeader None) client = turned_on group client
 redirected group (NotMine arc succ) client = sent (record client { known = told_not_mine group arc succ client.known })
 redirected group (Gone into) client = sent (record client { known = told_gone group into client.known })
-redirected group _ client = (client, [])
+redirected group (Value reply) client = (client, [])
+redirected group (Stale last) client = (client, [])
 
 -- an answer to the waiting request
 abbrev pub answered : ℕ → Draw → ℕ → AnswerBody → Client → Step
@@ -89,7 +92,22 @@ answered from group seq answer client = if was_asked client.asked from group the
 -- a mail; one that is no answer to the waiting request is ignored
 abbrev pub got : ℕ → MailBody → Client → Step
 got from (Answer group seq answer) client = if waits_for client.waiting seq then answered from group seq answer client else (client, [])
-got from _ client = (client, [])
+got from (Request group to seq op) client = (client, [])
+got from (Prepare group ballot from_slot) client = (client, [])
+got from (Promise group ballot reports) client = (client, [])
+got from (Accept group ballot slot command) client = (client, [])
+got from (Accepted group ballot slot) client = (client, [])
+got from (Nack group promised) client = (client, [])
+got from (Learn group slot command) client = (client, [])
+got from (Ask group from_slot) client = (client, [])
+got from (Install group slot base sets) client = (client, [])
+got from (TxPrepare tx offer) client = (client, [])
+got from (TxVote tx coord part vote) client = (client, [])
+got from (TxOutcome tx part outcome) client = (client, [])
+got from (TxElsewhere tx coord hint) client = (client, [])
+got from (TxWatch tx watch) client = (client, [])
+got from (TxWatched tx coord part vote) client = (client, [])
+got from (ToldMail order result) client = (client, [])
 
 -- what an input makes of a client, and what it sends
 abbrev pub table : Client → Input Mail OrderLine → Step

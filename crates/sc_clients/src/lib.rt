@@ -5,6 +5,3 @@ mod table;
 
 pub use sc_ideal::Seen;
 pub use table::ClientTable;
-
-#[cfg(test)]
-mod tests;

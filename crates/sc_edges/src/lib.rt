@@ -10,6 +10,3 @@ pub use memory::{MemSink, MemSource};
 pub use outside::{StdSink, StdSource};
 pub use reading::{ReadFault, read_all};
 pub use traits::{Failed, Sink, Source};
-
-#[cfg(test)]
-mod tests;

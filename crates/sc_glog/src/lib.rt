@@ -5,6 +5,3 @@ mod log;
 
 pub use log::Glog;
 pub use sc_paxos_words::Learnt;
-
-#[cfg(test)]
-mod tests;

@@ -4,11 +4,12 @@ use Rattle.std.specs.Prelude.{slice_get}
 use Rattle.std.specs.Option.{option_map}
 use Rattle.std.proofs.lemmas.Bool.{cases_Bool, cond-true, cond-false}
 use Rattle.std.proofs.lemmas.List.{length_push}
+use Rattle.sc_base.specs.Limits.{client_actor}
 use Rattle.sc_base.specs.declared.names.Draw.{Draw}
 use Rattle.sc_base.specs.declared.ops.Op.{Op}
 use Rattle.sc_base.specs.declared.ops.Reply.{Reply}
 use Rattle.sc_cmd.specs.declared.commands.Command.{Command}
-use Rattle.sc_cmd.specs.declared.commands.Command.TheVariants.{Noop, Call, Join, Leave, Split}
+use Rattle.sc_cmd.specs.declared.commands.Command.TheVariants.{Noop, Call, Join, Leave, Split, Begin, Prepared, RecordVote, GiveUp, Finish, Watched, RecordWatch}
 use Rattle.sc_cmd.specs.declared.cores.Base.{Base}
 use Rattle.sc_cmd.specs.declared.orders.OrderLine.{OrderLine}
 use Rattle.sc_mail.specs.declared.bodies.AnswerBody.TheVariants.{Value}
@@ -52,7 +53,14 @@ Made scenario rows (Call client seq op) = IsIssued scenario rows client seq op
 Made scenario rows Noop = Unit {0}
 Made scenario rows (Join node order) = Unit {0}
 Made scenario rows (Leave node order) = Unit {0}
-Made scenario rows _ = ⊥
+Made scenario rows (Split at child order) = ⊥
+Made scenario rows (Begin tx body order) = ⊥
+Made scenario rows (Prepared tx offer) = ⊥
+Made scenario rows (RecordVote tx vote by) = ⊥
+Made scenario rows (GiveUp tx) = ⊥
+Made scenario rows (Finish tx outcome) = ⊥
+Made scenario rows (Watched tx watch) = ⊥
+Made scenario rows (RecordWatch tx vote by) = ⊥
 
 issued_later : (scenario : Scenario) (rows : Journal) (row : Row Mail OrderLine) (client seq : ℕ) (op : Op) → IsIssued scenario rows client seq op → IsIssued scenario (rows ++ row ∷ []) client seq op
 issued_later scenario rows row client seq op i =
@@ -69,10 +77,20 @@ issued_later scenario rows row client seq op i =
       within = omega (arith, le, longer);
     }
 
--- nothing that is made divides the group
+-- what is made is what may be queued so far
 pub made_whole : (scenario : Scenario) (rows : Journal) (c : Command) → Made scenario rows c → LeavesWhole c
+made_whole scenario rows Noop m = tt
+made_whole scenario rows (Call client seq op) m = tt
+made_whole scenario rows (Join node order) m = tt
+made_whole scenario rows (Leave node order) m = tt
 made_whole scenario rows (Split at child order) m = m
-made_whole scenario rows _ m = tt
+made_whole scenario rows (Begin tx body order) m = m
+made_whole scenario rows (Prepared tx offer) m = m
+made_whole scenario rows (RecordVote tx vote by) m = m
+made_whole scenario rows (GiveUp tx) m = m
+made_whole scenario rows (Finish tx outcome) m = m
+made_whole scenario rows (Watched tx watch) m = m
+made_whole scenario rows (RecordWatch tx vote by) m = m
 
 -- what replicas make themselves counts as made
 pub grants : (ahead : Ahead) (base : Base) (scenario : Scenario) (rows : Journal) → Grants ahead base (Made scenario rows)
@@ -81,7 +99,17 @@ grants ahead base scenario rows = record { noop = tt; joins = λ node order. tt;
 -- what was made stays made with one more row
 pub made_later : (scenario : Scenario) (rows : Journal) (row : Row Mail OrderLine) (c : Command) → Made scenario rows c → Made scenario (rows ++ row ∷ []) c
 made_later scenario rows row (Call client seq op) m = issued_later scenario rows row client seq op m
-made_later scenario rows row _ m = m
+made_later scenario rows row Noop m = tt
+made_later scenario rows row (Join node order) m = tt
+made_later scenario rows row (Leave node order) m = tt
+made_later scenario rows row (Split at child order) m = m
+made_later scenario rows row (Begin tx body order) m = m
+made_later scenario rows row (Prepared tx offer) m = m
+made_later scenario rows row (RecordVote tx vote by) m = m
+made_later scenario rows row (GiveUp tx) m = m
+made_later scenario rows row (Finish tx outcome) m = m
+made_later scenario rows row (Watched tx watch) m = m
+made_later scenario rows row (RecordWatch tx vote by) m = m
 
 issue_bound : (client seq before : ℕ) (rows : Journal) (i : ℕ) → issued_from client seq before rows ≡ Some i → i ≤ before + length rows
 issue_bound client seq before [] i e = cc
@@ -182,7 +210,7 @@ module _ (ahead : Ahead) (base : Base) where
   Grew h asks old new = (new ≡ old) ⊎ ((reply : Reply) × (new ≡ old ++ reply ∷ []) × IsAnswered h asks.client (length old + 1) reply)
 
   module _ (made : Command → Type 0) (h : Steps) (asks : Asks) (client after : Client) (c : IsClient h asks client) (input : Input Mail OrderLine) (sent : List Mail) (turn : InTurn client after input sent)
-      (told : (m : Mail) → input ≡ Got m → (m.to ≡ 32 + asks.client) × IsTrue ahead base made h m m.body) (fresh : input ≡ Go → client.replies ≡ []) where
+      (told : (m : Mail) → input ≡ Got m → (m.to ≡ client_actor asks.client) × IsTrue ahead base made h m m.body) (fresh : input ≡ Go → client.replies ≡ []) where
     waited : Waits client after → IsClient h asks after × Grew h asks client.replies after.replies
     waited s = (
       record {

@@ -1,6 +1,7 @@
 -- Execution: the command of the next slot, which is chosen there, lengthens the log.
 use Rattle.std.proofs.Common.{◌≡◌, ℕ, ◌+◌, ◌<◌, ◌&&◌, ◌||◌, nat_lt, Bool, true, false, cond, eqb, List, [], ◌∷◌, ◌++◌, length, Option, Some, None, ◌⊎◌, inl, inr, refl, sym, ◌∙◌, ap, subst, arith}
 use Rattle.std.proofs.lemmas.Bool.{cases_Bool, eqb-true, eqb-false, and_parts, cond_both}
+use Rattle.sc_base.specs.Limits.{client_actor}
 use Rattle.sc_base.specs.declared.ops.Op.{Op}
 use Rattle.sc_base.specs.declared.ops.Reply.{Reply}
 use Rattle.sc_cmd.specs.declared.links.Route.{Route}
@@ -29,7 +30,7 @@ use Rattle.sc_node_table.specs.Replica.{ReplicaState, Place, name_of, next, memb
 use Rattle.sc_node_table.specs.Mails.{sent, order_in, told_order}
 use Rattle.sc_node_table.specs.Queues.{call_of, without_call, call_before, put_back}
 use Rattle.sc_node_table.specs.Sameness.{same_command}
-use Rattle.sc_node_table.specs.Execute.{entered, answer_of, told_call, result_of, told_effect, announced, learnt_to, lost, landed, left_gone, left, is_among, looked_for, looked, executed_one, has_room, next_ready, executed_ready, executed}
+use Rattle.sc_node_table.specs.Execute.{entered, answer_of, told_call, order_result, told_effect, announced, learnt_to, lost, landed, left_gone, left, is_among, looked_for, looked, executed_one, has_room, next_ready, executed_ready, executed}
 use Rattle.sc_node_table.specs.Pump.{pumped}
 use Rattle.sc_ideal.specs.History.{HasEntry}
 use Rattle.sc_hist_law.specs.Laws.{IsReplied, LogTells}
@@ -91,16 +92,16 @@ module _ (ahead : Ahead) (base : Base) (made : Command → Type 0) (grants : Gra
   -- ---- a counted call is answered, or goes back
 
   true_answer : (h : Steps) (log : List Command) → IsLog (rule ahead base) h log → (client seq : ℕ) (effect : Effect) → ((reply : Reply) → IsReplied effect reply → HasEntry (done_by (birth ahead base) log) client seq reply)
-      → (answer : AnswerBody) → answer_of effect ≡ Some answer → IsTrueAnswer ahead base h (32 + client) seq answer
+      → (answer : AnswerBody) → answer_of effect ≡ Some answer → IsTrueAnswer ahead base h (client_actor client) seq answer
   true_answer h log is client seq (Was.Done reply) f answer e =
       let same : Says.Value reply ≡ answer = cc in
-      subst (IsTrueAnswer ahead base h (32 + client) seq) same (log, is, λ other to. (let who : client ≡ other = omega (arith, to) in subst (λ n. HasEntry (done_by (birth ahead base) log) n seq reply) who (f reply (inl refl))))
+      subst (IsTrueAnswer ahead base h (client_actor client) seq) same (log, is, λ other to. (let who : client ≡ other = omega (arith, to) in subst (λ n. HasEntry (done_by (birth ahead base) log) n seq reply) who (f reply (inl refl))))
   true_answer h log is client seq (Was.Again reply) f answer e =
       let same : Says.Value reply ≡ answer = cc in
-      subst (IsTrueAnswer ahead base h (32 + client) seq) same (log, is, λ other to. (let who : client ≡ other = omega (arith, to) in subst (λ n. HasEntry (done_by (birth ahead base) log) n seq reply) who (f reply (inr refl))))
-  true_answer h log is client seq (Was.Stale last) f answer e = let same : Says.Stale last ≡ answer = cc in subst (IsTrueAnswer ahead base h (32 + client) seq) same tt
-  true_answer h log is client seq (Was.NotMine arc succ) f answer e = let same : Says.NotMine arc succ ≡ answer = cc in subst (IsTrueAnswer ahead base h (32 + client) seq) same tt
-  true_answer h log is client seq (Was.Gone into) f answer e = let same : Says.Gone into ≡ answer = cc in subst (IsTrueAnswer ahead base h (32 + client) seq) same tt
+      subst (IsTrueAnswer ahead base h (client_actor client) seq) same (log, is, λ other to. (let who : client ≡ other = omega (arith, to) in subst (λ n. HasEntry (done_by (birth ahead base) log) n seq reply) who (f reply (inr refl))))
+  true_answer h log is client seq (Was.Stale last) f answer e = let same : Says.Stale last ≡ answer = cc in subst (IsTrueAnswer ahead base h (client_actor client) seq) same tt
+  true_answer h log is client seq (Was.NotMine arc succ) f answer e = let same : Says.NotMine arc succ ≡ answer = cc in subst (IsTrueAnswer ahead base h (client_actor client) seq) same tt
+  true_answer h log is client seq (Was.Gone into) f answer e = let same : Says.Gone into ≡ answer = cc in subst (IsTrueAnswer ahead base h (client_actor client) seq) same tt
   true_answer h log is client seq _ f answer e = cc
 
   -- what stands after a part of an execution: the place, the command of the executed slot, that slot, and that a counted command is one's own
@@ -111,11 +112,11 @@ module _ (ahead : Ahead) (base : Base) (made : Command → Type 0) (grants : Gra
     runs_is : counted ≡ true → place.0.running ≡ true
 
   told_place : (counted : Bool) (slot : ℕ) (d : Command) (o : Option AnswerBody) (c : Command) (r : ReplicaState) (mails : List Mail) → (p : Past counted slot d (r, mails)) → made c
-      → ((client seq : ℕ) (op : Op) (answer : AnswerBody) → c ≡ Call client seq op → o ≡ Some answer → IsTrueAnswer ahead base (p.fine.newer ++ before) (32 + client) seq answer)
+      → ((client seq : ℕ) (op : Op) (answer : AnswerBody) → c ≡ Call client seq op → o ≡ Some answer → IsTrueAnswer ahead base (p.fine.newer ++ before) (client_actor client) seq answer)
       → Past counted slot d (told_call o c (r, mails))
   unfolding told_call says turn
   told_place counted slot d (Some answer) (Call client seq op) r mails p m t = record {
-    fine = says ahead base made me before r mails (record { from = r.me; to = 32 + client; body = Answer (name_of r) seq answer }) p.fine refl (t client seq op answer refl refl);
+    fine = says ahead base made me before r mails (record { from = r.me; to = client_actor client; body = Answer (name_of r) seq answer }) p.fine refl (t client seq op answer refl refl);
     learnt_is = p.learnt_is;
     executed_is = p.executed_is;
     runs_is = p.runs_is;
@@ -281,13 +282,13 @@ module _ (ahead : Ahead) (base : Base) (made : Command → Type 0) (grants : Gra
       subst (λ l. HasEntry (done_by (birth ahead base) l) client seq reply) (ap (λ d. log ++ d ∷ []) (sym is))
       ((law log k.log_is.all_made).replies client seq op reply
       (subst (λ (g : Group). IsReplied (applied g (Call client seq op)).1 reply) k.log_is.group_is (subst (λ d. IsReplied (applied r.group d).1 reply) is replied)))) in
-      let answers : (client seq : ℕ) (op : Op) (answer : AnswerBody) → c ≡ Call client seq op → answer_of effect ≡ Some answer → IsTrueAnswer ahead base h (32 + client) seq answer = λ client seq op answer is e.
+      let answers : (client seq : ℕ) (op : Op) (answer : AnswerBody) → c ≡ Call client seq op → answer_of effect ≡ Some answer → IsTrueAnswer ahead base h (client_actor client) seq answer = λ client seq op answer is e.
       (true_answer h (log ++ c ∷ []) has.is_log client seq effect (λ reply replied. replies client seq op reply is replied) answer e) in
       let start : Past counted (next r) c (entered c r, mails) = record { fine = place; learnt_is = t; executed_is = up; runs_is = λ e. entered_runs ahead base made me c r ∙ runs e } in
       let answered_it : Past counted (next r) c (cond counted (told_call (answer_of effect) c (entered c r, mails)) (entered c r, mails)) = (
       cond_both counted (told_call (answer_of effect) c (entered c r, mails)) (entered c r, mails) (Past counted (next r) c)
       (λ _. told_place counted (next r) c (answer_of effect) c (entered c r) mails start m answers) (λ _. start)) in
-      let spoken : Past counted (next r) c (announced counted effect c (entered c r, mails)) = ordered_place counted (next r) c (result_of effect) c _ answered_it in
+      let spoken : Past counted (next r) c (announced counted effect c (entered c r, mails)) = ordered_place counted (next r) c (order_result c effect) c _ answered_it in
       let said = announced counted effect c (entered c r, mails) in
       let taught = learnt_place counted (members r) (next r) c said spoken in
       let welcome = welcomed_place ahead base made me before counted (members r) said.0 (learnt_to counted (members r) (next r) c said) (learnt_same counted (members r) (next r) c said) taught spoken.runs_is in

@@ -4,6 +4,7 @@ use Rattle.std.specs.Prelude.{slice_get}
 use Rattle.std.specs.List.{flat_map}
 use Rattle.std.proofs.Math.Nat.{max-le}
 use Rattle.std.proofs.lemmas.List.{length_push, length-drop, drop-drop, drop-append-le}
+use Rattle.sc_base.specs.Limits.{client_actor}
 use Rattle.sc_base.specs.declared.names.Ballot.{Ballot}
 use Rattle.sc_base.specs.declared.names.Draw.{Draw}
 use Rattle.sc_base.specs.Same.{same_draw}
@@ -195,7 +196,7 @@ module _ (ahead : Ahead) (base : Base) where
 
   -- a reply is that of an entry of the log
   abbrev pub IsTrueAnswer : Steps → ℕ → ℕ → AnswerBody → Type 0
-  IsTrueAnswer h to seq (Says.Value reply) = (log : List Command) × IsLog rule h log × ((client : ℕ) → to ≡ 32 + client → HasEntry (done_by birth log) client seq reply)
+  IsTrueAnswer h to seq (Says.Value reply) = (log : List Command) × IsLog rule h log × ((client : ℕ) → to ≡ client_actor client → HasEntry (done_by birth log) client seq reply)
   IsTrueAnswer h to seq _ = Unit {0}
 
   -- the group of a record is the state after a log up to a slot, and the sets are the members of the open slots after it

@@ -2,7 +2,7 @@
 use Rattle.std.proofs.Common.{◌≡◌, ℕ, ◌≤◌, ◌&&◌, not, true, false, cond, eqb, List, [], ◌∷◌, length, Option, Some, None, inl, inr, refl, sym, ◌∙◌, subst, arith}
 use Rattle.std.proofs.lemmas.Bool.{cases_Bool, eqb-false, and_from, cond_both}
 use Rattle.sc_cmd.specs.declared.commands.Command.{Command}
-use Rattle.sc_cmd.specs.declared.commands.Command.TheVariants.{Call, Join, Leave, Split}
+use Rattle.sc_cmd.specs.declared.commands.Command.TheVariants.{Noop, Call, Join, Leave, Split, Begin, Prepared, RecordVote, GiveUp, Finish, Watched, RecordWatch}
 use Rattle.sc_cmd.specs.declared.cores.Core.{Core}
 use Rattle.sc_base.specs.declared.names.Draw.{Draw}
 use Rattle.sc_cmd.specs.declared.links.Route.{Route}
@@ -66,8 +66,15 @@ applied_roster group (Join node order) whole roster =
 applied_roster group (Leave node order) whole roster =
     ordered_if (λ g. IsRoster g.core.members) group.core.gone (refusal_of group.core (Leave node order)) (without_node group node) group
     (λ e. roster_without group.core.members node roster (may_leave group.core node (free_refusal (locked_in group.core.lock) group.core (Leave node order) e) roster)) roster
+applied_roster group Noop whole roster = roster
 applied_roster group (Split at child order) whole roster = absurd whole
-applied_roster group _ whole roster = roster
+applied_roster group (Begin tx body order) whole roster = absurd whole
+applied_roster group (Prepared tx offer) whole roster = absurd whole
+applied_roster group (RecordVote tx vote by) whole roster = absurd whole
+applied_roster group (GiveUp tx) whole roster = absurd whole
+applied_roster group (Finish tx outcome) whole roster = absurd whole
+applied_roster group (Watched tx watch) whole roster = absurd whole
+applied_roster group (RecordWatch tx vote by) whole roster = absurd whole
 
 -- the members are a roster after each log that divides no group
 pub state_roster : (group : Group) (log : List Command) → Each LeavesWhole log → IsRoster group.core.members → IsRoster (state_after group log).core.members

@@ -3,6 +3,7 @@ use Rattle.std.proofs.Common.{◌≡◌, ℕ, zero, suc, ◌+◌, ◌-◌, ◌<�
 use Rattle.std.specs.Prelude.{slice_get}
 use Rattle.std.proofs.lemmas.Bool.{eqb-true, ltb-true, and_parts, cond_both, not-false}
 use Rattle.std.proofs.lemmas.Option.{slice_get_within}
+use Rattle.sc_base.specs.Limits.{client_actor}
 use Rattle.sc_base.specs.declared.names.Ballot.{Ballot}
 use Rattle.sc_base.specs.declared.ops.Op.{Op}
 use Rattle.sc_ideal.specs.IdealStore.{key_of, holds_key}
@@ -27,7 +28,7 @@ use Rattle.sc_node_table.specs.Mails.{sent, sent_all}
 use Rattle.sc_node_table.specs.Queues.{call_of, without_call}
 use Rattle.sc_node_table.specs.Pump.{serves_calls}
 use Rattle.sc_node_table.specs.Voting.{nack_row}
-use Rattle.sc_node_table.specs.Rows.{refused_at, queued, requested, request_row, learn_row, taught, asked_from, ask_row, uncounted, asked_again, told_last, tick_row}
+use Rattle.sc_node_table.specs.Rows.{refused_at, queued, requested, request_row, learn_row, taught, most_taught, asked_from, ask_row, uncounted, asked_again, told_last, tick_row}
 use Rattle.sc_hist_law.specs.Laws.{LogTells}
 use Rattle.sc_players.specs.Players.{Ahead}
 use Rattle.sc_group_law.proofs.Growth.{IsLearnt}
@@ -95,7 +96,7 @@ module _ (ahead : Ahead) (base : Base) (made : Command → Type 0) (grants : Gra
 
   asked_from_place : (o : Option Command) (from slot : ℕ) (r : ReplicaState) (mails : List Mail) → Ok (r, mails) → Ok (asked_from o from slot (r, mails))
   asked_from_place None from slot r mails f = installed_place ahead base made me before from r mails f
-  asked_from_place (Some c) from slot r mails f = fine_taught 32 from slot r mails f
+  asked_from_place (Some c) from slot r mails f = fine_taught most_taught from slot r mails f
 
   -- the row of an Ask keeps what holds
   pub fine_ask_row : (from slot : ℕ) (r : ReplicaState) (mails : List Mail) → Ok (r, mails) → Ok (ask_row from slot (r, mails))
@@ -127,7 +128,7 @@ module _ (ahead : Ahead) (base : Base) (made : Command → Type 0) (grants : Gra
       → Ok (r, mails) → made (Call client seq op) → Ok (requested o client seq op (r, mails))
   unfolding requested
   fine_requested (Some answer) client seq op r mails dull f m =
-      says ahead base made me before r mails (record { from = r.me; to = 32 + client; body = Answer (name_of r) seq answer }) f refl (dull answer refl (f.newer ++ before) (32 + client) seq)
+      says ahead base made me before r mails (record { from = r.me; to = client_actor client; body = Answer (name_of r) seq answer }) f refl (dull answer refl (f.newer ++ before) (client_actor client) seq)
   fine_requested None client seq op r mails dull f m = fine_queued (call_of r.calls client) client seq op r mails f m
 
   -- the row of a Request keeps what holds

@@ -1,6 +1,7 @@
 -- Mails that a row sends, and elections.
 use Rattle.std.proofs.Common.{◌≡◌, ℕ, ◌+◌, ◌≤◌, ◌-◌, ◌^◌, ◌&&◌, true, false, cond, eqb, nat_lt, List, [], ◌∷◌, ◌++◌, Option, Some, inl, inr, refl, ◌∙◌, ap, subst, arith}
 use Rattle.std.proofs.lemmas.Bool.{cond-true, cond_both}
+use Rattle.sc_base.specs.Limits.{client_actor}
 use Rattle.sc_base.specs.declared.names.Ballot.{Ballot}
 use Rattle.sc_base.specs.declared.names.Draw.{Draw}
 use Rattle.sc_base.specs.Same.{same_draw}
@@ -101,7 +102,7 @@ module _ (ahead : Ahead) (base : Base) (made : Command → Type 0) (me : ℕ) (b
   pub answered_one : (r : ReplicaState) (mails : List Mail) (group : Draw) (answer : AnswerBody) → IsDull answer → (c : Command) → Ok (r, mails) → Ok (r, answered r.me group answer c mails)
   unfolding answered
   answered_one r mails group answer dull (Call client seq op) f =
-      says ahead base made me before r mails (record { from = r.me; to = 32 + client; body = Answer group seq answer }) f refl (dull (f.newer ++ before) (32 + client) seq)
+      says ahead base made me before r mails (record { from = r.me; to = client_actor client; body = Answer group seq answer }) f refl (dull (f.newer ++ before) (client_actor client) seq)
   answered_one r mails group answer dull _ f = f
 
   pub answered_each : (r : ReplicaState) (mails : List Mail) (group : Draw) (answer : AnswerBody) → IsDull answer → (cs : List Command) → Ok (r, mails) → Ok (r, answered_all r.me group answer cs mails)
@@ -120,7 +121,7 @@ module _ (ahead : Ahead) (base : Base) (made : Command → Type 0) (me : ℕ) (b
   dismissed_one : (r : ReplicaState) (mails : List Mail) (group : Draw) (hint : Option ℕ) (answer : AnswerBody) → IsDull answer → (c : Command) → Ok (r, mails) → Ok (r, dismissed r.me group hint answer c mails)
   unfolding dismissed
   dismissed_one r mails group hint answer dull (Call client seq op) f =
-      says ahead base made me before r mails (record { from = r.me; to = 32 + client; body = Answer group seq answer }) f refl (dull (f.newer ++ before) (32 + client) seq)
+      says ahead base made me before r mails (record { from = r.me; to = client_actor client; body = Answer group seq answer }) f refl (dull (f.newer ++ before) (client_actor client) seq)
   dismissed_one r mails group hint answer dull c f = told_one r mails (order_in c) (Refused (NotLeader hint)) f
 
   dismissed_each : (r : ReplicaState) (mails : List Mail) (group : Draw) (hint : Option ℕ) (answer : AnswerBody) → IsDull answer → (cs : List Command) → Ok (r, mails) → Ok (r, dismissed_all r.me group hint answer cs mails)

@@ -36,13 +36,14 @@ use Rattle.sc_scenario.specs.declared.scenarios.Scenario.{Scenario}
 use Rattle.sc_players.specs.Players.{route_of, schedule, Ahead, system_of, Lawful, Player, replies_of}
 use Rattle.sc_hist_law.specs.Laws.{IsDone, LeavesWhole, LogTells}
 use Rattle.sc_hist_law.proofs.Told.{log_tells}
+use Rattle.sc_sound.specs.Soundness.{GoesOn}
 use Rattle.sc_sound.specs.Accepts.{accepts, accepts_at}
 use Rattle.sc_machine_table.specs.Logs.{state_after, done_by}
 use Rattle.sc_sound.specs.Logs.{IsChosenIn, decided_log}
 use Rattle.sc_sound.specs.Histories.{history, decided_row}
 use Rattle.sc_sound.specs.Requests.{IsRequest, kept_replies, kept_reply}
 use Rattle.sc_hist_law.proofs.Logs.{state_core}
-use Rattle.sc_group_law.specs.Laws.{GoesOn, IsReplicated, TellsHistory, IsInTime, KeepsOrder, IsSound, GroupJournalsAreSound}
+use Rattle.sc_group_law.specs.Laws.{IsReplicated, TellsHistory, IsInTime, KeepsOrder, IsSound, GroupJournalsAreSound}
 use Rattle.sc_group_law.specs.OneGroup.{HasOneGroup}
 use Rattle.sc_players.specs.declared.roles.Role.TheVariants.{Node as ANode}
 use Rattle.sc_group_law.specs.Steps.{asked_by, asked_in, promises_at, steps_at, steps}

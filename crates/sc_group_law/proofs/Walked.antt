@@ -284,7 +284,7 @@ module _ (ahead : Ahead) (words : ℕ → ℕ → ℕ × ℕ) (scenario : Scenar
           ]
 
       by_input : (event : Event OrderLine) (input : Input Mail OrderLine) → acted player_table (AClient at.client) (input_of (mails rows) event) ≡ (AClient (table at.client input).0, (table at.client input).1)
-          → ((m : Mail) → input ≡ Got m → (m.to ≡ 32 + asks.client) × IsTrue ahead base made h m m.body) → (input ≡ GoInput → (at.client.replies ≡ []) × (is_go event ≡ true))
+          → ((m : Mail) → input ≡ Got m → (m.to ≡ client_actor asks.client) × IsTrue ahead base made h m m.body) → (input ≡ GoInput → (at.client.replies ≡ []) × (is_go event ≡ true))
           → K (rows ++ row_of player_table (cseat asks) rows event ∷ [])
       by_input event input acts told went =
           let turn = sends_in_turn at.client input in
@@ -305,7 +305,7 @@ module _ (ahead : Ahead) (words : ℕ → ℕ → ℕ × ℕ) (scenario : Scenar
           by_input (Deliver number) (Got m) (ap (λ o. acted player_table (AClient at.client) (option_map Got o)) under.sent)
           (λ other e. (
           let same : m ≡ other = cc in
-          subst (λ (x : Mail). (x.to ≡ 32 + asks.client) × IsTrue ahead base made h x x.body) same (to, k.true_mail m (number_among (mails rows) number m under.sent))))
+          subst (λ (x : Mail). (x.to ≡ client_actor asks.client) × IsTrue ahead base made h x x.body) same (to, k.true_mail m (number_among (mails rows) number m under.sent))))
           (λ e. cc)
       client_event Tick o = by_input Tick TickInput refl (λ m e. cc) (λ e. cc)
       client_event Go o = by_input Go GoInput refl (λ m e. cc) (λ e. ((at.fresh o).0, refl))

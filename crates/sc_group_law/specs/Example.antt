@@ -1,6 +1,5 @@
 -- A journal of three nodes and one client: a value is accepted by two nodes, another node is elected, and it offers that value again.
 use Rattle.std.specs.Prelude.{ℕ, false, List, [], ◌∷◌}
-use Rattle.sc_base.specs.declared.names.Ballot.{Ballot}
 use Rattle.sc_cmd.specs.declared.commands.Command.{Command}
 use Rattle.sc_cmd.specs.declared.commands.Command.TheVariants.{Call}
 use Rattle.sc_cmd.specs.declared.cores.Base.{Base}
@@ -13,6 +12,7 @@ use Rattle.sc_actor.specs.declared.rows.Event.TheVariants.{Deliver, Tick, Go}
 use Rattle.sc_scenario.specs.Groups.{lone_name, lone_group}
 use Rattle.sc_scenario.specs.declared.scenarios.SchedLine.TheVariants as line
 use Rattle.sc_scenario.specs.declared.scenarios.Scenario.{Scenario}
+use Rattle.sc_paxos_law.specs.Example.{first, second}
 use Rattle.sc_sound.specs.Example.{put_it, mail, row}
 
 -- one group of the nodes 1 to 3, which holds all positions
@@ -30,14 +30,6 @@ example_scenario = record {
   brief = false;
   version = 1;
 }
-
--- the ballot of the first leader
-abbrev pub first : Ballot
-first = record { round = 1; node = 1 }
-
--- the ballot in which node 2 is elected
-abbrev pub second : Ballot
-second = record { round = 2; node = 2 }
 
 -- the one request, as a command
 abbrev pub call : Command

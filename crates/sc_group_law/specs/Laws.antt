@@ -18,6 +18,7 @@ use Rattle.sc_scenario.specs.Valid.{IsValid}
 use Rattle.sc_scenario.specs.declared.scenarios.Asks.{Asks}
 use Rattle.sc_scenario.specs.declared.scenarios.Scenario.{Scenario}
 use Rattle.sc_players.specs.Players.{route_of, Ahead, node_seat, Lawful, player_table}
+use Rattle.sc_sound.specs.Soundness.{GoesOn}
 use Rattle.sc_sound.specs.Accepts.{accepts}
 use Rattle.sc_sound.specs.Logs.{rule_of, IsChosenIn, decided_log, decided_state}
 use Rattle.sc_machine_table.specs.Group.{group_of}
@@ -27,10 +28,6 @@ use Rattle.sc_sound.specs.Requests.{IsRequest, issue_row, kept_reply, answer_row
 use Rattle.sc_group_law.specs.OneGroup.{HasOneGroup}
 use Rattle.sc_players.specs.declared.roles.Role.TheVariants.{Node as ANode}
 use Rattle.sc_group_law.specs.Told.{HasExecuted, IsDoneAt}
-
--- a list that goes on
-abbrev pub GoesOn : List Command → List Command → Type 0
-GoesOn log longer = (more : List Command) × (longer ≡ log ++ more)
 
 -- One value per slot, and a log that only grows (Paxos Made Simple, sections 2.2 and 3); replicas that have executed a front of it.
 pub record IsReplicated (ahead : Ahead) (scenario : Scenario) (base : Base) (rows more : List (Row Mail OrderLine)) : Type 0 where

@@ -1,5 +1,6 @@
 -- Scenarios of one group.
 use Rattle.std.specs.Prelude.{◌≡◌, ◌≤◌, [], ◌∷◌}
+use Rattle.sc_base.specs.Limits.{most_nodes}
 use Rattle.sc_cmd.specs.declared.cores.Base.{Base}
 use Rattle.sc_member.specs.Roster.{IsRoster}
 use Rattle.sc_base.specs.Among.{Among, Each}
@@ -12,6 +13,6 @@ pub record HasOneGroup (scenario : Scenario) (base : Base) : Type 0 where
   pub roster : IsRoster base.core.members
   pub pairs : base.pairs ≡ []
   pub clients : base.clients ≡ []
-  pub nodes : scenario.nodes ≤ 32
+  pub nodes : scenario.nodes ≤ most_nodes
   pub numbered : Each (λ asks. 1 ≤ asks.client) scenario.clients
   pub once : (one other : Asks) → Among one scenario.clients → Among other scenario.clients → one.client ≡ other.client → one ≡ other

@@ -5,7 +5,7 @@ use Rattle.sc_base.specs.declared.ops.Noted.{Noted}
 use Rattle.sc_base.specs.declared.ops.Op.{Op}
 use Rattle.sc_base.specs.declared.ops.Reply.{Reply}
 use Rattle.sc_cmd.specs.declared.commands.Command.{Command}
-use Rattle.sc_cmd.specs.declared.commands.Command.TheVariants.{Call, Split}
+use Rattle.sc_cmd.specs.declared.commands.Command.TheVariants.{Noop, Call, Join, Leave, Split, Begin, Prepared, RecordVote, GiveUp, Finish, Watched, RecordWatch}
 use Rattle.sc_cmd.specs.declared.effects.Effect.{Effect}
 use Rattle.sc_cmd.specs.declared.effects.Effect.TheVariants.{Done, Again}
 use Rattle.sc_ideal.specs.History.{Legal, HasEntry, contents_after}
@@ -53,11 +53,21 @@ pub record LogTells (group : Group) (log : List Command) : Type 0 where
   pub places : (entry : Entry) → Among entry (done_by group log) → (place : ℕ) × IsDone group log place entry.client entry.seq
   pub once : (place other client seq : ℕ) → IsDone group log place client seq → IsDone group log other client seq → place ≡ other
 
--- a command that divides no group: each but a split
+-- a command that may be queued so far: it divides no group and begins no transaction
 abbrev pub LeavesWhole : Command → Type 0
+LeavesWhole Noop = Unit {0}
+LeavesWhole (Call client seq op) = Unit {0}
+LeavesWhole (Join node order) = Unit {0}
+LeavesWhole (Leave node order) = Unit {0}
 LeavesWhole (Split at child order) = ⊥
-LeavesWhole _ = Unit {0}
+LeavesWhole (Begin tx body order) = ⊥
+LeavesWhole (Prepared tx offer) = ⊥
+LeavesWhole (RecordVote tx vote by) = ⊥
+LeavesWhole (GiveUp tx) = ⊥
+LeavesWhole (Finish tx outcome) = ⊥
+LeavesWhole (Watched tx watch) = ⊥
+LeavesWhole (RecordWatch tx vote by) = ⊥
 
--- each log that divides no group tells a history from an empty start
+-- each log of such commands tells a history from an empty start
 abbrev pub LogsTellHistories : Type 0
 LogsTellHistories = (group : Group) → IsEmpty group → (log : List Command) → Each LeavesWhole log → LogTells group log

@@ -4,7 +4,7 @@
 
 ghost use Rattle.sc_hist_law.specs.Laws.{LogsTellHistories};
 
-/// Whatever commands but splits a group executes one after another from an empty start, the
+/// Whatever requests, joins and leaves a group executes one after another from an empty start, the
 /// requests that took effect are a legal history, and the group's pairs are the map after it. Of
 /// each client its table notes the last of them. Joins and leaves change neither.
 pub fn logs_tell_histories()

@@ -1,5 +1,5 @@
 -- What holds of the ideal store's parts, and of client tables.
-use Rattle.std.specs.Prelude.{◌≡◌, ℕ, ◌<◌, ◌^◌, Bool, List, Option, Some, if◌then◌else◌}
+use Rattle.std.specs.Prelude.{◌≡◌, ℕ, ◌<◌, ◌^◌, Bool, List, Option, Some, None, if◌then◌else◌}
 use Rattle.std.specs.Option.{option_map}
 use Rattle.std.specs.FinMap.{retain_keys, get, entries}
 use Rattle.sc_base.specs.Arc.{Arc, IsArc, CanJoin, joined}
@@ -27,7 +27,8 @@ number_of = option_map (λ noted. noted.seq)
 -- two notes of one client with one number have one reply
 abbrev pub Agree : Option Noted → Option Noted → Type 0
 Agree (Some first) (Some second) = first.seq ≡ second.seq → first ≡ second
-Agree _ _ = Unit {0}
+Agree (Some first) None = Unit {0}
+Agree None second = Unit {0}
 
 -- two tables join to the same numbers in either order, and to the same table where they agree
 pub record SameJoined (table other : Table) : Type 0 where

@@ -56,25 +56,3 @@ pub fn tables_join_by_number()
     ensures by_number { JoinedByNumber }
     ensures any_order { JoinedInAnyOrder }
 {}
-
-#[cfg(test)]
-mod tests {
-    use super::*;
-    use sc_base::{Key, Value};
-    use std::test::Fail;
-
-    #[test]
-    fn entries_are_copied(rt: HostRuntime) -> Result<(), Fail> {
-        let key = Key::try_new(rt.alloc(), b"a")?;
-        let value = Value::try_new(rt.alloc(), b"1")?;
-        let entry = Entry {
-            client: 1,
-            seq: 2,
-            op: Op::Add { key, value },
-            reply: Reply { old: None },
-        };
-        let copy = entry.dup(rt.alloc())?;
-        assert!(rt; copy == entry);
-        Ok(())
-    }
-}

@@ -9,8 +9,3 @@ mod voters;
 pub use leader::Leader;
 pub use picking::pick;
 pub use sc_paxos_words::{Counted, Must};
-
-#[cfg(test)]
-mod picking_tests;
-#[cfg(test)]
-mod tests;

@@ -8,6 +8,3 @@ mod ways;
 pub use laws::choices_are_nearest;
 pub use routes::Routes;
 pub use ways::Way;
-
-#[cfg(test)]
-mod tests;

@@ -1,35 +1,27 @@
-//! The group machine.
-ghost use Rattle.std.specs.Prelude.{◌≡◌, ℕ, IfOk, MatchOption, None, true};
+//! The group machine: one command, and requests.
+ghost use Rattle.std.specs.Prelude.{◌≡◌, IfOk};
 ghost use Rattle.std.specs.FinMap.{get};
 ghost use Rattle.sc_ideal.specs.IdealStore.{holds_key, key_of};
 ghost use Rattle.sc_ideal.specs.Clients.{seen_of};
-ghost use Rattle.sc_cmd.specs.declared.commands.Command.TheVariants.{Join, Leave, Split};
-ghost use Rattle.sc_cmd.specs.declared.effects.Effect.TheVariants.{Refused};
 ghost use Rattle.sc_machine_table.specs.Group.{Group, base_of, group_of};
-ghost use Rattle.sc_machine_table.specs.Machine.{applied, called, served, numbered, done, divided};
-ghost use Rattle.sc_machine_table.specs.Orders.{ordered, refusal_of, with_node, without_node};
+ghost use Rattle.sc_machine_table.specs.Machine.{applied, called, served, numbered, done};
 ghost use Rattle.sc_machine_table.specs.Plans.{frozen_of};
-ghost use Rattle.sc_machine_table.specs.Splits.{CanSplit, child_of};
-ghost use Rattle.sc_txn.specs.Checked.{is_checked, IsPossible};
-ghost use Rattle.sc_machine.specs.Built.{is_built};
 
-use sc_base::{Draw, Dup, Op, OutOfMemory, RingArc};
+use sc_base::{Dup, Op, OutOfMemory, RingArc};
 use sc_clients::ClientTable;
-use sc_cmd::{Base, Command, Core, Effect, Frozen, Lock, OrderRefusal, same_draw};
+use sc_cmd::{Base, Command, Core, Effect, Frozen, Lock};
 use sc_ideal::Seen;
-use sc_split_merge::plan_split;
 use sc_store::Store;
-use sc_txn::{check, has_named};
 use std::alloc::Global;
 use std::marker::Model;
 
 /// A group: its record, its pairs and its client table.
 #[derive(Drop)]
 pub struct Machine {
-    core: Core,
-    store: Store,
-    clients: ClientTable,
-    alloc: Global,
+    pub(crate) core: Core,
+    pub(crate) store: Store,
+    pub(crate) clients: ClientTable,
+    pub(crate) alloc: Global,
 }
 
 impl Model for Machine {
@@ -109,29 +101,9 @@ impl Machine {
         })
     }
 
-    /// The record of the child, where the group is split at `at`; to be taken before the entry that
-    /// splits is applied. `can_split` tells whether the group can be split there.
-    pub fn child(&self, at: u32, child: Draw) -> Result<Base, OutOfMemory>
-        requires { CanSplit self.now.core at }
-        ensures { IfOk result (λ base. base ≡ child_of self.now at child) }
-    {
-        let (_left, core) = plan_split(self.alloc, &self.core, at, child)?;
-        let pairs = self.store.part(&core.arc)?;
-        let clients = self.clients.list()?;
-        Ok(Base {
-            core,
-            pairs,
-            clients,
-        })
-    }
-
-    /// Applies a command, by the group machine's table. After want of memory the machine may only
-    /// be dropped.
-    /// Built are the commands `Noop`, `Call`, `Join` and `Leave`, and `Split` for a group that is
-    /// its
-    /// own successor; `can_apply` tells.
+    /// Applies a command, by the group machine's table. After want of memory the machine may only be
+    /// dropped.
     pub fn apply(&mut self, command: &Command) -> Result<Effect, OutOfMemory>
-        requires { is_built self.old command.now ≡ true }
         ensures { IfOk result (λ effect. applied self.old command.now ≡ (self.new, effect)) }
     {
         match command {
@@ -139,24 +111,18 @@ impl Machine {
             Command::Call { client, seq, op } => self.call(*client, *seq, op),
             Command::Join { node, .. } => Ok(self.join(command, *node)),
             Command::Leave { node, .. } => Ok(self.leave(command, *node)),
-            Command::Split { at, child, .. } => self.split(command, *at, *child),
-            _ => unreachable!(),
+            Command::Split { at, child, order } => self.split(command, *at, *child, *order),
+            Command::Begin { tx, body, order } => Ok(self.begin(command, *tx, body, *order)),
+            Command::Prepared { tx, offer } => self.prepare(*tx, offer),
+            Command::RecordVote { tx, vote, by } => self.record_vote(*tx, vote, *by),
+            Command::GiveUp { tx } => self.give_up(*tx),
+            Command::Finish { tx, outcome } => self.finish(*tx, outcome),
+            Command::Watched { tx, watch } => self.watch(*tx, watch),
+            Command::RecordWatch { tx, vote, .. } => self.record_watch(*tx, vote),
         }
     }
 
-    /// Whether the command is one that `apply` carries out so far.
-    pub fn can_apply(&self, command: &Command) -> bool
-        ensures { result ≡ is_built self.now command.now }
-    {
-        match command {
-            Command::Noop | Command::Call { .. } | Command::Join { .. } | Command::Leave { .. } =>
-                true,
-            Command::Split { .. } => same_draw(self.core.succ.group, self.core.id),
-            _ => false,
-        }
-    }
-
-    fn call(&mut self, client: u16, seq: u32, op: &Op) -> Result<Effect, OutOfMemory>
+    pub(crate) fn call(&mut self, client: u16, seq: u32, op: &Op) -> Result<Effect, OutOfMemory>
         ensures { IfOk result
             (λ effect.
             called self.old.core.gone self.old.core.lock self.old client seq op.now
@@ -166,10 +132,10 @@ impl Machine {
             return Ok(Effect::Gone { into: *into });
         }
         match &self.core.lock {
-            Lock::Free | Lock::Watching { .. } => self.serve(client, seq, op),
-            Lock::Coordinating { tx, .. } | Lock::Promised { tx, .. } => {
-                Ok(Effect::NoEffect { tx: *tx })
-            }
+            Lock::Free => self.serve(client, seq, op),
+            Lock::Watching { .. } => self.serve(client, seq, op),
+            Lock::Promised { tx, .. } => Ok(Effect::NoEffect { tx: *tx }),
+            Lock::Coordinating { tx, .. } => Ok(Effect::NoEffect { tx: *tx }),
         }
     }
 
@@ -211,73 +177,5 @@ impl Machine {
             Some(reply) => Ok(Effect::Again(reply.dup(self.alloc)?)),
             None => unreachable!(),
         }
-    }
-    // Why an order is refused, if it is: a group that is gone leads nothing.
-    fn refusal(&self, command: &Command) -> Option<OrderRefusal>
-        requires { is_checked command.now ≡ true }
-        ensures { MatchOption result
-            ((self.now.core.gone ≡ None)
-            × (refusal_of self.now.core command.now ≡ None)
-            × IsPossible self.now.core command.now)
-            (λ why.
-            (after : Group) →
-            ordered self.now.core.gone (refusal_of self.now.core command.now) after self.now
-            ≡ (self.now, Refused why)) }
-    {
-        if self.core.gone.is_some() {
-            return Some(OrderRefusal::NotLeader { hint: None });
-        }
-        match check(&self.core, command) {
-            Ok(()) => None,
-            Err(why) => Some(why),
-        }
-    }
-
-    fn join(&mut self, command: &Command, node: u16) -> Effect
-        requires { (order : ℕ) × (command.now ≡ Join node order) }
-        ensures { ordered self.old.core.gone (refusal_of self.old.core command.now)
-            (with_node self.old node) self.old
-            ≡ (self.new, result) }
-    {
-        if let Some(why) = self.refusal(command) {
-            return Effect::Refused(why);
-        }
-        match self.core.members.add(node) {
-            Ok(()) => Effect::Changed,
-            Err(_) => unreachable!(),
-        }
-    }
-
-    fn leave(&mut self, command: &Command, node: u16) -> Effect
-        requires { (order : ℕ) × (command.now ≡ Leave node order) }
-        ensures { ordered self.old.core.gone (refusal_of self.old.core command.now)
-            (without_node self.old node) self.old
-            ≡ (self.new, result) }
-    {
-        if let Some(why) = self.refusal(command) {
-            return Effect::Refused(why);
-        }
-        match self.core.members.remove(node) {
-            Ok(()) => Effect::Changed,
-            Err(_) => unreachable!(),
-        }
-    }
-
-    fn split(&mut self, command: &Command, at: u32, child: Draw) -> Result<Effect, OutOfMemory>
-        requires { (order : ℕ) × (command.now ≡ Split at child order) }
-        ensures { IfOk result
-            (λ effect.
-            divided (refusal_of self.old.core command.now) self.old at child ≡ (self.new, effect)) }
-    {
-        if has_named(&self.core, child) {
-            return Ok(Effect::NoEffect { tx: child });
-        }
-        if let Some(why) = self.refusal(command) {
-            return Ok(Effect::Refused(why));
-        }
-        let (left, _child) = plan_split(self.alloc, &self.core, at, child)?;
-        self.store.keep(&left.arc);
-        self.core = left;
-        Ok(Effect::Changed)
     }
 }

@@ -1,3 +1,4 @@
 pub mod Parts
 mod Runs
 pub mod LogLemmas
+mod TransactionRuns

@@ -112,9 +112,13 @@ abbrev pub settled_in : Option Group → Group → Draw → Outcome → Group ×
 settled_in None group tx outcome = (group, NoEffect tx)
 settled_in (Some after) group tx outcome = (ended after tx, Decided outcome)
 
+-- the watcher takes it over in any case
+abbrev pub watch_ended : Outcome → Group → Draw → Watch → Group × Effect
+watch_ended outcome group tx watch = (ended (watcher_after outcome group watch) tx, Decided outcome)
+
 -- an outcome by the lock: that of the transaction that the group has promised, or that it watches
 abbrev pub finished : Lock → Group → Draw → Outcome → Group × Effect
 finished Free group tx outcome = (group, NoEffect tx)
 finished (Coordinating locked body order heard) group tx outcome = (group, NoEffect tx)
 finished (Promised locked offer) group tx outcome = if same_draw locked tx then settled_in (participant_after outcome group offer) group tx outcome else (group, NoEffect tx)
-finished (Watching locked watch) group tx outcome = if same_draw locked tx then (ended (watcher_after outcome group watch) tx, Decided outcome) else (group, NoEffect tx)
+finished (Watching locked watch) group tx outcome = if same_draw locked tx then watch_ended outcome group tx watch else (group, NoEffect tx)

@@ -8,3 +8,4 @@ pub mod Totals
 pub mod Transactions
 pub mod Votes
 pub mod Logs
+pub mod Children

@@ -5,6 +5,7 @@ use Rattle.sc_base.specs.declared.names.Draw.{Draw}
 use Rattle.sc_base.specs.declared.ops.Op.{Op}
 use Rattle.sc_base.specs.declared.ops.Noted.{Noted}
 use Rattle.sc_ideal.specs.IdealStore.{key_of, reply_of, after, holds_key}
+use Rattle.sc_cmd.specs.declared.bodies.Body.TheVariants as Body
 use Rattle.sc_cmd.specs.declared.links.Route.{Route}
 use Rattle.sc_cmd.specs.declared.orders.OrderRefusal.{OrderRefusal}
 use Rattle.sc_cmd.specs.declared.cores.Lock.{Lock}
@@ -16,6 +17,9 @@ use Rattle.sc_cmd.specs.declared.effects.Effect.TheVariants.{Done, Again, Stale,
 use Rattle.sc_machine_table.specs.Group.{Group}
 use Rattle.sc_machine_table.specs.Orders.{is_alone, refusal_of, ordered, with_node, without_node}
 use Rattle.sc_machine_table.specs.Splits.{has_named, left_group}
+use Rattle.sc_machine_table.specs.Transactions.{begun_group, given_up, vote_recorded, watch_recorded}
+use Rattle.sc_machine_table.specs.Votes.{prepared, watched}
+use Rattle.sc_machine_table.specs.Finishes.{finished}
 
 -- a new request: the operation is applied, and the client table notes its number and reply
 abbrev pub done : Group → ℕ → ℕ → Op → Group × Effect
@@ -46,23 +50,26 @@ called None (Watching tx watch) group client seq op = served group client seq op
 called None (Coordinating tx body order heard) group client seq op = (group, NoEffect tx)
 called None (Promised tx offer) group client seq op = (group, NoEffect tx)
 
--- a split that happens at once, by why it is refused, if it is; a draw names one thing only
-abbrev pub divided : Option OrderRefusal → Group → ℕ → Draw → Group × Effect
-divided why group at child =
-    if has_named group.core child then (group, NoEffect child)
-    else ordered group.core.gone why (left_group group at child) group
+-- a split: at once where the group is its own successor, else the group only locks, and asks its watcher
+abbrev pub split_group : Group → ℕ → Draw → ℕ → Group
+split_group group at child order = if is_alone group.core then left_group group at child else begun_group group child (Body.Split at child) order
 
--- one command: the group after it, and its effect. A group with another successor splits by a transaction. The commands of transactions are not built yet: they do nothing.
+-- an order, by the draw that it brings, if it does: a draw names one thing only. A join and a leave bring none.
+abbrev pub ordered_by : Option Draw → Option OrderRefusal → Group → Group → Group × Effect
+ordered_by None why after group = ordered group.core.gone why after group
+ordered_by (Some draw) why after group = if has_named group.core draw then (group, NoEffect draw) else ordered group.core.gone why after group
+
+-- one command: the group after it, and its effect
 abbrev pub applied : Group → Command → Group × Effect
 applied group Noop = (group, Idle)
 applied group (Call client seq op) = called group.core.gone group.core.lock group client seq op
-applied group (Join node order) = ordered group.core.gone (refusal_of group.core (Join node order)) (with_node group node) group
-applied group (Leave node order) = ordered group.core.gone (refusal_of group.core (Leave node order)) (without_node group node) group
-applied group (Split at child order) = if is_alone group.core then divided (refusal_of group.core (Split at child order)) group at child else (group, Idle)
-applied group (Begin tx body order) = (group, Idle)
-applied group (Prepared tx offer) = (group, Idle)
-applied group (RecordVote tx vote by) = (group, Idle)
-applied group (GiveUp tx) = (group, Idle)
-applied group (Finish tx outcome) = (group, Idle)
-applied group (Watched tx watch) = (group, Idle)
-applied group (RecordWatch tx vote by) = (group, Idle)
+applied group (Join node order) = ordered_by None (refusal_of group.core (Join node order)) (with_node group node) group
+applied group (Leave node order) = ordered_by None (refusal_of group.core (Leave node order)) (without_node group node) group
+applied group (Split at child order) = ordered_by (Some child) (refusal_of group.core (Split at child order)) (split_group group at child order) group
+applied group (Begin tx body order) = ordered_by (Some tx) (refusal_of group.core (Begin tx body order)) (begun_group group tx body order) group
+applied group (Prepared tx offer) = prepared group tx offer
+applied group (RecordVote tx vote by) = vote_recorded group.core.lock group tx vote by
+applied group (GiveUp tx) = given_up group tx
+applied group (Finish tx outcome) = finished group.core.lock group tx outcome
+applied group (Watched tx watch) = watched group tx watch
+applied group (RecordWatch tx vote by) = watch_recorded group.core.lock group tx vote

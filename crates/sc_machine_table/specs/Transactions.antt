@@ -32,14 +32,18 @@ begun_group group tx body order = record group { core = begun_core group.core tx
 abbrev pub decided_group : Group → Draw → Outcome → Group
 decided_group group tx outcome = record group { core = record group.core { lock = Free; decided = group.core.decided ++ (tx, outcome) ∷ [] } }
 
+-- a group that has decided, and the effect
+abbrev pub decided : Group → Draw → Outcome → Group × Effect
+decided group tx outcome = (decided_group group tx outcome, Decided outcome)
+
 -- a group that has decided to abort one, and the effect
 abbrev pub aborted : Group → Draw → Group × Effect
-aborted group tx = (decided_group group tx Abort, Decided Abort)
+aborted group tx = decided group tx Abort
 
 -- a plan is carried out and decided; one that cannot be made has no effect
 abbrev pub committed : Plan → Group → Draw → Group × Effect
 committed None group tx = (group, NoEffect tx)
-committed (Some plan) group tx = (decided_group plan.0 tx plan.1, Decided plan.1)
+committed (Some plan) group tx = decided plan.0 tx plan.1
 
 -- the coordinator keeps what it heard, and waits for the watcher
 abbrev pub heard_group : Group → Draw → Body → ℕ → Heard → Group

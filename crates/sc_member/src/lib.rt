@@ -8,6 +8,3 @@ mod unions;
 
 pub use laws::{majorities_meet, neighbours_meet};
 pub use sets::{MemberFault, Members};
-
-#[cfg(test)]
-mod tests;

@@ -2,7 +2,7 @@
 use Rattle.std.specs.Prelude.{ℕ, ◌+◌, ◌==◌, ◌&&◌, ◌||◌, not, filter, nat_lt, Bool, true, false, List, [], ◌∷◌, ◌++◌, length, if◌then◌else◌, Option, Some, None}
 use Rattle.sc_cmd.specs.declared.links.Route.{Route}
 use Rattle.sc_cmd.specs.declared.commands.Command.{Command}
-use Rattle.sc_cmd.specs.declared.commands.Command.TheVariants.{Call}
+use Rattle.sc_cmd.specs.declared.commands.Command.TheVariants.{Noop, Call, Join, Leave, Split, Begin, Prepared, RecordVote, GiveUp, Finish, Watched, RecordWatch}
 use Rattle.sc_cmd.specs.declared.effects.Effect.{Effect}
 use Rattle.sc_cmd.specs.declared.effects.Effect.TheVariants as Was
 use Rattle.sc_mail.specs.declared.bodies.AnswerBody.{AnswerBody}
@@ -67,6 +67,21 @@ result_of Was.Idle = None
 result_of (Was.Voted vote) = None
 result_of (Was.Decided outcome) = None
 
+-- of a join and a leave it is told; of splits and transactions nothing is told so far
+abbrev pub order_result : Command → Effect → Option ToldResult
+order_result (Join node order) effect = result_of effect
+order_result (Leave node order) effect = result_of effect
+order_result Noop effect = None
+order_result (Call client seq op) effect = None
+order_result (Split at child order) effect = None
+order_result (Begin tx body order) effect = None
+order_result (Prepared tx offer) effect = None
+order_result (RecordVote tx vote by) effect = None
+order_result (GiveUp tx) effect = None
+order_result (Finish tx outcome) effect = None
+order_result (Watched tx watch) effect = None
+order_result (RecordWatch tx vote by) effect = None
+
 -- the desk is told the result, if there is one
 unfoldable pub told_effect : Option ToldResult → Command → Place → Place
 told_effect None command place = place
@@ -75,7 +90,7 @@ told_effect (Some result) command (r, mails) = (r, told_order r.me (order_in com
 -- .. both
 unfoldable pub announced : Bool → Effect → Command → Place → Place
 announced counted effect command place =
-    told_effect (result_of effect) command (if counted then told_call (answer_of effect) command place else place)
+    told_effect (order_result command effect) command (if counted then told_call (answer_of effect) command place else place)
 
 -- 2. the members before a counted command learn it ..
 unfoldable pub learnt_to : Bool → List ℕ → ℕ → Command → Place → Place

@@ -112,7 +112,22 @@ is_node from = nat_le 1 from && nat_le from most_nodes
 -- whether a mail may come from this actor
 abbrev pub may_come : ℕ → MailBody → Bool
 may_come from (Request group client seq op) = true
-may_come from _ = is_node from
+may_come from (Answer group seq answer) = is_node from
+may_come from (Prepare group ballot from_slot) = is_node from
+may_come from (Promise group ballot reports) = is_node from
+may_come from (Accept group ballot slot command) = is_node from
+may_come from (Accepted group ballot slot) = is_node from
+may_come from (Nack group promised) = is_node from
+may_come from (Learn group slot command) = is_node from
+may_come from (Ask group from_slot) = is_node from
+may_come from (Install group slot base sets) = is_node from
+may_come from (TxPrepare tx offer) = is_node from
+may_come from (TxVote tx coord part vote) = is_node from
+may_come from (TxOutcome tx part outcome) = is_node from
+may_come from (TxElsewhere tx coord hint) = is_node from
+may_come from (TxWatch tx watch) = is_node from
+may_come from (TxWatched tx coord part vote) = is_node from
+may_come from (ToldMail order result) = is_node from
 
 -- a mail for the replica of a group
 abbrev pub taken_by : Option ReplicaState → Draw → ℕ → MailBody → NodeState → NodeState × List Mail

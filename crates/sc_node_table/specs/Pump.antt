@@ -8,7 +8,7 @@ use Rattle.sc_cmd.specs.declared.cores.Core.{Core}
 use Rattle.sc_cmd.specs.declared.cores.Lock.{Lock}
 use Rattle.sc_cmd.specs.declared.cores.Lock.TheVariants.{Free, Coordinating, Promised, Watching}
 use Rattle.sc_cmd.specs.declared.commands.Command.{Command}
-use Rattle.sc_cmd.specs.declared.commands.Command.TheVariants.{Noop, Call}
+use Rattle.sc_cmd.specs.declared.commands.Command.TheVariants.{Noop, Call, Join, Leave, Split, Begin, Prepared, RecordVote, GiveUp, Finish, Watched, RecordWatch}
 use Rattle.sc_mail.specs.declared.bodies.AnswerBody.{AnswerBody}
 use Rattle.sc_mail.specs.declared.bodies.AnswerBody.TheVariants as Says
 use Rattle.sc_mail.specs.declared.bodies.MailBody.TheVariants.{Accept}
@@ -27,7 +27,16 @@ Found = Option Command × Place
 abbrev pub is_act : Command → Bool
 is_act Noop = false
 is_act (Call client seq op) = false
-is_act _ = true
+is_act (Join node order) = true
+is_act (Leave node order) = true
+is_act (Split at child order) = true
+is_act (Begin tx body order) = true
+is_act (Prepared tx offer) = true
+is_act (RecordVote tx vote by) = true
+is_act (GiveUp tx) = true
+is_act (Finish tx outcome) = true
+is_act (Watched tx watch) = true
+is_act (RecordWatch tx vote by) = true
 
 -- 5. calls are served under these locks alone
 abbrev pub serves_calls : Lock → Bool
@@ -39,7 +48,17 @@ serves_calls (Promised tx offer) = false
 -- whether the head of `calls` waits: a call for the lock, and an order also for what is under way
 abbrev pub waits : Bool → Lock → Command → Bool
 waits idle lock (Call client seq op) = not (serves_calls lock)
-waits idle lock _ = not (serves_calls lock) || not idle
+waits idle lock Noop = not (serves_calls lock) || not idle
+waits idle lock (Join node order) = not (serves_calls lock) || not idle
+waits idle lock (Leave node order) = not (serves_calls lock) || not idle
+waits idle lock (Split at child order) = not (serves_calls lock) || not idle
+waits idle lock (Begin tx body order) = not (serves_calls lock) || not idle
+waits idle lock (Prepared tx offer) = not (serves_calls lock) || not idle
+waits idle lock (RecordVote tx vote by) = not (serves_calls lock) || not idle
+waits idle lock (GiveUp tx) = not (serves_calls lock) || not idle
+waits idle lock (Finish tx outcome) = not (serves_calls lock) || not idle
+waits idle lock (Watched tx watch) = not (serves_calls lock) || not idle
+waits idle lock (RecordWatch tx vote by) = not (serves_calls lock) || not idle
 
 -- the answer of a call that the group does not serve
 abbrev pub refused_by : Option Route → Core → Op → Option AnswerBody
@@ -49,7 +68,17 @@ refused_by None core op = if holds_key core.arc (key_of op) then None else Some 
 -- the answer of a command that gets no slot: only calls are turned down
 abbrev pub turned_down : Core → Command → Option AnswerBody
 turned_down core (Call client seq op) = refused_by core.gone core op
-turned_down core _ = None
+turned_down core Noop = None
+turned_down core (Join node order) = None
+turned_down core (Leave node order) = None
+turned_down core (Split at child order) = None
+turned_down core (Begin tx body order) = None
+turned_down core (Prepared tx offer) = None
+turned_down core (RecordVote tx vote by) = None
+turned_down core (GiveUp tx) = None
+turned_down core (Finish tx outcome) = None
+turned_down core (Watched tx watch) = None
+turned_down core (RecordWatch tx vote by) = None
 
 -- 5 and 6. the command at the head of `calls` that a slot may have; the calls before it that the group does not serve are answered without a slot
 unfoldable pub next_call : ℕ → Bool → Core → List Command → List Mail → Option Command × List Command × List Mail

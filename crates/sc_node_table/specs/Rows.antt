@@ -1,9 +1,10 @@
 -- The rows of Request, Learn, Ask, Install, Told order and Tick, and a replica's table.
-use Rattle.std.specs.Prelude.{ℕ, zero, suc, ◌+◌, ◌-◌, ◌==◌, ◌&&◌, ◌||◌, not, nat_lt, nat_le, false, List, [], ◌∷◌, ◌++◌, length, filter, if◌then◌else◌, Option, Some, None, is_some}
+use Rattle.std.specs.Prelude.{ℕ, zero, suc, ◌+◌, ◌-◌, ◌==◌, ◌&&◌, ◌||◌, not, nat_lt, nat_le, false, Bool, List, [], ◌∷◌, ◌++◌, length, filter, if◌then◌else◌, Option, Some, None, is_some}
 use Rattle.sc_base.specs.declared.ops.Op.{Op}
 use Rattle.sc_ideal.specs.IdealStore.{key_of, holds_key}
 use Rattle.sc_cmd.specs.declared.links.Route.{Route}
 use Rattle.sc_base.specs.declared.names.Draw.{Draw}
+use Rattle.sc_cmd.specs.declared.cores.Core.{Core}
 use Rattle.sc_cmd.specs.declared.commands.Command.{Command}
 use Rattle.sc_cmd.specs.declared.commands.Command.TheVariants.{Call, Join, Leave}
 use Rattle.sc_cmd.specs.declared.cores.Base.{Base}
@@ -33,12 +34,16 @@ use Rattle.sc_node_table.specs.Pump.{pumped, serves_calls}
 use Rattle.sc_node_table.specs.Voting.{prepare_row, promise_row, accept_row, accepted_row, nack_row}
 
 -- why a request is not taken, the first that holds
-abbrev pub refused_at : Option Route → Op → ReplicaState → Option AnswerBody
-refused_at (Some into) op r = Some (Says.Gone into)
-refused_at None op r =
-    if not r.running then Some (Says.NotLeader r.hint)
-    else if serves_calls r.group.core.lock && not (holds_key r.group.core.arc (key_of op)) then Some (Says.NotMine r.group.core.arc r.group.core.succ)
+abbrev pub refusal : Option Route → Core → Bool → Option ℕ → Op → Option AnswerBody
+refusal (Some into) core running hint op = Some (Says.Gone into)
+refusal None core running hint op =
+    if not running then Some (Says.NotLeader hint)
+    else if serves_calls core.lock && not (holds_key core.arc (key_of op)) then Some (Says.NotMine core.arc core.succ)
     else None
+
+-- .. at a replica
+abbrev pub refused_at : Option Route → Op → ReplicaState → Option AnswerBody
+refused_at gone op r = refusal gone r.group.core r.running r.hint op
 
 -- it waits last, unless the same or a later request of its client waits; an earlier one waits no more
 unfoldable pub queued : Option ℕ → ℕ → ℕ → Op → Place → Place

@@ -12,6 +12,3 @@ pub use answers::{AcceptAnswer, Counted, Learnt, Must, PrepareAnswer};
 pub use flights::Flight;
 pub use laws::{acceptors_never_fall, ballots_are_ordered, choice_is_first_highest};
 pub use reports::Report;
-
-#[cfg(test)]
-mod tests;

@@ -1,10 +1,7 @@
 -- What the report tells of players and rows.
-use Rattle.std.specs.Prelude.{ℕ, ◌+◌, Bool, true, false, List, [], ◌∷◌, if◌then◌else◌, Option, Some, None, slice_get}
+use Rattle.std.specs.Prelude.{ℕ, ◌+◌, List, [], ◌∷◌, if◌then◌else◌, Option, Some, None, slice_get}
 use Rattle.sc_base.specs.declared.ops.Op.{Op}
 use Rattle.sc_base.specs.declared.ops.Reply.{Reply}
-use Rattle.sc_cmd.specs.declared.orders.OrderLine.{OrderLine}
-use Rattle.sc_actor.specs.declared.rows.Event.{Event}
-use Rattle.sc_actor.specs.declared.rows.Event.TheVariants.{Deliver, Tick, Go, Told, Crash, Drop, Again}
 use Rattle.sc_report.specs.declared.summaries.Got.{Got}
 use Rattle.sc_report.specs.declared.summaries.Got.TheVariants.{Unsent, Unanswered, Replied}
 use Rattle.sc_report.specs.declared.summaries.Asked.{Asked}
@@ -13,10 +10,14 @@ use Rattle.sc_client_table.specs.Table.{waits_for}
 use Rattle.sc_players.specs.Players.{Player}
 use Rattle.sc_players.specs.declared.roles.Role.TheVariants.{Node, Client}
 
+-- how far a request came, by its reply and whether its client waits for it
+abbrev pub got_by : Option Reply → Bool → Got
+got_by (Some reply) waits = Replied reply
+got_by None waits = if waits then Unanswered else Unsent
+
 -- how far a request came: its client has the reply, waits for it, or has not sent it
 abbrev pub got_of : Option Reply → ClientState → ℕ → Got
-got_of (Some reply) client seq = Replied reply
-got_of None client seq = if waits_for client.waiting seq then Unanswered else Unsent
+got_of reply client seq = got_by reply (waits_for client.waiting seq)
 
 -- the request after so many
 abbrev pub asked_after : ClientState → ℕ → Op → Asked
@@ -32,13 +33,3 @@ asked_from client done (op ∷ ops) = asked_after client done op ∷ asked_from 
 abbrev pub asked_by : Player → List Asked
 asked_by (Node node) = []
 asked_by (Client client) = asked_from client 0 client.requests
-
--- whether an event delivers a mail
-abbrev pub is_delivery : Event OrderLine → Bool
-is_delivery (Deliver mail) = true
-is_delivery Tick = false
-is_delivery Go = false
-is_delivery (Told order) = false
-is_delivery Crash = false
-is_delivery (Drop mail) = false
-is_delivery (Again mail) = false

@@ -9,7 +9,7 @@ use Rattle.sc_mail.specs.declared.bodies.Mail.{Mail}
 use Rattle.sc_mail.specs.declared.bodies.MailBody.{MailBody}
 use Rattle.sc_mail.specs.declared.bodies.MailBody.TheVariants.{Told as TellsOrder}
 use Rattle.sc_actor.specs.declared.rows.Row.{Row}
-use Rattle.sc_actor.specs.Mail.{mails}
+use Rattle.sc_actor.specs.Mail.{is_delivery, mails}
 use Rattle.sc_actor.specs.Walk.{skipped, is_quiet}
 use Rattle.sc_machine_table.specs.Group.{Group}
 use Rattle.sc_node_table.specs.Slots.{numbers}
@@ -19,7 +19,7 @@ use Rattle.sc_scenario.specs.declared.scenarios.Scenario.{Scenario}
 use Rattle.sc_scenario.specs.declared.scenarios.SchedLine.{SchedLine}
 use Rattle.sc_scenario.specs.declared.scenarios.SchedLine.TheVariants.{Told}
 use Rattle.sc_players.specs.Players.{system_of, schedule, parties, as_nodes}
-use Rattle.sc_players.specs.Summary.{asked_by, is_delivery}
+use Rattle.sc_players.specs.Summary.{asked_by}
 use Rattle.sc_sound.specs.Logs.{decided_state}
 use Rattle.sc_actor.specs.System.{no_words}
 

@@ -136,14 +136,11 @@ fn top_slot(found: &[Acceptance]) -> u32
     top
 }
 
-/// One more entry is executed. What the machine does not carry out yet, the split of a group that
-/// has another successor and the commands of transactions, does nothing.
+/// One more entry is executed.
 pub(crate) fn execute(machine: &mut Machine, command: &Command) -> Result<(), OutOfMemory>
     ensures { OnOk result (machine.new ≡ (applied machine.old command.now).0) }
 {
-    if machine.can_apply(command) {
-        machine.apply(command)?;
-    }
+    machine.apply(command)?;
     Ok(())
 }
 

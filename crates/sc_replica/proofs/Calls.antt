@@ -1,6 +1,5 @@
--- The queues' heads.
-use Rattle.std.proofs.Common.{◌≡◌, ℕ, ◌<◌, Bool, true, false, List, [], ◌∷◌, ◌++◌, drop, length, suc, Option, Some, None, is_none, refl, sym, ◌∙◌, ap, arith}
-use Rattle.std.specs.Option.{option_to_list}
+-- What the queues have.
+use Rattle.std.proofs.Common.{◌≡◌, ℕ, Bool, true, false, List, [], ◌∷◌, Option, Some, None, is_none, refl, sym, ◌∙◌, ap}
 use Rattle.sc_cmd.specs.declared.commands.Command.{Command}
 use Rattle.sc_cmd.specs.declared.cores.Core.{Core}
 use Rattle.sc_mail.specs.declared.bodies.AnswerBody.{AnswerBody}
@@ -9,7 +8,7 @@ use Rattle.sc_node_table.specs.Slots.{rest_of}
 use Rattle.sc_node_table.specs.Replica.{Place}
 use Rattle.sc_node_table.specs.Mails.{answered}
 use Rattle.sc_node_table.specs.Pump.{turned_down, next_call, from_calls, from_acts}
-use Rattle.sc_replica.specs.Heads.{head_of, head_waits}
+use Rattle.sc_replica_parts.specs.Heads.{head_of, head_waits}
 
 -- the head waits, or there is none
 pub next_call-ends : (me : ℕ) (idle : Bool) (core : Core) (calls : List Command) (mails : List Mail) → head_waits idle core.lock calls ≡ true → (None, calls, mails) ≡ next_call me idle core calls mails
@@ -39,17 +38,6 @@ next_call-goes me idle core calls after mails more c answer r s e is down =
     ap (λ cs. next_call me idle core cs more) r
     ∙ ap (next_call me idle core (rest_of calls)) s
     ∙ next_call-answered me idle core calls mails c answer e is down
-
--- what is taken out of a queue is its head ..
-pub popped_head : {X : Type 0} (xs ys : List X) (o : Option X) → xs ≡ option_to_list o ++ ys → ys ≡ drop 1 xs → o ≡ head_of xs
-popped_head [] ys None e r = refl
-popped_head (x ∷ xs) ys None e r = let longer : suc (length xs) ≡ length xs = ap length (e ∙ r) in absurd (omega (arith, longer))
-popped_head xs ys (Some y) e r = sym (ap head_of e)
-
--- .. and what stays is what is behind the first
-pub popped_rest : {X : Type 0} (xs : List X) → drop 1 xs ≡ rest_of xs
-popped_rest [] = refl
-popped_rest (x ∷ xs) = refl
 
 -- the commands of transactions
 pub acts-none : (acts : List Command) (place : Place) → is_none (head_of acts) ≡ true → from_calls place ≡ from_acts acts place

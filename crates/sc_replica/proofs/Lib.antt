@@ -1,5 +1,2 @@
-mod Places
 mod Rounds
 mod Calls
-mod Readiness
-mod SlotMaps

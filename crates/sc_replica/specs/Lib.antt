@@ -1,4 +1,3 @@
 pub mod Given
-pub mod Heads
 pub mod Again
 pub mod Bare

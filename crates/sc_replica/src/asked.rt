@@ -8,12 +8,12 @@ ghost use Rattle.sc_node_table.specs.Slots.{slots_ahead};
 ghost use Rattle.sc_node_table.specs.Replica.{name_of, next, last_slot};
 ghost use Rattle.sc_node_table.specs.Rows.{taught, asked_from, ask_row};
 
-use crate::mails::send;
 use crate::replica::Replica;
 use sc_base::{Dup, OutOfMemory, Sequence};
 use sc_cmd::Command;
 use sc_mail::{Mail, MailBody};
 use sc_node_table::MOST_TAUGHT;
+use sc_replica_parts::send;
 
 impl Replica {
     /// The entry of a slot, if it is held.

@@ -4,34 +4,16 @@ ghost use Rattle.std.specs.List.{list_any};
 ghost use Rattle.std.specs.Option.{option_copied};
 ghost use Rattle.sc_node_table.specs.Replica.{taken_at, listed, under_way, is_idle, next, name_of, last_slot};
 ghost use Rattle.sc_node_table.specs.Mails.{answered_all};
-ghost use Rattle.sc_base.specs.Limits.{most_nodes};
-ghost use Rattle.sc_node_table.specs.Election.{nodes_to, elected, ended, stopped, saw};
+ghost use Rattle.sc_node_table.specs.Election.{elected, ended, stopped, saw};
 
-use crate::mails::{answer_command, dismiss_all};
-use crate::open_sets::Sets;
-use crate::ready::ready_at;
 use crate::replica::Replica;
 use sc_base::{Ballot, MOST_NODES, OutOfMemory, Sequence};
 use sc_cmd::Command;
 use sc_leader::Leader;
 use sc_mail::{AnswerBody, Mail};
-use std::alloc::Global;
+use sc_replica_choices::nodes_to;
+use sc_replica_parts::{answer_command, dismiss_all, ready_at};
 use std::collections::BTreeMap;
-
-/// The nodes, of 1 to so many, that are in one of these sets.
-#[tactic(auto, unfolding(sc_node_table::specs::Election::nodes_to))]
-fn nodes_to(alloc: Global, most: u16, sets: &Sets) -> Result<Vec<u16>, OutOfMemory>
-    requires { most ≤ most_nodes }
-    ensures { IfOk result (λ nodes. nodes.items ≡ nodes_to most sets.now) }
-{
-    let mut nodes = Vec::new(alloc);
-    for node in 1..most + 1 {
-        if sets.has(node) {
-            nodes.push(node)?;
-        }
-    }
-    Ok(nodes)
-}
 
 impl Replica {
     /// It runs with the next ballot of its own, and asks for promises.

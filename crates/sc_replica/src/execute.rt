@@ -7,29 +7,14 @@ ghost use Rattle.sc_node_table.specs.Slots.{slots_ahead};
 ghost use Rattle.sc_node_table.specs.Replica.{next, members, last_slot};
 ghost use Rattle.sc_node_table.specs.Execute.{entered, answer_of, told_call, announced, learnt_to, welcomed, lost, landed, left_gone, left, is_among, looked, executed_one, has_room, next_ready, executed_ready, executed};
 
-use crate::install::waits_in;
-use crate::mails::answer;
-use crate::orders::result_of;
-use crate::ready::{drop_ready, ready_at};
+use crate::orders::order_result;
 use crate::replica::{LAST_SLOT, Replica};
-use crate::same::same_command;
 use sc_base::{Dup, OutOfMemory, Sequence, dup_found};
 use sc_cmd::{Command, Effect};
-use sc_machine::Machine;
 use sc_mail::{AnswerBody, Mail};
 use sc_member::Members;
-use std::alloc::Global;
-
-/// One command on the group. What the machine does not carry out yet, the split of a group that has
-/// another successor and the commands of transactions, does nothing.
-fn apply(machine: &mut Machine, command: &Command) -> Result<Effect, OutOfMemory>
-    ensures { IfOk result (λ effect. applied machine.old command.now ≡ (machine.new, effect)) }
-{
-    if machine.can_apply(command) {
-        return machine.apply(command);
-    }
-    Ok(Effect::Idle)
-}
+use sc_replica_choices::{not_among, same_command, waits_in};
+use sc_replica_parts::{answer, drop_ready, ready_at};
 
 /// What the effect of a call tells its client; no answer where the call has to wait.
 fn answer_of(effect: Effect) -> Option<AnswerBody>
@@ -49,20 +34,6 @@ fn answer_of(effect: Effect) -> Option<AnswerBody>
     }
 }
 
-/// The nodes that are not in a set.
-fn not_among(alloc: Global, nodes: &[u16], set: &Members) -> Result<Vec<u16>, OutOfMemory>
-    ensures { IfOk result
-        (λ others. others.items ≡ filter (λ node. not (is_member set.now node)) nodes.now) }
-{
-    let mut others = Vec::new(alloc);
-    for node in nodes {
-        if !set.has(*node) {
-            others.push(*node)?;
-        }
-    }
-    Ok(others)
-}
-
 impl Replica {
     /// The command is applied and kept, one more slot is open, and what is not above the floor is
     /// forgotten.
@@ -73,7 +44,7 @@ impl Replica {
         ensures entered { OnOk result (self.new ≡ entered command.now self.old) }
     {
         let last = self.next();
-        let effect = apply(&mut self.machine, command)?;
+        let effect = self.machine.apply(command)?;
         self.log.put(command.dup(self.alloc)?)?;
         let members = self.machine.core().members;
         self.sets.shift(members)?;
@@ -141,7 +112,7 @@ impl Replica {
         ensures { OnOk result
             ((self.new, out.new) ≡ announced counted effect command.now (self.old, out.old)) }
     {
-        let result = result_of(&effect);
+        let result = order_result(command, &effect);
         if counted {
             self.tell_call(effect, command, out)?;
         }
@@ -244,7 +215,7 @@ impl Replica {
             let body = AnswerBody::Gone { into: *into };
             return self.end(None, &body, out);
         }
-        if self.machine.core().members.has(self.me) {
+        if self.has_member(self.me) {
             return Ok(());
         }
         let least = self.machine.core().members.least();
@@ -262,7 +233,7 @@ impl Replica {
         }
         match self.hint {
             None => false,
-            Some(node) => self.machine.core().members.has(node),
+            Some(node) => self.has_member(node),
         }
     }
 

@@ -1,17 +1,9 @@
 //! What a replica forgets: the entries and the accepted commands that are not above its floor.
-ghost use Rattle.std.specs.Prelude.{◌≡◌, ◌<◌, ◌≤◌};
-ghost use Rattle.sc_node_table.specs.Replica.{floor_of, forgotten, next};
+ghost use Rattle.std.specs.Prelude.{◌≡◌, ◌<◌};
+ghost use Rattle.sc_node_table.specs.Replica.{forgotten, next};
 
 use crate::replica::Replica;
-use sc_node_table::CUT_UNIT;
-
-/// The slot up to which entries and accepted commands are forgotten, by the last executed slot.
-fn floor_of(last: u32) -> u32
-    ensures same { result ≡ floor_of last }
-    ensures most { floor_of last ≤ last }
-{
-    (CUT_UNIT * (last / CUT_UNIT)).saturating_sub(CUT_UNIT)
-}
+use sc_replica_choices::floor_of;
 
 impl Replica {
     /// Forgets what is not above the floor of the last executed slot. It takes no memory.

@@ -1,29 +1,20 @@
 //! Install: the executed state is sent, and is taken over by a replica that has executed less.
 ghost use Rattle.std.specs.Prelude.{◌≡◌, ◌≤◌, ◌||◌, not, nat_lt, ◌==◌, IfOk, OnOk, length, Some, if◌then◌else◌};
 ghost use Rattle.sc_node_table.specs.Slots.{slots_ahead};
-ghost use Rattle.sc_node_table.specs.Replica.{last_slot, next, waits_in};
+ghost use Rattle.sc_node_table.specs.Replica.{last_slot, next};
 ghost use Rattle.sc_node_table.specs.Election.{stopped};
 ghost use Rattle.sc_node_table.specs.Install.{install_to, asked_to_promise, welcomed_all, named, jumped};
 ghost use Rattle.sc_node_table.specs.Rows.{looked_up, took_over, install_row, made_by};
 
-use crate::mails::send;
-use crate::open_sets::Sets;
 use crate::replica::{LAST_SLOT, Replica};
 use sc_base::{Draw, Dup, OutOfMemory, Sequence};
-use sc_cmd::{Base, Lock, MemberSets};
+use sc_cmd::{Base, MemberSets};
 use sc_machine::Machine;
 use sc_mail::{Mail, MailBody};
+use sc_replica_choices::{Sets, waits_in};
+use sc_replica_parts as parts;
+use sc_replica_parts::send;
 use std::alloc::Global;
-
-/// How long a transaction has waited: it waits no more where the group is not locked.
-pub(crate) fn waits_in(lock: &Lock, waits: u32) -> u32
-    ensures { result ≡ waits_in lock.now waits }
-{
-    match lock {
-        Lock::Free => 0,
-        Lock::Coordinating { .. } | Lock::Promised { .. } | Lock::Watching { .. } => waits,
-    }
-}
 
 /// A copy of the state under a group's name.
 fn named(alloc: Global, group: Draw, base: &Base) -> Result<Base, OutOfMemory>
@@ -44,13 +35,10 @@ impl Replica {
     ) -> Result<(), OutOfMemory>
         ensures { OnOk result ((self.now, out.new) ≡ install_to node (self.now, out.old)) }
     {
-        let body = MailBody::Install {
-            group: self.name(),
-            slot: self.next() - 1,
-            base: self.machine.base()?,
-            sets: self.sets.list(self.alloc)?,
-        };
-        send(self.me, node as u32, body, out)
+        let base = self.machine.base()?;
+        let sets = self.sets.list(self.alloc)?;
+        let last = self.next() - 1;
+        parts::send_install(self.me, self.name(), node, last, base, sets, out)
     }
 
     /// A member that was added is asked to promise a ballot that is not the group's first.
@@ -92,11 +80,11 @@ impl Replica {
         requires four { length sets.now ≡ slots_ahead }
         ensures { OnOk result (self.new ≡ jumped slot base.now sets.now self.old) }
     {
-        let base = named(self.alloc, self.name(), base)?;
-        self.waits = waits_in(&base.core.lock, self.waits);
-        self.machine = Machine::born(self.alloc, base)?;
-        self.log.install(slot);
+        let machine = Machine::born(self.alloc, named(self.alloc, self.name(), base)?)?;
         self.sets = Sets::of(self.alloc, sets)?;
+        self.waits = waits_in(&machine.core().lock, self.waits);
+        self.machine = machine;
+        self.log.install(slot);
         self.forget(slot);
         Ok(())
     }
@@ -107,7 +95,7 @@ impl Replica {
     fn look_up(&mut self, from: u16, out: &mut Sequence<Mail>) -> Result<(), OutOfMemory>
         ensures { OnOk result ((self.new, out.new) ≡ looked_up from (self.old, out.old)) }
     {
-        if self.machine.core().members.has(from) {
+        if self.has_member(from) {
             self.hint = Some(from);
             return Ok(());
         }

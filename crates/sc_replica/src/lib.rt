@@ -4,18 +4,14 @@
 mod asked;
 mod election;
 mod execute;
-mod executed_log;
 mod floors;
 mod install;
 mod mails;
-mod open_sets;
 mod orders;
 mod pump;
 mod queues;
-mod ready;
 mod replica;
 mod rows;
-mod same;
 mod voting;
 
 pub use replica::{LAST_SLOT, Replica};

@@ -1,177 +1,17 @@
-//! Mails: each function puts some behind those that are there.
-ghost use Rattle.std.specs.Prelude.{◌≡◌, ◌+◌, OnOk};
-ghost use Rattle.sc_cmd.specs.declared.orders.ToldResult.TheVariants.{Refused};
-ghost use Rattle.sc_cmd.specs.declared.orders.OrderRefusal.TheVariants.{NotLeader};
+//! Mails of a replica to several nodes, put behind those that are there.
+ghost use Rattle.std.specs.Prelude.{◌≡◌, OnOk};
 ghost use Rattle.sc_mail.specs.declared.bodies.MailBody.TheVariants.{Prepare, Accept, Learn};
 ghost use Rattle.sc_node_table.specs.Replica.{name_of};
-ghost use Rattle.sc_node_table.specs.Mails.{sent, sent_all, sent_others, answer_to, answered, told_desk, order_in, told_order, dismissed, dismissed_all};
+ghost use Rattle.sc_node_table.specs.Mails.{sent_all, sent_others};
 
 use crate::replica::Replica;
-use sc_base::{Ballot, Draw, Dup, OutOfMemory, Sequence};
-use sc_cmd::{Command, OrderRefusal, ToldResult};
-use sc_mail::{AnswerBody, DESK, Mail, MailBody, client_number};
-use std::alloc::Global;
-use std::collections::VecDeque;
-
-/// One mail more.
-pub(crate) fn send(
-    me: u16,
-    to: u32,
-    body: MailBody,
-    out: &mut Sequence<Mail>,
-) -> Result<(), OutOfMemory>
-    ensures { OnOk result (out.new ≡ sent me to body out.old) }
-{
-    out.push(Mail {
-        from: me as u32,
-        to,
-        body,
-    })
-}
-
-/// An answer to a client.
-pub(crate) fn answer(
-    me: u16,
-    group: Draw,
-    client: u16,
-    seq: u32,
-    answer: AnswerBody,
-    out: &mut Sequence<Mail>,
-) -> Result<(), OutOfMemory>
-    ensures { OnOk result (out.new ≡ answer_to me group client seq answer out.old) }
-{
-    send(
-        me,
-        client_number(client),
-        MailBody::Answer { group, seq, answer },
-        out,
-    )
-}
-
-/// The client of a call is answered so.
-#[tactic(auto, unfolding(sc_node_table::specs::Mails::answered))]
-pub(crate) fn answer_command(
-    alloc: Global,
-    me: u16,
-    group: Draw,
-    body: &AnswerBody,
-    command: &Command,
-    out: &mut Sequence<Mail>,
-) -> Result<(), OutOfMemory>
-    ensures { OnOk result (out.new ≡ answered me group body.now command.now out.old) }
-{
-    match command {
-        Command::Call { client, seq, .. } => {
-            answer(me, group, *client, *seq, body.dup(alloc)?, out)
-        }
-        _ => Ok(()),
-    }
-}
-
-/// The desk is told what became of an order.
-pub(crate) fn tell_desk(
-    me: u16,
-    number: u32,
-    told: ToldResult,
-    out: &mut Sequence<Mail>,
-) -> Result<(), OutOfMemory>
-    ensures { OnOk result (out.new ≡ told_desk me number told out.old) }
-{
-    send(
-        me,
-        DESK,
-        MailBody::Told {
-            order: number,
-            result: told,
-        },
-        out,
-    )
-}
-
-/// The number of the order that a command is of: 0 where a policy made it, and where it is of none.
-pub(crate) fn order_in(command: &Command) -> u32
-    ensures { result ≡ order_in command.now }
-{
-    match command {
-        Command::Join { order, .. }
-        | Command::Leave { order, .. }
-        | Command::Split { order, .. }
-        | Command::Begin { order, .. } => *order,
-        Command::Noop
-        | Command::Call { .. }
-        | Command::Prepared { .. }
-        | Command::RecordVote { .. }
-        | Command::GiveUp { .. }
-        | Command::Finish { .. }
-        | Command::Watched { .. }
-        | Command::RecordWatch { .. } => 0,
-    }
-}
-
-/// The desk is told what became of an order, if it has a number.
-#[tactic(auto, unfolding(sc_node_table::specs::Mails::told_order))]
-pub(crate) fn tell_order(
-    me: u16,
-    number: u32,
-    told: ToldResult,
-    out: &mut Sequence<Mail>,
-) -> Result<(), OutOfMemory>
-    ensures { OnOk result (out.new ≡ told_order me number told out.old) }
-{
-    if number == 0 {
-        return Ok(());
-    }
-    tell_desk(me, number, told, out)
-}
-
-/// The client of a waiting call is answered so, and of a waiting order the desk is told that its
-/// node does not lead.
-#[tactic(auto, unfolding(sc_node_table::specs::Mails::dismissed))]
-fn dismiss(
-    alloc: Global,
-    me: u16,
-    group: Draw,
-    hint: Option<u16>,
-    body: &AnswerBody,
-    command: &Command,
-    out: &mut Sequence<Mail>,
-) -> Result<(), OutOfMemory>
-    ensures { OnOk result (out.new ≡ dismissed me group hint body.now command.now out.old) }
-{
-    match command {
-        Command::Call { client, seq, .. } => {
-            answer(me, group, *client, *seq, body.dup(alloc)?, out)
-        }
-        _ => {
-            let why = OrderRefusal::NotLeader { hint };
-            tell_order(me, order_in(command), ToldResult::Refused(why), out)
-        }
-    }
-}
-
-/// ... each of these commands.
-#[tactic(auto, unfolding(sc_node_table::specs::Mails::dismissed_all))]
-pub(crate) fn dismiss_all(
-    alloc: Global,
-    me: u16,
-    group: Draw,
-    hint: Option<u16>,
-    body: &AnswerBody,
-    commands: &VecDeque<Command>,
-    out: &mut Sequence<Mail>,
-) -> Result<(), OutOfMemory>
-    ensures { OnOk result
-        (out.new ≡ dismissed_all me group hint body.now commands.now.items out.old) }
-{
-    for i in 0..commands.len() {
-        dismiss(alloc, me, group, hint, body, &commands[i], out)?;
-    }
-    Ok(())
-}
+use sc_base::{Ballot, OutOfMemory, Sequence};
+use sc_cmd::Command;
+use sc_mail::Mail;
+use sc_replica_parts as parts;
 
 impl Replica {
     /// A prepare to each of several nodes.
-    #[tactic(auto, unfolding(sc_node_table::specs::Mails::sent_all))]
     pub(crate) fn send_prepares(
         &self,
         nodes: &[u16],
@@ -184,24 +24,10 @@ impl Replica {
             ≡ sent_all self.now.me nodes.now (Prepare (name_of self.now) ballot from_slot)
             out.old) }
     {
-        let group = self.name();
-        for node in nodes {
-            send(
-                self.me,
-                *node as u32,
-                MailBody::Prepare {
-                    group,
-                    ballot,
-                    from_slot,
-                },
-                out,
-            )?;
-        }
-        Ok(())
+        parts::send_prepares(self.me, self.name(), nodes, ballot, from_slot, out)
     }
 
     /// An accept in the leader's ballot to each of several nodes.
-    #[tactic(auto, unfolding(sc_node_table::specs::Mails::sent_all))]
     pub(crate) fn send_accepts(
         &self,
         nodes: &[u16],
@@ -214,26 +40,20 @@ impl Replica {
             ≡ sent_all self.now.me nodes.now
             (Accept (name_of self.now) self.now.leader.ballot slot command.now) out.old) }
     {
-        let group = self.name();
         let ballot = self.leader.ballot();
-        for node in nodes {
-            send(
-                self.me,
-                *node as u32,
-                MailBody::Accept {
-                    group,
-                    ballot,
-                    slot,
-                    command: command.dup(self.alloc)?,
-                },
-                out,
-            )?;
-        }
-        Ok(())
+        parts::send_accepts(
+            self.alloc,
+            self.me,
+            self.name(),
+            nodes,
+            ballot,
+            slot,
+            command,
+            out,
+        )
     }
 
     /// The chosen command of a slot to each of several nodes but the sender.
-    #[tactic(auto, unfolding(sc_node_table::specs::Mails::sent_others))]
     pub(crate) fn send_learns(
         &self,
         nodes: &[u16],
@@ -246,21 +66,6 @@ impl Replica {
             ≡ sent_others self.now.me nodes.now (Learn (name_of self.now) slot command.now)
             out.old) }
     {
-        let group = self.name();
-        for node in nodes {
-            if *node != self.me {
-                send(
-                    self.me,
-                    *node as u32,
-                    MailBody::Learn {
-                        group,
-                        slot,
-                        command: command.dup(self.alloc)?,
-                    },
-                    out,
-                )?;
-            }
-        }
-        Ok(())
+        parts::send_learns(self.alloc, self.me, self.name(), nodes, slot, command, out)
     }
 }

@@ -3,19 +3,18 @@ ghost use Rattle.std.specs.Prelude.{◌≡◌, ◌||◌, not, true, OnOk, Some, 
 ghost use Rattle.sc_txn.specs.Checked.{is_checked};
 ghost use Rattle.sc_machine_table.specs.Orders.{refusal_of};
 ghost use Rattle.sc_node_table.specs.Replica.{settled};
-ghost use Rattle.sc_node_table.specs.Execute.{result_of, told_effect};
+ghost use Rattle.sc_node_table.specs.Execute.{result_of, order_result, told_effect};
 ghost use Rattle.sc_node_table.specs.Rows.{order_queued, order_taken, order_row};
 
-use crate::mails::{order_in, tell_desk, tell_order};
-use crate::queues::push_back;
 use crate::replica::Replica;
 use sc_base::{OutOfMemory, Sequence};
 use sc_cmd::{Command, Core, Effect, Order, OrderLine, OrderRefusal, ToldResult};
 use sc_mail::Mail;
+use sc_replica_parts::{order_in, push_back, tell_desk, tell_order};
 use sc_txn::check;
 
 /// What an effect says of its order; nothing where the order goes on.
-pub(crate) fn result_of(effect: &Effect) -> Option<ToldResult>
+fn result_of(effect: &Effect) -> Option<ToldResult>
     ensures { result ≡ result_of effect.now }
 {
     match effect {
@@ -30,6 +29,25 @@ pub(crate) fn result_of(effect: &Effect) -> Option<ToldResult>
         | Effect::Idle
         | Effect::Voted(_)
         | Effect::Decided(_) => None,
+    }
+}
+
+/// What it says of the order that made the command; nothing so far of splits and transactions.
+pub(crate) fn order_result(command: &Command, effect: &Effect) -> Option<ToldResult>
+    ensures { result ≡ order_result command.now effect.now }
+{
+    match command {
+        Command::Join { .. } | Command::Leave { .. } => result_of(effect),
+        Command::Noop
+        | Command::Call { .. }
+        | Command::Split { .. }
+        | Command::Begin { .. }
+        | Command::Prepared { .. }
+        | Command::RecordVote { .. }
+        | Command::GiveUp { .. }
+        | Command::Finish { .. }
+        | Command::Watched { .. }
+        | Command::RecordWatch { .. } => None,
     }
 }
 

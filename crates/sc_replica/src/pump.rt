@@ -1,60 +1,23 @@
 //! Pump: what a settled replica offers at its open slots.
 ghost use Rattle.std.specs.Prelude.{◌≡◌, ◌+◌, ◌<◌, ◌≤◌, ◌==◌, IfOk, OnOk, IfSome, [], length, is_some, None, true, false, slice_index_or};
 ghost use Rattle.std.specs.List.{list_any};
-ghost use Rattle.sc_ideal.specs.IdealStore.{key_of, holds_key};
 ghost use Rattle.sc_paxos_words.specs.Leaders.{Obeys, flight_at, must};
 ghost use Rattle.sc_node_table.specs.Slots.{slots_ahead};
 ghost use Rattle.sc_node_table.specs.Replica.{next, settled, may_offer, taken_at, listed, under_way, is_idle, last_slot};
-ghost use Rattle.sc_node_table.specs.Pump.{is_act, serves_calls, waits, turned_down, refused_by, next_call, from_calls, from_acts, from_queues, found_for, offered, pumped_from, pumped};
-ghost use Rattle.sc_replica.specs.Heads.{head_waits};
+ghost use Rattle.sc_replica_parts.specs.Heads.{head_waits};
+ghost use Rattle.sc_node_table.specs.Pump.{is_act, next_call, from_calls, from_acts, from_queues, found_for, offered, pumped_from, pumped};
 
-use crate::mails::answer_command;
-use crate::queues::{head, is_empty, take_head};
 use crate::replica::{LAST_SLOT, Replica};
-use sc_base::{Draw, Dup, Op, OutOfMemory, RingArc, Sequence};
+use sc_base::{Dup, OutOfMemory, Sequence};
 use sc_cmd::{Command, Core, Lock};
 use sc_leader::Must;
-use sc_mail::{AnswerBody, Mail};
+use sc_mail::Mail;
+use sc_replica_choices::{is_act, turned_down, waits};
+use sc_replica_parts::{answer_command, head, is_empty, take_head};
 use std::alloc::Global;
 use std::collections::VecDeque;
 
-/// Whether a command is other than Call and Noop: while one is under way nothing new is offered.
-fn is_act(command: &Command) -> bool
-    ensures { result ≡ is_act command.now }
-{
-    match command {
-        Command::Noop | Command::Call { .. } => false,
-        _ => true,
-    }
-}
-
-/// Whether calls are served under this lock.
-pub(crate) fn serves_calls(lock: &Lock) -> bool
-    ensures { result ≡ serves_calls lock.now }
-{
-    match lock {
-        Lock::Free | Lock::Watching { .. } => true,
-        Lock::Coordinating { .. } | Lock::Promised { .. } => false,
-    }
-}
-
-/// Whether an arc holds the key of an operation.
-pub(crate) fn holds_key(arc: &RingArc, op: &Op) -> bool
-    ensures { result ≡ holds_key arc.now (key_of op.now) }
-{
-    arc.holds(op.key().pos())
-}
-
-fn waits(idle: bool, lock: &Lock, command: &Command) -> bool
-    ensures { result ≡ waits idle lock.now command.now }
-{
-    match command {
-        Command::Call { .. } => !serves_calls(lock),
-        _ => !serves_calls(lock) || !idle,
-    }
-}
-
-/// Whether the head of the calls waits, or there is none.
+// Whether the head of the calls waits, or there is none.
 fn head_waits(idle: bool, lock: &Lock, calls: &VecDeque<Command>) -> bool
     ensures { result ≡ head_waits idle lock.now calls.now.items }
 {
@@ -62,31 +25,6 @@ fn head_waits(idle: bool, lock: &Lock, calls: &VecDeque<Command>) -> bool
         None => true,
         Some(command) => waits(idle, lock, command),
     }
-}
-
-/// The answer of a call that the group does not serve.
-fn turned_down(core: &Core, command: &Command) -> Option<AnswerBody>
-    ensures { result ≡ turned_down core.now command.now }
-{
-    match command {
-        Command::Call { op, .. } => refused_by(core, op),
-        _ => None,
-    }
-}
-
-fn refused_by(core: &Core, op: &Op) -> Option<AnswerBody>
-    ensures { result ≡ refused_by core.now.gone core.now op.now }
-{
-    if let Some(into) = &core.gone {
-        return Some(AnswerBody::Gone { into: *into });
-    }
-    if holds_key(&core.arc, op) {
-        return None;
-    }
-    Some(AnswerBody::NotMine {
-        arc: core.arc,
-        succ: core.succ,
-    })
 }
 
 /// The command at the head of the calls that a slot may have; the calls before it that the group
@@ -139,7 +77,10 @@ impl Replica {
     fn is_taken(&self, slot: u32) -> bool
         ensures { result ≡ is_some (taken_at self.now slot) }
     {
-        self.taken(slot).is_some()
+        match self.taken(slot) {
+            Some(_) => true,
+            None => false,
+        }
     }
 
     /// Whether nothing is in flight or ready.

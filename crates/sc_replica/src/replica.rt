@@ -1,18 +1,18 @@
 //! The replica.
 ghost use Rattle.std.specs.Prelude.{◌≡◌, ◌+◌, ◌≤◌, IfOk, OnOk, length, true};
+ghost use Rattle.sc_member.specs.Roster.{is_member};
 ghost use Rattle.sc_node_table.specs.Slots.{slots_ahead};
-ghost use Rattle.sc_node_table.specs.Replica.{born_replica, installed_replica, name_of, next, last_slot};
+ghost use Rattle.sc_node_table.specs.Replica.{born_replica, installed_replica, members, name_of, next, last_slot};
 ghost use Rattle.sc_replica.specs.Bare.{bare_replica};
 
-use crate::executed_log::Entries;
-use crate::open_sets::Sets;
 use sc_acceptor::Acceptor;
 use sc_base::{Ballot, Draw, OutOfMemory, Sequence};
 use sc_cmd::{Base, Command};
 use sc_leader::Leader;
 use sc_machine::Machine;
 use sc_mail::Mail;
-use sc_node_table::ReplicaInput;
+use sc_replica_choices::Sets;
+use sc_replica_parts::Entries;
 use std::alloc::Global;
 use std::collections::{BTreeMap, VecDeque};
 use std::marker::Model;
@@ -142,6 +142,13 @@ impl Replica {
         ensures { result ≡ name_of self.now }
     {
         self.machine.core().id
+    }
+
+    /// Whether a node is a member in the executed state.
+    pub(crate) fn has_member(&self, node: u16) -> bool
+        ensures { result ≡ is_member (members self.now) node }
+    {
+        self.machine.core().members.has(node)
     }
 
     /// The slot after the last executed one.

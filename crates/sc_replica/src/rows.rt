@@ -10,40 +10,19 @@ ghost use Rattle.sc_node_table.specs.Mails.{sent};
 ghost use Rattle.sc_replica.specs.Again.{asked_at};
 ghost use Rattle.sc_node_table.specs.Replica.{name_of, next, members, settled, flying, is_idle, last_slot};
 ghost use Rattle.sc_node_table.specs.Node.{is_node, may_come};
-ghost use Rattle.sc_node_table.specs.Rows.{refused_at, queued, requested, request_row, learn_row, taught, ask_row, uncounted, asked_again, told_last, tick_row, mailed, stepped};
+ghost use Rattle.sc_node_table.specs.Rows.{queued, requested, request_row, learn_row, taught, ask_row, asked_again, told_last, tick_row, mailed, stepped};
 ghost use Rattle.sc_replica.specs.Given.{is_vote, may_take};
 
-use crate::mails::{answer, send};
-use crate::pump::{holds_key, serves_calls};
-use crate::queues::{call_of, drop_call, push_back};
 use crate::replica::{LAST_SLOT, Replica};
-use sc_base::{Dup, MOST_NODES, Op, OutOfMemory, Sequence};
+use sc_base::{MOST_NODES, Op, OutOfMemory, Sequence};
 use sc_cmd::Command;
-use sc_mail::{AnswerBody, Mail, MailBody};
+use sc_mail::{Mail, MailBody};
 use sc_member::Members;
 use sc_node_table::ReplicaInput;
+use sc_replica_choices::{refusal, uncounted};
+use sc_replica_parts::{add_call, answer, call_of, drop_call, send};
 
 impl Replica {
-    /// Why a request is not taken, the first that holds.
-    fn refused_at(&self, op: &Op) -> Option<AnswerBody>
-        ensures { result ≡ refused_at self.now.group.core.gone op.now self.now }
-    {
-        let core = self.machine.core();
-        if let Some(into) = &core.gone {
-            return Some(AnswerBody::Gone { into: *into });
-        }
-        if !self.running {
-            return Some(AnswerBody::NotLeader { hint: self.hint });
-        }
-        if serves_calls(&core.lock) && !holds_key(&core.arc, op) {
-            return Some(AnswerBody::NotMine {
-                arc: core.arc,
-                succ: core.succ,
-            });
-        }
-        None
-    }
-
     /// A call waits last, unless the same or a later one of its client waits; an earlier one waits
     /// no more.
     #[tactic(auto, unfolding(sc_node_table::specs::Rows::queued))]
@@ -64,8 +43,7 @@ impl Replica {
             }
             drop_call(&mut self.calls, client);
         }
-        let op = op.dup(self.alloc)?;
-        push_back(&mut self.calls, Command::Call { client, seq, op })?;
+        add_call(self.alloc, &mut self.calls, client, seq, op)?;
         self.pump(out)
     }
 
@@ -81,7 +59,7 @@ impl Replica {
         ensures { OnOk result
             ((self.new, out.new) ≡ request_row client seq op.now (self.old, out.old)) }
     {
-        match self.refused_at(op) {
+        match refusal(self.machine.core(), self.running, self.hint, op) {
             Some(body) => answer(self.me, self.name(), client, seq, body, out),
             None => self.queue(client, seq, op, out),
         }
@@ -126,19 +104,6 @@ impl Replica {
         )
     }
 
-    /// The members of a slot whose vote was not counted.
-    fn uncounted(&self, slot: u32, set: &Members) -> Result<Vec<u16>, OutOfMemory>
-        ensures { IfOk result (λ nodes. nodes.items ≡ uncounted self.now slot set.now) }
-    {
-        let mut nodes = Vec::new(self.alloc);
-        for node in set.as_slice() {
-            if !self.leader.voted(slot, *node) {
-                nodes.push(*node)?;
-            }
-        }
-        Ok(nodes)
-    }
-
     /// Accept again at one slot, if a command is in flight there.
     fn ask_again_at(
         &self,
@@ -151,7 +116,7 @@ impl Replica {
         let Some(command) = self.leader.flight(slot) else {
             return Ok(());
         };
-        let nodes = self.uncounted(slot, set)?;
+        let nodes = uncounted(self.alloc, &self.leader, slot, set)?;
         self.send_accepts(nodes.as_slice(), slot, command, out)
     }
 

@@ -11,8 +11,6 @@ ghost use Rattle.sc_node_table.specs.Slots.{slots_ahead};
 ghost use Rattle.sc_node_table.specs.Replica.{name_of, next, set_at, last_slot};
 ghost use Rattle.sc_node_table.specs.Voting.{hinted, promise_to, promised, prepare_row, accepted_to, took, accept_row, leads, promise_row, readied, tallied, voted, accepted_row};
 
-use crate::mails::send;
-use crate::ready::put_ready;
 use crate::replica::Replica;
 use sc_acceptor::{AcceptAnswer, PrepareAnswer};
 use sc_base::{Ballot, Dup, OutOfMemory, Sequence};
@@ -20,6 +18,7 @@ use sc_cmd::{Command, same_ballot};
 use sc_leader::Counted;
 use sc_mail::{Mail, MailBody, Reports};
 use sc_member::Members;
+use sc_replica_parts::{put_ready, send};
 
 impl Replica {
     /// One that does not run takes the ballot's node for the leader.

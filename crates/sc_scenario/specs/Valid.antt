@@ -3,7 +3,7 @@ use Rattle.std.specs.Prelude.{◌≡◌, ◌<◌, ◌≤◌, ℕ, ◌^◌, false
 use Rattle.std.specs.List.{AllPairs}
 use Rattle.sc_member.specs.Roster.{IsRoster}
 use Rattle.sc_cmd.specs.declared.orders.Order.{Order}
-use Rattle.sc_cmd.specs.declared.orders.Order.TheVariants.{Join, Leave}
+use Rattle.sc_cmd.specs.declared.orders.Order.TheVariants.{Join, Leave, Split, Merge, Repart, Migrate}
 use Rattle.sc_scenario.specs.Groups.{lone_group}
 use Rattle.sc_base.specs.Limits.{most_nodes, most_clients, most_requests, client_actor}
 use Rattle.sc_scenario.specs.Schedules.{is_client, most_mails, most_deliveries, most_workers}
@@ -30,7 +30,10 @@ IsActor nodes clients who = IsUpTo nodes who ⊎ ((client : ℕ) × (who ≡ cli
 abbrev pub IsEarlyOrder : ℕ → Order → Type 0
 IsEarlyOrder nodes (Join node group) = IsUpTo nodes node
 IsEarlyOrder nodes (Leave node group) = IsUpTo nodes node
-IsEarlyOrder nodes _ = ⊥
+IsEarlyOrder nodes (Split group at) = ⊥
+IsEarlyOrder nodes (Merge group) = ⊥
+IsEarlyOrder nodes (Repart group at) = ⊥
+IsEarlyOrder nodes (Migrate group node) = ⊥
 
 -- a line of the schedule names actors that there are, and orders have numbers from 1 on
 abbrev pub IsEarlyLine : ℕ → List Asks → SchedLine → Type 0

@@ -1,2 +1,5 @@
+pub mod EntryRows
 pub mod Example
 pub mod Rows
+mod WorkedOrder
+mod WorkedSplit

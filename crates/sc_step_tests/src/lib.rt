@@ -12,3 +12,5 @@ mod plan_tests;
 mod replica_tests;
 #[cfg(test)]
 mod samples;
+#[cfg(test)]
+mod transaction_tests;

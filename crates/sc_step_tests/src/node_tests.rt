@@ -1,17 +1,17 @@
 //! A node of one group steps as its replica.
-ghost use Rattle.std.specs.Prelude.{◌≡◌, true, IfOk, IfSome};
+ghost use Rattle.std.specs.Prelude.{◌≡◌, true, IfSome};
 ghost use Rattle.sc_node_table.specs.Node.{may_come};
 ghost use Rattle.sc_replica.specs.Given.{may_take};
 
-use crate::samples::{Brief, accept, accepted, all_in_brief, get, group, request};
+use crate::samples::{accept, accepted, copy, get, group, request};
 use sc_actor::Input;
-use sc_base::{Dup, Op, OutOfMemory, Sequence};
-use sc_cmd::{Base, OrderLine};
+use sc_base::{Op, Same, Sequence};
+use sc_cmd::OrderLine;
 use sc_mail::{Mail, MailBody};
 use sc_node::NodeCore;
 use sc_replica::{Replica, ReplicaInput};
 use std::alloc::Global;
-use std::test::Fail;
+use std::process::Abort;
 
 // What the input is: a mail for its group, or a tick.
 #[derive(Clone, Copy)]
@@ -39,70 +39,102 @@ fn mail(from: u32, body: MailBody) -> Mail
 }
 
 // The mail of a step; none at a tick.
-fn mail_of(alloc: Global, step: Step, op: &Op) -> Result<Option<Mail>, OutOfMemory>
-    ensures { IfOk result (λ found. IfSome found (λ mail. may_come mail.from mail.body ≡ true)) }
+fn mail_of(rt: &impl Abort, alloc: Global, step: Step, op: &Op) -> Option<Mail>
+    ensures { IfSome result (λ mail. may_come mail.from mail.body ≡ true) }
 {
-    Ok(match step {
-        Step::Request(seq) => Some(mail(33, request(seq, op.dup(alloc)?))),
-        Step::Accept(slot) => Some(mail(1, accept(slot, op.dup(alloc)?))),
+    match step {
+        Step::Request(seq) => Some(mail(33, request(seq, copy(rt, alloc, op)))),
+        Step::Accept(slot) => Some(mail(1, accept(slot, copy(rt, alloc, op)))),
         Step::Accepted(slot) => Some(mail(1, accepted(slot))),
         Step::Tick => None,
-    })
+    }
 }
 
-fn input_of(alloc: Global, step: Step, op: &Op) -> Result<Input<Mail, OrderLine>, OutOfMemory> {
-    Ok(match mail_of(alloc, step, op)? {
+fn input_of(rt: &impl Abort, alloc: Global, step: Step, op: &Op) -> Input<Mail, OrderLine> {
+    match mail_of(rt, alloc, step, op) {
         Some(mail) => Input::Got(mail),
         None => Input::Tick,
-    })
+    }
 }
 
-fn replica_input_of(alloc: Global, step: Step, op: &Op) -> Result<ReplicaInput, OutOfMemory>
-    ensures { IfOk result (λ input. may_take input ≡ true) }
+fn replica_input_of(rt: &impl Abort, alloc: Global, step: Step, op: &Op) -> ReplicaInput
+    ensures { may_take result ≡ true }
 {
-    Ok(match mail_of(alloc, step, op)? {
+    match mail_of(rt, alloc, step, op) {
         Some(mail) => ReplicaInput::Got(mail),
         None => ReplicaInput::Tick,
-    })
+    }
 }
 
 fn node_sends(
+    rt: &impl Abort,
     alloc: Global,
     node: &mut NodeCore,
     step: Step,
     op: &Op,
-) -> Result<Vec<Brief>, OutOfMemory> {
-    let sent = node.step(alloc, &input_of(alloc, step, op)?)?;
-    all_in_brief(alloc, sent.as_slice())
+) -> Sequence<Mail> {
+    node.step(alloc, &input_of(rt, alloc, step, op))
+        .expect(rt, "memory")
 }
 
 fn replica_sends(
+    rt: &impl Abort,
     alloc: Global,
     replica: &mut Replica,
     step: Step,
     op: &Op,
-) -> Result<Vec<Brief>, OutOfMemory> {
+) -> Sequence<Mail> {
     let mut sent = Sequence::new(alloc);
-    replica.step(&replica_input_of(alloc, step, op)?, &mut sent)?;
-    all_in_brief(alloc, sent.as_slice())
+    replica
+        .step(&replica_input_of(rt, alloc, step, op), &mut sent)
+        .expect(rt, "memory");
+    sent
 }
 
-fn born_node(alloc: Global, base: Base) -> Result<NodeCore, OutOfMemory> {
-    let mut groups = Sequence::new(alloc);
-    groups.push(base)?;
-    NodeCore::born(alloc, 1, &groups)
-}
-
-#[test]
-fn a_node_of_one_group_sends_what_its_replica_sends(rt: HostRuntime) -> Result<(), Fail> {
-    let alloc = rt.alloc();
-    let op = get(alloc)?;
-    let mut node = born_node(alloc, group(alloc, 1)?)?;
-    let mut replica = Replica::born(alloc, 1, group(alloc, 1)?)?;
-    for step in STEPS {
-        let wanted = replica_sends(alloc, &mut replica, step, &op)?;
-        let sent = node_sends(alloc, &mut node, step, &op)?;
-        assert_eq!(rt; sent.as_slice(), wanted.as_slice());
+// How many mails both send at a step, or 99 where these are not the same in each part.
+fn alike(
+    rt: &impl Abort,
+    alloc: Global,
+    node: &mut NodeCore,
+    replica: &mut Replica,
+    step: Step,
+    op: &Op,
+) -> usize {
+    let wanted = replica_sends(rt, alloc, replica, step, op);
+    let sent = node_sends(rt, alloc, node, step, op);
+    if sent.is_same(&wanted) {
+        sent.len()
+    } else {
+        99
     }
-    Ok(())
+}
+
+fn all_alike(
+    rt: &impl Abort,
+    alloc: Global,
+    node: &mut NodeCore,
+    replica: &mut Replica,
+) -> [usize; 6] {
+    let op = get(rt, alloc);
+    let mut mails = [0usize; 6];
+    for (step, count) in STEPS.iter().zip(mails.iter_mut()) {
+        *count = alike(rt, alloc, node, replica, *step, &op);
+    }
+    mails
+}
+
+fn born_node(rt: &impl Abort, alloc: Global) -> NodeCore {
+    let mut groups = Sequence::new(alloc);
+    groups.push(group(rt, alloc, 1)).expect(rt, "memory");
+    NodeCore::born(alloc, 1, &groups).expect(rt, "memory")
+}
+
+// Each step sends one mail: a request is offered, a tick offers it again, the accept is answered, and
+// the client is answered once the slot is executed. The repeat gets a slot of its own.
+#[test]
+fn a_node_of_one_group_sends_what_its_replica_sends(rt: HostRuntime) {
+    let mut node = born_node(&rt, rt.alloc());
+    let mut replica = Replica::born(rt.alloc(), 1, group(&rt, rt.alloc(), 1)).expect(&rt, "memory");
+    let mails = all_alike(&rt, rt.alloc(), &mut node, &mut replica);
+    assert_eq!(rt; mails, [1, 1, 1, 1, 1, 1]);
 }

@@ -6,7 +6,7 @@ use sc_repart::{can_repart, gained_arc, lost_arc, plan_repart};
 use sc_split_merge::{can_merge, plan_merge};
 use sc_txn::{Decision, check, decide, vote};
 use std::alloc::Global;
-use std::test::Fail;
+use std::process::Abort;
 
 const FIRST: Draw = Draw { node: 0, count: 1 };
 
@@ -18,26 +18,30 @@ const TX: Draw = Draw { node: 1, count: 1 };
 const MIDDLE: u32 = 2147483648;
 
 // The nodes from `first` to `last`.
-fn nodes(first: u16, last: u16) -> Result<Members, Fail> {
+fn nodes(rt: &impl Abort, first: u16, last: u16) -> Members {
     let mut members = Members::one(first);
     for node in first..=last {
-        if node != first && members.add(node).is_err() {
-            return Err(Fail::from("a node that is not added"));
+        if node != first {
+            members.add(node).expect(rt, "a node more");
         }
     }
-    Ok(members)
+    members
 }
 
-// One half of the ring, with these members.
-fn half(alloc: Global, lo: u32, members: Members, lock: Lock) -> Result<Core, Fail> {
+fn half_arc(rt: &impl Abort, lo: u32) -> RingArc {
+    RingArc::try_new(lo, MIDDLE as u64).expect(rt, "half the ring")
+}
+
+// A group with this arc and these members, and the other group as both neighbours.
+fn core_on(alloc: Global, arc: RingArc, members: Members, lock: Lock) -> Core {
     let succ = Link {
         group: SECOND,
         members,
     };
-    Ok(Core {
+    Core {
         id: FIRST,
         first: 1,
-        arc: RingArc::try_new(lo, MIDDLE as u64)?,
+        arc,
         members,
         succ,
         pred: succ,
@@ -47,82 +51,105 @@ fn half(alloc: Global, lo: u32, members: Members, lock: Lock) -> Result<Core, Fa
         voted: Sequence::new(alloc),
         born: Sequence::new(alloc),
         gone: None,
-    })
+    }
+}
+
+// One half of the ring, with these members, free.
+fn half(rt: &impl Abort, alloc: Global, lo: u32, members: Members) -> Core {
+    core_on(alloc, half_arc(rt, lo), members, Lock::Free)
 }
 
 // The other half, as it was frozen; its successor is this group.
-fn other_half(alloc: Global, members: Members, succ: Draw) -> Result<Frozen, Fail> {
-    Ok(Frozen {
-        arc: RingArc::try_new(MIDDLE, MIDDLE as u64)?,
+fn other_half(rt: &impl Abort, alloc: Global, members: Members) -> Frozen {
+    Frozen {
+        arc: half_arc(rt, MIDDLE),
         members,
         succ: Link {
-            group: succ,
+            group: FIRST,
             members,
         },
         pairs: Pairs::new(alloc),
         clients: SeenList::new(alloc),
-    })
+    }
 }
 
-fn offer(members: Members, body: Body) -> Result<Offer, Fail> {
-    Ok(Offer {
+fn offer(rt: &impl Abort, members: Members, body: Body) -> Offer {
+    Offer {
         coord: FIRST,
         part: SECOND,
-        arc: RingArc::try_new(0, MIDDLE as u64)?,
+        arc: half_arc(rt, 0),
         members,
         body,
         by: 1,
-    })
+    }
 }
 
-// The arc that the first half has after the boundary moved, and the one that changed hands.
-fn moved(alloc: Global, at: u32) -> Result<(RingArc, RingArc), Fail> {
-    let core = half(alloc, 0, Members::one(1), Lock::Free)?;
-    let frozen = other_half(alloc, Members::one(2), FIRST)?;
-    if !can_repart(&core, at, &frozen) {
-        return Err(Fail::from("a boundary that cannot move there"));
-    }
-    let (after, arc) = plan_repart(alloc, &core, at, &frozen)?;
-    Ok((after.arc, arc))
+// Where an arc begins, and how long it is.
+type Place = (u32, u64);
+
+fn place(arc: RingArc) -> Place {
+    (arc.lo(), arc.len())
+}
+
+// The arc that a group has after the boundary moved, and the one that changed hands.
+fn moved(
+    rt: &impl Abort,
+    alloc: Global,
+    core: &Core,
+    at: u32,
+    frozen: &Frozen,
+) -> (RingArc, RingArc) {
+    assert!(rt; can_repart(core, at, frozen));
+    let (after, arc) = plan_repart(alloc, core, at, frozen).expect(rt, "memory");
+    (after.arc, arc)
+}
+
+// The same of the first half.
+fn moved_of_half(rt: &impl Abort, alloc: Global, at: u32) -> (RingArc, RingArc) {
+    let core = half(rt, alloc, 0, Members::one(1));
+    let frozen = other_half(rt, alloc, Members::one(2));
+    moved(rt, alloc, &core, at, &frozen)
 }
 
 // The arc that the second half has then.
-fn other_arc(alloc: Global, at: u32) -> Result<RingArc, Fail> {
-    let core = half(alloc, MIDDLE, Members::one(2), Lock::Free)?;
-    let offer = offer(Members::one(1), Body::Repart { at })?;
+fn other_arc(rt: &impl Abort, alloc: Global, at: u32) -> RingArc {
+    let core = half(rt, alloc, MIDDLE, Members::one(2));
+    let offer = offer(rt, Members::one(1), Body::Repart { at });
     let arc = if at < MIDDLE {
         gained_arc(&core, &offer, at)
     } else {
         lost_arc(&core, at)
     };
-    match arc {
-        Some(arc) => Ok(arc),
-        None => Err(Fail::from("an arc that cannot be made")),
-    }
+    arc.expect(rt, "an arc that can be made")
+}
+
+// The arcs that the two halves have after the boundary moved, and before the second that which
+// changed hands.
+fn places_after(rt: &impl Abort, alloc: Global, at: u32) -> [Place; 3] {
+    let (kept, piece) = moved_of_half(rt, alloc, at);
+    [place(kept), place(piece), place(other_arc(rt, alloc, at))]
 }
 
 #[test]
-fn repart_plans(rt: HostRuntime) -> Result<(), Fail> {
-    let cases: [(u32, RingArc, RingArc, RingArc); 2] = [
-        (
-            1677721600,
-            RingArc::try_new(0, 1677721600)?,
-            RingArc::try_new(1677721600, 469762048)?,
-            RingArc::try_new(1677721600, 2617245696)?,
-        ),
-        (
-            3000000000,
-            RingArc::try_new(0, 3000000000)?,
-            RingArc::try_new(MIDDLE, 852516352)?,
-            RingArc::try_new(3000000000, 1294967296)?,
-        ),
-    ];
-    for (at, kept, gone, other) in cases {
-        let (arc, piece) = moved(rt.alloc(), at)?;
-        assert!(rt; arc == kept && piece == gone);
-        assert!(rt; other_arc(rt.alloc(), at)? == other);
-    }
-    Ok(())
+fn repart_plans(rt: HostRuntime) {
+    let before = places_after(&rt, rt.alloc(), 1677721600);
+    let after = places_after(&rt, rt.alloc(), 3000000000);
+    assert_eq!(rt;
+        before,
+        [
+            (0, 1677721600),
+            (1677721600, 469762048),
+            (1677721600, 2617245696)
+        ]
+    );
+    assert_eq!(rt;
+        after,
+        [
+            (0, 3000000000),
+            (MIDDLE, 852516352),
+            (3000000000, 1294967296)
+        ]
+    );
 }
 
 // The number of the refusal of a transaction, or 0 where it is accepted.
@@ -139,26 +166,23 @@ fn begin_code(core: &Core, body: Body) -> u8 {
 }
 
 #[test]
-fn transactions_are_refused_at_the_ends_and_for_members(rt: HostRuntime) -> Result<(), Fail> {
-    let core = half(rt.alloc(), 0, Members::one(1), Lock::Free)?;
-    let cases: [(Body, u8); 6] = [
-        (Body::Repart { at: 0 }, 4),
-        (Body::Repart { at: MIDDLE }, 4),
-        (Body::Repart { at: 1 }, 0),
-        (Body::Migrate { node: 2 }, 6),
-        (Body::Migrate { node: 1 }, 7),
-        (Body::Merge, 0),
+fn transactions_are_refused_at_the_ends_and_for_members(rt: HostRuntime) {
+    let core = half(&rt, rt.alloc(), 0, Members::one(1));
+    let codes = [
+        begin_code(&core, Body::Repart { at: 0 }),
+        begin_code(&core, Body::Repart { at: MIDDLE }),
+        begin_code(&core, Body::Repart { at: 1 }),
+        begin_code(&core, Body::Migrate { node: 2 }),
+        begin_code(&core, Body::Migrate { node: 1 }),
+        begin_code(&core, Body::Merge),
     ];
-    for (body, code) in cases {
-        assert_eq!(rt; begin_code(&core, body), code);
-    }
-    Ok(())
+    assert_eq!(rt; codes, [4, 4, 0, 6, 7, 0]);
 }
 
 // The word for a vote on a merge with a group of the members 1 to 5.
-fn merge_vote(core: &Core) -> Result<&'static str, Fail> {
-    let offer = offer(nodes(1, 5)?, Body::Merge)?;
-    Ok(match vote(core, &offer) {
+fn merge_vote(rt: &impl Abort, core: &Core) -> &'static str {
+    let offer = offer(rt, nodes(rt, 1, 5), Body::Merge);
+    match vote(core, &offer) {
         Ok(()) => "yes",
         Err(No::Busy { tx }) => if same_draw(tx, TX) {
             "busy"
@@ -168,64 +192,79 @@ fn merge_vote(core: &Core) -> Result<&'static str, Fail> {
         Err(No::Gone) => "gone",
         Err(No::Apart) => "apart",
         Err(No::TooMany { n }) => if n == 10 { "ten" } else { "too many" },
-    })
+    }
+}
+
+// The word of a free group of these members.
+fn free_vote(rt: &impl Abort, alloc: Global, lo: u32, first: u16, last: u16) -> &'static str {
+    let core = half(rt, alloc, lo, nodes(rt, first, last));
+    merge_vote(rt, &core)
 }
 
 #[test]
-fn votes(rt: HostRuntime) -> Result<(), Fail> {
-    let alloc = rt.alloc();
-    assert_eq!(rt;
-        merge_vote(&half(alloc, MIDDLE, nodes(6, 10)?, Lock::Free)?)?,
-        "ten"
-    );
-    assert_eq!(rt;
-        merge_vote(&half(alloc, MIDDLE, nodes(5, 9)?, Lock::Free)?)?,
-        "yes"
-    );
-    assert_eq!(rt;
-        merge_vote(&half(alloc, 5, nodes(5, 9)?, Lock::Free)?)?,
-        "apart"
-    );
-    Ok(())
+fn votes(rt: HostRuntime) {
+    assert_eq!(rt; free_vote(&rt, rt.alloc(), MIDDLE, 6, 10), "ten");
+    assert_eq!(rt; free_vote(&rt, rt.alloc(), MIDDLE, 5, 9), "yes");
+    assert_eq!(rt; free_vote(&rt, rt.alloc(), 5, 5, 9), "apart");
 }
 
-#[test]
-fn a_locked_group_votes_no(rt: HostRuntime) -> Result<(), Fail> {
+// A group that is promised to a transaction.
+fn promised(rt: &impl Abort, alloc: Global) -> Core {
     let lock = Lock::Promised {
         tx: TX,
-        offer: offer(Members::one(1), Body::Merge)?,
+        offer: offer(rt, Members::one(1), Body::Merge),
     };
-    let core = half(rt.alloc(), MIDDLE, nodes(5, 9)?, lock)?;
-    assert_eq!(rt; merge_vote(&core)?, "busy");
-    assert!(rt; decide(&core, TX) == Decision::Undecided);
-    Ok(())
+    core_on(alloc, half_arc(rt, MIDDLE), nodes(rt, 5, 9), lock)
 }
 
 #[test]
-fn a_merge_closes_the_ring(rt: HostRuntime) -> Result<(), Fail> {
-    let alloc = rt.alloc();
-    let core = half(alloc, 0, nodes(1, 5)?, Lock::Free)?;
-    let frozen = other_half(alloc, nodes(5, 9)?, FIRST)?;
-    if !can_merge(&core, &frozen) {
-        return Err(Fail::from("groups that cannot merge"));
-    }
-    let after = plan_merge(alloc, &core, &frozen)?;
-    assert!(rt; after.arc == RingArc::try_new(0, 1 << 32)?);
-    assert!(rt; after.members == nodes(1, 9)? && after.succ.members == after.members);
-    assert!(rt; same_draw(after.succ.group, FIRST));
-    Ok(())
+fn a_locked_group_votes_no(rt: HostRuntime) {
+    let core = promised(&rt, rt.alloc());
+    let word = merge_vote(&rt, &core);
+    let decision = decide(&core, TX);
+    assert_eq!(rt; word, "busy");
+    assert_eq!(rt; decision, Decision::Undecided);
+}
+
+// The arc, the members and the successor of a group after a merge with a frozen one.
+fn merged(
+    rt: &impl Abort,
+    alloc: Global,
+    core: &Core,
+    frozen: &Frozen,
+) -> (RingArc, Members, Link) {
+    assert!(rt; can_merge(core, frozen));
+    let after = plan_merge(alloc, core, frozen).expect(rt, "memory");
+    (after.arc, after.members, after.succ)
+}
+
+fn merged_halves(rt: &impl Abort, alloc: Global) -> (RingArc, Members, Link) {
+    let core = half(rt, alloc, 0, nodes(rt, 1, 5));
+    let frozen = other_half(rt, alloc, nodes(rt, 5, 9));
+    merged(rt, alloc, &core, &frozen)
 }
 
 #[test]
-fn a_member_moves_on(rt: HostRuntime) -> Result<(), Fail> {
-    let alloc = rt.alloc();
-    let core = half(alloc, 0, nodes(1, 3)?, Lock::Free)?;
-    let frozen = other_half(alloc, nodes(4, 5)?, FIRST)?;
-    if !can_migrate(&core, 3, &frozen) {
-        return Err(Fail::from("a member that cannot move on"));
-    }
-    let after = plan_migrate(alloc, &core, 3, &frozen)?;
-    assert!(rt; after.members == nodes(1, 2)? && after.succ.members == nodes(3, 5)?);
-    assert!(rt; welcomed_members(&core, 3) == Some(nodes(1, 3)?));
-    Ok(())
+fn a_merge_closes_the_ring(rt: HostRuntime) {
+    let (arc, members, succ) = merged_halves(&rt, rt.alloc());
+    assert_eq!(rt; place(arc), (0, 1 << 32));
+    assert!(rt; members == nodes(&rt, 1, 9) && succ.members == members);
+    assert!(rt; same_draw(succ.group, FIRST));
+}
+
+// The members of a group after node 3 left it for its successor, and those of the successor.
+fn migrated(rt: &impl Abort, alloc: Global, core: &Core, frozen: &Frozen) -> (Members, Members) {
+    assert!(rt; can_migrate(core, 3, frozen));
+    let after = plan_migrate(alloc, core, 3, frozen).expect(rt, "memory");
+    (after.members, after.succ.members)
+}
+
+#[test]
+fn a_member_moves_on(rt: HostRuntime) {
+    let core = half(&rt, rt.alloc(), 0, nodes(&rt, 1, 3));
+    let frozen = other_half(&rt, rt.alloc(), nodes(&rt, 4, 5));
+    let (left, joined) = migrated(&rt, rt.alloc(), &core, &frozen);
+    let welcomed = welcomed_members(&core, 3);
+    assert!(rt; left == nodes(&rt, 1, 2) && joined == nodes(&rt, 3, 5));
+    assert!(rt; welcomed == Some(nodes(&rt, 1, 3)));
 }

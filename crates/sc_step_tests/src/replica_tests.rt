@@ -1,16 +1,16 @@
 //! What a replica answers of slots that it has forgotten, and a replica that is made of a state.
-ghost use Rattle.std.specs.Prelude.{◌≡◌, IfOk, length, true};
+ghost use Rattle.std.specs.Prelude.{◌≡◌, length, true};
 ghost use Rattle.sc_node_table.specs.Slots.{slots_ahead};
 ghost use Rattle.sc_node_table.specs.Node.{may_come};
 
-use crate::samples::{Brief, GROUP, accept, accepted, all_in_brief, get, group, request};
-use sc_base::{Ballot, Dup, Op, OutOfMemory, Sequence};
-use sc_cmd::{Base, MemberSets};
+use crate::samples::{GROUP, accept, accepted, copy, get, group, request};
+use sc_base::{Ballot, Op, Sequence};
+use sc_cmd::MemberSets;
 use sc_mail::{Mail, MailBody};
 use sc_member::Members;
 use sc_replica::Replica;
 use std::alloc::Global;
-use std::test::Fail;
+use std::process::Abort;
 
 const SECOND: Ballot = Ballot { round: 2, node: 2 };
 
@@ -37,150 +37,141 @@ fn asking(wanted: Wanted) -> MailBody
     }
 }
 
+// What a mail is, and its slot, or how many reports it has.
+#[derive(Clone, Copy, Debug, PartialEq)]
+enum Brief {
+    Install(u32),
+    Learn(u32),
+    Prepare(u32),
+    Promise(usize),
+    Other,
+}
+
+fn in_brief(body: &MailBody) -> Brief {
+    match body {
+        MailBody::Install { slot, .. } => Brief::Install(*slot),
+        MailBody::Learn { slot, .. } => Brief::Learn(*slot),
+        MailBody::Prepare { from_slot, .. } => Brief::Prepare(*from_slot),
+        MailBody::Promise { reports, .. } => Brief::Promise(reports.len()),
+        _ => Brief::Other,
+    }
+}
+
+// The first mail in brief, how many there are, and how many of these are the entries of that many
+// slots in order, from slot 65 on.
+type Sent = (Brief, usize, usize);
+
+fn told_in(sent: &[Mail]) -> Sent {
+    let mut first = Brief::Other;
+    let mut entries = 0usize;
+    for (mail, slot) in sent.iter().zip(65u32..129) {
+        let brief = in_brief(&mail.body);
+        if slot == 65 {
+            first = brief;
+        }
+        if brief == Brief::Learn(slot) {
+            entries = entries.saturating_add(1);
+        }
+    }
+    (first, sent.len(), entries)
+}
+
 fn take(
+    rt: &impl Abort,
     replica: &mut Replica,
     from: u32,
-    body: MailBody,
+    body: &MailBody,
     out: &mut Sequence<Mail>,
-) -> Result<(), OutOfMemory>
-    requires { may_come from body ≡ true }
+)
+    requires { may_come from body.now ≡ true }
 {
-    replica.take_mail(from, &body, out)
+    replica.take_mail(from, body, out).expect(rt, "memory");
 }
 
 // A client's request, which the only member offers, accepts, counts and executes.
 fn execute_one(
+    rt: &impl Abort,
     alloc: Global,
     replica: &mut Replica,
     slot: u32,
     op: &Op,
     out: &mut Sequence<Mail>,
-) -> Result<(), OutOfMemory> {
-    take(replica, 33, request(slot, op.dup(alloc)?), out)?;
-    take(replica, 1, accept(slot, op.dup(alloc)?), out)?;
-    take(replica, 1, accepted(slot), out)
+) {
+    take(rt, replica, 33, &request(slot, copy(rt, alloc, op)), out);
+    take(rt, replica, 1, &accept(slot, copy(rt, alloc, op)), out);
+    take(rt, replica, 1, &accepted(slot), out);
 }
 
-fn execute_all(alloc: Global, replica: &mut Replica, op: &Op) -> Result<(), OutOfMemory> {
-    let mut out = Sequence::new(alloc);
+fn execute_all(rt: &impl Abort, alloc: Global, replica: &mut Replica, out: &mut Sequence<Mail>) {
+    let op = get(rt, alloc);
     for slot in 1..129 {
-        execute_one(alloc, replica, slot, op, &mut out)?;
+        execute_one(rt, alloc, replica, slot, &op, out);
     }
-    Ok(())
 }
 
 // What node 2 is told.
-fn told(alloc: Global, replica: &mut Replica, wanted: Wanted) -> Result<Vec<Brief>, OutOfMemory> {
+fn told(rt: &impl Abort, alloc: Global, replica: &mut Replica, wanted: Wanted) -> Sent {
     let mut out = Sequence::new(alloc);
-    take(replica, 2, asking(wanted), &mut out)?;
-    all_in_brief(alloc, out.as_slice())
-}
-
-fn told_late(
-    alloc: Global,
-    replica: &mut Replica,
-    op: &Op,
-    wanted: Wanted,
-) -> Result<Vec<Brief>, OutOfMemory> {
-    execute_all(alloc, replica, op)?;
-    told(alloc, replica, wanted)
-}
-
-fn told_by_born(
-    alloc: Global,
-    base: Base,
-    op: &Op,
-    wanted: Wanted,
-) -> Result<Vec<Brief>, OutOfMemory> {
-    let mut replica = Replica::born(alloc, 1, base)?;
-    told_late(alloc, &mut replica, op, wanted)
+    take(rt, replica, 2, &asking(wanted), &mut out);
+    told_in(out.as_slice())
 }
 
 // What a replica of the only member that executed 128 calls tells node 2.
-fn told_after_128(alloc: Global, wanted: Wanted) -> Result<Vec<Brief>, Fail> {
-    let op = get(alloc)?;
-    let base = group(alloc, 1)?;
-    Ok(told_by_born(alloc, base, &op, wanted)?)
+fn told_after_128(rt: &impl Abort, alloc: Global, wanted: Wanted) -> Sent {
+    let mut replica = Replica::born(alloc, 1, group(rt, alloc, 1)).expect(rt, "memory");
+    execute_all(rt, alloc, &mut replica, &mut Sequence::new(alloc));
+    told(rt, alloc, &mut replica, wanted)
 }
 
 #[test]
-fn a_forgotten_slot_is_answered_by_the_state(rt: HostRuntime) -> Result<(), Fail> {
-    let sent = told_after_128(rt.alloc(), Wanted::Entries(64))?;
-    assert_eq!(rt; sent.as_slice(), [Brief::Install(128)].as_slice());
-    let sent = told_after_128(rt.alloc(), Wanted::Promise(64))?;
-    assert_eq!(rt; sent.as_slice(), [Brief::Install(128)].as_slice());
-    Ok(())
+fn a_forgotten_slot_is_answered_by_the_state(rt: HostRuntime) {
+    let entries = told_after_128(&rt, rt.alloc(), Wanted::Entries(64));
+    let promise = told_after_128(&rt, rt.alloc(), Wanted::Promise(64));
+    assert_eq!(rt; entries, (Brief::Install(128), 1, 0));
+    assert_eq!(rt; promise, (Brief::Install(128), 1, 0));
 }
 
 #[test]
-fn a_kept_slot_is_answered_by_32_entries(rt: HostRuntime) -> Result<(), Fail> {
-    let sent = told_after_128(rt.alloc(), Wanted::Entries(65))?;
-    assert_eq!(rt; sent.len(), 32);
-    for (brief, slot) in sent.as_slice().iter().zip(65u32..97) {
-        assert_eq!(rt; *brief, Brief::Learn(slot));
-    }
-    Ok(())
+fn a_kept_slot_is_answered_by_32_entries(rt: HostRuntime) {
+    let entries = told_after_128(&rt, rt.alloc(), Wanted::Entries(65));
+    assert_eq!(rt; entries, (Brief::Learn(65), 32, 32));
 }
 
 #[test]
-fn a_kept_slot_is_promised_with_the_reports_that_are_kept(rt: HostRuntime) -> Result<(), Fail> {
-    let sent = told_after_128(rt.alloc(), Wanted::Promise(65))?;
-    assert_eq!(rt; sent.as_slice(), [Brief::Promise(64)].as_slice());
-    Ok(())
+fn a_kept_slot_is_promised_with_the_reports_that_are_kept(rt: HostRuntime) {
+    let promise = told_after_128(&rt, rt.alloc(), Wanted::Promise(65));
+    assert_eq!(rt; promise, (Brief::Promise(64), 1, 0));
 }
 
 // The members of the four open slots.
-fn four(alloc: Global, members: Members) -> Result<MemberSets, OutOfMemory>
-    ensures { IfOk result (λ sets. length sets ≡ slots_ahead) }
+fn four(rt: &impl Abort, alloc: Global, members: Members) -> MemberSets
+    ensures { length result ≡ slots_ahead }
 {
-    let mut sets = Sequence::new(alloc);
-    sets.push(members)?;
-    sets.push(members)?;
-    sets.push(members)?;
-    sets.push(members)?;
-    Ok(sets)
+    let sets = [members, members, members, members];
+    Sequence::from_vec(Vec::from_slice(alloc, &sets).expect(rt, "memory"))
 }
 
-// What a replica of the only member, node 2, sends first that is made of the state after slot 70,
-// as node 1 sent it.
-fn sent_first(alloc: Global, base: &Base, sets: &MemberSets) -> Result<Vec<Brief>, OutOfMemory>
-    requires { length sets.now ≡ slots_ahead }
-{
-    let (_replica, sent) = Replica::installed(alloc, 2, 1, GROUP, 70, base, sets)?;
-    all_in_brief(alloc, sent.as_slice())
+// A replica of the only member, node 2, that is made of the state after slot 70, as node 1 sent it,
+// and what it sends first.
+fn installed(rt: &impl Abort, alloc: Global) -> (Replica, Sequence<Mail>) {
+    let sets = four(rt, alloc, Members::one(2));
+    let base = group(rt, alloc, 2);
+    Replica::installed(alloc, 2, 1, GROUP, 70, &base, &sets).expect(rt, "memory")
 }
 
-// What it then tells node 2.
-fn told_then(
-    alloc: Global,
-    base: &Base,
-    sets: &MemberSets,
-    wanted: Wanted,
-) -> Result<Vec<Brief>, OutOfMemory>
-    requires { length sets.now ≡ slots_ahead }
-{
-    let (mut replica, _sent) = Replica::installed(alloc, 2, 1, GROUP, 70, base, sets)?;
-    told(alloc, &mut replica, wanted)
-}
-
-fn installed_sends(alloc: Global) -> Result<Vec<Brief>, Fail> {
-    let sets = four(alloc, Members::one(2))?;
-    let base = group(alloc, 2)?;
-    Ok(sent_first(alloc, &base, &sets)?)
-}
-
-fn installed_tells(alloc: Global, wanted: Wanted) -> Result<Vec<Brief>, Fail> {
-    let sets = four(alloc, Members::one(2))?;
-    let base = group(alloc, 2)?;
-    Ok(told_then(alloc, &base, &sets, wanted)?)
+// What that replica sends first, and what it then tells node 2.
+fn installed_tells(rt: &impl Abort, alloc: Global, wanted: Wanted) -> (Sent, Sent) {
+    let (mut replica, sent) = installed(rt, alloc);
+    (
+        told_in(sent.as_slice()),
+        told(rt, alloc, &mut replica, wanted),
+    )
 }
 
 // The sender is no member, so the replica looks for a leader, and is the only one that can lead.
 #[test]
-fn a_replica_is_made_of_a_state(rt: HostRuntime) -> Result<(), Fail> {
-    let sent = installed_sends(rt.alloc())?;
-    assert_eq!(rt; sent.as_slice(), [Brief::Prepare(71)].as_slice());
-    let sent = installed_tells(rt.alloc(), Wanted::Entries(70))?;
-    assert_eq!(rt; sent.as_slice(), [Brief::Install(70)].as_slice());
-    Ok(())
+fn a_replica_is_made_of_a_state(rt: HostRuntime) {
+    let (first, then) = installed_tells(&rt, rt.alloc(), Wanted::Entries(70));
+    assert_eq!(rt; first, (Brief::Prepare(71), 1, 0));
+    assert_eq!(rt; then, (Brief::Install(70), 1, 0));
 }

@@ -2,12 +2,12 @@
 ghost use Rattle.std.specs.Prelude.{◌≡◌, ◌≤◌, true};
 ghost use Rattle.sc_node_table.specs.Node.{may_come};
 
-use sc_base::{Ballot, Draw, Key, Op, OutOfMemory, Pairs, RingArc, SeenList, Sequence};
+use sc_base::{Ballot, Draw, Dup, Key, Op, Pairs, RingArc, SeenList, Sequence};
 use sc_cmd::{Base, Command, Core, Link, Lock};
-use sc_mail::{Mail, MailBody};
+use sc_mail::MailBody;
 use sc_member::Members;
 use std::alloc::Global;
-use std::test::Fail;
+use std::process::Abort;
 
 pub(crate) const GROUP: Draw = Draw { node: 0, count: 1 };
 
@@ -38,56 +38,27 @@ fn core(alloc: Global, arc: RingArc, members: &Members) -> Core {
     }
 }
 
-pub(crate) fn group(alloc: Global, node: u16) -> Result<Base, Fail>
+pub(crate) fn group(rt: &impl Abort, alloc: Global, node: u16) -> Base
     requires least { 1 ≤ node }
     requires most { node ≤ 32 }
 {
-    let arc = RingArc::try_new(0, 0x1_0000_0000)?;
-    Ok(Base {
+    let alloc = alloc;
+    let arc = RingArc::try_new(0, 0x1_0000_0000).expect(rt, "the whole ring");
+    Base {
         core: core(alloc, arc, &Members::one(node)),
         pairs: Pairs::new(alloc),
         clients: SeenList::new(alloc),
-    })
-}
-
-// What a mail is, and its slot, or how many reports it has.
-#[derive(Clone, Copy, Debug, PartialEq)]
-pub(crate) enum Brief {
-    Answer,
-    Install(u32),
-    Learn(u32),
-    Prepare(u32),
-    Promise(usize),
-    Accept(u32),
-    Accepted(u32),
-    Other,
-}
-
-fn in_brief(body: &MailBody) -> Brief {
-    match body {
-        MailBody::Answer { .. } => Brief::Answer,
-        MailBody::Install { slot, .. } => Brief::Install(*slot),
-        MailBody::Learn { slot, .. } => Brief::Learn(*slot),
-        MailBody::Prepare { from_slot, .. } => Brief::Prepare(*from_slot),
-        MailBody::Promise { reports, .. } => Brief::Promise(reports.len()),
-        MailBody::Accept { slot, .. } => Brief::Accept(*slot),
-        MailBody::Accepted { slot, .. } => Brief::Accepted(*slot),
-        _ => Brief::Other,
     }
 }
 
-pub(crate) fn all_in_brief(alloc: Global, sent: &[Mail]) -> Result<Vec<Brief>, OutOfMemory> {
-    let mut briefs = Vec::new(alloc);
-    for mail in sent {
-        briefs.push(in_brief(&mail.body))?;
+pub(crate) fn get(rt: &impl Abort, alloc: Global) -> Op {
+    Op::Get {
+        key: Key::try_new(alloc, b"a").expect(rt, "a key"),
     }
-    Ok(briefs)
 }
 
-pub(crate) fn get(alloc: Global) -> Result<Op, Fail> {
-    Ok(Op::Get {
-        key: Key::try_new(alloc, b"a")?,
-    })
+pub(crate) fn copy(rt: &impl Abort, alloc: Global, op: &Op) -> Op {
+    op.dup(alloc).expect(rt, "memory")
 }
 
 // An operation as the request of client 1 with a number.

@@ -4,7 +4,7 @@ use sc_cmd::{OrderRefusal, Route, ToldResult};
 use sc_member::Members;
 use sc_report::{Asked, Got, Summary, lines};
 use std::alloc::Global;
-use std::test::Fail;
+use std::process::Abort;
 
 const REPORT: &[u8] =
     b"scatter report 1\nreply 1 1 get value x\nreply 1 2 get none\nunanswered 1 3 get\nunsent 1 4 get\norder 1 open\norder 2 refused 4 bad-boundary\nring 7 group 0.1 members 3\nrows 5\nmail 4\ndelivered 3\nskipped 2\nquiet no\n";
@@ -12,58 +12,84 @@ const REPORT: &[u8] =
 const BRIEF: &[u8] =
     b"scatter report 1\nanswered 2 of 4\norder 1 open\norder 2 refused 4 bad-boundary\nring 7 group 0.1 members 3\nrows 5\nmail 4\ndelivered 3\nskipped 2\nquiet no\n";
 
-fn asked(alloc: Global, seq: u32, got: Got) -> Result<Asked, Fail> {
-    Ok(Asked {
+fn asked(rt: &impl Abort, alloc: Global, seq: u32, got: Got) -> Asked {
+    Asked {
         client: 1,
         seq,
         op: Op::Get {
-            key: Key::try_new(alloc, b"a")?,
+            key: Key::try_new(alloc, b"a").expect(rt, "a key"),
         },
         got,
-    })
+    }
 }
 
-fn summary(alloc: Global, brief: bool) -> Result<Summary, Fail> {
-    let value = Value::try_new(alloc, b"x")?;
+fn value_reply(rt: &impl Abort, alloc: Global) -> Reply {
+    Reply {
+        old: Some(Value::try_new(alloc, b"x").expect(rt, "a value")),
+    }
+}
+
+fn all_asked(rt: &impl Abort, alloc: Global) -> Sequence<Asked> {
+    let value = Got::Replied(value_reply(rt, alloc));
+    let none = Got::Replied(Reply { old: None });
     let mut all = Sequence::new(alloc);
-    all.push(asked(alloc, 1, Got::Replied(Reply { old: Some(value) }))?)?;
-    all.push(asked(alloc, 2, Got::Replied(Reply { old: None }))?)?;
-    all.push(asked(alloc, 3, Got::Unanswered)?)?;
-    all.push(asked(alloc, 4, Got::Unsent)?)?;
+    all.push(asked(rt, alloc, 1, value)).expect(rt, "memory");
+    all.push(asked(rt, alloc, 2, none)).expect(rt, "memory");
+    all.push(asked(rt, alloc, 3, Got::Unanswered))
+        .expect(rt, "memory");
+    all.push(asked(rt, alloc, 4, Got::Unsent))
+        .expect(rt, "memory");
+    all
+}
+
+fn orders(rt: &impl Abort, alloc: Global) -> Sequence<Option<ToldResult>> {
+    let refused = ToldResult::Refused(OrderRefusal::BadBoundary);
     let mut orders = Sequence::new(alloc);
-    orders.push(None)?;
-    orders.push(Some(ToldResult::Refused(OrderRefusal::BadBoundary)))?;
+    orders.push(None).expect(rt, "memory");
+    orders.push(Some(refused)).expect(rt, "memory");
+    orders
+}
+
+fn ring(rt: &impl Abort, alloc: Global) -> Sequence<Route> {
     let mut ring = Sequence::new(alloc);
     ring.push(Route {
         group: Draw { node: 0, count: 1 },
         lo: 7,
         members: Members::one(3),
-    })?;
-    Ok(Summary {
+    })
+    .expect(rt, "memory");
+    ring
+}
+
+fn summary(rt: &impl Abort, alloc: Global, brief: bool) -> Summary {
+    Summary {
         version: 1,
         brief,
-        asked: all,
-        orders,
-        ring,
+        asked: all_asked(rt, alloc),
+        orders: orders(rt, alloc),
+        ring: ring(rt, alloc),
         rows: 5,
         mail: 4,
         delivered: 3,
         skipped: 2,
         quiet: false,
-    })
+    }
 }
 
-fn text(alloc: Global, brief: bool) -> Result<Vec<u8>, Fail> {
+fn text_of(rt: &impl Abort, alloc: Global, summary: &Summary) -> Vec<u8> {
     let mut text = Vec::new(alloc);
-    for line in lines(alloc, &summary(alloc, brief)?)?.as_slice() {
-        text.extend_from_slice(line.bytes())?;
+    for line in lines(alloc, summary).expect(rt, "memory").as_slice() {
+        text.extend_from_slice(line.bytes()).expect(rt, "memory");
     }
-    Ok(text)
+    text
+}
+
+fn text(rt: &impl Abort, alloc: Global, brief: bool) -> Vec<u8> {
+    text_of(rt, alloc, &summary(rt, alloc, brief))
 }
 
 #[test]
-fn a_summary_is_told_line_by_line(rt: HostRuntime) -> Result<(), Fail> {
-    assert_eq!(rt; text(rt.alloc(), false)?.as_slice(), REPORT);
-    assert_eq!(rt; text(rt.alloc(), true)?.as_slice(), BRIEF);
-    Ok(())
+fn a_summary_is_told_line_by_line(rt: HostRuntime) {
+    assert_eq!(rt; text(&rt, rt.alloc(), false).as_slice(), REPORT);
+    assert_eq!(rt; text(&rt, rt.alloc(), true).as_slice(), BRIEF);
 }

@@ -3,24 +3,29 @@ use sc_cmd::Order;
 use sc_scenario::{ClientList, GroupList, ScenarioFault, SchedLine, read_scenario};
 use std::alloc::Global;
 use std::process::Abort;
-use std::test::Fail;
 
 const ALL_LINES: &[u8] =
     b"scatter 1\nnodes 3\ngroup 7 3 1\nclient 5\nput a x\nget a\ndel a\nend\nclient 2\nend\ngo 5\ndeliver n3 1\ndrop c5 4294967295\nagain 9\ntick c2\ncrash 3\norder 3 join 2 0.1\norder 1 leave 3 32.4294967295\nsettle 1000000\n";
 
 fn expect_clients(rt: &impl Abort, clients: &ClientList) {
-    assert_eq!(rt; clients.len(), 2);
-    assert_eq!(rt; clients.as_slice()[0].client, 2);
-    assert_eq!(rt; clients.as_slice()[1].client, 5);
-    assert_eq!(rt; clients.as_slice()[1].ops.len(), 3);
+    match clients.as_slice() {
+        [one, other] => {
+            assert_eq!(rt; (one.client, other.client), (2, 5));
+            assert_eq!(rt; other.ops.len(), 3);
+        }
+        _ => panic!(rt; "not two clients"),
+    }
 }
 
 fn expect_group(rt: &impl Abort, groups: &GroupList) {
-    assert_eq!(rt; groups.len(), 1);
-    let core = &groups.as_slice()[0].core;
-    assert_eq!(rt; core.arc.lo(), 7);
-    assert_eq!(rt; core.first, 1);
-    assert_eq!(rt; core.members.len(), 2);
+    match groups.as_slice() {
+        [base] => {
+            let core = &base.core;
+            assert_eq!(rt; (core.arc.lo(), core.first), (7, 1));
+            assert_eq!(rt; core.members.len(), 2);
+        }
+        _ => panic!(rt; "not one group"),
+    }
 }
 
 fn expect_orders(rt: &impl Abort, lines: &[SchedLine]) {
@@ -39,12 +44,10 @@ fn expect_orders(rt: &impl Abort, lines: &[SchedLine]) {
             SchedLine::Told { line: second, .. },
             _,
         ] => {
-            assert_eq!(rt; *told, 3);
-            assert_eq!(rt; first.number, 1);
-            assert_eq!(rt; second.number, 2);
+            assert_eq!(rt; (*told, first.number, second.number), (3, 1, 2));
             expect_order(rt, &first.order, &second.order);
         }
-        _ => assert!(rt; false),
+        _ => panic!(rt; "other lines"),
     }
 }
 
@@ -57,24 +60,20 @@ fn expect_order(rt: &impl Abort, first: &Order, second: &Order) {
                 group: other,
             },
         ) => {
-            assert_eq!(rt; *node, 2);
-            assert!(rt; group.node == 0 && group.count == 1);
-            assert_eq!(rt; *gone, 3);
-            assert!(rt; other.node == 32 && other.count == 4_294_967_295);
+            assert_eq!(rt; (*node, group.node, group.count), (2, 0, 1));
+            assert_eq!(rt; (*gone, other.node, other.count), (3, 32, 4_294_967_295));
         }
-        _ => assert!(rt; false),
+        _ => panic!(rt; "other orders"),
     }
 }
 
 #[test]
-fn the_early_form_is_read(rt: HostRuntime) -> Result<(), Fail> {
-    let scenario = read_scenario(rt.alloc(), ALL_LINES)?;
-    assert_eq!(rt; scenario.nodes, 3);
-    assert_eq!(rt; scenario.lines.len(), 9);
+fn the_early_form_is_read(rt: HostRuntime) {
+    let scenario = read_scenario(rt.alloc(), ALL_LINES).expect(&rt, "a scenario");
+    assert_eq!(rt; (scenario.nodes, scenario.lines.len()), (3, 9));
     expect_orders(&rt, scenario.lines.as_slice());
     expect_clients(&rt, &scenario.clients);
     expect_group(&rt, &scenario.groups);
-    Ok(())
 }
 
 fn is_refused(alloc: Global, text: &[u8]) -> bool {
@@ -85,7 +84,7 @@ fn is_refused(alloc: Global, text: &[u8]) -> bool {
 }
 
 #[test]
-fn other_texts_are_refused(rt: HostRuntime) -> Result<(), Fail> {
+fn other_texts_are_refused(rt: HostRuntime) {
     let texts: [&[u8]; 22] = [
         b"",
         b"\n",
@@ -113,7 +112,6 @@ fn other_texts_are_refused(rt: HostRuntime) -> Result<(), Fail> {
     for text in texts {
         assert!(rt; is_refused(rt.alloc(), text));
     }
-    Ok(())
 }
 
 // The deliveries and the workers of a scenario's only line.
@@ -128,23 +126,20 @@ fn read_free(alloc: Global, text: &[u8]) -> (u32, u32) {
 }
 
 #[test]
-fn free_lines_are_read(rt: HostRuntime) -> Result<(), Fail> {
-    let texts: [&[u8]; 3] = [
-        b"scatter 1\nnodes 1\ngroup 0 1\nfree 100 4\n",
-        b"scatter 1\nnodes 1\ngroup 0 1\nfree 1 1\n",
-        b"scatter 1\nnodes 1\ngroup 0 1\nfree 1000000 16\n",
+fn free_lines_are_read(rt: HostRuntime) {
+    let counts = [
+        read_free(rt.alloc(), b"scatter 1\nnodes 1\ngroup 0 1\nfree 100 4\n"),
+        read_free(rt.alloc(), b"scatter 1\nnodes 1\ngroup 0 1\nfree 1 1\n"),
+        read_free(
+            rt.alloc(),
+            b"scatter 1\nnodes 1\ngroup 0 1\nfree 1000000 16\n",
+        ),
     ];
-    let counts: [(u32, u32); 3] = [(100, 4), (1, 1), (1_000_000, 16)];
-    for k in 0..3 {
-        let (most, workers) = read_free(rt.alloc(), texts[k]);
-        assert_eq!(rt; most, counts[k].0);
-        assert_eq!(rt; workers, counts[k].1);
-    }
-    Ok(())
+    assert_eq!(rt; counts, [(100, 4), (1, 1), (1_000_000, 16)]);
 }
 
 #[test]
-fn other_free_lines_are_refused(rt: HostRuntime) -> Result<(), Fail> {
+fn other_free_lines_are_refused(rt: HostRuntime) {
     let texts: [&[u8]; 11] = [
         b"scatter 1\nnodes 1\ngroup 0 1\nfree 0 4\n",
         b"scatter 1\nnodes 1\ngroup 0 1\nfree 100 0\n",
@@ -161,5 +156,4 @@ fn other_free_lines_are_refused(rt: HostRuntime) -> Result<(), Fail> {
     for text in texts {
         assert!(rt; is_refused(rt.alloc(), text));
     }
-    Ok(())
 }

@@ -1,5 +1,5 @@
 //! Exchanges that are opened, driven and closed.
-ghost use Rattle.std.specs.Prelude.{◌≡◌, ◌<◌, ◌≤◌, [], List, true, All, IfOk, OnOk};
+ghost use Rattle.std.specs.Prelude.{◌≡◌, ◌<◌, ◌≤◌, [], List, true, All};
 ghost use Rattle.sc_exchange.specs.Ports.{given, joined};
 ghost use Rattle.sc_workers.specs.Crews.{AllOf, numbers};
 ghost use Rattle.sc_actor.specs.declared.actors.Seat.{Seat};
@@ -10,15 +10,14 @@ ghost use Rattle.sc_actor.specs.System.{are_apart};
 use crate::notes::Note;
 use crate::players::{Open, Player};
 use sc_actor::{Event, Line, Row, Seat, are_few, have_one_task};
-use sc_base::OutOfMemory;
 use sc_checker::replay;
 use sc_drive::{Driven, close, drive, goers_are_spared, open};
 use sc_exchange::Port;
 use sc_shell::Shell;
 use sc_workers::gather;
 use std::alloc::Global;
+use std::process::Abort;
 use std::sync::Wait;
-use std::test::Fail;
 use std::thread::Threads;
 
 fn player(other: u32, left: u32) -> Player {
@@ -60,21 +59,22 @@ fn seated(seats: &[Seat<Player>]) -> u32 {
     digits
 }
 
-fn seats(alloc: Global) -> Result<Vec<Seat<Player>>, OutOfMemory>
-    ensures far { IfOk result (λ seats. are_apart seats.items ≡ true) }
-    ensures numbered { IfOk result
-        (λ seats. All (λ seat. (0 < seat.who) × (seat.who ≤ 2)) seats.items) }
+fn seats(rt: &impl Abort, alloc: Global) -> Vec<Seat<Player>>
+    ensures far { are_apart result.items ≡ true }
+    ensures numbered { All (λ seat. (0 < seat.who) × (seat.who ≤ 2)) result.items }
 {
-    let mut seats = Vec::new(alloc);
-    seats.push(Seat {
+    let two = Seat {
         who: 2,
         actor: player(1, 4),
-    })?;
-    seats.push(Seat {
+    };
+    let one = Seat {
         who: 1,
         actor: player(2, 7),
-    })?;
-    Ok(seats)
+    };
+    let mut seats = Vec::new(alloc);
+    seats.push(two).expect(rt, "memory");
+    seats.push(one).expect(rt, "memory");
+    seats
 }
 
 // The actor at a place goes.
@@ -95,12 +95,12 @@ fn go<R: Wait>(
 }
 
 // What is left at the end, where all gather before.
-fn ended<R: Wait>(
+fn ended<R: Wait + Abort>(
     rt: &R,
     alloc: Global,
     net: Port<Note, u32>,
     shells: Vec<Shell<Player>>,
-) -> Result<(u32, u32), OutOfMemory>
+) -> (u32, u32)
     requires net { net.who ≡ 0 }
     requires exchange { AllOf net shells.items }
     requires all { given net ≡ numbers shells.items }
@@ -108,106 +108,104 @@ fn ended<R: Wait>(
 {
     let mut all = net;
     let mut shells = shells;
-    let _ = gather(rt, &mut all, &mut shells)?;
-    let (journal, actors) = close(rt, alloc, all, shells)?;
-    Ok((makers(journal.as_slice()), players(actors.as_slice())))
+    let _ = gather(rt, &mut all, &mut shells).expect(rt, "memory");
+    let (journal, actors) = close(rt, alloc, all, shells).expect(rt, "memory");
+    (makers(journal.as_slice()), players(actors.as_slice()))
 }
 
 // What is left where the actors at these places went.
-fn left_after<R: Wait>(rt: &R, alloc: Global, places: &[usize]) -> Result<(u32, u32), OutOfMemory> {
-    let (net, shells) = open(alloc, seats(alloc)?, 2, 1 << 19)?;
-    let mut shells = shells;
+fn left_after<R: Wait + Abort>(rt: &R, alloc: Global, places: &[usize]) -> (u32, u32) {
+    let (net, mut shells) = open(alloc, seats(rt, alloc), 2, 1 << 19).expect(rt, "memory");
     for place in places {
         go(rt, alloc, &net, &mut shells, *place);
     }
     ended(rt, alloc, net, shells)
 }
 
-fn drive_all<R: Threads + Wait + Sync>(
+fn drive_all<R: Threads + Wait + Abort + Sync>(
     rt: &R,
     alloc: Global,
     net: &mut Port<Note, u32>,
     shells: &mut Vec<Shell<Player>>,
     lines: &[Line<u32>],
-) -> Result<(), OutOfMemory>
+)
     requires begins { (births : List (Seat Player)) × AtBirth births net.old shells.old.items }
-    ensures kept { OnOk result (IsKept net.old shells.old.items net.new shells.new.items) }
+    ensures kept { IsKept net.old shells.old.items net.new shells.new.items }
 {
-    if !have_one_task(lines) || !goers_are_spared(lines) {
-        return Err(OutOfMemory);
-    }
+    assert!(rt; have_one_task(lines) && goers_are_spared(lines));
     match drive(rt, alloc, net, shells, lines, &Open) {
-        Driven::OutOfMemory => Err(OutOfMemory),
-        Driven::Full => Ok(()),
-        Driven::Ended { .. } => Ok(()),
+        Driven::OutOfMemory => panic!(rt; "memory"),
+        Driven::Full | Driven::Ended { .. } => {}
     }
 }
 
 // What a plain replay of rows leaves of the actors, or nothing where the rows are not lawful.
 fn replayed(
+    rt: &impl Abort,
     alloc: Global,
     lines: &[Line<u32>],
     rows: &[Row<Note, u32>],
-) -> Result<Option<u32>, OutOfMemory> {
-    if !have_one_task(lines) || !are_few(rows) {
-        return Err(OutOfMemory);
-    }
-    match replay(alloc, seats(alloc)?, lines, rows)? {
-        None => Ok(None),
-        Some(left) => Ok(Some(seated(&left.seats))),
+) -> Option<u32> {
+    assert!(rt; have_one_task(lines) && are_few(rows));
+    match replay(alloc, seats(rt, alloc), lines, rows).expect(rt, "memory") {
+        None => None,
+        Some(left) => Some(seated(&left.seats)),
     }
 }
 
 // What is left where a schedule was driven, and whether a plain replay leaves the same actors.
 // Nobody gathers before the end but the driver.
-fn left_by<R: Threads + Wait + Sync>(
+fn left_by<R: Threads + Wait + Abort + Sync>(
     rt: &R,
     alloc: Global,
     lines: &[Line<u32>],
-) -> Result<(u32, u32, bool), OutOfMemory> {
-    let (net, shells) = open(alloc, seats(alloc)?, 2, 1 << 19)?;
-    let mut net = net;
-    let mut shells = shells;
-    drive_all(rt, alloc, &mut net, &mut shells, lines)?;
-    let (journal, actors) = close(rt, alloc, net, shells)?;
-    let rows = journal.as_slice();
+) -> (u32, u32, bool) {
+    let (mut net, mut shells) = open(alloc, seats(rt, alloc), 2, 1 << 19).expect(rt, "memory");
+    drive_all(rt, alloc, &mut net, &mut shells, lines);
+    let (journal, actors) = close(rt, alloc, net, shells).expect(rt, "memory");
     let left = players(actors.as_slice());
-    let same = replayed(alloc, lines, rows)? == Some(left);
-    Ok((makers(rows), left, same))
+    let again = replayed(rt, alloc, lines, journal.as_slice());
+    (makers(journal.as_slice()), left, again == Some(left))
 }
 
+const TICK_AFTER_ALL: &[Line<u32>] = &[
+    Line::Go { who: 2 },
+    Line::Settle { most: 2 },
+    Line::Tick { who: 2 },
+];
+
 #[test]
-fn what_was_driven_is_given_back(rt: HostRuntime) -> Result<(), Fail> {
-    let lines: [Line<u32>; 3] = [
-        Line::Go { who: 2 },
-        Line::Settle { most: 2 },
-        Line::Tick { who: 2 },
-    ];
-    let left = left_by(&rt, rt.alloc(), &lines)?;
+fn what_was_driven_is_given_back(rt: HostRuntime) {
+    let left = left_by(&rt, rt.alloc(), TICK_AFTER_ALL);
     assert_eq!(rt; left, (2122, 1126, true));
-    Ok(())
+}
+
+// What is left by so many workers, whatever the order of their rows.
+fn left_by_workers<R: Threads + Wait + Abort + Sync>(
+    rt: &R,
+    alloc: Global,
+    workers: u32,
+) -> (u32, bool) {
+    let lines: [Line<u32>; 4] = [
+        Line::Go { who: 1 },
+        Line::Go { who: 2 },
+        Line::Free { most: 5, workers },
+        Line::Settle { most: 100 },
+    ];
+    let (_, left, same) = left_by(rt, alloc, &lines);
+    (left, same)
 }
 
 #[test]
-fn free_lines_are_replayed_whatever_the_order_of_their_rows(rt: HostRuntime) -> Result<(), Fail> {
+fn free_lines_are_replayed_whatever_the_order_of_their_rows(rt: HostRuntime) {
     for workers in [1u32, 2, 16] {
-        let lines: [Line<u32>; 4] = [
-            Line::Go { who: 1 },
-            Line::Go { who: 2 },
-            Line::Free { most: 5, workers },
-            Line::Settle { most: 100 },
-        ];
-        let (_, left, same) = left_by(&rt, rt.alloc(), &lines)?;
-        assert_eq!(rt; (left, same), (1022, true));
+        assert_eq!(rt; left_by_workers(&rt, rt.alloc(), workers), (1022, true));
     }
-    Ok(())
 }
 
 #[test]
-fn all_are_given_back_in_order(rt: HostRuntime) -> Result<(), Fail> {
-    let none = left_after(&rt, rt.alloc(), &[])?;
-    assert_eq!(rt; none, (0, 1427));
-    let some = left_after(&rt, rt.alloc(), &[0, 1, 1, 0, 1])?;
-    assert_eq!(rt; some, (21121, 1224));
-    Ok(())
+fn all_are_given_back_in_order(rt: HostRuntime) {
+    let none = left_after(&rt, rt.alloc(), &[]);
+    let some = left_after(&rt, rt.alloc(), &[0, 1, 1, 0, 1]);
+    assert_eq!(rt; (none, some), ((0, 1427), (21121, 1224)));
 }

@@ -1,50 +1,35 @@
 //! Ports of the network and of two actors.
-ghost use Rattle.std.specs.Prelude.{◌≡◌, ◌≢◌, ◌<◌, ◌++◌, ◌∷◌, [], false, map, IfOk};
+ghost use Rattle.std.specs.Prelude.{◌≡◌, ◌≢◌, ◌<◌, ◌++◌, ◌∷◌, [], false, map};
 ghost use Rattle.std.specs.Thread.{IsSync};
 ghost use Rattle.sc_actor.specs.Mail.{is_crash};
 ghost use Rattle.sc_exchange.specs.Ports.{Stays, MayPost, SameExchange, given, joined};
 
 use crate::notes::{Note, notes};
-use sc_actor::{Event, Journal};
-use sc_base::{OutOfMemory, Sequence};
+use sc_actor::{Event, Journal, Row};
+use sc_base::Sequence;
 use sc_exchange::{Fetched, Port};
 use std::alloc::Global;
 use std::process::Abort;
 use std::sync::Wait;
-use std::test::Fail;
 use std::thread::{Threads, join};
 
-fn number_of(found: Fetched<Note>) -> u32 {
-    match found {
-        Fetched::Mail { number, mail: _ } => number,
-        Fetched::Empty { seen: _ } => 0,
-    }
-}
-
-// How many rows there were where nothing was found.
-fn seen_of(found: Fetched<Note>) -> u32 {
-    match found {
-        Fetched::Mail { number: _, mail: _ } => 9,
-        Fetched::Empty { seen } => seen,
-    }
-}
-
-// The ports of the network and of two actors.
-fn three_ports(
-    alloc: Global,
-) -> Result<(Port<Note, u32>, Port<Note, u32>, Port<Note, u32>), OutOfMemory>
-    ensures { IfOk result
-        (λ p.
-        (p.0.who ≡ 0)
-        × (p.1.who ≡ 1)
-        × (p.1.crashed ≡ false)
-        × (p.2.who ≡ 2)
-        × (p.2.crashed ≡ false)) }
+// The number of the mail that is found, and 9; or 0, and how many rows there were where none is.
+fn fetched<R: Wait + Abort>(rt: &R, port: &mut Port<Note, u32>, k: u32) -> (u32, u32)
+    requires { 0 < k }
 {
-    let mut net: Port<Note, u32> = Port::start(alloc, 2, 1 << 20)?;
-    let one = net.split(1)?;
-    let two = net.split(2)?;
-    Ok((net, one, two))
+    match port.fetch(rt, k).expect(rt, "memory") {
+        Fetched::Mail { number, mail: _ } => (number, 9),
+        Fetched::Empty { seen } => (0, seen),
+    }
+}
+
+// How many mails were sent, and how many copies are pending.
+fn looked<R: Wait + Abort>(rt: &R, net: &mut Port<Note, u32>) -> (u32, usize)
+    requires { net.old.who ≡ 0 }
+    ensures { Stays net.old net.new }
+{
+    let look = net.look(rt).expect(rt, "memory");
+    (look.sent, look.pending.len())
 }
 
 // Whether the network repeats a mail: 1, or 0 where it may not, or 9 where the row is refused.
@@ -71,57 +56,42 @@ fn loses<R: Wait>(rt: &R, net: &mut Port<Note, u32>, number: u32) -> u32
     }
 }
 
-fn nothing_is_pending<R: Wait + Abort>(
-    rt: &R,
-    net: &mut Port<Note, u32>,
-    one: &mut Port<Note, u32>,
-) -> Result<(), OutOfMemory>
+fn nothing_is_pending<R: Wait + Abort>(rt: &R, net: &mut Port<Note, u32>, one: &mut Port<Note, u32>)
     requires { net.old.who ≡ 0 }
 {
-    let seen = seen_of(one.fetch(rt, 1)?);
-    assert_eq!(rt; seen, 0);
-    assert!(rt; one.pending(rt, 1, 1).is_none());
-    assert_eq!(rt; loses(rt, net, 1), 0);
-    assert_eq!(rt; repeats(rt, net, 1), 0);
-    let look = net.look(rt)?;
-    assert_eq!(rt; look.sent, 0);
-    assert_eq!(rt; look.pending.len(), 0);
-    Ok(())
-}
-
-#[test]
-fn fresh_ports(rt: HostRuntime) -> Result<(), Fail> {
-    let (mut net, mut one, _two) = three_ports(rt.alloc())?;
-    nothing_is_pending(&rt, &mut net, &mut one)?;
-    Ok(())
+    let fetched = fetched(rt, one, 1);
+    let pending = one.pending(rt, 1, 1);
+    let changed = (loses(rt, net, 1), repeats(rt, net, 1));
+    let looked = looked(rt, net);
+    assert_eq!(rt; (fetched, pending), ((0, 0), None));
+    assert_eq!(rt; (changed, looked), ((0, 0), (0, 0)));
 }
 
 // Takes the mail of this number, and sends n notes.
-fn take<R: Wait>(
+fn take<R: Wait + Abort>(
     rt: &R,
     alloc: Global,
     port: &mut Port<Note, u32>,
     k: u32,
     to: u32,
     n: usize,
-) -> Result<u32, OutOfMemory>
+) -> u32
     requires { (0 < k) × (port.old.who ≢ 0) × (port.old.crashed ≡ false) }
     ensures { Stays port.old port.new × (port.new.crashed ≡ false) }
 {
-    let Fetched::Mail { number, mail: _ } = port.fetch(rt, k)? else {
-        return Ok(0);
+    let Fetched::Mail { number, mail: _ } = port.fetch(rt, k).expect(rt, "memory") else {
+        return 0;
     };
-    let sent = notes(alloc, to, n)?;
-    post_one(rt, port, Event::Deliver(number), sent)?;
-    Ok(number)
+    post_one(rt, port, Event::Deliver(number), notes(rt, alloc, to, n));
+    number
 }
 
-fn post_one<R: Wait>(
+fn post_one<R: Wait + Abort>(
     rt: &R,
     port: &mut Port<Note, u32>,
     event: Event<u32>,
     sent: Sequence<Note>,
-) -> Result<u32, OutOfMemory>
+)
     requires { (port.old.who ≢ 0)
         × (port.old.crashed ≡ false)
         × MayPost port.old.fetched event
@@ -129,8 +99,8 @@ fn post_one<R: Wait>(
     ensures { Stays port.old port.new × (port.new.crashed ≡ false) }
 {
     match port.post(rt, event, sent) {
-        Ok(place) => Ok(place),
-        Err(_) => Err(OutOfMemory),
+        Ok(_) => {}
+        Err(_) => panic!(rt; "a row was refused"),
     }
 }
 
@@ -140,16 +110,15 @@ fn second_is_taken<R: Wait + Abort>(
     alloc: Global,
     one: &mut Port<Note, u32>,
     two: &mut Port<Note, u32>,
-) -> Result<(), OutOfMemory>
+)
     requires { (one.old.who ≢ 0)
         × (one.old.crashed ≡ false)
         × (two.old.who ≢ 0)
         × (two.old.crashed ≡ false) }
 {
-    post_one(rt, two, Event::Go, notes(alloc, 1, 3)?)?;
-    let taken = take(rt, alloc, one, 2, 0, 1)?;
+    post_one(rt, two, Event::Go, notes(rt, alloc, 1, 3));
+    let taken = take(rt, alloc, one, 2, 0, 1);
     assert_eq!(rt; taken, 2);
-    Ok(())
 }
 
 // The second is repeated twice.
@@ -157,57 +126,39 @@ fn second_is_doubled<R: Wait + Abort>(rt: &R, net: &mut Port<Note, u32>)
     requires { net.old.who ≡ 0 }
     ensures { Stays net.old net.new }
 {
-    assert_eq!(rt; repeats(rt, net, 2), 1);
-    assert_eq!(rt; repeats(rt, net, 2), 1);
-    assert_eq!(rt; net.pending(rt, 1, 1), Some(1));
-    assert_eq!(rt; net.pending(rt, 1, 2), Some(2));
-    assert_eq!(rt; net.pending(rt, 1, 3), Some(2));
-    assert_eq!(rt; net.pending(rt, 1, 4), Some(3));
-    assert_eq!(rt; net.pending(rt, 0, 5), None);
+    let repeated = [repeats(rt, net, 2), repeats(rt, net, 2)];
+    let pending = [
+        net.pending(rt, 1, 1),
+        net.pending(rt, 1, 2),
+        net.pending(rt, 1, 3),
+        net.pending(rt, 1, 4),
+        net.pending(rt, 0, 5),
+    ];
+    assert_eq!(rt; repeated, [1, 1]);
+    assert_eq!(rt; pending, [Some(1), Some(2), Some(2), Some(3), None]);
 }
 
 // One copy of it is lost.
-fn second_is_lost<R: Wait + Abort>(
-    rt: &R,
-    net: &mut Port<Note, u32>,
-    one: &mut Port<Note, u32>,
-) -> Result<(), OutOfMemory>
+fn second_is_lost<R: Wait + Abort>(rt: &R, net: &mut Port<Note, u32>, one: &mut Port<Note, u32>)
     requires { net.old.who ≡ 0 }
 {
-    let look = net.look(rt)?;
-    assert_eq!(rt; look.pending.len(), 4);
-    assert_eq!(rt; loses(rt, net, 2), 1);
-    let found = number_of(one.fetch(rt, 3)?);
-    assert_eq!(rt; found, 3);
-    assert_eq!(rt; repeats(rt, net, 4), 0);
-    Ok(())
+    let (_, pending) = looked(rt, net);
+    let lost = loses(rt, net, 2);
+    let (found, _) = fetched(rt, one, 3);
+    let repeated = repeats(rt, net, 4);
+    assert_eq!(rt; (pending, lost, found, repeated), (4, 1, 3, 0));
 }
 
-#[test]
-fn doubled_mail_order(rt: HostRuntime) -> Result<(), Fail> {
-    let (mut net, mut one, mut two) = three_ports(rt.alloc())?;
-    second_is_taken(&rt, rt.alloc(), &mut one, &mut two)?;
-    second_is_doubled(&rt, &mut net);
-    second_is_lost(&rt, &mut net, &mut one)?;
-    Ok(())
-}
-
-// Whether mail is pending for actor 1, for nobody and for actor 2; 9 for a want of memory.
-fn waits_of<R: Wait>(rt: &R, net: &mut Port<Note, u32>) -> (u32, u32, u32)
+// Whether mail is pending for actor 1, for nobody and for actor 2.
+fn waits_of<R: Wait + Abort>(rt: &R, net: &mut Port<Note, u32>) -> [Option<bool>; 3]
     ensures { Stays net.old net.new }
 {
-    match net.waiting(rt, &[1, 7, 2]) {
-        Ok(waits) => (told(&waits, 0), told(&waits, 1), told(&waits, 2)),
-        Err(_) => (9, 9, 9),
-    }
-}
-
-fn told(waits: &[bool], place: usize) -> u32 {
-    match waits.get(place) {
-        Some(true) => 1,
-        Some(false) => 0,
-        None => 2,
-    }
+    let waits = net.waiting(rt, &[1, 7, 2]).expect(rt, "memory");
+    [
+        waits.get(0).copied(),
+        waits.get(1).copied(),
+        waits.get(2).copied(),
+    ]
 }
 
 fn each_waits<R: Wait + Abort>(
@@ -216,83 +167,128 @@ fn each_waits<R: Wait + Abort>(
     net: &mut Port<Note, u32>,
     one: &mut Port<Note, u32>,
     two: &mut Port<Note, u32>,
-) -> Result<(), OutOfMemory>
+)
     requires { (one.old.who ≢ 0)
         × (one.old.crashed ≡ false)
         × (two.old.who ≢ 0)
         × (two.old.crashed ≡ false) }
 {
-    assert_eq!(rt; waits_of(rt, net), (0, 0, 0));
-    post_one(rt, two, Event::Go, notes(alloc, 1, 1)?)?;
-    assert_eq!(rt; waits_of(rt, net), (1, 0, 0));
-    let taken = take(rt, alloc, one, 1, 2, 1)?;
+    let none = waits_of(rt, net);
+    post_one(rt, two, Event::Go, notes(rt, alloc, 1, 1));
+    let first = waits_of(rt, net);
+    let taken = take(rt, alloc, one, 1, 2, 1);
+    let second = waits_of(rt, net);
+    assert_eq!(rt; none, [Some(false), Some(false), Some(false)]);
+    assert_eq!(rt; first, [Some(true), Some(false), Some(false)]);
     assert_eq!(rt; taken, 1);
-    assert_eq!(rt; waits_of(rt, net), (0, 0, 1));
-    Ok(())
+    assert_eq!(rt; second, [Some(false), Some(false), Some(true)]);
+}
+
+// What becomes of the ports of the network and of two actors.
+#[derive(Clone, Copy)]
+enum Story {
+    Fresh,
+    Doubled,
+    Waiting,
+}
+
+fn doubled_mail<R: Wait + Abort>(
+    rt: &R,
+    alloc: Global,
+    net: &mut Port<Note, u32>,
+    one: &mut Port<Note, u32>,
+    two: &mut Port<Note, u32>,
+)
+    requires { (net.old.who ≡ 0)
+        × (one.old.who ≢ 0)
+        × (one.old.crashed ≡ false)
+        × (two.old.who ≢ 0)
+        × (two.old.crashed ≡ false) }
+{
+    second_is_taken(rt, alloc, one, two);
+    second_is_doubled(rt, net);
+    second_is_lost(rt, net, one);
+}
+
+// All stories begin with new ports.
+fn come_true<R: Wait + Abort>(rt: &R, alloc: Global, story: Story) {
+    let mut net: Port<Note, u32> = Port::start(alloc, 2, 1 << 20).expect(rt, "memory");
+    let mut one = net.split(1).expect(rt, "memory");
+    let mut two = net.split(2).expect(rt, "memory");
+    match story {
+        Story::Fresh => nothing_is_pending(rt, &mut net, &mut one),
+        Story::Doubled => doubled_mail(rt, alloc, &mut net, &mut one, &mut two),
+        Story::Waiting => each_waits(rt, alloc, &mut net, &mut one, &mut two),
+    }
 }
 
 #[test]
-fn waiting_for_each(rt: HostRuntime) -> Result<(), Fail> {
-    let (mut net, mut one, mut two) = three_ports(rt.alloc())?;
-    each_waits(&rt, rt.alloc(), &mut net, &mut one, &mut two)?;
-    Ok(())
+fn fresh_ports(rt: HostRuntime) {
+    come_true(&rt, rt.alloc(), Story::Fresh);
+}
+
+#[test]
+fn doubled_mail_order(rt: HostRuntime) {
+    come_true(&rt, rt.alloc(), Story::Doubled);
+}
+
+#[test]
+fn waiting_for_each(rt: HostRuntime) {
+    come_true(&rt, rt.alloc(), Story::Waiting);
 }
 
 // Three rows with a note each to the other, and up to three deliveries.
-fn works<R: Wait>(
+fn works<R: Wait + Abort>(
     rt: &R,
     alloc: Global,
     mut port: Port<Note, u32>,
     to: u32,
-) -> Result<Port<Note, u32>, OutOfMemory>
+) -> Port<Note, u32>
     requires { (port.who ≢ 0) × (port.crashed ≡ false) }
-    ensures { IfOk result (λ p. SameExchange port p × (p.who ≡ port.who) × (p.crashed ≡ false)) }
+    ensures { SameExchange port result × (result.who ≡ port.who) × (result.crashed ≡ false) }
 {
-    post_one(rt, &mut port, Event::Tick, notes(alloc, to, 1)?)?;
-    post_one(rt, &mut port, Event::Tick, notes(alloc, to, 1)?)?;
-    post_one(rt, &mut port, Event::Tick, notes(alloc, to, 1)?)?;
-    take_three(rt, alloc, port)
+    post_one(rt, &mut port, Event::Tick, notes(rt, alloc, to, 1));
+    post_one(rt, &mut port, Event::Tick, notes(rt, alloc, to, 1));
+    post_one(rt, &mut port, Event::Tick, notes(rt, alloc, to, 1));
+    take_three(rt, alloc, &mut port);
+    port
 }
 
-fn take_three<R: Wait>(
-    rt: &R,
-    alloc: Global,
-    mut port: Port<Note, u32>,
-) -> Result<Port<Note, u32>, OutOfMemory>
-    requires { (port.who ≢ 0) × (port.crashed ≡ false) }
-    ensures { IfOk result (λ p. SameExchange port p × (p.who ≡ port.who) × (p.crashed ≡ false)) }
+fn take_three<R: Wait + Abort>(rt: &R, alloc: Global, port: &mut Port<Note, u32>)
+    requires { (port.old.who ≢ 0) × (port.old.crashed ≡ false) }
+    ensures { Stays port.old port.new × (port.new.crashed ≡ false) }
 {
-    take(rt, alloc, &mut port, 1, 0, 0)?;
-    take(rt, alloc, &mut port, 1, 0, 0)?;
-    take(rt, alloc, &mut port, 1, 0, 0)?;
-    Ok(port)
+    take(rt, alloc, port, 1, 0, 0);
+    take(rt, alloc, port, 1, 0, 0);
+    take(rt, alloc, port, 1, 0, 0);
 }
 
-// Two ports fetch and post at the same time. What is left of their mail they take afterwards.
-fn by_two<R: Threads + Wait + Sync>(
+// Two ports fetch and post at the same time.
+fn by_two<R: Threads + Wait + Abort + Sync>(
     rt: &R,
     alloc: Global,
     one: Port<Note, u32>,
     two: Port<Note, u32>,
-) -> Result<(Port<Note, u32>, Port<Note, u32>), OutOfMemory>
+) -> (Port<Note, u32>, Port<Note, u32>)
     requires { (one.who ≡ 1) × (one.crashed ≡ false) × (two.who ≡ 2) × (two.crashed ≡ false) }
-    ensures { IfOk result
-        (λ p. SameExchange one p.0 × (p.0.who ≡ 1) × SameExchange two p.1 × (p.1.who ≡ 2)) }
+    ensures first { SameExchange one result.0
+        × (result.0.who ≡ 1)
+        × (result.0.crashed ≡ false) }
+    ensures second { SameExchange two result.1
+        × (result.1.who ≡ 2)
+        × (result.1.crashed ≡ false) }
 {
-    let (a, b) = join(
+    join(
         rt,
-        || -> Result<Port<Note, u32>, OutOfMemory>
+        || -> Port<Note, u32>
             requires { (one.who ≡ 1) × (one.crashed ≡ false) }
-            ensures { IfOk result (λ p. SameExchange one p × (p.who ≡ 1) × (p.crashed ≡ false)) }
+            ensures { SameExchange one result × (result.who ≡ 1) × (result.crashed ≡ false) }
         { works(rt, alloc, one, 2) },
-        || -> Result<Port<Note, u32>, OutOfMemory>
+        || -> Port<Note, u32>
             requires { (two.who ≡ 2) × (two.crashed ≡ false) }
-            ensures { IfOk result (λ p. SameExchange two p × (p.who ≡ 2) × (p.crashed ≡ false)) }
+            ensures { SameExchange two result × (result.who ≡ 2) × (result.crashed ≡ false) }
         { works(rt, alloc, two, 1) },
-    );
-    let a = take_three(rt, alloc, a?)?;
-    let b = take_three(rt, alloc, b?)?;
-    Ok((a, b))
+    )
 }
 
 fn take_in(net: &mut Port<Note, u32>, other: Port<Note, u32>)
@@ -305,29 +301,32 @@ fn take_in(net: &mut Port<Note, u32>, other: Port<Note, u32>)
     net.join(other);
 }
 
-fn two_work<R: Threads + Wait + Sync>(
-    rt: &R,
-    alloc: Global,
-) -> Result<Journal<Note, u32>, OutOfMemory> {
-    let mut net: Port<Note, u32> = Port::start(alloc, 2, 1 << 20)?;
-    let one = net.split(1)?;
-    let two = net.split(2)?;
-    let (one, two) = by_two(rt, alloc, one, two)?;
+// What is left of their mail after the threads they take one after the other.
+fn two_work<R: Threads + Wait + Abort + Sync>(rt: &R, alloc: Global) -> Journal<Note, u32> {
+    let mut net: Port<Note, u32> = Port::start(alloc, 2, 1 << 20).expect(rt, "memory");
+    let one = net.split(1).expect(rt, "memory");
+    let two = net.split(2).expect(rt, "memory");
+    let (mut one, mut two) = by_two(rt, alloc, one, two);
+    take_three(rt, alloc, &mut one);
+    take_three(rt, alloc, &mut two);
     take_in(&mut net, one);
     take_in(&mut net, two);
-    Ok(net.close(rt))
+    net.close(rt)
 }
 
-#[test]
-fn two_threads_fetch_and_post(rt: HostRuntime) -> Result<(), Fail> {
-    let journal = two_work(&rt, rt.alloc())?;
+fn deliveries(rows: &[Row<Note, u32>]) -> u32 {
     let mut delivered = 0u32;
-    for row in journal.as_slice() {
+    for row in rows {
         if matches!(row.event, Event::Deliver(_)) {
             delivered = delivered.saturating_add(1);
         }
     }
-    assert_eq!(rt; journal.len(), 12);
-    assert_eq!(rt; delivered, 6);
-    Ok(())
+    delivered
+}
+
+#[test]
+fn two_threads_fetch_and_post(rt: HostRuntime) {
+    let journal = two_work(&rt, rt.alloc());
+    let delivered = deliveries(journal.as_slice());
+    assert_eq!(rt; (journal.len(), delivered), (12, 6));
 }

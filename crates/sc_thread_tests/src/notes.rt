@@ -3,6 +3,7 @@
 use sc_actor::Parcel;
 use sc_base::{Dup, OutOfMemory, Same, Sequence};
 use std::alloc::Global;
+use std::process::Abort;
 
 /// A note to an actor.
 #[derive(Debug, PartialEq, Eq, Drop)]
@@ -37,11 +38,11 @@ impl Parcel for Note {
 }
 
 /// So many notes to an actor.
-pub fn notes(alloc: Global, to: u32, n: usize) -> Result<Sequence<Note>, OutOfMemory> {
+pub fn notes(rt: &impl Abort, alloc: Global, to: u32, n: usize) -> Sequence<Note> {
     let mut sent = Sequence::new(alloc);
     for i in 0..n {
         let _ = i;
-        sent.push(Note { to })?;
+        sent.push(Note { to }).expect(rt, "memory");
     }
-    Ok(sent)
+    sent
 }

@@ -1,5 +1,5 @@
 //! Actors that send each other notes, and the gates that hold them.
-ghost use Rattle.std.specs.Prelude.{◌-◌, [], ◌∷◌, OnOk, if◌then◌else◌, ◌==◌};
+ghost use Rattle.std.specs.Prelude.{◌-◌, [], ◌∷◌, if◌then◌else◌, ◌==◌};
 ghost use Rattle.sc_exchange.specs.Ports.{SameExchange};
 ghost use Rattle.sc_shell.specs.Shells.{port_of};
 ghost use Rattle.sc_workers.specs.Crews.{AllOf, AllSound, Sound};
@@ -10,6 +10,7 @@ use sc_base::{OutOfMemory, Sequence};
 use sc_exchange::Port;
 use sc_shell::Shell;
 use std::alloc::Global;
+use std::process::Abort;
 use std::sync::atomic::{AtomicU64, Ordering};
 use std::thread;
 
@@ -94,14 +95,14 @@ impl Gate for Counter {
 
 // One shell more.
 pub(crate) fn add(
+    rt: &impl Abort,
     shells: &mut Vec<Shell<Player>>,
     net: &Port<Note, u32>,
     shell: Shell<Player>,
-) -> Result<(), OutOfMemory>
+)
     requires crew { AllOf net.now shells.old.items × AllSound shells.old.items }
     requires one { SameExchange (port_of shell) net.now × Sound shell }
-    ensures { OnOk result (AllOf net.now shells.new.items × AllSound shells.new.items) }
+    ensures { AllOf net.now shells.new.items × AllSound shells.new.items }
 {
-    shells.push(shell)?;
-    Ok(())
+    shells.push(shell).expect(rt, "memory");
 }

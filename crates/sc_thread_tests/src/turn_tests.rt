@@ -1,15 +1,14 @@
 //! Threads that append notes to one log.
-ghost use Rattle.std.specs.Prelude.{◌≡◌, ◌++◌, ◌∷◌, [], ◌+◌, ◌<◌, false, map, IfOk};
+ghost use Rattle.std.specs.Prelude.{◌≡◌, ◌++◌, ◌∷◌, [], ◌+◌, ◌<◌, false, map};
 ghost use Rattle.std.specs.Thread.{IsSync};
 ghost use Rattle.sc_turn.specs.Seats.{known, OfOneStart};
 ghost use Rattle.sc_thread_tests.specs.Seated.{IsIdle};
 
-use sc_base::OutOfMemory;
 use sc_turn::{Listed, TurnSeat};
 use std::alloc::Global;
+use std::process::Abort;
 use std::sync::Wait;
 use std::sync::atomic::{AtomicU64, Ordering};
-use std::test::Fail;
 use std::thread::{Threads, join, yield_now};
 
 // Values, each with the number of its maker.
@@ -38,7 +37,7 @@ impl Log {
     }
 }
 
-fn add<R: Wait>(rt: &R, seat: &mut TurnSeat<Log>, who: u32, value: u8) -> Result<(), OutOfMemory>
+fn add<R: Wait + Abort>(rt: &R, seat: &mut TurnSeat<Log>, who: u32, value: u8)
     requires { IsIdle seat.old who }
     ensures { OfOneStart seat.old seat.new
         × IsIdle seat.new who
@@ -46,58 +45,48 @@ fn add<R: Wait>(rt: &R, seat: &mut TurnSeat<Log>, who: u32, value: u8) -> Result
         × ((known seat.new).joined ≡ (known seat.old).joined) }
 {
     let mut log = seat.enter(rt);
-    if log.entries.reserve(1).is_err() {
-        seat.leave(log);
-        return Err(OutOfMemory);
-    }
+    log.entries.reserve(1).expect(rt, "memory");
     log.entries.push_reserved((value, who));
     seat.leave(log);
-    Ok(())
 }
 
-fn added_three<R: Wait>(
-    rt: &R,
-    mut seat: TurnSeat<Log>,
-    who: u32,
-) -> Result<TurnSeat<Log>, OutOfMemory>
+fn added_three<R: Wait + Abort>(rt: &R, mut seat: TurnSeat<Log>, who: u32) -> TurnSeat<Log>
     requires { IsIdle seat who }
-    ensures { IfOk result (λ s. OfOneStart seat s × IsIdle s who) }
+    ensures { OfOneStart seat result × IsIdle result who }
 {
-    add(rt, &mut seat, who, 1)?;
-    add(rt, &mut seat, who, 2)?;
-    add(rt, &mut seat, who, 3)?;
-    Ok(seat)
+    add(rt, &mut seat, who, 1);
+    add(rt, &mut seat, who, 2);
+    add(rt, &mut seat, who, 3);
+    seat
 }
 
 // Two seats add three entries each, at the same time.
-fn by_two<R: Threads + Wait + Sync>(
+fn by_two<R: Threads + Wait + Abort + Sync>(
     rt: &R,
     one: TurnSeat<Log>,
     other: TurnSeat<Log>,
     first: u32,
-) -> Result<(TurnSeat<Log>, TurnSeat<Log>), OutOfMemory>
+) -> (TurnSeat<Log>, TurnSeat<Log>)
     requires one { IsIdle one first }
     requires other { IsIdle other (first + 1) }
     requires small { first < 9 }
-    ensures { IfOk result
-        (λ s.
-        OfOneStart one s.0 × OfOneStart other s.1 × IsIdle s.0 first × IsIdle s.1 (first + 1)) }
+    ensures { OfOneStart one result.0
+        × OfOneStart other result.1
+        × IsIdle result.0 first
+        × IsIdle result.1 (first + 1) }
 {
     let second = first + 1;
-    let (a, b) = join(
+    join(
         rt,
-        || -> Result<TurnSeat<Log>, OutOfMemory>
+        || -> TurnSeat<Log>
             requires { IsIdle one first }
-            ensures { IfOk result (λ s. OfOneStart one s × IsIdle s first) }
+            ensures { OfOneStart one result × IsIdle result first }
         { added_three(rt, one, first) },
-        || -> Result<TurnSeat<Log>, OutOfMemory>
+        || -> TurnSeat<Log>
             requires { IsIdle other second }
-            ensures { IfOk result (λ s. OfOneStart other s × IsIdle s second) }
+            ensures { OfOneStart other result × IsIdle result second }
         { added_three(rt, other, second) },
-    );
-    let a = a?;
-    let b = b?;
-    Ok((a, b))
+    )
 }
 
 fn take_in(net: &mut TurnSeat<Log>, other: TurnSeat<Log>)
@@ -111,99 +100,125 @@ fn take_in(net: &mut TurnSeat<Log>, other: TurnSeat<Log>)
     net.join(other);
 }
 
-// The values of one number, in their order.
-fn values_of(log: &Log, who: u32, alloc: Global) -> Result<Vec<u8>, OutOfMemory> {
-    let mut values = Vec::new(alloc);
-    for entry in log.entries.iter() {
+// The values of one number, in their order, as the digits of one number.
+fn digits_of(entries: &[(u8, u32)], who: u32) -> u32 {
+    let mut digits = 0u32;
+    for entry in entries {
         if entry.1 == who {
-            values.push(entry.0)?;
+            digits = digits.wrapping_mul(10).wrapping_add(entry.0 as u32);
         }
     }
-    Ok(values)
+    digits
 }
 
-fn two_write<R: Threads + Wait + Sync>(rt: &R, alloc: Global) -> Result<Log, OutOfMemory> {
-    let mut net = TurnSeat::start(alloc, Log::new(alloc))?;
-    let one = net.split(1)?;
-    let two = net.split(2)?;
-    let (one, two) = by_two(rt, one, two, 1)?;
+// How many entries a log has, and those of the numbers 1 to 4.
+fn told(log: &Log) -> (usize, [u32; 4]) {
+    let entries = log.entries.as_slice();
+    let digits = [
+        digits_of(entries, 1),
+        digits_of(entries, 2),
+        digits_of(entries, 3),
+        digits_of(entries, 4),
+    ];
+    (entries.len(), digits)
+}
+
+fn two_write<R: Threads + Wait + Abort + Sync>(rt: &R, alloc: Global) -> Log {
+    let mut net = TurnSeat::start(alloc, Log::new(alloc)).expect(rt, "memory");
+    let one = net.split(1).expect(rt, "memory");
+    let two = net.split(2).expect(rt, "memory");
+    let (one, two) = by_two(rt, one, two, 1);
     take_in(&mut net, one);
     take_in(&mut net, two);
-    Ok(net.close(rt))
+    net.close(rt)
 }
 
 #[test]
-fn two_threads_append_through_one_turn(rt: HostRuntime) -> Result<(), Fail> {
-    let log = two_write(&rt, rt.alloc())?;
-    assert_eq!(rt; log.entries.len(), 6);
-    for who in [1u32, 2] {
-        let values = values_of(&log, who, rt.alloc())?;
-        assert_eq!(rt; values.as_slice(), [1u8, 2, 3].as_slice(), "of {who}");
-    }
-    Ok(())
+fn two_threads_append_through_one_turn(rt: HostRuntime) {
+    let told = told(&two_write(&rt, rt.alloc()));
+    assert_eq!(rt; told, (6, [123, 123, 0, 0]));
 }
 
 // Four seats, in four threads.
-fn four_write<R: Threads + Wait + Sync>(rt: &R, alloc: Global) -> Result<Log, OutOfMemory> {
-    let mut net = TurnSeat::start(alloc, Log::new(alloc))?;
-    let one = net.split(1)?;
-    let two = net.split(2)?;
-    let three = net.split(3)?;
-    let four = net.split(4)?;
-    let (left, right) = join(
+fn by_four<R: Threads + Wait + Abort + Sync>(
+    rt: &R,
+    first: (TurnSeat<Log>, TurnSeat<Log>),
+    last: (TurnSeat<Log>, TurnSeat<Log>),
+) -> (
+    (TurnSeat<Log>, TurnSeat<Log>),
+    (TurnSeat<Log>, TurnSeat<Log>),
+)
+    requires { IsIdle first.0 1 × IsIdle first.1 2 × IsIdle last.0 3 × IsIdle last.1 4 }
+    ensures first { OfOneStart first.0 result.0.0
+        × OfOneStart first.1 result.0.1
+        × IsIdle result.0.0 1
+        × IsIdle result.0.1 2 }
+    ensures last { OfOneStart last.0 result.1.0
+        × OfOneStart last.1 result.1.1
+        × IsIdle result.1.0 3
+        × IsIdle result.1.1 4 }
+{
+    let (one, two) = first;
+    let (three, four) = last;
+    join(
         rt,
-        || -> Result<(TurnSeat<Log>, TurnSeat<Log>), OutOfMemory>
+        || -> (TurnSeat<Log>, TurnSeat<Log>)
             requires { IsSync R.row × IsIdle one 1 × IsIdle two 2 }
-            ensures { IfOk result
-                (λ s. OfOneStart one s.0 × OfOneStart two s.1 × IsIdle s.0 1 × IsIdle s.1 2) }
+            ensures { OfOneStart one result.0
+                × OfOneStart two result.1
+                × IsIdle result.0 1
+                × IsIdle result.1 2 }
         { by_two(rt, one, two, 1) },
-        || -> Result<(TurnSeat<Log>, TurnSeat<Log>), OutOfMemory>
+        || -> (TurnSeat<Log>, TurnSeat<Log>)
             requires { IsSync R.row × IsIdle three 3 × IsIdle four 4 }
-            ensures { IfOk result
-                (λ s. OfOneStart three s.0 × OfOneStart four s.1 × IsIdle s.0 3 × IsIdle s.1 4) }
+            ensures { OfOneStart three result.0
+                × OfOneStart four result.1
+                × IsIdle result.0 3
+                × IsIdle result.1 4 }
         { by_two(rt, three, four, 3) },
-    );
-    let (one, two) = left?;
-    let (three, four) = right?;
+    )
+}
+
+fn four_write<R: Threads + Wait + Abort + Sync>(rt: &R, alloc: Global) -> Log {
+    let mut net = TurnSeat::start(alloc, Log::new(alloc)).expect(rt, "memory");
+    let one = net.split(1).expect(rt, "memory");
+    let two = net.split(2).expect(rt, "memory");
+    let three = net.split(3).expect(rt, "memory");
+    let four = net.split(4).expect(rt, "memory");
+    let ((one, two), (three, four)) = by_four(rt, (one, two), (three, four));
     take_in(&mut net, one);
     take_in(&mut net, two);
     take_in(&mut net, three);
     take_in(&mut net, four);
-    Ok(net.close(rt))
+    net.close(rt)
 }
 
 #[test]
-fn four_threads_append_through_one_turn(rt: HostRuntime) -> Result<(), Fail> {
-    let log = four_write(&rt, rt.alloc())?;
-    assert_eq!(rt; log.entries.len(), 12);
-    for who in [1u32, 2, 3, 4] {
-        let values = values_of(&log, who, rt.alloc())?;
-        assert_eq!(rt; values.as_slice(), [1u8, 2, 3].as_slice(), "of {who}");
-    }
-    Ok(())
+fn four_threads_append_through_one_turn(rt: HostRuntime) {
+    let told = told(&four_write(&rt, rt.alloc()));
+    assert_eq!(rt; told, (12, [123, 123, 123, 123]));
 }
 
 // Two seats of one thread meet between their entries.
-fn meet_and_write<R: Wait>(rt: &R, alloc: Global) -> Result<Log, OutOfMemory> {
-    let mut net = TurnSeat::start(alloc, Log::new(alloc))?;
-    let mut one = net.split(1)?;
-    add(rt, &mut one, 1, 10)?;
-    add(rt, &mut net, 0, 20)?;
-    net.meet(rt, &mut one)?;
-    add(rt, &mut one, 1, 30)?;
+fn meet_and_write<R: Wait + Abort>(rt: &R, alloc: Global) -> Log {
+    let mut net = TurnSeat::start(alloc, Log::new(alloc)).expect(rt, "memory");
+    let mut one = net.split(1).expect(rt, "memory");
+    add(rt, &mut one, 1, 10);
+    add(rt, &mut net, 0, 20);
+    net.meet(rt, &mut one).expect(rt, "memory");
+    add(rt, &mut one, 1, 30);
     take_in(&mut net, one);
-    add(rt, &mut net, 0, 40)?;
-    Ok(net.close(rt))
+    add(rt, &mut net, 0, 40);
+    net.close(rt)
 }
 
 #[test]
-fn seats_of_one_thread_meet_and_join(rt: HostRuntime) -> Result<(), Fail> {
-    let log = meet_and_write(&rt, rt.alloc())?;
+fn seats_of_one_thread_meet_and_join(rt: HostRuntime) {
+    let log = meet_and_write(&rt, rt.alloc());
     assert_eq!(rt;
         log.entries.as_slice(),
         [(10u8, 1u32), (20, 0), (30, 1), (40, 0)].as_slice()
     );
-    Ok(())
 }
 
 // How far two threads are: 0 at first, 1 once the one has the turn, 2 once the other goes for it.
@@ -247,47 +262,56 @@ fn holds_long<R: Wait>(rt: &R, stage: &Stage, mut seat: TurnSeat<Log>) -> TurnSe
 }
 
 // Goes for the turn while the other seat has it.
-fn comes_late<R: Wait>(
-    rt: &R,
-    stage: &Stage,
-    mut seat: TurnSeat<Log>,
-) -> Result<TurnSeat<Log>, OutOfMemory>
+fn comes_late<R: Wait + Abort>(rt: &R, stage: &Stage, mut seat: TurnSeat<Log>) -> TurnSeat<Log>
     requires { IsIdle seat 2 }
-    ensures { IfOk result (λ s. OfOneStart seat s × IsIdle s 2) }
+    ensures { OfOneStart seat result × IsIdle result 2 }
 {
     await_stage(stage, 1);
     stage.reached.store(2, Ordering::SeqCst);
-    add(rt, &mut seat, 2, 2)?;
-    Ok(seat)
+    add(rt, &mut seat, 2, 2);
+    seat
 }
 
-fn one_sleeps<R: Threads + Wait + Sync>(rt: &R, alloc: Global) -> Result<Log, OutOfMemory> {
+fn by_two_in_stages<R: Threads + Wait + Abort + Sync>(
+    rt: &R,
+    one: TurnSeat<Log>,
+    two: TurnSeat<Log>,
+) -> (TurnSeat<Log>, TurnSeat<Log>)
+    requires { IsIdle one 1 × IsIdle two 2 }
+    ensures { OfOneStart one result.0
+        × OfOneStart two result.1
+        × IsIdle result.0 1
+        × IsIdle result.1 2 }
+{
     let stage = Stage {
         reached: AtomicU64::new(0),
     };
-    let mut net = TurnSeat::start(alloc, Log::new(alloc))?;
-    let one = net.split(1)?;
-    let two = net.split(2)?;
-    let (one, two) = join(
+    join(
         rt,
         || -> TurnSeat<Log>
             requires { IsIdle one 1 }
             ensures { OfOneStart one result × IsIdle result 1 }
         { holds_long(rt, &stage, one) },
-        || -> Result<TurnSeat<Log>, OutOfMemory>
+        || -> TurnSeat<Log>
             requires { IsIdle two 2 }
-            ensures { IfOk result (λ s. OfOneStart two s × IsIdle s 2) }
+            ensures { OfOneStart two result × IsIdle result 2 }
         { comes_late(rt, &stage, two) },
-    );
+    )
+}
+
+fn one_sleeps<R: Threads + Wait + Abort + Sync>(rt: &R, alloc: Global) -> Log {
+    let mut net = TurnSeat::start(alloc, Log::new(alloc)).expect(rt, "memory");
+    let one = net.split(1).expect(rt, "memory");
+    let two = net.split(2).expect(rt, "memory");
+    let (one, two) = by_two_in_stages(rt, one, two);
     take_in(&mut net, one);
-    take_in(&mut net, two?);
-    Ok(net.close(rt))
+    take_in(&mut net, two);
+    net.close(rt)
 }
 
 // The seat that sleeps is woken by that `leave` or never, and then this test does not end.
 #[test]
-fn leaving_wakes_the_seat_that_sleeps(rt: HostRuntime) -> Result<(), Fail> {
-    let log = one_sleeps(&rt, rt.alloc())?;
+fn leaving_wakes_the_seat_that_sleeps(rt: HostRuntime) {
+    let log = one_sleeps(&rt, rt.alloc());
     assert_eq!(rt; log.entries.as_slice(), [(2u8, 2u32)].as_slice());
-    Ok(())
 }

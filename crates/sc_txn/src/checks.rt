@@ -1,12 +1,11 @@
 //! The refusals of orders. Of those that hold of an order the one with the least number counts.
-ghost use Rattle.std.specs.Prelude.{◌≡◌, ◌≤◌, ◌<◌, true, false, Some, None, MatchResult, OnOk, nat_eq, nat_le, length};
+ghost use Rattle.std.specs.Prelude.{◌≡◌, true, Some, None, MatchResult, nat_eq, nat_le, length};
 ghost use Rattle.std.specs.List.{list_any};
-ghost use Rattle.sc_member.specs.Faults.{add_fault, remove_fault};
 ghost use Rattle.sc_base.specs.Same.{same_draw};
-ghost use Rattle.sc_machine_table.specs.Splits.{CanSplit, has_named, is_locked_in};
+ghost use Rattle.sc_machine_table.specs.Splits.{has_named, is_locked_in};
 ghost use Rattle.sc_machine_table.specs.Orders.{locked_in, is_alone, refusal_of, refused_free, join_refused, leave_refused, split_refused, limit_refused, repart_refused, migrate_refused, body_refused, begin_refused};
 ghost use Rattle.sc_machine_table.specs.Votes.{has_voted};
-ghost use Rattle.sc_txn.specs.Checked.{is_checked, IsPossible};
+ghost use Rattle.sc_txn.specs.Checked.{is_checked};
 
 use sc_base::Draw;
 use sc_cmd::{Body, Command, Core, Lock, OrderRefusal, same_draw};
@@ -15,13 +14,12 @@ use sc_cmd::{Body, Command, Core, Lock, OrderRefusal, same_draw};
 const MOST_BEGUN: u32 = 256;
 
 /// Why the command of an order is refused to a group of that record, if it is: the refusal with the
-/// least number of those that hold. The command is `Join`, `Leave`, `Split` or `Begin`, and what is
-/// accepted can be carried out. Whether the group is gone is not looked at here.
+/// least number of those that hold. The command is `Join`, `Leave`, `Split` or `Begin`. Whether the
+/// group is gone is not looked at here.
 pub fn check(core: &Core, command: &Command) -> Result<(), OrderRefusal>
     requires { is_checked command.now ≡ true }
-    ensures why { MatchResult result (λ _. refusal_of core.now command.now ≡ None)
+    ensures { MatchResult result (λ _. refusal_of core.now command.now ≡ None)
         (λ why. refusal_of core.now command.now ≡ Some why) }
-    ensures possible { OnOk result (IsPossible core.now command.now) }
 {
     if let Some(tx) = locked_in(&core.lock) {
         return Err(OrderRefusal::InTransaction { tx });
@@ -55,9 +53,8 @@ pub(crate) fn locked_in(lock: &Lock) -> Option<Draw>
 }
 
 fn check_join(core: &Core, node: u16) -> Result<(), OrderRefusal>
-    ensures why { MatchResult result (λ _. join_refused core.now node ≡ None)
+    ensures { MatchResult result (λ _. join_refused core.now node ≡ None)
         (λ why. join_refused core.now node ≡ Some why) }
-    ensures possible { OnOk result (add_fault core.now.members node ≡ None) }
 {
     let is_member = core.members.has(node);
     if core.members.len() == 9 && !is_member {
@@ -70,16 +67,14 @@ fn check_join(core: &Core, node: u16) -> Result<(), OrderRefusal>
 }
 
 fn has_one_member(core: &Core) -> bool
-    ensures same { result ≡ nat_eq (length core.now.members) 1 }
-    ensures some { 1 ≤ length core.now.members }
+    ensures { result ≡ nat_eq (length core.now.members) 1 }
 {
     core.members.len() == 1
 }
 
 fn check_leave(core: &Core, node: u16) -> Result<(), OrderRefusal>
-    ensures why { MatchResult result (λ _. leave_refused core.now node ≡ None)
+    ensures { MatchResult result (λ _. leave_refused core.now node ≡ None)
         (λ why. leave_refused core.now node ≡ Some why) }
-    ensures possible { OnOk result (remove_fault core.now.members node ≡ None) }
 {
     if !core.members.has(node) {
         return Err(OrderRefusal::NotMember);
@@ -97,10 +92,8 @@ fn is_alone(core: &Core) -> bool
 }
 
 fn check_split(core: &Core, at: u32) -> Result<(), OrderRefusal>
-    ensures why { MatchResult result (λ _. split_refused core.now at ≡ None)
+    ensures { MatchResult result (λ _. split_refused core.now at ≡ None)
         (λ why. split_refused core.now at ≡ Some why) }
-    ensures possible { OnOk result (CanSplit core.now at) }
-    ensures few { OnOk result (is_alone core.now ≡ false → core.now.begun < 256) }
 {
     if at == core.arc.lo() || !core.arc.holds(at) {
         return Err(OrderRefusal::BadBoundary);
@@ -121,9 +114,8 @@ fn has_begun_all(core: &Core) -> bool
 }
 
 fn check_limit(core: &Core) -> Result<(), OrderRefusal>
-    ensures why { MatchResult result (λ _. limit_refused core.now ≡ None)
+    ensures { MatchResult result (λ _. limit_refused core.now ≡ None)
         (λ why. limit_refused core.now ≡ Some why) }
-    ensures possible { OnOk result (core.now.begun < 256) }
 {
     if has_begun_all(core) {
         return Err(OrderRefusal::TxLimit);
@@ -132,9 +124,8 @@ fn check_limit(core: &Core) -> Result<(), OrderRefusal>
 }
 
 fn check_repart(core: &Core, at: u32) -> Result<(), OrderRefusal>
-    ensures why { MatchResult result (λ _. repart_refused core.now at ≡ None)
+    ensures { MatchResult result (λ _. repart_refused core.now at ≡ None)
         (λ why. repart_refused core.now at ≡ Some why) }
-    ensures possible { OnOk result (core.now.begun < 256) }
 {
     if at == core.arc.lo() || at == core.arc.end() {
         return Err(OrderRefusal::BadBoundary);
@@ -143,9 +134,8 @@ fn check_repart(core: &Core, at: u32) -> Result<(), OrderRefusal>
 }
 
 fn check_migrate(core: &Core, node: u16) -> Result<(), OrderRefusal>
-    ensures why { MatchResult result (λ _. migrate_refused core.now node ≡ None)
+    ensures { MatchResult result (λ _. migrate_refused core.now node ≡ None)
         (λ why. migrate_refused core.now node ≡ Some why) }
-    ensures possible { OnOk result (core.now.begun < 256) }
 {
     if !core.members.has(node) {
         return Err(OrderRefusal::NotMember);
@@ -157,9 +147,8 @@ fn check_migrate(core: &Core, node: u16) -> Result<(), OrderRefusal>
 }
 
 fn check_body(core: &Core, body: &Body) -> Result<(), OrderRefusal>
-    ensures why { MatchResult result (λ _. body_refused body.now core.now ≡ None)
+    ensures { MatchResult result (λ _. body_refused body.now core.now ≡ None)
         (λ why. body_refused body.now core.now ≡ Some why) }
-    ensures possible { OnOk result (core.now.begun < 256) }
 {
     match body {
         Body::Merge | Body::Split { .. } => check_limit(core),
@@ -169,9 +158,8 @@ fn check_body(core: &Core, body: &Body) -> Result<(), OrderRefusal>
 }
 
 fn check_begin(core: &Core, body: &Body) -> Result<(), OrderRefusal>
-    ensures why { MatchResult result (λ _. begin_refused core.now body.now ≡ None)
+    ensures { MatchResult result (λ _. begin_refused core.now body.now ≡ None)
         (λ why. begin_refused core.now body.now ≡ Some why) }
-    ensures possible { OnOk result (core.now.begun < 256) }
 {
     if is_alone(core) {
         return Err(OrderRefusal::NoNeighbour);

@@ -7,6 +7,3 @@ mod votes;
 
 pub use checks::{check, has_named, has_voted};
 pub use votes::{Decision, decide, vote, watch_vote};
-
-#[cfg(test)]
-mod tests;

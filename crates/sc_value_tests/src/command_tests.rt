@@ -1,139 +1,148 @@
-use sc_base::{
-    Draw, Dup, Key, Noted, Op, OutOfMemory, Pairs, Reply, RingArc, SeenList, Sequence, Value,
-};
+use sc_base::{Draw, Dup, Key, Noted, Op, Pairs, Reply, RingArc, SeenList, Sequence, Value};
 use sc_cmd::{
     Base, Body, Command, Core, DecidedList, Frozen, Gift, Heard, Link, Lock, Outcome, Vote,
     base_weight, command_weight,
 };
 use sc_member::Members;
 use std::alloc::Global;
-use std::test::Fail;
+use std::process::Abort;
 
 const GROUP: Draw = Draw { node: 0, count: 1 };
 
-// One pair that counts 34, and one entry of a client table that counts 33.
-fn pairs(alloc: Global) -> Result<Pairs, Fail> {
-    let mut pairs = Pairs::new(alloc);
-    pairs.push(Key::try_new(alloc, b"a")?, Value::try_new(alloc, b"x")?)?;
-    Ok(pairs)
+fn key(rt: &impl Abort, alloc: Global, bytes: &[u8]) -> Key {
+    Key::try_new(alloc, bytes).expect(rt, "a key")
 }
 
-fn clients(alloc: Global) -> Result<SeenList, Fail> {
+fn value(rt: &impl Abort, alloc: Global, bytes: &[u8]) -> Value {
+    Value::try_new(alloc, bytes).expect(rt, "a value")
+}
+
+// One pair that counts 34, and one entry of a client table that counts 33.
+fn pairs(rt: &impl Abort, alloc: Global) -> Pairs {
+    let mut pairs = Pairs::new(alloc);
+    pairs
+        .push(key(rt, alloc, b"a"), value(rt, alloc, b"x"))
+        .expect(rt, "memory");
+    pairs
+}
+
+fn clients(rt: &impl Abort, alloc: Global) -> SeenList {
     let mut clients = SeenList::new(alloc);
     let reply = Reply {
-        old: Some(Value::try_new(alloc, b"y")?),
+        old: Some(value(rt, alloc, b"y")),
     };
-    clients.push(1, Noted { seq: 1, reply })?;
-    Ok(clients)
+    clients
+        .push(1, Noted { seq: 1, reply })
+        .expect(rt, "memory");
+    clients
 }
 
-fn frozen(alloc: Global) -> Result<Frozen, Fail> {
+fn one_position(rt: &impl Abort) -> RingArc {
+    RingArc::try_new(0, 1).expect(rt, "one position")
+}
+
+fn frozen(rt: &impl Abort, alloc: Global) -> Frozen {
     let members = Members::one(1);
-    Ok(Frozen {
-        arc: RingArc::try_new(0, 1)?,
+    Frozen {
+        arc: one_position(rt),
         members,
         succ: Link {
             group: GROUP,
             members,
         },
-        pairs: pairs(alloc)?,
-        clients: clients(alloc)?,
-    })
+        pairs: pairs(rt, alloc),
+        clients: clients(rt, alloc),
+    }
 }
 
-fn gift(alloc: Global) -> Result<Outcome, Fail> {
+fn gift(rt: &impl Abort, alloc: Global) -> Outcome {
     let gift = Gift {
-        pairs: pairs(alloc)?,
-        clients: clients(alloc)?,
+        pairs: pairs(rt, alloc),
+        clients: clients(rt, alloc),
     };
-    Ok(Outcome::Moved {
+    Outcome::Moved {
         at: 7,
         gift: Some(gift),
-    })
+    }
 }
 
-fn copied<T: Dup + Drop>(alloc: Global, value: &T) -> Result<T, OutOfMemory> {
-    value.dup(alloc)
+fn copied<T: Dup + Drop>(rt: &impl Abort, alloc: Global, value: &T) -> T {
+    value.dup(alloc).expect(rt, "memory")
 }
 
-fn call(alloc: Global) -> Result<Command, Fail> {
-    let key = Key::try_new(alloc, b"key")?;
-    let value = Value::try_new(alloc, b"value")?;
-    let op = Op::Put { key, value };
-    Ok(Command::Call {
+fn call(rt: &impl Abort, alloc: Global) -> Command {
+    Command::Call {
         client: 1,
         seq: 1,
-        op,
-    })
+        op: Op::Put {
+            key: key(rt, alloc, b"key"),
+            value: value(rt, alloc, b"value"),
+        },
+    }
 }
 
-fn yes(alloc: Global) -> Result<Command, Fail> {
-    let vote = Vote::Yes(frozen(alloc)?);
-    Ok(Command::RecordVote {
+fn yes(rt: &impl Abort, alloc: Global) -> Command {
+    Command::RecordVote {
         tx: GROUP,
-        vote,
+        vote: Vote::Yes(frozen(rt, alloc)),
         by: 1,
-    })
+    }
 }
 
-fn finish(alloc: Global) -> Result<Command, Fail> {
-    let outcome = gift(alloc)?;
-    Ok(Command::Finish { tx: GROUP, outcome })
+fn finish(rt: &impl Abort, alloc: Global) -> Command {
+    Command::Finish {
+        tx: GROUP,
+        outcome: gift(rt, alloc),
+    }
 }
 
 // What a copy of a command counts.
-fn weight_of(alloc: Global, command: &Command) -> Result<u64, OutOfMemory> {
-    let copy = copied(alloc, command)?;
-    Ok(command_weight(&copy))
+fn weight_of(rt: &impl Abort, alloc: Global, command: Command) -> u64 {
+    command_weight(&copied(rt, alloc, &command))
 }
 
 #[test]
-fn a_call_counts_its_key_and_value(rt: HostRuntime) -> Result<(), Fail> {
-    let command = call(rt.alloc())?;
-    assert_eq!(rt; weight_of(rt.alloc(), &command)?, 8);
-    Ok(())
+fn a_call_counts_its_key_and_value(rt: HostRuntime) {
+    let weight = weight_of(&rt, rt.alloc(), call(&rt, rt.alloc()));
+    assert_eq!(rt; weight, 8);
 }
 
 #[test]
-fn a_vote_counts_the_record_that_it_carries(rt: HostRuntime) -> Result<(), Fail> {
-    let command = yes(rt.alloc())?;
-    assert_eq!(rt; weight_of(rt.alloc(), &command)?, 67);
-    Ok(())
+fn a_vote_counts_the_record_that_it_carries(rt: HostRuntime) {
+    let weight = weight_of(&rt, rt.alloc(), yes(&rt, rt.alloc()));
+    assert_eq!(rt; weight, 67);
 }
 
 #[test]
-fn an_outcome_counts_its_gift(rt: HostRuntime) -> Result<(), Fail> {
-    let command = finish(rt.alloc())?;
-    assert_eq!(rt; weight_of(rt.alloc(), &command)?, 67);
-    Ok(())
+fn an_outcome_counts_its_gift(rt: HostRuntime) {
+    let weight = weight_of(&rt, rt.alloc(), finish(&rt, rt.alloc()));
+    assert_eq!(rt; weight, 67);
 }
 
 #[test]
-fn a_command_of_numbers_counts_nothing(rt: HostRuntime) -> Result<(), Fail> {
-    let command = Command::GiveUp { tx: GROUP };
-    assert_eq!(rt; weight_of(rt.alloc(), &command)?, 0);
-    Ok(())
+fn a_command_of_numbers_counts_nothing(rt: HostRuntime) {
+    let weight = weight_of(&rt, rt.alloc(), Command::GiveUp { tx: GROUP });
+    assert_eq!(rt; weight, 0);
 }
 
 // A lock that has heard of a participant's record.
-fn coordinating(alloc: Global) -> Result<Lock, Fail> {
-    let heard = Some(Heard {
-        frozen: frozen(alloc)?,
-        by: 2,
-    });
-    Ok(Lock::Coordinating {
+fn coordinating(rt: &impl Abort, alloc: Global) -> Lock {
+    Lock::Coordinating {
         tx: GROUP,
         body: Body::Merge,
         order: 1,
-        heard,
-    })
+        heard: Some(Heard {
+            frozen: frozen(rt, alloc),
+            by: 2,
+        }),
+    }
 }
 
 // The outcomes that a group has decided: one moved boundary with a gift.
-fn decided(alloc: Global) -> Result<DecidedList, Fail> {
+fn decided(rt: &impl Abort, alloc: Global) -> DecidedList {
     let mut decided = Sequence::new(alloc);
-    decided.push((GROUP, gift(alloc)?))?;
-    Ok(decided)
+    decided.push((GROUP, gift(rt, alloc))).expect(rt, "memory");
+    decided
 }
 
 // The group as its own neighbour.
@@ -144,46 +153,35 @@ fn alone() -> Link {
     }
 }
 
-// A group of one node alone on a ring, with this lock and these outcomes.
-fn core_with(alloc: Global, arc: RingArc, lock: Lock, decided: DecidedList) -> Core {
+// A group of one node alone on a ring, with that lock and those outcomes.
+fn core(rt: &impl Abort, alloc: Global) -> Core {
     Core {
         id: GROUP,
         first: 1,
-        arc,
+        arc: one_position(rt),
         members: Members::one(1),
         succ: alone(),
         pred: alone(),
-        lock,
+        lock: coordinating(rt, alloc),
         begun: 1,
-        decided,
+        decided: decided(rt, alloc),
         voted: Sequence::new(alloc),
         born: Sequence::new(alloc),
         gone: None,
     }
 }
 
-fn core(alloc: Global) -> Result<Core, Fail> {
-    let arc = RingArc::try_new(0, 1)?;
-    let lock = coordinating(alloc)?;
-    let decided = decided(alloc)?;
-    Ok(core_with(alloc, arc, lock, decided))
-}
-
-fn base(alloc: Global) -> Result<Base, Fail> {
-    let core = core(alloc)?;
-    let pairs = pairs(alloc)?;
-    let clients = clients(alloc)?;
-    Ok(Base {
-        core,
-        pairs,
-        clients,
-    })
+fn base(rt: &impl Abort, alloc: Global) -> Base {
+    Base {
+        core: core(rt, alloc),
+        pairs: pairs(rt, alloc),
+        clients: clients(rt, alloc),
+    }
 }
 
 #[test]
-fn a_base_counts_its_gifts_and_what_it_heard(rt: HostRuntime) -> Result<(), Fail> {
-    let alloc = rt.alloc();
-    let copy = copied(alloc, &base(alloc)?)?;
-    assert_eq!(rt; base_weight(&copy), 201);
-    Ok(())
+fn a_base_counts_its_gifts_and_what_it_heard(rt: HostRuntime) {
+    let base = base(&rt, rt.alloc());
+    let weight = base_weight(&copied(&rt, rt.alloc(), &base));
+    assert_eq!(rt; weight, 201);
 }

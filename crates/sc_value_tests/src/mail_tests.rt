@@ -1,110 +1,105 @@
 use sc_actor::Parcel;
-use sc_base::{Ballot, Draw, Dup, Key, Op, OutOfMemory, Reply, Sequence, Value};
+use sc_base::{Ballot, Draw, Dup, Key, Op, Reply, Sequence, Value};
 use sc_cmd::Command;
 use sc_mail::{AnswerBody, Mail, MailBody, Reports, client_number};
 use sc_paxos_words::Report;
 use std::alloc::Global;
 use std::process::Abort;
-use std::test::Fail;
 
 const GROUP: Draw = Draw { node: 0, count: 1 };
 
 const FIRST: Ballot = Ballot { round: 1, node: 1 };
 
-fn put(alloc: Global) -> Result<Op, Fail> {
-    let key = Key::try_new(alloc, b"key")?;
-    let value = Value::try_new(alloc, b"value")?;
-    Ok(Op::Put { key, value })
+fn value(rt: &impl Abort, alloc: Global) -> Value {
+    Value::try_new(alloc, b"value").expect(rt, "a value")
 }
 
-fn call(alloc: Global) -> Result<Command, Fail> {
-    let op = put(alloc)?;
-    Ok(Command::Call {
+fn call(rt: &impl Abort, alloc: Global) -> Command {
+    Command::Call {
         client: 1,
         seq: 1,
-        op,
-    })
-}
-
-fn accept(alloc: Global) -> Result<MailBody, Fail> {
-    let command = call(alloc)?;
-    Ok(MailBody::Accept {
-        group: GROUP,
-        ballot: FIRST,
-        slot: 1,
-        command,
-    })
-}
-
-fn report(alloc: Global) -> Result<Report<Command>, Fail> {
-    let value = call(alloc)?;
-    Ok(Report {
-        slot: 1,
-        ballot: FIRST,
-        value,
-    })
-}
-
-fn one_report(alloc: Global, report: Report<Command>) -> Result<Reports, OutOfMemory> {
-    let mut reports = Sequence::new(alloc);
-    reports.push(report)?;
-    Ok(reports)
-}
-
-fn promised(reports: Reports) -> MailBody {
-    MailBody::Promise {
-        group: GROUP,
-        ballot: FIRST,
-        reports,
+        op: Op::Put {
+            key: Key::try_new(alloc, b"key").expect(rt, "a key"),
+            value: value(rt, alloc),
+        },
     }
 }
 
-fn promise(alloc: Global) -> Result<MailBody, Fail> {
-    let reports = one_report(alloc, report(alloc)?)?;
-    Ok(promised(reports))
+fn accept(rt: &impl Abort, alloc: Global) -> MailBody {
+    MailBody::Accept {
+        group: GROUP,
+        ballot: FIRST,
+        slot: 1,
+        command: call(rt, alloc),
+    }
 }
 
-fn answer(alloc: Global) -> Result<MailBody, Fail> {
-    let old = Some(Value::try_new(alloc, b"value")?);
-    Ok(MailBody::Answer {
+fn one_report(rt: &impl Abort, alloc: Global) -> Reports {
+    let report = Report {
+        slot: 1,
+        ballot: FIRST,
+        value: call(rt, alloc),
+    };
+    let mut reports = Sequence::new(alloc);
+    reports.push(report).expect(rt, "memory");
+    reports
+}
+
+fn promise(rt: &impl Abort, alloc: Global) -> MailBody {
+    MailBody::Promise {
+        group: GROUP,
+        ballot: FIRST,
+        reports: one_report(rt, alloc),
+    }
+}
+
+fn answer(rt: &impl Abort, alloc: Global) -> MailBody {
+    MailBody::Answer {
         group: GROUP,
         seq: 1,
-        answer: AnswerBody::Value(Reply { old }),
-    })
+        answer: AnswerBody::Value(Reply {
+            old: Some(value(rt, alloc)),
+        }),
+    }
 }
 
-fn copied(alloc: Global, body: MailBody) -> Result<Mail, OutOfMemory> {
+fn told(mail: &Mail) -> (u32, u32, u64) {
+    (mail.from, mail.to(), mail.weight())
+}
+
+fn copy_of(rt: &impl Abort, alloc: Global, mail: &Mail) -> Mail {
+    mail.dup(alloc).expect(rt, "memory")
+}
+
+fn told_of_copy(rt: &impl Abort, alloc: Global, mail: &Mail) -> (u32, u32, u64) {
+    let copy = copy_of(rt, alloc, mail);
+    told(&copy)
+}
+
+// From whom and to whom a copy of a mail of client 1 with this body goes, and what it weighs.
+fn copied(rt: &impl Abort, alloc: Global, body: MailBody) -> (u32, u32, u64) {
     let mail = Mail {
         from: client_number(1),
         to: 1,
         body,
     };
-    mail.dup(alloc)
-}
-
-fn expect(rt: &impl Abort, copy: &Mail, weight: u64) {
-    assert_eq!(rt; copy.from, 33);
-    assert_eq!(rt; copy.to(), 1);
-    assert_eq!(rt; copy.weight(), weight);
-}
-
-fn check<R: Abort>(rt: &R, alloc: Global, body: MailBody, weight: u64) -> Result<(), Fail> {
-    let copy = copied(alloc, body)?;
-    expect(rt, &copy, weight);
-    Ok(())
+    told_of_copy(rt, alloc, &mail)
 }
 
 #[test]
-fn an_accept_counts_its_key_and_value(rt: HostRuntime) -> Result<(), Fail> {
-    check(&rt, rt.alloc(), accept(rt.alloc())?, 8)
+fn an_accept_counts_its_key_and_value(rt: HostRuntime) {
+    let found = copied(&rt, rt.alloc(), accept(&rt, rt.alloc()));
+    assert_eq!(rt; found, (33, 1, 8));
 }
 
 #[test]
-fn a_promise_counts_32_for_each_report(rt: HostRuntime) -> Result<(), Fail> {
-    check(&rt, rt.alloc(), promise(rt.alloc())?, 40)
+fn a_promise_counts_32_for_each_report(rt: HostRuntime) {
+    let found = copied(&rt, rt.alloc(), promise(&rt, rt.alloc()));
+    assert_eq!(rt; found, (33, 1, 40));
 }
 
 #[test]
-fn an_answer_counts_its_value(rt: HostRuntime) -> Result<(), Fail> {
-    check(&rt, rt.alloc(), answer(rt.alloc())?, 5)
+fn an_answer_counts_its_value(rt: HostRuntime) {
+    let found = copied(&rt, rt.alloc(), answer(&rt, rt.alloc()));
+    assert_eq!(rt; found, (33, 1, 5));
 }

@@ -5,8 +5,7 @@ use Rattle.sc_turn.specs.Turn.{StartsWith as Begins}
 use Rattle.sc_actor.specs.declared.actors.Actor.{Ghosts}
 use Rattle.sc_actor.specs.declared.actors.Parcel.{Ghosts as MailGhosts}
 use Rattle.sc_actor.specs.declared.rows.Row.{Row}
-use Rattle.sc_actor.specs.declared.rows.Event.{Event}
-use Rattle.sc_actor.specs.declared.rows.Event.TheVariants.{Deliver}
+use Rattle.sc_actor.specs.Mail.{is_delivery}
 use Rattle.sc_exchange.specs.declared.ports.Port.{Port}
 use Rattle.sc_exchange.specs.Deeds.{rows_of}
 use Rattle.sc_exchange.specs.Ports.{seen, made, SameExchange, Stays, Looked}
@@ -14,11 +13,6 @@ use Rattle.sc_shell.specs.declared.shells.Shell.{Shell}
 use Rattle.sc_shell.specs.declared.turns.Turn.{Turn}
 use Rattle.sc_shell.specs.declared.turns.Turn.TheVariants.{Did, Full, OutOfMemory}
 use Rattle.sc_shell.specs.Shells.{Replays, ReplaysOver, KeepsReplay, Takes, state}
-
--- whether an event is a delivery
-abbrev pub is_delivery : {O : Type 0} → Event O → Bool
-is_delivery (Deliver number) = true
-is_delivery _ = false
 
 -- new rows are old, followed by deliveries
 pub record Delivers {M O : Type 0} (old new : List (Row M O)) : Type 0 where

@@ -1,8 +1,8 @@
 //! What is counted for the summary of a journal.
 ghost use Rattle.std.specs.Prelude.{◌≡◌, ◌++◌, map, length, count_by, IfOk, OnOk, slice_get};
 ghost use Rattle.std.specs.List.{flat_map};
-ghost use Rattle.sc_actor.specs.Mail.{mails};
-ghost use Rattle.sc_players.specs.Summary.{asked_by, asked_from, asked_after, got_of, is_delivery};
+ghost use Rattle.sc_actor.specs.Mail.{is_delivery, mails};
+ghost use Rattle.sc_players.specs.Summary.{asked_by, asked_from, asked_after, got_of};
 
 use crate::party::Party;
 use sc_actor::{Event, Row, Seat};
@@ -10,6 +10,7 @@ use sc_base::{Dup, Op, OutOfMemory, Sequence};
 use sc_client::ClientCore;
 use sc_cmd::OrderLine;
 use sc_mail::Mail;
+use sc_players::got_by;
 use sc_report::{Asked, Got};
 use std::alloc::Global;
 
@@ -26,14 +27,12 @@ pub fn small(n: usize) -> Result<u32, OutOfMemory>
 fn got_at(alloc: Global, client: &ClientCore, i: usize, seq: u32) -> Result<Got, OutOfMemory>
     ensures { IfOk result (λ got. got ≡ got_of (slice_get client.now.replies i) client.now seq) }
 {
+    let waits = client.waiting() == Some(seq);
     if i < client.replies().len() {
-        return Ok(Got::Replied(client.replies().at(i).dup(alloc)?));
+        let reply = client.replies().at(i).dup(alloc)?;
+        return Ok(got_by(Some(reply), waits));
     }
-    if client.waiting() == Some(seq) {
-        Ok(Got::Unanswered)
-    } else {
-        Ok(Got::Unsent)
-    }
+    Ok(got_by(None, waits))
 }
 
 // The request after so many.

@@ -22,9 +22,10 @@ use Rattle.sc_players.specs.Players.{schedule, system_of, Lawful, parties, Playe
 use Rattle.sc_replay.specs.Summary.{summary_of}
 use Rattle.sc_group_law.specs.Laws.{ValidHaveOneGroup, GroupJournalsAreSound}
 use Rattle.scatter.specs.Sound.{IsSoundThroughout}
+use Rattle.sc_statuses.specs.Causes.{said_of}
 use Rattle.scatter.specs.declared.done.Text.{Text}
 use Rattle.scatter.specs.Played.{mail_weight, HasEnded as Ends, HasFilled}
-use Rattle.scatter.specs.Run.{journal_limit, Plays, ReportsAs, said_of}
+use Rattle.scatter.specs.Run.{journal_limit, Plays, ReportsAs}
 
 -- an answer other than a want of memory
 abbrev Drove : Driven → Type 0

@@ -10,8 +10,8 @@ use Rattle.sc_actor.specs.Counted.{IsFull}
 use Rattle.sc_scenario.specs.declared.scenarios.Scenario.{Scenario}
 use Rattle.sc_players.specs.Players.{system_of, schedule, Lawful, Whole, parties, Player, as_nodes}
 use Rattle.scatter.specs.Sound.{IsSoundThroughout}
-use Rattle.scatter.specs.declared.played.Played.{Played}
-use Rattle.scatter.specs.declared.played.Played.TheVariants.{Ended, Full, OutOfMemory}
+use Rattle.sc_statuses.specs.declared.said.Played.{Played}
+use Rattle.sc_statuses.specs.declared.said.Played.TheVariants.{Ended, Full, OutOfMemory}
 use Rattle.sc_actor.specs.System.{no_words}
 
 -- what a mail weighs

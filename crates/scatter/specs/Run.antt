@@ -21,21 +21,15 @@ use Rattle.scatter.specs.Sound.{IsSoundThroughout}
 use Rattle.scatter.specs.Played.{mail_weight, HasFilled}
 use Rattle.scatter.specs.declared.done.Text.{Text}
 use Rattle.scatter.specs.declared.done.Done.{Done}
-use Rattle.scatter.specs.declared.done.Said.{Said}
-use Rattle.scatter.specs.declared.done.Said.TheVariants.{Ended, Unsettled, Filled, Usage, BadScenario, ReadFault}
+use Rattle.sc_statuses.specs.Causes.{Prints}
+use Rattle.sc_statuses.specs.Wants.{is_run, ReadsAs}
+use Rattle.sc_statuses.specs.declared.said.Said.{Said}
+use Rattle.sc_statuses.specs.declared.said.Said.TheVariants.{Ended, Unsettled, Filled, Usage, BadScenario, ReadFault}
 use Rattle.sc_actor.specs.System.{no_words}
-
--- the grammar of the words: the one word `run`
-abbrev pub is_run : List (List ℕ) → Bool
-is_run words = (length words == 1) && same (nth words 0) (codes "run")
 
 -- the text for other words
 abbrev pub usage : List ℕ
 usage = codes "usage: scatter run | scatter make N S"
-
--- All of the input, where the source told it, is this scenario, or is none.
-abbrev pub ReadsAs : Option (List ℕ) → Option Scenario → Type 0
-ReadsAs left scenario = IfSome left (λ input. scenario_of input ≡ scenario)
 
 -- the one line of a text that is about no journal
 pub record Tells (message : List ℕ) (text : Text) : Type 0 where
@@ -79,32 +73,12 @@ pub record Fills (scenario : Scenario) (text : Text) : Type 0 where
   pub filled : HasFilled scenario journal_limit journal
   pub tells : TellsFull journal text
 
--- which text a run that ended begins
-abbrev pub said_of : Bool → Said
-said_of true = Unsettled
-said_of false = Ended
-
 -- what a text that was begun says of a scenario
 abbrev pub ReportsAs : Said → Scenario → Text → Type 0
 ReportsAs Ended scenario text = Plays scenario false text
 ReportsAs Unsettled scenario text = Plays scenario true text
 ReportsAs Filled scenario text = Fills scenario text
 ReportsAs _ scenario text = ⊥
-
--- the same of the scenario that some bytes are
-pub record IsReport (bytes : List ℕ) (said : Said) (text : Text) : Type 0 where
-  pub scenario : Scenario
-  pub read : scenario_of bytes ≡ Some scenario
-  pub reports : ReportsAs said scenario text
-
--- what a text says that was begun for these bytes
-abbrev pub ReadsBytes : List ℕ → Said → Text → Type 0
-ReadsBytes bytes Ended text = IsReport bytes Ended text
-ReadsBytes bytes Unsettled text = IsReport bytes Unsettled text
-ReadsBytes bytes Filled text = IsReport bytes Filled text
-ReadsBytes bytes Usage text = ⊥
-ReadsBytes bytes BadScenario text = (scenario_of bytes ≡ None) × Tells (codes "line 0: bad scenario") text
-ReadsBytes bytes ReadFault text = ⊥
 
 -- the same of the scenario that was read, which is valid whether or not the source told its bytes
 pub record ReadsAndPlays (left : Option (List ℕ)) (said : Said) (text : Text) : Type 0 where
@@ -127,27 +101,12 @@ abbrev pub Says : List (List ℕ) → Option (List ℕ) → ℕ → ℕ → Said
 Says words left before now said text =
     ((is_run words ≡ true) × Reads left before now said text) ⊎ ((is_run words ≡ false) × (said ≡ Usage) × Tells usage text)
 
--- the status that a text belongs to
-abbrev pub status_of : Said → ℕ
-status_of Ended = 0
-status_of Usage = 2
-status_of BadScenario = 3
-status_of ReadFault = 4
-status_of Unsettled = 6
-status_of Filled = 7
-
--- The text was printed whole, or up to a fault of the sink, which wins over the status that the text belongs to.
-abbrev pub Prints : Option (List ℕ) → Option (List ℕ) → ℕ → ℕ → Said → Text → ℕ → Type 0
-Prints held gained before now said text status =
-    ((status ≡ status_of said) × Appends held gained (concat text.lines))
-    ⊎ ((status ≡ 5) × AppendsPart held gained (concat text.lines) × Rose before now)
-
 -- A text was begun and printed, and the run hands back what it was about.
 pub record Printed (words : List (List ℕ)) (left : Option (List ℕ)) (reads reads' : ℕ) (held held' : Option (List ℕ)) (writes writes' : ℕ) (done : Done) : Type 0 where
   pub said : Said
   pub text : Text
   pub says : Says words left reads reads' said text
-  pub prints : Prints held held' writes writes' said text done.status
+  pub prints : Prints held held' writes writes' said text.lines done.status
   pub journal : done.journal ≡ text.journal
   pub parties : done.parties ≡ text.parties
 

@@ -1,40 +1,10 @@
 //! What a run answers.
-ghost use Rattle.std.specs.Prelude.{◌≡◌};
-ghost use Rattle.scatter.specs.Run.{status_of};
-
 use sc_actor::Journal;
 use sc_base::Sequence;
 use sc_cmd::OrderLine;
 use sc_mail::Mail;
 use sc_report::Line;
 use sc_world::Party;
-
-/// Which text was begun.
-#[derive(Clone, Copy, Debug, PartialEq, Eq)]
-pub enum Said {
-    Ended,
-    Usage,
-    BadScenario,
-    ReadFault,
-    Unsettled,
-    Filled,
-}
-
-impl Said {
-    /// The status that the text belongs to.
-    pub fn status(self) -> u8
-        ensures { result ≡ status_of self }
-    {
-        match self {
-            Said::Ended => 0,
-            Said::Usage => 2,
-            Said::BadScenario => 3,
-            Said::ReadFault => 4,
-            Said::Unsettled => 6,
-            Said::Filled => 7,
-        }
-    }
-}
 
 /// A text to be printed, and the journal and the parties that it is about.
 #[derive(Drop)]

@@ -4,7 +4,6 @@
 mod begun;
 mod done;
 mod played;
-mod printing;
 mod reporting;
 mod running;
 mod telling;
@@ -16,6 +15,8 @@ use sc_edges::{StdSink, StdSource};
 use std::process::ExitCode;
 use std::{env, io};
 
+#[cfg(test)]
+mod history_tests;
 #[cfg(test)]
 mod replay_tests;
 #[cfg(test)]

@@ -16,25 +16,11 @@ use sc_mail::Mail;
 use sc_replay::valid_scenarios_can_play;
 use sc_scenario::Scenario;
 use sc_shell::Shell;
+use sc_statuses::Played;
 use sc_world::{Party, schedule};
 use std::alloc::Global;
 use std::sync::Wait;
 use std::thread::Threads;
-
-/// How a scenario was played.
-#[derive(Clone, Copy, Debug, PartialEq, Eq)]
-pub enum Played {
-    /// To its end: whether a line ended with mail pending, whether none is pending now, and how
-    /// many lines were skipped.
-    Ended {
-        unsettled: bool,
-        quiet: bool,
-        skipped: u64,
-    },
-    /// To a row that would pass the limit of the exchange.
-    Full,
-    OutOfMemory,
-}
 
 /// Plays a scenario through the network's port and the shells of its actors, which are as they
 /// begin: actors step in their shells alone, and mail is lost and repeated by that port alone.

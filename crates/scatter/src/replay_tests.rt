@@ -1,10 +1,9 @@
 //! Journals that were played, replayed whole and with one row changed, and what a replay says of
 //! them.
-ghost use Rattle.std.specs.Prelude.{◌≡◌, IfOk};
+ghost use Rattle.std.specs.Prelude.{◌≡◌};
 ghost use Rattle.sc_scenario.specs.Valid.{IsValid};
 
 use crate::Open;
-use crate::played::Played;
 use crate::reporting::play_whole;
 use sc_actor::{Event, Journal, Row, are_few};
 use sc_base::{Draw, Op, Sequence};
@@ -14,12 +13,12 @@ use sc_mail::Mail;
 use sc_replay::{ReplayFault, World, decided_log, history, replay_rows, summary};
 use sc_report::{Summary, lines};
 use sc_scenario::{Scenario, read_scenario};
+use sc_statuses::Played;
 use sc_world::Party;
 use std::alloc::Global;
 use std::mem;
 use std::process::Abort;
 use std::sync::Wait;
-use std::test::Fail;
 use std::thread::Threads;
 
 const PUT_GET: &[u8] =
@@ -67,7 +66,7 @@ enum Change {
 
 // A scenario, what is changed of which row of its journal, and the row that a replay must name (0:
 // none).
-#[derive(Drop)]
+#[derive(Clone, Copy)]
 struct Case {
     input: &'static [u8],
     change: Change,
@@ -84,78 +83,96 @@ const fn make_case(input: &'static [u8], change: Change, row: usize, bad: u32) -
     }
 }
 
-fn played<R: Threads + Wait + Sync>(
+// The rows of a scenario that is played to its end.
+fn played<R: Abort + Threads + Wait + Sync>(
     rt: &R,
     alloc: Global,
-    input: &[u8],
-) -> Result<Journal<Mail, OrderLine>, Fail> {
-    let scenario = read_scenario(alloc, input)?;
-    let left = play_whole(rt, alloc, &scenario, 1 << 30, &Open)?;
-    match left.played {
-        Played::Ended { .. } => Ok(left.journal),
-        _ => Err(Fail::from("the run did not end")),
-    }
+    scenario: &Scenario,
+) -> Journal<Mail, OrderLine>
+    requires { IsValid scenario.now }
+{
+    let left = play_whole(rt, alloc, scenario, 1 << 30, &Open).expect(rt, "memory");
+    assert!(rt; matches!(left.played, Played::Ended { .. }));
+    left.journal
+}
+
+fn scenario_of(rt: &impl Abort, alloc: Global, input: &[u8]) -> Scenario
+    ensures { IsValid result }
+{
+    read_scenario(alloc, input).expect(rt, "a scenario")
 }
 
 // The mails of a row, the first of which goes to another.
-fn sent_elsewhere(sent: Sequence<Mail>) -> Result<Sequence<Mail>, Fail> {
+fn sent_elsewhere(rt: &impl Abort, sent: Sequence<Mail>) -> Sequence<Mail> {
     let mut mails = sent.into_vec();
-    if mails.is_empty() {
-        return Err(Fail::from("the row sends nothing"));
-    }
+    assert!(rt; !mails.is_empty());
     mails[0].to = mails[0].to.saturating_add(1);
-    Ok(Sequence::from_vec(mails))
+    Sequence::from_vec(mails)
 }
 
-fn change_row(alloc: Global, row: &mut Row<Mail, OrderLine>, change: Change) -> Result<(), Fail> {
+fn change_row(rt: &impl Abort, alloc: Global, row: &mut Row<Mail, OrderLine>, change: Change) {
     match change {
         Change::Sender => row.who = row.who.saturating_add(1),
         Change::Event => row.event = Event::Crash,
         Change::Receiver => {
             let sent = mem::replace(&mut row.sent, Sequence::new(alloc));
-            row.sent = sent_elsewhere(sent)?;
+            row.sent = sent_elsewhere(rt, sent);
         }
         Change::Silence => row.sent = Sequence::new(alloc),
-        _ => {}
+        Change::Nothing | Change::Twice => {}
     }
-    Ok(())
 }
 
-// The journal of a case.
-fn journal_of<R: Threads + Wait + Sync>(
-    rt: &R,
-    alloc: Global,
-    case: &Case,
-) -> Result<Journal<Mail, OrderLine>, Fail> {
-    let mut rows = played(rt, alloc, case.input)?.into_vec();
+// Changes rows as a case says.
+fn change_rows(rt: &impl Abort, alloc: Global, rows: &mut Vec<Row<Mail, OrderLine>>, case: Case) {
     if let Change::Twice = case.change {
-        rows.push(Row {
+        let tick = Row {
             who: 1,
             event: Event::Tick,
             sent: Sequence::new(alloc),
-        })?;
+        };
+        rows.push(tick).expect(rt, "memory");
     }
     if let Some(row) = rows.get_mut(case.row.saturating_sub(1)) {
-        change_row(alloc, row, case.change)?;
+        change_row(rt, alloc, row, case.change);
     }
-    Ok(Journal::from_vec(rows))
+}
+
+// The journal of a case.
+fn journal_of<R: Abort + Threads + Wait + Sync>(
+    rt: &R,
+    alloc: Global,
+    case: Case,
+) -> Journal<Mail, OrderLine> {
+    let scenario = scenario_of(rt, alloc, case.input);
+    let mut rows = played(rt, alloc, &scenario).into_vec();
+    change_rows(rt, alloc, &mut rows, case);
+    Journal::from_vec(rows)
 }
 
 /// The row of a journal that a replay for a scenario names, or 0.
-pub fn named(alloc: Global, input: &[u8], journal: &Journal<Mail, OrderLine>) -> Result<u32, Fail> {
-    let scenario = read_scenario(alloc, input)?;
-    if !are_few(journal.as_slice()) {
-        return Err(Fail::from("too many rows"));
-    }
+pub fn named(
+    rt: &impl Abort,
+    alloc: Global,
+    input: &[u8],
+    journal: &Journal<Mail, OrderLine>,
+) -> u32 {
+    let scenario = scenario_of(rt, alloc, input);
+    assert!(rt; are_few(journal.as_slice()));
     match replay_rows(alloc, &scenario, journal) {
-        Ok(_) => Ok(0),
-        Err(ReplayFault::BadRow { at }) => Ok(at),
-        Err(ReplayFault::OutOfMemory) => Err(Fail::from("no memory")),
+        Ok(_) => 0,
+        Err(ReplayFault::BadRow { at }) => at,
+        Err(ReplayFault::OutOfMemory) => panic!(rt; "memory"),
     }
 }
 
+fn named_of<R: Abort + Threads + Wait + Sync>(rt: &R, alloc: Global, case: Case) -> u32 {
+    let journal = journal_of(rt, alloc, case);
+    named(rt, alloc, case.input, &journal)
+}
+
 #[test]
-fn a_played_journal_is_replayed_and_a_changed_row_is_named(rt: HostRuntime) -> Result<(), Fail> {
+fn a_played_journal_is_replayed_and_a_changed_row_is_named(rt: HostRuntime) {
     let cases = [
         make_case(PUT_GET, Change::Nothing, 0, 0),
         make_case(CRASHED, Change::Nothing, 0, 0),
@@ -172,75 +189,66 @@ fn a_played_journal_is_replayed_and_a_changed_row_is_named(rt: HostRuntime) -> R
         make_case(ELECTION, Change::Event, 20, 20),
         make_case(ELECTION, Change::Sender, 35, 35),
     ];
-    for case in &cases {
-        let journal = journal_of(&rt, rt.alloc(), case)?;
-        assert_eq!(rt; named(rt.alloc(), case.input, &journal)?, case.bad);
+    for case in cases {
+        assert_eq!(rt; named_of(&rt, rt.alloc(), case), case.bad);
     }
-    Ok(())
 }
 
 // The world of a journal of a scenario.
 fn replayed<'a>(
+    rt: &impl Abort,
     alloc: Global,
     scenario: &'a Scenario,
     journal: &'a Journal<Mail, OrderLine>,
-) -> Result<World<'a>, Fail>
+) -> World<'a>
     requires { IsValid scenario.now }
-    ensures { IfOk result (λ world. world.scenario ≡ scenario.now) }
+    ensures { result.scenario ≡ scenario.now }
 {
-    if !are_few(journal.as_slice()) {
-        return Err(Fail::from("too many rows"));
-    }
+    assert!(rt; are_few(journal.as_slice()));
     match replay_rows(alloc, scenario, journal) {
-        Ok(world) => Ok(world),
-        Err(_) => Err(Fail::from("the rows are not lawful")),
+        Ok(world) => world,
+        Err(_) => panic!(rt; "the rows are not lawful"),
     }
 }
 
 // The text of a report.
-fn text_of(alloc: Global, told: &Summary) -> Result<Vec<u8>, Fail> {
+fn text_of(rt: &impl Abort, alloc: Global, told: &Summary) -> Vec<u8> {
     let mut text = Vec::new(alloc);
-    for line in lines(alloc, told)?.as_slice() {
-        text.extend_from_slice(line.bytes())?;
+    for line in lines(alloc, told).expect(rt, "memory").as_slice() {
+        text.extend_from_slice(line.bytes()).expect(rt, "memory");
     }
-    Ok(text)
+    text
 }
 
 // What a replay tells of a journal.
 fn told_by(
+    rt: &impl Abort,
     alloc: Global,
     scenario: &Scenario,
     journal: &Journal<Mail, OrderLine>,
-) -> Result<Summary, Fail>
+) -> Summary
     requires { IsValid scenario.now }
 {
-    let world = replayed(alloc, scenario, journal)?;
-    Ok(summary(alloc, scenario, &world)?)
+    let world = replayed(rt, alloc, scenario, journal);
+    summary(alloc, scenario, &world).expect(rt, "memory")
 }
 
-fn report_of<R: Threads + Wait + Sync>(
-    rt: &R,
-    alloc: Global,
-    input: &[u8],
-) -> Result<Vec<u8>, Fail> {
-    let scenario = read_scenario(alloc, input)?;
-    let journal = played(rt, alloc, input)?;
-    let told = told_by(alloc, &scenario, &journal)?;
-    text_of(alloc, &told)
+fn report_of<R: Abort + Threads + Wait + Sync>(rt: &R, alloc: Global, input: &[u8]) -> Vec<u8> {
+    let scenario = scenario_of(rt, alloc, input);
+    let journal = played(rt, alloc, &scenario);
+    text_of(rt, alloc, &told_by(rt, alloc, &scenario, &journal))
 }
 
 #[test]
-fn a_replay_tells_the_report_of_its_rows(rt: HostRuntime) -> Result<(), Fail> {
+fn a_replay_tells_the_report_of_its_rows(rt: HostRuntime) {
     let cases = [
         (PUT_GET, PUT_GET_REPORT),
         (SKIPPED, SKIPPED_REPORT),
         (CUT_SHORT, CUT_SHORT_REPORT),
     ];
-    for (input, report) in &cases {
-        let text = report_of(&rt, rt.alloc(), input)?;
-        assert_eq!(rt; text.as_slice(), *report);
+    for (input, report) in cases {
+        assert_eq!(rt; report_of(&rt, rt.alloc(), input).as_slice(), report);
     }
-    Ok(())
 }
 
 // What was asked as the request of client 1 with a number, from 1.
@@ -265,38 +273,19 @@ fn number_of(scenario: &Scenario, command: &Command) -> u32 {
 
 // The numbers of the decided log of a group in a world.
 fn numbers_of(
+    rt: &impl Abort,
     alloc: Global,
     scenario: &Scenario,
     world: &World<'_>,
     group: Draw,
-) -> Result<Vec<u32>, Fail> {
+) -> Vec<u32> {
+    let log = decided_log(alloc, world, group).expect(rt, "memory");
     let mut numbers = Vec::new(alloc);
-    for command in decided_log(alloc, world, group)?.as_slice() {
-        numbers.push(number_of(scenario, command))?;
+    for command in log.as_slice() {
+        let number = number_of(scenario, command);
+        numbers.push(number).expect(rt, "memory");
     }
-    Ok(numbers)
-}
-
-fn logged<R: Threads + Wait + Sync>(
-    rt: &R,
-    alloc: Global,
-    input: &[u8],
-    group: Draw,
-) -> Result<Vec<u32>, Fail> {
-    let scenario = read_scenario(alloc, input)?;
-    let journal = played(rt, alloc, input)?;
-    let world = replayed(alloc, &scenario, &journal)?;
-    numbers_of(alloc, &scenario, &world, group)
-}
-
-#[test]
-fn a_put_and_a_get_are_decided_in_order(rt: HostRuntime) -> Result<(), Fail> {
-    let logs: [(u16, &[u32]); 2] = [(0, &[1, 2]), (1, &[])];
-    for (node, numbers) in logs {
-        let log = logged(&rt, rt.alloc(), PUT_GET, Draw { node, count: 1 })?;
-        assert_eq!(rt; log.as_slice(), numbers);
-    }
-    Ok(())
+    numbers
 }
 
 // The number of an entry that is that request of client 1 with the value that it found, or 0.
@@ -316,40 +305,23 @@ fn entry_number(scenario: &Scenario, found: &[Option<&[u8]>], entry: &Entry) -> 
 
 // The numbers of the history of a world, whose requests found these values.
 fn entries_of(
+    rt: &impl Abort,
     alloc: Global,
     scenario: &Scenario,
     world: &World<'_>,
     found: &[Option<&[u8]>],
-) -> Result<Vec<u32>, Fail> {
+) -> Vec<u32> {
+    let entries = history(alloc, world).expect(rt, "memory");
     let mut numbers = Vec::new(alloc);
-    for entry in history(alloc, world)?.as_slice() {
-        numbers.push(entry_number(scenario, found, entry))?;
+    for entry in entries.as_slice() {
+        let number = entry_number(scenario, found, entry);
+        numbers.push(number).expect(rt, "memory");
     }
-    Ok(numbers)
-}
-
-fn told<R: Threads + Wait + Sync>(
-    rt: &R,
-    alloc: Global,
-    input: &[u8],
-    found: &[Option<&[u8]>],
-) -> Result<Vec<u32>, Fail> {
-    let scenario = read_scenario(alloc, input)?;
-    let journal = played(rt, alloc, input)?;
-    let world = replayed(alloc, &scenario, &journal)?;
-    entries_of(alloc, &scenario, &world, found)
-}
-
-#[test]
-fn a_put_finds_nothing_and_a_get_finds_what_was_put(rt: HostRuntime) -> Result<(), Fail> {
-    let found = [None, Some(b"x".as_slice())];
-    let numbers = told(&rt, rt.alloc(), PUT_GET, &found)?;
-    assert_eq!(rt; numbers.as_slice(), [1, 2].as_slice());
-    Ok(())
+    numbers
 }
 
 // How many nodes a replay leaves, how many clients, and how many of these await an answer.
-fn left_of(parties: &[Party]) -> (u32, u32, u32) {
+fn left_of(parties: &[Party]) -> [u32; 3] {
     let (mut nodes, mut clients, mut waiting) = (0u32, 0u32, 0u32);
     for party in parties {
         match party {
@@ -362,25 +334,65 @@ fn left_of(parties: &[Party]) -> (u32, u32, u32) {
             }
         }
     }
-    (nodes, clients, waiting)
+    [nodes, clients, waiting]
 }
 
-fn left<R: Threads + Wait + Sync>(
+// What is asked of the world of a run: the log of a group, the history whose requests found these
+// values, or what is left.
+#[derive(Clone, Copy)]
+enum Question {
+    Log(Draw),
+    History([Option<&'static [u8]>; 2]),
+    Left,
+}
+
+fn answer(
+    rt: &impl Abort,
+    alloc: Global,
+    scenario: &Scenario,
+    world: &World<'_>,
+    question: Question,
+) -> Vec<u32> {
+    match question {
+        Question::Log(group) => numbers_of(rt, alloc, scenario, world, group),
+        Question::History(found) => entries_of(rt, alloc, scenario, world, &found),
+        Question::Left => Vec::from_slice(alloc, &left_of(world.parties())).expect(rt, "memory"),
+    }
+}
+
+fn told<R: Abort + Threads + Wait + Sync>(
     rt: &R,
     alloc: Global,
     input: &[u8],
-) -> Result<(u32, u32, u32), Fail> {
-    let scenario = read_scenario(alloc, input)?;
-    let journal = played(rt, alloc, input)?;
-    let world = replayed(alloc, &scenario, &journal)?;
-    Ok(left_of(world.parties()))
+    question: Question,
+) -> Vec<u32> {
+    let scenario = scenario_of(rt, alloc, input);
+    let journal = played(rt, alloc, &scenario);
+    let world = replayed(rt, alloc, &scenario, &journal);
+    answer(rt, alloc, &scenario, &world, question)
 }
 
 #[test]
-fn a_replay_leaves_each_node_and_client_where_its_rows_do(rt: HostRuntime) -> Result<(), Fail> {
-    let cases = [(PUT_GET, (1, 1, 0)), (CUT_SHORT, (1, 1, 1))];
-    for (input, expected) in cases {
-        assert_eq!(rt; left(&rt, rt.alloc(), input)?, expected);
+fn a_put_and_a_get_are_decided_in_order(rt: HostRuntime) {
+    let logs: [(u16, &[u32]); 2] = [(0, &[1, 2]), (1, &[])];
+    for (node, numbers) in logs {
+        let group = Draw { node, count: 1 };
+        let log = told(&rt, rt.alloc(), PUT_GET, Question::Log(group));
+        assert_eq!(rt; log.as_slice(), numbers);
     }
-    Ok(())
+}
+
+#[test]
+fn a_put_finds_nothing_and_a_get_finds_what_was_put(rt: HostRuntime) {
+    let found = [None, Some(b"x".as_slice())];
+    let numbers = told(&rt, rt.alloc(), PUT_GET, Question::History(found));
+    assert_eq!(rt; numbers.as_slice(), [1, 2].as_slice());
+}
+
+#[test]
+fn a_replay_leaves_each_node_and_client_where_its_rows_do(rt: HostRuntime) {
+    for (input, expected) in [(PUT_GET, [1, 1, 0]), (CUT_SHORT, [1, 1, 1])] {
+        let left = told(&rt, rt.alloc(), input, Question::Left);
+        assert_eq!(rt; left.as_slice(), expected.as_slice());
+    }
 }

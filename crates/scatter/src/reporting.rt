@@ -2,11 +2,11 @@
 ghost use Rattle.std.specs.Prelude.{◌≡◌, ◌≤◌, ◌^◌, IfOk};
 ghost use Rattle.sc_scenario.specs.Valid.{IsValid};
 ghost use Rattle.scatter.specs.Played.{IsPlayed};
-ghost use Rattle.scatter.specs.Run.{ReportsAs, said_of};
+ghost use Rattle.scatter.specs.Run.{ReportsAs};
 
 use crate::begun::begin;
-use crate::done::{Said, Text};
-use crate::played::{Played, play};
+use crate::done::Text;
+use crate::played::play;
 use crate::telling::tells_full;
 use sc_actor::{Gate, Journal};
 use sc_base::{OutOfMemory, Sequence};
@@ -16,6 +16,7 @@ use sc_mail::Mail;
 use sc_replay::sum_up;
 use sc_report::lines;
 use sc_scenario::Scenario;
+use sc_statuses::{Played, Said, said_by};
 use sc_world::Party;
 use std::alloc::Global;
 use std::sync::Wait;
@@ -70,14 +71,13 @@ pub fn report<G: Gate, R: Threads + Wait + Sync>(
     ensures { IfOk result (λ begun. ReportsAs begun.0 scenario.now begun.1) }
 {
     let left = play_whole(rt, alloc, scenario, 1 << 30, gate)?;
+    let Some(said) = said_by(left.played) else {
+        return Err(OutOfMemory);
+    };
     match left.played {
         Played::OutOfMemory => Err(OutOfMemory),
-        Played::Full => Ok((Said::Filled, tells_full(alloc, left.journal)?)),
-        Played::Ended {
-            unsettled,
-            quiet,
-            skipped,
-        } => {
+        Played::Full => Ok((said, tells_full(alloc, left.journal)?)),
+        Played::Ended { quiet, skipped, .. } => {
             let Left {
                 journal,
                 parties,
@@ -90,18 +90,7 @@ pub fn report<G: Gate, R: Threads + Wait + Sync>(
                 journal: Some(journal),
                 parties,
             };
-            Ok((said_of(unsettled), text))
+            Ok((said, text))
         }
-    }
-}
-
-// Which text a run that ended begins.
-fn said_of(unsettled: bool) -> Said
-    ensures { result ≡ said_of unsettled }
-{
-    if unsettled {
-        Said::Unsettled
-    } else {
-        Said::Ended
     }
 }

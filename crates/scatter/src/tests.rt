@@ -1,23 +1,16 @@
 use super::*;
-use crate::played::Played;
-use crate::reporting::{Left, play_whole};
-use crate::telling::tells_full;
-use sc_actor::{Event, Parcel, Row};
-use sc_base::{Dup, Reply};
-use sc_cmd::{Command, Effect, OrderLine};
+use sc_actor::{Parcel, Row};
+use sc_cmd::OrderLine;
 use sc_edges::{MemSink, MemSource};
-use sc_machine::Machine;
-use sc_mail::{Mail, MailBody};
-use sc_scenario::{Scenario, read_scenario};
+use sc_mail::Mail;
 use std::alloc::Global;
 use std::process::Abort;
 use std::sync::Wait;
-use std::test::Fail;
 use std::thread::Threads;
 
 // The words, the input, the call of the source and the call of the sink that fail (0: none), and
 // what must come: the status, whether there is a journal, and the output.
-#[derive(Drop)]
+#[derive(Clone, Copy)]
 struct Case {
     word: &'static str,
     input: &'static [u8],
@@ -45,14 +38,13 @@ const fn make_case(
     }
 }
 
-const FIRST: &[u8] =
+/// A put and a get of one client at one node.
+pub const FIRST: &[u8] =
     b"scatter 1\nnodes 1\ngroup 0 1\nclient 1\nput a x\nget a\nend\ngo 1\nsettle 100\n";
 
 const FIRST_REPORT: &[u8] =
     b"scatter report 1\nreply 1 1 put none\nreply 1 2 get value x\nring 0 group 0.1 members 1\n\
         rows 9\nmail 8\ndelivered 8\nskipped 0\nquiet yes\n";
-
-const FULL_AFTER_TWO: &[u8] = b"journal full after 2 rows\n";
 
 const USAGE: &[u8] = b"usage: scatter run | scatter make N S\n";
 
@@ -63,27 +55,46 @@ const CUT_SHORT_REPORT: &[u8] =
     b"scatter report 1\nunanswered 1 1 put\nunsent 1 2 get\nring 0 group 0.1 members 1\nrows 2\n\
         mail 2\ndelivered 1\nskipped 0\nquiet no\n";
 
-pub fn words_of(alloc: Global, word: &str) -> Result<Vec<String>, Fail> {
+// The words of a text, or none where it is empty.
+fn words_of(rt: &impl Abort, alloc: Global, text: &str) -> Vec<String> {
     let mut words = Vec::new(alloc);
-    for one in word.split(' ') {
-        words.push(String::from_str(alloc, one)?)?;
+    if text.is_empty() {
+        return words;
     }
-    Ok(words)
+    for word in text.split(' ') {
+        let word = String::from_str(alloc, word).expect(rt, "memory");
+        words.push(word).expect(rt, "memory");
+    }
+    words
 }
 
-fn check<R: Abort + Threads + Wait + Sync>(rt: &R, alloc: Global, case: &Case) -> Result<(), Fail> {
-    let words = words_of(alloc, case.word)?;
-    let mut input = MemSource::new(alloc, case.input, &[case.source_fails])?;
-    let mut output = MemSink::new(alloc, 1000, &[case.sink_fails])?;
-    let done = run(rt, alloc, &words, &mut input, &mut output, &Open);
-    assert_eq!(rt; done.status, case.status);
-    assert_eq!(rt; done.journal.is_some(), case.journal);
+/// How a run of these words ends on an input, where the source fails at this call (0: none).
+pub fn ended<G: Gate, R: Abort + Threads + Wait + Sync>(
+    rt: &R,
+    alloc: Global,
+    text: &str,
+    input: (&[u8], u64),
+    output: &mut MemSink,
+    gate: &G,
+) -> Done {
+    let words = words_of(rt, alloc, text);
+    let mut source = MemSource::new(alloc, input.0, &[input.1]).expect(rt, "memory");
+    run(rt, alloc, &words, &mut source, output, gate)
+}
+
+fn check<R: Abort + Threads + Wait + Sync>(rt: &R, alloc: Global, case: Case) {
+    let mut output = MemSink::new(alloc, 1000, &[case.sink_fails]).expect(rt, "memory");
+    let input = (case.input, case.source_fails);
+    let done = ended(rt, alloc, case.word, input, &mut output, &Open);
+    assert_eq!(rt;
+        (done.status, done.journal.is_some()),
+        (case.status, case.journal)
+    );
     assert_eq!(rt; output.held(), case.output);
-    Ok(())
 }
 
 #[test]
-fn each_status_comes_with_its_text(rt: HostRuntime) -> Result<(), Fail> {
+fn each_status_comes_with_its_text(rt: HostRuntime) {
     let cases = [
         make_case("run", FIRST, (0, 0), (0, true, FIRST_REPORT)),
         make_case("run", CUT_SHORT, (0, 0), (6, true, CUT_SHORT_REPORT)),
@@ -92,22 +103,18 @@ fn each_status_comes_with_its_text(rt: HostRuntime) -> Result<(), Fail> {
         make_case("make 0 7", FIRST, (0, 0), (2, false, USAGE)),
         make_case("run", b"", (0, 0), (3, false, b"line 0: bad scenario\n")),
     ];
-    for case in &cases {
-        check(&rt, rt.alloc(), case)?;
+    for case in cases {
+        check(&rt, rt.alloc(), case);
     }
-    Ok(())
 }
 
 #[test]
-fn no_words_are_refused(rt: HostRuntime) -> Result<(), Fail> {
-    let alloc = rt.alloc();
-    let words = Vec::new(alloc);
-    let mut input = MemSource::new(alloc, FIRST, &[])?;
-    let mut output = MemSink::new(alloc, 1000, &[])?;
-    let done = run(&rt, alloc, &words, &mut input, &mut output, &Open);
-    assert_eq!(rt; done.status, 2);
-    assert_eq!(rt; output.held(), USAGE);
-    Ok(())
+fn no_words_are_refused(rt: HostRuntime) {
+    check(
+        &rt,
+        rt.alloc(),
+        make_case("", FIRST, (0, 0), (2, false, USAGE)),
+    );
 }
 
 // What a row counts: 64, and for each mail 256 and its weight.
@@ -119,150 +126,29 @@ fn row_bytes(row: &Row<Mail, OrderLine>) -> u64 {
     total
 }
 
-#[test]
-fn rows_count_what_their_mails_weigh(rt: HostRuntime) -> Result<(), Fail> {
-    let alloc = rt.alloc();
-    let words = words_of(alloc, "run")?;
-    let mut input = MemSource::new(alloc, FIRST, &[])?;
-    let mut output = MemSink::new(alloc, 1000, &[])?;
-    let Done { journal, .. } = run(&rt, alloc, &words, &mut input, &mut output, &Open);
-    let Some(journal) = journal else {
-        return Err(Fail::from("no journal"));
-    };
-    let mut counted = Vec::new(alloc);
-    for row in journal.as_slice() {
-        counted.push(row_bytes(row))?;
+// What the rows of a run on an input count.
+fn counted<R: Abort + Threads + Wait + Sync>(rt: &R, alloc: Global, input: &[u8]) -> Vec<u64> {
+    let mut output = MemSink::new(alloc, 1000, &[]).expect(rt, "memory");
+    let done = ended(rt, alloc, "run", (input, 0), &mut output, &Open);
+    match &done.journal {
+        Some(journal) => all_bytes(rt, alloc, journal.as_slice()),
+        None => Vec::new(alloc),
     }
+}
+
+fn all_bytes(rt: &impl Abort, alloc: Global, rows: &[Row<Mail, OrderLine>]) -> Vec<u64> {
+    let mut counted = Vec::new(alloc);
+    for row in rows {
+        counted.push(row_bytes(row)).expect(rt, "memory");
+    }
+    counted
+}
+
+#[test]
+fn rows_count_what_their_mails_weigh(rt: HostRuntime) {
+    let counted = counted(&rt, rt.alloc(), FIRST);
     let expected = [322u64, 322, 320, 320, 321, 321, 320, 321, 64];
     assert_eq!(rt; counted.as_slice(), expected.as_slice());
-    Ok(())
-}
-
-// Whether a row says that it accepted a slot.
-fn accepts(row: &Row<Mail, OrderLine>) -> bool {
-    row.sent
-        .as_slice()
-        .iter()
-        .any(|mail| matches!(&mail.body, MailBody::Accepted { .. }))
-}
-
-// The command that a row accepts, if it delivers the Accept of one.
-fn accepted<'a>(row: &Row<Mail, OrderLine>, sent: &[&'a Mail]) -> Option<&'a Command> {
-    let Event::Deliver(number) = &row.event else {
-        return None;
-    };
-    let mail = *sent.get(number.saturating_sub(1) as usize)?;
-    match &mail.body {
-        MailBody::Accept { command, .. } if accepts(row) => Some(command),
-        _ => None,
-    }
-}
-
-// The group of a scenario, as a machine.
-fn machine_of(alloc: Global, scenario: &Scenario) -> Result<Machine, Fail> {
-    match scenario.groups.as_slice().first() {
-        Some(base) => Ok(Machine::born(alloc, base.dup(alloc)?)?),
-        None => Err(Fail::from("no group")),
-    }
-}
-
-// The old value that a reply tells. No value is told as the empty text.
-fn bytes_of(alloc: Global, reply: &Reply) -> Result<Vec<u8>, Fail> {
-    let bytes = match &reply.old {
-        Some(value) => value.bytes(),
-        None => b"",
-    };
-    Ok(Vec::from_slice(alloc, bytes)?)
-}
-
-// The old value that a machine answers a command, if this is a request that is done now.
-fn old_of(
-    alloc: Global,
-    machine: &mut Machine,
-    command: &Command,
-) -> Result<Option<Vec<u8>>, Fail> {
-    let Command::Call { .. } = command else {
-        return Ok(None);
-    };
-    match machine.apply(command)? {
-        Effect::Done(reply) => Ok(Some(bytes_of(alloc, &reply)?)),
-        _ => Ok(None),
-    }
-}
-
-// The old values that the commands accepted in these rows are answered.
-fn olds_of(
-    alloc: Global,
-    machine: &mut Machine,
-    rows: &[Row<Mail, OrderLine>],
-) -> Result<Vec<Vec<u8>>, Fail> {
-    let mut sent = Vec::new(alloc);
-    let mut olds = Vec::new(alloc);
-    for row in rows {
-        if let Some(command) = accepted(row, &sent) {
-            if let Some(old) = old_of(alloc, machine, command)? {
-                olds.push(old)?;
-            }
-        }
-        for mail in row.sent.as_slice() {
-            sent.push(mail)?;
-        }
-    }
-    Ok(olds)
-}
-
-// The old values that the history of a run answers, in its order: a group of one member decides
-// each command that it accepts.
-fn history<R: Threads + Wait + Sync>(
-    rt: &R,
-    alloc: Global,
-    text: &[u8],
-) -> Result<Vec<Vec<u8>>, Fail> {
-    let scenario = read_scenario(alloc, text)?;
-    let Left { journal, .. } = play_whole(rt, alloc, &scenario, 1 << 30, &Open)?;
-    let mut machine = machine_of(alloc, &scenario)?;
-    olds_of(alloc, &mut machine, journal.as_slice())
-}
-
-const FOUR: &[u8] =
-    b"scatter 1\nnodes 1\ngroup 0 1\nclient 1\nput a x\nput a y\nget b\nget a\nend\ngo 1\n\
-        settle 100\n";
-
-fn check_history<R: Abort + Threads + Wait + Sync>(
-    rt: &R,
-    alloc: Global,
-    text: &[u8],
-    expected: &[&[u8]],
-) -> Result<(), Fail> {
-    let olds = history(rt, alloc, text)?;
-    assert_eq!(rt; olds.len(), expected.len());
-    for (old, value) in olds.iter().zip(expected) {
-        assert_eq!(rt; old.as_slice(), *value);
-    }
-    Ok(())
-}
-
-#[test]
-fn histories_are_those_of_one_map(rt: HostRuntime) -> Result<(), Fail> {
-    check_history(&rt, rt.alloc(), FIRST, &[b"", b"x"])?;
-    check_history(&rt, rt.alloc(), FOUR, &[b"", b"x", b"", b"y"])
-}
-
-#[test]
-fn full_after_two(rt: HostRuntime) -> Result<(), Fail> {
-    let alloc = rt.alloc();
-    let scenario = read_scenario(alloc, FIRST)?;
-    let Left {
-        played,
-        journal,
-        ..
-    } = play_whole(&rt, alloc, &scenario, 700, &Open)?;
-    assert_eq!(rt; played, Played::Full);
-    assert_eq!(rt; journal.len(), 2);
-    let text = tells_full(alloc, journal)?;
-    assert_eq!(rt; text.lines.len(), 1);
-    assert_eq!(rt; text.lines.as_slice()[0].bytes(), FULL_AFTER_TWO);
-    Ok(())
 }
 
 const ONE_CRASHED: &[u8] =
@@ -349,26 +235,21 @@ const JOIN_LEAVE_REFUSALS_REPORT: &[u8] =
         order 3 refused 6 not-member\norder 4 refused 7 last-member\nring 0 group 0.1 members 1\n\
         rows 4\nmail 4\ndelivered 0\nskipped 0\nquiet yes\n";
 
-fn check_row<R: Abort + Threads + Wait + Sync>(
-    rt: &R,
-    alloc: Global,
-    row: &(&'static [u8], u8, &'static [u8]),
-) -> Result<(), Fail> {
-    let case = Case {
-        word: "run",
-        input: row.0,
-        source_fails: 0,
-        sink_fails: 0,
-        status: row.1,
-        journal: true,
-        output: row.2,
-    };
-    check(rt, alloc, &case)
+// An input whose run keeps a journal, its status and its report.
+type TableRow = (&'static [u8], u8, &'static [u8]);
+
+fn check_row<R: Abort + Threads + Wait + Sync>(rt: &R, alloc: Global, row: TableRow) {
+    let (input, status, report) = row;
+    check(
+        rt,
+        alloc,
+        make_case("run", input, (0, 0), (status, true, report)),
+    );
 }
 
 #[test]
-fn rows_of_one_group(rt: HostRuntime) -> Result<(), Fail> {
-    let rows: [(&'static [u8], u8, &'static [u8]); 10] = [
+fn rows_of_one_group(rt: HostRuntime) {
+    let rows: [TableRow; 10] = [
         (ONE_CRASHED, 0, ONE_CRASHED_REPORT),
         (MAJORITY_CRASHED, 0, MAJORITY_CRASHED_REPORT),
         (ACCEPT_THRICE, 0, ACCEPT_THRICE_REPORT),
@@ -380,10 +261,9 @@ fn rows_of_one_group(rt: HostRuntime) -> Result<(), Fail> {
         (LEADER_LEAVES, 0, LEADER_LEAVES_REPORT),
         (JOIN_LEAVE_REFUSALS, 0, JOIN_LEAVE_REFUSALS_REPORT),
     ];
-    for row in &rows {
-        check_row(&rt, rt.alloc(), row)?;
+    for row in rows {
+        check_row(&rt, rt.alloc(), row);
     }
-    Ok(())
 }
 
 // The line of deliveries is cut off at its limit, and the last line brings the rest.
@@ -391,6 +271,6 @@ const FREE_CUT_SHORT: &[u8] =
     b"scatter 1\nnodes 1\ngroup 0 1\nclient 1\nput a x\nget a\nend\ngo 1\nfree 1 4\nsettle 100\n";
 
 #[test]
-fn later_lines_run_after_one_that_is_cut_off(rt: HostRuntime) -> Result<(), Fail> {
-    check_row(&rt, rt.alloc(), &(FREE_CUT_SHORT, 6, FIRST_REPORT))
+fn later_lines_run_after_one_that_is_cut_off(rt: HostRuntime) {
+    check_row(&rt, rt.alloc(), (FREE_CUT_SHORT, 6, FIRST_REPORT));
 }

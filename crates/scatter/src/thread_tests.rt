@@ -1,19 +1,19 @@
 //! Lines of many deliveries, which several workers make.
 
+use crate::Open;
 use crate::replay_tests::named;
-use crate::tests::words_of;
-use crate::{Done, Open, run};
+use crate::tests::ended;
 use sc_actor::Gate;
-use sc_edges::{MemSink, MemSource};
+use sc_edges::MemSink;
 use std::alloc::Global;
+use std::process::Abort;
 use std::sync::Wait;
 use std::sync::atomic::{AtomicU64, Ordering};
-use std::test::Fail;
 use std::thread;
 use std::thread::Threads;
 
 // A text around a line of deliveries, and how the report begins with any number of workers.
-#[derive(Drop)]
+#[derive(Clone, Copy)]
 struct Case {
     before: &'static [u8],
     after: &'static [u8],
@@ -92,51 +92,44 @@ const EIGHT_REPLIES: &[u8] =
         reply 8 2 get value x\nring ";
 
 // The text with a line of deliveries by so many workers.
-fn input_of(alloc: Global, case: &Case, workers: &[u8]) -> Result<Vec<u8>, Fail> {
-    let mut text = Vec::from_slice(alloc, case.before)?;
-    text.extend_from_slice(b"free 1000 ")?;
-    text.extend_from_slice(workers)?;
-    text.extend_from_slice(b"\n")?;
-    text.extend_from_slice(case.after)?;
-    Ok(text)
+fn input_of(rt: &impl Abort, alloc: Global, case: Case, workers: &[u8]) -> Vec<u8> {
+    let mut text = Vec::new(alloc);
+    for part in [case.before, b"free 1000 ", workers, b"\n", case.after] {
+        text.extend_from_slice(part).expect(rt, "memory");
+    }
+    text
 }
 
 // Whether a run ends settled, its report begins so, and its journal is lawful.
-fn runs_so<R: Threads + Wait + Sync>(
+fn runs_so<R: Abort + Threads + Wait + Sync>(
     rt: &R,
     alloc: Global,
     input: &[u8],
     begins: &[u8],
-) -> Result<bool, Fail> {
-    let words = words_of(alloc, "run")?;
-    let mut source = MemSource::new(alloc, input, &[])?;
-    let mut sink = MemSink::new(alloc, 2000, &[])?;
-    let Done {
-        status,
-        journal,
-        ..
-    } = run(rt, alloc, &words, &mut source, &mut sink, &Open);
-    let Some(journal) = journal else {
-        return Ok(false);
-    };
-    let is_so = status == 0 && sink.held().starts_with(begins);
-    Ok(is_so && named(alloc, input, &journal)? == 0)
+) -> bool {
+    let mut sink = MemSink::new(alloc, 2000, &[]).expect(rt, "memory");
+    let done = ended(rt, alloc, "run", (input, 0), &mut sink, &Open);
+    let is_so = done.status == 0 && sink.held().starts_with(begins);
+    match &done.journal {
+        Some(journal) => is_so && named(rt, alloc, input, journal) == 0,
+        None => false,
+    }
 }
 
 // Whether the replies of a case are the same with any number of workers.
-fn is_same<R: Threads + Wait + Sync>(rt: &R, alloc: Global, case: &Case) -> Result<bool, Fail> {
+fn is_same<R: Abort + Threads + Wait + Sync>(rt: &R, alloc: Global, case: Case) -> bool {
     let numbers: [&[u8]; 5] = [b"1", b"2", b"4", b"8", b"16"];
-    for workers in &numbers {
-        let input = input_of(alloc, case, workers)?;
-        if !runs_so(rt, alloc, &input, case.begins)? {
-            return Ok(false);
+    for workers in numbers {
+        let input = input_of(rt, alloc, case, workers);
+        if !runs_so(rt, alloc, &input, case.begins) {
+            return false;
         }
     }
-    Ok(true)
+    true
 }
 
 #[test]
-fn replies_do_not_depend_on_the_number_of_workers(rt: HostRuntime) -> Result<(), Fail> {
+fn replies_do_not_depend_on_the_number_of_workers(rt: HostRuntime) {
     let cases = [
         make_case(ONE_NODE, b"", ONE_NODE_REPLIES),
         make_case(THREE_NODES, b"", THREE_NODES_REPLIES),
@@ -149,10 +142,9 @@ fn replies_do_not_depend_on_the_number_of_workers(rt: HostRuntime) -> Result<(),
         make_case(ELECTED, b"", PUT_REPLY),
         make_case(EIGHT_CLIENTS, b"", EIGHT_REPLIES),
     ];
-    for case in &cases {
-        assert!(rt; is_same(&rt, rt.alloc(), case)?);
+    for case in cases {
+        assert!(rt; is_same(&rt, rt.alloc(), case));
     }
-    Ok(())
 }
 
 // Holds node 1 and node 2, each in its first pass of the line of deliveries until the other has
@@ -201,35 +193,42 @@ const GATE_REPORT: &[u8] =
     b"scatter report 1\nreply 1 1 put none\nring 0 group 0.1 members 1 2\nrows 8\nmail 7\n\
         delivered 7\nskipped 0\nquiet yes\n";
 
-// How many waits ended late in a run with that report, or 9 where there was another report or one
-// of the two did not come.
-fn lateness<R: Threads + Wait + Sync>(
+// Whether a run through a gate ends with that report, and both nodes came.
+fn is_passed<R: Abort + Threads + Wait + Sync>(
+    rt: &R,
+    alloc: Global,
+    input: &[u8],
+    gate: &Pair,
+) -> bool {
+    let mut sink = MemSink::new(alloc, 1000, &[]).expect(rt, "memory");
+    let done = ended(rt, alloc, "run", (input, 0), &mut sink, gate);
+    let came = gate.first.load(Ordering::SeqCst) >= 2 && gate.second.load(Ordering::SeqCst) >= 1;
+    done.status == 0 && sink.held() == GATE_REPORT && came
+}
+
+// How many waits ended late in such a run, or none where there was another.
+fn lateness<R: Abort + Threads + Wait + Sync>(
     rt: &R,
     alloc: Global,
     input: &[u8],
     turns: u32,
-) -> Result<u64, Fail> {
+) -> Option<u64> {
     let gate = Pair {
         turns,
         first: AtomicU64::new(0),
         second: AtomicU64::new(0),
         late: AtomicU64::new(0),
     };
-    let words = words_of(alloc, "run")?;
-    let mut source = MemSource::new(alloc, input, &[])?;
-    let mut sink = MemSink::new(alloc, 1000, &[])?;
-    let done = run(rt, alloc, &words, &mut source, &mut sink, &gate);
-    let came = gate.first.load(Ordering::SeqCst) >= 2 && gate.second.load(Ordering::SeqCst) >= 1;
-    if done.status == 0 && sink.held() == GATE_REPORT && came {
-        Ok(gate.late.load(Ordering::SeqCst))
+    if is_passed(rt, alloc, input, &gate) {
+        Some(gate.late.load(Ordering::SeqCst))
     } else {
-        Ok(9)
+        None
     }
 }
 
 #[test]
-fn nodes_of_one_group_work_at_the_same_time(rt: HostRuntime) -> Result<(), Fail> {
-    assert_eq!(rt; lateness(&rt, rt.alloc(), GATE_AT_FOUR, 1_000_000)?, 0);
-    assert_eq!(rt; lateness(&rt, rt.alloc(), GATE_AT_ONE, 1_000)?, 1);
-    Ok(())
+fn nodes_of_one_group_work_at_the_same_time(rt: HostRuntime) {
+    let four = lateness(&rt, rt.alloc(), GATE_AT_FOUR, 1_000_000);
+    let one = lateness(&rt, rt.alloc(), GATE_AT_ONE, 1_000);
+    assert_eq!(rt; (four, one), (Some(0), Some(1)));
 }

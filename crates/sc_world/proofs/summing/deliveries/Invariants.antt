@@ -1,6 +1,6 @@
 use Rattle.std.proofs.Common.{◌≡◌, take}
 use Rattle.std.specs.Prelude.{count_by}
-use Rattle.sc_players.specs.Summary.{is_delivery}
+use Rattle.sc_actor.specs.Mail.{is_delivery}
 use Rattle.sc_world.proofs.summing.deliveries.Given as goal
 
 -- the deliveries so far

@@ -1,5 +1,5 @@
 use Rattle.std.proofs.Common.{rules, ◌≢◌}
-use Rattle.scatter.specs.declared.played.Played.TheVariants.{OutOfMemory}
+use Rattle.sc_statuses.specs.declared.said.Played.TheVariants.{OutOfMemory}
 use Rattle.scatter.proofs.reporting.play_whole.Goals as goal
 
 pub close-requires-clause-over : goal.close-requires-clause-over

@@ -1,7 +1,7 @@
 use Rattle.std.proofs.Common.{◌≡◌, ◌<◌, length, sym, ap, ◌∙◌, arith}
 use Rattle.sc_node_table.specs.Pump.{pumped}
 use Rattle.sc_node_table.specs.Execute.{executed_ready}
-use Rattle.sc_replica.proofs.Readiness.{turn-next, turn-shorter, executed_ready-none}
+use Rattle.sc_node_table.proofs.Readiness.{turn-next, turn-shorter, executed_ready-none}
 use Rattle.sc_replica.proofs.replica.Replica.+execute_ready.Goals as goal
 
 pub returns-in_default : goal.returns-in_default

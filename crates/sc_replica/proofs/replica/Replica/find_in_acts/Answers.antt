@@ -1,6 +1,6 @@
 use Rattle.std.proofs.Common.{sym, ap, is_none, ◌∙◌}
 use Rattle.sc_node_table.specs.Replica.{ReplicaState}
-use Rattle.sc_replica.specs.Heads.{head_of}
+use Rattle.sc_replica_parts.specs.Heads.{head_of}
 use Rattle.sc_replica.proofs.Calls.{acts-none}
 use Rattle.sc_replica.proofs.replica.Replica.find_in_acts.Goals as goal
 

@@ -1,0 +1,6 @@
+pub mod Births
+pub mod Decisions
+pub mod Effective
+pub mod Laws
+pub mod Rings
+pub mod Worlds

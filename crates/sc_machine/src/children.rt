@@ -1,0 +1,140 @@
+//! The child that an entry makes.
+ghost use Rattle.std.specs.Prelude.{◌≡◌, IfOk, Some, None, if◌then◌else◌};
+ghost use Rattle.sc_cmd.specs.declared.commands.Command.TheVariants.{Split};
+ghost use Rattle.sc_machine_table.specs.Orders.{refusal_of, split_refused};
+ghost use Rattle.sc_machine_table.specs.Plans.{can_split};
+ghost use Rattle.sc_machine_table.specs.Splits.{CanSplit, child_of};
+ghost use Rattle.sc_machine_table.specs.Children.{ordered_child, split_child, released_child, answered_child, watched_child, child_by};
+
+use crate::machine::Machine;
+use crate::orders::is_alone;
+use sc_base::{Draw, OutOfMemory};
+use sc_cmd::{Base, Body, Command, Lock, Past, same_draw};
+use sc_split_merge::{can_split, plan_split};
+use sc_txn::{check, has_named};
+
+impl Machine {
+    /// The record of the child, where the group is split at `at`; to be taken before the entry that
+    /// splits is applied. `can_split` tells whether the group can be split there.
+    pub fn child(&self, at: u32, child: Draw) -> Result<Base, OutOfMemory>
+        requires { CanSplit self.now.core at }
+        ensures { IfOk result (λ base. base ≡ child_of self.now at child) }
+    {
+        let (_left, core) = plan_split(self.alloc, &self.core, at, child)?;
+        let pairs = self.store.part(&core.arc)?;
+        let clients = self.clients.list()?;
+        Ok(Base {
+            core,
+            pairs,
+            clients,
+        })
+    }
+
+    /// The record of the child that a command makes of the group, if it makes one: a split at once
+    /// does, and a watcher's Yes that lets a split go. To be taken before the command is applied.
+    pub fn child_by(&self, command: &Command) -> Result<Option<Base>, OutOfMemory>
+        ensures { IfOk result (λ child. child ≡ child_by self.now command.now) }
+    {
+        match command {
+            Command::Split { at, child, order } => self.split_child(command, *at, *child, *order),
+            Command::RecordWatch { tx, vote, .. } => self.watched_child(*tx, vote),
+            Command::Noop
+            | Command::Call { .. }
+            | Command::Join { .. }
+            | Command::Leave { .. }
+            | Command::Begin { .. }
+            | Command::Prepared { .. }
+            | Command::RecordVote { .. }
+            | Command::GiveUp { .. }
+            | Command::Finish { .. }
+            | Command::Watched { .. } => Ok(None),
+        }
+    }
+
+    // Of a split at once, unless it is refused.
+    #[tactic(auto, using(crate::proofs::Accepted::free_of))]
+    fn split_child(
+        &self,
+        command: &Command,
+        at: u32,
+        child: Draw,
+        order: u32,
+    ) -> Result<Option<Base>, OutOfMemory>
+        requires { command.now ≡ Split at child order }
+        ensures { IfOk result
+            (λ base. base ≡ split_child (refusal_of self.now.core command.now) self.now at child) }
+    {
+        if has_named(&self.core, child) || self.core.gone.is_some() {
+            return Ok(None);
+        }
+        match check(&self.core, command) {
+            Ok(()) => self.lone_child(at, child),
+            Err(_) => Ok(None),
+        }
+    }
+
+    // A group with another successor only locks.
+    #[tactic(auto, using(crate::proofs::Accepted::can_split))]
+    fn lone_child(&self, at: u32, child: Draw) -> Result<Option<Base>, OutOfMemory>
+        requires { split_refused self.now.core at ≡ None }
+        ensures { IfOk result (λ base. base ≡ ordered_child None None self.now at child) }
+    {
+        if !is_alone(&self.core) {
+            return Ok(None);
+        }
+        let _some = self.core.members.len();
+        Ok(Some(self.child(at, child)?))
+    }
+
+    // Of a watcher's vote on the transaction that the group coordinates.
+    fn watched_child(&self, tx: Draw, vote: &Past) -> Result<Option<Base>, OutOfMemory>
+        ensures { IfOk result
+            (λ base. base ≡ watched_child self.now.core.lock self.now tx vote.now) }
+    {
+        match &self.core.lock {
+            Lock::Coordinating {
+                tx: locked,
+                body,
+                ..
+            } => {
+                if !same_draw(*locked, tx) {
+                    return Ok(None);
+                }
+                self.answered_child(vote, body)
+            }
+            Lock::Free | Lock::Promised { .. } | Lock::Watching { .. } => Ok(None),
+        }
+    }
+
+    // Only a Yes carries the split out.
+    fn answered_child(&self, vote: &Past, body: &Body) -> Result<Option<Base>, OutOfMemory>
+        ensures { IfOk result (λ base. base ≡ answered_child vote.now body.now self.now) }
+    {
+        match vote {
+            Past::Yes => self.released_child(body),
+            Past::No(_) | Past::Ended => Ok(None),
+        }
+    }
+
+    fn released_child(&self, body: &Body) -> Result<Option<Base>, OutOfMemory>
+        ensures { IfOk result (λ base. base ≡ released_child body.now self.now) }
+    {
+        match body {
+            Body::Split { at, child } => self.planned_child(*at, *child),
+            Body::Merge | Body::Repart { .. } | Body::Migrate { .. } => Ok(None),
+        }
+    }
+
+    // Of a split that can be made.
+    fn planned_child(&self, at: u32, child: Draw) -> Result<Option<Base>, OutOfMemory>
+        ensures { IfOk result
+            (λ base.
+            base
+            ≡ (if can_split self.now.core at then Some (child_of self.now at child) else None)) }
+    {
+        if !can_split(&self.core, at) {
+            return Ok(None);
+        }
+        Ok(Some(self.child(at, child)?))
+    }
+}

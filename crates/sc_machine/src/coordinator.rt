@@ -1,0 +1,198 @@
+//! A group that coordinates a transaction: what its parties answer, and what it decides.
+ghost use Rattle.std.specs.Prelude.{◌≡◌, IfOk};
+ghost use Rattle.sc_machine_table.specs.Transactions.{decided, granted, answered, asks_watcher, vote_recorded, released, watch_answered, watch_recorded, is_coordinating, given_up};
+
+use crate::machine::Machine;
+use sc_base::{Draw, Dup, OutOfMemory};
+use sc_cmd::{Body, Effect, Frozen, Heard, Lock, Outcome, Past, Vote, same_draw};
+
+fn asks_watcher(body: &Body, heard: &Option<Heard>) -> bool
+    ensures { result ≡ asks_watcher body.now heard.now }
+{
+    match body {
+        Body::Split { .. } => true,
+        Body::Merge | Body::Repart { .. } | Body::Migrate { .. } => heard.is_some(),
+    }
+}
+
+fn is_coordinating(lock: &Lock, tx: Draw) -> bool
+    ensures { result ≡ is_coordinating lock.now tx }
+{
+    match lock {
+        Lock::Coordinating { tx: locked, .. } => same_draw(*locked, tx),
+        Lock::Free | Lock::Promised { .. } | Lock::Watching { .. } => false,
+    }
+}
+
+impl Machine {
+    pub(crate) fn give_up(&mut self, tx: Draw) -> Result<Effect, OutOfMemory>
+        ensures { IfOk result (λ effect. given_up self.old tx ≡ (self.new, effect)) }
+    {
+        if !is_coordinating(&self.core.lock, tx) {
+            return Ok(Effect::NoEffect { tx });
+        }
+        self.decide(tx, Outcome::Abort)
+    }
+
+    pub(crate) fn record_vote(
+        &mut self,
+        tx: Draw,
+        vote: &Vote,
+        by: u16,
+    ) -> Result<Effect, OutOfMemory>
+        ensures { IfOk result
+            (λ effect.
+            vote_recorded self.old.core.lock self.old tx vote.now by ≡ (self.new, effect)) }
+    {
+        match &self.core.lock {
+            Lock::Coordinating {
+                tx: locked,
+                body,
+                order,
+                heard,
+            } => {
+                if !same_draw(*locked, tx) || asks_watcher(body, heard) {
+                    return Ok(Effect::NoEffect { tx });
+                }
+                let (body, order) = (*body, *order);
+                self.count_vote(vote, &body, tx, order, by)
+            }
+            Lock::Free | Lock::Promised { .. } | Lock::Watching { .. } => {
+                Ok(Effect::NoEffect { tx })
+            }
+        }
+    }
+
+    fn count_vote(
+        &mut self,
+        vote: &Vote,
+        body: &Body,
+        tx: Draw,
+        order: u32,
+        by: u16,
+    ) -> Result<Effect, OutOfMemory>
+        ensures { IfOk result
+            (λ effect. answered vote.now body.now self.old tx order by ≡ (self.new, effect)) }
+    {
+        match vote {
+            Vote::Yes(frozen) => self.grant(body, frozen, tx, order, by),
+            Vote::No(_) => self.decide(tx, Outcome::Abort),
+        }
+    }
+
+    fn grant(
+        &mut self,
+        body: &Body,
+        frozen: &Frozen,
+        tx: Draw,
+        order: u32,
+        by: u16,
+    ) -> Result<Effect, OutOfMemory>
+        ensures { IfOk result
+            (λ effect. granted body.now self.old tx order frozen.now by ≡ (self.new, effect)) }
+    {
+        match body {
+            Body::Merge => self.hear_merge(frozen, tx, order, by),
+            Body::Repart { at } => self.commit_repart(tx, *at, frozen),
+            Body::Migrate { node } => self.commit_migrate(tx, *node, frozen),
+            Body::Split { .. } => Ok(Effect::NoEffect { tx }),
+        }
+    }
+
+    // Of a merge the watcher is asked next, where there is one.
+    fn hear_merge(
+        &mut self,
+        frozen: &Frozen,
+        tx: Draw,
+        order: u32,
+        by: u16,
+    ) -> Result<Effect, OutOfMemory>
+        ensures { IfOk result
+            (λ effect. granted Body.Merge self.old tx order frozen.now by ≡ (self.new, effect)) }
+    {
+        if same_draw(frozen.succ.group, self.core.id) {
+            return self.commit_closing(tx, frozen);
+        }
+        let heard = Heard {
+            frozen: frozen.dup(self.alloc)?,
+            by,
+        };
+        self.core.lock = Lock::Coordinating {
+            tx,
+            body: Body::Merge,
+            order,
+            heard: Some(heard),
+        };
+        Ok(Effect::Changed)
+    }
+
+    pub(crate) fn record_watch(&mut self, tx: Draw, vote: &Past) -> Result<Effect, OutOfMemory>
+        ensures { IfOk result
+            (λ effect.
+            watch_recorded self.old.core.lock self.old tx vote.now ≡ (self.new, effect)) }
+    {
+        match &self.core.lock {
+            Lock::Coordinating {
+                tx: locked,
+                body,
+                heard,
+                ..
+            } => {
+                if !same_draw(*locked, tx) || !asks_watcher(body, heard) {
+                    return Ok(Effect::NoEffect { tx });
+                }
+                let (body, heard) = (*body, heard.dup(self.alloc)?);
+                self.count_watch(vote, &body, &heard, tx)
+            }
+            Lock::Free | Lock::Promised { .. } | Lock::Watching { .. } => {
+                Ok(Effect::NoEffect { tx })
+            }
+        }
+    }
+
+    fn count_watch(
+        &mut self,
+        vote: &Past,
+        body: &Body,
+        heard: &Option<Heard>,
+        tx: Draw,
+    ) -> Result<Effect, OutOfMemory>
+        ensures { IfOk result
+            (λ effect.
+            watch_answered vote.now body.now heard.now self.old tx ≡ (self.new, effect)) }
+    {
+        match vote {
+            Past::Yes => self.release(body, heard, tx),
+            Past::No(_) | Past::Ended => self.decide(tx, Outcome::Abort),
+        }
+    }
+
+    fn release(
+        &mut self,
+        body: &Body,
+        heard: &Option<Heard>,
+        tx: Draw,
+    ) -> Result<Effect, OutOfMemory>
+        ensures { IfOk result
+            (λ effect. released body.now heard.now self.old tx ≡ (self.new, effect)) }
+    {
+        match body {
+            Body::Merge => match heard {
+                Some(heard) => self.commit_merge(tx, &heard.frozen),
+                None => Ok(Effect::NoEffect { tx }),
+            },
+            Body::Split { at, child } => self.commit_split(tx, *at, *child),
+            Body::Repart { .. } | Body::Migrate { .. } => Ok(Effect::NoEffect { tx }),
+        }
+    }
+
+    // The decision is noted, and the group is free.
+    pub(crate) fn decide(&mut self, tx: Draw, outcome: Outcome) -> Result<Effect, OutOfMemory>
+        ensures { IfOk result (λ effect. decided self.old tx outcome ≡ (self.new, effect)) }
+    {
+        let noted = outcome.dup(self.alloc)?;
+        self.core.decided.push((tx, noted))?;
+        self.core.lock = Lock::Free;
+        Ok(Effect::Decided(outcome))
+    }
+}

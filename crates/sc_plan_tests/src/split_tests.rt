@@ -1,0 +1,105 @@
+use crate::groups::{CHILD, GROUP, OTHER, group};
+use sc_base::{Draw, OutOfMemory, RingArc, Sequence};
+use sc_cmd::{Core, DecidedList, Link, Lock, Outcome, same_draw};
+use sc_member::Members;
+use sc_split_merge::{can_split, plan_split, splits_keep_the_whole};
+use std::alloc::Global;
+use std::test::Fail;
+
+fn decided(alloc: Global) -> Result<DecidedList, OutOfMemory> {
+    let mut decided = Sequence::new(alloc);
+    decided.push((OTHER, Outcome::Abort))?;
+    Ok(decided)
+}
+
+/// A group on the whole ring with the members 1 to 5, which has decided one transaction.
+fn whole(alloc: Global, neighbour: Draw) -> Option<Core> {
+    let arc = RingArc::try_new(0, 1 << 32).ok()?;
+    let decided = decided(alloc).ok()?;
+    Some(group(alloc, 5, arc, neighbour, Lock::Free, decided))
+}
+
+/// What a group and its child are, once it has split.
+fn planned(alloc: Global, core: &Core, at: u32) -> Option<(Core, Core)> {
+    if !can_split(core, at) {
+        return None;
+    }
+    plan_split(alloc, core, at, CHILD).ok()
+}
+
+/// The group's record and its child's, of a group with this neighbour.
+fn halves(alloc: Global, neighbour: Draw, at: u32) -> Option<(Core, Core)> {
+    let core = whole(alloc, neighbour)?;
+    planned(alloc, &core, at)
+}
+
+fn is_arc(arc: &RingArc, lo: u32, length: u64) -> bool {
+    arc.lo() == lo && arc.len() == length
+}
+
+fn is_set(members: &Members, nodes: &[u16]) -> bool {
+    members.as_slice() == nodes
+}
+
+fn is_link(link: &Link, group: Draw, nodes: &[u16]) -> bool {
+    same_draw(link.group, group) && is_set(&link.members, nodes)
+}
+
+fn has_neighbours(core: &Core, pred: (Draw, &[u16]), succ: (Draw, &[u16])) -> bool {
+    is_link(&core.pred, pred.0, pred.1) && is_link(&core.succ, succ.0, succ.1)
+}
+
+/// Whether the group keeps what it has begun and decided, and names its child.
+fn has_past(left: &Core) -> bool {
+    let is_named = left.born.len() == 1 && same_draw(*left.born.at(0), CHILD);
+    is_named && left.begun == 7 && left.decided.len() == 1
+}
+
+fn is_new(child: &Core) -> bool {
+    let is_empty = child.begun == 0 && child.decided.len() == 0 && child.born.len() == 0;
+    is_empty && same_draw(child.id, CHILD) && child.first == 4
+}
+
+#[test]
+fn split_plan(rt: HostRuntime) -> Result<(), Fail> {
+    let (left, child) = halves(rt.alloc(), GROUP, 1828716544).ok_or("no split")?;
+    assert!(rt; is_arc(&left.arc, 0, 1828716544));
+    assert!(rt; is_set(&left.members, &[1, 2, 3]) && has_past(&left));
+    assert!(rt; has_neighbours(&left, (CHILD, &[4, 5]), (CHILD, &[4, 5])));
+    assert!(rt; is_arc(&child.arc, 1828716544, 2466250752));
+    assert!(rt; is_set(&child.members, &[4, 5]) && is_new(&child));
+    assert!(rt; has_neighbours(&child, (GROUP, &[1, 2, 3]), (GROUP, &[1, 2, 3])));
+    Ok(())
+}
+
+#[test]
+fn a_group_with_neighbours_keeps_the_outer_ones(rt: HostRuntime) -> Result<(), Fail> {
+    let (left, child) = halves(rt.alloc(), OTHER, 1).ok_or("no split")?;
+    let outer = (OTHER, [1, 2, 3, 4, 5].as_slice());
+    assert!(rt; has_neighbours(&left, outer, (CHILD, &[4, 5])));
+    assert!(rt; has_neighbours(&child, (GROUP, &[1, 2, 3]), outer));
+    Ok(())
+}
+
+/// Whether a group of the nodes from 1 to `last` on the positions from 100 to 199 can be split.
+fn can_be_split(alloc: Global, last: u16, at: u32) -> Option<bool> {
+    let arc = RingArc::try_new(100, 100).ok()?;
+    let core = group(alloc, last, arc, GROUP, Lock::Free, Sequence::new(alloc));
+    Some(can_split(&core, at))
+}
+
+#[test]
+fn a_group_is_split_inside_its_arc_only(rt: HostRuntime) {
+    let cases: [(u16, u32, bool); 6] = [
+        (5, 99, false),
+        (5, 100, false),
+        (5, 101, true),
+        (5, 199, true),
+        (5, 200, false),
+        (1, 101, false),
+    ];
+    for (last, at, can) in &cases {
+        assert!(rt; can_be_split(rt.alloc(), *last, *at) == Some(*can));
+    }
+    splits_keep_the_whole();
+}

@@ -1,0 +1,16 @@
+//! What a report tells of a request.
+ghost use Rattle.std.specs.Prelude.{◌≡◌};
+ghost use Rattle.sc_players.specs.Summary.{got_by};
+
+use sc_base::Reply;
+use sc_report::Got;
+
+/// How far a request came, by its reply and whether its client waits for it.
+pub fn got_by(reply: Option<Reply>, waits: bool) -> Got
+    ensures { result ≡ got_by reply waits }
+{
+    match reply {
+        Some(reply) => Got::Replied(reply),
+        None => { if waits { Got::Unanswered } else { Got::Unsent } }
+    }
+}

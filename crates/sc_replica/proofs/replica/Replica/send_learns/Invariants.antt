@@ -1,9 +1,0 @@
-use Rattle.std.proofs.Common.{◌≡◌, drop}
-use Rattle.sc_mail.specs.declared.bodies.MailBody.TheVariants.{Learn}
-use Rattle.sc_node_table.specs.Replica.{name_of}
-use Rattle.sc_node_table.specs.Mails.{sent_others}
-use Rattle.sc_replica.proofs.replica.Replica.send_learns.Given as goal
-
--- what is left makes the whole
-abbrev pub invariant-loop-node : goal.invariant-loop-node
-invariant-loop-node l = sent_others l.self.me (drop l.node-index l.nodes) (Learn (name_of l.self) l.slot l.command) l.out ≡ sent_others l.self.me l.nodes (Learn (name_of l.self) l.slot l.command) l.initial.out

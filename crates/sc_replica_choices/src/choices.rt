@@ -1,0 +1,102 @@
+//! Choices that look at the executed state, or at a number.
+ghost use Rattle.std.specs.Prelude.{◌≡◌, ◌≤◌};
+ghost use Rattle.sc_ideal.specs.IdealStore.{key_of, holds_key};
+ghost use Rattle.sc_node_table.specs.Replica.{floor_of, waits_in};
+ghost use Rattle.sc_node_table.specs.Pump.{serves_calls, waits, turned_down, refused_by};
+ghost use Rattle.sc_node_table.specs.Rows.{refusal};
+
+use sc_base::{Op, RingArc};
+use sc_cmd::{Command, Core, Lock};
+use sc_mail::AnswerBody;
+use sc_node_table::CUT_UNIT;
+
+// Whether calls are served under this lock.
+fn serves_calls(lock: &Lock) -> bool
+    ensures { result ≡ serves_calls lock.now }
+{
+    match lock {
+        Lock::Free | Lock::Watching { .. } => true,
+        Lock::Coordinating { .. } | Lock::Promised { .. } => false,
+    }
+}
+
+// Whether an arc holds the key of an operation.
+fn holds_key(arc: &RingArc, op: &Op) -> bool
+    ensures { result ≡ holds_key arc.now (key_of op.now) }
+{
+    arc.holds(op.key().pos())
+}
+
+/// Why a request is not taken, the first that holds: the group is gone, the replica does not run,
+/// or another group has the key. Whatever it asks for, a request that is taken waits for a slot.
+pub fn refusal(core: &Core, running: bool, hint: Option<u16>, op: &Op) -> Option<AnswerBody>
+    ensures { result ≡ refusal core.now.gone core.now running hint op.now }
+{
+    if let Some(into) = &core.gone {
+        return Some(AnswerBody::Gone { into: *into });
+    }
+    if !running {
+        return Some(AnswerBody::NotLeader { hint });
+    }
+    if serves_calls(&core.lock) && !holds_key(&core.arc, op) {
+        return Some(AnswerBody::NotMine {
+            arc: core.arc,
+            succ: core.succ,
+        });
+    }
+    None
+}
+
+/// Whether a command at the head of the calls waits: a call for the lock, and an order also for what
+/// is under way.
+pub fn waits(idle: bool, lock: &Lock, command: &Command) -> bool
+    ensures { result ≡ waits idle lock.now command.now }
+{
+    match command {
+        Command::Call { .. } => !serves_calls(lock),
+        _ => !serves_calls(lock) || !idle,
+    }
+}
+
+/// The answer of a call that the group does not serve.
+pub fn turned_down(core: &Core, command: &Command) -> Option<AnswerBody>
+    ensures { result ≡ turned_down core.now command.now }
+{
+    match command {
+        Command::Call { op, .. } => refused_by(core, op),
+        _ => None,
+    }
+}
+
+fn refused_by(core: &Core, op: &Op) -> Option<AnswerBody>
+    ensures { result ≡ refused_by core.now.gone core.now op.now }
+{
+    if let Some(into) = &core.gone {
+        return Some(AnswerBody::Gone { into: *into });
+    }
+    if holds_key(&core.arc, op) {
+        return None;
+    }
+    Some(AnswerBody::NotMine {
+        arc: core.arc,
+        succ: core.succ,
+    })
+}
+
+/// How long a transaction has waited: it waits no more where the group is not locked.
+pub fn waits_in(lock: &Lock, waits: u32) -> u32
+    ensures { result ≡ waits_in lock.now waits }
+{
+    match lock {
+        Lock::Free => 0,
+        Lock::Coordinating { .. } | Lock::Promised { .. } | Lock::Watching { .. } => waits,
+    }
+}
+
+/// The slot up to which entries and accepted commands are forgotten, by the last executed slot.
+pub fn floor_of(last: u32) -> u32
+    ensures same { result ≡ floor_of last }
+    ensures most { floor_of last ≤ last }
+{
+    (CUT_UNIT * (last / CUT_UNIT)).saturating_sub(CUT_UNIT)
+}

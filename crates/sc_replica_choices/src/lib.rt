@@ -1,0 +1,13 @@
+//! What a replica chooses from a part of what it keeps: why a request is not taken, the members of
+//! the open slots, and which nodes are asked or told. Nothing here drops a mail or a command.
+#![tactic(auto)]
+
+mod choices;
+mod commands;
+mod nodes;
+mod open_sets;
+
+pub use choices::{floor_of, refusal, turned_down, waits, waits_in};
+pub use commands::{is_act, same_command};
+pub use nodes::{nodes_to, not_among, uncounted};
+pub use open_sets::Sets;

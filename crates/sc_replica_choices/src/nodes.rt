@@ -1,0 +1,61 @@
+//! Lists of nodes.
+ghost use Rattle.std.specs.Prelude.{◌≡◌, ◌≤◌, filter, not, IfOk};
+ghost use Rattle.sc_base.specs.Limits.{most_nodes};
+ghost use Rattle.sc_member.specs.Roster.{is_member};
+ghost use Rattle.sc_paxos_words.specs.Votes.{has_voted};
+ghost use Rattle.sc_node_table.specs.Election.{nodes_to};
+
+use crate::open_sets::Sets;
+use sc_base::OutOfMemory;
+use sc_leader::Leader;
+use sc_member::Members;
+use std::alloc::Global;
+
+/// The nodes that are not in a set.
+pub fn not_among(alloc: Global, nodes: &[u16], set: &Members) -> Result<Vec<u16>, OutOfMemory>
+    ensures { IfOk result
+        (λ others. others.items ≡ filter (λ node. not (is_member set.now node)) nodes.now) }
+{
+    let mut others = Vec::new(alloc);
+    for node in nodes {
+        if !set.has(*node) {
+            others.push(*node)?;
+        }
+    }
+    Ok(others)
+}
+
+/// The members of a slot whose vote was not counted.
+pub fn uncounted<V>(
+    alloc: Global,
+    leader: &Leader<V>,
+    slot: u32,
+    set: &Members,
+) -> Result<Vec<u16>, OutOfMemory>
+    ensures { IfOk result
+        (λ nodes.
+        nodes.items ≡ filter (λ node. not (has_voted slot node leader.now)) set.now) }
+{
+    let mut nodes = Vec::new(alloc);
+    for node in set.as_slice() {
+        if !leader.voted(slot, *node) {
+            nodes.push(*node)?;
+        }
+    }
+    Ok(nodes)
+}
+
+/// The nodes, of 1 to so many, that are in one of these sets.
+#[tactic(auto, unfolding(sc_node_table::specs::Election::nodes_to))]
+pub fn nodes_to(alloc: Global, most: u16, sets: &Sets) -> Result<Vec<u16>, OutOfMemory>
+    requires { most ≤ most_nodes }
+    ensures { IfOk result (λ nodes. nodes.items ≡ nodes_to most sets.now) }
+{
+    let mut nodes = Vec::new(alloc);
+    for node in 1..most + 1 {
+        if sets.has(node) {
+            nodes.push(node)?;
+        }
+    }
+    Ok(nodes)
+}

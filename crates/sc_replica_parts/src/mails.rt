@@ -1,0 +1,162 @@
+//! Mails: each function puts some behind those that are there.
+ghost use Rattle.std.specs.Prelude.{◌≡◌, OnOk};
+ghost use Rattle.sc_cmd.specs.declared.orders.ToldResult.TheVariants.{Refused};
+ghost use Rattle.sc_cmd.specs.declared.orders.OrderRefusal.TheVariants.{NotLeader};
+ghost use Rattle.sc_node_table.specs.Mails.{sent, answer_to, answered, told_desk, order_in, told_order, dismissed, dismissed_all};
+
+use sc_base::{Draw, Dup, OutOfMemory, Sequence};
+use sc_cmd::{Command, OrderRefusal, ToldResult};
+use sc_mail::{AnswerBody, DESK, Mail, MailBody, client_number};
+use std::alloc::Global;
+use std::collections::VecDeque;
+
+/// One mail more.
+pub fn send(me: u16, to: u32, body: MailBody, out: &mut Sequence<Mail>) -> Result<(), OutOfMemory>
+    ensures { OnOk result (out.new ≡ sent me to body out.old) }
+{
+    out.push(Mail {
+        from: me as u32,
+        to,
+        body,
+    })
+}
+
+/// An answer to a client.
+pub fn answer(
+    me: u16,
+    group: Draw,
+    client: u16,
+    seq: u32,
+    answer: AnswerBody,
+    out: &mut Sequence<Mail>,
+) -> Result<(), OutOfMemory>
+    ensures { OnOk result (out.new ≡ answer_to me group client seq answer out.old) }
+{
+    send(
+        me,
+        client_number(client),
+        MailBody::Answer { group, seq, answer },
+        out,
+    )
+}
+
+/// The client of a call is answered so.
+#[tactic(auto, unfolding(sc_node_table::specs::Mails::answered))]
+pub fn answer_command(
+    alloc: Global,
+    me: u16,
+    group: Draw,
+    body: &AnswerBody,
+    command: &Command,
+    out: &mut Sequence<Mail>,
+) -> Result<(), OutOfMemory>
+    ensures { OnOk result (out.new ≡ answered me group body.now command.now out.old) }
+{
+    match command {
+        Command::Call { client, seq, .. } => {
+            answer(me, group, *client, *seq, body.dup(alloc)?, out)
+        }
+        _ => Ok(()),
+    }
+}
+
+/// The desk is told what became of an order.
+pub fn tell_desk(
+    me: u16,
+    number: u32,
+    told: ToldResult,
+    out: &mut Sequence<Mail>,
+) -> Result<(), OutOfMemory>
+    ensures { OnOk result (out.new ≡ told_desk me number told out.old) }
+{
+    send(
+        me,
+        DESK,
+        MailBody::Told {
+            order: number,
+            result: told,
+        },
+        out,
+    )
+}
+
+/// The number of the order that a command is of: 0 where a policy made it, and where it is of none.
+pub fn order_in(command: &Command) -> u32
+    ensures { result ≡ order_in command.now }
+{
+    match command {
+        Command::Join { order, .. }
+        | Command::Leave { order, .. }
+        | Command::Split { order, .. }
+        | Command::Begin { order, .. } => *order,
+        Command::Noop
+        | Command::Call { .. }
+        | Command::Prepared { .. }
+        | Command::RecordVote { .. }
+        | Command::GiveUp { .. }
+        | Command::Finish { .. }
+        | Command::Watched { .. }
+        | Command::RecordWatch { .. } => 0,
+    }
+}
+
+/// The desk is told what became of an order, if it has a number.
+#[tactic(auto, unfolding(sc_node_table::specs::Mails::told_order))]
+pub fn tell_order(
+    me: u16,
+    number: u32,
+    told: ToldResult,
+    out: &mut Sequence<Mail>,
+) -> Result<(), OutOfMemory>
+    ensures { OnOk result (out.new ≡ told_order me number told out.old) }
+{
+    if number == 0 {
+        return Ok(());
+    }
+    tell_desk(me, number, told, out)
+}
+
+/// The client of a waiting call is answered so, and of a waiting order the desk is told that its
+/// node does not lead.
+#[tactic(auto, unfolding(sc_node_table::specs::Mails::dismissed))]
+fn dismiss(
+    alloc: Global,
+    me: u16,
+    group: Draw,
+    hint: Option<u16>,
+    body: &AnswerBody,
+    command: &Command,
+    out: &mut Sequence<Mail>,
+) -> Result<(), OutOfMemory>
+    ensures { OnOk result (out.new ≡ dismissed me group hint body.now command.now out.old) }
+{
+    match command {
+        Command::Call { client, seq, .. } => {
+            answer(me, group, *client, *seq, body.dup(alloc)?, out)
+        }
+        _ => {
+            let why = OrderRefusal::NotLeader { hint };
+            tell_order(me, order_in(command), ToldResult::Refused(why), out)
+        }
+    }
+}
+
+/// ... each of these commands.
+#[tactic(auto, unfolding(sc_node_table::specs::Mails::dismissed_all))]
+pub fn dismiss_all(
+    alloc: Global,
+    me: u16,
+    group: Draw,
+    hint: Option<u16>,
+    body: &AnswerBody,
+    commands: &VecDeque<Command>,
+    out: &mut Sequence<Mail>,
+) -> Result<(), OutOfMemory>
+    ensures { OnOk result
+        (out.new ≡ dismissed_all me group hint body.now commands.now.items out.old) }
+{
+    for i in 0..commands.len() {
+        dismiss(alloc, me, group, hint, body, &commands[i], out)?;
+    }
+    Ok(())
+}

@@ -1,0 +1,136 @@
+//! One mail to one or to each of several nodes.
+ghost use Rattle.std.specs.Prelude.{◌≡◌, OnOk};
+ghost use Rattle.sc_mail.specs.declared.bodies.MailBody.TheVariants.{Prepare, Accept, Learn, Install};
+ghost use Rattle.sc_node_table.specs.Mails.{sent, sent_all, sent_others};
+
+use crate::mails::send;
+use sc_base::{Ballot, Draw, Dup, OutOfMemory, Sequence};
+use sc_cmd::{Base, Command, MemberSets};
+use sc_mail::{Mail, MailBody};
+use std::alloc::Global;
+
+/// A prepare to each of several nodes.
+#[tactic(auto, unfolding(sc_node_table::specs::Mails::sent_all))]
+pub fn send_prepares(
+    me: u16,
+    group: Draw,
+    nodes: &[u16],
+    ballot: Ballot,
+    from_slot: u32,
+    out: &mut Sequence<Mail>,
+) -> Result<(), OutOfMemory>
+    ensures { OnOk result
+        (out.new ≡ sent_all me nodes.now (Prepare group ballot from_slot) out.old) }
+{
+    for node in nodes {
+        send(
+            me,
+            *node as u32,
+            MailBody::Prepare {
+                group,
+                ballot,
+                from_slot,
+            },
+            out,
+        )?;
+    }
+    Ok(())
+}
+
+/// An accept to each of several nodes.
+#[tactic(auto, unfolding(sc_node_table::specs::Mails::sent_all))]
+pub fn send_accepts(
+    alloc: Global,
+    me: u16,
+    group: Draw,
+    nodes: &[u16],
+    ballot: Ballot,
+    slot: u32,
+    command: &Command,
+    out: &mut Sequence<Mail>,
+) -> Result<(), OutOfMemory>
+    ensures { OnOk result
+        (out.new ≡ sent_all me nodes.now (Accept group ballot slot command.now) out.old) }
+{
+    for node in nodes {
+        send(
+            me,
+            *node as u32,
+            MailBody::Accept {
+                group,
+                ballot,
+                slot,
+                command: command.dup(alloc)?,
+            },
+            out,
+        )?;
+    }
+    Ok(())
+}
+
+/// One learn.
+pub fn send_learn(
+    alloc: Global,
+    me: u16,
+    group: Draw,
+    node: u16,
+    slot: u32,
+    command: &Command,
+    out: &mut Sequence<Mail>,
+) -> Result<(), OutOfMemory>
+    ensures { OnOk result (out.new ≡ sent me node (Learn group slot command.now) out.old) }
+{
+    send(
+        me,
+        node as u32,
+        MailBody::Learn {
+            group,
+            slot,
+            command: command.dup(alloc)?,
+        },
+        out,
+    )
+}
+
+/// The chosen command of a slot to each of several nodes but the sender.
+#[tactic(auto, unfolding(sc_node_table::specs::Mails::sent_others))]
+pub fn send_learns(
+    alloc: Global,
+    me: u16,
+    group: Draw,
+    nodes: &[u16],
+    slot: u32,
+    command: &Command,
+    out: &mut Sequence<Mail>,
+) -> Result<(), OutOfMemory>
+    ensures { OnOk result
+        (out.new ≡ sent_others me nodes.now (Learn group slot command.now) out.old) }
+{
+    for node in nodes {
+        if *node != me {
+            send_learn(alloc, me, group, *node, slot, command, out)?;
+        }
+    }
+    Ok(())
+}
+
+/// The state after a slot, with the members of the open slots, to a node.
+pub fn send_install(
+    me: u16,
+    group: Draw,
+    node: u16,
+    slot: u32,
+    base: Base,
+    sets: MemberSets,
+    out: &mut Sequence<Mail>,
+) -> Result<(), OutOfMemory>
+    ensures { OnOk result (out.new ≡ sent me node (Install group slot base sets) out.old) }
+{
+    let body = MailBody::Install {
+        group,
+        slot,
+        base,
+        sets,
+    };
+    send(me, node as u32, body, out)
+}

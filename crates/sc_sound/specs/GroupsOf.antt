@@ -1,0 +1,115 @@
+-- The groups of a journal with their decided logs, and the entries of all these logs in one list. A group that the scenario does not have is born by an entry of another group's log, so groups and logs are found together.
+use Rattle.std.specs.Prelude.{ℕ, zero, suc, ◌+◌, Bool, List, [], ◌∷◌, ◌++◌, fold, find, length, drop, if◌then◌else◌, Option, Some, None}
+use Rattle.std.specs.List.{flat_map, list_any}
+use Rattle.std.specs.Option.{option_map, option_to_list}
+use Rattle.sc_base.specs.Same.{same_draw}
+use Rattle.sc_base.specs.declared.names.Draw.{Draw}
+use Rattle.sc_cmd.specs.declared.commands.Command.{Command}
+use Rattle.sc_cmd.specs.declared.cores.Base.{Base}
+use Rattle.sc_cmd.specs.declared.orders.OrderLine.{OrderLine}
+use Rattle.sc_mail.specs.declared.bodies.Mail.{Mail}
+use Rattle.sc_actor.specs.declared.rows.Row.{Row}
+use Rattle.sc_ideal.specs.declared.Entry.{Entry}
+use Rattle.sc_machine_table.specs.Group.{Group, group_of}
+use Rattle.sc_machine_table.specs.Machine.{applied}
+use Rattle.sc_players.specs.Players.{Ahead}
+use Rattle.sc_entries.specs.declared.Cut.{Cut}
+use Rattle.sc_entries.specs.declared.LogEntry.{LogEntry}
+use Rattle.sc_entries.specs.Births.{birth_of}
+use Rattle.sc_entries.specs.Worlds.{World, world_of}
+use Rattle.sc_sound.specs.Logs.{decided_log, decided_state}
+
+-- ---- the groups
+
+-- the children that a log names, by the entries that split their group, from the group before it
+abbrev pub children_of : Group → List Command → List Base
+children_of group [] = []
+children_of group (command ∷ commands) =
+    option_to_list (birth_of group command (applied group command).1) ++ children_of (applied group command).0 commands
+
+-- the children that the decided log of a group names
+abbrev pub children_by : Ahead → List (Row Mail OrderLine) → Base → List Base
+children_by ahead rows base = children_of (group_of base) (decided_log ahead base rows)
+
+-- whether a birth record is of the group with a name
+abbrev pub is_birth_of : Draw → Base → Bool
+is_birth_of name base = same_draw base.core.id name
+
+-- the groups, and one more unless its name is there
+abbrev pub with_birth : List Base → Base → List Base
+with_birth bases base = if list_any (is_birth_of base.core.id) bases then bases else bases ++ base ∷ []
+
+-- the groups with the children that their logs name
+abbrev pub with_children : Ahead → List (Row Mail OrderLine) → List Base → List Base
+with_children ahead rows bases = fold with_birth bases (flat_map (children_by ahead rows) bases)
+
+-- the same so many times
+abbrev pub with_descendants : Ahead → List (Row Mail OrderLine) → ℕ → List Base → List Base
+with_descendants ahead rows zero bases = bases
+with_descendants ahead rows (suc more) bases = with_children ahead rows (with_descendants ahead rows more bases)
+
+-- the groups of a journal, each as it is born: those of the scenario, and again and again the children that the logs found so far name. Each birth takes a row of its own, so as many times as there are rows are enough.
+abbrev pub groups_at : Ahead → List Base → List (Row Mail OrderLine) → List Base
+groups_at ahead bases rows = with_descendants ahead rows (length rows) bases
+
+-- ---- their logs
+
+-- the birth record of a group of a journal, if there is such a group yet
+abbrev pub birth_at : Ahead → List Base → List (Row Mail OrderLine) → Draw → Option Base
+birth_at ahead bases rows name = find (is_birth_of name) (groups_at ahead bases rows)
+
+-- the decided log of a group that was found: none was decided where none was found
+abbrev pub log_by : Ahead → List (Row Mail OrderLine) → Option Base → List Command
+log_by ahead rows None = []
+log_by ahead rows (Some base) = decided_log ahead base rows
+
+-- the decided log of the group with a name, which is empty where there is no such group yet
+abbrev pub log_at : Ahead → List Base → List (Row Mail OrderLine) → Draw → List Command
+log_at ahead bases rows name = log_by ahead rows (birth_at ahead bases rows name)
+
+-- the state of the group with a name after its decided log, if there is such a group yet
+abbrev pub state_at : Ahead → List Base → List (Row Mail OrderLine) → Draw → Option Group
+state_at ahead bases rows name = option_map (λ base. decided_state ahead base rows) (birth_at ahead bases rows name)
+
+-- ---- the entries of all logs
+
+-- commands at the slots of a group's log from this one on
+abbrev pub entries_from : Draw → ℕ → List Command → List LogEntry
+entries_from name slot [] = []
+entries_from name slot (command ∷ commands) = record { group = name; slot = slot; command = command } ∷ entries_from name (slot + 1) commands
+
+-- the entries of a log that are not in a first part of it
+abbrev pub entries_after : Draw → List Command → List Command → List LogEntry
+entries_after name log longer = entries_from name (length log + 1) (drop (length log) longer)
+
+-- the entries of a group that are decided after some rows and not after fewer
+abbrev pub entries_gained : Ahead → List Base → List (Row Mail OrderLine) → List (Row Mail OrderLine) → Draw → List LogEntry
+entries_gained ahead bases before after name = entries_after name (log_at ahead bases before name) (log_at ahead bases after name)
+
+-- the entries that one more row decides: those of each group, by slot. A row accepts at one slot of one group, so they are of one group.
+abbrev pub entries_by_row : Ahead → List Base → List (Row Mail OrderLine) → Row Mail OrderLine → List LogEntry
+entries_by_row ahead bases before row =
+    flat_map (λ base. entries_gained ahead bases before (before ++ row ∷ []) base.core.id) (groups_at ahead bases (before ++ row ∷ []))
+
+-- the entries that later rows decide, row by row
+abbrev pub entries_by_rows : Ahead → List Base → List (Row Mail OrderLine) → List (Row Mail OrderLine) → List LogEntry
+entries_by_rows ahead bases before [] = []
+entries_by_rows ahead bases before (row ∷ rows) = entries_by_row ahead bases before row ++ entries_by_rows ahead bases (before ++ row ∷ []) rows
+
+-- the entries of a journal: those of all logs, in the order of the rows that decided them, and by slot within one row
+abbrev pub entries_at : Ahead → List Base → List (Row Mail OrderLine) → List LogEntry
+entries_at ahead bases rows = entries_by_rows ahead bases [] rows
+
+-- ---- what they make of all groups
+
+-- what the entries of a journal make of the groups of a scenario
+abbrev pub world_at : Ahead → List Base → List (Row Mail OrderLine) → World
+world_at ahead bases rows = world_of bases (entries_at ahead bases rows)
+
+-- the decided ring of a journal
+abbrev pub ring_at : Ahead → List Base → List (Row Mail OrderLine) → List Cut
+ring_at ahead bases rows = (world_at ahead bases rows).ring
+
+-- the history of a journal: the calls that took effect, in the order of the rows that decided them, whichever group they are of
+abbrev pub history_at : Ahead → List Base → List (Row Mail OrderLine) → List Entry
+history_at ahead bases rows = (world_at ahead bases rows).history

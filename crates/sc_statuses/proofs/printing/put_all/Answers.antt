@@ -1,0 +1,17 @@
+use Rattle.std.proofs.Common.{subst, arith}
+use Rattle.std.specs.Io.KnownBytes.{Appends}
+use Rattle.sc_edges.specs.Bytes.{AppendsPart}
+use Rattle.sc_statuses.proofs.Pieces.{Appends-more, AppendsPart-more}
+use Rattle.sc_statuses.proofs.printing.put_all.Goals as goal
+
+pub loop-line-preserved : goal.loop-line-preserved
+loop-line-preserved g c = (
+  Appends-more (g.K.Sink.held c.args.sink.now) (g.K.Sink.held c.loop-line.sink) (g.K.Sink.held c.put.new.self) c.args.lines.now c.loop-line.line-index c.line-item.result c.loop-line-test.true c.line-item.is c.loop-line.invariant.0
+      (subst (Appends (g.K.Sink.held c.loop-line.sink) (g.K.Sink.held c.put.new.self)) c.bytes.ensures c.in_default.ensures.whole),
+  omega (arith, c.in_default.ensures.cause.later),
+)
+
+pub returns-in-Err-clause-part : goal.returns-in-Err-clause-part
+returns-in-Err-clause-part g c =
+    AppendsPart-more (g.K.Sink.held c.args.sink.now) (g.K.Sink.held c.loop-line.sink) (g.K.Sink.held c.put.new.self) c.args.lines.now c.loop-line.line-index c.line-item.result c.loop-line-test.true c.line-item.is c.loop-line.invariant.0
+    (subst (AppendsPart (g.K.Sink.held c.loop-line.sink) (g.K.Sink.held c.put.new.self)) c.bytes.ensures c.in-Err.ensures.part)

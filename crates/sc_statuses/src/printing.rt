@@ -1,0 +1,38 @@
+//! Lines, each put whole.
+ghost use Rattle.std.specs.Prelude.{OnOk, OnErr};
+ghost use Rattle.std.specs.List.{concat};
+ghost use Rattle.std.specs.Io.KnownBytes.{Appends};
+ghost use Rattle.sc_edges.specs.Bytes.{AppendsPart};
+ghost use Rattle.sc_edges.specs.Causes.{HasCause};
+ghost use Rattle.sc_statuses.specs.Causes.{Prints};
+
+use crate::said::Said;
+use sc_edges::{Failed, Sink};
+use sc_report::Line;
+
+// Puts each line. After a fault the sink has gained a first part of the whole.
+fn put_all<K: Sink>(sink: &mut K, lines: &[Line]) -> Result<(), Failed>
+    ensures whole { OnOk result (Appends (K.held sink.old) (K.held sink.new) (concat lines.now)) }
+    ensures part { OnErr result
+        (AppendsPart (K.held sink.old) (K.held sink.new) (concat lines.now)) }
+    ensures cause { HasCause (K.faults sink.old) (K.faults sink.new) result }
+{
+    for line in lines {
+        if let Err(Failed) = sink.put(line.bytes()) {
+            return Err(Failed);
+        }
+    }
+    Ok(())
+}
+
+/// Puts each line of a text by one call of the sink, and answers the status that the text belongs
+/// to, or 5 after a fault of the sink.
+pub fn print<K: Sink>(sink: &mut K, said: Said, lines: &[Line]) -> u8
+    ensures { Prints (K.held sink.old) (K.held sink.new) (K.faults sink.old) (K.faults sink.new)
+        said lines.now result }
+{
+    match put_all(sink, lines) {
+        Ok(()) => said.status(),
+        Err(Failed) => 5,
+    }
+}

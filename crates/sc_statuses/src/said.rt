@@ -1,0 +1,63 @@
+//! Which text is begun, and its status.
+ghost use Rattle.std.specs.Prelude.{◌≡◌};
+ghost use Rattle.sc_statuses.specs.Causes.{said_by, status_of};
+
+/// How a scenario was played.
+#[derive(Clone, Copy, Debug, PartialEq, Eq)]
+pub enum Played {
+    /// To its end: whether a line ended with mail pending, whether none is pending now, and how
+    /// many lines were skipped.
+    Ended {
+        unsettled: bool,
+        quiet: bool,
+        skipped: u64,
+    },
+    /// To a row that would pass the limit of the exchange.
+    Full,
+    OutOfMemory,
+}
+
+/// Which text was begun.
+#[derive(Clone, Copy)]
+pub enum Said {
+    Ended,
+    Usage,
+    BadScenario,
+    ReadFault,
+    Unsettled,
+    Filled,
+}
+
+impl Said {
+    /// The status that the text belongs to.
+    pub fn status(self) -> u8
+        ensures { result ≡ status_of self }
+    {
+        match self {
+            Said::Ended => 0,
+            Said::Usage => 2,
+            Said::BadScenario => 3,
+            Said::ReadFault => 4,
+            Said::Unsettled => 6,
+            Said::Filled => 7,
+        }
+    }
+}
+
+/// Which text is begun about a scenario that was played so. None after want of memory.
+pub fn said_by(played: Played) -> Option<Said>
+    ensures { result ≡ said_by played }
+{
+    match played {
+        Played::Ended {
+            unsettled: true,
+            ..
+        } => Some(Said::Unsettled),
+        Played::Ended {
+            unsettled: false,
+            ..
+        } => Some(Said::Ended),
+        Played::Full => Some(Said::Filled),
+        Played::OutOfMemory => None,
+    }
+}

@@ -1,0 +1,81 @@
+//! What the words and the input ask for.
+ghost use Rattle.std.specs.Prelude.{◌≡◌, map, false, string_bytes, IfOk};
+ghost use Rattle.sc_scenario.specs.Words.{nth};
+ghost use Rattle.sc_statuses.specs.Wants.{is_run, IsOf, IsRead, IsWanted};
+
+use sc_base::OutOfMemory;
+use sc_edges::{ReadFault, Source, read_all};
+use sc_scenario::{INPUT_LIMIT, Scenario, ScenarioFault, read_scenario};
+use std::alloc::Global;
+
+/// What the words and the input ask for.
+#[derive(Drop)]
+pub enum Wanted {
+    /// The words are outside the grammar, and the input was not read.
+    Usage,
+    /// The source failed.
+    ReadFault,
+    /// The input is no scenario.
+    BadScenario,
+    /// A run of this scenario.
+    Run(Scenario),
+}
+
+// The first word, or the empty text where there is none.
+fn first_word(words: &[String]) -> &[u8]
+    ensures { result.now ≡ nth (map string_bytes words.now) 0 }
+{
+    if 0 < words.len() {
+        words[0].as_bytes()
+    } else {
+        b""
+    }
+}
+
+// Whether the words are the one word `run`.
+fn is_run(words: &[String]) -> bool
+    ensures { result ≡ is_run (map string_bytes words.now) }
+{
+    words.len() == 1 && first_word(words) == b"run".as_slice()
+}
+
+// What these bytes ask for.
+fn wanted_by(alloc: Global, bytes: &[u8]) -> Result<Wanted, OutOfMemory>
+    ensures { IfOk result (λ wanted. IsOf bytes.now wanted) }
+{
+    match read_scenario(alloc, bytes) {
+        Ok(scenario) => Ok(Wanted::Run(scenario)),
+        Err(ScenarioFault::Bad { .. }) => Ok(Wanted::BadScenario),
+        Err(ScenarioFault::OutOfMemory) => Err(OutOfMemory),
+    }
+}
+
+// What the source asks for.
+fn read<S: Source>(alloc: Global, input: &mut S) -> Result<Wanted, OutOfMemory>
+    ensures { IfOk result
+        (λ wanted. IsRead (S.left input.old) (S.faults input.old) (S.faults input.new) wanted) }
+{
+    let bytes = match read_all(alloc, input, INPUT_LIMIT) {
+        Ok(bytes) => bytes,
+        Err(ReadFault::Failed) => return Ok(Wanted::ReadFault),
+        Err(ReadFault::OutOfMemory) => return Err(OutOfMemory),
+    };
+    wanted_by(alloc, &bytes)
+}
+
+/// What the words behind a program's name and its input ask for. The input is read only after the
+/// one word `run`.
+pub fn wanted_of<S: Source>(
+    alloc: Global,
+    words: &[String],
+    input: &mut S,
+) -> Result<Wanted, OutOfMemory>
+    ensures wanted { IfOk result (λ wanted. IsWanted (map string_bytes words.now)
+        (S.left input.old) (S.faults input.old) (S.faults input.new) wanted) }
+    ensures unread { is_run (map string_bytes words.now) ≡ false → input.new ≡ input.old }
+{
+    if is_run(words) {
+        return read(alloc, input);
+    }
+    Ok(Wanted::Usage)
+}
