@@ -1,4 +1,6 @@
-use Rattle.std.proofs.Common.{◌∙◌, ap, sym, subst}
+use Rattle.std.proofs.Common.{◌≡◌, ◌∙◌, sym, subst}
+use Rattle.sc_ledger.specs.Spots.{spots_of}
+use Rattle.sc_exchange.specs.Ports.{seen}
 use Rattle.sc_exchange.proofs.Knowing.{looked_trans}
 use Rattle.sc_workers.proofs.Crews.{all_of_later, still_all_go}
 use Rattle.sc_workers.proofs.Serving.{numbers_go}
@@ -8,8 +10,8 @@ use Rattle.sc_drive.proofs.FirstCopies.{finds_spots}
 use Rattle.sc_drive.proofs.Kept.{on_gathered}
 use Rattle.sc_drive.proofs.settle_lines.look_on.Goals as goal
 
-pub gather-requires : goal.gather-requires
-gather-requires g c κs within = all_of_later c.args.net.now c.look.new.self c.args.shells.now.items c.look.ensures.looked.looked c.requires.together.crew.exchange
+pub gather-requires-clause-exchange : goal.gather-requires-clause-exchange
+gather-requires-clause-exchange g c κs within = all_of_later c.args.net.now c.look.new.self c.args.shells.now.items c.look.ensures.looked.looked c.requires.together.crew.exchange
 
 pub returns-clause-on : goal.returns-clause-on
 returns-clause-on g c =
@@ -23,5 +25,7 @@ returns-clause-rests g c = λ births company.
 pub returns-clause-finds : goal.returns-clause-finds
 returns-clause-finds g c =
     let net = c.args.net.now in let mid = c.look.new.self in let next = c.gather.new.net in let ss = c.args.shells.now.items in let after = c.gather.new.shells.items in let still = c.gather.ensures.still in
-    finds_spots net mid next ss after c.requires.together c.look.ensures.looked.looked still.len still.still still.looked (numbers_go ss after still.len (still_all_go ss after still.still)) c.as_slice-pending.result.now c.first_placed.result
-    c.in_ok-look.ensures.look.spots c.first_placed.ensures
+    let found : IsFirstPlaced after c.as_slice-2.result.now c.first_placed.result = subst (λ l. IsFirstPlaced l c.as_slice-2.result.now c.first_placed.result) c.as_slice.ensures.value c.first_placed.ensures in
+    let spots : c.as_slice-2.result.now ≡ spots_of g.A.Mail.Parcel.receiver net.actors (seen mid) = c.as_slice-2.ensures ∙ c.in_ok-look.ensures.look.spots in
+    let all : c.as_slice-2.result.now ≡ spots_of g.A.Mail.Parcel.receiver mid.actors (seen mid) = subst (λ n. c.as_slice-2.result.now ≡ spots_of g.A.Mail.Parcel.receiver n (seen mid)) (sym c.look.ensures.looked.looked.stays.exchange.1) spots in
+    finds_spots net mid next ss after c.requires.together c.look.ensures.looked.looked still.len still.still still.looked (numbers_go ss after still.len (still_all_go ss after still.still)) c.as_slice-2.result.now c.first_placed.result all found
