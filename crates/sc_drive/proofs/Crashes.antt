@@ -1,12 +1,11 @@
 -- In a lawful journal an actor crashes only where a line lets it.
-use Rattle.std.proofs.Common.{◌≡◌, ◌≢◌, ℕ, zero, suc, ◌+◌, ◌%◌, ◌<◌, Bool, true, false, eqb, cond, ◌||◌, ◌&&◌, find, List, [], ◌∷◌, ◌++◌, length, refl, sym, ap, ◌∙◌, subst, arith, Option, Some, None, Contains}
+use Rattle.std.proofs.Common.{◌≡◌, ◌≢◌, ℕ, zero, suc, ◌+◌, ◌%◌, Bool, true, false, eqb, cond, ◌||◌, ◌&&◌, find, List, [], ◌∷◌, ◌++◌, length, refl, sym, ap, ◌∙◌, arith, Option, Some, None, Contains}
 use Rattle.std.specs.Prelude.{slice_get, option_and_then}
 use Rattle.std.specs.Option.{option_map}
 use Rattle.std.specs.List.{flat_map}
 use Rattle.std.proofs.lemmas.Bool.{cond_both, eqb-true}
 use Rattle.std.proofs.lemmas.Option.{cond_some}
 use Rattle.sc_base.proofs.CommonLemmas.{and_then-some, map-some}
-use Rattle.sc_actor.specs.declared.actors.Seat.{Seat}
 use Rattle.sc_actor.specs.declared.rows.Row.{Row}
 use Rattle.sc_actor.specs.declared.rows.Event.{Event}
 use Rattle.sc_actor.specs.declared.rows.Event.TheVariants.{Deliver, Tick, Go, Told, Crash, Drop, Again}
@@ -14,7 +13,7 @@ use Rattle.sc_actor.specs.declared.schedules.Line.{Line}
 use Rattle.sc_actor.specs.declared.schedules.Line.TheVariants.{Go as GoLine, Deliver as DeliverLine, Drop as DropLine, Again as AgainLine, Tick as TickLine, Crash as CrashLine, Told as ToldLine, Settle, Free, Storm}
 use Rattle.sc_actor.specs.Mail.{mails, numbered, may_get, has_crashed, is_crash}
 use Rattle.sc_actor.specs.System.{System, acts, row_of, network, waiting, kth, numbers_of, has_gone}
-use Rattle.sc_actor.specs.Walk.{Task, Once, Settles, Frees, Storms, WalkPlace, Allows, MayAdd, IsWalk, IsLawful, after_row, start, onward, is_over, skips, cuts, rest_of, rest_of_all, tasks_of, storm_steps, line_row, lowest, first_of, delivery, repeat_of, picked, storm_row}
+use Rattle.sc_actor.specs.Walk.{Task, Once, Settles, Frees, Storms, WalkPlace, Allows, MayAdd, IsWalk, IsLawful, after_row, start, onward, is_over, skips, cuts, rest_of_all, tasks_of, storm_steps, line_row, delivery, repeat_of, picked, storm_row}
 use Rattle.sc_actor.proofs.Induction.{find-who}
 
 both_out : (a b : Bool) → a ≡ false → b ≡ false → (a || b) ≡ false

@@ -15,7 +15,7 @@ use Rattle.sc_actor.specs.Walk.{is_quiet}
 use Rattle.sc_actor.proofs.PendingLemmas.{waiting_any}
 use Rattle.sc_ledger.specs.declared.spots.Spot.{Spot}
 use Rattle.sc_ledger.specs.Pending.{upto, pending_of}
-use Rattle.sc_ledger.specs.Spots.{spot_after, spots_from, spots_of}
+use Rattle.sc_ledger.specs.Spots.{spot_after, spots_of}
 use Rattle.sc_exchange.specs.declared.ports.Port.{Port}
 use Rattle.sc_exchange.specs.Ports.{seen, Looked}
 use Rattle.sc_shell.specs.declared.shells.Shell.{Shell}
@@ -25,10 +25,10 @@ use Rattle.sc_drive.specs.Numbers.{is_in, apart}
 use Rattle.sc_drive.specs.Companies.{Company}
 use Rattle.sc_drive.specs.Goings.{IsTogether}
 use Rattle.sc_drive.specs.Stepping.{IsPlace}
-use Rattle.sc_drive.specs.Lowest.{Finds, Lowest, IsFirstPlaced}
+use Rattle.sc_drive.specs.Lowest.{Finds, IsFirstPlaced}
 use Rattle.sc_drive.proofs.SystemWords.{sys}
 use Rattle.sc_drive.proofs.LowestMail.{wider}
-use Rattle.sc_drive.proofs.OneActed.{count_seen, count_company, none_seen}
+use Rattle.sc_drive.proofs.OneActed.{count_seen, count_company}
 use Rattle.sc_drive.proofs.RowCounts.{flip, whole_front}
 use Rattle.sc_drive.proofs.Seats.{cut_at}
 

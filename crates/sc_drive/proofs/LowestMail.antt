@@ -1,5 +1,5 @@
 -- The lowest pending mail, to the exchange and to the system.
-use Rattle.std.proofs.Common.{◌≡◌, ℕ, zero, suc, ◌<◌, ◌≤◌, true, false, eqb, not, ◌&&◌, List, ◌∷◌, length, get_or, sym, ap, ◌∙◌, subst, arith, Some, None, Option, IfSome}
+use Rattle.std.proofs.Common.{◌≡◌, ℕ, zero, suc, ◌<◌, ◌≤◌, true, false, eqb, not, ◌&&◌, List, length, get_or, sym, ap, ◌∙◌, subst, arith, Some, None, Option, IfSome}
 use Rattle.std.specs.Prelude.{slice_get, is_none}
 use Rattle.std.specs.List.{list_any}
 use Rattle.std.proofs.lemmas.Bool.{and_parts, not-true}

@@ -1,7 +1,7 @@
 //! A schedule driven to its end.
 ghost use Rattle.std.specs.Prelude.{◌≡◌, ◌≢◌, ℕ, [], ◌∷◌, List, OnOk, IsErrOf, false, true, All};
 ghost use Rattle.sc_actor.specs.declared.actors.Seat.{Seat};
-ghost use Rattle.sc_drive.specs.Companies.{AtBirth};
+ghost use Rattle.sc_drive.specs.Companies.{AtBirth, Company};
 ghost use Rattle.sc_drive.specs.Goings.{Goes, Fills, IsDriven, IsKept, IsOn, IsTogether, MayGo, SparesGoers};
 ghost use Rattle.sc_actor.specs.Walk.{has_one_task, line_task};
 
@@ -39,6 +39,7 @@ fn run_line<A: Actor, G: Gate, R: Threads + Wait + Sync>(
     gate: &G,
 ) -> Result<(), Stop>
     requires together { IsTogether net.old shells.old.items }
+    requires company { (births : List (Seat A)) × Company births net.old shells.old.items }
     requires built { has_one_task line.now ≡ true }
     requires runs { (who : ℕ) → line.now ≡ Line.Go who → MayGo who net.old shells.old.items }
     ensures on { OnOk result (IsOn net.old shells.old.items net.new shells.new.items) }

@@ -1,7 +1,9 @@
 //! A line of many deliveries, each of the lowest-numbered pending mail of all.
-ghost use Rattle.std.specs.Prelude.{◌<◌, ◌-◌, [], ◌∷◌, IfOk, OnOk, IsErrOf, Some};
+ghost use Rattle.std.specs.Prelude.{◌<◌, ◌-◌, List, [], ◌∷◌, IfOk, OnOk, IsErrOf, Some};
 ghost use Rattle.sc_actor.specs.Walk.{Settles};
 ghost use Rattle.sc_workers.specs.Ends.{IsFirst};
+ghost use Rattle.sc_actor.specs.declared.actors.Seat.{Seat};
+ghost use Rattle.sc_drive.specs.Companies.{Company};
 ghost use Rattle.sc_drive.specs.Goings.{Goes, Fills, IsKept, IsOn, IsTogether};
 ghost use Rattle.sc_drive.specs.Lowest.{Finds, IsFirstPlaced, Rests};
 
@@ -97,9 +99,13 @@ fn settle_step<A: Actor, G: Gate, R: Wait>(
     gate: &G,
 ) -> Result<Option<usize>, Stop>
     requires together { IsTogether net.old shells.old.items }
+    requires company { (births : List (Seat A)) × Company births net.old shells.old.items }
     requires finds { Finds net.old shells.old.items (Some place) }
     requires left { 0 < left }
     ensures on { OnOk result (IsOn net.old shells.old.items net.new shells.new.items) }
+    ensures company { OnOk result
+        ((births : List (Seat A)) → Company births net.old shells.old.items →
+        Company births net.new shells.new.items) }
     ensures kept { IsErrOf result Stop.Full →
         IsKept net.old shells.old.items net.new shells.new.items }
     ensures finds { IfOk result (Finds net.new shells.new.items) }
@@ -120,8 +126,8 @@ fn settle_step<A: Actor, G: Gate, R: Wait>(
             Ok(next)
         }
         Turn::Full { .. } => Err(Stop::Full),
-        Turn::Empty { .. } => Err(Stop::OutOfMemory),
-        Turn::Spent => Err(Stop::OutOfMemory),
+        Turn::Empty { .. } => unreachable!(),
+        Turn::Spent => unreachable!(),
         Turn::OutOfMemory => Err(Stop::OutOfMemory),
     }
 }
@@ -137,6 +143,7 @@ pub(crate) fn run_settle<A: Actor, G: Gate, R: Wait>(
     gate: &G,
 ) -> Result<(), Stop>
     requires together { IsTogether net.old shells.old.items }
+    requires company { (births : List (Seat A)) × Company births net.old shells.old.items }
     ensures on { OnOk result (IsOn net.old shells.old.items net.new shells.new.items) }
     ensures kept { IsErrOf result Stop.Full →
         IsKept net.old shells.old.items net.new shells.new.items }

@@ -30,6 +30,10 @@ gather-requires-clause-exchange g c κs within = c.requires.begins.1.crew.exchan
 pub run_line-requires-clause-together : goal.run_line-requires-clause-together
 run_line-requires-clause-together g c κs within = together_on c.args.net.now c.loop-line.net c.args.shells.now.items c.loop-line.shells.items c.requires.begins.1.crew.first c.loop-line.invariant.on
 
+pub run_line-requires-clause-company : goal.run_line-requires-clause-company
+run_line-requires-clause-company g c κs within =
+    let births = c.requires.begins.0 in (births, (c.loop-line.invariant.at no_words births c.requires.begins.1).company)
+
 pub run_line-requires-clause-built : goal.run_line-requires-clause-built
 run_line-requires-clause-built g c κs within = one_task_at c.args.lines.now c.requires.built c.loop-line.line-index c.line-item.result c.loop-line-test.true c.line-item.is
 

@@ -1,4 +1,4 @@
-use Rattle.std.proofs.Common.{true, true≢false, sym, ◌∙◌, ap}
+use Rattle.std.proofs.Common.{true≢false, sym, ◌∙◌, ap}
 use Rattle.sc_drive.proofs.SingleSteps.{calm_else}
 use Rattle.sc_drive.proofs.schedules.run_line.Goals as goal
 use Rattle.sc_actor.specs.Walk.{has_one_task}

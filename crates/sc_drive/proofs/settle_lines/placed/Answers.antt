@@ -1,5 +1,4 @@
-use Rattle.std.proofs.Common.{rules, ◌≡◌, None, Some, refl, sym, subst}
-use Rattle.sc_workers.specs.Ends.{IsFirst}
+use Rattle.std.proofs.Common.{None, Some, refl, sym, subst}
 use Rattle.sc_drive.specs.Lowest.{IsPlaced}
 use Rattle.sc_drive.specs.Stepping.{IsPlace}
 use Rattle.sc_drive.proofs.Kept.{on_same}

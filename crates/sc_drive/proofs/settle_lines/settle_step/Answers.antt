@@ -1,9 +1,9 @@
 use Rattle.std.proofs.Common.{◌-◌, [], ◌∷◌, refl, subst}
 use Rattle.sc_actor.specs.Walk.{Settles}
 use Rattle.sc_shell.specs.declared.turns.Turn.{Turn}
-use Rattle.sc_shell.specs.declared.turns.Turn.TheVariants.{Did, Full}
-use Rattle.sc_drive.specs.Acts.{ServedAll, SoundAfter}
-use Rattle.sc_drive.proofs.SettleSteps.{goes_rest, goes_then, settles_did, settles_full}
+use Rattle.sc_shell.specs.declared.turns.Turn.TheVariants.{Did, Empty, Full, Spent}
+use Rattle.sc_drive.specs.Acts.{Served, ServedAll, SoundAfter}
+use Rattle.sc_drive.proofs.SettleSteps.{goes_rest, goes_then, never_empty, never_spent, settles_did, settles_full}
 use Rattle.sc_drive.proofs.Kept.{on_then, together_on}
 use Rattle.sc_drive.proofs.settle_lines.settle_step.Goals as goal
 
@@ -37,3 +37,21 @@ returns-in-Full-clause-fills g c = λ _.
 
 pub returns-in-Full-clause-kept : goal.returns-in-Full-clause-kept
 returns-in-Full-clause-kept g c = λ _. c.in-Ok.ensures.kept
+
+pub returns-in-Did-clause-company : goal.returns-in-Did-clause-company
+returns-in-Did-clause-company g c = λ births company.
+    let net = c.args.net.now in let ss = c.args.shells.now.items in let mid = c.serve.new.net in let mids = c.serve.new.shells.items in
+    let served : ServedAll c.args.place 1 net mid ss mids (Did c.in-Did.at) = subst (ServedAll c.args.place 1 net mid ss mids) c.in-Did.is c.in-Ok.ensures.served in
+    (c.in-Ok-placed.ensures.rests births (served births company).0).0
+
+pub unreachable-requires : goal.unreachable-requires
+unreachable-requires g c =
+    let net = c.args.net.now in let ss = c.args.shells.now.items in let mid = c.serve.new.net in let mids = c.serve.new.shells.items in let born = c.requires.company in
+    let served : Served born.0 c.args.place 1 net mid ss mids (Empty c.in-Empty.seen) = subst (Served born.0 c.args.place 1 net mid ss mids) c.in-Empty.is (c.in-Ok.ensures.served born.0 born.1) in
+    never_empty born.0 net mid ss mids c.args.place born.1 c.requires.finds c.in-Empty.seen served
+
+pub unreachable-requires-in-Spent : goal.unreachable-requires-in-Spent
+unreachable-requires-in-Spent g c =
+    let net = c.args.net.now in let ss = c.args.shells.now.items in let mid = c.serve.new.net in let mids = c.serve.new.shells.items in let born = c.requires.company in
+    let served : Served born.0 c.args.place 1 net mid ss mids Spent = subst (Served born.0 c.args.place 1 net mid ss mids) c.in-Spent.is (c.in-Ok.ensures.served born.0 born.1) in
+    never_spent born.0 net mid ss mids c.args.place born.1 c.requires.finds served
