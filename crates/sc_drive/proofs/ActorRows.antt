@@ -56,7 +56,8 @@ module _ {A M O : Type 0} {g : Ghosts A M O} {h : MailGhosts M} where
       abbrev e : Seat A
       e = record { who = 0; actor = d.actor }
 
-      halted : (b : Bool) → HasHalted ss place b → has_crashed (seen net) who ≡ b
+      -- the shell tells whether the actor has crashed
+      pub halted : (b : Bool) → HasHalted ss place b → has_crashed (seen net) who ≡ b
       halted b is = ap (has_crashed (seen net)) (sym (at.number d)) ∙ (crashed_at words births net ss c place at.inside d ∙ is d)
 
       act_is : (event : Event O) → acts (sys words births net ss c) (seen net) who event ≡ Some (row_of g.table (get_or births place e) (seen net) event)
@@ -100,13 +101,21 @@ module _ {A M O : Type 0} {g : Ghosts A M O} {h : MailGhosts M} where
       pub delivers_full : (k n : ℕ) → Served births place k net next ss after (Full n) → Stepped (sys words births net ss c) (line_row (sys words births net ss c) (seen net) (DeliverLine who k)) net next after TooMuch
       delivers_full k n t = ((row_of g.table (get_or births place e) (seen net) (Deliver t.1.0), delivers k t.1.0 (t.1.1 d), t.1.2 e), t.0)
 
+      -- no k-th mail is pending
+      pub serves_empty : (k n : ℕ) → Served births place k net next ss after (Empty n) → kth (waiting (sys words births net ss c) (seen net) (Some who)) k ≡ None
+      serves_empty k n t = kth_at k None (t.2 d)
+
+      -- nor for an actor that has crashed
+      pub serves_spent : (k : ℕ) → Served births place k net next ss after Spent → kth (waiting (sys words births net ss c) (seen net) (Some who)) k ≡ None
+      serves_spent k t = waiting_crashed words births net ss c who k (seen net) (halted true t.2)
+
       -- too few are pending
       pub delivers_empty : (k n : ℕ) → Served births place k net next ss after (Empty n) → Stepped (sys words births net ss c) (line_row (sys words births net ss c) (seen net) (DeliverLine who k)) net next after Skipped
-      delivers_empty k n t = (t.0, ap (option_and_then (λ mail. acts (sys words births net ss c) (seen net) who (Deliver mail))) (kth_at k None (t.2 d)), t.1)
+      delivers_empty k n t = (t.0, ap (option_and_then (λ mail. acts (sys words births net ss c) (seen net) who (Deliver mail))) (serves_empty k n t), t.1)
 
       -- the actor has crashed, and nothing is pending for it
       pub delivers_spent : (k : ℕ) → Served births place k net next ss after Spent → Stepped (sys words births net ss c) (line_row (sys words births net ss c) (seen net) (DeliverLine who k)) net next after Skipped
-      delivers_spent k t = (t.0, ap (option_and_then (λ mail. acts (sys words births net ss c) (seen net) who (Deliver mail))) (waiting_crashed words births net ss c who k (seen net) (halted true t.2)), t.1)
+      delivers_spent k t = (t.0, ap (option_and_then (λ mail. acts (sys words births net ss c) (seen net) who (Deliver mail))) (serves_spent k t), t.1)
 
     -- an actor that is not there
     pub tells_nowhere : (who : ℕ) (event : Event O) → IsNowhere ss who → Stepped (sys words births net ss c) (acts (sys words births net ss c) (seen net) who event) net net ss Skipped

@@ -16,3 +16,5 @@ pub mod Births
 pub mod WholeSchedules
 pub mod Seats
 pub mod Closed
+pub mod Crashes
+pub mod FirstCopies

@@ -1,5 +1,5 @@
 -- The lowest pending mail, to the exchange and to the system.
-use Rattle.std.proofs.Common.{◌≡◌, ℕ, zero, suc, ◌<◌, ◌≤◌, true, false, eqb, not, ◌&&◌, List, ◌∷◌, length, get_or, sym, ap, ◌∙◌, subst, arith, Some, None, Option, IfSome}
+use Rattle.std.proofs.Common.{◌≡◌, ℕ, zero, suc, ◌<◌, ◌≤◌, true, false, eqb, not, ◌&&◌, List, length, get_or, sym, ap, ◌∙◌, subst, arith, Some, None, Option, IfSome}
 use Rattle.std.specs.Prelude.{slice_get, is_none}
 use Rattle.std.specs.List.{list_any}
 use Rattle.std.proofs.lemmas.Bool.{and_parts, not-true}
@@ -29,7 +29,7 @@ use Rattle.sc_exchange.specs.declared.answers.Fetched.{Fetched}
 module _ {A M O : Type 0} {g : Ghosts A M O} {h : MailGhosts M} where
   module _ (words : ℕ → ℕ → ℕ × ℕ) (births : List (Seat A)) (net : Port M O h) (ss : List (Shell A M O g h)) (c : Company births net ss) (rows : List (Row M O)) where
     -- an actor of the system is one of the exchange
-    wider : (m : M) → may_get (numbers_of births) rows (h.receiver m) ≡ true → may_get (upto net.actors) rows (h.receiver m) ≡ true
+    pub wider : (m : M) → may_get (numbers_of births) rows (h.receiver m) ≡ true → may_get (upto net.actors) rows (h.receiver m) ≡ true
     wider m t =
         let w = h.receiver m in
         let parts = and_parts (list_any (λ a. eqb a w) (numbers_of births)) (not (has_crashed rows w)) t in

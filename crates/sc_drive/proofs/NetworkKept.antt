@@ -1,5 +1,5 @@
 -- What is kept of the exchange where the network lost or repeated a mail.
-use Rattle.std.proofs.Common.{◌≡◌, ℕ, List, refl, ◌∙◌}
+use Rattle.std.proofs.Common.{ℕ, List, refl, ◌∙◌}
 use Rattle.sc_actor.specs.declared.actors.Actor.{Ghosts}
 use Rattle.sc_actor.specs.declared.actors.Parcel.{Ghosts as MailGhosts}
 use Rattle.sc_exchange.specs.declared.fates.Fate.{Fate}

@@ -1,5 +1,5 @@
 -- What the network's port has seen once all have met: how many rows, and which.
-use Rattle.std.proofs.Common.{◌≡◌, ℕ, zero, suc, ◌+◌, ◌<◌, ◌≤◌, inl, inr, Bool, true, false, true≢false, eqb, eq-eqb, ◌||◌, List, [], ◌∷◌, ◌++◌, length, sum_by, get_or, set, get_or-set_other, get_or-set_same, refl, sym, ap, ◌∙◌, subst, arith, length-append, Contains}
+use Rattle.std.proofs.Common.{◌≡◌, ℕ, zero, suc, ◌+◌, ◌<◌, ◌≤◌, inl, inr, Bool, true, false, true≢false, eqb, eq-eqb, List, [], ◌∷◌, ◌++◌, length, sum_by, get_or, set, get_or-set_other, get_or-set_same, refl, sym, ap, ◌∙◌, subst, arith, length-append, Contains}
 use mathlib.Core.Logic.{dite}
 use native.Mathlib.Decide.{ℕ_discrete}
 use Rattle.sc_turn.specs.Turn.{StartsWith}

@@ -1,5 +1,5 @@
 -- A line of deliveries of the lowest mail takes the walk on.
-use Rattle.std.proofs.Common.{◌≡◌, ℕ, ◌+◌, ◌-◌, ◌<◌, ◌≤◌, Bool, true, false, eqb, not, ◌||◌, List, [], ◌∷◌, ◌++◌, refl, sym, ap, ◌∙◌, subst, arith, Some, None}
+use Rattle.std.proofs.Common.{◌≡◌, ◌≢◌, ℕ, ◌+◌, ◌-◌, ◌<◌, ◌≤◌, Bool, true, false, eqb, not, ◌||◌, List, [], ◌∷◌, ◌++◌, refl, sym, ap, ◌∙◌, subst, arith, Some, None}
 use Rattle.std.specs.Prelude.{is_none, option_and_then}
 use Rattle.std.proofs.lemmas.Bool.{ne_eqb}
 use Rattle.sc_actor.specs.declared.actors.Actor.{Ghosts}
@@ -10,20 +10,21 @@ use Rattle.sc_actor.specs.declared.rows.Event.TheVariants.{Deliver}
 use Rattle.sc_actor.specs.declared.schedules.Line.{Line}
 use Rattle.sc_actor.specs.declared.schedules.Line.TheVariants.{Deliver as DeliverLine}
 use Rattle.sc_actor.specs.Counted.{journal_bytes, IsFull}
-use Rattle.sc_actor.specs.System.{System, system, acts, waiting, kth, has_gone}
+use Rattle.sc_actor.specs.System.{System, system, acts, waiting, kth, has_gone, no_words}
 use Rattle.sc_actor.specs.Walk.{Task, Settles, is_over, is_quiet, line_row, lowest, delivery, IsLawful, place_after, onward}
 use Rattle.sc_actor.proofs.WalkLemmas.{Stands, Stands-over, Stands-row, Stands-next}
 use Rattle.sc_ledger.proofs.Kept.{bytes-push}
 use Rattle.sc_exchange.specs.declared.ports.Port.{Port}
 use Rattle.sc_exchange.specs.Ports.{seen}
 use Rattle.sc_shell.specs.declared.shells.Shell.{Shell}
-use Rattle.sc_shell.specs.declared.turns.Turn.TheVariants.{Did, Full}
+use Rattle.sc_shell.specs.declared.turns.Turn.TheVariants.{Did, Empty, Full, Spent}
 use Rattle.sc_drive.specs.declared.steps.Score.{Score}
 use Rattle.sc_drive.specs.Numbers.{is_in}
-use Rattle.sc_drive.specs.Acts.{ServedAll}
+use Rattle.sc_drive.specs.Acts.{Served, ServedAll}
+use Rattle.sc_drive.specs.Companies.{Company}
 use Rattle.sc_drive.specs.Goings.{At, Goes, Fills}
 use Rattle.sc_drive.specs.Lowest.{Finds, LowestAt, Rests}
-use Rattle.sc_drive.proofs.ActorRows.{delivers_did, delivers_full}
+use Rattle.sc_drive.proofs.ActorRows.{delivers_did, delivers_full, serves_empty, serves_spent}
 use Rattle.sc_drive.proofs.FreeRows.{first_is}
 use Rattle.sc_drive.proofs.SingleSteps.{no_go}
 use Rattle.std.proofs.Math.Bool.{or-false, or-true}
@@ -49,6 +50,30 @@ module _ {A M O : Type 0} {g : Ghosts A M O} {h : MailGhosts M} where
       ap (option_and_then (delivery s (seen net))) l.first
       ∙ (ap (option_and_then (λ m. acts s (seen net) (s.receiver m) (Deliver l.number))) l.sent
       ∙ sym (ap (option_and_then (λ mail. acts s (seen net) (s.receiver l.mail) (Deliver mail))) wait))
+
+  -- the lowest mail of all is pending for its receiver
+  own_waits : (s : System A M O) (net : Port M O h) (ss : List (Shell A M O g h)) (place : ℕ) (l : LowestAt s net ss place) → kth (waiting s (seen net) (Some (s.receiver l.mail))) 1 ≢ None
+  own_waits s net ss place l none =
+      let f = first_is s (seen net) l.number l.first in
+      let some : Some f.0 ≡ Some l.mail = sym f.1 ∙ l.sent in
+      let same : f.0 ≡ l.mail = cc in
+      let wait : kth (waiting s (seen net) (Some (s.receiver l.mail))) 1 ≡ Some l.number = subst (λ m. kth (waiting s (seen net) (Some (s.receiver m))) 1 ≡ Some l.number) same f.3 in
+      let lost : None ≡ Some l.number = sym none ∙ wait in cc
+
+  module _ (births : List (Seat A)) (net next : Port M O h) (ss after : List (Shell A M O g h)) (place : ℕ) (company : Company births net ss) (found : Finds net ss (Some place)) where
+    -- what was found is taken
+    pub never_empty : (n : ℕ) → Served births place 1 net next ss after (Empty n) → ⊥
+    never_empty n served =
+        let l = found.lowest no_words births company in
+        own_waits (system g.table h.receiver no_words births) net ss place l
+        (serves_empty no_words births net next ss after company (h.receiver l.mail) place l.at 1 n served)
+
+    -- and its receiver has not crashed
+    pub never_spent : Served births place 1 net next ss after Spent → ⊥
+    never_spent served =
+        let l = found.lowest no_words births company in
+        own_waits (system g.table h.receiver no_words births) net ss place l
+        (serves_spent no_words births net next ss after company (h.receiver l.mail) place l.at 1 served)
 
   -- all gathered once more, and nothing was made
   pub goes_rest : (net next : Port M O h) (ss after : List (Shell A M O g h)) (score : Score) (tasks : List (Task O)) → Rests net ss next after → next.limit ≡ net.limit → Goes net ss score tasks next after score tasks

@@ -1,5 +1,5 @@
 -- How a driver stands with the walk of a schedule.
-use Rattle.std.specs.Prelude.{◌≡◌, ℕ, ◌≤◌, List, ◌++◌, Bool, Option, ⊤}
+use Rattle.std.specs.Prelude.{◌≡◌, ℕ, ◌≤◌, List, ◌++◌, Bool, false, Option, ⊤, Contains}
 use Rattle.sc_actor.specs.declared.actors.Actor.{Ghosts}
 use Rattle.sc_actor.specs.declared.actors.Parcel.{Ghosts as MailGhosts}
 use Rattle.sc_actor.specs.declared.actors.Seat.{Seat}
@@ -7,8 +7,9 @@ use Rattle.sc_actor.specs.declared.rows.Event.{Event}
 use Rattle.sc_actor.specs.declared.rows.Event.TheVariants.{Go as GoEvent}
 use Rattle.sc_actor.specs.declared.rows.Row.{Row}
 use Rattle.sc_actor.specs.declared.schedules.Line.{Line}
-use Rattle.sc_actor.specs.declared.schedules.Line.TheVariants.{Go, Settle, Free, Storm}
+use Rattle.sc_actor.specs.declared.schedules.Line.TheVariants.{Go, Crash, Settle, Free, Storm}
 use Rattle.sc_actor.specs.Counted.{journal_bytes, IsFull}
+use Rattle.sc_actor.specs.Mail.{has_crashed}
 use Rattle.sc_actor.specs.Replay.{values}
 use Rattle.sc_actor.specs.System.{System, system, acts, has_gone}
 use Rattle.sc_actor.specs.Walk.{Task, IsLawful, IsWhole, place_after, onward, line_row, skipped, unsettled, is_quiet}
@@ -33,7 +34,15 @@ IsCalm (Free most workers) = ⊥
 IsCalm (Storm number most) = ⊥
 IsCalm line = ⊤
 
+-- no actor that a line tells to go is one that a line lets crash
+abbrev pub SparesGoers : {O : Type 0} → List (Line O) → Type 0
+SparesGoers lines = (who : ℕ) → Contains lines (Go who) → ¬ Contains lines (Crash who)
+
 module _ {A M O : Type 0} {g : Ghosts A M O} {h : MailGhosts M} where
+  -- the shells are those of all actors, and this one has not crashed
+  abbrev pub MayGo : ℕ → Port M O h → List (Shell A M O g h) → Type 0
+  MayGo who net ss = (births : List (Seat A)) × Company births net ss × (has_crashed (seen net) who ≡ false)
+
   -- What it came to that this row might be made.
   abbrev pub MakesSo : (System A M O → List (Row M O) → Option (Row M O)) → Port M O h → List (Shell A M O g h) → Port M O h → List (Shell A M O g h) → Step → Type 0
   MakesSo may net ss next after step =

@@ -1,16 +1,19 @@
 -- The lowest-numbered pending mail of all.
-use Rattle.std.specs.Prelude.{◌≡◌, ℕ, ◌<◌, List, length, true, ⊤, Option, None, Some, IfSome}
+use Rattle.std.specs.Prelude.{◌≡◌, ℕ, ◌<◌, List, length, find, true, ⊤, Option, None, Some, IfSome}
 use Rattle.sc_actor.specs.declared.actors.Actor.{Ghosts}
 use Rattle.sc_actor.specs.declared.actors.Parcel.{Ghosts as MailGhosts}
 use Rattle.sc_actor.specs.declared.actors.Seat.{Seat}
 use Rattle.sc_actor.specs.Mail.{mails, numbered}
 use Rattle.sc_actor.specs.System.{System, system, waiting, kth}
 use Rattle.sc_actor.specs.Walk.{is_quiet}
+use Rattle.sc_ledger.specs.declared.spots.Spot.{Spot}
 use Rattle.sc_exchange.specs.declared.answers.Fetched.{Fetched}
 use Rattle.sc_exchange.specs.declared.answers.Fetched.TheVariants.{Mail, Empty}
 use Rattle.sc_exchange.specs.declared.ports.Port.{Port}
 use Rattle.sc_exchange.specs.Ports.{seen}
 use Rattle.sc_shell.specs.declared.shells.Shell.{Shell}
+use Rattle.sc_workers.specs.Crews.{numbers}
+use Rattle.sc_drive.specs.Numbers.{is_in}
 use Rattle.sc_drive.specs.Companies.{Company}
 use Rattle.sc_drive.specs.Stepping.{IsPlace}
 
@@ -43,3 +46,8 @@ module _ {A M O : Type 0} {g : Ghosts A M O} {h : MailGhosts M} where
   IsPlaced ss (Empty told) (Some place) = ⊥
   IsPlaced ss (Mail number mail) None = ⊥
   IsPlaced ss (Mail number mail) (Some place) = IsPlace ss (h.receiver mail) place
+
+  -- of these copies, the place of the shell that gets the first that one gets
+  abbrev pub IsFirstPlaced : List (Shell A M O g h) → List Spot → Option ℕ → Type 0
+  IsFirstPlaced ss spots None = find (λ spot. is_in spot.who (numbers ss)) spots ≡ None
+  IsFirstPlaced ss spots (Some place) = (spot : Spot) × (find (λ spot. is_in spot.who (numbers ss)) spots ≡ Some spot) × IsPlace ss spot.who place

@@ -3,6 +3,7 @@
 
 mod actor_lines;
 mod acts;
+mod conditions;
 mod end;
 mod free_lines;
 mod network_lines;
@@ -12,6 +13,7 @@ mod single_lines;
 mod start;
 mod steps;
 
+pub use conditions::goers_are_spared;
 pub use end::close;
 pub use schedules::drive;
 pub use start::open;

@@ -1,9 +1,8 @@
 //! A schedule driven to its end.
 ghost use Rattle.std.specs.Prelude.{◌≡◌, ◌≢◌, ℕ, [], ◌∷◌, List, OnOk, IsErrOf, false, true, All};
 ghost use Rattle.sc_actor.specs.declared.actors.Seat.{Seat};
-ghost use Rattle.sc_workers.specs.Crews.{IsCrew};
-ghost use Rattle.sc_drive.specs.Companies.{AtBirth};
-ghost use Rattle.sc_drive.specs.Goings.{Goes, Fills, IsDriven, IsKept, IsOn, IsTogether};
+ghost use Rattle.sc_drive.specs.Companies.{AtBirth, Company};
+ghost use Rattle.sc_drive.specs.Goings.{Goes, Fills, IsDriven, IsKept, IsOn, IsTogether, MayGo, SparesGoers};
 ghost use Rattle.sc_actor.specs.Walk.{has_one_task, line_task};
 
 use crate::free_lines::run_free;
@@ -40,7 +39,9 @@ fn run_line<A: Actor, G: Gate, R: Threads + Wait + Sync>(
     gate: &G,
 ) -> Result<(), Stop>
     requires together { IsTogether net.old shells.old.items }
+    requires company { (births : List (Seat A)) × Company births net.old shells.old.items }
     requires built { has_one_task line.now ≡ true }
+    requires runs { (who : ℕ) → line.now ≡ Line.Go who → MayGo who net.old shells.old.items }
     ensures on { OnOk result (IsOn net.old shells.old.items net.new shells.new.items) }
     ensures kept { IsErrOf result Stop.Full →
         IsKept net.old shells.old.items net.new shells.new.items }
@@ -63,9 +64,9 @@ fn run_line<A: Actor, G: Gate, R: Threads + Wait + Sync>(
 
 /// Drives a schedule through the network's port and the shells of its actors.
 ///
-/// No line is a storm. Where the shells are those of actors at their births, each at its port, and
-/// no port has made a row, the journal is afterwards what the contract of a played schedule says. A
-/// line that tells a crashed actor to go is answered as a want of memory.
+/// The shells are those of actors at their births, each at its port, and no port has made a row. No
+/// line is a storm, and none tells an actor to go that another lets crash (`goers_are_spared`). The
+/// journal is afterwards what the contract of a played schedule says.
 pub fn drive<A: Actor, G: Gate, R: Threads + Wait + Sync>(
     rt: &R,
     alloc: Global,
@@ -74,8 +75,9 @@ pub fn drive<A: Actor, G: Gate, R: Threads + Wait + Sync>(
     lines: &[Line<A::Order>],
     gate: &G,
 ) -> Driven
-    requires crew { IsCrew net.old shells.old.items }
+    requires begins { (births : List (Seat A)) × AtBirth births net.old shells.old.items }
     requires built { All (λ line. has_one_task line ≡ true) lines.now }
+    requires spared { SparesGoers lines.now }
     ensures kept { result ≢ Driven.OutOfMemory →
         IsKept net.old shells.old.items net.new shells.new.items }
     ensures driven { (words : ℕ → ℕ → ℕ × ℕ) (births : List (Seat A)) →

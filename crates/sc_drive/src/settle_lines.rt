@@ -1,36 +1,74 @@
 //! A line of many deliveries, each of the lowest-numbered pending mail of all.
-ghost use Rattle.std.specs.Prelude.{◌<◌, ◌-◌, [], ◌∷◌, IfOk, OnOk, IsErrOf, Some};
+ghost use Rattle.std.specs.Prelude.{◌<◌, ◌-◌, List, [], ◌∷◌, IfOk, OnOk, IsErrOf, Some};
 ghost use Rattle.sc_actor.specs.Walk.{Settles};
+ghost use Rattle.sc_workers.specs.Ends.{IsFirst};
+ghost use Rattle.sc_actor.specs.declared.actors.Seat.{Seat};
+ghost use Rattle.sc_drive.specs.Companies.{Company};
 ghost use Rattle.sc_drive.specs.Goings.{Goes, Fills, IsKept, IsOn, IsTogether};
-ghost use Rattle.sc_drive.specs.Lowest.{Finds, IsPlaced, Rests};
+ghost use Rattle.sc_drive.specs.Lowest.{Finds, IsFirstPlaced, Rests};
 
 use crate::actor_lines::place_of;
 use crate::acts::serve;
 use crate::steps::{Score, Stop};
 use sc_actor::{Actor, Gate, Parcel};
 use sc_base::OutOfMemory;
-use sc_exchange::{Fetched, Port};
+use sc_exchange::{Fetched, Port, Spot};
 use sc_shell::{Shell, Turn};
 use sc_workers::gather;
 use std::alloc::Global;
 use std::sync::Wait;
 
-// The place of the shell that gets what was fetched. None where nothing was.
+// Of these copies, the place of the shell that gets the first that one gets.
+fn first_placed<A: Actor>(shells: &[Shell<A>], spots: &[Spot]) -> Option<usize>
+    ensures { IsFirstPlaced shells.now spots.now result }
+{
+    for spot in spots {
+        if let Some(place) = place_of(shells, spot.who) {
+            return Some(place);
+        }
+    }
+    None
+}
+
+// The same of all that is pending. It takes memory for all of that.
+fn look_on<A: Actor, R: Wait>(
+    rt: &R,
+    net: &mut Port<A::Mail, A::Order>,
+    shells: &mut Vec<Shell<A>>,
+) -> Result<Option<usize>, OutOfMemory>
+    requires together { IsTogether net.old shells.old.items }
+    ensures on { OnOk result (IsOn net.old shells.old.items net.new shells.new.items) }
+    ensures rests { OnOk result (Rests net.old shells.old.items net.new shells.new.items) }
+    ensures finds { IfOk result (Finds net.new shells.new.items) }
+{
+    let look = net.look(rt)?;
+    let _ = gather(rt, net, shells)?;
+    Ok(first_placed(shells.as_slice(), look.pending.as_slice()))
+}
+
+// The place of the shell that gets the lowest-numbered pending mail of all, where this is what was
+// found first. None where no mail is pending.
 //
-// Mail goes to the desk or to an actor that has a shell; what is pending is not for the desk.
-fn place_in<A: Actor>(
-    shells: &[Shell<A>],
+// Mail to an actor that has no shell is passed over.
+fn placed<A: Actor, R: Wait>(
+    rt: &R,
+    net: &mut Port<A::Mail, A::Order>,
+    shells: &mut Vec<Shell<A>>,
     found: &Fetched<A::Mail>,
 ) -> Result<Option<usize>, OutOfMemory>
-    ensures { IfOk result (IsPlaced shells.now found.now) }
+    requires together { IsTogether net.old shells.old.items }
+    requires first { IsFirst net.old found.now }
+    ensures on { OnOk result (IsOn net.old shells.old.items net.new shells.new.items) }
+    ensures rests { OnOk result (Rests net.old shells.old.items net.new shells.new.items) }
+    ensures finds { IfOk result (Finds net.new shells.new.items) }
 {
     let Fetched::Mail { number: _, mail } = found else {
         return Ok(None);
     };
-    let Some(place) = place_of(shells, mail.to()) else {
-        return Err(OutOfMemory);
-    };
-    Ok(Some(place))
+    match place_of(shells.as_slice(), mail.to()) {
+        Some(place) => Ok(Some(place)),
+        None => look_on(rt, net, shells),
+    }
 }
 
 /// All gather. Answers the place of the shell that gets the lowest-numbered pending mail of all,
@@ -46,8 +84,7 @@ pub(crate) fn lowest<A: Actor, R: Wait>(
     ensures finds { IfOk result (Finds net.new shells.new.items) }
 {
     let found = gather(rt, net, shells)?;
-    let place = place_in(shells.as_slice(), &found)?;
-    Ok(place)
+    placed(rt, net, shells, &found)
 }
 
 // One delivery of such a line, at the place that was found. Answers where the next one is to come.
@@ -62,9 +99,13 @@ fn settle_step<A: Actor, G: Gate, R: Wait>(
     gate: &G,
 ) -> Result<Option<usize>, Stop>
     requires together { IsTogether net.old shells.old.items }
+    requires company { (births : List (Seat A)) × Company births net.old shells.old.items }
     requires finds { Finds net.old shells.old.items (Some place) }
     requires left { 0 < left }
     ensures on { OnOk result (IsOn net.old shells.old.items net.new shells.new.items) }
+    ensures company { OnOk result
+        ((births : List (Seat A)) → Company births net.old shells.old.items →
+        Company births net.new shells.new.items) }
     ensures kept { IsErrOf result Stop.Full →
         IsKept net.old shells.old.items net.new shells.new.items }
     ensures finds { IfOk result (Finds net.new shells.new.items) }
@@ -79,14 +120,14 @@ fn settle_step<A: Actor, G: Gate, R: Wait>(
     };
     match turn {
         Turn::Did { .. } => {
-            let Ok(next) = place_in(shells.as_slice(), &found) else {
+            let Ok(next) = placed(rt, net, shells, &found) else {
                 return Err(Stop::OutOfMemory);
             };
             Ok(next)
         }
         Turn::Full { .. } => Err(Stop::Full),
-        Turn::Empty { .. } => Err(Stop::OutOfMemory),
-        Turn::Spent => Err(Stop::OutOfMemory),
+        Turn::Empty { .. } => unreachable!(),
+        Turn::Spent => unreachable!(),
         Turn::OutOfMemory => Err(Stop::OutOfMemory),
     }
 }
@@ -102,6 +143,7 @@ pub(crate) fn run_settle<A: Actor, G: Gate, R: Wait>(
     gate: &G,
 ) -> Result<(), Stop>
     requires together { IsTogether net.old shells.old.items }
+    requires company { (births : List (Seat A)) × Company births net.old shells.old.items }
     ensures on { OnOk result (IsOn net.old shells.old.items net.new shells.new.items) }
     ensures kept { IsErrOf result Stop.Full →
         IsKept net.old shells.old.items net.new shells.new.items }

@@ -2,7 +2,7 @@
 ghost use Rattle.std.specs.Prelude.{◌≡◌, ◌+◌, [], ◌∷◌, IfOk, OnOk, IsErrOf};
 ghost use Rattle.sc_actor.specs.Walk.{Once, line_task};
 ghost use Rattle.sc_drive.specs.Numbers.{is_in};
-ghost use Rattle.sc_drive.specs.Goings.{Goes, Fills, GoMade, LineMade, IsCalm, IsKept, IsOn, IsTogether, StaysSo};
+ghost use Rattle.sc_drive.specs.Goings.{Goes, Fills, GoMade, LineMade, IsCalm, IsKept, IsOn, IsTogether, MayGo, StaysSo};
 
 use crate::actor_lines::{deliver, happen, place_of};
 use crate::acts::tell;
@@ -97,8 +97,7 @@ fn is_listed(list: &[u32], who: u32) -> bool
     list.iter().any(|number| who == *number)
 }
 
-// What it came to that an actor was told to go. One that has crashed is not told, and that is a
-// want of memory.
+// What it came to that an actor was told to go, which has not crashed.
 fn go<A: Actor, R: Wait>(
     rt: &R,
     alloc: Global,
@@ -107,6 +106,7 @@ fn go<A: Actor, R: Wait>(
     who: u32,
 ) -> Result<Step, OutOfMemory>
     requires together { IsTogether net.old shells.old.items }
+    requires runs { MayGo who net.old shells.old.items }
     ensures on { IfOk result
         (λ step. StaysSo step net.old shells.old.items net.new shells.new.items) }
     ensures made { IfOk result (GoMade who net.old shells.old.items net.new shells.new.items) }
@@ -118,12 +118,12 @@ fn go<A: Actor, R: Wait>(
         Turn::Did { .. } => Ok(Step::Made),
         Turn::Full { .. } => Ok(Step::Full),
         Turn::Empty { .. } => unreachable!(),
-        Turn::Spent => Err(OutOfMemory),
+        Turn::Spent => unreachable!(),
         Turn::OutOfMemory => Err(OutOfMemory),
     }
 }
 
-/// A line at which an actor is told to go.
+/// A line at which an actor is told to go, which has not crashed.
 pub(crate) fn run_go<A: Actor, R: Wait>(
     rt: &R,
     alloc: Global,
@@ -133,6 +133,7 @@ pub(crate) fn run_go<A: Actor, R: Wait>(
     who: u32,
 ) -> Result<(), Stop>
     requires together { IsTogether net.old shells.old.items }
+    requires runs { MayGo who net.old shells.old.items }
     ensures on { OnOk result (IsOn net.old shells.old.items net.new shells.new.items) }
     ensures kept { IsErrOf result Stop.Full →
         IsKept net.old shells.old.items net.new shells.new.items }

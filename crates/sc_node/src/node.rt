@@ -101,6 +101,7 @@ impl NodeCore {
     /// which it is a member. `OPEN_SLOTS` slots of a log are open at a time. `are_in_order` tests
     /// the order.
     pub fn born(alloc: Global, me: u16, groups: &Sequence<Base>) -> Result<NodeCore, OutOfMemory>
+        requires { are_in_order groups.now ≡ true }
         ensures { IfOk result (λ node. node ≡ born_node slots_ahead me groups.now) }
     {
         Ok(NodeCore {

@@ -8,6 +8,7 @@ use Rattle.sc_cmd.specs.declared.links.Route.{Route}
 use Rattle.sc_actor.specs.declared.actors.Seat.{Seat}
 use Rattle.sc_actor.specs.System.{are_apart}
 use Rattle.sc_node_table.specs.Slots.{numbers}
+use Rattle.sc_node_table.specs.Node.{are_in_order}
 use Rattle.sc_scenario.specs.Groups.{lone_group}
 use Rattle.sc_scenario.specs.Valid.{IsEarly, IsEarlyClient}
 use Rattle.sc_scenario.specs.declared.scenarios.Asks.{Asks}
@@ -100,3 +101,7 @@ all_numbered scenario early =
     (clients_within (route_of (lone_group early.lo early.members)) scenario.clients early.clients) in
     between 0 most_actor (births as_nodes scenario) (births_rise scenario early)
     (within_on most_actor _ (client_seats scenario.groups scenario.clients) (nodes_within scenario.groups most_actor 1 scenario.nodes (omega (arith, early.nodes.1))) clients)
+
+-- one group stands in order
+pub all_ordered : (scenario : Scenario) → IsEarly scenario → are_in_order scenario.groups ≡ true
+all_ordered scenario early = subst (λ (groups : List Base). are_in_order groups ≡ true) (sym early.group) refl

@@ -8,7 +8,7 @@ use sc_actor::Input;
 use sc_base::{Op, Same, Sequence};
 use sc_cmd::OrderLine;
 use sc_mail::{Mail, MailBody};
-use sc_node::NodeCore;
+use sc_node::{NodeCore, are_in_order};
 use sc_replica::{Replica, ReplicaInput};
 use std::alloc::Global;
 use std::process::Abort;
@@ -126,6 +126,7 @@ fn all_alike(
 fn born_node(rt: &impl Abort, alloc: Global) -> NodeCore {
     let mut groups = Sequence::new(alloc);
     groups.push(group(rt, alloc, 1)).expect(rt, "memory");
+    assert!(rt; are_in_order(groups.as_slice()));
     NodeCore::born(alloc, 1, &groups).expect(rt, "memory")
 }
 

@@ -1,35 +1,24 @@
 //! Schedules driven with actors that send each other notes.
-ghost use Rattle.std.specs.Prelude.{◌≡◌, ◌≤◌, []};
-ghost use Rattle.sc_exchange.specs.Ports.{given};
-ghost use Rattle.sc_workers.specs.Crews.{IsCrew};
+ghost use Rattle.std.specs.Prelude.{◌≡◌, ◌<◌, ◌≤◌, true, All};
+ghost use Rattle.sc_actor.specs.System.{are_apart};
 
-use crate::notes::Note;
-use crate::players::{Open, Pair, Player, add};
-use sc_actor::{Gate, Line, have_one_task};
-use sc_drive::{Driven, drive};
-use sc_exchange::Port;
-use sc_shell::Shell;
+use crate::players::{Open, Pair, Player};
+use sc_actor::{Gate, Line, Seat, have_one_task};
+use sc_drive::{Driven, drive, goers_are_spared, open};
 use std::alloc::Global;
 use std::process::Abort;
 use std::sync::Wait;
 use std::sync::atomic::{AtomicU64, Ordering};
 use std::thread::Threads;
 
-// Two actors that send each other notes, four each. The second is out of memory when it has
-// `starves` left.
-fn two_players(
-    rt: &impl Abort,
-    alloc: Global,
-    net: &mut Port<Note, u32>,
-    starves: u32,
-) -> Vec<Shell<Player>>
-    requires { (net.old.who ≡ 0) × (given net.old ≡ []) × (2 ≤ net.old.actors) }
-    ensures { IsCrew net.new result.items }
+// Two actors with four notes each: the second sends them to the first, and the first to `other`. The
+// second is out of memory when it has `starves` left.
+fn two_players(rt: &impl Abort, alloc: Global, other: u32, starves: u32) -> Vec<Seat<Player>>
+    ensures far { are_apart result.items ≡ true }
+    ensures numbered { All (λ seat. (0 < seat.who) × (seat.who ≤ 2)) result.items }
 {
-    let one = net.split(1).expect(rt, "memory");
-    let two = net.split(2).expect(rt, "memory");
     let first = Player {
-        other: 2,
+        other,
         left: 4,
         starves: 0,
     };
@@ -38,13 +27,39 @@ fn two_players(
         left: 4,
         starves,
     };
-    let mut shells = Vec::new(alloc);
-    add(rt, &mut shells, net, Shell::new(first, one));
-    add(rt, &mut shells, net, Shell::new(second, two));
-    shells
+    let one = Seat {
+        who: 1,
+        actor: first,
+    };
+    let two = Seat {
+        who: 2,
+        actor: second,
+    };
+    let mut seats = Vec::new(alloc);
+    seats.push(one).expect(rt, "memory");
+    seats.push(two).expect(rt, "memory");
+    seats
 }
 
-// How a schedule of a pair is driven, within so many bytes.
+// How a schedule of a pair is driven, within so many bytes. There is no actor with the number 3.
+fn driven_to<G: Gate, R: Threads + Wait + Abort + Sync>(
+    rt: &R,
+    alloc: Global,
+    bytes: u64,
+    other: u32,
+    starves: u32,
+    lines: &[Line<u32>],
+    gate: &G,
+) -> Driven
+    requires { bytes ≤ 1000000 }
+{
+    assert!(rt; have_one_task(lines) && goers_are_spared(lines));
+    let seats = two_players(rt, alloc, other, starves);
+    let (mut net, mut shells) = open(alloc, seats, 3, bytes).expect(rt, "memory");
+    drive(rt, alloc, &mut net, &mut shells, lines, gate)
+}
+
+// The same of a pair that send each other notes.
 fn driven<G: Gate, R: Threads + Wait + Abort + Sync>(
     rt: &R,
     alloc: Global,
@@ -55,10 +70,7 @@ fn driven<G: Gate, R: Threads + Wait + Abort + Sync>(
 ) -> Driven
     requires { bytes ≤ 1000000 }
 {
-    assert!(rt; have_one_task(lines));
-    let mut net: Port<Note, u32> = Port::start(alloc, 2, bytes).expect(rt, "memory");
-    let mut shells = two_players(rt, alloc, &mut net, starves);
-    drive(rt, alloc, &mut net, &mut shells, lines, gate)
+    driven_to(rt, alloc, bytes, 2, starves, lines, gate)
 }
 
 // All mail is delivered.
@@ -143,6 +155,24 @@ fn lines_of_one_row_are_made_or_skipped(rt: HostRuntime) {
             unsettled: true,
             quiet: false,
             skipped: 5
+        }
+    );
+}
+
+#[test]
+fn mail_to_nobody_is_passed_over(rt: HostRuntime) {
+    let lines: [Line<u32>; 3] = [
+        Line::Go { who: 1 },
+        Line::Go { who: 2 },
+        Line::Settle { most: 100 },
+    ];
+    let passed = driven_to(&rt, rt.alloc(), 1 << 19, 3, 0, &lines, &Open);
+    assert_eq!(rt;
+        passed,
+        Driven::Ended {
+            unsettled: false,
+            quiet: true,
+            skipped: 0
         }
     );
 }

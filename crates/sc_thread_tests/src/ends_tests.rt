@@ -1,7 +1,9 @@
 //! Exchanges that are opened, driven and closed.
-ghost use Rattle.std.specs.Prelude.{◌≡◌, ◌<◌, ◌≤◌, [], true, All};
+ghost use Rattle.std.specs.Prelude.{◌≡◌, ◌<◌, ◌≤◌, [], List, true, All};
 ghost use Rattle.sc_exchange.specs.Ports.{given, joined};
-ghost use Rattle.sc_workers.specs.Crews.{AllOf, IsCrew, numbers};
+ghost use Rattle.sc_workers.specs.Crews.{AllOf, numbers};
+ghost use Rattle.sc_actor.specs.declared.actors.Seat.{Seat};
+ghost use Rattle.sc_drive.specs.Companies.{AtBirth};
 ghost use Rattle.sc_drive.specs.Goings.{IsKept};
 ghost use Rattle.sc_actor.specs.System.{are_apart};
 
@@ -9,7 +11,7 @@ use crate::notes::Note;
 use crate::players::{Open, Player};
 use sc_actor::{Event, Line, Row, Seat, are_few, have_one_task};
 use sc_checker::replay;
-use sc_drive::{Driven, close, drive, open};
+use sc_drive::{Driven, close, drive, goers_are_spared, open};
 use sc_exchange::Port;
 use sc_shell::Shell;
 use sc_workers::gather;
@@ -127,10 +129,10 @@ fn drive_all<R: Threads + Wait + Abort + Sync>(
     shells: &mut Vec<Shell<Player>>,
     lines: &[Line<u32>],
 )
-    requires crew { IsCrew net.old shells.old.items }
+    requires begins { (births : List (Seat Player)) × AtBirth births net.old shells.old.items }
     ensures kept { IsKept net.old shells.old.items net.new shells.new.items }
 {
-    assert!(rt; have_one_task(lines));
+    assert!(rt; have_one_task(lines) && goers_are_spared(lines));
     match drive(rt, alloc, net, shells, lines, &Open) {
         Driven::OutOfMemory => panic!(rt; "memory"),
         Driven::Full | Driven::Ended { .. } => {}

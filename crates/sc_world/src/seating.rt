@@ -1,7 +1,8 @@
 //! The actors and the schedule of a scenario.
-ghost use Rattle.std.specs.Prelude.{◌≡◌, ◌≤◌, ◌↔◌, IsTrue, length, All, IfOk, OnOk, ◌++◌, map};
+ghost use Rattle.std.specs.Prelude.{◌≡◌, ◌≤◌, ◌↔◌, IsTrue, true, length, All, IfOk, OnOk, ◌++◌, map};
 ghost use Rattle.sc_base.specs.Limits.{most_requests};
 ghost use Rattle.sc_node_table.specs.Slots.{numbers};
+ghost use Rattle.sc_node_table.specs.Node.{are_in_order};
 ghost use Rattle.sc_players.specs.Players.{births, schedule, node_seat, client_seat, client_seats, route_of, line_of, AreFew, as_nodes};
 
 use crate::party::Party;
@@ -18,6 +19,7 @@ use std::alloc::Global;
 pub const MOST_ACTOR: u32 = MOST_NODES + MOST_CLIENTS;
 
 fn node_seat(alloc: Global, groups: &Sequence<Base>, me: u16) -> Result<Seat<Party>, OutOfMemory>
+    requires { are_in_order groups.now ≡ true }
     ensures { IfOk result (λ seat. seat ≡ node_seat as_nodes groups.now me) }
 {
     let node = NodeCore::born(alloc, me, groups)?;
@@ -54,6 +56,7 @@ fn add_nodes(
     groups: &Sequence<Base>,
     nodes: u16,
 ) -> Result<(), OutOfMemory>
+    requires { are_in_order groups.now ≡ true }
     ensures { OnOk result (seats.new.items ≡
         seats.old.items ++ map (node_seat as_nodes groups.now) (numbers 1 nodes)) }
 {
@@ -95,9 +98,11 @@ fn add_clients(
     }
 }
 
-/// The nodes and then the clients of a scenario, as they are born.
+/// The nodes and then the clients of a scenario, as they are born. Its groups stand in the order of
+/// their names, and no client has more requests than it may.
 pub fn births(alloc: Global, scenario: &Scenario) -> Result<Vec<Seat<Party>>, OutOfMemory>
-    requires { AreFew scenario.now }
+    requires ordered { are_in_order scenario.now.groups ≡ true }
+    requires few { AreFew scenario.now }
     ensures { IfOk result (λ seats. seats.items ≡ births as_nodes scenario.now) }
 {
     let mut seats = Vec::new(alloc);

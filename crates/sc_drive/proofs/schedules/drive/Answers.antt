@@ -1,5 +1,10 @@
-use Rattle.std.proofs.Common.{◌≡◌, ◌∙◌, refl, ap, subst, arith, Bool, true, false, not, Option, Some, None, is_some, Err, ℕ}
+use Rattle.std.proofs.Common.{◌≡◌, ◌∙◌, refl, sym, ap, subst, arith, Contains, Bool, true, false, not, Option, Some, None, is_some, Err, ℕ}
 use Rattle.std.specs.Prelude.{is_none}
+use Rattle.std.proofs.lemmas.List.Elements.{Contains-get_or}
+use Rattle.sc_actor.specs.declared.schedules.Line.TheVariants.{Go as GoLine}
+use Rattle.sc_actor.specs.System.{system, no_words}
+use Rattle.sc_exchange.specs.Ports.{seen}
+use Rattle.sc_drive.proofs.Crashes.{never_crashed}
 use Rattle.sc_drive.specs.Goings.{HasEnded}
 use Rattle.sc_drive.proofs.Births.{company_born, nothing_seen}
 use Rattle.sc_drive.proofs.Kept.{kept_then, on_gathered, on_then, together_on}
@@ -12,21 +17,34 @@ pub loop-line-init : goal.loop-line-init
 loop-line-init g c =
     let net = c.args.net.now in let next = c.gather.new.net in let ss = c.args.shells.now.items in let after = c.gather.new.shells.items in
     let still = c.gather.ensures.still in let gathered = c.in-Ok.ensures.gathered in record {
-      on = on_gathered net net next ss after c.requires.crew.exchange c.requires.crew.sound (stays_same net) still gathered;
+      on = on_gathered net net next ss after c.requires.begins.1.crew.exchange c.requires.begins.1.crew.sound (stays_same net) still gathered;
       at = λ words births born.
           drive_begins words births c.args.lines.now next after c.no_score-score.result
           (company_born births net next ss after born still.looked still.len still.still gathered gathered.rows)
           (nothing_seen births net next ss after born still.looked still.len still.still gathered gathered.rows) c.no_score-score.ensures.0 c.no_score-score.ensures.1 c.no_score-score.ensures.2;
     }
 
+pub gather-requires-clause-exchange : goal.gather-requires-clause-exchange
+gather-requires-clause-exchange g c κs within = c.requires.begins.1.crew.exchange
+
 pub run_line-requires-clause-together : goal.run_line-requires-clause-together
-run_line-requires-clause-together g c κs within = together_on c.args.net.now c.loop-line.net c.args.shells.now.items c.loop-line.shells.items c.requires.crew.first c.loop-line.invariant.on
+run_line-requires-clause-together g c κs within = together_on c.args.net.now c.loop-line.net c.args.shells.now.items c.loop-line.shells.items c.requires.begins.1.crew.first c.loop-line.invariant.on
+
+pub run_line-requires-clause-company : goal.run_line-requires-clause-company
+run_line-requires-clause-company g c κs within =
+    let births = c.requires.begins.0 in (births, (c.loop-line.invariant.at no_words births c.requires.begins.1).company)
 
 pub run_line-requires-clause-built : goal.run_line-requires-clause-built
 run_line-requires-clause-built g c κs within = one_task_at c.args.lines.now c.requires.built c.loop-line.line-index c.line-item.result c.loop-line-test.true c.line-item.is
 
+pub run_line-requires-clause-runs : goal.run_line-requires-clause-runs
+run_line-requires-clause-runs g c κs within = λ who is.
+    let births = c.requires.begins.0 in let at = c.loop-line.invariant.at no_words births c.requires.begins.1 in
+    let has : Contains c.args.lines.now (GoLine who) = subst (λ l. Contains c.args.lines.now l) (sym c.line-item.is ∙ is) (Contains-get_or c.args.lines.now c.loop-line.line-index c.line-item.result c.loop-line-test.true) in
+    (births, at.company, never_crashed (system g.A.Actor.table g.A.Mail.Parcel.receiver no_words births) who c.args.lines.now (seen c.loop-line.net) at.lawful (c.requires.spared who has))
+
 pub lowest-requires-clause-together : goal.lowest-requires-clause-together
-lowest-requires-clause-together g c κs within = together_on c.args.net.now c.loop-line.net c.args.shells.now.items c.loop-line.shells.items c.requires.crew.first c.loop-line.invariant.on
+lowest-requires-clause-together g c κs within = together_on c.args.net.now c.loop-line.net c.args.shells.now.items c.loop-line.shells.items c.requires.begins.1.crew.first c.loop-line.invariant.on
 
 pub loop-line-preserved : goal.loop-line-preserved
 loop-line-preserved g c = let inv = c.loop-line.invariant in record {

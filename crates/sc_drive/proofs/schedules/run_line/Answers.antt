@@ -1,4 +1,4 @@
-use Rattle.std.proofs.Common.{true, true≢false, sym, ◌∙◌, ap}
+use Rattle.std.proofs.Common.{true≢false, sym, ◌∙◌, ap}
 use Rattle.sc_drive.proofs.SingleSteps.{calm_else}
 use Rattle.sc_drive.proofs.schedules.run_line.Goals as goal
 use Rattle.sc_actor.specs.Walk.{has_one_task}
@@ -26,3 +26,6 @@ unreachable-requires g c = true≢false (sym c.requires.built ∙ ap has_one_tas
 
 pub run_once-requires-clause-calm : goal.run_once-requires-clause-calm
 run_once-requires-clause-calm g c κs within = calm_else c.args.line.now c.in_default.not-Go c.in_default.not-Settle c.in_default.not-Free c.in_default.not-Storm
+
+pub run_go-requires-clause-runs : goal.run_go-requires-clause-runs
+run_go-requires-clause-runs g c κs within = c.requires.runs c.in-Go.who c.in-Go.is

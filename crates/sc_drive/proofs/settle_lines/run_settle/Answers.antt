@@ -1,4 +1,4 @@
-use Rattle.std.proofs.Common.{rules, ◌≡◌, ◌-◌, ◌∙◌, Option, Result, Err, None, [], ◌∷◌, refl, ap, subst, ℕ}
+use Rattle.std.proofs.Common.{rules, ◌≡◌, ◌-◌, Option, Result, Err, None, [], ◌∷◌, refl, ap, subst, ℕ}
 use Rattle.sc_actor.specs.Walk.{Settles}
 use Rattle.sc_drive.specs.declared.steps.Stop.{Stop}
 use Rattle.sc_drive.specs.declared.steps.Stop.TheVariants.{Full}
@@ -10,6 +10,7 @@ use Rattle.sc_drive.proofs.settle_lines.run_settle.Goals as goal
 pub loop-found-init : goal.loop-found-init
 loop-found-init g c = record {
   on = c.in-Ok.ensures.on;
+  company = (c.requires.company.0, (c.in-Ok.ensures.rests c.requires.company.0 c.requires.company.1).0);
   finds = c.in-Ok.ensures.finds;
   goes = goes_rest c.args.net.now c.lowest.new.net c.args.shells.now.items c.lowest.new.shells.items c.args.score.now (Settles c.args.most ∷ []) c.in-Ok.ensures.rests c.in-Ok.ensures.on.kept.stays.exchange.2;
 }
@@ -20,11 +21,15 @@ settle_step-requires-clause-together g c κs within = together_on c.args.net.now
 pub settle_step-requires-clause-finds : goal.settle_step-requires-clause-finds
 settle_step-requires-clause-finds g c κs within = subst (Finds c.loop-found.net c.loop-found.shells.items) c.in-Some.is c.loop-found.invariant.finds
 
+pub settle_step-requires-clause-company : goal.settle_step-requires-clause-company
+settle_step-requires-clause-company g c κs within = c.loop-found.invariant.company
+
 pub loop-found-preserved : goal.loop-found-preserved
 loop-found-preserved g c =
     let inv = c.loop-found.invariant in let net = c.args.net.now in let ss = c.args.shells.now.items in let mid = c.loop-found.net in let mids = c.loop-found.shells.items in let score = c.loop-found.score in let left = c.loop-found.left in let most = c.args.most in
     let next = c.settle_step.new.net in let after = c.settle_step.new.shells.items in record {
       on = on_then net mid next ss mids after inv.on c.in-Ok-settle_step.ensures.on;
+      company = (inv.company.0, c.in-Ok-settle_step.ensures.company inv.company.0 inv.company.1);
       finds = c.in-Ok-settle_step.ensures.finds;
       goes = goes_then net mid next ss mids after c.args.score.now score score (Settles most ∷ []) (Settles left ∷ []) (Settles (left - 1) ∷ []) inv.goes c.in-Ok-settle_step.ensures.goes;
     }

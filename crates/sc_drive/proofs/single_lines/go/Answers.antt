@@ -1,10 +1,12 @@
-use Rattle.std.proofs.Common.{rules, ◌≡◌, subst, None}
+use Rattle.std.proofs.Common.{rules, ◌≡◌, ◌∙◌, sym, subst, true, true≢false, None}
 use Rattle.sc_actor.specs.declared.rows.Event.TheVariants.{Go}
+use Rattle.sc_actor.specs.System.{no_words}
 use Rattle.sc_shell.specs.declared.turns.Turn.{Turn}
+use Rattle.sc_shell.specs.declared.turns.Turn.TheVariants.{Spent}
 use Rattle.sc_drive.specs.Acts.{IsTold, SoundAfter, Told}
 use Rattle.sc_drive.specs.Stepping.{IsPlace, IsNowhere}
 use Rattle.sc_drive.proofs.Kept.{on_same}
-use Rattle.sc_drive.proofs.ActorRows.{tells_nowhere, tells_did, tells_full}
+use Rattle.sc_drive.proofs.ActorRows.{tells_nowhere, tells_did, tells_full, halted}
 use Rattle.sc_drive.proofs.single_lines.go.Goals as goal
 
 pub returns-in_default-clause-made : goal.returns-in_default-clause-made
@@ -36,3 +38,10 @@ returns-in-Full-clause-on g c = c.in_ok-tell.ensures.kept
 
 pub unreachable-requires : goal.unreachable-requires
 unreachable-requires g c = subst IsTold c.in-Empty.is c.in_ok-tell.ensures.answer
+
+pub unreachable-requires-in-Spent : goal.unreachable-requires-in-Spent
+unreachable-requires-in-Spent g c =
+    let net = c.args.net.now in let ss = c.args.shells.now.items in let may = c.requires.runs in
+    let at : IsPlace ss c.args.who c.in-Some.place = subst (λ l. IsPlace l c.args.who c.in-Some.place) c.as_slice.ensures.value c.in-Some.ensures.some in
+    let told : Told may.0 c.in-Some.place Go net c.tell.new.net ss c.tell.new.shells.items Spent = subst (Told may.0 c.in-Some.place Go net c.tell.new.net ss c.tell.new.shells.items) c.in-Spent.is (c.in_ok-tell.ensures.told may.0 may.1) in
+    true≢false (sym (halted no_words may.0 net c.tell.new.net ss c.tell.new.shells.items may.1 c.args.who c.in-Some.place at true told.2) ∙ may.2)

@@ -1,15 +1,17 @@
 use Rattle.std.proofs.Common.{refl}
 use Rattle.sc_players.specs.Players.{schedule}
-use Rattle.sc_replay.proofs.Births.{all_apart, all_numbered}
-use Rattle.sc_replay.proofs.Lines.{built, few}
+use Rattle.sc_replay.proofs.Births.{all_apart, all_numbered, all_ordered}
+use Rattle.sc_replay.proofs.Lines.{built, few, spared}
 use Rattle.sc_replay.proofs.laws.valid_scenarios_can_play.Goals as goal
 
 pub returns : goal.returns
 returns c = λ scenario valid.
     let early = c.texts_are_early.ensures scenario valid in
     record {
+      ordered = all_ordered scenario early;
       apart = all_apart scenario early;
       numbered = all_numbered scenario early;
       built = built scenario early (schedule scenario) refl;
+      spared = spared scenario early;
       few = few scenario early;
     }

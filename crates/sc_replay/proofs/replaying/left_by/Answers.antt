@@ -10,8 +10,11 @@ use Rattle.sc_checker.specs.Replays.{IsReplayed}
 use Rattle.sc_players.specs.Players.{Player, player_table, receiver_of, schedule}
 use Rattle.sc_replay.proofs.replaying.left_by.Goals as goal
 
-pub births-requires : goal.births-requires
-births-requires c = (c.valid_scenarios_can_play.ensures c.args.scenario.now c.requires.valid).few
+pub births-requires-clause-ordered : goal.births-requires-clause-ordered
+births-requires-clause-ordered c = (c.valid_scenarios_can_play.ensures c.args.scenario.now c.requires.valid).ordered
+
+pub births-requires-clause-few : goal.births-requires-clause-few
+births-requires-clause-few c = (c.valid_scenarios_can_play.ensures c.args.scenario.now c.requires.valid).few
 
 pub replay-requires-clause-apart : goal.replay-requires-clause-apart
 replay-requires-clause-apart c = λ _. ap are_apart c.in_ok-seats.ensures ∙ (c.valid_scenarios_can_play.ensures c.args.scenario.now c.requires.valid).apart

@@ -1,12 +1,19 @@
-use Rattle.std.proofs.Common.{◌≤◌, ◌∙◌, map, ap, subst}
+use Rattle.std.proofs.Common.{◌≤◌, ◌∙◌, map, sym, ap, subst}
 use Rattle.sc_actor.specs.Counted.{journal_bytes}
 use Rattle.sc_actor.specs.System.{no_words}
 use Rattle.sc_exchange.specs.Ports.{seen}
-use Rattle.sc_drive.specs.Goings.{HasEnded, IsKept}
+use Rattle.sc_drive.specs.Goings.{HasEnded, IsKept, SparesGoers}
 use Rattle.sc_players.specs.Players.{births, as_nodes}
 use Rattle.scatter.specs.Played.{mail_weight}
 use Rattle.scatter.proofs.Plays.{drove_on, actors_of, ends, fills}
 use Rattle.scatter.proofs.played.play.Goals as goal
+
+pub drive-requires-clause-begins : goal.drive-requires-clause-begins
+drive-requires-clause-begins g c κs within = (births as_nodes c.args.scenario.now, c.requires.begins)
+
+pub drive-requires-clause-spared : goal.drive-requires-clause-spared
+drive-requires-clause-spared g c κs within =
+    subst SparesGoers (sym (c.as_slice.ensures.value ∙ c.in-Ok.ensures)) (c.valid_scenarios_can_play.ensures c.args.scenario.now c.requires.valid).spared
 
 pub returns-in-Ended-clause-played : goal.returns-in-Ended-clause-played
 returns-in-Ended-clause-played g c =
