@@ -53,7 +53,8 @@ fn driven_to<G: Gate, R: Threads + Wait + Abort + Sync>(
 ) -> Driven
     requires { bytes ≤ 1000000 }
 {
-    assert!(rt; have_one_task(lines) && goers_are_spared(lines));
+    assert!(rt; have_one_task(lines));
+    assert!(rt; goers_are_spared(lines));
     let seats = two_players(rt, alloc, other, starves);
     let (mut net, mut shells) = open(alloc, seats, 3, bytes).expect(rt, "memory");
     drive(rt, alloc, &mut net, &mut shells, lines, gate)

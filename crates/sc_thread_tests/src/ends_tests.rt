@@ -132,7 +132,8 @@ fn drive_all<R: Threads + Wait + Abort + Sync>(
     requires begins { (births : List (Seat Player)) × AtBirth births net.old shells.old.items }
     ensures kept { IsKept net.old shells.old.items net.new shells.new.items }
 {
-    assert!(rt; have_one_task(lines) && goers_are_spared(lines));
+    assert!(rt; have_one_task(lines));
+    assert!(rt; goers_are_spared(lines));
     match drive(rt, alloc, net, shells, lines, &Open) {
         Driven::OutOfMemory => panic!(rt; "memory"),
         Driven::Full | Driven::Ended { .. } => {}
