@@ -1,7 +1,7 @@
 //! The acceptor.
 ghost use Rattle.std.specs.Prelude.{◌≡◌, ◌+◌, ◌-◌, ◌<◌, ◌≤◌, OnOk, OnErr, IfOk, vec_len, count_by, filter, nat_lt};
 ghost use Rattle.std.specs.Vec.{vec_capacity};
-ghost use Rattle.sc_paxos_words.specs.Acceptors.{IsBySlot, IsWhole, born, after_cut, reports_from, with_report};
+ghost use Rattle.sc_paxos_words.specs.Acceptors.{IsBySlot, IsWholeAcceptor, born_acceptor, after_cut, reports_from, with_report};
 ghost use Rattle.sc_paxos_words.specs.Preparing.{prepared};
 ghost use Rattle.sc_paxos_words.specs.Accepting.{accepted};
 
@@ -23,7 +23,7 @@ pub struct Acceptor<V> {
 impl<V> Model for Acceptor<V> {
     ghost use Rattle.std.specs.Prelude.{◌-◌, vec_len};
     ghost use Rattle.std.specs.Vec.{vec_capacity};
-    ghost use Rattle.sc_paxos_words.specs.Acceptors.{IsWhole};
+    ghost use Rattle.sc_paxos_words.specs.Acceptors.{IsWholeAcceptor};
     ghost use Rattle.sc_acceptor.specs.Roomy.{Roomy};
 
     ghost Value = { Roomy V };
@@ -35,14 +35,14 @@ impl<V> Model for Acceptor<V> {
         } };
 
     ghost invariant = { λ a.
-        IsWhole (record { promised = a.promised; floor = a.floor; accepted = a.accepted.items }) };
+        IsWholeAcceptor (record { promised = a.promised; floor = a.floor; accepted = a.accepted.items }) };
 }
 
 impl<V> Acceptor<V> {
     /// The acceptor at its group's birth: it has promised the first ballot and accepted nothing. It
     /// has no room yet.
     pub fn born(alloc: Global, first: Ballot) -> Acceptor<V>
-        ensures { result.state ≡ born first }
+        ensures { result.state ≡ born_acceptor first }
     {
         Acceptor {
             promised: first,
@@ -62,7 +62,7 @@ impl<V> Acceptor<V> {
     /// The slot up to which it has forgotten what it accepted; 0 at birth.
     pub fn floor(&self) -> u32
         ensures same { result ≡ self.now.state.floor }
-        ensures whole { IsWhole self.now.state }
+        ensures whole { IsWholeAcceptor self.now.state }
     {
         self.floor
     }

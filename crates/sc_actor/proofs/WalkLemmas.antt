@@ -6,7 +6,7 @@ use Rattle.std.proofs.lemmas.List.Sums.{fold-append}
 use Rattle.sc_actor.specs.declared.rows.Row.{Row}
 use Rattle.sc_actor.specs.declared.schedules.Line.{Line}
 use Rattle.sc_actor.specs.System.{System}
-use Rattle.sc_actor.specs.Walk.{Task, WalkPlace, Allows, MayAdd, IsWalk, IsLawful, IsWhole, IsNext, is_over, skips, cuts, rest_of, rest_of_all, onward, start, tasks_of, after_row, place_after, skipped, unsettled}
+use Rattle.sc_actor.specs.Walk.{Task, WalkPlace, Allows, MayAdd, IsWalk, IsLawful, IsWhole, IsNext, is_over, skips, cuts, rest_of_task, rest_of_all, onward, start, tasks_of, after_row, place_after, skipped, unsettled}
 
 module _ {A M O : Type 0} (s : System A M O) where
   -- a walk goes on by a row that it may add
@@ -75,7 +75,7 @@ module _ {A M O : Type 0} (s : System A M O) (lines : List (Line O)) where
       subst (λ p. MayAdd s journal p.tasks row) (Stands-at journal task tasks skips_ cut stands open_) next
 
   -- the walk after one more row of the first task
-  pub Stands-row : (journal : List (Row M O)) (task : Task O) (tasks : List (Task O)) (skips_ : ℕ) (cut : Bool) (row : Row M O) → Stands s lines journal (task ∷ tasks) skips_ cut → is_over s journal task ≡ false → Allows s journal task row → Stands s lines (journal ++ row ∷ []) (rest_of task ++ tasks) skips_ cut
+  pub Stands-row : (journal : List (Row M O)) (task : Task O) (tasks : List (Task O)) (skips_ : ℕ) (cut : Bool) (row : Row M O) → Stands s lines journal (task ∷ tasks) skips_ cut → is_over s journal task ≡ false → Allows s journal task row → Stands s lines (journal ++ row ∷ []) (rest_of_task task ++ tasks) skips_ cut
   Stands-row journal task tasks skips_ cut row stands open_ allows =
       let at = Stands-at journal task tasks skips_ cut stands open_ in
       record {

@@ -135,11 +135,11 @@ cuts s rows (Frees left) = not (is_quiet s rows)
 cuts s rows (Storms words) = false
 
 -- what is left of a task after a row of it
-abbrev pub rest_of : {O : Type 0} → Task O → List (Task O)
-rest_of (Once line) = []
-rest_of (Settles left) = Settles (left - 1) ∷ []
-rest_of (Frees left) = Frees (left - 1) ∷ []
-rest_of (Storms words) = []
+abbrev pub rest_of_task : {O : Type 0} → Task O → List (Task O)
+rest_of_task (Once line) = []
+rest_of_task (Settles left) = Settles (left - 1) ∷ []
+rest_of_task (Frees left) = Frees (left - 1) ∷ []
+rest_of_task (Storms words) = []
 
 -- How far the walk has come: the tasks left, the first of which makes a row, the rows, the lines that were skipped, and whether a line was cut off.
 pub record WalkPlace (M O : Type 0) : Type 0 where
@@ -163,7 +163,7 @@ start s lines = onward s [] (flat_map (tasks_of s.words) lines) 0 false
 -- the tasks after one more row
 abbrev pub rest_of_all : {O : Type 0} → List (Task O) → List (Task O)
 rest_of_all [] = []
-rest_of_all (task ∷ tasks) = rest_of task ++ tasks
+rest_of_all (task ∷ tasks) = rest_of_task task ++ tasks
 
 -- where the walk stands after one more row
 abbrev pub after_row : {A M O : Type 0} → System A M O → WalkPlace M O → Row M O → WalkPlace M O

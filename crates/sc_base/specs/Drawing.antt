@@ -8,8 +8,8 @@ pub record Drawer : Type 0 where
   pub next : ℕ
 
 -- the name that comes next
-abbrev pub name_of : Drawer → Draw
-name_of drawer = record { node = drawer.node; count = drawer.next }
+abbrev pub next_name : Drawer → Draw
+next_name drawer = record { node = drawer.node; count = drawer.next }
 
 -- the drawer after one draw
 abbrev pub drawn_on : Drawer → Drawer
@@ -22,4 +22,4 @@ drawn_by (suc n) drawer = drawn_on (drawn_by n drawer)
 
 -- no name is drawn twice: those after fewer and after more draws differ
 abbrev pub Apart : Type 0
-Apart = (drawer : Drawer) (m n : ℕ) → m < n → name_of (drawn_by m drawer) ≡ name_of (drawn_by n drawer) → ⊥
+Apart = (drawer : Drawer) (m n : ℕ) → m < n → next_name (drawn_by m drawer) ≡ next_name (drawn_by n drawer) → ⊥

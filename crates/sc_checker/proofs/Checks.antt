@@ -9,17 +9,17 @@ use Rattle.sc_actor.specs.declared.actors.Seat.{Seat}
 use Rattle.sc_actor.specs.declared.schedules.Line.{Line}
 use Rattle.sc_actor.specs.Mail.{mails, copies}
 use Rattle.sc_actor.specs.System.{System, acts, numbers_of, waiting, kth, network}
-use Rattle.sc_actor.specs.Walk.{Task, Once, WalkPlace, Allows, IsLawful, IsNext, is_over, is_quiet, rest_of, line_row, first_of}
+use Rattle.sc_actor.specs.Walk.{Task, Once, WalkPlace, Allows, IsLawful, IsNext, is_over, is_quiet, rest_of_task, line_row, first_of}
 use Rattle.sc_actor.proofs.ReplayLemmas.{mails-append}
 use Rattle.sc_actor.proofs.WalkLemmas.{Stands-at, Stands-allows, Stands-ended, Stands-whole, lawful-prefix, lawful-last}
 use Rattle.sc_checker.specs.declared.stages.Stage.{Stage}
 use Rattle.sc_checker.specs.declared.stages.Deed.{Deed}
 use Rattle.sc_checker.specs.Deeds.{is_of_network, is_number, can_act, row_made, line_deed, lowest_deed, chosen_deed}
-use Rattle.sc_checker.specs.Moves.{At, Rules, with_births, Goes, many}
-use Rattle.sc_checker.specs.Checks.{Follows, IsTaking, Took, Misses, Ends, Breaks}
+use Rattle.sc_checker.specs.Moves.{IsStageAt, Rules, with_births, StageGoes, many}
+use Rattle.sc_checker.specs.Checks.{Follows, IsTaking, DidWithRow, Misses, Ends, Breaks}
 use Rattle.sc_checker.specs.Replays.{HasReplayed}
 use Rattle.sc_checker.proofs.DeedLemmas.{acts-some, line_row-deed, line_deed-can, lowest-deed, quiet_is, of_delivery}
-use Rattle.sc_checker.proofs.Steps.{At-did, made, or_is, line-at, lowest-at, numbers-at}
+use Rattle.sc_checker.proofs.Steps.{IsStageAt-did, made, or_is, line-at, lowest-at, numbers-at}
 
 -- the rows split at the first that was not taken
 pub split_rows : {M O : Type 0} (taken rows : List (Row M O)) (row : Row M O) → Follows taken rows → length taken < length rows → row ≡ get_or rows (length taken) row → rows ≡ (taken ++ row ∷ []) ++ drop (length taken + 1) rows
@@ -60,8 +60,8 @@ next_of s lines taken rows row follows lt is lawful =
 
 module _ {A M O : Type 0} (r : Rules A M O) (words : ℕ → ℕ → ℕ × ℕ) (births : List (Seat A)) (lines : List (Line O)) (old : Stage A M O) (rows : List (Row M O)) where
   -- the rows end before the first task makes its row
-  At-open : (task : Task O) (rest : List (Task O)) → At (with_births r words births) lines old (task ∷ rest) → is_over (with_births r words births) old.rows task ≡ false → Follows old.rows rows → length rows ≤ length old.rows → (old.rows ≡ rows) × HasReplayed (with_births r words births) lines rows old.unsettled old.skipped old.seats.items
-  At-open task rest at opens follows le =
+  IsStageAt-open : (task : Task O) (rest : List (Task O)) → IsStageAt (with_births r words births) lines old (task ∷ rest) → is_over (with_births r words births) old.rows task ≡ false → Follows old.rows rows → length rows ≤ length old.rows → (old.rows ≡ rows) × HasReplayed (with_births r words births) lines rows old.unsettled old.skipped old.seats.items
+  IsStageAt-open task rest at opens follows le =
       let s = with_births r words births in
       let here = Stands-at s lines old.rows task rest old.skipped old.unsettled (record { lawful = at.lawful; place = at.place }) opens in
       let all = sym (follows_all old.rows rows follows le) in (
@@ -75,34 +75,34 @@ module _ {A M O : Type 0} (r : Rules A M O) (words : ℕ → ℕ → ℕ × ℕ)
       )
 
   -- they end with the last task
-  pub At-all : At (with_births r words births) lines old [] → old.rows ≡ rows → HasReplayed (with_births r words births) lines rows old.unsettled old.skipped old.seats.items
-  At-all at all =
+  pub IsStageAt-all : IsStageAt (with_births r words births) lines old [] → old.rows ≡ rows → HasReplayed (with_births r words births) lines rows old.unsettled old.skipped old.seats.items
+  IsStageAt-all at all =
       let s = with_births r words births in
       let whole = Stands-whole s lines old.rows old.skipped old.unsettled (record { lawful = at.lawful; place = at.place }) in
       subst (λ xs. HasReplayed s lines xs old.unsettled old.skipped old.seats.items) all (record { lawful = at.lawful; cut_is = sym whole.2; skips_are = sym whole.1; actors = at.seats })
 
   -- a row that the first task does not allow
-  At-wrong : (task : Task O) (rest : List (Task O)) (row : Row M O) → At (with_births r words births) lines old (task ∷ rest) → is_over (with_births r words births) old.rows task ≡ false → Follows old.rows rows → length old.rows < length rows → row ≡ get_or rows (length old.rows) row →
+  IsStageAt-wrong : (task : Task O) (rest : List (Task O)) (row : Row M O) → IsStageAt (with_births r words births) lines old (task ∷ rest) → is_over (with_births r words births) old.rows task ≡ false → Follows old.rows rows → length old.rows < length rows → row ≡ get_or rows (length old.rows) row →
       (Allows (with_births r words births) old.rows task row → ⊥) → IsLawful (with_births r words births) lines rows → ⊥
-  At-wrong task rest row at opens follows lt is never lawful =
+  IsStageAt-wrong task rest row at opens follows lt is never lawful =
       let s = with_births r words births in
       never (Stands-allows s lines old.rows task rest old.skipped old.unsettled row (record { lawful = at.lawful; place = at.place }) opens (next_of s lines old.rows rows row follows lt is lawful))
 
   -- rows after the end
-  pub At-late : (row : Row M O) → At (with_births r words births) lines old [] → Follows old.rows rows → length old.rows < length rows → row ≡ get_or rows (length old.rows) row → IsLawful (with_births r words births) lines rows → ⊥
-  At-late row at follows lt is lawful =
+  pub IsStageAt-late : (row : Row M O) → IsStageAt (with_births r words births) lines old [] → Follows old.rows rows → length old.rows < length rows → row ≡ get_or rows (length old.rows) row → IsLawful (with_births r words births) lines rows → ⊥
+  IsStageAt-late row at follows lt is lawful =
       let s = with_births r words births in
       Stands-ended s lines old.rows old.skipped old.unsettled row (record { lawful = at.lawful; place = at.place }) (next_of s lines old.rows rows row follows lt is lawful)
 
   -- the row of the task's deed is another one
-  At-misses : (task : Task O) (rest : List (Task O)) (d : Deed O) (row : Row M O) → At (with_births r words births) lines old (task ∷ rest) → can_act (numbers_of old.seats.items) d ≡ true → Misses r old d row →
+  IsStageAt-misses : (task : Task O) (rest : List (Task O)) (d : Deed O) (row : Row M O) → IsStageAt (with_births r words births) lines old (task ∷ rest) → can_act (numbers_of old.seats.items) d ≡ true → Misses r old d row →
       ((x : Row M O) → row_made (with_births r words births) old.rows d ≡ Some x → is_over (with_births r words births) old.rows task ≡ false) →
       (Allows (with_births r words births) old.rows task row → row_made (with_births r words births) old.rows d ≡ Some row) →
       Follows old.rows rows → length old.rows < length rows → row ≡ get_or rows (length old.rows) row → IsLawful (with_births r words births) lines rows → ⊥
-  At-misses task rest d row at can misses opens decides follows lt is lawful =
+  IsStageAt-misses task rest d row at can misses opens decides follows lt is lawful =
       let s = with_births r words births in
       let m = made s old.rows old.seats.items misses.seats d misses.made at.seats at.apart misses.makes can in
-      At-wrong task rest row at (opens misses.made m.row_is) follows lt is (λ allows. misses.differs (same_Some misses.made row (sym m.row_is ∙ decides allows))) lawful
+      IsStageAt-wrong task rest row at (opens misses.made m.row_is) follows lt is (λ allows. misses.differs (same_Some misses.made row (sym m.row_is ∙ decides allows))) lawful
 
 module _ {A M O : Type 0} (s : System A M O) (rows : List (Row M O)) where
   not_over : (free : Bool) (left : ℕ) → 0 < left → is_quiet s rows ≡ false → is_over s rows (many free left) ≡ false
@@ -122,10 +122,10 @@ module _ {A M O : Type 0} (s : System A M O) (rows : List (Row M O)) where
   chosen_allows false left who row e is = lowest-deed s rows ∙ is
 
 module _ {A M O : Type 0} (r : Rules A M O) (old new : Stage A M O) (rows : List (Row M O)) where
-  chosen-at : (words : ℕ → ℕ → ℕ × ℕ) (births : List (Seat A)) (lines : List (Line O)) (tasks : List (Task O)) (free : Bool) (who : ℕ) → At (with_births r words births) lines old tasks → chosen_deed {O = O} r.receiver (numbers_of births) old.rows free who ≡ chosen_deed r.receiver (numbers_of old.seats.items) old.rows free who
+  chosen-at : (words : ℕ → ℕ → ℕ × ℕ) (births : List (Seat A)) (lines : List (Line O)) (tasks : List (Task O)) (free : Bool) (who : ℕ) → IsStageAt (with_births r words births) lines old tasks → chosen_deed {O = O} r.receiver (numbers_of births) old.rows free who ≡ chosen_deed r.receiver (numbers_of old.seats.items) old.rows free who
   chosen-at words births lines tasks free who at = ap (λ numbers. chosen_deed r.receiver numbers old.rows free who) (sym (numbers-at r old old words births lines tasks at))
 
-  loud-at : (words : ℕ → ℕ → ℕ × ℕ) (births : List (Seat A)) (lines : List (Line O)) (tasks : List (Task O)) → At (with_births r words births) lines old tasks → is_none (lowest_deed {O = O} r.receiver (numbers_of old.seats.items) old.rows) ≡ false → is_quiet (with_births r words births) old.rows ≡ false
+  loud-at : (words : ℕ → ℕ → ℕ × ℕ) (births : List (Seat A)) (lines : List (Line O)) (tasks : List (Task O)) → IsStageAt (with_births r words births) lines old tasks → is_none (lowest_deed {O = O} r.receiver (numbers_of old.seats.items) old.rows) ≡ false → is_quiet (with_births r words births) old.rows ≡ false
   loud-at words births lines tasks at loud = quiet_is {O = O} r.receiver births old.rows ∙ ap is_none (lowest-at r old old words births lines tasks at) ∙ loud
 
   -- the rows end before the row of a deed that can be done
@@ -145,13 +145,13 @@ module _ {A M O : Type 0} (r : Rules A M O) (old new : Stage A M O) (rows : List
       let here : line_deed r.receiver (numbers_of births) old.rows line ≡ Some d = line-at r old old line words births lines (Once line ∷ rest) at ∙ is in
       let row = can_row s d (line_deed-can r.receiver births old.rows line d here) in
       let made_row : line_row s old.rows line ≡ Some row.0 = line_row-deed s old.rows line ∙ ap (option_and_then (row_made s old.rows)) here ∙ row.1 in
-      At-open r words births lines old rows (Once line) rest at (ap is_none made_row) follows le
+      IsStageAt-open r words births lines old rows (Once line) rest at (ap is_none made_row) follows le
 
   -- rows that end within a line of many
   pub Ends-many : (free : Bool) (left : ℕ) → 0 < left → is_none (lowest_deed {O = O} r.receiver (numbers_of old.seats.items) old.rows) ≡ false → Follows old.rows rows → length rows ≤ length old.rows → Ends r old (many free left ∷ []) old rows
   Ends-many free left more loud follows le = λ words births lines rest at.
       let s = with_births r words births in
-      At-open r words births lines old rows (many free left) rest at (not_over s old.rows free left more (loud-at words births lines (many free left ∷ rest) at loud)) follows le
+      IsStageAt-open r words births lines old rows (many free left) rest at (not_over s old.rows free left more (loud-at words births lines (many free left ∷ rest) at loud)) follows le
 
   -- a line of one row
   pub Breaks-line : (line : Line O) (d : Deed O) (row : Row M O) → line_deed r.receiver (numbers_of old.seats.items) old.rows line ≡ Some d → Misses r old d row → Follows old.rows rows → length old.rows < length rows → row ≡ get_or rows (length old.rows) row → Breaks r old (Once line ∷ []) rows
@@ -159,14 +159,14 @@ module _ {A M O : Type 0} (r : Rules A M O) (old new : Stage A M O) (rows : List
       let s = with_births r words births in
       let here : line_deed r.receiver (numbers_of births) old.rows line ≡ Some d = line-at r old old line words births lines (Once line ∷ rest) at ∙ is in
       let same : line_row s old.rows line ≡ row_made s old.rows d = line_row-deed s old.rows line ∙ ap (option_and_then (row_made s old.rows)) here in
-      At-misses r words births lines old rows (Once line) rest d row at (line_deed-can r.receiver old.seats.items old.rows line d is) misses
+      IsStageAt-misses r words births lines old rows (Once line) rest d row at (line_deed-can r.receiver old.seats.items old.rows line d is) misses
       (λ x made_x. ap is_none (same ∙ made_x)) (λ allows. sym same ∙ allows) follows lt at_row
 
   -- a line of many deliveries
   pub Breaks-many : (free : Bool) (left : ℕ) (d : Deed O) (row : Row M O) → chosen_deed r.receiver (numbers_of old.seats.items) old.rows free row.who ≡ Some d → can_act (numbers_of old.seats.items) d ≡ true → 0 < left → is_none (lowest_deed {O = O} r.receiver (numbers_of old.seats.items) old.rows) ≡ false → Misses r old d row → Follows old.rows rows → length old.rows < length rows → row ≡ get_or rows (length old.rows) row → Breaks r old (many free left ∷ []) rows
   Breaks-many free left d row is can more loud misses follows lt at_row = λ words births lines rest at.
       let s = with_births r words births in
-      At-misses r words births lines old rows (many free left) rest d row at can misses
+      IsStageAt-misses r words births lines old rows (many free left) rest d row at can misses
       (λ x made_x. not_over s old.rows free left more (loud-at words births lines (many free left ∷ rest) at loud))
       (λ allows. sym (ap (option_and_then (row_made s old.rows)) (chosen-at words births lines (many free left ∷ rest) free row.who at ∙ is)) ∙ chosen_decides s old.rows free left row allows) follows lt at_row
 
@@ -174,40 +174,40 @@ module _ {A M O : Type 0} (r : Rules A M O) (old new : Stage A M O) (rows : List
   pub Breaks-none : (free : Bool) (left : ℕ) (row : Row M O) → chosen_deed {O = O} r.receiver (numbers_of old.seats.items) old.rows free row.who ≡ None → 0 < left → is_none (lowest_deed {O = O} r.receiver (numbers_of old.seats.items) old.rows) ≡ false → Follows old.rows rows → length old.rows < length rows → row ≡ get_or rows (length old.rows) row → Breaks r old (many free left ∷ []) rows
   Breaks-none free left row none more loud follows lt at_row = λ words births lines rest at.
       let s = with_births r words births in
-      At-wrong r words births lines old rows (many free left) rest row at (not_over s old.rows free left more (loud-at words births lines (many free left ∷ rest) at loud)) follows lt at_row
+      IsStageAt-wrong r words births lines old rows (many free left) rest row at (not_over s old.rows free left more (loud-at words births lines (many free left ∷ rest) at loud)) follows lt at_row
       (λ allows. let h : None ≡ Some row = sym (ap (option_and_then (row_made s old.rows)) (chosen-at words births lines (many free left ∷ rest) free row.who at ∙ none)) ∙ chosen_decides s old.rows free left row allows in no_row row h)
     where
       no_row : (row : Row M O) → None ≡ Some row → ⊥
       no_row row e = cc
 
   -- the chosen delivery was made
-  pub Goes-chosen : (free : Bool) (left : ℕ) (d : Deed O) (row : Row M O) → chosen_deed r.receiver (numbers_of old.seats.items) old.rows free row.who ≡ Some d → can_act (numbers_of old.seats.items) d ≡ true → 0 < left → is_none (lowest_deed {O = O} r.receiver (numbers_of old.seats.items) old.rows) ≡ false → Took r old new d row → Goes r old (many free left ∷ []) new (many free (left - 1) ∷ [])
-  Goes-chosen free left d row is can more loud took = λ words births lines rest at.
+  pub StageGoes-chosen : (free : Bool) (left : ℕ) (d : Deed O) (row : Row M O) → chosen_deed r.receiver (numbers_of old.seats.items) old.rows free row.who ≡ Some d → can_act (numbers_of old.seats.items) d ≡ true → 0 < left → is_none (lowest_deed {O = O} r.receiver (numbers_of old.seats.items) old.rows) ≡ false → DidWithRow r old new d row → StageGoes r old (many free left ∷ []) new (many free (left - 1) ∷ [])
+  StageGoes-chosen free left d row is can more loud took = λ words births lines rest at.
       let s = with_births r words births in
       let m = made s old.rows old.seats.items new.seats.items d took.did.row at.seats at.apart took.did.makes can in
       let chosen : option_and_then (row_made s old.rows) (chosen_deed r.receiver (numbers_of births) old.rows free row.who) ≡ row_made s old.rows d = ap (option_and_then (row_made s old.rows)) (chosen-at words births lines (many free left ∷ rest) free row.who at ∙ is) in
-      subst (λ ts. At s lines new (ts ++ rest)) (rest_many free)
-      (At-did r words births lines old new (many free left) rest at d can took.did
+      subst (λ ts. IsStageAt s lines new (ts ++ rest)) (rest_many free)
+      (IsStageAt-did r words births lines old new (many free left) rest at d can took.did
       (λ x made_x. (
         not_over s old.rows free left more (loud-at words births lines (many free left ∷ rest) at loud),
         chosen_allows s old.rows free left row.who x (ap (λ y. y.who) (same_Some x took.did.row (sym made_x ∙ m.row_is) ∙ took.same)) (chosen ∙ made_x),
       )))
     where
-      rest_many : (free : Bool) → rest_of {O = O} (many free left) ≡ many free (left - 1) ∷ []
+      rest_many : (free : Bool) → rest_of_task {O = O} (many free left) ≡ many free (left - 1) ∷ []
       rest_many true = refl
       rest_many false = refl
 
 module _ {A M O : Type 0} (r : Rules A M O) where
   -- what ends after a move ends before it
-  pub Ends-then : (first second third : Stage A M O) (a b : List (Task O)) (rows : List (Row M O)) → Goes r first a second b → Ends r second b third rows → Ends r first a third rows
+  pub Ends-then : (first second third : Stage A M O) (a b : List (Task O)) (rows : List (Row M O)) → StageGoes r first a second b → Ends r second b third rows → Ends r first a third rows
   Ends-then first second third a b rows p q = λ words births lines rest at. q words births lines rest (p words births lines rest at)
 
   -- what breaks after a move breaks before it
-  pub Breaks-then : (first second : Stage A M O) (a b : List (Task O)) (rows : List (Row M O)) → Goes r first a second b → Breaks r second b rows → Breaks r first a rows
+  pub Breaks-then : (first second : Stage A M O) (a b : List (Task O)) (rows : List (Row M O)) → StageGoes r first a second b → Breaks r second b rows → Breaks r first a rows
   Breaks-then first second a b rows p q = λ words births lines rest at. q words births lines rest (p words births lines rest at)
 
 -- the stage after one more row
-pub taking_next : {A M O : Type 0} (r : Rules A M O) (old new : Stage A M O) (d : Deed O) (row : Row M O) (rows : List (Row M O)) → IsTaking old rows → length old.rows < length rows → row ≡ get_or rows (length old.rows) row → Took r old new d row → IsTaking new rows
+pub taking_next : {A M O : Type 0} (r : Rules A M O) (old new : Stage A M O) (d : Deed O) (row : Row M O) (rows : List (Row M O)) → IsTaking old rows → length old.rows < length rows → row ≡ get_or rows (length old.rows) row → DidWithRow r old new d row → IsTaking new rows
 taking_next r old new d row rows taking lt is took =
     record {
       kept = took.kept;

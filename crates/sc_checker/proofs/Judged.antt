@@ -12,11 +12,11 @@ use Rattle.sc_actor.proofs.TaskLemmas.{split}
 use Rattle.std.proofs.lemmas.Bool.{false≢true}
 use Rattle.sc_checker.specs.declared.stages.Stage.{Stage}
 use Rattle.sc_checker.specs.declared.judging.Replayed.{Replayed}
-use Rattle.sc_checker.specs.Moves.{At, Rules, with_births}
+use Rattle.sc_checker.specs.Moves.{IsStageAt, Rules, with_births}
 use Rattle.sc_checker.specs.Checks.{Follows, Ends, Breaks}
 use Rattle.sc_checker.specs.Replays.{HasReplayed, Leaves, IsReplayed}
 use Rattle.sc_checker.proofs.Seats.{numbers_of-values}
-use Rattle.sc_checker.proofs.Checks.{At-all, At-late, follows_all}
+use Rattle.sc_checker.proofs.Checks.{IsStageAt-all, IsStageAt-late, follows_all}
 
 module _ {A M O : Type 0} (r : Rules A M O) (words : ℕ → ℕ → ℕ × ℕ) (births : List (Seat A)) (lines : List (Line O)) (old : Stage A M O) (rows : List (Row M O)) where
   -- what the stage leaves where it has taken all rows
@@ -33,15 +33,15 @@ module _ {A M O : Type 0} (r : Rules A M O) (words : ℕ → ℕ → ℕ × ℕ)
   })
 
   -- the rows end in a line
-  pub judged_ends : (new : Stage A M O) (i : ℕ) (line : Line O) → i < length lines → line ≡ get_or lines i line → has_one_task line ≡ true → At (with_births r words births) lines old (flat_map (tasks_of words) (drop i lines)) → Ends r old (line_task line ∷ []) new rows →
+  pub judged_ends : (new : Stage A M O) (i : ℕ) (line : Line O) → i < length lines → line ≡ get_or lines i line → has_one_task line ≡ true → IsStageAt (with_births r words births) lines old (flat_map (tasks_of words) (drop i lines)) → Ends r old (line_task line ∷ []) new rows →
       (new.rows ≡ rows) × HasReplayed (with_births r words births) lines rows new.unsettled new.skipped new.seats.items
   judged_ends new i line lt is one at ends =
-      ends words births lines (flat_map (tasks_of words) (drop (i + 1) lines)) (subst (λ ts. At (with_births r words births) lines old ts) (split words lines i line lt is one) at)
+      ends words births lines (flat_map (tasks_of words) (drop (i + 1) lines)) (subst (λ ts. IsStageAt (with_births r words births) lines old ts) (split words lines i line lt is one) at)
 
   -- a row is wrong
-  pub judged_breaks : (i : ℕ) (line : Line O) → i < length lines → line ≡ get_or lines i line → has_one_task line ≡ true → At (with_births r words births) lines old (flat_map (tasks_of words) (drop i lines)) → Breaks r old (line_task line ∷ []) rows → IsLawful (with_births r words births) lines rows → ⊥
+  pub judged_breaks : (i : ℕ) (line : Line O) → i < length lines → line ≡ get_or lines i line → has_one_task line ≡ true → IsStageAt (with_births r words births) lines old (flat_map (tasks_of words) (drop i lines)) → Breaks r old (line_task line ∷ []) rows → IsLawful (with_births r words births) lines rows → ⊥
   judged_breaks i line lt is one at breaks =
-      breaks words births lines (flat_map (tasks_of words) (drop (i + 1) lines)) (subst (λ ts. At (with_births r words births) lines old ts) (split words lines i line lt is one) at)
+      breaks words births lines (flat_map (tasks_of words) (drop (i + 1) lines)) (subst (λ ts. IsStageAt (with_births r words births) lines old ts) (split words lines i line lt is one) at)
 
   first_left : (rest : List (Row M O)) → rest ≡ drop (length old.rows) rows → length old.rows < length rows → (row : Row M O) × (row ≡ get_or rows (length old.rows) row)
   first_left rest e lt = there rows (length old.rows) lt
@@ -57,21 +57,21 @@ module _ {A M O : Type 0} (r : Rules A M O) (words : ℕ → ℕ → ℕ × ℕ)
       omega (arith, l)
 
   -- rows go on past the schedule
-  pub late : (length old.rows ≡ length rows → ⊥) → At (with_births r words births) lines old [] → Follows old.rows rows → IsLawful (with_births r words births) lines rows → ⊥
+  pub late : (length old.rows ≡ length rows → ⊥) → IsStageAt (with_births r words births) lines old [] → Follows old.rows rows → IsLawful (with_births r words births) lines rows → ⊥
   late differ at follows h =
       let le = follows_le follows in
       let shorter : length old.rows < length rows = less (length old.rows) (length rows) le differ in
       let first = first_left (drop (length old.rows) rows) refl shorter in
-      At-late r words births lines old rows first.0 at follows shorter first.1 h
+      IsStageAt-late r words births lines old rows first.0 at follows shorter first.1 h
     where
       less : (m n : ℕ) → m ≤ n → (m ≡ n → ⊥) → m < n
       less m n le differ = omega (arith, le, differ)
 
   -- the rows end with the schedule
-  pub judged_all : length old.rows ≡ length rows → At (with_births r words births) lines old [] → Follows old.rows rows → (old.rows ≡ rows) × HasReplayed (with_births r words births) lines rows old.unsettled old.skipped old.seats.items
+  pub judged_all : length old.rows ≡ length rows → IsStageAt (with_births r words births) lines old [] → Follows old.rows rows → (old.rows ≡ rows) × HasReplayed (with_births r words births) lines rows old.unsettled old.skipped old.seats.items
   judged_all same at follows =
       let all = sym (follows_all old.rows rows follows (omega (arith, same))) in
-      (all, At-all r words births lines old rows at all)
+      (all, IsStageAt-all r words births lines old rows at all)
 
 -- rows are lawful where something is left
 pub judged : {A M O : Type 0} (s : System A M O) (lines : List (Line O)) (rows : List (Row M O)) (left : Option (Replayed A)) → IsReplayed s lines rows left → IsTrue (is_some left) ↔ IsLawful s lines rows

@@ -14,7 +14,7 @@ use Rattle.sc_actor.specs.declared.schedules.Line.{Line}
 use Rattle.sc_actor.specs.Mail.{mails}
 use Rattle.sc_actor.specs.Replay.{Table, input_of, acted, value, values}
 use Rattle.sc_actor.specs.System.{System, are_apart, numbers_of, row_of, network}
-use Rattle.sc_actor.specs.Walk.{Task, Once, Allows, is_over, is_quiet, skips, cuts, rest_of, line_row, tasks_of, has_one_task, line_task}
+use Rattle.sc_actor.specs.Walk.{Task, Once, Allows, is_over, is_quiet, skips, cuts, rest_of_task, line_row, tasks_of, has_one_task, line_task}
 use Rattle.sc_actor.proofs.ReplayLemmas.{value-snoc}
 use Rattle.sc_actor.proofs.TaskLemmas.{split}
 use Rattle.sc_actor.proofs.WalkLemmas.{Stands-begin, Stands-over, Stands-row}
@@ -22,7 +22,7 @@ use Rattle.sc_checker.specs.declared.stages.Stage.{Stage}
 use Rattle.sc_checker.specs.declared.stages.Deed.{Deed}
 use Rattle.sc_checker.specs.Deeds.{is_of_network, is_number, can_act, row_made, line_deed, lowest_deed}
 use Rattle.sc_checker.specs.Stages.{Makes, place_of, seat_after}
-use Rattle.sc_checker.specs.Moves.{At, Rules, with_births, Did, Goes, many}
+use Rattle.sc_checker.specs.Moves.{IsStageAt, Rules, with_births, Did, StageGoes, many}
 use Rattle.sc_checker.proofs.Seats.{found_at, has_place, place_of-values, values-snoc, slice_get-values, numbers_of-values}
 use Rattle.sc_checker.proofs.DeedLemmas.{line_row-deed, line_deed-can, quiet_is}
 
@@ -107,10 +107,10 @@ pub record SameJournal {A M O : Type 0} (old new : Stage A M O) : Type 0 where
 abbrev pub Fits : {A M O : Type 0} → System A M O → List (Row M O) → Task O → Deed O → Type 0
 Fits {A} {M} {O} s rows task deed = (row : Row M O) → row_made s rows deed ≡ Some row → (is_over s rows task ≡ false) × Allows s rows task row
 
-module _ {A M O : Type 0} (r : Rules A M O) (words : ℕ → ℕ → ℕ × ℕ) (births : List (Seat A)) (lines : List (Line O)) (old new : Stage A M O) (task : Task O) (rest : List (Task O)) (at : At (with_births r words births) lines old (task ∷ rest)) where
+module _ {A M O : Type 0} (r : Rules A M O) (words : ℕ → ℕ → ℕ × ℕ) (births : List (Seat A)) (lines : List (Line O)) (old new : Stage A M O) (task : Task O) (rest : List (Task O)) (at : IsStageAt (with_births r words births) lines old (task ∷ rest)) where
   -- a task that makes no row any more
-  At-over : SameJournal old new → is_over (with_births r words births) old.rows task ≡ true → new.skipped ≡ old.skipped + skips task → new.unsettled ≡ (old.unsettled || cuts (with_births r words births) old.rows task) → At (with_births r words births) lines new rest
-  At-over same over skips_ cut =
+  IsStageAt-over : SameJournal old new → is_over (with_births r words births) old.rows task ≡ true → new.skipped ≡ old.skipped + skips task → new.unsettled ≡ (old.unsettled || cuts (with_births r words births) old.rows task) → IsStageAt (with_births r words births) lines new rest
+  IsStageAt-over same over skips_ cut =
       let s = with_births r words births in
       let stands = Stands-over s lines old.rows task rest old.skipped old.unsettled (record { lawful = at.lawful; place = at.place }) over in
       record {
@@ -121,8 +121,8 @@ module _ {A M O : Type 0} (r : Rules A M O) (words : ℕ → ℕ → ℕ × ℕ)
       }
 
   -- a row of the first task
-  pub At-did : (deed : Deed O) → can_act (numbers_of old.seats.items) deed ≡ true → Did r old new deed → Fits (with_births r words births) old.rows task deed → At (with_births r words births) lines new (rest_of task ++ rest)
-  At-did deed can did fits =
+  pub IsStageAt-did : (deed : Deed O) → can_act (numbers_of old.seats.items) deed ≡ true → Did r old new deed → Fits (with_births r words births) old.rows task deed → IsStageAt (with_births r words births) lines new (rest_of_task task ++ rest)
+  IsStageAt-did deed can did fits =
       let s = with_births r words births in
       let m = made s old.rows old.seats.items new.seats.items deed did.row at.seats at.apart did.makes can in
       let stands = Stands-row s lines old.rows task rest old.skipped old.unsettled did.row (record { lawful = at.lawful; place = at.place }) (fits did.row m.row_is).0 (fits did.row m.row_is).1 in
@@ -149,32 +149,32 @@ module _ {A M O : Type 0} (s : System A M O) (rows : List (Row M O)) where
 
 module _ {A M O : Type 0} (r : Rules A M O) (old new : Stage A M O) where
   -- the actors of a stage have the numbers of the births
-  pub numbers-at : (words : ℕ → ℕ → ℕ × ℕ) (births : List (Seat A)) (lines : List (Line O)) (tasks : List (Task O)) → At (with_births r words births) lines old tasks → numbers_of old.seats.items ≡ numbers_of births
+  pub numbers-at : (words : ℕ → ℕ → ℕ × ℕ) (births : List (Seat A)) (lines : List (Line O)) (tasks : List (Task O)) → IsStageAt (with_births r words births) lines old tasks → numbers_of old.seats.items ≡ numbers_of births
   numbers-at words births lines tasks at = ap numbers_of at.seats ∙ numbers_of-values r.table births old.rows
 
   module _ (line : Line O) where
     -- a line has the same deed by the births and by the actors as they are
-    pub line-at : (words : ℕ → ℕ → ℕ × ℕ) (births : List (Seat A)) (lines : List (Line O)) (tasks : List (Task O)) → At (with_births r words births) lines old tasks → line_deed r.receiver (numbers_of births) old.rows line ≡ line_deed r.receiver (numbers_of old.seats.items) old.rows line
+    pub line-at : (words : ℕ → ℕ → ℕ × ℕ) (births : List (Seat A)) (lines : List (Line O)) (tasks : List (Task O)) → IsStageAt (with_births r words births) lines old tasks → line_deed r.receiver (numbers_of births) old.rows line ≡ line_deed r.receiver (numbers_of old.seats.items) old.rows line
     line-at words births lines tasks at = ap (λ numbers. line_deed r.receiver numbers old.rows line) (sym (numbers-at words births lines tasks at))
 
     -- a line that is skipped
-    pub Goes-skip : line_deed r.receiver (numbers_of old.seats.items) old.rows line ≡ None → SameJournal old new → new.skipped ≡ old.skipped + 1 → new.unsettled ≡ old.unsettled → Goes r old (Once line ∷ []) new []
-    Goes-skip none same skips_ cut = λ words births lines rest at.
+    pub StageGoes-skip : line_deed r.receiver (numbers_of old.seats.items) old.rows line ≡ None → SameJournal old new → new.skipped ≡ old.skipped + 1 → new.unsettled ≡ old.unsettled → StageGoes r old (Once line ∷ []) new []
+    StageGoes-skip none same skips_ cut = λ words births lines rest at.
         let s = with_births r words births in
         let row_is : line_row s old.rows line ≡ None = line_row-deed s old.rows line ∙ ap (option_and_then (row_made s old.rows)) (line-at words births lines (Once line ∷ rest) at ∙ none) in
-        At-over r words births lines old new (Once line) rest at same (ap is_none row_is) skips_ (cut ∙ sym (or_false old.unsettled))
+        IsStageAt-over r words births lines old new (Once line) rest at same (ap is_none row_is) skips_ (cut ∙ sym (or_false old.unsettled))
 
     -- a line that makes its row
-    pub Goes-line : (deed : Deed O) → line_deed r.receiver (numbers_of old.seats.items) old.rows line ≡ Some deed → Did r old new deed → Goes r old (Once line ∷ []) new []
-    Goes-line deed is did = λ words births lines rest at.
-        At-did r words births lines old new (Once line) rest at deed (line_deed-can r.receiver old.seats.items old.rows line deed is) did
+    pub StageGoes-line : (deed : Deed O) → line_deed r.receiver (numbers_of old.seats.items) old.rows line ≡ Some deed → Did r old new deed → StageGoes r old (Once line ∷ []) new []
+    StageGoes-line deed is did = λ words births lines rest at.
+        IsStageAt-did r words births lines old new (Once line) rest at deed (line_deed-can r.receiver old.seats.items old.rows line deed is) did
         (fits_line (with_births r words births) old.rows line deed (line-at words births lines (Once line ∷ rest) at ∙ is))
 
   -- the lowest delivery is the same by the births and by the actors as they are
-  pub lowest-at : (words : ℕ → ℕ → ℕ × ℕ) (births : List (Seat A)) (lines : List (Line O)) (tasks : List (Task O)) → At (with_births r words births) lines old tasks → lowest_deed {O = O} r.receiver (numbers_of births) old.rows ≡ lowest_deed r.receiver (numbers_of old.seats.items) old.rows
+  pub lowest-at : (words : ℕ → ℕ → ℕ × ℕ) (births : List (Seat A)) (lines : List (Line O)) (tasks : List (Task O)) → IsStageAt (with_births r words births) lines old tasks → lowest_deed {O = O} r.receiver (numbers_of births) old.rows ≡ lowest_deed r.receiver (numbers_of old.seats.items) old.rows
   lowest-at words births lines tasks at = ap (λ numbers. lowest_deed r.receiver numbers old.rows) (sym (numbers-at words births lines tasks at))
 
-  quiet-at : (words : ℕ → ℕ → ℕ × ℕ) (births : List (Seat A)) (lines : List (Line O)) (tasks : List (Task O)) → At (with_births r words births) lines old tasks → is_quiet (with_births r words births) old.rows ≡ is_none (lowest_deed {O = O} r.receiver (numbers_of old.seats.items) old.rows)
+  quiet-at : (words : ℕ → ℕ → ℕ × ℕ) (births : List (Seat A)) (lines : List (Line O)) (tasks : List (Task O)) → IsStageAt (with_births r words births) lines old tasks → is_quiet (with_births r words births) old.rows ≡ is_none (lowest_deed {O = O} r.receiver (numbers_of old.seats.items) old.rows)
   quiet-at words births lines tasks at = quiet_is {O = O} r.receiver births old.rows ∙ ap is_none (lowest-at words births lines tasks at)
 
   many_over : (s : System A M O) (free : Bool) (left : ℕ) → (eqb left 0 || is_quiet s old.rows) ≡ true → is_over s old.rows (many free left) ≡ true
@@ -190,36 +190,36 @@ module _ {A M O : Type 0} (r : Rules A M O) (old new : Stage A M O) where
   many_cuts s false left = refl
 
   -- no mail is pending
-  pub Goes-quiet : (free : Bool) (left : ℕ) → lowest_deed {O = O} r.receiver (numbers_of old.seats.items) old.rows ≡ None → SameJournal old new → new.skipped ≡ old.skipped → new.unsettled ≡ old.unsettled → Goes r old (many free left ∷ []) new []
-  Goes-quiet free left none same skips_ cut = λ words births lines rest at.
+  pub StageGoes-quiet : (free : Bool) (left : ℕ) → lowest_deed {O = O} r.receiver (numbers_of old.seats.items) old.rows ≡ None → SameJournal old new → new.skipped ≡ old.skipped → new.unsettled ≡ old.unsettled → StageGoes r old (many free left ∷ []) new []
+  StageGoes-quiet free left none same skips_ cut = λ words births lines rest at.
       let s = with_births r words births in
       let quiet : is_quiet s old.rows ≡ true = quiet-at words births lines (many free left ∷ rest) at ∙ ap is_none none in
-      At-over r words births lines old new (many free left) rest at same (many_over s free left (rw quiet (or_true (eqb left 0))))
+      IsStageAt-over r words births lines old new (many free left) rest at same (many_over s free left (rw quiet (or_true (eqb left 0))))
       (skips_ ∙ sym (add-zero old.skipped) ∙ ap (λ n. old.skipped + n) (sym (many_skips free left)))
       (rw (many_cuts s free left, quiet) (cut ∙ sym (or_false old.unsettled)))
 
   -- no delivery is left
-  pub Goes-close : (free : Bool) → SameJournal old new → new.skipped ≡ old.skipped → new.unsettled ≡ (old.unsettled || not (is_none (lowest_deed {O = O} r.receiver (numbers_of old.seats.items) old.rows))) → Goes r old (many free 0 ∷ []) new []
-  Goes-close free same skips_ cut = λ words births lines rest at.
+  pub StageGoes-close : (free : Bool) → SameJournal old new → new.skipped ≡ old.skipped → new.unsettled ≡ (old.unsettled || not (is_none (lowest_deed {O = O} r.receiver (numbers_of old.seats.items) old.rows))) → StageGoes r old (many free 0 ∷ []) new []
+  StageGoes-close free same skips_ cut = λ words births lines rest at.
       let s = with_births r words births in
-      At-over r words births lines old new (many free 0) rest at same (many_over s free 0 refl)
+      IsStageAt-over r words births lines old new (many free 0) rest at same (many_over s free 0 refl)
       (skips_ ∙ sym (add-zero old.skipped) ∙ ap (λ n. old.skipped + n) (sym (many_skips free 0)))
       (rw (many_cuts s free 0, quiet-at words births lines (many free 0 ∷ rest) at) cut)
 
 module _ {A M O : Type 0} (r : Rules A M O) where
   -- two moves make one
-  pub Goes-then : (first second third : Stage A M O) (a b c : List (Task O)) → Goes r first a second b → Goes r second b third c → Goes r first a third c
-  Goes-then first second third a b c p q = λ words births lines rest at. q words births lines rest (p words births lines rest at)
+  pub StageGoes-then : (first second third : Stage A M O) (a b c : List (Task O)) → StageGoes r first a second b → StageGoes r second b third c → StageGoes r first a third c
+  StageGoes-then first second third a b c p q = λ words births lines rest at. q words births lines rest (p words births lines rest at)
 
   -- a move by equal counts
-  pub Goes-count : (old new : Stage A M O) (free : Bool) (m n n' : ℕ) → n ≡ n' → Goes r old (many free m ∷ []) new (many free n ∷ []) → Goes r old (many free m ∷ []) new (many free n' ∷ [])
-  Goes-count old new free m n n' e p = subst (λ x. Goes r old (many free m ∷ []) new (many free x ∷ [])) e p
+  pub StageGoes-count : (old new : Stage A M O) (free : Bool) (m n n' : ℕ) → n ≡ n' → StageGoes r old (many free m ∷ []) new (many free n ∷ []) → StageGoes r old (many free m ∷ []) new (many free n' ∷ [])
+  StageGoes-count old new free m n n' e p = subst (λ x. StageGoes r old (many free m ∷ []) new (many free x ∷ [])) e p
 
 module _ {A M O : Type 0} (r : Rules A M O) (words : ℕ → ℕ → ℕ × ℕ) (births : List (Seat A)) (lines : List (Line O)) where
   -- the walk begins at the births
-  pub At-begin : (stage : Stage A M O) → are_apart births ≡ true → stage.seats.items ≡ births → stage.rows ≡ [] → stage.skipped ≡ 0 → stage.unsettled ≡ false →
-      At (with_births r words births) lines stage (flat_map (tasks_of words) (drop 0 lines))
-  At-begin stage apart seats rows skips_ cut =
+  pub IsStageAt-begin : (stage : Stage A M O) → are_apart births ≡ true → stage.seats.items ≡ births → stage.rows ≡ [] → stage.skipped ≡ 0 → stage.unsettled ≡ false →
+      IsStageAt (with_births r words births) lines stage (flat_map (tasks_of words) (drop 0 lines))
+  IsStageAt-begin stage apart seats rows skips_ cut =
       let stands = Stands-begin (with_births r words births) lines in
       record {
         lawful = rw rows stands.lawful;
@@ -229,11 +229,11 @@ module _ {A M O : Type 0} (r : Rules A M O) (words : ℕ → ℕ → ℕ × ℕ)
       }
 
   -- past a line
-  pub At-line : (old new : Stage A M O) (i : ℕ) (line : Line O) → i < length lines → line ≡ get_or lines i line → has_one_task line ≡ true → At (with_births r words births) lines old (flat_map (tasks_of words) (drop i lines)) → Goes r old (line_task line ∷ []) new [] →
-      At (with_births r words births) lines new (flat_map (tasks_of words) (drop (i + 1) lines))
-  At-line old new i line lt is one at goes =
-      goes words births lines (flat_map (tasks_of words) (drop (i + 1) lines)) (subst (λ ts. At (with_births r words births) lines old ts) (split words lines i line lt is one) at)
+  pub IsStageAt-line : (old new : Stage A M O) (i : ℕ) (line : Line O) → i < length lines → line ≡ get_or lines i line → has_one_task line ≡ true → IsStageAt (with_births r words births) lines old (flat_map (tasks_of words) (drop i lines)) → StageGoes r old (line_task line ∷ []) new [] →
+      IsStageAt (with_births r words births) lines new (flat_map (tasks_of words) (drop (i + 1) lines))
+  IsStageAt-line old new i line lt is one at goes =
+      goes words births lines (flat_map (tasks_of words) (drop (i + 1) lines)) (subst (λ ts. IsStageAt (with_births r words births) lines old ts) (split words lines i line lt is one) at)
 
   -- past the last line
-  pub At-end : (stage : Stage A M O) (i : ℕ) → length lines ≤ i → At (with_births r words births) lines stage (flat_map (tasks_of words) (drop i lines)) → At (with_births r words births) lines stage []
-  At-end stage i le at = subst (λ ts. At (with_births r words births) lines stage (flat_map (tasks_of words) ts)) (drop_of_length-le lines le) at
+  pub IsStageAt-end : (stage : Stage A M O) (i : ℕ) → length lines ≤ i → IsStageAt (with_births r words births) lines stage (flat_map (tasks_of words) (drop i lines)) → IsStageAt (with_births r words births) lines stage []
+  IsStageAt-end stage i le at = subst (λ ts. IsStageAt (with_births r words births) lines stage (flat_map (tasks_of words) ts)) (drop_of_length-le lines le) at

@@ -9,8 +9,8 @@ use Rattle.sc_checker.specs.declared.stages.Stage.{Stage}
 use Rattle.sc_checker.specs.declared.stages.Deed.{Deed}
 use Rattle.sc_checker.specs.declared.checked.Checked.{Checked}
 use Rattle.sc_checker.specs.declared.checked.Checked.TheVariants.{On, Ended, Wrong}
-use Rattle.sc_checker.specs.Stages.{IsKept, Makes}
-use Rattle.sc_checker.specs.Moves.{At, Rules, with_births, Did, Goes}
+use Rattle.sc_checker.specs.Stages.{IsUpToDate, Makes}
+use Rattle.sc_checker.specs.Moves.{IsStageAt, Rules, with_births, Did, StageGoes}
 use Rattle.sc_checker.specs.Replays.{HasReplayed}
 
 -- these rows were taken from the front of those
@@ -19,16 +19,16 @@ Follows taken rows = rows ≡ taken ++ drop (length taken) rows
 
 -- The stage has taken its journal from the front of the rows, of which there are few enough to be counted.
 pub record IsTaking {A M O : Type 0} (stage : Stage A M O) (rows : List (Row M O)) : Type 0 where
-  pub kept : IsKept stage
+  pub kept : IsUpToDate stage
   pub follows : Follows stage.rows rows
   pub few_rows_in_all : length rows < 2 ^ 31
   pub few_mails_in_all : length (mails rows) < 2 ^ 31
 
 -- a deed was done, and its row is this one
-pub record Took {A M O : Type 0} (r : Rules A M O) (old new : Stage A M O) (deed : Deed O) (row : Row M O) : Type 0 where
+pub record DidWithRow {A M O : Type 0} (r : Rules A M O) (old new : Stage A M O) (deed : Deed O) (row : Row M O) : Type 0 where
   pub did : Did r old new deed
   pub same : did.row ≡ row
-  pub kept : IsKept new
+  pub kept : IsUpToDate new
 
 -- the row of a deed is another one
 pub record Misses {A M O : Type 0} (r : Rules A M O) (old : Stage A M O) (deed : Deed O) (row : Row M O) : Type 0 where
@@ -41,16 +41,16 @@ pub record Misses {A M O : Type 0} (r : Rules A M O) (old : Stage A M O) (deed :
 abbrev pub Ends : {A M O : Type 0} → Rules A M O → Stage A M O → List (Task O) → Stage A M O → List (Row M O) → Type 0
 Ends {A} {M} {O} r old before new rows =
     (words : ℕ → ℕ → ℕ × ℕ) (births : List (Seat A)) (lines : List (Line O)) (rest : List (Task O)) →
-    At (with_births r words births) lines old (before ++ rest) → (new.rows ≡ rows) × HasReplayed (with_births r words births) lines rows new.unsettled new.skipped new.seats.items
+    IsStageAt (with_births r words births) lines old (before ++ rest) → (new.rows ≡ rows) × HasReplayed (with_births r words births) lines rows new.unsettled new.skipped new.seats.items
 
 -- the rows are not lawful
 abbrev pub Breaks : {A M O : Type 0} → Rules A M O → Stage A M O → List (Task O) → List (Row M O) → Type 0
 Breaks {A} {M} {O} r old before rows =
     (words : ℕ → ℕ → ℕ × ℕ) (births : List (Seat A)) (lines : List (Line O)) (rest : List (Task O)) →
-    At (with_births r words births) lines old (before ++ rest) → IsLawful (with_births r words births) lines rows → ⊥
+    IsStageAt (with_births r words births) lines old (before ++ rest) → IsLawful (with_births r words births) lines rows → ⊥
 
 -- what the answer of a check says
 abbrev pub IsChecked : {A M O : Type 0} → Rules A M O → Stage A M O → List (Task O) → Stage A M O → List (Row M O) → Checked → Type 0
-IsChecked r old before new rows On = Goes r old before new [] × IsTaking new rows
+IsChecked r old before new rows On = StageGoes r old before new [] × IsTaking new rows
 IsChecked r old before new rows Ended = Ends r old before new rows × IsTaking new rows
 IsChecked r old before new rows Wrong = Breaks r old before rows

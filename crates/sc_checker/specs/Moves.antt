@@ -12,7 +12,7 @@ use Rattle.sc_checker.specs.declared.stages.Deed.{Deed}
 use Rattle.sc_checker.specs.Stages.{Makes}
 
 -- The journal of the stage is lawful, the walk after it has these tasks left, and each actor is its replay.
-pub record At {A M O : Type 0} (s : System A M O) (lines : List (Line O)) (stage : Stage A M O) (tasks : List (Task O)) : Type 0 where
+pub record IsStageAt {A M O : Type 0} (s : System A M O) (lines : List (Line O)) (stage : Stage A M O) (tasks : List (Task O)) : Type 0 where
   pub lawful : IsLawful s lines stage.rows
   pub place : place_after s lines stage.rows ≡ onward s stage.rows tasks stage.skipped stage.unsettled
   pub seats : stage.seats.items ≡ values s.table s.births stage.rows
@@ -40,10 +40,10 @@ pub record Did {A M O : Type 0} (r : Rules A M O) (old new : Stage A M O) (deed 
   pub unsettled : new.unsettled ≡ old.unsettled
 
 -- A walk that stands at the old stage with some tasks stands at the new one with others, whatever came before and comes after.
-abbrev pub Goes : {A M O : Type 0} → Rules A M O → Stage A M O → List (Task O) → Stage A M O → List (Task O) → Type 0
-Goes {A} {M} {O} r old before new after =
+abbrev pub StageGoes : {A M O : Type 0} → Rules A M O → Stage A M O → List (Task O) → Stage A M O → List (Task O) → Type 0
+StageGoes {A} {M} {O} r old before new after =
     (words : ℕ → ℕ → ℕ × ℕ) (births : List (Seat A)) (lines : List (Line O)) (rest : List (Task O)) →
-    At (with_births r words births) lines old (before ++ rest) → At (with_births r words births) lines new (after ++ rest)
+    IsStageAt (with_births r words births) lines old (before ++ rest) → IsStageAt (with_births r words births) lines new (after ++ rest)
 
 -- a task of many deliveries, free or not
 abbrev pub many : {O : Type 0} → Bool → ℕ → Task O

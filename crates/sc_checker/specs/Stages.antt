@@ -12,7 +12,7 @@ use Rattle.sc_checker.specs.declared.stages.Deed.{Deed}
 use Rattle.sc_checker.specs.Deeds.{is_of_network}
 
 -- The mail and the copies are those of the journal, which is small enough to be counted.
-pub record IsKept {A M O : Type 0} (stage : Stage A M O) : Type 0 where
+pub record IsUpToDate {A M O : Type 0} (stage : Stage A M O) : Type 0 where
   pub all_mails : stage.mails.items ≡ mails stage.rows
   pub all_copies : stage.copies.items ≡ copies stage.rows
   pub few_rows : length stage.rows < 2 ^ 31

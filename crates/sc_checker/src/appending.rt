@@ -1,7 +1,7 @@
 //! A row joins the journal.
 ghost use Rattle.std.specs.Prelude.{◌≡◌, ◌<◌, ◌+◌, ◌-◌, ◌^◌, ◌++◌, ◌∷◌, [], All, length, OnOk, replicate};
 ghost use Rattle.sc_actor.specs.Mail.{counts_at, mails};
-ghost use Rattle.sc_checker.specs.Stages.{IsKept};
+ghost use Rattle.sc_checker.specs.Stages.{IsUpToDate};
 
 use crate::stages::Stage;
 use sc_actor::{Event, Parcel, Row};
@@ -61,10 +61,10 @@ pub fn append<A, M: Parcel + Drop, O: Drop>(
     stage: &mut Stage<A, M, O>,
     row: Row<M, O>,
 ) -> Result<(), OutOfMemory>
-    requires kept { IsKept stage.old }
+    requires kept { IsUpToDate stage.old }
     requires rows { length stage.old.rows + 1 < 2 ^ 31 }
     requires mails { length (mails stage.old.rows) + length row.sent < 2 ^ 31 }
-    ensures kept { OnOk result (IsKept stage.new) }
+    ensures kept { OnOk result (IsUpToDate stage.new) }
     ensures rows { OnOk result (stage.new.rows ≡ stage.old.rows ++ row ∷ []) }
     ensures seats { stage.new.seats.items ≡ stage.old.seats.items }
     ensures skipped { stage.new.skipped ≡ stage.old.skipped }

@@ -3,10 +3,10 @@ ghost use Rattle.std.specs.Prelude.{◌≡◌, ◌<◌, ◌≤◌, ◌+◌, ◌^
 ghost use Rattle.sc_actor.specs.Mail.{mails};
 ghost use Rattle.sc_actor.specs.System.{numbers_of};
 ghost use Rattle.sc_actor.specs.Walk.{Once, line_task};
-ghost use Rattle.sc_checker.specs.Checks.{IsTaking, Took, Misses, IsChecked};
+ghost use Rattle.sc_checker.specs.Checks.{IsTaking, DidWithRow, Misses, IsChecked};
 ghost use Rattle.sc_checker.specs.Deeds.{can_act, chosen_deed};
 ghost use Rattle.sc_checker.specs.Moves.{rules_of, many};
-ghost use Rattle.sc_checker.specs.Stages.{IsKept};
+ghost use Rattle.sc_checker.specs.Stages.{IsUpToDate};
 
 use crate::appending::append;
 use crate::checked::Checked;
@@ -28,12 +28,12 @@ fn take_row<A: Actor>(
 where
     A::Mail: Same,
     A::Order: Same,
-    requires kept { IsKept stage.old }
+    requires kept { IsUpToDate stage.old }
     requires can { can_act (numbers_of stage.old.seats.items) deed ≡ true }
     requires rows { length stage.old.rows + 1 < 2 ^ 31 }
     requires mails { length (mails stage.old.rows) + length row.now.sent < 2 ^ 31 }
     ensures took { IfOk result (λ same. MatchBool same
-        (Took (rules_of A.table A.Mail.receiver) stage.old stage.new deed row.now)
+        (DidWithRow (rules_of A.table A.Mail.receiver) stage.old stage.new deed row.now)
         (Misses (rules_of A.table A.Mail.receiver) stage.old deed row.now)) }
     ensures skipped { OnOk result (stage.new.skipped ≡ stage.old.skipped) }
 {
@@ -81,7 +81,7 @@ where
 
 // The delivery that a line of many may make next: the lowest of all, or the first of one actor.
 fn chosen_deed<A, M: Parcel, O>(stage: &Stage<A, M, O>, free: bool, who: u32) -> Option<Deed<O>>
-    requires { IsKept stage.now }
+    requires { IsUpToDate stage.now }
     ensures is { result
         ≡ chosen_deed M.receiver (numbers_of stage.now.seats.items) stage.now.rows free who }
     ensures can { IfSome result (λ deed. can_act (numbers_of stage.now.seats.items) deed ≡ true) }

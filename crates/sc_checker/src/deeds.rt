@@ -2,7 +2,7 @@
 ghost use Rattle.std.specs.Prelude.{◌≡◌, true, IfOk, IfSome};
 ghost use Rattle.sc_actor.specs.System.{numbers_of};
 ghost use Rattle.sc_checker.specs.Deeds.{line_deed, lowest_deed, may_come_again, when, can_act};
-ghost use Rattle.sc_checker.specs.Stages.{IsKept};
+ghost use Rattle.sc_checker.specs.Stages.{IsUpToDate};
 
 use crate::pending::{has_gone, is_actor, may_get, waiting};
 use crate::stages::{Deed, Stage};
@@ -12,7 +12,7 @@ use std::alloc::Global;
 
 // Whether a mail was sent to an actor that has not crashed.
 fn may_come_again<A, M: Parcel, O>(stage: &Stage<A, M, O>, mail: u32) -> bool
-    requires { IsKept stage.now }
+    requires { IsUpToDate stage.now }
     ensures { result
         ≡ may_come_again M.receiver (numbers_of stage.now.seats.items) stage.now.rows mail }
 {
@@ -44,7 +44,7 @@ pub fn line_deed<A, M: Parcel, O: Dup + Drop>(
     stage: &Stage<A, M, O>,
     line: &Line<O>,
 ) -> Result<Option<Deed<O>>, OutOfMemory>
-    requires { IsKept stage.now }
+    requires { IsUpToDate stage.now }
     ensures is { IfOk result
         (λ deed.
         deed ≡ line_deed M.receiver (numbers_of stage.now.seats.items) stage.now.rows line.now) }
@@ -77,7 +77,7 @@ pub fn line_deed<A, M: Parcel, O: Dup + Drop>(
 
 /// The delivery of the lowest-numbered pending mail of all, or none where no mail is pending.
 pub fn lowest_deed<A, M: Parcel, O>(stage: &Stage<A, M, O>) -> Option<Deed<O>>
-    requires { IsKept stage.now }
+    requires { IsUpToDate stage.now }
     ensures is { result ≡ lowest_deed M.receiver (numbers_of stage.now.seats.items) stage.now.rows }
     ensures can { IfSome result (λ deed. can_act (numbers_of stage.now.seats.items) deed ≡ true) }
 {
@@ -92,7 +92,7 @@ pub fn lowest_deed<A, M: Parcel, O>(stage: &Stage<A, M, O>) -> Option<Deed<O>>
 
 /// The delivery of the first pending mail of an actor, or none where it has no pending mail.
 pub fn first_deed<A, M: Parcel, O>(stage: &Stage<A, M, O>, who: u32) -> Option<Deed<O>>
-    requires { IsKept stage.now }
+    requires { IsUpToDate stage.now }
     ensures is { result
         ≡ line_deed M.receiver (numbers_of stage.now.seats.items) stage.now.rows
         (Line.Deliver who 1) }

@@ -4,7 +4,7 @@ ghost use Rattle.sc_actor.specs.Mail.{mails, pending};
 ghost use Rattle.sc_actor.specs.System.{are_apart, system, numbers_of, kth};
 ghost use Rattle.sc_actor.specs.Walk.{IsLawful, has_one_task};
 ghost use Rattle.sc_checker.specs.Replays.{IsReplayed};
-ghost use Rattle.sc_checker.specs.Stages.{IsKept};
+ghost use Rattle.sc_checker.specs.Stages.{IsUpToDate};
 
 use crate::checked::Checked;
 use crate::checking::check_line;
@@ -26,7 +26,7 @@ pub struct Replayed<A> {
 
 // What a stage leaves.
 fn left_by<A: Actor>(stage: Stage<A, A::Mail, A::Order>) -> Replayed<A>
-    requires { IsKept stage }
+    requires { IsUpToDate stage }
     ensures { result
         ≡ record {
           seats = stage.seats;

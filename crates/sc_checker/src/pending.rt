@@ -5,7 +5,7 @@ ghost use Rattle.std.specs.List.{list_any};
 ghost use Rattle.sc_actor.specs.Mail.{numbers, numbered, may_get, has_crashed, is_crash, is_for, pending};
 ghost use Rattle.sc_actor.specs.System.{kth, numbers_of, has_gone, is_go};
 ghost use Rattle.sc_checker.specs.Deeds.{is_number};
-ghost use Rattle.sc_checker.specs.Stages.{IsKept};
+ghost use Rattle.sc_checker.specs.Stages.{IsUpToDate};
 
 use crate::stages::Stage;
 use sc_actor::{Event, Parcel, Row, Seat};
@@ -127,7 +127,7 @@ fn kth_pending<A, M: Parcel, O>(
 
 /// The number of the k-th pending mail of a stage, from 1, of one actor or of all.
 pub fn waiting<A, M: Parcel, O>(stage: &Stage<A, M, O>, whose: Option<u32>, k: u32) -> Option<u32>
-    requires { IsKept stage.now }
+    requires { IsUpToDate stage.now }
     ensures number { result
         ≡ kth (pending M.receiver (numbers_of stage.now.seats.items) stage.now.rows whose) k }
     ensures mail { IfSome result (λ number. IsSomeAnd (numbered stage.now.mails.items number)
@@ -149,7 +149,7 @@ pub fn waiting<A, M: Parcel, O>(stage: &Stage<A, M, O>, whose: Option<u32>, k: u
 
 /// Whether a stage has no pending mail.
 pub fn is_quiet<A, M: Parcel, O>(stage: &Stage<A, M, O>) -> bool
-    requires { IsKept stage.now }
+    requires { IsUpToDate stage.now }
     ensures { result
         ≡ is_none
         (kth (pending M.receiver (numbers_of stage.now.seats.items) stage.now.rows None) 1) }

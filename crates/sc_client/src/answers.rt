@@ -1,6 +1,6 @@
 //! What a client makes of answers.
 ghost use Rattle.std.specs.Prelude.{◌≡◌, ◌+◌, ◌++◌, ◌∷◌, [], Some, IfOk};
-ghost use Rattle.sc_client_table.specs.Table.{answered, got, started, redirected, was_asked, waits_for};
+ghost use Rattle.sc_client_table.specs.Table.{answer_taken, got, started, redirected, was_asked, waits_for};
 
 use crate::client::ClientCore;
 use sc_base::{Draw, Dup, OutOfMemory, Reply, Sequence};
@@ -55,7 +55,7 @@ impl ClientCore {
     ) -> Result<Sequence<Mail>, OutOfMemory>
         requires { self.old.waiting ≡ Some seq }
         ensures { IfOk result
-            (λ mails. answered from group seq answer.now self.old ≡ (self.new, mails)) }
+            (λ mails. answer_taken from group seq answer.now self.old ≡ (self.new, mails)) }
     {
         match answer {
             AnswerBody::Value(reply) => self.replied(alloc, seq, reply),

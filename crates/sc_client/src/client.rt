@@ -1,7 +1,7 @@
 //! The value of a client, and what each input makes of it.
 ghost use Rattle.std.specs.Prelude.{◌≡◌, ◌≤◌, length, IfOk};
 ghost use Rattle.sc_base.specs.Limits.{most_requests};
-ghost use Rattle.sc_client_table.specs.Client.{born};
+ghost use Rattle.sc_client_table.specs.Client.{born_client};
 ghost use Rattle.sc_client_table.specs.Table.{table};
 
 use sc_actor::{Actor, Input};
@@ -52,7 +52,7 @@ impl ClientCore {
         first: Route,
     ) -> Result<ClientCore, OutOfMemory>
         requires { length requests ≤ most_requests }
-        ensures { IfOk result (λ client. client ≡ born me requests first) }
+        ensures { IfOk result (λ client. client ≡ born_client me requests first) }
     {
         Ok(ClientCore {
             me,

@@ -2,7 +2,7 @@
 ghost use Rattle.std.specs.Prelude.{◌≡◌, ◌∷◌, [], ◌≤◌, IfOk};
 ghost use Rattle.std.specs.Option.{option_map};
 ghost use Rattle.sc_client_table.specs.Client.{waiting_request};
-ghost use Rattle.sc_client_table.specs.Table.{request_of, sent_to, sent, started, turned_on, ticked};
+ghost use Rattle.sc_client_table.specs.Table.{request_of, sent_to, request_sent, started, turned_on, client_ticked};
 
 use crate::client::ClientCore;
 use sc_base::{Draw, Dup, Op, OutOfMemory, Sequence};
@@ -73,7 +73,7 @@ impl ClientCore {
 
     /// The waiting request is sent by a new choice of the group.
     pub(crate) fn send(&mut self, alloc: Global) -> Result<Sequence<Mail>, OutOfMemory>
-        ensures { IfOk result (λ mails. sent self.old ≡ (self.new, mails)) }
+        ensures { IfOk result (λ mails. request_sent self.old ≡ (self.new, mails)) }
     {
         let Some((_seq, op)) = self.waiting_request() else {
             return Ok(Sequence::new(alloc));
@@ -110,7 +110,7 @@ impl ClientCore {
     /// With a request waiting, the group last asked is asked again, at the next node.
     pub(crate) fn tick(&mut self, alloc: Global) -> Result<Sequence<Mail>, OutOfMemory>
         ensures { IfOk result
-            (λ mails. ticked self.old self.old.waiting self.old.asked ≡ (self.new, mails)) }
+            (λ mails. client_ticked self.old self.old.waiting self.old.asked ≡ (self.new, mails)) }
     {
         match (self.waiting, self.asked) {
             (Some(_seq), Some((group, _target))) => self.turn_on(alloc, group),

@@ -24,8 +24,8 @@ pub record Client : Type 0 where
   pub replies : List Reply
 
 -- a client that has asked nothing and knows one group
-abbrev pub born : ℕ → List Op → Route → Client
-born me requests first = record {
+abbrev pub born_client : ℕ → List Op → Route → Client
+born_client me requests first = record {
   me = me;
   requests = requests;
   waiting = None;

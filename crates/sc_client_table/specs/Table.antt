@@ -18,25 +18,25 @@ use Rattle.sc_lookup.specs.Known.{chosen, target_in, preferring, passed_on, told
 use Rattle.sc_client_table.specs.Client.{Client, waiting_request}
 
 -- a client and what it sends
-abbrev pub Step : Type 0
-Step = Client × List Mail
+abbrev pub ClientStep : Type 0
+ClientStep = Client × List Mail
 
 -- the mail of a request
 abbrev pub request_of : ℕ → Draw → ℕ → ℕ × Op → Mail
 request_of me group target request = record { from = client_actor me; to = target; body = Request group me request.0 request.1 }
 
 -- a request goes to a node of a group, where there is such a node and such a request
-abbrev pub asked_of : Client → Draw → Option ℕ → Option (ℕ × Op) → Step
+abbrev pub asked_of : Client → Draw → Option ℕ → Option (ℕ × Op) → ClientStep
 asked_of client group (Some target) (Some request) = (record client { asked = Some (group, target) }, request_of client.me group target request ∷ [])
 asked_of client group (Some target) None = (client, [])
 asked_of client group None request = (client, [])
 
 -- the waiting request goes to a group's target
-abbrev pub sent_to : Draw → Client → Step
+abbrev pub sent_to : Draw → Client → ClientStep
 sent_to group client = asked_of client group (target_in group client.known) (waiting_request client)
 
 -- the waiting request goes to the group that is chosen, where one is
-abbrev pub sent_where : Client → Option Draw → Step
+abbrev pub sent_where : Client → Option Draw → ClientStep
 sent_where client (Some group) = sent_to group client
 sent_where client None = (client, [])
 
@@ -46,24 +46,24 @@ chosen_for client (Some request) = chosen (pos_of (key_of request.1)) client.kno
 chosen_for client None = None
 
 -- the waiting request goes out, where there is one
-abbrev pub sent : Client → Step
-sent client = sent_where client (chosen_for client (waiting_request client))
+abbrev pub request_sent : Client → ClientStep
+request_sent client = sent_where client (chosen_for client (waiting_request client))
 
 -- the request with a number is sent, if there is one
-abbrev pub started : ℕ → Client → Step
+abbrev pub started : ℕ → Client → ClientStep
 started seq client =
-    if nat_le seq (length client.requests) then sent (record client { waiting = Some seq })
+    if nat_le seq (length client.requests) then request_sent (record client { waiting = Some seq })
     else (record client { waiting = None }, [])
 
 -- the member after a group's target becomes the preferred node, and the request goes to it
-abbrev pub turned_on : Draw → Client → Step
+abbrev pub turned_on : Draw → Client → ClientStep
 turned_on group client = sent_to group (record client { known = passed_on group client.known })
 
 -- with a request waiting, the group last asked is asked again, at the next node
-abbrev pub ticked : Client → Option ℕ → Option (Draw × ℕ) → Step
-ticked client (Some seq) (Some asked) = turned_on asked.0 client
-ticked client (Some seq) None = (client, [])
-ticked client None asked = (client, [])
+abbrev pub client_ticked : Client → Option ℕ → Option (Draw × ℕ) → ClientStep
+client_ticked client (Some seq) (Some asked) = turned_on asked.0 client
+client_ticked client (Some seq) None = (client, [])
+client_ticked client None asked = (client, [])
 
 -- whether a number is the waiting one
 abbrev pub waits_for : Option ℕ → ℕ → Bool
@@ -76,22 +76,22 @@ was_asked None from group = false
 was_asked (Some asked) from group = (asked.1 == from) && same_draw asked.0 group
 
 -- an answer, other than a reply, of the node that was asked
-abbrev pub redirected : Draw → AnswerBody → Client → Step
+abbrev pub redirected : Draw → AnswerBody → Client → ClientStep
 redirected group (NotLeader (Some hint)) client = sent_to group (record client { known = preferring group hint client.known })
 redirected group (NotLeader None) client = turned_on group client
-redirected group (NotMine arc succ) client = sent (record client { known = told_not_mine group arc succ client.known })
-redirected group (Gone into) client = sent (record client { known = told_gone group into client.known })
+redirected group (NotMine arc succ) client = request_sent (record client { known = told_not_mine group arc succ client.known })
+redirected group (Gone into) client = request_sent (record client { known = told_gone group into client.known })
 redirected group (Value reply) client = (client, [])
 redirected group (Stale last) client = (client, [])
 
 -- an answer to the waiting request
-abbrev pub answered : ℕ → Draw → ℕ → AnswerBody → Client → Step
-answered from group seq (Value reply) client = started (seq + 1) (record client { replies = client.replies ++ reply ∷ [] })
-answered from group seq answer client = if was_asked client.asked from group then redirected group answer client else (client, [])
+abbrev pub answer_taken : ℕ → Draw → ℕ → AnswerBody → Client → ClientStep
+answer_taken from group seq (Value reply) client = started (seq + 1) (record client { replies = client.replies ++ reply ∷ [] })
+answer_taken from group seq answer client = if was_asked client.asked from group then redirected group answer client else (client, [])
 
 -- a mail; one that is no answer to the waiting request is ignored
-abbrev pub got : ℕ → MailBody → Client → Step
-got from (Answer group seq answer) client = if waits_for client.waiting seq then answered from group seq answer client else (client, [])
+abbrev pub got : ℕ → MailBody → Client → ClientStep
+got from (Answer group seq answer) client = if waits_for client.waiting seq then answer_taken from group seq answer client else (client, [])
 got from (Request group to seq op) client = (client, [])
 got from (Prepare group ballot from_slot) client = (client, [])
 got from (Promise group ballot reports) client = (client, [])
@@ -110,8 +110,8 @@ got from (TxWatched tx coord part vote) client = (client, [])
 got from (ToldMail order result) client = (client, [])
 
 -- what an input makes of a client, and what it sends
-abbrev pub table : Client → Input Mail OrderLine → Step
+abbrev pub table : Client → Input Mail OrderLine → ClientStep
 table client (Got mail) = got mail.from mail.body client
-table client Tick = ticked client client.waiting client.asked
+table client Tick = client_ticked client client.waiting client.asked
 table client Go = started 1 client
 table client (Told line) = (client, [])

@@ -32,7 +32,7 @@ pub record Begins (before after : Client) (input : Input Mail OrderLine) : Type 
   pub replies : after.replies ≡ before.replies
 
 -- the reply to the waiting request is taken, and the next one is begun, or none where that was the last
-pub record Takes (before after : Client) (input : Input Mail OrderLine) : Type 0 where
+pub record TakesReply (before after : Client) (input : Input Mail OrderLine) : Type 0 where
   pub seq : ℕ
   pub reply : Reply
   pub is_reply : IsReplyTo seq reply input
@@ -45,7 +45,7 @@ pub record InTurn (before after : Client) (input : Input Mail OrderLine) (mails 
   pub me : after.me ≡ before.me
   pub requests : after.requests ≡ before.requests
   pub sends : SendsWaiting after mails
-  pub moves : Waits before after ⊎ Begins before after input ⊎ Takes before after input
+  pub moves : Waits before after ⊎ Begins before after input ⊎ TakesReply before after input
 
 -- this holds of every client and input
 abbrev pub SendsInTurn : Type 0

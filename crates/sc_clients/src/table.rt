@@ -22,9 +22,9 @@ impl Model for ClientTable {
     ghost use Rattle.std.specs.FinMap as map;
     ghost use Rattle.std.specs.Coded.{codes};
     ghost use Rattle.std.specs.Coded.{coded_ℕ};
-    ghost use Rattle.sc_ideal.specs.Clients.{Table};
+    ghost use Rattle.sc_ideal.specs.Clients.{ClientTable};
 
-    ghost Value = { Table };
+    ghost Value = { ClientTable };
 
     ghost coded = { map.code coded_ℕ (Prim.hlevel codes) };
 

@@ -16,13 +16,13 @@ code_of TxLimit = 8
 code_of IsMember = 9
 
 -- its printed name
-abbrev pub name_of : OrderRefusal → List ℕ
-name_of (NotLeader hint) = codes "not-leader"
-name_of (InTransaction tx) = codes "in-transaction"
-name_of NoNeighbour = codes "no-neighbour"
-name_of BadBoundary = codes "bad-boundary"
-name_of (TooManyMembers n) = codes "too-many-members"
-name_of NotMember = codes "not-member"
-name_of LastMember = codes "last-member"
-name_of TxLimit = codes "tx-limit"
-name_of IsMember = codes "is-member"
+abbrev pub refusal_name : OrderRefusal → List ℕ
+refusal_name (NotLeader hint) = codes "not-leader"
+refusal_name (InTransaction tx) = codes "in-transaction"
+refusal_name NoNeighbour = codes "no-neighbour"
+refusal_name BadBoundary = codes "bad-boundary"
+refusal_name (TooManyMembers n) = codes "too-many-members"
+refusal_name NotMember = codes "not-member"
+refusal_name LastMember = codes "last-member"
+refusal_name TxLimit = codes "tx-limit"
+refusal_name IsMember = codes "is-member"

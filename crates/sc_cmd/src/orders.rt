@@ -1,6 +1,6 @@
 //! Orders of the operator, and what is told of them.
 ghost use Rattle.std.specs.Prelude.{◌≡◌};
-ghost use Rattle.sc_cmd.specs.Order.{code_of, name_of};
+ghost use Rattle.sc_cmd.specs.Order.{code_of, refusal_name};
 
 use sc_base::{Draw, Dup, OutOfMemory, Same};
 use std::alloc::Global;
@@ -75,7 +75,7 @@ impl OrderRefusal {
 
     /// Its printed name.
     pub fn name(&self) -> &'static [u8]
-        ensures { result.now ≡ name_of self.now }
+        ensures { result.now ≡ refusal_name self.now }
     {
         match self {
             OrderRefusal::NotLeader { .. } => b"not-leader",

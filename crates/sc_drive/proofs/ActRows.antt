@@ -16,7 +16,7 @@ use Rattle.sc_actor.specs.Replay.{acted, input_of, value}
 use Rattle.sc_actor.specs.System.{row_of}
 use Rattle.sc_ledger.specs.Pending.{kth_pending}
 use Rattle.sc_exchange.specs.declared.ports.Port.{Port}
-use Rattle.sc_exchange.specs.Deeds.{rows_of}
+use Rattle.sc_exchange.specs.BareRows.{rows_of}
 use Rattle.sc_exchange.specs.Ports.{seen, made, Stays, Looked, Appended, IsTrue}
 use Rattle.sc_shell.specs.Answers.{MayHappen}
 use Rattle.sc_shell.specs.declared.shells.Shell.{Shell}

@@ -16,9 +16,9 @@ use Rattle.sc_exchange.specs.declared.ports.Port.{Port}
 use Rattle.sc_exchange.specs.Ports.{seen}
 use Rattle.sc_shell.specs.declared.shells.Shell.{Shell}
 use Rattle.sc_shell.specs.declared.turns.Turn.TheVariants.{Did, Empty, Full, Spent}
-use Rattle.sc_workers.specs.Crews.{numbers}
+use Rattle.sc_workers.specs.Crews.{crew_numbers}
 use Rattle.sc_drive.specs.Numbers.{is_in}
-use Rattle.sc_drive.specs.declared.steps.Step.TheVariants.{Made, Skipped, Full as TooMuch}
+use Rattle.sc_drive.specs.declared.steps.LineResult.TheVariants.{Made, Skipped, Full as TooMuch}
 use Rattle.sc_drive.specs.Companies.{Company}
 use Rattle.sc_drive.specs.Acts.{HasHalted, Told, Served}
 use Rattle.sc_drive.specs.Stepping.{IsPlace, IsNowhere, Stepped, unless_crashed}
@@ -31,10 +31,10 @@ or_out false b e f = f
 
 module _ {A M O : Type 0} {g : Ghosts A M O} {h : MailGhosts M} where
   -- no shell has the number
-  pub nowhere : (ss : List (Shell A M O g h)) (who : ℕ) → ((k : ℕ) (d : Shell A M O g h) → k < length ss → (get_or ss k d).port.who ≢ who) → is_in who (numbers ss) ≡ false
+  pub nowhere : (ss : List (Shell A M O g h)) (who : ℕ) → ((k : ℕ) (d : Shell A M O g h) → k < length ss → (get_or ss k d).port.who ≢ who) → is_in who (crew_numbers ss) ≡ false
   nowhere [] who none = refl
   nowhere (s ∷ ss) who none =
-      or_out (eqb who s.port.who) (is_in who (numbers ss)) (by (eqb who s.port.who) refl) (nowhere ss who (λ k d lt. none (suc k) d (omega (arith, lt))))
+      or_out (eqb who s.port.who) (is_in who (crew_numbers ss)) (by (eqb who s.port.who) refl) (nowhere ss who (λ k d lt. none (suc k) d (omega (arith, lt))))
     where
       by : (b : Bool) → eqb who s.port.who ≡ b → eqb who s.port.who ≡ false
       by true e = absurd (none 0 s (omega arith) (sym (eqb-true who s.port.who e)))

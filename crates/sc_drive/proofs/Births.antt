@@ -12,7 +12,7 @@ use Rattle.sc_exchange.specs.Ports.{seen, made, Looked, IsTrue}
 use Rattle.sc_shell.specs.declared.shells.Shell.{Shell}
 use Rattle.sc_shell.specs.Shells.{Replays}
 use Rattle.sc_shell.proofs.Replaying.{replay_born}
-use Rattle.sc_workers.specs.Crews.{AllStill, numbers, rows_made}
+use Rattle.sc_workers.specs.Crews.{AllStill, crew_numbers, rows_made}
 use Rattle.sc_workers.specs.Ends.{IsGathered}
 use Rattle.sc_workers.proofs.Crews.{still_all_go, still_sound, still_rows}
 use Rattle.sc_workers.proofs.Serving.{numbers_go}
@@ -45,7 +45,7 @@ module _ {A : Type 0} where
       by false is = is
 
 module _ {A M O : Type 0} {g : Ghosts A M O} {h : MailGhosts M} where
-  numbers_born : (ss : List (Shell A M O g h)) → numbers ss ≡ numbers_of (seats ss)
+  numbers_born : (ss : List (Shell A M O g h)) → crew_numbers ss ≡ numbers_of (seats ss)
   numbers_born [] = refl
   numbers_born (s ∷ ss) = ap (λ l. s.port.who ∷ l) (numbers_born ss)
 
@@ -59,10 +59,10 @@ module _ {A M O : Type 0} {g : Ghosts A M O} {h : MailGhosts M} where
     seat_is : (k : ℕ) (d : Shell A M O g h) (e : Seat A) → k < length ss → seat (get_or ss k d) ≡ get_or births k e
     seat_is k d e lt = sym (get_or-map seat ss k d e lt) ∙ ap (λ l. get_or l k e) b.born
 
-    numbers_are : numbers after ≡ numbers ss
+    numbers_are : crew_numbers after ≡ crew_numbers ss
     numbers_are = numbers_go ss after len (still_all_go ss after still)
 
-    born_is : numbers after ≡ numbers_of births
+    born_is : crew_numbers after ≡ numbers_of births
     born_is = numbers_are ∙ (numbers_born ss ∙ ap numbers_of b.born)
 
     far_is : apart (0 ∷ numbers_of births) ≡ true

@@ -9,10 +9,10 @@ use Rattle.sc_actor.specs.declared.actors.Actor.{Ghosts}
 use Rattle.sc_actor.specs.declared.actors.Parcel.{Ghosts as MailGhosts}
 use Rattle.sc_actor.specs.declared.rows.Row.{Row}
 use Rattle.sc_exchange.specs.declared.ports.Port.{Port}
-use Rattle.sc_exchange.specs.Deeds.{rows_of}
-use Rattle.sc_exchange.specs.Ports.{seen, made, given, joined, SameExchange, IsTrue}
+use Rattle.sc_exchange.specs.BareRows.{rows_of}
+use Rattle.sc_exchange.specs.Ports.{seen, made, given, joined_ports, SameExchange, IsTrue}
 use Rattle.sc_shell.specs.declared.shells.Shell.{Shell}
-use Rattle.sc_workers.specs.Crews.{AllOver, numbers}
+use Rattle.sc_workers.specs.Crews.{AllOver, crew_numbers}
 use Rattle.sc_workers.proofs.Lists.{one_of}
 use Rattle.sc_workers.proofs.Attending.{count_split}
 use Rattle.sc_drive.specs.Numbers.{is_in}
@@ -40,10 +40,10 @@ module _ {A M O : Type 0} {g : Ghosts A M O} {h : MailGhosts M} where
     pub first : now.who ≡ 0
     pub given : given now ≡ given net
     pub made : made now ≡ made net
-    pub joined : joined now ≡ ports done
+    pub joined : joined_ports now ≡ ports done
     pub later : StartsWith (seen now) (seen net)
 
-  firsts_are : (ss : List (Shell A M O g h)) → map (λ (k : ℕ × List (Row M O)). k.0) (ports ss) ≡ numbers ss
+  firsts_are : (ss : List (Shell A M O g h)) → map (λ (k : ℕ × List (Row M O)). k.0) (ports ss) ≡ crew_numbers ss
   firsts_are [] = refl
   firsts_are (s ∷ ss) = ap (λ l. s.port.who ∷ l) (firsts_are ss)
 
@@ -55,34 +55,34 @@ module _ {A M O : Type 0} {g : Ghosts A M O} {h : MailGhosts M} where
     pub port : (d : ℕ × List (Row M O)) (e : Shell A M O g h) → get_or (ports ss) place d ≡ ((get_or ss place e).port.who, made (get_or ss place e).port)
     pub within : place < length (ports ss)
 
-  at_number : (n : ℕ) (ss : List (Shell A M O g h)) → is_in n (numbers ss) ≡ true → Numbered n ss
+  at_number : (n : ℕ) (ss : List (Shell A M O g h)) → is_in n (crew_numbers ss) ≡ true → Numbered n ss
   at_number n [] there = absurd (true≢false (sym there))
   at_number n (s ∷ ss) there = by (eqb n s.port.who) refl (at_number n ss)
     where
-      by : (b : Bool) → eqb n s.port.who ≡ b → (is_in n (numbers ss) ≡ true → Numbered n ss) → Numbered n (s ∷ ss)
+      by : (b : Bool) → eqb n s.port.who ≡ b → (is_in n (crew_numbers ss) ≡ true → Numbered n ss) → Numbered n (s ∷ ss)
       by true e rest = record { place = 0; inside = omega arith; number = λ d. sym (eqb-true n s.port.who e); port = λ d f. refl; within = omega arith }
       by false e rest =
-          let r = rest (ap (λ b. b || is_in n (numbers ss)) (sym e) ∙ there) in
+          let r = rest (ap (λ b. b || is_in n (crew_numbers ss)) (sym e) ∙ there) in
           record { place = suc r.place; inside = omega (arith, r.inside); number = r.number; port = r.port; within = omega (arith, r.within) }
 
-  module _ (net now : Port M O h) (ss : List (Shell A M O g h)) (e : Ending net now ss) (first : net.who ≡ 0) (all : given net ≡ numbers ss) (over : AllOver net ss) (rows : IsTrue net) where
+  module _ (net now : Port M O h) (ss : List (Shell A M O g h)) (e : Ending net now ss) (first : net.who ≡ 0) (all : given net ≡ crew_numbers ss) (over : AllOver net ss) (rows : IsTrue net) where
     -- each port that was split off was joined
-    pub all_joined : (n : ℕ) → Contains (given now) n → Contains (map (λ (k : ℕ × List (Row M O)). k.0) (joined now)) n
+    pub all_joined : (n : ℕ) → Contains (given now) n → Contains (map (λ (k : ℕ × List (Row M O)). k.0) (joined_ports now)) n
     all_joined n c = subst (λ l. Contains l n) (e.given ∙ (all ∙ (sym (firsts_are ss) ∙ ap (map (λ (k : ℕ × List (Row M O)). k.0)) (sym e.joined)))) c
 
-    module _ (journal : List (Row M O)) (later : StartsWith journal (seen now)) (own : rows_of 0 journal ≡ made now) (each : (k : ℕ × List (Row M O)) → Contains (joined now) k → rows_of k.0 journal ≡ k.1) (others : (n : ℕ) → n ≢ 0 → ¬ Contains (given now) n → rows_of n journal ≡ []) where
-      of_shell : (n : ℕ) → is_in n (numbers ss) ≡ true → rows_of n journal ≡ rows_of n (seen net)
+    module _ (journal : List (Row M O)) (later : StartsWith journal (seen now)) (own : rows_of 0 journal ≡ made now) (each : (k : ℕ × List (Row M O)) → Contains (joined_ports now) k → rows_of k.0 journal ≡ k.1) (others : (n : ℕ) → n ≢ 0 → ¬ Contains (given now) n → rows_of n journal ≡ []) where
+      of_shell : (n : ℕ) → is_in n (crew_numbers ss) ≡ true → rows_of n journal ≡ rows_of n (seen net)
       of_shell n there =
           let at = at_number n ss there in
           let d = one_of ss at.place at.inside in
           let port : ℕ × List (Row M O) = ((get_or ss at.place d).port.who, made (get_or ss at.place d).port) in
-          let has : Contains (joined now) port = subst (λ (l : List (ℕ × List (Row M O))). Contains l port) (sym e.joined) (at.place, at.within, at.port port d) in
+          let has : Contains (joined_ports now) port = subst (λ (l : List (ℕ × List (Row M O))). Contains l port) (sym e.joined) (at.place, at.within, at.port port d) in
           let mine : rows_of (get_or ss at.place d).port.who journal ≡ rows_of (get_or ss at.place d).port.who (seen net) = each port has ∙ sym (over at.place d at.inside).own in
           subst (λ (m : ℕ). rows_of m journal ≡ rows_of m (seen net)) (at.number d) mine
 
-      of_none : (n : ℕ) → n ≢ 0 → is_in n (numbers ss) ≡ false → rows_of n journal ≡ rows_of n (seen net)
+      of_none : (n : ℕ) → n ≢ 0 → is_in n (crew_numbers ss) ≡ false → rows_of n journal ≡ rows_of n (seen net)
       of_none n ne out =
-          let away : ¬ Contains (given net) n = λ c. not_in n (numbers ss) out (subst (λ l. Contains l n) all c) in
+          let away : ¬ Contains (given net) n = λ c. not_in n (crew_numbers ss) out (subst (λ l. Contains l n) all c) in
           others n ne (λ c. away (subst (λ l. Contains l n) e.given c)) ∙ sym (rows.others first n ne away)
 
       of_net : (n : ℕ) → n ≡ 0 → rows_of n journal ≡ rows_of n (seen net)
@@ -91,9 +91,9 @@ module _ {A M O : Type 0} {g : Ghosts A M O} {h : MailGhosts M} where
           subst (λ m. rows_of m journal ≡ rows_of m (seen net)) (sym z) mine
 
       same_rows : (n : ℕ) → rows_of n journal ≡ rows_of n (seen net)
-      same_rows n = dite (ℕ_discrete n 0) (of_net n) (λ ne. by ne (is_in n (numbers ss)) refl)
+      same_rows n = dite (ℕ_discrete n 0) (of_net n) (λ ne. by ne (is_in n (crew_numbers ss)) refl)
         where
-          by : n ≢ 0 → (b : Bool) → is_in n (numbers ss) ≡ b → rows_of n journal ≡ rows_of n (seen net)
+          by : n ≢ 0 → (b : Bool) → is_in n (crew_numbers ss) ≡ b → rows_of n journal ≡ rows_of n (seen net)
           by ne true there = of_shell n there
           by ne false out = of_none n ne out
 

@@ -11,10 +11,10 @@ use Rattle.sc_actor.specs.System.{numbers_of, waiting, kth}
 use Rattle.sc_actor.specs.Walk.{is_quiet}
 use Rattle.sc_ledger.specs.Pending.{kth_pending}
 use Rattle.sc_exchange.specs.declared.ports.Port.{Port}
-use Rattle.sc_exchange.specs.Deeds.{rows_of}
+use Rattle.sc_exchange.specs.BareRows.{rows_of}
 use Rattle.sc_exchange.specs.Ports.{seen, made, Looked, IsTrue}
 use Rattle.sc_shell.specs.declared.shells.Shell.{Shell}
-use Rattle.sc_workers.specs.Crews.{AllGo, AllOver, AllStill, AllSound, numbers}
+use Rattle.sc_workers.specs.Crews.{AllGo, AllOver, AllStill, AllSound, crew_numbers}
 use Rattle.sc_workers.specs.Ends.{any_waits, IsGathered}
 use Rattle.sc_workers.proofs.Crews.{still_all_go, still_sound, still_rows}
 use Rattle.sc_workers.proofs.Serving.{numbers_go, count_later, list_same, waits_at, is_some_is}
@@ -43,7 +43,7 @@ module _ {A M O : Type 0} {g : Ghosts A M O} {h : MailGhosts M} where
   -- shells that have gone on are a company again
   pub company_go : (births : List (Seat A)) (net next : Port M O h) (ss after : List (Shell A M O g h)) → Company births net ss → Looked net next → length after ≡ length ss → AllGo ss after → AllOver next after → IsTrue next → AllSound after → Company births next after
   company_go births net next ss after c looked len go over rows sound =
-      let same : numbers after ≡ numbers ss = numbers_go ss after len go in record {
+      let same : crew_numbers after ≡ crew_numbers ss = numbers_go ss after len go in record {
         first = looked.stays.who ∙ c.first;
         all = looked.stays.given ∙ (c.all ∙ sym same);
         born = same ∙ c.born;
@@ -67,20 +67,20 @@ module _ {A M O : Type 0} {g : Ghosts A M O} {h : MailGhosts M} where
   pub gathered_same : (births : List (Seat A)) (net mid next : Port M O h) (ss mids after : List (Shell A M O g h)) → Company births net ss → Looked net mid → length mids ≡ length ss → AllGo ss mids → AllOver mid mids → IsTrue mid →
       Looked mid next → length after ≡ length mids → AllStill mids after → IsGathered next after → IsTrue next → seen next ≡ seen mid
   gathered_same births net mid next ss mids after c looked len go over rows looked2 len2 still gathered rows2 =
-      let one : numbers mids ≡ numbers ss = numbers_go ss mids len go in
-      let two : numbers after ≡ numbers ss = numbers_go mids after len2 (still_all_go mids after still) ∙ one in
+      let one : crew_numbers mids ≡ crew_numbers ss = numbers_go ss mids len go in
+      let two : crew_numbers after ≡ crew_numbers ss = numbers_go mids after len2 (still_all_go mids after still) ∙ one in
       let a = count_seen mid mids (looked.stays.who ∙ c.first) (looked.stays.given ∙ (c.all ∙ sym one)) (ap (λ ws. apart (0 ∷ ws)) one ∙ c.far) over rows in
       let b = count_seen next after (looked2.stays.who ∙ (looked.stays.who ∙ c.first)) (looked2.stays.given ∙ (looked.stays.given ∙ (c.all ∙ sym two))) (ap (λ ws. apart (0 ∷ ws)) two ∙ c.far) gathered.over rows2 in
       none_seen mid next (length (seen mid)) looked2.later refl (omega (arith, a, b, ap length looked2.made, still_rows mids after len2 still))
 
-  any_false : (p : ℕ → Bool) (ss : List (Shell A M O g h)) → list_any p (numbers ss) ≡ false → (k : ℕ) (d : Shell A M O g h) → k < length ss → p (get_or ss k d).port.who ≡ false
+  any_false : (p : ℕ → Bool) (ss : List (Shell A M O g h)) → list_any p (crew_numbers ss) ≡ false → (k : ℕ) (d : Shell A M O g h) → k < length ss → p (get_or ss k d).port.who ≡ false
   any_false p [] e k d lt = absurd (omega arith)
-  any_false p (s ∷ ss) e zero d lt = (or_parts (p s.port.who) (list_any p (numbers ss)) e).0
-  any_false p (s ∷ ss) e (suc k) d lt = any_false p ss (or_parts (p s.port.who) (list_any p (numbers ss)) e).1 k d (omega (arith, lt))
+  any_false p (s ∷ ss) e zero d lt = (or_parts (p s.port.who) (list_any p (crew_numbers ss)) e).0
+  any_false p (s ∷ ss) e (suc k) d lt = any_false p ss (or_parts (p s.port.who) (list_any p (crew_numbers ss)) e).1 k d (omega (arith, lt))
 
   module _ (words : ℕ → ℕ → ℕ × ℕ) (births : List (Seat A)) (net next : Port M O h) (ss : List (Shell A M O g h)) (c : Company births net ss) (actors : next.actors ≡ net.actors) where
     -- nothing waits for the shells' actors, so nothing waits
-    pub quiet_after : any_waits next (numbers ss) ≡ false → is_quiet (sys words births net ss c) (seen next) ≡ true
+    pub quiet_after : any_waits next (crew_numbers ss) ≡ false → is_quiet (sys words births net ss c) (seen next) ≡ true
     quiet_after none = by (kth (waiting (sys words births net ss c) (seen next) None) 1) refl
       where
         by : (o : Option ℕ) → kth (waiting (sys words births net ss c) (seen next) None) 1 ≡ o → is_none o ≡ true
@@ -88,7 +88,7 @@ module _ {A M O : Type 0} {g : Ghosts A M O} {h : MailGhosts M} where
         by (Some n) e =
             let f = first_is (sys words births net ss c) (seen next) n e in
             let w = h.receiver f.0 in
-            let there : is_in w (numbers ss) ≡ true = ap (is_in w) c.born ∙ flip_in w (numbers_of births) (and_parts (list_any (λ a. eqb a w) (numbers_of births)) (not (has_crashed (seen next) w)) f.2).0 in
+            let there : is_in w (crew_numbers ss) ≡ true = ap (is_in w) c.born ∙ flip_in w (numbers_of births) (and_parts (list_any (λ a. eqb a w) (numbers_of births)) (not (has_crashed (seen next) w)) f.2).0 in
             let place = in_at w ss there in
             let d = one_of ss place.0 place.1 in
             let first : kth_pending h.receiver next.actors (seen next) (get_or ss place.0 d).port.who 1 ≡ Some n =
@@ -96,7 +96,7 @@ module _ {A M O : Type 0} {g : Ghosts A M O} {h : MailGhosts M} where
             absurd (true≢false (sym (ap is_some first) ∙ any_false (λ who. is_some (kth_pending h.receiver next.actors (seen next) who 1)) ss none place.0 d place.1))
 
     -- mail waits for one of them
-    pub cut_after : any_waits next (numbers ss) ≡ true → is_quiet (sys words births net ss c) (seen next) ≡ false
+    pub cut_after : any_waits next (crew_numbers ss) ≡ true → is_quiet (sys words births net ss c) (seen next) ≡ false
     cut_after some =
         let place = waits_at (λ who. is_some (kth_pending h.receiver next.actors (seen next) who 1)) ss some in
         let d = one_of ss place.0 place.1 in

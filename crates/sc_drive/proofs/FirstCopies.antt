@@ -19,7 +19,7 @@ use Rattle.sc_ledger.specs.Spots.{spot_after, spots_of}
 use Rattle.sc_exchange.specs.declared.ports.Port.{Port}
 use Rattle.sc_exchange.specs.Ports.{seen, Looked}
 use Rattle.sc_shell.specs.declared.shells.Shell.{Shell}
-use Rattle.sc_workers.specs.Crews.{AllStill, numbers as crew_numbers}
+use Rattle.sc_workers.specs.Crews.{AllStill, crew_numbers}
 use Rattle.sc_workers.proofs.Crews.{still_rows}
 use Rattle.sc_drive.specs.Numbers.{is_in, apart}
 use Rattle.sc_drive.specs.Companies.{Company}

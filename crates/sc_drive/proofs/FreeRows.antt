@@ -20,10 +20,10 @@ use Rattle.sc_actor.proofs.WalkLemmas.{Stands, Stands-row}
 use Rattle.sc_actor.proofs.PendingLemmas.{waiting_any, first_own}
 use Rattle.sc_ledger.specs.Pending.{kth_pending}
 use Rattle.sc_exchange.specs.declared.ports.Port.{Port}
-use Rattle.sc_exchange.specs.Deeds.{rows_of}
+use Rattle.sc_exchange.specs.BareRows.{rows_of}
 use Rattle.sc_exchange.specs.Ports.{seen, made, Looked, IsTrue}
 use Rattle.sc_shell.specs.declared.shells.Shell.{Shell}
-use Rattle.sc_workers.specs.Crews.{AllGo, AllOver, numbers as crew_numbers, rows_made}
+use Rattle.sc_workers.specs.Crews.{AllGo, AllOver, crew_numbers, rows_made}
 use Rattle.sc_workers.specs.Services.{IsService, AllServe}
 use Rattle.sc_workers.proofs.Serving.{numbers_go, count_later}
 use Rattle.sc_workers.proofs.Attending.{count_split}

@@ -18,12 +18,12 @@ use Rattle.sc_exchange.specs.declared.ports.Port.{Port}
 use Rattle.sc_exchange.specs.Ports.{seen, Looked, IsTrue}
 use Rattle.sc_shell.specs.declared.shells.Shell.{Shell}
 use Rattle.sc_workers.specs.declared.answers.Rounds.TheVariants.{Quiet, Limit, Full}
-use Rattle.sc_workers.specs.Crews.{AllGo, AllOver, AllStill, AllSound, numbers, rows_made}
+use Rattle.sc_workers.specs.Crews.{AllGo, AllOver, AllStill, AllSound, crew_numbers, rows_made}
 use Rattle.sc_workers.specs.Services.{AllServe}
 use Rattle.sc_workers.specs.Ends.{IsEnd, IsGathered}
 use Rattle.sc_drive.specs.declared.steps.Score.{Score}
 use Rattle.sc_drive.specs.Numbers.{is_in}
-use Rattle.sc_drive.specs.Goings.{At, Goes, Fills}
+use Rattle.sc_drive.specs.Goings.{HasReached, Goes, Fills}
 use Rattle.sc_drive.proofs.ActRows.{birth_number}
 use Rattle.sc_drive.proofs.SystemWords.{acts_at, waiting_at}
 use Rattle.sc_drive.proofs.FreeRows.{some_waits, more_count, free_walk, gone_same}
@@ -43,7 +43,7 @@ module _ {A M O : Type 0} {g : Ghosts A M O} {h : MailGhosts M} where
     limit_next : next.limit ≡ net.limit
     limit_next = looked2.stays.exchange.2 ∙ limit_mid
 
-    module _ (words : ℕ → ℕ → ℕ × ℕ) (births : List (Seat A)) (lines : List (Line O)) (rest : List (Task O)) (at : At words births lines net ss score (Frees most ∷ rest)) (over : AllOver mid mids) (served : AllServe mid ss) where
+    module _ (words : ℕ → ℕ → ℕ × ℕ) (births : List (Seat A)) (lines : List (Line O)) (rest : List (Task O)) (at : HasReached words births lines net ss score (Frees most ∷ rest)) (over : AllOver mid mids) (served : AllServe mid ss) where
       s : System A M O
       s = system g.table h.receiver words births
 
@@ -58,7 +58,7 @@ module _ {A M O : Type 0} {g : Ghosts A M O} {h : MailGhosts M} where
       gone_mid : (who : ℕ) → has_gone (seen mid) who ≡ has_gone (seen net) who
       gone_mid = gone_same words births net mid ss mids at.company looked len go over rows_mid served
 
-      ended : AllSound mids → (few : length looked.later.0 ≤ most) (cut : Bool) → is_quiet (system g.table h.receiver words births) (seen mid) ≡ not cut → is_over (system g.table h.receiver words births) (seen mid) (let task : Task O = Frees (most - length looked.later.0) in task) ≡ true → now.skipped ≡ score.skipped → now.unsettled ≡ (score.unsettled || cut) → now.gone.items ≡ score.gone.items → At words births lines next after now rest
+      ended : AllSound mids → (few : length looked.later.0 ≤ most) (cut : Bool) → is_quiet (system g.table h.receiver words births) (seen mid) ≡ not cut → is_over (system g.table h.receiver words births) (seen mid) (let task : Task O = Frees (most - length looked.later.0) in task) ≡ true → now.skipped ≡ score.skipped → now.unsettled ≡ (score.unsettled || cut) → now.gone.items ≡ score.gone.items → HasReached words births lines next after now rest
       ended sound few cut quiet done skipped unsettled gone =
           let c1 = company_go births net mid ss mids at.company looked len go over rows_mid sound in
           let c2 = company_still births mid next mids after c1 looked2 len2 still gathered rows in
@@ -101,14 +101,14 @@ module _ {A M O : Type 0} {g : Ghosts A M O} {h : MailGhosts M} where
           }
 
     -- a free line at whose end nothing is pending
-    pub frees_quiet : (used : ℕ) → IsEnd (Quiet used) mid ss mids (numbers ss) most → now.skipped ≡ score.skipped → now.unsettled ≡ score.unsettled → now.gone.items ≡ score.gone.items → Goes net ss score (Frees most ∷ []) next after now []
+    pub frees_quiet : (used : ℕ) → IsEnd (Quiet used) mid ss mids (crew_numbers ss) most → now.skipped ≡ score.skipped → now.unsettled ≡ score.unsettled → now.gone.items ≡ score.gone.items → Goes net ss score (Frees most ∷ []) next after now []
     frees_quiet used e skipped unsettled gone = λ words births lines rest at.
         let n = count words births lines rest at e.0 e.4 in
         let quiet = quiet_after words births net mid ss at.company looked.stays.exchange.1 e.1 in
         ended words births lines rest at e.0 e.4 e.5 (omega (arith, n, e.2, e.3)) false quiet (ap (λ b. eqb (most - length looked.later.0) 0 || b) quiet ∙ or-true (eqb (most - length looked.later.0) 0)) skipped (unsettled ∙ sym (or-false score.unsettled)) gone
 
     -- one that ends with mail pending
-    pub frees_cut : (used : ℕ) → IsEnd (Limit used) mid ss mids (numbers ss) most → now.skipped ≡ score.skipped → now.unsettled ≡ true → now.gone.items ≡ score.gone.items → Goes net ss score (Frees most ∷ []) next after now []
+    pub frees_cut : (used : ℕ) → IsEnd (Limit used) mid ss mids (crew_numbers ss) most → now.skipped ≡ score.skipped → now.unsettled ≡ true → now.gone.items ≡ score.gone.items → Goes net ss score (Frees most ∷ []) next after now []
     frees_cut used e skipped unsettled gone = λ words births lines rest at.
         let n = count words births lines rest at e.0 e.4 in
         let loud = cut_after words births net mid ss at.company looked.stays.exchange.1 e.1 in
@@ -116,7 +116,7 @@ module _ {A M O : Type 0} {g : Ghosts A M O} {h : MailGhosts M} where
         ended words births lines rest at e.0 e.4 e.5 (omega (arith, n, e.2, e.3)) true loud (ap (λ k. eqb k 0 || is_quiet (system g.table h.receiver words births) (seen mid)) none) skipped (unsettled ∙ sym (or-true score.unsettled)) gone
 
     -- one that comes to a row that passes the limit
-    pub frees_full : (bytes : ℕ) → IsEnd (Full bytes) mid ss mids (numbers ss) most → Fills net ss score (Frees most ∷ []) next
+    pub frees_full : (bytes : ℕ) → IsEnd (Full bytes) mid ss mids (crew_numbers ss) most → Fills net ss score (Frees most ∷ []) next
     frees_full bytes e = λ words births lines rest at.
         let n = count words births lines rest at e.0 e.3 in
         let few : length looked.later.0 < most = omega (arith, n, e.2) in

@@ -9,7 +9,7 @@ use Rattle.sc_shell.specs.declared.shells.Shell.{Shell}
 use Rattle.sc_shell.specs.declared.turns.Turn.{Turn}
 use Rattle.sc_shell.specs.declared.turns.Turn.TheVariants.{Did, Empty, Full, Spent, OutOfMemory}
 use Rattle.sc_shell.specs.Shells.{Happens, State, Takes, state}
-use Rattle.sc_workers.specs.Crews.{AllGo, AllOf, AllSound, AllStill, AreLater, AreStill, Sound, Still, numbers}
+use Rattle.sc_workers.specs.Crews.{AllGo, AllOf, AllSound, AllStill, AreLater, AreStill, Sound, Still, crew_numbers}
 use Rattle.sc_workers.specs.Ends.{IsGathered}
 use Rattle.sc_workers.proofs.Lists.{get_any}
 use Rattle.sc_workers.proofs.Crews.{all_of_go, all_of_later, all_of_on, later_then, stays_same as stays_self, still_all_go, still_later, still_sound}
@@ -25,7 +25,7 @@ module _ {A M O : Type 0} {g : Ghosts A M O} {h : MailGhosts M} where
   all_of_stays net next ss s of k d lt = let o = of k d lt in let e = s.exchange in (e.0 ∙ o.0, e.1 ∙ o.1, e.2 ∙ o.2)
 
   -- what is kept from a later beginning is kept from an earlier one
-  pub kept_then : (a b c : Port M O h) (ss ts us : List (Shell A M O g h)) → Stays a b → numbers ts ≡ numbers ss → IsKept b ts c us → IsKept a ss c us
+  pub kept_then : (a b c : Port M O h) (ss ts us : List (Shell A M O g h)) → Stays a b → crew_numbers ts ≡ crew_numbers ss → IsKept b ts c us → IsKept a ss c us
   kept_then a b c ss ts us stays same kept = record {
     stays = stays_trans a b c stays kept.stays;
     exchange = kept.exchange;

@@ -19,7 +19,7 @@ use Rattle.sc_shell.specs.declared.shells.Shell.{Shell}
 use Rattle.sc_workers.specs.Ends.{IsFirst}
 use Rattle.sc_drive.specs.Companies.{Company}
 use Rattle.sc_drive.specs.Stepping.{IsPlace}
-use Rattle.sc_drive.specs.Lowest.{Lowest, Finds, IsPlaced}
+use Rattle.sc_drive.specs.Lowest.{Lowest, Finds, IsReceiverAt}
 use Rattle.sc_drive.proofs.SystemWords.{sys, upto_has, births_have, births_long}
 use Rattle.sc_drive.proofs.ActRows.{birth_number}
 use Rattle.sc_drive.proofs.FreeRows.{wide_none, in_at, flip_in}
@@ -72,7 +72,7 @@ module _ {A M O : Type 0} {g : Ghosts A M O} {h : MailGhosts M} where
 
   -- what was found when all gathered, and the place of the shell that gets it
   module _ (words : ℕ → ℕ → ℕ × ℕ) (births : List (Seat A)) (net : Port M O h) (ss : List (Shell A M O g h)) (c : Company births net ss) where
-    lowest_placed : (found : Fetched M) (place : Option ℕ) → IsFirst net found → IsPlaced ss found place → Lowest (sys words births net ss c) net ss place
+    lowest_placed : (found : Fetched M) (place : Option ℕ) → IsFirst net found → IsReceiverAt ss found place → Lowest (sys words births net ss c) net ss place
     lowest_placed (Empty told) None f p = none_quiet words births net ss c (seen net) (ap (λ n. kth_pending h.receiver net.actors (seen net) n 1) (sym c.first) ∙ f.0)
     lowest_placed (Empty told) (Some place) f p = absurd p
     lowest_placed (Mail number mail) None f p = absurd p
@@ -84,12 +84,12 @@ module _ {A M O : Type 0} {g : Ghosts A M O} {h : MailGhosts M} where
       at = at;
     }
 
-  placed_inside : (ss : List (Shell A M O g h)) (found : Fetched M) (place : Option ℕ) → IsPlaced ss found place → IfSome place (λ k. k < length ss)
+  placed_inside : (ss : List (Shell A M O g h)) (found : Fetched M) (place : Option ℕ) → IsReceiverAt ss found place → IfSome place (λ k. k < length ss)
   placed_inside ss (Empty told) None p = tt
   placed_inside ss (Empty told) (Some place) p = absurd p
   placed_inside ss (Mail number mail) None p = tt
   placed_inside ss (Mail number mail) (Some place) p = p.inside
 
   -- whatever the births are
-  pub finds_so : (net : Port M O h) (ss : List (Shell A M O g h)) (found : Fetched M) (place : Option ℕ) → IsFirst net found → IsPlaced ss found place → Finds net ss place
+  pub finds_so : (net : Port M O h) (ss : List (Shell A M O g h)) (found : Fetched M) (place : Option ℕ) → IsFirst net found → IsReceiverAt ss found place → Finds net ss place
   finds_so net ss found place f p = record { inside = placed_inside ss found place p; lowest = λ words births c. lowest_placed words births net ss c found place f p }

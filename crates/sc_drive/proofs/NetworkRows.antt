@@ -19,12 +19,12 @@ use Rattle.sc_exchange.specs.declared.ports.Port.{Port}
 use Rattle.sc_exchange.specs.Turns.{change}
 use Rattle.sc_exchange.specs.Ports.{seen, made, Stays, Looked, Appended, ChangedBy, IsTrue, MayNotChange}
 use Rattle.sc_shell.specs.declared.shells.Shell.{Shell}
-use Rattle.sc_workers.specs.Crews.{AllStill, numbers}
+use Rattle.sc_workers.specs.Crews.{AllStill, crew_numbers}
 use Rattle.sc_workers.specs.Ends.{IsGathered}
 use Rattle.sc_workers.proofs.Lists.{one_of}
 use Rattle.sc_workers.proofs.Crews.{still_all_go, still_sound, still_rows}
 use Rattle.sc_workers.proofs.Serving.{numbers_go}
-use Rattle.sc_drive.specs.declared.steps.Step.TheVariants.{Made, Skipped, Full as TooMuch}
+use Rattle.sc_drive.specs.declared.steps.LineResult.TheVariants.{Made, Skipped, Full as TooMuch}
 use Rattle.sc_drive.specs.Numbers.{is_in, apart}
 use Rattle.sc_drive.specs.Companies.{Company}
 use Rattle.sc_drive.specs.Stepping.{IsPlace, IsNowhere, Stepped}
@@ -38,7 +38,7 @@ use Rattle.std.proofs.lemmas.Bool.{and_parts, eqb-true, lt-ltb}
 use Rattle.sc_exchange.specs.declared.fates.Fate.{Fate}
 use Rattle.sc_exchange.specs.declared.fates.Fate.TheVariants.{Lost, Repeated}
 use Rattle.sc_drive.specs.Changing.{Changes}
-use Rattle.sc_drive.specs.declared.steps.Step.{Step}
+use Rattle.sc_drive.specs.declared.steps.LineResult.{LineResult}
 use Rattle.sc_exchange.proofs.Knowing.{looked_trans, stays_trans}
 use Rattle.sc_turn.proofs.Lists.{starts_trans}
 
@@ -64,7 +64,7 @@ module _ {M O : Type 0} {h : MailGhosts M} where
 module _ {A M O : Type 0} {g : Ghosts A M O} {h : MailGhosts M} where
   -- the network's port changed, and all have gathered
   module _ (births : List (Seat A)) (net mid next : Port M O h) (ss after : List (Shell A M O g h)) (c : Company births net ss) (stays : Stays net mid) (looked : Looked mid next) (len : length after ≡ length ss) (still : AllStill ss after) (gathered : IsGathered next after) (rows : IsTrue next) where
-    numbers_are : numbers after ≡ numbers ss
+    numbers_are : crew_numbers after ≡ crew_numbers ss
     numbers_are = numbers_go ss after len (still_all_go ss after still)
 
     pub company_net : Company births next after
@@ -142,7 +142,7 @@ module _ {A M O : Type 0} {g : Ghosts A M O} {h : MailGhosts M} where
           by None e = cc
           by (Some m) e =
               let to : who ≡ h.receiver m = cc in
-              let none : list_any (λ a. eqb a (h.receiver m)) (numbers_of births) ≡ false = any_out (h.receiver m) (numbers_of births) (ap (λ l. is_in (h.receiver m) l) (sym c.born) ∙ (ap (λ n. is_in n (numbers ss)) (sym to) ∙ out)) in
+              let none : list_any (λ a. eqb a (h.receiver m)) (numbers_of births) ≡ false = any_out (h.receiver m) (numbers_of births) (ap (λ l. is_in (h.receiver m) l) (sym c.born) ∙ (ap (λ n. is_in n (crew_numbers ss)) (sym to) ∙ out)) in
               ap (λ b. cond (b && not (has_crashed (seen net) (h.receiver m))) (Some (network (Again number))) None) none
 
     module _ (mid next : Port M O h) (looked : Looked mid next) (gathered : IsGathered next after) (rows : IsTrue next) where
@@ -206,7 +206,7 @@ module _ {A M O : Type 0} {g : Ghosts A M O} {h : MailGhosts M} where
             true≢false (sym there ∙ ((λ i. is_pending h.receiver (sym l.stays.exchange.1 i) (same i) number) ∙ no_more.may))
 
         -- what a loss came to
-        pub loses_so : (step : Step) → Changes Lost number first mid step → Stepped (sys words births net ss c) (line_row (sys words births net ss c) (seen net) (DropLine who k)) net next after step
+        pub loses_so : (step : LineResult) → Changes Lost number first mid step → Stepped (sys words births net ss c) (line_row (sys words births net ss c) (seen net) (DropLine who k)) net next after step
         loses_so Made x = loses_done x
         loses_so Skipped x = absurd (never_undone x)
         loses_so TooMuch x = loses_full x.0 x.1
@@ -268,7 +268,7 @@ module _ {A M O : Type 0} {g : Ghosts A M O} {h : MailGhosts M} where
             ((network (Again number), repeat_is x true (may_same x true (may_at (seen mid) first.actors true (refused_mid l2) l.stays.exchange.1 may)), passes_net l2 Repeated number more), refused_same l2)
 
         -- what a repeat came to
-        pub repeats_so : (step : Step) → Changes Repeated number first mid step → Stepped (sys words births net ss c) (line_row (sys words births net ss c) (seen net) (AgainLine number)) net next after step
+        pub repeats_so : (step : LineResult) → Changes Repeated number first mid step → Stepped (sys words births net ss c) (line_row (sys words births net ss c) (seen net) (AgainLine number)) net next after step
         repeats_so Made x = repeats_done x
         repeats_so Skipped x = repeats_undone x.looked x.may
         repeats_so TooMuch x = repeats_full x.0 x.1 x.2

@@ -8,11 +8,11 @@ use Rattle.sc_actor.specs.declared.actors.Parcel.{Ghosts as MailGhosts}
 use Rattle.sc_actor.specs.declared.actors.Seat.{Seat}
 use Rattle.sc_actor.specs.declared.rows.Row.{Row}
 use Rattle.sc_exchange.specs.declared.ports.Port.{Port}
-use Rattle.sc_exchange.specs.Deeds.{rows_of}
+use Rattle.sc_exchange.specs.BareRows.{rows_of}
 use Rattle.sc_exchange.specs.Ports.{seen, made, given, Stays, Looked, Appended, IsTrue}
 use Rattle.sc_shell.specs.declared.shells.Shell.{Shell}
 use Rattle.sc_shell.specs.Shells.{IsReplay, Replays}
-use Rattle.sc_workers.specs.Crews.{AllOver, AllSound, Sound, Still, AllStill, IsAhead, numbers, rows_made}
+use Rattle.sc_workers.specs.Crews.{AllOver, AllSound, Sound, Still, AllStill, IsAhead, crew_numbers, rows_made}
 use Rattle.sc_workers.specs.Ends.{IsGathered}
 use Rattle.sc_workers.proofs.Lists.{sum_set, get_any}
 use Rattle.sc_workers.proofs.Crews.{still_rows, still_all_go}
@@ -26,15 +26,15 @@ use Rattle.sc_turn.proofs.Lists.{starts_trans}
 
 module _ {A M O : Type 0} {g : Ghosts A M O} {h : MailGhosts M} where
   -- the network's port has seen the network's rows, and those of the shells
-  pub count_seen : (net : Port M O h) (ss : List (Shell A M O g h)) → net.who ≡ 0 → given net ≡ numbers ss → apart (0 ∷ numbers ss) ≡ true → AllOver net ss → IsTrue net → length (seen net) ≡ length (made net) + rows_made ss
+  pub count_seen : (net : Port M O h) (ss : List (Shell A M O g h)) → net.who ≡ 0 → given net ≡ crew_numbers ss → apart (0 ∷ crew_numbers ss) ≡ true → AllOver net ss → IsTrue net → length (seen net) ≡ length (made net) + rows_made ss
   count_seen net ss first all far over rows =
-      let closed : (n : ℕ) → is_in n (0 ∷ numbers ss) ≡ false → rows_of n (seen net) ≡ [] = λ n out.
-      let parts = or_parts (eqb n 0) (is_in n (numbers ss)) out in
-      rows.others first n (λ z. true≢false (sym (eq-eqb n 0 z) ∙ parts.0)) (λ c. not_in n (numbers ss) parts.1 (subst (λ ws. Contains ws n) all c)) in
-      let total : length (seen net) ≡ sum_by (λ w. length (rows_of w (seen net))) (0 ∷ numbers ss) = count_rows (0 ∷ numbers ss) (seen net) far (all_in (0 ∷ numbers ss) (seen net) closed) in
+      let closed : (n : ℕ) → is_in n (0 ∷ crew_numbers ss) ≡ false → rows_of n (seen net) ≡ [] = λ n out.
+      let parts = or_parts (eqb n 0) (is_in n (crew_numbers ss)) out in
+      rows.others first n (λ z. true≢false (sym (eq-eqb n 0 z) ∙ parts.0)) (λ c. not_in n (crew_numbers ss) parts.1 (subst (λ ws. Contains ws n) all c)) in
+      let total : length (seen net) ≡ sum_by (λ w. length (rows_of w (seen net))) (0 ∷ crew_numbers ss) = count_rows (0 ∷ crew_numbers ss) (seen net) far (all_in (0 ∷ crew_numbers ss) (seen net) closed) in
       let net_rows : length (rows_of 0 (seen net)) ≡ length (made net) = ap (λ n. length (rows_of n (seen net))) (sym first) ∙ ap length rows.own in
       let each : sum_by (λ (s : Shell A M O g h). length (rows_of s.port.who (seen net))) ss ≡ rows_made ss = sum_each (λ (s : Shell A M O g h). length (rows_of s.port.who (seen net))) (λ (s : Shell A M O g h). length (made s.port)) ss (λ k d lt. ap length (over k d lt).own) in
-      omega (arith, total, sum_by-cons (λ w. length (rows_of w (seen net))) 0 (numbers ss), net_rows, sum_map (λ w. length (rows_of w (seen net))) (λ (s : Shell A M O g h). s.port.who) ss, each)
+      omega (arith, total, sum_by-cons (λ w. length (rows_of w (seen net))) 0 (crew_numbers ss), net_rows, sum_map (λ w. length (rows_of w (seen net))) (λ (s : Shell A M O g h). s.port.who) ss, each)
 
   -- the same of a company
   pub count_company : (births : List (Seat A)) (net : Port M O h) (ss : List (Shell A M O g h)) → Company births net ss → length (seen net) ≡ length (made net) + rows_made ss
@@ -64,9 +64,9 @@ module _ {X : Type 0} where
 
 module _ {A M O : Type 0} {g : Ghosts A M O} {h : MailGhosts M} where
   -- a shell of the same actor has the same number
-  pub numbers_set : (ss : List (Shell A M O g h)) (k : ℕ) (t : Shell A M O g h) → k < length ss → ((d : Shell A M O g h) → t.port.who ≡ (get_or ss k d).port.who) → numbers (set ss k t) ≡ numbers ss
+  pub numbers_set : (ss : List (Shell A M O g h)) (k : ℕ) (t : Shell A M O g h) → k < length ss → ((d : Shell A M O g h) → t.port.who ≡ (get_or ss k d).port.who) → crew_numbers (set ss k t) ≡ crew_numbers ss
   numbers_set [] k t lt same = refl
-  numbers_set (s ∷ ss) zero t lt same = λ i. same s i ∷ numbers ss
+  numbers_set (s ∷ ss) zero t lt same = λ i. same s i ∷ crew_numbers ss
   numbers_set (s ∷ ss) (suc k) t lt same = ap (λ l. s.port.who ∷ l) (numbers_set ss k t (omega (arith, lt)) same)
 
   -- and there are as many
@@ -103,13 +103,13 @@ module _ {A M O : Type 0} {g : Ghosts A M O} {h : MailGhosts M} where
     number_is : (d : Shell A M O g h) → t.port.who ≡ (get_or ss k d).port.who
     number_is d = stays.who ∙ (still d).goes.stays.who
 
-    numbers_are : numbers after ≡ numbers ss
+    numbers_are : crew_numbers after ≡ crew_numbers ss
     numbers_are = numbers_go middle after same_length (still_all_go middle after rest) ∙ numbers_set ss k t lt number_is
 
-    all_is : given next ≡ numbers after
+    all_is : given next ≡ crew_numbers after
     all_is = looked.stays.given ∙ (c.all ∙ sym numbers_are)
 
-    far_is : apart (0 ∷ numbers after) ≡ true
+    far_is : apart (0 ∷ crew_numbers after) ≡ true
     far_is = ap (λ ws. apart (0 ∷ ws)) numbers_are ∙ c.far
 
     first_is : next.who ≡ 0

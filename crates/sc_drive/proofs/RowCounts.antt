@@ -5,7 +5,7 @@ use Rattle.std.proofs.lemmas.List.Sums.{sum_by-cons}
 use Rattle.std.proofs.lemmas.Bool.{eqb-true, and_parts, or_parts, not-true}
 use Rattle.sc_turn.specs.Turn.{StartsWith}
 use Rattle.sc_actor.specs.declared.rows.Row.{Row}
-use Rattle.sc_exchange.specs.Deeds.{rows_of}
+use Rattle.sc_exchange.specs.BareRows.{rows_of}
 use Rattle.sc_drive.specs.Numbers.{is_in, apart}
 
 -- a test of two numbers the other way round

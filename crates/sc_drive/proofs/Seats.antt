@@ -9,9 +9,9 @@ use Rattle.sc_actor.specs.declared.actors.Parcel.{Ghosts as MailGhosts}
 use Rattle.sc_actor.specs.declared.actors.Seat.{Seat}
 use Rattle.sc_actor.specs.System.{numbers_of, are_apart}
 use Rattle.sc_exchange.specs.declared.ports.Port.{Port}
-use Rattle.sc_exchange.specs.Ports.{made, given, joined, SameExchange}
+use Rattle.sc_exchange.specs.Ports.{made, given, joined_ports, SameExchange}
 use Rattle.sc_shell.specs.declared.shells.Shell.{Shell}
-use Rattle.sc_workers.specs.Crews.{AllOf, numbers}
+use Rattle.sc_workers.specs.Crews.{AllOf, crew_numbers}
 use Rattle.sc_drive.specs.Companies.{AtBirth, seats}
 use Rattle.sc_drive.specs.Ends.{Seated}
 
@@ -52,15 +52,15 @@ module _ {A M O : Type 0} {g : Ghosts A M O} {h : MailGhosts M} where
   pub record Begun (many most : ℕ) (done : List (Seat A)) (net : Port M O h) (ss : List (Shell A M O g h)) : Type 0 where
     pub first : net.who ≡ 0
     pub exchange : AllOf net ss
-    pub all : given net ≡ numbers ss
+    pub all : given net ≡ crew_numbers ss
     pub born : seats ss ≡ done
     pub unmade : made net ≡ []
-    pub unjoined : joined net ≡ []
+    pub unjoined : joined_ports net ≡ []
     pub fresh : All (λ (s : Shell A M O g h). (made s.port ≡ []) × (s.spent ≡ false)) ss
     pub actors : net.actors ≡ many
     pub limit : net.limit ≡ most
 
-  numbers_are : (ss : List (Shell A M O g h)) → numbers_of (seats ss) ≡ numbers ss
+  numbers_are : (ss : List (Shell A M O g h)) → numbers_of (seats ss) ≡ crew_numbers ss
   numbers_are [] = refl
   numbers_are (s ∷ ss) = ap (λ l. s.port.who ∷ l) (numbers_are ss)
 

@@ -22,7 +22,7 @@ use Rattle.sc_drive.specs.declared.steps.Score.{Score}
 use Rattle.sc_drive.specs.Numbers.{is_in}
 use Rattle.sc_drive.specs.Acts.{Served, ServedAll}
 use Rattle.sc_drive.specs.Companies.{Company}
-use Rattle.sc_drive.specs.Goings.{At, Goes, Fills}
+use Rattle.sc_drive.specs.Goings.{HasReached, Goes, Fills}
 use Rattle.sc_drive.specs.Lowest.{Finds, LowestAt, Rests}
 use Rattle.sc_drive.proofs.ActorRows.{delivers_did, delivers_full, serves_empty, serves_spent}
 use Rattle.sc_drive.proofs.FreeRows.{first_is}
@@ -88,8 +88,8 @@ module _ {A M O : Type 0} {g : Ghosts A M O} {h : MailGhosts M} where
       }
 
   module _ (net : Port M O h) (ss : List (Shell A M O g h)) (score now : Score) (left : ℕ) where
-    ended : (words : ℕ → ℕ → ℕ × ℕ) (births : List (Seat A)) (lines : List (Line O)) (rest : List (Task O)) → At words births lines net ss score (Settles left ∷ rest) → (cut : Bool) → is_quiet (system g.table h.receiver words births) (seen net) ≡ not cut →
-        is_over (system g.table h.receiver words births) (seen net) (let task : Task O = Settles left in task) ≡ true → now.skipped ≡ score.skipped → now.unsettled ≡ (score.unsettled || cut) → now.gone.items ≡ score.gone.items → At words births lines net ss now rest
+    ended : (words : ℕ → ℕ → ℕ × ℕ) (births : List (Seat A)) (lines : List (Line O)) (rest : List (Task O)) → HasReached words births lines net ss score (Settles left ∷ rest) → (cut : Bool) → is_quiet (system g.table h.receiver words births) (seen net) ≡ not cut →
+        is_over (system g.table h.receiver words births) (seen net) (let task : Task O = Settles left in task) ≡ true → now.skipped ≡ score.skipped → now.unsettled ≡ (score.unsettled || cut) → now.gone.items ≡ score.gone.items → HasReached words births lines net ss now rest
     ended words births lines rest at cut quiet done skipped unsettled gone =
         let s = system g.table h.receiver words births in
         let stands : Stands s lines (seen net) (Settles left ∷ rest) score.skipped score.unsettled = record { lawful = at.lawful; place = at.place } in

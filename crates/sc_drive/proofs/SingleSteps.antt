@@ -22,8 +22,8 @@ use Rattle.sc_exchange.specs.declared.ports.Port.{Port}
 use Rattle.sc_exchange.specs.Ports.{seen}
 use Rattle.sc_shell.specs.declared.shells.Shell.{Shell}
 use Rattle.sc_drive.specs.declared.steps.Score.{Score}
-use Rattle.sc_drive.specs.declared.steps.Step.{Step}
-use Rattle.sc_drive.specs.declared.steps.Step.TheVariants.{Made, Skipped, Full}
+use Rattle.sc_drive.specs.declared.steps.LineResult.{LineResult}
+use Rattle.sc_drive.specs.declared.steps.LineResult.TheVariants.{Made, Skipped, Full}
 use Rattle.sc_drive.specs.Numbers.{is_in}
 use Rattle.sc_drive.specs.Companies.{Company}
 use Rattle.sc_drive.specs.Stepping.{Stepped}
@@ -169,7 +169,7 @@ pub go_pushed : (n who : ℕ) (ws vs : List ℕ) → vs ≡ ws ++ who ∷ [] →
 go_pushed n who ws vs is = ap (is_in n) is ∙ (list_any-append (λ w. eqb n w) ws (who ∷ []) ∙ ap (λ b. is_in n ws || b) (or-false (eqb n who)))
 
 -- a Go of one who was not told to go
-pub go_steps : {A M O : Type 0} {g : Ghosts A M O} {h : MailGhosts M} (who : ℕ) (net next : Port M O h) (ss after : List (Shell A M O g h)) (score : Score) (step : Step) → is_in who score.gone.items ≡ false →
+pub go_steps : {A M O : Type 0} {g : Ghosts A M O} {h : MailGhosts M} (who : ℕ) (net next : Port M O h) (ss after : List (Shell A M O g h)) (score : Score) (step : LineResult) → is_in who score.gone.items ≡ false →
     ((words : ℕ → ℕ → ℕ × ℕ) (births : List (Seat A)) → Company births net ss → Stepped (system g.table h.receiver words births) (acts (system g.table h.receiver words births) (seen net) who Go) net next after step) → StepsSo (GoLine who) net ss score next after step
 go_steps {g = g} {h = h} who net next ss after score step not_told f = λ words births company told.
     let s = system g.table h.receiver words births in

@@ -16,7 +16,7 @@ use Rattle.sc_exchange.specs.declared.ports.Port.{Port}
 use Rattle.sc_exchange.specs.Ports.{seen}
 use Rattle.sc_exchange.proofs.Addressing.{crashed_own}
 use Rattle.sc_shell.specs.declared.shells.Shell.{Shell}
-use Rattle.sc_workers.specs.Crews.{numbers as crew_numbers}
+use Rattle.sc_workers.specs.Crews.{crew_numbers}
 use Rattle.sc_workers.proofs.Serving.{crashed_is}
 use Rattle.sc_drive.specs.Numbers.{is_in, apart}
 use Rattle.sc_drive.specs.Companies.{Company}

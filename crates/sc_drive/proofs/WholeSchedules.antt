@@ -16,23 +16,23 @@ use Rattle.sc_exchange.specs.declared.ports.Port.{Port}
 use Rattle.sc_exchange.specs.Ports.{seen}
 use Rattle.sc_shell.specs.declared.shells.Shell.{Shell}
 use Rattle.sc_shell.specs.Shells.{ReplaysOver}
-use Rattle.sc_workers.specs.Crews.{numbers}
+use Rattle.sc_workers.specs.Crews.{crew_numbers}
 use Rattle.sc_drive.specs.declared.steps.Score.{Score}
 use Rattle.sc_drive.specs.Numbers.{is_in}
 use Rattle.sc_drive.specs.Companies.{Company, seats}
 use Rattle.sc_drive.specs.Lowest.{Finds, Lowest, Rests}
-use Rattle.sc_drive.specs.Goings.{At, Goes, Fills, HasEnded}
+use Rattle.sc_drive.specs.Goings.{HasReached, Goes, Fills, HasEnded}
 use Rattle.sc_actor.proofs.TaskLemmas.{split}
 
 module _ {A M O : Type 0} {g : Ghosts A M O} {h : MailGhosts M} where
-  values_are : (births : List (Seat A)) (ss : List (Shell A M O g h)) (rows : List (Row M O)) → numbers ss ≡ numbers_of births →
+  values_are : (births : List (Seat A)) (ss : List (Shell A M O g h)) (rows : List (Row M O)) → crew_numbers ss ≡ numbers_of births →
       ((k : ℕ) (d : Shell A M O g h) (e : Seat A) → k < length ss → ReplaysOver (get_or ss k d) rows (get_or births k e).actor) → seats ss ≡ values g.table births rows
   values_are [] [] rows same each = refl
   values_are (b ∷ births) [] rows same each = cc
   values_are [] (s ∷ ss) rows same each = cc
   values_are (b ∷ births) (s ∷ ss) rows same each =
       let first : s.port.who ≡ b.who = cc in
-      let rest : numbers ss ≡ numbers_of births = cc in
+      let rest : crew_numbers ss ≡ numbers_of births = cc in
       let actor : s.actor ≡ value g.table b rows = each 0 s b (omega arith) ∙ ap (λ n. value g.table (record { who = n; actor = b.actor }) rows) first in
       λ i. record { who = first i; actor = actor i } ∷ values_are births ss rows rest (λ k d e lt. each (suc k) d e (omega (arith, lt))) i
 
@@ -42,7 +42,7 @@ module _ {A M O : Type 0} {g : Ghosts A M O} {h : MailGhosts M} where
 
   module _ (words : ℕ → ℕ → ℕ × ℕ) (births : List (Seat A)) (lines : List (Line O)) where
     -- before the first line
-    pub drive_begins : (net : Port M O h) (ss : List (Shell A M O g h)) (score : Score) → Company births net ss → seen net ≡ [] → score.skipped ≡ 0 → score.unsettled ≡ false → score.gone.items ≡ [] → At words births lines net ss score (flat_map (tasks_of words) (drop 0 lines))
+    pub drive_begins : (net : Port M O h) (ss : List (Shell A M O g h)) (score : Score) → Company births net ss → seen net ≡ [] → score.skipped ≡ 0 → score.unsettled ≡ false → score.gone.items ≡ [] → HasReached words births lines net ss score (flat_map (tasks_of words) (drop 0 lines))
     drive_begins net ss score company none skips_ cut gone =
         let s = system g.table h.receiver words births in
         let there : Stands s lines (seen net) (flat_map (tasks_of words) lines) score.skipped score.unsettled =
@@ -56,24 +56,24 @@ module _ {A M O : Type 0} {g : Ghosts A M O} {h : MailGhosts M} where
         }
 
     -- past a line
-    pub drive_on : (net next : Port M O h) (ss after : List (Shell A M O g h)) (score now : Score) (i : ℕ) (line : Line O) → i < length lines → line ≡ get_or lines i line → has_one_task line ≡ true → At words births lines net ss score (flat_map (tasks_of words) (drop i lines)) →
-        Goes net ss score (line_task line ∷ []) next after now [] → At words births lines next after now (flat_map (tasks_of words) (drop (i + 1) lines))
+    pub drive_on : (net next : Port M O h) (ss after : List (Shell A M O g h)) (score now : Score) (i : ℕ) (line : Line O) → i < length lines → line ≡ get_or lines i line → has_one_task line ≡ true → HasReached words births lines net ss score (flat_map (tasks_of words) (drop i lines)) →
+        Goes net ss score (line_task line ∷ []) next after now [] → HasReached words births lines next after now (flat_map (tasks_of words) (drop (i + 1) lines))
     drive_on net next ss after score now i line lt is built at goes =
-        goes words births lines (flat_map (tasks_of words) (drop (i + 1) lines)) (subst (λ ts. At words births lines net ss score ts) (split words lines i line lt is built) at)
+        goes words births lines (flat_map (tasks_of words) (drop (i + 1) lines)) (subst (λ ts. HasReached words births lines net ss score ts) (split words lines i line lt is built) at)
 
     -- to a row that passes the limit
-    pub drive_fills : (start net next : Port M O h) (ss : List (Shell A M O g h)) (score : Score) (i : ℕ) (line : Line O) → net.limit ≡ start.limit → i < length lines → line ≡ get_or lines i line → has_one_task line ≡ true → At words births lines net ss score (flat_map (tasks_of words) (drop i lines)) →
+    pub drive_fills : (start net next : Port M O h) (ss : List (Shell A M O g h)) (score : Score) (i : ℕ) (line : Line O) → net.limit ≡ start.limit → i < length lines → line ≡ get_or lines i line → has_one_task line ≡ true → HasReached words births lines net ss score (flat_map (tasks_of words) (drop i lines)) →
         Fills net ss score (line_task line ∷ []) next → IsFull (system g.table h.receiver words births) h.weighs lines start.limit (seen next)
     drive_fills start net next ss score i line limit lt is built at fills =
         subst (λ n. IsFull (system g.table h.receiver words births) h.weighs lines n (seen next)) limit
-        (fills words births lines (flat_map (tasks_of words) (drop (i + 1) lines)) (subst (λ ts. At words births lines net ss score ts) (split words lines i line lt is built) at))
+        (fills words births lines (flat_map (tasks_of words) (drop (i + 1) lines)) (subst (λ ts. HasReached words births lines net ss score ts) (split words lines i line lt is built) at))
 
     -- past the last line, once it was looked whether mail is pending
-    pub drive_ends : (net next : Port M O h) (ss after : List (Shell A M O g h)) (score : Score) (i : ℕ) (found : Option ℕ) → length lines ≤ i → At words births lines net ss score (flat_map (tasks_of words) (drop i lines)) →
+    pub drive_ends : (net next : Port M O h) (ss after : List (Shell A M O g h)) (score : Score) (i : ℕ) (found : Option ℕ) → length lines ≤ i → HasReached words births lines net ss score (flat_map (tasks_of words) (drop i lines)) →
         Rests net ss next after → Finds next after found → next.limit ≡ net.limit → HasEnded words births lines next after score.unsettled (is_none found) score.skipped
     drive_ends net next ss after score i found le before rests finds limit =
         let s = system g.table h.receiver words births in
-        let at : At words births lines net ss score [] = subst (λ ts. At words births lines net ss score (flat_map (tasks_of words) ts)) (drop_of_length-le lines le) before in
+        let at : HasReached words births lines net ss score [] = subst (λ ts. HasReached words births lines net ss score (flat_map (tasks_of words) ts)) (drop_of_length-le lines le) before in
         let whole = Stands-whole s lines (seen net) score.skipped score.unsettled (record { lawful = at.lawful; place = at.place }) in
         let rest = rests births at.company in
         let rows : seen net ≡ seen next = sym rest.1 in record {

@@ -29,7 +29,7 @@ module _ {A M O : Type 0} {h : MailGhosts M} where
 
 module _ {A M O : Type 0} {g : Ghosts A M O} {h : MailGhosts M} where
   -- the shell met the port, and then did this
-  pub record Met (does : Shell A M O g h → Type 0) (s t : Shell A M O g h) (net next : Port M O h) : Type 0 where
+  pub record MetAndDid (does : Shell A M O g h → Type 0) (s t : Shell A M O g h) (net next : Port M O h) : Type 0 where
     pub met : Shell A M O g h
     pub still : Still s met
     pub ahead : IsAhead net met
@@ -40,11 +40,11 @@ module _ {A M O : Type 0} {g : Ghosts A M O} {h : MailGhosts M} where
 
   -- and then an event happened
   abbrev pub MetAndTold : Event O → Turn → Shell A M O g h → Shell A M O g h → Port M O h → Port M O h → Type 0
-  MetAndTold event turn s t net next = Met (λ met. Happens (state met) (state t) event turn) s t net next
+  MetAndTold event turn s t net next = MetAndDid (λ met. Happens (state met) (state t) event turn) s t net next
 
   -- and then it took a turn
   abbrev pub MetAndTook : ℕ → Turn → Shell A M O g h → Shell A M O g h → Port M O h → Port M O h → Type 0
-  MetAndTook k turn s t net next = Met (λ met. Takes (state met) (state t) k turn) s t net next
+  MetAndTook k turn s t net next = MetAndDid (λ met. Takes (state met) (state t) k turn) s t net next
 
   -- whether the shell at a place has posted a Crash
   abbrev pub HasHalted : List (Shell A M O g h) → ℕ → Bool → Type 0

@@ -8,7 +8,7 @@ use Rattle.sc_exchange.specs.declared.ports.Port.{Port}
 use Rattle.sc_exchange.specs.Ports.{given, made, IsTrue}
 use Rattle.sc_shell.specs.declared.shells.Shell.{Shell}
 use Rattle.sc_shell.specs.Shells.{Replays}
-use Rattle.sc_workers.specs.Crews.{AllOver, AllSound, IsCrew, numbers}
+use Rattle.sc_workers.specs.Crews.{AllOver, AllSound, IsCrew, crew_numbers}
 use Rattle.sc_drive.specs.Numbers.{apart}
 
 module _ {A M O : Type 0} {g : Ghosts A M O} {h : MailGhosts M} where
@@ -19,9 +19,9 @@ module _ {A M O : Type 0} {g : Ghosts A M O} {h : MailGhosts M} where
   -- Each actor of the births has a shell, at the one port of its number, and no other port was split off. The network's port has seen all that they have, the rows of each actor are those that its shell made, and each actor is the replay of its rows from its birth.
   pub record Company (births : List (Seat A)) (net : Port M O h) (ss : List (Shell A M O g h)) : Type 0 where
     pub first : net.who ≡ 0
-    pub all : given net ≡ numbers ss
-    pub born : numbers ss ≡ numbers_of births
-    pub far : apart (0 ∷ numbers ss) ≡ true
+    pub all : given net ≡ crew_numbers ss
+    pub born : crew_numbers ss ≡ numbers_of births
+    pub far : apart (0 ∷ crew_numbers ss) ≡ true
     pub within : (k : ℕ) (d : Shell A M O g h) → k < length ss → (slice_index_or ss k d).port.who ≤ net.actors
     pub over : AllOver net ss
     pub rows : IsTrue net
@@ -31,7 +31,7 @@ module _ {A M O : Type 0} {g : Ghosts A M O} {h : MailGhosts M} where
   -- The network's port and the shells of all actors as they begin: a shell of this exchange for each birth, in order, at the one port of its number, from 1 to the number of actors. No other port was split off, and no port has made a row.
   pub record AtBirth (births : List (Seat A)) (net : Port M O h) (ss : List (Shell A M O g h)) : Type 0 where
     pub crew : IsCrew net ss
-    pub all : given net ≡ numbers ss
+    pub all : given net ≡ crew_numbers ss
     pub born : seats ss ≡ births
     pub far : are_apart births ≡ true
     pub numbered : All (λ seat. (0 < seat.who) × (seat.who ≤ net.actors)) births

@@ -4,7 +4,7 @@ use Rattle.sc_actor.specs.declared.actors.Actor.{Ghosts}
 use Rattle.sc_actor.specs.declared.actors.Parcel.{Ghosts as MailGhosts}
 use Rattle.sc_actor.specs.declared.actors.Seat.{Seat}
 use Rattle.sc_exchange.specs.declared.ports.Port.{Port}
-use Rattle.sc_exchange.specs.Ports.{made, given, joined, SameExchange}
+use Rattle.sc_exchange.specs.Ports.{made, given, joined_ports, SameExchange}
 use Rattle.sc_shell.specs.declared.shells.Shell.{Shell}
 
 module _ {A M O : Type 0} {g : Ghosts A M O} {h : MailGhosts M} where
@@ -13,7 +13,7 @@ module _ {A M O : Type 0} {g : Ghosts A M O} {h : MailGhosts M} where
     pub exchange : SameExchange net next
     pub first : next.who ≡ 0
     pub given : given next ≡ given net ++ seat.who ∷ []
-    pub joined : joined next ≡ joined net
+    pub joined : joined_ports next ≡ joined_ports net
     pub port : SameExchange net s.port × (s.port.who ≡ seat.who)
     pub actor : s.actor ≡ seat.actor
     pub fresh : (made s.port ≡ []) × (s.spent ≡ false)

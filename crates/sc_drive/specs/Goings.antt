@@ -15,11 +15,11 @@ use Rattle.sc_actor.specs.System.{System, system, acts, has_gone}
 use Rattle.sc_actor.specs.Walk.{Task, IsLawful, IsWhole, place_after, onward, line_row, skipped, unsettled, is_quiet}
 use Rattle.sc_exchange.specs.declared.ports.Port.{Port}
 use Rattle.sc_exchange.specs.Ports.{seen, Stays, IsTrue}
-use Rattle.sc_workers.specs.Crews.{AllOf, AllOver, AllSound, IsCrew, numbers}
+use Rattle.sc_workers.specs.Crews.{AllOf, AllOver, AllSound, IsCrew, crew_numbers}
 use Rattle.sc_shell.specs.declared.shells.Shell.{Shell}
 use Rattle.sc_drive.specs.declared.steps.Score.{Score}
-use Rattle.sc_drive.specs.declared.steps.Step.{Step}
-use Rattle.sc_drive.specs.declared.steps.Step.TheVariants.{Made, Skipped, Full}
+use Rattle.sc_drive.specs.declared.steps.LineResult.{LineResult}
+use Rattle.sc_drive.specs.declared.steps.LineResult.TheVariants.{Made, Skipped, Full}
 use Rattle.sc_drive.specs.declared.steps.Driven.{Driven}
 use Rattle.sc_drive.specs.declared.steps.Driven.TheVariants.{Ended, Full as TooMuch, OutOfMemory}
 use Rattle.sc_drive.specs.Numbers.{is_in}
@@ -44,29 +44,29 @@ module _ {A M O : Type 0} {g : Ghosts A M O} {h : MailGhosts M} where
   MayGo who net ss = (births : List (Seat A)) × Company births net ss × (has_crashed (seen net) who ≡ false)
 
   -- What it came to that this row might be made.
-  abbrev pub MakesSo : (System A M O → List (Row M O) → Option (Row M O)) → Port M O h → List (Shell A M O g h) → Port M O h → List (Shell A M O g h) → Step → Type 0
+  abbrev pub MakesSo : (System A M O → List (Row M O) → Option (Row M O)) → Port M O h → List (Shell A M O g h) → Port M O h → List (Shell A M O g h) → LineResult → Type 0
   MakesSo may net ss next after step =
       (words : ℕ → ℕ → ℕ × ℕ) (births : List (Seat A)) → Company births net ss → Stepped (system g.table h.receiver words births) (may (system g.table h.receiver words births) (seen net)) net next after step
 
   -- the row of a line
-  abbrev pub LineMade : Line O → Port M O h → List (Shell A M O g h) → Port M O h → List (Shell A M O g h) → Step → Type 0
+  abbrev pub LineMade : Line O → Port M O h → List (Shell A M O g h) → Port M O h → List (Shell A M O g h) → LineResult → Type 0
   LineMade line = MakesSo (λ s rows. line_row s rows line)
 
   -- the row of an event of an actor, unless it has crashed
-  abbrev pub EventMade : ℕ → Event O → Port M O h → List (Shell A M O g h) → Port M O h → List (Shell A M O g h) → Step → Type 0
+  abbrev pub EventMade : ℕ → Event O → Port M O h → List (Shell A M O g h) → Port M O h → List (Shell A M O g h) → LineResult → Type 0
   EventMade who event = MakesSo (λ s rows. unless_crashed s rows who event)
 
   -- the row of an actor that is told to go
-  abbrev pub GoMade : ℕ → Port M O h → List (Shell A M O g h) → Port M O h → List (Shell A M O g h) → Step → Type 0
+  abbrev pub GoMade : ℕ → Port M O h → List (Shell A M O g h) → Port M O h → List (Shell A M O g h) → LineResult → Type 0
   GoMade who = MakesSo (λ s rows. acts s rows who GoEvent)
 
   -- what a line of one row came to, where it is noted who was told to go
-  abbrev pub StepsSo : Line O → Port M O h → List (Shell A M O g h) → Score → Port M O h → List (Shell A M O g h) → Step → Type 0
+  abbrev pub StepsSo : Line O → Port M O h → List (Shell A M O g h) → Score → Port M O h → List (Shell A M O g h) → LineResult → Type 0
   StepsSo line net ss score next after step =
       (words : ℕ → ℕ → ℕ × ℕ) (births : List (Seat A)) → Company births net ss → ((who : ℕ) → has_gone (seen net) who ≡ is_in who score.gone.items) → Stepped (system g.table h.receiver words births) (line_row (system g.table h.receiver words births) (seen net) line) net next after step
 
   -- What the network's port has seen is a lawful journal within the limit, the walk after it has these tasks left, the score is the walk's, and all is as it is between two lines.
-  pub record At (words : ℕ → ℕ → ℕ × ℕ) (births : List (Seat A)) (lines : List (Line O)) (net : Port M O h) (ss : List (Shell A M O g h)) (score : Score) (tasks : List (Task O)) : Type 0 where
+  pub record HasReached (words : ℕ → ℕ → ℕ × ℕ) (births : List (Seat A)) (lines : List (Line O)) (net : Port M O h) (ss : List (Shell A M O g h)) (score : Score) (tasks : List (Task O)) : Type 0 where
     pub lawful : IsLawful (system g.table h.receiver words births) lines (seen net)
     pub place : place_after (system g.table h.receiver words births) lines (seen net) ≡ onward (system g.table h.receiver words births) (seen net) tasks score.skipped score.unsettled
     pub company : Company births net ss
@@ -76,18 +76,18 @@ module _ {A M O : Type 0} {g : Ghosts A M O} {h : MailGhosts M} where
   -- A walk that stands here with some tasks stands there with others, whatever comes after.
   abbrev pub Goes : Port M O h → List (Shell A M O g h) → Score → List (Task O) → Port M O h → List (Shell A M O g h) → Score → List (Task O) → Type 0
   Goes net ss score before next after now left =
-      (words : ℕ → ℕ → ℕ × ℕ) (births : List (Seat A)) (lines : List (Line O)) (rest : List (Task O)) → At words births lines net ss score (before ++ rest) → At words births lines next after now (left ++ rest)
+      (words : ℕ → ℕ → ℕ × ℕ) (births : List (Seat A)) (lines : List (Line O)) (rest : List (Task O)) → HasReached words births lines net ss score (before ++ rest) → HasReached words births lines next after now (left ++ rest)
 
   -- The walk comes to a row that passes the limit.
   abbrev pub Fills : Port M O h → List (Shell A M O g h) → Score → List (Task O) → Port M O h → Type 0
   Fills net ss score before next =
-      (words : ℕ → ℕ → ℕ × ℕ) (births : List (Seat A)) (lines : List (Line O)) (rest : List (Task O)) → At words births lines net ss score (before ++ rest) → IsFull (system g.table h.receiver words births) h.weighs lines net.limit (seen next)
+      (words : ℕ → ℕ → ℕ × ℕ) (births : List (Seat A)) (lines : List (Line O)) (rest : List (Task O)) → HasReached words births lines net ss score (before ++ rest) → IsFull (system g.table h.receiver words births) h.weighs lines net.limit (seen next)
 
   -- The shells of the same actors in the same order, of the same exchange, where nothing was split off or joined. The network's port has seen every row that a shell made, and each number's rows there are those that its port made.
   pub record IsKept (net : Port M O h) (ss : List (Shell A M O g h)) (next : Port M O h) (after : List (Shell A M O g h)) : Type 0 where
     pub stays : Stays net next
     pub exchange : AllOf next after
-    pub same : numbers after ≡ numbers ss
+    pub same : crew_numbers after ≡ crew_numbers ss
     pub over : AllOver next after
     pub rows : IsTrue next
 
@@ -103,7 +103,7 @@ module _ {A M O : Type 0} {g : Ghosts A M O} {h : MailGhosts M} where
     pub rows : IsTrue net
 
   -- how the exchange stands after a line of one row
-  abbrev pub StaysSo : Step → Port M O h → List (Shell A M O g h) → Port M O h → List (Shell A M O g h) → Type 0
+  abbrev pub StaysSo : LineResult → Port M O h → List (Shell A M O g h) → Port M O h → List (Shell A M O g h) → Type 0
   StaysSo Made net ss next after = IsOn net ss next after
   StaysSo Skipped net ss next after = IsOn net ss next after
   StaysSo Full net ss next after = IsKept net ss next after

@@ -12,7 +12,7 @@ use Rattle.sc_exchange.specs.declared.answers.Fetched.TheVariants.{Mail, Empty}
 use Rattle.sc_exchange.specs.declared.ports.Port.{Port}
 use Rattle.sc_exchange.specs.Ports.{seen}
 use Rattle.sc_shell.specs.declared.shells.Shell.{Shell}
-use Rattle.sc_workers.specs.Crews.{numbers}
+use Rattle.sc_workers.specs.Crews.{crew_numbers}
 use Rattle.sc_drive.specs.Numbers.{is_in}
 use Rattle.sc_drive.specs.Companies.{Company}
 use Rattle.sc_drive.specs.Stepping.{IsPlace}
@@ -41,13 +41,13 @@ module _ {A M O : Type 0} {g : Ghosts A M O} {h : MailGhosts M} where
   Rests net ss next after = (births : List (Seat A)) → Company births net ss → Company births next after × (seen next ≡ seen net)
 
   -- the place of the shell that gets what was fetched, if anything was
-  abbrev pub IsPlaced : List (Shell A M O g h) → Fetched M → Option ℕ → Type 0
-  IsPlaced ss (Empty told) None = ⊤
-  IsPlaced ss (Empty told) (Some place) = ⊥
-  IsPlaced ss (Mail number mail) None = ⊥
-  IsPlaced ss (Mail number mail) (Some place) = IsPlace ss (h.receiver mail) place
+  abbrev pub IsReceiverAt : List (Shell A M O g h) → Fetched M → Option ℕ → Type 0
+  IsReceiverAt ss (Empty told) None = ⊤
+  IsReceiverAt ss (Empty told) (Some place) = ⊥
+  IsReceiverAt ss (Mail number mail) None = ⊥
+  IsReceiverAt ss (Mail number mail) (Some place) = IsPlace ss (h.receiver mail) place
 
   -- of these copies, the place of the shell that gets the first that one gets
   abbrev pub IsFirstPlaced : List (Shell A M O g h) → List Spot → Option ℕ → Type 0
-  IsFirstPlaced ss spots None = find (λ spot. is_in spot.who (numbers ss)) spots ≡ None
-  IsFirstPlaced ss spots (Some place) = (spot : Spot) × (find (λ spot. is_in spot.who (numbers ss)) spots ≡ Some spot) × IsPlace ss spot.who place
+  IsFirstPlaced ss spots None = find (λ spot. is_in spot.who (crew_numbers ss)) spots ≡ None
+  IsFirstPlaced ss spots (Some place) = (spot : Spot) × (find (λ spot. is_in spot.who (crew_numbers ss)) spots ≡ Some spot) × IsPlace ss spot.who place

@@ -10,15 +10,15 @@ use Rattle.sc_actor.specs.System.{System, acts}
 use Rattle.sc_exchange.specs.declared.ports.Port.{Port}
 use Rattle.sc_exchange.specs.Ports.{seen}
 use Rattle.sc_shell.specs.declared.shells.Shell.{Shell}
-use Rattle.sc_drive.specs.declared.steps.Step.{Step}
-use Rattle.sc_drive.specs.declared.steps.Step.TheVariants.{Made, Skipped, Full}
-use Rattle.sc_workers.specs.Crews.{numbers}
+use Rattle.sc_drive.specs.declared.steps.LineResult.{LineResult}
+use Rattle.sc_drive.specs.declared.steps.LineResult.TheVariants.{Made, Skipped, Full}
+use Rattle.sc_workers.specs.Crews.{crew_numbers}
 use Rattle.sc_drive.specs.Numbers.{is_in}
 use Rattle.sc_drive.specs.Companies.{Company}
 
 module _ {A M O : Type 0} {g : Ghosts A M O} {h : MailGhosts M} where
   -- A row was made, and it is the one that may come; or none may come; or that row would pass the limit.
-  abbrev pub Stepped : System A M O → Option (Row M O) → Port M O h → Port M O h → List (Shell A M O g h) → Step → Type 0
+  abbrev pub Stepped : System A M O → Option (Row M O) → Port M O h → Port M O h → List (Shell A M O g h) → LineResult → Type 0
   Stepped s may net next after Made =
       Company s.births next after × ((row : Row M O) × (may ≡ Some row) × (seen next ≡ seen net ++ row ∷ [])) × (journal_bytes h.weighs (seen next) ≤ net.limit)
   Stepped s may net next after Skipped = Company s.births next after × (may ≡ None) × (seen next ≡ seen net)
@@ -31,7 +31,7 @@ module _ {A M O : Type 0} {g : Ghosts A M O} {h : MailGhosts M} where
 
   -- an actor that has no shell
   abbrev pub IsNowhere : List (Shell A M O g h) → ℕ → Type 0
-  IsNowhere ss who = is_in who (numbers ss) ≡ false
+  IsNowhere ss who = is_in who (crew_numbers ss) ≡ false
 
 -- the row of an actor's event, unless the actor has crashed
 abbrev pub unless_crashed : {A M O : Type 0} → System A M O → List (Row M O) → ℕ → Event O → Option (Row M O)

@@ -5,7 +5,7 @@ ghost use Rattle.sc_drive.specs.Stepping.{IsPlace, IsNowhere};
 ghost use Rattle.sc_drive.specs.Goings.{EventMade, LineMade, IsTogether, StaysSo};
 
 use crate::acts::{serve, tell};
-use crate::steps::Step;
+use crate::steps::LineResult;
 use sc_actor::{Actor, Event, Gate, Line};
 use sc_base::OutOfMemory;
 use sc_exchange::Port;
@@ -34,7 +34,7 @@ pub(crate) fn happen<A: Actor, R: Wait>(
     shells: &mut Vec<Shell<A>>,
     who: u32,
     event: Event<A::Order>,
-) -> Result<Step, OutOfMemory>
+) -> Result<LineResult, OutOfMemory>
     requires together { IsTogether net.old shells.old.items }
     requires event { MayHappen event }
     ensures on { IfOk result
@@ -43,12 +43,12 @@ pub(crate) fn happen<A: Actor, R: Wait>(
         (EventMade who event net.old shells.old.items net.new shells.new.items) }
 {
     let Some(place) = place_of(shells.as_slice(), who) else {
-        return Ok(Step::Skipped);
+        return Ok(LineResult::Skipped);
     };
     match tell(rt, alloc, net, shells, place, event)? {
-        Turn::Did { .. } => Ok(Step::Made),
-        Turn::Full { .. } => Ok(Step::Full),
-        Turn::Spent => Ok(Step::Skipped),
+        Turn::Did { .. } => Ok(LineResult::Made),
+        Turn::Full { .. } => Ok(LineResult::Full),
+        Turn::Spent => Ok(LineResult::Skipped),
         Turn::Empty { .. } => unreachable!(),
         Turn::OutOfMemory => Err(OutOfMemory),
     }
@@ -63,7 +63,7 @@ pub(crate) fn deliver<A: Actor, G: Gate, R: Wait>(
     who: u32,
     k: u32,
     gate: &G,
-) -> Result<Step, OutOfMemory>
+) -> Result<LineResult, OutOfMemory>
     requires together { IsTogether net.old shells.old.items }
     ensures on { IfOk result
         (λ step. StaysSo step net.old shells.old.items net.new shells.new.items) }
@@ -71,17 +71,17 @@ pub(crate) fn deliver<A: Actor, G: Gate, R: Wait>(
         (LineMade (Line.Deliver who k) net.old shells.old.items net.new shells.new.items) }
 {
     if k == 0 {
-        return Ok(Step::Skipped);
+        return Ok(LineResult::Skipped);
     }
     let Some(place) = place_of(shells.as_slice(), who) else {
-        return Ok(Step::Skipped);
+        return Ok(LineResult::Skipped);
     };
     let (turn, _) = serve(rt, alloc, net, shells, place, k, gate)?;
     match turn {
-        Turn::Did { .. } => Ok(Step::Made),
-        Turn::Full { .. } => Ok(Step::Full),
-        Turn::Empty { .. } => Ok(Step::Skipped),
-        Turn::Spent => Ok(Step::Skipped),
+        Turn::Did { .. } => Ok(LineResult::Made),
+        Turn::Full { .. } => Ok(LineResult::Full),
+        Turn::Empty { .. } => Ok(LineResult::Skipped),
+        Turn::Spent => Ok(LineResult::Skipped),
         Turn::OutOfMemory => Err(OutOfMemory),
     }
 }

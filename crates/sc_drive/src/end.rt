@@ -1,7 +1,7 @@
 //! The end of an exchange.
 ghost use Rattle.std.specs.Prelude.{◌≡◌, [], map, IfOk};
-ghost use Rattle.sc_exchange.specs.Ports.{seen, given, joined, HasJoined, SameExchange, IsTrue};
-ghost use Rattle.sc_workers.specs.Crews.{AllOf, AllOver, numbers};
+ghost use Rattle.sc_exchange.specs.Ports.{seen, given, joined_ports, HasJoined, SameExchange, IsTrue};
+ghost use Rattle.sc_workers.specs.Crews.{AllOf, AllOver, crew_numbers};
 ghost use Rattle.sc_shell.specs.Shells.{actor_of, port_of};
 
 use sc_actor::{Actor, Journal};
@@ -36,8 +36,8 @@ pub fn close<A: Actor, R: Wait>(
 ) -> Result<(Journal<A::Mail, A::Order>, Sequence<A>), OutOfMemory>
     requires net { net.who ≡ 0 }
     requires exchange { AllOf net shells.items }
-    requires all { given net ≡ numbers shells.items }
-    requires none { joined net ≡ [] }
+    requires all { given net ≡ crew_numbers shells.items }
+    requires none { joined_ports net ≡ [] }
     requires over { AllOver net shells.items }
     requires rows { IsTrue net }
     ensures journal { IfOk result (λ left. left.0 ≡ seen net) }

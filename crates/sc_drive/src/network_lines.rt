@@ -5,7 +5,7 @@ ghost use Rattle.sc_drive.specs.Changing.{Changes, ChangesAll};
 ghost use Rattle.sc_drive.specs.Goings.{LineMade, IsTogether, StaysSo};
 
 use crate::actor_lines::place_of;
-use crate::steps::Step;
+use crate::steps::LineResult;
 use sc_actor::{Actor, Line, Parcel};
 use sc_base::OutOfMemory;
 use sc_exchange::{Fate, Port, PostFault};
@@ -19,15 +19,15 @@ fn change_one<M: Parcel + Drop, O: Drop, R: Wait>(
     net: &mut Port<M, O>,
     number: u32,
     fate: Fate,
-) -> Result<Step, OutOfMemory>
+) -> Result<LineResult, OutOfMemory>
     requires { net.old.who ≡ 0 }
     ensures { IfOk result (Changes fate number net.old net.new) }
 {
     match net.change(rt, number, fate) {
-        Ok(true) => Ok(Step::Made),
-        Ok(false) => Ok(Step::Skipped),
+        Ok(true) => Ok(LineResult::Made),
+        Ok(false) => Ok(LineResult::Skipped),
         Err(unposted) => match unposted.why {
-            PostFault::JournalFull { .. } => Ok(Step::Full),
+            PostFault::JournalFull { .. } => Ok(LineResult::Full),
             PostFault::OutOfMemory => Err(OutOfMemory),
         },
     }
@@ -40,7 +40,7 @@ fn change<A: Actor, R: Wait>(
     shells: &mut Vec<Shell<A>>,
     number: u32,
     fate: Fate,
-) -> Result<Step, OutOfMemory>
+) -> Result<LineResult, OutOfMemory>
     requires crew { IsCrew net.old shells.old.items }
     ensures on { IfOk result
         (λ step. StaysSo step net.old shells.old.items net.new shells.new.items) }
@@ -59,7 +59,7 @@ pub(crate) fn lose<A: Actor, R: Wait>(
     shells: &mut Vec<Shell<A>>,
     who: u32,
     k: u32,
-) -> Result<Step, OutOfMemory>
+) -> Result<LineResult, OutOfMemory>
     requires together { IsTogether net.old shells.old.items }
     ensures on { IfOk result
         (λ step. StaysSo step net.old shells.old.items net.new shells.new.items) }
@@ -67,14 +67,14 @@ pub(crate) fn lose<A: Actor, R: Wait>(
         (LineMade (Line.Drop who k) net.old shells.old.items net.new shells.new.items) }
 {
     if k == 0 {
-        return Ok(Step::Skipped);
+        return Ok(LineResult::Skipped);
     }
     let Some(_) = place_of(shells.as_slice(), who) else {
-        return Ok(Step::Skipped);
+        return Ok(LineResult::Skipped);
     };
     let Some(number) = net.pending(rt, who, k) else {
         let _ = gather(rt, net, shells)?;
-        return Ok(Step::Skipped);
+        return Ok(LineResult::Skipped);
     };
     change(rt, net, shells, number, Fate::Lost)
 }
@@ -85,7 +85,7 @@ pub(crate) fn again<A: Actor, R: Wait>(
     net: &mut Port<A::Mail, A::Order>,
     shells: &mut Vec<Shell<A>>,
     number: u32,
-) -> Result<Step, OutOfMemory>
+) -> Result<LineResult, OutOfMemory>
     requires together { IsTogether net.old shells.old.items }
     ensures on { IfOk result
         (λ step. StaysSo step net.old shells.old.items net.new shells.new.items) }
@@ -94,11 +94,11 @@ pub(crate) fn again<A: Actor, R: Wait>(
 {
     let Some(who) = net.receiver(rt, number) else {
         let _ = gather(rt, net, shells)?;
-        return Ok(Step::Skipped);
+        return Ok(LineResult::Skipped);
     };
     let Some(_) = place_of(shells.as_slice(), who) else {
         let _ = gather(rt, net, shells)?;
-        return Ok(Step::Skipped);
+        return Ok(LineResult::Skipped);
     };
     change(rt, net, shells, number, Fate::Repeated)
 }

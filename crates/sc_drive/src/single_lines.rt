@@ -7,7 +7,7 @@ ghost use Rattle.sc_drive.specs.Goings.{Goes, Fills, GoMade, LineMade, IsCalm, I
 use crate::actor_lines::{deliver, happen, place_of};
 use crate::acts::tell;
 use crate::network_lines::{again, lose};
-use crate::steps::{Score, Step, Stop};
+use crate::steps::{LineResult, Score, Stop};
 use sc_actor::{Actor, Event, Gate, Line};
 use sc_base::{Dup, OutOfMemory};
 use sc_exchange::Port;
@@ -37,7 +37,7 @@ fn step_line<A: Actor, G: Gate, R: Wait>(
     shells: &mut Vec<Shell<A>>,
     line: &Line<A::Order>,
     gate: &G,
-) -> Result<Step, OutOfMemory>
+) -> Result<LineResult, OutOfMemory>
     requires together { IsTogether net.old shells.old.items }
     requires calm { IsCalm line.now }
     ensures on { IfOk result
@@ -84,9 +84,9 @@ pub(crate) fn run_once<A: Actor, G: Gate, R: Wait>(
         return Err(Stop::OutOfMemory);
     };
     match step {
-        Step::Made => Ok(()),
-        Step::Skipped => skip(score),
-        Step::Full => Err(Stop::Full),
+        LineResult::Made => Ok(()),
+        LineResult::Skipped => skip(score),
+        LineResult::Full => Err(Stop::Full),
     }
 }
 
@@ -104,7 +104,7 @@ fn go<A: Actor, R: Wait>(
     net: &mut Port<A::Mail, A::Order>,
     shells: &mut Vec<Shell<A>>,
     who: u32,
-) -> Result<Step, OutOfMemory>
+) -> Result<LineResult, OutOfMemory>
     requires together { IsTogether net.old shells.old.items }
     requires runs { MayGo who net.old shells.old.items }
     ensures on { IfOk result
@@ -112,11 +112,11 @@ fn go<A: Actor, R: Wait>(
     ensures made { IfOk result (GoMade who net.old shells.old.items net.new shells.new.items) }
 {
     let Some(place) = place_of(shells.as_slice(), who) else {
-        return Ok(Step::Skipped);
+        return Ok(LineResult::Skipped);
     };
     match tell(rt, alloc, net, shells, place, Event::Go)? {
-        Turn::Did { .. } => Ok(Step::Made),
-        Turn::Full { .. } => Ok(Step::Full),
+        Turn::Did { .. } => Ok(LineResult::Made),
+        Turn::Full { .. } => Ok(LineResult::Full),
         Turn::Empty { .. } => unreachable!(),
         Turn::Spent => unreachable!(),
         Turn::OutOfMemory => Err(OutOfMemory),
@@ -150,13 +150,13 @@ pub(crate) fn run_go<A: Actor, R: Wait>(
         return Err(Stop::OutOfMemory);
     };
     match step {
-        Step::Made => {
+        LineResult::Made => {
             let Ok(()) = score.gone.push(who) else {
                 return Err(Stop::OutOfMemory);
             };
             Ok(())
         }
-        Step::Skipped => skip(score),
-        Step::Full => Err(Stop::Full),
+        LineResult::Skipped => skip(score),
+        LineResult::Full => Err(Stop::Full),
     }
 }

@@ -1,6 +1,6 @@
 //! The beginning of an exchange.
 ghost use Rattle.std.specs.Prelude.{◌≡◌, ◌<◌, ◌≤◌, ◌^◌, [], true, All, Contains, IfOk};
-ghost use Rattle.sc_exchange.specs.Ports.{given, joined};
+ghost use Rattle.sc_exchange.specs.Ports.{given, joined_ports};
 ghost use Rattle.sc_drive.specs.Companies.{AtBirth};
 ghost use Rattle.sc_drive.specs.Ends.{Seated};
 ghost use Rattle.sc_actor.specs.System.{are_apart};
@@ -40,7 +40,7 @@ pub fn open<A: Actor>(
     requires far { are_apart seats.items ≡ true }
     requires numbered { All (λ seat. (0 < seat.who) × (seat.who ≤ actors)) seats.items }
     ensures births { IfOk result (λ begun. AtBirth seats.items begun.0 begun.1.items) }
-    ensures unjoined { IfOk result (λ begun. joined begun.0 ≡ []) }
+    ensures unjoined { IfOk result (λ begun. joined_ports begun.0 ≡ []) }
     ensures limit { IfOk result (λ begun. begun.0.limit ≡ limit) }
 {
     let mut net = Port::start(alloc, actors, limit)?;

@@ -2,7 +2,7 @@
 
 /// What a line of one row came to.
 #[derive(Clone, Copy, Debug, PartialEq, Eq)]
-pub enum Step {
+pub enum LineResult {
     /// Its row was made.
     Made,
     /// It makes no row.

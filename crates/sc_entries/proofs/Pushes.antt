@@ -1,13 +1,13 @@
 -- What more entries make of a world.
 use Rattle.std.proofs.Common.{◌≡◌, List, [], ◌∷◌, ◌++◌, refl}
 use Rattle.sc_entries.specs.declared.LogEntry.{LogEntry}
-use Rattle.sc_entries.specs.Worlds.{World, told, world_after}
+use Rattle.sc_entries.specs.Worlds.{StoreWorld, told, world_after}
 
 -- the world after more entries is made of the world before them
-pub world_append : (world : World) (entries more : List LogEntry) → world_after world (entries ++ more) ≡ world_after (world_after world entries) more
+pub world_append : (world : StoreWorld) (entries more : List LogEntry) → world_after world (entries ++ more) ≡ world_after (world_after world entries) more
 world_append world [] more = refl
 world_append world (entry ∷ entries) more = world_append (told world entry) entries more
 
 -- one entry more is told to the world after the others
-pub world_push : (world : World) (entries : List LogEntry) (entry : LogEntry) → world_after world (entries ++ entry ∷ []) ≡ told (world_after world entries) entry
+pub world_push : (world : StoreWorld) (entries : List LogEntry) (entry : LogEntry) → world_after world (entries ++ entry ∷ []) ≡ told (world_after world entries) entry
 world_push world entries entry = world_append world entries (entry ∷ [])

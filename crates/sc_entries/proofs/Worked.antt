@@ -11,7 +11,7 @@ use Rattle.sc_machine_table.specs.Group.{Group}
 use Rattle.sc_entries.specs.declared.LogEntry.{LogEntry}
 use Rattle.sc_entries.specs.Effective.{effective}
 use Rattle.sc_entries.specs.declared.Cut.{Cut}
-use Rattle.sc_entries.specs.Worlds.{World, told}
+use Rattle.sc_entries.specs.Worlds.{StoreWorld, told}
 
 -- a name
 abbrev pub draw : ℕ → ℕ → Draw
@@ -71,14 +71,14 @@ abbrev pub shape : List Cut → List Shown → Shape
 shape ring records = record { ring = ring; records = records }
 
 -- the effective records of the groups that have a cut
-abbrev pub records_of : World → List Cut → List Shown
+abbrev pub records_of : StoreWorld → List Cut → List Shown
 records_of world ring = map seen (flat_map (λ cut. option_to_list (effective world cut.group)) ring)
 
 -- the shape of a world
-abbrev pub shape_of : World → Shape
+abbrev pub shape_of : StoreWorld → Shape
 shape_of world = shape world.ring (records_of world world.ring)
 
 -- the shapes of a world before any entry and after each
-abbrev pub shapes : World → List LogEntry → List Shape
+abbrev pub shapes : StoreWorld → List LogEntry → List Shape
 shapes world [] = shape_of world ∷ []
 shapes world (entry ∷ entries) = shape_of world ∷ shapes (told world entry) entries

@@ -14,12 +14,12 @@ use Rattle.sc_cmd.specs.declared.votes.Outcome.TheVariants.{Moved}
 use Rattle.sc_cmd.specs.declared.votes.Vote.TheVariants.{Yes}
 use Rattle.sc_machine_table.specs.Group.{Group, group_of}
 use Rattle.sc_machine_table.specs.Machine.{applied}
-use Rattle.sc_machine_table.specs.Plans.{given, has_key_of, taking_group}
+use Rattle.sc_machine_table.specs.Plans.{part_gift, has_key_of, taking_group}
 use Rattle.sc_machine_table.specs.Transactions.{committed}
 use Rattle.sc_entries.specs.declared.Transaction.{Transaction}
 use Rattle.sc_entries.specs.Effective.{after_outcome}
 use Rattle.sc_entries.specs.declared.LogEntry.{LogEntry}
-use Rattle.sc_entries.specs.Worlds.{World, first_world, world_of, world_after, with_result}
+use Rattle.sc_entries.specs.Worlds.{StoreWorld, first_world, world_of, world_after, with_result}
 use Rattle.sc_entries.proofs.Nothing.{nothing_in, nothing_on}
 use Rattle.sc_entries.proofs.Worked.{draw, born, entry, cut, shown, seen, Shape, shape, shapes}
 
@@ -62,7 +62,7 @@ near_second = shape
 
 -- what the coordinator gives away
 abbrev near_gift : Gift
-near_gift = given (applied (group_of one) near_begins).0 1677721600
+near_gift = part_gift (applied (group_of one) near_begins).0 1677721600
 
 abbrev no_gift : Gift
 no_gift = record { pairs = []; clients = [] }
@@ -109,7 +109,7 @@ far_second = shape
     (shown (draw 0 1) 0 3000000000 (draw 0 2) (draw 0 2) ∷ shown (draw 0 2) 3000000000 1294967296 (draw 0 1) (draw 0 1) ∷ [])
 
 -- the world and the coordinator when it hears its participant, and what it takes
-abbrev far_world : World
+abbrev far_world : StoreWorld
 far_world = world_after (first_world pair) (far_begins ∷ far_promises ∷ [])
 
 abbrev far_group : Group

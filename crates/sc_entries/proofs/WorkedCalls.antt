@@ -12,9 +12,9 @@ use Rattle.sc_cmd.specs.declared.cores.Base.{Base}
 use Rattle.sc_cmd.specs.declared.effects.Effect.{Effect}
 use Rattle.sc_ideal.specs.declared.Entry.{Entry}
 use Rattle.sc_machine_table.specs.Group.{Group, group_of}
-use Rattle.sc_machine_table.specs.Machine.{applied, done, numbered}
+use Rattle.sc_machine_table.specs.Machine.{applied, done, served_by_note}
 use Rattle.sc_entries.specs.declared.LogEntry.{LogEntry}
-use Rattle.sc_entries.specs.Worlds.{World, first_world, world_of, world_after, with_result}
+use Rattle.sc_entries.specs.Worlds.{StoreWorld, first_world, world_of, world_after, with_result}
 use Rattle.sc_entries.proofs.Worked.{draw, born, entry}
 
 -- the first group has the key a, and the second the key m
@@ -61,10 +61,10 @@ abbrev start_two : Group
 start_two = group_of two
 
 -- the worlds after the first two calls
-abbrev second : World
+abbrev second : StoreWorld
 second = with_result (first_world pair) start_two (Call 1 1 put_m) (done start_two 1 1 put_m)
 
-abbrev third : World
+abbrev third : StoreWorld
 third = with_result second start_one (Call 2 1 put_a) (done start_one 2 1 put_a)
 
 -- the second group after its first call, and what it notes
@@ -76,13 +76,13 @@ note = record { seq = 1; reply = record { old = get start_two.pairs key_m } }
 
 -- each call is a new one
 first_is_new : applied start_two (Call 1 1 put_m) ≡ done start_two 1 1 put_m
-first_is_new = ap (λ (o : Option Noted). numbered o start_two 1 1 put_m) (get-empty nat_cmp 1)
+first_is_new = ap (λ (o : Option Noted). served_by_note o start_two 1 1 put_m) (get-empty nat_cmp 1)
 
 second_is_new : applied start_one (Call 2 1 put_a) ≡ done start_one 2 1 put_a
-second_is_new = ap (λ (o : Option Noted). numbered o start_one 2 1 put_a) (get-empty nat_cmp 2)
+second_is_new = ap (λ (o : Option Noted). served_by_note o start_one 2 1 put_a) (get-empty nat_cmp 2)
 
 third_is_new : applied next_two (Call 1 2 get_m) ≡ done next_two 1 2 get_m
-third_is_new = ap (λ (o : Option Noted). numbered o next_two 1 2 get_m) (get-insert nat_cmp_total start_two.clients 1 note 1)
+third_is_new = ap (λ (o : Option Noted). served_by_note o next_two 1 2 get_m) (get-insert nat_cmp_total start_two.clients 1 note 1)
 
 calls_are : (world_of pair calls).history ≡ told_as None None (Some (120 ∷ []))
 calls_are =

@@ -16,11 +16,11 @@ use Rattle.sc_cmd.specs.declared.effects.Effect.{Effect}
 use Rattle.sc_ideal.specs.IdealStore.{Contents, holds_key, part_of}
 use Rattle.sc_ideal.proofs.Apart.{get-part}
 use Rattle.sc_machine_table.specs.Group.{Group, group_of}
-use Rattle.sc_machine_table.specs.Machine.{applied, done, numbered}
+use Rattle.sc_machine_table.specs.Machine.{applied, done, served_by_note}
 use Rattle.sc_machine_table.proofs.Parts.{pairs_again}
 use Rattle.sc_entries.specs.declared.LogEntry.{LogEntry}
 use Rattle.sc_entries.specs.Effective.{effective}
-use Rattle.sc_entries.specs.Worlds.{World, first_world, world_of, world_after, with_result, told}
+use Rattle.sc_entries.specs.Worlds.{StoreWorld, first_world, world_of, world_after, with_result, told}
 use Rattle.sc_entries.proofs.Worked.{draw, born, entry}
 
 -- a group that has the whole ring puts x at a and y at m, and splits at m
@@ -46,7 +46,7 @@ abbrev entries : List LogEntry
 entries = entry (draw 0 1) 1 (Call 1 1 put_a) ∷ entry (draw 0 1) 2 (Call 1 2 put_m) ∷ splits ∷ []
 
 -- the value that a group has at a key, by its effective record
-abbrev found : World → Draw → List ℕ → Option (List ℕ)
+abbrev found : StoreWorld → Draw → List ℕ → Option (List ℕ)
 found world name key = option_and_then (λ group. get group.pairs key) (effective world name)
 
 -- the group before and after its first call, and what it notes
@@ -64,14 +64,14 @@ abbrev pairs : Contents
 pairs = (done next 1 2 put_m).0.pairs
 
 -- the world after both
-abbrev called : World
+abbrev called : StoreWorld
 called = with_result (with_result (first_world (lone ∷ [])) start (Call 1 1 put_a) (done start 1 1 put_a)) next (Call 1 2 put_m) (done next 1 2 put_m)
 
 first_is_new : applied start (Call 1 1 put_a) ≡ done start 1 1 put_a
-first_is_new = ap (λ (o : Option Noted). numbered o start 1 1 put_a) (get-empty nat_cmp 1)
+first_is_new = ap (λ (o : Option Noted). served_by_note o start 1 1 put_a) (get-empty nat_cmp 1)
 
 second_is_new : applied next (Call 1 2 put_m) ≡ done next 1 2 put_m
-second_is_new = ap (λ (o : Option Noted). numbered o next 1 2 put_m) (get-insert nat_cmp_total start.clients 1 note 1)
+second_is_new = ap (λ (o : Option Noted). served_by_note o next 1 2 put_m) (get-insert nat_cmp_total start.clients 1 note 1)
 
 world_is : world_of (lone ∷ []) entries ≡ told called splits
 world_is =

@@ -12,7 +12,7 @@ use Rattle.sc_machine_table.specs.Group.{Group}
 use Rattle.sc_machine_table.specs.Machine.{applied}
 use Rattle.sc_entries.specs.declared.Transaction.{Transaction}
 use Rattle.sc_entries.specs.Decisions.{decision}
-use Rattle.sc_entries.specs.Worlds.{World, named_group}
+use Rattle.sc_entries.specs.Worlds.{StoreWorld, named_group}
 
 -- whether an outcome is a commit: each but an abort
 abbrev pub is_commit : Outcome → Bool
@@ -35,7 +35,7 @@ effective_by (Promised tx offer) transactions group = after_outcome (decision tx
 effective_by (Watching tx watch) transactions group = after_outcome (decision tx transactions) tx group
 
 -- the effective record of a group in a world, if it was born: as its own log makes it and as what was decided elsewhere makes it
-abbrev pub effective : World → Draw → Option Group
+abbrev pub effective : StoreWorld → Draw → Option Group
 effective world name = option_map (λ group. effective_by group.core.lock world.transactions group) (named_group name world.groups)
 
 -- whether a group with this lock serves calls

@@ -18,7 +18,7 @@ use Rattle.sc_entries.specs.Decisions.{transactions_after}
 use Rattle.sc_entries.specs.Rings.{first_cut, ring_after}
 
 -- all groups, after some entries
-pub record World : Type 0 where
+pub record StoreWorld : Type 0 where
   -- each group that was born, as its own log makes it
   pub groups : List Group
   -- each transaction that was begun
@@ -29,7 +29,7 @@ pub record World : Type 0 where
   pub history : List Entry
 
 -- the groups of a scenario, before any entry
-abbrev pub first_world : List Base → World
+abbrev pub first_world : List Base → StoreWorld
 first_world bases = record { groups = map group_of bases; transactions = []; ring = map first_cut bases; history = [] }
 
 -- whether a group has this name
@@ -49,7 +49,7 @@ abbrev pub groups_after : Group → Group → Option Base → List Group → Lis
 groups_after group after child groups = with_group group.core.id after groups ++ map group_of (option_to_list child)
 
 -- the world after an entry of the log of a group, as it was before, from what the table makes of it
-abbrev pub with_result : World → Group → Command → Group × Effect → World
+abbrev pub with_result : StoreWorld → Group → Command → Group × Effect → StoreWorld
 with_result world group command result = record {
   groups = groups_after group result.0 (birth_of group command result.1) world.groups;
   transactions = transactions_after group.core command result.1 world.transactions;
@@ -58,18 +58,18 @@ with_result world group command result = record {
 }
 
 -- the world after a command of a group that was found; a group that was not born executes nothing
-abbrev pub after_command : World → Option Group → Command → World
+abbrev pub after_command : StoreWorld → Option Group → Command → StoreWorld
 after_command world None command = world
 after_command world (Some group) command = with_result world group command (applied group command)
 
 -- the world after one entry
-abbrev pub told : World → LogEntry → World
+abbrev pub told : StoreWorld → LogEntry → StoreWorld
 told world entry = after_command world (named_group entry.group world.groups) entry.command
 
 -- the world after the entries of all logs, in their order
-abbrev pub world_after : World → List LogEntry → World
+abbrev pub world_after : StoreWorld → List LogEntry → StoreWorld
 world_after = fold told
 
 -- what the entries make of the groups of a scenario
-abbrev pub world_of : List Base → List LogEntry → World
+abbrev pub world_of : List Base → List LogEntry → StoreWorld
 world_of bases = world_after (first_world bases)

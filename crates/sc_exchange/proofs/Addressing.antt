@@ -17,12 +17,12 @@ use Rattle.sc_actor.proofs.PendingLemmas.{pending_sound, get_left}
 use Rattle.sc_ledger.specs.Pending.{upto, whose, pending_of, kth_pending}
 use Rattle.sc_ledger.proofs.Kept.{copies-push}
 use Rattle.sc_turn.specs.declared.rule.View.{View}
-use Rattle.sc_exchange.specs.declared.deeds.Deed.{Deed}
+use Rattle.sc_exchange.specs.declared.shared.BareRow.{BareRow}
 use Rattle.sc_exchange.specs.declared.fates.Fate.{Fate}
 use Rattle.sc_exchange.specs.declared.fates.Fate.TheVariants.{Lost, Repeated}
-use Rattle.sc_exchange.specs.Deeds.{deeds, rows_of, rows_from}
+use Rattle.sc_exchange.specs.BareRows.{bare_rows, rows_of, rows_from}
 use Rattle.sc_exchange.specs.Turns.{change}
-use Rattle.sc_exchange.proofs.Done.{rows_of_deeds, begins_rows, quiet}
+use Rattle.sc_exchange.proofs.Done.{rows_of_bare, begins_rows, quiet}
 use Rattle.sc_exchange.specs.Addressed.{is_mail_to, is_addressed, all_addressed}
 
 -- a mail keeps its receiver
@@ -70,9 +70,9 @@ module _ {M O : Type 0} (receiver : M → ℕ) where
       ap (λ l. is_addressed receiver l who event) (ap mails later.1 ∙ mails-append first later.0) ∙ addressed_later who event (mails first) (mails later.0) e
 
   -- the same, of what a turn found
-  pub addressed_found : (who : ℕ) (event : Event O) (w : View (Deed M O)) (rows : List (Row M O)) → StartsWith (deeds rows) w.seen → is_addressed receiver (mails (rows_from w.seen)) who event ≡ true → is_addressed receiver (mails rows) who event ≡ true
+  pub addressed_found : (who : ℕ) (event : Event O) (w : View (BareRow M O)) (rows : List (Row M O)) → StartsWith (bare_rows rows) w.seen → is_addressed receiver (mails (rows_from w.seen)) who event ≡ true → is_addressed receiver (mails rows) who event ≡ true
   addressed_found who event w rows later e =
-      addressed_rows who event rows (rows_from w.seen) (subst (λ l. StartsWith l (rows_from w.seen)) (rows_of_deeds rows) (begins_rows (deeds rows) w.seen later)) e
+      addressed_rows who event rows (rows_from w.seen) (subst (λ l. StartsWith l (rows_from w.seen)) (rows_of_bare rows) (begins_rows (bare_rows rows) w.seen later)) e
 
   -- a row of the network may stand anywhere
   pub change_addressed : (fate : Fate) (number : ℕ) (sent : List M) (row : Row M O) → row ≡ change fate number → is_addressed receiver sent row.who row.event ≡ true

@@ -11,28 +11,28 @@ use Rattle.sc_actor.specs.declared.rows.Row.{Row}
 use Rattle.sc_actor.specs.Mail.{mails}
 use Rattle.sc_actor.specs.declared.rows.Event.{Event}
 use Rattle.sc_actor.specs.declared.rows.Event.TheVariants.{Deliver, Drop, Again, Tick, Go, Told, Crash}
-use Rattle.sc_exchange.specs.declared.deeds.Deed.{Deed}
+use Rattle.sc_exchange.specs.declared.shared.BareRow.{BareRow}
 use Rattle.sc_exchange.specs.declared.fates.Fate.{Fate}
 use Rattle.sc_exchange.specs.declared.answers.Fetched.{Fetched}
 use Rattle.sc_exchange.specs.declared.answers.Fetched.TheVariants.{Mail, Empty}
-use Rattle.sc_exchange.specs.Deeds.{deeds, row_by, rows_from}
+use Rattle.sc_exchange.specs.BareRows.{bare_rows, row_by, rows_from}
 use Rattle.sc_exchange.specs.Turns.{Turned, RowTurned, Changed, change}
-use Rattle.sc_exchange.specs.Answers.{IsFetch, number_of, number_in}
+use Rattle.sc_exchange.specs.Answers.{IsFetch, fetched_number, number_in}
 use Rattle.sc_exchange.specs.Ports.{MayPost}
 use Rattle.sc_exchange.specs.Fetches.{WasPending, HasFetched, delivered}
 use Rattle.sc_exchange.specs.Addressed.{is_addressed}
 use Rattle.sc_exchange.proofs.Addressing.{pending_to, addressed_rows}
 use Rattle.sc_exchange.proofs.Done.{rows_of_from, begins_rows}
-use Rattle.sc_exchange.proofs.Views.{own_same, own_turned, own_of, deed}
+use Rattle.sc_exchange.proofs.Views.{own_same, own_turned, own_of, bare}
 
-module _ {M O : Type 0} (w v : View (Deed M O)) where
+module _ {M O : Type 0} (w v : View (BareRow M O)) where
   -- what a turn has seen begins with what was seen before
   pub turned_later : Turned w v → StartsWith (rows_from v.seen) (rows_from w.seen)
-  turned_later t = begins_rows v.seen w.seen (subst (λ l. StartsWith l w.seen) (ap (λ (x : View (Deed M O)). x.seen) (sym t.view_is)) t.later)
+  turned_later t = begins_rows v.seen w.seen (subst (λ l. StartsWith l w.seen) (ap (λ (x : View (BareRow M O)). x.seen) (sym t.view_is)) t.later)
 
   row_later : (row : Row M O) → RowTurned w v row → StartsWith (rows_from v.seen) (rows_from w.seen)
   row_later row t =
-      begins_rows v.seen w.seen (subst (λ l. StartsWith l w.seen) (ap (λ (x : View (Deed M O)). x.seen) (sym t.view_is)) (starts_more (deeds t.rows) w.seen ((deed row, w.who) ∷ []) t.later))
+      begins_rows v.seen w.seen (subst (λ l. StartsWith l w.seen) (ap (λ (x : View (BareRow M O)). x.seen) (sym t.view_is)) (starts_more (bare_rows t.rows) w.seen ((bare row, w.who) ∷ []) t.later))
 
   -- so it does after a change of the network
   pub done_later : (F G : Type 0) (receiver : M → ℕ) (actors : ℕ) (fate : Fate) (number : ℕ) (done : Bool) → MatchBool done (Changed receiver actors fate number w v × F) (Turned w v × G) → StartsWith (rows_from v.seen) (rows_from w.seen)
@@ -49,7 +49,7 @@ module _ {M O : Type 0} (w v : View (Deed M O)) where
 
   -- so it has after a meeting
   pub own_met : (who : ℕ) → w.who ≡ who → v ≡ with_seen w v.seen → IsTrueOf v v.seen → length (rows_by who v.seen) ≡ length v.made
-  own_met who number is t = own_of v who (ap (λ (x : View (Deed M O)). x.who) is ∙ number) t.own
+  own_met who number is t = own_of v who (ap (λ (x : View (BareRow M O)). x.who) is ∙ number) t.own
 
 module _ {M O : Type 0} (receiver : M → ℕ) (actors who : ℕ) where
   asked_later : (fetched : Option ℕ) (made made' seen seen' : List (Row M O)) → StartsWith seen' seen → (who ≢ 0 → made' ≡ made) → HasFetched receiver actors who fetched made seen → HasFetched receiver actors who fetched made' seen'
@@ -62,26 +62,26 @@ module _ {M O : Type 0} (receiver : M → ℕ) (actors who : ℕ) where
     own = λ ne. h.own ne ∙ sym (same ne);
   }
 
-  abbrev made_by : View (Deed M O) → List (Row M O)
+  abbrev made_by : View (BareRow M O) → List (Row M O)
   made_by v = map (row_by who) v.made
 
   -- what was fetched is known after a turn without a row
-  pub asked_turned : (fetched : Option ℕ) (w v : View (Deed M O)) → Turned w v → HasFetched receiver actors who fetched (made_by w) (rows_from w.seen) → HasFetched receiver actors who fetched (made_by v) (rows_from v.seen)
+  pub asked_turned : (fetched : Option ℕ) (w v : View (BareRow M O)) → Turned w v → HasFetched receiver actors who fetched (made_by w) (rows_from w.seen) → HasFetched receiver actors who fetched (made_by v) (rows_from v.seen)
   asked_turned fetched w v t h =
       asked_later fetched (made_by w) (made_by v) (rows_from w.seen) (rows_from v.seen)
-      (begins_rows v.seen w.seen (subst (λ l. StartsWith l w.seen) (ap (λ (x : View (Deed M O)). x.seen) (sym t.view_is)) t.later))
+      (begins_rows v.seen w.seen (subst (λ l. StartsWith l w.seen) (ap (λ (x : View (BareRow M O)). x.seen) (sym t.view_is)) t.later))
       (λ ne. ap made_by t.view_is) h
 
   -- and where more was seen without one
-  pub asked_same : (fetched : Option ℕ) (w v : View (Deed M O)) → StartsWith v.seen w.seen → v.made ≡ w.made → HasFetched receiver actors who fetched (made_by w) (rows_from w.seen) → HasFetched receiver actors who fetched (made_by v) (rows_from v.seen)
+  pub asked_same : (fetched : Option ℕ) (w v : View (BareRow M O)) → StartsWith v.seen w.seen → v.made ≡ w.made → HasFetched receiver actors who fetched (made_by w) (rows_from w.seen) → HasFetched receiver actors who fetched (made_by v) (rows_from v.seen)
   asked_same fetched w v later same h =
       asked_later fetched (made_by w) (made_by v) (rows_from w.seen) (rows_from v.seen) (begins_rows v.seen w.seen later) (λ ne. ap (map (row_by who)) same) h
 
   -- the network's own rows do not count
-  pub asked_net : (fetched : Option ℕ) (w v : View (Deed M O)) → who ≡ 0 → StartsWith (rows_from v.seen) (rows_from w.seen) → HasFetched receiver actors who fetched (made_by w) (rows_from w.seen) → HasFetched receiver actors who fetched (made_by v) (rows_from v.seen)
+  pub asked_net : (fetched : Option ℕ) (w v : View (BareRow M O)) → who ≡ 0 → StartsWith (rows_from v.seen) (rows_from w.seen) → HasFetched receiver actors who fetched (made_by w) (rows_from w.seen) → HasFetched receiver actors who fetched (made_by v) (rows_from v.seen)
   asked_net fetched w v net later h = asked_later fetched (made_by w) (made_by v) (rows_from w.seen) (rows_from v.seen) later (λ ne. absurd (ne net)) h
 
-  asked_now : (w v : View (Deed M O)) (k : ℕ) (found : Fetched M) → v.who ≡ who → Turned w v → IsFetch receiver actors (rows_from v.seen) who k found → HasFetched receiver actors who (number_of found) (made_by v) (rows_from v.seen)
+  asked_now : (w v : View (BareRow M O)) (k : ℕ) (found : Fetched M) → v.who ≡ who → Turned w v → IsFetch receiver actors (rows_from v.seen) who k found → HasFetched receiver actors who (fetched_number found) (made_by v) (rows_from v.seen)
   asked_now w v k (Empty seen) number t f = tt
   asked_now w v k (Mail number mail) is t f = record {
     rows = rows_from v.seen;
@@ -91,12 +91,12 @@ module _ {M O : Type 0} (receiver : M → ℕ) (actors who : ℕ) where
     own = λ ne. rows_of_from who v.seen ∙ ap (map (row_by who)) (ap (λ n. rows_by n v.seen) (sym is) ∙ own_same w v t);
   }
 
-  asked_in : (w v : View (Deed M O)) (k : ℕ) (found : Result (Fetched M) OutOfMemory) → v.who ≡ who → Turned w v → IfOk found (IsFetch receiver actors (rows_from v.seen) who k) → HasFetched receiver actors who (number_in found) (made_by v) (rows_from v.seen)
+  asked_in : (w v : View (BareRow M O)) (k : ℕ) (found : Result (Fetched M) OutOfMemory) → v.who ≡ who → Turned w v → IfOk found (IsFetch receiver actors (rows_from v.seen) who k) → HasFetched receiver actors who (number_in found) (made_by v) (rows_from v.seen)
   asked_in w v k (Ok found) number t fetch = asked_now w v k found number t fetch
   asked_in w v k (Err error) number t fetch = tt
 
   -- what a fetch has found is known
-  pub asked_found : (f : Option ℕ) (w v : View (Deed M O)) (k : ℕ) (found : Result (Fetched M) OutOfMemory) → f ≡ number_in found → v.who ≡ who → Turned w v → IfOk found (IsFetch receiver actors (rows_from v.seen) who k) → HasFetched receiver actors who f (made_by v) (rows_from v.seen)
+  pub asked_found : (f : Option ℕ) (w v : View (BareRow M O)) (k : ℕ) (found : Result (Fetched M) OutOfMemory) → f ≡ number_in found → v.who ≡ who → Turned w v → IfOk found (IsFetch receiver actors (rows_from v.seen) who k) → HasFetched receiver actors who f (made_by v) (rows_from v.seen)
   asked_found f w v k found is number t fetch = subst (λ (x : Option ℕ). HasFetched receiver actors who x (made_by v) (rows_from v.seen)) (sym is) (asked_in w v k found number t fetch)
 
   -- a delivery that may be posted is of what was fetched

@@ -2,7 +2,7 @@
 use Rattle.std.proofs.Common.{◌≡◌, ◌≢◌, ℕ, ◌<◌, ◌≤◌, zero, suc, Bool, true, false, List, [], ◌∷◌, ◌++◌, map, length, get_or, eqb, cond, length-append, refl, sym, ap, ◌∙◌, subst, arith, Contains, MatchBool}
 use Rattle.std.proofs.lemmas.List.{map-append, length-map, append-nil}
 use Rattle.sc_turn.specs.declared.rule.View.{View}
-use Rattle.sc_turn.specs.Turn.{StartsWith, rows_by, joined_with, with_seen, entered, IsTrueOf, IsTrueOver}
+use Rattle.sc_turn.specs.Turn.{StartsWith, rows_by, merged_seen, with_seen, entered_with, IsTrueOf, IsTrueOver}
 use Rattle.sc_turn.specs.Seats.{known, OfOneStart}
 use Rattle.sc_turn.proofs.Lists.{starts_trans}
 use Rattle.sc_actor.specs.declared.rows.Row.{Row}
@@ -10,32 +10,32 @@ use Rattle.sc_actor.specs.declared.actors.Parcel.{Ghosts}
 use Rattle.sc_actor.specs.Counted.{row_bytes, journal_bytes}
 use Rattle.sc_ledger.specs.declared.faults.PostFault.{PostFault}
 use Rattle.sc_ledger.specs.Fault.{IsCause}
-use Rattle.sc_exchange.specs.declared.deeds.Deed.{Deed}
+use Rattle.sc_exchange.specs.declared.shared.BareRow.{BareRow}
 use Rattle.sc_exchange.specs.declared.fates.Fate.{Fate}
 use Rattle.sc_exchange.specs.declared.ports.Port.{Port}
-use Rattle.sc_exchange.specs.Deeds.{deeds, row_by, rows_from, rows_of}
+use Rattle.sc_exchange.specs.BareRows.{bare_rows, row_by, rows_from, rows_of}
 use Rattle.sc_exchange.specs.Turns.{Turned, RowTurned, Changed, may_change, change}
-use Rattle.sc_exchange.specs.Ports.{seen, made, joined, Stays, Looked, Appended, ChangedBy, MayNotChange, IsTrue}
-use Rattle.sc_exchange.proofs.Done.{rows_of_deeds, rows_of_from, rows_of-append, begins_rows}
-use Rattle.sc_exchange.proofs.Views.{deed, row_back, seen_row, own_same, own_row, others_same, others_row}
+use Rattle.sc_exchange.specs.Ports.{seen, made, joined_ports, Stays, Looked, Appended, ChangedBy, MayNotChange, IsTrue}
+use Rattle.sc_exchange.proofs.Done.{rows_of_bare, rows_of_from, rows_of-append, begins_rows}
+use Rattle.sc_exchange.proofs.Views.{bare, row_back, seen_row, own_same, own_row, others_same, others_row}
 
 module _ {M O : Type 0} {g : Ghosts M} where
   -- a turn without a row
   pub looked_after : (p q : Port M O g) → OfOneStart p.seat q.seat → q.who ≡ p.who → q.actors ≡ p.actors → q.limit ≡ p.limit → Turned (known p.seat) (known q.seat) → Looked p q
   looked_after p q start who actors limit t = let v = t.view_is in record {
-    stays = record { exchange = (start, actors, limit); who = who; given = ap (λ (x : View (Deed M O)). x.given) v; joined = ap (λ (x : View (Deed M O)). map (λ k. (k.0, map (row_by k.0) k.1)) x.joined) v };
-    later = begins_rows (known q.seat).seen (known p.seat).seen (subst (λ l. StartsWith l (known p.seat).seen) (ap (λ (x : View (Deed M O)). x.seen) (sym v)) t.later);
+    stays = record { exchange = (start, actors, limit); who = who; given = ap (λ (x : View (BareRow M O)). x.given) v; joined = ap (λ (x : View (BareRow M O)). map (λ k. (k.0, map (row_by k.0) k.1)) x.joined) v };
+    later = begins_rows (known q.seat).seen (known p.seat).seen (subst (λ l. StartsWith l (known p.seat).seen) (ap (λ (x : View (BareRow M O)). x.seen) (sym v)) t.later);
     made = λ i. map (row_by (who i)) (v i).made;
   }
 
   -- a turn with a row or without
   pub stays_after : (p q : Port M O g) → OfOneStart p.seat q.seat → q.who ≡ p.who → q.actors ≡ p.actors → q.limit ≡ p.limit → ((known q.seat).given ≡ (known p.seat).given) × ((known q.seat).joined ≡ (known p.seat).joined) → Stays p q
-  stays_after p q start who actors limit k = record { exchange = (start, actors, limit); who = who; given = k.0; joined = ap (map (λ (x : ℕ × List (Deed M O)). (x.0, map (row_by x.0) x.1))) k.1 }
+  stays_after p q start who actors limit k = record { exchange = (start, actors, limit); who = who; given = k.0; joined = ap (map (λ (x : ℕ × List (BareRow M O)). (x.0, map (row_by x.0) x.1))) k.1 }
 
   -- a meeting
   pub looked_met : (p q : Port M O g) → OfOneStart p.seat q.seat → q.who ≡ p.who → q.actors ≡ p.actors → q.limit ≡ p.limit → known q.seat ≡ with_seen (known p.seat) (known q.seat).seen → StartsWith (known q.seat).seen (known p.seat).seen → Looked p q
   looked_met p q start who actors limit v later = record {
-    stays = record { exchange = (start, actors, limit); who = who; given = ap (λ (x : View (Deed M O)). x.given) v; joined = ap (λ (x : View (Deed M O)). map (λ k. (k.0, map (row_by k.0) k.1)) x.joined) v };
+    stays = record { exchange = (start, actors, limit); who = who; given = ap (λ (x : View (BareRow M O)). x.given) v; joined = ap (λ (x : View (BareRow M O)). map (λ k. (k.0, map (row_by k.0) k.1)) x.joined) v };
     later = begins_rows (known q.seat).seen (known p.seat).seen later;
     made = λ i. map (row_by (who i)) (v i).made;
   }
@@ -43,11 +43,11 @@ module _ {M O : Type 0} {g : Ghosts M} where
   -- a turn with a row
   abbrev pub appended_after : (p q : Port M O g) (row : Row M O) → OfOneStart p.seat q.seat → q.who ≡ p.who → q.actors ≡ p.actors → q.limit ≡ p.limit → row.who ≡ p.who → RowTurned (known p.seat) (known q.seat) row → Appended p q row
   appended_after p q row start who actors limit mine t = let v = t.view_is in record {
-    stays = record { exchange = (start, actors, limit); who = who; given = ap (λ (x : View (Deed M O)). x.given) v; joined = ap (λ (x : View (Deed M O)). map (λ k. (k.0, map (row_by k.0) k.1)) x.joined) v };
+    stays = record { exchange = (start, actors, limit); who = who; given = ap (λ (x : View (BareRow M O)). x.given) v; joined = ap (λ (x : View (BareRow M O)). map (λ k. (k.0, map (row_by k.0) k.1)) x.joined) v };
     before = t.rows;
-    later = subst (λ l. StartsWith l (seen p)) (rows_of_deeds t.rows) (begins_rows (deeds t.rows) (known p.seat).seen t.later);
-    seen = seen_row (known p.seat) (entered (known p.seat) (deeds t.rows)) (known q.seat) t.rows row (mine ∙ sym p.number) refl v;
-    made = (λ i. map (row_by (who i)) (v i).made) ∙ (map-append (row_by p.who) (known p.seat).made (deed row ∷ []) ∙ ap (λ r. made p ++ r ∷ []) (row_back row p.who mine));
+    later = subst (λ l. StartsWith l (seen p)) (rows_of_bare t.rows) (begins_rows (bare_rows t.rows) (known p.seat).seen t.later);
+    seen = seen_row (known p.seat) (entered_with (known p.seat) (bare_rows t.rows)) (known q.seat) t.rows row (mine ∙ sym p.number) refl v;
+    made = (λ i. map (row_by (who i)) (v i).made) ∙ (map-append (row_by p.who) (known p.seat).made (bare row ∷ []) ∙ ap (λ r. made p ++ r ∷ []) (row_back row p.who mine));
   }
 
   -- a port that has seen just what it made, as its seat knows it
@@ -90,45 +90,45 @@ module _ {M O : Type 0} {g : Ghosts M} where
   change_true F G fate number p q false m = true_after p q m.0
 
 -- what a port knows that took in another
-pub joins : {M O : Type 0} {g : Ghosts M} → (p other : Port M O g) (v : View (Deed M O)) → v ≡ joined_with (known p.seat) (known other.seat) →
-    map (λ (k : ℕ × List (Deed M O)). (k.0, map (row_by k.0) k.1)) v.joined ≡ joined p ++ (other.who, made other) ∷ []
+pub joins : {M O : Type 0} {g : Ghosts M} → (p other : Port M O g) (v : View (BareRow M O)) → v ≡ merged_seen (known p.seat) (known other.seat) →
+    map (λ (k : ℕ × List (BareRow M O)). (k.0, map (row_by k.0) k.1)) v.joined ≡ joined_ports p ++ (other.who, made other) ∷ []
 joins {M} {O} p other v is =
-    let rows : ℕ × List (Deed M O) → ℕ × List (Row M O) = λ k. (k.0, map (row_by k.0) k.1) in
-    ap (λ (x : View (Deed M O)). map rows x.joined) is
+    let rows : ℕ × List (BareRow M O) → ℕ × List (Row M O) = λ k. (k.0, map (row_by k.0) k.1) in
+    ap (λ (x : View (BareRow M O)). map rows x.joined) is
     ∙ (map-append rows (known p.seat).joined (((known other.seat).who, (known other.seat).made) ∷ [])
-    ∙ (λ i. joined p ++ (other.number i, map (row_by (other.number i)) (known other.seat).made) ∷ []))
+    ∙ (λ i. joined_ports p ++ (other.number i, map (row_by (other.number i)) (known other.seat).made) ∷ []))
 
 -- the cause of the row that is handed back
 pub cause_back : (why other : PostFault) (bytes weight again limit : ℕ) → other ≡ why → again ≡ weight → IsCause why bytes weight limit → IsCause other bytes again limit
 cause_back why other bytes weight again limit same weighs cause = subst (λ n. IsCause other bytes n limit) (sym weighs) (subst (λ x. IsCause x bytes weight limit) (sym same) cause)
 
 -- at the end
-module _ {M O : Type 0} (journal : List (Row M O)) (v : View (Deed M O)) (facts : IsTrueOf v (deeds journal)) (first : v.who ≡ 0) where
-  rows_are : (n : ℕ) → rows_of n journal ≡ map (row_by n) (rows_by n (deeds journal))
-  rows_are n = ap (rows_of n) (sym (rows_of_deeds journal)) ∙ rows_of_from n (deeds journal)
+module _ {M O : Type 0} (journal : List (Row M O)) (v : View (BareRow M O)) (facts : IsTrueOf v (bare_rows journal)) (first : v.who ≡ 0) where
+  rows_are : (n : ℕ) → rows_of n journal ≡ map (row_by n) (rows_by n (bare_rows journal))
+  rows_are n = ap (rows_of n) (sym (rows_of_bare journal)) ∙ rows_of_from n (bare_rows journal)
 
   -- the network has made its rows
   pub end_own : rows_of 0 journal ≡ map (row_by 0) v.made
-  end_own = rows_are 0 ∙ ap (map (row_by 0)) (ap (λ n. rows_by n (deeds journal)) (sym first) ∙ facts.own)
+  end_own = rows_are 0 ∙ ap (map (row_by 0)) (ap (λ n. rows_by n (bare_rows journal)) (sym first) ∙ facts.own)
 
   -- no other actor has a row than those that were split off
   pub end_others : (n : ℕ) → n ≢ 0 → ¬ Contains v.given n → rows_of n journal ≡ []
   end_others n ne away = rows_are n ∙ ap (map (row_by n)) (facts.others first n ne away)
 
-  each_map : (xs : List (ℕ × List (Deed M O))) → ((k : ℕ × List (Deed M O)) → Contains xs k → rows_of k.0 journal ≡ map (row_by k.0) k.1) → (i : ℕ) (k : ℕ × List (Row M O)) → i < length xs →
-      get_or (map (λ (x : ℕ × List (Deed M O)). (x.0, map (row_by x.0) x.1)) xs) i k ≡ k → rows_of k.0 journal ≡ k.1
+  each_map : (xs : List (ℕ × List (BareRow M O))) → ((k : ℕ × List (BareRow M O)) → Contains xs k → rows_of k.0 journal ≡ map (row_by k.0) k.1) → (i : ℕ) (k : ℕ × List (Row M O)) → i < length xs →
+      get_or (map (λ (x : ℕ × List (BareRow M O)). (x.0, map (row_by x.0) x.1)) xs) i k ≡ k → rows_of k.0 journal ≡ k.1
   each_map [] h i k lt e = absurd (omega arith)
   each_map (x ∷ xs) h zero k lt e = subst (λ (y : ℕ × List (Row M O)). rows_of y.0 journal ≡ y.1) e (h x (0, omega arith, refl))
   each_map (x ∷ xs) h (suc i) k lt e = each_map xs (λ y c. h y (suc c.0, omega (arith, c.1), c.2)) i k (omega arith) e
 
   -- each port that was joined has made the rows of its number
-  pub end_each : (k : ℕ × List (Row M O)) → Contains (map (λ (x : ℕ × List (Deed M O)). (x.0, map (row_by x.0) x.1)) v.joined) k → rows_of k.0 journal ≡ k.1
+  pub end_each : (k : ℕ × List (Row M O)) → Contains (map (λ (x : ℕ × List (BareRow M O)). (x.0, map (row_by x.0) x.1)) v.joined) k → rows_of k.0 journal ≡ k.1
   end_each k c =
-      let f : ℕ × List (Deed M O) → ℕ × List (Row M O) = λ x. (x.0, map (row_by x.0) x.1) in
+      let f : ℕ × List (BareRow M O) → ℕ × List (Row M O) = λ x. (x.0, map (row_by x.0) x.1) in
       each_map v.joined (λ y there. rows_are y.0 ∙ ap (map (row_by y.0)) (facts.joined first y there)) c.0 k (omega (arith, c.1, length-map v.joined f)) c.2
 
--- the numbers of the ports that were joined, with rows or with deeds
-pub numbers_same : {M O : Type 0} → (xs : List (ℕ × List (Deed M O))) → map (λ (k : ℕ × List (Row M O)). k.0) (map (λ (x : ℕ × List (Deed M O)). (x.0, map (row_by x.0) x.1)) xs) ≡ map (λ (k : ℕ × List (Deed M O)). k.0) xs
+-- the numbers of the ports that were joined, with rows or with bare rows
+pub numbers_same : {M O : Type 0} → (xs : List (ℕ × List (BareRow M O))) → map (λ (k : ℕ × List (Row M O)). k.0) (map (λ (x : ℕ × List (BareRow M O)). (x.0, map (row_by x.0) x.1)) xs) ≡ map (λ (k : ℕ × List (BareRow M O)). k.0) xs
 numbers_same [] = refl
 numbers_same (x ∷ xs) = ap (λ l. x.0 ∷ l) (numbers_same xs)
 
@@ -152,18 +152,18 @@ module _ {M O : Type 0} {g : Ghosts M} where
       ∙ (length-map (rows_by p.who (known p.seat).seen) (row_by p.who) ∙ (p.own ∙ sym (length-map (known p.seat).made (row_by p.who))))
 
   -- the rows of a port's number in what another has seen are those that it made
-  pub vouched : (p : Port M O g) (v : View (Deed M O)) (other before : List (Deed M O × ℕ)) → v ≡ known p.seat → other ≡ before → IsTrueOver v other → StartsWith (rows_from before) (seen p) → rows_of p.who (rows_from other) ≡ map (row_by p.who) v.made
+  pub vouched : (p : Port M O g) (v : View (BareRow M O)) (other before : List (BareRow M O × ℕ)) → v ≡ known p.seat → other ≡ before → IsTrueOver v other → StartsWith (rows_from before) (seen p) → rows_of p.who (rows_from other) ≡ map (row_by p.who) v.made
   vouched p v other before same is t later =
-      let mine : v.who ≡ p.who = ap (λ (x : View (Deed M O)). x.who) same ∙ p.number in
-      let count : length (rows_of p.who (seen p)) ≡ length (map (row_by p.who) v.made) = own_length p ∙ ap (λ (x : View (Deed M O)). length (map (row_by p.who) x.made)) (sym same) in
+      let mine : v.who ≡ p.who = ap (λ (x : View (BareRow M O)). x.who) same ∙ p.number in
+      let count : length (rows_of p.who (seen p)) ≡ length (map (row_by p.who) v.made) = own_length p ∙ ap (λ (x : View (BareRow M O)). length (map (row_by p.who) x.made)) (sym same) in
       between p.who (seen p) (rows_from other) (rows_from t.list) (map (row_by p.who) v.made) (subst (λ l. StartsWith (rows_from l) (seen p)) (sym is) later) (begins_rows t.list other t.over)
       (rows_of_from p.who t.list ∙ ap (map (row_by p.who)) (ap (λ n. rows_by n t.list) (sym mine) ∙ t.facts.own)) count
 
   -- a port that has seen nothing more
   pub looked_seen : (p q : Port M O g) → OfOneStart p.seat q.seat → q.who ≡ p.who → q.actors ≡ p.actors → q.limit ≡ p.limit → known q.seat ≡ known p.seat → Looked p q
   looked_seen p q start who actors limit v = record {
-    stays = record { exchange = (start, actors, limit); who = who; given = ap (λ (x : View (Deed M O)). x.given) v; joined = ap (λ (x : View (Deed M O)). map (λ k. (k.0, map (row_by k.0) k.1)) x.joined) v };
-    later = ([], ap (λ (x : View (Deed M O)). rows_from x.seen) v ∙ sym (append-nil (seen p)));
+    stays = record { exchange = (start, actors, limit); who = who; given = ap (λ (x : View (BareRow M O)). x.given) v; joined = ap (λ (x : View (BareRow M O)). map (λ k. (k.0, map (row_by k.0) k.1)) x.joined) v };
+    later = ([], ap (λ (x : View (BareRow M O)). rows_from x.seen) v ∙ sym (append-nil (seen p)));
     made = λ i. map (row_by (who i)) (v i).made;
   }
 

@@ -2,19 +2,19 @@
 use Rattle.std.proofs.Common.{◌≡◌, true, false, List, [], ap, ◌∙◌}
 use Rattle.sc_turn.specs.declared.seat.TurnSeat.{TurnSeat}
 use Rattle.sc_turn.specs.Seats.{known, OfOneStart}
-use Rattle.sc_turn.specs.Turn.{StartsWith, IsTrueOf, entered, with_turn}
+use Rattle.sc_turn.specs.Turn.{StartsWith, IsTrueOf, entered_with, with_turn}
 use Rattle.sc_actor.specs.declared.rows.Row.{Row}
 use Rattle.sc_actor.specs.declared.actors.Parcel.{Ghosts}
-use Rattle.sc_exchange.specs.declared.deeds.Deed.{Deed}
-use Rattle.sc_exchange.specs.declared.deeds.Exchange.{Exchange}
+use Rattle.sc_exchange.specs.declared.shared.BareRow.{BareRow}
+use Rattle.sc_exchange.specs.declared.shared.Exchange.{Exchange}
 use Rattle.sc_exchange.specs.Addressed.{all_addressed}
-use Rattle.sc_exchange.specs.Deeds.{deeds, rows_from}
+use Rattle.sc_exchange.specs.BareRows.{bare_rows, rows_from}
 use Rattle.sc_exchange.specs.Turns.{RowTurned, SeatLooked, SeatTurned}
 use Rattle.sc_exchange.proofs.Views.{seen_same, turned_same, own_turned, own_row_turned, kept_turned, kept_row_turned}
 
 module _ {M O : Type 0} {g : Ghosts M} where
   -- the turn was taken, these rows were found, and it was left with them
-  pub seat_looked : (s m t : TurnSeat (Exchange M O g) (Deed M O)) (rows : List (Row M O)) → OfOneStart s m → OfOneStart m t → known m ≡ entered (known s) (deeds rows) → StartsWith (deeds rows) (known s).seen → IsTrueOf (known s) (deeds rows) →
+  pub seat_looked : (s m t : TurnSeat (Exchange M O g) (BareRow M O)) (rows : List (Row M O)) → OfOneStart s m → OfOneStart m t → known m ≡ entered_with (known s) (bare_rows rows) → StartsWith (bare_rows rows) (known s).seen → IsTrueOf (known s) (bare_rows rows) →
       known t ≡ with_turn (known m) false → all_addressed g.receiver [] rows ≡ true → SeatLooked s t
   seat_looked s m t rows a b view later facts left addressed = record {
     start = b ∙ a;
@@ -23,7 +23,7 @@ module _ {M O : Type 0} {g : Ghosts M} where
   }
 
   -- a turn without a row
-  pub seat_same : (s t : TurnSeat (Exchange M O g) (Deed M O)) → SeatLooked s t → SeatTurned s t
+  pub seat_same : (s t : TurnSeat (Exchange M O g) (BareRow M O)) → SeatLooked s t → SeatTurned s t
   seat_same s t l = let kept = kept_turned (known s) (known t) l.turned in record {
     start = l.start;
     addressed = l.addressed;
@@ -33,7 +33,7 @@ module _ {M O : Type 0} {g : Ghosts M} where
   }
 
   -- a turn with a row
-  pub seat_row : (s t : TurnSeat (Exchange M O g) (Deed M O)) (row : Row M O) → OfOneStart s t → all_addressed g.receiver [] (rows_from (known t).seen) ≡ true → RowTurned (known s) (known t) row → SeatTurned s t
+  pub seat_row : (s t : TurnSeat (Exchange M O g) (BareRow M O)) (row : Row M O) → OfOneStart s t → all_addressed g.receiver [] (rows_from (known t).seen) ≡ true → RowTurned (known s) (known t) row → SeatTurned s t
   seat_row s t row start addressed turned = let kept = kept_row_turned (known s) (known t) row turned in record {
     start = start;
     addressed = addressed;

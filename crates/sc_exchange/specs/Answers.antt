@@ -23,11 +23,11 @@ module _ {M O : Type 0} where
     pub each : All (λ (spot : Spot). kth_pending receiver actors rows spot.who spot.k ≡ Some spot.number) look.pending
 
 -- the number that was fetched, if any was
-abbrev pub number_of : {M : Type 0} → Fetched M → Option ℕ
-number_of (Mail number mail) = Some number
-number_of (Empty seen) = None
+abbrev pub fetched_number : {M : Type 0} → Fetched M → Option ℕ
+fetched_number (Mail number mail) = Some number
+fetched_number (Empty seen) = None
 
 -- the same of an answer, which may be a want of memory
 abbrev pub number_in : {M : Type 0} → Result (Fetched M) OutOfMemory → Option ℕ
-number_in (Ok found) = number_of found
+number_in (Ok found) = fetched_number found
 number_in (Err error) = None

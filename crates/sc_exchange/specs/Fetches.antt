@@ -5,7 +5,7 @@ use Rattle.sc_actor.specs.declared.rows.Row.{Row}
 use Rattle.sc_actor.specs.declared.rows.Event.{Event}
 use Rattle.sc_actor.specs.declared.rows.Event.TheVariants.{Deliver, Drop, Again, Tick, Go, Told, Crash}
 use Rattle.sc_ledger.specs.Pending.{kth_pending}
-use Rattle.sc_exchange.specs.Deeds.{rows_of}
+use Rattle.sc_exchange.specs.BareRows.{rows_of}
 
 module _ {M O : Type 0} where
   -- Among the rows that were seen there are first ones after which the mail was pending for this actor. If it is an actor, it has made no row since.

@@ -1,4 +1,4 @@
-pub mod Deeds
+pub mod BareRows
 pub mod Addressed
 pub mod Answers
 pub mod Fetches

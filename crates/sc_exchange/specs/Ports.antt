@@ -12,7 +12,7 @@ use Rattle.sc_ledger.specs.Fault.{IsCause}
 use Rattle.sc_exchange.specs.declared.answers.Unposted.{Unposted}
 use Rattle.sc_exchange.specs.declared.fates.Fate.{Fate}
 use Rattle.sc_exchange.specs.declared.ports.Port.{Port}
-use Rattle.sc_exchange.specs.Deeds.{row_by, rows_from, rows_of}
+use Rattle.sc_exchange.specs.BareRows.{row_by, rows_from, rows_of}
 use Rattle.sc_exchange.specs.Turns.{may_change, change}
 use Rattle.sc_exchange.specs.Addressed.{all_addressed}
 
@@ -44,12 +44,12 @@ module _ {M O : Type 0} {g : Ghosts M} where
   given p = (known p.seat).given
 
   -- the numbers of the ports that were joined, each with the rows that its port made
-  abbrev pub joined : Port M O g → List (ℕ × List (Row M O))
-  joined p = map (λ k. (k.0, map (row_by k.0) k.1)) (known p.seat).joined
+  abbrev pub joined_ports : Port M O g → List (ℕ × List (Row M O))
+  joined_ports p = map (λ k. (k.0, map (row_by k.0) k.1)) (known p.seat).joined
 
   -- each port that was split off was joined
   abbrev pub HasJoinedAll : Port M O g → Type 0
-  HasJoinedAll p = (n : ℕ) → Contains (given p) n → Contains (map (λ k. k.0) (joined p)) n
+  HasJoinedAll p = (n : ℕ) → Contains (given p) n → Contains (map (λ k. k.0) (joined_ports p)) n
 
   -- both ports come from one start
   abbrev pub SameExchange : Port M O g → Port M O g → Type 0
@@ -60,7 +60,7 @@ module _ {M O : Type 0} {g : Ghosts M} where
     pub exchange : SameExchange p q
     pub who : q.who ≡ p.who
     pub given : given q ≡ given p
-    pub joined : joined q ≡ joined p
+    pub joined : joined_ports q ≡ joined_ports p
 
   -- what was seen may have grown, and nothing was made
   pub record Looked (p q : Port M O g) : Type 0 where
@@ -199,7 +199,7 @@ module _ {M O : Type 0} {g : Ghosts M} where
     -- it has split off no port
     pub given : given p ≡ []
     -- it has joined none
-    pub joined : joined p ≡ []
+    pub joined : joined_ports p ≡ []
     -- it is the network's
     pub who : p.who ≡ 0
     -- how many actors there are
@@ -222,7 +222,7 @@ module _ {M O : Type 0} {g : Ghosts M} where
     -- it has made nothing
     pub made : made q ≡ made p
     -- it has joined no port
-    pub joined : joined q ≡ joined p
+    pub joined : joined_ports q ≡ joined_ports p
 
   -- A new port of this actor, which was split off.
   pub record IsNew (p q : Port M O g) (number : ℕ) : Type 0 where
@@ -252,7 +252,7 @@ module _ {M O : Type 0} {g : Ghosts M} where
     -- it has seen rows of no other actor than those that were split off
     pub others : HasNoOthers (given q) (seen q)
     -- it knows what the other made
-    pub joined : joined q ≡ joined p ++ (other.who, made other) ∷ []
+    pub joined : joined_ports q ≡ joined_ports p ++ (other.who, made other) ∷ []
     -- it has made nothing
     pub made : made q ≡ made p
     -- it has split off no port
@@ -269,6 +269,6 @@ module _ {M O : Type 0} {g : Ghosts M} where
     -- the network's rows are those that this port made
     pub own : rows_of 0 rows ≡ made p
     -- the rows of each port that was joined are those that it made
-    pub each : (k : _) → Contains (joined p) k → rows_of k.0 rows ≡ k.1
+    pub each : (k : _) → Contains (joined_ports p) k → rows_of k.0 rows ≡ k.1
     -- no actor has rows but those that were split off
     pub others : HasNoOthers (given p) rows

@@ -3,18 +3,18 @@ use Rattle.std.specs.Prelude.{◌≡◌, ℕ, List, [], length, Bool, true, fals
 use Rattle.sc_turn.specs.declared.rule.View.{View}
 use Rattle.sc_turn.specs.declared.seat.TurnSeat.{TurnSeat}
 use Rattle.sc_turn.specs.Seats.{known, OfOneStart}
-use Rattle.sc_turn.specs.Turn.{StartsWith, IsTrueOf, entered, with_turn, with_row, rows_by}
+use Rattle.sc_turn.specs.Turn.{StartsWith, IsTrueOf, entered_with, with_turn, with_row, rows_by}
 use Rattle.sc_actor.specs.declared.actors.Parcel.{Ghosts}
 use Rattle.sc_actor.specs.declared.rows.Row.{Row}
 use Rattle.sc_actor.specs.declared.rows.Event.{Event}
 use Rattle.sc_actor.specs.declared.rows.Event.TheVariants.{Drop, Again}
 use Rattle.sc_ledger.specs.Pending.{is_pending, may_repeat}
-use Rattle.sc_exchange.specs.declared.deeds.Deed.{Deed}
-use Rattle.sc_exchange.specs.declared.deeds.Exchange.{Exchange}
+use Rattle.sc_exchange.specs.declared.shared.BareRow.{BareRow}
+use Rattle.sc_exchange.specs.declared.shared.Exchange.{Exchange}
 use Rattle.sc_exchange.specs.declared.fates.Fate.{Fate}
 use Rattle.sc_exchange.specs.declared.fates.Fate.TheVariants.{Lost, Repeated}
 use Rattle.sc_exchange.specs.Addressed.{all_addressed}
-use Rattle.sc_exchange.specs.Deeds.{deeds, rows_from}
+use Rattle.sc_exchange.specs.BareRows.{bare_rows, rows_from}
 
 -- the event of the network at a mail
 abbrev pub change_event : {O : Type 0} → Fate → ℕ → Event O
@@ -23,18 +23,18 @@ change_event Repeated number = Again number
 
 module _ {M O : Type 0} where
   -- the turn was taken, these rows were found, and it was left with them
-  pub record Turned (w v : View (Deed M O)) : Type 0 where
+  pub record Turned (w v : View (BareRow M O)) : Type 0 where
     pub rows : List (Row M O)
-    pub view_is : v ≡ with_turn (entered w (deeds rows)) false
-    pub later : StartsWith (deeds rows) w.seen
-    pub facts : IsTrueOf w (deeds rows)
+    pub view_is : v ≡ with_turn (entered_with w (bare_rows rows)) false
+    pub later : StartsWith (bare_rows rows) w.seen
+    pub facts : IsTrueOf w (bare_rows rows)
 
   -- the same with one row more, of the seat's own number
-  pub record RowTurned (w v : View (Deed M O)) (row : Row M O) : Type 0 where
+  pub record RowTurned (w v : View (BareRow M O)) (row : Row M O) : Type 0 where
     pub rows : List (Row M O)
-    pub view_is : v ≡ with_turn (with_row (entered w (deeds rows)) (record { event = row.event; sent = row.sent })) false
-    pub later : StartsWith (deeds rows) w.seen
-    pub facts : IsTrueOf w (deeds rows)
+    pub view_is : v ≡ with_turn (with_row (entered_with w (bare_rows rows)) (record { event = row.event; sent = row.sent })) false
+    pub later : StartsWith (bare_rows rows) w.seen
+    pub facts : IsTrueOf w (bare_rows rows)
 
   -- whether the network may do this to a mail
   abbrev pub may_change : Fate → (M → ℕ) → ℕ → List (Row M O) → ℕ → Bool
@@ -46,7 +46,7 @@ module _ {M O : Type 0} where
   change fate number = record { who = 0; event = change_event fate number; sent = [] }
 
   -- the network's row of a mail was appended, where it might be
-  pub record Changed (receiver : M → ℕ) (actors : ℕ) (fate : Fate) (number : ℕ) (w v : View (Deed M O)) : Type 0 where
+  pub record Changed (receiver : M → ℕ) (actors : ℕ) (fate : Fate) (number : ℕ) (w v : View (BareRow M O)) : Type 0 where
     pub turned : RowTurned w v (change fate number)
     pub may : may_change fate receiver actors turned.rows number ≡ true
 
@@ -56,7 +56,7 @@ module _ {M O : Type 0} {g : Ghosts M} where
   rows_in exchange = exchange.ledger.value.rows.items
 
   -- A seat has had a turn, and has made nothing.
-  pub record SeatLooked (s t : TurnSeat (Exchange M O g) (Deed M O)) : Type 0 where
+  pub record SeatLooked (s t : TurnSeat (Exchange M O g) (BareRow M O)) : Type 0 where
     -- it is of the same start
     pub start : OfOneStart s t
     -- each row that it has seen may stand where it does
@@ -65,7 +65,7 @@ module _ {M O : Type 0} {g : Ghosts M} where
     pub turned : Turned (known s) (known t)
 
   -- A seat has had a turn, with a row or without one.
-  pub record SeatTurned (s t : TurnSeat (Exchange M O g) (Deed M O)) : Type 0 where
+  pub record SeatTurned (s t : TurnSeat (Exchange M O g) (BareRow M O)) : Type 0 where
     -- it is of the same start
     pub start : OfOneStart s t
     -- each row that it has seen may stand where it does

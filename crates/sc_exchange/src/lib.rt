@@ -3,14 +3,14 @@
 #![tactic(auto)]
 
 mod answers;
-mod deeds;
 mod fates;
 mod ports;
+mod shared;
 mod turns;
 
 pub use answers::{Fetched, Unposted};
-pub use deeds::{Deed, Exchange};
 pub use fates::Fate;
 pub use ports::Port;
 pub use sc_actor::Journal;
 pub use sc_ledger::{Look, PostFault, Spot};
+pub use shared::{BareRow, Exchange};

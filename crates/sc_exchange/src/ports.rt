@@ -6,14 +6,14 @@ ghost use Rattle.sc_turn.specs.Turn.{rows_by, StartsWith, StartsWith as Begins, 
 ghost use Rattle.std.specs.Option.{option_map};
 ghost use Rattle.sc_actor.specs.Mail.{is_crash, mails, numbered};
 ghost use Rattle.sc_ledger.specs.Pending.{kth_pending};
-ghost use Rattle.sc_exchange.specs.Deeds.{deeds, row_by, rows_from, rows_of};
+ghost use Rattle.sc_exchange.specs.BareRows.{bare_rows, row_by, rows_from, rows_of};
 ghost use Rattle.sc_exchange.specs.Addressed.{all_addressed};
 ghost use Rattle.sc_exchange.specs.Fetches.{HasFetched, delivered};
 ghost use Rattle.sc_exchange.specs.Answers.{IsFetch, IsLook, number_in};
 
 use crate::answers::{Fetched, Unposted};
-use crate::deeds::Exchange;
 use crate::fates::Fate;
+use crate::shared::Exchange;
 use crate::turns::{change_at, fetch_at, kth_at, look_at, post_at, receiver_at, waiting_at};
 use sc_actor::{Event, Journal, Parcel, Row};
 use sc_base::{OutOfMemory, Sequence};
@@ -331,9 +331,9 @@ fn closed<M: Parcel + Drop, O: Drop, R: Wait>(
 ) -> Journal<M, O>
     requires net { ((known seat).who ≡ 0) × ((known seat).turn ≡ false) }
     requires all { AllJoined (known seat) }
-    ensures later { StartsWith (deeds result) (known seat).seen }
+    ensures later { StartsWith (bare_rows result) (known seat).seen }
     ensures addressed { all_addressed M.receiver [] result ≡ true }
-    ensures facts { IsTrueOf (known seat) (deeds result) }
+    ensures facts { IsTrueOf (known seat) (bare_rows result) }
 {
     let exchange = seat.close(rt);
     let ledger = Box::into_inner(exchange.ledger);

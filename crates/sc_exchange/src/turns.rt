@@ -5,8 +5,8 @@ ghost use Rattle.sc_turn.specs.Turn.{with_turn, with_row};
 ghost use Rattle.sc_actor.specs.Counted.{row_bytes, journal_bytes};
 ghost use Rattle.sc_ledger.specs.Fault.{IsCause};
 ghost use Rattle.sc_ledger.specs.Pending.{kth_pending};
-ghost use Rattle.sc_exchange.specs.declared.deeds.Deed.{Deed};
-ghost use Rattle.sc_exchange.specs.Deeds.{deeds, rows_from};
+ghost use Rattle.sc_exchange.specs.declared.shared.BareRow.{BareRow};
+ghost use Rattle.sc_exchange.specs.BareRows.{bare_rows, rows_from};
 ghost use Rattle.sc_exchange.specs.Answers.{IsFetch, IsLook};
 ghost use Rattle.std.specs.Option.{option_map};
 ghost use Rattle.sc_actor.specs.Mail.{mails, numbered};
@@ -14,8 +14,8 @@ ghost use Rattle.sc_exchange.specs.Addressed.{is_addressed};
 ghost use Rattle.sc_exchange.specs.Turns.{Turned, RowTurned, Changed, may_change, change, SeatLooked, SeatTurned, rows_in};
 
 use crate::answers::Fetched;
-use crate::deeds::Exchange;
 use crate::fates::Fate;
+use crate::shared::Exchange;
 use sc_actor::{Event, Parcel, Row};
 use sc_base::{OutOfMemory, Sequence};
 use sc_ledger::{Ledger, Look, Unkept};
@@ -29,7 +29,7 @@ fn keep_same<M: Parcel + Drop, O: Drop>(
     exchange: Exchange<M, O>,
 )
     requires turn { (known seat.old).turn ≡ true }
-    requires list { deeds (rows_in exchange) ≡ (known seat.old).seen }
+    requires list { bare_rows (rows_in exchange) ≡ (known seat.old).seen }
     ensures start { OfOneStart seat.old seat.new }
     ensures view { known seat.new ≡ with_turn (known seat.old) false }
 {
@@ -42,14 +42,14 @@ fn keep_row<M: Parcel + Drop, O: Drop>(
     exchange: Exchange<M, O>,
 )
     requires turn { (known seat.old).turn ≡ true }
-    requires list { (deed : Deed M O)
-        × (deeds (rows_in exchange)
-        ≡ (known seat.old).seen ++ (deed, (known seat.old).who) ∷ []) }
+    requires list { (bare : BareRow M O)
+        × (bare_rows (rows_in exchange)
+        ≡ (known seat.old).seen ++ (bare, (known seat.old).who) ∷ []) }
     ensures start { OfOneStart seat.old seat.new }
-    ensures view { (deed : Deed M O) →
-        deeds (rows_in exchange)
-        ≡ (known seat.old).seen ++ (deed, (known seat.old).who) ∷ [] →
-        known seat.new ≡ with_turn (with_row (known seat.old) deed) false }
+    ensures view { (bare : BareRow M O) →
+        bare_rows (rows_in exchange)
+        ≡ (known seat.old).seen ++ (bare, (known seat.old).who) ∷ [] →
+        known seat.new ≡ with_turn (with_row (known seat.old) bare) false }
 {
     seat.leave(exchange);
 }
@@ -215,7 +215,7 @@ fn append_row<M: Parcel + Drop, O: Drop>(
     limit: u64,
 ) -> Result<u32, Unkept<M, O>>
     requires turn { (known seat.old).turn ≡ true }
-    requires list { deeds (rows_in found) ≡ (known seat.old).seen }
+    requires list { bare_rows (rows_in found) ≡ (known seat.old).seen }
     requires maker { row.who ≡ (known seat.old).who }
     requires addressed { is_addressed M.receiver (mails (rows_in found)) row.who row.event ≡ true }
     requires limit { limit ≤ 2 ^ 30 }

@@ -19,7 +19,7 @@ use Rattle.sc_actor.specs.declared.rows.Input.{Input}
 use Rattle.sc_actor.specs.declared.rows.Input.TheVariants.{Got, Go}
 use Rattle.sc_client_table.specs.Client.{Client, request_at}
 use Rattle.sc_client_table.specs.Table.{request_of}
-use Rattle.sc_client_table.specs.Turns.{InTurn, Waits, Begins, Takes}
+use Rattle.sc_client_table.specs.Turns.{InTurn, Waits, Begins, TakesReply}
 use Rattle.sc_base.specs.Among.{Among}
 use Rattle.sc_paxos_law.specs.Chosen.{IsLog}
 use Rattle.sc_scenario.specs.declared.scenarios.Asks.{Asks}
@@ -233,7 +233,7 @@ module _ (ahead : Ahead) (base : Base) where
       inl s.replies,
     )
 
-    took : Takes client after input → IsClient h asks after × Grew h asks client.replies after.replies
+    took : TakesReply client after input → IsClient h asks after × Grew h asks client.replies after.replies
     took s =
         let (m, where_from, got, body) = s.is_reply in
         let came = told m got in

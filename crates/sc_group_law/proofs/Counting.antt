@@ -14,17 +14,17 @@ use Rattle.sc_paxos_words.specs.declared.answers.Counted.{Counted}
 use Rattle.sc_paxos_words.specs.declared.flights.Flight.{Flight}
 use Rattle.sc_paxos_words.specs.declared.reports.Report.{Report}
 use Rattle.sc_base.specs.Among.{Among, Each}
-use Rattle.sc_paxos_words.specs.Leaders.{LeaderState, flight_at, landed, promise_counted}
-use Rattle.sc_paxos_words.specs.Votes.{voters_of, add_voter, voters_after, with_voters, vote_at, counted}
+use Rattle.sc_paxos_words.specs.Leaders.{LeaderState, flight_at, without_flight_at, promise_counted}
+use Rattle.sc_paxos_words.specs.Votes.{kept_voters, add_voter, voters_after, with_voters, vote_at, counted}
 use Rattle.sc_paxos_words.proofs.ListLemmas.{Each-among, Each-weaker, Each-append, Each-filter, find_found}
 use Rattle.sc_paxos_law.specs.Steps.{Prepared, Promised, Offered, Accepted}
 use Rattle.sc_paxos_law.specs.Chosen.{needed, members_of}
-use Rattle.sc_paxos_law.specs.Lawful.{Vote}
+use Rattle.sc_paxos_law.specs.Lawful.{CountedPromise}
 use Rattle.sc_paxos_law.proofs.History.{was_offered, one_offer}
 use Rattle.sc_node_table.specs.Slots.{with_slot}
 use Rattle.sc_node_table.specs.Replica.{ReplicaState, Place, next, set_at}
 use Rattle.sc_node_table.specs.Execute.{has_room}
-use Rattle.sc_node_table.specs.Voting.{leads, promise_row, readied, tallied, voted, accepted_row}
+use Rattle.sc_node_table.specs.Voting.{leads, promise_row, readied, vote_tallied, voted, accepted_row}
 use Rattle.sc_hist_law.specs.Laws.{LogTells}
 use Rattle.sc_players.specs.Players.{Ahead}
 use Rattle.sc_group_law.proofs.Growth.{IsLearnt}
@@ -35,20 +35,20 @@ use Rattle.std.proofs.lemmas.List.{map-append}
 use Rattle.sc_group_law.proofs.Offering.{fine_pumped}
 use Rattle.sc_base.proofs.NameLemmas.{ballot_is}
 
-reports_push : (votes : List (Vote Command)) (vote : Vote Command) → flat_map (λ (v : Vote Command). v.reports) (votes ++ vote ∷ []) ≡ flat_map (λ (v : Vote Command). v.reports) votes ++ vote.reports
+reports_push : (votes : List (CountedPromise Command)) (vote : CountedPromise Command) → flat_map (λ (v : CountedPromise Command). v.reports) (votes ++ vote ∷ []) ≡ flat_map (λ (v : CountedPromise Command). v.reports) votes ++ vote.reports
 reports_push [] vote = append-nil vote.reports
-reports_push (v ∷ votes) vote = ap (λ rs. v.reports ++ rs) (reports_push votes vote) ∙ sym (append_assoc v.reports (flat_map (λ (x : Vote Command). x.reports) votes) vote.reports)
+reports_push (v ∷ votes) vote = ap (λ rs. v.reports ++ rs) (reports_push votes vote) ∙ sym (append_assoc v.reports (flat_map (λ (x : CountedPromise Command). x.reports) votes) vote.reports)
 
 -- ---- kept voters
 
-each_voter : (P : ℕ → Type 0) (node : ℕ) (o : Option (List ℕ)) → P node → Each P (voters_of o) → Each P (voters_of (add_voter node o))
+each_voter : (P : ℕ → Type 0) (node : ℕ) (o : Option (List ℕ)) → P node → Each P (kept_voters o) → Each P (kept_voters (add_voter node o))
 each_voter P node None p e = (p, tt)
 each_voter P node (Some voters) p e =
-    cond_both (is_member voters node || eqb (length voters) 9) (Some voters) (Some (with_member voters node)) (λ o. Each P (voters_of o)) (λ _. e)
+    cond_both (is_member voters node || eqb (length voters) 9) (Some voters) (Some (with_member voters node)) (λ o. Each P (kept_voters o)) (λ _. e)
     (λ _. Each-append P (filter (λ m. nat_lt m node) voters) (node ∷ filter (λ m. nat_lt node m) voters) (Each-filter P (λ m. nat_lt m node) voters e) (p, Each-filter P (λ m. nat_lt node m) voters e))
 
-each_after : (P : ℕ → Type 0) (members : List ℕ) (node : ℕ) (o : Option (List ℕ)) → P node → Each P (voters_of o) → Each P (voters_of (voters_after members node o))
-each_after P members node o p e = cond_both (is_member members node) (add_voter node o) o (λ x. Each P (voters_of x)) (λ _. each_voter P node o p e) (λ _. e)
+each_after : (P : ℕ → Type 0) (members : List ℕ) (node : ℕ) (o : Option (List ℕ)) → P node → Each P (kept_voters o) → Each P (kept_voters (voters_after members node o))
+each_after P members node o p e = cond_both (is_member members node) (add_voter node o) o (λ x. Each P (kept_voters x)) (λ _. each_voter P node o p e) (λ _. e)
 
 each_with_voters : (P : Flight Command → Type 0) (slot : ℕ) (voters : Option (List ℕ)) (fs : List (Flight Command)) → Each P fs → ((f : Flight Command) → Among f fs → f.slot ≡ slot → P (record f { voters = voters }))
     → Each P (with_voters slot voters fs)
@@ -103,7 +103,7 @@ module _ (ahead : Ahead) (base : Base) (made : Command → Type 0) (grants : Gra
       → Replica h (record r { leader = record r.leader { promisers = r.leader.promisers ++ from ∷ []; reports = r.leader.reports ++ reports } })
   voter_replica h from ballot reports start r k runs same promised asked =
       let l = k.leads runs in
-      let vote : Vote Command = record { node = from; from = start; reports = reports } in
+      let vote : CountedPromise Command = record { node = from; from = start; reports = reports } in
       record {
         me_is = k.me_is;
         whole = k.whole;
@@ -122,7 +122,7 @@ module _ (ahead : Ahead) (base : Base) (made : Command → Type 0) (grants : Gra
           low = l.low;
           first_is = l.first_is;
           votes = l.votes ++ vote ∷ [];
-          promisers = ap (λ ns. ns ++ from ∷ []) l.promisers ∙ sym (map-append (λ (v : Vote Command). v.node) l.votes (vote ∷ []));
+          promisers = ap (λ ns. ns ++ from ∷ []) l.promisers ∙ sym (map-append (λ (v : CountedPromise Command). v.node) l.votes (vote ∷ []));
           reports = ap (λ rs. rs ++ reports) l.reports ∙ sym (reports_push l.votes vote);
           made = Each-append _ l.votes (vote ∷ []) l.made
               ((subst (λ b. Among (Promised from b start reports) h) same promised, k.prepares ballot start asked (ap (λ (b : Ballot). b.node) same ∙ l.own)), tt);
@@ -147,7 +147,7 @@ module _ (ahead : Ahead) (base : Base) (made : Command → Type 0) (grants : Gra
   -- ---- a vote
 
   ready_replica : (h : Steps) (slot : ℕ) (c : Command) (r : ReplicaState) (k : Replica h r) → IsLearnt (rule ahead base) h slot c
-      → Replica h (record r { leader = landed slot r.leader; ready = with_slot r.ready slot c })
+      → Replica h (record r { leader = without_flight_at slot r.leader; ready = with_slot r.ready slot c })
   ready_replica h slot c r k t = record {
     me_is = k.me_is;
     whole = k.whole;
@@ -165,7 +165,7 @@ module _ (ahead : Ahead) (base : Base) (made : Command → Type 0) (grants : Gra
         record { own = l.own; low = l.low; first_is = l.first_is; votes = l.votes; promisers = l.promisers; reports = l.reports; made = l.made; offers = λ at d a. stays at (l.offers at d a) });
   }
     where
-      stays : (at : ℕ) → (at < length k.whole + 1) ⊎ IsTaken ahead base r.leader r.ready at → (at < length k.whole + 1) ⊎ IsTaken ahead base (landed slot r.leader) (with_slot r.ready slot c) at
+      stays : (at : ℕ) → (at < length k.whole + 1) ⊎ IsTaken ahead base r.leader r.ready at → (at < length k.whole + 1) ⊎ IsTaken ahead base (without_flight_at slot r.leader) (with_slot r.ready slot c) at
       stays at (inl lt) = inl lt
       stays at (inr t) =
           elim (cases_Bool (eqb at slot)) [
@@ -204,14 +204,14 @@ module _ (ahead : Ahead) (base : Base) (made : Command → Type 0) (grants : Gra
       stays at (inr (inl (g, a, e))) = inr (inl (still_flying slot voters r.leader.flights at g a e))
       stays at (inr (inr t)) = inr (inr t)
 
-  readied_place : (slot : ℕ) (c : Command) (r : ReplicaState) (mails : List Mail) → (f : Ok (r, mails)) → IsLearnt (rule ahead base) (f.newer ++ before) slot c → r.running ≡ true → Ok (readied slot c (record r { leader = landed slot r.leader }, mails))
+  readied_place : (slot : ℕ) (c : Command) (r : ReplicaState) (mails : List Mail) → (f : Ok (r, mails)) → IsLearnt (rule ahead base) (f.newer ++ before) slot c → r.running ≡ true → Ok (readied slot c (record r { leader = without_flight_at slot r.leader }, mails))
   unfolding readied turn
   readied_place slot c r mails f t runs =
-      let after : ReplicaState = record r { leader = landed slot r.leader; ready = with_slot r.ready slot c } in
+      let after : ReplicaState = record r { leader = without_flight_at slot r.leader; ready = with_slot r.ready slot c } in
       let place = turn ahead base made me before r after mails f (ready_replica (f.newer ++ before) slot c r f.replica t) in
-      cond_both (eqb slot (next r) && has_room (record r { leader = landed slot r.leader })) _ _ Ok
+      cond_both (eqb slot (next r) && has_room (record r { leader = without_flight_at slot r.leader })) _ _ Ok
       (λ e. (
-      let parts = and_parts (eqb slot (next r)) (has_room (record r { leader = landed slot r.leader })) e in
+      let parts = and_parts (eqb slot (next r)) (has_room (record r { leader = without_flight_at slot r.leader })) e in
       fine_executed ahead base made grants me before some law true c after mails place
       (subst (λ n. IsLearnt (rule ahead base) (f.newer ++ before) n c) (eqb-true slot (next r) parts.0) t) (λ _. runs)))
       (λ _. place)
@@ -232,13 +232,13 @@ module _ (ahead : Ahead) (base : Base) (made : Command → Type 0) (grants : Gra
         one_offer (rule ahead base) (first ahead base) h b slot d g.value f.lawful (was_offered (rule ahead base) (first ahead base) h from b slot d f.lawful did)
         (subst (λ n. Among (Offered b n g.value) h) e flies.0)
 
-    accepted_by : (flight : Flight Command) → Among flight r.leader.flights → flight.slot ≡ slot → Each (λ n. Among (Accepted n b slot d) h) (voters_of (voters_after set from flight.voters))
+    accepted_by : (flight : Flight Command) → Among flight r.leader.flights → flight.slot ≡ slot → Each (λ n. Among (Accepted n b slot d) h) (kept_voters (voters_after set from flight.voters))
     accepted_by flight a e =
         let flies = Each-among _ r.leader.flights flight f.replica.flights a in
         each_after (λ n. Among (Accepted n b slot d) h) set from flight.voters did
-        (Each-weaker _ _ (λ n x. subst (λ v. Among (Accepted n b slot v) h) (sym (same_value flight a e)) (subst (λ m. Among (Accepted n b m flight.value) h) e x)) (voters_of flight.voters) flies.1)
+        (Each-weaker _ _ (λ n x. subst (λ v. Among (Accepted n b slot v) h) (sym (same_value flight a e)) (subst (λ m. Among (Accepted n b m flight.value) h) e x)) (kept_voters flight.voters) flies.1)
 
-    learnt_here : (flight : Flight Command) → Among flight r.leader.flights → flight.slot ≡ slot → is_majority set (voters_of (voters_after set from flight.voters)) ≡ true → IsLearnt (rule ahead base) h slot flight.value
+    learnt_here : (flight : Flight Command) → Among flight r.leader.flights → flight.slot ≡ slot → is_majority set (kept_voters (voters_after set from flight.voters)) ≡ true → IsLearnt (rule ahead base) h slot flight.value
     learnt_here flight a e most =
         subst (IsLearnt (rule ahead base) h slot) (same_value flight a e)
         (record {
@@ -248,29 +248,29 @@ module _ (ahead : Ahead) (base : Base) (made : Command → Type 0) (grants : Gra
             known = known;
             chosen = record {
               ballot = b;
-              voters = voters_of (voters_after set from flight.voters);
+              voters = kept_voters (voters_after set from flight.voters);
               each = accepted_by flight a e;
-              majority = ltb-true _ _ (subst (λ ms. is_majority ms (voters_of (voters_after set from flight.voters)) ≡ true) is most);
+              majority = ltb-true _ _ (subst (λ ms. is_majority ms (kept_voters (voters_after set from flight.voters)) ≡ true) is most);
             };
           };
         })
 
-    voted_at : (o : Option (Flight Command)) → flight_at slot r.leader.flights ≡ o → Ok (tallied slot (vote_at from slot set o r.leader) (r, mails))
+    voted_at : (o : Option (Flight Command)) → flight_at slot r.leader.flights ≡ o → Ok (vote_tallied slot (vote_at from slot set o r.leader) (r, mails))
     voted_at None e = f
     voted_at (Some flight) e =
         let there = find_found (λ (g : Flight Command). eqb g.slot slot) r.leader.flights flight e in
         let at = eqb-true flight.slot slot there.1 in
         let voters = voters_after set from flight.voters in
-        cond_both (is_majority set (voters_of voters)) _ _ (λ (x : Counted Command × LeaderState Command). Ok (tallied slot x (r, mails)))
+        cond_both (is_majority set (kept_voters voters)) _ _ (λ (x : Counted Command × LeaderState Command). Ok (vote_tallied slot x (r, mails)))
         (λ most. readied_place slot flight.value r mails f (learnt_here flight there.0 at most) runs)
         (λ _. turn ahead base made me before r (record r { leader = record r.leader { flights = with_voters slot voters r.leader.flights } }) mails f
         (voters_replica h slot voters r f.replica (λ g a same. (
         let flies = Each-among _ r.leader.flights g f.replica.flights a in
-        (flies.0, Each-weaker _ _ (λ n x. subst (λ v. Among (Accepted n b g.slot v) h) (same_value g a same) (subst (λ m. Among (Accepted n b m d) h) (sym same) x)) (voters_of voters) (accepted_by flight there.0 at))))))
+        (flies.0, Each-weaker _ _ (λ n x. subst (λ v. Among (Accepted n b g.slot v) h) (same_value g a same) (subst (λ m. Among (Accepted n b m d) h) (sym same) x)) (kept_voters voters) (accepted_by flight there.0 at))))))
 
-    counted_place : Ok (tallied slot (counted from b slot set r.leader) (r, mails))
+    counted_place : Ok (vote_tallied slot (counted from b slot set r.leader) (r, mails))
     counted_place =
-        cond_both (same_ballot b r.leader.ballot) _ _ (λ (x : Counted Command × LeaderState Command). Ok (tallied slot x (r, mails))) (λ _. voted_at (flight_at slot r.leader.flights) refl) (λ _. f)
+        cond_both (same_ballot b r.leader.ballot) _ _ (λ (x : Counted Command × LeaderState Command). Ok (vote_tallied slot x (r, mails))) (λ _. voted_at (flight_at slot r.leader.flights) refl) (λ _. f)
 
   set_is : (h : Steps) (slot : ℕ) (set : List ℕ) (r : ReplicaState) (k : Replica h r) → set_at slot r ≡ Some set → (set ≡ members_of (rule ahead base) k.whole slot) × (needed (rule ahead base) slot ≤ length k.whole)
   set_is h slot set r k e =
@@ -298,5 +298,5 @@ module _ (ahead : Ahead) (base : Base) (made : Command → Type 0) (grants : Gra
       by_set runs same None e = f
       by_set runs same (Some set) e =
           let here = set_is (f.newer ++ before) slot set r f.replica e in
-          subst (λ b. Ok (tallied slot (counted from b slot set r.leader) (r, mails))) (sym same)
+          subst (λ b. Ok (vote_tallied slot (counted from b slot set r.leader) (r, mails))) (sym same)
           (counted_place from slot set r mails f runs d (subst (λ b. Among (Accepted from b slot d) (f.newer ++ before)) same did) here.0 here.1)

@@ -18,7 +18,7 @@ use Rattle.sc_node_table.specs.Voting.{promised, prepare_row, took, accept_row, 
 use Rattle.sc_sound.specs.Example.{four}
 use Rattle.sc_group_law.specs.OneGroup.{HasOneGroup}
 use Rattle.sc_players.specs.Players.{Lawful}
-use Rattle.sc_group_law.specs.Example.{three_nodes, example_scenario, example}
+use Rattle.sc_group_law.specs.Example.{three_nodes, election_scenario, election_example}
 
 -- the first of clients that rise is below each later one
 below_later : (first : ℕ) (clients : List Asks) (other : Asks) → ((k : ℕ) (d : Asks) → k < length clients → first < (slice_index_or clients k d).client) → Among other clients → first < other.client
@@ -62,7 +62,7 @@ valid_one_group early scenario valid =
       },
     )
 
-once : (one other : Asks) → Among one example_scenario.clients → Among other example_scenario.clients → one.client ≡ other.client → one ≡ other
+once : (one other : Asks) → Among one election_scenario.clients → Among other election_scenario.clients → one.client ≡ other.client → one ≡ other
 once one other (inl e) (inl f) same = sym e ∙ f
 once one other (inl e) (inr n) same = absurd n
 once one other (inr n) b same = absurd n
@@ -78,10 +78,10 @@ trio : IsRoster (1 ∷ 2 ∷ 3 ∷ [])
 trio = roster_with (1 ∷ 2 ∷ []) 3 pair refl (lit≤ tt)
 
 -- the example's scenario has one group
-pub one_group : HasOneGroup example_scenario three_nodes
+pub one_group : HasOneGroup election_scenario three_nodes
 one_group = record { groups = refl; roster = trio; pairs = refl; clients = refl; nodes = lit≤ tt; numbered = (lit≤ tt, tt); once = once }
 
 -- the example is lawful
-pub example_is_lawful : Lawful four no_words example_scenario example
+pub example_is_lawful : Lawful four no_words election_scenario election_example
 unfolding nodes_to elected ended saw sent_all ticked next_call from_calls from_queues found_for offered pumped_from pumped queued requested request_row tick_row mailed promised prepare_row took accept_row promise_row
 example_is_lawful = (refl, (refl, (refl, (refl, (refl, (refl, (refl, (refl, (refl, tt)))))))))

@@ -21,16 +21,16 @@ use Rattle.sc_machine_table.specs.Machine.{applied}
 use Rattle.sc_paxos_words.specs.declared.flights.Flight.{Flight}
 use Rattle.sc_base.specs.Among.{Among, Each}
 use Rattle.sc_paxos_words.specs.Logs.{LogState, next_of}
-use Rattle.sc_paxos_words.specs.Leaders.{flight_at, landed as without_flight_at}
+use Rattle.sc_paxos_words.specs.Leaders.{flight_at, without_flight_at}
 use Rattle.sc_paxos_words.proofs.ListLemmas.{Each-among, find_found}
 use Rattle.sc_paxos_law.specs.Chosen.{IsLog}
 use Rattle.sc_paxos_law.proofs.Law.{earlier}
 use Rattle.sc_node_table.specs.Slots.{at_slot, without_slot}
 use Rattle.sc_node_table.specs.Replica.{ReplicaState, Place, name_of, next, members, flying}
-use Rattle.sc_node_table.specs.Mails.{sent, order_in, told_order}
+use Rattle.sc_node_table.specs.Mails.{sent, order_number, told_order}
 use Rattle.sc_node_table.specs.Queues.{call_of, without_call, call_before, put_back}
 use Rattle.sc_node_table.specs.Sameness.{same_command}
-use Rattle.sc_node_table.specs.Execute.{entered, answer_of, told_call, order_result, told_effect, announced, learnt_to, lost, landed, left_gone, left, is_among, looked_for, looked, executed_one, has_room, next_ready, executed_ready, executed}
+use Rattle.sc_node_table.specs.Execute.{entered, answer_of, told_call, order_result, told_effect, announced, learnt_to, slot_lost, landed, left_gone, left, is_among, looked_for, looked, executed_one, has_room, next_ready, executed_ready, executed}
 use Rattle.sc_node_table.specs.Pump.{pumped}
 use Rattle.sc_ideal.specs.History.{HasEntry}
 use Rattle.sc_hist_law.specs.Laws.{IsReplied, LogTells}
@@ -135,9 +135,9 @@ module _ (ahead : Ahead) (base : Base) (made : Command → Type 0) (grants : Gra
   unfolding told_effect told_order says
   ordered_place counted slot d None c place p = p
   ordered_place counted slot d (Some result) c (r, mails) p =
-      cond_both (nat_lt 0 (order_in c)) (sent r.me 0 (Told (order_in c) result) mails) mails (λ ms. Past counted slot d (r, ms))
+      cond_both (nat_lt 0 (order_number c)) (sent r.me 0 (Told (order_number c) result) mails) mails (λ ms. Past counted slot d (r, ms))
       (λ _. record {
-        fine = says ahead base made me before r mails (record { from = r.me; to = 0; body = Told (order_in c) result }) p.fine refl tt;
+        fine = says ahead base made me before r mails (record { from = r.me; to = 0; body = Told (order_number c) result }) p.fine refl tt;
         learnt_is = p.learnt_is;
         executed_is = p.executed_is;
         runs_is = p.runs_is;
@@ -206,7 +206,7 @@ module _ (ahead : Ahead) (base : Base) (made : Command → Type 0) (grants : Gra
       let offer = Each-among _ r.leader.flights got.0 f.replica.flights there.0 in
       subst made got.2 (f.requested r.leader.ballot got.0.slot got.0.value offer.0)
 
-  lost_replica : (h : Steps) (counted : Bool) (c : Command) (o : Option Command) (r : ReplicaState) → ((d : Command) → o ≡ Some d → made d) → Replica h r → Replica h (lost counted c o r)
+  lost_replica : (h : Steps) (counted : Bool) (c : Command) (o : Option Command) (r : ReplicaState) → ((d : Command) → o ≡ Some d → made d) → Replica h r → Replica h (slot_lost counted c o r)
   lost_replica h counted c None r m k = k
   lost_replica h counted c (Some other) r m k = cond_both (counted || same_command other c) r (put_back other r) (Replica h) (λ _. k) (λ _. back_replica h other r (m other refl) k)
 

@@ -3,11 +3,11 @@ use Rattle.std.proofs.Common.{◌≡◌, ℕ, ◌≤◌, eqb, List, [], ◌∷�
 use Rattle.std.proofs.lemmas.Bool.{ne_eqb, cond-false}
 use Rattle.sc_base.specs.declared.names.Ballot.{Ballot}
 use Rattle.sc_base.specs.Among.{Among, Each}
-use Rattle.sc_paxos_words.specs.Acceptors.{born}
+use Rattle.sc_paxos_words.specs.Acceptors.{born_acceptor}
 use Rattle.sc_paxos_words.proofs.ListLemmas.{Each-among}
 use Rattle.sc_paxos_law.specs.Steps.{Step, Prepared, Promised, Offered, Accepted, Cut, state_of}
 use Rattle.sc_paxos_law.specs.Chosen.{Rule, needed, members_of, IsChosen, IsChosenAfter, IsLog}
-use Rattle.sc_paxos_law.specs.Lawful.{MayOffer, IsLawfulStep, IsLawful}
+use Rattle.sc_paxos_law.specs.Lawful.{MayOffer, IsLawfulStep, IsLawfulHistory}
 use Rattle.sc_paxos_law.proofs.Among.{shared_member}
 use Rattle.sc_paxos_law.proofs.History.{was_offered, one_offer}
 use Rattle.sc_paxos_law.proofs.Law.{later_log, later_chosen, agree_members, logs_agree, later_elected}
@@ -31,14 +31,14 @@ grown_learnt rule [] h slot v l = l
 grown_learnt rule (s ∷ newer) h slot v l = later_learnt rule s (newer ++ h) slot v (grown_learnt rule newer h slot v l)
 
 -- what is learnt at a slot was chosen by the members that any log gives which knows them
-pub by_own_log : {V : Type 0} (rule : Rule V) (first : Ballot) (h : List (Step V)) → IsLawful rule first h → (slot : ℕ) (v : V) → IsLearnt rule h slot v
+pub by_own_log : {V : Type 0} (rule : Rule V) (first : Ballot) (h : List (Step V)) → IsLawfulHistory rule first h → (slot : ℕ) (v : V) → IsLearnt rule h slot v
     → (log : List V) → IsLog rule h log → needed rule slot ≤ length log → IsChosenAfter rule h log slot v
 by_own_log rule first h l slot v t log is_log known =
     let here = agree_members rule h slot log is_log known (logs_agree rule first h l (needed rule slot)) in
     record { known = known; chosen = subst (λ ms. IsChosen ms h slot v) (here t.log t.is_log t.chosen.known) t.chosen.chosen }
 
 -- a chosen value was offered
-pub learnt_offered : {V : Type 0} (rule : Rule V) (first : Ballot) (h : List (Step V)) → IsLawful rule first h → (slot : ℕ) (v : V) → IsLearnt rule h slot v
+pub learnt_offered : {V : Type 0} (rule : Rule V) (first : Ballot) (h : List (Step V)) → IsLawfulHistory rule first h → (slot : ℕ) (v : V) → IsLearnt rule h slot v
     → (b : Ballot) × Among (Offered b slot v) h
 learnt_offered rule first h l slot v t =
     let c = t.chosen.chosen in
@@ -47,7 +47,7 @@ learnt_offered rule first h l slot v t =
 
 -- ---- an offer may be made again
 
-later_offer : {V : Type 0} (rule : Rule V) (first b : Ballot) (slot : ℕ) (v : V) (s : Step V) (h : List (Step V)) → IsLawful rule first (s ∷ h) → Among (Offered b slot v) (s ∷ h)
+later_offer : {V : Type 0} (rule : Rule V) (first b : Ballot) (slot : ℕ) (v : V) (s : Step V) (h : List (Step V)) → IsLawfulHistory rule first (s ∷ h) → Among (Offered b slot v) (s ∷ h)
     → MayOffer rule first b slot v h → MayOffer rule first b slot v (s ∷ h)
 later_offer rule first b slot v s h l a m = record {
   log = m.log;
@@ -58,7 +58,7 @@ later_offer rule first b slot v s h l a m = record {
 }
 
 -- what was offered may be offered again in its ballot
-pub offer_again : {V : Type 0} (rule : Rule V) (first : Ballot) (h : List (Step V)) (b : Ballot) (slot : ℕ) (v : V) → IsLawful rule first h → Among (Offered b slot v) h → MayOffer rule first b slot v h
+pub offer_again : {V : Type 0} (rule : Rule V) (first : Ballot) (h : List (Step V)) (b : Ballot) (slot : ℕ) (v : V) → IsLawfulHistory rule first h → Among (Offered b slot v) h → MayOffer rule first b slot v h
 offer_again rule first [] b slot v l a = absurd a
 offer_again rule first (s ∷ h) b slot v l (inl e) =
     later_offer rule first b slot v s h l (inl e) (subst (λ t. IsLawfulStep rule first t h) e l.0)
@@ -108,6 +108,6 @@ fresh_kept first me (Accepted n b s v) h ne = cond-false (eqb n me) _ _ (ne_eqb 
 fresh_kept first me (Cut n upto) h ne = cond-false (eqb n me) _ _ (ne_eqb n me ne)
 
 -- its acceptor would be as at birth
-pub fresh_state : {V : Type 0} (first : Ballot) (me : ℕ) (h : List (Step V)) → IsFresh me h → state_of first me h ≡ born first
+pub fresh_state : {V : Type 0} (first : Ballot) (me : ℕ) (h : List (Step V)) → IsFresh me h → state_of first me h ≡ born_acceptor first
 fresh_state first me [] k = refl
 fresh_state first me (s ∷ h) k = fresh_kept first me s h k.0 ∙ fresh_state first me h k.1

@@ -20,12 +20,12 @@ use Rattle.sc_machine_table.specs.Group.{Group, group_of}
 use Rattle.sc_machine_table.specs.Orders.{refusal_of}
 use Rattle.sc_member.specs.Roster.{is_member}
 use Rattle.sc_base.specs.Among.{Among, Each}
-use Rattle.sc_paxos_words.specs.Acceptors.{born}
+use Rattle.sc_paxos_words.specs.Acceptors.{born_acceptor}
 use Rattle.sc_paxos_words.specs.Logs.{installed}
 use Rattle.sc_paxos_words.specs.Leaders.{first_leader}
 use Rattle.sc_paxos_words.proofs.ListLemmas.{Each-among, Each-append}
 use Rattle.sc_paxos_law.specs.Steps.{Offered}
-use Rattle.sc_paxos_law.specs.Lawful.{IsLawful}
+use Rattle.sc_paxos_law.specs.Lawful.{IsLawfulHistory}
 use Rattle.sc_node_table.specs.Replica.{ReplicaState, Place, first_ballot, name_of, next, members, settled, last_slot, forgotten, waits_in, installed_replica}
 use Rattle.sc_node_table.specs.Mails.{told_desk}
 use Rattle.sc_node_table.specs.Election.{ended, stopped}
@@ -151,7 +151,7 @@ module _ (ahead : Ahead) (base : Base) (made : Command → Type 0) (grants : Gra
         me = own;
         group = group_of state;
         log = installed slot;
-        acceptor = born (first_ballot state.core);
+        acceptor = born_acceptor (first_ballot state.core);
         hint = Some state.core.first;
         top = first_ballot state.core;
         running = false;
@@ -165,7 +165,7 @@ module _ (ahead : Ahead) (base : Base) (made : Command → Type 0) (grants : Gra
         me_is = mine;
         whole = t.log;
         log_is = state_has before slot state sets t;
-        acceptor_is = subst (Mirrors (born (first_ballot state.core))) (ap (λ b. born b) ballot ∙ sym (fresh_state (first ahead base) me before fresh)) (mirrors_itself (born (first_ballot state.core)));
+        acceptor_is = subst (Mirrors (born_acceptor (first_ballot state.core))) (ap (λ b. born_acceptor b) ballot ∙ sym (fresh_state (first ahead base) me before fresh)) (mirrors_itself (born_acceptor (first_ballot state.core)));
         tops = λ b at c a yes. absurd (Each-among _ before (Offered b at c) fresh a yes);
         prepares = λ b start a yes. absurd (Each-among _ before _ fresh a yes);
         count = many;
@@ -179,7 +179,7 @@ module _ (ahead : Ahead) (base : Base) (made : Command → Type 0) (grants : Gra
       forgotten_replica ahead base made before me slot _ here (omega (arith, low, count))
 
   -- a replica that is made of a true state is as the steps say
-  pub made_place : (own from : ℕ) (g : Draw) (slot : ℕ) (state : Base) (sets : List (List ℕ)) → own ≡ me → g ≡ base.core.id → IsFresh me before → IsLawful (rule ahead base) (first ahead base) before
+  pub made_place : (own from : ℕ) (g : Draw) (slot : ℕ) (state : Base) (sets : List (List ℕ)) → own ≡ me → g ≡ base.core.id → IsFresh me before → IsLawfulHistory (rule ahead base) (first ahead base) before
       → ((b : Ballot) (at : ℕ) (c : Command) → Among (Offered b at c) before → made c) → IsState ahead base made before slot state sets → Ok (made_by own from g slot state sets)
   unfolding made_by
   made_place own from g slot state sets mine e fresh lawful requested t =

@@ -21,12 +21,12 @@ use Rattle.sc_machine_table.specs.Machine.{applied}
 use Rattle.sc_base.specs.Among.{Among, Each}
 use Rattle.sc_paxos_words.specs.Leaders.{LeaderState}
 use Rattle.sc_paxos_words.specs.Logs.{LogState, next_of, log_cut}
-use Rattle.sc_paxos_words.specs.Votes.{voters_of}
+use Rattle.sc_paxos_words.specs.Votes.{kept_voters}
 use Rattle.sc_paxos_words.specs.declared.flights.Flight.{Flight}
 use Rattle.sc_paxos_words.proofs.ListLemmas.{Each-weaker, Each-append}
 use Rattle.sc_paxos_law.specs.Steps.{Step, Prepared, Promised, Offered, Accepted, state_of}
 use Rattle.sc_paxos_law.specs.Chosen.{Rule, needed, members_of, IsLog}
-use Rattle.sc_paxos_law.specs.Lawful.{Vote, IsLawfulStep, IsLawful}
+use Rattle.sc_paxos_law.specs.Lawful.{CountedPromise, IsLawfulStep, IsLawfulHistory}
 use Rattle.sc_paxos_law.proofs.Among.{Among-right, Among-either}
 use Rattle.sc_paxos_law.proofs.Law.{later_log}
 use Rattle.sc_node_table.specs.Replica.{ReplicaState, Place, first_ballot, next, floor_of, forgotten}
@@ -34,7 +34,7 @@ use Rattle.sc_ideal.specs.History.{HasEntry}
 use Rattle.sc_players.specs.Players.{Ahead}
 use Rattle.sc_machine_table.specs.Logs.{state_after, done_by}
 use Rattle.sc_sound.specs.Logs.{rule_of}
-use Rattle.sc_group_law.specs.Steps.{asked_by, asked_in}
+use Rattle.sc_group_law.specs.Steps.{proposer_steps, asked_in}
 use Rattle.sc_machine_table.proofs.LogLemmas.{state_push}
 use Rattle.sc_group_law.proofs.Growth.{IsLearnt, By, later_learnt, grown_learnt, state_kept}
 use Rattle.sc_group_law.proofs.Held.{Mirrors, cut_mirrors, max_is}
@@ -65,7 +65,7 @@ module _ (ahead : Ahead) (base : Base) where
 
   -- each command in flight was offered in the leader's ballot, and each kept vote is an acceptance
   abbrev pub IsFlying : Steps → Ballot → Flight Command → Type 0
-  IsFlying h ballot flight = Among (Offered ballot flight.slot flight.value) h × Each (λ node. Among (Accepted node ballot flight.slot flight.value) h) (voters_of flight.voters)
+  IsFlying h ballot flight = Among (Offered ballot flight.slot flight.value) h × Each (λ node. Among (Accepted node ballot flight.slot flight.value) h) (kept_voters flight.voters)
 
   -- something is in flight or ready at a slot
   abbrev pub IsTaken : LeaderState Command → List (ℕ × Command) → ℕ → Type 0
@@ -125,7 +125,7 @@ module _ (ahead : Ahead) (base : Base) where
   -- ---- what a leader holds
 
   -- a promise that was made, and that covers the slots from the next one on
-  abbrev pub IsVote : Steps → Ballot → ℕ → Vote Command → Type 0
+  abbrev pub IsVote : Steps → Ballot → ℕ → CountedPromise Command → Type 0
   IsVote h ballot next_slot vote = Among (Promised vote.node ballot vote.from vote.reports) h × (vote.from ≤ next_slot)
 
   pub record IsLeader (h : Steps) (me : ℕ) (next_slot : ℕ) (r : ReplicaState) : Type 0 where
@@ -134,9 +134,9 @@ module _ (ahead : Ahead) (base : Base) where
     pub low : r.leader.ballot.round ≤ r.top.round
     pub first_is : r.leader.is_first ≡ true → r.leader.ballot ≡ first
     -- the promises that it counted were made
-    pub votes : List (Vote Command)
-    pub promisers : r.leader.promisers ≡ map (λ (vote : Vote Command). vote.node) votes
-    pub reports : r.leader.reports ≡ flat_map (λ (vote : Vote Command). vote.reports) votes
+    pub votes : List (CountedPromise Command)
+    pub promisers : r.leader.promisers ≡ map (λ (vote : CountedPromise Command). vote.node) votes
+    pub reports : r.leader.reports ≡ flat_map (λ (vote : CountedPromise Command). vote.reports) votes
     pub made : Each (IsVote h r.leader.ballot next_slot) votes
     -- where its ballot has offered a command, the slot is executed or taken
     pub offers : (slot : ℕ) (command : Command) → Among (Offered r.leader.ballot slot command) h → (slot < next_slot) ⊎ IsTaken r.leader r.ready slot
@@ -247,7 +247,7 @@ module _ (ahead : Ahead) (base : Base) where
   module _ (made : Command → Type 0) (me : ℕ) where
     -- what is in flight is so after one more step
     pub later_flying : (s : Step Command) (h : Steps) (b : Ballot) (flight : Flight Command) → IsFlying h b flight → IsFlying (s ∷ h) b flight
-    later_flying s h b flight f = (inr f.0, Each-weaker _ _ (λ n a. inr a) (voters_of flight.voters) f.1)
+    later_flying s h b flight f = (inr f.0, Each-weaker _ _ (λ n a. inr a) (kept_voters flight.voters) f.1)
 
     -- a step that leaves its acceptor as it is
     pub more_steps : (s : Step Command) (h : Steps) (r : ReplicaState) (k : IsReplica made h me r) → state_of first me (s ∷ h) ≡ state_of first me h
@@ -320,15 +320,15 @@ module _ (ahead : Ahead) (base : Base) where
     pub newer : Steps
     pub are : asked_in name place.1 before ≡ newer ++ before
     pub by : Each (By me) newer
-    pub lawful : IsLawful rule first (newer ++ before)
+    pub lawful : IsLawfulHistory rule first (newer ++ before)
     pub requested : (b : Ballot) (slot : ℕ) (c : Command) → Among (Offered b slot c) (newer ++ before) → made c
     pub replica : IsReplica made (newer ++ before) me place.0
     pub mails : (mail : Mail) → Among mail place.1 → IsTrue made (newer ++ before) mail mail.body
 
   -- one mail more, and what it asks for
-  pub asked_push : (mails : List Mail) (mail : Mail) (h : Steps) → asked_in name (mails ++ mail ∷ []) h ≡ asked_by name mail.body ++ asked_in name mails h
+  pub asked_push : (mails : List Mail) (mail : Mail) (h : Steps) → asked_in name (mails ++ mail ∷ []) h ≡ proposer_steps name mail.body ++ asked_in name mails h
   asked_push [] mail h = refl
-  asked_push (m ∷ mails) mail h = asked_push mails mail (asked_by name m.body ++ h)
+  asked_push (m ∷ mails) mail h = asked_push mails mail (proposer_steps name m.body ++ h)
 
   module _ (made : Command → Type 0) (me : ℕ) (before : Steps) where
     -- the replica changes, and no mail is sent
@@ -336,7 +336,7 @@ module _ (ahead : Ahead) (base : Base) where
     turn r after mails f k = record { newer = f.newer; are = f.are; by = f.by; lawful = f.lawful; requested = f.requested; replica = k; mails = f.mails }
 
     -- a mail is sent that is no step
-    unfoldable pub says : (r : ReplicaState) (mails : List Mail) (mail : Mail) → (f : Fine made me before (r, mails)) → asked_by name mail.body ≡ [] → IsTrue made (f.newer ++ before) mail mail.body
+    unfoldable pub says : (r : ReplicaState) (mails : List Mail) (mail : Mail) → (f : Fine made me before (r, mails)) → proposer_steps name mail.body ≡ [] → IsTrue made (f.newer ++ before) mail mail.body
         → Fine made me before (r, mails ++ mail ∷ [])
     says r mails mail f none t = record {
       newer = f.newer;
@@ -353,7 +353,7 @@ module _ (ahead : Ahead) (base : Base) where
     }
 
     -- a mail is sent that is a step
-    unfoldable pub steps : (r after : ReplicaState) (mails : List Mail) (mail : Mail) (s : Step Command) → (f : Fine made me before (r, mails)) → asked_by name mail.body ≡ s ∷ [] → By me s
+    unfoldable pub steps : (r after : ReplicaState) (mails : List Mail) (mail : Mail) (s : Step Command) → (f : Fine made me before (r, mails)) → proposer_steps name mail.body ≡ s ∷ [] → By me s
         → IsLawfulStep rule first s (f.newer ++ before) → ((b : Ballot) (slot : ℕ) (c : Command) → s ≡ Offered b slot c → made c)
         → IsReplica made (s ∷ f.newer ++ before) me after → IsTrue made (s ∷ f.newer ++ before) mail mail.body → Fine made me before (after, mails ++ mail ∷ [])
     steps r after mails mail s f one by law requested k t = record {

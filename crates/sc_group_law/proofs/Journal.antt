@@ -24,7 +24,7 @@ use Rattle.sc_paxos_words.proofs.ListLemmas.{Each-among}
 use Rattle.sc_paxos_law.specs.Steps.{Offered}
 use Rattle.sc_paxos_law.specs.Chosen.{members_of, IsChosenAfter}
 use Rattle.sc_paxos_law.specs.Decided.{log_of}
-use Rattle.sc_paxos_law.specs.Lawful.{IsLawful}
+use Rattle.sc_paxos_law.specs.Lawful.{IsLawfulHistory}
 use Rattle.sc_paxos_law.proofs.Among.{Among-left, Among-either, shared_member}
 use Rattle.sc_paxos_law.proofs.History.{was_offered}
 use Rattle.sc_paxos_law.proofs.Law.{element}
@@ -109,7 +109,7 @@ module _ (ahead : Ahead) (scenario : Scenario) (base : Base) where
   -- what holds of each lawful journal
   pub record Kept (rows : Journal) : Type 0 where
     -- the steps are lawful, and each command that is offered was requested
-    pub lawful : IsLawful (rule ahead base) (first ahead base) (h_of rows)
+    pub lawful : IsLawfulHistory (rule ahead base) (first ahead base) (h_of rows)
     pub requested : (b : Ballot) (slot : ℕ) (c : Command) → Among (Offered b slot c) (h_of rows) → Made scenario rows c
     -- what mail says is true
     pub true_mail : (m : Mail) → Among m (mails rows) → IsTrue ahead base (Made scenario rows) (h_of rows) m m.body
@@ -136,7 +136,7 @@ module _ (ahead : Ahead) (scenario : Scenario) (base : Base) where
   pub record Moved (rows : Journal) (row : Row Mail OrderLine) : Type 0 where
     pub newer : Steps
     pub are : h_of (rows ++ row ∷ []) ≡ newer ++ h_of rows
-    pub lawful : IsLawful (rule ahead base) (first ahead base) (newer ++ h_of rows)
+    pub lawful : IsLawfulHistory (rule ahead base) (first ahead base) (newer ++ h_of rows)
     pub requested : (b : Ballot) (slot : ℕ) (c : Command) → Among (Offered b slot c) (newer ++ h_of rows) → Made scenario rows c
     pub true_sent : (m : Mail) → Among m row.sent → IsTrue ahead base (Made scenario (rows ++ row ∷ [])) (newer ++ h_of rows) m m.body
     pub nodes : (n : ℕ) → 1 ≤ n → n ≤ scenario.nodes → IsNodeAt (newer ++ h_of rows) rows (rows ++ row ∷ []) n
@@ -150,7 +150,7 @@ module _ (ahead : Ahead) (scenario : Scenario) (base : Base) where
       later (inr (r, is, k)) = inr (r, is, more_made ahead base made more f h me r k)
 
   -- what is chosen was offered
-  pub chosen_offered : (h : Steps) → IsLawful (rule ahead base) (first ahead base) h → (log : List Command) (slot : ℕ) (c : Command) → IsChosenAfter (rule ahead base) h log slot c → (b : Ballot) × Among (Offered b slot c) h
+  pub chosen_offered : (h : Steps) → IsLawfulHistory (rule ahead base) (first ahead base) h → (log : List Command) (slot : ℕ) (c : Command) → IsChosenAfter (rule ahead base) h log slot c → (b : Ballot) × Among (Offered b slot c) h
   chosen_offered h l log slot c is =
       let k = is.chosen in
       let voter = shared_member (members_of (rule ahead base) log slot) k.voters k.voters k.majority k.majority in
@@ -326,7 +326,7 @@ module _ (ahead : Ahead) (scenario : Scenario) (base : Base) where
     -- what holds of a journal holds with one more row
     pub push : Kept next
     push = record {
-      lawful = subst (IsLawful (rule ahead base) (first ahead base)) (sym m.are) m.lawful;
+      lawful = subst (IsLawfulHistory (rule ahead base) (first ahead base)) (sym m.are) m.lawful;
       requested = λ b slot c a. made_later scenario rows row c (m.requested b slot c (subst (Among (Offered b slot c)) m.are a));
       true_mail = λ x a. subst (λ g. IsTrue ahead base (Made scenario next) g x x.body) (sym m.are)
           (elim (Among-either x (mails rows) row.sent (subst (Among x) (mails-snoc rows row) a)) [

@@ -18,8 +18,8 @@ use Rattle.sc_actor.specs.declared.rows.Row.{Row}
 use Rattle.sc_actor.specs.declared.rows.Event.{Event}
 use Rattle.sc_base.specs.Among.{Among, Each}
 use Rattle.sc_paxos_law.specs.Steps.{Offered, Accepted}
-use Rattle.sc_paxos_law.specs.Lawful.{IsLawful}
-use Rattle.sc_node_table.specs.Node.{NodeState, replica_of, with_replica, with_new, group_in, absent, with_made, unknown, may_come, taken_by, routed, on_mail, group_of_order, ordered_of, on_order, ticked, on_tick}
+use Rattle.sc_paxos_law.specs.Lawful.{IsLawfulHistory}
+use Rattle.sc_node_table.specs.Node.{NodeState, replica_of, with_replica, with_new, group_of_mail, absent, with_made, unknown, may_come, taken_by, routed, on_mail, group_of_order, ordered_of, on_order, ticked, on_tick}
 use Rattle.sc_node_table.specs.Slots.{slots_ahead}
 use Rattle.sc_node_table.specs.Mails.{told_desk}
 use Rattle.sc_node_table.specs.Replica.{ReplicaState, Place, name_of, last_slot}
@@ -28,7 +28,7 @@ use Rattle.sc_node_table.specs.Rows.{made_by, mailed, tick_row, order_row}
 use Rattle.sc_hist_law.specs.Laws.{LogTells}
 use Rattle.sc_sound.specs.Accepts.{accepts_of, is_accepted}
 use Rattle.sc_players.specs.Players.{Ahead}
-use Rattle.sc_group_law.specs.Steps.{asked_by, asked_in, promises_of}
+use Rattle.sc_group_law.specs.Steps.{proposer_steps, asked_in, promises_of}
 use Rattle.sc_group_law.proofs.Growth.{By, IsFresh}
 use Rattle.sc_group_law.proofs.Invariant.{Steps, rule, first, birth, Grants, IsReplica, IsState, IsTrue, Fine}
 use Rattle.sc_group_law.proofs.Installs.{fine_install_row, made_place, fine_order_row}
@@ -48,7 +48,7 @@ steps_of group who event body sent before = promises_of group (node_row who even
 
 -- ---- rows that take no step
 
-none_asked : (group : Draw) (body : MailBody) → IsPlain body → asked_by group body ≡ []
+none_asked : (group : Draw) (body : MailBody) → IsPlain body → proposer_steps group body ≡ []
 none_asked group (Prepare g b start) e = absurd e
 none_asked group (Accept g b slot c) e = absurd e
 none_asked group _ e = refl
@@ -109,7 +109,7 @@ module _ (ahead : Ahead) (base : Base) (made : Command → Type 0) where
     pub newer : Steps
     pub are : after ≡ newer ++ before
     pub by : Each (By me) newer
-    pub lawful : IsLawful (rule ahead base) (first ahead base) (newer ++ before)
+    pub lawful : IsLawfulHistory (rule ahead base) (first ahead base) (newer ++ before)
     pub requested : (b : Ballot) (slot : ℕ) (c : Command) → Among (Offered b slot c) (newer ++ before) → made c
     pub node : IsNode (newer ++ before) me step.0
     pub mails : (mail : Mail) → Among mail step.1 → IsTrue ahead base made (newer ++ before) mail mail.body
@@ -117,7 +117,7 @@ module _ (ahead : Ahead) (base : Base) (made : Command → Type 0) where
   module _ (grants : Grants ahead base made) (me : ℕ) (before : Steps)
       (some : (log : List Command) → Each made log → (node : ℕ) × (rest : List ℕ) × ((rule ahead base).members log ≡ node ∷ rest))
       (law : (log : List Command) → Each made log → LogTells (birth ahead base) log)
-      (lawful : IsLawful (rule ahead base) (first ahead base) before)
+      (lawful : IsLawfulHistory (rule ahead base) (first ahead base) before)
       (requested : (b : Ballot) (slot : ℕ) (c : Command) → Among (Offered b slot c) before → made c) where
     abbrev group : Draw
     group = base.core.id
@@ -139,7 +139,7 @@ module _ (ahead : Ahead) (base : Base) (made : Command → Type 0) where
     by_fine : (event : Event OrderLine) (body : MailBody) (place : Place) → Fine ahead base made me before place → steps_of group me event body place.1 before ≡ asked_in group place.1 before → RowEnded event body place
     by_fine event body place f e = ended_by ahead base made grants me before some law place _ f e
 
-    mailed_ended : (event : Event OrderLine) (mail : Mail) (body : MailBody) (r : ReplicaState) → IsReplica ahead base made before me r → (g : Draw) → group_in body ≡ Some g → g ≡ group
+    mailed_ended : (event : Event OrderLine) (mail : Mail) (body : MailBody) (r : ReplicaState) → IsReplica ahead base made before me r → (g : Draw) → group_of_mail body ≡ Some g → g ≡ group
         → IsTrue ahead base made before mail body → RowEnded event body (mailed mail.from body (r, []))
     unfolding mailed start
     mailed_ended event mail (Request g client seq op) r k named into is t =
@@ -217,13 +217,13 @@ module _ (ahead : Ahead) (base : Base) (made : Command → Type 0) where
     unknown_ended event mail body node k none fresh t = absent_ended event mail body node k
 
     -- no state of another group is sent
-    other_ended : (event : Event OrderLine) (mail : Mail) (body : MailBody) (g : Draw) → (g ≡ group → ⊥) → group_in body ≡ Some g → (node : NodeState) → IsNode before me node → IsTrue ahead base made before mail body
+    other_ended : (event : Event OrderLine) (mail : Mail) (body : MailBody) (g : Draw) → (g ≡ group → ⊥) → group_of_mail body ≡ Some g → (node : NodeState) → IsNode before me node → IsTrue ahead base made before mail body
         → Goal event body (unknown mail.from body node)
     other_ended event mail (Install named slot state sets) g other into node k t =
         absurd (other (let same : named ≡ g = cc in sym same ∙ draw_is named group t.0))
     other_ended event mail body g other into node k t = absent_ended event mail body node k
 
-    taken_ended : (event : Event OrderLine) (mail : Mail) (body : MailBody) (g : Draw) → group_in body ≡ Some g → (node : NodeState) → IsNode before me node → IsTrue ahead base made before mail body
+    taken_ended : (event : Event OrderLine) (mail : Mail) (body : MailBody) (g : Draw) → group_of_mail body ≡ Some g → (node : NodeState) → IsNode before me node → IsTrue ahead base made before mail body
         → Goal event body (taken_by (replica_of g node.replicas) g mail.from body node)
     taken_ended event mail body g into node at t = by at.holds
       where
@@ -237,7 +237,7 @@ module _ (ahead : Ahead) (base : Base) (made : Command → Type 0) where
             (λ e. of_ended event body g r node (mailed mail.from body (r, [])) at is e (mailed_ended event mail body r k g into (sym (draw_is (name_of r) g e) ∙ named) t))
             (λ e. other_ended event mail body g (λ same. (let no_way : true ≡ false = sym (same_name (name_of r) g (named ∙ sym same)) ∙ e in absurd (cc))) into node at t))
 
-    routed_ended : (event : Event OrderLine) (mail : Mail) (body : MailBody) (o : Option Draw) → group_in body ≡ o → (node : NodeState) → IsNode before me node → IsTrue ahead base made before mail body
+    routed_ended : (event : Event OrderLine) (mail : Mail) (body : MailBody) (o : Option Draw) → group_of_mail body ≡ o → (node : NodeState) → IsNode before me node → IsTrue ahead base made before mail body
         → Goal event body (routed o mail.from body node)
     routed_ended event mail body None into node k t = unchanged event body node [] k tt (λ m a. absurd a)
     routed_ended event mail body (Some g) into node k t = taken_ended event mail body g into node k t
@@ -245,7 +245,7 @@ module _ (ahead : Ahead) (base : Base) (made : Command → Type 0) where
     -- a mail comes
     pub mail_ended : (event : Event OrderLine) (mail : Mail) (node : NodeState) → IsNode before me node → IsTrue ahead base made before mail mail.body → Goal event mail.body (on_mail mail.from mail.body node)
     mail_ended event mail node k t =
-        cond_both (may_come mail.from mail.body) _ _ (Goal event mail.body) (λ _. routed_ended event mail mail.body (group_in mail.body) refl node k t) (λ _. unchanged event mail.body node [] k tt (λ m a. absurd a))
+        cond_both (may_come mail.from mail.body) _ _ (Goal event mail.body) (λ _. routed_ended event mail mail.body (group_of_mail mail.body) refl node k t) (λ _. unchanged event mail.body node [] k tt (λ m a. absurd a))
 
     -- the clock ticks
     abbrev Ticked : NodeState × List Mail → Type 0

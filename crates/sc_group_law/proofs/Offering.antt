@@ -23,12 +23,12 @@ use Rattle.sc_paxos_words.specs.declared.reports.Report.{Report}
 use Rattle.sc_base.specs.Among.{Among, Each}
 use Rattle.sc_paxos_words.specs.Ballots.{below}
 use Rattle.sc_paxos_words.specs.Choice.{choice, names_above}
-use Rattle.sc_paxos_words.specs.Leaders.{must, must_without, Obeys, flight_at, offered as offered_by}
+use Rattle.sc_paxos_words.specs.Leaders.{must, must_without, Obeys, flight_at, with_flight_at}
 use Rattle.sc_paxos_words.proofs.ChoiceLemmas.{choice_among}
 use Rattle.sc_paxos_words.proofs.ListLemmas.{Each-among, Each-weaker, Each-append}
 use Rattle.sc_paxos_law.specs.Steps.{Step, Offered}
 use Rattle.sc_paxos_law.specs.Chosen.{needed, members_of}
-use Rattle.sc_paxos_law.specs.Lawful.{Vote, MayOffer}
+use Rattle.sc_paxos_law.specs.Lawful.{CountedPromise, MayOffer}
 use Rattle.sc_paxos_law.proofs.Among.{Among-left, Among-right, from_flat_map}
 use Rattle.sc_paxos_law.proofs.History.{was_offered, report_accepted}
 use Rattle.sc_paxos_words.specs.Logs.{next_of}
@@ -103,12 +103,12 @@ module _ (ahead : Ahead) (base : Base) (made : Command → Type 0) (grants : Gra
   -- ---- one offer
 
   offering_replica : (h : Steps) (slot : ℕ) (c : Command) (r : ReplicaState) → IsReplica ahead base made h me r → r.running ≡ true
-      → IsReplica ahead base made (Offered r.leader.ballot slot c ∷ h) me (record r { leader = offered_by slot c r.leader })
+      → IsReplica ahead base made (Offered r.leader.ballot slot c ∷ h) me (record r { leader = with_flight_at slot c r.leader })
   offering_replica h slot c r k runs =
       let l = k.leads runs in
       let s : Step Command = Offered r.leader.ballot slot c in
       let new : Flight Command = record { slot = slot; value = c; voters = None } in
-      let stays : (at : ℕ) → (at < length k.whole + 1) ⊎ IsTaken ahead base r.leader r.ready at → (at < length k.whole + 1) ⊎ IsTaken ahead base (offered_by slot c r.leader) r.ready at = λ at o. (
+      let stays : (at : ℕ) → (at < length k.whole + 1) ⊎ IsTaken ahead base r.leader r.ready at → (at < length k.whole + 1) ⊎ IsTaken ahead base (with_flight_at slot c r.leader) r.ready at = λ at o. (
       elim o [
         | inl lt ↦ inl lt
         | inr (inl (f, a, e)) ↦ inr (inl (f, Among-left f r.leader.flights (new ∷ []) a, e))
@@ -177,7 +177,7 @@ module _ (ahead : Ahead) (base : Base) (made : Command → Type 0) (grants : Gra
       let k = f.replica in
       let h = f.newer ++ before in
       let b = r.leader.ballot in
-      let after : ReplicaState = record r { leader = offered_by slot c r.leader } in
+      let after : ReplicaState = record r { leader = with_flight_at slot c r.leader } in
       let mail : Mail = record { from = r.me; to = node; body = Accept (name_of r) b slot c } in
       let own = (k.leads runs).own in
       let place = steps ahead base made me before r after mails mail (Offered b slot c) f (asked_accept (name_of r) base.core.id b slot c (name_is ahead base made me before h r k)) own may
@@ -327,7 +327,7 @@ module _ (ahead : Ahead) (base : Base) (made : Command → Type 0) (grants : Gra
       let l = f.replica.leads runs in
       let picked = must_value (names_above slot r.leader.reports) (choice slot r.leader.reports) c e in
       let there = choice_among slot r.leader.reports picked.0 picked.1 in
-      let from = from_flat_map (λ (vote : Vote Command). vote.reports) l.votes picked.0 (subst (Among picked.0) l.reports there.0) in
+      let from = from_flat_map (λ (vote : CountedPromise Command). vote.reports) l.votes picked.0 (subst (Among picked.0) l.reports there.0) in
       let vote = Each-among _ l.votes from.0 l.made from.1 in
       let did = report_accepted (rule ahead base) (first ahead base) h from.0.node r.leader.ballot from.0.from from.0.reports picked.0 f.lawful vote.0 from.2 in
       subst made picked.2 (f.requested picked.0.ballot picked.0.slot picked.0.value

@@ -19,7 +19,7 @@ use Rattle.sc_scenario.specs.declared.scenarios.Asks.{Asks}
 use Rattle.sc_players.specs.Players.{Ahead}
 use Rattle.sc_machine_table.specs.Logs.{state_after, effects_of, entry_of, done_by}
 use Rattle.sc_sound.specs.Logs.{decided_log}
-use Rattle.sc_sound.specs.Histories.{gained, history, decided_from, decided_row}
+use Rattle.sc_sound.specs.Histories.{newly_decided, history, decided_from, decided_row}
 use Rattle.sc_sound.specs.Requests.{issues, issued_from, issue_row, kept_replies, answered_from, answer_row}
 use Rattle.sc_sound.proofs.Rows.{history-push}
 use Rattle.sc_hist_law.specs.Laws.{IsDone}
@@ -169,6 +169,6 @@ history_on ahead base rows row more e is =
     let log = decided_log ahead base rows in
     let group = group_of base in
     history-push ahead (base ∷ []) rows row
-    ∙ ap (λ es. es ++ flat_map (gained ahead rows (rows ++ row ∷ [])) (base ∷ [])) is
-    ∙ ap (λ es. done_by group log ++ es) (append-nil (gained ahead rows (rows ++ row ∷ []) base) ∙ ap (λ l. done_by (state_after group log) (drop (length log) l)) e ∙ ap (done_by (state_after group log)) (drop_front log more))
+    ∙ ap (λ es. es ++ flat_map (newly_decided ahead rows (rows ++ row ∷ [])) (base ∷ [])) is
+    ∙ ap (λ es. done_by group log ++ es) (append-nil (newly_decided ahead rows (rows ++ row ∷ []) base) ∙ ap (λ l. done_by (state_after group log) (drop (length log) l)) e ∙ ap (done_by (state_after group log)) (drop_front log more))
     ∙ sym (done_append group log more) ∙ ap (done_by group) (sym e)

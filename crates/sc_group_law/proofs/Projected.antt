@@ -21,9 +21,9 @@ use Rattle.sc_paxos_words.specs.declared.reports.Report.{Report}
 use Rattle.sc_paxos_words.proofs.ListLemmas.{Each-weaker}
 use Rattle.sc_paxos_law.specs.Steps.{Step, Prepared, Promised, Offered, Accepted, Cut}
 use Rattle.sc_paxos_law.specs.Chosen.{Rule, members_of, IsChosenAfter, IsLog}
-use Rattle.sc_paxos_law.specs.Decided.{voters_of, lesser_of, found_in, chosen_at, top_slot, longer, log_of}
+use Rattle.sc_paxos_law.specs.Decided.{voters_of, lesser_of, found_in, chosen_at, top_slot, with_next_entries, log_of}
 use Rattle.sc_sound.specs.Accepts.{accepts_of, accepts_got, accepts_at, accepts_from, accepts, is_accepted}
-use Rattle.sc_group_law.specs.Steps.{asked_by, asked_in, promised_by, promises_of, promises_got, promises_at, steps_at, steps_from, steps}
+use Rattle.sc_group_law.specs.Steps.{proposer_steps, asked_in, promised_by, promises_of, promises_got, promises_at, steps_at, steps_from, steps}
 
 -- what is accepted among steps
 abbrev pub only : {V : Type 0} → List (Step V) → List (Step V)
@@ -70,20 +70,20 @@ on_found log more None = log
 on_found log more (Some v) = more v
 
 module _ {V : Type 0} (rule : Rule V) (h : List (Step V)) where
-  longer_only : (more : ℕ) (log : List V) → longer rule (only h) more log ≡ longer rule h more log
+  longer_only : (more : ℕ) (log : List V) → with_next_entries rule (only h) more log ≡ with_next_entries rule h more log
   longer_only zero log = refl
   longer_only (suc more) log =
-      ap (on_found log (λ v. longer rule (only h) more (log ++ v ∷ []))) (chosen_only (members_of rule log (length log + 1)) h (length log + 1))
+      ap (on_found log (λ v. with_next_entries rule (only h) more (log ++ v ∷ []))) (chosen_only (members_of rule log (length log + 1)) h (length log + 1))
       ∙ either (λ v. longer_only more (log ++ v ∷ [])) (chosen_at (members_of rule log (length log + 1)) h (length log + 1))
     where
-      either : ((v : V) → longer rule (only h) more (log ++ v ∷ []) ≡ longer rule h more (log ++ v ∷ [])) → (o : Option V)
-          → on_found log (λ v. longer rule (only h) more (log ++ v ∷ [])) o ≡ on_found log (λ v. longer rule h more (log ++ v ∷ [])) o
+      either : ((v : V) → with_next_entries rule (only h) more (log ++ v ∷ []) ≡ with_next_entries rule h more (log ++ v ∷ [])) → (o : Option V)
+          → on_found log (λ v. with_next_entries rule (only h) more (log ++ v ∷ [])) o ≡ on_found log (λ v. with_next_entries rule h more (log ++ v ∷ [])) o
       either rest None = refl
       either rest (Some v) = rest v
 
   -- the decided log is told by acceptances alone
   pub log_only : log_of rule (only h) ≡ log_of rule h
-  log_only = ap (λ n. longer rule (only h) n []) (top_only h) ∙ longer_only (top_slot h) []
+  log_only = ap (λ n. with_next_entries rule (only h) n []) (top_only h) ∙ longer_only (top_slot h) []
 
 -- ---- what is chosen
 
@@ -138,14 +138,14 @@ only-append (Accepted n c s v ∷ g) h = ap (λ (x : List (Step Command)). Accep
 only-append (Cut n upto ∷ g) h = only-append g h
 
 module _ (group : Draw) where
-  no_asked : (body : MailBody) → only (asked_by group body) ≡ []
+  no_asked : (body : MailBody) → only (proposer_steps group body) ≡ []
   no_asked (Prepare g b start) = cond_both (same_draw g group) (Prepared b start ∷ []) [] (λ (x : List (Step Command)). only x ≡ []) (λ _. refl) (λ _. refl)
   no_asked (Accept g b slot c) = cond_both (same_draw g group) (Offered b slot c ∷ []) [] (λ (x : List (Step Command)). only x ≡ []) (λ _. refl) (λ _. refl)
   no_asked _ = refl
 
   only_asked : (sent : List Mail) (h : List (Step Command)) → only (asked_in group sent h) ≡ only h
   only_asked [] h = refl
-  only_asked (m ∷ sent) h = only_asked sent (asked_by group m.body ++ h) ∙ only-append (asked_by group m.body) h ∙ ap (λ x. x ++ only h) (no_asked m.body)
+  only_asked (m ∷ sent) h = only_asked sent (proposer_steps group m.body ++ h) ∙ only-append (proposer_steps group m.body) h ∙ ap (λ x. x ++ only h) (no_asked m.body)
 
   no_promise : (who : ℕ) (b : Ballot) (start : ℕ) (body : MailBody) → only (promised_by group who b start body) ≡ []
   no_promise who b start (Promise g c rs) =

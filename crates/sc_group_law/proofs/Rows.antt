@@ -28,7 +28,7 @@ use Rattle.sc_node_table.specs.Mails.{sent, sent_all}
 use Rattle.sc_node_table.specs.Queues.{call_of, without_call}
 use Rattle.sc_node_table.specs.Pump.{serves_calls}
 use Rattle.sc_node_table.specs.Voting.{nack_row}
-use Rattle.sc_node_table.specs.Rows.{refused_at, queued, requested, request_row, learn_row, taught, most_taught, asked_from, ask_row, uncounted, asked_again, told_last, tick_row}
+use Rattle.sc_node_table.specs.Rows.{refused_at, queued, requested, request_row, learn_row, taught, most_taught, ask_answered, ask_row, uncounted, asked_again, told_last, tick_row}
 use Rattle.sc_hist_law.specs.Laws.{LogTells}
 use Rattle.sc_players.specs.Players.{Ahead}
 use Rattle.sc_group_law.proofs.Growth.{IsLearnt}
@@ -94,7 +94,7 @@ module _ (ahead : Ahead) (base : Base) (made : Command → Type 0) (grants : Gra
       go rest (Some c) e =
           rest _ (says ahead base made me before r mails (record { from = r.me; to = from; body = Learn (name_of r) slot c }) f refl (λ _. entry_learnt (f.newer ++ before) slot r c f.replica e))
 
-  asked_from_place : (o : Option Command) (from slot : ℕ) (r : ReplicaState) (mails : List Mail) → Ok (r, mails) → Ok (asked_from o from slot (r, mails))
+  asked_from_place : (o : Option Command) (from slot : ℕ) (r : ReplicaState) (mails : List Mail) → Ok (r, mails) → Ok (ask_answered o from slot (r, mails))
   asked_from_place None from slot r mails f = installed_place ahead base made me before from r mails f
   asked_from_place (Some c) from slot r mails f = fine_taught most_taught from slot r mails f
 

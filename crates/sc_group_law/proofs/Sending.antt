@@ -18,24 +18,24 @@ use Rattle.sc_mail.specs.declared.bodies.MailBody.TheVariants.{Answer, Prepare, 
 use Rattle.sc_machine_table.specs.Group.{Group}
 use Rattle.sc_base.specs.Among.{Among}
 use Rattle.sc_paxos_words.specs.Ballots.{below}
-use Rattle.sc_paxos_words.specs.Leaders.{elected as new_leader}
+use Rattle.sc_paxos_words.specs.Leaders.{new_leader}
 use Rattle.sc_paxos_words.proofs.BallotLemmas.{below_parts}
 use Rattle.sc_paxos_law.specs.Steps.{Step, Prepared, Offered}
 use Rattle.sc_node_table.specs.Election.{elected, ended, stopped, saw, open_nodes}
-use Rattle.sc_node_table.specs.Mails.{sent, sent_all, sent_others, answered, answered_all, order_in, told_order, dismissed, dismissed_all}
+use Rattle.sc_node_table.specs.Mails.{sent, sent_all, sent_others, answered, answered_all, order_number, told_order, dismissed, dismissed_all}
 use Rattle.sc_node_table.specs.Replica.{ReplicaState, Place, name_of, next, under_way}
 use Rattle.sc_players.specs.Players.{Ahead}
 use Rattle.sc_hist_law.proofs.Logs.{state_same}
-use Rattle.sc_group_law.specs.Steps.{asked_by}
+use Rattle.sc_group_law.specs.Steps.{proposer_steps}
 use Rattle.sc_group_law.proofs.Growth.{IsLearnt, offer_again}
 use Rattle.sc_group_law.proofs.Invariant.{Steps, rule, first, birth, IsReplica, next_after, IsTrueAnswer, Fine, more_steps, turn, says, steps}
 use Rattle.sc_base.proofs.NameLemmas.{same_name}
 
-pub asked_prepare : (group other : Draw) (b : Ballot) (from : ℕ) → group ≡ other → asked_by other (Prepare group b from) ≡ Prepared b from ∷ []
+pub asked_prepare : (group other : Draw) (b : Ballot) (from : ℕ) → group ≡ other → proposer_steps other (Prepare group b from) ≡ Prepared b from ∷ []
 asked_prepare group other b from e = cond-true (same_draw group other) (Prepared b from ∷ []) [] (same_name group other e)
 
 -- an Accept of the group is an offer
-pub asked_accept : (group other : Draw) (b : Ballot) (slot : ℕ) (c : Command) → group ≡ other → asked_by other (Accept group b slot c) ≡ Offered b slot c ∷ []
+pub asked_accept : (group other : Draw) (b : Ballot) (slot : ℕ) (c : Command) → group ≡ other → proposer_steps other (Accept group b slot c) ≡ Offered b slot c ∷ []
 asked_accept group other b slot c e = cond-true (same_draw group other) (Offered b slot c ∷ []) [] (same_name group other e)
 
 module _ (ahead : Ahead) (base : Base) (made : Command → Type 0) (me : ℕ) (before : Steps) where
@@ -122,7 +122,7 @@ module _ (ahead : Ahead) (base : Base) (made : Command → Type 0) (me : ℕ) (b
   unfolding dismissed
   dismissed_one r mails group hint answer dull (Call client seq op) f =
       says ahead base made me before r mails (record { from = r.me; to = client_actor client; body = Answer group seq answer }) f refl (dull (f.newer ++ before) (client_actor client) seq)
-  dismissed_one r mails group hint answer dull c f = told_one r mails (order_in c) (Refused (NotLeader hint)) f
+  dismissed_one r mails group hint answer dull c f = told_one r mails (order_number c) (Refused (NotLeader hint)) f
 
   dismissed_each : (r : ReplicaState) (mails : List Mail) (group : Draw) (hint : Option ℕ) (answer : AnswerBody) → IsDull answer → (cs : List Command) → Ok (r, mails) → Ok (r, dismissed_all r.me group hint answer cs mails)
   unfolding dismissed_all

@@ -16,7 +16,7 @@ use Rattle.sc_actor.specs.declared.rows.Row.{Row}
 use Rattle.sc_actor.specs.Mail.{mails}
 use Rattle.sc_actor.proofs.Induction.{lawful-induction}
 use Rattle.sc_actor.proofs.WalkLemmas.{lawful-prefix}
-use Rattle.sc_client_table.specs.Client.{born as born_client}
+use Rattle.sc_client_table.specs.Client.{born_client}
 use Rattle.sc_ideal.specs.History.{HasEntry, Legal, contents_after}
 use Rattle.sc_ideal.specs.IdealStore.{with_pairs}
 use Rattle.sc_ideal.specs.Clients.{joined_with}
@@ -24,10 +24,10 @@ use Rattle.sc_ideal.specs.declared.Entry.{Entry}
 use Rattle.sc_node_table.specs.Node.{NodeState}
 use Rattle.sc_node_table.specs.Replica.{ReplicaState, born_replica}
 use Rattle.sc_base.specs.Among.{Among, Each}
-use Rattle.sc_paxos_words.specs.Acceptors.{born as born_acceptor}
+use Rattle.sc_paxos_words.specs.Acceptors.{born_acceptor}
 use Rattle.sc_paxos_law.specs.Chosen.{needed, IsChosenAfter, IsLog}
 use Rattle.sc_paxos_law.specs.Decided.{log_of}
-use Rattle.sc_paxos_law.specs.Lawful.{IsLawful}
+use Rattle.sc_paxos_law.specs.Lawful.{IsLawfulHistory}
 use Rattle.sc_paxos_law.proofs.Among.{Among-left}
 use Rattle.sc_paxos_law.proofs.Law.{one_value_per_slot}
 use Rattle.sc_paxos_law.proofs.Decided.{log_of-longest, front_of_log, log_grows}
@@ -43,10 +43,10 @@ use Rattle.sc_sound.specs.Logs.{IsChosenIn, decided_log}
 use Rattle.sc_sound.specs.Histories.{history, decided_row}
 use Rattle.sc_sound.specs.Requests.{IsRequest, kept_replies, kept_reply}
 use Rattle.sc_hist_law.proofs.Logs.{state_core}
-use Rattle.sc_group_law.specs.Laws.{IsReplicated, TellsHistory, IsInTime, KeepsOrder, IsSound, GroupJournalsAreSound}
+use Rattle.sc_group_law.specs.Laws.{IsReplicated, TellsHistory, IsInTime, KeepsOrder, IsSoundForOne, GroupJournalsAreSound}
 use Rattle.sc_group_law.specs.OneGroup.{HasOneGroup}
 use Rattle.sc_players.specs.declared.roles.Role.TheVariants.{Node as ANode}
-use Rattle.sc_group_law.specs.Steps.{asked_by, asked_in, promises_at, steps_at, steps}
+use Rattle.sc_group_law.specs.Steps.{proposer_steps, asked_in, promises_at, steps_at, steps}
 use Rattle.sc_group_law.specs.Told.{HasExecuted, IsDoneAt}
 use Rattle.sc_group_law.proofs.Invariant.{Steps, rule, first, birth, IsReplica, next_after}
 use Rattle.sc_group_law.proofs.Nodes.{Holds, IsNode}
@@ -81,8 +81,8 @@ take_none (suc n) = refl
 asked-after : (group : Draw) (sent : List Mail) (h : Steps) → asked_in group sent h ≡ asked_in group sent [] ++ h
 asked-after group [] h = refl
 asked-after group (m ∷ sent) h =
-    asked-after group sent (asked_by group m.body ++ h) ∙ sym (append_assoc (asked_in group sent []) (asked_by group m.body) h)
-    ∙ ap (λ x. x ++ h) (sym (asked-after group sent (asked_by group m.body)) ∙ ap (asked_in group sent) (sym (append-nil (asked_by group m.body))))
+    asked-after group sent (proposer_steps group m.body ++ h) ∙ sym (append_assoc (asked_in group sent []) (proposer_steps group m.body) h)
+    ∙ ap (λ x. x ++ h) (sym (asked-after group sent (proposer_steps group m.body)) ∙ ap (asked_in group sent) (sym (append-nil (proposer_steps group m.body))))
 
 row_after : (group : Draw) (sent : List Mail) (row : Row Mail OrderLine) (h : Steps) → (newer : Steps) × (steps_at group sent row h ≡ newer ++ h)
 row_after group sent row h =
@@ -224,7 +224,7 @@ module _ (ahead : Ahead) (words : ℕ → ℕ → ℕ × ℕ) (scenario : Scenar
     goes_on : (more : Journal) → K (rows ++ more) → GoesOn log (decided_log ahead base (rows ++ more))
     goes_on more all =
         let split = steps_split base.core.id rows more in
-        let lawful = subst (IsLawful (rule ahead base) (first ahead base)) split.1 all.lawful in
+        let lawful = subst (IsLawfulHistory (rule ahead base) (first ahead base)) split.1 all.lawful in
         let grown = log_grows (rule ahead base) (first ahead base) split.0 h lawful in
         let later = decided_is ahead scenario base (rows ++ more) ∙ ap (log_of (rule ahead base)) split.1 in
         let same = decided_is ahead scenario base rows in (
@@ -342,7 +342,7 @@ module _ (ahead : Ahead) (words : ℕ → ℕ → ℕ × ℕ) (scenario : Scenar
               absurd (omega (arith, order, before, le, one_issue, after)))
         ]
 
-    sound_rows : (more : Journal) → K (rows ++ more) → IsSound ahead scenario base rows more
+    sound_rows : (more : Journal) → K (rows ++ more) → IsSoundForOne ahead scenario base rows more
     sound_rows more all = record { replicated = replicated more all; tells = tells; in_time = in_time_of; in_order = in_order_of }
 
 -- each first part of a lawful journal is sound

@@ -23,9 +23,9 @@ use Rattle.sc_paxos_words.specs.Acceptors.{AcceptorState, may_promise, may_accep
 use Rattle.sc_paxos_words.specs.Ballots.{below}
 use Rattle.sc_paxos_words.proofs.ListLemmas.{Each-weaker, Each-append}
 use Rattle.sc_paxos_law.specs.Steps.{Step, Prepared, Promised, Offered, Accepted, state_of}
-use Rattle.sc_paxos_law.specs.Lawful.{IsLawfulStep, IsLawful}
+use Rattle.sc_paxos_law.specs.Lawful.{IsLawfulStep, IsLawfulHistory}
 use Rattle.sc_paxos_law.proofs.Among.{Among-right, Among-either}
-use Rattle.sc_node_table.specs.Mails.{sent, answered, answered_all, order_in, told_order, dismissed, dismissed_all}
+use Rattle.sc_node_table.specs.Mails.{sent, answered, answered_all, order_number, told_order, dismissed, dismissed_all}
 use Rattle.sc_node_table.specs.Install.{install_to}
 use Rattle.sc_node_table.specs.Election.{ended, saw}
 use Rattle.sc_node_table.specs.Replica.{ReplicaState, Place, name_of}
@@ -70,7 +70,7 @@ told_replies me number result mails e = cond_both (nat_lt 0 number) (sent me 0 (
 dismissed_replies : (me : ℕ) (group : Draw) (hint : Option ℕ) (answer : AnswerBody) (c : Command) (mails : List Mail) → ArePlain mails → ArePlain (dismissed me group hint answer c mails)
 unfolding dismissed
 dismissed_replies me group hint answer (Call client seq op) mails e = Each-append _ mails _ e (tt, tt)
-dismissed_replies me group hint answer c mails e = told_replies me (order_in c) (Refused (NotLeader hint)) mails e
+dismissed_replies me group hint answer c mails e = told_replies me (order_number c) (Refused (NotLeader hint)) mails e
 
 all_dismissed : (me : ℕ) (group : Draw) (hint : Option ℕ) (answer : AnswerBody) (cs : List Command) (mails : List Mail) → ArePlain mails → ArePlain (dismissed_all me group hint answer cs mails)
 unfolding dismissed_all
@@ -156,7 +156,7 @@ pub record Ended (ahead : Ahead) (base : Base) (made : Command → Type 0) (me :
   pub newer : Steps
   pub are : after ≡ newer ++ before
   pub by : Each (By me) newer
-  pub lawful : IsLawful (rule ahead base) (first ahead base) (newer ++ before)
+  pub lawful : IsLawfulHistory (rule ahead base) (first ahead base) (newer ++ before)
   pub requested : (b : Ballot) (slot : ℕ) (c : Command) → Among (Offered b slot c) (newer ++ before) → made c
   pub replica : IsReplica ahead base made (newer ++ before) me place.0
   pub mails : (mail : Mail) → Among mail place.1 → IsTrue ahead base made (newer ++ before) mail mail.body

@@ -25,7 +25,7 @@ use Rattle.sc_client_table.specs.Table.{table, request_of}
 use Rattle.sc_client_table.specs.Turns.{InTurn}
 use Rattle.sc_client_table.proofs.TurnLemmas.{sends_in_turn}
 use Rattle.sc_node_table.specs.Node.{NodeState, on_mail, on_tick, on_order}
-use Rattle.sc_node_table.specs.Slots.{numbers}
+use Rattle.sc_node_table.specs.Slots.{numbers_from}
 use Rattle.sc_base.specs.Among.{Among, Each}
 use Rattle.sc_paxos_words.proofs.ListLemmas.{Each-among, Each-weaker, find_found}
 use Rattle.sc_paxos_law.proofs.Among.{Among-either, from_map, place_among}
@@ -53,7 +53,7 @@ number_among : (sent : List Mail) (number : ℕ) (m : Mail) → numbered sent nu
 number_among sent zero m e = cc
 number_among sent (suc place) m e = place_among sent place m e
 
-among_numbers : (from count n : ℕ) → Among n (numbers from count) → (from ≤ n) × (n < from + count)
+among_numbers : (from count n : ℕ) → Among n (numbers_from from count) → (from ≤ n) × (n < from + count)
 among_numbers from zero n a = absurd a
 among_numbers from (suc count) n (inl e) = (omega (arith, e), omega (arith, e))
 among_numbers from (suc count) n (inr a) = let k = among_numbers (from + 1) count n a in (omega (arith, k.0), omega (arith, k.1))
@@ -333,16 +333,16 @@ module _ (ahead : Ahead) (words : ℕ → ℕ → ℕ × ℕ) (scenario : Scenar
 
   -- ---- all rows
 
-  births_are : births ahead scenario ≡ map nseat (numbers 1 scenario.nodes) ++ map cseat scenario.clients
-  births_are = ap (λ groups. map (node_seat ahead groups) (numbers 1 scenario.nodes) ++ client_seats groups scenario.clients) one.groups
+  births_are : births ahead scenario ≡ map nseat (numbers_from 1 scenario.nodes) ++ map cseat scenario.clients
+  births_are = ap (λ groups. map (node_seat ahead groups) (numbers_from 1 scenario.nodes) ++ client_seats groups scenario.clients) one.groups
 
   actor_step : (rows : Journal) (row : Row Mail OrderLine) → K rows → ActorStep (system_of ahead words scenario) rows row → K (rows ++ row ∷ [])
   actor_step rows row k step =
       let found = find_found (λ (other : Seat Player). eqb other.who step.seat.who) (births ahead scenario) step.seat step.born in
       let there = subst (Among step.seat) births_are found.0 in
-      elim (Among-either step.seat (map nseat (numbers 1 scenario.nodes)) (map cseat scenario.clients) there) [
+      elim (Among-either step.seat (map nseat (numbers_from 1 scenario.nodes)) (map cseat scenario.clients) there) [
         | inl a ↦ (
-            let from = from_map nseat (numbers 1 scenario.nodes) step.seat a in
+            let from = from_map nseat (numbers_from 1 scenario.nodes) step.seat a in
             let bounds = among_numbers 1 scenario.nodes from.0 from.1 in
             let is : row ≡ row_of player_table (nseat from.0) rows step.event = step.row_is ∙ ap (λ (seat : Seat Player). row_of player_table seat rows step.event) (sym from.2) in
             subst (λ (r : Row Mail OrderLine). K (rows ++ r ∷ [])) (sym is)

@@ -20,8 +20,8 @@ abbrev pub three_nodes : Base
 three_nodes = lone_group 0 (1 ∷ 2 ∷ 3 ∷ [])
 
 -- one client puts a value
-abbrev pub example_scenario : Scenario
-example_scenario = record {
+abbrev pub election_scenario : Scenario
+election_scenario = record {
   nodes = 3;
   groups = three_nodes ∷ [];
   policy = false;
@@ -40,8 +40,8 @@ abbrev pub to_each : ℕ → MailBody → List Mail
 to_each from body = record { from = from; to = 1; body = body } ∷ record { from = from; to = 2; body = body } ∷ record { from = from; to = 3; body = body } ∷ []
 
 -- the nodes 2 and 3 accept, and with that the call is decided; node 1 never hears of it. Then node 2 is elected by node 3 and itself
-abbrev pub example : List (Row Mail OrderLine)
-example =
+abbrev pub election_example : List (Row Mail OrderLine)
+election_example =
     row 33 Go (mail 33 1 (Request lone_name 1 1 put_it))
     ∷ row 1 (Deliver 1) (to_each 1 (Accept lone_name first 1 call))
     ∷ row 2 (Deliver 3) (mail 2 1 (Accepted lone_name first 1))

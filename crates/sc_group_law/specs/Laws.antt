@@ -75,7 +75,7 @@ KeepsOrder ahead scenario base rows = (place client seq other who number : ℕ) 
     → answered ≤ issued → place < other
 
 -- the first part of a journal is sound: one value per slot, one legal history, in the order of real time
-pub record IsSound (ahead : Ahead) (scenario : Scenario) (base : Base) (rows more : List (Row Mail OrderLine)) : Type 0 where
+pub record IsSoundForOne (ahead : Ahead) (scenario : Scenario) (base : Base) (rows more : List (Row Mail OrderLine)) : Type 0 where
   pub replicated : IsReplicated ahead scenario base rows more
   pub tells : TellsHistory ahead scenario base rows
   pub in_time : (place client seq : ℕ) → IsDoneAt ahead base rows place client seq → IsInTime ahead scenario base rows place client seq
@@ -84,7 +84,7 @@ pub record IsSound (ahead : Ahead) (scenario : Scenario) (base : Base) (rows mor
 -- each first part of a lawful journal is sound, however many slots are open and whatever words storms draw
 abbrev pub GroupJournalsAreSound : Type 0
 GroupJournalsAreSound = (ahead : Ahead) (words : ℕ → ℕ → ℕ × ℕ) (scenario : Scenario) (base : Base) → HasOneGroup scenario base
-    → (rows more : List (Row Mail OrderLine)) → Lawful ahead words scenario (rows ++ more) → IsSound ahead scenario base rows more
+    → (rows more : List (Row Mail OrderLine)) → Lawful ahead words scenario (rows ++ more) → IsSoundForOne ahead scenario base rows more
 
 -- each valid scenario has one group
 abbrev pub ValidHaveOneGroup : Type 0

@@ -17,15 +17,15 @@ use Rattle.sc_paxos_law.specs.Steps.{Step, Prepared, Promised, Offered}
 use Rattle.sc_sound.specs.Accepts.{accepts_at}
 
 -- a proposer's steps: a Prepare of the group that is sent asks for promises, and an Accept offers its command
-abbrev pub asked_by : Draw → MailBody → List (Step Command)
-asked_by group (Prepare g ballot from_slot) = if same_draw g group then Prepared ballot from_slot ∷ [] else []
-asked_by group (Accept g ballot slot command) = if same_draw g group then Offered ballot slot command ∷ [] else []
-asked_by group _ = []
+abbrev pub proposer_steps : Draw → MailBody → List (Step Command)
+proposer_steps group (Prepare g ballot from_slot) = if same_draw g group then Prepared ballot from_slot ∷ [] else []
+proposer_steps group (Accept g ballot slot command) = if same_draw g group then Offered ballot slot command ∷ [] else []
+proposer_steps group _ = []
 
 -- the steps of these mails, the last one's newest, after older steps
 abbrev pub asked_in : Draw → List Mail → List (Step Command) → List (Step Command)
 asked_in group [] older = older
-asked_in group (mail ∷ mails) older = asked_in group mails (asked_by group mail.body ++ older)
+asked_in group (mail ∷ mails) older = asked_in group mails (proposer_steps group mail.body ++ older)
 
 -- a promise that is sent in a row in which a Prepare of this ballot comes
 abbrev pub promised_by : Draw → ℕ → Ballot → ℕ → MailBody → List (Step Command)

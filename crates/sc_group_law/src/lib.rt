@@ -11,7 +11,7 @@ ghost use Rattle.sc_sound.specs.Histories.{decided_row};
 ghost use Rattle.sc_sound.specs.Requests.{issue_row};
 ghost use Rattle.sc_group_law.specs.OneGroup.{HasOneGroup};
 ghost use Rattle.sc_players.specs.Players.{Lawful};
-ghost use Rattle.sc_group_law.specs.Example.{three_nodes, example_scenario, example, call};
+ghost use Rattle.sc_group_law.specs.Example.{three_nodes, election_scenario, election_example, call};
 ghost use Rattle.sc_group_law.specs.JoinExample.{join_scenario, join_example, join};
 ghost use Rattle.sc_group_law.specs.Laws.{GroupJournalsAreSound, ValidHaveOneGroup};
 
@@ -38,11 +38,11 @@ pub fn valid_scenarios_have_one_group()
 /// The law is about something: a lawful journal of three nodes, in which a request is decided by
 /// two of them, and another node is elected and offers it again.
 pub fn a_journal_with_an_election()
-    ensures one_group { HasOneGroup example_scenario three_nodes }
-    ensures lawful { Lawful four no_words example_scenario example }
-    ensures log { decided_log four three_nodes example ≡ call ∷ [] }
-    ensures decided { decided_row four three_nodes 0 example ≡ Some 4 }
-    ensures issued { issue_row 1 1 example ≡ Some 1 }
+    ensures one_group { HasOneGroup election_scenario three_nodes }
+    ensures lawful { Lawful four no_words election_scenario election_example }
+    ensures log { decided_log four three_nodes election_example ≡ call ∷ [] }
+    ensures decided { decided_row four three_nodes 0 election_example ≡ Some 4 }
+    ensures issued { issue_row 1 1 election_example ≡ Some 1 }
 {}
 
 /// The law is about groups that change: a lawful journal in which the one member of a group decides

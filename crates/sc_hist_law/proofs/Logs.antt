@@ -31,12 +31,12 @@ use Rattle.sc_cmd.specs.declared.votes.Vote.TheVariants as Says
 use Rattle.sc_cmd.specs.declared.effects.Effect.{Effect}
 use Rattle.sc_cmd.specs.declared.effects.Effect.TheVariants.{Again, Stale, NotMine, NoEffect, Changed, Decided}
 use Rattle.sc_machine_table.specs.Group.{Group}
-use Rattle.sc_machine_table.specs.Finishes.{can_gain, gained_group, lost_group, moved, welcomed_group, participant_after, watcher_after, ended, settled_in, finished}
-use Rattle.sc_machine_table.specs.Machine.{applied, numbered, served, called, done, ordered_by, split_group}
+use Rattle.sc_machine_table.specs.Finishes.{can_gain, gained_group, lost_group, moved, welcomed_group, participant_after, watcher_after, party_freed, settled_in, finished}
+use Rattle.sc_machine_table.specs.Machine.{applied, served_by_note, served, called, done, ordered_by, split_group}
 use Rattle.sc_machine_table.specs.Orders.{is_alone, refusal_of, ordered, with_node, without_node}
 use Rattle.sc_machine_table.specs.Plans.{Plan, can_cut, has_key_of, can_split, split_plan, may_merge, merged_group, merge_plan, closing_group, closing_plan, can_repart, taken, giving_group, taking_group, giving_plan, taking_plan, repart_plan, can_migrate, migrated_group, migrate_plan}
 use Rattle.sc_machine_table.specs.Splits.{has_named, left_group}
-use Rattle.sc_machine_table.specs.Transactions.{begun_group, aborted, committed, heard_group, granted, answered, asks_watcher, vote_recorded, released, watch_answered, watch_recorded, is_coordinating}
+use Rattle.sc_machine_table.specs.Transactions.{begun_group, aborted, committed, heard_group, granted, participant_answered, asks_watcher, vote_recorded, released, watch_answered, watch_recorded, is_coordinating}
 use Rattle.sc_machine_table.specs.Votes.{has_voted, vote_of, watch_vote_of, voted_on}
 use Rattle.sc_base.specs.Among.{Each}
 use Rattle.sc_hist_law.specs.Laws.{LeavesWhole}
@@ -48,7 +48,7 @@ cond_core : (group : Group) (b : Bool) (x y : Group × Effect) → x.0.core ≡ 
 cond_core group true x y e f = e
 cond_core group false x y e f = f
 
-numbered_core : (o : Option Noted) (group : Group) (client seq : ℕ) (op : Op) → (numbered o group client seq op).0.core ≡ group.core
+numbered_core : (o : Option Noted) (group : Group) (client seq : ℕ) (op : Op) → (served_by_note o group client seq op).0.core ≡ group.core
 numbered_core None group client seq op = refl
 numbered_core (Some n) group client seq op =
     cond_core group (nat_lt n.seq seq) (done group client seq op) (cond (eqb n.seq seq) (group, Again n.reply) (group, Stale n.seq)) refl
@@ -56,7 +56,7 @@ numbered_core (Some n) group client seq op =
 
 served_core : (group : Group) (client seq : ℕ) (op : Op) → (served group client seq op).0.core ≡ group.core
 served_core group client seq op =
-    cond_core group (holds_key group.core.arc (key_of op)) (numbered (get group.clients client) group client seq op) (group, NotMine group.core.arc group.core.succ)
+    cond_core group (holds_key group.core.arc (key_of op)) (served_by_note (get group.clients client) group client seq op) (group, NotMine group.core.arc group.core.succ)
     (numbered_core (get group.clients client) group client seq op) refl
 
 called_core : (gone : Option Route) (lock : Lock) (group : Group) (client seq : ℕ) (op : Op) → (called gone lock group client seq op).0.core ≡ group.core
@@ -117,7 +117,7 @@ granted_same (Does.Migrate node) group tx order frozen by =
     committed_same (migrate_plan group node frozen) group tx (plan_same (can_migrate group.core node frozen) group (migrated_group group node frozen) _ (refl, refl))
 granted_same (Does.Split at child) group tx order frozen by = (refl, refl)
 
-answered_same : (vote : Vote) (body : Body) (group : Group) (tx : Draw) (order by : ℕ) → IsSameGroup (answered vote body group tx order by).0.core group.core
+answered_same : (vote : Vote) (body : Body) (group : Group) (tx : Draw) (order by : ℕ) → IsSameGroup (participant_answered vote body group tx order by).0.core group.core
 answered_same (Says.Yes frozen) body group tx order by = granted_same body group tx order frozen by
 answered_same (Says.No why) body group tx order by = (refl, refl)
 
@@ -126,8 +126,8 @@ vote_same Free group tx vote by = (refl, refl)
 vote_same (Promised locked offer) group tx vote by = (refl, refl)
 vote_same (Watching locked watch) group tx vote by = (refl, refl)
 vote_same (Coordinating locked body order heard) group tx vote by =
-    cond_either (λ x. IsSameGroup x.core group.core) (same_draw locked tx) (cond (asks_watcher body heard) (group, NoEffect tx) (answered vote body group tx order by)) (group, NoEffect tx)
-    (cond_either (λ x. IsSameGroup x.core group.core) (asks_watcher body heard) (group, NoEffect tx) (answered vote body group tx order by) (refl, refl) (answered_same vote body group tx order by))
+    cond_either (λ x. IsSameGroup x.core group.core) (same_draw locked tx) (cond (asks_watcher body heard) (group, NoEffect tx) (participant_answered vote body group tx order by)) (group, NoEffect tx)
+    (cond_either (λ x. IsSameGroup x.core group.core) (asks_watcher body heard) (group, NoEffect tx) (participant_answered vote body group tx order by) (refl, refl) (answered_same vote body group tx order by))
     (refl, refl)
 
 released_same : (body : Body) (heard : Option Heard) (group : Group) (tx : Draw) → IsSameGroup (released body heard group tx).0.core group.core
@@ -184,7 +184,7 @@ finished_same (Promised locked offer) group tx outcome =
     cond_either (λ x. IsSameGroup x.core group.core) (same_draw locked tx) (settled_in (participant_after outcome group offer) group tx outcome) (group, NoEffect tx)
     (settled_same (participant_after outcome group offer) group tx outcome (after_same outcome group offer)) (refl, refl)
 finished_same (Watching locked watch) group tx outcome =
-    cond_either (λ x. IsSameGroup x.core group.core) (same_draw locked tx) (ended (watcher_after outcome group watch) tx, Decided outcome) (group, NoEffect tx) (refl, refl) (refl, refl)
+    cond_either (λ x. IsSameGroup x.core group.core) (same_draw locked tx) (party_freed (watcher_after outcome group watch) tx, Decided outcome) (group, NoEffect tx) (refl, refl) (refl, refl)
 
 voted_same : (why : Option No) (bond : Lock) (group : Group) (tx : Draw) → IsSameGroup (voted_on why bond group tx).0.core group.core
 voted_same why bond group tx = cond_either (λ x. IsSameGroup x.core group.core) (has_voted group.core tx) (group, NoEffect tx) _ (refl, refl) (refl, refl)

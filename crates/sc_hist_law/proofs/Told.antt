@@ -9,7 +9,7 @@ use Rattle.sc_base.specs.declared.ops.Op.{Op}
 use Rattle.sc_base.specs.declared.ops.Reply.{Reply}
 use Rattle.sc_base.specs.declared.ops.Noted.{Noted}
 use Rattle.sc_ideal.specs.IdealStore.{Contents, key_of, reply_of, after, holds_key}
-use Rattle.sc_ideal.specs.History.{HasEntry, IsReplay, contents_after}
+use Rattle.sc_ideal.specs.History.{HasEntry, HasStoreReplies, contents_after}
 use Rattle.sc_ideal.specs.declared.Entry.{Entry}
 use Rattle.sc_cmd.specs.declared.links.Route.{Route}
 use Rattle.sc_cmd.specs.declared.cores.Lock.{Lock}
@@ -19,18 +19,18 @@ use Rattle.sc_cmd.specs.declared.commands.Command.TheVariants.{Noop, Call, Join,
 use Rattle.sc_cmd.specs.declared.effects.Effect.{Effect}
 use Rattle.sc_cmd.specs.declared.effects.Effect.TheVariants.{Done, Again, Stale, NotMine, Gone, NoEffect}
 use Rattle.sc_machine_table.specs.Group.{Group}
-use Rattle.sc_machine_table.specs.Machine.{applied, done, numbered, served, called}
+use Rattle.sc_machine_table.specs.Machine.{applied, done, served_by_note, served, called}
 use Rattle.sc_machine_table.specs.Orders.{refusal_of, with_node, without_node}
 use Rattle.sc_base.specs.Among.{Among, Each}
 use Rattle.sc_paxos_words.proofs.ListLemmas.{Each-among}
 use Rattle.sc_paxos_law.proofs.Among.{Among-left, Among-right, Among-either}
-use Rattle.sc_hist_law.specs.Laws.{IsEmpty, IsNoted, IsReplied, IsDone, LeavesWhole, LogsTellHistories}
+use Rattle.sc_hist_law.specs.Laws.{HoldsNothing, IsNoted, IsReplied, IsDone, LeavesWhole, LogsTellHistories}
 use Rattle.sc_machine_table.specs.Logs.{state_after, entry_by, entry_of, done_by}
 use Rattle.sc_machine_table.proofs.LogLemmas.{done_push}
 use Rattle.sc_hist_law.proofs.Logs.{ordered_either}
 use Rattle.sc_hist_law.proofs.Kept.{IsApart, all_pairs, apart_push, apart_right}
 
-replay_push : (contents : Contents) (entries : List Entry) (e : Entry) → IsReplay contents entries → e.reply ≡ reply_of e.op (contents_after contents entries) → IsReplay contents (entries ++ e ∷ [])
+replay_push : (contents : Contents) (entries : List Entry) (e : Entry) → HasStoreReplies contents entries → e.reply ≡ reply_of e.op (contents_after contents entries) → HasStoreReplies contents (entries ++ e ∷ [])
 replay_push contents [] e r is = (is, tt)
 replay_push contents (x ∷ xs) e r is = (r.0, replay_push (after x.op contents) xs e r.1 is)
 
@@ -40,7 +40,7 @@ after_push contents (x ∷ xs) e = after_push (after x.op contents) xs e
 
 -- what is told, with the other form of its entries being apart
 pub record IsTold (entries : List Entry) (group : Group) : Type 0 where
-  pub replay : IsReplay empty entries
+  pub replay : HasStoreReplies empty entries
   pub apart : IsApart entries
   pub pairs : contents_after empty entries ≡ group.pairs
   pub noted : (client : ℕ) (noted : Noted) → get group.clients client ≡ Some noted → HasEntry entries client noted.seq noted.reply
@@ -121,7 +121,7 @@ module _ (entries : List Entry) (group : Group) (client seq : ℕ) (op : Op) (to
       ];
     }
 
-  by_note : (o : Option Noted) → get group.clients client ≡ o → IsGood entries client seq op (numbered o group client seq op)
+  by_note : (o : Option Noted) → get group.clients client ≡ o → IsGood entries client seq op (served_by_note o group client seq op)
   by_note None none = new_done (λ e a same. (
       let before = told.latest e a in
       let got : Some before.noted ≡ None = sym before.found ∙ ap (get group.clients) same ∙ none in
@@ -200,7 +200,7 @@ told_on entries group (c ∷ log) keeps told =
     subst (λ es. IsTold es (state_after group (c ∷ log))) (append_assoc entries new (done_by (applied group c).0 log))
     (told_on (entries ++ new) (applied group c).0 log keeps.1 (one_more entries group c keeps.0 told))
 
-at_start : (group : Group) → IsEmpty group → IsTold [] group
+at_start : (group : Group) → HoldsNothing group → IsTold [] group
 at_start group none = record {
   replay = tt;
   apart = tt;

@@ -16,7 +16,7 @@ use Rattle.sc_base.specs.Among.{Among, Each}
 use Rattle.sc_machine_table.specs.Logs.{state_after, effects_of, done_by}
 
 -- a group that holds nothing and has noted nothing
-pub record IsEmpty (group : Group) : Type 0 where
+pub record HoldsNothing (group : Group) : Type 0 where
   pub pairs : group.pairs ≡ empty
   pub clients : group.clients ≡ empty
 
@@ -27,7 +27,7 @@ pub record IsNoted (group : Group) (entry : Entry) : Type 0 where
   pub most : entry.seq ≤ noted.seq
 
 -- These entries are a legal history; the map after it is the group's pairs; and the group's table notes of each client its last entry.
-pub record Tells (entries : List Entry) (group : Group) : Type 0 where
+pub record IsHistoryOf (entries : List Entry) (group : Group) : Type 0 where
   pub legal : Legal entries
   pub pairs : contents_after empty entries ≡ group.pairs
   pub noted : (client : ℕ) (noted : Noted) → get group.clients client ≡ Some noted → HasEntry entries client noted.seq noted.reply
@@ -46,7 +46,7 @@ pub record IsDone (group : Group) (log : List Command) (place client seq : ℕ) 
 
 -- what a log tells from an empty start; each entry is a call of the log, and a reply to a call is that of its entry; each entry has one place, and no request took effect at two
 pub record LogTells (group : Group) (log : List Command) : Type 0 where
-  pub tells : Tells (done_by group log) (state_after group log)
+  pub tells : IsHistoryOf (done_by group log) (state_after group log)
   pub calls : (entry : Entry) → Among entry (done_by group log) → Among (Call entry.client entry.seq entry.op) log
   pub replies : (client seq : ℕ) (op : Op) (reply : Reply) → IsReplied (applied (state_after group log) (Call client seq op)).1 reply
       → HasEntry (done_by group (log ++ Call client seq op ∷ [])) client seq reply
@@ -70,4 +70,4 @@ LeavesWhole (RecordWatch tx vote by) = ⊥
 
 -- each log of such commands tells a history from an empty start
 abbrev pub LogsTellHistories : Type 0
-LogsTellHistories = (group : Group) → IsEmpty group → (log : List Command) → Each LeavesWhole log → LogTells group log
+LogsTellHistories = (group : Group) → HoldsNothing group → (log : List Command) → Each LeavesWhole log → LogTells group log

@@ -6,7 +6,7 @@ use Rattle.std.specs.Cmp.Lexicographic.{slice_cmp, nat_list_cmp_total}
 use Rattle.std.specs.FinMap.{empty, get, insert, get-empty, get-insert}
 use Rattle.sc_base.specs.declared.ops.Reply.{Reply}
 use Rattle.sc_ideal.specs.IdealStore.{Contents, was}
-use Rattle.sc_ideal.specs.History.{Legal, IsReplay, example, AreApart}
+use Rattle.sc_ideal.specs.History.{Legal, HasStoreReplies, example_entries, AreApart}
 
 replied : (old new : Option (List ℕ)) → old ≡ new → ◌≡◌ {A = Reply} (record { old = old }) (record { old = new })
 replied old new e = ap (λ o. record { old = o }) e
@@ -40,7 +40,7 @@ third = cond (was (120 ∷ []) (get second key)) (insert second key (122 ∷ [])
 last : get third key ≡ Some (122 ∷ [])
 last = ap (λ m. get m key) (swapped second (insert second key (122 ∷ [])) still) ∙ found second (122 ∷ [])
 
-replay : IsReplay empty example
+replay : HasStoreReplies empty example_entries
 replay = (
   replied None (get empty key) (sym (get-empty (slice_cmp nat_cmp) key)),
   (
@@ -52,7 +52,7 @@ replay = (
   ),
 )
 
-once : AllPairs AreApart example
+once : AllPairs AreApart example_entries
 once zero zero d below inside client seq = absurd (omega arith)
 once zero (suc zero) d below inside client seq = absurd (omega arith)
 once zero (suc (suc zero)) d below inside client seq = absurd (omega arith)
@@ -68,5 +68,5 @@ once (suc (suc zero)) (suc (suc (suc zero))) d below inside client seq = absurd 
 once i j d below inside client seq = absurd (omega arith)
 
 -- the example is a legal history
-pub example_is_legal : Legal example
+pub example_is_legal : Legal example_entries
 example_is_legal = record { replay = replay; once = once }

@@ -11,7 +11,7 @@ use Rattle.sc_base.specs.Arc.{joined}
 use Rattle.sc_base.specs.Text.{pos_of}
 use Rattle.sc_base.proofs.ArcLemmas.{joins_hold}
 use Rattle.sc_ideal.specs.IdealStore.{Contents, holds_key, part_of, with_pairs}
-use Rattle.sc_ideal.specs.Laws.{PartsJoin}
+use Rattle.sc_ideal.specs.Laws.{MapPartsJoin}
 use Rattle.sc_ideal.proofs.Apart.{same_contents, get-part}
 use lib.Dec.{T}
 
@@ -76,7 +76,7 @@ either false true (Some x) = refl
 either false false old = refl
 
 -- the parts on two arcs that meet join to the part on the joined arc
-pub parts_join : PartsJoin
+pub parts_join : MapPartsJoin
 parts_join arc next contents lo_fits is is' can = same_contents _ _ (λ q.
     let here : get (part_of next contents) q ≡ cond (holds_key next q) (get contents q) None = get-part contents (holds_key next) q in
     let there : get (part_of arc contents) q ≡ cond (holds_key arc q) (get contents q) None = get-part contents (holds_key arc) q in

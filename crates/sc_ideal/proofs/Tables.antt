@@ -8,17 +8,17 @@ use Rattle.std.proofs.lemmas.Bool.Decides.{nat_tests}
 use Rattle.std.proofs.lemmas.Bool.{lt-ltb, le-ltb, cases_lt}
 use Rattle.sc_base.specs.declared.ops.Noted.{Noted}
 use Rattle.sc_base.proofs.CommonLemmas.{cond-same}
-use Rattle.sc_ideal.specs.Clients.{Table, is_later, with_later, joined_with, later}
-use Rattle.sc_ideal.specs.Laws.{JoinedByNumber, JoinedInAnyOrder, Agree, number_of}
+use Rattle.sc_ideal.specs.Clients.{ClientTable, is_later, with_later, joined_with, later}
+use Rattle.sc_ideal.specs.Laws.{JoinedByNumber, JoinedInAnyOrder, Agree, noted_number}
 use Rattle.sc_ideal.proofs.Joins.{ties, none_past, sorted_rest}
 use lib.Dec.{T}
 
-get-choice : (b : Bool) (m n : Table) (q : ℕ) → get (cond b m n) q ≡ cond b (get m q) (get n q)
+get-choice : (b : Bool) (m n : ClientTable) (q : ℕ) → get (cond b m n) q ≡ cond b (get m q) (get n q)
 get-choice true m n q = refl
 get-choice false m n q = refl
 
 -- what a table has at a client after one entry
-get-with_later : (table : Table) (client : ℕ) (noted : Noted) (q : ℕ) → get (with_later table client noted) q ≡ cond (eq_by_cmp nat_cmp q client) (later (get table q) (Some noted)) (get table q)
+get-with_later : (table : ClientTable) (client : ℕ) (noted : Noted) (q : ℕ) → get (with_later table client noted) q ≡ cond (eq_by_cmp nat_cmp q client) (later (get table q) (Some noted)) (get table q)
 get-with_later table client noted q =
     get-choice (is_later (get table client) noted.seq) (insert table client noted) table q
     ∙ ap (λ o. cond (is_later (get table client) noted.seq) o (get table q)) (get-insert nat_cmp_total table client noted q)
@@ -32,7 +32,7 @@ one_more true old noted found none = rw (none refl) refl
 one_more false old noted found none = refl
 
 -- look-ups in joined tables
-pub get-joined_with : (es : List (ℕ × Noted)) → T (is_sorted nat_cmp es) → (table : Table) (q : ℕ) → get (joined_with table es) q ≡ later (get table q) (find nat_cmp q es)
+pub get-joined_with : (es : List (ℕ × Noted)) → T (is_sorted nat_cmp es) → (table : ClientTable) (q : ℕ) → get (joined_with table es) q ≡ later (get table q) (find nat_cmp q es)
 get-joined_with [] up table q = refl
 get-joined_with (e ∷ es) up table q =
     get-joined_with es (sorted_rest nat_cmp nat_cmp_total e es up) (with_later table e.0 e.1) q
@@ -44,10 +44,10 @@ pub joined_by_number : JoinedByNumber
 joined_by_number table other client = get-joined_with (entries other) (entries_sorted other) table client ∙ ap (later (get table client)) (sym (get-entries other client))
 
 -- of two numbers the greater one, in either order
-number_later : (a b : Noted) → number_of (cond (ltb a.seq b.seq) (Some b) (Some a)) ≡ number_of (cond (ltb b.seq a.seq) (Some a) (Some b))
+number_later : (a b : Noted) → noted_number (cond (ltb a.seq b.seq) (Some b) (Some a)) ≡ noted_number (cond (ltb b.seq a.seq) (Some a) (Some b))
 number_later a b = grind (arith, nat_tests)
 
-numbers_turn : (a b : Option Noted) → number_of (later a b) ≡ number_of (later b a)
+numbers_turn : (a b : Option Noted) → noted_number (later a b) ≡ noted_number (later b a)
 numbers_turn None None = refl
 numbers_turn None (Some b) = refl
 numbers_turn (Some a) None = refl
@@ -71,6 +71,6 @@ turns (Some a) (Some b) agree = notes_turn a b agree
 -- tables join in whatever order
 pub joined_in_any_order : JoinedInAnyOrder
 joined_in_any_order table other = record {
-  numbers = λ client. ap number_of (joined_by_number table other client) ∙ numbers_turn (get table client) (get other client) ∙ ap number_of (sym (joined_by_number other table client));
+  numbers = λ client. ap noted_number (joined_by_number table other client) ∙ numbers_turn (get table client) (get other client) ∙ ap noted_number (sym (joined_by_number other table client));
   whole = λ agree. same_map nat_cmp_total exact_unsigned _ _ (λ client. joined_by_number table other client ∙ turns _ _ (agree client) ∙ sym (joined_by_number other table client));
 }

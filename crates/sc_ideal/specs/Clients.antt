@@ -7,8 +7,8 @@ use Rattle.sc_ideal.specs.declared.Seen.{Seen}
 use Rattle.sc_ideal.specs.declared.Seen.TheVariants.{New, Again, Stale}
 
 -- from clients to what was noted of their last request
-abbrev pub Table : Type 0
-Table = FinMap nat_cmp Noted
+abbrev pub ClientTable : Type 0
+ClientTable = FinMap nat_cmp Noted
 
 -- how a number stands to what was noted of its client, if anything was
 abbrev pub seen_of : Option Noted → ℕ → Seen
@@ -21,11 +21,11 @@ is_later None seq = true
 is_later (Some noted) seq = nat_lt noted.seq seq
 
 -- the table with a client's entry, where its number is greater than the one noted
-abbrev pub with_later : Table → ℕ → Noted → Table
+abbrev pub with_later : ClientTable → ℕ → Noted → ClientTable
 with_later table client noted = if is_later (get table client) noted.seq then insert table client noted else table
 
 -- the table joined with entries, by the greater number of each client
-abbrev pub joined_with : Table → List (ℕ × Noted) → Table
+abbrev pub joined_with : ClientTable → List (ℕ × Noted) → ClientTable
 joined_with = fold (λ table entry. with_later table entry.0 entry.1)
 
 -- of two things noted of one client the one with the greater number, and the first where they are equal

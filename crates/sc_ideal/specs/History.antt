@@ -9,9 +9,9 @@ use Rattle.sc_ideal.specs.declared.Entry.{Entry}
 use Rattle.sc_ideal.specs.IdealStore.{Contents, reply_of, after}
 
 -- each entry has the reply of the map that the entries before it leave
-abbrev pub IsReplay : Contents → List Entry → Type 0
-IsReplay contents [] = Unit {0}
-IsReplay contents (entry ∷ entries) = (entry.reply ≡ reply_of entry.op contents) × IsReplay (after entry.op contents) entries
+abbrev pub HasStoreReplies : Contents → List Entry → Type 0
+HasStoreReplies contents [] = Unit {0}
+HasStoreReplies contents (entry ∷ entries) = (entry.reply ≡ reply_of entry.op contents) × HasStoreReplies (after entry.op contents) entries
 
 -- the map that the entries leave
 abbrev pub contents_after : Contents → List Entry → Contents
@@ -24,7 +24,7 @@ AreApart a b = a.client ≡ b.client → a.seq ≡ b.seq → ⊥
 
 -- the replies are those of a replay from the empty map, and no client's number stands twice
 pub record Legal (entries : List Entry) : Type 0 where
-  pub replay : IsReplay empty entries
+  pub replay : HasStoreReplies empty entries
   pub once : AllPairs AreApart entries
 
 -- some entry has this client, number and reply
@@ -36,8 +36,8 @@ pub record HasEntry (entries : List Entry) (client seq : ℕ) (reply : Reply) : 
   pub reply_is : entry.reply ≡ reply
 
 -- an example: put a x answers none, add a y answers x, cas a x z answers x, get a answers z
-abbrev pub example : List Entry
-example =
+abbrev pub example_entries : List Entry
+example_entries =
     (record { client = 1; seq = 1; op = Put (97 ∷ []) (120 ∷ []); reply = record { old = None } })
     ∷ (record { client = 2; seq = 1; op = Add (97 ∷ []) (121 ∷ []); reply = record { old = Some (120 ∷ []) } })
     ∷ (record { client = 1; seq = 2; op = Cas (97 ∷ []) (120 ∷ []) (122 ∷ []); reply = record { old = Some (120 ∷ []) } })

@@ -1,8 +1,8 @@
 //! What the store, its histories and its client tables are to be: definitions and laws, no logic.
 #![tactic(auto)]
 
-ghost use Rattle.sc_ideal.specs.History.{Legal, example};
-ghost use Rattle.sc_ideal.specs.Laws.{ServesApart, PartsJoin, JoinedByNumber, JoinedInAnyOrder};
+ghost use Rattle.sc_ideal.specs.History.{Legal, example_entries};
+ghost use Rattle.sc_ideal.specs.Laws.{ServesApart, MapPartsJoin, JoinedByNumber, JoinedInAnyOrder};
 
 use sc_base::{Dup, Op, OutOfMemory, Reply};
 use std::alloc::Global;
@@ -43,12 +43,12 @@ pub enum Seen {
 /// meet join to the part on the joined arc.
 pub fn parts_are_apart()
     ensures apart { ServesApart }
-    ensures join { PartsJoin }
+    ensures join { MapPartsJoin }
 {}
 
 /// A history with replies of each kind is legal.
 pub fn an_example_is_legal()
-    ensures { Legal example }
+    ensures { Legal example_entries }
 {}
 
 /// Tables join client by client, by the greater number, in whatever order.

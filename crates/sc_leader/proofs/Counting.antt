@@ -9,8 +9,8 @@ use Rattle.sc_paxos_words.specs.declared.answers.Counted.{Counted}
 use Rattle.sc_paxos_words.specs.declared.answers.Counted.TheVariants.{Chosen, NotYet}
 use Rattle.sc_base.specs.Same.{same_ballot}
 use Rattle.sc_base.proofs.NameLemmas.{ballot_itself}
-use Rattle.sc_paxos_words.specs.Leaders.{LeaderState, flight_at, landed, without_flight}
-use Rattle.sc_paxos_words.specs.Votes.{voters_of, voters_after, with_voters, tallied, vote_at, counted}
+use Rattle.sc_paxos_words.specs.Leaders.{LeaderState, flight_at, without_flight_at, without_flight}
+use Rattle.sc_paxos_words.specs.Votes.{kept_voters, voters_after, with_voters, tallied, vote_at, counted}
 
 -- the flight whose voters were found
 pub in_flight : {V : Type 0} (o : Option (Flight V)) (kept : Option (List ℕ)) → option_map (λ (f : Flight V). f.voters) o ≡ Some kept → (f : Flight V) × (o ≡ Some f) × (f.voters ≡ kept)
@@ -29,25 +29,25 @@ is_tallied {V} node ballot slot members leader f kept same there voters =
 
 -- no majority yet
 pub not_yet : {V : Type 0} (slot : ℕ) (value : V) (members : List ℕ) (voters : Option (List ℕ)) (leader : LeaderState V) (count : ℕ) (flights : List (Flight V))
-    → is_majority members (voters_of voters) ≡ false → count ≡ length (voters_of voters) → flights ≡ with_voters slot voters leader.flights
+    → is_majority members (kept_voters voters) ≡ false → count ≡ length (kept_voters voters) → flights ≡ with_voters slot voters leader.flights
     → tallied slot value members voters leader ≡ (NotYet count, record leader { flights = flights })
 not_yet {V} slot value members voters leader count flights f same kept =
-    cond-false (is_majority members (voters_of voters)) (Chosen value, landed slot leader) (NotYet (length (voters_of voters)), record leader { flights = with_voters slot voters leader.flights }) f
+    cond-false (is_majority members (kept_voters voters)) (Chosen value, without_flight_at slot leader) (NotYet (length (kept_voters voters)), record leader { flights = with_voters slot voters leader.flights }) f
     ∙ ap (λ (n : ℕ). (let r : Counted V × LeaderState V = (NotYet n, record leader { flights = with_voters slot voters leader.flights }) in r)) (sym same)
     ∙ ap (λ (fs : List (Flight V)). (let r : Counted V × LeaderState V = (NotYet count, record leader { flights = fs }) in r)) (sym kept)
 
 -- a majority
 pub is_chosen : {V : Type 0} (slot : ℕ) (value : V) (members : List ℕ) (voters : Option (List ℕ)) (leader : LeaderState V) (flights : List (Flight V))
-    → is_majority members (voters_of voters) ≡ true → flights ≡ without_flight slot leader.flights
+    → is_majority members (kept_voters voters) ≡ true → flights ≡ without_flight slot leader.flights
     → tallied slot value members voters leader ≡ (Chosen value, record leader { flights = flights })
 is_chosen {V} slot value members voters leader flights t gone =
-    cond-true (is_majority members (voters_of voters)) (Chosen value, landed slot leader) (NotYet (length (voters_of voters)), record leader { flights = with_voters slot voters leader.flights }) t
+    cond-true (is_majority members (kept_voters voters)) (Chosen value, without_flight_at slot leader) (NotYet (length (kept_voters voters)), record leader { flights = with_voters slot voters leader.flights }) t
     ∙ ap (λ (fs : List (Flight V)). (let r : Counted V × LeaderState V = (Chosen value, record leader { flights = fs }) in r)) (sym gone)
 
 -- a vote that makes no majority, from what was found on the way
 pub no_majority : {V : Type 0} (node : ℕ) (ballot : Ballot) (slot : ℕ) (members : List ℕ) (leader : LeaderState V) (kept voters : Option (List ℕ)) (count : ℕ) (flights : List (Flight V))
     → ballot ≡ leader.ballot → option_map (λ (f : Flight V). f.voters) (flight_at slot leader.flights) ≡ Some kept → voters ≡ voters_after members node kept
-    → is_majority members (voters_of voters) ≡ false → count ≡ length (voters_of voters) → flights ≡ with_voters slot voters leader.flights
+    → is_majority members (kept_voters voters) ≡ false → count ≡ length (kept_voters voters) → flights ≡ with_voters slot voters leader.flights
     → counted node ballot slot members leader ≡ (NotYet count, record leader { flights = flights })
 no_majority {V} node ballot slot members leader kept voters count flights same found after f number written =
     let there = in_flight (flight_at slot leader.flights) kept found in
@@ -58,7 +58,7 @@ no_majority {V} node ballot slot members leader kept voters count flights same f
 -- a vote that makes one
 pub majority : {V : Type 0} (node : ℕ) (ballot : Ballot) (slot : ℕ) (members : List ℕ) (leader : LeaderState V) (kept voters : Option (List ℕ)) (taken : Flight V) (flights : List (Flight V))
     → ballot ≡ leader.ballot → option_map (λ (f : Flight V). f.voters) (flight_at slot leader.flights) ≡ Some kept → voters ≡ voters_after members node kept
-    → is_majority members (voters_of voters) ≡ true → Some taken ≡ flight_at slot leader.flights → flights ≡ without_flight slot leader.flights
+    → is_majority members (kept_voters voters) ≡ true → Some taken ≡ flight_at slot leader.flights → flights ≡ without_flight slot leader.flights
     → counted node ballot slot members leader ≡ (Chosen taken.value, record leader { flights = flights })
 majority {V} node ballot slot members leader kept voters taken flights same found after t there gone =
     let k : (taken.voters ≡ kept) = same_voters taken kept (ap (option_map (λ (f : Flight V). f.voters)) there ∙ found) in

@@ -3,8 +3,8 @@ ghost use Rattle.std.specs.Prelude.{◌≡◌, IfOk, OnOk, OnErr, None};
 ghost use Rattle.std.specs.Option.{option_copied, option_map};
 ghost use Rattle.sc_member.specs.Roster.{is_member};
 ghost use Rattle.sc_paxos_words.specs.Choice.{names_above};
-ghost use Rattle.sc_paxos_words.specs.Leaders.{Obeys, first_leader, elected, promise_counted, is_settled, must, flight_at, offered, landed};
-ghost use Rattle.sc_paxos_words.specs.Votes.{counted, has_voted};
+ghost use Rattle.sc_paxos_words.specs.Leaders.{Obeys, first_leader, new_leader, promise_counted, is_settled, must, flight_at, with_flight_at, without_flight_at};
+ghost use Rattle.sc_paxos_words.specs.Votes.{counted, has_counted};
 
 use crate::flights::{flight_at, set_voters, take_out};
 use crate::picking::pick;
@@ -67,7 +67,7 @@ impl<V> Leader<V> {
     /// A leader of another ballot, elected when `from` was the next slot: no promise is counted and
     /// nothing is in flight.
     pub fn elect(alloc: Global, ballot: Ballot, from: u32) -> Leader<V>
-        ensures { result ≡ elected ballot from }
+        ensures { result ≡ new_leader ballot from }
     {
         Leader {
             ballot,
@@ -118,7 +118,7 @@ impl<V> Leader<V> {
 
     /// Whether a node's vote was counted for what is in flight at a slot.
     pub fn voted(&self, slot: u32, node: u16) -> bool
-        ensures { result ≡ has_voted slot node self.now }
+        ensures { result ≡ has_counted slot node self.now }
     {
         match flight_at(self.flights.as_slice(), slot) {
             Some(flight) => match &flight.voters {
@@ -133,7 +133,7 @@ impl<V> Leader<V> {
     pub fn land(&mut self, slot: u32) -> Option<V>
         ensures value { result
             ≡ option_map (λ flight. flight.value) (flight_at slot self.old.flights) }
-        ensures after { self.new ≡ landed slot self.old }
+        ensures after { self.new ≡ without_flight_at slot self.old }
         ensures empty { flight_at slot self.new.flights ≡ None }
     {
         match take_out(&mut self.flights, slot) {
@@ -171,7 +171,7 @@ impl<V: Drop> Leader<V> {
     pub fn offer(&mut self, slot: u32, value: V) -> Result<(), OutOfMemory>
         requires free { flight_at slot self.old.flights ≡ None }
         requires obeys { Obeys (must slot self.old) value }
-        ensures ok { OnOk result (self.new ≡ offered slot value self.old) }
+        ensures ok { OnOk result (self.new ≡ with_flight_at slot value self.old) }
         ensures err { OnErr result (self.new ≡ self.old) }
     {
         self.flights.push(Flight {

@@ -1,7 +1,7 @@
 //! The kept votes of a flight.
 ghost use Rattle.std.specs.Prelude.{◌≡◌, Some, length};
 ghost use Rattle.sc_member.specs.Majority.{is_majority};
-ghost use Rattle.sc_paxos_words.specs.Votes.{voters_of, add_voter, voters_after};
+ghost use Rattle.sc_paxos_words.specs.Votes.{kept_voters, add_voter, voters_after};
 
 use sc_member::Members;
 
@@ -28,7 +28,7 @@ fn with_voter(node: u16, mut kept: Members) -> Members
 
 /// Whether the kept voters are a majority of the members.
 pub(crate) fn are_majority(members: &Members, voters: &Option<Members>) -> bool
-    ensures { result ≡ is_majority members.now (voters_of voters.now) }
+    ensures { result ≡ is_majority members.now (kept_voters voters.now) }
 {
     match voters {
         None => members.is_majority(&[]),
@@ -38,7 +38,7 @@ pub(crate) fn are_majority(members: &Members, voters: &Option<Members>) -> bool
 
 /// How many voters are kept.
 pub(crate) fn count_of(voters: &Option<Members>) -> u8
-    ensures { result ≡ length (voters_of voters.now) }
+    ensures { result ≡ length (kept_voters voters.now) }
 {
     match voters {
         None => 0,

@@ -9,7 +9,7 @@ use Rattle.sc_lookup.specs.declared.ways.Way.{Way}
 use Rattle.std.specs.Prelude.{is_some, Result, Ok, Err, OnOk, OnErr, IsOk}
 use Rattle.sc_base.specs.declared.dups.OutOfMemory.{OutOfMemory}
 use Rattle.sc_lookup.specs.Ways.{new_way}
-use Rattle.sc_lookup.specs.Known.{Known, way_to, changed, learnt}
+use Rattle.sc_lookup.specs.Known.{Known, way_to, changed, group_learnt}
 
 -- to change what is known of a group that is not known changes nothing
 pub set_value-none : {K X : Type 0} (test : K → Bool) (es : List (K × X)) (w : X) → lookup test es ≡ None → set_value test es w ≡ es
@@ -41,7 +41,7 @@ some_known group [] way e = absurd (cc)
 some_known group (f ∷ known) way e = omega arith
 
 -- after a group was learnt some group is known
-pub some_learnt : (group : Draw) (lo : ℕ) (members : List ℕ) (known : Known) → 1 ≤ length (learnt group lo members known)
+pub some_learnt : (group : Draw) (lo : ℕ) (members : List ℕ) (known : Known) → 1 ≤ length (group_learnt group lo members known)
 some_learnt group lo members known =
     elim (way_to group known) as (λ o. way_to group known ≡ o → 1 ≤ length (cond (is_some o) (changed (λ way. record way { lo = lo }) group known o) (known ++ (group, new_way lo members) ∷ []))) [
       | None ↦ λ e. some_added known (group, new_way lo members)

@@ -8,7 +8,7 @@ use Rattle.sc_base.specs.Same.{same_draw}
 use Rattle.sc_cmd.specs.declared.links.Link.{Link}
 use Rattle.sc_cmd.specs.declared.links.Route.{Route}
 use Rattle.sc_lookup.specs.declared.ways.Way.{Way}
-use Rattle.sc_lookup.specs.Ways.{far, new_way, next_of, target_of}
+use Rattle.sc_lookup.specs.Ways.{far, new_way, next_target, target_of}
 
 -- each group with what is known of it
 abbrev pub Known : Type 0
@@ -37,7 +37,7 @@ target_in group known = option_map target_of (way_to group known)
 
 -- the member after that node
 abbrev pub next_in : Draw → Known → Option ℕ
-next_in group known = option_map next_of (way_to group known)
+next_in group known = option_map next_target (way_to group known)
 
 -- a known group is changed in its place, and one that is not known changes nothing
 abbrev pub changed : (Way → Way) → Draw → Known → Option Way → Known
@@ -50,22 +50,22 @@ preferring group node known = changed (λ way. record way { preferred = Some nod
 
 -- the member after the node to be asked becomes the preferred one
 abbrev pub passed_on : Draw → Known → Known
-passed_on group known = changed (λ way. record way { preferred = Some (next_of way) }) group known (way_to group known)
+passed_on group known = changed (λ way. record way { preferred = Some (next_target way) }) group known (way_to group known)
 
 -- a known group's arc starts elsewhere
 abbrev pub starting : Draw → ℕ → Known → Known
 starting group lo known = changed (λ way. record way { lo = lo }) group known (way_to group known)
 
 -- a known group's arc starts elsewhere, and a group that was not known goes last
-abbrev pub learnt : Draw → ℕ → List ℕ → Known → Known
-learnt group lo members known =
+abbrev pub group_learnt : Draw → ℕ → List ℕ → Known → Known
+group_learnt group lo members known =
     if is_some (way_to group known) then starting group lo known
     else known ++ (group, new_way lo members) ∷ []
 
 -- a group told its arc and its successor, which starts at the arc's end
 abbrev pub told_not_mine : Draw → Arc → Link → Known → Known
-told_not_mine group arc succ known = learnt succ.group (end_of arc) succ.members (starting group arc.lo known)
+told_not_mine group arc succ known = group_learnt succ.group (end_of arc) succ.members (starting group arc.lo known)
 
 -- a group told that it went into another
 abbrev pub told_gone : Draw → Route → Known → Known
-told_gone group into known = learnt into.group into.lo into.members (remove_entry (same_draw group) known)
+told_gone group into known = group_learnt into.group into.lo into.members (remove_entry (same_draw group) known)

@@ -12,8 +12,8 @@ abbrev pub target_of : Way → ℕ
 target_of way = unwrap_or way.preferred (least_of way.members)
 
 -- the member after the node that is asked
-abbrev pub next_of : Way → ℕ
-next_of way = next_after way.members (target_of way)
+abbrev pub next_target : Way → ℕ
+next_target way = next_after way.members (target_of way)
 
 -- how far a position lies after the start of the group's arc
 abbrev pub far : ℕ → Way → ℕ

@@ -4,7 +4,7 @@ ghost use Rattle.std.specs.Map.{set_value};
 ghost use Rattle.indexmap.specs.IndexMap.{spare};
 ghost use Rattle.sc_base.specs.Same.{same_draw};
 ghost use Rattle.sc_lookup.specs.Ways.{new_way};
-ghost use Rattle.sc_lookup.specs.Known.{way_to, chosen, target_in, next_in, better, preferring, passed_on, starting, learnt, told_not_mine, told_gone};
+ghost use Rattle.sc_lookup.specs.Known.{way_to, chosen, target_in, next_in, better, preferring, passed_on, starting, group_learnt, told_not_mine, told_gone};
 
 use crate::ways::Way;
 use indexmap::IndexMap;
@@ -185,7 +185,7 @@ fn learn(
     lo: u32,
     members: Members,
 ) -> Result<(), OutOfMemory>
-    ensures ok { OnOk result (known.new.entries ≡ learnt group lo members known.old.entries) }
+    ensures ok { OnOk result (known.new.entries ≡ group_learnt group lo members known.old.entries) }
     ensures err { OnErr result (known.new.entries ≡ known.old.entries) }
     ensures some { 1 ≤ length known.old.entries → 1 ≤ length known.new.entries }
     ensures room { 0 < spare known.old → IsOk result }

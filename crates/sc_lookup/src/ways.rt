@@ -1,6 +1,6 @@
 //! What a client knows of one group.
 ghost use Rattle.std.specs.Prelude.{◌≡◌};
-ghost use Rattle.sc_lookup.specs.Ways.{far, new_way, next_of, target_of};
+ghost use Rattle.sc_lookup.specs.Ways.{far, new_way, next_target, target_of};
 
 use sc_base::{Dup, OutOfMemory};
 use sc_member::Members;
@@ -38,7 +38,7 @@ impl Way {
 
     /// The member after the node that is asked.
     pub fn next(&self) -> u16
-        ensures { result ≡ next_of self.now }
+        ensures { result ≡ next_target self.now }
     {
         self.members.after(self.target())
     }

@@ -1,6 +1,6 @@
 //! A group that coordinates a transaction: what its parties answer, and what it decides.
 ghost use Rattle.std.specs.Prelude.{◌≡◌, IfOk};
-ghost use Rattle.sc_machine_table.specs.Transactions.{decided, granted, answered, asks_watcher, vote_recorded, released, watch_answered, watch_recorded, is_coordinating, given_up};
+ghost use Rattle.sc_machine_table.specs.Transactions.{decided, granted, participant_answered, asks_watcher, vote_recorded, released, watch_answered, watch_recorded, is_coordinating, given_up};
 
 use crate::machine::Machine;
 use sc_base::{Draw, Dup, OutOfMemory};
@@ -72,7 +72,7 @@ impl Machine {
         by: u16,
     ) -> Result<Effect, OutOfMemory>
         ensures { IfOk result
-            (λ effect. answered vote.now body.now self.old tx order by ≡ (self.new, effect)) }
+            (λ effect. participant_answered vote.now body.now self.old tx order by ≡ (self.new, effect)) }
     {
         match vote {
             Vote::Yes(frozen) => self.grant(body, frozen, tx, order, by),

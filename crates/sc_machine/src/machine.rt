@@ -4,7 +4,7 @@ ghost use Rattle.std.specs.FinMap.{get};
 ghost use Rattle.sc_ideal.specs.IdealStore.{holds_key, key_of};
 ghost use Rattle.sc_ideal.specs.Clients.{seen_of};
 ghost use Rattle.sc_machine_table.specs.Group.{Group, base_of, group_of};
-ghost use Rattle.sc_machine_table.specs.Machine.{applied, called, served, numbered, done};
+ghost use Rattle.sc_machine_table.specs.Machine.{applied, called, served, served_by_note, done};
 ghost use Rattle.sc_machine_table.specs.Plans.{frozen_of};
 
 use sc_base::{Dup, Op, OutOfMemory, RingArc};
@@ -28,13 +28,13 @@ impl Model for Machine {
     ghost use Rattle.std.specs.FinMap as map;
     ghost use Rattle.std.specs.Coded.{Coded, codes, coded_ℕ, coded_list};
     ghost use Rattle.sc_ideal.specs.IdealStore.{Contents};
-    ghost use Rattle.sc_ideal.specs.Clients.{Table};
+    ghost use Rattle.sc_ideal.specs.Clients.{ClientTable};
     ghost use Rattle.sc_machine_table.specs.Group.{Group};
 
     ghost Value = { Group };
 
     ghost coded = { let pairs : Coded Contents = map.code (coded_list coded_ℕ) (coded_list coded_ℕ)
-        in let clients : Coded Table = map.code coded_ℕ (Prim.hlevel codes) in Prim.hlevel
+        in let clients : Coded ClientTable = map.code coded_ℕ (Prim.hlevel codes) in Prim.hlevel
         (codes, pairs, clients) };
 
     ghost view = { λ m. record { core = m.core; pairs = m.store; clients = m.clients } };
@@ -170,7 +170,7 @@ impl Machine {
         requires { seen_of (get self.now.clients client) seq ≡ Seen.Again }
         ensures { IfOk result
             (λ effect.
-            numbered (get self.now.clients client) self.now client seq op.now
+            served_by_note (get self.now.clients client) self.now client seq op.now
             ≡ (self.now, effect)) }
     {
         match self.clients.reply(client) {

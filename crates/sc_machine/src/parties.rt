@@ -1,7 +1,7 @@
 //! A group that takes part in another group's transaction: it votes, and takes over the outcome.
 ghost use Rattle.std.specs.Prelude.{◌≡◌, IfOk, OnOk, Some, None, false, map, take, if◌then◌else◌};
-ghost use Rattle.sc_machine_table.specs.Votes.{has_voted, past_of, voted_on, prepared, watched};
-ghost use Rattle.sc_machine_table.specs.Finishes.{gone_group, gained, lost, moved, welcomed, participant_after, pred_after, closed, voted_after, ended, settled_in, watch_ended, finished};
+ghost use Rattle.sc_machine_table.specs.Votes.{has_voted, past_of, voted_on, offer_voted, watched};
+ghost use Rattle.sc_machine_table.specs.Finishes.{gone_group, gained, lost, moved, group_welcomed, participant_after, pred_after, closed, voted_after, party_freed, settled_in, watch_ended, finished};
 
 use crate::machine::Machine;
 use sc_base::{Draw, Dup, OutOfMemory, Sequence};
@@ -68,7 +68,7 @@ fn voted_after(alloc: Global, core: &Core, tx: Draw) -> Result<VotedList, OutOfM
 
 impl Machine {
     pub(crate) fn prepare(&mut self, tx: Draw, offer: &Offer) -> Result<Effect, OutOfMemory>
-        ensures { IfOk result (λ effect. prepared self.old tx offer.now ≡ (self.new, effect)) }
+        ensures { IfOk result (λ effect. offer_voted self.old tx offer.now ≡ (self.new, effect)) }
     {
         let bond = Lock::Promised { tx, offer: *offer };
         match vote(&self.core, offer) {
@@ -159,7 +159,7 @@ impl Machine {
 
     // The party is free again, and remembers that the transaction has ended.
     fn end(&mut self, tx: Draw) -> Result<(), OutOfMemory>
-        ensures { OnOk result (self.new ≡ ended self.old tx) }
+        ensures { OnOk result (self.new ≡ party_freed self.old tx) }
     {
         self.core.voted = voted_after(self.alloc, &self.core, tx)?;
         self.core.lock = Lock::Free;
@@ -246,7 +246,7 @@ impl Machine {
     }
 
     fn welcome(&mut self, node: u16) -> bool
-        ensures made { welcomed self.old node ≡ (if result then Some self.new else None) }
+        ensures made { group_welcomed self.old node ≡ (if result then Some self.new else None) }
         ensures same { result ≡ false → self.new ≡ self.old }
     {
         match welcomed_members(&self.core, node) {

@@ -11,7 +11,7 @@ use Rattle.sc_base.specs.Text.{pos_of}
 use Rattle.sc_base.specs.declared.ops.Noted.{Noted}
 use Rattle.sc_base.proofs.ArcLemmas.{joins_hold}
 use Rattle.sc_ideal.specs.IdealStore.{Contents, holds_key, part_of, with_pairs}
-use Rattle.sc_ideal.specs.Clients.{Table, later, joined_with}
+use Rattle.sc_ideal.specs.Clients.{ClientTable, later, joined_with}
 use Rattle.sc_ideal.proofs.Apart.{same_contents, get-part}
 use Rattle.sc_ideal.proofs.Joins.{or_else, get-with_pairs}
 use Rattle.sc_ideal.proofs.Tables.{get-joined_with}
@@ -86,7 +86,7 @@ pairs_again pairs = same_contents _ _ (λ key.
     none_else (Some value) = refl
 
 -- the entries of a client table, put into an empty one, make the same table
-pub clients_again : (clients : Table) → joined_with empty (entries clients) ≡ clients
+pub clients_again : (clients : ClientTable) → joined_with empty (entries clients) ≡ clients
 clients_again clients = same_map nat_cmp_total exact_unsigned _ _ (λ client.
     get-joined_with (entries clients) (entries_sorted clients) empty client
     ∙ ap (λ o. later o (find nat_cmp client (entries clients))) (get-empty nat_cmp client)

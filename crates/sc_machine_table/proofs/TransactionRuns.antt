@@ -21,7 +21,7 @@ use Rattle.sc_machine_table.specs.Group.{Group, group_of}
 use Rattle.sc_machine_table.specs.Orders.{refusal_of}
 use Rattle.sc_machine_table.specs.Plans.{kept_arc}
 use Rattle.sc_machine_table.specs.Transactions.{given_up, vote_recorded}
-use Rattle.sc_machine_table.specs.Votes.{vote_of, prepared, watched}
+use Rattle.sc_machine_table.specs.Votes.{vote_of, offer_voted, watched}
 
 abbrev draw : ℕ → ℕ → Draw
 draw node count = record { node = node; count = count }
@@ -80,7 +80,7 @@ gone : vote_of (record (half 2 5 five (Promised tx (offer five Merge))) { gone =
 gone = refl
 
 -- a vote is cast once
-again : (prepared (record (group (half 2 2147483648 five Free)) { core = record (half 2 2147483648 five Free) { voted = (tx, Cast.Ended) ∷ [] } }) tx (offer five Merge)).1 ≡ NoEffect tx
+again : (offer_voted (record (group (half 2 2147483648 five Free)) { core = record (half 2 2147483648 five Free) { voted = (tx, Cast.Ended) ∷ [] } }) tx (offer five Merge)).1 ≡ NoEffect tx
 again = refl
 
 -- ---- a coordinator that gives up hears no Yes
@@ -121,7 +121,7 @@ watching = half 1 0 five (Watching tx watch)
 begins_nothing : refusal_of watching (Begin (draw 3 1) Merge 1) ≡ Some (InTransaction tx)
 begins_nothing = refl
 
-votes_no : (prepared (group watching) (draw 3 1) (offer five Merge)).1 ≡ Voted (Cast.No (Busy tx))
+votes_no : (offer_voted (group watching) (draw 3 1) (offer five Merge)).1 ≡ Voted (Cast.No (Busy tx))
 votes_no = refl
 
 another_before : (watched (group (half 1 0 five Free)) tx (record watch { old = draw 0 6 })).1 ≡ Voted (Cast.No Apart)

@@ -71,8 +71,8 @@ abbrev pub welcomed_group : Group → ℕ → Group
 welcomed_group group node = record group { core = welcomed_core group.core node }
 
 -- the member comes where the group then has at most nine
-abbrev pub welcomed : Group → ℕ → Option Group
-welcomed group node =
+abbrev pub group_welcomed : Group → ℕ → Option Group
+group_welcomed group node =
     if nat_le (length (united group.core.members (node ∷ []))) 9 then Some (welcomed_group group node) else None
 
 -- the participant after an outcome; it is party to no split
@@ -80,7 +80,7 @@ abbrev pub participant_after : Outcome → Group → Offer → Option Group
 participant_after Abort group offer = Some group
 participant_after (Merged into) group offer = Some (gone_group group into)
 participant_after (Moved at gift) group offer = moved gift group offer at
-participant_after (Migrated node) group offer = welcomed group node
+participant_after (Migrated node) group offer = group_welcomed group node
 participant_after Divided group offer = None
 
 -- who stands before the watcher after an outcome
@@ -104,17 +104,17 @@ abbrev pub voted_after : Core → Draw → List (Draw × Past)
 voted_after core tx = if has_voted core tx then map (closed tx) core.voted else core.voted ++ (tx, Ended) ∷ []
 
 -- the party is free again
-abbrev pub ended : Group → Draw → Group
-ended group tx = record group { core = record group.core { lock = Free; voted = voted_after group.core tx } }
+abbrev pub party_freed : Group → Draw → Group
+party_freed group tx = record group { core = record group.core { lock = Free; voted = voted_after group.core tx } }
 
 -- the participant takes over the outcome, if it can
 abbrev pub settled_in : Option Group → Group → Draw → Outcome → Group × Effect
 settled_in None group tx outcome = (group, NoEffect tx)
-settled_in (Some after) group tx outcome = (ended after tx, Decided outcome)
+settled_in (Some after) group tx outcome = (party_freed after tx, Decided outcome)
 
 -- the watcher takes it over in any case
 abbrev pub watch_ended : Outcome → Group → Draw → Watch → Group × Effect
-watch_ended outcome group tx watch = (ended (watcher_after outcome group watch) tx, Decided outcome)
+watch_ended outcome group tx watch = (party_freed (watcher_after outcome group watch) tx, Decided outcome)
 
 -- an outcome by the lock: that of the transaction that the group has promised, or that it watches
 abbrev pub finished : Lock → Group → Draw → Outcome → Group × Effect

@@ -1,7 +1,7 @@
 -- A group as its machine keeps it: its record, its pairs and its client table.
 use Rattle.std.specs.FinMap.{empty, entries}
 use Rattle.sc_ideal.specs.IdealStore.{Contents, with_pairs}
-use Rattle.sc_ideal.specs.Clients.{Table, joined_with}
+use Rattle.sc_ideal.specs.Clients.{ClientTable, joined_with}
 use Rattle.sc_cmd.specs.declared.cores.Core.{Core}
 use Rattle.sc_cmd.specs.declared.cores.Base.{Base}
 
@@ -9,7 +9,7 @@ use Rattle.sc_cmd.specs.declared.cores.Base.{Base}
 pub record Group : Type 0 where
   pub core : Core
   pub pairs : Contents
-  pub clients : Table
+  pub clients : ClientTable
 
 -- the group that a record starts
 abbrev pub group_of : Base → Group

@@ -18,7 +18,7 @@ use Rattle.sc_machine_table.specs.Group.{Group}
 use Rattle.sc_machine_table.specs.Orders.{is_alone, refusal_of, ordered, with_node, without_node}
 use Rattle.sc_machine_table.specs.Splits.{has_named, left_group}
 use Rattle.sc_machine_table.specs.Transactions.{begun_group, given_up, vote_recorded, watch_recorded}
-use Rattle.sc_machine_table.specs.Votes.{prepared, watched}
+use Rattle.sc_machine_table.specs.Votes.{offer_voted, watched}
 use Rattle.sc_machine_table.specs.Finishes.{finished}
 
 -- a new request: the operation is applied, and the client table notes its number and reply
@@ -29,9 +29,9 @@ done group client seq op = (
 )
 
 -- a request by what the client table notes of its client
-abbrev pub numbered : Option Noted → Group → ℕ → ℕ → Op → Group × Effect
-numbered None group client seq op = done group client seq op
-numbered (Some noted) group client seq op =
+abbrev pub served_by_note : Option Noted → Group → ℕ → ℕ → Op → Group × Effect
+served_by_note None group client seq op = done group client seq op
+served_by_note (Some noted) group client seq op =
     if nat_lt noted.seq seq then done group client seq op
     else if noted.seq == seq then (group, Again noted.reply)
     else (group, Stale noted.seq)
@@ -39,7 +39,7 @@ numbered (Some noted) group client seq op =
 -- a request to a group that may serve it: only where its arc holds the key
 abbrev pub served : Group → ℕ → ℕ → Op → Group × Effect
 served group client seq op =
-    if holds_key group.core.arc (key_of op) then numbered (get group.clients client) group client seq op
+    if holds_key group.core.arc (key_of op) then served_by_note (get group.clients client) group client seq op
     else (group, NotMine group.core.arc group.core.succ)
 
 -- a request by where the group went, if it is gone, and by its lock
@@ -67,7 +67,7 @@ applied group (Join node order) = ordered_by None (refusal_of group.core (Join n
 applied group (Leave node order) = ordered_by None (refusal_of group.core (Leave node order)) (without_node group node) group
 applied group (Split at child order) = ordered_by (Some child) (refusal_of group.core (Split at child order)) (split_group group at child order) group
 applied group (Begin tx body order) = ordered_by (Some tx) (refusal_of group.core (Begin tx body order)) (begun_group group tx body order) group
-applied group (Prepared tx offer) = prepared group tx offer
+applied group (Prepared tx offer) = offer_voted group tx offer
 applied group (RecordVote tx vote by) = vote_recorded group.core.lock group tx vote by
 applied group (GiveUp tx) = given_up group tx
 applied group (Finish tx outcome) = finished group.core.lock group tx outcome

@@ -140,8 +140,8 @@ abbrev pub repart_core : Core → ℕ → Frozen → Core
 repart_core core at frozen = record core { arc = kept_arc core at frozen; succ = succ_with core frozen.members }
 
 -- what the successor is given, and what it gives
-abbrev pub given : Group → ℕ → Gift
-given group at = record { pairs = entries (part_of (from group.core.arc at) group.pairs); clients = entries group.clients }
+abbrev pub part_gift : Group → ℕ → Gift
+part_gift group at = record { pairs = entries (part_of (from group.core.arc at) group.pairs); clients = entries group.clients }
 
 -- what the coordinator takes: the successor's pairs before the boundary, and its client table
 abbrev pub taken : ℕ → Frozen → Gift
@@ -158,7 +158,7 @@ taking_group group at frozen = enriched group (repart_core group.core at frozen)
 -- the plan where the coordinator gives
 abbrev pub giving_plan : Group → ℕ → Frozen → Plan
 giving_plan group at frozen =
-    if can_repart group.core at frozen then Some (giving_group group at frozen, Moved at (Some (given group at))) else None
+    if can_repart group.core at frozen then Some (giving_group group at frozen, Moved at (Some (part_gift group at))) else None
 
 -- and brings no key that is there
 abbrev pub taking_plan : Group → ℕ → Frozen → Plan

@@ -3,7 +3,7 @@ use Rattle.std.specs.Prelude.{◌≡◌, ℕ, ◌<◌, ◌^◌}
 use Rattle.std.specs.FinMap.{get}
 use Rattle.sc_base.specs.Arc.{Arc, IsArc, CanJoin, joined}
 use Rattle.sc_ideal.specs.IdealStore.{Contents, part_of}
-use Rattle.sc_ideal.specs.Clients.{Table, later}
+use Rattle.sc_ideal.specs.Clients.{ClientTable, later}
 use Rattle.sc_machine_table.specs.Group.{Group}
 
 -- the group has of a whole map just the pairs on its arc
@@ -18,7 +18,7 @@ pub record AreNeighbours (group next : Group) : Type 0 where
   pub meet : CanJoin group.core.arc next.core.arc
 
 -- a table that was joined with another: of each client it notes what has the greater number
-abbrev pub IsJoined : Table → Table → Table → Type 0
+abbrev pub IsJoined : ClientTable → ClientTable → ClientTable → Type 0
 IsJoined own other table = (client : ℕ) → get table client ≡ later (get own client) (get other client)
 
 -- two neighbours stay neighbours, and their arcs make the same; each has its part of whatever they had their parts of

@@ -59,9 +59,9 @@ granted (Migrate node) group tx order frozen by = committed (migrate_plan group 
 granted (Split at child) group tx order frozen by = (group, NoEffect tx)
 
 -- what a participant's vote comes to: a No is an abort
-abbrev pub answered : Vote → Body → Group → Draw → ℕ → ℕ → Group × Effect
-answered (Yes frozen) body group tx order by = granted body group tx order frozen by
-answered (No why) body group tx order by = aborted group tx
+abbrev pub participant_answered : Vote → Body → Group → Draw → ℕ → ℕ → Group × Effect
+participant_answered (Yes frozen) body group tx order by = granted body group tx order frozen by
+participant_answered (No why) body group tx order by = aborted group tx
 
 -- whether a coordinator asks the watcher: of a split it always does, else once its participant was heard
 abbrev pub asks_watcher : Body → Option Heard → Bool
@@ -76,7 +76,7 @@ vote_recorded Free group tx vote by = (group, NoEffect tx)
 vote_recorded (Promised locked offer) group tx vote by = (group, NoEffect tx)
 vote_recorded (Watching locked watch) group tx vote by = (group, NoEffect tx)
 vote_recorded (Coordinating locked body order heard) group tx vote by =
-    if same_draw locked tx then if asks_watcher body heard then (group, NoEffect tx) else answered vote body group tx order by
+    if same_draw locked tx then if asks_watcher body heard then (group, NoEffect tx) else participant_answered vote body group tx order by
     else (group, NoEffect tx)
 
 -- what a watcher's Yes decides

@@ -86,8 +86,8 @@ voted_on why bond group tx =
     )
 
 -- the vote on an offer
-abbrev pub prepared : Group → Draw → Offer → Group × Effect
-prepared group tx offer = voted_on (vote_of group.core offer) (Promised tx offer) group tx
+abbrev pub offer_voted : Group → Draw → Offer → Group × Effect
+offer_voted group tx offer = voted_on (vote_of group.core offer) (Promised tx offer) group tx
 
 -- the vote on becoming a watcher
 abbrev pub watched : Group → Draw → Watch → Group × Effect

@@ -1,6 +1,6 @@
 //! Which mails a node takes, and what it sends where it has no replica of the group.
 ghost use Rattle.std.specs.Prelude.{◌≡◌, [], IfOk, None};
-ghost use Rattle.sc_node_table.specs.Node.{group_in, absent, is_node, may_come};
+ghost use Rattle.sc_node_table.specs.Node.{group_of_mail, absent, is_node, may_come};
 ghost use Rattle.sc_node_table.specs.Mails.{sent, answer_to};
 ghost use Rattle.sc_mail.specs.declared.bodies.AnswerBody.TheVariants.{NotLeader};
 ghost use Rattle.sc_mail.specs.declared.bodies.MailBody.TheVariants.{Ask};
@@ -28,7 +28,7 @@ pub(crate) fn may_come(from: u32, body: &MailBody) -> bool
 
 /// The group that a mail is for, if a row of the table takes it.
 pub(crate) fn group_in(body: &MailBody) -> Option<Draw>
-    ensures { result ≡ group_in body.now }
+    ensures { result ≡ group_of_mail body.now }
 {
     match body {
         MailBody::Request { group, .. }

@@ -28,7 +28,7 @@ impl Model for NodeCore {
     ghost use Rattle.std.specs.FinMap as map;
     ghost use Rattle.std.specs.Coded.{Coded, codes, coded_ℕ, coded_list};
     ghost use Rattle.sc_ideal.specs.IdealStore.{Contents};
-    ghost use Rattle.sc_ideal.specs.Clients.{Table};
+    ghost use Rattle.sc_ideal.specs.Clients.{ClientTable};
     ghost use Rattle.sc_machine_table.specs.Group.{Group};
     ghost use Rattle.sc_node_table.specs.Replica.{ReplicaState};
     ghost use Rattle.sc_node_table.specs.Node.{NodeState};
@@ -36,7 +36,7 @@ impl Model for NodeCore {
     ghost Value = { NodeState };
 
     ghost coded = { let pairs : Coded Contents = map.code (coded_list coded_ℕ) (coded_list coded_ℕ)
-        in let clients : Coded Table = map.code coded_ℕ (Prim.hlevel codes) in let group : Coded
+        in let clients : Coded ClientTable = map.code coded_ℕ (Prim.hlevel codes) in let group : Coded
         Group = Prim.hlevel (codes, pairs, clients) in let replica : Coded ReplicaState =
         Prim.hlevel (codes, group) in Prim.hlevel (codes, replica) };
 

@@ -16,7 +16,7 @@ use Rattle.sc_node_table.specs.Queues.{put_back}
 use Rattle.sc_node_table.specs.Sameness.{same_command}
 use Rattle.sc_node_table.specs.Election.{elected, ended}
 use Rattle.sc_node_table.specs.Pump.{pumped}
-use Rattle.sc_node_table.specs.Execute.{entered, answer_of, announced, told_call, told_effect, order_result, learnt_to, welcomed, lost, landed, left, left_gone, is_among, looked, looked_for, executed_one, has_room, next_ready, executed_ready}
+use Rattle.sc_node_table.specs.Execute.{entered, answer_of, announced, told_call, told_effect, order_result, learnt_to, welcomed, slot_lost, landed, left, left_gone, is_among, looked, looked_for, executed_one, has_room, next_ready, executed_ready}
 
 -- taking a slot out makes the list shorter
 shorter_by : {X : Type 0} (f : ℕ × X) (es : List (ℕ × X)) (slot : ℕ) (x : X) (b : Bool) → (at_slot es slot ≡ Some x → length (without_slot es slot) < length es)
@@ -119,7 +119,7 @@ one_of-ready : (b : Bool) (command : Command) (r : ReplicaState) → (if b then 
 one_of-ready true command r = refl
 one_of-ready false command r = put_back-ready command r
 
-lost-ready : (counted : Bool) (command : Command) (other : Option Command) (r : ReplicaState) → (lost counted command other r).ready ≡ r.ready
+lost-ready : (counted : Bool) (command : Command) (other : Option Command) (r : ReplicaState) → (slot_lost counted command other r).ready ≡ r.ready
 lost-ready counted command None r = refl
 lost-ready counted command (Some other) r = one_of-ready (counted || same_command other command) other r
 

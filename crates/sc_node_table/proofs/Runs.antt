@@ -13,7 +13,7 @@ use Rattle.sc_mail.specs.declared.bodies.MailBody.TheVariants.{Request, Answer, 
 use Rattle.sc_mail.specs.declared.bodies.Mail.{Mail}
 use Rattle.sc_node_table.specs.declared.ReplicaInput.{ReplicaInput}
 use Rattle.sc_node_table.specs.declared.ReplicaInput.TheVariants.{Got, Tick}
-use Rattle.sc_node_table.specs.Slots.{numbers}
+use Rattle.sc_node_table.specs.Slots.{numbers_from}
 use Rattle.sc_node_table.specs.Replica.{ReplicaState, Place, born_replica, forgotten}
 use Rattle.sc_paxos_words.specs.Leaders.{first_leader}
 use Rattle.sc_node_table.specs.Mails.{sent_all, sent_others, answered, answered_all, told_order, dismissed, dismissed_all}
@@ -254,7 +254,7 @@ second_first = refl
 abbrev long : ReplicaState
 long = record (born_replica 4 1 (base (1 ∷ 2 ∷ 3 ∷ []))) { log = record { base = 0; entries = replicate 40 Noop } }
 
-asked : (run (long, []) (Got (mail 2 1 (Ask g 3)) ∷ [])).1 ≡ map (λ slot. mail 1 2 (Learn g slot Noop)) (numbers 3 32)
+asked : (run (long, []) (Got (mail 2 1 (Ask g 3)) ∷ [])).1 ≡ map (λ slot. mail 1 2 (Learn g slot Noop)) (numbers_from 3 32)
 unfolding stepped mailed ask_row taught
 asked = refl
 

@@ -8,8 +8,8 @@ use Rattle.sc_mail.specs.declared.bodies.AnswerBody.TheVariants as Says
 use Rattle.sc_mail.specs.declared.bodies.MailBody.TheVariants.{Prepare}
 use Rattle.sc_member.specs.Roster.{is_member}
 use Rattle.sc_paxos_words.specs.Ballots.{below}
-use Rattle.sc_paxos_words.specs.Leaders.{elected as new_leader}
-use Rattle.sc_node_table.specs.Slots.{numbers}
+use Rattle.sc_paxos_words.specs.Leaders.{new_leader}
+use Rattle.sc_node_table.specs.Slots.{numbers_from}
 use Rattle.sc_node_table.specs.Replica.{ReplicaState, Place, name_of, next, under_way}
 use Rattle.sc_node_table.specs.Mails.{sent_all, answered_all, dismissed_all}
 
@@ -19,7 +19,7 @@ is_in_some sets node = list_any (λ set. is_member set node) sets
 
 -- the nodes, of 1 to so many, that are in one of these sets
 unfoldable pub nodes_to : ℕ → List (List ℕ) → List ℕ
-nodes_to most sets = filter (λ node. is_in_some sets node) (numbers 1 most)
+nodes_to most sets = filter (λ node. is_in_some sets node) (numbers_from 1 most)
 
 -- the nodes that are in one of these sets
 abbrev pub open_nodes : List (List ℕ) → List ℕ

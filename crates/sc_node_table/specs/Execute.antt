@@ -12,11 +12,11 @@ use Rattle.sc_cmd.specs.declared.orders.ToldResult.{ToldResult}
 use Rattle.sc_cmd.specs.declared.orders.ToldResult.TheVariants as Tells
 use Rattle.sc_member.specs.Roster.{is_member, least_of}
 use Rattle.sc_paxos_words.specs.Logs.{LogState, learnt, next_of}
-use Rattle.sc_paxos_words.specs.Leaders.{landed as without_flight_at}
+use Rattle.sc_paxos_words.specs.Leaders.{without_flight_at}
 use Rattle.sc_machine_table.specs.Machine.{applied}
 use Rattle.sc_node_table.specs.Slots.{rest_of, at_slot, without_slot}
 use Rattle.sc_node_table.specs.Replica.{ReplicaState, Place, name_of, next, members, flying, last_slot, forgotten, waits_in}
-use Rattle.sc_node_table.specs.Mails.{answer_to, sent_others, order_in, told_order}
+use Rattle.sc_node_table.specs.Mails.{answer_to, sent_others, order_number, told_order}
 use Rattle.sc_node_table.specs.Queues.{put_back}
 use Rattle.sc_node_table.specs.Sameness.{same_command}
 use Rattle.sc_node_table.specs.Election.{elected, ended, stopped}
@@ -85,7 +85,7 @@ order_result (RecordWatch tx vote by) effect = None
 -- the desk is told the result, if there is one
 unfoldable pub told_effect : Option ToldResult → Command → Place → Place
 told_effect None command place = place
-told_effect (Some result) command (r, mails) = (r, told_order r.me (order_in command) result mails)
+told_effect (Some result) command (r, mails) = (r, told_order r.me (order_number command) result mails)
 
 -- .. both
 unfoldable pub announced : Bool → Effect → Command → Place → Place
@@ -103,15 +103,15 @@ welcomed counted before (r, mails) =
     if counted then welcomed_all (filter (λ node. not (is_member before node)) (members r)) (r, mails) else (r, mails)
 
 -- 4. what is in flight or ready at its slot is over; a command that lost its slot to a learnt one goes back
-abbrev pub lost : Bool → Command → Option Command → ReplicaState → ReplicaState
-lost counted command None r = r
-lost counted command (Some other) r = if counted || same_command other command then r else put_back other r
+abbrev pub slot_lost : Bool → Command → Option Command → ReplicaState → ReplicaState
+slot_lost counted command None r = r
+slot_lost counted command (Some other) r = if counted || same_command other command then r else put_back other r
 
 -- the slot has nothing in flight or ready any more
 unfoldable pub landed : Bool → ℕ → Command → Place → Place
 landed counted slot command (r, mails) =
     let over : ReplicaState = record r { leader = without_flight_at slot r.leader; ready = without_slot r.ready slot } in
-    (lost counted command (flying r slot) over, mails)
+    (slot_lost counted command (flying r slot) over, mails)
 
 -- 5. one that runs ends where the group is gone, and stops where this node is no member
 abbrev pub left_gone : Option Route → Place → Place

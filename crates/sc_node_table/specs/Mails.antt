@@ -45,19 +45,19 @@ abbrev pub told_desk : ℕ → ℕ → ToldResult → List Mail → List Mail
 told_desk me number result mails = sent me 0 (Told number result) mails
 
 -- the number of the order that a command is of: 0 where a policy made it, and where it is of none
-abbrev pub order_in : Command → ℕ
-order_in (Join node order) = order
-order_in (Leave node order) = order
-order_in (Split at child order) = order
-order_in (Begin tx body order) = order
-order_in Noop = 0
-order_in (Call client seq op) = 0
-order_in (Prepared tx offer) = 0
-order_in (RecordVote tx vote by) = 0
-order_in (GiveUp tx) = 0
-order_in (Finish tx outcome) = 0
-order_in (Watched tx watch) = 0
-order_in (RecordWatch tx vote by) = 0
+abbrev pub order_number : Command → ℕ
+order_number (Join node order) = order
+order_number (Leave node order) = order
+order_number (Split at child order) = order
+order_number (Begin tx body order) = order
+order_number Noop = 0
+order_number (Call client seq op) = 0
+order_number (Prepared tx offer) = 0
+order_number (RecordVote tx vote by) = 0
+order_number (GiveUp tx) = 0
+order_number (Finish tx outcome) = 0
+order_number (Watched tx watch) = 0
+order_number (RecordWatch tx vote by) = 0
 
 -- ... and nothing of an order without a number
 unfoldable pub told_order : ℕ → ℕ → ToldResult → List Mail → List Mail
@@ -66,7 +66,7 @@ told_order me number result mails = if nat_lt 0 number then told_desk me number 
 -- a waiting command of one that runs no longer: the client of a call is answered so, and of an order it is told that this node, which takes another for the leader, does not lead
 unfoldable pub dismissed : ℕ → Draw → Option ℕ → AnswerBody → Command → List Mail → List Mail
 dismissed me group hint answer (Call client seq op) mails = answer_to me group client seq answer mails
-dismissed me group hint answer command mails = told_order me (order_in command) (Refused (NotLeader hint)) mails
+dismissed me group hint answer command mails = told_order me (order_number command) (Refused (NotLeader hint)) mails
 
 -- each of these waiting commands, in their order
 unfoldable pub dismissed_all : ℕ → Draw → Option ℕ → AnswerBody → List Command → List Mail → List Mail

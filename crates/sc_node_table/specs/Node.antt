@@ -55,24 +55,24 @@ are_in_order [] = true
 are_in_order (base ∷ groups) = list_all (λ other. is_before base.core.id other.core.id) groups && are_in_order groups
 
 -- the group that a mail is for, if a row of the table takes it
-abbrev pub group_in : MailBody → Option Draw
-group_in (Request group client seq op) = Some group
-group_in (Prepare group ballot from_slot) = Some group
-group_in (Promise group ballot reports) = Some group
-group_in (Accept group ballot slot command) = Some group
-group_in (Accepted group ballot slot) = Some group
-group_in (Nack group promised) = Some group
-group_in (Learn group slot command) = Some group
-group_in (Ask group from_slot) = Some group
-group_in (Install group slot base sets) = Some group
-group_in (Answer group seq answer) = None
-group_in (TxPrepare tx offer) = None
-group_in (TxVote tx coord part vote) = None
-group_in (TxOutcome tx part outcome) = None
-group_in (TxElsewhere tx coord hint) = None
-group_in (TxWatch tx watch) = None
-group_in (TxWatched tx coord part vote) = None
-group_in (ToldMail order result) = None
+abbrev pub group_of_mail : MailBody → Option Draw
+group_of_mail (Request group client seq op) = Some group
+group_of_mail (Prepare group ballot from_slot) = Some group
+group_of_mail (Promise group ballot reports) = Some group
+group_of_mail (Accept group ballot slot command) = Some group
+group_of_mail (Accepted group ballot slot) = Some group
+group_of_mail (Nack group promised) = Some group
+group_of_mail (Learn group slot command) = Some group
+group_of_mail (Ask group from_slot) = Some group
+group_of_mail (Install group slot base sets) = Some group
+group_of_mail (Answer group seq answer) = None
+group_of_mail (TxPrepare tx offer) = None
+group_of_mail (TxVote tx coord part vote) = None
+group_of_mail (TxOutcome tx part outcome) = None
+group_of_mail (TxElsewhere tx coord hint) = None
+group_of_mail (TxWatch tx watch) = None
+group_of_mail (TxWatched tx coord part vote) = None
+group_of_mail (ToldMail order result) = None
 
 -- what is sent where there is no replica of the group
 abbrev pub absent : ℕ → ℕ → MailBody → List Mail
@@ -143,7 +143,7 @@ routed (Some group) from body node = taken_by (replica_of group node.replicas) g
 
 -- the node takes a mail
 abbrev pub on_mail : ℕ → MailBody → NodeState → NodeState × List Mail
-on_mail from body node = if may_come from body then routed (group_in body) from body node else (node, [])
+on_mail from body node = if may_come from body then routed (group_of_mail body) from body node else (node, [])
 
 -- the group of an order
 abbrev pub group_of_order : Order → Draw

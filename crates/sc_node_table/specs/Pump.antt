@@ -15,7 +15,7 @@ use Rattle.sc_mail.specs.declared.bodies.MailBody.TheVariants.{Accept}
 use Rattle.sc_mail.specs.declared.bodies.Mail.{Mail}
 use Rattle.sc_paxos_words.specs.declared.answers.Must.{Must}
 use Rattle.sc_paxos_words.specs.declared.answers.Must.TheVariants.{Value, Gap, Free as Open}
-use Rattle.sc_paxos_words.specs.Leaders.{must, offered as offered_by}
+use Rattle.sc_paxos_words.specs.Leaders.{must, with_flight_at}
 use Rattle.sc_node_table.specs.Replica.{Place, name_of, next, settled, may_offer, taken_at, under_way, is_idle, last_slot}
 use Rattle.sc_node_table.specs.Mails.{sent_all, answered}
 
@@ -115,7 +115,7 @@ found_for slot (r, mails) = found_by (must slot r.leader) (r, mails)
 -- what is found goes into flight, and the members of its slot are asked to accept it (Paxos Made Simple, section 2.2, phase 2)
 unfoldable pub offered : ℕ → List ℕ → Command → Place → Place
 offered slot set command (r, mails) =
-    (record r { leader = offered_by slot command r.leader }, sent_all r.me set (Accept (name_of r) r.leader.ballot slot command) mails)
+    (record r { leader = with_flight_at slot command r.leader }, sent_all r.me set (Accept (name_of r) r.leader.ballot slot command) mails)
 
 -- the open slots from the least one on, each with its members; a slot that is taken is passed by
 unfoldable pub pumped_from : ℕ → List (List ℕ) → Place → Place

@@ -10,10 +10,10 @@ use Rattle.sc_cmd.specs.declared.cores.Lock.{Lock}
 use Rattle.sc_cmd.specs.declared.cores.Lock.TheVariants.{Free, Coordinating, Promised, Watching}
 use Rattle.sc_mail.specs.declared.bodies.Mail.{Mail}
 use Rattle.sc_paxos_words.specs.Logs.{LogState, empty_log, next_of, installed, log_cut}
-use Rattle.sc_paxos_words.specs.Acceptors.{AcceptorState, born, after_cut}
+use Rattle.sc_paxos_words.specs.Acceptors.{AcceptorState, born_acceptor, after_cut}
 use Rattle.sc_paxos_words.specs.Leaders.{LeaderState, first_leader, flight_at, is_settled}
 use Rattle.sc_machine_table.specs.Group.{Group, group_of}
-use Rattle.sc_node_table.specs.Slots.{at_slot, numbers}
+use Rattle.sc_node_table.specs.Slots.{at_slot, numbers_from}
 
 -- the node's number; the executed state and the log of executed entries; the acceptor; the node that it takes for the leader; the greatest ballot seen; whether it runs, and its leader, which counts only then; the commands of which a majority was counted and that are not yet executed, by slot; the members of the open slots, from the next slot on; the waiting commands of transactions, and the waiting calls and orders; how long a transaction has waited
 pub record ReplicaState : Type 0 where
@@ -45,7 +45,7 @@ born_replica ahead me base = record {
   me = me;
   group = group_of base;
   log = empty_log;
-  acceptor = born (first_ballot base.core);
+  acceptor = born_acceptor (first_ballot base.core);
   hint = Some base.core.first;
   top = first_ballot base.core;
   running = base.core.first == me;
@@ -82,7 +82,7 @@ installed_replica me slot base sets = forgotten slot (record {
   me = me;
   group = group_of base;
   log = installed slot;
-  acceptor = born (first_ballot base.core);
+  acceptor = born_acceptor (first_ballot base.core);
   hint = Some base.core.first;
   top = first_ballot base.core;
   running = false;
@@ -112,7 +112,7 @@ set_at slot r = if nat_lt slot (next r) then None else slice_get r.sets (slot - 
 
 -- the open slots
 abbrev pub open_slots : ReplicaState → List ℕ
-open_slots r = numbers (next r) (length r.sets)
+open_slots r = numbers_from (next r) (length r.sets)
 
 -- the last slot at which a command is learnt, and after which none is offered
 abbrev pub last_slot : ℕ

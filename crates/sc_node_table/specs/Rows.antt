@@ -21,7 +21,7 @@ use Rattle.sc_mail.specs.declared.bodies.Mail.{Mail}
 use Rattle.sc_member.specs.Roster.{is_member}
 use Rattle.sc_paxos_words.specs.Logs.{entry_at}
 use Rattle.sc_machine_table.specs.Orders.{refusal_of}
-use Rattle.sc_paxos_words.specs.Votes.{has_voted}
+use Rattle.sc_paxos_words.specs.Votes.{has_counted}
 use Rattle.sc_node_table.specs.declared.ReplicaInput.{ReplicaInput}
 use Rattle.sc_node_table.specs.declared.ReplicaInput.TheVariants as Given
 use Rattle.sc_node_table.specs.Replica.{ReplicaState, Place, name_of, next, members, settled, flying, is_idle, last_slot, installed_replica}
@@ -34,16 +34,16 @@ use Rattle.sc_node_table.specs.Pump.{pumped, serves_calls}
 use Rattle.sc_node_table.specs.Voting.{prepare_row, promise_row, accept_row, accepted_row, nack_row}
 
 -- why a request is not taken, the first that holds
-abbrev pub refusal : Option Route → Core → Bool → Option ℕ → Op → Option AnswerBody
-refusal (Some into) core running hint op = Some (Says.Gone into)
-refusal None core running hint op =
+abbrev pub call_refusal : Option Route → Core → Bool → Option ℕ → Op → Option AnswerBody
+call_refusal (Some into) core running hint op = Some (Says.Gone into)
+call_refusal None core running hint op =
     if not running then Some (Says.NotLeader hint)
     else if serves_calls core.lock && not (holds_key core.arc (key_of op)) then Some (Says.NotMine core.arc core.succ)
     else None
 
 -- .. at a replica
 abbrev pub refused_at : Option Route → Op → ReplicaState → Option AnswerBody
-refused_at gone op r = refusal gone r.group.core r.running r.hint op
+refused_at gone op r = call_refusal gone r.group.core r.running r.hint op
 
 -- it waits last, unless the same or a later request of its client waits; an earlier one waits no more
 unfoldable pub queued : Option ℕ → ℕ → ℕ → Op → Place → Place
@@ -80,13 +80,13 @@ taught (suc count) r from slot mails =
     elim (entry_at slot r.log) [ None ↦ mails | Some command ↦ taught count r from (slot + 1) (sent r.me from (Learn (name_of r) slot command) mails) ]
 
 -- an entry that is held is followed by others; where it is not held the executed state is sent
-abbrev pub asked_from : Option Command → ℕ → ℕ → Place → Place
-asked_from None from slot place = install_to from place
-asked_from (Some command) from slot (r, mails) = (r, taught most_taught r from slot mails)
+abbrev pub ask_answered : Option Command → ℕ → ℕ → Place → Place
+ask_answered None from slot place = install_to from place
+ask_answered (Some command) from slot (r, mails) = (r, taught most_taught r from slot mails)
 
 -- Ask: of an executed slot, and from 0. Entries that are held, or the executed state
 unfoldable pub ask_row : ℕ → ℕ → Place → Place
-ask_row from slot (r, mails) = if nat_lt slot (next r) then asked_from (entry_at slot r.log) from slot (r, mails) else (r, mails)
+ask_row from slot (r, mails) = if nat_lt slot (next r) then ask_answered (entry_at slot r.log) from slot (r, mails) else (r, mails)
 
 -- the sender of the state is taken for the leader if it is a member, and else one is looked for
 unfoldable pub looked_up : ℕ → Place → Place
@@ -137,7 +137,7 @@ order_row line place = order_taken (command_of line) line.number place
 
 -- the members of a slot whose vote was not counted
 abbrev pub uncounted : ReplicaState → ℕ → List ℕ → List ℕ
-uncounted r slot set = filter (λ node. not (has_voted slot node r.leader)) set
+uncounted r slot set = filter (λ node. not (has_counted slot node r.leader)) set
 
 -- 1. Accept again for each slot in flight, to each of its members that was not counted ..
 unfoldable pub asked_again : ReplicaState → ℕ → List (List ℕ) → List Mail → List Mail

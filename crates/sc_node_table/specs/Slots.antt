@@ -11,9 +11,9 @@ rest_of [] = []
 rest_of (x ∷ xs) = xs
 
 -- so many numbers from one on
-abbrev pub numbers : ℕ → ℕ → List ℕ
-numbers from zero = []
-numbers from (suc more) = from ∷ numbers (from + 1) more
+abbrev pub numbers_from : ℕ → ℕ → List ℕ
+numbers_from from zero = []
+numbers_from from (suc more) = from ∷ numbers_from (from + 1) more
 
 -- the value of a slot, if it has one
 abbrev pub at_slot : {X : Type 0} → List (ℕ × X) → ℕ → Option X

@@ -78,14 +78,14 @@ readied slot command (r, mails) =
     if (slot == next r) && has_room r then executed true command (after, mails) else (after, mails)
 
 -- the count after a vote
-abbrev pub tallied : ℕ → Counted Command × LeaderState Command → Place → Place
-tallied slot (Chosen command, leader) (r, mails) = readied slot command (record r { leader = leader }, mails)
-tallied slot (NotYet count, leader) (r, mails) = (record r { leader = leader }, mails)
+abbrev pub vote_tallied : ℕ → Counted Command × LeaderState Command → Place → Place
+vote_tallied slot (Chosen command, leader) (r, mails) = readied slot command (record r { leader = leader }, mails)
+vote_tallied slot (NotYet count, leader) (r, mails) = (record r { leader = leader }, mails)
 
 -- a vote at an open slot is counted among that slot's members
 abbrev pub voted : ℕ → Ballot → ℕ → Option (List ℕ) → Place → Place
 voted from ballot slot None place = place
-voted from ballot slot (Some set) (r, mails) = tallied slot (counted from ballot slot set r.leader) (r, mails)
+voted from ballot slot (Some set) (r, mails) = vote_tallied slot (counted from ballot slot set r.leader) (r, mails)
 
 -- Accepted
 unfoldable pub accepted_row : ℕ → Ballot → ℕ → Place → Place

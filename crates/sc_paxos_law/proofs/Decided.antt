@@ -14,8 +14,8 @@ use Rattle.sc_paxos_words.proofs.BallotLemmas.{at_least_itself, at_least_trans, 
 use Rattle.sc_paxos_words.proofs.ListLemmas.{Each-among, Each-weaker}
 use Rattle.sc_paxos_law.specs.Steps.{Step, Prepared, Promised, Offered, Accepted, Cut}
 use Rattle.sc_paxos_law.specs.Chosen.{Rule, needed, members_of, IsChosen, IsChosenAfter, IsLog}
-use Rattle.sc_paxos_law.specs.Lawful.{IsLawful}
-use Rattle.sc_paxos_law.specs.Decided.{voters_of, lesser_of, found_in, chosen_at, top_slot, longer, log_of}
+use Rattle.sc_paxos_law.specs.Lawful.{IsLawfulHistory}
+use Rattle.sc_paxos_law.specs.Decided.{voters_of, lesser_of, found_in, chosen_at, top_slot, with_next_entries, log_of}
 use Rattle.sc_paxos_law.proofs.Among.{shared_member, member-among, among-member, count_by-le}
 use Rattle.sc_paxos_law.proofs.History.{was_offered, one_offer}
 use Rattle.sc_paxos_law.proofs.Law.{earlier, agree_members, logs_agree, element, chosen_by, later_log, longer_log}
@@ -106,7 +106,7 @@ no_value : {V : Type 0} (o : Option (Report V)) → option_map (λ (r : Report V
 no_value None e = refl
 no_value (Some r) e = cc
 
-pub chosen_at-chosen : {V : Type 0} (rule : Rule V) (first : Ballot) (h : List (Step V)) (members : List ℕ) (slot : ℕ) (v : V) → IsLawful rule first h → chosen_at members h slot ≡ Some v → IsChosen members h slot v
+pub chosen_at-chosen : {V : Type 0} (rule : Rule V) (first : Ballot) (h : List (Step V)) (members : List ℕ) (slot : ℕ) (v : V) → IsLawfulHistory rule first h → chosen_at members h slot ≡ Some v → IsChosen members h slot v
 chosen_at-chosen {V} rule first h members slot v l e =
     let at = of_value (found_in members h slot h) v e in
     let b = at.0.ballot in
@@ -216,12 +216,12 @@ length_bound rule h (x ∷ xs) is =
     let voter = shared_member _ c.voters c.voters c.majority c.majority in
     omega (arith, slot_bound h voter.0 c.ballot (length xs + 1) last.0 (Each-among _ c.voters voter.0 c.each voter.1))
 
-next_chosen : {V : Type 0} (rule : Rule V) (first : Ballot) (h : List (Step V)) (log : List V) (v : V) → IsLawful rule first h → chosen_at (members_of rule log (length log + 1)) h (length log + 1) ≡ Some v
+next_chosen : {V : Type 0} (rule : Rule V) (first : Ballot) (h : List (Step V)) (log : List V) (v : V) → IsLawfulHistory rule first h → chosen_at (members_of rule log (length log + 1)) h (length log + 1) ≡ Some v
     → IsChosenAfter rule h log (length log + 1) v
 next_chosen rule first h log v l e = record { known = earlier rule (length log); chosen = chosen_at-chosen rule first h _ (length log + 1) v l e }
 
 -- no log is longer than one with no next entry
-stops : {V : Type 0} (rule : Rule V) (first : Ballot) (h : List (Step V)) (log other : List V) → IsLawful rule first h → IsLog rule h log → IsLog rule h other
+stops : {V : Type 0} (rule : Rule V) (first : Ballot) (h : List (Step V)) (log other : List V) → IsLawfulHistory rule first h → IsLog rule h log → IsLog rule h other
     → chosen_at (members_of rule log (length log + 1)) h (length log + 1) ≡ None → length log < length other → ⊥
 stops {V} rule first h log other l a b none lt =
     let n = length log in
@@ -235,27 +235,27 @@ abbrev IsLongest : {V : Type 0} → Rule V → List (Step V) → List V → Type
 IsLongest {V} rule h log = IsLog rule h log × ((other : List V) → IsLog rule h other → length other ≤ length log)
 
 -- one more entry, if there is one
-go_on : {V : Type 0} (rule : Rule V) (first : Ballot) (h : List (Step V)) (more : ℕ) (log : List V) → IsLawful rule first h → IsLog rule h log
+go_on : {V : Type 0} (rule : Rule V) (first : Ballot) (h : List (Step V)) (more : ℕ) (log : List V) → IsLawfulHistory rule first h → IsLog rule h log
     → (o : Option V) → chosen_at (members_of rule log (length log + 1)) h (length log + 1) ≡ o
-    → ((v : V) → IsLog rule h (log ++ v ∷ []) → IsLongest rule h (longer rule h more (log ++ v ∷ [])))
-    → IsLongest rule h (elim o [ None ↦ log | Some v ↦ longer rule h more (log ++ v ∷ []) ])
+    → ((v : V) → IsLog rule h (log ++ v ∷ []) → IsLongest rule h (with_next_entries rule h more (log ++ v ∷ [])))
+    → IsLongest rule h (elim o [ None ↦ log | Some v ↦ with_next_entries rule h more (log ++ v ∷ []) ])
 go_on rule first h more log l a None e rest =
     (a, λ other b. elim (cases_lt (length log) (length other)) [ inl lt ↦ absurd (stops rule first h log other l a b e lt) | inr ge ↦ ge ])
 go_on rule first h more log l a (Some v) e rest = rest v (longer_log rule h log v a (next_chosen rule first h log v l e))
 
-longer_longest : {V : Type 0} (rule : Rule V) (first : Ballot) (h : List (Step V)) → IsLawful rule first h → (more : ℕ) (log : List V) → IsLog rule h log → top_slot h ≤ length log + more
-    → IsLongest rule h (longer rule h more log)
+longer_longest : {V : Type 0} (rule : Rule V) (first : Ballot) (h : List (Step V)) → IsLawfulHistory rule first h → (more : ℕ) (log : List V) → IsLog rule h log → top_slot h ≤ length log + more
+    → IsLongest rule h (with_next_entries rule h more log)
 longer_longest rule first h l zero log a enough = (a, λ other b. omega (arith, length_bound rule h other b))
 longer_longest rule first h l (suc more) log a enough =
     go_on rule first h more log l a (chosen_at (members_of rule log (length log + 1)) h (length log + 1)) refl
     (λ v b. longer_longest rule first h l more (log ++ v ∷ []) b (omega (arith, length_push log v)))
 
 -- the decided log is a log, and no log is longer
-pub log_of-longest : {V : Type 0} (rule : Rule V) (first : Ballot) (h : List (Step V)) → IsLawful rule first h → IsLongest rule h (log_of rule h)
+pub log_of-longest : {V : Type 0} (rule : Rule V) (first : Ballot) (h : List (Step V)) → IsLawfulHistory rule first h → IsLongest rule h (log_of rule h)
 log_of-longest rule first h l = longer_longest rule first h l (top_slot h) [] (λ k v e. cc) (omega arith)
 
 -- each log is a front of the decided one
-pub front_of_log : {V : Type 0} (rule : Rule V) (first : Ballot) (h : List (Step V)) → IsLawful rule first h → (other : List V) → IsLog rule h other
+pub front_of_log : {V : Type 0} (rule : Rule V) (first : Ballot) (h : List (Step V)) → IsLawfulHistory rule first h → (other : List V) → IsLog rule h other
     → (length other ≤ length (log_of rule h)) × (take (length other) (log_of rule h) ≡ other)
 front_of_log rule first h l other b =
     let longest = log_of-longest rule first h l in
@@ -269,12 +269,12 @@ pub later_logs : {V : Type 0} (rule : Rule V) (newer h : List (Step V)) (log : L
 later_logs rule [] h log is = is
 later_logs rule (s ∷ newer) h log is = later_log rule s (newer ++ h) log (later_logs rule newer h log is)
 
-older_lawful : {V : Type 0} (rule : Rule V) (first : Ballot) (newer h : List (Step V)) → IsLawful rule first (newer ++ h) → IsLawful rule first h
+older_lawful : {V : Type 0} (rule : Rule V) (first : Ballot) (newer h : List (Step V)) → IsLawfulHistory rule first (newer ++ h) → IsLawfulHistory rule first h
 older_lawful rule first [] h l = l
 older_lawful rule first (s ∷ newer) h l = older_lawful rule first newer h l.1
 
 -- after more steps the decided log goes on as it was
-pub log_grows : {V : Type 0} (rule : Rule V) (first : Ballot) (newer h : List (Step V)) → IsLawful rule first (newer ++ h)
+pub log_grows : {V : Type 0} (rule : Rule V) (first : Ballot) (newer h : List (Step V)) → IsLawfulHistory rule first (newer ++ h)
     → (length (log_of rule h) ≤ length (log_of rule (newer ++ h))) × (take (length (log_of rule h)) (log_of rule (newer ++ h)) ≡ log_of rule h)
 log_grows rule first newer h l =
     front_of_log rule first (newer ++ h) l (log_of rule h) (later_logs rule newer h (log_of rule h) (log_of-longest rule first h (older_lawful rule first newer h l)).0)

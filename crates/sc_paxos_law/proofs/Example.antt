@@ -4,8 +4,8 @@ use Rattle.sc_paxos_words.specs.declared.reports.Report.{Report}
 use Rattle.sc_base.specs.Among.{Among}
 use Rattle.sc_paxos_law.specs.Steps.{Step, Prepared, Promised, Offered, Accepted}
 use Rattle.sc_paxos_law.specs.Chosen.{IsLog}
-use Rattle.sc_paxos_law.specs.Lawful.{Vote, MayOffer, IsLawful}
-use Rattle.sc_paxos_law.specs.Example.{three, first, second, example}
+use Rattle.sc_paxos_law.specs.Lawful.{CountedPromise, MayOffer, IsLawfulHistory}
+use Rattle.sc_paxos_law.specs.Example.{three, first, second, example_steps}
 
 nothing_yet : (h : List (Step ℕ)) → IsLog three h []
 nothing_yet h k v e = cc
@@ -13,7 +13,7 @@ nothing_yet h k v e = cc
 abbrev rep : Report ℕ
 rep = record { slot = 1; ballot = first; value = 7 }
 
-abbrev both : List (Vote ℕ)
+abbrev both : List (CountedPromise ℕ)
 both = record { node = 2; from = 1; reports = rep ∷ [] } ∷ (record { node = 3; from = 1; reports = [] } ∷ [])
 
 -- the round of an offer
@@ -75,7 +75,7 @@ offers_next = record {
 }
 
 -- the example's steps are lawful
-pub lawful : IsLawful three first example
+pub lawful : IsLawfulHistory three first example_steps
 lawful = (
   tt,
   (

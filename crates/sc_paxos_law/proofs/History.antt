@@ -10,7 +10,7 @@ use Rattle.sc_paxos_words.proofs.BallotLemmas.{at_least_trans, at_least_itself, 
 use Rattle.sc_paxos_words.proofs.ListLemmas.{Among-filter, from_filter}
 use Rattle.sc_paxos_law.specs.Steps.{Step, Prepared, Promised, Offered, Accepted, Cut, state_of}
 use Rattle.sc_paxos_law.specs.Chosen.{Rule}
-use Rattle.sc_paxos_law.specs.Lawful.{IsLawfulStep, IsLawful}
+use Rattle.sc_paxos_law.specs.Lawful.{IsLawfulStep, IsLawfulHistory}
 use Rattle.sc_paxos_law.proofs.Among.{Among-left, Among-right, Among-either}
 use Rattle.sc_paxos_words.proofs.AcceptorLemmas.{may_is}
 
@@ -40,7 +40,7 @@ step_keeps {V} rule first node (Cut n upto) older h =
     by_node n node (after_cut upto (state_of first node older)) (state_of first node older) (λ (st : AcceptorState V). IsAtLeast st.promised (promise_of first node older))
     (λ same. at_least_itself (promise_of first node older)) (at_least_itself (promise_of first node older))
 
-pub at_least_first : {V : Type 0} (rule : Rule V) (first : Ballot) (node : ℕ) (h : List (Step V)) → IsLawful rule first h → IsAtLeast (promise_of first node h) first
+pub at_least_first : {V : Type 0} (rule : Rule V) (first : Ballot) (node : ℕ) (h : List (Step V)) → IsLawfulHistory rule first h → IsAtLeast (promise_of first node h) first
 at_least_first rule first node [] l = at_least_itself first
 at_least_first rule first node (s ∷ older) l =
     at_least_trans (promise_of first node (s ∷ older)) (promise_of first node older) first (step_keeps rule first node s older l.0) (at_least_first rule first node older l.1)
@@ -49,7 +49,7 @@ own_state : {V : Type 0} (n : ℕ) (here there : AcceptorState V) → if_node n 
 own_state n here there = cond-true (eqb n n) here there (eq-eqb n n refl)
 
 -- what a node has promised stands
-pub promise_kept : {V : Type 0} (rule : Rule V) (first : Ballot) (h : List (Step V)) (n : ℕ) (b : Ballot) (from : ℕ) (rs : List (Report V)) → IsLawful rule first h
+pub promise_kept : {V : Type 0} (rule : Rule V) (first : Ballot) (h : List (Step V)) (n : ℕ) (b : Ballot) (from : ℕ) (rs : List (Report V)) → IsLawfulHistory rule first h
     → Among (Promised n b from rs) h → IsAtLeast (promise_of first n h) b
 promise_kept rule first [] n b from rs l a = absurd a
 promise_kept {V} rule first (s ∷ older) n b from rs l (inl e) =
@@ -59,7 +59,7 @@ promise_kept rule first (s ∷ older) n b from rs l (inr a) =
     at_least_trans (promise_of first n (s ∷ older)) (promise_of first n older) b (step_keeps rule first n s older l.0) (promise_kept rule first older n b from rs l.1 a)
 
 -- and so does what it has accepted
-pub accepted_kept : {V : Type 0} (rule : Rule V) (first : Ballot) (h : List (Step V)) (n : ℕ) (b : Ballot) (slot : ℕ) (v : V) → IsLawful rule first h
+pub accepted_kept : {V : Type 0} (rule : Rule V) (first : Ballot) (h : List (Step V)) (n : ℕ) (b : Ballot) (slot : ℕ) (v : V) → IsLawfulHistory rule first h
     → Among (Accepted n b slot v) h → IsAtLeast (promise_of first n h) b
 accepted_kept rule first [] n b slot v l a = absurd a
 accepted_kept {V} rule first (s ∷ older) n b slot v l (inl e) =
@@ -70,7 +70,7 @@ accepted_kept rule first (s ∷ older) n b slot v l (inr a) =
     at_least_trans (promise_of first n (s ∷ older)) (promise_of first n older) b (step_keeps rule first n s older l.0) (accepted_kept rule first older n b slot v l.1 a)
 
 -- no ballot below the first is accepted
-pub first_is_least : {V : Type 0} (rule : Rule V) (first : Ballot) (h : List (Step V)) (n : ℕ) (b : Ballot) (slot : ℕ) (v : V) → IsLawful rule first h
+pub first_is_least : {V : Type 0} (rule : Rule V) (first : Ballot) (h : List (Step V)) (n : ℕ) (b : Ballot) (slot : ℕ) (v : V) → IsLawfulHistory rule first h
     → Among (Accepted n b slot v) h → IsAtLeast b first
 first_is_least rule first [] n b slot v l a = absurd a
 first_is_least {V} rule first (s ∷ older) n b slot v l (inl e) =
@@ -81,14 +81,14 @@ first_is_least rule first (s ∷ older) n b slot v l (inr a) = first_is_least ru
 -- ---- offers
 
 -- what was accepted was offered
-pub was_offered : {V : Type 0} (rule : Rule V) (first : Ballot) (h : List (Step V)) (n : ℕ) (b : Ballot) (slot : ℕ) (v : V) → IsLawful rule first h
+pub was_offered : {V : Type 0} (rule : Rule V) (first : Ballot) (h : List (Step V)) (n : ℕ) (b : Ballot) (slot : ℕ) (v : V) → IsLawfulHistory rule first h
     → Among (Accepted n b slot v) h → Among (Offered b slot v) h
 was_offered rule first [] n b slot v l a = absurd a
 was_offered {V} rule first (s ∷ older) n b slot v l (inl e) = inr (subst (λ (t : Step V). IsLawfulStep rule first t older) e l.0).1
 was_offered rule first (s ∷ older) n b slot v l (inr a) = inr (was_offered rule first older n b slot v l.1 a)
 
 -- one value for each ballot and slot
-pub one_offer : {V : Type 0} (rule : Rule V) (first : Ballot) (h : List (Step V)) (b : Ballot) (slot : ℕ) (v w : V) → IsLawful rule first h
+pub one_offer : {V : Type 0} (rule : Rule V) (first : Ballot) (h : List (Step V)) (b : Ballot) (slot : ℕ) (v w : V) → IsLawfulHistory rule first h
     → Among (Offered b slot v) h → Among (Offered b slot w) h → v ≡ w
 one_offer rule first [] b slot v w l a c = absurd a
 one_offer rule first (s ∷ older) b slot v w l (inl d) (inl e) = let k = sym d ∙ e in cc
@@ -147,7 +147,7 @@ holds_after_cut {V} state upto b slot held floor =
     (old.0, Among-filter (λ (r : Report V). ltb upto r.slot) state.accepted old.0 old.1 (lt-ltb upto old.0.slot over), old.2, old.3)
 
 -- what was accepted is held as the last accepted value, or a later one is, or the slot is forgotten
-pub has_accepted : {V : Type 0} (rule : Rule V) (first : Ballot) (h : List (Step V)) (n : ℕ) (b : Ballot) (slot : ℕ) (v : V) → IsLawful rule first h
+pub has_accepted : {V : Type 0} (rule : Rule V) (first : Ballot) (h : List (Step V)) (n : ℕ) (b : Ballot) (slot : ℕ) (v : V) → IsLawfulHistory rule first h
     → Among (Accepted n b slot v) h → Holds b slot (state_of first n h)
 has_accepted rule first [] n b slot v l a = absurd a
 has_accepted {V} rule first (s ∷ older) n b slot v l (inl e) =
@@ -195,7 +195,7 @@ did_accept {V} first (Cut m upto ∷ older) n =
     (later_did (Cut m upto) older n (state_of first n older) (did_accept first older n))
 
 -- a promise reports what was accepted below it, or a later value
-pub reported : {V : Type 0} (rule : Rule V) (first : Ballot) (h : List (Step V)) (n : ℕ) (b' : Ballot) (from : ℕ) (rs : List (Report V)) (b : Ballot) (slot : ℕ) (v : V) → IsLawful rule first h
+pub reported : {V : Type 0} (rule : Rule V) (first : Ballot) (h : List (Step V)) (n : ℕ) (b' : Ballot) (from : ℕ) (rs : List (Report V)) (b : Ballot) (slot : ℕ) (v : V) → IsLawfulHistory rule first h
     → Among (Promised n b' from rs) h → Among (Accepted n b slot v) h → below b b' ≡ true → from ≤ slot
     → (r : Report V) × Among r rs × (r.slot ≡ slot) × IsAtLeast r.ballot b
 reported rule first [] n b' from rs b slot v l p a lt within = absurd p
@@ -211,7 +211,7 @@ reported {V} rule first (s ∷ older) n b' from rs b slot v l (inr p) (inl d) lt
 reported rule first (s ∷ older) n b' from rs b slot v l (inr p) (inr a) lt within = reported rule first older n b' from rs b slot v l.1 p a lt within
 
 -- what is reported was accepted, below the promise
-pub report_accepted : {V : Type 0} (rule : Rule V) (first : Ballot) (h : List (Step V)) (n : ℕ) (b' : Ballot) (from : ℕ) (rs : List (Report V)) (r : Report V) → IsLawful rule first h
+pub report_accepted : {V : Type 0} (rule : Rule V) (first : Ballot) (h : List (Step V)) (n : ℕ) (b' : Ballot) (from : ℕ) (rs : List (Report V)) (r : Report V) → IsLawfulHistory rule first h
     → Among (Promised n b' from rs) h → Among r rs → Among (Accepted n r.ballot r.slot r.value) h × (below r.ballot b' ≡ true)
 report_accepted rule first [] n b' from rs r l p a = absurd p
 report_accepted {V} rule first (s ∷ older) n b' from rs r l (inl e) a =

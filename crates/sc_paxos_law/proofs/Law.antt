@@ -14,7 +14,7 @@ use Rattle.sc_paxos_words.proofs.ListLemmas.{Each-among, Each-weaker}
 use Rattle.sc_paxos_words.proofs.ChoiceLemmas.{choice_among, choice_best}
 use Rattle.sc_paxos_law.specs.Steps.{Step, Offered, Accepted}
 use Rattle.sc_paxos_law.specs.Chosen.{Rule, needed, members_of, IsChosen, IsChosenAfter, IsLog}
-use Rattle.sc_paxos_law.specs.Lawful.{Vote, IsElected, IsLawfulStep, IsLawful}
+use Rattle.sc_paxos_law.specs.Lawful.{CountedPromise, IsElected, IsLawfulStep, IsLawfulHistory}
 use Rattle.sc_paxos_law.proofs.Among.{Among-flat_map, from_flat_map, from_map, shared_member, get_pushed}
 use Rattle.sc_paxos_law.proofs.History.{first_is_least, was_offered, one_offer, reported, report_accepted}
 
@@ -47,7 +47,7 @@ later_made rule first b slot v s older log l known (inl e) = record { log = log;
 later_made rule first b slot v s older log l known (inr e) =
     record { log = log; is_log = later_log rule s older log l; known = known; elected = inr (later_elected _ b slot v s older e) }
 
-made : {V : Type 0} (rule : Rule V) (first : Ballot) (h : List (Step V)) (b : Ballot) (slot : ℕ) (v : V) → IsLawful rule first h → Among (Offered b slot v) h → IsMade rule first b slot v h
+made : {V : Type 0} (rule : Rule V) (first : Ballot) (h : List (Step V)) (b : Ballot) (slot : ℕ) (v : V) → IsLawfulHistory rule first h → Among (Offered b slot v) h → IsMade rule first b slot v h
 made rule first [] b slot v l a = absurd a
 made rule first (s ∷ older) b slot v l (inl e) =
     let m = subst (λ t. IsLawfulStep rule first t older) e l.0 in later_made rule first b slot v s older m.log m.is_log m.known m.elected
@@ -61,20 +61,20 @@ HasMembers {V} rule h slot members = (log : List V) → IsLog rule h log → nee
 
 -- the choice of an elected proposer was accepted in a ballot between the two
 choice_between : {V : Type 0} (rule : Rule V) (first : Ballot) (h : List (Step V)) (slot : ℕ) (members voters : List ℕ) (b : Ballot) (v : V) (b' : Ballot) (w : V)
-    → IsLawful rule first h → Each (λ n. Among (Accepted n b slot v) h) voters → IsMajority members voters → below b b' ≡ true → IsElected members b' slot w h
+    → IsLawfulHistory rule first h → Each (λ n. Among (Accepted n b slot v) h) voters → IsMajority members voters → below b b' ≡ true → IsElected members b' slot w h
     → (between : Ballot) × IsAtLeast between b × (below between b' ≡ true) × Among (Offered between slot w) h
 choice_between {V} rule first h slot members voters b v b' w l each most lt e =
-    let shared = shared_member members voters (map (λ (x : Vote V). x.node) e.votes) most e.majority in
-    let vote = from_map (λ (x : Vote V). x.node) e.votes shared.0 shared.2 in
+    let shared = shared_member members voters (map (λ (x : CountedPromise V). x.node) e.votes) most e.majority in
+    let vote = from_map (λ (x : CountedPromise V). x.node) e.votes shared.0 shared.2 in
     let promised = Each-among _ e.votes vote.0 e.made vote.1 in
     let accepted = subst (λ n. Among (Accepted n b slot v) h) (sym vote.2) (Each-among _ voters shared.0 each shared.1) in
     let r = reported rule first h vote.0.node b' vote.0.from vote.0.reports b slot v l promised.0 accepted lt promised.1 in
-    let all = flat_map (λ (x : Vote V). x.reports) e.votes in
-    let found = choice_best slot all r.0 (Among-flat_map (λ (x : Vote V). x.reports) e.votes vote.0 r.0 vote.1 r.1) r.2 in
+    let all = flat_map (λ (x : CountedPromise V). x.reports) e.votes in
+    let found = choice_best slot all r.0 (Among-flat_map (λ (x : CountedPromise V). x.reports) e.votes vote.0 r.0 vote.1 r.1) r.2 in
     let best = found.0 in
     let is_w : best.value ≡ w = (let k = subst (λ o. IfSome o (λ (x : Report V). x.value ≡ w)) found.1 e.choice in k) in
     let there = choice_among slot all best found.1 in
-    let from = from_flat_map (λ (x : Vote V). x.reports) e.votes best there.0 in
+    let from = from_flat_map (λ (x : CountedPromise V). x.reports) e.votes best there.0 in
     let also = Each-among _ e.votes from.0 e.made from.1 in
     let did = report_accepted rule first h from.0.node b' from.0.from from.0.reports best l also.0 from.2 in
     let offer = was_offered rule first h from.0.node best.ballot best.slot best.value l did.0 in (
@@ -105,7 +105,7 @@ abbrev Safe : {V : Type 0} → List (Step V) → ℕ → V → Ballot → Ballot
 Safe {V} h slot v chosen b = (w : V) → IsAtLeast b chosen → Among (Offered b slot w) h → v ≡ w
 
 safe_step : {V : Type 0} (rule : Rule V) (first : Ballot) (h : List (Step V)) (slot : ℕ) (members : List ℕ) (v : V)
-    → IsLawful rule first h → HasMembers rule h slot members → (c : IsChosen members h slot v)
+    → IsLawfulHistory rule first h → HasMembers rule h slot members → (c : IsChosen members h slot v)
     → (b : Ballot) → ((a : Ballot) → below a b ≡ true → Safe h slot v c.ballot a) → Safe h slot v c.ballot b
 safe_step {V} rule first h slot members v l same c b lower w above o =
     let voter = shared_member members c.voters c.voters c.majority c.majority in
@@ -125,18 +125,18 @@ safe_step {V} rule first h slot members v l same c b lower w above o =
     ]
 
 safe : {V : Type 0} (rule : Rule V) (first : Ballot) (h : List (Step V)) (slot : ℕ) (members : List ℕ) (v : V)
-    → IsLawful rule first h → HasMembers rule h slot members → (c : IsChosen members h slot v) → (b : Ballot) → Safe h slot v c.ballot b
+    → IsLawfulHistory rule first h → HasMembers rule h slot members → (c : IsChosen members h slot v) → (b : Ballot) → Safe h slot v c.ballot b
 safe rule first h slot members v l same c b = below_induction (Safe h slot v c.ballot) (safe_step rule first h slot members v l same c) b
 
 -- a chosen value was offered
 offer_of : {V : Type 0} (rule : Rule V) (first : Ballot) (h : List (Step V)) (slot : ℕ) (members : List ℕ) (v : V)
-    → IsLawful rule first h → (c : IsChosen members h slot v) → Among (Offered c.ballot slot v) h
+    → IsLawfulHistory rule first h → (c : IsChosen members h slot v) → Among (Offered c.ballot slot v) h
 offer_of rule first h slot members v l c =
     let voter = shared_member members c.voters c.voters c.majority c.majority in
     was_offered rule first h voter.0 c.ballot slot v l (Each-among _ c.voters voter.0 c.each voter.1)
 
 one_value : {V : Type 0} (rule : Rule V) (first : Ballot) (h : List (Step V)) (slot : ℕ) (members : List ℕ) (v w : V)
-    → IsLawful rule first h → HasMembers rule h slot members → IsChosen members h slot v → IsChosen members h slot w → v ≡ w
+    → IsLawfulHistory rule first h → HasMembers rule h slot members → IsChosen members h slot v → IsChosen members h slot w → v ≡ w
 one_value rule first h slot members v w l same c d =
     let offered_v = offer_of rule first h slot members v l c in
     let offered_w = offer_of rule first h slot members w l d in
@@ -170,7 +170,7 @@ pub chosen_by : {V : Type 0} (rule : Rule V) (h : List (Step V)) (log : List V) 
 chosen_by {V} rule h log n v c =
     subst (λ ms. IsChosen ms h (n + 1) v) (ap rule.members (take-take (needed rule (n + 1)) n log (earlier rule n))) c.chosen
 
-agree_next : {V : Type 0} (rule : Rule V) (first : Ballot) (h : List (Step V)) → IsLawful rule first h → (n : ℕ) → ((k : ℕ) → k ≤ n → Agree rule h k) → Agree rule h (n + 1)
+agree_next : {V : Type 0} (rule : Rule V) (first : Ballot) (h : List (Step V)) → IsLawfulHistory rule first h → (n : ℕ) → ((k : ℕ) → k ≤ n → Agree rule h k) → Agree rule h (n + 1)
 agree_next {V} rule first h l n below log other a b p q =
     let v = element log n (omega arith) in
     let w = element other n (omega arith) in
@@ -182,7 +182,7 @@ agree_next {V} rule first h l n below log other a b p q =
     let rest = below n (omega arith) log other a b (omega arith) (omega arith) in
     take_more log n v.0 (omega arith) ∙ ap (λ x. take n log ++ x ∷ []) (v.2 ∙ same ∙ sym w.2) ∙ ap (λ xs. xs ++ get_or other n w.0 ∷ []) rest ∙ sym (take_more other n w.0 (omega arith))
 
-agree_up_to : {V : Type 0} (rule : Rule V) (first : Ballot) (h : List (Step V)) → IsLawful rule first h → (n k : ℕ) → k ≤ n → Agree rule h k
+agree_up_to : {V : Type 0} (rule : Rule V) (first : Ballot) (h : List (Step V)) → IsLawfulHistory rule first h → (n k : ℕ) → k ≤ n → Agree rule h k
 agree_up_to rule first h l zero k le = let e : 0 ≡ k = omega arith in subst (Agree rule h) e (λ log other a b p q. refl)
 agree_up_to rule first h l (suc n) k le =
     elim (cases_lt n k) [
@@ -191,11 +191,11 @@ agree_up_to rule first h l (suc n) k le =
     ]
 
 -- any two logs of a history agree as far as both go
-pub logs_agree : {V : Type 0} (rule : Rule V) (first : Ballot) (h : List (Step V)) → IsLawful rule first h → (n : ℕ) → Agree rule h n
+pub logs_agree : {V : Type 0} (rule : Rule V) (first : Ballot) (h : List (Step V)) → IsLawfulHistory rule first h → (n : ℕ) → Agree rule h n
 logs_agree rule first h l n = agree_up_to rule first h l n n (omega arith)
 
 -- no two values are chosen at one slot
-pub one_value_per_slot : {V : Type 0} (rule : Rule V) (first : Ballot) (h : List (Step V)) → IsLawful rule first h
+pub one_value_per_slot : {V : Type 0} (rule : Rule V) (first : Ballot) (h : List (Step V)) → IsLawfulHistory rule first h
     → (log other : List V) → IsLog rule h log → IsLog rule h other
     → (slot : ℕ) (v w : V) → IsChosenAfter rule h log (slot + 1) v → IsChosenAfter rule h other (slot + 1) w → v ≡ w
 one_value_per_slot rule first h l log other a b slot v w c d =

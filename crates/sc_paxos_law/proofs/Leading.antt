@@ -12,7 +12,7 @@ use Rattle.sc_paxos_words.specs.Choice.{choice, names_above}
 use Rattle.sc_paxos_words.specs.Leaders.{LeaderState, Obeys, must, must_without}
 use Rattle.sc_paxos_words.proofs.ListLemmas.{Among-filter}
 use Rattle.sc_paxos_law.specs.Steps.{Step, Promised}
-use Rattle.sc_paxos_law.specs.Lawful.{Vote, IsElected}
+use Rattle.sc_paxos_law.specs.Lawful.{CountedPromise, IsElected}
 use Rattle.sc_paxos_law.proofs.Among.{member-among, among-member}
 
 obeys : {V : Type 0} (above : Bool) (o : Option (Report V)) (value : V) → Obeys (must_without above (option_map (λ (r : Report V). r.value) o)) value → IfSome o (λ (best : Report V). best.value ≡ value)
@@ -20,9 +20,9 @@ obeys above None value h = tt
 obeys above (Some best) value h = sym h
 
 -- a leader's counted votes are an election
-pub elected_by : {V : Type 0} (members : List ℕ) (older : List (Step V)) (slot : ℕ) (value : V) (leader : LeaderState V) (votes : List (Vote V))
-    → leader.promisers ≡ map (λ (vote : Vote V). vote.node) votes → leader.reports ≡ flat_map (λ (vote : Vote V). vote.reports) votes
-    → Each (λ (vote : Vote V). Among (Promised vote.node leader.ballot vote.from vote.reports) older × (vote.from ≤ slot)) votes
+pub elected_by : {V : Type 0} (members : List ℕ) (older : List (Step V)) (slot : ℕ) (value : V) (leader : LeaderState V) (votes : List (CountedPromise V))
+    → leader.promisers ≡ map (λ (vote : CountedPromise V). vote.node) votes → leader.reports ≡ flat_map (λ (vote : CountedPromise V). vote.reports) votes
+    → Each (λ (vote : CountedPromise V). Among (Promised vote.node leader.ballot vote.from vote.reports) older × (vote.from ≤ slot)) votes
     → is_majority members leader.promisers ≡ true → Obeys (must slot leader) value → IsElected members leader.ballot slot value older
 elected_by {V} members older slot value leader votes nodes reports made most obeyed = record {
   votes = votes;

@@ -49,11 +49,11 @@ top_slot (Accepted n b s value ∷ older) = max s (top_slot older)
 top_slot (Cut n upto ∷ older) = top_slot older
 
 -- the log with its next entries, at most so many
-abbrev pub longer : {V : Type 0} → Rule V → List (Step V) → ℕ → List V → List V
-longer rule h zero log = log
-longer rule h (suc more) log =
-    elim (chosen_at (members_of rule log (length log + 1)) h (length log + 1)) [ None ↦ log | Some value ↦ longer rule h more (log ++ value ∷ []) ]
+abbrev pub with_next_entries : {V : Type 0} → Rule V → List (Step V) → ℕ → List V → List V
+with_next_entries rule h zero log = log
+with_next_entries rule h (suc more) log =
+    elim (chosen_at (members_of rule log (length log + 1)) h (length log + 1)) [ None ↦ log | Some value ↦ with_next_entries rule h more (log ++ value ∷ []) ]
 
 -- the longest list whose entry k is chosen at slot k
 abbrev pub log_of : {V : Type 0} → Rule V → List (Step V) → List V
-log_of rule h = longer rule h (top_slot h) []
+log_of rule h = with_next_entries rule h (top_slot h) []

@@ -18,8 +18,8 @@ abbrev pub second : Ballot
 second = record { round = 2; node = 2 }
 
 -- newest first. Of what node 1 offers in slot 1 only node 2 hears; node 2 asks for promises, and node 1 never hears of it; node 2 is elected by itself and node 3, and must offer the same value again; nodes 2 and 3 accept it, node 3 twice, and a value at slot 2; node 2 forgets slot 1
-abbrev pub example : List (Step ℕ)
-example =
+abbrev pub example_steps : List (Step ℕ)
+example_steps =
     Cut 2 1 ∷ Accepted 3 second 1 7 ∷ Accepted 2 second 2 8 ∷ Accepted 3 second 2 8 ∷ Offered second 2 8
     ∷ Accepted 3 second 1 7 ∷ Accepted 2 second 1 7 ∷ Offered second 1 7
     ∷ Promised 3 second 1 [] ∷ Promised 2 second 1 (record { slot = 1; ballot = first; value = 7 } ∷ []) ∷ Prepared second 1

@@ -11,17 +11,17 @@ use Rattle.sc_paxos_law.specs.Steps.{Step, Prepared, Promised, Offered, Accepted
 use Rattle.sc_paxos_law.specs.Chosen.{Rule, needed, members_of, IsLog}
 
 -- a promise that a proposer has counted
-pub record Vote (V : Type 0) : Type 0 where
+pub record CountedPromise (V : Type 0) : Type 0 where
   pub node : ℕ
   pub from : ℕ
   pub reports : List (Report V)
 
 -- a proposer has promises of a majority of the members that cover the slot, and the value is by the choice from all reports that it counted, in its order of counting
 pub record IsElected {V : Type 0} (members : List ℕ) (ballot : Ballot) (slot : ℕ) (value : V) (older : List (Step V)) : Type 0 where
-  pub votes : List (Vote V)
-  pub made : Each (λ (vote : Vote V). Among (Promised vote.node ballot vote.from vote.reports) older × (vote.from ≤ slot)) votes
-  pub majority : IsMajority members (map (λ (vote : Vote V). vote.node) votes)
-  pub choice : IfSome (choice slot (flat_map (λ (vote : Vote V). vote.reports) votes)) (λ best. best.value ≡ value)
+  pub votes : List (CountedPromise V)
+  pub made : Each (λ (vote : CountedPromise V). Among (Promised vote.node ballot vote.from vote.reports) older × (vote.from ≤ slot)) votes
+  pub majority : IsMajority members (map (λ (vote : CountedPromise V). vote.node) votes)
+  pub choice : IfSome (choice slot (flat_map (λ (vote : CountedPromise V). vote.reports) votes)) (λ best. best.value ≡ value)
 
 -- an offer: its proposer knew enough of the log for the slot's members; its ballot is the first, or it was elected by these members; and the ballot offers nothing else at the slot
 pub record MayOffer {V : Type 0} (rule : Rule V) (first ballot : Ballot) (slot : ℕ) (value : V) (older : List (Step V)) : Type 0 where
@@ -41,6 +41,6 @@ IsLawfulStep rule first (Accepted node ballot slot value) older = (may_accept (s
 IsLawfulStep rule first (Cut node upto) older = Unit {0}
 
 -- each step is lawful after the older ones
-abbrev pub IsLawful : {V : Type 0} → Rule V → Ballot → List (Step V) → Type 0
-IsLawful rule first [] = Unit {0}
-IsLawful rule first (step ∷ older) = IsLawfulStep rule first step older × IsLawful rule first older
+abbrev pub IsLawfulHistory : {V : Type 0} → Rule V → Ballot → List (Step V) → Type 0
+IsLawfulHistory rule first [] = Unit {0}
+IsLawfulHistory rule first (step ∷ older) = IsLawfulStep rule first step older × IsLawfulHistory rule first older

@@ -15,24 +15,24 @@ use Rattle.sc_paxos_words.specs.Accepting.{accepted}
 use Rattle.sc_paxos_words.specs.Leaders.{LeaderState, Obeys, must}
 use Rattle.sc_paxos_law.specs.Steps.{Step, Promised, Offered, Accepted, Cut, state_of}
 use Rattle.sc_paxos_law.specs.Chosen.{Rule, IsChosen, IsChosenAfter, IsLog}
-use Rattle.sc_paxos_law.specs.Lawful.{Vote, IsElected, IsLawfulStep, IsLawful}
+use Rattle.sc_paxos_law.specs.Lawful.{CountedPromise, IsElected, IsLawfulStep, IsLawfulHistory}
 use Rattle.sc_paxos_law.specs.Decided.{chosen_at, log_of}
 
 -- no two values are chosen at one slot, each by the members that its own log gives
 abbrev pub OneValuePerSlot : Type 0 → Type 0
-OneValuePerSlot V = (rule : Rule V) (first : Ballot) (h : List (Step V)) → IsLawful rule first h
+OneValuePerSlot V = (rule : Rule V) (first : Ballot) (h : List (Step V)) → IsLawfulHistory rule first h
     → (log other : List V) → IsLog rule h log → IsLog rule h other
     → (slot : ℕ) (v w : V) → IsChosenAfter rule h log (slot + 1) v → IsChosenAfter rule h other (slot + 1) w → v ≡ w
 
 -- any two logs agree as far as both go
 abbrev pub LogsAgree : Type 0 → Type 0
-LogsAgree V = (rule : Rule V) (first : Ballot) (h : List (Step V)) → IsLawful rule first h
+LogsAgree V = (rule : Rule V) (first : Ballot) (h : List (Step V)) → IsLawfulHistory rule first h
     → (log other : List V) → IsLog rule h log → IsLog rule h other → (n : ℕ) → n ≤ length log → n ≤ length other → take n log ≡ take n other
 
 -- the computed log is a log, and each other log is a front of it
 pub record LogIsLongest (V : Type 0) : Type 0 where
-  pub is_log : (rule : Rule V) (first : Ballot) (h : List (Step V)) → IsLawful rule first h → IsLog rule h (log_of rule h)
-  pub longest : (rule : Rule V) (first : Ballot) (h : List (Step V)) → IsLawful rule first h
+  pub is_log : (rule : Rule V) (first : Ballot) (h : List (Step V)) → IsLawfulHistory rule first h → IsLog rule h (log_of rule h)
+  pub longest : (rule : Rule V) (first : Ballot) (h : List (Step V)) → IsLawfulHistory rule first h
       → (other : List V) → IsLog rule h other → (length other ≤ length (log_of rule h)) × (take (length other) (log_of rule h) ≡ other)
 
 -- of any history, lawful or not: where a value is found at a slot, it was accepted there in a ballot that is not above that of any value chosen there
@@ -42,7 +42,7 @@ LeastBallotStands V = (members : List ℕ) (h : List (Step V)) (slot : ℕ) (v :
 
 -- with more steps the log goes on as it was
 abbrev pub LogOnlyGrows : Type 0 → Type 0
-LogOnlyGrows V = (rule : Rule V) (first : Ballot) (newer h : List (Step V)) → IsLawful rule first (newer ++ h)
+LogOnlyGrows V = (rule : Rule V) (first : Ballot) (newer h : List (Step V)) → IsLawfulHistory rule first (newer ++ h)
     → (length (log_of rule h) ≤ length (log_of rule (newer ++ h))) × (take (length (log_of rule h)) (log_of rule (newer ++ h)) ≡ log_of rule h)
 
 -- what an acceptor answers by the words of its contracts is a lawful step, after which it holds what they say
@@ -58,9 +58,9 @@ pub record AcceptorsAreLawful (V : Type 0) : Type 0 where
 
 -- a leader that holds the promises of these votes, of a majority of the slot's members, and proposes what it must, is elected
 abbrev pub LeadersAreLawful : Type 0 → Type 0
-LeadersAreLawful V = (members : List ℕ) (older : List (Step V)) (slot : ℕ) (value : V) (leader : LeaderState V) (votes : List (Vote V))
-    → leader.promisers ≡ map (λ (vote : Vote V). vote.node) votes → leader.reports ≡ flat_map (λ (vote : Vote V). vote.reports) votes
-    → Each (λ (vote : Vote V). Among (Promised vote.node leader.ballot vote.from vote.reports) older × (vote.from ≤ slot)) votes
+LeadersAreLawful V = (members : List ℕ) (older : List (Step V)) (slot : ℕ) (value : V) (leader : LeaderState V) (votes : List (CountedPromise V))
+    → leader.promisers ≡ map (λ (vote : CountedPromise V). vote.node) votes → leader.reports ≡ flat_map (λ (vote : CountedPromise V). vote.reports) votes
+    → Each (λ (vote : CountedPromise V). Among (Promised vote.node leader.ballot vote.from vote.reports) older × (vote.from ≤ slot)) votes
     → is_majority members leader.promisers ≡ true → Obeys (must slot leader) value → IsElected members leader.ballot slot value older
 
 -- votes of nodes that are no members change nothing

@@ -2,7 +2,7 @@
 use Rattle.std.specs.Prelude.{ℕ, ◌==◌, List, [], ◌∷◌, if◌then◌else◌}
 use Rattle.sc_base.specs.declared.names.Ballot.{Ballot}
 use Rattle.sc_paxos_words.specs.declared.reports.Report.{Report}
-use Rattle.sc_paxos_words.specs.Acceptors.{AcceptorState, born, after_promise, after_accept, after_cut}
+use Rattle.sc_paxos_words.specs.Acceptors.{AcceptorState, born_acceptor, after_promise, after_accept, after_cut}
 
 -- a step of one node. A message that is lost is one that no later step uses; one that is late, comes again or overtakes another is used later, again or earlier
 pub data Step (V : Type 0) : Type 0 where
@@ -19,7 +19,7 @@ pub data Step (V : Type 0) : Type 0 where
 
 -- a history is a list of steps, newest first. What the acceptor of a node holds after it: at birth it has promised the first ballot
 abbrev pub state_of : {V : Type 0} → Ballot → ℕ → List (Step V) → AcceptorState V
-state_of first node [] = born first
+state_of first node [] = born_acceptor first
 state_of first node (Prepared ballot from ∷ older) = state_of first node older
 state_of first node (Promised n ballot from reports ∷ older) = if n == node then after_promise ballot (state_of first node older) else state_of first node older
 state_of first node (Offered ballot slot value ∷ older) = state_of first node older

@@ -3,9 +3,9 @@
 #![tactic(auto)]
 
 ghost use Rattle.std.specs.Prelude.{◌≡◌, [], ◌∷◌};
-ghost use Rattle.sc_paxos_law.specs.Lawful.{IsLawful};
+ghost use Rattle.sc_paxos_law.specs.Lawful.{IsLawfulHistory};
 ghost use Rattle.sc_paxos_law.specs.Decided.{log_of};
-ghost use Rattle.sc_paxos_law.specs.Example.{three, first, example};
+ghost use Rattle.sc_paxos_law.specs.Example.{three, first, example_steps};
 ghost use Rattle.sc_paxos_law.specs.Laws.{OneValuePerSlot, LogsAgree, LogIsLongest, LogOnlyGrows, LeastBallotStands, AcceptorsAreLawful, LeadersAreLawful, StrangersDoNotCount};
 
 /// No two values are chosen at one slot, and any two logs agree.
@@ -37,6 +37,6 @@ pub fn leaders_are_lawful<V>()
 
 /// The law is about something: a lawful history with a lost message and an election, and its log.
 pub fn a_lawful_history()
-    ensures lawful { IsLawful three first example }
-    ensures log { log_of three example ≡ 7 ∷ 8 ∷ [] }
+    ensures lawful { IsLawfulHistory three first example_steps }
+    ensures log { log_of three example_steps ≡ 7 ∷ 8 ∷ [] }
 {}

@@ -6,7 +6,7 @@ use Rattle.sc_base.specs.declared.names.Ballot.{Ballot}
 use Rattle.sc_paxos_words.specs.declared.reports.Report.{Report}
 use Rattle.sc_base.specs.Among.{Each}
 use Rattle.sc_paxos_words.specs.Ballots.{below, IsAtLeast}
-use Rattle.sc_paxos_words.specs.Acceptors.{AcceptorState, IsBySlot, IsWhole, born, last_at, with_report, may_promise, may_accept, after_promise, after_accept, after_cut}
+use Rattle.sc_paxos_words.specs.Acceptors.{AcceptorState, IsBySlot, IsWholeAcceptor, born_acceptor, last_at, with_report, may_promise, may_accept, after_promise, after_accept, after_cut}
 use Rattle.sc_paxos_words.proofs.BallotLemmas.{at_least_trans, at_least_itself, at_least_from_below}
 use Rattle.sc_paxos_words.proofs.ListLemmas.{Each-among, Each-weaker, Each-append, Each-filter, Each-passes, find_found, find_nothing, find_past, find_within, find_filter}
 
@@ -45,11 +45,11 @@ each_with : {V : Type 0} (P : Report V → Type 0) (new : Report V) (xs : List (
 each_with P new xs h all = Each-append P (filter (λ r. ltb r.slot new.slot) xs) (new ∷ filter (λ r. ltb new.slot r.slot) xs) (Each-filter P _ xs all) (h, Each-filter P _ xs all)
 
 -- an acceptor is whole at birth
-pub whole_at_birth : {V : Type 0} (first : Ballot) → IsWhole {V = V} (born first)
+pub whole_at_birth : {V : Type 0} (first : Ballot) → IsWholeAcceptor {V = V} (born_acceptor first)
 whole_at_birth first = record { by_slot = tt; above = tt; kept = tt }
 
 -- and stays so by a promise
-pub whole_by_promise : {V : Type 0} (state : AcceptorState V) (ballot : Ballot) → IsWhole state → may_promise state ballot ≡ true → IsWhole (after_promise ballot state)
+pub whole_by_promise : {V : Type 0} (state : AcceptorState V) (ballot : Ballot) → IsWholeAcceptor state → may_promise state ballot ≡ true → IsWholeAcceptor (after_promise ballot state)
 whole_by_promise {V} state ballot is t = record {
   by_slot = is.by_slot;
   above = is.above;
@@ -61,7 +61,7 @@ pub may_is : {V : Type 0} (state : AcceptorState V) (ballot : Ballot) → may_ac
 may_is state ballot t = not-true (below ballot state.promised) t
 
 -- by what it accepts
-pub whole_by_accept : {V : Type 0} (state : AcceptorState V) (report : Report V) → IsWhole state → may_accept state report.ballot ≡ true → state.floor < report.slot → IsWhole (after_accept report state)
+pub whole_by_accept : {V : Type 0} (state : AcceptorState V) (report : Report V) → IsWholeAcceptor state → may_accept state report.ballot ≡ true → state.floor < report.slot → IsWholeAcceptor (after_accept report state)
 whole_by_accept {V} state report is t up = record {
   by_slot = by_slot_with report state.accepted is.by_slot;
   above = each_with (Over state.floor) report state.accepted up is.above;
@@ -78,7 +78,7 @@ above_cut {V} floor upto xs all =
     both (y ∷ ys) a b = (omega (arith, a.0, b.0), both ys a.1 b.1)
 
 -- and by what it forgets
-pub whole_by_cut : {V : Type 0} (state : AcceptorState V) (upto : ℕ) → IsWhole state → IsWhole (after_cut upto state)
+pub whole_by_cut : {V : Type 0} (state : AcceptorState V) (upto : ℕ) → IsWholeAcceptor state → IsWholeAcceptor (after_cut upto state)
 whole_by_cut {V} state upto is = record {
   by_slot = filtered (λ (r : Report V). ltb upto r.slot) state.accepted is.by_slot;
   above = above_cut state.floor upto state.accepted is.above;
@@ -118,7 +118,7 @@ accepted_elsewhere {V} new xs slot other =
     ]
 
 -- at a slot it accepts no lower ballot than before
-pub ballots_never_fall : {V : Type 0} (state : AcceptorState V) (report older : Report V) → IsWhole state → may_accept state report.ballot ≡ true
+pub ballots_never_fall : {V : Type 0} (state : AcceptorState V) (report older : Report V) → IsWholeAcceptor state → may_accept state report.ballot ≡ true
     → last_at report.slot state.accepted ≡ Some older → IsAtLeast report.ballot older.ballot
 ballots_never_fall {V} state report older is t e =
     let found = find_found (At report.slot) state.accepted older e in

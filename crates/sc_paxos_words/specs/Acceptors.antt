@@ -17,14 +17,14 @@ IsBySlot [] = Unit {0}
 IsBySlot (report ∷ reports) = Each (λ later. report.slot < later.slot) reports × IsBySlot reports
 
 -- one report a slot, by rising slot, each above the floor and none of a ballot above the promise
-pub record IsWhole {V : Type 0} (state : AcceptorState V) : Type 0 where
+pub record IsWholeAcceptor {V : Type 0} (state : AcceptorState V) : Type 0 where
   pub by_slot : IsBySlot state.accepted
   pub above : Each (λ report. state.floor < report.slot) state.accepted
   pub kept : Each (λ report. IsAtLeast state.promised report.ballot) state.accepted
 
 -- at birth it has promised the first ballot and accepted nothing
-abbrev pub born : {V : Type 0} → Ballot → AcceptorState V
-born first = record { promised = first; floor = 0; accepted = [] }
+abbrev pub born_acceptor : {V : Type 0} → Ballot → AcceptorState V
+born_acceptor first = record { promised = first; floor = 0; accepted = [] }
 
 -- what was accepted last at a slot
 abbrev pub last_at : {V : Type 0} → ℕ → List (Report V) → Option (Report V)

@@ -5,7 +5,7 @@ use Rattle.sc_paxos_words.specs.declared.reports.Report.{Report}
 use Rattle.sc_base.specs.Among.{Each}
 use Rattle.sc_paxos_words.specs.Ballots.{below, IsAtLeast}
 use Rattle.sc_paxos_words.specs.Choice.{choice}
-use Rattle.sc_paxos_words.specs.Acceptors.{AcceptorState, IsWhole, born, last_at, may_promise, may_accept, after_promise, after_accept, after_cut}
+use Rattle.sc_paxos_words.specs.Acceptors.{AcceptorState, IsWholeAcceptor, born_acceptor, last_at, may_promise, may_accept, after_promise, after_accept, after_cut}
 
 -- no ballot is below itself, the order is passed on, and of two ballots that are not below each other there is one
 pub record BallotsAreOrdered : Type 0 where
@@ -37,14 +37,14 @@ pub record PromisesNeverFall (V : Type 0) : Type 0 where
 
 -- what is accepted at a slot has a ballot not below what was accepted there
 abbrev pub AcceptedBallotsNeverFall : Type 0 → Type 0
-AcceptedBallotsNeverFall V = (state : AcceptorState V) (report older : Report V) → IsWhole state → may_accept state report.ballot ≡ true
+AcceptedBallotsNeverFall V = (state : AcceptorState V) (report older : Report V) → IsWholeAcceptor state → may_accept state report.ballot ≡ true
     → last_at report.slot state.accepted ≡ Some older → IsAtLeast report.ballot older.ballot
 
 -- an acceptor is born whole, and whatever it does it stays so; what it accepts is then what it accepted last at that slot, and at no other
 pub record AcceptorsStayWhole (V : Type 0) : Type 0 where
-  pub at_birth : (first : Ballot) → IsWhole {V = V} (born first)
-  pub by_promise : (state : AcceptorState V) (ballot : Ballot) → IsWhole state → may_promise state ballot ≡ true → IsWhole (after_promise ballot state)
-  pub by_accept : (state : AcceptorState V) (report : Report V) → IsWhole state → may_accept state report.ballot ≡ true → state.floor < report.slot → IsWhole (after_accept report state)
-  pub by_cut : (state : AcceptorState V) (upto : ℕ) → IsWhole state → IsWhole (after_cut upto state)
+  pub at_birth : (first : Ballot) → IsWholeAcceptor {V = V} (born_acceptor first)
+  pub by_promise : (state : AcceptorState V) (ballot : Ballot) → IsWholeAcceptor state → may_promise state ballot ≡ true → IsWholeAcceptor (after_promise ballot state)
+  pub by_accept : (state : AcceptorState V) (report : Report V) → IsWholeAcceptor state → may_accept state report.ballot ≡ true → state.floor < report.slot → IsWholeAcceptor (after_accept report state)
+  pub by_cut : (state : AcceptorState V) (upto : ℕ) → IsWholeAcceptor state → IsWholeAcceptor (after_cut upto state)
   pub accepted_here : (state : AcceptorState V) (report : Report V) → last_at report.slot (after_accept report state).accepted ≡ Some report
   pub accepted_elsewhere : (state : AcceptorState V) (report : Report V) (slot : ℕ) → slot ≢ report.slot → last_at slot (after_accept report state).accepted ≡ last_at slot state.accepted

@@ -25,8 +25,8 @@ abbrev pub first_leader : {V : Type 0} → Ballot → LeaderState V
 first_leader ballot = record { ballot = ballot; is_first = true; from = 1; promisers = []; reports = []; flights = [] }
 
 -- a leader of another ballot, elected when `from` was the next slot
-abbrev pub elected : {V : Type 0} → Ballot → ℕ → LeaderState V
-elected ballot from = record { ballot = ballot; is_first = false; from = from; promisers = []; reports = []; flights = [] }
+abbrev pub new_leader : {V : Type 0} → Ballot → ℕ → LeaderState V
+new_leader ballot from = record { ballot = ballot; is_first = false; from = from; promisers = []; reports = []; flights = [] }
 
 -- a promise of its ballot is counted once a node
 abbrev pub promise_counted : {V : Type 0} → ℕ → Ballot → List (Report V) → LeaderState V → Bool × LeaderState V
@@ -59,8 +59,8 @@ abbrev pub flight_at : {V : Type 0} → ℕ → List (Flight V) → Option (Flig
 flight_at slot flights = find (λ flight. flight.slot == slot) flights
 
 -- a value in flight with no votes
-abbrev pub offered : {V : Type 0} → ℕ → V → LeaderState V → LeaderState V
-offered slot value leader = record leader { flights = leader.flights ++ (record { slot = slot; value = value; voters = None }) ∷ [] }
+abbrev pub with_flight_at : {V : Type 0} → ℕ → V → LeaderState V → LeaderState V
+with_flight_at slot value leader = record leader { flights = leader.flights ++ (record { slot = slot; value = value; voters = None }) ∷ [] }
 
 -- the flights but the one at a slot
 abbrev pub without_flight : {V : Type 0} → ℕ → List (Flight V) → List (Flight V)
@@ -68,5 +68,5 @@ without_flight slot [] = []
 without_flight slot (flight ∷ flights) = if flight.slot == slot then flights else flight ∷ without_flight slot flights
 
 -- a flight taken out
-abbrev pub landed : {V : Type 0} → ℕ → LeaderState V → LeaderState V
-landed slot leader = record leader { flights = without_flight slot leader.flights }
+abbrev pub without_flight_at : {V : Type 0} → ℕ → LeaderState V → LeaderState V
+without_flight_at slot leader = record leader { flights = without_flight slot leader.flights }

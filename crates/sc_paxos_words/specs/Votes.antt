@@ -7,12 +7,12 @@ use Rattle.sc_paxos_words.specs.declared.flights.Flight.{Flight}
 use Rattle.sc_paxos_words.specs.declared.answers.Counted.{Counted}
 use Rattle.sc_paxos_words.specs.declared.answers.Counted.TheVariants.{Chosen, NotYet}
 use Rattle.sc_base.specs.Same.{same_ballot}
-use Rattle.sc_paxos_words.specs.Leaders.{LeaderState, flight_at, landed}
+use Rattle.sc_paxos_words.specs.Leaders.{LeaderState, flight_at, without_flight_at}
 
 -- the nodes whose votes are kept
-abbrev pub voters_of : Option (List ℕ) → List ℕ
-voters_of None = []
-voters_of (Some voters) = voters
+abbrev pub kept_voters : Option (List ℕ) → List ℕ
+kept_voters None = []
+kept_voters (Some voters) = voters
 
 -- with one more, if it is not there; a set has at most nine, which is more than enough for a majority of nine members
 abbrev pub add_voter : ℕ → Option (List ℕ) → Option (List ℕ)
@@ -31,17 +31,17 @@ with_voters slot voters (flight ∷ flights) = if flight.slot == slot then recor
 -- the kept voters of what is in flight at a slot
 abbrev pub voters_at : {V : Type 0} → Option (Flight V) → List ℕ
 voters_at None = []
-voters_at (Some flight) = voters_of flight.voters
+voters_at (Some flight) = kept_voters flight.voters
 
 -- whether a node's vote was counted for what is in flight at a slot
-abbrev pub has_voted : {V : Type 0} → ℕ → ℕ → LeaderState V → Bool
-has_voted slot node leader = is_member (voters_at (flight_at slot leader.flights)) node
+abbrev pub has_counted : {V : Type 0} → ℕ → ℕ → LeaderState V → Bool
+has_counted slot node leader = is_member (voters_at (flight_at slot leader.flights)) node
 
 -- a majority of the members: the value is chosen and the flight is over; else the votes are kept
 abbrev pub tallied : {V : Type 0} → ℕ → V → List ℕ → Option (List ℕ) → LeaderState V → Counted V × LeaderState V
 tallied slot value members voters leader =
-    if is_majority members (voters_of voters) then (Chosen value, landed slot leader)
-    else (NotYet (length (voters_of voters)), record leader { flights = with_voters slot voters leader.flights })
+    if is_majority members (kept_voters voters) then (Chosen value, without_flight_at slot leader)
+    else (NotYet (length (kept_voters voters)), record leader { flights = with_voters slot voters leader.flights })
 
 -- a vote for what is in flight at a slot, if anything is
 abbrev pub vote_at : {V : Type 0} → ℕ → ℕ → List ℕ → Option (Flight V) → LeaderState V → Counted V × LeaderState V

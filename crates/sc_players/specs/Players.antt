@@ -18,9 +18,9 @@ use Rattle.sc_scenario.specs.declared.scenarios.Asks.{Asks}
 use Rattle.sc_scenario.specs.declared.scenarios.Scenario.{Scenario}
 use Rattle.sc_scenario.specs.declared.scenarios.SchedLine.{SchedLine}
 use Rattle.sc_scenario.specs.declared.scenarios.SchedLine.TheVariants.{Go, Deliver, Drop, Again, Tick, Crash, Told, Settle, Free, Storm}
-use Rattle.sc_node_table.specs.Slots.{slots_ahead, numbers}
+use Rattle.sc_node_table.specs.Slots.{slots_ahead, numbers_from}
 use Rattle.sc_node_table.specs.Node.{NodeState, node_table, born_node}
-use Rattle.sc_client_table.specs.Client.{Client as ClientState, born}
+use Rattle.sc_client_table.specs.Client.{Client as ClientState, born_client}
 use Rattle.sc_client_table.specs.Table.{table}
 use Rattle.sc_players.specs.Roles.{role_table}
 use Rattle.sc_players.specs.declared.roles.Role.{Role}
@@ -57,7 +57,7 @@ route_of base = record { group = base.core.id; lo = base.core.arc.lo; members = 
 
 -- a client at its birth: it has its requests, and knows the first group
 abbrev pub client_seat : Route → Asks → Seat Player
-client_seat first asks = record { who = client_actor asks.client; actor = Client (born asks.client asks.ops first) }
+client_seat first asks = record { who = client_actor asks.client; actor = Client (born_client asks.client asks.ops first) }
 
 -- the clients, which ask the scenario's first group
 abbrev pub client_seats : List Base → List Asks → List (Seat Player)
@@ -70,7 +70,7 @@ AreFew scenario = All (λ asks. length asks.ops ≤ most_requests) scenario.clie
 
 -- the nodes and then the clients, in order of number, as they are born where so many slots are open
 abbrev pub births : Ahead → Scenario → List (Seat Player)
-births ahead scenario = map (node_seat ahead scenario.groups) (numbers 1 scenario.nodes) ++ client_seats scenario.groups scenario.clients
+births ahead scenario = map (node_seat ahead scenario.groups) (numbers_from 1 scenario.nodes) ++ client_seats scenario.groups scenario.clients
 
 -- a line of a scenario, as the walk takes it
 abbrev pub line_of : SchedLine → Line OrderLine

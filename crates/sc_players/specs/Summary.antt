@@ -2,8 +2,8 @@
 use Rattle.std.specs.Prelude.{ℕ, ◌+◌, Bool, List, [], ◌∷◌, if◌then◌else◌, Option, Some, None, slice_get}
 use Rattle.sc_base.specs.declared.ops.Op.{Op}
 use Rattle.sc_base.specs.declared.ops.Reply.{Reply}
-use Rattle.sc_report.specs.declared.summaries.Got.{Got}
-use Rattle.sc_report.specs.declared.summaries.Got.TheVariants.{Unsent, Unanswered, Replied}
+use Rattle.sc_report.specs.declared.summaries.Progress.{Progress}
+use Rattle.sc_report.specs.declared.summaries.Progress.TheVariants.{Unsent, Unanswered, Replied}
 use Rattle.sc_report.specs.declared.summaries.Asked.{Asked}
 use Rattle.sc_client_table.specs.Client.{Client as ClientState}
 use Rattle.sc_client_table.specs.Table.{waits_for}
@@ -11,12 +11,12 @@ use Rattle.sc_players.specs.Players.{Player}
 use Rattle.sc_players.specs.declared.roles.Role.TheVariants.{Node, Client}
 
 -- how far a request came, by its reply and whether its client waits for it
-abbrev pub got_by : Option Reply → Bool → Got
+abbrev pub got_by : Option Reply → Bool → Progress
 got_by (Some reply) waits = Replied reply
 got_by None waits = if waits then Unanswered else Unsent
 
 -- how far a request came: its client has the reply, waits for it, or has not sent it
-abbrev pub got_of : Option Reply → ClientState → ℕ → Got
+abbrev pub got_of : Option Reply → ClientState → ℕ → Progress
 got_of reply client seq = got_by reply (waits_for client.waiting seq)
 
 -- the request after so many

@@ -10,11 +10,11 @@ use Rattle.sc_ideal.proofs.Joins.{parts_join}
 use Rattle.sc_ideal.proofs.Tables.{joined_by_number}
 use Rattle.sc_cmd.specs.declared.bodies.Offer.{Offer}
 use Rattle.sc_machine_table.specs.Group.{Group}
-use Rattle.sc_machine_table.specs.Plans.{frozen_of, giving_group, taking_group, given}
+use Rattle.sc_machine_table.specs.Plans.{frozen_of, giving_group, taking_group, part_gift}
 use Rattle.sc_machine_table.specs.Finishes.{gained_group, lost_group}
 use Rattle.sc_machine_table.specs.Totals.{AreNeighbours, KeepTheTotal}
 use Rattle.sc_machine_table.proofs.Parts.{part_within, first_inside, second_inside, parts_turned, pairs_again}
-use Rattle.sc_repart.specs.Laws.{Gives, GivingKeepsTheTotal, Takes, TakingKeepsTheTotal}
+use Rattle.sc_repart.specs.Laws.{GivesArc, GivingKeepsTheTotal, TakesArc, TakingKeepsTheTotal}
 
 -- the second part of an arc ends where the arc does
 second_end : (arc : Arc) (at : ℕ) → arc.lo < 2 ^ 32 → PartsJoin arc at → end_of arc ≡ end_of (from arc at)

@@ -7,7 +7,7 @@ use Rattle.sc_cmd.specs.declared.cores.Base.{Base}
 use Rattle.sc_cmd.specs.declared.links.Route.{Route}
 use Rattle.sc_actor.specs.declared.actors.Seat.{Seat}
 use Rattle.sc_actor.specs.System.{are_apart}
-use Rattle.sc_node_table.specs.Slots.{numbers}
+use Rattle.sc_node_table.specs.Slots.{numbers_from}
 use Rattle.sc_node_table.specs.Node.{are_in_order}
 use Rattle.sc_scenario.specs.Groups.{lone_group}
 use Rattle.sc_scenario.specs.Valid.{IsEarly, IsEarlyClient}
@@ -43,11 +43,11 @@ rise_on : (low top : ℕ) (xs ys : List (Seat Player)) → low ≤ top → Rises
 rise_on low top [] ys le r w s = lower low top ys le s
 rise_on low top (x ∷ xs) ys le r w s = (r.0, rise_on x.who top xs ys w.0 r.1 w.1 s)
 
-nodes_rise : (groups : List Base) (low from count : ℕ) → low < from → Rises low (map (node_seat as_nodes groups) (numbers from count))
+nodes_rise : (groups : List Base) (low from count : ℕ) → low < from → Rises low (map (node_seat as_nodes groups) (numbers_from from count))
 nodes_rise groups low from zero lt = tt
 nodes_rise groups low from (suc count) lt = (lt, nodes_rise groups from (from + 1) count (omega arith))
 
-nodes_within : (groups : List Base) (top from count : ℕ) → from + count ≤ top + 1 → Within top (map (node_seat as_nodes groups) (numbers from count))
+nodes_within : (groups : List Base) (top from count : ℕ) → from + count ≤ top + 1 → Within top (map (node_seat as_nodes groups) (numbers_from from count))
 nodes_within groups top from zero le = tt
 nodes_within groups top from (suc count) le = (omega (arith, le), nodes_within groups top (from + 1) count (omega (arith, le)))
 

@@ -11,11 +11,11 @@ use Rattle.sc_scenario.specs.Valid.{IsValid}
 use Rattle.sc_scenario.specs.declared.scenarios.Scenario.{Scenario}
 use Rattle.sc_players.specs.Players.{system_of, schedule, Lawful, Player, as_nodes}
 use Rattle.sc_group_law.specs.Laws.{ValidHaveOneGroup, GroupJournalsAreSound}
-use Rattle.sc_replay.specs.Worlds.{entries_in, Holds}
+use Rattle.sc_replay.specs.Worlds.{entries_in, WorldHolds}
 
 -- what a replay leaves is what a world holds
 pub holds : ValidHaveOneGroup → GroupJournalsAreSound → (scenario : Scenario) → IsValid scenario → (rows : List (Row Mail OrderLine)) (parties : List Player) (left : Replayed Player) →
-    parties ≡ map (λ seat. seat.actor) left.seats.items → Leaves (system_of as_nodes no_words scenario) (schedule scenario) rows left → Holds scenario rows parties left.skipped left.quiet
+    parties ≡ map (λ seat. seat.actor) left.seats.items → Leaves (system_of as_nodes no_words scenario) (schedule scenario) rows left → WorldHolds scenario rows parties left.skipped left.quiet
 holds one law scenario valid rows parties left are leaves =
     let group = one scenario valid in
     let sound = law as_nodes no_words scenario group.0 group.1 rows [] (subst (Lawful as_nodes no_words scenario) (sym (append-nil rows)) leaves.replayed.lawful) in

@@ -12,7 +12,7 @@ use Rattle.sc_actor.specs.declared.rows.Row.{Row}
 use Rattle.sc_actor.specs.Mail.{is_delivery, mails}
 use Rattle.sc_actor.specs.Walk.{skipped, is_quiet}
 use Rattle.sc_machine_table.specs.Group.{Group}
-use Rattle.sc_node_table.specs.Slots.{numbers}
+use Rattle.sc_node_table.specs.Slots.{numbers_from}
 use Rattle.sc_node_table.specs.Replica.{either}
 use Rattle.sc_report.specs.declared.summaries.Summary.{Summary}
 use Rattle.sc_scenario.specs.declared.scenarios.Scenario.{Scenario}
@@ -24,14 +24,14 @@ use Rattle.sc_sound.specs.Logs.{decided_state}
 use Rattle.sc_actor.specs.System.{no_words}
 
 -- what a mail tells of the order of a number
-abbrev pub told_in : ℕ → MailBody → Option ToldResult
-told_in number (TellsOrder order result) = if order == number then Some result else None
-told_in number _ = None
+abbrev pub told_in_mail : ℕ → MailBody → Option ToldResult
+told_in_mail number (TellsOrder order result) = if order == number then Some result else None
+told_in_mail number _ = None
 
 -- what these mails tell of an order: what the first that tells of it says
 abbrev pub told_of : ℕ → List Mail → Option ToldResult
 told_of number [] = None
-told_of number (mail ∷ more) = either (told_in number mail.body) (told_of number more)
+told_of number (mail ∷ more) = either (told_in_mail number mail.body) (told_of number more)
 
 -- whether a line is an order
 abbrev pub is_order : SchedLine → Bool
@@ -40,7 +40,7 @@ is_order _ = false
 
 -- what these mails tell of so many orders, which are numbered from 1
 abbrev pub orders_told : ℕ → List Mail → List (Option ToldResult)
-orders_told count sent = map (λ number. told_of number sent) (numbers 1 count)
+orders_told count sent = map (λ number. told_of number sent) (numbers_from 1 count)
 
 -- how many orders a scenario has
 abbrev pub orders_in : Scenario → ℕ

@@ -45,14 +45,14 @@ abbrev pub history_of : Standing → List Entry
 history_of standing = history as_nodes standing.scenario.groups standing.rows
 
 -- what a world holds: the parties as their rows leave them, how many lines were skipped, and whether no mail is pending; and its history is told by the groups' decided logs
-pub record Holds (scenario : Scenario) (rows : List (Row Mail OrderLine)) (left : List Player) (skips : ℕ) (quiet : Bool) : Type 0 where
+pub record WorldHolds (scenario : Scenario) (rows : List (Row Mail OrderLine)) (left : List Player) (skips : ℕ) (quiet : Bool) : Type 0 where
   pub parties_are : left ≡ parties as_nodes scenario rows
   pub skips_are : skips ≡ skipped (system_of as_nodes no_words scenario) (schedule scenario) rows
   pub quiet_is : quiet ≡ is_quiet (system_of as_nodes no_words scenario) rows
   pub told : history as_nodes scenario.groups rows ≡ flat_map (entries_in rows) scenario.groups
 
 -- a world stands for these rows of a scenario, which are lawful
-pub record Replays (scenario : Scenario) (rows : List (Row Mail OrderLine)) (world : Standing) : Type 0 where
+pub record StandsFor (scenario : Scenario) (rows : List (Row Mail OrderLine)) (world : Standing) : Type 0 where
   pub lawful : Lawful as_nodes no_words scenario rows
   pub scenario_is : world.scenario ≡ scenario
   pub rows_are : world.rows ≡ rows
@@ -60,4 +60,4 @@ pub record Replays (scenario : Scenario) (rows : List (Row Mail OrderLine)) (wor
 -- there is a world exactly where the rows are lawful
 abbrev pub MayReplay : Scenario → List (Row Mail OrderLine) → Option Standing → Type 0
 MayReplay scenario rows None = Lawful as_nodes no_words scenario rows → ⊥
-MayReplay scenario rows (Some world) = Replays scenario rows world
+MayReplay scenario rows (Some world) = StandsFor scenario rows world

@@ -2,7 +2,7 @@
 ghost use Rattle.std.specs.Prelude.{◌≡◌, ℕ, ◌+◌, ◌<◌, ◌==◌, length, get_or, replicate, count_by, if◌then◌else◌, Some, None, IfOk};
 ghost use Rattle.sc_actor.specs.Mail.{mails};
 ghost use Rattle.sc_node_table.specs.Replica.{either};
-ghost use Rattle.sc_replay.specs.Summary.{is_order, told_in, told_of, orders_told};
+ghost use Rattle.sc_replay.specs.Summary.{is_order, told_in_mail, told_of, orders_told};
 
 use sc_actor::Row;
 use sc_base::{OutOfMemory, Sequence};
@@ -46,7 +46,7 @@ fn keep(told: &mut [Option<ToldResult>], order: u32, word: ToldResult)
 fn note(told: &mut [Option<ToldResult>], body: &MailBody)
     ensures len { length told.new ≡ length told.old }
     ensures kept { (k : ℕ) → k < length told.old → get_or told.new k None ≡
-        either (get_or told.old k None) (told_in (k + 1) body.now) }
+        either (get_or told.old k None) (told_in_mail (k + 1) body.now) }
 {
     if let MailBody::Told { order, result } = body {
         keep(told, *order, *result);

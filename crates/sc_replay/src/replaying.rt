@@ -5,7 +5,7 @@ ghost use Rattle.sc_scenario.specs.Valid.{IsValid};
 ghost use Rattle.sc_checker.specs.Replays.{IsReplayed};
 ghost use Rattle.sc_players.specs.Players.{system_of, schedule, Lawful, as_nodes};
 ghost use Rattle.sc_replay.specs.Replays.{IsBadRow, IsFault};
-ghost use Rattle.sc_replay.specs.Worlds.{MayReplay, Replays};
+ghost use Rattle.sc_replay.specs.Worlds.{MayReplay, StandsFor};
 ghost use Rattle.sc_actor.specs.System.{no_words};
 
 use crate::laws::valid_scenarios_can_play;
@@ -130,7 +130,7 @@ pub fn replay_rows<'a>(
     requires valid { IsValid scenario.now }
     requires few_rows { length rows.now < 2 ^ 31 }
     requires few_mails { length (mails rows.now) < 2 ^ 31 }
-    ensures { MatchResult result (λ world. Replays scenario.now rows.now world)
+    ensures { MatchResult result (λ world. StandsFor scenario.now rows.now world)
         (λ fault. IsFault scenario.now rows.now fault) }
 {
     match world_of(alloc, scenario, rows) {

@@ -24,13 +24,13 @@ pub struct World<'a> {
 }
 
 impl<'a> Model for World<'a> {
-    ghost use Rattle.sc_replay.specs.Worlds.{Standing, Holds};
+    ghost use Rattle.sc_replay.specs.Worlds.{Standing, WorldHolds};
 
     ghost Value = { Standing };
 
     ghost view = { λ w. record { scenario = w.scenario.now; rows = w.rows.now } };
 
-    ghost invariant = { λ w. Holds w.scenario.now w.rows.now w.parties w.skipped w.quiet };
+    ghost invariant = { λ w. WorldHolds w.scenario.now w.rows.now w.parties w.skipped w.quiet };
 }
 
 impl<'a> World<'a> {

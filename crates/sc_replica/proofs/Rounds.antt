@@ -6,7 +6,7 @@ use Rattle.sc_base.specs.declared.names.Draw.{Draw}
 use Rattle.sc_cmd.specs.declared.commands.Command.{Command}
 use Rattle.sc_mail.specs.declared.bodies.AnswerBody.{AnswerBody}
 use Rattle.sc_mail.specs.declared.bodies.Mail.{Mail}
-use Rattle.sc_node_table.specs.Slots.{numbers}
+use Rattle.sc_node_table.specs.Slots.{numbers_from}
 use Rattle.sc_node_table.specs.Replica.{ReplicaState, Place, name_of, flying, taken_at, taken_from, listed, next}
 use Rattle.sc_mail.specs.declared.bodies.MailBody.TheVariants.{Accept, Learn}
 use Rattle.sc_paxos_words.specs.Logs.{LogState, entry_at, next_of}
@@ -20,14 +20,14 @@ use Rattle.std.proofs.Math.Seq.{drop-cons, drop-nil}
 
 -- what is in flight or ready from one of the open slots on
 abbrev pub left_from : ReplicaState → ℕ → List Command
-left_from r i = taken_from r (numbers (next r + i) (length r.sets - i))
+left_from r i = taken_from r (numbers_from (next r + i) (length r.sets - i))
 
 -- at the first of the slots that are left, and from the next one on
-pub left-step : (r : ReplicaState) (i : ℕ) → i < length r.sets → left_from r i ≡ taken_from r ((next r + i) ∷ numbers (next r + (i + 1)) (length r.sets - (i + 1)))
+pub left-step : (r : ReplicaState) (i : ℕ) → i < length r.sets → left_from r i ≡ taken_from r ((next r + i) ∷ numbers_from (next r + (i + 1)) (length r.sets - (i + 1)))
 left-step r i less =
     let e : length r.sets - i ≡ suc (length r.sets - (i + 1)) = omega arith in
     let f : next r + i + 1 ≡ next r + (i + 1) = omega arith in
-    ap (λ n. taken_from r (numbers (next r + i) n)) e ∙ ap (λ m. taken_from r ((next r + i) ∷ numbers m (length r.sets - (i + 1)))) f
+    ap (λ n. taken_from r (numbers_from (next r + i) n)) e ∙ ap (λ m. taken_from r ((next r + i) ∷ numbers_from m (length r.sets - (i + 1)))) f
 
 -- answers to what is left
 answered-append : (me : ℕ) (group : Draw) (answer : AnswerBody) (xs ys : List Command) (mails : List Mail) → answered_all me group answer (xs ++ ys) mails ≡ answered_all me group answer ys (answered_all me group answer xs mails)
@@ -48,7 +48,7 @@ pub answered-end : (me : ℕ) (group : Draw) (answer : AnswerBody) (r : ReplicaS
 unfolding answered_all
 answered-end me group answer r i mails le =
     let e : length r.sets - i ≡ 0 = omega arith in
-    ap (λ n. answered_all me group answer (taken_from r (numbers (next r + i) n)) mails) e
+    ap (λ n. answered_all me group answer (taken_from r (numbers_from (next r + i) n)) mails) e
 
 -- the commands that are alone
 any-append : (f : Command → Bool) (xs ys : List Command) → list_any f (xs ++ ys) ≡ (list_any f xs || list_any f ys)

@@ -2,7 +2,7 @@
 use Rattle.std.specs.Prelude.{ℕ, false, List, [], Some}
 use Rattle.sc_cmd.specs.declared.commands.Command.{Command}
 use Rattle.sc_paxos_words.specs.Logs.{LogState}
-use Rattle.sc_paxos_words.specs.Acceptors.{born}
+use Rattle.sc_paxos_words.specs.Acceptors.{born_acceptor}
 use Rattle.sc_paxos_words.specs.Leaders.{first_leader}
 use Rattle.sc_machine_table.specs.Group.{Group}
 use Rattle.sc_node_table.specs.Replica.{ReplicaState, first_ballot}
@@ -13,7 +13,7 @@ bare_replica me group log sets = record {
   me = me;
   group = group;
   log = log;
-  acceptor = born (first_ballot group.core);
+  acceptor = born_acceptor (first_ballot group.core);
   hint = Some group.core.first;
   top = first_ballot group.core;
   running = false;

@@ -6,7 +6,7 @@ ghost use Rattle.sc_mail.specs.declared.bodies.MailBody.TheVariants.{Learn};
 ghost use Rattle.sc_node_table.specs.Mails.{sent};
 ghost use Rattle.sc_node_table.specs.Slots.{slots_ahead};
 ghost use Rattle.sc_node_table.specs.Replica.{name_of, next, last_slot};
-ghost use Rattle.sc_node_table.specs.Rows.{taught, asked_from, ask_row};
+ghost use Rattle.sc_node_table.specs.Rows.{taught, ask_answered, ask_row};
 
 use crate::replica::Replica;
 use sc_base::{Dup, OutOfMemory, Sequence};
@@ -75,7 +75,7 @@ impl Replica {
     fn answer_ask(&self, from: u16, slot: u32, out: &mut Sequence<Mail>) -> Result<(), OutOfMemory>
         ensures { OnOk result
             ((self.now, out.new)
-            ≡ asked_from (entry_at slot self.now.log) from slot (self.now, out.old)) }
+            ≡ ask_answered (entry_at slot self.now.log) from slot (self.now, out.old)) }
     {
         if self.entry(slot).is_none() {
             return self.send_install(from, out);

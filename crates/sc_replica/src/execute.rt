@@ -5,7 +5,7 @@ ghost use Rattle.sc_cmd.specs.declared.commands.Command.TheVariants.{Call};
 ghost use Rattle.sc_machine_table.specs.Machine.{applied};
 ghost use Rattle.sc_node_table.specs.Slots.{slots_ahead};
 ghost use Rattle.sc_node_table.specs.Replica.{next, members, last_slot};
-ghost use Rattle.sc_node_table.specs.Execute.{entered, answer_of, told_call, announced, learnt_to, welcomed, lost, landed, left_gone, left, is_among, looked, executed_one, has_room, next_ready, executed_ready, executed};
+ghost use Rattle.sc_node_table.specs.Execute.{entered, answer_of, told_call, announced, learnt_to, welcomed, slot_lost, landed, left_gone, left, is_among, looked, executed_one, has_room, next_ready, executed_ready, executed};
 
 use crate::orders::order_result;
 use crate::replica::{LAST_SLOT, Replica};
@@ -175,7 +175,7 @@ impl Replica {
         command: &Command,
         other: Option<Command>,
     ) -> Result<(), OutOfMemory>
-        ensures { OnOk result (self.new ≡ lost counted command.now other self.old) }
+        ensures { OnOk result (self.new ≡ slot_lost counted command.now other self.old) }
     {
         let Some(other) = other else {
             return Ok(());

@@ -46,14 +46,14 @@ impl Model for Replica {
     ghost use Rattle.std.specs.FinMap as map;
     ghost use Rattle.std.specs.Coded.{Coded, codes, coded_ℕ, coded_list};
     ghost use Rattle.sc_ideal.specs.IdealStore.{Contents};
-    ghost use Rattle.sc_ideal.specs.Clients.{Table};
+    ghost use Rattle.sc_ideal.specs.Clients.{ClientTable};
     ghost use Rattle.sc_machine_table.specs.Group.{Group};
     ghost use Rattle.sc_node_table.specs.Replica.{ReplicaState};
 
     ghost Value = { ReplicaState };
 
     ghost coded = { let pairs : Coded Contents = map.code (coded_list coded_ℕ) (coded_list coded_ℕ)
-        in let clients : Coded Table = map.code coded_ℕ (Prim.hlevel codes) in let group : Coded
+        in let clients : Coded ClientTable = map.code coded_ℕ (Prim.hlevel codes) in let group : Coded
         Group = Prim.hlevel (codes, pairs, clients) in Prim.hlevel (codes, group) };
 
     ghost view = { λ r. record {

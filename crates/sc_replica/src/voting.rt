@@ -9,7 +9,7 @@ ghost use Rattle.sc_mail.specs.declared.bodies.MailBody.TheVariants.{Nack};
 ghost use Rattle.sc_node_table.specs.Mails.{sent};
 ghost use Rattle.sc_node_table.specs.Slots.{slots_ahead};
 ghost use Rattle.sc_node_table.specs.Replica.{name_of, next, set_at, last_slot};
-ghost use Rattle.sc_node_table.specs.Voting.{hinted, promise_to, promised, prepare_row, accepted_to, took, accept_row, leads, promise_row, readied, tallied, voted, accepted_row};
+ghost use Rattle.sc_node_table.specs.Voting.{hinted, promise_to, promised, prepare_row, accepted_to, took, accept_row, leads, promise_row, readied, vote_tallied, voted, accepted_row};
 
 use crate::replica::Replica;
 use sc_acceptor::{AcceptAnswer, PrepareAnswer};

@@ -1,17 +1,17 @@
 -- One round over the numbers of nodes.
 use Rattle.std.proofs.Common.{◌≡◌, ℕ, ◌+◌, ◌-◌, ◌<◌, Bool, true, false, List, [], ◌∷◌, ◌++◌, filter, suc, refl, ap, sym, ◌∙◌, arith, if◌then◌else◌}
 use Rattle.std.proofs.Math.Seq.{append_snoc}
-use Rattle.sc_node_table.specs.Slots.{numbers}
+use Rattle.sc_node_table.specs.Slots.{numbers_from}
 
 -- so many numbers before an end
 abbrev pub numbers_to : ℕ → ℕ → List ℕ
-numbers_to end from = numbers from (end - from)
+numbers_to end from = numbers_from from (end - from)
 
 -- the first of them, and those after it
 pub numbers-step : (end from : ℕ) → from < end → numbers_to end from ≡ from ∷ numbers_to end (from + 1)
 numbers-step end from less =
     let e : end - from ≡ suc (end - (from + 1)) = omega arith in
-    ap (numbers from) e
+    ap (numbers_from from) e
 
 -- the nodes of some sets, as far as they are tested
 filtered_by : (f : ℕ → Bool) (node : ℕ) (rest : List ℕ) (b : Bool) → f node ≡ b → filter f (node ∷ rest) ≡ (if b then node ∷ filter f rest else filter f rest)

@@ -3,7 +3,7 @@ ghost use Rattle.std.specs.Prelude.{◌≡◌, ◌≤◌};
 ghost use Rattle.sc_ideal.specs.IdealStore.{key_of, holds_key};
 ghost use Rattle.sc_node_table.specs.Replica.{floor_of, waits_in};
 ghost use Rattle.sc_node_table.specs.Pump.{serves_calls, waits, turned_down, refused_by};
-ghost use Rattle.sc_node_table.specs.Rows.{refusal};
+ghost use Rattle.sc_node_table.specs.Rows.{call_refusal};
 
 use sc_base::{Op, RingArc};
 use sc_cmd::{Command, Core, Lock};
@@ -30,7 +30,7 @@ fn holds_key(arc: &RingArc, op: &Op) -> bool
 /// Why a request is not taken, the first that holds: the group is gone, the replica does not run,
 /// or another group has the key. Whatever it asks for, a request that is taken waits for a slot.
 pub fn refusal(core: &Core, running: bool, hint: Option<u16>, op: &Op) -> Option<AnswerBody>
-    ensures { result ≡ refusal core.now.gone core.now running hint op.now }
+    ensures { result ≡ call_refusal core.now.gone core.now running hint op.now }
 {
     if let Some(into) = &core.gone {
         return Some(AnswerBody::Gone { into: *into });

@@ -2,7 +2,7 @@
 ghost use Rattle.std.specs.Prelude.{◌≡◌, ◌≤◌, filter, not, IfOk};
 ghost use Rattle.sc_base.specs.Limits.{most_nodes};
 ghost use Rattle.sc_member.specs.Roster.{is_member};
-ghost use Rattle.sc_paxos_words.specs.Votes.{has_voted};
+ghost use Rattle.sc_paxos_words.specs.Votes.{has_counted};
 ghost use Rattle.sc_node_table.specs.Election.{nodes_to};
 
 use crate::open_sets::Sets;
@@ -34,7 +34,7 @@ pub fn uncounted<V>(
 ) -> Result<Vec<u16>, OutOfMemory>
     ensures { IfOk result
         (λ nodes.
-        nodes.items ≡ filter (λ node. not (has_voted slot node leader.now)) set.now) }
+        nodes.items ≡ filter (λ node. not (has_counted slot node leader.now)) set.now) }
 {
     let mut nodes = Vec::new(alloc);
     for node in set.as_slice() {

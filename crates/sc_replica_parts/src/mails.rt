@@ -2,7 +2,7 @@
 ghost use Rattle.std.specs.Prelude.{◌≡◌, OnOk};
 ghost use Rattle.sc_cmd.specs.declared.orders.ToldResult.TheVariants.{Refused};
 ghost use Rattle.sc_cmd.specs.declared.orders.OrderRefusal.TheVariants.{NotLeader};
-ghost use Rattle.sc_node_table.specs.Mails.{sent, answer_to, answered, told_desk, order_in, told_order, dismissed, dismissed_all};
+ghost use Rattle.sc_node_table.specs.Mails.{sent, answer_to, answered, told_desk, order_number, told_order, dismissed, dismissed_all};
 
 use sc_base::{Draw, Dup, OutOfMemory, Sequence};
 use sc_cmd::{Command, OrderRefusal, ToldResult};
@@ -82,7 +82,7 @@ pub fn tell_desk(
 
 /// The number of the order that a command is of: 0 where a policy made it, and where it is of none.
 pub fn order_in(command: &Command) -> u32
-    ensures { result ≡ order_in command.now }
+    ensures { result ≡ order_number command.now }
 {
     match command {
         Command::Join { order, .. }

@@ -3,22 +3,22 @@ use Rattle.std.specs.Prelude.{ℕ, suc, ◌+◌, Bool, true, false, List, [], �
 use Rattle.std.specs.Fmt.{decimal}
 use Rattle.sc_base.specs.declared.ops.Op.{Op}
 use Rattle.sc_base.specs.declared.ops.Op.TheVariants.{Get, Put, Del, Add, Cas}
-use Rattle.sc_cmd.specs.Order.{code_of, name_of}
+use Rattle.sc_cmd.specs.Order.{code_of, refusal_name}
 use Rattle.sc_cmd.specs.declared.links.Route.{Route}
 use Rattle.sc_cmd.specs.declared.orders.ToldResult.{ToldResult}
 use Rattle.sc_cmd.specs.declared.orders.ToldResult.TheVariants.{Done, Committed, Aborted, Refused}
-use Rattle.sc_report.specs.declared.summaries.Got.{Got}
-use Rattle.sc_report.specs.declared.summaries.Got.TheVariants.{Unsent, Unanswered, Replied}
+use Rattle.sc_report.specs.declared.summaries.Progress.{Progress}
+use Rattle.sc_report.specs.declared.summaries.Progress.TheVariants.{Unsent, Unanswered, Replied}
 use Rattle.sc_report.specs.declared.summaries.Asked.{Asked}
 use Rattle.sc_report.specs.declared.summaries.Summary.{Summary}
 
 -- a line: its text and a line feed
-abbrev pub ended : List ℕ → List ℕ
-ended text = text ++ 10 ∷ []
+abbrev pub with_line_feed : List ℕ → List ℕ
+with_line_feed text = text ++ 10 ∷ []
 
 -- a word and a number
-abbrev pub counted : List ℕ → ℕ → List ℕ
-counted label n = ended (label ++ decimal n)
+abbrev pub count_line : List ℕ → ℕ → List ℕ
+count_line label n = with_line_feed (label ++ decimal n)
 
 -- the word of an operation
 abbrev pub word_of : Op → List ℕ
@@ -34,13 +34,13 @@ request what asked = what ++ decimal asked.client ++ codes " " ++ decimal asked.
 
 -- a request and its reply
 abbrev pub replied : Option (List ℕ) → Asked → List ℕ
-replied None asked = ended (request (codes "reply ") asked ++ codes " none")
-replied (Some old) asked = ended (request (codes "reply ") asked ++ codes " value " ++ old)
+replied None asked = with_line_feed (request (codes "reply ") asked ++ codes " none")
+replied (Some old) asked = with_line_feed (request (codes "reply ") asked ++ codes " value " ++ old)
 
 -- the line of a request, by what came of it
-abbrev pub got_line : Got → Asked → List ℕ
-got_line Unsent asked = ended (request (codes "unsent ") asked)
-got_line Unanswered asked = ended (request (codes "unanswered ") asked)
+abbrev pub got_line : Progress → Asked → List ℕ
+got_line Unsent asked = with_line_feed (request (codes "unsent ") asked)
+got_line Unanswered asked = with_line_feed (request (codes "unanswered ") asked)
 got_line (Replied reply) asked = replied reply.old asked
 
 -- the line of a request
@@ -48,14 +48,14 @@ abbrev pub asked_line : Asked → List ℕ
 asked_line asked = got_line asked.got asked
 
 -- for a brief report: `answered A of R`
-abbrev pub is_replied : Got → Bool
+abbrev pub is_replied : Progress → Bool
 is_replied (Replied reply) = true
 is_replied Unsent = false
 is_replied Unanswered = false
 
 -- how many requests were answered
 abbrev pub answered_line : List Asked → List ℕ
-answered_line asked = ended (codes "answered " ++ decimal (count_by (λ one. is_replied one.got) asked) ++ codes " of " ++ decimal (length asked))
+answered_line asked = with_line_feed (codes "answered " ++ decimal (count_by (λ one. is_replied one.got) asked) ++ codes " of " ++ decimal (length asked))
 
 -- the lines of the requests
 abbrev pub asked_lines : Bool → List Asked → List (List ℕ)
@@ -64,12 +64,12 @@ asked_lines false asked = map asked_line asked
 
 -- `order I WHAT`
 abbrev pub told_line : ℕ → Option ToldResult → List ℕ
-told_line number None = ended (codes "order " ++ decimal number ++ codes " open")
-told_line number (Some Done) = ended (codes "order " ++ decimal number ++ codes " done")
-told_line number (Some Committed) = ended (codes "order " ++ decimal number ++ codes " committed")
-told_line number (Some Aborted) = ended (codes "order " ++ decimal number ++ codes " aborted")
+told_line number None = with_line_feed (codes "order " ++ decimal number ++ codes " open")
+told_line number (Some Done) = with_line_feed (codes "order " ++ decimal number ++ codes " done")
+told_line number (Some Committed) = with_line_feed (codes "order " ++ decimal number ++ codes " committed")
+told_line number (Some Aborted) = with_line_feed (codes "order " ++ decimal number ++ codes " aborted")
 told_line number (Some (Refused why)) =
-    ended (codes "order " ++ decimal number ++ codes " refused " ++ decimal (code_of why) ++ codes " " ++ name_of why)
+    with_line_feed (codes "order " ++ decimal number ++ codes " refused " ++ decimal (code_of why) ++ codes " " ++ refusal_name why)
 
 -- the orders, numbered from the given one
 abbrev pub told_lines : ℕ → List (Option ToldResult) → List (List ℕ)
@@ -84,21 +84,21 @@ with_nodes text (node ∷ nodes) = with_nodes (text ++ codes " " ++ decimal node
 -- `ring LO group A.B members N1 .. Nk`
 abbrev pub ring_line : Route → List ℕ
 ring_line route =
-    ended (with_nodes (codes "ring " ++ decimal route.lo ++ codes " group " ++ decimal route.group.node ++ codes "." ++ decimal route.group.count ++ codes " members") route.members)
+    with_line_feed (with_nodes (codes "ring " ++ decimal route.lo ++ codes " group " ++ decimal route.group.node ++ codes "." ++ decimal route.group.count ++ codes " members") route.members)
 
 -- whether no mail is pending
 abbrev pub quiet_line : Bool → List ℕ
-quiet_line true = ended (codes "quiet yes")
-quiet_line false = ended (codes "quiet no")
+quiet_line true = with_line_feed (codes "quiet yes")
+quiet_line false = with_line_feed (codes "quiet no")
 
 -- the lines of counts
 abbrev pub counts : Summary → List (List ℕ)
 counts summary =
-    counted (codes "rows ") summary.rows ∷ counted (codes "mail ") summary.mail ∷ counted (codes "delivered ") summary.delivered
-    ∷ counted (codes "skipped ") summary.skipped ∷ quiet_line summary.quiet ∷ []
+    count_line (codes "rows ") summary.rows ∷ count_line (codes "mail ") summary.mail ∷ count_line (codes "delivered ") summary.delivered
+    ∷ count_line (codes "skipped ") summary.skipped ∷ quiet_line summary.quiet ∷ []
 
 -- the whole report
 abbrev pub report_lines : Summary → List (List ℕ)
 report_lines summary =
-    (counted (codes "scatter report ") summary.version ∷ []) ++ asked_lines summary.brief summary.asked ++ told_lines 1 summary.orders
+    (count_line (codes "scatter report ") summary.version ∷ []) ++ asked_lines summary.brief summary.asked ++ told_lines 1 summary.orders
     ++ map ring_line summary.ring ++ counts summary

@@ -5,5 +5,5 @@ mod printed;
 mod summaries;
 mod texts;
 
-pub use printed::{Line, lines};
-pub use summaries::{Asked, Got, Summary};
+pub use printed::{ReportLine, lines};
+pub use summaries::{Asked, Progress, Summary};

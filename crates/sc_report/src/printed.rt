@@ -1,8 +1,8 @@
 //! The report, line by line.
 ghost use Rattle.std.specs.Prelude.{◌≡◌, ◌++◌, ◌∷◌, [], map, IfOk, OnOk};
-ghost use Rattle.sc_report.specs.Report.{counted, request, replied, asked_line, answered_line, asked_lines, is_replied, told_line, told_lines, ring_line, quiet_line, counts, report_lines};
+ghost use Rattle.sc_report.specs.Report.{count_line, request, replied, asked_line, answered_line, asked_lines, is_replied, told_line, told_lines, ring_line, quiet_line, counts, report_lines};
 
-use crate::summaries::{Asked, Got, Summary};
+use crate::summaries::{Asked, Progress, Summary};
 use crate::texts::{add_end, add_nodes, add_number, add_text, counted, word_of};
 use sc_base::{OutOfMemory, Sequence, Value};
 use sc_cmd::{Route, ToldResult};
@@ -11,11 +11,11 @@ use std::marker::Model;
 
 /// One line of output, with its line feed.
 #[derive(Drop)]
-pub struct Line {
+pub struct ReportLine {
     bytes: Vec<u8>,
 }
 
-impl Model for Line {
+impl Model for ReportLine {
     ghost use Rattle.std.specs.Prelude.{List, ℕ};
 
     ghost Value = { List ℕ };
@@ -23,12 +23,12 @@ impl Model for Line {
     ghost view = { λ line. line.bytes.items };
 }
 
-impl Line {
+impl ReportLine {
     /// The line of these bytes, which takes no memory.
-    pub fn from_vec(bytes: Vec<u8>) -> Line
+    pub fn from_vec(bytes: Vec<u8>) -> ReportLine
         ensures { result ≡ bytes.items }
     {
-        Line { bytes }
+        ReportLine { bytes }
     }
 
     /// The bytes of the line, its line feed among them.
@@ -39,17 +39,17 @@ impl Line {
     }
 }
 
-fn ended(mut line: Vec<u8>) -> Result<Line, OutOfMemory>
+fn ended(mut line: Vec<u8>) -> Result<ReportLine, OutOfMemory>
     ensures { IfOk result (λ done. done ≡ line.items ++ 10 ∷ []) }
 {
     add_end(&mut line)?;
-    Ok(Line { bytes: line })
+    Ok(ReportLine { bytes: line })
 }
 
-fn count_line(alloc: Global, label: &[u8], n: u64) -> Result<Line, OutOfMemory>
-    ensures { IfOk result (λ line. line ≡ counted label.now n) }
+fn count_line(alloc: Global, label: &[u8], n: u64) -> Result<ReportLine, OutOfMemory>
+    ensures { IfOk result (λ line. line ≡ count_line label.now n) }
 {
-    Ok(Line {
+    Ok(ReportLine {
         bytes: counted(alloc, label, n)?,
     })
 }
@@ -66,7 +66,7 @@ fn request(alloc: Global, what: &[u8], asked: &Asked) -> Result<Vec<u8>, OutOfMe
     Ok(line)
 }
 
-fn replied(alloc: Global, old: &Option<Value>, asked: &Asked) -> Result<Line, OutOfMemory>
+fn replied(alloc: Global, old: &Option<Value>, asked: &Asked) -> Result<ReportLine, OutOfMemory>
     ensures { IfOk result (λ line. line ≡ replied old.now asked.now) }
 {
     let mut line = request(alloc, b"reply ", asked)?;
@@ -80,26 +80,26 @@ fn replied(alloc: Global, old: &Option<Value>, asked: &Asked) -> Result<Line, Ou
     ended(line)
 }
 
-fn asked_line(alloc: Global, asked: &Asked) -> Result<Line, OutOfMemory>
+fn asked_line(alloc: Global, asked: &Asked) -> Result<ReportLine, OutOfMemory>
     ensures { IfOk result (λ line. line ≡ asked_line asked.now) }
 {
     match &asked.got {
-        Got::Unsent => ended(request(alloc, b"unsent ", asked)?),
-        Got::Unanswered => ended(request(alloc, b"unanswered ", asked)?),
-        Got::Replied(reply) => replied(alloc, &reply.old, asked),
+        Progress::Unsent => ended(request(alloc, b"unsent ", asked)?),
+        Progress::Unanswered => ended(request(alloc, b"unanswered ", asked)?),
+        Progress::Replied(reply) => replied(alloc, &reply.old, asked),
     }
 }
 
-fn is_replied(got: &Got) -> bool
+fn is_replied(got: &Progress) -> bool
     ensures { result ≡ is_replied got.now }
 {
     match got {
-        Got::Replied(_) => true,
-        Got::Unsent | Got::Unanswered => false,
+        Progress::Replied(_) => true,
+        Progress::Unsent | Progress::Unanswered => false,
     }
 }
 
-fn answered_line(alloc: Global, asked: &[Asked]) -> Result<Line, OutOfMemory>
+fn answered_line(alloc: Global, asked: &[Asked]) -> Result<ReportLine, OutOfMemory>
     ensures { IfOk result (λ line. line ≡ answered_line asked.now) }
 {
     let answered = asked.iter().filter(|one| is_replied(&one.got)).count();
@@ -110,7 +110,11 @@ fn answered_line(alloc: Global, asked: &[Asked]) -> Result<Line, OutOfMemory>
     ended(line)
 }
 
-fn told_line(alloc: Global, number: u64, told: &Option<ToldResult>) -> Result<Line, OutOfMemory>
+fn told_line(
+    alloc: Global,
+    number: u64,
+    told: &Option<ToldResult>,
+) -> Result<ReportLine, OutOfMemory>
     ensures { IfOk result (λ line. line ≡ told_line number told.now) }
 {
     let mut line = Vec::from_slice(alloc, b"order ")?;
@@ -130,7 +134,7 @@ fn told_line(alloc: Global, number: u64, told: &Option<ToldResult>) -> Result<Li
     ended(line)
 }
 
-fn ring_line(alloc: Global, route: &Route) -> Result<Line, OutOfMemory>
+fn ring_line(alloc: Global, route: &Route) -> Result<ReportLine, OutOfMemory>
     ensures { IfOk result (λ line. line ≡ ring_line route.now) }
 {
     let mut line = Vec::from_slice(alloc, b"ring ")?;
@@ -144,7 +148,7 @@ fn ring_line(alloc: Global, route: &Route) -> Result<Line, OutOfMemory>
     ended(line)
 }
 
-fn quiet_line(alloc: Global, quiet: bool) -> Result<Line, OutOfMemory>
+fn quiet_line(alloc: Global, quiet: bool) -> Result<ReportLine, OutOfMemory>
     ensures { IfOk result (λ line. line ≡ quiet_line quiet) }
 {
     if quiet {
@@ -156,7 +160,7 @@ fn quiet_line(alloc: Global, quiet: bool) -> Result<Line, OutOfMemory>
 
 fn add_asked(
     alloc: Global,
-    all: &mut Sequence<Line>,
+    all: &mut Sequence<ReportLine>,
     brief: bool,
     asked: &[Asked],
 ) -> Result<(), OutOfMemory>
@@ -174,7 +178,7 @@ fn add_asked(
 
 fn add_orders(
     alloc: Global,
-    all: &mut Sequence<Line>,
+    all: &mut Sequence<ReportLine>,
     orders: &[Option<ToldResult>],
 ) -> Result<(), OutOfMemory>
     ensures { OnOk result (all.new ≡ all.old ++ told_lines 1 orders.now) }
@@ -185,7 +189,11 @@ fn add_orders(
     Ok(())
 }
 
-fn add_ring(alloc: Global, all: &mut Sequence<Line>, ring: &[Route]) -> Result<(), OutOfMemory>
+fn add_ring(
+    alloc: Global,
+    all: &mut Sequence<ReportLine>,
+    ring: &[Route],
+) -> Result<(), OutOfMemory>
     ensures { OnOk result (all.new ≡ all.old ++ map ring_line ring.now) }
 {
     for route in ring {
@@ -194,7 +202,11 @@ fn add_ring(alloc: Global, all: &mut Sequence<Line>, ring: &[Route]) -> Result<(
     Ok(())
 }
 
-fn add_counts(alloc: Global, all: &mut Sequence<Line>, summary: &Summary) -> Result<(), OutOfMemory>
+fn add_counts(
+    alloc: Global,
+    all: &mut Sequence<ReportLine>,
+    summary: &Summary,
+) -> Result<(), OutOfMemory>
     ensures { OnOk result (all.new ≡ all.old ++ counts summary.now) }
 {
     all.push(count_line(alloc, b"rows ", summary.rows as u64)?)?;
@@ -207,7 +219,7 @@ fn add_counts(alloc: Global, all: &mut Sequence<Line>, summary: &Summary) -> Res
 
 /// The report's lines: the version; each request, or how many were answered; each order; each group
 /// of the ring; the counts.
-pub fn lines(alloc: Global, summary: &Summary) -> Result<Sequence<Line>, OutOfMemory>
+pub fn lines(alloc: Global, summary: &Summary) -> Result<Sequence<ReportLine>, OutOfMemory>
     ensures { IfOk result (λ lines. lines ≡ report_lines summary.now) }
 {
     let mut all = Sequence::new(alloc);

@@ -4,7 +4,7 @@ use sc_cmd::{Route, ToldResult};
 
 /// How far a request came.
 #[derive(Drop)]
-pub enum Got {
+pub enum Progress {
     /// Its client has not sent it.
     Unsent,
     /// It was sent, and its client has no reply.
@@ -18,7 +18,7 @@ pub struct Asked {
     pub client: u16,
     pub seq: u32,
     pub op: Op,
-    pub got: Got,
+    pub got: Progress,
 }
 
 /// What a report tells of a run.

@@ -1,7 +1,7 @@
 //! The pieces that lines are made of.
 ghost use Rattle.std.specs.Prelude.{◌≡◌, ◌++◌, ◌∷◌, [], IfOk, OnOk};
 ghost use Rattle.std.specs.Fmt.{decimal};
-ghost use Rattle.sc_report.specs.Report.{with_nodes, counted, word_of};
+ghost use Rattle.sc_report.specs.Report.{with_nodes, count_line, word_of};
 
 use sc_base::{Op, OutOfMemory};
 use std::alloc::Global;
@@ -44,7 +44,7 @@ pub fn add_nodes(alloc: Global, line: &mut Vec<u8>, nodes: &[u16]) -> Result<(),
 
 /// A line of a label and a number.
 pub fn counted(alloc: Global, label: &[u8], n: u64) -> Result<Vec<u8>, OutOfMemory>
-    ensures { IfOk result (λ line. line.items ≡ counted label.now n) }
+    ensures { IfOk result (λ line. line.items ≡ count_line label.now n) }
 {
     let mut line = Vec::from_slice(alloc, label)?;
     add_number(alloc, &mut line, n)?;

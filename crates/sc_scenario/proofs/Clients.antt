@@ -5,18 +5,18 @@ use Rattle.std.proofs.lemmas.Bool.{cases_Bool, cond-true, cond-false, ltb-true, 
 use Rattle.std.proofs.lemmas.List.Kept.{AllPairs-cons}
 use Rattle.std.proofs.lemmas.List.Elements.{All-cons, All-append, All-take, All-drop, All-weaker, All-from_get_or}
 use Rattle.sc_scenario.specs.Schedules.{is_client}
-use Rattle.sc_scenario.specs.Early.{place_of}
+use Rattle.sc_scenario.specs.Early.{client_place}
 use Rattle.sc_scenario.specs.declared.scenarios.Asks.{Asks}
 
 -- clients in order of number
 abbrev pub Below : Asks → Asks → Type 0
 Below one other = one.client < other.client
 
-place_here : (client : ℕ) (other : Asks) (others : List Asks) → ltb client other.client ≡ true → place_of client (other ∷ others) ≡ 0
-place_here client other others t = cond-true (ltb client other.client) 0 (1 + place_of client others) t
+place_here : (client : ℕ) (other : Asks) (others : List Asks) → ltb client other.client ≡ true → client_place client (other ∷ others) ≡ 0
+place_here client other others t = cond-true (ltb client other.client) 0 (1 + client_place client others) t
 
-place_later : (client : ℕ) (other : Asks) (others : List Asks) → ltb client other.client ≡ false → place_of client (other ∷ others) ≡ suc (place_of client others)
-place_later client other others f = cond-false (ltb client other.client) 0 (1 + place_of client others) f ∙ (omega arith)
+place_later : (client : ℕ) (other : Asks) (others : List Asks) → ltb client other.client ≡ false → client_place client (other ∷ others) ≡ suc (client_place client others)
+place_later client other others f = cond-false (ltb client other.client) 0 (1 + client_place client others) f ∙ (omega arith)
 
 head_below : (x : Asks) (xs : List Asks) → AllPairs Below (x ∷ xs) → All (Below x) xs
 head_below x xs up = All-from_get_or (Below x) xs x (λ i within. up 0 (suc i) x (omega arith) (omega arith))
@@ -29,7 +29,7 @@ pub all_inserted : (P : Asks → Type 0) (xs : List Asks) (i : ℕ) (y : Asks) �
 all_inserted P xs i y all here = All-append P (take i xs) (y ∷ drop i xs) (All-take P i xs all) (All-cons P y (drop i xs) here (All-drop P i xs all))
 
 -- clients stay in order with one more in its place
-pub rising_with : (asks : Asks) (clients : List Asks) → AllPairs Below clients → is_client clients asks.client ≡ false → AllPairs Below (insert clients (place_of asks.client clients) asks)
+pub rising_with : (asks : Asks) (clients : List Asks) → AllPairs Below clients → is_client clients asks.client ≡ false → AllPairs Below (insert clients (client_place asks.client clients) asks)
 rising_with asks [] up absent = AllPairs-cons Below asks [] (λ k d within. absurd (omega arith)) up
 rising_with asks (other ∷ others) up absent =
     let parts = or_parts (eqb other.client asks.client) (is_client others asks.client) absent in
@@ -45,5 +45,5 @@ rising_with asks (other ∷ others) up absent =
           let ge : other.client ≤ asks.client = ltb-false asks.client other.client f in
           let lt : other.client < asks.client = omega (arith, ge, differ) in
           subst (λ i. AllPairs Below (insert (other ∷ others) i asks)) (sym (place_later asks.client other others f))
-          (AllPairs-cons Below other (insert others (place_of asks.client others) asks) (all_inserted (Below other) others (place_of asks.client others) asks over lt) rest))
+          (AllPairs-cons Below other (insert others (client_place asks.client others) asks) (all_inserted (Below other) others (client_place asks.client others) asks over lt) rest))
     ]

@@ -21,7 +21,7 @@ use Rattle.sc_scenario.specs.Requests.{request_in}
 use Rattle.sc_scenario.specs.Groups.{last_position, with_word, with_words, members_in, lone_group, group_in}
 use Rattle.sc_scenario.specs.Schedules.{most_mails, most_deliveries, most_workers, is_client, client_in, actor_in, place_in, go_in, deliver_in, drop_in, again_in, tick_in, crash_in, settle_in, free_in, schedule_in}
 use Rattle.sc_scenario.specs.Orders.{name_in, node_and_group, order_in, told_in}
-use Rattle.sc_scenario.specs.Early.{scenario_in, rest_in, finished, begun, nodes_in, read_lines, read_line, within, outside, opened, with_client, with_request, with_line, with_order, place_of, lines_of, is_ended, most_bytes, most_lines}
+use Rattle.sc_scenario.specs.Early.{scenario_in, rest_in, finished_scenario, begun, nodes_in, read_lines, read_line, within, outside, opened, with_client, with_request, with_line, with_order, client_place, lines_of, is_ended, most_bytes, most_lines}
 use Rattle.sc_scenario.specs.Valid.{IsEarly, IsEarlyClient, IsEarlyLine, IsEarlyOrder, IsActor, IsUpTo, TextsAreEarly}
 use Rattle.sc_scenario.specs.declared.drafts.Draft.{Draft}
 use Rattle.sc_scenario.specs.declared.drafts.Reading.{Reading}
@@ -176,7 +176,7 @@ no_lines P xs none k d within = absurd (omega (arith, none, within))
 ended : (nodes : ℕ) (draft : Draft) (asks : Asks) → IsReading nodes (Within draft asks) → IsReading nodes (Outside (with_client draft asks))
 ended nodes draft asks is = record {
   nodes_are = is.0.nodes_are;
-  clients = all_inserted IsEarlyClient draft.clients (place_of asks.client draft.clients) asks is.0.clients is.3;
+  clients = all_inserted IsEarlyClient draft.clients (client_place asks.client draft.clients) asks is.0.clients is.3;
   rising = rising_with asks draft.clients is.0.rising is.2;
   lines = no_lines (IsEarlyLine nodes (with_client draft asks).clients) draft.lines is.1;
 }
@@ -246,7 +246,7 @@ begun_is nodes = record { nodes_are = refl; clients = All-nil IsEarlyClient; ris
 
 -- ---- the whole
 
-scenario_is : (nodes : ℕ) (base : Base) (reading : Reading) (scenario : Scenario) → IsUpTo most_nodes nodes → HasGroup nodes base → IsReading nodes reading → finished base reading ≡ Some scenario → IsEarly scenario
+scenario_is : (nodes : ℕ) (base : Base) (reading : Reading) (scenario : Scenario) → IsUpTo most_nodes nodes → HasGroup nodes base → IsReading nodes reading → finished_scenario base reading ≡ Some scenario → IsEarly scenario
 scenario_is nodes base (Within draft asks) scenario few has is e = nothing IsEarly scenario e
 scenario_is nodes base (Outside draft) scenario few has is e =
     subst IsEarly (same_Some _ scenario e)
@@ -274,7 +274,7 @@ texts_early scenario valid =
     let headed = chosen (same (nth lines 0) (codes "scatter 1")) _ scenario whole.1 in
     let nodes = and_then-some (λ n. option_and_then (rest_in n (drop 3 lines)) (group_in n (words_of (nth lines 2)))) (nodes_in (words_of (nth lines 1))) scenario headed.1 in
     let base = and_then-some (rest_in nodes.0 (drop 3 lines)) (group_in nodes.0 (words_of (nth lines 2))) scenario nodes.2 in
-    let reading = and_then-some (finished base.0) (read_lines (begun nodes.0) (drop 3 lines)) scenario base.2 in
+    let reading = and_then-some (finished_scenario base.0) (read_lines (begun nodes.0) (drop 3 lines)) scenario base.2 in
     let number = chosen (is_line (words_of (nth lines 1)) (codes "nodes") 2) (count_in most_nodes (nth (words_of (nth lines 1)) 1)) nodes.0 nodes.1 in
     scenario_is nodes.0 base.0 reading.0 scenario (counted most_nodes (nth (words_of (nth lines 1)) 1) nodes.0 number.1)
     (group_is nodes.0 (words_of (nth lines 2)) base.0 base.1)

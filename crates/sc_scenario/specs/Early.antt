@@ -28,13 +28,13 @@ most_lines = 20000
 -- ---- inside a client's section
 
 -- a client's place among others: before the first of a greater number
-abbrev pub place_of : ℕ → List Asks → ℕ
-place_of client [] = 0
-place_of client (other ∷ others) = if nat_lt client other.client then 0 else 1 + place_of client others
+abbrev pub client_place : ℕ → List Asks → ℕ
+client_place client [] = 0
+client_place client (other ∷ others) = if nat_lt client other.client then 0 else 1 + client_place client others
 
 -- the client among the others
 abbrev pub with_client : Draft → Asks → Draft
-with_client draft asks = record draft { clients = insert draft.clients (place_of asks.client draft.clients) asks }
+with_client draft asks = record draft { clients = insert draft.clients (client_place asks.client draft.clients) asks }
 
 -- a client with one more request
 abbrev pub with_request : Asks → Op → Asks
@@ -90,14 +90,14 @@ abbrev pub begun : ℕ → Reading
 begun nodes = Outside (record { nodes = nodes; clients = []; lines = []; orders = 0 })
 
 -- the scenario of a group and of what was read, where no section is open
-abbrev pub finished : Base → Reading → Option Scenario
-finished base (Outside draft) =
+abbrev pub finished_scenario : Base → Reading → Option Scenario
+finished_scenario base (Outside draft) =
     Some (record { nodes = draft.nodes; groups = base ∷ []; policy = false; clients = draft.clients; lines = draft.lines; brief = false; version = 1 })
-finished base (Within draft asks) = None
+finished_scenario base (Within draft asks) = None
 
 -- the scenario of the lines behind the group's
 abbrev pub rest_in : ℕ → List (List ℕ) → Base → Option Scenario
-rest_in nodes lines base = option_and_then (finished base) (read_lines (begun nodes) lines)
+rest_in nodes lines base = option_and_then (finished_scenario base) (read_lines (begun nodes) lines)
 
 -- the scenario of some lines: `scatter 1`, `nodes N`, the group, and the others
 abbrev pub scenario_in : List (List ℕ) → Option Scenario

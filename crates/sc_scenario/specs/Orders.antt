@@ -12,15 +12,15 @@ use Rattle.sc_scenario.specs.declared.scenarios.SchedLine.{SchedLine}
 use Rattle.sc_scenario.specs.declared.scenarios.SchedLine.TheVariants.{Told}
 
 -- a group's name `A.B`: A is the node that drew it, or 0 where the scenario named it
-abbrev pub name_of : List (List ℕ) → Option Draw
-name_of parts =
+abbrev pub name_in_parts : List (List ℕ) → Option Draw
+name_in_parts parts =
     if length parts == 2
     then option_and_then (λ node. option_map (λ count. record { node = node; count = count }) (count_in most_mails (nth parts 1))) (number_of (nth parts 0) most_nodes)
     else None
 
 -- the group's name that a word spells
 abbrev pub name_in : List ℕ → Option Draw
-name_in word = name_of (pieces 46 word)
+name_in word = name_in_parts (pieces 46 word)
 
 -- the node and the group of an order
 abbrev pub node_and_group : ℕ → List (List ℕ) → Option (ℕ × Draw)

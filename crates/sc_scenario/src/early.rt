@@ -1,7 +1,7 @@
 //! The early form of the scenario: nodes, one group, clients that get, put and delete, and a
 //! schedule.
 ghost use Rattle.std.specs.Prelude.{◌≡◌, map, IfOk, MatchResult, ◌⊎◌, Some, None};
-ghost use Rattle.sc_scenario.specs.Early.{scenario_of, scenario_in, rest_in, finished, nodes_in, is_ended, lines_of};
+ghost use Rattle.sc_scenario.specs.Early.{scenario_of, scenario_in, rest_in, finished_scenario, nodes_in, is_ended, lines_of};
 ghost use Rattle.sc_scenario.specs.Valid.{TextsAreEarly};
 ghost use Rattle.sc_scenario.specs.declared.early.ScenarioFault.TheVariants.{OutOfMemory};
 
@@ -54,7 +54,7 @@ fn finished(
     base: Base,
     reading: Reading,
 ) -> Result<Option<Scenario>, sc_base::OutOfMemory>
-    ensures { IfOk result (λ scenario. scenario ≡ finished base reading) }
+    ensures { IfOk result (λ scenario. scenario ≡ finished_scenario base reading) }
 {
     let Reading::Outside(draft) = reading else {
         return Ok(None);

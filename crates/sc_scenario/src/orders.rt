@@ -1,6 +1,6 @@
 //! The lines that tell a node an order.
 ghost use Rattle.std.specs.Prelude.{◌≡◌, map, IfOk};
-ghost use Rattle.sc_scenario.specs.Orders.{name_of, name_in, node_and_group, order_in, told_in};
+ghost use Rattle.sc_scenario.specs.Orders.{name_in_parts, name_in, node_and_group, order_in, told_in};
 
 use crate::pieces::parts_of;
 use crate::scenarios::SchedLine;
@@ -12,7 +12,7 @@ use std::alloc::Global;
 const MOST_NAMES: u32 = 4_294_967_295;
 
 fn name_of(parts: &[&[u8]]) -> Option<Draw>
-    ensures { result ≡ name_of (map (λ part. part.now) parts.now) }
+    ensures { result ≡ name_in_parts (map (λ part. part.now) parts.now) }
 {
     if parts.len() != 2 {
         return None;

@@ -2,7 +2,7 @@
 ghost use Rattle.std.specs.Prelude.{◌≡◌, ◌≤◌, ◌+◌, map, length, IfOk};
 ghost use Rattle.std.specs.Option.{option_map};
 ghost use Rattle.sc_scenario.specs.Orders.{told_in};
-ghost use Rattle.sc_scenario.specs.Early.{place_of, with_client, with_request, within, opened, with_line, with_order, outside, read_line, read_lines, begun};
+ghost use Rattle.sc_scenario.specs.Early.{client_place, with_client, with_request, within, opened, with_line, with_order, outside, read_line, read_lines, begun};
 
 use crate::drafts::{Draft, Reading};
 use crate::orders::told_in;
@@ -16,7 +16,7 @@ use std::alloc::Global;
 
 // The place of a client among others: before the first of a greater number.
 fn place_of(clients: &[Asks], client: u16) -> usize
-    ensures same { result ≡ place_of client clients.now }
+    ensures same { result ≡ client_place client clients.now }
     ensures within { result ≤ length clients.now }
 {
     for (i, other) in clients.iter().enumerate() {

@@ -13,7 +13,7 @@ use Rattle.sc_actor.proofs.ReplayLemmas.{mails-append, value-snoc}
 use Rattle.sc_actor.proofs.PendingLemmas.{get_left}
 use Rattle.sc_actor.specs.Replay.{Table, input_of, acted, replay, value}
 use Rattle.sc_exchange.specs.declared.ports.Port.{Port}
-use Rattle.sc_exchange.specs.Deeds.{row_by, rows_of}
+use Rattle.sc_exchange.specs.BareRows.{row_by, rows_of}
 use Rattle.sc_exchange.specs.Ports.{seen, made, Looked, Appended}
 use Rattle.sc_exchange.proofs.Done.{rows_of-append, quiet}
 use Rattle.sc_exchange.proofs.Knowing.{own_length}

@@ -15,7 +15,7 @@ use Rattle.sc_actor.specs.Replay.{input_of, acted}
 use Rattle.sc_actor.specs.Counted.{row_bytes, journal_bytes}
 use Rattle.sc_ledger.specs.Pending.{kth_pending}
 use Rattle.sc_exchange.specs.declared.ports.Port.{Port}
-use Rattle.sc_exchange.specs.Deeds.{rows_of}
+use Rattle.sc_exchange.specs.BareRows.{rows_of}
 use Rattle.sc_exchange.specs.Ports.{seen, made, Looked, Appended, MayPost}
 use Rattle.sc_exchange.proofs.Knowing.{stays_trans, looked_trans}
 use Rattle.sc_shell.specs.declared.turns.Turn.{Turn}

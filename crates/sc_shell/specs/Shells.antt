@@ -15,7 +15,7 @@ use Rattle.sc_ledger.specs.declared.faults.PostFault.TheVariants.{JournalFull}
 use Rattle.sc_ledger.specs.Fault.{IsCause}
 use Rattle.sc_ledger.specs.Pending.{kth_pending}
 use Rattle.sc_exchange.specs.declared.ports.Port.{Port}
-use Rattle.sc_exchange.specs.Deeds.{rows_of}
+use Rattle.sc_exchange.specs.BareRows.{rows_of}
 use Rattle.sc_exchange.specs.Ports.{seen, made, Looked, Appended, IsAddressed}
 use Rattle.sc_shell.specs.declared.shells.Shell.{Shell}
 use Rattle.sc_shell.specs.declared.turns.Turn.{Turn}

@@ -10,10 +10,10 @@ use Rattle.sc_cmd.specs.declared.effects.Effect.{Effect}
 use Rattle.sc_ideal.specs.declared.Entry.{Entry}
 use Rattle.sc_ideal.specs.IdealStore.{reply_of}
 use Rattle.sc_machine_table.specs.Group.{Group, group_of}
-use Rattle.sc_machine_table.specs.Machine.{applied, done, numbered}
+use Rattle.sc_machine_table.specs.Machine.{applied, done, served_by_note}
 use Rattle.sc_sound.specs.Histories.{history}
 use Rattle.sc_machine_table.specs.Logs.{entry_of}
-use Rattle.sc_sound.specs.Example.{four, alone, example, example_history, put_it, get_it}
+use Rattle.sc_sound.specs.Example.{four, alone, example_rows, example_history, put_it, get_it}
 
 -- the group at its birth
 abbrev pub born : Group
@@ -28,7 +28,7 @@ by_get y = ((entry_of (Call 1 1 put_it) (done born 1 1 put_it).1 ++ []) ++ []) +
 
 -- the put is done, for the client has requested nothing before
 pub put : applied born (Call 1 1 put_it) ≡ done born 1 1 put_it
-put = ap (λ (o : Option Noted). numbered o born 1 1 put_it) (get-empty nat_cmp 1)
+put = ap (λ (o : Option Noted). served_by_note o born 1 1 put_it) (get-empty nat_cmp 1)
 
 -- the group after the put
 abbrev pub next : Group
@@ -39,7 +39,7 @@ note = record { seq = 1; reply = reply_of put_it born.pairs }
 
 -- the get after it is done
 pub got : applied next (Call 1 2 get_it) ≡ done next 1 2 get_it
-got = ap (λ (o : Option Noted). numbered o next 1 2 get_it) (get-insert nat_cmp_total born.clients 1 note 1)
+got = ap (λ (o : Option Noted). served_by_note o next 1 2 get_it) (get-insert nat_cmp_total born.clients 1 note 1)
 
 abbrev entries : Option (List ℕ) → Option (List ℕ) → List Entry
 entries first second =
@@ -55,7 +55,7 @@ pub value : get next.pairs (97 ∷ []) ≡ Some (120 ∷ [])
 value = get-insert nat_list_cmp_total born.pairs (97 ∷ []) (120 ∷ []) (97 ∷ [])
 
 -- its history is the put and the get after it
-pub example_is_told : history four (alone ∷ []) example ≡ example_history
+pub example_is_told : history four (alone ∷ []) example_rows ≡ example_history
 example_is_told =
     ap by_put put ∙ ap by_get got
     ∙ ap (λ (o : Option (List ℕ)). entries o (get next.pairs (97 ∷ []))) nothing

@@ -45,8 +45,8 @@ abbrev pub row : ℕ → Event OrderLine → List Mail → Row Mail OrderLine
 row who event sent = record { who = who; event = event; sent = sent }
 
 -- the rows: each request is offered, accepted and answered
-abbrev pub example : List (Row Mail OrderLine)
-example =
+abbrev pub example_rows : List (Row Mail OrderLine)
+example_rows =
     row 33 Go (mail 33 1 (Request lone_name 1 1 put_it))
     ∷ row 1 (Deliver 1) (mail 1 1 (Accept lone_name ballot 1 (Call 1 1 put_it)))
     ∷ row 1 (Deliver 2) (mail 1 1 (Accepted lone_name ballot 1))
@@ -62,8 +62,8 @@ abbrev pub alone : Base
 alone = lone_group 0 (1 ∷ [])
 
 -- its scenario
-abbrev pub asked_for : Scenario
-asked_for = record {
+abbrev pub put_get_scenario : Scenario
+put_get_scenario = record {
   nodes = 1;
   groups = alone ∷ [];
   policy = false;

@@ -16,7 +16,7 @@ use Rattle.sc_players.specs.Players.{Ahead}
 use Rattle.sc_entries.specs.declared.Cut.{Cut}
 use Rattle.sc_entries.specs.declared.LogEntry.{LogEntry}
 use Rattle.sc_entries.specs.Births.{birth_of}
-use Rattle.sc_entries.specs.Worlds.{World, world_of}
+use Rattle.sc_entries.specs.Worlds.{StoreWorld, world_of}
 use Rattle.sc_sound.specs.Logs.{decided_log, decided_state}
 
 -- ---- the groups
@@ -103,7 +103,7 @@ entries_at ahead bases rows = entries_by_rows ahead bases [] rows
 -- ---- what they make of all groups
 
 -- what the entries of a journal make of the groups of a scenario
-abbrev pub world_at : Ahead → List Base → List (Row Mail OrderLine) → World
+abbrev pub world_at : Ahead → List Base → List (Row Mail OrderLine) → StoreWorld
 world_at ahead bases rows = world_of bases (entries_at ahead bases rows)
 
 -- the decided ring of a journal

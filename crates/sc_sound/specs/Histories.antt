@@ -12,15 +12,15 @@ use Rattle.sc_machine_table.specs.Logs.{state_after, done_by}
 use Rattle.sc_sound.specs.Logs.{decided_log}
 
 -- the entries of a group that are decided after some rows and not after fewer
-abbrev pub gained : Ahead → List (Row Mail OrderLine) → List (Row Mail OrderLine) → Base → List Entry
-gained ahead before after base =
+abbrev pub newly_decided : Ahead → List (Row Mail OrderLine) → List (Row Mail OrderLine) → Base → List Entry
+newly_decided ahead before after base =
     done_by (state_after (group_of base) (decided_log ahead base before)) (drop (length (decided_log ahead base before)) (decided_log ahead base after))
 
 -- the history of later rows
 abbrev pub history_from : Ahead → List Base → List (Row Mail OrderLine) → List (Row Mail OrderLine) → List Entry
 history_from ahead groups before [] = []
 history_from ahead groups before (row ∷ rows) =
-    flat_map (gained ahead before (before ++ row ∷ [])) groups ++ history_from ahead groups (before ++ row ∷ []) rows
+    flat_map (newly_decided ahead before (before ++ row ∷ [])) groups ++ history_from ahead groups (before ++ row ∷ []) rows
 
 -- the history of a journal: row by row the calls decided there that took effect, by slot
 abbrev pub history : Ahead → List Base → List (Row Mail OrderLine) → List Entry

@@ -25,7 +25,7 @@ use Rattle.sc_scenario.specs.declared.scenarios.Scenario.{Scenario}
 use Rattle.sc_entries.specs.declared.Cut.{Cut}
 use Rattle.sc_entries.specs.Effective.{effective, serves}
 use Rattle.sc_entries.specs.Rings.{Covers}
-use Rattle.sc_entries.specs.Worlds.{World, named_group}
+use Rattle.sc_entries.specs.Worlds.{StoreWorld, named_group}
 use Rattle.sc_sound.specs.Accepts.{accepts}
 use Rattle.sc_sound.specs.GroupsOf.{groups_at, log_at, state_at, world_at, history_at}
 use Rattle.sc_sound.specs.Logs.{rule_of, IsChosenIn, decided_log}
@@ -66,7 +66,7 @@ AllHaveRun ahead scenario rows = (number : ℕ) → 1 ≤ number → number ≤ 
     → (base : Base) × Among base (groups_at ahead scenario.groups rows) × (base.core.id ≡ name_of r) × HasRun ahead base rows r
 
 -- (d) The group of a cut, by its effective record, has the cut's arc and names its neighbours in the ring: itself where there is one cut.
-pub record IsPlaced (world : World) (cut : Cut) : Type 0 where
+pub record IsPlaced (world : StoreWorld) (cut : Cut) : Type 0 where
   -- its effective record
   pub group : Group
   pub is : effective world cut.group ≡ Some group
@@ -80,16 +80,16 @@ pub record IsPlaced (world : World) (cut : Cut) : Type 0 where
   pub pred : (other : Cut) × Among other world.ring × (cut.arc.lo ≡ end_of other.arc) × (group.core.pred.group ≡ other.group)
 
 -- a group that serves a key is the group of the cut that holds its position
-abbrev pub ServesItsCut : World → Type 0
+abbrev pub ServesItsCut : StoreWorld → Type 0
 ServesItsCut world = (group : Group) → Among group world.groups → (key : List ℕ) → IsTrue (serves group key)
     → (cut : Cut) × Among cut world.ring × (cut.group ≡ group.core.id) × IsTrue (holds_key cut.arc key)
 
 -- (e) the map after the history, taken on a cut's arc, is the pairs of its group's effective record
-abbrev pub HoldsItsPart : World → Cut → Type 0
+abbrev pub HoldsItsPart : StoreWorld → Cut → Type 0
 HoldsItsPart world cut = (group : Group) → effective world cut.group ≡ Some group → group.pairs ≡ part_of cut.arc (contents_after empty world.history)
 
 -- (c), (d), (e): the ring covers, each cut's group is placed in it and has its part of the map, no other group serves its keys, and the history is legal (Herlihy and Wing, 1990).
-pub record IsOneMap (world : World) : Type 0 where
+pub record IsOneMap (world : StoreWorld) : Type 0 where
   pub covers : Covers world.ring
   pub placed : (cut : Cut) → Among cut world.ring → IsPlaced world cut
   pub serves_apart : ServesItsCut world

@@ -7,15 +7,15 @@ ghost use Rattle.sc_cmd.specs.declared.commands.Command.TheVariants.{Call};
 ghost use Rattle.sc_sound.specs.Logs.{decided_log};
 ghost use Rattle.sc_sound.specs.Histories.{history, decided_row};
 ghost use Rattle.sc_sound.specs.Requests.{issue_row};
-ghost use Rattle.sc_sound.specs.Example.{four, alone, example, example_history, put_it, get_it};
+ghost use Rattle.sc_sound.specs.Example.{four, alone, example_rows, example_history, put_it, get_it};
 
 /// The definitions on a small journal: the log and the history of a put and a get, the rows that
 /// decide them and the rows that issue them.
 pub fn a_journal_and_its_history()
-    ensures log { decided_log four alone example ≡ Call 1 1 put_it ∷ Call 1 2 get_it ∷ [] }
-    ensures first { decided_row four alone 0 example ≡ Some 3 }
-    ensures second { decided_row four alone 1 example ≡ Some 7 }
-    ensures third { decided_row four alone 2 example ≡ None }
-    ensures issued { issue_row 1 2 example ≡ Some 5 }
-    ensures history { history four (alone ∷ []) example ≡ example_history }
+    ensures log { decided_log four alone example_rows ≡ Call 1 1 put_it ∷ Call 1 2 get_it ∷ [] }
+    ensures first { decided_row four alone 0 example_rows ≡ Some 3 }
+    ensures second { decided_row four alone 1 example_rows ≡ Some 7 }
+    ensures third { decided_row four alone 2 example_rows ≡ None }
+    ensures issued { issue_row 1 2 example_rows ≡ Some 5 }
+    ensures history { history four (alone ∷ []) example_rows ≡ example_history }
 {}

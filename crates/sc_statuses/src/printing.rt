@@ -8,10 +8,10 @@ ghost use Rattle.sc_statuses.specs.Causes.{Prints};
 
 use crate::said::Said;
 use sc_edges::{Failed, Sink};
-use sc_report::Line;
+use sc_report::ReportLine;
 
 // Puts each line. After a fault the sink has gained a first part of the whole.
-fn put_all<K: Sink>(sink: &mut K, lines: &[Line]) -> Result<(), Failed>
+fn put_all<K: Sink>(sink: &mut K, lines: &[ReportLine]) -> Result<(), Failed>
     ensures whole { OnOk result (Appends (K.held sink.old) (K.held sink.new) (concat lines.now)) }
     ensures part { OnErr result
         (AppendsPart (K.held sink.old) (K.held sink.new) (concat lines.now)) }
@@ -27,7 +27,7 @@ fn put_all<K: Sink>(sink: &mut K, lines: &[Line]) -> Result<(), Failed>
 
 /// Puts each line of a text by one call of the sink, and answers the status that the text belongs
 /// to, or 5 after a fault of the sink.
-pub fn print<K: Sink>(sink: &mut K, said: Said, lines: &[Line]) -> u8
+pub fn print<K: Sink>(sink: &mut K, said: Said, lines: &[ReportLine]) -> u8
     ensures { Prints (K.held sink.old) (K.held sink.new) (K.faults sink.old) (K.faults sink.new)
         said lines.now result }
 {

@@ -2,7 +2,7 @@
 use sc_base::{Draw, Key, Op, Reply, Sequence, Value};
 use sc_cmd::{OrderRefusal, Route, ToldResult};
 use sc_member::Members;
-use sc_report::{Asked, Got, Summary, lines};
+use sc_report::{Asked, Progress, Summary, lines};
 use std::alloc::Global;
 use std::process::Abort;
 
@@ -12,7 +12,7 @@ const REPORT: &[u8] =
 const BRIEF: &[u8] =
     b"scatter report 1\nanswered 2 of 4\norder 1 open\norder 2 refused 4 bad-boundary\nring 7 group 0.1 members 3\nrows 5\nmail 4\ndelivered 3\nskipped 2\nquiet no\n";
 
-fn asked(rt: &impl Abort, alloc: Global, seq: u32, got: Got) -> Asked {
+fn asked(rt: &impl Abort, alloc: Global, seq: u32, got: Progress) -> Asked {
     Asked {
         client: 1,
         seq,
@@ -30,14 +30,14 @@ fn value_reply(rt: &impl Abort, alloc: Global) -> Reply {
 }
 
 fn all_asked(rt: &impl Abort, alloc: Global) -> Sequence<Asked> {
-    let value = Got::Replied(value_reply(rt, alloc));
-    let none = Got::Replied(Reply { old: None });
+    let value = Progress::Replied(value_reply(rt, alloc));
+    let none = Progress::Replied(Reply { old: None });
     let mut all = Sequence::new(alloc);
     all.push(asked(rt, alloc, 1, value)).expect(rt, "memory");
     all.push(asked(rt, alloc, 2, none)).expect(rt, "memory");
-    all.push(asked(rt, alloc, 3, Got::Unanswered))
+    all.push(asked(rt, alloc, 3, Progress::Unanswered))
         .expect(rt, "memory");
-    all.push(asked(rt, alloc, 4, Got::Unsent))
+    all.push(asked(rt, alloc, 4, Progress::Unsent))
         .expect(rt, "memory");
     all
 }

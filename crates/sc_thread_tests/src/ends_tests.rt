@@ -1,7 +1,7 @@
 //! Exchanges that are opened, driven and closed.
 ghost use Rattle.std.specs.Prelude.{◌≡◌, ◌<◌, ◌≤◌, [], List, true, All};
-ghost use Rattle.sc_exchange.specs.Ports.{given, joined};
-ghost use Rattle.sc_workers.specs.Crews.{AllOf, numbers};
+ghost use Rattle.sc_exchange.specs.Ports.{given, joined_ports};
+ghost use Rattle.sc_workers.specs.Crews.{AllOf, crew_numbers};
 ghost use Rattle.sc_actor.specs.declared.actors.Seat.{Seat};
 ghost use Rattle.sc_drive.specs.Companies.{AtBirth};
 ghost use Rattle.sc_drive.specs.Goings.{IsKept};
@@ -87,7 +87,7 @@ fn go<R: Wait>(
 )
     requires exchange { AllOf net.now shells.old.items }
     ensures exchange { AllOf net.now shells.new.items }
-    ensures numbers { numbers shells.new.items ≡ numbers shells.old.items }
+    ensures numbers { crew_numbers shells.new.items ≡ crew_numbers shells.old.items }
 {
     if place < shells.len() {
         let _ = shells[place].event(rt, alloc, Event::Go);
@@ -103,8 +103,8 @@ fn ended<R: Wait + Abort>(
 ) -> (u32, u32)
     requires net { net.who ≡ 0 }
     requires exchange { AllOf net shells.items }
-    requires all { given net ≡ numbers shells.items }
-    requires none { joined net ≡ [] }
+    requires all { given net ≡ crew_numbers shells.items }
+    requires none { joined_ports net ≡ [] }
 {
     let mut all = net;
     let mut shells = shells;

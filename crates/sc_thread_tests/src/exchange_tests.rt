@@ -2,7 +2,7 @@
 ghost use Rattle.std.specs.Prelude.{◌≡◌, ◌≢◌, ◌<◌, ◌++◌, ◌∷◌, [], false, map};
 ghost use Rattle.std.specs.Thread.{IsSync};
 ghost use Rattle.sc_actor.specs.Mail.{is_crash};
-ghost use Rattle.sc_exchange.specs.Ports.{Stays, MayPost, SameExchange, given, joined};
+ghost use Rattle.sc_exchange.specs.Ports.{Stays, MayPost, SameExchange, given, joined_ports};
 
 use crate::notes::{Note, notes};
 use sc_actor::{Event, Journal, Row};
@@ -296,7 +296,7 @@ fn take_in(net: &mut Port<Note, u32>, other: Port<Note, u32>)
     ensures { SameExchange net.old net.new
         × (net.new.who ≡ 0)
         × (given net.new ≡ given net.old)
-        × (map (λ k. k.0) (joined net.new) ≡ map (λ k. k.0) (joined net.old) ++ other.who ∷ []) }
+        × (map (λ k. k.0) (joined_ports net.new) ≡ map (λ k. k.0) (joined_ports net.old) ++ other.who ∷ []) }
 {
     net.join(other);
 }

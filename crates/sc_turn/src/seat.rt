@@ -1,7 +1,7 @@
 //! The seats, from which threads take turns at one value.
 ghost use Rattle.std.specs.Prelude.{◌≡◌, ◌≢◌, ℕ, ◌+◌, ◌<◌, ◌^◌, ◌⊎◌, true, false, [], ◌∷◌, ◌++◌, length, Contains, IfOk, OnOk, OnErr, None, if◌then◌else◌};
 ghost use Rattle.std.specs.Arc.{arc_value};
-ghost use Rattle.sc_turn.specs.Turn.{opener, newcomer, with_given, with_seen, entered, left_with, joined_with, StartsWith, IsTrueOf, IsTrueLater, IsTrueOver, CanLeave, rows_by};
+ghost use Rattle.sc_turn.specs.Turn.{opener, newcomer, with_given, with_seen, entered_with, left_with, merged_seen, StartsWith, IsTrueOf, IsTrueLater, IsTrueOver, CanLeave, rows_by};
 
 use crate::listed::Listed;
 use crate::plays::{Look, Merge, Note, Number, Read, Release, SplitOff};
@@ -59,7 +59,7 @@ impl<T: Listed> TurnSeat<T> {
     pub fn enter<R: Wait>(&mut self, rt: &R) -> T
         requires { (known self.old).turn ≡ false }
         ensures start { OfOneStart self.old self.new }
-        ensures view { known self.new ≡ entered (known self.old) (T.entries result) }
+        ensures view { known self.new ≡ entered_with (known self.old) (T.entries result) }
         ensures later { StartsWith (T.entries result) (known self.old).seen }
         ensures facts { IsTrueOf (known self.old) (T.entries result) }
     {
@@ -193,7 +193,7 @@ impl<T: Listed> TurnSeat<T> {
         requires one_start { OfOneStart self.old other }
         requires turn { ((known self.old).turn ≡ false) × ((known other).turn ≡ false) }
         ensures start { OfOneStart self.old self.new }
-        ensures view { known self.new ≡ joined_with (known self.old) (known other) }
+        ensures view { known self.new ≡ merged_seen (known self.old) (known other) }
         ensures later { StartsWith (known self.new).seen (known self.old).seen
             × StartsWith (known self.new).seen (known other).seen }
         ensures facts { IsTrueLater (known self.new) }

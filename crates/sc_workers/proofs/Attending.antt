@@ -14,7 +14,7 @@ use Rattle.sc_actor.specs.Replay.{acted, value}
 use Rattle.sc_actor.specs.System.{row_of}
 use Rattle.sc_ledger.specs.Pending.{kth_pending}
 use Rattle.sc_exchange.specs.declared.ports.Port.{Port}
-use Rattle.sc_exchange.specs.Deeds.{rows_of}
+use Rattle.sc_exchange.specs.BareRows.{rows_of}
 use Rattle.sc_exchange.specs.Addressed.{all_addressed}
 use Rattle.sc_exchange.specs.Ports.{seen, made, SameExchange, Looked, IsAddressed}
 use Rattle.sc_exchange.proofs.Addressing.{first_stays, all_addressed-append}
@@ -23,7 +23,7 @@ use Rattle.sc_shell.specs.declared.turns.Turn.{Turn}
 use Rattle.sc_shell.specs.declared.turns.Turn.TheVariants.{Did, Empty, Full, Spent, OutOfMemory}
 use Rattle.sc_shell.specs.Shells.{Takes, IsReplay, state, row_at}
 use Rattle.sc_shell.proofs.Replaying.{numbered_more, replay_over}
-use Rattle.sc_workers.specs.Crews.{Goes, AllGo, Took, Passed, AllPassed, AllOf, AllOver, IsOver, IsAhead, AllAhead, Still, AllStill}
+use Rattle.sc_workers.specs.Crews.{GoesByDeliveries, AllGo, Took, Passed, AllPassed, AllOf, AllOver, IsOver, IsAhead, AllAhead, Still, AllStill}
 use Rattle.sc_workers.specs.Services.{IsService, Serves, AllServe}
 use Rattle.sc_workers.specs.Ends.{IsGathered}
 use Rattle.sc_workers.proofs.Serving.{count_later, list_same, net_same}
@@ -192,7 +192,7 @@ module _ {A M O : Type 0} {g : Ghosts A M O} {h : MailGhosts M} where
       (passed k d (omega (arith, lt, l)))
 
   -- two rounds, one after the other
-  serves_then : (net next : Port M O h) (start mid : Shell A M O g h) → Looked net next → Goes start mid → IsOver net mid → Serves net start → Serves next mid → Serves next start
+  serves_then : (net next : Port M O h) (start mid : Shell A M O g h) → Looked net next → GoesByDeliveries start mid → IsOver net mid → Serves net start → Serves next mid → Serves next start
   serves_then net next start mid looked goes over first second = record {
     each = λ front r rest is own new.
         ⊎_elim (λ q. earlier front r rest q.0 own new q.1) (λ p. later front r rest is own p)

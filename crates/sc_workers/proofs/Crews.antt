@@ -7,7 +7,7 @@ use Rattle.sc_actor.specs.declared.actors.Actor.{Ghosts}
 use Rattle.sc_actor.specs.declared.actors.Parcel.{Ghosts as MailGhosts}
 use Rattle.sc_actor.specs.declared.rows.Row.{Row}
 use Rattle.sc_exchange.specs.declared.ports.Port.{Port}
-use Rattle.sc_exchange.specs.Deeds.{rows_of}
+use Rattle.sc_exchange.specs.BareRows.{rows_of}
 use Rattle.sc_exchange.specs.Ports.{seen, made, SameExchange, Stays, Looked}
 use Rattle.sc_shell.specs.declared.shells.Shell.{Shell}
 use Rattle.sc_shell.specs.declared.turns.Turn.{Turn}
@@ -16,7 +16,7 @@ use Rattle.sc_turn.specs.Turn.{StartsWith}
 use Rattle.sc_actor.specs.Mail.{is_delivery}
 use Rattle.sc_actor.specs.Replay.{value}
 use Rattle.sc_shell.specs.Shells.{State, Takes, state, KeepsReplay, Replays, ReplaysOver}
-use Rattle.sc_workers.specs.Crews.{Delivers, is_did, refusal_in, Goes, AllGo, Took, AllTook, Passed, AllPassed, Sound, AllSound, AllOf, AllMet, HasMet, IsAhead, IsOver, rows_made, Still, AllStill, AreStill, AreLater, HasRefusal, did, refusal}
+use Rattle.sc_workers.specs.Crews.{Delivers, is_did, refusal_in, GoesByDeliveries, AllGo, Took, AllTook, Passed, AllPassed, Sound, AllSound, AllOf, AllMet, HasMet, IsAhead, IsOver, rows_made, Still, AllStill, AreStill, AreLater, HasRefusal, did, refusal}
 use Rattle.sc_workers.proofs.Lists.{sum_with, sum_zero, sum_short}
 use Rattle.sc_exchange.proofs.Knowing.{looked_trans, stays_trans}
 use Rattle.sc_turn.proofs.Lists.{starts_trans}
@@ -64,10 +64,10 @@ full_last o Spent bytes e f = (let told : OutOfMemory ≡ Full bytes = ap refusa
 full_last o OutOfMemory bytes e f = (let told : OutOfMemory ≡ Full bytes = ap refusal_in (sym e) ∙ f in cc)
 
 module _ {A M O : Type 0} {g : Ghosts A M O} {h : MailGhosts M} where
-  pub goes_same : (s : Shell A M O g h) → Goes s s
+  pub goes_same : (s : Shell A M O g h) → GoesByDeliveries s s
   goes_same s = record { stays = stays_same s.port; replay = λ birth r. r; made = delivers_none (made s.port) (made s.port) refl }
 
-  pub goes_trans : (s t u : Shell A M O g h) → Goes s t → Goes t u → Goes s u
+  pub goes_trans : (s t u : Shell A M O g h) → GoesByDeliveries s t → GoesByDeliveries t u → GoesByDeliveries s u
   goes_trans s t u a b = record {
     stays = stays_trans s.port t.port u.port a.stays b.stays;
     replay = λ birth r. b.replay birth (a.replay birth r);
@@ -106,8 +106,8 @@ module _ {A M O : Type 0} {g : Ghosts A M O} {h : MailGhosts M} where
   took_did s t sound took =
       ⊎_elim (λ x. crashed_did s t x.1 (sound x.0)) (λ x. takes_did s t x.1.0 x.0 x.1.1 x.1.2) took.acts
 
-  pub passed_goes : (s t : Shell A M O g h) → Passed s t → Goes s t
-  passed_goes s t p = ⊎_elim (λ same. subst (Goes s) (sym same) (goes_same s)) (λ (took : Took s t). took.goes) p
+  pub passed_goes : (s t : Shell A M O g h) → Passed s t → GoesByDeliveries s t
+  passed_goes s t p = ⊎_elim (λ same. subst (GoesByDeliveries s) (sym same) (goes_same s)) (λ (took : Took s t). took.goes) p
 
   pub refused_so : (s : Shell A M O g h) (r : Turn) → refusal s ≡ Some r → (s.spent ≡ true) × (s.port.crashed ≡ false) × (refusal_in s.last ≡ r)
   refused_so s r e = by s.spent s.port.crashed refl refl
@@ -168,7 +168,7 @@ module _ {A M O : Type 0} {g : Ghosts A M O} {h : MailGhosts M} where
   }
 
   -- a shell that made nothing goes on
-  pub still_made : (s t : Shell A M O g h) → Stays s.port t.port → KeepsReplay s t → made t.port ≡ made s.port → Goes s t
+  pub still_made : (s t : Shell A M O g h) → Stays s.port t.port → KeepsReplay s t → made t.port ≡ made s.port → GoesByDeliveries s t
   still_made s t stays replay same = record { stays = stays; replay = replay; made = delivers_none (made s.port) (made t.port) same }
 
   -- lists

@@ -9,7 +9,7 @@ use Rattle.sc_exchange.specs.declared.answers.Fetched.{Fetched}
 use Rattle.sc_exchange.specs.declared.ports.Port.{Port}
 use Rattle.sc_exchange.specs.Answers.{IsFetch}
 use Rattle.sc_exchange.specs.Addressed.{all_addressed}
-use Rattle.sc_exchange.specs.Deeds.{rows_of}
+use Rattle.sc_exchange.specs.BareRows.{rows_of}
 use Rattle.sc_exchange.specs.Ports.{seen, Looked, IsTrue, IsAddressed}
 use Rattle.sc_shell.specs.declared.shells.Shell.{Shell}
 use Rattle.sc_shell.specs.declared.turns.Turn.{Turn}
@@ -18,7 +18,7 @@ use Rattle.sc_workers.specs.declared.answers.Rounds.{Rounds}
 use Rattle.sc_workers.specs.declared.answers.Rounds.TheVariants.{Quiet, Limit, Full, OutOfMemory}
 use Rattle.sc_workers.specs.Crews.{rows_made, AllSound, AreStill, HaveVouched}
 use Rattle.sc_workers.specs.Services.{AllServe}
-use Rattle.sc_workers.specs.Ends.{any_waits, IsFirst, IsFull, IsEnd, StepEnd, RefusedEnd, IsGathered, IfCalm, IfHeld}
+use Rattle.sc_workers.specs.Ends.{any_waits, IsFirst, HasRefusedShell, IsEnd, StepEnd, RefusedEnd, IsGathered, IfCalm, IfHeld}
 
 any_map : {A : Type 0} (f : A → Bool) (xs : List A) → list_any (λ (b : Bool). b) (map f xs) ≡ list_any f xs
 any_map f [] = refl
@@ -60,14 +60,14 @@ module _ {A M O : Type 0} {g : Ghosts A M O} {h : MailGhosts M} where
 
   -- a round that ends by a refusal
   pub step_end : (r : Rounds) (refused : Turn) (net : Port M O h) (start ss : List (Shell A M O g h)) (whos : List ℕ) (limit used : ℕ) → RefusedEnd r refused net ss
-      → ((bytes : ℕ) → refused ≡ RefusedFull bytes → IsGathered net ss → IsFull start net ss bytes × (used < limit)) → StepEnd r net start ss whos limit used
+      → ((bytes : ℕ) → refused ≡ RefusedFull bytes → IsGathered net ss → HasRefusedShell start net ss bytes × (used < limit)) → StepEnd r net start ss whos limit used
   step_end (Quiet told) refused net start ss whos limit used p f = absurd p
   step_end (Limit told) refused net start ss whos limit used p f = absurd p
   step_end (Full bytes) refused net start ss whos limit used p f = (let e = f bytes p.0 p.1 in (p.1.over, e.0, e.1))
   step_end OutOfMemory refused net start ss whos limit used p f = tt
 
   -- the end of a round, told from an earlier start
-  pub step_from : (o : Option Rounds) (net : Port M O h) (first mid ss : List (Shell A M O g h)) (whos : List ℕ) (limit used : ℕ) → ((bytes : ℕ) → IsFull mid net ss bytes → IsFull first net ss bytes) → IfSome o (λ r. StepEnd r net mid ss whos limit used) → IfSome o (λ r. StepEnd r net first ss whos limit used)
+  pub step_from : (o : Option Rounds) (net : Port M O h) (first mid ss : List (Shell A M O g h)) (whos : List ℕ) (limit used : ℕ) → ((bytes : ℕ) → HasRefusedShell mid net ss bytes → HasRefusedShell first net ss bytes) → IfSome o (λ r. StepEnd r net mid ss whos limit used) → IfSome o (λ r. StepEnd r net first ss whos limit used)
   step_from None net first mid ss whos limit used f p = tt
   step_from (Some (Quiet told)) net first mid ss whos limit used f p = p
   step_from (Some (Limit told)) net first mid ss whos limit used f p = p
@@ -76,7 +76,7 @@ module _ {A M O : Type 0} {g : Ghosts A M O} {h : MailGhosts M} where
 
   -- the end of all rounds, from that of the last
   pub end_so : (r : Rounds) (net : Port M O h) (first mid ss : List (Shell A M O g h)) (whos all : List ℕ) (limit used : ℕ) → StepEnd r net mid ss whos limit used → whos ≡ all → used ≤ limit → rows_made ss ≡ rows_made first + used
-      → ((bytes : ℕ) → IsFull mid net ss bytes → IsFull first net ss bytes) → IfHeld (Some r) (AllServe net first) → IfCalm (Some r) (AllSound ss) → IsEnd r net first ss all limit
+      → ((bytes : ℕ) → HasRefusedShell mid net ss bytes → HasRefusedShell first net ss bytes) → IfHeld (Some r) (AllServe net first) → IfCalm (Some r) (AllSound ss) → IsEnd r net first ss all limit
   end_so (Quiet told) net first mid ss whos all limit used p same fits count f served sound =
       (p.0, ap (any_waits net) (sym same) ∙ p.1, subst (λ n. n ≤ limit) (sym p.2) fits, count ∙ ap (λ n. rows_made first + n) (sym p.2), served, sound)
   end_so (Limit told) net first mid ss whos all limit used p same fits count f served sound =

@@ -14,7 +14,7 @@ use Rattle.sc_actor.specs.Replay.{acted, value}
 use Rattle.sc_actor.specs.System.{row_of}
 use Rattle.sc_ledger.specs.Pending.{kth_pending}
 use Rattle.sc_exchange.specs.declared.ports.Port.{Port}
-use Rattle.sc_exchange.specs.Deeds.{rows_of}
+use Rattle.sc_exchange.specs.BareRows.{rows_of}
 use Rattle.sc_exchange.specs.Ports.{seen, made, SameExchange, Looked, IsAddressed}
 use Rattle.sc_exchange.proofs.Addressing.{first_stays}
 use Rattle.std.proofs.lemmas.List.{append-nil}
@@ -22,8 +22,8 @@ use Rattle.sc_shell.specs.declared.shells.Shell.{Shell}
 use Rattle.sc_shell.specs.declared.turns.Turn.TheVariants.{Full}
 use Rattle.sc_shell.specs.Shells.{Takes, IsReplay, state, row_at}
 use Rattle.sc_shell.proofs.Replaying.{numbered_more, replay_over}
-use Rattle.sc_workers.specs.Crews.{Goes, AllGo, AllPassed, AllSound, AllStill, AllOf, AllOver, IsAhead, AllAhead, HasRefusal, Still, IsOver}
-use Rattle.sc_workers.specs.Ends.{IsRefused, IsFull}
+use Rattle.sc_workers.specs.Crews.{GoesByDeliveries, AllGo, AllPassed, AllSound, AllStill, AllOf, AllOver, IsAhead, AllAhead, HasRefusal, Still, IsOver}
+use Rattle.sc_workers.specs.Ends.{IsRefusedShell, HasRefusedShell}
 use Rattle.sc_workers.proofs.Crews.{passed_full}
 use Rattle.sc_workers.proofs.Serving.{net_same}
 use Rattle.sc_turn.proofs.Lists.{starts_trans}
@@ -35,7 +35,7 @@ counts_more weighs xs ys p =
     omega (arith, e)
 
 module _ {A M O : Type 0} {g : Ghosts A M O} {h : MailGhosts M} where
-  module _ (start s t u : Shell A M O g h) (net : Port M O h) (bytes : ℕ) (goes : Goes start s) (x : Takes (state s) (state t) 1 (Full bytes)) (still : Still t u) (over : IsOver net u) (one : SameExchange u.port net)
+  module _ (start s t u : Shell A M O g h) (net : Port M O h) (bytes : ℕ) (goes : GoesByDeliveries start s) (x : Takes (state s) (state t) 1 (Full bytes)) (still : Still t u) (over : IsOver net u) (one : SameExchange u.port net)
       (begin : Port M O h) (ahead : IsAhead begin s) (looked : Looked begin net) (first : begin.who ≡ 0) (addressed : IsAddressed net) where
     all_later : StartsWith (seen net) (seen t.port)
     all_later = starts_trans (seen net) (seen u.port) (seen t.port) over.begins still.later
@@ -77,7 +77,7 @@ module _ {A M O : Type 0} {g : Ghosts A M O} {h : MailGhosts M} where
         ∙ ap (λ n. row_of g.table (record { who = n; actor = birth }) (seen net) (Deliver x.1.number)) (sym who_is)
 
     -- the shell that was refused
-    pub refused_at : IsRefused start net u bytes
+    pub refused_at : IsRefusedShell start net u bytes
     refused_at = record {
       spent = still.spent ∙ x.2.2;
       runs = still.crashed ∙ x.2.3;
@@ -92,7 +92,7 @@ module _ {A M O : Type 0} {g : Ghosts A M O} {h : MailGhosts M} where
   -- after a round with a refusal, and the meetings after it
   pub full_so : (start before after last : List (Shell A M O g h)) (net : Port M O h) (bytes : ℕ) → length before ≡ length start → length after ≡ length before → length last ≡ length after →
       AllGo start before → AllSound before → AllPassed before after → HasRefusal after (Full bytes) → AllStill after last → AllOver net last → AllOf net last →
-      (begin : Port M O h) → AllAhead begin before → Looked begin net → begin.who ≡ 0 → IsAddressed net → IsFull start net last bytes
+      (begin : Port M O h) → AllAhead begin before → Looked begin net → begin.who ≡ 0 → IsAddressed net → HasRefusedShell start net last bytes
   full_so start before after last net bytes l m n go sound passed r still over one begin ahead looked first addressed = record {
     place = r.place;
     inside = omega (arith, r.inside, n);
@@ -107,7 +107,7 @@ module _ {A M O : Type 0} {g : Ghosts A M O} {h : MailGhosts M} where
   }
 
   -- from an earlier start
-  pub full_from : (first start last : List (Shell A M O g h)) (net : Port M O h) (bytes : ℕ) → length start ≡ length first → length last ≡ length start → AllGo first start → IsFull start net last bytes → IsFull first net last bytes
+  pub full_from : (first start last : List (Shell A M O g h)) (net : Port M O h) (bytes : ℕ) → length start ≡ length first → length last ≡ length start → AllGo first start → HasRefusedShell start net last bytes → HasRefusedShell first net last bytes
   full_from first start last net bytes l m go f = record {
     place = f.place;
     inside = f.inside;

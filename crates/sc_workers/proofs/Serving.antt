@@ -9,16 +9,16 @@ use Rattle.sc_actor.specs.declared.actors.Parcel.{Ghosts as MailGhosts}
 use Rattle.sc_actor.specs.declared.rows.Row.{Row}
 use Rattle.sc_actor.specs.Mail.{is_crash, has_crashed}
 use Rattle.sc_ledger.specs.Pending.{kth_pending}
-use Rattle.sc_exchange.specs.declared.deeds.Deed.{Deed}
+use Rattle.sc_exchange.specs.declared.shared.BareRow.{BareRow}
 use Rattle.sc_exchange.specs.declared.ports.Port.{Port}
-use Rattle.sc_exchange.specs.Deeds.{row_by, rows_of}
+use Rattle.sc_exchange.specs.BareRows.{row_by, rows_of}
 use Rattle.sc_exchange.specs.Ports.{seen, made, SameExchange, Looked}
 use Rattle.sc_exchange.proofs.Addressing.{first_stays, crashed_own, crashed_waits}
 use Rattle.sc_shell.specs.declared.shells.Shell.{Shell}
 use Rattle.sc_shell.specs.declared.turns.Turn.{Turn}
 use Rattle.sc_shell.specs.declared.turns.Turn.TheVariants.{Did, Empty, Full, Spent, OutOfMemory}
 use Rattle.sc_shell.specs.Shells.{Takes, state}
-use Rattle.sc_workers.specs.Crews.{Goes, AllGo, Took, AllTook, Sound, AllSound, AllOf, HasMet, AllMet, AllOver, IsAhead, AllAhead, Still, AllStill, numbers, rows_made}
+use Rattle.sc_workers.specs.Crews.{GoesByDeliveries, AllGo, Took, AllTook, Sound, AllSound, AllOf, HasMet, AllMet, AllOver, IsAhead, AllAhead, Still, AllStill, crew_numbers, rows_made}
 use Rattle.sc_workers.specs.Ends.{CanBegin}
 use Rattle.sc_workers.proofs.Lists.{sum_same}
 use Rattle.sc_exchange.proofs.Done.{rows_of-append}
@@ -40,7 +40,7 @@ module _ {M O : Type 0} where
       split : (n : ℕ) (ys more : List (Row M O)) → length (rows_of n more) ≡ 0 → rows_of n (ys ++ more) ≡ rows_of n ys
       split n ys more none = rows_of-append n ys more ∙ (ap (λ l. rows_of n ys ++ l) (nil_from_length (rows_of n more) none) ∙ append-nil (rows_of n ys))
 
-  crash_rows : (who : ℕ) (made : List (Deed M O)) → list_any (λ (row : Row M O). is_crash row.event) (map (row_by who) made) ≡ list_any (λ (d : Deed M O). is_crash d.event) made
+  crash_rows : (who : ℕ) (made : List (BareRow M O)) → list_any (λ (row : Row M O). is_crash row.event) (map (row_by who) made) ≡ list_any (λ (d : BareRow M O). is_crash d.event) made
   crash_rows who [] = refl
   crash_rows who (d ∷ made) = ap (λ b. is_crash d.event || b) (crash_rows who made)
 
@@ -63,13 +63,13 @@ module _ {M O : Type 0} {h : MailGhosts M} where
 
 module _ {A M O : Type 0} {g : Ghosts A M O} {h : MailGhosts M} where
   -- whose mail waits
-  pub waits_at : (p : ℕ → Bool) (ss : List (Shell A M O g h)) → list_any p (numbers ss) ≡ true → (k : ℕ) × (k < length ss) × ((d : Shell A M O g h) → p (get_or ss k d).port.who ≡ true)
+  pub waits_at : (p : ℕ → Bool) (ss : List (Shell A M O g h)) → list_any p (crew_numbers ss) ≡ true → (k : ℕ) × (k < length ss) × ((d : Shell A M O g h) → p (get_or ss k d).port.who ≡ true)
   waits_at p [] e = absurd (true≢false (sym e))
   waits_at p (s ∷ ss) e = by (p s.port.who) refl (waits_at p ss)
     where
-      by : (b : Bool) → p s.port.who ≡ b → (list_any p (numbers ss) ≡ true → (k : ℕ) × (k < length ss) × ((d : Shell A M O g h) → p (get_or ss k d).port.who ≡ true)) → (k : ℕ) × (k < length (s ∷ ss)) × ((d : Shell A M O g h) → p (get_or (s ∷ ss) k d).port.who ≡ true)
+      by : (b : Bool) → p s.port.who ≡ b → (list_any p (crew_numbers ss) ≡ true → (k : ℕ) × (k < length ss) × ((d : Shell A M O g h) → p (get_or ss k d).port.who ≡ true)) → (k : ℕ) × (k < length (s ∷ ss)) × ((d : Shell A M O g h) → p (get_or (s ∷ ss) k d).port.who ≡ true)
       by true is later = (0, omega arith, λ d. is)
-      by false is later = let rest = later (ap (λ b. b || list_any p (numbers ss)) (sym is) ∙ e) in (suc rest.0, omega (arith, rest.1), λ d. rest.2 d)
+      by false is later = let rest = later (ap (λ b. b || list_any p (crew_numbers ss)) (sym is) ∙ e) in (suc rest.0, omega (arith, rest.1), λ d. rest.2 d)
 
   -- a shell for whose actor mail was pending, after a round in which it made no row and was not refused
   module _ (net next : Port M O h) (s before t after : Shell A M O g h) (number : ℕ) (looked : Looked net next) (first : net.who ≡ 0) (met : HasMet net s) (still : Still s before) (ahead : IsAhead net before) (sound : Sound before)
@@ -127,11 +127,11 @@ module _ {A M O : Type 0} {g : Ghosts A M O} {h : MailGhosts M} where
     pub served : Took before t → length (made t.port) ≡ length (made before.port) → Sound t → ⊥
     served took same calm = ⊎_elim (λ x. not_crashed (sound x.0)) (λ x. no_turn x.1.0 x.0 x.1.1 same calm) took.acts
 
-  made_grows : (s t : Shell A M O g h) → Goes s t → length (made s.port) ≤ length (made t.port)
+  made_grows : (s t : Shell A M O g h) → GoesByDeliveries s t → length (made s.port) ≤ length (made t.port)
   made_grows s t go = omega (arith, ap length go.made.all ∙ length-append (made s.port) go.made.rows)
 
   -- some shell makes a row in such a round
-  pub serves : (net next : Port M O h) (ss before ts after : List (Shell A M O g h)) → length before ≡ length ss → length ts ≡ length before → length after ≡ length ts → Looked net next → net.who ≡ 0 → CanBegin net ss (numbers ss) → AllStill ss before → AllAhead net before → AllSound before →
+  pub serves : (net next : Port M O h) (ss before ts after : List (Shell A M O g h)) → length before ≡ length ss → length ts ≡ length before → length after ≡ length ts → Looked net next → net.who ≡ 0 → CanBegin net ss (crew_numbers ss) → AllStill ss before → AllAhead net before → AllSound before →
       AllTook before ts → AllStill ts after → AllMet next after → AllOf net ss → AllSound ts → rows_made ts ≡ rows_made before → ⊥
   serves net next ss before ts after l m n looked first begin still ahead sound took later has one calm none =
       let w = waits_at (λ who. is_some (kth_pending h.receiver net.actors (seen net) who 1)) ss begin.waits in
@@ -154,14 +154,14 @@ module _ {A M O : Type 0} {g : Ghosts A M O} {h : MailGhosts M} where
               (calm k d t)
 
   -- so a round that is not refused makes a delivery
-  pub delivers_one : (net next : Port M O h) (ss before ts after : List (Shell A M O g h)) (did left : ℕ) → length before ≡ length ss → length ts ≡ length before → length after ≡ length ts → Looked net next → net.who ≡ 0 → CanBegin net ss (numbers ss) → AllStill ss before → AllAhead net before → AllSound before →
+  pub delivers_one : (net next : Port M O h) (ss before ts after : List (Shell A M O g h)) (did left : ℕ) → length before ≡ length ss → length ts ≡ length before → length after ≡ length ts → Looked net next → net.who ≡ 0 → CanBegin net ss (crew_numbers ss) → AllStill ss before → AllAhead net before → AllSound before →
       (did ≡ 0 → 0 < left → AllSound ts → AllTook before ts) → 0 < left → AllStill ts after → AllOver next after → AllOf net ss → AllSound ts → rows_made ts ≡ rows_made before + did → 0 < did
   delivers_one net next ss before ts after zero left l m n looked first begin still ahead sound whole some later over one calm count =
       absurd (serves net next ss before ts after l m n looked first begin still ahead sound (whole refl some calm) later (λ k d lt. record { begins = (over k d lt).begins }) one calm (omega (arith, count)))
   delivers_one net next ss before ts after (suc did) left l m n looked first begin still ahead sound whole some later over one calm count = omega arith
 
   -- the shells have the numbers that they had
-  pub numbers_go : (ss ts : List (Shell A M O g h)) → length ts ≡ length ss → AllGo ss ts → numbers ts ≡ numbers ss
+  pub numbers_go : (ss ts : List (Shell A M O g h)) → length ts ≡ length ss → AllGo ss ts → crew_numbers ts ≡ crew_numbers ss
   numbers_go [] [] l a = refl
   numbers_go [] (t ∷ ts) l a = absurd (omega arith)
   numbers_go (s ∷ ss) [] l a = absurd (omega arith)

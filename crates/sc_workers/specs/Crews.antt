@@ -7,7 +7,7 @@ use Rattle.sc_actor.specs.declared.actors.Parcel.{Ghosts as MailGhosts}
 use Rattle.sc_actor.specs.declared.rows.Row.{Row}
 use Rattle.sc_actor.specs.Mail.{is_delivery}
 use Rattle.sc_exchange.specs.declared.ports.Port.{Port}
-use Rattle.sc_exchange.specs.Deeds.{rows_of}
+use Rattle.sc_exchange.specs.BareRows.{rows_of}
 use Rattle.sc_exchange.specs.Ports.{seen, made, SameExchange, Stays, Looked}
 use Rattle.sc_shell.specs.declared.shells.Shell.{Shell}
 use Rattle.sc_shell.specs.declared.turns.Turn.{Turn}
@@ -32,18 +32,18 @@ refusal_in _ = OutOfMemory
 
 module _ {A M O : Type 0} {g : Ghosts A M O} {h : MailGhosts M} where
   -- The shell of the same actor, which is the replay of its rows if it was. Each row that it made since is a delivery.
-  pub record Goes (s t : Shell A M O g h) : Type 0 where
+  pub record GoesByDeliveries (s t : Shell A M O g h) : Type 0 where
     pub stays : Stays s.port t.port
     pub replay : KeepsReplay s t
     pub made : Delivers (made s.port) (made t.port)
 
   -- each shell is still that of its actor
   abbrev pub AllGo : List (Shell A M O g h) → List (Shell A M O g h) → Type 0
-  AllGo ss ts = (k : ℕ) (d : Shell A M O g h) → k < length ss → Goes (slice_index_or ss k d) (slice_index_or ts k d)
+  AllGo ss ts = (k : ℕ) (d : Shell A M O g h) → k < length ss → GoesByDeliveries (slice_index_or ss k d) (slice_index_or ts k d)
 
   -- a turn, or nothing where the shell was spent
   pub record Took (s t : Shell A M O g h) : Type 0 where
-    pub goes : Goes s t
+    pub goes : GoesByDeliveries s t
     pub acts : ((s.spent ≡ true) × (t ≡ s)) ⊎ ((s.spent ≡ false) × ((r : Turn) × Takes (state s) (state t) 1 r × (t.last ≡ Some r)))
 
   -- each shell took a turn, or was spent
@@ -98,8 +98,8 @@ module _ {A M O : Type 0} {g : Ghosts A M O} {h : MailGhosts M} where
   AllOver net ss = (k : ℕ) (d : Shell A M O g h) → k < length ss → IsOver net (slice_index_or ss k d)
 
   -- the numbers of the shells' actors
-  abbrev pub numbers : List (Shell A M O g h) → List ℕ
-  numbers ss = map (λ s. s.port.who) ss
+  abbrev pub crew_numbers : List (Shell A M O g h) → List ℕ
+  crew_numbers ss = map (λ s. s.port.who) ss
 
   -- how many rows the shells made in all
   abbrev pub rows_made : List (Shell A M O g h) → ℕ
@@ -107,7 +107,7 @@ module _ {A M O : Type 0} {g : Ghosts A M O} {h : MailGhosts M} where
 
   -- the same shell, which may have seen more
   pub record Still (s t : Shell A M O g h) : Type 0 where
-    pub goes : Goes s t
+    pub goes : GoesByDeliveries s t
     pub made : made t.port ≡ made s.port
     pub later : Begins (seen t.port) (seen s.port)
     pub spent : t.spent ≡ s.spent

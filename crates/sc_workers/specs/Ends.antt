@@ -31,7 +31,7 @@ IsFirst {M} {O} {h} net found = IsFetch h.receiver net.actors (seen net) net.who
 
 module _ {A M O : Type 0} {g : Ghosts A M O} {h : MailGhosts M} where
   -- A shell that is spent and has not crashed. After all rows that the port has seen its actor has a first pending mail, whose row by the actor's table passes the limit, and `bytes` is at most their counted bytes.
-  pub record IsRefused (start : Shell A M O g h) (net : Port M O h) (s : Shell A M O g h) (bytes : ℕ) : Type 0 where
+  pub record IsRefusedShell (start : Shell A M O g h) (net : Port M O h) (s : Shell A M O g h) (bytes : ℕ) : Type 0 where
     pub spent : s.spent ≡ true
     pub runs : s.port.crashed ≡ false
     pub number : ℕ
@@ -43,23 +43,23 @@ module _ {A M O : Type 0} {g : Ghosts A M O} {h : MailGhosts M} where
     pub told : bytes ≤ journal_bytes h.weighs (seen net)
 
   -- the cause of Full: a shell of the list was refused
-  pub record IsFull (start : List (Shell A M O g h)) (net : Port M O h) (ss : List (Shell A M O g h)) (bytes : ℕ) : Type 0 where
+  pub record HasRefusedShell (start : List (Shell A M O g h)) (net : Port M O h) (ss : List (Shell A M O g h)) (bytes : ℕ) : Type 0 where
     pub place : ℕ
     pub inside : place < length ss
-    pub refused : (d : Shell A M O g h) → IsRefused (slice_index_or start place d) net (slice_index_or ss place d) bytes
+    pub refused : (d : Shell A M O g h) → IsRefusedShell (slice_index_or start place d) net (slice_index_or ss place d) bytes
 
   -- Quiet where nothing is pending for the shells' actors, Limit where all deliveries were used and mail is pending. `used` counts the rows that the shells made since the start, which are fewer than the deliveries where a row was refused. But for want of memory the port has seen all that the shells have, and each row that they made delivers what was its actor's first pending mail.
   abbrev pub IsEnd : Rounds → Port M O h → List (Shell A M O g h) → List (Shell A M O g h) → List ℕ → ℕ → Type 0
   IsEnd (Quiet used) net start ss whos limit = AllOver net ss × (any_waits net whos ≡ false) × (used ≤ limit) × (rows_made ss ≡ rows_made start + used) × AllServe net start × AllSound ss
   IsEnd (Limit used) net start ss whos limit = AllOver net ss × (any_waits net whos ≡ true) × (used ≡ limit) × (rows_made ss ≡ rows_made start + used) × AllServe net start × AllSound ss
-  IsEnd (Full bytes) net start ss whos limit = AllOver net ss × IsFull start net ss bytes × (rows_made ss < rows_made start + limit) × AllServe net start
+  IsEnd (Full bytes) net start ss whos limit = AllOver net ss × HasRefusedShell start net ss bytes × (rows_made ss < rows_made start + limit) × AllServe net start
   IsEnd OutOfMemory net start ss whos limit = ⊤
 
   -- the end that a round comes to, where so many deliveries were made
   abbrev pub StepEnd : Rounds → Port M O h → List (Shell A M O g h) → List (Shell A M O g h) → List ℕ → ℕ → ℕ → Type 0
   StepEnd (Quiet told) net start ss whos limit used = AllOver net ss × (any_waits net whos ≡ false) × (told ≡ used)
   StepEnd (Limit told) net start ss whos limit used = AllOver net ss × (any_waits net whos ≡ true) × (told ≡ used) × (used ≡ limit)
-  StepEnd (Full bytes) net start ss whos limit used = AllOver net ss × IsFull start net ss bytes × (used < limit)
+  StepEnd (Full bytes) net start ss whos limit used = AllOver net ss × HasRefusedShell start net ss bytes × (used < limit)
   StepEnd OutOfMemory net start ss whos limit used = ⊤
 
   -- The port has seen all that the shells have, the rows of their actors there are those that they made, of its own number and of those that have no port there are none but its own, and each row there may stand where it does.

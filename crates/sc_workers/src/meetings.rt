@@ -3,7 +3,7 @@ ghost use Rattle.std.specs.Prelude.{◌≡◌, OnOk, IfOk};
 ghost use Rattle.sc_exchange.specs.Ports.{SameExchange};
 ghost use Rattle.sc_shell.specs.Shells.{port_of};
 ghost use Rattle.sc_workers.specs.Ends.{IsGathered, IsFirst};
-ghost use Rattle.sc_workers.specs.Crews.{AllOf, AllMet, AreStill, HaveMet, HaveVouched, HasMet, Met, VouchedFor, numbers};
+ghost use Rattle.sc_workers.specs.Crews.{AllOf, AllMet, AreStill, HaveMet, HaveVouched, HasMet, Met, VouchedFor, crew_numbers};
 
 use sc_actor::Actor;
 use sc_base::OutOfMemory;
@@ -108,7 +108,7 @@ pub(crate) fn numbers_of<A: Actor>(
     alloc: Global,
     shells: &[Shell<A>],
 ) -> Result<Vec<u32>, OutOfMemory>
-    ensures { IfOk result (λ whos. whos.items ≡ numbers shells.now) }
+    ensures { IfOk result (λ whos. whos.items ≡ crew_numbers shells.now) }
 {
     let mut whos = Vec::new(alloc);
     for shell in shells {

@@ -1,7 +1,7 @@
 //! The rounds.
 ghost use Rattle.std.specs.Prelude.{◌≡◌, ◌<◌, ◌≤◌, ◌+◌, None, IfSome, length};
 ghost use Rattle.sc_workers.specs.Ends.{IsEnd, StepEnd, RefusedEnd, IsGathered, CanBegin, IfCalm, IfHeld};
-ghost use Rattle.sc_workers.specs.Crews.{AllOf, AllTook, AllPassed, AllSound, AreLater, AreStill, HasRefusal, IsCrew, numbers, rows_made};
+ghost use Rattle.sc_workers.specs.Crews.{AllOf, AllTook, AllPassed, AllSound, AreLater, AreStill, HasRefusal, IsCrew, crew_numbers, rows_made};
 ghost use Rattle.sc_shell.specs.declared.turns.Turn.{Turn};
 ghost use Rattle.sc_workers.specs.Services.{AllServe};
 
@@ -115,7 +115,7 @@ fn step<A: Actor, G: Gate, R: Threads + Wait + Sync>(
 ) -> Option<Rounds>
     requires workers { 0 < workers }
     requires crew { IsCrew net.old shells.old.items }
-    requires whos { whos.now ≡ numbers shells.old.items }
+    requires whos { whos.now ≡ crew_numbers shells.old.items }
     requires begin { CanBegin net.old shells.old.items whos.now }
     requires used { used.old < limit }
     ensures later { AreLater net.old net.new shells.old.items shells.new.items }
@@ -163,7 +163,7 @@ pub fn rounds<A: Actor, G: Gate, R: Threads + Wait + Sync>(
     requires workers { (1 ≤ workers) × (workers ≤ 16) }
     requires crew { IsCrew net.old shells.old.items }
     ensures later { AreLater net.old net.new shells.old.items shells.new.items }
-    ensures end { IsEnd result net.new shells.old.items shells.new.items (numbers shells.old.items)
+    ensures end { IsEnd result net.new shells.old.items shells.new.items (crew_numbers shells.old.items)
         limit }
 {
     let Ok(whos) = numbers_of(alloc, shells.as_slice()) else {

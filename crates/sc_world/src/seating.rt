@@ -1,7 +1,7 @@
 //! The actors and the schedule of a scenario.
 ghost use Rattle.std.specs.Prelude.{◌≡◌, ◌≤◌, ◌↔◌, IsTrue, true, length, All, IfOk, OnOk, ◌++◌, map};
 ghost use Rattle.sc_base.specs.Limits.{most_requests};
-ghost use Rattle.sc_node_table.specs.Slots.{numbers};
+ghost use Rattle.sc_node_table.specs.Slots.{numbers_from};
 ghost use Rattle.sc_node_table.specs.Node.{are_in_order};
 ghost use Rattle.sc_players.specs.Players.{births, schedule, node_seat, client_seat, client_seats, route_of, line_of, AreFew, as_nodes};
 
@@ -58,7 +58,7 @@ fn add_nodes(
 ) -> Result<(), OutOfMemory>
     requires { are_in_order groups.now ≡ true }
     ensures { OnOk result (seats.new.items ≡
-        seats.old.items ++ map (node_seat as_nodes groups.now) (numbers 1 nodes)) }
+        seats.old.items ++ map (node_seat as_nodes groups.now) (numbers_from 1 nodes)) }
 {
     for done in 0..nodes {
         seats.push(node_seat(alloc, groups, done + 1)?)?;

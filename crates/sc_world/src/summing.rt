@@ -11,7 +11,7 @@ use sc_client::ClientCore;
 use sc_cmd::OrderLine;
 use sc_mail::Mail;
 use sc_players::got_by;
-use sc_report::{Asked, Got};
+use sc_report::{Asked, Progress};
 use std::alloc::Global;
 
 /// A count that a report can tell: more than 2^32 - 1 rows or mails have no room in memory.
@@ -24,7 +24,7 @@ pub fn small(n: usize) -> Result<u32, OutOfMemory>
     Ok(n as u32)
 }
 
-fn got_at(alloc: Global, client: &ClientCore, i: usize, seq: u32) -> Result<Got, OutOfMemory>
+fn got_at(alloc: Global, client: &ClientCore, i: usize, seq: u32) -> Result<Progress, OutOfMemory>
     ensures { IfOk result (λ got. got ≡ got_of (slice_get client.now.replies i) client.now seq) }
 {
     let waits = client.waiting() == Some(seq);

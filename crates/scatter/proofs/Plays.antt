@@ -24,7 +24,7 @@ use Rattle.sc_group_law.specs.Laws.{ValidHaveOneGroup, GroupJournalsAreSound}
 use Rattle.scatter.specs.Sound.{IsSoundThroughout}
 use Rattle.sc_statuses.specs.Causes.{said_of}
 use Rattle.scatter.specs.declared.done.Text.{Text}
-use Rattle.scatter.specs.Played.{mail_weight, HasEnded as Ends, HasFilled}
+use Rattle.scatter.specs.Played.{mail_weight, HasPlayedToEnd, HasFilled}
 use Rattle.scatter.specs.Run.{journal_limit, Plays, ReportsAs}
 
 -- an answer other than a want of memory
@@ -57,7 +57,7 @@ module _ (one : ValidHaveOneGroup) (law : GroupJournalsAreSound) (scenario : Sce
   pub ends : (cut quiet : Bool) (skips : ℕ) (left : List Player) →
       IsLawful (system_of as_nodes no_words scenario) lines journal → IsWhole (system_of as_nodes no_words scenario) lines journal → journal_bytes mail_weight journal ≤ limit →
       cut ≡ unsettled (system_of as_nodes no_words scenario) lines journal → quiet ≡ is_quiet (system_of as_nodes no_words scenario) journal → skips ≡ skipped (system_of as_nodes no_words scenario) lines journal →
-      left ≡ parties as_nodes scenario journal → Ends scenario limit cut quiet skips journal left
+      left ≡ parties as_nodes scenario journal → HasPlayedToEnd scenario limit cut quiet skips journal left
   ends cut quiet skips left lawful whole within cut_is quiet_is skips_are parties_are =
       let allowed : Lawful as_nodes no_words scenario journal = subst (λ l. IsLawful (system_of as_nodes no_words scenario) l journal) lines_are lawful in
       record {
@@ -78,7 +78,7 @@ module _ (one : ValidHaveOneGroup) (law : GroupJournalsAreSound) (scenario : Sce
       record { full = full; sound = sound_throughout one law scenario valid journal full.lawful }
 
 plays : (scenario : Scenario) (cut quiet : Bool) (skips : ℕ) (journal : List (Row Mail OrderLine)) (parties : List Player) (text : Text) →
-    Ends scenario journal_limit cut quiet skips journal parties → text.lines ≡ report_lines (summary_of scenario journal) → text.journal ≡ Some journal → text.parties ≡ parties → Plays scenario cut text
+    HasPlayedToEnd scenario journal_limit cut quiet skips journal parties → text.lines ≡ report_lines (summary_of scenario journal) → text.journal ≡ Some journal → text.parties ≡ parties → Plays scenario cut text
 plays scenario cut quiet skips journal parties text e lines journal_is parties_is = record {
   journal = journal;
   reports = record { lawful = e.lawful; whole = e.whole; within = e.within; sound = e.sound; lines = lines; journal_is = journal_is; parties_are = parties_is ∙ e.parties_are };
@@ -87,6 +87,6 @@ plays scenario cut quiet skips journal parties text e lines journal_is parties_i
 
 -- the text of a run that ended, by whether a line was cut off
 pub reports_as : (scenario : Scenario) (cut quiet : Bool) (skips : ℕ) (journal : List (Row Mail OrderLine)) (parties : List Player) (text : Text) →
-    Ends scenario journal_limit cut quiet skips journal parties → text.lines ≡ report_lines (summary_of scenario journal) → text.journal ≡ Some journal → text.parties ≡ parties → ReportsAs (said_of cut) scenario text
+    HasPlayedToEnd scenario journal_limit cut quiet skips journal parties → text.lines ≡ report_lines (summary_of scenario journal) → text.journal ≡ Some journal → text.parties ≡ parties → ReportsAs (said_of cut) scenario text
 reports_as scenario true quiet skips journal parties text e lines journal_is parties_is = plays scenario true quiet skips journal parties text e lines journal_is parties_is
 reports_as scenario false quiet skips journal parties text e lines journal_is parties_is = plays scenario false quiet skips journal parties text e lines journal_is parties_is

@@ -19,7 +19,7 @@ abbrev pub mail_weight : Mail → ℕ
 mail_weight mail = body_weight mail.body
 
 -- The journal is lawful and whole and within the limit, each first part of it tells one legal history, the counts are the walk's, and each party is its replay.
-pub record HasEnded (scenario : Scenario) (limit : ℕ) (cut quiet : Bool) (skips : ℕ) (journal : List (Row Mail OrderLine)) (left : List Player) : Type 0 where
+pub record HasPlayedToEnd (scenario : Scenario) (limit : ℕ) (cut quiet : Bool) (skips : ℕ) (journal : List (Row Mail OrderLine)) (left : List Player) : Type 0 where
   pub lawful : Lawful as_nodes no_words scenario journal
   pub whole : Whole as_nodes no_words scenario journal
   pub sound : IsSoundThroughout scenario journal
@@ -36,6 +36,6 @@ pub record HasFilled (scenario : Scenario) (limit : ℕ) (journal : List (Row Ma
 
 -- How a scenario was played within a limit: the journal, and the parties as they were left.
 abbrev pub IsPlayed : Scenario → ℕ → List (Row Mail OrderLine) → List Player → Played → Type 0
-IsPlayed scenario limit journal left (Ended cut quiet skips) = HasEnded scenario limit cut quiet skips journal left
+IsPlayed scenario limit journal left (Ended cut quiet skips) = HasPlayedToEnd scenario limit cut quiet skips journal left
 IsPlayed scenario limit journal left Full = HasFilled scenario limit journal
 IsPlayed scenario limit journal left OutOfMemory = ⊤

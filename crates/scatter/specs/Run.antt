@@ -47,7 +47,7 @@ abbrev pub journal_limit : ℕ
 journal_limit = 2 ^ 30
 
 -- The text is the report of a scenario and a journal of it that is lawful, whole and within the limit, of which each first part tells one legal history, and the parties are the replays of their rows.
-pub record Reports (scenario : Scenario) (journal : List (Row Mail OrderLine)) (text : Text) : Type 0 where
+pub record ReportsJournal (scenario : Scenario) (journal : List (Row Mail OrderLine)) (text : Text) : Type 0 where
   pub lawful : Lawful as_nodes no_words scenario journal
   pub whole : Whole as_nodes no_words scenario journal
   pub within : journal_bytes mail_weight journal ≤ journal_limit
@@ -59,11 +59,11 @@ pub record Reports (scenario : Scenario) (journal : List (Row Mail OrderLine)) (
 -- The text is the report of some journal of the scenario, which is unsettled or not.
 pub record Plays (scenario : Scenario) (cut : Bool) (text : Text) : Type 0 where
   pub journal : List (Row Mail OrderLine)
-  pub reports : Reports scenario journal text
+  pub reports : ReportsJournal scenario journal text
   pub cut_is : unsettled (system_of as_nodes no_words scenario) (schedule scenario) journal ≡ cut
 
 -- The text tells of some journal of the scenario that it is full: a row that may come next passes the limit.
-pub record Fills (scenario : Scenario) (text : Text) : Type 0 where
+pub record PlaysUntilFull (scenario : Scenario) (text : Text) : Type 0 where
   pub journal : List (Row Mail OrderLine)
   pub filled : HasFilled scenario journal_limit journal
   pub tells : TellsFull journal text
@@ -72,7 +72,7 @@ pub record Fills (scenario : Scenario) (text : Text) : Type 0 where
 abbrev pub ReportsAs : Said → Scenario → Text → Type 0
 ReportsAs Ended scenario text = Plays scenario false text
 ReportsAs Unsettled scenario text = Plays scenario true text
-ReportsAs Filled scenario text = Fills scenario text
+ReportsAs Filled scenario text = PlaysUntilFull scenario text
 ReportsAs _ scenario text = ⊥
 
 -- the same of the scenario that was read, which is valid whether or not the source told its bytes

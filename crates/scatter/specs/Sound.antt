@@ -5,11 +5,11 @@ use Rattle.sc_cmd.specs.declared.orders.OrderLine.{OrderLine}
 use Rattle.sc_mail.specs.declared.bodies.Mail.{Mail}
 use Rattle.sc_actor.specs.declared.rows.Row.{Row}
 use Rattle.sc_scenario.specs.declared.scenarios.Scenario.{Scenario}
-use Rattle.sc_group_law.specs.Laws.{IsSound}
+use Rattle.sc_group_law.specs.Laws.{IsSoundForOne}
 use Rattle.sc_players.specs.Players.{as_nodes}
 
 -- The scenario has one group, and each first part of the journal is sound: one value per slot, replicas that have executed a front of one log, and one legal history of the scenario's requests, in the order of real time.
 pub record IsSoundThroughout (scenario : Scenario) (journal : List (Row Mail OrderLine)) : Type 0 where
   pub base : Base
   pub one_group : scenario.groups ≡ base ∷ []
-  pub sound : (rows more : List (Row Mail OrderLine)) → journal ≡ rows ++ more → IsSound as_nodes scenario base rows more
+  pub sound : (rows more : List (Row Mail OrderLine)) → journal ≡ rows ++ more → IsSoundForOne as_nodes scenario base rows more

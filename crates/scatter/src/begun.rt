@@ -1,6 +1,6 @@
 //! The beginning of a run.
 ghost use Rattle.std.specs.Prelude.{◌≡◌, ◌≤◌, ◌^◌, [], IfOk};
-ghost use Rattle.sc_exchange.specs.Ports.{joined};
+ghost use Rattle.sc_exchange.specs.Ports.{joined_ports};
 ghost use Rattle.sc_drive.specs.Companies.{AtBirth};
 ghost use Rattle.sc_scenario.specs.Valid.{IsValid};
 ghost use Rattle.sc_players.specs.Players.{births, as_nodes};
@@ -29,7 +29,7 @@ pub fn begin(
     requires limit { limit ≤ 2 ^ 30 }
     ensures births { IfOk result
         (λ begun. AtBirth (births as_nodes scenario.now) begun.0 begun.1.items) }
-    ensures unjoined { IfOk result (λ begun. joined begun.0 ≡ []) }
+    ensures unjoined { IfOk result (λ begun. joined_ports begun.0 ≡ []) }
     ensures limit { IfOk result (λ begun. begun.0.limit ≡ limit) }
 {
     valid_scenarios_can_play();

@@ -3,13 +3,13 @@ use sc_actor::Journal;
 use sc_base::Sequence;
 use sc_cmd::OrderLine;
 use sc_mail::Mail;
-use sc_report::Line;
+use sc_report::ReportLine;
 use sc_world::Party;
 
 /// A text to be printed, and the journal and the parties that it is about.
 #[derive(Drop)]
 pub struct Text {
-    pub lines: Sequence<Line>,
+    pub lines: Sequence<ReportLine>,
     pub journal: Option<Journal<Mail, OrderLine>>,
     pub parties: Sequence<Party>,
 }

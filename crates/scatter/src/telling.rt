@@ -7,7 +7,7 @@ use sc_actor::Journal;
 use sc_base::{OutOfMemory, Sequence};
 use sc_cmd::OrderLine;
 use sc_mail::Mail;
-use sc_report::Line;
+use sc_report::ReportLine;
 use std::alloc::Global;
 
 /// A text of one line, about no journal.
@@ -17,7 +17,7 @@ pub fn tells(alloc: Global, message: &[u8]) -> Result<Text, OutOfMemory>
     let mut bytes = Vec::from_slice(alloc, message)?;
     bytes.push(b'\n')?;
     let mut lines = Sequence::new(alloc);
-    lines.push(Line::from_vec(bytes))?;
+    lines.push(ReportLine::from_vec(bytes))?;
     Ok(Text {
         lines,
         journal: None,
@@ -26,13 +26,13 @@ pub fn tells(alloc: Global, message: &[u8]) -> Result<Text, OutOfMemory>
 }
 
 // The line that a journal is full after so many rows.
-fn full_line(alloc: Global, rows: u64) -> Result<Line, OutOfMemory>
+fn full_line(alloc: Global, rows: u64) -> Result<ReportLine, OutOfMemory>
     ensures { IfOk result (λ line. line ≡ full_line rows) }
 {
     let text = format!(in alloc; "journal full after {rows} rows")?;
     let mut bytes = Vec::from_slice(alloc, text.as_bytes())?;
     bytes.push(b'\n')?;
-    Ok(Line::from_vec(bytes))
+    Ok(ReportLine::from_vec(bytes))
 }
 
 /// The text about a journal that is full.

@@ -1,10 +1,10 @@
 use Rattle.std.proofs.Common.{◌≡◌, ◌-◌, [], ◌∷◌}
-use Rattle.sc_checker.specs.Moves.{Goes, many, rules_of}
+use Rattle.sc_checker.specs.Moves.{StageGoes, many, rules_of}
 use Rattle.sc_checker.specs.Checks.{IsTaking}
 use Rattle.sc_checker.proofs.checking.check_many.Given as goal
 
 abbrev pub invariant-loop-done : goal.invariant-loop-done
 invariant-loop-done g l =
-    Goes (rules_of g.A.Actor.table g.A.Mail.Parcel.receiver) l.initial.stage (many l.free l.most ∷ []) l.stage (many l.free (l.most - l.done) ∷ [])
+    StageGoes (rules_of g.A.Actor.table g.A.Mail.Parcel.receiver) l.initial.stage (many l.free l.most ∷ []) l.stage (many l.free (l.most - l.done) ∷ [])
     × IsTaking l.stage l.rows
     × (l.stage.skipped ≡ l.initial.stage.skipped)

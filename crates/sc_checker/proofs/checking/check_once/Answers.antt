@@ -1,15 +1,15 @@
 use Rattle.std.proofs.Common.{arith, refl, sym, ◌∙◌}
 use Rattle.std.proofs.lemmas.Bool.{MatchBool-at_true, MatchBool-at_false}
-use Rattle.sc_checker.specs.Checks.{Took, Misses}
+use Rattle.sc_checker.specs.Checks.{DidWithRow, Misses}
 use Rattle.sc_checker.specs.Moves.{rules_of}
 use Rattle.sc_checker.proofs.Checks.{room_mails, Ends-line, Breaks-line, taking_next, taking_same, next_row}
-use Rattle.sc_checker.proofs.Steps.{Goes-skip, Goes-line}
+use Rattle.sc_checker.proofs.Steps.{StageGoes-skip, StageGoes-line}
 use Rattle.sc_checker.proofs.checking.check_once.Goals as goal
 
 pub returns-in_default-clause-is : goal.returns-in_default-clause-is
 returns-in_default-clause-is g c =
     let r = rules_of g.A.Actor.table g.A.Mail.Parcel.receiver in (
-      Goes-skip r c.args.stage.now _ c.args.line.now (sym c.in_ok-deed.ensures.is ∙ c.in_default.is) (record { rows = refl; seats = refl }) refl refl,
+      StageGoes-skip r c.args.stage.now _ c.args.line.now (sym c.in_ok-deed.ensures.is ∙ c.in_default.is) (record { rows = refl; seats = refl }) refl refl,
       taking_same c.args.stage.now _ c.args.rows.now refl refl refl c.requires.taking,
     )
 
@@ -22,8 +22,8 @@ pub returns-then-branch-clause-is : goal.returns-then-branch-clause-is
 returns-then-branch-clause-is g c =
     let r = rules_of g.A.Actor.table g.A.Mail.Parcel.receiver in
     let next = next_row c.args.stage.now.rows c.args.rows.now c.index-rows-at.result c.len-at.result c.len-at.ensures c.if-at-rows.false c.index-rows-at.is in
-    let took = MatchBool-at_true (Took r c.args.stage.now c.take_row.new.stage c.in-Some.deed c.index-rows-at.result) (Misses r c.args.stage.now c.in-Some.deed c.index-rows-at.result) c.if-branch.true c.in_ok-take_row.ensures.took in (
-      Goes-line r c.args.stage.now c.take_row.new.stage c.args.line.now c.in-Some.deed (sym c.in_ok-deed.ensures.is ∙ c.in-Some.is) took.did,
+    let took = MatchBool-at_true (DidWithRow r c.args.stage.now c.take_row.new.stage c.in-Some.deed c.index-rows-at.result) (Misses r c.args.stage.now c.in-Some.deed c.index-rows-at.result) c.if-branch.true c.in_ok-take_row.ensures.took in (
+      StageGoes-line r c.args.stage.now c.take_row.new.stage c.args.line.now c.in-Some.deed (sym c.in_ok-deed.ensures.is ∙ c.in-Some.is) took.did,
       taking_next r c.args.stage.now c.take_row.new.stage c.in-Some.deed c.index-rows-at.result c.args.rows.now c.requires.taking next.more next.is took,
     )
 
@@ -31,7 +31,7 @@ pub returns-else-branch-clause-is : goal.returns-else-branch-clause-is
 returns-else-branch-clause-is g c =
     let r = rules_of g.A.Actor.table g.A.Mail.Parcel.receiver in
     let next = next_row c.args.stage.now.rows c.args.rows.now c.index-rows-at.result c.len-at.result c.len-at.ensures c.if-at-rows.false c.index-rows-at.is in
-    let misses = MatchBool-at_false (Took r c.args.stage.now c.take_row.new.stage c.in-Some.deed c.index-rows-at.result) (Misses r c.args.stage.now c.in-Some.deed c.index-rows-at.result) c.if-branch.false c.in_ok-take_row.ensures.took in
+    let misses = MatchBool-at_false (DidWithRow r c.args.stage.now c.take_row.new.stage c.in-Some.deed c.index-rows-at.result) (Misses r c.args.stage.now c.in-Some.deed c.index-rows-at.result) c.if-branch.false c.in_ok-take_row.ensures.took in
     Breaks-line r c.args.stage.now c.args.stage.now c.args.rows.now c.args.line.now c.in-Some.deed c.index-rows-at.result (sym c.in_ok-deed.ensures.is ∙ c.in-Some.is) misses c.requires.taking.follows next.more next.is
 
 pub returns-then-at-rows-clause-is : goal.returns-then-at-rows-clause-is

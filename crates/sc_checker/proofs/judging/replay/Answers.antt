@@ -5,14 +5,14 @@ use Rattle.sc_checker.specs.Moves.{rules_of}
 use Rattle.sc_actor.specs.Walk.{line_task}
 use Rattle.sc_actor.proofs.TaskLemmas.{one_task_at}
 use Rattle.sc_checker.proofs.Checks.{taking_begin}
-use Rattle.sc_checker.proofs.Steps.{At-begin, At-line, At-end}
+use Rattle.sc_checker.proofs.Steps.{IsStageAt-begin, IsStageAt-line, IsStageAt-end}
 use Rattle.sc_checker.proofs.Judged.{judged_all, judged_ends, judged_breaks, late, leaves}
 use Rattle.sc_checker.proofs.judging.replay.Goals as goal
 
 pub loop-line-init : goal.loop-line-init
 loop-line-init g c =
     let r = rules_of g.A.Actor.table g.A.Mail.Parcel.receiver in (
-      λ words. At-begin r words c.args.seats.items c.args.lines.now _ c.requires.apart refl c.new.ensures refl refl,
+      λ words. IsStageAt-begin r words c.args.seats.items c.args.lines.now _ c.requires.apart refl c.new.ensures refl refl,
       taking_begin _ c.args.rows.now c.new.ensures c.new-2.ensures.items c.new-3.ensures.items c.requires.few_rows c.requires.few_mails,
       omega arith,
     )
@@ -37,7 +37,7 @@ loop-line-preserved g c =
     let r = rules_of g.A.Actor.table g.A.Mail.Parcel.receiver in
     let one = one_task_at c.args.lines.now c.requires.tasks c.loop-line.line-index c.line-item.result c.loop-line-test.true c.line-item.is in
     let on : IsChecked r c.loop-line.stage (line_task c.line-item.result ∷ []) c.check_line.new.stage c.args.rows.now On = subst (IsChecked r c.loop-line.stage (line_task c.line-item.result ∷ []) c.check_line.new.stage c.args.rows.now) c.in-On.is c.in_ok-check_line.ensures.is in (
-      λ words. At-line r words c.args.seats.items c.args.lines.now c.loop-line.stage c.check_line.new.stage c.loop-line.line-index c.line-item.result c.loop-line-test.true c.line-item.is one (c.loop-line.invariant.0 words) on.0,
+      λ words. IsStageAt-line r words c.args.seats.items c.args.lines.now c.loop-line.stage c.check_line.new.stage c.loop-line.line-index c.line-item.result c.loop-line-test.true c.line-item.is one (c.loop-line.invariant.0 words) on.0,
       on.1,
       omega (arith, c.in_ok-check_line.ensures.skipped, c.loop-line.invariant.2),
     )
@@ -47,13 +47,13 @@ returns-then-len-rows g c = λ words.
     let r = rules_of g.A.Actor.table g.A.Mail.Parcel.receiver in
     late r words c.args.seats.items c.args.lines.now c.loop-line.stage c.args.rows.now
     (λ same. absurd (c.if-len-rows.true (c.len.ensures ∙ same)))
-    (At-end r words c.args.seats.items c.args.lines.now c.loop-line.stage c.loop-line.line-index (omega (arith, c.loop-line-test.false)) (c.loop-line.invariant.0 words))
+    (IsStageAt-end r words c.args.seats.items c.args.lines.now c.loop-line.stage c.loop-line.line-index (omega (arith, c.loop-line-test.false)) (c.loop-line.invariant.0 words))
     c.loop-line.invariant.1.follows
 
 pub returns : goal.returns
 returns g c = λ words.
     let r = rules_of g.A.Actor.table g.A.Mail.Parcel.receiver in
     let has = judged_all r words c.args.seats.items c.args.lines.now c.loop-line.stage c.args.rows.now (sym c.len.ensures ∙ c.if-len-rows.false)
-    (At-end r words c.args.seats.items c.args.lines.now c.loop-line.stage c.loop-line.line-index (omega (arith, c.loop-line-test.false)) (c.loop-line.invariant.0 words))
+    (IsStageAt-end r words c.args.seats.items c.args.lines.now c.loop-line.stage c.loop-line.line-index (omega (arith, c.loop-line-test.false)) (c.loop-line.invariant.0 words))
     c.loop-line.invariant.1.follows in
     leaves r words c.args.seats.items c.args.lines.now c.loop-line.stage c.args.rows.now has.0 has.1 c.left_by-2.result c.left_by-2.ensures

@@ -1,6 +1,6 @@
 use Rattle.std.proofs.Common.{refl, subst}
 use Rattle.sc_workers.specs.declared.answers.Rounds.TheVariants.{Quiet, Limit, Full}
-use Rattle.sc_workers.specs.Crews.{numbers}
+use Rattle.sc_workers.specs.Crews.{crew_numbers}
 use Rattle.sc_workers.specs.Ends.{IsEnd}
 use Rattle.sc_workers.proofs.Crews.{all_of_on, still_sound}
 use Rattle.sc_drive.proofs.FreeSteps.{frees_quiet, frees_cut, frees_full}
@@ -11,7 +11,7 @@ pub returns-in-Quiet-clause-on : goal.returns-in-Quiet-clause-on
 returns-in-Quiet-clause-on g c =
     let net = c.args.net.now in let mid = c.rounds-end.new.net in let next = c.gather.new.net in let ss = c.args.shells.now.items in let mids = c.rounds-end.new.shells.items in let after = c.gather.new.shells.items in
     let later = c.rounds-end.ensures.later in let still = c.gather.ensures.still in let gathered = c.in-Ok.ensures.gathered in
-    let end : IsEnd (Quiet c.in-Quiet.used) mid ss mids (numbers ss) c.args.most = subst (λ r. IsEnd r mid ss mids (numbers ss) c.args.most) c.in-Quiet.is c.rounds-end.ensures.end in
+    let end : IsEnd (Quiet c.in-Quiet.used) mid ss mids (crew_numbers ss) c.args.most = subst (λ r. IsEnd r mid ss mids (crew_numbers ss) c.args.most) c.in-Quiet.is c.rounds-end.ensures.end in
     record {
       kept = kept_gone net mid next ss mids after c.requires.together.crew.exchange later still gathered;
       sound = still_sound mids after still.len still.still end.5;
@@ -21,7 +21,7 @@ pub returns-in-Limit-clause-on : goal.returns-in-Limit-clause-on
 returns-in-Limit-clause-on g c =
     let net = c.args.net.now in let mid = c.rounds-end.new.net in let next = c.gather.new.net in let ss = c.args.shells.now.items in let mids = c.rounds-end.new.shells.items in let after = c.gather.new.shells.items in
     let later = c.rounds-end.ensures.later in let still = c.gather.ensures.still in let gathered = c.in-Ok.ensures.gathered in
-    let end : IsEnd (Limit c.in-Limit.used) mid ss mids (numbers ss) c.args.most = subst (λ r. IsEnd r mid ss mids (numbers ss) c.args.most) c.in-Limit.is c.rounds-end.ensures.end in
+    let end : IsEnd (Limit c.in-Limit.used) mid ss mids (crew_numbers ss) c.args.most = subst (λ r. IsEnd r mid ss mids (crew_numbers ss) c.args.most) c.in-Limit.is c.rounds-end.ensures.end in
     record {
       kept = kept_gone net mid next ss mids after c.requires.together.crew.exchange later still gathered;
       sound = still_sound mids after still.len still.still end.5;
@@ -37,7 +37,7 @@ pub returns-in-Quiet-clause-goes : goal.returns-in-Quiet-clause-goes
 returns-in-Quiet-clause-goes g c =
     let net = c.args.net.now in let mid = c.rounds-end.new.net in let next = c.gather.new.net in let ss = c.args.shells.now.items in let mids = c.rounds-end.new.shells.items in let after = c.gather.new.shells.items in
     let later = c.rounds-end.ensures.later in let still = c.gather.ensures.still in let gathered = c.in-Ok.ensures.gathered in
-    let end : IsEnd (Quiet c.in-Quiet.used) mid ss mids (numbers ss) c.args.most = subst (λ r. IsEnd r mid ss mids (numbers ss) c.args.most) c.in-Quiet.is c.rounds-end.ensures.end in
+    let end : IsEnd (Quiet c.in-Quiet.used) mid ss mids (crew_numbers ss) c.args.most = subst (λ r. IsEnd r mid ss mids (crew_numbers ss) c.args.most) c.in-Quiet.is c.rounds-end.ensures.end in
     frees_quiet net mid next ss mids after c.args.score.now c.args.score.now c.args.most later.looked later.len later.go still.looked still.len still.still
     gathered gathered.rows c.in-Quiet.used end refl refl refl
 
@@ -45,7 +45,7 @@ pub returns-in-Limit-clause-goes : goal.returns-in-Limit-clause-goes
 returns-in-Limit-clause-goes g c =
     let net = c.args.net.now in let mid = c.rounds-end.new.net in let next = c.gather.new.net in let ss = c.args.shells.now.items in let mids = c.rounds-end.new.shells.items in let after = c.gather.new.shells.items in
     let later = c.rounds-end.ensures.later in let still = c.gather.ensures.still in let gathered = c.in-Ok.ensures.gathered in
-    let end : IsEnd (Limit c.in-Limit.used) mid ss mids (numbers ss) c.args.most = subst (λ r. IsEnd r mid ss mids (numbers ss) c.args.most) c.in-Limit.is c.rounds-end.ensures.end in
+    let end : IsEnd (Limit c.in-Limit.used) mid ss mids (crew_numbers ss) c.args.most = subst (λ r. IsEnd r mid ss mids (crew_numbers ss) c.args.most) c.in-Limit.is c.rounds-end.ensures.end in
     frees_cut net mid next ss mids after c.args.score.now _ c.args.most later.looked later.len later.go still.looked still.len still.still
     gathered gathered.rows c.in-Limit.used end refl refl refl
 
@@ -53,7 +53,7 @@ pub returns-in-Full-clause-fills : goal.returns-in-Full-clause-fills
 returns-in-Full-clause-fills g c = λ _.
     let net = c.args.net.now in let mid = c.rounds-end.new.net in let next = c.gather.new.net in let ss = c.args.shells.now.items in let mids = c.rounds-end.new.shells.items in let after = c.gather.new.shells.items in
     let later = c.rounds-end.ensures.later in let still = c.gather.ensures.still in let gathered = c.in-Ok.ensures.gathered in
-    let end : IsEnd (Full c.in-Full.bytes) mid ss mids (numbers ss) c.args.most = subst (λ r. IsEnd r mid ss mids (numbers ss) c.args.most) c.in-Full.is c.rounds-end.ensures.end in
+    let end : IsEnd (Full c.in-Full.bytes) mid ss mids (crew_numbers ss) c.args.most = subst (λ r. IsEnd r mid ss mids (crew_numbers ss) c.args.most) c.in-Full.is c.rounds-end.ensures.end in
     frees_full net mid next ss mids after c.args.score.now c.args.score.now c.args.most later.looked later.len later.go still.looked still.len still.still
     gathered gathered.rows c.in-Full.bytes end
 

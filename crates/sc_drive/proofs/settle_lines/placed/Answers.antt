@@ -1,5 +1,5 @@
 use Rattle.std.proofs.Common.{None, Some, refl, sym, subst}
-use Rattle.sc_drive.specs.Lowest.{IsPlaced}
+use Rattle.sc_drive.specs.Lowest.{IsReceiverAt}
 use Rattle.sc_drive.specs.Stepping.{IsPlace}
 use Rattle.sc_drive.proofs.Kept.{on_same}
 use Rattle.sc_drive.proofs.LowestMail.{finds_so}
@@ -14,7 +14,7 @@ returns-in_default-clause-rests g c = λ births company. (company, refl)
 pub returns-in_default-clause-finds : goal.returns-in_default-clause-finds
 returns-in_default-clause-finds g c =
     let net = c.args.net.now in let ss = c.args.shells.now.items in
-    finds_so net ss c.args.found.now None c.requires.first (subst (λ found. IsPlaced ss found None) (sym c.in_default.is) tt)
+    finds_so net ss c.args.found.now None c.requires.first (subst (λ found. IsReceiverAt ss found None) (sym c.in_default.is) tt)
 
 pub returns-in-Some-clause-on : goal.returns-in-Some-clause-on
 returns-in-Some-clause-on g c = on_same c.args.net.now c.args.shells.now.items c.requires.together
@@ -27,4 +27,4 @@ returns-in-Some-clause-finds g c =
     let net = c.args.net.now in let ss = c.args.shells.now.items in let place = c.in-Some.place in
     let at : IsPlace ss c.to.result place = subst (λ l. IsPlace l c.to.result place) c.as_slice.ensures.value c.in-Some.ensures.some in
     finds_so net ss c.args.found.now (Some place) c.requires.first
-    (subst (λ found. IsPlaced ss found (Some place)) (sym c.in-Mail.is) (subst (λ who. IsPlace ss who place) c.to.ensures at))
+    (subst (λ found. IsReceiverAt ss found (Some place)) (sym c.in-Mail.is) (subst (λ who. IsPlace ss who place) c.to.ensures at))

@@ -1,8 +1,8 @@
 use Rattle.std.proofs.Common.{rules, ◌≡◌, ◌∙◌, refl, sym, ap, subst, false}
 use Rattle.std.proofs.lemmas.Result.{on_ok_weaker}
 use Rattle.sc_actor.specs.declared.schedules.Line.TheVariants.{Go}
-use Rattle.sc_drive.specs.declared.steps.Step.{Step}
-use Rattle.sc_drive.specs.declared.steps.Step.TheVariants.{Made, Skipped, Full}
+use Rattle.sc_drive.specs.declared.steps.LineResult.{LineResult}
+use Rattle.sc_drive.specs.declared.steps.LineResult.TheVariants.{Made, Skipped, Full}
 use Rattle.sc_drive.specs.Goings.{GoMade, StaysSo}
 use Rattle.sc_drive.specs.Numbers.{is_in}
 use Rattle.sc_drive.proofs.SingleSteps.{goes_go, goes_skipped, fills_full, go_pushed, go_steps}
@@ -12,13 +12,13 @@ use Rattle.sc_drive.proofs.single_lines.run_go.Goals as goal
 pub returns-in-Ok-push-clause-on : goal.returns-in-Ok-push-clause-on
 returns-in-Ok-push-clause-on g c =
     let net = c.args.net.now in let next = c.go.new.net in let ss = c.args.shells.now.items in let after = c.go.new.shells.items in let score = c.args.score.now in
-    let on : StaysSo Made net ss next after = subst (λ (step : Step). StaysSo step net ss next after) c.in-Made.is c.in-Ok.ensures.on in
+    let on : StaysSo Made net ss next after = subst (λ (step : LineResult). StaysSo step net ss next after) c.in-Made.is c.in-Ok.ensures.on in
     on
 
 pub returns-in-Skipped-clause-on : goal.returns-in-Skipped-clause-on
 returns-in-Skipped-clause-on g c =
     let net = c.args.net.now in let next = c.go.new.net in let ss = c.args.shells.now.items in let after = c.go.new.shells.items in let score = c.args.score.now in
-    let on : StaysSo Skipped net ss next after = subst (λ (step : Step). StaysSo step net ss next after) c.in-Skipped.is c.in-Ok.ensures.on in
+    let on : StaysSo Skipped net ss next after = subst (λ (step : LineResult). StaysSo step net ss next after) c.in-Skipped.is c.in-Ok.ensures.on in
     on_ok_weaker c.skip-in-Skipped.result (λ _. on) c.skip-in-Skipped.ensures.skipped
 
 pub returns-then-is_listed-clause-on : goal.returns-then-is_listed-clause-on
@@ -27,7 +27,7 @@ returns-then-is_listed-clause-on g c = on_ok_weaker c.skip.result (λ _. on_same
 pub returns-in-Full-clause-kept : goal.returns-in-Full-clause-kept
 returns-in-Full-clause-kept g c = λ _.
     let net = c.args.net.now in let next = c.go.new.net in let ss = c.args.shells.now.items in let after = c.go.new.shells.items in let score = c.args.score.now in
-    let on : StaysSo Full net ss next after = subst (λ (step : Step). StaysSo step net ss next after) c.in-Full.is c.in-Ok.ensures.on in
+    let on : StaysSo Full net ss next after = subst (λ (step : LineResult). StaysSo step net ss next after) c.in-Full.is c.in-Ok.ensures.on in
     on
 
 pub returns-in-Ok-push-clause-goes : goal.returns-in-Ok-push-clause-goes
@@ -35,7 +35,7 @@ returns-in-Ok-push-clause-goes g c =
     let net = c.args.net.now in let next = c.go.new.net in let ss = c.args.shells.now.items in let after = c.go.new.shells.items in let score = c.args.score.now in
     let no : c.is_listed.result ≡ false = search rules in
     let not_told : is_in c.args.who score.gone.items ≡ false = ap (is_in c.args.who) (sym c.as_slice.ensures.value) ∙ (sym c.is_listed.ensures ∙ no) in
-    let on : StaysSo Made net ss next after = subst (λ (step : Step). StaysSo step net ss next after) c.in-Made.is c.in-Ok.ensures.on in
+    let on : StaysSo Made net ss next after = subst (λ (step : LineResult). StaysSo step net ss next after) c.in-Made.is c.in-Ok.ensures.on in
     let made : GoMade c.args.who net ss next after Made = subst (GoMade c.args.who net ss next after) c.in-Made.is c.in-Ok.ensures.made in
     goes_go (Go c.args.who) net next ss after score _ on.kept.stays.exchange.2 c.args.who refl
     (go_steps c.args.who net next ss after score Made not_told made)
@@ -46,7 +46,7 @@ returns-in-Skipped-clause-goes g c =
     let net = c.args.net.now in let next = c.go.new.net in let ss = c.args.shells.now.items in let after = c.go.new.shells.items in let score = c.args.score.now in
     let no : c.is_listed.result ≡ false = search rules in
     let not_told : is_in c.args.who score.gone.items ≡ false = ap (is_in c.args.who) (sym c.as_slice.ensures.value) ∙ (sym c.is_listed.ensures ∙ no) in
-    let on : StaysSo Skipped net ss next after = subst (λ (step : Step). StaysSo step net ss next after) c.in-Skipped.is c.in-Ok.ensures.on in
+    let on : StaysSo Skipped net ss next after = subst (λ (step : LineResult). StaysSo step net ss next after) c.in-Skipped.is c.in-Ok.ensures.on in
     let made : GoMade c.args.who net ss next after Skipped = subst (GoMade c.args.who net ss next after) c.in-Skipped.is c.in-Ok.ensures.made in
     on_ok_weaker c.skip-in-Skipped.result (λ count. goes_skipped (Go c.args.who) net next ss after score c.skip-in-Skipped.new.score on.kept.stays.exchange.2
     (go_steps c.args.who net next ss after score Skipped not_told made)
@@ -57,7 +57,7 @@ returns-in-Full-clause-fills g c = λ _.
     let net = c.args.net.now in let next = c.go.new.net in let ss = c.args.shells.now.items in let after = c.go.new.shells.items in let score = c.args.score.now in
     let no : c.is_listed.result ≡ false = search rules in
     let not_told : is_in c.args.who score.gone.items ≡ false = ap (is_in c.args.who) (sym c.as_slice.ensures.value) ∙ (sym c.is_listed.ensures ∙ no) in
-    let on : StaysSo Full net ss next after = subst (λ (step : Step). StaysSo step net ss next after) c.in-Full.is c.in-Ok.ensures.on in
+    let on : StaysSo Full net ss next after = subst (λ (step : LineResult). StaysSo step net ss next after) c.in-Full.is c.in-Ok.ensures.on in
     let made : GoMade c.args.who net ss next after Full = subst (GoMade c.args.who net ss next after) c.in-Full.is c.in-Ok.ensures.made in
     fills_full (Go c.args.who) net next ss after score score on.stays.exchange.2
     (go_steps c.args.who net next ss after score Full not_told made)

@@ -1,6 +1,6 @@
 use Rattle.std.proofs.Common.{ap, ◌∙◌, ◌++◌, ◌∷◌, []}
-use Rattle.sc_exchange.specs.Deeds.{deeds}
-use Rattle.sc_exchange.proofs.Done.{deeds-push}
+use Rattle.sc_exchange.specs.BareRows.{bare_rows}
+use Rattle.sc_exchange.proofs.Done.{bare_rows-push}
 use Rattle.sc_exchange.specs.Addressed.{all_addressed}
 use Rattle.sc_exchange.proofs.Addressing.{addressed_push}
 use Rattle.sc_exchange.proofs.turns.append_row.Goals as goal
@@ -8,7 +8,7 @@ use Rattle.sc_exchange.proofs.turns.append_row.Goals as goal
 pub keep_row-requires-clause-list : goal.keep_row-requires-clause-list
 keep_row-requires-clause-list g c =
     let row = c.args.row in
-    (record { event = row.event; sent = row.sent }, ap deeds c.in-Ok.ensures.ok ∙ (ap (λ ledger. deeds (ledger.rows.items ++ row ∷ [])) c.deref_mut.ensures.value ∙ (deeds-push c.args.found.ledger.value.rows.items row ∙ (λ i. c.requires.list i ++ (record { event = row.event; sent = row.sent }, c.requires.maker i) ∷ []))))
+    (record { event = row.event; sent = row.sent }, ap bare_rows c.in-Ok.ensures.ok ∙ (ap (λ ledger. bare_rows (ledger.rows.items ++ row ∷ [])) c.deref_mut.ensures.value ∙ (bare_rows-push c.args.found.ledger.value.rows.items row ∙ (λ i. c.requires.list i ++ (record { event = row.event; sent = row.sent }, c.requires.maker i) ∷ []))))
 
 pub invariant_of-exchange : goal.invariant_of-exchange
 invariant_of-exchange g c = record { addressed = ap (all_addressed g.M.Parcel.receiver []) c.in-Ok.ensures.ok ∙ (ap (λ ledger. all_addressed g.M.Parcel.receiver [] (ledger.rows.items ++ c.args.row ∷ [])) c.deref_mut.ensures.value ∙ addressed_push g.M.Parcel.receiver c.args.found.ledger.value.rows.items c.args.row c.args.found.addressed c.requires.addressed) }

@@ -1,6 +1,6 @@
 use Rattle.std.proofs.Common.{rules, ◌≡◌, ap, ◌∙◌, sym, subst}
 use Rattle.sc_turn.specs.Seats.{known}
-use Rattle.sc_exchange.specs.Deeds.{rows_from}
+use Rattle.sc_exchange.specs.BareRows.{rows_from}
 use Rattle.sc_exchange.specs.Answers.{IsFetch}
 use Rattle.sc_exchange.proofs.Results.{ok_maps}
 use Rattle.sc_exchange.proofs.Views.{seen_same}

@@ -1,6 +1,6 @@
 use Rattle.std.proofs.Common.{◌∙◌, inr}
 use Rattle.sc_turn.specs.Seats.{known}
-use Rattle.sc_exchange.specs.Deeds.{deeds}
+use Rattle.sc_exchange.specs.BareRows.{bare_rows}
 use Rattle.sc_exchange.proofs.Done.{left_row}
 use Rattle.sc_exchange.proofs.turns.keep_row.Goals as goal
 
@@ -8,4 +8,4 @@ pub leave-requires-clause-list : goal.leave-requires-clause-list
 leave-requires-clause-list g c = inr c.requires.list
 
 pub returns-clause-view : goal.returns-clause-view
-returns-clause-view g c = λ deed is. c.leave.ensures.view ∙ left_row (known c.args.seat.now) (deeds c.args.exchange.ledger.value.rows.items) deed is
+returns-clause-view g c = λ bare is. c.leave.ensures.view ∙ left_row (known c.args.seat.now) (bare_rows c.args.exchange.ledger.value.rows.items) bare is

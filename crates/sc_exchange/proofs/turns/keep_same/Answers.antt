@@ -1,6 +1,6 @@
 use Rattle.std.proofs.Common.{◌∙◌, inl}
 use Rattle.sc_turn.specs.Seats.{known}
-use Rattle.sc_exchange.specs.Deeds.{deeds}
+use Rattle.sc_exchange.specs.BareRows.{bare_rows}
 use Rattle.sc_exchange.proofs.Done.{left_same}
 use Rattle.sc_exchange.proofs.turns.keep_same.Goals as goal
 
@@ -8,4 +8,4 @@ pub leave-requires-clause-list : goal.leave-requires-clause-list
 leave-requires-clause-list g c = inl c.requires.list
 
 pub returns-clause-view : goal.returns-clause-view
-returns-clause-view g c = c.leave.ensures.view ∙ left_same (known c.args.seat.now) (deeds c.args.exchange.ledger.value.rows.items) c.requires.list
+returns-clause-view g c = c.leave.ensures.view ∙ left_same (known c.args.seat.now) (bare_rows c.args.exchange.ledger.value.rows.items) c.requires.list

@@ -3,7 +3,7 @@ use Rattle.std.proofs.Math.Seq.{take-append_seam}
 use Rattle.std.proofs.lemmas.List.{ext_get_or, get_or-replicate, length-replicate}
 use Rattle.sc_cmd.specs.declared.orders.ToldResult.{ToldResult}
 use Rattle.sc_actor.specs.Mail.{mails}
-use Rattle.sc_node_table.specs.Slots.{numbers}
+use Rattle.sc_node_table.specs.Slots.{numbers_from}
 use Rattle.sc_node_table.specs.Replica.{either}
 use Rattle.sc_replay.specs.Summary.{told_of}
 use Rattle.sc_replay.proofs.OrderWords.{length-numbered, get_or-numbered}
@@ -11,7 +11,7 @@ use Rattle.sc_replay.proofs.orders.orders_told.Goals as goal
 
 pub returns : goal.returns
 returns c =
-    let whole = map (λ number. told_of number (mails c.args.rows.now)) (numbers 1 c.args.count) in
+    let whole = map (λ number. told_of number (mails c.args.rows.now)) (numbers_from 1 c.args.count) in
     let start : c.deref_mut.result.now ≡ replicate c.args.count None = c.deref_mut.ensures.value ∙ c.in_ok-told.ensures in
     let long : length c.deref_mut.result.now ≡ c.args.count = ap length start ∙ length-replicate c.args.count None in
     let len : length c.note_rows.new.told ≡ c.args.count = c.note_rows.ensures.len ∙ long in

@@ -1,5 +1,5 @@
 use Rattle.std.proofs.Common.{rules, ◌≡◌, ◌+◌, Option, None, Some, ◌∙◌, sym, subst, arith}
-use Rattle.sc_workers.specs.Crews.{numbers, rows_made, AllSound}
+use Rattle.sc_workers.specs.Crews.{crew_numbers, rows_made, AllSound}
 use Rattle.sc_workers.specs.Ends.{CanBegin, IsGathered, IfHeld, IfCalm}
 use Rattle.sc_workers.specs.Services.{AllServe}
 use Rattle.sc_workers.specs.declared.answers.Rounds.{Rounds}
@@ -14,7 +14,7 @@ pub returns-in-Some-clause-end : goal.returns-in-Some-clause-end
 returns-in-Some-clause-end g c =
     let start = c.args.shells.now.items in let after = c.prepare.new.shells.items in
     let count : rows_made after ≡ rows_made start + 0 = omega (arith, still_rows start after c.prepare.ensures.still.len c.prepare.ensures.still.still) in
-    end_so c.in-Some.answer c.prepare.new.net start start after _ (numbers start) c.args.limit 0 c.in-Some.ensures.end (search rules) (omega arith) count (λ bytes f. f)
+    end_so c.in-Some.answer c.prepare.new.net start start after _ (crew_numbers start) c.args.limit 0 c.in-Some.ensures.end (search rules) (omega arith) count (λ bytes f. f)
     (held_maps (Some c.in-Some.answer) (λ (gathered : IsGathered c.prepare.new.net after). none_serve c.prepare.new.net start after c.prepare.ensures.still.len c.prepare.ensures.still.still gathered.over) c.in-Some.ensures.gathered)
     (calm_of (AllSound after) (Some c.in-Some.answer) (still_sound start after c.prepare.ensures.still.len c.prepare.ensures.still.still c.requires.crew.sound))
 
@@ -32,7 +32,7 @@ loop-answer-init g c =
 
 pub step-requires-clause-whos : goal.step-requires-clause-whos
 step-requires-clause-whos g c κs within = let inv = c.loop-answer.invariant in
-    let whos : c.in-Ok.whos.items ≡ numbers c.args.shells.now.items = search rules in
+    let whos : c.in-Ok.whos.items ≡ crew_numbers c.args.shells.now.items = search rules in
     c.as_slice-whos.ensures.value ∙ (whos ∙ sym (numbers_go c.args.shells.now.items c.loop-answer.shells.items inv.later.len inv.later.go))
 
 pub step-requires-clause-crew : goal.step-requires-clause-crew
@@ -54,7 +54,7 @@ returns-in-Some-step-clause-later g c = let inv = c.loop-answer.invariant in
 
 pub returns-in-Some-step-clause-end : goal.returns-in-Some-step-clause-end
 returns-in-Some-step-clause-end g c = let inv = c.loop-answer.invariant in
-    end_so c.in-Some-step.answer c.step.new.net c.args.shells.now.items c.loop-answer.shells.items c.step.new.shells.items _ (numbers c.args.shells.now.items) c.args.limit c.step.new.used c.in-Some-step.ensures.end (search rules) c.step.ensures.used
+    end_so c.in-Some-step.answer c.step.new.net c.args.shells.now.items c.loop-answer.shells.items c.step.new.shells.items _ (crew_numbers c.args.shells.now.items) c.args.limit c.step.new.used c.in-Some-step.ensures.end (search rules) c.step.ensures.used
     (omega (arith, c.step.ensures.count, inv.count))
     (λ bytes f. full_from c.args.shells.now.items c.loop-answer.shells.items c.step.new.shells.items c.step.new.net bytes inv.later.len c.step.ensures.later.len inv.later.go f)
     (held_maps (Some c.in-Some-step.answer) (λ (second : AllServe c.step.new.net c.loop-answer.shells.items). all_serve_then c.loop-answer.net c.step.new.net c.args.shells.now.items c.loop-answer.shells.items inv.later.len c.step.ensures.later.looked inv.later.go inv.begin.gathered.over inv.served second) c.in-Some-step.ensures.served)

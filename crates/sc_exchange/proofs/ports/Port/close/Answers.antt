@@ -1,9 +1,9 @@
 use Rattle.std.proofs.Common.{◌≡◌, ◌∙◌, sym, subst, map, Contains}
 use Rattle.sc_turn.specs.Seats.{known}
 use Rattle.sc_turn.specs.Turn.{StartsWith}
-use Rattle.sc_exchange.specs.Deeds.{deeds, row_by, rows_of}
+use Rattle.sc_exchange.specs.BareRows.{bare_rows, row_by, rows_of}
 use Rattle.sc_exchange.specs.Ports.{seen}
-use Rattle.sc_exchange.proofs.Done.{begins_rows, rows_of_deeds}
+use Rattle.sc_exchange.proofs.Done.{begins_rows, rows_of_bare}
 use Rattle.sc_exchange.proofs.Knowing.{end_own, end_each, end_others, numbers_same}
 use Rattle.sc_exchange.proofs.ports.Port.close.Goals as goal
 
@@ -15,7 +15,7 @@ returns g c =
     let v = known c.args.self.seat in
     let e = c.closed.ensures in
     let first = c.args.self.number ∙ c.requires.net in record {
-      later = subst (λ l. StartsWith l (seen c.args.self)) (rows_of_deeds c.closed.result) (begins_rows (deeds c.closed.result) v.seen e.later);
+      later = subst (λ l. StartsWith l (seen c.args.self)) (rows_of_bare c.closed.result) (begins_rows (bare_rows c.closed.result) v.seen e.later);
       addressed = e.addressed;
       own = subst (λ n. rows_of 0 c.closed.result ≡ map (row_by n) v.made) (sym c.requires.net) (end_own c.closed.result v e.facts first);
       each = end_each c.closed.result v e.facts first;

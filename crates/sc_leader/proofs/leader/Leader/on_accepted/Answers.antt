@@ -5,7 +5,7 @@ use Rattle.sc_paxos_words.specs.declared.flights.Flight.{Flight}
 use Rattle.sc_paxos_words.specs.declared.answers.Counted.{Counted}
 use Rattle.sc_paxos_words.specs.declared.answers.Counted.TheVariants.{Chosen}
 use Rattle.sc_paxos_words.specs.Leaders.{LeaderState, flight_at}
-use Rattle.sc_paxos_words.specs.Votes.{voters_of, counted}
+use Rattle.sc_paxos_words.specs.Votes.{kept_voters, counted}
 use Rattle.sc_leader.specs.OneEach.{IsOneEach}
 use Rattle.sc_leader.proofs.Flying.{one_without, one_written}
 use Rattle.sc_leader.proofs.Counting.{no_majority, majority, something}
@@ -15,7 +15,7 @@ use Rattle.sc_leader.proofs.leader.Leader.on_accepted.Goals.{in-Some-take_out, i
 pub returns-then-not-are_majority : goal.returns-then-not-are_majority
 returns-then-not-are_majority g c =
     let same : c.args.ballot ≡ c.self.inside.ballot = search rules in
-    let miss : is_majority c.args.members.now (voters_of c.voters_after-voters.result) ≡ false = search rules in
+    let miss : is_majority c.args.members.now (kept_voters c.voters_after-voters.result) ≡ false = search rules in
     let leader : LeaderState g.row.V.Denot = record { ballot = c.self.inside.ballot; is_first = c.self.inside.is_first; from = c.self.inside.from; promisers = c.self.inside.promisers.items; reports = c.self.inside.reports.items; flights = c.self.inside.flights.items } in
     let found = ap (λ (fs : List (Flight g.row.V.Denot)). option_map (λ (f : Flight g.row.V.Denot). f.voters) (flight_at c.args.slot fs)) (sym c.as_slice.ensures.value) ∙ sym c.kept_at.ensures ∙ c.in-Some.is in
     ap (counted c.args.from c.args.ballot c.args.slot c.args.members.now) (sym c.self.view_is)
@@ -25,7 +25,7 @@ returns-then-not-are_majority g c =
 pub returns : goal.returns
 returns g c =
     let same : c.args.ballot ≡ c.self.inside.ballot = search rules in
-    let most : is_majority c.args.members.now (voters_of c.voters_after-voters.result) ≡ true = search rules in
+    let most : is_majority c.args.members.now (kept_voters c.voters_after-voters.result) ≡ true = search rules in
     let leader : LeaderState g.row.V.Denot = record { ballot = c.self.inside.ballot; is_first = c.self.inside.is_first; from = c.self.inside.from; promisers = c.self.inside.promisers.items; reports = c.self.inside.reports.items; flights = c.self.inside.flights.items } in
     let found = ap (λ (fs : List (Flight g.row.V.Denot)). option_map (λ (f : Flight g.row.V.Denot). f.voters) (flight_at c.args.slot fs)) (sym c.as_slice.ensures.value) ∙ sym c.kept_at.ensures ∙ c.in-Some.is in
     elim c.match-take_out.branch [

@@ -9,7 +9,7 @@ use sc_turn::Listed;
 use std::alloc::Global;
 
 /// A row without the number of its maker.
-pub struct Deed<M, O> {
+pub struct BareRow<M, O> {
     pub event: Event<O>,
     pub sent: Sequence<M>,
 }
@@ -26,11 +26,11 @@ pub struct Exchange<M: Parcel + Drop, O: Drop> {
 }
 
 impl<M: Parcel + Drop, O: Drop> Listed for Exchange<M, O> {
-    ghost use Rattle.sc_exchange.specs.Deeds.{deeds};
+    ghost use Rattle.sc_exchange.specs.BareRows.{bare_rows};
 
-    type Entry = Deed<M, O>;
+    type Entry = BareRow<M, O>;
 
-    ghost entries = { λ e. deeds e.ledger.value.rows.items };
+    ghost entries = { λ e. bare_rows e.ledger.value.rows.items };
 
     fn count(&self) -> u64 {
         self.ledger.len() as u64
