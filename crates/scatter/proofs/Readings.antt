@@ -25,4 +25,4 @@ of_source left before now scenario ReadFault text valid read reports = absurd re
 -- a report of the scenario that was read after the word `run`
 pub of_report : (words : List (List ℕ)) (left : Option (List ℕ)) (before now : ℕ) (scenario : Scenario) (said : Said) (text : Text)
     → (is_run words ≡ true) × IsValid scenario × ReadsAs left (Some scenario) → ReportsAs said scenario text → Says words left before now said text
-of_report words left before now scenario said text is reports = inl (is.0, of_source left before now scenario said text is.1.0 is.1.1 reports)
+of_report words left before now scenario said text is reports = inl (is.0, of_source left before now scenario said text is.1 is.2 reports)
