@@ -1,0 +1,7 @@
+pub mod Circle
+pub mod Groups
+pub mod Placed
+pub mod Places
+pub mod Sound
+pub mod Valid
+pub mod Worlds
