@@ -1,5 +1,5 @@
 -- The arc of the whole circle: it holds each position, it alone covers, and its part of a map is the map.
-use Rattle.std.proofs.Common.{◌≡◌, ℕ, zero, suc, ◌+◌, ◌%◌, ◌^◌, ◌<◌, ◌≤◌, [], ◌∷◌, None, inl, inr, refl, sym, ◌∙◌, subst, arith}
+use Rattle.std.proofs.Common.{◌≡◌, ℕ, ◌+◌, ◌%◌, ◌^◌, ◌<◌, [], ◌∷◌, None, inl, inr, refl, sym, ◌∙◌, subst, arith}
 use Rattle.std.specs.FinMap.{get}
 use Rattle.std.specs.Prelude.{IsTrue}
 use Rattle.std.proofs.lemmas.Bool.{lt-ltb, cond-true}

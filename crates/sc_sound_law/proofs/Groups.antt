@@ -13,7 +13,6 @@ use Rattle.sc_actor.specs.declared.rows.Row.{Row}
 use Rattle.sc_machine_table.specs.Group.{Group, group_of}
 use Rattle.sc_machine_table.specs.Machine.{applied}
 use Rattle.sc_players.specs.Players.{Ahead}
-use Rattle.sc_entries.specs.Births.{birth_of}
 use Rattle.sc_entries.specs.Worlds.{world_after}
 use Rattle.sc_entries.proofs.Pushes.{world_append}
 use Rattle.sc_hist_law.specs.Laws.{LeavesWhole}

@@ -1,4 +1,5 @@
 pub mod Circle
+pub mod Example
 pub mod Groups
 pub mod Placed
 pub mod Places

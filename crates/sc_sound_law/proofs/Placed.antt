@@ -1,5 +1,5 @@
 -- One group that has the whole circle is one map: its cut covers, it is its own neighbour, and its pairs are the map after its history.
-use Rattle.std.proofs.Common.{◌≡◌, true, List, [], ◌∷◌, Option, Some, None, inl, inr, refl, sym, ◌∙◌, ap, subst}
+use Rattle.std.proofs.Common.{◌≡◌, true, List, [], Some, inl, inr, refl, sym, ◌∙◌, ap, subst}
 use Rattle.std.specs.FinMap.{empty}
 use Rattle.std.specs.Option.{option_map}
 use Rattle.std.specs.Prelude.{IsTrue, ◌&&◌, is_none}
@@ -9,7 +9,6 @@ use Rattle.sc_cmd.specs.declared.commands.Command.{Command}
 use Rattle.sc_cmd.specs.declared.cores.Base.{Base}
 use Rattle.sc_cmd.specs.declared.cores.Core.{Core}
 use Rattle.sc_cmd.specs.declared.cores.Lock.{Lock}
-use Rattle.sc_cmd.specs.declared.cores.Lock.TheVariants.{Free}
 use Rattle.sc_ideal.specs.History.{Legal, contents_after}
 use Rattle.sc_ideal.specs.IdealStore.{holds_key}
 use Rattle.sc_machine_table.specs.Group.{Group, group_of}

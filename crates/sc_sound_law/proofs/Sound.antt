@@ -1,35 +1,29 @@
 -- Each first part of a lawful journal of one group is sound, as that is said of any number of groups.
-use Rattle.std.proofs.Common.{◌≡◌, ℕ, ◌+◌, ◌<◌, ◌≤◌, nat_lt, cond, List, [], ◌∷◌, ◌++◌, length, take, Option, Some, inl, inr, refl, sym, ◌∙◌, ap, subst, append_assoc}
+use Rattle.std.proofs.Common.{◌≡◌, ℕ, ◌+◌, nat_lt, cond, List, [], ◌∷◌, ◌++◌, length, take, Some, inl, inr, refl, sym, ◌∙◌, ap, subst, append_assoc}
 use Rattle.std.specs.FinMap.{empty}
 use Rattle.std.specs.Prelude.{slice_get}
 use Rattle.sc_base.specs.Among.{Among}
-use Rattle.sc_base.specs.declared.names.Draw.{Draw}
-use Rattle.sc_base.specs.declared.ops.Reply.{Reply}
 use Rattle.sc_cmd.specs.declared.commands.Command.{Command}
 use Rattle.sc_cmd.specs.declared.cores.Base.{Base}
-use Rattle.sc_cmd.specs.declared.orders.OrderLine.{OrderLine}
-use Rattle.sc_mail.specs.declared.bodies.Mail.{Mail}
-use Rattle.sc_actor.specs.declared.rows.Row.{Row}
 use Rattle.sc_actor.proofs.WalkLemmas.{lawful-prefix}
 use Rattle.sc_ideal.specs.History.{HasEntry, Legal, contents_after}
 use Rattle.sc_ideal.specs.declared.Entry.{Entry}
 use Rattle.sc_machine_table.specs.Group.{Group, group_of}
-use Rattle.sc_machine_table.specs.Logs.{state_after, done_by}
+use Rattle.sc_machine_table.specs.Logs.{done_by}
 use Rattle.sc_node_table.specs.Replica.{ReplicaState, name_of}
-use Rattle.sc_scenario.specs.declared.scenarios.Asks.{Asks}
 use Rattle.sc_scenario.specs.declared.scenarios.Scenario.{Scenario}
 use Rattle.sc_players.specs.Players.{route_of, schedule, Ahead, system_of, Lawful}
 use Rattle.sc_entries.specs.Worlds.{StoreWorld, named_group}
 use Rattle.sc_hist_law.proofs.Logs.{state_same}
 use Rattle.sc_sound.specs.GroupsOf.{groups_at, state_at, world_at, history_at}
-use Rattle.sc_sound.specs.Histories.{history, decided_from, decided_row}
+use Rattle.sc_sound.specs.Histories.{history, decided_from}
 use Rattle.sc_sound.specs.Logs.{decided_log}
-use Rattle.sc_sound.specs.Requests.{IsRequest, issue_row, kept_reply, answer_row}
-use Rattle.sc_sound.specs.Soundness.{GoesOn, HasOneLog, HasRun, AllHaveRun, IsOneMap, AnswersRequests, told_from, told_row, IsTimely, KeepsRealTime, IsSound}
+use Rattle.sc_sound.specs.Requests.{kept_reply, answer_row}
+use Rattle.sc_sound.specs.Soundness.{GoesOn, HasOneLog, HasRun, IsOneMap, AnswersRequests, told_from, IsTimely, KeepsRealTime, IsSound}
 use Rattle.sc_group_law.specs.Laws.{IsSoundForOne}
 use Rattle.sc_group_law.specs.OneGroup.{HasOneGroup}
 use Rattle.sc_group_law.specs.Told.{HasExecuted}
-use Rattle.sc_group_law.proofs.Journal.{Kept, entries_whole}
+use Rattle.sc_group_law.proofs.Journal.{entries_whole}
 use Rattle.sc_group_law.proofs.Sound.{all_keep, journals_sound}
 use Rattle.sc_sound_law.specs.LoneGroup.{IsLone}
 use Rattle.sc_sound_law.specs.Laws.{LoneJournalsAreSound}

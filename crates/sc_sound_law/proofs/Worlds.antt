@@ -1,6 +1,5 @@
 -- What the entries of one group's log make of all groups, where no entry divides the group or begins a transaction.
-use Rattle.std.proofs.Common.{◌≡◌, ℕ, ◌+◌, List, [], ◌∷◌, ◌++◌, Option, Some, None, refl, sym, ◌∙◌, ap, map, append-nil, append_assoc}
-use Rattle.std.specs.Option.{option_to_list}
+use Rattle.std.proofs.Common.{◌≡◌, ℕ, ◌+◌, List, [], ◌∷◌, ◌++◌, Option, Some, None, refl, sym, ◌∙◌, ap, append-nil, append_assoc}
 use Rattle.std.proofs.lemmas.Bool.{cond-true}
 use Rattle.sc_base.specs.Among.{Each}
 use Rattle.sc_base.proofs.NameLemmas.{same_name}
@@ -16,7 +15,6 @@ use Rattle.sc_machine_table.specs.Machine.{applied}
 use Rattle.sc_machine_table.proofs.LogLemmas.{done_push, state_push}
 use Rattle.sc_entries.specs.Births.{birth_of}
 use Rattle.sc_entries.specs.declared.Cut.{Cut}
-use Rattle.sc_entries.specs.declared.LogEntry.{LogEntry}
 use Rattle.sc_entries.specs.declared.Transaction.{Transaction}
 use Rattle.sc_entries.specs.Decisions.{transactions_after}
 use Rattle.sc_entries.specs.Rings.{first_cut, ring_after}
@@ -104,11 +102,11 @@ module _ (base : Base) where
       let result = applied group c in
       ap (λ o. after_command world o c) (found log)
       ∙ ap (λ gs. world_with gs (with_result world group c result).transactions (with_result world group c result).ring (with_result world group c result).history)
-          (groups_are group result.0 (birth_of group c result.1) (no_birth group c result.1 keeps) ∙ ap (λ (g : Group). g ∷ []) (sym (state_push start log c)))
+      (groups_are group result.0 (birth_of group c result.1) (no_birth group c result.1 keeps) ∙ ap (λ (g : Group). g ∷ []) (sym (state_push start log c)))
       ∙ ap (λ ts. world_with (lone_world (log ++ c ∷ [])).groups ts (with_result world group c result).ring (with_result world group c result).history)
-          (same_transactions group.core c result.1 [] keeps)
+      (same_transactions group.core c result.1 [] keeps)
       ∙ ap (λ cuts. world_with (lone_world (log ++ c ∷ [])).groups [] cuts (with_result world group c result).history)
-          (same_ring group.core c result.1 (first_cut base ∷ []) keeps)
+      (same_ring group.core c result.1 (first_cut base ∷ []) keeps)
       ∙ ap (λ es. world_with (lone_world (log ++ c ∷ [])).groups [] (first_cut base ∷ []) es) (sym (done_push start log c))
 
   -- these entries, one after another

@@ -2,9 +2,14 @@
 //! of groups. Definitions and laws, no logic.
 #![tactic(auto)]
 
+ghost use Rattle.std.specs.Prelude.{[]};
+ghost use Rattle.sc_sound.specs.Example.{four};
+ghost use Rattle.sc_sound.specs.Soundness.{IsSound};
+ghost use Rattle.sc_group_law.specs.Example.{election_scenario, election_example};
 ghost use Rattle.sc_sound_law.specs.Laws.{LoneJournalsAreSound, ValidHaveLoneGroup};
+ghost use Rattle.sc_sound_law.specs.LoneGroup.{HasLoneGroup};
 
-use sc_group_law::valid_scenarios_have_one_group;
+use sc_group_law::{a_journal_with_an_election, valid_scenarios_have_one_group};
 use sc_scenario::texts_are_early;
 
 /// Each first part of a lawful journal of one group is sound as that is said of any number of
@@ -23,4 +28,12 @@ pub fn valid_scenarios_have_a_lone_group()
 {
     texts_are_early();
     valid_scenarios_have_one_group();
+}
+
+/// The law is about something: a journal in which a request is decided and another node is elected.
+pub fn an_election_is_sound()
+    ensures one_group { HasLoneGroup election_scenario }
+    ensures sound { IsSound four election_scenario election_example [] }
+{
+    a_journal_with_an_election();
 }
