@@ -46,10 +46,10 @@ module _ (ahead : Ahead) (base : Base) where
   log_in rows = decided_log ahead base rows
 
   -- a first part whose log leaves the group whole
-  abbrev pub IsWhole : Rows → Type 0
-  IsWhole rows = Each LeavesWhole (decided_log ahead base rows)
+  abbrev pub IsUndivided : Rows → Type 0
+  IsUndivided rows = Each LeavesWhole (decided_log ahead base rows)
 
-  module _ (rows : Rows) (whole : IsWhole rows) where
+  module _ (rows : Rows) (whole : IsUndivided rows) where
     still_alone : with_children ahead rows (base ∷ []) ≡ base ∷ []
     still_alone = ap (λ bases. fold with_birth (base ∷ []) (bases ++ [])) (no_children (group_of base) (log_in rows) whole)
 
@@ -74,7 +74,7 @@ module _ (ahead : Ahead) (base : Base) where
     state_is = ap (option_map (λ b. decided_state ahead b rows)) birth_is
 
   -- what one row makes of the world
-  by_row : (before : Rows) (row : Row Mail OrderLine) → IsWhole before → IsWhole (before ++ row ∷ []) → GoesOn (log_in before) (log_in (before ++ row ∷ []))
+  by_row : (before : Rows) (row : Row Mail OrderLine) → IsUndivided before → IsUndivided (before ++ row ∷ []) → GoesOn (log_in before) (log_in (before ++ row ∷ []))
       → world_after (lone_world base (log_in before)) (entries_by_row ahead (base ∷ []) before row) ≡ lone_world base (log_in (before ++ row ∷ []))
   by_row before row whole next (more, on) =
       let after = before ++ row ∷ [] in
@@ -91,7 +91,7 @@ module _ (ahead : Ahead) (base : Base) where
       ∙ ap (lone_world base) (sym on)
 
   -- first parts that a test of journals holds of, whose logs leave the group whole and go on
-  module _ (P : Rows → Type 0) (first_part : (rows more : Rows) → P (rows ++ more) → P rows) (whole : (rows : Rows) → P rows → IsWhole rows)
+  module _ (P : Rows → Type 0) (first_part : (rows more : Rows) → P (rows ++ more) → P rows) (whole : (rows : Rows) → P rows → IsUndivided rows)
       (goes_on : (rows more : Rows) → P (rows ++ more) → GoesOn (log_in rows) (log_in (rows ++ more))) where
     by_rows : (before rows : Rows) → P (before ++ rows) → world_after (lone_world base (log_in before)) (entries_by_rows ahead (base ∷ []) before rows) ≡ lone_world base (log_in (before ++ rows))
     by_rows before [] p = ap (λ b. lone_world base (log_in b)) (sym (append-nil before))

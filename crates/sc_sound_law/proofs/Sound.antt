@@ -27,7 +27,7 @@ use Rattle.sc_group_law.proofs.Journal.{entries_whole}
 use Rattle.sc_group_law.proofs.Sound.{all_keep, journals_sound}
 use Rattle.sc_sound_law.specs.LoneGroup.{IsLone}
 use Rattle.sc_sound_law.specs.Laws.{LoneJournalsAreSound}
-use Rattle.sc_sound_law.proofs.Groups.{Rows, IsWhole, groups_are, log_is, state_is, world_is}
+use Rattle.sc_sound_law.proofs.Groups.{Rows, IsUndivided, groups_are, log_is, state_is, world_is}
 use Rattle.sc_sound_law.proofs.Places.{IsPlaceOf, place_of, has_both, same_order}
 use Rattle.sc_sound_law.proofs.Placed.{one_map}
 use Rattle.sc_sound_law.proofs.Worlds.{lone_world, found}
@@ -42,39 +42,39 @@ module _ (ahead : Ahead) (words : ℕ → ℕ → ℕ × ℕ) (any : Scenario) (
   abbrev bases : List Base
   bases = base ∷ []
 
-  abbrev IsLawful : Rows → Type 0
-  IsLawful rows = Lawful ahead words scenario rows
+  abbrev IsCourse : Rows → Type 0
+  IsCourse rows = Lawful ahead words scenario rows
 
   abbrev log_in : Rows → List Command
   log_in rows = decided_log ahead base rows
 
-  first_part : (rows more : Rows) → IsLawful (rows ++ more) → IsLawful rows
+  first_part : (rows more : Rows) → IsCourse (rows ++ more) → IsCourse rows
   first_part rows more = lawful-prefix (system_of ahead words scenario) (schedule scenario) rows more
 
-  for_one : (rows more : Rows) → IsLawful (rows ++ more) → IsSoundForOne ahead scenario base rows more
+  for_one : (rows more : Rows) → IsCourse (rows ++ more) → IsSoundForOne ahead scenario base rows more
   for_one rows more = journals_sound ahead words scenario base one rows more
 
-  whole : (rows : Rows) → IsLawful rows → IsWhole ahead base rows
+  whole : (rows : Rows) → IsCourse rows → IsUndivided ahead base rows
   whole rows lawful = entries_whole ahead scenario base rows (all_keep ahead words scenario base one rows lawful)
 
-  goes_on : (rows more : Rows) → IsLawful (rows ++ more) → GoesOn (log_in rows) (log_in (rows ++ more))
+  goes_on : (rows more : Rows) → IsCourse (rows ++ more) → GoesOn (log_in rows) (log_in (rows ++ more))
   goes_on rows more lawful = (for_one rows more lawful).replicated.grows
 
-  world : (rows : Rows) → IsLawful rows → world_at ahead bases rows ≡ lone_world base (log_in rows)
-  world = world_is ahead base IsLawful first_part whole goes_on
+  world : (rows : Rows) → IsCourse rows → world_at ahead bases rows ≡ lone_world base (log_in rows)
+  world = world_is ahead base IsCourse first_part whole goes_on
 
-  history_is : (rows : Rows) → IsLawful rows → history_at ahead bases rows ≡ done_by (group_of base) (log_in rows)
+  history_is : (rows : Rows) → IsCourse rows → history_at ahead bases rows ≡ done_by (group_of base) (log_in rows)
   history_is rows lawful = ap (λ (w : StoreWorld). w.history) (world rows lawful)
 
   -- ---- the row that decides an entry
 
-  told_is : (all : List Command) (place : ℕ) (entry : Entry) (p : IsPlaceOf (group_of base) all place entry) (before rows : Rows) → IsLawful (before ++ rows) → all ≡ log_in (before ++ rows)
+  told_is : (all : List Command) (place : ℕ) (entry : Entry) (p : IsPlaceOf (group_of base) all place entry) (before rows : Rows) → IsCourse (before ++ rows) → all ≡ log_in (before ++ rows)
       → told_from ahead bases place before rows ≡ decided_from ahead base p.at before rows
   told_is all place entry p before [] lawful e = refl
   told_is all place entry p before (row ∷ rows) lawful e =
       let next = before ++ row ∷ [] in
       let joined = sym (append_assoc before (row ∷ []) rows) in
-      let later : IsLawful (next ++ rows) = subst IsLawful joined lawful in
+      let later : IsCourse (next ++ rows) = subst IsCourse joined lawful in
       let on : all ≡ log_in (next ++ rows) = e ∙ ap log_in joined in
       let grown : GoesOn (log_in next) all = subst (GoesOn (log_in next)) (sym on) (goes_on next rows later) in
       ap (λ es. cond (nat_lt place (length es)) (Some (length before + 1)) (told_from ahead bases place next rows)) (history_is next (first_part next rows later))
@@ -83,8 +83,8 @@ module _ (ahead : Ahead) (words : ℕ → ℕ → ℕ × ℕ) (any : Scenario) (
 
   -- ---- a first part
 
-  module _ (rows more : Rows) (all : IsLawful (rows ++ more)) where
-    lawful : IsLawful rows
+  module _ (rows more : Rows) (all : IsCourse (rows ++ more)) where
+    lawful : IsCourse rows
     lawful = first_part rows more all
 
     log : List Command
