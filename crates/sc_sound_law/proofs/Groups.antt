@@ -1,7 +1,8 @@
 -- The groups of a journal in which one group's log leaves it whole: that group alone, with its decided log; and what the journal's entries make of it.
-use Rattle.std.proofs.Common.{◌≡◌, ℕ, zero, suc, ◌+◌, List, [], ◌∷◌, ◌++◌, fold, find, length, drop, Some, None, refl, sym, ◌∙◌, ap, subst, append-nil, append_assoc}
+use Rattle.std.proofs.Common.{◌≡◌, ℕ, zero, suc, ◌+◌, List, [], ◌∷◌, ◌++◌, fold, find, length, Some, None, refl, sym, ◌∙◌, ap, subst, append-nil, append_assoc}
 use Rattle.std.specs.List.{flat_map}
 use Rattle.std.specs.Option.{option_map, option_to_list}
+use Rattle.std.proofs.Math.Seq.{drop-append_seam}
 use Rattle.std.proofs.lemmas.Bool.{cond-true}
 use Rattle.sc_base.specs.Among.{Each}
 use Rattle.sc_base.proofs.NameLemmas.{same_name}
@@ -31,10 +32,6 @@ no_children group [] keeps = refl
 no_children group (c ∷ log) keeps =
     ap (λ o. option_to_list o ++ children_of (applied group c).0 log) (no_birth group c (applied group c).1 keeps.0)
     ∙ no_children (applied group c).0 log keeps.1
-
-drop_front : {X : Type 0} (xs ys : List X) → drop (length xs) (xs ++ ys) ≡ ys
-drop_front [] ys = refl
-drop_front (x ∷ xs) ys = drop_front xs ys
 
 each_later : {X : Type 0} (P : X → Type 0) (xs ys : List X) → Each P (xs ++ ys) → Each P ys
 each_later P [] ys e = e
@@ -86,7 +83,7 @@ module _ (ahead : Ahead) (base : Base) where
       ∙ ap (λ l. world_after world (entries_after name l (log_at ahead (base ∷ []) after name))) (log_is before whole)
       ∙ ap (λ l. world_after world (entries_after name log l)) (log_is after next)
       ∙ ap (λ l. world_after world (entries_after name log l)) on
-      ∙ ap (λ l. world_after world (entries_from name (length log + 1) l)) (drop_front log more)
+      ∙ ap (λ l. world_after world (entries_from name (length log + 1) l)) (drop-append_seam log more)
       ∙ told_are base log more (length log + 1) (each_later LeavesWhole log more (subst (Each LeavesWhole) on next))
       ∙ ap (lone_world base) (sym on)
 

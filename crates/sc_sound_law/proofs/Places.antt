@@ -1,6 +1,7 @@
 -- The place in its log of each entry of a history.
 use Rattle.std.proofs.Common.{◌≡◌, ℕ, zero, suc, ◌+◌, ◌<◌, ◌≤◌, nat_lt, List, [], ◌∷◌, ◌++◌, length, take, Some, ◌⊎◌, inl, inr, refl, sym, ◌∙◌, ap, subst, length-append, arith}
 use Rattle.std.specs.Prelude.{slice_get}
+use Rattle.std.proofs.Math.Seq.{take-append_seam}
 use Rattle.std.proofs.lemmas.Bool.{cases_lt, lt-ltb, le-ltb}
 use Rattle.sc_cmd.specs.declared.commands.Command.{Command}
 use Rattle.sc_cmd.specs.declared.commands.Command.TheVariants.{Call}
@@ -98,15 +99,11 @@ more_done group (c ∷ log) (suc i) (suc j) le =
     let long = length-append mine (done_by after (take j log)) in
     omega (arith, rest, short, long)
 
-take_front : {X : Type 0} (xs ys : List X) → take (length xs) (xs ++ ys) ≡ xs
-take_front [] ys = refl
-take_front (x ∷ xs) ys = ap (λ zs. x ∷ zs) (take_front xs ys)
-
 -- in a first part of a log: the history has the entry exactly where the log has its command
 pub has_both : (group : Group) (front log : List Command) (place : ℕ) (entry : Entry) (p : IsPlaceOf group log place entry) → GoesOn front log
     → nat_lt place (length (done_by group front)) ≡ nat_lt p.at (length front)
 has_both group front log place entry p (more, on) =
-    let here : length (done_by group (take (length front) log)) ≡ length (done_by group front) = ap (λ l. length (done_by group (take (length front) l))) on ∙ ap (λ l. length (done_by group l)) (take_front front more) in
+    let here : length (done_by group (take (length front) log)) ≡ length (done_by group front) = ap (λ l. length (done_by group (take (length front) l))) on ∙ ap (λ l. length (done_by group l)) (take-append_seam front more) in
     let before = p.before in
     let with_it = p.with_it in
     elim (cases_lt p.at (length front)) [

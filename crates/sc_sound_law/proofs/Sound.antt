@@ -87,9 +87,6 @@ module _ (ahead : Ahead) (words : ℕ → ℕ → ℕ × ℕ) (any : Scenario) (
     lawful : IsCourse rows
     lawful = first_part rows more all
 
-    log : List Command
-    log = log_in rows
-
     sound : IsSoundForOne ahead scenario base rows more
     sound = for_one rows more all
 
