@@ -172,7 +172,7 @@ module _ (ahead : Ahead) (words : ℕ → ℕ → ℕ × ℕ) (scenario : Scenar
   }
 
   -- every lawful journal keeps it
-  all_keep : (rows : Journal) → Lawful ahead words scenario rows → K rows
+  pub all_keep : (rows : Journal) → Lawful ahead words scenario rows → K rows
   all_keep rows lawful = lawful-induction (system_of ahead words scenario) K (keeps ahead words scenario base one some law) (schedule scenario) rows at_birth lawful
 
   -- ---- one value per slot, and replicas

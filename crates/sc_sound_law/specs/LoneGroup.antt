@@ -1,0 +1,21 @@
+-- Scenarios of one group that has the whole circle.
+use Rattle.std.specs.Prelude.{◌≡◌, ◌<◌, ◌^◌, None}
+use Rattle.sc_cmd.specs.declared.cores.Base.{Base}
+use Rattle.sc_cmd.specs.declared.cores.Lock.TheVariants.{Free}
+use Rattle.sc_scenario.specs.declared.scenarios.Scenario.{Scenario}
+use Rattle.sc_group_law.specs.OneGroup.{HasOneGroup}
+
+-- a group that has the whole circle and is its own neighbour on both sides; it is in no transaction, and not gone
+pub record IsLone (base : Base) : Type 0 where
+  pub starts : base.core.arc.lo < 2 ^ 32
+  pub circle : base.core.arc.len ≡ 2 ^ 32
+  pub succ : base.core.succ.group ≡ base.core.id
+  pub pred : base.core.pred.group ≡ base.core.id
+  pub lock : base.core.lock ≡ Free
+  pub gone : base.core.gone ≡ None
+
+-- a scenario of one such group
+pub record HasLoneGroup (scenario : Scenario) : Type 0 where
+  pub base : Base
+  pub one : HasOneGroup scenario base
+  pub lone : IsLone base

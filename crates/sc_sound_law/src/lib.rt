@@ -1,0 +1,39 @@
+//! What every lawful journal of a scenario of one group says, in the form that speaks of any number
+//! of groups. Definitions and laws, no logic.
+#![tactic(auto)]
+
+ghost use Rattle.std.specs.Prelude.{[]};
+ghost use Rattle.sc_sound.specs.Example.{four};
+ghost use Rattle.sc_sound.specs.Soundness.{IsSound};
+ghost use Rattle.sc_group_law.specs.Example.{election_scenario, election_example};
+ghost use Rattle.sc_sound_law.specs.Laws.{LoneJournalsAreSound, ValidHaveLoneGroup};
+ghost use Rattle.sc_sound_law.specs.LoneGroup.{HasLoneGroup};
+
+use sc_group_law::{a_journal_with_an_election, valid_scenarios_have_one_group};
+use sc_scenario::texts_are_early;
+
+/// Each first part of a lawful journal of one group is sound as that is said of any number of
+/// groups: each group of the journal has one log, which only grows; each replica has executed a
+/// front of its group's log; the ring covers, and the group of each cut is placed in it and holds
+/// its part of the map; the history is legal, with the replies that clients keep; and each entry
+/// is decided after its issue and before its answer.
+pub fn lone_journals_are_sound()
+    ensures { LoneJournalsAreSound }
+{}
+
+/// The law speaks of every valid scenario: each has one group, which has the whole circle and is
+/// its own neighbour on both sides.
+pub fn valid_scenarios_have_a_lone_group()
+    ensures { ValidHaveLoneGroup }
+{
+    texts_are_early();
+    valid_scenarios_have_one_group();
+}
+
+/// The law is about something: a journal in which a request is decided and another node is elected.
+pub fn an_election_is_sound()
+    ensures one_group { HasLoneGroup election_scenario }
+    ensures sound { IsSound four election_scenario election_example [] }
+{
+    a_journal_with_an_election();
+}
