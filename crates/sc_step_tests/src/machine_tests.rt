@@ -13,19 +13,21 @@ const CHILD: Draw = Draw { node: 1, count: 1 };
 // The position of the key `aa`.
 const AA: u32 = 0x6161_0000;
 
-fn core(alloc: Global, arc: RingArc) -> Core {
-    let members = Members::one(1);
-    let alone = Link {
+fn link(members: &Members) -> Link {
+    Link {
         group: GROUP,
-        members,
-    };
+        members: *members,
+    }
+}
+
+fn core(alloc: Global, arc: RingArc, members: &Members) -> Core {
     Core {
         id: GROUP,
         first: 1,
         arc,
-        members,
-        succ: alone,
-        pred: alone,
+        members: *members,
+        succ: link(members),
+        pred: link(members),
         lock: Lock::Free,
         begun: 0,
         decided: Sequence::new(alloc),
@@ -39,7 +41,7 @@ fn core(alloc: Global, arc: RingArc) -> Core {
 fn group(rt: &impl Abort, alloc: Global) -> Base {
     let arc = RingArc::try_new(0, 0x6200_0000).expect(rt, "an arc");
     Base {
-        core: core(alloc, arc),
+        core: core(alloc, arc, &Members::one(1)),
         pairs: Pairs::new(alloc),
         clients: SeenList::new(alloc),
     }
