@@ -90,12 +90,12 @@ fn take(
     rt: &impl Abort,
     replica: &mut Replica,
     from: u32,
-    body: &MailBody,
+    body: MailBody,
     out: &mut Sequence<Mail>,
 )
-    requires { may_come from body.now ≡ true }
+    requires { may_come from body ≡ true }
 {
-    replica.take_mail(from, body, out).expect(rt, "memory");
+    replica.take_mail(from, &body, out).expect(rt, "memory");
 }
 
 // A client's request, which the only member offers, accepts, counts and executes.
@@ -107,9 +107,9 @@ fn execute_one(
     op: &Op,
     out: &mut Sequence<Mail>,
 ) {
-    take(rt, replica, 33, &request(slot, copy(rt, alloc, op)), out);
-    take(rt, replica, 1, &accept(slot, copy(rt, alloc, op)), out);
-    take(rt, replica, 1, &accepted(slot), out);
+    take(rt, replica, 33, request(slot, copy(rt, alloc, op)), out);
+    take(rt, replica, 1, accept(slot, copy(rt, alloc, op)), out);
+    take(rt, replica, 1, accepted(slot), out);
 }
 
 fn execute_all(rt: &impl Abort, alloc: Global, replica: &mut Replica, out: &mut Sequence<Mail>) {
@@ -122,7 +122,7 @@ fn execute_all(rt: &impl Abort, alloc: Global, replica: &mut Replica, out: &mut 
 // What node 2 is told.
 fn told(rt: &impl Abort, alloc: Global, replica: &mut Replica, wanted: Wanted) -> Sent {
     let mut out = Sequence::new(alloc);
-    take(rt, replica, 2, &asking(wanted), &mut out);
+    take(rt, replica, 2, asking(wanted), &mut out);
     told_in(out.as_slice())
 }
 
