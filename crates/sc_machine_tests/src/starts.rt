@@ -23,67 +23,52 @@ pub(crate) const B: u32 = 0x6200_0000;
 
 pub(crate) const D: u32 = 0x6400_0000;
 
-// What a group is bound to, in the transaction `TX`.
+// How a group starts, on the arc from `b` to `d`: free, of two nodes, before the group `NEXT`, and
+// without a memory of `TX`, but for what is said here.
 #[derive(Clone, Copy)]
-pub(crate) enum Bond {
+pub(crate) enum Start {
     Free,
+    // Of so many nodes, and the only group of its ring.
+    Of(u16),
+    Alone(u16),
+    // With so many transactions begun.
+    Busy(u32),
+    // The coordinator of `TX`: of a merge and of so many nodes; of any transaction; after a Yes.
+    Merging(u16),
     Begun(Body),
     Heard(Body),
+    // Promised to `TX`, and its watcher.
     Promised(Body),
     Watching,
-}
-
-// A group on the arc from `b` to `d`, by its lock, how many members it has, who stands after it, how
-// many transactions it has begun, and what else it remembers of `TX`.
-#[derive(Clone, Copy)]
-pub(crate) struct Start {
-    pub(crate) bond: Bond,
-    pub(crate) members: u16,
-    pub(crate) succ: Draw,
-    pub(crate) begun: u32,
-    pub(crate) memory: Memory,
-}
-
-#[derive(Clone, Copy)]
-pub(crate) enum Memory {
-    Nothing,
+    // What it remembers of `TX`, and a put of client 1 with the number 2.
     Gone,
     Born,
     Decided,
     Voted,
-    Put,
+    Noted,
 }
 
-pub(crate) const FREE: Start = Start {
-    bond: Bond::Free,
-    members: 2,
-    succ: NEXT,
-    begun: 0,
-    memory: Memory::Nothing,
-};
-
-pub(crate) fn bound(bond: Bond) -> Start {
-    Start { bond, ..FREE }
-}
-
-pub(crate) fn remembering(memory: Memory) -> Start {
-    Start { memory, ..FREE }
-}
-
-pub(crate) fn of(members: u16) -> Start {
-    Start { members, ..FREE }
-}
-
-pub(crate) fn alone(members: u16) -> Start {
-    Start {
-        members,
-        succ: GROUP,
-        ..FREE
+fn members_of(start: Start) -> u16 {
+    match start {
+        Start::Of(count) => count,
+        Start::Alone(count) => count,
+        Start::Merging(count) => count,
+        _ => 2,
     }
 }
 
-pub(crate) fn busy(begun: u32) -> Start {
-    Start { begun, ..FREE }
+fn succ_of(start: Start) -> Draw {
+    match start {
+        Start::Alone(_) => GROUP,
+        _ => NEXT,
+    }
+}
+
+fn begun_of(start: Start) -> u32 {
+    match start {
+        Start::Busy(count) => count,
+        _ => 0,
+    }
 }
 
 // So many nodes from `first` on.
@@ -145,32 +130,35 @@ pub(crate) fn watch(old: Draw) -> Watch {
     }
 }
 
-fn lock_of(rt: &impl Abort, alloc: Global, bond: Bond) -> Lock {
-    match bond {
-        Bond::Free => Lock::Free,
-        Bond::Begun(body) => Lock::Coordinating {
-            tx: TX,
+fn coordinating(body: Body, heard: Option<Heard>) -> Lock {
+    Lock::Coordinating {
+        tx: TX,
+        body,
+        order: 1,
+        heard,
+    }
+}
+
+fn lock_of(rt: &impl Abort, alloc: Global, start: Start) -> Lock {
+    match start {
+        Start::Merging(_) => coordinating(Body::Merge, None),
+        Start::Begun(body) => coordinating(body, None),
+        Start::Heard(body) => coordinating(
             body,
-            order: 1,
-            heard: None,
-        },
-        Bond::Heard(body) => Lock::Coordinating {
-            tx: TX,
-            body,
-            order: 1,
-            heard: Some(Heard {
+            Some(Heard {
                 frozen: frozen(rt, alloc, LAST),
                 by: 11,
             }),
-        },
-        Bond::Promised(body) => Lock::Promised {
+        ),
+        Start::Promised(body) => Lock::Promised {
             tx: TX,
             offer: offer(rt, BEFORE, 2, body),
         },
-        Bond::Watching => Lock::Watching {
+        Start::Watching => Lock::Watching {
             tx: TX,
             watch: watch(LAST),
         },
+        _ => Lock::Free,
     }
 }
 
@@ -180,10 +168,10 @@ fn core(alloc: Global, start: Start, arc: RingArc, members: Members, lock: Lock)
         first: 1,
         arc,
         members,
-        succ: link(start.succ, members),
+        succ: link(succ_of(start), members),
         pred: link(LAST, members),
         lock,
-        begun: start.begun,
+        begun: begun_of(start),
         decided: Sequence::new(alloc),
         voted: Sequence::new(alloc),
         born: Sequence::new(alloc),
@@ -191,26 +179,26 @@ fn core(alloc: Global, start: Start, arc: RingArc, members: Members, lock: Lock)
     }
 }
 
-fn remember(rt: &impl Abort, core: &mut Core, memory: Memory) {
-    match memory {
-        Memory::Nothing | Memory::Put => {}
-        Memory::Gone => {
+fn remember(rt: &impl Abort, core: &mut Core, start: Start) {
+    match start {
+        Start::Gone => {
             core.gone = Some(Route {
                 group: LAST,
                 lo: 0,
                 members: core.members,
             });
         }
-        Memory::Born => core.born.push(TX).expect(rt, "memory"),
-        Memory::Decided => core.decided.push((TX, Outcome::Abort)).expect(rt, "memory"),
-        Memory::Voted => core.voted.push((TX, Past::Yes)).expect(rt, "memory"),
+        Start::Born => core.born.push(TX).expect(rt, "memory"),
+        Start::Decided => core.decided.push((TX, Outcome::Abort)).expect(rt, "memory"),
+        Start::Voted => core.voted.push((TX, Past::Yes)).expect(rt, "memory"),
+        _ => {}
     }
 }
 
-// What the group knows of its clients: of client 1 the number 2, where it remembers a put.
-fn clients(rt: &impl Abort, alloc: Global, memory: Memory) -> SeenList {
+// What the group knows of its clients.
+fn clients(rt: &impl Abort, alloc: Global, start: Start) -> SeenList {
     let mut clients = SeenList::new(alloc);
-    if let Memory::Put = memory {
+    if let Start::Noted = start {
         let noted = Noted {
             seq: 2,
             reply: Reply { old: None },
@@ -220,23 +208,21 @@ fn clients(rt: &impl Abort, alloc: Global, memory: Memory) -> SeenList {
     clients
 }
 
-fn started(rt: &impl Abort, alloc: Global, start: Start) -> Core
-    requires { start.members < 80 }
-{
-    let members = nodes(rt, 1, start.members);
-    let lock = lock_of(rt, alloc, start.bond);
+fn started(rt: &impl Abort, alloc: Global, start: Start) -> Core {
+    let count = members_of(start);
+    assert!(rt; count <= 9);
+    let members = nodes(rt, 1, count);
+    let lock = lock_of(rt, alloc, start);
     let mut core = core(alloc, start, arc(rt, B), members, lock);
-    remember(rt, &mut core, start.memory);
+    remember(rt, &mut core, start);
     core
 }
 
-pub(crate) fn machine(rt: &impl Abort, alloc: Global, start: Start) -> Machine
-    requires { start.members < 80 }
-{
+pub(crate) fn machine(rt: &impl Abort, alloc: Global, start: Start) -> Machine {
     let base = Base {
         core: started(rt, alloc, start),
         pairs: Pairs::new(alloc),
-        clients: clients(rt, alloc, start.memory),
+        clients: clients(rt, alloc, start),
     };
     Machine::born(alloc, base).expect(rt, "memory")
 }

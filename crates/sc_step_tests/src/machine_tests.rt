@@ -13,19 +13,21 @@ const CHILD: Draw = Draw { node: 1, count: 1 };
 // The position of the key `aa`.
 const AA: u32 = 0x6161_0000;
 
-fn core(alloc: Global, arc: RingArc) -> Core {
-    let members = Members::one(1);
-    let alone = Link {
+fn link(members: &Members) -> Link {
+    Link {
         group: GROUP,
-        members,
-    };
+        members: *members,
+    }
+}
+
+fn core(alloc: Global, arc: RingArc, members: &Members) -> Core {
     Core {
         id: GROUP,
         first: 1,
         arc,
-        members,
-        succ: alone,
-        pred: alone,
+        members: *members,
+        succ: link(members),
+        pred: link(members),
         lock: Lock::Free,
         begun: 0,
         decided: Sequence::new(alloc),
@@ -39,7 +41,7 @@ fn core(alloc: Global, arc: RingArc) -> Core {
 fn group(rt: &impl Abort, alloc: Global) -> Base {
     let arc = RingArc::try_new(0, 0x6200_0000).expect(rt, "an arc");
     Base {
-        core: core(alloc, arc),
+        core: core(alloc, arc, &Members::one(1)),
         pairs: Pairs::new(alloc),
         clients: SeenList::new(alloc),
     }
@@ -129,14 +131,20 @@ const REQUESTS: &[Step] = &[
 #[test]
 fn requests_take_effect_once(rt: HostRuntime) {
     let machine = machine_after(&rt, rt.alloc(), REQUESTS);
-    assert_eq!(rt; machine.core().begun, 0);
+    assert!(rt; machine.core().begun == 0);
 }
+
+fn has_one_of_each(record: &Base) -> bool {
+    record.pairs.len() == 1 && record.clients.len() == 1
+}
+
+const ONE: &[Step] = &[(Ask::Put(1, b"a", b"x"), "done none")];
 
 // The record of a machine that carried out a request, with one pair and one client.
 fn record_after_one(rt: &impl Abort, alloc: Global) -> Base {
-    let machine = machine_after(rt, alloc, &[(Ask::Put(1, b"a", b"x"), "done none")]);
+    let machine = machine_after(rt, alloc, ONE);
     let record = machine.base().expect(rt, "memory");
-    assert!(rt; record.pairs.len() == 1 && record.clients.len() == 1);
+    assert!(rt; has_one_of_each(&record));
     record
 }
 
@@ -162,12 +170,14 @@ const JOIN: &[Step] = &[
     (Ask::Join(2), "refused"),
 ];
 
+const LEAVE: &[Step] = &[(Ask::Leave(1), "changed")];
+
 #[test]
 fn nodes_join_and_leave(rt: HostRuntime) {
     let mut machine = machine_after(&rt, rt.alloc(), JOIN);
-    let both = has_members(&machine, &[1, 2]);
-    take(&rt, rt.alloc(), &mut machine, &[(Ask::Leave(1), "changed")]);
-    assert!(rt; both && has_members(&machine, &[2]));
+    assert!(rt; has_members(&machine, &[1, 2]));
+    take(&rt, rt.alloc(), &mut machine, LEAVE);
+    assert!(rt; has_members(&machine, &[2]));
 }
 
 // Of a group of the nodes 1 and 2 with a pair at each of `a` and `az`.
@@ -209,5 +219,5 @@ fn the_child_serves_the_rest_and_knows_each_client(rt: HostRuntime) {
     let record = child_record(&rt, rt.alloc());
     let mut child = Machine::born(rt.alloc(), record).expect(&rt, "memory");
     take(&rt, rt.alloc(), &mut child, OF_CHILD);
-    assert_eq!(rt; child.core().first, 2);
+    assert!(rt; child.core().first == 2);
 }

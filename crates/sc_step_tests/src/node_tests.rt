@@ -137,5 +137,5 @@ fn a_node_of_one_group_sends_what_its_replica_sends(rt: HostRuntime) {
     let mut node = born_node(&rt, rt.alloc());
     let mut replica = Replica::born(rt.alloc(), 1, group(&rt, rt.alloc(), 1)).expect(&rt, "memory");
     let mails = all_alike(&rt, rt.alloc(), &mut node, &mut replica);
-    assert_eq!(rt; mails, [1, 1, 1, 1, 1, 1]);
+    assert!(rt; mails == [1, 1, 1, 1, 1, 1]);
 }

@@ -32,19 +32,19 @@ fn half_arc(rt: &impl Abort, lo: u32) -> RingArc {
     RingArc::try_new(lo, MIDDLE as u64).expect(rt, "half the ring")
 }
 
+fn link(group: Draw, members: Members) -> Link {
+    Link { group, members }
+}
+
 // A group with this arc and these members, and the other group as both neighbours.
 fn core_on(alloc: Global, arc: RingArc, members: Members, lock: Lock) -> Core {
-    let succ = Link {
-        group: SECOND,
-        members,
-    };
     Core {
         id: FIRST,
         first: 1,
         arc,
         members,
-        succ,
-        pred: succ,
+        succ: link(SECOND, members),
+        pred: link(SECOND, members),
         lock,
         begun: 0,
         decided: Sequence::new(alloc),
@@ -64,10 +64,7 @@ fn other_half(rt: &impl Abort, alloc: Global, members: Members) -> Frozen {
     Frozen {
         arc: half_arc(rt, MIDDLE),
         members,
-        succ: Link {
-            group: FIRST,
-            members,
-        },
+        succ: link(FIRST, members),
         pairs: Pairs::new(alloc),
         clients: SeenList::new(alloc),
     }

@@ -225,26 +225,28 @@ fn take_by_first(rt: &impl Abort, alloc: Global, steps: &[Step]) {
     take(rt, alloc, &mut first_group(rt, alloc), steps);
 }
 
+const GIVEN_UP: &[Step] = &[
+    (Ask::Begin(TX, Body::Merge), "changed"),
+    (Ask::GiveUp, "abort"),
+    (Ask::Yes, "no effect"),
+];
+
 #[test]
 fn give_up_then_yes(rt: HostRuntime) {
-    let steps: [Step; 3] = [
-        (Ask::Begin(TX, Body::Merge), "changed"),
-        (Ask::GiveUp, "abort"),
-        (Ask::Yes, "no effect"),
-    ];
-    take_by_first(&rt, rt.alloc(), &steps);
+    take_by_first(&rt, rt.alloc(), GIVEN_UP);
 }
+
+const WATCHING: &[Step] = &[
+    (Ask::Watched(LATER, SECOND), "apart"),
+    (Ask::Watched(TX, THIRD), "yes"),
+    (Ask::Put(1, b"a"), "done"),
+    (Ask::Begin(OTHER, Body::Merge), "refused 2"),
+    (Ask::Prepared(OTHER, Body::Merge), "busy"),
+];
 
 #[test]
 fn watching_machine(rt: HostRuntime) {
-    let steps: [Step; 5] = [
-        (Ask::Watched(LATER, SECOND), "apart"),
-        (Ask::Watched(TX, THIRD), "yes"),
-        (Ask::Put(1, b"a"), "done"),
-        (Ask::Begin(OTHER, Body::Merge), "refused 2"),
-        (Ask::Prepared(OTHER, Body::Merge), "busy"),
-    ];
-    take_by_first(&rt, rt.alloc(), &steps);
+    take_by_first(&rt, rt.alloc(), WATCHING);
 }
 
 const MOVED: Body = Body::Repart { at: 0x6170_0000 };
@@ -257,15 +259,17 @@ const GIVING: &[Step] = &[
     (Ask::Yes, "given"),
 ];
 
+// After that.
+const GIVEN: &[Step] = &[
+    (Ask::Put(1, b"a"), "again"),
+    (Ask::Put(2, b"az"), "not mine"),
+];
+
 #[test]
 fn a_boundary_moves_with_its_pairs(rt: HostRuntime) {
     let mut first = first_group(&rt, rt.alloc());
     take(&rt, rt.alloc(), &mut first, GIVING);
-    let after: [Step; 2] = [
-        (Ask::Put(1, b"a"), "again"),
-        (Ask::Put(2, b"az"), "not mine"),
-    ];
-    take(&rt, rt.alloc(), &mut first, &after);
+    take(&rt, rt.alloc(), &mut first, GIVEN);
 }
 
 // What a group decided, if it decided one transaction.
@@ -286,33 +290,36 @@ fn gift(rt: &impl Abort, alloc: Global) -> Command {
     }
 }
 
+const BEFORE_GIFT: &[Step] = &[
+    (Ask::Prepared(TX, MOVED), "yes"),
+    (Ask::Put(3, b"c"), "no effect"),
+    (Ask::Divided, "no effect"),
+];
+
+const AFTER_GIFT: &[Step] = &[
+    (Ask::Put(2, b"az"), "again"),
+    (Ask::Prepared(TX, MOVED), "no effect"),
+];
+
 #[test]
 fn a_gift_comes_with_its_clients(rt: HostRuntime) {
-    let before: [Step; 3] = [
-        (Ask::Prepared(TX, MOVED), "yes"),
-        (Ask::Put(3, b"c"), "no effect"),
-        (Ask::Divided, "no effect"),
-    ];
-    let after: [Step; 2] = [
-        (Ask::Put(2, b"az"), "again"),
-        (Ask::Prepared(TX, MOVED), "no effect"),
-    ];
     let mut second = second_group(&rt, rt.alloc());
-    take(&rt, rt.alloc(), &mut second, &before);
+    take(&rt, rt.alloc(), &mut second, BEFORE_GIFT);
     let finish = gift(&rt, rt.alloc());
     let effect = effect_of(&rt, &mut second, &finish);
     assert_eq!(rt; effect, "given");
-    take(&rt, rt.alloc(), &mut second, &after);
+    take(&rt, rt.alloc(), &mut second, AFTER_GIFT);
 }
+
+const MERGING: &[Step] = &[
+    (Ask::Begin(TX, Body::Merge), "changed"),
+    (Ask::Yes, "changed"),
+    (Ask::Yes, "no effect"),
+    (Ask::WatchedYes, "merged"),
+    (Ask::Put(3, b"c"), "done"),
+];
 
 #[test]
 fn a_merge_waits_for_its_watcher(rt: HostRuntime) {
-    let steps: [Step; 5] = [
-        (Ask::Begin(TX, Body::Merge), "changed"),
-        (Ask::Yes, "changed"),
-        (Ask::Yes, "no effect"),
-        (Ask::WatchedYes, "merged"),
-        (Ask::Put(3, b"c"), "done"),
-    ];
-    take_by_first(&rt, rt.alloc(), &steps);
+    take_by_first(&rt, rt.alloc(), MERGING);
 }

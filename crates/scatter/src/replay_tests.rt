@@ -66,22 +66,7 @@ enum Change {
 
 // A scenario, what is changed of which row of its journal, and the row that a replay must name (0:
 // none).
-#[derive(Clone, Copy)]
-struct Case {
-    input: &'static [u8],
-    change: Change,
-    row: usize,
-    bad: u32,
-}
-
-const fn make_case(input: &'static [u8], change: Change, row: usize, bad: u32) -> Case {
-    Case {
-        input,
-        change,
-        row,
-        bad,
-    }
-}
+type Case = (&'static [u8], Change, usize, u32);
 
 // The rows of a scenario that is played to its end.
 fn played<R: Abort + Threads + Wait + Sync>(
@@ -123,9 +108,15 @@ fn change_row(rt: &impl Abort, alloc: Global, row: &mut Row<Mail, OrderLine>, ch
     }
 }
 
-// Changes rows as a case says.
-fn change_rows(rt: &impl Abort, alloc: Global, rows: &mut Vec<Row<Mail, OrderLine>>, case: Case) {
-    if let Change::Twice = case.change {
+// Changes the row of that number, from 1, or adds one.
+fn change_rows(
+    rt: &impl Abort,
+    alloc: Global,
+    rows: &mut Vec<Row<Mail, OrderLine>>,
+    change: Change,
+    number: usize,
+) {
+    if let Change::Twice = change {
         let tick = Row {
             who: 1,
             event: Event::Tick,
@@ -133,8 +124,8 @@ fn change_rows(rt: &impl Abort, alloc: Global, rows: &mut Vec<Row<Mail, OrderLin
         };
         rows.push(tick).expect(rt, "memory");
     }
-    if let Some(row) = rows.get_mut(case.row.saturating_sub(1)) {
-        change_row(rt, alloc, row, case.change);
+    if let Some(row) = rows.get_mut(number.saturating_sub(1)) {
+        change_row(rt, alloc, row, change);
     }
 }
 
@@ -144,9 +135,10 @@ fn journal_of<R: Abort + Threads + Wait + Sync>(
     alloc: Global,
     case: Case,
 ) -> Journal<Mail, OrderLine> {
-    let scenario = scenario_of(rt, alloc, case.input);
+    let (input, change, number, _) = case;
+    let scenario = scenario_of(rt, alloc, input);
     let mut rows = played(rt, alloc, &scenario).into_vec();
-    change_rows(rt, alloc, &mut rows, case);
+    change_rows(rt, alloc, &mut rows, change, number);
     Journal::from_vec(rows)
 }
 
@@ -168,29 +160,30 @@ pub fn named(
 
 fn named_of<R: Abort + Threads + Wait + Sync>(rt: &R, alloc: Global, case: Case) -> u32 {
     let journal = journal_of(rt, alloc, case);
-    named(rt, alloc, case.input, &journal)
+    named(rt, alloc, case.0, &journal)
 }
+
+const CASES: &[Case] = &[
+    (PUT_GET, Change::Nothing, 0, 0),
+    (CRASHED, Change::Nothing, 0, 0),
+    (REPEATED, Change::Nothing, 0, 0),
+    (ELECTION, Change::Nothing, 0, 0),
+    (SKIPPED, Change::Nothing, 0, 0),
+    (CUT_SHORT, Change::Nothing, 0, 0),
+    (PUT_GET, Change::Receiver, 4, 4),
+    (PUT_GET, Change::Silence, 2, 2),
+    (PUT_GET, Change::Sender, 3, 3),
+    (PUT_GET, Change::Event, 5, 5),
+    (PUT_GET, Change::Twice, 0, 10),
+    (REPEATED, Change::Sender, 3, 3),
+    (ELECTION, Change::Event, 20, 20),
+    (ELECTION, Change::Sender, 35, 35),
+];
 
 #[test]
 fn a_played_journal_is_replayed_and_a_changed_row_is_named(rt: HostRuntime) {
-    let cases = [
-        make_case(PUT_GET, Change::Nothing, 0, 0),
-        make_case(CRASHED, Change::Nothing, 0, 0),
-        make_case(REPEATED, Change::Nothing, 0, 0),
-        make_case(ELECTION, Change::Nothing, 0, 0),
-        make_case(SKIPPED, Change::Nothing, 0, 0),
-        make_case(CUT_SHORT, Change::Nothing, 0, 0),
-        make_case(PUT_GET, Change::Receiver, 4, 4),
-        make_case(PUT_GET, Change::Silence, 2, 2),
-        make_case(PUT_GET, Change::Sender, 3, 3),
-        make_case(PUT_GET, Change::Event, 5, 5),
-        make_case(PUT_GET, Change::Twice, 0, 10),
-        make_case(REPEATED, Change::Sender, 3, 3),
-        make_case(ELECTION, Change::Event, 20, 20),
-        make_case(ELECTION, Change::Sender, 35, 35),
-    ];
-    for case in cases {
-        assert_eq!(rt; named_of(&rt, rt.alloc(), case), case.bad);
+    for case in CASES {
+        assert_eq!(rt; named_of(&rt, rt.alloc(), *case), case.3);
     }
 }
 
@@ -239,15 +232,16 @@ fn report_of<R: Abort + Threads + Wait + Sync>(rt: &R, alloc: Global, input: &[u
     text_of(rt, alloc, &told_by(rt, alloc, &scenario, &journal))
 }
 
+const REPORTS: &[(&[u8], &[u8])] = &[
+    (PUT_GET, PUT_GET_REPORT),
+    (SKIPPED, SKIPPED_REPORT),
+    (CUT_SHORT, CUT_SHORT_REPORT),
+];
+
 #[test]
 fn a_replay_tells_the_report_of_its_rows(rt: HostRuntime) {
-    let cases = [
-        (PUT_GET, PUT_GET_REPORT),
-        (SKIPPED, SKIPPED_REPORT),
-        (CUT_SHORT, CUT_SHORT_REPORT),
-    ];
-    for (input, report) in cases {
-        assert_eq!(rt; report_of(&rt, rt.alloc(), input).as_slice(), report);
+    for (input, report) in REPORTS {
+        assert_eq!(rt; report_of(&rt, rt.alloc(), *input).as_slice(), *report);
     }
 }
 

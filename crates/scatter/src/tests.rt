@@ -8,35 +8,13 @@ use std::process::Abort;
 use std::sync::Wait;
 use std::thread::Threads;
 
-// The words, the input, the call of the source and the call of the sink that fail (0: none), and
-// what must come: the status, whether there is a journal, and the output.
-#[derive(Clone, Copy)]
-struct Case {
-    word: &'static str,
-    input: &'static [u8],
-    source_fails: u64,
-    sink_fails: u64,
-    status: u8,
-    journal: bool,
-    output: &'static [u8],
-}
+// The words, the input, and the call of the source and that of the sink that fail (0: none).
+type Given = (&'static str, &'static [u8], u64, u64);
 
-const fn make_case(
-    word: &'static str,
-    input: &'static [u8],
-    fails: (u64, u64),
-    expected: (u8, bool, &'static [u8]),
-) -> Case {
-    Case {
-        word,
-        input,
-        source_fails: fails.0,
-        sink_fails: fails.1,
-        status: expected.0,
-        journal: expected.1,
-        output: expected.2,
-    }
-}
+// What must come: the status, whether there is a journal, and the output.
+type Expected = (u8, bool, &'static [u8]);
+
+type Case = (Given, Expected);
 
 /// A put and a get of one client at one node.
 pub const FIRST: &[u8] =
@@ -82,39 +60,38 @@ pub fn ended<G: Gate, R: Abort + Threads + Wait + Sync>(
     run(rt, alloc, &words, &mut source, output, gate)
 }
 
-fn check<R: Abort + Threads + Wait + Sync>(rt: &R, alloc: Global, case: Case) {
-    let mut output = MemSink::new(alloc, 1000, &[case.sink_fails]).expect(rt, "memory");
-    let input = (case.input, case.source_fails);
-    let done = ended(rt, alloc, case.word, input, &mut output, &Open);
+fn check<R: Abort + Threads + Wait + Sync>(
+    rt: &R,
+    alloc: Global,
+    given: Given,
+    expected: Expected,
+) {
+    let (words, input, source_fails, sink_fails) = given;
+    let mut output = MemSink::new(alloc, 1000, &[sink_fails]).expect(rt, "memory");
+    let done = ended(rt, alloc, words, (input, source_fails), &mut output, &Open);
+    let (status, has_journal, text) = expected;
     assert_eq!(rt;
         (done.status, done.journal.is_some()),
-        (case.status, case.journal)
+        (status, has_journal)
     );
-    assert_eq!(rt; output.held(), case.output);
+    assert_eq!(rt; output.held(), text);
 }
+
+const CASES: &[Case] = &[
+    (("run", FIRST, 0, 0), (0, true, FIRST_REPORT)),
+    (("run", CUT_SHORT, 0, 0), (6, true, CUT_SHORT_REPORT)),
+    (("run", FIRST, 0, 2), (5, true, b"scatter report 1\n")),
+    (("run", FIRST, 1, 0), (4, false, b"read fault\n")),
+    (("make 0 7", FIRST, 0, 0), (2, false, USAGE)),
+    (("run", b"", 0, 0), (3, false, b"line 0: bad scenario\n")),
+    (("", FIRST, 0, 0), (2, false, USAGE)),
+];
 
 #[test]
 fn each_status_comes_with_its_text(rt: HostRuntime) {
-    let cases = [
-        make_case("run", FIRST, (0, 0), (0, true, FIRST_REPORT)),
-        make_case("run", CUT_SHORT, (0, 0), (6, true, CUT_SHORT_REPORT)),
-        make_case("run", FIRST, (0, 2), (5, true, b"scatter report 1\n")),
-        make_case("run", FIRST, (1, 0), (4, false, b"read fault\n")),
-        make_case("make 0 7", FIRST, (0, 0), (2, false, USAGE)),
-        make_case("run", b"", (0, 0), (3, false, b"line 0: bad scenario\n")),
-    ];
-    for case in cases {
-        check(&rt, rt.alloc(), case);
+    for (given, expected) in CASES {
+        check(&rt, rt.alloc(), *given, *expected);
     }
-}
-
-#[test]
-fn no_words_are_refused(rt: HostRuntime) {
-    check(
-        &rt,
-        rt.alloc(),
-        make_case("", FIRST, (0, 0), (2, false, USAGE)),
-    );
 }
 
 // What a row counts: 64, and for each mail 256 and its weight.
@@ -240,29 +217,26 @@ type TableRow = (&'static [u8], u8, &'static [u8]);
 
 fn check_row<R: Abort + Threads + Wait + Sync>(rt: &R, alloc: Global, row: TableRow) {
     let (input, status, report) = row;
-    check(
-        rt,
-        alloc,
-        make_case("run", input, (0, 0), (status, true, report)),
-    );
+    check(rt, alloc, ("run", input, 0, 0), (status, true, report));
 }
+
+const ROWS: &[TableRow] = &[
+    (ONE_CRASHED, 0, ONE_CRASHED_REPORT),
+    (MAJORITY_CRASHED, 0, MAJORITY_CRASHED_REPORT),
+    (ACCEPT_THRICE, 0, ACCEPT_THRICE_REPORT),
+    (TWO_LEADERS, 0, TWO_LEADERS_REPORT),
+    (SKIPPED_DELIVERY, 0, SKIPPED_DELIVERY_REPORT),
+    (PUT_PUT_DEL_GET, 0, PUT_PUT_DEL_GET_REPORT),
+    (FOUR_UNANSWERED, 6, FOUR_UNANSWERED_REPORT),
+    (FIFTH_WAITS, 0, FIFTH_WAITS_REPORT),
+    (LEADER_LEAVES, 0, LEADER_LEAVES_REPORT),
+    (JOIN_LEAVE_REFUSALS, 0, JOIN_LEAVE_REFUSALS_REPORT),
+];
 
 #[test]
 fn rows_of_one_group(rt: HostRuntime) {
-    let rows: [TableRow; 10] = [
-        (ONE_CRASHED, 0, ONE_CRASHED_REPORT),
-        (MAJORITY_CRASHED, 0, MAJORITY_CRASHED_REPORT),
-        (ACCEPT_THRICE, 0, ACCEPT_THRICE_REPORT),
-        (TWO_LEADERS, 0, TWO_LEADERS_REPORT),
-        (SKIPPED_DELIVERY, 0, SKIPPED_DELIVERY_REPORT),
-        (PUT_PUT_DEL_GET, 0, PUT_PUT_DEL_GET_REPORT),
-        (FOUR_UNANSWERED, 6, FOUR_UNANSWERED_REPORT),
-        (FIFTH_WAITS, 0, FIFTH_WAITS_REPORT),
-        (LEADER_LEAVES, 0, LEADER_LEAVES_REPORT),
-        (JOIN_LEAVE_REFUSALS, 0, JOIN_LEAVE_REFUSALS_REPORT),
-    ];
-    for row in rows {
-        check_row(&rt, rt.alloc(), row);
+    for row in ROWS {
+        check_row(&rt, rt.alloc(), *row);
     }
 }
 

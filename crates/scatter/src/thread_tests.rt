@@ -13,20 +13,7 @@ use std::thread;
 use std::thread::Threads;
 
 // A text around a line of deliveries, and how the report begins with any number of workers.
-#[derive(Clone, Copy)]
-struct Case {
-    before: &'static [u8],
-    after: &'static [u8],
-    begins: &'static [u8],
-}
-
-const fn make_case(before: &'static [u8], after: &'static [u8], begins: &'static [u8]) -> Case {
-    Case {
-        before,
-        after,
-        begins,
-    }
-}
+type Case = (&'static [u8], &'static [u8], &'static [u8]);
 
 const PUT_REPLY: &[u8] = b"scatter report 1\nreply 1 1 put none\nring ";
 
@@ -93,8 +80,9 @@ const EIGHT_REPLIES: &[u8] =
 
 // The text with a line of deliveries by so many workers.
 fn input_of(rt: &impl Abort, alloc: Global, case: Case, workers: &[u8]) -> Vec<u8> {
+    let (before, after, _) = case;
     let mut text = Vec::new(alloc);
-    for part in [case.before, b"free 1000 ", workers, b"\n", case.after] {
+    for part in [before, b"free 1000 ", workers, b"\n", after] {
         text.extend_from_slice(part).expect(rt, "memory");
     }
     text
@@ -121,29 +109,30 @@ fn is_same<R: Abort + Threads + Wait + Sync>(rt: &R, alloc: Global, case: Case) 
     let numbers: [&[u8]; 5] = [b"1", b"2", b"4", b"8", b"16"];
     for workers in numbers {
         let input = input_of(rt, alloc, case, workers);
-        if !runs_so(rt, alloc, &input, case.begins) {
+        if !runs_so(rt, alloc, &input, case.2) {
             return false;
         }
     }
     true
 }
 
+const CASES: &[Case] = &[
+    (ONE_NODE, b"", ONE_NODE_REPLIES),
+    (THREE_NODES, b"", THREE_NODES_REPLIES),
+    (FIVE_NODES, b"", FIVE_NODES_REPLIES),
+    (ONE_CRASHED, b"", ONE_CRASHED_REPLIES),
+    (TWO_LINES, b"go 2\nsettle 100\n", TWO_LINES_REPLIES),
+    (JOINED, b"", JOINED_REPLIES),
+    (REPEATED, b"", PUT_REPLY),
+    (LOST, b"", PUT_REPLY),
+    (ELECTED, b"", PUT_REPLY),
+    (EIGHT_CLIENTS, b"", EIGHT_REPLIES),
+];
+
 #[test]
 fn replies_do_not_depend_on_the_number_of_workers(rt: HostRuntime) {
-    let cases = [
-        make_case(ONE_NODE, b"", ONE_NODE_REPLIES),
-        make_case(THREE_NODES, b"", THREE_NODES_REPLIES),
-        make_case(FIVE_NODES, b"", FIVE_NODES_REPLIES),
-        make_case(ONE_CRASHED, b"", ONE_CRASHED_REPLIES),
-        make_case(TWO_LINES, b"go 2\nsettle 100\n", TWO_LINES_REPLIES),
-        make_case(JOINED, b"", JOINED_REPLIES),
-        make_case(REPEATED, b"", PUT_REPLY),
-        make_case(LOST, b"", PUT_REPLY),
-        make_case(ELECTED, b"", PUT_REPLY),
-        make_case(EIGHT_CLIENTS, b"", EIGHT_REPLIES),
-    ];
-    for case in cases {
-        assert!(rt; is_same(&rt, rt.alloc(), case));
+    for case in CASES {
+        assert!(rt; is_same(&rt, rt.alloc(), *case));
     }
 }
 
