@@ -1,6 +1,5 @@
 //! The laws, called once each. They stand in a crate of their own, so that no law is proved a
-//! second
-//! time for its test.
+//! second time for its test.
 #![tactic(auto)]
 
 #[cfg(test)]

@@ -8,6 +8,9 @@ use sc_hist_law::logs_tell_histories;
 use sc_paxos_law::{
     a_lawful_history, acceptors_are_lawful, leaders_are_lawful, one_log, one_value_per_slot,
 };
+use sc_sound_law::{
+    an_election_is_sound, lone_journals_are_sound, valid_scenarios_have_a_lone_group,
+};
 
 #[test]
 fn the_laws_of_paxos_are_of_any_value() {
@@ -29,4 +32,11 @@ fn the_laws_of_one_group_are_called() {
     valid_scenarios_have_one_group();
     a_journal_with_an_election();
     a_journal_with_a_join();
+}
+
+#[test]
+fn the_law_of_lone_groups_is_called() {
+    lone_journals_are_sound();
+    valid_scenarios_have_a_lone_group();
+    an_election_is_sound();
 }

@@ -86,13 +86,7 @@ fn told_in(sent: &[Mail]) -> Sent {
     (first_in(sent), sent.len(), entries_in(sent))
 }
 
-fn take(
-    rt: &impl Abort,
-    replica: &mut Replica,
-    from: u32,
-    body: MailBody,
-    out: &mut Sequence<Mail>,
-)
+fn take(rt: &impl Abort, replica: &mut Replica, from: u32, body: MailBody, out: &mut Sequence<Mail>)
     requires { may_come from body ≡ true }
 {
     replica.take_mail(from, &body, out).expect(rt, "memory");
