@@ -11,6 +11,7 @@ use sc_mail::{Mail, MailBody};
 use sc_node::{NodeCore, are_in_order};
 use sc_replica::{Replica, ReplicaInput};
 use std::alloc::Global;
+use std::mem::forget;
 use std::process::Abort;
 
 // What the input is: a mail for its group, or a tick.
@@ -73,8 +74,10 @@ fn node_sends(
     step: Step,
     op: &Op,
 ) -> Sequence<Mail> {
-    node.step(alloc, &input_of(rt, alloc, step, op))
-        .expect(rt, "memory")
+    let input = input_of(rt, alloc, step, op);
+    let sent = node.step(alloc, &input).expect(rt, "memory");
+    forget(input);
+    sent
 }
 
 fn replica_sends(
@@ -85,9 +88,9 @@ fn replica_sends(
     op: &Op,
 ) -> Sequence<Mail> {
     let mut sent = Sequence::new(alloc);
-    replica
-        .step(&replica_input_of(rt, alloc, step, op), &mut sent)
-        .expect(rt, "memory");
+    let input = replica_input_of(rt, alloc, step, op);
+    replica.step(&input, &mut sent).expect(rt, "memory");
+    forget(input);
     sent
 }
 
@@ -102,11 +105,14 @@ fn alike(
 ) -> usize {
     let wanted = replica_sends(rt, alloc, replica, step, op);
     let sent = node_sends(rt, alloc, node, step, op);
-    if sent.is_same(&wanted) {
+    let count = if sent.is_same(&wanted) {
         sent.len()
     } else {
         99
-    }
+    };
+    forget(wanted);
+    forget(sent);
+    count
 }
 
 fn all_alike(
@@ -120,6 +126,7 @@ fn all_alike(
     for (step, count) in STEPS.iter().zip(mails.iter_mut()) {
         *count = alike(rt, alloc, node, replica, *step, &op);
     }
+    forget(op);
     mails
 }
 
@@ -127,7 +134,9 @@ fn born_node(rt: &impl Abort, alloc: Global) -> NodeCore {
     let mut groups = Sequence::new(alloc);
     groups.push(group(rt, alloc, 1)).expect(rt, "memory");
     assert!(rt; are_in_order(groups.as_slice()));
-    NodeCore::born(alloc, 1, &groups).expect(rt, "memory")
+    let node = NodeCore::born(alloc, 1, &groups).expect(rt, "memory");
+    forget(groups);
+    node
 }
 
 // Each step sends one mail: a request is offered, a tick offers it again, the accept is answered, and
@@ -137,5 +146,7 @@ fn a_node_of_one_group_sends_what_its_replica_sends(rt: HostRuntime) {
     let mut node = born_node(&rt, rt.alloc());
     let mut replica = Replica::born(rt.alloc(), 1, group(&rt, rt.alloc(), 1)).expect(&rt, "memory");
     let mails = all_alike(&rt, rt.alloc(), &mut node, &mut replica);
+    forget(node);
+    forget(replica);
     assert!(rt; mails == [1, 1, 1, 1, 1, 1]);
 }

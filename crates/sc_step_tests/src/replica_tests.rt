@@ -10,6 +10,7 @@ use sc_mail::{Mail, MailBody};
 use sc_member::Members;
 use sc_replica::Replica;
 use std::alloc::Global;
+use std::mem::forget;
 use std::process::Abort;
 
 const SECOND: Ballot = Ballot { round: 2, node: 2 };
@@ -90,6 +91,7 @@ fn take(rt: &impl Abort, replica: &mut Replica, from: u32, body: MailBody, out: 
     requires { may_come from body ≡ true }
 {
     replica.take_mail(from, &body, out).expect(rt, "memory");
+    forget(body);
 }
 
 // A client's request, which the only member offers, accepts, counts and executes.
@@ -111,20 +113,27 @@ fn execute_all(rt: &impl Abort, alloc: Global, replica: &mut Replica, out: &mut 
     for slot in 1..129 {
         execute_one(rt, alloc, replica, slot, &op, out);
     }
+    forget(op);
 }
 
 // What node 2 is told.
 fn told(rt: &impl Abort, alloc: Global, replica: &mut Replica, wanted: Wanted) -> Sent {
     let mut out = Sequence::new(alloc);
     take(rt, replica, 2, asking(wanted), &mut out);
-    told_in(out.as_slice())
+    let told = told_in(out.as_slice());
+    forget(out);
+    told
 }
 
 // What a replica of the only member that executed 128 calls tells node 2.
 fn told_after_128(rt: &impl Abort, alloc: Global, wanted: Wanted) -> Sent {
     let mut replica = Replica::born(alloc, 1, group(rt, alloc, 1)).expect(rt, "memory");
-    execute_all(rt, alloc, &mut replica, &mut Sequence::new(alloc));
-    told(rt, alloc, &mut replica, wanted)
+    let mut out = Sequence::new(alloc);
+    execute_all(rt, alloc, &mut replica, &mut out);
+    let told = told(rt, alloc, &mut replica, wanted);
+    forget(out);
+    forget(replica);
+    told
 }
 
 #[test]
@@ -160,16 +169,20 @@ fn four(rt: &impl Abort, alloc: Global, members: Members) -> MemberSets
 fn installed(rt: &impl Abort, alloc: Global) -> (Replica, Sequence<Mail>) {
     let sets = four(rt, alloc, Members::one(2));
     let base = group(rt, alloc, 2);
-    Replica::installed(alloc, 2, 1, GROUP, 70, &base, &sets).expect(rt, "memory")
+    let installed = Replica::installed(alloc, 2, 1, GROUP, 70, &base, &sets).expect(rt, "memory");
+    forget(base);
+    forget(sets);
+    installed
 }
 
 // What that replica sends first, and what it then tells node 2.
 fn installed_tells(rt: &impl Abort, alloc: Global, wanted: Wanted) -> (Sent, Sent) {
     let (mut replica, sent) = installed(rt, alloc);
-    (
-        told_in(sent.as_slice()),
-        told(rt, alloc, &mut replica, wanted),
-    )
+    let first = told_in(sent.as_slice());
+    let then = told(rt, alloc, &mut replica, wanted);
+    forget(sent);
+    forget(replica);
+    (first, then)
 }
 
 // The sender is no member, so the replica looks for a leader, and is the only one that can lead.

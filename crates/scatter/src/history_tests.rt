@@ -14,6 +14,7 @@ use sc_mail::{Mail, MailBody};
 use sc_scenario::{Scenario, read_scenario};
 use sc_statuses::Played;
 use std::alloc::Global;
+use std::mem::forget;
 use std::process::Abort;
 use std::sync::Wait;
 use std::thread::Threads;
@@ -112,6 +113,9 @@ fn history<R: Abort + Threads + Wait + Sync>(rt: &R, alloc: Global, input: &[u8]
     let mut machine = machine_of(rt, alloc, &scenario);
     let mut text = Vec::new(alloc);
     tell_olds(rt, alloc, &mut machine, left.journal.as_slice(), &mut text);
+    forget(machine);
+    forget(left);
+    forget(scenario);
     text
 }
 
@@ -136,10 +140,12 @@ fn is_full_after_two(rt: &impl Abort, alloc: Global, journal: Journal<Mail, Orde
     }
 }
 
-// How FIRST is played within 700 bytes.
-fn filled<R: Abort + Threads + Wait + Sync>(rt: &R, alloc: Global) -> Left {
-    let scenario = read_scenario(alloc, FIRST).expect(rt, "a scenario");
-    left_of(rt, alloc, &scenario, 700)
+// How a scenario is played within 700 bytes.
+fn filled<R: Abort + Threads + Wait + Sync>(rt: &R, alloc: Global, input: &[u8]) -> Left {
+    let scenario = read_scenario(alloc, input).expect(rt, "a scenario");
+    let left = left_of(rt, alloc, &scenario, 700);
+    forget(scenario);
+    left
 }
 
 #[test]
@@ -147,8 +153,9 @@ fn full_after_two(rt: HostRuntime) {
     let Left {
         played,
         journal,
-        ..
-    } = filled(&rt, rt.alloc());
-    assert_eq!(rt; (played, journal.len()), (Played::Full, 2));
+        parties,
+    } = filled(&rt, rt.alloc(), FIRST);
+    forget(parties);
+    assert!(rt; played == Played::Full && journal.len() == 2);
     assert!(rt; is_full_after_two(&rt, rt.alloc(), journal));
 }

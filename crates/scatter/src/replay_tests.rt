@@ -16,7 +16,7 @@ use sc_scenario::{Scenario, read_scenario};
 use sc_statuses::Played;
 use sc_world::Party;
 use std::alloc::Global;
-use std::mem;
+use std::mem::{self, forget};
 use std::process::Abort;
 use std::sync::Wait;
 use std::thread::Threads;
@@ -331,12 +331,15 @@ fn left_of(parties: &[Party]) -> [u32; 3] {
     [nodes, clients, waiting]
 }
 
-// What is asked of the world of a run: the log of a group, the history whose requests found these
-// values, or what is left.
+// What the two requests of a history found.
+const FOUND: &[Option<&[u8]>] = &[None, Some(b"x")];
+
+// What is asked of the world of a run: the log of a group, the history whose requests found FOUND,
+// or what is left.
 #[derive(Clone, Copy)]
 enum Question {
     Log(Draw),
-    History([Option<&'static [u8]>; 2]),
+    History,
     Left,
 }
 
@@ -349,7 +352,7 @@ fn answer(
 ) -> Vec<u32> {
     match question {
         Question::Log(group) => numbers_of(rt, alloc, scenario, world, group),
-        Question::History(found) => entries_of(rt, alloc, scenario, world, &found),
+        Question::History => entries_of(rt, alloc, scenario, world, FOUND),
         Question::Left => Vec::from_slice(alloc, &left_of(world.parties())).expect(rt, "memory"),
     }
 }
@@ -363,30 +366,42 @@ fn told<R: Abort + Threads + Wait + Sync>(
     let scenario = scenario_of(rt, alloc, input);
     let journal = played(rt, alloc, &scenario);
     let world = replayed(rt, alloc, &scenario, &journal);
-    answer(rt, alloc, &scenario, &world, question)
+    let told = answer(rt, alloc, &scenario, &world, question);
+    forget(world);
+    forget(journal);
+    forget(scenario);
+    told
+}
+
+// Whether a run's world answers this.
+fn tells<R: Abort + Threads + Wait + Sync>(
+    rt: &R,
+    alloc: Global,
+    input: &[u8],
+    question: Question,
+    expected: &[u32],
+) -> bool {
+    told(rt, alloc, input, question).as_slice() == expected
+}
+
+// The log of the group that is named so.
+fn log_of(node: u16) -> Question {
+    Question::Log(Draw { node, count: 1 })
 }
 
 #[test]
 fn a_put_and_a_get_are_decided_in_order(rt: HostRuntime) {
-    let logs: [(u16, &[u32]); 2] = [(0, &[1, 2]), (1, &[])];
-    for (node, numbers) in logs {
-        let group = Draw { node, count: 1 };
-        let log = told(&rt, rt.alloc(), PUT_GET, Question::Log(group));
-        assert_eq!(rt; log.as_slice(), numbers);
-    }
+    assert!(rt; tells(&rt, rt.alloc(), PUT_GET, log_of(0), &[1, 2]));
+    assert!(rt; tells(&rt, rt.alloc(), PUT_GET, log_of(1), &[]));
 }
 
 #[test]
 fn a_put_finds_nothing_and_a_get_finds_what_was_put(rt: HostRuntime) {
-    let found = [None, Some(b"x".as_slice())];
-    let numbers = told(&rt, rt.alloc(), PUT_GET, Question::History(found));
-    assert_eq!(rt; numbers.as_slice(), [1, 2].as_slice());
+    assert!(rt; tells(&rt, rt.alloc(), PUT_GET, Question::History, &[1, 2]));
 }
 
 #[test]
 fn a_replay_leaves_each_node_and_client_where_its_rows_do(rt: HostRuntime) {
-    for (input, expected) in [(PUT_GET, [1, 1, 0]), (CUT_SHORT, [1, 1, 1])] {
-        let left = told(&rt, rt.alloc(), input, Question::Left);
-        assert_eq!(rt; left.as_slice(), expected.as_slice());
-    }
+    assert!(rt; tells(&rt, rt.alloc(), PUT_GET, Question::Left, &[1, 1, 0]));
+    assert!(rt; tells(&rt, rt.alloc(), CUT_SHORT, Question::Left, &[1, 1, 1]));
 }

@@ -78,13 +78,19 @@ const EIGHT_REPLIES: &[u8] =
         reply 6 2 get value x\nreply 7 1 put none\nreply 7 2 get value x\nreply 8 1 put none\n\
         reply 8 2 get value x\nring ";
 
+fn add(rt: &impl Abort, text: &mut Vec<u8>, part: &[u8]) {
+    text.extend_from_slice(part).expect(rt, "memory");
+}
+
 // The text with a line of deliveries by so many workers.
 fn input_of(rt: &impl Abort, alloc: Global, case: Case, workers: &[u8]) -> Vec<u8> {
     let (before, after, _) = case;
     let mut text = Vec::new(alloc);
-    for part in [before, b"free 1000 ", workers, b"\n", after] {
-        text.extend_from_slice(part).expect(rt, "memory");
-    }
+    add(rt, &mut text, before);
+    add(rt, &mut text, b"free 1000 ");
+    add(rt, &mut text, workers);
+    add(rt, &mut text, b"\n");
+    add(rt, &mut text, after);
     text
 }
 
@@ -104,10 +110,11 @@ fn runs_so<R: Abort + Threads + Wait + Sync>(
     }
 }
 
+const WORKERS: &[&[u8]] = &[b"1", b"2", b"4", b"8", b"16"];
+
 // Whether the replies of a case are the same with any number of workers.
 fn is_same<R: Abort + Threads + Wait + Sync>(rt: &R, alloc: Global, case: Case) -> bool {
-    let numbers: [&[u8]; 5] = [b"1", b"2", b"4", b"8", b"16"];
-    for workers in numbers {
+    for workers in WORKERS {
         let input = input_of(rt, alloc, case, workers);
         if !runs_so(rt, alloc, &input, case.2) {
             return false;
