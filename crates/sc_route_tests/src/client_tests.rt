@@ -1,11 +1,12 @@
 use sc_actor::{Actor, Input};
-use sc_base::{Draw, Key, KeyFault, Op, Reply, RingArc, Sequence, Value};
+use sc_base::{Draw, Key, Op, Reply, RingArc, Sequence, Value};
 use sc_client::ClientCore;
 use sc_cmd::{Link, OrderLine, Route};
 use sc_mail::{AnswerBody, Mail, MailBody};
 use sc_member::Members;
 use std::alloc::Global;
-use std::test::Fail;
+use std::mem::forget;
+use std::process::Abort;
 
 /// What a client is told by a node.
 #[derive(Clone, Copy)]
@@ -34,29 +35,8 @@ fn group(count: u32) -> Draw {
     Draw { node: 0, count }
 }
 
-fn put(alloc: Global) -> Result<Op, KeyFault> {
-    let key = Key::try_new(alloc, b"a")?;
-    let value = Value::try_new(alloc, b"x")?;
-    Ok(Op::Put { key, value })
-}
-
-fn get(alloc: Global) -> Result<Op, KeyFault> {
-    let key = Key::try_new(alloc, b"a")?;
-    Ok(Op::Get { key })
-}
-
-fn push(requests: &mut Sequence<Op>, op: Result<Op, KeyFault>) -> bool {
-    match op {
-        Ok(op) => requests.push(op).is_ok(),
-        Err(_) => false,
-    }
-}
-
-/// The requests put a x and get a.
-fn requests(alloc: Global) -> Option<Sequence<Op>> {
-    let mut requests = Sequence::new(alloc);
-    let is_full = push(&mut requests, put(alloc)) && push(&mut requests, get(alloc));
-    if is_full { Some(requests) } else { None }
+fn key(rt: &impl Abort, alloc: Global) -> Key {
+    Key::try_new(alloc, b"a").expect(rt, "a key")
 }
 
 /// Group 0.1 from 0 on with members 1 2 3.
@@ -71,22 +51,33 @@ fn first_route() -> Route {
     }
 }
 
-/// Client 1 with two requests, which knows one group.
-fn client(alloc: Global) -> Option<ClientCore> {
-    let requests = requests(alloc)?;
-    if requests.len() > 2 {
-        return None;
-    }
-    ClientCore::born(alloc, 1, requests, first_route()).ok()
+/// Client 1 with the requests put a x and get a, which knows one group.
+fn client(rt: &impl Abort, alloc: Global) -> ClientCore {
+    let mut requests = Sequence::new(alloc);
+    let value = Value::try_new(alloc, b"x").expect(rt, "a value");
+    let key_of_put = key(rt, alloc);
+    requests
+        .push(Op::Put {
+            key: key_of_put,
+            value,
+        })
+        .expect(rt, "memory");
+    let key_of_get = key(rt, alloc);
+    requests.push(Op::Get { key: key_of_get }).expect(rt, "memory");
+    assert!(rt; requests.len() == 2);
+    ClientCore::born(alloc, 1, requests, first_route()).expect(rt, "memory")
 }
 
-fn not_mine() -> Option<AnswerBody> {
-    let arc = RingArc::try_new(0, 1 << 30).ok()?;
+fn not_mine(rt: &impl Abort) -> AnswerBody {
     let mut members = Members::one(4);
     let _ = members.add(5);
-    let group = group(2);
-    let succ = Link { group, members };
-    Some(AnswerBody::NotMine { arc, succ })
+    AnswerBody::NotMine {
+        arc: RingArc::try_new(0, 1 << 30).expect(rt, "an arc"),
+        succ: Link {
+            group: group(2),
+            members,
+        },
+    }
 }
 
 fn gone() -> AnswerBody {
@@ -99,13 +90,13 @@ fn gone() -> AnswerBody {
     }
 }
 
-fn answer(told: Told) -> Option<AnswerBody> {
+fn answer(rt: &impl Abort, told: Told) -> AnswerBody {
     match told {
-        Told::Value => Some(AnswerBody::Value(Reply { old: None })),
-        Told::NotLeader(hint) => Some(AnswerBody::NotLeader { hint }),
-        Told::NotMine => not_mine(),
-        Told::Gone => Some(gone()),
-        Told::Stale => Some(AnswerBody::Stale { last: 7 }),
+        Told::Value => AnswerBody::Value(Reply { old: None }),
+        Told::NotLeader(hint) => AnswerBody::NotLeader { hint },
+        Told::NotMine => not_mine(rt),
+        Told::Gone => gone(),
+        Told::Stale => AnswerBody::Stale { last: 7 },
     }
 }
 
@@ -115,83 +106,61 @@ fn mail(from: u32, count: u32, seq: u32, answer: AnswerBody) -> Input<Mail, Orde
     Input::Got(Mail { from, to: 33, body })
 }
 
-fn input(given: Given) -> Option<Input<Mail, OrderLine>> {
+fn input(rt: &impl Abort, given: Given) -> Input<Mail, OrderLine> {
     match given {
-        Given::Go => Some(Input::Go),
-        Given::Tick => Some(Input::Tick),
-        Given::Answer(from, count, seq, told) => Some(mail(from, count, seq, answer(told)?)),
+        Given::Go => Input::Go,
+        Given::Tick => Input::Tick,
+        Given::Answer(from, count, seq, told) => mail(from, count, seq, answer(rt, told)),
     }
 }
 
-/// The receiver, the group and the number of a request.
-fn request_of(mail: &Mail) -> Sent {
-    match &mail.body {
-        MailBody::Request { group, seq, .. } => Some((mail.to, group.count, *seq)),
+/// The receiver, the group and the number of the request that is the only mail.
+fn only_request(mails: &[Mail]) -> Sent {
+    match mails {
+        [mail] => match &mail.body {
+            MailBody::Request { group, seq, .. } => Some((mail.to, group.count, *seq)),
+            _ => None,
+        },
         _ => None,
     }
 }
 
-fn only_request(mails: &Sequence<Mail>) -> Sent {
-    if mails.len() == 1 {
-        request_of(mails.at(0))
-    } else {
-        None
-    }
-}
-
-/// What the actor sends at an input.
+/// What the actor sends at an input. What it was given and what it sent is left to the process,
+/// which ends soon.
 fn sent_at<A: Actor<Mail = Mail, Order = OrderLine>>(
-    alloc: Global,
-    actor: &mut A,
-    input: &Input<Mail, OrderLine>,
-) -> Option<Sent> {
-    match actor.step(alloc, input) {
-        Ok(mails) => Some(only_request(&mails)),
-        Err(_) => None,
-    }
-}
-
-/// Whether the actor sends that at an input.
-fn sends<A: Actor<Mail = Mail, Order = OrderLine>>(
+    rt: &impl Abort,
     alloc: Global,
     actor: &mut A,
     given: Given,
-    wanted: Sent,
-) -> bool {
-    match input(given) {
-        Some(input) => sent_at(alloc, actor, &input) == Some(wanted),
-        None => false,
-    }
+) -> Sent {
+    let input = input(rt, given);
+    let mails = actor.step(alloc, &input).expect(rt, "memory");
+    let sent = only_request(mails.as_slice());
+    forget(mails);
+    forget(input);
+    sent
 }
 
-/// Gives the actor one input after another; the place of the first that comes out otherwise.
-fn first_wrong<A: Actor<Mail = Mail, Order = OrderLine>>(
+/// Gives a new client one input after another: what it sends at each, the request that waits then,
+/// and how many replies it has.
+fn check(
+    rt: &impl Abort,
     alloc: Global,
-    actor: &mut A,
     rows: &[(Given, Sent)],
-) -> Option<usize> {
-    for (place, (given, sent)) in rows.iter().enumerate() {
-        if !sends(alloc, actor, *given, *sent) {
-            return Some(place);
-        }
+    waiting: Option<u32>,
+    replies: usize,
+) {
+    let mut client = client(rt, alloc);
+    for (given, sent) in rows {
+        assert!(rt; sent_at(rt, alloc, &mut client, *given) == *sent);
     }
-    None
-}
-
-/// The place of the first input at which a new client does otherwise, and then the number of the
-/// request that waits and how many replies it has; none where it has not kept its two requests.
-fn ended(alloc: Global, rows: &[(Given, Sent)]) -> Option<(Option<usize>, Option<u32>, usize)> {
-    let mut client = client(alloc)?;
-    let wrong = first_wrong(alloc, &mut client, rows);
-    if client.requests().len() == 2 {
-        Some((wrong, client.waiting(), client.replies().len()))
-    } else {
-        None
-    }
+    assert!(rt; client.requests().len() == 2);
+    assert!(rt; client.waiting() == waiting && client.replies().len() == replies);
+    forget(client);
 }
 
 #[test]
-fn client_hints_and_stale_not_mine(rt: HostRuntime) -> Result<(), Fail> {
+fn client_hints_and_stale_not_mine(rt: HostRuntime) {
     let rows = [
         (Given::Go, Some((1, 1, 1))),
         (
@@ -203,15 +172,11 @@ fn client_hints_and_stale_not_mine(rt: HostRuntime) -> Result<(), Fail> {
         (Given::Answer(1, 1, 1, Told::NotMine), None),
         (Given::Answer(4, 2, 1, Told::Gone), Some((7, 5, 1))),
     ];
-    assert_eq!(rt;
-        ended(rt.alloc(), &rows).ok_or("a client")?,
-        (None, Some(1), 0)
-    );
-    Ok(())
+    check(&rt, rt.alloc(), &rows, Some(1), 0);
 }
 
 #[test]
-fn answers_of_others_are_ignored(rt: HostRuntime) -> Result<(), Fail> {
+fn answers_of_others_are_ignored(rt: HostRuntime) {
     let rows = [
         (Given::Answer(1, 1, 1, Told::Value), None),
         (Given::Tick, None),
@@ -227,15 +192,11 @@ fn answers_of_others_are_ignored(rt: HostRuntime) -> Result<(), Fail> {
             Some((2, 1, 1)),
         ),
     ];
-    assert_eq!(rt;
-        ended(rt.alloc(), &rows).ok_or("a client")?,
-        (None, Some(1), 0)
-    );
-    Ok(())
+    check(&rt, rt.alloc(), &rows, Some(1), 0);
 }
 
 #[test]
-fn replies_are_kept_in_turn(rt: HostRuntime) -> Result<(), Fail> {
+fn replies_are_kept_in_turn(rt: HostRuntime) {
     let rows = [
         (Given::Go, Some((1, 1, 1))),
         (Given::Answer(2, 9, 1, Told::Value), Some((1, 1, 2))),
@@ -243,9 +204,5 @@ fn replies_are_kept_in_turn(rt: HostRuntime) -> Result<(), Fail> {
         (Given::Answer(1, 1, 2, Told::Value), None),
         (Given::Tick, None),
     ];
-    assert_eq!(rt;
-        ended(rt.alloc(), &rows).ok_or("a client")?,
-        (None, None, 2)
-    );
-    Ok(())
+    check(&rt, rt.alloc(), &rows, None, 2);
 }
