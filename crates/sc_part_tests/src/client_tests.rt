@@ -1,5 +1,6 @@
+use crate::values::{key, value};
 use sc_actor::{Actor, Input};
-use sc_base::{Draw, Key, Op, Reply, RingArc, Sequence, Value};
+use sc_base::{Draw, Op, Reply, RingArc, Sequence};
 use sc_client::ClientCore;
 use sc_cmd::{Link, OrderLine, Route};
 use sc_mail::{AnswerBody, Mail, MailBody};
@@ -35,10 +36,6 @@ fn group(count: u32) -> Draw {
     Draw { node: 0, count }
 }
 
-fn key(rt: &impl Abort, alloc: Global) -> Key {
-    Key::try_new(alloc, b"a").expect(rt, "a key")
-}
-
 /// Group 0.1 from 0 on with members 1 2 3.
 fn first_route() -> Route {
     let mut members = Members::one(1);
@@ -54,18 +51,15 @@ fn first_route() -> Route {
 /// Client 1 with the requests put a x and get a, which knows one group.
 fn client(rt: &impl Abort, alloc: Global) -> ClientCore {
     let mut requests = Sequence::new(alloc);
-    let value = Value::try_new(alloc, b"x").expect(rt, "a value");
-    let key_of_put = key(rt, alloc);
-    requests
-        .push(Op::Put {
-            key: key_of_put,
-            value,
-        })
-        .expect(rt, "memory");
-    let key_of_get = key(rt, alloc);
-    requests
-        .push(Op::Get { key: key_of_get })
-        .expect(rt, "memory");
+    let put = Op::Put {
+        key: key(rt, alloc, b"a"),
+        value: value(rt, alloc, b"x"),
+    };
+    requests.push(put).expect(rt, "memory");
+    let get = Op::Get {
+        key: key(rt, alloc, b"a"),
+    };
+    requests.push(get).expect(rt, "memory");
     assert!(rt; requests.len() == 2);
     ClientCore::born(alloc, 1, requests, first_route()).expect(rt, "memory")
 }
