@@ -63,12 +63,13 @@ fn length(rt: &impl Abort, table: &ClientTable) -> usize {
 #[test]
 fn tables_join_by_the_greater_number(rt: HostRuntime) {
     let mut table = ClientTable::new(rt.alloc());
-    for client in 1..4 {
-        note(&rt, rt.alloc(), &mut table, (client, 5), b"own");
-    }
-    for (client, seq) in &[(1, 4), (2, 5), (3, 6), (4, 1)] {
-        join(&rt, rt.alloc(), &mut table, *client, *seq);
-    }
+    note(&rt, rt.alloc(), &mut table, (1, 5), b"own");
+    note(&rt, rt.alloc(), &mut table, (2, 5), b"own");
+    note(&rt, rt.alloc(), &mut table, (3, 5), b"own");
+    join(&rt, rt.alloc(), &mut table, 1, 4);
+    join(&rt, rt.alloc(), &mut table, 2, 5);
+    join(&rt, rt.alloc(), &mut table, 3, 6);
+    join(&rt, rt.alloc(), &mut table, 4, 1);
     assert!(rt; has(&table, 1, b"own"));
     assert!(rt; has(&table, 2, b"own"));
     assert!(rt; has(&table, 3, b"other"));
