@@ -1,36 +1,27 @@
 use crate::groups::{CHILD, GROUP, OTHER, group};
-use sc_base::{Draw, OutOfMemory, RingArc, Sequence};
-use sc_cmd::{Core, DecidedList, Link, Lock, Outcome, same_draw};
+use sc_base::{Draw, RingArc, Sequence};
+use sc_cmd::{Core, Link, Lock, Outcome, same_draw};
 use sc_member::Members;
 use sc_split_merge::{can_split, plan_split, splits_keep_the_whole};
 use std::alloc::Global;
-use std::test::Fail;
-
-fn decided(alloc: Global) -> Result<DecidedList, OutOfMemory> {
-    let mut decided = Sequence::new(alloc);
-    decided.push((OTHER, Outcome::Abort))?;
-    Ok(decided)
-}
+use std::mem::forget;
+use std::process::Abort;
 
 /// A group on the whole ring with the members 1 to 5, which has decided one transaction.
-fn whole(alloc: Global, neighbour: Draw) -> Option<Core> {
-    let arc = RingArc::try_new(0, 1 << 32).ok()?;
-    let decided = decided(alloc).ok()?;
-    Some(group(alloc, 5, arc, neighbour, Lock::Free, decided))
-}
-
-/// What a group and its child are, once it has split.
-fn planned(alloc: Global, core: &Core, at: u32) -> Option<(Core, Core)> {
-    if !can_split(core, at) {
-        return None;
-    }
-    plan_split(alloc, core, at, CHILD).ok()
+fn whole(rt: &impl Abort, alloc: Global, neighbour: Draw) -> Core {
+    let arc = RingArc::try_new(0, 1 << 32).expect(rt, "an arc");
+    let mut decided = Sequence::new(alloc);
+    decided.push((OTHER, Outcome::Abort)).expect(rt, "memory");
+    group(alloc, 5, arc, neighbour, Lock::Free, decided)
 }
 
 /// The group's record and its child's, of a group with this neighbour.
-fn halves(alloc: Global, neighbour: Draw, at: u32) -> Option<(Core, Core)> {
-    let core = whole(alloc, neighbour)?;
-    planned(alloc, &core, at)
+fn halves(rt: &impl Abort, alloc: Global, neighbour: Draw, at: u32) -> (Core, Core) {
+    let core = whole(rt, alloc, neighbour);
+    assert!(rt; can_split(&core, at));
+    let halves = plan_split(alloc, &core, at, CHILD).expect(rt, "memory");
+    forget(core);
+    halves
 }
 
 fn is_arc(arc: &RingArc, lo: u32, length: u64) -> bool {
@@ -61,31 +52,37 @@ fn is_new(child: &Core) -> bool {
 }
 
 #[test]
-fn split_plan(rt: HostRuntime) -> Result<(), Fail> {
-    let (left, child) = halves(rt.alloc(), GROUP, 1828716544).ok_or("no split")?;
+fn split_plan(rt: HostRuntime) {
+    let (left, child) = halves(&rt, rt.alloc(), GROUP, 1828716544);
     assert!(rt; is_arc(&left.arc, 0, 1828716544));
-    assert!(rt; is_set(&left.members, &[1, 2, 3]) && has_past(&left));
+    assert!(rt; is_set(&left.members, &[1, 2, 3]));
+    assert!(rt; has_past(&left));
     assert!(rt; has_neighbours(&left, (CHILD, &[4, 5]), (CHILD, &[4, 5])));
     assert!(rt; is_arc(&child.arc, 1828716544, 2466250752));
-    assert!(rt; is_set(&child.members, &[4, 5]) && is_new(&child));
+    assert!(rt; is_set(&child.members, &[4, 5]));
+    assert!(rt; is_new(&child));
     assert!(rt; has_neighbours(&child, (GROUP, &[1, 2, 3]), (GROUP, &[1, 2, 3])));
-    Ok(())
+    forget(left);
+    forget(child);
 }
 
 #[test]
-fn a_group_with_neighbours_keeps_the_outer_ones(rt: HostRuntime) -> Result<(), Fail> {
-    let (left, child) = halves(rt.alloc(), OTHER, 1).ok_or("no split")?;
+fn a_group_with_neighbours_keeps_the_outer_ones(rt: HostRuntime) {
+    let (left, child) = halves(&rt, rt.alloc(), OTHER, 1);
     let outer = (OTHER, [1, 2, 3, 4, 5].as_slice());
     assert!(rt; has_neighbours(&left, outer, (CHILD, &[4, 5])));
     assert!(rt; has_neighbours(&child, (GROUP, &[1, 2, 3]), outer));
-    Ok(())
+    forget(left);
+    forget(child);
 }
 
 /// Whether a group of the nodes from 1 to `last` on the positions from 100 to 199 can be split.
-fn can_be_split(alloc: Global, last: u16, at: u32) -> Option<bool> {
-    let arc = RingArc::try_new(100, 100).ok()?;
+fn can_be_split(rt: &impl Abort, alloc: Global, last: u16, at: u32) -> bool {
+    let arc = RingArc::try_new(100, 100).expect(rt, "an arc");
     let core = group(alloc, last, arc, GROUP, Lock::Free, Sequence::new(alloc));
-    Some(can_split(&core, at))
+    let can = can_split(&core, at);
+    forget(core);
+    can
 }
 
 #[test]
@@ -99,7 +96,7 @@ fn a_group_is_split_inside_its_arc_only(rt: HostRuntime) {
         (1, 101, false),
     ];
     for (last, at, can) in &cases {
-        assert!(rt; can_be_split(rt.alloc(), *last, *at) == Some(*can));
+        assert!(rt; can_be_split(&rt, rt.alloc(), *last, *at) == *can);
     }
     splits_keep_the_whole();
 }

@@ -6,6 +6,8 @@ use sc_base::{Draw, RingArc, Sequence};
 use sc_cmd::{Body, Command, Core, Lock};
 use sc_txn::check;
 use std::alloc::Global;
+use std::mem::forget;
+use std::process::Abort;
 
 /// An order to a group: a node that joins or leaves, or a place to split at.
 #[derive(Clone, Copy)]
@@ -19,25 +21,25 @@ enum Ask {
 /// transactions it has begun.
 type Asked = (u16, Draw, u32);
 
-/// The number of the refusal, or 0 where the order is accepted.
-fn code(core: &Core, command: &Command) -> u8
-    requires { is_checked command.now ≡ true }
+fn command(ask: Ask) -> Command
+    ensures { is_checked result ≡ true }
 {
-    match check(core, command) {
-        Ok(()) => 0,
-        Err(why) => why.code(),
+    match ask {
+        Ask::Join(node) => Command::Join { node, order: 1 },
+        Ask::Leave(node) => Command::Leave { node, order: 1 },
+        Ask::Split(at) => Command::Split {
+            at,
+            child: CHILD,
+            order: 1,
+        },
     }
 }
 
-fn answer(core: &Core, ask: Ask) -> u8 {
-    match ask {
-        Ask::Join(node) => code(core, &Command::Join { node, order: 1 }),
-        Ask::Leave(node) => code(core, &Command::Leave { node, order: 1 }),
-        Ask::Split(at) => {
-            let child = CHILD;
-            let order = 1;
-            code(core, &Command::Split { at, child, order })
-        }
+/// The number of the refusal, or 0 where the order is accepted.
+fn code(core: &Core, ask: Ask) -> u8 {
+    match check(core, &command(ask)) {
+        Ok(()) => 0,
+        Err(why) => why.code(),
     }
 }
 
@@ -56,23 +58,22 @@ fn lock(is_locked: bool) -> Lock {
 }
 
 /// What a group answers, which may be locked.
-fn answer_of(alloc: Global, asked: Asked, is_locked: bool, ask: Ask) -> Option<u8> {
-    let arc = RingArc::try_new(100, 100).ok()?;
+fn answer(rt: &impl Abort, alloc: Global, asked: Asked, is_locked: bool, ask: Ask) -> u8 {
+    let arc = RingArc::try_new(100, 100).expect(rt, "an arc");
     let (last, neighbour, begun) = asked;
     let decided = Sequence::new(alloc);
     let mut core = group(alloc, last, arc, neighbour, lock(is_locked), decided);
     core.begun = begun;
-    Some(answer(&core, ask))
+    let code = code(&core, ask);
+    forget(core);
+    code
 }
 
-/// The place of the first order that a free group answers otherwise.
-fn first_wrong(alloc: Global, rows: &[(Asked, Ask, u8)]) -> Option<usize> {
-    for (place, (asked, ask, code)) in rows.iter().enumerate() {
-        if answer_of(alloc, *asked, false, *ask) != Some(*code) {
-            return Some(place);
-        }
+/// Gives each order to a free group, which answers so.
+fn check_all(rt: &impl Abort, alloc: Global, rows: &[(Asked, Ask, u8)]) {
+    for (asked, ask, code) in rows {
+        assert!(rt; answer(rt, alloc, *asked, false, *ask) == *code);
     }
-    None
 }
 
 fn alone(count: u16) -> Asked {
@@ -88,7 +89,7 @@ fn joins_are_refused_at_nine_members_and_to_members(rt: HostRuntime) {
         (alone(1), Ask::Join(1), 9),
         (alone(1), Ask::Join(2), 0),
     ];
-    assert_eq!(rt; first_wrong(rt.alloc(), &rows), None);
+    check_all(&rt, rt.alloc(), &rows);
 }
 
 #[test]
@@ -99,7 +100,7 @@ fn leaves_are_refused_to_strangers_first_and_to_the_last_member(rt: HostRuntime)
         (alone(2), Ask::Leave(3), 6),
         (alone(2), Ask::Leave(1), 0),
     ];
-    assert_eq!(rt; first_wrong(rt.alloc(), &rows), None);
+    check_all(&rt, rt.alloc(), &rows);
 }
 
 #[test]
@@ -114,13 +115,12 @@ fn splits_are_refused_for_boundary_members_and_transactions_in_this_order(rt: Ho
         ((2, GROUP, 256), Ask::Split(101), 0),
         ((2, GROUP, 0), Ask::Split(199), 0),
     ];
-    assert_eq!(rt; first_wrong(rt.alloc(), &rows), None);
+    check_all(&rt, rt.alloc(), &rows);
 }
 
 #[test]
 fn a_locked_group_refuses_before_all_else(rt: HostRuntime) {
     for ask in &[Ask::Join(1), Ask::Leave(2), Ask::Split(100)] {
-        let code = answer_of(rt.alloc(), (1, OTHER, 256), true, *ask);
-        assert!(rt; code == Some(2));
+        assert!(rt; answer(&rt, rt.alloc(), (1, OTHER, 256), true, *ask) == 2);
     }
 }

@@ -1,0 +1,204 @@
+use crate::values::{key, value};
+use sc_actor::{Actor, Input};
+use sc_base::{Draw, Op, Reply, RingArc, Sequence};
+use sc_client::ClientCore;
+use sc_cmd::{Link, OrderLine, Route};
+use sc_mail::{AnswerBody, Mail, MailBody};
+use sc_member::Members;
+use std::alloc::Global;
+use std::mem::forget;
+use std::process::Abort;
+
+/// What a client is told by a node.
+#[derive(Clone, Copy)]
+enum Told {
+    Value,
+    NotLeader(Option<u16>),
+    /// The successor 0.2 with members 4 5 begins at 2^30.
+    NotMine,
+    /// The group went into 0.5 with the member 7.
+    Gone,
+    Stale,
+}
+
+/// An input of a client: an answer has its sender, its group and the number of the request.
+#[derive(Clone, Copy)]
+enum Given {
+    Go,
+    Tick,
+    Answer(u32, u32, u32, Told),
+}
+
+/// The receiver, the group and the number of the one request that is sent.
+type Sent = Option<(u32, u32, u32)>;
+
+fn group(count: u32) -> Draw {
+    Draw { node: 0, count }
+}
+
+/// Group 0.1 from 0 on with members 1 2 3.
+fn first_route() -> Route {
+    let mut members = Members::one(1);
+    let _ = members.add(2);
+    let _ = members.add(3);
+    Route {
+        group: group(1),
+        lo: 0,
+        members,
+    }
+}
+
+/// Client 1 with the requests put a x and get a, which knows one group.
+fn client(rt: &impl Abort, alloc: Global) -> ClientCore {
+    let mut requests = Sequence::new(alloc);
+    let put = Op::Put {
+        key: key(rt, alloc, b"a"),
+        value: value(rt, alloc, b"x"),
+    };
+    requests.push(put).expect(rt, "memory");
+    let get = Op::Get {
+        key: key(rt, alloc, b"a"),
+    };
+    requests.push(get).expect(rt, "memory");
+    assert!(rt; requests.len() == 2);
+    ClientCore::born(alloc, 1, requests, first_route()).expect(rt, "memory")
+}
+
+fn not_mine(rt: &impl Abort) -> AnswerBody {
+    let mut members = Members::one(4);
+    let _ = members.add(5);
+    AnswerBody::NotMine {
+        arc: RingArc::try_new(0, 1 << 30).expect(rt, "an arc"),
+        succ: Link {
+            group: group(2),
+            members,
+        },
+    }
+}
+
+fn gone() -> AnswerBody {
+    AnswerBody::Gone {
+        into: Route {
+            group: group(5),
+            lo: 9,
+            members: Members::one(7),
+        },
+    }
+}
+
+fn answer(rt: &impl Abort, told: Told) -> AnswerBody {
+    match told {
+        Told::Value => AnswerBody::Value(Reply { old: None }),
+        Told::NotLeader(hint) => AnswerBody::NotLeader { hint },
+        Told::NotMine => not_mine(rt),
+        Told::Gone => gone(),
+        Told::Stale => AnswerBody::Stale { last: 7 },
+    }
+}
+
+fn mail(from: u32, count: u32, seq: u32, answer: AnswerBody) -> Input<Mail, OrderLine> {
+    let group = group(count);
+    let body = MailBody::Answer { group, seq, answer };
+    Input::Got(Mail { from, to: 33, body })
+}
+
+fn input(rt: &impl Abort, given: Given) -> Input<Mail, OrderLine> {
+    match given {
+        Given::Go => Input::Go,
+        Given::Tick => Input::Tick,
+        Given::Answer(from, count, seq, told) => mail(from, count, seq, answer(rt, told)),
+    }
+}
+
+/// The receiver, the group and the number of the request that is the only mail.
+fn only_request(mails: &[Mail]) -> Sent {
+    match mails {
+        [mail] => match &mail.body {
+            MailBody::Request { group, seq, .. } => Some((mail.to, group.count, *seq)),
+            _ => None,
+        },
+        _ => None,
+    }
+}
+
+/// What the actor sends at an input. What it was given and what it sent is left to the process,
+/// which ends soon.
+fn sent_at<A: Actor<Mail = Mail, Order = OrderLine>>(
+    rt: &impl Abort,
+    alloc: Global,
+    actor: &mut A,
+    given: Given,
+) -> Sent {
+    let input = input(rt, given);
+    let mails = actor.step(alloc, &input).expect(rt, "memory");
+    let sent = only_request(mails.as_slice());
+    forget(mails);
+    forget(input);
+    sent
+}
+
+/// Gives a new client one input after another: what it sends at each, the request that waits then,
+/// and how many replies it has.
+fn check(
+    rt: &impl Abort,
+    alloc: Global,
+    rows: &[(Given, Sent)],
+    waiting: Option<u32>,
+    replies: usize,
+) {
+    let mut client = client(rt, alloc);
+    for (given, sent) in rows {
+        assert!(rt; sent_at(rt, alloc, &mut client, *given) == *sent);
+    }
+    assert!(rt; client.requests().len() == 2);
+    assert!(rt; client.waiting() == waiting && client.replies().len() == replies);
+    forget(client);
+}
+
+#[test]
+fn client_hints_and_stale_not_mine(rt: HostRuntime) {
+    let rows = [
+        (Given::Go, Some((1, 1, 1))),
+        (
+            Given::Answer(1, 1, 1, Told::NotLeader(Some(3))),
+            Some((3, 1, 1)),
+        ),
+        (Given::Tick, Some((1, 1, 1))),
+        (Given::Answer(1, 1, 1, Told::NotMine), Some((4, 2, 1))),
+        (Given::Answer(1, 1, 1, Told::NotMine), None),
+        (Given::Answer(4, 2, 1, Told::Gone), Some((7, 5, 1))),
+    ];
+    check(&rt, rt.alloc(), &rows, Some(1), 0);
+}
+
+#[test]
+fn answers_of_others_are_ignored(rt: HostRuntime) {
+    let rows = [
+        (Given::Answer(1, 1, 1, Told::Value), None),
+        (Given::Tick, None),
+        (Given::Go, Some((1, 1, 1))),
+        (Given::Answer(2, 1, 1, Told::NotLeader(Some(3))), None),
+        (Given::Answer(1, 2, 1, Told::NotLeader(None)), None),
+        (Given::Answer(1, 1, 2, Told::Value), None),
+        (Given::Answer(2, 1, 1, Told::NotMine), None),
+        (Given::Answer(2, 1, 1, Told::Gone), None),
+        (Given::Answer(1, 1, 1, Told::Stale), None),
+        (
+            Given::Answer(1, 1, 1, Told::NotLeader(None)),
+            Some((2, 1, 1)),
+        ),
+    ];
+    check(&rt, rt.alloc(), &rows, Some(1), 0);
+}
+
+#[test]
+fn replies_are_kept_in_turn(rt: HostRuntime) {
+    let rows = [
+        (Given::Go, Some((1, 1, 1))),
+        (Given::Answer(2, 9, 1, Told::Value), Some((1, 1, 2))),
+        (Given::Answer(1, 1, 1, Told::Value), None),
+        (Given::Answer(1, 1, 2, Told::Value), None),
+        (Given::Tick, None),
+    ];
+    check(&rt, rt.alloc(), &rows, None, 2);
+}

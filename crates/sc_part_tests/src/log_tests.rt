@@ -1,0 +1,64 @@
+use sc_glog::{Glog, Learnt};
+use std::mem::forget;
+use std::process::Abort;
+
+/// What the log answers to a value at a slot below the last.
+fn learnt(rt: &impl Abort, log: &mut Glog<u32>, slot: u32, value: u32) -> Learnt {
+    assert!(rt; slot < u32::MAX);
+    log.learn(slot, value).expect(rt, "memory")
+}
+
+/// Gives the log values at these slots, which it answers so, one after another.
+fn check(rt: &impl Abort, log: &mut Glog<u32>, rows: &[(u32, u32, Learnt)]) {
+    for (slot, value, answer) in rows {
+        assert!(rt; learnt(rt, log, *slot, *value) == *answer);
+    }
+}
+
+fn are_held(log: &Glog<u32>, rows: &[(u32, Option<u32>)]) -> bool {
+    for (slot, entry) in rows {
+        if log.entry(*slot).copied() != *entry {
+            return false;
+        }
+    }
+    true
+}
+
+#[test]
+fn entries_are_learnt_in_order_and_dropped_from_the_front(rt: HostRuntime) {
+    let mut log: Glog<u32> = Glog::born(rt.alloc());
+    assert!(rt; log.next() == 1);
+    let rows = [
+        (2, 20, Learnt::Ahead { next: 1 }),
+        (1, 10, Learnt::Learnt),
+        (1, 11, Learnt::Known),
+        (2, 20, Learnt::Learnt),
+        (3, 30, Learnt::Learnt),
+    ];
+    check(&rt, &mut log, &rows);
+    assert!(rt; log.next() == 4);
+    log.cut(1);
+    assert!(rt; log.next() == 4);
+    let held = [
+        (0, None),
+        (1, None),
+        (2, Some(20)),
+        (3, Some(30)),
+        (4, None),
+    ];
+    assert!(rt; are_held(&log, &held));
+    forget(log);
+}
+
+#[test]
+fn a_log_is_installed_after_a_slot(rt: HostRuntime) {
+    let mut log: Glog<u32> = Glog::born(rt.alloc());
+    check(&rt, &mut log, &[(1, 10, Learnt::Learnt)]);
+    assert!(rt; log.next() == 2);
+    log.install(64);
+    assert!(rt; log.next() == 65);
+    assert!(rt; are_held(&log, &[(1, None)]));
+    check(&rt, &mut log, &[(65, 650, Learnt::Learnt)]);
+    assert!(rt; are_held(&log, &[(65, Some(650))]));
+    forget(log);
+}
