@@ -31,7 +31,7 @@ impl Actor for Player {
     ghost table = { λ player _.
         if player.left == 0 then (player, []) else (
           record { other = player.other; left = player.left - 1; starves = player.starves },
-          (record { to = player.other })
+          (record { to = player.other; size = 0 })
               ∷ [],
         ) };
 
@@ -47,7 +47,10 @@ impl Actor for Player {
         if self.left == self.starves {
             return Err(OutOfMemory);
         }
-        sent.push(Note { to: self.other })?;
+        sent.push(Note {
+            to: self.other,
+            size: 0,
+        })?;
         self.left -= 1;
         Ok(sent)
     }

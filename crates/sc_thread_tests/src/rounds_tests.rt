@@ -93,7 +93,7 @@ fn rounds_end_by_their_causes(rt: HostRuntime) {
             Rounds::Full { bytes: 960 },
             Rounds::OutOfMemory,
         ];
-        assert_eq!(rt; ends, wanted);
+        assert!(rt; ends == wanted);
     }
 }
 
@@ -118,8 +118,8 @@ fn met<R: Threads + Wait + Abort + Sync>(
 #[test]
 fn runs_work_at_the_same_time(rt: HostRuntime) {
     let end = Rounds::Limit { used: 2 };
-    assert_eq!(rt; met(&rt, rt.alloc(), 2, 1_000_000), (end, 0));
-    assert_eq!(rt; met(&rt, rt.alloc(), 1, 1_000), (end, 1));
+    assert!(rt; met(&rt, rt.alloc(), 2, 1_000_000) == (end, 0));
+    assert!(rt; met(&rt, rt.alloc(), 1, 1_000) == (end, 1));
 }
 
 // What rounds answer, and how often the gate was passed.
@@ -143,7 +143,7 @@ fn the_gate_is_passed_at_each_delivery(rt: HostRuntime) {
     for workers in [1u32, 2, 4, 16] {
         let all = counted(&rt, rt.alloc(), workers, 100);
         let some = counted(&rt, rt.alloc(), workers, 3);
-        assert_eq!(rt; all, (Rounds::Quiet { used: 8 }, 8));
-        assert_eq!(rt; some, (Rounds::Limit { used: 3 }, 3));
+        assert!(rt; all == (Rounds::Quiet { used: 8 }, 8));
+        assert!(rt; some == (Rounds::Limit { used: 3 }, 3));
     }
 }
