@@ -107,8 +107,10 @@ fn post_one<R: Wait + Abort>(
         × (is_crash event ≡ false) }
     ensures { Stays port.old port.new × (port.new.crashed ≡ false) }
 {
-    let posted = port.post(rt, event, sent);
-    assert!(rt; posted.is_ok());
+    match port.post(rt, event, sent) {
+        Ok(_) => {}
+        Err(_) => panic!(rt; "a row was refused"),
+    }
 }
 
 // Whether mail is pending for actor 1, for nobody and for actor 2, as three digits after a 1.

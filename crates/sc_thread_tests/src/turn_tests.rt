@@ -116,6 +116,17 @@ enum Part {
     ComeLate,
 }
 
+fn play<R: Wait + Abort>(rt: &R, stage: &Stage, seat: &mut TurnSeat<Log>, who: u32, part: Part)
+    requires { IsIdle seat.old who }
+    ensures { OfOneStart seat.old seat.new × IsIdle seat.new who }
+{
+    match part {
+        Part::AddThree => add_three(rt, seat, who),
+        Part::HoldLong => hold_long(rt, stage, seat, who),
+        Part::ComeLate => come_late(rt, stage, seat, who),
+    }
+}
+
 fn played<R: Wait + Abort>(
     rt: &R,
     stage: &Stage,
@@ -126,11 +137,7 @@ fn played<R: Wait + Abort>(
     requires { IsIdle seat who }
     ensures { OfOneStart seat result × IsIdle result who }
 {
-    match part {
-        Part::AddThree => add_three(rt, &mut seat, who),
-        Part::HoldLong => hold_long(rt, stage, &mut seat, who),
-        Part::ComeLate => come_late(rt, stage, &mut seat, who),
-    }
+    play(rt, stage, &mut seat, who, part);
     seat
 }
 
