@@ -75,27 +75,29 @@ fn keeps(
     refusal(rt, alloc, ledger, (who, when), (receivers, 0), 1 << 20).is_none()
 }
 
+type Three = (Option<u32>, Option<u32>, Option<u32>);
+
 // The mail that is pending first for actor 1, by its numbers.
-fn first_three(ledger: &Notes) -> [Option<u32>; 3] {
-    [
+fn first_three(ledger: &Notes) -> Three {
+    (
         ledger.kth(2, 1, 1),
         ledger.kth(2, 1, 2),
         ledger.kth(2, 1, 3),
-    ]
+    )
 }
 
 // An actor, at what event it acts, how many mails it sends to actor 1, and what is pending for
 // this one then.
-type Step = (u32, When, usize, [Option<u32>; 3]);
+type Step = (u32, When, usize, Three);
 
 const STEPS: &[Step] = &[
-    (2, When::Go, 3, [Some(1), Some(2), Some(3)]),
-    (1, When::Deliver(2), 0, [Some(1), Some(3), None]),
-    (0, When::Again(2), 0, [Some(1), Some(2), Some(3)]),
-    (0, When::Again(1), 0, [Some(1), Some(1), Some(2)]),
-    (0, When::Drop(1), 0, [Some(1), Some(2), Some(3)]),
-    (1, When::Crash, 0, [None, None, None]),
-    (0, When::Again(3), 0, [None, None, None]),
+    (2, When::Go, 3, (Some(1), Some(2), Some(3))),
+    (1, When::Deliver(2), 0, (Some(1), Some(3), None)),
+    (0, When::Again(2), 0, (Some(1), Some(2), Some(3))),
+    (0, When::Again(1), 0, (Some(1), Some(1), Some(2))),
+    (0, When::Drop(1), 0, (Some(1), Some(2), Some(3))),
+    (1, When::Crash, 0, (None, None, None)),
+    (0, When::Again(3), 0, (None, None, None)),
 ];
 
 // Whether a step's row is kept and leaves what it should.
@@ -106,8 +108,8 @@ fn is_step(rt: &impl Abort, alloc: Global, ledger: &mut Notes, step: Step) -> bo
     keeps(rt, alloc, ledger, who, when, receivers) && first_three(ledger) == pending
 }
 
-fn check_numbers(rt: &impl Abort, alloc: Global, ledger: &mut Notes) {
-    for step in STEPS {
+fn check_numbers(rt: &impl Abort, alloc: Global, ledger: &mut Notes, steps: &[Step]) {
+    for step in steps {
         assert!(rt; is_step(rt, alloc, ledger, *step));
     }
     assert!(rt; !ledger.may_repeat(2, 1));
@@ -221,7 +223,7 @@ enum Story {
 fn come_true(rt: &impl Abort, alloc: Global, actors: u32, story: Story) {
     let mut ledger: Notes = Ledger::new(alloc, actors);
     match story {
-        Story::Numbers => check_numbers(rt, alloc, &mut ledger),
+        Story::Numbers => check_numbers(rt, alloc, &mut ledger, STEPS),
         Story::Limit => check_limit(rt, alloc, &mut ledger),
         Story::Queues => check_queues(rt, alloc, &mut ledger),
         Story::Look => check_look(rt, alloc, &mut ledger),
