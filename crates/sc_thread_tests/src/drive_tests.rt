@@ -1,45 +1,14 @@
 //! Schedules driven with actors that send each other notes.
-ghost use Rattle.std.specs.Prelude.{◌≡◌, ◌<◌, ◌≤◌, true, All};
-ghost use Rattle.sc_actor.specs.System.{are_apart};
+ghost use Rattle.std.specs.Prelude.{◌≤◌};
 
-use crate::players::{Open, Pair, Player};
-use sc_actor::{Gate, Line, Seat, have_one_task};
+use crate::players::{Open, Pair, seats};
+use sc_actor::{Gate, Line, have_one_task};
 use sc_drive::{Driven, drive, goers_are_spared, open};
 use std::alloc::Global;
 use std::process::Abort;
 use std::sync::Wait;
 use std::sync::atomic::{AtomicU64, Ordering};
 use std::thread::Threads;
-
-// Two actors with four notes each: the second sends them to the first, and the first to `other`. The
-// second is out of memory when it has `starves` left.
-fn two_players(rt: &impl Abort, alloc: Global, other: u32, starves: u32) -> Vec<Seat<Player>>
-    ensures far { are_apart result.items ≡ true }
-    ensures numbered { All (λ seat. (0 < seat.who) × (seat.who ≤ 2)) result.items }
-{
-    let first = Player {
-        other,
-        left: 4,
-        starves: 0,
-    };
-    let second = Player {
-        other: 1,
-        left: 4,
-        starves,
-    };
-    let one = Seat {
-        who: 1,
-        actor: first,
-    };
-    let two = Seat {
-        who: 2,
-        actor: second,
-    };
-    let mut seats = Vec::new(alloc);
-    seats.push(one).expect(rt, "memory");
-    seats.push(two).expect(rt, "memory");
-    seats
-}
 
 // How a schedule of a pair is driven, within so many bytes. There is no actor with the number 3.
 fn driven_to<G: Gate, R: Threads + Wait + Abort + Sync>(
@@ -55,23 +24,9 @@ fn driven_to<G: Gate, R: Threads + Wait + Abort + Sync>(
 {
     assert!(rt; have_one_task(lines));
     assert!(rt; goers_are_spared(lines));
-    let seats = two_players(rt, alloc, other, starves);
+    let seats = seats(rt, alloc, other, 4, starves);
     let (mut net, mut shells) = open(alloc, seats, 3, bytes).expect(rt, "memory");
     drive(rt, alloc, &mut net, &mut shells, lines, gate)
-}
-
-// The same of a pair that send each other notes.
-fn driven<G: Gate, R: Threads + Wait + Abort + Sync>(
-    rt: &R,
-    alloc: Global,
-    bytes: u64,
-    starves: u32,
-    lines: &[Line<u32>],
-    gate: &G,
-) -> Driven
-    requires { bytes ≤ 1000000 }
-{
-    driven_to(rt, alloc, bytes, 2, starves, lines, gate)
 }
 
 // All mail is delivered.
@@ -90,7 +45,7 @@ fn delivered<R: Threads + Wait + Abort + Sync>(
         Line::Go { who: 2 },
         Line::Free { most: 100, workers },
     ];
-    driven(rt, alloc, bytes, starves, &lines, &Open)
+    driven_to(rt, alloc, bytes, 2, starves, &lines, &Open)
 }
 
 // The line of deliveries is cut off, and the last line delivers the rest.
@@ -101,7 +56,7 @@ fn cut_off<R: Threads + Wait + Abort + Sync>(rt: &R, alloc: Global, workers: u32
         Line::Free { most: 3, workers },
         Line::Settle { most: 100 },
     ];
-    driven(rt, alloc, 1 << 19, 0, &lines, &Open)
+    driven_to(rt, alloc, 1 << 19, 2, 0, &lines, &Open)
 }
 
 const QUIET: Driven = Driven::Ended {
@@ -125,7 +80,7 @@ fn free_lines_end_by_their_causes(rt: HostRuntime) {
             delivered(&rt, rt.alloc(), 1 << 19, 2, workers),
             cut_off(&rt, rt.alloc(), workers),
         ];
-        assert_eq!(rt; ends, [QUIET, Driven::Full, Driven::OutOfMemory, CUT_OFF]);
+        assert!(rt; ends == [QUIET, Driven::Full, Driven::OutOfMemory, CUT_OFF]);
     }
 }
 
@@ -149,15 +104,13 @@ const LINES_OF_ONE_ROW: &[Line<u32>] = &[
 // ticks. A note to the first actor is pending at the end.
 #[test]
 fn lines_of_one_row_are_made_or_skipped(rt: HostRuntime) {
-    let some = driven(&rt, rt.alloc(), 1 << 19, 0, LINES_OF_ONE_ROW, &Open);
-    assert_eq!(rt;
-        some,
-        Driven::Ended {
-            unsettled: true,
-            quiet: false,
-            skipped: 5
-        }
-    );
+    let some = driven_to(&rt, rt.alloc(), 1 << 19, 2, 0, LINES_OF_ONE_ROW, &Open);
+    let wanted = Driven::Ended {
+        unsettled: true,
+        quiet: false,
+        skipped: 5,
+    };
+    assert!(rt; some == wanted);
 }
 
 #[test]
@@ -168,14 +121,12 @@ fn mail_to_nobody_is_passed_over(rt: HostRuntime) {
         Line::Settle { most: 100 },
     ];
     let passed = driven_to(&rt, rt.alloc(), 1 << 19, 3, 0, &lines, &Open);
-    assert_eq!(rt;
-        passed,
-        Driven::Ended {
-            unsettled: false,
-            quiet: true,
-            skipped: 0
-        }
-    );
+    let wanted = Driven::Ended {
+        unsettled: false,
+        quiet: true,
+        skipped: 0,
+    };
+    assert!(rt; passed == wanted);
 }
 
 // How two deliveries are driven, and how many of the two waited in vain for the other.
@@ -195,7 +146,7 @@ fn met<R: Threads + Wait + Abort + Sync>(
         Line::Go { who: 2 },
         Line::Free { most: 2, workers },
     ];
-    let end = driven(rt, alloc, 1 << 19, 0, &lines, &gate);
+    let end = driven_to(rt, alloc, 1 << 19, 2, 0, &lines, &gate);
     (end, gate.late.load(Ordering::SeqCst))
 }
 
@@ -206,6 +157,6 @@ fn threads_work_at_the_same_time(rt: HostRuntime) {
         quiet: false,
         skipped: 0,
     };
-    assert_eq!(rt; met(&rt, rt.alloc(), 2, 1_000_000), (end, 0));
-    assert_eq!(rt; met(&rt, rt.alloc(), 1, 1_000), (end, 1));
+    assert!(rt; met(&rt, rt.alloc(), 2, 1_000_000) == (end, 0));
+    assert!(rt; met(&rt, rt.alloc(), 1, 1_000) == (end, 1));
 }

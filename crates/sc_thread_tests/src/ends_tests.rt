@@ -1,15 +1,14 @@
 //! Exchanges that are opened, driven and closed.
-ghost use Rattle.std.specs.Prelude.{◌≡◌, ◌<◌, ◌≤◌, [], List, true, All};
+ghost use Rattle.std.specs.Prelude.{◌≡◌, [], List};
 ghost use Rattle.sc_exchange.specs.Ports.{given, joined_ports};
 ghost use Rattle.sc_workers.specs.Crews.{AllOf, crew_numbers};
 ghost use Rattle.sc_actor.specs.declared.actors.Seat.{Seat};
 ghost use Rattle.sc_drive.specs.Companies.{AtBirth};
 ghost use Rattle.sc_drive.specs.Goings.{IsKept};
-ghost use Rattle.sc_actor.specs.System.{are_apart};
 
 use crate::notes::Note;
-use crate::players::{Open, Player};
-use sc_actor::{Event, Line, Row, Seat, are_few, have_one_task};
+use crate::players::{Open, Player, go, seats};
+use sc_actor::{Line, Row, Seat, are_few, have_one_task};
 use sc_checker::replay;
 use sc_drive::{Driven, close, drive, goers_are_spared, open};
 use sc_exchange::Port;
@@ -19,14 +18,6 @@ use std::alloc::Global;
 use std::process::Abort;
 use std::sync::Wait;
 use std::thread::Threads;
-
-fn player(other: u32, left: u32) -> Player {
-    Player {
-        other,
-        left,
-        starves: 0,
-    }
-}
 
 // The numbers of the rows' actors, as the digits of one number.
 fn makers(rows: &[Row<Note, u32>]) -> u32 {
@@ -59,41 +50,6 @@ fn seated(seats: &[Seat<Player>]) -> u32 {
     digits
 }
 
-fn seats(rt: &impl Abort, alloc: Global) -> Vec<Seat<Player>>
-    ensures far { are_apart result.items ≡ true }
-    ensures numbered { All (λ seat. (0 < seat.who) × (seat.who ≤ 2)) result.items }
-{
-    let two = Seat {
-        who: 2,
-        actor: player(1, 4),
-    };
-    let one = Seat {
-        who: 1,
-        actor: player(2, 7),
-    };
-    let mut seats = Vec::new(alloc);
-    seats.push(two).expect(rt, "memory");
-    seats.push(one).expect(rt, "memory");
-    seats
-}
-
-// The actor at a place goes.
-fn go<R: Wait>(
-    rt: &R,
-    alloc: Global,
-    net: &Port<Note, u32>,
-    shells: &mut Vec<Shell<Player>>,
-    place: usize,
-)
-    requires exchange { AllOf net.now shells.old.items }
-    ensures exchange { AllOf net.now shells.new.items }
-    ensures numbers { crew_numbers shells.new.items ≡ crew_numbers shells.old.items }
-{
-    if place < shells.len() {
-        let _ = shells[place].event(rt, alloc, Event::Go);
-    }
-}
-
 // What is left at the end, where all gather before.
 fn ended<R: Wait + Abort>(
     rt: &R,
@@ -115,7 +71,7 @@ fn ended<R: Wait + Abort>(
 
 // What is left where the actors at these places went.
 fn left_after<R: Wait + Abort>(rt: &R, alloc: Global, places: &[usize]) -> (u32, u32) {
-    let (net, mut shells) = open(alloc, seats(rt, alloc), 2, 1 << 19).expect(rt, "memory");
+    let (net, mut shells) = open(alloc, seats(rt, alloc, 2, 7, 0), 2, 1 << 19).expect(rt, "memory");
     for place in places {
         go(rt, alloc, &net, &mut shells, *place);
     }
@@ -148,7 +104,7 @@ fn replayed(
     rows: &[Row<Note, u32>],
 ) -> Option<u32> {
     assert!(rt; have_one_task(lines) && are_few(rows));
-    match replay(alloc, seats(rt, alloc), lines, rows).expect(rt, "memory") {
+    match replay(alloc, seats(rt, alloc, 2, 7, 0), lines, rows).expect(rt, "memory") {
         None => None,
         Some(left) => Some(seated(&left.seats)),
     }
@@ -161,7 +117,9 @@ fn left_by<R: Threads + Wait + Abort + Sync>(
     alloc: Global,
     lines: &[Line<u32>],
 ) -> (u32, u32, bool) {
-    let (mut net, mut shells) = open(alloc, seats(rt, alloc), 2, 1 << 19).expect(rt, "memory");
+    let (mut net, mut shells) = open(alloc, seats(rt, alloc, 2, 7, 0), 2, 1 << 19).expect(
+        rt, "memory",
+    );
     drive_all(rt, alloc, &mut net, &mut shells, lines);
     let (journal, actors) = close(rt, alloc, net, shells).expect(rt, "memory");
     let left = players(actors.as_slice());

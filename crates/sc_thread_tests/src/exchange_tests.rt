@@ -7,74 +7,78 @@ ghost use Rattle.sc_exchange.specs.Ports.{Stays, MayPost, SameExchange, given, j
 use crate::notes::{Note, notes};
 use sc_actor::{Event, Journal, Row};
 use sc_base::Sequence;
-use sc_exchange::{Fetched, Port};
+use sc_exchange::{Fetched, Port, Unposted};
 use std::alloc::Global;
 use std::process::Abort;
 use std::sync::Wait;
 use std::thread::{Threads, join};
 
-// The number of the mail that is found, and 9; or 0, and how many rows there were where none is.
-fn fetched<R: Wait + Abort>(rt: &R, port: &mut Port<Note, u32>, k: u32) -> (u32, u32)
-    requires { 0 < k }
-{
-    match port.fetch(rt, k).expect(rt, "memory") {
-        Fetched::Mail { number, mail: _ } => (number, 9),
-        Fetched::Empty { seen } => (0, seen),
+// The number of the mail; or 100, and how many rows there were where there is none.
+fn number_of(found: &Fetched<Note>) -> u32 {
+    match found {
+        Fetched::Mail { number, mail: _ } => *number,
+        Fetched::Empty { seen } => seen.saturating_add(100),
     }
 }
 
-// How many mails were sent, and how many copies are pending.
-fn looked<R: Wait + Abort>(rt: &R, net: &mut Port<Note, u32>) -> (u32, usize)
+fn fetched<R: Wait + Abort>(rt: &R, port: &mut Port<Note, u32>, k: u32) -> u32
+    ensures { Stays port.old port.new × (port.new.crashed ≡ port.old.crashed) }
+{
+    assert!(rt; 0 < k);
+    let found = port.fetch(rt, k).expect(rt, "memory");
+    number_of(&found)
+}
+
+// The number of the mail that is pending for an actor at this place, or 0.
+fn pending<R: Wait + Abort>(rt: &R, port: &mut Port<Note, u32>, who: u32, k: u32) -> u32
+    ensures { Stays port.old port.new × (port.new.crashed ≡ port.old.crashed) }
+{
+    assert!(rt; 0 < k);
+    port.pending(rt, who, k).unwrap_or(0)
+}
+
+// How many mails were sent, and how many copies are pending, as two digits.
+fn looked<R: Wait + Abort>(rt: &R, net: &mut Port<Note, u32>) -> u32
     requires { net.old.who ≡ 0 }
     ensures { Stays net.old net.new }
 {
     let look = net.look(rt).expect(rt, "memory");
-    (look.sent, look.pending.len())
+    let pending = u32::try_from(look.pending.len()).unwrap_or(9);
+    look.sent.wrapping_mul(10).wrapping_add(pending)
 }
 
-// Whether the network repeats a mail: 1, or 0 where it may not, or 9 where the row is refused.
+// Whether the network changed its mail: 1, or 0 where it may not, or 9 where the row is refused.
+fn told(done: &Result<bool, Unposted<Note, u32>>) -> u32 {
+    match done {
+        Ok(true) => 1,
+        Ok(false) => 0,
+        Err(_) => 9,
+    }
+}
+
 fn repeats<R: Wait>(rt: &R, net: &mut Port<Note, u32>, number: u32) -> u32
     requires { net.old.who ≡ 0 }
     ensures { Stays net.old net.new }
 {
-    match net.again(rt, number) {
-        Ok(true) => 1,
-        Ok(false) => 0,
-        Err(_) => 9,
-    }
+    let done = net.again(rt, number);
+    told(&done)
 }
 
-// The same of a loss.
 fn loses<R: Wait>(rt: &R, net: &mut Port<Note, u32>, number: u32) -> u32
     requires { net.old.who ≡ 0 }
     ensures { Stays net.old net.new }
 {
-    match net.lose(rt, number) {
-        Ok(true) => 1,
-        Ok(false) => 0,
-        Err(_) => 9,
-    }
+    let done = net.lose(rt, number);
+    told(&done)
 }
 
-fn nothing_is_pending<R: Wait + Abort>(rt: &R, net: &mut Port<Note, u32>, one: &mut Port<Note, u32>)
-    requires { net.old.who ≡ 0 }
-{
-    let fetched = fetched(rt, one, 1);
-    let pending = one.pending(rt, 1, 1);
-    let changed = (loses(rt, net, 1), repeats(rt, net, 1));
-    let looked = looked(rt, net);
-    assert_eq!(rt; (fetched, pending), ((0, 0), None));
-    assert_eq!(rt; (changed, looked), ((0, 0), (0, 0)));
-}
-
-// Takes the mail of this number, and sends n notes.
+// Takes the mail at this place, and sends a note to each of these.
 fn take<R: Wait + Abort>(
     rt: &R,
     alloc: Global,
     port: &mut Port<Note, u32>,
     k: u32,
-    to: u32,
-    n: usize,
+    receivers: &[u32],
 ) -> u32
     requires { (0 < k) × (port.old.who ≢ 0) × (port.old.crashed ≡ false) }
     ensures { Stays port.old port.new × (port.new.crashed ≡ false) }
@@ -82,7 +86,12 @@ fn take<R: Wait + Abort>(
     let Fetched::Mail { number, mail: _ } = port.fetch(rt, k).expect(rt, "memory") else {
         return 0;
     };
-    post_one(rt, port, Event::Deliver(number), notes(rt, alloc, to, n));
+    post_one(
+        rt,
+        port,
+        Event::Deliver(number),
+        notes(rt, alloc, receivers, 0),
+    );
     number
 }
 
@@ -104,137 +113,148 @@ fn post_one<R: Wait + Abort>(
     }
 }
 
-// Actor 2 sends three notes to actor 1, which takes the second and sends one to the desk.
-fn second_is_taken<R: Wait + Abort>(
-    rt: &R,
-    alloc: Global,
-    one: &mut Port<Note, u32>,
-    two: &mut Port<Note, u32>,
-)
-    requires { (one.old.who ≢ 0)
-        × (one.old.crashed ≡ false)
-        × (two.old.who ≢ 0)
-        × (two.old.crashed ≡ false) }
-{
-    post_one(rt, two, Event::Go, notes(rt, alloc, 1, 3));
-    let taken = take(rt, alloc, one, 2, 0, 1);
-    assert_eq!(rt; taken, 2);
-}
-
-// The second is repeated twice.
-fn second_is_doubled<R: Wait + Abort>(rt: &R, net: &mut Port<Note, u32>)
-    requires { net.old.who ≡ 0 }
-    ensures { Stays net.old net.new }
-{
-    let repeated = [repeats(rt, net, 2), repeats(rt, net, 2)];
-    let pending = [
-        net.pending(rt, 1, 1),
-        net.pending(rt, 1, 2),
-        net.pending(rt, 1, 3),
-        net.pending(rt, 1, 4),
-        net.pending(rt, 0, 5),
-    ];
-    assert_eq!(rt; repeated, [1, 1]);
-    assert_eq!(rt; pending, [Some(1), Some(2), Some(2), Some(3), None]);
-}
-
-// One copy of it is lost.
-fn second_is_lost<R: Wait + Abort>(rt: &R, net: &mut Port<Note, u32>, one: &mut Port<Note, u32>)
-    requires { net.old.who ≡ 0 }
-{
-    let (_, pending) = looked(rt, net);
-    let lost = loses(rt, net, 2);
-    let (found, _) = fetched(rt, one, 3);
-    let repeated = repeats(rt, net, 4);
-    assert_eq!(rt; (pending, lost, found, repeated), (4, 1, 3, 0));
-}
-
-// Whether mail is pending for actor 1, for nobody and for actor 2.
-fn waits_of<R: Wait + Abort>(rt: &R, net: &mut Port<Note, u32>) -> [Option<bool>; 3]
+// Whether mail is pending for actor 1, for nobody and for actor 2, as three digits after a 1.
+fn waits_of<R: Wait + Abort>(rt: &R, net: &mut Port<Note, u32>) -> u32
     ensures { Stays net.old net.new }
 {
     let waits = net.waiting(rt, &[1, 7, 2]).expect(rt, "memory");
-    [
-        waits.get(0).copied(),
-        waits.get(1).copied(),
-        waits.get(2).copied(),
-    ]
+    digits_of(waits.as_slice())
 }
 
-fn each_waits<R: Wait + Abort>(
-    rt: &R,
-    alloc: Global,
-    net: &mut Port<Note, u32>,
-    one: &mut Port<Note, u32>,
-    two: &mut Port<Note, u32>,
-)
-    requires { (one.old.who ≢ 0)
-        × (one.old.crashed ≡ false)
-        × (two.old.who ≢ 0)
-        × (two.old.crashed ≡ false) }
-{
-    let none = waits_of(rt, net);
-    post_one(rt, two, Event::Go, notes(rt, alloc, 1, 1));
-    let first = waits_of(rt, net);
-    let taken = take(rt, alloc, one, 1, 2, 1);
-    let second = waits_of(rt, net);
-    assert_eq!(rt; none, [Some(false), Some(false), Some(false)]);
-    assert_eq!(rt; first, [Some(true), Some(false), Some(false)]);
-    assert_eq!(rt; taken, 1);
-    assert_eq!(rt; second, [Some(false), Some(false), Some(true)]);
+fn digits_of(flags: &[bool]) -> u32 {
+    let mut digits = 1u32;
+    for flag in flags {
+        let digit = if *flag { 1 } else { 0 };
+        digits = digits.wrapping_mul(10).wrapping_add(digit);
+    }
+    digits
 }
 
-// What becomes of the ports of the network and of two actors.
+// The ports of the network and of two actors that run.
+#[derive(Drop)]
+struct Ports {
+    net: Port<Note, u32>,
+    one: Port<Note, u32>,
+    two: Port<Note, u32>,
+    ghost numbers: { (net.who ≡ 0) × (one.who ≢ 0) × (two.who ≢ 0) },
+    ghost run: { (one.crashed ≡ false) × (two.crashed ≡ false) },
+}
+
+// What is done at these ports.
 #[derive(Clone, Copy)]
-enum Story {
-    Fresh,
-    Doubled,
-    Waiting,
+enum Deed {
+    // The first actor fetches the mail at this place.
+    Fetch(u32),
+    // It looks for the mail at this place.
+    Look(u32),
+    // It takes the mail at this place, and sends a note to this actor.
+    Take(u32, u32),
+    // The second sends so many notes to the first.
+    Send(usize),
+    // The network looks for the mail of an actor at a place.
+    Pending(u32, u32),
+    Lose(u32),
+    Repeat(u32),
+    Count,
+    Waits,
 }
 
-fn doubled_mail<R: Wait + Abort>(
+fn take_one<R: Wait + Abort>(
     rt: &R,
     alloc: Global,
-    net: &mut Port<Note, u32>,
-    one: &mut Port<Note, u32>,
-    two: &mut Port<Note, u32>,
-)
-    requires { (net.old.who ≡ 0)
-        × (one.old.who ≢ 0)
-        × (one.old.crashed ≡ false)
-        × (two.old.who ≢ 0)
-        × (two.old.crashed ≡ false) }
+    port: &mut Port<Note, u32>,
+    k: u32,
+    to: u32,
+) -> u32
+    requires { (port.old.who ≢ 0) × (port.old.crashed ≡ false) }
+    ensures { Stays port.old port.new × (port.new.crashed ≡ false) }
 {
-    second_is_taken(rt, alloc, one, two);
-    second_is_doubled(rt, net);
-    second_is_lost(rt, net, one);
+    assert!(rt; 0 < k);
+    take(rt, alloc, port, k, &[to])
 }
 
-// All stories begin with new ports.
-fn come_true<R: Wait + Abort>(rt: &R, alloc: Global, story: Story) {
-    let mut net: Port<Note, u32> = Port::start(alloc, 2, 1 << 20).expect(rt, "memory");
-    let mut one = net.split(1).expect(rt, "memory");
-    let mut two = net.split(2).expect(rt, "memory");
-    match story {
-        Story::Fresh => nothing_is_pending(rt, &mut net, &mut one),
-        Story::Doubled => doubled_mail(rt, alloc, &mut net, &mut one, &mut two),
-        Story::Waiting => each_waits(rt, alloc, &mut net, &mut one, &mut two),
+fn send<R: Wait + Abort>(rt: &R, alloc: Global, port: &mut Port<Note, u32>, many: usize) -> u32
+    requires { (port.old.who ≢ 0) × (port.old.crashed ≡ false) }
+    ensures { Stays port.old port.new × (port.new.crashed ≡ false) }
+{
+    let to = [1u32, 1, 1];
+    let receivers = to.as_slice().get(..many).unwrap_or(&[]);
+    post_one(rt, port, Event::Go, notes(rt, alloc, receivers, 0));
+    1
+}
+
+fn done<R: Wait + Abort>(rt: &R, alloc: Global, ports: &mut Ports, deed: Deed) -> u32 {
+    match deed {
+        Deed::Fetch(k) => fetched(rt, &mut ports.one, k),
+        Deed::Look(k) => pending(rt, &mut ports.one, 1, k),
+        Deed::Take(k, to) => take_one(rt, alloc, &mut ports.one, k, to),
+        Deed::Send(many) => send(rt, alloc, &mut ports.two, many),
+        Deed::Pending(who, k) => pending(rt, &mut ports.net, who, k),
+        Deed::Lose(number) => loses(rt, &mut ports.net, number),
+        Deed::Repeat(number) => repeats(rt, &mut ports.net, number),
+        Deed::Count => looked(rt, &mut ports.net),
+        Deed::Waits => waits_of(rt, &mut ports.net),
     }
 }
 
+// All stories begin with new ports. Each deed has its answer.
+fn come_true<R: Wait + Abort>(rt: &R, alloc: Global, story: &[(Deed, u32)]) {
+    let mut net: Port<Note, u32> = Port::start(alloc, 2, 1 << 20).expect(rt, "memory");
+    let one = net.split(1).expect(rt, "memory");
+    let two = net.split(2).expect(rt, "memory");
+    let mut ports = Ports { net, one, two };
+    for step in story {
+        assert_eq!(rt; done(rt, alloc, &mut ports, step.0), step.1);
+    }
+}
+
+const FRESH: &[(Deed, u32)] = &[
+    (Deed::Fetch(1), 100),
+    (Deed::Look(1), 0),
+    (Deed::Lose(1), 0),
+    (Deed::Repeat(1), 0),
+    (Deed::Count, 0),
+];
+
 #[test]
 fn fresh_ports(rt: HostRuntime) {
-    come_true(&rt, rt.alloc(), Story::Fresh);
+    come_true(&rt, rt.alloc(), FRESH);
 }
+
+// Actor 2 sends three notes to actor 1, which takes the second and sends one to the desk. The
+// second is repeated twice, and one copy of it is lost.
+const DOUBLED: &[(Deed, u32)] = &[
+    (Deed::Send(3), 1),
+    (Deed::Take(2, 0), 2),
+    (Deed::Repeat(2), 1),
+    (Deed::Repeat(2), 1),
+    (Deed::Pending(1, 1), 1),
+    (Deed::Pending(1, 2), 2),
+    (Deed::Pending(1, 3), 2),
+    (Deed::Pending(1, 4), 3),
+    (Deed::Pending(0, 5), 0),
+    (Deed::Count, 44),
+    (Deed::Lose(2), 1),
+    (Deed::Fetch(3), 3),
+    (Deed::Repeat(4), 0),
+];
 
 #[test]
 fn doubled_mail_order(rt: HostRuntime) {
-    come_true(&rt, rt.alloc(), Story::Doubled);
+    come_true(&rt, rt.alloc(), DOUBLED);
 }
+
+const WAITING: &[(Deed, u32)] = &[
+    (Deed::Waits, 1000),
+    (Deed::Send(1), 1),
+    (Deed::Waits, 1100),
+    (Deed::Take(1, 2), 1),
+    (Deed::Waits, 1001),
+];
 
 #[test]
 fn waiting_for_each(rt: HostRuntime) {
-    come_true(&rt, rt.alloc(), Story::Waiting);
+    come_true(&rt, rt.alloc(), WAITING);
 }
 
 // Three rows with a note each to the other, and up to three deliveries.
@@ -247,9 +267,9 @@ fn works<R: Wait + Abort>(
     requires { (port.who ≢ 0) × (port.crashed ≡ false) }
     ensures { SameExchange port result × (result.who ≡ port.who) × (result.crashed ≡ false) }
 {
-    post_one(rt, &mut port, Event::Tick, notes(rt, alloc, to, 1));
-    post_one(rt, &mut port, Event::Tick, notes(rt, alloc, to, 1));
-    post_one(rt, &mut port, Event::Tick, notes(rt, alloc, to, 1));
+    post_one(rt, &mut port, Event::Tick, notes(rt, alloc, &[to], 0));
+    post_one(rt, &mut port, Event::Tick, notes(rt, alloc, &[to], 0));
+    post_one(rt, &mut port, Event::Tick, notes(rt, alloc, &[to], 0));
     take_three(rt, alloc, &mut port);
     port
 }
@@ -258,9 +278,9 @@ fn take_three<R: Wait + Abort>(rt: &R, alloc: Global, port: &mut Port<Note, u32>
     requires { (port.old.who ≢ 0) × (port.old.crashed ≡ false) }
     ensures { Stays port.old port.new × (port.new.crashed ≡ false) }
 {
-    take(rt, alloc, port, 1, 0, 0);
-    take(rt, alloc, port, 1, 0, 0);
-    take(rt, alloc, port, 1, 0, 0);
+    take(rt, alloc, port, 1, &[]);
+    take(rt, alloc, port, 1, &[]);
+    take(rt, alloc, port, 1, &[]);
 }
 
 // Two ports fetch and post at the same time.

@@ -1,40 +1,11 @@
 //! One ledger, row by row.
 ghost use Rattle.std.specs.Prelude.{◌≡◌, ◌≤◌, min, ◌^◌, ◌-◌};
 
-use sc_actor::{Event, Parcel, Row};
-use sc_base::{Dup, OutOfMemory, Sequence};
-use sc_ledger::{Ledger, Look, PostFault, Spot};
+use crate::notes::{Note, notes};
+use sc_actor::{Event, Row};
+use sc_ledger::{Ledger, PostFault, Spot, Unkept};
 use std::alloc::Global;
 use std::process::Abort;
-
-#[derive(Debug, PartialEq, Eq, Drop)]
-struct Note {
-    to: u32,
-    size: u64,
-}
-
-impl Dup for Note {
-    fn dup(&self, _alloc: Global) -> Result<Note, OutOfMemory> {
-        Ok(Note {
-            to: self.to,
-            size: self.size,
-        })
-    }
-}
-
-impl Parcel for Note {
-    ghost receiver = { λ note. note.to };
-
-    ghost weighs = { λ note. note.size };
-
-    fn to(&self) -> u32 {
-        self.to
-    }
-
-    fn weight(&self) -> u64 {
-        self.size
-    }
-}
 
 // At what event an actor acted.
 #[derive(Clone, Copy)]
@@ -58,29 +29,41 @@ fn event_of(when: When) -> Event<u32> {
     }
 }
 
-// A row with one mail to each of these receivers.
-fn row(
-    rt: &impl Abort,
-    alloc: Global,
-    who: u32,
-    when: When,
-    receivers: &[u32],
-    size: u64,
-) -> Row<Note, u32> {
-    let mut sent = Sequence::new(alloc);
-    for to in receivers {
-        sent.push(Note { to: *to, size }).expect(rt, "memory");
-    }
-    Row {
-        who,
-        event: event_of(when),
-        sent,
+type Notes = Ledger<Note, u32>;
+
+// The counted bytes of the journal, where a row was refused since the journal is full.
+fn full_at(rt: &impl Abort, kept: &Result<(), Unkept<Note, u32>>) -> Option<u64> {
+    match kept {
+        Ok(()) => None,
+        Err(unkept) => match unkept.why {
+            PostFault::JournalFull { bytes } => Some(bytes),
+            PostFault::OutOfMemory => panic!(rt; "memory"),
+        },
     }
 }
 
-type Notes = Ledger<Note, u32>;
+// Appends a row with one mail of this size to each of these receivers, and tells how many bytes
+// there are where it is refused.
+fn refusal(
+    rt: &impl Abort,
+    alloc: Global,
+    ledger: &mut Notes,
+    by: (u32, When),
+    sent: (&[u32], u64),
+    limit: u64,
+) -> Option<u64>
+    requires { limit ≤ 2 ^ 30 }
+{
+    let row = Row {
+        who: by.0,
+        event: event_of(by.1),
+        sent: notes(rt, alloc, sent.0, sent.1),
+    };
+    let kept = ledger.append(row, limit);
+    full_at(rt, &kept)
+}
 
-// Appends a row with one mail to each of these receivers, and tells whether it was kept.
+// Whether a row with one mail to each of these receivers is kept.
 fn keeps(
     rt: &impl Abort,
     alloc: Global,
@@ -89,31 +72,32 @@ fn keeps(
     when: When,
     receivers: &[u32],
 ) -> bool {
-    let row = row(rt, alloc, who, when, receivers, 0);
-    ledger.append(row, 1 << 20).is_ok()
+    refusal(rt, alloc, ledger, (who, when), (receivers, 0), 1 << 20).is_none()
 }
 
+type Three = (Option<u32>, Option<u32>, Option<u32>);
+
 // The mail that is pending first for actor 1, by its numbers.
-fn first_three(ledger: &Notes) -> [Option<u32>; 3] {
-    [
+fn first_three(ledger: &Notes) -> Three {
+    (
         ledger.kth(2, 1, 1),
         ledger.kth(2, 1, 2),
         ledger.kth(2, 1, 3),
-    ]
+    )
 }
 
 // An actor, at what event it acts, how many mails it sends to actor 1, and what is pending for
 // this one then.
-type Step = (u32, When, usize, [Option<u32>; 3]);
+type Step = (u32, When, usize, Three);
 
-const STEPS: [Step; 7] = [
-    (2, When::Go, 3, [Some(1), Some(2), Some(3)]),
-    (1, When::Deliver(2), 0, [Some(1), Some(3), None]),
-    (0, When::Again(2), 0, [Some(1), Some(2), Some(3)]),
-    (0, When::Again(1), 0, [Some(1), Some(1), Some(2)]),
-    (0, When::Drop(1), 0, [Some(1), Some(2), Some(3)]),
-    (1, When::Crash, 0, [None, None, None]),
-    (0, When::Again(3), 0, [None, None, None]),
+const STEPS: &[Step] = &[
+    (2, When::Go, 3, (Some(1), Some(2), Some(3))),
+    (1, When::Deliver(2), 0, (Some(1), Some(3), None)),
+    (0, When::Again(2), 0, (Some(1), Some(2), Some(3))),
+    (0, When::Again(1), 0, (Some(1), Some(1), Some(2))),
+    (0, When::Drop(1), 0, (Some(1), Some(2), Some(3))),
+    (1, When::Crash, 0, (None, None, None)),
+    (0, When::Again(3), 0, (None, None, None)),
 ];
 
 // Whether a step's row is kept and leaves what it should.
@@ -124,45 +108,23 @@ fn is_step(rt: &impl Abort, alloc: Global, ledger: &mut Notes, step: Step) -> bo
     keeps(rt, alloc, ledger, who, when, receivers) && first_three(ledger) == pending
 }
 
-#[test]
-fn mail_is_pending_by_its_number(rt: HostRuntime) {
-    let mut ledger: Notes = Ledger::new(rt.alloc(), 2);
-    for step in STEPS {
-        assert!(rt; is_step(&rt, rt.alloc(), &mut ledger, step));
+fn check_numbers(rt: &impl Abort, alloc: Global, ledger: &mut Notes, steps: &[Step]) {
+    for step in steps {
+        assert!(rt; is_step(rt, alloc, ledger, *step));
     }
     assert!(rt; !ledger.may_repeat(2, 1));
     assert_eq!(rt; ledger.bytes(), 7 * 64 + 3 * 256);
 }
 
-// Why a row of actor 1 is refused, if it is.
-fn refusal(
-    rt: &impl Abort,
-    alloc: Global,
-    ledger: &mut Notes,
-    when: When,
-    sent: (&[u32], u64),
-    limit: u64,
-) -> Option<PostFault>
-    requires { limit ≤ 2 ^ 30 }
-{
-    let row = row(rt, alloc, 1, when, sent.0, sent.1);
-    match ledger.append(row, limit) {
-        Ok(()) => None,
-        Err(unkept) => Some(unkept.why),
-    }
-}
-
-#[test]
-fn limit_is_met_and_passed(rt: HostRuntime) {
-    let mut ledger: Notes = Ledger::new(rt.alloc(), 2);
-    let desk = refusal(&rt, rt.alloc(), &mut ledger, When::Go, (&[0], 5), 325);
-    assert_eq!(rt; desk, None);
-    assert_eq!(rt; (ledger.kth(2, 0, 1), ledger.sent()), (None, 1));
-    let more = refusal(&rt, rt.alloc(), &mut ledger, When::Tick, (&[], 0), 388);
-    assert_eq!(rt; more, Some(PostFault::JournalFull { bytes: 325 }));
+// Each row of actor 1 is refused but the first.
+fn check_limit(rt: &impl Abort, alloc: Global, ledger: &mut Notes) {
+    let desk = refusal(rt, alloc, ledger, (1, When::Go), (&[0], 5), 325);
+    assert!(rt; desk.is_none() && ledger.kth(2, 0, 1).is_none() && ledger.sent() == 1);
+    let more = refusal(rt, alloc, ledger, (1, When::Tick), (&[], 0), 388);
+    assert!(rt; more == Some(325));
     let large = (&[2u32, 2] as &[u32], u64::MAX);
-    assert!(rt; refusal(&rt, rt.alloc(), &mut ledger, When::Tick, large, 1 << 30).is_some());
-    assert_eq!(rt; ledger.len(), 1);
+    let most = refusal(rt, alloc, ledger, (1, When::Tick), large, 1 << 30);
+    assert!(rt; most == Some(325) && ledger.len() == 1);
 }
 
 // The next of a fixed sequence of numbers that look random.
@@ -197,55 +159,93 @@ fn keeps_random(
     keeps(rt, alloc, ledger, who, random_event(word), sent)
 }
 
-// Whether the queues and the scan find the same, for each actor and for all.
-fn agree(rt: &impl Abort, alloc: Global, ledger: &Notes) -> bool {
+// The queues and the scan find the same, for each actor and for all.
+fn agree(rt: &impl Abort, alloc: Global, ledger: &Notes) {
     for who in 0..5u32 {
         for k in 1..6u32 {
             let scanned = ledger.kth_by_scan(alloc, 3, who, k).expect(rt, "memory");
-            if ledger.kth(3, who, k) != scanned {
-                return false;
-            }
+            assert!(rt; ledger.kth(3, who, k) == scanned);
         }
     }
-    true
 }
 
-#[test]
-fn queues_and_scan_agree(rt: HostRuntime) {
-    let mut ledger: Notes = Ledger::new(rt.alloc(), 3);
+fn check_queues(rt: &impl Abort, alloc: Global, ledger: &mut Notes) {
     let mut word = 20_261_127u64;
     for i in 0..80u32 {
         word = next_word(word);
         let mails = if i % 4 == 0 { 2 } else { 0 };
-        assert!(rt; keeps_random(&rt, rt.alloc(), &mut ledger, word, mails));
-        assert!(rt; agree(&rt, rt.alloc(), &ledger));
+        assert!(rt; keeps_random(rt, alloc, ledger, word, mails));
+        agree(rt, alloc, ledger);
     }
 }
 
-fn check_spots(rt: &impl Abort, look: &Look) {
-    let spots = [(1u32, 2u32, 1u32), (1, 2, 2), (2, 1, 1), (4, 2, 3)];
-    assert_eq!(rt; look.sent, 4);
-    assert_eq!(rt; look.pending.len(), 4);
-    for (spot, (number, who, k)) in look.pending.as_slice().iter().zip(spots) {
-        assert_eq!(rt; *spot, Spot { number, who, k });
+// Each spot's number, receiver and place, as the digits of one number.
+fn digits_of(spots: &[Spot]) -> u64 {
+    let mut digits = 0u64;
+    for spot in spots {
+        digits = digits.wrapping_mul(10).wrapping_add(spot.number as u64);
+        digits = digits.wrapping_mul(10).wrapping_add(spot.who as u64);
+        digits = digits.wrapping_mul(10).wrapping_add(spot.k as u64);
     }
+    digits
 }
 
 // To whom the mail of this number is, and its size.
 fn mail_of(rt: &impl Abort, alloc: Global, ledger: &Notes, number: u32) -> Option<(u32, u64)> {
-    match ledger.mail(alloc, number).expect(rt, "memory") {
+    let found = ledger.mail(alloc, number).expect(rt, "memory");
+    match &found {
         Some(note) => Some((note.to, note.size)),
         None => None,
     }
 }
 
 // Four mails were sent, and the first was repeated.
+fn check_look(rt: &impl Abort, alloc: Global, ledger: &mut Notes) {
+    assert!(rt; keeps(rt, alloc, ledger, 1, When::Go, &[2, 1, 0, 2]));
+    assert!(rt; keeps(rt, alloc, ledger, 0, When::Again(1), &[]));
+    assert!(rt; mail_of(rt, alloc, ledger, 4) == Some((2, 0)));
+    let look = ledger.look(alloc, 2).expect(rt, "memory");
+    let copies = digits_of(look.pending.as_slice());
+    assert!(rt; look.sent == 4 && look.pending.len() == 4);
+    assert_eq!(rt; copies, 121_122_211_423);
+}
+
+// What is checked of a ledger.
+#[derive(Clone, Copy)]
+enum Story {
+    Numbers,
+    Limit,
+    Queues,
+    Look,
+}
+
+// All stories begin with an empty ledger of so many actors.
+fn come_true(rt: &impl Abort, alloc: Global, actors: u32, story: Story) {
+    let mut ledger: Notes = Ledger::new(alloc, actors);
+    match story {
+        Story::Numbers => check_numbers(rt, alloc, &mut ledger, STEPS),
+        Story::Limit => check_limit(rt, alloc, &mut ledger),
+        Story::Queues => check_queues(rt, alloc, &mut ledger),
+        Story::Look => check_look(rt, alloc, &mut ledger),
+    }
+}
+
+#[test]
+fn mail_is_pending_by_its_number(rt: HostRuntime) {
+    come_true(&rt, rt.alloc(), 2, Story::Numbers);
+}
+
+#[test]
+fn limit_is_met_and_passed(rt: HostRuntime) {
+    come_true(&rt, rt.alloc(), 2, Story::Limit);
+}
+
+#[test]
+fn queues_and_scan_agree(rt: HostRuntime) {
+    come_true(&rt, rt.alloc(), 3, Story::Queues);
+}
+
 #[test]
 fn look_tells_each_copy(rt: HostRuntime) {
-    let alloc = rt.alloc();
-    let mut ledger: Notes = Ledger::new(alloc, 2);
-    assert!(rt; keeps(&rt, alloc, &mut ledger, 1, When::Go, &[2, 1, 0, 2]));
-    assert!(rt; keeps(&rt, alloc, &mut ledger, 0, When::Again(1), &[]));
-    check_spots(&rt, &ledger.look(alloc, 2).expect(&rt, "memory"));
-    assert_eq!(rt; mail_of(&rt, alloc, &ledger, 4), Some((2, 0)));
+    come_true(&rt, rt.alloc(), 2, Story::Look);
 }

@@ -5,15 +5,19 @@ use sc_base::{Dup, OutOfMemory, Same, Sequence};
 use std::alloc::Global;
 use std::process::Abort;
 
-/// A note to an actor.
-#[derive(Debug, PartialEq, Eq, Drop)]
+/// A note to an actor, of so many bytes.
+#[derive(PartialEq, Eq, Drop)]
 pub struct Note {
     pub to: u32,
+    pub size: u64,
 }
 
 impl Dup for Note {
     fn dup(&self, _alloc: Global) -> Result<Note, OutOfMemory> {
-        Ok(Note { to: self.to })
+        Ok(Note {
+            to: self.to,
+            size: self.size,
+        })
     }
 }
 
@@ -26,23 +30,22 @@ impl Same for Note {
 impl Parcel for Note {
     ghost receiver = { λ note. note.to };
 
-    ghost weighs = { λ _. 0 };
+    ghost weighs = { λ note. note.size };
 
     fn to(&self) -> u32 {
         self.to
     }
 
     fn weight(&self) -> u64 {
-        0
+        self.size
     }
 }
 
-/// So many notes to an actor.
-pub fn notes(rt: &impl Abort, alloc: Global, to: u32, n: usize) -> Sequence<Note> {
+/// One note to each of these actors.
+pub fn notes(rt: &impl Abort, alloc: Global, receivers: &[u32], size: u64) -> Sequence<Note> {
     let mut sent = Sequence::new(alloc);
-    for i in 0..n {
-        let _ = i;
-        sent.push(Note { to }).expect(rt, "memory");
+    for to in receivers {
+        sent.push(Note { to: *to, size }).expect(rt, "memory");
     }
     sent
 }

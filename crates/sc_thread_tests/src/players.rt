@@ -1,16 +1,18 @@
 //! Actors that send each other notes, and the gates that hold them.
-ghost use Rattle.std.specs.Prelude.{◌-◌, [], ◌∷◌, if◌then◌else◌, ◌==◌};
-ghost use Rattle.sc_exchange.specs.Ports.{SameExchange};
+ghost use Rattle.std.specs.Prelude.{◌≡◌, ◌<◌, ◌≤◌, ◌-◌, [], ◌∷◌, if◌then◌else◌, ◌==◌, true, All};
+ghost use Rattle.sc_actor.specs.System.{are_apart};
+ghost use Rattle.sc_exchange.specs.Ports.{Stays};
 ghost use Rattle.sc_shell.specs.Shells.{port_of};
-ghost use Rattle.sc_workers.specs.Crews.{AllOf, AllSound, Sound};
+ghost use Rattle.sc_workers.specs.Crews.{AllOf, AllSound, Sound, crew_numbers};
 
 use crate::notes::Note;
-use sc_actor::{Actor, Gate, Input};
+use sc_actor::{Actor, Event, Gate, Input, Seat};
 use sc_base::{OutOfMemory, Sequence};
 use sc_exchange::Port;
 use sc_shell::Shell;
 use std::alloc::Global;
 use std::process::Abort;
+use std::sync::Wait;
 use std::sync::atomic::{AtomicU64, Ordering};
 use std::thread;
 
@@ -31,7 +33,7 @@ impl Actor for Player {
     ghost table = { λ player _.
         if player.left == 0 then (player, []) else (
           record { other = player.other; left = player.left - 1; starves = player.starves },
-          (record { to = player.other })
+          (record { to = player.other; size = 0 })
               ∷ [],
         ) };
 
@@ -47,7 +49,10 @@ impl Actor for Player {
         if self.left == self.starves {
             return Err(OutOfMemory);
         }
-        sent.push(Note { to: self.other })?;
+        sent.push(Note {
+            to: self.other,
+            size: 0,
+        })?;
         self.left -= 1;
         Ok(sent)
     }
@@ -93,16 +98,64 @@ impl Gate for Counter {
     }
 }
 
-// One shell more.
-pub(crate) fn add(
+// Two actors that send each other notes: the second has four, and is out of memory when it has
+// `starves` left; the first has `left`, and sends them to `other`. The second stands first.
+pub(crate) fn seats(
     rt: &impl Abort,
-    shells: &mut Vec<Shell<Player>>,
-    net: &Port<Note, u32>,
-    shell: Shell<Player>,
-)
-    requires crew { AllOf net.now shells.old.items × AllSound shells.old.items }
-    requires one { SameExchange (port_of shell) net.now × Sound shell }
-    ensures { AllOf net.now shells.new.items × AllSound shells.new.items }
+    alloc: Global,
+    other: u32,
+    left: u32,
+    starves: u32,
+) -> Vec<Seat<Player>>
+    ensures far { are_apart result.items ≡ true }
+    ensures numbered { All (λ seat. (0 < seat.who) × (seat.who ≤ 2)) result.items }
 {
-    shells.push(shell).expect(rt, "memory");
+    let first = Player {
+        other,
+        left,
+        starves: 0,
+    };
+    let second = Player {
+        other: 1,
+        left: 4,
+        starves,
+    };
+    let one = Seat {
+        who: 1,
+        actor: first,
+    };
+    let two = Seat {
+        who: 2,
+        actor: second,
+    };
+    let mut seats = Vec::new(alloc);
+    seats.push(two).expect(rt, "memory");
+    seats.push(one).expect(rt, "memory");
+    seats
+}
+
+fn went<R: Wait + Abort>(rt: &R, alloc: Global, shell: &mut Shell<Player>)
+    ensures stays { Stays (port_of shell.old) (port_of shell.new) }
+    ensures sound { Sound shell.new }
+{
+    let _ = shell.event(rt, alloc, Event::Go);
+    assert!(rt; !shell.is_spent());
+}
+
+// The actor at a place goes.
+pub(crate) fn go<R: Wait + Abort>(
+    rt: &R,
+    alloc: Global,
+    net: &Port<Note, u32>,
+    shells: &mut Vec<Shell<Player>>,
+    place: usize,
+)
+    requires { AllOf net.now shells.old.items × AllSound shells.old.items }
+    ensures exchange { AllOf net.now shells.new.items }
+    ensures sound { AllSound shells.new.items }
+    ensures numbers { crew_numbers shells.new.items ≡ crew_numbers shells.old.items }
+{
+    if place < shells.len() {
+        went(rt, alloc, &mut shells[place]);
+    }
 }

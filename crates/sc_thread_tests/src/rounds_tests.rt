@@ -1,14 +1,9 @@
 //! Rounds of actors that send each other notes.
-ghost use Rattle.std.specs.Prelude.{◌≡◌, ◌<◌, ◌≤◌, [], false};
-ghost use Rattle.sc_exchange.specs.Ports.{made, given, SameExchange};
-ghost use Rattle.sc_shell.specs.Shells.{port_of};
-ghost use Rattle.sc_workers.specs.Crews.{IsCrew, Sound};
+ghost use Rattle.std.specs.Prelude.{◌≤◌};
 
-use crate::notes::Note;
-use crate::players::{Counter, Open, Pair, Player, add};
-use sc_actor::{Event, Gate};
-use sc_exchange::Port;
-use sc_shell::Shell;
+use crate::players::{Counter, Open, Pair, go, seats};
+use sc_actor::Gate;
+use sc_drive::open;
 use sc_workers::{Rounds, rounds};
 use std::alloc::Global;
 use std::process::Abort;
@@ -16,52 +11,7 @@ use std::sync::Wait;
 use std::sync::atomic::{AtomicU64, Ordering};
 use std::thread::Threads;
 
-// The actor at its port, after a Go.
-fn started<R: Wait + Abort>(
-    rt: &R,
-    alloc: Global,
-    port: Port<Note, u32>,
-    player: Player,
-) -> Shell<Player>
-    requires { (0 < port.who) × (made port ≡ []) × (port.crashed ≡ false) }
-    ensures { SameExchange port (port_of result) × Sound result }
-{
-    let mut shell = Shell::new(player, port);
-    let _ = shell.event(rt, alloc, Event::Go);
-    assert!(rt; !shell.is_spent());
-    shell
-}
-
-// Two actors that send each other notes, four each. The second is out of memory when it has
-// `starves` left.
-fn two_players<R: Wait + Abort>(
-    rt: &R,
-    alloc: Global,
-    net: &mut Port<Note, u32>,
-    starves: u32,
-) -> Vec<Shell<Player>>
-    requires { (net.old.who ≡ 0) × (given net.old ≡ []) × (2 ≤ net.old.actors) }
-    ensures { IsCrew net.new result.items }
-{
-    let one = net.split(1).expect(rt, "memory");
-    let two = net.split(2).expect(rt, "memory");
-    let first = Player {
-        other: 2,
-        left: 4,
-        starves: 0,
-    };
-    let second = Player {
-        other: 1,
-        left: 4,
-        starves,
-    };
-    let mut shells = Vec::new(alloc);
-    add(rt, &mut shells, net, started(rt, alloc, one, first));
-    add(rt, &mut shells, net, started(rt, alloc, two, second));
-    shells
-}
-
-// What rounds of a pair answer.
+// What rounds of a pair answer, each with four notes, after both were told to go.
 fn played<G: Gate, R: Threads + Wait + Abort + Sync>(
     rt: &R,
     alloc: Global,
@@ -73,8 +23,10 @@ fn played<G: Gate, R: Threads + Wait + Abort + Sync>(
 ) -> Rounds
     requires { (bytes ≤ 1000000) × (1 ≤ workers) × (workers ≤ 16) }
 {
-    let mut net: Port<Note, u32> = Port::start(alloc, 2, bytes).expect(rt, "memory");
-    let mut shells = two_players(rt, alloc, &mut net, starves);
+    let seats = seats(rt, alloc, 2, 4, starves);
+    let (mut net, mut shells) = open(alloc, seats, 2, bytes).expect(rt, "memory");
+    go(rt, alloc, &net, &mut shells, 0);
+    go(rt, alloc, &net, &mut shells, 1);
     rounds(rt, alloc, &mut net, &mut shells, workers, limit, gate)
 }
 
@@ -93,7 +45,7 @@ fn rounds_end_by_their_causes(rt: HostRuntime) {
             Rounds::Full { bytes: 960 },
             Rounds::OutOfMemory,
         ];
-        assert_eq!(rt; ends, wanted);
+        assert!(rt; ends == wanted);
     }
 }
 
@@ -118,8 +70,8 @@ fn met<R: Threads + Wait + Abort + Sync>(
 #[test]
 fn runs_work_at_the_same_time(rt: HostRuntime) {
     let end = Rounds::Limit { used: 2 };
-    assert_eq!(rt; met(&rt, rt.alloc(), 2, 1_000_000), (end, 0));
-    assert_eq!(rt; met(&rt, rt.alloc(), 1, 1_000), (end, 1));
+    assert!(rt; met(&rt, rt.alloc(), 2, 1_000_000) == (end, 0));
+    assert!(rt; met(&rt, rt.alloc(), 1, 1_000) == (end, 1));
 }
 
 // What rounds answer, and how often the gate was passed.
@@ -143,7 +95,7 @@ fn the_gate_is_passed_at_each_delivery(rt: HostRuntime) {
     for workers in [1u32, 2, 4, 16] {
         let all = counted(&rt, rt.alloc(), workers, 100);
         let some = counted(&rt, rt.alloc(), workers, 3);
-        assert_eq!(rt; all, (Rounds::Quiet { used: 8 }, 8));
-        assert_eq!(rt; some, (Rounds::Limit { used: 3 }, 3));
+        assert!(rt; all == (Rounds::Quiet { used: 8 }, 8));
+        assert!(rt; some == (Rounds::Limit { used: 3 }, 3));
     }
 }

@@ -50,22 +50,104 @@ fn add<R: Wait + Abort>(rt: &R, seat: &mut TurnSeat<Log>, who: u32, value: u8)
     seat.leave(log);
 }
 
-fn added_three<R: Wait + Abort>(rt: &R, mut seat: TurnSeat<Log>, who: u32) -> TurnSeat<Log>
+fn add_three<R: Wait + Abort>(rt: &R, seat: &mut TurnSeat<Log>, who: u32)
+    requires { IsIdle seat.old who }
+    ensures { OfOneStart seat.old seat.new × IsIdle seat.new who }
+{
+    add(rt, seat, who, 1);
+    add(rt, seat, who, 2);
+    add(rt, seat, who, 3);
+}
+
+// How far two threads are: 0 at first, 1 once the one has the turn, 2 once the other goes for it.
+#[derive(Drop)]
+struct Stage {
+    reached: AtomicU64,
+}
+
+// Waits until the stage is reached, or for very long.
+fn await_stage(stage: &Stage, number: u64) {
+    for i in 0..10_000_000 {
+        let _ = i;
+        if stage.reached.load(Ordering::SeqCst) >= number {
+            return;
+        }
+        yield_now();
+    }
+}
+
+// Takes so long that one who goes for the turn is asleep by then.
+fn linger(stage: &Stage) {
+    for i in 0..20_000_000 {
+        let _ = i;
+        if stage.reached.load(Ordering::SeqCst) > 2 {
+            return;
+        }
+    }
+}
+
+// Takes the turn, and leaves it when the other seat sleeps. After that it does nothing.
+fn hold_long<R: Wait>(rt: &R, stage: &Stage, seat: &mut TurnSeat<Log>, who: u32)
+    requires { IsIdle seat.old who }
+    ensures { OfOneStart seat.old seat.new × IsIdle seat.new who }
+{
+    let log = seat.enter(rt);
+    stage.reached.store(1, Ordering::SeqCst);
+    await_stage(stage, 2);
+    linger(stage);
+    seat.leave(log);
+}
+
+// Goes for the turn while the other seat has it.
+fn come_late<R: Wait + Abort>(rt: &R, stage: &Stage, seat: &mut TurnSeat<Log>, who: u32)
+    requires { IsIdle seat.old who }
+    ensures { OfOneStart seat.old seat.new × IsIdle seat.new who }
+{
+    await_stage(stage, 1);
+    stage.reached.store(2, Ordering::SeqCst);
+    add(rt, seat, who, 2);
+}
+
+// What a seat does.
+#[derive(Clone, Copy)]
+enum Part {
+    AddThree,
+    HoldLong,
+    ComeLate,
+}
+
+fn play<R: Wait + Abort>(rt: &R, stage: &Stage, seat: &mut TurnSeat<Log>, who: u32, part: Part)
+    requires { IsIdle seat.old who }
+    ensures { OfOneStart seat.old seat.new × IsIdle seat.new who }
+{
+    match part {
+        Part::AddThree => add_three(rt, seat, who),
+        Part::HoldLong => hold_long(rt, stage, seat, who),
+        Part::ComeLate => come_late(rt, stage, seat, who),
+    }
+}
+
+fn played<R: Wait + Abort>(
+    rt: &R,
+    stage: &Stage,
+    mut seat: TurnSeat<Log>,
+    who: u32,
+    part: Part,
+) -> TurnSeat<Log>
     requires { IsIdle seat who }
     ensures { OfOneStart seat result × IsIdle result who }
 {
-    add(rt, &mut seat, who, 1);
-    add(rt, &mut seat, who, 2);
-    add(rt, &mut seat, who, 3);
+    play(rt, stage, &mut seat, who, part);
     seat
 }
 
-// Two seats add three entries each, at the same time.
+// Two seats play their parts at the same time.
 fn by_two<R: Threads + Wait + Abort + Sync>(
     rt: &R,
     one: TurnSeat<Log>,
     other: TurnSeat<Log>,
     first: u32,
+    parts: (Part, Part),
 ) -> (TurnSeat<Log>, TurnSeat<Log>)
     requires one { IsIdle one first }
     requires other { IsIdle other (first + 1) }
@@ -76,18 +158,24 @@ fn by_two<R: Threads + Wait + Abort + Sync>(
         × IsIdle result.1 (first + 1) }
 {
     let second = first + 1;
+    let (mine, theirs) = parts;
+    let stage = Stage {
+        reached: AtomicU64::new(0),
+    };
     join(
         rt,
         || -> TurnSeat<Log>
             requires { IsIdle one first }
             ensures { OfOneStart one result × IsIdle result first }
-        { added_three(rt, one, first) },
+        { played(rt, &stage, one, first, mine) },
         || -> TurnSeat<Log>
             requires { IsIdle other second }
             ensures { OfOneStart other result × IsIdle result second }
-        { added_three(rt, other, second) },
+        { played(rt, &stage, other, second, theirs) },
     )
 }
+
+const ADD: (Part, Part) = (Part::AddThree, Part::AddThree);
 
 fn take_in(net: &mut TurnSeat<Log>, other: TurnSeat<Log>)
     requires { IsIdle net.old 0 × OfOneStart net.old other × ((known other).turn ≡ false) }
@@ -98,6 +186,16 @@ fn take_in(net: &mut TurnSeat<Log>, other: TurnSeat<Log>)
         ≡ map (λ k. k.0) (known net.old).joined ++ (known other).who ∷ []) }
 {
     net.join(other);
+}
+
+// Each entry's value and maker, as the digits of one number.
+fn all_digits(entries: &[(u8, u32)]) -> u64 {
+    let mut digits = 0u64;
+    for entry in entries {
+        digits = digits.wrapping_mul(100).wrapping_add(entry.0 as u64);
+        digits = digits.wrapping_mul(10).wrapping_add(entry.1 as u64);
+    }
+    digits
 }
 
 // The values of one number, in their order, as the digits of one number.
@@ -123,11 +221,11 @@ fn told(log: &Log) -> (usize, [u32; 4]) {
     (entries.len(), digits)
 }
 
-fn two_write<R: Threads + Wait + Abort + Sync>(rt: &R, alloc: Global) -> Log {
+fn two_write<R: Threads + Wait + Abort + Sync>(rt: &R, alloc: Global, parts: (Part, Part)) -> Log {
     let mut net = TurnSeat::start(alloc, Log::new(alloc)).expect(rt, "memory");
     let one = net.split(1).expect(rt, "memory");
     let two = net.split(2).expect(rt, "memory");
-    let (one, two) = by_two(rt, one, two, 1);
+    let (one, two) = by_two(rt, one, two, 1, parts);
     take_in(&mut net, one);
     take_in(&mut net, two);
     net.close(rt)
@@ -135,7 +233,7 @@ fn two_write<R: Threads + Wait + Abort + Sync>(rt: &R, alloc: Global) -> Log {
 
 #[test]
 fn two_threads_append_through_one_turn(rt: HostRuntime) {
-    let told = told(&two_write(&rt, rt.alloc()));
+    let told = told(&two_write(&rt, rt.alloc(), ADD));
     assert_eq!(rt; told, (6, [123, 123, 0, 0]));
 }
 
@@ -168,14 +266,14 @@ fn by_four<R: Threads + Wait + Abort + Sync>(
                 × OfOneStart two result.1
                 × IsIdle result.0 1
                 × IsIdle result.1 2 }
-        { by_two(rt, one, two, 1) },
+        { by_two(rt, one, two, 1, ADD) },
         || -> (TurnSeat<Log>, TurnSeat<Log>)
             requires { IsSync R.row × IsIdle three 3 × IsIdle four 4 }
             ensures { OfOneStart three result.0
                 × OfOneStart four result.1
                 × IsIdle result.0 3
                 × IsIdle result.1 4 }
-        { by_two(rt, three, four, 3) },
+        { by_two(rt, three, four, 3, ADD) },
     )
 }
 
@@ -215,103 +313,13 @@ fn meet_and_write<R: Wait + Abort>(rt: &R, alloc: Global) -> Log {
 #[test]
 fn seats_of_one_thread_meet_and_join(rt: HostRuntime) {
     let log = meet_and_write(&rt, rt.alloc());
-    assert_eq!(rt;
-        log.entries.as_slice(),
-        [(10u8, 1u32), (20, 0), (30, 1), (40, 0)].as_slice()
-    );
-}
-
-// How far two threads are: 0 at first, 1 once the one has the turn, 2 once the other goes for it.
-#[derive(Drop)]
-struct Stage {
-    reached: AtomicU64,
-}
-
-// Waits until the stage is reached, or for very long.
-fn await_stage(stage: &Stage, number: u64) {
-    for i in 0..10_000_000 {
-        let _ = i;
-        if stage.reached.load(Ordering::SeqCst) >= number {
-            return;
-        }
-        yield_now();
-    }
-}
-
-// Takes so long that one who goes for the turn is asleep by then.
-fn linger(stage: &Stage) {
-    for i in 0..20_000_000 {
-        let _ = i;
-        if stage.reached.load(Ordering::SeqCst) > 2 {
-            return;
-        }
-    }
-}
-
-// Takes the turn, and leaves it when the other seat sleeps. After that it does nothing.
-fn holds_long<R: Wait>(rt: &R, stage: &Stage, mut seat: TurnSeat<Log>) -> TurnSeat<Log>
-    requires { IsIdle seat 1 }
-    ensures { OfOneStart seat result × IsIdle result 1 }
-{
-    let log = seat.enter(rt);
-    stage.reached.store(1, Ordering::SeqCst);
-    await_stage(stage, 2);
-    linger(stage);
-    seat.leave(log);
-    seat
-}
-
-// Goes for the turn while the other seat has it.
-fn comes_late<R: Wait + Abort>(rt: &R, stage: &Stage, mut seat: TurnSeat<Log>) -> TurnSeat<Log>
-    requires { IsIdle seat 2 }
-    ensures { OfOneStart seat result × IsIdle result 2 }
-{
-    await_stage(stage, 1);
-    stage.reached.store(2, Ordering::SeqCst);
-    add(rt, &mut seat, 2, 2);
-    seat
-}
-
-fn by_two_in_stages<R: Threads + Wait + Abort + Sync>(
-    rt: &R,
-    one: TurnSeat<Log>,
-    two: TurnSeat<Log>,
-) -> (TurnSeat<Log>, TurnSeat<Log>)
-    requires { IsIdle one 1 × IsIdle two 2 }
-    ensures { OfOneStart one result.0
-        × OfOneStart two result.1
-        × IsIdle result.0 1
-        × IsIdle result.1 2 }
-{
-    let stage = Stage {
-        reached: AtomicU64::new(0),
-    };
-    join(
-        rt,
-        || -> TurnSeat<Log>
-            requires { IsIdle one 1 }
-            ensures { OfOneStart one result × IsIdle result 1 }
-        { holds_long(rt, &stage, one) },
-        || -> TurnSeat<Log>
-            requires { IsIdle two 2 }
-            ensures { OfOneStart two result × IsIdle result 2 }
-        { comes_late(rt, &stage, two) },
-    )
-}
-
-fn one_sleeps<R: Threads + Wait + Abort + Sync>(rt: &R, alloc: Global) -> Log {
-    let mut net = TurnSeat::start(alloc, Log::new(alloc)).expect(rt, "memory");
-    let one = net.split(1).expect(rt, "memory");
-    let two = net.split(2).expect(rt, "memory");
-    let (one, two) = by_two_in_stages(rt, one, two);
-    take_in(&mut net, one);
-    take_in(&mut net, two);
-    net.close(rt)
+    let digits = all_digits(log.entries.as_slice());
+    assert_eq!(rt; digits, 101_200_301_400);
 }
 
 // The seat that sleeps is woken by that `leave` or never, and then this test does not end.
 #[test]
 fn leaving_wakes_the_seat_that_sleeps(rt: HostRuntime) {
-    let log = one_sleeps(&rt, rt.alloc());
-    assert_eq!(rt; log.entries.as_slice(), [(2u8, 2u32)].as_slice());
+    let told = told(&two_write(&rt, rt.alloc(), (Part::HoldLong, Part::ComeLate)));
+    assert_eq!(rt; told, (1, [0, 2, 0, 0]));
 }

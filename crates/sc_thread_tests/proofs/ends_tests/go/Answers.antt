@@ -1,7 +1,0 @@
-use Rattle.std.proofs.Common.{ap, ◌∙◌}
-use Rattle.std.proofs.Math.Seq.{map-set_same}
-use Rattle.sc_thread_tests.proofs.ends_tests.go.Goals as goal
-
-pub returns-then-place-len-clause-numbers : goal.returns-then-place-len-clause-numbers
-returns-then-place-len-clause-numbers g c =
-    map-set_same (λ s. s.port.who) c.args.shells.now.items c.args.place c.event.new.self c.index_mut.result.now (c.event.ensures.stays.who ∙ ap (λ s. s.port.who) c.index_mut.ensures.value)
