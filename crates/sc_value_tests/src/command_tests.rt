@@ -1,4 +1,5 @@
-use sc_base::{Draw, Dup, Key, Noted, Op, Pairs, Reply, RingArc, SeenList, Sequence, Value};
+use crate::values::{call, key, value};
+use sc_base::{Draw, Dup, Noted, Pairs, Reply, RingArc, SeenList, Sequence};
 use sc_cmd::{
     Base, Body, Command, Core, DecidedList, Frozen, Gift, Heard, Link, Lock, Outcome, Vote,
     base_weight, command_weight,
@@ -8,14 +9,6 @@ use std::alloc::Global;
 use std::process::Abort;
 
 const GROUP: Draw = Draw { node: 0, count: 1 };
-
-fn key(rt: &impl Abort, alloc: Global, bytes: &[u8]) -> Key {
-    Key::try_new(alloc, bytes).expect(rt, "a key")
-}
-
-fn value(rt: &impl Abort, alloc: Global, bytes: &[u8]) -> Value {
-    Value::try_new(alloc, bytes).expect(rt, "a value")
-}
 
 // One pair that counts 34, and one entry of a client table that counts 33.
 fn pairs(rt: &impl Abort, alloc: Global) -> Pairs {
@@ -68,17 +61,6 @@ fn gift(rt: &impl Abort, alloc: Global) -> Outcome {
 
 fn copied<T: Dup + Drop>(rt: &impl Abort, alloc: Global, value: &T) -> T {
     value.dup(alloc).expect(rt, "memory")
-}
-
-fn call(rt: &impl Abort, alloc: Global) -> Command {
-    Command::Call {
-        client: 1,
-        seq: 1,
-        op: Op::Put {
-            key: key(rt, alloc, b"key"),
-            value: value(rt, alloc, b"value"),
-        },
-    }
 }
 
 fn yes(rt: &impl Abort, alloc: Global) -> Command {

@@ -1,6 +1,6 @@
+use crate::values::{call, value};
 use sc_actor::Parcel;
-use sc_base::{Ballot, Draw, Dup, Key, Op, Reply, Sequence, Value};
-use sc_cmd::Command;
+use sc_base::{Ballot, Draw, Dup, Reply, Sequence};
 use sc_mail::{AnswerBody, Mail, MailBody, Reports, client_number};
 use sc_paxos_words::Report;
 use std::alloc::Global;
@@ -9,21 +9,6 @@ use std::process::Abort;
 const GROUP: Draw = Draw { node: 0, count: 1 };
 
 const FIRST: Ballot = Ballot { round: 1, node: 1 };
-
-fn value(rt: &impl Abort, alloc: Global) -> Value {
-    Value::try_new(alloc, b"value").expect(rt, "a value")
-}
-
-fn call(rt: &impl Abort, alloc: Global) -> Command {
-    Command::Call {
-        client: 1,
-        seq: 1,
-        op: Op::Put {
-            key: Key::try_new(alloc, b"key").expect(rt, "a key"),
-            value: value(rt, alloc),
-        },
-    }
-}
 
 fn accept(rt: &impl Abort, alloc: Global) -> MailBody {
     MailBody::Accept {
@@ -58,7 +43,7 @@ fn answer(rt: &impl Abort, alloc: Global) -> MailBody {
         group: GROUP,
         seq: 1,
         answer: AnswerBody::Value(Reply {
-            old: Some(value(rt, alloc)),
+            old: Some(value(rt, alloc, b"value")),
         }),
     }
 }
