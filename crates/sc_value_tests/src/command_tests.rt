@@ -59,10 +59,6 @@ fn gift(rt: &impl Abort, alloc: Global) -> Outcome {
     }
 }
 
-fn copied<T: Dup + Drop>(rt: &impl Abort, alloc: Global, value: &T) -> T {
-    value.dup(alloc).expect(rt, "memory")
-}
-
 fn yes(rt: &impl Abort, alloc: Global) -> Command {
     Command::RecordVote {
         tx: GROUP,
@@ -79,32 +75,21 @@ fn finish(rt: &impl Abort, alloc: Global) -> Command {
 }
 
 // What a copy of a command counts.
-fn weight_of(rt: &impl Abort, alloc: Global, command: Command) -> u64 {
-    command_weight(&copied(rt, alloc, &command))
+fn weight_of(rt: &impl Abort, alloc: Global, command: &Command) -> u64 {
+    command_weight(&command.dup(alloc).expect(rt, "memory"))
 }
 
 #[test]
-fn a_call_counts_its_key_and_value(rt: HostRuntime) {
-    let weight = weight_of(&rt, rt.alloc(), call(&rt, rt.alloc()));
-    assert_eq!(rt; weight, 8);
-}
-
-#[test]
-fn a_vote_counts_the_record_that_it_carries(rt: HostRuntime) {
-    let weight = weight_of(&rt, rt.alloc(), yes(&rt, rt.alloc()));
-    assert_eq!(rt; weight, 67);
-}
-
-#[test]
-fn an_outcome_counts_its_gift(rt: HostRuntime) {
-    let weight = weight_of(&rt, rt.alloc(), finish(&rt, rt.alloc()));
-    assert_eq!(rt; weight, 67);
-}
-
-#[test]
-fn a_command_of_numbers_counts_nothing(rt: HostRuntime) {
-    let weight = weight_of(&rt, rt.alloc(), Command::GiveUp { tx: GROUP });
-    assert_eq!(rt; weight, 0);
+fn commands_count_what_they_carry(rt: HostRuntime) {
+    // A call its key and value, a vote its record, an outcome its gift, numbers nothing.
+    let call = call(&rt, rt.alloc());
+    let vote = yes(&rt, rt.alloc());
+    let outcome = finish(&rt, rt.alloc());
+    let numbers = Command::GiveUp { tx: GROUP };
+    assert!(rt; weight_of(&rt, rt.alloc(), &call) == 8);
+    assert!(rt; weight_of(&rt, rt.alloc(), &vote) == 67);
+    assert!(rt; weight_of(&rt, rt.alloc(), &outcome) == 67);
+    assert!(rt; weight_of(&rt, rt.alloc(), &numbers) == 0);
 }
 
 // A lock that has heard of a participant's record.
@@ -164,6 +149,6 @@ fn base(rt: &impl Abort, alloc: Global) -> Base {
 #[test]
 fn a_base_counts_its_gifts_and_what_it_heard(rt: HostRuntime) {
     let base = base(&rt, rt.alloc());
-    let weight = base_weight(&copied(&rt, rt.alloc(), &base));
-    assert_eq!(rt; weight, 201);
+    let copy = base.dup(rt.alloc()).expect(&rt, "memory");
+    assert!(rt; base_weight(&copy) == 201);
 }

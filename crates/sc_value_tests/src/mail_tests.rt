@@ -48,43 +48,28 @@ fn answer(rt: &impl Abort, alloc: Global) -> MailBody {
     }
 }
 
-fn told(mail: &Mail) -> (u32, u32, u64) {
-    (mail.from, mail.to(), mail.weight())
-}
-
-fn copy_of(rt: &impl Abort, alloc: Global, mail: &Mail) -> Mail {
-    mail.dup(alloc).expect(rt, "memory")
-}
-
-fn told_of_copy(rt: &impl Abort, alloc: Global, mail: &Mail) -> (u32, u32, u64) {
-    let copy = copy_of(rt, alloc, mail);
-    told(&copy)
-}
-
-// From whom and to whom a copy of a mail of client 1 with this body goes, and what it weighs.
-fn copied(rt: &impl Abort, alloc: Global, body: MailBody) -> (u32, u32, u64) {
-    let mail = Mail {
+// A mail of client 1 to node 1.
+fn mail(body: MailBody) -> Mail {
+    Mail {
         from: client_number(1),
         to: 1,
         body,
-    };
-    told_of_copy(rt, alloc, &mail)
+    }
+}
+
+// Whether a copy of a mail has its sender and receiver, and this weight.
+fn has_copy_of(rt: &impl Abort, alloc: Global, mail: &Mail, weight: u64) -> bool {
+    let copy = mail.dup(alloc).expect(rt, "memory");
+    copy.from == 33 && copy.to() == 1 && copy.weight() == weight
 }
 
 #[test]
-fn an_accept_counts_its_key_and_value(rt: HostRuntime) {
-    let found = copied(&rt, rt.alloc(), accept(&rt, rt.alloc()));
-    assert_eq!(rt; found, (33, 1, 8));
-}
-
-#[test]
-fn a_promise_counts_32_for_each_report(rt: HostRuntime) {
-    let found = copied(&rt, rt.alloc(), promise(&rt, rt.alloc()));
-    assert_eq!(rt; found, (33, 1, 40));
-}
-
-#[test]
-fn an_answer_counts_its_value(rt: HostRuntime) {
-    let found = copied(&rt, rt.alloc(), answer(&rt, rt.alloc()));
-    assert_eq!(rt; found, (33, 1, 5));
+fn mails_count_what_they_carry(rt: HostRuntime) {
+    // An accept its key and value, a promise 32 for each report, an answer its value.
+    let accept = mail(accept(&rt, rt.alloc()));
+    let promise = mail(promise(&rt, rt.alloc()));
+    let answer = mail(answer(&rt, rt.alloc()));
+    assert!(rt; has_copy_of(&rt, rt.alloc(), &accept, 8));
+    assert!(rt; has_copy_of(&rt, rt.alloc(), &promise, 40));
+    assert!(rt; has_copy_of(&rt, rt.alloc(), &answer, 5));
 }
