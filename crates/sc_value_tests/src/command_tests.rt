@@ -74,22 +74,38 @@ fn finish(rt: &impl Abort, alloc: Global) -> Command {
     }
 }
 
+fn copy_of(rt: &impl Abort, alloc: Global, command: &Command) -> Command {
+    command.dup(alloc).expect(rt, "memory")
+}
+
+fn weight_of_copy(rt: &impl Abort, alloc: Global, command: &Command) -> u64 {
+    let copy = copy_of(rt, alloc, command);
+    command_weight(&copy)
+}
+
 // What a copy of a command counts.
-fn weight_of(rt: &impl Abort, alloc: Global, command: &Command) -> u64 {
-    command_weight(&command.dup(alloc).expect(rt, "memory"))
+fn weight_of(rt: &impl Abort, alloc: Global, command: Command) -> u64 {
+    weight_of_copy(rt, alloc, &command)
 }
 
 #[test]
-fn commands_count_what_they_carry(rt: HostRuntime) {
-    // A call its key and value, a vote its record, an outcome its gift, numbers nothing.
-    let call = call(&rt, rt.alloc());
-    let vote = yes(&rt, rt.alloc());
-    let outcome = finish(&rt, rt.alloc());
-    let numbers = Command::GiveUp { tx: GROUP };
-    assert!(rt; weight_of(&rt, rt.alloc(), &call) == 8);
-    assert!(rt; weight_of(&rt, rt.alloc(), &vote) == 67);
-    assert!(rt; weight_of(&rt, rt.alloc(), &outcome) == 67);
-    assert!(rt; weight_of(&rt, rt.alloc(), &numbers) == 0);
+fn a_call_counts_its_key_and_value(rt: HostRuntime) {
+    assert!(rt; weight_of(&rt, rt.alloc(), call(&rt, rt.alloc())) == 8);
+}
+
+#[test]
+fn a_vote_counts_the_record_that_it_carries(rt: HostRuntime) {
+    assert!(rt; weight_of(&rt, rt.alloc(), yes(&rt, rt.alloc())) == 67);
+}
+
+#[test]
+fn an_outcome_counts_its_gift(rt: HostRuntime) {
+    assert!(rt; weight_of(&rt, rt.alloc(), finish(&rt, rt.alloc())) == 67);
+}
+
+#[test]
+fn a_command_of_numbers_counts_nothing(rt: HostRuntime) {
+    assert!(rt; weight_of(&rt, rt.alloc(), Command::GiveUp { tx: GROUP }) == 0);
 }
 
 // A lock that has heard of a participant's record.
@@ -146,9 +162,19 @@ fn base(rt: &impl Abort, alloc: Global) -> Base {
     }
 }
 
+fn copy_of_base(rt: &impl Abort, alloc: Global, base: &Base) -> Base {
+    base.dup(alloc).expect(rt, "memory")
+}
+
+// What a copy of a base counts.
+fn weight_of_base(rt: &impl Abort, alloc: Global, base: &Base) -> u64 {
+    let copy = copy_of_base(rt, alloc, base);
+    base_weight(&copy)
+}
+
 #[test]
 fn a_base_counts_its_gifts_and_what_it_heard(rt: HostRuntime) {
     let base = base(&rt, rt.alloc());
-    let copy = base.dup(rt.alloc()).expect(&rt, "memory");
-    assert!(rt; base_weight(&copy) == 201);
+    let weight = weight_of_base(&rt, rt.alloc(), &base);
+    assert!(rt; weight == 201);
 }

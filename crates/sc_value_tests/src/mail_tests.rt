@@ -48,28 +48,40 @@ fn answer(rt: &impl Abort, alloc: Global) -> MailBody {
     }
 }
 
-// A mail of client 1 to node 1.
-fn mail(body: MailBody) -> Mail {
-    Mail {
+fn has_weight(mail: &Mail, weight: u64) -> bool {
+    mail.from == 33 && mail.to() == 1 && mail.weight() == weight
+}
+
+fn copy_of(rt: &impl Abort, alloc: Global, mail: &Mail) -> Mail {
+    mail.dup(alloc).expect(rt, "memory")
+}
+
+fn has_weight_in_copy(rt: &impl Abort, alloc: Global, mail: &Mail, weight: u64) -> bool {
+    let copy = copy_of(rt, alloc, mail);
+    has_weight(&copy, weight)
+}
+
+// Whether a copy of a mail of client 1 to node 1 with this body has its ends and this weight.
+fn weighs(rt: &impl Abort, alloc: Global, body: MailBody, weight: u64) -> bool {
+    let mail = Mail {
         from: client_number(1),
         to: 1,
         body,
-    }
-}
-
-// Whether a copy of a mail has its sender and receiver, and this weight.
-fn has_copy_of(rt: &impl Abort, alloc: Global, mail: &Mail, weight: u64) -> bool {
-    let copy = mail.dup(alloc).expect(rt, "memory");
-    copy.from == 33 && copy.to() == 1 && copy.weight() == weight
+    };
+    has_weight_in_copy(rt, alloc, &mail, weight)
 }
 
 #[test]
-fn mails_count_what_they_carry(rt: HostRuntime) {
-    // An accept its key and value, a promise 32 for each report, an answer its value.
-    let accept = mail(accept(&rt, rt.alloc()));
-    let promise = mail(promise(&rt, rt.alloc()));
-    let answer = mail(answer(&rt, rt.alloc()));
-    assert!(rt; has_copy_of(&rt, rt.alloc(), &accept, 8));
-    assert!(rt; has_copy_of(&rt, rt.alloc(), &promise, 40));
-    assert!(rt; has_copy_of(&rt, rt.alloc(), &answer, 5));
+fn an_accept_counts_its_key_and_value(rt: HostRuntime) {
+    assert!(rt; weighs(&rt, rt.alloc(), accept(&rt, rt.alloc()), 8));
+}
+
+#[test]
+fn a_promise_counts_32_for_each_report(rt: HostRuntime) {
+    assert!(rt; weighs(&rt, rt.alloc(), promise(&rt, rt.alloc()), 40));
+}
+
+#[test]
+fn an_answer_counts_its_value(rt: HostRuntime) {
+    assert!(rt; weighs(&rt, rt.alloc(), answer(&rt, rt.alloc()), 5));
 }
