@@ -1,6 +1,6 @@
 use crate::values::{call, value};
 use sc_actor::Parcel;
-use sc_base::{Ballot, Draw, Dup, Reply, Sequence};
+use sc_base::{Ballot, Draw, Dup, Reply, Same, Sequence};
 use sc_mail::{AnswerBody, Mail, MailBody, Reports, client_number};
 use sc_paxos_words::Report;
 use std::alloc::Global;
@@ -48,27 +48,33 @@ fn answer(rt: &impl Abort, alloc: Global) -> MailBody {
     }
 }
 
-fn has_weight(mail: &Mail, weight: u64) -> bool {
-    mail.from == 33 && mail.to() == 1 && mail.weight() == weight
+// Whether a copy of a parcel is the same, goes to node 1 and has this weight. It is for any type of
+// parcel, since a function that owns a mail is dear to prove.
+fn has_copy<P: Parcel + Same + Drop>(
+    rt: &impl Abort,
+    alloc: Global,
+    parcel: &P,
+    weight: u64,
+) -> bool {
+    let copy = parcel.dup(alloc).expect(rt, "memory");
+    copy.is_same(parcel) && copy.to() == 1 && copy.weight() == weight
 }
 
-fn copy_of(rt: &impl Abort, alloc: Global, mail: &Mail) -> Mail {
-    mail.dup(alloc).expect(rt, "memory")
+// The same of a parcel that is let go.
+fn is_copied<P: Parcel + Same + Drop>(
+    rt: &impl Abort,
+    alloc: Global,
+    parcel: P,
+    weight: u64,
+) -> bool {
+    has_copy(rt, alloc, &parcel, weight)
 }
 
-fn has_weight_in_copy(rt: &impl Abort, alloc: Global, mail: &Mail, weight: u64) -> bool {
-    let copy = copy_of(rt, alloc, mail);
-    has_weight(&copy, weight)
-}
-
-// Whether a copy of a mail of client 1 to node 1 with this body has its ends and this weight.
+// Whether a mail of client 1 to node 1 with this body is copied, and its copy has this weight.
 fn weighs(rt: &impl Abort, alloc: Global, body: MailBody, weight: u64) -> bool {
-    let mail = Mail {
-        from: client_number(1),
-        to: 1,
-        body,
-    };
-    has_weight_in_copy(rt, alloc, &mail, weight)
+    let from = client_number(1);
+    assert!(rt; from == 33);
+    is_copied(rt, alloc, Mail { from, to: 1, body }, weight)
 }
 
 #[test]
