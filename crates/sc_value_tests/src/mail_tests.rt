@@ -1,6 +1,6 @@
+use crate::values::{call, value};
 use sc_actor::Parcel;
-use sc_base::{Ballot, Draw, Dup, Key, Op, Reply, Sequence, Value};
-use sc_cmd::Command;
+use sc_base::{Ballot, Draw, Dup, Reply, Same, Sequence};
 use sc_mail::{AnswerBody, Mail, MailBody, Reports, client_number};
 use sc_paxos_words::Report;
 use std::alloc::Global;
@@ -9,21 +9,6 @@ use std::process::Abort;
 const GROUP: Draw = Draw { node: 0, count: 1 };
 
 const FIRST: Ballot = Ballot { round: 1, node: 1 };
-
-fn value(rt: &impl Abort, alloc: Global) -> Value {
-    Value::try_new(alloc, b"value").expect(rt, "a value")
-}
-
-fn call(rt: &impl Abort, alloc: Global) -> Command {
-    Command::Call {
-        client: 1,
-        seq: 1,
-        op: Op::Put {
-            key: Key::try_new(alloc, b"key").expect(rt, "a key"),
-            value: value(rt, alloc),
-        },
-    }
-}
 
 fn accept(rt: &impl Abort, alloc: Global) -> MailBody {
     MailBody::Accept {
@@ -58,48 +43,51 @@ fn answer(rt: &impl Abort, alloc: Global) -> MailBody {
         group: GROUP,
         seq: 1,
         answer: AnswerBody::Value(Reply {
-            old: Some(value(rt, alloc)),
+            old: Some(value(rt, alloc, b"value")),
         }),
     }
 }
 
-fn told(mail: &Mail) -> (u32, u32, u64) {
-    (mail.from, mail.to(), mail.weight())
+// Whether a copy of a parcel is the same, goes to node 1 and has this weight. It is for any type of
+// parcel, since a function that owns a mail is dear to prove.
+fn has_copy<P: Parcel + Same + Drop>(
+    rt: &impl Abort,
+    alloc: Global,
+    parcel: &P,
+    weight: u64,
+) -> bool {
+    let copy = parcel.dup(alloc).expect(rt, "memory");
+    copy.is_same(parcel) && copy.to() == 1 && copy.weight() == weight
 }
 
-fn copy_of(rt: &impl Abort, alloc: Global, mail: &Mail) -> Mail {
-    mail.dup(alloc).expect(rt, "memory")
+// The same of a parcel that is let go.
+fn is_copied<P: Parcel + Same + Drop>(
+    rt: &impl Abort,
+    alloc: Global,
+    parcel: P,
+    weight: u64,
+) -> bool {
+    has_copy(rt, alloc, &parcel, weight)
 }
 
-fn told_of_copy(rt: &impl Abort, alloc: Global, mail: &Mail) -> (u32, u32, u64) {
-    let copy = copy_of(rt, alloc, mail);
-    told(&copy)
-}
-
-// From whom and to whom a copy of a mail of client 1 with this body goes, and what it weighs.
-fn copied(rt: &impl Abort, alloc: Global, body: MailBody) -> (u32, u32, u64) {
-    let mail = Mail {
-        from: client_number(1),
-        to: 1,
-        body,
-    };
-    told_of_copy(rt, alloc, &mail)
+// Whether a mail of client 1 to node 1 with this body is copied, and its copy has this weight.
+fn weighs(rt: &impl Abort, alloc: Global, body: MailBody, weight: u64) -> bool {
+    let from = client_number(1);
+    assert!(rt; from == 33);
+    is_copied(rt, alloc, Mail { from, to: 1, body }, weight)
 }
 
 #[test]
 fn an_accept_counts_its_key_and_value(rt: HostRuntime) {
-    let found = copied(&rt, rt.alloc(), accept(&rt, rt.alloc()));
-    assert_eq!(rt; found, (33, 1, 8));
+    assert!(rt; weighs(&rt, rt.alloc(), accept(&rt, rt.alloc()), 8));
 }
 
 #[test]
 fn a_promise_counts_32_for_each_report(rt: HostRuntime) {
-    let found = copied(&rt, rt.alloc(), promise(&rt, rt.alloc()));
-    assert_eq!(rt; found, (33, 1, 40));
+    assert!(rt; weighs(&rt, rt.alloc(), promise(&rt, rt.alloc()), 40));
 }
 
 #[test]
 fn an_answer_counts_its_value(rt: HostRuntime) {
-    let found = copied(&rt, rt.alloc(), answer(&rt, rt.alloc()));
-    assert_eq!(rt; found, (33, 1, 5));
+    assert!(rt; weighs(&rt, rt.alloc(), answer(&rt, rt.alloc()), 5));
 }

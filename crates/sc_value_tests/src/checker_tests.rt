@@ -9,7 +9,7 @@ use sc_checker::{Replayed, is_lawful, pending_of, replay};
 use std::alloc::Global;
 use std::process::Abort;
 
-#[derive(Debug, PartialEq, Eq, Drop)]
+#[derive(PartialEq, Eq, Drop)]
 struct Note {
     to: u32,
     size: u64,
@@ -167,45 +167,64 @@ fn lawful_parts(rt: &impl Abort, alloc: Global, lines: &[Line<u32>], acts: &[Act
     parts
 }
 
-// Skipped lines, whether a line was cut off, whether no mail is pending, and the turns that each
-// actor has left.
-type Left = (u64, bool, bool, u32, u32);
+// What rows leave.
+#[derive(Clone, Copy)]
+struct Left {
+    skipped: u64,
+    // Whether a line was cut off.
+    unsettled: bool,
+    // Whether no mail is pending.
+    quiet: bool,
+    // The turns that each actor has left.
+    turns: (u32, u32),
+}
 
-fn left_in(left: &Replayed<Relay>) -> Option<Left> {
+fn is_left(left: &Replayed<Relay>, wanted: Left) -> bool {
     match left.seats.as_slice() {
-        [one, two] => Some((
-            left.skipped,
-            left.unsettled,
-            left.quiet,
-            one.actor.left,
-            two.actor.left,
-        )),
-        _ => None,
+        [one, two] => {
+            left.skipped == wanted.skipped
+                && left.unsettled == wanted.unsettled
+                && left.quiet == wanted.quiet
+                && one.actor.left == wanted.turns.0
+                && two.actor.left == wanted.turns.1
+        }
+        _ => false,
     }
 }
 
-// What rows leave, or nothing where they are not lawful.
-fn left(rt: &impl Abort, alloc: Global, lines: &[Line<u32>], acts: &[Act]) -> Option<Left> {
+// Whether rows leave this, or are not lawful where nothing is wanted.
+fn leave(
+    rt: &impl Abort,
+    alloc: Global,
+    lines: &[Line<u32>],
+    acts: &[Act],
+    wanted: Option<Left>,
+) -> bool {
     let rows = journal(rt, alloc, acts);
     let seats = pair(rt, alloc);
     assert!(rt; have_one_task(lines) && are_apart(&seats) && are_few(rows.as_slice()));
     match replay(alloc, seats, lines, rows.as_slice()).expect(rt, "memory") {
-        Some(left) => left_in(&left),
-        None => None,
+        Some(left) => match wanted {
+            Some(wanted) => is_left(&left, wanted),
+            None => false,
+        },
+        None => wanted.is_none(),
     }
 }
 
-// The numbers of the mail that rows leave pending, as the digits of one number.
-fn pending(rt: &impl Abort, alloc: Global, acts: &[Act], whose: Option<u32>) -> u32 {
+// Whether the mail that rows leave pending has these numbers.
+fn leave_pending(
+    rt: &impl Abort,
+    alloc: Global,
+    acts: &[Act],
+    whose: Option<u32>,
+    wanted: &[u32],
+) -> bool {
     let rows = journal(rt, alloc, acts);
     let seats = pair(rt, alloc);
     assert!(rt; are_few(rows.as_slice()));
     let found = pending_of(alloc, &seats, rows.as_slice(), whose).expect(rt, "memory");
-    let mut digits = 0u32;
-    for number in found.as_slice() {
-        digits = digits.wrapping_mul(10).wrapping_add(*number);
-    }
-    digits
+    found.as_slice() == wanted
 }
 
 // Actor 1 goes, and all mail is delivered.
@@ -245,13 +264,10 @@ const OTHER_GOES: &[Line<u32>] = &[Line::Go { who: 2 }, Line::Settle { most: 10 
 
 #[test]
 fn the_tables_rows_are_lawful(rt: HostRuntime) {
-    let parts = [
-        lawful_parts(&rt, rt.alloc(), GO_AND_SETTLE, &SETTLED),
-        lawful_parts(&rt, rt.alloc(), GO_AND_FREE, &SETTLED),
-        lawful_parts(&rt, rt.alloc(), GO_AND_TWO, &SETTLED),
-        lawful_parts(&rt, rt.alloc(), OTHER_GOES, &SETTLED),
-    ];
-    assert_eq!(rt; parts, [6, 6, 4, 1]);
+    assert!(rt; lawful_parts(&rt, rt.alloc(), GO_AND_SETTLE, &SETTLED) == 6);
+    assert!(rt; lawful_parts(&rt, rt.alloc(), GO_AND_FREE, &SETTLED) == 6);
+    assert!(rt; lawful_parts(&rt, rt.alloc(), GO_AND_TWO, &SETTLED) == 4);
+    assert!(rt; lawful_parts(&rt, rt.alloc(), OTHER_GOES, &SETTLED) == 1);
 }
 
 // The second row left out, the first one twice, the second one by another, to another, without its
@@ -268,12 +284,12 @@ const CHANGED: [[Act; 2]; 6] = [
 #[test]
 fn changed_rows_are_not_lawful(rt: HostRuntime) {
     for acts in &CHANGED {
-        assert_eq!(rt; lawful_parts(&rt, rt.alloc(), GO_AND_SETTLE, acts), 2);
+        assert!(rt; lawful_parts(&rt, rt.alloc(), GO_AND_SETTLE, acts) == 2);
     }
     // A note too many.
     let mut more = SETTLED;
     more[4].2 = 2;
-    assert_eq!(rt; lawful_parts(&rt, rt.alloc(), GO_AND_SETTLE, &more), 5);
+    assert!(rt; lawful_parts(&rt, rt.alloc(), GO_AND_SETTLE, &more) == 5);
 }
 
 const BOTH_AND_FREE: &[Line<u32>] = &[
@@ -308,11 +324,15 @@ const LATER_MAIL: [Act; 4] = [
 
 #[test]
 fn free_lines_leave_the_order_of_actors_open(rt: HostRuntime) {
-    let left = left(&rt, rt.alloc(), BOTH_AND_FREE, &SECOND_FIRST);
-    let settled = lawful_parts(&rt, rt.alloc(), BOTH_AND_TWO, &SECOND_FIRST);
-    let later = lawful_parts(&rt, rt.alloc(), BOTH_AND_FREE, &LATER_MAIL);
-    assert_eq!(rt; left, Some((0, true, false, 0, 0)));
-    assert_eq!(rt; (settled, later), (3, 4));
+    let left = Left {
+        skipped: 0,
+        unsettled: true,
+        quiet: false,
+        turns: (0, 0),
+    };
+    assert!(rt; leave(&rt, rt.alloc(), BOTH_AND_FREE, &SECOND_FIRST, Some(left)));
+    assert!(rt; lawful_parts(&rt, rt.alloc(), BOTH_AND_TWO, &SECOND_FIRST) == 3);
+    assert!(rt; lawful_parts(&rt, rt.alloc(), BOTH_AND_FREE, &LATER_MAIL) == 4);
 }
 
 const SKIPPED: &[Line<u32>] = &[
@@ -334,10 +354,14 @@ const SKIPPED: &[Line<u32>] = &[
 
 #[test]
 fn lines_are_skipped_where_they_make_no_row(rt: HostRuntime) {
-    let parts = lawful_parts(&rt, rt.alloc(), SKIPPED, &TROUBLED);
-    let left = left(&rt, rt.alloc(), SKIPPED, &TROUBLED);
-    assert_eq!(rt; parts, 9);
-    assert_eq!(rt; left, Some((6, false, true, 0, 1)));
+    let left = Left {
+        skipped: 6,
+        unsettled: false,
+        quiet: true,
+        turns: (0, 1),
+    };
+    assert!(rt; lawful_parts(&rt, rt.alloc(), SKIPPED, &TROUBLED) == 9);
+    assert!(rt; leave(&rt, rt.alloc(), SKIPPED, &TROUBLED, Some(left)));
 }
 
 const TWO_SETTLES: &[Line<u32>] = &[
@@ -347,36 +371,37 @@ const TWO_SETTLES: &[Line<u32>] = &[
     Line::Settle { most: 9 },
 ];
 
-#[test]
-fn a_replay_tells_what_rows_leave(rt: HostRuntime) {
-    let left = [
-        left(&rt, rt.alloc(), TWO_SETTLES, &[]),
-        left(&rt, rt.alloc(), TWO_SETTLES, &SETTLED[..2]),
-        left(&rt, rt.alloc(), TWO_SETTLES, &SETTLED[..3]),
-        left(&rt, rt.alloc(), TWO_SETTLES, &SETTLED),
-        left(&rt, rt.alloc(), TWO_SETTLES, &SETTLED[1..]),
-    ];
-    let wanted = [
-        Some((1, false, true, 2, 2)),
-        Some((1, false, false, 1, 1)),
-        Some((1, true, false, 0, 1)),
-        Some((1, true, true, 0, 0)),
-        None,
-    ];
-    assert_eq!(rt; left, wanted);
+// What is left where one line is skipped.
+fn one_skipped(unsettled: bool, quiet: bool, turns: (u32, u32)) -> Option<Left> {
+    Some(Left {
+        skipped: 1,
+        unsettled,
+        quiet,
+        turns,
+    })
 }
 
 #[test]
+fn a_replay_tells_what_rows_leave(rt: HostRuntime) {
+    let none = one_skipped(false, true, (2, 2));
+    let two = one_skipped(false, false, (1, 1));
+    let three = one_skipped(true, false, (0, 1));
+    let all = one_skipped(true, true, (0, 0));
+    assert!(rt; leave(&rt, rt.alloc(), TWO_SETTLES, &[], none));
+    assert!(rt; leave(&rt, rt.alloc(), TWO_SETTLES, &SETTLED[..2], two));
+    assert!(rt; leave(&rt, rt.alloc(), TWO_SETTLES, &SETTLED[..3], three));
+    assert!(rt; leave(&rt, rt.alloc(), TWO_SETTLES, &SETTLED, all));
+    assert!(rt; leave(&rt, rt.alloc(), TWO_SETTLES, &SETTLED[1..], None));
+}
+
+// The mail of all actors before each row of `TROUBLED`, and after the last one.
+const ALL_PENDING: [&[u32]; 9] = [&[], &[1], &[1, 1], &[1], &[1, 2], &[2], &[3], &[3], &[]];
+
+#[test]
 fn pending_mail_is_looked_up(rt: HostRuntime) {
-    // Before each row, the mail of all actors.
-    let all = [0u32, 1, 11, 1, 12, 2, 3, 3];
-    for n in 0..8usize {
-        assert_eq!(rt; pending(&rt, rt.alloc(), &TROUBLED[..n], None), all[n]);
+    for n in 0..9usize {
+        assert!(rt; leave_pending(&rt, rt.alloc(), &TROUBLED[..n], None, ALL_PENDING[n]));
     }
-    let found = [
-        pending(&rt, rt.alloc(), &TROUBLED, None),
-        pending(&rt, rt.alloc(), &TROUBLED[..4], Some(1)),
-        pending(&rt, rt.alloc(), &TROUBLED[..4], Some(2)),
-    ];
-    assert_eq!(rt; found, [0, 0, 12]);
+    assert!(rt; leave_pending(&rt, rt.alloc(), &TROUBLED[..4], Some(1), &[]));
+    assert!(rt; leave_pending(&rt, rt.alloc(), &TROUBLED[..4], Some(2), &[1, 2]));
 }

@@ -1,5 +1,6 @@
 //! Reports line by line.
-use sc_base::{Draw, Key, Op, Reply, Sequence, Value};
+use crate::values::{key, value};
+use sc_base::{Draw, Op, Reply, Sequence};
 use sc_cmd::{OrderRefusal, Route, ToldResult};
 use sc_member::Members;
 use sc_report::{Asked, Progress, Summary, lines};
@@ -17,7 +18,7 @@ fn asked(rt: &impl Abort, alloc: Global, seq: u32, got: Progress) -> Asked {
         client: 1,
         seq,
         op: Op::Get {
-            key: Key::try_new(alloc, b"a").expect(rt, "a key"),
+            key: key(rt, alloc, b"a"),
         },
         got,
     }
@@ -25,7 +26,7 @@ fn asked(rt: &impl Abort, alloc: Global, seq: u32, got: Progress) -> Asked {
 
 fn value_reply(rt: &impl Abort, alloc: Global) -> Reply {
     Reply {
-        old: Some(Value::try_new(alloc, b"x").expect(rt, "a value")),
+        old: Some(value(rt, alloc, b"x")),
     }
 }
 

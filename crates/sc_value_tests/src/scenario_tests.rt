@@ -1,79 +1,73 @@
 //! Texts that are scenarios, and texts that are not.
 use sc_cmd::Order;
-use sc_scenario::{ClientList, GroupList, ScenarioFault, SchedLine, read_scenario};
+use sc_scenario::{ClientList, GroupList, Scenario, ScenarioFault, SchedLine, read_scenario};
 use std::alloc::Global;
 use std::process::Abort;
 
 const ALL_LINES: &[u8] =
     b"scatter 1\nnodes 3\ngroup 7 3 1\nclient 5\nput a x\nget a\ndel a\nend\nclient 2\nend\ngo 5\ndeliver n3 1\ndrop c5 4294967295\nagain 9\ntick c2\ncrash 3\norder 3 join 2 0.1\norder 1 leave 3 32.4294967295\nsettle 1000000\n";
 
-fn expect_clients(rt: &impl Abort, clients: &ClientList) {
+fn are_clients_read(clients: &ClientList) -> bool {
     match clients.as_slice() {
-        [one, other] => {
-            assert_eq!(rt; (one.client, other.client), (2, 5));
-            assert_eq!(rt; other.ops.len(), 3);
-        }
-        _ => panic!(rt; "not two clients"),
+        [one, other] => one.client == 2 && other.client == 5 && other.ops.len() == 3,
+        _ => false,
     }
 }
 
-fn expect_group(rt: &impl Abort, groups: &GroupList) {
+fn is_group_read(groups: &GroupList) -> bool {
     match groups.as_slice() {
         [base] => {
-            let core = &base.core;
-            assert_eq!(rt; (core.arc.lo(), core.first), (7, 1));
-            assert_eq!(rt; core.members.len(), 2);
+            base.core.arc.lo() == 7 && base.core.first == 1 && base.core.members.len() == 2
         }
-        _ => panic!(rt; "not one group"),
+        _ => false,
     }
 }
 
-fn expect_orders(rt: &impl Abort, lines: &[SchedLine]) {
-    match lines {
-        [
-            _,
-            _,
-            _,
-            _,
-            _,
-            _,
-            SchedLine::Told {
-                node: told,
-                line: first,
-            },
-            SchedLine::Told { line: second, .. },
-            _,
-        ] => {
-            assert_eq!(rt; (*told, first.number, second.number), (3, 1, 2));
-            expect_order(rt, &first.order, &second.order);
-        }
-        _ => panic!(rt; "other lines"),
+fn is_join(order: &Order) -> bool {
+    match order {
+        Order::Join { node, group } => *node == 2 && group.node == 0 && group.count == 1,
+        _ => false,
     }
 }
 
-fn expect_order(rt: &impl Abort, first: &Order, second: &Order) {
-    match (first, second) {
-        (
-            Order::Join { node, group },
-            Order::Leave {
-                node: gone,
-                group: other,
-            },
-        ) => {
-            assert_eq!(rt; (*node, group.node, group.count), (2, 0, 1));
-            assert_eq!(rt; (*gone, other.node, other.count), (3, 32, 4_294_967_295));
+fn is_leave(order: &Order) -> bool {
+    match order {
+        Order::Leave { node, group } => {
+            *node == 3 && group.node == 32 && group.count == 4_294_967_295
         }
-        _ => panic!(rt; "other orders"),
+        _ => false,
     }
+}
+
+fn is_first_order_read(line: &SchedLine) -> bool {
+    match line {
+        SchedLine::Told { node, line } => *node == 3 && line.number == 1 && is_join(&line.order),
+        _ => false,
+    }
+}
+
+fn is_second_order_read(line: &SchedLine) -> bool {
+    match line {
+        SchedLine::Told { line, .. } => line.number == 2 && is_leave(&line.order),
+        _ => false,
+    }
+}
+
+fn are_orders_read(lines: &[SchedLine]) -> bool {
+    lines.len() == 9 && is_first_order_read(&lines[6]) && is_second_order_read(&lines[7])
+}
+
+fn is_early_form_read(scenario: &Scenario) -> bool {
+    scenario.nodes == 3
+        && are_orders_read(scenario.lines.as_slice())
+        && are_clients_read(&scenario.clients)
+        && is_group_read(&scenario.groups)
 }
 
 #[test]
 fn the_early_form_is_read(rt: HostRuntime) {
     let scenario = read_scenario(rt.alloc(), ALL_LINES).expect(&rt, "a scenario");
-    assert_eq!(rt; (scenario.nodes, scenario.lines.len()), (3, 9));
-    expect_orders(&rt, scenario.lines.as_slice());
-    expect_clients(&rt, &scenario.clients);
-    expect_group(&rt, &scenario.groups);
+    assert!(rt; is_early_form_read(&scenario));
 }
 
 fn is_refused(alloc: Global, text: &[u8]) -> bool {
@@ -114,28 +108,27 @@ fn other_texts_are_refused(rt: HostRuntime) {
     }
 }
 
-// The deliveries and the workers of a scenario's only line.
-fn read_free(alloc: Global, text: &[u8]) -> (u32, u32) {
-    match read_scenario(alloc, text) {
-        Ok(scenario) => match scenario.lines.as_slice() {
-            [SchedLine::Free { most, workers }] => (*most, *workers),
-            _ => (0, 0),
-        },
-        Err(_) => (0, 0),
+fn is_free_line(lines: &[SchedLine], counts: (u32, u32)) -> bool {
+    match lines {
+        [SchedLine::Free { most, workers }] => *most == counts.0 && *workers == counts.1,
+        _ => false,
     }
+}
+
+// Whether a scenario's only line is a free one with so many deliveries and workers.
+fn is_free_read(rt: &impl Abort, alloc: Global, text: &[u8], counts: (u32, u32)) -> bool {
+    let scenario = read_scenario(alloc, text).expect(rt, "a scenario");
+    is_free_line(scenario.lines.as_slice(), counts)
 }
 
 #[test]
 fn free_lines_are_read(rt: HostRuntime) {
-    let counts = [
-        read_free(rt.alloc(), b"scatter 1\nnodes 1\ngroup 0 1\nfree 100 4\n"),
-        read_free(rt.alloc(), b"scatter 1\nnodes 1\ngroup 0 1\nfree 1 1\n"),
-        read_free(
-            rt.alloc(),
-            b"scatter 1\nnodes 1\ngroup 0 1\nfree 1000000 16\n",
-        ),
-    ];
-    assert_eq!(rt; counts, [(100, 4), (1, 1), (1_000_000, 16)]);
+    let usual = b"scatter 1\nnodes 1\ngroup 0 1\nfree 100 4\n";
+    let least = b"scatter 1\nnodes 1\ngroup 0 1\nfree 1 1\n";
+    let most = b"scatter 1\nnodes 1\ngroup 0 1\nfree 1000000 16\n";
+    assert!(rt; is_free_read(&rt, rt.alloc(), usual, (100, 4)));
+    assert!(rt; is_free_read(&rt, rt.alloc(), least, (1, 1)));
+    assert!(rt; is_free_read(&rt, rt.alloc(), most, (1_000_000, 16)));
 }
 
 #[test]
