@@ -1,5 +1,5 @@
 -- What a coordinator asks, and whom: its participant, and then the watcher.
-use Rattle.std.specs.Prelude.{ℕ, nat_le, length, if◌then◌else◌, Option, Some, None}
+use Rattle.std.specs.Prelude.{ℕ, nat_le, List, length, if◌then◌else◌, Option, Some, None}
 use Rattle.sc_base.specs.declared.names.Draw.{Draw}
 use Rattle.sc_cmd.specs.declared.bodies.Body.{Body}
 use Rattle.sc_cmd.specs.declared.bodies.Body.TheVariants.{Merge, Repart, Migrate, Split}
@@ -11,14 +11,14 @@ use Rattle.sc_cmd.specs.declared.cores.Lock.TheVariants.{Free, Coordinating, Pro
 use Rattle.sc_cmd.specs.declared.links.Link.{Link}
 use Rattle.sc_cmd.specs.declared.votes.Frozen.{Frozen}
 use Rattle.sc_cmd.specs.declared.votes.Heard.{Heard}
+use Rattle.sc_mail.specs.declared.bodies.Mail.{Mail}
 use Rattle.sc_mail.specs.declared.bodies.MailBody.{MailBody}
 use Rattle.sc_mail.specs.declared.bodies.MailBody.TheVariants.{TxPrepare, TxWatch}
 use Rattle.sc_member.specs.Roster.{least_of}
 use Rattle.sc_member.specs.Union.{united}
 use Rattle.sc_machine_table.specs.Plans.{merged_link}
 use Rattle.sc_machine_table.specs.Splits.{right_link}
-use Rattle.sc_node_table.specs.Replica.{Place}
-use Rattle.sc_node_table.specs.Mails.{sent}
+use Rattle.sc_node_table.specs.Mails.{sent, sent_all}
 
 -- what a group offers its successor, by a node of its own
 abbrev pub offer_of : ℕ → Core → Body → Offer
@@ -79,20 +79,20 @@ question me core tx (Migrate node) heard = heard_question me core tx (Migrate no
 question me core tx (Split at child) heard = TxWatch tx (split_watch me core child)
 
 -- its question to one node
-abbrev pub asked_node : Draw → Body → Option Heard → ℕ → Place → Place
-asked_node tx body heard node (r, mails) = (r, sent r.me node (question r.me r.group.core tx body heard) mails)
+abbrev pub asked_node : ℕ → Core → Draw → Body → Option Heard → ℕ → List Mail → List Mail
+asked_node me core tx body heard node mails = sent me node (question me core tx body heard) mails
 
 -- .. to the least member of the group that is asked
-abbrev pub asked_least : Draw → Body → Option Heard → Place → Place
-asked_least tx body heard (r, mails) = asked_node tx body heard (least_of (asked_link r.group.core body heard).members) (r, mails)
+abbrev pub asked_least : ℕ → Core → Draw → Body → Option Heard → List Mail → List Mail
+asked_least me core tx body heard mails = asked_node me core tx body heard (least_of (asked_link core body heard).members) mails
+
+-- .. to each of its members
+abbrev pub asked_all : ℕ → Core → Draw → Body → Option Heard → List Mail → List Mail
+asked_all me core tx body heard mails = sent_all me (asked_link core body heard).members (question me core tx body heard) mails
 
 -- a group that coordinates asks; another one has nothing to ask
-abbrev pub asked_in : Lock → Place → Place
-asked_in Free place = place
-asked_in (Coordinating tx body order heard) place = asked_least tx body heard place
-asked_in (Promised tx offer) place = place
-asked_in (Watching tx watch) place = place
-
--- .. in its present lock
-unfoldable pub asked_first : Place → Place
-asked_first (r, mails) = asked_in r.group.core.lock (r, mails)
+abbrev pub asked_first : Lock → ℕ → Core → List Mail → List Mail
+asked_first Free me core mails = mails
+asked_first (Coordinating tx body order heard) me core mails = asked_least me core tx body heard mails
+asked_first (Promised tx offer) me core mails = mails
+asked_first (Watching tx watch) me core mails = mails

@@ -1,5 +1,5 @@
 -- Execute, 1: what is told of splits, transactions and their decisions, and the mails by which a transaction goes on. All by the effect, and by the group before and after the entry.
-use Rattle.std.specs.Prelude.{ℕ, Bool, if◌then◌else◌, Option, Some, None}
+use Rattle.std.specs.Prelude.{ℕ, Bool, true, false, List, if◌then◌else◌, Option, Some, None}
 use Rattle.sc_base.specs.declared.names.Draw.{Draw}
 use Rattle.sc_cmd.specs.declared.bodies.Body.{Body}
 use Rattle.sc_cmd.specs.declared.bodies.Body.TheVariants as At
@@ -22,12 +22,44 @@ use Rattle.sc_cmd.specs.declared.votes.Past.{Past}
 use Rattle.sc_cmd.specs.declared.votes.Past.TheVariants as Cast
 use Rattle.sc_cmd.specs.declared.votes.Vote.{Vote}
 use Rattle.sc_cmd.specs.declared.votes.Vote.TheVariants as Says
+use Rattle.sc_mail.specs.declared.bodies.Mail.{Mail}
 use Rattle.sc_mail.specs.declared.bodies.MailBody.TheVariants.{TxOutcome}
+use Rattle.sc_machine_table.specs.Group.{Group}
 use Rattle.sc_machine_table.specs.Orders.{is_alone}
 use Rattle.sc_node_table.specs.Replica.{Place}
-use Rattle.sc_node_table.specs.Mails.{sent, sent_all, told_order}
-use Rattle.sc_node_table.specs.Questions.{or_successor, heard_link, asked_first}
+use Rattle.sc_node_table.specs.Mails.{sent_all, told_order}
+use Rattle.sc_node_table.specs.declared.Before.{Before}
+use Rattle.sc_node_table.specs.Questions.{asked_first}
 use Rattle.sc_node_table.specs.Transactions.{voted_to, watched_to, told_outcome}
+
+-- ---- the group before an entry, as far as its mails need it
+
+-- the node that brought the participant's vote, and the group behind that participant
+abbrev pub heard_from : Option Heard → Option (ℕ × Link)
+heard_from None = None
+heard_from (Some heard) = Some (heard.by, heard.frozen.succ)
+
+-- whether a transaction is a merge
+abbrev pub is_merge : Body → Bool
+is_merge At.Merge = true
+is_merge (At.Repart at) = false
+is_merge (At.Migrate node) = false
+is_merge (At.Split at child) = false
+
+-- a group that coordinates no transaction
+abbrev pub before_free : Core → Before
+before_free core = record { alone = is_alone core; succ = core.succ; order = 0; merges = false; heard = None }
+
+-- .. by its lock
+abbrev pub before_in : Lock → Core → Before
+before_in Free core = before_free core
+before_in (Coordinating tx body order heard) core = record { alone = is_alone core; succ = core.succ; order = order; merges = is_merge body; heard = heard_from heard }
+before_in (Promised tx offer) core = before_free core
+before_in (Watching tx watch) core = before_free core
+
+-- .. as it is
+abbrev pub before_of : Core → Before
+before_of core = before_in core.lock core
 
 -- ---- what the desk is told
 
@@ -81,51 +113,44 @@ decided_result Was.Changed = None
 decided_result (Was.Voted vote) = None
 decided_result (Was.Refused why) = None
 
--- what is told of a split or a transaction: of one that only begins nothing, but why it is refused; of its decision, what it came to
-abbrev pub begun_result : Core → Effect → Command → Option ToldResult
-begun_result before effect (Split at child order) = if is_alone before then split_result effect else refused_result effect
-begun_result before effect (Begin tx body order) = refused_result effect
-begun_result before effect (RecordVote tx vote by) = decided_result effect
-begun_result before effect (GiveUp tx) = decided_result effect
-begun_result before effect (RecordWatch tx vote by) = decided_result effect
-begun_result before effect Noop = None
-begun_result before effect (Call client seq op) = None
-begun_result before effect (Join node order) = None
-begun_result before effect (Leave node order) = None
-begun_result before effect (Prepared tx offer) = None
-begun_result before effect (Finish tx outcome) = None
-begun_result before effect (Watched tx watch) = None
+-- what is told of a split or a transaction, by whether the group stood alone: of one that only begins nothing, but why it is refused; of its decision, what it came to
+abbrev pub begun_result : Bool → Effect → Command → Option ToldResult
+begun_result alone effect (Split at child order) = if alone then split_result effect else refused_result effect
+begun_result alone effect (Begin tx body order) = refused_result effect
+begun_result alone effect (RecordVote tx vote by) = decided_result effect
+begun_result alone effect (GiveUp tx) = decided_result effect
+begun_result alone effect (RecordWatch tx vote by) = decided_result effect
+begun_result alone effect Noop = None
+begun_result alone effect (Call client seq op) = None
+begun_result alone effect (Join node order) = None
+begun_result alone effect (Leave node order) = None
+begun_result alone effect (Prepared tx offer) = None
+begun_result alone effect (Finish tx outcome) = None
+begun_result alone effect (Watched tx watch) = None
 
--- the order that a lock was begun for, or 0
-abbrev pub begun_number : Lock → ℕ
-begun_number Free = 0
-begun_number (Coordinating tx body order heard) = order
-begun_number (Promised tx offer) = 0
-begun_number (Watching tx watch) = 0
-
--- the number of the order that is spoken of: the command's own, or that of the transaction that it decides
-abbrev pub spoken_number : Core → Command → ℕ
-spoken_number before (Split at child order) = order
-spoken_number before (Begin tx body order) = order
-spoken_number before (RecordVote tx vote by) = begun_number before.lock
-spoken_number before (GiveUp tx) = begun_number before.lock
-spoken_number before (RecordWatch tx vote by) = begun_number before.lock
-spoken_number before Noop = 0
-spoken_number before (Call client seq op) = 0
-spoken_number before (Join node order) = 0
-spoken_number before (Leave node order) = 0
-spoken_number before (Prepared tx offer) = 0
-spoken_number before (Finish tx outcome) = 0
-spoken_number before (Watched tx watch) = 0
+-- the number of the order that is spoken of: the command's own, or that of the transaction that the group coordinated
+abbrev pub spoken_number : ℕ → Command → ℕ
+spoken_number begun (Split at child order) = order
+spoken_number begun (Begin tx body order) = order
+spoken_number begun (RecordVote tx vote by) = begun
+spoken_number begun (GiveUp tx) = begun
+spoken_number begun (RecordWatch tx vote by) = begun
+spoken_number begun Noop = 0
+spoken_number begun (Call client seq op) = 0
+spoken_number begun (Join node order) = 0
+spoken_number begun (Leave node order) = 0
+spoken_number begun (Prepared tx offer) = 0
+spoken_number begun (Finish tx outcome) = 0
+spoken_number begun (Watched tx watch) = 0
 
 -- the desk is told the result, if there is one
-abbrev pub told_result : Option ToldResult → ℕ → Place → Place
-told_result None number place = place
-told_result (Some result) number (r, mails) = (r, told_order r.me number result mails)
+abbrev pub told_result : ℕ → Option ToldResult → ℕ → List Mail → List Mail
+told_result me None number mails = mails
+told_result me (Some result) number mails = told_order me number result mails
 
 -- each replica that executes the entry tells it
-unfoldable pub told_begun : Core → Effect → Command → Place → Place
-told_begun before effect command place = told_result (begun_result before effect command) (spoken_number before command) place
+unfoldable pub told_begun : ℕ → Before → Effect → Command → List Mail → List Mail
+told_begun me before effect command mails = told_result me (begun_result before.alone effect command) (spoken_number before.order command) mails
 
 -- ---- how a transaction goes on
 
@@ -158,104 +183,82 @@ vote_in (Was.Decided outcome) = None
 vote_in (Was.Refused why) = None
 
 -- a group that has begun, or has heard its participant, asks
-abbrev pub asked_by : Effect → Place → Place
-asked_by Was.Changed place = asked_first place
-asked_by (Was.Done reply) place = place
-asked_by (Was.Again reply) place = place
-asked_by (Was.Stale last) place = place
-asked_by (Was.NotMine arc succ) place = place
-asked_by (Was.Gone into) place = place
-asked_by (Was.NoEffect tx) place = place
-asked_by Was.Idle place = place
-asked_by (Was.Voted vote) place = place
-asked_by (Was.Decided outcome) place = place
-asked_by (Was.Refused why) place = place
+abbrev pub asked_by : Effect → ℕ → Core → List Mail → List Mail
+asked_by Was.Changed me core mails = asked_first core.lock me core mails
+asked_by (Was.Done reply) me core mails = mails
+asked_by (Was.Again reply) me core mails = mails
+asked_by (Was.Stale last) me core mails = mails
+asked_by (Was.NotMine arc succ) me core mails = mails
+asked_by (Was.Gone into) me core mails = mails
+asked_by (Was.NoEffect tx) me core mails = mails
+asked_by Was.Idle me core mails = mails
+asked_by (Was.Voted vote) me core mails = mails
+asked_by (Was.Decided outcome) me core mails = mails
+asked_by (Was.Refused why) me core mails = mails
 
 -- the vote goes to the node that asked
-abbrev pub vote_sent : Option Past → Draw → Offer → Place → Place
-vote_sent None tx offer place = place
-vote_sent (Some vote) tx offer place = voted_to offer.by tx offer vote place
+abbrev pub vote_sent : Option Past → ℕ → Group → Draw → Offer → List Mail → List Mail
+vote_sent None me group tx offer mails = mails
+vote_sent (Some vote) me group tx offer mails = voted_to me group offer.by tx offer vote mails
 
 -- .. and a watcher's
-abbrev pub watch_sent : Option Past → Draw → Watch → Place → Place
-watch_sent None tx watch place = place
-watch_sent (Some vote) tx watch place = watched_to watch.by tx watch vote place
+abbrev pub watch_sent : Option Past → ℕ → Draw → Watch → List Mail → List Mail
+watch_sent None me tx watch mails = mails
+watch_sent (Some vote) me tx watch mails = watched_to me watch.by tx watch vote mails
 
 -- each member of a party is told that nothing comes of it
-abbrev pub aborted_to : Draw → Link → Place → Place
-aborted_to tx link (r, mails) = (r, sent_all r.me link.members (TxOutcome tx link.group Is.Abort) mails)
+abbrev pub aborted_to : ℕ → Draw → Link → List Mail → List Mail
+aborted_to me tx link mails = sent_all me link.members (TxOutcome tx link.group Is.Abort) mails
 
 -- .. of the watcher, if one was asked after the participant was heard
-abbrev pub aborted_watcher : Draw → Option Link → Place → Place
-aborted_watcher tx None place = place
-aborted_watcher tx (Some link) place = aborted_to tx link place
+abbrev pub aborted_watcher : ℕ → Draw → Option (ℕ × Link) → List Mail → List Mail
+aborted_watcher me tx None mails = mails
+aborted_watcher me tx (Some heard) mails = aborted_to me tx heard.1 mails
 
--- what a coordinator has heard, by its lock
-abbrev pub heard_in : Lock → Option Heard
-heard_in Free = None
-heard_in (Coordinating tx body order heard) = heard
-heard_in (Promised tx offer) = None
-heard_in (Watching tx watch) = None
-
--- a transaction that is given up: the participant, and the watcher where one was asked after it
-abbrev pub given_up_by : Option Outcome → Core → Draw → Place → Place
-given_up_by None before tx place = place
-given_up_by (Some outcome) before tx place = aborted_watcher tx (heard_link (heard_in before.lock)) (aborted_to tx before.succ place)
+-- of a transaction that is given up, the participant is told, and the watcher where one was asked after it
+abbrev pub given_up_by : Option Outcome → ℕ → Before → Draw → List Mail → List Mail
+given_up_by None me before tx mails = mails
+given_up_by (Some outcome) me before tx mails = aborted_watcher me tx before.heard (aborted_to me tx before.succ mails)
 
 -- what a participant's Yes decided is told to the node that brought it
-abbrev pub vote_answered : Option Outcome → Vote → Core → Draw → ℕ → Place → Place
-vote_answered None vote before tx by place = place
-vote_answered (Some outcome) (Says.Yes frozen) before tx by place = told_outcome by tx before.succ.group outcome place
-vote_answered (Some outcome) (Says.No why) before tx by place = place
+abbrev pub vote_answered : Option Outcome → Vote → ℕ → Before → Draw → ℕ → List Mail → List Mail
+vote_answered None vote me before tx by mails = mails
+vote_answered (Some outcome) (Says.Yes frozen) me before tx by mails = told_outcome me by tx before.succ.group outcome mails
+vote_answered (Some outcome) (Says.No why) me before tx by mails = mails
 
--- the participant that was heard is told
-abbrev pub heard_told : Option Heard → Core → Draw → Outcome → Place → Place
-heard_told None before tx outcome place = place
-heard_told (Some heard) before tx outcome place = told_outcome heard.by tx before.succ.group outcome place
+-- what a watcher's Yes decided is told to the participant that was heard, and then to the node that brought the vote; of a split the successor is the watcher
+abbrev pub released_to : Option (ℕ × Link) → ℕ → Link → Draw → ℕ → Outcome → List Mail → List Mail
+released_to None me succ tx by outcome mails = told_outcome me by tx succ.group outcome mails
+released_to (Some heard) me succ tx by outcome mails = told_outcome me by tx heard.1.group outcome (told_outcome me heard.0 tx succ.group outcome mails)
 
--- what a watcher's Yes decided is told to the participant that was heard, and then to the node that brought the vote
-abbrev pub released_to : Core → Draw → ℕ → Outcome → Place → Place
-released_to before tx by outcome place =
-    told_outcome by tx (or_successor before (heard_link (heard_in before.lock))).group outcome (heard_told (heard_in before.lock) before tx outcome place)
-
--- a watcher's No to a merge is told to the participant
-abbrev pub merge_aborted : Body → Core → Draw → Place → Place
-merge_aborted At.Merge before tx place = aborted_to tx before.succ place
-merge_aborted (At.Repart at) before tx place = place
-merge_aborted (At.Migrate node) before tx place = place
-merge_aborted (At.Split at child) before tx place = place
-
--- .. by the lock
-abbrev pub refused_in_lock : Lock → Core → Draw → Place → Place
-refused_in_lock Free before tx place = place
-refused_in_lock (Coordinating locked body order heard) before tx place = merge_aborted body before tx place
-refused_in_lock (Promised locked offer) before tx place = place
-refused_in_lock (Watching locked watch) before tx place = place
-
--- what a watcher's vote decided
-abbrev pub watch_answered_by : Option Outcome → Past → Core → Draw → ℕ → Place → Place
-watch_answered_by None vote before tx by place = place
-watch_answered_by (Some outcome) Cast.Yes before tx by place = released_to before tx by outcome place
-watch_answered_by (Some outcome) (Cast.No why) before tx by place = refused_in_lock before.lock before tx place
-watch_answered_by (Some outcome) Cast.Ended before tx by place = place
+-- what a watcher's vote decided: its No to a merge is told to the participant
+abbrev pub watch_answered_by : Option Outcome → Past → ℕ → Before → Draw → ℕ → List Mail → List Mail
+watch_answered_by None vote me before tx by mails = mails
+watch_answered_by (Some outcome) Cast.Yes me before tx by mails = released_to before.heard me before.succ tx by outcome mails
+watch_answered_by (Some outcome) (Cast.No why) me before tx by mails = if before.merges then aborted_to me tx before.succ mails else mails
+watch_answered_by (Some outcome) Cast.Ended me before tx by mails = mails
 
 -- the mails of a counted command of a transaction
-unfoldable pub went_on : Core → Effect → Command → Place → Place
-went_on before effect (Split at child order) place = asked_by effect place
-went_on before effect (Begin tx body order) place = asked_by effect place
-went_on before effect (Prepared tx offer) place = vote_sent (vote_in effect) tx offer place
-went_on before effect (RecordVote tx vote by) place = vote_answered (outcome_in effect) vote before tx by (asked_by effect place)
-went_on before effect (GiveUp tx) place = given_up_by (outcome_in effect) before tx place
-went_on before effect (Watched tx watch) place = watch_sent (vote_in effect) tx watch place
-went_on before effect (RecordWatch tx vote by) place = watch_answered_by (outcome_in effect) vote before tx by place
-went_on before effect (Finish tx outcome) place = place
-went_on before effect Noop place = place
-went_on before effect (Call client seq op) place = place
-went_on before effect (Join node order) place = place
-went_on before effect (Leave node order) place = place
+unfoldable pub went_on : ℕ → Group → Before → Effect → Command → List Mail → List Mail
+went_on me group before effect (Split at child order) mails = asked_by effect me group.core mails
+went_on me group before effect (Begin tx body order) mails = asked_by effect me group.core mails
+went_on me group before effect (Prepared tx offer) mails = vote_sent (vote_in effect) me group tx offer mails
+went_on me group before effect (RecordVote tx vote by) mails = vote_answered (outcome_in effect) vote me before tx by (asked_by effect me group.core mails)
+went_on me group before effect (GiveUp tx) mails = given_up_by (outcome_in effect) me before tx mails
+went_on me group before effect (Watched tx watch) mails = watch_sent (vote_in effect) me tx watch mails
+went_on me group before effect (RecordWatch tx vote by) mails = watch_answered_by (outcome_in effect) vote me before tx by mails
+went_on me group before effect (Finish tx outcome) mails = mails
+went_on me group before effect Noop mails = mails
+went_on me group before effect (Call client seq op) mails = mails
+went_on me group before effect (Join node order) mails = mails
+went_on me group before effect (Leave node order) mails = mails
 
--- both
-unfoldable pub spoken : Bool → Core → Effect → Command → Place → Place
-spoken counted before effect command place =
-    let told = told_begun before effect command place in
-    if counted then went_on before effect command told else told
+-- both: each replica that executes the entry tells, and the one that counted it goes on
+unfoldable pub spoken_mails : Bool → ℕ → Group → Before → Effect → Command → List Mail → List Mail
+spoken_mails counted me group before effect command mails =
+    let told = told_begun me before effect command mails in
+    if counted then went_on me group before effect command told else told
+
+-- nothing changes but for the mails
+unfoldable pub spoken : Bool → Before → Effect → Command → Place → Place
+spoken counted before effect command (r, mails) = (r, spoken_mails counted r.me r.group before effect command mails)

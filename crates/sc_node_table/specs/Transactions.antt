@@ -18,8 +18,10 @@ use Rattle.sc_cmd.specs.declared.votes.Past.{Past}
 use Rattle.sc_cmd.specs.declared.votes.Past.TheVariants as Cast
 use Rattle.sc_cmd.specs.declared.votes.Vote.{Vote}
 use Rattle.sc_cmd.specs.declared.votes.Vote.TheVariants as Says
+use Rattle.sc_mail.specs.declared.bodies.Mail.{Mail}
 use Rattle.sc_mail.specs.declared.bodies.MailBody.TheVariants.{TxVote, TxOutcome, TxElsewhere, TxWatched}
 use Rattle.sc_member.specs.Roster.{next_after}
+use Rattle.sc_machine_table.specs.Group.{Group}
 use Rattle.sc_machine_table.specs.Orders.{locked_in}
 use Rattle.sc_machine_table.specs.Plans.{frozen_of}
 use Rattle.sc_machine_table.specs.Splits.{is_locked_in}
@@ -56,10 +58,10 @@ standing_vote core tx = standing_by (noted_vote core tx) (is_locked_in (locked_i
 -- ---- the participant
 
 -- a vote on an offer is sent: a Yes brings the frozen group. Of a transaction that has ended nothing is said
-unfoldable pub voted_to : ℕ → Draw → Offer → Past → Place → Place
-voted_to node tx offer Cast.Yes (r, mails) = (r, sent r.me node (TxVote tx offer.coord offer.part (Says.Yes (frozen_of r.group))) mails)
-voted_to node tx offer (Cast.No why) (r, mails) = (r, sent r.me node (TxVote tx offer.coord offer.part (Says.No why)) mails)
-voted_to node tx offer Cast.Ended place = place
+abbrev pub voted_to : ℕ → Group → ℕ → Draw → Offer → Past → List Mail → List Mail
+voted_to me group node tx offer Cast.Yes mails = sent me node (TxVote tx offer.coord offer.part (Says.Yes (frozen_of group))) mails
+voted_to me group node tx offer (Cast.No why) mails = sent me node (TxVote tx offer.coord offer.part (Says.No why)) mails
+voted_to me group node tx offer Cast.Ended mails = mails
 
 -- one that does not run names the node that it takes for the leader
 abbrev pub passed_on : ℕ → Draw → Draw → Place → Place
@@ -67,7 +69,7 @@ passed_on node tx coord (r, mails) = (r, sent r.me node (TxElsewhere tx coord r.
 
 -- an offer on which no vote stands is to be voted on in the log
 abbrev pub offered_by : Option Past → ℕ → Draw → Offer → Place → Place
-offered_by (Some vote) from tx offer place = voted_to from tx offer vote place
+offered_by (Some vote) from tx offer (r, mails) = (r, voted_to r.me r.group from tx offer vote mails)
 offered_by None from tx offer (r, mails) = if r.running then act_queued (Prepared tx offer) (r, mails) else passed_on from tx offer.coord (r, mails)
 
 -- TxPrepare
@@ -77,14 +79,14 @@ offer_row from tx offer (r, mails) = offered_by (standing_vote r.group.core tx) 
 -- ---- the watcher
 
 -- a vote on becoming a watcher is sent
-unfoldable pub watched_to : ℕ → Draw → Watch → Past → Place → Place
-watched_to node tx watch Cast.Yes (r, mails) = (r, sent r.me node (TxWatched tx watch.coord watch.part Cast.Yes) mails)
-watched_to node tx watch (Cast.No why) (r, mails) = (r, sent r.me node (TxWatched tx watch.coord watch.part (Cast.No why)) mails)
-watched_to node tx watch Cast.Ended place = place
+abbrev pub watched_to : ℕ → ℕ → Draw → Watch → Past → List Mail → List Mail
+watched_to me node tx watch Cast.Yes mails = sent me node (TxWatched tx watch.coord watch.part Cast.Yes) mails
+watched_to me node tx watch (Cast.No why) mails = sent me node (TxWatched tx watch.coord watch.part (Cast.No why)) mails
+watched_to me node tx watch Cast.Ended mails = mails
 
 -- one on which no vote stands is to be voted on in the log
 abbrev pub watched_by : Option Past → ℕ → Draw → Watch → Place → Place
-watched_by (Some vote) from tx watch place = watched_to from tx watch vote place
+watched_by (Some vote) from tx watch (r, mails) = (r, watched_to r.me from tx watch vote mails)
 watched_by None from tx watch (r, mails) = if r.running then act_queued (Watched tx watch) (r, mails) else passed_on from tx watch.coord (r, mails)
 
 -- TxWatch
@@ -108,8 +110,8 @@ awaits_watch (Promised locked offer) tx = false
 awaits_watch (Watching locked watch) tx = false
 
 -- what is decided already and voted Yes on is told
-abbrev pub told_outcome : ℕ → Draw → Draw → Outcome → Place → Place
-told_outcome node tx part outcome (r, mails) = (r, sent r.me node (TxOutcome tx part outcome) mails)
+abbrev pub told_outcome : ℕ → ℕ → Draw → Draw → Outcome → List Mail → List Mail
+told_outcome me node tx part outcome mails = sent me node (TxOutcome tx part outcome) mails
 
 -- a vote for which the leader waits is recorded
 abbrev pub vote_queued : ℕ → Draw → Vote → Place → Place
@@ -117,7 +119,7 @@ vote_queued from tx vote (r, mails) = if r.running && awaits_vote r.group.core.l
 
 -- only a Yes binds its group, and asks for what was decided
 abbrev pub vote_met : Vote → Option Outcome → ℕ → Draw → Draw → Place → Place
-vote_met (Says.Yes frozen) (Some outcome) from tx part place = told_outcome from tx part outcome place
+vote_met (Says.Yes frozen) (Some outcome) from tx part (r, mails) = (r, told_outcome r.me from tx part outcome mails)
 vote_met (Says.Yes frozen) None from tx part place = vote_queued from tx (Says.Yes frozen) place
 vote_met (Says.No why) outcome from tx part place = vote_queued from tx (Says.No why) place
 
@@ -131,7 +133,7 @@ watch_queued from tx vote (r, mails) = if r.running && awaits_watch r.group.core
 
 -- only a Yes binds the watcher
 abbrev pub watch_met : Past → Option Outcome → ℕ → Draw → Draw → Place → Place
-watch_met Cast.Yes (Some outcome) from tx part place = told_outcome from tx part outcome place
+watch_met Cast.Yes (Some outcome) from tx part (r, mails) = (r, told_outcome r.me from tx part outcome mails)
 watch_met Cast.Yes None from tx part place = watch_queued from tx Cast.Yes place
 watch_met (Cast.No why) outcome from tx part place = watch_queued from tx (Cast.No why) place
 watch_met Cast.Ended outcome from tx part place = watch_queued from tx Cast.Ended place
@@ -146,17 +148,16 @@ next_asked (Some node) members from = node
 next_asked None members from = next_after members from
 
 -- the coordinator of this transaction asks again
-abbrev pub asked_next : Lock → ℕ → Draw → Option ℕ → Place → Place
-asked_next Free from tx hint place = place
-asked_next (Promised locked offer) from tx hint place = place
-asked_next (Watching locked watch) from tx hint place = place
-asked_next (Coordinating locked body order heard) from tx hint (r, mails) =
-    if same_draw locked tx then asked_node tx body heard (next_asked hint (asked_link r.group.core body heard).members from) (r, mails)
-    else (r, mails)
+abbrev pub asked_next : Lock → ℕ → Core → ℕ → Draw → Option ℕ → List Mail → List Mail
+asked_next Free me core from tx hint mails = mails
+asked_next (Promised locked offer) me core from tx hint mails = mails
+asked_next (Watching locked watch) me core from tx hint mails = mails
+asked_next (Coordinating locked body order heard) me core from tx hint mails =
+    if same_draw locked tx then asked_node me core tx body heard (next_asked hint (asked_link core body heard).members from) mails else mails
 
 -- TxElsewhere
 unfoldable pub elsewhere_row : ℕ → Draw → Option ℕ → Place → Place
-elsewhere_row from tx hint (r, mails) = if settled r then asked_next r.group.core.lock from tx hint (r, mails) else (r, mails)
+elsewhere_row from tx hint (r, mails) = if settled r then (r, asked_next r.group.core.lock r.me r.group.core from tx hint mails) else (r, mails)
 
 -- ---- the end
 

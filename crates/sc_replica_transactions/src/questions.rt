@@ -1,0 +1,272 @@
+//! What a coordinator asks, and whom.
+ghost use Rattle.std.specs.Prelude.{◌≡◌, OnOk};
+ghost use Rattle.sc_member.specs.Roster.{least_of};
+ghost use Rattle.sc_node_table.specs.Mails.{sent, sent_all};
+ghost use Rattle.sc_node_table.specs.Questions.{offer_of, heard_link, watcher_link, or_successor, asked_link, watch_of, child_link, both_link, split_watch, merge_watch, heard_question, question, asked_node, asked_least, asked_all, asked_first};
+ghost use Rattle.sc_node_table.specs.Transactions.{next_asked, asked_next};
+
+use sc_base::{Draw, OutOfMemory, Sequence};
+use sc_cmd::{Body, Core, Frozen, Heard, Link, Lock, Offer, Watch, same_draw};
+use sc_mail::{Mail, MailBody};
+use sc_replica_parts::send;
+use sc_split_merge::halves;
+
+fn offer_of(me: u16, core: &Core, body: &Body) -> Offer
+    ensures { result ≡ offer_of me core.now body.now }
+{
+    Offer {
+        coord: core.id,
+        part: core.succ.group,
+        arc: core.arc,
+        members: core.members,
+        body: *body,
+        by: me,
+    }
+}
+
+/// The group behind a participant that was heard.
+pub(crate) fn heard_link(heard: &Option<Heard>) -> Option<Link>
+    ensures { result ≡ heard_link heard.now }
+{
+    match heard {
+        None => None,
+        Some(heard) => Some(heard.frozen.succ),
+    }
+}
+
+/// The watcher's link, where the watcher is asked.
+fn watcher_link(core: &Core, body: &Body, heard: &Option<Heard>) -> Option<Link>
+    ensures { result ≡ watcher_link core.now body.now heard.now }
+{
+    match body {
+        Body::Merge | Body::Repart { .. } | Body::Migrate { .. } => heard_link(heard),
+        Body::Split { .. } => Some(core.succ),
+    }
+}
+
+/// That link, or else the successor.
+pub(crate) fn or_successor(core: &Core, link: Option<Link>) -> Link
+    ensures { result ≡ or_successor core.now link }
+{
+    match link {
+        None => core.succ,
+        Some(link) => link,
+    }
+}
+
+/// Whom a coordinator asks.
+fn asked_link(core: &Core, body: &Body, heard: &Option<Heard>) -> Link
+    ensures { result ≡ asked_link core.now body.now heard.now }
+{
+    or_successor(core, watcher_link(core, body, heard))
+}
+
+fn watch_of(me: u16, core: &Core, watcher: &Link, old: Draw, next: Link) -> Watch
+    ensures { result ≡ watch_of me core.now watcher.now old next }
+{
+    Watch {
+        coord: core.id,
+        members: core.members,
+        part: watcher.group,
+        old,
+        next,
+        by: me,
+    }
+}
+
+/// The child with the members that go to it; a group of one member, which is never split, names
+/// that one.
+fn child_link(core: &Core, child: Draw) -> Link
+    ensures { result ≡ child_link core.now child }
+{
+    if core.members.len() < 2 {
+        return Link {
+            group: child,
+            members: core.members,
+        };
+    }
+    let (_staying, leaving) = halves(&core.members);
+    Link {
+        group: child,
+        members: leaving,
+    }
+}
+
+/// The group with the members of both; where these are more than nine, which are never merged, with
+/// its own.
+fn both_link(core: &Core, frozen: &Frozen) -> Link
+    ensures { result ≡ both_link core.now frozen.now }
+{
+    if 9 < core.members.count_with(&frozen.members) {
+        return Link {
+            group: core.id,
+            members: core.members,
+        };
+    }
+    Link {
+        group: core.id,
+        members: core.members.union(&frozen.members),
+    }
+}
+
+fn split_watch(me: u16, core: &Core, child: Draw) -> Watch
+    ensures { result ≡ split_watch me core.now child }
+{
+    watch_of(me, core, &core.succ, core.id, child_link(core, child))
+}
+
+fn merge_watch(me: u16, core: &Core, heard: &Heard) -> Watch
+    ensures { result ≡ merge_watch me core.now heard.now }
+{
+    let next = both_link(core, &heard.frozen);
+    watch_of(me, core, &heard.frozen.succ, core.succ.group, next)
+}
+
+fn heard_question(me: u16, core: &Core, tx: Draw, body: &Body, heard: &Option<Heard>) -> MailBody
+    ensures { result ≡ heard_question me core.now tx body.now heard.now }
+{
+    match heard {
+        None => MailBody::TxPrepare {
+            tx,
+            offer: offer_of(me, core, body),
+        },
+        Some(heard) => MailBody::TxWatch {
+            tx,
+            watch: merge_watch(me, core, heard),
+        },
+    }
+}
+
+/// What a coordinator asks: its participant, and then the watcher.
+fn question(me: u16, core: &Core, tx: Draw, body: &Body, heard: &Option<Heard>) -> MailBody
+    ensures { result ≡ question me core.now tx body.now heard.now }
+{
+    match body {
+        Body::Merge | Body::Repart { .. } | Body::Migrate { .. } => {
+            heard_question(me, core, tx, body, heard)
+        }
+        Body::Split { child, .. } => MailBody::TxWatch {
+            tx,
+            watch: split_watch(me, core, *child),
+        },
+    }
+}
+
+/// The question of a coordinator to one node.
+pub fn ask_node(
+    me: u16,
+    core: &Core,
+    tx: Draw,
+    body: &Body,
+    heard: &Option<Heard>,
+    node: u16,
+    out: &mut Sequence<Mail>,
+) -> Result<(), OutOfMemory>
+    ensures { OnOk result (out.new ≡ asked_node me core.now tx body.now heard.now node out.old) }
+{
+    send(me, node as u32, question(me, core, tx, body, heard), out)
+}
+
+/// .. to the least member of the group that is asked.
+fn ask_least(
+    me: u16,
+    core: &Core,
+    tx: Draw,
+    body: &Body,
+    heard: &Option<Heard>,
+    out: &mut Sequence<Mail>,
+) -> Result<(), OutOfMemory>
+    ensures { OnOk result (out.new ≡ asked_least me core.now tx body.now heard.now out.old) }
+{
+    let node = asked_link(core, body, heard).members.least();
+    ask_node(me, core, tx, body, heard, node, out)
+}
+
+/// .. to each of these nodes.
+#[tactic(auto, unfolding(sc_node_table::specs::Mails::sent_all))]
+fn ask_nodes(
+    me: u16,
+    core: &Core,
+    tx: Draw,
+    body: &Body,
+    heard: &Option<Heard>,
+    nodes: &[u16],
+    out: &mut Sequence<Mail>,
+) -> Result<(), OutOfMemory>
+    ensures { OnOk result
+        (out.new ≡ sent_all me nodes.now (question me core.now tx body.now heard.now) out.old) }
+{
+    for node in nodes {
+        ask_node(me, core, tx, body, heard, *node, out)?;
+    }
+    Ok(())
+}
+
+/// .. to each member of the group that is asked.
+pub(crate) fn ask_all(
+    me: u16,
+    core: &Core,
+    tx: Draw,
+    body: &Body,
+    heard: &Option<Heard>,
+    out: &mut Sequence<Mail>,
+) -> Result<(), OutOfMemory>
+    ensures { OnOk result (out.new ≡ asked_all me core.now tx body.now heard.now out.old) }
+{
+    let link = asked_link(core, body, heard);
+    ask_nodes(me, core, tx, body, heard, link.members.as_slice(), out)
+}
+
+/// The first question of a group that coordinates; another one has nothing to ask.
+pub(crate) fn ask_first(me: u16, core: &Core, out: &mut Sequence<Mail>) -> Result<(), OutOfMemory>
+    ensures { OnOk result (out.new ≡ asked_first core.now.lock me core.now out.old) }
+{
+    match &core.lock {
+        Lock::Coordinating {
+            tx,
+            body,
+            heard,
+            ..
+        } => ask_least(me, core, *tx, body, heard, out),
+        Lock::Free | Lock::Promised { .. } | Lock::Watching { .. } => Ok(()),
+    }
+}
+
+/// The node that is asked next: the one that was named, or the member after the sender.
+fn next_asked(hint: Option<u16>, link: &Link, from: u16) -> u16
+    ensures { result ≡ next_asked hint link.now.members from }
+{
+    match hint {
+        Some(node) => node,
+        None => link.members.after(from),
+    }
+}
+
+/// The coordinator of this transaction asks again, where a node did not lead the group that it
+/// asked.
+pub fn ask_next(
+    me: u16,
+    core: &Core,
+    from: u16,
+    tx: Draw,
+    hint: Option<u16>,
+    out: &mut Sequence<Mail>,
+) -> Result<(), OutOfMemory>
+    ensures { OnOk result (out.new ≡ asked_next core.now.lock me core.now from tx hint out.old) }
+{
+    match &core.lock {
+        Lock::Coordinating {
+            tx: locked,
+            body,
+            heard,
+            ..
+        } => {
+            if !same_draw(*locked, tx) {
+                return Ok(());
+            }
+            let node = next_asked(hint, &asked_link(core, body, heard), from);
+            ask_node(me, core, tx, body, heard, node, out)
+        }
+        Lock::Free | Lock::Promised { .. } | Lock::Watching { .. } => Ok(()),
+    }
+}

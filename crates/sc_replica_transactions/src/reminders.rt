@@ -1,0 +1,46 @@
+//! What one that is bound in a transaction says at a tick.
+ghost use Rattle.std.specs.Prelude.{◌≡◌, OnOk};
+ghost use Rattle.sc_node_table.specs.Reminders.{longer, reminders};
+
+use crate::questions::ask_all;
+use crate::votes::{send_watched_to_all, send_yes_to_all};
+use sc_base::{OutOfMemory, Sequence};
+use sc_cmd::Lock;
+use sc_machine::Machine;
+use sc_mail::Mail;
+
+/// How many ticks a coordinator waits before it gives up.
+pub const PATIENCE: u32 = 8;
+
+/// One tick more; the count stands still at 2^32 - 1.
+pub fn longer(waits: u32) -> u32
+    ensures { result ≡ longer waits }
+{
+    if waits == u32::MAX {
+        return waits;
+    }
+    waits + 1
+}
+
+/// A coordinator asks each member of the group that is asked; a participant and a watcher say their
+/// Yes again to each member of the coordinator.
+pub fn remind(machine: &Machine, me: u16, out: &mut Sequence<Mail>) -> Result<(), OutOfMemory>
+    ensures { OnOk result (out.new ≡ reminders machine.now.core.lock me machine.now out.old) }
+{
+    let core = machine.core();
+    match &core.lock {
+        Lock::Free => Ok(()),
+        Lock::Coordinating {
+            tx,
+            body,
+            heard,
+            ..
+        } => ask_all(me, core, *tx, body, heard, out),
+        Lock::Promised { tx, offer } => {
+            send_yes_to_all(machine, me, offer.members.as_slice(), *tx, offer, out)
+        }
+        Lock::Watching { tx, watch } => {
+            send_watched_to_all(me, watch.members.as_slice(), *tx, watch, out)
+        }
+    }
+}
