@@ -16,7 +16,7 @@ use Rattle.sc_mail.specs.declared.bodies.MailBody.{MailBody}
 use Rattle.sc_mail.specs.declared.bodies.MailBody.TheVariants.{TxPrepare, TxWatch}
 use Rattle.sc_member.specs.Roster.{least_of}
 use Rattle.sc_member.specs.Union.{united}
-use Rattle.sc_machine_table.specs.Plans.{merged_link}
+use Rattle.sc_machine_table.specs.Plans.{can_split, merged_link}
 use Rattle.sc_machine_table.specs.Splits.{right_link}
 use Rattle.sc_node_table.specs.Mails.{sent, sent_all}
 
@@ -49,9 +49,9 @@ asked_link core body heard = or_successor core (watcher_link core body heard)
 abbrev pub watch_of : ℕ → Core → Link → Draw → Link → Watch
 watch_of me core watcher old next = record { coord = core.id; members = core.members; part = watcher.group; old = old; next = next; by = me }
 
--- the child with the members that go to it; a group of one member, which is never split, names that one
-abbrev pub child_link : Core → Draw → Link
-child_link core child = if nat_le 2 (length core.members) then right_link core child else record { group = child; members = core.members }
+-- the child with the members that go to it; a group that cannot be split there, which is never asked for it, names its own
+abbrev pub child_link : Core → ℕ → Draw → Link
+child_link core at child = if can_split core at then right_link core child else record { group = child; members = core.members }
 
 -- the group with the members of both; where these are more than nine, which are never merged, with its own
 abbrev pub both_link : Core → Frozen → Link
@@ -59,8 +59,8 @@ both_link core frozen =
     if nat_le (length (united core.members frozen.members)) 9 then merged_link core frozen else record { group = core.id; members = core.members }
 
 -- a split replaces the group by its child
-abbrev pub split_watch : ℕ → Core → Draw → Watch
-split_watch me core child = watch_of me core core.succ core.id (child_link core child)
+abbrev pub split_watch : ℕ → Core → ℕ → Draw → Watch
+split_watch me core at child = watch_of me core core.succ core.id (child_link core at child)
 
 -- a merge replaces the participant by the group with the members of both
 abbrev pub merge_watch : ℕ → Core → Heard → Watch
@@ -76,7 +76,7 @@ abbrev pub question : ℕ → Core → Draw → Body → Option Heard → MailBo
 question me core tx Merge heard = heard_question me core tx Merge heard
 question me core tx (Repart at) heard = heard_question me core tx (Repart at) heard
 question me core tx (Migrate node) heard = heard_question me core tx (Migrate node) heard
-question me core tx (Split at child) heard = TxWatch tx (split_watch me core child)
+question me core tx (Split at child) heard = TxWatch tx (split_watch me core at child)
 
 -- its question to one node
 abbrev pub asked_node : ℕ → Core → Draw → Body → Option Heard → ℕ → List Mail → List Mail

@@ -81,6 +81,7 @@ fn vote_in(effect: &Effect) -> Option<Past>
 
 /// A group that has begun, or has heard its participant, asks.
 fn ask_by(
+    alloc: Global,
     effect: &Effect,
     me: u16,
     core: &Core,
@@ -89,7 +90,7 @@ fn ask_by(
     ensures { OnOk result (out.new ≡ asked_by effect.now me core.now out.old) }
 {
     match effect {
-        Effect::Changed => ask_first(me, core, out),
+        Effect::Changed => ask_first(alloc, me, core, out),
         Effect::Done(_)
         | Effect::Again(_)
         | Effect::Stale { .. }
@@ -150,12 +151,12 @@ fn go_on(
         (out.new ≡ went_on me machine.now before.now effect.now command.now out.old) }
 {
     match command {
-        Command::Split { .. } | Command::Begin { .. } => ask_by(effect, me, machine.core(), out),
+        Command::Split { .. } | Command::Begin { .. } => ask_by(alloc, effect, me, machine.core(), out),
         Command::Prepared { tx, offer } => {
             send_vote(vote_in(effect), machine, me, *tx, offer, out)
         }
         Command::RecordVote { tx, vote, by } => {
-            ask_by(effect, me, machine.core(), out)?;
+            ask_by(alloc, effect, me, machine.core(), out)?;
             answer_vote(alloc, outcome_in(effect), vote, me, before, *tx, *by, out)
         }
         Command::GiveUp { tx } => give_up(outcome_in(effect), me, before, *tx, out),

@@ -1,5 +1,5 @@
 //! What a coordinator asks, and whom.
-ghost use Rattle.std.specs.Prelude.{◌≡◌, OnOk};
+ghost use Rattle.std.specs.Prelude.{◌≡◌, IfOk, OnOk};
 ghost use Rattle.sc_member.specs.Roster.{least_of};
 ghost use Rattle.sc_node_table.specs.Mails.{sent, sent_all};
 ghost use Rattle.sc_node_table.specs.Questions.{offer_of, heard_link, watcher_link, or_successor, asked_link, watch_of, child_link, both_link, split_watch, merge_watch, heard_question, question, asked_node, asked_least, asked_all, asked_first};
@@ -9,7 +9,8 @@ use sc_base::{Draw, OutOfMemory, Sequence};
 use sc_cmd::{Body, Core, Frozen, Heard, Link, Lock, Offer, Watch, same_draw};
 use sc_mail::{Mail, MailBody};
 use sc_replica_parts::send;
-use sc_split_merge::halves;
+use sc_split_merge::{can_split, plan_split};
+use std::alloc::Global;
 
 fn offer_of(me: u16, core: &Core, body: &Body) -> Offer
     ensures { result ≡ offer_of me core.now body.now }
@@ -74,22 +75,22 @@ fn watch_of(me: u16, core: &Core, watcher: &Link, old: Draw, next: Link) -> Watc
     }
 }
 
-/// The child with the members that go to it; a group of one member, which is never split, names
-/// that one.
-fn child_link(core: &Core, child: Draw) -> Link
-    ensures { result ≡ child_link core.now child }
+/// The child with the members that go to it; a group that cannot be split there, which is never
+/// asked for it, names its own.
+fn child_link(alloc: Global, core: &Core, at: u32, child: Draw) -> Result<Link, OutOfMemory>
+    ensures { IfOk result (λ link. link ≡ child_link core.now at child) }
 {
-    if core.members.len() < 2 {
-        return Link {
+    if !can_split(core, at) {
+        return Ok(Link {
             group: child,
             members: core.members,
-        };
+        });
     }
-    let (_staying, leaving) = halves(&core.members);
-    Link {
+    let (_left, right) = plan_split(alloc, core, at, child)?;
+    Ok(Link {
         group: child,
-        members: leaving,
-    }
+        members: right.members,
+    })
 }
 
 /// The group with the members of both; where these are more than nine, which are never merged, with
@@ -109,10 +110,17 @@ fn both_link(core: &Core, frozen: &Frozen) -> Link
     }
 }
 
-fn split_watch(me: u16, core: &Core, child: Draw) -> Watch
-    ensures { result ≡ split_watch me core.now child }
+fn split_watch(
+    alloc: Global,
+    me: u16,
+    core: &Core,
+    at: u32,
+    child: Draw,
+) -> Result<Watch, OutOfMemory>
+    ensures { IfOk result (λ watch. watch ≡ split_watch me core.now at child) }
 {
-    watch_of(me, core, &core.succ, core.id, child_link(core, child))
+    let next = child_link(alloc, core, at, child)?;
+    Ok(watch_of(me, core, &core.succ, core.id, next))
 }
 
 fn merge_watch(me: u16, core: &Core, heard: &Heard) -> Watch
@@ -138,22 +146,30 @@ fn heard_question(me: u16, core: &Core, tx: Draw, body: &Body, heard: &Option<He
 }
 
 /// What a coordinator asks: its participant, and then the watcher.
-fn question(me: u16, core: &Core, tx: Draw, body: &Body, heard: &Option<Heard>) -> MailBody
-    ensures { result ≡ question me core.now tx body.now heard.now }
+fn question(
+    alloc: Global,
+    me: u16,
+    core: &Core,
+    tx: Draw,
+    body: &Body,
+    heard: &Option<Heard>,
+) -> Result<MailBody, OutOfMemory>
+    ensures { IfOk result (λ asked. asked ≡ question me core.now tx body.now heard.now) }
 {
     match body {
         Body::Merge | Body::Repart { .. } | Body::Migrate { .. } => {
-            heard_question(me, core, tx, body, heard)
+            Ok(heard_question(me, core, tx, body, heard))
         }
-        Body::Split { child, .. } => MailBody::TxWatch {
-            tx,
-            watch: split_watch(me, core, *child),
-        },
+        Body::Split { at, child } => {
+            let watch = split_watch(alloc, me, core, *at, *child)?;
+            Ok(MailBody::TxWatch { tx, watch })
+        }
     }
 }
 
 /// The question of a coordinator to one node.
-pub fn ask_node(
+fn ask_node(
+    alloc: Global,
     me: u16,
     core: &Core,
     tx: Draw,
@@ -164,11 +180,13 @@ pub fn ask_node(
 ) -> Result<(), OutOfMemory>
     ensures { OnOk result (out.new ≡ asked_node me core.now tx body.now heard.now node out.old) }
 {
-    send(me, node as u32, question(me, core, tx, body, heard), out)
+    let asked = question(alloc, me, core, tx, body, heard)?;
+    send(me, node as u32, asked, out)
 }
 
 /// .. to the least member of the group that is asked.
 fn ask_least(
+    alloc: Global,
     me: u16,
     core: &Core,
     tx: Draw,
@@ -179,12 +197,13 @@ fn ask_least(
     ensures { OnOk result (out.new ≡ asked_least me core.now tx body.now heard.now out.old) }
 {
     let node = asked_link(core, body, heard).members.least();
-    ask_node(me, core, tx, body, heard, node, out)
+    ask_node(alloc, me, core, tx, body, heard, node, out)
 }
 
 /// .. to each of these nodes.
 #[tactic(auto, unfolding(sc_node_table::specs::Mails::sent_all))]
 fn ask_nodes(
+    alloc: Global,
     me: u16,
     core: &Core,
     tx: Draw,
@@ -197,13 +216,14 @@ fn ask_nodes(
         (out.new ≡ sent_all me nodes.now (question me core.now tx body.now heard.now) out.old) }
 {
     for node in nodes {
-        ask_node(me, core, tx, body, heard, *node, out)?;
+        ask_node(alloc, me, core, tx, body, heard, *node, out)?;
     }
     Ok(())
 }
 
 /// .. to each member of the group that is asked.
 pub(crate) fn ask_all(
+    alloc: Global,
     me: u16,
     core: &Core,
     tx: Draw,
@@ -214,11 +234,25 @@ pub(crate) fn ask_all(
     ensures { OnOk result (out.new ≡ asked_all me core.now tx body.now heard.now out.old) }
 {
     let link = asked_link(core, body, heard);
-    ask_nodes(me, core, tx, body, heard, link.members.as_slice(), out)
+    ask_nodes(
+        alloc,
+        me,
+        core,
+        tx,
+        body,
+        heard,
+        link.members.as_slice(),
+        out,
+    )
 }
 
 /// The first question of a group that coordinates; another one has nothing to ask.
-pub(crate) fn ask_first(me: u16, core: &Core, out: &mut Sequence<Mail>) -> Result<(), OutOfMemory>
+pub(crate) fn ask_first(
+    alloc: Global,
+    me: u16,
+    core: &Core,
+    out: &mut Sequence<Mail>,
+) -> Result<(), OutOfMemory>
     ensures { OnOk result (out.new ≡ asked_first core.now.lock me core.now out.old) }
 {
     match &core.lock {
@@ -227,7 +261,7 @@ pub(crate) fn ask_first(me: u16, core: &Core, out: &mut Sequence<Mail>) -> Resul
             body,
             heard,
             ..
-        } => ask_least(me, core, *tx, body, heard, out),
+        } => ask_least(alloc, me, core, *tx, body, heard, out),
         Lock::Free | Lock::Promised { .. } | Lock::Watching { .. } => Ok(()),
     }
 }
@@ -245,6 +279,7 @@ fn next_asked(hint: Option<u16>, link: &Link, from: u16) -> u16
 /// The coordinator of this transaction asks again, where a node did not lead the group that it
 /// asked.
 pub fn ask_next(
+    alloc: Global,
     me: u16,
     core: &Core,
     from: u16,
@@ -265,7 +300,7 @@ pub fn ask_next(
                 return Ok(());
             }
             let node = next_asked(hint, &asked_link(core, body, heard), from);
-            ask_node(me, core, tx, body, heard, node, out)
+            ask_node(alloc, me, core, tx, body, heard, node, out)
         }
         Lock::Free | Lock::Promised { .. } | Lock::Watching { .. } => Ok(()),
     }

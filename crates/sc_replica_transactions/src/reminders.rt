@@ -8,6 +8,7 @@ use sc_base::{OutOfMemory, Sequence};
 use sc_cmd::Lock;
 use sc_machine::Machine;
 use sc_mail::Mail;
+use std::alloc::Global;
 
 /// How many ticks a coordinator waits before it gives up.
 pub const PATIENCE: u32 = 8;
@@ -24,7 +25,7 @@ pub fn longer(waits: u32) -> u32
 
 /// A coordinator asks each member of the group that is asked; a participant and a watcher say their
 /// Yes again to each member of the coordinator.
-pub fn remind(machine: &Machine, me: u16, out: &mut Sequence<Mail>) -> Result<(), OutOfMemory>
+pub fn remind(alloc: Global, machine: &Machine, me: u16, out: &mut Sequence<Mail>) -> Result<(), OutOfMemory>
     ensures { OnOk result (out.new ≡ reminders machine.now.core.lock me machine.now out.old) }
 {
     let core = machine.core();
@@ -35,7 +36,7 @@ pub fn remind(machine: &Machine, me: u16, out: &mut Sequence<Mail>) -> Result<()
             body,
             heard,
             ..
-        } => ask_all(me, core, *tx, body, heard, out),
+        } => ask_all(alloc, me, core, *tx, body, heard, out),
         Lock::Promised { tx, offer } => {
             send_yes_to_all(machine, me, offer.members.as_slice(), *tx, offer, out)
         }

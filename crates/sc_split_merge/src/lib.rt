@@ -7,4 +7,4 @@ mod splits;
 
 pub use laws::{merges_keep_the_total, splits_keep_the_whole, splits_share_the_pairs};
 pub use merges::{can_merge, plan_merge};
-pub use splits::{can_split, halves, plan_split};
+pub use splits::{can_split, plan_split};

@@ -61,8 +61,8 @@ fn cut(arc: &RingArc, at: u32) -> (RingArc, RingArc)
     }
 }
 
-/// The first `n - n/2` of `n` members, and the others. There are two members at least.
-pub fn halves(members: &Members) -> (Members, Members)
+/// The first `n - n/2` of `n` members, and the others.
+fn halves(members: &Members) -> (Members, Members)
     requires { 2 ≤ length members.now }
     ensures { result ≡ (left_members members.now, right_members members.now) }
 {
