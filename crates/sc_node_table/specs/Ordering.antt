@@ -35,12 +35,12 @@ takes_name (An.Repart group at) = true
 takes_name (An.Migrate group node) = true
 
 -- whether a node has drawn all its names
-abbrev pub is_spent : Drawer → Bool
-is_spent drawer = drawer.next == 2 ^ 32 - 1
+abbrev pub has_drawn_all : Drawer → Bool
+has_drawn_all drawer = drawer.next == 2 ^ 32 - 1
 
 -- 1. not where the group is gone or another node leads it, and none that takes a name where there is none left; what else refuses it comes between
 abbrev pub named_refused : Drawer → Order → ReplicaState → Option OrderRefusal
-named_refused drawer order r = if takes_name order && is_spent drawer then Some (NotLeader r.hint) else None
+named_refused drawer order r = if takes_name order && has_drawn_all drawer then Some (NotLeader r.hint) else None
 
 -- the first refusal, or the one that comes after
 abbrev pub first_of_both : Option OrderRefusal → Option OrderRefusal → Option OrderRefusal

@@ -20,8 +20,8 @@ abbrev pub patience : ℕ
 patience = 8
 
 -- one tick more; the count stands still at 2^32 - 1
-abbrev pub longer : ℕ → ℕ
-longer waits = if waits == 2 ^ 32 - 1 then waits else waits + 1
+abbrev pub one_tick_more : ℕ → ℕ
+one_tick_more waits = if waits == 2 ^ 32 - 1 then waits else waits + 1
 
 -- a coordinator that has waited long enough gives up, by an entry of its log
 abbrev pub impatient : Draw → ReplicaState → ReplicaState
@@ -30,7 +30,7 @@ impatient tx r = if nat_le patience r.waits then with_act (GiveUp tx) r else r
 -- 2. a coordinator waits one tick longer
 abbrev pub waited_in : Lock → ReplicaState → ReplicaState
 waited_in Free r = r
-waited_in (Coordinating tx body order heard) r = impatient tx (record r { waits = longer r.waits })
+waited_in (Coordinating tx body order heard) r = impatient tx (record r { waits = one_tick_more r.waits })
 waited_in (Promised tx offer) r = r
 waited_in (Watching tx watch) r = r
 

@@ -155,18 +155,18 @@ told_begun me before effect command mails = told_result me (begun_result before.
 -- ---- how a transaction goes on
 
 -- the outcome that an entry decided
-abbrev pub outcome_in : Effect → Option Outcome
-outcome_in (Was.Decided outcome) = Some outcome
-outcome_in (Was.Done reply) = None
-outcome_in (Was.Again reply) = None
-outcome_in (Was.Stale last) = None
-outcome_in (Was.NotMine arc succ) = None
-outcome_in (Was.Gone into) = None
-outcome_in (Was.NoEffect tx) = None
-outcome_in Was.Idle = None
-outcome_in Was.Changed = None
-outcome_in (Was.Voted vote) = None
-outcome_in (Was.Refused why) = None
+abbrev pub decided_in : Effect → Option Outcome
+decided_in (Was.Decided outcome) = Some outcome
+decided_in (Was.Done reply) = None
+decided_in (Was.Again reply) = None
+decided_in (Was.Stale last) = None
+decided_in (Was.NotMine arc succ) = None
+decided_in (Was.Gone into) = None
+decided_in (Was.NoEffect tx) = None
+decided_in Was.Idle = None
+decided_in Was.Changed = None
+decided_in (Was.Voted vote) = None
+decided_in (Was.Refused why) = None
 
 -- the vote that an entry cast
 abbrev pub vote_in : Effect → Option Past
@@ -183,18 +183,18 @@ vote_in (Was.Decided outcome) = None
 vote_in (Was.Refused why) = None
 
 -- a group that has begun, or has heard its participant, asks
-abbrev pub asked_by : Effect → ℕ → Core → List Mail → List Mail
-asked_by Was.Changed me core mails = asked_first core.lock me core mails
-asked_by (Was.Done reply) me core mails = mails
-asked_by (Was.Again reply) me core mails = mails
-asked_by (Was.Stale last) me core mails = mails
-asked_by (Was.NotMine arc succ) me core mails = mails
-asked_by (Was.Gone into) me core mails = mails
-asked_by (Was.NoEffect tx) me core mails = mails
-asked_by Was.Idle me core mails = mails
-asked_by (Was.Voted vote) me core mails = mails
-asked_by (Was.Decided outcome) me core mails = mails
-asked_by (Was.Refused why) me core mails = mails
+abbrev pub asked_on : Effect → ℕ → Core → List Mail → List Mail
+asked_on Was.Changed me core mails = asked_first core.lock me core mails
+asked_on (Was.Done reply) me core mails = mails
+asked_on (Was.Again reply) me core mails = mails
+asked_on (Was.Stale last) me core mails = mails
+asked_on (Was.NotMine arc succ) me core mails = mails
+asked_on (Was.Gone into) me core mails = mails
+asked_on (Was.NoEffect tx) me core mails = mails
+asked_on Was.Idle me core mails = mails
+asked_on (Was.Voted vote) me core mails = mails
+asked_on (Was.Decided outcome) me core mails = mails
+asked_on (Was.Refused why) me core mails = mails
 
 -- the vote goes to the node that asked
 abbrev pub vote_sent : Option Past → ℕ → Group → Draw → Offer → List Mail → List Mail
@@ -240,13 +240,13 @@ watch_answered_by (Some outcome) Cast.Ended me before tx by mails = mails
 
 -- the mails of a counted command of a transaction
 unfoldable pub went_on : ℕ → Group → Before → Effect → Command → List Mail → List Mail
-went_on me group before effect (Split at child order) mails = asked_by effect me group.core mails
-went_on me group before effect (Begin tx body order) mails = asked_by effect me group.core mails
+went_on me group before effect (Split at child order) mails = asked_on effect me group.core mails
+went_on me group before effect (Begin tx body order) mails = asked_on effect me group.core mails
 went_on me group before effect (Prepared tx offer) mails = vote_sent (vote_in effect) me group tx offer mails
-went_on me group before effect (RecordVote tx vote by) mails = vote_answered (outcome_in effect) vote me before tx by (asked_by effect me group.core mails)
-went_on me group before effect (GiveUp tx) mails = given_up_by (outcome_in effect) me before tx mails
+went_on me group before effect (RecordVote tx vote by) mails = vote_answered (decided_in effect) vote me before tx by (asked_on effect me group.core mails)
+went_on me group before effect (GiveUp tx) mails = given_up_by (decided_in effect) me before tx mails
 went_on me group before effect (Watched tx watch) mails = watch_sent (vote_in effect) me tx watch mails
-went_on me group before effect (RecordWatch tx vote by) mails = watch_answered_by (outcome_in effect) vote me before tx by mails
+went_on me group before effect (RecordWatch tx vote by) mails = watch_answered_by (decided_in effect) vote me before tx by mails
 went_on me group before effect (Finish tx outcome) mails = mails
 went_on me group before effect Noop mails = mails
 went_on me group before effect (Call client seq op) mails = mails

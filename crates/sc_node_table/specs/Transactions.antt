@@ -64,13 +64,13 @@ voted_to me group node tx offer (Cast.No why) mails = sent me node (TxVote tx of
 voted_to me group node tx offer Cast.Ended mails = mails
 
 -- one that does not run names the node that it takes for the leader
-abbrev pub passed_on : ℕ → Draw → Draw → Place → Place
-passed_on node tx coord (r, mails) = (r, sent r.me node (TxElsewhere tx coord r.hint) mails)
+abbrev pub sent_elsewhere : ℕ → Draw → Draw → Place → Place
+sent_elsewhere node tx coord (r, mails) = (r, sent r.me node (TxElsewhere tx coord r.hint) mails)
 
 -- an offer on which no vote stands is to be voted on in the log
 abbrev pub offered_by : Option Past → ℕ → Draw → Offer → Place → Place
 offered_by (Some vote) from tx offer (r, mails) = (r, voted_to r.me r.group from tx offer vote mails)
-offered_by None from tx offer (r, mails) = if r.running then act_queued (Prepared tx offer) (r, mails) else passed_on from tx offer.coord (r, mails)
+offered_by None from tx offer (r, mails) = if r.running then act_queued (Prepared tx offer) (r, mails) else sent_elsewhere from tx offer.coord (r, mails)
 
 -- TxPrepare
 unfoldable pub offer_row : ℕ → Draw → Offer → Place → Place
@@ -87,7 +87,7 @@ watched_to me node tx watch Cast.Ended mails = mails
 -- one on which no vote stands is to be voted on in the log
 abbrev pub watched_by : Option Past → ℕ → Draw → Watch → Place → Place
 watched_by (Some vote) from tx watch (r, mails) = (r, watched_to r.me from tx watch vote mails)
-watched_by None from tx watch (r, mails) = if r.running then act_queued (Watched tx watch) (r, mails) else passed_on from tx watch.coord (r, mails)
+watched_by None from tx watch (r, mails) = if r.running then act_queued (Watched tx watch) (r, mails) else sent_elsewhere from tx watch.coord (r, mails)
 
 -- TxWatch
 unfoldable pub watch_row : ℕ → Draw → Watch → Place → Place

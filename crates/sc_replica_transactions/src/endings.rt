@@ -4,7 +4,7 @@ ghost use Rattle.std.specs.Option.{option_copied};
 ghost use Rattle.sc_cmd.specs.declared.votes.Outcome.TheVariants.{Abort};
 ghost use Rattle.sc_mail.specs.declared.bodies.MailBody.TheVariants.{TxOutcome};
 ghost use Rattle.sc_node_table.specs.Mails.{sent_all};
-ghost use Rattle.sc_node_table.specs.Spoken.{outcome_in, aborted_to, aborted_watcher, given_up_by, vote_answered, released_to, watch_answered_by};
+ghost use Rattle.sc_node_table.specs.Spoken.{decided_in, aborted_to, aborted_watcher, given_up_by, vote_answered, released_to, watch_answered_by};
 
 use crate::tellings::tell_outcome;
 use sc_base::{Draw, OutOfMemory, Sequence};
@@ -15,8 +15,8 @@ use sc_replica_parts::send;
 use std::alloc::Global;
 
 /// The outcome that an entry decided.
-pub(crate) fn outcome_in(effect: &Effect) -> Option<&Outcome>
-    ensures { option_copied result ≡ outcome_in effect.now }
+pub(crate) fn decided_in(effect: &Effect) -> Option<&Outcome>
+    ensures { option_copied result ≡ decided_in effect.now }
 {
     match effect {
         Effect::Decided(outcome) => Some(outcome),

@@ -1,8 +1,8 @@
 //! How a transaction goes on when an entry of it was executed.
 ghost use Rattle.std.specs.Prelude.{◌≡◌, OnOk};
-ghost use Rattle.sc_node_table.specs.Spoken.{heard_from, is_merge, before_in, before_of, vote_in, asked_by, vote_sent, watch_sent, went_on, spoken_mails};
+ghost use Rattle.sc_node_table.specs.Spoken.{heard_from, is_merge, before_in, before_of, vote_in, asked_on, vote_sent, watch_sent, went_on, spoken_mails};
 
-use crate::endings::{answer_vote, answer_watch, give_up, outcome_in};
+use crate::endings::{answer_vote, answer_watch, decided_in, give_up};
 use crate::questions::ask_first;
 use crate::tellings::tell_begun;
 use crate::votes::{tell_vote, tell_watch};
@@ -87,7 +87,7 @@ fn ask_by(
     core: &Core,
     out: &mut Sequence<Mail>,
 ) -> Result<(), OutOfMemory>
-    ensures { OnOk result (out.new ≡ asked_by effect.now me core.now out.old) }
+    ensures { OnOk result (out.new ≡ asked_on effect.now me core.now out.old) }
 {
     match effect {
         Effect::Changed => ask_first(alloc, me, core, out),
@@ -151,18 +151,24 @@ fn go_on(
         (out.new ≡ went_on me machine.now before.now effect.now command.now out.old) }
 {
     match command {
-        Command::Split { .. } | Command::Begin { .. } => ask_by(alloc, effect, me, machine.core(), out),
+        Command::Split { .. } | Command::Begin { .. } => ask_by(
+            alloc,
+            effect,
+            me,
+            machine.core(),
+            out,
+        ),
         Command::Prepared { tx, offer } => {
             send_vote(vote_in(effect), machine, me, *tx, offer, out)
         }
         Command::RecordVote { tx, vote, by } => {
             ask_by(alloc, effect, me, machine.core(), out)?;
-            answer_vote(alloc, outcome_in(effect), vote, me, before, *tx, *by, out)
+            answer_vote(alloc, decided_in(effect), vote, me, before, *tx, *by, out)
         }
-        Command::GiveUp { tx } => give_up(outcome_in(effect), me, before, *tx, out),
+        Command::GiveUp { tx } => give_up(decided_in(effect), me, before, *tx, out),
         Command::Watched { tx, watch } => send_watch(vote_in(effect), me, *tx, watch, out),
         Command::RecordWatch { tx, vote, by } => {
-            answer_watch(alloc, outcome_in(effect), vote, me, before, *tx, *by, out)
+            answer_watch(alloc, decided_in(effect), vote, me, before, *tx, *by, out)
         }
         Command::Finish { .. }
         | Command::Noop

@@ -1,6 +1,6 @@
 //! What one that is bound in a transaction says at a tick.
 ghost use Rattle.std.specs.Prelude.{◌≡◌, OnOk};
-ghost use Rattle.sc_node_table.specs.Reminders.{longer, reminders};
+ghost use Rattle.sc_node_table.specs.Reminders.{one_tick_more, reminders};
 
 use crate::questions::ask_all;
 use crate::votes::{send_watched_to_all, send_yes_to_all};
@@ -14,8 +14,8 @@ use std::alloc::Global;
 pub const PATIENCE: u32 = 8;
 
 /// One tick more; the count stands still at 2^32 - 1.
-pub fn longer(waits: u32) -> u32
-    ensures { result ≡ longer waits }
+pub fn one_tick_more(waits: u32) -> u32
+    ensures { result ≡ one_tick_more waits }
 {
     if waits == u32::MAX {
         return waits;
@@ -25,7 +25,12 @@ pub fn longer(waits: u32) -> u32
 
 /// A coordinator asks each member of the group that is asked; a participant and a watcher say their
 /// Yes again to each member of the coordinator.
-pub fn remind(alloc: Global, machine: &Machine, me: u16, out: &mut Sequence<Mail>) -> Result<(), OutOfMemory>
+pub fn remind(
+    alloc: Global,
+    machine: &Machine,
+    me: u16,
+    out: &mut Sequence<Mail>,
+) -> Result<(), OutOfMemory>
     ensures { OnOk result (out.new ≡ reminders machine.now.core.lock me machine.now out.old) }
 {
     let core = machine.core();
