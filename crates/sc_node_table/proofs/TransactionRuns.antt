@@ -1,5 +1,5 @@
 -- Small runs of the rows of transactions, computed: what is sent, and what is queued. Groups 0.1 and 0.2 make the ring, nodes 1 and 2 are their members, and 0.1 orders a merge.
-use Rattle.std.proofs.Common.{◌≡◌, ℕ, ◌^◌, ◌-◌, true, List, [], ◌∷◌, length, Some, None, refl}
+use Rattle.std.proofs.Common.{◌≡◌, ℕ, ◌^◌, ◌-◌, true, false, List, [], ◌∷◌, length, Some, None, refl}
 use Rattle.sc_base.specs.declared.names.Draw.{Draw}
 use Rattle.sc_base.specs.Drawing.{Drawer}
 use Rattle.sc_cmd.specs.declared.bodies.Body.{Body}
@@ -29,6 +29,8 @@ use Rattle.sc_cmd.specs.declared.votes.Past.TheVariants as Cast
 use Rattle.sc_cmd.specs.declared.votes.Vote.TheVariants as Says
 use Rattle.sc_mail.specs.declared.bodies.Mail.{Mail}
 use Rattle.sc_mail.specs.declared.bodies.MailBody.TheVariants.{Accept, TxPrepare, TxVote, TxOutcome, TxElsewhere, TxWatch, TxWatched, Told}
+use Rattle.sc_machine_table.specs.Group.{group_of}
+use Rattle.sc_machine_table.specs.Plans.{frozen_of}
 use Rattle.sc_node_table.specs.Replica.{ReplicaState, Place, born_replica}
 use Rattle.sc_node_table.specs.Mails.{sent_all, answered, told_order}
 use Rattle.sc_node_table.specs.Pump.{next_call, from_calls, from_queues, found_for, offered, pumped_from, pumped}
@@ -99,6 +101,10 @@ frozen = record { arc = record { lo = 2147483648; len = 2147483648 }; members = 
 abbrev pub into : Route
 into = record { group = g; lo = 0; members = 1 ∷ 2 ∷ [] }
 
+-- the participant's group as it is handed over once it is locked
+abbrev pub handed : Frozen
+handed = frozen_of (group_of (bare (right_core (Promised tx offer) ((tx, Cast.Yes) ∷ []))))
+
 -- the coordinator of a merge
 abbrev pub merging : Lock
 merging = Coordinating tx Merge 1 None
@@ -120,7 +126,7 @@ said_no : (offer_row 1 tx offer (at 3 (right_core Free ((tx, Cast.No Why.Apart) 
 unfolding offer_row
 said_no = refl
 
-said_yes : (offer_row 1 tx offer (at 3 (right_core (Promised tx offer) ((tx, Cast.Yes) ∷ [])))).1 ≡ mail 3 1 (TxVote tx g h (Says.Yes frozen)) ∷ []
+said_yes : (offer_row 1 tx offer (at 3 (right_core (Promised tx offer) ((tx, Cast.Yes) ∷ [])))).1 ≡ mail 3 1 (TxVote tx g h (Says.Yes handed)) ∷ []
 unfolding offer_row
 said_yes = refl
 
@@ -226,7 +232,7 @@ unfolding ticked reminded sent_all
 eighth = refl
 
 -- a participant and a watcher say their Yes again to the coordinator's members
-reminds : (reminded (at 2 (right_core (Promised tx offer) ((tx, Cast.Yes) ∷ [])))).1 ≡ mail 2 1 (TxVote tx g h (Says.Yes frozen)) ∷ []
+reminds : (reminded (at 2 (right_core (Promised tx offer) ((tx, Cast.Yes) ∷ [])))).1 ≡ mail 2 1 (TxVote tx g h (Says.Yes handed)) ∷ []
 unfolding reminded sent_all
 reminds = refl
 

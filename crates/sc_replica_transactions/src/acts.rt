@@ -86,5 +86,10 @@ pub fn is_of_kind(act: &Command, other: &Command) -> bool
 pub fn has_kind(act: &Command, commands: &VecDeque<Command>) -> bool
     ensures { result ≡ list_any (is_of_kind act.now) commands.now.items }
 {
-    commands.iter().any(|command| is_of_kind(act, command))
+    for i in 0..commands.len() {
+        if is_of_kind(act, &commands[i]) {
+            return true;
+        }
+    }
+    false
 }

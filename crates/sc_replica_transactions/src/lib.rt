@@ -16,6 +16,6 @@ pub use acts::{has_kind, is_of_kind};
 pub use noted::{awaits_vote, awaits_watch, is_bound, noted_outcome, standing_vote};
 pub use progress::{before_of, speak};
 pub use questions::ask_next;
-pub use reminders::{PATIENCE, one_tick_more, remind};
+pub use reminders::{has_waited, one_tick_more, remind};
 pub use tellings::{pass_on, tell_outcome};
 pub use votes::{tell_vote, tell_watch};

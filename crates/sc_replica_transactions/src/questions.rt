@@ -98,15 +98,15 @@ fn child_link(alloc: Global, core: &Core, at: u32, child: Draw) -> Result<Link, 
 fn both_link(core: &Core, frozen: &Frozen) -> Link
     ensures { result ≡ both_link core.now frozen.now }
 {
-    if 9 < core.members.count_with(&frozen.members) {
+    if core.members.count_with(&frozen.members) <= 9 {
         return Link {
             group: core.id,
-            members: core.members,
+            members: core.members.union(&frozen.members),
         };
     }
     Link {
         group: core.id,
-        members: core.members.union(&frozen.members),
+        members: core.members,
     }
 }
 

@@ -1,6 +1,6 @@
 //! What one that is bound in a transaction says at a tick.
-ghost use Rattle.std.specs.Prelude.{◌≡◌, OnOk};
-ghost use Rattle.sc_node_table.specs.Reminders.{one_tick_more, reminders};
+ghost use Rattle.std.specs.Prelude.{◌≡◌, OnOk, nat_le};
+ghost use Rattle.sc_node_table.specs.Reminders.{one_tick_more, patience, reminders};
 
 use crate::questions::ask_all;
 use crate::votes::{send_watched_to_all, send_yes_to_all};
@@ -11,7 +11,14 @@ use sc_mail::Mail;
 use std::alloc::Global;
 
 /// How many ticks a coordinator waits before it gives up.
-pub const PATIENCE: u32 = 8;
+const PATIENCE: u32 = 8;
+
+/// Whether a coordinator that has waited for so many ticks gives up.
+pub fn has_waited(waits: u32) -> bool
+    ensures { result ≡ nat_le patience waits }
+{
+    PATIENCE <= waits
+}
 
 /// One tick more; the count stands still at 2^32 - 1.
 pub fn one_tick_more(waits: u32) -> u32
