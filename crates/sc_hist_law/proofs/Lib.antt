@@ -1,3 +1,15 @@
+pub mod Disjoint
+pub mod Found
+pub mod Holdings
 pub mod Kept
 pub mod Logs
+pub mod MovesKept
+pub mod Positions
+pub mod Quiet
+pub mod QuietLaw
+pub mod QuietWorlds
+pub mod Requests
+pub mod Serving
+pub mod Shares
+pub mod Tables
 pub mod Told

@@ -1,12 +1,33 @@
-//! What the entries of a log tell of its group: one legal history, whose map is the group's pairs.
-//! It speaks of commands and their effects, and of no mail. Definitions and a law, no logic.
+//! What the entries of a log tell of its group, and what moves between groups tell of them all: one
+//! legal history, whose map is the groups' pairs. It speaks of no mail. Definitions and laws, no
+//! logic.
 #![tactic(auto)]
 
 ghost use Rattle.sc_hist_law.specs.Laws.{LogsTellHistories};
+ghost use Rattle.sc_hist_law.specs.Moves.{MovesKeepHistories, MovesTellHistories};
+ghost use Rattle.sc_hist_law.specs.Worlds.{QuietEntriesTell};
 
 /// Whatever requests, joins and leaves a group executes one after another from an empty start, the
 /// requests that took effect are a legal history, and the group's pairs are the map after it. Of
 /// each client its table notes the last of them. Joins and leaves change neither.
 pub fn logs_tell_histories()
     ensures { LogsTellHistories }
+{}
+
+/// Whatever moves are made between groups that hold nothing at first, requests, divisions, merges
+/// and moved boundaries, the requests that took effect are a legal history. The map after it, on
+/// the arc of each group, is the pairs that the group holds; each request is noted where its key
+/// lies, at no lower number; and what any table ever noted has its entry in the history. Each
+/// request, a client's number, is one operation.
+pub fn moves_tell_histories()
+    ensures one { MovesKeepHistories }
+    ensures all { MovesTellHistories }
+{}
+
+/// Whatever requests, joins and leaves the groups of a scenario execute, entry by entry, the
+/// requests that took effect are one legal history. The effective record of each cut's group has
+/// the map after it on that cut, and what any group's log ever made it note has its entry in the
+/// history. No request takes effect twice, whichever groups it reaches.
+pub fn quiet_entries_tell_a_legal_history()
+    ensures { QuietEntriesTell }
 {}

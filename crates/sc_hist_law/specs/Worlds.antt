@@ -1,0 +1,80 @@
+-- What the entries of all logs tell of what all groups hold.
+use Rattle.std.specs.Prelude.{◌≡◌, ℕ, List, [], ◌∷◌, ◌++◌, map, Option, Some, None}
+use Rattle.std.specs.FinMap.{empty}
+use Rattle.std.specs.Option.{option_map, option_and_then}
+use Rattle.sc_base.specs.Among.{Among, Each}
+use Rattle.sc_base.specs.declared.names.Draw.{Draw}
+use Rattle.sc_base.specs.declared.ops.Op.{Op}
+use Rattle.sc_cmd.specs.declared.commands.Command.{Command}
+use Rattle.sc_cmd.specs.declared.commands.Command.TheVariants.{Noop, Call, Join, Leave, Split, Begin, Prepared, RecordVote, GiveUp, Finish, Watched, RecordWatch}
+use Rattle.sc_cmd.specs.declared.cores.Base.{Base}
+use Rattle.sc_ideal.specs.History.{Legal, contents_after}
+use Rattle.sc_ideal.specs.IdealStore.{part_of}
+use Rattle.sc_ideal.specs.declared.Entry.{Entry}
+use Rattle.sc_machine_table.specs.Group.{Group}
+use Rattle.sc_entries.specs.declared.Cut.{Cut}
+use Rattle.sc_entries.specs.declared.LogEntry.{LogEntry}
+use Rattle.sc_entries.specs.Effective.{effective}
+use Rattle.sc_entries.specs.Rings.{Covers, arc_in, first_cut}
+use Rattle.sc_entries.specs.Worlds.{StoreWorld, named_group, world_of}
+use Rattle.sc_hist_law.specs.Laws.{LeavesWhole}
+use Rattle.sc_hist_law.specs.Moves.{Holding, Holdings, RequestOf, HasNotes, TellsHoldings, holding_of}
+
+-- what each group with a cut holds, by its effective record
+abbrev pub holdings_in : StoreWorld → Holdings
+holdings_in world name = option_and_then (λ arc. option_map holding_of (effective world name)) (arc_in name world.ring)
+
+-- a group of a scenario that holds nothing
+pub record BeginsBare (base : Base) : Type 0 where
+  pub pairs : base.pairs ≡ []
+  pub clients : base.clients ≡ []
+
+-- the groups of a scenario: their arcs make the ring, and they hold nothing
+pub record BeginBare (bases : List Base) : Type 0 where
+  pub covers : Covers (map first_cut bases)
+  pub bare : (base : Base) → Among base bases → BeginsBare base
+
+-- a call is the request of its client and number
+abbrev pub IsAsked : RequestOf → Command → Type 0
+IsAsked request (Call client seq op) = op ≡ request client seq
+IsAsked request Noop = Unit {0}
+IsAsked request (Join node order) = Unit {0}
+IsAsked request (Leave node order) = Unit {0}
+IsAsked request (Split at child order) = Unit {0}
+IsAsked request (Begin tx body order) = Unit {0}
+IsAsked request (Prepared tx offer) = Unit {0}
+IsAsked request (RecordVote tx vote by) = Unit {0}
+IsAsked request (GiveUp tx) = Unit {0}
+IsAsked request (Finish tx outcome) = Unit {0}
+IsAsked request (Watched tx watch) = Unit {0}
+IsAsked request (RecordWatch tx vote by) = Unit {0}
+
+-- an entry that divides no group and is of no transaction; a call is the request of its client and number
+pub record IsQuiet (request : RequestOf) (entry : LogEntry) : Type 0 where
+  pub whole : LeavesWhole entry.command
+  pub asked : IsAsked request entry.command
+
+-- the map after the history, on a cut's arc, is the pairs of its group's effective record
+abbrev pub HasItsCut : StoreWorld → Cut → Type 0
+HasItsCut world cut = (group : Group) → effective world cut.group ≡ Some group → group.pairs ≡ part_of cut.arc (contents_after empty world.history)
+
+-- what any group's own log ever made it note has its entry in the history of all entries: a replica that answers by an older state answers by the history
+abbrev pub LogNotesStay : List Base → List LogEntry → Type 0
+LogNotesStay bases entries = (front more : List LogEntry) → entries ≡ front ++ more → (name : Draw) (group : Group) → named_group name (world_of bases front).groups ≡ Some group
+    → HasNotes (world_of bases entries).history group.clients
+
+-- a world whose history is legal and tells what all groups hold, cut by cut
+pub record IsToldWorld (request : RequestOf) (world : StoreWorld) : Type 0 where
+  pub legal : Legal world.history
+  pub told : TellsHoldings request world.history (holdings_in world)
+  pub parts : (cut : Cut) → Among cut world.ring → HasItsCut world cut
+
+-- whatever requests, joins and leaves the groups of a scenario execute, the requests that took effect, whichever group served them, are one legal history; the cuts stay, and the effective record of each cut's group has the map after it on that cut
+pub record TellQuietly (request : RequestOf) (bases : List Base) (entries : List LogEntry) : Type 0 where
+  pub world : IsToldWorld request (world_of bases entries)
+  pub ring : (world_of bases entries).ring ≡ map first_cut bases
+  pub notes : LogNotesStay bases entries
+
+-- the law of several groups
+abbrev pub QuietEntriesTell : Type 0
+QuietEntriesTell = (request : RequestOf) (bases : List Base) → BeginBare bases → (entries : List LogEntry) → Each (IsQuiet request) entries → TellQuietly request bases entries
