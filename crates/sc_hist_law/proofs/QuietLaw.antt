@@ -98,8 +98,8 @@ module _ (bases : List Base) (begin : BeginBare bases) where
           let here = (begin.covers.arcs (first_cut b.0) (arc_cut b.0 b.1)).1 in
           let there = (begin.covers.arcs (first_cut d.0) (arc_cut d.0 d.1)).1 in
           let one = begin.covers.only (p % 2 ^ 32) (on_ring p) (first_cut b.0) (first_cut d.0) (arc_cut b.0 b.1) (arc_cut d.0 d.1)
-              (holds_round b.0.core.arc p here ∙ ap (λ (h : Holding). holds h.arc p) b.3 ∙ held)
-              (holds_round d.0.core.arc p there ∙ ap (λ (h : Holding). holds h.arc p) d.3 ∙ held_too) in
+          (holds_round b.0.core.arc p here ∙ ap (λ (h : Holding). holds h.arc p) b.3 ∙ held)
+          (holds_round d.0.core.arc p there ∙ ap (λ (h : Holding). holds h.arc p) d.3 ∙ held_too) in
           sym b.2 ∙ ap (λ (c : Cut). c.group) one ∙ d.2);
     };
     bare = λ name holding is. (

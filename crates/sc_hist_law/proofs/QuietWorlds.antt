@@ -159,7 +159,7 @@ module _ (request : RequestOf) (bases : List Base) (world : StoreWorld) (quiet :
   serving client seq op takes asked holds entry =
       let move = ServedBy group.core.id client seq op in
       let may : MayServe request (holdings_in world) group.core.id client seq op =
-          record { holding = holding_of group; is = own_holding; its = takes.its; above = takes.above; asked = asked } in
+      record { holding = holding_of group; is = own_holding; its = takes.its; above = takes.above; asked = asked } in
       quiet_with (subst (λ es. TellsHoldings request (world.history ++ es) (holdings_in after)) (ap (λ o. request_entry o client seq op) own_holding ∙ sym entry)
       (same_told request (world.history ++ entries_by move (holdings_in world)) (holdings_after move (holdings_in world)) (holdings_in after) as_moved
       (move_kept request world.history (holdings_in world) move quiet.told may)))

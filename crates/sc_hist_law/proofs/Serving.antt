@@ -130,7 +130,7 @@ module _ (request : RequestOf) (history : List Entry) (holdings : Holdings) (tol
     pairs = old.pairs
         ∙ sym (apart op map (holds_key other.arc) ∙ cond-false (holds_key other.arc (key_of op)) (after op (part_of other.arc map)) (part_of other.arc map) out)
         ∙ ap (part_of other.arc) (sym (after_push empty history new));
-    noted = λ e among held. (λ either. noted_other e either held) (Among-either e history (new ∷ []) among);
+    noted = λ e among held. noted_other e (Among-either e history (new ∷ []) among) held;
     notes = λ who n e. entry_later history (new ∷ []) who n.seq n.reply (old.notes who n e);
   }
     where

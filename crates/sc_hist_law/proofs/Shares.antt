@@ -94,10 +94,11 @@ module _ (history : List Entry) (holdings : Holdings) (disjoint : AreDisjoint ho
       let whole = with_previous may.other rest in
       let mine : option_map (part_before at) (holdings group) ≡ Some (part_before at may.holding) = ap (option_map (part_before at)) may.is in
       let theirs : both_holdings with_previous (holdings next) (option_map (part_from at) (holdings group)) ≡ Some whole =
-          both_are with_previous _ _ _ _ may.next_is (ap (option_map (part_from at)) may.is) in
+      both_are with_previous _ _ _ _ may.next_is (ap (option_map (part_from at)) may.is) in
       let before_is = before_arc arc at good.0 fits cut in
       let from_is = from_arc arc at good.0 fits cut in
-      let in_whole = λ p h. joined_from (from arc at) may.other.arc from_is.0 well.0 meet p (at_is _ whole p theirs h) in
+      let in_whole : (p : ℕ) → HoldsAt (both_holdings with_previous (holdings next) (option_map (part_from at) (holdings group))) p → (holds (from arc at) p ≡ true) ⊎ (holds may.other.arc p ≡ true) =
+      λ p h. joined_from (from arc at) may.other.arc from_is.0 well.0 meet p (at_is _ whole p theirs h) in
       record {
         apart = may.apart;
         mine_good = good_is history _ (part_before at may.holding) mine before_is.0 (before_told history may.holding at good.0 fits cut good.1);
@@ -125,11 +126,12 @@ module _ (history : List Entry) (holdings : Holdings) (disjoint : AreDisjoint ho
       let part = part_before at may.other in
       let whole = with_next may.holding part in
       let mine : both_holdings with_next (holdings group) (option_map (part_before at) (holdings next)) ≡ Some whole =
-          both_are with_next _ _ _ _ may.is (ap (option_map (part_before at)) may.next_is) in
+      both_are with_next _ _ _ _ may.is (ap (option_map (part_before at)) may.next_is) in
       let theirs : option_map (part_from at) (holdings next) ≡ Some (part_from at may.other) = ap (option_map (part_from at)) may.next_is in
       let before_is = before_arc arc at well.0 fits cut in
       let from_is = from_arc arc at well.0 fits cut in
-      let in_whole = λ p h. joined_from may.holding.arc (before arc at) good.0 before_is.0 meet p (at_is _ whole p mine h) in
+      let in_whole : (p : ℕ) → HoldsAt (both_holdings with_next (holdings group) (option_map (part_before at) (holdings next))) p → (holds may.holding.arc p ≡ true) ⊎ (holds (before arc at) p ≡ true) =
+      λ p h. joined_from may.holding.arc (before arc at) good.0 before_is.0 meet p (at_is _ whole p mine h) in
       record {
         apart = may.apart;
         mine_good = good_is history _ whole mine (joined_arc may.holding.arc (before arc at) good.0 before_is.0 meet)
