@@ -1,9 +1,13 @@
+pub mod Cuts
 pub mod Disjoint
 pub mod Found
 pub mod Holdings
 pub mod Kept
 pub mod Logs
+pub mod MoveLaw
+pub mod MovesExample
 pub mod MovesKept
+pub mod PlanHoldings
 pub mod Positions
 pub mod Quiet
 pub mod QuietLaw

@@ -22,35 +22,13 @@ use Rattle.sc_entries.specs.Worlds.{StoreWorld, first_world, is_named, named_gro
 use Rattle.sc_entries.proofs.Pushes.{world_append}
 use Rattle.sc_paxos_words.proofs.ListLemmas.{find_found}
 use Rattle.sc_paxos_law.proofs.Among.{from_map}
-use Rattle.sc_hist_law.specs.Moves.{Holding, Holdings, RequestOf, AreBare, HasNotes, holding_of}
+use Rattle.sc_hist_law.specs.Moves.{Holding, Holdings, RequestOf, AreBare, HasNotes, TellsHoldings, holding_of}
 use Rattle.sc_hist_law.specs.Worlds.{BeginBare, HasItsCut, IsQuiet, IsToldWorld, LogNotesStay, QuietEntriesTell, holdings_in}
 use Rattle.sc_hist_law.proofs.MovesKept.{bare_told}
+use Rattle.sc_hist_law.proofs.Cuts.{cut_of}
 use Rattle.sc_hist_law.proofs.Holdings.{IsOnRing}
 use Rattle.sc_hist_law.proofs.Positions.{holds_round, on_ring, one_of_name}
 use Rattle.sc_hist_law.proofs.QuietWorlds.{HaveCuts, IsQuietWorld, effective_is, holdings_are, notes_grow, own_notes, quiet_all}
-
--- ---- the cut of a name
-
--- a name that has an arc has a cut with it
-pub cut_of : (name : Draw) (ring : List Cut) (arc : Arc) → arc_in name ring ≡ Some arc → (cut : Cut) × Among cut ring × (cut.group ≡ name) × (cut.arc ≡ arc)
-cut_of name ring arc e =
-    let k = map-some (λ (cut : Cut). cut.arc) (find (is_cut_of name) ring) arc e in
-    let f = find_found (is_cut_of name) ring k.0 k.1 in
-    (k.0, f.0, draw_is k.0.group name f.1, k.2)
-
--- a cut's group has an arc
-pub has_cut : (ring : List Cut) (cut : Cut) → Among cut ring → (arc : Arc) × (arc_in cut.group ring ≡ Some arc)
-has_cut [] cut a = absurd a
-has_cut (c ∷ ring) cut a =
-    elim (cases_Bool (is_cut_of cut.group c)) [
-      | inl t ↦ (c.arc, ap (option_map (λ (x : Cut). x.arc)) (cond-true (is_cut_of cut.group c) (Some c) (find (is_cut_of cut.group) ring) t))
-      | inr f ↦ (
-          let rest = has_cut ring cut (elim a [
-            | inl same ↦ (let t = same_name c.group cut.group (ap (λ (x : Cut). x.group) same) in let no_way : true ≡ false = sym t ∙ f in absurd (cc))
-            | inr b ↦ b
-          ]) in
-          (rest.0, ap (option_map (λ (x : Cut). x.arc)) (cond-false (is_cut_of cut.group c) (Some c) (find (is_cut_of cut.group) ring) f) ∙ rest.1))
-    ]
 
 -- ---- at the start
 
@@ -111,13 +89,21 @@ module _ (bases : List Base) (begin : BeginBare bases) where
         });
   }
 
+  -- what is told at the start
+  pub first_told : (request : RequestOf) → TellsHoldings request [] (holdings_in (first_world bases))
+  first_told request = bare_told request (holdings_in (first_world bases)) first_bare
+
   first_quiet : (request : RequestOf) → IsQuietWorld request bases (first_world bases)
   first_quiet request = record {
     transactions = refl;
     ring = refl;
     cuts = first_cuts bases;
-    told = bare_told request (holdings_in (first_world bases)) first_bare;
+    told = first_told request;
   }
+
+  -- and what the groups note at the start
+  pub first_notes : (request : RequestOf) (name : Draw) (group : Group) → named_group name (map group_of bases) ≡ Some group → HasNotes [] group.clients
+  first_notes request = own_notes request bases (first_world bases) (first_quiet request)
 
 -- ---- what is told
 

@@ -12,6 +12,7 @@ use Rattle.sc_cmd.specs.declared.cores.Core.{Core}
 use Rattle.sc_cmd.specs.declared.cores.Lock.{Lock}
 use Rattle.sc_cmd.specs.declared.cores.Lock.TheVariants.{Free, Coordinating, Promised, Watching}
 use Rattle.sc_cmd.specs.declared.effects.Effect.{Effect}
+use Rattle.sc_ideal.specs.Clients.{ClientTable}
 use Rattle.sc_ideal.specs.History.{HasEntry}
 use Rattle.sc_ideal.specs.declared.Entry.{Entry}
 use Rattle.sc_machine_table.specs.Group.{Group}
@@ -230,10 +231,13 @@ history_grows world (entry ∷ entries) =
     (first.0 ++ rest.0, rest.1 ∙ ap (λ es. es ++ rest.0) first.1 ∙ append_assoc world.history first.0 rest.0)
 
 -- what was noted stays in the history
-pub notes_grow : (world : StoreWorld) (entries : List LogEntry) (group : Group) → HasNotes world.history group.clients → HasNotes (world_after world entries).history group.clients
-notes_grow world entries group notes client n e =
+pub tables_grow : (world : StoreWorld) (entries : List LogEntry) (clients : ClientTable) → HasNotes world.history clients → HasNotes (world_after world entries).history clients
+tables_grow world entries clients notes client n e =
     let grown = history_grows world entries in
     subst (λ es. HasEntry es client n.seq n.reply) (sym grown.1) (entry_later world.history grown.0 client n.seq n.reply (notes client n e))
+
+pub notes_grow : (world : StoreWorld) (entries : List LogEntry) (group : Group) → HasNotes world.history group.clients → HasNotes (world_after world entries).history group.clients
+notes_grow world entries group = tables_grow world entries group.clients
 
 -- the notes of a group by its own log
 pub own_notes : (request : RequestOf) (bases : List Base) (world : StoreWorld) → IsQuietWorld request bases world → (name : Draw) (group : Group) → named_group name world.groups ≡ Some group → HasNotes world.history group.clients

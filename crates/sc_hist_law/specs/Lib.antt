@@ -1,3 +1,5 @@
+pub mod Example
 pub mod Laws
 pub mod Moves
+pub mod PlanMoves
 pub mod Worlds

@@ -1,5 +1,5 @@
 -- What the entries of all logs tell of what all groups hold.
-use Rattle.std.specs.Prelude.{◌≡◌, ℕ, List, [], ◌∷◌, ◌++◌, map, Option, Some, None}
+use Rattle.std.specs.Prelude.{◌≡◌, ◌⊎◌, List, [], ◌∷◌, ◌++◌, map, Option, Some}
 use Rattle.std.specs.FinMap.{empty}
 use Rattle.std.specs.Option.{option_map, option_and_then}
 use Rattle.sc_base.specs.Among.{Among, Each}
@@ -16,9 +16,9 @@ use Rattle.sc_entries.specs.declared.Cut.{Cut}
 use Rattle.sc_entries.specs.declared.LogEntry.{LogEntry}
 use Rattle.sc_entries.specs.Effective.{effective}
 use Rattle.sc_entries.specs.Rings.{Covers, arc_in, first_cut}
-use Rattle.sc_entries.specs.Worlds.{StoreWorld, named_group, world_of}
+use Rattle.sc_entries.specs.Worlds.{StoreWorld, first_world, named_group, told, world_of}
 use Rattle.sc_hist_law.specs.Laws.{LeavesWhole}
-use Rattle.sc_hist_law.specs.Moves.{Holding, Holdings, RequestOf, HasNotes, TellsHoldings, holding_of}
+use Rattle.sc_hist_law.specs.Moves.{Holding, Holdings, Move, RequestOf, HasNotes, MayMake, TellsHoldings, entries_by, holding_of, holdings_after}
 
 -- what each group with a cut holds, by its effective record
 abbrev pub holdings_in : StoreWorld → Holdings
@@ -78,3 +78,39 @@ pub record TellQuietly (request : RequestOf) (bases : List Base) (entries : List
 -- the law of several groups
 abbrev pub QuietEntriesTell : Type 0
 QuietEntriesTell = (request : RequestOf) (bases : List Base) → BeginBare bases → (entries : List LogEntry) → Each (IsQuiet request) entries → TellQuietly request bases entries
+
+-- ---- entries of every kind
+
+-- the table of a group by its own log: empty, or as it was before an entry, or what the group holds after it
+abbrev pub HasKnownTable : StoreWorld → StoreWorld → Draw → Group → Type 0
+HasKnownTable before after name group =
+    (group.clients ≡ empty)
+    ⊎ ((old : Group) × (named_group name before.groups ≡ Some old) × (old.clients ≡ group.clients))
+    ⊎ ((holding : Holding) × (holdings_in after name ≡ Some holding) × (holding.clients ≡ group.clients))
+
+-- an entry makes a move of what all groups hold: the move may be made, it adds what the entry adds to the history, and after the entry each group holds what it says
+pub record MakesMove (request : RequestOf) (world : StoreWorld) (entry : LogEntry) : Type 0 where
+  pub move : Move
+  pub may : MayMake request (holdings_in world) move
+  pub holds : (name : Draw) → holdings_in (told world entry) name ≡ holdings_after move (holdings_in world) name
+  pub adds : (told world entry).history ≡ world.history ++ entries_by move (holdings_in world)
+  pub tables : (name : Draw) (group : Group) → named_group name (told world entry).groups ≡ Some group → HasKnownTable world (told world entry) name group
+
+-- each entry makes a move when it is told
+abbrev pub AllMakeMoves : RequestOf → StoreWorld → List LogEntry → Type 0
+AllMakeMoves request world [] = Unit {0}
+AllMakeMoves request world (entry ∷ entries) = MakesMove request world entry × AllMakeMoves request (told world entry) entries
+
+-- the effective record of a cut's group has the arc of the cut
+abbrev pub HasCutArc : StoreWorld → Cut → Type 0
+HasCutArc world cut = (group : Group) → effective world cut.group ≡ Some group → group.core.arc ≡ cut.arc
+
+-- the history tells what all groups hold, cut by cut where the records have the arcs of the cuts, and the notes of all logs stay in it
+pub record TellByMoves (request : RequestOf) (bases : List Base) (entries : List LogEntry) : Type 0 where
+  pub told : TellsHoldings request (world_of bases entries).history (holdings_in (world_of bases entries))
+  pub parts : (cut : Cut) → Among cut (world_of bases entries).ring → HasCutArc (world_of bases entries) cut → HasItsCut (world_of bases entries) cut
+  pub notes : LogNotesStay bases entries
+
+-- whatever the entries are, where each of them makes a move
+abbrev pub EntriesThatMoveTell : Type 0
+EntriesThatMoveTell = (request : RequestOf) (bases : List Base) → BeginBare bases → (entries : List LogEntry) → AllMakeMoves request (first_world bases) entries → TellByMoves request bases entries

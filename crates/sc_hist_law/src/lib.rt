@@ -3,9 +3,11 @@
 //! logic.
 #![tactic(auto)]
 
+ghost use Rattle.sc_hist_law.specs.Example.{ExampleOfMoves};
 ghost use Rattle.sc_hist_law.specs.Laws.{LogsTellHistories};
 ghost use Rattle.sc_hist_law.specs.Moves.{MovesKeepHistories, MovesTellHistories};
-ghost use Rattle.sc_hist_law.specs.Worlds.{QuietEntriesTell};
+ghost use Rattle.sc_hist_law.specs.PlanMoves.{PlansAreMoves};
+ghost use Rattle.sc_hist_law.specs.Worlds.{EntriesThatMoveTell, QuietEntriesTell};
 
 /// Whatever requests, joins and leaves a group executes one after another from an empty start, the
 /// requests that took effect are a legal history, and the group's pairs are the map after it. Of
@@ -30,4 +32,22 @@ pub fn moves_tell_histories()
 /// history. No request takes effect twice, whichever groups it reaches.
 pub fn quiet_entries_tell_a_legal_history()
     ensures { QuietEntriesTell }
+{}
+
+/// Whatever entries are told of the groups of a scenario, where each of them moves what the
+/// effective records hold as a move says, they tell a legal history as quiet ones do.
+pub fn entries_that_move_tell_a_legal_history()
+    ensures { EntriesThatMoveTell }
+{}
+
+/// What a request, a split, a merge, a moved boundary either way, or a member that moves on makes
+/// of its groups by the machine's table is a move of what they hold.
+pub fn plans_are_moves()
+    ensures { PlansAreMoves }
+{}
+
+/// A group is divided, serves a put and gives its key to the child, which serves a get: moves that
+/// may be made from a bare start, with the history of both requests.
+pub fn an_example_of_moves()
+    ensures { ExampleOfMoves }
 {}
