@@ -45,9 +45,9 @@ moved : (request : RequestOf) (world : StoreWorld) (entry : LogEntry) → IsMove
 moved request world entry is makes =
     let after = told world entry in
     let holds : TellsHoldings request after.history (holdings_in after) =
-        subst (λ es. TellsHoldings request es (holdings_in after)) (sym makes.adds)
-        (same_told request (world.history ++ entries_by makes.move (holdings_in world)) (holdings_after makes.move (holdings_in world)) (holdings_in after) makes.holds
-        (move_kept request world.history (holdings_in world) makes.move is.holds makes.may)) in
+    subst (λ es. TellsHoldings request es (holdings_in after)) (sym makes.adds)
+    (same_told request (world.history ++ entries_by makes.move (holdings_in world)) (holdings_after makes.move (holdings_in world)) (holdings_in after) makes.holds
+    (move_kept request world.history (holdings_in world) makes.move is.holds makes.may)) in
     record { holds = holds; notes = λ name group found. known name group holds (makes.tables name group found) }
   where
     known : (name : Draw) (group : Group) → TellsHoldings request (told world entry).history (holdings_in (told world entry)) → HasKnownTable world (told world entry) name group → HasNotes (told world entry).history group.clients

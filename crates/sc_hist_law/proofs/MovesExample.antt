@@ -73,17 +73,20 @@ nothing_of_two =
 may : MayMakeAll two_requests lone_holdings example_moves
 may = (
   record { holding = bare_ring; is = refl; fits = omega arith; cut = (refl, λ e. omega (arith, e)); free = refl },
-  record { holding = left; is = refl; its = refl; above = λ n e. absurd (none_note n (sym (get-empty nat_cmp 1) ∙ e)); asked = refl },
-  record {
-    holding = served;
-    is = refl;
-    other = right;
-    next_is = refl;
-    apart = apart;
-    fits = (omega arith, (refl, λ e. omega (arith, e)), (refl, omega arith));
-  },
-  record { holding = gained; is = refl; its = refl; above = λ n e. absurd (none_note n (sym nothing_of_two ∙ e)); asked = refl },
-  tt,
+  (
+    record { holding = left; is = refl; its = refl; above = λ n e. absurd (none_note n (sym (get-empty nat_cmp 1) ∙ e)); asked = refl },
+    (
+      record {
+        holding = served;
+        is = refl;
+        other = right;
+        next_is = refl;
+        apart = apart;
+        fits = (omega arith, ((refl, λ e. omega (arith, e)), (refl, omega arith)));
+      },
+      (record { holding = gained; is = refl; its = refl; above = λ n e. absurd (none_note n (sym nothing_of_two ∙ e)); asked = refl }, tt),
+    ),
+  ),
 )
 
 -- the replies are those of the map, whoever gave them
