@@ -199,7 +199,8 @@ split_same : (b : Bool) (group one other : Group) → IsSameGroup one.core group
 split_same true group one other k l = k
 split_same false group one other k l = l
 
-applied_same : (group : Group) (c : Command) → IsSameGroup (applied group c).0.core group.core
+-- a command keeps the name and the first leader
+pub applied_same : (group : Group) (c : Command) → IsSameGroup (applied group c).0.core group.core
 applied_same group Noop = (refl, refl)
 applied_same group (Call client seq op) = same_core _ _ (called_core group.core.gone group.core.lock group client seq op)
 applied_same group (Join node order) =

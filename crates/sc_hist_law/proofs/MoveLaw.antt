@@ -20,7 +20,7 @@ use Rattle.sc_entries.specs.Rings.{arc_in}
 use Rattle.sc_entries.specs.Worlds.{StoreWorld, first_world, named_group, told, world_after, world_of}
 use Rattle.sc_entries.proofs.Pushes.{world_append}
 use Rattle.sc_hist_law.specs.Moves.{Holding, RequestOf, HasNotes, TellsHoldings, entries_by, holding_of, holdings_after}
-use Rattle.sc_hist_law.specs.Worlds.{AllMakeMoves, BeginBare, EntriesThatMoveTell, HasCutArc, HasItsCut, HasKnownTable, MakesMove, holdings_in}
+use Rattle.sc_hist_law.specs.Worlds.{AllMakeMoves, BeginBare, EntriesThatMoveTell, HasCutArc, HasItsCut, HasKnownTable, IsMoveTo, MakesMove, holdings_in}
 use Rattle.sc_hist_law.proofs.Cuts.{has_cut}
 use Rattle.sc_hist_law.proofs.MovesKept.{move_kept, same_told}
 use Rattle.sc_hist_law.proofs.QuietLaw.{first_notes, first_told}
@@ -40,14 +40,17 @@ no_notes history clients none client n e = absurd (none_note n (sym (get-empty n
 same_notes : (history : List Entry) (clients others : ClientTable) → clients ≡ others → HasNotes history clients → HasNotes history others
 same_notes history clients others same notes = subst (HasNotes history) same notes
 
+-- one move more
+pub move_told : (request : RequestOf) (before after : StoreWorld) → TellsHoldings request before.history (holdings_in before) → IsMoveTo request before after → TellsHoldings request after.history (holdings_in after)
+move_told request before after holds makes =
+    subst (λ es. TellsHoldings request es (holdings_in after)) (sym makes.adds)
+    (same_told request (before.history ++ entries_by makes.move (holdings_in before)) (holdings_after makes.move (holdings_in before)) (holdings_in after) makes.holds
+    (move_kept request before.history (holdings_in before) makes.move holds makes.may))
+
 -- one entry more
 moved : (request : RequestOf) (world : StoreWorld) (entry : LogEntry) → IsMoved request world → MakesMove request world entry → IsMoved request (told world entry)
 moved request world entry is makes =
-    let after = told world entry in
-    let holds : TellsHoldings request after.history (holdings_in after) =
-    subst (λ es. TellsHoldings request es (holdings_in after)) (sym makes.adds)
-    (same_told request (world.history ++ entries_by makes.move (holdings_in world)) (holdings_after makes.move (holdings_in world)) (holdings_in after) makes.holds
-    (move_kept request world.history (holdings_in world) makes.move is.holds makes.may)) in
+    let holds = move_told request world (told world entry) is.holds makes in
     record { holds = holds; notes = λ name group found. known name group holds (makes.tables name group found) }
   where
     known : (name : Draw) (group : Group) → TellsHoldings request (told world entry).history (holdings_in (told world entry)) → HasKnownTable world (told world entry) name group → HasNotes (told world entry).history group.clients

@@ -82,7 +82,7 @@ may = (
         other = right;
         next_is = refl;
         apart = apart;
-        fits = (omega arith, ((refl, λ e. omega (arith, e)), (refl, omega arith)));
+        fits = (omega arith, (refl, λ e. omega (arith, e)), (refl, omega arith));
       },
       (record { holding = gained; is = refl; its = refl; above = λ n e. absurd (none_note n (sym nothing_of_two ∙ e)); asked = refl }, tt),
     ),

@@ -88,13 +88,17 @@ HasKnownTable before after name group =
     ⊎ ((old : Group) × (named_group name before.groups ≡ Some old) × (old.clients ≡ group.clients))
     ⊎ ((holding : Holding) × (holdings_in after name ≡ Some holding) × (holding.clients ≡ group.clients))
 
--- an entry makes a move of what all groups hold: the move may be made, it adds what the entry adds to the history, and after the entry each group holds what it says
-pub record MakesMove (request : RequestOf) (world : StoreWorld) (entry : LogEntry) : Type 0 where
+-- one world comes of another by a move of what all groups hold: the move may be made, the history grows by what it adds, and afterwards each group holds what it says
+pub record IsMoveTo (request : RequestOf) (before after : StoreWorld) : Type 0 where
   pub move : Move
-  pub may : MayMake request (holdings_in world) move
-  pub holds : (name : Draw) → holdings_in (told world entry) name ≡ holdings_after move (holdings_in world) name
-  pub adds : (told world entry).history ≡ world.history ++ entries_by move (holdings_in world)
-  pub tables : (name : Draw) (group : Group) → named_group name (told world entry).groups ≡ Some group → HasKnownTable world (told world entry) name group
+  pub may : MayMake request (holdings_in before) move
+  pub holds : (name : Draw) → holdings_in after name ≡ holdings_after move (holdings_in before) name
+  pub adds : after.history ≡ before.history ++ entries_by move (holdings_in before)
+  pub tables : (name : Draw) (group : Group) → named_group name after.groups ≡ Some group → HasKnownTable before after name group
+
+-- an entry makes a move
+abbrev pub MakesMove : RequestOf → StoreWorld → LogEntry → Type 0
+MakesMove request world entry = IsMoveTo request world (told world entry)
 
 -- each entry makes a move when it is told
 abbrev pub AllMakeMoves : RequestOf → StoreWorld → List LogEntry → Type 0

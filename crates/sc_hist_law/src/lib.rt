@@ -7,6 +7,7 @@ ghost use Rattle.sc_hist_law.specs.Example.{ExampleOfMoves};
 ghost use Rattle.sc_hist_law.specs.Laws.{LogsTellHistories};
 ghost use Rattle.sc_hist_law.specs.Moves.{MovesKeepHistories, MovesTellHistories};
 ghost use Rattle.sc_hist_law.specs.PlanMoves.{PlansAreMoves};
+ghost use Rattle.sc_hist_law.specs.Telling.{EntriesMakeMoves, EntriesThatMayBeToldTell};
 ghost use Rattle.sc_hist_law.specs.Worlds.{EntriesThatMoveTell, QuietEntriesTell};
 
 /// Whatever requests, joins and leaves a group executes one after another from an empty start, the
@@ -50,4 +51,13 @@ pub fn plans_are_moves()
 /// may be made from a bare start, with the history of both requests.
 pub fn an_example_of_moves()
     ensures { ExampleOfMoves }
+{}
+
+/// Entries of every kind, requests, orders, votes, decisions and ends, each make a move of what the
+/// effective records hold, where what they rest on holds: a transaction is its coordinator's and
+/// not yet committed, its participant is as it handed over and has the next arc, a child is new.
+/// So they tell a legal history, and each cut's record has the map after it on that cut.
+pub fn told_entries_tell_a_legal_history()
+    ensures each { EntriesMakeMoves }
+    ensures all { EntriesThatMayBeToldTell }
 {}
