@@ -55,13 +55,23 @@ settled_table (Migrated node) group tx offer =
     elim (nat_le (length (united group.core.members (node ∷ []))) 9) as (λ b. EndsWith group (settled_in (cond b (Some (welcomed_group group node)) None) group tx (Migrated node)).0 (Migrated node)) [ true ↦ inl refl | false ↦ inl refl ]
 settled_table Divided group tx offer = inl refl
 
-ends_with : (lock : Lock) (group : Group) (tx : Draw) (outcome : Outcome) → EndsWith group (finished lock group tx outcome).0 outcome
+-- the same by the lock: what is given comes to a party of this transaction
+abbrev EndsBy : Lock → Group → Group → Draw → Outcome → Type 0
+EndsBy lock group after tx outcome = (after.clients ≡ group.clients) ⊎ (after.clients ≡ empty) ⊎ ((after.core.lock ≡ Free) × IsGiven outcome × (locked_in lock ≡ Some tx))
+
+of_party : (lock : Lock) (group after : Group) (tx : Draw) (outcome : Outcome) → locked_in lock ≡ Some tx → EndsWith group after outcome → EndsBy lock group after tx outcome
+of_party lock group after tx outcome e (inl same) = inl same
+of_party lock group after tx outcome e (inr (inl none)) = inr (inl none)
+of_party lock group after tx outcome e (inr (inr given)) = inr (inr (given.0, given.1, e))
+
+ends_with : (lock : Lock) (group : Group) (tx : Draw) (outcome : Outcome) → EndsBy lock group (finished lock group tx outcome).0 tx outcome
 ends_with Free group tx outcome = inl refl
 ends_with (Coordinating locked body order heard) group tx outcome = inl refl
 ends_with (Promised locked offer) group tx outcome =
-    cond_both (same_draw locked tx) (settled_in (participant_after outcome group offer) group tx outcome) (group, NoEffect tx) (λ r. EndsWith group r.0 outcome) (λ _. settled_table outcome group tx offer) (λ _. inl refl)
+    cond_both (same_draw locked tx) (settled_in (participant_after outcome group offer) group tx outcome) (group, NoEffect tx) (λ r. EndsBy (Promised locked offer) group r.0 tx outcome)
+    (λ t. of_party (Promised locked offer) group (settled_in (participant_after outcome group offer) group tx outcome).0 tx outcome (ap Some (draw_is locked tx t)) (settled_table outcome group tx offer)) (λ _. inl refl)
 ends_with (Watching locked watch) group tx outcome =
-    cond_both (same_draw locked tx) (watch_ended outcome group tx watch) (group, NoEffect tx) (λ r. EndsWith group r.0 outcome) (λ _. inl refl) (λ _. inl refl)
+    cond_both (same_draw locked tx) (watch_ended outcome group tx watch) (group, NoEffect tx) (λ r. EndsBy (Watching locked watch) group r.0 tx outcome) (λ _. inl refl) (λ _. inl refl)
 
 -- ---- what a participant holds
 
@@ -142,11 +152,12 @@ module _ (request : RequestOf) (world : StoreWorld) (name : Draw) (group : Group
   same_id : result.0.core.id ≡ group.core.id
   same_id = (applied_same group (Finish tx outcome)).0
 
-  known : EndsWith group result.0 outcome → HasKnownTable world later group.core.id result.0
+  known : EndsBy group.core.lock group result.0 tx outcome → HasKnownTable world later group.core.id result.0
   known (inl same) = same_table world name group found (Finish tx outcome) result same_id refl same
   known (inr (inl none)) = inl none
   known (inr (inr given)) =
-      let cut = may.cut given.1.0 given.1.1 given.1.2 in
+      let gift = given.1 in
+      let cut = may.cut given.2 gift.0 gift.1 gift.2 in
       inr (inr (holding_of result.0, held_some later group.core.id result.0 cut (here world name group found (Finish tx outcome) result same_id refl group.core.id refl) ∙ ap Some (free_held world.transactions result.0 given.0), refl))
 
   pub finish_goes : Goes request world name group found (Finish tx outcome) (applied group (Finish tx outcome))

@@ -95,7 +95,7 @@ pub record MayHearWatcher (world : StoreWorld) (group : Group) (tx : Draw) (vote
 -- a party is told what was decided; one that is given something has a cut
 pub record MayFinish (world : StoreWorld) (group : Group) (tx : Draw) (outcome : Outcome) : Type 0 where
   pub decided : locked_in group.core.lock ≡ Some tx → decision tx world.transactions ≡ Some outcome
-  pub cut : (at : ℕ) (gift : Gift) → outcome ≡ Moved at (Some gift) → HasCut world group.core.id
+  pub cut : locked_in group.core.lock ≡ Some tx → (at : ℕ) (gift : Gift) → outcome ≡ Moved at (Some gift) → HasCut world group.core.id
 
 -- what has to hold for a command of a group
 abbrev pub MayExecute : RequestOf → StoreWorld → Group → Command → Type 0
