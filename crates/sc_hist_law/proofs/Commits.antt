@@ -1,43 +1,32 @@
 -- A coordinator that commits with its participant: a merge, a boundary that moves, a member that moves on.
-use Rattle.std.specs.Prelude.{is_some, nat_le, length}
-use Rattle.std.proofs.Common.{◌≡◌, ℕ, ◌<◌, ◌^◌, Bool, true, false, cond, ◌&&◌, not, List, [], ◌∷◌, ◌++◌, Option, Some, None, inl, inr, refl, sym, ap, ◌∙◌, subst}
+use Rattle.std.specs.Prelude.{is_some}
+use Rattle.std.proofs.Common.{◌≡◌, ℕ, ◌<◌, ◌^◌, true, false, not, List, [], ◌++◌, Option, Some, None, inl, inr, refl, sym, ap, ◌∙◌}
 use Rattle.std.specs.List.{filter}
 use Rattle.std.specs.Option.{option_map}
 use Rattle.sc_base.specs.Arc.{Arc, CanCut, CanJoin, before, from, holds, joined}
-use Rattle.sc_base.specs.Same.{same_draw}
 use Rattle.sc_base.specs.declared.names.Draw.{Draw}
-use Rattle.sc_base.proofs.NameLemmas.{same_name}
-use Rattle.sc_member.specs.Union.{united}
-use Rattle.sc_cmd.specs.declared.bodies.Offer.{Offer}
 use Rattle.sc_cmd.specs.declared.commands.Command.{Command}
-use Rattle.sc_cmd.specs.declared.commands.Command.TheVariants.{Finish}
-use Rattle.sc_cmd.specs.declared.cores.Lock.{Lock}
-use Rattle.sc_cmd.specs.declared.cores.Lock.TheVariants.{Promised}
 use Rattle.sc_cmd.specs.declared.effects.Effect.{Effect}
-use Rattle.sc_cmd.specs.declared.effects.Effect.TheVariants.{Decided, NoEffect}
+use Rattle.sc_cmd.specs.declared.effects.Effect.TheVariants.{Decided}
 use Rattle.sc_cmd.specs.declared.links.Route.{Route}
 use Rattle.sc_cmd.specs.declared.votes.Frozen.{Frozen}
 use Rattle.sc_cmd.specs.declared.votes.Gift.{Gift}
 use Rattle.sc_cmd.specs.declared.votes.Outcome.{Outcome}
 use Rattle.sc_cmd.specs.declared.votes.Outcome.TheVariants.{Merged, Moved, Migrated}
 use Rattle.sc_machine_table.specs.Group.{Group}
-use Rattle.sc_machine_table.specs.Finishes.{can_gain, finished, gained_group, lost_group, participant_after, settled_in, welcomed_group}
 use Rattle.sc_machine_table.specs.Logs.{entry_of}
-use Rattle.sc_machine_table.specs.Machine.{applied}
-use Rattle.sc_machine_table.specs.Plans.{can_cut, frozen_of, has_key_of, part_gift}
-use Rattle.sc_machine_table.specs.Transactions.{decided, decided_group}
+use Rattle.sc_machine_table.specs.Transactions.{decided}
 use Rattle.sc_entries.specs.Births.{birth_of}
 use Rattle.sc_entries.specs.declared.Cut.{Cut}
-use Rattle.sc_entries.specs.declared.Transaction.{Transaction}
 use Rattle.sc_entries.specs.Decisions.{concluded}
 use Rattle.sc_entries.specs.Effective.{after_outcome}
 use Rattle.sc_entries.specs.Rings.{arc_in, both_arcs, is_cut_of, recut, ring_decided, ring_merged, ring_moved}
 use Rattle.sc_entries.specs.Worlds.{StoreWorld, named_group, with_result}
-use Rattle.sc_hist_law.specs.Moves.{GivenFrom, Holding, JoinedTo, RequestOf, TakenUpTo, Unmoved, both_holdings, holding_of, part_before, part_from, with_next, with_previous}
+use Rattle.sc_hist_law.specs.Moves.{GivenFrom, JoinedTo, RequestOf, TakenUpTo, Unmoved, both_holdings, holding_of, part_before, part_from, with_next, with_previous}
 use Rattle.sc_hist_law.specs.Telling.{IsItsOwn, IsParty}
 use Rattle.sc_hist_law.specs.Worlds.{HasKnownTable, holdings_in}
 use Rattle.sc_hist_law.proofs.Disjoint.{holding_here, holding_there, one_or_not}
-use Rattle.sc_hist_law.proofs.Elsewhere.{elsewhere, held_by, held_none, held_some, here, own_group, same_table, tables_from, there}
+use Rattle.sc_hist_law.proofs.Elsewhere.{elsewhere, held_by, held_none, held_some, here, own_group, tables_from, there}
 use Rattle.sc_hist_law.proofs.Parties.{next_after, next_before, others_after, own_before}
 use Rattle.sc_hist_law.proofs.Recuts.{arc_of, gone_cut, has_arc, has_recut, taken_out}
 use Rattle.sc_hist_law.proofs.Shares.{both_are}

@@ -1,16 +1,15 @@
 -- Entries of a coordinator: what it hears of its participant and its watcher, and a split.
 use Rattle.std.specs.Prelude.{is_some, not, nat_le, length}
-use Rattle.std.proofs.Common.{◌≡◌, ℕ, ◌<◌, ◌^◌, Bool, true, false, cond, eqb, ◌&&◌, ◌||◌, List, [], ◌∷◌, ◌++◌, Option, Some, None, inl, inr, refl, sym, ap, ◌∙◌, subst}
+use Rattle.std.proofs.Common.{◌≡◌, ℕ, ◌<◌, ◌^◌, Bool, true, false, cond, eqb, ◌&&◌, ◌||◌, [], ◌∷◌, ◌++◌, Option, Some, None, inl, inr, refl, sym, ap, ◌∙◌, subst}
 use Rattle.std.specs.Option.{option_map}
 use Rattle.std.specs.FinMap.{empty}
 use Rattle.std.proofs.lemmas.Bool.{and_parts, cases_Bool, cond-true, cond-false, cond_both, eqb-false}
-use Rattle.sc_base.specs.Arc.{Arc, CanCut, CanJoin, before, from, holds}
+use Rattle.sc_base.specs.Arc.{CanCut, before, from, holds}
 use Rattle.sc_base.specs.Same.{same_draw}
 use Rattle.sc_base.specs.declared.names.Draw.{Draw}
 use Rattle.sc_base.proofs.NameLemmas.{draw_is}
 use Rattle.sc_cmd.specs.declared.bodies.Body.{Body}
 use Rattle.sc_cmd.specs.declared.bodies.Body.TheVariants as At
-use Rattle.sc_cmd.specs.declared.bodies.Offer.{Offer}
 use Rattle.sc_cmd.specs.declared.commands.Command.TheVariants.{RecordVote, RecordWatch, Split}
 use Rattle.sc_cmd.specs.declared.cores.Core.{Core}
 use Rattle.sc_cmd.specs.declared.cores.Lock.{Lock}
@@ -31,7 +30,7 @@ use Rattle.sc_ideal.specs.History.{contents_after}
 use Rattle.sc_machine_table.specs.Group.{Group}
 use Rattle.sc_machine_table.specs.Machine.{applied, split_group}
 use Rattle.sc_machine_table.specs.Orders.{is_alone, locked_in, refusal_of, refused_in}
-use Rattle.sc_machine_table.specs.Plans.{can_cut, can_join, can_migrate, can_repart, can_split, closing_group, closing_plan, giving_group, giving_plan, has_key_of, may_merge, merge_plan, merged_group, merged_route, migrate_plan, migrated_group, part_gift, repart_plan, split_plan, taken, taking_group, taking_plan}
+use Rattle.sc_machine_table.specs.Plans.{can_cut, can_join, can_migrate, can_repart, can_split, closing_group, giving_group, giving_plan, has_key_of, may_merge, merge_plan, merged_group, merged_route, migrate_plan, migrated_group, part_gift, repart_plan, split_plan, taken, taking_group, taking_plan}
 use Rattle.sc_machine_table.specs.Splits.{child_of, has_named, left_group}
 use Rattle.sc_machine_table.specs.Transactions.{aborted, asks_watcher, begun_group, committed, decided, granted, heard_group, is_coordinating, participant_answered, released, vote_recorded, watch_answered, watch_recorded}
 use Rattle.sc_entries.specs.Births.{division_in}
@@ -40,7 +39,7 @@ use Rattle.sc_entries.specs.declared.Division.{Division}
 use Rattle.sc_entries.specs.Rings.{arc_in, ring_divided}
 use Rattle.sc_entries.specs.Worlds.{StoreWorld, named_group}
 use Rattle.sc_hist_law.specs.Moves.{RequestOf, TellsHoldings, holding_of}
-use Rattle.sc_hist_law.specs.Telling.{IsItsOwn, IsNewChild, IsParty, MayHear, MayHearWatcher, MaySplit}
+use Rattle.sc_hist_law.specs.Telling.{IsItsOwn, IsParty, MayHear, MayHearWatcher, MaySplit}
 use Rattle.sc_hist_law.specs.Worlds.{holdings_in}
 use Rattle.sc_hist_law.proofs.Commits.{give_goes, merge_goes, migrate_goes, take_goes}
 use Rattle.sc_hist_law.proofs.Divisions.{division_goes}

@@ -1,23 +1,21 @@
 -- An entry that makes a group: the group keeps the part before the boundary, and its child has the rest.
 use Rattle.std.specs.Prelude.{is_some}
-use Rattle.std.proofs.Common.{◌≡◌, ℕ, ◌<◌, ◌^◌, Bool, true, false, cond, List, [], ◌∷◌, ◌++◌, Option, Some, None, ◌⊎◌, inl, inr, refl, sym, ap, ◌∙◌, subst}
-use Rattle.std.specs.List.{find, flat_map}
+use Rattle.std.proofs.Common.{◌≡◌, ℕ, ◌<◌, ◌^◌, true, List, [], ◌∷◌, ◌++◌, Some, None, inl, inr, refl, sym, ap, ◌∙◌}
+use Rattle.std.specs.List.{flat_map}
 use Rattle.std.specs.Option.{option_map}
 use Rattle.std.proofs.lemmas.Bool.{cases_Bool, cond-true, cond-false}
 use Rattle.sc_base.specs.Arc.{CanCut}
 use Rattle.sc_base.specs.declared.names.Draw.{Draw}
 use Rattle.sc_base.proofs.NameLemmas.{draw_is, same_name}
 use Rattle.sc_cmd.specs.declared.commands.Command.{Command}
-use Rattle.sc_cmd.specs.declared.cores.Base.{Base}
 use Rattle.sc_cmd.specs.declared.effects.Effect.{Effect}
 use Rattle.sc_machine_table.specs.Group.{Group, group_of}
 use Rattle.sc_machine_table.specs.Logs.{entry_of}
 use Rattle.sc_machine_table.specs.Splits.{child_of}
 use Rattle.sc_paxos_words.proofs.ListLemmas.{find_within}
 use Rattle.sc_entries.specs.Births.{birth_of}
-use Rattle.sc_entries.specs.declared.Cut.{Cut}
 use Rattle.sc_entries.specs.declared.Division.{Division}
-use Rattle.sc_entries.specs.Rings.{arc_in, parts_of}
+use Rattle.sc_entries.specs.Rings.{parts_of}
 use Rattle.sc_entries.specs.Worlds.{StoreWorld, groups_after, is_named, named_group, with_group, with_result}
 use Rattle.sc_hist_law.specs.Moves.{DividedAt, Holding, RequestOf, holding_of, part_before, part_from}
 use Rattle.sc_hist_law.specs.Telling.{IsNewChild}

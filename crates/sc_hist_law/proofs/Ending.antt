@@ -1,8 +1,8 @@
 -- An entry by which a party takes over an outcome: what it holds is what it held by the decision.
 use Rattle.std.specs.Prelude.{nat_le, length}
-use Rattle.std.proofs.Common.{◌≡◌, ℕ, Bool, true, false, cond, ◌&&◌, not, List, [], ◌∷◌, Option, Some, None, ◌⊎◌, inl, inr, refl, sym, ap, ◌∙◌, subst}
+use Rattle.std.proofs.Common.{◌≡◌, ℕ, Bool, true, false, cond, ◌&&◌, not, [], ◌∷◌, Some, None, ◌⊎◌, inl, inr, refl, sym, ap, ◌∙◌}
 use Rattle.std.specs.FinMap.{empty}
-use Rattle.std.proofs.lemmas.Bool.{cond_both, cond-true}
+use Rattle.std.proofs.lemmas.Bool.{cond_both}
 use Rattle.sc_base.specs.Same.{same_draw}
 use Rattle.sc_base.specs.declared.names.Draw.{Draw}
 use Rattle.sc_base.proofs.NameLemmas.{draw_is}
@@ -21,14 +21,13 @@ use Rattle.sc_machine_table.specs.Finishes.{can_gain, finished, gained_group, lo
 use Rattle.sc_machine_table.specs.Machine.{applied}
 use Rattle.sc_machine_table.specs.Orders.{locked_in}
 use Rattle.sc_machine_table.specs.Plans.{can_cut, has_key_of}
-use Rattle.sc_entries.specs.declared.Transaction.{Transaction}
 use Rattle.sc_entries.specs.Decisions.{decision}
 use Rattle.sc_entries.specs.Effective.{after_outcome, effective_by, is_commit}
 use Rattle.sc_entries.specs.Worlds.{StoreWorld, named_group, with_result}
 use Rattle.sc_hist_law.specs.Moves.{RequestOf, holding_of}
 use Rattle.sc_hist_law.specs.Telling.{MayFinish}
 use Rattle.sc_hist_law.specs.Worlds.{HasKnownTable}
-use Rattle.sc_hist_law.proofs.Elsewhere.{held_by, held_some, here, own_group, same_table}
+use Rattle.sc_hist_law.proofs.Elsewhere.{held_by, held_some, here, same_table}
 use Rattle.sc_hist_law.proofs.Finishing.{free_held, watching_held}
 use Rattle.sc_hist_law.proofs.Logs.{applied_same}
 use Rattle.sc_hist_law.proofs.Staying.{Goes, stays_known}

@@ -1,7 +1,6 @@
 -- What a party holds by the outcome of its transaction, whatever else its record remembers.
 use Rattle.std.specs.Prelude.{nat_le, length}
-use Rattle.std.proofs.Common.{◌≡◌, ℕ, Bool, true, false, cond, ◌&&◌, not, List, ◌∷◌, [], Option, Some, None, refl, sym, ap, ◌∙◌}
-use Rattle.std.proofs.lemmas.Bool.{cond-false}
+use Rattle.std.proofs.Common.{◌≡◌, Bool, true, false, cond, ◌&&◌, not, List, ◌∷◌, [], Option, Some, None, refl, ap, ◌∙◌}
 use Rattle.sc_base.specs.Same.{same_draw}
 use Rattle.sc_base.specs.declared.names.Draw.{Draw}
 use Rattle.sc_member.specs.Union.{united}

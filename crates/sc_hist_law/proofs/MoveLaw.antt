@@ -1,5 +1,5 @@
 -- Entries that make moves tell a legal history.
-use Rattle.std.proofs.Common.{◌≡◌, List, [], ◌∷◌, ◌++◌, Option, Some, None, ◌⊎◌, inl, inr, refl, sym, ap, ◌∙◌, subst}
+use Rattle.std.proofs.Common.{◌≡◌, List, [], ◌∷◌, ◌++◌, Option, Some, None, inl, inr, sym, ap, ◌∙◌, subst}
 use Rattle.std.specs.FinMap.{empty, get, get-empty}
 use Rattle.std.specs.Option.{option_map, option_and_then}
 use Rattle.std.specs.Ordering.{nat_cmp}
@@ -19,8 +19,8 @@ use Rattle.sc_entries.specs.Effective.{effective}
 use Rattle.sc_entries.specs.Rings.{arc_in}
 use Rattle.sc_entries.specs.Worlds.{StoreWorld, first_world, named_group, told, world_after, world_of}
 use Rattle.sc_entries.proofs.Pushes.{world_append}
-use Rattle.sc_hist_law.specs.Moves.{Holding, RequestOf, HasNotes, TellsHoldings, entries_by, holding_of, holdings_after}
-use Rattle.sc_hist_law.specs.Worlds.{AllMakeMoves, BeginBare, EntriesThatMoveTell, HasCutArc, HasItsCut, HasKnownTable, IsMoveTo, MakesMove, holdings_in}
+use Rattle.sc_hist_law.specs.Moves.{RequestOf, HasNotes, TellsHoldings, entries_by, holding_of, holdings_after}
+use Rattle.sc_hist_law.specs.Worlds.{AllMakeMoves, BeginBare, EntriesThatMoveTell, HasKnownTable, IsMoveTo, MakesMove, holdings_in}
 use Rattle.sc_hist_law.proofs.Cuts.{has_cut}
 use Rattle.sc_hist_law.proofs.MovesKept.{move_kept, same_told}
 use Rattle.sc_hist_law.proofs.QuietLaw.{first_notes, first_told}

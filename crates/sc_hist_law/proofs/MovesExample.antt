@@ -1,18 +1,17 @@
 -- Moves from a bare start, with their history.
-use Rattle.std.proofs.Common.{◌≡◌, ℕ, ◌^◌, ◌<◌, Bool, true, false, cond, List, [], ◌∷◌, Option, Some, None, inl, inr, refl, sym, ap, ◌∙◌, subst, arith}
+use Rattle.std.proofs.Common.{◌≡◌, ◌^◌, ◌<◌, [], ◌∷◌, Some, None, inl, inr, refl, sym, ap, ◌∙◌, subst, arith}
 use Rattle.std.specs.Cmp.{nat_cmp_total}
 use Rattle.std.specs.Cmp.Lexicographic.{slice_cmp, nat_list_cmp_total}
-use Rattle.std.specs.FinMap.{empty, entries, get, insert, get-empty, get-insert}
+use Rattle.std.specs.FinMap.{empty, get, get-empty, get-insert}
 use Rattle.std.specs.Ordering.{nat_cmp}
 use Rattle.sc_base.specs.Arc.{IsArc}
 use Rattle.sc_base.specs.declared.names.Draw.{Draw}
 use Rattle.sc_base.specs.declared.ops.Noted.{Noted}
 use Rattle.sc_base.specs.declared.ops.Reply.{Reply}
-use Rattle.sc_ideal.specs.Clients.{ClientTable, joined_with, later}
-use Rattle.sc_ideal.specs.IdealStore.{Contents}
+use Rattle.sc_ideal.specs.Clients.{later}
 use Rattle.sc_ideal.proofs.Tables.{joined_by_number}
 use Rattle.sc_hist_law.specs.Moves.{Holding, AreBare, MayMakeAll, history_by, part_before, part_from, with_previous, with_request}
-use Rattle.sc_hist_law.specs.Example.{ExampleOfMoves, answers_with, bare_ring, example_moves, get_a, lone_holdings, offspring, parent, put_a, two_requests}
+use Rattle.sc_hist_law.specs.Example.{ExampleOfMoves, answers_with, bare_ring, example_moves, lone_holdings, offspring, parent, put_a, two_requests}
 use Rattle.sc_hist_law.proofs.Disjoint.{one_or_not, holding_here, holding_there}
 use Rattle.sc_hist_law.proofs.MovesKept.{moves_tell}
 

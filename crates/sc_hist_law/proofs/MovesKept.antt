@@ -1,5 +1,5 @@
 -- Each move keeps what the history tells of what all groups hold, and so do all moves one after another.
-use Rattle.std.proofs.Common.{◌≡◌, ℕ, cond, List, [], ◌∷◌, ◌++◌, Option, Some, None, inl, inr, refl, sym, ap, ◌∙◌, subst, append-nil, append_assoc, arith}
+use Rattle.std.proofs.Common.{◌≡◌, cond, List, [], ◌∷◌, ◌++◌, Option, Some, None, refl, sym, ap, ◌∙◌, subst, append-nil, append_assoc, arith}
 use Rattle.std.specs.FinMap.{empty, get, get-empty}
 use Rattle.std.specs.Ordering.{nat_cmp}
 use Rattle.std.specs.Cmp.Lexicographic.{slice_cmp}
@@ -11,7 +11,7 @@ use Rattle.sc_ideal.specs.History.{HasEntry}
 use Rattle.sc_ideal.specs.IdealStore.{holds_key, part_of}
 use Rattle.sc_ideal.specs.declared.Entry.{Entry}
 use Rattle.sc_ideal.proofs.Apart.{same_contents, get-part}
-use Rattle.sc_hist_law.specs.Moves.{Holding, Holdings, RequestOf, Move, Unmoved, ServedBy, DividedAt, JoinedTo, GivenFrom, TakenUpTo, MayMake, MayMakeAll, MovesKeepHistories, MovesTellHistories, NotesStay, HasNotes, AreBare, AreDisjoint, IsToldOf, TellsHoldings, with_holding, holdings_after, holdings_after_all, history_by, entries_by}
+use Rattle.sc_hist_law.specs.Moves.{Holding, Holdings, RequestOf, Move, Unmoved, ServedBy, DividedAt, JoinedTo, GivenFrom, TakenUpTo, MayMakeAll, MovesKeepHistories, MovesTellHistories, AreBare, TellsHoldings, with_holding, holdings_after, holdings_after_all, history_by, entries_by}
 use Rattle.sc_hist_law.proofs.Disjoint.{IsGood, SharesOut, shared_disjoint, shared_told}
 use Rattle.sc_hist_law.proofs.Shares.{divided, joined_up, given, taken}
 use Rattle.sc_hist_law.proofs.Serving.{served_kept}

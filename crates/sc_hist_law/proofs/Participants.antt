@@ -1,16 +1,15 @@
 -- What a participant holds after a commit, where its plan can be made.
 use Rattle.std.specs.Prelude.{is_some, not, nat_le, length}
-use Rattle.std.proofs.Common.{◌≡◌, ℕ, ◌+◌, ◌-◌, ◌<◌, ◌≤◌, ◌^◌, Bool, true, false, cond, eqb, ◌&&◌, ◌||◌, List, [], ◌∷◌, map, Option, Some, None, inl, inr, refl, sym, ap, ◌∙◌, subst, arith}
+use Rattle.std.proofs.Common.{◌≡◌, ℕ, ◌+◌, ◌-◌, ◌<◌, ◌^◌, Bool, true, false, cond, eqb, ◌&&◌, ◌||◌, List, [], ◌∷◌, map, Option, Some, None, refl, sym, ap, ◌∙◌, arith}
 use Rattle.std.specs.List.{list_any}
 use Rattle.std.specs.Cmp.{eq_by_cmp_equiv}
 use Rattle.std.specs.Cmp.Lexicographic.{slice_cmp, nat_list_cmp_total}
-use Rattle.std.specs.FinMap.{empty, entries, find, get, get-entries}
+use Rattle.std.specs.FinMap.{entries, get, get-entries}
 use Rattle.std.specs.FinMap.Entries.{is_some-find}
 use Rattle.std.specs.Ordering.{nat_cmp, eq_by_cmp}
-use Rattle.std.proofs.lemmas.Bool.{and_parts, cases_Bool, cond-true, cond-false, eq-eqb, eqb-false, eqb-true, le-leb, leb-true, ltb-true}
-use Rattle.sc_base.specs.Arc.{Arc, CanCut, CanJoin, IsArc, before, end_of, from, holds, joined, offset}
+use Rattle.std.proofs.lemmas.Bool.{and_parts, eq-eqb, eqb-false, eqb-true, le-leb, leb-true, ltb-true}
+use Rattle.sc_base.specs.Arc.{Arc, CanCut, CanJoin, IsArc, before, end_of, from, holds, offset}
 use Rattle.sc_base.specs.ArcLaws.{PartsJoin}
-use Rattle.sc_base.specs.Same.{same_draw}
 use Rattle.sc_base.specs.Text.{pos_of}
 use Rattle.sc_base.specs.declared.names.Draw.{Draw}
 use Rattle.sc_base.proofs.ArcLemmas.{cuts_join, joins_hold}
@@ -21,15 +20,13 @@ use Rattle.sc_cmd.specs.declared.cores.Lock.TheVariants.{Promised}
 use Rattle.sc_cmd.specs.declared.effects.Effect.TheVariants.{NoEffect}
 use Rattle.sc_cmd.specs.declared.votes.Outcome.{Outcome}
 use Rattle.sc_cmd.specs.declared.votes.Outcome.TheVariants.{Moved, Migrated}
-use Rattle.sc_ideal.specs.History.{contents_after}
 use Rattle.sc_ideal.specs.IdealStore.{Contents, holds_key, part_of}
-use Rattle.sc_ideal.specs.declared.Entry.{Entry}
 use Rattle.sc_ideal.proofs.Apart.{get-part}
 use Rattle.sc_machine_table.specs.Finishes.{can_gain, finished, gained_group, lost_group, participant_after, settled_in, welcomed_group}
 use Rattle.sc_machine_table.specs.Group.{Group}
 use Rattle.sc_machine_table.specs.Plans.{can_cut, can_join, has_key_of, part_gift}
 use Rattle.sc_entries.specs.Effective.{after_outcome}
-use Rattle.sc_hist_law.specs.Moves.{Holding, holding_of, part_from, with_previous}
+use Rattle.sc_hist_law.specs.Moves.{holding_of, part_from, with_previous}
 use Rattle.sc_hist_law.proofs.PlanHoldings.{plans_move}
 
 -- ---- tests of arcs

@@ -1,5 +1,5 @@
 -- What the machine's plans make of what groups hold.
-use Rattle.std.proofs.Common.{◌≡◌, ℕ, true, false, refl, sym, ap, ◌∙◌}
+use Rattle.std.proofs.Common.{◌≡◌, ℕ, true, false, refl, ap, ◌∙◌}
 use Rattle.std.proofs.lemmas.Bool.{cond-true, cond-false}
 use Rattle.std.specs.FinMap.{empty, entries}
 use Rattle.sc_base.specs.Arc.{Arc, before, from, holds, joined}
@@ -8,9 +8,8 @@ use Rattle.sc_cmd.specs.declared.bodies.Offer.{Offer}
 use Rattle.sc_ideal.specs.Clients.{ClientTable, joined_with}
 use Rattle.sc_ideal.specs.IdealStore.{Contents, part_of, with_pairs}
 use Rattle.sc_machine_table.specs.Group.{Group}
-use Rattle.sc_machine_table.specs.Plans.{frozen_of, kept_arc}
 use Rattle.sc_machine_table.proofs.Parts.{clients_again, pairs_again}
-use Rattle.sc_hist_law.specs.Moves.{Holding, holding_of, part_before, part_from, with_next, with_previous}
+use Rattle.sc_hist_law.specs.Moves.{Holding}
 use Rattle.sc_hist_law.specs.PlanMoves.{DividesHolding, GivesHolding, PlansAreMoves, TakesHolding}
 
 abbrev held : Arc → Contents → ClientTable → Holding

@@ -1,5 +1,5 @@
 -- Positions round the ring, and lists of which no two elements are of one name.
-use Rattle.std.proofs.Common.{◌≡◌, ◌≢◌, ℕ, zero, suc, ◌+◌, ◌-◌, ◌%◌, ◌^◌, ◌<◌, length, get_or, nat_lt, List, [], ◌∷◌, inl, inr, refl, sym, ap, ◌∙◌, AllPairs, arith}
+use Rattle.std.proofs.Common.{◌≡◌, ◌≢◌, ℕ, zero, suc, ◌+◌, ◌-◌, ◌%◌, ◌^◌, ◌<◌, length, get_or, nat_lt, List, [], ◌∷◌, inl, inr, sym, ap, ◌∙◌, AllPairs, arith}
 use Rattle.sc_base.specs.Among.{Among, Each}
 use Rattle.sc_base.specs.Arc.{Arc, holds}
 use Rattle.sc_base.specs.declared.names.Draw.{Draw}

@@ -1,8 +1,7 @@
 -- The world of several groups, where no entry divides a group or is of a transaction.
-use Rattle.std.proofs.Common.{◌≡◌, ℕ, Bool, true, false, cond, List, [], ◌∷◌, ◌++◌, map, Option, Some, None, ◌⊎◌, inl, inr, refl, sym, ap, ◌∙◌, subst, append-nil, append_assoc}
-use Rattle.std.specs.FinMap.{empty, get}
+use Rattle.std.proofs.Common.{◌≡◌, ℕ, List, [], ◌∷◌, ◌++◌, map, Option, Some, None, inl, inr, refl, sym, ap, ◌∙◌, subst, append-nil, append_assoc}
 use Rattle.std.specs.Option.{option_map, option_and_then}
-use Rattle.sc_base.specs.Among.{Among, Each}
+use Rattle.sc_base.specs.Among.{Each}
 use Rattle.sc_base.specs.declared.names.Draw.{Draw}
 use Rattle.sc_base.specs.declared.ops.Op.{Op}
 use Rattle.sc_cmd.specs.declared.commands.Command.{Command}
@@ -16,22 +15,20 @@ use Rattle.sc_ideal.specs.Clients.{ClientTable}
 use Rattle.sc_ideal.specs.History.{HasEntry}
 use Rattle.sc_ideal.specs.declared.Entry.{Entry}
 use Rattle.sc_machine_table.specs.Group.{Group}
-use Rattle.sc_machine_table.specs.Logs.{entry_by, entry_of}
+use Rattle.sc_machine_table.specs.Logs.{entry_of}
 use Rattle.sc_machine_table.specs.Machine.{applied, done}
 use Rattle.sc_machine_table.specs.Orders.{ordered, refusal_of, with_node, without_node}
 use Rattle.sc_base.specs.Arc.{Arc}
-use Rattle.sc_entries.specs.Births.{birth_of}
 use Rattle.sc_entries.specs.declared.LogEntry.{LogEntry}
-use Rattle.sc_entries.specs.declared.Transaction.{Transaction}
 use Rattle.sc_entries.specs.Effective.{effective, effective_by}
 use Rattle.sc_entries.specs.Rings.{arc_in, first_cut}
 use Rattle.sc_entries.specs.Worlds.{StoreWorld, after_command, groups_after, named_group, told, with_group, with_result, world_after}
 use Rattle.sc_hist_law.specs.Laws.{LeavesWhole}
-use Rattle.sc_hist_law.specs.Moves.{Holding, Holdings, RequestOf, MayServe, TellsHoldings, HasNotes, ServedBy, entries_by, holding_of, holdings_after, request_entry, with_holding, with_request}
+use Rattle.sc_hist_law.specs.Moves.{Holding, RequestOf, MayServe, TellsHoldings, HasNotes, ServedBy, entries_by, holding_of, holdings_after, request_entry, with_request}
 use Rattle.sc_hist_law.specs.Worlds.{holdings_in, IsAsked, IsQuiet}
 use Rattle.sc_hist_law.proofs.Disjoint.{one_or_not, holding_here, holding_there}
 use Rattle.sc_hist_law.proofs.Found.{found_name, found_now, found_still}
-use Rattle.sc_hist_law.proofs.Logs.{OnlyMembers, applied_core, ordered_either}
+use Rattle.sc_hist_law.proofs.Logs.{OnlyMembers, ordered_either}
 use Rattle.sc_hist_law.proofs.MovesKept.{move_kept, same_told}
 use Rattle.sc_hist_law.proofs.Quiet.{no_birth, same_transactions, same_ring}
 use Rattle.sc_hist_law.proofs.Requests.{TakesEffect, request_cases}

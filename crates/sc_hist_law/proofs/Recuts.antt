@@ -1,6 +1,6 @@
 -- Which groups have a cut of the ring after a division, a merge or a moved boundary.
 use Rattle.std.specs.Prelude.{is_some, not}
-use Rattle.std.proofs.Common.{◌≡◌, ℕ, Bool, true, false, cond, List, [], ◌∷◌, ◌++◌, Option, Some, None, inl, inr, refl, sym, ap, ◌∙◌}
+use Rattle.std.proofs.Common.{◌≡◌, Bool, true, false, cond, List, [], ◌∷◌, ◌++◌, Option, Some, None, inl, inr, refl, sym, ap, ◌∙◌}
 use Rattle.std.specs.List.{filter, find, flat_map}
 use Rattle.std.specs.Option.{option_map}
 use Rattle.std.proofs.lemmas.Bool.{cases_Bool, cond-true, cond-false}
@@ -65,7 +65,7 @@ divided_first : (name group : Draw) (division : Division) (cut : Cut) (ring : Li
     → has_arc name (parts_of group division cut ++ ring) ≡ cond (is_cut_of name cut) true (cond (same_draw division.child name) true (has_arc name ring))
 divided_first name group division cut ring t =
     ap (λ (cuts : List Cut). has_arc name (cuts ++ ring)) (cond-true (is_cut_of group cut) _ (cut ∷ []) t)
-    ∙ has_first name (record cut { arc = before cut.arc division.at }) _
+    ∙ has_first name (record cut { arc = before cut.arc division.at }) (record { arc = from cut.arc division.at; group = division.child } ∷ ring)
     ∙ ap (λ b. cond (is_cut_of name cut) true b) (has_first name (record { arc = from cut.arc division.at; group = division.child }) ring)
 
 -- any other cut

@@ -1,5 +1,5 @@
 -- An entry of a request: it takes effect at its group, or changes nothing.
-use Rattle.std.proofs.Common.{◌≡◌, ℕ, Bool, true, false, List, [], ◌++◌, Option, Some, None, inl, inr, refl, sym, ap, ◌∙◌, subst}
+use Rattle.std.proofs.Common.{◌≡◌, ℕ, true, false, List, ◌++◌, Some, inl, inr, refl, sym, ap, ◌∙◌}
 use Rattle.std.specs.Option.{option_map}
 use Rattle.std.proofs.lemmas.Bool.{and_from}
 use Rattle.std.specs.Prelude.{is_none, ◌&&◌}
@@ -15,7 +15,7 @@ use Rattle.sc_machine_table.specs.Machine.{applied, done}
 use Rattle.sc_entries.specs.declared.Transaction.{Transaction}
 use Rattle.sc_entries.specs.Effective.{is_open}
 use Rattle.sc_entries.specs.Worlds.{StoreWorld, named_group, with_result}
-use Rattle.sc_hist_law.specs.Moves.{Holding, RequestOf, ServedBy, holding_of, holdings_after, request_entry, with_request}
+use Rattle.sc_hist_law.specs.Moves.{RequestOf, ServedBy, holding_of, request_entry, with_request}
 use Rattle.sc_hist_law.specs.Telling.{MayCall}
 use Rattle.sc_hist_law.specs.Worlds.{holdings_in}
 use Rattle.sc_hist_law.proofs.Disjoint.{holding_here, holding_there, one_or_not}

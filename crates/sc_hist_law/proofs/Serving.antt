@@ -1,17 +1,17 @@
 -- A request that takes effect at the group whose arc holds its key.
-use Rattle.std.proofs.Common.{◌≡◌, ℕ, zero, suc, ◌<◌, ◌≤◌, Bool, true, false, cond, eqb, length, get_or, List, [], ◌∷◌, ◌++◌, Option, Some, None, ◌⊎◌, inl, inr, refl, sym, ◌∙◌, ap, subst, AllPairs, arith}
+use Rattle.std.proofs.Common.{◌≡◌, ℕ, Bool, true, false, cond, eqb, List, [], ◌∷◌, ◌++◌, Option, Some, None, ◌⊎◌, inl, inr, refl, sym, ◌∙◌, ap, subst, AllPairs, arith}
 use Rattle.std.specs.Cmp.{nat_cmp_total, unsigned_tied}
-use Rattle.std.specs.FinMap.{empty, get, insert, get-insert}
+use Rattle.std.specs.FinMap.{empty, get, get-insert}
 use Rattle.std.specs.Option.{option_map}
 use Rattle.std.proofs.lemmas.Bool.{cases_Bool, eqb-true, eq-eqb, cond-true, cond-false}
-use Rattle.sc_base.specs.Among.{Among, Each}
+use Rattle.sc_base.specs.Among.{Among}
 use Rattle.sc_base.specs.Arc.{holds}
 use Rattle.sc_base.specs.Text.{pos_of}
 use Rattle.sc_base.specs.declared.names.Draw.{Draw}
 use Rattle.sc_base.specs.declared.ops.Noted.{Noted}
 use Rattle.sc_base.specs.declared.ops.Op.{Op}
 use Rattle.sc_base.specs.declared.ops.Reply.{Reply}
-use Rattle.sc_ideal.specs.History.{AreApart, HasEntry, Legal, contents_after}
+use Rattle.sc_ideal.specs.History.{AreApart, HasEntry, contents_after}
 use Rattle.sc_ideal.specs.IdealStore.{Contents, key_of, reply_of, after, holds_key, part_of}
 use Rattle.sc_ideal.specs.declared.Entry.{Entry}
 use Rattle.sc_ideal.proofs.Apart.{apart, get-part}

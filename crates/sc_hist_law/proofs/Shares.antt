@@ -1,11 +1,11 @@
 -- Each move but a request shares out between two groups what the two held.
-use Rattle.std.proofs.Common.{◌≡◌, ℕ, Bool, true, List, Option, Some, None, ◌⊎◌, inl, inr, refl, sym, ap, ◌∙◌, subst}
+use Rattle.std.proofs.Common.{◌≡◌, ℕ, true, List, Option, Some, None, ◌⊎◌, inl, inr, sym, ap, ◌∙◌, subst}
 use Rattle.std.specs.Option.{option_map}
-use Rattle.sc_base.specs.Arc.{Arc, before, from, joined, holds}
+use Rattle.sc_base.specs.Arc.{before, from, holds}
 use Rattle.sc_base.specs.declared.names.Draw.{Draw}
 use Rattle.sc_ideal.specs.declared.Entry.{Entry}
 use Rattle.sc_hist_law.specs.Moves.{Holding, Holdings, AreDisjoint, IsToldOf, IsBetween, MayDivide, CanFollow, CanGive, CanTake, part_before, part_from, with_next, with_previous, both_holdings}
-use Rattle.sc_hist_law.proofs.Holdings.{IsOnRing, before_arc, from_arc, parts_apart, before_told, from_told, joined_from, joined_arc, meet_apart, next_told, previous_told}
+use Rattle.sc_hist_law.proofs.Holdings.{IsOnRing, before_arc, from_arc, parts_apart, before_told, from_told, joined_from, joined_arc, next_told, previous_told}
 use Rattle.sc_hist_law.proofs.Disjoint.{HoldsAt, IsGood, SharesOut, owner}
 
 some_holding : (one other : Holding) → Some one ≡ Some other → one ≡ other
@@ -25,7 +25,8 @@ at_is found holding p is h =
     let same : h.holding ≡ holding = some_holding h.holding holding (sym h.is ∙ is) in
     subst (λ (x : Holding). holds x.arc p ≡ true) same h.at
 
-both_are : (together : Holding → Holding → Holding) (one other : Option Holding) (holding next : Holding) → one ≡ Some holding → other ≡ Some next → both_holdings together one other ≡ Some (together holding next)
+-- two that are known, as one
+pub both_are : (together : Holding → Holding → Holding) (one other : Option Holding) (holding next : Holding) → one ≡ Some holding → other ≡ Some next → both_holdings together one other ≡ Some (together holding next)
 both_are together one other holding next e f = ap (λ o. both_holdings together o other) e ∙ ap (both_holdings together (Some holding)) f
 
 module _ (history : List Entry) (holdings : Holdings) (disjoint : AreDisjoint holdings) (told : (name : Draw) → IsGood history (holdings name)) where

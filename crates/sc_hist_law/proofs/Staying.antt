@@ -1,14 +1,13 @@
 -- Entries that leave what all groups hold.
-use Rattle.std.proofs.Common.{◌≡◌, ℕ, Bool, true, false, cond, ◌&&◌, not, List, [], ◌∷◌, ◌++◌, Option, Some, None, inl, inr, refl, sym, ap, ◌∙◌, subst, append-nil}
+use Rattle.std.proofs.Common.{◌≡◌, ℕ, true, false, List, [], ◌∷◌, ◌++◌, Option, Some, None, inl, inr, refl, sym, ap, ◌∙◌}
 use Rattle.std.specs.Prelude.{is_some}
-use Rattle.std.proofs.lemmas.Bool.{cases_Bool, cond-true, cond-false, cond_both}
-use Rattle.sc_base.specs.Same.{same_draw}
+use Rattle.std.proofs.lemmas.Bool.{cond-false, cond_both}
 use Rattle.sc_base.specs.declared.names.Draw.{Draw}
 use Rattle.sc_cmd.specs.declared.bodies.Body.{Body}
 use Rattle.sc_cmd.specs.declared.bodies.Offer.{Offer}
 use Rattle.sc_cmd.specs.declared.bodies.Watch.{Watch}
 use Rattle.sc_cmd.specs.declared.commands.Command.{Command}
-use Rattle.sc_cmd.specs.declared.commands.Command.TheVariants.{Noop, Call, Join, Leave, Split, Begin, Prepared, RecordVote, GiveUp, Finish, Watched, RecordWatch}
+use Rattle.sc_cmd.specs.declared.commands.Command.TheVariants.{Noop, Join, Leave, Begin, Prepared, GiveUp, Watched}
 use Rattle.sc_cmd.specs.declared.cores.Core.{Core}
 use Rattle.sc_cmd.specs.declared.cores.Lock.{Lock}
 use Rattle.sc_cmd.specs.declared.cores.Lock.TheVariants.{Free, Coordinating, Promised, Watching}
@@ -21,19 +20,19 @@ use Rattle.sc_cmd.specs.declared.votes.No.{No}
 use Rattle.sc_cmd.specs.declared.votes.Outcome.{Outcome}
 use Rattle.sc_machine_table.specs.Group.{Group}
 use Rattle.sc_machine_table.specs.Logs.{entry_of}
-use Rattle.sc_machine_table.specs.Machine.{applied, ordered_by}
-use Rattle.sc_machine_table.specs.Orders.{is_alone, locked_in, ordered, refusal_of, refused_free, refused_in, with_node, without_node}
+use Rattle.sc_machine_table.specs.Machine.{applied}
+use Rattle.sc_machine_table.specs.Orders.{locked_in, ordered, refusal_of, refused_in, with_node, without_node}
 use Rattle.sc_machine_table.specs.Splits.{has_named}
 use Rattle.sc_machine_table.specs.Transactions.{aborted, begun_group, is_coordinating}
 use Rattle.sc_machine_table.specs.Votes.{bound_by, has_voted, no_of, offer_no, past_of, vote_of, voted_on, watch_no, watch_vote_of}
-use Rattle.sc_entries.specs.Births.{birth_of, is_changed}
+use Rattle.sc_entries.specs.Births.{birth_of}
 use Rattle.sc_entries.specs.declared.Transaction.{Transaction}
 use Rattle.sc_entries.specs.Decisions.{begun_transaction, decision}
 use Rattle.sc_entries.specs.Effective.{is_commit}
 use Rattle.sc_entries.specs.Rings.{arc_in, ring_after}
 use Rattle.sc_entries.specs.Worlds.{StoreWorld, named_group, with_result}
 use Rattle.sc_hist_law.specs.Moves.{RequestOf, Unmoved, holding_of}
-use Rattle.sc_hist_law.specs.Worlds.{HasKnownTable, IsMoveTo, holdings_in}
+use Rattle.sc_hist_law.specs.Worlds.{HasKnownTable, IsMoveTo}
 use Rattle.sc_hist_law.specs.Telling.{IsUncommitted}
 use Rattle.sc_hist_law.proofs.Disjoint.{one_or_not}
 use Rattle.sc_hist_law.proofs.Elsewhere.{elsewhere, held_by, itself, same_table, tables_from}
@@ -96,13 +95,14 @@ module _ (request : RequestOf) (world : StoreWorld) (name : Draw) (group : Group
 
 -- ---- orders
 
-order_cases : (P : Group × Effect → Type 0) (gone : Option Route) (why : Option OrderRefusal) (after group : Group) → ((refusal : OrderRefusal) → P (group, Was.Refused refusal)) → (gone ≡ None → why ≡ None → P (after, Was.Changed)) → P (ordered gone why after group)
+-- an order is refused, or makes the group another one
+pub order_cases : (P : Group × Effect → Type 0) (gone : Option Route) (why : Option OrderRefusal) (after group : Group) → ((refusal : OrderRefusal) → P (group, Was.Refused refusal)) → (gone ≡ None → why ≡ None → P (after, Was.Changed)) → P (ordered gone why after group)
 order_cases P (Some into) why after group quiet go = quiet (NotLeader None)
 order_cases P None (Some why) after group quiet go = quiet why
 order_cases P None None after group quiet go = go refl refl
 
 -- an order that is not refused is one of a free group
-free_by : (lock : Lock) (core : Core) (c : Command) → refused_in (locked_in lock) core c ≡ None → lock ≡ Free
+pub free_by : (lock : Lock) (core : Core) (c : Command) → refused_in (locked_in lock) core c ≡ None → lock ≡ Free
 free_by Free core c e = refl
 free_by (Coordinating tx body order heard) core c e = cc
 free_by (Promised tx offer) core c e = cc

@@ -1,6 +1,6 @@
 -- What a client table notes that was joined with another, and what follows for its notes.
 use Rattle.std.specs.Prelude.{nat_lt}
-use Rattle.std.proofs.Common.{◌≡◌, ℕ, ◌≤◌, cond, List, Option, Some, None, ◌⊎◌, inl, inr, refl, sym, ◌∙◌, subst, arith}
+use Rattle.std.proofs.Common.{◌≡◌, ℕ, ◌≤◌, List, Option, Some, None, ◌⊎◌, inl, inr, refl, sym, ◌∙◌, subst, arith}
 use Rattle.std.proofs.lemmas.Bool.{cases_Bool, cond-true, cond-false, ltb-true, ltb-false}
 use Rattle.std.specs.FinMap.{get, entries}
 use Rattle.sc_base.specs.declared.ops.Noted.{Noted}

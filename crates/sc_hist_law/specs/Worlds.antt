@@ -1,16 +1,14 @@
 -- What the entries of all logs tell of what all groups hold.
-use Rattle.std.specs.Prelude.{◌≡◌, ◌⊎◌, List, [], ◌∷◌, ◌++◌, map, Option, Some}
+use Rattle.std.specs.Prelude.{◌≡◌, ◌⊎◌, List, [], ◌∷◌, ◌++◌, map, Some}
 use Rattle.std.specs.FinMap.{empty}
 use Rattle.std.specs.Option.{option_map, option_and_then}
 use Rattle.sc_base.specs.Among.{Among, Each}
 use Rattle.sc_base.specs.declared.names.Draw.{Draw}
-use Rattle.sc_base.specs.declared.ops.Op.{Op}
 use Rattle.sc_cmd.specs.declared.commands.Command.{Command}
 use Rattle.sc_cmd.specs.declared.commands.Command.TheVariants.{Noop, Call, Join, Leave, Split, Begin, Prepared, RecordVote, GiveUp, Finish, Watched, RecordWatch}
 use Rattle.sc_cmd.specs.declared.cores.Base.{Base}
 use Rattle.sc_ideal.specs.History.{Legal, contents_after}
 use Rattle.sc_ideal.specs.IdealStore.{part_of}
-use Rattle.sc_ideal.specs.declared.Entry.{Entry}
 use Rattle.sc_machine_table.specs.Group.{Group}
 use Rattle.sc_entries.specs.declared.Cut.{Cut}
 use Rattle.sc_entries.specs.declared.LogEntry.{LogEntry}
