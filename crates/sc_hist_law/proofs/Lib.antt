@@ -6,6 +6,7 @@ pub mod Divisions
 pub mod Elsewhere
 pub mod Ending
 pub mod Entries
+pub mod EntriesExample
 pub mod Finishing
 pub mod Found
 pub mod Holdings

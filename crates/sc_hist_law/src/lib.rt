@@ -3,7 +3,7 @@
 //! logic.
 #![tactic(auto)]
 
-ghost use Rattle.sc_hist_law.specs.Example.{ExampleOfMoves};
+ghost use Rattle.sc_hist_law.specs.Example.{ExampleOfEntries, ExampleOfMoves};
 ghost use Rattle.sc_hist_law.specs.Laws.{LogsTellHistories};
 ghost use Rattle.sc_hist_law.specs.Moves.{MovesKeepHistories, MovesTellHistories};
 ghost use Rattle.sc_hist_law.specs.PlanMoves.{PlansAreMoves};
@@ -60,4 +60,10 @@ pub fn an_example_of_moves()
 pub fn told_entries_tell_a_legal_history()
     ensures each { EntriesMakeMoves }
     ensures all { EntriesThatMayBeToldTell }
+{}
+
+/// A group that serves a put and is split, and its child that serves a get: entries that may be
+/// told from a bare start, with the history of both requests.
+pub fn an_example_of_entries()
+    ensures { ExampleOfEntries }
 {}

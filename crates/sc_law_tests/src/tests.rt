@@ -5,8 +5,8 @@ use sc_group_law::{
     valid_scenarios_have_one_group,
 };
 use sc_hist_law::{
-    an_example_of_moves, entries_that_move_tell_a_legal_history, logs_tell_histories,
-    moves_tell_histories, plans_are_moves, quiet_entries_tell_a_legal_history,
+    an_example_of_entries, an_example_of_moves, entries_that_move_tell_a_legal_history,
+    logs_tell_histories, moves_tell_histories, plans_are_moves, quiet_entries_tell_a_legal_history,
     told_entries_tell_a_legal_history,
 };
 use sc_paxos_law::{
@@ -38,6 +38,7 @@ fn the_laws_of_several_groups_are_called() {
     entries_that_move_tell_a_legal_history();
     told_entries_tell_a_legal_history();
     an_example_of_moves();
+    an_example_of_entries();
 }
 
 #[test]
