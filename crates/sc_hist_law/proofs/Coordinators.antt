@@ -282,7 +282,7 @@ module _ (request : RequestOf) (world : StoreWorld) (name : Draw) (group : Group
     divides alone =
         division_goes request world name group found (Split at child order) (left_group group at child, Was.Changed) at child refl
         (ap (λ b. option_map (λ (d : Division). child_of group d.at d.child) (cond b (Some (record { at = at; child = child })) None)) alone)
-        (may.fresh alone here named)
+        (may.fresh alone here (ap locked_in free) named)
         (ap (λ b. ring_divided (cond b (Some (record { at = at; child = child })) None) group.core.id world.ring) alone)
         refl (free_held world.transactions group free) (free_held _ (left_group group at child) free)
         (λ other g there. ap (λ b. held_by (cond (not b) (world.transactions ++ begun_split group.core at child ∷ []) world.transactions) g) alone)

@@ -100,7 +100,7 @@ may_put group found = subst (λ g. MayCall two_requests first g 1 1 put_a) (some
 may_split : MayBeTold two_requests second split_entry
 may_split group found = subst (λ g. MaySplit second g 1610612736 offspring) (some_group served group found) (record {
   fits = omega arith;
-  fresh = λ alone here named. record { cut = (lone_base.core.arc, refl); unborn = refl; uncut = refl };
+  fresh = λ alone here unlocked named. record { cut = (lone_base.core.arc, refl); unborn = refl; uncut = refl };
 })
 
 may_get : MayBeTold two_requests third get_entry

@@ -56,7 +56,7 @@ pub record IsNewChild (world : StoreWorld) (group : Group) (child : Draw) : Type
 -- a split names a position, and where it is made at once, a new child
 pub record MaySplit (world : StoreWorld) (group : Group) (at : ℕ) (child : Draw) : Type 0 where
   pub fits : at < 2 ^ 32
-  pub fresh : is_alone group.core ≡ true → group.core.gone ≡ None → has_named group.core child ≡ false → IsNewChild world group child
+  pub fresh : is_alone group.core ≡ true → group.core.gone ≡ None → locked_in group.core.lock ≡ None → has_named group.core child ≡ false → IsNewChild world group child
 
 -- a coordinator: the transaction is its own, and is not committed
 pub record IsItsOwn (world : StoreWorld) (group : Group) (tx : Draw) : Type 0 where
