@@ -25,7 +25,7 @@ use Rattle.sc_entries.specs.Worlds.{StoreWorld, named_group, with_result}
 use Rattle.sc_hist_law.specs.Moves.{GivenFrom, JoinedTo, RequestOf, TakenUpTo, Unmoved, both_holdings, holding_of, part_before, part_from, with_next, with_previous}
 use Rattle.sc_hist_law.specs.Telling.{IsItsOwn, IsParty}
 use Rattle.sc_hist_law.specs.Worlds.{HasKnownTable, holdings_in}
-use Rattle.sc_hist_law.proofs.Disjoint.{holding_here, holding_there, one_or_not}
+use Rattle.sc_hist_law.proofs.Disjoint.{first_here, neither_here, one_or_not, second_here}
 use Rattle.sc_hist_law.proofs.Elsewhere.{elsewhere, held_by, held_none, held_some, here, own_group, tables_from, there}
 use Rattle.sc_hist_law.proofs.Parties.{next_after, next_before, others_after, own_before}
 use Rattle.sc_hist_law.proofs.Recuts.{arc_of, gone_cut, has_arc, has_recut, taken_out}
@@ -116,10 +116,10 @@ module _ (request : RequestOf) (world : StoreWorld) (name : Draw) (group : Group
       move = JoinedTo mine theirs;
       may = record { holding = holding_of group; is = mine_before; other = holding_of party.next; next_is = theirs_before; apart = party.apart; fits = party.meet };
       holds = λ other. elim (one_or_not other theirs) [
-        | inl e ↦ ap (holdings_in after) e ∙ held_none after theirs theirs_gone ∙ sym (holding_here theirs None _ other e)
+        | inl e ↦ ap (holdings_in after) e ∙ held_none after theirs theirs_gone ∙ sym (second_here mine theirs (both_holdings with_next (holdings_in world mine) (holdings_in world theirs)) (None) (holdings_in world) other e)
         | inr not ↦ elim (one_or_not other mine) [
-          | inl e ↦ ap (holdings_in after) e ∙ now ∙ ap Some holds_both ∙ sym together ∙ sym (holding_there theirs None _ other not ∙ holding_here mine _ (holdings_in world) other e)
-          | inr ne ↦ others other ne not (merged_has other not) ∙ sym (holding_there theirs None _ other not ∙ holding_there mine _ (holdings_in world) other ne)
+          | inl e ↦ ap (holdings_in after) e ∙ now ∙ ap Some holds_both ∙ sym together ∙ sym (first_here mine theirs (both_holdings with_next (holdings_in world mine) (holdings_in world theirs)) (None) (holdings_in world) other not e)
+          | inr ne ↦ others other ne not (merged_has other not) ∙ sym (neither_here mine theirs (both_holdings with_next (holdings_in world mine) (holdings_in world theirs)) (None) (holdings_in world) other not ne)
         ]
       ];
       adds = ap (λ es. world.history ++ es) no_entry;
@@ -154,10 +154,10 @@ module _ (request : RequestOf) (world : StoreWorld) (name : Draw) (group : Group
           holds = λ other. elim (one_or_not other theirs) [
             | inl e ↦ ap (holdings_in after) e ∙ moved_theirs ∙ ap Some gains
                 ∙ sym (both_are with_previous (holdings_in world theirs) (option_map (part_from at) (holdings_in world mine)) (holding_of party.next) (part_from at (holding_of group)) theirs_before rest)
-                ∙ sym (holding_here theirs _ _ other e)
+                ∙ sym (second_here mine theirs (option_map (part_before at) (holdings_in world mine)) (both_holdings with_previous (holdings_in world theirs) (option_map (part_from at) (holdings_in world mine))) (holdings_in world) other e)
             | inr not ↦ elim (one_or_not other mine) [
-              | inl e ↦ ap (holdings_in after) e ∙ moved_mine ∙ ap Some keeps ∙ sym (ap (option_map (part_before at)) mine_before) ∙ sym (holding_there theirs _ _ other not ∙ holding_here mine _ (holdings_in world) other e)
-              | inr ne ↦ others other ne not (moved_has other) ∙ sym (holding_there theirs _ _ other not ∙ holding_there mine _ (holdings_in world) other ne)
+              | inl e ↦ ap (holdings_in after) e ∙ moved_mine ∙ ap Some keeps ∙ sym (ap (option_map (part_before at)) mine_before) ∙ sym (first_here mine theirs (option_map (part_before at) (holdings_in world mine)) (both_holdings with_previous (holdings_in world theirs) (option_map (part_from at) (holdings_in world mine))) (holdings_in world) other not e)
+              | inr ne ↦ others other ne not (moved_has other) ∙ sym (neither_here mine theirs (option_map (part_before at) (holdings_in world mine)) (both_holdings with_previous (holdings_in world theirs) (option_map (part_from at) (holdings_in world mine))) (holdings_in world) other not ne)
             ]
           ];
           adds = ap (λ es. world.history ++ es) no_entry;
@@ -172,12 +172,12 @@ module _ (request : RequestOf) (world : StoreWorld) (name : Draw) (group : Group
           move = TakenUpTo mine at theirs;
           may = record { holding = holding_of group; is = mine_before; other = holding_of party.next; next_is = theirs_before; apart = party.apart; fits = (fits, cut, meet) };
           holds = λ other. elim (one_or_not other theirs) [
-            | inl e ↦ ap (holdings_in after) e ∙ moved_theirs ∙ ap Some keeps ∙ sym (ap (option_map (part_from at)) theirs_before) ∙ sym (holding_here theirs _ _ other e)
+            | inl e ↦ ap (holdings_in after) e ∙ moved_theirs ∙ ap Some keeps ∙ sym (ap (option_map (part_from at)) theirs_before) ∙ sym (second_here mine theirs (both_holdings with_next (holdings_in world mine) (option_map (part_before at) (holdings_in world theirs))) (option_map (part_from at) (holdings_in world theirs)) (holdings_in world) other e)
             | inr not ↦ elim (one_or_not other mine) [
               | inl e ↦ ap (holdings_in after) e ∙ moved_mine ∙ ap Some gains
                   ∙ sym (both_are with_next (holdings_in world mine) (option_map (part_before at) (holdings_in world theirs)) (holding_of group) (part_before at (holding_of party.next)) mine_before part)
-                  ∙ sym (holding_there theirs _ _ other not ∙ holding_here mine _ (holdings_in world) other e)
-              | inr ne ↦ others other ne not (moved_has other) ∙ sym (holding_there theirs _ _ other not ∙ holding_there mine _ (holdings_in world) other ne)
+                  ∙ sym (first_here mine theirs (both_holdings with_next (holdings_in world mine) (option_map (part_before at) (holdings_in world theirs))) (option_map (part_from at) (holdings_in world theirs)) (holdings_in world) other not e)
+              | inr ne ↦ others other ne not (moved_has other) ∙ sym (neither_here mine theirs (both_holdings with_next (holdings_in world mine) (option_map (part_before at) (holdings_in world theirs))) (option_map (part_from at) (holdings_in world theirs)) (holdings_in world) other not ne)
             ]
           ];
           adds = ap (λ es. world.history ++ es) no_entry;

@@ -25,6 +25,16 @@ holding_there group holding holdings other ne = elim (cases_Bool (same_draw othe
   | inr f ↦ cond-false (same_draw other group) holding (holdings other) f
 ]
 
+-- of two holdings that are replaced: the second, the first, and all others
+pub second_here : (group second : Draw) (mine theirs : Option Holding) (holdings : Holdings) (other : Draw) → other ≡ second → with_holding second theirs (with_holding group mine holdings) other ≡ theirs
+second_here group second mine theirs holdings other e = holding_here second theirs (with_holding group mine holdings) other e
+
+pub first_here : (group second : Draw) (mine theirs : Option Holding) (holdings : Holdings) (other : Draw) → (other ≡ second → ⊥) → other ≡ group → with_holding second theirs (with_holding group mine holdings) other ≡ mine
+first_here group second mine theirs holdings other ne e = holding_there second theirs (with_holding group mine holdings) other ne ∙ holding_here group mine holdings other e
+
+pub neither_here : (group second : Draw) (mine theirs : Option Holding) (holdings : Holdings) (other : Draw) → (other ≡ second → ⊥) → (other ≡ group → ⊥) → with_holding second theirs (with_holding group mine holdings) other ≡ holdings other
+neither_here group second mine theirs holdings other ne not = holding_there second theirs (with_holding group mine holdings) other ne ∙ holding_there group mine holdings other not
+
 -- the holding, if there is one, has the position
 pub record HoldsAt (found : Option Holding) (p : ℕ) : Type 0 where
   pub holding : Holding

@@ -20,7 +20,7 @@ use Rattle.sc_entries.specs.Worlds.{StoreWorld, groups_after, is_named, named_gr
 use Rattle.sc_hist_law.specs.Moves.{DividedAt, Holding, RequestOf, holding_of, part_before, part_from}
 use Rattle.sc_hist_law.specs.Telling.{IsNewChild}
 use Rattle.sc_hist_law.specs.Worlds.{HasKnownTable, holdings_in}
-use Rattle.sc_hist_law.proofs.Disjoint.{holding_here, holding_there, one_or_not}
+use Rattle.sc_hist_law.proofs.Disjoint.{first_here, neither_here, one_or_not, second_here}
 use Rattle.sc_hist_law.proofs.Elsewhere.{held_by, held_none, held_some, same_at, same_found}
 use Rattle.sc_hist_law.proofs.Found.{found_name, found_now, found_still}
 use Rattle.sc_hist_law.proofs.PlanHoldings.{plans_move}
@@ -142,10 +142,10 @@ module _ (request : RequestOf) (world : StoreWorld) (name : Draw) (group : Group
       move = DividedAt mine at child;
       may = record { holding = holding_of group; is = mine_before; fits = fits; cut = cut; free = held_none world child fresh.uncut };
       holds = λ other. elim (one_or_not other child) [
-        | inl e ↦ ap (holdings_in after) e ∙ child_after ∙ sym (ap (option_map (part_from at)) mine_before) ∙ sym (holding_here child _ _ other e)
+        | inl e ↦ ap (holdings_in after) e ∙ child_after ∙ sym (ap (option_map (part_from at)) mine_before) ∙ sym (second_here mine child (option_map (part_before at) (holdings_in world mine)) (option_map (part_from at) (holdings_in world mine)) (holdings_in world) other e)
         | inr not ↦ elim (one_or_not other mine) [
-          | inl e ↦ ap (holdings_in after) e ∙ mine_after ∙ sym (ap (option_map (part_before at)) mine_before) ∙ sym (holding_there child _ _ other not ∙ holding_here mine _ (holdings_in world) other e)
-          | inr ne ↦ elsewhere other ne not ∙ sym (holding_there child _ _ other not ∙ holding_there mine _ (holdings_in world) other ne)
+          | inl e ↦ ap (holdings_in after) e ∙ mine_after ∙ sym (ap (option_map (part_before at)) mine_before) ∙ sym (first_here mine child (option_map (part_before at) (holdings_in world mine)) (option_map (part_from at) (holdings_in world mine)) (holdings_in world) other not e)
+          | inr ne ↦ elsewhere other ne not ∙ sym (neither_here mine child (option_map (part_before at) (holdings_in world mine)) (option_map (part_from at) (holdings_in world mine)) (holdings_in world) other not ne)
         ]
       ];
       adds = ap (λ es. world.history ++ es) no_entry;
