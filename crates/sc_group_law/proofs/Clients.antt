@@ -21,18 +21,19 @@ use Rattle.sc_client_table.specs.Client.{Client, request_at}
 use Rattle.sc_client_table.specs.Table.{request_of}
 use Rattle.sc_client_table.specs.Turns.{InTurn, Waits, Begins, TakesReply}
 use Rattle.sc_base.specs.Among.{Among}
-use Rattle.sc_paxos_law.specs.Chosen.{IsLog}
 use Rattle.sc_scenario.specs.declared.scenarios.Asks.{Asks}
 use Rattle.sc_scenario.specs.declared.scenarios.Scenario.{Scenario}
-use Rattle.sc_ideal.specs.History.{HasEntry}
 use Rattle.sc_hist_law.specs.Laws.{LeavesWhole}
 use Rattle.sc_players.specs.Players.{Ahead}
-use Rattle.sc_machine_table.specs.Logs.{done_by}
 use Rattle.sc_sound.specs.Requests.{issues, issued_from, issue_row}
-use Rattle.sc_group_law.proofs.Invariant.{Steps, rule, birth, Grants, IsTrue, IsTrueAnswer}
+use Rattle.sc_group_law.proofs.Invariant.{Steps, Grants, IsReplyAt, IsTrue, IsTrueAnswer, grown_reply}
+use Rattle.sc_group_law.proofs.Names.{IsOneOf, IsNamed}
 use Rattle.sc_group_law.proofs.Places.{Journal, or_now, issue-push}
 use Rattle.sc_paxos_law.proofs.Among.{get_pushed}
-use Rattle.sc_paxos_law.proofs.Decided.{later_logs}
+use Rattle.sc_base.proofs.NameLemmas.{same_name}
+use Rattle.sc_cmd.specs.declared.orders.Order.{Order}
+use Rattle.sc_cmd.specs.declared.orders.Order.TheVariants as An
+use Rattle.sc_node_table.specs.Rows.{command_of}
 
 -- ---- requests
 
@@ -92,9 +93,15 @@ made_whole scenario rows (Finish tx outcome) m = m
 made_whole scenario rows (Watched tx watch) m = m
 made_whole scenario rows (RecordWatch tx vote by) m = m
 
+-- what an order asks for is a join or a leave
+order_made : (scenario : Scenario) (rows : Journal) (o : Order) (number : ℕ) (c : Command) → command_of (let line : OrderLine = record { number = number; order = o } in line) ≡ Some c → Made scenario rows c
+order_made scenario rows (An.Join node group) number c e = (let same : Join node number ≡ c = cc in subst (Made scenario rows) same tt)
+order_made scenario rows (An.Leave node group) number c e = (let same : Leave node number ≡ c = cc in subst (Made scenario rows) same tt)
+order_made scenario rows _ number c e = cc
+
 -- what replicas make themselves counts as made
-pub grants : (ahead : Ahead) (base : Base) (scenario : Scenario) (rows : Journal) → Grants ahead base (Made scenario rows)
-grants ahead base scenario rows = record { noop = tt; joins = λ node order. tt; leaves = λ node order. tt }
+pub grants : (ahead : Ahead) (scenario : Scenario) (rows : Journal) (base : Base) → Grants ahead base (Made scenario rows)
+grants ahead scenario rows base = record { noop = tt; asked = λ line c e. order_made scenario rows line.order line.number c e }
 
 -- what was made stays made with one more row
 pub made_later : (scenario : Scenario) (rows : Journal) (row : Row Mail OrderLine) (c : Command) → Made scenario rows c → Made scenario (rows ++ row ∷ []) c
@@ -180,13 +187,23 @@ next_of : (o : Option ℕ) (n m : ℕ) → (o ≡ Some m) ⊎ (o ≡ None) → m
 next_of o n m (inl e) is = subst (λ x. IsNextOf x n) (sym e) is
 next_of o n m (inr e) is = subst (λ x. IsNextOf x n) (sym e) tt
 
-module _ (ahead : Ahead) (base : Base) where
-  -- a reply is that of an entry of a log
-  abbrev pub IsAnswered : Steps → ℕ → ℕ → Reply → Type 0
-  IsAnswered h client seq reply = (log : List Command) × IsLog (rule ahead base) h log × HasEntry (done_by (birth ahead base) log) client seq reply
+module _ (ahead : Ahead) (bases : List Base) where
+  -- a reply is that of an entry of the log of one of the groups
+  abbrev pub IsAnswered : (Base → Steps) → ℕ → ℕ → Reply → Type 0
+  IsAnswered h client seq reply = (base : Base) × Among base bases × IsReplyAt ahead base (h base) client seq reply
+
+  -- each group has these steps and more
+  abbrev pub HaveGrown : (Base → Steps) → (Base → Steps) → Type 0
+  HaveGrown h after = (base : Base) → Among base bases → (newer : Steps) × (after base ≡ newer ++ h base)
+
+  -- a reply stays that of an entry
+  pub later_answered : (h after : Base → Steps) → HaveGrown h after → (client seq : ℕ) (reply : Reply) → IsAnswered h client seq reply → IsAnswered after client seq reply
+  later_answered h after grown client seq reply (base, among, at) =
+      let more = grown base among in
+      (base, among, subst (λ s. IsReplyAt ahead base s client seq reply) (sym more.1) (grown_reply ahead base more.0 (h base) client seq reply at))
 
   -- a client as the steps say: its requests, and replies that the logs tell
-  pub record IsClient (h : Steps) (asks : Asks) (client : Client) : Type 0 where
+  pub record IsClient (h : Base → Steps) (asks : Asks) (client : Client) : Type 0 where
     -- it has its number
     pub me : client.me ≡ asks.client
     -- it has the requests of its section
@@ -197,20 +214,20 @@ module _ (ahead : Ahead) (base : Base) where
     pub replies : (k : ℕ) (reply : Reply) → slice_get client.replies k ≡ Some reply → IsAnswered h asks.client (k + 1) reply
 
   -- a client stays as the steps say after more of them
-  pub later_client : (newer h : Steps) (asks : Asks) (client : Client) → IsClient h asks client → IsClient (newer ++ h) asks client
-  later_client newer h asks client c = record {
+  pub later_client : (h after : Base → Steps) → HaveGrown h after → (asks : Asks) (client : Client) → IsClient h asks client → IsClient after asks client
+  later_client h after grown asks client c = record {
     me = c.me;
     requests = c.requests;
     waits = c.waits;
-    replies = λ k reply e. (let a = c.replies k reply e in (a.0, later_logs (rule ahead base) newer h a.0 a.1, a.2));
+    replies = λ k reply e. later_answered h after grown asks.client (k + 1) reply (c.replies k reply e);
   }
 
   -- what became of the replies
-  abbrev pub Grew : Steps → Asks → List Reply → List Reply → Type 0
+  abbrev pub Grew : (Base → Steps) → Asks → List Reply → List Reply → Type 0
   Grew h asks old new = (new ≡ old) ⊎ ((reply : Reply) × (new ≡ old ++ reply ∷ []) × IsAnswered h asks.client (length old + 1) reply)
 
-  module _ (made : Command → Type 0) (h : Steps) (asks : Asks) (client after : Client) (c : IsClient h asks client) (input : Input Mail OrderLine) (sent : List Mail) (turn : InTurn client after input sent)
-      (told : (m : Mail) → input ≡ Got m → (m.to ≡ client_actor asks.client) × IsTrue ahead base made h m m.body) (fresh : input ≡ Go → client.replies ≡ []) where
+  module _ (made : Command → Type 0) (h : Base → Steps) (asks : Asks) (client after : Client) (c : IsClient h asks client) (input : Input Mail OrderLine) (sent : List Mail) (turn : InTurn client after input sent)
+      (told : (m : Mail) → input ≡ Got m → (m.to ≡ client_actor asks.client) × IsNamed bases m.body × ((base : Base) → Among base bases → IsTrue ahead base made (h base) m m.body)) (fresh : input ≡ Go → client.replies ≡ []) where
     waited : Waits client after → IsClient h asks after × Grew h asks client.replies after.replies
     waited s = (
       record {
@@ -237,9 +254,10 @@ module _ (ahead : Ahead) (base : Base) where
     took s =
         let (m, where_from, got, body) = s.is_reply in
         let came = told m got in
-        let truth : IsTrueAnswer ahead base h m.to s.seq (Value s.reply) = subst (IsTrue ahead base made h m) body came.1 in
+        let one : IsOneOf bases where_from = subst (IsNamed bases) body came.1 in
+        let truth : IsTrueAnswer ahead one.0 (h one.0) m.to s.seq (Value s.reply) = (subst (IsTrue ahead one.0 made (h one.0) m) body (came.2 one.0 one.1)) (same_name where_from one.0.core.id one.2) in
         let number : s.seq ≡ length client.replies + 1 = subst (λ o. IsNextOf o (length client.replies)) s.waited c.waits in
-        let answer : IsAnswered h asks.client (length client.replies + 1) s.reply = (truth.0, truth.1, subst (λ n. HasEntry (done_by (birth ahead base) truth.0) asks.client n s.reply) number (truth.2 asks.client came.0)) in (
+        let answer : IsAnswered h asks.client (length client.replies + 1) s.reply = (one.0, one.1, subst (λ n. IsReplyAt ahead one.0 (h one.0) asks.client n s.reply) number (truth asks.client came.0)) in (
           record {
             me = turn.me ∙ c.me;
             requests = turn.requests ∙ c.requests;

@@ -25,10 +25,9 @@ use Rattle.sc_node_table.specs.Slots.{with_slot}
 use Rattle.sc_node_table.specs.Replica.{ReplicaState, Place, next, set_at}
 use Rattle.sc_node_table.specs.Execute.{has_room}
 use Rattle.sc_node_table.specs.Voting.{leads, promise_row, readied, vote_tallied, voted, accepted_row}
-use Rattle.sc_hist_law.specs.Laws.{LogTells}
 use Rattle.sc_players.specs.Players.{Ahead}
 use Rattle.sc_group_law.proofs.Growth.{IsLearnt}
-use Rattle.sc_group_law.proofs.Invariant.{Steps, rule, first, birth, IsFlying, IsTaken, Grants, IsReplica, next_after, Fine, turn}
+use Rattle.sc_group_law.proofs.Invariant.{Steps, rule, first, IsFlying, IsTaken, Grants, IsReplica, next_after, Fine, turn}
 use Rattle.sc_group_law.proofs.Parts.{among_without_flight, Each-without_flight}
 use Rattle.sc_group_law.proofs.Executing.{fine_executed}
 use Rattle.std.proofs.lemmas.List.{map-append}
@@ -87,11 +86,10 @@ still_ready (y ∷ es) slot c x (inl same) ne =
 still_ready (y ∷ es) slot c x (inr a) ne =
     cond_both (eqb y.0 slot) _ _ (Among x) (λ _. inr a) (λ _. cond_both (nat_lt slot y.0) _ _ (Among x) (λ _. inr (inr a)) (λ _. inr (still_ready es slot c x a ne)))
 
-module _ (ahead : Ahead) (base : Base) (made : Command → Type 0) (grants : Grants ahead base made) (me : ℕ) (before : Steps)
-    (some : (log : List Command) → Each made log → (node : ℕ) × (rest : List ℕ) × ((rule ahead base).members log ≡ node ∷ rest))
-    (law : (log : List Command) → Each made log → LogTells (birth ahead base) log) where
+module _ (ahead : Ahead) (base : Base) (made : Command → Type 0) (grants : Grants ahead base made) (me : ℕ) (older : List Mail) (before : Steps)
+    (some : (log : List Command) → Each made log → (node : ℕ) × (rest : List ℕ) × ((rule ahead base).members log ≡ node ∷ rest)) where
   abbrev Ok : Place → Type 0
-  Ok = Fine ahead base made me before
+  Ok = Fine ahead base made me older before
 
   abbrev Replica : Steps → ReplicaState → Type 0
   Replica h r = IsReplica ahead base made h me r
@@ -141,7 +139,7 @@ module _ (ahead : Ahead) (base : Base) (made : Command → Type 0) (grants : Gra
       let after = cond_both (same_ballot ballot r.leader.ballot && not (is_member r.leader.promisers from)) _ _
       (λ (x : Bool × LeaderState Command). Replica (f.newer ++ before) (record r { leader = x.1 }))
       (λ _. voter_replica (f.newer ++ before) from ballot reports start r f.replica parts.0 (ballot_is ballot r.leader.ballot parts.1) promised asked) (λ _. f.replica) in
-      fine_pumped ahead base made grants me before some _ (turn ahead base made me before r (record r { leader = (promise_counted from ballot reports r.leader).1 }) mails f after)))
+      fine_pumped ahead base made grants me older before some _ (turn ahead base made me older before r (record r { leader = (promise_counted from ballot reports r.leader).1 }) mails f after)))
       (λ _. f)
 
   -- ---- a vote
@@ -208,11 +206,11 @@ module _ (ahead : Ahead) (base : Base) (made : Command → Type 0) (grants : Gra
   unfolding readied turn
   readied_place slot c r mails f t runs =
       let after : ReplicaState = record r { leader = without_flight_at slot r.leader; ready = with_slot r.ready slot c } in
-      let place = turn ahead base made me before r after mails f (ready_replica (f.newer ++ before) slot c r f.replica t) in
+      let place = turn ahead base made me older before r after mails f (ready_replica (f.newer ++ before) slot c r f.replica t) in
       cond_both (eqb slot (next r) && has_room (record r { leader = without_flight_at slot r.leader })) _ _ Ok
       (λ e. (
       let parts = and_parts (eqb slot (next r)) (has_room (record r { leader = without_flight_at slot r.leader })) e in
-      fine_executed ahead base made grants me before some law true c after mails place
+      fine_executed ahead base made grants me older before some true c after mails place
       (subst (λ n. IsLearnt (rule ahead base) (f.newer ++ before) n c) (eqb-true slot (next r) parts.0) t) (λ _. runs)))
       (λ _. place)
 
@@ -263,7 +261,7 @@ module _ (ahead : Ahead) (base : Base) (made : Command → Type 0) (grants : Gra
         let voters = voters_after set from flight.voters in
         cond_both (is_majority set (kept_voters voters)) _ _ (λ (x : Counted Command × LeaderState Command). Ok (vote_tallied slot x (r, mails)))
         (λ most. readied_place slot flight.value r mails f (learnt_here flight there.0 at most) runs)
-        (λ _. turn ahead base made me before r (record r { leader = record r.leader { flights = with_voters slot voters r.leader.flights } }) mails f
+        (λ _. turn ahead base made me older before r (record r { leader = record r.leader { flights = with_voters slot voters r.leader.flights } }) mails f
         (voters_replica h slot voters r f.replica (λ g a same. (
         let flies = Each-among _ r.leader.flights g f.replica.flights a in
         (flies.0, Each-weaker _ _ (λ n x. subst (λ v. Among (Accepted n b g.slot v) h) (same_value g a same) (subst (λ m. Among (Accepted n b m d) h) (sym same) x)) (kept_voters voters) (accepted_by flight there.0 at))))))

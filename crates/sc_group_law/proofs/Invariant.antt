@@ -1,5 +1,5 @@
 -- What holds of each replica and of each mail after the steps so far, its parts named. A part of the table takes one place to the next, and keeps it.
-use Rattle.std.proofs.Common.{◌≡◌, ℕ, ◌+◌, ◌-◌, ◌<◌, ◌≤◌, true, List, [], ◌∷◌, ◌++◌, length, map, drop, Some, ◌⊎◌, inl, inr, refl, sym, ◌∙◌, ap, subst, arith}
+use Rattle.std.proofs.Common.{◌≡◌, ℕ, ◌+◌, ◌-◌, ◌<◌, ◌≤◌, true, List, [], ◌∷◌, ◌++◌, length, map, drop, Some, ◌⊎◌, inl, inr, refl, sym, ◌∙◌, ap, subst, append_assoc, arith}
 use Rattle.std.specs.Prelude.{slice_get}
 use Rattle.std.specs.List.{flat_map}
 use Rattle.std.proofs.Math.Nat.{max-le}
@@ -7,15 +7,17 @@ use Rattle.std.proofs.lemmas.List.{length_push, length-drop, drop-drop, drop-app
 use Rattle.sc_base.specs.Limits.{client_actor}
 use Rattle.sc_base.specs.declared.names.Ballot.{Ballot}
 use Rattle.sc_base.specs.declared.names.Draw.{Draw}
+use Rattle.sc_base.specs.declared.ops.Op.{Op}
+use Rattle.sc_base.specs.declared.ops.Reply.{Reply}
 use Rattle.sc_base.specs.Same.{same_draw}
 use Rattle.sc_cmd.specs.declared.commands.Command.{Command}
-use Rattle.sc_cmd.specs.declared.commands.Command.TheVariants.{Noop, Call, Join, Leave}
+use Rattle.sc_cmd.specs.declared.commands.Command.TheVariants.{Noop, Call}
 use Rattle.sc_cmd.specs.declared.cores.Base.{Base}
 use Rattle.sc_mail.specs.declared.bodies.AnswerBody.{AnswerBody}
 use Rattle.sc_mail.specs.declared.bodies.AnswerBody.TheVariants as Says
 use Rattle.sc_mail.specs.declared.bodies.Mail.{Mail}
 use Rattle.sc_mail.specs.declared.bodies.MailBody.{MailBody}
-use Rattle.sc_mail.specs.declared.bodies.MailBody.TheVariants.{Request, Answer, Prepare, Promise, Accept, Accepted as AcceptedMail, Learn, Install}
+use Rattle.sc_mail.specs.declared.bodies.MailBody.TheVariants.{Request, Answer, Prepare, Promise, Accept, Accepted as AcceptedMail, Nack, Learn, Ask, Install, TxPrepare, TxVote, TxOutcome, TxElsewhere, TxWatch, TxWatched, Told}
 use Rattle.sc_machine_table.specs.Group.{Group, group_of}
 use Rattle.sc_machine_table.specs.Machine.{applied}
 use Rattle.sc_base.specs.Among.{Among, Each}
@@ -30,9 +32,11 @@ use Rattle.sc_paxos_law.specs.Lawful.{CountedPromise, IsLawfulStep, IsLawfulHist
 use Rattle.sc_paxos_law.proofs.Among.{Among-right, Among-either}
 use Rattle.sc_paxos_law.proofs.Law.{later_log}
 use Rattle.sc_node_table.specs.Replica.{ReplicaState, Place, first_ballot, next, floor_of, forgotten}
-use Rattle.sc_ideal.specs.History.{HasEntry}
+use Rattle.sc_hist_law.specs.Laws.{IsReplied}
 use Rattle.sc_players.specs.Players.{Ahead}
-use Rattle.sc_machine_table.specs.Logs.{state_after, done_by}
+use Rattle.sc_machine_table.specs.Logs.{state_after}
+use Rattle.sc_cmd.specs.declared.orders.OrderLine.{OrderLine}
+use Rattle.sc_node_table.specs.Rows.{command_of}
 use Rattle.sc_sound.specs.Logs.{rule_of}
 use Rattle.sc_group_law.specs.Steps.{proposer_steps, asked_in}
 use Rattle.sc_machine_table.proofs.LogLemmas.{state_push}
@@ -71,11 +75,10 @@ module _ (ahead : Ahead) (base : Base) where
   abbrev pub IsTaken : LeaderState Command → List (ℕ × Command) → ℕ → Type 0
   IsTaken leader ready slot = ((flight : Flight Command) × Among flight leader.flights × (flight.slot ≡ slot)) ⊎ ((command : Command) × Among (slot, command) ready)
 
-  -- what no client requests: nothing, a join and a leave
+  -- which commands a replica of the group may queue besides requests: nothing, and what orders ask for
   pub record Grants (made : Command → Type 0) : Type 0 where
     pub noop : made Noop
-    pub joins : (node order : ℕ) → made (Join node order)
-    pub leaves : (node order : ℕ) → made (Leave node order)
+    pub asked : (line : OrderLine) (c : Command) → command_of line ≡ Some c → made c
 
   -- ---- what is held of the log
 
@@ -194,9 +197,16 @@ module _ (ahead : Ahead) (base : Base) where
 
   -- ---- what holds of mail
 
+  -- the log begins so, and the call that comes next in it has this reply, be it new or again
+  pub record IsReplyAt (h : Steps) (client seq : ℕ) (reply : Reply) : Type 0 where
+    pub front : List Command
+    pub op : Op
+    pub is_log : IsLog rule h (front ++ Call client seq op ∷ [])
+    pub replied : IsReplied (applied (state_after birth front) (Call client seq op)).1 reply
+
   -- a reply is that of an entry of the log
   abbrev pub IsTrueAnswer : Steps → ℕ → ℕ → AnswerBody → Type 0
-  IsTrueAnswer h to seq (Says.Value reply) = (log : List Command) × IsLog rule h log × ((client : ℕ) → to ≡ client_actor client → HasEntry (done_by birth log) client seq reply)
+  IsTrueAnswer h to seq (Says.Value reply) = (client : ℕ) → to ≡ client_actor client → IsReplyAt h client seq reply
   IsTrueAnswer h to seq _ = Unit {0}
 
   -- the group of a record is the state after a log up to a slot, and the sets are the members of the open slots after it
@@ -209,20 +219,56 @@ module _ (ahead : Ahead) (base : Base) where
     pub sets_are : AreSets log (slot + 1) sets
     pub many : length sets ≡ ahead.slots
 
+  -- a mail of a transaction is true: none is sent so far
+  abbrev pub IsHeard : MailBody → Type 0
+  IsHeard body = ⊥
+
+  -- a mail of a replica of the group names the group, where it names one
+  abbrev pub IsOwn : MailBody → Type 0
+  IsOwn (Request group client seq op) = ⊥
+  IsOwn (Answer group seq answer) = group ≡ name
+  IsOwn (Prepare group ballot from_slot) = group ≡ name
+  IsOwn (Promise group ballot reports) = group ≡ name
+  IsOwn (Accept group ballot slot command) = group ≡ name
+  IsOwn (AcceptedMail group ballot slot) = group ≡ name
+  IsOwn (Nack group promised) = group ≡ name
+  IsOwn (Learn group slot command) = group ≡ name
+  IsOwn (Ask group from_slot) = group ≡ name
+  IsOwn (Install group slot record_of sets) = group ≡ name
+  IsOwn (TxPrepare tx offer) = IsHeard (TxPrepare tx offer)
+  IsOwn (TxVote tx coord part vote) = IsHeard (TxVote tx coord part vote)
+  IsOwn (TxOutcome tx part outcome) = IsHeard (TxOutcome tx part outcome)
+  IsOwn (TxElsewhere tx coord hint) = IsHeard (TxElsewhere tx coord hint)
+  IsOwn (TxWatch tx watch) = IsHeard (TxWatch tx watch)
+  IsOwn (TxWatched tx coord part vote) = IsHeard (TxWatched tx coord part vote)
+  IsOwn (Told number result) = Unit {0}
+
   -- what a mail says is true of the steps
   abbrev pub IsTrue : (Command → Type 0) → Steps → Mail → MailBody → Type 0
   IsTrue made h mail (Request group client seq op) = made (Call client seq op)
-  IsTrue made h mail (Answer group seq answer) = IsTrueAnswer h mail.to seq answer
+  IsTrue made h mail (Answer group seq answer) = same_draw group name ≡ true → IsTrueAnswer h mail.to seq answer
   IsTrue made h mail (Prepare group ballot from_slot) = same_draw group name ≡ true → Among (Prepared ballot from_slot) h
   IsTrue made h mail (Promise group ballot reports) = same_draw group name ≡ true → (from : ℕ) × Among (Promised mail.from ballot from reports) h × Among (Prepared ballot from) h
   IsTrue made h mail (Accept group ballot slot command) = same_draw group name ≡ true → Among (Offered ballot slot command) h
   IsTrue made h mail (AcceptedMail group ballot slot) = same_draw group name ≡ true → (command : Command) × Among (Accepted mail.from ballot slot command) h
   IsTrue made h mail (Learn group slot command) = same_draw group name ≡ true → IsLearnt rule h slot command
-  IsTrue made h mail (Install group slot record_of sets) = (same_draw group name ≡ true) × IsState made h slot record_of sets
-  IsTrue made h mail _ = Unit {0}
+  IsTrue made h mail (Install group slot record_of sets) = same_draw group name ≡ true → IsState made h slot record_of sets
+  IsTrue made h mail (Nack group promised) = Unit {0}
+  IsTrue made h mail (Ask group from_slot) = Unit {0}
+  IsTrue made h mail (Told number result) = Unit {0}
+  IsTrue made h mail (TxPrepare tx offer) = IsHeard (TxPrepare tx offer)
+  IsTrue made h mail (TxVote tx coord part vote) = IsHeard (TxVote tx coord part vote)
+  IsTrue made h mail (TxOutcome tx part outcome) = IsHeard (TxOutcome tx part outcome)
+  IsTrue made h mail (TxElsewhere tx coord hint) = IsHeard (TxElsewhere tx coord hint)
+  IsTrue made h mail (TxWatch tx watch) = IsHeard (TxWatch tx watch)
+  IsTrue made h mail (TxWatched tx coord part vote) = IsHeard (TxWatched tx coord part vote)
+
+  -- a reply of the log stays one
+  pub grown_reply : (newer h : Steps) (client seq : ℕ) (reply : Reply) → IsReplyAt h client seq reply → IsReplyAt (newer ++ h) client seq reply
+  grown_reply newer h client seq reply t = record { front = t.front; op = t.op; is_log = later_logs rule newer h (t.front ++ Call client seq t.op ∷ []) t.is_log; replied = t.replied }
 
   grown_answer : (newer h : Steps) (to seq : ℕ) (answer : AnswerBody) → IsTrueAnswer h to seq answer → IsTrueAnswer (newer ++ h) to seq answer
-  grown_answer newer h to seq (Says.Value reply) t = (t.0, later_logs rule newer h t.0 t.1, t.2)
+  grown_answer newer h to seq (Says.Value reply) t = λ client e. grown_reply newer h client seq reply (t client e)
   grown_answer newer h to seq _ t = tt
 
   -- a state that is sent is true after more steps
@@ -233,14 +279,22 @@ module _ (ahead : Ahead) (base : Base) where
   -- what a mail says is true after more steps
   pub grown_true : (made more : Command → Type 0) → ((c : Command) → made c → more c) → (newer h : Steps) (mail : Mail) (body : MailBody) → IsTrue made h mail body → IsTrue more (newer ++ h) mail body
   grown_true made more f newer h mail (Request group client seq op) t = f (Call client seq op) t
-  grown_true made more f newer h mail (Answer group seq answer) t = grown_answer newer h mail.to seq answer t
+  grown_true made more f newer h mail (Answer group seq answer) t = λ e. grown_answer newer h mail.to seq answer (t e)
   grown_true made more f newer h mail (Prepare group ballot from_slot) t = λ e. Among-right _ newer h (t e)
   grown_true made more f newer h mail (Promise group ballot reports) t = λ e. (let k = t e in (k.0, Among-right _ newer h k.1, Among-right _ newer h k.2))
   grown_true made more f newer h mail (Accept group ballot slot command) t = λ e. Among-right _ newer h (t e)
   grown_true made more f newer h mail (AcceptedMail group ballot slot) t = λ e. (let k = t e in (k.0, Among-right _ newer h k.1))
   grown_true made more f newer h mail (Learn group slot command) t = λ e. grown_learnt rule newer h slot command (t e)
-  grown_true made more f newer h mail (Install group slot record_of sets) t = (t.0, grown_state made more f newer h slot record_of sets t.1)
-  grown_true made more f newer h mail _ t = tt
+  grown_true made more f newer h mail (Install group slot record_of sets) t = λ e. grown_state made more f newer h slot record_of sets (t e)
+  grown_true made more f newer h mail (Nack group promised) t = tt
+  grown_true made more f newer h mail (Ask group from_slot) t = tt
+  grown_true made more f newer h mail (Told number result) t = tt
+  grown_true made more f newer h mail (TxPrepare tx offer) t = t
+  grown_true made more f newer h mail (TxVote tx coord part vote) t = t
+  grown_true made more f newer h mail (TxOutcome tx part outcome) t = t
+  grown_true made more f newer h mail (TxElsewhere tx coord hint) t = t
+  grown_true made more f newer h mail (TxWatch tx watch) t = t
+  grown_true made more f newer h mail (TxWatched tx coord part vote) t = t
 
   -- ---- more steps
 
@@ -313,59 +367,77 @@ module _ (ahead : Ahead) (base : Base) where
     leads = k.leads;
   }
 
-  -- ---- a place in the middle of a row of a node, where these steps were taken before the row
+  -- ---- a place in the middle of a row of a node, where these mails were sent and these steps taken before the replica's part of the row
 
-  -- what holds in the middle of a row: the steps so far, the replica, and the mails
-  pub record Fine (made : Command → Type 0) (me : ℕ) (before : Steps) (place : Place) : Type 0 where
+  -- what holds in the middle of a row: the mails and the steps so far, and the replica
+  pub record Fine (made : Command → Type 0) (me : ℕ) (older : List Mail) (before : Steps) (place : Place) : Type 0 where
+    pub sent : List Mail
+    pub sent_is : place.1 ≡ older ++ sent
     pub newer : Steps
-    pub are : asked_in name place.1 before ≡ newer ++ before
+    pub are : asked_in name sent before ≡ newer ++ before
     pub by : Each (By me) newer
     pub lawful : IsLawfulHistory rule first (newer ++ before)
     pub requested : (b : Ballot) (slot : ℕ) (c : Command) → Among (Offered b slot c) (newer ++ before) → made c
     pub replica : IsReplica made (newer ++ before) me place.0
-    pub mails : (mail : Mail) → Among mail place.1 → IsTrue made (newer ++ before) mail mail.body
+    pub mails : (mail : Mail) → Among mail sent → IsTrue made (newer ++ before) mail mail.body
+    -- each of its mails names the group
+    pub own : (mail : Mail) → Among mail sent → IsOwn mail.body
 
   -- one mail more, and what it asks for
   pub asked_push : (mails : List Mail) (mail : Mail) (h : Steps) → asked_in name (mails ++ mail ∷ []) h ≡ proposer_steps name mail.body ++ asked_in name mails h
   asked_push [] mail h = refl
   asked_push (m ∷ mails) mail h = asked_push mails mail (proposer_steps name m.body ++ h)
 
-  module _ (made : Command → Type 0) (me : ℕ) (before : Steps) where
+  module _ (made : Command → Type 0) (me : ℕ) (older : List Mail) (before : Steps) where
     -- the replica changes, and no mail is sent
-    unfoldable pub turn : (r after : ReplicaState) (mails : List Mail) → (f : Fine made me before (r, mails)) → IsReplica made (f.newer ++ before) me after → Fine made me before (after, mails)
-    turn r after mails f k = record { newer = f.newer; are = f.are; by = f.by; lawful = f.lawful; requested = f.requested; replica = k; mails = f.mails }
+    unfoldable pub turn : (r after : ReplicaState) (mails : List Mail) → (f : Fine made me older before (r, mails)) → IsReplica made (f.newer ++ before) me after → Fine made me older before (after, mails)
+    turn r after mails f k = record { sent = f.sent; sent_is = f.sent_is; newer = f.newer; are = f.are; by = f.by; lawful = f.lawful; requested = f.requested; replica = k; mails = f.mails; own = f.own }
+
+    -- what is sent is put behind what was sent before
+    pub sent_more : (mails sent : List Mail) (mail : Mail) → mails ≡ older ++ sent → mails ++ mail ∷ [] ≡ older ++ (sent ++ mail ∷ [])
+    sent_more mails sent mail e = ap (λ ms. ms ++ mail ∷ []) e ∙ append_assoc older sent (mail ∷ [])
+
+    -- one mail more that names the group
+    pub own_more : (sent : List Mail) (mail : Mail) → ((m : Mail) → Among m sent → IsOwn m.body) → IsOwn mail.body → (m : Mail) → Among m (sent ++ mail ∷ []) → IsOwn m.body
+    own_more sent mail old new m a = elim (Among-either m sent (mail ∷ []) a) [ inl b ↦ old m b | inr (inl e) ↦ subst (λ (x : Mail). IsOwn x.body) e new | inr (inr n) ↦ absurd n ]
 
     -- a mail is sent that is no step
-    unfoldable pub says : (r : ReplicaState) (mails : List Mail) (mail : Mail) → (f : Fine made me before (r, mails)) → proposer_steps name mail.body ≡ [] → IsTrue made (f.newer ++ before) mail mail.body
-        → Fine made me before (r, mails ++ mail ∷ [])
-    says r mails mail f none t = record {
+    unfoldable pub says : (r : ReplicaState) (mails : List Mail) (mail : Mail) → (f : Fine made me older before (r, mails)) → proposer_steps name mail.body ≡ [] → IsOwn mail.body → IsTrue made (f.newer ++ before) mail mail.body
+        → Fine made me older before (r, mails ++ mail ∷ [])
+    says r mails mail f none own t = record {
+      sent = f.sent ++ mail ∷ [];
+      sent_is = sent_more mails f.sent mail f.sent_is;
       newer = f.newer;
-      are = asked_push mails mail before ∙ ap (λ s. s ++ asked_in name mails before) none ∙ f.are;
+      are = asked_push f.sent mail before ∙ ap (λ s. s ++ asked_in name f.sent before) none ∙ f.are;
       by = f.by;
       lawful = f.lawful;
       requested = f.requested;
       replica = f.replica;
-      mails = λ m a. elim (Among-either m mails (mail ∷ []) a) [
+      mails = λ m a. elim (Among-either m f.sent (mail ∷ []) a) [
         | inl b ↦ f.mails m b
         | inr (inl e) ↦ subst (λ (x : Mail). IsTrue made (f.newer ++ before) x x.body) e t
         | inr (inr n) ↦ absurd n
       ];
+      own = λ m a. own_more f.sent mail f.own own m a;
     }
 
     -- a mail is sent that is a step
-    unfoldable pub steps : (r after : ReplicaState) (mails : List Mail) (mail : Mail) (s : Step Command) → (f : Fine made me before (r, mails)) → proposer_steps name mail.body ≡ s ∷ [] → By me s
+    unfoldable pub steps : (r after : ReplicaState) (mails : List Mail) (mail : Mail) (s : Step Command) → (f : Fine made me older before (r, mails)) → proposer_steps name mail.body ≡ s ∷ [] → IsOwn mail.body → By me s
         → IsLawfulStep rule first s (f.newer ++ before) → ((b : Ballot) (slot : ℕ) (c : Command) → s ≡ Offered b slot c → made c)
-        → IsReplica made (s ∷ f.newer ++ before) me after → IsTrue made (s ∷ f.newer ++ before) mail mail.body → Fine made me before (after, mails ++ mail ∷ [])
-    steps r after mails mail s f one by law requested k t = record {
+        → IsReplica made (s ∷ f.newer ++ before) me after → IsTrue made (s ∷ f.newer ++ before) mail mail.body → Fine made me older before (after, mails ++ mail ∷ [])
+    steps r after mails mail s f one own by law requested k t = record {
+      sent = f.sent ++ mail ∷ [];
+      sent_is = sent_more mails f.sent mail f.sent_is;
       newer = s ∷ f.newer;
-      are = asked_push mails mail before ∙ ap (λ x. x ++ asked_in name mails before) one ∙ ap (λ (x : Steps). s ∷ x) f.are;
+      are = asked_push f.sent mail before ∙ ap (λ x. x ++ asked_in name f.sent before) one ∙ ap (λ (x : Steps). s ∷ x) f.are;
       by = (by, f.by);
       lawful = (law, f.lawful);
       requested = λ b slot c a. elim a [ inl e ↦ requested b slot c e | inr o ↦ f.requested b slot c o ];
       replica = k;
-      mails = λ m a. elim (Among-either m mails (mail ∷ []) a) [
+      mails = λ m a. elim (Among-either m f.sent (mail ∷ []) a) [
         | inl b ↦ grown_true made made (λ c p. p) (s ∷ []) (f.newer ++ before) m m.body (f.mails m b)
         | inr (inl e) ↦ subst (λ (x : Mail). IsTrue made (s ∷ f.newer ++ before) x x.body) e t
         | inr (inr n) ↦ absurd n
       ];
+      own = λ m a. own_more f.sent mail f.own own m a;
     }

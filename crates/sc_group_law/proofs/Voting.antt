@@ -30,13 +30,12 @@ use Rattle.sc_node_table.specs.Install.{install_to}
 use Rattle.sc_node_table.specs.Election.{ended, saw}
 use Rattle.sc_node_table.specs.Replica.{ReplicaState, Place, name_of}
 use Rattle.sc_node_table.specs.Voting.{hinted, promise_to, promised, prepare_row, accepted_to, took, accept_row}
-use Rattle.sc_hist_law.specs.Laws.{LogTells}
 use Rattle.sc_sound.specs.Accepts.{is_accepted}
 use Rattle.sc_players.specs.Players.{Ahead}
 use Rattle.sc_group_law.specs.Steps.{asked_in, promised_by}
 use Rattle.sc_group_law.proofs.Growth.{By, later_learnt}
 use Rattle.sc_group_law.proofs.Held.{Mirrors, promise_mirrors, accept_mirrors}
-use Rattle.sc_group_law.proofs.Invariant.{Steps, rule, first, birth, Grants, later_has, IsReplica, IsTrue, Fine, later_flying, grown_true, asked_push, says}
+use Rattle.sc_group_law.proofs.Invariant.{Steps, rule, first, Grants, later_has, IsReplica, IsOwn, IsTrue, Fine, later_flying, grown_true, asked_push, says}
 use Rattle.sc_group_law.proofs.Sending.{name_is, fine_saw}
 use Rattle.sc_group_law.proofs.Executing.{hint_replica}
 use Rattle.sc_group_law.proofs.Welcoming.{installed_place}
@@ -160,12 +159,12 @@ pub record Ended (ahead : Ahead) (base : Base) (made : Command → Type 0) (me :
   pub requested : (b : Ballot) (slot : ℕ) (c : Command) → Among (Offered b slot c) (newer ++ before) → made c
   pub replica : IsReplica ahead base made (newer ++ before) me place.0
   pub mails : (mail : Mail) → Among mail place.1 → IsTrue ahead base made (newer ++ before) mail mail.body
+  pub own : (mail : Mail) → Among mail place.1 → IsOwn ahead base mail.body
 
 module _ (ahead : Ahead) (base : Base) (made : Command → Type 0) (grants : Grants ahead base made) (me : ℕ) (before : Steps)
-    (some : (log : List Command) → Each made log → (node : ℕ) × (rest : List ℕ) × ((rule ahead base).members log ≡ node ∷ rest))
-    (law : (log : List Command) → Each made log → LogTells (birth ahead base) log) where
+    (some : (log : List Command) → Each made log → (node : ℕ) × (rest : List ℕ) × ((rule ahead base).members log ≡ node ∷ rest)) where
   abbrev Ok : Place → Type 0
-  Ok = Fine ahead base made me before
+  Ok = Fine ahead base made me [] before
 
   abbrev Replica : Steps → ReplicaState → Type 0
   Replica h r = IsReplica ahead base made h me r
@@ -175,7 +174,16 @@ module _ (ahead : Ahead) (base : Base) (made : Command → Type 0) (grants : Gra
 
   -- a row that votes for nothing
   pub ended_by : (place : Place) (after : Steps) → Ok place → after ≡ asked_in group place.1 before → Ended ahead base made me before after place
-  ended_by place after f e = record { newer = f.newer; are = e ∙ f.are; by = f.by; lawful = f.lawful; requested = f.requested; replica = f.replica; mails = f.mails }
+  ended_by place after f e = record {
+    newer = f.newer;
+    are = e ∙ ap (λ ms. asked_in group ms before) f.sent_is ∙ f.are;
+    by = f.by;
+    lawful = f.lawful;
+    requested = f.requested;
+    replica = f.replica;
+    mails = λ m a. f.mails m (subst (Among m) f.sent_is a);
+    own = λ m a. f.own m (subst (Among m) f.sent_is a);
+  }
 
   -- an acceptor's step
   acceptor_replica : (s : Step Command) (h : Steps) (r : ReplicaState) (acceptor : AcceptorState Command) → Replica h r → Mirrors acceptor (state_of (first ahead base) me (s ∷ h))
@@ -207,14 +215,14 @@ module _ (ahead : Ahead) (base : Base) (made : Command → Type 0) (grants : Gra
   }
 
   hinted_replica : (h : Steps) (b : Ballot) (r : ReplicaState) → Replica h r → Replica h (hinted b r)
-  hinted_replica h b r k = cond_both r.running r (record r { hint = Some b.node }) (Replica h) (λ _. k) (λ _. hint_replica ahead base made grants me before some law h r (Some b.node) k)
+  hinted_replica h b r k = cond_both r.running r (record r { hint = Some b.node }) (Replica h) (λ _. k) (λ _. hint_replica ahead base made grants me [] before some h r (Some b.node) k)
 
   -- a row of one acceptor's step
   acceptor_ended : (s : Step Command) (b : Ballot) (r : ReplicaState) (mails : List Mail) (mail : Mail) (acceptor : AcceptorState Command) (after : Steps) → (f : Ok (r, mails)) → after ≡ s ∷ f.newer ++ before → By me s
       → IsLawfulStep (rule ahead base) (first ahead base) s (f.newer ++ before) → Mirrors acceptor (state_of (first ahead base) me (s ∷ f.newer ++ before))
       → ((b : Ballot) (slot : ℕ) (c : Command) → s ≡ Offered b slot c → ⊥) → ((b : Ballot) (from : ℕ) → s ≡ Prepared b from → ⊥)
-      → IsTrue ahead base made (s ∷ f.newer ++ before) mail mail.body → Ended ahead base made me before after (hinted b (record r { acceptor = acceptor }), mails ++ mail ∷ [])
-  acceptor_ended s b r mails mail acceptor after f are by law_of is no_offer no_prepare t = record {
+      → IsOwn ahead base mail.body → IsTrue ahead base made (s ∷ f.newer ++ before) mail mail.body → Ended ahead base made me before after (hinted b (record r { acceptor = acceptor }), mails ++ mail ∷ [])
+  acceptor_ended s b r mails mail acceptor after f are by law_of is no_offer no_prepare own t = record {
     newer = s ∷ f.newer;
     are = are;
     by = (by, f.by);
@@ -222,8 +230,13 @@ module _ (ahead : Ahead) (base : Base) (made : Command → Type 0) (grants : Gra
     requested = λ d slot c a. elim a [ inl e ↦ absurd (no_offer d slot c e) | inr o ↦ f.requested d slot c o ];
     replica = hinted_replica (s ∷ f.newer ++ before) b (record r { acceptor = acceptor }) (acceptor_replica s (f.newer ++ before) r acceptor f.replica is no_offer no_prepare);
     mails = λ m a. elim (Among-either m mails (mail ∷ []) a) [
-      | inl old ↦ grown_true ahead base made made (λ c p. p) (s ∷ []) (f.newer ++ before) m m.body (f.mails m old)
+      | inl old ↦ grown_true ahead base made made (λ c p. p) (s ∷ []) (f.newer ++ before) m m.body (f.mails m (subst (Among m) f.sent_is old))
       | inr (inl e) ↦ subst (λ (x : Mail). IsTrue ahead base made (s ∷ f.newer ++ before) x x.body) e t
+      | inr (inr n) ↦ absurd n
+    ];
+    own = λ m a. elim (Among-either m mails (mail ∷ []) a) [
+      | inl old ↦ f.own m (subst (Among m) f.sent_is old)
+      | inr (inl e) ↦ subst (λ (x : Mail). IsOwn ahead base x.body) e own
       | inr (inr n) ↦ absurd n
     ];
   }
@@ -248,7 +261,7 @@ module _ (ahead : Ahead) (base : Base) (made : Command → Type 0) (grants : Gra
         let h = f.newer ++ before in
         let k = f.replica in
         let s : Step Command = Promised me ballot from_slot reports in
-        let named = name_is ahead base made me before h r k in
+        let named = name_is ahead base made me [] before h r k in
         let state = state_of (first ahead base) me h in
         let above = leb-false from_slot r.acceptor.floor low in
         let under = k.acceptor_is.low in
@@ -256,25 +269,25 @@ module _ (ahead : Ahead) (base : Base) (made : Command → Type 0) (grants : Gra
         (and_from (same_draw (name_of r) group) (same_ballot ballot ballot) (same_name (name_of r) group named) (ballot_itself ballot)) in
         acceptor_ended s ballot r mails answer (after_promise ballot r.acceptor) _ f
         (ap (λ (x : Steps). x ++ asked_in group (mails ++ answer ∷ []) before) (one_promise group me ballot from_slot mails answer replies ∙ is_promise)
-        ∙ ap (λ (x : Steps). s ∷ x) (asked_push ahead base mails answer before ∙ f.are))
+        ∙ ap (λ (x : Steps). s ∷ x) (asked_push ahead base mails answer before ∙ ap (λ ms. asked_in group ms before) f.sent_is ∙ f.are))
         refl (
           subst (λ promised. below promised ballot ≡ true) k.acceptor_is.promised_is may,
           omega (arith, above, under),
           k.acceptor_is.reports_are from_slot above,
         )
         (subst (Mirrors (after_promise ballot r.acceptor)) (sym (own_state me (after_promise ballot state) state)) (promise_mirrors ballot r.acceptor state k.acceptor_is))
-        (λ b slot c e. cc) (λ b start e. cc)
+        (λ b slot c e. cc) (λ b start e. cc) named
         (λ _. (from_slot, inl (ap (λ n. Promised n ballot from_slot reports) (sym k.me_is)), inr asked))
 
     promised_ended : After (promised from ballot from_slot (r, mails))
     unfolding promised install_to
     promised_ended =
         cond_both (nat_le from_slot r.acceptor.floor) _ _ After
-        (λ _. quiet (install_to from (r, mails)) (installed_place ahead base made me before from r mails f) (Each-append _ mails _ replies (tt, tt)))
+        (λ _. quiet (install_to from (r, mails)) (installed_place ahead base made me [] before from r mails f) (Each-append _ mails _ replies (tt, tt)))
         (λ low. cond_both (may_promise r.acceptor ballot) _ _ (λ (x : PrepareAnswer Command × AcceptorState Command). After (promise_to from ballot x (r, mails)))
         (λ may. promise_made low may)
         (λ _. (let nack : Mail = record { from = r.me; to = from; body = Nack (name_of r) r.acceptor.promised } in
-        quiet (r, mails ++ nack ∷ []) (says ahead base made me before r mails nack f refl tt) (Each-append _ mails (nack ∷ []) replies (tt, tt)))))
+        quiet (r, mails ++ nack ∷ []) (says ahead base made me [] before r mails nack f refl (name_is ahead base made me [] before (f.newer ++ before) r f.replica) tt) (Each-append _ mails (nack ∷ []) replies (tt, tt)))))
 
   -- ---- Accept
 
@@ -297,28 +310,28 @@ module _ (ahead : Ahead) (base : Base) (made : Command → Type 0) (grants : Gra
         let k = f.replica in
         let s : Step Command = Accepted me ballot slot c in
         let state = state_of (first ahead base) me h in
-        let named = name_is ahead base made me before h r k in
+        let named = name_is ahead base made me [] before h r k in
         let is_vote : is_accepted group ballot slot vote.body ≡ true = and_from (same_draw (name_of r) group && same_ballot ballot ballot) (eqb slot slot)
         (and_from (same_draw (name_of r) group) (same_ballot ballot ballot) (same_name (name_of r) group named) (ballot_itself ballot)) (eq-eqb slot slot refl) in
         let one : accepted_in group me ballot slot c (mails ++ vote ∷ []) ≡ s ∷ [] = cond-true (same_draw group group && list_any (λ (m : Mail). is_accepted group ballot slot m.body) (mails ++ vote ∷ [])) (s ∷ []) []
         (and_from (same_draw group group) _ (same_name group group refl) (one_accepted group ballot slot mails vote replies is_vote)) in
         acceptor_ended s ballot r mails vote (after_accept report r.acceptor) _ f
-        (ap (λ (x : Steps). x ++ asked_in group (mails ++ vote ∷ []) before) one ∙ ap (λ (x : Steps). s ∷ x) (asked_push ahead base mails vote before ∙ f.are))
+        (ap (λ (x : Steps). x ++ asked_in group (mails ++ vote ∷ []) before) one ∙ ap (λ (x : Steps). s ∷ x) (asked_push ahead base mails vote before ∙ ap (λ ms. asked_in group ms before) f.sent_is ∙ f.are))
         refl
         (subst (λ promised. not (below ballot promised) ≡ true) k.acceptor_is.promised_is may, offer)
         (subst (Mirrors (after_accept report r.acceptor)) (sym (own_state me (after_accept report state) state)) (accept_mirrors report r.acceptor state k.acceptor_is))
-        (λ b at d e. cc) (λ b start e. cc)
+        (λ b at d e. cc) (λ b start e. cc) named
         (λ _. (c, inl (ap (λ n. Accepted n ballot slot c) (sym k.me_is))))
 
     took_ended : Then (took from report (r, mails))
     unfolding took install_to
     took_ended =
         cond_both (nat_le slot r.acceptor.floor) _ _ Then
-        (λ _. still (install_to from (r, mails)) (installed_place ahead base made me before from r mails f) (Each-append _ mails _ replies (tt, tt)))
+        (λ _. still (install_to from (r, mails)) (installed_place ahead base made me [] before from r mails f) (Each-append _ mails _ replies (tt, tt)))
         (λ low. cond_both (may_accept r.acceptor ballot) _ _ (λ (x : AcceptAnswer × AcceptorState Command). Then (accepted_to from ballot slot x (r, mails)))
         (λ may. acceptance may)
         (λ _. (let nack : Mail = record { from = r.me; to = from; body = Nack (name_of r) r.acceptor.promised } in
-        still (r, mails ++ nack ∷ []) (says ahead base made me before r mails nack f refl tt) (Each-append _ mails (nack ∷ []) replies (tt, tt)))))
+        still (r, mails ++ nack ∷ []) (says ahead base made me [] before r mails nack f refl (name_is ahead base made me [] before (f.newer ++ before) r f.replica) tt) (Each-append _ mails (nack ∷ []) replies (tt, tt)))))
 
   -- ---- the rows
 
@@ -327,7 +340,7 @@ module _ (ahead : Ahead) (base : Base) (made : Command → Type 0) (grants : Gra
       → Ended ahead base made me before (promised_in group me ballot from_slot (prepare_row from ballot from_slot (r, [])).1 ++ asked_in group (prepare_row from ballot from_slot (r, [])).1 before) (prepare_row from ballot from_slot (r, []))
   unfolding prepare_row
   prepare_ended from ballot from_slot r f asked =
-      let seen = fine_saw ahead base made me before ballot r [] f in
+      let seen = fine_saw ahead base made me [] before ballot r [] f in
       let place = saw ballot (r, []) in
       promised_ended from ballot from_slot place.0 place.1 seen (saw_replies ballot r [] tt) (Among-right (Prepared ballot from_slot) seen.newer before asked)
 
@@ -336,6 +349,6 @@ module _ (ahead : Ahead) (base : Base) (made : Command → Type 0) (grants : Gra
       → Ended ahead base made me before (accepted_in group me ballot slot c (accept_row from ballot slot c (r, [])).1 ++ asked_in group (accept_row from ballot slot c (r, [])).1 before) (accept_row from ballot slot c (r, []))
   unfolding accept_row
   accept_ended from ballot slot c r f offer =
-      let seen = fine_saw ahead base made me before ballot r [] f in
+      let seen = fine_saw ahead base made me [] before ballot r [] f in
       let place = saw ballot (r, []) in
       took_ended from ballot slot c place.0 place.1 seen (saw_replies ballot r [] tt) (Among-right (Offered ballot slot c) seen.newer before offer)

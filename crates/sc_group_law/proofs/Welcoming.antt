@@ -15,11 +15,10 @@ use Rattle.sc_players.specs.Players.{Ahead}
 use Rattle.sc_machine_table.proofs.Parts.{group_again}
 use Rattle.sc_group_law.proofs.Invariant.{Steps, AreSets, next_after, Fine, says}
 use Rattle.sc_group_law.proofs.Sending.{name_is, prepared_all}
-use Rattle.sc_base.proofs.NameLemmas.{same_name}
 
-module _ (ahead : Ahead) (base : Base) (made : Command → Type 0) (me : ℕ) (before : Steps) where
+module _ (ahead : Ahead) (base : Base) (made : Command → Type 0) (me : ℕ) (older : List Mail) (before : Steps) where
   abbrev Ok : Place → Type 0
-  Ok = Fine ahead base made me before
+  Ok = Fine ahead base made me older before
 
   -- the state is sent
   pub installed_place : (node : ℕ) (r : ReplicaState) (mails : List Mail) → Ok (r, mails) → Ok (install_to node (r, mails))
@@ -29,24 +28,22 @@ module _ (ahead : Ahead) (base : Base) (made : Command → Type 0) (me : ℕ) (b
       let k = f.replica in
       let at = next_after ahead base made h me r k in
       let last : length k.whole ≡ next r - 1 = omega (arith, at) in
-      says ahead base made me before r mails (record { from = r.me; to = node; body = Install (name_of r) (next r - 1) (base_of r.group) r.sets }) f refl (
-        same_name (name_of r) base.core.id (name_is ahead base made me before h r k),
-        record {
-          log = k.whole;
-          is_log = k.log_is.is_log;
-          count = last;
-          group_is = group_again r.group ∙ k.log_is.group_is;
-          all_made = k.log_is.all_made;
-          sets_are = subst (λ n. AreSets ahead base k.whole (n + 1) r.sets) last k.sets;
-          many = k.count;
-        },
-      )
+      says ahead base made me older before r mails (record { from = r.me; to = node; body = Install (name_of r) (next r - 1) (base_of r.group) r.sets }) f refl (name_is ahead base made me older before h r k)
+      (λ _. record {
+        log = k.whole;
+        is_log = k.log_is.is_log;
+        count = last;
+        group_is = group_again r.group ∙ k.log_is.group_is;
+        all_made = k.log_is.all_made;
+        sets_are = subst (λ n. AreSets ahead base k.whole (n + 1) r.sets) last k.sets;
+        many = k.count;
+      })
 
   asked_place : (node : ℕ) (r : ReplicaState) (mails : List Mail) → Ok (r, mails) → r.running ≡ true → Ok (asked_to_promise node (r, mails))
   unfolding sent_all
   asked_place node r mails f runs =
       cond_both r.leader.is_first (r, mails) (r, sent r.me node (Prepare (name_of r) r.leader.ballot (next r)) mails) Ok (λ _. f)
-      (λ _. prepared_all ahead base made me before (node ∷ []) r mails r.leader.ballot (next r) f (f.replica.leads runs).own (omega arith))
+      (λ _. prepared_all ahead base made me older before (node ∷ []) r mails r.leader.ballot (next r) f (f.replica.leads runs).own (omega arith))
 
   asked_same : (node : ℕ) (r : ReplicaState) (mails : List Mail) → (asked_to_promise node (r, mails)).0 ≡ r
   asked_same node r mails = cond_both {A = Place} r.leader.is_first (r, mails) (r, sent r.me node (Prepare (name_of r) r.leader.ballot (next r)) mails) (λ p. p.0 ≡ r) (λ _. refl) (λ _. refl)

@@ -1,4 +1,5 @@
 pub mod Example
+pub mod Groups
 pub mod JoinExample
 pub mod Laws
 pub mod OneGroup

@@ -7,7 +7,7 @@ use Rattle.sc_players.specs.Players.{Lawful}
 use Rattle.sc_sound.specs.Example.{four}
 use Rattle.sc_sound.specs.Soundness.{IsSound}
 use Rattle.sc_sound_law.specs.LoneGroup.{HasLoneGroup}
-use Rattle.sc_sound_law.proofs.Sound.{lone_journals_sound}
+use Rattle.sc_sound_law.proofs.Lone.{lone_journals_sound}
 
 -- its group has the whole circle
 pub election_has_lone_group : HasOneGroup election_scenario three_nodes → HasLoneGroup election_scenario

@@ -1,8 +1,10 @@
 pub mod Circle
 pub mod Example
 pub mod Groups
-pub mod Placed
-pub mod Places
+pub mod Lone
+pub mod Placing
+pub mod Quiet
 pub mod Sound
+pub mod Times
 pub mod Valid
 pub mod Worlds

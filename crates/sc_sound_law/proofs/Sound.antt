@@ -1,180 +1,287 @@
--- Each first part of a lawful journal of one group is sound, as that is said of any number of groups.
-use Rattle.std.proofs.Common.{◌≡◌, ℕ, ◌+◌, nat_lt, cond, List, [], ◌∷◌, ◌++◌, length, take, Some, inl, inr, refl, sym, ◌∙◌, ap, subst, append_assoc}
-use Rattle.std.specs.FinMap.{empty}
+-- Each first part of a lawful journal with any number of groups is sound, where their entries make one map.
+use Rattle.std.proofs.Common.{◌≡◌, ℕ, ◌+◌, ◌-◌, ◌<◌, ◌≤◌, eqb, List, [], ◌∷◌, ◌++◌, length, map, Some, None, inl, inr, refl, sym, ◌∙◌, ap, subst, arith}
 use Rattle.std.specs.Prelude.{slice_get}
-use Rattle.sc_base.specs.Among.{Among}
+use Rattle.std.specs.List.{AllPairs}
+use Rattle.std.proofs.lemmas.Bool.{cases_Bool, cases_lt, eqb-false, cond-true, cond-false}
+use Rattle.std.proofs.lemmas.Option.{slice_get_within, get_or_from_slice_get}
+use Rattle.sc_base.specs.Among.{Among, Each}
+use Rattle.sc_base.specs.declared.ops.Reply.{Reply}
+use Rattle.sc_base.proofs.NameLemmas.{same_name}
 use Rattle.sc_cmd.specs.declared.commands.Command.{Command}
+use Rattle.sc_cmd.specs.declared.commands.Command.TheVariants.{Call}
 use Rattle.sc_cmd.specs.declared.cores.Base.{Base}
+use Rattle.sc_cmd.specs.declared.orders.OrderLine.{OrderLine}
+use Rattle.sc_mail.specs.declared.bodies.Mail.{Mail}
+use Rattle.sc_actor.specs.declared.rows.Row.{Row}
+use Rattle.sc_actor.specs.Steps.{IsStep}
+use Rattle.sc_actor.proofs.Induction.{lawful-induction}
 use Rattle.sc_actor.proofs.WalkLemmas.{lawful-prefix}
-use Rattle.sc_ideal.specs.History.{HasEntry, Legal, contents_after}
+use Rattle.sc_ideal.specs.History.{HasEntry, AreApart as AreApartEntries}
 use Rattle.sc_ideal.specs.declared.Entry.{Entry}
 use Rattle.sc_machine_table.specs.Group.{Group, group_of}
-use Rattle.sc_machine_table.specs.Logs.{done_by}
+use Rattle.sc_node_table.specs.Node.{NodeState}
 use Rattle.sc_node_table.specs.Replica.{ReplicaState, name_of}
+use Rattle.sc_paxos_words.proofs.ListLemmas.{Each-among, Each-weaker}
+use Rattle.sc_paxos_law.proofs.Among.{place_among}
+use Rattle.sc_scenario.specs.declared.scenarios.Asks.{Asks}
 use Rattle.sc_scenario.specs.declared.scenarios.Scenario.{Scenario}
-use Rattle.sc_players.specs.Players.{route_of, schedule, Ahead, system_of, Lawful}
-use Rattle.sc_entries.specs.Worlds.{StoreWorld, named_group}
+use Rattle.sc_players.specs.Players.{route_of, schedule, Ahead, system_of, Lawful, Player, replies_of}
+use Rattle.sc_players.specs.declared.roles.Role.TheVariants.{Node as ANode}
+use Rattle.sc_entries.specs.Worlds.{StoreWorld, is_named, named_group}
+use Rattle.sc_hist_law.specs.Laws.{LeavesWhole, LogTells}
 use Rattle.sc_hist_law.proofs.Logs.{state_same}
-use Rattle.sc_sound.specs.GroupsOf.{groups_at, state_at, world_at, history_at}
-use Rattle.sc_sound.specs.Histories.{history, decided_from}
-use Rattle.sc_sound.specs.Logs.{decided_log}
-use Rattle.sc_sound.specs.Requests.{kept_reply, answer_row}
-use Rattle.sc_sound.specs.Soundness.{GoesOn, HasOneLog, HasRun, IsOneMap, AnswersRequests, told_from, IsTimely, KeepsRealTime, IsSound}
-use Rattle.sc_group_law.specs.Laws.{IsSoundForOne}
-use Rattle.sc_group_law.specs.OneGroup.{HasOneGroup}
+use Rattle.sc_sound.specs.GroupsOf.{groups_at, state_at, world_at, history_at, entries_at}
+use Rattle.sc_sound.specs.Histories.{history}
+use Rattle.sc_sound.specs.Logs.{decided_log, decided_state}
+use Rattle.sc_sound.specs.Requests.{IsRequest, kept_replies, kept_reply, answer_row}
+use Rattle.sc_sound.specs.Soundness.{GoesOn, HasOneLog, HasRun, AllHaveRun, IsOneMap, AnswersRequests, told_row, IsTimely, KeepsRealTime, IsSound}
+use Rattle.sc_group_law.specs.Groups.{AreApart, HasGroups}
 use Rattle.sc_group_law.specs.Told.{HasExecuted}
-use Rattle.sc_group_law.proofs.Journal.{entries_whole}
-use Rattle.sc_group_law.proofs.Sound.{all_keep, journals_sound}
-use Rattle.sc_sound_law.specs.LoneGroup.{IsLone}
-use Rattle.sc_sound_law.specs.Laws.{LoneJournalsAreSound}
-use Rattle.sc_sound_law.proofs.Groups.{Rows, IsUndivided, groups_are, log_is, state_is, world_is}
-use Rattle.sc_sound_law.proofs.Places.{IsPlaceOf, place_of, has_both, same_order}
-use Rattle.sc_sound_law.proofs.Placed.{one_map}
-use Rattle.sc_sound_law.proofs.Worlds.{lone_world, found}
+use Rattle.sc_group_law.proofs.Births.{some_of, tells_of, at_birth}
+use Rattle.sc_group_law.proofs.Clients.{Made, IsAnswered}
+use Rattle.sc_group_law.proofs.Family.{h_of, entry_offered, push, entries_whole}
+use Rattle.sc_group_law.proofs.Holding.{held}
+use Rattle.sc_group_law.proofs.Names.{IsOneOf}
+use Rattle.sc_group_law.proofs.Nodes.{IsNode}
+use Rattle.sc_group_law.proofs.Replicated.{one_value, is_log, executed_is, goes_on}
+use Rattle.sc_group_law.proofs.Replies.{reply_told}
+use Rattle.sc_group_law.proofs.Walked.{moved}
+use Rattle.sc_sound_law.specs.Together.{IsPlainEntry, StartTogether, TellOneHistory}
+use Rattle.sc_entries.specs.declared.LogEntry.{LogEntry}
+use Rattle.sc_sound_law.proofs.Placing.{quiet_after, placed_world}
+use Rattle.sc_sound_law.specs.Laws.{SeveralJournalsAreSound}
+use Rattle.sc_sound_law.proofs.Groups.{Rows, not_same, apart_from, AreUndivided, groups_are, log_is, state_is}
+use Rattle.sc_sound_law.proofs.Times.{plain_whole, among_place, told_in_order, K, Timed, push_timed, first_timed}
 
-same_head : (one other : Base) (others : List Base) → one ∷ [] ≡ other ∷ others → one ≡ other
-same_head one other others e = cc
+same_first : (one other : Base) (rest others : List Base) → one ∷ rest ≡ other ∷ others → one ≡ other
+same_first one other rest others e = cc
 
-module _ (ahead : Ahead) (words : ℕ → ℕ → ℕ × ℕ) (any : Scenario) (base : Base) (one : HasOneGroup (record any { groups = base ∷ [] }) base) (lone : IsLone base) where
+-- two entries of one request stand at one place
+one_place : (es : List Entry) → AllPairs AreApartEntries es → (p q : ℕ) (e f : Entry) → slice_get es p ≡ Some e → slice_get es q ≡ Some f → e.client ≡ f.client → e.seq ≡ f.seq → p ≡ q
+one_place es once p q e f at there who number =
+    elim (cases_lt p q) [
+      | inl lt ↦ absurd (not_before p q e f at there lt who number)
+      | inr ge ↦ elim (cases_lt q p) [ inl lt ↦ absurd (not_before q p f e there at lt (sym who) (sym number)) | inr le ↦ omega (arith, ge, le) ]
+    ]
+  where
+    not_before : (i j : ℕ) (a b : Entry) → slice_get es i ≡ Some a → slice_get es j ≡ Some b → i < j → a.client ≡ b.client → a.seq ≡ b.seq → ⊥
+    not_before i j a b at_i at_j lt who number =
+        let apart = once i j a lt (slice_get_within es j b at_j) in
+        apart
+        (ap (λ (x : Entry). x.client) (get_or_from_slice_get es i a a at_i) ∙ who ∙ sym (ap (λ (x : Entry). x.client) (get_or_from_slice_get es j b a at_j)))
+        (ap (λ (x : Entry). x.seq) (get_or_from_slice_get es i a a at_i) ∙ number ∙ sym (ap (λ (x : Entry). x.seq) (get_or_from_slice_get es j b a at_j)))
+
+-- a group is found by its name
+found_in : (f : Base → Group) (bases : List Base) → AreApart bases → ((b : Base) → Among b bases → (f b).core.id ≡ b.core.id) → (base : Base) → Among base bases → named_group base.core.id (map f bases) ≡ Some (f base)
+found_in f [] apart named base a = absurd a
+found_in f (b ∷ bases) apart named base (inl is) =
+    cond-true (is_named base.core.id (f b)) (Some (f b)) (named_group base.core.id (map f bases)) (same_name (f b).core.id base.core.id (named b (inl refl) ∙ ap (λ (x : Base). x.core.id) is))
+    ∙ ap (λ (x : Base). Some (f x)) is
+found_in f (b ∷ bases) apart named base (inr a) =
+    cond-false (is_named base.core.id (f b)) (Some (f b)) (named_group base.core.id (map f bases))
+    (not_same (f b).core.id base.core.id (λ same. apart_from b bases apart.0 base a (sym same ∙ named b (inl refl))))
+    ∙ found_in f bases apart.1 (λ c there. named c (inr there)) base a
+
+module _ (ahead : Ahead) (words : ℕ → ℕ → ℕ × ℕ) (any : Scenario) (base : Base) (others : List Base) (has : HasGroups (record any { groups = base ∷ others }) base others)
+    (start : StartTogether (base ∷ others)) (tell : TellOneHistory (record any { groups = base ∷ others }) (base ∷ others)) where
   abbrev scenario : Scenario
-  scenario = record any { groups = base ∷ [] }
+  scenario = record any { groups = base ∷ others }
 
   abbrev bases : List Base
-  bases = base ∷ []
+  bases = base ∷ others
 
-  abbrev IsCourse : Rows → Type 0
-  IsCourse rows = Lawful ahead words scenario rows
+  abbrev Holding : Rows → Type 0
+  Holding rows = K ahead scenario base others has.apart rows × Timed ahead scenario base others has.apart rows
 
-  abbrev log_in : Rows → List Command
-  log_in rows = decided_log ahead base rows
+  law : (b : Base) → Among b bases → (log : List Command) → Each LeavesWhole log → LogTells (group_of b) log
+  law b a = tells_of ahead b (has.empty b a)
 
-  first_part : (rows more : Rows) → IsCourse (rows ++ more) → IsCourse rows
-  first_part rows more = lawful-prefix (system_of ahead words scenario) (schedule scenario) rows more
+  keeps : (rows : Rows) (row : Row Mail OrderLine) → Holding rows → IsStep (system_of ahead words scenario) rows row → Holding (rows ++ row ∷ [])
+  keeps rows row (k, t) step =
+      let m = moved ahead words scenario base others has (λ b a. some_of ahead b (has.empty b a)) rows row k step in
+      (push ahead scenario bases (route_of base) rows row k m, push_timed ahead scenario base others has.apart law rows row k t m)
 
-  for_one : (rows more : Rows) → IsCourse (rows ++ more) → IsSoundForOne ahead scenario base rows more
-  for_one rows more = journals_sound ahead words scenario base one rows more
-
-  whole : (rows : Rows) → IsCourse rows → IsUndivided ahead base rows
-  whole rows lawful = entries_whole ahead scenario base rows (all_keep ahead words scenario base one rows lawful)
-
-  goes_on : (rows more : Rows) → IsCourse (rows ++ more) → GoesOn (log_in rows) (log_in (rows ++ more))
-  goes_on rows more lawful = (for_one rows more lawful).replicated.grows
-
-  world : (rows : Rows) → IsCourse rows → world_at ahead bases rows ≡ lone_world base (log_in rows)
-  world = world_is ahead base IsCourse first_part whole goes_on
-
-  history_is : (rows : Rows) → IsCourse rows → history_at ahead bases rows ≡ done_by (group_of base) (log_in rows)
-  history_is rows lawful = ap (λ (w : StoreWorld). w.history) (world rows lawful)
-
-  -- ---- the row that decides an entry
-
-  told_is : (all : List Command) (place : ℕ) (entry : Entry) (p : IsPlaceOf (group_of base) all place entry) (before rows : Rows) → IsCourse (before ++ rows) → all ≡ log_in (before ++ rows)
-      → told_from ahead bases place before rows ≡ decided_from ahead base p.at before rows
-  told_is all place entry p before [] lawful e = refl
-  told_is all place entry p before (row ∷ rows) lawful e =
-      let next = before ++ row ∷ [] in
-      let joined = sym (append_assoc before (row ∷ []) rows) in
-      let later : IsCourse (next ++ rows) = subst IsCourse joined lawful in
-      let on : all ≡ log_in (next ++ rows) = e ∙ ap log_in joined in
-      let grown : GoesOn (log_in next) all = subst (GoesOn (log_in next)) (sym on) (goes_on next rows later) in
-      ap (λ es. cond (nat_lt place (length es)) (Some (length before + 1)) (told_from ahead bases place next rows)) (history_is next (first_part next rows later))
-      ∙ ap (λ b. cond b (Some (length before + 1)) (told_from ahead bases place next rows)) (has_both (group_of base) (log_in next) all place entry p grown)
-      ∙ ap (λ o. cond (nat_lt p.at (length (log_in next))) (Some (length before + 1)) o) (told_is all place entry p next rows later on)
+  all_hold : (rows : Rows) → Lawful ahead words scenario rows → Holding rows
+  all_hold rows lawful =
+      lawful-induction (system_of ahead words scenario) Holding keeps (schedule scenario) rows (at_birth ahead scenario base others has, first_timed ahead scenario base others has.apart) lawful
 
   -- ---- a first part
 
-  module _ (rows more : Rows) (all : IsCourse (rows ++ more)) where
-    lawful : IsCourse rows
-    lawful = first_part rows more all
+  module _ (rows more : Rows) (all : Lawful ahead words scenario (rows ++ more)) where
+    lawful : Lawful ahead words scenario rows
+    lawful = lawful-prefix (system_of ahead words scenario) (schedule scenario) rows more all
 
-    sound : IsSoundForOne ahead scenario base rows more
-    sound = for_one rows more all
+    k : K ahead scenario base others has.apart rows
+    k = (all_hold rows lawful).0
+
+    t : Timed ahead scenario base others has.apart rows
+    t = (all_hold rows lawful).1
+
+    later : K ahead scenario base others has.apart (rows ++ more)
+    later = (all_hold (rows ++ more) all).0
+
+    whole : AreUndivided ahead bases has.apart rows
+    whole b a = entries_whole ahead scenario bases (route_of base) b a rows k
+
+    whole_later : AreUndivided ahead bases has.apart (rows ++ more)
+    whole_later b a = entries_whole ahead scenario bases (route_of base) b a (rows ++ more) later
 
     groups : groups_at ahead bases rows ≡ bases
-    groups = groups_are ahead base rows (whole rows lawful)
+    groups = groups_are ahead bases has.apart rows whole
 
-    only_one : (P : Base → Type 0) → P base → (b : Base) → Among b (groups_at ahead bases rows) → P b
-    only_one P p b a = elim (subst (Among b) groups a) [ inl e ↦ subst P e p | inr none ↦ absurd none ]
+    is_group : (b : Base) → Among b (groups_at ahead bases rows) → Among b bases
+    is_group b a = subst (Among b) groups a
 
-    one_log : HasOneLog ahead bases base rows more
-    one_log = record {
-      one_value = sound.replicated.one_value;
-      is_log = sound.replicated.is_log;
-      grows = subst (GoesOn (log_in rows)) (sym (log_is ahead base (rows ++ more) (whole (rows ++ more) all))) sound.replicated.grows;
+    abbrev told : List Entry
+    told = history ahead bases rows
+
+    told_is : history_at ahead bases rows ≡ told
+    told_is = ap (λ (w : StoreWorld). w.history) t.world_is
+
+    -- ---- logs and replicas
+
+    one_log : (b : Base) → Among b bases → HasOneLog ahead bases b rows more
+    one_log b a = record {
+      one_value = one_value ahead b rows (k.parts b a).lawful;
+      is_log = is_log ahead b rows (k.parts b a).lawful;
+      grows = subst (GoesOn (decided_log ahead b rows)) (sym (log_is ahead bases has.apart (rows ++ more) whole_later b a)) (goes_on ahead b rows more (later.parts b a).lawful);
     }
 
-    state : named_group base.core.id (world_at ahead bases rows).groups ≡ state_at ahead bases rows base.core.id
-    state = ap (λ (w : StoreWorld). named_group base.core.id w.groups) (world rows lawful) ∙ found base (log_in rows) ∙ sym (state_is ahead base rows (whole rows lawful))
+    state : (b : Base) → Among b bases → named_group b.core.id (world_at ahead bases rows).groups ≡ state_at ahead bases rows b.core.id
+    state b a =
+        ap (λ (w : StoreWorld). named_group b.core.id w.groups) t.world_is
+        ∙ found_in (λ (c : Base). decided_state ahead c rows) bases has.apart (λ c there. (state_same (group_of c) (decided_log ahead c rows)).0) b a
+        ∙ sym (state_is ahead bases has.apart rows whole b a)
 
-    has_run : (r : ReplicaState) → HasExecuted ahead base rows r → (b : Base) × Among b (groups_at ahead bases rows) × (b.core.id ≡ name_of r) × HasRun ahead b rows r
-    has_run r x = (
-      base,
-      subst (Among base) (sym groups) (inl refl),
-      sym (ap (λ (g : Group). g.core.id) x.group_is ∙ (state_same (group_of base) (take x.count (log_in rows))).0),
-      record { count = x.count; within = x.within; next_is = x.next_is; entries = x.entries; group_is = x.group_is },
-    )
+    has_run : (b : Base) (r : ReplicaState) → HasExecuted ahead b rows r → HasRun ahead b rows r
+    has_run b r x = record { count = x.count; within = x.within; next_is = x.next_is; entries = x.entries; group_is = x.group_is }
 
-    -- ---- the history
+    node_has_run : (n : ℕ) (node : NodeState) → IsNode ahead bases (Made scenario rows) (h_of rows) n node → (r : ReplicaState) → Among r node.replicas
+        → (b : Base) × Among b (groups_at ahead bases rows) × (b.core.id ≡ name_of r) × HasRun ahead b rows r
+    node_has_run n node at r a =
+        let (b, among, named) = Each-among (λ s. IsOneOf bases (name_of s)) node.replicas r at.known a in
+        let replica = held ahead b (Made scenario rows) n (h_of rows b) node.replicas (at.holds b among) r a named in
+        (b, subst (Among b) (sym groups) among, sym named, has_run b r (executed_is ahead b rows (k.parts b among).lawful (Made scenario rows) n r replica))
 
-    same_history : history_at ahead bases rows ≡ history ahead bases rows
-    same_history = history_is rows lawful ∙ sym sound.tells.told
+    have_run : AllHaveRun ahead scenario rows
+    have_run n low high node is r a =
+        let at = k.nodes n low high in
+        let found : ANode at.node ≡ ANode node = sym at.value_is ∙ is in
+        let same : at.node ≡ node = cc in
+        node_has_run n node (subst (IsNode ahead bases (Made scenario rows) (h_of rows) n) same at.is) r a
 
-    is_one_map : IsOneMap (world_at ahead bases rows)
-    is_one_map = subst IsOneMap (sym (world rows lawful)) (one_map base lone (log_in rows) (whole rows lawful)
-        (subst Legal sound.tells.told sound.tells.legal)
-        (ap (contents_after empty) (sym sound.tells.told) ∙ sound.tells.pairs))
+    -- ---- one map
+
+    one_map : IsOneMap (world_at ahead bases rows)
+    one_map =
+        let entries = entries_at ahead bases rows in
+        let told_world = tell entries t.plain in
+        let keeps = Each-weaker (IsPlainEntry scenario) (λ (entry : LogEntry). LeavesWhole entry.command) (λ entry p. plain_whole scenario entry.command p) entries t.plain in
+        let here = placed_world bases has.apart start (world_at ahead bases rows) (quiet_after bases has.apart entries keeps) in
+        record { covers = here.covers; placed = here.placed; serves_apart = here.serves_apart; legal = told_world.legal; parts = told_world.parts }
+
+    -- ---- requests
+
+    made : (entry : Entry) → Among entry told → Made scenario rows (Call entry.client entry.seq entry.op)
+    made entry a =
+        let (b, there, call) = t.calls entry a in
+        let (place, at) = among_place (decided_log ahead b rows) (Call entry.client entry.seq entry.op) call in
+        let part = k.parts b there in
+        let offer = entry_offered ahead b rows part.lawful place (Call entry.client entry.seq entry.op) at in
+        part.requested offer.0 offer.1 (Call entry.client entry.seq entry.op) offer.2
+
+    request_of : (entry : Entry) → Among entry told → IsRequest scenario entry
+    request_of entry a = let issued = made entry a in (issued.asks, issued.stands, record { client = issued.who; first = issued.some; op = issued.op_is })
+
+    answered_in : (client seq : ℕ) (reply : Reply) → IsAnswered ahead bases (h_of rows) client seq reply → HasEntry told client seq reply
+    answered_in client seq reply (b, among, at) =
+        let has_it = reply_told ahead b rows (k.parts b among).lawful (whole b among) (law b among) client seq reply at in
+        record { entry = has_it.entry; stands = t.has_all b among has_it.entry has_it.stands; client_is = has_it.client_is; seq_is = has_it.seq_is; reply_is = has_it.reply_is }
+
+    kept_of : (asks : Asks) → Among asks scenario.clients → (seq : ℕ) (reply : Reply) → kept_reply (route_of base) asks seq rows ≡ Some reply → HasEntry told asks.client seq reply
+    kept_of asks stands seq reply e =
+        elim (cases_Bool (eqb seq 0)) [
+          | inl z ↦ (let no_way : None ≡ Some reply = sym (cond-true (eqb seq 0) None (slice_get (kept_replies (route_of base) asks rows) (seq - 1)) z) ∙ e in absurd (cc))
+          | inr f ↦ (
+              let at = k.clients asks stands in
+              let there : slice_get (kept_replies (route_of base) asks rows) (seq - 1) ≡ Some reply = sym (cond-false (eqb seq 0) None (slice_get (kept_replies (route_of base) asks rows) (seq - 1)) f) ∙ e in
+              let here = subst (λ (p : Player). slice_get (replies_of p) (seq - 1) ≡ Some reply) at.value_is there in
+              let not_zero = eqb-false seq 0 f in
+              let number : (seq - 1) + 1 ≡ seq = omega (arith, not_zero) in
+              answered_in asks.client seq reply (subst (λ n. IsAnswered ahead bases (h_of rows) asks.client n reply) number (at.is.replies (seq - 1) reply here)))
+        ]
 
     answers : AnswersRequests ahead scenario rows
     answers = record {
-      requests = λ entry a. sound.tells.requests entry (subst (Among entry) same_history a);
-      kept = λ first others is asks a seq reply kept.
-          subst (λ es. HasEntry es asks.client seq reply) (sym same_history)
-          (sound.tells.kept asks a seq reply (subst (λ b. kept_reply (route_of b) asks seq rows ≡ Some reply) (sym (same_head base first others is)) kept));
+      requests = λ entry a. request_of entry (subst (Among entry) told_is a);
+      kept = λ first rest is asks a seq reply e. subst (λ es. HasEntry es asks.client seq reply) (sym told_is)
+          (kept_of asks a seq reply (subst (λ b. kept_reply (route_of b) asks seq rows ≡ Some reply) (sym (same_first base first others rest is)) e));
     }
 
     -- ---- the order of rows
 
-    place : (k : ℕ) (entry : Entry) → slice_get (history_at ahead bases rows) k ≡ Some entry → IsPlaceOf (group_of base) (log_in rows) k entry
-    place k entry e = place_of (group_of base) (log_in rows) k entry (subst (λ es. slice_get es k ≡ Some entry) (history_is rows lawful) e)
+    at_told : (place : ℕ) (entry : Entry) → slice_get (history_at ahead bases rows) place ≡ Some entry → slice_get told place ≡ Some entry
+    at_told place entry e = subst (λ es. slice_get es place ≡ Some entry) told_is e
 
-    timely : (k : ℕ) (entry : Entry) → slice_get (history_at ahead bases rows) k ≡ Some entry → IsTimely ahead scenario rows k entry
-    timely k entry e =
-        let p = place k entry e in
-        let t = sound.in_time p.at entry.client entry.seq p.done in
+    timely : (place : ℕ) (entry : Entry) → slice_get (history_at ahead bases rows) place ≡ Some entry → IsTimely ahead scenario rows place entry
+    timely place entry e =
+        let at = at_told place entry e in
+        let time = t.in_time place entry at in
+        let issued = made entry (place_among told place entry at) in
         record {
-          decided = t.decided;
-          is_decided = told_is (log_in rows) k entry p [] rows lawful refl ∙ t.is_decided;
-          issued = t.issued;
-          is_issued = t.is_issued;
-          after_issue = t.after_issue;
-          before_answer = λ first others is asks a who answered taken.
-              t.before_answer asks a who answered (subst (λ b. answer_row (route_of b) asks entry.seq rows ≡ Some answered) (sym (same_head base first others is)) taken);
+          decided = time.decided;
+          is_decided = time.is_decided;
+          issued = time.issued;
+          is_issued = time.is_issued;
+          after_issue = time.before;
+          before_answer = λ first rest is asks stands who answered taken. (
+              let mine = subst (λ b. answer_row (route_of b) asks entry.seq rows ≡ Some answered) (sym (same_first base first others rest is)) taken in
+              elim (cases_lt (length (kept_replies (route_of base) asks rows)) entry.seq) [
+                | inl lt ↦ (let no_way : None ≡ Some answered = sym (t.unanswered asks stands entry.seq lt) ∙ mine in absurd (cc))
+                | inr ge ↦ (
+                    let r = t.taken asks stands entry.seq issued.some (omega (arith, ge)) in
+                    let once = subst (λ es. AllPairs AreApartEntries es) told_is one_map.legal.once in
+                    let same_place : place ≡ r.place = one_place told once place r.place entry r.entry at r.at (sym who ∙ sym r.client_is) (sym r.seq_is) in
+                    let decided_both : Some time.decided ≡ Some r.decided = sym time.is_decided ∙ ap (λ p. told_row ahead bases p rows) same_place ∙ r.is_decided in
+                    let answered_both : Some r.answered ≡ Some answered = sym r.is_answered ∙ mine in
+                    let one_decided : time.decided ≡ r.decided = cc in
+                    let one_answered : r.answered ≡ answered = cc in
+                    let before = r.before in
+                    omega (arith, before, one_decided, one_answered))
+              ]);
         }
 
     real_time : KeepsRealTime ahead scenario rows
-    real_time k other entry later e f first others is asks a who answered issued taken sent le =
-        let p = place k entry e in
-        let q = place other later f in
-        let mine = subst (λ b. answer_row (route_of b) asks entry.seq rows ≡ Some answered) (sym (same_head base first others is)) taken in
-        same_order (group_of base) (log_in rows) k other entry later p q
-        (sound.in_order p.at entry.client entry.seq q.at later.client later.seq p.done q.done asks a who answered issued mine sent le)
+    real_time place other entry later_one e f first rest is asks stands who answered issued taken sent le =
+        let one_time = timely place entry e in
+        let other_time = timely other later_one f in
+        let before = one_time.before_answer first rest is asks stands who answered taken in
+        let issued_both : Some issued ≡ Some other_time.issued = sym sent ∙ other_time.is_issued in
+        let one_issue : issued ≡ other_time.issued = cc in
+        let after = other_time.after_issue in
+        elim (cases_lt place other) [
+          | inl lt ↦ lt
+          | inr ge ↦ (
+              let order = told_in_order ahead bases other place (omega (arith, ge)) [] rows other_time.decided one_time.decided other_time.is_decided one_time.is_decided in
+              absurd (omega (arith, order, before, le, one_issue, after)))
+        ]
 
     sound_rows : IsSound ahead scenario rows more
     sound_rows = record {
-      one_log = only_one (λ b. HasOneLog ahead bases b rows more) one_log;
-      states = only_one (λ b. named_group b.core.id (world_at ahead bases rows).groups ≡ state_at ahead bases rows b.core.id) state;
-      have_run = λ number low high node is r a. has_run r (sound.replicated.executed number low high node is r a);
-      whole = is_one_map;
+      one_log = λ b a. one_log b (is_group b a);
+      states = λ b a. state b (is_group b a);
+      have_run = have_run;
+      whole = one_map;
       answers = answers;
       timely = timely;
       real_time = real_time;
     }
 
 -- each first part of a lawful journal is sound
-pub lone_journals_sound : LoneJournalsAreSound
-lone_journals_sound ahead words scenario has rows more lawful =
-    let base = has.base in
-    let is = has.one.groups in
+pub several_sound : SeveralJournalsAreSound
+several_sound ahead words scenario base others has start tell rows more lawful =
+    let is = has.groups in
     subst (λ gs. IsSound ahead (record scenario { groups = gs }) rows more) (sym is)
-    (sound_rows ahead words scenario base (subst (λ gs. HasOneGroup (record scenario { groups = gs }) base) is has.one) has.lone rows more
+    (sound_rows ahead words scenario base others (subst (λ gs. HasGroups (record scenario { groups = gs }) base others) is has) start
+    (subst (λ gs. TellOneHistory (record scenario { groups = gs }) (base ∷ others)) is tell) rows more
     (subst (λ gs. Lawful ahead words (record scenario { groups = gs }) (rows ++ more)) is lawful))

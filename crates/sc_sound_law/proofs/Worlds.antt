@@ -1,7 +1,6 @@
 -- What the entries of one group's log make of all groups, where no entry divides the group or begins a transaction.
-use Rattle.std.proofs.Common.{◌≡◌, ℕ, ◌+◌, List, [], ◌∷◌, ◌++◌, Option, Some, None, refl, sym, ◌∙◌, ap, append-nil, append_assoc}
+use Rattle.std.proofs.Common.{◌≡◌, ℕ, ◌+◌, List, [], ◌∷◌, ◌++◌, Option, Some, None, refl, sym, ◌∙◌, ap}
 use Rattle.std.proofs.lemmas.Bool.{cond-true}
-use Rattle.sc_base.specs.Among.{Each}
 use Rattle.sc_base.proofs.NameLemmas.{same_name}
 use Rattle.sc_cmd.specs.declared.commands.Command.{Command}
 use Rattle.sc_cmd.specs.declared.commands.Command.TheVariants.{Noop, Call, Join, Leave, Split, Begin, Prepared, RecordVote, GiveUp, Finish, Watched, RecordWatch}
@@ -18,10 +17,9 @@ use Rattle.sc_entries.specs.declared.Cut.{Cut}
 use Rattle.sc_entries.specs.declared.Transaction.{Transaction}
 use Rattle.sc_entries.specs.Decisions.{transactions_after}
 use Rattle.sc_entries.specs.Rings.{first_cut, ring_after}
-use Rattle.sc_entries.specs.Worlds.{StoreWorld, is_named, named_group, groups_after, after_command, with_result, told, world_after}
+use Rattle.sc_entries.specs.Worlds.{StoreWorld, is_named, named_group, groups_after, after_command, with_result, told}
 use Rattle.sc_hist_law.specs.Laws.{LeavesWhole}
 use Rattle.sc_hist_law.proofs.Logs.{state_same}
-use Rattle.sc_sound.specs.GroupsOf.{entries_from}
 
 -- ---- what a command leaves that divides no group
 
@@ -41,7 +39,7 @@ no_birth group (Watched tx watch) effect keeps = absurd keeps
 no_birth group (RecordWatch tx vote by) effect keeps = absurd keeps
 
 -- it begins and decides no transaction
-same_transactions : (core : Core) (c : Command) (effect : Effect) (transactions : List Transaction) → LeavesWhole c → transactions_after core c effect transactions ≡ transactions
+pub same_transactions : (core : Core) (c : Command) (effect : Effect) (transactions : List Transaction) → LeavesWhole c → transactions_after core c effect transactions ≡ transactions
 same_transactions core Noop effect transactions keeps = refl
 same_transactions core (Call client seq op) effect transactions keeps = refl
 same_transactions core (Join node order) effect transactions keeps = refl
@@ -56,7 +54,7 @@ same_transactions core (Watched tx watch) effect transactions keeps = absurd kee
 same_transactions core (RecordWatch tx vote by) effect transactions keeps = absurd keeps
 
 -- it changes no cut
-same_ring : (core : Core) (c : Command) (effect : Effect) (ring : List Cut) → LeavesWhole c → ring_after core c effect ring ≡ ring
+pub same_ring : (core : Core) (c : Command) (effect : Effect) (ring : List Cut) → LeavesWhole c → ring_after core c effect ring ≡ ring
 same_ring core Noop effect ring keeps = refl
 same_ring core (Call client seq op) effect ring keeps = refl
 same_ring core (Join node order) effect ring keeps = refl
@@ -94,7 +92,7 @@ module _ (base : Base) where
       ∙ ap (λ (g : Group). g ∷ []) (cond-true (is_named group.core.id group) after group (same_name group.core.id group.core.id refl))
 
   -- one entry
-  told_is : (log : List Command) (slot : ℕ) (c : Command) → LeavesWhole c → told (lone_world log) (record { group = base.core.id; slot = slot; command = c }) ≡ lone_world (log ++ c ∷ [])
+  pub told_is : (log : List Command) (slot : ℕ) (c : Command) → LeavesWhole c → told (lone_world log) (record { group = base.core.id; slot = slot; command = c }) ≡ lone_world (log ++ c ∷ [])
   told_is log slot c keeps =
       let world = lone_world log in
       let start = group_of base in
@@ -108,11 +106,3 @@ module _ (base : Base) where
       ∙ ap (λ cuts. world_with (lone_world (log ++ c ∷ [])).groups [] cuts (with_result world group c result).history)
       (same_ring group.core c result.1 (first_cut base ∷ []) keeps)
       ∙ ap (λ es. world_with (lone_world (log ++ c ∷ [])).groups [] (first_cut base ∷ []) es) (sym (done_push start log c))
-
-  -- these entries, one after another
-  pub told_are : (log more : List Command) (slot : ℕ) → Each LeavesWhole more → world_after (lone_world log) (entries_from base.core.id slot more) ≡ lone_world (log ++ more)
-  told_are log [] slot keeps = ap lone_world (sym (append-nil log))
-  told_are log (c ∷ more) slot keeps =
-      ap (λ world. world_after world (entries_from base.core.id (slot + 1) more)) (told_is log slot c keeps.0)
-      ∙ told_are (log ++ c ∷ []) more (slot + 1) keeps.1
-      ∙ ap lone_world (append_assoc log (c ∷ []) more)

@@ -1,16 +1,31 @@
-//! What every lawful journal of a scenario of one group says, in the form that speaks of any number
-//! of groups. Definitions and laws, no logic.
+//! What every lawful journal says, in the form that speaks of any number of groups. Definitions and
+//! laws, no logic.
 #![tactic(auto)]
 
 ghost use Rattle.std.specs.Prelude.{[]};
 ghost use Rattle.sc_sound.specs.Example.{four};
 ghost use Rattle.sc_sound.specs.Soundness.{IsSound};
 ghost use Rattle.sc_group_law.specs.Example.{election_scenario, election_example};
-ghost use Rattle.sc_sound_law.specs.Laws.{LoneJournalsAreSound, ValidHaveLoneGroup};
+ghost use Rattle.sc_sound_law.specs.Laws.{
+  SeveralJournalsAreSound,
+  LoneJournalsAreSound,
+  ValidHaveLoneGroup,
+};
 ghost use Rattle.sc_sound_law.specs.LoneGroup.{HasLoneGroup};
 
 use sc_group_law::{a_journal_with_an_election, valid_scenarios_have_one_group};
 use sc_scenario::texts_are_early;
+
+/// Each first part of a lawful journal of groups that start together in a ring is sound, whoever
+/// joins or leaves them and whatever is lost, repeated, late or crashed, where the entries of their
+/// logs tell one legal history. Each group has one log, which only grows (Paxos Made Simple,
+/// sections 2.2 and 3); each replica of each node has executed a front of its group's log; the ring
+/// covers, and the group of each cut is placed in it; the history is of the scenario's requests,
+/// with the replies that clients keep; and each entry is decided after its issue and before its
+/// answer, whichever group decides it.
+pub fn several_journals_are_sound()
+    ensures { SeveralJournalsAreSound }
+{}
 
 /// Each first part of a lawful journal of one group is sound as that is said of any number of
 /// groups: each group of the journal has one log, which only grows; each replica has executed a

@@ -1,0 +1,155 @@
+-- What holds of a scenario's groups before any row, and what the start of a group gives.
+use Rattle.std.proofs.Common.{◌≡◌, ℕ, zero, suc, ◌+◌, ◌<◌, ◌≤◌, List, [], ◌∷◌, ◌++◌, length, take, map, filter, replicate, Some, inl, inr, refl, sym, ◌∙◌, ap, subst, arith}
+use Rattle.std.specs.Prelude.{slice_get}
+use Rattle.std.specs.FinMap.{empty}
+use Rattle.std.proofs.lemmas.Bool.{eqb-true, cond_both}
+use Rattle.sc_base.specs.Among.{Among, Each}
+use Rattle.sc_cmd.specs.declared.commands.Command.{Command}
+use Rattle.sc_cmd.specs.declared.cores.Base.{Base}
+use Rattle.sc_client_table.specs.Client.{born_client}
+use Rattle.sc_ideal.specs.IdealStore.{with_pairs}
+use Rattle.sc_ideal.specs.Clients.{joined_with}
+use Rattle.sc_member.specs.Roster.{is_member}
+use Rattle.sc_node_table.specs.Replica.{ReplicaState, name_of, born_replica}
+use Rattle.sc_paxos_words.specs.Acceptors.{born_acceptor}
+use Rattle.sc_paxos_law.specs.Chosen.{needed}
+use Rattle.sc_scenario.specs.declared.scenarios.Scenario.{Scenario}
+use Rattle.sc_players.specs.Players.{route_of, Ahead}
+use Rattle.sc_hist_law.specs.Laws.{LeavesWhole, LogTells}
+use Rattle.sc_hist_law.proofs.Told.{log_tells}
+use Rattle.sc_machine_table.specs.Logs.{state_after}
+use Rattle.sc_group_law.specs.Groups.{StartsEmpty, AreApart, HasGroups}
+use Rattle.sc_group_law.specs.OneGroup.{HasOneGroup}
+use Rattle.sc_group_law.proofs.Held.{mirrors_itself}
+use Rattle.sc_group_law.proofs.Rosters.{state_roster}
+use Rattle.sc_group_law.proofs.Invariant.{rule, first, birth, IsReplica}
+use Rattle.sc_group_law.proofs.Holding.{IsOther, Holds, holds_none}
+use Rattle.sc_group_law.proofs.Names.{IsOneOf}
+use Rattle.sc_group_law.proofs.Clients.{Made}
+use Rattle.sc_group_law.proofs.Family.{Kept}
+
+length_replicate : {X : Type 0} (n : ℕ) (x : X) → length (replicate n x) ≡ n
+length_replicate zero x = refl
+length_replicate (suc n) x = ap suc (length_replicate n x)
+
+get_replicate : {X : Type 0} (n : ℕ) (x y : X) (k : ℕ) → slice_get (replicate n x) k ≡ Some y → (y ≡ x) × (k < n)
+get_replicate zero x y k e = cc
+get_replicate {X} (suc n) x y zero e = let same : x ≡ y = cc in (sym same, omega arith)
+get_replicate (suc n) x y (suc k) e = let r = get_replicate n x y k e in (r.0, omega (arith, r.1))
+
+take_none : {X : Type 0} (n : ℕ) → take {A = X} n [] ≡ []
+take_none zero = refl
+take_none (suc n) = refl
+
+first_of : (members : List ℕ) → 1 ≤ length members → (node : ℕ) × (rest : List ℕ) × (members ≡ node ∷ rest)
+first_of [] le = absurd (omega (arith, le))
+first_of (node ∷ rest) le = (node, rest, refl)
+
+-- a scenario of one group is one of any number
+pub one_of_many : (scenario : Scenario) (base : Base) → HasOneGroup scenario base → HasGroups scenario base []
+one_of_many scenario base one = record {
+  groups = one.groups;
+  empty = λ other a. elim a [ inl e ↦ subst StartsEmpty e (record { roster = one.roster; pairs = one.pairs; clients = one.clients }) | inr none ↦ absurd none ];
+  apart = (tt, tt);
+  nodes = one.nodes;
+  numbered = one.numbered;
+  once = one.once;
+}
+
+module _ (ahead : Ahead) (base : Base) (starts : StartsEmpty base) where
+  -- a group has members after each log that divides no group
+  pub some_of : (log : List Command) → Each LeavesWhole log → (node : ℕ) × (rest : List ℕ) × ((rule ahead base).members log ≡ node ∷ rest)
+  some_of log whole = first_of (state_after (birth ahead base) log).core.members (state_roster (birth ahead base) log whole starts.roster).some
+
+  -- such a log tells a history
+  pub tells_of : (log : List Command) → Each LeavesWhole log → LogTells (birth ahead base) log
+  tells_of = log_tells (birth ahead base) (record { pairs = ap (with_pairs empty) starts.pairs; clients = ap (joined_with empty) starts.clients })
+
+born_replica_is : (ahead : Ahead) (base : Base) (made : Command → Type 0) (n : ℕ) → IsReplica ahead base made [] n (born_replica ahead.slots n base)
+born_replica_is ahead base made n = record {
+  me_is = refl;
+  whole = [];
+  log_is = record { low = omega arith; entries_are = refl; group_is = refl; is_log = λ k v e. cc; all_made = tt };
+  acceptor_is = mirrors_itself (born_acceptor (first ahead base));
+  tops = λ b slot c a own. absurd a;
+  prepares = λ b from a own. absurd a;
+  count = length_replicate ahead.slots base.core.members;
+  sets = λ k set e. (
+      let r = get_replicate ahead.slots base.core.members set k e in
+      let need = needed (rule ahead base) (1 + k) in
+      (r.0 ∙ ap (rule ahead base).members (sym (take_none {X = Command} need)), (let lt = r.1 in omega (arith, lt))));
+  calls = tt;
+  acts = tt;
+  flights = tt;
+  ready = tt;
+  leads = λ runs. record {
+    own = eqb-true base.core.first n runs;
+    low = omega arith;
+    first_is = λ e. refl;
+    votes = [];
+    promisers = refl;
+    reports = refl;
+    made = tt;
+    offers = λ slot c a. absurd a;
+  };
+}
+
+module _ (ahead : Ahead) (made : Command → Type 0) (n : ℕ) where
+  -- the replicas of a node at the birth of these groups
+  abbrev born : List Base → List ReplicaState
+  born bases = map (λ b. born_replica ahead.slots n b) (filter (λ b. is_member b.core.members n) bases)
+
+  each_born : (P : ReplicaState → Type 0) (bases : List Base) → ((b : Base) → Among b bases → P (born_replica ahead.slots n b)) → Each P (born bases)
+  each_born P [] p = tt
+  each_born P (b ∷ bases) p =
+      cond_both (is_member b.core.members n) (b ∷ filter (λ c. is_member c.core.members n) bases) (filter (λ c. is_member c.core.members n) bases)
+      (λ bs. Each P (map (λ c. born_replica ahead.slots n c) bs))
+      (λ _. (p b (inl refl), each_born P bases (λ c a. p c (inr a)))) (λ _. each_born P bases (λ c a. p c (inr a)))
+
+  -- none of them is of a group with another name
+  none_born : (base : Base) (bases : List Base) → Each (λ other. other.core.id ≡ base.core.id → ⊥) bases → Each (IsOther base.core.id) (born bases)
+  none_born base [] apart = tt
+  none_born base (b ∷ bases) apart =
+      cond_both (is_member b.core.members n) (b ∷ filter (λ c. is_member c.core.members n) bases) (filter (λ c. is_member c.core.members n) bases)
+      (λ bs. Each (IsOther base.core.id) (map (λ c. born_replica ahead.slots n c) bs))
+      (λ _. (apart.0, none_born base bases apart.1)) (λ _. none_born base bases apart.1)
+
+  apart_from : (one : Base) (bases : List Base) → Each (λ other. other.core.id ≡ one.core.id → ⊥) bases → (base : Base) → Among base bases → one.core.id ≡ base.core.id → ⊥
+  apart_from one [] e base a same = absurd a
+  apart_from one (b ∷ bases) e base (inl is) same = e.0 (ap (λ (x : Base). x.core.id) is ∙ sym same)
+  apart_from one (b ∷ bases) e base (inr a) same = apart_from one bases e.1 base a same
+
+  -- of each group there is one, or none
+  holds_born : (base : Base) (bases : List Base) → AreApart bases → Among base bases → Holds ahead base made n [] (born bases)
+  holds_born base [] apart a = absurd a
+  holds_born base (b ∷ bases) apart (inl is) =
+      cond_both (is_member b.core.members n) (b ∷ filter (λ c. is_member c.core.members n) bases) (filter (λ c. is_member c.core.members n) bases)
+      (λ bs. Holds ahead base made n [] (map (λ c. born_replica ahead.slots n c) bs))
+      (λ _. subst (λ x. Holds ahead x made n [] (born_replica ahead.slots n b ∷ born bases)) is (inl (refl, born_replica_is ahead b made n, none_born b bases apart.0)))
+      (λ _. subst (λ x. Holds ahead x made n [] (born bases)) is (holds_none ahead b made n [] (born bases) (none_born b bases apart.0) tt))
+  holds_born base (b ∷ bases) apart (inr a) =
+      cond_both (is_member b.core.members n) (b ∷ filter (λ c. is_member c.core.members n) bases) (filter (λ c. is_member c.core.members n) bases)
+      (λ bs. Holds ahead base made n [] (map (λ c. born_replica ahead.slots n c) bs))
+      (λ _. inr (apart_from b bases apart.0 base a, holds_born base bases apart.1 a)) (λ _. holds_born base bases apart.1 a)
+
+-- what holds before any row
+pub at_birth : (ahead : Ahead) (scenario : Scenario) (base : Base) (others : List Base) → HasGroups scenario base others → Kept ahead scenario (base ∷ others) (route_of base) []
+at_birth ahead scenario base others has = record {
+  parts = λ b a. record { lawful = tt; requested = λ ballot slot c o. absurd o; true_mail = λ m o. absurd o };
+  named = λ m a. absurd a;
+  nodes = λ n low high. record {
+    node = record { me = n; replicas = map (λ b. born_replica ahead.slots n b) (filter (λ b. is_member b.core.members n) (base ∷ others)) };
+    value_is = refl;
+    is = record {
+      me_is = refl;
+      known = each_born ahead (Made scenario []) n (λ r. IsOneOf (base ∷ others) (name_of r)) (base ∷ others) (λ b a. (b, a, refl));
+      holds = λ b a. holds_born ahead (Made scenario []) n b (base ∷ others) has.apart a;
+    };
+  };
+  clients = λ asks stands. record {
+    client = born_client asks.client asks.ops (route_of base);
+    value_is = refl;
+    is = record { me = refl; requests = refl; waits = tt; replies = λ k reply e. cc };
+    fresh = λ e. (refl, refl);
+  };
+}

@@ -1,0 +1,142 @@
+-- A row of one group's replica takes no step in another group, and says nothing of it.
+use Rattle.std.proofs.Common.{◌≡◌, ℕ, ◌&&◌, true, false, List, [], ◌∷◌, ◌++◌, Some, refl, sym, ◌∙◌, ap}
+use Rattle.std.specs.List.{flat_map, list_any}
+use Rattle.std.proofs.lemmas.Bool.{and_left, cond-false}
+use Rattle.sc_base.specs.Among.{Each}
+use Rattle.sc_base.specs.Same.{same_draw, same_ballot}
+use Rattle.sc_base.specs.declared.names.Ballot.{Ballot}
+use Rattle.sc_base.specs.declared.names.Draw.{Draw}
+use Rattle.sc_cmd.specs.declared.commands.Command.{Command}
+use Rattle.sc_cmd.specs.declared.cores.Base.{Base}
+use Rattle.sc_cmd.specs.declared.orders.OrderLine.{OrderLine}
+use Rattle.sc_mail.specs.declared.bodies.Mail.{Mail}
+use Rattle.sc_mail.specs.declared.bodies.MailBody.{MailBody}
+use Rattle.sc_mail.specs.declared.bodies.MailBody.TheVariants.{Request, Answer, Prepare, Promise, Accept, Accepted as AcceptedMail, Nack, Learn, Ask, Install, TxPrepare, TxVote, TxOutcome, TxElsewhere, TxWatch, TxWatched, Told}
+use Rattle.sc_actor.specs.declared.rows.Row.{Row}
+use Rattle.sc_actor.specs.declared.rows.Event.{Event}
+use Rattle.sc_paxos_law.specs.Steps.{Prepared, Promised, Offered, Accepted}
+use Rattle.sc_node_table.specs.Node.{group_of_mail}
+use Rattle.sc_sound.specs.Accepts.{is_accepted, accepts_of}
+use Rattle.sc_players.specs.Players.{Ahead}
+use Rattle.sc_group_law.specs.Steps.{proposer_steps, asked_in, promised_by, promises_of}
+use Rattle.sc_group_law.proofs.Invariant.{Steps, IsOwn, IsTrue}
+
+-- a row of a node
+abbrev pub node_row : ℕ → Event OrderLine → List Mail → Row Mail OrderLine
+node_row who event sent = record { who = who; event = event; sent = sent }
+
+-- the steps of a row in which a mail comes
+abbrev pub steps_of : Draw → ℕ → Event OrderLine → MailBody → List Mail → Steps → Steps
+steps_of group who event body sent before = promises_of group (node_row who event sent) body ++ accepts_of group (node_row who event sent) body ++ asked_in group sent before
+
+-- a mail of a replica of another group than the one with this name
+abbrev pub IsFar : Draw → MailBody → Type 0
+IsFar name (Request group client seq op) = ⊥
+IsFar name (Answer group seq answer) = same_draw group name ≡ false
+IsFar name (Prepare group ballot from_slot) = same_draw group name ≡ false
+IsFar name (Promise group ballot reports) = same_draw group name ≡ false
+IsFar name (Accept group ballot slot command) = same_draw group name ≡ false
+IsFar name (AcceptedMail group ballot slot) = same_draw group name ≡ false
+IsFar name (Nack group promised) = same_draw group name ≡ false
+IsFar name (Learn group slot command) = same_draw group name ≡ false
+IsFar name (Ask group from_slot) = same_draw group name ≡ false
+IsFar name (Install group slot record_of sets) = same_draw group name ≡ false
+IsFar name (TxPrepare tx offer) = ⊥
+IsFar name (TxVote tx coord part vote) = ⊥
+IsFar name (TxOutcome tx part outcome) = ⊥
+IsFar name (TxElsewhere tx coord hint) = ⊥
+IsFar name (TxWatch tx watch) = ⊥
+IsFar name (TxWatched tx coord part vote) = ⊥
+IsFar name (Told number result) = Unit {0}
+
+-- mails of replicas of other groups
+abbrev pub AreFar : Draw → List Mail → Type 0
+AreFar name mails = Each (λ mail. IsFar name mail.body) mails
+
+module _ (ahead : Ahead) (base : Base) where
+  -- what is of the group's own name is of no other
+  pub own_far : (name : Draw) → same_draw base.core.id name ≡ false → (body : MailBody) → IsOwn ahead base body → IsFar name body
+  own_far name f (Request group client seq op) own = own
+  own_far name f (Answer group seq answer) own = ap (λ d. same_draw d name) own ∙ f
+  own_far name f (Prepare group ballot from_slot) own = ap (λ d. same_draw d name) own ∙ f
+  own_far name f (Promise group ballot reports) own = ap (λ d. same_draw d name) own ∙ f
+  own_far name f (Accept group ballot slot command) own = ap (λ d. same_draw d name) own ∙ f
+  own_far name f (AcceptedMail group ballot slot) own = ap (λ d. same_draw d name) own ∙ f
+  own_far name f (Nack group promised) own = ap (λ d. same_draw d name) own ∙ f
+  own_far name f (Learn group slot command) own = ap (λ d. same_draw d name) own ∙ f
+  own_far name f (Ask group from_slot) own = ap (λ d. same_draw d name) own ∙ f
+  own_far name f (Install group slot record_of sets) own = ap (λ d. same_draw d name) own ∙ f
+  own_far name f (TxPrepare tx offer) own = own
+  own_far name f (TxVote tx coord part vote) own = own
+  own_far name f (TxOutcome tx part outcome) own = own
+  own_far name f (TxElsewhere tx coord hint) own = own
+  own_far name f (TxWatch tx watch) own = own
+  own_far name f (TxWatched tx coord part vote) own = own
+  own_far name f (Told number result) own = tt
+
+  -- what is said of another group is true of this one
+  pub far_true : (made : Command → Type 0) (h : Steps) (mail : Mail) (body : MailBody) → IsFar base.core.id body → IsTrue ahead base made h mail body
+  far_true made h mail (Request group client seq op) far = absurd far
+  far_true made h mail (Answer group seq answer) far = λ t. (let no_way : true ≡ false = sym t ∙ far in absurd (cc))
+  far_true made h mail (Prepare group ballot from_slot) far = λ t. (let no_way : true ≡ false = sym t ∙ far in absurd (cc))
+  far_true made h mail (Promise group ballot reports) far = λ t. (let no_way : true ≡ false = sym t ∙ far in absurd (cc))
+  far_true made h mail (Accept group ballot slot command) far = λ t. (let no_way : true ≡ false = sym t ∙ far in absurd (cc))
+  far_true made h mail (AcceptedMail group ballot slot) far = λ t. (let no_way : true ≡ false = sym t ∙ far in absurd (cc))
+  far_true made h mail (Nack group promised) far = tt
+  far_true made h mail (Learn group slot command) far = λ t. (let no_way : true ≡ false = sym t ∙ far in absurd (cc))
+  far_true made h mail (Ask group from_slot) far = tt
+  far_true made h mail (Install group slot record_of sets) far = λ t. (let no_way : true ≡ false = sym t ∙ far in absurd (cc))
+  far_true made h mail (TxPrepare tx offer) far = far
+  far_true made h mail (TxVote tx coord part vote) far = far
+  far_true made h mail (TxOutcome tx part outcome) far = far
+  far_true made h mail (TxElsewhere tx coord hint) far = far
+  far_true made h mail (TxWatch tx watch) far = far
+  far_true made h mail (TxWatched tx coord part vote) far = far
+  far_true made h mail (Told number result) far = tt
+
+-- ---- steps
+
+far_asked : (name : Draw) (body : MailBody) → IsFar name body → proposer_steps name body ≡ []
+far_asked name (Prepare group ballot from_slot) far = cond-false (same_draw group name) (Prepared ballot from_slot ∷ []) [] far
+far_asked name (Accept group ballot slot command) far = cond-false (same_draw group name) (Offered ballot slot command ∷ []) [] far
+far_asked name _ far = refl
+
+-- they ask for nothing in this group
+pub far_all : (name : Draw) (mails : List Mail) (before : Steps) → AreFar name mails → asked_in name mails before ≡ before
+far_all name [] before far = refl
+far_all name (mail ∷ mails) before far = ap (λ x. asked_in name mails (x ++ before)) (far_asked name mail.body far.0) ∙ far_all name mails before far.1
+
+-- what mails ask for, one part after another
+pub asked_append : (name : Draw) (one other : List Mail) (before : Steps) → asked_in name (one ++ other) before ≡ asked_in name other (asked_in name one before)
+asked_append name [] other before = refl
+asked_append name (mail ∷ one) other before = asked_append name one other (proposer_steps name mail.body ++ before)
+
+far_promised : (name : Draw) (who : ℕ) (ballot : Ballot) (from_slot : ℕ) (body : MailBody) → IsFar name body → promised_by name who ballot from_slot body ≡ []
+far_promised name who ballot from_slot (Promise group b reports) far =
+    cond-false (same_draw group name && same_ballot b ballot) (Promised who ballot from_slot reports ∷ []) [] (and_left (same_draw group name) (same_ballot b ballot) far)
+far_promised name who ballot from_slot _ far = refl
+
+all_promised : (name : Draw) (who : ℕ) (ballot : Ballot) (from_slot : ℕ) (mails : List Mail) → AreFar name mails → flat_map (λ mail. promised_by name who ballot from_slot mail.body) mails ≡ []
+all_promised name who ballot from_slot [] far = refl
+all_promised name who ballot from_slot (mail ∷ mails) far =
+    ap (λ (x : Steps). x ++ flat_map (λ (m : Mail). promised_by name who ballot from_slot m.body) mails) (far_promised name who ballot from_slot mail.body far.0)
+    ∙ all_promised name who ballot from_slot mails far.1
+
+far_promises : (name : Draw) (who : ℕ) (event : Event OrderLine) (sent : List Mail) → AreFar name sent → (body : MailBody) → promises_of name (node_row who event sent) body ≡ []
+far_promises name who event sent far (Prepare group ballot from_slot) = all_promised name who ballot from_slot sent far
+far_promises name who event sent far _ = refl
+
+far_accepts : (name : Draw) (who : ℕ) (event : Event OrderLine) (sent : List Mail) (group : Draw) → same_draw group name ≡ false → (body : MailBody) → group_of_mail body ≡ Some group
+    → accepts_of name (node_row who event sent) body ≡ []
+far_accepts name who event sent group far (Accept g ballot slot command) into =
+    let same : g ≡ group = cc in
+    cond-false (same_draw g name && list_any (λ (mail : Mail). is_accepted g ballot slot mail.body) sent) (Accepted who ballot slot command ∷ []) []
+    (and_left (same_draw g name) (list_any (λ (mail : Mail). is_accepted g ballot slot mail.body) sent) (ap (λ d. same_draw d name) same ∙ far))
+far_accepts name who event sent group far _ into = refl
+
+-- a row of another group's replica is no step
+pub far_steps : (name : Draw) (who : ℕ) (event : Event OrderLine) (group : Draw) → same_draw group name ≡ false → (body : MailBody) → group_of_mail body ≡ Some group
+    → (sent : List Mail) (before : Steps) → AreFar name sent → steps_of name who event body sent before ≡ before
+far_steps name who event group other body into sent before far =
+    ap (λ (x : Steps). x ++ accepts_of name (node_row who event sent) body ++ asked_in name sent before) (far_promises name who event sent far body)
+    ∙ ap (λ (x : Steps). x ++ asked_in name sent before) (far_accepts name who event sent group other body into) ∙ far_all name sent before far

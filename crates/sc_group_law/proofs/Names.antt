@@ -1,0 +1,139 @@
+-- Names in mail, and mails that are no steps.
+use Rattle.std.proofs.Common.{◌≡◌, ℕ, ◌&&◌, ◌||◌, true, List, [], ◌∷◌, ◌++◌, ◌⊎◌, inl, inr, refl, ◌∙◌, ap, subst}
+use Rattle.std.specs.List.{list_any}
+use Rattle.std.proofs.lemmas.Bool.{and_right, cond-false}
+use Rattle.sc_base.specs.declared.names.Draw.{Draw}
+use Rattle.sc_base.specs.Same.{same_draw}
+use Rattle.sc_cmd.specs.declared.commands.Command.{Command}
+use Rattle.sc_cmd.specs.declared.cores.Base.{Base}
+use Rattle.sc_cmd.specs.declared.orders.OrderLine.{OrderLine}
+use Rattle.sc_mail.specs.declared.bodies.AnswerBody.{AnswerBody}
+use Rattle.sc_mail.specs.declared.bodies.AnswerBody.TheVariants as Says
+use Rattle.sc_mail.specs.declared.bodies.Mail.{Mail}
+use Rattle.sc_mail.specs.declared.bodies.MailBody.{MailBody}
+use Rattle.sc_mail.specs.declared.bodies.MailBody.TheVariants.{Request, Answer, Prepare, Promise, Accept, Accepted as AcceptedMail, Nack, Learn, Ask, Install, TxPrepare, TxVote, TxOutcome, TxElsewhere, TxWatch, TxWatched, Told}
+use Rattle.sc_actor.specs.declared.rows.Event.{Event}
+use Rattle.sc_base.specs.Among.{Among}
+use Rattle.sc_paxos_law.specs.Steps.{Accepted}
+use Rattle.sc_node_table.specs.Node.{absent}
+use Rattle.sc_sound.specs.Accepts.{accepts_of, is_accepted}
+use Rattle.sc_players.specs.Players.{Ahead}
+use Rattle.sc_group_law.specs.Steps.{proposer_steps, asked_in, promises_of}
+use Rattle.sc_group_law.proofs.Invariant.{Steps, IsOwn, IsTrue}
+use Rattle.sc_group_law.proofs.Voting.{IsPlain, ArePlain, no_promises, any_accepted}
+use Rattle.sc_group_law.proofs.Frames.{node_row, steps_of}
+
+-- ---- rows that take no step
+
+none_asked : (group : Draw) (body : MailBody) → IsPlain body → proposer_steps group body ≡ []
+none_asked group (Prepare g b start) e = absurd e
+none_asked group (Accept g b slot c) e = absurd e
+none_asked group _ e = refl
+
+-- mails that ask for nothing are no steps
+pub no_asked : (group : Draw) (mails : List Mail) (before : Steps) → ArePlain mails → asked_in group mails before ≡ before
+no_asked group [] before e = refl
+no_asked group (mail ∷ mails) before e = ap (λ x. asked_in group mails (x ++ before)) (none_asked group mail.body e.0) ∙ no_asked group mails before e.1
+
+quiet_promises : (group : Draw) (who : ℕ) (event : Event OrderLine) (sent : List Mail) → ArePlain sent → (body : MailBody) → promises_of group (node_row who event sent) body ≡ []
+quiet_promises group who event sent e (Prepare g b start) = no_promises group who b start sent e
+quiet_promises group who event sent e _ = refl
+
+quiet_accepts : (group : Draw) (who : ℕ) (event : Event OrderLine) (sent : List Mail) → ArePlain sent → (body : MailBody) → accepts_of group (node_row who event sent) body ≡ []
+quiet_accepts group who event sent e (Accept g b slot c) =
+    cond-false (same_draw g group && list_any (λ (mail : Mail). is_accepted g b slot mail.body) sent) (Accepted who b slot c ∷ []) []
+    (and_right (same_draw g group) (list_any (λ (mail : Mail). is_accepted g b slot mail.body) sent) (any_accepted g b slot sent e))
+quiet_accepts group who event sent e _ = refl
+
+-- a row that sends only these is no step
+pub quiet_steps : (group : Draw) (who : ℕ) (event : Event OrderLine) (body : MailBody) (sent : List Mail) (before : Steps) → ArePlain sent → steps_of group who event body sent before ≡ before
+quiet_steps group who event body sent before e =
+    ap (λ (x : Steps). x ++ accepts_of group (node_row who event sent) body ++ asked_in group sent before) (quiet_promises group who event sent e body)
+    ∙ ap (λ (x : Steps). x ++ asked_in group sent before) (quiet_accepts group who event sent e body) ∙ no_asked group sent before e
+
+-- what is sent where there is no replica is no step
+pub absent_replies : (me from : ℕ) (body : MailBody) → ArePlain (absent me from body)
+absent_replies me from (Request group client seq op) = (tt, tt)
+absent_replies me from (Prepare group b start) = (tt, tt)
+absent_replies me from (Accept group b slot c) = (tt, tt)
+absent_replies me from (Learn group slot c) = (tt, tt)
+absent_replies me from _ = tt
+
+-- ---- names
+
+-- a name is that of one of these groups
+abbrev pub IsOneOf : List Base → Draw → Type 0
+IsOneOf bases name = (base : Base) × Among base bases × (name ≡ base.core.id)
+
+-- an answer with a reply is of one of these groups
+abbrev pub IsNamedAnswer : List Base → Draw → AnswerBody → Type 0
+IsNamedAnswer bases group (Says.Value reply) = IsOneOf bases group
+IsNamedAnswer bases group _ = Unit {0}
+
+-- a mail of Paxos is of one of these groups, and none is of a transaction
+abbrev pub IsNamed : List Base → MailBody → Type 0
+IsNamed bases (Request group client seq op) = Unit {0}
+IsNamed bases (Answer group seq answer) = IsNamedAnswer bases group answer
+IsNamed bases (Prepare group ballot from_slot) = IsOneOf bases group
+IsNamed bases (Promise group ballot reports) = IsOneOf bases group
+IsNamed bases (Accept group ballot slot command) = IsOneOf bases group
+IsNamed bases (AcceptedMail group ballot slot) = IsOneOf bases group
+IsNamed bases (Nack group promised) = IsOneOf bases group
+IsNamed bases (Learn group slot command) = IsOneOf bases group
+IsNamed bases (Ask group from_slot) = IsOneOf bases group
+IsNamed bases (Install group slot record_of sets) = IsOneOf bases group
+IsNamed bases (TxPrepare tx offer) = ⊥
+IsNamed bases (TxVote tx coord part vote) = ⊥
+IsNamed bases (TxOutcome tx part outcome) = ⊥
+IsNamed bases (TxElsewhere tx coord hint) = ⊥
+IsNamed bases (TxWatch tx watch) = ⊥
+IsNamed bases (TxWatched tx coord part vote) = ⊥
+IsNamed bases (Told number result) = Unit {0}
+
+answer_named : (bases : List Base) (group : Draw) (answer : AnswerBody) → IsOneOf bases group → IsNamedAnswer bases group answer
+answer_named bases group (Says.Value reply) one = one
+answer_named bases group _ one = tt
+
+-- the mails of a group's replica are of that group
+pub own_named : (ahead : Ahead) (bases : List Base) (base : Base) → Among base bases → (body : MailBody) → IsOwn ahead base body → IsNamed bases body
+own_named ahead bases base a (Request group client seq op) own = absurd own
+own_named ahead bases base a (Answer group seq answer) own = answer_named bases group answer (base, a, own)
+own_named ahead bases base a (Prepare group ballot from_slot) own = (base, a, own)
+own_named ahead bases base a (Promise group ballot reports) own = (base, a, own)
+own_named ahead bases base a (Accept group ballot slot command) own = (base, a, own)
+own_named ahead bases base a (AcceptedMail group ballot slot) own = (base, a, own)
+own_named ahead bases base a (Nack group promised) own = (base, a, own)
+own_named ahead bases base a (Learn group slot command) own = (base, a, own)
+own_named ahead bases base a (Ask group from_slot) own = (base, a, own)
+own_named ahead bases base a (Install group slot record_of sets) own = (base, a, own)
+own_named ahead bases base a (TxPrepare tx offer) own = own
+own_named ahead bases base a (TxVote tx coord part vote) own = own
+own_named ahead bases base a (TxOutcome tx part outcome) own = own
+own_named ahead bases base a (TxElsewhere tx coord hint) own = own
+own_named ahead bases base a (TxWatch tx watch) own = own
+own_named ahead bases base a (TxWatched tx coord part vote) own = own
+own_named ahead bases base a (Told number result) own = tt
+
+-- what is sent where there is no replica is of the group of the mail that came
+pub absent_named : (bases : List Base) (me from : ℕ) (body : MailBody) → IsNamed bases body → (mail : Mail) → Among mail (absent me from body) → IsNamed bases mail.body
+absent_named bases me from (Request group client seq op) one mail (inl e) = subst (λ (m : Mail). IsNamed bases m.body) e tt
+absent_named bases me from (Request group client seq op) one mail (inr n) = absurd n
+absent_named bases me from (Prepare group b start) one mail (inl e) = subst (λ (m : Mail). IsNamed bases m.body) e one
+absent_named bases me from (Prepare group b start) one mail (inr n) = absurd n
+absent_named bases me from (Accept group b slot c) one mail (inl e) = subst (λ (m : Mail). IsNamed bases m.body) e one
+absent_named bases me from (Accept group b slot c) one mail (inr n) = absurd n
+absent_named bases me from (Learn group slot c) one mail (inl e) = subst (λ (m : Mail). IsNamed bases m.body) e one
+absent_named bases me from (Learn group slot c) one mail (inr n) = absurd n
+absent_named bases me from _ one mail a = absurd a
+
+-- ... and true
+pub absent_true : (ahead : Ahead) (base : Base) (made : Command → Type 0) (h : Steps) (me from : ℕ) (body : MailBody) (mail : Mail) → Among mail (absent me from body) → IsTrue ahead base made h mail mail.body
+absent_true ahead base made h me from (Request group client seq op) mail (inl e) = subst (λ (m : Mail). IsTrue ahead base made h m m.body) e (λ _. tt)
+absent_true ahead base made h me from (Request group client seq op) mail (inr n) = absurd n
+absent_true ahead base made h me from (Prepare group b start) mail (inl e) = subst (λ (m : Mail). IsTrue ahead base made h m m.body) e tt
+absent_true ahead base made h me from (Prepare group b start) mail (inr n) = absurd n
+absent_true ahead base made h me from (Accept group b slot c) mail (inl e) = subst (λ (m : Mail). IsTrue ahead base made h m m.body) e tt
+absent_true ahead base made h me from (Accept group b slot c) mail (inr n) = absurd n
+absent_true ahead base made h me from (Learn group slot c) mail (inl e) = subst (λ (m : Mail). IsTrue ahead base made h m m.body) e tt
+absent_true ahead base made h me from (Learn group slot c) mail (inr n) = absurd n
+absent_true ahead base made h me from _ mail a = absurd a
