@@ -32,7 +32,7 @@ fn the_law_of_a_log_is_called() {
 }
 
 #[test]
-fn the_laws_of_several_groups_are_called() {
+fn the_laws_of_what_groups_hold_are_called() {
     moves_tell_histories();
     plans_are_moves();
     quiet_entries_tell_a_legal_history();
