@@ -1,0 +1,12 @@
+mod Names
+mod View
+mod Arcs
+mod Cover
+mod Links
+mod Recut
+mod Notes
+mod Facts
+mod Rows
+mod Ends
+mod Effects
+mod Steps

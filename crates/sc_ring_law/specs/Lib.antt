@@ -1,0 +1,4 @@
+pub mod Allowed
+pub mod Invariant
+pub mod Stories
+pub mod Laws
