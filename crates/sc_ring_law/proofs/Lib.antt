@@ -10,3 +10,11 @@ mod Rows
 mod Ends
 mod Effects
 mod Steps
+mod Finds
+mod Cuts
+mod Told
+mod Insides
+mod Commits
+mod Reshapes
+mod Moves
+mod Splits
