@@ -158,15 +158,15 @@ module _ (g : Draw) (d : Division) where
   each_flat : (n : Draw) → (n ≡ d.child → ⊥) → (cs : List Cut) → Each (λ o. n ≢ o.group) cs → Each (λ o. n ≢ o.group) (flat cs)
   each_flat n nc [] h = tt
   each_flat n nc (c ∷ cs) h = elim (cases_Bool (is_cut_of g c)) [
-    | inl t ↦ subst (Each (λ (o : Cut). n ≢ o.group)) (sym (flat_mine c cs t)) (h.0, nc, each_flat n nc cs h.1)
+    | inl t ↦ subst (Each (λ (o : Cut). n ≢ o.group)) (sym (flat_mine c cs t)) (h.0, (nc, each_flat n nc cs h.1))
     | inr t ↦ subst (Each (λ (o : Cut). n ≢ o.group)) (sym (flat_else c cs t)) (h.0, each_flat n nc cs h.1)
   ]
 
-  flat_none : (cs : List Cut) → Each (λ o. g ≢ o.group) cs → flat cs ≡ cs
+  pub flat_none : (cs : List Cut) → Each (λ o. g ≢ o.group) cs → flat cs ≡ cs
   flat_none [] h = refl
   flat_none (c ∷ cs) h = flat_else c cs (other_name c.group g (λ q. h.0 (sym q))) ∙ ap (λ l. c ∷ l) (flat_none cs h.1)
 
-  none_each : (n : Draw) (cs : List Cut) → find (is_cut_of n) cs ≡ None → Each (λ o. n ≢ o.group) cs
+  pub none_each : (n : Draw) (cs : List Cut) → find (is_cut_of n) cs ≡ None → Each (λ o. n ≢ o.group) cs
   none_each n [] e = tt
   none_each n (c ∷ cs) e = elim (cases_Bool (is_cut_of n c)) [
     | inl t ↦ absurd (some_cut c (sym (find_first (is_cut_of n) c cs t) ∙ e))
@@ -182,7 +182,7 @@ module _ (g : Draw) (d : Division) where
         let skip : is_cut_of d.child c ≡ false = other_name c.group d.child (λ q. gc (sym named ∙ q)) in
         let kids = none_each d.child cs (sym (find_skips (is_cut_of d.child) c cs skip) ∙ none) in
         subst (Pairwise (λ (x o : Cut). x.group ≢ o.group)) (sym (flat_mine c cs t ∙ ap (λ l. first_part c ∷ second_part c ∷ l) (flat_none cs rest)))
-        (((λ q. gc (sym named ∙ q)), h.0), kids, h.1))
+        (((λ q. gc (sym named ∙ q)), h.0), (kids, h.1)))
     | inr t ↦ elim (cases_Bool (is_cut_of d.child c)) [
       | inl u ↦ absurd (some_cut c (sym (find_first (is_cut_of d.child) c cs u) ∙ none))
       | inr u ↦ subst (Pairwise (λ (x o : Cut). x.group ≢ o.group)) (sym (flat_else c cs t))

@@ -1,5 +1,5 @@
 -- Look-ups in lists that are changed, added to or filtered.
-use Rattle.std.specs.Prelude.{map, find, ◌++◌, option_or}
+use Rattle.std.specs.Prelude.{map, find, ◌++◌}
 use Rattle.std.specs.List.{filter}
 use Rattle.std.specs.Option.{option_map}
 use Rattle.std.proofs.Common.{◌≡◌, ℕ, zero, suc, ◌<◌, Bool, true, false, cond, List, [], ◌∷◌, ◌⊎◌, inl, inr, Option, Some, None, refl, sym, ◌∙◌, ap, subst, arith, length, AllPairs, get_or}
@@ -9,7 +9,7 @@ use Rattle.sc_base.specs.Among.{Among, Each}
 pub some_is : {X : Type 0} (a b : X) → Some a ≡ Some b → a ≡ b
 some_is a b e = cc
 
-none_is_not : {X : Type 0} (a : X) → None ≡ Some a → ⊥
+pub none_is_not : {X : Type 0} (a : X) → None ≡ Some a → ⊥
 none_is_not a e = cc
 
 cond_map : {X : Type 0} (f : X → X) (b : Bool) (x : X) (o : Option X) → cond b (Some (f x)) (option_map f o) ≡ option_map f (cond b (Some x) o)

@@ -18,3 +18,7 @@ mod Commits
 mod Reshapes
 mod Moves
 mod Splits
+mod Decisions
+mod Orders
+mod Rings
+mod Worlds

@@ -69,10 +69,10 @@ other_calm t tx s s' of ne dec vot = record {
 pub same_calm : (t : Draw) (s s' : Group) → s'.core.lock ≡ s.core.lock → frozen_of s' ≡ frozen_of s → (has_decided s'.core t ≡ false → has_decided s.core t ≡ false) → (has_voted s.core t ≡ true → has_voted s'.core t ≡ true) → IsCalm t s s'
 same_calm t s s' lock held dec vot = record { decided = dec; voted = vot; lock = λ o. lock; held = λ offer e. held }
 
-same_offer : (a b : Offer) → Some a ≡ Some b → a ≡ b
+pub same_offer : (a b : Offer) → Some a ≡ Some b → a ≡ b
 same_offer a b e = cc
 
-same_watch : (a b : Watch) → Some a ≡ Some b → a ≡ b
+pub same_watch : (a b : Watch) → Some a ≡ Some b → a ≡ b
 same_watch a b e = cc
 
 -- a vote that the voter has no note of was not made

@@ -1,6 +1,6 @@
 -- Groups and transactions in their lists, after an entry.
-use Rattle.std.specs.Prelude.{map, find, ◌++◌, ◌&&◌, option_or}
-use Rattle.std.specs.Option.{option_map, option_and_then, option_to_list}
+use Rattle.std.specs.Prelude.{map, find, ◌++◌, ◌&&◌}
+use Rattle.std.specs.Option.{option_map, option_and_then, option_or, option_to_list}
 use Rattle.std.proofs.Common.{◌≡◌, ℕ, Bool, true, false, cond, List, [], ◌∷◌, ◌⊎◌, inl, inr, Option, Some, None, refl, sym, ◌∙◌, ap, subst}
 use Rattle.std.proofs.lemmas.Bool.{cases_Bool, cond-true, cond-false, cond_both, and_from, and_left}
 use Rattle.std.proofs.lemmas.List.Folds.{find-append}
