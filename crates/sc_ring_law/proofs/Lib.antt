@@ -22,3 +22,6 @@ mod Decisions
 mod Orders
 mod Rings
 mod Worlds
+mod Start
+mod Sound
+mod Grows

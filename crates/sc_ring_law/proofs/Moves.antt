@@ -72,10 +72,10 @@ module _ (owner : Draw → Option Draw) (ring : Ring) (gs : Groups) (ys : Storie
       let rmeet : f.core.arc.lo ≡ end_of rest = meet ∙ sym (end_right s.core.arc at ok fits c.held) in
       let rroom = less_room s.core.arc.len f.core.arc.len (offset s.core.arc at) room c.held in
       let fine : can_gain f.core offer at ≡ true = subst (λ a. (can_cut a at && can_join (from a at) f.core.arc) ≡ true) p.arc
-          (and_from (can_cut s.core.arc at) (can_join rest f.core.arc) cut (and_from (f.core.arc.lo == end_of rest) (nat_le (rest.len + f.core.arc.len) (2 ^ 32)) (eq-eqb f.core.arc.lo (end_of rest) rmeet) (le-leb (rest.len + f.core.arc.len) (2 ^ 32) rroom))) in
+      (and_from (can_cut s.core.arc at) (can_join rest f.core.arc) cut (and_from (f.core.arc.lo == end_of rest) (nat_le (rest.len + f.core.arc.len) (2 ^ 32)) (eq-eqb f.core.arc.lo (end_of rest) rmeet) (le-leb (rest.len + f.core.arc.len) (2 ^ 32) rroom))) in
       let free = no_shared f.core.arc rest f.pairs (part_of rest s.pairs) (w.1 n f q.0) (inside_part rest s.pairs) (λ key h. outside_next rest f.core.arc rok its rmeet rroom key h) in
       let after : participant_after o f offer ≡ Some b0 = cond-true (can_gain f.core offer at && not (has_key_of f.pairs (part_gift s at).pairs)) (Some b0) None
-          (and_from (can_gain f.core offer at) (not (has_key_of f.pairs (part_gift s at).pairs)) fine (not_from_false (has_key_of f.pairs (part_gift s at).pairs) free)) in
+      (and_from (can_gain f.core offer at) (not (has_key_of f.pairs (part_gift s at).pairs)) fine (not_from_false (has_key_of f.pairs (part_gift s at).pairs) free)) in
       let k = moved_commit owner ring gs ys g s tx (At.Repart at) y d fz o s' b0 p refl refl refl refl after refl (refl, refl, refl, refl) in
       let ma : s'.core.arc ≡ before s.core.arc at = cond-true (holds s.core.arc at) (before s.core.arc at) (joined s.core.arc (before fz.arc at)) here in
       let ba : b.core.arc ≡ joined rest f.core.arc = ap (λ a. joined (from a at) f.core.arc) (sym p.arc) in

@@ -259,8 +259,14 @@ lock_story ys g s s' tx y y' there e votes same (Promised t offer) r =
     elim (draw_cases t tx) [
       | inl q ↦ (
           let y_is = same_story y r.story (sym there ∙ ap ys (sym q) ∙ r.is) in
-          record { story = y'; is = at-is ys tx (Some y') t q; offered = e.2 ∙ ap (λ (z : Story). z.offer) y_is ∙ r.offered; part = r.part;
-            vote = votes (frozen_of s') (ap (λ (z : Story). z.vote) y_is ∙ r.vote ∙ ap (λ f. Some (Ballot.Yes f)) same.1); here = same.0 ∙ r.here })
+          record {
+            story = y';
+            is = at-is ys tx (Some y') t q;
+            offered = e.2 ∙ ap (λ (z : Story). z.offer) y_is ∙ r.offered;
+            part = r.part;
+            vote = votes (frozen_of s') (ap (λ (z : Story). z.vote) y_is ∙ r.vote ∙ ap (λ f. Some (Ballot.Yes f)) same.1);
+            here = same.0 ∙ r.here;
+          })
       | inr q ↦ record { story = r.story; is = at-other ys tx (Some y') t q ∙ r.is; offered = r.offered; part = r.part; vote = r.vote ∙ ap (λ f. Some (Ballot.Yes f)) same.1; here = same.0 ∙ r.here }
     ]
 lock_story ys g s s' tx y y' there e votes same (Watching t watch) r =

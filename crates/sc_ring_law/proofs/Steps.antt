@@ -288,8 +288,7 @@ module _ (owner : Draw → Option Draw) (ring : Ring) (gs : Groups) (ys : Storie
       → Kept owner ring (put gs g (Some (begun_group s tx body order))) (put ys tx (Some (new_story s body)))
   lock_taken tx body order free here fresh mine unborn apart own =
       let s' = begun_group s tx body order in
-      let ys' = put ys tx (Some (new_story s body)) in
-      (
+      let ys' = put ys tx (Some (new_story s body)) in (
         begin_facts gs ys owner g s tx body order k.0 is free here fresh mine unborn apart own,
         whole_change ring gs ys ys' g s s' is (like_at ys tx (new_story s body) None fresh (like_same None None refl))
             (let a = eff_free (decisions ys) s here free in

@@ -90,7 +90,7 @@ groups_are s after (Some base) groups id is fresh h =
     let f = put (groups_in groups) s.core.id (Some after) in
     find-append (is_named h) (with_group s.core.id after groups) (group_of base ∷ [])
     ∙ one_found h base (named_group h (with_group s.core.id after groups))
-      (λ q. with_group_is s.core.id after s groups id is h ∙ ap f q ∙ fresh base refl) f (sym (with_group_is s.core.id after s groups id is h))
+    (λ q. with_group_is s.core.id after s groups id is h ∙ ap f q ∙ fresh base refl) f (sym (with_group_is s.core.id after s groups id is h))
 
 -- each group is found by its name
 abbrev pub AreFound : List Group → Type 0
@@ -134,6 +134,7 @@ found_after s after child groups id is fresh found u a =
       ])
       | inr b ↦ all u.core.id ∙ child_found f child u b
     ]
+
 -- ---- transactions
 
 -- who coordinates a transaction, and what was decided

@@ -284,9 +284,9 @@ step_kept sources w g command k a (Some s) e =
     let here : named_group s.core.id w.store.groups ≡ Some s = ap gs named ∙ e in
     let new : (base : Base) → birth_of s command r.1 ≡ Some base → put gs s.core.id (Some r.0) base.core.id ≡ None = birth_new gs s.core.id s r.0 here division fit.births in
     let groups : groups_in (groups_after s r.0 (birth_of s command r.1) w.store.groups) ≡ next = same_fun _ next (λ h.
-        groups_are s r.0 (birth_of s command r.1) w.store.groups id here new h
-        ∙ born_is s (put gs s.core.id (Some r.0)) division h
-        ∙ ap (λ n. born_too s (put gs n (Some r.0)) division h) named) in
+    groups_are s r.0 (birth_of s command r.1) w.store.groups id here new h
+    ∙ born_is s (put gs s.core.id (Some r.0)) division h
+    ∙ ap (λ n. born_too s (put gs n (Some r.0)) division h) named) in
     let fresh : (d : Division) → division ≡ Some d → (s.core.id ≡ d.child → ⊥) × (arc_in d.child w.store.ring ≡ None) =
     λ d q. ((λ z. some_none s (sym here ∙ ap gs z ∙ fit.births d q)), k.kept.1.2 d.child ∙ ap (λ x. arc_of (eff (decisions w.stories) x)) (fit.births d q)) in
     let cuts = ring_is s.core command r.1 w.store.ring fit.apart fresh in

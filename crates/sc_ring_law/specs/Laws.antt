@@ -15,7 +15,7 @@ use Rattle.sc_entries.specs.declared.LogEntry.{LogEntry}
 use Rattle.sc_entries.specs.Effective.{effective, serves}
 use Rattle.sc_entries.specs.Rings.{Covers, first_cut}
 use Rattle.sc_entries.specs.Worlds.{StoreWorld, named_group, world_of}
-use Rattle.sc_ring_law.specs.Allowed.{Sources, AreAllowed, first_told, told_after}
+use Rattle.sc_ring_law.specs.Allowed.{Sources, IsAllowed, AreAllowed, first_told, told_after}
 use Rattle.sc_ring_law.specs.Invariant.{Facts}
 use Rattle.sc_ring_law.specs.Stories.{Stories}
 
@@ -104,5 +104,10 @@ abbrev pub DrawsAreOfOneLog : Type 0
 DrawsAreOfOneLog = (sources : Sources) (bases : List Base) (entries : List LogEntry) → AreAllowed sources (first_told bases) entries
     → (a b : LogEntry) → Among a entries → Among b entries → (name : Draw) → draw_of a.command ≡ Some name → draw_of b.command ≡ Some name → a.group ≡ b.group
 
-abbrev pub S : Type 0
-S = (d : Draw) → d ≡ d
+-- ---- what is allowed
+
+-- an entry that is allowed stays allowed after more allowed entries
+abbrev pub AllowedEntriesStayAllowed : Type 0
+AllowedEntriesStayAllowed = (sources : Sources) (bases : List Base) (entries more : List LogEntry) → IsStart sources bases
+    → AreAllowed sources (first_told bases) entries → AreAllowed sources (told_after (first_told bases) entries) more
+    → (name : Draw) (command : Command) → IsAllowed sources (stories_of bases entries) name command → IsAllowed sources (told_after (told_after (first_told bases) entries) more).stories name command

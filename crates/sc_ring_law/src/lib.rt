@@ -1,10 +1,30 @@
-//! The law of entries: what the entries of all logs make of the ring, if each of them is allowed.
-//! Nested consensus without mail, as in Scatter (SOSP 2011). Definitions and laws, no logic.
+//! The law of entries: what the entries of all logs make of the groups and of the ring, where each
+//! entry is allowed by what was told before it. Nested consensus without mail, as in Scatter
+//! (SOSP 2011). Definitions and laws, no logic.
 #![tactic(auto)]
 
-ghost use Rattle.sc_ring_law.specs.Laws.{S};
+ghost use Rattle.sc_ring_law.specs.Laws.{EntriesKeepTheRing, EntriesKeepThePromises, DrawsAreOfOneLog, AllowedEntriesStayAllowed};
 
-/// Law.
-pub fn law()
-    ensures { S }
+/// After every list of allowed entries the ring covers; the effective record of each cut's group
+/// is not gone, has the cut's arc and names its two neighbours, itself where it is alone; and a
+/// group that serves a key is the group of the cut that holds its position.
+pub fn entries_keep_the_ring()
+    ensures { EntriesKeepTheRing }
+{}
+
+/// After every list of allowed entries each lock, vote and decision is as was told: a coordinator
+/// is as it was at the entry that began its transaction until it decides, a participant is as it
+/// was frozen from its Yes to the end, and a watcher watches.
+pub fn entries_keep_the_promises()
+    ensures { EntriesKeepThePromises }
+{}
+
+/// A name stands in the Begins and Splits of one group's log alone.
+pub fn draws_are_of_one_log()
+    ensures { DrawsAreOfOneLog }
+{}
+
+/// What allows an entry only grows: an entry that is allowed stays allowed after more entries.
+pub fn allowed_entries_stay_allowed()
+    ensures { AllowedEntriesStayAllowed }
 {}
