@@ -219,6 +219,7 @@ module _ (owner : Draw → Option Draw) (ring : Ring) (gs : Groups) (ys : Storie
   coord_tx l t tx body order heard e q = e ∙ ap (λ n. Coordinating n body order heard) (draw_is t tx q)
 
   pub record_kept : (tx : Draw) (vote : Vote) (by : ℕ) → IsVoteCast ys tx vote → (l : Lock) → s.core.lock ≡ l → Lands tx vote (vote_recorded l s tx vote by)
+  unfolding heard_none coord_tx mine_open
   record_kept tx vote by h Free e = lands_idle tx vote
   record_kept tx vote by h (Coordinating t body order heard) e =
       cond_both (same_draw t tx) _ _ (Lands tx vote)

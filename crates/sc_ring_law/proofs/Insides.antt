@@ -71,7 +71,7 @@ later e es up q v f =
       | inr t ↦ cond-false (eq_by_cmp (slice_cmp nat_cmp) q e.0) (Some e.1) (find (slice_cmp nat_cmp) q es) t ∙ f
     ]
 
-clear_of : (m : Contents) (es : List (List ℕ × List ℕ)) → T (is_sorted (slice_cmp nat_cmp) es) → ((q v : List ℕ) → find (slice_cmp nat_cmp) q es ≡ Some v → get m q ≡ None) → has_key_of m es ≡ false
+pub clear_of : (m : Contents) (es : List (List ℕ × List ℕ)) → T (is_sorted (slice_cmp nat_cmp) es) → ((q v : List ℕ) → find (slice_cmp nat_cmp) q es ≡ Some v → get m q ≡ None) → has_key_of m es ≡ false
 clear_of m [] up k = refl
 clear_of m (e ∷ es) up k =
     or_from (is_some (get m e.0)) (has_key_of m es)

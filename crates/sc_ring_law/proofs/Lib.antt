@@ -25,3 +25,4 @@ mod Worlds
 mod Start
 mod Sound
 mod Grows
+mod Example

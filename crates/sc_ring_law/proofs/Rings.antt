@@ -74,7 +74,7 @@ decided_apart ring g p (Some Divided) k = k
 
 -- ---- a division
 
-no_division : {X : Type 0} (d : Division) → None ≡ Some d → X
+pub no_division : {X : Type 0} (d : Division) → None ≡ Some d → X
 no_division d e = absurd (let f : None ≡ Some d = e in cc)
 
 -- what divides moves no other cut

@@ -2,3 +2,4 @@ pub mod Allowed
 pub mod Invariant
 pub mod Stories
 pub mod Laws
+pub mod Example

@@ -3,7 +3,9 @@
 //! (SOSP 2011). Definitions and laws, no logic.
 #![tactic(auto)]
 
-ghost use Rattle.sc_ring_law.specs.Laws.{EntriesKeepTheRing, EntriesKeepThePromises, DrawsAreOfOneLog, AllowedEntriesStayAllowed};
+ghost use Rattle.sc_ring_law.specs.Laws.{EntriesKeepTheRing, EntriesKeepThePromises};
+ghost use Rattle.sc_ring_law.specs.Laws.{DrawsAreOfOneLog, AllowedEntriesStayAllowed};
+ghost use Rattle.sc_ring_law.specs.Example.{MergeIsAllowed, SplitIsAllowed};
 
 /// After every list of allowed entries the ring covers; the effective record of each cut's group
 /// is not gone, has the cut's arc and names its two neighbours, itself where it is alone; and a
@@ -27,4 +29,15 @@ pub fn draws_are_of_one_log()
 /// What allows an entry only grows: an entry that is allowed stays allowed after more entries.
 pub fn allowed_entries_stay_allowed()
     ensures { AllowedEntriesStayAllowed }
+{}
+
+/// A worked list of entries, so that the laws are about something: a merge with a watcher, with
+/// calls before, between and after.
+pub fn merge_is_allowed()
+    ensures { MergeIsAllowed }
+{}
+
+/// Another: a split that is given up, and ordered again under another name.
+pub fn split_is_allowed()
+    ensures { SplitIsAllowed }
 {}
