@@ -197,7 +197,8 @@ second_allowed = ((_, refl, refl), subst (λ w. AreAllowed sources w after_third
 
 first_allowed : AreAllowed sources (called_first None) after_first
 first_allowed = (
-  (refl, tt), ((_, refl, refl, refl), ((_, refl, refl), ((_, refl, refl, refl), (refl, subst (λ w. AreAllowed sources w after_second) (sym second_is) second_allowed)))),
+  (refl, tt),
+  ((_, refl, refl, refl), ((_, refl, refl), ((_, refl, refl, refl), (refl, subst (λ w. AreAllowed sources w after_second) (sym second_is) second_allowed)))),
 )
 
 merge_allowed : AreAllowed sources (first_told merge_bases) merge_entries
@@ -233,8 +234,27 @@ lt_half = omega arith
 
 split_allowed : AreAllowed sources (first_told split_bases) split_entries
 split_allowed = (
-  (refl, lt_half), (tt, ((_, refl, refl, refl), ((_, refl, refl), ((_, refl, refl), ((refl, lt_half), ((refl, lt_half),
-  ((_, refl, refl, refl), ((_, refl, refl), ((_, refl, refl), tt))))))))))
+  (refl, lt_half),
+  (
+    tt,
+    (
+      (_, refl, refl, refl),
+      (
+        (_, refl, refl),
+        (
+          (_, refl, refl),
+          (
+            (refl, lt_half),
+            (
+              (refl, lt_half),
+              ((_, refl, refl, refl), ((_, refl, refl), ((_, refl, refl), tt))),
+            ),
+          ),
+        ),
+      ),
+    ),
+  ),
+)
 
 split_ring : (world_of split_bases split_entries).ring ≡ cut 0 1073741824 (named 0 1) ∷ cut 1073741824 1073741824 (named 1 2) ∷ cut 2147483648 2147483648 (named 0 2) ∷ []
 split_ring = refl

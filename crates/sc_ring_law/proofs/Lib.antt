@@ -1,28 +1,28 @@
-mod Names
-mod View
-mod Arcs
-mod Cover
-mod Links
-mod Recut
-mod Notes
-mod Facts
-mod Rows
-mod Ends
-mod Effects
-mod Steps
-mod Finds
-mod Cuts
-mod Told
-mod Insides
-mod Commits
-mod Reshapes
-mod Moves
-mod Splits
-mod Decisions
-mod Orders
-mod Rings
-mod Worlds
-mod Start
-mod Sound
-mod Grows
-mod Example
+pub mod Names
+pub mod View
+pub mod Arcs
+pub mod Cover
+pub mod Links
+pub mod Recut
+pub mod Notes
+pub mod Facts
+pub mod Rows
+pub mod Ends
+pub mod Effects
+pub mod Steps
+pub mod Finds
+pub mod Cuts
+pub mod Told
+pub mod Insides
+pub mod Commits
+pub mod Reshapes
+pub mod Moves
+pub mod Splits
+pub mod Decisions
+pub mod Orders
+pub mod Rings
+pub mod Worlds
+pub mod Start
+pub mod Sound
+pub mod Grows
+pub mod Example

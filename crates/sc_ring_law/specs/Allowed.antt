@@ -22,7 +22,7 @@ pub record Sources : Type 0 where
   -- the group that a name was drawn for; none where it is the name of a scenario's group
   pub owner : Draw → Option Draw
   -- what a client asks by each number
-  pub request : ℕ → ℕ → Option Op
+  pub request : ℕ → ℕ → Op
 
 -- a transaction that is begun has a participant; a boundary is moved to a position
 abbrev pub IsShared : Body → Type 0
@@ -44,7 +44,7 @@ IsWatchVoteCast stories tx Cast.Ended = Unit {0}
 
 -- whether an entry may be appended to the log of the group with this name, after what was told
 abbrev pub IsAllowed : Sources → Stories → Draw → Command → Type 0
-IsAllowed sources stories name (Call client seq op) = sources.request client seq ≡ Some op
+IsAllowed sources stories name (Call client seq op) = op ≡ sources.request client seq
 IsAllowed sources stories name (Split at child order) = (sources.owner child ≡ Some name) × (at < 2 ^ 32)
 IsAllowed sources stories name (Begin tx body order) = (sources.owner tx ≡ Some name) × IsShared body
 IsAllowed sources stories name (Prepared tx offer) = (story : Story) × (stories tx ≡ Some story) × (story.offer ≡ Some (unsigned offer)) × (offer.part ≡ name)

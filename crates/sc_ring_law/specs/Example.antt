@@ -74,7 +74,7 @@ get_a = Get (97 ∷ [])
 abbrev pub sources : Sources
 sources = record {
   owner = λ name. if name.node == 1 then Some (named 0 1) else None;
-  request = λ client seq. if client == 9 then (if seq == 1 then Some put_a else Some get_a) else Some put_x;
+  request = λ client seq. if client == 9 then (if seq == 1 then put_a else get_a) else put_x;
 }
 
 -- ---- the merge
