@@ -199,7 +199,8 @@ split_same : (b : Bool) (group one other : Group) → IsSameGroup one.core group
 split_same true group one other k l = k
 split_same false group one other k l = l
 
-applied_same : (group : Group) (c : Command) → IsSameGroup (applied group c).0.core group.core
+-- a command keeps the name and the first leader
+pub applied_same : (group : Group) (c : Command) → IsSameGroup (applied group c).0.core group.core
 applied_same group Noop = (refl, refl)
 applied_same group (Call client seq op) = same_core _ _ (called_core group.core.gone group.core.lock group client seq op)
 applied_same group (Join node order) =
@@ -233,7 +234,8 @@ OnlyMembers before after = after ≡ record before { members = after.members }
 same_but : (before after : Core) → after ≡ before → OnlyMembers before after
 same_but before after e = e ∙ ap (λ (ms : List ℕ). record before { members = ms }) (ap (λ (c : Core). c.members) (sym e))
 
-applied_core : (group : Group) (c : Command) → LeavesWhole c → OnlyMembers group.core (applied group c).0.core
+-- so does one command
+pub applied_core : (group : Group) (c : Command) → LeavesWhole c → OnlyMembers group.core (applied group c).0.core
 applied_core group (Call client seq op) keeps = same_but group.core _ (called_core group.core.gone group.core.lock group client seq op)
 applied_core group (Join node order) keeps =
     ordered_either (λ x. OnlyMembers group.core x.core) group.core.gone (refusal_of group.core (Join node order)) (with_node group node) group refl refl

@@ -30,11 +30,12 @@ use Rattle.sc_machine_table.proofs.LogLemmas.{done_push}
 use Rattle.sc_hist_law.proofs.Logs.{ordered_either}
 use Rattle.sc_hist_law.proofs.Kept.{IsApart, all_pairs, apart_push, apart_right}
 
-replay_push : (contents : Contents) (entries : List Entry) (e : Entry) → HasStoreReplies contents entries → e.reply ≡ reply_of e.op (contents_after contents entries) → HasStoreReplies contents (entries ++ e ∷ [])
+-- one entry more has its reply, and leaves its map
+pub replay_push : (contents : Contents) (entries : List Entry) (e : Entry) → HasStoreReplies contents entries → e.reply ≡ reply_of e.op (contents_after contents entries) → HasStoreReplies contents (entries ++ e ∷ [])
 replay_push contents [] e r is = (is, tt)
 replay_push contents (x ∷ xs) e r is = (r.0, replay_push (after x.op contents) xs e r.1 is)
 
-after_push : (contents : Contents) (entries : List Entry) (e : Entry) → contents_after contents (entries ++ e ∷ []) ≡ after e.op (contents_after contents entries)
+pub after_push : (contents : Contents) (entries : List Entry) (e : Entry) → contents_after contents (entries ++ e ∷ []) ≡ after e.op (contents_after contents entries)
 after_push contents [] e = refl
 after_push contents (x ∷ xs) e = after_push (after x.op contents) xs e
 

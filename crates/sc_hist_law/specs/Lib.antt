@@ -1,1 +1,6 @@
+pub mod Example
 pub mod Laws
+pub mod Moves
+pub mod PlanMoves
+pub mod Telling
+pub mod Worlds

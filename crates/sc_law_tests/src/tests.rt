@@ -4,7 +4,11 @@ use sc_group_law::{
     a_journal_with_a_join, a_journal_with_an_election, group_journals_are_sound,
     valid_scenarios_have_one_group,
 };
-use sc_hist_law::logs_tell_histories;
+use sc_hist_law::{
+    an_example_of_entries, an_example_of_moves, entries_that_move_tell_a_legal_history,
+    logs_tell_histories, moves_tell_histories, plans_are_moves, quiet_entries_tell_a_legal_history,
+    told_entries_tell_a_legal_history,
+};
 use sc_paxos_law::{
     a_lawful_history, acceptors_are_lawful, leaders_are_lawful, one_log, one_value_per_slot,
 };
@@ -25,6 +29,17 @@ fn the_laws_of_paxos_are_of_any_value() {
 #[test]
 fn the_law_of_a_log_is_called() {
     logs_tell_histories();
+}
+
+#[test]
+fn the_laws_of_what_groups_hold_are_called() {
+    moves_tell_histories();
+    plans_are_moves();
+    quiet_entries_tell_a_legal_history();
+    entries_that_move_tell_a_legal_history();
+    told_entries_tell_a_legal_history();
+    an_example_of_moves();
+    an_example_of_entries();
 }
 
 #[test]

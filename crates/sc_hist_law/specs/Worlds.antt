@@ -1,0 +1,118 @@
+-- What the entries of all logs tell of what all groups hold.
+use Rattle.std.specs.Prelude.{◌≡◌, ◌⊎◌, List, [], ◌∷◌, ◌++◌, map, Some}
+use Rattle.std.specs.FinMap.{empty}
+use Rattle.std.specs.Option.{option_map, option_and_then}
+use Rattle.sc_base.specs.Among.{Among, Each}
+use Rattle.sc_base.specs.declared.names.Draw.{Draw}
+use Rattle.sc_cmd.specs.declared.commands.Command.{Command}
+use Rattle.sc_cmd.specs.declared.commands.Command.TheVariants.{Noop, Call, Join, Leave, Split, Begin, Prepared, RecordVote, GiveUp, Finish, Watched, RecordWatch}
+use Rattle.sc_cmd.specs.declared.cores.Base.{Base}
+use Rattle.sc_ideal.specs.History.{Legal, contents_after}
+use Rattle.sc_ideal.specs.IdealStore.{part_of}
+use Rattle.sc_machine_table.specs.Group.{Group}
+use Rattle.sc_entries.specs.declared.Cut.{Cut}
+use Rattle.sc_entries.specs.declared.LogEntry.{LogEntry}
+use Rattle.sc_entries.specs.Effective.{effective}
+use Rattle.sc_entries.specs.Rings.{Covers, arc_in, first_cut}
+use Rattle.sc_entries.specs.Worlds.{StoreWorld, first_world, named_group, told, world_of}
+use Rattle.sc_hist_law.specs.Laws.{LeavesWhole}
+use Rattle.sc_hist_law.specs.Moves.{Holding, Holdings, Move, RequestOf, HasNotes, MayMake, TellsHoldings, entries_by, holding_of, holdings_after}
+
+-- what each group with a cut holds, by its effective record
+abbrev pub holdings_in : StoreWorld → Holdings
+holdings_in world name = option_and_then (λ arc. option_map holding_of (effective world name)) (arc_in name world.ring)
+
+-- a group of a scenario that holds nothing
+pub record BeginsBare (base : Base) : Type 0 where
+  pub pairs : base.pairs ≡ []
+  pub clients : base.clients ≡ []
+
+-- the groups of a scenario: their arcs make the ring, and they hold nothing
+pub record BeginBare (bases : List Base) : Type 0 where
+  pub covers : Covers (map first_cut bases)
+  pub bare : (base : Base) → Among base bases → BeginsBare base
+
+-- a call is the request of its client and number
+abbrev pub IsAsked : RequestOf → Command → Type 0
+IsAsked request (Call client seq op) = op ≡ request client seq
+IsAsked request Noop = Unit {0}
+IsAsked request (Join node order) = Unit {0}
+IsAsked request (Leave node order) = Unit {0}
+IsAsked request (Split at child order) = Unit {0}
+IsAsked request (Begin tx body order) = Unit {0}
+IsAsked request (Prepared tx offer) = Unit {0}
+IsAsked request (RecordVote tx vote by) = Unit {0}
+IsAsked request (GiveUp tx) = Unit {0}
+IsAsked request (Finish tx outcome) = Unit {0}
+IsAsked request (Watched tx watch) = Unit {0}
+IsAsked request (RecordWatch tx vote by) = Unit {0}
+
+-- an entry that divides no group and is of no transaction; a call is the request of its client and number
+pub record IsQuiet (request : RequestOf) (entry : LogEntry) : Type 0 where
+  pub whole : LeavesWhole entry.command
+  pub asked : IsAsked request entry.command
+
+-- the map after the history, on a cut's arc, is the pairs of its group's effective record
+abbrev pub HasItsCut : StoreWorld → Cut → Type 0
+HasItsCut world cut = (group : Group) → effective world cut.group ≡ Some group → group.pairs ≡ part_of cut.arc (contents_after empty world.history)
+
+-- what any group's own log ever made it note has its entry in the history of all entries: a replica that answers by an older state answers by the history
+abbrev pub LogNotesStay : List Base → List LogEntry → Type 0
+LogNotesStay bases entries = (front more : List LogEntry) → entries ≡ front ++ more → (name : Draw) (group : Group) → named_group name (world_of bases front).groups ≡ Some group
+    → HasNotes (world_of bases entries).history group.clients
+
+-- a world whose history is legal and tells what all groups hold, cut by cut
+pub record IsToldWorld (request : RequestOf) (world : StoreWorld) : Type 0 where
+  pub legal : Legal world.history
+  pub told : TellsHoldings request world.history (holdings_in world)
+  pub parts : (cut : Cut) → Among cut world.ring → HasItsCut world cut
+
+-- whatever requests, joins and leaves the groups of a scenario execute, the requests that took effect, whichever group served them, are one legal history; the cuts stay, and the effective record of each cut's group has the map after it on that cut
+pub record TellQuietly (request : RequestOf) (bases : List Base) (entries : List LogEntry) : Type 0 where
+  pub world : IsToldWorld request (world_of bases entries)
+  pub ring : (world_of bases entries).ring ≡ map first_cut bases
+  pub notes : LogNotesStay bases entries
+
+-- the law of several groups
+abbrev pub QuietEntriesTell : Type 0
+QuietEntriesTell = (request : RequestOf) (bases : List Base) → BeginBare bases → (entries : List LogEntry) → Each (IsQuiet request) entries → TellQuietly request bases entries
+
+-- ---- entries of every kind
+
+-- the table of a group by its own log: empty, or as it was before an entry, or what the group holds after it
+abbrev pub HasKnownTable : StoreWorld → StoreWorld → Draw → Group → Type 0
+HasKnownTable before after name group =
+    (group.clients ≡ empty)
+    ⊎ ((old : Group) × (named_group name before.groups ≡ Some old) × (old.clients ≡ group.clients))
+    ⊎ ((holding : Holding) × (holdings_in after name ≡ Some holding) × (holding.clients ≡ group.clients))
+
+-- one world comes of another by a move of what all groups hold: the move may be made, the history grows by what it adds, and afterwards each group holds what it says
+pub record IsMoveTo (request : RequestOf) (before after : StoreWorld) : Type 0 where
+  pub move : Move
+  pub may : MayMake request (holdings_in before) move
+  pub holds : (name : Draw) → holdings_in after name ≡ holdings_after move (holdings_in before) name
+  pub adds : after.history ≡ before.history ++ entries_by move (holdings_in before)
+  pub tables : (name : Draw) (group : Group) → named_group name after.groups ≡ Some group → HasKnownTable before after name group
+
+-- an entry makes a move
+abbrev pub MakesMove : RequestOf → StoreWorld → LogEntry → Type 0
+MakesMove request world entry = IsMoveTo request world (told world entry)
+
+-- each entry makes a move when it is told
+abbrev pub AllMakeMoves : RequestOf → StoreWorld → List LogEntry → Type 0
+AllMakeMoves request world [] = Unit {0}
+AllMakeMoves request world (entry ∷ entries) = MakesMove request world entry × AllMakeMoves request (told world entry) entries
+
+-- the effective record of a cut's group has the arc of the cut
+abbrev pub HasCutArc : StoreWorld → Cut → Type 0
+HasCutArc world cut = (group : Group) → effective world cut.group ≡ Some group → group.core.arc ≡ cut.arc
+
+-- the history tells what all groups hold, cut by cut where the records have the arcs of the cuts, and the notes of all logs stay in it
+pub record TellByMoves (request : RequestOf) (bases : List Base) (entries : List LogEntry) : Type 0 where
+  pub told : TellsHoldings request (world_of bases entries).history (holdings_in (world_of bases entries))
+  pub parts : (cut : Cut) → Among cut (world_of bases entries).ring → HasCutArc (world_of bases entries) cut → HasItsCut (world_of bases entries) cut
+  pub notes : LogNotesStay bases entries
+
+-- whatever the entries are, where each of them makes a move
+abbrev pub EntriesThatMoveTell : Type 0
+EntriesThatMoveTell = (request : RequestOf) (bases : List Base) → BeginBare bases → (entries : List LogEntry) → AllMakeMoves request (first_world bases) entries → TellByMoves request bases entries

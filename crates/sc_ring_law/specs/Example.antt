@@ -1,0 +1,180 @@
+-- Two worked lists of entries: a merge with a watcher and calls before, between and after; and a split that is given up and ordered again under another name.
+use Rattle.std.specs.Prelude.{◌≡◌, ℕ, ◌==◌, ◌&&◌, List, [], ◌∷◌, if◌then◌else◌, Option, Some, None}
+use Rattle.sc_base.specs.Same.{same_draw}
+use Rattle.sc_base.specs.declared.names.Draw.{Draw}
+use Rattle.sc_base.specs.declared.ops.Op.{Op}
+use Rattle.sc_base.specs.declared.ops.Op.TheVariants.{Get, Put}
+use Rattle.sc_cmd.specs.declared.bodies.Body.TheVariants as At
+use Rattle.sc_cmd.specs.declared.bodies.Offer.{Offer}
+use Rattle.sc_cmd.specs.declared.bodies.Watch.{Watch}
+use Rattle.sc_cmd.specs.declared.commands.Command.{Command}
+use Rattle.sc_cmd.specs.declared.commands.Command.TheVariants.{Call, Split, Begin, Prepared, RecordVote, GiveUp, Finish, Watched, RecordWatch}
+use Rattle.sc_cmd.specs.declared.cores.Base.{Base}
+use Rattle.sc_cmd.specs.declared.cores.Lock.TheVariants.{Free}
+use Rattle.sc_cmd.specs.declared.votes.Frozen.{Frozen}
+use Rattle.sc_cmd.specs.declared.votes.Outcome.{Outcome}
+use Rattle.sc_cmd.specs.declared.votes.Outcome.TheVariants.{Abort, Merged, Divided}
+use Rattle.sc_cmd.specs.declared.votes.Past.TheVariants as Cast
+use Rattle.sc_cmd.specs.declared.votes.Vote.TheVariants.{Yes}
+use Rattle.sc_machine_table.specs.Group.{Group, group_of}
+use Rattle.sc_machine_table.specs.Machine.{done}
+use Rattle.sc_machine_table.specs.Plans.{frozen_of}
+use Rattle.sc_entries.specs.declared.Cut.{Cut}
+use Rattle.sc_entries.specs.declared.LogEntry.{LogEntry}
+use Rattle.sc_entries.specs.Worlds.{world_of}
+use Rattle.sc_ring_law.specs.Allowed.{Sources, AreAllowed, first_told}
+use Rattle.sc_ring_law.specs.Laws.{IsStart}
+
+-- a name
+abbrev pub named : ℕ → ℕ → Draw
+named node count = record { node = node; count = count }
+
+-- a group of a scenario: its name, its arc, its members and its neighbours
+abbrev pub first_group : ℕ → ℕ → ℕ → List ℕ → ℕ → ℕ → Base
+first_group name lo len members succ pred = record {
+  core = record {
+    id = named 0 name;
+    first = 1;
+    arc = record { lo = lo; len = len };
+    members = members;
+    succ = record { group = named 0 succ; members = [] };
+    pred = record { group = named 0 pred; members = [] };
+    lock = Free;
+    begun = 0;
+    decided = [];
+    voted = [];
+    born = [];
+    gone = None;
+  };
+  pairs = [];
+  clients = [];
+}
+
+-- an entry of a log
+abbrev pub entry : Draw → ℕ → Command → LogEntry
+entry group slot command = record { group = group; slot = slot; command = command }
+
+-- a cut of the ring
+abbrev pub cut : ℕ → ℕ → Draw → Cut
+cut lo len group = record { arc = record { lo = lo; len = len }; group = group }
+
+-- the calls: keys a and x
+abbrev pub put_a : Op
+put_a = Put (97 ∷ []) (120 ∷ [])
+
+-- on the watcher's arc
+abbrev pub put_x : Op
+put_x = Put (120 ∷ []) (121 ∷ [])
+
+-- after the merge
+abbrev pub get_a : Op
+get_a = Get (97 ∷ [])
+
+-- names of node 1 are drawn for the group 0.1; client 9 puts a and gets it, and any other client puts x
+abbrev pub sources : Sources
+sources = record {
+  owner = λ name. if name.node == 1 then Some (named 0 1) else None;
+  request = λ client seq. if client == 9 then (if seq == 1 then put_a else get_a) else put_x;
+}
+
+-- ---- the merge
+
+-- three groups
+abbrev pub one : Base
+one = first_group 1 0 1610612736 (1 ∷ []) 2 3
+
+-- the one that has the key a
+abbrev pub two : Base
+two = first_group 2 1610612736 117440512 (2 ∷ []) 3 1
+
+-- the one that has the key x
+abbrev pub three : Base
+three = first_group 3 1728053248 2566914048 (3 ∷ []) 1 2
+
+-- the groups of the scenario
+abbrev pub merge_bases : List Base
+merge_bases = one ∷ two ∷ three ∷ []
+
+-- the participant after its first call
+abbrev pub two_called : Group
+two_called = (done (group_of two) 9 1 put_a).0
+
+-- what it hands over
+abbrev pub two_frozen : Frozen
+two_frozen = frozen_of two_called
+
+-- what it is offered
+abbrev pub merge_offer : Offer
+merge_offer = record { coord = named 0 1; part = named 0 2; arc = record { lo = 0; len = 1610612736 }; members = 1 ∷ []; body = At.Merge; by = 1 }
+
+-- what the third is asked
+abbrev pub merge_watch_asked : Watch
+merge_watch_asked = record { coord = named 0 1; members = 1 ∷ []; part = named 0 3; old = named 0 2; next = record { group = named 0 1; members = 1 ∷ 2 ∷ [] }; by = 1 }
+
+-- what is decided
+abbrev pub merge_outcome : Outcome
+merge_outcome = Merged (record { group = named 0 1; lo = 0; members = 1 ∷ 2 ∷ [] })
+
+-- the entries
+abbrev pub merge_entries : List LogEntry
+merge_entries =
+    entry (named 0 2) 1 (Call 9 1 put_a)
+    ∷ entry (named 0 1) 1 (Begin (named 1 1) At.Merge 1)
+    ∷ entry (named 0 2) 2 (Prepared (named 1 1) merge_offer)
+    ∷ entry (named 0 1) 2 (RecordVote (named 1 1) (Yes two_frozen) 2)
+    ∷ entry (named 0 3) 1 (Watched (named 1 1) merge_watch_asked)
+    ∷ entry (named 0 3) 2 (Call 8 1 put_x)
+    ∷ entry (named 0 1) 3 (RecordWatch (named 1 1) Cast.Yes 3)
+    ∷ entry (named 0 2) 3 (Finish (named 1 1) merge_outcome)
+    ∷ entry (named 0 3) 3 (Finish (named 1 1) merge_outcome)
+    ∷ entry (named 0 1) 4 (Call 9 2 get_a)
+    ∷ []
+
+-- ---- the split
+
+-- two groups
+abbrev pub left : Base
+left = first_group 1 0 2147483648 (1 ∷ 2 ∷ []) 2 2
+
+-- the watcher
+abbrev pub right : Base
+right = first_group 2 2147483648 2147483648 (3 ∷ []) 1 1
+
+-- the groups of the scenario
+abbrev pub split_bases : List Base
+split_bases = left ∷ right ∷ []
+
+-- what the watcher is asked, by the child's name
+abbrev pub split_watch_asked : Draw → Watch
+split_watch_asked child = record { coord = named 0 1; members = 1 ∷ 2 ∷ []; part = named 0 2; old = named 0 1; next = record { group = child; members = 2 ∷ [] }; by = 1 }
+
+-- the entries: the first split is given up, its late watcher's Yes comes to nothing, and its name is not taken again
+abbrev pub split_entries : List LogEntry
+split_entries =
+    entry (named 0 1) 1 (Split 1073741824 (named 1 1) 1)
+    ∷ entry (named 0 1) 2 (GiveUp (named 1 1))
+    ∷ entry (named 0 2) 1 (Watched (named 1 1) (split_watch_asked (named 1 1)))
+    ∷ entry (named 0 1) 3 (RecordWatch (named 1 1) Cast.Yes 3)
+    ∷ entry (named 0 2) 2 (Finish (named 1 1) Abort)
+    ∷ entry (named 0 1) 4 (Split 1073741824 (named 1 1) 1)
+    ∷ entry (named 0 1) 5 (Split 1073741824 (named 1 2) 1)
+    ∷ entry (named 0 2) 3 (Watched (named 1 2) (split_watch_asked (named 1 2)))
+    ∷ entry (named 0 1) 6 (RecordWatch (named 1 2) Cast.Yes 3)
+    ∷ entry (named 0 2) 4 (Finish (named 1 2) Divided)
+    ∷ []
+
+-- ---- both
+
+-- a list that is allowed from a start, and the ring after it
+pub record IsExample (bases : List Base) (entries : List LogEntry) (ring : List Cut) : Type 0 where
+  pub start : IsStart sources bases
+  pub allowed : AreAllowed sources (first_told bases) entries
+  pub after : (world_of bases entries).ring ≡ ring
+
+-- the ring after the merge
+abbrev pub MergeIsAllowed : Type 0
+MergeIsAllowed = IsExample merge_bases merge_entries (cut 0 1728053248 (named 0 1) ∷ cut 1728053248 2566914048 (named 0 3) ∷ [])
+
+-- the ring after the split
+abbrev pub SplitIsAllowed : Type 0
+SplitIsAllowed = IsExample split_bases split_entries (cut 0 1073741824 (named 0 1) ∷ cut 1073741824 1073741824 (named 1 2) ∷ cut 2147483648 2147483648 (named 0 2) ∷ [])

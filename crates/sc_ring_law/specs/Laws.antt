@@ -1,0 +1,113 @@
+-- What holds after every list of allowed entries from the groups of a scenario.
+use Rattle.std.specs.Prelude.{◌≡◌, ℕ, IsTrue, List, [], map, Option, Some, None}
+use Rattle.sc_base.specs.Among.{Among}
+use Rattle.sc_base.specs.Arc.{end_of}
+use Rattle.sc_base.specs.declared.names.Draw.{Draw}
+use Rattle.sc_ideal.specs.IdealStore.{holds_key}
+use Rattle.sc_cmd.specs.declared.commands.Command.{Command}
+use Rattle.sc_cmd.specs.declared.commands.Command.TheVariants.{Noop, Call, Join, Leave, Split, Begin, Prepared, RecordVote, GiveUp, Finish, Watched, RecordWatch}
+use Rattle.sc_cmd.specs.declared.cores.Base.{Base}
+use Rattle.sc_cmd.specs.declared.cores.Core.{Core}
+use Rattle.sc_cmd.specs.declared.cores.Lock.TheVariants.{Free}
+use Rattle.sc_machine_table.specs.Group.{Group}
+use Rattle.sc_entries.specs.declared.Cut.{Cut}
+use Rattle.sc_entries.specs.declared.LogEntry.{LogEntry}
+use Rattle.sc_entries.specs.Effective.{effective, serves}
+use Rattle.sc_entries.specs.Rings.{Covers, first_cut}
+use Rattle.sc_entries.specs.Worlds.{StoreWorld, named_group, world_of}
+use Rattle.sc_ring_law.specs.Allowed.{Sources, IsAllowed, AreAllowed, first_told, told_after}
+use Rattle.sc_ring_law.specs.Invariant.{Facts}
+use Rattle.sc_ring_law.specs.Stories.{Stories}
+
+-- ---- the start
+
+-- a group stands between its neighbours, itself where it is alone
+pub record StandsBetween (bases : List Base) (core : Core) : Type 0 where
+  pub succ : (other : Base) × Among other bases × (other.core.arc.lo ≡ end_of core.arc) × (core.succ.group ≡ other.core.id)
+  pub pred : (other : Base) × Among other bases × (core.arc.lo ≡ end_of other.core.arc) × (core.pred.group ≡ other.core.id)
+
+-- a group of a scenario: nothing has happened to it, and its name was drawn for no group
+pub record IsFirst (sources : Sources) (bases : List Base) (base : Base) : Type 0 where
+  pub between : StandsBetween bases base.core
+  pub free : base.core.lock ≡ Free
+  pub here : base.core.gone ≡ None
+  pub empty : base.pairs ≡ []
+  pub unowned : sources.owner base.core.id ≡ None
+
+-- the groups of a scenario, which cover the ring
+pub record IsStart (sources : Sources) (bases : List Base) : Type 0 where
+  pub covers : Covers (map first_cut bases)
+  pub first : (base : Base) → Among base bases → IsFirst sources bases base
+
+-- ---- the ring
+
+-- The group of a cut, by its effective record, has the cut's arc and names its neighbours in the ring: itself where there is one cut.
+pub record IsInPlace (world : StoreWorld) (cut : Cut) : Type 0 where
+  -- its effective record
+  pub group : Group
+  pub is : effective world cut.group ≡ Some group
+  -- it is not gone
+  pub here : group.core.gone ≡ None
+  -- it has the arc of the cut
+  pub arc : group.core.arc ≡ cut.arc
+  -- its successor is the group of the next cut
+  pub succ : (other : Cut) × Among other world.ring × (other.arc.lo ≡ end_of cut.arc) × (group.core.succ.group ≡ other.group)
+  -- its predecessor is the group of the cut before
+  pub pred : (other : Cut) × Among other world.ring × (cut.arc.lo ≡ end_of other.arc) × (group.core.pred.group ≡ other.group)
+
+-- a group that serves a key is the group of the cut that holds its position
+abbrev pub ServesWithinItsCut : StoreWorld → Type 0
+ServesWithinItsCut world = (group : Group) → Among group world.groups → (key : List ℕ) → IsTrue (serves group key)
+    → (cut : Cut) × Among cut world.ring × (cut.group ≡ group.core.id) × IsTrue (holds_key cut.arc key)
+
+-- the ring covers, each cut's group is placed in it, and no other group serves its keys
+pub record IsRingSound (world : StoreWorld) : Type 0 where
+  pub covers : Covers world.ring
+  pub placed : (cut : Cut) → Among cut world.ring → IsInPlace world cut
+  pub serves_apart : ServesWithinItsCut world
+
+-- after every list of allowed entries the ring is sound
+abbrev pub EntriesKeepTheRing : Type 0
+EntriesKeepTheRing = (sources : Sources) (bases : List Base) (entries : List LogEntry) → IsStart sources bases → AreAllowed sources (first_told bases) entries
+    → IsRingSound (world_of bases entries)
+
+-- ---- locks, votes and decisions
+
+-- what the entries tell of all transactions
+abbrev pub stories_of : List Base → List LogEntry → Stories
+stories_of bases entries = (told_after (first_told bases) entries).stories
+
+-- after every list of allowed entries each lock, vote and decision is as the stories tell: from the entry that begins a transaction to its decision the coordinator is as it was, from a Yes to the end a participant is as it was frozen, and a watcher watches
+abbrev pub EntriesKeepThePromises : Type 0
+EntriesKeepThePromises = (sources : Sources) (bases : List Base) (entries : List LogEntry) → IsStart sources bases → AreAllowed sources (first_told bases) entries
+    → Facts sources.owner (λ name. named_group name (world_of bases entries).groups) (stories_of bases entries)
+
+-- ---- draws
+
+-- the name that a Begin or a Split brings
+abbrev pub draw_of : Command → Option Draw
+draw_of (Split at child order) = Some child
+draw_of (Begin tx body order) = Some tx
+draw_of Noop = None
+draw_of (Call client seq op) = None
+draw_of (Join node order) = None
+draw_of (Leave node order) = None
+draw_of (Prepared tx offer) = None
+draw_of (RecordVote tx vote by) = None
+draw_of (GiveUp tx) = None
+draw_of (Finish tx outcome) = None
+draw_of (Watched tx watch) = None
+draw_of (RecordWatch tx vote by) = None
+
+-- a name stands in the Begins and Splits of one group's log alone
+abbrev pub DrawsAreOfOneLog : Type 0
+DrawsAreOfOneLog = (sources : Sources) (bases : List Base) (entries : List LogEntry) → AreAllowed sources (first_told bases) entries
+    → (a b : LogEntry) → Among a entries → Among b entries → (name : Draw) → draw_of a.command ≡ Some name → draw_of b.command ≡ Some name → a.group ≡ b.group
+
+-- ---- what is allowed
+
+-- an entry that is allowed stays allowed after more allowed entries
+abbrev pub AllowedEntriesStayAllowed : Type 0
+AllowedEntriesStayAllowed = (sources : Sources) (bases : List Base) (entries more : List LogEntry) → IsStart sources bases
+    → AreAllowed sources (first_told bases) entries → AreAllowed sources (told_after (first_told bases) entries) more
+    → (name : Draw) (command : Command) → IsAllowed sources (stories_of bases entries) name command → IsAllowed sources (told_after (told_after (first_told bases) entries) more).stories name command

@@ -1,0 +1,5 @@
+pub mod Allowed
+pub mod Invariant
+pub mod Stories
+pub mod Laws
+pub mod Example

@@ -1,0 +1,170 @@
+-- What all logs together have told of each transaction, entry by entry: of its coordinator, of who takes part and of who watches.
+use Rattle.std.specs.Prelude.{ℕ, Bool, ◌&&◌, not, true, false, if◌then◌else◌, Option, Some, None}
+use Rattle.std.specs.Option.{option_map}
+use Rattle.sc_base.specs.Same.{same_draw}
+use Rattle.sc_base.specs.declared.names.Draw.{Draw}
+use Rattle.sc_cmd.specs.declared.bodies.Body.{Body}
+use Rattle.sc_cmd.specs.declared.bodies.Body.TheVariants as At
+use Rattle.sc_cmd.specs.declared.bodies.Offer.{Offer}
+use Rattle.sc_cmd.specs.declared.bodies.Watch.{Watch}
+use Rattle.sc_cmd.specs.declared.commands.Command.{Command}
+use Rattle.sc_cmd.specs.declared.commands.Command.TheVariants.{Noop, Call, Join, Leave, Split, Begin, Prepared, RecordVote, GiveUp, Finish, Watched, RecordWatch}
+use Rattle.sc_cmd.specs.declared.cores.Core.{Core}
+use Rattle.sc_cmd.specs.declared.effects.Effect.{Effect}
+use Rattle.sc_cmd.specs.declared.effects.Effect.TheVariants.{Voted}
+use Rattle.sc_cmd.specs.declared.links.Link.{Link}
+use Rattle.sc_cmd.specs.declared.votes.Frozen.{Frozen}
+use Rattle.sc_cmd.specs.declared.votes.Heard.{Heard}
+use Rattle.sc_cmd.specs.declared.votes.Outcome.{Outcome}
+use Rattle.sc_cmd.specs.declared.votes.Past.{Past}
+use Rattle.sc_cmd.specs.declared.votes.Past.TheVariants as Cast
+use Rattle.sc_cmd.specs.declared.votes.Vote.{Vote}
+use Rattle.sc_cmd.specs.declared.votes.Vote.TheVariants as Ballot
+use Rattle.sc_machine_table.specs.Group.{Group}
+use Rattle.sc_machine_table.specs.Orders.{is_alone}
+use Rattle.sc_machine_table.specs.Plans.{frozen_of, merged_link}
+use Rattle.sc_machine_table.specs.Splits.{right_link}
+use Rattle.sc_entries.specs.Births.{is_changed}
+use Rattle.sc_entries.specs.Decisions.{outcome_in}
+
+-- what was told of a transaction
+pub record Story : Type 0 where
+  -- the group whose log has the Begin, or the Split that only locks
+  pub coordinator : Draw
+  pub body : Body
+  -- the coordinator's record, pairs and client table at that entry
+  pub standing : Frozen
+  -- what its participant is asked, but for who asks; none of a split
+  pub offer : Option Offer
+  -- what the participant voted
+  pub vote : Option Vote
+  -- what its watcher is asked, but for who asks, from when the watcher is known
+  pub watch : Option Watch
+  -- what the watcher voted
+  pub watch_vote : Option Past
+  -- what the coordinator decided
+  pub outcome : Option Outcome
+
+-- the stories of all transactions, by their names
+abbrev pub Stories : Type 0
+Stories = Draw → Option Story
+
+-- nothing was told yet
+abbrev pub no_stories : Stories
+no_stories name = None
+
+-- what is known by names, with this for one name
+abbrev pub put : {X : Type 0} → (Draw → X) → Draw → X → Draw → X
+put known name value other = if same_draw other name then value else known other
+
+-- a story is changed, where there is one
+abbrev pub retold : Stories → Draw → (Story → Story) → Stories
+retold stories tx change = put stories tx (option_map change (stories tx))
+
+-- ---- what is asked
+
+-- an offer and a watch, whoever asks
+abbrev pub unsigned : Offer → Offer
+unsigned offer = record offer { by = 0 }
+
+-- the same of a watch
+abbrev pub unsigned_watch : Watch → Watch
+unsigned_watch watch = record watch { by = 0 }
+
+-- what a coordinator offers its successor
+abbrev pub offer_with : Core → Body → Offer
+offer_with core body = record { coord = core.id; part = core.succ.group; arc = core.arc; members = core.members; body = body; by = 0 }
+
+-- the offer of a transaction with this body: a split has no participant
+abbrev pub offer_for : Core → Body → Option Offer
+offer_for core At.Merge = Some (offer_with core At.Merge)
+offer_for core (At.Repart at) = Some (offer_with core (At.Repart at))
+offer_for core (At.Migrate node) = Some (offer_with core (At.Migrate node))
+offer_for core (At.Split at child) = None
+
+-- what a coordinator asks of a watcher: that `next` stand before it, where `old` stands
+abbrev pub watch_with : Core → Draw → Draw → Link → Watch
+watch_with core part old next = record { coord = core.id; members = core.members; part = part; old = old; next = next; by = 0 }
+
+-- of a merge the watcher is known when the participant was heard: its successor
+abbrev pub merge_watch : Core → Option Heard → Option Watch
+merge_watch core None = None
+merge_watch core (Some heard) = Some (watch_with core heard.frozen.succ.group core.succ.group (merged_link core heard.frozen))
+
+-- the watch of a transaction: of a split the successor watches, and of a moved boundary or member nobody
+abbrev pub watch_for : Core → Body → Option Heard → Option Watch
+watch_for core At.Merge heard = merge_watch core heard
+watch_for core (At.Repart at) heard = None
+watch_for core (At.Migrate node) heard = None
+watch_for core (At.Split at child) heard = Some (watch_with core core.succ.group core.id (right_link core child))
+
+-- ---- what an entry adds
+
+-- a transaction that is begun
+abbrev pub new_story : Group → Body → Story
+new_story group body = record {
+  coordinator = group.core.id;
+  body = body;
+  standing = frozen_of group;
+  offer = offer_for group.core body;
+  vote = None;
+  watch = watch_for group.core body None;
+  watch_vote = None;
+  outcome = None;
+}
+
+-- a participant's vote, as the group that casts it makes it: a Yes hands over what it has
+abbrev pub vote_by : Group → Past → Option Vote
+vote_by group Cast.Yes = Some (Ballot.Yes (frozen_of group))
+vote_by group (Cast.No why) = Some (Ballot.No why)
+vote_by group Cast.Ended = None
+
+-- the vote that an entry casts, if it casts one
+abbrev pub vote_in : Group → Effect → Option Vote
+vote_in group (Voted past) = vote_by group past
+vote_in group _ = None
+
+-- the watcher's vote that an entry casts, if it casts one
+abbrev pub watch_vote_in : Effect → Option Past
+watch_vote_in (Voted past) = Some past
+watch_vote_in _ = None
+
+-- a story with a vote, if there is one
+abbrev pub with_vote : Option Vote → Story → Story
+with_vote None story = story
+with_vote (Some vote) story = record story { vote = Some vote }
+
+-- with a watcher's vote, if there is one
+abbrev pub with_watch_vote : Option Past → Story → Story
+with_watch_vote None story = story
+with_watch_vote (Some past) story = record story { watch_vote = Some past }
+
+-- with an outcome, if there is one
+abbrev pub with_outcome : Option Outcome → Story → Story
+with_outcome None story = story
+with_outcome (Some outcome) story = record story { outcome = Some outcome }
+
+-- with the watch that a participant's Yes asks for
+abbrev pub with_asked : Core → Vote → Story → Story
+with_asked core (Ballot.Yes frozen) story = record story { watch = merge_watch core (Some (record { frozen = frozen; by = 0 })) }
+with_asked core (Ballot.No why) story = story
+
+-- what a participant's vote adds, where it is recorded: it decides, or the watcher is asked
+abbrev pub with_answer : Core → Vote → Effect → Story → Story
+with_answer core vote effect story = if is_changed effect then with_asked core vote story else with_outcome (outcome_in effect) story
+
+-- the stories after an entry of the log of a group, as it was before
+abbrev pub stories_after : Group → Command → Effect → Stories → Stories
+stories_after group (Split at child order) effect stories =
+    if is_changed effect && not (is_alone group.core) then put stories child (Some (new_story group (At.Split at child))) else stories
+stories_after group (Begin tx body order) effect stories = if is_changed effect then put stories tx (Some (new_story group body)) else stories
+stories_after group (Prepared tx offer) effect stories = retold stories tx (with_vote (vote_in group effect))
+stories_after group (Watched tx watch) effect stories = retold stories tx (with_watch_vote (watch_vote_in effect))
+stories_after group (RecordVote tx vote by) effect stories = retold stories tx (with_answer group.core vote effect)
+stories_after group (RecordWatch tx vote by) effect stories = retold stories tx (with_outcome (outcome_in effect))
+stories_after group (GiveUp tx) effect stories = retold stories tx (with_outcome (outcome_in effect))
+stories_after group Noop effect stories = stories
+stories_after group (Call client seq op) effect stories = stories
+stories_after group (Join node order) effect stories = stories
+stories_after group (Leave node order) effect stories = stories
+stories_after group (Finish tx outcome) effect stories = stories
