@@ -1,5 +1,5 @@
 -- A group after entries of all logs is as its own log makes it, and each front of the log comes with some first entries.
-use Rattle.std.proofs.Common.{◌≡◌, Bool, true, false, cond, List, [], ◌∷◌, ◌++◌, map, Option, Some, None, inl, inr, refl, sym, ap, ◌∙◌, subst, append_assoc}
+use Rattle.std.proofs.Common.{◌≡◌, false, List, [], ◌∷◌, ◌++◌, map, Option, Some, None, inl, inr, refl, sym, ap, ◌∙◌, append_assoc}
 use Rattle.std.specs.List.{filter}
 use Rattle.std.specs.Option.{option_to_list}
 use Rattle.std.proofs.lemmas.Bool.{cases_Bool, cond-true, cond-false}
@@ -12,10 +12,9 @@ use Rattle.sc_machine_table.specs.Logs.{state_after}
 use Rattle.sc_machine_table.specs.Machine.{applied}
 use Rattle.sc_entries.specs.Births.{birth_of}
 use Rattle.sc_entries.specs.declared.LogEntry.{LogEntry}
-use Rattle.sc_entries.specs.Worlds.{StoreWorld, after_command, first_world, named_group, told, with_group, world_after, world_of}
+use Rattle.sc_entries.specs.Worlds.{StoreWorld, after_command, first_world, named_group, told, with_group, world_of}
 use Rattle.sc_entries.proofs.Pushes.{world_append}
 use Rattle.sc_hist_law.specs.Fronts.{FrontsAnswerByHistory, LogsMakeStates, log_in}
-use Rattle.sc_hist_law.specs.Moves.{HasNotes}
 use Rattle.sc_hist_law.proofs.Disjoint.{one_or_not}
 use Rattle.sc_hist_law.proofs.Divisions.{found_left}
 use Rattle.sc_hist_law.proofs.Found.{found_name, found_now, found_still}
