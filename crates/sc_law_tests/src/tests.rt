@@ -6,8 +6,8 @@ use sc_group_law::{
 };
 use sc_hist_law::{
     an_example_of_entries, an_example_of_moves, entries_that_move_tell_a_legal_history,
-    logs_tell_histories, moves_tell_histories, plans_are_moves, quiet_entries_tell_a_legal_history,
-    told_entries_tell_a_legal_history,
+    fronts_of_logs_answer_by_history, logs_tell_histories, moves_tell_histories, plans_are_moves,
+    quiet_entries_tell_a_legal_history, told_entries_tell_a_legal_history,
 };
 use sc_paxos_law::{
     a_lawful_history, acceptors_are_lawful, leaders_are_lawful, one_log, one_value_per_slot,
@@ -38,6 +38,7 @@ fn the_laws_of_what_groups_hold_are_called() {
     quiet_entries_tell_a_legal_history();
     entries_that_move_tell_a_legal_history();
     told_entries_tell_a_legal_history();
+    fronts_of_logs_answer_by_history();
     an_example_of_moves();
     an_example_of_entries();
 }
