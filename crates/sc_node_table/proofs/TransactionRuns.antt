@@ -1,41 +1,39 @@
 -- Small runs of the rows of transactions, computed: what is sent, and what is queued. Groups 0.1 and 0.2 make the ring, nodes 1 and 2 are their members, and 0.1 orders a merge.
-use Rattle.std.proofs.Common.{◌≡◌, ℕ, ◌^◌, ◌-◌, true, false, List, [], ◌∷◌, length, Some, None, refl}
+use Rattle.std.proofs.Common.{◌≡◌, ℕ, ◌^◌, ◌-◌, true, false, List, [], ◌∷◌, Some, None, refl}
 use Rattle.sc_base.specs.declared.names.Draw.{Draw}
 use Rattle.sc_base.specs.Drawing.{Drawer}
-use Rattle.sc_cmd.specs.declared.bodies.Body.{Body}
-use Rattle.sc_cmd.specs.declared.bodies.Body.TheVariants.{Merge, Repart, Split as Divide}
+use Rattle.sc_cmd.specs.declared.bodies.Body.TheVariants.{Merge, Split as Divide}
 use Rattle.sc_cmd.specs.declared.bodies.Offer.{Offer}
 use Rattle.sc_cmd.specs.declared.bodies.Watch.{Watch}
-use Rattle.sc_cmd.specs.declared.commands.Command.TheVariants.{Split, Begin, Prepared, RecordVote, GiveUp, Finish, Watched, RecordWatch}
+use Rattle.sc_cmd.specs.declared.commands.Command.TheVariants.{Split, Begin, Prepared, RecordVote, GiveUp, Finish, RecordWatch}
 use Rattle.sc_cmd.specs.declared.cores.Base.{Base}
 use Rattle.sc_cmd.specs.declared.cores.Core.{Core}
 use Rattle.sc_cmd.specs.declared.cores.Lock.{Lock}
 use Rattle.sc_cmd.specs.declared.cores.Lock.TheVariants.{Free, Coordinating, Promised, Watching}
-use Rattle.sc_cmd.specs.declared.effects.Effect.TheVariants.{Changed, Voted, Decided}
+use Rattle.sc_cmd.specs.declared.effects.Effect.TheVariants.{Changed, Decided}
 use Rattle.sc_cmd.specs.declared.links.Link.{Link}
 use Rattle.sc_cmd.specs.declared.links.Route.{Route}
 use Rattle.sc_cmd.specs.declared.orders.Order.{Order}
 use Rattle.sc_cmd.specs.declared.orders.Order.TheVariants as An
 use Rattle.sc_cmd.specs.declared.orders.OrderLine.{OrderLine}
-use Rattle.sc_cmd.specs.declared.orders.OrderRefusal.TheVariants.{NotLeader, NoNeighbour, LastMember}
-use Rattle.sc_cmd.specs.declared.orders.ToldResult.TheVariants.{Done, Committed, Aborted, Refused}
+use Rattle.sc_cmd.specs.declared.orders.OrderRefusal.TheVariants.{NotLeader, LastMember}
+use Rattle.sc_cmd.specs.declared.orders.ToldResult.TheVariants.{Committed, Aborted, Refused}
 use Rattle.sc_cmd.specs.declared.votes.Frozen.{Frozen}
 use Rattle.sc_cmd.specs.declared.votes.Heard.{Heard}
 use Rattle.sc_cmd.specs.declared.votes.No.TheVariants as Why
 use Rattle.sc_cmd.specs.declared.votes.Outcome.{Outcome}
-use Rattle.sc_cmd.specs.declared.votes.Outcome.TheVariants.{Abort, Merged, Divided}
+use Rattle.sc_cmd.specs.declared.votes.Outcome.TheVariants.{Abort, Merged}
 use Rattle.sc_cmd.specs.declared.votes.Past.{Past}
 use Rattle.sc_cmd.specs.declared.votes.Past.TheVariants as Cast
 use Rattle.sc_cmd.specs.declared.votes.Vote.TheVariants as Says
-use Rattle.sc_mail.specs.declared.bodies.Mail.{Mail}
 use Rattle.sc_mail.specs.declared.bodies.MailBody.TheVariants.{Accept, TxPrepare, TxVote, TxOutcome, TxElsewhere, TxWatch, TxWatched, Told}
 use Rattle.sc_machine_table.specs.Group.{group_of}
 use Rattle.sc_machine_table.specs.Plans.{frozen_of}
-use Rattle.sc_node_table.specs.Replica.{ReplicaState, Place, born_replica}
+use Rattle.sc_node_table.specs.Replica.{Place, born_replica}
 use Rattle.sc_node_table.specs.Mails.{sent_all, answered, told_order}
 use Rattle.sc_node_table.specs.Pump.{next_call, from_calls, from_queues, found_for, offered, pumped_from, pumped}
 use Rattle.sc_node_table.specs.Acts.{act_queued}
-use Rattle.sc_node_table.specs.Transactions.{offer_row, watch_row, vote_row, watched_row, elsewhere_row, outcome_row}
+use Rattle.sc_node_table.specs.Transactions.{offer_row, vote_row, watched_row, elsewhere_row, outcome_row}
 use Rattle.sc_node_table.specs.Reminders.{reminded}
 use Rattle.sc_node_table.specs.Ordering.{ordered_row, names_after}
 use Rattle.sc_node_table.specs.Spoken.{before_of, told_begun, went_on, spoken_mails, spoken}

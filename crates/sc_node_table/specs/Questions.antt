@@ -63,13 +63,13 @@ abbrev pub split_watch : ℕ → Core → ℕ → Draw → Watch
 split_watch me core at child = watch_of me core core.succ core.id (child_link core at child)
 
 -- a merge replaces the participant by the group with the members of both
-abbrev pub merge_watch : ℕ → Core → Heard → Watch
-merge_watch me core heard = watch_of me core heard.frozen.succ core.succ.group (both_link core heard.frozen)
+abbrev pub union_watch : ℕ → Core → Heard → Watch
+union_watch me core heard = watch_of me core heard.frozen.succ core.succ.group (both_link core heard.frozen)
 
 -- the question after what was heard: an offer to the participant, and then a watch
 abbrev pub heard_question : ℕ → Core → Draw → Body → Option Heard → MailBody
 heard_question me core tx body None = TxPrepare tx (offer_of me core body)
-heard_question me core tx body (Some heard) = TxWatch tx (merge_watch me core heard)
+heard_question me core tx body (Some heard) = TxWatch tx (union_watch me core heard)
 
 -- what a coordinator asks
 abbrev pub question : ℕ → Core → Draw → Body → Option Heard → MailBody

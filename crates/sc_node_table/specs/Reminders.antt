@@ -1,5 +1,5 @@
 -- Tick, 2 and 3: who is bound in a transaction asks again, or says its vote again.
-use Rattle.std.specs.Prelude.{ℕ, ◌+◌, ◌-◌, ◌^◌, ◌==◌, nat_le, List, if◌then◌else◌, Option}
+use Rattle.std.specs.Prelude.{ℕ, ◌+◌, ◌-◌, ◌^◌, ◌==◌, nat_le, List, if◌then◌else◌}
 use Rattle.sc_base.specs.declared.names.Draw.{Draw}
 use Rattle.sc_cmd.specs.declared.commands.Command.TheVariants.{GiveUp}
 use Rattle.sc_cmd.specs.declared.cores.Lock.{Lock}

@@ -169,18 +169,18 @@ decided_in (Was.Voted vote) = None
 decided_in (Was.Refused why) = None
 
 -- the vote that an entry cast
-abbrev pub vote_in : Effect → Option Past
-vote_in (Was.Voted vote) = Some vote
-vote_in (Was.Done reply) = None
-vote_in (Was.Again reply) = None
-vote_in (Was.Stale last) = None
-vote_in (Was.NotMine arc succ) = None
-vote_in (Was.Gone into) = None
-vote_in (Was.NoEffect tx) = None
-vote_in Was.Idle = None
-vote_in Was.Changed = None
-vote_in (Was.Decided outcome) = None
-vote_in (Was.Refused why) = None
+abbrev pub cast_in : Effect → Option Past
+cast_in (Was.Voted vote) = Some vote
+cast_in (Was.Done reply) = None
+cast_in (Was.Again reply) = None
+cast_in (Was.Stale last) = None
+cast_in (Was.NotMine arc succ) = None
+cast_in (Was.Gone into) = None
+cast_in (Was.NoEffect tx) = None
+cast_in Was.Idle = None
+cast_in Was.Changed = None
+cast_in (Was.Decided outcome) = None
+cast_in (Was.Refused why) = None
 
 -- a group that has begun, or has heard its participant, asks
 abbrev pub asked_on : Effect → ℕ → Core → List Mail → List Mail
@@ -242,10 +242,10 @@ watch_answered_by (Some outcome) Cast.Ended me before tx by mails = mails
 unfoldable pub went_on : ℕ → Group → Before → Effect → Command → List Mail → List Mail
 went_on me group before effect (Split at child order) mails = asked_on effect me group.core mails
 went_on me group before effect (Begin tx body order) mails = asked_on effect me group.core mails
-went_on me group before effect (Prepared tx offer) mails = vote_sent (vote_in effect) me group tx offer mails
+went_on me group before effect (Prepared tx offer) mails = vote_sent (cast_in effect) me group tx offer mails
 went_on me group before effect (RecordVote tx vote by) mails = vote_answered (decided_in effect) vote me before tx by (asked_on effect me group.core mails)
 went_on me group before effect (GiveUp tx) mails = given_up_by (decided_in effect) me before tx mails
-went_on me group before effect (Watched tx watch) mails = watch_sent (vote_in effect) me tx watch mails
+went_on me group before effect (Watched tx watch) mails = watch_sent (cast_in effect) me tx watch mails
 went_on me group before effect (RecordWatch tx vote by) mails = watch_answered_by (decided_in effect) vote me before tx by mails
 went_on me group before effect (Finish tx outcome) mails = mails
 went_on me group before effect Noop mails = mails

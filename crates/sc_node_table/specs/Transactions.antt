@@ -1,9 +1,8 @@
 -- The rows of TxPrepare, TxVote, TxOutcome, TxElsewhere, TxWatch and TxWatched: what the parties of a transaction say to each other. What binds a group is not such a mail, but the entry in its log that is queued for it.
-use Rattle.std.specs.Prelude.{ℕ, Bool, true, false, ◌&&◌, not, find, List, if◌then◌else◌, Option, Some, None}
+use Rattle.std.specs.Prelude.{ℕ, Bool, false, ◌&&◌, not, find, List, if◌then◌else◌, Option, Some, None}
 use Rattle.std.specs.Option.{option_map}
 use Rattle.sc_base.specs.Same.{same_draw}
 use Rattle.sc_base.specs.declared.names.Draw.{Draw}
-use Rattle.sc_cmd.specs.declared.bodies.Body.{Body}
 use Rattle.sc_cmd.specs.declared.bodies.Offer.{Offer}
 use Rattle.sc_cmd.specs.declared.bodies.Watch.{Watch}
 use Rattle.sc_cmd.specs.declared.commands.Command.TheVariants.{Prepared, RecordVote, Finish, Watched, RecordWatch}
@@ -11,7 +10,6 @@ use Rattle.sc_cmd.specs.declared.cores.Core.{Core}
 use Rattle.sc_cmd.specs.declared.cores.Lock.{Lock}
 use Rattle.sc_cmd.specs.declared.cores.Lock.TheVariants.{Free, Coordinating, Promised, Watching}
 use Rattle.sc_cmd.specs.declared.links.Route.{Route}
-use Rattle.sc_cmd.specs.declared.votes.Heard.{Heard}
 use Rattle.sc_cmd.specs.declared.votes.No.TheVariants as Why
 use Rattle.sc_cmd.specs.declared.votes.Outcome.{Outcome}
 use Rattle.sc_cmd.specs.declared.votes.Past.{Past}
@@ -26,7 +24,7 @@ use Rattle.sc_machine_table.specs.Orders.{locked_in}
 use Rattle.sc_machine_table.specs.Plans.{frozen_of}
 use Rattle.sc_machine_table.specs.Splits.{is_locked_in}
 use Rattle.sc_machine_table.specs.Transactions.{asks_watcher}
-use Rattle.sc_node_table.specs.Replica.{ReplicaState, Place, settled}
+use Rattle.sc_node_table.specs.Replica.{Place, settled}
 use Rattle.sc_node_table.specs.Mails.{sent}
 use Rattle.sc_node_table.specs.Questions.{asked_link, asked_node}
 use Rattle.sc_node_table.specs.Acts.{act_queued}
