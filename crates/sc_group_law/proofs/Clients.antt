@@ -26,6 +26,7 @@ use Rattle.sc_scenario.specs.declared.scenarios.Scenario.{Scenario}
 use Rattle.sc_hist_law.specs.Laws.{LeavesWhole}
 use Rattle.sc_players.specs.Players.{Ahead}
 use Rattle.sc_sound.specs.Requests.{issues, issued_from, issue_row}
+use Rattle.sc_group_law.specs.Orders.{IsOfMembers}
 use Rattle.sc_group_law.proofs.Invariant.{Steps, Grants, IsReplyAt, IsTrue, IsTrueAnswer, grown_reply}
 use Rattle.sc_group_law.proofs.Names.{IsOneOf, IsNamed}
 use Rattle.sc_group_law.proofs.Places.{Journal, or_now, issue-push}
@@ -94,14 +95,17 @@ made_whole scenario rows (Watched tx watch) m = m
 made_whole scenario rows (RecordWatch tx vote by) m = m
 
 -- what an order asks for is a join or a leave
-order_made : (scenario : Scenario) (rows : Journal) (o : Order) (number : ℕ) (c : Command) → command_of (let line : OrderLine = record { number = number; order = o } in line) ≡ Some c → Made scenario rows c
-order_made scenario rows (An.Join node group) number c e = (let same : Join node number ≡ c = cc in subst (Made scenario rows) same tt)
-order_made scenario rows (An.Leave node group) number c e = (let same : Leave node number ≡ c = cc in subst (Made scenario rows) same tt)
-order_made scenario rows _ number c e = cc
+order_made : (scenario : Scenario) (rows : Journal) (o : Order) (number : ℕ) (c : Command) → IsOfMembers o → command_of (let line : OrderLine = record { number = number; order = o } in line) ≡ Some c → Made scenario rows c
+order_made scenario rows (An.Join node group) number c plain e = (let same : Join node number ≡ c = cc in subst (Made scenario rows) same tt)
+order_made scenario rows (An.Leave node group) number c plain e = (let same : Leave node number ≡ c = cc in subst (Made scenario rows) same tt)
+order_made scenario rows (An.Split group at) number c plain e = absurd plain
+order_made scenario rows (An.Merge group) number c plain e = absurd plain
+order_made scenario rows (An.Repart group at) number c plain e = absurd plain
+order_made scenario rows (An.Migrate group node) number c plain e = absurd plain
 
 -- what replicas make themselves counts as made
 pub grants : (ahead : Ahead) (scenario : Scenario) (rows : Journal) (base : Base) → Grants ahead base (Made scenario rows)
-grants ahead scenario rows base = record { noop = tt; asked = λ line c e. order_made scenario rows line.order line.number c e }
+grants ahead scenario rows base = record { noop = tt; asked = λ line c plain e. order_made scenario rows line.order line.number c plain e; whole = λ c m. made_whole scenario rows c m }
 
 -- what was made stays made with one more row
 pub made_later : (scenario : Scenario) (rows : Journal) (row : Row Mail OrderLine) (c : Command) → Made scenario rows c → Made scenario (rows ++ row ∷ []) c

@@ -30,6 +30,7 @@ use Rattle.sc_node_table.specs.Install.{named, jumped}
 use Rattle.sc_node_table.specs.Rows.{looked_up, took_over, install_row, made_by, command_of, order_queued, order_taken, order_row}
 use Rattle.sc_hist_law.proofs.Logs.{state_same}
 use Rattle.sc_players.specs.Players.{Ahead}
+use Rattle.sc_group_law.specs.Orders.{IsOfMembers}
 use Rattle.sc_group_law.proofs.Growth.{IsFresh, fresh_state}
 use Rattle.sc_group_law.proofs.Held.{Mirrors, mirrors_itself, floor_low}
 use Rattle.sc_group_law.proofs.Invariant.{Steps, rule, first, birth, Grants, AreSets, HasLog, IsReplica, next_after, forgotten_replica, IsState, grown_state, Fine, turn, says}
@@ -202,6 +203,6 @@ module _ (ahead : Ahead) (base : Base) (made : Command → Type 0) (grants : Gra
       (λ _. queued_place (refusal_of r.group.core c) number c r mails f (m c refl))
 
   -- Told
-  pub fine_order_row : (line : OrderLine) (r : ReplicaState) (mails : List Mail) → Ok (r, mails) → Ok (order_row line (r, mails))
+  pub fine_order_row : (line : OrderLine) → IsOfMembers line.order → (r : ReplicaState) (mails : List Mail) → Ok (r, mails) → Ok (order_row line (r, mails))
   unfolding order_row
-  fine_order_row line r mails f = taken_place (command_of line) line.number r mails (λ c e. grants.asked line c e) f
+  fine_order_row line plain r mails f = taken_place (command_of line) line.number r mails (λ c e. grants.asked line c plain e) f

@@ -32,7 +32,8 @@ use Rattle.sc_paxos_law.specs.Lawful.{CountedPromise, IsLawfulStep, IsLawfulHist
 use Rattle.sc_paxos_law.proofs.Among.{Among-right, Among-either}
 use Rattle.sc_paxos_law.proofs.Law.{later_log}
 use Rattle.sc_node_table.specs.Replica.{ReplicaState, Place, first_ballot, next, floor_of, forgotten}
-use Rattle.sc_hist_law.specs.Laws.{IsReplied}
+use Rattle.sc_hist_law.specs.Laws.{IsReplied, LeavesWhole}
+use Rattle.sc_group_law.specs.Orders.{IsOfMembers}
 use Rattle.sc_players.specs.Players.{Ahead}
 use Rattle.sc_machine_table.specs.Logs.{state_after}
 use Rattle.sc_cmd.specs.declared.orders.OrderLine.{OrderLine}
@@ -75,10 +76,11 @@ module _ (ahead : Ahead) (base : Base) where
   abbrev pub IsTaken : LeaderState Command → List (ℕ × Command) → ℕ → Type 0
   IsTaken leader ready slot = ((flight : Flight Command) × Among flight leader.flights × (flight.slot ≡ slot)) ⊎ ((command : Command) × Among (slot, command) ready)
 
-  -- which commands a replica of the group may queue besides requests: nothing, and what orders ask for
+  -- which commands a replica of the group may queue besides requests: nothing, and what orders to join and leave ask for; and none so far divides the group or is of a transaction
   pub record Grants (made : Command → Type 0) : Type 0 where
     pub noop : made Noop
-    pub asked : (line : OrderLine) (c : Command) → command_of line ≡ Some c → made c
+    pub asked : (line : OrderLine) (c : Command) → IsOfMembers line.order → command_of line ≡ Some c → made c
+    pub whole : (c : Command) → made c → LeavesWhole c
 
   -- ---- what is held of the log
 

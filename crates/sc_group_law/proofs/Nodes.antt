@@ -1,5 +1,5 @@
 -- What holds of a node with its replicas, and what comes of mail and orders.
-use Rattle.std.proofs.Common.{◌≡◌, ℕ, ◌&&◌, ◌||◌, not, nat_lt, true, false, eqb, List, [], ◌∷◌, ◌++◌, length, Option, Some, None, ◌⊎◌, inl, inr, refl, sym, ◌∙◌, ap, subst, append-nil}
+use Rattle.std.proofs.Common.{◌≡◌, ℕ, ◌||◌, not, nat_lt, true, false, eqb, List, [], ◌∷◌, ◌++◌, length, Option, Some, None, inl, inr, refl, sym, ◌∙◌, ap, subst, append-nil}
 use Rattle.std.proofs.lemmas.Bool.{cases_Bool, cond_both}
 use Rattle.sc_base.specs.declared.names.Ballot.{Ballot}
 use Rattle.sc_base.specs.declared.names.Draw.{Draw}
@@ -7,7 +7,6 @@ use Rattle.sc_base.specs.Same.{same_draw}
 use Rattle.sc_cmd.specs.declared.commands.Command.{Command}
 use Rattle.sc_cmd.specs.declared.cores.Base.{Base}
 use Rattle.sc_cmd.specs.declared.orders.OrderLine.{OrderLine}
-use Rattle.sc_mail.specs.declared.bodies.AnswerBody.TheVariants as Says
 use Rattle.sc_mail.specs.declared.bodies.Mail.{Mail}
 use Rattle.sc_mail.specs.declared.bodies.MailBody.{MailBody}
 use Rattle.sc_mail.specs.declared.bodies.MailBody.TheVariants.{Request, Answer, Prepare, Promise, Accept, Accepted as AcceptedMail, Nack, Learn, Ask, Install, TxPrepare, TxVote, TxOutcome, TxElsewhere, TxWatch, TxWatched, Told}
@@ -27,6 +26,7 @@ use Rattle.sc_node_table.specs.Voting.{prepare_row}
 use Rattle.sc_node_table.specs.Rows.{made_by, mailed, order_row}
 use Rattle.sc_players.specs.Players.{Ahead}
 use Rattle.sc_group_law.specs.Steps.{asked_in}
+use Rattle.sc_group_law.specs.Orders.{IsOfMembers}
 use Rattle.sc_group_law.proofs.Growth.{By}
 use Rattle.sc_group_law.proofs.Invariant.{Steps, rule, first, Grants, IsReplica, IsTrue, Fine}
 use Rattle.sc_group_law.proofs.Installs.{fine_install_row, made_place, fine_order_row}
@@ -325,15 +325,15 @@ module _ (ahead : Ahead) (bases : List Base) (made : Command → Type 0) where
         (λ m a. elim a [ inl e ↦ subst (λ (x : Mail). IsNamed bases x.body) e tt | inr n ↦ absurd n ])
         (λ base b m a. elim a [ inl e ↦ subst (λ (x : Mail). IsTrue ahead base made (h base) x x.body) e tt | inr n ↦ absurd n ])
 
-    ordered_ended : (line : OrderLine) (node : NodeState) → IsNode h me node → (o : Option ReplicaState) → replica_of (group_of_order line.order) node.replicas ≡ o → Asked (ordered_of o line node)
-    ordered_ended line node k None e = desk_ended line.number (Refused (NotLeader None)) node k
-    ordered_ended line node k (Some r) e =
+    ordered_ended : (line : OrderLine) → IsOfMembers line.order → (node : NodeState) → IsNode h me node → (o : Option ReplicaState) → replica_of (group_of_order line.order) node.replicas ≡ o → Asked (ordered_of o line node)
+    ordered_ended line plain node k None e = desk_ended line.number (Refused (NotLeader None)) node k
+    ordered_ended line plain node k (Some r) e =
         let place = order_row line (r, []) in
         one_row (group_of_order line.order) r node k e place (λ base. asked_in base.core.id place.1 (h base))
         (λ base a is was. ended_by ahead base made (grants base) me (h base) (some base a) place _
-        (fine_order_row ahead base made (grants base) me [] (h base) (some base a) line r [] (start ahead base made (grants base) me (h base) (some base a) (lawful base a) (requested base a) [] r was)) refl)
+        (fine_order_row ahead base made (grants base) me [] (h base) (some base a) line plain r [] (start ahead base made (grants base) me (h base) (some base a) (lawful base a) (requested base a) [] r was)) refl)
         (λ base a f sent. far_all base.core.id place.1 (h base) sent)
 
     -- the end of an order
-    pub order_ended : (line : OrderLine) (node : NodeState) → IsNode h me node → Asked (on_order line node)
-    order_ended line node k = ordered_ended line node k (replica_of (group_of_order line.order) node.replicas) refl
+    pub order_ended : (line : OrderLine) → IsOfMembers line.order → (node : NodeState) → IsNode h me node → Asked (on_order line node)
+    order_ended line plain node k = ordered_ended line plain node k (replica_of (group_of_order line.order) node.replicas) refl

@@ -46,6 +46,7 @@ use Rattle.sc_players.specs.declared.roles.Role.TheVariants.{Node as ANode, Clie
 use Rattle.sc_group_law.proofs.Invariant.{Steps, rule, first, IsTrue, grown_true}
 use Rattle.sc_group_law.proofs.Frames.{node_row, steps_of}
 use Rattle.sc_group_law.proofs.Holding.{Holds, still_holds}
+use Rattle.sc_group_law.proofs.Orders.{IsPlainEvent}
 use Rattle.sc_group_law.proofs.Names.{quiet_steps, no_asked, IsNamed}
 use Rattle.sc_group_law.proofs.Nodes.{NodeEnded, unchanged, ends_as, mail_ended, order_ended}
 use Rattle.sc_group_law.proofs.Ticks.{tick_ended}
@@ -207,8 +208,8 @@ module _ (ahead : Ahead) (words : ℕ → ℕ → ℕ × ℕ) (scenario : Scenar
               client_still rows row (λ b a. ((ended.parts b a).newer, are b a)) asks (k.clients asks stands) (ne_eqb n (client_actor asks.client) (λ e. absurd (omega (arith, e, up, high, limit)))));
         }
 
-    node_event : (n : ℕ) → 1 ≤ n → n ≤ scenario.nodes → (event : Event OrderLine) → IsOpen (system_of ahead words scenario) rows n event → M rows (row_of player_table (nseat n) rows event)
-    node_event n low high event open_ = by event open_
+    node_event : (n : ℕ) → 1 ≤ n → n ≤ scenario.nodes → (event : Event OrderLine) → IsPlainEvent event → IsOpen (system_of ahead words scenario) rows n event → M rows (row_of player_table (nseat n) rows event)
+    node_event n low high event plain open_ = by event plain open_
       where
         at : IsNodeAt ahead scenario bases route rows rows n
         at = k.nodes n low high
@@ -222,20 +223,20 @@ module _ (ahead : Ahead) (words : ℕ → ℕ → ℕ × ℕ) (scenario : Scenar
         quiet : (e : Event OrderLine) → Ends n (λ b. steps_at b.core.id (mails rows) (node_row n e []) (h b)) (at.node, [])
         quiet e = unchanged ahead bases made (grants ahead scenario rows) n h some_made lawful requested (λ b. steps_at b.core.id (mails rows) (node_row n e []) (h b)) at.node [] at.is (λ b a. steps_plain b.core.id (mails rows) n e [] (h b) tt) (λ m a. absurd a) (λ b a m o. absurd o)
 
-        by : (e : Event OrderLine) → IsOpen (system_of ahead words scenario) rows n e → M rows (row_of player_table (nseat n) rows e)
-        by (Deliver number) (m, under, to) =
+        by : (e : Event OrderLine) → IsPlainEvent e → IsOpen (system_of ahead words scenario) rows n e → M rows (row_of player_table (nseat n) rows e)
+        by (Deliver number) plain (m, under, to) =
             let step = on_mail m.from m.body at.node in
             let came = number_among (mails rows) number m under.sent in
             acting (Deliver number) step (ap (λ o. acted player_table (ANode at.node) (option_map Got o)) under.sent)
             (ends_as ahead bases made (grants ahead scenario rows) n h some_made lawful requested (λ b. steps_of b.core.id n (Deliver number) m.body step.1 (h b))
             (λ b. steps_at b.core.id (mails rows) (node_row n (Deliver number) step.1) (h b)) step (λ b. sym (steps_deliver b.core.id (mails rows) n number m step.1 (h b) under.sent))
             (mail_ended ahead bases made (grants ahead scenario rows) n h some_made lawful requested (Deliver number) m at.node at.is (k.named m came) (λ b a. (k.parts b a).true_mail m came)))
-        by Tick o = acting Tick (on_tick at.node) refl (tick_ended ahead bases made (grants ahead scenario rows) n h some_made lawful requested at.node at.is)
-        by Go o = acting Go (at.node, []) refl (quiet Go)
-        by (Told order) o = acting (Told order) (on_order order at.node) refl (order_ended ahead bases made (grants ahead scenario rows) n h some_made lawful requested order at.node at.is)
-        by Crash o = acting Crash (at.node, []) refl (quiet Crash)
-        by (Drop number) o = absurd o
-        by (Again number) o = absurd o
+        by Tick plain o = acting Tick (on_tick at.node) refl (tick_ended ahead bases made (grants ahead scenario rows) n h some_made lawful requested at.node at.is)
+        by Go plain o = acting Go (at.node, []) refl (quiet Go)
+        by (Told order) plain o = acting (Told order) (on_order order at.node) refl (order_ended ahead bases made (grants ahead scenario rows) n h some_made lawful requested order plain at.node at.is)
+        by Crash plain o = acting Crash (at.node, []) refl (quiet Crash)
+        by (Drop number) plain o = absurd o
+        by (Again number) plain o = absurd o
 
     -- ---- a row that takes no step
 
@@ -407,8 +408,9 @@ module _ (ahead : Ahead) (words : ℕ → ℕ → ℕ × ℕ) (scenario : Scenar
   births_are : births ahead scenario ≡ map nseat (numbers_from 1 scenario.nodes) ++ map cseat scenario.clients
   births_are = ap (λ groups. map (node_seat ahead groups) (numbers_from 1 scenario.nodes) ++ client_seats groups scenario.clients) has.groups
 
-  actor_step : (rows : Journal) (row : Row Mail OrderLine) → K rows → ActorStep (system_of ahead words scenario) rows row → M rows row
-  actor_step rows row k step =
+  actor_step : (rows : Journal) (row : Row Mail OrderLine) → K rows → IsPlainEvent row.event → ActorStep (system_of ahead words scenario) rows row → M rows row
+  actor_step rows row k plain step =
+      let told = subst (λ (r : Row Mail OrderLine). IsPlainEvent r.event) step.row_is plain in
       let found = find_found (λ (other : Seat Player). eqb other.who step.seat.who) (births ahead scenario) step.seat step.born in
       let there = subst (Among step.seat) births_are found.0 in
       elim (Among-either step.seat (map nseat (numbers_from 1 scenario.nodes)) (map cseat scenario.clients) there) [
@@ -417,7 +419,7 @@ module _ (ahead : Ahead) (words : ℕ → ℕ → ℕ × ℕ) (scenario : Scenar
             let bounds = among_numbers 1 scenario.nodes from.0 from.1 in
             let is : row ≡ row_of player_table (nseat from.0) rows step.event = step.row_is ∙ ap (λ (seat : Seat Player). row_of player_table seat rows step.event) (sym from.2) in
             subst (M rows) (sym is)
-            (node_event rows k from.0 bounds.0 (omega (arith, bounds.1)) step.event (subst (λ (seat : Seat Player). IsOpen (system_of ahead words scenario) rows seat.who step.event) (sym from.2) step.open_)))
+            (node_event rows k from.0 bounds.0 (omega (arith, bounds.1)) step.event told (subst (λ (seat : Seat Player). IsOpen (system_of ahead words scenario) rows seat.who step.event) (sym from.2) step.open_)))
         | inr a ↦ (
             let from = from_map cseat scenario.clients step.seat a in
             let is : row ≡ row_of player_table (cseat from.0) rows step.event = step.row_is ∙ ap (λ (seat : Seat Player). row_of player_table seat rows step.event) (sym from.2) in
@@ -426,6 +428,6 @@ module _ (ahead : Ahead) (words : ℕ → ℕ → ℕ × ℕ) (scenario : Scenar
       ]
 
   -- each step that may come next moves what holds on
-  pub moved : (rows : Journal) (row : Row Mail OrderLine) → K rows → IsStep (system_of ahead words scenario) rows row → M rows row
-  moved rows row k (inl step) = actor_step rows row k step
-  moved rows row k (inr step) = subst (M rows) (sym step.row_is) (network_event rows k step.event)
+  pub moved : (rows : Journal) (row : Row Mail OrderLine) → K rows → IsPlainEvent row.event → IsStep (system_of ahead words scenario) rows row → M rows row
+  moved rows row k plain (inl step) = actor_step rows row k plain step
+  moved rows row k plain (inr step) = subst (M rows) (sym step.row_is) (network_event rows k step.event)

@@ -1,5 +1,5 @@
 -- Groups that start together in a ring stay placed in it, whatever calls, joins and leaves their logs have.
-use Rattle.std.proofs.Common.{◌≡◌, true, cond, List, [], ◌∷◌, ◌++◌, map, Option, Some, None, inl, inr, refl, sym, ◌∙◌, ap, subst, append-nil}
+use Rattle.std.proofs.Common.{◌≡◌, true, cond, List, [], ◌∷◌, map, Option, Some, None, inl, inr, refl, sym, ◌∙◌, ap, subst, append-nil}
 use Rattle.std.specs.Option.{option_map}
 use Rattle.std.specs.Prelude.{IsTrue, ◌&&◌, is_none}
 use Rattle.std.proofs.lemmas.Bool.{and_parts, cond-true, cond-false, cond_both}
@@ -27,7 +27,7 @@ use Rattle.sc_sound.specs.Soundness.{IsPlaced, ServesItsCut}
 use Rattle.sc_group_law.specs.Groups.{AreApart}
 use Rattle.sc_sound_law.specs.Together.{StartTogether, IsPlacedWorld}
 use Rattle.sc_sound_law.proofs.Groups.{not_same, apart_from}
-use Rattle.sc_sound_law.proofs.Worlds.{no_birth, same_transactions, same_ring}
+use Rattle.sc_sound_law.proofs.Plain.{no_birth, same_transactions, same_ring}
 
 among_map : {X Y : Type 0} (f : X → Y) (xs : List X) (x : X) → Among x xs → Among (f x) (map f xs)
 among_map f [] x a = absurd a

@@ -1,5 +1,5 @@
 -- Each first part of a lawful journal with any number of groups is sound, where their entries make one map.
-use Rattle.std.proofs.Common.{◌≡◌, ℕ, ◌+◌, ◌-◌, ◌<◌, ◌≤◌, eqb, List, [], ◌∷◌, ◌++◌, length, map, Some, None, inl, inr, refl, sym, ◌∙◌, ap, subst, arith}
+use Rattle.std.proofs.Common.{◌≡◌, ℕ, ◌+◌, ◌-◌, ◌<◌, eqb, List, [], ◌∷◌, ◌++◌, length, map, Some, None, inl, inr, refl, sym, ◌∙◌, ap, subst, arith}
 use Rattle.std.specs.Prelude.{slice_get}
 use Rattle.std.specs.List.{AllPairs}
 use Rattle.std.proofs.lemmas.Bool.{cases_Bool, cases_lt, eqb-false, cond-true, cond-false}
@@ -14,7 +14,7 @@ use Rattle.sc_cmd.specs.declared.orders.OrderLine.{OrderLine}
 use Rattle.sc_mail.specs.declared.bodies.Mail.{Mail}
 use Rattle.sc_actor.specs.declared.rows.Row.{Row}
 use Rattle.sc_actor.specs.Steps.{IsStep}
-use Rattle.sc_actor.proofs.Induction.{lawful-induction}
+use Rattle.sc_group_law.proofs.Orders.{IsPlainEvent, plain_induction}
 use Rattle.sc_actor.proofs.WalkLemmas.{lawful-prefix}
 use Rattle.sc_ideal.specs.History.{HasEntry, AreApart as AreApartEntries}
 use Rattle.sc_ideal.specs.declared.Entry.{Entry}
@@ -46,7 +46,8 @@ use Rattle.sc_group_law.proofs.Nodes.{IsNode}
 use Rattle.sc_group_law.proofs.Replicated.{one_value, is_log, executed_is, goes_on}
 use Rattle.sc_group_law.proofs.Replies.{reply_told}
 use Rattle.sc_group_law.proofs.Walked.{moved}
-use Rattle.sc_sound_law.specs.Together.{IsPlainEntry, StartTogether, TellOneHistory}
+use Rattle.sc_sound_law.specs.Together.{IsPlainEntry, StartTogether}
+use Rattle.sc_sound_law.proofs.Told.{told_quietly}
 use Rattle.sc_entries.specs.declared.LogEntry.{LogEntry}
 use Rattle.sc_sound_law.proofs.Placing.{quiet_after, placed_world}
 use Rattle.sc_sound_law.specs.Laws.{SeveralJournalsAreSound}
@@ -83,7 +84,7 @@ found_in f (b ∷ bases) apart named base (inr a) =
     ∙ found_in f bases apart.1 (λ c there. named c (inr there)) base a
 
 module _ (ahead : Ahead) (words : ℕ → ℕ → ℕ × ℕ) (any : Scenario) (base : Base) (others : List Base) (has : HasGroups (record any { groups = base ∷ others }) base others)
-    (start : StartTogether (base ∷ others)) (tell : TellOneHistory (record any { groups = base ∷ others }) (base ∷ others)) where
+    (start : StartTogether (base ∷ others)) where
   abbrev scenario : Scenario
   scenario = record any { groups = base ∷ others }
 
@@ -96,14 +97,14 @@ module _ (ahead : Ahead) (words : ℕ → ℕ → ℕ × ℕ) (any : Scenario) (
   law : (b : Base) → Among b bases → (log : List Command) → Each LeavesWhole log → LogTells (group_of b) log
   law b a = tells_of ahead b (has.empty b a)
 
-  keeps : (rows : Rows) (row : Row Mail OrderLine) → Holding rows → IsStep (system_of ahead words scenario) rows row → Holding (rows ++ row ∷ [])
-  keeps rows row (k, t) step =
-      let m = moved ahead words scenario base others has (λ b a. some_of ahead b (has.empty b a)) rows row k step in
+  keeps : (rows : Rows) (row : Row Mail OrderLine) → Holding rows → IsPlainEvent row.event → IsStep (system_of ahead words scenario) rows row → Holding (rows ++ row ∷ [])
+  keeps rows row (k, t) plain step =
+      let m = moved ahead words scenario base others has (λ b a. some_of ahead b (has.empty b a)) rows row k plain step in
       (push ahead scenario bases (route_of base) rows row k m, push_timed ahead scenario base others has.apart law rows row k t m)
 
   all_hold : (rows : Rows) → Lawful ahead words scenario rows → Holding rows
   all_hold rows lawful =
-      lawful-induction (system_of ahead words scenario) Holding keeps (schedule scenario) rows (at_birth ahead scenario base others has, first_timed ahead scenario base others has.apart) lawful
+      plain_induction ahead words scenario has.orders Holding keeps rows (at_birth ahead scenario base others has, first_timed ahead scenario base others has.apart) lawful
 
   -- ---- a first part
 
@@ -175,10 +176,10 @@ module _ (ahead : Ahead) (words : ℕ → ℕ → ℕ × ℕ) (any : Scenario) (
     one_map : IsOneMap (world_at ahead bases rows)
     one_map =
         let entries = entries_at ahead bases rows in
-        let told_world = tell entries t.plain in
+        let quiet = told_quietly scenario base others has start entries t.plain in
         let keeps = Each-weaker (IsPlainEntry scenario) (λ (entry : LogEntry). LeavesWhole entry.command) (λ entry p. plain_whole scenario entry.command p) entries t.plain in
         let here = placed_world bases has.apart start (world_at ahead bases rows) (quiet_after bases has.apart entries keeps) in
-        record { covers = here.covers; placed = here.placed; serves_apart = here.serves_apart; legal = told_world.legal; parts = told_world.parts }
+        record { covers = here.covers; placed = here.placed; serves_apart = here.serves_apart; legal = quiet.world.legal; parts = quiet.world.parts }
 
     -- ---- requests
 
@@ -279,9 +280,8 @@ module _ (ahead : Ahead) (words : ℕ → ℕ → ℕ × ℕ) (any : Scenario) (
 
 -- each first part of a lawful journal is sound
 pub several_sound : SeveralJournalsAreSound
-several_sound ahead words scenario base others has start tell rows more lawful =
+several_sound ahead words scenario base others has start rows more lawful =
     let is = has.groups in
     subst (λ gs. IsSound ahead (record scenario { groups = gs }) rows more) (sym is)
-    (sound_rows ahead words scenario base others (subst (λ gs. HasGroups (record scenario { groups = gs }) base others) is has) start
-    (subst (λ gs. TellOneHistory (record scenario { groups = gs }) (base ∷ others)) is tell) rows more
+    (sound_rows ahead words scenario base others (subst (λ gs. HasGroups (record scenario { groups = gs }) base others) is has) start rows more
     (subst (λ gs. Lawful ahead words (record scenario { groups = gs }) (rows ++ more)) is lawful))

@@ -1,20 +1,19 @@
 -- Groups that start together in a ring, and what the entries of their logs are where no group is divided.
 use Rattle.std.specs.Prelude.{◌≡◌, ℕ, ◌-◌, ◌≤◌, List, map, Some, None, slice_get}
 use Rattle.sc_base.specs.Arc.{end_of}
-use Rattle.sc_base.specs.Among.{Among, Each}
+use Rattle.sc_base.specs.Among.{Among}
 use Rattle.sc_base.specs.declared.ops.Op.{Op}
 use Rattle.sc_cmd.specs.declared.commands.Command.{Command}
 use Rattle.sc_cmd.specs.declared.commands.Command.TheVariants.{Noop, Call, Join, Leave, Split, Begin, Prepared, RecordVote, GiveUp, Finish, Watched, RecordWatch}
 use Rattle.sc_cmd.specs.declared.cores.Base.{Base}
 use Rattle.sc_cmd.specs.declared.cores.Lock.TheVariants.{Free}
-use Rattle.sc_ideal.specs.History.{Legal}
 use Rattle.sc_scenario.specs.declared.scenarios.Asks.{Asks}
 use Rattle.sc_scenario.specs.declared.scenarios.Scenario.{Scenario}
 use Rattle.sc_entries.specs.declared.LogEntry.{LogEntry}
 use Rattle.sc_entries.specs.declared.Cut.{Cut}
 use Rattle.sc_entries.specs.Rings.{Covers, first_cut}
-use Rattle.sc_entries.specs.Worlds.{StoreWorld, world_of}
-use Rattle.sc_sound.specs.Soundness.{IsPlaced, ServesItsCut, HoldsItsPart}
+use Rattle.sc_entries.specs.Worlds.{StoreWorld}
+use Rattle.sc_sound.specs.Soundness.{IsPlaced, ServesItsCut}
 
 -- a request of a client of the scenario, with its own operation
 pub record IsRequested (scenario : Scenario) (client seq : ℕ) (op : Op) : Type 0 where
@@ -60,12 +59,3 @@ pub record IsPlacedWorld (world : StoreWorld) : Type 0 where
   pub covers : Covers world.ring
   pub placed : (cut : Cut) → Among cut world.ring → IsPlaced world cut
   pub serves_apart : ServesItsCut world
-
--- (e): the history is legal, and each cut's group has its part of the map after it
-pub record IsToldWorld (world : StoreWorld) : Type 0 where
-  pub legal : Legal world.history
-  pub parts : (cut : Cut) → Among cut world.ring → HoldsItsPart world cut
-
--- whatever such entries the logs of these groups have, in whatever order, they tell one legal history, of which each group has its part
-abbrev pub TellOneHistory : Scenario → List Base → Type 0
-TellOneHistory scenario bases = (entries : List LogEntry) → Each (IsPlainEntry scenario) entries → IsToldWorld (world_of bases entries)

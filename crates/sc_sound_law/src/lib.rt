@@ -17,12 +17,12 @@ use sc_group_law::{a_journal_with_an_election, valid_scenarios_have_one_group};
 use sc_scenario::texts_are_early;
 
 /// Each first part of a lawful journal of groups that start together in a ring is sound, whoever
-/// joins or leaves them and whatever is lost, repeated, late or crashed, where the entries of their
-/// logs tell one legal history. Each group has one log, which only grows (Paxos Made Simple,
-/// sections 2.2 and 3); each replica of each node has executed a front of its group's log; the ring
-/// covers, and the group of each cut is placed in it; the history is of the scenario's requests,
-/// with the replies that clients keep; and each entry is decided after its issue and before its
-/// answer, whichever group decides it.
+/// joins or leaves them, whatever is lost, repeated, late or crashed, and with no majority alive.
+/// Each group has one log, which only grows (Paxos Made Simple, sections 2.2 and 3); each replica of
+/// each node has executed a front of its group's log; the ring covers, and the group of each cut is
+/// placed in it and holds its part of the map; the history is legal (Herlihy and Wing, 1990), with
+/// the replies that clients keep; and each entry is decided after its issue and before its answer,
+/// whichever group decides it.
 pub fn several_journals_are_sound()
     ensures { SeveralJournalsAreSound }
 {}
