@@ -40,7 +40,7 @@ use Rattle.sc_group_law.proofs.Names.{IsNamed}
 use Rattle.sc_group_law.proofs.Nodes.{IsNode}
 use Rattle.sc_group_law.proofs.Projected.{log_only, only_steps}
 use Rattle.sc_group_law.proofs.Places.{Journal, split_at}
-use Rattle.sc_group_law.proofs.Clients.{Made, made_later, made_whole, IsClient, Grew}
+use Rattle.sc_group_law.proofs.Clients.{Made, Heard, made_later, made_whole, IsClient, Grew}
 
 -- the steps of a journal for each group
 abbrev pub h_of : Journal → Base → Steps
@@ -93,7 +93,7 @@ module _ (ahead : Ahead) (scenario : Scenario) (bases : List Base) (route : Rout
   pub record Part (rows : Journal) (base : Base) : Type 0 where
     pub lawful : IsLawfulHistory (rule ahead base) (first ahead base) (h_of rows base)
     pub requested : (b : Ballot) (slot : ℕ) (c : Command) → Among (Offered b slot c) (h_of rows base) → Made scenario rows c
-    pub true_mail : (m : Mail) → Among m (mails rows) → IsTrue ahead base (Made scenario rows) (h_of rows base) m m.body
+    pub true_mail : (m : Mail) → Among m (mails rows) → IsTrue ahead base (Made scenario rows) Heard (h_of rows base) m m.body
 
   -- what holds of each lawful journal
   pub record Kept (rows : Journal) : Type 0 where
@@ -112,7 +112,7 @@ module _ (ahead : Ahead) (scenario : Scenario) (bases : List Base) (route : Rout
     pub are : h_of (rows ++ row ∷ []) base ≡ newer ++ h_of rows base
     pub lawful : IsLawfulHistory (rule ahead base) (first ahead base) (h_of (rows ++ row ∷ []) base)
     pub requested : (b : Ballot) (slot : ℕ) (c : Command) → Among (Offered b slot c) (h_of (rows ++ row ∷ []) base) → Made scenario rows c
-    pub true_sent : (m : Mail) → Among m row.sent → IsTrue ahead base (Made scenario (rows ++ row ∷ [])) (h_of (rows ++ row ∷ []) base) m m.body
+    pub true_sent : (m : Mail) → Among m row.sent → IsTrue ahead base (Made scenario (rows ++ row ∷ [])) Heard (h_of (rows ++ row ∷ []) base) m m.body
 
   -- a client after a row of its own, or as it was
   pub record ClientMoved (rows : Journal) (row : Row Mail OrderLine) (asks : Asks) : Type 0 where
@@ -140,8 +140,8 @@ module _ (ahead : Ahead) (scenario : Scenario) (bases : List Base) (route : Rout
               lawful = p.lawful;
               requested = λ b slot c o. made_later scenario rows row c (p.requested b slot c o);
               true_mail = λ x b. elim (Among-either x (mails rows) row.sent (subst (Among x) (mails-snoc rows row) b)) [
-                | inl old ↦ subst (λ g. IsTrue ahead base (Made scenario next) g x x.body) (sym p.are)
-                    (grown_true ahead base (Made scenario rows) (Made scenario next) (made_later scenario rows row) p.newer (h_of rows base) x x.body ((k.parts base a).true_mail x old))
+                | inl old ↦ subst (λ g. IsTrue ahead base (Made scenario next) Heard g x x.body) (sym p.are)
+                    (grown_true ahead base (Made scenario rows) (Made scenario next) (made_later scenario rows row) Heard Heard (λ body none. none) p.newer (h_of rows base) x x.body ((k.parts base a).true_mail x old))
                 | inr new ↦ p.true_sent x new
               ];
             });

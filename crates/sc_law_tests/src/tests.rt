@@ -13,8 +13,8 @@ use sc_paxos_law::{
     a_lawful_history, acceptors_are_lawful, leaders_are_lawful, one_log, one_value_per_slot,
 };
 use sc_sound_law::{
-    an_election_is_sound, lone_journals_are_sound, several_journals_are_sound,
-    valid_scenarios_have_a_lone_group,
+    a_journal_of_two_groups, an_election_is_sound, lone_journals_are_sound,
+    several_journals_are_sound, valid_scenarios_have_a_lone_group,
 };
 
 #[test]
@@ -54,6 +54,7 @@ fn the_laws_of_one_group_are_called() {
 #[test]
 fn the_laws_of_several_groups_are_called() {
     several_journals_are_sound();
+    a_journal_of_two_groups();
     lone_journals_are_sound();
     valid_scenarios_have_a_lone_group();
     an_election_is_sound();

@@ -9,4 +9,5 @@ pub mod Requests
 pub mod Sound
 pub mod Times
 pub mod Told
+pub mod TwoGroups
 pub mod Valid

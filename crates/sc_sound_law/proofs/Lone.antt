@@ -5,7 +5,7 @@ use Rattle.sc_entries.specs.Rings.{first_cut}
 use Rattle.sc_group_law.proofs.Births.{one_of_many}
 use Rattle.sc_sound_law.specs.Laws.{LoneJournalsAreSound}
 use Rattle.sc_sound_law.specs.LoneGroup.{IsLone}
-use Rattle.sc_sound_law.specs.Together.{IsLinked, StartTogether}
+use Rattle.sc_sound_law.specs.Together.{StandsFree, StartTogether}
 use Rattle.sc_sound_law.proofs.Circle.{ends_at_start, alone_covers}
 use Rattle.sc_sound_law.proofs.Sound.{several_sound}
 
@@ -13,10 +13,11 @@ use Rattle.sc_sound_law.proofs.Sound.{several_sound}
 lone_together : (base : Base) → IsLone base → StartTogether (base ∷ [])
 lone_together base lone = record {
   covers = alone_covers (first_cut base) lone.starts lone.circle;
-  linked = λ other a. elim a [
+  free = λ other a. elim a [
     | inl e ↦ (
         let around = ends_at_start base.core.arc lone.starts lone.circle in
-        subst (IsLinked (base ∷ [])) e (record { succ = (base, inl refl, around, lone.succ); pred = (base, inl refl, around, lone.pred); lock = lone.lock; gone = lone.gone }))
+        subst (StandsFree (base ∷ [])) e
+        (record { between = record { succ = (base, inl refl, around, lone.succ); pred = (base, inl refl, around, lone.pred) }; lock = lone.lock; gone = lone.gone }))
     | inr none ↦ absurd none
   ];
 }

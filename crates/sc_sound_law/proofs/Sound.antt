@@ -21,7 +21,7 @@ use Rattle.sc_ideal.specs.declared.Entry.{Entry}
 use Rattle.sc_machine_table.specs.Group.{Group, group_of}
 use Rattle.sc_node_table.specs.Node.{NodeState}
 use Rattle.sc_node_table.specs.Replica.{ReplicaState, name_of}
-use Rattle.sc_paxos_words.proofs.ListLemmas.{Each-among, Each-weaker}
+use Rattle.sc_paxos_words.proofs.ListLemmas.{Each-among}
 use Rattle.sc_paxos_law.proofs.Among.{place_among}
 use Rattle.sc_scenario.specs.declared.scenarios.Asks.{Asks}
 use Rattle.sc_scenario.specs.declared.scenarios.Scenario.{Scenario}
@@ -46,13 +46,12 @@ use Rattle.sc_group_law.proofs.Nodes.{IsNode}
 use Rattle.sc_group_law.proofs.Replicated.{one_value, is_log, executed_is, goes_on}
 use Rattle.sc_group_law.proofs.Replies.{reply_told}
 use Rattle.sc_group_law.proofs.Walked.{moved}
-use Rattle.sc_sound_law.specs.Together.{IsPlainEntry, StartTogether}
+use Rattle.sc_sound_law.specs.Together.{StartTogether}
 use Rattle.sc_sound_law.proofs.Told.{told_quietly}
-use Rattle.sc_entries.specs.declared.LogEntry.{LogEntry}
-use Rattle.sc_sound_law.proofs.Placing.{quiet_after, placed_world}
+use Rattle.sc_sound_law.proofs.Placing.{in_place, ring_stays}
 use Rattle.sc_sound_law.specs.Laws.{SeveralJournalsAreSound}
 use Rattle.sc_sound_law.proofs.Groups.{Rows, not_same, apart_from, AreUndivided, groups_are, log_is, state_is}
-use Rattle.sc_sound_law.proofs.Times.{plain_whole, among_place, told_in_order, K, Timed, push_timed, first_timed}
+use Rattle.sc_sound_law.proofs.Times.{among_place, told_in_order, K, Timed, push_timed, first_timed}
 
 same_first : (one other : Base) (rest others : List Base) → one ∷ rest ≡ other ∷ others → one ≡ other
 same_first one other rest others e = cc
@@ -177,9 +176,14 @@ module _ (ahead : Ahead) (words : ℕ → ℕ → ℕ × ℕ) (any : Scenario) (
     one_map =
         let entries = entries_at ahead bases rows in
         let quiet = told_quietly scenario base others has start entries t.plain in
-        let keeps = Each-weaker (IsPlainEntry scenario) (λ (entry : LogEntry). LeavesWhole entry.command) (λ entry p. plain_whole scenario entry.command p) entries t.plain in
-        let here = placed_world bases has.apart start (world_at ahead bases rows) (quiet_after bases has.apart entries keeps) in
-        record { covers = here.covers; placed = here.placed; serves_apart = here.serves_apart; legal = quiet.world.legal; parts = quiet.world.parts }
+        let here = ring_stays scenario base others has start entries t.plain in
+        record {
+          covers = here.covers;
+          placed = λ cut a. in_place (world_at ahead bases rows) cut (here.placed cut a);
+          serves_apart = here.serves_apart;
+          legal = quiet.world.legal;
+          parts = quiet.world.parts;
+        }
 
     -- ---- requests
 

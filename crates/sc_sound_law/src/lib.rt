@@ -2,9 +2,13 @@
 //! laws, no logic.
 #![tactic(auto)]
 
-ghost use Rattle.std.specs.Prelude.{[]};
+ghost use Rattle.std.specs.Prelude.{◌≡◌, [], ◌∷◌};
+ghost use Rattle.sc_actor.specs.System.{no_words};
 ghost use Rattle.sc_sound.specs.Example.{four};
+ghost use Rattle.sc_sound.specs.Logs.{decided_log};
 ghost use Rattle.sc_sound.specs.Soundness.{IsSound};
+ghost use Rattle.sc_players.specs.Players.{Lawful};
+ghost use Rattle.sc_group_law.specs.Groups.{HasGroups};
 ghost use Rattle.sc_group_law.specs.Example.{election_scenario, election_example};
 ghost use Rattle.sc_sound_law.specs.Laws.{
   SeveralJournalsAreSound,
@@ -12,6 +16,8 @@ ghost use Rattle.sc_sound_law.specs.Laws.{
   ValidHaveLoneGroup,
 };
 ghost use Rattle.sc_sound_law.specs.LoneGroup.{HasLoneGroup};
+ghost use Rattle.sc_sound_law.specs.Together.{StartTogether};
+ghost use Rattle.sc_sound_law.specs.TwoGroups.{lower, upper, two_scenario, two_example, put};
 
 use sc_group_law::{a_journal_with_an_election, valid_scenarios_have_one_group};
 use sc_scenario::texts_are_early;
@@ -52,3 +58,13 @@ pub fn an_election_is_sound()
 {
     a_journal_with_an_election();
 }
+
+/// The law of several groups is about something: a journal of two groups on one node, in which a
+/// client asks the first and is sent on to the second, and the node's tick goes through both.
+pub fn a_journal_of_two_groups()
+    ensures groups { HasGroups two_scenario lower (upper ∷ []) }
+    ensures together { StartTogether (lower ∷ upper ∷ []) }
+    ensures lawful { Lawful four no_words two_scenario two_example }
+    ensures first { decided_log four lower two_example ≡ [] }
+    ensures second { decided_log four upper two_example ≡ put ∷ [] }
+{}
