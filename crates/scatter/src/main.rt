@@ -11,6 +11,7 @@ mod telling;
 pub use done::{Done, Text};
 pub use running::run;
 use sc_actor::Gate;
+use sc_base::OutOfMemory;
 use sc_edges::{StdSink, StdSource};
 use std::process::ExitCode;
 use std::{env, io};
@@ -33,18 +34,31 @@ impl Gate for Open {
     fn pass(&self, _who: u32) {}
 }
 
-fn words_of(rt: &HostRuntime) -> io::Result<Vec<String>> {
+// The words behind the program's name. A word that is not Unicode is none that the program knows,
+// so all words together are then as good as none.
+fn words_of(rt: &HostRuntime) -> Result<Vec<String>, OutOfMemory> {
     let mut words = Vec::new(rt.alloc());
-    for word in env::args(rt)?.skip(1) {
-        words.push(word)?;
+    match env::args(rt) {
+        Ok(given) => {
+            for word in given.skip(1) {
+                words.push(word)?;
+            }
+        }
+        Err(fault) => {
+            if fault.kind() == io::ErrorKind::OutOfMemory {
+                return Err(OutOfMemory);
+            }
+        }
     }
     Ok(words)
 }
 
-fn main(rt: HostRuntime) -> io::Result<ExitCode> {
-    let words = words_of(&rt)?;
+fn main(rt: HostRuntime) -> ExitCode {
+    let Ok(words) = words_of(&rt) else {
+        return ExitCode::from(8);
+    };
     let mut input = StdSource::new(rt.stdin());
     let mut output = StdSink::new(rt.stdout());
     let done = run(&rt, rt.alloc(), &words, &mut input, &mut output, &Open);
-    Ok(ExitCode::from(done.status))
+    ExitCode::from(done.status)
 }

@@ -1,0 +1,188 @@
+"""Reads stored journals: a scenario's lines, the line `journal`, and one JSON row a line.
+
+It is for the tools beside it, which are not proved and say so. It takes a journal as it stands and
+does not ask whether it is lawful.
+"""
+
+import json
+import sys
+
+NODES = 32  # actors above are clients, and 0 is the desk, which gets what orders came to
+RING = 2**32
+
+
+class BadJournal(Exception):
+    """A file that is no stored journal: the line, from 1, and why."""
+
+
+class Mail:
+    """One mail: its number from 1 in the order of sending, the row that sent it, and what it says."""
+
+    def __init__(self, number, row, text):
+        self.number, self.row = number, row
+        self.sender, self.receiver = text["from"], text["to"]
+        ((self.kind, self.fields),) = text["body"].items()
+
+
+class Row:
+    """One row: its number from 1, whose it is, its event with the mail's or line's number, and what it sent."""
+
+    def __init__(self, number, text):
+        self.number, self.who = number, text["who"]
+        event = text["event"]
+        if isinstance(event, dict):
+            ((self.event, self.of),) = event.items()
+        else:
+            self.event, self.of = event, None
+        self.sent = []
+
+
+class Journal:
+    def __init__(self, scenario, rows, mails):
+        self.scenario, self.rows, self.mails = scenario, rows, mails
+
+    def mail(self, number):
+        """The mail with this number, if it was sent."""
+        return self.mails[number - 1] if 1 <= number <= len(self.mails) else None
+
+
+def read(name):
+    """The journal in a file, or in standard input where the name is `-`."""
+    try:
+        if name == "-":
+            text = sys.stdin.buffer.read()
+        else:
+            with open(name, "rb") as file:
+                text = file.read()
+    except OSError as fault:
+        raise BadJournal(f"{name}: {fault.strerror}") from None
+    lines = text.decode("latin-1").split("\n")
+    if lines[-1] == "":
+        lines.pop()
+    if "journal" not in lines:
+        raise BadJournal(f"{name}: no line `journal` ends the scenario")
+    end = lines.index("journal")
+    rows, mails = [], []
+    for place, line in enumerate(lines[end + 1 :], end + 2):
+        try:
+            said = json.loads(line)
+            row = Row(len(rows) + 1, said)
+            for one in said["sent"]:
+                mail = Mail(len(mails) + 1, row.number, one)
+                mails.append(mail)
+                row.sent.append(mail)
+        except (ValueError, KeyError, TypeError, AttributeError):
+            raise BadJournal(f"{name}: line {place} is no row") from None
+        rows.append(row)
+    return Journal(lines[:end], rows, mails)
+
+
+def actor(number):
+    """How a scenario calls an actor."""
+    if number == 0:
+        return "desk"
+    return f"n{number}" if number <= NODES else f"c{number - NODES}"
+
+
+def command(said):
+    """A command in a few words."""
+    if isinstance(said, str):
+        return said
+    ((kind, fields),) = said.items()
+    if kind == "Call":
+        return f"Call c{fields['client']} {fields['seq']} {operation(fields['op'])}"
+    if kind in ("Join", "Leave"):
+        return f"{kind} n{fields['node']}"
+    if kind == "Split":
+        return f"Split at {fields['at']} child {fields['child']}"
+    if kind == "Begin":
+        return f"Begin {fields['tx']} {command(fields['body'])}"
+    if kind in ("RecordVote", "RecordWatch"):
+        return f"{kind} {fields['tx']} {vote(fields['vote'])}"
+    if kind == "Finish":
+        return f"Finish {fields['tx']} {outcome(fields['outcome'])}"
+    if "tx" in fields:
+        return f"{kind} {fields['tx']}"
+    return phrase(said)
+
+
+def phrase(said):
+    """Anything else: its name, and its fields with theirs."""
+    if not isinstance(said, dict):
+        return str(said)
+    if len(said) != 1:
+        return " ".join(f"{name} {phrase(value)}" for name, value in said.items())
+    ((kind, fields),) = said.items()
+    if not isinstance(fields, dict):
+        return kind if fields is None else f"{kind} {phrase(fields)}"
+    return " ".join([kind, *(f"{name} {phrase(value)}" for name, value in fields.items() if value is not None)])
+
+
+def operation(said):
+    """A request's operation, as the scenario spells it."""
+    ((kind, fields),) = said.items()
+    words = [fields[name] for name in ("key", "expect", "value") if name in fields]
+    return " ".join([kind.lower(), *words])
+
+
+def vote(said):
+    if isinstance(said, str):
+        return said
+    ((kind, fields),) = said.items()
+    return kind if kind == "Yes" else f"No {phrase(fields)}"
+
+
+def outcome(said):
+    if isinstance(said, str):
+        return said
+    ((kind, fields),) = said.items()
+    if kind == "Merged":
+        return f"Merged into {fields['into']['group']}"
+    return f"Moved at {fields['at']}" if kind == "Moved" else f"Migrated n{fields['node']}"
+
+
+def answer(said):
+    ((kind, fields),) = said.items()
+    if kind == "Value":
+        return "none" if fields["old"] is None else f"value {fields['old']}"
+    if kind == "NotLeader":
+        return "not leader" + ("" if fields["hint"] is None else f", ask n{fields['hint']}")
+    if kind == "NotMine":
+        return f"not mine, mine is {fields['arc']}"
+    if kind == "Gone":
+        return f"gone into {fields['into']['group']}"
+    return f"stale, last is {fields['last']}"
+
+
+def words(mail):
+    """What a mail says, in a few words."""
+    kind, said = mail.kind, mail.fields
+    start = " ".join([kind, *([said["group"]] if "group" in said else [])])
+    ballot = " ballot {}.{}".format(*said["ballot"]) if "ballot" in said else ""
+    slot = f" slot {said['slot']}" if "slot" in said else ""
+    if kind == "Request":
+        return f"{start} {said['seq']}: {operation(said['op'])}"
+    if kind == "Answer":
+        return f"{start} {said['seq']}: {answer(said['answer'])}"
+    if kind in ("Accept", "Learn"):
+        return f"{start}{slot}{ballot}: {command(said['command'])}"
+    if kind == "Promise":
+        return f"{start}{ballot}, {len(said['reports'])} accepted"
+    if kind == "Prepare":
+        return f"{start}{ballot} from slot {said['from_slot']}"
+    if kind == "Ask":
+        return f"{start} from slot {said['from_slot']}"
+    if kind == "Nack":
+        return "{}, promised {}.{}".format(start, *said["promised"])
+    if kind == "TxPrepare":
+        offer = said["offer"]
+        return f"{kind} {said['tx']}: {offer['coord']} asks {offer['part']}, {command(offer['body'])}"
+    if kind == "TxVote" or kind == "TxWatched":
+        return f"{kind} {said['tx']}: {said['part']} to {said['coord']}, {vote(said['vote'])}"
+    if kind == "TxOutcome":
+        return f"{kind} {said['tx']}: to {said['part']}, {outcome(said['outcome'])}"
+    if kind == "TxWatch":
+        return f"{kind} {said['tx']}: {said['watch']['coord']} asks {said['watch']['part']}"
+    if kind == "Told":
+        return f"Told order {said['order']}: {phrase(said['result'])}"
+    return f"{start}{slot}{ballot}" + (f" {said['tx']}" if "tx" in said else "")
