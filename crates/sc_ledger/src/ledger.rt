@@ -20,7 +20,7 @@ use crate::plain::kth_after;
 use crate::queues::{Queues, note_row};
 use crate::spots::{Look, spots_from};
 use sc_actor::{Parcel, Row};
-use sc_base::{Dup, OutOfMemory};
+use sc_base::{Dup, OutOfMemory, Sequence};
 use std::alloc::Global;
 
 /// The rows of one exchange, with what is counted of them.
@@ -291,7 +291,7 @@ impl<M: Parcel + Drop, O: Drop> Ledger<M, O> {
             &row,
         );
         self.bytes = bytes;
-        self.rows.push_reserved(row);
+        self.rows.push_reserved(trimmed(row));
     }
 
     /// Appends a row, unless with it the counted bytes pass the limit. A row that is not kept is
@@ -319,6 +319,21 @@ impl<M: Parcel + Drop, O: Drop> Ledger<M, O> {
         }
         self.keep(row, bytes);
         Ok(())
+    }
+}
+
+// The same row, whose mails take no more room than they need: most rows send one mail, and a list
+// that grows takes room for four at first.
+fn trimmed<M, O>(row: Row<M, O>) -> Row<M, O>
+    ensures { result ≡ row }
+{
+    let Row { who, event, sent } = row;
+    let mut mails = sent.into_vec();
+    mails.shrink_to_fit();
+    Row {
+        who,
+        event,
+        sent: Sequence::from_vec(mails),
     }
 }
 
