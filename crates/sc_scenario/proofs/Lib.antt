@@ -1,5 +1,9 @@
 mod Choices
 mod Clients
+mod Cuts
 mod Lists
+mod Records
+mod Results
 mod Rosters
 mod Texts
+mod Verdicts

@@ -7,7 +7,7 @@ use Rattle.sc_cmd.specs.declared.orders.Order.TheVariants.{Join, Leave, Split, M
 use Rattle.sc_scenario.specs.Groups.{lone_group}
 use Rattle.sc_base.specs.Limits.{most_nodes, most_clients, most_requests, client_actor}
 use Rattle.sc_scenario.specs.Schedules.{is_client, most_mails, most_deliveries, most_workers}
-use Rattle.sc_scenario.specs.Early.{scenario_of}
+use Rattle.sc_scenario.specs.Grammar.{scenario_of}
 use Rattle.sc_scenario.specs.declared.scenarios.Asks.{Asks}
 use Rattle.sc_scenario.specs.declared.scenarios.Scenario.{Scenario}
 use Rattle.sc_scenario.specs.declared.scenarios.SchedLine.{SchedLine}
@@ -66,7 +66,7 @@ pub record IsEarly (scenario : Scenario) : Type 0 where
   pub ascending : AllPairs (λ (one other : Asks). one.client < other.client) scenario.clients
   pub lines : All (IsEarlyLine scenario.nodes scenario.clients) scenario.lines
   pub brief : scenario.brief ≡ false
-  pub version : scenario.version ≡ 1
+  pub version : (scenario.version ≡ 1) ⊎ (scenario.version ≡ 2)
 
 -- every scenario that some text is has the early form
 abbrev pub TextsAreEarly : Type 0
