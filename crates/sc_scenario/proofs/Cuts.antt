@@ -1,8 +1,8 @@
 -- The first line of a text, and the others.
-use Rattle.std.proofs.Common.{◌≡◌, ℕ, ◌+◌, ◌<◌, ◌≤◌, Bool, true, false, cond, if◌then◌else◌, eqb, ltb, nat_lt, List, [], ◌∷◌, length, take, drop, get_or, Option, Some, None, refl, sym, ap, ◌∙◌, arith, position}
+use Rattle.std.proofs.Common.{◌≡◌, ℕ, ◌+◌, ◌-◌, ◌<◌, ◌≤◌, Bool, true, false, cond, if◌then◌else◌, eqb, ltb, nat_lt, List, [], ◌∷◌, length, take, drop, get_or, Option, Some, None, refl, sym, ap, ◌∙◌, arith, position}
 use Rattle.std.specs.List.{slice_split, position_or_len, before_first, after_first}
 use Rattle.std.proofs.lemmas.Bool.{cond-false, ltb-true, ltb-false}
-use Rattle.std.proofs.lemmas.List.{take_all}
+use Rattle.std.proofs.lemmas.List.{take_all, length-drop}
 use Rattle.std.proofs.lemmas.List.Splits.{slice_split_first, slice_split_none, length-slice_split}
 use Rattle.std.proofs.lemmas.List.Sums.{fails_before_first}
 use Rattle.std.proofs.lemmas.Option.{same_Some, none-some}
@@ -35,6 +35,12 @@ pub lines_first : (is_long : Bool) (text : List ℕ) (at : ℕ) → position is_
 lines_first true text at e = ap ended_parts (split_first text at e) ∙ ended_cons (take at text) (slice_split is_feed (drop (at + 1) text)) (split_some (drop (at + 1) text))
 lines_first false text at e = ap lines_in_parts (split_first text at e) ∙ parts_cons (take at text) (slice_split is_feed (drop (at + 1) text)) (split_some (drop (at + 1) text))
 
+-- the same, of the bytes up to the end
+pub lines_cut_first : (is_long : Bool) (text : List ℕ) (at : ℕ) → position is_feed text ≡ Some at → lines_in is_long text ≡ take at text ∷ lines_in is_long (take (length text - (at + 1)) (drop (at + 1) text))
+lines_cut_first is_long text at e =
+    let le : length (drop (at + 1) text) ≤ length text - (at + 1) = omega (arith, length-drop (at + 1) text) in
+    lines_first is_long text at e ∙ ap (λ rest. take at text ∷ lines_in is_long rest) (sym (take_all (length text - (at + 1)) (drop (at + 1) text) le))
+
 unchosen : {X : Type 0} (b : Bool) (x : X) → (if b then Some x else None) ≡ None → b ≡ false
 unchosen true x e = absurd (none-some x (sym e))
 unchosen false x e = refl
@@ -55,6 +61,14 @@ pub lines_last : (text : List ℕ) → 0 < length text → position is_feed text
 lines_last text some e =
     let filled : eqb (length text) 0 ≡ false = grind arith in
     ap lines_in_parts (split_none text e) ∙ cond-false (eqb (length text) 0) [] (text ∷ []) filled
+
+some_case : (text : List ℕ) (found : Option ℕ) → position is_feed text ≡ found → 0 < length text → (line : List ℕ) × (lines : List (List ℕ)) × (lines_in false text ≡ line ∷ lines)
+some_case text (Some at) e some = (take at text, lines_in false (drop (at + 1) text), lines_first false text at e)
+some_case text None e some = (text, lines_in false [], lines_last text some e)
+
+-- a text that is not empty has a line
+pub lines_some : (text : List ℕ) → 0 < length text → (line : List ℕ) × (lines : List (List ℕ)) × (lines_in false text ≡ line ∷ lines)
+lines_some text some = some_case text (position is_feed text) refl some
 
 -- all lines of a text that is not too long
 pub lines_all : (text : List ℕ) → is_too_long text ≡ false → lines_of text ≡ lines_in false text

@@ -9,7 +9,7 @@ use Rattle.sc_scenario.specs.declared.drafts.GroupLine.{GroupLine}
 
 -- one record more
 pub bases_next : (lines : List GroupLine) (k : ℕ) → bases_up_to lines (k + 1) ≡ bases_up_to lines k ++ base_at lines k ∷ []
-bases_next lines k = rw add-one refl
+bases_next lines k = let e : k + 1 ≡ suc k = omega arith in ap (bases_up_to lines) e
 
 -- the group's own record, with an arc of some length
 abbrev lone_with : ℕ → List ℕ → ℕ → Base

@@ -9,8 +9,11 @@ use Rattle.sc_scenario.specs.declared.reasons.Reason.{Reason}
 pub err_ok : {X E : Type 0} (e : E) (x : X) → Err e ≡ Ok x → ⊥
 err_ok e x h = true≢false (sym (ap is_ok h))
 
+abbrev ok : {X : Type 0} → (E : Type 0) → X → Result X E
+ok E x = Ok x
+
 -- equal values
-pub same_Ok : {X E : Type 0} (x y : X) → Ok {E = E} x ≡ Ok y → x ≡ y
+pub same_Ok : {X E : Type 0} (x y : X) → ok E x ≡ Ok y → x ≡ y
 same_Ok x y h = ap (λ r. result_unwrap_or r x) h
 
 -- what two steps gave, the first gave and then the second

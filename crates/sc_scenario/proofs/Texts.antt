@@ -1,10 +1,10 @@
 -- What a text that is a scenario gives.
-use Rattle.std.proofs.Common.{◌≡◌, ◌<◌, ◌≤◌, ◌+◌, ◌-◌, ◌&&◌, ◌||◌, ◌^◌, ◌⊎◌, eqb, ltb, leb, not, ℕ, List, [], ◌∷◌, ◌++◌, drop, length, Some, None, Option, Bool, true, false, if◌then◌else◌, nat_le, nat_lt, refl, sym, ap, subst, inl, inr, arith, rules, is_none, true≢false, codes, ◌∙◌}
-use Rattle.std.specs.Prelude.{Result, Ok, Err, ⊤}
+use Rattle.std.proofs.Common.{◌≡◌, ◌<◌, ◌≤◌, ◌+◌, ◌-◌, ◌&&◌, ◌||◌, ◌^◌, eqb, ltb, leb, not, ℕ, List, [], ◌∷◌, ◌++◌, drop, length, Some, None, Option, Bool, true, false, if◌then◌else◌, nat_le, nat_lt, refl, sym, ap, subst, inl, inr, arith, rules, is_none, true≢false, codes, ◌∙◌}
+use Rattle.std.specs.Prelude.{Result, Ok, Err, ⊤, ◌⊎◌}
 use Rattle.std.specs.Option.{option_map, option_and_then}
 use Rattle.std.specs.List.{All, AllPairs, list_any}
 use Rattle.std.specs.Result.{result_ok}
-use Rattle.std.proofs.lemmas.Bool.{and_parts, or_parts, eqb-true, eqb-false, ltb-true, ltb-false, not-true}
+use Rattle.std.proofs.lemmas.Bool.{and_parts, or_parts, eqb-true, eqb-false, eq-eqb, ltb-true, ltb-false, leb-true, leb-false, not-true}
 use Rattle.std.proofs.lemmas.List.{length_push}
 use Rattle.std.proofs.lemmas.Option.{none-some, same_Some}
 use Rattle.std.proofs.lemmas.List.Elements.{All-nil, All-cons, All-push, All-head, All-tail}
@@ -58,7 +58,6 @@ use Rattle.sc_scenario.proofs.Rosters.{roster_one, roster_with, all_with}
 use Rattle.sc_scenario.proofs.Clients.{Below, all_inserted, rising_with}
 use Rattle.sc_scenario.proofs.Records.{lone_bases, one_line}
 
-
 -- ---- the nodes of a group
 
 joined_case : (b : Bool) (members : List ℕ) (node : ℕ) → is_none (add_fault members node) ≡ b → IsRoster members → IsRoster (if b then with_member members node else members)
@@ -99,22 +98,30 @@ record IsGroupLine (nodes : ℕ) (line : GroupLine) : Type 0 where
 -- ---- the schedule
 
 -- a client among those with a section, by its number as an actor
-found : (clients : List Asks) (who : ℕ) → list_any (λ asks. eqb (client_actor asks.client) who) clients ≡ true → (client : ℕ) × (who ≡ client_actor client) × (is_client clients client ≡ true)
+abbrev Found : List Asks → ℕ → Type 0
+Found clients who = (client : ℕ) × (who ≡ client_actor client) × (is_client clients client ≡ true)
+
+abbrev has_actor : List Asks → ℕ → Bool
+has_actor clients who = list_any (λ asks. eqb (client_actor asks.client) who) clients
+
+or_true : (b : Bool) → (b || true) ≡ true
+or_true true = refl
+or_true false = refl
+
+found_by : (asks : Asks) (clients : List Asks) (who : ℕ) → (has_actor clients who ≡ true → Found clients who) → (b : Bool) → eqb (client_actor asks.client) who ≡ b → (b || has_actor clients who) ≡ true → Found (asks ∷ clients) who
+found_by asks clients who more true h e =
+    (asks.client, sym (eqb-true (client_actor asks.client) who h), ap (λ b. b || is_client clients asks.client) (eq-eqb asks.client asks.client refl))
+found_by asks clients who more false h e =
+    let m = more e in
+    (m.0, m.1, subst (λ c. (eqb asks.client m.0 || c) ≡ true) (sym m.2) (or_true (eqb asks.client m.0)))
+
+found : (clients : List Asks) (who : ℕ) → has_actor clients who ≡ true → Found clients who
 found [] who e = absurd (true≢false (sym e))
-found (asks ∷ clients) who e = by (eqb (client_actor asks.client) who) refl
-  where
-    itself : (n : ℕ) → eqb n n ≡ true
-    itself n = grind arith
+found (asks ∷ clients) who e =
+    found_by asks clients who (λ h. found clients who h) (eqb (client_actor asks.client) who) refl e
 
-    by : (b : Bool) → eqb (client_actor asks.client) who ≡ b → (client : ℕ) × (who ≡ client_actor client) × (is_client (asks ∷ clients) client ≡ true)
-    by true h = (asks.client, sym (eqb-true (client_actor asks.client) who h), rw (itself asks.client) refl)
-    by false h =
-        let rest : list_any (λ asks. eqb (client_actor asks.client) who) clients ≡ true = subst (λ b. (b || list_any (λ asks. eqb (client_actor asks.client) who) clients) ≡ true) h e in
-        let more = found clients who rest in
-        (more.0, more.1, grind (arith, more.2))
-
-actor_case : (nodes : ℕ) (clients : List Asks) (who : ℕ) (b : Bool) → leb who nodes ≡ b → 1 ≤ who → (b || list_any (λ asks. eqb (client_actor asks.client) who) clients) ≡ true → IsActor nodes clients who
-actor_case nodes clients who true h some e = let le : who ≤ nodes = search (rules, h) in inl (some, le)
+actor_case : (nodes : ℕ) (clients : List Asks) (who : ℕ) (b : Bool) → leb who nodes ≡ b → 1 ≤ who → (b || has_actor clients who) ≡ true → IsActor nodes clients who
+actor_case nodes clients who true h some e = inl (some, leb-true who nodes h)
 actor_case nodes clients who false h some e = inr (found clients who e)
 
 actor_is : (nodes : ℕ) (clients : List Asks) (who : ℕ) → 1 ≤ who → is_actor nodes clients who ≡ true → IsActor nodes clients who
@@ -123,7 +130,7 @@ actor_is nodes clients who some e = actor_case nodes clients who (leb who nodes)
 some_by : (digits : List ℕ) (node client : Bool) (who : ℕ)
     → (if node then count_in most_nodes digits else if client then option_map (λ c. client_actor c) (count_in most_clients digits) else None) ≡ Some who → 1 ≤ who
 some_by digits true client who e = (counted most_nodes digits who e).0
-some_by digits false true who e = let m = map-some (λ c. client_actor c) (count_in most_clients digits) who e in let same = m.2 in omega arith
+some_by digits false true who e = let m = map-some (λ c. client_actor c) (count_in most_clients digits) who e in let same : 32 + m.0 ≡ who = m.2 in omega (arith, same)
 some_by digits false false who e = absurd (none-some who e)
 
 some_actor : (word : List ℕ) (who : ℕ) → actor_in word ≡ Some who → 1 ≤ who
@@ -131,7 +138,7 @@ some_actor [] who e = absurd (none-some who e)
 some_actor (letter ∷ digits) who e = some_by digits (eqb letter 110) (eqb letter 99) who e
 
 node_is : (nodes : ℕ) (word : List ℕ) (node : ℕ) → count_in most_nodes word ≡ Some node → leb node nodes ≡ true → IsUpTo nodes node
-node_is nodes word node e h = let le : node ≤ nodes = search (rules, h) in ((counted most_nodes word node e).0, le)
+node_is nodes word node e h = ((counted most_nodes word node e).0, leb-true node nodes h)
 
 -- what a line was read from holds of the line
 abbrev Played : ℕ → List Asks → SchedLine → Type 0
@@ -168,18 +175,18 @@ line_is nodes clients kind.Free words line built e =
 line_is nodes clients kind.Storm words line built e = absurd (true≢false (sym built))
 
 -- what an order was read from holds of the order
-abbrev Told_early : ℕ → Order → Type 0
-Told_early nodes order = is_order_known nodes order ≡ true → IsEarlyOrder nodes order
+abbrev Ordered : ℕ → Order → Type 0
+Ordered nodes order = is_order_known nodes order ≡ true → IsEarlyOrder nodes order
 
-order_is : (nodes : ℕ) (k : OrderKind) (words : List (List ℕ)) (order : Order) → is_order_built k ≡ true → order_in k words ≡ Ok order → Told_early nodes order
+order_is : (nodes : ℕ) (k : OrderKind) (words : List (List ℕ)) (order : Order) → is_order_built k ≡ true → order_in k words ≡ Ok order → Ordered nodes order
 order_is nodes what.Join words order built e =
     let g = given_ok (count_in most_nodes (nth words 3)) BadNumber (λ node. given (name_in (nth words 4)) BadNumber (λ group. Ok (Join node group))) order e in
     let n = given_ok (name_in (nth words 4)) BadNumber (λ group. Ok (Join g.0 group)) order g.2 in
-    subst (Told_early nodes) (same_Ok _ order n.2) (λ h. node_is nodes (nth words 3) g.0 g.1 h)
+    subst (Ordered nodes) (same_Ok _ order n.2) (λ h. node_is nodes (nth words 3) g.0 g.1 h)
 order_is nodes what.Leave words order built e =
     let g = given_ok (count_in most_nodes (nth words 3)) BadNumber (λ node. given (name_in (nth words 4)) BadNumber (λ group. Ok (Leave node group))) order e in
     let n = given_ok (name_in (nth words 4)) BadNumber (λ group. Ok (Leave g.0 group)) order g.2 in
-    subst (Told_early nodes) (same_Ok _ order n.2) (λ h. node_is nodes (nth words 3) g.0 g.1 h)
+    subst (Ordered nodes) (same_Ok _ order n.2) (λ h. node_is nodes (nth words 3) g.0 g.1 h)
 order_is nodes what.Split words order built e = absurd (true≢false (sym built))
 order_is nodes what.Merge words order built e = absurd (true≢false (sym built))
 order_is nodes what.Repart words order built e = absurd (true≢false (sym built))
@@ -220,7 +227,7 @@ first_holds false b c d e f h = absurd (true≢false (sym h))
 not_later : (last phase : ℕ) → may_follow last phase ≡ true → last ≤ phase
 not_later last phase e =
     let h = first_holds (leb last phase) (not (eqb phase 0)) (not (eqb last 1 && eqb phase 1)) (not (eqb last 3 && eqb phase 3)) (ltb phase 2 || leb 1 last) (ltb phase 3 || leb 2 last) e in
-    search (rules, h)
+    leb-true last phase h
 
 before_lines : (lines clients policy groups nodes : Bool) → (if not lines then 5 else if not clients then 4 else if policy then 3 else if not groups then 2 else if not nodes then 1 else 0) ≤ 4 → lines ≡ true
 before_lines true clients policy groups nodes le = refl
@@ -303,8 +310,8 @@ group_taken_is draft lo first others more low up all none is e =
 
 group_is : (draft : Draft) (words : List (List ℕ)) (statement : Statement) (more : Reading) → length draft.groups ≡ 0 → IsDraft draft → group_in words ≡ Ok statement → taken_outside draft statement ≡ Ok more → IsReading more
 group_is draft words statement more none is e t =
-    let lo = given_ok (number_of (nth words 1) last_position) BadNumber _ statement e in
-    let first = given_ok (count_in most_nodes (nth words 2)) BadNumber _ statement lo.2 in
+    let lo = given_ok (number_of (nth words 1) last_position) BadNumber (λ lo. given (count_in most_nodes (nth words 2)) BadNumber (λ first. given (nodes_with [] (drop 3 words)) BadNumber (λ others. Ok (NewGroup lo first others)))) statement e in
+    let first = given_ok (count_in most_nodes (nth words 2)) BadNumber (λ first. given (nodes_with [] (drop 3 words)) BadNumber (λ others. Ok (NewGroup lo.0 first others))) statement lo.2 in
     let others = given_ok (nodes_with [] (drop 3 words)) BadNumber (λ others. Ok (NewGroup lo.0 first.0 others)) statement first.2 in
     let taken : group_taken draft lo.0 first.0 others.0 ≡ Ok more = subst (λ s. taken_outside draft s ≡ Ok more) (sym (same_Ok (NewGroup lo.0 first.0 others.0) statement others.2)) t in
     group_taken_is draft lo.0 first.0 others.0 more (is_up_to last_position (nth words 1) lo.0 lo.1) (counted most_nodes (nth words 2) first.0 first.1)
@@ -320,7 +327,7 @@ played_is draft line more good is e =
     let m = met (is_line_known draft.nodes draft.clients line) UnknownName (Ok (Outside (with_line draft line))) more e in
     subst IsReading (same_Ok _ more m.1) (lined draft line draft.orders (good m.0) is)
 
-told_is : (draft : Draft) (node : ℕ) (word : List ℕ) (order : Order) (more : Reading) → count_in most_nodes word ≡ Some node → Told_early draft.nodes order → IsDraft draft → order_taken draft (told_of draft node order) ≡ Ok more → IsReading more
+told_is : (draft : Draft) (node : ℕ) (word : List ℕ) (order : Order) (more : Reading) → count_in most_nodes word ≡ Some node → Ordered draft.nodes order → IsDraft draft → order_taken draft (told_of draft node order) ≡ Ok more → IsReading more
 told_is draft node word order more number good is e =
     let m = met (is_line_known draft.nodes draft.clients (told_of draft node order)) UnknownName (Ok (Outside (with_order draft (told_of draft node order)))) more e in
     let parts = and_parts (leb node draft.nodes) (is_order_known draft.nodes order) m.0 in
@@ -374,7 +381,7 @@ requested draft asks op few is = (is.0, is.1, is.2, (is.3.0, omega (arith, few, 
 request_is : (draft : Draft) (asks : Asks) (op : Op) (more : Reading) → IsReading (Within draft asks) → request_taken draft asks op ≡ Ok more → IsReading more
 request_is draft asks op more is e =
     let p = passed (leb most_requests (length asks.ops)) TooMany (Ok (Within draft (with_request asks op))) more e in
-    let few : length asks.ops < most_requests = search (rules, p.0) in
+    let few : length asks.ops < most_requests = leb-false most_requests (length asks.ops) p.0 in
     subst IsReading (same_Ok _ more p.1) (requested draft asks op few is)
 
 within_is : (draft : Draft) (asks : Asks) (k : Kind) (words : List (List ℕ)) (statement : Statement) (more : Reading) → IsReading (Within draft asks) → is_inner k ≡ true
@@ -423,15 +430,15 @@ built_is draft words k e =
     let c = chosen (is_built draft b.0) (Some b.0) k b.2 in
     subst (λ k. is_built draft k ≡ true) (same_Some b.0 k c.1) c.0
 
+turned : (b : Bool) → not b ≡ false → b ≡ true
+turned true h = refl
+turned false h = absurd (true≢false h)
+
 said_is : (in_place : Bool) (k : Kind) (words : List (List ℕ)) (statement : Statement) → said in_place k words ≡ Ok statement → (in_place ≡ true) × (statement_in k words ≡ Ok statement)
 said_is in_place k words statement e =
     let a = passed (not in_place) OutOfPlace _ statement e in
     let b = passed (not (has_count k (length words))) WrongCount (statement_in k words) statement a.1 in
     (turned in_place a.0, b.1)
-  where
-    turned : (b : Bool) → not b ≡ false → b ≡ true
-    turned true h = refl
-    turned false h = absurd (true≢false h)
 
 words_are : (reading : Reading) (words : List (List ℕ)) (more : Reading) → IsReading reading → words_read reading words ≡ Ok more → IsReading more
 words_are Fresh words more is e = header_is words more e

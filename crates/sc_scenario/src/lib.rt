@@ -17,6 +17,8 @@ mod statements;
 mod taking;
 mod words;
 
-pub use reading::{INPUT_LIMIT, LINE_LIMIT, ScenarioFault, read_scenario, texts_are_early};
+pub use reading::{
+    INPUT_LIMIT, LINE_LIMIT, ScenarioFault, first_bytes_decide, read_scenario, texts_are_early,
+};
 pub use reasons::reason_text;
 pub use scenarios::{Asks, ClientList, GroupList, Scenario, SchedLine, Schedule};

@@ -2,7 +2,7 @@
 ghost use Rattle.std.specs.Prelude.{◌≡◌, map, IfOk};
 ghost use Rattle.sc_scenario.specs.Grammar.{IsRead, begun, are_two, header_read, said, built_kind, words_read, is_fresh, line_read, bad, scenario_by, finished, lines_read, verdict_of};
 ghost use Rattle.sc_scenario.specs.Lines.{is_too_long, lines_in};
-ghost use Rattle.sc_scenario.specs.Valid.{TextsAreEarly};
+ghost use Rattle.sc_scenario.specs.Valid.{TextsAreEarly, FirstBytesDecide};
 ghost use Rattle.sc_scenario.specs.declared.drafts.Reading.TheVariants.{Fresh, Outside, Within};
 ghost use Rattle.sc_scenario.specs.declared.reading.ScenarioFault.TheVariants.{OutOfMemory};
 
@@ -264,4 +264,9 @@ pub fn read_scenario(alloc: Global, text: &[u8]) -> Result<Scenario, ScenarioFau
 /// order of number with few requests, and a schedule of lines that name these.
 pub fn texts_are_early()
     ensures { TextsAreEarly }
+{}
+
+/// A text comes out as its first bytes do, one more than the most that a text may have.
+pub fn first_bytes_decide()
+    ensures { FirstBytesDecide }
 {}

@@ -83,7 +83,7 @@ const CASES: &[Case] = &[
     (("run", FIRST, 0, 2), (5, true, b"scatter report 1\n")),
     (("run", FIRST, 1, 0), (4, false, b"read fault\n")),
     (("make 0 7", FIRST, 0, 0), (2, false, USAGE)),
-    (("run", b"", 0, 0), (3, false, b"line 0: bad scenario\n")),
+    (("run", b"", 0, 0), (3, false, b"line 1: missing header\n")),
     (("", FIRST, 0, 0), (2, false, USAGE)),
 ];
 
