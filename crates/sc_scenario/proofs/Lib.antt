@@ -5,5 +5,6 @@ mod Lists
 mod Records
 mod Results
 mod Rosters
+mod Spelled
 mod Texts
 mod Verdicts

@@ -12,7 +12,7 @@ fn line_end(text: &[u8]) -> Option<usize>
 
 /// The first line of a text that is not empty, and the text behind it. None where a text with too
 /// many bytes has no more lines that a line feed ends.
-#[tactic(auto, using(crate::proofs::Cuts::lines_first, crate::proofs::Cuts::lines_none, crate::proofs::Cuts::lines_last))]
+#[tactic(auto, using(crate::proofs::Cuts::lines_none, crate::proofs::Cuts::lines_last))]
 pub fn next_line(is_long: bool, text: &[u8]) -> Option<(&[u8], &[u8])>
     requires { 0 < length text.now }
     ensures lines { MatchOption result ((is_long ≡ true) × (lines_in is_long text.now ≡ []))
