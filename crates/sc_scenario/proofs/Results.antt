@@ -2,7 +2,7 @@
 use Rattle.std.proofs.Common.{◌≡◌, Option, Some, None, Bool, true, false, if◌then◌else◌, refl, sym, ap, true≢false}
 use Rattle.std.specs.Prelude.{Result, Ok, Err}
 use Rattle.std.specs.Result.{is_ok, result_unwrap_or}
-use Rattle.sc_scenario.specs.Reasons.{given, after}
+use Rattle.sc_scenario.specs.Reasons.{given, then_on}
 use Rattle.sc_scenario.specs.declared.reasons.Reason.{Reason}
 
 -- no fault is a value
@@ -22,7 +22,7 @@ given_ok (Some x) reason onward y e = (x, refl, e)
 given_ok None reason onward y e = absurd (err_ok reason y e)
 
 -- the same, where the first gave a result
-pub after_ok : {X Y : Type 0} (r : Result X Reason) (onward : X → Result Y Reason) (y : Y) → after r onward ≡ Ok y → (x : X) × (r ≡ Ok x) × (onward x ≡ Ok y)
+pub after_ok : {X Y : Type 0} (r : Result X Reason) (onward : X → Result Y Reason) (y : Y) → then_on r onward ≡ Ok y → (x : X) × (r ≡ Ok x) × (onward x ≡ Ok y)
 after_ok (Ok x) onward y e = (x, refl, e)
 after_ok (Err reason) onward y e = absurd (err_ok reason y e)
 

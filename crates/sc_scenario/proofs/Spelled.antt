@@ -19,7 +19,7 @@ use Rattle.sc_cmd.specs.declared.orders.Order.{Order}
 use Rattle.sc_cmd.specs.declared.orders.Order.TheVariants.{Join, Leave}
 use Rattle.sc_member.specs.Roster.{IsRoster, with_member, least_of}
 use Rattle.sc_member.specs.Faults.{add_fault}
-use Rattle.sc_scenario.specs.Reasons.{code_of, given, after}
+use Rattle.sc_scenario.specs.Reasons.{reason_code, given, then_on}
 use Rattle.sc_scenario.specs.Words.{nth, words_of, count_in}
 use Rattle.sc_scenario.specs.Lines.{is_too_long, lines_of, trimmed, is_skipped, has_bad_byte, most_lines}
 use Rattle.sc_scenario.specs.Kinds.{kind_of, phase_of, is_inner, has_count}
@@ -29,8 +29,8 @@ use Rattle.sc_scenario.specs.Schedules.{most_mails, most_deliveries, most_worker
 use Rattle.sc_scenario.specs.Orders.{name_in, order_in, last_position}
 use Rattle.sc_scenario.specs.Statements.{group_in, statement_in}
 use Rattle.sc_scenario.specs.Places.{is_line_built, is_order_built, is_built, phase_so_far, may_follow, is_in_place}
-use Rattle.sc_scenario.specs.Taking.{is_actor, is_order_known, is_line_known, is_above, most_groups, most_members, with_group, has_stranger, group_taken, client_place, with_client, with_request, client_taken, request_taken, with_line, told_of, with_order, line_taken, order_taken, taken_outside, taken_within}
-use Rattle.sc_scenario.specs.Grammar.{begun, are_two, header_read, said, built_kind, words_read, is_fresh, line_read, scenario_by, finished, ended, going_on, lines_read, verdict_of, scenario_of}
+use Rattle.sc_scenario.specs.Taking.{is_actor, is_order_known, is_line_known, is_above, most_groups, most_members, with_group_line, has_stranger, group_taken, client_place, with_client, with_request, client_taken, request_taken, with_line, telling_of, with_order, line_taken, telling_taken, taken_outside, taken_within}
+use Rattle.sc_scenario.specs.Grammar.{begun, are_two, header_read, said, built_kind, words_read, is_fresh, line_read, scenario_by, reading_ended, text_ended, going_on, lines_read, verdict_of, scenario_of}
 use Rattle.sc_scenario.specs.Valid.{IsValid, IsEarly, IsEarlyClient, IsEarlyLine, IsEarlyOrder, IsActor, IsUpTo, TextsAreEarly}
 use Rattle.sc_scenario.specs.declared.reasons.Reason.{Reason}
 use Rattle.sc_scenario.specs.declared.reasons.Reason.TheVariants.{MissingHeader, BadByte, UnknownWord, OutOfPlace, WrongCount, BadNumber, BadKey, BadValue, UnknownName, Repeated, BadBoundary, TooMany, UnendedClient, MissingPart, TooLarge}

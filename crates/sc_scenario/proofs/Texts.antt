@@ -19,7 +19,7 @@ use Rattle.sc_cmd.specs.declared.orders.Order.{Order}
 use Rattle.sc_cmd.specs.declared.orders.Order.TheVariants.{Join, Leave}
 use Rattle.sc_member.specs.Roster.{IsRoster, with_member, least_of}
 use Rattle.sc_member.specs.Faults.{add_fault}
-use Rattle.sc_scenario.specs.Reasons.{code_of, given, after}
+use Rattle.sc_scenario.specs.Reasons.{reason_code, given, then_on}
 use Rattle.sc_scenario.specs.Words.{nth, words_of, count_in}
 use Rattle.sc_scenario.specs.Lines.{is_too_long, lines_of, trimmed, is_skipped, has_bad_byte, most_lines}
 use Rattle.sc_scenario.specs.Kinds.{kind_of, phase_of, is_inner, has_count}
@@ -29,8 +29,8 @@ use Rattle.sc_scenario.specs.Schedules.{most_mails, most_deliveries, most_worker
 use Rattle.sc_scenario.specs.Orders.{name_in, order_in, last_position}
 use Rattle.sc_scenario.specs.Statements.{group_in, statement_in}
 use Rattle.sc_scenario.specs.Places.{is_line_built, is_order_built, is_built, phase_so_far, may_follow, is_in_place}
-use Rattle.sc_scenario.specs.Taking.{is_actor, is_order_known, is_line_known, is_above, most_groups, most_members, with_group, has_stranger, group_taken, client_place, with_client, with_request, client_taken, request_taken, with_line, told_of, with_order, line_taken, order_taken, taken_outside, taken_within}
-use Rattle.sc_scenario.specs.Grammar.{begun, are_two, header_read, said, built_kind, words_read, is_fresh, line_read, scenario_by, finished, ended, going_on, lines_read, verdict_of, scenario_of}
+use Rattle.sc_scenario.specs.Taking.{is_actor, is_order_known, is_line_known, is_above, most_groups, most_members, with_group_line, has_stranger, group_taken, client_place, with_client, with_request, client_taken, request_taken, with_line, telling_of, with_order, line_taken, telling_taken, taken_outside, taken_within}
+use Rattle.sc_scenario.specs.Grammar.{begun, are_two, header_read, said, built_kind, words_read, is_fresh, line_read, scenario_by, reading_ended, text_ended, going_on, lines_read, verdict_of, scenario_of}
 use Rattle.sc_scenario.specs.Valid.{IsValid, IsEarly, IsEarlyClient, IsEarlyLine, IsEarlyOrder, IsActor, IsUpTo, TextsAreEarly}
 use Rattle.sc_scenario.specs.declared.reasons.Reason.{Reason}
 use Rattle.sc_scenario.specs.declared.reasons.Reason.TheVariants.{MissingHeader, BadByte, UnknownWord, OutOfPlace, WrongCount, BadNumber, BadKey, BadValue, UnknownName, Repeated, BadBoundary, TooMany, UnendedClient, MissingPart, TooLarge}
@@ -165,7 +165,7 @@ group_taken_is draft lo first others more low up all none is e =
     let a = passed (has_stranger draft.nodes (first ∷ others)) UnknownName _ more e in
     let b = passed (has_repeat (first ∷ others)) Repeated _ more a.1 in
     let c = passed (not (is_above draft.groups lo)) BadBoundary _ more b.1 in
-    let d = passed (leb most_groups (length draft.groups) || leb most_members (length others)) TooMany (Ok (Outside (with_group draft lo (set_of first others)))) more c.1 in
+    let d = passed (leb most_groups (length draft.groups) || leb most_members (length others)) TooMany (Ok (Outside (with_group_line draft lo (set_of first others)))) more c.1 in
     let known = no_stranger draft.nodes (first ∷ others) a.0 (All-cons (IsUpTo most_nodes) first others up all) in
     let good : IsGroupLine draft.nodes (record { lo = lo; members = set_of first others }) = record {
       lo_in = omega (arith, low);
@@ -193,11 +193,11 @@ played_is draft line more good is e =
     let m = met (is_line_known draft.nodes draft.clients line) UnknownName (Ok (Outside (with_line draft line))) more e in
     subst IsReading (same_Ok _ more m.1) (lined draft line draft.orders (good m.0) is)
 
-told_is : (draft : Draft) (node : ℕ) (word : List ℕ) (order : Order) (more : Reading) → count_in most_nodes word ≡ Some node → Ordered draft.nodes order → IsDraft draft → order_taken draft (told_of draft node order) ≡ Ok more → IsReading more
+told_is : (draft : Draft) (node : ℕ) (word : List ℕ) (order : Order) (more : Reading) → count_in most_nodes word ≡ Some node → Ordered draft.nodes order → IsDraft draft → telling_taken draft (telling_of draft node order) ≡ Ok more → IsReading more
 told_is draft node word order more number good is e =
-    let m = met (is_line_known draft.nodes draft.clients (told_of draft node order)) UnknownName (Ok (Outside (with_order draft (told_of draft node order)))) more e in
+    let m = met (is_line_known draft.nodes draft.clients (telling_of draft node order)) UnknownName (Ok (Outside (with_order draft (telling_of draft node order)))) more e in
     let parts = and_parts (leb node draft.nodes) (is_order_known draft.nodes order) m.0 in
-    subst IsReading (same_Ok _ more m.1) (lined draft (told_of draft node order) (draft.orders + 1) (node_is draft.nodes word node number parts.0, good parts.1, omega arith) is)
+    subst IsReading (same_Ok _ more m.1) (lined draft (telling_of draft node order) (draft.orders + 1) (node_is draft.nodes word node number parts.0, good parts.1, omega arith) is)
 
 outside_is : (draft : Draft) (k : Kind) (words : List (List ℕ)) (statement : Statement) (more : Reading) → IsDraft draft → is_built draft k ≡ true → may_follow (phase_so_far draft) (phase_of k) ≡ true
     → statement_in k words ≡ Ok statement → taken_outside draft statement ≡ Ok more → IsReading more
@@ -222,9 +222,9 @@ outside_is draft (Playing k) words statement more is built place e t =
     let taken : line_taken draft a.0 ≡ Ok more = subst (λ s. taken_outside draft s ≡ Ok more) (sym (same_Ok (Play a.0) statement a.2)) t in
     played_is draft a.0 more (line_is draft.nodes draft.clients k words a.0 built a.1) is taken
 outside_is draft (Telling k) words statement more is built place e t =
-    let g = given_ok (count_in most_nodes (nth words 1)) BadNumber (λ node. after (order_in k words) (λ order. Ok (Tell node order))) statement e in
+    let g = given_ok (count_in most_nodes (nth words 1)) BadNumber (λ node. then_on (order_in k words) (λ order. Ok (Tell node order))) statement e in
     let a = after_ok (order_in k words) (λ order. Ok (Tell g.0 order)) statement g.2 in
-    let taken : order_taken draft (told_of draft g.0 a.0) ≡ Ok more = subst (λ s. taken_outside draft s ≡ Ok more) (sym (same_Ok (Tell g.0 a.0) statement a.2)) t in
+    let taken : telling_taken draft (telling_of draft g.0 a.0) ≡ Ok more = subst (λ s. taken_outside draft s ≡ Ok more) (sym (same_Ok (Tell g.0 a.0) statement a.2)) t in
     told_is draft g.0 (nth words 1) a.0 more g.1 (order_is draft.nodes k words a.0 built a.1) is taken
 
 -- ---- inside a section
@@ -309,13 +309,13 @@ said_is in_place k words statement e =
 words_are : (reading : Reading) (words : List (List ℕ)) (more : Reading) → IsReading reading → words_read reading words ≡ Ok more → IsReading more
 words_are Fresh words more is e = header_is words more e
 words_are (Outside draft) words more is e =
-    let k = given_ok (built_kind draft words) UnknownWord (λ k. after (said (is_in_place (Outside draft) k) k words) (taken_outside draft)) more e in
+    let k = given_ok (built_kind draft words) UnknownWord (λ k. then_on (said (is_in_place (Outside draft) k) k words) (taken_outside draft)) more e in
     let s = after_ok (said (is_in_place (Outside draft) k.0) k.0 words) (taken_outside draft) more k.2 in
     let p = said_is (is_in_place (Outside draft) k.0) k.0 words s.0 s.1 in
     let parts = and_parts (not (is_inner k.0)) (may_follow (phase_so_far draft) (phase_of k.0)) p.0 in
     outside_is draft k.0 words s.0 more is (built_is draft words k.0 k.1) parts.1 p.1 s.2
 words_are (Within draft asks) words more is e =
-    let k = given_ok (built_kind draft words) UnknownWord (λ k. after (said (is_in_place (Within draft asks) k) k words) (taken_within draft asks)) more e in
+    let k = given_ok (built_kind draft words) UnknownWord (λ k. then_on (said (is_in_place (Within draft asks) k) k words) (taken_within draft asks)) more e in
     let s = after_ok (said (is_in_place (Within draft asks) k.0) k.0 words) (taken_within draft asks) more k.2 in
     let p = said_is (is_in_place (Within draft asks) k.0) k.0 words s.0 s.1 in
     within_is draft asks k.0 words s.0 more is p.0 p.1 s.2
@@ -329,7 +329,7 @@ line_read_is reading line more is e =
 
 going_ok : (number : ℕ) (onward : Reading → Result Scenario ScenarioFault) (r : Result Reading Reason) (scenario : Scenario) → going_on number onward r ≡ Ok scenario → (more : Reading) × (r ≡ Ok more) × (onward more ≡ Ok scenario)
 going_ok number onward (Ok more) scenario e = (more, refl, e)
-going_ok number onward (Err reason) scenario e = absurd (err_ok (Bad number (code_of reason)) scenario e)
+going_ok number onward (Err reason) scenario e = absurd (err_ok (Bad number (reason_code reason)) scenario e)
 
 not_zero : (n : ℕ) → eqb n 0 ≡ false → 1 ≤ n
 not_zero n e = let ne = eqb-false n 0 e in omega (arith, ne)
@@ -367,7 +367,7 @@ draft_is draft is some filled =
       version = is.version;
     }
 
-finished_is : (number : ℕ) (reading : Reading) (scenario : Scenario) → IsReading reading → finished number reading ≡ Ok scenario → IsEarly scenario
+finished_is : (number : ℕ) (reading : Reading) (scenario : Scenario) → IsReading reading → reading_ended number reading ≡ Ok scenario → IsEarly scenario
 finished_is number Fresh scenario is e = absurd (err_ok (Bad number 1) scenario e)
 finished_is number (Within draft asks) scenario is e = absurd (err_ok (Bad number 13) scenario e)
 finished_is number (Outside draft) scenario is e =
@@ -375,7 +375,7 @@ finished_is number (Outside draft) scenario is e =
     let parts = or_parts (eqb draft.nodes 0) (eqb (length draft.groups) 0) p.0 in
     subst IsEarly (same_Ok _ scenario p.1) (draft_is draft is parts.0 parts.1)
 
-ended_is : (is_long : Bool) (number : ℕ) (reading : Reading) (scenario : Scenario) → IsReading reading → ended is_long number reading ≡ Ok scenario → IsEarly scenario
+ended_is : (is_long : Bool) (number : ℕ) (reading : Reading) (scenario : Scenario) → IsReading reading → text_ended is_long number reading ≡ Ok scenario → IsEarly scenario
 ended_is true number reading scenario is e = absurd (err_ok (Bad number 15) scenario e)
 ended_is false number reading scenario is e = finished_is number reading scenario is e
 

@@ -4,7 +4,7 @@ use Rattle.std.specs.Prelude.{Result, Ok, Err}
 use Rattle.std.proofs.lemmas.Bool.{cond-true, lt-ltb}
 use Rattle.std.proofs.lemmas.List.{take_all, take-take, length-take-le}
 use Rattle.sc_scenario.specs.Lines.{most_bytes, most_lines, is_too_long, lines_in, lines_of, trimmed}
-use Rattle.sc_scenario.specs.Grammar.{IsRead, bad, going_on, line_read, lines_read, verdict_of}
+use Rattle.sc_scenario.specs.Grammar.{HasVerdict, bad, going_on, line_read, lines_read, verdict_of}
 use Rattle.sc_scenario.specs.Valid.{FirstBytesDecide}
 use Rattle.sc_scenario.specs.declared.reasons.Reason.{Reason}
 use Rattle.sc_scenario.specs.declared.reasons.Reason.TheVariants.{TooLarge}
@@ -59,5 +59,5 @@ many false number reading text some lt =
     let l = lines_some text some in ap (lines_read false number reading) l.2 ∙ many_cons false number reading l.0 l.1 lt
 
 -- a fault that is the verdict
-pub refused : (verdict result : Result Scenario ScenarioFault) (number : ℕ) (reason : Reason) → verdict ≡ bad number reason → result ≡ bad number reason → IsRead verdict result
-refused verdict result number reason v e = subst (IsRead verdict) (sym e) (inr v)
+pub refused : (verdict result : Result Scenario ScenarioFault) (number : ℕ) (reason : Reason) → verdict ≡ bad number reason → result ≡ bad number reason → HasVerdict verdict result
+refused verdict result number reason v e = subst (HasVerdict verdict) (sym e) (inr v)

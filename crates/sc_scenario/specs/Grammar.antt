@@ -1,7 +1,7 @@
 -- Which texts are a scenario, which scenario, and else the first bad line and its reason.
 use Rattle.std.specs.Prelude.{ℕ, ◌+◌, ◌==◌, ◌&&◌, ◌||◌, not, nat_lt, Bool, true, false, List, [], ◌∷◌, length, codes, Option, Some, None, Result, Ok, Err, if◌then◌else◌, option_and_then, ◌≡◌, ◌⊎◌, MatchResult}
 use Rattle.std.specs.Result.{result_ok}
-use Rattle.sc_scenario.specs.Reasons.{code_of, given, after}
+use Rattle.sc_scenario.specs.Reasons.{reason_code, given, then_on}
 use Rattle.sc_scenario.specs.Words.{same, nth, words_of}
 use Rattle.sc_scenario.specs.Lines.{most_lines, is_too_long, lines_of, trimmed, is_skipped, has_bad_byte}
 use Rattle.sc_scenario.specs.Kinds.{kind_of, has_count}
@@ -52,9 +52,9 @@ built_kind draft words = option_and_then (λ kind. if is_built draft kind then S
 abbrev pub words_read : Reading → List (List ℕ) → Result Reading Reason
 words_read Fresh words = header_read words
 words_read (Outside draft) words =
-    given (built_kind draft words) UnknownWord (λ kind. after (said (is_in_place (Outside draft) kind) kind words) (taken_outside draft))
+    given (built_kind draft words) UnknownWord (λ kind. then_on (said (is_in_place (Outside draft) kind) kind words) (taken_outside draft))
 words_read (Within draft asks) words =
-    given (built_kind draft words) UnknownWord (λ kind. after (said (is_in_place (Within draft asks) kind) kind words) (taken_within draft asks))
+    given (built_kind draft words) UnknownWord (λ kind. then_on (said (is_in_place (Within draft asks) kind) kind words) (taken_within draft asks))
 
 -- whether nothing is read yet
 abbrev pub is_fresh : Reading → Bool
@@ -73,7 +73,7 @@ line_read reading line =
 
 -- a bad line, by its number
 abbrev pub bad : ℕ → Reason → Result Scenario ScenarioFault
-bad number reason = Err (Bad number (code_of reason))
+bad number reason = Err (Bad number (reason_code reason))
 
 -- the scenario of what was read
 abbrev pub scenario_by : Draft → Scenario
@@ -88,16 +88,16 @@ scenario_by draft = record {
 }
 
 -- behind the last line, which would have this number: a header, nodes, a group, and no open section
-abbrev pub finished : ℕ → Reading → Result Scenario ScenarioFault
-finished number Fresh = bad number MissingHeader
-finished number (Within draft asks) = bad number UnendedClient
-finished number (Outside draft) =
+abbrev pub reading_ended : ℕ → Reading → Result Scenario ScenarioFault
+reading_ended number Fresh = bad number MissingHeader
+reading_ended number (Within draft asks) = bad number UnendedClient
+reading_ended number (Outside draft) =
     if (draft.nodes == 0) || (length draft.groups == 0) then bad number MissingPart else Ok (scenario_by draft)
 
 -- the end of a text: of one with too many bytes, the line of the first byte too many
-abbrev pub ended : Bool → ℕ → Reading → Result Scenario ScenarioFault
-ended true number reading = bad number TooLarge
-ended false number reading = finished number reading
+abbrev pub text_ended : Bool → ℕ → Reading → Result Scenario ScenarioFault
+text_ended true number reading = bad number TooLarge
+text_ended false number reading = reading_ended number reading
 
 -- what goes on with a good line; a bad one ends it
 abbrev pub going_on : ℕ → (Reading → Result Scenario ScenarioFault) → Result Reading Reason → Result Scenario ScenarioFault
@@ -106,7 +106,7 @@ going_on number onward (Err reason) = bad number reason
 
 -- line by line, of which the first has this number: the first bad one counts
 abbrev pub lines_read : Bool → ℕ → Reading → List (List ℕ) → Result Scenario ScenarioFault
-lines_read is_long number reading [] = ended is_long number reading
+lines_read is_long number reading [] = text_ended is_long number reading
 lines_read is_long number reading (line ∷ lines) =
     if nat_lt most_lines number then bad number TooLarge
     else going_on number (λ more. lines_read is_long (number + 1) more lines) (line_read reading (trimmed line))
@@ -116,8 +116,8 @@ abbrev pub verdict_of : List ℕ → Result Scenario ScenarioFault
 verdict_of text = lines_read (is_too_long text) 1 Fresh (lines_of text)
 
 -- what a call answers of a text: its scenario, or its fault; or it wants memory
-abbrev pub IsRead : Result Scenario ScenarioFault → Result Scenario ScenarioFault → Type 0
-IsRead verdict result = MatchResult result (λ scenario. verdict ≡ Ok scenario) (λ fault. (fault ≡ OutOfMemory) ⊎ (verdict ≡ Err fault))
+abbrev pub HasVerdict : Result Scenario ScenarioFault → Result Scenario ScenarioFault → Type 0
+HasVerdict verdict result = MatchResult result (λ scenario. verdict ≡ Ok scenario) (λ fault. (fault ≡ OutOfMemory) ⊎ (verdict ≡ Err fault))
 
 -- the scenario of a text, if it is one
 abbrev pub scenario_of : List ℕ → Option Scenario

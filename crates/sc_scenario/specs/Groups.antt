@@ -49,12 +49,12 @@ abbrev pub name_at : ℕ → Draw
 name_at k = record { node = 0; count = k + 1 }
 
 -- the place after, and the one before, round the circle
-abbrev pub place_after : List GroupLine → ℕ → ℕ
-place_after lines k = if k + 1 == length lines then 0 else k + 1
+abbrev pub place_right : List GroupLine → ℕ → ℕ
+place_right lines k = if k + 1 == length lines then 0 else k + 1
 
 -- the place before, round the circle
-abbrev pub place_before : List GroupLine → ℕ → ℕ
-place_before lines k = if k == 0 then length lines - 1 else k - 1
+abbrev pub place_left : List GroupLine → ℕ → ℕ
+place_left lines k = if k == 0 then length lines - 1 else k - 1
 
 -- a link to the group of a place
 abbrev pub link_at : List GroupLine → ℕ → Link
@@ -66,7 +66,7 @@ way lo next = if nat_le next lo then next + 2 ^ 32 - lo else next - lo
 
 -- a group's arc ends where the next one's begins
 abbrev pub arc_at : List GroupLine → ℕ → Arc
-arc_at lines k = record { lo = (group_at lines k).lo; len = way (group_at lines k).lo (group_at lines (place_after lines k)).lo }
+arc_at lines k = record { lo = (group_at lines k).lo; len = way (group_at lines k).lo (group_at lines (place_right lines k)).lo }
 
 -- the core of the group at a place: no lock, and nothing decided
 abbrev pub core_at : List GroupLine → ℕ → Core
@@ -75,8 +75,8 @@ core_at lines k = record {
   first = least_of (group_at lines k).members;
   arc = arc_at lines k;
   members = (group_at lines k).members;
-  succ = link_at lines (place_after lines k);
-  pred = link_at lines (place_before lines k);
+  succ = link_at lines (place_right lines k);
+  pred = link_at lines (place_left lines k);
   lock = Free;
   begun = 0;
   decided = [];

@@ -30,23 +30,23 @@ abbrev pub last_position : ℕ
 last_position = 4294967295
 
 -- what a word spells as a node, a group, a position
-abbrev pub with_node : List ℕ → (ℕ → Result Order Reason) → Result Order Reason
-with_node word onward = given (count_in most_nodes word) BadNumber onward
+abbrev pub with_node_word : List ℕ → (ℕ → Result Order Reason) → Result Order Reason
+with_node_word word onward = given (count_in most_nodes word) BadNumber onward
 
 -- what a word spells as a group
-abbrev pub with_name : List ℕ → (Draw → Result Order Reason) → Result Order Reason
-with_name word onward = given (name_in word) BadNumber onward
+abbrev pub with_name_word : List ℕ → (Draw → Result Order Reason) → Result Order Reason
+with_name_word word onward = given (name_in word) BadNumber onward
 
 -- what a word spells as a position
-abbrev pub with_position : List ℕ → (ℕ → Result Order Reason) → Result Order Reason
-with_position word onward = given (number_of word last_position) BadNumber onward
+abbrev pub with_position_word : List ℕ → (ℕ → Result Order Reason) → Result Order Reason
+with_position_word word onward = given (number_of word last_position) BadNumber onward
 
 -- `join M G`, `leave M G`, `split G P`, `merge G`, `repart G P`, `migrate G M`, as the words from the third on
 abbrev pub order_in : OrderKind → List (List ℕ) → Result Order Reason
-order_in kind.Join words = with_node (nth words 3) (λ node. with_name (nth words 4) (λ group. Ok (Join node group)))
-order_in kind.Leave words = with_node (nth words 3) (λ node. with_name (nth words 4) (λ group. Ok (Leave node group)))
-order_in kind.Split words = with_name (nth words 3) (λ group. with_position (nth words 4) (λ at. Ok (Split group at)))
-order_in kind.Merge words = with_name (nth words 3) (λ group. Ok (Merge group))
-order_in kind.Repart words = with_name (nth words 3) (λ group. with_position (nth words 4) (λ at. Ok (Repart group at)))
-order_in kind.Migrate words = with_name (nth words 3) (λ group. with_node (nth words 4) (λ node. Ok (Migrate group node)))
+order_in kind.Join words = with_node_word (nth words 3) (λ node. with_name_word (nth words 4) (λ group. Ok (Join node group)))
+order_in kind.Leave words = with_node_word (nth words 3) (λ node. with_name_word (nth words 4) (λ group. Ok (Leave node group)))
+order_in kind.Split words = with_name_word (nth words 3) (λ group. with_position_word (nth words 4) (λ at. Ok (Split group at)))
+order_in kind.Merge words = with_name_word (nth words 3) (λ group. Ok (Merge group))
+order_in kind.Repart words = with_name_word (nth words 3) (λ group. with_position_word (nth words 4) (λ at. Ok (Repart group at)))
+order_in kind.Migrate words = with_name_word (nth words 3) (λ group. with_node_word (nth words 4) (λ node. Ok (Migrate group node)))
 order_in kind.Short words = Err WrongCount

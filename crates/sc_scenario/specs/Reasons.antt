@@ -4,22 +4,22 @@ use Rattle.sc_scenario.specs.declared.reasons.Reason.{Reason}
 use Rattle.sc_scenario.specs.declared.reasons.Reason.TheVariants.{MissingHeader, BadByte, UnknownWord, OutOfPlace, WrongCount, BadNumber, BadKey, BadValue, UnknownName, Repeated, BadBoundary, TooMany, UnendedClient, MissingPart, TooLarge}
 
 -- the number of a reason
-abbrev pub code_of : Reason → ℕ
-code_of MissingHeader = 1
-code_of BadByte = 2
-code_of UnknownWord = 3
-code_of OutOfPlace = 4
-code_of WrongCount = 5
-code_of BadNumber = 6
-code_of BadKey = 7
-code_of BadValue = 8
-code_of UnknownName = 9
-code_of Repeated = 10
-code_of BadBoundary = 11
-code_of TooMany = 12
-code_of UnendedClient = 13
-code_of MissingPart = 14
-code_of TooLarge = 15
+abbrev pub reason_code : Reason → ℕ
+reason_code MissingHeader = 1
+reason_code BadByte = 2
+reason_code UnknownWord = 3
+reason_code OutOfPlace = 4
+reason_code WrongCount = 5
+reason_code BadNumber = 6
+reason_code BadKey = 7
+reason_code BadValue = 8
+reason_code UnknownName = 9
+reason_code Repeated = 10
+reason_code BadBoundary = 11
+reason_code TooMany = 12
+reason_code UnendedClient = 13
+reason_code MissingPart = 14
+reason_code TooLarge = 15
 
 -- the words for the reasons, in the order of their numbers; none for 0
 abbrev pub reasons : List (List ℕ)
@@ -38,6 +38,6 @@ given (Some x) reason onward = onward x
 given None reason onward = Err reason
 
 -- what goes on with what came out well; else the reason stays
-abbrev pub after : {X Y : Type 0} → Result X Reason → (X → Result Y Reason) → Result Y Reason
-after (Ok x) onward = onward x
-after (Err reason) onward = Err reason
+abbrev pub then_on : {X Y : Type 0} → Result X Reason → (X → Result Y Reason) → Result Y Reason
+then_on (Ok x) onward = onward x
+then_on (Err reason) onward = Err reason

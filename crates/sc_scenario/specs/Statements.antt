@@ -2,7 +2,7 @@
 use Rattle.std.specs.Prelude.{ℕ, List, [], drop, Result, Ok, Err}
 use Rattle.sc_base.specs.Limits.{most_nodes, most_clients}
 use Rattle.sc_base.specs.Number.{number_of}
-use Rattle.sc_scenario.specs.Reasons.{given, after}
+use Rattle.sc_scenario.specs.Reasons.{given, then_on}
 use Rattle.sc_scenario.specs.Words.{nth, count_in}
 use Rattle.sc_scenario.specs.Requests.{request_in}
 use Rattle.sc_scenario.specs.Orders.{order_in, last_position}
@@ -30,6 +30,6 @@ statement_in Group words = group_in words
 statement_in Policy words = Ok WithPolicy
 statement_in Client words = given (count_in most_clients (nth words 1)) BadNumber (λ client. Ok (NewClient client))
 statement_in End words = Ok SectionEnd
-statement_in (Asking kind) words = after (request_in kind words) (λ op. Ok (Ask op))
-statement_in (Playing kind) words = after (line_in kind words) (λ line. Ok (Play line))
-statement_in (Telling kind) words = given (count_in most_nodes (nth words 1)) BadNumber (λ node. after (order_in kind words) (λ order. Ok (Tell node order)))
+statement_in (Asking kind) words = then_on (request_in kind words) (λ op. Ok (Ask op))
+statement_in (Playing kind) words = then_on (line_in kind words) (λ line. Ok (Play line))
+statement_in (Telling kind) words = given (count_in most_nodes (nth words 1)) BadNumber (λ node. then_on (order_in kind words) (λ order. Ok (Tell node order)))

@@ -62,8 +62,8 @@ abbrev pub is_above : List GroupLine → ℕ → Bool
 is_above groups lo = (length groups == 0) || nat_lt (group_at groups (length groups - 1)).lo lo
 
 -- a draft with one more group
-abbrev pub with_group : Draft → ℕ → List ℕ → Draft
-with_group draft lo members = record draft { groups = draft.groups ++ record { lo = lo; members = members } ∷ [] }
+abbrev pub with_group_line : Draft → ℕ → List ℕ → Draft
+with_group_line draft lo members = record draft { groups = draft.groups ++ record { lo = lo; members = members } ∷ [] }
 
 -- whether one of these nodes is above the number of nodes
 abbrev pub has_stranger : ℕ → List ℕ → Bool
@@ -76,7 +76,7 @@ group_taken draft lo first others =
     else if has_repeat (first ∷ others) then Err Repeated
     else if not (is_above draft.groups lo) then Err BadBoundary
     else if nat_le most_groups (length draft.groups) || nat_le most_members (length others) then Err TooMany
-    else Ok (Outside (with_group draft lo (set_of first others)))
+    else Ok (Outside (with_group_line draft lo (set_of first others)))
 
 -- ---- clients
 
@@ -108,8 +108,8 @@ abbrev pub with_line : Draft → SchedLine → Draft
 with_line draft line = record draft { lines = draft.lines ++ line ∷ [] }
 
 -- orders are numbered from 1 in the order of their lines
-abbrev pub told_of : Draft → ℕ → Order → SchedLine
-told_of draft node order = Told node (record { number = draft.orders + 1; order = order })
+abbrev pub telling_of : Draft → ℕ → Order → SchedLine
+telling_of draft node order = Told node (record { number = draft.orders + 1; order = order })
 
 -- a draft with one more order
 abbrev pub with_order : Draft → SchedLine → Draft
@@ -120,8 +120,8 @@ abbrev pub line_taken : Draft → SchedLine → Result Reading Reason
 line_taken draft line = if is_line_known draft.nodes draft.clients line then Ok (Outside (with_line draft line)) else Err UnknownName
 
 -- an order
-abbrev pub order_taken : Draft → SchedLine → Result Reading Reason
-order_taken draft line = if is_line_known draft.nodes draft.clients line then Ok (Outside (with_order draft line)) else Err UnknownName
+abbrev pub telling_taken : Draft → SchedLine → Result Reading Reason
+telling_taken draft line = if is_line_known draft.nodes draft.clients line then Ok (Outside (with_order draft line)) else Err UnknownName
 
 -- ---- all lines
 
@@ -134,7 +134,7 @@ taken_outside draft (NewClient client) = client_taken draft client
 taken_outside draft (Ask op) = Err OutOfPlace
 taken_outside draft SectionEnd = Err OutOfPlace
 taken_outside draft (Play line) = line_taken draft line
-taken_outside draft (Tell node order) = order_taken draft (told_of draft node order)
+taken_outside draft (Tell node order) = telling_taken draft (telling_of draft node order)
 
 -- what stands inside a section
 abbrev pub taken_within : Draft → Asks → Statement → Result Reading Reason

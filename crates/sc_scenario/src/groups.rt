@@ -1,7 +1,7 @@
 //! The groups' lines, and their records.
 ghost use Rattle.std.specs.Prelude.{◌≡◌, ◌<◌, ◌≤◌, ◌==◌, ◌∷◌, length, map, IfOk};
 ghost use Rattle.std.specs.List.{list_any};
-ghost use Rattle.sc_scenario.specs.Groups.{nodes_with, has_repeat, joined_by, joined_by_all, set_of, group_at, name_at, place_after, place_before, link_at, way, arc_at, base_at, bases_of};
+ghost use Rattle.sc_scenario.specs.Groups.{nodes_with, has_repeat, joined_by, joined_by_all, set_of, group_at, name_at, place_right, place_left, link_at, way, arc_at, base_at, bases_of};
 
 use crate::drafts::GroupLine;
 use crate::scenarios::GroupList;
@@ -78,17 +78,17 @@ pub fn set_of(node: u16, others: &[u16]) -> Members
     members
 }
 
-fn place_after(lines: &[GroupLine], k: usize) -> usize
+fn place_right(lines: &[GroupLine], k: usize) -> usize
     requires { k < length lines.now }
-    ensures same { result ≡ place_after lines.now k }
+    ensures same { result ≡ place_right lines.now k }
     ensures within { result < length lines.now }
 {
     if k + 1 == lines.len() { 0 } else { k + 1 }
 }
 
-fn place_before(lines: &[GroupLine], k: usize) -> usize
+fn place_left(lines: &[GroupLine], k: usize) -> usize
     requires { k < length lines.now }
-    ensures same { result ≡ place_before lines.now k }
+    ensures same { result ≡ place_left lines.now k }
     ensures within { result < length lines.now }
 {
     if k == 0 { lines.len() - 1 } else { k - 1 }
@@ -147,7 +147,7 @@ fn arc_at(lines: &[GroupLine], k: usize) -> RingArc
     ensures { result ≡ arc_at lines.now k }
 {
     let lo = lo_at(lines, k);
-    let next = lo_at(lines, place_after(lines, k));
+    let next = lo_at(lines, place_right(lines, k));
     let Ok(arc) = RingArc::try_new(lo, way(lo, next)) else {
         unreachable!()
     };
@@ -166,8 +166,8 @@ fn base_at(alloc: Global, lines: &[GroupLine], k: usize) -> Base
             first: members.least(),
             arc: arc_at(lines, k),
             members,
-            succ: link_at(lines, place_after(lines, k)),
-            pred: link_at(lines, place_before(lines, k)),
+            succ: link_at(lines, place_right(lines, k)),
+            pred: link_at(lines, place_left(lines, k)),
             lock: Lock::Free,
             begun: 0,
             decided: Sequence::new(alloc),

@@ -1,6 +1,6 @@
 //! The reader: line by line, up to the first bad line.
 ghost use Rattle.std.specs.Prelude.{◌≡◌, map, IfOk};
-ghost use Rattle.sc_scenario.specs.Grammar.{IsRead, begun, are_two, header_read, said, built_kind, words_read, is_fresh, line_read, bad, scenario_by, finished, lines_read, verdict_of};
+ghost use Rattle.sc_scenario.specs.Grammar.{HasVerdict, begun, are_two, header_read, said, built_kind, words_read, is_fresh, line_read, bad, scenario_by, reading_ended, lines_read, verdict_of};
 ghost use Rattle.sc_scenario.specs.Lines.{is_too_long, lines_in};
 ghost use Rattle.sc_scenario.specs.Valid.{TextsAreEarly, FirstBytesDecide};
 ghost use Rattle.sc_scenario.specs.declared.drafts.Reading.TheVariants.{Fresh, Outside, Within};
@@ -201,8 +201,8 @@ fn scenario_by(alloc: Global, draft: Draft) -> Result<Scenario, sc_base::OutOfMe
 }
 
 // Behind the last line, which would have this number.
-fn finished(alloc: Global, number: u32, reading: Reading) -> Result<Scenario, ScenarioFault>
-    ensures { IsRead (finished number reading) result }
+fn reading_ended(alloc: Global, number: u32, reading: Reading) -> Result<Scenario, ScenarioFault>
+    ensures { HasVerdict (reading_ended number reading) result }
 {
     let draft = match reading {
         Reading::Fresh => return bad(number, Reason::MissingHeader),
@@ -217,7 +217,7 @@ fn finished(alloc: Global, number: u32, reading: Reading) -> Result<Scenario, Sc
 
 // Line by line; the first bad one ends it.
 fn lines_read(alloc: Global, is_long: bool, text: &[u8]) -> Result<Scenario, ScenarioFault>
-    ensures { IsRead (lines_read is_long 1 Fresh (lines_in is_long text.now)) result }
+    ensures { HasVerdict (lines_read is_long 1 Fresh (lines_in is_long text.now)) result }
 {
     let mut rest = text;
     let mut number = 1u32;
@@ -239,7 +239,7 @@ fn lines_read(alloc: Global, is_long: bool, text: &[u8]) -> Result<Scenario, Sce
     if is_long {
         return bad(number, Reason::TooLarge);
     }
-    finished(alloc, number, reading)
+    reading_ended(alloc, number, reading)
 }
 
 fn is_too_long(text: &[u8]) -> bool
@@ -252,7 +252,7 @@ fn is_too_long(text: &[u8]) -> bool
 /// reason why that line is bad.
 #[tactic(auto, using(crate::proofs::Verdicts::verdict_all, crate::proofs::Verdicts::verdict_cut))]
 pub fn read_scenario(alloc: Global, text: &[u8]) -> Result<Scenario, ScenarioFault>
-    ensures { IsRead (verdict_of text.now) result }
+    ensures { HasVerdict (verdict_of text.now) result }
 {
     if is_too_long(text) {
         return lines_read(alloc, true, &text[..INPUT_LIMIT as usize]);

@@ -1,6 +1,6 @@
 //! Why a text is no scenario.
 ghost use Rattle.std.specs.Prelude.{◌≡◌};
-ghost use Rattle.sc_scenario.specs.Reasons.{code_of, reason_text};
+ghost use Rattle.sc_scenario.specs.Reasons.{reason_code, reason_text};
 
 /// Why a line is bad. Of the reasons of one line the one with the lowest number counts.
 #[derive(Clone, Copy)]
@@ -38,7 +38,7 @@ pub enum Reason {
 impl Reason {
     /// The number of the reason, from 1 to 15.
     pub fn code(self) -> u8
-        ensures { result ≡ code_of self }
+        ensures { result ≡ reason_code self }
     {
         match self {
             Reason::MissingHeader => 1,

@@ -3,7 +3,7 @@ ghost use Rattle.std.specs.Prelude.{◌≡◌, ◌≤◌, ◌+◌, ◌==◌, tru
 ghost use Rattle.std.specs.List.{list_any};
 ghost use Rattle.sc_base.specs.Limits.{client_actor};
 ghost use Rattle.sc_scenario.specs.Schedules.{is_client};
-ghost use Rattle.sc_scenario.specs.Taking.{is_actor, is_order_known, is_line_known, is_above, with_group, has_stranger, group_taken, client_place, with_client, with_request, client_taken, request_taken, with_line, told_of, with_order, line_taken, order_taken, taken_outside, taken_within};
+ghost use Rattle.sc_scenario.specs.Taking.{is_actor, is_order_known, is_line_known, is_above, with_group_line, has_stranger, group_taken, client_place, with_client, with_request, client_taken, request_taken, with_line, telling_of, with_order, line_taken, telling_taken, taken_outside, taken_within};
 
 use crate::drafts::{Draft, GroupLine, Reading};
 use crate::groups::{have_repeat, set_of};
@@ -74,8 +74,8 @@ fn is_above(groups: &[GroupLine], lo: u32) -> bool
     groups.len() == 0 || groups[groups.len() - 1].lo < lo
 }
 
-fn with_group(draft: Draft, lo: u32, members: Members) -> Result<Draft, OutOfMemory>
-    ensures { IfOk result (λ more. more ≡ with_group draft lo members) }
+fn with_group_line(draft: Draft, lo: u32, members: Members) -> Result<Draft, OutOfMemory>
+    ensures { IfOk result (λ more. more ≡ with_group_line draft lo members) }
 {
     let mut more = draft;
     more.groups.push(GroupLine { lo, members })?;
@@ -103,7 +103,7 @@ fn group_taken(draft: Draft, lo: u32, first: u16, others: &[u16]) -> Result<Take
     if MOST_GROUPS <= draft.groups.len() || MOST_MEMBERS <= others.len() {
         return Ok(Err(Reason::TooMany));
     }
-    let more = with_group(draft, lo, set_of(first, others))?;
+    let more = with_group_line(draft, lo, set_of(first, others))?;
     Ok(Ok(Reading::Outside(more)))
 }
 
@@ -201,8 +201,8 @@ fn line_taken(draft: Draft, line: SchedLine) -> Result<Taken, OutOfMemory>
 }
 
 // More orders than there are numbers have no room in memory.
-fn order_taken(draft: Draft, node: u16, order: Order) -> Result<Taken, OutOfMemory>
-    ensures { IfOk result (λ taken. taken ≡ order_taken draft (told_of draft node order)) }
+fn telling_taken(draft: Draft, node: u16, order: Order) -> Result<Taken, OutOfMemory>
+    ensures { IfOk result (λ taken. taken ≡ telling_taken draft (telling_of draft node order)) }
 {
     let Some(number) = draft.orders.checked_add(1) else {
         return Err(OutOfMemory);
@@ -249,7 +249,7 @@ pub fn taken_outside(
         Statement::NewClient(client) => Ok(client_taken(alloc, draft, client)),
         Statement::Ask(_) | Statement::SectionEnd => Ok(Err(Reason::OutOfPlace)),
         Statement::Play(line) => line_taken(draft, line),
-        Statement::Tell(node, order) => order_taken(draft, node, order),
+        Statement::Tell(node, order) => telling_taken(draft, node, order),
     }
 }
 
