@@ -5,7 +5,7 @@ use Rattle.std.proofs.lemmas.Bool.{cases_Bool, cond-true, cond-false, ltb-true, 
 use Rattle.std.proofs.lemmas.List.Kept.{AllPairs-cons}
 use Rattle.std.proofs.lemmas.List.Elements.{All-cons, All-append, All-take, All-drop, All-weaker, All-from_get_or}
 use Rattle.sc_scenario.specs.Schedules.{is_client}
-use Rattle.sc_scenario.specs.Early.{client_place}
+use Rattle.sc_scenario.specs.Taking.{client_place}
 use Rattle.sc_scenario.specs.declared.scenarios.Asks.{Asks}
 
 -- clients in order of number

@@ -1,5 +1,10 @@
 mod Choices
 mod Clients
+mod Cuts
 mod Lists
+mod Records
+mod Results
 mod Rosters
+mod Spelled
 mod Texts
+mod Verdicts

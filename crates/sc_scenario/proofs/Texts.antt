@@ -1,281 +1,395 @@
--- What a text of the early form gives.
-use Rattle.std.proofs.Common.{◌≡◌, ◌<◌, ◌≤◌, ◌+◌, ◌&&◌, ◌^◌, eqb, not, ℕ, List, [], ◌∷◌, drop, length, Some, None, Option, Bool, true, false, if◌then◌else◌, nat_le, nat_lt, refl, sym, ap, subst, inl, inr, arith, rules, codes, is_none}
+-- What a text that is a scenario gives.
+use Rattle.std.proofs.Common.{◌≡◌, ◌<◌, ◌≤◌, ◌+◌, ◌-◌, ◌&&◌, ◌||◌, ◌^◌, eqb, ltb, leb, not, ℕ, List, [], ◌∷◌, ◌++◌, drop, length, Some, None, Option, Bool, true, false, if◌then◌else◌, nat_le, nat_lt, refl, sym, ap, subst, inl, inr, arith, rules, is_none, true≢false, codes, ◌∙◌}
+use Rattle.std.specs.Prelude.{Result, Ok, Err, ⊤, ◌⊎◌}
 use Rattle.std.specs.Option.{option_map, option_and_then}
-use Rattle.std.specs.List.{All, AllPairs}
-use Rattle.std.proofs.lemmas.Bool.{and_parts, eqb-true, ltb-true, not-true}
+use Rattle.std.specs.List.{All, AllPairs, list_any}
+use Rattle.std.specs.Result.{result_ok}
+use Rattle.std.proofs.lemmas.Bool.{and_parts, or_parts, eqb-true, eqb-false, eq-eqb, ltb-true, ltb-false, leb-true, leb-false, not-true}
 use Rattle.std.proofs.lemmas.List.{length_push}
 use Rattle.std.proofs.lemmas.Option.{none-some, same_Some}
-use Rattle.std.proofs.lemmas.List.Elements.{All-nil, All-cons, All-push}
+use Rattle.std.proofs.lemmas.List.Elements.{All-nil, All-cons, All-push, All-head, All-tail}
 use Rattle.sc_base.proofs.CommonLemmas.{and_then-some, map-some}
 use Rattle.sc_base.specs.Limits.{most_nodes, most_clients, most_requests, client_actor}
 use Rattle.sc_base.specs.Number.{number_of}
 use Rattle.sc_base.specs.declared.ops.Op.{Op}
 use Rattle.sc_base.specs.declared.names.Draw.{Draw}
 use Rattle.sc_cmd.specs.declared.cores.Base.{Base}
+use Rattle.sc_cmd.specs.declared.cores.Lock.TheVariants.{Free as NoLock}
 use Rattle.sc_cmd.specs.declared.orders.Order.{Order}
 use Rattle.sc_cmd.specs.declared.orders.Order.TheVariants.{Join, Leave}
-use Rattle.sc_member.specs.Roster.{IsRoster, with_member}
+use Rattle.sc_member.specs.Roster.{IsRoster, with_member, least_of}
 use Rattle.sc_member.specs.Faults.{add_fault}
-use Rattle.sc_scenario.specs.Words.{nth, is_line, same, words_of, count_in}
+use Rattle.sc_scenario.specs.Reasons.{reason_code, given, then_on}
+use Rattle.sc_scenario.specs.Words.{nth, words_of, count_in}
+use Rattle.sc_scenario.specs.Lines.{is_too_long, lines_of, trimmed, is_skipped, has_bad_byte, most_lines}
+use Rattle.sc_scenario.specs.Kinds.{kind_of, phase_of, is_inner, has_count}
 use Rattle.sc_scenario.specs.Requests.{request_in}
-use Rattle.sc_scenario.specs.Groups.{last_position, with_word, with_words, members_in, lone_group, group_in}
-use Rattle.sc_scenario.specs.Schedules.{most_mails, most_deliveries, most_workers, is_client, client_in, actor_in, place_in, go_in, deliver_in, drop_in, again_in, tick_in, crash_in, settle_in, free_in, schedule_in}
-use Rattle.sc_scenario.specs.Orders.{name_in, node_and_group, order_in, told_in}
-use Rattle.sc_scenario.specs.Early.{scenario_in, rest_in, finished_scenario, begun, nodes_in, read_lines, read_line, within, outside, opened, with_client, with_request, with_line, with_order, client_place, lines_of, is_ended, most_bytes, most_lines}
-use Rattle.sc_scenario.specs.Valid.{IsEarly, IsEarlyClient, IsEarlyLine, IsEarlyOrder, IsActor, IsUpTo, TextsAreEarly}
+use Rattle.sc_scenario.specs.Groups.{nodes_with, has_repeat, joined_by, joined_by_all, set_of, bases_of, way, lone_name, lone_link, lone_group}
+use Rattle.sc_scenario.specs.Schedules.{most_mails, most_deliveries, most_workers, last_storm, is_client, actor_in, line_in}
+use Rattle.sc_scenario.specs.Orders.{name_in, order_in, last_position}
+use Rattle.sc_scenario.specs.Statements.{group_in, statement_in}
+use Rattle.sc_scenario.specs.Places.{is_line_built, is_order_built, is_built, phase_so_far, may_follow, is_in_place}
+use Rattle.sc_scenario.specs.Taking.{is_actor, is_order_known, is_line_known, is_above, most_groups, most_members, with_group_line, has_stranger, group_taken, client_place, with_client, with_request, client_taken, request_taken, with_line, telling_of, with_order, line_taken, telling_taken, taken_outside, taken_within}
+use Rattle.sc_scenario.specs.Grammar.{begun, are_two, header_read, said, built_kind, words_read, is_fresh, line_read, scenario_by, reading_ended, text_ended, going_on, lines_read, verdict_of, scenario_of}
+use Rattle.sc_scenario.specs.Valid.{IsValid, IsEarly, IsEarlyClient, IsEarlyLine, IsEarlyOrder, IsActor, IsUpTo, TextsAreEarly}
+use Rattle.sc_scenario.specs.declared.reasons.Reason.{Reason}
+use Rattle.sc_scenario.specs.declared.reasons.Reason.TheVariants.{MissingHeader, BadByte, UnknownWord, OutOfPlace, WrongCount, BadNumber, BadKey, BadValue, UnknownName, Repeated, BadBoundary, TooMany, UnendedClient, MissingPart, TooLarge}
+use Rattle.sc_scenario.specs.declared.kinds.Kind.{Kind}
+use Rattle.sc_scenario.specs.declared.kinds.Kind.TheVariants.{Header, Nodes, Group, Policy, Client, End, Asking, Playing, Telling}
+use Rattle.sc_scenario.specs.declared.kinds.LineKind.{LineKind}
+use Rattle.sc_scenario.specs.declared.kinds.LineKind.TheVariants as kind
+use Rattle.sc_scenario.specs.declared.kinds.OrderKind.{OrderKind}
+use Rattle.sc_scenario.specs.declared.kinds.OrderKind.TheVariants as what
+use Rattle.sc_scenario.specs.declared.statements.Statement.{Statement}
+use Rattle.sc_scenario.specs.declared.statements.Statement.TheVariants.{NodeCount, NewGroup, WithPolicy, NewClient, Ask, SectionEnd, Play, Tell}
 use Rattle.sc_scenario.specs.declared.drafts.Draft.{Draft}
+use Rattle.sc_scenario.specs.declared.drafts.GroupLine.{GroupLine}
 use Rattle.sc_scenario.specs.declared.drafts.Reading.{Reading}
-use Rattle.sc_scenario.specs.declared.drafts.Reading.TheVariants.{Outside, Within}
+use Rattle.sc_scenario.specs.declared.drafts.Reading.TheVariants.{Fresh, Outside, Within}
+use Rattle.sc_scenario.specs.declared.reading.ScenarioFault.{ScenarioFault}
+use Rattle.sc_scenario.specs.declared.reading.ScenarioFault.TheVariants.{Bad}
 use Rattle.sc_scenario.specs.declared.scenarios.Asks.{Asks}
 use Rattle.sc_scenario.specs.declared.scenarios.Scenario.{Scenario}
 use Rattle.sc_scenario.specs.declared.scenarios.SchedLine.{SchedLine}
 use Rattle.sc_scenario.specs.declared.scenarios.SchedLine.TheVariants.{Go, Deliver, Drop, Again, Tick, Crash, Told, Settle, Free}
 use Rattle.sc_scenario.proofs.Choices.{chosen, is_up_to, counted}
+use Rattle.sc_scenario.proofs.Results.{err_ok, same_Ok, given_ok, after_ok, passed, met}
 use Rattle.sc_scenario.proofs.Rosters.{roster_one, roster_with, all_with}
 use Rattle.sc_scenario.proofs.Clients.{Below, all_inserted, rising_with}
+use Rattle.sc_scenario.proofs.Spelled.{IsGroupLine, joined_is, joined_all, nodes_up, no_stranger, node_is, Played, line_is, Ordered, order_is}
+use Rattle.sc_scenario.proofs.Records.{lone_bases, one_line}
 
--- ---- the group
+-- ---- what was read so far
 
-record IsGroup (nodes : ℕ) (members : List ℕ) : Type 0 where
-  roster : IsRoster members
-  all : All (IsUpTo nodes) members
+abbrev IsVersion : ℕ → Type 0
+IsVersion version = (version ≡ 1) ⊎ (version ≡ 2)
 
-word_joins : (nodes : ℕ) (members : List ℕ) (word : List ℕ) (more : List ℕ) → IsGroup nodes members → with_word nodes members word ≡ Some more → IsGroup nodes more
-word_joins nodes members word more is e =
-    let b = and_then-some _ (count_in nodes word) more e in
-    let c = chosen (is_none (add_fault members b.0)) (Some (with_member members b.0)) more b.2 in
-    subst (IsGroup nodes) (same_Some _ more c.1)
-    (record { roster = roster_with members b.0 is.roster c.0; all = all_with (IsUpTo nodes) members b.0 is.all (counted nodes word b.0 b.1) })
+record IsDraft (draft : Draft) : Type 0 where
+  version : IsVersion draft.version
+  nodes : draft.nodes ≤ most_nodes
+  groups : All (IsGroupLine draft.nodes) draft.groups
+  lone : length draft.groups ≤ 1
+  policy : draft.policy ≡ false
+  clients : All IsEarlyClient draft.clients
+  rising : AllPairs Below draft.clients
+  lines : All (IsEarlyLine draft.nodes draft.clients) draft.lines
 
-words_join : (nodes : ℕ) (words : List (List ℕ)) (members more : List ℕ) → IsGroup nodes members → with_words nodes members words ≡ Some more → IsGroup nodes more
-words_join nodes [] members more is e = subst (IsGroup nodes) (same_Some members more e) is
-words_join nodes (word ∷ words) members more is e =
-    let b = and_then-some (λ next. with_words nodes next words) (with_word nodes members word) more e in
-    words_join nodes words b.0 more (word_joins nodes members word b.0 is b.1) b.2
+-- a section stands before the schedule, and is the only one of its client
+abbrev IsReading : Reading → Type 0
+IsReading Fresh = ⊤
+IsReading (Outside draft) = IsDraft draft
+IsReading (Within draft asks) = IsDraft draft × (length draft.lines ≡ 0) × (is_client draft.clients asks.client ≡ false) × IsEarlyClient asks
 
-members_are : (nodes : ℕ) (words : List (List ℕ)) (members : List ℕ) → members_in nodes words ≡ Some members → IsGroup nodes members
-members_are nodes [] members e = search (rules, e)
-members_are nodes (word ∷ words) members e =
-    let b = and_then-some (λ node. with_words nodes (node ∷ []) words) (count_in nodes word) members e in
-    words_join nodes words (b.0 ∷ []) members
-    (record { roster = roster_one b.0; all = All-cons (IsUpTo nodes) b.0 [] (counted nodes word b.0 b.1) (All-nil (IsUpTo nodes)) }) b.2
+none_of : {X : Type 0} (P : X → Type 0) (xs : List X) → length xs ≡ 0 → All P xs
+none_of P xs none k d within = absurd (omega (arith, none, within))
 
-record HasGroup (nodes : ℕ) (base : Base) : Type 0 where
-  lo : ℕ
-  members : List ℕ
-  lo_in : lo < 2 ^ 32
-  group : IsGroup nodes members
-  is : base ≡ lone_group lo members
+no_pairs : (xs : List Asks) → length xs ≡ 0 → AllPairs Below xs
+no_pairs xs none i j d lt within = absurd (omega (arith, none, within))
 
-group_is : (nodes : ℕ) (words : List (List ℕ)) (base : Base) → group_in nodes words ≡ Some base → HasGroup nodes base
-group_is nodes words base e =
-    let c = chosen (same (nth words 0) (codes "group")) _ base e in
-    let b = and_then-some (λ lo. option_map (lone_group lo) (members_in nodes (drop 2 words))) (number_of (nth words 1) last_position) base c.1 in
-    let m = map-some (lone_group b.0) (members_in nodes (drop 2 words)) base b.2 in
-    let le = is_up_to last_position (nth words 1) b.0 b.1 in
-    record { lo = b.0; members = m.0; lo_in = omega (arith, le); group = members_are nodes (drop 2 words) m.0 m.1; is = sym m.2 }
+first_holds : (a b c d e f : Bool) → (a && b && c && d && e && f) ≡ true → a ≡ true
+first_holds true b c d e f h = refl
+first_holds false b c d e f h = absurd (true≢false (sym h))
 
--- ---- the schedule
+not_later : (last phase : ℕ) → may_follow last phase ≡ true → last ≤ phase
+not_later last phase e =
+    let h = first_holds (leb last phase) (not (eqb phase 0)) (not (eqb last 1 && eqb phase 1)) (not (eqb last 3 && eqb phase 3)) (ltb phase 2 || leb 1 last) (ltb phase 3 || leb 2 last) e in
+    leb-true last phase h
 
-known : (clients : List Asks) (word : List ℕ) (client : ℕ) → client_in clients word ≡ Some client → is_client clients client ≡ true
-known clients word client e =
-    let b = and_then-some _ (count_in most_clients word) client e in
-    let c = chosen (is_client clients b.0) (Some b.0) client b.2 in
-    subst (λ n. is_client clients n ≡ true) (same_Some b.0 client c.1) c.0
+before_lines : (lines clients policy groups nodes : Bool) → (if not lines then 5 else if not clients then 4 else if policy then 3 else if not groups then 2 else if not nodes then 1 else 0) ≤ 4 → lines ≡ true
+before_lines true clients policy groups nodes le = refl
+before_lines false clients policy groups nodes le = absurd (omega arith)
 
-actor_by : (nodes : ℕ) (clients : List Asks) (digits : List ℕ) (node client : Bool) (who : ℕ)
-    → (if node then count_in nodes digits else if client then option_map (λ c. client_actor c) (client_in clients digits) else None) ≡ Some who → IsActor nodes clients who
-actor_by nodes clients digits true client who e = inl (counted nodes digits who e)
-actor_by nodes clients digits false true who e = let m = map-some (λ c. client_actor c) (client_in clients digits) who e in inr (m.0, sym m.2, known clients digits m.0 m.1)
-actor_by nodes clients digits false false who e = search (rules, e)
+before_groups : (lines clients policy groups nodes : Bool) → (if not lines then 5 else if not clients then 4 else if policy then 3 else if not groups then 2 else if not nodes then 1 else 0) ≤ 1 → (lines ≡ true) × (clients ≡ true) × (groups ≡ true)
+before_groups false clients policy groups nodes le = absurd (omega arith)
+before_groups true false policy groups nodes le = absurd (omega arith)
+before_groups true true true groups nodes le = absurd (omega arith)
+before_groups true true false false nodes le = absurd (omega arith)
+before_groups true true false true nodes le = (refl, refl, refl)
 
-actor : (nodes : ℕ) (clients : List Asks) (word : List ℕ) (who : ℕ) → actor_in nodes clients word ≡ Some who → IsActor nodes clients who
-actor nodes clients [] who e = search (rules, e)
-actor nodes clients (letter ∷ digits) who e = actor_by nodes clients digits (eqb letter 110) (eqb letter 99) who e
+no_lines : (draft : Draft) → phase_so_far draft ≤ 4 → length draft.lines ≡ 0
+no_lines draft le =
+    eqb-true (length draft.lines) 0 (before_lines (eqb (length draft.lines) 0) (eqb (length draft.clients) 0) draft.policy (eqb (length draft.groups) 0) (eqb draft.nodes 0) le)
 
--- a line that both parts were read for
-placed : (nodes : ℕ) (clients : List Asks) (make : ℕ → ℕ → SchedLine) (words : List (List ℕ)) (line : SchedLine)
-    → ((who k : ℕ) → IsActor nodes clients who → IsUpTo most_mails k → IsEarlyLine nodes clients (make who k))
-    → place_in nodes clients make words ≡ Some line → IsEarlyLine nodes clients line
-placed nodes clients make words line good e =
-    let b = and_then-some (λ who. option_map (make who) (count_in most_mails (nth words 2))) (actor_in nodes clients (nth words 1)) line e in
-    let m = map-some (make b.0) (count_in most_mails (nth words 2)) line b.2 in
-    subst (IsEarlyLine nodes clients) m.2 (good b.0 m.0 (actor nodes clients (nth words 1) b.0 b.1) (counted most_mails (nth words 2) m.0 m.1))
+record IsEmpty (draft : Draft) : Type 0 where
+  lines : length draft.lines ≡ 0
+  clients : length draft.clients ≡ 0
+  groups : length draft.groups ≡ 0
 
--- a line that one part was read for
-made : {X : Type 0} (nodes : ℕ) (clients : List Asks) (make : X → SchedLine) (o : Option X) (line : SchedLine)
-    → ((x : X) → o ≡ Some x → IsEarlyLine nodes clients (make x)) → option_map make o ≡ Some line → IsEarlyLine nodes clients line
-made nodes clients make o line good e = let m = map-some make o line e in subst (IsEarlyLine nodes clients) m.2 (good m.0 m.1)
+empty : (draft : Draft) → phase_so_far draft ≤ 1 → IsEmpty draft
+empty draft le =
+    let h = before_groups (eqb (length draft.lines) 0) (eqb (length draft.clients) 0) draft.policy (eqb (length draft.groups) 0) (eqb draft.nodes 0) le in
+    record { lines = eqb-true (length draft.lines) 0 h.0; clients = eqb-true (length draft.clients) 0 h.1; groups = eqb-true (length draft.groups) 0 h.2 }
 
--- `free`, whose deliveries and workers are counted
-freed : (nodes : ℕ) (clients : List Asks) (words : List (List ℕ)) (line : SchedLine) → free_in words ≡ Some line → IsEarlyLine nodes clients line
-freed nodes clients words line e =
-    let b = and_then-some (λ most. option_map (Free most) (count_in most_workers (nth words 2))) (count_in most_deliveries (nth words 1)) line e in
-    let m = map-some (Free b.0) (count_in most_workers (nth words 2)) line b.2 in
-    subst (IsEarlyLine nodes clients) m.2 (counted most_deliveries (nth words 1) b.0 b.1, counted most_workers (nth words 2) m.0 m.1)
+-- ---- outside
 
--- of a choice between two what holds of both
-either : {X : Type 0} (P : X → Type 0) (b : Bool) (o p : Option X) (x : X) → ((x : X) → o ≡ Some x → P x) → ((x : X) → p ≡ Some x → P x) → (if b then o else p) ≡ Some x → P x
-either P true o p x f g e = f x e
-either P false o p x f g e = g x e
+-- the number of nodes, before anything that names them
+counted_nodes : (draft : Draft) (n : ℕ) → n ≤ most_nodes → IsEmpty draft → IsDraft draft → IsDraft (record draft { nodes = n })
+counted_nodes draft n up none is = record {
+  version = is.version;
+  nodes = up;
+  groups = none_of (IsGroupLine n) draft.groups none.groups;
+  lone = is.lone;
+  policy = is.policy;
+  clients = is.clients;
+  rising = is.rising;
+  lines = none_of (IsEarlyLine n draft.clients) draft.lines none.lines;
+}
 
-nothing : {X : Type 0} (P : X → Type 0) (x : X) → None ≡ Some x → P x
-nothing P x e = absurd (none-some x e)
+grouped : (draft : Draft) (line : GroupLine) → length draft.groups ≡ 0 → IsGroupLine draft.nodes line → IsDraft draft → IsDraft (record draft { groups = draft.groups ++ line ∷ [] })
+grouped draft line none good is = record {
+  version = is.version;
+  nodes = is.nodes;
+  groups = All-push (IsGroupLine draft.nodes) draft.groups line is.groups good;
+  lone = omega (arith, none, length_push draft.groups line);
+  policy = is.policy;
+  clients = is.clients;
+  rising = is.rising;
+  lines = is.lines;
+}
 
-named_is : (nodes : ℕ) (make : ℕ → Draw → Order) (words : List (List ℕ)) (order : Order) → ((node : ℕ) (group : Draw) → IsUpTo nodes node → IsEarlyOrder nodes (make node group))
-    → option_map (λ named. make named.0 named.1) (node_and_group nodes words) ≡ Some order → IsEarlyOrder nodes order
-named_is nodes make words order good e =
-    let m = map-some (λ named. make named.0 named.1) (node_and_group nodes words) order e in
-    let b = and_then-some (λ node. option_map (λ group. (node, group)) (name_in (nth words 4))) (count_in nodes (nth words 3)) m.0 m.1 in
-    let n = map-some (λ group. (b.0, group)) (name_in (nth words 4)) m.0 b.2 in
-    let up : IsUpTo nodes m.0.0 = subst (λ (p : ℕ × Draw). IsUpTo nodes p.0) n.2 (counted nodes (nth words 3) b.0 b.1) in
-    subst (IsEarlyOrder nodes) m.2 (good m.0.0 m.0.1 up)
+lined : (draft : Draft) (line : SchedLine) (orders : ℕ) → IsEarlyLine draft.nodes draft.clients line → IsDraft draft → IsDraft (record draft { lines = draft.lines ++ line ∷ []; orders = orders })
+lined draft line orders good is = record {
+  version = is.version;
+  nodes = is.nodes;
+  groups = is.groups;
+  lone = is.lone;
+  policy = is.policy;
+  clients = is.clients;
+  rising = is.rising;
+  lines = All-push (IsEarlyLine draft.nodes draft.clients) draft.lines line is.lines good;
+}
 
-order_is : (nodes : ℕ) (words : List (List ℕ)) (order : Order) → order_in nodes words ≡ Some order → IsEarlyOrder nodes order
-order_is nodes words order e =
-    let P = IsEarlyOrder nodes in
-    either P (same (nth words 2) (codes "join")) (option_map (λ named. Join named.0 named.1) (node_and_group nodes words)) _ order (λ o. named_is nodes Join words o (λ n g u. u)) (λ o.
-    either P (same (nth words 2) (codes "leave")) (option_map (λ named. Leave named.0 named.1) (node_and_group nodes words)) _ o (λ o. named_is nodes Leave words o (λ n g u. u)) (λ o. nothing P o)) e
+group_taken_is : (draft : Draft) (lo first : ℕ) (others : List ℕ) (more : Reading) → lo ≤ last_position → IsUpTo most_nodes first → All (IsUpTo most_nodes) others → length draft.groups ≡ 0 → IsDraft draft
+    → group_taken draft lo first others ≡ Ok more → IsReading more
+group_taken_is draft lo first others more low up all none is e =
+    let a = passed (has_stranger draft.nodes (first ∷ others)) UnknownName _ more e in
+    let b = passed (has_repeat (first ∷ others)) Repeated _ more a.1 in
+    let c = passed (not (is_above draft.groups lo)) BadBoundary _ more b.1 in
+    let d = passed (leb most_groups (length draft.groups) || leb most_members (length others)) TooMany (Ok (Outside (with_group_line draft lo (set_of first others)))) more c.1 in
+    let known = no_stranger draft.nodes (first ∷ others) a.0 (All-cons (IsUpTo most_nodes) first others up all) in
+    let good : IsGroupLine draft.nodes (record { lo = lo; members = set_of first others }) = record {
+      lo_in = omega (arith, low);
+      roster = joined_is others (first ∷ []) (roster_one first);
+      all = joined_all (IsUpTo draft.nodes) others (first ∷ []) (All-cons (IsUpTo draft.nodes) first [] (All-head (IsUpTo draft.nodes) first others known) (All-nil (IsUpTo draft.nodes))) (All-tail (IsUpTo draft.nodes) first others known);
+    } in
+    subst IsReading (same_Ok _ more d.1) (grouped draft (record { lo = lo; members = set_of first others }) none good is)
 
-told_is : (nodes number : ℕ) (clients : List Asks) (words : List (List ℕ)) (line : SchedLine) → 1 ≤ number → told_in nodes number words ≡ Some line → IsEarlyLine nodes clients line
-told_is nodes number clients words line from e =
-    let make : ℕ → Order → SchedLine = λ node order. Told node (record { number = number; order = order }) in
-    let b = and_then-some (λ node. option_map (make node) (order_in nodes words)) (count_in nodes (nth words 1)) line e in
-    let m = map-some (make b.0) (order_in nodes words) line b.2 in
-    subst (IsEarlyLine nodes clients) m.2 (counted nodes (nth words 1) b.0 b.1, order_is nodes words m.0 m.1, from)
+group_is : (draft : Draft) (words : List (List ℕ)) (statement : Statement) (more : Reading) → length draft.groups ≡ 0 → IsDraft draft → group_in words ≡ Ok statement → taken_outside draft statement ≡ Ok more → IsReading more
+group_is draft words statement more none is e t =
+    let lo = given_ok (number_of (nth words 1) last_position) BadNumber (λ lo. given (count_in most_nodes (nth words 2)) BadNumber (λ first. given (nodes_with [] (drop 3 words)) BadNumber (λ others. Ok (NewGroup lo first others)))) statement e in
+    let first = given_ok (count_in most_nodes (nth words 2)) BadNumber (λ first. given (nodes_with [] (drop 3 words)) BadNumber (λ others. Ok (NewGroup lo.0 first others))) statement lo.2 in
+    let others = given_ok (nodes_with [] (drop 3 words)) BadNumber (λ others. Ok (NewGroup lo.0 first.0 others)) statement first.2 in
+    let taken : group_taken draft lo.0 first.0 others.0 ≡ Ok more = subst (λ s. taken_outside draft s ≡ Ok more) (sym (same_Ok (NewGroup lo.0 first.0 others.0) statement others.2)) t in
+    group_taken_is draft lo.0 first.0 others.0 more (is_up_to last_position (nth words 1) lo.0 lo.1) (counted most_nodes (nth words 2) first.0 first.1)
+    (nodes_up (drop 3 words) [] others.0 (All-nil (IsUpTo most_nodes)) others.1) none is taken
 
-line_is : (nodes : ℕ) (clients : List Asks) (words : List (List ℕ)) (line : SchedLine) → schedule_in nodes clients words ≡ Some line → IsEarlyLine nodes clients line
-line_is nodes clients words line e =
-    let P = IsEarlyLine nodes clients in
-    let by_actor : (who k : ℕ) → IsActor nodes clients who → IsUpTo most_mails k → IsActor nodes clients who × IsUpTo most_mails k = λ who k a b. (a, b) in
-    either P (is_line words (codes "go") 2) (go_in clients words) _ line (λ l. made nodes clients Go (client_in clients (nth words 1)) l (λ c. known clients (nth words 1) c)) (λ l.
-    either P (is_line words (codes "deliver") 3) (deliver_in nodes clients words) _ l (λ l. placed nodes clients Deliver words l by_actor) (λ l.
-    either P (is_line words (codes "drop") 3) (drop_in nodes clients words) _ l (λ l. placed nodes clients Drop words l by_actor) (λ l.
-    either P (is_line words (codes "again") 2) (again_in words) _ l (λ l. made nodes clients Again (count_in most_mails (nth words 1)) l (λ k. counted most_mails (nth words 1) k)) (λ l.
-    either P (is_line words (codes "tick") 2) (tick_in nodes clients words) _ l (λ l. made nodes clients Tick (actor_in nodes clients (nth words 1)) l (λ who. actor nodes clients (nth words 1) who)) (λ l.
-    either P (is_line words (codes "crash") 2) (crash_in nodes words) _ l (λ l. made nodes clients Crash (count_in nodes (nth words 1)) l (λ node. counted nodes (nth words 1) node)) (λ l.
-    either P (is_line words (codes "settle") 2) (settle_in words) _ l (λ l. made nodes clients Settle (count_in most_deliveries (nth words 1)) l (λ most. counted most_deliveries (nth words 1) most)) (λ l.
-    either P (is_line words (codes "free") 3) (free_in words) _ l (λ l. freed nodes clients words l) (λ l. nothing P l)))))))) e
+client_is : (draft : Draft) (client : ℕ) (more : Reading) → IsUpTo most_clients client → length draft.lines ≡ 0 → IsDraft draft → client_taken draft client ≡ Ok more → IsReading more
+client_is draft client more up none is e =
+    let p = passed (is_client draft.clients client) Repeated (Ok (Within draft (record { client = client; ops = [] }))) more e in
+    subst IsReading (same_Ok _ more p.1) (is, none, p.0, (up, omega arith))
+
+played_is : (draft : Draft) (line : SchedLine) (more : Reading) → Played draft.nodes draft.clients line → IsDraft draft → line_taken draft line ≡ Ok more → IsReading more
+played_is draft line more good is e =
+    let m = met (is_line_known draft.nodes draft.clients line) UnknownName (Ok (Outside (with_line draft line))) more e in
+    subst IsReading (same_Ok _ more m.1) (lined draft line draft.orders (good m.0) is)
+
+told_is : (draft : Draft) (node : ℕ) (word : List ℕ) (order : Order) (more : Reading) → count_in most_nodes word ≡ Some node → Ordered draft.nodes order → IsDraft draft → telling_taken draft (telling_of draft node order) ≡ Ok more → IsReading more
+told_is draft node word order more number good is e =
+    let m = met (is_line_known draft.nodes draft.clients (telling_of draft node order)) UnknownName (Ok (Outside (with_order draft (telling_of draft node order)))) more e in
+    let parts = and_parts (leb node draft.nodes) (is_order_known draft.nodes order) m.0 in
+    subst IsReading (same_Ok _ more m.1) (lined draft (telling_of draft node order) (draft.orders + 1) (node_is draft.nodes word node number parts.0, good parts.1, omega arith) is)
+
+outside_is : (draft : Draft) (k : Kind) (words : List (List ℕ)) (statement : Statement) (more : Reading) → IsDraft draft → is_built draft k ≡ true → may_follow (phase_so_far draft) (phase_of k) ≡ true
+    → statement_in k words ≡ Ok statement → taken_outside draft statement ≡ Ok more → IsReading more
+outside_is draft Header words statement more is built place e t = absurd (err_ok OutOfPlace statement e)
+outside_is draft Nodes words statement more is built place e t =
+    let g = given_ok (count_in most_nodes (nth words 1)) BadNumber (λ nodes. Ok (NodeCount nodes)) statement e in
+    let taken : Ok (Outside (record draft { nodes = g.0 })) ≡ Ok more = subst (λ s. taken_outside draft s ≡ Ok more) (sym (same_Ok (NodeCount g.0) statement g.2)) t in
+    subst IsReading (same_Ok _ more taken) (counted_nodes draft g.0 (counted most_nodes (nth words 1) g.0 g.1).1 (empty draft (not_later (phase_so_far draft) 1 place)) is)
+outside_is draft Group words statement more is built place e t = group_is draft words statement more (eqb-true (length draft.groups) 0 built) is e t
+outside_is draft Policy words statement more is built place e t = absurd (true≢false (sym built))
+outside_is draft Client words statement more is built place e t =
+    let g = given_ok (count_in most_clients (nth words 1)) BadNumber (λ client. Ok (NewClient client)) statement e in
+    let taken : client_taken draft g.0 ≡ Ok more = subst (λ s. taken_outside draft s ≡ Ok more) (sym (same_Ok (NewClient g.0) statement g.2)) t in
+    client_is draft g.0 more (counted most_clients (nth words 1) g.0 g.1) (no_lines draft (not_later (phase_so_far draft) 4 place)) is taken
+outside_is draft End words statement more is built place e t =
+    absurd (err_ok OutOfPlace more (subst (λ s. taken_outside draft s ≡ Ok more) (sym (same_Ok SectionEnd statement e)) t))
+outside_is draft (Asking k) words statement more is built place e t =
+    let a = after_ok (request_in k words) (λ op. Ok (Ask op)) statement e in
+    absurd (err_ok OutOfPlace more (subst (λ s. taken_outside draft s ≡ Ok more) (sym (same_Ok (Ask a.0) statement a.2)) t))
+outside_is draft (Playing k) words statement more is built place e t =
+    let a = after_ok (line_in k words) (λ line. Ok (Play line)) statement e in
+    let taken : line_taken draft a.0 ≡ Ok more = subst (λ s. taken_outside draft s ≡ Ok more) (sym (same_Ok (Play a.0) statement a.2)) t in
+    played_is draft a.0 more (line_is draft.nodes draft.clients k words a.0 built a.1) is taken
+outside_is draft (Telling k) words statement more is built place e t =
+    let g = given_ok (count_in most_nodes (nth words 1)) BadNumber (λ node. then_on (order_in k words) (λ order. Ok (Tell node order))) statement e in
+    let a = after_ok (order_in k words) (λ order. Ok (Tell g.0 order)) statement g.2 in
+    let taken : telling_taken draft (telling_of draft g.0 a.0) ≡ Ok more = subst (λ s. taken_outside draft s ≡ Ok more) (sym (same_Ok (Tell g.0 a.0) statement a.2)) t in
+    told_is draft g.0 (nth words 1) a.0 more g.1 (order_is draft.nodes k words a.0 built a.1) is taken
+
+-- ---- inside a section
+
+section_ended : (draft : Draft) (asks : Asks) → IsReading (Within draft asks) → IsDraft (with_client draft asks)
+section_ended draft asks is = record {
+  version = is.0.version;
+  nodes = is.0.nodes;
+  groups = is.0.groups;
+  lone = is.0.lone;
+  policy = is.0.policy;
+  clients = all_inserted IsEarlyClient draft.clients (client_place asks.client draft.clients) asks is.0.clients is.3;
+  rising = rising_with asks draft.clients is.0.rising is.2;
+  lines = none_of (IsEarlyLine draft.nodes (with_client draft asks).clients) draft.lines is.1;
+}
+
+requested : (draft : Draft) (asks : Asks) (op : Op) → length asks.ops < most_requests → IsReading (Within draft asks) → IsReading (Within draft (with_request asks op))
+requested draft asks op few is = (is.0, is.1, is.2, (is.3.0, omega (arith, few, length_push asks.ops op)))
+
+request_is : (draft : Draft) (asks : Asks) (op : Op) (more : Reading) → IsReading (Within draft asks) → request_taken draft asks op ≡ Ok more → IsReading more
+request_is draft asks op more is e =
+    let p = passed (leb most_requests (length asks.ops)) TooMany (Ok (Within draft (with_request asks op))) more e in
+    let few : length asks.ops < most_requests = leb-false most_requests (length asks.ops) p.0 in
+    subst IsReading (same_Ok _ more p.1) (requested draft asks op few is)
+
+within_is : (draft : Draft) (asks : Asks) (k : Kind) (words : List (List ℕ)) (statement : Statement) (more : Reading) → IsReading (Within draft asks) → is_inner k ≡ true
+    → statement_in k words ≡ Ok statement → taken_within draft asks statement ≡ Ok more → IsReading more
+within_is draft asks Header words statement more is inner e t = absurd (true≢false (sym inner))
+within_is draft asks Nodes words statement more is inner e t = absurd (true≢false (sym inner))
+within_is draft asks Group words statement more is inner e t = absurd (true≢false (sym inner))
+within_is draft asks Policy words statement more is inner e t = absurd (true≢false (sym inner))
+within_is draft asks Client words statement more is inner e t = absurd (true≢false (sym inner))
+within_is draft asks End words statement more is inner e t =
+    let taken : Ok (Outside (with_client draft asks)) ≡ Ok more = subst (λ s. taken_within draft asks s ≡ Ok more) (sym (same_Ok SectionEnd statement e)) t in
+    subst IsReading (same_Ok _ more taken) (section_ended draft asks is)
+within_is draft asks (Asking k) words statement more is inner e t =
+    let a = after_ok (request_in k words) (λ op. Ok (Ask op)) statement e in
+    request_is draft asks a.0 more is (subst (λ s. taken_within draft asks s ≡ Ok more) (sym (same_Ok (Ask a.0) statement a.2)) t)
+within_is draft asks (Playing k) words statement more is inner e t = absurd (true≢false (sym inner))
+within_is draft asks (Telling k) words statement more is inner e t = absurd (true≢false (sym inner))
 
 -- ---- line by line
 
-record IsDraft (nodes : ℕ) (draft : Draft) : Type 0 where
-  nodes_are : draft.nodes ≡ nodes
-  clients : All IsEarlyClient draft.clients
-  rising : AllPairs Below draft.clients
-  lines : All (IsEarlyLine nodes draft.clients) draft.lines
-
--- a section stands before the schedule, and is the only one of its client
-abbrev IsReading : ℕ → Reading → Type 0
-IsReading nodes (Outside draft) = IsDraft nodes draft
-IsReading nodes (Within draft asks) = IsDraft nodes draft × (length draft.lines ≡ 0) × (is_client draft.clients asks.client ≡ false) × IsEarlyClient asks
-
-no_lines : {X : Type 0} (P : X → Type 0) (xs : List X) → length xs ≡ 0 → All P xs
-no_lines P xs none k d within = absurd (omega (arith, none, within))
-
-ended : (nodes : ℕ) (draft : Draft) (asks : Asks) → IsReading nodes (Within draft asks) → IsReading nodes (Outside (with_client draft asks))
-ended nodes draft asks is = record {
-  nodes_are = is.0.nodes_are;
-  clients = all_inserted IsEarlyClient draft.clients (client_place asks.client draft.clients) asks is.0.clients is.3;
-  rising = rising_with asks draft.clients is.0.rising is.2;
-  lines = no_lines (IsEarlyLine nodes (with_client draft asks).clients) draft.lines is.1;
+begun_is : (version : ℕ) → IsVersion version → IsReading (begun version)
+begun_is version is = record {
+  version = is;
+  nodes = omega arith;
+  groups = All-nil (IsGroupLine 0);
+  lone = omega arith;
+  policy = refl;
+  clients = All-nil IsEarlyClient;
+  rising = no_pairs [] refl;
+  lines = All-nil (IsEarlyLine 0 []);
 }
 
-requested : (nodes : ℕ) (draft : Draft) (asks : Asks) (op : Op) → length asks.ops < most_requests → IsReading nodes (Within draft asks) → IsReading nodes (Within draft (with_request asks op))
-requested nodes draft asks op few is = (is.0, is.1, is.2, (is.3.0, omega (arith, few, length_push asks.ops op)))
+-- of a choice between two what holds of both
+either : {X : Type 0} (P : X → Type 0) (b : Bool) (o p : Result X Reason) (x : X) → ((x : X) → o ≡ Ok x → P x) → ((x : X) → p ≡ Ok x → P x) → (if b then o else p) ≡ Ok x → P x
+either P true o p x f g e = f x e
+either P false o p x f g e = g x e
 
-within_is : (nodes : ℕ) (draft : Draft) (asks : Asks) (words : List (List ℕ)) (more : Reading) → IsReading nodes (Within draft asks) → within draft asks words ≡ Some more → IsReading nodes more
-within_is nodes draft asks words more is e =
-    either (IsReading nodes) (is_line words (codes "end") 1) (Some (Outside (with_client draft asks))) _ more
-    (λ r h. subst (IsReading nodes) (same_Some _ r h) (ended nodes draft asks is))
-    (λ r h. (
-    let c = chosen (nat_lt (length asks.ops) most_requests) (option_map (λ op. Within draft (with_request asks op)) (request_in words)) r h in
-    let few : length asks.ops < most_requests = ltb-true (length asks.ops) most_requests c.0 in
-    let m = map-some (λ op. Within draft (with_request asks op)) (request_in words) r c.1 in
-    subst (IsReading nodes) m.2 (requested nodes draft asks m.0 few is))) e
+header_is : (words : List (List ℕ)) (more : Reading) → header_read words ≡ Ok more → IsReading more
+header_is words more e =
+    either IsReading (are_two words (codes "scatter") (codes "1")) (Ok (begun 1)) _ more (λ r h. subst IsReading (same_Ok _ r h) (begun_is 1 (inl refl))) (λ r h.
+    either IsReading (are_two words (codes "scatter") (codes "2")) (Ok (begun 2)) (Err MissingHeader) r (λ r h. subst IsReading (same_Ok _ r h) (begun_is 2 (inr refl))) (λ r h. absurd (err_ok MissingHeader r h)) h) e
 
-opened_is : (nodes : ℕ) (draft : Draft) (client : ℕ) (more : Reading) → IsUpTo most_clients client → IsDraft nodes draft → opened draft client ≡ Some more → IsReading nodes more
-opened_is nodes draft client more number is e =
-    let asks : Asks = record { client = client; ops = [] } in
-    let c = chosen (eqb (length draft.lines) 0 && not (is_client draft.clients client)) (Some (Within draft asks)) more e in
-    let parts = and_parts (eqb (length draft.lines) 0) (not (is_client draft.clients client)) c.0 in
-    subst (IsReading nodes) (same_Some _ more c.1) (is, eqb-true (length draft.lines) 0 parts.0, not-true (is_client draft.clients client) parts.1, (number, omega arith))
+built_is : (draft : Draft) (words : List (List ℕ)) (k : Kind) → built_kind draft words ≡ Some k → is_built draft k ≡ true
+built_is draft words k e =
+    let b = and_then-some (λ k. if is_built draft k then Some k else None) (kind_of draft.version words) k e in
+    let c = chosen (is_built draft b.0) (Some b.0) k b.2 in
+    subst (λ k. is_built draft k ≡ true) (same_Some b.0 k c.1) c.0
 
-lined : (nodes : ℕ) (draft : Draft) (line : SchedLine) → IsEarlyLine nodes draft.clients line → IsDraft nodes draft → IsDraft nodes (with_line draft line)
-lined nodes draft line good is = record {
-  nodes_are = is.nodes_are;
-  clients = is.clients;
-  rising = is.rising;
-  lines = All-push (IsEarlyLine nodes draft.clients) draft.lines line is.lines good;
-}
+turned : (b : Bool) → not b ≡ false → b ≡ true
+turned true h = refl
+turned false h = absurd (true≢false h)
 
-ordered : (nodes : ℕ) (draft : Draft) (line : SchedLine) → IsEarlyLine nodes draft.clients line → IsDraft nodes draft → IsDraft nodes (with_order draft line)
-ordered nodes draft line good is = record {
-  nodes_are = is.nodes_are;
-  clients = is.clients;
-  rising = is.rising;
-  lines = All-push (IsEarlyLine nodes draft.clients) draft.lines line is.lines good;
-}
+said_is : (in_place : Bool) (k : Kind) (words : List (List ℕ)) (statement : Statement) → said in_place k words ≡ Ok statement → (in_place ≡ true) × (statement_in k words ≡ Ok statement)
+said_is in_place k words statement e =
+    let a = passed (not in_place) OutOfPlace _ statement e in
+    let b = passed (not (has_count k (length words))) WrongCount (statement_in k words) statement a.1 in
+    (turned in_place a.0, b.1)
 
-outside_is : (nodes : ℕ) (draft : Draft) (words : List (List ℕ)) (more : Reading) → IsDraft nodes draft → outside draft words ≡ Some more → IsReading nodes more
-outside_is nodes draft words more is e =
-    either (IsReading nodes) (is_line words (codes "client") 2) (option_and_then (opened draft) (count_in most_clients (nth words 1))) _ more
-    (λ r h. (let b = and_then-some (opened draft) (count_in most_clients (nth words 1)) r h in opened_is nodes draft b.0 r (counted most_clients (nth words 1) b.0 b.1) is b.2))
-    (λ r h. either (IsReading nodes) (is_line words (codes "order") 5) (option_map (λ line. Outside (with_order draft line)) (told_in draft.nodes (draft.orders + 1) words)) _ r
-    (λ r h. (
-    let m = map-some (λ line. Outside (with_order draft line)) (told_in draft.nodes (draft.orders + 1) words) r h in
-    let good = told_is draft.nodes (draft.orders + 1) draft.clients words m.0 (omega arith) m.1 in
-    subst (IsReading nodes) m.2 (ordered nodes draft m.0 (subst (λ n. IsEarlyLine n draft.clients m.0) is.nodes_are good) is)))
-    (λ r h. (
-    let m = map-some (λ line. Outside (with_line draft line)) (schedule_in draft.nodes draft.clients words) r h in
-    let good = line_is draft.nodes draft.clients words m.0 m.1 in
-    subst (IsReading nodes) m.2 (lined nodes draft m.0 (subst (λ n. IsEarlyLine n draft.clients m.0) is.nodes_are good) is))) h) e
+words_are : (reading : Reading) (words : List (List ℕ)) (more : Reading) → IsReading reading → words_read reading words ≡ Ok more → IsReading more
+words_are Fresh words more is e = header_is words more e
+words_are (Outside draft) words more is e =
+    let k = given_ok (built_kind draft words) UnknownWord (λ k. then_on (said (is_in_place (Outside draft) k) k words) (taken_outside draft)) more e in
+    let s = after_ok (said (is_in_place (Outside draft) k.0) k.0 words) (taken_outside draft) more k.2 in
+    let p = said_is (is_in_place (Outside draft) k.0) k.0 words s.0 s.1 in
+    let parts = and_parts (not (is_inner k.0)) (may_follow (phase_so_far draft) (phase_of k.0)) p.0 in
+    outside_is draft k.0 words s.0 more is (built_is draft words k.0 k.1) parts.1 p.1 s.2
+words_are (Within draft asks) words more is e =
+    let k = given_ok (built_kind draft words) UnknownWord (λ k. then_on (said (is_in_place (Within draft asks) k) k words) (taken_within draft asks)) more e in
+    let s = after_ok (said (is_in_place (Within draft asks) k.0) k.0 words) (taken_within draft asks) more k.2 in
+    let p = said_is (is_in_place (Within draft asks) k.0) k.0 words s.0 s.1 in
+    within_is draft asks k.0 words s.0 more is p.0 p.1 s.2
 
-line_read : (nodes : ℕ) (reading : Reading) (words : List (List ℕ)) (more : Reading) → IsReading nodes reading → read_line reading words ≡ Some more → IsReading nodes more
-line_read nodes (Outside draft) words more is e = outside_is nodes draft words more is e
-line_read nodes (Within draft asks) words more is e = within_is nodes draft asks words more is e
-
-lines_read : (nodes : ℕ) (lines : List (List ℕ)) (reading more : Reading) → IsReading nodes reading → read_lines reading lines ≡ Some more → IsReading nodes more
-lines_read nodes [] reading more is e = subst (IsReading nodes) (same_Some reading more e) is
-lines_read nodes (line ∷ lines) reading more is e =
-    let b = and_then-some (λ next. read_lines next lines) (read_line reading (words_of line)) more e in
-    lines_read nodes lines b.0 more (line_read nodes reading (words_of line) b.0 is b.1) b.2
-
-begun_is : (nodes : ℕ) → IsReading nodes (begun nodes)
-begun_is nodes = record { nodes_are = refl; clients = All-nil IsEarlyClient; rising = λ i j d lt within. absurd (omega arith); lines = All-nil (IsEarlyLine nodes []) }
+line_read_is : (reading : Reading) (line : List ℕ) (more : Reading) → IsReading reading → line_read reading line ≡ Ok more → IsReading more
+line_read_is reading line more is e =
+    either IsReading (not (is_fresh reading) && is_skipped line) (Ok reading) _ more (λ r h. subst IsReading (same_Ok reading r h) is) (λ r h.
+    either IsReading (not (is_fresh reading) && has_bad_byte line) (Err BadByte) (words_read reading (words_of line)) r (λ r h. absurd (err_ok BadByte r h)) (λ r h. words_are reading (words_of line) r is h) h) e
 
 -- ---- the whole
 
-scenario_is : (nodes : ℕ) (base : Base) (reading : Reading) (scenario : Scenario) → IsUpTo most_nodes nodes → HasGroup nodes base → IsReading nodes reading → finished_scenario base reading ≡ Some scenario → IsEarly scenario
-scenario_is nodes base (Within draft asks) scenario few has is e = nothing IsEarly scenario e
-scenario_is nodes base (Outside draft) scenario few has is e =
-    subst IsEarly (same_Some _ scenario e)
-    (record {
+going_ok : (number : ℕ) (onward : Reading → Result Scenario ScenarioFault) (r : Result Reading Reason) (scenario : Scenario) → going_on number onward r ≡ Ok scenario → (more : Reading) × (r ≡ Ok more) × (onward more ≡ Ok scenario)
+going_ok number onward (Ok more) scenario e = (more, refl, e)
+going_ok number onward (Err reason) scenario e = absurd (err_ok (Bad number (reason_code reason)) scenario e)
+
+not_zero : (n : ℕ) → eqb n 0 ≡ false → 1 ≤ n
+not_zero n e = let ne = eqb-false n 0 e in omega (arith, ne)
+
+record HasGroup (nodes : ℕ) (groups : List Base) : Type 0 where
+  lo : ℕ
+  members : List ℕ
+  lo_in : lo < 2 ^ 32
+  roster : IsRoster members
+  all : All (IsUpTo nodes) members
+  is : groups ≡ lone_group lo members ∷ []
+
+has_group : (nodes : ℕ) (line : GroupLine) (lines : List GroupLine) → lines ≡ line ∷ [] → All (IsGroupLine nodes) lines → HasGroup nodes (bases_of lines)
+has_group nodes line lines e all =
+    let good : IsGroupLine nodes line = All-head (IsGroupLine nodes) line [] (subst (All (IsGroupLine nodes)) e all) in
+    record { lo = line.lo; members = line.members; lo_in = good.lo_in; roster = good.roster; all = good.all; is = ap bases_of e ∙ lone_bases line }
+
+draft_is : (draft : Draft) → IsDraft draft → eqb draft.nodes 0 ≡ false → eqb (length draft.groups) 0 ≡ false → IsEarly (scenario_by draft)
+draft_is draft is some filled =
+    let one = one_line draft.groups is.lone filled in
+    let has = has_group draft.nodes one.0 draft.groups one.1 is.groups in
+    record {
       lo = has.lo;
       members = has.members;
-      nodes = subst (IsUpTo most_nodes) (sym is.nodes_are) few;
+      nodes = (not_zero draft.nodes some, is.nodes);
       lo_in = has.lo_in;
-      roster = has.group.roster;
-      members_in = subst (λ n. All (IsUpTo n) has.members) (sym is.nodes_are) has.group.all;
-      group = ap (λ (b : Base). b ∷ []) has.is;
-      policy = refl;
+      roster = has.roster;
+      members_in = has.all;
+      group = has.is;
+      policy = is.policy;
       clients = is.clients;
       ascending = is.rising;
-      lines = subst (λ n. All (IsEarlyLine n draft.clients) draft.lines) (sym is.nodes_are) is.lines;
+      lines = is.lines;
       brief = refl;
-      version = refl;
-    })
+      version = is.version;
+    }
+
+finished_is : (number : ℕ) (reading : Reading) (scenario : Scenario) → IsReading reading → reading_ended number reading ≡ Ok scenario → IsEarly scenario
+finished_is number Fresh scenario is e = absurd (err_ok (Bad number 1) scenario e)
+finished_is number (Within draft asks) scenario is e = absurd (err_ok (Bad number 13) scenario e)
+finished_is number (Outside draft) scenario is e =
+    let p = passed (eqb draft.nodes 0 || eqb (length draft.groups) 0) (Bad number 14) (Ok (scenario_by draft)) scenario e in
+    let parts = or_parts (eqb draft.nodes 0) (eqb (length draft.groups) 0) p.0 in
+    subst IsEarly (same_Ok _ scenario p.1) (draft_is draft is parts.0 parts.1)
+
+ended_is : (is_long : Bool) (number : ℕ) (reading : Reading) (scenario : Scenario) → IsReading reading → text_ended is_long number reading ≡ Ok scenario → IsEarly scenario
+ended_is true number reading scenario is e = absurd (err_ok (Bad number 15) scenario e)
+ended_is false number reading scenario is e = finished_is number reading scenario is e
+
+lines_are : (is_long : Bool) (lines : List (List ℕ)) (number : ℕ) (reading : Reading) (scenario : Scenario) → IsReading reading → lines_read is_long number reading lines ≡ Ok scenario → IsEarly scenario
+lines_are is_long [] number reading scenario is e = ended_is is_long number reading scenario is e
+lines_are is_long (line ∷ lines) number reading scenario is e =
+    let p = passed (nat_lt most_lines number) (Bad number 15) (going_on number (λ more. lines_read is_long (number + 1) more lines) (line_read reading (trimmed line))) scenario e in
+    let g = going_ok number (λ more. lines_read is_long (number + 1) more lines) (line_read reading (trimmed line)) scenario p.1 in
+    lines_are is_long lines (number + 1) g.0 scenario (line_read_is reading (trimmed line) g.0 is g.1) g.2
+
+some_ok : (r : Result Scenario ScenarioFault) (scenario : Scenario) → result_ok r ≡ Some scenario → r ≡ Ok scenario
+some_ok (Ok x) scenario e = ap (λ s. Ok s) (same_Some x scenario e)
+some_ok (Err f) scenario e = absurd (none-some scenario e)
 
 -- what a text gives is of the early form
 pub texts_early : TextsAreEarly
-texts_early scenario valid =
-    let lines = lines_of valid.text in
-    let whole = chosen (nat_le (length valid.text) most_bytes && is_ended valid.text && nat_le (length lines) most_lines) (scenario_in lines) scenario valid.read in
-    let headed = chosen (same (nth lines 0) (codes "scatter 1")) _ scenario whole.1 in
-    let nodes = and_then-some (λ n. option_and_then (rest_in n (drop 3 lines)) (group_in n (words_of (nth lines 2)))) (nodes_in (words_of (nth lines 1))) scenario headed.1 in
-    let base = and_then-some (rest_in nodes.0 (drop 3 lines)) (group_in nodes.0 (words_of (nth lines 2))) scenario nodes.2 in
-    let reading = and_then-some (finished_scenario base.0) (read_lines (begun nodes.0) (drop 3 lines)) scenario base.2 in
-    let number = chosen (is_line (words_of (nth lines 1)) (codes "nodes") 2) (count_in most_nodes (nth (words_of (nth lines 1)) 1)) nodes.0 nodes.1 in
-    scenario_is nodes.0 base.0 reading.0 scenario (counted most_nodes (nth (words_of (nth lines 1)) 1) nodes.0 number.1)
-    (group_is nodes.0 (words_of (nth lines 2)) base.0 base.1)
-    (lines_read nodes.0 (drop 3 lines) (begun nodes.0) reading.0 (begun_is nodes.0) reading.1) reading.2
+texts_early scenario valid = lines_are (is_too_long valid.text) (lines_of valid.text) 1 Fresh scenario tt (some_ok (verdict_of valid.text) scenario valid.read)

@@ -1,7 +1,8 @@
--- The line of the group, and the group's record.
-use Rattle.std.specs.Prelude.{ℕ, ◌^◌, List, [], ◌∷◌, drop, codes, Option, Some, None, is_none, if◌then◌else◌, option_and_then}
-use Rattle.std.specs.Option.{option_map}
-use Rattle.sc_base.specs.Number.{number_of}
+-- The groups' lines, and their records: group 0.k is of the k-th line, and the groups stand round the circle in this order.
+use Rattle.std.specs.Prelude.{ℕ, zero, suc, ◌^◌, ◌+◌, ◌-◌, ◌==◌, ◌||◌, nat_le, Bool, false, List, [], ◌∷◌, ◌++◌, get_or, length, map, is_none, Option, Some, None, if◌then◌else◌, option_and_then}
+use Rattle.std.specs.List.{list_any}
+use Rattle.sc_base.specs.Limits.{most_nodes}
+use Rattle.sc_base.specs.Arc.{Arc}
 use Rattle.sc_base.specs.declared.names.Draw.{Draw}
 use Rattle.sc_member.specs.Roster.{with_member, least_of}
 use Rattle.sc_member.specs.Faults.{add_fault}
@@ -9,26 +10,95 @@ use Rattle.sc_cmd.specs.declared.cores.Base.{Base}
 use Rattle.sc_cmd.specs.declared.cores.Core.{Core}
 use Rattle.sc_cmd.specs.declared.cores.Lock.TheVariants.{Free}
 use Rattle.sc_cmd.specs.declared.links.Link.{Link}
-use Rattle.sc_scenario.specs.Words.{same, nth, count_in}
+use Rattle.sc_scenario.specs.Words.{count_in}
+use Rattle.sc_scenario.specs.declared.drafts.GroupLine.{GroupLine}
 
--- the last position of the circle
-abbrev pub last_position : ℕ
-last_position = 4294967295
+-- ---- the nodes of a line
 
--- the members with the node that a word spells, which is no member yet
-abbrev pub with_word : ℕ → List ℕ → List ℕ → Option (List ℕ)
-with_word nodes members word =
-    option_and_then (λ node. if is_none (add_fault members node) then Some (with_member members node) else None) (count_in nodes word)
+-- the nodes with those that words spell
+abbrev pub nodes_with : List ℕ → List (List ℕ) → Option (List ℕ)
+nodes_with nodes [] = Some nodes
+nodes_with nodes (word ∷ words) = option_and_then (λ node. nodes_with (nodes ++ node ∷ []) words) (count_in most_nodes word)
 
--- the members with those of these words
-abbrev pub with_words : ℕ → List ℕ → List (List ℕ) → Option (List ℕ)
-with_words nodes members [] = Some members
-with_words nodes members (word ∷ words) = option_and_then (λ more. with_words nodes more words) (with_word nodes members word)
+-- whether a node stands twice
+abbrev pub has_repeat : List ℕ → Bool
+has_repeat [] = false
+has_repeat (node ∷ nodes) = list_any (λ other. other == node) nodes || has_repeat nodes
 
--- the set of the nodes that the words spell in any order, one to nine of them
-abbrev pub members_in : ℕ → List (List ℕ) → Option (List ℕ)
-members_in nodes [] = None
-members_in nodes (word ∷ words) = option_and_then (λ node. with_words nodes (node ∷ []) words) (count_in nodes word)
+-- a set with one node more, if it has room and not this node
+abbrev pub joined_by : List ℕ → ℕ → List ℕ
+joined_by members node = if is_none (add_fault members node) then with_member members node else members
+
+-- a set with these nodes
+abbrev pub joined_by_all : List ℕ → List ℕ → List ℕ
+joined_by_all members [] = members
+joined_by_all members (node ∷ nodes) = joined_by_all (joined_by members node) nodes
+
+-- the set of a node and others
+abbrev pub set_of : ℕ → List ℕ → List ℕ
+set_of node others = joined_by_all (node ∷ []) others
+
+-- ---- the records of all lines
+
+-- the line at a place from 0
+abbrev pub group_at : List GroupLine → ℕ → GroupLine
+group_at lines k = get_or lines k (record { lo = 0; members = [] })
+
+-- the group of the line at this place is named 0.1, 0.2 and so on
+abbrev pub name_at : ℕ → Draw
+name_at k = record { node = 0; count = k + 1 }
+
+-- the place after, and the one before, round the circle
+abbrev pub place_right : List GroupLine → ℕ → ℕ
+place_right lines k = if k + 1 == length lines then 0 else k + 1
+
+-- the place before, round the circle
+abbrev pub place_left : List GroupLine → ℕ → ℕ
+place_left lines k = if k == 0 then length lines - 1 else k - 1
+
+-- a link to the group of a place
+abbrev pub link_at : List GroupLine → ℕ → Link
+link_at lines k = record { group = name_at k; members = (group_at lines k).members }
+
+-- how far it is from a position up to the next of the other, once round where they are the same
+abbrev pub way : ℕ → ℕ → ℕ
+way lo next = if nat_le next lo then next + 2 ^ 32 - lo else next - lo
+
+-- a group's arc ends where the next one's begins
+abbrev pub arc_at : List GroupLine → ℕ → Arc
+arc_at lines k = record { lo = (group_at lines k).lo; len = way (group_at lines k).lo (group_at lines (place_right lines k)).lo }
+
+-- the core of the group at a place: no lock, and nothing decided
+abbrev pub core_at : List GroupLine → ℕ → Core
+core_at lines k = record {
+  id = name_at k;
+  first = least_of (group_at lines k).members;
+  arc = arc_at lines k;
+  members = (group_at lines k).members;
+  succ = link_at lines (place_right lines k);
+  pred = link_at lines (place_left lines k);
+  lock = Free;
+  begun = 0;
+  decided = [];
+  voted = [];
+  born = [];
+  gone = None;
+}
+
+-- the record of the group at a place, which has no pairs
+abbrev pub base_at : List GroupLine → ℕ → Base
+base_at lines k = record { core = core_at lines k; pairs = []; clients = [] }
+
+-- the records of the first groups
+abbrev pub bases_up_to : List GroupLine → ℕ → List Base
+bases_up_to lines zero = []
+bases_up_to lines (suc k) = bases_up_to lines k ++ base_at lines k ∷ []
+
+-- the records of all groups
+abbrev pub bases_of : List GroupLine → List Base
+bases_of lines = bases_up_to lines (length lines)
+
+-- ---- a group that has the whole circle
 
 -- group 0.1, which is its own neighbour on both sides
 abbrev pub lone_name : Draw
@@ -58,10 +128,3 @@ lone_core lo members = record {
 -- the whole circle from a position on, with these members
 abbrev pub lone_group : ℕ → List ℕ → Base
 lone_group lo members = record { core = lone_core lo members; pairs = []; clients = [] }
-
--- `group LO N1 .. Nk`
-abbrev pub group_in : ℕ → List (List ℕ) → Option Base
-group_in nodes words =
-    if same (nth words 0) (codes "group")
-    then option_and_then (λ lo. option_map (lone_group lo) (members_in nodes (drop 2 words))) (number_of (nth words 1) last_position)
-    else None

@@ -1,7 +1,13 @@
+pub mod Reasons
 pub mod Words
-pub mod Orders
+pub mod Lines
+pub mod Kinds
 pub mod Requests
-pub mod Groups
+pub mod Orders
 pub mod Schedules
-pub mod Early
+pub mod Groups
+pub mod Statements
+pub mod Places
+pub mod Taking
+pub mod Grammar
 pub mod Valid

@@ -1,15 +1,18 @@
--- The lines that tell a node an order.
-use Rattle.std.specs.Prelude.{ℕ, ◌==◌, List, length, codes, Option, None, if◌then◌else◌, option_and_then}
+-- Orders: a node is told one, by the words of a line.
+use Rattle.std.specs.Prelude.{ℕ, ◌==◌, List, length, Option, None, Result, Ok, Err, if◌then◌else◌, option_and_then}
 use Rattle.std.specs.Option.{option_map}
 use Rattle.sc_base.specs.Limits.{most_nodes}
 use Rattle.sc_base.specs.Number.{number_of}
 use Rattle.sc_base.specs.declared.names.Draw.{Draw}
 use Rattle.sc_cmd.specs.declared.orders.Order.{Order}
-use Rattle.sc_cmd.specs.declared.orders.Order.TheVariants.{Join, Leave}
-use Rattle.sc_scenario.specs.Words.{same, pieces, nth, count_in}
+use Rattle.sc_cmd.specs.declared.orders.Order.TheVariants.{Join, Leave, Split, Merge, Repart, Migrate}
+use Rattle.sc_scenario.specs.Reasons.{given}
+use Rattle.sc_scenario.specs.Words.{pieces, nth, count_in}
 use Rattle.sc_scenario.specs.Schedules.{most_mails}
-use Rattle.sc_scenario.specs.declared.scenarios.SchedLine.{SchedLine}
-use Rattle.sc_scenario.specs.declared.scenarios.SchedLine.TheVariants.{Told}
+use Rattle.sc_scenario.specs.declared.reasons.Reason.{Reason}
+use Rattle.sc_scenario.specs.declared.reasons.Reason.TheVariants.{BadNumber, WrongCount}
+use Rattle.sc_scenario.specs.declared.kinds.OrderKind.{OrderKind}
+use Rattle.sc_scenario.specs.declared.kinds.OrderKind.TheVariants as kind
 
 -- a group's name `A.B`: A is the node that drew it, or 0 where the scenario named it
 abbrev pub name_in_parts : List (List ℕ) → Option Draw
@@ -22,18 +25,28 @@ name_in_parts parts =
 abbrev pub name_in : List ℕ → Option Draw
 name_in word = name_in_parts (pieces 46 word)
 
--- the node and the group of an order
-abbrev pub node_and_group : ℕ → List (List ℕ) → Option (ℕ × Draw)
-node_and_group nodes words = option_and_then (λ node. option_map (λ group. (node, group)) (name_in (nth words 4))) (count_in nodes (nth words 3))
+-- the last position of the circle
+abbrev pub last_position : ℕ
+last_position = 4294967295
 
--- `join M G` and `leave M G`
-abbrev pub order_in : ℕ → List (List ℕ) → Option Order
-order_in nodes words =
-    if same (nth words 2) (codes "join") then option_map (λ named. Join named.0 named.1) (node_and_group nodes words)
-    else if same (nth words 2) (codes "leave") then option_map (λ named. Leave named.0 named.1) (node_and_group nodes words)
-    else None
+-- what a word spells as a node, a group, a position
+abbrev pub with_node_word : List ℕ → (ℕ → Result Order Reason) → Result Order Reason
+with_node_word word onward = given (count_in most_nodes word) BadNumber onward
 
--- `order N`, and the order, which has this number
-abbrev pub told_in : ℕ → ℕ → List (List ℕ) → Option SchedLine
-told_in nodes number words =
-    option_and_then (λ node. option_map (λ order. Told node (record { number = number; order = order })) (order_in nodes words)) (count_in nodes (nth words 1))
+-- what a word spells as a group
+abbrev pub with_name_word : List ℕ → (Draw → Result Order Reason) → Result Order Reason
+with_name_word word onward = given (name_in word) BadNumber onward
+
+-- what a word spells as a position
+abbrev pub with_position_word : List ℕ → (ℕ → Result Order Reason) → Result Order Reason
+with_position_word word onward = given (number_of word last_position) BadNumber onward
+
+-- `join M G`, `leave M G`, `split G P`, `merge G`, `repart G P`, `migrate G M`, as the words from the third on
+abbrev pub order_in : OrderKind → List (List ℕ) → Result Order Reason
+order_in kind.Join words = with_node_word (nth words 3) (λ node. with_name_word (nth words 4) (λ group. Ok (Join node group)))
+order_in kind.Leave words = with_node_word (nth words 3) (λ node. with_name_word (nth words 4) (λ group. Ok (Leave node group)))
+order_in kind.Split words = with_name_word (nth words 3) (λ group. with_position_word (nth words 4) (λ at. Ok (Split group at)))
+order_in kind.Merge words = with_name_word (nth words 3) (λ group. Ok (Merge group))
+order_in kind.Repart words = with_name_word (nth words 3) (λ group. with_position_word (nth words 4) (λ at. Ok (Repart group at)))
+order_in kind.Migrate words = with_name_word (nth words 3) (λ group. with_node_word (nth words 4) (λ node. Ok (Migrate group node)))
+order_in kind.Short words = Err WrongCount

@@ -1,26 +1,26 @@
--- The lines of a client's requests.
-use Rattle.std.specs.Prelude.{ℕ, List, codes, Option, None, if◌then◌else◌, option_and_then}
-use Rattle.std.specs.Option.{option_map}
+-- A client's requests.
+use Rattle.std.specs.Prelude.{ℕ, List, Result, Ok}
 use Rattle.sc_base.specs.declared.ops.Op.{Op}
-use Rattle.sc_base.specs.declared.ops.Op.TheVariants.{Get, Put, Del}
-use Rattle.sc_scenario.specs.Words.{nth, is_line, key_in, value_in}
+use Rattle.sc_base.specs.declared.ops.Op.TheVariants.{Get, Put, Del, Add, Cas}
+use Rattle.sc_scenario.specs.Reasons.{given}
+use Rattle.sc_scenario.specs.Words.{nth, key_in, value_in}
+use Rattle.sc_scenario.specs.declared.reasons.Reason.{Reason}
+use Rattle.sc_scenario.specs.declared.reasons.Reason.TheVariants.{BadKey, BadValue}
+use Rattle.sc_scenario.specs.declared.kinds.RequestKind.{RequestKind}
+use Rattle.sc_scenario.specs.declared.kinds.RequestKind.TheVariants as kind
 
--- `get K`
-abbrev pub get_in : List (List ℕ) → Option Op
-get_in words = option_map Get (key_in (nth words 1))
+-- what the second word spells as a key
+abbrev pub with_key : List (List ℕ) → (List ℕ → Result Op Reason) → Result Op Reason
+with_key words onward = given (key_in (nth words 1)) BadKey onward
 
--- `put K V`
-abbrev pub put_in : List (List ℕ) → Option Op
-put_in words = option_and_then (λ key. option_map (Put key) (value_in (nth words 2))) (key_in (nth words 1))
+-- what the word at this place spells as a value
+abbrev pub with_value : List (List ℕ) → ℕ → (List ℕ → Result Op Reason) → Result Op Reason
+with_value words place onward = given (value_in (nth words place)) BadValue onward
 
--- `del K`
-abbrev pub del_in : List (List ℕ) → Option Op
-del_in words = option_map Del (key_in (nth words 1))
-
--- the request that the words spell
-abbrev pub request_in : List (List ℕ) → Option Op
-request_in words =
-    if is_line words (codes "get") 2 then get_in words
-    else if is_line words (codes "put") 3 then put_in words
-    else if is_line words (codes "del") 2 then del_in words
-    else None
+-- `get K`, `put K V`, `del K`, `add K V`, `cas K E V`: the key comes first
+abbrev pub request_in : RequestKind → List (List ℕ) → Result Op Reason
+request_in kind.Get words = with_key words (λ key. Ok (Get key))
+request_in kind.Put words = with_key words (λ key. with_value words 2 (λ value. Ok (Put key value)))
+request_in kind.Del words = with_key words (λ key. Ok (Del key))
+request_in kind.Add words = with_key words (λ key. with_value words 2 (λ value. Ok (Add key value)))
+request_in kind.Cas words = with_key words (λ key. with_value words 2 (λ expected. with_value words 3 (λ value. Ok (Cas key expected value))))

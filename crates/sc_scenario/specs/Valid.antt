@@ -1,5 +1,5 @@
 -- Scenarios that some text is.
-use Rattle.std.specs.Prelude.{◌≡◌, ◌<◌, ◌≤◌, ℕ, ◌^◌, false, true, List, [], ◌∷◌, Some, length, All, ◌⊎◌}
+use Rattle.std.specs.Prelude.{◌≡◌, ◌<◌, ◌≤◌, ℕ, ◌+◌, ◌^◌, false, true, List, [], ◌∷◌, Some, length, take, All, ◌⊎◌}
 use Rattle.std.specs.List.{AllPairs}
 use Rattle.sc_member.specs.Roster.{IsRoster}
 use Rattle.sc_cmd.specs.declared.orders.Order.{Order}
@@ -7,7 +7,8 @@ use Rattle.sc_cmd.specs.declared.orders.Order.TheVariants.{Join, Leave, Split, M
 use Rattle.sc_scenario.specs.Groups.{lone_group}
 use Rattle.sc_base.specs.Limits.{most_nodes, most_clients, most_requests, client_actor}
 use Rattle.sc_scenario.specs.Schedules.{is_client, most_mails, most_deliveries, most_workers}
-use Rattle.sc_scenario.specs.Early.{scenario_of}
+use Rattle.sc_scenario.specs.Lines.{most_bytes}
+use Rattle.sc_scenario.specs.Grammar.{verdict_of, scenario_of}
 use Rattle.sc_scenario.specs.declared.scenarios.Asks.{Asks}
 use Rattle.sc_scenario.specs.declared.scenarios.Scenario.{Scenario}
 use Rattle.sc_scenario.specs.declared.scenarios.SchedLine.{SchedLine}
@@ -66,8 +67,12 @@ pub record IsEarly (scenario : Scenario) : Type 0 where
   pub ascending : AllPairs (λ (one other : Asks). one.client < other.client) scenario.clients
   pub lines : All (IsEarlyLine scenario.nodes scenario.clients) scenario.lines
   pub brief : scenario.brief ≡ false
-  pub version : scenario.version ≡ 1
+  pub version : (scenario.version ≡ 1) ⊎ (scenario.version ≡ 2)
 
 -- every scenario that some text is has the early form
 abbrev pub TextsAreEarly : Type 0
 TextsAreEarly = (scenario : Scenario) → IsValid scenario → IsEarly scenario
+
+-- a text comes out as its first bytes do, one more than the most that a text may have
+abbrev pub FirstBytesDecide : Type 0
+FirstBytesDecide = (text : List ℕ) → verdict_of (take (most_bytes + 1) text) ≡ verdict_of text

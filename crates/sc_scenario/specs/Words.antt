@@ -1,6 +1,6 @@
 -- The words of a line, and what they spell.
-use Rattle.std.specs.Prelude.{ℕ, ◌==◌, ◌&&◌, nat_le, nat_eq, Bool, get_or, List, [], length, Option, Some, None, is_none, if◌then◌else◌, option_and_then}
-use Rattle.std.specs.List.{slice_split}
+use Rattle.std.specs.Prelude.{ℕ, ◌==◌, ◌||◌, not, nat_le, nat_eq, Bool, get_or, List, [], length, Option, Some, None, is_none, if◌then◌else◌, option_and_then}
+use Rattle.std.specs.List.{slice_split, filter}
 use Rattle.std.specs.Cmp.Lexicographic.{pointwise}
 use Rattle.sc_base.specs.Number.{number_of}
 use Rattle.sc_base.specs.Limits.{longest_key, longest_value}
@@ -14,17 +14,17 @@ same text other = pointwise nat_eq text other
 abbrev pub pieces : ℕ → List ℕ → List (List ℕ)
 pieces at text = slice_split (λ byte. byte == at) text
 
--- words are parted by single blanks
+-- whether a text is empty
+abbrev pub is_empty : List ℕ → Bool
+is_empty text = length text == 0
+
+-- words are parted by blanks and tabs, one or more
 abbrev pub words_of : List ℕ → List (List ℕ)
-words_of line = pieces 32 line
+words_of line = filter (λ word. not (is_empty word)) (slice_split (λ byte. (byte == 32) || (byte == 9)) line)
 
 -- the k-th of some texts, from 0, and the empty one where there is none
 abbrev pub nth : List (List ℕ) → ℕ → List ℕ
 nth texts k = get_or texts k []
-
--- whether a line has so many words, of which the first is this one
-abbrev pub is_line : List (List ℕ) → List ℕ → ℕ → Bool
-is_line words first count = (length words == count) && same (nth words 0) first
 
 -- a number from 1 to the most, as it is spelled
 abbrev pub count_in : ℕ → List ℕ → Option ℕ

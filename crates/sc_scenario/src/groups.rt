@@ -1,72 +1,173 @@
-//! The line of the group, and the group's record.
-ghost use Rattle.std.specs.Prelude.{◌≡◌, ◌∷◌, [], ◌^◌, map};
-ghost use Rattle.sc_scenario.specs.Groups.{with_word, with_words, members_in, lone_group, group_in};
+//! The groups' lines, and their records.
+ghost use Rattle.std.specs.Prelude.{◌≡◌, ◌<◌, ◌≤◌, ◌==◌, ◌∷◌, length, map, IfOk};
+ghost use Rattle.std.specs.List.{list_any};
+ghost use Rattle.sc_scenario.specs.Groups.{nodes_with, has_repeat, joined_by, joined_by_all, set_of, group_at, name_at, place_right, place_left, link_at, way, arc_at, base_at, bases_of};
 
-use crate::words::{count_in, is_text, nth, rest};
-use sc_base::{Draw, Pairs, RingArc, SeenList, Sequence, read_number};
+use crate::drafts::GroupLine;
+use crate::scenarios::GroupList;
+use crate::words::count_in;
+use sc_base::{Draw, MOST_NODES, OutOfMemory, Pairs, RingArc, SeenList, Sequence};
 use sc_cmd::{Base, Core, Link, Lock};
 use sc_member::Members;
 use std::alloc::Global;
 
-// The members with the node that a word spells.
-fn with_word(mut members: Members, nodes: u16, word: &[u8]) -> Option<Members>
-    ensures { result ≡ with_word nodes members word.now }
-{
-    let node = count_in(word, nodes as u32)?;
-    match members.add(node as u16) {
-        Ok(()) => Some(members),
-        Err(_) => None,
-    }
-}
+const MOST_NAMES: usize = 4_294_967_294;
 
-// The members with the nodes that the words spell.
-fn with_words(members: Members, nodes: u16, words: &[&[u8]]) -> Option<Members>
-    ensures { result ≡ with_words nodes members (map (λ word. word.now) words.now) }
+/// The nodes with those that the words spell, if each spells one.
+pub fn nodes_with(
+    nodes: Sequence<u16>,
+    words: &[&[u8]],
+) -> Result<Option<Sequence<u16>>, OutOfMemory>
+    ensures { IfOk result
+        (λ more. more ≡ nodes_with nodes (map (λ word. word.now) words.now)) }
 {
-    let mut so_far = members;
+    let mut so_far = nodes;
     for word in words {
-        match with_word(so_far, nodes, word) {
-            Some(more) => so_far = more,
-            None => return None,
+        match count_in(word, MOST_NODES) {
+            Some(node) => so_far.push(node as u16)?,
+            None => return Ok(None),
         }
     }
-    Some(so_far)
+    Ok(Some(so_far))
 }
 
-// The set of the nodes that the words spell.
-fn members_in(nodes: u16, words: &[&[u8]]) -> Option<Members>
-    ensures { result ≡ members_in nodes (map (λ word. word.now) words.now) }
+// Whether a node stands among others.
+fn is_among(nodes: &[u16], node: u16) -> bool
+    ensures { result ≡ list_any (λ other. other == node) nodes.now }
 {
-    let (first, rest) = words.split_first()?;
-    let node = count_in(first, nodes as u32)?;
-    with_words(Members::one(node as u16), nodes, rest)
+    nodes.iter().any(|other| *other == node)
 }
 
-// The whole circle from a position on.
-fn circle_from(lo: u32) -> RingArc
-    ensures { result ≡ record { lo = lo; len = 2 ^ 32 } }
+/// Whether a node stands twice.
+pub fn has_repeat(nodes: &[u16]) -> bool
+    ensures { result ≡ has_repeat nodes.now }
 {
-    let Ok(arc) = RingArc::try_new(lo, 1 << 32) else {
+    for (i, node) in nodes.iter().enumerate() {
+        if is_among(&nodes[i + 1..], *node) {
+            return true;
+        }
+    }
+    false
+}
+
+/// Whether this node or one of the others stands twice.
+pub fn have_repeat(node: u16, others: &[u16]) -> bool
+    ensures { result ≡ has_repeat (node ∷ others.now) }
+{
+    is_among(others, node) || has_repeat(others)
+}
+
+fn joined_by(members: Members, node: u16) -> Members
+    ensures { result ≡ joined_by members node }
+{
+    let mut more = members;
+    match more.add(node) {
+        Ok(()) => more,
+        Err(_) => more,
+    }
+}
+
+/// The set of a node and others; a tenth is left out.
+pub fn set_of(node: u16, others: &[u16]) -> Members
+    ensures { result ≡ set_of node others.now }
+{
+    let mut members = Members::one(node);
+    for other in others {
+        members = joined_by(members, *other);
+    }
+    members
+}
+
+fn place_right(lines: &[GroupLine], k: usize) -> usize
+    requires { k < length lines.now }
+    ensures same { result ≡ place_right lines.now k }
+    ensures within { result < length lines.now }
+{
+    if k + 1 == lines.len() { 0 } else { k + 1 }
+}
+
+fn place_left(lines: &[GroupLine], k: usize) -> usize
+    requires { k < length lines.now }
+    ensures same { result ≡ place_left lines.now k }
+    ensures within { result < length lines.now }
+{
+    if k == 0 { lines.len() - 1 } else { k - 1 }
+}
+
+fn name_at(k: usize) -> Draw
+    requires { k < 4294967295 }
+    ensures { result ≡ name_at k }
+{
+    Draw {
+        node: 0,
+        count: k as u32 + 1,
+    }
+}
+
+fn members_at(lines: &[GroupLine], k: usize) -> Members
+    requires { k < length lines.now }
+    ensures { result ≡ (group_at lines.now k).members }
+{
+    lines[k].members
+}
+
+fn lo_at(lines: &[GroupLine], k: usize) -> u32
+    requires { k < length lines.now }
+    ensures { result ≡ (group_at lines.now k).lo }
+{
+    lines[k].lo
+}
+
+fn link_at(lines: &[GroupLine], k: usize) -> Link
+    requires within { k < length lines.now }
+    requires few { length lines.now ≤ 4294967294 }
+    ensures { result ≡ link_at lines.now k }
+{
+    Link {
+        group: name_at(k),
+        members: members_at(lines, k),
+    }
+}
+
+// How far it is from a position up to the next of the other.
+fn way(lo: u32, next: u32) -> u64
+    ensures same { result ≡ way lo next }
+    ensures some { 1 ≤ result }
+    ensures most { result ≤ 4294967296 }
+{
+    if next <= lo {
+        next as u64 + (1 << 32) - lo as u64
+    } else {
+        (next - lo) as u64
+    }
+}
+
+fn arc_at(lines: &[GroupLine], k: usize) -> RingArc
+    requires { k < length lines.now }
+    ensures { result ≡ arc_at lines.now k }
+{
+    let lo = lo_at(lines, k);
+    let next = lo_at(lines, place_right(lines, k));
+    let Ok(arc) = RingArc::try_new(lo, way(lo, next)) else {
         unreachable!()
     };
     arc
 }
 
-/// Group 0.1 with these members, which has the whole circle from a position on.
-pub fn lone_group(alloc: Global, lo: u32, members: Members) -> Base
-    ensures { result ≡ lone_group lo members }
+fn base_at(alloc: Global, lines: &[GroupLine], k: usize) -> Base
+    requires within { k < length lines.now }
+    requires few { length lines.now ≤ 4294967294 }
+    ensures { result ≡ base_at lines.now k }
 {
-    let id = Draw { node: 0, count: 1 };
-    let succ = Link { group: id, members };
-    let pred = Link { group: id, members };
+    let members = members_at(lines, k);
     Base {
         core: Core {
-            id,
+            id: name_at(k),
             first: members.least(),
-            arc: circle_from(lo),
+            arc: arc_at(lines, k),
             members,
-            succ,
-            pred,
+            succ: link_at(lines, place_right(lines, k)),
+            pred: link_at(lines, place_left(lines, k)),
             lock: Lock::Free,
             begun: 0,
             decided: Sequence::new(alloc),
@@ -79,14 +180,17 @@ pub fn lone_group(alloc: Global, lo: u32, members: Members) -> Base
     }
 }
 
-/// The group that a line `group LO N1 .. Nk` spells, in a system of so many nodes.
-pub fn group_in(alloc: Global, nodes: u16, words: &[&[u8]]) -> Option<Base>
-    ensures { result ≡ group_in nodes (map (λ word. word.now) words.now) }
+/// The records of the groups of some lines. More lines than there are names have no room in memory.
+#[tactic(auto, using(crate::proofs::Records::bases_next))]
+pub fn bases_of(alloc: Global, lines: &[GroupLine]) -> Result<GroupList, OutOfMemory>
+    ensures { IfOk result (λ bases. bases ≡ bases_of lines.now) }
 {
-    if !is_text(nth(words, 0), b"group") {
-        return None;
+    if lines.len() > MOST_NAMES {
+        return Err(OutOfMemory);
     }
-    let lo = read_number(nth(words, 1), 4_294_967_295)?;
-    let members = members_in(nodes, rest(words, 2))?;
-    Some(lone_group(alloc, lo as u32, members))
+    let mut bases = Sequence::new(alloc);
+    for k in 0..lines.len() {
+        bases.push(base_at(alloc, lines, k))?;
+    }
+    Ok(bases)
 }

@@ -2,15 +2,23 @@
 #![tactic(auto)]
 
 mod drafts;
-mod early;
 mod groups;
+mod kinds;
+mod lines;
 mod orders;
 mod pieces;
+mod places;
 mod reading;
+mod reasons;
 mod requests;
 mod scenarios;
 mod schedules;
+mod statements;
+mod taking;
 mod words;
 
-pub use early::{INPUT_LIMIT, LINE_LIMIT, ScenarioFault, read_scenario, texts_are_early};
+pub use reading::{
+    INPUT_LIMIT, LINE_LIMIT, ScenarioFault, first_bytes_decide, read_scenario, texts_are_early,
+};
+pub use reasons::reason_text;
 pub use scenarios::{Asks, ClientList, GroupList, Scenario, SchedLine, Schedule};

@@ -1,15 +1,23 @@
-//! The lines that tell a node an order.
+//! The orders that nodes are told.
 ghost use Rattle.std.specs.Prelude.{◌≡◌, map, IfOk};
-ghost use Rattle.sc_scenario.specs.Orders.{name_in_parts, name_in, node_and_group, order_in, told_in};
+ghost use Rattle.sc_scenario.specs.Orders.{name_in_parts, name_in, order_in};
+ghost use Rattle.sc_scenario.specs.declared.kinds.OrderKind.TheVariants.{Join, Leave, Split, Merge, Repart, Migrate};
 
+use crate::kinds::OrderKind;
 use crate::pieces::parts_of;
-use crate::scenarios::SchedLine;
-use crate::words::{count_in, is_text, nth};
+use crate::reasons::Reason;
+use crate::words::{count_in, nth};
 use sc_base::{Draw, MOST_NODES, OutOfMemory, read_number};
-use sc_cmd::{Order, OrderLine};
+use sc_cmd::Order;
 use std::alloc::Global;
 
 const MOST_NAMES: u32 = 4_294_967_295;
+
+/// The last position of the circle.
+pub const LAST_POSITION: u64 = 4_294_967_295;
+
+/// An order, or the reason why there is none.
+pub type OrderSaid = Result<Order, Reason>;
 
 fn name_of(parts: &[&[u8]]) -> Option<Draw>
     ensures { result ≡ name_in_parts (map (λ part. part.now) parts.now) }
@@ -30,58 +38,102 @@ fn name_in(alloc: Global, word: &[u8]) -> Result<Option<Draw>, OutOfMemory>
     Ok(name_of(&parts))
 }
 
-fn node_and_group(
-    alloc: Global,
-    nodes: u16,
-    words: &[&[u8]],
-) -> Result<Option<(u16, Draw)>, OutOfMemory>
-    ensures { IfOk result
-        (λ named. named ≡ node_and_group nodes (map (λ word. word.now) words.now)) }
+fn join_in(alloc: Global, words: &[&[u8]]) -> Result<OrderSaid, OutOfMemory>
+    ensures { IfOk result (λ order. order ≡ order_in Join (map (λ word. word.now) words.now)) }
 {
-    let Some(node) = count_in(nth(words, 3), nodes as u32) else {
-        return Ok(None);
+    let Some(node) = count_in(nth(words, 3), MOST_NODES) else {
+        return Ok(Err(Reason::BadNumber));
     };
-    let Some(group) = name_in(alloc, nth(words, 4))? else {
-        return Ok(None);
-    };
-    Ok(Some((node as u16, group)))
-}
-
-fn order_in(alloc: Global, nodes: u16, words: &[&[u8]]) -> Result<Option<Order>, OutOfMemory>
-    ensures { IfOk result (λ order. order ≡ order_in nodes (map (λ word. word.now) words.now)) }
-{
-    let joins = is_text(nth(words, 2), b"join");
-    if !joins && !is_text(nth(words, 2), b"leave") {
-        return Ok(None);
-    }
-    let Some((node, group)) = node_and_group(alloc, nodes, words)? else {
-        return Ok(None);
-    };
-    if joins {
-        Ok(Some(Order::Join { node, group }))
-    } else {
-        Ok(Some(Order::Leave { node, group }))
+    match name_in(alloc, nth(words, 4))? {
+        Some(group) => Ok(Ok(Order::Join {
+            node: node as u16,
+            group,
+        })),
+        None => Ok(Err(Reason::BadNumber)),
     }
 }
 
-/// The line that tells a node of so many the order of this number, if the words spell one.
-pub fn told_in(
-    alloc: Global,
-    nodes: u16,
-    number: u32,
-    words: &[&[u8]],
-) -> Result<Option<SchedLine>, OutOfMemory>
-    ensures { IfOk result (λ line. line ≡ told_in nodes number (map (λ word. word.now) words.now)) }
+fn leave_in(alloc: Global, words: &[&[u8]]) -> Result<OrderSaid, OutOfMemory>
+    ensures { IfOk result (λ order. order ≡ order_in Leave (map (λ word. word.now) words.now)) }
 {
-    let Some(node) = count_in(nth(words, 1), nodes as u32) else {
-        return Ok(None);
+    let Some(node) = count_in(nth(words, 3), MOST_NODES) else {
+        return Ok(Err(Reason::BadNumber));
     };
-    let Some(order) = order_in(alloc, nodes, words)? else {
-        return Ok(None);
+    match name_in(alloc, nth(words, 4))? {
+        Some(group) => Ok(Ok(Order::Leave {
+            node: node as u16,
+            group,
+        })),
+        None => Ok(Err(Reason::BadNumber)),
+    }
+}
+
+fn split_in(alloc: Global, words: &[&[u8]]) -> Result<OrderSaid, OutOfMemory>
+    ensures { IfOk result (λ order. order ≡ order_in Split (map (λ word. word.now) words.now)) }
+{
+    let Some(group) = name_in(alloc, nth(words, 3))? else {
+        return Ok(Err(Reason::BadNumber));
     };
-    let line = OrderLine { number, order };
-    Ok(Some(SchedLine::Told {
-        node: node as u16,
-        line,
-    }))
+    match read_number(nth(words, 4), LAST_POSITION) {
+        Some(at) => Ok(Ok(Order::Split {
+            group,
+            at: at as u32,
+        })),
+        None => Ok(Err(Reason::BadNumber)),
+    }
+}
+
+fn merge_in(alloc: Global, words: &[&[u8]]) -> Result<OrderSaid, OutOfMemory>
+    ensures { IfOk result (λ order. order ≡ order_in Merge (map (λ word. word.now) words.now)) }
+{
+    match name_in(alloc, nth(words, 3))? {
+        Some(group) => Ok(Ok(Order::Merge { group })),
+        None => Ok(Err(Reason::BadNumber)),
+    }
+}
+
+fn repart_in(alloc: Global, words: &[&[u8]]) -> Result<OrderSaid, OutOfMemory>
+    ensures { IfOk result (λ order. order ≡ order_in Repart (map (λ word. word.now) words.now)) }
+{
+    let Some(group) = name_in(alloc, nth(words, 3))? else {
+        return Ok(Err(Reason::BadNumber));
+    };
+    match read_number(nth(words, 4), LAST_POSITION) {
+        Some(at) => Ok(Ok(Order::Repart {
+            group,
+            at: at as u32,
+        })),
+        None => Ok(Err(Reason::BadNumber)),
+    }
+}
+
+fn migrate_in(alloc: Global, words: &[&[u8]]) -> Result<OrderSaid, OutOfMemory>
+    ensures { IfOk result (λ order. order ≡ order_in Migrate (map (λ word. word.now) words.now)) }
+{
+    let Some(group) = name_in(alloc, nth(words, 3))? else {
+        return Ok(Err(Reason::BadNumber));
+    };
+    match count_in(nth(words, 4), MOST_NODES) {
+        Some(node) => Ok(Ok(Order::Migrate {
+            group,
+            node: node as u16,
+        })),
+        None => Ok(Err(Reason::BadNumber)),
+    }
+}
+
+/// The order of this kind that the words of a line spell; or the first that is no number of a
+/// node, a group or a position.
+pub fn order_in(alloc: Global, kind: OrderKind, words: &[&[u8]]) -> Result<OrderSaid, OutOfMemory>
+    ensures { IfOk result (λ order. order ≡ order_in kind (map (λ word. word.now) words.now)) }
+{
+    match kind {
+        OrderKind::Join => join_in(alloc, words),
+        OrderKind::Leave => leave_in(alloc, words),
+        OrderKind::Split => split_in(alloc, words),
+        OrderKind::Merge => merge_in(alloc, words),
+        OrderKind::Repart => repart_in(alloc, words),
+        OrderKind::Migrate => migrate_in(alloc, words),
+        OrderKind::Short => Ok(Err(Reason::WrongCount)),
+    }
 }

@@ -1,21 +1,16 @@
-//! Texts cut into lines, and lines into words.
+//! Texts cut into words, and words into parts.
 ghost use Rattle.std.specs.Prelude.{◌≡◌, map, IfOk};
 ghost use Rattle.sc_scenario.specs.Words.{pieces, words_of};
 
 use std::alloc::{AllocError, Global};
 
-/// The pieces between line feeds: one more than there are line feeds.
-pub fn lines_in(alloc: Global, text: &[u8]) -> Result<Vec<&[u8]>, AllocError>
-    ensures { IfOk result (λ lines. map (λ line. line.now) lines.items ≡ pieces 10 text.now) }
-{
-    text.split(|byte| *byte == b'\n').collect(alloc)
-}
-
-/// The pieces between blanks: one more than there are blanks.
+/// The words of a line: what stands between blanks and tabs.
 pub fn words_of(alloc: Global, line: &[u8]) -> Result<Vec<&[u8]>, AllocError>
     ensures { IfOk result (λ words. map (λ word. word.now) words.items ≡ words_of line.now) }
 {
-    line.split(|byte| *byte == b' ').collect(alloc)
+    line.split(|byte| *byte == b' ' || *byte == b'\t')
+        .filter(|word| !word.is_empty())
+        .collect(alloc)
 }
 
 /// The pieces between dots: one more than there are dots.

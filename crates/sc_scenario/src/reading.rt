@@ -1,205 +1,272 @@
-//! Line by line.
-ghost use Rattle.std.specs.Prelude.{◌≡◌, ◌≤◌, ◌+◌, map, length, IfOk};
-ghost use Rattle.std.specs.Option.{option_map};
-ghost use Rattle.sc_scenario.specs.Orders.{told_in};
-ghost use Rattle.sc_scenario.specs.Early.{client_place, with_client, with_request, within, opened, with_line, with_order, outside, read_line, read_lines, begun};
+//! The reader: line by line, up to the first bad line.
+ghost use Rattle.std.specs.Prelude.{◌≡◌, map, IfOk};
+ghost use Rattle.sc_scenario.specs.Grammar.{HasVerdict, begun, are_two, header_read, said, built_kind, words_read, is_fresh, line_read, bad, scenario_by, reading_ended, lines_read, verdict_of};
+ghost use Rattle.sc_scenario.specs.Lines.{is_too_long, lines_in};
+ghost use Rattle.sc_scenario.specs.Valid.{TextsAreEarly, FirstBytesDecide};
+ghost use Rattle.sc_scenario.specs.declared.drafts.Reading.TheVariants.{Fresh, Outside, Within};
+ghost use Rattle.sc_scenario.specs.declared.reading.ScenarioFault.TheVariants.{OutOfMemory};
 
 use crate::drafts::{Draft, Reading};
-use crate::orders::told_in;
+use crate::groups::bases_of;
+use crate::kinds::{Kind, has_count, is_inner, kind_of};
+use crate::lines::{has_bad_byte, is_skipped, next_line, trimmed};
 use crate::pieces::words_of;
-use crate::requests::request_in;
-use crate::scenarios::{Asks, SchedLine};
-use crate::schedules::{is_client, schedule_in};
-use crate::words::{count_in, is_line, nth};
-use sc_base::{MOST_CLIENTS, MOST_REQUESTS, OutOfMemory, Sequence};
+use crate::places::{is_built, may_stand};
+use crate::reasons::Reason;
+use crate::scenarios::{Asks, Scenario};
+use crate::statements::{Said, statement_in};
+use crate::taking::{Taken, taken_outside, taken_within};
+use crate::words::{is_text, nth};
+use sc_base::{self, Sequence};
 use std::alloc::Global;
 
-// The place of a client among others: before the first of a greater number.
-fn place_of(clients: &[Asks], client: u16) -> usize
-    ensures same { result ≡ client_place client clients.now }
-    ensures within { result ≤ length clients.now }
-{
-    for (i, other) in clients.iter().enumerate() {
-        if client < other.client {
-            return i;
-        }
-    }
-    clients.len()
+/// The most bytes that an input has.
+pub const INPUT_LIMIT: u64 = 16_777_216;
+
+/// The most lines that an input has.
+pub const LINE_LIMIT: u32 = 20_000;
+
+/// Why a text is no scenario.
+#[derive(Clone, Copy, Debug, PartialEq, Eq)]
+pub enum ScenarioFault {
+    /// The first bad line, from 1, and the number of its reason, from 1 to 15.
+    Bad { line: u32, why: u8 },
+    OutOfMemory,
 }
 
-// The client among the others, in order of number.
-fn with_client(draft: Draft, asks: Asks) -> Result<Draft, OutOfMemory>
-    ensures { IfOk result (λ more. more ≡ with_client draft asks) }
-{
-    let Draft {
-        nodes,
-        clients,
-        lines,
-        orders,
-    } = draft;
-    let mut all = clients.into_vec();
-    let place = place_of(&all, asks.client);
-    all.insert(place, asks)?;
-    Ok(Draft {
-        nodes,
-        clients: Sequence::from_vec(all),
-        lines,
-        orders,
-    })
-}
+impl From<sc_base::OutOfMemory> for ScenarioFault {
+    ghost from_gives = { λ _ e. e ≡ OutOfMemory };
 
-// A line inside a client's section.
-fn within(
-    alloc: Global,
-    draft: Draft,
-    asks: Asks,
-    words: &[&[u8]],
-) -> Result<Option<Reading>, OutOfMemory>
-    ensures { IfOk result (λ more. more ≡ within draft asks (map (λ word. word.now) words.now)) }
-{
-    if is_line(words, b"end", 1) {
-        return Ok(Some(Reading::Outside(with_client(draft, asks)?)));
-    }
-    if asks.ops.len() >= MOST_REQUESTS {
-        return Ok(None);
-    }
-    let Some(op) = request_in(alloc, words)? else {
-        return Ok(None);
-    };
-    let Asks { client, mut ops } = asks;
-    ops.push(op)?;
-    Ok(Some(Reading::Within(draft, Asks { client, ops })))
-}
-
-// A client's section.
-fn opened(alloc: Global, draft: Draft, client: u16) -> Option<Reading>
-    ensures { result ≡ opened draft client }
-{
-    if draft.lines.len() == 0 && !is_client(draft.clients.as_slice(), client) {
-        let asks = Asks {
-            client,
-            ops: Sequence::new(alloc),
-        };
-        Some(Reading::Within(draft, asks))
-    } else {
-        None
+    fn from(_e: sc_base::OutOfMemory) -> ScenarioFault {
+        ScenarioFault::OutOfMemory
     }
 }
 
-fn with_line(draft: Draft, line: SchedLine) -> Result<Draft, OutOfMemory>
-    ensures { IfOk result (λ more. more ≡ with_line draft line) }
-{
-    let Draft {
-        nodes,
-        clients,
-        mut lines,
-        orders,
-    } = draft;
-    lines.push(line)?;
-    Ok(Draft {
-        nodes,
-        clients,
-        lines,
-        orders,
-    })
-}
-
-// An order, with the number after so many.
-fn with_order(draft: Draft, line: SchedLine, number: u32) -> Result<Draft, OutOfMemory>
-    requires { number ≡ draft.orders + 1 }
-    ensures { IfOk result (λ more. more ≡ with_order draft line) }
-{
-    let Draft {
-        nodes,
-        clients,
-        mut lines,
-        orders: _,
-    } = draft;
-    lines.push(line)?;
-    Ok(Draft {
-        nodes,
-        clients,
-        lines,
-        orders: number,
-    })
-}
-
-// An order. More orders than there are numbers have no room in memory.
-fn ordered(alloc: Global, draft: Draft, words: &[&[u8]]) -> Result<Option<Reading>, OutOfMemory>
-    ensures { IfOk result
-        (λ more.
-        more
-        ≡ option_map (λ line. Reading.Outside (with_order draft line))
-        (told_in draft.nodes (draft.orders + 1) (map (λ word. word.now) words.now))) }
-{
-    let Some(number) = draft.orders.checked_add(1) else {
-        return Err(OutOfMemory);
-    };
-    match told_in(alloc, draft.nodes, number, words)? {
-        Some(line) => Ok(Some(Reading::Outside(with_order(draft, line, number)?))),
-        None => Ok(None),
-    }
-}
-
-// A line outside the sections.
-fn outside(alloc: Global, draft: Draft, words: &[&[u8]]) -> Result<Option<Reading>, OutOfMemory>
-    ensures { IfOk result (λ more. more ≡ outside draft (map (λ word. word.now) words.now)) }
-{
-    if is_line(words, b"client", 2) {
-        return match count_in(nth(words, 1), MOST_CLIENTS) {
-            Some(client) => Ok(opened(alloc, draft, client as u16)),
-            None => Ok(None),
-        };
-    }
-    if is_line(words, b"order", 5) {
-        return ordered(alloc, draft, words);
-    }
-    match schedule_in(draft.nodes, draft.clients.as_slice(), words) {
-        Some(line) => Ok(Some(Reading::Outside(with_line(draft, line)?))),
-        None => Ok(None),
-    }
-}
-
-fn read_line(
-    alloc: Global,
-    reading: Reading,
-    words: &[&[u8]],
-) -> Result<Option<Reading>, OutOfMemory>
-    ensures { IfOk result (λ more. more ≡ read_line reading (map (λ word. word.now) words.now)) }
-{
-    match reading {
-        Reading::Outside(draft) => outside(alloc, draft, words),
-        Reading::Within(draft, asks) => within(alloc, draft, asks, words),
-    }
-}
-
-/// What is read after these lines, if all of them can stand there.
-pub fn read_lines(
-    alloc: Global,
-    reading: Reading,
-    lines: &[&[u8]],
-) -> Result<Option<Reading>, OutOfMemory>
-    ensures { IfOk result (λ more. more ≡ read_lines reading (map (λ line. line.now) lines.now)) }
-{
-    let mut so_far = reading;
-    for line in lines {
-        let words = words_of(alloc, line)?;
-        match read_line(alloc, so_far, &words)? {
-            Some(more) => so_far = more,
-            None => return Ok(None),
-        }
-    }
-    Ok(Some(so_far))
-}
-
-/// Nothing is read yet but the number of nodes.
-pub fn begun(alloc: Global, nodes: u16) -> Reading
-    ensures { result ≡ begun nodes }
+fn begun(alloc: Global, version: u8) -> Reading
+    ensures { result ≡ begun version }
 {
     Reading::Outside(Draft {
-        nodes,
+        version,
+        nodes: 0,
+        groups: Sequence::new(alloc),
+        policy: false,
         clients: Sequence::new(alloc),
         lines: Sequence::new(alloc),
         orders: 0,
     })
 }
+
+fn are_two(words: &[&[u8]], one: &[u8], other: &[u8]) -> bool
+    ensures { result ≡ are_two (map (λ word. word.now) words.now) one.now other.now }
+{
+    words.len() == 2 && is_text(nth(words, 0), one) && is_text(nth(words, 1), other)
+}
+
+fn header_read(alloc: Global, words: &[&[u8]]) -> Taken
+    ensures { result ≡ header_read (map (λ word. word.now) words.now) }
+{
+    if are_two(words, b"scatter", b"1") {
+        Ok(begun(alloc, 1))
+    } else if are_two(words, b"scatter", b"2") {
+        Ok(begun(alloc, 2))
+    } else {
+        Err(Reason::MissingHeader)
+    }
+}
+
+// What a line of a kind says, which may stand here or not.
+fn said(
+    alloc: Global,
+    in_place: bool,
+    kind: Kind,
+    words: &[&[u8]],
+) -> Result<Said, sc_base::OutOfMemory>
+    ensures { IfOk result (λ sentence. sentence ≡ said in_place kind (map (λ word. word.now) words.now)) }
+{
+    if !in_place {
+        return Ok(Err(Reason::OutOfPlace));
+    }
+    if !has_count(kind, words.len()) {
+        return Ok(Err(Reason::WrongCount));
+    }
+    statement_in(alloc, kind, words)
+}
+
+// The kind of a line, if it is built.
+fn built_kind(draft: &Draft, words: &[&[u8]]) -> Option<Kind>
+    ensures { result ≡ built_kind draft.now (map (λ word. word.now) words.now) }
+{
+    let kind = kind_of(draft.version, words)?;
+    if is_built(draft, kind) {
+        Some(kind)
+    } else {
+        None
+    }
+}
+
+fn read_outside(alloc: Global, draft: Draft, words: &[&[u8]]) -> Result<Taken, sc_base::OutOfMemory>
+    ensures { IfOk result
+        (λ taken. taken ≡ words_read (Outside draft) (map (λ word. word.now) words.now)) }
+{
+    let Some(kind) = built_kind(&draft, words) else {
+        return Ok(Err(Reason::UnknownWord));
+    };
+    let in_place = may_stand(&draft, kind);
+    match said(alloc, in_place, kind, words)? {
+        Ok(statement) => taken_outside(alloc, draft, statement),
+        Err(reason) => Ok(Err(reason)),
+    }
+}
+
+fn read_within(
+    alloc: Global,
+    draft: Draft,
+    asks: Asks,
+    words: &[&[u8]],
+) -> Result<Taken, sc_base::OutOfMemory>
+    ensures { IfOk result
+        (λ taken. taken ≡ words_read (Within draft asks) (map (λ word. word.now) words.now)) }
+{
+    let Some(kind) = built_kind(&draft, words) else {
+        return Ok(Err(Reason::UnknownWord));
+    };
+    match said(alloc, is_inner(kind), kind, words)? {
+        Ok(statement) => taken_within(draft, asks, statement),
+        Err(reason) => Ok(Err(reason)),
+    }
+}
+
+fn words_read(
+    alloc: Global,
+    reading: Reading,
+    words: &[&[u8]],
+) -> Result<Taken, sc_base::OutOfMemory>
+    ensures { IfOk result
+        (λ taken. taken ≡ words_read reading (map (λ word. word.now) words.now)) }
+{
+    match reading {
+        Reading::Fresh => Ok(header_read(alloc, words)),
+        Reading::Outside(draft) => read_outside(alloc, draft, words),
+        Reading::Within(draft, asks) => read_within(alloc, draft, asks, words),
+    }
+}
+
+fn is_fresh(reading: &Reading) -> bool
+    ensures { result ≡ is_fresh reading.now }
+{
+    match reading {
+        Reading::Fresh => true,
+        Reading::Outside(_) | Reading::Within(_, _) => false,
+    }
+}
+
+// What is read after one more line.
+fn line_read(alloc: Global, reading: Reading, line: &[u8]) -> Result<Taken, sc_base::OutOfMemory>
+    ensures { IfOk result (λ taken. taken ≡ line_read reading line.now) }
+{
+    let words = words_of(alloc, line)?;
+    if !is_fresh(&reading) {
+        if is_skipped(line, &words) {
+            return Ok(Ok(reading));
+        }
+        if has_bad_byte(line) {
+            return Ok(Err(Reason::BadByte));
+        }
+    }
+    words_read(alloc, reading, &words)
+}
+
+fn bad(number: u32, reason: Reason) -> Result<Scenario, ScenarioFault>
+    ensures { result ≡ bad number reason }
+{
+    Err(ScenarioFault::Bad {
+        line: number,
+        why: reason.code(),
+    })
+}
+
+fn scenario_by(alloc: Global, draft: Draft) -> Result<Scenario, sc_base::OutOfMemory>
+    ensures { IfOk result (λ scenario. scenario ≡ scenario_by draft) }
+{
+    let groups = bases_of(alloc, draft.groups.as_slice())?;
+    Ok(Scenario {
+        nodes: draft.nodes,
+        groups,
+        policy: draft.policy,
+        clients: draft.clients,
+        lines: draft.lines,
+        brief: false,
+        version: draft.version,
+    })
+}
+
+// Behind the last line, which would have this number.
+fn reading_ended(alloc: Global, number: u32, reading: Reading) -> Result<Scenario, ScenarioFault>
+    ensures { HasVerdict (reading_ended number reading) result }
+{
+    let draft = match reading {
+        Reading::Fresh => return bad(number, Reason::MissingHeader),
+        Reading::Within(_, _) => return bad(number, Reason::UnendedClient),
+        Reading::Outside(draft) => draft,
+    };
+    if draft.nodes == 0 || draft.groups.len() == 0 {
+        return bad(number, Reason::MissingPart);
+    }
+    Ok(scenario_by(alloc, draft)?)
+}
+
+// Line by line; the first bad one ends it.
+fn lines_read(alloc: Global, is_long: bool, text: &[u8]) -> Result<Scenario, ScenarioFault>
+    ensures { HasVerdict (lines_read is_long 1 Fresh (lines_in is_long text.now)) result }
+{
+    let mut rest = text;
+    let mut number = 1u32;
+    let mut reading = Reading::Fresh;
+    while !rest.is_empty() {
+        if number > LINE_LIMIT {
+            return bad(number, Reason::TooLarge);
+        }
+        let Some((line, behind)) = next_line(is_long, rest) else {
+            return bad(number, Reason::TooLarge);
+        };
+        match line_read(alloc, reading, trimmed(line))? {
+            Ok(more) => reading = more,
+            Err(reason) => return bad(number, reason),
+        }
+        rest = behind;
+        number += 1;
+    }
+    if is_long {
+        return bad(number, Reason::TooLarge);
+    }
+    reading_ended(alloc, number, reading)
+}
+
+fn is_too_long(text: &[u8]) -> bool
+    ensures { result ≡ is_too_long text.now }
+{
+    text.len() as u64 > INPUT_LIMIT
+}
+
+/// The scenario that a text is. `Bad` exactly where it is none: its first bad line, and the lowest
+/// reason why that line is bad.
+#[tactic(auto, using(crate::proofs::Verdicts::verdict_all, crate::proofs::Verdicts::verdict_cut))]
+pub fn read_scenario(alloc: Global, text: &[u8]) -> Result<Scenario, ScenarioFault>
+    ensures { HasVerdict (verdict_of text.now) result }
+{
+    if is_too_long(text) {
+        return lines_read(alloc, true, &text[..INPUT_LIMIT as usize]);
+    }
+    lines_read(alloc, false, text)
+}
+
+/// What holds of every scenario that some text is: nodes, one group of some of them, clients in
+/// order of number with few requests, and a schedule of lines that name these.
+pub fn texts_are_early()
+    ensures { TextsAreEarly }
+{}
+
+/// A text comes out as its first bytes do, one more than the most that a text may have.
+pub fn first_bytes_decide()
+    ensures { FirstBytesDecide }
+{}

@@ -1,52 +1,68 @@
-//! The lines of a client's requests.
-ghost use Rattle.std.specs.Prelude.{◌≡◌, map, IfOk};
-ghost use Rattle.sc_scenario.specs.Requests.{get_in, put_in, del_in, request_in};
+//! A client's requests.
+ghost use Rattle.std.specs.Prelude.{◌≡◌, Some, map, IfOk};
+ghost use Rattle.sc_scenario.specs.Words.{key_in, nth};
+ghost use Rattle.sc_scenario.specs.Requests.{request_in};
+ghost use Rattle.sc_scenario.specs.declared.kinds.RequestKind.TheVariants.{Put, Add, Cas};
 
-use crate::words::{is_line, key_in, nth, value_in};
-use sc_base::{Op, OutOfMemory};
+use crate::kinds::RequestKind;
+use crate::reasons::Reason;
+use crate::words::{key_in, nth, value_in};
+use sc_base::{Key, Op, OutOfMemory, Value};
 use std::alloc::Global;
 
-fn get_in(alloc: Global, words: &[&[u8]]) -> Result<Option<Op>, OutOfMemory>
-    ensures { IfOk result (λ op. op ≡ get_in (map (λ word. word.now) words.now)) }
+/// A request, or the reason why there is none.
+pub type RequestSaid = Result<Op, Reason>;
+
+fn put_in(alloc: Global, key: Key, words: &[&[u8]]) -> Result<RequestSaid, OutOfMemory>
+    requires { key_in (nth (map (λ word. word.now) words.now) 1) ≡ Some key }
+    ensures { IfOk result (λ op. op ≡ request_in Put (map (λ word. word.now) words.now)) }
 {
-    match key_in(alloc, nth(words, 1))? {
-        Some(key) => Ok(Some(Op::Get { key })),
-        None => Ok(None),
+    match value_in(alloc, nth(words, 2))? {
+        Some(value) => Ok(Ok(Op::Put { key, value })),
+        None => Ok(Err(Reason::BadValue)),
     }
 }
 
-fn put_in(alloc: Global, words: &[&[u8]]) -> Result<Option<Op>, OutOfMemory>
-    ensures { IfOk result (λ op. op ≡ put_in (map (λ word. word.now) words.now)) }
+fn add_in(alloc: Global, key: Key, words: &[&[u8]]) -> Result<RequestSaid, OutOfMemory>
+    requires { key_in (nth (map (λ word. word.now) words.now) 1) ≡ Some key }
+    ensures { IfOk result (λ op. op ≡ request_in Add (map (λ word. word.now) words.now)) }
+{
+    match value_in(alloc, nth(words, 2))? {
+        Some(value) => Ok(Ok(Op::Add { key, value })),
+        None => Ok(Err(Reason::BadValue)),
+    }
+}
+
+fn cas_in(alloc: Global, key: Key, words: &[&[u8]]) -> Result<RequestSaid, OutOfMemory>
+    requires { key_in (nth (map (λ word. word.now) words.now) 1) ≡ Some key }
+    ensures { IfOk result (λ op. op ≡ request_in Cas (map (λ word. word.now) words.now)) }
+{
+    let Some(expect) = value_in(alloc, nth(words, 2))? else {
+        return Ok(Err(Reason::BadValue));
+    };
+    match value_in(alloc, nth(words, 3))? {
+        Some(value) => Ok(Ok(Op::Cas { key, expect, value })),
+        None => Ok(Err(Reason::BadValue)),
+    }
+}
+
+/// The request of this kind that the words of a line spell; or the first that is none of its key
+/// and its values.
+pub fn request_in(
+    alloc: Global,
+    kind: RequestKind,
+    words: &[&[u8]],
+) -> Result<RequestSaid, OutOfMemory>
+    ensures { IfOk result (λ op. op ≡ request_in kind (map (λ word. word.now) words.now)) }
 {
     let Some(key) = key_in(alloc, nth(words, 1))? else {
-        return Ok(None);
+        return Ok(Err(Reason::BadKey));
     };
-    match value_in(alloc, nth(words, 2))? {
-        Some(value) => Ok(Some(Op::Put { key, value })),
-        None => Ok(None),
-    }
-}
-
-fn del_in(alloc: Global, words: &[&[u8]]) -> Result<Option<Op>, OutOfMemory>
-    ensures { IfOk result (λ op. op ≡ del_in (map (λ word. word.now) words.now)) }
-{
-    match key_in(alloc, nth(words, 1))? {
-        Some(key) => Ok(Some(Op::Del { key })),
-        None => Ok(None),
-    }
-}
-
-/// The request that the words of a line spell, if they spell one.
-pub fn request_in(alloc: Global, words: &[&[u8]]) -> Result<Option<Op>, OutOfMemory>
-    ensures { IfOk result (λ op. op ≡ request_in (map (λ word. word.now) words.now)) }
-{
-    if is_line(words, b"get", 2) {
-        get_in(alloc, words)
-    } else if is_line(words, b"put", 3) {
-        put_in(alloc, words)
-    } else if is_line(words, b"del", 2) {
-        del_in(alloc, words)
-    } else {
-        Ok(None)
+    match kind {
+        RequestKind::Get => Ok(Ok(Op::Get { key })),
+        RequestKind::Put => put_in(alloc, key, words),
+        RequestKind::Del => Ok(Ok(Op::Del { key })),
+        RequestKind::Add => add_in(alloc, key, words),
+        RequestKind::Cas => cas_in(alloc, key, words),
     }
 }

@@ -1,10 +1,13 @@
-//! The lines of the schedule.
+//! The lines of the schedule that are no orders.
 ghost use Rattle.std.specs.Prelude.{◌≡◌, map};
-ghost use Rattle.sc_scenario.specs.Schedules.{is_client, client_in, actor_in, go_in, deliver_in, drop_in, again_in, tick_in, crash_in, settle_in, free_in, schedule_in};
+ghost use Rattle.sc_scenario.specs.Schedules.{actor_in, line_in};
+ghost use Rattle.sc_scenario.specs.declared.kinds.LineKind.TheVariants.{Go, Deliver, Drop, Again, Tick, Crash, Settle, Free, Storm};
 
-use crate::scenarios::{Asks, SchedLine};
-use crate::words::{count_in, is_line, nth};
-use sc_base::{MOST_CLIENTS, MOST_NODES};
+use crate::kinds::LineKind;
+use crate::reasons::Reason;
+use crate::scenarios::SchedLine;
+use crate::words::{count_in, nth};
+use sc_base::{MOST_CLIENTS, MOST_NODES, read_number};
 
 const MOST_MAILS: u32 = 4_294_967_295;
 
@@ -12,116 +15,130 @@ const MOST_DELIVERIES: u32 = 1_000_000;
 
 const MOST_WORKERS: u32 = 16;
 
-/// Whether a client has a section.
-pub fn is_client(clients: &[Asks], client: u16) -> bool
-    ensures { result ≡ is_client clients.now client }
-{
-    clients.iter().any(|asks| asks.client == client)
-}
+const LAST_STORM: u64 = 18_446_744_073_709_551_615;
 
-// The number of a client that has a section.
-fn client_in(clients: &[Asks], word: &[u8]) -> Option<u16>
-    ensures { result ≡ client_in clients.now word.now }
-{
-    let client = count_in(word, MOST_CLIENTS)? as u16;
-    if is_client(clients, client) {
-        Some(client)
-    } else {
-        None
-    }
-}
+/// A line, or the reason why there is none.
+pub type LineSaid = Result<SchedLine, Reason>;
 
 // The number of an actor.
-fn actor_in(nodes: u16, clients: &[Asks], word: &[u8]) -> Option<u32>
-    ensures { result ≡ actor_in nodes clients.now word.now }
+fn actor_in(word: &[u8]) -> Option<u32>
+    ensures { result ≡ actor_in word.now }
 {
     match word {
-        [b'n', digits @ ..] => count_in(digits, nodes as u32),
-        [b'c', digits @ ..] => Some(MOST_NODES + client_in(clients, digits)? as u32),
+        [b'n', digits @ ..] => count_in(digits, MOST_NODES),
+        [b'c', digits @ ..] => Some(MOST_NODES + count_in(digits, MOST_CLIENTS)?),
         _ => None,
     }
 }
 
-fn go_in(clients: &[Asks], words: &[&[u8]]) -> Option<SchedLine>
-    ensures { result ≡ go_in clients.now (map (λ word. word.now) words.now) }
+fn go_in(words: &[&[u8]]) -> LineSaid
+    ensures { result ≡ line_in Go (map (λ word. word.now) words.now) }
 {
-    let client = client_in(clients, nth(words, 1))?;
-    Some(SchedLine::Go { client })
+    match count_in(nth(words, 1), MOST_CLIENTS) {
+        Some(client) => Ok(SchedLine::Go {
+            client: client as u16,
+        }),
+        None => Err(Reason::BadNumber),
+    }
 }
 
-fn deliver_in(nodes: u16, clients: &[Asks], words: &[&[u8]]) -> Option<SchedLine>
-    ensures { result ≡ deliver_in nodes clients.now (map (λ word. word.now) words.now) }
+fn deliver_in(words: &[&[u8]]) -> LineSaid
+    ensures { result ≡ line_in Deliver (map (λ word. word.now) words.now) }
 {
-    let who = actor_in(nodes, clients, nth(words, 1))?;
-    let k = count_in(nth(words, 2), MOST_MAILS)?;
-    Some(SchedLine::Deliver { who, k })
+    let Some(who) = actor_in(nth(words, 1)) else {
+        return Err(Reason::BadNumber);
+    };
+    match count_in(nth(words, 2), MOST_MAILS) {
+        Some(k) => Ok(SchedLine::Deliver { who, k }),
+        None => Err(Reason::BadNumber),
+    }
 }
 
-fn drop_in(nodes: u16, clients: &[Asks], words: &[&[u8]]) -> Option<SchedLine>
-    ensures { result ≡ drop_in nodes clients.now (map (λ word. word.now) words.now) }
+fn drop_in(words: &[&[u8]]) -> LineSaid
+    ensures { result ≡ line_in Drop (map (λ word. word.now) words.now) }
 {
-    let who = actor_in(nodes, clients, nth(words, 1))?;
-    let k = count_in(nth(words, 2), MOST_MAILS)?;
-    Some(SchedLine::Drop { who, k })
+    let Some(who) = actor_in(nth(words, 1)) else {
+        return Err(Reason::BadNumber);
+    };
+    match count_in(nth(words, 2), MOST_MAILS) {
+        Some(k) => Ok(SchedLine::Drop { who, k }),
+        None => Err(Reason::BadNumber),
+    }
 }
 
-fn again_in(words: &[&[u8]]) -> Option<SchedLine>
-    ensures { result ≡ again_in (map (λ word. word.now) words.now) }
+fn again_in(words: &[&[u8]]) -> LineSaid
+    ensures { result ≡ line_in Again (map (λ word. word.now) words.now) }
 {
-    let mail = count_in(nth(words, 1), MOST_MAILS)?;
-    Some(SchedLine::Again { mail })
+    match count_in(nth(words, 1), MOST_MAILS) {
+        Some(mail) => Ok(SchedLine::Again { mail }),
+        None => Err(Reason::BadNumber),
+    }
 }
 
-fn tick_in(nodes: u16, clients: &[Asks], words: &[&[u8]]) -> Option<SchedLine>
-    ensures { result ≡ tick_in nodes clients.now (map (λ word. word.now) words.now) }
+fn tick_in(words: &[&[u8]]) -> LineSaid
+    ensures { result ≡ line_in Tick (map (λ word. word.now) words.now) }
 {
-    let who = actor_in(nodes, clients, nth(words, 1))?;
-    Some(SchedLine::Tick { who })
+    match actor_in(nth(words, 1)) {
+        Some(who) => Ok(SchedLine::Tick { who }),
+        None => Err(Reason::BadNumber),
+    }
 }
 
-fn crash_in(nodes: u16, words: &[&[u8]]) -> Option<SchedLine>
-    ensures { result ≡ crash_in nodes (map (λ word. word.now) words.now) }
+fn crash_in(words: &[&[u8]]) -> LineSaid
+    ensures { result ≡ line_in Crash (map (λ word. word.now) words.now) }
 {
-    let node = count_in(nth(words, 1), nodes as u32)?;
-    Some(SchedLine::Crash { node: node as u16 })
+    match count_in(nth(words, 1), MOST_NODES) {
+        Some(node) => Ok(SchedLine::Crash { node: node as u16 }),
+        None => Err(Reason::BadNumber),
+    }
 }
 
-fn settle_in(words: &[&[u8]]) -> Option<SchedLine>
-    ensures { result ≡ settle_in (map (λ word. word.now) words.now) }
+fn settle_in(words: &[&[u8]]) -> LineSaid
+    ensures { result ≡ line_in Settle (map (λ word. word.now) words.now) }
 {
-    let most = count_in(nth(words, 1), MOST_DELIVERIES)?;
-    Some(SchedLine::Settle { most })
+    match count_in(nth(words, 1), MOST_DELIVERIES) {
+        Some(most) => Ok(SchedLine::Settle { most }),
+        None => Err(Reason::BadNumber),
+    }
 }
 
-fn free_in(words: &[&[u8]]) -> Option<SchedLine>
-    ensures { result ≡ free_in (map (λ word. word.now) words.now) }
+fn free_in(words: &[&[u8]]) -> LineSaid
+    ensures { result ≡ line_in Free (map (λ word. word.now) words.now) }
 {
-    let most = count_in(nth(words, 1), MOST_DELIVERIES)?;
-    let workers = count_in(nth(words, 2), MOST_WORKERS)?;
-    Some(SchedLine::Free { most, workers })
+    let Some(most) = count_in(nth(words, 1), MOST_DELIVERIES) else {
+        return Err(Reason::BadNumber);
+    };
+    match count_in(nth(words, 2), MOST_WORKERS) {
+        Some(workers) => Ok(SchedLine::Free { most, workers }),
+        None => Err(Reason::BadNumber),
+    }
 }
 
-/// The line of the schedule that the words spell, in a system of so many nodes and these clients.
-pub fn schedule_in(nodes: u16, clients: &[Asks], words: &[&[u8]]) -> Option<SchedLine>
-    ensures { result ≡ schedule_in nodes clients.now (map (λ word. word.now) words.now) }
+fn storm_in(words: &[&[u8]]) -> LineSaid
+    ensures { result ≡ line_in Storm (map (λ word. word.now) words.now) }
 {
-    if is_line(words, b"go", 2) {
-        go_in(clients, words)
-    } else if is_line(words, b"deliver", 3) {
-        deliver_in(nodes, clients, words)
-    } else if is_line(words, b"drop", 3) {
-        drop_in(nodes, clients, words)
-    } else if is_line(words, b"again", 2) {
-        again_in(words)
-    } else if is_line(words, b"tick", 2) {
-        tick_in(nodes, clients, words)
-    } else if is_line(words, b"crash", 2) {
-        crash_in(nodes, words)
-    } else if is_line(words, b"settle", 2) {
-        settle_in(words)
-    } else if is_line(words, b"free", 3) {
-        free_in(words)
-    } else {
-        None
+    let Some(number) = read_number(nth(words, 1), LAST_STORM) else {
+        return Err(Reason::BadNumber);
+    };
+    match count_in(nth(words, 2), MOST_DELIVERIES) {
+        Some(most) => Ok(SchedLine::Storm { number, most }),
+        None => Err(Reason::BadNumber),
+    }
+}
+
+/// The line of this kind that the words spell, if each is a number or an actor of its range.
+pub fn line_in(kind: LineKind, words: &[&[u8]]) -> LineSaid
+    ensures { result ≡ line_in kind (map (λ word. word.now) words.now) }
+{
+    match kind {
+        LineKind::Go => go_in(words),
+        LineKind::Deliver => deliver_in(words),
+        LineKind::Drop => drop_in(words),
+        LineKind::Again => again_in(words),
+        LineKind::Tick => tick_in(words),
+        LineKind::Crash => crash_in(words),
+        LineKind::Settle => settle_in(words),
+        LineKind::Free => free_in(words),
+        LineKind::Storm => storm_in(words),
     }
 }

@@ -1,6 +1,6 @@
 //! What the words of a line spell.
 ghost use Rattle.std.specs.Prelude.{◌≡◌, ◌≤◌, map, drop, IfOk, IfSome};
-ghost use Rattle.sc_scenario.specs.Words.{same, nth, is_line, count_in, key_in, value_in};
+ghost use Rattle.sc_scenario.specs.Words.{same, nth, count_in, key_in, value_in};
 
 use sc_base::{Key, KeyFault, OutOfMemory, Value, read_number};
 use std::alloc::Global;
@@ -24,13 +24,6 @@ pub fn rest<'a, 'b>(texts: &'b [&'a [u8]], n: usize) -> &'b [&'a [u8]]
     ensures { map (λ text. text.now) result.now ≡ drop n (map (λ text. text.now) texts.now) }
 {
     if n <= texts.len() { &texts[n..] } else { &[] }
-}
-
-/// Whether a line has so many words, of which the first is this one.
-pub fn is_line(words: &[&[u8]], first: &[u8], count: usize) -> bool
-    ensures { result ≡ is_line (map (λ word. word.now) words.now) first.now count }
-{
-    words.len() == count && is_text(nth(words, 0), first)
 }
 
 /// The number from 1 to `most` that a word spells, if it spells one.

@@ -1,9 +1,13 @@
 -- What words and input ask for.
-use Rattle.std.specs.Prelude.{◌≡◌, ℕ, List, ◌==◌, ◌&&◌, length, Bool, true, false, Option, None, Some, IfSome, codes}
+use Rattle.std.specs.Prelude.{◌≡◌, ℕ, List, ◌++◌, ◌==◌, ◌&&◌, length, Bool, true, false, Option, IfSome, Result, Ok, Err, codes}
+use Rattle.std.specs.Fmt.{decimal}
 use Rattle.sc_edges.specs.Causes.{Rose}
-use Rattle.sc_scenario.specs.Early.{scenario_of}
+use Rattle.sc_scenario.specs.Grammar.{verdict_of}
+use Rattle.sc_scenario.specs.Reasons.{reason_text}
 use Rattle.sc_scenario.specs.Valid.{IsValid}
 use Rattle.sc_scenario.specs.Words.{same, nth}
+use Rattle.sc_scenario.specs.declared.reading.ScenarioFault.{ScenarioFault}
+use Rattle.sc_scenario.specs.declared.reading.ScenarioFault.TheVariants.{Bad}
 use Rattle.sc_scenario.specs.declared.scenarios.Scenario.{Scenario}
 use Rattle.sc_statuses.specs.declared.wants.Wanted.{Wanted}
 use Rattle.sc_statuses.specs.declared.wants.Wanted.TheVariants.{Usage, ReadFault, BadScenario, Run}
@@ -12,27 +16,31 @@ use Rattle.sc_statuses.specs.declared.wants.Wanted.TheVariants.{Usage, ReadFault
 abbrev pub is_run : List (List ℕ) → Bool
 is_run words = (length words == 1) && same (nth words 0) (codes "run")
 
--- All of the input, where the source told it, is this scenario, or is none.
-abbrev pub ReadsAs : Option (List ℕ) → Option Scenario → Type 0
-ReadsAs left scenario = IfSome left (λ input. scenario_of input ≡ scenario)
+-- what is told of a bad line: `line L: REASON`
+abbrev pub fault_text : ℕ → ℕ → List ℕ
+fault_text line why = (codes "line " ++ decimal line ++ codes ": ") ++ reason_text why
+
+-- All of the input, where the source told it, comes out as this scenario, or with this bad line.
+abbrev pub ReadsAs : Option (List ℕ) → Result Scenario ScenarioFault → Type 0
+ReadsAs left verdict = IfSome left (λ input. verdict_of input ≡ verdict)
 
 -- What bytes ask for: a run of the scenario that they are.
 abbrev pub IsOf : List ℕ → Wanted → Type 0
 IsOf bytes Usage = ⊥
 IsOf bytes ReadFault = ⊥
-IsOf bytes BadScenario = scenario_of bytes ≡ None
-IsOf bytes (Run scenario) = scenario_of bytes ≡ Some scenario
+IsOf bytes (BadScenario line why) = verdict_of bytes ≡ Err (Bad line why)
+IsOf bytes (Run scenario) = verdict_of bytes ≡ Ok scenario
 
 -- What a source asks for, and the cause: the bytes that it had left, and its count of faults before and after. A scenario is valid whether or not the source told its bytes.
 abbrev pub IsRead : Option (List ℕ) → ℕ → ℕ → Wanted → Type 0
 IsRead left before now Usage = ⊥
 IsRead left before now ReadFault = Rose before now
-IsRead left before now BadScenario = ReadsAs left None
-IsRead left before now (Run scenario) = IsValid scenario × ReadsAs left (Some scenario)
+IsRead left before now (BadScenario line why) = ReadsAs left (Err (Bad line why))
+IsRead left before now (Run scenario) = IsValid scenario × ReadsAs left (Ok scenario)
 
 -- The same after any words.
 abbrev pub IsWanted : List (List ℕ) → Option (List ℕ) → ℕ → ℕ → Wanted → Type 0
 IsWanted words left before now Usage = is_run words ≡ false
 IsWanted words left before now ReadFault = (is_run words ≡ true) × IsRead left before now ReadFault
-IsWanted words left before now BadScenario = (is_run words ≡ true) × IsRead left before now BadScenario
+IsWanted words left before now (BadScenario line why) = (is_run words ≡ true) × IsRead left before now (BadScenario line why)
 IsWanted words left before now (Run scenario) = (is_run words ≡ true) × IsRead left before now (Run scenario)

@@ -8,4 +8,4 @@ mod wants;
 
 pub use printing::print;
 pub use said::{Played, Said, said_by};
-pub use wants::{Wanted, wanted_of};
+pub use wants::{Wanted, fault_text, wanted_of};

@@ -1,11 +1,13 @@
 //! What the words and the input ask for.
 ghost use Rattle.std.specs.Prelude.{◌≡◌, map, false, string_bytes, IfOk};
 ghost use Rattle.sc_scenario.specs.Words.{nth};
-ghost use Rattle.sc_statuses.specs.Wants.{is_run, IsOf, IsRead, IsWanted};
+ghost use Rattle.sc_statuses.specs.Wants.{is_run, fault_text, IsOf, IsRead, IsWanted};
 
 use sc_base::OutOfMemory;
 use sc_edges::{ReadFault, Source, read_all};
-use sc_scenario::{INPUT_LIMIT, Scenario, ScenarioFault, read_scenario};
+use sc_scenario::{
+    INPUT_LIMIT, Scenario, ScenarioFault, first_bytes_decide, read_scenario, reason_text,
+};
 use std::alloc::Global;
 
 /// What the words and the input ask for.
@@ -15,8 +17,8 @@ pub enum Wanted {
     Usage,
     /// The source failed.
     ReadFault,
-    /// The input is no scenario.
-    BadScenario,
+    /// The input is no scenario: its first bad line, and the number of the reason.
+    BadScenario { line: u32, why: u8 },
     /// A run of this scenario.
     Run(Scenario),
 }
@@ -45,7 +47,7 @@ fn wanted_by(alloc: Global, bytes: &[u8]) -> Result<Wanted, OutOfMemory>
 {
     match read_scenario(alloc, bytes) {
         Ok(scenario) => Ok(Wanted::Run(scenario)),
-        Err(ScenarioFault::Bad { .. }) => Ok(Wanted::BadScenario),
+        Err(ScenarioFault::Bad { line, why }) => Ok(Wanted::BadScenario { line, why }),
         Err(ScenarioFault::OutOfMemory) => Err(OutOfMemory),
     }
 }
@@ -60,6 +62,7 @@ fn read<S: Source>(alloc: Global, input: &mut S) -> Result<Wanted, OutOfMemory>
         Err(ReadFault::Failed) => return Ok(Wanted::ReadFault),
         Err(ReadFault::OutOfMemory) => return Err(OutOfMemory),
     };
+    first_bytes_decide();
     wanted_by(alloc, &bytes)
 }
 
@@ -78,4 +81,14 @@ pub fn wanted_of<S: Source>(
         return read(alloc, input);
     }
     Ok(Wanted::Usage)
+}
+
+/// What is told of a bad line: `line L: REASON`.
+pub fn fault_text(alloc: Global, line: u32, why: u8) -> Result<Vec<u8>, OutOfMemory>
+    ensures { IfOk result (λ text. text.items ≡ fault_text line why) }
+{
+    let head = format!(in alloc; "line {line}: ")?;
+    let mut text = Vec::from_slice(alloc, head.as_bytes())?;
+    text.extend_from_slice(reason_text(why))?;
+    Ok(text)
 }

@@ -1,7 +1,10 @@
 //! Texts that are scenarios, and texts that are not.
+use sc_base::Op;
 use sc_cmd::Order;
 use sc_scenario::{ClientList, GroupList, Scenario, ScenarioFault, SchedLine, read_scenario};
+use sc_vectors::REFUSED;
 use std::alloc::Global;
+use std::mem::forget;
 use std::process::Abort;
 
 const ALL_LINES: &[u8] =
@@ -67,45 +70,78 @@ fn is_early_form_read(scenario: &Scenario) -> bool {
 #[test]
 fn the_early_form_is_read(rt: HostRuntime) {
     let scenario = read_scenario(rt.alloc(), ALL_LINES).expect(&rt, "a scenario");
-    assert!(rt; is_early_form_read(&scenario));
+    let is_read = is_early_form_read(&scenario);
+    forget(scenario);
+    assert!(rt; is_read);
 }
 
-fn is_refused(alloc: Global, text: &[u8]) -> bool {
+// The first bad line of a text and the number of its reason; zeros where the text is a scenario.
+fn fault_of(alloc: Global, text: &[u8]) -> (u32, u8) {
     match read_scenario(alloc, text) {
-        Ok(_) => false,
-        Err(fault) => fault == ScenarioFault::Bad { line: 0, why: 0 },
+        Ok(scenario) => {
+            forget(scenario);
+            (0, 0)
+        }
+        Err(ScenarioFault::Bad { line, why }) => (line, why),
+        Err(ScenarioFault::OutOfMemory) => (0, 255),
+    }
+}
+
+// A text with so many line feeds behind it.
+fn with_feeds(rt: &impl Abort, alloc: Global, text: &[u8], feeds: usize) -> Vec<u8> {
+    let mut whole = Vec::from_slice(alloc, text).expect(rt, "memory");
+    for _ in 0..feeds {
+        whole.push(b'\n').expect(rt, "memory");
+    }
+    whole
+}
+
+#[test]
+fn bad_texts_name_their_first_bad_line_and_its_lowest_reason(rt: HostRuntime) {
+    for (text, feeds, line, why) in REFUSED {
+        let whole = with_feeds(&rt, rt.alloc(), text, *feeds);
+        assert!(rt; fault_of(rt.alloc(), &whole) == (*line, *why));
+    }
+}
+
+// The same lines, with a comment, tabs, carriage returns, empty lines, and no line feed at the end.
+const LOOSE: &[u8] =
+    b" scatter\t1 \r\n# x\r\nnodes  3\n\n \t\r\ngroup 7 3 1\nclient 5\n\tput a x\nget a\ndel a\nend\n\
+        client 2\nend\ngo 5\ndeliver n3 1\ndrop c5 4294967295\nagain 9\ntick c2\ncrash 3\n\
+        order 3 join 2 0.1\n#\norder 1 leave 3 32.4294967295\nsettle 1000000\r";
+
+#[test]
+fn blanks_and_comments_change_nothing(rt: HostRuntime) {
+    let scenario = read_scenario(rt.alloc(), LOOSE).expect(&rt, "a scenario");
+    let is_read = is_early_form_read(&scenario);
+    forget(scenario);
+    assert!(rt; is_read);
+}
+
+const CONDITIONAL: &[u8] = b"scatter 2\nnodes 1\ngroup 0 1\nclient 1\nadd a x\ncas a x z\nend\n";
+
+fn is_add_and_cas(ops: &[Op]) -> bool {
+    match ops {
+        [Op::Add { .. }, Op::Cas { expect, value, .. }] => {
+            expect.bytes() == b"x".as_slice() && value.bytes() == b"z".as_slice()
+        }
+        _ => false,
+    }
+}
+
+fn has_conditional_writes(scenario: &Scenario) -> bool {
+    match scenario.clients.as_slice() {
+        [asks] => scenario.version == 2 && is_add_and_cas(asks.ops.as_slice()),
+        _ => false,
     }
 }
 
 #[test]
-fn other_texts_are_refused(rt: HostRuntime) {
-    let texts: [&[u8]; 22] = [
-        b"",
-        b"\n",
-        b"scatter 2\nnodes 1\ngroup 0 1\n",
-        b"scatter 1\nnodes 33\ngroup 0 1\n",
-        b"scatter 1\nnodes 1\ngroup 0\n",
-        b"scatter 1\nnodes 1\ngroup 4294967296 1\n",
-        b"scatter 1\nnodes 1\ngroup 0 2\n",
-        b"scatter 1\nnodes 2\ngroup 0 1 1\n",
-        b"scatter 1\nnodes 1\ngroup 0 1",
-        b"scatter 1\nnodes 1\ngroup 0 1\n\n",
-        b"scatter 1\nnodes 1\ngroup 0 1\nclient 1\nput a  x\nend\n",
-        b"scatter 1\nnodes 1\ngroup 0 1\nclient 1\n",
-        b"scatter 1\nnodes 1\ngroup 0 1\nclient 1\nend\nclient 1\nend\n",
-        b"scatter 1\nnodes 1\ngroup 0 1\nsettle 1\nclient 1\nend\n",
-        b"scatter 1\nnodes 1\ngroup 0 1\ntick n2\n",
-        b"scatter 1\nnodes 1\ngroup 0 1\ngo 1\n",
-        b"scatter 1\nnodes 1\ngroup 0 1\norder 2 join 1 0.1\n",
-        b"scatter 1\nnodes 1\ngroup 0 1\norder 1 join 2 0.1\n",
-        b"scatter 1\nnodes 1\ngroup 0 1\norder 1 join 1 33.1\n",
-        b"scatter 1\nnodes 1\ngroup 0 1\norder 1 join 1 0.0\n",
-        b"scatter 1\nnodes 1\ngroup 0 1\norder 1 join 1 0.1.1\n",
-        b"scatter 1\nnodes 1\ngroup 0 1\norder 1 merge 1 0.1\n",
-    ];
-    for text in texts {
-        assert!(rt; is_refused(rt.alloc(), text));
-    }
+fn version_two_has_conditional_writes(rt: HostRuntime) {
+    let scenario = read_scenario(rt.alloc(), CONDITIONAL).expect(&rt, "a scenario");
+    let is_read = has_conditional_writes(&scenario);
+    forget(scenario);
+    assert!(rt; is_read);
 }
 
 fn is_free_line(lines: &[SchedLine], counts: (u32, u32)) -> bool {
@@ -118,7 +154,9 @@ fn is_free_line(lines: &[SchedLine], counts: (u32, u32)) -> bool {
 // Whether a scenario's only line is a free one with so many deliveries and workers.
 fn is_free_read(rt: &impl Abort, alloc: Global, text: &[u8], counts: (u32, u32)) -> bool {
     let scenario = read_scenario(alloc, text).expect(rt, "a scenario");
-    is_free_line(scenario.lines.as_slice(), counts)
+    let is_read = is_free_line(scenario.lines.as_slice(), counts);
+    forget(scenario);
+    is_read
 }
 
 #[test]
@@ -129,24 +167,4 @@ fn free_lines_are_read(rt: HostRuntime) {
     assert!(rt; is_free_read(&rt, rt.alloc(), usual, (100, 4)));
     assert!(rt; is_free_read(&rt, rt.alloc(), least, (1, 1)));
     assert!(rt; is_free_read(&rt, rt.alloc(), most, (1_000_000, 16)));
-}
-
-#[test]
-fn other_free_lines_are_refused(rt: HostRuntime) {
-    let texts: [&[u8]; 11] = [
-        b"scatter 1\nnodes 1\ngroup 0 1\nfree 0 4\n",
-        b"scatter 1\nnodes 1\ngroup 0 1\nfree 100 0\n",
-        b"scatter 1\nnodes 1\ngroup 0 1\nfree 100 17\n",
-        b"scatter 1\nnodes 1\ngroup 0 1\nfree 1000001 4\n",
-        b"scatter 1\nnodes 1\ngroup 0 1\nfree 100\n",
-        b"scatter 1\nnodes 1\ngroup 0 1\nfree 100 4 4\n",
-        b"scatter 1\nnodes 1\ngroup 0 1\nfree  100 4\n",
-        b"scatter 1\nnodes 1\ngroup 0 1\nfree 0100 4\n",
-        b"scatter 1\nnodes 1\ngroup 0 1\nfree 100 04\n",
-        b"scatter 1\nnodes 1\ngroup 0 1\nfree 100 +4\n",
-        b"scatter 1\nnodes 1\ngroup 0 1\nFree 100 4\n",
-    ];
-    for text in texts {
-        assert!(rt; is_refused(rt.alloc(), text));
-    }
 }

@@ -16,7 +16,7 @@ pub if_ok : {T E : Type 0} (r : Result T E) (P Q : T → Type 0) → IfOk r P �
 if_ok (Ok x) P Q h f = f x h
 if_ok (Err e) P Q h f = h
 
-of_source : (left : Option (List ℕ)) (before now : ℕ) (scenario : Scenario) (said : Said) (text : Text) → IsValid scenario → ReadsAs left (Some scenario) → ReportsAs said scenario text → Reads left before now said text
+of_source : (left : Option (List ℕ)) (before now : ℕ) (scenario : Scenario) (said : Said) (text : Text) → IsValid scenario → ReadsAs left (Ok scenario) → ReportsAs said scenario text → Reads left before now said text
 of_source left before now scenario Ended text valid read reports = record { scenario = scenario; valid = valid; read = read; reports = reports }
 of_source left before now scenario Unsettled text valid read reports = record { scenario = scenario; valid = valid; read = read; reports = reports }
 of_source left before now scenario Filled text valid read reports = record { scenario = scenario; valid = valid; read = read; reports = reports }

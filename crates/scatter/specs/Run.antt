@@ -1,5 +1,5 @@
 -- What a run says and prints, and why.
-use Rattle.std.specs.Prelude.{◌≡◌, ◌⊎◌, ◌≤◌, ◌^◌, ℕ, List, [], ◌∷◌, ◌++◌, length, Bool, true, false, Option, None, Some, codes}
+use Rattle.std.specs.Prelude.{◌≡◌, ◌⊎◌, ◌≤◌, ◌^◌, ℕ, List, [], ◌∷◌, ◌++◌, length, Bool, true, false, Option, None, Some, Result, Ok, Err, codes}
 use Rattle.std.specs.Fmt.{decimal}
 use Rattle.sc_edges.specs.Causes.{Rose}
 use Rattle.sc_cmd.specs.declared.orders.OrderLine.{OrderLine}
@@ -8,6 +8,7 @@ use Rattle.sc_actor.specs.declared.rows.Row.{Row}
 use Rattle.sc_actor.specs.Walk.{unsettled}
 use Rattle.sc_scenario.specs.Valid.{IsValid}
 use Rattle.sc_actor.specs.Counted.{journal_bytes}
+use Rattle.sc_scenario.specs.declared.reading.ScenarioFault.TheVariants.{Bad}
 use Rattle.sc_scenario.specs.declared.scenarios.Scenario.{Scenario}
 use Rattle.sc_report.specs.Report.{report_lines}
 use Rattle.sc_players.specs.Players.{system_of, schedule, Lawful, Whole, parties, as_nodes}
@@ -17,7 +18,7 @@ use Rattle.scatter.specs.Played.{mail_weight, HasFilled}
 use Rattle.scatter.specs.declared.done.Text.{Text}
 use Rattle.scatter.specs.declared.done.Done.{Done}
 use Rattle.sc_statuses.specs.Causes.{Prints}
-use Rattle.sc_statuses.specs.Wants.{is_run, ReadsAs}
+use Rattle.sc_statuses.specs.Wants.{is_run, fault_text, ReadsAs}
 use Rattle.sc_statuses.specs.declared.said.Said.{Said}
 use Rattle.sc_statuses.specs.declared.said.Said.TheVariants.{Ended, Unsettled, Filled, Usage, BadScenario, ReadFault}
 use Rattle.sc_actor.specs.System.{no_words}
@@ -79,8 +80,15 @@ ReportsAs _ scenario text = ⊥
 pub record ReadsAndPlays (left : Option (List ℕ)) (said : Said) (text : Text) : Type 0 where
   pub scenario : Scenario
   pub valid : IsValid scenario
-  pub read : ReadsAs left (Some scenario)
+  pub read : ReadsAs left (Ok scenario)
   pub reports : ReportsAs said scenario text
+
+-- the text names the first bad line of what was read, and its reason
+pub record ReadsAndRefuses (left : Option (List ℕ)) (text : Text) : Type 0 where
+  pub line : ℕ
+  pub why : ℕ
+  pub read : ReadsAs left (Err (Bad line why))
+  pub tells : Tells (fault_text line why) text
 
 -- What a text says that was begun after the word `run`, and its cause: the bytes that the source had left, and its count of faults before and after.
 abbrev pub Reads : Option (List ℕ) → ℕ → ℕ → Said → Text → Type 0
@@ -88,7 +96,7 @@ Reads left before now Ended text = ReadsAndPlays left Ended text
 Reads left before now Unsettled text = ReadsAndPlays left Unsettled text
 Reads left before now Filled text = ReadsAndPlays left Filled text
 Reads left before now Usage text = ⊥
-Reads left before now BadScenario text = ReadsAs left None × Tells (codes "line 0: bad scenario") text
+Reads left before now BadScenario text = ReadsAndRefuses left text
 Reads left before now ReadFault text = Rose before now × Tells (codes "read fault") text
 
 -- the same for any words

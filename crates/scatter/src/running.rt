@@ -9,7 +9,7 @@ use crate::telling::tells;
 use sc_actor::Gate;
 use sc_base::{OutOfMemory, Sequence};
 use sc_edges::{Sink, Source};
-use sc_statuses::{Said, Wanted, print, wanted_of};
+use sc_statuses::{Said, Wanted, fault_text, print, wanted_of};
 use std::alloc::Global;
 use std::sync::Wait;
 use std::thread::Threads;
@@ -35,8 +35,9 @@ fn say<S: Source, G: Gate, R: Threads + Wait + Sync>(
             let text = tells(alloc, b"read fault")?;
             Ok((Said::ReadFault, text))
         }
-        Wanted::BadScenario => {
-            let text = tells(alloc, b"line 0: bad scenario")?;
+        Wanted::BadScenario { line, why } => {
+            let message = fault_text(alloc, line, why)?;
+            let text = tells(alloc, message.as_slice())?;
             Ok((Said::BadScenario, text))
         }
         Wanted::Run(scenario) => report(rt, alloc, &scenario, gate),

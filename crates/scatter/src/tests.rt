@@ -33,6 +33,44 @@ const CUT_SHORT_REPORT: &[u8] =
     b"scatter report 1\nunanswered 1 1 put\nunsent 1 2 get\nring 0 group 0.1 members 1\nrows 2\n\
         mail 2\ndelivered 1\nskipped 0\nquiet no\n";
 
+/// The same put and get with other blanks, carriage returns and a comment.
+const LOOSE: &[u8] = b"scatter 1\r\n# x\r\n\tnodes\t1\r\n\tgroup\t0\t1\r\n\tclient\t1\r\n\
+        \tput\ta\tx\r\n\tget\ta\r\n\tend\r\n\tgo\t1\r\n\tsettle\t100\r\n";
+
+const CONDITIONAL: &[u8] =
+    b"scatter 2\nnodes 1\ngroup 0 1\nclient 1\nadd a x\nadd a y\ncas a x z\ncas a x w\n\
+        cas b x w\nget a\nend\ngo 1\nsettle 100\n";
+
+const CONDITIONAL_REPORT: &[u8] =
+    b"scatter report 2\nreply 1 1 add none\nreply 1 2 add value x\nreply 1 3 cas value x\n\
+        reply 1 4 cas value z\nreply 1 5 cas none\nreply 1 6 get value z\n\
+        ring 0 group 0.1 members 1\nrows 25\nmail 24\ndelivered 24\nskipped 0\nquiet yes\n";
+
+const LONGEST: &[u8] = b"scatter 1\nnodes 1\ngroup 0 1\nclient 1\n\
+        put kkkkkkkkkkkkkkkkkkkkkkkkkkkkkkkkkkkkkkkkkkkkkkkkkkkkkkkkkkkkkkkk \
+        vvvvvvvvvvvvvvvvvvvvvvvvvvvvvvvvvvvvvvvvvvvvvvvvvvvvvvvvvvvvvvvv\
+        vvvvvvvvvvvvvvvvvvvvvvvvvvvvvvvvvvvvvvvvvvvvvvvvvvvvvvvvvvvvvvvv\
+        vvvvvvvvvvvvvvvvvvvvvvvvvvvvvvvvvvvvvvvvvvvvvvvvvvvvvvvvvvvvvvvv\
+        vvvvvvvvvvvvvvvvvvvvvvvvvvvvvvvvvvvvvvvvvvvvvvvvvvvvvvvvvvvvvvvv\n\
+        get kkkkkkkkkkkkkkkkkkkkkkkkkkkkkkkkkkkkkkkkkkkkkkkkkkkkkkkkkkkkkkkk\nend\n\
+        go 1\nsettle 100\n";
+
+const LONGEST_REPORT: &[u8] = b"scatter report 1\nreply 1 1 put none\nreply 1 2 get value \
+        vvvvvvvvvvvvvvvvvvvvvvvvvvvvvvvvvvvvvvvvvvvvvvvvvvvvvvvvvvvvvvvv\
+        vvvvvvvvvvvvvvvvvvvvvvvvvvvvvvvvvvvvvvvvvvvvvvvvvvvvvvvvvvvvvvvv\
+        vvvvvvvvvvvvvvvvvvvvvvvvvvvvvvvvvvvvvvvvvvvvvvvvvvvvvvvvvvvvvvvv\
+        vvvvvvvvvvvvvvvvvvvvvvvvvvvvvvvvvvvvvvvvvvvvvvvvvvvvvvvvvvvvvvvv\n\
+        ring 0 group 0.1 members 1\n\
+        rows 9\nmail 8\ndelivered 8\nskipped 0\nquiet yes\n";
+
+const UNENDED: &[u8] = b"scatter 1\nnodes 1\ngroup 0 1\nclient 1\nput a x\n";
+
+const CAS_IN_VERSION_ONE: &[u8] =
+    b"scatter 1\nnodes 1\ngroup 0 1\nclient 1\ncas a x z\nget a\nend\ngo 1\nsettle 100\n";
+
+const VERSION_THREE: &[u8] =
+    b"scatter 3\nnodes 1\ngroup 0 1\nclient 1\nput a x\nget a\nend\ngo 1\nsettle 100\n";
+
 // The words of a text, or none where it is empty.
 fn words_of(rt: &impl Abort, alloc: Global, text: &str) -> Vec<String> {
     let mut words = Vec::new(alloc);
@@ -83,7 +121,22 @@ const CASES: &[Case] = &[
     (("run", FIRST, 0, 2), (5, true, b"scatter report 1\n")),
     (("run", FIRST, 1, 0), (4, false, b"read fault\n")),
     (("make 0 7", FIRST, 0, 0), (2, false, USAGE)),
-    (("run", b"", 0, 0), (3, false, b"line 0: bad scenario\n")),
+    (("run", b"", 0, 0), (3, false, b"line 1: missing header\n")),
+    (("run", LOOSE, 0, 0), (0, true, FIRST_REPORT)),
+    (("run", CONDITIONAL, 0, 0), (0, true, CONDITIONAL_REPORT)),
+    (("run", LONGEST, 0, 0), (0, true, LONGEST_REPORT)),
+    (
+        ("run", UNENDED, 0, 0),
+        (3, false, b"line 6: unended client\n"),
+    ),
+    (
+        ("run", CAS_IN_VERSION_ONE, 0, 0),
+        (3, false, b"line 5: unknown word\n"),
+    ),
+    (
+        ("run", VERSION_THREE, 0, 0),
+        (3, false, b"line 1: missing header\n"),
+    ),
     (("", FIRST, 0, 0), (2, false, USAGE)),
 ];
 

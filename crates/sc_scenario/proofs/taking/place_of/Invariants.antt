@@ -1,6 +1,6 @@
 use Rattle.std.proofs.Common.{◌≡◌, ◌+◌, drop}
-use Rattle.sc_scenario.specs.Early.{client_place}
-use Rattle.sc_scenario.proofs.reading.place_of.Given as goal
+use Rattle.sc_scenario.specs.Taking.{client_place}
+use Rattle.sc_scenario.proofs.taking.place_of.Given as goal
 
 -- none of the clients so far has a greater number
 abbrev pub invariant-loop-i : goal.invariant-loop-i

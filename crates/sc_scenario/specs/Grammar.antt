@@ -1,0 +1,124 @@
+-- Which texts are a scenario, which scenario, and else the first bad line and its reason.
+use Rattle.std.specs.Prelude.{ℕ, ◌+◌, ◌==◌, ◌&&◌, ◌||◌, not, nat_lt, Bool, true, false, List, [], ◌∷◌, length, codes, Option, Some, None, Result, Ok, Err, if◌then◌else◌, option_and_then, ◌≡◌, ◌⊎◌, MatchResult}
+use Rattle.std.specs.Result.{result_ok}
+use Rattle.sc_scenario.specs.Reasons.{reason_code, given, then_on}
+use Rattle.sc_scenario.specs.Words.{same, nth, words_of}
+use Rattle.sc_scenario.specs.Lines.{most_lines, is_too_long, lines_of, trimmed, is_skipped, has_bad_byte}
+use Rattle.sc_scenario.specs.Kinds.{kind_of, has_count}
+use Rattle.sc_scenario.specs.Groups.{bases_of}
+use Rattle.sc_scenario.specs.Statements.{statement_in}
+use Rattle.sc_scenario.specs.Places.{is_built, is_in_place}
+use Rattle.sc_scenario.specs.Taking.{taken_outside, taken_within}
+use Rattle.sc_scenario.specs.declared.reasons.Reason.{Reason}
+use Rattle.sc_scenario.specs.declared.reasons.Reason.TheVariants.{MissingHeader, BadByte, UnknownWord, OutOfPlace, WrongCount, UnendedClient, MissingPart, TooLarge}
+use Rattle.sc_scenario.specs.declared.kinds.Kind.{Kind}
+use Rattle.sc_scenario.specs.declared.statements.Statement.{Statement}
+use Rattle.sc_scenario.specs.declared.drafts.Draft.{Draft}
+use Rattle.sc_scenario.specs.declared.drafts.Reading.{Reading}
+use Rattle.sc_scenario.specs.declared.drafts.Reading.TheVariants.{Fresh, Outside, Within}
+use Rattle.sc_scenario.specs.declared.scenarios.Scenario.{Scenario}
+use Rattle.sc_scenario.specs.declared.reading.ScenarioFault.{ScenarioFault}
+use Rattle.sc_scenario.specs.declared.reading.ScenarioFault.TheVariants.{Bad, OutOfMemory}
+
+-- ---- one line
+
+-- nothing is read yet but the header
+abbrev pub begun : ℕ → Reading
+begun version = Outside (record { version = version; nodes = 0; groups = []; policy = false; clients = []; lines = []; orders = 0 })
+
+-- whether a line has these two words
+abbrev pub are_two : List (List ℕ) → List ℕ → List ℕ → Bool
+are_two words one other = (length words == 2) && same (nth words 0) one && same (nth words 1) other
+
+-- line 1 is `scatter 1` or `scatter 2`
+abbrev pub header_read : List (List ℕ) → Result Reading Reason
+header_read words =
+    if are_two words (codes "scatter") (codes "1") then Ok (begun 1)
+    else if are_two words (codes "scatter") (codes "2") then Ok (begun 2)
+    else Err MissingHeader
+
+-- what a line of a kind that may stand here says
+abbrev pub said : Bool → Kind → List (List ℕ) → Result Statement Reason
+said in_place kind words =
+    if not in_place then Err OutOfPlace
+    else if not (has_count kind (length words)) then Err WrongCount
+    else statement_in kind words
+
+-- a kind that is not built is as good as unknown
+abbrev pub built_kind : Draft → List (List ℕ) → Option Kind
+built_kind draft words = option_and_then (λ kind. if is_built draft kind then Some kind else None) (kind_of draft.version words)
+
+-- what the words of a line say behind what was read
+abbrev pub words_read : Reading → List (List ℕ) → Result Reading Reason
+words_read Fresh words = header_read words
+words_read (Outside draft) words =
+    given (built_kind draft words) UnknownWord (λ kind. then_on (said (is_in_place (Outside draft) kind) kind words) (taken_outside draft))
+words_read (Within draft asks) words =
+    given (built_kind draft words) UnknownWord (λ kind. then_on (said (is_in_place (Within draft asks) kind) kind words) (taken_within draft asks))
+
+-- whether nothing is read yet
+abbrev pub is_fresh : Reading → Bool
+is_fresh Fresh = true
+is_fresh (Outside draft) = false
+is_fresh (Within draft asks) = false
+
+-- what is read after one more line, or the reason why it is bad; comments and lines without words stand from line 2 on
+abbrev pub line_read : Reading → List ℕ → Result Reading Reason
+line_read reading line =
+    if not (is_fresh reading) && is_skipped line then Ok reading
+    else if not (is_fresh reading) && has_bad_byte line then Err BadByte
+    else words_read reading (words_of line)
+
+-- ---- all lines
+
+-- a bad line, by its number
+abbrev pub bad : ℕ → Reason → Result Scenario ScenarioFault
+bad number reason = Err (Bad number (reason_code reason))
+
+-- the scenario of what was read
+abbrev pub scenario_by : Draft → Scenario
+scenario_by draft = record {
+  nodes = draft.nodes;
+  groups = bases_of draft.groups;
+  policy = draft.policy;
+  clients = draft.clients;
+  lines = draft.lines;
+  brief = false;
+  version = draft.version;
+}
+
+-- behind the last line, which would have this number: a header, nodes, a group, and no open section
+abbrev pub reading_ended : ℕ → Reading → Result Scenario ScenarioFault
+reading_ended number Fresh = bad number MissingHeader
+reading_ended number (Within draft asks) = bad number UnendedClient
+reading_ended number (Outside draft) =
+    if (draft.nodes == 0) || (length draft.groups == 0) then bad number MissingPart else Ok (scenario_by draft)
+
+-- the end of a text: of one with too many bytes, the line of the first byte too many
+abbrev pub text_ended : Bool → ℕ → Reading → Result Scenario ScenarioFault
+text_ended true number reading = bad number TooLarge
+text_ended false number reading = reading_ended number reading
+
+-- what goes on with a good line; a bad one ends it
+abbrev pub going_on : ℕ → (Reading → Result Scenario ScenarioFault) → Result Reading Reason → Result Scenario ScenarioFault
+going_on number onward (Ok more) = onward more
+going_on number onward (Err reason) = bad number reason
+
+-- line by line, of which the first has this number: the first bad one counts
+abbrev pub lines_read : Bool → ℕ → Reading → List (List ℕ) → Result Scenario ScenarioFault
+lines_read is_long number reading [] = text_ended is_long number reading
+lines_read is_long number reading (line ∷ lines) =
+    if nat_lt most_lines number then bad number TooLarge
+    else going_on number (λ more. lines_read is_long (number + 1) more lines) (line_read reading (trimmed line))
+
+-- the scenario of a text, or the first bad line
+abbrev pub verdict_of : List ℕ → Result Scenario ScenarioFault
+verdict_of text = lines_read (is_too_long text) 1 Fresh (lines_of text)
+
+-- what a call answers of a text: its scenario, or its fault; or it wants memory
+abbrev pub HasVerdict : Result Scenario ScenarioFault → Result Scenario ScenarioFault → Type 0
+HasVerdict verdict result = MatchResult result (λ scenario. verdict ≡ Ok scenario) (λ fault. (fault ≡ OutOfMemory) ⊎ (verdict ≡ Err fault))
+
+-- the scenario of a text, if it is one
+abbrev pub scenario_of : List ℕ → Option Scenario
+scenario_of text = result_ok (verdict_of text)

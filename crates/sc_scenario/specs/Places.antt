@@ -1,0 +1,72 @@
+-- Where a line of a kind may stand, and which kinds are built.
+use Rattle.std.specs.Prelude.{ℕ, ◌==◌, ◌&&◌, ◌||◌, not, nat_le, nat_lt, Bool, true, false, List, length, if◌then◌else◌}
+use Rattle.sc_scenario.specs.Kinds.{phase_of, is_inner}
+use Rattle.sc_scenario.specs.declared.drafts.Draft.{Draft}
+use Rattle.sc_scenario.specs.declared.drafts.Reading.{Reading}
+use Rattle.sc_scenario.specs.declared.drafts.Reading.TheVariants.{Fresh, Outside, Within}
+use Rattle.sc_scenario.specs.declared.kinds.Kind.{Kind}
+use Rattle.sc_scenario.specs.declared.kinds.Kind.TheVariants.{Header, Nodes, Group, Policy, Client, End, Asking, Playing, Telling}
+use Rattle.sc_scenario.specs.declared.kinds.LineKind.{LineKind}
+use Rattle.sc_scenario.specs.declared.kinds.LineKind.TheVariants as line
+use Rattle.sc_scenario.specs.declared.kinds.OrderKind.{OrderKind}
+use Rattle.sc_scenario.specs.declared.kinds.OrderKind.TheVariants as order
+
+-- ---- what is built
+
+-- lines of the schedule that are built: all but storms
+abbrev pub is_line_built : LineKind → Bool
+is_line_built line.Go = true
+is_line_built line.Deliver = true
+is_line_built line.Drop = true
+is_line_built line.Again = true
+is_line_built line.Tick = true
+is_line_built line.Crash = true
+is_line_built line.Settle = true
+is_line_built line.Free = true
+is_line_built line.Storm = false
+
+-- orders that are built: a node joins and leaves
+abbrev pub is_order_built : OrderKind → Bool
+is_order_built order.Join = true
+is_order_built order.Leave = true
+is_order_built order.Split = false
+is_order_built order.Merge = false
+is_order_built order.Repart = false
+is_order_built order.Migrate = false
+is_order_built order.Short = true
+
+-- kinds of lines that are built: of groups one, and no policy
+abbrev pub is_built : Draft → Kind → Bool
+is_built draft Header = true
+is_built draft Nodes = true
+is_built draft Group = length draft.groups == 0
+is_built draft Policy = false
+is_built draft Client = true
+is_built draft End = true
+is_built draft (Asking kind) = true
+is_built draft (Playing kind) = is_line_built kind
+is_built draft (Telling kind) = is_order_built kind
+
+-- ---- where a line may stand
+
+-- the phase of the last line that was read
+abbrev pub phase_so_far : Draft → ℕ
+phase_so_far draft =
+    if not (length draft.lines == 0) then 5
+    else if not (length draft.clients == 0) then 4
+    else if draft.policy then 3
+    else if not (length draft.groups == 0) then 2
+    else if not (draft.nodes == 0) then 1
+    else 0
+
+-- phases never go back; nodes and policy stand once; groups need nodes, and what comes later a group
+abbrev pub may_follow : ℕ → ℕ → Bool
+may_follow last phase =
+    nat_le last phase && not (phase == 0) && not ((last == 1) && (phase == 1)) && not ((last == 3) && (phase == 3))
+    && (nat_lt phase 2 || nat_le 1 last) && (nat_lt phase 3 || nat_le 2 last)
+
+-- requests and `end` stand inside a section, all others outside
+abbrev pub is_in_place : Reading → Kind → Bool
+is_in_place Fresh kind = false
+is_in_place (Outside draft) kind = not (is_inner kind) && may_follow (phase_so_far draft) (phase_of kind)
+is_in_place (Within draft asks) kind = is_inner kind

@@ -1,0 +1,75 @@
+//! Where a line of a kind may stand, and which kinds are built.
+ghost use Rattle.std.specs.Prelude.{◌≡◌};
+ghost use Rattle.sc_scenario.specs.Places.{is_line_built, is_order_built, is_built, phase_so_far, may_follow, is_in_place};
+ghost use Rattle.sc_scenario.specs.declared.drafts.Reading.TheVariants.{Outside};
+
+use crate::drafts::Draft;
+use crate::kinds::{Kind, LineKind, OrderKind, is_inner, phase_of};
+
+fn is_line_built(kind: LineKind) -> bool
+    ensures { result ≡ is_line_built kind }
+{
+    match kind {
+        LineKind::Go | LineKind::Deliver | LineKind::Drop | LineKind::Again => true,
+        LineKind::Tick | LineKind::Crash | LineKind::Settle | LineKind::Free => true,
+        LineKind::Storm => false,
+    }
+}
+
+fn is_order_built(kind: OrderKind) -> bool
+    ensures { result ≡ is_order_built kind }
+{
+    match kind {
+        OrderKind::Join | OrderKind::Leave | OrderKind::Short => true,
+        OrderKind::Split | OrderKind::Merge | OrderKind::Repart | OrderKind::Migrate => false,
+    }
+}
+
+/// Whether a line of this kind is built, behind what was read so far.
+pub fn is_built(draft: &Draft, kind: Kind) -> bool
+    ensures { result ≡ is_built draft.now kind }
+{
+    match kind {
+        Kind::Header | Kind::Nodes | Kind::Client | Kind::End | Kind::Asking(_) => true,
+        Kind::Group => draft.groups.len() == 0,
+        Kind::Policy => false,
+        Kind::Playing(kind) => is_line_built(kind),
+        Kind::Telling(kind) => is_order_built(kind),
+    }
+}
+
+fn phase_so_far(draft: &Draft) -> u8
+    ensures { result ≡ phase_so_far draft.now }
+{
+    if draft.lines.len() != 0 {
+        5
+    } else if draft.clients.len() != 0 {
+        4
+    } else if draft.policy {
+        3
+    } else if draft.groups.len() != 0 {
+        2
+    } else if draft.nodes != 0 {
+        1
+    } else {
+        0
+    }
+}
+
+fn may_follow(last: u8, phase: u8) -> bool
+    ensures { result ≡ may_follow last phase }
+{
+    last <= phase
+        && phase != 0
+        && !(last == 1 && phase == 1)
+        && !(last == 3 && phase == 3)
+        && (phase < 2 || 1 <= last)
+        && (phase < 3 || 2 <= last)
+}
+
+/// Whether a line of this kind may stand outside the sections, behind what was read so far.
+pub fn may_stand(draft: &Draft, kind: Kind) -> bool
+    ensures { result ≡ is_in_place (Outside draft.now) kind }
+{
+    !is_inner(kind) && may_follow(phase_so_far(draft), phase_of(kind))
+}
