@@ -2,8 +2,10 @@
 use crate::starts::{BEFORE, LAST, TX, frozen, offer, watch};
 use sc_base::{Draw, Key, Op, Pairs, SeenList, Value};
 use sc_cmd::{Body, Command, Effect, Gift, No, Outcome, Past, Route, Vote};
+use sc_machine::Machine;
 use sc_member::Members;
 use std::alloc::Global;
+use std::mem::forget;
 use std::process::Abort;
 
 // What comes to the group.
@@ -120,7 +122,9 @@ pub(crate) fn command(rt: &impl Abort, alloc: Global, ask: Ask) -> Command {
 // An effect in brief.
 #[derive(Clone, Copy, Debug, PartialEq)]
 pub(crate) enum Was {
+    // Done, and the key had no value; and where it had one.
     Done,
+    Found,
     Again,
     Stale,
     NotMine,
@@ -165,9 +169,13 @@ fn decided(outcome: &Outcome) -> Was {
     }
 }
 
-pub(crate) fn brief(effect: &Effect) -> Was {
+fn brief(effect: &Effect) -> Was {
     match effect {
-        Effect::Done(_) => Was::Done,
+        Effect::Done(reply) => if reply.old.is_some() {
+            Was::Found
+        } else {
+            Was::Done
+        },
         Effect::Again(_) => Was::Again,
         Effect::Stale { .. } => Was::Stale,
         Effect::NotMine { .. } => Was::NotMine,
@@ -179,4 +187,13 @@ pub(crate) fn brief(effect: &Effect) -> Was {
         Effect::Decided(outcome) => decided(outcome),
         Effect::Refused(why) => Was::Refused(why.code()),
     }
+}
+
+// What a command comes to, in brief.
+pub(crate) fn applied(rt: &impl Abort, machine: &mut Machine, command: Command) -> Was {
+    let effect = machine.apply(&command).expect(rt, "memory");
+    let was = brief(&effect);
+    forget(effect);
+    forget(command);
+    was
 }

@@ -1,14 +1,16 @@
 //! Each line of the group machine's table with its effect.
-use crate::asks::{Ask, End, Was, brief, command};
+use crate::asks::{Ask, End, Was, applied, command};
 use crate::starts::{B, BEFORE, D, GROUP, LAST, NEXT, OTHER, Start, TX, machine};
 use sc_cmd::{Body, No, Past};
 use std::alloc::Global;
+use std::mem::forget;
 use std::process::Abort;
 
 fn was(rt: &impl Abort, alloc: Global, start: Start, ask: Ask) -> Was {
     let mut machine = machine(rt, alloc, start);
-    let command = command(rt, alloc, ask);
-    brief(&machine.apply(&command).expect(rt, "memory"))
+    let was = applied(rt, &mut machine, command(rt, alloc, ask));
+    forget(machine);
+    was
 }
 
 // A command that comes to a group which starts so, and its effect.
@@ -16,7 +18,7 @@ type Line = (Start, Ask, Was);
 
 fn all_are(rt: &impl Abort, alloc: Global, lines: &[Line]) {
     for (start, ask, effect) in lines {
-        assert_eq!(rt; was(rt, alloc, *start, *ask), *effect);
+        assert!(rt; was(rt, alloc, *start, *ask) == *effect);
     }
 }
 
@@ -329,7 +331,11 @@ fn makes(rt: &impl Abort, alloc: Global, start: Start, ask: Ask) -> bool {
     let machine = machine(rt, alloc, start);
     let command = command(rt, alloc, ask);
     let child = machine.child_by(&command).expect(rt, "memory");
-    child.is_some()
+    let is_made = child.is_some();
+    forget(child);
+    forget(command);
+    forget(machine);
+    is_made
 }
 
 const CHILDREN: &[(Start, Ask, bool)] = &[
@@ -346,6 +352,6 @@ const CHILDREN: &[(Start, Ask, bool)] = &[
 #[test]
 fn children(rt: HostRuntime) {
     for (start, ask, child) in CHILDREN {
-        assert_eq!(rt; makes(&rt, rt.alloc(), *start, *ask), *child);
+        assert!(rt; makes(&rt, rt.alloc(), *start, *ask) == *child);
     }
 }
