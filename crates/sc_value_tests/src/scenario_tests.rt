@@ -2,6 +2,7 @@
 use sc_cmd::Order;
 use sc_scenario::{ClientList, GroupList, Scenario, ScenarioFault, SchedLine, read_scenario};
 use std::alloc::Global;
+use std::mem::forget;
 use std::process::Abort;
 
 const ALL_LINES: &[u8] =
@@ -67,12 +68,17 @@ fn is_early_form_read(scenario: &Scenario) -> bool {
 #[test]
 fn the_early_form_is_read(rt: HostRuntime) {
     let scenario = read_scenario(rt.alloc(), ALL_LINES).expect(&rt, "a scenario");
-    assert!(rt; is_early_form_read(&scenario));
+    let is_read = is_early_form_read(&scenario);
+    forget(scenario);
+    assert!(rt; is_read);
 }
 
 fn is_refused(alloc: Global, text: &[u8]) -> bool {
     match read_scenario(alloc, text) {
-        Ok(_) => false,
+        Ok(scenario) => {
+            forget(scenario);
+            false
+        }
         Err(fault) => fault == ScenarioFault::Bad { line: 0, why: 0 },
     }
 }
@@ -118,7 +124,9 @@ fn is_free_line(lines: &[SchedLine], counts: (u32, u32)) -> bool {
 // Whether a scenario's only line is a free one with so many deliveries and workers.
 fn is_free_read(rt: &impl Abort, alloc: Global, text: &[u8], counts: (u32, u32)) -> bool {
     let scenario = read_scenario(alloc, text).expect(rt, "a scenario");
-    is_free_line(scenario.lines.as_slice(), counts)
+    let is_read = is_free_line(scenario.lines.as_slice(), counts);
+    forget(scenario);
+    is_read
 }
 
 #[test]

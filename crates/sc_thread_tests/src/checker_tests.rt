@@ -1,42 +1,13 @@
 //! Journals of toy actors, each of which sends one note at each input while it has turns left.
 ghost use Rattle.std.specs.Prelude.{[], ◌∷◌, ◌-◌, ◌==◌, if◌then◌else◌};
 
-use sc_actor::{
-    Actor, Event, Input, Journal, Line, Parcel, Row, Seat, are_apart, are_few, have_one_task,
-};
-use sc_base::{Dup, OutOfMemory, Same, Sequence};
+use crate::notes::Note;
+use sc_actor::{Actor, Event, Input, Journal, Line, Row, Seat, are_apart, are_few, have_one_task};
+use sc_base::{OutOfMemory, Sequence};
 use sc_checker::{Replayed, is_lawful, pending_of, replay};
 use std::alloc::Global;
+use std::mem::forget;
 use std::process::Abort;
-
-#[derive(PartialEq, Eq, Drop)]
-struct Note {
-    to: u32,
-    size: u64,
-}
-
-impl Dup for Note {
-    fn dup(&self, _alloc: Global) -> Result<Note, OutOfMemory> {
-        Ok(Note {
-            to: self.to,
-            size: self.size,
-        })
-    }
-}
-
-impl Parcel for Note {
-    ghost receiver = { λ note. note.to };
-
-    ghost weighs = { λ note. note.size };
-
-    fn to(&self) -> u32 {
-        self.to
-    }
-
-    fn weight(&self) -> u64 {
-        self.size
-    }
-}
 
 #[derive(Drop)]
 struct Relay {
@@ -70,12 +41,6 @@ impl Actor for Relay {
             })?;
         }
         Ok(sent)
-    }
-}
-
-impl Same for Note {
-    fn is_same(&self, other: &Note) -> bool {
-        self == other
     }
 }
 
@@ -150,7 +115,9 @@ fn lawful(rt: &impl Abort, alloc: Global, lines: &[Line<u32>], acts: &[Act]) -> 
     let rows = journal(rt, alloc, acts);
     let seats = pair(rt, alloc);
     assert!(rt; have_one_task(lines) && are_apart(&seats) && are_few(rows.as_slice()));
-    is_lawful(alloc, seats, lines, rows.as_slice()).expect(rt, "memory")
+    let is_lawful = is_lawful(alloc, seats, lines, rows.as_slice()).expect(rt, "memory");
+    forget(rows);
+    is_lawful
 }
 
 // How many first parts of rows are lawful, all of them among these.
@@ -192,6 +159,14 @@ fn is_left(left: &Replayed<Relay>, wanted: Left) -> bool {
     }
 }
 
+fn is_told(left: &Option<Replayed<Relay>>, wanted: Option<Left>) -> bool {
+    match (left, wanted) {
+        (Some(left), Some(wanted)) => is_left(left, wanted),
+        (None, None) => true,
+        _ => false,
+    }
+}
+
 // Whether rows leave this, or are not lawful where nothing is wanted.
 fn leave(
     rt: &impl Abort,
@@ -203,13 +178,11 @@ fn leave(
     let rows = journal(rt, alloc, acts);
     let seats = pair(rt, alloc);
     assert!(rt; have_one_task(lines) && are_apart(&seats) && are_few(rows.as_slice()));
-    match replay(alloc, seats, lines, rows.as_slice()).expect(rt, "memory") {
-        Some(left) => match wanted {
-            Some(wanted) => is_left(&left, wanted),
-            None => false,
-        },
-        None => wanted.is_none(),
-    }
+    let left = replay(alloc, seats, lines, rows.as_slice()).expect(rt, "memory");
+    let is_so = is_told(&left, wanted);
+    forget(left);
+    forget(rows);
+    is_so
 }
 
 // Whether the mail that rows leave pending has these numbers.
@@ -224,7 +197,11 @@ fn leave_pending(
     let seats = pair(rt, alloc);
     assert!(rt; are_few(rows.as_slice()));
     let found = pending_of(alloc, &seats, rows.as_slice(), whose).expect(rt, "memory");
-    found.as_slice() == wanted
+    let is_so = found.as_slice() == wanted;
+    forget(found);
+    forget(seats);
+    forget(rows);
+    is_so
 }
 
 // Actor 1 goes, and all mail is delivered.
