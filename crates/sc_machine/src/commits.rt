@@ -9,6 +9,7 @@ ghost use Rattle.sc_machine_table.specs.Transactions.{committed, decided};
 use crate::machine::Machine;
 use sc_base::{Boxed, Draw, OutOfMemory, Pairs, RingArc, SeenList};
 use sc_cmd::{Core, Effect, Frozen, Gift, Link, Outcome, Route};
+use sc_machine_choices::take_over;
 use sc_migrate::{can_migrate, plan_migrate};
 use sc_repart::{can_repart, plan_repart};
 use sc_split_merge::{can_merge, can_split, plan_merge};
@@ -54,8 +55,7 @@ impl Machine {
             (self.new
             ≡ enriched self.old core (record { pairs = pairs.now; clients = clients.now })) }
     {
-        self.store.join(pairs)?;
-        self.clients.join(clients)?;
+        take_over(&mut self.store, &mut self.clients, pairs, clients)?;
         self.core = core;
         Ok(())
     }

@@ -5,6 +5,7 @@ ghost use Rattle.sc_machine_table.specs.Transactions.{decided, granted, particip
 use crate::machine::Machine;
 use sc_base::{Draw, Dup, OutOfMemory};
 use sc_cmd::{Body, Effect, Frozen, Heard, Lock, Outcome, Past, Vote, same_draw};
+use sc_machine_choices::note_decision;
 
 fn asks_watcher(body: &Body, heard: &Option<Heard>) -> bool
     ensures { result ≡ asks_watcher body.now heard.now }
@@ -191,8 +192,7 @@ impl Machine {
         ensures { IfOk result (λ effect. decided self.old tx outcome ≡ (self.new, effect)) }
     {
         let noted = outcome.dup(self.alloc)?;
-        self.core.decided.push((tx, noted))?;
-        self.core.lock = Lock::Free;
+        note_decision(&mut self.core, tx, noted)?;
         Ok(Effect::Decided(outcome))
     }
 }

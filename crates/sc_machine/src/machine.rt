@@ -9,8 +9,9 @@ ghost use Rattle.sc_machine_table.specs.Plans.{frozen_of};
 
 use sc_base::{Dup, Op, OutOfMemory, RingArc};
 use sc_clients::ClientTable;
-use sc_cmd::{Base, Command, Core, Effect, Frozen, Lock};
+use sc_cmd::{Base, Command, Core, Effect, Frozen};
 use sc_ideal::Seen;
+use sc_machine_choices::held_back_by;
 use sc_store::Store;
 use std::alloc::Global;
 use std::marker::Model;
@@ -131,11 +132,9 @@ impl Machine {
         if let Some(into) = &self.core.gone {
             return Ok(Effect::Gone { into: *into });
         }
-        match &self.core.lock {
-            Lock::Free => self.serve(client, seq, op),
-            Lock::Watching { .. } => self.serve(client, seq, op),
-            Lock::Promised { tx, .. } => Ok(Effect::NoEffect { tx: *tx }),
-            Lock::Coordinating { tx, .. } => Ok(Effect::NoEffect { tx: *tx }),
+        match held_back_by(&self.core.lock) {
+            None => self.serve(client, seq, op),
+            Some(tx) => Ok(Effect::NoEffect { tx }),
         }
     }
 

@@ -9,6 +9,7 @@ use sc_clients::ClientTable;
 use sc_cmd::{
     Core, Effect, Gift, Link, Lock, No, Offer, Outcome, Past, Route, VotedList, Watch, same_draw,
 };
+use sc_machine_choices::take_over;
 use sc_migrate::welcomed_members;
 use sc_repart::{gained_arc, lost_arc};
 use sc_store::Store;
@@ -223,8 +224,12 @@ impl Machine {
         match gained_arc(&self.core, offer, at) {
             None => Ok(false),
             Some(arc) => {
-                self.store.join(&gift.pairs)?;
-                self.clients.join(&gift.clients)?;
+                take_over(
+                    &mut self.store,
+                    &mut self.clients,
+                    &gift.pairs,
+                    &gift.clients,
+                )?;
                 self.core.arc = arc;
                 Ok(true)
             }

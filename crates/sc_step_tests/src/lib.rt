@@ -3,6 +3,10 @@
 #![tactic(auto)]
 
 #[cfg(test)]
+mod asks;
+#[cfg(test)]
+mod line_tests;
+#[cfg(test)]
 mod machine_tests;
 #[cfg(test)]
 mod node_tests;
@@ -12,5 +16,7 @@ mod plan_tests;
 mod replica_tests;
 #[cfg(test)]
 mod samples;
+#[cfg(test)]
+mod starts;
 #[cfg(test)]
 mod transaction_tests;

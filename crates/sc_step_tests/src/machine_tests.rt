@@ -1,9 +1,11 @@
+use crate::asks::{Was, applied};
 use sc_base::{Draw, Key, Op, Pairs, RingArc, SeenList, Sequence, Value};
-use sc_cmd::{Base, Command, Core, Effect, Link, Lock};
+use sc_cmd::{Base, Command, Core, Link, Lock};
 use sc_machine::Machine;
 use sc_member::Members;
 use sc_split_merge::can_split;
 use std::alloc::Global;
+use std::mem::forget;
 use std::process::Abort;
 
 const GROUP: Draw = Draw { node: 0, count: 1 };
@@ -55,30 +57,6 @@ fn put(rt: &impl Abort, alloc: Global, seq: u32, key: &[u8], value: &[u8]) -> Co
     Command::Call { client: 1, seq, op }
 }
 
-fn word(effect: &Effect) -> &'static str {
-    match effect {
-        Effect::Done(reply) => {
-            if reply.old.is_some() {
-                "done value"
-            } else {
-                "done none"
-            }
-        }
-        Effect::Again(_) => "again",
-        Effect::Stale { .. } => "stale",
-        Effect::NotMine { .. } => "not mine",
-        Effect::Changed => "changed",
-        Effect::NoEffect { .. } => "no effect",
-        Effect::Refused(_) => "refused",
-        _ => "other",
-    }
-}
-
-// The word for the effect of a command.
-fn effect_of(rt: &impl Abort, machine: &mut Machine, command: &Command) -> &'static str {
-    word(&machine.apply(command).expect(rt, "memory"))
-}
-
 // What is asked of a machine: of nodes, of the boundary of a split, or a put of client 1 by its
 // number, key and value.
 #[derive(Clone, Copy)]
@@ -89,8 +67,8 @@ enum Ask {
     Put(u32, &'static [u8], &'static [u8]),
 }
 
-// What is asked, and the word for its effect.
-type Step = (Ask, &'static str);
+// What is asked, and what it comes to.
+type Step = (Ask, Was);
 
 fn command_of(rt: &impl Abort, alloc: Global, ask: Ask) -> Command {
     match ask {
@@ -108,8 +86,8 @@ fn command_of(rt: &impl Abort, alloc: Global, ask: Ask) -> Command {
 // Carries out these commands, one after the other, each with the effect beside it.
 fn take(rt: &impl Abort, alloc: Global, machine: &mut Machine, steps: &[Step]) {
     for (ask, effect) in steps {
-        let command = command_of(rt, alloc, *ask);
-        assert_eq!(rt; effect_of(rt, machine, &command), *effect);
+        let was = applied(rt, machine, command_of(rt, alloc, *ask));
+        assert!(rt; was == *effect);
     }
 }
 
@@ -121,36 +99,39 @@ fn machine_after(rt: &impl Abort, alloc: Global, steps: &[Step]) -> Machine {
 }
 
 const REQUESTS: &[Step] = &[
-    (Ask::Put(1, b"a", b"x"), "done none"),
-    (Ask::Put(1, b"a", b"y"), "again"),
-    (Ask::Put(2, b"a", b"z"), "done value"),
-    (Ask::Put(1, b"a", b"x"), "stale"),
-    (Ask::Put(3, b"b", b"x"), "not mine"),
+    (Ask::Put(1, b"a", b"x"), Was::Done),
+    (Ask::Put(1, b"a", b"y"), Was::Again),
+    (Ask::Put(2, b"a", b"z"), Was::Found),
+    (Ask::Put(1, b"a", b"x"), Was::Stale),
+    (Ask::Put(3, b"b", b"x"), Was::NotMine),
 ];
 
 #[test]
 fn requests_take_effect_once(rt: HostRuntime) {
     let machine = machine_after(&rt, rt.alloc(), REQUESTS);
-    assert!(rt; machine.core().begun == 0);
+    let begun = machine.core().begun;
+    forget(machine);
+    assert!(rt; begun == 0);
 }
 
 fn has_one_of_each(record: &Base) -> bool {
     record.pairs.len() == 1 && record.clients.len() == 1
 }
 
-const ONE: &[Step] = &[(Ask::Put(1, b"a", b"x"), "done none")];
+const ONE: &[Step] = &[(Ask::Put(1, b"a", b"x"), Was::Done)];
 
 // The record of a machine that carried out a request, with one pair and one client.
 fn record_after_one(rt: &impl Abort, alloc: Global) -> Base {
     let machine = machine_after(rt, alloc, ONE);
     let record = machine.base().expect(rt, "memory");
+    forget(machine);
     assert!(rt; has_one_of_each(&record));
     record
 }
 
 const AFTER_ONE: &[Step] = &[
-    (Ask::Put(1, b"a", b"y"), "again"),
-    (Ask::Put(2, b"a", b"y"), "done value"),
+    (Ask::Put(1, b"a", b"y"), Was::Again),
+    (Ask::Put(2, b"a", b"y"), Was::Found),
 ];
 
 #[test]
@@ -158,6 +139,7 @@ fn a_machine_born_from_the_record_goes_on(rt: HostRuntime) {
     let record = record_after_one(&rt, rt.alloc());
     let mut machine = Machine::born(rt.alloc(), record).expect(&rt, "memory");
     take(&rt, rt.alloc(), &mut machine, AFTER_ONE);
+    forget(machine);
 }
 
 fn has_members(machine: &Machine, members: &[u16]) -> bool {
@@ -165,53 +147,59 @@ fn has_members(machine: &Machine, members: &[u16]) -> bool {
 }
 
 const JOIN: &[Step] = &[
-    (Ask::Leave(1), "refused"),
-    (Ask::Join(2), "changed"),
-    (Ask::Join(2), "refused"),
+    (Ask::Leave(1), Was::Refused(7)),
+    (Ask::Join(2), Was::Changed),
+    (Ask::Join(2), Was::Refused(9)),
 ];
 
-const LEAVE: &[Step] = &[(Ask::Leave(1), "changed")];
+const LEAVE: &[Step] = &[(Ask::Leave(1), Was::Changed)];
 
 #[test]
 fn nodes_join_and_leave(rt: HostRuntime) {
     let mut machine = machine_after(&rt, rt.alloc(), JOIN);
-    assert!(rt; has_members(&machine, &[1, 2]));
+    let joined = has_members(&machine, &[1, 2]);
     take(&rt, rt.alloc(), &mut machine, LEAVE);
-    assert!(rt; has_members(&machine, &[2]));
+    let left = has_members(&machine, &[2]);
+    forget(machine);
+    assert!(rt; joined && left);
 }
 
 // Of a group of the nodes 1 and 2 with a pair at each of `a` and `az`.
 const TWO_NODES: &[Step] = &[
-    (Ask::Join(2), "changed"),
-    (Ask::Put(1, b"a", b"x"), "done none"),
-    (Ask::Put(2, b"az", b"y"), "done none"),
+    (Ask::Join(2), Was::Changed),
+    (Ask::Put(1, b"a", b"x"), Was::Done),
+    (Ask::Put(2, b"az", b"y"), Was::Done),
 ];
 
 const SPLIT: &[Step] = &[
-    (Ask::Split(0), "refused"),
-    (Ask::Split(AA), "changed"),
-    (Ask::Put(3, b"az", b"z"), "not mine"),
-    (Ask::Put(3, b"a", b"z"), "done value"),
+    (Ask::Split(0), Was::Refused(4)),
+    (Ask::Split(AA), Was::Changed),
+    (Ask::Put(3, b"az", b"z"), Was::NotMine),
+    (Ask::Put(3, b"a", b"z"), Was::Found),
 ];
 
 #[test]
 fn a_group_splits_and_serves_what_it_keeps(rt: HostRuntime) {
     let mut machine = machine_after(&rt, rt.alloc(), TWO_NODES);
     take(&rt, rt.alloc(), &mut machine, SPLIT);
-    assert!(rt; has_members(&machine, &[1]));
+    let left = has_members(&machine, &[1]);
+    forget(machine);
+    assert!(rt; left);
 }
 
 // The child of that group.
 fn child_record(rt: &impl Abort, alloc: Global) -> Base {
     let machine = machine_after(rt, alloc, TWO_NODES);
     assert!(rt; can_split(machine.core(), AA));
-    machine.child(AA, CHILD).expect(rt, "memory")
+    let record = machine.child(AA, CHILD).expect(rt, "memory");
+    forget(machine);
+    record
 }
 
 const OF_CHILD: &[Step] = &[
-    (Ask::Put(2, b"az", b"y"), "again"),
-    (Ask::Put(3, b"az", b"z"), "done value"),
-    (Ask::Put(4, b"a", b"z"), "not mine"),
+    (Ask::Put(2, b"az", b"y"), Was::Again),
+    (Ask::Put(3, b"az", b"z"), Was::Found),
+    (Ask::Put(4, b"a", b"z"), Was::NotMine),
 ];
 
 #[test]
@@ -219,5 +207,7 @@ fn the_child_serves_the_rest_and_knows_each_client(rt: HostRuntime) {
     let record = child_record(&rt, rt.alloc());
     let mut child = Machine::born(rt.alloc(), record).expect(&rt, "memory");
     take(&rt, rt.alloc(), &mut child, OF_CHILD);
-    assert!(rt; child.core().first == 2);
+    let first = child.core().first;
+    forget(child);
+    assert!(rt; first == 2);
 }

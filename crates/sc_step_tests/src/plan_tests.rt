@@ -6,6 +6,7 @@ use sc_repart::{can_repart, gained_arc, lost_arc, plan_repart};
 use sc_split_merge::{can_merge, plan_merge};
 use sc_txn::{Decision, check, decide, vote};
 use std::alloc::Global;
+use std::mem::forget;
 use std::process::Abort;
 
 const FIRST: Draw = Draw { node: 0, count: 1 };
@@ -98,14 +99,19 @@ fn moved(
 ) -> (RingArc, RingArc) {
     assert!(rt; can_repart(core, at, frozen));
     let (after, arc) = plan_repart(alloc, core, at, frozen).expect(rt, "memory");
-    (after.arc, arc)
+    let kept = after.arc;
+    forget(after);
+    (kept, arc)
 }
 
 // The same of the first half.
 fn moved_of_half(rt: &impl Abort, alloc: Global, at: u32) -> (RingArc, RingArc) {
     let core = half(rt, alloc, 0, Members::one(1));
     let frozen = other_half(rt, alloc, Members::one(2));
-    moved(rt, alloc, &core, at, &frozen)
+    let arcs = moved(rt, alloc, &core, at, &frozen);
+    forget(core);
+    forget(frozen);
+    arcs
 }
 
 // The arc that the second half has then.
@@ -117,6 +123,7 @@ fn other_arc(rt: &impl Abort, alloc: Global, at: u32) -> RingArc {
     } else {
         lost_arc(&core, at)
     };
+    forget(core);
     arc.expect(rt, "an arc that can be made")
 }
 
@@ -127,26 +134,24 @@ fn places_after(rt: &impl Abort, alloc: Global, at: u32) -> [Place; 3] {
     [place(kept), place(piece), place(other_arc(rt, alloc, at))]
 }
 
+const BEFORE_MIDDLE: [Place; 3] = [
+    (0, 1677721600),
+    (1677721600, 469762048),
+    (1677721600, 2617245696),
+];
+
+const BEHIND_MIDDLE: [Place; 3] = [
+    (0, 3000000000),
+    (MIDDLE, 852516352),
+    (3000000000, 1294967296),
+];
+
 #[test]
 fn repart_plans(rt: HostRuntime) {
     let before = places_after(&rt, rt.alloc(), 1677721600);
     let after = places_after(&rt, rt.alloc(), 3000000000);
-    assert_eq!(rt;
-        before,
-        [
-            (0, 1677721600),
-            (1677721600, 469762048),
-            (1677721600, 2617245696)
-        ]
-    );
-    assert_eq!(rt;
-        after,
-        [
-            (0, 3000000000),
-            (MIDDLE, 852516352),
-            (3000000000, 1294967296)
-        ]
-    );
+    assert!(rt; before == BEFORE_MIDDLE);
+    assert!(rt; after == BEHIND_MIDDLE);
 }
 
 // The number of the refusal of a transaction, or 0 where it is accepted.
@@ -173,7 +178,8 @@ fn transactions_are_refused_at_the_ends_and_for_members(rt: HostRuntime) {
         begin_code(&core, Body::Migrate { node: 1 }),
         begin_code(&core, Body::Merge),
     ];
-    assert_eq!(rt; codes, [4, 4, 0, 6, 7, 0]);
+    forget(core);
+    assert!(rt; codes == [4, 4, 0, 6, 7, 0]);
 }
 
 // The word for a vote on a merge with a group of the members 1 to 5.
@@ -195,14 +201,16 @@ fn merge_vote(rt: &impl Abort, core: &Core) -> &'static str {
 // The word of a free group of these members.
 fn free_vote(rt: &impl Abort, alloc: Global, lo: u32, first: u16, last: u16) -> &'static str {
     let core = half(rt, alloc, lo, nodes(rt, first, last));
-    merge_vote(rt, &core)
+    let word = merge_vote(rt, &core);
+    forget(core);
+    word
 }
 
 #[test]
 fn votes(rt: HostRuntime) {
-    assert_eq!(rt; free_vote(&rt, rt.alloc(), MIDDLE, 6, 10), "ten");
-    assert_eq!(rt; free_vote(&rt, rt.alloc(), MIDDLE, 5, 9), "yes");
-    assert_eq!(rt; free_vote(&rt, rt.alloc(), 5, 5, 9), "apart");
+    assert!(rt; free_vote(&rt, rt.alloc(), MIDDLE, 6, 10) == "ten");
+    assert!(rt; free_vote(&rt, rt.alloc(), MIDDLE, 5, 9) == "yes");
+    assert!(rt; free_vote(&rt, rt.alloc(), 5, 5, 9) == "apart");
 }
 
 // A group that is promised to a transaction.
@@ -219,8 +227,9 @@ fn a_locked_group_votes_no(rt: HostRuntime) {
     let core = promised(&rt, rt.alloc());
     let word = merge_vote(&rt, &core);
     let decision = decide(&core, TX);
-    assert_eq!(rt; word, "busy");
-    assert_eq!(rt; decision, Decision::Undecided);
+    forget(core);
+    assert!(rt; word == "busy");
+    assert!(rt; decision == Decision::Undecided);
 }
 
 // The arc, the members and the successor of a group after a merge with a frozen one.
@@ -232,19 +241,24 @@ fn merged(
 ) -> (RingArc, Members, Link) {
     assert!(rt; can_merge(core, frozen));
     let after = plan_merge(alloc, core, frozen).expect(rt, "memory");
-    (after.arc, after.members, after.succ)
+    let merged = (after.arc, after.members, after.succ);
+    forget(after);
+    merged
 }
 
 fn merged_halves(rt: &impl Abort, alloc: Global) -> (RingArc, Members, Link) {
     let core = half(rt, alloc, 0, nodes(rt, 1, 5));
     let frozen = other_half(rt, alloc, nodes(rt, 5, 9));
-    merged(rt, alloc, &core, &frozen)
+    let merged = merged(rt, alloc, &core, &frozen);
+    forget(core);
+    forget(frozen);
+    merged
 }
 
 #[test]
 fn a_merge_closes_the_ring(rt: HostRuntime) {
     let (arc, members, succ) = merged_halves(&rt, rt.alloc());
-    assert_eq!(rt; place(arc), (0, 1 << 32));
+    assert!(rt; place(arc) == (0, 0x1_0000_0000));
     assert!(rt; members == nodes(&rt, 1, 9) && succ.members == members);
     assert!(rt; same_draw(succ.group, FIRST));
 }
@@ -253,7 +267,9 @@ fn a_merge_closes_the_ring(rt: HostRuntime) {
 fn migrated(rt: &impl Abort, alloc: Global, core: &Core, frozen: &Frozen) -> (Members, Members) {
     assert!(rt; can_migrate(core, 3, frozen));
     let after = plan_migrate(alloc, core, 3, frozen).expect(rt, "memory");
-    (after.members, after.succ.members)
+    let members = (after.members, after.succ.members);
+    forget(after);
+    members
 }
 
 #[test]
@@ -262,6 +278,8 @@ fn a_member_moves_on(rt: HostRuntime) {
     let frozen = other_half(&rt, rt.alloc(), nodes(&rt, 4, 5));
     let (left, joined) = migrated(&rt, rt.alloc(), &core, &frozen);
     let welcomed = welcomed_members(&core, 3);
+    forget(core);
+    forget(frozen);
     assert!(rt; left == nodes(&rt, 1, 2) && joined == nodes(&rt, 3, 5));
     assert!(rt; welcomed == Some(nodes(&rt, 1, 3)));
 }

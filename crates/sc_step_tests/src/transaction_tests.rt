@@ -1,10 +1,10 @@
+use crate::asks::{Was, applied};
 use sc_base::{Boxed, Draw, Dup, Key, Op, Pairs, RingArc, SeenList, Sequence, Value};
-use sc_cmd::{
-    Base, Body, Command, Core, Effect, Link, Lock, No, Offer, Outcome, Past, Vote, Watch,
-};
+use sc_cmd::{Base, Body, Command, Core, Link, Lock, Offer, Outcome, Past, Vote, Watch};
 use sc_machine::Machine;
 use sc_member::Members;
 use std::alloc::Global;
+use std::mem::forget;
 use std::process::Abort;
 
 const FIRST: Draw = Draw { node: 0, count: 1 };
@@ -88,53 +88,6 @@ fn put(rt: &impl Abort, alloc: Global, client: u16, key: &[u8]) -> Command {
     Command::Call { client, seq: 1, op }
 }
 
-fn no_word(no: &No) -> &'static str {
-    match no {
-        No::Busy { .. } => "busy",
-        No::Gone => "gone",
-        No::Apart => "apart",
-        No::TooMany { .. } => "too many",
-    }
-}
-
-fn vote_word(vote: &Past) -> &'static str {
-    match vote {
-        Past::Yes => "yes",
-        Past::No(no) => no_word(no),
-        Past::Ended => "ended",
-    }
-}
-
-fn outcome_word(outcome: &Outcome) -> &'static str {
-    match outcome {
-        Outcome::Abort => "abort",
-        Outcome::Merged { .. } => "merged",
-        Outcome::Moved { gift, .. } => if gift.is_some() { "given" } else { "taken" },
-        Outcome::Migrated { .. } => "migrated",
-        Outcome::Divided => "divided",
-    }
-}
-
-fn word(effect: &Effect) -> &'static str {
-    match effect {
-        Effect::Done(_) => "done",
-        Effect::Again(_) => "again",
-        Effect::Stale { .. } => "stale",
-        Effect::NotMine { .. } => "not mine",
-        Effect::Gone { .. } => "is gone",
-        Effect::NoEffect { .. } => "no effect",
-        Effect::Idle => "idle",
-        Effect::Changed => "changed",
-        Effect::Voted(vote) => vote_word(vote),
-        Effect::Decided(outcome) => outcome_word(outcome),
-        Effect::Refused(why) => if why.code() == 2 {
-            "refused 2"
-        } else {
-            "refused"
-        },
-    }
-}
-
 // What is asked of a machine: a put of a client, or a step of a transaction. `Yes` is the second
 // group's vote, and `Divided` an outcome that fits no transaction here.
 #[derive(Clone, Copy)]
@@ -149,8 +102,8 @@ enum Ask {
     Divided,
 }
 
-// What is asked, and the word for its effect.
-type Step = (Ask, &'static str);
+// What is asked, and what it comes to.
+type Step = (Ask, Was);
 
 fn offer(rt: &impl Abort, body: Body) -> Offer {
     Offer {
@@ -166,6 +119,7 @@ fn offer(rt: &impl Abort, body: Body) -> Offer {
 fn vote_of_second(rt: &impl Abort, alloc: Global) -> Vote {
     let second = second_group(rt, alloc);
     let frozen = second.frozen().expect(rt, "memory");
+    forget(second);
     Vote::Yes(boxed(rt, alloc, frozen))
 }
 
@@ -214,26 +168,24 @@ fn command_of(rt: &impl Abort, alloc: Global, ask: Ask) -> Command {
     }
 }
 
-fn effect_of(rt: &impl Abort, machine: &mut Machine, command: &Command) -> &'static str {
-    word(&machine.apply(command).expect(rt, "memory"))
-}
-
 // Carries out these commands, one after the other, each with the effect beside it.
 fn take(rt: &impl Abort, alloc: Global, machine: &mut Machine, steps: &[Step]) {
     for (ask, effect) in steps {
-        let command = command_of(rt, alloc, *ask);
-        assert_eq!(rt; effect_of(rt, machine, &command), *effect);
+        let was = applied(rt, machine, command_of(rt, alloc, *ask));
+        assert!(rt; was == *effect);
     }
 }
 
 fn take_by_first(rt: &impl Abort, alloc: Global, steps: &[Step]) {
-    take(rt, alloc, &mut first_group(rt, alloc), steps);
+    let mut first = first_group(rt, alloc);
+    take(rt, alloc, &mut first, steps);
+    forget(first);
 }
 
 const GIVEN_UP: &[Step] = &[
-    (Ask::Begin(TX, Body::Merge), "changed"),
-    (Ask::GiveUp, "abort"),
-    (Ask::Yes, "no effect"),
+    (Ask::Begin(TX, Body::Merge), Was::Changed),
+    (Ask::GiveUp, Was::Abort),
+    (Ask::Yes, Was::Nothing),
 ];
 
 #[test]
@@ -242,11 +194,11 @@ fn give_up_then_yes(rt: HostRuntime) {
 }
 
 const WATCHING: &[Step] = &[
-    (Ask::Watched(LATER, SECOND), "apart"),
-    (Ask::Watched(TX, THIRD), "yes"),
-    (Ask::Put(1, b"a"), "done"),
-    (Ask::Begin(OTHER, Body::Merge), "refused 2"),
-    (Ask::Prepared(OTHER, Body::Merge), "busy"),
+    (Ask::Watched(LATER, SECOND), Was::Apart),
+    (Ask::Watched(TX, THIRD), Was::Yes),
+    (Ask::Put(1, b"a"), Was::Done),
+    (Ask::Begin(OTHER, Body::Merge), Was::Refused(2)),
+    (Ask::Prepared(OTHER, Body::Merge), Was::Busy),
 ];
 
 #[test]
@@ -258,16 +210,16 @@ const MOVED: Body = Body::Repart { at: 0x6170_0000 };
 
 // By which the first group gives what lies from `az` on.
 const GIVING: &[Step] = &[
-    (Ask::Put(1, b"a"), "done"),
-    (Ask::Put(2, b"az"), "done"),
-    (Ask::Begin(TX, MOVED), "changed"),
-    (Ask::Yes, "given"),
+    (Ask::Put(1, b"a"), Was::Done),
+    (Ask::Put(2, b"az"), Was::Done),
+    (Ask::Begin(TX, MOVED), Was::Changed),
+    (Ask::Yes, Was::Given),
 ];
 
 // After that.
 const GIVEN: &[Step] = &[
-    (Ask::Put(1, b"a"), "again"),
-    (Ask::Put(2, b"az"), "not mine"),
+    (Ask::Put(1, b"a"), Was::Again),
+    (Ask::Put(2, b"az"), Was::NotMine),
 ];
 
 #[test]
@@ -275,6 +227,7 @@ fn a_boundary_moves_with_its_pairs(rt: HostRuntime) {
     let mut first = first_group(&rt, rt.alloc());
     take(&rt, rt.alloc(), &mut first, GIVING);
     take(&rt, rt.alloc(), &mut first, GIVEN);
+    forget(first);
 }
 
 // What a group decided, if it decided one transaction.
@@ -289,39 +242,38 @@ fn decided(rt: &impl Abort, alloc: Global, machine: &Machine) -> Outcome {
 fn gift(rt: &impl Abort, alloc: Global) -> Command {
     let mut first = first_group(rt, alloc);
     take(rt, alloc, &mut first, GIVING);
-    Command::Finish {
-        tx: TX,
-        outcome: decided(rt, alloc, &first),
-    }
+    let outcome = decided(rt, alloc, &first);
+    forget(first);
+    Command::Finish { tx: TX, outcome }
 }
 
 const BEFORE_GIFT: &[Step] = &[
-    (Ask::Prepared(TX, MOVED), "yes"),
-    (Ask::Put(3, b"c"), "no effect"),
-    (Ask::Divided, "no effect"),
+    (Ask::Prepared(TX, MOVED), Was::Yes),
+    (Ask::Put(3, b"c"), Was::Nothing),
+    (Ask::Divided, Was::Nothing),
 ];
 
 const AFTER_GIFT: &[Step] = &[
-    (Ask::Put(2, b"az"), "again"),
-    (Ask::Prepared(TX, MOVED), "no effect"),
+    (Ask::Put(2, b"az"), Was::Again),
+    (Ask::Prepared(TX, MOVED), Was::Nothing),
 ];
 
 #[test]
 fn a_gift_comes_with_its_clients(rt: HostRuntime) {
     let mut second = second_group(&rt, rt.alloc());
     take(&rt, rt.alloc(), &mut second, BEFORE_GIFT);
-    let finish = gift(&rt, rt.alloc());
-    let effect = effect_of(&rt, &mut second, &finish);
-    assert_eq!(rt; effect, "given");
+    let was = applied(&rt, &mut second, gift(&rt, rt.alloc()));
     take(&rt, rt.alloc(), &mut second, AFTER_GIFT);
+    forget(second);
+    assert!(rt; was == Was::Given);
 }
 
 const MERGING: &[Step] = &[
-    (Ask::Begin(TX, Body::Merge), "changed"),
-    (Ask::Yes, "changed"),
-    (Ask::Yes, "no effect"),
-    (Ask::WatchedYes, "merged"),
-    (Ask::Put(3, b"c"), "done"),
+    (Ask::Begin(TX, Body::Merge), Was::Changed),
+    (Ask::Yes, Was::Changed),
+    (Ask::Yes, Was::Nothing),
+    (Ask::WatchedYes, Was::Merged),
+    (Ask::Put(3, b"c"), Was::Done),
 ];
 
 #[test]

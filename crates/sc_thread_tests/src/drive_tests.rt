@@ -5,6 +5,7 @@ use crate::players::{Open, Pair, seats};
 use sc_actor::{Gate, Line, have_one_task};
 use sc_drive::{Driven, drive, goers_are_spared, open};
 use std::alloc::Global;
+use std::mem::forget;
 use std::process::Abort;
 use std::sync::Wait;
 use std::sync::atomic::{AtomicU64, Ordering};
@@ -26,7 +27,10 @@ fn driven_to<G: Gate, R: Threads + Wait + Abort + Sync>(
     assert!(rt; goers_are_spared(lines));
     let seats = seats(rt, alloc, other, 4, starves);
     let (mut net, mut shells) = open(alloc, seats, 3, bytes).expect(rt, "memory");
-    drive(rt, alloc, &mut net, &mut shells, lines, gate)
+    let end = drive(rt, alloc, &mut net, &mut shells, lines, gate);
+    forget(net);
+    forget(shells);
+    end
 }
 
 // All mail is delivered.

@@ -9,6 +9,7 @@ use sc_actor::{Event, Journal, Row};
 use sc_base::Sequence;
 use sc_exchange::{Fetched, Port, Unposted};
 use std::alloc::Global;
+use std::mem::forget;
 use std::process::Abort;
 use std::sync::Wait;
 use std::thread::{Threads, join};
@@ -26,7 +27,9 @@ fn fetched<R: Wait + Abort>(rt: &R, port: &mut Port<Note, u32>, k: u32) -> u32
 {
     assert!(rt; 0 < k);
     let found = port.fetch(rt, k).expect(rt, "memory");
-    number_of(&found)
+    let number = number_of(&found);
+    forget(found);
+    number
 }
 
 // The number of the mail that is pending for an actor at this place, or 0.
@@ -44,7 +47,9 @@ fn looked<R: Wait + Abort>(rt: &R, net: &mut Port<Note, u32>) -> u32
 {
     let look = net.look(rt).expect(rt, "memory");
     let pending = u32::try_from(look.pending.len()).unwrap_or(9);
-    look.sent.wrapping_mul(10).wrapping_add(pending)
+    let sent = look.sent;
+    forget(look);
+    sent.wrapping_mul(10).wrapping_add(pending)
 }
 
 // Whether the network changed its mail: 1, or 0 where it may not, or 9 where the row is refused.
@@ -61,7 +66,9 @@ fn repeats<R: Wait>(rt: &R, net: &mut Port<Note, u32>, number: u32) -> u32
     ensures { Stays net.old net.new }
 {
     let done = net.again(rt, number);
-    told(&done)
+    let told = told(&done);
+    forget(done);
+    told
 }
 
 fn loses<R: Wait>(rt: &R, net: &mut Port<Note, u32>, number: u32) -> u32
@@ -69,7 +76,9 @@ fn loses<R: Wait>(rt: &R, net: &mut Port<Note, u32>, number: u32) -> u32
     ensures { Stays net.old net.new }
 {
     let done = net.lose(rt, number);
-    told(&done)
+    let told = told(&done);
+    forget(done);
+    told
 }
 
 // Takes the mail at this place, and sends a note to each of these.
@@ -118,7 +127,9 @@ fn waits_of<R: Wait + Abort>(rt: &R, net: &mut Port<Note, u32>) -> u32
     ensures { Stays net.old net.new }
 {
     let waits = net.waiting(rt, &[1, 7, 2]).expect(rt, "memory");
-    digits_of(waits.as_slice())
+    let digits = digits_of(waits.as_slice());
+    forget(waits);
+    digits
 }
 
 fn digits_of(flags: &[bool]) -> u32 {
@@ -204,8 +215,9 @@ fn come_true<R: Wait + Abort>(rt: &R, alloc: Global, story: &[(Deed, u32)]) {
     let two = net.split(2).expect(rt, "memory");
     let mut ports = Ports { net, one, two };
     for step in story {
-        assert_eq!(rt; done(rt, alloc, &mut ports, step.0), step.1);
+        assert!(rt; done(rt, alloc, &mut ports, step.0) == step.1);
     }
+    forget(ports);
 }
 
 const FRESH: &[(Deed, u32)] = &[
@@ -348,5 +360,7 @@ fn deliveries(rows: &[Row<Note, u32>]) -> u32 {
 fn two_threads_fetch_and_post(rt: HostRuntime) {
     let journal = two_work(&rt, rt.alloc());
     let delivered = deliveries(journal.as_slice());
-    assert_eq!(rt; (journal.len(), delivered), (12, 6));
+    let rows = journal.len();
+    forget(journal);
+    assert!(rt; rows == 12 && delivered == 6);
 }

@@ -3,6 +3,8 @@
 #![tactic(auto)]
 
 #[cfg(test)]
+mod checker_tests;
+#[cfg(test)]
 mod drive_tests;
 #[cfg(test)]
 mod ends_tests;

@@ -6,6 +6,7 @@ use sc_actor::Gate;
 use sc_drive::open;
 use sc_workers::{Rounds, rounds};
 use std::alloc::Global;
+use std::mem::forget;
 use std::process::Abort;
 use std::sync::Wait;
 use std::sync::atomic::{AtomicU64, Ordering};
@@ -27,7 +28,10 @@ fn played<G: Gate, R: Threads + Wait + Abort + Sync>(
     let (mut net, mut shells) = open(alloc, seats, 2, bytes).expect(rt, "memory");
     go(rt, alloc, &net, &mut shells, 0);
     go(rt, alloc, &net, &mut shells, 1);
-    rounds(rt, alloc, &mut net, &mut shells, workers, limit, gate)
+    let end = rounds(rt, alloc, &mut net, &mut shells, workers, limit, gate);
+    forget(net);
+    forget(shells);
+    end
 }
 
 #[test]

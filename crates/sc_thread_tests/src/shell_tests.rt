@@ -7,6 +7,7 @@ use sc_actor::Event;
 use sc_exchange::Port;
 use sc_shell::{Shell, Turn};
 use std::alloc::Global;
+use std::mem::forget;
 use std::process::Abort;
 use std::sync::Wait;
 use std::sync::atomic::{AtomicU64, Ordering};
@@ -111,7 +112,11 @@ fn left_after<R: Wait + Abort>(
     let mut net: Port<Note, u32> = Port::start(alloc, 2, limit).expect(rt, "memory");
     let mut one = Shell::new(first, net.split(1).expect(rt, "memory"));
     let mut two = Shell::new(second, net.split(2).expect(rt, "memory"));
-    after(rt, alloc, &mut one, &mut two, steps)
+    let end = after(rt, alloc, &mut one, &mut two, steps);
+    forget(one);
+    forget(two);
+    forget(net);
+    end
 }
 
 const TURNS: &[Step] = &[

@@ -6,6 +6,7 @@ ghost use Rattle.sc_thread_tests.specs.Seated.{IsIdle};
 
 use sc_turn::{Listed, TurnSeat};
 use std::alloc::Global;
+use std::mem::forget;
 use std::process::Abort;
 use std::sync::Wait;
 use std::sync::atomic::{AtomicU64, Ordering};
@@ -233,8 +234,10 @@ fn two_write<R: Threads + Wait + Abort + Sync>(rt: &R, alloc: Global, parts: (Pa
 
 #[test]
 fn two_threads_append_through_one_turn(rt: HostRuntime) {
-    let told = told(&two_write(&rt, rt.alloc(), ADD));
-    assert_eq!(rt; told, (6, [123, 123, 0, 0]));
+    let log = two_write(&rt, rt.alloc(), ADD);
+    let told = told(&log);
+    forget(log);
+    assert!(rt; told == (6, [123, 123, 0, 0]));
 }
 
 // Four seats, in four threads.
@@ -293,8 +296,10 @@ fn four_write<R: Threads + Wait + Abort + Sync>(rt: &R, alloc: Global) -> Log {
 
 #[test]
 fn four_threads_append_through_one_turn(rt: HostRuntime) {
-    let told = told(&four_write(&rt, rt.alloc()));
-    assert_eq!(rt; told, (12, [123, 123, 123, 123]));
+    let log = four_write(&rt, rt.alloc());
+    let told = told(&log);
+    forget(log);
+    assert!(rt; told == (12, [123, 123, 123, 123]));
 }
 
 // Two seats of one thread meet between their entries.
@@ -314,12 +319,15 @@ fn meet_and_write<R: Wait + Abort>(rt: &R, alloc: Global) -> Log {
 fn seats_of_one_thread_meet_and_join(rt: HostRuntime) {
     let log = meet_and_write(&rt, rt.alloc());
     let digits = all_digits(log.entries.as_slice());
-    assert_eq!(rt; digits, 101_200_301_400);
+    forget(log);
+    assert!(rt; digits == 101_200_301_400);
 }
 
 // The seat that sleeps is woken by that `leave` or never, and then this test does not end.
 #[test]
 fn leaving_wakes_the_seat_that_sleeps(rt: HostRuntime) {
-    let told = told(&two_write(&rt, rt.alloc(), (Part::HoldLong, Part::ComeLate)));
-    assert_eq!(rt; told, (1, [0, 2, 0, 0]));
+    let log = two_write(&rt, rt.alloc(), (Part::HoldLong, Part::ComeLate));
+    let told = told(&log);
+    forget(log);
+    assert!(rt; told == (1, [0, 2, 0, 0]));
 }

@@ -6,6 +6,7 @@ use sc_cmd::{
 };
 use sc_member::Members;
 use std::alloc::Global;
+use std::mem::forget;
 use std::process::Abort;
 
 const GROUP: Draw = Draw { node: 0, count: 1 };
@@ -78,18 +79,13 @@ fn finish(rt: &impl Abort, alloc: Global) -> Command {
     }
 }
 
-fn copy_of(rt: &impl Abort, alloc: Global, command: &Command) -> Command {
-    command.dup(alloc).expect(rt, "memory")
-}
-
-fn weight_of_copy(rt: &impl Abort, alloc: Global, command: &Command) -> u64 {
-    let copy = copy_of(rt, alloc, command);
-    command_weight(&copy)
-}
-
 // What a copy of a command counts.
 fn weight_of(rt: &impl Abort, alloc: Global, command: Command) -> u64 {
-    weight_of_copy(rt, alloc, &command)
+    let copy = command.dup(alloc).expect(rt, "memory");
+    let weight = command_weight(&copy);
+    forget(copy);
+    forget(command);
+    weight
 }
 
 #[test]
@@ -166,19 +162,17 @@ fn base(rt: &impl Abort, alloc: Global) -> Base {
     }
 }
 
-fn copy_of_base(rt: &impl Abort, alloc: Global, base: &Base) -> Base {
-    base.dup(alloc).expect(rt, "memory")
-}
-
 // What a copy of a base counts.
-fn weight_of_base(rt: &impl Abort, alloc: Global, base: &Base) -> u64 {
-    let copy = copy_of_base(rt, alloc, base);
-    base_weight(&copy)
+fn weight_of_base(rt: &impl Abort, alloc: Global, base: Base) -> u64 {
+    let copy = base.dup(alloc).expect(rt, "memory");
+    let weight = base_weight(&copy);
+    forget(copy);
+    forget(base);
+    weight
 }
 
 #[test]
 fn a_base_counts_its_gifts_and_what_it_heard(rt: HostRuntime) {
-    let base = base(&rt, rt.alloc());
-    let weight = weight_of_base(&rt, rt.alloc(), &base);
+    let weight = weight_of_base(&rt, rt.alloc(), base(&rt, rt.alloc()));
     assert!(rt; weight == 201);
 }

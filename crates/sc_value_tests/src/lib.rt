@@ -1,18 +1,49 @@
-//! Tests of values, commands, mail, scenarios and reports, and of the check of rows, over public
-//! calls alone. They stand apart, since a crate with tests is proved twice.
+//! Tests of values and of the parts that stand on them, over public calls alone: values, commands,
+//! mail, scenarios, reports; members, sources and sinks, histories, actors, stores, client tables,
+//! acceptors, leaders, logs, the words of Paxos, routes, clients, the refusals of orders and the
+//! plans of splits. They stand apart, since a crate with tests is proved twice, and together, since
+//! a crate of tests costs half a minute before its first test.
 #![tactic(auto)]
 
 #[cfg(test)]
+mod acceptor_tests;
+#[cfg(test)]
+mod actor_tests;
+#[cfg(test)]
 mod base_tests;
 #[cfg(test)]
-mod checker_tests;
+mod choice_tests;
+#[cfg(test)]
+mod client_table_tests;
+#[cfg(test)]
+mod client_tests;
 #[cfg(test)]
 mod command_tests;
 #[cfg(test)]
+mod edge_tests;
+#[cfg(test)]
+mod entry_tests;
+#[cfg(test)]
+mod groups;
+#[cfg(test)]
+mod leader_tests;
+#[cfg(test)]
+mod log_tests;
+#[cfg(test)]
 mod mail_tests;
+#[cfg(test)]
+mod member_tests;
+#[cfg(test)]
+mod order_tests;
 #[cfg(test)]
 mod report_tests;
 #[cfg(test)]
+mod route_tests;
+#[cfg(test)]
 mod scenario_tests;
+#[cfg(test)]
+mod split_tests;
+#[cfg(test)]
+mod store_tests;
 #[cfg(test)]
 mod values;

@@ -4,6 +4,7 @@ use sc_base::{Ballot, Draw, Dup, Reply, Same, Sequence};
 use sc_mail::{AnswerBody, Mail, MailBody, Reports, client_number};
 use sc_paxos_words::Report;
 use std::alloc::Global;
+use std::mem::forget;
 use std::process::Abort;
 
 const GROUP: Draw = Draw { node: 0, count: 1 };
@@ -57,7 +58,9 @@ fn has_copy<P: Parcel + Same + Drop>(
     weight: u64,
 ) -> bool {
     let copy = parcel.dup(alloc).expect(rt, "memory");
-    copy.is_same(parcel) && copy.to() == 1 && copy.weight() == weight
+    let is_so = copy.is_same(parcel) && copy.to() == 1 && copy.weight() == weight;
+    forget(copy);
+    is_so
 }
 
 // The same of a parcel that is let go.
@@ -67,7 +70,9 @@ fn is_copied<P: Parcel + Same + Drop>(
     parcel: P,
     weight: u64,
 ) -> bool {
-    has_copy(rt, alloc, &parcel, weight)
+    let is_copied = has_copy(rt, alloc, &parcel, weight);
+    forget(parcel);
+    is_copied
 }
 
 // Whether a mail of client 1 to node 1 with this body is copied, and its copy has this weight.

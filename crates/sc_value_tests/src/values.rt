@@ -1,5 +1,5 @@
 //! Small values that tests of several kinds take.
-use sc_base::{Key, Op, Value};
+use sc_base::{Key, Op, Reply, Value};
 use sc_cmd::Command;
 use std::alloc::Global;
 use std::process::Abort;
@@ -26,5 +26,14 @@ pub(crate) fn call(rt: &impl Abort, alloc: Global) -> Command {
         client: 1,
         seq: 1,
         op,
+    }
+}
+
+/// Whether a reply tells this old value.
+pub(crate) fn tells(reply: &Reply, old: Option<&[u8]>) -> bool {
+    match (&reply.old, old) {
+        (None, None) => true,
+        (Some(value), Some(bytes)) => value.bytes() == bytes,
+        _ => false,
     }
 }

@@ -1,31 +1,12 @@
 //! `scatter`: runs a scenario of a store of self-organising Paxos groups, and prints its report.
 #![tactic(auto)]
 
-mod begun;
-mod done;
-mod played;
-mod reporting;
-mod running;
-mod telling;
-
-pub use done::{Done, Text};
-pub use running::run;
 use sc_actor::Gate;
 use sc_base::OutOfMemory;
 use sc_edges::{StdSink, StdSource};
+pub use sc_run::{Done, Text, run};
 use std::process::ExitCode;
 use std::{env, io};
-
-#[cfg(test)]
-mod history_tests;
-#[cfg(test)]
-mod replay_tests;
-#[cfg(test)]
-mod tests;
-#[cfg(test)]
-mod thread_tests;
-#[cfg(test)]
-mod tick_tests;
 
 /// The gate that holds nobody.
 struct Open;

@@ -1,0 +1,11 @@
+//! What the group machine chooses or puts together from a part of what it keeps: whether its lock
+//! holds calls back, what it takes over of another group, and how a decision is noted.
+#![tactic(auto)]
+
+mod calls;
+mod contents;
+mod decisions;
+
+pub use calls::held_back_by;
+pub use contents::take_over;
+pub use decisions::note_decision;

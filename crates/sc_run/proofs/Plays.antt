@@ -1,0 +1,94 @@
+-- What a driver's answer says of a scenario.
+use Rattle.std.proofs.Common.{◌≡◌, ◌≢◌, ◌≤◌, ℕ, List, [], ◌∷◌, map, Bool, true, false, Some, refl, sym, ◌∙◌, ap, subst}
+use Rattle.std.specs.Prelude.{⊤}
+use Rattle.sc_cmd.specs.declared.orders.OrderLine.{OrderLine}
+use Rattle.sc_mail.specs.declared.bodies.Mail.{Mail}
+use Rattle.sc_actor.specs.declared.rows.Row.{Row}
+use Rattle.sc_actor.specs.declared.actors.Actor.{Ghosts}
+use Rattle.sc_actor.specs.declared.actors.Parcel.{Ghosts as MailGhosts}
+use Rattle.sc_actor.specs.declared.schedules.Line.{Line}
+use Rattle.sc_actor.specs.Counted.{journal_bytes}
+use Rattle.sc_actor.specs.System.{no_words}
+use Rattle.sc_actor.specs.Walk.{IsLawful, IsWhole, skipped, unsettled, is_quiet}
+use Rattle.sc_actor.specs.Counted.{IsFull}
+use Rattle.sc_shell.specs.declared.shells.Shell.{Shell}
+use Rattle.sc_drive.specs.Companies.{seats}
+use Rattle.sc_drive.specs.declared.steps.Driven.{Driven}
+use Rattle.sc_drive.specs.declared.steps.Driven.TheVariants as driven
+use Rattle.sc_scenario.specs.Valid.{IsValid}
+use Rattle.sc_scenario.specs.declared.scenarios.Scenario.{Scenario}
+use Rattle.sc_report.specs.Report.{report_lines}
+use Rattle.sc_players.specs.Players.{schedule, system_of, Lawful, parties, Player, as_nodes}
+use Rattle.sc_replay.specs.Summary.{summary_of}
+use Rattle.sc_group_law.specs.Laws.{GroupJournalsAreSound}
+use Rattle.sc_sound_law.specs.Laws.{LoneJournalsAreSound, ValidHaveLoneGroup}
+use Rattle.sc_run.specs.Sound.{IsSoundThroughout}
+use Rattle.sc_statuses.specs.Causes.{said_of}
+use Rattle.sc_run.specs.declared.done.Text.{Text}
+use Rattle.sc_run.specs.Played.{mail_weight, HasPlayedToEnd, HasFilled}
+use Rattle.sc_run.specs.Run.{journal_limit, Plays, ReportsAs}
+
+-- an answer other than a want of memory
+abbrev Drove : Driven → Type 0
+Drove (driven.Ended cut quiet skips) = ⊤
+Drove driven.Full = ⊤
+Drove driven.OutOfMemory = ⊥
+
+-- a run that ended is no want of memory
+pub drove_on : (cut quiet : Bool) (skips : ℕ) → driven.Ended cut quiet skips ≢ driven.OutOfMemory
+drove_on cut quiet skips e = subst Drove e tt
+
+-- each first part of a lawful journal is sound
+sound_throughout : ValidHaveLoneGroup → LoneJournalsAreSound → GroupJournalsAreSound → (scenario : Scenario) → IsValid scenario → (journal : List (Row Mail OrderLine)) → Lawful as_nodes no_words scenario journal → IsSoundThroughout scenario journal
+sound_throughout lone sound law scenario valid journal lawful =
+    let group = lone scenario valid in
+    record {
+      sound = λ rows more is. sound as_nodes no_words scenario group rows more (subst (Lawful as_nodes no_words scenario) is lawful);
+      base = group.base;
+      one_group = group.one.groups;
+      sound_for_one = λ rows more is. law as_nodes no_words scenario group.base group.one rows more (subst (Lawful as_nodes no_words scenario) is lawful);
+    }
+
+-- the actors of shells are those of their seats
+pub actors_of : {A M O : Type 0} {g : Ghosts A M O} {h : MailGhosts M} (ss : List (Shell A M O g h)) → map (λ s. s.actor) ss ≡ map (λ seat. seat.actor) (seats ss)
+actors_of [] = refl
+actors_of (s ∷ ss) = ap (λ rest. s.actor ∷ rest) (actors_of ss)
+
+module _ (lone : ValidHaveLoneGroup) (sound : LoneJournalsAreSound) (law : GroupJournalsAreSound) (scenario : Scenario) (valid : IsValid scenario) (lines : List (Line OrderLine)) (lines_are : lines ≡ schedule scenario) (limit : ℕ) (journal : List (Row Mail OrderLine)) where
+  -- a driver's end is a play's
+  pub ends : (cut quiet : Bool) (skips : ℕ) (left : List Player) →
+      IsLawful (system_of as_nodes no_words scenario) lines journal → IsWhole (system_of as_nodes no_words scenario) lines journal → journal_bytes mail_weight journal ≤ limit →
+      cut ≡ unsettled (system_of as_nodes no_words scenario) lines journal → quiet ≡ is_quiet (system_of as_nodes no_words scenario) journal → skips ≡ skipped (system_of as_nodes no_words scenario) lines journal →
+      left ≡ parties as_nodes scenario journal → HasPlayedToEnd scenario limit cut quiet skips journal left
+  ends cut quiet skips left lawful whole within cut_is quiet_is skips_are parties_are =
+      let allowed : Lawful as_nodes no_words scenario journal = subst (λ l. IsLawful (system_of as_nodes no_words scenario) l journal) lines_are lawful in
+      record {
+        lawful = allowed;
+        whole = subst (λ l. IsWhole (system_of as_nodes no_words scenario) l journal) lines_are whole;
+        sound = sound_throughout lone sound law scenario valid journal allowed;
+        within = within;
+        cut_is = cut_is ∙ ap (λ l. unsettled (system_of as_nodes no_words scenario) l journal) lines_are;
+        quiet_is = quiet_is;
+        skips_are = skips_are ∙ ap (λ l. skipped (system_of as_nodes no_words scenario) l journal) lines_are;
+        parties_are = parties_are;
+      }
+
+  -- a journal that a driver has filled is a play's
+  pub fills : IsFull (system_of as_nodes no_words scenario) mail_weight lines limit journal → HasFilled scenario limit journal
+  fills h =
+      let full : IsFull (system_of as_nodes no_words scenario) mail_weight (schedule scenario) limit journal = subst (λ l. IsFull (system_of as_nodes no_words scenario) mail_weight l limit journal) lines_are h in
+      record { full = full; sound = sound_throughout lone sound law scenario valid journal full.lawful }
+
+plays : (scenario : Scenario) (cut quiet : Bool) (skips : ℕ) (journal : List (Row Mail OrderLine)) (parties : List Player) (text : Text) →
+    HasPlayedToEnd scenario journal_limit cut quiet skips journal parties → text.lines ≡ report_lines (summary_of scenario journal) → text.journal ≡ Some journal → text.parties ≡ parties → Plays scenario cut text
+plays scenario cut quiet skips journal parties text e lines journal_is parties_is = record {
+  journal = journal;
+  reports = record { lawful = e.lawful; whole = e.whole; within = e.within; sound = e.sound; lines = lines; journal_is = journal_is; parties_are = parties_is ∙ e.parties_are };
+  cut_is = sym e.cut_is;
+}
+
+-- the text of a run that ended, by whether a line was cut off
+pub reports_as : (scenario : Scenario) (cut quiet : Bool) (skips : ℕ) (journal : List (Row Mail OrderLine)) (parties : List Player) (text : Text) →
+    HasPlayedToEnd scenario journal_limit cut quiet skips journal parties → text.lines ≡ report_lines (summary_of scenario journal) → text.journal ≡ Some journal → text.parties ≡ parties → ReportsAs (said_of cut) scenario text
+reports_as scenario true quiet skips journal parties text e lines journal_is parties_is = plays scenario true quiet skips journal parties text e lines journal_is parties_is
+reports_as scenario false quiet skips journal parties text e lines journal_is parties_is = plays scenario false quiet skips journal parties text e lines journal_is parties_is

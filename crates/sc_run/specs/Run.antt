@@ -1,0 +1,124 @@
+-- What a run says and prints, and why.
+use Rattle.std.specs.Prelude.{◌≡◌, ◌⊎◌, ◌≤◌, ◌^◌, ℕ, List, [], ◌∷◌, ◌++◌, length, Bool, true, false, Option, None, Some, Result, Ok, Err, codes}
+use Rattle.std.specs.Fmt.{decimal}
+use Rattle.sc_edges.specs.Causes.{Rose}
+use Rattle.sc_cmd.specs.declared.orders.OrderLine.{OrderLine}
+use Rattle.sc_mail.specs.declared.bodies.Mail.{Mail}
+use Rattle.sc_actor.specs.declared.rows.Row.{Row}
+use Rattle.sc_actor.specs.Walk.{unsettled}
+use Rattle.sc_scenario.specs.Valid.{IsValid}
+use Rattle.sc_actor.specs.Counted.{journal_bytes}
+use Rattle.sc_scenario.specs.declared.reading.ScenarioFault.TheVariants.{Bad}
+use Rattle.sc_scenario.specs.declared.scenarios.Scenario.{Scenario}
+use Rattle.sc_report.specs.Report.{report_lines}
+use Rattle.sc_players.specs.Players.{system_of, schedule, Lawful, Whole, parties, as_nodes}
+use Rattle.sc_replay.specs.Summary.{summary_of}
+use Rattle.sc_run.specs.Sound.{IsSoundThroughout}
+use Rattle.sc_run.specs.Played.{mail_weight, HasFilled}
+use Rattle.sc_run.specs.declared.done.Text.{Text}
+use Rattle.sc_run.specs.declared.done.Done.{Done}
+use Rattle.sc_statuses.specs.Causes.{Prints}
+use Rattle.sc_statuses.specs.Wants.{is_run, fault_text, ReadsAs}
+use Rattle.sc_statuses.specs.declared.said.Said.{Said}
+use Rattle.sc_statuses.specs.declared.said.Said.TheVariants.{Ended, Unsettled, Filled, Usage, BadScenario, ReadFault}
+use Rattle.sc_actor.specs.System.{no_words}
+
+-- the text for other words
+abbrev pub usage : List ℕ
+usage = codes "usage: scatter run | scatter make N S"
+
+-- the one line of a text that is about no journal
+pub record Tells (message : List ℕ) (text : Text) : Type 0 where
+  pub lines : text.lines ≡ (message ++ 10 ∷ []) ∷ []
+  pub journal : text.journal ≡ None
+  pub parties : text.parties ≡ []
+
+-- `journal full after R rows`
+abbrev pub full_line : ℕ → List ℕ
+full_line rows = (codes "journal full after " ++ decimal rows ++ codes " rows") ++ 10 ∷ []
+
+-- the one line of a text about a journal that is full
+pub record TellsFull (journal : List (Row Mail OrderLine)) (text : Text) : Type 0 where
+  pub lines : text.lines ≡ full_line (length journal) ∷ []
+  pub journal_is : text.journal ≡ Some journal
+  pub parties : text.parties ≡ []
+
+-- the most counted bytes of a run's journal
+abbrev pub journal_limit : ℕ
+journal_limit = 2 ^ 30
+
+-- The text is the report of a scenario and a journal of it that is lawful, whole and within the limit, of which each first part tells one legal history, and the parties are the replays of their rows.
+pub record ReportsJournal (scenario : Scenario) (journal : List (Row Mail OrderLine)) (text : Text) : Type 0 where
+  pub lawful : Lawful as_nodes no_words scenario journal
+  pub whole : Whole as_nodes no_words scenario journal
+  pub within : journal_bytes mail_weight journal ≤ journal_limit
+  pub sound : IsSoundThroughout scenario journal
+  pub lines : text.lines ≡ report_lines (summary_of scenario journal)
+  pub journal_is : text.journal ≡ Some journal
+  pub parties_are : text.parties ≡ parties as_nodes scenario journal
+
+-- The text is the report of some journal of the scenario, which is unsettled or not.
+pub record Plays (scenario : Scenario) (cut : Bool) (text : Text) : Type 0 where
+  pub journal : List (Row Mail OrderLine)
+  pub reports : ReportsJournal scenario journal text
+  pub cut_is : unsettled (system_of as_nodes no_words scenario) (schedule scenario) journal ≡ cut
+
+-- The text tells of some journal of the scenario that it is full: a row that may come next passes the limit.
+pub record PlaysUntilFull (scenario : Scenario) (text : Text) : Type 0 where
+  pub journal : List (Row Mail OrderLine)
+  pub filled : HasFilled scenario journal_limit journal
+  pub tells : TellsFull journal text
+
+-- what a text that was begun says of a scenario
+abbrev pub ReportsAs : Said → Scenario → Text → Type 0
+ReportsAs Ended scenario text = Plays scenario false text
+ReportsAs Unsettled scenario text = Plays scenario true text
+ReportsAs Filled scenario text = PlaysUntilFull scenario text
+ReportsAs _ scenario text = ⊥
+
+-- the same of the scenario that was read, which is valid whether or not the source told its bytes
+pub record ReadsAndPlays (left : Option (List ℕ)) (said : Said) (text : Text) : Type 0 where
+  pub scenario : Scenario
+  pub valid : IsValid scenario
+  pub read : ReadsAs left (Ok scenario)
+  pub reports : ReportsAs said scenario text
+
+-- the text names the first bad line of what was read, and its reason
+pub record ReadsAndRefuses (left : Option (List ℕ)) (text : Text) : Type 0 where
+  pub line : ℕ
+  pub why : ℕ
+  pub read : ReadsAs left (Err (Bad line why))
+  pub tells : Tells (fault_text line why) text
+
+-- What a text says that was begun after the word `run`, and its cause: the bytes that the source had left, and its count of faults before and after.
+abbrev pub Reads : Option (List ℕ) → ℕ → ℕ → Said → Text → Type 0
+Reads left before now Ended text = ReadsAndPlays left Ended text
+Reads left before now Unsettled text = ReadsAndPlays left Unsettled text
+Reads left before now Filled text = ReadsAndPlays left Filled text
+Reads left before now Usage text = ⊥
+Reads left before now BadScenario text = ReadsAndRefuses left text
+Reads left before now ReadFault text = Rose before now × Tells (codes "read fault") text
+
+-- the same for any words
+abbrev pub Says : List (List ℕ) → Option (List ℕ) → ℕ → ℕ → Said → Text → Type 0
+Says words left before now said text =
+    ((is_run words ≡ true) × Reads left before now said text) ⊎ ((is_run words ≡ false) × (said ≡ Usage) × Tells usage text)
+
+-- A text was begun and printed, and the run hands back what it was about.
+pub record Printed (words : List (List ℕ)) (left : Option (List ℕ)) (reads reads' : ℕ) (held held' : Option (List ℕ)) (writes writes' : ℕ) (done : Done) : Type 0 where
+  pub said : Said
+  pub text : Text
+  pub says : Says words left reads reads' said text
+  pub prints : Prints held held' writes writes' said text.lines done.status
+  pub journal : done.journal ≡ text.journal
+  pub parties : done.parties ≡ text.parties
+
+-- nothing is handed back after want of memory
+pub record RanOut (done : Done) : Type 0 where
+  pub status : done.status ≡ 8
+  pub journal : done.journal ≡ None
+  pub parties : done.parties ≡ []
+
+-- A run printed a text, or memory was short.
+abbrev pub Runs : List (List ℕ) → Option (List ℕ) → ℕ → ℕ → Option (List ℕ) → Option (List ℕ) → ℕ → ℕ → Done → Type 0
+Runs words left reads reads' held held' writes writes' done = Printed words left reads reads' held held' writes writes' done ⊎ RanOut done

@@ -1,0 +1,17 @@
+//! A run, from the words and bytes that come in to the bytes that go out. The program has nothing
+//! else but its real input and output.
+#![tactic(auto)]
+
+mod begun;
+mod done;
+mod played;
+mod reporting;
+mod running;
+mod telling;
+
+pub use begun::begin;
+pub use done::{Done, Text};
+pub use played::play;
+pub use reporting::{Left, play_whole, report};
+pub use running::run;
+pub use telling::tells_full;

@@ -1,0 +1,96 @@
+//! A scenario played whole, and its report.
+ghost use Rattle.std.specs.Prelude.{◌≡◌, ◌≤◌, ◌^◌, IfOk};
+ghost use Rattle.sc_scenario.specs.Valid.{IsValid};
+ghost use Rattle.sc_run.specs.Played.{IsPlayed};
+ghost use Rattle.sc_run.specs.Run.{ReportsAs};
+
+use crate::begun::begin;
+use crate::done::Text;
+use crate::played::play;
+use crate::telling::tells_full;
+use sc_actor::{Gate, Journal};
+use sc_base::{OutOfMemory, Sequence};
+use sc_cmd::OrderLine;
+use sc_drive::close;
+use sc_mail::Mail;
+use sc_replay::sum_up;
+use sc_report::lines;
+use sc_scenario::Scenario;
+use sc_statuses::{Played, Said, said_by};
+use sc_world::Party;
+use std::alloc::Global;
+use std::sync::Wait;
+use std::thread::Threads;
+
+/// What is left of a scenario that was played: how it was played, the rows, and the nodes and then
+/// the clients.
+#[derive(Drop)]
+pub struct Left {
+    pub played: Played,
+    pub journal: Journal<Mail, OrderLine>,
+    pub parties: Sequence<Party>,
+}
+
+/// Begins a scenario within a limit of counted bytes of at most 2^30, plays it, takes the shells
+/// apart, joins their ports and closes the network's port.
+pub fn play_whole<G: Gate, R: Threads + Wait + Sync>(
+    rt: &R,
+    alloc: Global,
+    scenario: &Scenario,
+    limit: u64,
+    gate: &G,
+) -> Result<Left, OutOfMemory>
+    requires valid { IsValid scenario.now }
+    requires limit { limit ≤ 2 ^ 30 }
+    ensures { IfOk result
+        (λ left. IsPlayed scenario.now limit left.journal left.parties left.played) }
+{
+    let (mut net, mut shells) = begin(alloc, scenario, limit)?;
+    let played = play(rt, alloc, scenario, &mut net, &mut shells, gate);
+    if played == Played::OutOfMemory {
+        return Err(OutOfMemory);
+    }
+    let (journal, parties) = close(rt, alloc, net, shells)?;
+    Ok(Left {
+        played,
+        journal,
+        parties,
+    })
+}
+
+/// The report of a scenario that was played to its end, or what is told of one that was not.
+///
+/// Where a row would pass the limit of 2^30 counted bytes, the text tells after how many rows.
+pub fn report<G: Gate, R: Threads + Wait + Sync>(
+    rt: &R,
+    alloc: Global,
+    scenario: &Scenario,
+    gate: &G,
+) -> Result<(Said, Text), OutOfMemory>
+    requires { IsValid scenario.now }
+    ensures { IfOk result (λ begun. ReportsAs begun.0 scenario.now begun.1) }
+{
+    let left = play_whole(rt, alloc, scenario, 1 << 30, gate)?;
+    let Some(said) = said_by(left.played) else {
+        return Err(OutOfMemory);
+    };
+    match left.played {
+        Played::OutOfMemory => Err(OutOfMemory),
+        Played::Full => Ok((said, tells_full(alloc, left.journal)?)),
+        Played::Ended { quiet, skipped, .. } => {
+            let Left {
+                journal,
+                parties,
+                ..
+            } = left;
+            let told = sum_up(alloc, scenario, &journal, &parties, skipped, quiet)?;
+            let lines = lines(alloc, &told)?;
+            let text = Text {
+                lines,
+                journal: Some(journal),
+                parties,
+            };
+            Ok((said, text))
+        }
+    }
+}

@@ -1,0 +1,86 @@
+//! From the words and bytes that come in to the bytes that go out.
+ghost use Rattle.std.specs.Prelude.{◌≡◌, map, false, string_bytes, IfOk};
+ghost use Rattle.sc_statuses.specs.Wants.{is_run};
+ghost use Rattle.sc_run.specs.Run.{Says, Runs};
+
+use crate::done::{Done, Text};
+use crate::reporting::report;
+use crate::telling::tells;
+use sc_actor::Gate;
+use sc_base::{OutOfMemory, Sequence};
+use sc_edges::{Sink, Source};
+use sc_statuses::{Said, Wanted, fault_text, print, wanted_of};
+use std::alloc::Global;
+use std::sync::Wait;
+use std::thread::Threads;
+
+// The text for what is asked.
+fn say<S: Source, G: Gate, R: Threads + Wait + Sync>(
+    rt: &R,
+    alloc: Global,
+    words: &[String],
+    input: &mut S,
+    gate: &G,
+) -> Result<(Said, Text), OutOfMemory>
+    ensures says { IfOk result (λ begun. Says (map string_bytes words.now) (S.left input.old)
+        (S.faults input.old) (S.faults input.new) begun.0 begun.1) }
+    ensures unread { is_run (map string_bytes words.now) ≡ false → input.new ≡ input.old }
+{
+    match wanted_of(alloc, words, input)? {
+        Wanted::Usage => {
+            let text = tells(alloc, b"usage: scatter run | scatter make N S")?;
+            Ok((Said::Usage, text))
+        }
+        Wanted::ReadFault => {
+            let text = tells(alloc, b"read fault")?;
+            Ok((Said::ReadFault, text))
+        }
+        Wanted::BadScenario { line, why } => {
+            let message = fault_text(alloc, line, why)?;
+            let text = tells(alloc, message.as_slice())?;
+            Ok((Said::BadScenario, text))
+        }
+        Wanted::Run(scenario) => report(rt, alloc, &scenario, gate),
+    }
+}
+
+/// Reads a scenario, runs it and prints its report.
+///
+/// The words are those behind the program's name. Each line of output is one call of the sink. A
+/// fault of the sink wins over the status that the text belongs to. The gate is passed before each
+/// row that delivers a mail.
+pub fn run<S: Source, K: Sink, G: Gate, R: Threads + Wait + Sync>(
+    rt: &R,
+    alloc: Global,
+    words: &Vec<String>,
+    input: &mut S,
+    output: &mut K,
+    gate: &G,
+) -> Done
+    ensures runs { Runs (map string_bytes words.now.items)
+        (S.left input.old) (S.faults input.old) (S.faults input.new)
+        (K.held output.old) (K.held output.new) (K.faults output.old) (K.faults output.new) result }
+    ensures unread { is_run (map string_bytes words.now.items) ≡ false → input.new ≡ input.old }
+{
+    let (said, text) = match say(rt, alloc, words.as_slice(), input, gate) {
+        Ok(begun) => begun,
+        Err(OutOfMemory) => {
+            return Done {
+                status: 8,
+                journal: None,
+                parties: Sequence::new(alloc),
+            };
+        }
+    };
+    let Text {
+        lines,
+        journal,
+        parties,
+    } = text;
+    let status = print(output, said, lines.as_slice());
+    Done {
+        status,
+        journal,
+        parties,
+    }
+}

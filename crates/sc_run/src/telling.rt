@@ -1,0 +1,50 @@
+//! Texts of one line.
+ghost use Rattle.std.specs.Prelude.{◌≡◌, IfOk, length};
+ghost use Rattle.sc_run.specs.Run.{Tells, TellsFull, full_line};
+
+use crate::done::Text;
+use sc_actor::Journal;
+use sc_base::{OutOfMemory, Sequence};
+use sc_cmd::OrderLine;
+use sc_mail::Mail;
+use sc_report::ReportLine;
+use std::alloc::Global;
+
+/// A text of one line, about no journal.
+pub fn tells(alloc: Global, message: &[u8]) -> Result<Text, OutOfMemory>
+    ensures { IfOk result (λ text. Tells message.now text) }
+{
+    let mut bytes = Vec::from_slice(alloc, message)?;
+    bytes.push(b'\n')?;
+    let mut lines = Sequence::new(alloc);
+    lines.push(ReportLine::from_vec(bytes))?;
+    Ok(Text {
+        lines,
+        journal: None,
+        parties: Sequence::new(alloc),
+    })
+}
+
+// The line that a journal is full after so many rows.
+fn full_line(alloc: Global, rows: u64) -> Result<ReportLine, OutOfMemory>
+    ensures { IfOk result (λ line. line ≡ full_line rows) }
+{
+    let text = format!(in alloc; "journal full after {rows} rows")?;
+    let mut bytes = Vec::from_slice(alloc, text.as_bytes())?;
+    bytes.push(b'\n')?;
+    Ok(ReportLine::from_vec(bytes))
+}
+
+/// The text about a journal that is full.
+pub fn tells_full(alloc: Global, journal: Journal<Mail, OrderLine>) -> Result<Text, OutOfMemory>
+    ensures { IfOk result (λ text. TellsFull journal text) }
+{
+    let line = full_line(alloc, journal.len() as u64)?;
+    let mut lines = Sequence::new(alloc);
+    lines.push(line)?;
+    Ok(Text {
+        lines,
+        journal: Some(journal),
+        parties: Sequence::new(alloc),
+    })
+}

@@ -1,0 +1,16 @@
+//! Tests of runs, of the journals that they leave, and of replays of these. They stand apart, since
+//! a crate with tests is proved twice.
+#![tactic(auto)]
+
+#[cfg(test)]
+mod gates;
+#[cfg(test)]
+mod history_tests;
+#[cfg(test)]
+mod replay_tests;
+#[cfg(test)]
+mod run_tests;
+#[cfg(test)]
+mod thread_tests;
+#[cfg(test)]
+mod tick_tests;

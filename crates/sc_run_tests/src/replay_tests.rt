@@ -1,0 +1,443 @@
+//! Journals that were played, replayed whole and with one row changed, and what a replay says of
+//! them.
+ghost use Rattle.std.specs.Prelude.{◌≡◌};
+ghost use Rattle.sc_scenario.specs.Valid.{IsValid};
+
+use crate::gates::Open;
+use sc_actor::{Event, Journal, Row, are_few};
+use sc_base::{Draw, Op, Sequence};
+use sc_cmd::{Command, OrderLine};
+use sc_ideal::Entry;
+use sc_mail::Mail;
+use sc_replay::{ReplayFault, World, decided_log, history, replay_rows, summary};
+use sc_report::{Summary, lines};
+use sc_run::{Left, play_whole};
+use sc_scenario::{Scenario, read_scenario};
+use sc_statuses::Played;
+use sc_world::Party;
+use std::alloc::Global;
+use std::mem::{self, forget};
+use std::process::Abort;
+use std::sync::Wait;
+use std::thread::Threads;
+
+const PUT_GET: &[u8] =
+    b"scatter 1\nnodes 1\ngroup 0 1\nclient 1\nput a x\nget a\nend\ngo 1\nsettle 100\n";
+
+const PUT_GET_REPORT: &[u8] =
+    b"scatter report 1\nreply 1 1 put none\nreply 1 2 get value x\nring 0 group 0.1 members 1\n\
+        rows 9\nmail 8\ndelivered 8\nskipped 0\nquiet yes\n";
+
+const CRASHED: &[u8] =
+    b"scatter 1\nnodes 3\ngroup 0 1 2 3\nclient 1\nput a x\nend\ncrash 2\ncrash 3\ngo 1\n\
+        settle 100\n";
+
+const REPEATED: &[u8] =
+    b"scatter 1\nnodes 1\ngroup 0 1\nclient 1\nput a x\nend\ngo 1\ndeliver n1 1\nagain 2\n\
+        again 2\nsettle 100\n";
+
+const ELECTION: &[u8] =
+    b"scatter 1\nnodes 3\ngroup 0 1 2 3\nclient 1\nput a x\nend\ngo 1\ndeliver n1 1\ntick n2\n\
+        deliver n3 2\ndeliver n2 2\nsettle 100\n";
+
+const SKIPPED: &[u8] = b"scatter 1\nnodes 1\ngroup 0 1\ndeliver n1 3\n";
+
+const SKIPPED_REPORT: &[u8] =
+    b"scatter report 1\nring 0 group 0.1 members 1\nrows 0\nmail 0\ndelivered 0\nskipped 1\n\
+        quiet yes\n";
+
+const CUT_SHORT: &[u8] =
+    b"scatter 1\nnodes 1\ngroup 0 1\nclient 1\nput a x\nget a\nend\ngo 1\nsettle 1\n";
+
+const CUT_SHORT_REPORT: &[u8] =
+    b"scatter report 1\nunanswered 1 1 put\nunsent 1 2 get\nring 0 group 0.1 members 1\nrows 2\n\
+        mail 2\ndelivered 1\nskipped 0\nquiet no\n";
+
+// What is changed of one row.
+#[derive(Clone, Copy)]
+enum Change {
+    Nothing,
+    Sender,
+    Event,
+    Receiver,
+    Silence,
+    Twice,
+}
+
+// A scenario, what is changed of which row of its journal, and the row that a replay must name (0:
+// none).
+type Case = (&'static [u8], Change, usize, u32);
+
+// The rows of a scenario that is played to its end.
+fn played<R: Abort + Threads + Wait + Sync>(
+    rt: &R,
+    alloc: Global,
+    scenario: &Scenario,
+) -> Journal<Mail, OrderLine>
+    requires { IsValid scenario.now }
+{
+    let left = play_whole(rt, alloc, scenario, 1 << 30, &Open).expect(rt, "memory");
+    let Left {
+        played,
+        journal,
+        parties,
+    } = left;
+    forget(parties);
+    assert!(rt; matches!(played, Played::Ended { .. }));
+    journal
+}
+
+fn scenario_of(rt: &impl Abort, alloc: Global, input: &[u8]) -> Scenario
+    ensures { IsValid result }
+{
+    read_scenario(alloc, input).expect(rt, "a scenario")
+}
+
+// The mails of a row, the first of which goes to another.
+fn sent_elsewhere(rt: &impl Abort, sent: Sequence<Mail>) -> Sequence<Mail> {
+    let mut mails = sent.into_vec();
+    assert!(rt; !mails.is_empty());
+    mails[0].to = mails[0].to.saturating_add(1);
+    Sequence::from_vec(mails)
+}
+
+fn change_row(rt: &impl Abort, alloc: Global, row: &mut Row<Mail, OrderLine>, change: Change) {
+    match change {
+        Change::Sender => row.who = row.who.saturating_add(1),
+        Change::Event => row.event = Event::Crash,
+        Change::Receiver => {
+            let sent = mem::replace(&mut row.sent, Sequence::new(alloc));
+            row.sent = sent_elsewhere(rt, sent);
+        }
+        Change::Silence => forget(mem::replace(&mut row.sent, Sequence::new(alloc))),
+        Change::Nothing | Change::Twice => {}
+    }
+}
+
+// Changes the row of that number, from 1, or adds one.
+fn change_rows(
+    rt: &impl Abort,
+    alloc: Global,
+    rows: &mut Vec<Row<Mail, OrderLine>>,
+    change: Change,
+    number: usize,
+) {
+    if let Change::Twice = change {
+        let tick = Row {
+            who: 1,
+            event: Event::Tick,
+            sent: Sequence::new(alloc),
+        };
+        rows.push(tick).expect(rt, "memory");
+    }
+    if let Some(row) = rows.get_mut(number.saturating_sub(1)) {
+        change_row(rt, alloc, row, change);
+    }
+}
+
+// The journal of a case.
+fn journal_of<R: Abort + Threads + Wait + Sync>(
+    rt: &R,
+    alloc: Global,
+    case: Case,
+) -> Journal<Mail, OrderLine> {
+    let (input, change, number, _) = case;
+    let scenario = scenario_of(rt, alloc, input);
+    let mut rows = played(rt, alloc, &scenario).into_vec();
+    forget(scenario);
+    change_rows(rt, alloc, &mut rows, change, number);
+    Journal::from_vec(rows)
+}
+
+/// The row of a journal that a replay for a scenario names, or 0.
+pub fn named(
+    rt: &impl Abort,
+    alloc: Global,
+    input: &[u8],
+    journal: &Journal<Mail, OrderLine>,
+) -> u32 {
+    let scenario = scenario_of(rt, alloc, input);
+    let at = bad_row(rt, alloc, &scenario, journal);
+    forget(scenario);
+    at
+}
+
+fn bad_row(
+    rt: &impl Abort,
+    alloc: Global,
+    scenario: &Scenario,
+    journal: &Journal<Mail, OrderLine>,
+) -> u32
+    requires { IsValid scenario.now }
+{
+    assert!(rt; are_few(journal.as_slice()));
+    match replay_rows(alloc, scenario, journal) {
+        Ok(world) => {
+            forget(world);
+            0
+        }
+        Err(ReplayFault::BadRow { at }) => at,
+        Err(ReplayFault::OutOfMemory) => panic!(rt; "memory"),
+    }
+}
+
+fn named_of<R: Abort + Threads + Wait + Sync>(rt: &R, alloc: Global, case: Case) -> u32 {
+    let journal = journal_of(rt, alloc, case);
+    let at = named(rt, alloc, case.0, &journal);
+    forget(journal);
+    at
+}
+
+const CASES: &[Case] = &[
+    (PUT_GET, Change::Nothing, 0, 0),
+    (CRASHED, Change::Nothing, 0, 0),
+    (REPEATED, Change::Nothing, 0, 0),
+    (ELECTION, Change::Nothing, 0, 0),
+    (SKIPPED, Change::Nothing, 0, 0),
+    (CUT_SHORT, Change::Nothing, 0, 0),
+    (PUT_GET, Change::Receiver, 4, 4),
+    (PUT_GET, Change::Silence, 2, 2),
+    (PUT_GET, Change::Sender, 3, 3),
+    (PUT_GET, Change::Event, 5, 5),
+    (PUT_GET, Change::Twice, 0, 10),
+    (REPEATED, Change::Sender, 3, 3),
+    (ELECTION, Change::Event, 20, 20),
+    (ELECTION, Change::Sender, 35, 35),
+];
+
+#[test]
+fn a_played_journal_is_replayed_and_a_changed_row_is_named(rt: HostRuntime) {
+    for case in CASES {
+        assert!(rt; named_of(&rt, rt.alloc(), *case) == case.3);
+    }
+}
+
+// The world of a journal of a scenario.
+fn replayed<'a>(
+    rt: &impl Abort,
+    alloc: Global,
+    scenario: &'a Scenario,
+    journal: &'a Journal<Mail, OrderLine>,
+) -> World<'a>
+    requires { IsValid scenario.now }
+    ensures { result.scenario ≡ scenario.now }
+{
+    assert!(rt; are_few(journal.as_slice()));
+    match replay_rows(alloc, scenario, journal) {
+        Ok(world) => world,
+        Err(_) => panic!(rt; "the rows are not lawful"),
+    }
+}
+
+// The text of a report.
+fn text_of(rt: &impl Abort, alloc: Global, told: &Summary) -> Vec<u8> {
+    let mut text = Vec::new(alloc);
+    let lines = lines(alloc, told).expect(rt, "memory");
+    for line in lines.as_slice() {
+        text.extend_from_slice(line.bytes()).expect(rt, "memory");
+    }
+    forget(lines);
+    text
+}
+
+// What a replay tells of a journal.
+fn told_by(
+    rt: &impl Abort,
+    alloc: Global,
+    scenario: &Scenario,
+    journal: &Journal<Mail, OrderLine>,
+) -> Summary
+    requires { IsValid scenario.now }
+{
+    let world = replayed(rt, alloc, scenario, journal);
+    let told = summary(alloc, scenario, &world).expect(rt, "memory");
+    forget(world);
+    told
+}
+
+fn report_of<R: Abort + Threads + Wait + Sync>(rt: &R, alloc: Global, input: &[u8]) -> Vec<u8> {
+    let scenario = scenario_of(rt, alloc, input);
+    let journal = played(rt, alloc, &scenario);
+    let told = told_by(rt, alloc, &scenario, &journal);
+    forget(journal);
+    forget(scenario);
+    let text = text_of(rt, alloc, &told);
+    forget(told);
+    text
+}
+
+const REPORTS: &[(&[u8], &[u8])] = &[
+    (PUT_GET, PUT_GET_REPORT),
+    (SKIPPED, SKIPPED_REPORT),
+    (CUT_SHORT, CUT_SHORT_REPORT),
+];
+
+#[test]
+fn a_replay_tells_the_report_of_its_rows(rt: HostRuntime) {
+    for (input, report) in REPORTS {
+        assert!(rt; report_of(&rt, rt.alloc(), *input).as_slice() == *report);
+    }
+}
+
+// What was asked as the request of client 1 with a number, from 1.
+fn asked(scenario: &Scenario, number: u32) -> Option<&Op> {
+    let asks = scenario.clients.as_slice().first()?;
+    asks.ops.as_slice().get(number.checked_sub(1)? as usize)
+}
+
+// The number of a command that is that request of client 1, or 0.
+fn number_of(scenario: &Scenario, command: &Command) -> u32 {
+    match command {
+        Command::Call { client, seq, op } => {
+            if *client == 1 && asked(scenario, *seq) == Some(op) {
+                *seq
+            } else {
+                0
+            }
+        }
+        _ => 0,
+    }
+}
+
+// The numbers of the decided log of a group in a world.
+fn numbers_of(
+    rt: &impl Abort,
+    alloc: Global,
+    scenario: &Scenario,
+    world: &World<'_>,
+    group: Draw,
+) -> Vec<u32> {
+    let log = decided_log(alloc, world, group).expect(rt, "memory");
+    let mut numbers = Vec::new(alloc);
+    for command in log.as_slice() {
+        let number = number_of(scenario, command);
+        numbers.push(number).expect(rt, "memory");
+    }
+    forget(log);
+    numbers
+}
+
+// The number of an entry that is that request of client 1 with the value that it found, or 0.
+fn entry_number(scenario: &Scenario, found: &[Option<&[u8]>], entry: &Entry) -> u32 {
+    let old = match &entry.reply.old {
+        Some(value) => Some(value.bytes()),
+        None => None,
+    };
+    let is_asked = entry.client == 1 && asked(scenario, entry.seq) == Some(&entry.op);
+    let at = entry.seq.saturating_sub(1) as usize;
+    if is_asked && found.get(at) == Some(&old) {
+        entry.seq
+    } else {
+        0
+    }
+}
+
+// The numbers of the history of a world, whose requests found these values.
+fn entries_of(
+    rt: &impl Abort,
+    alloc: Global,
+    scenario: &Scenario,
+    world: &World<'_>,
+    found: &[Option<&[u8]>],
+) -> Vec<u32> {
+    let entries = history(alloc, world).expect(rt, "memory");
+    let mut numbers = Vec::new(alloc);
+    for entry in entries.as_slice() {
+        let number = entry_number(scenario, found, entry);
+        numbers.push(number).expect(rt, "memory");
+    }
+    forget(entries);
+    numbers
+}
+
+// How many nodes a replay leaves, how many clients, and how many of these await an answer.
+fn left_of(parties: &[Party]) -> [u32; 3] {
+    let (mut nodes, mut clients, mut waiting) = (0u32, 0u32, 0u32);
+    for party in parties {
+        match party {
+            Party::Node(_) => nodes = nodes.saturating_add(1),
+            Party::Client(client) => {
+                clients = clients.saturating_add(1);
+                if client.waiting().is_some() {
+                    waiting = waiting.saturating_add(1);
+                }
+            }
+        }
+    }
+    [nodes, clients, waiting]
+}
+
+// What the two requests of a history found.
+const FOUND: &[Option<&[u8]>] = &[None, Some(b"x")];
+
+// What is asked of the world of a run: the log of a group, the history whose requests found FOUND,
+// or what is left.
+#[derive(Clone, Copy)]
+enum Question {
+    Log(Draw),
+    History,
+    Left,
+}
+
+fn answer(
+    rt: &impl Abort,
+    alloc: Global,
+    scenario: &Scenario,
+    world: &World<'_>,
+    question: Question,
+) -> Vec<u32> {
+    match question {
+        Question::Log(group) => numbers_of(rt, alloc, scenario, world, group),
+        Question::History => entries_of(rt, alloc, scenario, world, FOUND),
+        Question::Left => Vec::from_slice(alloc, &left_of(world.parties())).expect(rt, "memory"),
+    }
+}
+
+fn told<R: Abort + Threads + Wait + Sync>(
+    rt: &R,
+    alloc: Global,
+    input: &[u8],
+    question: Question,
+) -> Vec<u32> {
+    let scenario = scenario_of(rt, alloc, input);
+    let journal = played(rt, alloc, &scenario);
+    let world = replayed(rt, alloc, &scenario, &journal);
+    let told = answer(rt, alloc, &scenario, &world, question);
+    forget(world);
+    forget(journal);
+    forget(scenario);
+    told
+}
+
+// Whether a run's world answers this.
+fn tells<R: Abort + Threads + Wait + Sync>(
+    rt: &R,
+    alloc: Global,
+    input: &[u8],
+    question: Question,
+    expected: &[u32],
+) -> bool {
+    told(rt, alloc, input, question).as_slice() == expected
+}
+
+// The log of the group that is named so.
+fn log_of(node: u16) -> Question {
+    Question::Log(Draw { node, count: 1 })
+}
+
+#[test]
+fn a_put_and_a_get_are_decided_in_order(rt: HostRuntime) {
+    assert!(rt; tells(&rt, rt.alloc(), PUT_GET, log_of(0), &[1, 2]));
+    assert!(rt; tells(&rt, rt.alloc(), PUT_GET, log_of(1), &[]));
+}
+
+#[test]
+fn a_put_finds_nothing_and_a_get_finds_what_was_put(rt: HostRuntime) {
+    assert!(rt; tells(&rt, rt.alloc(), PUT_GET, Question::History, &[1, 2]));
+}
+
+#[test]
+fn a_replay_leaves_each_node_and_client_where_its_rows_do(rt: HostRuntime) {
+    assert!(rt; tells(&rt, rt.alloc(), PUT_GET, Question::Left, &[1, 1, 0]));
+    assert!(rt; tells(&rt, rt.alloc(), CUT_SHORT, Question::Left, &[1, 1, 1]));
+}

@@ -1,0 +1,237 @@
+//! Lines of many deliveries, which several workers make.
+
+use crate::gates::Open;
+use crate::replay_tests::named;
+use crate::run_tests::ended;
+use sc_actor::Gate;
+use sc_edges::MemSink;
+use std::alloc::Global;
+use std::mem::forget;
+use std::process::Abort;
+use std::sync::Wait;
+use std::sync::atomic::{AtomicU64, Ordering};
+use std::thread;
+use std::thread::Threads;
+
+// A text around a line of deliveries, and how the report begins with any number of workers.
+type Case = (&'static [u8], &'static [u8], &'static [u8]);
+
+const PUT_REPLY: &[u8] = b"scatter report 1\nreply 1 1 put none\nring ";
+
+const ONE_NODE: &[u8] = b"scatter 1\nnodes 1\ngroup 0 1\nclient 1\nput a x\nget a\nend\ngo 1\n";
+
+const ONE_NODE_REPLIES: &[u8] =
+    b"scatter report 1\nreply 1 1 put none\nreply 1 2 get value x\nring ";
+
+const THREE_NODES: &[u8] =
+    b"scatter 1\nnodes 3\ngroup 0 1 2 3\nclient 1\nput a x\nend\nclient 2\nput b y\nget b\nend\n\
+        go 1\ngo 2\n";
+
+const THREE_NODES_REPLIES: &[u8] =
+    b"scatter report 1\nreply 1 1 put none\nreply 2 1 put none\nreply 2 2 get value y\nring ";
+
+const FIVE_NODES: &[u8] =
+    b"scatter 1\nnodes 5\ngroup 0 1 2 3 4 5\nclient 1\nput a x\ndel a\nget a\nend\nclient 2\n\
+        put b y\nput b z\nend\ngo 1\ngo 2\n";
+
+const FIVE_NODES_REPLIES: &[u8] =
+    b"scatter report 1\nreply 1 1 put none\nreply 1 2 del value x\nreply 1 3 get none\n\
+        reply 2 1 put none\nreply 2 2 put value y\nring ";
+
+const ONE_CRASHED: &[u8] =
+    b"scatter 1\nnodes 3\ngroup 0 1 2 3\nclient 1\nput a x\nend\nclient 2\nget b\nend\ncrash 3\n\
+        go 1\ngo 2\n";
+
+const ONE_CRASHED_REPLIES: &[u8] =
+    b"scatter report 1\nreply 1 1 put none\nreply 2 1 get none\nring ";
+
+const TWO_LINES: &[u8] =
+    b"scatter 1\nnodes 2\ngroup 0 1 2\nclient 1\nput a x\nend\nclient 2\nget a\nend\ngo 1\n";
+
+const TWO_LINES_REPLIES: &[u8] =
+    b"scatter report 1\nreply 1 1 put none\nreply 2 1 get value x\nring ";
+
+const JOINED: &[u8] =
+    b"scatter 1\nnodes 2\ngroup 0 1\nclient 1\nput a x\nend\norder 1 join 2 0.1\nsettle 100\n\
+        go 1\n";
+
+const JOINED_REPLIES: &[u8] = b"scatter report 1\nreply 1 1 put none\norder 1 done\nring ";
+
+const REPEATED: &[u8] =
+    b"scatter 1\nnodes 1\ngroup 0 1\nclient 1\nput a x\nend\ngo 1\ndeliver n1 1\nagain 2\n";
+
+const LOST: &[u8] =
+    b"scatter 1\nnodes 3\ngroup 0 1 2 3\nclient 1\nput a x\nend\ngo 1\ndeliver n1 1\ndrop n2 1\n";
+
+const ELECTED: &[u8] =
+    b"scatter 1\nnodes 3\ngroup 0 1 2 3\nclient 1\nput a x\nend\ntick n2\nsettle 100\ngo 1\n";
+
+const EIGHT_CLIENTS: &[u8] =
+    b"scatter 1\nnodes 3\ngroup 0 1 2 3\nclient 1\nput a x\nget a\nend\nclient 2\nput b x\n\
+        get b\nend\nclient 3\nput c x\nget c\nend\nclient 4\nput d x\nget d\nend\nclient 5\n\
+        put e x\nget e\nend\nclient 6\nput f x\nget f\nend\nclient 7\nput g x\nget g\nend\n\
+        client 8\nput h x\nget h\nend\ngo 1\ngo 2\ngo 3\ngo 4\ngo 5\ngo 6\ngo 7\ngo 8\n";
+
+const EIGHT_REPLIES: &[u8] =
+    b"scatter report 1\nreply 1 1 put none\nreply 1 2 get value x\nreply 2 1 put none\n\
+        reply 2 2 get value x\nreply 3 1 put none\nreply 3 2 get value x\nreply 4 1 put none\n\
+        reply 4 2 get value x\nreply 5 1 put none\nreply 5 2 get value x\nreply 6 1 put none\n\
+        reply 6 2 get value x\nreply 7 1 put none\nreply 7 2 get value x\nreply 8 1 put none\n\
+        reply 8 2 get value x\nring ";
+
+fn add(rt: &impl Abort, text: &mut Vec<u8>, part: &[u8]) {
+    text.extend_from_slice(part).expect(rt, "memory");
+}
+
+// The text with a line of deliveries by so many workers.
+fn input_of(rt: &impl Abort, alloc: Global, case: Case, workers: &[u8]) -> Vec<u8> {
+    let (before, after, _) = case;
+    let mut text = Vec::new(alloc);
+    add(rt, &mut text, before);
+    add(rt, &mut text, b"free 1000 ");
+    add(rt, &mut text, workers);
+    add(rt, &mut text, b"\n");
+    add(rt, &mut text, after);
+    text
+}
+
+// Whether a run ends settled, its report begins so, and its journal is lawful.
+fn runs_so<R: Abort + Threads + Wait + Sync>(
+    rt: &R,
+    alloc: Global,
+    input: &[u8],
+    begins: &[u8],
+) -> bool {
+    let mut sink = MemSink::new(alloc, 2000, &[]).expect(rt, "memory");
+    let done = ended(rt, alloc, "run", (input, 0), &mut sink, &Open);
+    let is_so = done.status == 0 && sink.held().starts_with(begins);
+    let is_lawful = match &done.journal {
+        Some(journal) => named(rt, alloc, input, journal) == 0,
+        None => false,
+    };
+    forget(done);
+    forget(sink);
+    is_so && is_lawful
+}
+
+const WORKERS: &[&[u8]] = &[b"1", b"2", b"4", b"8", b"16"];
+
+// Whether the replies of a case are the same with any number of workers.
+fn is_same<R: Abort + Threads + Wait + Sync>(rt: &R, alloc: Global, case: Case) -> bool {
+    for workers in WORKERS {
+        let input = input_of(rt, alloc, case, workers);
+        if !runs_so(rt, alloc, &input, case.2) {
+            return false;
+        }
+    }
+    true
+}
+
+const CASES: &[Case] = &[
+    (ONE_NODE, b"", ONE_NODE_REPLIES),
+    (THREE_NODES, b"", THREE_NODES_REPLIES),
+    (FIVE_NODES, b"", FIVE_NODES_REPLIES),
+    (ONE_CRASHED, b"", ONE_CRASHED_REPLIES),
+    (TWO_LINES, b"go 2\nsettle 100\n", TWO_LINES_REPLIES),
+    (JOINED, b"", JOINED_REPLIES),
+    (REPEATED, b"", PUT_REPLY),
+    (LOST, b"", PUT_REPLY),
+    (ELECTED, b"", PUT_REPLY),
+    (EIGHT_CLIENTS, b"", EIGHT_REPLIES),
+];
+
+#[test]
+fn replies_do_not_depend_on_the_number_of_workers(rt: HostRuntime) {
+    for case in CASES {
+        assert!(rt; is_same(&rt, rt.alloc(), *case));
+    }
+}
+
+// Holds node 1 and node 2, each in its first pass of the line of deliveries until the other has
+// come to its own, for so many turns of waiting.
+#[derive(Drop)]
+struct Pair {
+    turns: u32,
+    first: AtomicU64,
+    second: AtomicU64,
+    late: AtomicU64,
+}
+
+impl Pair {
+    // Waits until the other has come so often.
+    fn hold(&self, other: &AtomicU64, times: u64) {
+        for i in 0..self.turns {
+            let _ = i;
+            if other.load(Ordering::SeqCst) >= times {
+                return;
+            }
+            thread::yield_now();
+        }
+        self.late.fetch_add(1, Ordering::SeqCst);
+    }
+}
+
+// Node 1 passes once before the line.
+impl Gate for Pair {
+    fn pass(&self, who: u32) {
+        if who == 1 && self.first.fetch_add(1, Ordering::SeqCst) == 1 {
+            self.hold(&self.second, 1);
+        }
+        if who == 2 && self.second.fetch_add(1, Ordering::SeqCst) == 0 {
+            self.hold(&self.first, 2);
+        }
+    }
+}
+
+const GATE_AT_FOUR: &[u8] =
+    b"scatter 1\nnodes 2\ngroup 0 1 2\nclient 1\nput a x\nend\ngo 1\ndeliver n1 1\nfree 100 4\n";
+
+const GATE_AT_ONE: &[u8] =
+    b"scatter 1\nnodes 2\ngroup 0 1 2\nclient 1\nput a x\nend\ngo 1\ndeliver n1 1\nfree 100 1\n";
+
+const GATE_REPORT: &[u8] =
+    b"scatter report 1\nreply 1 1 put none\nring 0 group 0.1 members 1 2\nrows 8\nmail 7\n\
+        delivered 7\nskipped 0\nquiet yes\n";
+
+// Whether a run through a gate ends with that report, and both nodes came.
+fn is_passed<R: Abort + Threads + Wait + Sync>(
+    rt: &R,
+    alloc: Global,
+    input: &[u8],
+    gate: &Pair,
+) -> bool {
+    let mut sink = MemSink::new(alloc, 1000, &[]).expect(rt, "memory");
+    let done = ended(rt, alloc, "run", (input, 0), &mut sink, gate);
+    let came = gate.first.load(Ordering::SeqCst) >= 2 && gate.second.load(Ordering::SeqCst) >= 1;
+    let is_so = done.status == 0 && sink.held() == GATE_REPORT;
+    forget(done);
+    forget(sink);
+    is_so && came
+}
+
+// How many waits ended late in such a run, or none where there was another.
+fn lateness<R: Abort + Threads + Wait + Sync>(
+    rt: &R,
+    alloc: Global,
+    input: &[u8],
+    turns: u32,
+) -> Option<u64> {
+    let gate = Pair {
+        turns,
+        first: AtomicU64::new(0),
+        second: AtomicU64::new(0),
+        late: AtomicU64::new(0),
+    };
+    if is_passed(rt, alloc, input, &gate) {
+        Some(gate.late.load(Ordering::SeqCst))
+    } else {
+        None
+    }
+}
+
+#[test]
+fn nodes_of_one_group_work_at_the_same_time(rt: HostRuntime) {
+    let four = lateness(&rt, rt.alloc(), GATE_AT_FOUR, 1_000_000);
+    let one = lateness(&rt, rt.alloc(), GATE_AT_ONE, 1_000);
+    assert!(rt; four == Some(0) && one == Some(1));
+}

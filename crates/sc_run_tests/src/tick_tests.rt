@@ -1,0 +1,44 @@
+//! Journals of ticks, and the first row of them that is not lawful.
+use crate::replay_tests::named;
+use sc_actor::{Event, Journal, Row};
+use sc_base::Sequence;
+use sc_cmd::OrderLine;
+use sc_mail::Mail;
+use std::alloc::Global;
+use std::mem::forget;
+use std::process::Abort;
+
+const TICK: &[u8] = b"scatter 1\nnodes 1\ngroup 0 1\ntick n1\n";
+
+// The rows of one tick of an actor each, which send nothing.
+fn rows_of(rt: &impl Abort, alloc: Global, actors: &[u32]) -> Journal<Mail, OrderLine> {
+    let mut rows = Journal::new(alloc);
+    for who in actors {
+        let tick = Row {
+            who: *who,
+            event: Event::Tick,
+            sent: Sequence::new(alloc),
+        };
+        rows.push(tick).expect(rt, "memory");
+    }
+    rows
+}
+
+// The row that a replay of these ticks names, or 0 where they are lawful.
+fn named_of(rt: &impl Abort, alloc: Global, actors: &[u32]) -> u32 {
+    let rows = rows_of(rt, alloc, actors);
+    let at = named(rt, alloc, TICK, &rows);
+    forget(rows);
+    at
+}
+
+#[test]
+fn the_first_unlawful_row_is_named(rt: HostRuntime) {
+    let named = [
+        named_of(&rt, rt.alloc(), &[]),
+        named_of(&rt, rt.alloc(), &[1]),
+        named_of(&rt, rt.alloc(), &[2]),
+        named_of(&rt, rt.alloc(), &[1, 1]),
+    ];
+    assert!(rt; named == [0, 0, 1, 2]);
+}

@@ -1,0 +1,384 @@
+//! Journals of toy actors, each of which sends one note at each input while it has turns left.
+ghost use Rattle.std.specs.Prelude.{[], ◌∷◌, ◌-◌, ◌==◌, if◌then◌else◌};
+
+use crate::notes::Note;
+use sc_actor::{Actor, Event, Input, Journal, Line, Row, Seat, are_apart, are_few, have_one_task};
+use sc_base::{OutOfMemory, Sequence};
+use sc_checker::{Replayed, is_lawful, pending_of, replay};
+use std::alloc::Global;
+use std::mem::forget;
+use std::process::Abort;
+
+#[derive(Drop)]
+struct Relay {
+    left: u32,
+    next: u32,
+}
+
+impl Actor for Relay {
+    type Mail = Note;
+
+    type Order = u32;
+
+    ghost table = { λ relay _.
+        if relay.left == 0 then (relay, []) else (
+          record { left = relay.left - 1; next = relay.next },
+          (record { to = relay.next; size = 7 })
+              ∷ [],
+        ) };
+
+    fn step(
+        &mut self,
+        alloc: Global,
+        _input: &Input<Note, u32>,
+    ) -> Result<Sequence<Note>, OutOfMemory> {
+        let mut sent = Sequence::new(alloc);
+        if self.left > 0 {
+            self.left -= 1;
+            sent.push(Note {
+                to: self.next,
+                size: 7,
+            })?;
+        }
+        Ok(sent)
+    }
+}
+
+// Actors 1 and 2, which send to each other, with two turns each.
+fn pair(rt: &impl Abort, alloc: Global) -> Vec<Seat<Relay>> {
+    let one = Seat {
+        who: 1,
+        actor: Relay { left: 2, next: 2 },
+    };
+    let two = Seat {
+        who: 2,
+        actor: Relay { left: 2, next: 1 },
+    };
+    let mut seats = Vec::new(alloc);
+    seats.push(one).expect(rt, "memory");
+    seats.push(two).expect(rt, "memory");
+    seats
+}
+
+// At what event an actor acted.
+#[derive(Clone, Copy)]
+enum When {
+    Deliver(u32),
+    Tick,
+    Go,
+    Crash,
+    Drop(u32),
+    Again(u32),
+}
+
+// A row: who acted, at what event, and to whom it sent a note, or 0 for nobody.
+type Act = (u32, When, u32);
+
+fn event_of(when: When) -> Event<u32> {
+    match when {
+        When::Deliver(mail) => Event::Deliver(mail),
+        When::Tick => Event::Tick,
+        When::Go => Event::Go,
+        When::Crash => Event::Crash,
+        When::Drop(mail) => Event::Drop(mail),
+        When::Again(mail) => Event::Again(mail),
+    }
+}
+
+fn notes_to(rt: &impl Abort, alloc: Global, to: u32) -> Sequence<Note> {
+    let mut notes = Sequence::new(alloc);
+    if to > 0 {
+        notes.push(Note { to, size: 7 }).expect(rt, "memory");
+    }
+    notes
+}
+
+fn row_of(rt: &impl Abort, alloc: Global, act: Act) -> Row<Note, u32> {
+    let (who, when, to) = act;
+    Row {
+        who,
+        event: event_of(when),
+        sent: notes_to(rt, alloc, to),
+    }
+}
+
+fn journal(rt: &impl Abort, alloc: Global, acts: &[Act]) -> Journal<Note, u32> {
+    let mut rows = Sequence::new(alloc);
+    for act in acts {
+        rows.push(row_of(rt, alloc, *act)).expect(rt, "memory");
+    }
+    rows
+}
+
+// Whether rows are lawful for these lines.
+fn lawful(rt: &impl Abort, alloc: Global, lines: &[Line<u32>], acts: &[Act]) -> bool {
+    let rows = journal(rt, alloc, acts);
+    let seats = pair(rt, alloc);
+    assert!(rt; have_one_task(lines) && are_apart(&seats) && are_few(rows.as_slice()));
+    let is_lawful = is_lawful(alloc, seats, lines, rows.as_slice()).expect(rt, "memory");
+    forget(rows);
+    is_lawful
+}
+
+// How many first parts of rows are lawful, all of them among these.
+fn lawful_parts(rt: &impl Abort, alloc: Global, lines: &[Line<u32>], acts: &[Act]) -> usize {
+    let mut parts = 0usize;
+    for n in 0..acts.len() {
+        if lawful(rt, alloc, lines, &acts[..n]) {
+            parts = parts.saturating_add(1);
+        }
+    }
+    if lawful(rt, alloc, lines, acts) {
+        parts = parts.saturating_add(1);
+    }
+    parts
+}
+
+// What rows leave.
+#[derive(Clone, Copy)]
+struct Left {
+    skipped: u64,
+    // Whether a line was cut off.
+    unsettled: bool,
+    // Whether no mail is pending.
+    quiet: bool,
+    // The turns that each actor has left.
+    turns: (u32, u32),
+}
+
+fn is_left(left: &Replayed<Relay>, wanted: Left) -> bool {
+    match left.seats.as_slice() {
+        [one, two] => {
+            left.skipped == wanted.skipped
+                && left.unsettled == wanted.unsettled
+                && left.quiet == wanted.quiet
+                && one.actor.left == wanted.turns.0
+                && two.actor.left == wanted.turns.1
+        }
+        _ => false,
+    }
+}
+
+fn is_told(left: &Option<Replayed<Relay>>, wanted: Option<Left>) -> bool {
+    match (left, wanted) {
+        (Some(left), Some(wanted)) => is_left(left, wanted),
+        (None, None) => true,
+        _ => false,
+    }
+}
+
+// Whether rows leave this, or are not lawful where nothing is wanted.
+fn leave(
+    rt: &impl Abort,
+    alloc: Global,
+    lines: &[Line<u32>],
+    acts: &[Act],
+    wanted: Option<Left>,
+) -> bool {
+    let rows = journal(rt, alloc, acts);
+    let seats = pair(rt, alloc);
+    assert!(rt; have_one_task(lines) && are_apart(&seats) && are_few(rows.as_slice()));
+    let left = replay(alloc, seats, lines, rows.as_slice()).expect(rt, "memory");
+    let is_so = is_told(&left, wanted);
+    forget(left);
+    forget(rows);
+    is_so
+}
+
+// Whether the mail that rows leave pending has these numbers.
+fn leave_pending(
+    rt: &impl Abort,
+    alloc: Global,
+    acts: &[Act],
+    whose: Option<u32>,
+    wanted: &[u32],
+) -> bool {
+    let rows = journal(rt, alloc, acts);
+    let seats = pair(rt, alloc);
+    assert!(rt; are_few(rows.as_slice()));
+    let found = pending_of(alloc, &seats, rows.as_slice(), whose).expect(rt, "memory");
+    let is_so = found.as_slice() == wanted;
+    forget(found);
+    forget(seats);
+    forget(rows);
+    is_so
+}
+
+// Actor 1 goes, and all mail is delivered.
+const SETTLED: [Act; 5] = [
+    (1, When::Go, 2),
+    (2, When::Deliver(1), 1),
+    (1, When::Deliver(2), 2),
+    (2, When::Deliver(3), 1),
+    (1, When::Deliver(4), 0),
+];
+
+// A repeat, two losses, a tick and a crash.
+const TROUBLED: [Act; 8] = [
+    (1, When::Go, 2),
+    (0, When::Again(1), 0),
+    (0, When::Drop(1), 0),
+    (1, When::Tick, 2),
+    (0, When::Drop(1), 0),
+    (2, When::Deliver(2), 1),
+    (2, When::Crash, 0),
+    (1, When::Deliver(3), 0),
+];
+
+const GO_AND_SETTLE: &[Line<u32>] = &[Line::Go { who: 1 }, Line::Settle { most: 10 }];
+
+const GO_AND_FREE: &[Line<u32>] = &[
+    Line::Go { who: 1 },
+    Line::Free {
+        most: 10,
+        workers: 1,
+    },
+];
+
+const GO_AND_TWO: &[Line<u32>] = &[Line::Go { who: 1 }, Line::Settle { most: 2 }];
+
+const OTHER_GOES: &[Line<u32>] = &[Line::Go { who: 2 }, Line::Settle { most: 10 }];
+
+#[test]
+fn the_tables_rows_are_lawful(rt: HostRuntime) {
+    assert!(rt; lawful_parts(&rt, rt.alloc(), GO_AND_SETTLE, &SETTLED) == 6);
+    assert!(rt; lawful_parts(&rt, rt.alloc(), GO_AND_FREE, &SETTLED) == 6);
+    assert!(rt; lawful_parts(&rt, rt.alloc(), GO_AND_TWO, &SETTLED) == 4);
+    assert!(rt; lawful_parts(&rt, rt.alloc(), OTHER_GOES, &SETTLED) == 1);
+}
+
+// The second row left out, the first one twice, the second one by another, to another, without its
+// note, and at another event.
+const CHANGED: [[Act; 2]; 6] = [
+    [(1, When::Go, 2), (1, When::Deliver(2), 2)],
+    [(1, When::Go, 2), (1, When::Go, 2)],
+    [(1, When::Go, 2), (1, When::Deliver(1), 1)],
+    [(1, When::Go, 2), (2, When::Deliver(1), 2)],
+    [(1, When::Go, 2), (2, When::Deliver(1), 0)],
+    [(1, When::Go, 2), (2, When::Tick, 1)],
+];
+
+#[test]
+fn changed_rows_are_not_lawful(rt: HostRuntime) {
+    for acts in &CHANGED {
+        assert!(rt; lawful_parts(&rt, rt.alloc(), GO_AND_SETTLE, acts) == 2);
+    }
+    // A note too many.
+    let mut more = SETTLED;
+    more[4].2 = 2;
+    assert!(rt; lawful_parts(&rt, rt.alloc(), GO_AND_SETTLE, &more) == 5);
+}
+
+const BOTH_AND_FREE: &[Line<u32>] = &[
+    Line::Go { who: 1 },
+    Line::Go { who: 2 },
+    Line::Free {
+        most: 2,
+        workers: 2,
+    },
+];
+
+const BOTH_AND_TWO: &[Line<u32>] = &[
+    Line::Go { who: 1 },
+    Line::Go { who: 2 },
+    Line::Settle { most: 2 },
+];
+
+const SECOND_FIRST: [Act; 4] = [
+    (1, When::Go, 2),
+    (2, When::Go, 1),
+    (1, When::Deliver(2), 2),
+    (2, When::Deliver(1), 1),
+];
+
+// Of one actor's mail only the first may come.
+const LATER_MAIL: [Act; 4] = [
+    (1, When::Go, 2),
+    (2, When::Go, 1),
+    (1, When::Deliver(2), 2),
+    (2, When::Deliver(3), 1),
+];
+
+#[test]
+fn free_lines_leave_the_order_of_actors_open(rt: HostRuntime) {
+    let left = Left {
+        skipped: 0,
+        unsettled: true,
+        quiet: false,
+        turns: (0, 0),
+    };
+    assert!(rt; leave(&rt, rt.alloc(), BOTH_AND_FREE, &SECOND_FIRST, Some(left)));
+    assert!(rt; lawful_parts(&rt, rt.alloc(), BOTH_AND_TWO, &SECOND_FIRST) == 3);
+    assert!(rt; lawful_parts(&rt, rt.alloc(), BOTH_AND_FREE, &LATER_MAIL) == 4);
+}
+
+const SKIPPED: &[Line<u32>] = &[
+    Line::Go { who: 1 },
+    Line::Go { who: 1 },
+    Line::Deliver { who: 2, k: 2 },
+    Line::Again { mail: 1 },
+    Line::Drop { who: 2, k: 1 },
+    Line::Tick { who: 1 },
+    Line::Drop { who: 2, k: 1 },
+    Line::Deliver { who: 2, k: 2 },
+    Line::Deliver { who: 2, k: 1 },
+    Line::Crash { who: 2 },
+    Line::Told { who: 2, order: 7 },
+    Line::Again { mail: 1 },
+    Line::Deliver { who: 2, k: 1 },
+    Line::Settle { most: 5 },
+];
+
+#[test]
+fn lines_are_skipped_where_they_make_no_row(rt: HostRuntime) {
+    let left = Left {
+        skipped: 6,
+        unsettled: false,
+        quiet: true,
+        turns: (0, 1),
+    };
+    assert!(rt; lawful_parts(&rt, rt.alloc(), SKIPPED, &TROUBLED) == 9);
+    assert!(rt; leave(&rt, rt.alloc(), SKIPPED, &TROUBLED, Some(left)));
+}
+
+const TWO_SETTLES: &[Line<u32>] = &[
+    Line::Deliver { who: 2, k: 1 },
+    Line::Go { who: 1 },
+    Line::Settle { most: 2 },
+    Line::Settle { most: 9 },
+];
+
+// What is left where one line is skipped.
+fn one_skipped(unsettled: bool, quiet: bool, turns: (u32, u32)) -> Option<Left> {
+    Some(Left {
+        skipped: 1,
+        unsettled,
+        quiet,
+        turns,
+    })
+}
+
+#[test]
+fn a_replay_tells_what_rows_leave(rt: HostRuntime) {
+    let none = one_skipped(false, true, (2, 2));
+    let two = one_skipped(false, false, (1, 1));
+    let three = one_skipped(true, false, (0, 1));
+    let all = one_skipped(true, true, (0, 0));
+    assert!(rt; leave(&rt, rt.alloc(), TWO_SETTLES, &[], none));
+    assert!(rt; leave(&rt, rt.alloc(), TWO_SETTLES, &SETTLED[..2], two));
+    assert!(rt; leave(&rt, rt.alloc(), TWO_SETTLES, &SETTLED[..3], three));
+    assert!(rt; leave(&rt, rt.alloc(), TWO_SETTLES, &SETTLED, all));
+    assert!(rt; leave(&rt, rt.alloc(), TWO_SETTLES, &SETTLED[1..], None));
+}
+
+// The mail of all actors before each row of `TROUBLED`, and after the last one.
+const ALL_PENDING: [&[u32]; 9] = [&[], &[1], &[1, 1], &[1], &[1, 2], &[2], &[3], &[3], &[]];
+
+#[test]
+fn pending_mail_is_looked_up(rt: HostRuntime) {
+    for n in 0..9usize {
+        assert!(rt; leave_pending(&rt, rt.alloc(), &TROUBLED[..n], None, ALL_PENDING[n]));
+    }
+    assert!(rt; leave_pending(&rt, rt.alloc(), &TROUBLED[..4], Some(1), &[]));
+    assert!(rt; leave_pending(&rt, rt.alloc(), &TROUBLED[..4], Some(2), &[1, 2]));
+}

@@ -1,8 +1,0 @@
-use Rattle.std.proofs.Common.{map}
-use Rattle.std.specs.Prelude.{string_bytes}
-use Rattle.scatter.proofs.Readings.{if_ok, of_report}
-use Rattle.scatter.proofs.running.say.Goals as goal
-
-pub returns-in-Run-clause-says : goal.returns-in-Run-clause-says
-returns-in-Run-clause-says g c =
-    if_ok c.report.result _ _ c.report.ensures (λ begun h. of_report (map string_bytes c.args.words.now) _ _ _ _ c.in-Run.scenario begun.0 begun.1 c.in-Run.is c.in_ok-wanted_of.ensures.wanted h)
