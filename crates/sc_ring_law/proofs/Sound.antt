@@ -22,7 +22,7 @@ use Rattle.sc_entries.specs.Worlds.{StoreWorld, named_group, world_after}
 use Rattle.sc_ring_law.specs.Allowed.{Sources, IsAllowed, AreAllowed, ToldWorld, first_told, told_on, told_after}
 use Rattle.sc_ring_law.specs.Stories.{Stories}
 use Rattle.sc_ring_law.specs.Invariant.{Facts}
-use Rattle.sc_ring_law.specs.Laws.{IsInPlace, IsRingSound, EntriesKeepTheRing, EntriesKeepThePromises, DrawsAreOfOneLog, draw_of}
+use Rattle.sc_ring_law.specs.Laws.{IsInPlace, IsRingSound, EntriesKeepTheRing, EntriesKeepThePromises, DrawsAreOfOneLog, draw_of, AllowedListsAppend}
 use Rattle.sc_ring_law.proofs.View.{Holds, HeldBy, CoversBy}
 use Rattle.sc_ring_law.proofs.Finds.{some_is, none_is_not, all_pairs}
 use Rattle.sc_ring_law.proofs.Cuts.{arcs_in, cut_of_arc, arc_of_cut}
@@ -200,3 +200,7 @@ owned_among sources w (b ∷ es) k a (inr x) name e = owned_among sources (told_
 pub draws_are_of_one_log : DrawsAreOfOneLog
 draws_are_of_one_log sources bases entries k a b x y name e q =
     some_is a.group b.group (sym (owned_among sources (first_told bases) entries k a x name e) ∙ owned_among sources (first_told bases) entries k b y name q)
+
+pub allowed_lists_append : AllowedListsAppend
+allowed_lists_append sources w [] more a b = b
+allowed_lists_append sources w (e ∷ es) more a b = (a.0, allowed_lists_append sources (told_on w e) es more a.1 b)

@@ -1,5 +1,5 @@
 -- What holds after every list of allowed entries from the groups of a scenario.
-use Rattle.std.specs.Prelude.{◌≡◌, ℕ, IsTrue, List, [], map, Option, Some, None}
+use Rattle.std.specs.Prelude.{◌≡◌, ℕ, IsTrue, List, [], ◌++◌, map, Option, Some, None}
 use Rattle.sc_base.specs.Among.{Among}
 use Rattle.sc_base.specs.Arc.{end_of}
 use Rattle.sc_base.specs.declared.names.Draw.{Draw}
@@ -15,7 +15,7 @@ use Rattle.sc_entries.specs.declared.LogEntry.{LogEntry}
 use Rattle.sc_entries.specs.Effective.{effective, serves}
 use Rattle.sc_entries.specs.Rings.{Covers, first_cut}
 use Rattle.sc_entries.specs.Worlds.{StoreWorld, named_group, world_of}
-use Rattle.sc_ring_law.specs.Allowed.{Sources, IsAllowed, AreAllowed, first_told, told_after}
+use Rattle.sc_ring_law.specs.Allowed.{Sources, IsAllowed, AreAllowed, ToldWorld, first_told, told_after}
 use Rattle.sc_ring_law.specs.Invariant.{Facts}
 use Rattle.sc_ring_law.specs.Stories.{Stories}
 
@@ -111,3 +111,8 @@ abbrev pub AllowedEntriesStayAllowed : Type 0
 AllowedEntriesStayAllowed = (sources : Sources) (bases : List Base) (entries more : List LogEntry) → BeginInPlace sources bases
     → AreAllowed sources (first_told bases) entries → AreAllowed sources (told_after (first_told bases) entries) more
     → (name : Draw) (command : Command) → IsAllowed sources (stories_of bases entries) name command → IsAllowed sources (told_after (told_after (first_told bases) entries) more).stories name command
+
+-- lists that are allowed one after another are allowed as one
+abbrev pub AllowedListsAppend : Type 0
+AllowedListsAppend = (sources : Sources) (world : ToldWorld) (entries more : List LogEntry) → AreAllowed sources world entries
+    → AreAllowed sources (told_after world entries) more → AreAllowed sources world (entries ++ more)
