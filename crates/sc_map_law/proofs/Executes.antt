@@ -1,12 +1,8 @@
 -- An entry that is allowed may be told: what the law of histories asks of a world holds of one that allowed entries made.
 use Rattle.std.specs.Prelude.{not, ◌&&◌, ◌||◌}
 use Rattle.std.specs.Option.{option_map}
-use Rattle.std.proofs.Common.{◌≡◌, ◌≢◌, ℕ, ◌^◌, ◌<◌, ◌≤◌, Bool, true, false, cond, List, [], ◌∷◌, inl, inr, Option, Some, None, refl, sym, ◌∙◌, ap, subst}
-use Rattle.std.proofs.lemmas.Bool.{cases_Bool, or_parts, both_ways}
-use Rattle.std.specs.Prelude.{IsTrue}
-use Rattle.sc_base.specs.Among.{Among}
-use Rattle.sc_base.specs.Arc.{Arc, CanJoin}
-use Rattle.sc_base.specs.Same.{same_draw}
+use Rattle.std.proofs.Common.{◌≡◌, ℕ, ◌^◌, ◌<◌, Bool, true, false, cond, List, [], ◌∷◌, inl, inr, Option, Some, None, refl, sym, ◌∙◌, ap, subst}
+use Rattle.std.proofs.lemmas.Bool.{cases_Bool, or_parts}
 use Rattle.sc_base.specs.declared.names.Draw.{Draw}
 use Rattle.sc_base.specs.declared.ops.Op.{Op}
 use Rattle.sc_base.proofs.NameLemmas.{draw_is}
@@ -14,7 +10,6 @@ use Rattle.sc_ideal.specs.IdealStore.{key_of}
 use Rattle.sc_cmd.specs.declared.bodies.Body.{Body}
 use Rattle.sc_cmd.specs.declared.bodies.Body.TheVariants as At
 use Rattle.sc_cmd.specs.declared.bodies.Offer.{Offer}
-use Rattle.sc_cmd.specs.declared.bodies.Watch.{Watch}
 use Rattle.sc_cmd.specs.declared.commands.Command.{Command}
 use Rattle.sc_cmd.specs.declared.commands.Command.TheVariants.{Noop, Call, Join, Leave, Split, Begin, Prepared, RecordVote, GiveUp, Finish, Watched, RecordWatch}
 use Rattle.sc_cmd.specs.declared.cores.Core.{Core}
@@ -26,26 +21,25 @@ use Rattle.sc_cmd.specs.declared.votes.Heard.{Heard}
 use Rattle.sc_cmd.specs.declared.votes.Outcome.{Outcome}
 use Rattle.sc_cmd.specs.declared.votes.Outcome.TheVariants.{Abort, Moved, Divided}
 use Rattle.sc_cmd.specs.declared.votes.Past.{Past}
-use Rattle.sc_cmd.specs.declared.votes.Past.TheVariants as Cast
 use Rattle.sc_cmd.specs.declared.votes.Vote.{Vote}
 use Rattle.sc_cmd.specs.declared.votes.Vote.TheVariants as Ballot
 use Rattle.sc_machine_table.specs.Group.{Group}
-use Rattle.sc_machine_table.specs.Finishes.{can_gain, gained_group, settled_in, participant_after, party_freed, watcher_after}
-use Rattle.sc_machine_table.specs.Orders.{is_alone, locked_in}
-use Rattle.sc_machine_table.specs.Plans.{frozen_of, has_key_of}
-use Rattle.sc_machine_table.specs.Splits.{has_named, is_locked_in}
+use Rattle.sc_machine_table.specs.Finishes.{can_gain, gained_group, settled_in, party_freed, watcher_after}
+use Rattle.sc_machine_table.specs.Orders.{locked_in}
+use Rattle.sc_machine_table.specs.Plans.{has_key_of}
+use Rattle.sc_machine_table.specs.Splits.{is_locked_in}
 use Rattle.sc_machine_table.specs.Transactions.{is_coordinating}
 use Rattle.sc_machine_table.specs.Votes.{has_voted}
 use Rattle.sc_entries.specs.declared.LogEntry.{LogEntry}
 use Rattle.sc_entries.specs.declared.Transaction.{Transaction}
 use Rattle.sc_entries.specs.Decisions.{decision, transaction_in}
-use Rattle.sc_entries.specs.Effective.{after_outcome, is_commit, serves}
+use Rattle.sc_entries.specs.Effective.{after_outcome, is_commit}
 use Rattle.sc_entries.specs.Rings.{arc_in}
 use Rattle.sc_entries.specs.Worlds.{is_named, named_group}
 use Rattle.sc_ring_law.specs.Allowed.{Sources, IsVoteCast, IsAllowed, AreAllowed, ToldWorld, told_on}
-use Rattle.sc_ring_law.specs.Stories.{Story, Stories, unsigned, unsigned_watch, offer_for, offer_with}
-use Rattle.sc_ring_law.specs.Invariant.{Groups, has_born, has_decided, IsCoordinating, LockOk, IsPromised, IsFrozen}
-use Rattle.sc_ring_law.proofs.Commits.{IsDeciding, IsOwn, own_is, mine_old, part_eff, promise_settled, apart_of}
+use Rattle.sc_ring_law.specs.Stories.{Story, Stories, unsigned, offer_for, offer_with}
+use Rattle.sc_ring_law.specs.Invariant.{Groups, has_born, has_decided, IsCoordinating, LockOk}
+use Rattle.sc_ring_law.proofs.Commits.{IsDeciding, own_is, mine_old, part_eff, promise_settled, apart_of}
 use Rattle.sc_ring_law.proofs.Cuts.{arcs_in, arc_of_cut}
 use Rattle.sc_ring_law.proofs.Effects.{decisions, outcome_of, living, eff, arc_of, succ_of, view_of, Old, eff_by, eff_free, living_is}
 use Rattle.sc_ring_law.proofs.Ends.{own_story, group_none}
@@ -56,9 +50,9 @@ use Rattle.sc_ring_law.proofs.Reshapes.{Ends}
 use Rattle.sc_ring_law.proofs.Rows.{some_none, same_offer, unheard}
 use Rattle.sc_ring_law.proofs.Sound.{sound_world}
 use Rattle.sc_ring_law.proofs.Steps.{lock_free, watch_settled}
-use Rattle.sc_ring_law.proofs.Told.{groups_in, group_named, Agree, brief, story_brief, decision_is}
+use Rattle.sc_ring_law.proofs.Told.{groups_in, group_named, brief, story_brief, decision_is}
 use Rattle.sc_ring_law.proofs.Worlds.{KeptWorld, kept_on}
-use Rattle.sc_hist_law.specs.Telling.{HasCut, IsUncommitted, MayCall, IsNewChild, MaySplit, IsItsOwn, IsParty, MayHear, MayHearWatcher, MayFinish, MayExecute, MayBeTold, MayAllBeTold}
+use Rattle.sc_hist_law.specs.Telling.{HasCut, IsUncommitted, MayCall, MaySplit, IsItsOwn, IsParty, MayHear, MayHearWatcher, MayFinish, MayExecute, MayAllBeTold}
 
 -- what a lock that coordinates a transaction is
 coordinating : (l : Lock) (tx : Draw) → is_coordinating l tx ≡ true → (body : Body) × (order : ℕ) × (heard : Option Heard) × (l ≡ Coordinating tx body order heard)

@@ -1,10 +1,7 @@
 -- The ring, the history and the map of allowed entries.
-use Rattle.std.proofs.Common.{◌≡◌, List, Some, sym, ◌∙◌, ap, subst}
-use Rattle.sc_cmd.specs.declared.cores.Base.{Base}
+use Rattle.std.proofs.Common.{sym, ◌∙◌, ap}
 use Rattle.sc_machine_table.specs.Group.{Group}
-use Rattle.sc_entries.specs.declared.LogEntry.{LogEntry}
-use Rattle.sc_entries.specs.Worlds.{world_of}
-use Rattle.sc_ring_law.specs.Allowed.{Sources, first_told}
+use Rattle.sc_ring_law.specs.Allowed.{first_told}
 use Rattle.sc_ring_law.proofs.Finds.{some_is}
 use Rattle.sc_ring_law.proofs.Sound.{entries_keep_the_ring}
 use Rattle.sc_ring_law.proofs.Start.{at_start}

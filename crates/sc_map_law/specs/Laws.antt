@@ -5,7 +5,7 @@ use Rattle.sc_cmd.specs.declared.cores.Base.{Base}
 use Rattle.sc_ideal.specs.History.{Legal}
 use Rattle.sc_entries.specs.declared.Cut.{Cut}
 use Rattle.sc_entries.specs.declared.LogEntry.{LogEntry}
-use Rattle.sc_entries.specs.Worlds.{StoreWorld, world_of}
+use Rattle.sc_entries.specs.Worlds.{world_of}
 use Rattle.sc_ring_law.specs.Allowed.{Sources, AreAllowed, first_told}
 use Rattle.sc_ring_law.specs.Laws.{BeginInPlace, IsRingSound}
 use Rattle.sc_hist_law.specs.Worlds.{BeginBare, HasItsCut, LogNotesStay}
