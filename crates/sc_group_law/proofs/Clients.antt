@@ -65,6 +65,10 @@ Made scenario rows (Finish tx outcome) = ⊥
 Made scenario rows (Watched tx watch) = ⊥
 Made scenario rows (RecordWatch tx vote by) = ⊥
 
+-- ... by whichever group
+abbrev pub MadeBy : Scenario → Journal → Base → Command → Type 0
+MadeBy scenario rows base = Made scenario rows
+
 -- no mail of a transaction is sent so far
 abbrev pub Heard : MailBody → Type 0
 Heard body = ⊥

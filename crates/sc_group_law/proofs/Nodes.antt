@@ -137,21 +137,21 @@ module _ (ahead : Ahead) (base : Base) (made : Command → Type 0) (heard : Mail
 
 -- ---- a node
 
-module _ (ahead : Ahead) (bases : List Base) (made : Command → Type 0) where
+module _ (ahead : Ahead) (bases : List Base) (made : Base → Command → Type 0) where
   -- a node as the steps of all groups say
   pub record IsNode (h : Base → Steps) (me : ℕ) (node : NodeState) : Type 0 where
     pub me_is : node.me ≡ me
     -- each replica is of one of the groups
     pub known : Each (λ r. IsOneOf bases (name_of r)) node.replicas
     -- of each group it has one replica, or none and no step
-    pub holds : (base : Base) → Among base bases → Holds ahead base made me (h base) node.replicas
+    pub holds : (base : Base) → Among base bases → Holds ahead base (made base) me (h base) node.replicas
 
-  module _ (heard : MailBody → Type 0) (grants : (base : Base) → Grants ahead base made heard) (me : ℕ) (h : Base → Steps)
-      (some : (base : Base) → Among base bases → (log : List Command) → Each made log → (node : ℕ) × (rest : List ℕ) × ((rule ahead base).members log ≡ node ∷ rest))
+  module _ (heard : MailBody → Type 0) (grants : (base : Base) → Grants ahead base (made base) heard) (me : ℕ) (h : Base → Steps)
+      (some : (base : Base) → Among base bases → (log : List Command) → Each (made base) log → (node : ℕ) × (rest : List ℕ) × ((rule ahead base).members log ≡ node ∷ rest))
       (lawful : (base : Base) → Among base bases → IsLawfulHistory (rule ahead base) (first ahead base) (h base))
-      (requested : (base : Base) → Among base bases → (b : Ballot) (slot : ℕ) (c : Command) → Among (Offered b slot c) (h base) → made c) where
+      (requested : (base : Base) → Among base bases → (b : Ballot) (slot : ℕ) (c : Command) → Among (Offered b slot c) (h base) → made base c) where
     abbrev Part : (base : Base) → Among base bases → Steps → NodeState × List Mail → Type 0
-    Part base a after step = PartEnded ahead base made heard (grants base) me (h base) (some base a) (lawful base a) (requested base a) after step
+    Part base a after step = PartEnded ahead base (made base) heard (grants base) me (h base) (some base a) (lawful base a) (requested base a) after step
 
     -- the end of a node's row: after the row these are the steps of each group
     pub record NodeEnded (after : Base → Steps) (step : NodeState × List Mail) : Type 0 where
@@ -172,25 +172,25 @@ module _ (ahead : Ahead) (bases : List Base) (made : Command → Type 0) where
     -- ---- nothing comes of it
 
     pub unchanged : (after : Base → Steps) (node : NodeState) (sent : List Mail) → IsNode h me node → ((base : Base) → Among base bases → after base ≡ h base)
-        → ((mail : Mail) → Among mail sent → IsNamed bases mail.body) → ((base : Base) → Among base bases → (mail : Mail) → Among mail sent → IsTrue ahead base made heard (h base) mail mail.body) → NodeEnded after (node, sent)
+        → ((mail : Mail) → Among mail sent → IsNamed bases mail.body) → ((base : Base) → Among base bases → (mail : Mail) → Among mail sent → IsTrue ahead base (made base) heard (h base) mail mail.body) → NodeEnded after (node, sent)
     unchanged after node sent k same named t = record {
       me_is = k.me_is;
       known = k.known;
       named = named;
-      parts = λ base a. no_part ahead base made heard (grants base) me (h base) (some base a) (lawful base a) (requested base a) (after base) (node, sent) (same base a) (k.holds base a) (t base a);
+      parts = λ base a. no_part ahead base (made base) heard (grants base) me (h base) (some base a) (lawful base a) (requested base a) (after base) (node, sent) (same base a) (k.holds base a) (t base a);
     }
 
     -- ---- one replica's row
 
     -- the mails of a replica's row are of no other group
-    far_sent : (base : Base) (before after : Steps) (place : Place) → Ended ahead base made heard me before after place → (name : Draw) → same_draw base.core.id name ≡ false → AreFar name place.1
+    far_sent : (base : Base) (before after : Steps) (place : Place) → Ended ahead base (made base) heard me before after place → (name : Draw) → same_draw base.core.id name ≡ false → AreFar name place.1
     far_sent base before after place e name f = Each-from _ place.1 (λ m a. own_far ahead base heard (grants base).unheard name f m.body (e.own m a))
 
-    ended_name : (base : Base) → Among base bases → (before after : Steps) (place : Place) → Ended ahead base made heard me before after place → name_of place.0 ≡ base.core.id
-    ended_name base a before after place e = name_is ahead base made heard me [] before (e.newer ++ before) place.0 e.replica
+    ended_name : (base : Base) → Among base bases → (before after : Steps) (place : Place) → Ended ahead base (made base) heard me before after place → name_of place.0 ≡ base.core.id
+    ended_name base a before after place e = name_is ahead base (made base) heard me [] before (e.newer ++ before) place.0 e.replica
 
     one_row : (g : Draw) (r : ReplicaState) (node : NodeState) → IsNode h me node → replica_of g node.replicas ≡ Some r → (place : Place) (after : Base → Steps)
-        → ((base : Base) (a : Among base bases) → g ≡ base.core.id → IsReplica ahead base made (h base) me r → Ended ahead base made heard me (h base) (after base) place)
+        → ((base : Base) (a : Among base bases) → g ≡ base.core.id → IsReplica ahead base (made base) (h base) me r → Ended ahead base (made base) heard me (h base) (after base) place)
         → ((base : Base) → Among base bases → same_draw g base.core.id ≡ false → AreFar base.core.id place.1 → after base ≡ h base)
         → NodeEnded after (record node { replicas = with_replica g place.0 node.replicas }, place.1)
     one_row g r node k found place after ends far =
@@ -198,7 +198,7 @@ module _ (ahead : Ahead) (bases : List Base) (made : Command → Type 0) where
         let named : name_of r ≡ g = draw_is (name_of r) g there.1 in
         let mine = Each-among (λ s. IsOneOf bases (name_of s)) node.replicas r k.known there.0 in
         let is : g ≡ mine.0.core.id = sym named ∙ mine.2 in
-        let e = ends mine.0 mine.1 is (held ahead mine.0 made me (h mine.0) node.replicas (k.holds mine.0 mine.1) r there.0 mine.2) in
+        let e = ends mine.0 mine.1 is (held ahead mine.0 (made mine.0) me (h mine.0) node.replicas (k.holds mine.0 mine.1) r there.0 mine.2) in
         let new_name = ended_name mine.0 mine.1 (h mine.0) (after mine.0) place e in
         let step : NodeState × List Mail = (record node { replicas = with_replica g place.0 node.replicas }, place.1) in
         record {
@@ -208,15 +208,15 @@ module _ (ahead : Ahead) (bases : List Base) (made : Command → Type 0) where
           parts = λ base a. elim (cases_Bool (same_draw g base.core.id)) [
             | inl t ↦ (
                 let same = draw_is g base.core.id t in
-                let ended = ends base a same (held ahead base made me (h base) node.replicas (k.holds base a) r there.0 (named ∙ same)) in
-                own_part ahead base made heard (grants base) me (h base) (some base a) (lawful base a) (requested base a) (after base) place step refl ended
-                (with_held ahead base made me (h base) (ended.newer ++ h base) g same place.0 (ended_name base a (h base) (after base) place ended) ended.replica node.replicas r (k.holds base a) found))
+                let ended = ends base a same (held ahead base (made base) me (h base) node.replicas (k.holds base a) r there.0 (named ∙ same)) in
+                own_part ahead base (made base) heard (grants base) me (h base) (some base a) (lawful base a) (requested base a) (after base) place step refl ended
+                (with_held ahead base (made base) me (h base) (ended.newer ++ h base) g same place.0 (ended_name base a (h base) (after base) place ended) ended.replica node.replicas r (k.holds base a) found))
             | inr f ↦ (
                 let apart_from : same_draw mine.0.core.id base.core.id ≡ false = ap (λ d. same_draw d base.core.id) (sym is) ∙ f in
                 let sent = far_sent mine.0 (h mine.0) (after mine.0) place e base.core.id apart_from in
-                no_part ahead base made heard (grants base) me (h base) (some base a) (lawful base a) (requested base a) (after base) step (far base a f sent)
-                (with_far ahead base made me (h base) g f place.0 (λ same. apart_names g base.core.id f (is ∙ sym new_name ∙ same)) node.replicas (k.holds base a))
-                (λ m b. far_true ahead base made heard (h base) m m.body (Each-among _ place.1 m sent b)))
+                no_part ahead base (made base) heard (grants base) me (h base) (some base a) (lawful base a) (requested base a) (after base) step (far base a f sent)
+                (with_far ahead base (made base) me (h base) g f place.0 (λ same. apart_names g base.core.id f (is ∙ sym new_name ∙ same)) node.replicas (k.holds base a))
+                (λ m b. far_true ahead base (made base) heard (h base) m m.body (Each-among _ place.1 m sent b)))
           ];
         }
       where
@@ -229,10 +229,10 @@ module _ (ahead : Ahead) (bases : List Base) (made : Command → Type 0) where
     Goal event body step = NodeEnded (λ base. steps_of base.core.id me event body step.1 (h base)) step
 
     abbrev IsTrueOfAll : Mail → MailBody → Type 0
-    IsTrueOfAll mail body = (base : Base) → Among base bases → IsTrue ahead base made heard (h base) mail body
+    IsTrueOfAll mail body = (base : Base) → Among base bases → IsTrue ahead base (made base) heard (h base) mail body
 
     quiet : (event : Event OrderLine) (body : MailBody) (node : NodeState) (sent : List Mail) → IsNode h me node → ArePlain sent → ((mail : Mail) → Among mail sent → IsNamed bases mail.body)
-        → ((base : Base) → Among base bases → (mail : Mail) → Among mail sent → IsTrue ahead base made heard (h base) mail mail.body) → Goal event body (node, sent)
+        → ((base : Base) → Among base bases → (mail : Mail) → Among mail sent → IsTrue ahead base (made base) heard (h base) mail mail.body) → Goal event body (node, sent)
     quiet event body node sent k plain named t = unchanged _ node sent k (λ base a. quiet_steps base.core.id me event body sent (h base) plain) named t
 
     nothing : (event : Event OrderLine) (body : MailBody) (node : NodeState) → IsNode h me node → Goal event body (node, [])
@@ -241,7 +241,7 @@ module _ (ahead : Ahead) (bases : List Base) (made : Command → Type 0) where
     absent_ended : (event : Event OrderLine) (mail : Mail) (body : MailBody) (node : NodeState) → IsNode h me node → IsNamed bases body → Goal event body (node, absent node.me mail.from body)
     absent_ended event mail body node k named =
         quiet event body node (absent node.me mail.from body) k (absent_replies node.me mail.from body) (absent_named bases node.me mail.from body named)
-        (λ base a m b. absent_true ahead base made heard (h base) node.me mail.from body m b)
+        (λ base a m b. absent_true ahead base (made base) heard (h base) node.me mail.from body m b)
 
     -- a node without a replica of the group makes one of the state that it is sent
     made_ended : (event : Event OrderLine) (mail : Mail) (g : Draw) (slot : ℕ) (state : Base) (sets : List (List ℕ)) (node : NodeState) → IsNode h me node → replica_of g node.replicas ≡ None → IsOneOf bases g
@@ -251,9 +251,9 @@ module _ (ahead : Ahead) (bases : List Base) (made : Command → Type 0) where
         let body = Install g slot state sets in
         let step : NodeState × List Mail = (record node { replicas = with_new place.0 node.replicas }, place.1) in
         let ends = λ (base : Base) (a : Among base bases) (is : g ≡ base.core.id). (
-        let fresh = none_held ahead base made me (h base) g is node.replicas (k.holds base a) none in
-        by_fine ahead base made heard (grants base) me (h base) (some base a) (lawful base a) (requested base a) event body place
-        (made_place ahead base made heard (grants base) me [] (h base) (some base a) refl node.me mail.from g slot state sets k.me_is is fresh.1 (lawful base a) (requested base a) (t base a (same_name g base.core.id is))) refl) in
+        let fresh = none_held ahead base (made base) me (h base) g is node.replicas (k.holds base a) none in
+        by_fine ahead base (made base) heard (grants base) me (h base) (some base a) (lawful base a) (requested base a) event body place
+        (made_place ahead base (made base) heard (grants base) me [] (h base) (some base a) refl node.me mail.from g slot state sets k.me_is is fresh.1 (lawful base a) (requested base a) (t base a (same_name g base.core.id is))) refl) in
         let e = ends one.0 one.1 one.2 in
         let new_name = ended_name one.0 one.1 (h one.0) _ place e in
         record {
@@ -264,16 +264,16 @@ module _ (ahead : Ahead) (bases : List Base) (made : Command → Type 0) where
             | inl t ↦ (
                 let same = draw_is g base.core.id t in
                 let ended = ends base a same in
-                own_part ahead base made heard (grants base) me (h base) (some base a) (lawful base a) (requested base a) _ place step refl ended
-                (new_held ahead base made me (ended.newer ++ h base) place.0 (ended_name base a (h base) _ place ended) ended.replica node.replicas
-                (none_held ahead base made me (h base) g same node.replicas (k.holds base a) none).0))
+                own_part ahead base (made base) heard (grants base) me (h base) (some base a) (lawful base a) (requested base a) _ place step refl ended
+                (new_held ahead base (made base) me (ended.newer ++ h base) place.0 (ended_name base a (h base) _ place ended) ended.replica node.replicas
+                (none_held ahead base (made base) me (h base) g same node.replicas (k.holds base a) none).0))
             | inr f ↦ (
                 let apart_from : same_draw one.0.core.id base.core.id ≡ false = ap (λ d. same_draw d base.core.id) (sym one.2) ∙ f in
                 let sent = far_sent one.0 (h one.0) _ place e base.core.id apart_from in
-                no_part ahead base made heard (grants base) me (h base) (some base a) (lawful base a) (requested base a) _ step
+                no_part ahead base (made base) heard (grants base) me (h base) (some base a) (lawful base a) (requested base a) _ step
                 (far_steps base.core.id me event g f body refl place.1 (h base) sent)
-                (new_far ahead base made me (h base) place.0 (λ same. (let no_way : true ≡ false = sym (same_name g base.core.id (one.2 ∙ sym new_name ∙ same)) ∙ f in absurd (cc))) node.replicas (k.holds base a))
-                (λ m b. far_true ahead base made heard (h base) m m.body (Each-among _ place.1 m sent b)))
+                (new_far ahead base (made base) me (h base) place.0 (λ same. (let no_way : true ≡ false = sym (same_name g base.core.id (one.2 ∙ sym new_name ∙ same)) ∙ f in absurd (cc))) node.replicas (k.holds base a))
+                (λ m b. far_true ahead base (made base) heard (h base) m m.body (Each-among _ place.1 m sent b)))
           ];
         }
 
@@ -292,7 +292,7 @@ module _ (ahead : Ahead) (bases : List Base) (made : Command → Type 0) where
     taken_ended event mail body g into node k one t (Some r) e =
         let place = mailed mail.from body (r, []) in
         one_row g r node k e place (λ base. steps_of base.core.id me event body place.1 (h base))
-        (λ base a is was. mailed_ended ahead base made heard (grants base) me (h base) (some base a) (lawful base a) (requested base a) event mail body r was g into is (t base a))
+        (λ base a is was. mailed_ended ahead base (made base) heard (grants base) me (h base) (some base a) (lawful base a) (requested base a) event mail body r was g into is (t base a))
         (λ base a f sent. far_steps base.core.id me event g f body into place.1 (h base) sent)
 
     routed_ended : (event : Event OrderLine) (mail : Mail) (body : MailBody) (o : Option Draw) → group_of_mail body ≡ o → (node : NodeState) → IsNode h me node → IsNamed bases body → IsTrueOfAll mail body
@@ -323,15 +323,15 @@ module _ (ahead : Ahead) (bases : List Base) (made : Command → Type 0) where
     desk_ended number result node k =
         unchanged _ node (told_desk node.me number result []) k (λ base a. refl)
         (λ m a. elim a [ inl e ↦ subst (λ (x : Mail). IsNamed bases x.body) e tt | inr n ↦ absurd n ])
-        (λ base b m a. elim a [ inl e ↦ subst (λ (x : Mail). IsTrue ahead base made heard (h base) x x.body) e tt | inr n ↦ absurd n ])
+        (λ base b m a. elim a [ inl e ↦ subst (λ (x : Mail). IsTrue ahead base (made base) heard (h base) x x.body) e tt | inr n ↦ absurd n ])
 
     ordered_ended : (line : OrderLine) → IsOfMembers line.order → (node : NodeState) → IsNode h me node → (o : Option ReplicaState) → replica_of (group_of_order line.order) node.replicas ≡ o → Asked (ordered_of o line node)
     ordered_ended line plain node k None e = desk_ended line.number (Refused (NotLeader None)) node k
     ordered_ended line plain node k (Some r) e =
         let place = order_row line (r, []) in
         one_row (group_of_order line.order) r node k e place (λ base. asked_in base.core.id place.1 (h base))
-        (λ base a is was. ended_by ahead base made heard (grants base) me (h base) (some base a) place _
-        (fine_order_row ahead base made heard (grants base) me [] (h base) (some base a) line plain r [] (start ahead base made heard (grants base) me (h base) (some base a) (lawful base a) (requested base a) [] r was)) refl)
+        (λ base a is was. ended_by ahead base (made base) heard (grants base) me (h base) (some base a) place _
+        (fine_order_row ahead base (made base) heard (grants base) me [] (h base) (some base a) line plain r [] (start ahead base (made base) heard (grants base) me (h base) (some base a) (lawful base a) (requested base a) [] r was)) refl)
         (λ base a f sent. far_all base.core.id place.1 (h base) sent)
 
     -- the end of an order

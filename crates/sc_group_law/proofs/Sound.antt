@@ -41,7 +41,7 @@ use Rattle.sc_group_law.proofs.Holding.{held}
 use Rattle.sc_group_law.proofs.Names.{IsOneOf}
 use Rattle.sc_group_law.proofs.Nodes.{IsNode}
 use Rattle.sc_group_law.proofs.Places.{Journal, decided_in_order}
-use Rattle.sc_group_law.proofs.Clients.{Made, IsAnswered}
+use Rattle.sc_group_law.proofs.Clients.{Made, MadeBy, IsAnswered}
 use Rattle.sc_group_law.proofs.Family.{h_of, entry_offered, entries_whole, push}
 use Rattle.sc_group_law.proofs.Replies.{reply_told}
 use Rattle.sc_group_law.proofs.Replicated.{one_value, is_log, executed_is, goes_on}
@@ -110,7 +110,7 @@ module _ (ahead : Ahead) (words : ℕ → ℕ → ℕ × ℕ) (scenario : Scenar
     lawful_steps : IsLawfulHistory (rule ahead base) (first ahead base) h
     lawful_steps = (k.parts base (inl refl)).lawful
 
-    among_replicas : (n : ℕ) (node : NodeState) → IsNode ahead bases (Made scenario rows) (h_of rows) n node → (r : ReplicaState) → Among r node.replicas → HasExecuted ahead base rows r
+    among_replicas : (n : ℕ) (node : NodeState) → IsNode ahead bases (MadeBy scenario rows) (h_of rows) n node → (r : ReplicaState) → Among r node.replicas → HasExecuted ahead base rows r
     among_replicas n node at r a =
         let (other, among, named) = Each-among (λ s. IsOneOf bases (name_of s)) node.replicas r at.known a in
         elim among [
@@ -127,7 +127,7 @@ module _ (ahead : Ahead) (words : ℕ → ℕ → ℕ × ℕ) (scenario : Scenar
           let at = k.nodes n low high in
           let found : ANode at.node ≡ ANode node = sym at.value_is ∙ is in
           let same : at.node ≡ node = cc in
-          among_replicas n node (subst (IsNode ahead bases (Made scenario rows) (h_of rows) n) same at.is) r a);
+          among_replicas n node (subst (IsNode ahead bases (MadeBy scenario rows) (h_of rows) n) same at.is) r a);
       arc = ap (λ (c : Core). c.arc) (state_core (birth ahead base) log whole);
       gone = ap (λ (c : Core). c.gone) (state_core (birth ahead base) log whole);
     }

@@ -10,7 +10,7 @@ use Rattle.sc_entries.specs.declared.Cut.{Cut}
 use Rattle.sc_entries.specs.declared.LogEntry.{LogEntry}
 use Rattle.sc_entries.specs.Worlds.{StoreWorld, world_of}
 use Rattle.sc_ring_law.specs.Allowed.{Sources, IsAllowed, ToldWorld, first_told, told_on, AreAllowed}
-use Rattle.sc_ring_law.specs.Laws.{IsStart, IsInPlace, IsRingSound}
+use Rattle.sc_ring_law.specs.Laws.{BeginInPlace, IsInPlace, IsRingSound}
 use Rattle.sc_ring_law.specs.Stories.{Stories}
 use Rattle.sc_ring_law.proofs.Sound.{entries_keep_the_ring}
 use Rattle.sc_sound.specs.Soundness.{IsPlaced}
@@ -27,7 +27,7 @@ module _ (scenario : Scenario) (base : Base) (others : List Base) (has : HasGrou
   abbrev sources : Sources
   sources = record { owner = λ name. None; request = request_of scenario }
 
-  begins : IsStart sources (base ∷ others)
+  begins : BeginInPlace sources (base ∷ others)
   begins = record {
     covers = start.covers;
     first = λ b a. (let free = start.free b a in

@@ -38,7 +38,7 @@ use Rattle.sc_sound.specs.Soundness.{GoesOn, HasOneLog, HasRun, AllHaveRun, IsOn
 use Rattle.sc_group_law.specs.Groups.{AreApart, HasGroups}
 use Rattle.sc_group_law.specs.Told.{HasExecuted}
 use Rattle.sc_group_law.proofs.Births.{some_of, tells_of, at_birth}
-use Rattle.sc_group_law.proofs.Clients.{Made, IsAnswered}
+use Rattle.sc_group_law.proofs.Clients.{Made, MadeBy, IsAnswered}
 use Rattle.sc_group_law.proofs.Family.{h_of, entry_offered, push, entries_whole}
 use Rattle.sc_group_law.proofs.Holding.{held}
 use Rattle.sc_group_law.proofs.Names.{IsOneOf}
@@ -156,7 +156,7 @@ module _ (ahead : Ahead) (words : ℕ → ℕ → ℕ × ℕ) (any : Scenario) (
     has_run : (b : Base) (r : ReplicaState) → HasExecuted ahead b rows r → HasRun ahead b rows r
     has_run b r x = record { count = x.count; within = x.within; next_is = x.next_is; entries = x.entries; group_is = x.group_is }
 
-    node_has_run : (n : ℕ) (node : NodeState) → IsNode ahead bases (Made scenario rows) (h_of rows) n node → (r : ReplicaState) → Among r node.replicas
+    node_has_run : (n : ℕ) (node : NodeState) → IsNode ahead bases (MadeBy scenario rows) (h_of rows) n node → (r : ReplicaState) → Among r node.replicas
         → (b : Base) × Among b (groups_at ahead bases rows) × (b.core.id ≡ name_of r) × HasRun ahead b rows r
     node_has_run n node at r a =
         let (b, among, named) = Each-among (λ s. IsOneOf bases (name_of s)) node.replicas r at.known a in
@@ -168,7 +168,7 @@ module _ (ahead : Ahead) (words : ℕ → ℕ → ℕ × ℕ) (any : Scenario) (
         let at = k.nodes n low high in
         let found : ANode at.node ≡ ANode node = sym at.value_is ∙ is in
         let same : at.node ≡ node = cc in
-        node_has_run n node (subst (IsNode ahead bases (Made scenario rows) (h_of rows) n) same at.is) r a
+        node_has_run n node (subst (IsNode ahead bases (MadeBy scenario rows) (h_of rows) n) same at.is) r a
 
     -- ---- one map
 
