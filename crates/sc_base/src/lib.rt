@@ -3,6 +3,7 @@
 #![tactic(auto)]
 
 mod arcs;
+mod boxed;
 mod dups;
 mod limits;
 mod lists;
@@ -14,6 +15,7 @@ mod sames;
 mod texts;
 
 pub use arcs::{BadBoundary, BadLen, NotAdjacent, RingArc, arcs_are_sound};
+pub use boxed::Boxed;
 pub use dups::{Dup, OutOfMemory, dup_found};
 pub use limits::{LONGEST_KEY, LONGEST_VALUE, MOST_CLIENTS, MOST_NODES, MOST_REQUESTS};
 pub use lists::Sequence;

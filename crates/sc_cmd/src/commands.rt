@@ -1,7 +1,7 @@
 //! The entries of a group's log.
 use crate::bodies::{Body, Offer, Watch};
 use crate::votes::{Outcome, Past, Vote};
-use sc_base::{Draw, Dup, Op, OutOfMemory, Same};
+use sc_base::{Boxed, Draw, Dup, Op, OutOfMemory, Same};
 use std::alloc::Global;
 
 /// An entry of a log. An `order` of 0 means that a policy made the order.
@@ -20,7 +20,7 @@ pub enum Command {
     /// The group coordinates a transaction with its successor.
     Begin { tx: Draw, body: Body, order: u32 },
     /// The group votes on another group's offer.
-    Prepared { tx: Draw, offer: Offer },
+    Prepared { tx: Draw, offer: Boxed<Offer> },
     /// The coordinator notes the participant's vote.
     RecordVote { tx: Draw, vote: Vote, by: u16 },
     /// The coordinator gives up what is not decided.
@@ -28,7 +28,7 @@ pub enum Command {
     /// A party takes over what the coordinator decided.
     Finish { tx: Draw, outcome: Outcome },
     /// The group votes on becoming a watcher.
-    Watched { tx: Draw, watch: Watch },
+    Watched { tx: Draw, watch: Boxed<Watch> },
     /// The coordinator notes the watcher's vote.
     RecordWatch { tx: Draw, vote: Past, by: u16 },
 }
@@ -62,7 +62,7 @@ impl Dup for Command {
             },
             Command::Prepared { tx, offer } => Command::Prepared {
                 tx: *tx,
-                offer: *offer,
+                offer: offer.dup(alloc)?,
             },
             Command::RecordVote { tx, vote, by } => Command::RecordVote {
                 tx: *tx,
@@ -76,7 +76,7 @@ impl Dup for Command {
             },
             Command::Watched { tx, watch } => Command::Watched {
                 tx: *tx,
-                watch: *watch,
+                watch: watch.dup(alloc)?,
             },
             Command::RecordWatch { tx, vote, by } => Command::RecordWatch {
                 tx: *tx,

@@ -1,6 +1,6 @@
 //! What the parties of a transaction answer, and what was decided.
 use crate::links::{Link, Route};
-use sc_base::{Draw, Dup, OutOfMemory, Pairs, RingArc, Same, SeenList, Sequence};
+use sc_base::{Boxed, Draw, Dup, OutOfMemory, Pairs, RingArc, Same, SeenList, Sequence};
 use sc_member::Members;
 use std::alloc::Global;
 
@@ -37,7 +37,7 @@ pub enum No {
 /// A participant's vote.
 #[derive(Drop)]
 pub enum Vote {
-    Yes(Frozen),
+    Yes(Boxed<Frozen>),
     No(No),
 }
 
@@ -63,7 +63,7 @@ pub enum Outcome {
     /// The participant is gone into the coordinator, whose new route is this.
     Merged { into: Route },
     /// The boundary stands at `at`; a gift goes to the participant where it gains.
-    Moved { at: u32, gift: Option<Gift> },
+    Moved { at: u32, gift: Option<Boxed<Gift>> },
     Migrated { node: u16 },
     /// The coordinator has split.
     Divided,

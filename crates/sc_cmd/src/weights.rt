@@ -1,6 +1,6 @@
 //! What commands and records count, told as 64-bit numbers: a greater weight is told as the
 //! greatest.
-ghost use Rattle.std.specs.Prelude.{◌≡◌, ◌+◌, ◌≤◌, length};
+ghost use Rattle.std.specs.Prelude.{◌≡◌, ◌+◌, ◌≤◌, length, Some};
 ghost use Rattle.std.specs.List.{sum_by};
 ghost use Rattle.sc_base.specs.Limits.{longest_key, longest_value};
 ghost use Rattle.sc_cmd.specs.Weight.{capped, op_weight, value_weight, reply_weight, pair_weight, pairs_weight, seen_weight, clients_weight, frozen_weight, vote_weight, gift_weight, outcome_weight, command_weight, heard_weight, lock_weight, decision_weight, base_weight};
@@ -8,7 +8,7 @@ ghost use Rattle.sc_cmd.specs.Weight.{capped, op_weight, value_weight, reply_wei
 use crate::commands::Command;
 use crate::cores::{Base, Lock};
 use crate::votes::{DecidedList, Frozen, Gift, Heard, Outcome, Vote};
-use sc_base::{Key, Noted, Op, Pairs, Reply, SeenList, Value};
+use sc_base::{Boxed, Key, Noted, Op, Pairs, Reply, SeenList, Value};
 
 fn key_weight(key: &Key) -> u64
     ensures same { result ≡ length key.now }
@@ -91,16 +91,22 @@ pub fn vote_weight(vote: &Vote) -> u64
     ensures { result ≡ capped (vote_weight vote.now) }
 {
     match vote {
-        Vote::Yes(frozen) => frozen_weight(frozen),
+        Vote::Yes(frozen) => frozen_weight(frozen.get()),
         Vote::No(_) => 0,
     }
 }
 
-fn gift_weight(gift: &Option<Gift>) -> u64
+fn given_weight(gift: &Gift) -> u64
+    ensures { result ≡ capped (gift_weight (Some gift.now)) }
+{
+    pairs_weight(&gift.pairs).saturating_add(clients_weight(&gift.clients))
+}
+
+fn gift_weight(gift: &Option<Boxed<Gift>>) -> u64
     ensures { result ≡ capped (gift_weight gift.now) }
 {
     match gift {
-        Some(gift) => pairs_weight(&gift.pairs).saturating_add(clients_weight(&gift.clients)),
+        Some(gift) => given_weight(gift.get()),
         None => 0,
     }
 }

@@ -7,7 +7,7 @@ ghost use Rattle.sc_machine_table.specs.Plans.{has_key_of, can_repart, repart_co
 ghost use Rattle.sc_machine_table.specs.Transactions.{committed, decided};
 
 use crate::machine::Machine;
-use sc_base::{Draw, OutOfMemory, Pairs, RingArc, SeenList};
+use sc_base::{Boxed, Draw, OutOfMemory, Pairs, RingArc, SeenList};
 use sc_cmd::{Core, Effect, Frozen, Gift, Link, Outcome, Route};
 use sc_migrate::{can_migrate, plan_migrate};
 use sc_repart::{can_repart, plan_repart};
@@ -135,7 +135,7 @@ impl Machine {
             tx,
             Outcome::Moved {
                 at,
-                gift: Some(gift),
+                gift: Some(Boxed::new(self.alloc, gift)?),
             },
         )
     }

@@ -75,7 +75,7 @@ impl Machine {
             (λ effect. participant_answered vote.now body.now self.old tx order by ≡ (self.new, effect)) }
     {
         match vote {
-            Vote::Yes(frozen) => self.grant(body, frozen, tx, order, by),
+            Vote::Yes(frozen) => self.grant(body, frozen.get(), tx, order, by),
             Vote::No(_) => self.decide(tx, Outcome::Abort),
         }
     }

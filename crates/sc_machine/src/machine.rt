@@ -113,11 +113,11 @@ impl Machine {
             Command::Leave { node, .. } => Ok(self.leave(command, *node)),
             Command::Split { at, child, order } => self.split(command, *at, *child, *order),
             Command::Begin { tx, body, order } => Ok(self.begin(command, *tx, body, *order)),
-            Command::Prepared { tx, offer } => self.prepare(*tx, offer),
+            Command::Prepared { tx, offer } => self.prepare(*tx, offer.get()),
             Command::RecordVote { tx, vote, by } => self.record_vote(*tx, vote, *by),
             Command::GiveUp { tx } => self.give_up(*tx),
             Command::Finish { tx, outcome } => self.finish(*tx, outcome),
-            Command::Watched { tx, watch } => self.watch(*tx, watch),
+            Command::Watched { tx, watch } => self.watch(*tx, watch.get()),
             Command::RecordWatch { tx, vote, .. } => self.record_watch(*tx, vote),
         }
     }

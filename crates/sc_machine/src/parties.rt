@@ -4,7 +4,7 @@ ghost use Rattle.sc_machine_table.specs.Votes.{has_voted, past_of, voted_on, off
 ghost use Rattle.sc_machine_table.specs.Finishes.{gone_group, gained, lost, moved, group_welcomed, participant_after, pred_after, closed, voted_after, party_freed, settled_in, watch_ended, finished};
 
 use crate::machine::Machine;
-use sc_base::{Draw, Dup, OutOfMemory, Sequence};
+use sc_base::{Boxed, Draw, Dup, OutOfMemory, Sequence};
 use sc_clients::ClientTable;
 use sc_cmd::{
     Core, Effect, Gift, Link, Lock, No, Offer, Outcome, Past, Route, VotedList, Watch, same_draw,
@@ -198,7 +198,7 @@ impl Machine {
         &mut self,
         offer: &Offer,
         at: u32,
-        gift: &Option<Gift>,
+        gift: &Option<Boxed<Gift>>,
     ) -> Result<bool, OutOfMemory>
         ensures made { IfOk result
             (λ made.
@@ -206,7 +206,7 @@ impl Machine {
         ensures same { IfOk result (λ made. made ≡ false → self.new ≡ self.old) }
     {
         match gift {
-            Some(gift) => self.gain(offer, at, gift),
+            Some(gift) => self.gain(offer, at, gift.get()),
             None => Ok(self.lose(at)),
         }
     }

@@ -1,6 +1,6 @@
 //! What comes to a group, and what it comes to, in brief.
 use crate::starts::{BEFORE, LAST, TX, frozen, offer, watch};
-use sc_base::{Draw, Key, Op, Pairs, SeenList, Value};
+use sc_base::{Boxed, Draw, Key, Op, Pairs, SeenList, Value};
 use sc_cmd::{Body, Command, Effect, Gift, No, Outcome, Past, Route, Vote};
 use sc_member::Members;
 use std::alloc::Global;
@@ -45,7 +45,15 @@ fn put(rt: &impl Abort, alloc: Global, seq: u32, key: &[u8]) -> Command {
     Command::Call { client: 1, seq, op }
 }
 
-fn outcome(alloc: Global, end: End) -> Outcome {
+// A gift of nothing.
+fn gift(alloc: Global) -> Gift {
+    Gift {
+        pairs: Pairs::new(alloc),
+        clients: SeenList::new(alloc),
+    }
+}
+
+fn outcome(rt: &impl Abort, alloc: Global, end: End) -> Outcome {
     match end {
         End::Abort => Outcome::Abort,
         End::Merged => Outcome::Merged {
@@ -57,10 +65,7 @@ fn outcome(alloc: Global, end: End) -> Outcome {
         },
         End::Given(at) => Outcome::Moved {
             at,
-            gift: Some(Gift {
-                pairs: Pairs::new(alloc),
-                clients: SeenList::new(alloc),
-            }),
+            gift: Some(boxed(rt, alloc, gift(alloc))),
         },
         End::Taken(at) => Outcome::Moved { at, gift: None },
         End::Migrated(node) => Outcome::Migrated { node },
@@ -79,6 +84,10 @@ fn order(ask: Ask) -> Command {
     }
 }
 
+fn boxed<T: Drop>(rt: &impl Abort, alloc: Global, value: T) -> Boxed<T> {
+    Boxed::new(alloc, value).expect(rt, "memory")
+}
+
 pub(crate) fn command(rt: &impl Abort, alloc: Global, ask: Ask) -> Command {
     match ask {
         Ask::Put(seq, key) => put(rt, alloc, seq, key),
@@ -86,16 +95,16 @@ pub(crate) fn command(rt: &impl Abort, alloc: Global, ask: Ask) -> Command {
             assert!(rt; members <= 9);
             Command::Prepared {
                 tx: TX,
-                offer: offer(rt, lo, members, body),
+                offer: boxed(rt, alloc, offer(rt, lo, members, body)),
             }
         }
         Ask::Watched(old) => Command::Watched {
             tx: TX,
-            watch: watch(old),
+            watch: boxed(rt, alloc, watch(old)),
         },
         Ask::Yes(tx, succ) => Command::RecordVote {
             tx,
-            vote: Vote::Yes(frozen(rt, alloc, succ)),
+            vote: Vote::Yes(boxed(rt, alloc, frozen(rt, alloc, succ))),
             by: 11,
         },
         Ask::No => Command::RecordVote {
@@ -106,7 +115,7 @@ pub(crate) fn command(rt: &impl Abort, alloc: Global, ask: Ask) -> Command {
         Ask::GiveUp => Command::GiveUp { tx: TX },
         Ask::Finish(end) => Command::Finish {
             tx: TX,
-            outcome: outcome(alloc, end),
+            outcome: outcome(rt, alloc, end),
         },
         Ask::Watch(vote) => Command::RecordWatch {
             tx: TX,

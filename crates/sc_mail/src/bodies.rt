@@ -2,7 +2,7 @@
 ghost use Rattle.std.specs.Prelude.{◌≡◌};
 ghost use Rattle.sc_base.specs.Limits.{client_actor};
 
-use sc_base::{Ballot, Draw, MOST_NODES, Op, Reply, RingArc, Sequence};
+use sc_base::{Ballot, Boxed, Draw, MOST_NODES, Op, Reply, RingArc, Sequence};
 use sc_cmd::{
     Base, Command, Link, MemberSets, Offer, Outcome, Past, Route, ToldResult, Vote, Watch,
 };
@@ -95,12 +95,12 @@ pub enum MailBody {
     Install {
         group: Draw,
         slot: u32,
-        base: Base,
+        base: Boxed<Base>,
         sets: MemberSets,
     },
     TxPrepare {
         tx: Draw,
-        offer: Offer,
+        offer: Boxed<Offer>,
     },
     TxVote {
         tx: Draw,
@@ -121,7 +121,7 @@ pub enum MailBody {
     },
     TxWatch {
         tx: Draw,
-        watch: Watch,
+        watch: Boxed<Watch>,
     },
     TxWatched {
         tx: Draw,

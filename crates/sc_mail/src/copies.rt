@@ -105,7 +105,7 @@ impl Dup for MailBody {
             },
             MailBody::TxPrepare { tx, offer } => MailBody::TxPrepare {
                 tx: *tx,
-                offer: *offer,
+                offer: offer.dup(alloc)?,
             },
             MailBody::TxVote {
                 tx,
@@ -130,7 +130,7 @@ impl Dup for MailBody {
             },
             MailBody::TxWatch { tx, watch } => MailBody::TxWatch {
                 tx: *tx,
-                watch: *watch,
+                watch: watch.dup(alloc)?,
             },
             MailBody::TxWatched {
                 tx,

@@ -42,7 +42,7 @@ fn body_weight(body: &MailBody) -> u64
         MailBody::Accept { command, .. } | MailBody::Learn { command, .. } => command_weight(
             command,
         ),
-        MailBody::Install { base, .. } => base_weight(base),
+        MailBody::Install { base, .. } => base_weight(base.get()),
         MailBody::TxVote { vote, .. } => vote_weight(vote),
         MailBody::TxOutcome { outcome, .. } => outcome_weight(outcome),
         MailBody::Prepare { .. }

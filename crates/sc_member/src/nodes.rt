@@ -7,7 +7,7 @@ use std::marker::Model;
 #[derive(Clone, Copy, Debug, PartialEq, Eq)]
 pub(crate) struct Nodes {
     places: [u16; 9],
-    count: usize,
+    count: u16,
 }
 
 impl Model for Nodes {
@@ -40,14 +40,14 @@ impl Nodes {
         ensures same { result.now ≡ self.now }
         ensures most { length self.now ≤ 9 }
     {
-        &self.places[..self.count]
+        &self.places[..self.count as usize]
     }
 
     pub(crate) fn push(&mut self, node: u16)
         requires { length self.old < 9 }
         ensures { self.new ≡ self.old ++ node ∷ [] }
     {
-        self.places[self.count] = node;
+        self.places[self.count as usize] = node;
         self.count += 1;
     }
 }

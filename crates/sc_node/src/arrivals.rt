@@ -86,7 +86,7 @@ impl NodeCore {
                 if ignores(*slot, sets) {
                     return Ok(Sequence::new(alloc));
                 }
-                self.make(alloc, from as u16, *group, *slot, base, sets)
+                self.make(alloc, from as u16, *group, *slot, base.get(), sets)
             }
             _ => absent(alloc, self.me, from, body),
         }

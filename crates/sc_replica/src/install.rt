@@ -38,7 +38,16 @@ impl Replica {
         let base = self.machine.base()?;
         let sets = self.sets.list(self.alloc)?;
         let last = self.next() - 1;
-        parts::send_install(self.me, self.name(), node, last, base, sets, out)
+        parts::send_install(
+            self.alloc,
+            self.me,
+            self.name(),
+            node,
+            last,
+            base,
+            sets,
+            out,
+        )
     }
 
     /// A member that was added is asked to promise a ballot that is not the group's first.

@@ -244,7 +244,7 @@ impl Replica {
                 base,
                 sets,
                 ..
-            } => self.on_install(from, *slot, base, sets, out),
+            } => self.on_install(from, *slot, base.get(), sets, out),
             MailBody::Answer { .. }
             | MailBody::TxPrepare { .. }
             | MailBody::TxVote { .. }

@@ -4,7 +4,7 @@ ghost use Rattle.sc_mail.specs.declared.bodies.MailBody.TheVariants.{Prepare, Ac
 ghost use Rattle.sc_node_table.specs.Mails.{sent, sent_all, sent_others};
 
 use crate::mails::send;
-use sc_base::{Ballot, Draw, Dup, OutOfMemory, Sequence};
+use sc_base::{Ballot, Boxed, Draw, Dup, OutOfMemory, Sequence};
 use sc_cmd::{Base, Command, MemberSets};
 use sc_mail::{Mail, MailBody};
 use std::alloc::Global;
@@ -116,6 +116,7 @@ pub fn send_learns(
 
 /// The state after a slot, with the members of the open slots, to a node.
 pub fn send_install(
+    alloc: Global,
     me: u16,
     group: Draw,
     node: u16,
@@ -129,7 +130,7 @@ pub fn send_install(
     let body = MailBody::Install {
         group,
         slot,
-        base,
+        base: Boxed::new(alloc, base)?,
         sets,
     };
     send(me, node as u32, body, out)

@@ -1,4 +1,4 @@
-use sc_base::{Draw, Dup, Key, Op, Pairs, RingArc, SeenList, Sequence, Value};
+use sc_base::{Boxed, Draw, Dup, Key, Op, Pairs, RingArc, SeenList, Sequence, Value};
 use sc_cmd::{
     Base, Body, Command, Core, Effect, Link, Lock, No, Offer, Outcome, Past, Vote, Watch,
 };
@@ -165,7 +165,8 @@ fn offer(rt: &impl Abort, body: Body) -> Offer {
 
 fn vote_of_second(rt: &impl Abort, alloc: Global) -> Vote {
     let second = second_group(rt, alloc);
-    Vote::Yes(second.frozen().expect(rt, "memory"))
+    let frozen = second.frozen().expect(rt, "memory");
+    Vote::Yes(boxed(rt, alloc, frozen))
 }
 
 fn watch(old: Draw) -> Watch {
@@ -179,13 +180,17 @@ fn watch(old: Draw) -> Watch {
     }
 }
 
+fn boxed<T: Drop>(rt: &impl Abort, alloc: Global, value: T) -> Boxed<T> {
+    Boxed::new(alloc, value).expect(rt, "memory")
+}
+
 fn command_of(rt: &impl Abort, alloc: Global, ask: Ask) -> Command {
     match ask {
         Ask::Put(client, key) => put(rt, alloc, client, key),
         Ask::Begin(tx, body) => Command::Begin { tx, body, order: 1 },
         Ask::Prepared(tx, body) => Command::Prepared {
             tx,
-            offer: offer(rt, body),
+            offer: boxed(rt, alloc, offer(rt, body)),
         },
         Ask::Yes => Command::RecordVote {
             tx: TX,
@@ -195,7 +200,7 @@ fn command_of(rt: &impl Abort, alloc: Global, ask: Ask) -> Command {
         Ask::GiveUp => Command::GiveUp { tx: TX },
         Ask::Watched(tx, old) => Command::Watched {
             tx,
-            watch: watch(old),
+            watch: boxed(rt, alloc, watch(old)),
         },
         Ask::WatchedYes => Command::RecordWatch {
             tx: TX,

@@ -1,5 +1,5 @@
 use crate::values::{call, key, value};
-use sc_base::{Draw, Dup, Noted, Pairs, Reply, RingArc, SeenList, Sequence};
+use sc_base::{Boxed, Draw, Dup, Noted, Pairs, Reply, RingArc, SeenList, Sequence};
 use sc_cmd::{
     Base, Body, Command, Core, DecidedList, Frozen, Gift, Heard, Link, Lock, Outcome, Vote,
     base_weight, command_weight,
@@ -34,6 +34,10 @@ fn one_position(rt: &impl Abort) -> RingArc {
     RingArc::try_new(0, 1).expect(rt, "one position")
 }
 
+fn boxed<T: Drop>(rt: &impl Abort, alloc: Global, value: T) -> Boxed<T> {
+    Boxed::new(alloc, value).expect(rt, "memory")
+}
+
 fn frozen(rt: &impl Abort, alloc: Global) -> Frozen {
     let members = Members::one(1);
     Frozen {
@@ -55,14 +59,14 @@ fn gift(rt: &impl Abort, alloc: Global) -> Outcome {
     };
     Outcome::Moved {
         at: 7,
-        gift: Some(gift),
+        gift: Some(boxed(rt, alloc, gift)),
     }
 }
 
 fn yes(rt: &impl Abort, alloc: Global) -> Command {
     Command::RecordVote {
         tx: GROUP,
-        vote: Vote::Yes(frozen(rt, alloc)),
+        vote: Vote::Yes(boxed(rt, alloc, frozen(rt, alloc))),
         by: 1,
     }
 }

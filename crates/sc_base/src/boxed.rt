@@ -1,0 +1,52 @@
+//! A value in a block of its own, which contracts see as the value.
+ghost use Rattle.std.specs.Prelude.{◌≡◌, IfOk};
+
+use crate::dups::{Dup, OutOfMemory};
+use crate::sames::Same;
+use std::alloc::Global;
+use std::marker::Model;
+
+/// A value in a block of its own: what holds it is no larger for it than a pointer. For the rare
+/// large part of what is mostly small; contracts see it as the value.
+#[derive(Drop)]
+pub struct Boxed<T> {
+    kept: Box<T>,
+}
+
+impl<T> Model for Boxed<T> {
+    ghost Value = { T };
+
+    ghost view = { λ a. a.kept.value };
+}
+
+impl<T> Boxed<T> {
+    /// The value, to be read.
+    pub fn get(&self) -> &T
+        ensures { result.now ≡ self.now }
+    {
+        self.kept.as_ref()
+    }
+}
+
+impl<T: Drop> Boxed<T> {
+    /// The value in a block of its own. After want of memory it is dropped.
+    pub fn new(alloc: Global, value: T) -> Result<Boxed<T>, OutOfMemory>
+        ensures { IfOk result (λ a. a ≡ value) }
+    {
+        let kept = Box::new(alloc, value)?;
+        Ok(Boxed { kept })
+    }
+}
+
+impl<T: Dup + Drop> Dup for Boxed<T> {
+    fn dup(&self, alloc: Global) -> Result<Boxed<T>, OutOfMemory> {
+        let copy = self.get().dup(alloc)?;
+        Boxed::new(alloc, copy)
+    }
+}
+
+impl<T: Same> Same for Boxed<T> {
+    fn is_same(&self, other: &Boxed<T>) -> bool {
+        self.get().is_same(other.get())
+    }
+}
