@@ -1,8 +1,13 @@
 use Rattle.std.proofs.Common.{map}
 use Rattle.std.specs.Prelude.{string_bytes}
-use Rattle.scatter.proofs.Readings.{if_ok, of_report}
+use Rattle.scatter.proofs.Readings.{if_ok, of_fault, of_report}
 use Rattle.scatter.proofs.running.say.Goals as goal
 
 pub returns-in-Run-clause-says : goal.returns-in-Run-clause-says
 returns-in-Run-clause-says g c =
     if_ok c.report.result _ _ c.report.ensures (λ begun h. of_report (map string_bytes c.args.words.now) _ _ _ _ c.in-Run.scenario begun.0 begun.1 c.in-Run.is c.in_ok-wanted_of.ensures.wanted h)
+
+pub returns-in-BadScenario-clause-says : goal.returns-in-BadScenario-clause-says
+returns-in-BadScenario-clause-says g c =
+    if_ok c.refuse.result _ _ c.refuse.ensures
+    (λ begun h. of_fault (map string_bytes c.args.words.now) _ _ _ _ c.in-BadScenario.line c.in-BadScenario.why begun.0 begun.1 c.in-BadScenario.is c.in_ok-wanted_of.ensures.wanted h.0 h.1)
