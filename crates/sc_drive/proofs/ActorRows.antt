@@ -22,19 +22,16 @@ use Rattle.sc_drive.specs.declared.steps.LineResult.TheVariants.{Made, Skipped, 
 use Rattle.sc_drive.specs.Companies.{Company}
 use Rattle.sc_drive.specs.Acts.{HasHalted, Told, Served}
 use Rattle.sc_drive.specs.Stepping.{IsPlace, IsNowhere, Stepped, unless_crashed}
+use Rattle.sc_drive.proofs.Crashes.{both_out}
 use Rattle.sc_drive.proofs.SystemWords.{sys, acts_at, crashed_at, waiting_at, waiting_none, acts_none, waiting_crashed}
 use Rattle.sc_workers.proofs.Lists.{one_of}
-
-or_out : (a b : Bool) → a ≡ false → b ≡ false → (a || b) ≡ false
-or_out true b e f = e
-or_out false b e f = f
 
 module _ {A M O : Type 0} {g : Ghosts A M O} {h : MailGhosts M} where
   -- no shell has the number
   pub nowhere : (ss : List (Shell A M O g h)) (who : ℕ) → ((k : ℕ) (d : Shell A M O g h) → k < length ss → (get_or ss k d).port.who ≢ who) → is_in who (crew_numbers ss) ≡ false
   nowhere [] who none = refl
   nowhere (s ∷ ss) who none =
-      or_out (eqb who s.port.who) (is_in who (crew_numbers ss)) (by (eqb who s.port.who) refl) (nowhere ss who (λ k d lt. none (suc k) d (omega (arith, lt))))
+      both_out (eqb who s.port.who) (is_in who (crew_numbers ss)) (by (eqb who s.port.who) refl) (nowhere ss who (λ k d lt. none (suc k) d (omega (arith, lt))))
     where
       by : (b : Bool) → eqb who s.port.who ≡ b → eqb who s.port.who ≡ false
       by true e = absurd (none 0 s (omega arith) (sym (eqb-true who s.port.who e)))

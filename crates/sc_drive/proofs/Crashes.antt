@@ -16,7 +16,8 @@ use Rattle.sc_actor.specs.System.{System, acts, row_of, network, waiting, kth, n
 use Rattle.sc_actor.specs.Walk.{Task, Once, Settles, Frees, Storms, WalkPlace, Allows, MayAdd, IsWalk, IsLawful, after_row, start, onward, is_over, skips, cuts, rest_of_all, tasks_of, storm_steps, line_row, delivery, repeat_of, picked, storm_row}
 use Rattle.sc_actor.proofs.Induction.{find-who}
 
-both_out : (a b : Bool) → a ≡ false → b ≡ false → (a || b) ≡ false
+-- of two tests that both fail
+pub both_out : (a b : Bool) → a ≡ false → b ≡ false → (a || b) ≡ false
 both_out true b e f = e
 both_out false b e f = f
 

@@ -191,19 +191,23 @@ module _ {A M O : Type 0} {g : Ghosts A M O} {h : MailGhosts M} where
         shorter : (xs zs : List (Row M O)) → StartsWith zs xs → length xs ≤ length zs
         shorter xs zs s = omega (arith, ap length s.1, length-append xs s.0)
 
+    -- what was found of all spots then is found now
+    there : (births : List (Seat A)) → Company births next after → (spots : List Spot) → spots ≡ spots_of h.receiver mid.actors (seen mid) → (o : Option Spot)
+        → find (λ spot. is_in spot.who (crew_numbers after)) spots ≡ o → find (λ spot. is_in spot.who (crew_numbers after)) (spots_of h.receiver next.actors (seen next)) ≡ o
+    there births c spots is o e =
+        (λ i. find (λ spot. is_in spot.who (crew_numbers after)) (spots_of h.receiver (looked2.stays.exchange.1 i) (nothing_more births c i)))
+        ∙ (ap (find (λ spot. is_in spot.who (crew_numbers after))) (sym is) ∙ e)
+
     -- the place that was found by all spots
     pub finds_spots : (spots : List Spot) (place : Option ℕ) → spots ≡ spots_of h.receiver mid.actors (seen mid) → IsFirstPlaced after spots place → Finds next after place
     finds_spots spots None is found = record {
       inside = tt;
-      lowest = λ words births c. none_placed words births next after c (seen next) (there births c None found);
+      lowest = λ words births c. none_placed words births next after c (seen next) (there births c spots is None found);
     }
-      where
-        there : (births : List (Seat A)) → Company births next after → (o : Option Spot) → find (λ spot. is_in spot.who (crew_numbers after)) spots ≡ o → find (λ spot. is_in spot.who (crew_numbers after)) (spots_of h.receiver next.actors (seen next)) ≡ o
-        there births c o e = (λ i. find (λ spot. is_in spot.who (crew_numbers after)) (spots_of h.receiver (looked2.stays.exchange.1 i) (nothing_more births c i))) ∙ (ap (find (λ spot. is_in spot.who (crew_numbers after))) (sym is) ∙ e)
     finds_spots spots (Some place) is found = record {
       inside = found.2.inside;
       lowest = λ words births c.
-          let p = some_placed words births next after c (seen next) found.0 (there births c (Some found.0) found.1) in record {
+          let p = some_placed words births next after c (seen next) found.0 (there births c spots is (Some found.0) found.1) in record {
             number = found.0.number;
             mail = p.0;
             first = p.1;
@@ -211,9 +215,6 @@ module _ {A M O : Type 0} {g : Ghosts A M O} {h : MailGhosts M} where
             at = subst (λ w. IsPlace after w place) p.3 found.2;
           };
     }
-      where
-        there : (births : List (Seat A)) → Company births next after → (o : Option Spot) → find (λ spot. is_in spot.who (crew_numbers after)) spots ≡ o → find (λ spot. is_in spot.who (crew_numbers after)) (spots_of h.receiver next.actors (seen next)) ≡ o
-        there births c o e = (λ i. find (λ spot. is_in spot.who (crew_numbers after)) (spots_of h.receiver (looked2.stays.exchange.1 i) (nothing_more births c i))) ∙ (ap (find (λ spot. is_in spot.who (crew_numbers after))) (sym is) ∙ e)
 
 module _ {A M O : Type 0} {g : Ghosts A M O} {h : MailGhosts M} (ss : List (Shell A M O g h)) (spots : List Spot) (i : ℕ) (d : Spot) (lt : i < length spots) (none : find (λ spot. is_in spot.who (crew_numbers ss)) (take i spots) ≡ None) where
   -- no shell gets the copy at a place

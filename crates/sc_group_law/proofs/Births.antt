@@ -1,5 +1,5 @@
 -- What holds of a scenario's groups before any row, and what the start of a group gives.
-use Rattle.std.proofs.Common.{◌≡◌, ℕ, zero, suc, ◌+◌, ◌<◌, ◌≤◌, List, [], ◌∷◌, ◌++◌, length, take, map, filter, replicate, Some, inl, inr, refl, sym, ◌∙◌, ap, subst, arith}
+use Rattle.std.proofs.Common.{◌≡◌, ℕ, zero, suc, ◌+◌, ◌<◌, ◌≤◌, List, [], ◌∷◌, length, take, map, filter, replicate, Some, inl, inr, refl, sym, ◌∙◌, ap, subst, arith}
 use Rattle.std.specs.Prelude.{slice_get}
 use Rattle.std.specs.FinMap.{empty}
 use Rattle.std.proofs.lemmas.Bool.{eqb-true, cond_both}
@@ -51,6 +51,7 @@ one_of_many scenario base one = record {
   groups = one.groups;
   empty = λ other a. elim a [ inl e ↦ subst StartsEmpty e (record { roster = one.roster; pairs = one.pairs; clients = one.clients }) | inr none ↦ absurd none ];
   apart = (tt, tt);
+  orders = one.orders;
   nodes = one.nodes;
   numbered = one.numbered;
   once = one.once;

@@ -14,6 +14,7 @@ use Rattle.sc_cmd.specs.declared.cores.Base.{Base}
 use Rattle.sc_cmd.specs.declared.orders.OrderLine.{OrderLine}
 use Rattle.sc_mail.specs.declared.bodies.AnswerBody.TheVariants.{Value}
 use Rattle.sc_mail.specs.declared.bodies.Mail.{Mail}
+use Rattle.sc_mail.specs.declared.bodies.MailBody.{MailBody}
 use Rattle.sc_actor.specs.declared.rows.Row.{Row}
 use Rattle.sc_actor.specs.declared.rows.Input.{Input}
 use Rattle.sc_actor.specs.declared.rows.Input.TheVariants.{Got, Go}
@@ -26,6 +27,7 @@ use Rattle.sc_scenario.specs.declared.scenarios.Scenario.{Scenario}
 use Rattle.sc_hist_law.specs.Laws.{LeavesWhole}
 use Rattle.sc_players.specs.Players.{Ahead}
 use Rattle.sc_sound.specs.Requests.{issues, issued_from, issue_row}
+use Rattle.sc_group_law.specs.Orders.{IsOfMembers}
 use Rattle.sc_group_law.proofs.Invariant.{Steps, Grants, IsReplyAt, IsTrue, IsTrueAnswer, grown_reply}
 use Rattle.sc_group_law.proofs.Names.{IsOneOf, IsNamed}
 use Rattle.sc_group_law.proofs.Places.{Journal, or_now, issue-push}
@@ -63,6 +65,14 @@ Made scenario rows (Finish tx outcome) = ⊥
 Made scenario rows (Watched tx watch) = ⊥
 Made scenario rows (RecordWatch tx vote by) = ⊥
 
+-- ... by whichever group
+abbrev pub MadeBy : Scenario → Journal → Base → Command → Type 0
+MadeBy scenario rows base = Made scenario rows
+
+-- no mail of a transaction is sent so far
+abbrev pub Heard : MailBody → Type 0
+Heard body = ⊥
+
 issued_later : (scenario : Scenario) (rows : Journal) (row : Row Mail OrderLine) (client seq : ℕ) (op : Op) → IsIssued scenario rows client seq op → IsIssued scenario (rows ++ row ∷ []) client seq op
 issued_later scenario rows row client seq op i =
     let longer = length_push rows row in
@@ -94,14 +104,17 @@ made_whole scenario rows (Watched tx watch) m = m
 made_whole scenario rows (RecordWatch tx vote by) m = m
 
 -- what an order asks for is a join or a leave
-order_made : (scenario : Scenario) (rows : Journal) (o : Order) (number : ℕ) (c : Command) → command_of (let line : OrderLine = record { number = number; order = o } in line) ≡ Some c → Made scenario rows c
-order_made scenario rows (An.Join node group) number c e = (let same : Join node number ≡ c = cc in subst (Made scenario rows) same tt)
-order_made scenario rows (An.Leave node group) number c e = (let same : Leave node number ≡ c = cc in subst (Made scenario rows) same tt)
-order_made scenario rows _ number c e = cc
+order_made : (scenario : Scenario) (rows : Journal) (o : Order) (number : ℕ) (c : Command) → IsOfMembers o → command_of (let line : OrderLine = record { number = number; order = o } in line) ≡ Some c → Made scenario rows c
+order_made scenario rows (An.Join node group) number c plain e = (let same : Join node number ≡ c = cc in subst (Made scenario rows) same tt)
+order_made scenario rows (An.Leave node group) number c plain e = (let same : Leave node number ≡ c = cc in subst (Made scenario rows) same tt)
+order_made scenario rows (An.Split group at) number c plain e = absurd plain
+order_made scenario rows (An.Merge group) number c plain e = absurd plain
+order_made scenario rows (An.Repart group at) number c plain e = absurd plain
+order_made scenario rows (An.Migrate group node) number c plain e = absurd plain
 
 -- what replicas make themselves counts as made
-pub grants : (ahead : Ahead) (scenario : Scenario) (rows : Journal) (base : Base) → Grants ahead base (Made scenario rows)
-grants ahead scenario rows base = record { noop = tt; asked = λ line c e. order_made scenario rows line.order line.number c e }
+pub grants : (ahead : Ahead) (scenario : Scenario) (rows : Journal) (base : Base) → Grants ahead base (Made scenario rows) Heard
+grants ahead scenario rows base = record { noop = tt; asked = λ line c plain e. order_made scenario rows line.order line.number c plain e; whole = λ c m. made_whole scenario rows c m; unheard = λ body none. none }
 
 -- what was made stays made with one more row
 pub made_later : (scenario : Scenario) (rows : Journal) (row : Row Mail OrderLine) (c : Command) → Made scenario rows c → Made scenario (rows ++ row ∷ []) c
@@ -227,7 +240,7 @@ module _ (ahead : Ahead) (bases : List Base) where
   Grew h asks old new = (new ≡ old) ⊎ ((reply : Reply) × (new ≡ old ++ reply ∷ []) × IsAnswered h asks.client (length old + 1) reply)
 
   module _ (made : Command → Type 0) (h : Base → Steps) (asks : Asks) (client after : Client) (c : IsClient h asks client) (input : Input Mail OrderLine) (sent : List Mail) (turn : InTurn client after input sent)
-      (told : (m : Mail) → input ≡ Got m → (m.to ≡ client_actor asks.client) × IsNamed bases m.body × ((base : Base) → Among base bases → IsTrue ahead base made (h base) m m.body)) (fresh : input ≡ Go → client.replies ≡ []) where
+      (told : (m : Mail) → input ≡ Got m → (m.to ≡ client_actor asks.client) × IsNamed bases m.body × ((base : Base) → Among base bases → IsTrue ahead base made Heard (h base) m m.body)) (fresh : input ≡ Go → client.replies ≡ []) where
     waited : Waits client after → IsClient h asks after × Grew h asks client.replies after.replies
     waited s = (
       record {
@@ -255,7 +268,7 @@ module _ (ahead : Ahead) (bases : List Base) where
         let (m, where_from, got, body) = s.is_reply in
         let came = told m got in
         let one : IsOneOf bases where_from = subst (IsNamed bases) body came.1 in
-        let truth : IsTrueAnswer ahead one.0 (h one.0) m.to s.seq (Value s.reply) = (subst (IsTrue ahead one.0 made (h one.0) m) body (came.2 one.0 one.1)) (same_name where_from one.0.core.id one.2) in
+        let truth : IsTrueAnswer ahead one.0 (h one.0) m.to s.seq (Value s.reply) = (subst (IsTrue ahead one.0 made Heard (h one.0) m) body (came.2 one.0 one.1)) (same_name where_from one.0.core.id one.2) in
         let number : s.seq ≡ length client.replies + 1 = subst (λ o. IsNextOf o (length client.replies)) s.waited c.waits in
         let answer : IsAnswered h asks.client (length client.replies + 1) s.reply = (one.0, one.1, subst (λ n. IsReplyAt ahead one.0 (h one.0) asks.client n s.reply) number (truth asks.client came.0)) in (
           record {

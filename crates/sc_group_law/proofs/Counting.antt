@@ -8,6 +8,7 @@ use Rattle.sc_base.specs.Same.{same_ballot}
 use Rattle.sc_cmd.specs.declared.commands.Command.{Command}
 use Rattle.sc_cmd.specs.declared.cores.Base.{Base}
 use Rattle.sc_mail.specs.declared.bodies.Mail.{Mail}
+use Rattle.sc_mail.specs.declared.bodies.MailBody.{MailBody}
 use Rattle.sc_member.specs.Roster.{is_member, with_member}
 use Rattle.sc_member.specs.Majority.{is_majority}
 use Rattle.sc_paxos_words.specs.declared.answers.Counted.{Counted}
@@ -86,10 +87,10 @@ still_ready (y ∷ es) slot c x (inl same) ne =
 still_ready (y ∷ es) slot c x (inr a) ne =
     cond_both (eqb y.0 slot) _ _ (Among x) (λ _. inr a) (λ _. cond_both (nat_lt slot y.0) _ _ (Among x) (λ _. inr (inr a)) (λ _. inr (still_ready es slot c x a ne)))
 
-module _ (ahead : Ahead) (base : Base) (made : Command → Type 0) (grants : Grants ahead base made) (me : ℕ) (older : List Mail) (before : Steps)
+module _ (ahead : Ahead) (base : Base) (made : Command → Type 0) (heard : MailBody → Type 0) (grants : Grants ahead base made heard) (me : ℕ) (older : List Mail) (before : Steps)
     (some : (log : List Command) → Each made log → (node : ℕ) × (rest : List ℕ) × ((rule ahead base).members log ≡ node ∷ rest)) where
   abbrev Ok : Place → Type 0
-  Ok = Fine ahead base made me older before
+  Ok = Fine ahead base made heard me older before
 
   abbrev Replica : Steps → ReplicaState → Type 0
   Replica h r = IsReplica ahead base made h me r
@@ -139,7 +140,7 @@ module _ (ahead : Ahead) (base : Base) (made : Command → Type 0) (grants : Gra
       let after = cond_both (same_ballot ballot r.leader.ballot && not (is_member r.leader.promisers from)) _ _
       (λ (x : Bool × LeaderState Command). Replica (f.newer ++ before) (record r { leader = x.1 }))
       (λ _. voter_replica (f.newer ++ before) from ballot reports start r f.replica parts.0 (ballot_is ballot r.leader.ballot parts.1) promised asked) (λ _. f.replica) in
-      fine_pumped ahead base made grants me older before some _ (turn ahead base made me older before r (record r { leader = (promise_counted from ballot reports r.leader).1 }) mails f after)))
+      fine_pumped ahead base made heard grants me older before some _ (turn ahead base made heard me older before r (record r { leader = (promise_counted from ballot reports r.leader).1 }) mails f after)))
       (λ _. f)
 
   -- ---- a vote
@@ -206,11 +207,11 @@ module _ (ahead : Ahead) (base : Base) (made : Command → Type 0) (grants : Gra
   unfolding readied turn
   readied_place slot c r mails f t runs =
       let after : ReplicaState = record r { leader = without_flight_at slot r.leader; ready = with_slot r.ready slot c } in
-      let place = turn ahead base made me older before r after mails f (ready_replica (f.newer ++ before) slot c r f.replica t) in
+      let place = turn ahead base made heard me older before r after mails f (ready_replica (f.newer ++ before) slot c r f.replica t) in
       cond_both (eqb slot (next r) && has_room (record r { leader = without_flight_at slot r.leader })) _ _ Ok
       (λ e. (
       let parts = and_parts (eqb slot (next r)) (has_room (record r { leader = without_flight_at slot r.leader })) e in
-      fine_executed ahead base made grants me older before some true c after mails place
+      fine_executed ahead base made heard grants me older before some true c after mails place
       (subst (λ n. IsLearnt (rule ahead base) (f.newer ++ before) n c) (eqb-true slot (next r) parts.0) t) (λ _. runs)))
       (λ _. place)
 
@@ -261,7 +262,7 @@ module _ (ahead : Ahead) (base : Base) (made : Command → Type 0) (grants : Gra
         let voters = voters_after set from flight.voters in
         cond_both (is_majority set (kept_voters voters)) _ _ (λ (x : Counted Command × LeaderState Command). Ok (vote_tallied slot x (r, mails)))
         (λ most. readied_place slot flight.value r mails f (learnt_here flight there.0 at most) runs)
-        (λ _. turn ahead base made me older before r (record r { leader = record r.leader { flights = with_voters slot voters r.leader.flights } }) mails f
+        (λ _. turn ahead base made heard me older before r (record r { leader = record r.leader { flights = with_voters slot voters r.leader.flights } }) mails f
         (voters_replica h slot voters r f.replica (λ g a same. (
         let flies = Each-among _ r.leader.flights g f.replica.flights a in
         (flies.0, Each-weaker _ _ (λ n x. subst (λ v. Among (Accepted n b g.slot v) h) (same_value g a same) (subst (λ m. Among (Accepted n b m d) h) (sym same) x)) (kept_voters voters) (accepted_by flight there.0 at))))))

@@ -1,6 +1,12 @@
 -- Valid scenarios have one group; and the example is a lawful journal of such a scenario.
 use Rattle.sc_scenario.specs.Groups.{lone_group}
-use Rattle.sc_scenario.specs.Valid.{TextsAreEarly}
+use Rattle.sc_scenario.specs.Valid.{IsEarlyOrder, IsEarlyLine, TextsAreEarly}
+use Rattle.sc_scenario.specs.declared.scenarios.SchedLine.{SchedLine}
+use Rattle.sc_scenario.specs.declared.scenarios.SchedLine.TheVariants as scheduled
+use Rattle.sc_cmd.specs.declared.orders.Order.{Order}
+use Rattle.sc_cmd.specs.declared.orders.Order.TheVariants as An
+use Rattle.sc_paxos_words.proofs.ListLemmas.{Each-weaker}
+use Rattle.sc_group_law.specs.Orders.{IsOfMembers, TellsOfMembers}
 use Rattle.sc_member.specs.Roster.{IsRoster}
 use Rattle.sc_member.proofs.Rising.{roster_with}
 use Rattle.sc_group_law.specs.Laws.{ValidHaveOneGroup}
@@ -46,6 +52,26 @@ each_of : {X : Type 0} (P : X → Type 0) (xs : List X) → All P xs → Each P 
 each_of P [] all = tt
 each_of P (x ∷ xs) all = (all 0 x (omega arith), each_of P xs (λ k d lt. all (suc k) d (omega (arith, lt))))
 
+early_order : (nodes : ℕ) (o : Order) → IsEarlyOrder nodes o → IsOfMembers o
+early_order nodes (An.Join node group) e = tt
+early_order nodes (An.Leave node group) e = tt
+early_order nodes (An.Split group at) e = e
+early_order nodes (An.Merge group) e = e
+early_order nodes (An.Repart group at) e = e
+early_order nodes (An.Migrate group node) e = e
+
+early_orders : (nodes : ℕ) (clients : List Asks) (line : SchedLine) → IsEarlyLine nodes clients line → TellsOfMembers line
+early_orders nodes clients (scheduled.Told node line) e = early_order nodes line.order e.1
+early_orders nodes clients (scheduled.Go client) e = tt
+early_orders nodes clients (scheduled.Deliver who k) e = tt
+early_orders nodes clients (scheduled.Drop who k) e = tt
+early_orders nodes clients (scheduled.Again mail) e = tt
+early_orders nodes clients (scheduled.Tick who) e = tt
+early_orders nodes clients (scheduled.Crash node) e = tt
+early_orders nodes clients (scheduled.Settle most) e = tt
+early_orders nodes clients (scheduled.Free most workers) e = tt
+early_orders nodes clients (scheduled.Storm number most) e = tt
+
 -- each valid scenario has one group
 pub valid_one_group : TextsAreEarly → ValidHaveOneGroup
 valid_one_group early scenario valid =
@@ -56,6 +82,8 @@ valid_one_group early scenario valid =
         roster = is.roster;
         pairs = refl;
         clients = refl;
+        orders = Each-weaker (IsEarlyLine scenario.nodes scenario.clients) TellsOfMembers (λ line early_line. early_orders scenario.nodes scenario.clients line early_line) scenario.lines
+            (each_of (IsEarlyLine scenario.nodes scenario.clients) scenario.lines is.lines);
         nodes = is.nodes.1;
         numbered = each_of (λ (asks : Asks). 1 ≤ asks.client) scenario.clients (λ k d lt. (is.clients k d lt).0.0);
         once = numbered_once scenario.clients is.ascending;
@@ -79,7 +107,7 @@ trio = roster_with (1 ∷ 2 ∷ []) 3 pair refl (lit≤ tt)
 
 -- the example's scenario has one group
 pub one_group : HasOneGroup election_scenario three_nodes
-one_group = record { groups = refl; roster = trio; pairs = refl; clients = refl; nodes = lit≤ tt; numbered = (lit≤ tt, tt); once = once }
+one_group = record { groups = refl; roster = trio; pairs = refl; clients = refl; orders = (tt, (tt, (tt, (tt, (tt, (tt, (tt, (tt, (tt, tt))))))))); nodes = lit≤ tt; numbered = (lit≤ tt, tt); once = once }
 
 -- the example is lawful
 pub example_is_lawful : Lawful four no_words election_scenario election_example

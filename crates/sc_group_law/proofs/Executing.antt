@@ -13,6 +13,7 @@ use Rattle.sc_cmd.specs.declared.effects.Effect.TheVariants as Was
 use Rattle.sc_mail.specs.declared.bodies.AnswerBody.{AnswerBody}
 use Rattle.sc_mail.specs.declared.bodies.AnswerBody.TheVariants as Says
 use Rattle.sc_mail.specs.declared.bodies.Mail.{Mail}
+use Rattle.sc_mail.specs.declared.bodies.MailBody.{MailBody}
 use Rattle.sc_mail.specs.declared.bodies.MailBody.TheVariants.{Answer, Told}
 use Rattle.sc_member.specs.Roster.{is_member, least_of}
 use Rattle.sc_machine_table.specs.Group.{Group}
@@ -42,16 +43,16 @@ use Rattle.sc_group_law.proofs.Offering.{with_calls, with_acts, fine_pumped}
 use Rattle.sc_group_law.proofs.Entering.{entered_has, entered_replica, entered_next, entered_runs}
 use Rattle.sc_group_law.proofs.Welcoming.{welcomed_place}
 
-module _ (ahead : Ahead) (base : Base) (made : Command → Type 0) (grants : Grants ahead base made) (me : ℕ) (older : List Mail) (before : Steps)
+module _ (ahead : Ahead) (base : Base) (made : Command → Type 0) (heard : MailBody → Type 0) (grants : Grants ahead base made heard) (me : ℕ) (older : List Mail) (before : Steps)
     (some : (log : List Command) → Each made log → (node : ℕ) × (rest : List ℕ) × ((rule ahead base).members log ≡ node ∷ rest)) where
   abbrev Ok : Place → Type 0
-  Ok = Fine ahead base made me older before
+  Ok = Fine ahead base made heard me older before
 
   abbrev Replica : Steps → ReplicaState → Type 0
   Replica h r = IsReplica ahead base made h me r
 
   named : (r : ReplicaState) (mails : List Mail) → Ok (r, mails) → name_of r ≡ base.core.id
-  named r mails f = name_is ahead base made me older before (f.newer ++ before) r f.replica
+  named r mails f = name_is ahead base made heard me older before (f.newer ++ before) r f.replica
 
   -- ---- a command goes back
 
@@ -62,12 +63,12 @@ module _ (ahead : Ahead) (base : Base) (made : Command → Type 0) (grants : Gra
   back_replica : (h : Steps) (c : Command) (r : ReplicaState) → made c → Replica h r → Replica h (put_back c r)
   unfolding put_back
   back_replica h Noop r m k = k
-  back_replica h (Call client seq op) r m k = with_calls ahead base made grants me older before some h r _ k (before_calls (call_of r.calls client) client seq (Call client seq op) r.calls m k.calls)
-  back_replica h (Join node order) r m k = with_calls ahead base made grants me older before some h r (Join node order ∷ r.calls) k (m, k.calls)
-  back_replica h (Leave node order) r m k = with_calls ahead base made grants me older before some h r (Leave node order ∷ r.calls) k (m, k.calls)
-  back_replica h (Split at child order) r m k = with_calls ahead base made grants me older before some h r (Split at child order ∷ r.calls) k (m, k.calls)
-  back_replica h (Begin tx body order) r m k = with_calls ahead base made grants me older before some h r (Begin tx body order ∷ r.calls) k (m, k.calls)
-  back_replica h c r m k = with_acts ahead base made grants me older before some h r (c ∷ r.acts) k (m, k.acts)
+  back_replica h (Call client seq op) r m k = with_calls ahead base made heard grants me older before some h r _ k (before_calls (call_of r.calls client) client seq (Call client seq op) r.calls m k.calls)
+  back_replica h (Join node order) r m k = with_calls ahead base made heard grants me older before some h r (Join node order ∷ r.calls) k (m, k.calls)
+  back_replica h (Leave node order) r m k = with_calls ahead base made heard grants me older before some h r (Leave node order ∷ r.calls) k (m, k.calls)
+  back_replica h (Split at child order) r m k = with_calls ahead base made heard grants me older before some h r (Split at child order ∷ r.calls) k (m, k.calls)
+  back_replica h (Begin tx body order) r m k = with_calls ahead base made heard grants me older before some h r (Begin tx body order ∷ r.calls) k (m, k.calls)
+  back_replica h c r m k = with_acts ahead base made heard grants me older before some h r (c ∷ r.acts) k (m, k.acts)
 
   back_runs : (c : Command) (r : ReplicaState) → (put_back c r).running ≡ r.running
   unfolding put_back
@@ -116,13 +117,13 @@ module _ (ahead : Ahead) (base : Base) (made : Command → Type 0) (grants : Gra
       → Past counted slot d (told_call o c (r, mails))
   unfolding told_call says turn
   told_place counted slot d (Some answer) (Call client seq op) r mails p m t = record {
-    fine = says ahead base made me older before r mails (record { from = r.me; to = client_actor client; body = Answer (name_of r) seq answer }) p.fine refl (named r mails p.fine) (λ _. t client seq op answer refl refl);
+    fine = says ahead base made heard me older before r mails (record { from = r.me; to = client_actor client; body = Answer (name_of r) seq answer }) p.fine refl (named r mails p.fine) (λ _. t client seq op answer refl refl);
     learnt_is = p.learnt_is;
     executed_is = p.executed_is;
     runs_is = p.runs_is;
   }
   told_place counted slot d None (Call client seq op) r mails p m t = record {
-    fine = turn ahead base made me older before r (put_back (Call client seq op) r) mails p.fine (back_replica (p.fine.newer ++ before) (Call client seq op) r m p.fine.replica);
+    fine = turn ahead base made heard me older before r (put_back (Call client seq op) r) mails p.fine (back_replica (p.fine.newer ++ before) (Call client seq op) r m p.fine.replica);
     learnt_is = p.learnt_is;
     executed_is = subst (λ (l : LogState Command). slot < next_of l) (sym (back_log (Call client seq op) r)) p.executed_is;
     runs_is = λ e. back_runs (Call client seq op) r ∙ p.runs_is e;
@@ -137,7 +138,7 @@ module _ (ahead : Ahead) (base : Base) (made : Command → Type 0) (grants : Gra
   ordered_place counted slot d (Some result) c (r, mails) p =
       cond_both (nat_lt 0 (order_number c)) (sent r.me 0 (Told (order_number c) result) mails) mails (λ ms. Past counted slot d (r, ms))
       (λ _. record {
-        fine = says ahead base made me older before r mails (record { from = r.me; to = 0; body = Told (order_number c) result }) p.fine refl tt tt;
+        fine = says ahead base made heard me older before r mails (record { from = r.me; to = 0; body = Told (order_number c) result }) p.fine refl tt tt;
         learnt_is = p.learnt_is;
         executed_is = p.executed_is;
         runs_is = p.runs_is;
@@ -148,7 +149,7 @@ module _ (ahead : Ahead) (base : Base) (made : Command → Type 0) (grants : Gra
 
   learnt_place : (counted : Bool) (nodes : List ℕ) (slot : ℕ) (c : Command) (place : Place) → Past counted slot c place → Ok (learnt_to counted nodes slot c place)
   unfolding learnt_to
-  learnt_place true nodes slot c (r, mails) p = learnt_others ahead base made me older before nodes r mails (name_of r) slot c (named r mails p.fine) p.fine p.learnt_is
+  learnt_place true nodes slot c (r, mails) p = learnt_others ahead base made heard me older before nodes r mails (name_of r) slot c (named r mails p.fine) p.fine p.learnt_is
   learnt_place false nodes slot c (r, mails) p = p.fine
 
   learnt_same : (counted : Bool) (nodes : List ℕ) (slot : ℕ) (c : Command) (place : Place) → (learnt_to counted nodes slot c place).0 ≡ place.0
@@ -213,7 +214,7 @@ module _ (ahead : Ahead) (base : Base) (made : Command → Type 0) (grants : Gra
   landed_place : (counted : Bool) (slot : ℕ) (c : Command) (place : Place) → Ok place → slot < next place.0 → Ok (landed counted slot c place)
   unfolding landed
   landed_place counted slot c (r, mails) f past =
-      turn ahead base made me older before r _ mails f
+      turn ahead base made heard me older before r _ mails f
       (lost_replica (f.newer ++ before) counted c (flying r slot) _ (λ d e. flying_made slot r mails d f e) (over_replica (f.newer ++ before) slot r past f.replica))
 
   -- ---- 5 and 6
@@ -239,11 +240,11 @@ module _ (ahead : Ahead) (base : Base) (made : Command → Type 0) (grants : Gra
 
   -- ... nor of what holds in the middle of a row
   pub hinted_place : (r : ReplicaState) (hint : Option ℕ) (mails : List Mail) → Ok (r, mails) → Ok (record r { hint = hint }, mails)
-  hinted_place r hint mails f = turn ahead base made me older before r (record r { hint = hint }) mails f (hint_replica (f.newer ++ before) r hint f.replica)
+  hinted_place r hint mails f = turn ahead base made heard me older before r (record r { hint = hint }) mails f (hint_replica (f.newer ++ before) r hint f.replica)
 
   left_gone_place : (gone : Option Route) (r : ReplicaState) (mails : List Mail) → Ok (r, mails) → Ok (left_gone gone (r, mails))
-  left_gone_place (Some into) r mails f = fine_ended ahead base made me older before None (Says.Gone into) (λ h to seq. tt) r mails f
-  left_gone_place None r mails f = cond_both (is_member (members r) r.me) _ _ Ok (λ _. f) (λ _. fine_stopped ahead base made me older before (Some (least_of (members r))) r mails f)
+  left_gone_place (Some into) r mails f = fine_ended ahead base made heard me older before None (Says.Gone into) (λ h to seq. tt) r mails f
+  left_gone_place None r mails f = cond_both (is_member (members r) r.me) _ _ Ok (λ _. f) (λ _. fine_stopped ahead base made heard me older before (Some (least_of (members r))) r mails f)
 
   left_place : (place : Place) → Ok place → Ok (left place)
   unfolding left
@@ -254,7 +255,7 @@ module _ (ahead : Ahead) (base : Base) (made : Command → Type 0) (grants : Gra
   looked_for_place None r mails f =
       cond_both (is_among (members r) r.hint) _ _ Ok (λ _. f)
       (λ _. cond_both (eqb (least_of (members r)) r.me) _ _ Ok
-      (λ _. fine_elected ahead base made me older before (record r { hint = Some r.me }) mails (hinted_place r (Some r.me) mails f))
+      (λ _. fine_elected ahead base made heard me older before (record r { hint = Some r.me }) mails (hinted_place r (Some r.me) mails f))
       (λ _. hinted_place r (Some (least_of (members r))) mails f))
 
   -- a replica that looks for a policy's deed keeps what holds
@@ -275,7 +276,7 @@ module _ (ahead : Ahead) (base : Base) (made : Command → Type 0) (grants : Gra
       let chosen = by_own_log (rule ahead base) (first ahead base) h f.lawful (length log + 1) c (subst (λ n. IsLearnt (rule ahead base) h n c) (next_after ahead base made h me r k) t) log k.log_is.is_log known in
       let after = entered_replica ahead base made me h c r k m chosen in
       let has = entered_has ahead base made me h c r k m chosen in
-      let place = turn ahead base made me older before r (entered c r) mails f after in
+      let place = turn ahead base made heard me older before r (entered c r) mails f after in
       let up : next r < next (entered c r) = entered_next ahead base made me h c r k m chosen in
       let effect = (applied r.group c).1 in
       let replies : (client seq : ℕ) (op : Op) (reply : Reply) → c ≡ Call client seq op → IsReplied effect reply → IsReplyAt ahead base h client seq reply = λ client seq op reply is replied. (
@@ -294,7 +295,7 @@ module _ (ahead : Ahead) (base : Base) (made : Command → Type 0) (grants : Gra
       let spoken : Past counted (next r) c (announced counted effect c (entered c r, mails)) = ordered_place counted (next r) c (order_result c effect) c _ answered_it in
       let said = announced counted effect c (entered c r, mails) in
       let taught = learnt_place counted (members r) (next r) c said spoken in
-      let welcome = welcomed_place ahead base made me older before counted (members r) said.0 (learnt_to counted (members r) (next r) c said) (learnt_same counted (members r) (next r) c said) taught spoken.runs_is in
+      let welcome = welcomed_place ahead base made heard me older before counted (members r) said.0 (learnt_to counted (members r) (next r) c said) (learnt_same counted (members r) (next r) c said) taught spoken.runs_is in
       let past = subst (λ (s : ReplicaState). next r < next s) (sym welcome.1) spoken.executed_is in
       looked_place _ (left_place _ (landed_place counted (next r) c _ welcome.0 past))
 
@@ -322,11 +323,11 @@ module _ (ahead : Ahead) (base : Base) (made : Command → Type 0) (grants : Gra
       go rest None is = f
       go rest (Some c) is =
           let t = Each-among _ place.0.ready (next place.0, c) f.replica.ready (next_ready_among place.0 c is) in
-          fine_pumped ahead base made grants me older before some _ (rest _ (fine_executed_one true c place.0 place.1 f t (learnt_made place f (next place.0) c t) (λ _. next_ready_runs place.0 c is)))
+          fine_pumped ahead base made heard grants me older before some _ (rest _ (fine_executed_one true c place.0 place.1 f t (learnt_made place f (next place.0) c t) (λ _. next_ready_runs place.0 c is)))
 
   -- Execute
   pub fine_executed : (counted : Bool) (c : Command) (r : ReplicaState) (mails : List Mail) → (f : Ok (r, mails)) → IsLearnt (rule ahead base) (f.newer ++ before) (next r) c → (counted ≡ true → r.running ≡ true) → Ok (executed counted c (r, mails))
   unfolding executed
   fine_executed counted c r mails f t runs =
       let one = fine_executed_one counted c r mails f t (learnt_made (r, mails) f (next r) c t) runs in
-      fine_pumped ahead base made grants me older before some _ (fine_executed_ready (executed_one counted c (r, mails)).0.ready (executed_one counted c (r, mails)) one)
+      fine_pumped ahead base made heard grants me older before some _ (fine_executed_ready (executed_one counted c (r, mails)).0.ready (executed_one counted c (r, mails)) one)

@@ -40,7 +40,7 @@ use Rattle.sc_group_law.proofs.Names.{IsNamed}
 use Rattle.sc_group_law.proofs.Nodes.{IsNode}
 use Rattle.sc_group_law.proofs.Projected.{log_only, only_steps}
 use Rattle.sc_group_law.proofs.Places.{Journal, split_at}
-use Rattle.sc_group_law.proofs.Clients.{Made, made_later, made_whole, IsClient, Grew}
+use Rattle.sc_group_law.proofs.Clients.{Made, MadeBy, Heard, made_later, made_whole, IsClient, Grew}
 
 -- the steps of a journal for each group
 abbrev pub h_of : Journal → Base → Steps
@@ -74,7 +74,7 @@ module _ (ahead : Ahead) (scenario : Scenario) (bases : List Base) (route : Rout
   pub record IsNodeAt (made rows : Journal) (n : ℕ) : Type 0 where
     pub node : NodeState
     pub value_is : value player_table (node_seat ahead bases n) rows ≡ ANode node
-    pub is : IsNode ahead bases (Made scenario made) (h_of rows) n node
+    pub is : IsNode ahead bases (MadeBy scenario made) (h_of rows) n node
 
   -- a client of the journal as the steps say
   pub record IsClientAt (rows : Journal) (asks : Asks) : Type 0 where
@@ -93,7 +93,7 @@ module _ (ahead : Ahead) (scenario : Scenario) (bases : List Base) (route : Rout
   pub record Part (rows : Journal) (base : Base) : Type 0 where
     pub lawful : IsLawfulHistory (rule ahead base) (first ahead base) (h_of rows base)
     pub requested : (b : Ballot) (slot : ℕ) (c : Command) → Among (Offered b slot c) (h_of rows base) → Made scenario rows c
-    pub true_mail : (m : Mail) → Among m (mails rows) → IsTrue ahead base (Made scenario rows) (h_of rows base) m m.body
+    pub true_mail : (m : Mail) → Among m (mails rows) → IsTrue ahead base (Made scenario rows) Heard (h_of rows base) m m.body
 
   -- what holds of each lawful journal
   pub record Kept (rows : Journal) : Type 0 where
@@ -112,7 +112,7 @@ module _ (ahead : Ahead) (scenario : Scenario) (bases : List Base) (route : Rout
     pub are : h_of (rows ++ row ∷ []) base ≡ newer ++ h_of rows base
     pub lawful : IsLawfulHistory (rule ahead base) (first ahead base) (h_of (rows ++ row ∷ []) base)
     pub requested : (b : Ballot) (slot : ℕ) (c : Command) → Among (Offered b slot c) (h_of (rows ++ row ∷ []) base) → Made scenario rows c
-    pub true_sent : (m : Mail) → Among m row.sent → IsTrue ahead base (Made scenario (rows ++ row ∷ [])) (h_of (rows ++ row ∷ []) base) m m.body
+    pub true_sent : (m : Mail) → Among m row.sent → IsTrue ahead base (Made scenario (rows ++ row ∷ [])) Heard (h_of (rows ++ row ∷ []) base) m m.body
 
   -- a client after a row of its own, or as it was
   pub record ClientMoved (rows : Journal) (row : Row Mail OrderLine) (asks : Asks) : Type 0 where
@@ -126,8 +126,8 @@ module _ (ahead : Ahead) (scenario : Scenario) (bases : List Base) (route : Rout
     pub nodes : (n : ℕ) → 1 ≤ n → n ≤ scenario.nodes → IsNodeAt rows (rows ++ row ∷ []) n
     pub clients : (asks : Asks) → Among asks scenario.clients → ClientMoved rows row asks
 
-  node_made : (made more : Command → Type 0) → ((c : Command) → made c → more c) → (h : Base → Steps) (me : ℕ) (node : NodeState) → IsNode ahead bases made h me node → IsNode ahead bases more h me node
-  node_made made more f h me node at = record { me_is = at.me_is; known = at.known; holds = λ base a. more_holds ahead base made more f me (h base) node.replicas (at.holds base a) }
+  node_made : (made more : Base → Command → Type 0) → ((b : Base) (c : Command) → made b c → more b c) → (h : Base → Steps) (me : ℕ) (node : NodeState) → IsNode ahead bases made h me node → IsNode ahead bases more h me node
+  node_made made more f h me node at = record { me_is = at.me_is; known = at.known; holds = λ base a. more_holds ahead base (made base) (more base) (f base) me (h base) node.replicas (at.holds base a) }
 
   -- what holds of a journal holds with one more row
   pub push : (rows : Journal) (row : Row Mail OrderLine) → Kept rows → Moved rows row → Kept (rows ++ row ∷ [])
@@ -140,14 +140,14 @@ module _ (ahead : Ahead) (scenario : Scenario) (bases : List Base) (route : Rout
               lawful = p.lawful;
               requested = λ b slot c o. made_later scenario rows row c (p.requested b slot c o);
               true_mail = λ x b. elim (Among-either x (mails rows) row.sent (subst (Among x) (mails-snoc rows row) b)) [
-                | inl old ↦ subst (λ g. IsTrue ahead base (Made scenario next) g x x.body) (sym p.are)
-                    (grown_true ahead base (Made scenario rows) (Made scenario next) (made_later scenario rows row) p.newer (h_of rows base) x x.body ((k.parts base a).true_mail x old))
+                | inl old ↦ subst (λ g. IsTrue ahead base (Made scenario next) Heard g x x.body) (sym p.are)
+                    (grown_true ahead base (Made scenario rows) (Made scenario next) (made_later scenario rows row) Heard Heard (λ body none. none) p.newer (h_of rows base) x x.body ((k.parts base a).true_mail x old))
                 | inr new ↦ p.true_sent x new
               ];
             });
         named = λ x b. elim (Among-either x (mails rows) row.sent (subst (Among x) (mails-snoc rows row) b)) [ inl old ↦ k.named x old | inr new ↦ m.named x new ];
         nodes = λ n some most. (let at = m.nodes n some most in
-            record { node = at.node; value_is = at.value_is; is = node_made (Made scenario rows) (Made scenario next) (made_later scenario rows row) (h_of next) n at.node at.is });
+            record { node = at.node; value_is = at.value_is; is = node_made (MadeBy scenario rows) (MadeBy scenario next) (λ b. made_later scenario rows row) (h_of next) n at.node at.is });
         clients = λ asks stands. (m.clients asks stands).after;
       }
 

@@ -55,44 +55,44 @@ AreFar name mails = Each (λ mail. IsFar name mail.body) mails
 
 module _ (ahead : Ahead) (base : Base) where
   -- what is of the group's own name is of no other
-  pub own_far : (name : Draw) → same_draw base.core.id name ≡ false → (body : MailBody) → IsOwn ahead base body → IsFar name body
-  own_far name f (Request group client seq op) own = own
-  own_far name f (Answer group seq answer) own = ap (λ d. same_draw d name) own ∙ f
-  own_far name f (Prepare group ballot from_slot) own = ap (λ d. same_draw d name) own ∙ f
-  own_far name f (Promise group ballot reports) own = ap (λ d. same_draw d name) own ∙ f
-  own_far name f (Accept group ballot slot command) own = ap (λ d. same_draw d name) own ∙ f
-  own_far name f (AcceptedMail group ballot slot) own = ap (λ d. same_draw d name) own ∙ f
-  own_far name f (Nack group promised) own = ap (λ d. same_draw d name) own ∙ f
-  own_far name f (Learn group slot command) own = ap (λ d. same_draw d name) own ∙ f
-  own_far name f (Ask group from_slot) own = ap (λ d. same_draw d name) own ∙ f
-  own_far name f (Install group slot record_of sets) own = ap (λ d. same_draw d name) own ∙ f
-  own_far name f (TxPrepare tx offer) own = own
-  own_far name f (TxVote tx coord part vote) own = own
-  own_far name f (TxOutcome tx part outcome) own = own
-  own_far name f (TxElsewhere tx coord hint) own = own
-  own_far name f (TxWatch tx watch) own = own
-  own_far name f (TxWatched tx coord part vote) own = own
-  own_far name f (Told number result) own = tt
+  pub own_far : (heard : MailBody → Type 0) → ((b : MailBody) → heard b → ⊥) → (name : Draw) → same_draw base.core.id name ≡ false → (body : MailBody) → IsOwn ahead base heard body → IsFar name body
+  own_far heard none name f (Request group client seq op) own = own
+  own_far heard none name f (Answer group seq answer) own = ap (λ d. same_draw d name) own ∙ f
+  own_far heard none name f (Prepare group ballot from_slot) own = ap (λ d. same_draw d name) own ∙ f
+  own_far heard none name f (Promise group ballot reports) own = ap (λ d. same_draw d name) own ∙ f
+  own_far heard none name f (Accept group ballot slot command) own = ap (λ d. same_draw d name) own ∙ f
+  own_far heard none name f (AcceptedMail group ballot slot) own = ap (λ d. same_draw d name) own ∙ f
+  own_far heard none name f (Nack group promised) own = ap (λ d. same_draw d name) own ∙ f
+  own_far heard none name f (Learn group slot command) own = ap (λ d. same_draw d name) own ∙ f
+  own_far heard none name f (Ask group from_slot) own = ap (λ d. same_draw d name) own ∙ f
+  own_far heard none name f (Install group slot record_of sets) own = ap (λ d. same_draw d name) own ∙ f
+  own_far heard none name f (TxPrepare tx offer) own = absurd (none (TxPrepare tx offer) own)
+  own_far heard none name f (TxVote tx coord part vote) own = absurd (none (TxVote tx coord part vote) own)
+  own_far heard none name f (TxOutcome tx part outcome) own = absurd (none (TxOutcome tx part outcome) own)
+  own_far heard none name f (TxElsewhere tx coord hint) own = absurd (none (TxElsewhere tx coord hint) own)
+  own_far heard none name f (TxWatch tx watch) own = absurd (none (TxWatch tx watch) own)
+  own_far heard none name f (TxWatched tx coord part vote) own = absurd (none (TxWatched tx coord part vote) own)
+  own_far heard none name f (Told number result) own = tt
 
   -- what is said of another group is true of this one
-  pub far_true : (made : Command → Type 0) (h : Steps) (mail : Mail) (body : MailBody) → IsFar base.core.id body → IsTrue ahead base made h mail body
-  far_true made h mail (Request group client seq op) far = absurd far
-  far_true made h mail (Answer group seq answer) far = λ t. (let no_way : true ≡ false = sym t ∙ far in absurd (cc))
-  far_true made h mail (Prepare group ballot from_slot) far = λ t. (let no_way : true ≡ false = sym t ∙ far in absurd (cc))
-  far_true made h mail (Promise group ballot reports) far = λ t. (let no_way : true ≡ false = sym t ∙ far in absurd (cc))
-  far_true made h mail (Accept group ballot slot command) far = λ t. (let no_way : true ≡ false = sym t ∙ far in absurd (cc))
-  far_true made h mail (AcceptedMail group ballot slot) far = λ t. (let no_way : true ≡ false = sym t ∙ far in absurd (cc))
-  far_true made h mail (Nack group promised) far = tt
-  far_true made h mail (Learn group slot command) far = λ t. (let no_way : true ≡ false = sym t ∙ far in absurd (cc))
-  far_true made h mail (Ask group from_slot) far = tt
-  far_true made h mail (Install group slot record_of sets) far = λ t. (let no_way : true ≡ false = sym t ∙ far in absurd (cc))
-  far_true made h mail (TxPrepare tx offer) far = far
-  far_true made h mail (TxVote tx coord part vote) far = far
-  far_true made h mail (TxOutcome tx part outcome) far = far
-  far_true made h mail (TxElsewhere tx coord hint) far = far
-  far_true made h mail (TxWatch tx watch) far = far
-  far_true made h mail (TxWatched tx coord part vote) far = far
-  far_true made h mail (Told number result) far = tt
+  pub far_true : (made : Command → Type 0) (heard : MailBody → Type 0) (h : Steps) (mail : Mail) (body : MailBody) → IsFar base.core.id body → IsTrue ahead base made heard h mail body
+  far_true made heard h mail (Request group client seq op) far = absurd far
+  far_true made heard h mail (Answer group seq answer) far = λ t. (let no_way : true ≡ false = sym t ∙ far in absurd (cc))
+  far_true made heard h mail (Prepare group ballot from_slot) far = λ t. (let no_way : true ≡ false = sym t ∙ far in absurd (cc))
+  far_true made heard h mail (Promise group ballot reports) far = λ t. (let no_way : true ≡ false = sym t ∙ far in absurd (cc))
+  far_true made heard h mail (Accept group ballot slot command) far = λ t. (let no_way : true ≡ false = sym t ∙ far in absurd (cc))
+  far_true made heard h mail (AcceptedMail group ballot slot) far = λ t. (let no_way : true ≡ false = sym t ∙ far in absurd (cc))
+  far_true made heard h mail (Nack group promised) far = tt
+  far_true made heard h mail (Learn group slot command) far = λ t. (let no_way : true ≡ false = sym t ∙ far in absurd (cc))
+  far_true made heard h mail (Ask group from_slot) far = tt
+  far_true made heard h mail (Install group slot record_of sets) far = λ t. (let no_way : true ≡ false = sym t ∙ far in absurd (cc))
+  far_true made heard h mail (TxPrepare tx offer) far = absurd far
+  far_true made heard h mail (TxVote tx coord part vote) far = absurd far
+  far_true made heard h mail (TxOutcome tx part outcome) far = absurd far
+  far_true made heard h mail (TxElsewhere tx coord hint) far = absurd far
+  far_true made heard h mail (TxWatch tx watch) far = absurd far
+  far_true made heard h mail (TxWatched tx coord part vote) far = absurd far
+  far_true made heard h mail (Told number result) far = tt
 
 -- ---- steps
 

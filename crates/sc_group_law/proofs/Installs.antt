@@ -12,6 +12,7 @@ use Rattle.sc_cmd.specs.declared.orders.OrderRefusal.TheVariants.{NotLeader}
 use Rattle.sc_cmd.specs.declared.orders.ToldResult.{ToldResult}
 use Rattle.sc_cmd.specs.declared.orders.ToldResult.TheVariants.{Refused}
 use Rattle.sc_mail.specs.declared.bodies.Mail.{Mail}
+use Rattle.sc_mail.specs.declared.bodies.MailBody.{MailBody}
 use Rattle.sc_mail.specs.declared.bodies.MailBody.TheVariants.{Told}
 use Rattle.sc_machine_table.specs.Group.{Group, group_of}
 use Rattle.sc_machine_table.specs.Orders.{refusal_of}
@@ -30,6 +31,7 @@ use Rattle.sc_node_table.specs.Install.{named, jumped}
 use Rattle.sc_node_table.specs.Rows.{looked_up, took_over, install_row, made_by, command_of, order_queued, order_taken, order_row}
 use Rattle.sc_hist_law.proofs.Logs.{state_same}
 use Rattle.sc_players.specs.Players.{Ahead}
+use Rattle.sc_group_law.specs.Orders.{IsOfMembers}
 use Rattle.sc_group_law.proofs.Growth.{IsFresh, fresh_state}
 use Rattle.sc_group_law.proofs.Held.{Mirrors, mirrors_itself, floor_low}
 use Rattle.sc_group_law.proofs.Invariant.{Steps, rule, first, birth, Grants, AreSets, HasLog, IsReplica, next_after, forgotten_replica, IsState, grown_state, Fine, turn, says}
@@ -37,10 +39,10 @@ use Rattle.sc_group_law.proofs.Sending.{name_is, fine_stopped}
 use Rattle.sc_group_law.proofs.Offering.{with_calls, fine_pumped}
 use Rattle.sc_group_law.proofs.Executing.{hinted_place, looked_place}
 
-module _ (ahead : Ahead) (base : Base) (made : Command → Type 0) (grants : Grants ahead base made) (me : ℕ) (older : List Mail) (before : Steps)
+module _ (ahead : Ahead) (base : Base) (made : Command → Type 0) (heard : MailBody → Type 0) (grants : Grants ahead base made heard) (me : ℕ) (older : List Mail) (before : Steps)
     (some : (log : List Command) → Each made log → (node : ℕ) × (rest : List ℕ) × ((rule ahead base).members log ≡ node ∷ rest)) where
   abbrev Ok : Place → Type 0
-  Ok = Fine ahead base made me older before
+  Ok = Fine ahead base made heard me older before
 
   abbrev Replica : Steps → ReplicaState → Type 0
   Replica h r = IsReplica ahead base made h me r
@@ -95,8 +97,8 @@ module _ (ahead : Ahead) (base : Base) (made : Command → Type 0) (grants : Gra
   unfolding looked_up
   looked_up_place from r mails f =
       cond_both (is_member (members r) from) _ _ Ok
-      (λ _. hinted_place ahead base made grants me older before some r (Some from) mails f)
-      (λ _. looked_place ahead base made grants me older before some (r, mails) f)
+      (λ _. hinted_place ahead base made heard grants me older before some r (Some from) mails f)
+      (λ _. looked_place ahead base made heard grants me older before some (r, mails) f)
 
   jumped_place : (from slot : ℕ) (state : Base) (sets : List (List ℕ)) (place : Place) → Ok place → place.0.running ≡ false → length sets ≡ length place.0.sets → next place.0 ≤ slot → IsState ahead base made before slot state sets
       → Ok (looked_up from (jumped slot state sets place.0, place.1))
@@ -105,9 +107,9 @@ module _ (ahead : Ahead) (base : Base) (made : Command → Type 0) (grants : Gra
       let h = f.newer ++ before in
       let now = grown_state ahead base made made (λ c m. m) f.newer before slot state sets t in
       looked_up_place from (jumped slot state sets r) mails
-      (turn ahead base made me older before r (jumped slot state sets r) mails f
+      (turn ahead base made heard me older before r (jumped slot state sets r) mails f
       (subst (λ (s : Base). Replica h (forgotten slot (record r { group = group_of s; log = installed slot; sets = sets; waits = waits_in state.core.lock r.waits })))
-      (sym (state_named (name_of r) h slot state sets (name_is ahead base made me older before h r f.replica) now))
+      (sym (state_named (name_of r) h slot state sets (name_is ahead base made heard me older before h r f.replica) now))
       (jumped_to h slot state sets (waits_in state.core.lock r.waits) r f.replica still many up now)))
 
   took_over_place : (from slot : ℕ) (state : Base) (sets : List (List ℕ)) (r : ReplicaState) (mails : List Mail) → Ok (r, mails) → length sets ≡ length r.sets → next r ≤ slot → IsState ahead base made before slot state sets
@@ -115,7 +117,7 @@ module _ (ahead : Ahead) (base : Base) (made : Command → Type 0) (grants : Gra
   unfolding took_over ended
   took_over_place from slot state sets r mails f many up t =
       cond_both r.running (stopped (Some from) (r, mails)) (r, mails) (λ (p : Place). Ok (looked_up from (jumped slot state sets p.0, p.1)))
-      (λ _. jumped_place from slot state sets (stopped (Some from) (r, mails)) (fine_stopped ahead base made me older before (Some from) r mails f) refl many up t)
+      (λ _. jumped_place from slot state sets (stopped (Some from) (r, mails)) (fine_stopped ahead base made heard me older before (Some from) r mails f) refl many up t)
       (λ still. jumped_place from slot state sets (r, mails) f still many up t)
 
   -- Install
@@ -185,14 +187,14 @@ module _ (ahead : Ahead) (base : Base) (made : Command → Type 0) (grants : Gra
   -- ---- an order
 
   told_place : (number : ℕ) (result : ToldResult) (r : ReplicaState) (mails : List Mail) → Ok (r, mails) → Ok (r, told_desk r.me number result mails)
-  told_place number result r mails f = says ahead base made me older before r mails (record { from = r.me; to = 0; body = Told number result }) f refl tt tt
+  told_place number result r mails f = says ahead base made heard me older before r mails (record { from = r.me; to = 0; body = Told number result }) f refl tt tt
 
   queued_place : (o : Option OrderRefusal) (number : ℕ) (c : Command) (r : ReplicaState) (mails : List Mail) → Ok (r, mails) → made c → Ok (order_queued o number c (r, mails))
   queued_place (Some why) number c r mails f m = told_place number (Refused why) r mails f
   queued_place None number c r mails f m =
-      fine_pumped ahead base made grants me older before some _
-      (turn ahead base made me older before r (record r { calls = r.calls ++ c ∷ [] }) mails f
-      (with_calls ahead base made grants me older before some (f.newer ++ before) r (r.calls ++ c ∷ []) f.replica (Each-append made r.calls (c ∷ []) f.replica.calls (m, tt))))
+      fine_pumped ahead base made heard grants me older before some _
+      (turn ahead base made heard me older before r (record r { calls = r.calls ++ c ∷ [] }) mails f
+      (with_calls ahead base made heard grants me older before some (f.newer ++ before) r (r.calls ++ c ∷ []) f.replica (Each-append made r.calls (c ∷ []) f.replica.calls (m, tt))))
 
   taken_place : (o : Option Command) (number : ℕ) (r : ReplicaState) (mails : List Mail) → ((c : Command) → o ≡ Some c → made c) → Ok (r, mails) → Ok (order_taken o number (r, mails))
   taken_place None number r mails m f = f
@@ -202,6 +204,6 @@ module _ (ahead : Ahead) (base : Base) (made : Command → Type 0) (grants : Gra
       (λ _. queued_place (refusal_of r.group.core c) number c r mails f (m c refl))
 
   -- Told
-  pub fine_order_row : (line : OrderLine) (r : ReplicaState) (mails : List Mail) → Ok (r, mails) → Ok (order_row line (r, mails))
+  pub fine_order_row : (line : OrderLine) → IsOfMembers line.order → (r : ReplicaState) (mails : List Mail) → Ok (r, mails) → Ok (order_row line (r, mails))
   unfolding order_row
-  fine_order_row line r mails f = taken_place (command_of line) line.number r mails (λ c e. grants.asked line c e) f
+  fine_order_row line plain r mails f = taken_place (command_of line) line.number r mails (λ c e. grants.asked line c plain e) f

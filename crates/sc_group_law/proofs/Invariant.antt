@@ -32,7 +32,8 @@ use Rattle.sc_paxos_law.specs.Lawful.{CountedPromise, IsLawfulStep, IsLawfulHist
 use Rattle.sc_paxos_law.proofs.Among.{Among-right, Among-either}
 use Rattle.sc_paxos_law.proofs.Law.{later_log}
 use Rattle.sc_node_table.specs.Replica.{ReplicaState, Place, first_ballot, next, floor_of, forgotten}
-use Rattle.sc_hist_law.specs.Laws.{IsReplied}
+use Rattle.sc_hist_law.specs.Laws.{IsReplied, LeavesWhole}
+use Rattle.sc_group_law.specs.Orders.{IsOfMembers}
 use Rattle.sc_players.specs.Players.{Ahead}
 use Rattle.sc_machine_table.specs.Logs.{state_after}
 use Rattle.sc_cmd.specs.declared.orders.OrderLine.{OrderLine}
@@ -75,10 +76,12 @@ module _ (ahead : Ahead) (base : Base) where
   abbrev pub IsTaken : LeaderState Command → List (ℕ × Command) → ℕ → Type 0
   IsTaken leader ready slot = ((flight : Flight Command) × Among flight leader.flights × (flight.slot ≡ slot)) ⊎ ((command : Command) × Among (slot, command) ready)
 
-  -- which commands a replica of the group may queue besides requests: nothing, and what orders ask for
-  pub record Grants (made : Command → Type 0) : Type 0 where
+  -- which commands a replica of the group may queue besides requests: nothing, and what orders to join and leave ask for; and so far none that divides the group or is of a transaction, nor is a mail of one sent
+  pub record Grants (made : Command → Type 0) (heard : MailBody → Type 0) : Type 0 where
     pub noop : made Noop
-    pub asked : (line : OrderLine) (c : Command) → command_of line ≡ Some c → made c
+    pub asked : (line : OrderLine) (c : Command) → IsOfMembers line.order → command_of line ≡ Some c → made c
+    pub whole : (c : Command) → made c → LeavesWhole c
+    pub unheard : (body : MailBody) → heard body → ⊥
 
   -- ---- what is held of the log
 
@@ -219,49 +222,45 @@ module _ (ahead : Ahead) (base : Base) where
     pub sets_are : AreSets log (slot + 1) sets
     pub many : length sets ≡ ahead.slots
 
-  -- a mail of a transaction is true: none is sent so far
-  abbrev pub IsHeard : MailBody → Type 0
-  IsHeard body = ⊥
+  -- a mail of a replica of the group names the group, where it names one; which mails of transactions are sent is a parameter
+  abbrev pub IsOwn : (MailBody → Type 0) → MailBody → Type 0
+  IsOwn heard (Request group client seq op) = ⊥
+  IsOwn heard (Answer group seq answer) = group ≡ name
+  IsOwn heard (Prepare group ballot from_slot) = group ≡ name
+  IsOwn heard (Promise group ballot reports) = group ≡ name
+  IsOwn heard (Accept group ballot slot command) = group ≡ name
+  IsOwn heard (AcceptedMail group ballot slot) = group ≡ name
+  IsOwn heard (Nack group promised) = group ≡ name
+  IsOwn heard (Learn group slot command) = group ≡ name
+  IsOwn heard (Ask group from_slot) = group ≡ name
+  IsOwn heard (Install group slot record_of sets) = group ≡ name
+  IsOwn heard (TxPrepare tx offer) = heard (TxPrepare tx offer)
+  IsOwn heard (TxVote tx coord part vote) = heard (TxVote tx coord part vote)
+  IsOwn heard (TxOutcome tx part outcome) = heard (TxOutcome tx part outcome)
+  IsOwn heard (TxElsewhere tx coord hint) = heard (TxElsewhere tx coord hint)
+  IsOwn heard (TxWatch tx watch) = heard (TxWatch tx watch)
+  IsOwn heard (TxWatched tx coord part vote) = heard (TxWatched tx coord part vote)
+  IsOwn heard (Told number result) = Unit {0}
 
-  -- a mail of a replica of the group names the group, where it names one
-  abbrev pub IsOwn : MailBody → Type 0
-  IsOwn (Request group client seq op) = ⊥
-  IsOwn (Answer group seq answer) = group ≡ name
-  IsOwn (Prepare group ballot from_slot) = group ≡ name
-  IsOwn (Promise group ballot reports) = group ≡ name
-  IsOwn (Accept group ballot slot command) = group ≡ name
-  IsOwn (AcceptedMail group ballot slot) = group ≡ name
-  IsOwn (Nack group promised) = group ≡ name
-  IsOwn (Learn group slot command) = group ≡ name
-  IsOwn (Ask group from_slot) = group ≡ name
-  IsOwn (Install group slot record_of sets) = group ≡ name
-  IsOwn (TxPrepare tx offer) = IsHeard (TxPrepare tx offer)
-  IsOwn (TxVote tx coord part vote) = IsHeard (TxVote tx coord part vote)
-  IsOwn (TxOutcome tx part outcome) = IsHeard (TxOutcome tx part outcome)
-  IsOwn (TxElsewhere tx coord hint) = IsHeard (TxElsewhere tx coord hint)
-  IsOwn (TxWatch tx watch) = IsHeard (TxWatch tx watch)
-  IsOwn (TxWatched tx coord part vote) = IsHeard (TxWatched tx coord part vote)
-  IsOwn (Told number result) = Unit {0}
-
-  -- what a mail says is true of the steps
-  abbrev pub IsTrue : (Command → Type 0) → Steps → Mail → MailBody → Type 0
-  IsTrue made h mail (Request group client seq op) = made (Call client seq op)
-  IsTrue made h mail (Answer group seq answer) = same_draw group name ≡ true → IsTrueAnswer h mail.to seq answer
-  IsTrue made h mail (Prepare group ballot from_slot) = same_draw group name ≡ true → Among (Prepared ballot from_slot) h
-  IsTrue made h mail (Promise group ballot reports) = same_draw group name ≡ true → (from : ℕ) × Among (Promised mail.from ballot from reports) h × Among (Prepared ballot from) h
-  IsTrue made h mail (Accept group ballot slot command) = same_draw group name ≡ true → Among (Offered ballot slot command) h
-  IsTrue made h mail (AcceptedMail group ballot slot) = same_draw group name ≡ true → (command : Command) × Among (Accepted mail.from ballot slot command) h
-  IsTrue made h mail (Learn group slot command) = same_draw group name ≡ true → IsLearnt rule h slot command
-  IsTrue made h mail (Install group slot record_of sets) = same_draw group name ≡ true → IsState made h slot record_of sets
-  IsTrue made h mail (Nack group promised) = Unit {0}
-  IsTrue made h mail (Ask group from_slot) = Unit {0}
-  IsTrue made h mail (Told number result) = Unit {0}
-  IsTrue made h mail (TxPrepare tx offer) = IsHeard (TxPrepare tx offer)
-  IsTrue made h mail (TxVote tx coord part vote) = IsHeard (TxVote tx coord part vote)
-  IsTrue made h mail (TxOutcome tx part outcome) = IsHeard (TxOutcome tx part outcome)
-  IsTrue made h mail (TxElsewhere tx coord hint) = IsHeard (TxElsewhere tx coord hint)
-  IsTrue made h mail (TxWatch tx watch) = IsHeard (TxWatch tx watch)
-  IsTrue made h mail (TxWatched tx coord part vote) = IsHeard (TxWatched tx coord part vote)
+  -- what a mail says is true of the steps; which mails of transactions are true is a parameter
+  abbrev pub IsTrue : (Command → Type 0) → (MailBody → Type 0) → Steps → Mail → MailBody → Type 0
+  IsTrue made heard h mail (Request group client seq op) = made (Call client seq op)
+  IsTrue made heard h mail (Answer group seq answer) = same_draw group name ≡ true → IsTrueAnswer h mail.to seq answer
+  IsTrue made heard h mail (Prepare group ballot from_slot) = same_draw group name ≡ true → Among (Prepared ballot from_slot) h
+  IsTrue made heard h mail (Promise group ballot reports) = same_draw group name ≡ true → (from : ℕ) × Among (Promised mail.from ballot from reports) h × Among (Prepared ballot from) h
+  IsTrue made heard h mail (Accept group ballot slot command) = same_draw group name ≡ true → Among (Offered ballot slot command) h
+  IsTrue made heard h mail (AcceptedMail group ballot slot) = same_draw group name ≡ true → (command : Command) × Among (Accepted mail.from ballot slot command) h
+  IsTrue made heard h mail (Learn group slot command) = same_draw group name ≡ true → IsLearnt rule h slot command
+  IsTrue made heard h mail (Install group slot record_of sets) = same_draw group name ≡ true → IsState made h slot record_of sets
+  IsTrue made heard h mail (Nack group promised) = Unit {0}
+  IsTrue made heard h mail (Ask group from_slot) = Unit {0}
+  IsTrue made heard h mail (Told number result) = Unit {0}
+  IsTrue made heard h mail (TxPrepare tx offer) = heard (TxPrepare tx offer)
+  IsTrue made heard h mail (TxVote tx coord part vote) = heard (TxVote tx coord part vote)
+  IsTrue made heard h mail (TxOutcome tx part outcome) = heard (TxOutcome tx part outcome)
+  IsTrue made heard h mail (TxElsewhere tx coord hint) = heard (TxElsewhere tx coord hint)
+  IsTrue made heard h mail (TxWatch tx watch) = heard (TxWatch tx watch)
+  IsTrue made heard h mail (TxWatched tx coord part vote) = heard (TxWatched tx coord part vote)
 
   -- a reply of the log stays one
   pub grown_reply : (newer h : Steps) (client seq : ℕ) (reply : Reply) → IsReplyAt h client seq reply → IsReplyAt (newer ++ h) client seq reply
@@ -277,24 +276,25 @@ module _ (ahead : Ahead) (base : Base) where
       record { log = t.log; is_log = later_logs rule newer h t.log t.is_log; count = t.count; group_is = t.group_is; all_made = Each-weaker made more f t.log t.all_made; sets_are = t.sets_are; many = t.many }
 
   -- what a mail says is true after more steps
-  pub grown_true : (made more : Command → Type 0) → ((c : Command) → made c → more c) → (newer h : Steps) (mail : Mail) (body : MailBody) → IsTrue made h mail body → IsTrue more (newer ++ h) mail body
-  grown_true made more f newer h mail (Request group client seq op) t = f (Call client seq op) t
-  grown_true made more f newer h mail (Answer group seq answer) t = λ e. grown_answer newer h mail.to seq answer (t e)
-  grown_true made more f newer h mail (Prepare group ballot from_slot) t = λ e. Among-right _ newer h (t e)
-  grown_true made more f newer h mail (Promise group ballot reports) t = λ e. (let k = t e in (k.0, Among-right _ newer h k.1, Among-right _ newer h k.2))
-  grown_true made more f newer h mail (Accept group ballot slot command) t = λ e. Among-right _ newer h (t e)
-  grown_true made more f newer h mail (AcceptedMail group ballot slot) t = λ e. (let k = t e in (k.0, Among-right _ newer h k.1))
-  grown_true made more f newer h mail (Learn group slot command) t = λ e. grown_learnt rule newer h slot command (t e)
-  grown_true made more f newer h mail (Install group slot record_of sets) t = λ e. grown_state made more f newer h slot record_of sets (t e)
-  grown_true made more f newer h mail (Nack group promised) t = tt
-  grown_true made more f newer h mail (Ask group from_slot) t = tt
-  grown_true made more f newer h mail (Told number result) t = tt
-  grown_true made more f newer h mail (TxPrepare tx offer) t = t
-  grown_true made more f newer h mail (TxVote tx coord part vote) t = t
-  grown_true made more f newer h mail (TxOutcome tx part outcome) t = t
-  grown_true made more f newer h mail (TxElsewhere tx coord hint) t = t
-  grown_true made more f newer h mail (TxWatch tx watch) t = t
-  grown_true made more f newer h mail (TxWatched tx coord part vote) t = t
+  pub grown_true : (made more : Command → Type 0) → ((c : Command) → made c → more c) → (heard further : MailBody → Type 0) → ((b : MailBody) → heard b → further b) → (newer h : Steps) (mail : Mail) (body : MailBody)
+      → IsTrue made heard h mail body → IsTrue more further (newer ++ h) mail body
+  grown_true made more f heard further g newer h mail (Request group client seq op) t = f (Call client seq op) t
+  grown_true made more f heard further g newer h mail (Answer group seq answer) t = λ e. grown_answer newer h mail.to seq answer (t e)
+  grown_true made more f heard further g newer h mail (Prepare group ballot from_slot) t = λ e. Among-right _ newer h (t e)
+  grown_true made more f heard further g newer h mail (Promise group ballot reports) t = λ e. (let k = t e in (k.0, Among-right _ newer h k.1, Among-right _ newer h k.2))
+  grown_true made more f heard further g newer h mail (Accept group ballot slot command) t = λ e. Among-right _ newer h (t e)
+  grown_true made more f heard further g newer h mail (AcceptedMail group ballot slot) t = λ e. (let k = t e in (k.0, Among-right _ newer h k.1))
+  grown_true made more f heard further g newer h mail (Learn group slot command) t = λ e. grown_learnt rule newer h slot command (t e)
+  grown_true made more f heard further g newer h mail (Install group slot record_of sets) t = λ e. grown_state made more f newer h slot record_of sets (t e)
+  grown_true made more f heard further g newer h mail (Nack group promised) t = tt
+  grown_true made more f heard further g newer h mail (Ask group from_slot) t = tt
+  grown_true made more f heard further g newer h mail (Told number result) t = tt
+  grown_true made more f heard further g newer h mail (TxPrepare tx offer) t = g (TxPrepare tx offer) t
+  grown_true made more f heard further g newer h mail (TxVote tx coord part vote) t = g (TxVote tx coord part vote) t
+  grown_true made more f heard further g newer h mail (TxOutcome tx part outcome) t = g (TxOutcome tx part outcome) t
+  grown_true made more f heard further g newer h mail (TxElsewhere tx coord hint) t = g (TxElsewhere tx coord hint) t
+  grown_true made more f heard further g newer h mail (TxWatch tx watch) t = g (TxWatch tx watch) t
+  grown_true made more f heard further g newer h mail (TxWatched tx coord part vote) t = g (TxWatched tx coord part vote) t
 
   -- ---- more steps
 
@@ -370,7 +370,7 @@ module _ (ahead : Ahead) (base : Base) where
   -- ---- a place in the middle of a row of a node, where these mails were sent and these steps taken before the replica's part of the row
 
   -- what holds in the middle of a row: the mails and the steps so far, and the replica
-  pub record Fine (made : Command → Type 0) (me : ℕ) (older : List Mail) (before : Steps) (place : Place) : Type 0 where
+  pub record Fine (made : Command → Type 0) (heard : MailBody → Type 0) (me : ℕ) (older : List Mail) (before : Steps) (place : Place) : Type 0 where
     pub sent : List Mail
     pub sent_is : place.1 ≡ older ++ sent
     pub newer : Steps
@@ -379,18 +379,18 @@ module _ (ahead : Ahead) (base : Base) where
     pub lawful : IsLawfulHistory rule first (newer ++ before)
     pub requested : (b : Ballot) (slot : ℕ) (c : Command) → Among (Offered b slot c) (newer ++ before) → made c
     pub replica : IsReplica made (newer ++ before) me place.0
-    pub mails : (mail : Mail) → Among mail sent → IsTrue made (newer ++ before) mail mail.body
+    pub mails : (mail : Mail) → Among mail sent → IsTrue made heard (newer ++ before) mail mail.body
     -- each of its mails names the group
-    pub own : (mail : Mail) → Among mail sent → IsOwn mail.body
+    pub own : (mail : Mail) → Among mail sent → IsOwn heard mail.body
 
   -- one mail more, and what it asks for
   pub asked_push : (mails : List Mail) (mail : Mail) (h : Steps) → asked_in name (mails ++ mail ∷ []) h ≡ proposer_steps name mail.body ++ asked_in name mails h
   asked_push [] mail h = refl
   asked_push (m ∷ mails) mail h = asked_push mails mail (proposer_steps name m.body ++ h)
 
-  module _ (made : Command → Type 0) (me : ℕ) (older : List Mail) (before : Steps) where
+  module _ (made : Command → Type 0) (heard : MailBody → Type 0) (me : ℕ) (older : List Mail) (before : Steps) where
     -- the replica changes, and no mail is sent
-    unfoldable pub turn : (r after : ReplicaState) (mails : List Mail) → (f : Fine made me older before (r, mails)) → IsReplica made (f.newer ++ before) me after → Fine made me older before (after, mails)
+    unfoldable pub turn : (r after : ReplicaState) (mails : List Mail) → (f : Fine made heard me older before (r, mails)) → IsReplica made (f.newer ++ before) me after → Fine made heard me older before (after, mails)
     turn r after mails f k = record { sent = f.sent; sent_is = f.sent_is; newer = f.newer; are = f.are; by = f.by; lawful = f.lawful; requested = f.requested; replica = k; mails = f.mails; own = f.own }
 
     -- what is sent is put behind what was sent before
@@ -398,12 +398,12 @@ module _ (ahead : Ahead) (base : Base) where
     sent_more mails sent mail e = ap (λ ms. ms ++ mail ∷ []) e ∙ append_assoc older sent (mail ∷ [])
 
     -- one mail more that names the group
-    pub own_more : (sent : List Mail) (mail : Mail) → ((m : Mail) → Among m sent → IsOwn m.body) → IsOwn mail.body → (m : Mail) → Among m (sent ++ mail ∷ []) → IsOwn m.body
-    own_more sent mail old new m a = elim (Among-either m sent (mail ∷ []) a) [ inl b ↦ old m b | inr (inl e) ↦ subst (λ (x : Mail). IsOwn x.body) e new | inr (inr n) ↦ absurd n ]
+    pub own_more : (sent : List Mail) (mail : Mail) → ((m : Mail) → Among m sent → IsOwn heard m.body) → IsOwn heard mail.body → (m : Mail) → Among m (sent ++ mail ∷ []) → IsOwn heard m.body
+    own_more sent mail old new m a = elim (Among-either m sent (mail ∷ []) a) [ inl b ↦ old m b | inr (inl e) ↦ subst (λ (x : Mail). IsOwn heard x.body) e new | inr (inr n) ↦ absurd n ]
 
     -- a mail is sent that is no step
-    unfoldable pub says : (r : ReplicaState) (mails : List Mail) (mail : Mail) → (f : Fine made me older before (r, mails)) → proposer_steps name mail.body ≡ [] → IsOwn mail.body → IsTrue made (f.newer ++ before) mail mail.body
-        → Fine made me older before (r, mails ++ mail ∷ [])
+    unfoldable pub says : (r : ReplicaState) (mails : List Mail) (mail : Mail) → (f : Fine made heard me older before (r, mails)) → proposer_steps name mail.body ≡ [] → IsOwn heard mail.body → IsTrue made heard (f.newer ++ before) mail mail.body
+        → Fine made heard me older before (r, mails ++ mail ∷ [])
     says r mails mail f none own t = record {
       sent = f.sent ++ mail ∷ [];
       sent_is = sent_more mails f.sent mail f.sent_is;
@@ -415,16 +415,16 @@ module _ (ahead : Ahead) (base : Base) where
       replica = f.replica;
       mails = λ m a. elim (Among-either m f.sent (mail ∷ []) a) [
         | inl b ↦ f.mails m b
-        | inr (inl e) ↦ subst (λ (x : Mail). IsTrue made (f.newer ++ before) x x.body) e t
+        | inr (inl e) ↦ subst (λ (x : Mail). IsTrue made heard (f.newer ++ before) x x.body) e t
         | inr (inr n) ↦ absurd n
       ];
       own = λ m a. own_more f.sent mail f.own own m a;
     }
 
     -- a mail is sent that is a step
-    unfoldable pub steps : (r after : ReplicaState) (mails : List Mail) (mail : Mail) (s : Step Command) → (f : Fine made me older before (r, mails)) → proposer_steps name mail.body ≡ s ∷ [] → IsOwn mail.body → By me s
+    unfoldable pub steps : (r after : ReplicaState) (mails : List Mail) (mail : Mail) (s : Step Command) → (f : Fine made heard me older before (r, mails)) → proposer_steps name mail.body ≡ s ∷ [] → IsOwn heard mail.body → By me s
         → IsLawfulStep rule first s (f.newer ++ before) → ((b : Ballot) (slot : ℕ) (c : Command) → s ≡ Offered b slot c → made c)
-        → IsReplica made (s ∷ f.newer ++ before) me after → IsTrue made (s ∷ f.newer ++ before) mail mail.body → Fine made me older before (after, mails ++ mail ∷ [])
+        → IsReplica made (s ∷ f.newer ++ before) me after → IsTrue made heard (s ∷ f.newer ++ before) mail mail.body → Fine made heard me older before (after, mails ++ mail ∷ [])
     steps r after mails mail s f one own by law requested k t = record {
       sent = f.sent ++ mail ∷ [];
       sent_is = sent_more mails f.sent mail f.sent_is;
@@ -435,8 +435,8 @@ module _ (ahead : Ahead) (base : Base) where
       requested = λ b slot c a. elim a [ inl e ↦ requested b slot c e | inr o ↦ f.requested b slot c o ];
       replica = k;
       mails = λ m a. elim (Among-either m f.sent (mail ∷ []) a) [
-        | inl b ↦ grown_true made made (λ c p. p) (s ∷ []) (f.newer ++ before) m m.body (f.mails m b)
-        | inr (inl e) ↦ subst (λ (x : Mail). IsTrue made (s ∷ f.newer ++ before) x x.body) e t
+        | inl b ↦ grown_true made made (λ c p. p) heard heard (λ b p. p) (s ∷ []) (f.newer ++ before) m m.body (f.mails m b)
+        | inr (inl e) ↦ subst (λ (x : Mail). IsTrue made heard (s ∷ f.newer ++ before) x x.body) e t
         | inr (inr n) ↦ absurd n
       ];
       own = λ m a. own_more f.sent mail f.own own m a;

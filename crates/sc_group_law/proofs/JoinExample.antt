@@ -17,7 +17,7 @@ use Rattle.sc_group_law.proofs.Example.{one_member}
 
 -- the example's scenario has one group
 pub has_one_group : HasOneGroup join_scenario alone
-has_one_group = record { groups = refl; roster = one_member; pairs = refl; clients = refl; nodes = lit≤ tt; numbered = tt; once = λ one other a b same. absurd a }
+has_one_group = record { groups = refl; roster = one_member; pairs = refl; clients = refl; orders = (tt, (tt, (tt, (tt, tt)))); nodes = lit≤ tt; numbered = tt; once = λ one other a b same. absurd a }
 
 -- the example is lawful
 pub join_is_lawful : Lawful four no_words join_scenario join_example

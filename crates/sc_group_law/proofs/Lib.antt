@@ -20,6 +20,7 @@ pub mod Nodes
 pub mod Ticks
 pub mod Projected
 pub mod Places
+pub mod Orders
 pub mod Clients
 pub mod Family
 pub mod Replies

@@ -1,5 +1,5 @@
 -- Names in mail, and mails that are no steps.
-use Rattle.std.proofs.Common.{◌≡◌, ℕ, ◌&&◌, ◌||◌, true, List, [], ◌∷◌, ◌++◌, ◌⊎◌, inl, inr, refl, ◌∙◌, ap, subst}
+use Rattle.std.proofs.Common.{◌≡◌, ℕ, ◌&&◌, List, [], ◌∷◌, ◌++◌, inl, inr, refl, ◌∙◌, ap, subst}
 use Rattle.std.specs.List.{list_any}
 use Rattle.std.proofs.lemmas.Bool.{and_right, cond-false}
 use Rattle.sc_base.specs.declared.names.Draw.{Draw}
@@ -95,24 +95,24 @@ answer_named bases group (Says.Value reply) one = one
 answer_named bases group _ one = tt
 
 -- the mails of a group's replica are of that group
-pub own_named : (ahead : Ahead) (bases : List Base) (base : Base) → Among base bases → (body : MailBody) → IsOwn ahead base body → IsNamed bases body
-own_named ahead bases base a (Request group client seq op) own = absurd own
-own_named ahead bases base a (Answer group seq answer) own = answer_named bases group answer (base, a, own)
-own_named ahead bases base a (Prepare group ballot from_slot) own = (base, a, own)
-own_named ahead bases base a (Promise group ballot reports) own = (base, a, own)
-own_named ahead bases base a (Accept group ballot slot command) own = (base, a, own)
-own_named ahead bases base a (AcceptedMail group ballot slot) own = (base, a, own)
-own_named ahead bases base a (Nack group promised) own = (base, a, own)
-own_named ahead bases base a (Learn group slot command) own = (base, a, own)
-own_named ahead bases base a (Ask group from_slot) own = (base, a, own)
-own_named ahead bases base a (Install group slot record_of sets) own = (base, a, own)
-own_named ahead bases base a (TxPrepare tx offer) own = own
-own_named ahead bases base a (TxVote tx coord part vote) own = own
-own_named ahead bases base a (TxOutcome tx part outcome) own = own
-own_named ahead bases base a (TxElsewhere tx coord hint) own = own
-own_named ahead bases base a (TxWatch tx watch) own = own
-own_named ahead bases base a (TxWatched tx coord part vote) own = own
-own_named ahead bases base a (Told number result) own = tt
+pub own_named : (ahead : Ahead) (heard : MailBody → Type 0) → ((b : MailBody) → heard b → ⊥) → (bases : List Base) (base : Base) → Among base bases → (body : MailBody) → IsOwn ahead base heard body → IsNamed bases body
+own_named ahead heard none bases base a (Request group client seq op) own = absurd own
+own_named ahead heard none bases base a (Answer group seq answer) own = answer_named bases group answer (base, a, own)
+own_named ahead heard none bases base a (Prepare group ballot from_slot) own = (base, a, own)
+own_named ahead heard none bases base a (Promise group ballot reports) own = (base, a, own)
+own_named ahead heard none bases base a (Accept group ballot slot command) own = (base, a, own)
+own_named ahead heard none bases base a (AcceptedMail group ballot slot) own = (base, a, own)
+own_named ahead heard none bases base a (Nack group promised) own = (base, a, own)
+own_named ahead heard none bases base a (Learn group slot command) own = (base, a, own)
+own_named ahead heard none bases base a (Ask group from_slot) own = (base, a, own)
+own_named ahead heard none bases base a (Install group slot record_of sets) own = (base, a, own)
+own_named ahead heard none bases base a (TxPrepare tx offer) own = absurd (none (TxPrepare tx offer) own)
+own_named ahead heard none bases base a (TxVote tx coord part vote) own = absurd (none (TxVote tx coord part vote) own)
+own_named ahead heard none bases base a (TxOutcome tx part outcome) own = absurd (none (TxOutcome tx part outcome) own)
+own_named ahead heard none bases base a (TxElsewhere tx coord hint) own = absurd (none (TxElsewhere tx coord hint) own)
+own_named ahead heard none bases base a (TxWatch tx watch) own = absurd (none (TxWatch tx watch) own)
+own_named ahead heard none bases base a (TxWatched tx coord part vote) own = absurd (none (TxWatched tx coord part vote) own)
+own_named ahead heard none bases base a (Told number result) own = tt
 
 -- what is sent where there is no replica is of the group of the mail that came
 pub absent_named : (bases : List Base) (me from : ℕ) (body : MailBody) → IsNamed bases body → (mail : Mail) → Among mail (absent me from body) → IsNamed bases mail.body
@@ -127,13 +127,13 @@ absent_named bases me from (Learn group slot c) one mail (inr n) = absurd n
 absent_named bases me from _ one mail a = absurd a
 
 -- ... and true
-pub absent_true : (ahead : Ahead) (base : Base) (made : Command → Type 0) (h : Steps) (me from : ℕ) (body : MailBody) (mail : Mail) → Among mail (absent me from body) → IsTrue ahead base made h mail mail.body
-absent_true ahead base made h me from (Request group client seq op) mail (inl e) = subst (λ (m : Mail). IsTrue ahead base made h m m.body) e (λ _. tt)
-absent_true ahead base made h me from (Request group client seq op) mail (inr n) = absurd n
-absent_true ahead base made h me from (Prepare group b start) mail (inl e) = subst (λ (m : Mail). IsTrue ahead base made h m m.body) e tt
-absent_true ahead base made h me from (Prepare group b start) mail (inr n) = absurd n
-absent_true ahead base made h me from (Accept group b slot c) mail (inl e) = subst (λ (m : Mail). IsTrue ahead base made h m m.body) e tt
-absent_true ahead base made h me from (Accept group b slot c) mail (inr n) = absurd n
-absent_true ahead base made h me from (Learn group slot c) mail (inl e) = subst (λ (m : Mail). IsTrue ahead base made h m m.body) e tt
-absent_true ahead base made h me from (Learn group slot c) mail (inr n) = absurd n
-absent_true ahead base made h me from _ mail a = absurd a
+pub absent_true : (ahead : Ahead) (base : Base) (made : Command → Type 0) (heard : MailBody → Type 0) (h : Steps) (me from : ℕ) (body : MailBody) (mail : Mail) → Among mail (absent me from body) → IsTrue ahead base made heard h mail mail.body
+absent_true ahead base made heard h me from (Request group client seq op) mail (inl e) = subst (λ (m : Mail). IsTrue ahead base made heard h m m.body) e (λ _. tt)
+absent_true ahead base made heard h me from (Request group client seq op) mail (inr n) = absurd n
+absent_true ahead base made heard h me from (Prepare group b start) mail (inl e) = subst (λ (m : Mail). IsTrue ahead base made heard h m m.body) e tt
+absent_true ahead base made heard h me from (Prepare group b start) mail (inr n) = absurd n
+absent_true ahead base made heard h me from (Accept group b slot c) mail (inl e) = subst (λ (m : Mail). IsTrue ahead base made heard h m m.body) e tt
+absent_true ahead base made heard h me from (Accept group b slot c) mail (inr n) = absurd n
+absent_true ahead base made heard h me from (Learn group slot c) mail (inl e) = subst (λ (m : Mail). IsTrue ahead base made heard h m m.body) e tt
+absent_true ahead base made heard h me from (Learn group slot c) mail (inr n) = absurd n
+absent_true ahead base made heard h me from _ mail a = absurd a

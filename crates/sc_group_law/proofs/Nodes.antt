@@ -1,5 +1,5 @@
 -- What holds of a node with its replicas, and what comes of mail and orders.
-use Rattle.std.proofs.Common.{◌≡◌, ℕ, ◌&&◌, ◌||◌, not, nat_lt, true, false, eqb, List, [], ◌∷◌, ◌++◌, length, Option, Some, None, ◌⊎◌, inl, inr, refl, sym, ◌∙◌, ap, subst, append-nil}
+use Rattle.std.proofs.Common.{◌≡◌, ℕ, ◌||◌, not, nat_lt, true, false, eqb, List, [], ◌∷◌, ◌++◌, length, Option, Some, None, inl, inr, refl, sym, ◌∙◌, ap, subst, append-nil}
 use Rattle.std.proofs.lemmas.Bool.{cases_Bool, cond_both}
 use Rattle.sc_base.specs.declared.names.Ballot.{Ballot}
 use Rattle.sc_base.specs.declared.names.Draw.{Draw}
@@ -7,7 +7,6 @@ use Rattle.sc_base.specs.Same.{same_draw}
 use Rattle.sc_cmd.specs.declared.commands.Command.{Command}
 use Rattle.sc_cmd.specs.declared.cores.Base.{Base}
 use Rattle.sc_cmd.specs.declared.orders.OrderLine.{OrderLine}
-use Rattle.sc_mail.specs.declared.bodies.AnswerBody.TheVariants as Says
 use Rattle.sc_mail.specs.declared.bodies.Mail.{Mail}
 use Rattle.sc_mail.specs.declared.bodies.MailBody.{MailBody}
 use Rattle.sc_mail.specs.declared.bodies.MailBody.TheVariants.{Request, Answer, Prepare, Promise, Accept, Accepted as AcceptedMail, Nack, Learn, Ask, Install, TxPrepare, TxVote, TxOutcome, TxElsewhere, TxWatch, TxWatched, Told}
@@ -27,6 +26,7 @@ use Rattle.sc_node_table.specs.Voting.{prepare_row}
 use Rattle.sc_node_table.specs.Rows.{made_by, mailed, order_row}
 use Rattle.sc_players.specs.Players.{Ahead}
 use Rattle.sc_group_law.specs.Steps.{asked_in}
+use Rattle.sc_group_law.specs.Orders.{IsOfMembers}
 use Rattle.sc_group_law.proofs.Growth.{By}
 use Rattle.sc_group_law.proofs.Invariant.{Steps, rule, first, Grants, IsReplica, IsTrue, Fine}
 use Rattle.sc_group_law.proofs.Installs.{fine_install_row, made_place, fine_order_row}
@@ -41,7 +41,7 @@ use Rattle.sc_base.proofs.NameLemmas.{same_name, draw_is}
 
 -- ---- one group's replica
 
-module _ (ahead : Ahead) (base : Base) (made : Command → Type 0) (grants : Grants ahead base made) (me : ℕ) (before : Steps)
+module _ (ahead : Ahead) (base : Base) (made : Command → Type 0) (heard : MailBody → Type 0) (grants : Grants ahead base made heard) (me : ℕ) (before : Steps)
     (some : (log : List Command) → Each made log → (node : ℕ) × (rest : List ℕ) × ((rule ahead base).members log ≡ node ∷ rest))
     (lawful : IsLawfulHistory (rule ahead base) (first ahead base) before)
     (requested : (b : Ballot) (slot : ℕ) (c : Command) → Among (Offered b slot c) before → made c) where
@@ -49,7 +49,7 @@ module _ (ahead : Ahead) (base : Base) (made : Command → Type 0) (grants : Gra
   group = base.core.id
 
   -- the replica's part of a row begins, behind what the node's other replicas have sent
-  pub start : (older : List Mail) (r : ReplicaState) → IsReplica ahead base made before me r → Fine ahead base made me older before (r, older)
+  pub start : (older : List Mail) (r : ReplicaState) → IsReplica ahead base made before me r → Fine ahead base made heard me older before (r, older)
   start older r k = record {
     sent = [];
     sent_is = sym (append-nil older);
@@ -64,50 +64,50 @@ module _ (ahead : Ahead) (base : Base) (made : Command → Type 0) (grants : Gra
   }
 
   abbrev RowEnded : Event OrderLine → MailBody → Place → Type 0
-  RowEnded event body place = Ended ahead base made me before (steps_of group me event body place.1 before) place
+  RowEnded event body place = Ended ahead base made heard me before (steps_of group me event body place.1 before) place
 
-  by_fine : (event : Event OrderLine) (body : MailBody) (place : Place) → Fine ahead base made me [] before place → steps_of group me event body place.1 before ≡ asked_in group place.1 before → RowEnded event body place
-  by_fine event body place f e = ended_by ahead base made grants me before some place _ f e
+  by_fine : (event : Event OrderLine) (body : MailBody) (place : Place) → Fine ahead base made heard me [] before place → steps_of group me event body place.1 before ≡ asked_in group place.1 before → RowEnded event body place
+  by_fine event body place f e = ended_by ahead base made heard grants me before some place _ f e
 
   -- a mail comes for it
   mailed_ended : (event : Event OrderLine) (mail : Mail) (body : MailBody) (r : ReplicaState) → IsReplica ahead base made before me r → (g : Draw) → group_of_mail body ≡ Some g → g ≡ group
-      → IsTrue ahead base made before mail body → RowEnded event body (mailed mail.from body (r, []))
+      → IsTrue ahead base made heard before mail body → RowEnded event body (mailed mail.from body (r, []))
   unfolding mailed start
   mailed_ended event mail (Request g client seq op) r k named into is t =
-      by_fine event (Request g client seq op) _ (fine_request_row ahead base made grants me [] before some client seq op r [] (start [] r k) t) refl
+      by_fine event (Request g client seq op) _ (fine_request_row ahead base made heard grants me [] before some client seq op r [] (start [] r k) t) refl
   mailed_ended event mail (Prepare g b start_slot) r k named into is t =
       let same : g ≡ group = (let one : g ≡ named = cc in one ∙ is) in
       let place = prepare_row mail.from b start_slot (r, []) in
-      subst (λ (x : Steps). Ended ahead base made me before (x ++ asked_in group place.1 before) place) (sym (append-nil (promised_in group me b start_slot place.1)))
-      (prepare_ended ahead base made grants me before some mail.from b start_slot r (start [] r k) (t (same_name g group same)))
+      subst (λ (x : Steps). Ended ahead base made heard me before (x ++ asked_in group place.1 before) place) (sym (append-nil (promised_in group me b start_slot place.1)))
+      (prepare_ended ahead base made heard grants me before some mail.from b start_slot r (start [] r k) (t (same_name g group same)))
   mailed_ended event mail (Promise g b reports) r k named into is t =
       let same : g ≡ group = (let one : g ≡ named = cc in one ∙ is) in
       let told = t (same_name g group same) in
-      by_fine event (Promise g b reports) _ (fine_promise_row ahead base made grants me [] before some mail.from b reports told.0 r [] (start [] r k) told.1 told.2) refl
+      by_fine event (Promise g b reports) _ (fine_promise_row ahead base made heard grants me [] before some mail.from b reports told.0 r [] (start [] r k) told.1 told.2) refl
   mailed_ended event mail (Accept g b slot c) r k named into is t =
       let same : g ≡ group = (let one : g ≡ named = cc in one ∙ is) in
       subst (λ d. RowEnded event (Accept d b slot c) (mailed mail.from (Accept g b slot c) (r, []))) (sym same)
-      (accept_ended ahead base made grants me before some mail.from b slot c r (start [] r k) (t (same_name g group same)))
+      (accept_ended ahead base made heard grants me before some mail.from b slot c r (start [] r k) (t (same_name g group same)))
   mailed_ended event mail (AcceptedMail g b slot) r k named into is t =
       let same : g ≡ group = (let one : g ≡ named = cc in one ∙ is) in
       let told = t (same_name g group same) in
-      by_fine event (AcceptedMail g b slot) _ (fine_accepted_row ahead base made grants me [] before some mail.from b slot told.0 r [] (start [] r k) told.1) refl
-  mailed_ended event mail (Nack g promised) r k named into is t = by_fine event (Nack g promised) _ (fine_nack_row ahead base made grants me [] before some promised r [] (start [] r k)) refl
+      by_fine event (AcceptedMail g b slot) _ (fine_accepted_row ahead base made heard grants me [] before some mail.from b slot told.0 r [] (start [] r k) told.1) refl
+  mailed_ended event mail (Nack g promised) r k named into is t = by_fine event (Nack g promised) _ (fine_nack_row ahead base made heard grants me [] before some promised r [] (start [] r k)) refl
   mailed_ended event mail (Learn g slot c) r k named into is t =
       let same : g ≡ group = (let one : g ≡ named = cc in one ∙ is) in
-      by_fine event (Learn g slot c) _ (fine_learn_row ahead base made grants me [] before some mail.from slot c r [] (start [] r k) (t (same_name g group same))) refl
-  mailed_ended event mail (Ask g start_slot) r k named into is t = by_fine event (Ask g start_slot) _ (fine_ask_row ahead base made grants me [] before some mail.from start_slot r [] (start [] r k)) refl
+      by_fine event (Learn g slot c) _ (fine_learn_row ahead base made heard grants me [] before some mail.from slot c r [] (start [] r k) (t (same_name g group same))) refl
+  mailed_ended event mail (Ask g start_slot) r k named into is t = by_fine event (Ask g start_slot) _ (fine_ask_row ahead base made heard grants me [] before some mail.from start_slot r [] (start [] r k)) refl
   mailed_ended event mail (Install g slot state sets) r k named into is t =
       let same : g ≡ group = (let one : g ≡ named = cc in one ∙ is) in
-      by_fine event (Install g slot state sets) _ (fine_install_row ahead base made grants me [] before some mail.from slot state sets r [] (start [] r k) (t (same_name g group same))) refl
+      by_fine event (Install g slot state sets) _ (fine_install_row ahead base made heard grants me [] before some mail.from slot state sets r [] (start [] r k) (t (same_name g group same))) refl
   mailed_ended event mail (Answer g seq answer) r k named into is t = cc
   mailed_ended event mail (Told number result) r k named into is t = cc
-  mailed_ended event mail (TxPrepare tx offer) r k named into is t = absurd t
-  mailed_ended event mail (TxVote tx coord part vote) r k named into is t = absurd t
-  mailed_ended event mail (TxOutcome tx part outcome) r k named into is t = absurd t
-  mailed_ended event mail (TxElsewhere tx coord hint) r k named into is t = absurd t
-  mailed_ended event mail (TxWatch tx watch) r k named into is t = absurd t
-  mailed_ended event mail (TxWatched tx coord part vote) r k named into is t = absurd t
+  mailed_ended event mail (TxPrepare tx offer) r k named into is t = absurd (grants.unheard (TxPrepare tx offer) t)
+  mailed_ended event mail (TxVote tx coord part vote) r k named into is t = absurd (grants.unheard (TxVote tx coord part vote) t)
+  mailed_ended event mail (TxOutcome tx part outcome) r k named into is t = absurd (grants.unheard (TxOutcome tx part outcome) t)
+  mailed_ended event mail (TxElsewhere tx coord hint) r k named into is t = absurd (grants.unheard (TxElsewhere tx coord hint) t)
+  mailed_ended event mail (TxWatch tx watch) r k named into is t = absurd (grants.unheard (TxWatch tx watch) t)
+  mailed_ended event mail (TxWatched tx coord part vote) r k named into is t = absurd (grants.unheard (TxWatched tx coord part vote) t)
 
   -- the end of a row of a node, as the group sees it
   pub record PartEnded (after : Steps) (step : NodeState × List Mail) : Type 0 where
@@ -117,14 +117,14 @@ module _ (ahead : Ahead) (base : Base) (made : Command → Type 0) (grants : Gra
     pub lawful_is : IsLawfulHistory (rule ahead base) (first ahead base) (newer ++ before)
     pub requested_is : (b : Ballot) (slot : ℕ) (c : Command) → Among (Offered b slot c) (newer ++ before) → made c
     pub holds : Holds ahead base made me (newer ++ before) step.0.replicas
-    pub mails : (mail : Mail) → Among mail step.1 → IsTrue ahead base made (newer ++ before) mail mail.body
+    pub mails : (mail : Mail) → Among mail step.1 → IsTrue ahead base made heard (newer ++ before) mail mail.body
 
   -- the group takes no step
-  no_part : (after : Steps) (step : NodeState × List Mail) → after ≡ before → Holds ahead base made me before step.0.replicas → ((mail : Mail) → Among mail step.1 → IsTrue ahead base made before mail mail.body) → PartEnded after step
+  no_part : (after : Steps) (step : NodeState × List Mail) → after ≡ before → Holds ahead base made me before step.0.replicas → ((mail : Mail) → Among mail step.1 → IsTrue ahead base made heard before mail mail.body) → PartEnded after step
   no_part after step same holds true_mails = record { newer = []; are = same; by = tt; lawful_is = lawful; requested_is = requested; holds = holds; mails = true_mails }
 
   -- its replica's row ends
-  own_part : (after : Steps) (place : Place) (step : NodeState × List Mail) → step.1 ≡ place.1 → (e : Ended ahead base made me before after place) → Holds ahead base made me (e.newer ++ before) step.0.replicas → PartEnded after step
+  own_part : (after : Steps) (place : Place) (step : NodeState × List Mail) → step.1 ≡ place.1 → (e : Ended ahead base made heard me before after place) → Holds ahead base made me (e.newer ++ before) step.0.replicas → PartEnded after step
   own_part after place step same e holds = record {
     newer = e.newer;
     are = e.are;
@@ -137,21 +137,21 @@ module _ (ahead : Ahead) (base : Base) (made : Command → Type 0) (grants : Gra
 
 -- ---- a node
 
-module _ (ahead : Ahead) (bases : List Base) (made : Command → Type 0) where
+module _ (ahead : Ahead) (bases : List Base) (made : Base → Command → Type 0) where
   -- a node as the steps of all groups say
   pub record IsNode (h : Base → Steps) (me : ℕ) (node : NodeState) : Type 0 where
     pub me_is : node.me ≡ me
     -- each replica is of one of the groups
     pub known : Each (λ r. IsOneOf bases (name_of r)) node.replicas
     -- of each group it has one replica, or none and no step
-    pub holds : (base : Base) → Among base bases → Holds ahead base made me (h base) node.replicas
+    pub holds : (base : Base) → Among base bases → Holds ahead base (made base) me (h base) node.replicas
 
-  module _ (grants : (base : Base) → Grants ahead base made) (me : ℕ) (h : Base → Steps)
-      (some : (base : Base) → Among base bases → (log : List Command) → Each made log → (node : ℕ) × (rest : List ℕ) × ((rule ahead base).members log ≡ node ∷ rest))
+  module _ (heard : MailBody → Type 0) (grants : (base : Base) → Grants ahead base (made base) heard) (me : ℕ) (h : Base → Steps)
+      (some : (base : Base) → Among base bases → (log : List Command) → Each (made base) log → (node : ℕ) × (rest : List ℕ) × ((rule ahead base).members log ≡ node ∷ rest))
       (lawful : (base : Base) → Among base bases → IsLawfulHistory (rule ahead base) (first ahead base) (h base))
-      (requested : (base : Base) → Among base bases → (b : Ballot) (slot : ℕ) (c : Command) → Among (Offered b slot c) (h base) → made c) where
+      (requested : (base : Base) → Among base bases → (b : Ballot) (slot : ℕ) (c : Command) → Among (Offered b slot c) (h base) → made base c) where
     abbrev Part : (base : Base) → Among base bases → Steps → NodeState × List Mail → Type 0
-    Part base a after step = PartEnded ahead base made (grants base) me (h base) (some base a) (lawful base a) (requested base a) after step
+    Part base a after step = PartEnded ahead base (made base) heard (grants base) me (h base) (some base a) (lawful base a) (requested base a) after step
 
     -- the end of a node's row: after the row these are the steps of each group
     pub record NodeEnded (after : Base → Steps) (step : NodeState × List Mail) : Type 0 where
@@ -172,25 +172,25 @@ module _ (ahead : Ahead) (bases : List Base) (made : Command → Type 0) where
     -- ---- nothing comes of it
 
     pub unchanged : (after : Base → Steps) (node : NodeState) (sent : List Mail) → IsNode h me node → ((base : Base) → Among base bases → after base ≡ h base)
-        → ((mail : Mail) → Among mail sent → IsNamed bases mail.body) → ((base : Base) → Among base bases → (mail : Mail) → Among mail sent → IsTrue ahead base made (h base) mail mail.body) → NodeEnded after (node, sent)
+        → ((mail : Mail) → Among mail sent → IsNamed bases mail.body) → ((base : Base) → Among base bases → (mail : Mail) → Among mail sent → IsTrue ahead base (made base) heard (h base) mail mail.body) → NodeEnded after (node, sent)
     unchanged after node sent k same named t = record {
       me_is = k.me_is;
       known = k.known;
       named = named;
-      parts = λ base a. no_part ahead base made (grants base) me (h base) (some base a) (lawful base a) (requested base a) (after base) (node, sent) (same base a) (k.holds base a) (t base a);
+      parts = λ base a. no_part ahead base (made base) heard (grants base) me (h base) (some base a) (lawful base a) (requested base a) (after base) (node, sent) (same base a) (k.holds base a) (t base a);
     }
 
     -- ---- one replica's row
 
     -- the mails of a replica's row are of no other group
-    far_sent : (base : Base) (before after : Steps) (place : Place) → Ended ahead base made me before after place → (name : Draw) → same_draw base.core.id name ≡ false → AreFar name place.1
-    far_sent base before after place e name f = Each-from _ place.1 (λ m a. own_far ahead base name f m.body (e.own m a))
+    far_sent : (base : Base) (before after : Steps) (place : Place) → Ended ahead base (made base) heard me before after place → (name : Draw) → same_draw base.core.id name ≡ false → AreFar name place.1
+    far_sent base before after place e name f = Each-from _ place.1 (λ m a. own_far ahead base heard (grants base).unheard name f m.body (e.own m a))
 
-    ended_name : (base : Base) → Among base bases → (before after : Steps) (place : Place) → Ended ahead base made me before after place → name_of place.0 ≡ base.core.id
-    ended_name base a before after place e = name_is ahead base made me [] before (e.newer ++ before) place.0 e.replica
+    ended_name : (base : Base) → Among base bases → (before after : Steps) (place : Place) → Ended ahead base (made base) heard me before after place → name_of place.0 ≡ base.core.id
+    ended_name base a before after place e = name_is ahead base (made base) heard me [] before (e.newer ++ before) place.0 e.replica
 
     one_row : (g : Draw) (r : ReplicaState) (node : NodeState) → IsNode h me node → replica_of g node.replicas ≡ Some r → (place : Place) (after : Base → Steps)
-        → ((base : Base) (a : Among base bases) → g ≡ base.core.id → IsReplica ahead base made (h base) me r → Ended ahead base made me (h base) (after base) place)
+        → ((base : Base) (a : Among base bases) → g ≡ base.core.id → IsReplica ahead base (made base) (h base) me r → Ended ahead base (made base) heard me (h base) (after base) place)
         → ((base : Base) → Among base bases → same_draw g base.core.id ≡ false → AreFar base.core.id place.1 → after base ≡ h base)
         → NodeEnded after (record node { replicas = with_replica g place.0 node.replicas }, place.1)
     one_row g r node k found place after ends far =
@@ -198,25 +198,25 @@ module _ (ahead : Ahead) (bases : List Base) (made : Command → Type 0) where
         let named : name_of r ≡ g = draw_is (name_of r) g there.1 in
         let mine = Each-among (λ s. IsOneOf bases (name_of s)) node.replicas r k.known there.0 in
         let is : g ≡ mine.0.core.id = sym named ∙ mine.2 in
-        let e = ends mine.0 mine.1 is (held ahead mine.0 made me (h mine.0) node.replicas (k.holds mine.0 mine.1) r there.0 mine.2) in
+        let e = ends mine.0 mine.1 is (held ahead mine.0 (made mine.0) me (h mine.0) node.replicas (k.holds mine.0 mine.1) r there.0 mine.2) in
         let new_name = ended_name mine.0 mine.1 (h mine.0) (after mine.0) place e in
         let step : NodeState × List Mail = (record node { replicas = with_replica g place.0 node.replicas }, place.1) in
         record {
           me_is = k.me_is;
           known = each_with (λ s. IsOneOf bases (name_of s)) g place.0 node.replicas k.known (mine.0, mine.1, new_name);
-          named = λ m a. own_named ahead bases mine.0 mine.1 m.body (e.own m a);
+          named = λ m a. own_named ahead heard (grants mine.0).unheard bases mine.0 mine.1 m.body (e.own m a);
           parts = λ base a. elim (cases_Bool (same_draw g base.core.id)) [
             | inl t ↦ (
                 let same = draw_is g base.core.id t in
-                let ended = ends base a same (held ahead base made me (h base) node.replicas (k.holds base a) r there.0 (named ∙ same)) in
-                own_part ahead base made (grants base) me (h base) (some base a) (lawful base a) (requested base a) (after base) place step refl ended
-                (with_held ahead base made me (h base) (ended.newer ++ h base) g same place.0 (ended_name base a (h base) (after base) place ended) ended.replica node.replicas r (k.holds base a) found))
+                let ended = ends base a same (held ahead base (made base) me (h base) node.replicas (k.holds base a) r there.0 (named ∙ same)) in
+                own_part ahead base (made base) heard (grants base) me (h base) (some base a) (lawful base a) (requested base a) (after base) place step refl ended
+                (with_held ahead base (made base) me (h base) (ended.newer ++ h base) g same place.0 (ended_name base a (h base) (after base) place ended) ended.replica node.replicas r (k.holds base a) found))
             | inr f ↦ (
                 let apart_from : same_draw mine.0.core.id base.core.id ≡ false = ap (λ d. same_draw d base.core.id) (sym is) ∙ f in
                 let sent = far_sent mine.0 (h mine.0) (after mine.0) place e base.core.id apart_from in
-                no_part ahead base made (grants base) me (h base) (some base a) (lawful base a) (requested base a) (after base) step (far base a f sent)
-                (with_far ahead base made me (h base) g f place.0 (λ same. apart_names g base.core.id f (is ∙ sym new_name ∙ same)) node.replicas (k.holds base a))
-                (λ m b. far_true ahead base made (h base) m m.body (Each-among _ place.1 m sent b)))
+                no_part ahead base (made base) heard (grants base) me (h base) (some base a) (lawful base a) (requested base a) (after base) step (far base a f sent)
+                (with_far ahead base (made base) me (h base) g f place.0 (λ same. apart_names g base.core.id f (is ∙ sym new_name ∙ same)) node.replicas (k.holds base a))
+                (λ m b. far_true ahead base (made base) heard (h base) m m.body (Each-among _ place.1 m sent b)))
           ];
         }
       where
@@ -229,10 +229,10 @@ module _ (ahead : Ahead) (bases : List Base) (made : Command → Type 0) where
     Goal event body step = NodeEnded (λ base. steps_of base.core.id me event body step.1 (h base)) step
 
     abbrev IsTrueOfAll : Mail → MailBody → Type 0
-    IsTrueOfAll mail body = (base : Base) → Among base bases → IsTrue ahead base made (h base) mail body
+    IsTrueOfAll mail body = (base : Base) → Among base bases → IsTrue ahead base (made base) heard (h base) mail body
 
     quiet : (event : Event OrderLine) (body : MailBody) (node : NodeState) (sent : List Mail) → IsNode h me node → ArePlain sent → ((mail : Mail) → Among mail sent → IsNamed bases mail.body)
-        → ((base : Base) → Among base bases → (mail : Mail) → Among mail sent → IsTrue ahead base made (h base) mail mail.body) → Goal event body (node, sent)
+        → ((base : Base) → Among base bases → (mail : Mail) → Among mail sent → IsTrue ahead base (made base) heard (h base) mail mail.body) → Goal event body (node, sent)
     quiet event body node sent k plain named t = unchanged _ node sent k (λ base a. quiet_steps base.core.id me event body sent (h base) plain) named t
 
     nothing : (event : Event OrderLine) (body : MailBody) (node : NodeState) → IsNode h me node → Goal event body (node, [])
@@ -241,7 +241,7 @@ module _ (ahead : Ahead) (bases : List Base) (made : Command → Type 0) where
     absent_ended : (event : Event OrderLine) (mail : Mail) (body : MailBody) (node : NodeState) → IsNode h me node → IsNamed bases body → Goal event body (node, absent node.me mail.from body)
     absent_ended event mail body node k named =
         quiet event body node (absent node.me mail.from body) k (absent_replies node.me mail.from body) (absent_named bases node.me mail.from body named)
-        (λ base a m b. absent_true ahead base made (h base) node.me mail.from body m b)
+        (λ base a m b. absent_true ahead base (made base) heard (h base) node.me mail.from body m b)
 
     -- a node without a replica of the group makes one of the state that it is sent
     made_ended : (event : Event OrderLine) (mail : Mail) (g : Draw) (slot : ℕ) (state : Base) (sets : List (List ℕ)) (node : NodeState) → IsNode h me node → replica_of g node.replicas ≡ None → IsOneOf bases g
@@ -251,29 +251,29 @@ module _ (ahead : Ahead) (bases : List Base) (made : Command → Type 0) where
         let body = Install g slot state sets in
         let step : NodeState × List Mail = (record node { replicas = with_new place.0 node.replicas }, place.1) in
         let ends = λ (base : Base) (a : Among base bases) (is : g ≡ base.core.id). (
-        let fresh = none_held ahead base made me (h base) g is node.replicas (k.holds base a) none in
-        by_fine ahead base made (grants base) me (h base) (some base a) (lawful base a) (requested base a) event body place
-        (made_place ahead base made (grants base) me [] (h base) (some base a) refl node.me mail.from g slot state sets k.me_is is fresh.1 (lawful base a) (requested base a) (t base a (same_name g base.core.id is))) refl) in
+        let fresh = none_held ahead base (made base) me (h base) g is node.replicas (k.holds base a) none in
+        by_fine ahead base (made base) heard (grants base) me (h base) (some base a) (lawful base a) (requested base a) event body place
+        (made_place ahead base (made base) heard (grants base) me [] (h base) (some base a) refl node.me mail.from g slot state sets k.me_is is fresh.1 (lawful base a) (requested base a) (t base a (same_name g base.core.id is))) refl) in
         let e = ends one.0 one.1 one.2 in
         let new_name = ended_name one.0 one.1 (h one.0) _ place e in
         record {
           me_is = k.me_is;
           known = each_new (λ s. IsOneOf bases (name_of s)) place.0 node.replicas k.known (one.0, one.1, new_name);
-          named = λ m a. own_named ahead bases one.0 one.1 m.body (e.own m a);
+          named = λ m a. own_named ahead heard (grants one.0).unheard bases one.0 one.1 m.body (e.own m a);
           parts = λ base a. elim (cases_Bool (same_draw g base.core.id)) [
             | inl t ↦ (
                 let same = draw_is g base.core.id t in
                 let ended = ends base a same in
-                own_part ahead base made (grants base) me (h base) (some base a) (lawful base a) (requested base a) _ place step refl ended
-                (new_held ahead base made me (ended.newer ++ h base) place.0 (ended_name base a (h base) _ place ended) ended.replica node.replicas
-                (none_held ahead base made me (h base) g same node.replicas (k.holds base a) none).0))
+                own_part ahead base (made base) heard (grants base) me (h base) (some base a) (lawful base a) (requested base a) _ place step refl ended
+                (new_held ahead base (made base) me (ended.newer ++ h base) place.0 (ended_name base a (h base) _ place ended) ended.replica node.replicas
+                (none_held ahead base (made base) me (h base) g same node.replicas (k.holds base a) none).0))
             | inr f ↦ (
                 let apart_from : same_draw one.0.core.id base.core.id ≡ false = ap (λ d. same_draw d base.core.id) (sym one.2) ∙ f in
                 let sent = far_sent one.0 (h one.0) _ place e base.core.id apart_from in
-                no_part ahead base made (grants base) me (h base) (some base a) (lawful base a) (requested base a) _ step
+                no_part ahead base (made base) heard (grants base) me (h base) (some base a) (lawful base a) (requested base a) _ step
                 (far_steps base.core.id me event g f body refl place.1 (h base) sent)
-                (new_far ahead base made me (h base) place.0 (λ same. (let no_way : true ≡ false = sym (same_name g base.core.id (one.2 ∙ sym new_name ∙ same)) ∙ f in absurd (cc))) node.replicas (k.holds base a))
-                (λ m b. far_true ahead base made (h base) m m.body (Each-among _ place.1 m sent b)))
+                (new_far ahead base (made base) me (h base) place.0 (λ same. (let no_way : true ≡ false = sym (same_name g base.core.id (one.2 ∙ sym new_name ∙ same)) ∙ f in absurd (cc))) node.replicas (k.holds base a))
+                (λ m b. far_true ahead base (made base) heard (h base) m m.body (Each-among _ place.1 m sent b)))
           ];
         }
 
@@ -292,7 +292,7 @@ module _ (ahead : Ahead) (bases : List Base) (made : Command → Type 0) where
     taken_ended event mail body g into node k one t (Some r) e =
         let place = mailed mail.from body (r, []) in
         one_row g r node k e place (λ base. steps_of base.core.id me event body place.1 (h base))
-        (λ base a is was. mailed_ended ahead base made (grants base) me (h base) (some base a) (lawful base a) (requested base a) event mail body r was g into is (t base a))
+        (λ base a is was. mailed_ended ahead base (made base) heard (grants base) me (h base) (some base a) (lawful base a) (requested base a) event mail body r was g into is (t base a))
         (λ base a f sent. far_steps base.core.id me event g f body into place.1 (h base) sent)
 
     routed_ended : (event : Event OrderLine) (mail : Mail) (body : MailBody) (o : Option Draw) → group_of_mail body ≡ o → (node : NodeState) → IsNode h me node → IsNamed bases body → IsTrueOfAll mail body
@@ -323,17 +323,17 @@ module _ (ahead : Ahead) (bases : List Base) (made : Command → Type 0) where
     desk_ended number result node k =
         unchanged _ node (told_desk node.me number result []) k (λ base a. refl)
         (λ m a. elim a [ inl e ↦ subst (λ (x : Mail). IsNamed bases x.body) e tt | inr n ↦ absurd n ])
-        (λ base b m a. elim a [ inl e ↦ subst (λ (x : Mail). IsTrue ahead base made (h base) x x.body) e tt | inr n ↦ absurd n ])
+        (λ base b m a. elim a [ inl e ↦ subst (λ (x : Mail). IsTrue ahead base (made base) heard (h base) x x.body) e tt | inr n ↦ absurd n ])
 
-    ordered_ended : (line : OrderLine) (node : NodeState) → IsNode h me node → (o : Option ReplicaState) → replica_of (group_of_order line.order) node.replicas ≡ o → Asked (ordered_of o line node)
-    ordered_ended line node k None e = desk_ended line.number (Refused (NotLeader None)) node k
-    ordered_ended line node k (Some r) e =
+    ordered_ended : (line : OrderLine) → IsOfMembers line.order → (node : NodeState) → IsNode h me node → (o : Option ReplicaState) → replica_of (group_of_order line.order) node.replicas ≡ o → Asked (ordered_of o line node)
+    ordered_ended line plain node k None e = desk_ended line.number (Refused (NotLeader None)) node k
+    ordered_ended line plain node k (Some r) e =
         let place = order_row line (r, []) in
         one_row (group_of_order line.order) r node k e place (λ base. asked_in base.core.id place.1 (h base))
-        (λ base a is was. ended_by ahead base made (grants base) me (h base) (some base a) place _
-        (fine_order_row ahead base made (grants base) me [] (h base) (some base a) line r [] (start ahead base made (grants base) me (h base) (some base a) (lawful base a) (requested base a) [] r was)) refl)
+        (λ base a is was. ended_by ahead base (made base) heard (grants base) me (h base) (some base a) place _
+        (fine_order_row ahead base (made base) heard (grants base) me [] (h base) (some base a) line plain r [] (start ahead base (made base) heard (grants base) me (h base) (some base a) (lawful base a) (requested base a) [] r was)) refl)
         (λ base a f sent. far_all base.core.id place.1 (h base) sent)
 
     -- the end of an order
-    pub order_ended : (line : OrderLine) (node : NodeState) → IsNode h me node → Asked (on_order line node)
-    order_ended line node k = ordered_ended line node k (replica_of (group_of_order line.order) node.replicas) refl
+    pub order_ended : (line : OrderLine) → IsOfMembers line.order → (node : NodeState) → IsNode h me node → Asked (on_order line node)
+    order_ended line plain node k = ordered_ended line plain node k (replica_of (group_of_order line.order) node.replicas) refl

@@ -14,6 +14,7 @@ use Rattle.sc_ideal.specs.IdealStore.{key_of, holds_key}
 use Rattle.sc_mail.specs.declared.bodies.AnswerBody.{AnswerBody}
 use Rattle.sc_mail.specs.declared.bodies.AnswerBody.TheVariants as Says
 use Rattle.sc_mail.specs.declared.bodies.Mail.{Mail}
+use Rattle.sc_mail.specs.declared.bodies.MailBody.{MailBody}
 use Rattle.sc_mail.specs.declared.bodies.MailBody.TheVariants.{Accept}
 use Rattle.sc_member.specs.Majority.{is_majority}
 use Rattle.sc_paxos_words.specs.declared.answers.Must.{Must}
@@ -95,10 +96,10 @@ module _ (ahead : Ahead) (base : Base) where
   this_set log slot set sets are =
       subst (λ n. (set ≡ members_of (rule ahead base) log n) × (needed (rule ahead base) n ≤ length log)) (first_set slot) (are 0 set refl)
 
-module _ (ahead : Ahead) (base : Base) (made : Command → Type 0) (grants : Grants ahead base made) (me : ℕ) (older : List Mail) (before : Steps)
+module _ (ahead : Ahead) (base : Base) (made : Command → Type 0) (heard : MailBody → Type 0) (grants : Grants ahead base made heard) (me : ℕ) (older : List Mail) (before : Steps)
     (some : (log : List Command) → Each made log → (node : ℕ) × (rest : List ℕ) × ((rule ahead base).members log ≡ node ∷ rest)) where
   abbrev Ok : Place → Type 0
-  Ok = Fine ahead base made me older before
+  Ok = Fine ahead base made heard me older before
 
   -- ---- one offer
 
@@ -180,9 +181,9 @@ module _ (ahead : Ahead) (base : Base) (made : Command → Type 0) (grants : Gra
       let after : ReplicaState = record r { leader = with_flight_at slot c r.leader } in
       let mail : Mail = record { from = r.me; to = node; body = Accept (name_of r) b slot c } in
       let own = (k.leads runs).own in
-      let place = steps ahead base made me older before r after mails mail (Offered b slot c) f (asked_accept (name_of r) base.core.id b slot c (name_is ahead base made me older before h r k)) (name_is ahead base made me older before h r k) own may
+      let place = steps ahead base made heard me older before r after mails mail (Offered b slot c) f (asked_accept (name_of r) base.core.id b slot c (name_is ahead base made heard me older before h r k)) (name_is ahead base made heard me older before h r k) own may
       (λ d s v e. (let same : c ≡ v = cc in subst made same m)) (offering_replica h slot c r k runs) (λ _. inl refl) in
-      offered_again ahead base made me older before rest after (mails ++ mail ∷ []) b slot c place own (inl refl)
+      offered_again ahead base made heard me older before rest after (mails ++ mail ∷ []) b slot c place own (inl refl)
 
   pub fine_offered : (slot : ℕ) (c : Command) (set : List ℕ) (r : ReplicaState) (mails : List Mail) (f : Ok (r, mails)) → r.running ≡ true → is_some (taken_at r slot) ≡ false → next r ≤ slot
       → set ≡ members_of (rule ahead base) f.replica.whole slot → needed (rule ahead base) slot ≤ length f.replica.whole → may_offer r set ≡ true → Obeys (must slot r.leader) c → made c
@@ -274,15 +275,15 @@ module _ (ahead : Ahead) (base : Base) (made : Command → Type 0) (grants : Gra
           → IsCalled r (elim o [ None ↦ (Some c, calls, mails) | Some answer ↦ next_call r.me idle core calls (answered r.me core.id answer c mails) ])
       by_turned rest None is = record { fine = f; rest = e.1; command = e.0 }
       by_turned rest (Some answer) is =
-          rest (answered r.me core.id answer c mails) (answered_one ahead base made me older before r mails core.id answer named (turned_dull core c answer is) c f)
+          rest (answered r.me core.id answer c mails) (answered_one ahead base made heard me older before r mails core.id answer named (turned_dull core c answer is) c f)
 
   found_in_calls : (slot : ℕ) (r : ReplicaState) (mails : List Mail) → must slot r.leader ≡ Open → Ok (r, mails) → IsFound slot r (from_calls (r, mails))
   unfolding from_calls turn
   found_in_calls slot r mails free f =
       let x = next_call r.me (is_idle r) r.group.core r.calls mails in
-      let got = called (is_idle r) r.group.core (name_is ahead base made me older before (f.newer ++ before) r f.replica) r.calls r mails f f.replica.calls in
+      let got = called (is_idle r) r.group.core (name_is ahead base made heard me older before (f.newer ++ before) r f.replica) r.calls r mails f f.replica.calls in
       record {
-        fine = turn ahead base made me older before r (record r { calls = x.1 }) x.2 got.fine (with_calls (got.fine.newer ++ before) r x.1 got.fine.replica got.rest);
+        fine = turn ahead base made heard me older before r (record r { calls = x.1 }) x.2 got.fine (with_calls (got.fine.newer ++ before) r x.1 got.fine.replica got.rest);
         log_is = refl;
         sets_is = refl;
         runs_is = refl;
@@ -304,7 +305,7 @@ module _ (ahead : Ahead) (base : Base) (made : Command → Type 0) (grants : Gra
   found_in_acts slot (act ∷ acts) r mails e free f =
       cond_both (is_idle r) _ _ (IsFound slot r)
       (λ _. record {
-        fine = turn ahead base made me older before r (record r { acts = acts }) mails f (with_acts (f.newer ++ before) r acts f.replica e.1);
+        fine = turn ahead base made heard me older before r (record r { acts = acts }) mails f (with_acts (f.newer ++ before) r acts f.replica e.1);
         log_is = refl;
         sets_is = refl;
         runs_is = refl;

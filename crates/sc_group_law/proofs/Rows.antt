@@ -14,6 +14,7 @@ use Rattle.sc_cmd.specs.declared.cores.Base.{Base}
 use Rattle.sc_mail.specs.declared.bodies.AnswerBody.{AnswerBody}
 use Rattle.sc_mail.specs.declared.bodies.AnswerBody.TheVariants as Says
 use Rattle.sc_mail.specs.declared.bodies.Mail.{Mail}
+use Rattle.sc_mail.specs.declared.bodies.MailBody.{MailBody}
 use Rattle.sc_mail.specs.declared.bodies.MailBody.TheVariants.{Answer, Accept, Learn, Ask}
 use Rattle.sc_member.specs.Roster.{is_member}
 use Rattle.sc_paxos_words.specs.declared.flights.Flight.{Flight}
@@ -39,21 +40,21 @@ use Rattle.sc_group_law.proofs.Held.{get_dropped}
 use Rattle.sc_group_law.proofs.Welcoming.{installed_place}
 use Rattle.sc_group_law.proofs.Executing.{fine_executed}
 
-module _ (ahead : Ahead) (base : Base) (made : Command → Type 0) (grants : Grants ahead base made) (me : ℕ) (older : List Mail) (before : Steps)
+module _ (ahead : Ahead) (base : Base) (made : Command → Type 0) (heard : MailBody → Type 0) (grants : Grants ahead base made heard) (me : ℕ) (older : List Mail) (before : Steps)
     (some : (log : List Command) → Each made log → (node : ℕ) × (rest : List ℕ) × ((rule ahead base).members log ≡ node ∷ rest)) where
   abbrev Ok : Place → Type 0
-  Ok = Fine ahead base made me older before
+  Ok = Fine ahead base made heard me older before
 
   abbrev Replica : Steps → ReplicaState → Type 0
   Replica h r = IsReplica ahead base made h me r
 
   named : (r : ReplicaState) (mails : List Mail) → Ok (r, mails) → name_of r ≡ base.core.id
-  named r mails f = name_is ahead base made me older before (f.newer ++ before) r f.replica
+  named r mails f = name_is ahead base made heard me older before (f.newer ++ before) r f.replica
 
   -- Nack
   pub fine_nack_row : (promised : Ballot) (r : ReplicaState) (mails : List Mail) → Ok (r, mails) → Ok (nack_row promised (r, mails))
   unfolding nack_row
-  fine_nack_row promised r mails f = fine_saw ahead base made me older before promised r mails f
+  fine_nack_row promised r mails f = fine_saw ahead base made heard me older before promised r mails f
 
   -- Learn
   pub fine_learn_row : (from slot : ℕ) (c : Command) (r : ReplicaState) (mails : List Mail) → (f : Ok (r, mails)) → IsLearnt (rule ahead base) (f.newer ++ before) slot c → Ok (learn_row from slot c (r, mails))
@@ -61,9 +62,9 @@ module _ (ahead : Ahead) (base : Base) (made : Command → Type 0) (grants : Gra
   fine_learn_row from slot c r mails f t =
       cond_both (nat_lt last_slot slot) _ _ Ok (λ _. f)
       (λ _. cond_both (eqb slot (next r)) _ _ Ok
-      (λ e. fine_executed ahead base made grants me older before some false c r mails f (subst (λ n. IsLearnt (rule ahead base) (f.newer ++ before) n c) (eqb-true slot (next r) e) t) (λ no. cc))
+      (λ e. fine_executed ahead base made heard grants me older before some false c r mails f (subst (λ n. IsLearnt (rule ahead base) (f.newer ++ before) n c) (eqb-true slot (next r) e) t) (λ no. cc))
       (λ _. cond_both (nat_lt (next r) slot) _ _ Ok
-      (λ _. says ahead base made me older before r mails (record { from = r.me; to = from; body = Ask (name_of r) (next r) }) f refl (named r mails f) tt) (λ _. f)))
+      (λ _. says ahead base made heard me older before r mails (record { from = r.me; to = from; body = Ask (name_of r) (next r) }) f refl (named r mails f) tt) (λ _. f)))
 
   held_at : (low slot : ℕ) (whole : List Command) → low < slot → slice_get whole (slot - 1) ≡ slice_get (drop low whole) (slot - low - 1)
   held_at low slot whole lt = (let same : slot - 1 ≡ low + (slot - low - 1) = omega (arith, lt) in ap (slice_get whole) same ∙ sym (get_dropped low whole (slot - low - 1)))
@@ -93,10 +94,10 @@ module _ (ahead : Ahead) (base : Base) (made : Command → Type 0) (grants : Gra
           → Ok (r, elim o [ None ↦ mails | Some command ↦ taught count r from (slot + 1) (sent r.me from (Learn (name_of r) slot command) mails) ])
       go rest None e = f
       go rest (Some c) e =
-          rest _ (says ahead base made me older before r mails (record { from = r.me; to = from; body = Learn (name_of r) slot c }) f refl (named r mails f) (λ _. entry_learnt (f.newer ++ before) slot r c f.replica e))
+          rest _ (says ahead base made heard me older before r mails (record { from = r.me; to = from; body = Learn (name_of r) slot c }) f refl (named r mails f) (λ _. entry_learnt (f.newer ++ before) slot r c f.replica e))
 
   asked_from_place : (o : Option Command) (from slot : ℕ) (r : ReplicaState) (mails : List Mail) → Ok (r, mails) → Ok (ask_answered o from slot (r, mails))
-  asked_from_place None from slot r mails f = installed_place ahead base made me older before from r mails f
+  asked_from_place None from slot r mails f = installed_place ahead base made heard me older before from r mails f
   asked_from_place (Some c) from slot r mails f = fine_taught most_taught from slot r mails f
 
   -- the row of an Ask keeps what holds
@@ -115,21 +116,21 @@ module _ (ahead : Ahead) (base : Base) (made : Command → Type 0) (grants : Gra
       (λ _ j. (let same : Says.NotMine r.group.core.arc r.group.core.succ ≡ answer = cc in subst (IsTrueAnswer ahead base h to seq) same tt)) (λ _ j. cc) k) e
 
   with_calls_place : (r : ReplicaState) (calls : List Command) (mails : List Mail) → (f : Ok (r, mails)) → Each made calls → Ok (record r { calls = calls }, mails)
-  with_calls_place r calls mails f e = turn ahead base made me older before r (record r { calls = calls }) mails f (with_calls ahead base made grants me older before some (f.newer ++ before) r calls f.replica e)
+  with_calls_place r calls mails f e = turn ahead base made heard me older before r (record r { calls = calls }) mails f (with_calls ahead base made heard grants me older before some (f.newer ++ before) r calls f.replica e)
 
   fine_queued : (o : Option ℕ) (client seq : ℕ) (op : Op) (r : ReplicaState) (mails : List Mail) → Ok (r, mails) → made (Call client seq op) → Ok (queued o client seq op (r, mails))
   unfolding queued
-  fine_queued None client seq op r mails f m = fine_pumped ahead base made grants me older before some _ (with_calls_place r (r.calls ++ Call client seq op ∷ []) mails f (Each-append made r.calls (Call client seq op ∷ []) f.replica.calls (m, tt)))
+  fine_queued None client seq op r mails f m = fine_pumped ahead base made heard grants me older before some _ (with_calls_place r (r.calls ++ Call client seq op ∷ []) mails f (Each-append made r.calls (Call client seq op ∷ []) f.replica.calls (m, tt)))
   fine_queued (Some other) client seq op r mails f m =
       cond_both (nat_le seq other) _ _ Ok (λ _. f)
-      (λ _. fine_pumped ahead base made grants me older before some _ (with_calls_place r (without_call r.calls client ++ Call client seq op ∷ []) mails f
+      (λ _. fine_pumped ahead base made heard grants me older before some _ (with_calls_place r (without_call r.calls client ++ Call client seq op ∷ []) mails f
       (Each-append made (without_call r.calls client) (Call client seq op ∷ []) (Each-without_call made r.calls client f.replica.calls) (m, tt))))
 
   fine_requested : (o : Option AnswerBody) (client seq : ℕ) (op : Op) (r : ReplicaState) (mails : List Mail) → ((answer : AnswerBody) → o ≡ Some answer → (h : Steps) (to seq : ℕ) → IsTrueAnswer ahead base h to seq answer)
       → Ok (r, mails) → made (Call client seq op) → Ok (requested o client seq op (r, mails))
   unfolding requested
   fine_requested (Some answer) client seq op r mails dull f m =
-      says ahead base made me older before r mails (record { from = r.me; to = client_actor client; body = Answer (name_of r) seq answer }) f refl (named r mails f) (λ _. dull answer refl (f.newer ++ before) (client_actor client) seq)
+      says ahead base made heard me older before r mails (record { from = r.me; to = client_actor client; body = Answer (name_of r) seq answer }) f refl (named r mails f) (λ _. dull answer refl (f.newer ++ before) (client_actor client) seq)
   fine_requested None client seq op r mails dull f m = fine_queued (call_of r.calls client) client seq op r mails f m
 
   -- the row of a Request keeps what holds
@@ -154,13 +155,13 @@ module _ (ahead : Ahead) (base : Base) (made : Command → Type 0) (grants : Gra
       go : ((ms : List Mail) → Ok (r, ms) → Ok (r, asked_again r (slot + 1) sets ms)) → (o : Option Command) → flying r slot ≡ o
           → Ok (r, elim o [ None ↦ asked_again r (slot + 1) sets mails | Some command ↦ asked_again r (slot + 1) sets (sent_all r.me (uncounted r slot set) (Accept (name_of r) r.leader.ballot slot command) mails) ])
       go rest None e = rest mails f
-      go rest (Some c) e = rest _ (offered_again ahead base made me older before (uncounted r slot set) r mails r.leader.ballot slot c f own (flying_offered (f.newer ++ before) slot r c f.replica e))
+      go rest (Some c) e = rest _ (offered_again ahead base made heard me older before (uncounted r slot set) r mails r.leader.ballot slot c f own (flying_offered (f.newer ++ before) slot r c f.replica e))
 
   fine_told_last : (o : Option Command) (r : ReplicaState) (mails : List Mail) → entry_at (next r - 1) r.log ≡ o → Ok (r, mails) → Ok (r, told_last o r mails)
   unfolding told_last
   fine_told_last None r mails e f = f
   fine_told_last (Some c) r mails e f =
-      learnt_others ahead base made me older before (members r) r mails (name_of r) (next r - 1) c (named r mails f) f (entry_learnt (f.newer ++ before) (next r - 1) r c f.replica e)
+      learnt_others ahead base made heard me older before (members r) r mails (name_of r) (next r - 1) c (named r mails f) f (entry_learnt (f.newer ++ before) (next r - 1) r c f.replica e)
 
   settled_runs : (r : ReplicaState) → not (settled r) ≡ false → r.running ≡ true
   settled_runs r e = (and_parts r.running (may_offer r (first_set r.sets)) (not-false (settled r) e)).0
@@ -170,7 +171,7 @@ module _ (ahead : Ahead) (base : Base) (made : Command → Type 0) (grants : Gra
   unfolding tick_row
   fine_tick_row r mails f =
       cond_both (is_some r.group.core.gone || not (is_member (members r) r.me)) _ _ Ok (λ _. f)
-      (λ _. cond_both (not (settled r)) _ _ Ok (λ _. fine_elected ahead base made me older before r mails f)
+      (λ _. cond_both (not (settled r)) _ _ Ok (λ _. fine_elected ahead base made heard me older before r mails f)
       (λ runs. cond_both (is_idle r) _ _ Ok
-      (λ _. fine_pumped ahead base made grants me older before some _ (fine_told_last (entry_at (next r - 1) r.log) r mails refl f))
-      (λ _. fine_pumped ahead base made grants me older before some _ (fine_asked_again (next r) r.sets r mails f (f.replica.leads (settled_runs r runs)).own))))
+      (λ _. fine_pumped ahead base made heard grants me older before some _ (fine_told_last (entry_at (next r - 1) r.log) r mails refl f))
+      (λ _. fine_pumped ahead base made heard grants me older before some _ (fine_asked_again (next r) r.sets r mails f (f.replica.leads (settled_runs r runs)).own))))

@@ -14,6 +14,7 @@ use Rattle.sc_cmd.specs.declared.orders.OrderRefusal.TheVariants.{NotLeader}
 use Rattle.sc_mail.specs.declared.bodies.AnswerBody.{AnswerBody}
 use Rattle.sc_mail.specs.declared.bodies.AnswerBody.TheVariants as Says
 use Rattle.sc_mail.specs.declared.bodies.Mail.{Mail}
+use Rattle.sc_mail.specs.declared.bodies.MailBody.{MailBody}
 use Rattle.sc_mail.specs.declared.bodies.MailBody.TheVariants.{Answer, Prepare, Accept, Learn, Told}
 use Rattle.sc_machine_table.specs.Group.{Group}
 use Rattle.sc_base.specs.Among.{Among}
@@ -38,9 +39,9 @@ asked_prepare group other b from e = cond-true (same_draw group other) (Prepared
 pub asked_accept : (group other : Draw) (b : Ballot) (slot : ℕ) (c : Command) → group ≡ other → proposer_steps other (Accept group b slot c) ≡ Offered b slot c ∷ []
 asked_accept group other b slot c e = cond-true (same_draw group other) (Offered b slot c ∷ []) [] (same_name group other e)
 
-module _ (ahead : Ahead) (base : Base) (made : Command → Type 0) (me : ℕ) (older : List Mail) (before : Steps) where
+module _ (ahead : Ahead) (base : Base) (made : Command → Type 0) (heard : MailBody → Type 0) (me : ℕ) (older : List Mail) (before : Steps) where
   abbrev Ok : Place → Type 0
-  Ok = Fine ahead base made me older before
+  Ok = Fine ahead base made heard me older before
 
   abbrev Replica : Steps → ReplicaState → Type 0
   Replica h r = IsReplica ahead base made h me r
@@ -64,7 +65,7 @@ module _ (ahead : Ahead) (base : Base) (made : Command → Type 0) (me : ℕ) (o
       let more = more_steps ahead base made me (Prepared b from) h r k refl (λ c slot v e. cc)
       (λ c start e mine. (let same : from ≡ start = cc in omega (arith, same, low, up))) (λ runs slot v e. cc) in
       prepared_all nodes r (mails ++ mail ∷ []) b from
-      (steps ahead base made me older before r r mails mail (Prepared b from) f (asked_prepare (name_of r) base.core.id b from (name_is h r k)) (name_is h r k) own tt (λ c slot v e. cc) more (λ _. inl refl))
+      (steps ahead base made heard me older before r r mails mail (Prepared b from) f (asked_prepare (name_of r) base.core.id b from (name_is h r k)) (name_is h r k) own tt (λ c slot v e. cc) more (λ _. inl refl))
       own low
 
   -- what was offered is offered again
@@ -79,7 +80,7 @@ module _ (ahead : Ahead) (base : Base) (made : Command → Type 0) (me : ℕ) (o
       let there : (d : Ballot) (s : ℕ) (v : Command) → Offered b slot c ≡ Offered d s v → Among (Offered d s v) h = λ d s v e. subst (λ (x : Step Command). Among x h) e a in
       let more = more_steps ahead base made me (Offered b slot c) h r k refl (λ d s v e mine. k.tops d s v (there d s v e) mine)
       (λ d start e mine. cc) (λ runs s v e. (k.leads runs).offers s v (there r.leader.ballot s v e)) in
-      let after = steps ahead base made me older before r r mails mail (Offered b slot c) f (asked_accept (name_of r) base.core.id b slot c (name_is h r k)) (name_is h r k) own
+      let after = steps ahead base made heard me older before r r mails mail (Offered b slot c) f (asked_accept (name_of r) base.core.id b slot c (name_is h r k)) (name_is h r k) own
       (offer_again (rule ahead base) (first ahead base) h b slot c f.lawful a) (λ d s v e. f.requested d s v (there d s v e)) more (λ _. inl refl) in
       offered_again nodes r (mails ++ mail ∷ []) b slot c after own (inl refl)
 
@@ -92,7 +93,7 @@ module _ (ahead : Ahead) (base : Base) (made : Command → Type 0) (me : ℕ) (o
       cond_both (eqb node r.me) mails (sent r.me node (Learn group slot c) mails) (λ ms. Ok (r, sent_others r.me nodes (Learn group slot c) ms))
       (λ _. learnt_others nodes r mails group slot c named f t)
       (λ _. learnt_others nodes r (mails ++ record { from = r.me; to = node; body = Learn group slot c } ∷ []) group slot c named
-      (says ahead base made me older before r mails (record { from = r.me; to = node; body = Learn group slot c }) f refl named (λ _. t)) t)
+      (says ahead base made heard me older before r mails (record { from = r.me; to = node; body = Learn group slot c }) f refl named (λ _. t)) t)
 
   -- an answer that is no reply says nothing
   abbrev pub IsDull : AnswerBody → Type 0
@@ -102,7 +103,7 @@ module _ (ahead : Ahead) (base : Base) (made : Command → Type 0) (me : ℕ) (o
   pub answered_one : (r : ReplicaState) (mails : List Mail) (group : Draw) (answer : AnswerBody) → group ≡ base.core.id → IsDull answer → (c : Command) → Ok (r, mails) → Ok (r, answered r.me group answer c mails)
   unfolding answered
   answered_one r mails group answer named dull (Call client seq op) f =
-      says ahead base made me older before r mails (record { from = r.me; to = client_actor client; body = Answer group seq answer }) f refl named (λ _. dull (f.newer ++ before) (client_actor client) seq)
+      says ahead base made heard me older before r mails (record { from = r.me; to = client_actor client; body = Answer group seq answer }) f refl named (λ _. dull (f.newer ++ before) (client_actor client) seq)
   answered_one r mails group answer named dull _ f = f
 
   pub answered_each : (r : ReplicaState) (mails : List Mail) (group : Draw) (answer : AnswerBody) → group ≡ base.core.id → IsDull answer → (cs : List Command) → Ok (r, mails) → Ok (r, answered_all r.me group answer cs mails)
@@ -116,12 +117,12 @@ module _ (ahead : Ahead) (base : Base) (made : Command → Type 0) (me : ℕ) (o
   unfolding told_order
   told_one r mails number result f =
       cond_both (nat_lt 0 number) (sent r.me 0 (Told number result) mails) mails (λ ms. Ok (r, ms))
-      (λ _. says ahead base made me older before r mails (record { from = r.me; to = 0; body = Told number result }) f refl tt tt) (λ _. f)
+      (λ _. says ahead base made heard me older before r mails (record { from = r.me; to = 0; body = Told number result }) f refl tt tt) (λ _. f)
 
   dismissed_one : (r : ReplicaState) (mails : List Mail) (group : Draw) (hint : Option ℕ) (answer : AnswerBody) → group ≡ base.core.id → IsDull answer → (c : Command) → Ok (r, mails) → Ok (r, dismissed r.me group hint answer c mails)
   unfolding dismissed
   dismissed_one r mails group hint answer named dull (Call client seq op) f =
-      says ahead base made me older before r mails (record { from = r.me; to = client_actor client; body = Answer group seq answer }) f refl named (λ _. dull (f.newer ++ before) (client_actor client) seq)
+      says ahead base made heard me older before r mails (record { from = r.me; to = client_actor client; body = Answer group seq answer }) f refl named (λ _. dull (f.newer ++ before) (client_actor client) seq)
   dismissed_one r mails group hint answer named dull c f = told_one r mails (order_number c) (Refused (NotLeader hint)) f
 
   dismissed_each : (r : ReplicaState) (mails : List Mail) (group : Draw) (hint : Option ℕ) (answer : AnswerBody) → group ≡ base.core.id → IsDull answer → (cs : List Command) → Ok (r, mails) → Ok (r, dismissed_all r.me group hint answer cs mails)
@@ -168,7 +169,7 @@ module _ (ahead : Ahead) (base : Base) (made : Command → Type 0) (me : ℕ) (o
       (λ _. (
       let b : Ballot = record { round = r.top.round + 1; node = r.me } in
       let after : ReplicaState = record r { top = b; hint = Some r.me; running = true; leader = new_leader b (next r); ready = []; waits = 0 } in
-      prepared_all (open_nodes r.sets) after mails b (next r) (turn ahead base made me older before r after mails f (elected_replica (f.newer ++ before) r f.replica)) f.replica.me_is (omega arith)))
+      prepared_all (open_nodes r.sets) after mails b (next r) (turn ahead base made heard me older before r after mails f (elected_replica (f.newer ++ before) r f.replica)) f.replica.me_is (omega arith)))
 
   -- ---- an end
 
@@ -197,7 +198,7 @@ module _ (ahead : Ahead) (base : Base) (made : Command → Type 0) (me : ℕ) (o
       let named = name_is (f.newer ++ before) r f.replica in
       let told = dismissed_each r (answered_all r.me (name_of r) answer (under_way r) mails) (name_of r) hint answer named dull r.calls
       (answered_each r mails (name_of r) answer named dull (under_way r) f) in
-      turn ahead base made me older before r _ _ told (ended_replica (told.newer ++ before) r hint told.replica)
+      turn ahead base made heard me older before r _ _ told (ended_replica (told.newer ++ before) r hint told.replica)
 
   -- a stop keeps what holds
   pub fine_stopped : (hint : Option ℕ) (r : ReplicaState) (mails : List Mail) → Ok (r, mails) → Ok (stopped hint (r, mails))
@@ -235,5 +236,5 @@ module _ (ahead : Ahead) (base : Base) (made : Command → Type 0) (me : ℕ) (o
   fine_saw b r mails f =
       seen_place b r mails f (cond (below r.top b) (record r { top = b }) r)
       (cond_both (below r.top b) (record r { top = b }) r (λ (after : ReplicaState). Ok (after, mails))
-      (λ e. turn ahead base made me older before r (record r { top = b }) mails f (seen_replica (f.newer ++ before) r b (below_round r.top b e) f.replica))
+      (λ e. turn ahead base made heard me older before r (record r { top = b }) mails f (seen_replica (f.newer ++ before) r b (below_round r.top b e) f.replica))
       (λ _. f))

@@ -1,5 +1,5 @@
 -- Each first part of a lawful journal of one group is sound.
-use Rattle.std.proofs.Common.{◌≡◌, ℕ, suc, ◌+◌, ◌-◌, ◌<◌, ◌≤◌, eqb, List, [], ◌∷◌, ◌++◌, length, Some, None, inl, inr, refl, sym, ◌∙◌, ap, subst, arith}
+use Rattle.std.proofs.Common.{◌≡◌, ℕ, suc, ◌+◌, ◌-◌, eqb, List, [], ◌∷◌, ◌++◌, length, Some, None, inl, inr, refl, sym, ◌∙◌, ap, subst, arith}
 use Rattle.std.specs.Prelude.{slice_get}
 use Rattle.std.specs.FinMap.{empty}
 use Rattle.std.proofs.lemmas.Bool.{cases_Bool, cases_lt, eqb-false, cond-true, cond-false}
@@ -11,7 +11,7 @@ use Rattle.sc_cmd.specs.declared.cores.Core.{Core}
 use Rattle.sc_cmd.specs.declared.orders.OrderLine.{OrderLine}
 use Rattle.sc_mail.specs.declared.bodies.Mail.{Mail}
 use Rattle.sc_actor.specs.declared.rows.Row.{Row}
-use Rattle.sc_actor.proofs.Induction.{lawful-induction}
+use Rattle.sc_group_law.proofs.Orders.{IsPlainEvent, plain_induction}
 use Rattle.sc_actor.proofs.WalkLemmas.{lawful-prefix}
 use Rattle.sc_ideal.specs.History.{HasEntry, Legal, contents_after}
 use Rattle.sc_ideal.specs.declared.Entry.{Entry}
@@ -41,7 +41,7 @@ use Rattle.sc_group_law.proofs.Holding.{held}
 use Rattle.sc_group_law.proofs.Names.{IsOneOf}
 use Rattle.sc_group_law.proofs.Nodes.{IsNode}
 use Rattle.sc_group_law.proofs.Places.{Journal, decided_in_order}
-use Rattle.sc_group_law.proofs.Clients.{Made, IsAnswered}
+use Rattle.sc_group_law.proofs.Clients.{Made, MadeBy, IsAnswered}
 use Rattle.sc_group_law.proofs.Family.{h_of, entry_offered, entries_whole, push}
 use Rattle.sc_group_law.proofs.Replies.{reply_told}
 use Rattle.sc_group_law.proofs.Replicated.{one_value, is_log, executed_is, goes_on}
@@ -83,13 +83,13 @@ module _ (ahead : Ahead) (words : ℕ → ℕ → ℕ × ℕ) (scenario : Scenar
     unanswered = λ asks stands seq lt. refl;
   }
 
-  keeps : (rows : Journal) (row : Row Mail OrderLine) → Holding rows → IsStep (system_of ahead words scenario) rows row → Holding (rows ++ row ∷ [])
-  keeps rows row (k, t) step =
-      let m = moved ahead words scenario base [] has (λ b a. some_of ahead b (has.empty b a)) rows row k step in
+  keeps : (rows : Journal) (row : Row Mail OrderLine) → Holding rows → IsPlainEvent row.event → IsStep (system_of ahead words scenario) rows row → Holding (rows ++ row ∷ [])
+  keeps rows row (k, t) plain step =
+      let m = moved ahead words scenario base [] has (λ b a. some_of ahead b (has.empty b a)) rows row k plain step in
       (push ahead scenario bases route rows row k m, push_timed ahead scenario base law rows row k t m)
 
   all_hold : (rows : Journal) → Lawful ahead words scenario rows → Holding rows
-  all_hold rows lawful = lawful-induction (system_of ahead words scenario) Holding keeps (schedule scenario) rows (at_birth ahead scenario base [] has, first_timed) lawful
+  all_hold rows lawful = plain_induction ahead words scenario one.orders Holding keeps rows (at_birth ahead scenario base [] has, first_timed) lawful
 
   -- every lawful journal keeps it
   pub all_keep : (rows : Journal) → Lawful ahead words scenario rows → K ahead scenario base rows
@@ -110,7 +110,7 @@ module _ (ahead : Ahead) (words : ℕ → ℕ → ℕ × ℕ) (scenario : Scenar
     lawful_steps : IsLawfulHistory (rule ahead base) (first ahead base) h
     lawful_steps = (k.parts base (inl refl)).lawful
 
-    among_replicas : (n : ℕ) (node : NodeState) → IsNode ahead bases (Made scenario rows) (h_of rows) n node → (r : ReplicaState) → Among r node.replicas → HasExecuted ahead base rows r
+    among_replicas : (n : ℕ) (node : NodeState) → IsNode ahead bases (MadeBy scenario rows) (h_of rows) n node → (r : ReplicaState) → Among r node.replicas → HasExecuted ahead base rows r
     among_replicas n node at r a =
         let (other, among, named) = Each-among (λ s. IsOneOf bases (name_of s)) node.replicas r at.known a in
         elim among [
@@ -127,7 +127,7 @@ module _ (ahead : Ahead) (words : ℕ → ℕ → ℕ × ℕ) (scenario : Scenar
           let at = k.nodes n low high in
           let found : ANode at.node ≡ ANode node = sym at.value_is ∙ is in
           let same : at.node ≡ node = cc in
-          among_replicas n node (subst (IsNode ahead bases (Made scenario rows) (h_of rows) n) same at.is) r a);
+          among_replicas n node (subst (IsNode ahead bases (MadeBy scenario rows) (h_of rows) n) same at.is) r a);
       arc = ap (λ (c : Core). c.arc) (state_core (birth ahead base) log whole);
       gone = ap (λ (c : Core). c.gone) (state_core (birth ahead base) log whole);
     }

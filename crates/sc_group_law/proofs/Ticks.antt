@@ -1,13 +1,13 @@
 -- A tick of a node: each of its replicas has its part of the row.
-use Rattle.std.proofs.Common.{◌≡◌, ℕ, ◌&&◌, ◌||◌, false, List, [], ◌∷◌, ◌++◌, ◌⊎◌, inl, inr, refl, sym, ◌∙◌, ap, subst, append-nil, append_assoc}
+use Rattle.std.proofs.Common.{◌≡◌, ℕ, false, List, [], ◌∷◌, ◌++◌, inl, inr, refl, sym, ◌∙◌, ap, subst, append-nil, append_assoc}
 use Rattle.std.proofs.lemmas.Bool.{cases_Bool}
 use Rattle.sc_base.specs.declared.names.Ballot.{Ballot}
 use Rattle.sc_base.specs.declared.names.Draw.{Draw}
 use Rattle.sc_base.specs.Same.{same_draw}
 use Rattle.sc_cmd.specs.declared.commands.Command.{Command}
 use Rattle.sc_cmd.specs.declared.cores.Base.{Base}
-use Rattle.sc_mail.specs.declared.bodies.AnswerBody.TheVariants as Says
 use Rattle.sc_mail.specs.declared.bodies.Mail.{Mail}
+use Rattle.sc_mail.specs.declared.bodies.MailBody.{MailBody}
 use Rattle.sc_base.specs.Among.{Among, Each}
 use Rattle.sc_paxos_words.proofs.ListLemmas.{Each-among, Each-from}
 use Rattle.sc_paxos_law.specs.Steps.{Offered}
@@ -28,19 +28,19 @@ use Rattle.sc_group_law.proofs.Frames.{AreFar, own_far, far_true, far_all, asked
 use Rattle.sc_group_law.proofs.Holding.{IsOther, Holds, held}
 use Rattle.sc_base.proofs.NameLemmas.{draw_is}
 
-module _ (ahead : Ahead) (bases : List Base) (made : Command → Type 0) (grants : (base : Base) → Grants ahead base made) (me : ℕ) (h : Base → Steps)
-    (some : (base : Base) → Among base bases → (log : List Command) → Each made log → (node : ℕ) × (rest : List ℕ) × ((rule ahead base).members log ≡ node ∷ rest))
+module _ (ahead : Ahead) (bases : List Base) (made : Base → Command → Type 0) (heard : MailBody → Type 0) (grants : (base : Base) → Grants ahead base (made base) heard) (me : ℕ) (h : Base → Steps)
+    (some : (base : Base) → Among base bases → (log : List Command) → Each (made base) log → (node : ℕ) × (rest : List ℕ) × ((rule ahead base).members log ≡ node ∷ rest))
     (lawful : (base : Base) → Among base bases → IsLawfulHistory (rule ahead base) (first ahead base) (h base))
-    (requested : (base : Base) → Among base bases → (b : Ballot) (slot : ℕ) (c : Command) → Among (Offered b slot c) (h base) → made c) where
+    (requested : (base : Base) → Among base bases → (b : Ballot) (slot : ℕ) (c : Command) → Among (Offered b slot c) (h base) → made base c) where
   -- a replica of one of the groups, as the steps say
   abbrev IsLive : ReplicaState → Type 0
-  IsLive r = (base : Base) × Among base bases × (name_of r ≡ base.core.id) × IsReplica ahead base made (h base) me r
+  IsLive r = (base : Base) × Among base bases × (name_of r ≡ base.core.id) × IsReplica ahead base (made base) (h base) me r
 
-  ticks : (base : Base) → Among base bases → (r : ReplicaState) (mails : List Mail) → IsReplica ahead base made (h base) me r → Fine ahead base made me mails (h base) (tick_row (r, mails))
-  ticks base a r mails k = fine_tick_row ahead base made (grants base) me mails (h base) (some base a) r mails (start ahead base made (grants base) me (h base) (some base a) (lawful base a) (requested base a) mails r k)
+  ticks : (base : Base) → Among base bases → (r : ReplicaState) (mails : List Mail) → IsReplica ahead base (made base) (h base) me r → Fine ahead base (made base) heard me mails (h base) (tick_row (r, mails))
+  ticks base a r mails k = fine_tick_row ahead base (made base) heard (grants base) me mails (h base) (some base a) r mails (start ahead base (made base) heard (grants base) me (h base) (some base a) (lawful base a) (requested base a) mails r k)
 
-  tick_name : (base : Base) (mails : List Mail) (place : Place) → Fine ahead base made me mails (h base) place → name_of place.0 ≡ base.core.id
-  tick_name base mails place f = name_is ahead base made me mails (h base) (f.newer ++ h base) place.0 f.replica
+  tick_name : (base : Base) (mails : List Mail) (place : Place) → Fine ahead base (made base) heard me mails (h base) place → name_of place.0 ≡ base.core.id
+  tick_name base mails place f = name_is ahead base (made base) heard me mails (h base) (f.newer ++ h base) place.0 f.replica
 
   more_sent : (mails one other all place : List Mail) → all ≡ place ++ other → place ≡ mails ++ one → all ≡ mails ++ (one ++ other)
   more_sent mails one other all place e f = e ∙ ap (λ ms. ms ++ other) f ∙ append_assoc mails one other
@@ -63,7 +63,7 @@ module _ (ahead : Ahead) (bases : List Base) (made : Command → Type 0) (grants
       record {
         sent = f.sent ++ later.sent;
         sent_is = more_sent mails f.sent later.sent _ place.1 later.sent_is f.sent_is;
-        named = λ m b. elim (Among-either m f.sent later.sent b) [ inl c ↦ own_named ahead bases base a m.body (f.own m c) | inr c ↦ later.named m c ];
+        named = λ m b. elim (Among-either m f.sent later.sent b) [ inl c ↦ own_named ahead heard (grants base).unheard bases base a m.body (f.own m c) | inr c ↦ later.named m c ];
         known = ((base, a, tick_name base mails place f), later.known);
       }
 
@@ -78,9 +78,9 @@ module _ (ahead : Ahead) (bases : List Base) (made : Command → Type 0) (grants
   far_name base other r is o =
       elim (cases_Bool (same_draw other.core.id base.core.id)) [ inl t ↦ absurd (o (is ∙ draw_is other.core.id base.core.id t)) | inr f ↦ f ]
 
-  far_part : (base other : Base) (r : ReplicaState) (mails : List Mail) (place : Place) → name_of r ≡ other.core.id → IsOther base.core.id r → (f : Fine ahead other made me mails (h other) place) → AreFar base.core.id f.sent × IsOther base.core.id place.0
+  far_part : (base other : Base) (r : ReplicaState) (mails : List Mail) (place : Place) → name_of r ≡ other.core.id → IsOther base.core.id r → (f : Fine ahead other (made other) heard me mails (h other) place) → AreFar base.core.id f.sent × IsOther base.core.id place.0
   far_part base other r mails place is o f = (
-    Each-from _ f.sent (λ m a. own_far ahead other base.core.id (far_name base other r is o) m.body (f.own m a)),
+    Each-from _ f.sent (λ m a. own_far ahead other heard (grants other).unheard base.core.id (far_name base other r is o) m.body (f.own m a)),
     (λ same. o (is ∙ sym (tick_name other mails place f) ∙ same)),
   )
 
@@ -112,11 +112,11 @@ module _ (ahead : Ahead) (bases : List Base) (made : Command → Type 0) (grants
     are : asked_in base.core.id sent (h base) ≡ newer ++ h base
     by : Each (By me) newer
     lawful_is : IsLawfulHistory (rule ahead base) (first ahead base) (newer ++ h base)
-    requested_is : (b : Ballot) (slot : ℕ) (c : Command) → Among (Offered b slot c) (newer ++ h base) → made c
-    holds : Holds ahead base made me (newer ++ h base) (ticked rs mails).0
-    mails_are : (mail : Mail) → Among mail sent → IsTrue ahead base made (newer ++ h base) mail mail.body
+    requested_is : (b : Ballot) (slot : ℕ) (c : Command) → Among (Offered b slot c) (newer ++ h base) → made base c
+    holds : Holds ahead base (made base) me (newer ++ h base) (ticked rs mails).0
+    mails_are : (mail : Mail) → Among mail sent → IsTrue ahead base (made base) heard (newer ++ h base) mail mail.body
 
-  tick_own : (base : Base) (a : Among base bases) (rs : List ReplicaState) → Each IsLive rs → Holds ahead base made me (h base) rs → (mails : List Mail) → TicksOwn base rs mails
+  tick_own : (base : Base) (a : Among base bases) (rs : List ReplicaState) → Each IsLive rs → Holds ahead base (made base) me (h base) rs → (mails : List Mail) → TicksOwn base rs mails
   unfolding ticked
   tick_own base a [] live fresh mails = record {
     sent = [];
@@ -144,7 +144,7 @@ module _ (ahead : Ahead) (bases : List Base) (made : Command → Type 0) (grants
         holds = inl (tick_name base mails place f, f.replica, later.none);
         mails_are = λ m b. elim (Among-either m f.sent later.sent b) [
           | inl c ↦ f.mails m c
-          | inr c ↦ far_true ahead base made (f.newer ++ h base) m m.body (Each-among _ later.sent m later.far c)
+          | inr c ↦ far_true ahead base (made base) heard (f.newer ++ h base) m m.body (Each-among _ later.sent m later.far c)
         ];
       }
   tick_own base a (r ∷ rs) live (inr (o, holds)) mails =
@@ -163,17 +163,17 @@ module _ (ahead : Ahead) (bases : List Base) (made : Command → Type 0) (grants
         requested_is = later.requested_is;
         holds = inr (here.1, later.holds);
         mails_are = λ m c. elim (Among-either m f.sent later.sent c) [
-          | inl d ↦ far_true ahead base made (later.newer ++ h base) m m.body (Each-among _ f.sent m here.0 d)
+          | inl d ↦ far_true ahead base (made base) heard (later.newer ++ h base) m m.body (Each-among _ f.sent m here.0 d)
           | inr d ↦ later.mails_are m d
         ];
       }
 
   live_all : (node : NodeState) → IsNode ahead bases made h me node → Each IsLive node.replicas
   live_all node k = Each-from IsLive node.replicas (λ r b. (let mine = Each-among (λ s. IsOneOf bases (name_of s)) node.replicas r k.known b in
-      (mine.0, mine.1, mine.2, held ahead mine.0 made me (h mine.0) node.replicas (k.holds mine.0 mine.1) r b mine.2)))
+      (mine.0, mine.1, mine.2, held ahead mine.0 (made mine.0) me (h mine.0) node.replicas (k.holds mine.0 mine.1) r b mine.2)))
 
   -- the end of a tick
-  pub tick_ended : (node : NodeState) → IsNode ahead bases made h me node → NodeEnded ahead bases made grants me h some lawful requested (λ base. asked_in base.core.id (on_tick node).1 (h base)) (on_tick node)
+  pub tick_ended : (node : NodeState) → IsNode ahead bases made h me node → NodeEnded ahead bases made heard grants me h some lawful requested (λ base. asked_in base.core.id (on_tick node).1 (h base)) (on_tick node)
   tick_ended node k =
       let live = live_all node k in
       let all = tick_sends node.replicas live [] in

@@ -151,20 +151,20 @@ own_state me here there = cond-true (eqb me me) here there (eq-eqb me me refl)
 -- ---- the end of a row: the steps of the whole row
 
 -- the end of a row: the steps of the whole row, the replica, and the mails
-pub record Ended (ahead : Ahead) (base : Base) (made : Command → Type 0) (me : ℕ) (before after : Steps) (place : Place) : Type 0 where
+pub record Ended (ahead : Ahead) (base : Base) (made : Command → Type 0) (heard : MailBody → Type 0) (me : ℕ) (before after : Steps) (place : Place) : Type 0 where
   pub newer : Steps
   pub are : after ≡ newer ++ before
   pub by : Each (By me) newer
   pub lawful : IsLawfulHistory (rule ahead base) (first ahead base) (newer ++ before)
   pub requested : (b : Ballot) (slot : ℕ) (c : Command) → Among (Offered b slot c) (newer ++ before) → made c
   pub replica : IsReplica ahead base made (newer ++ before) me place.0
-  pub mails : (mail : Mail) → Among mail place.1 → IsTrue ahead base made (newer ++ before) mail mail.body
-  pub own : (mail : Mail) → Among mail place.1 → IsOwn ahead base mail.body
+  pub mails : (mail : Mail) → Among mail place.1 → IsTrue ahead base made heard (newer ++ before) mail mail.body
+  pub own : (mail : Mail) → Among mail place.1 → IsOwn ahead base heard mail.body
 
-module _ (ahead : Ahead) (base : Base) (made : Command → Type 0) (grants : Grants ahead base made) (me : ℕ) (before : Steps)
+module _ (ahead : Ahead) (base : Base) (made : Command → Type 0) (heard : MailBody → Type 0) (grants : Grants ahead base made heard) (me : ℕ) (before : Steps)
     (some : (log : List Command) → Each made log → (node : ℕ) × (rest : List ℕ) × ((rule ahead base).members log ≡ node ∷ rest)) where
   abbrev Ok : Place → Type 0
-  Ok = Fine ahead base made me [] before
+  Ok = Fine ahead base made heard me [] before
 
   abbrev Replica : Steps → ReplicaState → Type 0
   Replica h r = IsReplica ahead base made h me r
@@ -173,7 +173,7 @@ module _ (ahead : Ahead) (base : Base) (made : Command → Type 0) (grants : Gra
   group = base.core.id
 
   -- a row that votes for nothing
-  pub ended_by : (place : Place) (after : Steps) → Ok place → after ≡ asked_in group place.1 before → Ended ahead base made me before after place
+  pub ended_by : (place : Place) (after : Steps) → Ok place → after ≡ asked_in group place.1 before → Ended ahead base made heard me before after place
   ended_by place after f e = record {
     newer = f.newer;
     are = e ∙ ap (λ ms. asked_in group ms before) f.sent_is ∙ f.are;
@@ -215,13 +215,13 @@ module _ (ahead : Ahead) (base : Base) (made : Command → Type 0) (grants : Gra
   }
 
   hinted_replica : (h : Steps) (b : Ballot) (r : ReplicaState) → Replica h r → Replica h (hinted b r)
-  hinted_replica h b r k = cond_both r.running r (record r { hint = Some b.node }) (Replica h) (λ _. k) (λ _. hint_replica ahead base made grants me [] before some h r (Some b.node) k)
+  hinted_replica h b r k = cond_both r.running r (record r { hint = Some b.node }) (Replica h) (λ _. k) (λ _. hint_replica ahead base made heard grants me [] before some h r (Some b.node) k)
 
   -- a row of one acceptor's step
   acceptor_ended : (s : Step Command) (b : Ballot) (r : ReplicaState) (mails : List Mail) (mail : Mail) (acceptor : AcceptorState Command) (after : Steps) → (f : Ok (r, mails)) → after ≡ s ∷ f.newer ++ before → By me s
       → IsLawfulStep (rule ahead base) (first ahead base) s (f.newer ++ before) → Mirrors acceptor (state_of (first ahead base) me (s ∷ f.newer ++ before))
       → ((b : Ballot) (slot : ℕ) (c : Command) → s ≡ Offered b slot c → ⊥) → ((b : Ballot) (from : ℕ) → s ≡ Prepared b from → ⊥)
-      → IsOwn ahead base mail.body → IsTrue ahead base made (s ∷ f.newer ++ before) mail mail.body → Ended ahead base made me before after (hinted b (record r { acceptor = acceptor }), mails ++ mail ∷ [])
+      → IsOwn ahead base heard mail.body → IsTrue ahead base made heard (s ∷ f.newer ++ before) mail mail.body → Ended ahead base made heard me before after (hinted b (record r { acceptor = acceptor }), mails ++ mail ∷ [])
   acceptor_ended s b r mails mail acceptor after f are by law_of is no_offer no_prepare own t = record {
     newer = s ∷ f.newer;
     are = are;
@@ -230,13 +230,13 @@ module _ (ahead : Ahead) (base : Base) (made : Command → Type 0) (grants : Gra
     requested = λ d slot c a. elim a [ inl e ↦ absurd (no_offer d slot c e) | inr o ↦ f.requested d slot c o ];
     replica = hinted_replica (s ∷ f.newer ++ before) b (record r { acceptor = acceptor }) (acceptor_replica s (f.newer ++ before) r acceptor f.replica is no_offer no_prepare);
     mails = λ m a. elim (Among-either m mails (mail ∷ []) a) [
-      | inl old ↦ grown_true ahead base made made (λ c p. p) (s ∷ []) (f.newer ++ before) m m.body (f.mails m (subst (Among m) f.sent_is old))
-      | inr (inl e) ↦ subst (λ (x : Mail). IsTrue ahead base made (s ∷ f.newer ++ before) x x.body) e t
+      | inl old ↦ grown_true ahead base made made (λ c p. p) heard heard (λ b p. p) (s ∷ []) (f.newer ++ before) m m.body (f.mails m (subst (Among m) f.sent_is old))
+      | inr (inl e) ↦ subst (λ (x : Mail). IsTrue ahead base made heard (s ∷ f.newer ++ before) x x.body) e t
       | inr (inr n) ↦ absurd n
     ];
     own = λ m a. elim (Among-either m mails (mail ∷ []) a) [
       | inl old ↦ f.own m (subst (Among m) f.sent_is old)
-      | inr (inl e) ↦ subst (λ (x : Mail). IsOwn ahead base x.body) e own
+      | inr (inl e) ↦ subst (λ (x : Mail). IsOwn ahead base heard x.body) e own
       | inr (inr n) ↦ absurd n
     ];
   }
@@ -245,7 +245,7 @@ module _ (ahead : Ahead) (base : Base) (made : Command → Type 0) (grants : Gra
 
   module _ (from : ℕ) (ballot : Ballot) (from_slot : ℕ) (r : ReplicaState) (mails : List Mail) (f : Ok (r, mails)) (replies : ArePlain mails) (asked : Among (Prepared ballot from_slot) (f.newer ++ before)) where
     abbrev After : Place → Type 0
-    After place = Ended ahead base made me before (promised_in group me ballot from_slot place.1 ++ asked_in group place.1 before) place
+    After place = Ended ahead base made heard me before (promised_in group me ballot from_slot place.1 ++ asked_in group place.1 before) place
 
     quiet : (place : Place) → Ok place → ArePlain place.1 → After place
     quiet place g e = ended_by place _ g (ap (λ (x : Steps). x ++ asked_in group place.1 before) (no_promises group me ballot from_slot place.1 e))
@@ -261,7 +261,7 @@ module _ (ahead : Ahead) (base : Base) (made : Command → Type 0) (grants : Gra
         let h = f.newer ++ before in
         let k = f.replica in
         let s : Step Command = Promised me ballot from_slot reports in
-        let named = name_is ahead base made me [] before h r k in
+        let named = name_is ahead base made heard me [] before h r k in
         let state = state_of (first ahead base) me h in
         let above = leb-false from_slot r.acceptor.floor low in
         let under = k.acceptor_is.low in
@@ -283,17 +283,17 @@ module _ (ahead : Ahead) (base : Base) (made : Command → Type 0) (grants : Gra
     unfolding promised install_to
     promised_ended =
         cond_both (nat_le from_slot r.acceptor.floor) _ _ After
-        (λ _. quiet (install_to from (r, mails)) (installed_place ahead base made me [] before from r mails f) (Each-append _ mails _ replies (tt, tt)))
+        (λ _. quiet (install_to from (r, mails)) (installed_place ahead base made heard me [] before from r mails f) (Each-append _ mails _ replies (tt, tt)))
         (λ low. cond_both (may_promise r.acceptor ballot) _ _ (λ (x : PrepareAnswer Command × AcceptorState Command). After (promise_to from ballot x (r, mails)))
         (λ may. promise_made low may)
         (λ _. (let nack : Mail = record { from = r.me; to = from; body = Nack (name_of r) r.acceptor.promised } in
-        quiet (r, mails ++ nack ∷ []) (says ahead base made me [] before r mails nack f refl (name_is ahead base made me [] before (f.newer ++ before) r f.replica) tt) (Each-append _ mails (nack ∷ []) replies (tt, tt)))))
+        quiet (r, mails ++ nack ∷ []) (says ahead base made heard me [] before r mails nack f refl (name_is ahead base made heard me [] before (f.newer ++ before) r f.replica) tt) (Each-append _ mails (nack ∷ []) replies (tt, tt)))))
 
   -- ---- Accept
 
   module _ (from : ℕ) (ballot : Ballot) (slot : ℕ) (c : Command) (r : ReplicaState) (mails : List Mail) (f : Ok (r, mails)) (replies : ArePlain mails) (offer : Among (Offered ballot slot c) (f.newer ++ before)) where
     abbrev Then : Place → Type 0
-    Then place = Ended ahead base made me before (accepted_in group me ballot slot c place.1 ++ asked_in group place.1 before) place
+    Then place = Ended ahead base made heard me before (accepted_in group me ballot slot c place.1 ++ asked_in group place.1 before) place
 
     still : (place : Place) → Ok place → ArePlain place.1 → Then place
     still place g e = ended_by place _ g (ap (λ (x : Steps). x ++ asked_in group place.1 before) (no_accepted group me ballot slot c place.1 e))
@@ -310,7 +310,7 @@ module _ (ahead : Ahead) (base : Base) (made : Command → Type 0) (grants : Gra
         let k = f.replica in
         let s : Step Command = Accepted me ballot slot c in
         let state = state_of (first ahead base) me h in
-        let named = name_is ahead base made me [] before h r k in
+        let named = name_is ahead base made heard me [] before h r k in
         let is_vote : is_accepted group ballot slot vote.body ≡ true = and_from (same_draw (name_of r) group && same_ballot ballot ballot) (eqb slot slot)
         (and_from (same_draw (name_of r) group) (same_ballot ballot ballot) (same_name (name_of r) group named) (ballot_itself ballot)) (eq-eqb slot slot refl) in
         let one : accepted_in group me ballot slot c (mails ++ vote ∷ []) ≡ s ∷ [] = cond-true (same_draw group group && list_any (λ (m : Mail). is_accepted group ballot slot m.body) (mails ++ vote ∷ [])) (s ∷ []) []
@@ -327,28 +327,28 @@ module _ (ahead : Ahead) (base : Base) (made : Command → Type 0) (grants : Gra
     unfolding took install_to
     took_ended =
         cond_both (nat_le slot r.acceptor.floor) _ _ Then
-        (λ _. still (install_to from (r, mails)) (installed_place ahead base made me [] before from r mails f) (Each-append _ mails _ replies (tt, tt)))
+        (λ _. still (install_to from (r, mails)) (installed_place ahead base made heard me [] before from r mails f) (Each-append _ mails _ replies (tt, tt)))
         (λ low. cond_both (may_accept r.acceptor ballot) _ _ (λ (x : AcceptAnswer × AcceptorState Command). Then (accepted_to from ballot slot x (r, mails)))
         (λ may. acceptance may)
         (λ _. (let nack : Mail = record { from = r.me; to = from; body = Nack (name_of r) r.acceptor.promised } in
-        still (r, mails ++ nack ∷ []) (says ahead base made me [] before r mails nack f refl (name_is ahead base made me [] before (f.newer ++ before) r f.replica) tt) (Each-append _ mails (nack ∷ []) replies (tt, tt)))))
+        still (r, mails ++ nack ∷ []) (says ahead base made heard me [] before r mails nack f refl (name_is ahead base made heard me [] before (f.newer ++ before) r f.replica) tt) (Each-append _ mails (nack ∷ []) replies (tt, tt)))))
 
   -- ---- the rows
 
   -- the end of the row of a Prepare
   pub prepare_ended : (from : ℕ) (ballot : Ballot) (from_slot : ℕ) (r : ReplicaState) → Ok (r, []) → Among (Prepared ballot from_slot) before
-      → Ended ahead base made me before (promised_in group me ballot from_slot (prepare_row from ballot from_slot (r, [])).1 ++ asked_in group (prepare_row from ballot from_slot (r, [])).1 before) (prepare_row from ballot from_slot (r, []))
+      → Ended ahead base made heard me before (promised_in group me ballot from_slot (prepare_row from ballot from_slot (r, [])).1 ++ asked_in group (prepare_row from ballot from_slot (r, [])).1 before) (prepare_row from ballot from_slot (r, []))
   unfolding prepare_row
   prepare_ended from ballot from_slot r f asked =
-      let seen = fine_saw ahead base made me [] before ballot r [] f in
+      let seen = fine_saw ahead base made heard me [] before ballot r [] f in
       let place = saw ballot (r, []) in
       promised_ended from ballot from_slot place.0 place.1 seen (saw_replies ballot r [] tt) (Among-right (Prepared ballot from_slot) seen.newer before asked)
 
   -- the end of the row of an Accept
   pub accept_ended : (from : ℕ) (ballot : Ballot) (slot : ℕ) (c : Command) (r : ReplicaState) → Ok (r, []) → Among (Offered ballot slot c) before
-      → Ended ahead base made me before (accepted_in group me ballot slot c (accept_row from ballot slot c (r, [])).1 ++ asked_in group (accept_row from ballot slot c (r, [])).1 before) (accept_row from ballot slot c (r, []))
+      → Ended ahead base made heard me before (accepted_in group me ballot slot c (accept_row from ballot slot c (r, [])).1 ++ asked_in group (accept_row from ballot slot c (r, [])).1 before) (accept_row from ballot slot c (r, []))
   unfolding accept_row
   accept_ended from ballot slot c r f offer =
-      let seen = fine_saw ahead base made me [] before ballot r [] f in
+      let seen = fine_saw ahead base made heard me [] before ballot r [] f in
       let place = saw ballot (r, []) in
       took_ended from ballot slot c place.0 place.1 seen (saw_replies ballot r [] tt) (Among-right (Offered ballot slot c) seen.newer before offer)

@@ -46,13 +46,14 @@ use Rattle.sc_players.specs.declared.roles.Role.TheVariants.{Node as ANode, Clie
 use Rattle.sc_group_law.proofs.Invariant.{Steps, rule, first, IsTrue, grown_true}
 use Rattle.sc_group_law.proofs.Frames.{node_row, steps_of}
 use Rattle.sc_group_law.proofs.Holding.{Holds, still_holds}
+use Rattle.sc_group_law.proofs.Orders.{IsPlainEvent}
 use Rattle.sc_group_law.proofs.Names.{quiet_steps, no_asked, IsNamed}
 use Rattle.sc_group_law.proofs.Nodes.{NodeEnded, unchanged, ends_as, mail_ended, order_ended}
 use Rattle.sc_group_law.proofs.Ticks.{tick_ended}
 use Rattle.sc_group_law.proofs.Voting.{ArePlain}
 use Rattle.sc_group_law.proofs.Projected.{steps-push}
 use Rattle.sc_group_law.proofs.Places.{Journal}
-use Rattle.sc_group_law.proofs.Clients.{Made, made_later, made_whole, grants, issued_now, IsAsk, HaveGrown, IsClient, Grew, later_client, client_after, client_sends}
+use Rattle.sc_group_law.proofs.Clients.{Made, MadeBy, Heard, made_later, made_whole, grants, issued_now, IsAsk, HaveGrown, IsClient, Grew, later_client, client_after, client_sends}
 use Rattle.sc_group_law.proofs.Family.{h_of, IsNodeAt, IsClientAt, replies_in, Kept, PartMoved, ClientMoved, Moved}
 use Rattle.sc_base.specs.Limits.{client_actor}
 
@@ -139,6 +140,9 @@ module _ (ahead : Ahead) (words : ℕ → ℕ → ℕ × ℕ) (scenario : Scenar
     abbrev made : Command → Type 0
     made = Made scenario rows
 
+    abbrev made_by : Base → Command → Type 0
+    made_by = MadeBy scenario rows
+
     lawful : (b : Base) → Among b bases → IsLawfulHistory (rule ahead b) (first ahead b) (h b)
     lawful b a = (k.parts b a).lawful
 
@@ -149,7 +153,7 @@ module _ (ahead : Ahead) (words : ℕ → ℕ → ℕ × ℕ) (scenario : Scenar
     some_made b a log e = some b a log (Each-weaker made LeavesWhole (made_whole scenario rows) log e)
 
     abbrev Ends : ℕ → (Base → Steps) → NodeState × List Mail → Type 0
-    Ends n after step = NodeEnded ahead bases made (grants ahead scenario rows) n h some_made lawful requested after step
+    Ends n after step = NodeEnded ahead bases made_by Heard (grants ahead scenario rows) n h some_made lawful requested after step
 
     -- a group's part of a node's row
     part_moved : (n : ℕ) (event : Event OrderLine) (step : NodeState × List Mail) (e : Ends n (λ b. steps_at b.core.id (mails rows) (node_row n event step.1) (h b)) step) (b : Base) → Among b bases
@@ -164,8 +168,8 @@ module _ (ahead : Ahead) (words : ℕ → ℕ → ℕ × ℕ) (scenario : Scenar
           are = are;
           lawful = subst (IsLawfulHistory (rule ahead b) (first ahead b)) (sym are) p.lawful_is;
           requested = λ ballot slot c o. p.requested_is ballot slot c (subst (Among (Offered ballot slot c)) are o);
-          true_sent = λ m o. subst (λ g. IsTrue ahead b (Made scenario next) g m m.body) (sym are)
-              (grown_true ahead b made (Made scenario next) (made_later scenario rows row) [] (p.newer ++ h b) m m.body (p.mails m o));
+          true_sent = λ m o. subst (λ g. IsTrue ahead b (Made scenario next) Heard g m m.body) (sym are)
+              (grown_true ahead b made (Made scenario next) (made_later scenario rows row) Heard Heard (λ body none. none) [] (p.newer ++ h b) m m.body (p.mails m o));
         }
 
     node_moved : (n : ℕ) → 1 ≤ n → n ≤ scenario.nodes → (event : Event OrderLine) (step : NodeState × List Mail)
@@ -207,8 +211,8 @@ module _ (ahead : Ahead) (words : ℕ → ℕ → ℕ × ℕ) (scenario : Scenar
               client_still rows row (λ b a. ((ended.parts b a).newer, are b a)) asks (k.clients asks stands) (ne_eqb n (client_actor asks.client) (λ e. absurd (omega (arith, e, up, high, limit)))));
         }
 
-    node_event : (n : ℕ) → 1 ≤ n → n ≤ scenario.nodes → (event : Event OrderLine) → IsOpen (system_of ahead words scenario) rows n event → M rows (row_of player_table (nseat n) rows event)
-    node_event n low high event open_ = by event open_
+    node_event : (n : ℕ) → 1 ≤ n → n ≤ scenario.nodes → (event : Event OrderLine) → IsPlainEvent event → IsOpen (system_of ahead words scenario) rows n event → M rows (row_of player_table (nseat n) rows event)
+    node_event n low high event plain open_ = by event plain open_
       where
         at : IsNodeAt ahead scenario bases route rows rows n
         at = k.nodes n low high
@@ -220,26 +224,26 @@ module _ (ahead : Ahead) (words : ℕ → ℕ → ℕ × ℕ) (scenario : Scenar
             subst (λ (sent : List Mail). M rows (node_row n e sent)) (sym (ap (λ x. x.1) all)) (node_moved n low high e step all ended)
 
         quiet : (e : Event OrderLine) → Ends n (λ b. steps_at b.core.id (mails rows) (node_row n e []) (h b)) (at.node, [])
-        quiet e = unchanged ahead bases made (grants ahead scenario rows) n h some_made lawful requested (λ b. steps_at b.core.id (mails rows) (node_row n e []) (h b)) at.node [] at.is (λ b a. steps_plain b.core.id (mails rows) n e [] (h b) tt) (λ m a. absurd a) (λ b a m o. absurd o)
+        quiet e = unchanged ahead bases made_by Heard (grants ahead scenario rows) n h some_made lawful requested (λ b. steps_at b.core.id (mails rows) (node_row n e []) (h b)) at.node [] at.is (λ b a. steps_plain b.core.id (mails rows) n e [] (h b) tt) (λ m a. absurd a) (λ b a m o. absurd o)
 
-        by : (e : Event OrderLine) → IsOpen (system_of ahead words scenario) rows n e → M rows (row_of player_table (nseat n) rows e)
-        by (Deliver number) (m, under, to) =
+        by : (e : Event OrderLine) → IsPlainEvent e → IsOpen (system_of ahead words scenario) rows n e → M rows (row_of player_table (nseat n) rows e)
+        by (Deliver number) plain (m, under, to) =
             let step = on_mail m.from m.body at.node in
             let came = number_among (mails rows) number m under.sent in
             acting (Deliver number) step (ap (λ o. acted player_table (ANode at.node) (option_map Got o)) under.sent)
-            (ends_as ahead bases made (grants ahead scenario rows) n h some_made lawful requested (λ b. steps_of b.core.id n (Deliver number) m.body step.1 (h b))
+            (ends_as ahead bases made_by Heard (grants ahead scenario rows) n h some_made lawful requested (λ b. steps_of b.core.id n (Deliver number) m.body step.1 (h b))
             (λ b. steps_at b.core.id (mails rows) (node_row n (Deliver number) step.1) (h b)) step (λ b. sym (steps_deliver b.core.id (mails rows) n number m step.1 (h b) under.sent))
-            (mail_ended ahead bases made (grants ahead scenario rows) n h some_made lawful requested (Deliver number) m at.node at.is (k.named m came) (λ b a. (k.parts b a).true_mail m came)))
-        by Tick o = acting Tick (on_tick at.node) refl (tick_ended ahead bases made (grants ahead scenario rows) n h some_made lawful requested at.node at.is)
-        by Go o = acting Go (at.node, []) refl (quiet Go)
-        by (Told order) o = acting (Told order) (on_order order at.node) refl (order_ended ahead bases made (grants ahead scenario rows) n h some_made lawful requested order at.node at.is)
-        by Crash o = acting Crash (at.node, []) refl (quiet Crash)
-        by (Drop number) o = absurd o
-        by (Again number) o = absurd o
+            (mail_ended ahead bases made_by Heard (grants ahead scenario rows) n h some_made lawful requested (Deliver number) m at.node at.is (k.named m came) (λ b a. (k.parts b a).true_mail m came)))
+        by Tick plain o = acting Tick (on_tick at.node) refl (tick_ended ahead bases made_by Heard (grants ahead scenario rows) n h some_made lawful requested at.node at.is)
+        by Go plain o = acting Go (at.node, []) refl (quiet Go)
+        by (Told order) plain o = acting (Told order) (on_order order at.node) refl (order_ended ahead bases made_by Heard (grants ahead scenario rows) n h some_made lawful requested order plain at.node at.is)
+        by Crash plain o = acting Crash (at.node, []) refl (quiet Crash)
+        by (Drop number) plain o = absurd o
+        by (Again number) plain o = absurd o
 
     -- ---- a row that takes no step
 
-    still_part : (row : Row Mail OrderLine) → ((b : Base) → steps_at b.core.id (mails rows) row (h b) ≡ h b) → ((b : Base) (m : Mail) → Among m row.sent → IsTrue ahead b (Made scenario (rows ++ row ∷ [])) (h b) m m.body)
+    still_part : (row : Row Mail OrderLine) → ((b : Base) → steps_at b.core.id (mails rows) row (h b) ≡ h b) → ((b : Base) (m : Mail) → Among m row.sent → IsTrue ahead b (Made scenario (rows ++ row ∷ [])) Heard (h b) m m.body)
         → (b : Base) → Among b bases → PartMoved ahead scenario bases route rows row b
     still_part row none sent b a =
         let next = rows ++ row ∷ [] in
@@ -250,7 +254,7 @@ module _ (ahead : Ahead) (words : ℕ → ℕ → ℕ × ℕ) (scenario : Scenar
           are = are;
           lawful = subst (IsLawfulHistory (rule ahead b) (first ahead b)) (sym are) part.lawful;
           requested = λ ballot slot c o. part.requested ballot slot c (subst (Among (Offered ballot slot c)) are o);
-          true_sent = λ m o. subst (λ g. IsTrue ahead b (Made scenario next) g m m.body) (sym are) (sent b m o);
+          true_sent = λ m o. subst (λ g. IsTrue ahead b (Made scenario next) Heard g m m.body) (sym are) (sent b m o);
         }
 
     still_node : (row : Row Mail OrderLine) → ((b : Base) → steps_at b.core.id (mails rows) row (h b) ≡ h b) → (j : ℕ) → eqb row.who j ≡ false → IsNodeAt ahead scenario bases route rows rows j
@@ -282,11 +286,11 @@ module _ (ahead : Ahead) (words : ℕ → ℕ → ℕ × ℕ) (scenario : Scenar
         ∙ or_left (eqb asks.client asks.client && eqb request.0 request.0) false (and_from (eqb asks.client asks.client) (eqb request.0 request.0) (eq-eqb asks.client asks.client refl) (eq-eqb request.0 request.0 refl)))
 
     sends_true : (asks : Asks) → Among asks scenario.clients → (event : Event OrderLine) (sent : List Mail) → (sent ≡ []) ⊎ ((g : Draw) × (target : ℕ) × (request : ℕ × Op) × IsAsk asks request × (sent ≡ request_of asks.client g target request ∷ []))
-        → (b : Base) (m : Mail) → Among m sent → IsTrue ahead b (Made scenario (rows ++ node_row (client_actor asks.client) event sent ∷ [])) (h b) m m.body
+        → (b : Base) (m : Mail) → Among m sent → IsTrue ahead b (Made scenario (rows ++ node_row (client_actor asks.client) event sent ∷ [])) Heard (h b) m m.body
     sends_true asks stands event sent (inl none) b m a = absurd (subst (Among m) none a)
     sends_true asks stands event sent (inr (g, target, request, ask, is)) b m a =
         elim (subst (Among m) is a) [
-          | inl e ↦ subst (λ (x : Mail). IsTrue ahead b (Made scenario (rows ++ node_row (client_actor asks.client) event sent ∷ [])) (h b) x x.body) e
+          | inl e ↦ subst (λ (x : Mail). IsTrue ahead b (Made scenario (rows ++ node_row (client_actor asks.client) event sent ∷ [])) Heard (h b) x x.body) e
               (issued_now scenario rows (node_row (client_actor asks.client) event sent) asks.client request.0 request.1 asks stands refl ask.0 ask.1 (issues_it asks g target request event sent is))
           | inr n ↦ absurd n
         ]
@@ -358,7 +362,7 @@ module _ (ahead : Ahead) (words : ℕ → ℕ → ℕ × ℕ) (scenario : Scenar
           ]
 
       by_input : (event : Event OrderLine) (input : Input Mail OrderLine) → acted player_table (AClient at.client) (input_of (mails rows) event) ≡ (AClient (table at.client input).0, (table at.client input).1)
-          → ((m : Mail) → input ≡ Got m → (m.to ≡ client_actor asks.client) × IsNamed bases m.body × ((b : Base) → Among b bases → IsTrue ahead b made (h b) m m.body)) → (input ≡ GoInput → (at.client.replies ≡ []) × (is_go event ≡ true))
+          → ((m : Mail) → input ≡ Got m → (m.to ≡ client_actor asks.client) × IsNamed bases m.body × ((b : Base) → Among b bases → IsTrue ahead b made Heard (h b) m m.body)) → (input ≡ GoInput → (at.client.replies ≡ []) × (is_go event ≡ true))
           → M rows (row_of player_table (cseat asks) rows event)
       by_input event input acts told went =
           let turn = sends_in_turn at.client input in
@@ -380,7 +384,7 @@ module _ (ahead : Ahead) (words : ℕ → ℕ → ℕ × ℕ) (scenario : Scenar
           (λ other e. (
           let same : m ≡ other = cc in
           let came = number_among (mails rows) number m under.sent in
-          subst (λ (x : Mail). (x.to ≡ client_actor asks.client) × IsNamed bases x.body × ((b : Base) → Among b bases → IsTrue ahead b made (h b) x x.body)) same (to, k.named m came, λ b a. (k.parts b a).true_mail m came)))
+          subst (λ (x : Mail). (x.to ≡ client_actor asks.client) × IsNamed bases x.body × ((b : Base) → Among b bases → IsTrue ahead b made Heard (h b) x x.body)) same (to, k.named m came, λ b a. (k.parts b a).true_mail m came)))
           (λ e. cc)
       client_event Tick o = by_input Tick TickInput refl (λ m e. cc) (λ e. cc)
       client_event Go o = by_input Go GoInput refl (λ m e. cc) (λ e. ((at.fresh o).0, refl))
@@ -407,8 +411,9 @@ module _ (ahead : Ahead) (words : ℕ → ℕ → ℕ × ℕ) (scenario : Scenar
   births_are : births ahead scenario ≡ map nseat (numbers_from 1 scenario.nodes) ++ map cseat scenario.clients
   births_are = ap (λ groups. map (node_seat ahead groups) (numbers_from 1 scenario.nodes) ++ client_seats groups scenario.clients) has.groups
 
-  actor_step : (rows : Journal) (row : Row Mail OrderLine) → K rows → ActorStep (system_of ahead words scenario) rows row → M rows row
-  actor_step rows row k step =
+  actor_step : (rows : Journal) (row : Row Mail OrderLine) → K rows → IsPlainEvent row.event → ActorStep (system_of ahead words scenario) rows row → M rows row
+  actor_step rows row k plain step =
+      let told = subst (λ (r : Row Mail OrderLine). IsPlainEvent r.event) step.row_is plain in
       let found = find_found (λ (other : Seat Player). eqb other.who step.seat.who) (births ahead scenario) step.seat step.born in
       let there = subst (Among step.seat) births_are found.0 in
       elim (Among-either step.seat (map nseat (numbers_from 1 scenario.nodes)) (map cseat scenario.clients) there) [
@@ -417,7 +422,7 @@ module _ (ahead : Ahead) (words : ℕ → ℕ → ℕ × ℕ) (scenario : Scenar
             let bounds = among_numbers 1 scenario.nodes from.0 from.1 in
             let is : row ≡ row_of player_table (nseat from.0) rows step.event = step.row_is ∙ ap (λ (seat : Seat Player). row_of player_table seat rows step.event) (sym from.2) in
             subst (M rows) (sym is)
-            (node_event rows k from.0 bounds.0 (omega (arith, bounds.1)) step.event (subst (λ (seat : Seat Player). IsOpen (system_of ahead words scenario) rows seat.who step.event) (sym from.2) step.open_)))
+            (node_event rows k from.0 bounds.0 (omega (arith, bounds.1)) step.event told (subst (λ (seat : Seat Player). IsOpen (system_of ahead words scenario) rows seat.who step.event) (sym from.2) step.open_)))
         | inr a ↦ (
             let from = from_map cseat scenario.clients step.seat a in
             let is : row ≡ row_of player_table (cseat from.0) rows step.event = step.row_is ∙ ap (λ (seat : Seat Player). row_of player_table seat rows step.event) (sym from.2) in
@@ -426,6 +431,6 @@ module _ (ahead : Ahead) (words : ℕ → ℕ → ℕ × ℕ) (scenario : Scenar
       ]
 
   -- each step that may come next moves what holds on
-  pub moved : (rows : Journal) (row : Row Mail OrderLine) → K rows → IsStep (system_of ahead words scenario) rows row → M rows row
-  moved rows row k (inl step) = actor_step rows row k step
-  moved rows row k (inr step) = subst (M rows) (sym step.row_is) (network_event rows k step.event)
+  pub moved : (rows : Journal) (row : Row Mail OrderLine) → K rows → IsPlainEvent row.event → IsStep (system_of ahead words scenario) rows row → M rows row
+  moved rows row k plain (inl step) = actor_step rows row k plain step
+  moved rows row k plain (inr step) = subst (M rows) (sym step.row_is) (network_event rows k step.event)

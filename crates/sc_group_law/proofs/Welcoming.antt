@@ -4,6 +4,7 @@ use Rattle.std.proofs.lemmas.Bool.{cond_both}
 use Rattle.sc_cmd.specs.declared.commands.Command.{Command}
 use Rattle.sc_cmd.specs.declared.cores.Base.{Base}
 use Rattle.sc_mail.specs.declared.bodies.Mail.{Mail}
+use Rattle.sc_mail.specs.declared.bodies.MailBody.{MailBody}
 use Rattle.sc_mail.specs.declared.bodies.MailBody.TheVariants.{Prepare, Install}
 use Rattle.sc_member.specs.Roster.{is_member}
 use Rattle.sc_machine_table.specs.Group.{base_of}
@@ -16,9 +17,9 @@ use Rattle.sc_machine_table.proofs.Parts.{group_again}
 use Rattle.sc_group_law.proofs.Invariant.{Steps, AreSets, next_after, Fine, says}
 use Rattle.sc_group_law.proofs.Sending.{name_is, prepared_all}
 
-module _ (ahead : Ahead) (base : Base) (made : Command → Type 0) (me : ℕ) (older : List Mail) (before : Steps) where
+module _ (ahead : Ahead) (base : Base) (made : Command → Type 0) (heard : MailBody → Type 0) (me : ℕ) (older : List Mail) (before : Steps) where
   abbrev Ok : Place → Type 0
-  Ok = Fine ahead base made me older before
+  Ok = Fine ahead base made heard me older before
 
   -- the state is sent
   pub installed_place : (node : ℕ) (r : ReplicaState) (mails : List Mail) → Ok (r, mails) → Ok (install_to node (r, mails))
@@ -28,7 +29,7 @@ module _ (ahead : Ahead) (base : Base) (made : Command → Type 0) (me : ℕ) (o
       let k = f.replica in
       let at = next_after ahead base made h me r k in
       let last : length k.whole ≡ next r - 1 = omega (arith, at) in
-      says ahead base made me older before r mails (record { from = r.me; to = node; body = Install (name_of r) (next r - 1) (base_of r.group) r.sets }) f refl (name_is ahead base made me older before h r k)
+      says ahead base made heard me older before r mails (record { from = r.me; to = node; body = Install (name_of r) (next r - 1) (base_of r.group) r.sets }) f refl (name_is ahead base made heard me older before h r k)
       (λ _. record {
         log = k.whole;
         is_log = k.log_is.is_log;
@@ -43,7 +44,7 @@ module _ (ahead : Ahead) (base : Base) (made : Command → Type 0) (me : ℕ) (o
   unfolding sent_all
   asked_place node r mails f runs =
       cond_both r.leader.is_first (r, mails) (r, sent r.me node (Prepare (name_of r) r.leader.ballot (next r)) mails) Ok (λ _. f)
-      (λ _. prepared_all ahead base made me older before (node ∷ []) r mails r.leader.ballot (next r) f (f.replica.leads runs).own (omega arith))
+      (λ _. prepared_all ahead base made heard me older before (node ∷ []) r mails r.leader.ballot (next r) f (f.replica.leads runs).own (omega arith))
 
   asked_same : (node : ℕ) (r : ReplicaState) (mails : List Mail) → (asked_to_promise node (r, mails)).0 ≡ r
   asked_same node r mails = cond_both {A = Place} r.leader.is_first (r, mails) (r, sent r.me node (Prepare (name_of r) r.leader.ballot (next r)) mails) (λ p. p.0 ≡ r) (λ _. refl) (λ _. refl)

@@ -6,6 +6,7 @@ use Rattle.sc_member.specs.Roster.{IsRoster}
 use Rattle.sc_base.specs.Among.{Among, Each}
 use Rattle.sc_scenario.specs.declared.scenarios.Asks.{Asks}
 use Rattle.sc_scenario.specs.declared.scenarios.Scenario.{Scenario}
+use Rattle.sc_group_law.specs.Orders.{TellsOfMembers}
 
 -- a group that starts with one to nine members, and no pairs
 pub record StartsEmpty (base : Base) : Type 0 where
@@ -18,11 +19,12 @@ abbrev pub AreApart : List Base → Type 0
 AreApart [] = Unit {0}
 AreApart (base ∷ bases) = Each (λ other. other.core.id ≡ base.core.id → ⊥) bases × AreApart bases
 
--- a scenario of these groups, under names of their own; nodes are numbered up to 32, and clients from 1, each once
+-- a scenario of these groups, under names of their own; its orders are to join and leave; nodes are numbered up to 32, and clients from 1, each once
 pub record HasGroups (scenario : Scenario) (base : Base) (others : List Base) : Type 0 where
   pub groups : scenario.groups ≡ base ∷ others
   pub empty : (other : Base) → Among other (base ∷ others) → StartsEmpty other
   pub apart : AreApart (base ∷ others)
+  pub orders : Each TellsOfMembers scenario.lines
   pub nodes : scenario.nodes ≤ most_nodes
   pub numbered : Each (λ asks. 1 ≤ asks.client) scenario.clients
   pub once : (one other : Asks) → Among one scenario.clients → Among other scenario.clients → one.client ≡ other.client → one ≡ other

@@ -34,7 +34,7 @@ some_group : (one other : Group) → Some one ≡ Some other → one ≡ other
 some_group one other e = cc
 
 -- what is found first stays first
-found_left : (name : Draw) (groups more : List Group) (group : Group) → named_group name groups ≡ Some group → named_group name (groups ++ more) ≡ Some group
+pub found_left : (name : Draw) (groups more : List Group) (group : Group) → named_group name groups ≡ Some group → named_group name (groups ++ more) ≡ Some group
 found_left name [] more group e = absurd (none_group group e)
 found_left name (g ∷ groups) more group e =
     elim (cases_Bool (is_named name g)) [

@@ -4,6 +4,7 @@
 #![tactic(auto)]
 
 ghost use Rattle.sc_hist_law.specs.Example.{ExampleOfEntries, ExampleOfMoves};
+ghost use Rattle.sc_hist_law.specs.Fronts.{FrontsAnswerByHistory, LogsMakeStates};
 ghost use Rattle.sc_hist_law.specs.Laws.{LogsTellHistories};
 ghost use Rattle.sc_hist_law.specs.Moves.{MovesKeepHistories, MovesTellHistories};
 ghost use Rattle.sc_hist_law.specs.PlanMoves.{PlansAreMoves};
@@ -45,6 +46,14 @@ pub fn entries_that_move_tell_a_legal_history()
 /// of its groups by the machine's table is a move of what they hold.
 pub fn plans_are_moves()
     ensures { PlansAreMoves }
+{}
+
+/// Whatever the entries are, each group is after them as its own log makes it. So where the notes of
+/// all logs stay in the history, a replica that lags, and answers by what a front of its group's
+/// log made it note, answers by the history of all.
+pub fn fronts_of_logs_answer_by_history()
+    ensures states { LogsMakeStates }
+    ensures fronts { FrontsAnswerByHistory }
 {}
 
 /// A group is divided, serves a put and gives its key to the child, which serves a get: moves that

@@ -6,15 +6,15 @@ use sc_group_law::{
 };
 use sc_hist_law::{
     an_example_of_entries, an_example_of_moves, entries_that_move_tell_a_legal_history,
-    logs_tell_histories, moves_tell_histories, plans_are_moves, quiet_entries_tell_a_legal_history,
-    told_entries_tell_a_legal_history,
+    fronts_of_logs_answer_by_history, logs_tell_histories, moves_tell_histories, plans_are_moves,
+    quiet_entries_tell_a_legal_history, told_entries_tell_a_legal_history,
 };
 use sc_paxos_law::{
     a_lawful_history, acceptors_are_lawful, leaders_are_lawful, one_log, one_value_per_slot,
 };
 use sc_sound_law::{
-    an_election_is_sound, lone_journals_are_sound, several_journals_are_sound,
-    valid_scenarios_have_a_lone_group,
+    a_journal_of_two_groups, an_election_is_sound, lone_journals_are_sound,
+    several_journals_are_sound, valid_scenarios_have_a_lone_group,
 };
 
 #[test]
@@ -38,6 +38,7 @@ fn the_laws_of_what_groups_hold_are_called() {
     quiet_entries_tell_a_legal_history();
     entries_that_move_tell_a_legal_history();
     told_entries_tell_a_legal_history();
+    fronts_of_logs_answer_by_history();
     an_example_of_moves();
     an_example_of_entries();
 }
@@ -53,6 +54,7 @@ fn the_laws_of_one_group_are_called() {
 #[test]
 fn the_laws_of_several_groups_are_called() {
     several_journals_are_sound();
+    a_journal_of_two_groups();
     lone_journals_are_sound();
     valid_scenarios_have_a_lone_group();
     an_election_is_sound();

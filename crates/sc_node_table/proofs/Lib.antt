@@ -1,4 +1,5 @@
 mod Runs
+mod TransactionRuns
 pub mod Frames
 pub mod SamenessLemmas
 pub mod MemberRuns

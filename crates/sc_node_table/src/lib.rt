@@ -5,7 +5,7 @@
 ghost use Rattle.sc_node_table.specs.Pump.{StaysSettled};
 ghost use Rattle.sc_node_table.specs.Sameness.{TellsCommands};
 
-use sc_cmd::OrderLine;
+use sc_cmd::{Link, OrderLine};
 use sc_mail::Mail;
 
 /// How many slots of a log are open at a time: each is decided by the members of the state so many
@@ -25,6 +25,21 @@ pub enum ReplicaInput {
     Got(Mail),
     Tick,
     Told(OrderLine),
+}
+
+/// A group before an entry, as far as the mails by the entry's effect need it.
+#[derive(Clone, Copy)]
+pub struct Before {
+    /// Whether it is its own successor.
+    pub alone: bool,
+    pub succ: Link,
+    /// The order of the transaction that it coordinates; 0 where a policy made it, and where it
+    /// coordinates none.
+    pub order: u32,
+    /// Whether that is a merge.
+    pub merges: bool,
+    /// The node that brought the participant's vote, and the group behind that participant.
+    pub heard: Option<(u16, Link)>,
 }
 
 /// Two commands are the same by the table's test exactly where they are equal.

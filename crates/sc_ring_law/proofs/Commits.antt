@@ -1,7 +1,6 @@
 -- A commit changes the view as its body says.
-use Rattle.std.specs.Prelude.{not, ◌&&◌, ◌++◌, nat_le, nat_lt, ◌==◌, length}
-use Rattle.std.proofs.Common.{◌≡◌, ℕ, ◌+◌, ◌^◌, ◌<◌, ◌≤◌, Bool, true, false, cond, eqb, List, [], ◌∷◌, ◌⊎◌, inl, inr, Option, Some, None, refl, sym, ◌∙◌, ap, subst}
-use Rattle.std.proofs.lemmas.Bool.{cond-true, cond-false}
+use Rattle.std.proofs.Common.{◌≡◌, ℕ, ◌+◌, ◌^◌, ◌<◌, ◌≤◌, true, ◌⊎◌, inl, inr, Option, Some, None, refl, sym, ◌∙◌, ap, subst}
+use Rattle.std.proofs.lemmas.Bool.{cond-true}
 use Rattle.sc_base.specs.Arc.{Arc, before, from, joined}
 use Rattle.sc_base.specs.Same.{same_draw}
 use Rattle.sc_base.specs.declared.names.Draw.{Draw}
@@ -16,7 +15,6 @@ use Rattle.sc_cmd.specs.declared.cores.Lock.{Lock}
 use Rattle.sc_cmd.specs.declared.cores.Lock.TheVariants.{Free, Coordinating, Promised, Watching}
 use Rattle.sc_cmd.specs.declared.effects.Effect.{Effect}
 use Rattle.sc_cmd.specs.declared.effects.Effect.TheVariants.{NoEffect}
-use Rattle.sc_cmd.specs.declared.links.Link.{Link}
 use Rattle.sc_cmd.specs.declared.votes.Frozen.{Frozen}
 use Rattle.sc_cmd.specs.declared.votes.Heard.{Heard}
 use Rattle.sc_cmd.specs.declared.votes.Outcome.{Outcome}
@@ -24,7 +22,6 @@ use Rattle.sc_cmd.specs.declared.votes.Outcome.TheVariants.{Abort, Merged, Moved
 use Rattle.sc_machine_table.specs.Group.{Group}
 use Rattle.sc_machine_table.specs.Finishes.{participant_after, settled_in, finished, party_freed, watcher_after}
 use Rattle.sc_machine_table.specs.Machine.{applied}
-use Rattle.sc_machine_table.specs.Plans.{frozen_of}
 use Rattle.sc_entries.specs.Births.{division_of}
 use Rattle.sc_entries.specs.Effective.{after_outcome, is_commit}
 use Rattle.sc_entries.specs.Rings.{both_arcs, decided_by}
@@ -32,7 +29,7 @@ use Rattle.sc_entries.specs.declared.Division.{Division}
 use Rattle.sc_ring_law.specs.Stories.{Story, Stories, put, unsigned, unsigned_watch, offer_for, watch_for}
 use Rattle.sc_ring_law.specs.Invariant.{Groups, LockOk, IsOwnBody, IsFrozen, IsAgreed, Facts}
 use Rattle.sc_ring_law.proofs.Names.{draw_cases}
-use Rattle.sc_ring_law.proofs.View.{Ring, View, HeldBy, Holds, merge_view, move_view, split_view, IsOnRing}
+use Rattle.sc_ring_law.proofs.View.{Ring, HeldBy, Holds, merge_view, move_view, split_view, IsOnRing}
 use Rattle.sc_ring_law.proofs.Cover.{at-same, at-is, at-other}
 use Rattle.sc_ring_law.proofs.Links.{IsPair, pair_meets}
 use Rattle.sc_ring_law.proofs.Recut.{IsWhole, merge_whole}
@@ -41,7 +38,7 @@ use Rattle.sc_ring_law.proofs.Rows.{some_none}
 use Rattle.sc_ring_law.proofs.Ends.{own_story}
 use Rattle.sc_ring_law.proofs.Effects.{decisions, outcome_of, settle_by, living, eff, arc_of, succ_of, pred_of, view_of, IsInside, AllInside, Good, Agrees, whole_agree, inside_same, Old, eff_by, living_is, eff_free, party}
 use Rattle.sc_ring_law.proofs.Steps.{same_fun, watch_settled}
-use Rattle.sc_ring_law.proofs.Insides.{InsideOf, inside_with, outside_joined, room_of}
+use Rattle.sc_ring_law.proofs.Insides.{InsideOf, room_of}
 
 -- ---- the ring by names, after a decision
 

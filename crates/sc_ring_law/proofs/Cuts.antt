@@ -1,12 +1,11 @@
 -- Look-ups in the list of cuts, through each change of the ring.
-use Rattle.std.specs.Prelude.{map, find, ◌++◌, not}
+use Rattle.std.specs.Prelude.{find, ◌++◌, not}
 use Rattle.std.specs.List.{filter, flat_map}
 use Rattle.std.specs.Option.{option_map}
-use Rattle.std.proofs.Common.{◌≡◌, ◌≢◌, ℕ, Bool, true, false, cond, List, [], ◌∷◌, ◌⊎◌, inl, inr, Option, Some, None, refl, sym, ◌∙◌, ap, subst}
+use Rattle.std.proofs.Common.{◌≡◌, ◌≢◌, true, false, cond, List, [], ◌∷◌, inl, inr, Option, Some, None, refl, sym, ◌∙◌, ap, subst}
 use Rattle.std.proofs.lemmas.Bool.{cases_Bool, cond-true, cond-false, cond_both}
 use Rattle.sc_base.specs.Among.{Among, Each}
 use Rattle.sc_base.specs.Arc.{Arc, before, from}
-use Rattle.sc_base.specs.Same.{same_draw}
 use Rattle.sc_base.specs.declared.names.Draw.{Draw}
 use Rattle.sc_base.proofs.NameLemmas.{draw_is, same_name}
 use Rattle.sc_entries.specs.declared.Cut.{Cut}

@@ -1,9 +1,8 @@
 -- What a coordinator records: votes, and giving up.
-use Rattle.std.specs.Prelude.{nat_le, not, ◌&&◌, ◌++◌, length, is_some, ◌||◌}
+use Rattle.std.specs.Prelude.{nat_le, not, ◌&&◌, length}
 use Rattle.std.specs.List.{list_any}
-use Rattle.std.proofs.Common.{◌≡◌, ℕ, ◌^◌, ◌<◌, Bool, true, false, cond, List, [], ◌∷◌, inl, inr, Option, Some, None, refl, sym, ◌∙◌, ap, subst}
+use Rattle.std.proofs.Common.{◌≡◌, ℕ, true, false, cond, [], ◌∷◌, Option, Some, None, refl, sym, ◌∙◌, ap, subst}
 use Rattle.std.proofs.lemmas.Bool.{cond_both, and_parts, cond-true, cond-false}
-use Rattle.std.specs.FinMap.{entries}
 use Rattle.sc_base.specs.Arc.{holds, before}
 use Rattle.sc_base.specs.Same.{same_draw}
 use Rattle.sc_base.specs.declared.names.Draw.{Draw}
@@ -12,9 +11,6 @@ use Rattle.sc_member.specs.Roster.{is_member}
 use Rattle.sc_member.specs.Union.{united}
 use Rattle.sc_cmd.specs.declared.bodies.Body.{Body}
 use Rattle.sc_cmd.specs.declared.bodies.Body.TheVariants as At
-use Rattle.sc_cmd.specs.declared.bodies.Offer.{Offer}
-use Rattle.sc_cmd.specs.declared.bodies.Watch.{Watch}
-use Rattle.sc_cmd.specs.declared.commands.Command.TheVariants.{RecordWatch}
 use Rattle.sc_cmd.specs.declared.cores.Lock.{Lock}
 use Rattle.sc_cmd.specs.declared.cores.Lock.TheVariants.{Free, Coordinating, Promised, Watching}
 use Rattle.sc_cmd.specs.declared.effects.Effect.{Effect}
@@ -28,25 +24,24 @@ use Rattle.sc_cmd.specs.declared.votes.Past.TheVariants as Cast
 use Rattle.sc_cmd.specs.declared.votes.Vote.{Vote}
 use Rattle.sc_cmd.specs.declared.votes.Vote.TheVariants as Ballot
 use Rattle.sc_machine_table.specs.Group.{Group, group_of}
-use Rattle.sc_machine_table.specs.Plans.{Plan, can_cut, can_join, can_split, can_repart, can_migrate, has_key_of, may_merge, merged_link, merged_route, merged_group, closing_group, part_gift, giving_group, giving_plan, repart_plan, split_plan, taken, taking_group, taking_plan, migrated_group}
+use Rattle.sc_machine_table.specs.Plans.{Plan, can_cut, can_join, can_split, can_repart, can_migrate, has_key_of, may_merge, merged_route, merged_group, closing_group, part_gift, giving_group, giving_plan, repart_plan, split_plan, taken, taking_group, taking_plan, migrated_group}
 use Rattle.sc_machine_table.specs.Splits.{left_group, child_of}
-use Rattle.sc_machine_table.specs.Transactions.{decided_group, decided, aborted, committed, heard_group, granted, participant_answered, asks_watcher, vote_recorded, released, watch_answered, watch_recorded, is_coordinating, given_up}
-use Rattle.sc_machine_table.specs.Votes.{has_voted}
-use Rattle.sc_entries.specs.Births.{is_divided, division_in, division_of}
+use Rattle.sc_machine_table.specs.Transactions.{decided_group, aborted, committed, heard_group, granted, participant_answered, asks_watcher, vote_recorded, released, watch_answered, watch_recorded, is_coordinating}
+use Rattle.sc_entries.specs.Births.{is_divided, division_in}
 use Rattle.sc_entries.specs.Decisions.{outcome_in}
 use Rattle.sc_entries.specs.declared.Division.{Division}
 use Rattle.sc_ring_law.specs.Allowed.{IsVoteCast, IsWatchVoteCast}
-use Rattle.sc_ring_law.specs.Stories.{Story, Stories, put, retold, merge_watch, with_outcome, with_answer}
-use Rattle.sc_ring_law.specs.Invariant.{Groups, has_decided, has_born, IsEarned, Facts}
+use Rattle.sc_ring_law.specs.Stories.{Story, Stories, put, retold, merge_watch, with_decision, with_answer}
+use Rattle.sc_ring_law.specs.Invariant.{Groups, has_born, IsEarned, Facts}
 use Rattle.sc_ring_law.proofs.Names.{names_differ}
 use Rattle.sc_ring_law.proofs.Notes.{any_keeps, any_drops, any_new, is_vote_on}
-use Rattle.sc_ring_law.proofs.View.{Ring, Holds}
+use Rattle.sc_ring_law.proofs.View.{Ring}
 use Rattle.sc_ring_law.proofs.Cover.{at-same, at-other}
-use Rattle.sc_ring_law.proofs.Facts.{same_story, same_group}
+use Rattle.sc_ring_law.proofs.Facts.{same_story}
 use Rattle.sc_ring_law.proofs.Rows.{some_none}
 use Rattle.sc_ring_law.proofs.Ends.{own_story, hear_facts, IsDecision, decide_facts, born_facts}
-use Rattle.sc_ring_law.proofs.Effects.{decisions, living, eff, arc_of, succ_of, pred_of, pairs_of, Good, Like, like_abort, like_at, Old, whole_change, eff_by, living_is}
-use Rattle.sc_ring_law.proofs.Commits.{ring_cut, ring_out, IsDeciding, IsOwn, own_is, New, mine_old}
+use Rattle.sc_ring_law.proofs.Effects.{decisions, eff, arc_of, succ_of, pred_of, pairs_of, Good, Like, like_abort, like_at, whole_change, eff_by, living_is}
+use Rattle.sc_ring_law.proofs.Commits.{ring_cut, ring_out, IsDeciding, own_is, New}
 use Rattle.sc_ring_law.proofs.Reshapes.{Ends, merge_closing, merge_watched}
 use Rattle.sc_ring_law.proofs.Moves.{cut_is, give_commit, take_commit, migrate_commit}
 use Rattle.sc_ring_law.proofs.Splits.{divide_commit}
@@ -232,27 +227,27 @@ module _ (owner : Draw → Option Draw) (ring : Ring) (gs : Groups) (ys : Storie
   -- ---- giving up
 
   pub give_up_kept : (tx : Draw) (l : Lock) → s.core.lock ≡ l
-      → (let r = cond (is_coordinating l tx) (aborted s tx) (s, Was.NoEffect tx) in Kept owner ring (put gs g (Some r.0)) (retold ys tx (with_outcome (outcome_in r.1))))
-  give_up_kept tx Free e = idle_told owner ring gs ys g s tx (with_outcome None) (λ y. refl) k is
+      → (let r = cond (is_coordinating l tx) (aborted s tx) (s, Was.NoEffect tx) in Kept owner ring (put gs g (Some r.0)) (retold ys tx (with_decision (outcome_in r.1))))
+  give_up_kept tx Free e = idle_told owner ring gs ys g s tx (with_decision None) (λ y. refl) k is
   give_up_kept tx (Coordinating t body order heard) e =
-      cond_both (same_draw t tx) _ _ (λ (r : Group × Effect). Kept owner ring (put gs g (Some r.0)) (retold ys tx (with_outcome (outcome_in r.1))))
+      cond_both (same_draw t tx) _ _ (λ (r : Group × Effect). Kept owner ring (put gs g (Some r.0)) (retold ys tx (with_decision (outcome_in r.1))))
       (λ q. (let o = mine_open tx body order heard (coord_tx s.core.lock t tx body order heard e q) in
-      subst (λ z. Kept owner ring (put gs g (Some (decided_group s tx Abort))) z) (sym (told_at ys tx (with_outcome (Some Abort)) o.story o.deciding.there)) (abort_kept tx body heard o)))
-      (λ q. idle_told owner ring gs ys g s tx (with_outcome None) (λ y. refl) k is)
-  give_up_kept tx (Promised t offer) e = idle_told owner ring gs ys g s tx (with_outcome None) (λ y. refl) k is
-  give_up_kept tx (Watching t watch) e = idle_told owner ring gs ys g s tx (with_outcome None) (λ y. refl) k is
+      subst (λ z. Kept owner ring (put gs g (Some (decided_group s tx Abort))) z) (sym (told_at ys tx (with_decision (Some Abort)) o.story o.deciding.there)) (abort_kept tx body heard o)))
+      (λ q. idle_told owner ring gs ys g s tx (with_decision None) (λ y. refl) k is)
+  give_up_kept tx (Promised t offer) e = idle_told owner ring gs ys g s tx (with_decision None) (λ y. refl) k is
+  give_up_kept tx (Watching t watch) e = idle_told owner ring gs ys g s tx (with_decision None) (λ y. refl) k is
 
   -- ---- the watcher's vote is recorded
 
   abbrev WLands : Draw → Group × Effect → Type 0
-  WLands tx r = Kept owner (ring_cut (watch_division s r.1) (ring_out (outcome_in r.1) ring s.core.id s.core.succ.group) s.core.id) (born_too s (put gs g (Some r.0)) (watch_division s r.1)) (retold ys tx (with_outcome (outcome_in r.1)))
+  WLands tx r = Kept owner (ring_cut (watch_division s r.1) (ring_out (outcome_in r.1) ring s.core.id s.core.succ.group) s.core.id) (born_too s (put gs g (Some r.0)) (watch_division s r.1)) (retold ys tx (with_decision (outcome_in r.1)))
 
   w_idle : (tx : Draw) → WLands tx (s, Was.NoEffect tx)
-  w_idle tx = idle_told owner ring gs ys g s tx (with_outcome None) (λ y. refl) k is
+  w_idle tx = idle_told owner ring gs ys g s tx (with_decision None) (λ y. refl) k is
 
   w_abort : (tx : Draw) (body : Body) (heard : Option Heard) → (o : IsMineOpen owner gs ys g s tx body heard) → WLands tx (aborted s tx)
   w_abort tx body heard o =
-      subst (λ z. Kept owner ring (put gs g (Some (decided_group s tx Abort))) z) (sym (told_at ys tx (with_outcome (Some Abort)) o.story o.deciding.there)) (abort_kept tx body heard o)
+      subst (λ z. Kept owner ring (put gs g (Some (decided_group s tx Abort))) z) (sym (told_at ys tx (with_decision (Some Abort)) o.story o.deciding.there)) (abort_kept tx body heard o)
 
   divide_kept : (tx : Draw) (at : ℕ) (heard : Option Heard) → (o : IsMineOpen owner gs ys g s tx (At.Split at tx) heard) → o.story.watch_vote ≡ Some Cast.Yes → WLands tx (committed (split_plan s at tx) s tx)
   divide_kept tx at heard o passed =
@@ -271,7 +266,7 @@ module _ (owner : Draw → Option Draw) (ring : Ring) (gs : Groups) (ys : Storie
       let cut = cut_is s.core.arc at (and_parts (can_cut s.core.arc at) (nat_le 2 (length s.core.members)) c).0 in
       let mine : (r : Option Division) → r ≡ Some div → Kept owner (ring_cut (Some div) ring g) (put (put gs g (Some s')) tx (Some child)) ys' → Kept owner (ring_cut r ring s.core.id) (born_too s (put gs g (Some s')) r) ys' =
       λ r e z. subst (λ q. Kept owner (ring_cut q ring s.core.id) (born_too s (put gs g (Some s')) q) ys') (sym e) (subst (λ n. Kept owner (ring_cut (Some div) ring n) (put (put gs g (Some s')) tx (Some child)) ys') (sym named) z) in
-      subst (λ z. Kept owner (ring_cut (division_in s.core.lock) ring s.core.id) (born_too s (put gs g (Some s')) (division_in s.core.lock)) z) (sym (told_at ys tx (with_outcome (Some Divided)) y d.there))
+      subst (λ z. Kept owner (ring_cut (division_in s.core.lock) ring s.core.id) (born_too s (put gs g (Some s')) (division_in s.core.lock)) z) (sym (told_at ys tx (with_decision (Some Divided)) y d.there))
       (mine (division_in s.core.lock) lock (
         born_facts (put gs g (Some s')) ys' owner g tx s' child
             (decide_facts gs ys owner g s s' tx (At.Split at tx) d.order heard y Divided k.0 is d.lock d.there
@@ -300,7 +295,7 @@ module _ (owner : Draw → Option Draw) (ring : Ring) (gs : Groups) (ys : Storie
       let out : Outcome = Merged (merged_route s.core h.frozen) in
       let b = decided_group (merged_group s h.frozen) tx out in
       cond_both (may_merge s h.frozen) (Some (merged_group s h.frozen, out)) None (λ (plan : Plan). WLands tx (committed plan s tx))
-      (λ c. subst (λ z. Kept owner (ring_out (Some out) ring s.core.id s.core.succ.group) (put gs g (Some b)) z) (sym (told_at ys tx (with_outcome (Some out)) y d.there)) (
+      (λ c. subst (λ z. Kept owner (ring_out (Some out) ring s.core.id s.core.succ.group) (put gs g (Some b)) z) (sym (told_at ys tx (with_decision (Some out)) y d.there)) (
         decide_facts gs ys owner g s b tx At.Merge d.order (Some h) y out k.0 is d.lock d.there (decision_of s (merged_group s h.frozen) tx out refl refl refl (λ n q. q)) (λ na. (λ offer q. (h.frozen, v.0), λ w q. passed)),
         subst (λ n. Good (ring_out (Some out) ring n s.core.succ.group) (New gs ys g b tx (Ends y out))) (sym named) (merge_watched owner ring gs ys g s tx y h d v.0 passed v.1 named k.1),
       ))

@@ -1,5 +1,5 @@
 -- What entries do to the effective records.
-use Rattle.std.proofs.Common.{◌≡◌, ℕ, Bool, true, false, cond, List, ◌⊎◌, inl, inr, Option, Some, None, refl, sym, ◌∙◌, ap, subst}
+use Rattle.std.proofs.Common.{◌≡◌, ℕ, false, List, ◌⊎◌, inl, inr, Option, Some, None, refl, sym, ◌∙◌, ap, subst}
 use Rattle.std.specs.FinMap.{get, empty}
 use Rattle.sc_base.specs.Arc.{Arc}
 use Rattle.sc_base.specs.declared.names.Draw.{Draw}

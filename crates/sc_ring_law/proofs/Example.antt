@@ -1,34 +1,32 @@
 -- The worked lists are allowed, and what they make is computed.
-use Rattle.std.specs.Prelude.{map, nat_lt, IsTrue, ◌&&◌, not}
-use Rattle.std.proofs.Common.{◌≡◌, ◌≢◌, ℕ, ◌+◌, ◌-◌, ◌%◌, ◌^◌, ◌<◌, ◌≤◌, Bool, true, false, cond, List, [], ◌∷◌, ◌⊎◌, inl, inr, Option, Some, None, refl, sym, ◌∙◌, ap, subst, arith, eqb}
+use Rattle.std.specs.Prelude.{map, IsTrue, not}
+use Rattle.std.proofs.Common.{◌≡◌, ◌≢◌, ℕ, ◌+◌, ◌-◌, ◌%◌, ◌^◌, ◌<◌, ◌≤◌, Bool, true, false, cond, List, [], ◌∷◌, inl, inr, Option, Some, None, refl, sym, ◌∙◌, ap, subst, arith, eqb}
 use Rattle.std.proofs.lemmas.Bool.{cases_lt, eq-eqb, ltb-true, lt-ltb}
-use Rattle.std.specs.FinMap.{get, get-empty, empty, entries, entries_sorted}
+use Rattle.std.specs.FinMap.{get-empty, empty, entries, entries_sorted}
 use Rattle.std.specs.Ordering.{nat_cmp}
 use Rattle.std.specs.Cmp.Lexicographic.{slice_cmp}
 use Rattle.sc_base.specs.Among.{Among}
-use Rattle.sc_base.specs.Arc.{Arc, IsArc, holds, offset}
+use Rattle.sc_base.specs.Arc.{IsArc, holds, offset}
 use Rattle.sc_base.specs.declared.names.Draw.{Draw}
 use Rattle.sc_base.specs.declared.ops.Noted.{Noted}
 use Rattle.sc_cmd.specs.declared.bodies.Body.TheVariants as At
-use Rattle.sc_cmd.specs.declared.commands.Command.{Command}
 use Rattle.sc_cmd.specs.declared.commands.Command.TheVariants.{Call, Begin, Prepared, RecordVote, Finish, Watched, RecordWatch}
-use Rattle.sc_cmd.specs.declared.cores.Base.{Base}
 use Rattle.sc_cmd.specs.declared.effects.Effect.{Effect}
 use Rattle.sc_cmd.specs.declared.votes.Past.TheVariants as Cast
 use Rattle.sc_cmd.specs.declared.votes.Vote.TheVariants as Ballot
 use Rattle.sc_machine_table.specs.Group.{Group, group_of}
 use Rattle.sc_machine_table.specs.Machine.{served_by_note}
-use Rattle.sc_machine_table.specs.Plans.{has_key_of, merged_group, merged_route}
+use Rattle.sc_machine_table.specs.Plans.{has_key_of, merged_group}
 use Rattle.sc_machine_table.specs.Transactions.{begun_group, heard_group, committed}
 use Rattle.sc_machine_table.specs.Votes.{watched}
 use Rattle.sc_entries.specs.declared.Cut.{Cut}
 use Rattle.sc_entries.specs.declared.LogEntry.{LogEntry}
 use Rattle.sc_entries.specs.Rings.{Covers, first_cut}
 use Rattle.sc_entries.specs.Worlds.{with_result, first_world, world_of, world_after}
-use Rattle.sc_ring_law.specs.Allowed.{Sources, AreAllowed, ToldWorld, first_told, told_on, told_after}
+use Rattle.sc_ring_law.specs.Allowed.{AreAllowed, ToldWorld, first_told, told_on, told_after}
 use Rattle.sc_ring_law.specs.Stories.{no_stories, stories_after}
-use Rattle.sc_ring_law.specs.Laws.{IsStart, IsFirst}
-use Rattle.sc_ring_law.specs.Example.{named, entry, cut, sources, put_a, put_x, get_a, one, two, three, merge_bases, two_called, two_frozen, merge_offer, merge_watch_asked, merge_outcome, merge_entries, left, right, split_bases, split_entries, MergeIsAllowed, SplitIsAllowed}
+use Rattle.sc_ring_law.specs.Laws.{BeginInPlace, BeginsInPlace}
+use Rattle.sc_ring_law.specs.Example.{drawn, told_entry, ring_cut_of, sources, merge_put, watcher_put, merge_get, group_one, group_two, group_three, merge_bases, two_called, two_frozen, merge_offer, merge_watch_asked, merge_outcome, merge_entries, split_left, split_right, split_bases, split_entries, MergeIsAllowed, SplitIsAllowed}
 use Rattle.sc_ring_law.proofs.Finds.{all_pairs}
 use Rattle.sc_ring_law.proofs.Insides.{clear_of}
 use Rattle.sc_ring_law.proofs.Rings.{AreApart}
@@ -107,17 +105,17 @@ span c a b = record { least = a; fits = b }
 
 -- ---- the merge
 
-merge_start : IsStart sources merge_bases
+merge_start : BeginInPlace sources merge_bases
 merge_start = record {
   covers = row_covers (map first_cut merge_bases)
-      (refl, span (first_cut one) (omega arith) (omega arith), (refl, span (first_cut two) (omega arith) (omega arith), (refl, span (first_cut three) (omega arith) (omega arith), refl)))
-      ((apart_by (named 0 1) (named 0 2) refl, (apart_by (named 0 1) (named 0 3) refl, tt)), ((apart_by (named 0 2) (named 0 3) refl, tt), (tt, tt)));
+      (refl, span (first_cut group_one) (omega arith) (omega arith), (refl, span (first_cut group_two) (omega arith) (omega arith), (refl, span (first_cut group_three) (omega arith) (omega arith), refl)))
+      ((apart_by (drawn 0 1) (drawn 0 2) refl, (apart_by (drawn 0 1) (drawn 0 3) refl, tt)), ((apart_by (drawn 0 2) (drawn 0 3) refl, tt), (tt, tt)));
   first = λ base a. elim a [
-    | inl e ↦ subst (IsFirst sources merge_bases) e (record { between = record { succ = (two, inr (inl refl), refl, refl); pred = (three, inr (inr (inl refl)), refl, refl) }; free = refl; here = refl; empty = refl; unowned = refl })
+    | inl e ↦ subst (BeginsInPlace sources merge_bases) e (record { between = record { succ = (group_two, inr (inl refl), refl, refl); pred = (group_three, inr (inr (inl refl)), refl, refl) }; free = refl; here = refl; empty = refl; unowned = refl })
     | inr b ↦ elim b [
-      | inl e ↦ subst (IsFirst sources merge_bases) e (record { between = record { succ = (three, inr (inr (inl refl)), refl, refl); pred = (one, inl refl, refl, refl) }; free = refl; here = refl; empty = refl; unowned = refl })
+      | inl e ↦ subst (BeginsInPlace sources merge_bases) e (record { between = record { succ = (group_three, inr (inr (inl refl)), refl, refl); pred = (group_one, inl refl, refl, refl) }; free = refl; here = refl; empty = refl; unowned = refl })
       | inr c ↦ elim c [
-        | inl e ↦ subst (IsFirst sources merge_bases) e (record { between = record { succ = (one, inl refl, refl, refl); pred = (two, inr (inl refl), refl, refl) }; free = refl; here = refl; empty = refl; unowned = refl })
+        | inl e ↦ subst (BeginsInPlace sources merge_bases) e (record { between = record { succ = (group_one, inl refl, refl, refl); pred = (group_two, inr (inl refl), refl, refl) }; free = refl; here = refl; empty = refl; unowned = refl })
         | inr none ↦ absurd none
       ]
     ]
@@ -126,67 +124,67 @@ merge_start = record {
 
 -- the world after the first call, by what the table notes of the client
 abbrev called_first : Option Noted → ToldWorld
-called_first o = record { store = with_result (first_world merge_bases) (group_of two) (Call 9 1 put_a) (served_by_note o (group_of two) 9 1 put_a); stories = no_stories }
+called_first o = record { store = with_result (first_world merge_bases) (group_of group_two) (Call 9 1 merge_put) (served_by_note o (group_of group_two) 9 1 merge_put); stories = no_stories }
 
-first_is : told_on (first_told merge_bases) (entry (named 0 2) 1 (Call 9 1 put_a)) ≡ called_first None
+first_is : told_on (first_told merge_bases) (told_entry (drawn 0 2) 1 (Call 9 1 merge_put)) ≡ called_first None
 first_is = ap called_first (get-empty nat_cmp 9)
 
 -- the entries up to the watcher's vote
 abbrev to_watch : List LogEntry
 to_watch =
-    entry (named 0 1) 1 (Begin (named 1 1) At.Merge 1)
-    ∷ entry (named 0 2) 2 (Prepared (named 1 1) merge_offer)
-    ∷ entry (named 0 1) 2 (RecordVote (named 1 1) (Ballot.Yes two_frozen) 2)
-    ∷ entry (named 0 3) 1 (Watched (named 1 1) merge_watch_asked) ∷ []
+    told_entry (drawn 0 1) 1 (Begin (drawn 1 1) At.Merge 1)
+    ∷ told_entry (drawn 0 2) 2 (Prepared (drawn 1 1) merge_offer)
+    ∷ told_entry (drawn 0 1) 2 (RecordVote (drawn 1 1) (Ballot.Yes two_frozen) 2)
+    ∷ told_entry (drawn 0 3) 1 (Watched (drawn 1 1) merge_watch_asked) ∷ []
 
 abbrev watched_world : ToldWorld
 watched_world = told_after (called_first None) to_watch
 
 abbrev watcher : Group
-watcher = (watched (group_of three) (named 1 1) merge_watch_asked).0
+watcher = (watched (group_of group_three) (drawn 1 1) merge_watch_asked).0
 
 abbrev called_second : Option Noted → ToldWorld
-called_second o = record { store = with_result watched_world.store watcher (Call 8 1 put_x) (served_by_note o watcher 8 1 put_x); stories = watched_world.stories }
+called_second o = record { store = with_result watched_world.store watcher (Call 8 1 watcher_put) (served_by_note o watcher 8 1 watcher_put); stories = watched_world.stories }
 
-second_is : told_on watched_world (entry (named 0 3) 2 (Call 8 1 put_x)) ≡ called_second None
+second_is : told_on watched_world (told_entry (drawn 0 3) 2 (Call 8 1 watcher_put)) ≡ called_second None
 second_is = ap called_second (get-empty nat_cmp 8)
 
 -- the coordinator that has heard its participant
 abbrev coordinator : Group
-coordinator = heard_group (begun_group (group_of one) (named 1 1) At.Merge 1) (named 1 1) At.Merge 1 (record { frozen = two_frozen; by = 2 })
+coordinator = heard_group (begun_group (group_of group_one) (drawn 1 1) At.Merge 1) (drawn 1 1) At.Merge 1 (record { frozen = two_frozen; by = 2 })
 
 abbrev merges : Bool → Group × Effect
-merges shared = committed (cond (not shared) (Some (merged_group coordinator two_frozen, merge_outcome)) None) coordinator (named 1 1)
+merges shared = committed (cond (not shared) (Some (merged_group coordinator two_frozen, merge_outcome)) None) coordinator (drawn 1 1)
 
 abbrev merged_world : Bool → ToldWorld
 merged_world shared = record {
-  store = with_result (called_second None).store coordinator (RecordWatch (named 1 1) Cast.Yes 3) (merges shared);
-  stories = stories_after coordinator (RecordWatch (named 1 1) Cast.Yes 3) (merges shared).1 (called_second None).stories;
+  store = with_result (called_second None).store coordinator (RecordWatch (drawn 1 1) Cast.Yes 3) (merges shared);
+  stories = stories_after coordinator (RecordWatch (drawn 1 1) Cast.Yes 3) (merges shared).1 (called_second None).stories;
 }
 
 no_key : has_key_of coordinator.pairs two_frozen.pairs ≡ false
 no_key = clear_of empty (entries two_called.pairs) (entries_sorted two_called.pairs) (λ q v f. get-empty (slice_cmp nat_cmp) q)
 
-third_is : told_on (called_second None) (entry (named 0 1) 3 (RecordWatch (named 1 1) Cast.Yes 3)) ≡ merged_world false
+third_is : told_on (called_second None) (told_entry (drawn 0 1) 3 (RecordWatch (drawn 1 1) Cast.Yes 3)) ≡ merged_world false
 third_is = ap merged_world no_key
 
 -- the entries that are left after each of these
 abbrev after_third : List LogEntry
 after_third =
-    entry (named 0 2) 3 (Finish (named 1 1) merge_outcome)
-    ∷ entry (named 0 3) 3 (Finish (named 1 1) merge_outcome)
-    ∷ entry (named 0 1) 4 (Call 9 2 get_a) ∷ []
+    told_entry (drawn 0 2) 3 (Finish (drawn 1 1) merge_outcome)
+    ∷ told_entry (drawn 0 3) 3 (Finish (drawn 1 1) merge_outcome)
+    ∷ told_entry (drawn 0 1) 4 (Call 9 2 merge_get) ∷ []
 
 abbrev after_second : List LogEntry
-after_second = entry (named 0 1) 3 (RecordWatch (named 1 1) Cast.Yes 3) ∷ after_third
+after_second = told_entry (drawn 0 1) 3 (RecordWatch (drawn 1 1) Cast.Yes 3) ∷ after_third
 
 abbrev after_first : List LogEntry
 after_first =
-    entry (named 0 1) 1 (Begin (named 1 1) At.Merge 1)
-    ∷ entry (named 0 2) 2 (Prepared (named 1 1) merge_offer)
-    ∷ entry (named 0 1) 2 (RecordVote (named 1 1) (Ballot.Yes two_frozen) 2)
-    ∷ entry (named 0 3) 1 (Watched (named 1 1) merge_watch_asked)
-    ∷ entry (named 0 3) 2 (Call 8 1 put_x)
+    told_entry (drawn 0 1) 1 (Begin (drawn 1 1) At.Merge 1)
+    ∷ told_entry (drawn 0 2) 2 (Prepared (drawn 1 1) merge_offer)
+    ∷ told_entry (drawn 0 1) 2 (RecordVote (drawn 1 1) (Ballot.Yes two_frozen) 2)
+    ∷ told_entry (drawn 0 3) 1 (Watched (drawn 1 1) merge_watch_asked)
+    ∷ told_entry (drawn 0 3) 2 (Call 8 1 watcher_put)
     ∷ after_second
 
 third_allowed : AreAllowed sources (merged_world false) after_third
@@ -204,7 +202,7 @@ first_allowed = (
 merge_allowed : AreAllowed sources (first_told merge_bases) merge_entries
 merge_allowed = (refl, subst (λ w. AreAllowed sources w after_first) (sym first_is) first_allowed)
 
-merge_ring : (world_of merge_bases merge_entries).ring ≡ cut 0 1728053248 (named 0 1) ∷ cut 1728053248 2566914048 (named 0 3) ∷ []
+merge_ring : (world_of merge_bases merge_entries).ring ≡ ring_cut_of 0 1728053248 (drawn 0 1) ∷ ring_cut_of 1728053248 2566914048 (drawn 0 3) ∷ []
 merge_ring =
     ap (λ (w : ToldWorld). (world_after w.store after_first).ring) first_is
     ∙ ap (λ (w : ToldWorld). (world_after w.store after_second).ring) second_is
@@ -215,15 +213,15 @@ merge_is_allowed = record { start = merge_start; allowed = merge_allowed; after 
 
 -- ---- the split
 
-split_start : IsStart sources split_bases
+split_start : BeginInPlace sources split_bases
 split_start = record {
   covers = row_covers (map first_cut split_bases)
-      (refl, span (first_cut left) (omega arith) (omega arith), (refl, span (first_cut right) (omega arith) (omega arith), refl))
-      ((apart_by (named 0 1) (named 0 2) refl, tt), (tt, tt));
+      (refl, span (first_cut split_left) (omega arith) (omega arith), (refl, span (first_cut split_right) (omega arith) (omega arith), refl))
+      ((apart_by (drawn 0 1) (drawn 0 2) refl, tt), (tt, tt));
   first = λ base a. elim a [
-    | inl e ↦ subst (IsFirst sources split_bases) e (record { between = record { succ = (right, inr (inl refl), refl, refl); pred = (right, inr (inl refl), refl, refl) }; free = refl; here = refl; empty = refl; unowned = refl })
+    | inl e ↦ subst (BeginsInPlace sources split_bases) e (record { between = record { succ = (split_right, inr (inl refl), refl, refl); pred = (split_right, inr (inl refl), refl, refl) }; free = refl; here = refl; empty = refl; unowned = refl })
     | inr b ↦ elim b [
-      | inl e ↦ subst (IsFirst sources split_bases) e (record { between = record { succ = (left, inl refl, refl, refl); pred = (left, inl refl, refl, refl) }; free = refl; here = refl; empty = refl; unowned = refl })
+      | inl e ↦ subst (BeginsInPlace sources split_bases) e (record { between = record { succ = (split_left, inl refl, refl, refl); pred = (split_left, inl refl, refl, refl) }; free = refl; here = refl; empty = refl; unowned = refl })
       | inr none ↦ absurd none
     ]
   ];
@@ -256,7 +254,7 @@ split_allowed = (
   ),
 )
 
-split_ring : (world_of split_bases split_entries).ring ≡ cut 0 1073741824 (named 0 1) ∷ cut 1073741824 1073741824 (named 1 2) ∷ cut 2147483648 2147483648 (named 0 2) ∷ []
+split_ring : (world_of split_bases split_entries).ring ≡ ring_cut_of 0 1073741824 (drawn 0 1) ∷ ring_cut_of 1073741824 1073741824 (drawn 1 2) ∷ ring_cut_of 2147483648 2147483648 (drawn 0 2) ∷ []
 split_ring = refl
 
 pub split_is_allowed : SplitIsAllowed

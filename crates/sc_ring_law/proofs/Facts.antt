@@ -1,8 +1,7 @@
 -- How the facts pass through a change of one group and one story.
-use Rattle.std.proofs.Common.{◌≡◌, ℕ, Bool, true, false, ◌⊎◌, inl, inr, Option, Some, None, refl, sym, ◌∙◌, ap, subst}
+use Rattle.std.proofs.Common.{◌≡◌, ℕ, true, false, ◌⊎◌, inl, inr, Option, Some, None, refl, sym, ◌∙◌, ap, subst}
 use Rattle.sc_base.specs.declared.names.Draw.{Draw}
 use Rattle.sc_cmd.specs.declared.bodies.Body.{Body}
-use Rattle.sc_cmd.specs.declared.bodies.Body.TheVariants as At
 use Rattle.sc_cmd.specs.declared.bodies.Offer.{Offer}
 use Rattle.sc_cmd.specs.declared.bodies.Watch.{Watch}
 use Rattle.sc_cmd.specs.declared.cores.Lock.{Lock}

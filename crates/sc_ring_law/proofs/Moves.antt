@@ -1,11 +1,11 @@
 -- A boundary that moves either way, and a member that moves on.
-use Rattle.std.specs.Prelude.{not, ◌&&◌, nat_le, ◌==◌, length, List, ◌∷◌, []}
-use Rattle.std.proofs.Common.{◌≡◌, ℕ, ◌+◌, ◌-◌, ◌^◌, ◌<◌, ◌≤◌, true, false, cond, eqb, inl, inr, Option, Some, None, refl, sym, ◌∙◌, ap, subst, arith}
+use Rattle.std.specs.Prelude.{not, ◌&&◌, nat_le, ◌==◌, length, ◌∷◌, []}
+use Rattle.std.proofs.Common.{◌≡◌, ℕ, ◌+◌, ◌-◌, ◌^◌, ◌<◌, ◌≤◌, true, false, inl, inr, Option, Some, None, refl, sym, ◌∙◌, ap, subst, arith}
 use Rattle.std.proofs.lemmas.Bool.{cond-true, cond-false, and_from, and_parts, not_from_false, not-true, eq-eqb, eqb-false, le-leb, ltb-true, ltb-false}
 use Rattle.std.specs.FinMap.{entries, empty}
 use Rattle.sc_base.specs.Arc.{Arc, before, from, joined, offset, end_of, holds}
 use Rattle.sc_base.specs.declared.names.Draw.{Draw}
-use Rattle.sc_ideal.specs.IdealStore.{holds_key, part_of, with_pairs}
+use Rattle.sc_ideal.specs.IdealStore.{part_of, with_pairs}
 use Rattle.sc_member.specs.Union.{united}
 use Rattle.sc_cmd.specs.declared.bodies.Body.TheVariants as At
 use Rattle.sc_cmd.specs.declared.votes.Frozen.{Frozen}
@@ -19,14 +19,14 @@ use Rattle.sc_machine_table.specs.Transactions.{decided_group}
 use Rattle.sc_ring_law.specs.Stories.{Story, Stories, put}
 use Rattle.sc_ring_law.specs.Invariant.{Groups}
 use Rattle.sc_ring_law.proofs.Names.{draw_cases}
-use Rattle.sc_ring_law.proofs.View.{Ring, IsOnRing, Holds, move_view}
+use Rattle.sc_ring_law.proofs.View.{Ring, Holds, move_view}
 use Rattle.sc_ring_law.proofs.Arcs.{end_right, right_is, left_is}
 use Rattle.sc_ring_law.proofs.Links.{IsPair, pair_meets}
 use Rattle.sc_ring_law.proofs.Recut.{IsWhole, left_whole, right_whole}
-use Rattle.sc_ring_law.proofs.Effects.{arc_of, succ_of, pred_of, pairs_of, view_of, Good, whole_agree, Old, Alike, alike_same, good_alike}
+use Rattle.sc_ring_law.proofs.Effects.{arc_of, succ_of, pred_of, pairs_of, view_of, Good, whole_agree, Old, alike_same, good_alike}
 use Rattle.sc_ring_law.proofs.Insides.{InsideOf, inside_part, inside_with, outside_joined, outside_next, no_shared, room_of, from_first, before_second, from_second}
-use Rattle.sc_ring_law.proofs.Commits.{ring_move, ring_out, turned, IsDeciding, New, mine_old, part_eff, IsMoved, moved_agrees, moved_inside, apart_of, ring_at, both_are, same_ring}
-use Rattle.sc_ring_law.proofs.Reshapes.{Ends, IsPart, part_is, moved_commit}
+use Rattle.sc_ring_law.proofs.Commits.{ring_move, ring_out, turned, IsDeciding, New, mine_old, part_eff, moved_agrees, moved_inside, apart_of, ring_at, both_are, same_ring}
+use Rattle.sc_ring_law.proofs.Reshapes.{Ends, part_is, moved_commit}
 
 -- a place inside an arc
 pub record IsCut (arc : Arc) (at : ℕ) : Type 0 where

@@ -1,7 +1,7 @@
 -- A split that is ordered, and the end of a participant or a watcher.
-use Rattle.std.specs.Prelude.{not, ◌&&◌, ◌||◌, ◌==◌, ◌++◌, nat_le, length}
+use Rattle.std.specs.Prelude.{not, ◌&&◌, ◌||◌, ◌==◌, nat_le, length}
 use Rattle.std.specs.List.{list_any}
-use Rattle.std.proofs.Common.{◌≡◌, ℕ, ◌^◌, ◌<◌, Bool, true, false, cond, List, [], ◌∷◌, inl, inr, Option, Some, None, refl, sym, ◌∙◌, ap, subst}
+use Rattle.std.proofs.Common.{◌≡◌, ℕ, ◌^◌, ◌<◌, Bool, true, false, cond, [], ◌∷◌, inl, inr, Option, Some, None, refl, sym, ◌∙◌, ap, subst}
 use Rattle.std.proofs.lemmas.Bool.{cases_Bool, cond_both, cond-true, or_parts, not-false, eqb-false, ltb-true}
 use Rattle.sc_base.specs.Arc.{holds, offset}
 use Rattle.sc_base.specs.Same.{same_draw}
@@ -17,39 +17,35 @@ use Rattle.sc_cmd.specs.declared.cores.Core.{Core}
 use Rattle.sc_cmd.specs.declared.cores.Lock.{Lock}
 use Rattle.sc_cmd.specs.declared.cores.Lock.TheVariants.{Free, Coordinating, Promised, Watching}
 use Rattle.sc_cmd.specs.declared.effects.Effect.{Effect}
-use Rattle.sc_cmd.specs.declared.effects.Effect.TheVariants as Was
-use Rattle.sc_cmd.specs.declared.links.Route.{Route}
 use Rattle.sc_cmd.specs.declared.orders.OrderRefusal.TheVariants.{BadBoundary}
-use Rattle.sc_cmd.specs.declared.votes.Gift.{Gift}
 use Rattle.sc_cmd.specs.declared.votes.Heard.{Heard}
 use Rattle.sc_cmd.specs.declared.votes.Outcome.{Outcome}
 use Rattle.sc_cmd.specs.declared.votes.Outcome.TheVariants.{Abort, Merged, Moved, Migrated, Divided}
 use Rattle.sc_machine_table.specs.Group.{Group, group_of}
-use Rattle.sc_machine_table.specs.Finishes.{can_gain, gained_group, gained, lost_group, lost, welcomed_group, group_welcomed, moved, participant_after, settled_in, party_freed, watcher_after, watch_ended, finished}
+use Rattle.sc_machine_table.specs.Finishes.{can_gain, gained_group, lost_group, welcomed_group, participant_after, settled_in, party_freed, watcher_after, watch_ended, finished}
 use Rattle.sc_machine_table.specs.Machine.{split_group, ordered_by}
 use Rattle.sc_machine_table.specs.Orders.{is_alone, refusal_of, split_refused}
 use Rattle.sc_machine_table.specs.Plans.{can_cut, has_key_of}
 use Rattle.sc_machine_table.specs.Splits.{left_group, child_of}
 use Rattle.sc_machine_table.specs.Transactions.{begun_group}
-use Rattle.sc_machine_table.specs.Votes.{has_voted}
-use Rattle.sc_entries.specs.Births.{is_changed, division_of}
+use Rattle.sc_entries.specs.Births.{division_of}
 use Rattle.sc_entries.specs.Effective.{after_outcome, is_commit}
 use Rattle.sc_entries.specs.declared.Division.{Division}
 use Rattle.sc_ring_law.specs.Stories.{Story, Stories, put, new_story, stories_after}
-use Rattle.sc_ring_law.specs.Invariant.{Groups, LockOk, has_decided, has_born, Facts}
+use Rattle.sc_ring_law.specs.Invariant.{Groups, LockOk}
 use Rattle.sc_ring_law.proofs.Names.{names_differ}
 use Rattle.sc_ring_law.proofs.Notes.{any_keeps, any_new, ended_keeps, is_vote_on}
 use Rattle.sc_ring_law.proofs.View.{Ring}
 use Rattle.sc_ring_law.proofs.Cover.{at-same, at-other}
 use Rattle.sc_ring_law.proofs.Facts.{IsOf, same_group}
-use Rattle.sc_ring_law.proofs.Rows.{some_none, IsPlain, plain_facts}
+use Rattle.sc_ring_law.proofs.Rows.{some_none, plain_facts}
 use Rattle.sc_ring_law.proofs.Ends.{draw_new, group_none, born_facts, IsEnd, finish_facts}
 use Rattle.sc_ring_law.proofs.Effects.{decisions, outcome_of, living, eff, arc_of, succ_of, pred_of, pairs_of, Good, Alike, alike_same, like_same, Old, whole_change, eff_by, living_is}
 use Rattle.sc_ring_law.proofs.Commits.{ring_cut, promise_settled}
 use Rattle.sc_ring_law.proofs.Moves.{IsCut}
 use Rattle.sc_ring_law.proofs.Splits.{split_now}
 use Rattle.sc_ring_law.proofs.Decisions.{born_too}
-use Rattle.sc_ring_law.proofs.Steps.{Kept, idle, IsOrder, IsNew, named_cases, lock_taken, watch_settled}
+use Rattle.sc_ring_law.proofs.Steps.{Kept, idle, named_cases, lock_taken, watch_settled}
 
 -- ---- a split
 

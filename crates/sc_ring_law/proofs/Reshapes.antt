@@ -1,47 +1,35 @@
 -- The commits: merges, moved boundaries, members that move on, and splits.
-use Rattle.std.specs.Prelude.{not, ◌&&◌, ◌++◌, nat_le, nat_lt, ◌==◌, length}
-use Rattle.std.proofs.Common.{◌≡◌, ℕ, ◌+◌, ◌-◌, ◌^◌, ◌<◌, ◌≤◌, Bool, true, false, cond, eqb, List, [], ◌∷◌, ◌⊎◌, inl, inr, Option, Some, None, refl, sym, ◌∙◌, ap, subst, arith}
-use Rattle.std.proofs.lemmas.Bool.{cond-true, cond-false, and_from, and_parts, not_from_false, not-true, eq-eqb, ne_eqb, eqb-false, le-leb, ltb-true, ltb-false}
-use Rattle.std.specs.FinMap.{entries, empty}
-use Rattle.sc_base.specs.Arc.{Arc, before, from, joined, offset, end_of, holds}
+use Rattle.std.proofs.Common.{◌≡◌, true, cond, Option, Some, None, refl, sym, ◌∙◌, ap, subst}
+use Rattle.sc_base.specs.Arc.{joined}
 use Rattle.sc_base.specs.Same.{same_draw}
 use Rattle.sc_base.specs.declared.names.Draw.{Draw}
-use Rattle.sc_ideal.specs.IdealStore.{Contents, holds_key, part_of, with_pairs}
-use Rattle.sc_member.specs.Union.{united}
+use Rattle.sc_ideal.specs.IdealStore.{with_pairs}
 use Rattle.sc_cmd.specs.declared.bodies.Body.{Body}
 use Rattle.sc_cmd.specs.declared.bodies.Body.TheVariants as At
 use Rattle.sc_cmd.specs.declared.bodies.Offer.{Offer}
 use Rattle.sc_cmd.specs.declared.bodies.Watch.{Watch}
-use Rattle.sc_cmd.specs.declared.links.Link.{Link}
 use Rattle.sc_cmd.specs.declared.votes.Frozen.{Frozen}
-use Rattle.sc_cmd.specs.declared.votes.Gift.{Gift}
 use Rattle.sc_cmd.specs.declared.votes.Heard.{Heard}
 use Rattle.sc_cmd.specs.declared.votes.Outcome.{Outcome}
-use Rattle.sc_cmd.specs.declared.votes.Outcome.TheVariants.{Abort, Merged, Moved, Migrated, Divided}
+use Rattle.sc_cmd.specs.declared.votes.Outcome.TheVariants.{Merged}
 use Rattle.sc_cmd.specs.declared.votes.Past.TheVariants as Cast
 use Rattle.sc_cmd.specs.declared.votes.Vote.TheVariants as Ballot
-use Rattle.sc_machine_table.specs.Group.{Group, group_of}
-use Rattle.sc_machine_table.specs.Finishes.{can_gain, gained_group, gained, lost_group, lost, welcomed_group, group_welcomed, participant_after, settled_in, party_freed, watcher_after}
-use Rattle.sc_machine_table.specs.Orders.{is_alone}
-use Rattle.sc_machine_table.specs.Plans.{frozen_of, can_cut, can_join, has_key_of, merged_link, merged_route, merged_group, closing_group, kept_arc, part_gift, giving_group, taking_group, taken, migrated_group}
-use Rattle.sc_machine_table.specs.Splits.{left_group, child_of, right_link, left_link}
+use Rattle.sc_machine_table.specs.Group.{Group}
+use Rattle.sc_machine_table.specs.Finishes.{participant_after, settled_in, party_freed, watcher_after}
+use Rattle.sc_machine_table.specs.Plans.{merged_link, merged_route, merged_group, closing_group}
 use Rattle.sc_machine_table.specs.Transactions.{decided_group}
 use Rattle.sc_cmd.specs.declared.cores.Lock.TheVariants.{Free}
 use Rattle.sc_entries.specs.Effective.{is_commit}
-use Rattle.sc_entries.specs.Rings.{both_arcs}
 use Rattle.sc_base.proofs.NameLemmas.{draw_is}
-use Rattle.sc_ring_law.specs.Stories.{Story, Stories, put, unsigned, unsigned_watch, offer_for, offer_with, watch_for, watch_with}
-use Rattle.sc_ring_law.specs.Invariant.{Groups, IsFrozen, IsAgreed, Facts}
-use Rattle.sc_ring_law.proofs.Names.{draw_cases, other_name}
-use Rattle.sc_ring_law.proofs.View.{Ring, View, IsOnRing, Holds, HeldBy, merge_view, move_view, split_view}
-use Rattle.sc_ring_law.proofs.Arcs.{from_left, from_right, end_right, right_is, left_is}
-use Rattle.sc_ring_law.proofs.Cover.{at-same, at-is, at-other}
-use Rattle.sc_ring_law.proofs.Links.{IsPair, pair_meets, not_back}
-use Rattle.sc_ring_law.proofs.Recut.{IsWhole, split_whole, left_whole, right_whole}
+use Rattle.sc_ring_law.specs.Stories.{Story, Stories, unsigned, unsigned_watch, offer_for, offer_with, watch_for, watch_with}
+use Rattle.sc_ring_law.specs.Invariant.{Groups, IsFrozen}
+use Rattle.sc_ring_law.proofs.Names.{other_name}
+use Rattle.sc_ring_law.proofs.View.{Ring}
+use Rattle.sc_ring_law.proofs.Links.{not_back}
 use Rattle.sc_ring_law.proofs.Rows.{some_none, same_offer, same_watch}
-use Rattle.sc_ring_law.proofs.Effects.{decisions, outcome_of, living, eff, arc_of, succ_of, pred_of, view_of, IsInside, AllInside, Good, Agrees, whole_agree, inside_same, Old, eff_free, living_is, Alike, alike_same}
-use Rattle.sc_ring_law.proofs.Insides.{InsideOf, inside_part, inside_with, inside_again, outside_joined, outside_next, no_shared, room_of, holds_first, from_first, before_second, from_second}
-use Rattle.sc_ring_law.proofs.Commits.{ring_split, ring_cut, ring_merge, ring_move, ring_out, turned, IsDeciding, IsOwn, own_is, New, mine_old, mine_new, other_eff, part_eff, watch_eff, IsMerged, merged_good, IsMoved, moved_agrees, moved_inside, IsSplit, split_agrees, inside_at, apart_of, ring_at, both_are, same_ring}
+use Rattle.sc_ring_law.proofs.Effects.{living, arc_of, succ_of, view_of, Good, Old, living_is}
+use Rattle.sc_ring_law.proofs.Insides.{InsideOf, inside_with, outside_joined}
+use Rattle.sc_ring_law.proofs.Commits.{ring_out, IsDeciding, own_is, New, mine_old, mine_new, other_eff, part_eff, watch_eff, merged_good, IsMoved}
 
 -- what a story becomes when it is decided
 abbrev pub Ends : Story → Outcome → Story

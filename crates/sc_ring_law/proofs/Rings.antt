@@ -1,8 +1,7 @@
 -- The list of cuts after an entry is the ring by names after it.
-use Rattle.std.specs.Prelude.{map, find, ◌++◌, not, ◌&&◌}
+use Rattle.std.specs.Prelude.{not}
 use Rattle.std.specs.List.{filter, flat_map}
-use Rattle.std.proofs.Common.{◌≡◌, ◌≢◌, ℕ, Bool, true, false, cond, List, [], ◌∷◌, inl, inr, Option, Some, None, refl, sym, ◌∙◌, ap, subst}
-use Rattle.std.proofs.lemmas.Bool.{cases_Bool}
+use Rattle.std.proofs.Common.{◌≡◌, ◌≢◌, ℕ, cond, List, Option, Some, None, refl, ◌∙◌, ap}
 use Rattle.sc_base.specs.Arc.{Arc, before, from, joined}
 use Rattle.sc_base.specs.declared.names.Draw.{Draw}
 use Rattle.sc_cmd.specs.declared.commands.Command.{Command}

@@ -1,22 +1,18 @@
 -- Each kind of entry keeps the facts.
-use Rattle.std.specs.Prelude.{◌++◌, ◌+◌}
-use Rattle.std.proofs.Common.{◌≡◌, ℕ, Bool, true, false, List, [], ◌∷◌, ◌⊎◌, inl, inr, Option, Some, None, refl, sym, ◌∙◌, ap, subst}
+use Rattle.std.specs.Prelude.{◌++◌}
+use Rattle.std.proofs.Common.{◌≡◌, ℕ, true, false, [], ◌∷◌, ◌⊎◌, inl, inr, Option, Some, None, refl, sym, ◌∙◌, ap, subst}
 use Rattle.std.proofs.lemmas.Bool.{both_ways}
-use Rattle.sc_base.specs.Same.{same_draw}
 use Rattle.sc_base.specs.declared.names.Draw.{Draw}
 use Rattle.sc_base.proofs.NameLemmas.{same_name}
 use Rattle.sc_cmd.specs.declared.bodies.Body.{Body}
 use Rattle.sc_cmd.specs.declared.bodies.Body.TheVariants as At
 use Rattle.sc_cmd.specs.declared.bodies.Offer.{Offer}
 use Rattle.sc_cmd.specs.declared.bodies.Watch.{Watch}
-use Rattle.sc_cmd.specs.declared.cores.Core.{Core}
 use Rattle.sc_cmd.specs.declared.cores.Lock.{Lock}
 use Rattle.sc_cmd.specs.declared.cores.Lock.TheVariants.{Free, Coordinating, Promised, Watching}
 use Rattle.sc_cmd.specs.declared.votes.Frozen.{Frozen}
 use Rattle.sc_cmd.specs.declared.votes.Heard.{Heard}
 use Rattle.sc_cmd.specs.declared.votes.No.{No}
-use Rattle.sc_cmd.specs.declared.votes.Outcome.{Outcome}
-use Rattle.sc_cmd.specs.declared.votes.Outcome.TheVariants.{Abort}
 use Rattle.sc_cmd.specs.declared.votes.Past.{Past}
 use Rattle.sc_cmd.specs.declared.votes.Past.TheVariants as Cast
 use Rattle.sc_cmd.specs.declared.votes.Vote.{Vote}
@@ -26,11 +22,11 @@ use Rattle.sc_machine_table.specs.Plans.{frozen_of}
 use Rattle.sc_machine_table.specs.Transactions.{begun_group}
 use Rattle.sc_machine_table.specs.Votes.{has_voted}
 use Rattle.sc_ring_law.specs.Stories.{Story, Stories, put, unsigned, unsigned_watch, offer_for, watch_for, new_story}
-use Rattle.sc_ring_law.specs.Invariant.{Groups, has_decided, has_born, IsOwnBody, IsCoordinating, LockOk, GroupOk, IsFrozen, IsAgreed, IsVoter, IsWatcher, IsEarned, StoryOk, Origin, Facts}
+use Rattle.sc_ring_law.specs.Invariant.{Groups, has_decided, has_born, IsOwnBody, LockOk, IsWatcher, StoryOk, Facts}
 use Rattle.sc_ring_law.proofs.Names.{draw_cases}
-use Rattle.sc_ring_law.proofs.Notes.{any_keeps, any_drops, any_new, is_vote_on}
+use Rattle.sc_ring_law.proofs.Notes.{any_keeps, any_new, is_vote_on}
 use Rattle.sc_ring_law.proofs.Cover.{at-same, at-is, at-other, from_at}
-use Rattle.sc_ring_law.proofs.Facts.{same_group, same_story, same_frozen, IsOf, IsCalm, Locks, keep_known, keep_there, keep_voter, keep_watcher, keep_frozen, keep_agreed, keep_none, story_keep, IsGrown, group_new, facts_change, facts_quiet, facts_told}
+use Rattle.sc_ring_law.proofs.Facts.{same_group, same_story, same_frozen, IsOf, IsCalm, keep_known, keep_there, keep_voter, keep_watcher, keep_frozen, keep_agreed, keep_none, story_keep, IsGrown, group_new, facts_change, facts_quiet, facts_told}
 
 pub no_promise : (l : Lock) (tx : Draw) (offer : Offer) → l ≡ Free → l ≡ Promised tx offer → ⊥
 no_promise l tx offer a b = let e = sym a ∙ b in cc

@@ -1,7 +1,7 @@
 -- What is read off a world that allowed entries made.
-use Rattle.std.specs.Prelude.{map, find, is_none, ◌&&◌, IsTrue, AllPairs, nat_lt}
+use Rattle.std.specs.Prelude.{is_none, ◌&&◌, IsTrue}
 use Rattle.std.specs.Option.{option_map}
-use Rattle.std.proofs.Common.{◌≡◌, ◌≢◌, ℕ, ◌^◌, ◌<◌, Bool, true, false, cond, List, [], ◌∷◌, inl, inr, Option, Some, None, refl, sym, ◌∙◌, ap, subst}
+use Rattle.std.proofs.Common.{◌≡◌, ◌≢◌, ℕ, true, false, List, [], ◌∷◌, inl, inr, Option, Some, None, refl, sym, ◌∙◌, ap, subst}
 use Rattle.std.proofs.lemmas.Bool.{and_parts, ltb-true, lt-ltb}
 use Rattle.sc_base.specs.Among.{Among}
 use Rattle.sc_base.specs.Arc.{Arc, end_of, offset, holds}
@@ -9,7 +9,6 @@ use Rattle.sc_base.specs.declared.names.Draw.{Draw}
 use Rattle.sc_ideal.specs.IdealStore.{holds_key}
 use Rattle.sc_cmd.specs.declared.commands.Command.{Command}
 use Rattle.sc_cmd.specs.declared.commands.Command.TheVariants.{Noop, Call, Join, Leave, Split, Begin, Prepared, RecordVote, GiveUp, Finish, Watched, RecordWatch}
-use Rattle.sc_cmd.specs.declared.cores.Base.{Base}
 use Rattle.sc_cmd.specs.declared.cores.Lock.{Lock}
 use Rattle.sc_cmd.specs.declared.cores.Lock.TheVariants.{Free, Coordinating, Promised, Watching}
 use Rattle.sc_cmd.specs.declared.links.Route.{Route}
@@ -19,16 +18,16 @@ use Rattle.sc_entries.specs.declared.LogEntry.{LogEntry}
 use Rattle.sc_entries.specs.declared.Transaction.{Transaction}
 use Rattle.sc_entries.specs.Effective.{after_outcome, effective_by, effective, is_open, serves}
 use Rattle.sc_entries.specs.Rings.{Covers, arc_in}
-use Rattle.sc_entries.specs.Worlds.{StoreWorld, named_group, world_after, world_of}
+use Rattle.sc_entries.specs.Worlds.{StoreWorld, named_group, world_after}
 use Rattle.sc_ring_law.specs.Allowed.{Sources, IsAllowed, AreAllowed, ToldWorld, first_told, told_on, told_after}
 use Rattle.sc_ring_law.specs.Stories.{Stories}
 use Rattle.sc_ring_law.specs.Invariant.{Facts}
-use Rattle.sc_ring_law.specs.Laws.{IsInPlace, IsRingSound, EntriesKeepTheRing, EntriesKeepThePromises, DrawsAreOfOneLog, draw_of}
-use Rattle.sc_ring_law.proofs.View.{IsOnRing, Holds, HeldBy, CoversBy}
+use Rattle.sc_ring_law.specs.Laws.{IsInPlace, IsRingSound, EntriesKeepTheRing, EntriesKeepThePromises, DrawsAreOfOneLog, draw_of, AllowedListsAppend}
+use Rattle.sc_ring_law.proofs.View.{Holds, HeldBy, CoversBy}
 use Rattle.sc_ring_law.proofs.Finds.{some_is, none_is_not, all_pairs}
 use Rattle.sc_ring_law.proofs.Cuts.{arcs_in, cut_of_arc, arc_of_cut}
 use Rattle.sc_ring_law.proofs.Rows.{IsOpen}
-use Rattle.sc_ring_law.proofs.Effects.{Decisions, decisions, settle_by, living, living_by, eff, arc_of, succ_of, pred_of, view_of, Old}
+use Rattle.sc_ring_law.proofs.Effects.{decisions, settle_by, living_by, eff, arc_of, succ_of, pred_of, view_of, Old}
 use Rattle.sc_ring_law.proofs.Steps.{same_fun, serving}
 use Rattle.sc_ring_law.proofs.Told.{groups_in, Agree, decision_is}
 use Rattle.sc_ring_law.proofs.Worlds.{KeptWorld, kept_after}
@@ -201,3 +200,7 @@ owned_among sources w (b ∷ es) k a (inr x) name e = owned_among sources (told_
 pub draws_are_of_one_log : DrawsAreOfOneLog
 draws_are_of_one_log sources bases entries k a b x y name e q =
     some_is a.group b.group (sym (owned_among sources (first_told bases) entries k a x name e) ∙ owned_among sources (first_told bases) entries k b y name q)
+
+pub allowed_lists_append : AllowedListsAppend
+allowed_lists_append sources w [] more a b = b
+allowed_lists_append sources w (e ∷ es) more a b = (a.0, allowed_lists_append sources (told_on w e) es more a.1 b)

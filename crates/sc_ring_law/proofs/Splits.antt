@@ -1,10 +1,8 @@
 -- Splits: at once, and with a watcher.
-use Rattle.std.specs.Prelude.{not, ◌&&◌, ◌++◌}
-use Rattle.std.proofs.Common.{◌≡◌, ℕ, ◌^◌, ◌<◌, Bool, true, false, cond, inl, inr, Option, Some, None, refl, sym, ◌∙◌, ap, subst}
-use Rattle.sc_base.specs.Arc.{Arc, before, from}
-use Rattle.sc_base.specs.Same.{same_draw}
+use Rattle.std.proofs.Common.{◌≡◌, ℕ, ◌^◌, ◌<◌, Bool, true, false, cond, inl, inr, Option, Some, None, refl, sym, ◌∙◌, ap}
+use Rattle.sc_base.specs.Arc.{before, from}
 use Rattle.sc_base.specs.declared.names.Draw.{Draw}
-use Rattle.sc_base.proofs.NameLemmas.{draw_is, same_name}
+use Rattle.sc_base.proofs.NameLemmas.{draw_is}
 use Rattle.sc_ideal.specs.IdealStore.{part_of}
 use Rattle.sc_cmd.specs.declared.bodies.Body.TheVariants as At
 use Rattle.sc_cmd.specs.declared.bodies.Watch.{Watch}
@@ -18,16 +16,15 @@ use Rattle.sc_machine_table.specs.Finishes.{party_freed, watcher_after}
 use Rattle.sc_machine_table.specs.Orders.{is_alone}
 use Rattle.sc_machine_table.specs.Splits.{left_group, child_of, left_link, right_link}
 use Rattle.sc_machine_table.specs.Transactions.{decided_group}
-use Rattle.sc_entries.specs.declared.Division.{Division}
 use Rattle.sc_ring_law.specs.Stories.{Story, Stories, put, unsigned, unsigned_watch, watch_with}
 use Rattle.sc_ring_law.specs.Invariant.{Groups}
 use Rattle.sc_ring_law.proofs.Names.{draw_cases, other_name}
 use Rattle.sc_ring_law.proofs.View.{Ring, Holds, split_view}
-use Rattle.sc_ring_law.proofs.Cover.{at-same, at-is, at-other}
+use Rattle.sc_ring_law.proofs.Cover.{at-same, at-other}
 use Rattle.sc_ring_law.proofs.Recut.{split_whole}
 use Rattle.sc_ring_law.proofs.Rows.{some_none, same_watch}
-use Rattle.sc_ring_law.proofs.Effects.{decisions, eff, arc_of, view_of, IsInside, Good, whole_agree, inside_same, Old, eff_free, living_is}
-use Rattle.sc_ring_law.proofs.Insides.{InsideOf, inside_part, inside_again}
+use Rattle.sc_ring_law.proofs.Effects.{decisions, eff, arc_of, view_of, IsInside, Good, whole_agree, inside_same, Old, eff_free}
+use Rattle.sc_ring_law.proofs.Insides.{inside_part, inside_again}
 use Rattle.sc_ring_law.proofs.Commits.{ring_split, IsDeciding, own_is, New, mine_old, mine_new, other_eff, watch_eff, IsSplit, split_agrees, inside_at, ring_at, same_ring}
 use Rattle.sc_ring_law.proofs.Reshapes.{Ends}
 

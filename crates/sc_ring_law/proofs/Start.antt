@@ -1,32 +1,30 @@
 -- The groups of a scenario are such a world.
-use Rattle.std.specs.Prelude.{map, find, ◌++◌}
+use Rattle.std.specs.Prelude.{map}
 use Rattle.std.specs.Option.{option_map}
-use Rattle.std.proofs.Common.{◌≡◌, ◌≢◌, ℕ, ◌+◌, ◌-◌, ◌%◌, ◌^◌, ◌<◌, ◌≤◌, Bool, true, false, cond, List, [], ◌∷◌, inl, inr, Option, Some, None, refl, sym, ◌∙◌, ap, subst, arith}
+use Rattle.std.proofs.Common.{◌≡◌, ◌≢◌, ℕ, ◌+◌, ◌-◌, ◌%◌, ◌^◌, ◌<◌, ◌≤◌, List, [], ◌∷◌, inl, inr, Option, Some, None, refl, sym, ◌∙◌, ap, subst, arith}
 use Rattle.std.proofs.lemmas.Bool.{cases_Bool, ltb-true, lt-ltb}
 use Rattle.std.specs.FinMap.{empty, get, get-empty}
 use Rattle.std.specs.Ordering.{nat_cmp}
 use Rattle.std.specs.Cmp.Lexicographic.{slice_cmp}
-use Rattle.sc_base.specs.Among.{Among, Each}
-use Rattle.sc_base.specs.Arc.{Arc, end_of, offset, holds}
+use Rattle.sc_base.specs.Among.{Among}
+use Rattle.sc_base.specs.Arc.{Arc, end_of, offset}
 use Rattle.sc_base.specs.Same.{same_draw}
 use Rattle.sc_base.specs.declared.names.Draw.{Draw}
 use Rattle.sc_base.proofs.NameLemmas.{same_name}
 use Rattle.sc_ideal.specs.IdealStore.{with_pairs}
 use Rattle.sc_cmd.specs.declared.cores.Base.{Base}
-use Rattle.sc_cmd.specs.declared.cores.Lock.TheVariants.{Free}
 use Rattle.sc_machine_table.specs.Group.{Group, group_of}
 use Rattle.sc_entries.specs.declared.Cut.{Cut}
 use Rattle.sc_entries.specs.Rings.{Covers, is_cut_of, arc_in, first_cut}
 use Rattle.sc_entries.specs.Worlds.{is_named, named_group}
 use Rattle.sc_ring_law.specs.Allowed.{Sources, first_told}
-use Rattle.sc_ring_law.specs.Stories.{Story, no_stories}
+use Rattle.sc_ring_law.specs.Stories.{no_stories}
 use Rattle.sc_ring_law.specs.Invariant.{Groups, LockOk, Facts}
-use Rattle.sc_ring_law.specs.Laws.{IsStart, IsFirst}
+use Rattle.sc_ring_law.specs.Laws.{BeginInPlace, BeginsInPlace}
 use Rattle.sc_ring_law.proofs.Names.{other_name}
 use Rattle.sc_ring_law.proofs.View.{IsOnRing, Holds, HeldBy, Ring, CoversBy, View, IsLinked}
 use Rattle.sc_ring_law.proofs.Finds.{some_is, none_is_not, find_first, find_skips, find_there, among_map, map_among, each_among, each_from, Pairwise, pairwise_from}
-use Rattle.sc_ring_law.proofs.Cuts.{arcs_in, HasCut, cut_of_arc, arc_of_cut}
-use Rattle.sc_ring_law.proofs.Rows.{some_none}
+use Rattle.sc_ring_law.proofs.Cuts.{arcs_in, cut_of_arc, arc_of_cut}
 use Rattle.sc_ring_law.proofs.Effects.{decisions, eff, arc_of, succ_of, pred_of, view_of, IsInside, Good, Old, eff_free}
 use Rattle.sc_ring_law.proofs.Insides.{holds_first}
 use Rattle.sc_ring_law.proofs.Told.{groups_in, group_named}
@@ -122,7 +120,7 @@ arc_some (Some u) a e = (u, refl, some_is u.core.arc a e)
 
 -- ---- the start
 
-module _ (sources : Sources) (bases : List Base) (start : IsStart sources bases) where
+module _ (sources : Sources) (bases : List Base) (start : BeginInPlace sources bases) where
   abbrev ring : List Cut
   ring = map first_cut bases
 
@@ -136,7 +134,7 @@ module _ (sources : Sources) (bases : List Base) (start : IsStart sources bases)
   ids = pairwise_back bases apart
 
   -- what a group that is found is
-  is_first : (h : Draw) (u : Group) → gs h ≡ Some u → (k : IsBase bases u) × IsFirst sources bases k.base
+  is_first : (h : Draw) (u : Group) → gs h ≡ Some u → (k : IsBase bases u) × BeginsInPlace sources bases k.base
   is_first h u e = let k = found_base bases h u e in (k, start.first k.base k.there)
 
   same_eff : (h : Draw) (o : Option Group) → gs h ≡ o → eff (decisions no_stories) o ≡ o

@@ -1,9 +1,8 @@
 -- Calls, orders and votes keep the facts and the view.
-use Rattle.std.specs.Prelude.{nat_lt, nat_le, not, ◌&&◌, ◌||◌, ◌==◌, ◌++◌, length, is_some}
-use Rattle.std.proofs.Common.{◌≡◌, ℕ, ◌^◌, ◌<◌, Bool, true, false, cond, List, [], ◌∷◌, ◌⊎◌, inl, inr, Option, Some, None, refl, sym, ◌∙◌, ap, subst}
+use Rattle.std.specs.Prelude.{nat_lt, nat_le, not, ◌&&◌, ◌||◌, ◌==◌, ◌++◌, length}
+use Rattle.std.proofs.Common.{◌≡◌, ℕ, Bool, true, false, cond, List, [], ◌∷◌, inl, inr, Option, Some, None, refl, sym, ◌∙◌, ap, subst}
 use Rattle.std.proofs.lemmas.Bool.{cases_Bool, cond_both, or_parts, not_from_true, not_from_false, cond-true, cond-false}
 use Rattle.std.specs.Option.{option_map}
-use Rattle.std.specs.List.{list_any}
 use Rattle.std.specs.FinMap.{get, retain_keys}
 use Rattle.sc_base.specs.Same.{same_draw}
 use Rattle.sc_base.specs.Arc.{Arc}
@@ -18,7 +17,7 @@ use Rattle.sc_cmd.specs.declared.bodies.Body.TheVariants as At
 use Rattle.sc_cmd.specs.declared.bodies.Offer.{Offer}
 use Rattle.sc_cmd.specs.declared.bodies.Watch.{Watch}
 use Rattle.sc_cmd.specs.declared.commands.Command.{Command}
-use Rattle.sc_cmd.specs.declared.commands.Command.TheVariants.{Join, Leave, Split, Begin, Finish}
+use Rattle.sc_cmd.specs.declared.commands.Command.TheVariants.{Join, Leave, Begin, Finish}
 use Rattle.sc_cmd.specs.declared.cores.Core.{Core}
 use Rattle.sc_cmd.specs.declared.cores.Lock.{Lock}
 use Rattle.sc_cmd.specs.declared.cores.Lock.TheVariants.{Free, Coordinating, Promised, Watching}
@@ -42,11 +41,11 @@ use Rattle.sc_machine_table.specs.Orders.{locked_in, is_alone, refused_free, ref
 use Rattle.sc_machine_table.specs.Plans.{frozen_of, can_cut, has_key_of}
 use Rattle.sc_machine_table.specs.Splits.{has_named, is_locked_in}
 use Rattle.sc_machine_table.specs.Transactions.{begun_group}
-use Rattle.sc_machine_table.specs.Votes.{has_voted, no_of, vote_of, offer_no, watch_no, watch_vote_of, past_of, bound_by, voted_on, offer_voted, watched}
+use Rattle.sc_machine_table.specs.Votes.{has_voted, no_of, vote_of, offer_no, watch_no, watch_vote_of, past_of, bound_by, offer_voted, watched}
 use Rattle.sc_entries.specs.Births.{is_changed}
 use Rattle.sc_entries.specs.Effective.{after_outcome, is_commit}
 use Rattle.sc_ring_law.specs.Allowed.{IsShared}
-use Rattle.sc_ring_law.specs.Stories.{Story, Stories, put, retold, new_story, unsigned, unsigned_watch, vote_by, vote_in, watch_vote_in, with_vote, with_watch_vote, stories_after}
+use Rattle.sc_ring_law.specs.Stories.{Story, Stories, put, retold, new_story, unsigned, unsigned_watch, vote_in, watch_vote_in, with_vote, with_watch_vote, stories_after}
 use Rattle.sc_ring_law.specs.Invariant.{Groups, has_decided, has_born, IsOwnBody, Facts}
 use Rattle.sc_ring_law.proofs.Names.{draw_cases, names_differ}
 use Rattle.sc_ring_law.proofs.View.{Ring}
@@ -55,7 +54,7 @@ use Rattle.sc_base.proofs.NameLemmas.{same_name}
 use Rattle.sc_ring_law.proofs.Facts.{same_group}
 use Rattle.sc_ring_law.proofs.Rows.{some_none, IsPlain, IsOpen, plain_facts, begin_facts, Votes, yes_facts, no_facts, agree_facts, deny_facts, unheard, not_passed}
 use Rattle.sc_ring_law.proofs.Ends.{draw_new}
-use Rattle.sc_ring_law.proofs.Effects.{Decisions, decisions, outcome_of, settle_by, living, living_by, eff, view_of, arc_of, succ_of, pred_of, pairs_of, IsInside, inside_same, Good, Agrees, whole_agree, Alike, alike_same, Like, eff_like, like_same, like_at, Old, whole_change, eff_by, living_is, eff_free, no_commit}
+use Rattle.sc_ring_law.proofs.Effects.{Decisions, decisions, outcome_of, settle_by, living, living_by, eff, view_of, arc_of, succ_of, pred_of, pairs_of, IsInside, inside_same, Good, Agrees, whole_agree, Alike, Like, eff_like, like_same, like_at, Old, whole_change, eff_by, living_is, eff_free, no_commit}
 
 -- the facts of all groups and stories, and the view of the effective records
 abbrev pub Kept : (Draw → Option Draw) → Ring → Groups → Stories → Type 0

@@ -1,10 +1,10 @@
 -- Groups and transactions in their lists, after an entry.
-use Rattle.std.specs.Prelude.{map, find, ◌++◌, ◌&&◌}
+use Rattle.std.specs.Prelude.{map, ◌++◌}
 use Rattle.std.specs.Option.{option_map, option_and_then, option_or, option_to_list}
-use Rattle.std.proofs.Common.{◌≡◌, ℕ, Bool, true, false, cond, List, [], ◌∷◌, ◌⊎◌, inl, inr, Option, Some, None, refl, sym, ◌∙◌, ap, subst}
+use Rattle.std.proofs.Common.{◌≡◌, Bool, true, false, cond, List, [], ◌∷◌, ◌⊎◌, inl, inr, Option, Some, None, refl, sym, ◌∙◌, ap}
 use Rattle.std.proofs.lemmas.Bool.{cases_Bool, cond-true, cond-false, cond_both, and_from, and_left}
 use Rattle.std.proofs.lemmas.List.Folds.{find-append}
-use Rattle.sc_base.specs.Among.{Among, Each}
+use Rattle.sc_base.specs.Among.{Among}
 use Rattle.sc_base.specs.Same.{same_draw}
 use Rattle.sc_base.specs.declared.names.Draw.{Draw}
 use Rattle.sc_base.proofs.NameLemmas.{draw_is, same_name}
@@ -14,12 +14,11 @@ use Rattle.sc_machine_table.specs.Group.{Group, group_of}
 use Rattle.sc_entries.specs.declared.Transaction.{Transaction}
 use Rattle.sc_entries.specs.Decisions.{is_of, amended, concluded, with_outcome as concludes, with_watcher, transaction_in, decision}
 use Rattle.sc_entries.specs.Worlds.{is_named, named_group, with_group, groups_after}
-use Rattle.sc_ring_law.specs.Stories.{Story, Stories, put, retold, with_outcome}
+use Rattle.sc_ring_law.specs.Stories.{Story, Stories, put, retold, with_decision}
 use Rattle.sc_ring_law.specs.Invariant.{Groups}
 use Rattle.sc_ring_law.proofs.Names.{draw_cases, other_name}
 use Rattle.sc_ring_law.proofs.Cover.{at-same, at-is, at-other}
 use Rattle.sc_ring_law.proofs.Effects.{outcome_of}
-use Rattle.sc_ring_law.proofs.Facts.{same_group}
 use Rattle.sc_ring_law.proofs.Finds.{some_is, none_is_not, find_map, find_passes, among_map, among_append}
 
 -- ---- groups
@@ -233,14 +232,14 @@ agree_watcher ts ys tx c watcher told agree same =
     agree_amended ts ys tx c (with_watcher watcher) (λ t. refl) told agree (λ t y named is b. watcher_brief tx c watcher t ∙ b ∙ sym (same y))
 
 -- an outcome, of the group that coordinates
-pub agree_decided : (ts : List Transaction) (ys : Stories) (tx c : Draw) (o : Outcome) → Agree ts ys → ((y : Story) → ys tx ≡ Some y → y.coordinator ≡ c) → Agree (amended tx c (concludes (Some o)) ts) (retold ys tx (with_outcome (Some o)))
+pub agree_decided : (ts : List Transaction) (ys : Stories) (tx c : Draw) (o : Outcome) → Agree ts ys → ((y : Story) → ys tx ≡ Some y → y.coordinator ≡ c) → Agree (amended tx c (concludes (Some o)) ts) (retold ys tx (with_decision (Some o)))
 agree_decided ts ys tx c o agree coord =
-    agree_amended ts ys tx c (concludes (Some o)) (λ t. refl) (with_outcome (Some o)) agree
+    agree_amended ts ys tx c (concludes (Some o)) (λ t. refl) (with_decision (Some o)) agree
     (λ t y named is b. (
     let mine : t.coordinator ≡ c = ap (λ (x : Draw × Option Outcome). x.0) b ∙ coord y is in
     ap brief (cond-true (is_of tx c t) (concludes (Some o) t) t (and_from (same_draw t.tx tx) (same_draw t.coordinator c) (same_name t.tx tx named) (same_name t.coordinator c mine)))
     ∙ ap (λ n. (n, Some o)) (ap (λ (x : Draw × Option Outcome). x.0) b)))
 
-pub agree_concluded : (ts : List Transaction) (ys : Stories) (tx c : Draw) (o : Option Outcome) → Agree ts ys → ((x : Outcome) → o ≡ Some x → (y : Story) → ys tx ≡ Some y → y.coordinator ≡ c) → Agree (concluded o tx c ts) (retold ys tx (with_outcome o))
-agree_concluded ts ys tx c None agree coord = agree_retold ts ys tx (with_outcome None) agree (λ y. refl)
+pub agree_concluded : (ts : List Transaction) (ys : Stories) (tx c : Draw) (o : Option Outcome) → Agree ts ys → ((x : Outcome) → o ≡ Some x → (y : Story) → ys tx ≡ Some y → y.coordinator ≡ c) → Agree (concluded o tx c ts) (retold ys tx (with_decision o))
+agree_concluded ts ys tx c None agree coord = agree_retold ts ys tx (with_decision None) agree (λ y. refl)
 agree_concluded ts ys tx c (Some o) agree coord = agree_decided ts ys tx c o agree (coord o refl)

@@ -1,9 +1,8 @@
 -- Each allowed entry keeps the facts, the ring and the lists of a world.
-use Rattle.std.specs.Prelude.{not, ◌&&◌, ◌++◌, find, fold}
+use Rattle.std.specs.Prelude.{not, ◌&&◌, ◌++◌}
 use Rattle.std.specs.Option.{option_map}
-use Rattle.std.proofs.Common.{◌≡◌, ◌≢◌, ℕ, Bool, true, false, cond, List, [], ◌∷◌, inl, inr, Option, Some, None, refl, sym, ◌∙◌, ap, subst}
+use Rattle.std.proofs.Common.{◌≡◌, ℕ, true, false, cond, List, [], ◌∷◌, inl, inr, Option, Some, None, refl, sym, ◌∙◌, ap, subst}
 use Rattle.std.proofs.lemmas.Bool.{cases_Bool, cond_both}
-use Rattle.sc_base.specs.Among.{Among}
 use Rattle.sc_base.specs.Same.{same_draw}
 use Rattle.sc_base.specs.declared.names.Draw.{Draw}
 use Rattle.sc_base.proofs.NameLemmas.{draw_is}
@@ -22,26 +21,26 @@ use Rattle.sc_cmd.specs.declared.votes.Past.{Past}
 use Rattle.sc_cmd.specs.declared.votes.Vote.{Vote}
 use Rattle.sc_cmd.specs.declared.votes.Vote.TheVariants as Ballot
 use Rattle.sc_machine_table.specs.Group.{Group, group_of}
-use Rattle.sc_machine_table.specs.Machine.{applied, split_group, ordered_by}
-use Rattle.sc_machine_table.specs.Orders.{is_alone, refusal_of}
+use Rattle.sc_machine_table.specs.Machine.{applied, split_group}
+use Rattle.sc_machine_table.specs.Orders.{is_alone}
 use Rattle.sc_machine_table.specs.Splits.{child_of}
-use Rattle.sc_machine_table.specs.Transactions.{begun_group, asks_watcher, participant_answered, vote_recorded, watch_answered, watch_recorded, is_coordinating, aborted, given_up}
+use Rattle.sc_machine_table.specs.Transactions.{begun_group, asks_watcher, participant_answered, vote_recorded, watch_answered, watch_recorded, is_coordinating, aborted}
 use Rattle.sc_entries.specs.Births.{is_changed, is_divided, division_by, division_in, division_of, birth_of}
 use Rattle.sc_entries.specs.Decisions.{outcome_in, begun_transaction, begun_split, named_watcher, with_watcher, amended, concluded, transactions_after}
-use Rattle.sc_entries.specs.Rings.{decided_by, arc_in, ring_after}
-use Rattle.sc_entries.specs.Worlds.{StoreWorld, named_group, groups_after, with_result, after_command}
+use Rattle.sc_entries.specs.Rings.{decided_by, arc_in}
+use Rattle.sc_entries.specs.Worlds.{named_group, groups_after, after_command}
 use Rattle.sc_entries.specs.declared.Division.{Division}
 use Rattle.sc_entries.specs.declared.LogEntry.{LogEntry}
 use Rattle.sc_entries.specs.declared.Transaction.{Transaction}
 use Rattle.sc_ring_law.specs.Allowed.{Sources, IsAllowed, AreAllowed, ToldWorld, stories_told, told_on, told_after}
-use Rattle.sc_ring_law.specs.Stories.{Story, Stories, put, retold, new_story, vote_in, watch_vote_in, with_vote, with_watch_vote, with_outcome, with_asked, with_answer, stories_after}
-use Rattle.sc_ring_law.specs.Invariant.{Groups, LockOk, Facts}
+use Rattle.sc_ring_law.specs.Stories.{Story, Stories, put, retold, new_story, vote_in, watch_vote_in, with_vote, with_watch_vote, with_decision, with_asked, with_answer, stories_after}
+use Rattle.sc_ring_law.specs.Invariant.{Groups}
 use Rattle.sc_ring_law.proofs.View.{Ring}
 use Rattle.sc_ring_law.proofs.Cover.{at-same, at-other}
 use Rattle.sc_ring_law.proofs.Finds.{some_is}
 use Rattle.sc_ring_law.proofs.Rows.{some_none}
 use Rattle.sc_ring_law.proofs.Ends.{draw_new, group_none, own_story}
-use Rattle.sc_ring_law.proofs.Effects.{decisions, eff, arc_of, Old}
+use Rattle.sc_ring_law.proofs.Effects.{decisions, eff, arc_of}
 use Rattle.sc_ring_law.proofs.Steps.{Kept, same_fun, idle, call_kept, join_kept, leave_kept, begin_kept, prepared_kept, watched_kept, named_cases}
 use Rattle.sc_ring_law.proofs.Cuts.{arcs_in}
 use Rattle.sc_ring_law.proofs.Told.{groups_in, with_child, groups_are, AreFound, found_after, Agree, story_brief, agree_begun, agree_retold, agree_watcher, agree_concluded, group_named}
@@ -154,7 +153,7 @@ module _ (sources : Sources) (ring : Ring) (gs : Groups) (ys : Stories) (g : Dra
       → Agree (cond (is_changed effect) (amended tx s.core.id (with_watcher (named_watcher vote)) ts) (concluded (outcome_in effect) tx s.core.id ts)) (retold ys tx (with_answer s.core vote effect))
   vote_told tx vote effect coord ts a =
       elim (is_changed effect)
-      as (λ b. Agree (cond b (amended tx s.core.id (with_watcher (named_watcher vote)) ts) (concluded (outcome_in effect) tx s.core.id ts)) (retold ys tx (λ y. cond b (with_asked s.core vote y) (with_outcome (outcome_in effect) y)))) [
+      as (λ b. Agree (cond b (amended tx s.core.id (with_watcher (named_watcher vote)) ts) (concluded (outcome_in effect) tx s.core.id ts)) (retold ys tx (λ y. cond b (with_asked s.core vote y) (with_decision (outcome_in effect) y)))) [
         | true ↦ agree_watcher ts ys tx s.core.id (named_watcher vote) (with_asked s.core vote) a (asked_brief s vote)
         | false ↦ agree_concluded ts ys tx s.core.id (outcome_in effect) a (λ x e. coord)
       ]
@@ -176,7 +175,7 @@ module _ (sources : Sources) (ring : Ring) (gs : Groups) (ys : Stories) (g : Dra
   vote_fits tx vote by (Watching t watch) e = vote_quiet tx vote by
 
   give_up_quiet : (tx : Draw) → Fits gs ys s (GiveUp tx) (Was.NoEffect tx)
-  give_up_quiet tx = record { births = λ d w. no_division d w; told = λ ts a. agree_retold ts ys tx (with_outcome None) a (λ y. refl); apart = λ x w. none_decided x w }
+  give_up_quiet tx = record { births = λ d w. no_division d w; told = λ ts a. agree_retold ts ys tx (with_decision None) a (λ y. refl); apart = λ x w. none_decided x w }
 
   give_up_fits : (tx : Draw) (l : Lock) → s.core.lock ≡ l → Fits gs ys s (GiveUp tx) (cond (is_coordinating l tx) (aborted s tx) (s, Was.NoEffect tx)).1
   give_up_fits tx Free e = give_up_quiet tx
@@ -207,7 +206,7 @@ module _ (sources : Sources) (ring : Ring) (gs : Groups) (ys : Stories) (g : Dra
   lock_new (Watching t watch) lock d e = no_division d e
 
   watch_quiet : (tx : Draw) (vote : Past) (by : ℕ) → Fits gs ys s (RecordWatch tx vote by) (Was.NoEffect tx)
-  watch_quiet tx vote by = record { births = λ d w. no_division d w; told = λ ts a. agree_retold ts ys tx (with_outcome None) a (λ y. refl); apart = λ x w. none_decided x w }
+  watch_quiet tx vote by = record { births = λ d w. no_division d w; told = λ ts a. agree_retold ts ys tx (with_decision None) a (λ y. refl); apart = λ x w. none_decided x w }
 
   watch_fits : (tx : Draw) (vote : Past) (by : ℕ) (l : Lock) → s.core.lock ≡ l → Fits gs ys s (RecordWatch tx vote by) (watch_recorded l s tx vote).1
   watch_fits tx vote by Free e = watch_quiet tx vote by

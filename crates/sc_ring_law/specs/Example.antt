@@ -1,6 +1,5 @@
 -- Two worked lists of entries: a merge with a watcher and calls before, between and after; and a split that is given up and ordered again under another name.
-use Rattle.std.specs.Prelude.{◌≡◌, ℕ, ◌==◌, ◌&&◌, List, [], ◌∷◌, if◌then◌else◌, Option, Some, None}
-use Rattle.sc_base.specs.Same.{same_draw}
+use Rattle.std.specs.Prelude.{◌≡◌, ℕ, ◌==◌, List, [], ◌∷◌, if◌then◌else◌, Some, None}
 use Rattle.sc_base.specs.declared.names.Draw.{Draw}
 use Rattle.sc_base.specs.declared.ops.Op.{Op}
 use Rattle.sc_base.specs.declared.ops.Op.TheVariants.{Get, Put}
@@ -23,22 +22,22 @@ use Rattle.sc_entries.specs.declared.Cut.{Cut}
 use Rattle.sc_entries.specs.declared.LogEntry.{LogEntry}
 use Rattle.sc_entries.specs.Worlds.{world_of}
 use Rattle.sc_ring_law.specs.Allowed.{Sources, AreAllowed, first_told}
-use Rattle.sc_ring_law.specs.Laws.{IsStart}
+use Rattle.sc_ring_law.specs.Laws.{BeginInPlace}
 
 -- a name
-abbrev pub named : ℕ → ℕ → Draw
-named node count = record { node = node; count = count }
+abbrev pub drawn : ℕ → ℕ → Draw
+drawn node count = record { node = node; count = count }
 
 -- a group of a scenario: its name, its arc, its members and its neighbours
 abbrev pub first_group : ℕ → ℕ → ℕ → List ℕ → ℕ → ℕ → Base
 first_group name lo len members succ pred = record {
   core = record {
-    id = named 0 name;
+    id = drawn 0 name;
     first = 1;
     arc = record { lo = lo; len = len };
     members = members;
-    succ = record { group = named 0 succ; members = [] };
-    pred = record { group = named 0 pred; members = [] };
+    succ = record { group = drawn 0 succ; members = [] };
+    pred = record { group = drawn 0 pred; members = [] };
     lock = Free;
     begun = 0;
     decided = [];
@@ -51,53 +50,53 @@ first_group name lo len members succ pred = record {
 }
 
 -- an entry of a log
-abbrev pub entry : Draw → ℕ → Command → LogEntry
-entry group slot command = record { group = group; slot = slot; command = command }
+abbrev pub told_entry : Draw → ℕ → Command → LogEntry
+told_entry group slot command = record { group = group; slot = slot; command = command }
 
 -- a cut of the ring
-abbrev pub cut : ℕ → ℕ → Draw → Cut
-cut lo len group = record { arc = record { lo = lo; len = len }; group = group }
+abbrev pub ring_cut_of : ℕ → ℕ → Draw → Cut
+ring_cut_of lo len group = record { arc = record { lo = lo; len = len }; group = group }
 
 -- the calls: keys a and x
-abbrev pub put_a : Op
-put_a = Put (97 ∷ []) (120 ∷ [])
+abbrev pub merge_put : Op
+merge_put = Put (97 ∷ []) (120 ∷ [])
 
 -- on the watcher's arc
-abbrev pub put_x : Op
-put_x = Put (120 ∷ []) (121 ∷ [])
+abbrev pub watcher_put : Op
+watcher_put = Put (120 ∷ []) (121 ∷ [])
 
 -- after the merge
-abbrev pub get_a : Op
-get_a = Get (97 ∷ [])
+abbrev pub merge_get : Op
+merge_get = Get (97 ∷ [])
 
 -- names of node 1 are drawn for the group 0.1; client 9 puts a and gets it, and any other client puts x
 abbrev pub sources : Sources
 sources = record {
-  owner = λ name. if name.node == 1 then Some (named 0 1) else None;
-  request = λ client seq. if client == 9 then (if seq == 1 then put_a else get_a) else put_x;
+  owner = λ name. if name.node == 1 then Some (drawn 0 1) else None;
+  request = λ client seq. if client == 9 then (if seq == 1 then merge_put else merge_get) else watcher_put;
 }
 
 -- ---- the merge
 
 -- three groups
-abbrev pub one : Base
-one = first_group 1 0 1610612736 (1 ∷ []) 2 3
+abbrev pub group_one : Base
+group_one = first_group 1 0 1610612736 (1 ∷ []) 2 3
 
 -- the one that has the key a
-abbrev pub two : Base
-two = first_group 2 1610612736 117440512 (2 ∷ []) 3 1
+abbrev pub group_two : Base
+group_two = first_group 2 1610612736 117440512 (2 ∷ []) 3 1
 
 -- the one that has the key x
-abbrev pub three : Base
-three = first_group 3 1728053248 2566914048 (3 ∷ []) 1 2
+abbrev pub group_three : Base
+group_three = first_group 3 1728053248 2566914048 (3 ∷ []) 1 2
 
 -- the groups of the scenario
 abbrev pub merge_bases : List Base
-merge_bases = one ∷ two ∷ three ∷ []
+merge_bases = group_one ∷ group_two ∷ group_three ∷ []
 
 -- the participant after its first call
 abbrev pub two_called : Group
-two_called = (done (group_of two) 9 1 put_a).0
+two_called = (done (group_of group_two) 9 1 merge_put).0
 
 -- what it hands over
 abbrev pub two_frozen : Frozen
@@ -105,76 +104,76 @@ two_frozen = frozen_of two_called
 
 -- what it is offered
 abbrev pub merge_offer : Offer
-merge_offer = record { coord = named 0 1; part = named 0 2; arc = record { lo = 0; len = 1610612736 }; members = 1 ∷ []; body = At.Merge; by = 1 }
+merge_offer = record { coord = drawn 0 1; part = drawn 0 2; arc = record { lo = 0; len = 1610612736 }; members = 1 ∷ []; body = At.Merge; by = 1 }
 
 -- what the third is asked
 abbrev pub merge_watch_asked : Watch
-merge_watch_asked = record { coord = named 0 1; members = 1 ∷ []; part = named 0 3; old = named 0 2; next = record { group = named 0 1; members = 1 ∷ 2 ∷ [] }; by = 1 }
+merge_watch_asked = record { coord = drawn 0 1; members = 1 ∷ []; part = drawn 0 3; old = drawn 0 2; next = record { group = drawn 0 1; members = 1 ∷ 2 ∷ [] }; by = 1 }
 
 -- what is decided
 abbrev pub merge_outcome : Outcome
-merge_outcome = Merged (record { group = named 0 1; lo = 0; members = 1 ∷ 2 ∷ [] })
+merge_outcome = Merged (record { group = drawn 0 1; lo = 0; members = 1 ∷ 2 ∷ [] })
 
 -- the entries
 abbrev pub merge_entries : List LogEntry
 merge_entries =
-    entry (named 0 2) 1 (Call 9 1 put_a)
-    ∷ entry (named 0 1) 1 (Begin (named 1 1) At.Merge 1)
-    ∷ entry (named 0 2) 2 (Prepared (named 1 1) merge_offer)
-    ∷ entry (named 0 1) 2 (RecordVote (named 1 1) (Yes two_frozen) 2)
-    ∷ entry (named 0 3) 1 (Watched (named 1 1) merge_watch_asked)
-    ∷ entry (named 0 3) 2 (Call 8 1 put_x)
-    ∷ entry (named 0 1) 3 (RecordWatch (named 1 1) Cast.Yes 3)
-    ∷ entry (named 0 2) 3 (Finish (named 1 1) merge_outcome)
-    ∷ entry (named 0 3) 3 (Finish (named 1 1) merge_outcome)
-    ∷ entry (named 0 1) 4 (Call 9 2 get_a)
+    told_entry (drawn 0 2) 1 (Call 9 1 merge_put)
+    ∷ told_entry (drawn 0 1) 1 (Begin (drawn 1 1) At.Merge 1)
+    ∷ told_entry (drawn 0 2) 2 (Prepared (drawn 1 1) merge_offer)
+    ∷ told_entry (drawn 0 1) 2 (RecordVote (drawn 1 1) (Yes two_frozen) 2)
+    ∷ told_entry (drawn 0 3) 1 (Watched (drawn 1 1) merge_watch_asked)
+    ∷ told_entry (drawn 0 3) 2 (Call 8 1 watcher_put)
+    ∷ told_entry (drawn 0 1) 3 (RecordWatch (drawn 1 1) Cast.Yes 3)
+    ∷ told_entry (drawn 0 2) 3 (Finish (drawn 1 1) merge_outcome)
+    ∷ told_entry (drawn 0 3) 3 (Finish (drawn 1 1) merge_outcome)
+    ∷ told_entry (drawn 0 1) 4 (Call 9 2 merge_get)
     ∷ []
 
 -- ---- the split
 
 -- two groups
-abbrev pub left : Base
-left = first_group 1 0 2147483648 (1 ∷ 2 ∷ []) 2 2
+abbrev pub split_left : Base
+split_left = first_group 1 0 2147483648 (1 ∷ 2 ∷ []) 2 2
 
 -- the watcher
-abbrev pub right : Base
-right = first_group 2 2147483648 2147483648 (3 ∷ []) 1 1
+abbrev pub split_right : Base
+split_right = first_group 2 2147483648 2147483648 (3 ∷ []) 1 1
 
 -- the groups of the scenario
 abbrev pub split_bases : List Base
-split_bases = left ∷ right ∷ []
+split_bases = split_left ∷ split_right ∷ []
 
 -- what the watcher is asked, by the child's name
 abbrev pub split_watch_asked : Draw → Watch
-split_watch_asked child = record { coord = named 0 1; members = 1 ∷ 2 ∷ []; part = named 0 2; old = named 0 1; next = record { group = child; members = 2 ∷ [] }; by = 1 }
+split_watch_asked child = record { coord = drawn 0 1; members = 1 ∷ 2 ∷ []; part = drawn 0 2; old = drawn 0 1; next = record { group = child; members = 2 ∷ [] }; by = 1 }
 
 -- the entries: the first split is given up, its late watcher's Yes comes to nothing, and its name is not taken again
 abbrev pub split_entries : List LogEntry
 split_entries =
-    entry (named 0 1) 1 (Split 1073741824 (named 1 1) 1)
-    ∷ entry (named 0 1) 2 (GiveUp (named 1 1))
-    ∷ entry (named 0 2) 1 (Watched (named 1 1) (split_watch_asked (named 1 1)))
-    ∷ entry (named 0 1) 3 (RecordWatch (named 1 1) Cast.Yes 3)
-    ∷ entry (named 0 2) 2 (Finish (named 1 1) Abort)
-    ∷ entry (named 0 1) 4 (Split 1073741824 (named 1 1) 1)
-    ∷ entry (named 0 1) 5 (Split 1073741824 (named 1 2) 1)
-    ∷ entry (named 0 2) 3 (Watched (named 1 2) (split_watch_asked (named 1 2)))
-    ∷ entry (named 0 1) 6 (RecordWatch (named 1 2) Cast.Yes 3)
-    ∷ entry (named 0 2) 4 (Finish (named 1 2) Divided)
+    told_entry (drawn 0 1) 1 (Split 1073741824 (drawn 1 1) 1)
+    ∷ told_entry (drawn 0 1) 2 (GiveUp (drawn 1 1))
+    ∷ told_entry (drawn 0 2) 1 (Watched (drawn 1 1) (split_watch_asked (drawn 1 1)))
+    ∷ told_entry (drawn 0 1) 3 (RecordWatch (drawn 1 1) Cast.Yes 3)
+    ∷ told_entry (drawn 0 2) 2 (Finish (drawn 1 1) Abort)
+    ∷ told_entry (drawn 0 1) 4 (Split 1073741824 (drawn 1 1) 1)
+    ∷ told_entry (drawn 0 1) 5 (Split 1073741824 (drawn 1 2) 1)
+    ∷ told_entry (drawn 0 2) 3 (Watched (drawn 1 2) (split_watch_asked (drawn 1 2)))
+    ∷ told_entry (drawn 0 1) 6 (RecordWatch (drawn 1 2) Cast.Yes 3)
+    ∷ told_entry (drawn 0 2) 4 (Finish (drawn 1 2) Divided)
     ∷ []
 
 -- ---- both
 
 -- a list that is allowed from a start, and the ring after it
 pub record IsExample (bases : List Base) (entries : List LogEntry) (ring : List Cut) : Type 0 where
-  pub start : IsStart sources bases
+  pub start : BeginInPlace sources bases
   pub allowed : AreAllowed sources (first_told bases) entries
   pub after : (world_of bases entries).ring ≡ ring
 
 -- the ring after the merge
 abbrev pub MergeIsAllowed : Type 0
-MergeIsAllowed = IsExample merge_bases merge_entries (cut 0 1728053248 (named 0 1) ∷ cut 1728053248 2566914048 (named 0 3) ∷ [])
+MergeIsAllowed = IsExample merge_bases merge_entries (ring_cut_of 0 1728053248 (drawn 0 1) ∷ ring_cut_of 1728053248 2566914048 (drawn 0 3) ∷ [])
 
 -- the ring after the split
 abbrev pub SplitIsAllowed : Type 0
-SplitIsAllowed = IsExample split_bases split_entries (cut 0 1073741824 (named 0 1) ∷ cut 1073741824 1073741824 (named 1 2) ∷ cut 2147483648 2147483648 (named 0 2) ∷ [])
+SplitIsAllowed = IsExample split_bases split_entries (ring_cut_of 0 1073741824 (drawn 0 1) ∷ ring_cut_of 1073741824 1073741824 (drawn 1 2) ∷ ring_cut_of 2147483648 2147483648 (drawn 0 2) ∷ [])

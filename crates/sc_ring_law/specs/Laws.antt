@@ -1,5 +1,5 @@
 -- What holds after every list of allowed entries from the groups of a scenario.
-use Rattle.std.specs.Prelude.{◌≡◌, ℕ, IsTrue, List, [], map, Option, Some, None}
+use Rattle.std.specs.Prelude.{◌≡◌, ℕ, IsTrue, List, [], ◌++◌, map, Option, Some, None}
 use Rattle.sc_base.specs.Among.{Among}
 use Rattle.sc_base.specs.Arc.{end_of}
 use Rattle.sc_base.specs.declared.names.Draw.{Draw}
@@ -15,7 +15,7 @@ use Rattle.sc_entries.specs.declared.LogEntry.{LogEntry}
 use Rattle.sc_entries.specs.Effective.{effective, serves}
 use Rattle.sc_entries.specs.Rings.{Covers, first_cut}
 use Rattle.sc_entries.specs.Worlds.{StoreWorld, named_group, world_of}
-use Rattle.sc_ring_law.specs.Allowed.{Sources, IsAllowed, AreAllowed, first_told, told_after}
+use Rattle.sc_ring_law.specs.Allowed.{Sources, IsAllowed, AreAllowed, ToldWorld, first_told, told_after}
 use Rattle.sc_ring_law.specs.Invariant.{Facts}
 use Rattle.sc_ring_law.specs.Stories.{Stories}
 
@@ -27,7 +27,7 @@ pub record StandsBetween (bases : List Base) (core : Core) : Type 0 where
   pub pred : (other : Base) × Among other bases × (core.arc.lo ≡ end_of other.core.arc) × (core.pred.group ≡ other.core.id)
 
 -- a group of a scenario: nothing has happened to it, and its name was drawn for no group
-pub record IsFirst (sources : Sources) (bases : List Base) (base : Base) : Type 0 where
+pub record BeginsInPlace (sources : Sources) (bases : List Base) (base : Base) : Type 0 where
   pub between : StandsBetween bases base.core
   pub free : base.core.lock ≡ Free
   pub here : base.core.gone ≡ None
@@ -35,9 +35,9 @@ pub record IsFirst (sources : Sources) (bases : List Base) (base : Base) : Type 
   pub unowned : sources.owner base.core.id ≡ None
 
 -- the groups of a scenario, which cover the ring
-pub record IsStart (sources : Sources) (bases : List Base) : Type 0 where
+pub record BeginInPlace (sources : Sources) (bases : List Base) : Type 0 where
   pub covers : Covers (map first_cut bases)
-  pub first : (base : Base) → Among base bases → IsFirst sources bases base
+  pub first : (base : Base) → Among base bases → BeginsInPlace sources bases base
 
 -- ---- the ring
 
@@ -68,7 +68,7 @@ pub record IsRingSound (world : StoreWorld) : Type 0 where
 
 -- after every list of allowed entries the ring is sound
 abbrev pub EntriesKeepTheRing : Type 0
-EntriesKeepTheRing = (sources : Sources) (bases : List Base) (entries : List LogEntry) → IsStart sources bases → AreAllowed sources (first_told bases) entries
+EntriesKeepTheRing = (sources : Sources) (bases : List Base) (entries : List LogEntry) → BeginInPlace sources bases → AreAllowed sources (first_told bases) entries
     → IsRingSound (world_of bases entries)
 
 -- ---- locks, votes and decisions
@@ -79,7 +79,7 @@ stories_of bases entries = (told_after (first_told bases) entries).stories
 
 -- after every list of allowed entries each lock, vote and decision is as the stories tell: from the entry that begins a transaction to its decision the coordinator is as it was, from a Yes to the end a participant is as it was frozen, and a watcher watches
 abbrev pub EntriesKeepThePromises : Type 0
-EntriesKeepThePromises = (sources : Sources) (bases : List Base) (entries : List LogEntry) → IsStart sources bases → AreAllowed sources (first_told bases) entries
+EntriesKeepThePromises = (sources : Sources) (bases : List Base) (entries : List LogEntry) → BeginInPlace sources bases → AreAllowed sources (first_told bases) entries
     → Facts sources.owner (λ name. named_group name (world_of bases entries).groups) (stories_of bases entries)
 
 -- ---- draws
@@ -108,6 +108,11 @@ DrawsAreOfOneLog = (sources : Sources) (bases : List Base) (entries : List LogEn
 
 -- an entry that is allowed stays allowed after more allowed entries
 abbrev pub AllowedEntriesStayAllowed : Type 0
-AllowedEntriesStayAllowed = (sources : Sources) (bases : List Base) (entries more : List LogEntry) → IsStart sources bases
+AllowedEntriesStayAllowed = (sources : Sources) (bases : List Base) (entries more : List LogEntry) → BeginInPlace sources bases
     → AreAllowed sources (first_told bases) entries → AreAllowed sources (told_after (first_told bases) entries) more
     → (name : Draw) (command : Command) → IsAllowed sources (stories_of bases entries) name command → IsAllowed sources (told_after (told_after (first_told bases) entries) more).stories name command
+
+-- lists that are allowed one after another are allowed as one
+abbrev pub AllowedListsAppend : Type 0
+AllowedListsAppend = (sources : Sources) (world : ToldWorld) (entries more : List LogEntry) → AreAllowed sources world entries
+    → AreAllowed sources (told_after world entries) more → AreAllowed sources world (entries ++ more)

@@ -1,5 +1,5 @@
 -- What all logs together have told of each transaction, entry by entry: of its coordinator, of who takes part and of who watches.
-use Rattle.std.specs.Prelude.{ℕ, Bool, ◌&&◌, not, true, false, if◌then◌else◌, Option, Some, None}
+use Rattle.std.specs.Prelude.{◌&&◌, not, if◌then◌else◌, Option, Some, None}
 use Rattle.std.specs.Option.{option_map}
 use Rattle.sc_base.specs.Same.{same_draw}
 use Rattle.sc_base.specs.declared.names.Draw.{Draw}
@@ -140,9 +140,9 @@ with_watch_vote None story = story
 with_watch_vote (Some past) story = record story { watch_vote = Some past }
 
 -- with an outcome, if there is one
-abbrev pub with_outcome : Option Outcome → Story → Story
-with_outcome None story = story
-with_outcome (Some outcome) story = record story { outcome = Some outcome }
+abbrev pub with_decision : Option Outcome → Story → Story
+with_decision None story = story
+with_decision (Some outcome) story = record story { outcome = Some outcome }
 
 -- with the watch that a participant's Yes asks for
 abbrev pub with_asked : Core → Vote → Story → Story
@@ -151,7 +151,7 @@ with_asked core (Ballot.No why) story = story
 
 -- what a participant's vote adds, where it is recorded: it decides, or the watcher is asked
 abbrev pub with_answer : Core → Vote → Effect → Story → Story
-with_answer core vote effect story = if is_changed effect then with_asked core vote story else with_outcome (outcome_in effect) story
+with_answer core vote effect story = if is_changed effect then with_asked core vote story else with_decision (outcome_in effect) story
 
 -- the stories after an entry of the log of a group, as it was before
 abbrev pub stories_after : Group → Command → Effect → Stories → Stories
@@ -161,8 +161,8 @@ stories_after group (Begin tx body order) effect stories = if is_changed effect 
 stories_after group (Prepared tx offer) effect stories = retold stories tx (with_vote (vote_in group effect))
 stories_after group (Watched tx watch) effect stories = retold stories tx (with_watch_vote (watch_vote_in effect))
 stories_after group (RecordVote tx vote by) effect stories = retold stories tx (with_answer group.core vote effect)
-stories_after group (RecordWatch tx vote by) effect stories = retold stories tx (with_outcome (outcome_in effect))
-stories_after group (GiveUp tx) effect stories = retold stories tx (with_outcome (outcome_in effect))
+stories_after group (RecordWatch tx vote by) effect stories = retold stories tx (with_decision (outcome_in effect))
+stories_after group (GiveUp tx) effect stories = retold stories tx (with_decision (outcome_in effect))
 stories_after group Noop effect stories = stories
 stories_after group (Call client seq op) effect stories = stories
 stories_after group (Join node order) effect stories = stories

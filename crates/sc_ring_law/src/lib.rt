@@ -4,7 +4,8 @@
 #![tactic(auto)]
 
 ghost use Rattle.sc_ring_law.specs.Laws.{EntriesKeepTheRing, EntriesKeepThePromises};
-ghost use Rattle.sc_ring_law.specs.Laws.{DrawsAreOfOneLog, AllowedEntriesStayAllowed};
+ghost use Rattle.sc_ring_law.specs.Laws.{AllowedEntriesStayAllowed, AllowedListsAppend};
+ghost use Rattle.sc_ring_law.specs.Laws.{DrawsAreOfOneLog};
 ghost use Rattle.sc_ring_law.specs.Example.{MergeIsAllowed, SplitIsAllowed};
 
 /// After every list of allowed entries the ring covers; the effective record of each cut's group
@@ -29,6 +30,11 @@ pub fn draws_are_of_one_log()
 /// What allows an entry only grows: an entry that is allowed stays allowed after more entries.
 pub fn allowed_entries_stay_allowed()
     ensures { AllowedEntriesStayAllowed }
+{}
+
+/// Lists that are allowed one after another are allowed as one.
+pub fn allowed_lists_append()
+    ensures { AllowedListsAppend }
 {}
 
 /// A worked list of entries, so that the laws are about something: a merge with a watcher, with

@@ -1,12 +1,8 @@
--- The arc of the whole circle: it holds each position, it alone covers, and its part of a map is the map.
-use Rattle.std.proofs.Common.{◌≡◌, ℕ, ◌+◌, ◌%◌, ◌^◌, ◌<◌, [], ◌∷◌, None, inl, inr, refl, sym, ◌∙◌, subst, arith}
-use Rattle.std.specs.FinMap.{get}
+-- The arc of the whole circle: it holds each position, ends where it starts, and alone covers.
+use Rattle.std.proofs.Common.{◌≡◌, ℕ, ◌+◌, ◌%◌, ◌^◌, ◌<◌, [], ◌∷◌, inl, inr, refl, sym, ◌∙◌, subst, arith}
 use Rattle.std.specs.Prelude.{IsTrue}
-use Rattle.std.proofs.lemmas.Bool.{lt-ltb, cond-true}
+use Rattle.std.proofs.lemmas.Bool.{lt-ltb}
 use Rattle.sc_base.specs.Arc.{Arc, IsArc, holds, offset, end_of}
-use Rattle.sc_base.specs.Text.{pos_of}
-use Rattle.sc_ideal.specs.IdealStore.{Contents, holds_key, part_of}
-use Rattle.sc_ideal.proofs.Apart.{same_contents, get-part}
 use Rattle.sc_entries.specs.declared.Cut.{Cut}
 use Rattle.sc_entries.specs.Rings.{Covers}
 
@@ -20,11 +16,6 @@ ends_at_start arc starts circle = ends arc.lo arc.len starts circle
   where
     ends : (lo len : ℕ) → lo < 2 ^ 32 → len ≡ 2 ^ 32 → lo ≡ (lo + len) % 2 ^ 32
     ends lo len starts circle = omega arith
-
--- its part of a map is the map
-pub whole_part : (arc : Arc) → arc.len ≡ 2 ^ 32 → (contents : Contents) → part_of arc contents ≡ contents
-whole_part arc circle contents = same_contents _ _ (λ key.
-    get-part contents (holds_key arc) key ∙ cond-true (holds_key arc key) (get contents key) None (all_held arc circle (pos_of key)))
 
 -- it alone is a ring that covers
 pub alone_covers : (cut : Cut) → cut.arc.lo < 2 ^ 32 → cut.arc.len ≡ 2 ^ 32 → Covers (cut ∷ [])

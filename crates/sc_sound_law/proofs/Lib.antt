@@ -3,8 +3,11 @@ pub mod Example
 pub mod Groups
 pub mod Lone
 pub mod Placing
+pub mod Plain
 pub mod Quiet
+pub mod Requests
 pub mod Sound
 pub mod Times
+pub mod Told
+pub mod TwoGroups
 pub mod Valid
-pub mod Worlds

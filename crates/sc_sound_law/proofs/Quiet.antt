@@ -22,7 +22,7 @@ use Rattle.sc_hist_law.proofs.Logs.{state_same}
 use Rattle.sc_sound.specs.GroupsOf.{entries_from}
 use Rattle.sc_group_law.specs.Groups.{AreApart}
 use Rattle.sc_sound_law.proofs.Groups.{not_same, apart_from}
-use Rattle.sc_sound_law.proofs.Worlds.{no_birth, same_transactions, same_ring}
+use Rattle.sc_sound_law.proofs.Plain.{no_birth, same_transactions, same_ring}
 
 -- a world of these parts
 abbrev world_with : List Group → List Transaction → List Cut → List Entry → StoreWorld

@@ -1,5 +1,5 @@
 -- Each first part of a lawful journal with any number of groups is sound, where their entries make one map.
-use Rattle.std.proofs.Common.{◌≡◌, ℕ, ◌+◌, ◌-◌, ◌<◌, ◌≤◌, eqb, List, [], ◌∷◌, ◌++◌, length, map, Some, None, inl, inr, refl, sym, ◌∙◌, ap, subst, arith}
+use Rattle.std.proofs.Common.{◌≡◌, ℕ, ◌+◌, ◌-◌, ◌<◌, eqb, List, [], ◌∷◌, ◌++◌, length, map, Some, None, inl, inr, refl, sym, ◌∙◌, ap, subst, arith}
 use Rattle.std.specs.Prelude.{slice_get}
 use Rattle.std.specs.List.{AllPairs}
 use Rattle.std.proofs.lemmas.Bool.{cases_Bool, cases_lt, eqb-false, cond-true, cond-false}
@@ -14,14 +14,14 @@ use Rattle.sc_cmd.specs.declared.orders.OrderLine.{OrderLine}
 use Rattle.sc_mail.specs.declared.bodies.Mail.{Mail}
 use Rattle.sc_actor.specs.declared.rows.Row.{Row}
 use Rattle.sc_actor.specs.Steps.{IsStep}
-use Rattle.sc_actor.proofs.Induction.{lawful-induction}
+use Rattle.sc_group_law.proofs.Orders.{IsPlainEvent, plain_induction}
 use Rattle.sc_actor.proofs.WalkLemmas.{lawful-prefix}
 use Rattle.sc_ideal.specs.History.{HasEntry, AreApart as AreApartEntries}
 use Rattle.sc_ideal.specs.declared.Entry.{Entry}
 use Rattle.sc_machine_table.specs.Group.{Group, group_of}
 use Rattle.sc_node_table.specs.Node.{NodeState}
 use Rattle.sc_node_table.specs.Replica.{ReplicaState, name_of}
-use Rattle.sc_paxos_words.proofs.ListLemmas.{Each-among, Each-weaker}
+use Rattle.sc_paxos_words.proofs.ListLemmas.{Each-among}
 use Rattle.sc_paxos_law.proofs.Among.{place_among}
 use Rattle.sc_scenario.specs.declared.scenarios.Asks.{Asks}
 use Rattle.sc_scenario.specs.declared.scenarios.Scenario.{Scenario}
@@ -38,7 +38,7 @@ use Rattle.sc_sound.specs.Soundness.{GoesOn, HasOneLog, HasRun, AllHaveRun, IsOn
 use Rattle.sc_group_law.specs.Groups.{AreApart, HasGroups}
 use Rattle.sc_group_law.specs.Told.{HasExecuted}
 use Rattle.sc_group_law.proofs.Births.{some_of, tells_of, at_birth}
-use Rattle.sc_group_law.proofs.Clients.{Made, IsAnswered}
+use Rattle.sc_group_law.proofs.Clients.{Made, MadeBy, IsAnswered}
 use Rattle.sc_group_law.proofs.Family.{h_of, entry_offered, push, entries_whole}
 use Rattle.sc_group_law.proofs.Holding.{held}
 use Rattle.sc_group_law.proofs.Names.{IsOneOf}
@@ -46,12 +46,12 @@ use Rattle.sc_group_law.proofs.Nodes.{IsNode}
 use Rattle.sc_group_law.proofs.Replicated.{one_value, is_log, executed_is, goes_on}
 use Rattle.sc_group_law.proofs.Replies.{reply_told}
 use Rattle.sc_group_law.proofs.Walked.{moved}
-use Rattle.sc_sound_law.specs.Together.{IsPlainEntry, StartTogether, TellOneHistory}
-use Rattle.sc_entries.specs.declared.LogEntry.{LogEntry}
-use Rattle.sc_sound_law.proofs.Placing.{quiet_after, placed_world}
+use Rattle.sc_sound_law.specs.Together.{StartTogether}
+use Rattle.sc_sound_law.proofs.Told.{told_quietly}
+use Rattle.sc_sound_law.proofs.Placing.{in_place, ring_stays}
 use Rattle.sc_sound_law.specs.Laws.{SeveralJournalsAreSound}
 use Rattle.sc_sound_law.proofs.Groups.{Rows, not_same, apart_from, AreUndivided, groups_are, log_is, state_is}
-use Rattle.sc_sound_law.proofs.Times.{plain_whole, among_place, told_in_order, K, Timed, push_timed, first_timed}
+use Rattle.sc_sound_law.proofs.Times.{among_place, told_in_order, K, Timed, push_timed, first_timed}
 
 same_first : (one other : Base) (rest others : List Base) → one ∷ rest ≡ other ∷ others → one ≡ other
 same_first one other rest others e = cc
@@ -83,7 +83,7 @@ found_in f (b ∷ bases) apart named base (inr a) =
     ∙ found_in f bases apart.1 (λ c there. named c (inr there)) base a
 
 module _ (ahead : Ahead) (words : ℕ → ℕ → ℕ × ℕ) (any : Scenario) (base : Base) (others : List Base) (has : HasGroups (record any { groups = base ∷ others }) base others)
-    (start : StartTogether (base ∷ others)) (tell : TellOneHistory (record any { groups = base ∷ others }) (base ∷ others)) where
+    (start : StartTogether (base ∷ others)) where
   abbrev scenario : Scenario
   scenario = record any { groups = base ∷ others }
 
@@ -96,14 +96,14 @@ module _ (ahead : Ahead) (words : ℕ → ℕ → ℕ × ℕ) (any : Scenario) (
   law : (b : Base) → Among b bases → (log : List Command) → Each LeavesWhole log → LogTells (group_of b) log
   law b a = tells_of ahead b (has.empty b a)
 
-  keeps : (rows : Rows) (row : Row Mail OrderLine) → Holding rows → IsStep (system_of ahead words scenario) rows row → Holding (rows ++ row ∷ [])
-  keeps rows row (k, t) step =
-      let m = moved ahead words scenario base others has (λ b a. some_of ahead b (has.empty b a)) rows row k step in
+  keeps : (rows : Rows) (row : Row Mail OrderLine) → Holding rows → IsPlainEvent row.event → IsStep (system_of ahead words scenario) rows row → Holding (rows ++ row ∷ [])
+  keeps rows row (k, t) plain step =
+      let m = moved ahead words scenario base others has (λ b a. some_of ahead b (has.empty b a)) rows row k plain step in
       (push ahead scenario bases (route_of base) rows row k m, push_timed ahead scenario base others has.apart law rows row k t m)
 
   all_hold : (rows : Rows) → Lawful ahead words scenario rows → Holding rows
   all_hold rows lawful =
-      lawful-induction (system_of ahead words scenario) Holding keeps (schedule scenario) rows (at_birth ahead scenario base others has, first_timed ahead scenario base others has.apart) lawful
+      plain_induction ahead words scenario has.orders Holding keeps rows (at_birth ahead scenario base others has, first_timed ahead scenario base others has.apart) lawful
 
   -- ---- a first part
 
@@ -156,7 +156,7 @@ module _ (ahead : Ahead) (words : ℕ → ℕ → ℕ × ℕ) (any : Scenario) (
     has_run : (b : Base) (r : ReplicaState) → HasExecuted ahead b rows r → HasRun ahead b rows r
     has_run b r x = record { count = x.count; within = x.within; next_is = x.next_is; entries = x.entries; group_is = x.group_is }
 
-    node_has_run : (n : ℕ) (node : NodeState) → IsNode ahead bases (Made scenario rows) (h_of rows) n node → (r : ReplicaState) → Among r node.replicas
+    node_has_run : (n : ℕ) (node : NodeState) → IsNode ahead bases (MadeBy scenario rows) (h_of rows) n node → (r : ReplicaState) → Among r node.replicas
         → (b : Base) × Among b (groups_at ahead bases rows) × (b.core.id ≡ name_of r) × HasRun ahead b rows r
     node_has_run n node at r a =
         let (b, among, named) = Each-among (λ s. IsOneOf bases (name_of s)) node.replicas r at.known a in
@@ -168,17 +168,22 @@ module _ (ahead : Ahead) (words : ℕ → ℕ → ℕ × ℕ) (any : Scenario) (
         let at = k.nodes n low high in
         let found : ANode at.node ≡ ANode node = sym at.value_is ∙ is in
         let same : at.node ≡ node = cc in
-        node_has_run n node (subst (IsNode ahead bases (Made scenario rows) (h_of rows) n) same at.is) r a
+        node_has_run n node (subst (IsNode ahead bases (MadeBy scenario rows) (h_of rows) n) same at.is) r a
 
     -- ---- one map
 
     one_map : IsOneMap (world_at ahead bases rows)
     one_map =
         let entries = entries_at ahead bases rows in
-        let told_world = tell entries t.plain in
-        let keeps = Each-weaker (IsPlainEntry scenario) (λ (entry : LogEntry). LeavesWhole entry.command) (λ entry p. plain_whole scenario entry.command p) entries t.plain in
-        let here = placed_world bases has.apart start (world_at ahead bases rows) (quiet_after bases has.apart entries keeps) in
-        record { covers = here.covers; placed = here.placed; serves_apart = here.serves_apart; legal = told_world.legal; parts = told_world.parts }
+        let quiet = told_quietly scenario base others has start entries t.plain in
+        let here = ring_stays scenario base others has start entries t.plain in
+        record {
+          covers = here.covers;
+          placed = λ cut a. in_place (world_at ahead bases rows) cut (here.placed cut a);
+          serves_apart = here.serves_apart;
+          legal = quiet.world.legal;
+          parts = quiet.world.parts;
+        }
 
     -- ---- requests
 
@@ -279,9 +284,8 @@ module _ (ahead : Ahead) (words : ℕ → ℕ → ℕ × ℕ) (any : Scenario) (
 
 -- each first part of a lawful journal is sound
 pub several_sound : SeveralJournalsAreSound
-several_sound ahead words scenario base others has start tell rows more lawful =
+several_sound ahead words scenario base others has start rows more lawful =
     let is = has.groups in
     subst (λ gs. IsSound ahead (record scenario { groups = gs }) rows more) (sym is)
-    (sound_rows ahead words scenario base others (subst (λ gs. HasGroups (record scenario { groups = gs }) base others) is has) start
-    (subst (λ gs. TellOneHistory (record scenario { groups = gs }) (base ∷ others)) is tell) rows more
+    (sound_rows ahead words scenario base others (subst (λ gs. HasGroups (record scenario { groups = gs }) base others) is has) start rows more
     (subst (λ gs. Lawful ahead words (record scenario { groups = gs }) (rows ++ more)) is lawful))

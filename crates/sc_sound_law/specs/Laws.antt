@@ -8,7 +8,7 @@ use Rattle.sc_scenario.specs.declared.scenarios.Scenario.{Scenario}
 use Rattle.sc_players.specs.Players.{Ahead, Lawful}
 use Rattle.sc_sound.specs.Soundness.{IsSound}
 use Rattle.sc_sound_law.specs.LoneGroup.{HasLoneGroup}
-use Rattle.sc_sound_law.specs.Together.{StartTogether, TellOneHistory}
+use Rattle.sc_sound_law.specs.Together.{StartTogether}
 use Rattle.sc_group_law.specs.Groups.{HasGroups}
 use Rattle.sc_cmd.specs.declared.cores.Base.{Base}
 
@@ -21,8 +21,7 @@ LoneJournalsAreSound = (ahead : Ahead) (words : ℕ → ℕ → ℕ × ℕ) (sce
 abbrev pub ValidHaveLoneGroup : Type 0
 ValidHaveLoneGroup = (scenario : Scenario) → IsValid scenario → HasLoneGroup scenario
 
--- each first part of a lawful journal of groups that start together is sound, where the entries of their logs, which call, join and leave, tell one legal history
+-- each first part of a lawful journal of groups that start together is sound
 abbrev pub SeveralJournalsAreSound : Type 0
 SeveralJournalsAreSound = (ahead : Ahead) (words : ℕ → ℕ → ℕ × ℕ) (scenario : Scenario) (base : Base) (others : List Base) → HasGroups scenario base others → StartTogether (base ∷ others)
-    → TellOneHistory scenario (base ∷ others)
     → (rows more : List (Row Mail OrderLine)) → Lawful ahead words scenario (rows ++ more) → IsSound ahead scenario rows more

@@ -1,20 +1,16 @@
 -- Groups that start together in a ring, and what the entries of their logs are where no group is divided.
 use Rattle.std.specs.Prelude.{◌≡◌, ℕ, ◌-◌, ◌≤◌, List, map, Some, None, slice_get}
-use Rattle.sc_base.specs.Arc.{end_of}
-use Rattle.sc_base.specs.Among.{Among, Each}
+use Rattle.sc_base.specs.Among.{Among}
 use Rattle.sc_base.specs.declared.ops.Op.{Op}
 use Rattle.sc_cmd.specs.declared.commands.Command.{Command}
 use Rattle.sc_cmd.specs.declared.commands.Command.TheVariants.{Noop, Call, Join, Leave, Split, Begin, Prepared, RecordVote, GiveUp, Finish, Watched, RecordWatch}
 use Rattle.sc_cmd.specs.declared.cores.Base.{Base}
 use Rattle.sc_cmd.specs.declared.cores.Lock.TheVariants.{Free}
-use Rattle.sc_ideal.specs.History.{Legal}
 use Rattle.sc_scenario.specs.declared.scenarios.Asks.{Asks}
 use Rattle.sc_scenario.specs.declared.scenarios.Scenario.{Scenario}
 use Rattle.sc_entries.specs.declared.LogEntry.{LogEntry}
-use Rattle.sc_entries.specs.declared.Cut.{Cut}
 use Rattle.sc_entries.specs.Rings.{Covers, first_cut}
-use Rattle.sc_entries.specs.Worlds.{StoreWorld, world_of}
-use Rattle.sc_sound.specs.Soundness.{IsPlaced, ServesItsCut, HoldsItsPart}
+use Rattle.sc_ring_law.specs.Laws.{StandsBetween}
 
 -- a request of a client of the scenario, with its own operation
 pub record IsRequested (scenario : Scenario) (client seq : ℕ) (op : Op) : Type 0 where
@@ -43,29 +39,13 @@ IsPlainCommand scenario (RecordWatch tx vote by) = ⊥
 abbrev pub IsPlainEntry : Scenario → LogEntry → Type 0
 IsPlainEntry scenario entry = IsPlainCommand scenario entry.command
 
--- a group with its neighbours among these: it ends where its successor starts, and starts where its predecessor ends; it is in no transaction, and not gone
-pub record IsLinked (bases : List Base) (base : Base) : Type 0 where
-  pub succ : (other : Base) × Among other bases × (other.core.arc.lo ≡ end_of base.core.arc) × (base.core.succ.group ≡ other.core.id)
-  pub pred : (other : Base) × Among other bases × (base.core.arc.lo ≡ end_of other.core.arc) × (base.core.pred.group ≡ other.core.id)
+-- a group between its neighbours, in no transaction and not gone
+pub record StandsFree (bases : List Base) (base : Base) : Type 0 where
+  pub between : StandsBetween bases base.core
   pub lock : base.core.lock ≡ Free
   pub gone : base.core.gone ≡ None
 
--- groups whose arcs cover the ring, each with its neighbours
+-- groups whose arcs cover the ring, each between its neighbours
 pub record StartTogether (bases : List Base) : Type 0 where
   pub covers : Covers (map first_cut bases)
-  pub linked : (base : Base) → Among base bases → IsLinked bases base
-
--- (c), (d): the ring covers, each cut's group is placed in it, and no other group serves its keys
-pub record IsPlacedWorld (world : StoreWorld) : Type 0 where
-  pub covers : Covers world.ring
-  pub placed : (cut : Cut) → Among cut world.ring → IsPlaced world cut
-  pub serves_apart : ServesItsCut world
-
--- (e): the history is legal, and each cut's group has its part of the map after it
-pub record IsToldWorld (world : StoreWorld) : Type 0 where
-  pub legal : Legal world.history
-  pub parts : (cut : Cut) → Among cut world.ring → HoldsItsPart world cut
-
--- whatever such entries the logs of these groups have, in whatever order, they tell one legal history, of which each group has its part
-abbrev pub TellOneHistory : Scenario → List Base → Type 0
-TellOneHistory scenario bases = (entries : List LogEntry) → Each (IsPlainEntry scenario) entries → IsToldWorld (world_of bases entries)
+  pub free : (base : Base) → Among base bases → StandsFree bases base

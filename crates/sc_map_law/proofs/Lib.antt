@@ -1,0 +1,2 @@
+mod Executes
+mod OneMap

@@ -1,0 +1,68 @@
+-- Orders of all kinds: which are taken, and the names that they take of the node.
+use Rattle.std.specs.Prelude.{ℕ, Bool, true, false, ◌-◌, ◌^◌, ◌==◌, ◌&&◌, ◌||◌, not, [], ◌∷◌, ◌++◌, if◌then◌else◌, Option, Some, None, is_some, is_none}
+use Rattle.sc_base.specs.Drawing.{Drawer, next_name, drawn_on}
+use Rattle.sc_base.specs.declared.names.Draw.{Draw}
+use Rattle.sc_cmd.specs.declared.bodies.Body.TheVariants as To
+use Rattle.sc_cmd.specs.declared.commands.Command.{Command}
+use Rattle.sc_cmd.specs.declared.commands.Command.TheVariants.{Join, Leave, Split, Begin}
+use Rattle.sc_cmd.specs.declared.orders.Order.{Order}
+use Rattle.sc_cmd.specs.declared.orders.Order.TheVariants as An
+use Rattle.sc_cmd.specs.declared.orders.OrderLine.{OrderLine}
+use Rattle.sc_cmd.specs.declared.orders.OrderRefusal.{OrderRefusal}
+use Rattle.sc_cmd.specs.declared.orders.OrderRefusal.TheVariants.{NotLeader}
+use Rattle.sc_cmd.specs.declared.orders.ToldResult.TheVariants.{Refused}
+use Rattle.sc_machine_table.specs.Orders.{refusal_of}
+use Rattle.sc_node_table.specs.Replica.{ReplicaState, Place, settled}
+use Rattle.sc_node_table.specs.Mails.{told_desk}
+use Rattle.sc_node_table.specs.Pump.{pumped}
+
+-- the command of an order, with a name for its child or its transaction
+abbrev pub ordered_command : Draw → ℕ → Order → Command
+ordered_command name number (An.Join node group) = Join node number
+ordered_command name number (An.Leave node group) = Leave node number
+ordered_command name number (An.Split group at) = Split at name number
+ordered_command name number (An.Merge group) = Begin name To.Merge number
+ordered_command name number (An.Repart group at) = Begin name (To.Repart at) number
+ordered_command name number (An.Migrate group node) = Begin name (To.Migrate node) number
+
+-- whether an order takes a name
+abbrev pub takes_name : Order → Bool
+takes_name (An.Join node group) = false
+takes_name (An.Leave node group) = false
+takes_name (An.Split group at) = true
+takes_name (An.Merge group) = true
+takes_name (An.Repart group at) = true
+takes_name (An.Migrate group node) = true
+
+-- whether a node has drawn all its names
+abbrev pub has_drawn_all : Drawer → Bool
+has_drawn_all drawer = drawer.next == 2 ^ 32 - 1
+
+-- 1. not where the group is gone or another node leads it, and none that takes a name where there is none left; what else refuses it comes between
+abbrev pub named_refused : Drawer → Order → ReplicaState → Option OrderRefusal
+named_refused drawer order r = if takes_name order && has_drawn_all drawer then Some (NotLeader r.hint) else None
+
+-- the first refusal, or the one that comes after
+abbrev pub first_of_both : Option OrderRefusal → Option OrderRefusal → Option OrderRefusal
+first_of_both (Some why) other = Some why
+first_of_both None other = other
+
+-- why an order is not taken, if it is not
+abbrev pub untaken : Drawer → OrderLine → ReplicaState → Option OrderRefusal
+untaken drawer line r =
+    if is_some r.group.core.gone || not (settled r) then Some (NotLeader r.hint)
+    else first_of_both (refusal_of r.group.core (ordered_command (next_name drawer) line.number line.order)) (named_refused drawer line.order r)
+
+-- it waits last, or the desk is told why not
+abbrev pub taken_or_told : Option OrderRefusal → ℕ → Command → Place → Place
+taken_or_told (Some why) number command (r, mails) = (r, told_desk r.me number (Refused why) mails)
+taken_or_told None number command (r, mails) = pumped (record r { calls = r.calls ++ command ∷ [] }, mails)
+
+-- Told order
+unfoldable pub ordered_row : Drawer → OrderLine → Place → Place
+ordered_row drawer line (r, mails) =
+    taken_or_told (untaken drawer line r) line.number (ordered_command (next_name drawer) line.number line.order) (r, mails)
+
+-- the names that are left: an order that is taken takes one, if its kind takes any
+abbrev pub names_after : Drawer → OrderLine → ReplicaState → Drawer
+names_after drawer line r = if takes_name line.order && is_none (untaken drawer line r) then drawn_on drawer else drawer

@@ -1,0 +1,46 @@
+-- Tick, 2 and 3: who is bound in a transaction asks again, or says its vote again.
+use Rattle.std.specs.Prelude.{ℕ, ◌+◌, ◌-◌, ◌^◌, ◌==◌, nat_le, List, if◌then◌else◌}
+use Rattle.sc_base.specs.declared.names.Draw.{Draw}
+use Rattle.sc_cmd.specs.declared.commands.Command.TheVariants.{GiveUp}
+use Rattle.sc_cmd.specs.declared.cores.Lock.{Lock}
+use Rattle.sc_cmd.specs.declared.cores.Lock.TheVariants.{Free, Coordinating, Promised, Watching}
+use Rattle.sc_cmd.specs.declared.votes.Past.TheVariants as Cast
+use Rattle.sc_cmd.specs.declared.votes.Vote.TheVariants as Says
+use Rattle.sc_mail.specs.declared.bodies.Mail.{Mail}
+use Rattle.sc_mail.specs.declared.bodies.MailBody.TheVariants.{TxVote, TxWatched}
+use Rattle.sc_machine_table.specs.Group.{Group}
+use Rattle.sc_machine_table.specs.Plans.{frozen_of}
+use Rattle.sc_node_table.specs.Replica.{ReplicaState, Place}
+use Rattle.sc_node_table.specs.Mails.{sent_all}
+use Rattle.sc_node_table.specs.Questions.{asked_all}
+use Rattle.sc_node_table.specs.Acts.{with_act}
+
+-- how many ticks a coordinator waits before it gives up
+abbrev pub patience : ℕ
+patience = 8
+
+-- one tick more; the count stands still at 2^32 - 1
+abbrev pub one_tick_more : ℕ → ℕ
+one_tick_more waits = if waits == 2 ^ 32 - 1 then waits else waits + 1
+
+-- a coordinator that has waited long enough gives up, by an entry of its log
+abbrev pub impatient : Draw → ReplicaState → ReplicaState
+impatient tx r = if nat_le patience r.waits then with_act (GiveUp tx) r else r
+
+-- 2. a coordinator waits one tick longer
+abbrev pub waited_in : Lock → ReplicaState → ReplicaState
+waited_in Free r = r
+waited_in (Coordinating tx body order heard) r = impatient tx (record r { waits = one_tick_more r.waits })
+waited_in (Promised tx offer) r = r
+waited_in (Watching tx watch) r = r
+
+-- 2 and 3. a coordinator asks each member of the group that is asked; a participant and a watcher say their Yes again to each member of the coordinator
+abbrev pub reminders : Lock → ℕ → Group → List Mail → List Mail
+reminders Free me group mails = mails
+reminders (Coordinating tx body order heard) me group mails = asked_all me group.core tx body heard mails
+reminders (Promised tx offer) me group mails = sent_all me offer.members (TxVote tx offer.coord offer.part (Says.Yes (frozen_of group))) mails
+reminders (Watching tx watch) me group mails = sent_all me watch.members (TxWatched tx watch.coord watch.part Cast.Yes) mails
+
+-- both
+unfoldable pub reminded : Place → Place
+reminded (r, mails) = (waited_in r.group.core.lock r, reminders r.group.core.lock r.me r.group mails)

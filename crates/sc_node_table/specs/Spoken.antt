@@ -1,0 +1,264 @@
+-- Execute, 1: what is told of splits, transactions and their decisions, and the mails by which a transaction goes on. All by the effect, and by the group before and after the entry.
+use Rattle.std.specs.Prelude.{ℕ, Bool, true, false, List, if◌then◌else◌, Option, Some, None}
+use Rattle.sc_base.specs.declared.names.Draw.{Draw}
+use Rattle.sc_cmd.specs.declared.bodies.Body.{Body}
+use Rattle.sc_cmd.specs.declared.bodies.Body.TheVariants as At
+use Rattle.sc_cmd.specs.declared.bodies.Offer.{Offer}
+use Rattle.sc_cmd.specs.declared.bodies.Watch.{Watch}
+use Rattle.sc_cmd.specs.declared.commands.Command.{Command}
+use Rattle.sc_cmd.specs.declared.commands.Command.TheVariants.{Noop, Call, Join, Leave, Split, Begin, Prepared, RecordVote, GiveUp, Finish, Watched, RecordWatch}
+use Rattle.sc_cmd.specs.declared.cores.Core.{Core}
+use Rattle.sc_cmd.specs.declared.cores.Lock.{Lock}
+use Rattle.sc_cmd.specs.declared.cores.Lock.TheVariants.{Free, Coordinating, Promised, Watching}
+use Rattle.sc_cmd.specs.declared.effects.Effect.{Effect}
+use Rattle.sc_cmd.specs.declared.effects.Effect.TheVariants as Was
+use Rattle.sc_cmd.specs.declared.links.Link.{Link}
+use Rattle.sc_cmd.specs.declared.orders.ToldResult.{ToldResult}
+use Rattle.sc_cmd.specs.declared.orders.ToldResult.TheVariants as Tells
+use Rattle.sc_cmd.specs.declared.votes.Heard.{Heard}
+use Rattle.sc_cmd.specs.declared.votes.Outcome.{Outcome}
+use Rattle.sc_cmd.specs.declared.votes.Outcome.TheVariants as Is
+use Rattle.sc_cmd.specs.declared.votes.Past.{Past}
+use Rattle.sc_cmd.specs.declared.votes.Past.TheVariants as Cast
+use Rattle.sc_cmd.specs.declared.votes.Vote.{Vote}
+use Rattle.sc_cmd.specs.declared.votes.Vote.TheVariants as Says
+use Rattle.sc_mail.specs.declared.bodies.Mail.{Mail}
+use Rattle.sc_mail.specs.declared.bodies.MailBody.TheVariants.{TxOutcome}
+use Rattle.sc_machine_table.specs.Group.{Group}
+use Rattle.sc_machine_table.specs.Orders.{is_alone}
+use Rattle.sc_node_table.specs.Replica.{Place}
+use Rattle.sc_node_table.specs.Mails.{sent_all, told_order}
+use Rattle.sc_node_table.specs.declared.Before.{Before}
+use Rattle.sc_node_table.specs.Questions.{asked_first}
+use Rattle.sc_node_table.specs.Transactions.{voted_to, watched_to, told_outcome}
+
+-- ---- the group before an entry, as far as its mails need it
+
+-- the node that brought the participant's vote, and the group behind that participant
+abbrev pub heard_from : Option Heard → Option (ℕ × Link)
+heard_from None = None
+heard_from (Some heard) = Some (heard.by, heard.frozen.succ)
+
+-- whether a transaction is a merge
+abbrev pub is_merge : Body → Bool
+is_merge At.Merge = true
+is_merge (At.Repart at) = false
+is_merge (At.Migrate node) = false
+is_merge (At.Split at child) = false
+
+-- a group that coordinates no transaction
+abbrev pub before_free : Core → Before
+before_free core = record { alone = is_alone core; succ = core.succ; order = 0; merges = false; heard = None }
+
+-- .. by its lock
+abbrev pub before_in : Lock → Core → Before
+before_in Free core = before_free core
+before_in (Coordinating tx body order heard) core = record { alone = is_alone core; succ = core.succ; order = order; merges = is_merge body; heard = heard_from heard }
+before_in (Promised tx offer) core = before_free core
+before_in (Watching tx watch) core = before_free core
+
+-- .. as it is
+abbrev pub before_of : Core → Before
+before_of core = before_in core.lock core
+
+-- ---- what the desk is told
+
+-- why an order was refused when it was executed
+abbrev pub refused_result : Effect → Option ToldResult
+refused_result (Was.Refused why) = Some (Tells.Refused why)
+refused_result (Was.Done reply) = None
+refused_result (Was.Again reply) = None
+refused_result (Was.Stale last) = None
+refused_result (Was.NotMine arc succ) = None
+refused_result (Was.Gone into) = None
+refused_result (Was.NoEffect tx) = None
+refused_result Was.Idle = None
+refused_result Was.Changed = None
+refused_result (Was.Voted vote) = None
+refused_result (Was.Decided outcome) = None
+
+-- of a split at once, that it is done
+abbrev pub split_result : Effect → Option ToldResult
+split_result Was.Changed = Some Tells.Done
+split_result (Was.Refused why) = Some (Tells.Refused why)
+split_result (Was.Done reply) = None
+split_result (Was.Again reply) = None
+split_result (Was.Stale last) = None
+split_result (Was.NotMine arc succ) = None
+split_result (Was.Gone into) = None
+split_result (Was.NoEffect tx) = None
+split_result Was.Idle = None
+split_result (Was.Voted vote) = None
+split_result (Was.Decided outcome) = None
+
+-- what a transaction came to
+abbrev pub outcome_result : Outcome → ToldResult
+outcome_result Is.Abort = Tells.Aborted
+outcome_result (Is.Merged into) = Tells.Committed
+outcome_result (Is.Moved at gift) = Tells.Committed
+outcome_result (Is.Migrated node) = Tells.Committed
+outcome_result Is.Divided = Tells.Committed
+
+-- .. where the entry decided it
+abbrev pub decided_result : Effect → Option ToldResult
+decided_result (Was.Decided outcome) = Some (outcome_result outcome)
+decided_result (Was.Done reply) = None
+decided_result (Was.Again reply) = None
+decided_result (Was.Stale last) = None
+decided_result (Was.NotMine arc succ) = None
+decided_result (Was.Gone into) = None
+decided_result (Was.NoEffect tx) = None
+decided_result Was.Idle = None
+decided_result Was.Changed = None
+decided_result (Was.Voted vote) = None
+decided_result (Was.Refused why) = None
+
+-- what is told of a split or a transaction, by whether the group stood alone: of one that only begins nothing, but why it is refused; of its decision, what it came to
+abbrev pub begun_result : Bool → Effect → Command → Option ToldResult
+begun_result alone effect (Split at child order) = if alone then split_result effect else refused_result effect
+begun_result alone effect (Begin tx body order) = refused_result effect
+begun_result alone effect (RecordVote tx vote by) = decided_result effect
+begun_result alone effect (GiveUp tx) = decided_result effect
+begun_result alone effect (RecordWatch tx vote by) = decided_result effect
+begun_result alone effect Noop = None
+begun_result alone effect (Call client seq op) = None
+begun_result alone effect (Join node order) = None
+begun_result alone effect (Leave node order) = None
+begun_result alone effect (Prepared tx offer) = None
+begun_result alone effect (Finish tx outcome) = None
+begun_result alone effect (Watched tx watch) = None
+
+-- the number of the order that is spoken of: the command's own, or that of the transaction that the group coordinated
+abbrev pub spoken_number : ℕ → Command → ℕ
+spoken_number begun (Split at child order) = order
+spoken_number begun (Begin tx body order) = order
+spoken_number begun (RecordVote tx vote by) = begun
+spoken_number begun (GiveUp tx) = begun
+spoken_number begun (RecordWatch tx vote by) = begun
+spoken_number begun Noop = 0
+spoken_number begun (Call client seq op) = 0
+spoken_number begun (Join node order) = 0
+spoken_number begun (Leave node order) = 0
+spoken_number begun (Prepared tx offer) = 0
+spoken_number begun (Finish tx outcome) = 0
+spoken_number begun (Watched tx watch) = 0
+
+-- the desk is told the result, if there is one
+abbrev pub told_result : ℕ → Option ToldResult → ℕ → List Mail → List Mail
+told_result me None number mails = mails
+told_result me (Some result) number mails = told_order me number result mails
+
+-- each replica that executes the entry tells it
+unfoldable pub told_begun : ℕ → Before → Effect → Command → List Mail → List Mail
+told_begun me before effect command mails = told_result me (begun_result before.alone effect command) (spoken_number before.order command) mails
+
+-- ---- how a transaction goes on
+
+-- the outcome that an entry decided
+abbrev pub decided_in : Effect → Option Outcome
+decided_in (Was.Decided outcome) = Some outcome
+decided_in (Was.Done reply) = None
+decided_in (Was.Again reply) = None
+decided_in (Was.Stale last) = None
+decided_in (Was.NotMine arc succ) = None
+decided_in (Was.Gone into) = None
+decided_in (Was.NoEffect tx) = None
+decided_in Was.Idle = None
+decided_in Was.Changed = None
+decided_in (Was.Voted vote) = None
+decided_in (Was.Refused why) = None
+
+-- the vote that an entry cast
+abbrev pub cast_in : Effect → Option Past
+cast_in (Was.Voted vote) = Some vote
+cast_in (Was.Done reply) = None
+cast_in (Was.Again reply) = None
+cast_in (Was.Stale last) = None
+cast_in (Was.NotMine arc succ) = None
+cast_in (Was.Gone into) = None
+cast_in (Was.NoEffect tx) = None
+cast_in Was.Idle = None
+cast_in Was.Changed = None
+cast_in (Was.Decided outcome) = None
+cast_in (Was.Refused why) = None
+
+-- a group that has begun, or has heard its participant, asks
+abbrev pub asked_on : Effect → ℕ → Core → List Mail → List Mail
+asked_on Was.Changed me core mails = asked_first core.lock me core mails
+asked_on (Was.Done reply) me core mails = mails
+asked_on (Was.Again reply) me core mails = mails
+asked_on (Was.Stale last) me core mails = mails
+asked_on (Was.NotMine arc succ) me core mails = mails
+asked_on (Was.Gone into) me core mails = mails
+asked_on (Was.NoEffect tx) me core mails = mails
+asked_on Was.Idle me core mails = mails
+asked_on (Was.Voted vote) me core mails = mails
+asked_on (Was.Decided outcome) me core mails = mails
+asked_on (Was.Refused why) me core mails = mails
+
+-- the vote goes to the node that asked
+abbrev pub vote_sent : Option Past → ℕ → Group → Draw → Offer → List Mail → List Mail
+vote_sent None me group tx offer mails = mails
+vote_sent (Some vote) me group tx offer mails = voted_to me group offer.by tx offer vote mails
+
+-- .. and a watcher's
+abbrev pub watch_sent : Option Past → ℕ → Draw → Watch → List Mail → List Mail
+watch_sent None me tx watch mails = mails
+watch_sent (Some vote) me tx watch mails = watched_to me watch.by tx watch vote mails
+
+-- each member of a party is told that nothing comes of it
+abbrev pub aborted_to : ℕ → Draw → Link → List Mail → List Mail
+aborted_to me tx link mails = sent_all me link.members (TxOutcome tx link.group Is.Abort) mails
+
+-- .. of the watcher, if one was asked after the participant was heard
+abbrev pub aborted_watcher : ℕ → Draw → Option (ℕ × Link) → List Mail → List Mail
+aborted_watcher me tx None mails = mails
+aborted_watcher me tx (Some heard) mails = aborted_to me tx heard.1 mails
+
+-- of a transaction that is given up, the participant is told, and the watcher where one was asked after it
+abbrev pub given_up_by : Option Outcome → ℕ → Before → Draw → List Mail → List Mail
+given_up_by None me before tx mails = mails
+given_up_by (Some outcome) me before tx mails = aborted_watcher me tx before.heard (aborted_to me tx before.succ mails)
+
+-- what a participant's Yes decided is told to the node that brought it
+abbrev pub vote_answered : Option Outcome → Vote → ℕ → Before → Draw → ℕ → List Mail → List Mail
+vote_answered None vote me before tx by mails = mails
+vote_answered (Some outcome) (Says.Yes frozen) me before tx by mails = told_outcome me by tx before.succ.group outcome mails
+vote_answered (Some outcome) (Says.No why) me before tx by mails = mails
+
+-- what a watcher's Yes decided is told to the participant that was heard, and then to the node that brought the vote; of a split the successor is the watcher
+abbrev pub released_to : Option (ℕ × Link) → ℕ → Link → Draw → ℕ → Outcome → List Mail → List Mail
+released_to None me succ tx by outcome mails = told_outcome me by tx succ.group outcome mails
+released_to (Some heard) me succ tx by outcome mails = told_outcome me by tx heard.1.group outcome (told_outcome me heard.0 tx succ.group outcome mails)
+
+-- what a watcher's vote decided: its No to a merge is told to the participant
+abbrev pub watch_answered_by : Option Outcome → Past → ℕ → Before → Draw → ℕ → List Mail → List Mail
+watch_answered_by None vote me before tx by mails = mails
+watch_answered_by (Some outcome) Cast.Yes me before tx by mails = released_to before.heard me before.succ tx by outcome mails
+watch_answered_by (Some outcome) (Cast.No why) me before tx by mails = if before.merges then aborted_to me tx before.succ mails else mails
+watch_answered_by (Some outcome) Cast.Ended me before tx by mails = mails
+
+-- the mails of a counted command of a transaction
+unfoldable pub went_on : ℕ → Group → Before → Effect → Command → List Mail → List Mail
+went_on me group before effect (Split at child order) mails = asked_on effect me group.core mails
+went_on me group before effect (Begin tx body order) mails = asked_on effect me group.core mails
+went_on me group before effect (Prepared tx offer) mails = vote_sent (cast_in effect) me group tx offer mails
+went_on me group before effect (RecordVote tx vote by) mails = vote_answered (decided_in effect) vote me before tx by (asked_on effect me group.core mails)
+went_on me group before effect (GiveUp tx) mails = given_up_by (decided_in effect) me before tx mails
+went_on me group before effect (Watched tx watch) mails = watch_sent (cast_in effect) me tx watch mails
+went_on me group before effect (RecordWatch tx vote by) mails = watch_answered_by (decided_in effect) vote me before tx by mails
+went_on me group before effect (Finish tx outcome) mails = mails
+went_on me group before effect Noop mails = mails
+went_on me group before effect (Call client seq op) mails = mails
+went_on me group before effect (Join node order) mails = mails
+went_on me group before effect (Leave node order) mails = mails
+
+-- both: each replica that executes the entry tells, and the one that counted it goes on
+unfoldable pub spoken_mails : Bool → ℕ → Group → Before → Effect → Command → List Mail → List Mail
+spoken_mails counted me group before effect command mails =
+    let told = told_begun me before effect command mails in
+    if counted then went_on me group before effect command told else told
+
+-- nothing changes but for the mails
+unfoldable pub spoken : Bool → Before → Effect → Command → Place → Place
+spoken counted before effect command (r, mails) = (r, spoken_mails counted r.me r.group before effect command mails)
