@@ -1,7 +1,8 @@
 //! From the words and bytes that come in to the bytes that go out.
 ghost use Rattle.std.specs.Prelude.{◌≡◌, map, false, string_bytes, IfOk};
-ghost use Rattle.sc_statuses.specs.Wants.{is_run};
-ghost use Rattle.sc_run.specs.Run.{Says, Runs};
+ghost use Rattle.sc_statuses.specs.Wants.{is_run, fault_text};
+ghost use Rattle.sc_statuses.specs.declared.said.Said.TheVariants.{BadScenario};
+ghost use Rattle.sc_run.specs.Run.{Tells, Says, Runs};
 
 use crate::done::{Done, Text};
 use crate::reporting::report;
@@ -13,6 +14,16 @@ use sc_statuses::{Said, Wanted, fault_text, print, wanted_of};
 use std::alloc::Global;
 use std::sync::Wait;
 use std::thread::Threads;
+
+// The text about a bad line.
+fn refuse(alloc: Global, line: u32, why: u8) -> Result<(Said, Text), OutOfMemory>
+    ensures { IfOk result
+        (λ begun. (begun.0 ≡ BadScenario) × Tells (fault_text line why) begun.1) }
+{
+    let message = fault_text(alloc, line, why)?;
+    let text = tells(alloc, message.as_slice())?;
+    Ok((Said::BadScenario, text))
+}
 
 // The text for what is asked.
 fn say<S: Source, G: Gate, R: Threads + Wait + Sync>(
@@ -35,11 +46,7 @@ fn say<S: Source, G: Gate, R: Threads + Wait + Sync>(
             let text = tells(alloc, b"read fault")?;
             Ok((Said::ReadFault, text))
         }
-        Wanted::BadScenario { line, why } => {
-            let message = fault_text(alloc, line, why)?;
-            let text = tells(alloc, message.as_slice())?;
-            Ok((Said::BadScenario, text))
-        }
+        Wanted::BadScenario { line, why } => refuse(alloc, line, why),
         Wanted::Run(scenario) => report(rt, alloc, &scenario, gate),
     }
 }
