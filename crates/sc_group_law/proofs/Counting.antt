@@ -28,7 +28,8 @@ use Rattle.sc_node_table.specs.Execute.{has_room}
 use Rattle.sc_node_table.specs.Voting.{leads, promise_row, readied, vote_tallied, voted, accepted_row}
 use Rattle.sc_players.specs.Players.{Ahead}
 use Rattle.sc_group_law.proofs.Growth.{IsLearnt}
-use Rattle.sc_group_law.proofs.Invariant.{Steps, rule, first, IsFlying, IsTaken, Grants, IsReplica, next_after, Fine, turn}
+use Rattle.sc_group_law.proofs.Invariant.{Steps, rule, first, IsFlying, IsTaken, Grants, IsReplica, next_after}
+use Rattle.sc_group_law.proofs.Midway.{Fine, turn}
 use Rattle.sc_group_law.proofs.Parts.{among_without_flight, Each-without_flight}
 use Rattle.sc_group_law.proofs.Executing.{fine_executed}
 use Rattle.std.proofs.lemmas.List.{map-append}

@@ -36,7 +36,8 @@ use Rattle.sc_node_table.specs.Pump.{pumped}
 use Rattle.sc_hist_law.specs.Laws.{IsReplied}
 use Rattle.sc_players.specs.Players.{Ahead}
 use Rattle.sc_group_law.proofs.Growth.{IsLearnt, by_own_log, learnt_offered}
-use Rattle.sc_group_law.proofs.Invariant.{Steps, rule, first, Grants, IsTaken, IsReplica, next_after, IsReplyAt, IsTrueAnswer, Fine, turn, says}
+use Rattle.sc_group_law.proofs.Invariant.{Steps, rule, first, Grants, IsTaken, IsReplica, next_after, IsReplyAt, IsTrueAnswer}
+use Rattle.sc_group_law.proofs.Midway.{Fine, turn, says}
 use Rattle.sc_group_law.proofs.Sending.{name_is, learnt_others, fine_elected, fine_ended, fine_stopped}
 use Rattle.sc_group_law.proofs.Parts.{Each-without_flight, among_without_flight, Each-without_slot, among_without_slot, slot_among, Each-without_call, flying_found}
 use Rattle.sc_group_law.proofs.Offering.{with_calls, with_acts, fine_pumped}

@@ -34,7 +34,8 @@ use Rattle.sc_players.specs.Players.{Ahead}
 use Rattle.sc_group_law.specs.Orders.{IsOfMembers}
 use Rattle.sc_group_law.proofs.Growth.{IsFresh, fresh_state}
 use Rattle.sc_group_law.proofs.Held.{Mirrors, mirrors_itself, floor_low}
-use Rattle.sc_group_law.proofs.Invariant.{Steps, rule, first, birth, Grants, AreSets, HasLog, IsReplica, next_after, forgotten_replica, IsState, grown_state, Fine, turn, says}
+use Rattle.sc_group_law.proofs.Invariant.{Steps, rule, first, birth, Grants, AreSets, HasLog, IsReplica, next_after, forgotten_replica, IsState, grown_state}
+use Rattle.sc_group_law.proofs.Midway.{Fine, turn, says}
 use Rattle.sc_group_law.proofs.Sending.{name_is, fine_stopped}
 use Rattle.sc_group_law.proofs.Offering.{with_calls, fine_pumped}
 use Rattle.sc_group_law.proofs.Executing.{hinted_place, looked_place}

@@ -4,6 +4,7 @@ pub mod Growth
 pub mod Rosters
 pub mod Held
 pub mod Invariant
+pub mod Midway
 pub mod Sending
 pub mod Offering
 pub mod Entering
@@ -27,6 +28,7 @@ pub mod Replies
 pub mod Replicated
 pub mod Births
 pub mod Journal
+pub mod RowSteps
 pub mod Walked
 pub mod Sound
 pub mod Example

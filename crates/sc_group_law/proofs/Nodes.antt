@@ -28,7 +28,8 @@ use Rattle.sc_players.specs.Players.{Ahead}
 use Rattle.sc_group_law.specs.Steps.{asked_in}
 use Rattle.sc_group_law.specs.Orders.{IsOfMembers}
 use Rattle.sc_group_law.proofs.Growth.{By}
-use Rattle.sc_group_law.proofs.Invariant.{Steps, rule, first, Grants, IsReplica, IsTrue, Fine}
+use Rattle.sc_group_law.proofs.Invariant.{Steps, rule, first, Grants, IsReplica, IsTrue}
+use Rattle.sc_group_law.proofs.Midway.{Fine}
 use Rattle.sc_group_law.proofs.Installs.{fine_install_row, made_place, fine_order_row}
 use Rattle.sc_group_law.proofs.Sending.{name_is}
 use Rattle.sc_group_law.proofs.Counting.{fine_promise_row, fine_accepted_row}

@@ -40,7 +40,8 @@ use Rattle.sc_node_table.specs.Slots.{at_slot}
 use Rattle.sc_node_table.specs.Replica.{ReplicaState, Place, name_of, next, flying, either, taken_at, may_offer, settled, under_way, is_idle, last_slot}
 use Rattle.sc_players.specs.Players.{Ahead}
 use Rattle.sc_group_law.proofs.Growth.{later_learnt}
-use Rattle.sc_group_law.proofs.Invariant.{Steps, rule, first, Grants, later_has, IsTaken, AreSets, IsReplica, next_after, IsTrueAnswer, Fine, later_flying, turn, steps}
+use Rattle.sc_group_law.proofs.Invariant.{Steps, rule, first, Grants, later_has, IsTaken, AreSets, IsReplica, next_after, IsTrueAnswer, later_flying}
+use Rattle.sc_group_law.proofs.Midway.{Fine, turn, steps}
 use Rattle.sc_group_law.proofs.Lists.{Each-take}
 use Rattle.sc_group_law.proofs.Sending.{asked_accept, name_is, offered_again, answered_one}
 

@@ -32,7 +32,8 @@ use Rattle.sc_node_table.specs.Voting.{nack_row}
 use Rattle.sc_node_table.specs.Rows.{refused_at, queued, requested, request_row, learn_row, taught, most_taught, ask_answered, ask_row, uncounted, asked_again, told_last, tick_row}
 use Rattle.sc_players.specs.Players.{Ahead}
 use Rattle.sc_group_law.proofs.Growth.{IsLearnt}
-use Rattle.sc_group_law.proofs.Invariant.{Steps, rule, Grants, IsReplica, IsTrueAnswer, Fine, turn, says}
+use Rattle.sc_group_law.proofs.Invariant.{Steps, rule, Grants, IsReplica, IsTrueAnswer}
+use Rattle.sc_group_law.proofs.Midway.{Fine, turn, says}
 use Rattle.sc_group_law.proofs.Sending.{name_is, offered_again, learnt_others, fine_elected, fine_saw}
 use Rattle.sc_group_law.proofs.Offering.{with_calls, fine_pumped}
 use Rattle.sc_group_law.proofs.Parts.{Each-without_call, flying_found}

@@ -29,7 +29,8 @@ use Rattle.sc_players.specs.Players.{Ahead}
 use Rattle.sc_hist_law.proofs.Logs.{state_same}
 use Rattle.sc_group_law.specs.Steps.{proposer_steps}
 use Rattle.sc_group_law.proofs.Growth.{IsLearnt, offer_again}
-use Rattle.sc_group_law.proofs.Invariant.{Steps, rule, first, birth, IsReplica, next_after, IsTrueAnswer, Fine, more_steps, turn, says, steps}
+use Rattle.sc_group_law.proofs.Invariant.{Steps, rule, first, birth, IsReplica, next_after, IsTrueAnswer, more_steps}
+use Rattle.sc_group_law.proofs.Midway.{Fine, turn, says, steps}
 use Rattle.sc_base.proofs.NameLemmas.{same_name}
 
 pub asked_prepare : (group other : Draw) (b : Ballot) (from : ℕ) → group ≡ other → proposer_steps other (Prepare group b from) ≡ Prepared b from ∷ []

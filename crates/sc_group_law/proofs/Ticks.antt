@@ -19,7 +19,8 @@ use Rattle.sc_node_table.specs.Rows.{tick_row}
 use Rattle.sc_players.specs.Players.{Ahead}
 use Rattle.sc_group_law.specs.Steps.{asked_in}
 use Rattle.sc_group_law.proofs.Growth.{By}
-use Rattle.sc_group_law.proofs.Invariant.{Steps, rule, first, Grants, IsReplica, IsTrue, Fine}
+use Rattle.sc_group_law.proofs.Invariant.{Steps, rule, first, Grants, IsReplica, IsTrue}
+use Rattle.sc_group_law.proofs.Midway.{Fine}
 use Rattle.sc_group_law.proofs.Sending.{name_is}
 use Rattle.sc_group_law.proofs.Rows.{fine_tick_row}
 use Rattle.sc_group_law.proofs.Names.{IsOneOf, IsNamed, own_named}

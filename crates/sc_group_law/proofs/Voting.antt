@@ -35,7 +35,8 @@ use Rattle.sc_players.specs.Players.{Ahead}
 use Rattle.sc_group_law.specs.Steps.{asked_in, promised_by}
 use Rattle.sc_group_law.proofs.Growth.{By, later_learnt}
 use Rattle.sc_group_law.proofs.Held.{Mirrors, promise_mirrors, accept_mirrors}
-use Rattle.sc_group_law.proofs.Invariant.{Steps, rule, first, Grants, later_has, IsReplica, IsOwn, IsTrue, Fine, later_flying, grown_true, asked_push, says}
+use Rattle.sc_group_law.proofs.Invariant.{Steps, rule, first, Grants, later_has, IsReplica, IsOwn, IsTrue, later_flying, grown_true}
+use Rattle.sc_group_law.proofs.Midway.{Fine, asked_push, says}
 use Rattle.sc_group_law.proofs.Sending.{name_is, fine_saw}
 use Rattle.sc_group_law.proofs.Executing.{hint_replica}
 use Rattle.sc_group_law.proofs.Welcoming.{installed_place}

@@ -1,5 +1,5 @@
 -- What each row of a lawful journal does to what holds: the rows of nodes, of clients and of the network.
-use Rattle.std.proofs.Common.{◌≡◌, ℕ, zero, suc, ◌+◌, ◌<◌, ◌≤◌, ◌&&◌, Bool, true, false, eqb, List, [], ◌∷◌, ◌++◌, map, Option, Some, None, ◌⊎◌, inl, inr, refl, sym, ◌∙◌, ap, subst, arith}
+use Rattle.std.proofs.Common.{◌≡◌, ℕ, ◌≤◌, ◌&&◌, Bool, true, false, eqb, List, [], ◌∷◌, ◌++◌, map, Some, None, ◌⊎◌, inl, inr, refl, sym, ◌∙◌, ap, subst, arith}
 use Rattle.std.specs.Option.{option_map}
 use Rattle.std.specs.List.{list_any}
 use Rattle.std.proofs.lemmas.Bool.{cases_Bool, eqb-true, eqb-false, eq-eqb, ne_eqb, and_from, or_left, cond-true, cond-false}
@@ -15,7 +15,7 @@ use Rattle.sc_actor.specs.declared.rows.Event.TheVariants.{Deliver, Tick, Go, To
 use Rattle.sc_actor.specs.declared.rows.Input.{Input}
 use Rattle.sc_actor.specs.declared.rows.Input.TheVariants.{Got, Tick as TickInput, Go as GoInput, Told as ToldInput}
 use Rattle.sc_actor.specs.declared.actors.Seat.{Seat}
-use Rattle.sc_actor.specs.Mail.{mails, numbered}
+use Rattle.sc_actor.specs.Mail.{mails}
 use Rattle.sc_actor.specs.Replay.{value, acted, input_of}
 use Rattle.sc_actor.specs.System.{row_of, network, has_gone, is_go}
 use Rattle.sc_actor.specs.Steps.{IsOpen, ActorStep, IsStep}
@@ -28,7 +28,7 @@ use Rattle.sc_node_table.specs.Node.{NodeState, on_mail, on_tick, on_order}
 use Rattle.sc_node_table.specs.Slots.{numbers_from}
 use Rattle.sc_base.specs.Among.{Among, Each}
 use Rattle.sc_paxos_words.proofs.ListLemmas.{Each-among, Each-weaker, find_found}
-use Rattle.sc_paxos_law.proofs.Among.{Among-either, from_map, place_among}
+use Rattle.sc_paxos_law.proofs.Among.{Among-either, from_map}
 use Rattle.sc_paxos_law.specs.Steps.{Offered}
 use Rattle.sc_paxos_law.specs.Lawful.{IsLawfulHistory}
 use Rattle.sc_base.specs.declared.names.Ballot.{Ballot}
@@ -37,17 +37,17 @@ use Rattle.sc_scenario.specs.declared.scenarios.Scenario.{Scenario}
 use Rattle.sc_players.specs.Players.{route_of, Ahead, node_seat, births, system_of, player_table, client_seat, client_seats, Player, replies_of}
 use Rattle.sc_cmd.specs.declared.links.Route.{Route}
 use Rattle.sc_hist_law.specs.Laws.{LeavesWhole}
-use Rattle.sc_sound.specs.Accepts.{accepts_got}
 use Rattle.sc_sound.specs.Requests.{issues, asks_for}
 use Rattle.sc_sound.proofs.Rows.{any_push}
-use Rattle.sc_group_law.specs.Steps.{asked_in, promises_got, steps_at}
+use Rattle.sc_group_law.specs.Steps.{steps_at}
 use Rattle.sc_group_law.specs.Groups.{HasGroups}
 use Rattle.sc_players.specs.declared.roles.Role.TheVariants.{Node as ANode, Client as AClient}
 use Rattle.sc_group_law.proofs.Invariant.{Steps, rule, first, IsTrue, grown_true}
+use Rattle.sc_group_law.proofs.RowSteps.{number_among, among_numbers, steps_deliver, steps_plain}
 use Rattle.sc_group_law.proofs.Frames.{node_row, steps_of}
 use Rattle.sc_group_law.proofs.Holding.{Holds, still_holds}
 use Rattle.sc_group_law.proofs.Orders.{IsPlainEvent}
-use Rattle.sc_group_law.proofs.Names.{quiet_steps, no_asked, IsNamed}
+use Rattle.sc_group_law.proofs.Names.{IsNamed}
 use Rattle.sc_group_law.proofs.Nodes.{NodeEnded, unchanged, ends_as, mail_ended, order_ended}
 use Rattle.sc_group_law.proofs.Ticks.{tick_ended}
 use Rattle.sc_group_law.proofs.Voting.{ArePlain}
@@ -56,31 +56,6 @@ use Rattle.sc_group_law.proofs.Places.{Journal}
 use Rattle.sc_group_law.proofs.Clients.{Made, MadeBy, Heard, made_later, made_whole, grants, issued_now, IsAsk, HaveGrown, IsClient, Grew, later_client, client_after, client_sends}
 use Rattle.sc_group_law.proofs.Family.{h_of, IsNodeAt, IsClientAt, replies_in, Kept, PartMoved, ClientMoved, Moved}
 use Rattle.sc_base.specs.Limits.{client_actor}
-
-number_among : (sent : List Mail) (number : ℕ) (m : Mail) → numbered sent number ≡ Some m → Among m sent
-number_among sent zero m e = cc
-number_among sent (suc place) m e = place_among sent place m e
-
-among_numbers : (from count n : ℕ) → Among n (numbers_from from count) → (from ≤ n) × (n < from + count)
-among_numbers from zero n a = absurd a
-among_numbers from (suc count) n (inl e) = (omega (arith, e), omega (arith, e))
-among_numbers from (suc count) n (inr a) = let k = among_numbers (from + 1) count n a in (omega (arith, k.0), omega (arith, k.1))
-
--- ---- the steps of a row
-
-steps_deliver : (group : Draw) (sent : List Mail) (who number : ℕ) (m : Mail) (out : List Mail) (older : Steps) → numbered sent number ≡ Some m
-    → steps_at group sent (node_row who (Deliver number) out) older ≡ steps_of group who (Deliver number) m.body out older
-steps_deliver group sent who number m out older e =
-    ap (λ o. (promises_got group (node_row who (Deliver number) out) o ++ accepts_got group (node_row who (Deliver number) out) o) ++ asked_in group out older) e
-
-steps_got : (group : Draw) (who : ℕ) (number : ℕ) (o : Option Mail) (out : List Mail) (older : Steps) → ArePlain out
-    → ((promises_got group (node_row who (Deliver number) out) o ++ accepts_got group (node_row who (Deliver number) out) o) ++ asked_in group out older) ≡ older
-steps_got group who number None out older plain = no_asked group out older plain
-steps_got group who number (Some m) out older plain = quiet_steps group who (Deliver number) m.body out older plain
-
-steps_plain : (group : Draw) (sent : List Mail) (who : ℕ) (event : Event OrderLine) (out : List Mail) (older : Steps) → ArePlain out → steps_at group sent (node_row who event out) older ≡ older
-steps_plain group sent who (Deliver number) out older plain = steps_got group who number (numbered sent number) out older plain
-steps_plain group sent who _ out older plain = no_asked group out older plain
 
 module _ (ahead : Ahead) (words : ℕ → ℕ → ℕ × ℕ) (scenario : Scenario) (base : Base) (others : List Base) (has : HasGroups scenario base others)
     (some : (b : Base) → Among b (base ∷ others) → (log : List Command) → Each LeavesWhole log → (node : ℕ) × (rest : List ℕ) × ((rule ahead b).members log ≡ node ∷ rest)) where

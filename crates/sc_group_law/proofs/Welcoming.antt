@@ -14,7 +14,8 @@ use Rattle.sc_node_table.specs.Install.{install_to, asked_to_promise, welcomed_a
 use Rattle.sc_node_table.specs.Execute.{welcomed}
 use Rattle.sc_players.specs.Players.{Ahead}
 use Rattle.sc_machine_table.proofs.Parts.{group_again}
-use Rattle.sc_group_law.proofs.Invariant.{Steps, AreSets, next_after, Fine, says}
+use Rattle.sc_group_law.proofs.Invariant.{Steps, AreSets, next_after}
+use Rattle.sc_group_law.proofs.Midway.{Fine, says}
 use Rattle.sc_group_law.proofs.Sending.{name_is, prepared_all}
 
 module _ (ahead : Ahead) (base : Base) (made : Command → Type 0) (heard : MailBody → Type 0) (me : ℕ) (older : List Mail) (before : Steps) where

@@ -7,6 +7,7 @@ pub mod Plain
 pub mod Quiet
 pub mod Requests
 pub mod Sound
+pub mod Tellings
 pub mod Times
 pub mod Told
 pub mod TwoGroups

@@ -51,7 +51,8 @@ use Rattle.sc_sound_law.proofs.Told.{told_quietly}
 use Rattle.sc_sound_law.proofs.Placing.{in_place, ring_stays}
 use Rattle.sc_sound_law.specs.Laws.{SeveralJournalsAreSound}
 use Rattle.sc_sound_law.proofs.Groups.{Rows, not_same, apart_from, AreUndivided, groups_are, log_is, state_is}
-use Rattle.sc_sound_law.proofs.Times.{among_place, told_in_order, K, Timed, push_timed, first_timed}
+use Rattle.sc_sound_law.proofs.Tellings.{among_place, told_in_order}
+use Rattle.sc_sound_law.proofs.Times.{K, Timed, push_timed, first_timed}
 
 same_first : (one other : Base) (rest others : List Base) → one ∷ rest ≡ other ∷ others → one ≡ other
 same_first one other rest others e = cc

@@ -12,7 +12,7 @@ use Rattle.sc_entries.specs.declared.LogEntry.{LogEntry}
 use Rattle.sc_group_law.specs.Groups.{HasGroups}
 use Rattle.sc_sound_law.specs.Together.{IsPlainCommand, IsPlainEntry, StartTogether}
 use Rattle.sc_sound_law.proofs.Requests.{request_of, request_is}
-use Rattle.sc_sound_law.proofs.Times.{plain_whole}
+use Rattle.sc_sound_law.proofs.Tellings.{plain_whole}
 
 module _ (scenario : Scenario) (base : Base) (others : List Base) (has : HasGroups scenario base others) where
   plain_asked : (c : Command) → IsPlainCommand scenario c → IsAsked (request_of scenario) c
