@@ -44,10 +44,10 @@ gone_vote (Some into) = Some (Cast.No Why.Gone)
 
 -- the vote that needs no entry any more, by what is noted: a No, a Yes under whose lock the group is, or one that has ended; and of a group that is gone, No
 abbrev pub standing_by : Option Past → Bool → Option Route → Option Past
-standing_by None locked gone = gone_vote gone
-standing_by (Some (Cast.No why)) locked gone = Some (Cast.No why)
-standing_by (Some Cast.Ended) locked gone = Some Cast.Ended
-standing_by (Some Cast.Yes) locked gone = if locked then Some Cast.Yes else gone_vote gone
+standing_by None locked into = gone_vote into
+standing_by (Some (Cast.No why)) locked into = Some (Cast.No why)
+standing_by (Some Cast.Ended) locked into = Some Cast.Ended
+standing_by (Some Cast.Yes) locked into = if locked then Some Cast.Yes else gone_vote into
 
 -- .. of a group
 abbrev pub standing_vote : Core → Draw → Option Past
