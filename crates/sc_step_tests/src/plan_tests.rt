@@ -267,9 +267,9 @@ fn a_merge_closes_the_ring(rt: HostRuntime) {
 fn migrated(rt: &impl Abort, alloc: Global, core: &Core, frozen: &Frozen) -> (Members, Members) {
     assert!(rt; can_migrate(core, 3, frozen));
     let after = plan_migrate(alloc, core, 3, frozen).expect(rt, "memory");
-    let members = (after.members, after.succ.members);
+    let (members, succ) = (after.members, after.succ);
     forget(after);
-    members
+    (members, succ.members)
 }
 
 #[test]
