@@ -1,5 +1,5 @@
 -- What is reported of a scenario, said of the source that it was read from.
-use Rattle.std.proofs.Common.{◌≡◌, ℕ, List, Option, Some, inl, subst, sym}
+use Rattle.std.proofs.Common.{◌≡◌, ℕ, List, Option, Ok, inl, subst, sym}
 use Rattle.sc_scenario.specs.Valid.{IsValid}
 use Rattle.sc_scenario.specs.declared.scenarios.Scenario.{Scenario}
 use Rattle.sc_statuses.specs.Wants.{fault_text, ReadsAs, IsWanted}
