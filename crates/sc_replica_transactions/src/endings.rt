@@ -1,0 +1,174 @@
+//! What a coordinator tells of its decision.
+ghost use Rattle.std.specs.Prelude.{◌≡◌, OnOk, Option, Some};
+ghost use Rattle.std.specs.Option.{option_copied};
+ghost use Rattle.sc_cmd.specs.declared.votes.Outcome.TheVariants.{Abort};
+ghost use Rattle.sc_mail.specs.declared.bodies.MailBody.TheVariants.{TxOutcome};
+ghost use Rattle.sc_node_table.specs.Mails.{sent_all};
+ghost use Rattle.sc_node_table.specs.Spoken.{decided_in, aborted_to, aborted_watcher, given_up_by, vote_answered, released_to, watch_answered_by};
+
+use crate::tellings::tell_outcome;
+use sc_base::{Draw, OutOfMemory, Sequence};
+use sc_cmd::{Effect, Link, Outcome, Past, Vote};
+use sc_mail::{Mail, MailBody};
+use sc_node_table::Before;
+use sc_replica_parts::send;
+use std::alloc::Global;
+
+/// The outcome that an entry decided.
+fn decided_in(effect: &Effect) -> Option<&Outcome>
+    ensures { option_copied result ≡ decided_in effect.now }
+{
+    match effect {
+        Effect::Decided(outcome) => Some(outcome),
+        Effect::Done(_)
+        | Effect::Again(_)
+        | Effect::Stale { .. }
+        | Effect::NotMine { .. }
+        | Effect::Gone { .. }
+        | Effect::NoEffect { .. }
+        | Effect::Idle
+        | Effect::Changed
+        | Effect::Voted(_)
+        | Effect::Refused(_) => None,
+    }
+}
+
+/// Each of several nodes is told that nothing comes of it.
+#[tactic(auto, unfolding(sc_node_table::specs::Mails::sent_all))]
+fn send_aborts(
+    me: u16,
+    nodes: &[u16],
+    tx: Draw,
+    part: Draw,
+    out: &mut Sequence<Mail>,
+) -> Result<(), OutOfMemory>
+    ensures { OnOk result (out.new ≡ sent_all me nodes.now (TxOutcome tx part Abort) out.old) }
+{
+    for node in nodes {
+        let outcome = Outcome::Abort;
+        send(
+            me,
+            *node as u32,
+            MailBody::TxOutcome { tx, part, outcome },
+            out,
+        )?;
+    }
+    Ok(())
+}
+
+/// Each member of a party is told so.
+fn abort_to(me: u16, tx: Draw, link: &Link, out: &mut Sequence<Mail>) -> Result<(), OutOfMemory>
+    ensures { OnOk result (out.new ≡ aborted_to me tx link.now out.old) }
+{
+    send_aborts(me, link.members.as_slice(), tx, link.group, out)
+}
+
+fn abort_watcher(
+    me: u16,
+    tx: Draw,
+    heard: &Option<(u16, Link)>,
+    out: &mut Sequence<Mail>,
+) -> Result<(), OutOfMemory>
+    ensures { OnOk result (out.new ≡ aborted_watcher me tx heard.now out.old) }
+{
+    match heard {
+        None => Ok(()),
+        Some(heard) => abort_to(me, tx, &heard.1, out),
+    }
+}
+
+/// Of a transaction that is given up, the participant is told, and the watcher where one was asked
+/// after it.
+pub(crate) fn give_up(
+    effect: &Effect,
+    me: u16,
+    before: &Before,
+    tx: Draw,
+    out: &mut Sequence<Mail>,
+) -> Result<(), OutOfMemory>
+    ensures { OnOk result
+        (out.new ≡ given_up_by (decided_in effect.now) me before.now tx out.old) }
+{
+    if decided_in(effect).is_none() {
+        return Ok(());
+    }
+    abort_to(me, tx, &before.succ, out)?;
+    abort_watcher(me, tx, &before.heard, out)
+}
+
+/// What a participant's Yes decided is told to the node that brought it.
+pub(crate) fn answer_vote(
+    alloc: Global,
+    effect: &Effect,
+    vote: &Vote,
+    me: u16,
+    before: &Before,
+    tx: Draw,
+    by: u16,
+    out: &mut Sequence<Mail>,
+) -> Result<(), OutOfMemory>
+    ensures { OnOk result
+        (out.new ≡ vote_answered (decided_in effect.now) vote.now me before.now tx by out.old) }
+{
+    let Some(outcome) = decided_in(effect) else {
+        return Ok(());
+    };
+    match vote {
+        Vote::Yes(_) => tell_outcome(alloc, me, by, tx, before.succ.group, outcome, out),
+        Vote::No(_) => Ok(()),
+    }
+}
+
+/// What a watcher's Yes decided is told to the participant that was heard, and then to the node that
+/// brought the vote.
+fn release(
+    alloc: Global,
+    me: u16,
+    before: &Before,
+    tx: Draw,
+    by: u16,
+    outcome: &Outcome,
+    out: &mut Sequence<Mail>,
+) -> Result<(), OutOfMemory>
+    ensures { OnOk result
+        (out.new ≡ released_to before.now.heard me before.now.succ tx by outcome.now out.old) }
+{
+    let part = before.succ.group;
+    match &before.heard {
+        None => tell_outcome(alloc, me, by, tx, part, outcome, out),
+        Some(heard) => {
+            tell_outcome(alloc, me, heard.0, tx, part, outcome, out)?;
+            tell_outcome(alloc, me, by, tx, heard.1.group, outcome, out)
+        }
+    }
+}
+
+/// What a watcher's vote decided.
+pub(crate) fn answer_watch(
+    alloc: Global,
+    effect: &Effect,
+    vote: &Past,
+    me: u16,
+    before: &Before,
+    tx: Draw,
+    by: u16,
+    out: &mut Sequence<Mail>,
+) -> Result<(), OutOfMemory>
+    ensures { OnOk result
+        (out.new ≡ watch_answered_by (decided_in effect.now) vote.now me before.now tx by out.old) }
+{
+    let Some(outcome) = decided_in(effect) else {
+        return Ok(());
+    };
+    match vote {
+        Past::Yes => release(alloc, me, before, tx, by, outcome, out),
+        Past::No(_) => {
+            if before.merges {
+                abort_to(me, tx, &before.succ, out)
+            } else {
+                Ok(())
+            }
+        }
+        Past::Ended => Ok(()),
+    }
+}

@@ -1,0 +1,21 @@
+//! What a replica says in transactions: questions, votes, outcomes and what the desk is told. All
+//! from the group's state and from what an executed command did to it; nothing here changes a
+//! replica.
+#![tactic(auto)]
+
+mod acts;
+mod endings;
+mod noted;
+mod progress;
+mod questions;
+mod reminders;
+mod tellings;
+mod votes;
+
+pub use acts::{has_kind, is_of_kind};
+pub use noted::{awaits_vote, awaits_watch, is_bound, noted_outcome, standing_vote};
+pub use progress::{before_of, speak};
+pub use questions::ask_next;
+pub use reminders::{has_waited, one_tick_more, remind};
+pub use tellings::{pass_on, tell_outcome};
+pub use votes::{tell_vote, tell_watch};

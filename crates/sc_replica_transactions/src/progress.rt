@@ -1,0 +1,204 @@
+//! How a transaction goes on when an entry of it was executed.
+ghost use Rattle.std.specs.Prelude.{◌≡◌, OnOk};
+ghost use Rattle.sc_node_table.specs.Spoken.{heard_from, is_merge, before_in, before_of, cast_in, asked_on, vote_sent, watch_sent, went_on, spoken_mails};
+
+use crate::endings::{answer_vote, answer_watch, give_up};
+use crate::questions::ask_first;
+use crate::tellings::tell_begun;
+use crate::votes::{tell_vote, tell_watch};
+use sc_base::{Draw, OutOfMemory, Sequence};
+use sc_cmd::{Body, Command, Core, Effect, Heard, Link, Lock, Offer, Past, Watch, same_draw};
+use sc_machine::Machine;
+use sc_mail::Mail;
+use sc_node_table::Before;
+use std::alloc::Global;
+
+fn heard_from(heard: &Option<Heard>) -> Option<(u16, Link)>
+    ensures { result ≡ heard_from heard.now }
+{
+    match heard {
+        None => None,
+        Some(heard) => Some((heard.by, heard.frozen.succ)),
+    }
+}
+
+fn is_merge(body: &Body) -> bool
+    ensures { result ≡ is_merge body.now }
+{
+    match body {
+        Body::Merge => true,
+        Body::Repart { .. } | Body::Migrate { .. } | Body::Split { .. } => false,
+    }
+}
+
+/// The group as it is before an entry, as far as the mails by the entry's effect need it.
+pub fn before_of(core: &Core) -> Before
+    ensures { result ≡ before_of core.now }
+{
+    let alone = same_draw(core.succ.group, core.id);
+    let succ = core.succ;
+    match &core.lock {
+        Lock::Coordinating {
+            body,
+            order,
+            heard,
+            ..
+        } => Before {
+            alone,
+            succ,
+            order: *order,
+            merges: is_merge(body),
+            heard: heard_from(heard),
+        },
+        Lock::Free | Lock::Promised { .. } | Lock::Watching { .. } => Before {
+            alone,
+            succ,
+            order: 0,
+            merges: false,
+            heard: None,
+        },
+    }
+}
+
+/// The vote that an entry cast.
+fn cast_in(effect: &Effect) -> Option<Past>
+    ensures { result ≡ cast_in effect.now }
+{
+    match effect {
+        Effect::Voted(vote) => Some(*vote),
+        Effect::Done(_)
+        | Effect::Again(_)
+        | Effect::Stale { .. }
+        | Effect::NotMine { .. }
+        | Effect::Gone { .. }
+        | Effect::NoEffect { .. }
+        | Effect::Idle
+        | Effect::Changed
+        | Effect::Decided(_)
+        | Effect::Refused(_) => None,
+    }
+}
+
+/// A group that has begun, or has heard its participant, asks.
+fn ask_by(
+    alloc: Global,
+    effect: &Effect,
+    me: u16,
+    core: &Core,
+    out: &mut Sequence<Mail>,
+) -> Result<(), OutOfMemory>
+    ensures { OnOk result (out.new ≡ asked_on effect.now me core.now out.old) }
+{
+    match effect {
+        Effect::Changed => ask_first(alloc, me, core, out),
+        Effect::Done(_)
+        | Effect::Again(_)
+        | Effect::Stale { .. }
+        | Effect::NotMine { .. }
+        | Effect::Gone { .. }
+        | Effect::NoEffect { .. }
+        | Effect::Idle
+        | Effect::Voted(_)
+        | Effect::Decided(_)
+        | Effect::Refused(_) => Ok(()),
+    }
+}
+
+/// The vote goes to the node that asked.
+fn send_vote(
+    alloc: Global,
+    vote: Option<Past>,
+    machine: &Machine,
+    me: u16,
+    tx: Draw,
+    offer: &Offer,
+    out: &mut Sequence<Mail>,
+) -> Result<(), OutOfMemory>
+    ensures { OnOk result (out.new ≡ vote_sent vote me machine.now tx offer.now out.old) }
+{
+    match vote {
+        None => Ok(()),
+        Some(vote) => tell_vote(alloc, machine, me, offer.by, tx, offer, vote, out),
+    }
+}
+
+fn send_watch(
+    vote: Option<Past>,
+    me: u16,
+    tx: Draw,
+    watch: &Watch,
+    out: &mut Sequence<Mail>,
+) -> Result<(), OutOfMemory>
+    ensures { OnOk result (out.new ≡ watch_sent vote me tx watch.now out.old) }
+{
+    match vote {
+        None => Ok(()),
+        Some(vote) => tell_watch(me, watch.by, tx, watch, vote, out),
+    }
+}
+
+/// The mails of a counted command of a transaction, after it was executed.
+#[tactic(auto, unfolding(sc_node_table::specs::Spoken::went_on))]
+fn go_on(
+    alloc: Global,
+    machine: &Machine,
+    me: u16,
+    before: &Before,
+    effect: &Effect,
+    command: &Command,
+    out: &mut Sequence<Mail>,
+) -> Result<(), OutOfMemory>
+    ensures { OnOk result
+        (out.new ≡ went_on me machine.now before.now effect.now command.now out.old) }
+{
+    match command {
+        Command::Split { .. } | Command::Begin { .. } => ask_by(
+            alloc,
+            effect,
+            me,
+            machine.core(),
+            out,
+        ),
+        Command::Prepared { tx, offer } => {
+            send_vote(alloc, cast_in(effect), machine, me, *tx, offer.get(), out)
+        }
+        Command::RecordVote { tx, vote, by } => {
+            ask_by(alloc, effect, me, machine.core(), out)?;
+            answer_vote(alloc, effect, vote, me, before, *tx, *by, out)
+        }
+        Command::GiveUp { tx } => give_up(effect, me, before, *tx, out),
+        Command::Watched { tx, watch } => send_watch(cast_in(effect), me, *tx, watch.get(), out),
+        Command::RecordWatch { tx, vote, by } => {
+            answer_watch(alloc, effect, vote, me, before, *tx, *by, out)
+        }
+        Command::Finish { .. }
+        | Command::Noop
+        | Command::Call { .. }
+        | Command::Join { .. }
+        | Command::Leave { .. } => Ok(()),
+    }
+}
+
+/// What is said of a split or a transaction after its entry was executed: each replica tells the
+/// desk, and the one that counted the entry goes on with the transaction.
+#[tactic(auto, unfolding(sc_node_table::specs::Spoken::spoken_mails))]
+pub fn speak(
+    alloc: Global,
+    counted: bool,
+    machine: &Machine,
+    me: u16,
+    before: &Before,
+    effect: &Effect,
+    command: &Command,
+    out: &mut Sequence<Mail>,
+) -> Result<(), OutOfMemory>
+    ensures { OnOk result
+        (out.new
+        ≡ spoken_mails counted me machine.now before.now effect.now command.now out.old) }
+{
+    tell_begun(me, before, effect, command, out)?;
+    if !counted {
+        return Ok(());
+    }
+    go_on(alloc, machine, me, before, effect, command, out)
+}

@@ -1,0 +1,67 @@
+//! What one that is bound in a transaction says at a tick.
+ghost use Rattle.std.specs.Prelude.{◌≡◌, OnOk, nat_le};
+ghost use Rattle.sc_node_table.specs.Reminders.{one_tick_more, patience, reminders};
+
+use crate::questions::ask_all;
+use crate::votes::{send_watched_to_all, send_yes_to_all};
+use sc_base::{OutOfMemory, Sequence};
+use sc_cmd::Lock;
+use sc_machine::Machine;
+use sc_mail::Mail;
+use std::alloc::Global;
+
+/// How many ticks a coordinator waits before it gives up.
+const PATIENCE: u32 = 8;
+
+/// Whether a coordinator that has waited for so many ticks gives up.
+pub fn has_waited(waits: u32) -> bool
+    ensures { result ≡ nat_le patience waits }
+{
+    PATIENCE <= waits
+}
+
+/// One tick more; the count stands still at 2^32 - 1.
+pub fn one_tick_more(waits: u32) -> u32
+    ensures { result ≡ one_tick_more waits }
+{
+    if waits == u32::MAX {
+        return waits;
+    }
+    waits + 1
+}
+
+/// A coordinator asks each member of the group that is asked; a participant and a watcher say their
+/// Yes again to each member of the coordinator.
+pub fn remind(
+    alloc: Global,
+    machine: &Machine,
+    me: u16,
+    out: &mut Sequence<Mail>,
+) -> Result<(), OutOfMemory>
+    ensures { OnOk result (out.new ≡ reminders machine.now.core.lock me machine.now out.old) }
+{
+    let core = machine.core();
+    match &core.lock {
+        Lock::Free => Ok(()),
+        Lock::Coordinating {
+            tx,
+            body,
+            heard,
+            ..
+        } => ask_all(alloc, me, core, *tx, body, heard, out),
+        Lock::Promised { tx, offer } => {
+            send_yes_to_all(
+                alloc,
+                machine,
+                me,
+                offer.members.as_slice(),
+                *tx,
+                offer,
+                out,
+            )
+        }
+        Lock::Watching { tx, watch } => {
+            send_watched_to_all(me, watch.members.as_slice(), *tx, watch, out)
+        }
+    }
+}

@@ -1,0 +1,195 @@
+//! What the desk is told of splits and transactions, and mails of one line.
+ghost use Rattle.std.specs.Prelude.{◌≡◌, OnOk};
+ghost use Rattle.sc_mail.specs.declared.bodies.MailBody.TheVariants.{TxElsewhere};
+ghost use Rattle.sc_node_table.specs.Mails.{sent};
+ghost use Rattle.sc_node_table.specs.Transactions.{told_outcome};
+ghost use Rattle.sc_node_table.specs.Spoken.{refused_result, split_result, outcome_result, decided_result, begun_result, spoken_number, told_result, told_begun};
+
+use sc_base::{Draw, Dup, OutOfMemory, Sequence};
+use sc_cmd::{Command, Effect, Outcome, ToldResult};
+use sc_mail::{Mail, MailBody};
+use sc_node_table::Before;
+use sc_replica_parts::{send, tell_order};
+use std::alloc::Global;
+
+fn refused_result(effect: &Effect) -> Option<ToldResult>
+    ensures { result ≡ refused_result effect.now }
+{
+    match effect {
+        Effect::Refused(why) => Some(ToldResult::Refused(*why)),
+        Effect::Done(_)
+        | Effect::Again(_)
+        | Effect::Stale { .. }
+        | Effect::NotMine { .. }
+        | Effect::Gone { .. }
+        | Effect::NoEffect { .. }
+        | Effect::Idle
+        | Effect::Changed
+        | Effect::Voted(_)
+        | Effect::Decided(_) => None,
+    }
+}
+
+fn split_result(effect: &Effect) -> Option<ToldResult>
+    ensures { result ≡ split_result effect.now }
+{
+    match effect {
+        Effect::Changed => Some(ToldResult::Done),
+        Effect::Refused(why) => Some(ToldResult::Refused(*why)),
+        Effect::Done(_)
+        | Effect::Again(_)
+        | Effect::Stale { .. }
+        | Effect::NotMine { .. }
+        | Effect::Gone { .. }
+        | Effect::NoEffect { .. }
+        | Effect::Idle
+        | Effect::Voted(_)
+        | Effect::Decided(_) => None,
+    }
+}
+
+fn outcome_result(outcome: &Outcome) -> ToldResult
+    ensures { result ≡ outcome_result outcome.now }
+{
+    match outcome {
+        Outcome::Abort => ToldResult::Aborted,
+        Outcome::Merged { .. }
+        | Outcome::Moved { .. }
+        | Outcome::Migrated { .. }
+        | Outcome::Divided => ToldResult::Committed,
+    }
+}
+
+fn decided_result(effect: &Effect) -> Option<ToldResult>
+    ensures { result ≡ decided_result effect.now }
+{
+    match effect {
+        Effect::Decided(outcome) => Some(outcome_result(outcome)),
+        Effect::Done(_)
+        | Effect::Again(_)
+        | Effect::Stale { .. }
+        | Effect::NotMine { .. }
+        | Effect::Gone { .. }
+        | Effect::NoEffect { .. }
+        | Effect::Idle
+        | Effect::Changed
+        | Effect::Voted(_)
+        | Effect::Refused(_) => None,
+    }
+}
+
+/// What is told of a split or a transaction, by whether the group was its own successor.
+fn begun_result(alone: bool, effect: &Effect, command: &Command) -> Option<ToldResult>
+    ensures { result ≡ begun_result alone effect.now command.now }
+{
+    match command {
+        Command::Split { .. } => {
+            if alone {
+                split_result(effect)
+            } else {
+                refused_result(effect)
+            }
+        }
+        Command::Begin { .. } => refused_result(effect),
+        Command::RecordVote { .. } | Command::GiveUp { .. } | Command::RecordWatch { .. } => {
+            decided_result(effect)
+        }
+        Command::Noop
+        | Command::Call { .. }
+        | Command::Join { .. }
+        | Command::Leave { .. }
+        | Command::Prepared { .. }
+        | Command::Finish { .. }
+        | Command::Watched { .. } => None,
+    }
+}
+
+/// The number of the order that is spoken of: the command's own, or that of the transaction that the
+/// group coordinated.
+fn spoken_number(begun: u32, command: &Command) -> u32
+    ensures { result ≡ spoken_number begun command.now }
+{
+    match command {
+        Command::Split { order, .. } | Command::Begin { order, .. } => *order,
+        Command::RecordVote { .. } | Command::GiveUp { .. } | Command::RecordWatch { .. } => begun,
+        Command::Noop
+        | Command::Call { .. }
+        | Command::Join { .. }
+        | Command::Leave { .. }
+        | Command::Prepared { .. }
+        | Command::Finish { .. }
+        | Command::Watched { .. } => 0,
+    }
+}
+
+fn tell_result(
+    me: u16,
+    told: Option<ToldResult>,
+    number: u32,
+    out: &mut Sequence<Mail>,
+) -> Result<(), OutOfMemory>
+    ensures { OnOk result (out.new ≡ told_result me told number out.old) }
+{
+    match told {
+        None => Ok(()),
+        Some(result) => tell_order(me, number, result, out),
+    }
+}
+
+/// The desk is told what an entry of a split or of a transaction comes to.
+#[tactic(auto, unfolding(sc_node_table::specs::Spoken::told_begun))]
+pub(crate) fn tell_begun(
+    me: u16,
+    before: &Before,
+    effect: &Effect,
+    command: &Command,
+    out: &mut Sequence<Mail>,
+) -> Result<(), OutOfMemory>
+    ensures { OnOk result (out.new ≡ told_begun me before.now effect.now command.now out.old) }
+{
+    let told = begun_result(before.alone, effect, command);
+    tell_result(me, told, spoken_number(before.order, command), out)
+}
+
+/// What was decided is told to one node.
+pub fn tell_outcome(
+    alloc: Global,
+    me: u16,
+    node: u16,
+    tx: Draw,
+    part: Draw,
+    outcome: &Outcome,
+    out: &mut Sequence<Mail>,
+) -> Result<(), OutOfMemory>
+    ensures { OnOk result (out.new ≡ told_outcome me node tx part outcome.now out.old) }
+{
+    send(
+        me,
+        node as u32,
+        MailBody::TxOutcome {
+            tx,
+            part,
+            outcome: outcome.dup(alloc)?,
+        },
+        out,
+    )
+}
+
+/// A node that does not lead the asked group names the one that it takes for the leader.
+pub fn pass_on(
+    me: u16,
+    node: u16,
+    tx: Draw,
+    coord: Draw,
+    hint: Option<u16>,
+    out: &mut Sequence<Mail>,
+) -> Result<(), OutOfMemory>
+    ensures { OnOk result (out.new ≡ sent me node (TxElsewhere tx coord hint) out.old) }
+{
+    send(
+        me,
+        node as u32,
+        MailBody::TxElsewhere { tx, coord, hint },
+        out,
+    )
+}
