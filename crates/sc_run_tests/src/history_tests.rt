@@ -3,6 +3,7 @@ ghost use Rattle.std.specs.Prelude.{◌≤◌, ◌^◌};
 ghost use Rattle.sc_scenario.specs.Valid.{IsValid};
 
 use crate::gates::Open;
+use crate::replay_tests::scenario_of;
 use crate::run_tests::FIRST;
 use sc_actor::{Event, Journal, Row};
 use sc_base::{Dup, Reply};
@@ -10,7 +11,7 @@ use sc_cmd::{Command, Effect, OrderLine};
 use sc_machine::Machine;
 use sc_mail::{Mail, MailBody};
 use sc_run::{Left, play_whole, tells_full};
-use sc_scenario::{Scenario, read_scenario};
+use sc_scenario::Scenario;
 use sc_statuses::Played;
 use std::alloc::Global;
 use std::mem::forget;
@@ -108,7 +109,7 @@ fn left_of<R: Abort + Threads + Wait + Sync>(
 // The old values that the history of a run answers, in its order, a line each: a group of one
 // member decides each command that it accepts.
 fn history<R: Abort + Threads + Wait + Sync>(rt: &R, alloc: Global, input: &[u8]) -> Vec<u8> {
-    let scenario = read_scenario(alloc, input).expect(rt, "a scenario");
+    let scenario = scenario_of(rt, alloc, input);
     let left = left_of(rt, alloc, &scenario, 1 << 30);
     let mut machine = machine_of(rt, alloc, &scenario);
     let mut text = Vec::new(alloc);
@@ -142,7 +143,7 @@ fn is_full_after_two(rt: &impl Abort, alloc: Global, journal: Journal<Mail, Orde
 
 // How a scenario is played within 700 bytes.
 fn filled<R: Abort + Threads + Wait + Sync>(rt: &R, alloc: Global, input: &[u8]) -> Left {
-    let scenario = read_scenario(alloc, input).expect(rt, "a scenario");
+    let scenario = scenario_of(rt, alloc, input);
     let left = left_of(rt, alloc, &scenario, 700);
     forget(scenario);
     left

@@ -87,7 +87,7 @@ fn played<R: Abort + Threads + Wait + Sync>(
     journal
 }
 
-fn scenario_of(rt: &impl Abort, alloc: Global, input: &[u8]) -> Scenario
+pub fn scenario_of(rt: &impl Abort, alloc: Global, input: &[u8]) -> Scenario
     ensures { IsValid result }
 {
     read_scenario(alloc, input).expect(rt, "a scenario")
