@@ -1,4 +1,5 @@
 pub mod Children
+pub mod Names
 mod Nothing
 pub mod Pushes
 mod WorkedBoundaries

@@ -28,7 +28,7 @@ use Rattle.sc_hist_law.specs.Worlds.{HasKnownTable, holdings_in}
 use Rattle.sc_hist_law.proofs.Disjoint.{first_here, neither_here, one_or_not, second_here}
 use Rattle.sc_hist_law.proofs.Elsewhere.{elsewhere, held_by, held_none, held_some, here, own_group, tables_from, there}
 use Rattle.sc_hist_law.proofs.Parties.{next_after, next_before, others_after, own_before}
-use Rattle.sc_hist_law.proofs.Recuts.{arc_of, gone_cut, has_arc, has_recut, taken_out}
+use Rattle.sc_hist_law.proofs.Recuts.{arc_of, gone_cut, has_arc, has_recut, is_none_of, taken_out}
 use Rattle.sc_hist_law.proofs.Shares.{both_are}
 use Rattle.sc_hist_law.proofs.Staying.{Goes}
 
@@ -99,11 +99,7 @@ module _ (request : RequestOf) (world : StoreWorld) (name : Draw) (group : Group
     merged_has other ne = ap (has_arc other) merged_ring ∙ has_recut other mine (joined party.own_cut.0 party.next_cut.0) others_ring ∙ taken_out other theirs world.ring ne
 
     theirs_gone : arc_in theirs after.ring ≡ None
-    theirs_gone = none_of (arc_in theirs after.ring) (ap (has_arc theirs) merged_ring ∙ has_recut theirs mine (joined party.own_cut.0 party.next_cut.0) others_ring ∙ ap is_some (gone_cut theirs world.ring))
-      where
-        none_of : (o : Option Arc) → is_some o ≡ false → o ≡ None
-        none_of None e = refl
-        none_of (Some arc) e = (let no_way : true ≡ false = e in absurd (cc))
+    theirs_gone = is_none_of (arc_in theirs after.ring) (ap (has_arc theirs) merged_ring ∙ has_recut theirs mine (joined party.own_cut.0 party.next_cut.0) others_ring ∙ ap is_some (gone_cut theirs world.ring))
 
     now : holdings_in after mine ≡ Some (holding_of planned)
     now = mine_after (merged_has mine party.apart ∙ mine_cut)

@@ -22,16 +22,14 @@ use Rattle.sc_hist_law.specs.Telling.{IsNewChild}
 use Rattle.sc_hist_law.specs.Worlds.{HasKnownTable, holdings_in}
 use Rattle.sc_hist_law.proofs.Disjoint.{first_here, neither_here, one_or_not, second_here}
 use Rattle.sc_hist_law.proofs.Elsewhere.{held_by, held_none, held_some, same_at, same_found}
-use Rattle.sc_hist_law.proofs.Found.{found_name, found_now, found_still}
+use Rattle.sc_entries.proofs.Names.{found_name, some_is}
+use Rattle.sc_hist_law.proofs.Found.{found_now, found_still}
 use Rattle.sc_hist_law.proofs.PlanHoldings.{plans_move}
 use Rattle.sc_hist_law.proofs.Recuts.{arc_of, child_has, has_arc, has_divided}
 use Rattle.sc_hist_law.proofs.Staying.{Goes}
 
 none_group : (group : Group) → None ≡ Some group → ⊥
 none_group group e = cc
-
-some_group : (one other : Group) → Some one ≡ Some other → one ≡ other
-some_group one other e = cc
 
 -- what is found first stays first
 pub found_left : (name : Draw) (groups more : List Group) (group : Group) → named_group name groups ≡ Some group → named_group name (groups ++ more) ≡ Some group
@@ -126,11 +124,11 @@ module _ (request : RequestOf) (world : StoreWorld) (name : Draw) (group : Group
     tables : (other : Draw) (g : Group) → named_group other after.groups ≡ Some g → HasKnownTable world after other g
     tables other g is = elim (one_or_not other child) [
       | inl e ↦ (
-          let it : newborn ≡ g = some_group newborn g (sym child_there ∙ ap (λ n. named_group n after.groups) (sym e) ∙ is) in
+          let it : newborn ≡ g = some_is newborn g (sym child_there ∙ ap (λ n. named_group n after.groups) (sym e) ∙ is) in
           inr (inr (part_from at (holding_of group), ap (holdings_in after) e ∙ child_after, ap (λ (h : Holding). h.clients) (sym (plans_move.divides group at child).rest) ∙ ap (λ (x : Group). x.clients) it)))
       | inr not ↦ elim (one_or_not other mine) [
         | inl e ↦ (
-            let it : result.0 ≡ g = some_group result.0 g (sym here ∙ ap (λ n. named_group n after.groups) (sym e) ∙ is) in
+            let it : result.0 ≡ g = some_is result.0 g (sym here ∙ ap (λ n. named_group n after.groups) (sym e) ∙ is) in
             inr (inl (group, ap (λ n. named_group n world.groups) e ∙ own_is, sym table ∙ ap (λ (x : Group). x.clients) it)))
         | inr ne ↦ inr (inl (g, sym (there other ne not) ∙ is, refl))
       ]

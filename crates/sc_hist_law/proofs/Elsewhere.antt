@@ -15,7 +15,8 @@ use Rattle.sc_entries.specs.Worlds.{StoreWorld, groups_after, named_group, with_
 use Rattle.sc_hist_law.specs.Moves.{Holding, holding_of}
 use Rattle.sc_hist_law.specs.Worlds.{HasKnownTable, holdings_in}
 use Rattle.sc_hist_law.proofs.Disjoint.{one_or_not}
-use Rattle.sc_hist_law.proofs.Found.{found_name, found_now, found_still}
+use Rattle.sc_entries.proofs.Names.{found_name, some_is}
+use Rattle.sc_hist_law.proofs.Found.{found_now, found_still}
 
 -- what a group holds by the decisions of these transactions
 abbrev pub held_by : List Transaction → Group → Holding
@@ -95,13 +96,10 @@ module _ (world : StoreWorld) (name : Draw) (group : Group) (found : named_group
   itself other e cuts same = same_at world after other cuts (subst (λ o. HoldsSame after.transactions world.transactions o (named_group other world.groups)) (sym (here other e))
       (subst (HoldsSame after.transactions world.transactions (Some result.0)) (sym (ap (λ n. named_group n world.groups) e ∙ own_group)) same))
 
-  some_group : (one other : Group) → Some one ≡ Some other → one ≡ other
-  some_group one other e = cc
-
   -- the tables of logs: only its own may be another
   pub tables_from : HasKnownTable world after group.core.id result.0 → (other : Draw) (g : Group) → named_group other after.groups ≡ Some g → HasKnownTable world after other g
   tables_from own other g is = elim (one_or_not other group.core.id) [
-    | inl e ↦ subst (λ n. HasKnownTable world after n g) (sym e) (subst (HasKnownTable world after group.core.id) (some_group result.0 g (sym (here other e) ∙ is)) own)
+    | inl e ↦ subst (λ n. HasKnownTable world after n g) (sym e) (subst (HasKnownTable world after group.core.id) (some_is result.0 g (sym (here other e) ∙ is)) own)
     | inr ne ↦ inr (inl (g, sym (there other ne) ∙ is, refl))
   ]
 

@@ -24,9 +24,7 @@ use Rattle.sc_hist_law.specs.Example.{ExampleOfEntries, answers_with, example_lo
 use Rattle.sc_hist_law.specs.Telling.{MayAllBeTold, MayBeTold, MayCall, MaySplit}
 use Rattle.sc_hist_law.specs.Worlds.{BeginBare, BeginsBare}
 use Rattle.sc_hist_law.proofs.Entries.{entries_tell}
-
-some_group : (one other : Group) → Some one ≡ Some other → one ≡ other
-some_group one other e = cc
+use Rattle.sc_entries.proofs.Names.{some_is}
 
 -- ---- the start
 
@@ -95,16 +93,16 @@ second_is = ap (λ (result : Group × Effect). with_result first start (Call 1 1
 -- ---- each entry may be told
 
 may_put : MayBeTold two_requests first put_entry
-may_put group found = subst (λ g. MayCall two_requests first g 1 1 put_a) (some_group start group found) (record { asked = refl; cut = λ serves. (lone_base.core.arc, refl) })
+may_put group found = subst (λ g. MayCall two_requests first g 1 1 put_a) (some_is start group found) (record { asked = refl; cut = λ serves. (lone_base.core.arc, refl) })
 
 may_split : MayBeTold two_requests second split_entry
-may_split group found = subst (λ g. MaySplit second g 1610612736 offspring) (some_group served group found) (record {
+may_split group found = subst (λ g. MaySplit second g 1610612736 offspring) (some_is served group found) (record {
   fits = omega arith;
   fresh = λ alone here unlocked named. record { cut = (lone_base.core.arc, refl); unborn = refl; uncut = refl };
 })
 
 may_get : MayBeTold two_requests third get_entry
-may_get group found = subst (λ g. MayCall two_requests third g 2 1 get_a) (some_group newborn group found) (record { asked = refl; cut = λ serves. (newborn.core.arc, refl) })
+may_get group found = subst (λ g. MayCall two_requests third g 2 1 get_a) (some_is newborn group found) (record { asked = refl; cut = λ serves. (newborn.core.arc, refl) })
 
 may : MayAllBeTold two_requests first example_log
 may = (may_put, subst (λ world. MayAllBeTold two_requests world (split_entry ∷ get_entry ∷ [])) (sym second_is) (may_split, (may_get, tt)))

@@ -5,11 +5,7 @@ use Rattle.sc_base.specs.declared.names.Draw.{Draw}
 use Rattle.sc_base.proofs.NameLemmas.{draw_is, same_name}
 use Rattle.sc_machine_table.specs.Group.{Group}
 use Rattle.sc_entries.specs.Worlds.{is_named, named_group, with_group}
-use Rattle.sc_paxos_words.proofs.ListLemmas.{find_found}
-
--- a group that is found has the name
-pub found_name : (name : Draw) (groups : List Group) (group : Group) → named_group name groups ≡ Some group → group.core.id ≡ name
-found_name name groups group e = draw_is group.core.id name (find_found (is_named name) groups group e).1
+use Rattle.sc_entries.proofs.Names.{other_name}
 
 -- a group that was replaced is found as it is now
 pub found_now : (name : Draw) (after : Group) (groups : List Group) (group : Group) → after.core.id ≡ name → named_group name groups ≡ Some group → named_group name (with_group name after groups) ≡ Some after
@@ -24,9 +20,6 @@ found_now name after (g ∷ groups) group is e =
           ∙ found_now name after groups group is (sym (cond-false (is_named name g) (Some g) (named_group name groups) f) ∙ e)
     ]
 
-not_named : (name : Draw) (group : Group) → (group.core.id ≡ name → ⊥) → is_named name group ≡ false
-not_named name group ne = elim (cases_Bool (is_named name group)) [ inl t ↦ absurd (ne (draw_is group.core.id name t)) | inr f ↦ f ]
-
 -- the others are found as they were
 pub found_still : (name other : Draw) (after : Group) (groups : List Group) → after.core.id ≡ name → (other ≡ name → ⊥) → named_group other (with_group name after groups) ≡ named_group other groups
 found_still name other after [] is ne = refl
@@ -34,9 +27,9 @@ found_still name other after (g ∷ groups) is ne =
     let rest = with_group name after groups in
     elim (cases_Bool (is_named name g)) [
       | inl t ↦ ap (λ x. cond (is_named other x) (Some x) (named_group other rest)) (cond-true (is_named name g) after g t)
-          ∙ cond-false (is_named other after) (Some after) (named_group other rest) (not_named other after (λ e. ne (sym e ∙ is)))
+          ∙ cond-false (is_named other after) (Some after) (named_group other rest) (other_name after.core.id other (λ e. ne (sym e ∙ is)))
           ∙ found_still name other after groups is ne
-          ∙ sym (cond-false (is_named other g) (Some g) (named_group other groups) (not_named other g (λ e. ne (sym e ∙ draw_is g.core.id name t))))
+          ∙ sym (cond-false (is_named other g) (Some g) (named_group other groups) (other_name g.core.id other (λ e. ne (sym e ∙ draw_is g.core.id name t))))
       | inr f ↦ ap (λ x. cond (is_named other x) (Some x) (named_group other rest)) (cond-false (is_named name g) after g f)
           ∙ ap (λ o. cond (is_named other g) (Some g) o) (found_still name other after groups is ne)
     ]

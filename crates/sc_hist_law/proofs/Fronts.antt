@@ -17,7 +17,8 @@ use Rattle.sc_entries.proofs.Pushes.{world_append}
 use Rattle.sc_hist_law.specs.Fronts.{FrontsAnswerByHistory, LogsMakeStates, log_in}
 use Rattle.sc_hist_law.proofs.Disjoint.{one_or_not}
 use Rattle.sc_hist_law.proofs.Divisions.{found_left}
-use Rattle.sc_hist_law.proofs.Found.{found_name, found_now, found_still}
+use Rattle.sc_entries.proofs.Names.{found_name, other_name}
+use Rattle.sc_hist_law.proofs.Found.{found_now, found_still}
 use Rattle.sc_hist_law.proofs.Logs.{applied_same}
 
 -- ---- one entry
@@ -27,12 +28,9 @@ own_first : (name : Draw) (entry : LogEntry) (entries : List LogEntry) → entry
 own_first name entry entries e =
     ap (map (λ (x : LogEntry). x.command)) (cond-true (same_draw entry.group name) (entry ∷ filter (λ (x : LogEntry). same_draw x.group name) entries) (filter (λ (x : LogEntry). same_draw x.group name) entries) (same_name entry.group name e))
 
-differs : (a b : Draw) → (a ≡ b → ⊥) → same_draw a b ≡ false
-differs a b ne = elim (cases_Bool (same_draw a b)) [ inl t ↦ absurd (ne (draw_is a b t)) | inr f ↦ f ]
-
 other_first : (name : Draw) (entry : LogEntry) (entries : List LogEntry) → (entry.group ≡ name → ⊥) → log_in name (entry ∷ entries) ≡ log_in name entries
 other_first name entry entries ne =
-    ap (map (λ (x : LogEntry). x.command)) (cond-false (same_draw entry.group name) (entry ∷ filter (λ (x : LogEntry). same_draw x.group name) entries) (filter (λ (x : LogEntry). same_draw x.group name) entries) (differs entry.group name ne))
+    ap (map (λ (x : LogEntry). x.command)) (cond-false (same_draw entry.group name) (entry ∷ filter (λ (x : LogEntry). same_draw x.group name) entries) (filter (λ (x : LogEntry). same_draw x.group name) entries) (other_name entry.group name ne))
 
 -- the group that an entry is of, and any other
 own_told : (world : StoreWorld) (name : Draw) (group : Group) → named_group name world.groups ≡ Some group → (c : Command) → named_group name (after_command world (Some group) c).groups ≡ Some (applied group c).0

@@ -14,9 +14,7 @@ use Rattle.sc_hist_law.specs.Moves.{Holding, AreBare, MayMakeAll, history_by, pa
 use Rattle.sc_hist_law.specs.Example.{ExampleOfMoves, answers_with, bare_ring, example_moves, lone_holdings, offspring, parent, put_a, two_requests}
 use Rattle.sc_hist_law.proofs.Disjoint.{one_or_not, holding_here, holding_there}
 use Rattle.sc_hist_law.proofs.MovesKept.{moves_tell}
-
-some_is : (one other : Holding) → Some one ≡ Some other → one ≡ other
-some_is one other e = cc
+use Rattle.sc_entries.proofs.Names.{some_is}
 
 none_is : (one : Holding) → None ≡ Some one → ⊥
 none_is one e = cc

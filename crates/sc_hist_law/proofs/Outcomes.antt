@@ -17,6 +17,7 @@ use Rattle.sc_machine_table.specs.Orders.{locked_in}
 use Rattle.sc_entries.specs.declared.Transaction.{Transaction}
 use Rattle.sc_entries.specs.Decisions.{amended, concluded, decision, is_of, transaction_in, with_outcome, with_watcher}
 use Rattle.sc_entries.specs.Effective.{after_outcome, effective_by, is_commit}
+use Rattle.sc_entries.proofs.Names.{some_is}
 
 -- the commit in what was decided, if it is one
 abbrev pub commit_in : Option Outcome → Option Outcome
@@ -40,9 +41,6 @@ same_commit one other tx group e = by_commit one tx group ∙ ap (λ o. after_co
 -- no commit changes nothing
 pub no_commit : (decided : Option Outcome) (tx : Draw) (group : Group) → commit_in decided ≡ None → after_outcome decided tx group ≡ group
 no_commit decided tx group e = by_commit decided tx group ∙ ap (λ o. after_commit o tx group) e
-
-some_draw : (tx other : Draw) → Some tx ≡ Some other → tx ≡ other
-some_draw tx other e = cc
 
 -- a party goes by the decision of its own transaction alone
 pub same_party : (lock : Lock) (one other : List Transaction) (group : Group) → ((tx : Draw) → locked_in lock ≡ Some tx → commit_in (decision tx one) ≡ commit_in (decision tx other))

@@ -20,9 +20,7 @@ use Rattle.sc_hist_law.proofs.Elsewhere.{held_by, held_some}
 use Rattle.sc_hist_law.proofs.Finishing.{coordinating_held, free_held, promised_held, watching_held}
 use Rattle.sc_hist_law.proofs.Outcomes.{commit_in, other_concluded, own_concluded, same_party}
 use Rattle.sc_hist_law.proofs.Staying.{none_committed}
-
-some_tx : (one other : Draw) → Some one ≡ Some other → one ≡ other
-some_tx one other e = cc
+use Rattle.sc_entries.proofs.Names.{some_is}
 
 -- who has not promised in a transaction holds the same whatever it comes to
 pub others_held : (transactions : List Transaction) (tx coordinator : Draw) (outcome : Outcome) (group : Group) (lock : Lock) → group.core.lock ≡ lock → ((offer : Offer) → lock ≡ Promised tx offer → ⊥)
@@ -34,7 +32,7 @@ others_held transactions tx coordinator outcome group (Watching locked watch) e 
 others_held transactions tx coordinator outcome group (Promised locked offer) e apart = elim (one_or_not locked tx) [
   | inl same ↦ absurd (apart offer (ap (λ x. Promised x offer) same))
   | inr ne ↦ ap holding_of (same_party group.core.lock (concluded (Some outcome) tx coordinator transactions) transactions group
-      (λ t is. ap commit_in (other_concluded transactions tx coordinator t outcome (λ same. ne (some_tx locked t (sym (ap locked_in e) ∙ is) ∙ same)))))
+      (λ t is. ap commit_in (other_concluded transactions tx coordinator t outcome (λ same. ne (some_is locked t (sym (ap locked_in e) ∙ is) ∙ same)))))
 ]
 
 module _ (world : StoreWorld) (group : Group) (tx : Draw) (frozen : Frozen) (own : IsItsOwn world group tx) (party : IsParty world group tx frozen) (holds : held_by world.transactions group ≡ holding_of group)

@@ -22,12 +22,15 @@ use Rattle.sc_base.specs.Arc.{Arc}
 use Rattle.sc_entries.specs.declared.LogEntry.{LogEntry}
 use Rattle.sc_entries.specs.Effective.{effective, effective_by}
 use Rattle.sc_entries.specs.Rings.{arc_in, first_cut}
+use Rattle.sc_entries.specs.Births.{birth_of}
 use Rattle.sc_entries.specs.Worlds.{StoreWorld, after_command, groups_after, named_group, told, with_group, with_result, world_after}
+use Rattle.sc_hist_law.proofs.Elsewhere.{own_group, here, there}
 use Rattle.sc_hist_law.specs.Laws.{LeavesWhole}
 use Rattle.sc_hist_law.specs.Moves.{Holding, RequestOf, MayServe, TellsHoldings, HasNotes, ServedBy, entries_by, holding_of, holdings_after, request_entry, with_request}
 use Rattle.sc_hist_law.specs.Worlds.{holdings_in, IsAsked, IsQuiet}
 use Rattle.sc_hist_law.proofs.Disjoint.{one_or_not, holding_here, holding_there}
-use Rattle.sc_hist_law.proofs.Found.{found_name, found_now, found_still}
+use Rattle.sc_entries.proofs.Names.{found_name}
+use Rattle.sc_hist_law.proofs.Found.{found_now, found_still}
 use Rattle.sc_hist_law.proofs.Logs.{OnlyMembers, ordered_either}
 use Rattle.sc_hist_law.proofs.MovesKept.{move_kept, same_told}
 use Rattle.sc_hist_law.proofs.Quiet.{no_birth, same_transactions, same_ring}
@@ -86,21 +89,8 @@ module _ (request : RequestOf) (bases : List Base) (world : StoreWorld) (quiet :
   id_is : result.0.core.id ≡ group.core.id
   id_is = ap (λ (core : Core). core.id) only
 
-  own : named_group group.core.id world.groups ≡ Some group
-  own = ap (λ n. named_group n world.groups) (found_name name world.groups group found) ∙ found
-
-  groups_are : after.groups ≡ with_group group.core.id result.0 world.groups
-  groups_are =
-      ap (λ o. groups_after group result.0 o world.groups) (no_birth group c result.1 keeps)
-      ∙ append-nil (with_group group.core.id result.0 world.groups)
-
-  here : (other : Draw) → other ≡ group.core.id → named_group other after.groups ≡ Some result.0
-  here other e =
-      ap (named_group other) groups_are ∙ ap (λ n. named_group n (with_group group.core.id result.0 world.groups)) e
-      ∙ found_now group.core.id result.0 world.groups group id_is own
-
-  there : (other : Draw) → (other ≡ group.core.id → ⊥) → named_group other after.groups ≡ named_group other world.groups
-  there other ne = ap (named_group other) groups_are ∙ found_still group.core.id other result.0 world.groups id_is ne
+  unborn : birth_of group c result.1 ≡ None
+  unborn = no_birth group c result.1 keeps
 
   transactions_are : after.transactions ≡ []
   transactions_are = same_transactions group.core c result.1 world.transactions keeps ∙ quiet.transactions
@@ -113,11 +103,11 @@ module _ (request : RequestOf) (bases : List Base) (world : StoreWorld) (quiet :
       ap (arc_in other) ring_is
       ∙ elim (one_or_not other group.core.id) as (λ _. arc_in other world.ring ≡ Some now.core.arc) [
         | inl e ↦ (
-            let same : Some result.0 ≡ Some now = sym (here other e) ∙ is in
+            let same : Some result.0 ≡ Some now = sym (here world name group found c result id_is unborn other e) ∙ is in
             let it : result.0 ≡ now = cc in
-            quiet.cuts other group (ap (λ n. named_group n world.groups) e ∙ own)
+            quiet.cuts other group (ap (λ n. named_group n world.groups) e ∙ own_group world name group found c result id_is unborn)
             ∙ ap Some (sym (ap (λ (core : Core). core.arc) only) ∙ ap (λ (g : Group). g.core.arc) it))
-        | inr ne ↦ quiet.cuts other now (sym (there other ne) ∙ is)
+        | inr ne ↦ quiet.cuts other now (sym (there world name group found c result id_is unborn other ne) ∙ is)
       ]
 
   before_is : (other : Draw) → holdings_in world other ≡ option_map holding_of (named_group other world.groups)
@@ -127,13 +117,13 @@ module _ (request : RequestOf) (bases : List Base) (world : StoreWorld) (quiet :
   after_is = holdings_are after transactions_are cuts_are
 
   held_here : (other : Draw) → other ≡ group.core.id → holdings_in after other ≡ Some (holding_of result.0)
-  held_here other e = after_is other ∙ ap (option_map holding_of) (here other e)
+  held_here other e = after_is other ∙ ap (option_map holding_of) (here world name group found c result id_is unborn other e)
 
   held_there : (other : Draw) → (other ≡ group.core.id → ⊥) → holdings_in after other ≡ holdings_in world other
-  held_there other ne = after_is other ∙ ap (option_map holding_of) (there other ne) ∙ sym (before_is other)
+  held_there other ne = after_is other ∙ ap (option_map holding_of) (there world name group found c result id_is unborn other ne) ∙ sym (before_is other)
 
   own_holding : holdings_in world group.core.id ≡ Some (holding_of group)
-  own_holding = before_is group.core.id ∙ ap (option_map holding_of) own
+  own_holding = before_is group.core.id ∙ ap (option_map holding_of) (own_group world name group found c result id_is unborn)
 
   -- with what is told of it
   quiet_with : TellsHoldings request after.history (holdings_in after) → IsQuietWorld request bases after

@@ -12,6 +12,7 @@ use Rattle.sc_paxos_words.proofs.ListLemmas.{find_filter, find_nothing, Each-pas
 use Rattle.sc_entries.specs.declared.Cut.{Cut}
 use Rattle.sc_entries.specs.declared.Division.{Division}
 use Rattle.sc_entries.specs.Rings.{arc_in, is_cut_of, parts_of, recut}
+use Rattle.sc_entries.proofs.Names.{other_name}
 
 -- whether a group has a cut
 abbrev pub has_arc : Draw → List Cut → Bool
@@ -34,7 +35,8 @@ has_recut name group arc (cut ∷ ring) =
     ∙ ap (λ b. cond (is_cut_of name cut) true b) (has_recut name group arc ring)
     ∙ sym (has_first name cut ring)
 
-is_none_of : (o : Option Arc) → is_some o ≡ false → o ≡ None
+-- a group with no arc
+pub is_none_of : (o : Option Arc) → is_some o ≡ false → o ≡ None
 is_none_of None e = refl
 is_none_of (Some arc) e = (let no_way : true ≡ false = e in absurd (cc))
 
@@ -80,16 +82,13 @@ has_divided name group division (cut ∷ ring) ne =
     let rest = flat_map (parts_of group division) ring in
     elim (cases_Bool (is_cut_of group cut)) [
       | inl t ↦ divided_first name group division cut rest t
-          ∙ ap (λ b. cond (is_cut_of name cut) true (cond b true (has_arc name rest))) (not_same division.child name (λ e. ne (sym e)))
+          ∙ ap (λ b. cond (is_cut_of name cut) true (cond b true (has_arc name rest))) (other_name division.child name (λ e. ne (sym e)))
           ∙ ap (λ b. cond (is_cut_of name cut) true b) (has_divided name group division ring ne)
           ∙ sym (has_first name cut ring)
       | inr f ↦ whole_first name group division cut rest f
           ∙ ap (λ b. cond (is_cut_of name cut) true b) (has_divided name group division ring ne)
           ∙ sym (has_first name cut ring)
     ]
-  where
-    not_same : (a b : Draw) → (a ≡ b → ⊥) → same_draw a b ≡ false
-    not_same a b ne = elim (cases_Bool (same_draw a b)) [ inl t ↦ absurd (ne (draw_is a b t)) | inr f ↦ f ]
 
 either_true : (b : Bool) → cond b true true ≡ true
 either_true true = refl

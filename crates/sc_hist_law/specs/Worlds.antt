@@ -7,12 +7,12 @@ use Rattle.sc_base.specs.declared.names.Draw.{Draw}
 use Rattle.sc_cmd.specs.declared.commands.Command.{Command}
 use Rattle.sc_cmd.specs.declared.commands.Command.TheVariants.{Noop, Call, Join, Leave, Split, Begin, Prepared, RecordVote, GiveUp, Finish, Watched, RecordWatch}
 use Rattle.sc_cmd.specs.declared.cores.Base.{Base}
-use Rattle.sc_ideal.specs.History.{Legal, contents_after}
-use Rattle.sc_ideal.specs.IdealStore.{part_of}
+use Rattle.sc_ideal.specs.History.{Legal}
 use Rattle.sc_machine_table.specs.Group.{Group}
 use Rattle.sc_entries.specs.declared.Cut.{Cut}
 use Rattle.sc_entries.specs.declared.LogEntry.{LogEntry}
 use Rattle.sc_entries.specs.Effective.{effective}
+use Rattle.sc_entries.specs.Parts.{HoldsItsPart}
 use Rattle.sc_entries.specs.Rings.{Covers, arc_in, first_cut}
 use Rattle.sc_entries.specs.Worlds.{StoreWorld, first_world, named_group, told, world_of}
 use Rattle.sc_hist_law.specs.Laws.{LeavesWhole}
@@ -52,10 +52,6 @@ pub record IsQuiet (request : RequestOf) (entry : LogEntry) : Type 0 where
   pub whole : LeavesWhole entry.command
   pub asked : IsAsked request entry.command
 
--- the map after the history, on a cut's arc, is the pairs of its group's effective record
-abbrev pub HasItsCut : StoreWorld → Cut → Type 0
-HasItsCut world cut = (group : Group) → effective world cut.group ≡ Some group → group.pairs ≡ part_of cut.arc (contents_after empty world.history)
-
 -- what any group's own log ever made it note has its entry in the history of all entries: a replica that answers by an older state answers by the history
 abbrev pub LogNotesStay : List Base → List LogEntry → Type 0
 LogNotesStay bases entries = (front more : List LogEntry) → entries ≡ front ++ more → (name : Draw) (group : Group) → named_group name (world_of bases front).groups ≡ Some group
@@ -65,7 +61,7 @@ LogNotesStay bases entries = (front more : List LogEntry) → entries ≡ front 
 pub record IsToldWorld (request : RequestOf) (world : StoreWorld) : Type 0 where
   pub legal : Legal world.history
   pub told : TellsHoldings request world.history (holdings_in world)
-  pub parts : (cut : Cut) → Among cut world.ring → HasItsCut world cut
+  pub parts : (cut : Cut) → Among cut world.ring → HoldsItsPart world cut
 
 -- whatever requests, joins and leaves the groups of a scenario execute, the requests that took effect, whichever group served them, are one legal history; the cuts stay, and the effective record of each cut's group has the map after it on that cut
 pub record TellQuietly (request : RequestOf) (bases : List Base) (entries : List LogEntry) : Type 0 where
@@ -110,7 +106,7 @@ HasCutArc world cut = (group : Group) → effective world cut.group ≡ Some gro
 -- the history tells what all groups hold, cut by cut where the records have the arcs of the cuts, and the notes of all logs stay in it
 pub record TellByMoves (request : RequestOf) (bases : List Base) (entries : List LogEntry) : Type 0 where
   pub told : TellsHoldings request (world_of bases entries).history (holdings_in (world_of bases entries))
-  pub parts : (cut : Cut) → Among cut (world_of bases entries).ring → HasCutArc (world_of bases entries) cut → HasItsCut (world_of bases entries) cut
+  pub parts : (cut : Cut) → Among cut (world_of bases entries).ring → HasCutArc (world_of bases entries) cut → HoldsItsPart (world_of bases entries) cut
   pub notes : LogNotesStay bases entries
 
 -- whatever the entries are, where each of them makes a move

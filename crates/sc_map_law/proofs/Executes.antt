@@ -43,14 +43,15 @@ use Rattle.sc_ring_law.proofs.Commits.{IsDeciding, own_is, mine_old, part_eff, p
 use Rattle.sc_ring_law.proofs.Cuts.{arcs_in, arc_of_cut}
 use Rattle.sc_ring_law.proofs.Effects.{decisions, outcome_of, living, eff, arc_of, succ_of, view_of, Old, eff_by, eff_free, living_is}
 use Rattle.sc_ring_law.proofs.Ends.{own_story, group_none}
-use Rattle.sc_ring_law.proofs.Finds.{some_is, none_is_not, find_there}
+use Rattle.sc_ring_law.proofs.Finds.{none_is_not, find_there}
 use Rattle.sc_ring_law.proofs.Insides.{room_of}
 use Rattle.sc_ring_law.proofs.Links.{IsPair, pair_meets}
 use Rattle.sc_ring_law.proofs.Reshapes.{Ends}
 use Rattle.sc_ring_law.proofs.Rows.{some_none, same_offer, unheard}
 use Rattle.sc_ring_law.proofs.Sound.{sound_world}
 use Rattle.sc_ring_law.proofs.Steps.{lock_free, watch_settled}
-use Rattle.sc_ring_law.proofs.Told.{groups_in, group_named, brief, story_brief, decision_is}
+use Rattle.sc_entries.proofs.Names.{found_name, some_is}
+use Rattle.sc_ring_law.proofs.Told.{groups_in, brief, story_brief, decision_is}
 use Rattle.sc_ring_law.proofs.Worlds.{KeptWorld, kept_on}
 use Rattle.sc_hist_law.specs.Telling.{HasCut, IsUncommitted, MayCall, MaySplit, IsItsOwn, IsParty, MayHear, MayHearWatcher, MayFinish, MayExecute, MayAllBeTold}
 
@@ -83,7 +84,7 @@ module _ (sources : Sources) (w : ToldWorld) (k : KeptWorld sources.owner w) (g 
   ys = w.stories
 
   named : s.core.id ≡ g
-  named = group_named g w.store.groups s is
+  named = found_name g w.store.groups s is
 
   cut_by : (name : Draw) (e : Group) → Old gs ys name ≡ Some e → HasCut w.store name
   cut_by name e old = (e.core.arc, k.kept.1.2 name ∙ ap arc_of old)

@@ -2,7 +2,7 @@
 use Rattle.std.proofs.Common.{sym, ◌∙◌, ap}
 use Rattle.sc_machine_table.specs.Group.{Group}
 use Rattle.sc_ring_law.specs.Allowed.{first_told}
-use Rattle.sc_ring_law.proofs.Finds.{some_is}
+use Rattle.sc_entries.proofs.Names.{some_is}
 use Rattle.sc_ring_law.proofs.Sound.{entries_keep_the_ring}
 use Rattle.sc_ring_law.proofs.Start.{at_start}
 use Rattle.sc_hist_law.specs.Telling.{EntriesThatMayBeToldTell}

@@ -12,10 +12,10 @@ use Rattle.sc_entries.specs.declared.Cut.{Cut}
 use Rattle.sc_entries.specs.declared.Division.{Division}
 use Rattle.sc_entries.specs.Rings.{is_cut_of, arc_in, recut, parts_of}
 use Rattle.sc_ring_law.specs.Stories.{put}
-use Rattle.sc_ring_law.proofs.Names.{draw_cases, other_name}
+use Rattle.sc_entries.proofs.Names.{draw_cases, other_name, some_is}
 use Rattle.sc_ring_law.proofs.Cover.{at-is, at-other}
 use Rattle.sc_ring_law.proofs.View.{Ring}
-use Rattle.sc_ring_law.proofs.Finds.{some_is, find_map, find_first, find_skips, find_passes, find_there, each_from, each_map, each_filter, Pairwise, pairwise_filter}
+use Rattle.sc_ring_law.proofs.Finds.{find_map, find_first, find_skips, find_passes, find_there, each_from, each_map, each_filter, Pairwise, pairwise_filter}
 
 -- the ring by the names of groups
 abbrev pub arcs_in : List Cut → Ring

@@ -16,7 +16,7 @@ use Rattle.sc_entries.specs.Effective.{after_outcome}
 use Rattle.sc_ring_law.specs.Stories.{Story, Stories, put, unsigned, unsigned_watch}
 use Rattle.sc_ring_law.specs.Invariant.{Groups, LockOk}
 use Rattle.sc_ring_law.proofs.View.{View, Ring, HeldBy}
-use Rattle.sc_ring_law.proofs.Names.{draw_cases}
+use Rattle.sc_entries.proofs.Names.{draw_cases}
 use Rattle.sc_ring_law.proofs.Cover.{at-is, at-other}
 use Rattle.sc_ring_law.proofs.Facts.{same_story, IsOf}
 use Rattle.sc_ring_law.proofs.Recut.{IsWhole}

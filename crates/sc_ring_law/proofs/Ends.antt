@@ -16,7 +16,7 @@ use Rattle.sc_machine_table.specs.Transactions.{heard_group}
 use Rattle.sc_machine_table.specs.Votes.{has_voted}
 use Rattle.sc_ring_law.specs.Stories.{Story, Stories, put, merge_watch, unsigned_watch}
 use Rattle.sc_ring_law.specs.Invariant.{Groups, has_decided, has_born, IsCoordinating, LockOk, IsEarned, Origin, Facts}
-use Rattle.sc_ring_law.proofs.Names.{draw_cases}
+use Rattle.sc_entries.proofs.Names.{draw_cases}
 use Rattle.sc_ring_law.proofs.Cover.{at-same, at-is, at-other, from_at}
 use Rattle.sc_ring_law.proofs.Facts.{same_group, same_story, IsOf, keep_known, keep_there, keep_voter, keep_watcher, keep_frozen, keep_none, facts_quiet, facts_told}
 use Rattle.sc_ring_law.proofs.Rows.{some_none, other_calm, no_coord}

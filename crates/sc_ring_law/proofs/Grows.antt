@@ -37,10 +37,9 @@ use Rattle.sc_ring_law.specs.Allowed.{Sources, IsVoteCast, IsWatchVoteCast, IsAl
 use Rattle.sc_ring_law.specs.Stories.{Story, Stories, put, retold, new_story, unsigned, unsigned_watch, watch_for, vote_in, watch_vote_in, with_vote, with_watch_vote, with_decision, with_asked, with_answer, stories_after}
 use Rattle.sc_ring_law.specs.Invariant.{Groups}
 use Rattle.sc_ring_law.specs.Laws.{AllowedEntriesStayAllowed}
-use Rattle.sc_ring_law.proofs.Names.{draw_cases}
+use Rattle.sc_entries.proofs.Names.{draw_cases, some_is}
 use Rattle.sc_ring_law.proofs.View.{Ring}
 use Rattle.sc_ring_law.proofs.Cover.{at-is, at-other}
-use Rattle.sc_ring_law.proofs.Finds.{some_is}
 use Rattle.sc_ring_law.proofs.Rows.{some_none, unheard, not_passed}
 use Rattle.sc_ring_law.proofs.Ends.{draw_new, own_story}
 use Rattle.sc_ring_law.proofs.Steps.{Kept, named_cases}

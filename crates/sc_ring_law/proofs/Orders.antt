@@ -33,7 +33,7 @@ use Rattle.sc_entries.specs.Effective.{after_outcome, is_commit}
 use Rattle.sc_entries.specs.declared.Division.{Division}
 use Rattle.sc_ring_law.specs.Stories.{Story, Stories, put, new_story, stories_after}
 use Rattle.sc_ring_law.specs.Invariant.{Groups, LockOk}
-use Rattle.sc_ring_law.proofs.Names.{names_differ}
+use Rattle.sc_entries.proofs.Names.{names_differ}
 use Rattle.sc_ring_law.proofs.Notes.{any_keeps, any_new, ended_keeps, is_vote_on}
 use Rattle.sc_ring_law.proofs.View.{Ring}
 use Rattle.sc_ring_law.proofs.Cover.{at-same, at-other}

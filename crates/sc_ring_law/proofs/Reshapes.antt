@@ -23,7 +23,7 @@ use Rattle.sc_entries.specs.Effective.{is_commit}
 use Rattle.sc_base.proofs.NameLemmas.{draw_is}
 use Rattle.sc_ring_law.specs.Stories.{Story, Stories, unsigned, unsigned_watch, offer_for, offer_with, watch_for, watch_with}
 use Rattle.sc_ring_law.specs.Invariant.{Groups, IsFrozen}
-use Rattle.sc_ring_law.proofs.Names.{other_name}
+use Rattle.sc_entries.proofs.Names.{other_name}
 use Rattle.sc_ring_law.proofs.View.{Ring}
 use Rattle.sc_ring_law.proofs.Links.{not_back}
 use Rattle.sc_ring_law.proofs.Rows.{some_none, same_offer, same_watch}

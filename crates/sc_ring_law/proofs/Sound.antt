@@ -22,16 +22,18 @@ use Rattle.sc_entries.specs.Worlds.{StoreWorld, named_group, world_after}
 use Rattle.sc_ring_law.specs.Allowed.{Sources, IsAllowed, AreAllowed, ToldWorld, first_told, told_on, told_after}
 use Rattle.sc_ring_law.specs.Stories.{Stories}
 use Rattle.sc_ring_law.specs.Invariant.{Facts}
-use Rattle.sc_ring_law.specs.Laws.{IsInPlace, IsRingSound, EntriesKeepTheRing, EntriesKeepThePromises, DrawsAreOfOneLog, draw_of, AllowedListsAppend}
+use Rattle.sc_entries.specs.Parts.{IsPlaced}
+use Rattle.sc_ring_law.specs.Laws.{IsRingSound, EntriesKeepTheRing, EntriesKeepThePromises, DrawsAreOfOneLog, draw_of, AllowedListsAppend}
 use Rattle.sc_ring_law.proofs.View.{Holds, HeldBy, CoversBy}
-use Rattle.sc_ring_law.proofs.Finds.{some_is, none_is_not, all_pairs}
+use Rattle.sc_entries.proofs.Names.{some_is}
+use Rattle.sc_ring_law.proofs.Finds.{none_is_not, all_pairs}
 use Rattle.sc_ring_law.proofs.Cuts.{arcs_in, cut_of_arc, arc_of_cut}
 use Rattle.sc_ring_law.proofs.Rows.{IsOpen}
 use Rattle.sc_ring_law.proofs.Effects.{decisions, settle_by, living_by, eff, arc_of, succ_of, pred_of, view_of, Old}
 use Rattle.sc_ring_law.proofs.Steps.{same_fun, serving}
 use Rattle.sc_ring_law.proofs.Told.{groups_in, Agree, decision_is}
 use Rattle.sc_ring_law.proofs.Worlds.{KeptWorld, kept_after}
-use Rattle.sc_ring_law.proofs.Start.{at_start}
+use Rattle.sc_ring_law.proofs.Start.{at_start, is_held, arc_some}
 
 -- ---- effective records
 
@@ -52,10 +54,6 @@ pub record HasRecord (w : ToldWorld) (g : Draw) (a : Arc) : Type 0 where
   pub here : group.core.gone ≡ None
   pub arc : group.core.arc ≡ a
   pub old : Old (groups_in w.store.groups) w.stories g ≡ Some group
-
-arc_has : (o : Option Group) (a : Arc) → arc_of o ≡ Some a → (u : Group) × (o ≡ Some u) × (u.core.arc ≡ a)
-arc_has None a e = absurd (none_is_not a e)
-arc_has (Some u) a e = (u, refl, some_is u.core.arc a e)
 
 eff_has : (w : ToldWorld) (g : Draw) (a : Arc) (e : Group) → Agree w.store.transactions w.stories → e.core.arc ≡ a → (o : Option Group) → named_group g w.store.groups ≡ o → eff (decisions w.stories) o ≡ Some e → HasRecord w g a
 eff_has w g a e k arc None is q = absurd (none_is_not e q)
@@ -100,16 +98,12 @@ module _ (owner : Draw → Option Draw) (w : ToldWorld) (k : KeptWorld owner w) 
   held : (c : Cut) → Among c w.store.ring → (p : ℕ) → IsTrue (holds c.arc p) → HeldBy (arc_in c.group w.store.ring) p
   held c a p h = subst (λ o. HeldBy o p) (sym (cut_arc c a)) (ltb-true (offset c.arc p) c.arc.len h)
 
-  held_arc : (o : Option Arc) (p : ℕ) → HeldBy o p → (x : Arc) × (o ≡ Some x) × Holds x p
-  held_arc None p h = absurd h
-  held_arc (Some x) p h = (x, refl, h)
-
   covers : Covers w.store.ring
   covers = record {
     arcs = λ c a. (let r = cover.arcs c.group c.arc (cut_arc c a) in (record { some = r.some; most = r.len_fits }, r.lo_fits));
     some = λ p q. (
         let o = cover.owner p q in
-        let x = held_arc (arc_in o.0 w.store.ring) p o.1 in
+        let x = is_held (arc_in o.0 w.store.ring) p o.1 in
         let c = cut_of_arc w.store.ring o.0 x.0 x.1 in
         (c.cut, c.there, lt-ltb (offset c.cut.arc p) c.cut.arc.len (subst (λ z. Holds z p) (sym c.arc) x.2)));
     only = λ p q a b x y u v. (
@@ -120,14 +114,14 @@ module _ (owner : Draw → Option Draw) (w : ToldWorld) (k : KeptWorld owner w) 
 
   record_of : (c : Cut) → Among c w.store.ring → HasRecord w c.group c.arc
   record_of c a =
-      let r = arc_has (d c.group) c.arc (sym (k.kept.1.2 c.group) ∙ cut_arc c a) in
+      let r = arc_some (d c.group) c.arc (sym (k.kept.1.2 c.group) ∙ cut_arc c a) in
       eff_has w c.group c.arc r.0 k.told r.2 (named_group c.group w.store.groups) refl r.1
 
   -- the cut of a group that the view has an arc for
   view_cut : (g : Draw) (a : Arc) → (view_of d).arc g ≡ Some a → (c : Cut) × Among c w.store.ring × (c.group ≡ g) × (c.arc ≡ a)
   view_cut g a e = let c = cut_of_arc w.store.ring g a (k.kept.1.2 g ∙ e) in (c.cut, c.there, c.group, c.arc)
 
-  placed : (c : Cut) → Among c w.store.ring → IsInPlace w.store c
+  placed : (c : Cut) → Among c w.store.ring → IsPlaced w.store c
   placed c a =
       let r = record_of c a in
       let v = view_of d in

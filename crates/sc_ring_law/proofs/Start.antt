@@ -21,13 +21,13 @@ use Rattle.sc_ring_law.specs.Allowed.{Sources, first_told}
 use Rattle.sc_ring_law.specs.Stories.{no_stories}
 use Rattle.sc_ring_law.specs.Invariant.{Groups, LockOk, Facts}
 use Rattle.sc_ring_law.specs.Laws.{BeginInPlace, BeginsInPlace}
-use Rattle.sc_ring_law.proofs.Names.{other_name}
+use Rattle.sc_entries.proofs.Names.{other_name, found_name, some_is}
 use Rattle.sc_ring_law.proofs.View.{IsOnRing, Holds, HeldBy, Ring, CoversBy, View, IsLinked}
-use Rattle.sc_ring_law.proofs.Finds.{some_is, none_is_not, find_first, find_skips, find_there, among_map, map_among, each_among, each_from, Pairwise, pairwise_from}
+use Rattle.sc_ring_law.proofs.Finds.{none_is_not, find_first, find_skips, find_there, among_map, map_among, each_among, each_from, Pairwise, pairwise_from}
 use Rattle.sc_ring_law.proofs.Cuts.{arcs_in, cut_of_arc, arc_of_cut}
 use Rattle.sc_ring_law.proofs.Effects.{decisions, eff, arc_of, succ_of, pred_of, view_of, IsInside, Good, Old, eff_free}
 use Rattle.sc_ring_law.proofs.Insides.{holds_first}
-use Rattle.sc_ring_law.proofs.Told.{groups_in, group_named}
+use Rattle.sc_ring_law.proofs.Told.{groups_in}
 use Rattle.sc_ring_law.proofs.Steps.{same_fun}
 use Rattle.sc_ring_law.proofs.Rings.{AreApart}
 use Rattle.sc_ring_law.proofs.Worlds.{KeptWorld}
@@ -57,7 +57,8 @@ on_ring ring c g a e =
 held_is : (o : Option Arc) (a : Arc) (p : ℕ) → o ≡ Some a → Holds a p → HeldBy o p
 held_is o a p e h = subst (λ x. HeldBy x p) (sym e) h
 
-is_held : (o : Option Arc) (p : ℕ) → HeldBy o p → (a : Arc) × (o ≡ Some a) × Holds a p
+-- who holds a position has an arc
+pub is_held : (o : Option Arc) (p : ℕ) → HeldBy o p → (a : Arc) × (o ≡ Some a) × Holds a p
 is_held None p h = absurd h
 is_held (Some a) p h = (a, refl, h)
 
@@ -114,7 +115,8 @@ cut_arc h (b ∷ bases) = elim (cases_Bool (same_draw b.core.id h)) [
   | inr t ↦ ap (option_map (λ (c : Cut). c.arc)) (find_skips (is_cut_of h) (first_cut b) (map first_cut bases) t) ∙ cut_arc h bases ∙ sym (ap arc_of (find_skips (is_named h) (group_of b) (map group_of bases) t))
 ]
 
-arc_some : (o : Option Group) (a : Arc) → arc_of o ≡ Some a → (u : Group) × (o ≡ Some u) × (u.core.arc ≡ a)
+-- who has an arc is there
+pub arc_some : (o : Option Group) (a : Arc) → arc_of o ≡ Some a → (u : Group) × (o ≡ Some u) × (u.core.arc ≡ a)
 arc_some None a e = absurd (none_is_not a e)
 arc_some (Some u) a e = (u, refl, some_is u.core.arc a e)
 
@@ -189,7 +191,7 @@ module _ (sources : Sources) (bases : List Base) (start : BeginInPlace sources b
   base_of g a e =
       let r = arc_some (gs g) a e in
       let k = found_base bases g r.0 r.1 in
-      (k.base, k.there, ap (λ (x : Group). x.core.id) k.is ∙ group_named g (map group_of bases) r.0 r.1, ap (λ (x : Group). x.core.arc) k.is ∙ r.2)
+      (k.base, k.there, ap (λ (x : Group). x.core.id) k.is ∙ found_name g (map group_of bases) r.0 r.1, ap (λ (x : Group). x.core.arc) k.is ∙ r.2)
 
   linked : IsLinked v
   linked = record {
@@ -226,11 +228,11 @@ module _ (sources : Sources) (bases : List Base) (start : BeginInPlace sources b
   facts : Facts sources.owner gs no_stories
   facts = record {
     group = λ h u e. (let r = is_first h u e in record {
-      named = group_named h (map group_of bases) u e;
+      named = found_name h (map group_of bases) u e;
       lock_ok = subst (LockOk no_stories h u) (sym (ap (λ (x : Group). x.core.lock) (sym r.0.is) ∙ r.1.free)) tt;
     });
     story = λ tx y e. absurd (none_is_not y e);
-    origin = λ h u e. (let r = is_first h u e in inl (ap sources.owner (sym (group_named h (map group_of bases) u e) ∙ ap (λ (x : Group). x.core.id) (sym r.0.is)) ∙ r.1.unowned));
+    origin = λ h u e. (let r = is_first h u e in inl (ap sources.owner (sym (found_name h (map group_of bases) u e) ∙ ap (λ (x : Group). x.core.id) (sym r.0.is)) ∙ r.1.unowned));
   }
 
   pub at_start : KeptWorld sources.owner (first_told bases)

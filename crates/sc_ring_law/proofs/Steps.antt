@@ -47,7 +47,7 @@ use Rattle.sc_entries.specs.Effective.{after_outcome, is_commit}
 use Rattle.sc_ring_law.specs.Allowed.{IsShared}
 use Rattle.sc_ring_law.specs.Stories.{Story, Stories, put, retold, new_story, unsigned, unsigned_watch, vote_in, watch_vote_in, with_vote, with_watch_vote, stories_after}
 use Rattle.sc_ring_law.specs.Invariant.{Groups, has_decided, has_born, IsOwnBody, Facts}
-use Rattle.sc_ring_law.proofs.Names.{draw_cases, names_differ}
+use Rattle.sc_entries.proofs.Names.{draw_cases, names_differ}
 use Rattle.sc_ring_law.proofs.View.{Ring}
 use Rattle.sc_ring_law.proofs.Cover.{at-same, at-is, at-other}
 use Rattle.sc_base.proofs.NameLemmas.{same_name}

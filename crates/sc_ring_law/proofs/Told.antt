@@ -16,20 +16,16 @@ use Rattle.sc_entries.specs.Decisions.{is_of, amended, concluded, with_outcome a
 use Rattle.sc_entries.specs.Worlds.{is_named, named_group, with_group, groups_after}
 use Rattle.sc_ring_law.specs.Stories.{Story, Stories, put, retold, with_decision}
 use Rattle.sc_ring_law.specs.Invariant.{Groups}
-use Rattle.sc_ring_law.proofs.Names.{draw_cases, other_name}
+use Rattle.sc_entries.proofs.Names.{draw_cases, other_name, some_is, found_name}
 use Rattle.sc_ring_law.proofs.Cover.{at-same, at-is, at-other}
 use Rattle.sc_ring_law.proofs.Effects.{outcome_of}
-use Rattle.sc_ring_law.proofs.Finds.{some_is, none_is_not, find_map, find_passes, among_map, among_append}
+use Rattle.sc_ring_law.proofs.Finds.{none_is_not, find_map, find_passes, among_map, among_append}
 
 -- ---- groups
 
 -- groups by their names
 abbrev pub groups_in : List Group → Groups
 groups_in groups name = named_group name groups
-
--- the group that is found has the name
-pub group_named : (h : Draw) (groups : List Group) (u : Group) → named_group h groups ≡ Some u → u.core.id ≡ h
-group_named h groups u e = draw_is u.core.id h (find_passes (is_named h) groups u e)
 
 abbrev replaced : Draw → Group → Group → Group
 replaced name after group = cond (is_named name group) after group
@@ -51,8 +47,8 @@ pub with_group_is : (name : Draw) (after s : Group) (groups : List Group) → af
 with_group_is name after s groups id is h =
     find_map (is_named h) (replaced name after) (replaced_name name after id h) groups
     ∙ elim (draw_cases h name) as (λ _. option_map (replaced name after) (named_group h groups) ≡ put (groups_in groups) name (Some after) h) [
-      | inl q ↦ replaced_same name after h q (named_group h groups) (λ u e. group_named h groups u e) s (ap (groups_in groups) q ∙ is) ∙ sym (at-is (groups_in groups) name (Some after) h q)
-      | inr ne ↦ replaced_other name after h ne (named_group h groups) (λ u e. group_named h groups u e) ∙ sym (at-other (groups_in groups) name (Some after) h ne)
+      | inl q ↦ replaced_same name after h q (named_group h groups) (λ u e. found_name h groups u e) s (ap (groups_in groups) q ∙ is) ∙ sym (at-is (groups_in groups) name (Some after) h q)
+      | inr ne ↦ replaced_other name after h ne (named_group h groups) (λ u e. found_name h groups u e) ∙ sym (at-other (groups_in groups) name (Some after) h ne)
     ]
 
 -- the groups with a child, if there is one

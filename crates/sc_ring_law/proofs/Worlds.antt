@@ -37,13 +37,13 @@ use Rattle.sc_ring_law.specs.Stories.{Story, Stories, put, retold, new_story, vo
 use Rattle.sc_ring_law.specs.Invariant.{Groups}
 use Rattle.sc_ring_law.proofs.View.{Ring}
 use Rattle.sc_ring_law.proofs.Cover.{at-same, at-other}
-use Rattle.sc_ring_law.proofs.Finds.{some_is}
 use Rattle.sc_ring_law.proofs.Rows.{some_none}
 use Rattle.sc_ring_law.proofs.Ends.{draw_new, group_none, own_story}
 use Rattle.sc_ring_law.proofs.Effects.{decisions, eff, arc_of}
 use Rattle.sc_ring_law.proofs.Steps.{Kept, same_fun, idle, call_kept, join_kept, leave_kept, begin_kept, prepared_kept, watched_kept, named_cases}
 use Rattle.sc_ring_law.proofs.Cuts.{arcs_in}
-use Rattle.sc_ring_law.proofs.Told.{groups_in, with_child, groups_are, AreFound, found_after, Agree, story_brief, agree_begun, agree_retold, agree_watcher, agree_concluded, group_named}
+use Rattle.sc_entries.proofs.Names.{found_name, some_is}
+use Rattle.sc_ring_law.proofs.Told.{groups_in, with_child, groups_are, AreFound, found_after, Agree, story_brief, agree_begun, agree_retold, agree_watcher, agree_concluded}
 use Rattle.sc_ring_law.proofs.Commits.{ring_told}
 use Rattle.sc_ring_law.proofs.Decisions.{born_too, record_kept, give_up_kept, watch_record_kept}
 use Rattle.sc_ring_law.proofs.Orders.{split_kept, finish_kept}
@@ -276,7 +276,7 @@ step_kept sources w g command k a (Some s) e =
     let r = applied s command in
     let land = landed sources ring gs w.stories g s k.kept e command a in
     let fit = fits sources ring gs w.stories g s k.kept e command a in
-    let named = group_named g w.store.groups s e in
+    let named = found_name g w.store.groups s e in
     let division = division_of s.core command r.1 in
     let next = born_too s (put gs g (Some r.0)) division in
     let id : r.0.core.id ≡ s.core.id = (land.0.group g r.0 (still_there gs g s r.0 e division fit.births)).named ∙ sym named in

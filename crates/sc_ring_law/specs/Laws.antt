@@ -3,7 +3,6 @@ use Rattle.std.specs.Prelude.{◌≡◌, ℕ, IsTrue, List, [], ◌++◌, map, O
 use Rattle.sc_base.specs.Among.{Among}
 use Rattle.sc_base.specs.Arc.{end_of}
 use Rattle.sc_base.specs.declared.names.Draw.{Draw}
-use Rattle.sc_ideal.specs.IdealStore.{holds_key}
 use Rattle.sc_cmd.specs.declared.commands.Command.{Command}
 use Rattle.sc_cmd.specs.declared.commands.Command.TheVariants.{Noop, Call, Join, Leave, Split, Begin, Prepared, RecordVote, GiveUp, Finish, Watched, RecordWatch}
 use Rattle.sc_cmd.specs.declared.cores.Base.{Base}
@@ -12,7 +11,7 @@ use Rattle.sc_cmd.specs.declared.cores.Lock.TheVariants.{Free}
 use Rattle.sc_machine_table.specs.Group.{Group}
 use Rattle.sc_entries.specs.declared.Cut.{Cut}
 use Rattle.sc_entries.specs.declared.LogEntry.{LogEntry}
-use Rattle.sc_entries.specs.Effective.{effective, serves}
+use Rattle.sc_entries.specs.Parts.{IsPlaced, ServesItsCut}
 use Rattle.sc_entries.specs.Rings.{Covers, first_cut}
 use Rattle.sc_entries.specs.Worlds.{StoreWorld, named_group, world_of}
 use Rattle.sc_ring_law.specs.Allowed.{Sources, IsAllowed, AreAllowed, ToldWorld, first_told, told_after}
@@ -41,30 +40,11 @@ pub record BeginInPlace (sources : Sources) (bases : List Base) : Type 0 where
 
 -- ---- the ring
 
--- The group of a cut, by its effective record, has the cut's arc and names its neighbours in the ring: itself where there is one cut.
-pub record IsInPlace (world : StoreWorld) (cut : Cut) : Type 0 where
-  -- its effective record
-  pub group : Group
-  pub is : effective world cut.group ≡ Some group
-  -- it is not gone
-  pub here : group.core.gone ≡ None
-  -- it has the arc of the cut
-  pub arc : group.core.arc ≡ cut.arc
-  -- its successor is the group of the next cut
-  pub succ : (other : Cut) × Among other world.ring × (other.arc.lo ≡ end_of cut.arc) × (group.core.succ.group ≡ other.group)
-  -- its predecessor is the group of the cut before
-  pub pred : (other : Cut) × Among other world.ring × (cut.arc.lo ≡ end_of other.arc) × (group.core.pred.group ≡ other.group)
-
--- a group that serves a key is the group of the cut that holds its position
-abbrev pub ServesWithinItsCut : StoreWorld → Type 0
-ServesWithinItsCut world = (group : Group) → Among group world.groups → (key : List ℕ) → IsTrue (serves group key)
-    → (cut : Cut) × Among cut world.ring × (cut.group ≡ group.core.id) × IsTrue (holds_key cut.arc key)
-
 -- the ring covers, each cut's group is placed in it, and no other group serves its keys
 pub record IsRingSound (world : StoreWorld) : Type 0 where
   pub covers : Covers world.ring
-  pub placed : (cut : Cut) → Among cut world.ring → IsInPlace world cut
-  pub serves_apart : ServesWithinItsCut world
+  pub placed : (cut : Cut) → Among cut world.ring → IsPlaced world cut
+  pub serves_apart : ServesItsCut world
 
 -- after every list of allowed entries the ring is sound
 abbrev pub EntriesKeepTheRing : Type 0

@@ -1,8 +1,6 @@
 -- What sound means, of a first part of a journal with any number of groups. Each fact is read off the rows' mail by the scenario alone; of the tables it takes only what a replica holds and which replies a client took.
-use Rattle.std.specs.Prelude.{◌≡◌, ℕ, ◌+◌, ◌<◌, ◌≤◌, nat_lt, IsTrue, List, [], ◌∷◌, ◌++◌, length, take, drop, if◌then◌else◌, Option, Some, None, slice_get}
-use Rattle.std.specs.FinMap.{empty}
+use Rattle.std.specs.Prelude.{◌≡◌, ℕ, ◌+◌, ◌<◌, ◌≤◌, nat_lt, List, [], ◌∷◌, ◌++◌, length, take, drop, if◌then◌else◌, Option, Some, None, slice_get}
 use Rattle.sc_base.specs.Among.{Among}
-use Rattle.sc_base.specs.Arc.{end_of}
 use Rattle.sc_base.specs.declared.ops.Reply.{Reply}
 use Rattle.sc_cmd.specs.declared.commands.Command.{Command}
 use Rattle.sc_cmd.specs.declared.cores.Base.{Base}
@@ -11,8 +9,7 @@ use Rattle.sc_mail.specs.declared.bodies.Mail.{Mail}
 use Rattle.sc_actor.specs.declared.rows.Row.{Row}
 use Rattle.sc_actor.specs.Replay.{value}
 use Rattle.sc_ideal.specs.declared.Entry.{Entry}
-use Rattle.sc_ideal.specs.History.{HasEntry, Legal, contents_after}
-use Rattle.sc_ideal.specs.IdealStore.{holds_key, part_of}
+use Rattle.sc_ideal.specs.History.{HasEntry, Legal}
 use Rattle.sc_machine_table.specs.Group.{Group, group_of}
 use Rattle.sc_machine_table.specs.Logs.{state_after}
 use Rattle.sc_node_table.specs.Node.{NodeState}
@@ -23,8 +20,8 @@ use Rattle.sc_players.specs.declared.roles.Role.TheVariants.{Node as ANode}
 use Rattle.sc_scenario.specs.declared.scenarios.Asks.{Asks}
 use Rattle.sc_scenario.specs.declared.scenarios.Scenario.{Scenario}
 use Rattle.sc_entries.specs.declared.Cut.{Cut}
-use Rattle.sc_entries.specs.Effective.{effective, serves}
 use Rattle.sc_entries.specs.Rings.{Covers}
+use Rattle.sc_entries.specs.Parts.{IsPlaced, ServesItsCut, HoldsItsPart}
 use Rattle.sc_entries.specs.Worlds.{StoreWorld, named_group}
 use Rattle.sc_sound.specs.Accepts.{accepts}
 use Rattle.sc_sound.specs.GroupsOf.{groups_at, log_at, state_at, world_at, history_at}
@@ -64,29 +61,6 @@ AllHaveRun ahead scenario rows = (number : ℕ) → 1 ≤ number → number ≤ 
     → (node : NodeState) → value player_table (node_seat ahead scenario.groups number) rows ≡ ANode node
     → (r : ReplicaState) → Among r node.replicas
     → (base : Base) × Among base (groups_at ahead scenario.groups rows) × (base.core.id ≡ name_of r) × HasRun ahead base rows r
-
--- (d) The group of a cut, by its effective record, has the cut's arc and names its neighbours in the ring: itself where there is one cut.
-pub record IsPlaced (world : StoreWorld) (cut : Cut) : Type 0 where
-  -- its effective record
-  pub group : Group
-  pub is : effective world cut.group ≡ Some group
-  -- it is not gone
-  pub here : group.core.gone ≡ None
-  -- it has the arc of the cut
-  pub arc : group.core.arc ≡ cut.arc
-  -- its successor is the group of the next cut
-  pub succ : (other : Cut) × Among other world.ring × (other.arc.lo ≡ end_of cut.arc) × (group.core.succ.group ≡ other.group)
-  -- its predecessor is the group of the cut before
-  pub pred : (other : Cut) × Among other world.ring × (cut.arc.lo ≡ end_of other.arc) × (group.core.pred.group ≡ other.group)
-
--- a group that serves a key is the group of the cut that holds its position
-abbrev pub ServesItsCut : StoreWorld → Type 0
-ServesItsCut world = (group : Group) → Among group world.groups → (key : List ℕ) → IsTrue (serves group key)
-    → (cut : Cut) × Among cut world.ring × (cut.group ≡ group.core.id) × IsTrue (holds_key cut.arc key)
-
--- (e) the map after the history, taken on a cut's arc, is the pairs of its group's effective record
-abbrev pub HoldsItsPart : StoreWorld → Cut → Type 0
-HoldsItsPart world cut = (group : Group) → effective world cut.group ≡ Some group → group.pairs ≡ part_of cut.arc (contents_after empty world.history)
 
 -- (c), (d), (e): the ring covers, each cut's group is placed in it and has its part of the map, no other group serves its keys, and the history is legal (Herlihy and Wing, 1990).
 pub record IsOneMap (world : StoreWorld) : Type 0 where

@@ -6,21 +6,15 @@ use Rattle.sc_cmd.specs.declared.commands.Command.{Command}
 use Rattle.sc_cmd.specs.declared.commands.Command.TheVariants.{Noop, Call, Join, Leave, Split, Begin, Prepared, RecordVote, GiveUp, Finish, Watched, RecordWatch}
 use Rattle.sc_cmd.specs.declared.cores.Base.{Base}
 use Rattle.sc_scenario.specs.declared.scenarios.Scenario.{Scenario}
-use Rattle.sc_entries.specs.declared.Cut.{Cut}
 use Rattle.sc_entries.specs.declared.LogEntry.{LogEntry}
-use Rattle.sc_entries.specs.Worlds.{StoreWorld, world_of}
+use Rattle.sc_entries.specs.Worlds.{world_of}
 use Rattle.sc_ring_law.specs.Allowed.{Sources, IsAllowed, ToldWorld, first_told, told_on, AreAllowed}
-use Rattle.sc_ring_law.specs.Laws.{BeginInPlace, IsInPlace, IsRingSound}
+use Rattle.sc_ring_law.specs.Laws.{BeginInPlace, IsRingSound}
 use Rattle.sc_ring_law.specs.Stories.{Stories}
 use Rattle.sc_ring_law.proofs.Sound.{entries_keep_the_ring}
-use Rattle.sc_sound.specs.Soundness.{IsPlaced}
 use Rattle.sc_group_law.specs.Groups.{HasGroups}
 use Rattle.sc_sound_law.specs.Together.{IsPlainCommand, IsPlainEntry, StartTogether}
 use Rattle.sc_sound_law.proofs.Requests.{request_of, request_is}
-
--- the law of entries says it in words of its own
-pub in_place : (world : StoreWorld) (cut : Cut) → IsInPlace world cut → IsPlaced world cut
-in_place world cut p = record { group = p.group; is = p.is; here = p.here; arc = p.arc; succ = p.succ; pred = p.pred }
 
 module _ (scenario : Scenario) (base : Base) (others : List Base) (has : HasGroups scenario base others) (start : StartTogether (base ∷ others)) where
   -- no name was drawn, and requests are the scenario's

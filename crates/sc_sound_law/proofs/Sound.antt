@@ -48,7 +48,7 @@ use Rattle.sc_group_law.proofs.Replies.{reply_told}
 use Rattle.sc_group_law.proofs.Walked.{moved}
 use Rattle.sc_sound_law.specs.Together.{StartTogether}
 use Rattle.sc_sound_law.proofs.Told.{told_quietly}
-use Rattle.sc_sound_law.proofs.Placing.{in_place, ring_stays}
+use Rattle.sc_sound_law.proofs.Placing.{ring_stays}
 use Rattle.sc_sound_law.specs.Laws.{SeveralJournalsAreSound}
 use Rattle.sc_sound_law.proofs.Groups.{Rows, not_same, apart_from, AreUndivided, groups_are, log_is, state_is}
 use Rattle.sc_sound_law.proofs.Tellings.{among_place, told_in_order}
@@ -180,7 +180,7 @@ module _ (ahead : Ahead) (words : ℕ → ℕ → ℕ × ℕ) (any : Scenario) (
         let here = ring_stays scenario base others has start entries t.plain in
         record {
           covers = here.covers;
-          placed = λ cut a. in_place (world_at ahead bases rows) cut (here.placed cut a);
+          placed = here.placed;
           serves_apart = here.serves_apart;
           legal = quiet.world.legal;
           parts = quiet.world.parts;
