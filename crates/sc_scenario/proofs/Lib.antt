@@ -6,5 +6,6 @@ mod Records
 mod Results
 mod Rosters
 mod Spelled
+mod Starts
 mod Texts
 mod Verdicts

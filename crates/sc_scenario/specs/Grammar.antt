@@ -46,7 +46,7 @@ said in_place kind words =
 
 -- a kind that is not built is as good as unknown
 abbrev pub built_kind : Draft → List (List ℕ) → Option Kind
-built_kind draft words = option_and_then (λ kind. if is_built draft kind then Some kind else None) (kind_of draft.version words)
+built_kind draft words = option_and_then (λ kind. if is_built kind then Some kind else None) (kind_of draft.version words)
 
 -- what the words of a line say behind what was read
 abbrev pub words_read : Reading → List (List ℕ) → Result Reading Reason

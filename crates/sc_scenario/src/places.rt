@@ -25,13 +25,13 @@ fn is_order_built(kind: OrderKind) -> bool
     }
 }
 
-/// Whether a line of this kind is built, behind what was read so far.
-pub fn is_built(draft: &Draft, kind: Kind) -> bool
-    ensures { result ≡ is_built draft.now kind }
+/// Whether a line of this kind is built.
+pub fn is_built(kind: Kind) -> bool
+    ensures { result ≡ is_built kind }
 {
     match kind {
-        Kind::Header | Kind::Nodes | Kind::Client | Kind::End | Kind::Asking(_) => true,
-        Kind::Group => draft.groups.len() == 0,
+        Kind::Header | Kind::Nodes | Kind::Group | Kind::Client | Kind::End => true,
+        Kind::Asking(_) => true,
         Kind::Policy => false,
         Kind::Playing(kind) => is_line_built(kind),
         Kind::Telling(kind) => is_order_built(kind),

@@ -97,7 +97,7 @@ fn built_kind(draft: &Draft, words: &[&[u8]]) -> Option<Kind>
     ensures { result ≡ built_kind draft.now (map (λ word. word.now) words.now) }
 {
     let kind = kind_of(draft.version, words)?;
-    if is_built(draft, kind) {
+    if is_built(kind) {
         Some(kind)
     } else {
         None
@@ -260,8 +260,9 @@ pub fn read_scenario(alloc: Global, text: &[u8]) -> Result<Scenario, ScenarioFau
     lines_read(alloc, false, text)
 }
 
-/// What holds of every scenario that some text is: nodes, one group of some of them, clients in
-/// order of number with few requests, and a schedule of lines that name these.
+/// What holds of every scenario that some text is: nodes, one to sixteen groups of some of them in
+/// the order in which they begin, clients in order of number with few requests, and a schedule of
+/// lines that name these.
 pub fn texts_are_early()
     ensures { TextsAreEarly }
 {}
