@@ -1,7 +1,4 @@
-mod Choices
 mod Clients
-mod Cuts
-mod Lists
 mod Records
 mod Results
 mod Rosters

@@ -12,23 +12,23 @@ use Rattle.sc_cmd.specs.declared.orders.Order.{Order}
 use Rattle.sc_cmd.specs.declared.orders.Order.TheVariants.{Join, Leave}
 use Rattle.sc_member.specs.Roster.{IsRoster, with_member}
 use Rattle.sc_member.specs.Faults.{add_fault}
-use Rattle.sc_scenario.specs.Reasons.{given}
-use Rattle.sc_scenario.specs.Words.{nth, count_in}
+use Rattle.sc_lines.specs.Reasons.{given}
+use Rattle.sc_lines.specs.Words.{nth, count_in}
 use Rattle.sc_scenario.specs.Groups.{nodes_with, joined_by, joined_by_all}
 use Rattle.sc_scenario.specs.Schedules.{most_mails, most_deliveries, most_workers, is_client, actor_in, line_in}
 use Rattle.sc_scenario.specs.Orders.{name_in, order_in}
 use Rattle.sc_scenario.specs.Places.{is_line_built, is_order_built}
 use Rattle.sc_scenario.specs.Taking.{is_actor, is_order_known, is_line_known, has_stranger}
 use Rattle.sc_scenario.specs.Valid.{IsEarlyLine, IsEarlyOrder, IsActor, IsUpTo}
-use Rattle.sc_scenario.specs.declared.reasons.Reason.TheVariants.{WrongCount, BadNumber}
-use Rattle.sc_scenario.specs.declared.kinds.LineKind.{LineKind}
-use Rattle.sc_scenario.specs.declared.kinds.LineKind.TheVariants as kind
-use Rattle.sc_scenario.specs.declared.kinds.OrderKind.{OrderKind}
-use Rattle.sc_scenario.specs.declared.kinds.OrderKind.TheVariants as what
+use Rattle.sc_lines.specs.declared.reasons.Reason.TheVariants.{WrongCount, BadNumber}
+use Rattle.sc_lines.specs.declared.kinds.LineKind.{LineKind}
+use Rattle.sc_lines.specs.declared.kinds.LineKind.TheVariants as kind
+use Rattle.sc_lines.specs.declared.kinds.OrderKind.{OrderKind}
+use Rattle.sc_lines.specs.declared.kinds.OrderKind.TheVariants as what
 use Rattle.sc_scenario.specs.declared.scenarios.Asks.{Asks}
 use Rattle.sc_scenario.specs.declared.scenarios.SchedLine.{SchedLine}
 use Rattle.sc_scenario.specs.declared.scenarios.SchedLine.TheVariants.{Go, Deliver, Drop, Again, Tick, Crash, Settle, Free}
-use Rattle.sc_scenario.proofs.Choices.{counted}
+use Rattle.sc_lines.proofs.Choices.{counted}
 use Rattle.sc_scenario.proofs.Results.{err_ok, same_Ok, given_ok}
 use Rattle.sc_scenario.proofs.Rosters.{roster_with, all_with}
 

@@ -12,11 +12,11 @@ use Rattle.sc_base.specs.Limits.{most_nodes, most_clients, most_requests}
 use Rattle.sc_base.specs.Number.{number_of}
 use Rattle.sc_base.specs.declared.ops.Op.{Op}
 use Rattle.sc_cmd.specs.declared.orders.Order.{Order}
-use Rattle.sc_scenario.specs.Reasons.{reason_code, given, then_on}
-use Rattle.sc_scenario.specs.Words.{nth, words_of, count_in}
-use Rattle.sc_scenario.specs.Lines.{is_too_long, lines_of, trimmed, is_skipped, has_bad_byte, most_lines}
-use Rattle.sc_scenario.specs.Kinds.{kind_of, phase_of, is_inner, has_count}
-use Rattle.sc_scenario.specs.Requests.{request_in}
+use Rattle.sc_lines.specs.Reasons.{reason_code, given, then_on}
+use Rattle.sc_lines.specs.Words.{nth, words_of, count_in}
+use Rattle.sc_lines.specs.Lines.{is_too_long, lines_of, trimmed, is_skipped, has_bad_byte, most_lines}
+use Rattle.sc_lines.specs.Kinds.{kind_of, phase_of, is_inner, has_count}
+use Rattle.sc_lines.specs.Requests.{request_in}
 use Rattle.sc_scenario.specs.Groups.{nodes_with, has_repeat, set_of}
 use Rattle.sc_scenario.specs.Schedules.{is_client, line_in}
 use Rattle.sc_scenario.specs.Orders.{order_in, last_position}
@@ -25,10 +25,10 @@ use Rattle.sc_scenario.specs.Places.{is_built, phase_so_far, may_follow, is_in_p
 use Rattle.sc_scenario.specs.Taking.{is_order_known, is_line_known, is_above, most_groups, most_members, with_group_line, has_stranger, group_taken, client_place, with_client, with_request, client_taken, request_taken, with_line, telling_of, with_order, line_taken, telling_taken, taken_outside, taken_within}
 use Rattle.sc_scenario.specs.Grammar.{begun, are_two, header_read, said, built_kind, words_read, is_fresh, line_read, scenario_by, reading_ended, text_ended, going_on, lines_read, verdict_of}
 use Rattle.sc_scenario.specs.Valid.{IsEarly, IsEarlyGroup, IsEarlyClient, IsEarlyLine, IsUpTo, TextsAreEarly}
-use Rattle.sc_scenario.specs.declared.reasons.Reason.{Reason}
-use Rattle.sc_scenario.specs.declared.reasons.Reason.TheVariants.{MissingHeader, BadByte, UnknownWord, OutOfPlace, WrongCount, BadNumber, UnknownName, Repeated, BadBoundary, TooMany}
-use Rattle.sc_scenario.specs.declared.kinds.Kind.{Kind}
-use Rattle.sc_scenario.specs.declared.kinds.Kind.TheVariants.{Header, Nodes, Group, Policy, Client, End, Asking, Playing, Telling}
+use Rattle.sc_lines.specs.declared.reasons.Reason.{Reason}
+use Rattle.sc_lines.specs.declared.reasons.Reason.TheVariants.{MissingHeader, BadByte, UnknownWord, OutOfPlace, WrongCount, BadNumber, UnknownName, Repeated, BadBoundary, TooMany}
+use Rattle.sc_lines.specs.declared.kinds.Kind.{Kind}
+use Rattle.sc_lines.specs.declared.kinds.Kind.TheVariants.{Header, Nodes, Group, Policy, Client, End, Asking, Playing, Telling}
 use Rattle.sc_scenario.specs.declared.statements.Statement.{Statement}
 use Rattle.sc_scenario.specs.declared.statements.Statement.TheVariants.{NodeCount, NewGroup, NewClient, Ask, SectionEnd, Play, Tell}
 use Rattle.sc_scenario.specs.declared.drafts.Draft.{Draft}
@@ -40,7 +40,7 @@ use Rattle.sc_scenario.specs.declared.reading.ScenarioFault.TheVariants.{Bad}
 use Rattle.sc_scenario.specs.declared.scenarios.Asks.{Asks}
 use Rattle.sc_scenario.specs.declared.scenarios.Scenario.{Scenario}
 use Rattle.sc_scenario.specs.declared.scenarios.SchedLine.{SchedLine}
-use Rattle.sc_scenario.proofs.Choices.{chosen, is_up_to, counted}
+use Rattle.sc_lines.proofs.Choices.{chosen, is_up_to, counted}
 use Rattle.sc_scenario.proofs.Results.{err_ok, same_Ok, given_ok, after_ok, passed, met}
 use Rattle.sc_scenario.proofs.Rosters.{roster_one}
 use Rattle.sc_scenario.proofs.Clients.{Below, all_inserted, rising_with}

@@ -1,17 +1,17 @@
 -- Which texts are a scenario, which scenario, and else the first bad line and its reason.
 use Rattle.std.specs.Prelude.{ℕ, ◌+◌, ◌==◌, ◌&&◌, ◌||◌, not, nat_lt, Bool, true, false, List, [], ◌∷◌, length, codes, Option, Some, None, Result, Ok, Err, if◌then◌else◌, option_and_then, ◌≡◌, ◌⊎◌, MatchResult}
 use Rattle.std.specs.Result.{result_ok}
-use Rattle.sc_scenario.specs.Reasons.{reason_code, given, then_on}
-use Rattle.sc_scenario.specs.Words.{same, nth, words_of}
-use Rattle.sc_scenario.specs.Lines.{most_lines, is_too_long, lines_of, trimmed, is_skipped, has_bad_byte}
-use Rattle.sc_scenario.specs.Kinds.{kind_of, has_count}
+use Rattle.sc_lines.specs.Reasons.{reason_code, given, then_on}
+use Rattle.sc_lines.specs.Words.{same, nth, words_of}
+use Rattle.sc_lines.specs.Lines.{most_lines, is_too_long, lines_of, trimmed, is_skipped, has_bad_byte}
+use Rattle.sc_lines.specs.Kinds.{kind_of, has_count}
 use Rattle.sc_scenario.specs.Groups.{bases_of}
 use Rattle.sc_scenario.specs.Statements.{statement_in}
 use Rattle.sc_scenario.specs.Places.{is_built, is_in_place}
 use Rattle.sc_scenario.specs.Taking.{taken_outside, taken_within}
-use Rattle.sc_scenario.specs.declared.reasons.Reason.{Reason}
-use Rattle.sc_scenario.specs.declared.reasons.Reason.TheVariants.{MissingHeader, BadByte, UnknownWord, OutOfPlace, WrongCount, UnendedClient, MissingPart, TooLarge}
-use Rattle.sc_scenario.specs.declared.kinds.Kind.{Kind}
+use Rattle.sc_lines.specs.declared.reasons.Reason.{Reason}
+use Rattle.sc_lines.specs.declared.reasons.Reason.TheVariants.{MissingHeader, BadByte, UnknownWord, OutOfPlace, WrongCount, UnendedClient, MissingPart, TooLarge}
+use Rattle.sc_lines.specs.declared.kinds.Kind.{Kind}
 use Rattle.sc_scenario.specs.declared.statements.Statement.{Statement}
 use Rattle.sc_scenario.specs.declared.drafts.Draft.{Draft}
 use Rattle.sc_scenario.specs.declared.drafts.Reading.{Reading}

@@ -1,15 +1,15 @@
 -- Where a line of a kind may stand, and which kinds are built.
 use Rattle.std.specs.Prelude.{ℕ, ◌==◌, ◌&&◌, ◌||◌, not, nat_le, nat_lt, Bool, true, false, length, if◌then◌else◌}
-use Rattle.sc_scenario.specs.Kinds.{phase_of, is_inner}
+use Rattle.sc_lines.specs.Kinds.{phase_of, is_inner}
 use Rattle.sc_scenario.specs.declared.drafts.Draft.{Draft}
 use Rattle.sc_scenario.specs.declared.drafts.Reading.{Reading}
 use Rattle.sc_scenario.specs.declared.drafts.Reading.TheVariants.{Fresh, Outside, Within}
-use Rattle.sc_scenario.specs.declared.kinds.Kind.{Kind}
-use Rattle.sc_scenario.specs.declared.kinds.Kind.TheVariants.{Header, Nodes, Group, Policy, Client, End, Asking, Playing, Telling}
-use Rattle.sc_scenario.specs.declared.kinds.LineKind.{LineKind}
-use Rattle.sc_scenario.specs.declared.kinds.LineKind.TheVariants as line
-use Rattle.sc_scenario.specs.declared.kinds.OrderKind.{OrderKind}
-use Rattle.sc_scenario.specs.declared.kinds.OrderKind.TheVariants as order
+use Rattle.sc_lines.specs.declared.kinds.Kind.{Kind}
+use Rattle.sc_lines.specs.declared.kinds.Kind.TheVariants.{Header, Nodes, Group, Policy, Client, End, Asking, Playing, Telling}
+use Rattle.sc_lines.specs.declared.kinds.LineKind.{LineKind}
+use Rattle.sc_lines.specs.declared.kinds.LineKind.TheVariants as line
+use Rattle.sc_lines.specs.declared.kinds.OrderKind.{OrderKind}
+use Rattle.sc_lines.specs.declared.kinds.OrderKind.TheVariants as order
 
 -- ---- what is built
 

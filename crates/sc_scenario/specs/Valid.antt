@@ -7,7 +7,7 @@ use Rattle.sc_cmd.specs.declared.orders.Order.TheVariants.{Join, Leave, Split, M
 use Rattle.sc_scenario.specs.Groups.{bases_of}
 use Rattle.sc_base.specs.Limits.{most_nodes, most_clients, most_requests, client_actor}
 use Rattle.sc_scenario.specs.Schedules.{is_client, most_mails, most_deliveries, most_workers}
-use Rattle.sc_scenario.specs.Lines.{most_bytes}
+use Rattle.sc_lines.specs.Lines.{most_bytes}
 use Rattle.sc_scenario.specs.Taking.{most_groups}
 use Rattle.sc_scenario.specs.Grammar.{verdict_of, scenario_of}
 use Rattle.sc_scenario.specs.declared.drafts.GroupLine.{GroupLine}

@@ -4,7 +4,7 @@ ghost use Rattle.sc_scenario.specs.Places.{is_line_built, is_order_built, is_bui
 ghost use Rattle.sc_scenario.specs.declared.drafts.Reading.TheVariants.{Outside};
 
 use crate::drafts::Draft;
-use crate::kinds::{Kind, LineKind, OrderKind, is_inner, phase_of};
+use sc_lines::{Kind, LineKind, OrderKind, is_inner, phase_of};
 
 fn is_line_built(kind: LineKind) -> bool
     ensures { result ≡ is_line_built kind }

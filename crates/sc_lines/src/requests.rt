@@ -1,8 +1,8 @@
 //! A client's requests.
 ghost use Rattle.std.specs.Prelude.{◌≡◌, Some, map, IfOk};
-ghost use Rattle.sc_scenario.specs.Words.{key_in, nth};
-ghost use Rattle.sc_scenario.specs.Requests.{request_in};
-ghost use Rattle.sc_scenario.specs.declared.kinds.RequestKind.TheVariants.{Put, Add, Cas};
+ghost use Rattle.sc_lines.specs.Words.{key_in, nth};
+ghost use Rattle.sc_lines.specs.Requests.{request_in};
+ghost use Rattle.sc_lines.specs.declared.kinds.RequestKind.TheVariants.{Put, Add, Cas};
 
 use crate::kinds::RequestKind;
 use crate::reasons::Reason;

@@ -2,12 +2,12 @@
 use Rattle.std.specs.Prelude.{ℕ, List, Result, Ok}
 use Rattle.sc_base.specs.declared.ops.Op.{Op}
 use Rattle.sc_base.specs.declared.ops.Op.TheVariants.{Get, Put, Del, Add, Cas}
-use Rattle.sc_scenario.specs.Reasons.{given}
-use Rattle.sc_scenario.specs.Words.{nth, key_in, value_in}
-use Rattle.sc_scenario.specs.declared.reasons.Reason.{Reason}
-use Rattle.sc_scenario.specs.declared.reasons.Reason.TheVariants.{BadKey, BadValue}
-use Rattle.sc_scenario.specs.declared.kinds.RequestKind.{RequestKind}
-use Rattle.sc_scenario.specs.declared.kinds.RequestKind.TheVariants as kind
+use Rattle.sc_lines.specs.Reasons.{given}
+use Rattle.sc_lines.specs.Words.{nth, key_in, value_in}
+use Rattle.sc_lines.specs.declared.reasons.Reason.{Reason}
+use Rattle.sc_lines.specs.declared.reasons.Reason.TheVariants.{BadKey, BadValue}
+use Rattle.sc_lines.specs.declared.kinds.RequestKind.{RequestKind}
+use Rattle.sc_lines.specs.declared.kinds.RequestKind.TheVariants as kind
 
 -- what the second word spells as a key
 abbrev pub with_key : List (List ℕ) → (List ℕ → Result Op Reason) → Result Op Reason

@@ -1,6 +1,6 @@
 //! What the words of a line spell.
 ghost use Rattle.std.specs.Prelude.{◌≡◌, ◌≤◌, map, drop, IfOk, IfSome};
-ghost use Rattle.sc_scenario.specs.Words.{same, nth, count_in, key_in, value_in};
+ghost use Rattle.sc_lines.specs.Words.{same, nth, count_in, key_in, value_in};
 
 use sc_base::{Key, KeyFault, OutOfMemory, Value, read_number};
 use std::alloc::Global;

@@ -6,8 +6,8 @@ use Rattle.std.proofs.lemmas.List.{take_all, length-drop}
 use Rattle.std.proofs.lemmas.List.Splits.{slice_split_first, slice_split_none, length-slice_split}
 use Rattle.std.proofs.lemmas.List.Sums.{fails_before_first}
 use Rattle.std.proofs.lemmas.Option.{same_Some, none-some}
-use Rattle.sc_scenario.proofs.Choices.{chosen}
-use Rattle.sc_scenario.specs.Lines.{most_bytes, is_too_long, lines_in_parts, ended_parts, lines_in, lines_of}
+use Rattle.sc_lines.proofs.Choices.{chosen}
+use Rattle.sc_lines.specs.Lines.{most_bytes, is_too_long, lines_in_parts, ended_parts, lines_in, lines_of}
 
 abbrev is_feed : ℕ → Bool
 is_feed byte = eqb byte 10

@@ -3,7 +3,7 @@ use Rattle.std.proofs.Common.{◌≡◌, ◌≤◌, ◌&&◌, ℕ, List, Some, N
 use Rattle.std.proofs.lemmas.Option.{same_Some}
 use Rattle.sc_base.proofs.CommonLemmas.{and_then-some}
 use Rattle.sc_base.specs.Number.{number_of, is_numeral, value_from}
-use Rattle.sc_scenario.specs.Words.{count_in}
+use Rattle.sc_lines.specs.Words.{count_in}
 
 -- what a choice gives against nothing was given, and the test holds
 pub chosen : {X : Type 0} (b : Bool) (o : Option X) (x : X) → (if b then o else None) ≡ Some x → (b ≡ true) × (o ≡ Some x)

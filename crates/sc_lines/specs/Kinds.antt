@@ -1,15 +1,15 @@
 -- What kind a line is of, by its first word, and an order also by its third; the phase of each kind, and its number of words.
 use Rattle.std.specs.Prelude.{ℕ, ◌==◌, ◌&&◌, nat_le, nat_lt, Bool, true, false, List, length, codes, Option, Some, None, if◌then◌else◌}
 use Rattle.std.specs.Option.{option_map, option_or}
-use Rattle.sc_scenario.specs.Words.{same, nth}
-use Rattle.sc_scenario.specs.declared.kinds.Kind.{Kind}
-use Rattle.sc_scenario.specs.declared.kinds.Kind.TheVariants.{Header, Nodes, Group, Policy, Client, End, Asking, Playing, Telling}
-use Rattle.sc_scenario.specs.declared.kinds.RequestKind.{RequestKind}
-use Rattle.sc_scenario.specs.declared.kinds.RequestKind.TheVariants as ask
-use Rattle.sc_scenario.specs.declared.kinds.LineKind.{LineKind}
-use Rattle.sc_scenario.specs.declared.kinds.LineKind.TheVariants as line
-use Rattle.sc_scenario.specs.declared.kinds.OrderKind.{OrderKind}
-use Rattle.sc_scenario.specs.declared.kinds.OrderKind.TheVariants as order
+use Rattle.sc_lines.specs.Words.{same, nth}
+use Rattle.sc_lines.specs.declared.kinds.Kind.{Kind}
+use Rattle.sc_lines.specs.declared.kinds.Kind.TheVariants.{Header, Nodes, Group, Policy, Client, End, Asking, Playing, Telling}
+use Rattle.sc_lines.specs.declared.kinds.RequestKind.{RequestKind}
+use Rattle.sc_lines.specs.declared.kinds.RequestKind.TheVariants as ask
+use Rattle.sc_lines.specs.declared.kinds.LineKind.{LineKind}
+use Rattle.sc_lines.specs.declared.kinds.LineKind.TheVariants as line
+use Rattle.sc_lines.specs.declared.kinds.OrderKind.{OrderKind}
+use Rattle.sc_lines.specs.declared.kinds.OrderKind.TheVariants as order
 
 -- the parts of a scenario before its schedule
 abbrev pub part_kind : List ℕ → Option Kind

@@ -1,7 +1,7 @@
 //! The lines of a text.
 ghost use Rattle.std.specs.Prelude.{◌≡◌, ◌<◌, ◌-◌, ◌==◌, ◌∷◌, [], true, length, get_or, map, position, IfSome, MatchOption};
-ghost use Rattle.sc_scenario.specs.Words.{words_of};
-ghost use Rattle.sc_scenario.specs.Lines.{lines_in, trimmed, is_skipped, has_bad_byte};
+ghost use Rattle.sc_lines.specs.Words.{words_of};
+ghost use Rattle.sc_lines.specs.Lines.{lines_in, trimmed, is_skipped, has_bad_byte};
 
 // The place of the first line feed.
 fn line_end(text: &[u8]) -> Option<usize>

@@ -1,6 +1,6 @@
 //! Why a text is no scenario.
 ghost use Rattle.std.specs.Prelude.{◌≡◌};
-ghost use Rattle.sc_scenario.specs.Reasons.{reason_code, reason_text};
+ghost use Rattle.sc_lines.specs.Reasons.{reason_code, reason_text};
 
 /// Why a line is bad. Of the reasons of one line the one with the lowest number counts.
 #[derive(Clone, Copy)]

@@ -1,6 +1,6 @@
 //! Texts cut into words, and words into parts.
 ghost use Rattle.std.specs.Prelude.{◌≡◌, map, IfOk};
-ghost use Rattle.sc_scenario.specs.Words.{pieces, words_of};
+ghost use Rattle.sc_lines.specs.Words.{pieces, words_of};
 
 use std::alloc::{AllocError, Global};
 

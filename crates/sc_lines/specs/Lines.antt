@@ -1,7 +1,7 @@
 -- The lines of a text.
 use Rattle.std.specs.Prelude.{ℕ, ◌-◌, ◌==◌, ◌&&◌, ◌||◌, not, nat_le, nat_lt, Bool, true, false, get_or, List, [], ◌∷◌, length, take, if◌then◌else◌}
 use Rattle.std.specs.List.{list_any}
-use Rattle.sc_scenario.specs.Words.{pieces, words_of, is_empty}
+use Rattle.sc_lines.specs.Words.{pieces, words_of, is_empty}
 
 -- the most bytes of a text
 abbrev pub most_bytes : ℕ

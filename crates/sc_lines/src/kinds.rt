@@ -1,6 +1,6 @@
 //! What kind a line is of.
 ghost use Rattle.std.specs.Prelude.{◌≡◌, map};
-ghost use Rattle.sc_scenario.specs.Kinds.{part_kind, request_kind, line_kind, named_order, order_kind, first_kind, kind_of, phase_of, is_inner, request_count, line_count, has_order_count, has_count};
+ghost use Rattle.sc_lines.specs.Kinds.{part_kind, request_kind, line_kind, named_order, order_kind, first_kind, kind_of, phase_of, is_inner, request_count, line_count, has_order_count, has_count};
 
 use crate::words::{is_text, nth};
 
