@@ -145,11 +145,7 @@ pub(crate) fn execute(machine: &mut Machine, command: &Command) -> Result<(), Ou
 }
 
 /// A group after these entries from its birth on.
-pub(crate) fn executed(
-    alloc: Global,
-    base: &Base,
-    log: &[Command],
-) -> Result<Machine, OutOfMemory>
+pub(crate) fn executed(alloc: Global, base: &Base, log: &[Command]) -> Result<Machine, OutOfMemory>
     ensures { IfOk result (λ machine. machine ≡ state_after (group_of base.now) log.now) }
 {
     let mut machine = Machine::born(alloc, base.dup(alloc)?)?;

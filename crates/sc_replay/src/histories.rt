@@ -106,7 +106,13 @@ pub fn history(alloc: Global, world: &World<'_>) -> Result<Vec<Entry>, OutOfMemo
     let groups = world.scenario.groups.as_slice();
     let rows = world.rows.as_slice();
     for done in 0..rows.len() {
-        add_row(alloc, &mut entries, groups, &rows[..done], &rows[..done + 1])?;
+        add_row(
+            alloc,
+            &mut entries,
+            groups,
+            &rows[..done],
+            &rows[..done + 1],
+        )?;
     }
     Ok(entries)
 }
