@@ -1,0 +1,9 @@
+//! When a group is to be reshaped: a crowded one is split, a small one merged into another, and of
+//! a full one a boundary moved. It says only what is wished; whether it may be is for the caller.
+#![tactic(auto)]
+
+mod bodies;
+mod wishes;
+
+pub use bodies::Body0;
+pub use wishes::wish;

@@ -1,0 +1,113 @@
+//! What is wished of a group.
+ghost use Rattle.std.specs.Prelude.{◌≡◌, nat_le, nat_lt, length, filter, slice_get};
+ghost use Rattle.sc_policy.specs.Wishes.{middle_of, positions, middle_key, wants_split, wished, wished_of_two};
+
+use crate::bodies::Body0;
+use sc_base::{Key, Pairs, RingArc, Value};
+use sc_cmd::{Core, same_draw};
+
+/// More members are too many.
+const MOST_MEMBERS: u8 = 7;
+
+/// Fewer members are too few.
+const FEWEST_MEMBERS: u8 = 3;
+
+/// More pairs are too many.
+const MOST_PAIRS: usize = 128;
+
+/// What a policy wishes of a group of that record with these pairs, if anything.
+///
+/// With more than 7 members it is to be split in the middle of its arc. Else, if its successor is
+/// another group: with fewer than 3 members it is to take over its successor, and with more than
+/// 128 pairs its end is to move to the middle one of its keys. The lock is not looked at here, nor
+/// whether the order would be accepted. Takes no memory.
+pub fn wish(core: &Core, keys: &Pairs) -> Option<Body0>
+    ensures { result ≡ wished core.now keys.now }
+{
+    if wants_split(core) {
+        let at = middle_of(&core.arc);
+        return Some(Body0::Split { at });
+    }
+    if same_draw(core.succ.group, core.id) {
+        return None;
+    }
+    wish_of_two(core, keys)
+}
+
+fn wants_split(core: &Core) -> bool
+    ensures { result ≡ wants_split core.now }
+{
+    core.members.len() > MOST_MEMBERS && core.arc.len() > 1
+}
+
+// The position in the middle.
+fn middle_of(arc: &RingArc) -> u32
+    ensures { result ≡ middle_of arc.now }
+{
+    ((arc.lo() as u64 + arc.len() / 2) % (1 << 32)) as u32
+}
+
+// What is wished of a group that has a neighbour and is not split.
+fn wish_of_two(core: &Core, keys: &Pairs) -> Option<Body0>
+    ensures { result ≡ wished_of_two core.now keys.now }
+{
+    if core.members.len() < FEWEST_MEMBERS {
+        return Some(Body0::Merge);
+    }
+    if keys.len() <= MOST_PAIRS {
+        return None;
+    }
+    let lo = core.arc.lo();
+    let at = middle_key(lo, keys.as_slice());
+    if at == lo {
+        return None;
+    }
+    Some(Body0::Repart { at })
+}
+
+// The position of the key in the middle, of all from a position on round the ring.
+fn middle_key(lo: u32, pairs: &[(Key, Value)]) -> u32
+    ensures { result ≡ middle_key lo pairs.now }
+{
+    let middle = pairs.len() / 2;
+    let above = count_above(lo, pairs);
+    let found = if middle < above {
+        nth_above(lo, pairs, middle)
+    } else {
+        nth_below(lo, pairs, middle - above)
+    };
+    found.unwrap_or(0)
+}
+
+// How many keys lie at the position or above.
+fn count_above(lo: u32, pairs: &[(Key, Value)]) -> usize
+    ensures { result ≡ length (filter (λ p. nat_le lo p) (positions pairs.now)) }
+{
+    pairs
+        .iter()
+        .map(|pair| pair.0.pos())
+        .filter(|p| lo <= *p)
+        .count()
+}
+
+// The position of one of these, counted from 0.
+fn nth_above(lo: u32, pairs: &[(Key, Value)], n: usize) -> Option<u32>
+    ensures { result ≡ slice_get (filter (λ p. nat_le lo p) (positions pairs.now)) n }
+{
+    pairs
+        .iter()
+        .map(|pair| pair.0.pos())
+        .filter(|p| lo <= *p)
+        .nth(n)
+}
+
+// The position of one of the keys that lie below, counted from 0.
+fn nth_below(lo: u32, pairs: &[(Key, Value)], n: usize) -> Option<u32>
+    ensures { result ≡ slice_get (filter (λ p. nat_lt p lo) (positions pairs.now)) n }
+{
+    pairs
+        .iter()
+        .map(|pair| pair.0.pos())
+        .filter(|p| *p < lo)
+        .nth(n)
+}

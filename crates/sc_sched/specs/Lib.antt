@@ -1,0 +1,3 @@
+pub mod Words
+pub mod Deeds
+pub mod Laws

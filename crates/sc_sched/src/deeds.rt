@@ -1,0 +1,113 @@
+//! What a step of a storm does.
+ghost use Rattle.std.specs.Prelude.{◌≡◌, ◌<◌, ◌%◌, length, slice_get};
+ghost use Rattle.sc_sched.specs.Deeds.{is_actor, copies_for, picked_spot, dropped, delivered, ticked, repeated, deed_by};
+
+use sc_exchange::{Look, Spot};
+
+/// What a step of a storm does.
+#[derive(Clone, Copy, Debug, PartialEq, Eq)]
+pub enum Deed {
+    /// A pending copy of the mail with this number is lost.
+    Drop { number: u32 },
+    /// The mail with this number is repeated, if its receiver may get it.
+    Again { number: u32 },
+    /// The clock of the actor ticks, unless it has crashed.
+    Tick { who: u32 },
+    /// The k-th pending mail of the actor, counted from 1, is delivered.
+    Deliver { who: u32, k: u32 },
+    /// Nothing: no mail was pending that could be lost or delivered, or none was sent that could
+    /// be repeated.
+    Nothing,
+}
+
+/// The deed by the first word modulo 16, and by the second.
+pub(crate) fn deed_by(look: &Look, actors: &[u32], kind: u32, word: u32) -> Deed
+    ensures { result ≡ deed_by actors.now look.now kind word }
+{
+    match kind {
+        0 => dropped(picked(look.pending.as_slice(), actors, word)),
+        1 => repeated(look.sent, word),
+        2 => ticked(actors, word),
+        _ => delivered(picked(look.pending.as_slice(), actors, word)),
+    }
+}
+
+fn is_actor(actors: &[u32], who: u32) -> bool
+    ensures { result ≡ is_actor actors.now who }
+{
+    actors.iter().any(|actor| *actor == who)
+}
+
+fn count_for(actors: &[u32], spots: &[Spot]) -> usize
+    ensures { result ≡ length (copies_for actors.now spots.now) }
+{
+    spots
+        .iter()
+        .filter(|spot| is_actor(actors, spot.who))
+        .count()
+}
+
+fn nth_for(actors: &[u32], spots: &[Spot], n: usize) -> Option<Spot>
+    ensures { result ≡ slice_get (copies_for actors.now spots.now) n }
+{
+    spots
+        .iter()
+        .copied()
+        .filter(|spot| is_actor(actors, spot.who))
+        .nth(n)
+}
+
+// The copy for one of the actors at the place that a word gives.
+fn picked(spots: &[Spot], actors: &[u32], word: u32) -> Option<Spot>
+    ensures { result ≡ picked_spot (copies_for actors.now spots.now) word }
+{
+    let many = count_for(actors, spots);
+    if many == 0 {
+        return None;
+    }
+    nth_for(actors, spots, word as usize % many)
+}
+
+fn dropped(spot: Option<Spot>) -> Deed
+    ensures { result ≡ dropped spot }
+{
+    match spot {
+        None => Deed::Nothing,
+        Some(spot) => Deed::Drop {
+            number: spot.number,
+        },
+    }
+}
+
+fn delivered(spot: Option<Spot>) -> Deed
+    ensures { result ≡ delivered spot }
+{
+    match spot {
+        None => Deed::Nothing,
+        Some(spot) => Deed::Deliver {
+            who: spot.who,
+            k: spot.k,
+        },
+    }
+}
+
+fn repeated(sent: u32, word: u32) -> Deed
+    ensures { result ≡ repeated sent word }
+{
+    if sent == 0 {
+        return Deed::Nothing;
+    }
+    Deed::Again {
+        number: 1 + word % sent,
+    }
+}
+
+fn ticked(actors: &[u32], word: u32) -> Deed
+    ensures { result ≡ ticked (slice_get actors.now (word % length actors.now)) }
+{
+    if actors.is_empty() {
+        return Deed::Nothing;
+    }
+    let who = actors[word as usize % actors.len()];
+    Deed::Tick { who }
+}

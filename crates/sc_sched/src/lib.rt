@@ -1,0 +1,10 @@
+//! The words of storms, and what each step of a storm does to a journal that was looked at.
+#![tactic(auto)]
+
+mod deeds;
+mod laws;
+mod storms;
+
+pub use deeds::Deed;
+pub use laws::deeds_are_rows_of_the_walk;
+pub use storms::Storm;
