@@ -19,6 +19,6 @@ returns c =
     let ys = filter (λ p. nat_lt p c.args.lo) (positions c.args.pairs.now) in
     let n = length c.args.pairs.now / 2 in
     elim c.if-middle-above.branch [
-      then-middle-above w ↦ (let h : n < length xs = omega arith in let e = in_first xs ys n h in cc)
-    | else-middle-above w ↦ (let h : length xs ≤ n = omega arith in let e = in_second xs ys n h in cc)
+      | then-middle-above w ↦ (let h : n < length xs = omega arith in let e = in_first xs ys n h in cc)
+      | else-middle-above w ↦ (let h : length xs ≤ n = omega arith in let e = in_second xs ys n h in cc)
     ]

@@ -11,7 +11,7 @@ pub returns : goal.returns
 returns c =
     sym (option_map_id c.nth.result)
     ∙ nth_from_yields_List c.nth.result c.nth.new.self c.args.n c.nth.ensures.ran
-      (YieldsList-from_filter _ (λ p. nat_le c.args.lo p)
-        (YieldsList-at c.filter.ensures.source
-          (YieldsList-from_map _ (λ pair. pos_of pair.0) (YieldsList-at c.map.ensures.source (YieldsList-from_slice c.args.pairs.now cc)) c.map.ensures.closure (λ x r q k. search rules)))
-        c.filter.ensures.closure (λ x r q k. search (rules, tests)))
+    (YieldsList-from_filter _ (λ p. nat_le c.args.lo p)
+    (YieldsList-at c.filter.ensures.source
+    (YieldsList-from_map _ (λ pair. pos_of pair.0) (YieldsList-at c.map.ensures.source (YieldsList-from_slice c.args.pairs.now cc)) c.map.ensures.closure (λ x r q k. search rules)))
+    c.filter.ensures.closure (λ x r q k. search (rules, tests)))

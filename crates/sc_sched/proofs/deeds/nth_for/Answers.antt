@@ -12,7 +12,7 @@ pub returns : goal.returns
 returns c =
     sym (option_map_id c.nth.result)
     ∙ nth_from_yields_List c.nth.result c.nth.new.self c.args.n c.nth.ensures.ran
-      (YieldsList-from_filter _ (λ (spot : Spot). is_actor c.args.actors.now spot.who)
-        (YieldsList-at c.filter.ensures.source
-          (YieldsList-from_copied (YieldsList-at c.copied.ensures.source (YieldsList-from_slice c.args.spots.now cc))))
-        c.filter.ensures.closure (λ x r q k. search (rules, tests)))
+    (YieldsList-from_filter _ (λ (spot : Spot). is_actor c.args.actors.now spot.who)
+    (YieldsList-at c.filter.ensures.source
+    (YieldsList-from_copied (YieldsList-at c.copied.ensures.source (YieldsList-from_slice c.args.spots.now cc))))
+    c.filter.ensures.closure (λ x r q k. search (rules, tests)))

@@ -1,0 +1,101 @@
+use sc_base::Sequence;
+use sc_exchange::{Look, Spot};
+use sc_sched::{Deed, Storm};
+use std::alloc::Global;
+use std::mem::forget;
+use std::process::Abort;
+
+/// The words of the first two steps of the storms 0, 7 and 2^64 - 1, by another program.
+const FIRST_WORDS: [(u64, (u32, u32), (u32, u32)); 3] = [
+    (0, (804192318, 3594542985), (3904396159, 2711947551)),
+    (7, (742701683, 3281823346), (3936197989, 2001186818)),
+    (u64::MAX, (577849543, 3025045049), (2693900732, 999971585)),
+];
+
+/// The actors: a node and a client.
+const ACTORS: [u32; 2] = [1, 33];
+
+/// The first steps of storm 0 where the mails 4, 5 and 9 of nine wait, 4 and 9 for node 1.
+const STEPS_OF_ZERO: [Deed; 10] = [
+    Deed::Deliver { who: 1, k: 1 },
+    Deed::Deliver { who: 1, k: 1 },
+    Deed::Deliver { who: 1, k: 1 },
+    Deed::Deliver { who: 1, k: 1 },
+    Deed::Deliver { who: 33, k: 1 },
+    Deed::Deliver { who: 33, k: 1 },
+    Deed::Again { number: 8 },
+    Deed::Deliver { who: 33, k: 1 },
+    Deed::Tick { who: 1 },
+    Deed::Deliver { who: 1, k: 2 },
+];
+
+/// The first steps of storm 7 there.
+const STEPS_OF_SEVEN: [Deed; 4] = [
+    Deed::Deliver { who: 33, k: 1 },
+    Deed::Deliver { who: 1, k: 2 },
+    Deed::Deliver { who: 1, k: 1 },
+    Deed::Drop { number: 4 },
+];
+
+fn spot(number: u32, who: u32, k: u32) -> Spot {
+    Spot { number, who, k }
+}
+
+/// Nine mails were sent; 4, 5, 7 and 9 are pending, of which 7 is for none of the actors.
+fn some(rt: &impl Abort, alloc: Global) -> Look {
+    let mut pending = Sequence::new(alloc);
+    for spot in [spot(4, 1, 1), spot(5, 33, 1), spot(7, 2, 1), spot(9, 1, 2)] {
+        pending.push(spot).expect(rt, "memory");
+    }
+    Look { sent: 9, pending }
+}
+
+/// Nothing was sent.
+fn nothing(alloc: Global) -> Look {
+    let pending = Sequence::new(alloc);
+    Look { sent: 0, pending }
+}
+
+#[test]
+fn words_are_those_of_the_number(rt: HostRuntime) {
+    for (number, first, second) in FIRST_WORDS {
+        let mut storm = Storm::start(number);
+        assert_eq!(rt; storm.draw(), first, "storm {number}");
+        assert_eq!(rt; storm.draw(), second, "storm {number}");
+    }
+}
+
+#[test]
+fn words_go_on_past_a_block(rt: HostRuntime) {
+    let mut storm = Storm::start(7);
+    for _ in 0..19 {
+        let _ = storm.draw();
+    }
+    assert_eq!(rt; storm.draw(), (1224064553, 3074110426));
+}
+
+#[test]
+fn steps_of_a_storm(rt: HostRuntime) {
+    let look = some(&rt, rt.alloc());
+    let mut storm = Storm::start(0);
+    for deed in STEPS_OF_ZERO {
+        assert_eq!(rt; storm.deed(&look, &ACTORS), deed);
+    }
+    let mut other = Storm::start(7);
+    for deed in STEPS_OF_SEVEN {
+        assert_eq!(rt; other.deed(&look, &ACTORS), deed);
+    }
+    forget(look);
+}
+
+#[test]
+fn a_storm_over_nothing_ticks_alone(rt: HostRuntime) {
+    let look = nothing(rt.alloc());
+    let mut storm = Storm::start(0);
+    for deed in STEPS_OF_ZERO {
+        let ticks = matches!(deed, Deed::Tick { .. });
+        let done = storm.deed(&look, &ACTORS);
+        assert_eq!(rt; done, if ticks { deed } else { Deed::Nothing });
+    }
+    forget(look);
+}

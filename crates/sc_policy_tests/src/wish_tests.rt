@@ -1,0 +1,157 @@
+use sc_base::{Draw, Key, Op, Pairs, RingArc, Sequence, Value};
+use sc_cmd::{Core, Link, Lock};
+use sc_member::Members;
+use sc_policy::{Body0, wish};
+use sc_store::Store;
+use std::alloc::Global;
+use std::mem::forget;
+use std::process::Abort;
+
+/// The group that is looked at.
+const GROUP: Draw = Draw { node: 0, count: 1 };
+
+/// Another group.
+const OTHER: Draw = Draw { node: 0, count: 2 };
+
+/// How many positions there are.
+const ALL: u64 = 1 << 32;
+
+/// The nodes from 1 to `last`; node 1 alone where that is no set.
+fn nodes_to(last: u16) -> Members {
+    let mut members = Members::one(1);
+    for node in 2..=last {
+        let _ = members.add(node);
+    }
+    members
+}
+
+/// A group with the members from 1 to `last` on an arc, with the same neighbour on both sides.
+fn group(alloc: Global, last: u16, arc: RingArc, neighbour: Draw) -> Core {
+    let link = Link {
+        group: neighbour,
+        members: Members::one(9),
+    };
+    Core {
+        id: GROUP,
+        first: 1,
+        arc,
+        members: nodes_to(last),
+        succ: link,
+        pred: link,
+        lock: Lock::Free,
+        begun: 0,
+        decided: Sequence::new(alloc),
+        voted: Sequence::new(alloc),
+        born: Sequence::new(alloc),
+        gone: None,
+    }
+}
+
+fn put(rt: &impl Abort, alloc: Global, store: &mut Store, key: &[u8]) {
+    let op = Op::Put {
+        key: Key::try_new(alloc, key).expect(rt, "a key"),
+        value: Value::try_new(alloc, b"v").expect(rt, "a value"),
+    };
+    let _ = store.apply(&op).expect(rt, "memory");
+    forget(op);
+}
+
+/// So many pairs, at most 188: key i is `front` and the bytes 33 + i / 94 and 33 + i % 94.
+fn pairs(rt: &impl Abort, alloc: Global, front: &[u8], many: usize) -> Pairs {
+    let mut store = Store::new(alloc);
+    let mut count = 0;
+    for first in 33..35u8 {
+        for second in 33..127u8 {
+            if count < many {
+                count += 1;
+                let mut key = Vec::from_slice(alloc, front).expect(rt, "memory");
+                key.push(first).expect(rt, "memory");
+                key.push(second).expect(rt, "memory");
+                put(rt, alloc, &mut store, key.as_slice());
+            }
+        }
+    }
+    let list = store.list().expect(rt, "memory");
+    forget(store);
+    list
+}
+
+/// What is wished of a group on an arc from `lo` on, with so many members and those pairs.
+fn wish_with(
+    rt: &impl Abort,
+    alloc: Global,
+    (last, neighbour): (u16, Draw),
+    (lo, len): (u32, u64),
+    keys: &Pairs,
+) -> Option<Body0> {
+    let arc = RingArc::try_new(lo, len).expect(rt, "an arc");
+    let core = group(alloc, last, arc, neighbour);
+    let wished = wish(&core, keys);
+    forget(core);
+    wished
+}
+
+/// What is wished of a group without pairs.
+fn wish_of(rt: &impl Abort, alloc: Global, members: (u16, Draw), arc: (u32, u64)) -> Option<Body0> {
+    let none = Pairs::new(alloc);
+    wish_with(rt, alloc, members, arc, &none)
+}
+
+#[test]
+fn a_crowded_group_is_split_in_the_middle(rt: HostRuntime) {
+    let alloc = rt.alloc();
+    let at = 2147483648;
+    assert_eq!(rt;
+        wish_of(&rt, alloc, (8, GROUP), (0, ALL)),
+        Some(Body0::Split { at })
+    );
+    assert_eq!(rt;
+        wish_of(&rt, alloc, (9, OTHER), (0, ALL)),
+        Some(Body0::Split { at })
+    );
+    let at = 4;
+    let wished = wish_of(&rt, alloc, (8, OTHER), (4294967290, 21));
+    assert_eq!(rt; wished, Some(Body0::Split { at }));
+    assert_eq!(rt; wish_of(&rt, alloc, (8, OTHER), (7, 1)), None);
+    assert_eq!(rt; wish_of(&rt, alloc, (7, OTHER), (0, ALL)), None);
+}
+
+#[test]
+fn a_small_group_with_a_neighbour_is_merged(rt: HostRuntime) {
+    let alloc = rt.alloc();
+    assert_eq!(rt; wish_of(&rt, alloc, (1, OTHER), (0, 9)), Some(Body0::Merge));
+    assert_eq!(rt; wish_of(&rt, alloc, (2, OTHER), (0, 9)), Some(Body0::Merge));
+    assert_eq!(rt; wish_of(&rt, alloc, (3, OTHER), (0, 9)), None);
+    assert_eq!(rt; wish_of(&rt, alloc, (2, GROUP), (0, ALL)), None);
+}
+
+#[test]
+fn the_boundary_of_a_full_group_moves_to_its_middle_key(rt: HostRuntime) {
+    let alloc = rt.alloc();
+    let keys = pairs(&rt, alloc, b"", 129);
+    let three = (3, OTHER);
+    let wished = wish_with(&rt, alloc, three, (0, ALL), &keys);
+    assert_eq!(rt; wished, Some(Body0::Repart { at: 560005120 }));
+    let wished = wish_with(&rt, alloc, three, (572981248, ALL), &keys);
+    assert_eq!(rt; wished, Some(Body0::Repart { at: 558104576 }));
+    assert_eq!(rt; wish_with(&rt, alloc, (3, GROUP), (0, ALL), &keys), None);
+    let merged = wish_with(&rt, alloc, (2, OTHER), (0, ALL), &keys);
+    assert_eq!(rt; merged, Some(Body0::Merge));
+    forget(keys);
+}
+
+#[test]
+fn a_boundary_stays_where_it_cannot_move(rt: HostRuntime) {
+    let alloc = rt.alloc();
+    let few = pairs(&rt, alloc, b"", 128);
+    assert_eq!(rt; wish_with(&rt, alloc, (3, OTHER), (0, ALL), &few), None);
+    forget(few);
+    let heap = pairs(&rt, alloc, b"aaaa", 129);
+    let moved = wish_with(&rt, alloc, (3, OTHER), (0, ALL), &heap);
+    assert_eq!(rt; moved, Some(Body0::Repart { at: 1633771873 }));
+    assert_eq!(rt;
+        wish_with(&rt, alloc, (3, OTHER), (1633771873, ALL), &heap),
+        None
+    );
+    forget(heap);
+}
