@@ -1,1 +1,4 @@
+mod Counting
+mod Naming
+mod Saying
 pub mod Standing

@@ -9,9 +9,13 @@ use Rattle.sc_cmd.specs.declared.orders.ToldResult.TheVariants.{Refused}
 use Rattle.sc_mail.specs.declared.bodies.Mail.{Mail}
 use Rattle.sc_mail.specs.declared.bodies.MailBody.{MailBody}
 use Rattle.sc_node_table.specs.Replica.{ReplicaState, Place, name_of}
-use Rattle.sc_node_table.specs.Node.{NodeState, replica_of, with_replica, taken_by, unknown, group_of_order, ordered_of, on_order, ticked}
+use Rattle.sc_node_table.specs.Node.{NodeState, replica_of, with_replica, with_children, taken_by, unknown, group_of_order, ordered_of, on_order, ticked}
 use Rattle.sc_node_table.specs.Mails.{told_desk}
-use Rattle.sc_node_table.specs.Rows.{mailed, tick_row, order_row}
+use Rattle.sc_node_table.specs.Rows.{mailed, tick_row}
+use Rattle.sc_node_table.specs.Ordering.{ordered_row, names_after}
+use Rattle.sc_node_table.specs.Births.{mailed_children}
+use Rattle.sc_base.specs.Drawing.{Drawer}
+use Rattle.sc_cmd.specs.declared.cores.Base.{Base}
 use Rattle.sc_node.specs.Places.{place_from}
 
 -- a replica of a group stands at a place
@@ -93,12 +97,14 @@ ticked-all rs i mails le =
     ∙ ap (λ ys. before (take i rs) (ticked ys mails)) (sym (drop_all i rs le))
 
 -- a mail for a group whose replica stands at a place
-pub taken-at : (group : Draw) (from : ℕ) (body : MailBody) (node : NodeState) (n : ℕ) (d new : ReplicaState) (more : List Mail) → StandsAt group node.replicas n
-    → (new, more) ≡ mailed from body (get_or node.replicas n d, []) → taken_by (replica_of group node.replicas) group from body node ≡ (record node { replicas = set node.replicas n new }, more)
-taken-at group from body node n d new more stands e =
+pub taken-at : (group : Draw) (from : ℕ) (body : MailBody) (node : NodeState) (n : ℕ) (d new : ReplicaState) (more : List Mail) (made : List Base) → StandsAt group node.replicas n
+    → (new, more) ≡ mailed from body (get_or node.replicas n d, []) → made ≡ mailed_children from body (get_or node.replicas n d, []) []
+    → taken_by (replica_of group node.replicas) group from body node ≡ (with_children made (record node { replicas = set node.replicas n new }), more)
+taken-at group from body node n d new more made stands e born =
     ap (λ o. taken_by o group from body node) (stands.found d)
-    ∙ ap (λ (p : Place). (record node { replicas = with_replica group p.0 node.replicas }, p.1)) (sym e)
-    ∙ ap (λ rs. (record node { replicas = rs }, more)) (sym (stands.written new))
+    ∙ ap (λ (p : Place). (with_children (mailed_children from body (get_or node.replicas n d, []) []) (record node { replicas = with_replica group p.0 node.replicas }), p.1)) (sym e)
+    ∙ ap (λ rs. (with_children (mailed_children from body (get_or node.replicas n d, []) []) (record node { replicas = rs }), more)) (sym (stands.written new))
+    ∙ ap (λ cs. (with_children cs (record node { replicas = set node.replicas n new }), more)) (sym born)
 
 -- a mail for a group of which there is no replica
 pub taken-nowhere : {E : Type 0} (group : Draw) (from : ℕ) (body : MailBody) (node after : NodeState) (result : Result (List Mail) E) → replica_of group node.replicas ≡ None
@@ -107,12 +113,14 @@ taken-nowhere group from body node after (Ok mails) none e = ap (λ o. taken_by 
 taken-nowhere group from body node after (Err x) none e = e
 
 -- an order for a group whose replica stands at a place
-pub ordered-at : (line : OrderLine) (node : NodeState) (n : ℕ) (d new : ReplicaState) (more : List Mail) → StandsAt (group_of_order line.order) node.replicas n
-    → (new, more) ≡ order_row line (get_or node.replicas n d, []) → on_order line node ≡ (record node { replicas = set node.replicas n new }, more)
-ordered-at line node n d new more stands e =
+pub ordered-at : (line : OrderLine) (node : NodeState) (n : ℕ) (d new : ReplicaState) (more : List Mail) (left : Drawer) → StandsAt (group_of_order line.order) node.replicas n
+    → (new, more) ≡ ordered_row node.draws line (get_or node.replicas n d, []) → left ≡ names_after node.draws line (get_or node.replicas n d)
+    → on_order line node ≡ (record node { draws = left; replicas = set node.replicas n new }, more)
+ordered-at line node n d new more left stands e names =
     ap (λ o. ordered_of o line node) (stands.found d)
-    ∙ ap (λ (p : Place). (record node { replicas = with_replica (group_of_order line.order) p.0 node.replicas }, p.1)) (sym e)
-    ∙ ap (λ rs. (record node { replicas = rs }, more)) (sym (stands.written new))
+    ∙ ap (λ (p : Place). (record node { draws = names_after node.draws line (get_or node.replicas n d); replicas = with_replica (group_of_order line.order) p.0 node.replicas }, p.1)) (sym e)
+    ∙ ap (λ rs. (record node { draws = names_after node.draws line (get_or node.replicas n d); replicas = rs }, more)) (sym (stands.written new))
+    ∙ ap (λ (draws : Drawer). (record node { draws = draws; replicas = set node.replicas n new }, more)) (sym names)
 
 -- an order for a group of which there is no replica
 pub ordered-nowhere : {E : Type 0} (line : OrderLine) (node : NodeState) (result : Result (List Mail) E) → replica_of (group_of_order line.order) node.replicas ≡ None

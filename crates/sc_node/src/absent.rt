@@ -3,7 +3,7 @@ ghost use Rattle.std.specs.Prelude.{◌≡◌, [], IfOk, None};
 ghost use Rattle.sc_node_table.specs.Node.{group_of_mail, absent, is_node, may_come};
 ghost use Rattle.sc_node_table.specs.Mails.{sent, answer_to};
 ghost use Rattle.sc_mail.specs.declared.bodies.AnswerBody.TheVariants.{NotLeader};
-ghost use Rattle.sc_mail.specs.declared.bodies.MailBody.TheVariants.{Ask};
+ghost use Rattle.sc_mail.specs.declared.bodies.MailBody.TheVariants.{Ask, TxElsewhere};
 
 use sc_base::{Draw, MOST_NODES, OutOfMemory, Sequence};
 use sc_mail::{AnswerBody, Mail, MailBody, client_number};
@@ -40,14 +40,13 @@ pub(crate) fn group_in(body: &MailBody) -> Option<Draw>
         | MailBody::Learn { group, .. }
         | MailBody::Ask { group, .. }
         | MailBody::Install { group, .. } => Some(*group),
-        MailBody::Answer { .. }
-        | MailBody::TxPrepare { .. }
-        | MailBody::TxVote { .. }
-        | MailBody::TxOutcome { .. }
-        | MailBody::TxElsewhere { .. }
-        | MailBody::TxWatch { .. }
-        | MailBody::TxWatched { .. }
-        | MailBody::Told { .. } => None,
+        MailBody::TxPrepare { offer, .. } => Some(offer.get().part),
+        MailBody::TxOutcome { part, .. } => Some(*part),
+        MailBody::TxWatch { watch, .. } => Some(watch.get().part),
+        MailBody::TxVote { coord, .. }
+        | MailBody::TxElsewhere { coord, .. }
+        | MailBody::TxWatched { coord, .. } => Some(*coord),
+        MailBody::Answer { .. } | MailBody::Told { .. } => None,
     }
 }
 
@@ -96,6 +95,20 @@ fn ask_whole(alloc: Global, me: u16, from: u32, group: Draw) -> Result<Sequence<
     alone(alloc, me, from, MailBody::Ask { group, from_slot })
 }
 
+/// The coordinator is told that the node leads no such group, and knows nobody who does.
+fn pass_on(
+    alloc: Global,
+    me: u16,
+    from: u32,
+    tx: Draw,
+    coord: Draw,
+) -> Result<Sequence<Mail>, OutOfMemory>
+    ensures { IfOk result (λ mails. mails ≡ sent me from (TxElsewhere tx coord None) []) }
+{
+    let hint = None;
+    alone(alloc, me, from, MailBody::TxElsewhere { tx, coord, hint })
+}
+
 /// What is sent where there is no replica of the group.
 pub(crate) fn absent(
     alloc: Global,
@@ -115,17 +128,17 @@ pub(crate) fn absent(
         MailBody::Prepare { group, .. }
         | MailBody::Accept { group, .. }
         | MailBody::Learn { group, .. } => ask_whole(alloc, me, from, *group),
+        MailBody::TxPrepare { tx, offer } => pass_on(alloc, me, from, *tx, offer.get().coord),
+        MailBody::TxWatch { tx, watch } => pass_on(alloc, me, from, *tx, watch.get().coord),
         MailBody::Answer { .. }
         | MailBody::Promise { .. }
         | MailBody::Accepted { .. }
         | MailBody::Nack { .. }
         | MailBody::Ask { .. }
         | MailBody::Install { .. }
-        | MailBody::TxPrepare { .. }
         | MailBody::TxVote { .. }
         | MailBody::TxOutcome { .. }
         | MailBody::TxElsewhere { .. }
-        | MailBody::TxWatch { .. }
         | MailBody::TxWatched { .. }
         | MailBody::Told { .. } => Ok(Sequence::new(alloc)),
     }

@@ -3,11 +3,11 @@ ghost use Rattle.std.specs.Prelude.{◌≡◌, ◌≤◌, ◌||◌, ◌==◌, no
 ghost use Rattle.sc_node_table.specs.Slots.{slots_ahead};
 ghost use Rattle.sc_node_table.specs.Replica.{last_slot};
 ghost use Rattle.sc_node_table.specs.Rows.{made_by};
-ghost use Rattle.sc_node_table.specs.Node.{is_before, with_new, with_made, unknown, may_come};
+ghost use Rattle.sc_node_table.specs.Node.{is_before, with_new, with_made, with_born, with_children, unknown, may_come};
 
 use crate::absent::absent;
-use crate::node::NodeCore;
-use sc_base::{Draw, OutOfMemory, Sequence};
+use crate::node::{NodeCore, place_of};
+use sc_base::{Draw, Dup, OutOfMemory, Sequence};
 use sc_cmd::{Base, MemberSets};
 use sc_mail::{Mail, MailBody};
 use sc_node_table::OPEN_SLOTS;
@@ -64,6 +64,32 @@ impl NodeCore {
         let (made, sent) = Replica::installed(alloc, self.me, from, group, slot, base, sets)?;
         put_new(&mut self.replicas, made)?;
         Ok(sent)
+    }
+
+    /// The replica of a child is made as at birth, unless there is one.
+    fn bear(&mut self, alloc: Global, child: &Base) -> Result<(), OutOfMemory>
+        ensures { OnOk result (self.new ≡ with_born child.now self.old) }
+    {
+        if place_of(self.replicas.as_slice(), child.core.id).is_some() {
+            return Ok(());
+        }
+        let replica = Replica::born(alloc, self.me, child.dup(alloc)?)?;
+        put_new(&mut self.replicas, replica)
+    }
+
+    /// .. of each of these children.
+    #[tactic(auto, unfolding(sc_node_table::specs::Node::with_children))]
+    pub(crate) fn bear_all(
+        &mut self,
+        alloc: Global,
+        made: &Sequence<Base>,
+    ) -> Result<(), OutOfMemory>
+        ensures { OnOk result (self.new ≡ with_children made.now self.old) }
+    {
+        for child in made.as_slice() {
+            self.bear(alloc, child)?;
+        }
+        Ok(())
     }
 
     /// A mail for a group of which there is no replica.

@@ -4,23 +4,27 @@ ghost use Rattle.std.specs.List.{list_all};
 ghost use Rattle.sc_cmd.specs.declared.cores.Base.{Base};
 ghost use Rattle.sc_node_table.specs.Slots.{slots_ahead};
 ghost use Rattle.sc_node_table.specs.Replica.{name_of};
-ghost use Rattle.sc_node_table.specs.Node.{is_before, are_in_order, born_node, replica_of, taken_by, routed, on_mail, ticked, on_tick, node_table, may_come};
+ghost use Rattle.sc_node_table.specs.Node.{is_before, are_in_order, born_node, replica_of, taken_by, routed, on_mail, with_children, ticked, on_tick, node_table, may_come};
 ghost use Rattle.sc_node.specs.Places.{place_from};
 
 use crate::absent::{group_in, may_come};
 use crate::arrivals::is_before;
+use crate::rows::take_mail;
+use crate::ticks::on_tick;
 use sc_actor::{Actor, Input};
-use sc_base::{Draw, Dup, OutOfMemory, Sequence};
+use sc_base::{Draw, Draws, Dup, OutOfMemory, Sequence};
 use sc_cmd::{Base, OrderLine, same_draw};
 use sc_mail::{Mail, MailBody};
 use sc_replica::Replica;
 use std::alloc::Global;
 use std::marker::Model;
 
-/// A node and its replicas, one a group. Contracts see it as the record of the node's table.
+/// A node, the names that it draws, and its replicas, one a group. Contracts see it as the record of
+/// the node's table.
 #[derive(Drop)]
 pub struct NodeCore {
     pub(crate) me: u16,
+    pub(crate) draws: Draws,
     pub(crate) replicas: Vec<Replica>,
 }
 
@@ -40,7 +44,7 @@ impl Model for NodeCore {
         Group = Prim.hlevel (codes, pairs, clients) in let replica : Coded ReplicaState =
         Prim.hlevel (codes, group) in Prim.hlevel (codes, replica) };
 
-    ghost view = { λ n. record { me = n.me; replicas = n.replicas.items } };
+    ghost view = { λ n. record { me = n.me; draws = n.draws; replicas = n.replicas.items } };
 }
 
 /// Whether a group's name stands before those of all these groups.
@@ -91,7 +95,7 @@ fn tick_all(replicas: &mut Vec<Replica>, sent: &mut Sequence<Mail>) -> Result<()
     ensures { OnOk result ((replicas.new.items, sent.new) ≡ ticked replicas.old.items sent.old) }
 {
     for i in 0..replicas.len() {
-        replicas[i].on_tick(sent)?;
+        on_tick(&mut replicas[i], sent)?;
     }
     Ok(())
 }
@@ -106,6 +110,7 @@ impl NodeCore {
     {
         Ok(NodeCore {
             me,
+            draws: Draws::start(me),
             replicas: born_replicas(alloc, me, groups.as_slice())?,
         })
     }
@@ -178,6 +183,28 @@ impl NodeCore {
         }
     }
 
+    /// The replica at a place takes a mail; the children whose replicas must be made come into
+    /// `made`, which was empty.
+    fn hand_over(
+        &mut self,
+        i: usize,
+        group: Draw,
+        from: u32,
+        body: &MailBody,
+        sent: &mut Sequence<Mail>,
+        made: &mut Sequence<Base>,
+    ) -> Result<(), OutOfMemory>
+        requires may_come { may_come from body.now ≡ true }
+        requires place { place_from 0 group self.old.replicas ≡ Some i }
+        requires unsent { sent.old ≡ [] }
+        requires none { made.old ≡ [] }
+        ensures { OnOk result
+            (taken_by (replica_of group self.old.replicas) group from body.now self.old
+            ≡ (with_children made.new self.new, sent.new)) }
+    {
+        take_mail(&mut self.replicas[i], from, body, sent, made)
+    }
+
     fn take_at(
         &mut self,
         alloc: Global,
@@ -194,7 +221,9 @@ impl NodeCore {
             ≡ (self.new, sent)) }
     {
         let mut sent = Sequence::new(alloc);
-        self.replicas[i].take_mail(from, body, &mut sent)?;
+        let mut made = Sequence::new(alloc);
+        self.hand_over(i, group, from, body, &mut sent, &mut made)?;
+        self.bear_all(alloc, &made)?;
         Ok(sent)
     }
 

@@ -8,6 +8,7 @@ ghost use Rattle.sc_node.specs.Places.{place_from};
 
 use crate::absent::alone;
 use crate::node::{NodeCore, place_of};
+use crate::orders::on_order;
 use sc_base::{Draw, OutOfMemory, Sequence};
 use sc_cmd::{Order, OrderLine, OrderRefusal, ToldResult};
 use sc_mail::{DESK, Mail, MailBody};
@@ -68,7 +69,7 @@ impl NodeCore {
         ensures { IfOk result (λ sent. on_order line.now self.old ≡ (self.new, sent)) }
     {
         let mut sent = Sequence::new(alloc);
-        self.replicas[i].on_order(line, &mut sent)?;
+        on_order(&mut self.replicas[i], &mut self.draws, line, &mut sent)?;
         Ok(sent)
     }
 }

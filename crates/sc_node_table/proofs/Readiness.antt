@@ -16,6 +16,10 @@ use Rattle.sc_node_table.specs.Queues.{put_back}
 use Rattle.sc_node_table.specs.Sameness.{same_command}
 use Rattle.sc_node_table.specs.Election.{elected, ended}
 use Rattle.sc_node_table.specs.Pump.{pumped}
+use Rattle.sc_node_table.specs.declared.Before.{Before}
+use Rattle.sc_node_table.specs.Spoken.{before_of, spoken}
+use Rattle.sc_node_table.specs.Births.{next_child, ready_children}
+use Rattle.sc_cmd.specs.declared.cores.Base.{Base}
 use Rattle.sc_node_table.specs.Execute.{entered, answer_of, announced, told_call, told_effect, order_result, learnt_to, welcomed, slot_lost, landed, left, left_gone, is_among, looked, looked_for, executed_one, has_room, next_ready, executed_ready}
 
 -- taking a slot out makes the list shorter
@@ -110,6 +114,10 @@ unfolding welcomed
 welcomed-ready true before place = ap (λ (r : ReplicaState). r.ready) (welcomed_all-same (filter (λ node. not (is_member before node)) (members place.0)) place)
 welcomed-ready false before place = refl
 
+spoken-ready : (counted : Bool) (before : Before) (effect : Effect) (command : Command) (place : Place) → (spoken counted before effect command place).0.ready ≡ place.0.ready
+unfolding spoken
+spoken-ready counted before effect command place = refl
+
 learnt-ready : (counted : Bool) (before : List ℕ) (slot : ℕ) (command : Command) (place : Place) → (learnt_to counted before slot command place).0.ready ≡ place.0.ready
 unfolding learnt_to
 learnt-ready true before slot command place = refl
@@ -162,18 +170,22 @@ pub one-ready : (counted : Bool) (command : Command) (place : Place) → length 
 unfolding executed_one
 one-ready counted command place =
     let place0 : Place = (entered command place.0, place.1) in
-    let place1 = announced counted (applied place.0.group command).1 command place0 in
-    let place2 = learnt_to counted (members place.0) (next place.0) command place1 in
-    let place3 = welcomed counted (members place.0) place2 in
-    let place4 = landed counted (next place.0) command place3 in
-    let same : place4.0.ready ≡ without_slot place.0.ready (next place.0) =
-    landed-ready counted (next place.0) command place3
+    let effect = (applied place.0.group command).1 in
+    let before = before_of place.0.group.core in
+    let place1 = announced counted effect command place0 in
+    let place2 = spoken counted before effect command place1 in
+    let place3 = learnt_to counted (members place.0) (next place.0) command place2 in
+    let place4 = welcomed counted (members place.0) place3 in
+    let place5 = landed counted (next place.0) command place4 in
+    let same : place5.0.ready ≡ without_slot place.0.ready (next place.0) =
+    landed-ready counted (next place.0) command place4
     ∙ ap (λ es. without_slot es (next place.0))
-    (welcomed-ready counted (members place.0) place2
-    ∙ learnt-ready counted (members place.0) (next place.0) command place1
-    ∙ announced-ready counted (applied place.0.group command).1 command place0
+    (welcomed-ready counted (members place.0) place3
+    ∙ learnt-ready counted (members place.0) (next place.0) command place2
+    ∙ spoken-ready counted before effect command place1
+    ∙ announced-ready counted effect command place0
     ∙ entered-ready command place.0) in
-    omega (arith, looked-ready (left place4), left-ready place4, ap length same)
+    omega (arith, looked-ready (left place5), left-ready place5, ap length same)
 
 -- after an execution from what is ready there is less of it
 pub one-shorter : (command : Command) (place : Place) → next_ready place.0 ≡ Some command → length (executed_one true command place).0.ready < length place.0.ready
@@ -267,3 +279,61 @@ pub turn-shorter : (r after : ReplicaState) (mails more : List Mail) (command : 
 turn-shorter r after mails more command e is =
     let same : length after.ready ≡ length (executed_one true command (r, mails)).0.ready = ap (λ (place : Place). length place.0.ready) is in
     omega (arith, one-shorter command (r, mails) e)
+
+-- ---- and the same of the children
+
+born_by-none : (o : Option Command) (es : List (ℕ × Command)) (place : Place) (made : List Base) → o ≡ None
+    → (elim o [ None ↦ made | Some command ↦ ready_children es (executed_one true command place) (next_child command place.0 made) ]) ≡ made
+born_by-none None es place made e = refl
+born_by-none (Some command) es place made e = absurd (cc)
+
+-- with nothing ready none is made
+ready_children-stop : (es : List (ℕ × Command)) (place : Place) (made : List Base) → next_ready place.0 ≡ None → ready_children es place made ≡ made
+unfolding ready_children
+ready_children-stop [] place made e = refl
+ready_children-stop (f ∷ es) place made e = born_by-none (next_ready place.0) es place made e
+
+born_by : (o : Option Command) (es : List (ℕ × Command)) (place : Place) (made : List Base) (command : Command) → o ≡ Some command
+    → (elim o [ None ↦ made | Some command ↦ ready_children es (executed_one true command place) (next_child command place.0 made) ])
+    ≡ ready_children es (executed_one true command place) (next_child command place.0 made)
+born_by None es place made command e = absurd (cc)
+born_by (Some other) es place made command e = let same : other ≡ command = cc in rw same
+
+ready_children-go : (f : ℕ × Command) (es : List (ℕ × Command)) (place : Place) (made : List Base) (command : Command) → next_ready place.0 ≡ Some command
+    → ready_children (f ∷ es) place made ≡ ready_children es (executed_one true command place) (next_child command place.0 made)
+unfolding ready_children
+ready_children-go f es place made command e = born_by (next_ready place.0) es place made command e
+
+both_children : (e f : ℕ × Command) (es fs : List (ℕ × Command)) (place : Place) (made : List Base) (o : Option Command) → next_ready place.0 ≡ o
+    → ((after : Place) (made : List Base) → length after.0.ready ≤ length es → length after.0.ready ≤ length fs → ready_children es after made ≡ ready_children fs after made)
+    → length place.0.ready ≤ length (e ∷ es) → length place.0.ready ≤ length (f ∷ fs) → ready_children (e ∷ es) place made ≡ ready_children (f ∷ fs) place made
+both_children e f es fs place made None is rest p q = ready_children-stop (e ∷ es) place made is ∙ sym (ready_children-stop (f ∷ fs) place made is)
+both_children e f es fs place made (Some command) is rest p q =
+    let less : length (executed_one true command place).0.ready < length place.0.ready = one-shorter command place is in
+    ready_children-go e es place made command is
+    ∙ rest (executed_one true command place) (next_child command place.0 made) (omega arith) (omega arith)
+    ∙ sym (ready_children-go f fs place made command is)
+
+-- any two bounds that are no shorter than what is ready make the same
+ready_children-enough : (es fs : List (ℕ × Command)) (place : Place) (made : List Base) → length place.0.ready ≤ length es → length place.0.ready ≤ length fs
+    → ready_children es place made ≡ ready_children fs place made
+ready_children-enough [] [] place made p q = refl
+ready_children-enough [] (f ∷ fs) place made p q = let none = none-ready place.0 p in ready_children-stop [] place made none ∙ sym (ready_children-stop (f ∷ fs) place made none)
+ready_children-enough (e ∷ es) [] place made p q = let none = none-ready place.0 q in ready_children-stop (e ∷ es) place made none ∙ sym (ready_children-stop [] place made none)
+ready_children-enough (e ∷ es) (f ∷ fs) place made p q = both_children e f es fs place made (next_ready place.0) refl (ready_children-enough es fs) p q
+
+-- with nothing ready at the next slot none is made
+pub ready_children-none : (place : Place) (made : List Base) → next_ready place.0 ≡ None → ready_children place.0.ready place made ≡ made
+ready_children-none place made e = ready_children-stop place.0.ready place made e
+
+-- the children of one turn of the loop, and of those after it
+pub turn-children : (r after : ReplicaState) (mails more : List Mail) (made now : List Base) (command : Command) → next_ready r ≡ Some command → (after, more) ≡ executed_one true command (r, mails)
+    → now ≡ next_child command r made → ready_children after.ready (after, more) now ≡ ready_children r.ready (r, mails) made
+turn-children r after mails more made now command e is born =
+    let next = executed_one true command (r, mails) in
+    let less : length next.0.ready < length r.ready = one-shorter command (r, mails) e in
+    ap (λ (place : Place). ready_children place.0.ready place now) is
+    ∙ ap (ready_children next.0.ready next) born
+    ∙ ready_children-enough next.0.ready r.ready next (next_child command r made) (omega arith) (omega arith)
+    ∙ sym (ready_children-go (0, Noop) r.ready (r, mails) made command e)
+    ∙ ready_children-enough ((0, Noop) ∷ r.ready) r.ready (r, mails) made (omega arith) (omega arith)

@@ -11,6 +11,8 @@ use Rattle.sc_paxos_words.specs.declared.answers.Counted.TheVariants.{Chosen, No
 use Rattle.sc_paxos_words.specs.Leaders.{LeaderState}
 use Rattle.sc_paxos_words.specs.Votes.{counted}
 use Rattle.sc_machine_table.specs.Children.{child_by}
+use Rattle.sc_node_table.specs.declared.ReplicaInput.{ReplicaInput}
+use Rattle.sc_node_table.specs.declared.ReplicaInput.TheVariants as Given
 use Rattle.sc_node_table.specs.Slots.{with_slot}
 use Rattle.sc_node_table.specs.Replica.{ReplicaState, Place, next, set_at, last_slot}
 use Rattle.sc_node_table.specs.Execute.{executed_one, has_room, next_ready}
@@ -82,3 +84,9 @@ mailed_children from (TxElsewhere tx coord hint) place made = made
 mailed_children from (TxWatch tx watch) place made = made
 mailed_children from (TxWatched tx coord part vote) place made = made
 mailed_children from (Told order result) place made = made
+
+-- the children of a step
+abbrev pub made_in : ReplicaInput → Place → List Base
+made_in (Given.Got mail) place = mailed_children mail.from mail.body place []
+made_in Given.Tick place = []
+made_in (Given.Told line) place = []

@@ -22,6 +22,7 @@ use Rattle.sc_node_table.specs.Sameness.{same_command}
 use Rattle.sc_node_table.specs.Election.{elected, ended, stopped}
 use Rattle.sc_node_table.specs.Pump.{pumped}
 use Rattle.sc_node_table.specs.Install.{welcomed_all}
+use Rattle.sc_node_table.specs.Spoken.{before_of, spoken}
 
 -- the log with the entry of its next slot
 abbrev pub with_entry : Command → LogState Command → LogState Command
@@ -67,7 +68,7 @@ result_of Was.Idle = None
 result_of (Was.Voted vote) = None
 result_of (Was.Decided outcome) = None
 
--- of a join and a leave it is told; of splits and transactions nothing is told so far
+-- of a join and a leave it is told so; splits and transactions are spoken of apart
 abbrev pub order_result : Command → Effect → Option ToldResult
 order_result (Join node order) effect = result_of effect
 order_result (Leave node order) effect = result_of effect
@@ -139,14 +140,16 @@ looked_for None (r, mails) =
 unfoldable pub looked : Place → Place
 looked (r, mails) = if r.running then (r, mails) else looked_for r.group.core.gone (r, mails)
 
--- 1 to 6
+-- 1 to 6 but for 3, which makes children
 unfoldable pub executed_one : Bool → Command → Place → Place
 executed_one counted command (r, mails) =
-    let place1 = announced counted (applied r.group command).1 command (entered command r, mails) in
-    let place2 = learnt_to counted (members r) (next r) command place1 in
-    let place3 = welcomed counted (members r) place2 in
-    let place4 = landed counted (next r) command place3 in
-    looked (left place4)
+    let effect = (applied r.group command).1 in
+    let place1 = announced counted effect command (entered command r, mails) in
+    let place2 = spoken counted (before_of r.group.core) effect command place1 in
+    let place3 = learnt_to counted (members r) (next r) command place2 in
+    let place4 = welcomed counted (members r) place3 in
+    let place5 = landed counted (next r) command place4 in
+    looked (left place5)
 
 -- whether a counted command may be executed at the next slot: the pump offers none above the last slot by more than the other open slots
 abbrev pub has_room : ReplicaState → Bool

@@ -1,8 +1,9 @@
 -- A node: its replicas, one a group, and its table.
-use Rattle.std.specs.Prelude.{ℕ, ◌==◌, ◌&&◌, ◌||◌, not, nat_le, nat_lt, length, Bool, true, List, [], ◌∷◌, map, filter, find, if◌then◌else◌, Option, Some, None}
+use Rattle.std.specs.Prelude.{ℕ, ◌==◌, ◌&&◌, ◌||◌, not, nat_le, nat_lt, length, Bool, true, List, [], ◌∷◌, map, filter, find, if◌then◌else◌, Option, Some, None, is_some}
 use Rattle.std.specs.List.{list_all}
 use Rattle.sc_base.specs.Limits.{most_nodes}
 use Rattle.sc_base.specs.declared.names.Draw.{Draw}
+use Rattle.sc_base.specs.Drawing.{Drawer}
 use Rattle.sc_actor.specs.declared.rows.Input.{Input}
 use Rattle.sc_actor.specs.declared.rows.Input.TheVariants.{Got, Tick, Go, Told}
 use Rattle.sc_base.specs.Same.{same_draw}
@@ -20,16 +21,19 @@ use Rattle.sc_member.specs.Roster.{is_member}
 use Rattle.sc_node_table.specs.Slots.{slots_ahead}
 use Rattle.sc_node_table.specs.Replica.{ReplicaState, Place, name_of, born_replica, last_slot}
 use Rattle.sc_node_table.specs.Mails.{sent, answer_to, told_desk}
-use Rattle.sc_node_table.specs.Rows.{mailed, tick_row, order_row, made_by}
+use Rattle.sc_node_table.specs.Rows.{mailed, tick_row, made_by}
+use Rattle.sc_node_table.specs.Ordering.{ordered_row, names_after}
+use Rattle.sc_node_table.specs.Births.{mailed_children}
 
--- the node's number, and its replicas in the order of their groups' names
+-- the node's number, the names that it draws, and its replicas in the order of their groups' names
 pub record NodeState : Type 0 where
   pub me : ℕ
+  pub draws : Drawer
   pub replicas : List ReplicaState
 
 -- a node at the birth of groups that are in the order of their names, so many slots of a log of which are open at a time: it has a replica of each of which it is a member
 abbrev pub born_node : ℕ → ℕ → List Base → NodeState
-born_node ahead me groups = record { me = me; replicas = map (λ base. born_replica ahead me base) (filter (λ base. is_member base.core.members me) groups) }
+born_node ahead me groups = record { me = me; draws = record { node = me; next = 1 }; replicas = map (λ base. born_replica ahead me base) (filter (λ base. is_member base.core.members me) groups) }
 
 -- the replica of a group
 abbrev pub replica_of : Draw → List ReplicaState → Option ReplicaState
@@ -66,12 +70,12 @@ group_of_mail (Learn group slot command) = Some group
 group_of_mail (Ask group from_slot) = Some group
 group_of_mail (Install group slot base sets) = Some group
 group_of_mail (Answer group seq answer) = None
-group_of_mail (TxPrepare tx offer) = None
-group_of_mail (TxVote tx coord part vote) = None
-group_of_mail (TxOutcome tx part outcome) = None
-group_of_mail (TxElsewhere tx coord hint) = None
-group_of_mail (TxWatch tx watch) = None
-group_of_mail (TxWatched tx coord part vote) = None
+group_of_mail (TxPrepare tx offer) = Some offer.part
+group_of_mail (TxVote tx coord part vote) = Some coord
+group_of_mail (TxOutcome tx part outcome) = Some part
+group_of_mail (TxElsewhere tx coord hint) = Some coord
+group_of_mail (TxWatch tx watch) = Some watch.part
+group_of_mail (TxWatched tx coord part vote) = Some coord
 group_of_mail (ToldMail order result) = None
 
 -- what is sent where there is no replica of the group
@@ -86,11 +90,11 @@ absent me from (Accepted group ballot slot) = []
 absent me from (Nack group promised) = []
 absent me from (Ask group from_slot) = []
 absent me from (Install group slot base sets) = []
-absent me from (TxPrepare tx offer) = []
+absent me from (TxPrepare tx offer) = sent me from (TxElsewhere tx offer.coord None) []
 absent me from (TxVote tx coord part vote) = []
 absent me from (TxOutcome tx part outcome) = []
 absent me from (TxElsewhere tx coord hint) = []
-absent me from (TxWatch tx watch) = []
+absent me from (TxWatch tx watch) = sent me from (TxElsewhere tx watch.coord None) []
 absent me from (TxWatched tx coord part vote) = []
 absent me from (ToldMail order result) = []
 
@@ -129,12 +133,23 @@ may_come from (TxWatch tx watch) = is_node from
 may_come from (TxWatched tx coord part vote) = is_node from
 may_come from (ToldMail order result) = is_node from
 
+-- the replica of a child is made as at birth, unless there is one
+abbrev pub with_born : Base → NodeState → NodeState
+with_born child node =
+    if is_some (replica_of child.core.id node.replicas) then node
+    else record node { replicas = with_new (born_replica slots_ahead node.me child) node.replicas }
+
+-- .. of each of these children
+unfoldable pub with_children : List Base → NodeState → NodeState
+with_children [] node = node
+with_children (child ∷ children) node = with_children children (with_born child node)
+
 -- a mail for the replica of a group
 abbrev pub taken_by : Option ReplicaState → Draw → ℕ → MailBody → NodeState → NodeState × List Mail
 taken_by None group from body node = unknown from body node
 taken_by (Some r) group from body node =
     let after = mailed from body (r, []) in
-    (record node { replicas = with_replica group after.0 node.replicas }, after.1)
+    (with_children (mailed_children from body (r, []) []) (record node { replicas = with_replica group after.0 node.replicas }), after.1)
 
 -- a mail by the group that it is for; one for no group changes nothing
 abbrev pub routed : Option Draw → ℕ → MailBody → NodeState → NodeState × List Mail
@@ -158,8 +173,8 @@ group_of_order (An.Migrate group node) = group
 abbrev pub ordered_of : Option ReplicaState → OrderLine → NodeState → NodeState × List Mail
 ordered_of None line node = (node, told_desk node.me line.number (Refused (NotLeader None)) [])
 ordered_of (Some r) line node =
-    let after = order_row line (r, []) in
-    (record node { replicas = with_replica (group_of_order line.order) after.0 node.replicas }, after.1)
+    let after = ordered_row node.draws line (r, []) in
+    (record node { draws = names_after node.draws line r; replicas = with_replica (group_of_order line.order) after.0 node.replicas }, after.1)
 
 -- the node takes an order
 abbrev pub on_order : OrderLine → NodeState → NodeState × List Mail

@@ -12,6 +12,8 @@ use Rattle.sc_cmd.specs.declared.orders.OrderRefusal.{OrderRefusal}
 use Rattle.sc_cmd.specs.declared.orders.OrderRefusal.TheVariants.{NotLeader}
 use Rattle.sc_cmd.specs.declared.orders.ToldResult.TheVariants.{Refused}
 use Rattle.sc_machine_table.specs.Orders.{refusal_of}
+use Rattle.sc_node_table.specs.declared.ReplicaInput.{ReplicaInput}
+use Rattle.sc_node_table.specs.declared.ReplicaInput.TheVariants as Given
 use Rattle.sc_node_table.specs.Replica.{ReplicaState, Place, settled}
 use Rattle.sc_node_table.specs.Mails.{told_desk}
 use Rattle.sc_node_table.specs.Pump.{pumped}
@@ -66,3 +68,9 @@ ordered_row drawer line (r, mails) =
 -- the names that are left: an order that is taken takes one, if its kind takes any
 abbrev pub names_after : Drawer → OrderLine → ReplicaState → Drawer
 names_after drawer line r = if takes_name line.order && is_none (untaken drawer line r) then drawn_on drawer else drawer
+
+-- the names that are left after a step
+abbrev pub names_left : Drawer → ReplicaInput → ReplicaState → Drawer
+names_left drawer (Given.Got mail) r = drawer
+names_left drawer Given.Tick r = drawer
+names_left drawer (Given.Told line) r = names_after drawer line r

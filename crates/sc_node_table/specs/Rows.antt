@@ -1,18 +1,14 @@
--- The rows of Request, Learn, Ask, Install, Told order and Tick, and a replica's table.
+-- The rows of Request, Learn, Ask, Install and Tick, and a replica's table.
 use Rattle.std.specs.Prelude.{ℕ, zero, suc, ◌+◌, ◌-◌, ◌==◌, ◌&&◌, ◌||◌, not, nat_lt, nat_le, false, Bool, List, [], ◌∷◌, ◌++◌, length, filter, if◌then◌else◌, Option, Some, None, is_some}
 use Rattle.sc_base.specs.declared.ops.Op.{Op}
 use Rattle.sc_ideal.specs.IdealStore.{key_of, holds_key}
 use Rattle.sc_cmd.specs.declared.links.Route.{Route}
 use Rattle.sc_base.specs.declared.names.Draw.{Draw}
+use Rattle.sc_base.specs.Drawing.{Drawer}
 use Rattle.sc_cmd.specs.declared.cores.Core.{Core}
 use Rattle.sc_cmd.specs.declared.commands.Command.{Command}
-use Rattle.sc_cmd.specs.declared.commands.Command.TheVariants.{Call, Join, Leave}
+use Rattle.sc_cmd.specs.declared.commands.Command.TheVariants.{Call}
 use Rattle.sc_cmd.specs.declared.cores.Base.{Base}
-use Rattle.sc_cmd.specs.declared.orders.Order.TheVariants as An
-use Rattle.sc_cmd.specs.declared.orders.OrderLine.{OrderLine}
-use Rattle.sc_cmd.specs.declared.orders.OrderRefusal.{OrderRefusal}
-use Rattle.sc_cmd.specs.declared.orders.OrderRefusal.TheVariants.{NotLeader}
-use Rattle.sc_cmd.specs.declared.orders.ToldResult.TheVariants.{Refused}
 use Rattle.sc_mail.specs.declared.bodies.AnswerBody.{AnswerBody}
 use Rattle.sc_mail.specs.declared.bodies.AnswerBody.TheVariants as Says
 use Rattle.sc_mail.specs.declared.bodies.MailBody.{MailBody}
@@ -20,17 +16,19 @@ use Rattle.sc_mail.specs.declared.bodies.MailBody.TheVariants.{Request, Answer, 
 use Rattle.sc_mail.specs.declared.bodies.Mail.{Mail}
 use Rattle.sc_member.specs.Roster.{is_member}
 use Rattle.sc_paxos_words.specs.Logs.{entry_at}
-use Rattle.sc_machine_table.specs.Orders.{refusal_of}
 use Rattle.sc_paxos_words.specs.Votes.{has_counted}
 use Rattle.sc_node_table.specs.declared.ReplicaInput.{ReplicaInput}
 use Rattle.sc_node_table.specs.declared.ReplicaInput.TheVariants as Given
 use Rattle.sc_node_table.specs.Replica.{ReplicaState, Place, name_of, next, members, settled, flying, is_idle, last_slot, installed_replica}
-use Rattle.sc_node_table.specs.Mails.{sent, sent_all, sent_others, answer_to, told_desk}
+use Rattle.sc_node_table.specs.Mails.{sent, sent_all, sent_others, answer_to}
 use Rattle.sc_node_table.specs.Queues.{call_of, without_call}
 use Rattle.sc_node_table.specs.Election.{elected, stopped}
 use Rattle.sc_node_table.specs.Execute.{executed, looked}
 use Rattle.sc_node_table.specs.Install.{install_to, named, jumped}
 use Rattle.sc_node_table.specs.Pump.{pumped, serves_calls}
+use Rattle.sc_node_table.specs.Transactions.{offer_row, watch_row, vote_row, watched_row, elsewhere_row, outcome_row}
+use Rattle.sc_node_table.specs.Reminders.{reminded}
+use Rattle.sc_node_table.specs.Ordering.{ordered_row}
 use Rattle.sc_node_table.specs.Voting.{prepare_row, promise_row, accept_row, accepted_row, nack_row}
 
 -- why a request is not taken, the first that holds
@@ -108,33 +106,6 @@ install_row from slot base sets (r, mails) =
 unfoldable pub made_by : ℕ → ℕ → Draw → ℕ → Base → List (List ℕ) → Place
 made_by me from group slot base sets = looked_up from (installed_replica me slot (named group base) sets, [])
 
--- the command of an order; those of splits and transactions are not built yet
-abbrev pub command_of : OrderLine → Option Command
-command_of line = elim (line.order) [
-  | An.Join node group ↦ Some (Join node line.number)
-  | An.Leave node group ↦ Some (Leave node line.number)
-  | An.Split group at ↦ None
-  | An.Merge group ↦ None
-  | An.Repart group at ↦ None
-  | An.Migrate group node ↦ None
-]
-
--- an order that is not refused waits last
-abbrev pub order_queued : Option OrderRefusal → ℕ → Command → Place → Place
-order_queued (Some why) number command (r, mails) = (r, told_desk r.me number (Refused why) mails)
-order_queued None number command (r, mails) = pumped (record r { calls = r.calls ++ command ∷ [] }, mails)
-
--- the leader takes the command of an order; another replica, or a gone group, refuses it
-abbrev pub order_taken : Option Command → ℕ → Place → Place
-order_taken None number place = place
-order_taken (Some command) number (r, mails) =
-    if is_some r.group.core.gone || not (settled r) then (r, told_desk r.me number (Refused (NotLeader r.hint)) mails)
-    else order_queued (refusal_of r.group.core command) number command (r, mails)
-
--- Told order: one that is settled takes what it does not refuse
-unfoldable pub order_row : OrderLine → Place → Place
-order_row line place = order_taken (command_of line) line.number place
-
 -- the members of a slot whose vote was not counted
 abbrev pub uncounted : ReplicaState → ℕ → List ℕ → List ℕ
 uncounted r slot set = filter (λ node. not (has_counted slot node r.leader)) set
@@ -153,13 +124,13 @@ unfoldable pub told_last : Option Command → ReplicaState → List Mail → Lis
 told_last None r mails = mails
 told_last (Some command) r mails = sent_others r.me (members r) (Learn (name_of r) (next r - 1) command) mails
 
--- Tick: a member that is not settled is elected
+-- Tick: a member that is not settled is elected; one that is settled asks again, reminds the other parties of a transaction, and pumps
 unfoldable pub tick_row : Place → Place
 tick_row (r, mails) =
     if is_some r.group.core.gone || not (is_member (members r) r.me) then (r, mails)
     else if not (settled r) then elected (r, mails)
-    else if is_idle r then pumped (r, told_last (entry_at (next r - 1) r.log) r mails)
-    else pumped (r, asked_again r (next r) r.sets mails)
+    else if is_idle r then pumped (reminded (r, told_last (entry_at (next r - 1) r.log) r mails))
+    else pumped (reminded (r, asked_again r (next r) r.sets mails))
 
 -- a mail from an actor; those of no row change nothing
 unfoldable pub mailed : ℕ → MailBody → Place → Place
@@ -173,16 +144,16 @@ mailed from (Learn group slot command) place = learn_row from slot command place
 mailed from (Ask group from_slot) place = ask_row from from_slot place
 mailed from (Install group slot base sets) place = install_row from slot base sets place
 mailed from (Answer group seq answer) place = place
-mailed from (TxPrepare tx offer) place = place
-mailed from (TxVote tx coord part vote) place = place
-mailed from (TxOutcome tx part outcome) place = place
-mailed from (TxElsewhere tx coord hint) place = place
-mailed from (TxWatch tx watch) place = place
-mailed from (TxWatched tx coord part vote) place = place
+mailed from (TxPrepare tx offer) place = offer_row from tx offer place
+mailed from (TxVote tx coord part vote) place = vote_row from tx part vote place
+mailed from (TxOutcome tx part outcome) place = outcome_row tx outcome place
+mailed from (TxElsewhere tx coord hint) place = elsewhere_row from tx hint place
+mailed from (TxWatch tx watch) place = watch_row from tx watch place
+mailed from (TxWatched tx coord part vote) place = watched_row from tx part vote place
 mailed from (Told order result) place = place
 
--- a replica's table
-unfoldable pub stepped : ReplicaInput → Place → Place
-stepped (Given.Got mail) place = mailed mail.from mail.body place
-stepped Given.Tick place = tick_row place
-stepped (Given.Told line) place = order_row line place
+-- a replica's table, with the names that its node draws
+unfoldable pub stepped : Drawer → ReplicaInput → Place → Place
+stepped drawer (Given.Got mail) place = mailed mail.from mail.body place
+stepped drawer Given.Tick place = tick_row place
+stepped drawer (Given.Told line) place = ordered_row drawer line place

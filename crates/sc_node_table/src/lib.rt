@@ -5,7 +5,8 @@
 ghost use Rattle.sc_node_table.specs.Pump.{StaysSettled};
 ghost use Rattle.sc_node_table.specs.Sameness.{TellsCommands};
 
-use sc_cmd::{Link, OrderLine};
+use sc_base::Sequence;
+use sc_cmd::{Base, Link, OrderLine};
 use sc_mail::Mail;
 
 /// How many slots of a log are open at a time: each is decided by the members of the state so many
@@ -25,6 +26,12 @@ pub enum ReplicaInput {
     Got(Mail),
     Tick,
     Told(OrderLine),
+}
+
+/// What a step of a replica leaves to its node: the children whose replicas the node must make.
+#[derive(Drop)]
+pub struct Made {
+    pub children: Sequence<Base>,
 }
 
 /// A group before an entry, as far as the mails by the entry's effect need it.

@@ -1,11 +1,12 @@
--- Accept again at one slot.
-use Rattle.std.specs.Prelude.{ℕ, List, Option, Some, None}
+-- What a settled replica says again at a tick.
+use Rattle.std.specs.Prelude.{ℕ, ◌-◌, List, if◌then◌else◌, Option, Some, None}
 use Rattle.sc_cmd.specs.declared.commands.Command.{Command}
 use Rattle.sc_mail.specs.declared.bodies.MailBody.TheVariants.{Accept}
 use Rattle.sc_mail.specs.declared.bodies.Mail.{Mail}
-use Rattle.sc_node_table.specs.Replica.{ReplicaState, name_of, flying}
+use Rattle.sc_paxos_words.specs.Logs.{entry_at}
+use Rattle.sc_node_table.specs.Replica.{ReplicaState, name_of, next, flying, is_idle}
 use Rattle.sc_node_table.specs.Mails.{sent_all}
-use Rattle.sc_node_table.specs.Rows.{uncounted}
+use Rattle.sc_node_table.specs.Rows.{uncounted, told_last, asked_again}
 
 -- the command in flight at a slot, if there is one, to each of these members that was not counted
 abbrev pub asked_for : Option Command → ReplicaState → ℕ → List ℕ → List Mail → List Mail
@@ -15,3 +16,7 @@ asked_for (Some command) r slot set mails = sent_all r.me (uncounted r slot set)
 -- .. the command in flight there
 abbrev pub asked_at : ReplicaState → ℕ → List ℕ → List Mail → List Mail
 asked_at r slot set mails = asked_for (flying r slot) r slot set mails
+
+-- one that is settled: accept again at each slot in flight, or with nothing under way the last entry
+abbrev pub repeated : ReplicaState → List Mail → List Mail
+repeated r mails = if is_idle r then told_last (entry_at (next r - 1) r.log) r mails else asked_again r (next r) r.sets mails

@@ -1,4 +1,4 @@
--- A replica that does not run, as it is made, and one with another hint.
+-- A replica that does not run, as it is made, and one with another value of a single field.
 use Rattle.std.specs.Prelude.{ℕ, false, List, [], Some}
 use Rattle.sc_cmd.specs.declared.commands.Command.{Command}
 use Rattle.sc_paxos_words.specs.Logs.{LogState}
@@ -28,3 +28,7 @@ bare_replica me group log sets = record {
 -- with this node taken for the leader
 abbrev pub with_hint : ℕ → ReplicaState → ReplicaState
 with_hint node r = record r { hint = Some node }
+
+-- with a transaction that has waited for so many ticks
+abbrev pub with_waits : ℕ → ReplicaState → ReplicaState
+with_waits waits r = record r { waits = waits }

@@ -1,3 +1,4 @@
 pub mod Given
 pub mod Again
 pub mod Bare
+pub mod Steps

@@ -18,7 +18,7 @@ use std::collections::BTreeMap;
 impl Replica {
     /// It runs with the next ballot of its own, and asks for promises.
     #[tactic(auto, unfolding(sc_node_table::specs::Election::elected))]
-    pub(crate) fn elect(&mut self, out: &mut Sequence<Mail>) -> Result<(), OutOfMemory>
+    pub fn elect(&mut self, out: &mut Sequence<Mail>) -> Result<(), OutOfMemory>
         ensures { OnOk result ((self.new, out.new) ≡ elected (self.old, out.old)) }
     {
         if self.top.round == u32::MAX {

@@ -1,20 +1,20 @@
-//! Execute: the command of the next slot, counted where it was ready, else learnt.
-ghost use Rattle.std.specs.Prelude.{◌≡◌, ◌+◌, ◌<◌, ◌||◌, not, filter, IfOk, OnOk, IfSome, Option, Some, None, true, false, is_some};
+//! The parts of Execute: the command of the next slot is entered, told and taught, and what was in
+//! flight or ready there is over.
+ghost use Rattle.std.specs.Prelude.{◌≡◌, ◌+◌, ◌<◌, ◌||◌, not, filter, IfOk, OnOk, IfSome, Option, Some, None, true, false, is_some, if◌then◌else◌};
 ghost use Rattle.sc_member.specs.Roster.{is_member};
 ghost use Rattle.sc_cmd.specs.declared.commands.Command.TheVariants.{Call};
 ghost use Rattle.sc_machine_table.specs.Machine.{applied};
 ghost use Rattle.sc_node_table.specs.Slots.{slots_ahead};
 ghost use Rattle.sc_node_table.specs.Replica.{next, members, last_slot};
-ghost use Rattle.sc_node_table.specs.Execute.{entered, answer_of, told_call, announced, learnt_to, welcomed, slot_lost, landed, left_gone, left, is_among, looked, executed_one, has_room, next_ready, executed_ready, executed};
+ghost use Rattle.sc_node_table.specs.Execute.{entered, answer_of, told_call, told_effect, learnt_to, welcomed, slot_lost, landed, left_gone, left, is_among, looked, has_room, next_ready};
 
-use crate::orders::order_result;
 use crate::replica::{LAST_SLOT, Replica};
 use sc_base::{Dup, OutOfMemory, Sequence, dup_found};
-use sc_cmd::{Command, Effect};
+use sc_cmd::{Command, Effect, ToldResult};
 use sc_mail::{AnswerBody, Mail};
 use sc_member::Members;
 use sc_replica_choices::{not_among, same_command, waits_in};
-use sc_replica_parts::{answer, drop_ready, ready_at};
+use sc_replica_parts::{answer, drop_ready, order_in, ready_at, tell_order};
 
 /// What the effect of a call tells its client; no answer where the call has to wait.
 fn answer_of(effect: Effect) -> Option<AnswerBody>
@@ -38,7 +38,7 @@ impl Replica {
     /// The command is applied and kept, one more slot is open, and what is not above the floor is
     /// forgotten.
     #[tactic(auto, unfolding(sc_node_table::specs::Execute::entered))]
-    fn enter(&mut self, command: &Command) -> Result<Effect, OutOfMemory>
+    pub fn enter(&mut self, command: &Command) -> Result<Effect, OutOfMemory>
         requires { next self.old < last_slot + slots_ahead }
         ensures effect { IfOk result (λ effect. effect ≡ (applied self.old.group command.now).1) }
         ensures entered { OnOk result (self.new ≡ entered command.now self.old) }
@@ -100,9 +100,8 @@ impl Replica {
         }
     }
 
-    /// A counted call is answered, and of an order the desk is told.
-    #[tactic(auto, unfolding(sc_node_table::specs::Execute::announced))]
-    fn tell(
+    /// A call is answered where it was counted.
+    pub fn tell_counted(
         &mut self,
         counted: bool,
         effect: Effect,
@@ -110,18 +109,36 @@ impl Replica {
         out: &mut Sequence<Mail>,
     ) -> Result<(), OutOfMemory>
         ensures { OnOk result
-            ((self.new, out.new) ≡ announced counted effect command.now (self.old, out.old)) }
+            ((self.new, out.new)
+            ≡ (if counted then told_call (answer_of effect) command.now (self.old, out.old) else
+            (self.old, out.old))) }
     {
-        let result = order_result(command, &effect);
-        if counted {
-            self.tell_call(effect, command, out)?;
+        if !counted {
+            return Ok(());
         }
-        self.tell_effect(result, command, out)
+        self.tell_call(effect, command, out)
+    }
+
+    /// The desk is told what an executed order came to.
+    #[tactic(auto, unfolding(sc_node_table::specs::Execute::told_effect))]
+    pub fn tell_effect(
+        &self,
+        told: Option<ToldResult>,
+        command: &Command,
+        out: &mut Sequence<Mail>,
+    ) -> Result<(), OutOfMemory>
+        ensures { OnOk result
+            ((self.now, out.new) ≡ told_effect told command.now (self.now, out.old)) }
+    {
+        match told {
+            Some(result) => tell_order(self.me, order_in(command), result, out),
+            None => Ok(()),
+        }
     }
 
     /// The members before a counted command learn it.
     #[tactic(auto, unfolding(sc_node_table::specs::Execute::learnt_to))]
-    fn teach_members(
+    pub fn teach_members(
         &self,
         counted: bool,
         before: &Members,
@@ -152,7 +169,7 @@ impl Replica {
     /// Each member that a counted command added is sent the state, and asked to promise this
     /// leader's ballot.
     #[tactic(auto, unfolding(sc_node_table::specs::Execute::welcomed))]
-    fn welcome(
+    pub fn welcome(
         &self,
         counted: bool,
         before: &Members,
@@ -188,7 +205,7 @@ impl Replica {
 
     /// What is in flight or ready at the slot is over.
     #[tactic(auto, unfolding(sc_node_table::specs::Execute::landed))]
-    fn land(
+    pub fn land(
         &mut self,
         counted: bool,
         slot: u32,
@@ -205,7 +222,7 @@ impl Replica {
 
     /// One that runs ends where the group is gone, and stops where its node is no member.
     #[tactic(auto, unfolding(sc_node_table::specs::Execute::left))]
-    fn leave(&mut self, out: &mut Sequence<Mail>) -> Result<(), OutOfMemory>
+    pub fn leave(&mut self, out: &mut Sequence<Mail>) -> Result<(), OutOfMemory>
         ensures { OnOk result ((self.new, out.new) ≡ left (self.old, out.old)) }
     {
         if !self.running {
@@ -239,7 +256,7 @@ impl Replica {
 
     /// One that does not run looks for a leader where its hint is no member.
     #[tactic(auto, unfolding(sc_node_table::specs::Execute::looked))]
-    pub(crate) fn look(&mut self, out: &mut Sequence<Mail>) -> Result<(), OutOfMemory>
+    pub fn look(&mut self, out: &mut Sequence<Mail>) -> Result<(), OutOfMemory>
         ensures { OnOk result ((self.new, out.new) ≡ looked (self.old, out.old)) }
     {
         if self.is_led() {
@@ -253,31 +270,8 @@ impl Replica {
         Ok(())
     }
 
-    /// The steps 1 to 6.
-    #[tactic(auto, unfolding(sc_node_table::specs::Execute::executed_one))]
-    fn execute_one(
-        &mut self,
-        counted: bool,
-        command: &Command,
-        out: &mut Sequence<Mail>,
-    ) -> Result<(), OutOfMemory>
-        requires { next self.old < last_slot + slots_ahead }
-        ensures { OnOk result
-            ((self.new, out.new) ≡ executed_one counted command.now (self.old, out.old)) }
-    {
-        let slot = self.next();
-        let before = self.machine.core().members;
-        let effect = self.enter(command)?;
-        self.tell(counted, effect, command, out)?;
-        self.teach_members(counted, &before, slot, command, out)?;
-        self.welcome(counted, &before, out)?;
-        self.land(counted, slot, command, out)?;
-        self.leave(out)?;
-        self.look(out)
-    }
-
     /// Whether a counted command may be executed at the next slot.
-    pub(crate) fn has_room(&self) -> bool
+    pub fn has_room(&self) -> bool
         ensures same { result ≡ has_room self.now }
         ensures room { result ≡ true → next self.now < last_slot + slots_ahead }
     {
@@ -285,7 +279,7 @@ impl Replica {
     }
 
     /// The ready command of the next slot, where it runs.
-    fn next_ready(&self) -> Result<Option<Command>, OutOfMemory>
+    pub fn next_ready(&self) -> Result<Option<Command>, OutOfMemory>
         ensures ready { IfOk result (λ command. command ≡ next_ready self.now) }
         ensures room { IfOk result
             (λ command. IfSome command (λ _. next self.now < last_slot + slots_ahead)) }
@@ -294,35 +288,5 @@ impl Replica {
             return dup_found(ready_at(&self.ready, self.next()), self.alloc);
         }
         Ok(None)
-    }
-
-    /// Step 7: what is ready at the next slot is executed, and so on.
-    fn execute_ready(&mut self, out: &mut Sequence<Mail>) -> Result<(), OutOfMemory>
-        ensures { OnOk result
-            ((self.new, out.new) ≡ executed_ready self.old.ready (self.old, out.old)) }
-    {
-        let Some(command) = self.next_ready()? else {
-            return Ok(());
-        };
-        self.execute_one(true, &command, out)?;
-        self.execute_ready(out)?;
-        self.pump(out)
-    }
-
-    /// The whole of Execute.
-    #[tactic(auto, unfolding(sc_node_table::specs::Execute::executed))]
-    pub(crate) fn execute(
-        &mut self,
-        counted: bool,
-        command: &Command,
-        out: &mut Sequence<Mail>,
-    ) -> Result<(), OutOfMemory>
-        requires { next self.old < last_slot + slots_ahead }
-        ensures { OnOk result
-            ((self.new, out.new) ≡ executed counted command.now (self.old, out.old)) }
-    {
-        self.execute_one(counted, command, out)?;
-        self.execute_ready(out)?;
-        self.pump(out)
     }
 }

@@ -7,12 +7,12 @@ mod execute;
 mod floors;
 mod install;
 mod mails;
-mod orders;
 mod pump;
 mod queues;
 mod replica;
 mod rows;
 mod voting;
+mod waiting;
 
 pub use replica::{LAST_SLOT, Replica};
 pub use sc_node_table::ReplicaInput;

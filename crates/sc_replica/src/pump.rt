@@ -64,7 +64,7 @@ impl Replica {
     }
 
     /// Whether it runs and its leader may offer at the next slot.
-    pub(crate) fn is_settled(&self) -> bool
+    pub fn is_settled(&self) -> bool
         ensures { result ≡ settled self.now }
     {
         if !self.running {
@@ -235,7 +235,7 @@ impl Replica {
 
     /// A settled replica offers what it has at its open slots.
     #[tactic(auto, unfolding(sc_node_table::specs::Pump::pumped))]
-    pub(crate) fn pump(&mut self, out: &mut Sequence<Mail>) -> Result<(), OutOfMemory>
+    pub fn pump(&mut self, out: &mut Sequence<Mail>) -> Result<(), OutOfMemory>
         ensures { OnOk result ((self.new, out.new) ≡ pumped (self.old, out.old)) }
     {
         if !self.is_settled() {

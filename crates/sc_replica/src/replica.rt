@@ -3,7 +3,7 @@ ghost use Rattle.std.specs.Prelude.{◌≡◌, ◌+◌, ◌≤◌, IfOk, OnOk, l
 ghost use Rattle.sc_member.specs.Roster.{is_member};
 ghost use Rattle.sc_node_table.specs.Slots.{slots_ahead};
 ghost use Rattle.sc_node_table.specs.Replica.{born_replica, installed_replica, members, name_of, next, last_slot};
-ghost use Rattle.sc_replica.specs.Bare.{bare_replica, with_hint};
+ghost use Rattle.sc_replica.specs.Bare.{bare_replica, with_hint, with_waits};
 
 use sc_acceptor::Acceptor;
 use sc_base::{Ballot, Draw, OutOfMemory, Sequence};
@@ -130,6 +130,46 @@ impl Replica {
         Ok(replica)
     }
 
+    /// The node's number.
+    pub fn me(&self) -> u16
+        ensures { result ≡ self.now.me }
+    {
+        self.me
+    }
+
+    /// What gives it memory.
+    pub fn alloc(&self) -> Global {
+        self.alloc
+    }
+
+    /// The node that it takes for the leader.
+    pub fn hint(&self) -> Option<u16>
+        ensures { result ≡ self.now.hint }
+    {
+        self.hint
+    }
+
+    /// Whether it runs.
+    pub fn is_running(&self) -> bool
+        ensures { result ≡ self.now.running }
+    {
+        self.running
+    }
+
+    /// How many ticks a transaction has waited.
+    pub fn waits(&self) -> u32
+        ensures { result ≡ self.now.waits }
+    {
+        self.waits
+    }
+
+    /// A transaction has waited for so many ticks.
+    pub fn set_waits(&mut self, waits: u32)
+        ensures { self.new ≡ with_waits waits self.old }
+    {
+        self.waits = waits;
+    }
+
     /// The executed state.
     pub fn machine(&self) -> &Machine
         ensures { result.now ≡ self.now.group }
@@ -159,7 +199,7 @@ impl Replica {
     }
 
     /// The slot after the last executed one.
-    pub(crate) fn next(&self) -> u32
+    pub fn next(&self) -> u32
         ensures same { result ≡ next self.now }
         ensures most { next self.now ≤ last_slot + slots_ahead }
     {

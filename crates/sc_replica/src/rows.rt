@@ -1,4 +1,4 @@
-//! The rows of Request, Learn and Tick, and a replica's table.
+//! The row of Request, what is asked again at a tick, and the mails of a round of votes.
 ghost use Rattle.std.specs.Prelude.{◌≡◌, ◌+◌, ◌-◌, ◌<◌, ◌≤◌, ◌||◌, not, nat_le, nat_lt, true, false, IfOk, OnOk, IfSome, Some, None, is_some};
 ghost use Rattle.std.specs.Option.{option_copied};
 ghost use Rattle.sc_member.specs.Roster.{is_member};
@@ -7,18 +7,15 @@ ghost use Rattle.sc_cmd.specs.declared.commands.Command.TheVariants.{Call};
 ghost use Rattle.sc_node_table.specs.Queues.{call_of};
 ghost use Rattle.sc_mail.specs.declared.bodies.MailBody.TheVariants.{Ask, Learn};
 ghost use Rattle.sc_node_table.specs.Mails.{sent};
-ghost use Rattle.sc_replica.specs.Again.{asked_at};
-ghost use Rattle.sc_node_table.specs.Replica.{name_of, next, members, settled, flying, is_idle, last_slot};
-ghost use Rattle.sc_node_table.specs.Node.{is_node, may_come};
-ghost use Rattle.sc_node_table.specs.Rows.{queued, requested, request_row, learn_row, taught, ask_row, asked_again, told_last, tick_row, mailed, stepped};
-ghost use Rattle.sc_replica.specs.Given.{is_vote, may_take};
+ghost use Rattle.sc_replica.specs.Again.{asked_at, repeated};
+ghost use Rattle.sc_node_table.specs.Replica.{name_of, next, members, flying, is_idle};
+ghost use Rattle.sc_node_table.specs.Rows.{queued, requested, request_row, asked_again, told_last, mailed};
+ghost use Rattle.sc_replica.specs.Given.{is_of_round};
 
-use crate::replica::{LAST_SLOT, Replica};
-use sc_base::{MOST_NODES, Op, OutOfMemory, Sequence};
-use sc_cmd::Command;
+use crate::replica::Replica;
+use sc_base::{Op, OutOfMemory, Sequence};
 use sc_mail::{Mail, MailBody};
 use sc_member::Members;
-use sc_node_table::ReplicaInput;
 use sc_replica_choices::{refusal, uncounted};
 use sc_replica_parts::{add_call, answer, call_of, drop_call, send};
 
@@ -49,7 +46,7 @@ impl Replica {
 
     /// Request.
     #[tactic(auto, unfolding(sc_node_table::specs::Rows::request_row, sc_node_table::specs::Rows::requested))]
-    fn on_request(
+    pub fn on_request(
         &mut self,
         client: u16,
         seq: u32,
@@ -65,33 +62,13 @@ impl Replica {
         }
     }
 
-    /// Learn: the next slot's command is executed; for a later one the slots from the next on are
-    /// asked for.
-    #[tactic(auto, unfolding(sc_node_table::specs::Rows::learn_row))]
-    fn on_learn(
-        &mut self,
+    /// The slots from one on are asked for.
+    pub fn ask(
+        &self,
         from: u16,
-        slot: u32,
-        command: &Command,
+        from_slot: u32,
         out: &mut Sequence<Mail>,
     ) -> Result<(), OutOfMemory>
-        ensures { OnOk result
-            ((self.new, out.new) ≡ learn_row from slot command.now (self.old, out.old)) }
-    {
-        let next = self.next();
-        if LAST_SLOT < slot {
-            return Ok(());
-        }
-        if slot == next {
-            return self.execute(false, command, out);
-        }
-        if next < slot {
-            return self.ask(from, next, out);
-        }
-        Ok(())
-    }
-
-    fn ask(&self, from: u16, from_slot: u32, out: &mut Sequence<Mail>) -> Result<(), OutOfMemory>
         ensures { OnOk result
             (out.new ≡ sent self.now.me from (Ask (name_of self.now) from_slot) out.old) }
     {
@@ -149,7 +126,7 @@ impl Replica {
     }
 
     /// Whether its group is not gone and its node is a member.
-    fn takes_part(&self) -> bool
+    pub fn takes_part(&self) -> bool
         ensures { result
             ≡ not
             (is_some self.now.group.core.gone || not (is_member (members self.now) self.now.me)) }
@@ -161,35 +138,26 @@ impl Replica {
         core.members.has(self.me)
     }
 
-    /// A tick of its node's clock, by the row of Tick. The mails come behind those that are there.
-    /// After want of memory the replica may only be dropped.
-    #[tactic(auto, unfolding(sc_node_table::specs::Rows::tick_row))]
-    pub fn on_tick(&mut self, out: &mut Sequence<Mail>) -> Result<(), OutOfMemory>
-        ensures { OnOk result ((self.new, out.new) ≡ tick_row (self.old, out.old)) }
+    /// One that is settled asks again at a tick: for the votes that it lacks, or with nothing under
+    /// way it tells the last entry.
+    pub fn repeat(&self, out: &mut Sequence<Mail>) -> Result<(), OutOfMemory>
+        ensures { OnOk result (out.new ≡ repeated self.now out.old) }
     {
-        if !self.takes_part() {
-            return Ok(());
-        }
-        if !self.is_settled() {
-            return self.elect(out);
-        }
         if self.is_idle() {
-            self.tell_last(out)?;
-            return self.pump(out);
+            return self.tell_last(out);
         }
-        self.ask_again(out)?;
-        self.pump(out)
+        self.ask_again(out)
     }
 
-    /// A mail of a round of votes.
+    /// A mail of a round of votes, but for the votes themselves.
     #[tactic(auto, unfolding(sc_node_table::specs::Rows::mailed, sc_node_table::specs::Voting::nack_row))]
-    fn on_vote(
+    pub fn on_round(
         &mut self,
         from: u16,
         body: &MailBody,
         out: &mut Sequence<Mail>,
     ) -> Result<(), OutOfMemory>
-        requires { is_vote body.now ≡ true }
+        requires { is_of_round body.now ≡ true }
         ensures { OnOk result ((self.new, out.new) ≡ mailed from body.now (self.old, out.old)) }
     {
         match body {
@@ -209,35 +177,7 @@ impl Replica {
                 command,
                 ..
             } => self.on_accept(from, *ballot, *slot, command, out),
-            MailBody::Accepted { ballot, slot, .. } => self.on_accepted(from, *ballot, *slot, out),
             MailBody::Nack { promised, .. } => self.see(*promised, out),
-            _ => unreachable!(),
-        }
-    }
-
-    /// A mail from a node.
-    #[tactic(auto, unfolding(sc_node_table::specs::Rows::mailed))]
-    fn on_mail(
-        &mut self,
-        from: u16,
-        body: &MailBody,
-        out: &mut Sequence<Mail>,
-    ) -> Result<(), OutOfMemory>
-        ensures { OnOk result ((self.new, out.new) ≡ mailed from body.now (self.old, out.old)) }
-    {
-        match body {
-            MailBody::Request {
-                client,
-                seq,
-                op,
-                ..
-            } => self.on_request(*client, *seq, op, out),
-            MailBody::Prepare { .. }
-            | MailBody::Promise { .. }
-            | MailBody::Accept { .. }
-            | MailBody::Accepted { .. }
-            | MailBody::Nack { .. } => self.on_vote(from, body, out),
-            MailBody::Learn { slot, command, .. } => self.on_learn(from, *slot, command, out),
             MailBody::Ask { from_slot, .. } => self.on_ask(from, *from_slot, out),
             MailBody::Install {
                 slot,
@@ -245,60 +185,7 @@ impl Replica {
                 sets,
                 ..
             } => self.on_install(from, *slot, base.get(), sets, out),
-            MailBody::Answer { .. }
-            | MailBody::TxPrepare { .. }
-            | MailBody::TxVote { .. }
-            | MailBody::TxOutcome { .. }
-            | MailBody::TxElsewhere { .. }
-            | MailBody::TxWatch { .. }
-            | MailBody::TxWatched { .. }
-            | MailBody::Told { .. } => Ok(()),
-        }
-    }
-
-    /// A mail for its group, by its row. Only a request may come from others than the nodes. The
-    /// mails come behind those that are there. After want of memory the replica may only be
-    /// dropped.
-    #[tactic(auto, unfolding(sc_node_table::specs::Rows::mailed))]
-    pub fn take_mail(
-        &mut self,
-        from: u32,
-        body: &MailBody,
-        out: &mut Sequence<Mail>,
-    ) -> Result<(), OutOfMemory>
-        requires { may_come from body.now ≡ true }
-        ensures { OnOk result ((self.new, out.new) ≡ mailed from body.now (self.old, out.old)) }
-    {
-        if from <= MOST_NODES {
-            return self.on_mail(from as u16, body, out);
-        }
-        match body {
-            MailBody::Request {
-                client,
-                seq,
-                op,
-                ..
-            } => self.on_request(*client, *seq, op, out),
             _ => unreachable!(),
-        }
-    }
-
-    /// One step by the replica's table: the new value, and the mails behind those that are there.
-    /// Only a request may come from others than the nodes. After want of memory the replica may
-    /// only be dropped.
-    #[tactic(auto, unfolding(sc_node_table::specs::Rows::stepped))]
-    pub fn step(
-        &mut self,
-        input: &ReplicaInput,
-        out: &mut Sequence<Mail>,
-    ) -> Result<(), OutOfMemory>
-        requires { may_take input.now ≡ true }
-        ensures { OnOk result ((self.new, out.new) ≡ stepped input.now (self.old, out.old)) }
-    {
-        match input {
-            ReplicaInput::Got(mail) => self.take_mail(mail.from, &mail.body, out),
-            ReplicaInput::Tick => self.on_tick(out),
-            ReplicaInput::Told(line) => self.on_order(line, out),
         }
     }
 }

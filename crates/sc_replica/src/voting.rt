@@ -1,7 +1,6 @@
-//! Promises and votes: the rows of Prepare, Promise, Accept, Accepted and Nack.
+//! Promises and votes: the rows of Prepare, Promise and Accept, and the count of a vote.
 ghost use Rattle.std.specs.Prelude.{◌≡◌, ◌+◌, ◌<◌, ◌≤◌, ◌&&◌, nat_le, true, false, IfOk, OnOk, Some};
 ghost use Rattle.std.specs.Option.{option_copied};
-ghost use Rattle.sc_paxos_words.specs.declared.answers.Counted.TheVariants.{Chosen};
 ghost use Rattle.sc_paxos_words.specs.Preparing.{prepared};
 ghost use Rattle.sc_paxos_words.specs.Accepting.{accepted as accepted_by};
 ghost use Rattle.sc_paxos_words.specs.Votes.{counted};
@@ -9,7 +8,8 @@ ghost use Rattle.sc_mail.specs.declared.bodies.MailBody.TheVariants.{Nack};
 ghost use Rattle.sc_node_table.specs.Mails.{sent};
 ghost use Rattle.sc_node_table.specs.Slots.{slots_ahead};
 ghost use Rattle.sc_node_table.specs.Replica.{name_of, next, set_at, last_slot};
-ghost use Rattle.sc_node_table.specs.Voting.{hinted, promise_to, promised, prepare_row, accepted_to, took, accept_row, leads, promise_row, readied, vote_tallied, voted, accepted_row};
+ghost use Rattle.sc_replica.specs.Steps.{with_leader, with_ready};
+ghost use Rattle.sc_node_table.specs.Voting.{hinted, promise_to, promised, prepare_row, accepted_to, took, accept_row, leads, promise_row};
 
 use crate::replica::Replica;
 use sc_acceptor::{AcceptAnswer, PrepareAnswer};
@@ -146,7 +146,7 @@ impl Replica {
     }
 
     /// Whether it runs with a ballot.
-    fn leads(&self, ballot: Ballot) -> bool
+    pub fn leads(&self, ballot: Ballot) -> bool
         ensures { result ≡ leads ballot self.now }
     {
         self.running && same_ballot(ballot, self.leader.ballot())
@@ -172,43 +172,30 @@ impl Replica {
         self.pump(out)
     }
 
-    /// A command that became ready is executed where its slot is the next one.
-    #[tactic(auto, unfolding(sc_node_table::specs::Voting::readied))]
-    fn make_ready(
-        &mut self,
-        slot: u32,
-        command: &Command,
-        out: &mut Sequence<Mail>,
-    ) -> Result<(), OutOfMemory>
-        ensures { OnOk result ((self.new, out.new) ≡ readied slot command.now (self.old, out.old)) }
-    {
-        put_ready(&mut self.ready, slot, command.dup(self.alloc)?)?;
-        if slot == self.next() && self.has_room() {
-            return self.execute(true, command, out);
-        }
-        Ok(())
-    }
-
     /// The count of a vote at an open slot.
-    fn count(
+    pub fn count_vote(
         &mut self,
         from: u16,
         ballot: Ballot,
         slot: u32,
         set: &Members,
-        out: &mut Sequence<Mail>,
-    ) -> Result<(), OutOfMemory>
-        ensures { OnOk result
-            ((self.new, out.new) ≡ voted from ballot slot (Some set.now) (self.old, out.old)) }
+    ) -> Counted<Command>
+        ensures count { result ≡ (counted from ballot slot set.now self.old.leader).0 }
+        ensures leader { self.new
+            ≡ with_leader (counted from ballot slot set.now self.old.leader).1 self.old }
     {
-        match self.leader.on_accepted(from, ballot, slot, set) {
-            Counted::Chosen(command) => self.make_ready(slot, &command, out),
-            Counted::NotYet { .. } => Ok(()),
-        }
+        self.leader.on_accepted(from, ballot, slot, set)
+    }
+
+    /// A command of which a majority was counted is ready.
+    pub fn make_ready(&mut self, slot: u32, command: &Command) -> Result<(), OutOfMemory>
+        ensures { OnOk result (self.new ≡ with_ready slot command.now self.old) }
+    {
+        put_ready(&mut self.ready, slot, command.dup(self.alloc)?)
     }
 
     /// The members of a slot, if it is open.
-    fn set_at(&self, slot: u32) -> Option<&Members>
+    pub fn set_at(&self, slot: u32) -> Option<&Members>
         ensures { option_copied result ≡ set_at slot self.now }
     {
         let next = self.next();
@@ -216,27 +203,5 @@ impl Replica {
             return None;
         }
         self.sets.get((slot - next) as usize)
-    }
-
-    /// Accepted: a vote at an open slot is counted among that slot's members.
-    #[tactic(auto, unfolding(sc_node_table::specs::Voting::accepted_row))]
-    pub(crate) fn on_accepted(
-        &mut self,
-        from: u16,
-        ballot: Ballot,
-        slot: u32,
-        out: &mut Sequence<Mail>,
-    ) -> Result<(), OutOfMemory>
-        ensures { OnOk result
-            ((self.new, out.new) ≡ accepted_row from ballot slot (self.old, out.old)) }
-    {
-        if !self.leads(ballot) {
-            return Ok(());
-        }
-        let Some(set) = self.set_at(slot) else {
-            return Ok(());
-        };
-        let set = *set;
-        self.count(from, ballot, slot, &set, out)
     }
 }

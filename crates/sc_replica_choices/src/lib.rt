@@ -2,11 +2,13 @@
 //! the open slots, and which nodes are asked or told. Nothing here drops a mail or a command.
 #![tactic(auto)]
 
+mod acts;
 mod choices;
 mod commands;
 mod nodes;
 mod open_sets;
 
+pub use acts::{has_kind, is_of_kind};
 pub use choices::{floor_of, refusal, turned_down, waits, waits_in};
 pub use commands::{is_act, same_command};
 pub use nodes::{nodes_to, not_among, uncounted};

@@ -3,7 +3,6 @@
 //! replica.
 #![tactic(auto)]
 
-mod acts;
 mod endings;
 mod noted;
 mod progress;
@@ -12,7 +11,6 @@ mod reminders;
 mod tellings;
 mod votes;
 
-pub use acts::{has_kind, is_of_kind};
 pub use noted::{awaits_vote, awaits_watch, is_bound, noted_outcome, standing_vote};
 pub use progress::{before_of, speak};
 pub use questions::ask_next;

@@ -15,6 +15,8 @@ mod plan_tests;
 #[cfg(test)]
 mod replica_tests;
 #[cfg(test)]
+mod run_tests;
+#[cfg(test)]
 mod samples;
 #[cfg(test)]
 mod starts;

@@ -1,14 +1,14 @@
 //! A node of one group steps as its replica.
 ghost use Rattle.std.specs.Prelude.{◌≡◌, true, IfSome};
 ghost use Rattle.sc_node_table.specs.Node.{may_come};
-ghost use Rattle.sc_replica.specs.Given.{may_take};
+ghost use Rattle.sc_node.specs.Given.{may_take};
 
 use crate::samples::{accept, accepted, copy, get, group, request};
 use sc_actor::Input;
-use sc_base::{Op, Same, Sequence};
+use sc_base::{Draws, Op, Same, Sequence};
 use sc_cmd::OrderLine;
 use sc_mail::{Mail, MailBody};
-use sc_node::{NodeCore, are_in_order};
+use sc_node::{NodeCore, are_in_order, step_replica};
 use sc_replica::{Replica, ReplicaInput};
 use std::alloc::Global;
 use std::mem::forget;
@@ -89,8 +89,10 @@ fn replica_sends(
 ) -> Sequence<Mail> {
     let mut sent = Sequence::new(alloc);
     let input = replica_input_of(rt, alloc, step, op);
-    replica.step(&input, &mut sent).expect(rt, "memory");
+    let mut draws = Draws::start(1);
+    let made = step_replica(replica, &input, &mut draws, &mut sent).expect(rt, "memory");
     forget(input);
+    forget(made);
     sent
 }
 

@@ -8,6 +8,7 @@ use sc_base::{Ballot, Op, Sequence};
 use sc_cmd::MemberSets;
 use sc_mail::{Mail, MailBody};
 use sc_member::Members;
+use sc_node::take_mail;
 use sc_replica::Replica;
 use std::alloc::Global;
 use std::mem::forget;
@@ -87,10 +88,19 @@ fn told_in(sent: &[Mail]) -> Sent {
     (first_in(sent), sent.len(), entries_in(sent))
 }
 
-fn take(rt: &impl Abort, replica: &mut Replica, from: u32, body: MailBody, out: &mut Sequence<Mail>)
+fn take(
+    rt: &impl Abort,
+    alloc: Global,
+    replica: &mut Replica,
+    from: u32,
+    body: MailBody,
+    out: &mut Sequence<Mail>,
+)
     requires { may_come from body ≡ true }
 {
-    replica.take_mail(from, &body, out).expect(rt, "memory");
+    let mut made = Sequence::new(alloc);
+    take_mail(replica, from, &body, out, &mut made).expect(rt, "memory");
+    forget(made);
     forget(body);
 }
 
@@ -103,9 +113,23 @@ fn execute_one(
     op: &Op,
     out: &mut Sequence<Mail>,
 ) {
-    take(rt, replica, 33, request(slot, copy(rt, alloc, op)), out);
-    take(rt, replica, 1, accept(slot, copy(rt, alloc, op)), out);
-    take(rt, replica, 1, accepted(slot), out);
+    take(
+        rt,
+        alloc,
+        replica,
+        33,
+        request(slot, copy(rt, alloc, op)),
+        out,
+    );
+    take(
+        rt,
+        alloc,
+        replica,
+        1,
+        accept(slot, copy(rt, alloc, op)),
+        out,
+    );
+    take(rt, alloc, replica, 1, accepted(slot), out);
 }
 
 fn execute_all(rt: &impl Abort, alloc: Global, replica: &mut Replica, out: &mut Sequence<Mail>) {
@@ -119,7 +143,7 @@ fn execute_all(rt: &impl Abort, alloc: Global, replica: &mut Replica, out: &mut 
 // What node 2 is told.
 fn told(rt: &impl Abort, alloc: Global, replica: &mut Replica, wanted: Wanted) -> Sent {
     let mut out = Sequence::new(alloc);
-    take(rt, replica, 2, asking(wanted), &mut out);
+    take(rt, alloc, replica, 2, asking(wanted), &mut out);
     let told = told_in(out.as_slice());
     forget(out);
     told

@@ -1,0 +1,9 @@
+-- Calls among commands.
+use Rattle.std.specs.Prelude.{Bool, true, false}
+use Rattle.sc_cmd.specs.declared.commands.Command.{Command}
+use Rattle.sc_cmd.specs.declared.commands.Command.TheVariants.{Call}
+
+-- whether a command is a call
+abbrev pub is_call : Command → Bool
+is_call (Call client seq op) = true
+is_call _ = false

@@ -1,0 +1,32 @@
+//! The children that a step makes.
+ghost use Rattle.std.specs.Prelude.{◌≡◌, OnOk};
+ghost use Rattle.sc_node_table.specs.Births.{with_child, next_child};
+
+use sc_base::{OutOfMemory, Sequence};
+use sc_cmd::{Base, Command};
+use sc_replica::Replica;
+
+/// A child is put behind those that are there, where the node is one of its members.
+fn keep_child(me: u16, child: Option<Base>, made: &mut Sequence<Base>) -> Result<(), OutOfMemory>
+    ensures { OnOk result (made.new ≡ with_child me child made.old) }
+{
+    let Some(child) = child else {
+        return Ok(());
+    };
+    if !child.core.members.has(me) {
+        return Ok(());
+    }
+    made.push(child)
+}
+
+/// The child of the command that is executed next; to be taken before it is.
+pub(crate) fn bear(
+    replica: &Replica,
+    command: &Command,
+    made: &mut Sequence<Base>,
+) -> Result<(), OutOfMemory>
+    ensures { OnOk result (made.new ≡ next_child command.now replica.now made.old) }
+{
+    let child = replica.machine().child_by(command)?;
+    keep_child(replica.me(), child, made)
+}

@@ -1,0 +1,113 @@
+//! The rows that execute: Accepted, where the command of the next slot became ready, and Learn.
+ghost use Rattle.std.specs.Prelude.{◌≡◌, ◌+◌, ◌<◌, ◌≤◌, OnOk, Some};
+ghost use Rattle.sc_node_table.specs.Slots.{slots_ahead};
+ghost use Rattle.sc_node_table.specs.Replica.{next, set_at, last_slot};
+ghost use Rattle.sc_node_table.specs.Births.{readied_children, voted_children, accepted_children, learnt_children};
+ghost use Rattle.sc_node_table.specs.Voting.{leads, readied, voted, accepted_row};
+ghost use Rattle.sc_node_table.specs.Rows.{learn_row};
+
+use crate::execute::execute;
+use sc_base::{Ballot, OutOfMemory, Sequence};
+use sc_cmd::{Base, Command};
+use sc_leader::Counted;
+use sc_mail::Mail;
+use sc_member::Members;
+use sc_replica::{LAST_SLOT, Replica};
+
+/// A command that became ready is executed where its slot is the next one.
+#[tactic(auto, unfolding(sc_node_table::specs::Voting::readied, sc_node_table::specs::Births::readied_children))]
+fn make_ready(
+    replica: &mut Replica,
+    slot: u32,
+    command: &Command,
+    out: &mut Sequence<Mail>,
+    made: &mut Sequence<Base>,
+) -> Result<(), OutOfMemory>
+    ensures place { OnOk result
+        ((replica.new, out.new) ≡ readied slot command.now (replica.old, out.old)) }
+    ensures made { OnOk result
+        (made.new ≡ readied_children slot command.now (replica.old, out.old) made.old) }
+{
+    replica.make_ready(slot, command)?;
+    if slot == replica.next() && replica.has_room() {
+        return execute(replica, true, command, out, made);
+    }
+    Ok(())
+}
+
+/// The count of a vote at an open slot.
+#[tactic(auto, using(crate::proofs::Counting::chosen_row, crate::proofs::Counting::waiting_row, crate::proofs::Counting::chosen_children, crate::proofs::Counting::waiting_children))]
+fn count(
+    replica: &mut Replica,
+    from: u16,
+    ballot: Ballot,
+    slot: u32,
+    set: &Members,
+    out: &mut Sequence<Mail>,
+    made: &mut Sequence<Base>,
+) -> Result<(), OutOfMemory>
+    ensures place { OnOk result
+        ((replica.new, out.new) ≡ voted from ballot slot (Some set.now) (replica.old, out.old)) }
+    ensures made { OnOk result
+        (made.new
+        ≡ voted_children from ballot slot (Some set.now) (replica.old, out.old) made.old) }
+{
+    match replica.count_vote(from, ballot, slot, set) {
+        Counted::Chosen(command) => make_ready(replica, slot, &command, out, made),
+        Counted::NotYet { .. } => Ok(()),
+    }
+}
+
+/// Accepted: a vote at an open slot is counted among that slot's members.
+#[tactic(auto, unfolding(sc_node_table::specs::Voting::accepted_row, sc_node_table::specs::Births::accepted_children))]
+pub(crate) fn on_accepted(
+    replica: &mut Replica,
+    from: u16,
+    ballot: Ballot,
+    slot: u32,
+    out: &mut Sequence<Mail>,
+    made: &mut Sequence<Base>,
+) -> Result<(), OutOfMemory>
+    ensures place { OnOk result
+        ((replica.new, out.new) ≡ accepted_row from ballot slot (replica.old, out.old)) }
+    ensures made { OnOk result
+        (made.new ≡ accepted_children from ballot slot (replica.old, out.old) made.old) }
+{
+    if !replica.leads(ballot) {
+        return Ok(());
+    }
+    let Some(set) = replica.set_at(slot) else {
+        return Ok(());
+    };
+    let set = *set;
+    count(replica, from, ballot, slot, &set, out, made)
+}
+
+/// Learn: the next slot's command is executed; for a later one the slots from the next on are asked
+/// for.
+#[tactic(auto, unfolding(sc_node_table::specs::Rows::learn_row, sc_node_table::specs::Births::learnt_children))]
+pub(crate) fn on_learn(
+    replica: &mut Replica,
+    from: u16,
+    slot: u32,
+    command: &Command,
+    out: &mut Sequence<Mail>,
+    made: &mut Sequence<Base>,
+) -> Result<(), OutOfMemory>
+    ensures place { OnOk result
+        ((replica.new, out.new) ≡ learn_row from slot command.now (replica.old, out.old)) }
+    ensures made { OnOk result
+        (made.new ≡ learnt_children slot command.now (replica.old, out.old) made.old) }
+{
+    let next = replica.next();
+    if LAST_SLOT < slot {
+        return Ok(());
+    }
+    if slot == next {
+        return execute(replica, false, command, out, made);
+    }
+    if next < slot {
+        return replica.ask(from, next, out);
+    }
+    Ok(())
+}

@@ -1,0 +1,79 @@
+//! Execute: the command of the next slot, counted where it was ready, else learnt.
+ghost use Rattle.std.specs.Prelude.{◌≡◌, ◌+◌, ◌<◌, OnOk};
+ghost use Rattle.sc_node_table.specs.Slots.{slots_ahead};
+ghost use Rattle.sc_node_table.specs.Replica.{next, last_slot};
+ghost use Rattle.sc_node_table.specs.Births.{ready_children, executed_children};
+ghost use Rattle.sc_node_table.specs.Execute.{executed_one, executed_ready, executed};
+
+use crate::births::bear;
+use crate::speech::tell;
+use sc_base::{OutOfMemory, Sequence};
+use sc_cmd::{Base, Command};
+use sc_mail::Mail;
+use sc_replica::Replica;
+use sc_replica_transactions::before_of;
+
+/// The steps 1 to 6 but for 3, which makes children.
+#[tactic(auto, unfolding(sc_node_table::specs::Execute::executed_one))]
+fn execute_one(
+    replica: &mut Replica,
+    counted: bool,
+    command: &Command,
+    out: &mut Sequence<Mail>,
+) -> Result<(), OutOfMemory>
+    requires { next replica.old < last_slot + slots_ahead }
+    ensures { OnOk result
+        ((replica.new, out.new) ≡ executed_one counted command.now (replica.old, out.old)) }
+{
+    let slot = replica.next();
+    let members = replica.machine().core().members;
+    let before = before_of(replica.machine().core());
+    let effect = replica.enter(command)?;
+    tell(replica, counted, &before, effect, command, out)?;
+    replica.teach_members(counted, &members, slot, command, out)?;
+    replica.welcome(counted, &members, out)?;
+    replica.land(counted, slot, command, out)?;
+    replica.leave(out)?;
+    replica.look(out)
+}
+
+/// Step 7: what is ready at the next slot is executed, and so on.
+fn execute_ready(
+    replica: &mut Replica,
+    out: &mut Sequence<Mail>,
+    made: &mut Sequence<Base>,
+) -> Result<(), OutOfMemory>
+    ensures place { OnOk result
+        ((replica.new, out.new) ≡ executed_ready replica.old.ready (replica.old, out.old)) }
+    ensures made { OnOk result
+        (made.new ≡ ready_children replica.old.ready (replica.old, out.old) made.old) }
+{
+    let Some(command) = replica.next_ready()? else {
+        return Ok(());
+    };
+    bear(replica, &command, made)?;
+    execute_one(replica, true, &command, out)?;
+    execute_ready(replica, out, made)?;
+    replica.pump(out)
+}
+
+/// The whole of Execute.
+#[tactic(auto, unfolding(sc_node_table::specs::Execute::executed, sc_node_table::specs::Births::executed_children))]
+pub(crate) fn execute(
+    replica: &mut Replica,
+    counted: bool,
+    command: &Command,
+    out: &mut Sequence<Mail>,
+    made: &mut Sequence<Base>,
+) -> Result<(), OutOfMemory>
+    requires { next replica.old < last_slot + slots_ahead }
+    ensures place { OnOk result
+        ((replica.new, out.new) ≡ executed counted command.now (replica.old, out.old)) }
+    ensures made { OnOk result
+        (made.new ≡ executed_children counted command.now (replica.old, out.old) made.old) }
+{
+    bear(replica, command, made)?;
+    execute_one(replica, counted, command, out)?;
+    execute_ready(replica, out, made)?;
+    replica.pump(out)
+}

@@ -1,0 +1,150 @@
+//! The rows of a replica's table, by the input.
+ghost use Rattle.std.specs.Prelude.{◌≡◌, true, IfOk, OnOk};
+ghost use Rattle.sc_node_table.specs.Node.{may_come};
+ghost use Rattle.sc_node_table.specs.Rows.{mailed, stepped};
+ghost use Rattle.sc_node_table.specs.Births.{mailed_children, made_in};
+ghost use Rattle.sc_node_table.specs.Ordering.{names_left};
+ghost use Rattle.sc_node.specs.Given.{is_of_transaction, may_take};
+
+use crate::counts::{on_accepted, on_learn};
+use crate::orders::on_order;
+use crate::ticks::on_tick;
+use crate::transactions::{
+    on_elsewhere, on_offer, on_outcome, on_party_vote, on_watch, on_watched,
+};
+use sc_base::{Draws, MOST_NODES, OutOfMemory, Sequence};
+use sc_cmd::Base;
+use sc_mail::{Mail, MailBody};
+use sc_node_table::{Made, ReplicaInput};
+use sc_replica::Replica;
+
+/// A mail of a transaction; those of no row change nothing.
+#[tactic(auto, unfolding(sc_node_table::specs::Rows::mailed))]
+fn on_transaction(
+    replica: &mut Replica,
+    from: u16,
+    body: &MailBody,
+    out: &mut Sequence<Mail>,
+) -> Result<(), OutOfMemory>
+    requires { is_of_transaction body.now ≡ true }
+    ensures { OnOk result ((replica.new, out.new) ≡ mailed from body.now (replica.old, out.old)) }
+{
+    match body {
+        MailBody::TxPrepare { tx, offer } => on_offer(replica, from, *tx, offer.get(), out),
+        MailBody::TxVote { tx, part, vote, .. } => {
+            on_party_vote(replica, from, *tx, *part, vote, out)
+        }
+        MailBody::TxOutcome { tx, outcome, .. } => on_outcome(replica, *tx, outcome, out),
+        MailBody::TxElsewhere { tx, hint, .. } => on_elsewhere(replica, from, *tx, *hint, out),
+        MailBody::TxWatch { tx, watch } => on_watch(replica, from, *tx, watch.get(), out),
+        MailBody::TxWatched { tx, part, vote, .. } => {
+            on_watched(replica, from, *tx, *part, *vote, out)
+        }
+        MailBody::Answer { .. } | MailBody::Told { .. } => Ok(()),
+        _ => unreachable!(),
+    }
+}
+
+/// A mail from a node.
+#[tactic(auto, unfolding(sc_node_table::specs::Rows::mailed, sc_node_table::specs::Births::mailed_children))]
+fn on_mail(
+    replica: &mut Replica,
+    from: u16,
+    body: &MailBody,
+    out: &mut Sequence<Mail>,
+    made: &mut Sequence<Base>,
+) -> Result<(), OutOfMemory>
+    ensures place { OnOk result
+        ((replica.new, out.new) ≡ mailed from body.now (replica.old, out.old)) }
+    ensures made { OnOk result
+        (made.new ≡ mailed_children from body.now (replica.old, out.old) made.old) }
+{
+    match body {
+        MailBody::Request {
+            client,
+            seq,
+            op,
+            ..
+        } => replica.on_request(*client, *seq, op, out),
+        MailBody::Accepted { ballot, slot, .. } => {
+            on_accepted(replica, from, *ballot, *slot, out, made)
+        }
+        MailBody::Learn { slot, command, .. } => {
+            on_learn(replica, from, *slot, command, out, made)
+        }
+        MailBody::Prepare { .. }
+        | MailBody::Promise { .. }
+        | MailBody::Accept { .. }
+        | MailBody::Nack { .. }
+        | MailBody::Ask { .. }
+        | MailBody::Install { .. } => replica.on_round(from, body, out),
+        MailBody::Answer { .. }
+        | MailBody::TxPrepare { .. }
+        | MailBody::TxVote { .. }
+        | MailBody::TxOutcome { .. }
+        | MailBody::TxElsewhere { .. }
+        | MailBody::TxWatch { .. }
+        | MailBody::TxWatched { .. }
+        | MailBody::Told { .. } => on_transaction(replica, from, body, out),
+    }
+}
+
+/// A mail for its group, by its row. Only a request may come from others than the nodes. The
+/// mails come behind those that are there, and so do the children whose replicas the node must
+/// make. After want of memory the replica may only be dropped.
+#[tactic(auto, unfolding(sc_node_table::specs::Rows::mailed, sc_node_table::specs::Births::mailed_children))]
+pub fn take_mail(
+    replica: &mut Replica,
+    from: u32,
+    body: &MailBody,
+    out: &mut Sequence<Mail>,
+    made: &mut Sequence<Base>,
+) -> Result<(), OutOfMemory>
+    requires { may_come from body.now ≡ true }
+    ensures place { OnOk result
+        ((replica.new, out.new) ≡ mailed from body.now (replica.old, out.old)) }
+    ensures made { OnOk result
+        (made.new ≡ mailed_children from body.now (replica.old, out.old) made.old) }
+{
+    if from <= MOST_NODES {
+        return on_mail(replica, from as u16, body, out, made);
+    }
+    match body {
+        MailBody::Request {
+            client,
+            seq,
+            op,
+            ..
+        } => replica.on_request(*client, *seq, op, out),
+        _ => unreachable!(),
+    }
+}
+
+/// One step by the replica's table: the new value, the mails behind those that are there, and
+/// the children whose replicas the node must make. The names of splits and transactions are
+/// drawn from the node's. Only a request may come from others than the nodes. After want of
+/// memory the replica may only be dropped.
+#[tactic(auto, unfolding(sc_node_table::specs::Rows::stepped))]
+pub fn step_replica(
+    replica: &mut Replica,
+    input: &ReplicaInput,
+    draws: &mut Draws,
+    out: &mut Sequence<Mail>,
+) -> Result<Made, OutOfMemory>
+    requires { may_take input.now ≡ true }
+    ensures place { OnOk result
+        ((replica.new, out.new) ≡ stepped draws.old input.now (replica.old, out.old)) }
+    ensures draws { OnOk result (draws.new ≡ names_left draws.old input.now replica.old) }
+    ensures made { IfOk result
+        (λ made. made.children ≡ made_in input.now (replica.old, out.old)) }
+{
+    let mut children = Sequence::new(replica.alloc());
+    match input {
+        ReplicaInput::Got(mail) => {
+            take_mail(replica, mail.from, &mail.body, out, &mut children)?;
+        }
+        ReplicaInput::Tick => on_tick(replica, out)?,
+        ReplicaInput::Told(line) => on_order(replica, draws, line, out)?,
+    }
+    Ok(Made { children })
+}

@@ -1,0 +1,145 @@
+//! What is said of an executed command: a call is answered, of an order the desk is told, and a
+//! transaction goes on.
+ghost use Rattle.std.specs.Prelude.{◌≡◌, OnOk};
+ghost use Rattle.sc_node_table.specs.Execute.{result_of, order_result, told_effect, announced};
+ghost use Rattle.sc_node_table.specs.Spoken.{spoken};
+ghost use Rattle.sc_node.specs.Calls.{is_call};
+
+use sc_base::{OutOfMemory, Sequence};
+use sc_cmd::{Command, Effect, ToldResult};
+use sc_mail::Mail;
+use sc_node_table::Before;
+use sc_replica::Replica;
+use sc_replica_transactions as transactions;
+
+fn is_call(command: &Command) -> bool
+    ensures { result ≡ is_call command.now }
+{
+    match command {
+        Command::Call { .. } => true,
+        _ => false,
+    }
+}
+
+/// What an effect says of its order; nothing where the order goes on.
+fn result_of(effect: &Effect) -> Option<ToldResult>
+    ensures { result ≡ result_of effect.now }
+{
+    match effect {
+        Effect::Changed => Some(ToldResult::Done),
+        Effect::Refused(why) => Some(ToldResult::Refused(*why)),
+        Effect::Done(_)
+        | Effect::Again(_)
+        | Effect::Stale { .. }
+        | Effect::NotMine { .. }
+        | Effect::Gone { .. }
+        | Effect::NoEffect { .. }
+        | Effect::Idle
+        | Effect::Voted(_)
+        | Effect::Decided(_) => None,
+    }
+}
+
+/// What it says of a join or a leave; splits and transactions are spoken of apart.
+fn order_result(command: &Command, effect: &Effect) -> Option<ToldResult>
+    ensures { result ≡ order_result command.now effect.now }
+{
+    match command {
+        Command::Join { .. } | Command::Leave { .. } => result_of(effect),
+        Command::Noop
+        | Command::Call { .. }
+        | Command::Split { .. }
+        | Command::Begin { .. }
+        | Command::Prepared { .. }
+        | Command::RecordVote { .. }
+        | Command::GiveUp { .. }
+        | Command::Finish { .. }
+        | Command::Watched { .. }
+        | Command::RecordWatch { .. } => None,
+    }
+}
+
+/// A call is answered where it was counted; nothing else is said of it.
+#[tactic(auto, unfolding(sc_node_table::specs::Execute::announced), using(crate::proofs::Saying::nothing_of_calls))]
+fn tell_call(
+    replica: &mut Replica,
+    counted: bool,
+    before: &Before,
+    effect: Effect,
+    command: &Command,
+    out: &mut Sequence<Mail>,
+) -> Result<(), OutOfMemory>
+    requires { is_call command.now ≡ true }
+    ensures { OnOk result
+        ((replica.new, out.new)
+        ≡ spoken counted before.now effect command.now
+        (announced counted effect command.now (replica.old, out.old))) }
+{
+    replica.tell_counted(counted, effect, command, out)
+}
+
+/// What is said of a split or a transaction.
+#[tactic(auto, unfolding(sc_node_table::specs::Spoken::spoken))]
+fn speak(
+    replica: &Replica,
+    counted: bool,
+    before: &Before,
+    effect: &Effect,
+    command: &Command,
+    out: &mut Sequence<Mail>,
+) -> Result<(), OutOfMemory>
+    ensures { OnOk result
+        ((replica.now, out.new)
+        ≡ spoken counted before.now effect.now command.now (replica.now, out.old)) }
+{
+    transactions::speak(
+        replica.alloc(),
+        counted,
+        replica.machine(),
+        replica.me(),
+        before,
+        effect,
+        command,
+        out,
+    )
+}
+
+/// Of any other command the desk is told, and a transaction goes on.
+#[tactic(auto, unfolding(sc_node_table::specs::Execute::announced), using(crate::proofs::Saying::no_answer_of_others))]
+fn tell_others(
+    replica: &Replica,
+    counted: bool,
+    before: &Before,
+    effect: &Effect,
+    command: &Command,
+    out: &mut Sequence<Mail>,
+) -> Result<(), OutOfMemory>
+    requires { is_call command.now ≡ false }
+    ensures { OnOk result
+        ((replica.now, out.new)
+        ≡ spoken counted before.now effect.now command.now
+        (announced counted effect.now command.now (replica.now, out.old))) }
+{
+    replica.tell_effect(order_result(command, effect), command, out)?;
+    speak(replica, counted, before, effect, command, out)
+}
+
+/// What is said of a command, counted or learnt, by its effect and the group before it.
+pub(crate) fn tell(
+    replica: &mut Replica,
+    counted: bool,
+    before: &Before,
+    effect: Effect,
+    command: &Command,
+    out: &mut Sequence<Mail>,
+) -> Result<(), OutOfMemory>
+    ensures { OnOk result
+        ((replica.new, out.new)
+        ≡ spoken counted before.now effect command.now
+        (announced counted effect command.now (replica.old, out.old))) }
+{
+    if is_call(command) {
+        return tell_call(replica, counted, before, effect, command, out);
+    }
+    tell_others(replica, counted, before, &effect, command, out)
+}

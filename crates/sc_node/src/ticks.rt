@@ -1,0 +1,62 @@
+//! A tick of a replica.
+ghost use Rattle.std.specs.Prelude.{◌≡◌, OnOk};
+ghost use Rattle.sc_node_table.specs.Reminders.{impatient, waited_in, reminded};
+ghost use Rattle.sc_node_table.specs.Rows.{tick_row};
+
+use sc_base::{Draw, OutOfMemory, Sequence};
+use sc_cmd::{Command, Lock};
+use sc_mail::Mail;
+use sc_replica::Replica;
+use sc_replica_transactions as transactions;
+use sc_replica_transactions::{has_waited, one_tick_more};
+
+/// A coordinator that has waited long enough gives up.
+fn lose_patience(replica: &mut Replica, tx: Draw) -> Result<(), OutOfMemory>
+    ensures { OnOk result (replica.new ≡ impatient tx replica.old) }
+{
+    if !has_waited(replica.waits()) {
+        return Ok(());
+    }
+    replica.put_act(Command::GiveUp { tx })
+}
+
+/// A coordinator waits one tick longer.
+fn wait(replica: &mut Replica) -> Result<(), OutOfMemory>
+    ensures { OnOk result (replica.new ≡ waited_in replica.old.group.core.lock replica.old) }
+{
+    match &replica.machine().core().lock {
+        Lock::Coordinating { tx, .. } => {
+            let tx = *tx;
+            let waits = one_tick_more(replica.waits());
+            replica.set_waits(waits);
+            lose_patience(replica, tx)
+        }
+        Lock::Free | Lock::Promised { .. } | Lock::Watching { .. } => Ok(()),
+    }
+}
+
+/// Who is bound in a transaction asks again, or says its vote again.
+#[tactic(auto, unfolding(sc_node_table::specs::Reminders::reminded))]
+fn remind(replica: &mut Replica, out: &mut Sequence<Mail>) -> Result<(), OutOfMemory>
+    ensures { OnOk result ((replica.new, out.new) ≡ reminded (replica.old, out.old)) }
+{
+    transactions::remind(replica.alloc(), replica.machine(), replica.me(), out)?;
+    wait(replica)
+}
+
+/// A tick of the node's clock, by the row of Tick. The mails come behind those that are there. After
+/// want of memory the replica may only be dropped.
+#[tactic(auto, unfolding(sc_node_table::specs::Rows::tick_row))]
+pub fn on_tick(replica: &mut Replica, out: &mut Sequence<Mail>) -> Result<(), OutOfMemory>
+    ensures { OnOk result ((replica.new, out.new) ≡ tick_row (replica.old, out.old)) }
+{
+    if !replica.takes_part() {
+        return Ok(());
+    }
+    if !replica.is_settled() {
+        return replica.elect(out);
+    }
+    replica.repeat(out)?;
+    remind(replica, out)?;
+    replica.pump(out)
+}

@@ -1,0 +1,222 @@
+//! The rows of TxPrepare, TxVote, TxOutcome, TxElsewhere, TxWatch and TxWatched.
+ghost use Rattle.std.specs.Prelude.{◌≡◌, OnOk, None};
+ghost use Rattle.sc_cmd.specs.declared.votes.Past.TheVariants.{Yes};
+ghost use Rattle.sc_node_table.specs.Transactions.{offered_by, offer_row, watched_by, watch_row, vote_queued, vote_row, watch_queued, watch_met, watched_row, elsewhere_row, outcome_row, noted_outcome};
+
+use sc_base::{Boxed, Draw, Dup, OutOfMemory, Sequence};
+use sc_cmd::{Command, Offer, Outcome, Past, Vote, Watch};
+use sc_mail::Mail;
+use sc_replica::Replica;
+use sc_replica_transactions::{
+    ask_next, awaits_vote, awaits_watch, is_bound, noted_outcome, pass_on, standing_vote,
+    tell_outcome, tell_vote, tell_watch,
+};
+
+/// An offer on which no vote stands is to be voted on in the log, by the leader.
+fn take_offer(
+    replica: &mut Replica,
+    from: u16,
+    tx: Draw,
+    offer: &Offer,
+    out: &mut Sequence<Mail>,
+) -> Result<(), OutOfMemory>
+    ensures { OnOk result
+        ((replica.new, out.new) ≡ offered_by None from tx offer.now (replica.old, out.old)) }
+{
+    if replica.is_running() {
+        let offer = Boxed::new(replica.alloc(), *offer)?;
+        return replica.queue_act(Command::Prepared { tx, offer }, out);
+    }
+    pass_on(replica.me(), from, tx, offer.coord, replica.hint(), out)
+}
+
+/// TxPrepare.
+#[tactic(auto, unfolding(sc_node_table::specs::Transactions::offer_row))]
+pub(crate) fn on_offer(
+    replica: &mut Replica,
+    from: u16,
+    tx: Draw,
+    offer: &Offer,
+    out: &mut Sequence<Mail>,
+) -> Result<(), OutOfMemory>
+    ensures { OnOk result
+        ((replica.new, out.new) ≡ offer_row from tx offer.now (replica.old, out.old)) }
+{
+    match standing_vote(replica.machine().core(), tx) {
+        Some(vote) => tell_vote(
+            replica.alloc(),
+            replica.machine(),
+            replica.me(),
+            from,
+            tx,
+            offer,
+            vote,
+            out,
+        ),
+        None => take_offer(replica, from, tx, offer, out),
+    }
+}
+
+/// A watch on which no vote stands is to be voted on in the log, by the leader.
+fn take_watch(
+    replica: &mut Replica,
+    from: u16,
+    tx: Draw,
+    watch: &Watch,
+    out: &mut Sequence<Mail>,
+) -> Result<(), OutOfMemory>
+    ensures { OnOk result
+        ((replica.new, out.new) ≡ watched_by None from tx watch.now (replica.old, out.old)) }
+{
+    if replica.is_running() {
+        let watch = Boxed::new(replica.alloc(), *watch)?;
+        return replica.queue_act(Command::Watched { tx, watch }, out);
+    }
+    pass_on(replica.me(), from, tx, watch.coord, replica.hint(), out)
+}
+
+/// TxWatch.
+#[tactic(auto, unfolding(sc_node_table::specs::Transactions::watch_row))]
+pub(crate) fn on_watch(
+    replica: &mut Replica,
+    from: u16,
+    tx: Draw,
+    watch: &Watch,
+    out: &mut Sequence<Mail>,
+) -> Result<(), OutOfMemory>
+    ensures { OnOk result
+        ((replica.new, out.new) ≡ watch_row from tx watch.now (replica.old, out.old)) }
+{
+    match standing_vote(replica.machine().core(), tx) {
+        Some(vote) => tell_watch(replica.me(), from, tx, watch, vote, out),
+        None => take_watch(replica, from, tx, watch, out),
+    }
+}
+
+/// A vote for which the leader waits is recorded.
+fn take_vote(
+    replica: &mut Replica,
+    from: u16,
+    tx: Draw,
+    vote: &Vote,
+    out: &mut Sequence<Mail>,
+) -> Result<(), OutOfMemory>
+    ensures { OnOk result
+        ((replica.new, out.new) ≡ vote_queued from tx vote.now (replica.old, out.old)) }
+{
+    if !replica.is_running() || !awaits_vote(&replica.machine().core().lock, tx) {
+        return Ok(());
+    }
+    let vote = vote.dup(replica.alloc())?;
+    replica.queue_act(Command::RecordVote { tx, vote, by: from }, out)
+}
+
+/// TxVote: only a Yes asks for what was decided.
+#[tactic(auto, unfolding(sc_node_table::specs::Transactions::vote_row))]
+pub(crate) fn on_party_vote(
+    replica: &mut Replica,
+    from: u16,
+    tx: Draw,
+    part: Draw,
+    vote: &Vote,
+    out: &mut Sequence<Mail>,
+) -> Result<(), OutOfMemory>
+    ensures { OnOk result
+        ((replica.new, out.new) ≡ vote_row from tx part vote.now (replica.old, out.old)) }
+{
+    match vote {
+        Vote::Yes(_) => match noted_outcome(replica.machine().core(), tx) {
+            Some(outcome) => {
+                tell_outcome(replica.alloc(), replica.me(), from, tx, part, outcome, out)
+            }
+            None => take_vote(replica, from, tx, vote, out),
+        },
+        Vote::No(_) => take_vote(replica, from, tx, vote, out),
+    }
+}
+
+/// A watcher's vote for which the leader waits is recorded.
+fn take_watched(
+    replica: &mut Replica,
+    from: u16,
+    tx: Draw,
+    vote: Past,
+    out: &mut Sequence<Mail>,
+) -> Result<(), OutOfMemory>
+    ensures { OnOk result
+        ((replica.new, out.new) ≡ watch_queued from tx vote (replica.old, out.old)) }
+{
+    if !replica.is_running() || !awaits_watch(&replica.machine().core().lock, tx) {
+        return Ok(());
+    }
+    replica.queue_act(Command::RecordWatch { tx, vote, by: from }, out)
+}
+
+/// TxWatched: only a Yes asks for what was decided.
+#[tactic(auto, unfolding(sc_node_table::specs::Transactions::watched_row))]
+pub(crate) fn on_watched(
+    replica: &mut Replica,
+    from: u16,
+    tx: Draw,
+    part: Draw,
+    vote: Past,
+    out: &mut Sequence<Mail>,
+) -> Result<(), OutOfMemory>
+    ensures { OnOk result
+        ((replica.new, out.new) ≡ watched_row from tx part vote (replica.old, out.old)) }
+{
+    match vote {
+        Past::Yes => match noted_outcome(replica.machine().core(), tx) {
+            Some(outcome) => {
+                tell_outcome(replica.alloc(), replica.me(), from, tx, part, outcome, out)
+            }
+            None => take_watched(replica, from, tx, Past::Yes, out),
+        },
+        Past::No(why) => take_watched(replica, from, tx, Past::No(why), out),
+        Past::Ended => take_watched(replica, from, tx, Past::Ended, out),
+    }
+}
+
+/// TxElsewhere: the coordinator asks again.
+#[tactic(auto, unfolding(sc_node_table::specs::Transactions::elsewhere_row))]
+pub(crate) fn on_elsewhere(
+    replica: &mut Replica,
+    from: u16,
+    tx: Draw,
+    hint: Option<u16>,
+    out: &mut Sequence<Mail>,
+) -> Result<(), OutOfMemory>
+    ensures { OnOk result
+        ((replica.new, out.new) ≡ elsewhere_row from tx hint (replica.old, out.old)) }
+{
+    if !replica.is_settled() {
+        return Ok(());
+    }
+    ask_next(
+        replica.alloc(),
+        replica.me(),
+        replica.machine().core(),
+        from,
+        tx,
+        hint,
+        out,
+    )
+}
+
+/// TxOutcome: the leader of a group that is bound puts the outcome into its log.
+#[tactic(auto, unfolding(sc_node_table::specs::Transactions::outcome_row))]
+pub(crate) fn on_outcome(
+    replica: &mut Replica,
+    tx: Draw,
+    outcome: &Outcome,
+    out: &mut Sequence<Mail>,
+) -> Result<(), OutOfMemory>
+    ensures { OnOk result
+        ((replica.new, out.new) ≡ outcome_row tx outcome.now (replica.old, out.old)) }
+{
+    if !replica.is_running() || !is_bound(&replica.machine().core().lock, tx) {
+        return Ok(());
+    }
+    let outcome = outcome.dup(replica.alloc())?;
+    replica.queue_act(Command::Finish { tx, outcome }, out)
+}

@@ -1,6 +1,0 @@
-use Rattle.std.proofs.Common.{length}
-use Rattle.sc_replica.proofs.replica.Replica.+execute_ready.Given as goal
-
--- what is ready
-abbrev pub decreases-execute_ready : goal.decreases-execute_ready
-decreases-execute_ready l = length l.self.now.ready
