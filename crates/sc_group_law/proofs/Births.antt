@@ -23,22 +23,10 @@ use Rattle.sc_group_law.proofs.Held.{mirrors_itself}
 use Rattle.sc_group_law.proofs.Rosters.{state_roster}
 use Rattle.sc_group_law.proofs.Invariant.{rule, first, birth, IsReplica}
 use Rattle.sc_group_law.proofs.Holding.{IsOther, Holds, holds_none}
+use Rattle.sc_group_law.proofs.Newborn.{born_replica_is}
 use Rattle.sc_group_law.proofs.Names.{IsOneOf}
 use Rattle.sc_group_law.proofs.Clients.{Made}
 use Rattle.sc_group_law.proofs.Family.{Kept}
-
-length_replicate : {X : Type 0} (n : ℕ) (x : X) → length (replicate n x) ≡ n
-length_replicate zero x = refl
-length_replicate (suc n) x = ap suc (length_replicate n x)
-
-get_replicate : {X : Type 0} (n : ℕ) (x y : X) (k : ℕ) → slice_get (replicate n x) k ≡ Some y → (y ≡ x) × (k < n)
-get_replicate zero x y k e = cc
-get_replicate {X} (suc n) x y zero e = let same : x ≡ y = cc in (sym same, omega arith)
-get_replicate (suc n) x y (suc k) e = let r = get_replicate n x y k e in (r.0, omega (arith, r.1))
-
-take_none : {X : Type 0} (n : ℕ) → take {A = X} n [] ≡ []
-take_none zero = refl
-take_none (suc n) = refl
 
 first_of : (members : List ℕ) → 1 ≤ length members → (node : ℕ) × (rest : List ℕ) × (members ≡ node ∷ rest)
 first_of [] le = absurd (omega (arith, le))
@@ -52,35 +40,6 @@ module _ (ahead : Ahead) (base : Base) (starts : StartsEmpty base) where
   -- such a log tells a history
   pub tells_of : (log : List Command) → Each LeavesWhole log → LogTells (birth ahead base) log
   tells_of = log_tells (birth ahead base) (record { pairs = ap (with_pairs empty) starts.pairs; clients = ap (joined_with empty) starts.clients })
-
-born_replica_is : (ahead : Ahead) (base : Base) (made : Command → Type 0) (n : ℕ) → IsReplica ahead base made [] n (born_replica ahead.slots n base)
-born_replica_is ahead base made n = record {
-  me_is = refl;
-  whole = [];
-  log_is = record { low = omega arith; entries_are = refl; group_is = refl; is_log = λ k v e. cc; all_made = tt };
-  acceptor_is = mirrors_itself (born_acceptor (first ahead base));
-  tops = λ b slot c a own. absurd a;
-  prepares = λ b from a own. absurd a;
-  count = length_replicate ahead.slots base.core.members;
-  sets = λ k set e. (
-      let r = get_replicate ahead.slots base.core.members set k e in
-      let need = needed (rule ahead base) (1 + k) in
-      (r.0 ∙ ap (rule ahead base).members (sym (take_none {X = Command} need)), (let lt = r.1 in omega (arith, lt))));
-  calls = tt;
-  acts = tt;
-  flights = tt;
-  ready = tt;
-  leads = λ runs. record {
-    own = eqb-true base.core.first n runs;
-    low = omega arith;
-    first_is = λ e. refl;
-    votes = [];
-    promisers = refl;
-    reports = refl;
-    made = tt;
-    offers = λ slot c a. absurd a;
-  };
-}
 
 module _ (ahead : Ahead) (made : Command → Type 0) (n : ℕ) where
   -- the replicas of a node at the birth of these groups
@@ -113,7 +72,7 @@ module _ (ahead : Ahead) (made : Command → Type 0) (n : ℕ) where
   holds_born base (b ∷ bases) apart (inl is) =
       cond_both (is_member b.core.members n) (b ∷ filter (λ c. is_member c.core.members n) bases) (filter (λ c. is_member c.core.members n) bases)
       (λ bs. Holds ahead base made n [] (map (λ c. born_replica ahead.slots n c) bs))
-      (λ _. subst (λ x. Holds ahead x made n [] (born_replica ahead.slots n b ∷ born bases)) is (inl (refl, born_replica_is ahead b made n, none_born b bases apart.0)))
+      (λ _. subst (λ x. Holds ahead x made n [] (born_replica ahead.slots n b ∷ born bases)) is (inl (refl, born_replica_is ahead b made [] n tt, none_born b bases apart.0)))
       (λ _. subst (λ x. Holds ahead x made n [] (born bases)) is (holds_none ahead b made n [] (born bases) (none_born b bases apart.0) tt))
   holds_born base (b ∷ bases) apart (inr a) =
       cond_both (is_member b.core.members n) (b ∷ filter (λ c. is_member c.core.members n) bases) (filter (λ c. is_member c.core.members n) bases)
@@ -126,7 +85,7 @@ at_birth ahead scenario base others has = record {
   parts = λ b a. record { lawful = tt; requested = λ ballot slot c o. absurd o; true_mail = λ m o. absurd o };
   named = λ m a. absurd a;
   nodes = λ n low high. record {
-    node = record { me = n; replicas = map (λ b. born_replica ahead.slots n b) (filter (λ b. is_member b.core.members n) (base ∷ others)) };
+    node = record { me = n; draws = record { node = n; next = 1 }; replicas = map (λ b. born_replica ahead.slots n b) (filter (λ b. is_member b.core.members n) (base ∷ others)) };
     value_is = refl;
     is = record {
       me_is = refl;

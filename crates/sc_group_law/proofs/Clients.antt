@@ -28,14 +28,21 @@ use Rattle.sc_hist_law.specs.Laws.{LeavesWhole}
 use Rattle.sc_players.specs.Players.{Ahead}
 use Rattle.sc_sound.specs.Requests.{issues, issued_from, issue_row}
 use Rattle.sc_group_law.specs.Orders.{IsOfMembers}
-use Rattle.sc_group_law.proofs.Invariant.{Steps, Grants, IsReplyAt, IsTrue, IsTrueAnswer, grown_reply}
+use Rattle.sc_group_law.proofs.Invariant.{Steps, birth, Grants, IsReplyAt, IsTrue, IsTrueAnswer, grown_reply}
 use Rattle.sc_group_law.proofs.Names.{IsOneOf, IsNamed}
 use Rattle.sc_group_law.proofs.Places.{Journal, or_now, issue-push}
 use Rattle.sc_paxos_law.proofs.Among.{get_pushed}
 use Rattle.sc_base.proofs.NameLemmas.{same_name}
 use Rattle.sc_cmd.specs.declared.orders.Order.{Order}
 use Rattle.sc_cmd.specs.declared.orders.Order.TheVariants as An
-use Rattle.sc_node_table.specs.Rows.{command_of}
+use Rattle.sc_node_table.specs.Ordering.{ordered_command}
+use Rattle.sc_paxos_words.proofs.ListLemmas.{Each-weaker}
+use Rattle.sc_cmd.specs.declared.cores.Core.{Core}
+use Rattle.sc_cmd.specs.declared.cores.Lock.TheVariants.{Free}
+use Rattle.sc_machine_table.specs.Logs.{state_after}
+use Rattle.sc_hist_law.proofs.Logs.{state_core}
+use Rattle.sc_group_law.proofs.Quiet.{IsQuiet, no_child}
+use Rattle.sc_group_law.proofs.Offspring.{IsChildOf}
 
 -- ---- requests
 
@@ -103,18 +110,34 @@ made_whole scenario rows (Finish tx outcome) m = m
 made_whole scenario rows (Watched tx watch) m = m
 made_whole scenario rows (RecordWatch tx vote by) m = m
 
--- what an order asks for is a join or a leave
-order_made : (scenario : Scenario) (rows : Journal) (o : Order) (number : ℕ) (c : Command) → IsOfMembers o → command_of (let line : OrderLine = record { number = number; order = o } in line) ≡ Some c → Made scenario rows c
-order_made scenario rows (An.Join node group) number c plain e = (let same : Join node number ≡ c = cc in subst (Made scenario rows) same tt)
-order_made scenario rows (An.Leave node group) number c plain e = (let same : Leave node number ≡ c = cc in subst (Made scenario rows) same tt)
-order_made scenario rows (An.Split group at) number c plain e = absurd plain
-order_made scenario rows (An.Merge group) number c plain e = absurd plain
-order_made scenario rows (An.Repart group at) number c plain e = absurd plain
-order_made scenario rows (An.Migrate group node) number c plain e = absurd plain
+-- what an order to join or leave asks for may be queued
+pub order_made : (scenario : Scenario) (rows : Journal) (draw : Draw) (number : ℕ) (order : Order) → IsOfMembers order → Made scenario rows (ordered_command draw number order)
+order_made scenario rows draw number (An.Join node group) plain = tt
+order_made scenario rows draw number (An.Leave node group) plain = tt
+order_made scenario rows draw number (An.Split group at) plain = absurd plain
+order_made scenario rows draw number (An.Merge group) plain = absurd plain
+order_made scenario rows draw number (An.Repart group at) plain = absurd plain
+order_made scenario rows draw number (An.Migrate group node) plain = absurd plain
 
--- what replicas make themselves counts as made
-pub grants : (ahead : Ahead) (scenario : Scenario) (rows : Journal) (base : Base) → Grants ahead base (Made scenario rows) Heard
-grants ahead scenario rows base = record { noop = tt; asked = λ line c plain e. order_made scenario rows line.order line.number c plain e; whole = λ c m. made_whole scenario rows c m; unheard = λ body none. none }
+made_quiet : (scenario : Scenario) (rows : Journal) (c : Command) → Made scenario rows c → IsQuiet c
+made_quiet scenario rows Noop m = tt
+made_quiet scenario rows (Call client seq op) m = tt
+made_quiet scenario rows (Join node order) m = tt
+made_quiet scenario rows (Leave node order) m = tt
+made_quiet scenario rows _ m = absurd m
+
+-- what is made locks a group in no transaction
+pub grants : (ahead : Ahead) (scenario : Scenario) (rows : Journal) (base : Base) → base.core.lock ≡ Free → Grants ahead base (Made scenario rows) Heard
+grants ahead scenario rows base free = record {
+  noop = tt;
+  quiet = λ c m. made_quiet scenario rows c m;
+  free = λ log made. ap (λ (core : Core). core.lock) (state_core (birth ahead base) log (Each-weaker (Made scenario rows) LeavesWhole (made_whole scenario rows) log made)) ∙ free;
+  unheard = λ body none. none;
+}
+
+-- it makes no child
+pub none_born : (ahead : Ahead) (scenario : Scenario) (rows : Journal) (base : Base) (me : ℕ) (h : Steps) (child : Base) → IsChildOf ahead base (Made scenario rows) me h child → ⊥
+none_born ahead scenario rows base me h child is = no_child (state_after (birth ahead base) is.front) is.command child (made_whole scenario rows is.command is.is_made) is.child_is
 
 -- what was made stays made with one more row
 pub made_later : (scenario : Scenario) (rows : Journal) (row : Row Mail OrderLine) (c : Command) → Made scenario rows c → Made scenario (rows ++ row ∷ []) c

@@ -12,6 +12,7 @@ use Rattle.sc_mail.specs.declared.bodies.MailBody.{MailBody}
 use Rattle.sc_member.specs.Roster.{is_member, with_member}
 use Rattle.sc_member.specs.Majority.{is_majority}
 use Rattle.sc_paxos_words.specs.declared.answers.Counted.{Counted}
+use Rattle.sc_paxos_words.specs.declared.answers.Counted.TheVariants.{Chosen, NotYet}
 use Rattle.sc_paxos_words.specs.declared.flights.Flight.{Flight}
 use Rattle.sc_paxos_words.specs.declared.reports.Report.{Report}
 use Rattle.sc_base.specs.Among.{Among, Each}
@@ -146,7 +147,8 @@ module _ (ahead : Ahead) (base : Base) (made : Command → Type 0) (heard : Mail
 
   -- ---- a vote
 
-  ready_replica : (h : Steps) (slot : ℕ) (c : Command) (r : ReplicaState) (k : Replica h r) → IsLearnt (rule ahead base) h slot c
+  -- a command that a majority accepted is ready
+  pub ready_replica : (h : Steps) (slot : ℕ) (c : Command) (r : ReplicaState) (k : Replica h r) → IsLearnt (rule ahead base) h slot c
       → Replica h (record r { leader = without_flight_at slot r.leader; ready = with_slot r.ready slot c })
   ready_replica h slot c r k t = record {
     me_is = k.me_is;
@@ -204,11 +206,17 @@ module _ (ahead : Ahead) (base : Base) (made : Command → Type 0) (heard : Mail
       stays at (inr (inl (g, a, e))) = inr (inl (still_flying slot voters r.leader.flights at g a e))
       stays at (inr (inr t)) = inr (inr t)
 
+  -- a command became ready
+  unfoldable pub ready_place : (slot : ℕ) (c : Command) (r : ReplicaState) (mails : List Mail) → (f : Ok (r, mails)) → IsLearnt (rule ahead base) (f.newer ++ before) slot c
+      → Ok (record r { leader = without_flight_at slot r.leader; ready = with_slot r.ready slot c }, mails)
+  ready_place slot c r mails f t =
+      turn ahead base made heard me older before r (record r { leader = without_flight_at slot r.leader; ready = with_slot r.ready slot c }) mails f (ready_replica (f.newer ++ before) slot c r f.replica t)
+
   readied_place : (slot : ℕ) (c : Command) (r : ReplicaState) (mails : List Mail) → (f : Ok (r, mails)) → IsLearnt (rule ahead base) (f.newer ++ before) slot c → r.running ≡ true → Ok (readied slot c (record r { leader = without_flight_at slot r.leader }, mails))
-  unfolding readied turn
+  unfolding readied ready_place turn
   readied_place slot c r mails f t runs =
       let after : ReplicaState = record r { leader = without_flight_at slot r.leader; ready = with_slot r.ready slot c } in
-      let place = turn ahead base made heard me older before r after mails f (ready_replica (f.newer ++ before) slot c r f.replica t) in
+      let place = ready_place slot c r mails f t in
       cond_both (eqb slot (next r) && has_room (record r { leader = without_flight_at slot r.leader })) _ _ Ok
       (λ e. (
       let parts = and_parts (eqb slot (next r)) (has_room (record r { leader = without_flight_at slot r.leader })) e in
@@ -272,7 +280,21 @@ module _ (ahead : Ahead) (base : Base) (made : Command → Type 0) (heard : Mail
     counted_place =
         cond_both (same_ballot b r.leader.ballot) _ _ (λ (x : Counted Command × LeaderState Command). Ok (vote_tallied slot x (r, mails))) (λ _. voted_at (flight_at slot r.leader.flights) refl) (λ _. f)
 
-  set_is : (h : Steps) (slot : ℕ) (set : List ℕ) (r : ReplicaState) (k : Replica h r) → set_at slot r ≡ Some set → (set ≡ members_of (rule ahead base) k.whole slot) × (needed (rule ahead base) slot ≤ length k.whole)
+    -- a count comes to a command that is chosen, or to none yet
+    module _ (Q : Counted Command × LeaderState Command → Type 0) (chosen : (c : Command) → IsLearnt (rule ahead base) h slot c → Q (Chosen c, without_flight_at slot r.leader))
+        (other : (count : ℕ) (leader : LeaderState Command) → Q (NotYet count, leader)) where
+      count_at : (o : Option (Flight Command)) → flight_at slot r.leader.flights ≡ o → Q (vote_at from slot set o r.leader)
+      count_at None e = other 0 r.leader
+      count_at (Some flight) e =
+          let there = find_found (λ (g : Flight Command). eqb g.slot slot) r.leader.flights flight e in
+          let at = eqb-true flight.slot slot there.1 in
+          cond_both (is_majority set (kept_voters (voters_after set from flight.voters))) _ _ Q (λ most. chosen flight.value (learnt_here flight there.0 at most)) (λ _. other _ _)
+
+      pub count_is : Q (counted from b slot set r.leader)
+      count_is = cond_both (same_ballot b r.leader.ballot) _ _ Q (λ _. count_at (flight_at slot r.leader.flights) refl) (λ _. other 0 r.leader)
+
+  -- the members of an open slot are those that the log gives
+  pub set_is : (h : Steps) (slot : ℕ) (set : List ℕ) (r : ReplicaState) (k : Replica h r) → set_at slot r ≡ Some set → (set ≡ members_of (rule ahead base) k.whole slot) × (needed (rule ahead base) slot ≤ length k.whole)
   set_is h slot set r k e =
       cond_both (nat_lt slot (next r)) None (slice_get r.sets (slot - next r))
       (λ (o : Option (List ℕ)). o ≡ Some set → (set ≡ members_of (rule ahead base) k.whole slot) × (needed (rule ahead base) slot ≤ length k.whole))

@@ -5,9 +5,12 @@ use Rattle.sc_scenario.specs.declared.scenarios.Asks.{Asks}
 use Rattle.sc_member.specs.Roster.{IsRoster}
 use Rattle.sc_member.proofs.Rising.{roster_with}
 use Rattle.sc_actor.specs.System.{no_words}
+use Rattle.sc_node_table.specs.Births.{ready_children, executed_children, learnt_children, readied_children, accepted_children, mailed_children}
+use Rattle.sc_node_table.specs.Spoken.{told_begun, went_on, spoken_mails, spoken}
+use Rattle.sc_node_table.specs.Reminders.{reminded}
 use Rattle.sc_node_table.specs.Election.{nodes_to, elected, ended, saw}
 use Rattle.sc_node_table.specs.Mails.{sent_all}
-use Rattle.sc_node_table.specs.Node.{ticked}
+use Rattle.sc_node_table.specs.Node.{ticked, with_children}
 use Rattle.sc_node_table.specs.Pump.{next_call, from_calls, from_queues, found_for, offered, pumped_from, pumped}
 use Rattle.sc_node_table.specs.Rows.{queued, requested, request_row, tick_row, mailed}
 use Rattle.sc_node_table.specs.Voting.{promised, prepare_row, took, accept_row, promise_row}
@@ -35,7 +38,7 @@ trio = roster_with (1 ∷ 2 ∷ []) 3 pair refl (lit≤ tt)
 pub one_group : HasGroups election_scenario three_nodes []
 one_group = record {
   groups = refl;
-  empty = λ other a. elim a [ inl e ↦ subst StartsEmpty e (record { roster = trio; pairs = refl; clients = refl }) | inr none ↦ absurd none ];
+  empty = λ other a. elim a [ inl e ↦ subst StartsEmpty e (record { roster = trio; pairs = refl; clients = refl; free = refl }) | inr none ↦ absurd none ];
   apart = (tt, tt);
   orders = (tt, (tt, (tt, (tt, (tt, (tt, (tt, (tt, (tt, tt)))))))));
   nodes = lit≤ tt;
@@ -45,5 +48,5 @@ one_group = record {
 
 -- the example is lawful
 pub example_is_lawful : Lawful four no_words election_scenario election_example
-unfolding nodes_to elected ended saw sent_all ticked next_call from_calls from_queues found_for offered pumped_from pumped queued requested request_row tick_row mailed promised prepare_row took accept_row promise_row
+unfolding nodes_to elected ended saw sent_all ticked next_call from_calls from_queues found_for offered pumped_from pumped queued requested request_row tick_row mailed promised prepare_row took accept_row promise_row spoken spoken_mails told_begun went_on reminded ready_children executed_children learnt_children readied_children accepted_children mailed_children with_children
 example_is_lawful = (refl, (refl, (refl, (refl, (refl, (refl, (refl, (refl, (refl, tt)))))))))

@@ -1,5 +1,5 @@
 -- Execution: the command of the next slot, which is chosen there, lengthens the log.
-use Rattle.std.proofs.Common.{◌≡◌, ℕ, ◌+◌, ◌<◌, ◌&&◌, ◌||◌, nat_lt, Bool, true, false, cond, eqb, List, [], ◌∷◌, ◌++◌, length, Option, Some, None, ◌⊎◌, inl, inr, refl, sym, ◌∙◌, subst, arith}
+use Rattle.std.proofs.Common.{◌≡◌, ℕ, ◌+◌, ◌<◌, ◌&&◌, ◌||◌, nat_lt, Bool, true, false, cond, eqb, List, [], ◌∷◌, ◌++◌, length, Option, Some, None, ◌⊎◌, inl, inr, refl, sym, ◌∙◌, ap, subst, arith}
 use Rattle.std.proofs.lemmas.Bool.{cases_Bool, eqb-true, eqb-false, and_parts, cond_both}
 use Rattle.sc_base.specs.Limits.{client_actor}
 use Rattle.sc_base.specs.declared.ops.Op.{Op}
@@ -8,6 +8,7 @@ use Rattle.sc_cmd.specs.declared.links.Route.{Route}
 use Rattle.sc_cmd.specs.declared.commands.Command.{Command}
 use Rattle.sc_cmd.specs.declared.commands.Command.TheVariants.{Noop, Call, Join, Leave, Split, Begin}
 use Rattle.sc_cmd.specs.declared.cores.Base.{Base}
+use Rattle.sc_cmd.specs.declared.cores.Lock.TheVariants.{Free}
 use Rattle.sc_cmd.specs.declared.effects.Effect.{Effect}
 use Rattle.sc_cmd.specs.declared.effects.Effect.TheVariants as Was
 use Rattle.sc_mail.specs.declared.bodies.AnswerBody.{AnswerBody}
@@ -33,11 +34,14 @@ use Rattle.sc_node_table.specs.Queues.{call_of, without_call, call_before, put_b
 use Rattle.sc_node_table.specs.Sameness.{same_command}
 use Rattle.sc_node_table.specs.Execute.{entered, answer_of, told_call, order_result, told_effect, announced, learnt_to, slot_lost, landed, left_gone, left, is_among, looked_for, looked, executed_one, has_room, next_ready, executed_ready, executed}
 use Rattle.sc_node_table.specs.Pump.{pumped}
+use Rattle.sc_node_table.specs.declared.Before.{Before}
+use Rattle.sc_node_table.specs.Spoken.{before_of, begun_result, spoken_number, told_result, told_begun, went_on, spoken_mails, spoken}
 use Rattle.sc_hist_law.specs.Laws.{IsReplied}
 use Rattle.sc_players.specs.Players.{Ahead}
 use Rattle.sc_group_law.proofs.Growth.{IsLearnt, by_own_log, learnt_offered}
 use Rattle.sc_group_law.proofs.Invariant.{Steps, rule, first, Grants, IsTaken, IsReplica, next_after, IsReplyAt, IsTrueAnswer}
 use Rattle.sc_group_law.proofs.Midway.{Fine, turn, says}
+use Rattle.sc_group_law.proofs.Quiet.{went_quiet}
 use Rattle.sc_group_law.proofs.Sending.{name_is, learnt_others, fine_elected, fine_ended, fine_stopped}
 use Rattle.sc_group_law.proofs.Parts.{Each-without_flight, among_without_flight, Each-without_slot, among_without_slot, slot_among, Each-without_call, flying_found}
 use Rattle.sc_group_law.proofs.Offering.{with_calls, with_acts, fine_pumped}
@@ -133,18 +137,38 @@ module _ (ahead : Ahead) (base : Base) (made : Command → Type 0) (heard : Mail
   told_place counted slot d None c r mails p m t = p
 
   -- what an order came to is told
-  ordered_place : (counted : Bool) (slot : ℕ) (d : Command) (o : Option ToldResult) (c : Command) (place : Place) → Past counted slot d place → Past counted slot d (told_effect o c place)
-  unfolding told_effect told_order says
-  ordered_place counted slot d None c place p = p
-  ordered_place counted slot d (Some result) c (r, mails) p =
-      cond_both (nat_lt 0 (order_number c)) (sent r.me 0 (Told (order_number c) result) mails) mails (λ ms. Past counted slot d (r, ms))
+  result_place : (counted : Bool) (slot : ℕ) (d : Command) (o : Option ToldResult) (number : ℕ) (r : ReplicaState) (mails : List Mail) → Past counted slot d (r, mails) → Past counted slot d (r, told_result r.me o number mails)
+  unfolding told_order says
+  result_place counted slot d None number r mails p = p
+  result_place counted slot d (Some result) number r mails p =
+      cond_both (nat_lt 0 number) (sent r.me 0 (Told number result) mails) mails (λ ms. Past counted slot d (r, ms))
       (λ _. record {
-        fine = says ahead base made heard me older before r mails (record { from = r.me; to = 0; body = Told (order_number c) result }) p.fine refl tt tt;
+        fine = says ahead base made heard me older before r mails (record { from = r.me; to = 0; body = Told number result }) p.fine refl tt tt;
         learnt_is = p.learnt_is;
         executed_is = p.executed_is;
         runs_is = p.runs_is;
       })
       (λ _. p)
+
+  ordered_place : (counted : Bool) (slot : ℕ) (d : Command) (o : Option ToldResult) (c : Command) (place : Place) → Past counted slot d place → Past counted slot d (told_effect o c place)
+  unfolding told_effect
+  ordered_place counted slot d None c place p = p
+  ordered_place counted slot d (Some result) c (r, mails) p = result_place counted slot d (Some result) (order_number c) r mails p
+
+  -- ---- and nothing is said to the parties of a transaction
+
+  -- its group is not locked
+  pub lock_free : (r : ReplicaState) (mails : List Mail) → Ok (r, mails) → r.group.core.lock ≡ Free
+  lock_free r mails f = ap (λ (g : Group). g.core.lock) f.replica.log_is.group_is ∙ grants.free f.replica.whole f.replica.log_is.all_made
+
+  spoken_place : (counted : Bool) (slot : ℕ) (d : Command) (was : Before) (effect : Effect) (c : Command) (place : Place) → made c → Past counted slot d place → Past counted slot d (spoken counted was effect c place)
+  unfolding spoken spoken_mails told_begun
+  spoken_place counted slot d was effect c (r, mails) m p =
+      let said = told_result r.me (begun_result was.alone effect c) (spoken_number was.order c) mails in
+      let told = result_place counted slot d (begun_result was.alone effect c) (spoken_number was.order c) r mails p in
+      cond_both counted (went_on r.me r.group was effect c said) said (λ ms. Past counted slot d (r, ms))
+      (λ _. subst (λ ms. Past counted slot d (r, ms)) (sym (went_quiet r.me r.group was effect c said (grants.quiet c m) (lock_free r mails p.fine))) told)
+      (λ _. told)
 
   -- ---- 2. the others learn it, and who was added is sent the state
 
@@ -293,11 +317,12 @@ module _ (ahead : Ahead) (base : Base) (made : Command → Type 0) (heard : Mail
       let answered_it : Past counted (next r) c (cond counted (told_call (answer_of effect) c (entered c r, mails)) (entered c r, mails)) = (
       cond_both counted (told_call (answer_of effect) c (entered c r, mails)) (entered c r, mails) (Past counted (next r) c)
       (λ _. told_place counted (next r) c (answer_of effect) c (entered c r) mails start m answers) (λ _. start)) in
-      let spoken : Past counted (next r) c (announced counted effect c (entered c r, mails)) = ordered_place counted (next r) c (order_result c effect) c _ answered_it in
-      let said = announced counted effect c (entered c r, mails) in
-      let taught = learnt_place counted (members r) (next r) c said spoken in
-      let welcome = welcomed_place ahead base made heard me older before counted (members r) said.0 (learnt_to counted (members r) (next r) c said) (learnt_same counted (members r) (next r) c said) taught spoken.runs_is in
-      let past = subst (λ (s : ReplicaState). next r < next s) (sym welcome.1) spoken.executed_is in
+      let heard_of : Past counted (next r) c (announced counted effect c (entered c r, mails)) = ordered_place counted (next r) c (order_result c effect) c _ answered_it in
+      let spoke = spoken_place counted (next r) c (before_of r.group.core) effect c (announced counted effect c (entered c r, mails)) m heard_of in
+      let said = spoken counted (before_of r.group.core) effect c (announced counted effect c (entered c r, mails)) in
+      let taught = learnt_place counted (members r) (next r) c said spoke in
+      let welcome = welcomed_place ahead base made heard me older before counted (members r) said.0 (learnt_to counted (members r) (next r) c said) (learnt_same counted (members r) (next r) c said) taught spoke.runs_is in
+      let past = subst (λ (s : ReplicaState). next r < next s) (sym welcome.1) spoke.executed_is in
       looked_place _ (left_place _ (landed_place counted (next r) c _ welcome.0 past))
 
   -- what is chosen was requested
@@ -306,11 +331,13 @@ module _ (ahead : Ahead) (base : Base) (made : Command → Type 0) (heard : Mail
       let offer = learnt_offered (rule ahead base) (first ahead base) (f.newer ++ before) f.lawful slot c t in
       f.requested offer.0 slot c offer.1
 
-  next_ready_among : (r : ReplicaState) (c : Command) → next_ready r ≡ Some c → Among (next r, c) r.ready
+  -- a ready command that is executed next is ready at the next slot
+  pub next_ready_among : (r : ReplicaState) (c : Command) → next_ready r ≡ Some c → Among (next r, c) r.ready
   next_ready_among r c e =
       cond_both (r.running && has_room r) (at_slot r.ready (next r)) None (λ o. o ≡ Some c → Among (next r, c) r.ready) (λ _ k. slot_among r.ready (next r) c k) (λ _ k. cc) e
 
-  next_ready_runs : (r : ReplicaState) (c : Command) → next_ready r ≡ Some c → r.running ≡ true
+  -- ... and then the replica runs
+  pub next_ready_runs : (r : ReplicaState) (c : Command) → next_ready r ≡ Some c → r.running ≡ true
   next_ready_runs r c e =
       cond_both (r.running && has_room r) (at_slot r.ready (next r)) None (λ o. o ≡ Some c → r.running ≡ true) (λ t k. (and_parts r.running (has_room r) t).0) (λ _ k. cc) e
 

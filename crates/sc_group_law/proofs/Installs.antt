@@ -1,5 +1,5 @@
 -- The rows in which a state is taken over, and in which a node is told an order.
-use Rattle.std.proofs.Common.{◌≡◌, ℕ, ◌+◌, ◌≤◌, ◌||◌, not, nat_lt, true, false, eqb, List, [], ◌∷◌, ◌++◌, length, Option, Some, None, is_some, refl, sym, ◌∙◌, ap, subst, arith}
+use Rattle.std.proofs.Common.{◌≡◌, ℕ, ◌+◌, ◌≤◌, ◌||◌, not, nat_lt, true, false, eqb, List, [], ◌∷◌, ◌++◌, length, Option, Some, None, refl, sym, ◌∙◌, ap, subst, arith}
 use Rattle.std.proofs.lemmas.Bool.{eqb-true, ltb-false, or_parts, not-false, cond_both}
 use Rattle.std.proofs.lemmas.List.{drop_all}
 use Rattle.sc_base.specs.declared.names.Ballot.{Ballot}
@@ -8,14 +8,12 @@ use Rattle.sc_cmd.specs.declared.commands.Command.{Command}
 use Rattle.sc_cmd.specs.declared.cores.Base.{Base}
 use Rattle.sc_cmd.specs.declared.orders.OrderLine.{OrderLine}
 use Rattle.sc_cmd.specs.declared.orders.OrderRefusal.{OrderRefusal}
-use Rattle.sc_cmd.specs.declared.orders.OrderRefusal.TheVariants.{NotLeader}
 use Rattle.sc_cmd.specs.declared.orders.ToldResult.{ToldResult}
 use Rattle.sc_cmd.specs.declared.orders.ToldResult.TheVariants.{Refused}
 use Rattle.sc_mail.specs.declared.bodies.Mail.{Mail}
 use Rattle.sc_mail.specs.declared.bodies.MailBody.{MailBody}
 use Rattle.sc_mail.specs.declared.bodies.MailBody.TheVariants.{Told}
 use Rattle.sc_machine_table.specs.Group.{Group, group_of}
-use Rattle.sc_machine_table.specs.Orders.{refusal_of}
 use Rattle.sc_member.specs.Roster.{is_member}
 use Rattle.sc_base.specs.Among.{Among, Each}
 use Rattle.sc_paxos_words.specs.Acceptors.{born_acceptor}
@@ -24,14 +22,15 @@ use Rattle.sc_paxos_words.specs.Leaders.{first_leader}
 use Rattle.sc_paxos_words.proofs.ListLemmas.{Each-among, Each-append}
 use Rattle.sc_paxos_law.specs.Steps.{Offered}
 use Rattle.sc_paxos_law.specs.Lawful.{IsLawfulHistory}
-use Rattle.sc_node_table.specs.Replica.{ReplicaState, Place, first_ballot, name_of, next, members, settled, last_slot, forgotten, waits_in, installed_replica}
+use Rattle.sc_node_table.specs.Replica.{ReplicaState, Place, first_ballot, name_of, next, members, last_slot, forgotten, waits_in, installed_replica}
 use Rattle.sc_node_table.specs.Mails.{told_desk}
 use Rattle.sc_node_table.specs.Election.{ended, stopped}
 use Rattle.sc_node_table.specs.Install.{named, jumped}
-use Rattle.sc_node_table.specs.Rows.{looked_up, took_over, install_row, made_by, command_of, order_queued, order_taken, order_row}
+use Rattle.sc_node_table.specs.Rows.{looked_up, took_over, install_row, made_by}
+use Rattle.sc_node_table.specs.Ordering.{ordered_command, untaken, taken_or_told, ordered_row}
+use Rattle.sc_base.specs.Drawing.{Drawer, next_name}
 use Rattle.sc_hist_law.proofs.Logs.{state_same}
 use Rattle.sc_players.specs.Players.{Ahead}
-use Rattle.sc_group_law.specs.Orders.{IsOfMembers}
 use Rattle.sc_group_law.proofs.Growth.{IsFresh, fresh_state}
 use Rattle.sc_group_law.proofs.Held.{Mirrors, mirrors_itself, floor_low}
 use Rattle.sc_group_law.proofs.Invariant.{Steps, rule, first, birth, Grants, AreSets, HasLog, IsReplica, next_after, forgotten_replica, IsState, grown_state}
@@ -190,21 +189,14 @@ module _ (ahead : Ahead) (base : Base) (made : Command → Type 0) (heard : Mail
   told_place : (number : ℕ) (result : ToldResult) (r : ReplicaState) (mails : List Mail) → Ok (r, mails) → Ok (r, told_desk r.me number result mails)
   told_place number result r mails f = says ahead base made heard me older before r mails (record { from = r.me; to = 0; body = Told number result }) f refl tt tt
 
-  queued_place : (o : Option OrderRefusal) (number : ℕ) (c : Command) (r : ReplicaState) (mails : List Mail) → Ok (r, mails) → made c → Ok (order_queued o number c (r, mails))
+  queued_place : (o : Option OrderRefusal) (number : ℕ) (c : Command) (r : ReplicaState) (mails : List Mail) → Ok (r, mails) → made c → Ok (taken_or_told o number c (r, mails))
   queued_place (Some why) number c r mails f m = told_place number (Refused why) r mails f
   queued_place None number c r mails f m =
       fine_pumped ahead base made heard grants me older before some _
       (turn ahead base made heard me older before r (record r { calls = r.calls ++ c ∷ [] }) mails f
       (with_calls ahead base made heard grants me older before some (f.newer ++ before) r (r.calls ++ c ∷ []) f.replica (Each-append made r.calls (c ∷ []) f.replica.calls (m, tt))))
 
-  taken_place : (o : Option Command) (number : ℕ) (r : ReplicaState) (mails : List Mail) → ((c : Command) → o ≡ Some c → made c) → Ok (r, mails) → Ok (order_taken o number (r, mails))
-  taken_place None number r mails m f = f
-  taken_place (Some c) number r mails m f =
-      cond_both (is_some r.group.core.gone || not (settled r)) _ _ Ok
-      (λ _. told_place number (Refused (NotLeader r.hint)) r mails f)
-      (λ _. queued_place (refusal_of r.group.core c) number c r mails f (m c refl))
-
-  -- Told
-  pub fine_order_row : (line : OrderLine) → IsOfMembers line.order → (r : ReplicaState) (mails : List Mail) → Ok (r, mails) → Ok (order_row line (r, mails))
-  unfolding order_row
-  fine_order_row line plain r mails f = taken_place (command_of line) line.number r mails (λ c e. grants.asked line c plain e) f
+  -- Told: an order whose command may be queued
+  pub fine_ordered_row : (drawer : Drawer) (line : OrderLine) → made (ordered_command (next_name drawer) line.number line.order) → (r : ReplicaState) (mails : List Mail) → Ok (r, mails) → Ok (ordered_row drawer line (r, mails))
+  unfolding ordered_row
+  fine_ordered_row drawer line m r mails f = queued_place (untaken drawer line r) line.number (ordered_command (next_name drawer) line.number line.order) r mails f m

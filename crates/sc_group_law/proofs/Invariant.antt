@@ -13,6 +13,7 @@ use Rattle.sc_base.specs.Same.{same_draw}
 use Rattle.sc_cmd.specs.declared.commands.Command.{Command}
 use Rattle.sc_cmd.specs.declared.commands.Command.TheVariants.{Noop, Call}
 use Rattle.sc_cmd.specs.declared.cores.Base.{Base}
+use Rattle.sc_cmd.specs.declared.cores.Lock.TheVariants.{Free}
 use Rattle.sc_mail.specs.declared.bodies.AnswerBody.{AnswerBody}
 use Rattle.sc_mail.specs.declared.bodies.AnswerBody.TheVariants as Says
 use Rattle.sc_mail.specs.declared.bodies.Mail.{Mail}
@@ -32,14 +33,12 @@ use Rattle.sc_paxos_law.specs.Lawful.{CountedPromise}
 use Rattle.sc_paxos_law.proofs.Among.{Among-right}
 use Rattle.sc_paxos_law.proofs.Law.{later_log}
 use Rattle.sc_node_table.specs.Replica.{ReplicaState, first_ballot, next, floor_of, forgotten}
-use Rattle.sc_hist_law.specs.Laws.{IsReplied, LeavesWhole}
-use Rattle.sc_group_law.specs.Orders.{IsOfMembers}
+use Rattle.sc_hist_law.specs.Laws.{IsReplied}
 use Rattle.sc_players.specs.Players.{Ahead}
 use Rattle.sc_machine_table.specs.Logs.{state_after}
-use Rattle.sc_cmd.specs.declared.orders.OrderLine.{OrderLine}
-use Rattle.sc_node_table.specs.Rows.{command_of}
 use Rattle.sc_sound.specs.Logs.{rule_of}
 use Rattle.sc_machine_table.proofs.LogLemmas.{state_push}
+use Rattle.sc_group_law.proofs.Quiet.{IsQuiet}
 use Rattle.sc_group_law.proofs.Growth.{IsLearnt, By, later_learnt, grown_learnt, state_kept}
 use Rattle.sc_group_law.proofs.Held.{Mirrors, cut_mirrors, max_is}
 use Rattle.sc_paxos_law.proofs.Decided.{later_logs}
@@ -75,11 +74,11 @@ module _ (ahead : Ahead) (base : Base) where
   abbrev pub IsTaken : LeaderState Command → List (ℕ × Command) → ℕ → Type 0
   IsTaken leader ready slot = ((flight : Flight Command) × Among flight leader.flights × (flight.slot ≡ slot)) ⊎ ((command : Command) × Among (slot, command) ready)
 
-  -- which commands a replica of the group may queue besides requests: nothing, and what orders to join and leave ask for; and so far none that divides the group or is of a transaction, nor is a mail of one sent
+  -- which commands a replica of the group may queue: a Noop, and so far none that is of a transaction; what may be queued locks the group in none, and no mail of one is sent
   pub record Grants (made : Command → Type 0) (heard : MailBody → Type 0) : Type 0 where
     pub noop : made Noop
-    pub asked : (line : OrderLine) (c : Command) → IsOfMembers line.order → command_of line ≡ Some c → made c
-    pub whole : (c : Command) → made c → LeavesWhole c
+    pub quiet : (c : Command) → made c → IsQuiet c
+    pub free : (log : List Command) → Each made log → (state_after birth log).core.lock ≡ Free
     pub unheard : (body : MailBody) → heard body → ⊥
 
   -- ---- what is held of the log

@@ -3,6 +3,7 @@ pub mod Parts
 pub mod Growth
 pub mod Rosters
 pub mod Held
+pub mod Quiet
 pub mod Invariant
 pub mod Midway
 pub mod Sending
@@ -11,11 +12,13 @@ pub mod Entering
 pub mod Welcoming
 pub mod Executing
 pub mod Counting
+pub mod Offspring
 pub mod Rows
 pub mod Installs
 pub mod Voting
 pub mod Frames
 pub mod Holding
+pub mod Newborn
 pub mod Names
 pub mod Nodes
 pub mod Ticks

@@ -51,14 +51,6 @@ quiet_steps group who event body sent before e =
     ap (λ (x : Steps). x ++ accepts_of group (node_row who event sent) body ++ asked_in group sent before) (quiet_promises group who event sent e body)
     ∙ ap (λ (x : Steps). x ++ asked_in group sent before) (quiet_accepts group who event sent e body) ∙ no_asked group sent before e
 
--- what is sent where there is no replica is no step
-pub absent_replies : (me from : ℕ) (body : MailBody) → ArePlain (absent me from body)
-absent_replies me from (Request group client seq op) = (tt, tt)
-absent_replies me from (Prepare group b start) = (tt, tt)
-absent_replies me from (Accept group b slot c) = (tt, tt)
-absent_replies me from (Learn group slot c) = (tt, tt)
-absent_replies me from _ = tt
-
 -- ---- names
 
 -- a name is that of one of these groups
@@ -89,6 +81,16 @@ IsNamed bases (TxElsewhere tx coord hint) = ⊥
 IsNamed bases (TxWatch tx watch) = ⊥
 IsNamed bases (TxWatched tx coord part vote) = ⊥
 IsNamed bases (Told number result) = Unit {0}
+
+-- what is sent where there is no replica is no step
+pub absent_replies : (bases : List Base) (me from : ℕ) (body : MailBody) → IsNamed bases body → ArePlain (absent me from body)
+absent_replies bases me from (Request group client seq op) one = (tt, tt)
+absent_replies bases me from (Prepare group b start) one = (tt, tt)
+absent_replies bases me from (Accept group b slot c) one = (tt, tt)
+absent_replies bases me from (Learn group slot c) one = (tt, tt)
+absent_replies bases me from (TxPrepare tx offer) one = absurd one
+absent_replies bases me from (TxWatch tx watch) one = absurd one
+absent_replies bases me from _ one = tt
 
 answer_named : (bases : List Base) (group : Draw) (answer : AnswerBody) → IsOneOf bases group → IsNamedAnswer bases group answer
 answer_named bases group (Says.Value reply) one = one
@@ -124,16 +126,20 @@ absent_named bases me from (Accept group b slot c) one mail (inl e) = subst (λ 
 absent_named bases me from (Accept group b slot c) one mail (inr n) = absurd n
 absent_named bases me from (Learn group slot c) one mail (inl e) = subst (λ (m : Mail). IsNamed bases m.body) e one
 absent_named bases me from (Learn group slot c) one mail (inr n) = absurd n
+absent_named bases me from (TxPrepare tx offer) one mail a = absurd one
+absent_named bases me from (TxWatch tx watch) one mail a = absurd one
 absent_named bases me from _ one mail a = absurd a
 
 -- ... and true
-pub absent_true : (ahead : Ahead) (base : Base) (made : Command → Type 0) (heard : MailBody → Type 0) (h : Steps) (me from : ℕ) (body : MailBody) (mail : Mail) → Among mail (absent me from body) → IsTrue ahead base made heard h mail mail.body
-absent_true ahead base made heard h me from (Request group client seq op) mail (inl e) = subst (λ (m : Mail). IsTrue ahead base made heard h m m.body) e (λ _. tt)
-absent_true ahead base made heard h me from (Request group client seq op) mail (inr n) = absurd n
-absent_true ahead base made heard h me from (Prepare group b start) mail (inl e) = subst (λ (m : Mail). IsTrue ahead base made heard h m m.body) e tt
-absent_true ahead base made heard h me from (Prepare group b start) mail (inr n) = absurd n
-absent_true ahead base made heard h me from (Accept group b slot c) mail (inl e) = subst (λ (m : Mail). IsTrue ahead base made heard h m m.body) e tt
-absent_true ahead base made heard h me from (Accept group b slot c) mail (inr n) = absurd n
-absent_true ahead base made heard h me from (Learn group slot c) mail (inl e) = subst (λ (m : Mail). IsTrue ahead base made heard h m m.body) e tt
-absent_true ahead base made heard h me from (Learn group slot c) mail (inr n) = absurd n
-absent_true ahead base made heard h me from _ mail a = absurd a
+pub absent_true : (bases : List Base) (ahead : Ahead) (base : Base) (made : Command → Type 0) (heard : MailBody → Type 0) (h : Steps) (me from : ℕ) (body : MailBody) → IsNamed bases body → (mail : Mail) → Among mail (absent me from body) → IsTrue ahead base made heard h mail mail.body
+absent_true bases ahead base made heard h me from (Request group client seq op) one mail (inl e) = subst (λ (m : Mail). IsTrue ahead base made heard h m m.body) e (λ _. tt)
+absent_true bases ahead base made heard h me from (Request group client seq op) one mail (inr n) = absurd n
+absent_true bases ahead base made heard h me from (Prepare group b start) one mail (inl e) = subst (λ (m : Mail). IsTrue ahead base made heard h m m.body) e tt
+absent_true bases ahead base made heard h me from (Prepare group b start) one mail (inr n) = absurd n
+absent_true bases ahead base made heard h me from (Accept group b slot c) one mail (inl e) = subst (λ (m : Mail). IsTrue ahead base made heard h m m.body) e tt
+absent_true bases ahead base made heard h me from (Accept group b slot c) one mail (inr n) = absurd n
+absent_true bases ahead base made heard h me from (Learn group slot c) one mail (inl e) = subst (λ (m : Mail). IsTrue ahead base made heard h m m.body) e tt
+absent_true bases ahead base made heard h me from (Learn group slot c) one mail (inr n) = absurd n
+absent_true bases ahead base made heard h me from (TxPrepare tx offer) one mail a = absurd one
+absent_true bases ahead base made heard h me from (TxWatch tx watch) one mail a = absurd one
+absent_true bases ahead base made heard h me from _ one mail a = absurd a

@@ -1,5 +1,5 @@
 -- What holds of a node with its replicas, and what comes of mail and orders.
-use Rattle.std.proofs.Common.{◌≡◌, ℕ, ◌||◌, not, nat_lt, true, false, eqb, List, [], ◌∷◌, ◌++◌, length, Option, Some, None, inl, inr, refl, sym, ◌∙◌, ap, subst, append-nil}
+use Rattle.std.proofs.Common.{◌≡◌, ℕ, ◌||◌, not, nat_lt, true, false, cond, eqb, List, [], ◌∷◌, ◌++◌, length, Option, Some, None, is_some, inl, inr, refl, sym, ◌∙◌, ap, subst, append-nil}
 use Rattle.std.proofs.lemmas.Bool.{cases_Bool, cond_both}
 use Rattle.sc_base.specs.declared.names.Ballot.{Ballot}
 use Rattle.sc_base.specs.declared.names.Draw.{Draw}
@@ -15,28 +15,32 @@ use Rattle.sc_cmd.specs.declared.orders.ToldResult.TheVariants.{Refused}
 use Rattle.sc_cmd.specs.declared.orders.OrderRefusal.TheVariants.{NotLeader}
 use Rattle.sc_actor.specs.declared.rows.Event.{Event}
 use Rattle.sc_base.specs.Among.{Among, Each}
-use Rattle.sc_paxos_words.proofs.ListLemmas.{Each-among, Each-from, find_found}
+use Rattle.sc_paxos_words.proofs.ListLemmas.{Each-among, Each-from, Each-weaker, find_found}
 use Rattle.sc_paxos_law.specs.Steps.{Offered}
 use Rattle.sc_paxos_law.specs.Lawful.{IsLawfulHistory}
-use Rattle.sc_node_table.specs.Node.{NodeState, replica_of, with_replica, with_new, group_of_mail, absent, with_made, unknown, may_come, taken_by, routed, on_mail, group_of_order, ordered_of, on_order}
+use Rattle.sc_node_table.specs.Node.{NodeState, replica_of, with_replica, with_new, group_of_mail, absent, with_made, unknown, may_come, with_born, with_children, taken_by, routed, on_mail, group_of_order, ordered_of, on_order}
+use Rattle.sc_node_table.specs.Births.{mailed_children}
+use Rattle.sc_node_table.specs.Ordering.{ordered_command, ordered_row, names_after}
+use Rattle.sc_base.specs.Drawing.{Drawer, next_name}
 use Rattle.sc_node_table.specs.Slots.{slots_ahead}
 use Rattle.sc_node_table.specs.Mails.{told_desk}
-use Rattle.sc_node_table.specs.Replica.{ReplicaState, Place, name_of, last_slot}
+use Rattle.sc_node_table.specs.Replica.{ReplicaState, Place, name_of, born_replica, last_slot}
 use Rattle.sc_node_table.specs.Voting.{prepare_row}
-use Rattle.sc_node_table.specs.Rows.{made_by, mailed, order_row}
+use Rattle.sc_node_table.specs.Rows.{made_by, mailed}
 use Rattle.sc_players.specs.Players.{Ahead}
 use Rattle.sc_group_law.specs.Steps.{asked_in}
-use Rattle.sc_group_law.specs.Orders.{IsOfMembers}
 use Rattle.sc_group_law.proofs.Growth.{By}
 use Rattle.sc_group_law.proofs.Invariant.{Steps, rule, first, Grants, IsReplica, IsTrue}
 use Rattle.sc_group_law.proofs.Midway.{Fine}
-use Rattle.sc_group_law.proofs.Installs.{fine_install_row, made_place, fine_order_row}
+use Rattle.sc_group_law.proofs.Installs.{fine_install_row, made_place, fine_ordered_row}
 use Rattle.sc_group_law.proofs.Sending.{name_is}
 use Rattle.sc_group_law.proofs.Counting.{fine_promise_row, fine_accepted_row}
 use Rattle.sc_group_law.proofs.Rows.{fine_nack_row, fine_learn_row, fine_ask_row, fine_request_row}
 use Rattle.sc_group_law.proofs.Names.{quiet_steps, absent_replies, IsOneOf, IsNamed, own_named, absent_named, absent_true}
 use Rattle.sc_group_law.proofs.Voting.{ArePlain, promised_in, Ended, ended_by, prepare_ended, accept_ended}
 use Rattle.sc_group_law.proofs.Frames.{steps_of, AreFar, own_far, far_true, far_all, far_steps}
+use Rattle.sc_group_law.proofs.Offspring.{IsChildOf, learnt_are, accepted_are}
+use Rattle.sc_group_law.proofs.Newborn.{born_replica_is}
 use Rattle.sc_group_law.proofs.Holding.{each_with, each_new, Holds, held, none_held, with_held, with_far, new_held, new_far}
 use Rattle.sc_base.proofs.NameLemmas.{same_name, draw_is}
 
@@ -110,6 +114,19 @@ module _ (ahead : Ahead) (base : Base) (made : Command → Type 0) (heard : Mail
   mailed_ended event mail (TxWatch tx watch) r k named into is t = absurd (grants.unheard (TxWatch tx watch) t)
   mailed_ended event mail (TxWatched tx coord part vote) r k named into is t = absurd (grants.unheard (TxWatched tx coord part vote) t)
 
+  -- the children that a mail makes are those of fronts of the log
+  mailed_kids : (mail : Mail) (body : MailBody) (r : ReplicaState) → IsReplica ahead base made before me r → (g : Draw) → group_of_mail body ≡ Some g → g ≡ group
+      → IsTrue ahead base made heard before mail body → Each (IsChildOf ahead base made me before) (mailed_children mail.from body (r, []) [])
+  unfolding mailed_children start
+  mailed_kids mail (AcceptedMail g b slot) r k named into is t =
+      let same : g ≡ group = (let one : g ≡ named = cc in one ∙ is) in
+      let told = t (same_name g group same) in
+      accepted_are ahead base made heard grants me before some mail.from b slot told.0 r [] (start [] r k) told.1
+  mailed_kids mail (Learn g slot c) r k named into is t =
+      let same : g ≡ group = (let one : g ≡ named = cc in one ∙ is) in
+      learnt_are ahead base made heard grants me before some slot c r [] (start [] r k) (t (same_name g group same))
+  mailed_kids mail _ r k named into is t = tt
+
   -- the end of a row of a node, as the group sees it
   pub record PartEnded (after : Steps) (step : NodeState × List Mail) : Type 0 where
     pub newer : Steps
@@ -147,12 +164,18 @@ module _ (ahead : Ahead) (bases : List Base) (made : Base → Command → Type 0
     -- of each group it has one replica, or none and no step
     pub holds : (base : Base) → Among base bases → Holds ahead base (made base) me (h base) node.replicas
 
-  module _ (heard : MailBody → Type 0) (grants : (base : Base) → Grants ahead base (made base) heard) (me : ℕ) (h : Base → Steps)
+  -- a child of these groups, of whose name there is no other
+  pub record IsNewborn (child : Base) : Type 0 where
+    pub among : Among child bases
+    pub alone : (base : Base) → Among base bases → base.core.id ≡ child.core.id → base ≡ child
+    pub open_slots : ahead.slots ≡ slots_ahead
+
+  module _ (heard : MailBody → Type 0) (grants : (base : Base) → Among base bases → Grants ahead base (made base) heard) (me : ℕ) (h : Base → Steps)
       (some : (base : Base) → Among base bases → (log : List Command) → Each (made base) log → (node : ℕ) × (rest : List ℕ) × ((rule ahead base).members log ≡ node ∷ rest))
       (lawful : (base : Base) → Among base bases → IsLawfulHistory (rule ahead base) (first ahead base) (h base))
       (requested : (base : Base) → Among base bases → (b : Ballot) (slot : ℕ) (c : Command) → Among (Offered b slot c) (h base) → made base c) where
     abbrev Part : (base : Base) → Among base bases → Steps → NodeState × List Mail → Type 0
-    Part base a after step = PartEnded ahead base (made base) heard (grants base) me (h base) (some base a) (lawful base a) (requested base a) after step
+    Part base a after step = PartEnded ahead base (made base) heard (grants base a) me (h base) (some base a) (lawful base a) (requested base a) after step
 
     -- the end of a node's row: after the row these are the steps of each group
     pub record NodeEnded (after : Base → Steps) (step : NodeState × List Mail) : Type 0 where
@@ -178,14 +201,14 @@ module _ (ahead : Ahead) (bases : List Base) (made : Base → Command → Type 0
       me_is = k.me_is;
       known = k.known;
       named = named;
-      parts = λ base a. no_part ahead base (made base) heard (grants base) me (h base) (some base a) (lawful base a) (requested base a) (after base) (node, sent) (same base a) (k.holds base a) (t base a);
+      parts = λ base a. no_part ahead base (made base) heard (grants base a) me (h base) (some base a) (lawful base a) (requested base a) (after base) (node, sent) (same base a) (k.holds base a) (t base a);
     }
 
     -- ---- one replica's row
 
     -- the mails of a replica's row are of no other group
-    far_sent : (base : Base) (before after : Steps) (place : Place) → Ended ahead base (made base) heard me before after place → (name : Draw) → same_draw base.core.id name ≡ false → AreFar name place.1
-    far_sent base before after place e name f = Each-from _ place.1 (λ m a. own_far ahead base heard (grants base).unheard name f m.body (e.own m a))
+    far_sent : (base : Base) → Among base bases → (before after : Steps) (place : Place) → Ended ahead base (made base) heard me before after place → (name : Draw) → same_draw base.core.id name ≡ false → AreFar name place.1
+    far_sent base a before after place e name f = Each-from _ place.1 (λ m b. own_far ahead base heard (grants base a).unheard name f m.body (e.own m b))
 
     ended_name : (base : Base) → Among base bases → (before after : Steps) (place : Place) → Ended ahead base (made base) heard me before after place → name_of place.0 ≡ base.core.id
     ended_name base a before after place e = name_is ahead base (made base) heard me [] before (e.newer ++ before) place.0 e.replica
@@ -205,17 +228,17 @@ module _ (ahead : Ahead) (bases : List Base) (made : Base → Command → Type 0
         record {
           me_is = k.me_is;
           known = each_with (λ s. IsOneOf bases (name_of s)) g place.0 node.replicas k.known (mine.0, mine.1, new_name);
-          named = λ m a. own_named ahead heard (grants mine.0).unheard bases mine.0 mine.1 m.body (e.own m a);
+          named = λ m a. own_named ahead heard (grants mine.0 mine.1).unheard bases mine.0 mine.1 m.body (e.own m a);
           parts = λ base a. elim (cases_Bool (same_draw g base.core.id)) [
             | inl t ↦ (
                 let same = draw_is g base.core.id t in
                 let ended = ends base a same (held ahead base (made base) me (h base) node.replicas (k.holds base a) r there.0 (named ∙ same)) in
-                own_part ahead base (made base) heard (grants base) me (h base) (some base a) (lawful base a) (requested base a) (after base) place step refl ended
+                own_part ahead base (made base) heard (grants base a) me (h base) (some base a) (lawful base a) (requested base a) (after base) place step refl ended
                 (with_held ahead base (made base) me (h base) (ended.newer ++ h base) g same place.0 (ended_name base a (h base) (after base) place ended) ended.replica node.replicas r (k.holds base a) found))
             | inr f ↦ (
                 let apart_from : same_draw mine.0.core.id base.core.id ≡ false = ap (λ d. same_draw d base.core.id) (sym is) ∙ f in
-                let sent = far_sent mine.0 (h mine.0) (after mine.0) place e base.core.id apart_from in
-                no_part ahead base (made base) heard (grants base) me (h base) (some base a) (lawful base a) (requested base a) (after base) step (far base a f sent)
+                let sent = far_sent mine.0 mine.1 (h mine.0) (after mine.0) place e base.core.id apart_from in
+                no_part ahead base (made base) heard (grants base a) me (h base) (some base a) (lawful base a) (requested base a) (after base) step (far base a f sent)
                 (with_far ahead base (made base) me (h base) g f place.0 (λ same. apart_names g base.core.id f (is ∙ sym new_name ∙ same)) node.replicas (k.holds base a))
                 (λ m b. far_true ahead base (made base) heard (h base) m m.body (Each-among _ place.1 m sent b)))
           ];
@@ -224,7 +247,59 @@ module _ (ahead : Ahead) (bases : List Base) (made : Base → Command → Type 0
         apart_names : (one other : Draw) → same_draw one other ≡ false → one ≡ other → ⊥
         apart_names one other f e = let no_way : true ≡ false = sym (same_name one other e) ∙ f in absurd (cc)
 
+    -- the node draws other names
+    redrawn : (after : Base → Steps) (node : NodeState) (draws : Drawer) (sent : List Mail) → NodeEnded after (node, sent) → NodeEnded after (record node { draws = draws }, sent)
+    redrawn after node draws sent e = record {
+      me_is = e.me_is;
+      known = e.known;
+      named = e.named;
+      parts = λ base a. (let p = e.parts base a in
+          record { newer = p.newer; are = p.are; by = p.by; lawful_is = p.lawful_is; requested_is = p.requested_is; holds = p.holds; mails = p.mails });
+    }
+
+    -- ---- children
+
+    born_part : (after : Base → Steps) (child : Base) (node : NodeState) (sent : List Mail) → IsNewborn child → node.me ≡ me → replica_of child.core.id node.replicas ≡ None → (base : Base) (a : Among base bases)
+        → Part base a (after base) (node, sent) → Part base a (after base) (record node { replicas = with_new (born_replica slots_ahead node.me child) node.replicas }, sent)
+    born_part after child node sent new mine none base a p =
+        let steps = p.newer ++ h base in
+        let holds : Holds ahead base (made base) me steps (with_new (born_replica slots_ahead node.me child) node.replicas) =
+        elim (cases_Bool (same_draw child.core.id base.core.id)) [
+          | inl t ↦ (
+              let same = draw_is child.core.id base.core.id t in
+              let free = none_held ahead base (made base) me steps child.core.id same node.replicas p.holds none in
+              let is = born_replica_is ahead base (made base) steps me free.1 in
+              let it : born_replica ahead.slots me base ≡ born_replica slots_ahead node.me child =
+              ap (λ n. born_replica n me base) new.open_slots ∙ ap (λ n. born_replica slots_ahead n base) (sym mine) ∙ ap (born_replica slots_ahead node.me) (new.alone base a (sym same)) in
+              new_held ahead base (made base) me steps (born_replica slots_ahead node.me child) same (subst (IsReplica ahead base (made base) steps me) it is) node.replicas free.0)
+          | inr f ↦ new_far ahead base (made base) me steps (born_replica slots_ahead node.me child) (λ same. (let no_way : true ≡ false = sym (same_name child.core.id base.core.id same) ∙ f in absurd (cc))) node.replicas p.holds
+        ] in
+        record { newer = p.newer; are = p.are; by = p.by; lawful_is = p.lawful_is; requested_is = p.requested_is; holds = holds; mails = p.mails }
+
+    -- a child is born, unless its replica is there
+    born_one : (after : Base → Steps) (child : Base) (node : NodeState) (sent : List Mail) → IsNewborn child → NodeEnded after (node, sent) → NodeEnded after (with_born child node, sent)
+    born_one after child node sent new e = by (replica_of child.core.id node.replicas) refl
+      where
+        by : (o : Option ReplicaState) → replica_of child.core.id node.replicas ≡ o
+            → NodeEnded after (cond (is_some o) node (record node { replicas = with_new (born_replica slots_ahead node.me child) node.replicas }), sent)
+        by (Some r) found = e
+        by None none = record {
+          me_is = e.me_is;
+          known = each_new (λ r. IsOneOf bases (name_of r)) (born_replica slots_ahead node.me child) node.replicas e.known (child, new.among, refl);
+          named = e.named;
+          parts = λ base a. born_part after child node sent new e.me_is none base a (e.parts base a);
+        }
+
+    born_all : (after : Base → Steps) (children : List Base) (node : NodeState) (sent : List Mail) → Each IsNewborn children → NodeEnded after (node, sent) → NodeEnded after (with_children children node, sent)
+    unfolding with_children
+    born_all after [] node sent new e = e
+    born_all after (child ∷ children) node sent new e = born_all after children (with_born child node) sent new.1 (born_one after child node sent new.0 e)
+
     -- ---- a mail
+
+    -- each child of a group at the node is one of the groups
+    abbrev pub HasOffspring : Type 0
+    HasOffspring = (base : Base) → Among base bases → (child : Base) → IsChildOf ahead base (made base) me (h base) child → IsNewborn child
 
     abbrev Goal : Event OrderLine → MailBody → NodeState × List Mail → Type 0
     Goal event body step = NodeEnded (λ base. steps_of base.core.id me event body step.1 (h base)) step
@@ -241,8 +316,8 @@ module _ (ahead : Ahead) (bases : List Base) (made : Base → Command → Type 0
 
     absent_ended : (event : Event OrderLine) (mail : Mail) (body : MailBody) (node : NodeState) → IsNode h me node → IsNamed bases body → Goal event body (node, absent node.me mail.from body)
     absent_ended event mail body node k named =
-        quiet event body node (absent node.me mail.from body) k (absent_replies node.me mail.from body) (absent_named bases node.me mail.from body named)
-        (λ base a m b. absent_true ahead base (made base) heard (h base) node.me mail.from body m b)
+        quiet event body node (absent node.me mail.from body) k (absent_replies bases node.me mail.from body named) (absent_named bases node.me mail.from body named)
+        (λ base a m b. absent_true bases ahead base (made base) heard (h base) node.me mail.from body named m b)
 
     -- a node without a replica of the group makes one of the state that it is sent
     made_ended : (event : Event OrderLine) (mail : Mail) (g : Draw) (slot : ℕ) (state : Base) (sets : List (List ℕ)) (node : NodeState) → IsNode h me node → replica_of g node.replicas ≡ None → IsOneOf bases g
@@ -253,25 +328,25 @@ module _ (ahead : Ahead) (bases : List Base) (made : Base → Command → Type 0
         let step : NodeState × List Mail = (record node { replicas = with_new place.0 node.replicas }, place.1) in
         let ends = λ (base : Base) (a : Among base bases) (is : g ≡ base.core.id). (
         let fresh = none_held ahead base (made base) me (h base) g is node.replicas (k.holds base a) none in
-        by_fine ahead base (made base) heard (grants base) me (h base) (some base a) (lawful base a) (requested base a) event body place
-        (made_place ahead base (made base) heard (grants base) me [] (h base) (some base a) refl node.me mail.from g slot state sets k.me_is is fresh.1 (lawful base a) (requested base a) (t base a (same_name g base.core.id is))) refl) in
+        by_fine ahead base (made base) heard (grants base a) me (h base) (some base a) (lawful base a) (requested base a) event body place
+        (made_place ahead base (made base) heard (grants base a) me [] (h base) (some base a) refl node.me mail.from g slot state sets k.me_is is fresh.1 (lawful base a) (requested base a) (t base a (same_name g base.core.id is))) refl) in
         let e = ends one.0 one.1 one.2 in
         let new_name = ended_name one.0 one.1 (h one.0) _ place e in
         record {
           me_is = k.me_is;
           known = each_new (λ s. IsOneOf bases (name_of s)) place.0 node.replicas k.known (one.0, one.1, new_name);
-          named = λ m a. own_named ahead heard (grants one.0).unheard bases one.0 one.1 m.body (e.own m a);
+          named = λ m a. own_named ahead heard (grants one.0 one.1).unheard bases one.0 one.1 m.body (e.own m a);
           parts = λ base a. elim (cases_Bool (same_draw g base.core.id)) [
             | inl t ↦ (
                 let same = draw_is g base.core.id t in
                 let ended = ends base a same in
-                own_part ahead base (made base) heard (grants base) me (h base) (some base a) (lawful base a) (requested base a) _ place step refl ended
+                own_part ahead base (made base) heard (grants base a) me (h base) (some base a) (lawful base a) (requested base a) _ place step refl ended
                 (new_held ahead base (made base) me (ended.newer ++ h base) place.0 (ended_name base a (h base) _ place ended) ended.replica node.replicas
                 (none_held ahead base (made base) me (h base) g same node.replicas (k.holds base a) none).0))
             | inr f ↦ (
                 let apart_from : same_draw one.0.core.id base.core.id ≡ false = ap (λ d. same_draw d base.core.id) (sym one.2) ∙ f in
-                let sent = far_sent one.0 (h one.0) _ place e base.core.id apart_from in
-                no_part ahead base (made base) heard (grants base) me (h base) (some base a) (lawful base a) (requested base a) _ step
+                let sent = far_sent one.0 one.1 (h one.0) _ place e base.core.id apart_from in
+                no_part ahead base (made base) heard (grants base a) me (h base) (some base a) (lawful base a) (requested base a) _ step
                 (far_steps base.core.id me event g f body refl place.1 (h base) sent)
                 (new_far ahead base (made base) me (h base) place.0 (λ same. (let no_way : true ≡ false = sym (same_name g base.core.id (one.2 ∙ sym new_name ∙ same)) ∙ f in absurd (cc))) node.replicas (k.holds base a))
                 (λ m b. far_true ahead base (made base) heard (h base) m m.body (Each-among _ place.1 m sent b)))
@@ -287,33 +362,45 @@ module _ (ahead : Ahead) (bases : List Base) (made : Base → Command → Type 0
         (λ _. made_ended event mail named slot state sets node k (ap (λ d. replica_of d node.replicas) same ∙ none) one t)
     unknown_ended event mail body g into node k none one t = absent_ended event mail body node k one
 
-    taken_ended : (event : Event OrderLine) (mail : Mail) (body : MailBody) (g : Draw) → group_of_mail body ≡ Some g → (node : NodeState) → IsNode h me node → IsNamed bases body → IsTrueOfAll mail body
+    new_kids : (mail : Mail) (body : MailBody) (g : Draw) → HasOffspring → group_of_mail body ≡ Some g → (node : NodeState) → IsNode h me node → IsTrueOfAll mail body → (r : ReplicaState) → replica_of g node.replicas ≡ Some r
+        → Each IsNewborn (mailed_children mail.from body (r, []) [])
+    new_kids mail body g offspring into node k t r found =
+        let there = find_found (λ (s : ReplicaState). same_draw (name_of s) g) node.replicas r found in
+        let named : name_of r ≡ g = draw_is (name_of r) g there.1 in
+        let mine = Each-among (λ s. IsOneOf bases (name_of s)) node.replicas r k.known there.0 in
+        let (base, a, is) = mine in
+        let was = held ahead base (made base) me (h base) node.replicas (k.holds base a) r there.0 is in
+        Each-weaker _ _ (offspring base a) (mailed_children mail.from body (r, []) [])
+        (mailed_kids ahead base (made base) heard (grants base a) me (h base) (some base a) (lawful base a) (requested base a) mail body r was g into (sym named ∙ is) (t base a))
+
+    taken_ended : (event : Event OrderLine) (mail : Mail) (body : MailBody) (g : Draw) → HasOffspring → group_of_mail body ≡ Some g → (node : NodeState) → IsNode h me node → IsNamed bases body → IsTrueOfAll mail body
         → (o : Option ReplicaState) → replica_of g node.replicas ≡ o → Goal event body (taken_by o g mail.from body node)
-    taken_ended event mail body g into node k one t None e = unknown_ended event mail body g into node k e one t
-    taken_ended event mail body g into node k one t (Some r) e =
+    taken_ended event mail body g offspring into node k one t None e = unknown_ended event mail body g into node k e one t
+    taken_ended event mail body g offspring into node k one t (Some r) e =
         let place = mailed mail.from body (r, []) in
-        one_row g r node k e place (λ base. steps_of base.core.id me event body place.1 (h base))
-        (λ base a is was. mailed_ended ahead base (made base) heard (grants base) me (h base) (some base a) (lawful base a) (requested base a) event mail body r was g into is (t base a))
-        (λ base a f sent. far_steps base.core.id me event g f body into place.1 (h base) sent)
+        born_all (λ base. steps_of base.core.id me event body place.1 (h base)) (mailed_children mail.from body (r, []) []) _ place.1 (new_kids mail body g offspring into node k t r e)
+        (one_row g r node k e place (λ base. steps_of base.core.id me event body place.1 (h base))
+        (λ base a is was. mailed_ended ahead base (made base) heard (grants base a) me (h base) (some base a) (lawful base a) (requested base a) event mail body r was g into is (t base a))
+        (λ base a f sent. far_steps base.core.id me event g f body into place.1 (h base) sent))
 
-    routed_ended : (event : Event OrderLine) (mail : Mail) (body : MailBody) (o : Option Draw) → group_of_mail body ≡ o → (node : NodeState) → IsNode h me node → IsNamed bases body → IsTrueOfAll mail body
+    routed_ended : (event : Event OrderLine) (mail : Mail) (body : MailBody) → HasOffspring → (o : Option Draw) → group_of_mail body ≡ o → (node : NodeState) → IsNode h me node → IsNamed bases body → IsTrueOfAll mail body
         → Goal event body (routed o mail.from body node)
-    routed_ended event mail body None into node k one t = nothing event body node k
-    routed_ended event mail body (Some g) into node k one t = taken_ended event mail body g into node k one t (replica_of g node.replicas) refl
+    routed_ended event mail body offspring None into node k one t = nothing event body node k
+    routed_ended event mail body offspring (Some g) into node k one t = taken_ended event mail body g offspring into node k one t (replica_of g node.replicas) refl
 
-    come_ended : (event : Event OrderLine) (mail : Mail) (body : MailBody) (node : NodeState) → IsNode h me node → IsNamed bases body → IsTrueOfAll mail body → Goal event body (on_mail mail.from body node)
-    come_ended event mail (TxPrepare tx offer) node k one t = absurd one
-    come_ended event mail (TxVote tx coord part vote) node k one t = absurd one
-    come_ended event mail (TxOutcome tx part outcome) node k one t = absurd one
-    come_ended event mail (TxElsewhere tx coord hint) node k one t = absurd one
-    come_ended event mail (TxWatch tx watch) node k one t = absurd one
-    come_ended event mail (TxWatched tx coord part vote) node k one t = absurd one
-    come_ended event mail body node k one t =
-        cond_both (may_come mail.from body) _ _ (Goal event body) (λ _. routed_ended event mail body (group_of_mail body) refl node k one t) (λ _. nothing event body node k)
+    come_ended : (event : Event OrderLine) (mail : Mail) (body : MailBody) → HasOffspring → (node : NodeState) → IsNode h me node → IsNamed bases body → IsTrueOfAll mail body → Goal event body (on_mail mail.from body node)
+    come_ended event mail (TxPrepare tx offer) offspring node k one t = absurd one
+    come_ended event mail (TxVote tx coord part vote) offspring node k one t = absurd one
+    come_ended event mail (TxOutcome tx part outcome) offspring node k one t = absurd one
+    come_ended event mail (TxElsewhere tx coord hint) offspring node k one t = absurd one
+    come_ended event mail (TxWatch tx watch) offspring node k one t = absurd one
+    come_ended event mail (TxWatched tx coord part vote) offspring node k one t = absurd one
+    come_ended event mail body offspring node k one t =
+        cond_both (may_come mail.from body) _ _ (Goal event body) (λ _. routed_ended event mail body offspring (group_of_mail body) refl node k one t) (λ _. nothing event body node k)
 
     -- a mail comes
-    pub mail_ended : (event : Event OrderLine) (mail : Mail) (node : NodeState) → IsNode h me node → IsNamed bases mail.body → IsTrueOfAll mail mail.body → Goal event mail.body (on_mail mail.from mail.body node)
-    mail_ended event mail node k one t = come_ended event mail mail.body node k one t
+    pub mail_ended : (event : Event OrderLine) (mail : Mail) → HasOffspring → (node : NodeState) → IsNode h me node → IsNamed bases mail.body → IsTrueOfAll mail mail.body → Goal event mail.body (on_mail mail.from mail.body node)
+    mail_ended event mail offspring node k one t = come_ended event mail mail.body offspring node k one t
 
     -- ---- an order
 
@@ -326,15 +413,21 @@ module _ (ahead : Ahead) (bases : List Base) (made : Base → Command → Type 0
         (λ m a. elim a [ inl e ↦ subst (λ (x : Mail). IsNamed bases x.body) e tt | inr n ↦ absurd n ])
         (λ base b m a. elim a [ inl e ↦ subst (λ (x : Mail). IsTrue ahead base (made base) heard (h base) x x.body) e tt | inr n ↦ absurd n ])
 
-    ordered_ended : (line : OrderLine) → IsOfMembers line.order → (node : NodeState) → IsNode h me node → (o : Option ReplicaState) → replica_of (group_of_order line.order) node.replicas ≡ o → Asked (ordered_of o line node)
-    ordered_ended line plain node k None e = desk_ended line.number (Refused (NotLeader None)) node k
-    ordered_ended line plain node k (Some r) e =
-        let place = order_row line (r, []) in
-        one_row (group_of_order line.order) r node k e place (λ base. asked_in base.core.id place.1 (h base))
-        (λ base a is was. ended_by ahead base (made base) heard (grants base) me (h base) (some base a) place _
-        (fine_order_row ahead base (made base) heard (grants base) me [] (h base) (some base a) line plain r [] (start ahead base (made base) heard (grants base) me (h base) (some base a) (lawful base a) (requested base a) [] r was)) refl)
-        (λ base a f sent. far_all base.core.id place.1 (h base) sent)
+    -- what the order asks for may be queued at its group
+    abbrev MayOrder : OrderLine → NodeState → Type 0
+    MayOrder line node = (base : Base) → Among base bases → group_of_order line.order ≡ base.core.id → made base (ordered_command (next_name node.draws) line.number line.order)
+
+    ordered_ended : (line : OrderLine) (node : NodeState) → MayOrder line node → IsNode h me node → (o : Option ReplicaState) → replica_of (group_of_order line.order) node.replicas ≡ o → Asked (ordered_of o line node)
+    ordered_ended line node may k None e = desk_ended line.number (Refused (NotLeader None)) node k
+    ordered_ended line node may k (Some r) e =
+        let place = ordered_row node.draws line (r, []) in
+        redrawn (λ base. asked_in base.core.id place.1 (h base)) (record node { replicas = with_replica (group_of_order line.order) place.0 node.replicas }) (names_after node.draws line r) place.1
+        (one_row (group_of_order line.order) r node k e place (λ base. asked_in base.core.id place.1 (h base))
+        (λ base a is was. ended_by ahead base (made base) heard (grants base a) me (h base) (some base a) place _
+        (fine_ordered_row ahead base (made base) heard (grants base a) me [] (h base) (some base a) node.draws line (may base a is) r []
+        (start ahead base (made base) heard (grants base a) me (h base) (some base a) (lawful base a) (requested base a) [] r was)) refl)
+        (λ base a f sent. far_all base.core.id place.1 (h base) sent))
 
     -- the end of an order
-    pub order_ended : (line : OrderLine) → IsOfMembers line.order → (node : NodeState) → IsNode h me node → Asked (on_order line node)
-    order_ended line plain node k = ordered_ended line plain node k (replica_of (group_of_order line.order) node.replicas) refl
+    pub order_ended : (line : OrderLine) (node : NodeState) → MayOrder line node → IsNode h me node → Asked (on_order line node)
+    order_ended line node may k = ordered_ended line node may k (replica_of (group_of_order line.order) node.replicas) refl

@@ -55,7 +55,7 @@ module _ {O : Type 0} (Q : O → Type 0) where
   TellsSo (Storm number most) = Unit {0}
 
   -- a task of such a line
-  abbrev IsTaskSo : Task O → Type 0
+  abbrev pub IsTaskSo : Task O → Type 0
   IsTaskSo (Once line) = TellsSo line
   IsTaskSo (Settles left) = Unit {0}
   IsTaskSo (Frees left) = Unit {0}
@@ -136,7 +136,8 @@ module _ {O : Type 0} (Q : O → Type 0) where
           acts_so p.0 Tick row tt (unless-some (has_crashed rows p.0) (acts s rows p.0 Tick) row p.2).1
       storm_row_so (suc (suc (suc more))) v row e = let p = and_then-some (delivery s rows) (picked s rows v) row e in delivery_so p.0 row p.2
 
-      allows_so : (task : Task O) (row : Row M O) → IsTaskSo task → Allows s rows task row → IsToldSo row.event
+      -- what a task allows tells only such orders
+      pub allows_so : (task : Task O) (row : Row M O) → IsTaskSo task → Allows s rows task row → IsToldSo row.event
       allows_so (Once line) row q e = row_so line row q e
       allows_so (Settles left) row q e = let p = and_then-some (delivery s rows) (kth (waiting s rows None) 1) row e in delivery_so p.0 row p.2
       allows_so (Frees left) row q e = let p = and_then-some (λ mail. acts s rows row.who (Deliver mail)) (kth (waiting s rows (Some row.who)) 1) row e in acts_so row.who (Deliver p.0) row tt p.2

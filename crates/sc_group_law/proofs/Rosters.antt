@@ -19,7 +19,7 @@ use Rattle.sc_hist_law.proofs.Logs.{called_members}
 use Rattle.sc_machine_table.specs.Logs.{state_after}
 
 -- an order makes the group another one only where it is not refused
-ordered_if : (P : Group → Type 0) (gone : Option Route) (why : Option OrderRefusal) (after group : Group) → (why ≡ None → P after) → P group → P (ordered gone why after group).0
+pub ordered_if : (P : Group → Type 0) (gone : Option Route) (why : Option OrderRefusal) (after group : Group) → (why ≡ None → P after) → P group → P (ordered gone why after group).0
 ordered_if P (Some into) why after group p q = q
 ordered_if P None (Some why) after group p q = q
 ordered_if P None None after group p q = p refl
@@ -51,11 +51,13 @@ may_leave core node e roster =
     (λ _ j. cc)
     (λ f j. (let some = roster.some in let ne = eqb-false (length core.members) 1 f in omega (arith, some, ne))) k) e
 
-free_refusal : (o : Option Draw) (core : Core) (c : Command) → refused_in o core c ≡ None → refused_in None core c ≡ None
+-- a refusal whatever the lock is one of a free group
+pub free_refusal : (o : Option Draw) (core : Core) (c : Command) → refused_in o core c ≡ None → refused_in None core c ≡ None
 free_refusal (Some tx) core c e = cc
 free_refusal None core c e = e
 
-applied_roster : (group : Group) (c : Command) → LeavesWhole c → IsRoster group.core.members → IsRoster (applied group c).0.core.members
+-- so does one command
+pub applied_roster : (group : Group) (c : Command) → LeavesWhole c → IsRoster group.core.members → IsRoster (applied group c).0.core.members
 applied_roster group (Call client seq op) whole roster = subst IsRoster (sym (called_members group client seq op)) roster
 applied_roster group (Join node order) whole roster =
     ordered_if (λ g. IsRoster g.core.members) group.core.gone (refusal_of group.core (Join node order)) (with_node group node) group

@@ -29,6 +29,7 @@ use Rattle.sc_node_table.specs.Mails.{sent, sent_all}
 use Rattle.sc_node_table.specs.Queues.{call_of, without_call}
 use Rattle.sc_node_table.specs.Pump.{serves_calls}
 use Rattle.sc_node_table.specs.Voting.{nack_row}
+use Rattle.sc_node_table.specs.Reminders.{reminded}
 use Rattle.sc_node_table.specs.Rows.{refused_at, queued, requested, request_row, learn_row, taught, most_taught, ask_answered, ask_row, uncounted, asked_again, told_last, tick_row}
 use Rattle.sc_players.specs.Players.{Ahead}
 use Rattle.sc_group_law.proofs.Growth.{IsLearnt}
@@ -39,7 +40,8 @@ use Rattle.sc_group_law.proofs.Offering.{with_calls, fine_pumped}
 use Rattle.sc_group_law.proofs.Parts.{Each-without_call, flying_found}
 use Rattle.sc_group_law.proofs.Held.{get_dropped}
 use Rattle.sc_group_law.proofs.Welcoming.{installed_place}
-use Rattle.sc_group_law.proofs.Executing.{fine_executed}
+use Rattle.sc_group_law.proofs.Executing.{lock_free, fine_executed}
+use Rattle.sc_group_law.proofs.Quiet.{reminded_quiet}
 
 module _ (ahead : Ahead) (base : Base) (made : Command → Type 0) (heard : MailBody → Type 0) (grants : Grants ahead base made heard) (me : ℕ) (older : List Mail) (before : Steps)
     (some : (log : List Command) → Each made log → (node : ℕ) × (rest : List ℕ) × ((rule ahead base).members log ≡ node ∷ rest)) where
@@ -167,6 +169,10 @@ module _ (ahead : Ahead) (base : Base) (made : Command → Type 0) (heard : Mail
   settled_runs : (r : ReplicaState) → not (settled r) ≡ false → r.running ≡ true
   settled_runs r e = (and_parts r.running (may_offer r (first_set r.sets)) (not-false (settled r) e)).0
 
+  -- nobody is reminded of a transaction
+  reminded_place : (r : ReplicaState) (mails : List Mail) → Ok (r, mails) → Ok (reminded (r, mails))
+  reminded_place r mails f = subst Ok (sym (reminded_quiet r mails (lock_free ahead base made heard grants me older before some r mails f))) f
+
   -- the row of a tick keeps what holds
   pub fine_tick_row : (r : ReplicaState) (mails : List Mail) → Ok (r, mails) → Ok (tick_row (r, mails))
   unfolding tick_row
@@ -174,5 +180,5 @@ module _ (ahead : Ahead) (base : Base) (made : Command → Type 0) (heard : Mail
       cond_both (is_some r.group.core.gone || not (is_member (members r) r.me)) _ _ Ok (λ _. f)
       (λ _. cond_both (not (settled r)) _ _ Ok (λ _. fine_elected ahead base made heard me older before r mails f)
       (λ runs. cond_both (is_idle r) _ _ Ok
-      (λ _. fine_pumped ahead base made heard grants me older before some _ (fine_told_last (entry_at (next r - 1) r.log) r mails refl f))
-      (λ _. fine_pumped ahead base made heard grants me older before some _ (fine_asked_again (next r) r.sets r mails f (f.replica.leads (settled_runs r runs)).own))))
+      (λ _. fine_pumped ahead base made heard grants me older before some _ (reminded_place r _ (fine_told_last (entry_at (next r - 1) r.log) r mails refl f)))
+      (λ _. fine_pumped ahead base made heard grants me older before some _ (reminded_place r _ (fine_asked_again (next r) r.sets r mails f (f.replica.leads (settled_runs r runs)).own)))))

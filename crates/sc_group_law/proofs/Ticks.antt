@@ -29,7 +29,7 @@ use Rattle.sc_group_law.proofs.Frames.{AreFar, own_far, far_true, far_all, asked
 use Rattle.sc_group_law.proofs.Holding.{IsOther, Holds, held}
 use Rattle.sc_base.proofs.NameLemmas.{draw_is}
 
-module _ (ahead : Ahead) (bases : List Base) (made : Base → Command → Type 0) (heard : MailBody → Type 0) (grants : (base : Base) → Grants ahead base (made base) heard) (me : ℕ) (h : Base → Steps)
+module _ (ahead : Ahead) (bases : List Base) (made : Base → Command → Type 0) (heard : MailBody → Type 0) (grants : (base : Base) → Among base bases → Grants ahead base (made base) heard) (me : ℕ) (h : Base → Steps)
     (some : (base : Base) → Among base bases → (log : List Command) → Each (made base) log → (node : ℕ) × (rest : List ℕ) × ((rule ahead base).members log ≡ node ∷ rest))
     (lawful : (base : Base) → Among base bases → IsLawfulHistory (rule ahead base) (first ahead base) (h base))
     (requested : (base : Base) → Among base bases → (b : Ballot) (slot : ℕ) (c : Command) → Among (Offered b slot c) (h base) → made base c) where
@@ -38,7 +38,7 @@ module _ (ahead : Ahead) (bases : List Base) (made : Base → Command → Type 0
   IsLive r = (base : Base) × Among base bases × (name_of r ≡ base.core.id) × IsReplica ahead base (made base) (h base) me r
 
   ticks : (base : Base) → Among base bases → (r : ReplicaState) (mails : List Mail) → IsReplica ahead base (made base) (h base) me r → Fine ahead base (made base) heard me mails (h base) (tick_row (r, mails))
-  ticks base a r mails k = fine_tick_row ahead base (made base) heard (grants base) me mails (h base) (some base a) r mails (start ahead base (made base) heard (grants base) me (h base) (some base a) (lawful base a) (requested base a) mails r k)
+  ticks base a r mails k = fine_tick_row ahead base (made base) heard (grants base a) me mails (h base) (some base a) r mails (start ahead base (made base) heard (grants base a) me (h base) (some base a) (lawful base a) (requested base a) mails r k)
 
   tick_name : (base : Base) (mails : List Mail) (place : Place) → Fine ahead base (made base) heard me mails (h base) place → name_of place.0 ≡ base.core.id
   tick_name base mails place f = name_is ahead base (made base) heard me mails (h base) (f.newer ++ h base) place.0 f.replica
@@ -64,7 +64,7 @@ module _ (ahead : Ahead) (bases : List Base) (made : Base → Command → Type 0
       record {
         sent = f.sent ++ later.sent;
         sent_is = more_sent mails f.sent later.sent _ place.1 later.sent_is f.sent_is;
-        named = λ m b. elim (Among-either m f.sent later.sent b) [ inl c ↦ own_named ahead heard (grants base).unheard bases base a m.body (f.own m c) | inr c ↦ later.named m c ];
+        named = λ m b. elim (Among-either m f.sent later.sent b) [ inl c ↦ own_named ahead heard (grants base a).unheard bases base a m.body (f.own m c) | inr c ↦ later.named m c ];
         known = ((base, a, tick_name base mails place f), later.known);
       }
 
@@ -79,9 +79,9 @@ module _ (ahead : Ahead) (bases : List Base) (made : Base → Command → Type 0
   far_name base other r is o =
       elim (cases_Bool (same_draw other.core.id base.core.id)) [ inl t ↦ absurd (o (is ∙ draw_is other.core.id base.core.id t)) | inr f ↦ f ]
 
-  far_part : (base other : Base) (r : ReplicaState) (mails : List Mail) (place : Place) → name_of r ≡ other.core.id → IsOther base.core.id r → (f : Fine ahead other (made other) heard me mails (h other) place) → AreFar base.core.id f.sent × IsOther base.core.id place.0
-  far_part base other r mails place is o f = (
-    Each-from _ f.sent (λ m a. own_far ahead other heard (grants other).unheard base.core.id (far_name base other r is o) m.body (f.own m a)),
+  far_part : (base other : Base) → Among other bases → (r : ReplicaState) (mails : List Mail) (place : Place) → name_of r ≡ other.core.id → IsOther base.core.id r → (f : Fine ahead other (made other) heard me mails (h other) place) → AreFar base.core.id f.sent × IsOther base.core.id place.0
+  far_part base other b r mails place is o f = (
+    Each-from _ f.sent (λ m a. own_far ahead other heard (grants other b).unheard base.core.id (far_name base other r is o) m.body (f.own m a)),
     (λ same. o (is ∙ sym (tick_name other mails place f) ∙ same)),
   )
 
@@ -96,7 +96,7 @@ module _ (ahead : Ahead) (bases : List Base) (made : Base → Command → Type 0
       let (other, a, is, k) = live.0 in
       let f = ticks other a r mails k in
       let place = tick_row (r, mails) in
-      let here = far_part base other r mails place is none.0 f in
+      let here = far_part base other a r mails place is none.0 f in
       let later = tick_far base rs live.1 none.1 place.1 in
       record {
         sent = f.sent ++ later.sent;
@@ -152,7 +152,7 @@ module _ (ahead : Ahead) (bases : List Base) (made : Base → Command → Type 0
       let (other, b, is, k) = live.0 in
       let f = ticks other b r mails k in
       let place = tick_row (r, mails) in
-      let here = far_part base other r mails place is o f in
+      let here = far_part base other b r mails place is o f in
       let later = tick_own base a rs live.1 holds place.1 in
       record {
         sent = f.sent ++ later.sent;

@@ -26,6 +26,7 @@ use Rattle.sc_client_table.specs.Turns.{InTurn}
 use Rattle.sc_client_table.proofs.TurnLemmas.{sends_in_turn}
 use Rattle.sc_node_table.specs.Node.{NodeState, on_mail, on_tick, on_order}
 use Rattle.sc_node_table.specs.Slots.{numbers_from}
+use Rattle.sc_base.specs.Drawing.{next_name}
 use Rattle.sc_base.specs.Among.{Among, Each}
 use Rattle.sc_paxos_words.proofs.ListLemmas.{Each-among, Each-weaker, find_found}
 use Rattle.sc_paxos_law.proofs.Among.{Among-either, from_map}
@@ -42,7 +43,7 @@ use Rattle.sc_sound.proofs.Rows.{any_push}
 use Rattle.sc_group_law.specs.Steps.{steps_at}
 use Rattle.sc_group_law.specs.Groups.{HasGroups}
 use Rattle.sc_players.specs.declared.roles.Role.TheVariants.{Node as ANode, Client as AClient}
-use Rattle.sc_group_law.proofs.Invariant.{Steps, rule, first, IsTrue, grown_true}
+use Rattle.sc_group_law.proofs.Invariant.{Steps, rule, first, Grants, IsTrue, grown_true}
 use Rattle.sc_group_law.proofs.RowSteps.{number_among, among_numbers, steps_deliver, steps_plain}
 use Rattle.sc_group_law.proofs.Frames.{node_row, steps_of}
 use Rattle.sc_group_law.proofs.Holding.{Holds, still_holds}
@@ -53,7 +54,7 @@ use Rattle.sc_group_law.proofs.Ticks.{tick_ended}
 use Rattle.sc_group_law.proofs.Voting.{ArePlain}
 use Rattle.sc_group_law.proofs.Projected.{steps-push}
 use Rattle.sc_group_law.proofs.Places.{Journal}
-use Rattle.sc_group_law.proofs.Clients.{Made, MadeBy, Heard, made_later, made_whole, grants, issued_now, IsAsk, HaveGrown, IsClient, Grew, later_client, client_after, client_sends}
+use Rattle.sc_group_law.proofs.Clients.{Made, MadeBy, Heard, made_later, made_whole, order_made, grants, none_born, issued_now, IsAsk, HaveGrown, IsClient, Grew, later_client, client_after, client_sends}
 use Rattle.sc_group_law.proofs.Family.{h_of, IsNodeAt, IsClientAt, replies_in, Kept, PartMoved, ClientMoved, Moved}
 use Rattle.sc_base.specs.Limits.{client_actor}
 
@@ -127,8 +128,11 @@ module _ (ahead : Ahead) (words : ℕ → ℕ → ℕ × ℕ) (scenario : Scenar
     some_made : (b : Base) → Among b bases → (log : List Command) → Each made log → (node : ℕ) × (rest : List ℕ) × ((rule ahead b).members log ≡ node ∷ rest)
     some_made b a log e = some b a log (Each-weaker made LeavesWhole (made_whole scenario rows) log e)
 
+    grants_of : (b : Base) → Among b bases → Grants ahead b made Heard
+    grants_of b a = grants ahead scenario rows b (has.empty b a).free
+
     abbrev Ends : ℕ → (Base → Steps) → NodeState × List Mail → Type 0
-    Ends n after step = NodeEnded ahead bases made_by Heard (grants ahead scenario rows) n h some_made lawful requested after step
+    Ends n after step = NodeEnded ahead bases made_by Heard grants_of n h some_made lawful requested after step
 
     -- a group's part of a node's row
     part_moved : (n : ℕ) (event : Event OrderLine) (step : NodeState × List Mail) (e : Ends n (λ b. steps_at b.core.id (mails rows) (node_row n event step.1) (h b)) step) (b : Base) → Among b bases
@@ -199,19 +203,19 @@ module _ (ahead : Ahead) (words : ℕ → ℕ → ℕ × ℕ) (scenario : Scenar
             subst (λ (sent : List Mail). M rows (node_row n e sent)) (sym (ap (λ x. x.1) all)) (node_moved n low high e step all ended)
 
         quiet : (e : Event OrderLine) → Ends n (λ b. steps_at b.core.id (mails rows) (node_row n e []) (h b)) (at.node, [])
-        quiet e = unchanged ahead bases made_by Heard (grants ahead scenario rows) n h some_made lawful requested (λ b. steps_at b.core.id (mails rows) (node_row n e []) (h b)) at.node [] at.is (λ b a. steps_plain b.core.id (mails rows) n e [] (h b) tt) (λ m a. absurd a) (λ b a m o. absurd o)
+        quiet e = unchanged ahead bases made_by Heard grants_of n h some_made lawful requested (λ b. steps_at b.core.id (mails rows) (node_row n e []) (h b)) at.node [] at.is (λ b a. steps_plain b.core.id (mails rows) n e [] (h b) tt) (λ m a. absurd a) (λ b a m o. absurd o)
 
         by : (e : Event OrderLine) → IsPlainEvent e → IsOpen (system_of ahead words scenario) rows n e → M rows (row_of player_table (nseat n) rows e)
         by (Deliver number) plain (m, under, to) =
             let step = on_mail m.from m.body at.node in
             let came = number_among (mails rows) number m under.sent in
             acting (Deliver number) step (ap (λ o. acted player_table (ANode at.node) (option_map Got o)) under.sent)
-            (ends_as ahead bases made_by Heard (grants ahead scenario rows) n h some_made lawful requested (λ b. steps_of b.core.id n (Deliver number) m.body step.1 (h b))
+            (ends_as ahead bases made_by Heard grants_of n h some_made lawful requested (λ b. steps_of b.core.id n (Deliver number) m.body step.1 (h b))
             (λ b. steps_at b.core.id (mails rows) (node_row n (Deliver number) step.1) (h b)) step (λ b. sym (steps_deliver b.core.id (mails rows) n number m step.1 (h b) under.sent))
-            (mail_ended ahead bases made_by Heard (grants ahead scenario rows) n h some_made lawful requested (Deliver number) m at.node at.is (k.named m came) (λ b a. (k.parts b a).true_mail m came)))
-        by Tick plain o = acting Tick (on_tick at.node) refl (tick_ended ahead bases made_by Heard (grants ahead scenario rows) n h some_made lawful requested at.node at.is)
+            (mail_ended ahead bases made_by Heard grants_of n h some_made lawful requested (Deliver number) m (λ b a child is. absurd (none_born ahead scenario rows b n (h b) child is)) at.node at.is (k.named m came) (λ b a. (k.parts b a).true_mail m came)))
+        by Tick plain o = acting Tick (on_tick at.node) refl (tick_ended ahead bases made_by Heard grants_of n h some_made lawful requested at.node at.is)
         by Go plain o = acting Go (at.node, []) refl (quiet Go)
-        by (Told order) plain o = acting (Told order) (on_order order at.node) refl (order_ended ahead bases made_by Heard (grants ahead scenario rows) n h some_made lawful requested order plain at.node at.is)
+        by (Told order) plain o = acting (Told order) (on_order order at.node) refl (order_ended ahead bases made_by Heard grants_of n h some_made lawful requested order at.node (λ b a is. order_made scenario rows (next_name at.node.draws) order.number order.order plain) at.is)
         by Crash plain o = acting Crash (at.node, []) refl (quiet Crash)
         by (Drop number) plain o = absurd o
         by (Again number) plain o = absurd o

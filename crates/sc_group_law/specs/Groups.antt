@@ -2,17 +2,19 @@
 use Rattle.std.specs.Prelude.{◌≡◌, ◌≤◌, List, [], ◌∷◌}
 use Rattle.sc_base.specs.Limits.{most_nodes}
 use Rattle.sc_cmd.specs.declared.cores.Base.{Base}
+use Rattle.sc_cmd.specs.declared.cores.Lock.TheVariants.{Free}
 use Rattle.sc_member.specs.Roster.{IsRoster}
 use Rattle.sc_base.specs.Among.{Among, Each}
 use Rattle.sc_scenario.specs.declared.scenarios.Asks.{Asks}
 use Rattle.sc_scenario.specs.declared.scenarios.Scenario.{Scenario}
 use Rattle.sc_group_law.specs.Orders.{TellsOfMembers}
 
--- a group that starts with one to nine members, and no pairs
+-- a group that starts with one to nine members, no pairs and no lock
 pub record StartsEmpty (base : Base) : Type 0 where
   pub roster : IsRoster base.core.members
   pub pairs : base.pairs ≡ []
   pub clients : base.clients ≡ []
+  pub free : base.core.lock ≡ Free
 
 -- no two of these groups have one name
 abbrev pub AreApart : List Base → Type 0

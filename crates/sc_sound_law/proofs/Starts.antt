@@ -194,4 +194,4 @@ module _ (lines : List GroupLine) where
   pub starts_empty : ((k : ℕ) (d : GroupLine) → k < length lines → IsRoster (get_or lines k d).members) → (base : Base) → Among base (bases_of lines) → StartsEmpty base
   starts_empty rosters base a =
       let (k, inside, is) = of_from 0 (length lines) base (subst (Among base) (all_from (length lines)) a) in
-      subst StartsEmpty is (record { roster = rosters k (record { lo = 0; members = [] }) (omega (arith, inside)); pairs = refl; clients = refl })
+      subst StartsEmpty is (record { roster = rosters k (record { lo = 0; members = [] }) (omega (arith, inside)); pairs = refl; clients = refl; free = refl })

@@ -1,0 +1,181 @@
+-- The children that a mail makes at a node: each is the child of a front of the log, by a command that the row executes.
+use Rattle.std.proofs.Common.{◌≡◌, ℕ, ◌+◌, ◌&&◌, nat_lt, Bool, true, false, eqb, List, [], ◌∷◌, ◌++◌, length, Option, Some, None, inl, inr, refl, sym, ◌∙◌, ap, subst}
+use Rattle.std.proofs.lemmas.Bool.{eqb-true, and_parts, cond_both}
+use Rattle.sc_base.specs.declared.names.Ballot.{Ballot}
+use Rattle.sc_base.specs.declared.names.Draw.{Draw}
+use Rattle.sc_base.specs.Among.{Among, Each}
+use Rattle.sc_base.specs.Same.{same_draw, same_ballot}
+use Rattle.sc_base.proofs.NameLemmas.{ballot_is}
+use Rattle.sc_cmd.specs.declared.commands.Command.{Command}
+use Rattle.sc_cmd.specs.declared.cores.Base.{Base}
+use Rattle.sc_mail.specs.declared.bodies.Mail.{Mail}
+use Rattle.sc_mail.specs.declared.bodies.MailBody.{MailBody}
+use Rattle.sc_mail.specs.declared.bodies.MailBody.TheVariants.{Prepare, Accept}
+use Rattle.sc_member.specs.Roster.{is_member}
+use Rattle.sc_machine_table.specs.Children.{child_by}
+use Rattle.sc_machine_table.specs.Group.{Group}
+use Rattle.sc_machine_table.specs.Logs.{state_after}
+use Rattle.sc_paxos_words.specs.Leaders.{LeaderState, without_flight_at}
+use Rattle.sc_paxos_words.specs.declared.answers.Counted.{Counted}
+use Rattle.sc_paxos_words.specs.Votes.{counted}
+use Rattle.sc_paxos_words.proofs.ListLemmas.{Each-among, Each-append, Each-weaker}
+use Rattle.sc_paxos_law.specs.Steps.{Step, Prepared, Offered, Accepted}
+use Rattle.sc_paxos_law.specs.Chosen.{Rule, IsLog}
+use Rattle.sc_paxos_law.proofs.Law.{earlier}
+use Rattle.sc_node_table.specs.Births.{with_child, next_child, ready_children, executed_children, learnt_children, readied_children, tallied_children, voted_children, accepted_children}
+use Rattle.sc_node_table.specs.Execute.{executed_one, has_room, next_ready}
+use Rattle.sc_node_table.specs.Replica.{ReplicaState, Place, next, set_at, last_slot}
+use Rattle.sc_node_table.specs.Slots.{with_slot}
+use Rattle.sc_node_table.specs.Voting.{leads}
+use Rattle.sc_players.specs.Players.{Ahead}
+use Rattle.sc_group_law.specs.Steps.{proposer_steps, asked_in}
+use Rattle.sc_group_law.proofs.Growth.{IsLearnt, by_own_log}
+use Rattle.sc_group_law.proofs.Invariant.{Steps, rule, first, birth, Grants, next_after}
+use Rattle.sc_group_law.proofs.Midway.{Fine, turn}
+use Rattle.sc_group_law.proofs.Entering.{entered_has}
+use Rattle.sc_group_law.proofs.Executing.{fine_executed_one, learnt_made, next_ready_among, next_ready_runs}
+use Rattle.sc_group_law.proofs.Counting.{ready_place, set_is, count_is}
+
+-- ---- what is asked for chooses nothing
+
+one_asked : (group : Draw) (body : MailBody) (h : Steps) (node : ℕ) (b : Ballot) (slot : ℕ) (c : Command) → Among (Accepted node b slot c) (proposer_steps group body ++ h) → Among (Accepted node b slot c) h
+one_asked group (Prepare g ballot start) h node b slot c a =
+    cond_both (same_draw g group) (Prepared ballot start ∷ []) [] (λ (x : Steps). Among (Accepted node b slot c) (x ++ h) → Among (Accepted node b slot c) h)
+    (λ _ o. elim o [ inl e ↦ absurd (cc) | inr old ↦ old ]) (λ _ o. o) a
+one_asked group (Accept g ballot at d) h node b slot c a =
+    cond_both (same_draw g group) (Offered ballot at d ∷ []) [] (λ (x : Steps). Among (Accepted node b slot c) (x ++ h) → Among (Accepted node b slot c) h)
+    (λ _ o. elim o [ inl e ↦ absurd (cc) | inr old ↦ old ]) (λ _ o. o) a
+one_asked group _ h node b slot c a = a
+
+all_asked : (group : Draw) (mails : List Mail) (h : Steps) (node : ℕ) (b : Ballot) (slot : ℕ) (c : Command) → Among (Accepted node b slot c) (asked_in group mails h) → Among (Accepted node b slot c) h
+all_asked group [] h node b slot c a = a
+all_asked group (mail ∷ mails) h node b slot c a = one_asked group mail.body h node b slot c (all_asked group mails (proposer_steps group mail.body ++ h) node b slot c a)
+
+-- a log is one before what chooses nothing
+fewer_log : (r : Rule Command) (h before : Steps) → ((node : ℕ) (b : Ballot) (slot : ℕ) (c : Command) → Among (Accepted node b slot c) h → Among (Accepted node b slot c) before) → (log : List Command) → IsLog r h log → IsLog r before log
+fewer_log r h before f log is_log place c at =
+    let k = is_log place c at in
+    record {
+      known = k.known;
+      chosen = record {
+        ballot = k.chosen.ballot;
+        voters = k.chosen.voters;
+        each = Each-weaker _ _ (λ node a. f node k.chosen.ballot (place + 1) c a) k.chosen.voters k.chosen.each;
+        majority = k.chosen.majority;
+      };
+    }
+
+-- the child of a front of the log at a node: the log begins so, and the command that comes next makes it
+pub record IsChildOf (ahead : Ahead) (base : Base) (made : Command → Type 0) (me : ℕ) (h : Steps) (child : Base) : Type 0 where
+  pub front : List Command
+  pub command : Command
+  pub is_log : IsLog (rule ahead base) h (front ++ command ∷ [])
+  pub all_made : Each made front
+  pub is_made : made command
+  pub child_is : child_by (state_after (birth ahead base) front) command ≡ Some child
+  pub member : is_member child.core.members me ≡ true
+
+module _ (ahead : Ahead) (base : Base) (made : Command → Type 0) (heard : MailBody → Type 0) (grants : Grants ahead base made heard) (me : ℕ) (before : Steps)
+    (some : (log : List Command) → Each made log → (node : ℕ) × (rest : List ℕ) × ((rule ahead base).members log ≡ node ∷ rest)) where
+  abbrev Ok : Place → Type 0
+  Ok = Fine ahead base made heard me [] before
+
+  abbrev Children : List Base → Type 0
+  Children = Each (IsChildOf ahead base made me before)
+
+  -- ---- one command
+
+  next_are : (c : Command) (r : ReplicaState) (mails : List Mail) → (f : Ok (r, mails)) → IsLearnt (rule ahead base) (f.newer ++ before) (next r) c → made c → (done : List Base) → Children done → Children (next_child c r done)
+  next_are c r mails f t m done e = by (child_by r.group c) refl
+    where
+      by : (o : Option Base) → child_by r.group c ≡ o → Children (with_child r.me o done)
+      by None is = e
+      by (Some child) is =
+          cond_both (is_member child.core.members r.me) (done ++ child ∷ []) done Children
+          (λ member. (
+          let h = f.newer ++ before in
+          let k = f.replica in
+          let log = k.whole in
+          let known = earlier (rule ahead base) (length log) in
+          let chosen = by_own_log (rule ahead base) (first ahead base) h f.lawful (length log + 1) c (subst (λ n. IsLearnt (rule ahead base) h n c) (next_after ahead base made h me r k) t) log k.log_is.is_log known in
+          let has = entered_has ahead base made me h c r k m chosen in
+          Each-append _ done (child ∷ []) e (
+            record {
+              front = log;
+              command = c;
+              is_log = fewer_log (rule ahead base) h before
+                  (λ node b slot d a. all_asked base.core.id f.sent before node b slot d (subst (Among (Accepted node b slot d)) (sym f.are) a)) (log ++ c ∷ []) has.is_log;
+              all_made = k.log_is.all_made;
+              is_made = m;
+              child_is = subst (λ (g : Group). child_by g c ≡ Some child) k.log_is.group_is is;
+              member = subst (λ n. is_member child.core.members n ≡ true) k.me_is member;
+            },
+            tt,
+          )))
+          (λ _. e)
+
+  -- ---- the ready ones
+
+  ready_are : (es : List (ℕ × Command)) (place : Place) → Ok place → (done : List Base) → Children done → Children (ready_children es place done)
+  unfolding ready_children
+  ready_are [] place f done e = e
+  ready_are (x ∷ es) place f done e = go (λ p g d w. ready_are es p g d w) (next_ready place.0) refl
+    where
+      go : ((p : Place) → Ok p → (d : List Base) → Children d → Children (ready_children es p d)) → (o : Option Command) → next_ready place.0 ≡ o
+          → Children (elim o [ None ↦ done | Some command ↦ ready_children es (executed_one true command place) (next_child command place.0 done) ])
+      go rest None is = e
+      go rest (Some c) is =
+          let t = Each-among _ place.0.ready (next place.0, c) f.replica.ready (next_ready_among ahead base made heard grants me [] before some place.0 c is) in
+          let m = learnt_made ahead base made heard grants me [] before some place f (next place.0) c t in
+          rest _ (fine_executed_one ahead base made heard grants me [] before some true c place.0 place.1 f t m (λ _. next_ready_runs ahead base made heard grants me [] before some place.0 c is))
+          (next_child c place.0 done) (next_are c place.0 place.1 f t m done e)
+
+  executed_are : (counted : Bool) (c : Command) (r : ReplicaState) (mails : List Mail) → (f : Ok (r, mails)) → IsLearnt (rule ahead base) (f.newer ++ before) (next r) c → (counted ≡ true → r.running ≡ true)
+      → (done : List Base) → Children done → Children (executed_children counted c (r, mails) done)
+  unfolding executed_children
+  executed_are counted c r mails f t runs done e =
+      let m = learnt_made ahead base made heard grants me [] before some (r, mails) f (next r) c t in
+      let one = fine_executed_one ahead base made heard grants me [] before some counted c r mails f t m runs in
+      ready_are (executed_one counted c (r, mails)).0.ready (executed_one counted c (r, mails)) one (next_child c r done) (next_are c r mails f t m done e)
+
+  -- ---- mails
+
+  -- the children of a Learn
+  pub learnt_are : (slot : ℕ) (c : Command) (r : ReplicaState) (mails : List Mail) → (f : Ok (r, mails)) → IsLearnt (rule ahead base) (f.newer ++ before) slot c → Children (learnt_children slot c (r, mails) [])
+  unfolding learnt_children
+  learnt_are slot c r mails f t =
+      cond_both (nat_lt last_slot slot) _ _ Children (λ _. tt)
+      (λ _. cond_both (eqb slot (next r)) _ _ Children
+      (λ e. executed_are false c r mails f (subst (λ n. IsLearnt (rule ahead base) (f.newer ++ before) n c) (eqb-true slot (next r) e) t) (λ no. cc) [] tt)
+      (λ _. tt))
+
+  readied_are : (slot : ℕ) (c : Command) (r : ReplicaState) (mails : List Mail) → (f : Ok (r, mails)) → IsLearnt (rule ahead base) (f.newer ++ before) slot c → r.running ≡ true
+      → Children (readied_children slot c (record r { leader = without_flight_at slot r.leader }, mails) [])
+  unfolding readied_children ready_place turn
+  readied_are slot c r mails f t runs =
+      let after : ReplicaState = record r { leader = without_flight_at slot r.leader; ready = with_slot r.ready slot c } in
+      cond_both (eqb slot (next r) && has_room (record r { leader = without_flight_at slot r.leader })) _ _ Children
+      (λ e. (
+      let parts = and_parts (eqb slot (next r)) (has_room (record r { leader = without_flight_at slot r.leader })) e in
+      executed_are true c after mails (ready_place ahead base made heard grants me [] before some slot c r mails f t)
+      (subst (λ n. IsLearnt (rule ahead base) (f.newer ++ before) n c) (eqb-true slot (next r) parts.0) t) (λ _. runs) [] tt))
+      (λ _. tt)
+
+  -- the children of a vote
+  pub accepted_are : (from : ℕ) (ballot : Ballot) (slot : ℕ) (d : Command) (r : ReplicaState) (mails : List Mail) → (f : Ok (r, mails)) → Among (Accepted from ballot slot d) (f.newer ++ before)
+      → Children (accepted_children from ballot slot (r, mails) [])
+  unfolding accepted_children
+  accepted_are from ballot slot d r mails f did =
+      cond_both (leads ballot r) _ _ Children
+      (λ t. (
+      let parts = and_parts r.running (same_ballot ballot r.leader.ballot) t in
+      by_set parts.0 (ballot_is ballot r.leader.ballot parts.1) (set_at slot r) refl))
+      (λ _. tt)
+    where
+      by_set : r.running ≡ true → ballot ≡ r.leader.ballot → (o : Option (List ℕ)) → set_at slot r ≡ o → Children (voted_children from ballot slot o (r, mails) [])
+      by_set runs same None e = tt
+      by_set runs same (Some set) e =
+          let here = set_is ahead base made heard grants me [] before some (f.newer ++ before) slot set r f.replica e in
+          subst (λ b. Children (tallied_children slot (counted from b slot set r.leader) (r, mails) [])) (sym same)
+          (count_is ahead base made heard grants me [] before some from slot set r mails f runs d (subst (λ b. Among (Accepted from b slot d) (f.newer ++ before)) same did) here.0 here.1
+          (λ (x : Counted Command × LeaderState Command). Children (tallied_children slot x (r, mails) [])) (λ c t. readied_are slot c r mails f t runs) (λ n leader. tt))
