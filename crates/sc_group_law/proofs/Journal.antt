@@ -27,7 +27,7 @@ use Rattle.sc_sound.specs.Requests.{issues, issue_row, kept_replies, answer_row}
 use Rattle.sc_group_law.specs.Told.{IsDoneAt}
 use Rattle.sc_group_law.proofs.Invariant.{birth, IsReplyAt}
 use Rattle.sc_group_law.proofs.Places.{Journal, or_now, issue-push, decided-push, answered-push, done_later, history_on}
-use Rattle.sc_group_law.proofs.Clients.{Made, IsAnswered}
+use Rattle.sc_group_law.proofs.Clients.{MadeBy, Made, IsAnswered}
 use Rattle.sc_group_law.proofs.Family.{h_of, entry_offered, Kept, ClientMoved, Moved, entries_whole, log_goes_on}
 use Rattle.sc_group_law.proofs.Replies.{reply_told}
 
@@ -46,7 +46,7 @@ module _ (ahead : Ahead) (scenario : Scenario) (base : Base) where
 
   -- what holds of the journal
   abbrev pub K : Journal → Type 0
-  K = Kept ahead scenario bases route
+  K = Kept ahead scenario bases bases route (MadeBy scenario)
 
   -- the group's decided log
   abbrev pub log_in : Journal → List Command
@@ -90,7 +90,7 @@ module _ (ahead : Ahead) (scenario : Scenario) (base : Base) where
 
   -- ---- one more row
 
-  module _ (law : (log : List Command) → Each LeavesWhole log → LogTells (birth ahead base) log) (rows : Journal) (row : Row Mail OrderLine) (kept : K rows) (k : Timed rows) (m : Moved ahead scenario bases route rows row) where
+  module _ (law : (log : List Command) → Each LeavesWhole log → LogTells (birth ahead base) log) (rows : Journal) (row : Row Mail OrderLine) (kept : K rows) (k : Timed rows) (m : Moved ahead scenario bases bases route (MadeBy scenario) rows row) where
     abbrev next : Journal
     next = rows ++ row ∷ []
 
@@ -103,7 +103,7 @@ module _ (ahead : Ahead) (scenario : Scenario) (base : Base) where
 
     goes_on : log_in next ≡ log_in rows ++ more
     unfolding more
-    goes_on = log_goes_on ahead scenario bases route base (inl refl) rows row m
+    goes_on = log_goes_on ahead scenario bases bases route (MadeBy scenario) base (inl refl) rows row m
 
     log_longer : length (log_in rows) ≤ length (log_in next)
     log_longer = let e = ap length goes_on in omega (arith, e, length-append (log_in rows) more)
@@ -162,7 +162,7 @@ module _ (ahead : Ahead) (scenario : Scenario) (base : Base) where
     -- ---- replies
 
     module _ (asks : Asks) (stands : Among asks scenario.clients) where
-      moved : ClientMoved ahead scenario bases route rows row asks
+      moved : ClientMoved ahead scenario bases bases route (MadeBy scenario) rows row asks
       moved = m.clients asks stands
 
       answered_now : (seq : ℕ) (o : Option ℕ) → answer_row route asks seq rows ≡ o → answer_row route asks seq next ≡ or_now o (nat_le seq (length (replies_in asks next))) (length rows + 1)

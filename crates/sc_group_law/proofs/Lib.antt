@@ -33,6 +33,7 @@ pub mod Births
 pub mod Journal
 pub mod RowSteps
 pub mod Walked
+pub mod Several
 pub mod Sound
 pub mod Example
 pub mod JoinExample

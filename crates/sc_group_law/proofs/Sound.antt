@@ -42,12 +42,12 @@ use Rattle.sc_group_law.proofs.Names.{IsOneOf}
 use Rattle.sc_group_law.proofs.Nodes.{IsNode}
 use Rattle.sc_group_law.proofs.Places.{Journal, decided_in_order}
 use Rattle.sc_group_law.proofs.Clients.{Made, MadeBy, IsAnswered}
-use Rattle.sc_group_law.proofs.Family.{h_of, entry_offered, entries_whole, push}
+use Rattle.sc_group_law.proofs.Family.{h_of, entry_offered, entries_whole}
 use Rattle.sc_group_law.proofs.Replies.{reply_told}
 use Rattle.sc_group_law.proofs.Replicated.{one_value, is_log, executed_is, goes_on}
-use Rattle.sc_group_law.proofs.Births.{one_of_many, some_of, tells_of, at_birth}
+use Rattle.sc_group_law.proofs.Births.{one_of_many, tells_of}
 use Rattle.sc_group_law.proofs.Journal.{K, Timed, push_timed}
-use Rattle.sc_group_law.proofs.Walked.{moved}
+use Rattle.sc_group_law.proofs.Several.{several_start, several_moved, several_push}
 
 among_place : {X : Type 0} (xs : List X) (x : X) → Among x xs → (k : ℕ) × (slice_get xs k ≡ Some x)
 among_place [] x a = absurd a
@@ -85,11 +85,11 @@ module _ (ahead : Ahead) (words : ℕ → ℕ → ℕ × ℕ) (scenario : Scenar
 
   keeps : (rows : Journal) (row : Row Mail OrderLine) → Holding rows → IsPlainEvent row.event → IsStep (system_of ahead words scenario) rows row → Holding (rows ++ row ∷ [])
   keeps rows row (k, t) plain step =
-      let m = moved ahead words scenario base [] has (λ b a. some_of ahead b (has.empty b a)) rows row k plain step in
-      (push ahead scenario bases route rows row k m, push_timed ahead scenario base law rows row k t m)
+      let m = several_moved ahead words scenario base [] has rows row k plain step in
+      (several_push ahead scenario base [] rows row k m, push_timed ahead scenario base law rows row k t m)
 
   all_hold : (rows : Journal) → Lawful ahead words scenario rows → Holding rows
-  all_hold rows lawful = plain_induction ahead words scenario one.orders Holding keeps rows (at_birth ahead scenario base [] has, first_timed) lawful
+  all_hold rows lawful = plain_induction ahead words scenario one.orders Holding keeps rows (several_start ahead words scenario base [] has, first_timed) lawful
 
   -- every lawful journal keeps it
   pub all_keep : (rows : Journal) → Lawful ahead words scenario rows → K ahead scenario base rows
