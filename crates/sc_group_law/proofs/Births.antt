@@ -14,7 +14,8 @@ use Rattle.sc_node_table.specs.Replica.{ReplicaState, name_of, born_replica}
 use Rattle.sc_paxos_words.specs.Acceptors.{born_acceptor}
 use Rattle.sc_paxos_law.specs.Chosen.{needed}
 use Rattle.sc_scenario.specs.declared.scenarios.Scenario.{Scenario}
-use Rattle.sc_players.specs.Players.{route_of, Ahead}
+use Rattle.sc_cmd.specs.declared.links.Route.{Route}
+use Rattle.sc_players.specs.Players.{Ahead}
 use Rattle.sc_hist_law.specs.Laws.{LeavesWhole, LogTells}
 use Rattle.sc_hist_law.proofs.Told.{log_tells}
 use Rattle.sc_machine_table.specs.Logs.{state_after}
@@ -25,10 +26,11 @@ use Rattle.sc_group_law.proofs.Invariant.{rule, first, birth, IsReplica}
 use Rattle.sc_group_law.proofs.Holding.{IsOther, Holds, holds_none}
 use Rattle.sc_group_law.proofs.Newborn.{born_replica_is}
 use Rattle.sc_group_law.proofs.Names.{IsOneOf}
-use Rattle.sc_group_law.proofs.Clients.{Made}
+use Rattle.sc_group_law.proofs.Places.{Journal}
 use Rattle.sc_group_law.proofs.Family.{Kept}
 
-first_of : (members : List ℕ) → 1 ≤ length members → (node : ℕ) × (rest : List ℕ) × (members ≡ node ∷ rest)
+-- a list that is not empty has a first element
+pub first_of : (members : List ℕ) → 1 ≤ length members → (node : ℕ) × (rest : List ℕ) × (members ≡ node ∷ rest)
 first_of [] le = absurd (omega (arith, le))
 first_of (node ∷ rest) le = (node, rest, refl)
 
@@ -80,21 +82,21 @@ module _ (ahead : Ahead) (made : Command → Type 0) (n : ℕ) where
       (λ _. inr (apart_from b bases apart.0 base a, holds_born base bases apart.1 a)) (λ _. holds_born base bases apart.1 a)
 
 -- what holds before any row
-pub at_birth : (ahead : Ahead) (scenario : Scenario) (base : Base) (others : List Base) → HasGroups scenario base others → Kept ahead scenario (base ∷ others) (route_of base) []
-at_birth ahead scenario base others has = record {
+pub at_birth : (ahead : Ahead) (scenario : Scenario) (bases : List Base) (route : Route) (made : Journal → Base → Command → Type 0) → AreApart bases → Kept ahead scenario bases bases route made []
+at_birth ahead scenario bases route made apart = record {
   parts = λ b a. record { lawful = tt; requested = λ ballot slot c o. absurd o; true_mail = λ m o. absurd o };
   named = λ m a. absurd a;
   nodes = λ n low high. record {
-    node = record { me = n; draws = record { node = n; next = 1 }; replicas = map (λ b. born_replica ahead.slots n b) (filter (λ b. is_member b.core.members n) (base ∷ others)) };
+    node = record { me = n; draws = record { node = n; next = 1 }; replicas = map (λ b. born_replica ahead.slots n b) (filter (λ b. is_member b.core.members n) bases) };
     value_is = refl;
     is = record {
       me_is = refl;
-      known = each_born ahead (Made scenario []) n (λ r. IsOneOf (base ∷ others) (name_of r)) (base ∷ others) (λ b a. (b, a, refl));
-      holds = λ b a. holds_born ahead (Made scenario []) n b (base ∷ others) has.apart a;
+      known = each_born ahead (λ c. Unit {0}) n (λ r. IsOneOf bases (name_of r)) bases (λ b a. (b, a, refl));
+      holds = λ b a. holds_born ahead (made [] b) n b bases apart a;
     };
   };
   clients = λ asks stands. record {
-    client = born_client asks.client asks.ops (route_of base);
+    client = born_client asks.client asks.ops route;
     value_is = refl;
     is = record { me = refl; requests = refl; waits = tt; replies = λ k reply e. cc };
     fresh = λ e. (refl, refl);

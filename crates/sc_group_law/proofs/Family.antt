@@ -17,7 +17,7 @@ use Rattle.sc_actor.specs.System.{has_gone}
 use Rattle.sc_actor.proofs.ReplayLemmas.{mails-snoc}
 use Rattle.sc_client_table.specs.Client.{Client}
 use Rattle.sc_node_table.specs.Node.{NodeState}
-use Rattle.sc_paxos_words.proofs.ListLemmas.{Each-among}
+use Rattle.sc_paxos_words.proofs.ListLemmas.{Each-among, Each-weaker}
 use Rattle.sc_paxos_law.specs.Steps.{Offered}
 use Rattle.sc_paxos_law.specs.Chosen.{members_of, IsChosenAfter}
 use Rattle.sc_paxos_law.specs.Decided.{log_of}
@@ -40,7 +40,7 @@ use Rattle.sc_group_law.proofs.Names.{IsNamed}
 use Rattle.sc_group_law.proofs.Nodes.{IsNode}
 use Rattle.sc_group_law.proofs.Projected.{log_only, only_steps}
 use Rattle.sc_group_law.proofs.Places.{Journal, split_at}
-use Rattle.sc_group_law.proofs.Clients.{Made, MadeBy, Heard, made_later, made_whole, IsClient, Grew}
+use Rattle.sc_group_law.proofs.Clients.{Made, MadeBy, Heard, made_whole, IsClient, Grew}
 
 -- the steps of a journal for each group
 abbrev pub h_of : Journal → Base → Steps
@@ -67,14 +67,15 @@ entry_offered ahead base rows lawful place c at =
     let offer = chosen_offered ahead base (h_of rows base) lawful _ (place + 1) c chosen in
     (offer.0, place + 1, offer.1)
 
-module _ (ahead : Ahead) (scenario : Scenario) (bases : List Base) (route : Route) where
+-- the groups of a scenario, the groups so far, where clients ask first, and what each group's replicas may queue after some rows
+module _ (ahead : Ahead) (scenario : Scenario) (firsts bases : List Base) (route : Route) (made : Journal → Base → Command → Type 0) where
   -- ---- players
 
   -- a node of the journal as the steps say
-  pub record IsNodeAt (made rows : Journal) (n : ℕ) : Type 0 where
+  pub record IsNodeAt (since rows : Journal) (n : ℕ) : Type 0 where
     pub node : NodeState
-    pub value_is : value player_table (node_seat ahead bases n) rows ≡ ANode node
-    pub is : IsNode ahead bases (MadeBy scenario made) (h_of rows) n node
+    pub value_is : value player_table (node_seat ahead firsts n) rows ≡ ANode node
+    pub is : IsNode ahead bases (made since) (h_of rows) n node
 
   -- a client of the journal as the steps say
   pub record IsClientAt (rows : Journal) (asks : Asks) : Type 0 where
@@ -92,8 +93,8 @@ module _ (ahead : Ahead) (scenario : Scenario) (bases : List Base) (route : Rout
   -- a group's part: its steps are lawful, each command that is offered was made, and what mail says of it is true
   pub record Part (rows : Journal) (base : Base) : Type 0 where
     pub lawful : IsLawfulHistory (rule ahead base) (first ahead base) (h_of rows base)
-    pub requested : (b : Ballot) (slot : ℕ) (c : Command) → Among (Offered b slot c) (h_of rows base) → Made scenario rows c
-    pub true_mail : (m : Mail) → Among m (mails rows) → IsTrue ahead base (Made scenario rows) Heard (h_of rows base) m m.body
+    pub requested : (b : Ballot) (slot : ℕ) (c : Command) → Among (Offered b slot c) (h_of rows base) → made rows base c
+    pub true_mail : (m : Mail) → Among m (mails rows) → IsTrue ahead base (made rows base) Heard (h_of rows base) m m.body
 
   -- what holds of each lawful journal
   pub record Kept (rows : Journal) : Type 0 where
@@ -111,8 +112,8 @@ module _ (ahead : Ahead) (scenario : Scenario) (bases : List Base) (route : Rout
     pub newer : Steps
     pub are : h_of (rows ++ row ∷ []) base ≡ newer ++ h_of rows base
     pub lawful : IsLawfulHistory (rule ahead base) (first ahead base) (h_of (rows ++ row ∷ []) base)
-    pub requested : (b : Ballot) (slot : ℕ) (c : Command) → Among (Offered b slot c) (h_of (rows ++ row ∷ []) base) → Made scenario rows c
-    pub true_sent : (m : Mail) → Among m row.sent → IsTrue ahead base (Made scenario (rows ++ row ∷ [])) Heard (h_of (rows ++ row ∷ []) base) m m.body
+    pub requested : (b : Ballot) (slot : ℕ) (c : Command) → Among (Offered b slot c) (h_of (rows ++ row ∷ []) base) → made rows base c
+    pub true_sent : (m : Mail) → Among m row.sent → IsTrue ahead base (made (rows ++ row ∷ []) base) Heard (h_of (rows ++ row ∷ []) base) m m.body
 
   -- a client after a row of its own, or as it was
   pub record ClientMoved (rows : Journal) (row : Row Mail OrderLine) (asks : Asks) : Type 0 where
@@ -126,39 +127,43 @@ module _ (ahead : Ahead) (scenario : Scenario) (bases : List Base) (route : Rout
     pub nodes : (n : ℕ) → 1 ≤ n → n ≤ scenario.nodes → IsNodeAt rows (rows ++ row ∷ []) n
     pub clients : (asks : Asks) → Among asks scenario.clients → ClientMoved rows row asks
 
-  node_made : (made more : Base → Command → Type 0) → ((b : Base) (c : Command) → made b c → more b c) → (h : Base → Steps) (me : ℕ) (node : NodeState) → IsNode ahead bases made h me node → IsNode ahead bases more h me node
-  node_made made more f h me node at = record { me_is = at.me_is; known = at.known; holds = λ base a. more_holds ahead base (made base) (more base) (f base) me (h base) node.replicas (at.holds base a) }
+  -- what may be queued may be after more rows
+  abbrev pub StaysMade : Type 0
+  StaysMade = (rows : Journal) (row : Row Mail OrderLine) (base : Base) (c : Command) → made rows base c → made (rows ++ row ∷ []) base c
+
+  node_made : (old more : Base → Command → Type 0) → ((b : Base) (c : Command) → old b c → more b c) → (h : Base → Steps) (me : ℕ) (node : NodeState) → IsNode ahead bases old h me node → IsNode ahead bases more h me node
+  node_made old more f h me node at = record { me_is = at.me_is; known = at.known; holds = λ base a. more_holds ahead base (old base) (more base) (f base) me (h base) node.replicas (at.holds base a) }
 
   -- what holds of a journal holds with one more row
-  pub push : (rows : Journal) (row : Row Mail OrderLine) → Kept rows → Moved rows row → Kept (rows ++ row ∷ [])
-  push rows row k m =
+  pub push : StaysMade → (rows : Journal) (row : Row Mail OrderLine) → Kept rows → Moved rows row → Kept (rows ++ row ∷ [])
+  push later rows row k m =
       let next = rows ++ row ∷ [] in
       record {
         parts = λ base a. (
             let p = m.parts base a in
             record {
               lawful = p.lawful;
-              requested = λ b slot c o. made_later scenario rows row c (p.requested b slot c o);
+              requested = λ b slot c o. later rows row base c (p.requested b slot c o);
               true_mail = λ x b. elim (Among-either x (mails rows) row.sent (subst (Among x) (mails-snoc rows row) b)) [
-                | inl old ↦ subst (λ g. IsTrue ahead base (Made scenario next) Heard g x x.body) (sym p.are)
-                    (grown_true ahead base (Made scenario rows) (Made scenario next) (made_later scenario rows row) Heard Heard (λ body none. none) p.newer (h_of rows base) x x.body ((k.parts base a).true_mail x old))
+                | inl old ↦ subst (λ g. IsTrue ahead base (made next base) Heard g x x.body) (sym p.are)
+                    (grown_true ahead base (made rows base) (made next base) (later rows row base) Heard Heard (λ body none. none) p.newer (h_of rows base) x x.body ((k.parts base a).true_mail x old))
                 | inr new ↦ p.true_sent x new
               ];
             });
         named = λ x b. elim (Among-either x (mails rows) row.sent (subst (Among x) (mails-snoc rows row) b)) [ inl old ↦ k.named x old | inr new ↦ m.named x new ];
         nodes = λ n some most. (let at = m.nodes n some most in
-            record { node = at.node; value_is = at.value_is; is = node_made (MadeBy scenario rows) (MadeBy scenario next) (λ b. made_later scenario rows row) (h_of next) n at.node at.is });
+            record { node = at.node; value_is = at.value_is; is = node_made (made rows) (made next) (later rows row) (h_of next) n at.node at.is });
         clients = λ asks stands. (m.clients asks stands).after;
       }
 
   -- ---- a group's log
 
-  -- nothing that is decided divides the group
-  pub entries_whole : (base : Base) → Among base bases → (rows : Journal) → Kept rows → Each LeavesWhole (decided_log ahead base rows)
-  entries_whole base a rows k = each_got LeavesWhole (decided_log ahead base rows) (λ place c at. (
+  -- what is decided was queued
+  pub entries_made : (base : Base) → Among base bases → (rows : Journal) → Kept rows → Each (made rows base) (decided_log ahead base rows)
+  entries_made base a rows k = each_got (made rows base) (decided_log ahead base rows) (λ place c at. (
       let part = k.parts base a in
       let offer = entry_offered ahead base rows part.lawful place c at in
-      made_whole scenario rows c (part.requested offer.0 offer.1 c offer.2)))
+      part.requested offer.0 offer.1 c offer.2))
 
   -- the log goes on
   pub log_goes_on : (base : Base) → Among base bases → (rows : Journal) (row : Row Mail OrderLine) → Moved rows row
@@ -172,3 +177,9 @@ module _ (ahead : Ahead) (scenario : Scenario) (bases : List Base) (route : Rout
       let later = decided_is ahead base next ∙ ap (log_of (rule ahead base)) p.are in
       split_at (length log) log (decided_log ahead base next)
       (ap (take (length log)) later ∙ ap (λ l. take (length l) (log_of (rule ahead base) (p.newer ++ h_of rows base))) same ∙ grown.1 ∙ sym same)
+
+-- nothing that is decided divides a group, where nothing that is queued does
+pub entries_whole : (ahead : Ahead) (scenario : Scenario) (bases : List Base) (route : Route) (base : Base) → Among base bases → (rows : Journal) → Kept ahead scenario bases bases route (MadeBy scenario) rows
+    → Each LeavesWhole (decided_log ahead base rows)
+entries_whole ahead scenario bases route base a rows k =
+    Each-weaker (Made scenario rows) LeavesWhole (made_whole scenario rows) (decided_log ahead base rows) (entries_made ahead scenario bases bases route (MadeBy scenario) base a rows k)

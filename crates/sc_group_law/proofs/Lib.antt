@@ -32,5 +32,6 @@ pub mod Replicated
 pub mod Births
 pub mod RowSteps
 pub mod Walked
+pub mod Several
 pub mod Example
 pub mod JoinExample

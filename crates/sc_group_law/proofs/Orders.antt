@@ -3,10 +3,11 @@ use Rattle.std.proofs.Common.{◌≡◌, ℕ, zero, suc, ◌+◌, ◌%◌, List,
 use Rattle.std.specs.Prelude.{slice_get}
 use Rattle.std.specs.List.{flat_map}
 use Rattle.std.proofs.lemmas.Option.{cond_some}
-use Rattle.std.proofs.lemmas.Bool.{cond_both}
+use Rattle.std.proofs.lemmas.Bool.{eqb-true, cond_both}
 use Rattle.sc_base.specs.Among.{Each}
 use Rattle.sc_base.proofs.CommonLemmas.{and_then-some, map-some}
-use Rattle.sc_paxos_words.proofs.ListLemmas.{Each-append}
+use Rattle.sc_paxos_words.proofs.ListLemmas.{Each-append, find_found}
+use Rattle.sc_actor.specs.declared.actors.Seat.{Seat}
 use Rattle.sc_cmd.specs.declared.orders.OrderLine.{OrderLine}
 use Rattle.sc_mail.specs.declared.bodies.Mail.{Mail}
 use Rattle.sc_scenario.specs.declared.scenarios.SchedLine.{SchedLine}
@@ -30,20 +31,20 @@ unless-some : {Y : Type 0} (b : Bool) (o : Option Y) (y : Y) → cond b None o �
 unless-some true o y e = cc
 unless-some false o y e = (refl, e)
 
-module _ {O : Type 0} (Q : O → Type 0) where
-  -- an event that tells only such orders
-  abbrev pub IsToldSo : Event O → Type 0
-  IsToldSo (Told order) = Q order
-  IsToldSo (Deliver mail) = Unit {0}
-  IsToldSo Go = Unit {0}
-  IsToldSo Tick = Unit {0}
-  IsToldSo Crash = Unit {0}
-  IsToldSo (Drop mail) = Unit {0}
-  IsToldSo (Again mail) = Unit {0}
+module _ {O : Type 0} (Q : ℕ → O → Type 0) where
+  -- an event that tells this actor only such orders
+  abbrev pub IsToldSo : ℕ → Event O → Type 0
+  IsToldSo who (Told order) = Q who order
+  IsToldSo who (Deliver mail) = Unit {0}
+  IsToldSo who Go = Unit {0}
+  IsToldSo who Tick = Unit {0}
+  IsToldSo who Crash = Unit {0}
+  IsToldSo who (Drop mail) = Unit {0}
+  IsToldSo who (Again mail) = Unit {0}
 
   -- a line that tells only such orders
   abbrev pub TellsSo : Line O → Type 0
-  TellsSo (ToldLine who order) = Q order
+  TellsSo (ToldLine who order) = Q who order
   TellsSo (GoLine who) = Unit {0}
   TellsSo (DeliverLine who k) = Unit {0}
   TellsSo (DropLine who k) = Unit {0}
@@ -99,27 +100,28 @@ module _ {O : Type 0} (Q : O → Type 0) where
     -- ---- rows
 
     module _ (rows : List (Row M O)) where
-      acts_so : (who : ℕ) (event : Event O) (row : Row M O) → IsToldSo event → acts s rows who event ≡ Some row → IsToldSo row.event
+      acts_so : (who : ℕ) (event : Event O) (row : Row M O) → IsToldSo who event → acts s rows who event ≡ Some row → IsToldSo row.who row.event
       acts_so who event row q e =
           let m = map-some (λ seat. row_of s.table seat rows event) (find (λ seat. eqb seat.who who) s.births) row e in
-          subst IsToldSo (ap (λ (r : Row M O). r.event) m.2) q
+          let found = find_found (λ (seat : Seat A). eqb seat.who who) s.births m.0 m.1 in
+          subst (λ (r : Row M O). IsToldSo r.who r.event) m.2 (subst (λ n. IsToldSo n event) (sym (eqb-true m.0.who who found.1)) q)
 
-      network_so : (event : Event O) (row : Row M O) → IsToldSo event → network event ≡ row → IsToldSo row.event
-      network_so event row q e = subst IsToldSo (ap (λ (r : Row M O). r.event) e) q
+      network_so : (event : Event O) (row : Row M O) → ((who : ℕ) → IsToldSo who event) → network event ≡ row → IsToldSo row.who row.event
+      network_so event row q e = subst (λ (r : Row M O). IsToldSo r.who r.event) e (q 0)
 
-      delivery_so : (mail : ℕ) (row : Row M O) → delivery s rows mail ≡ Some row → IsToldSo row.event
+      delivery_so : (mail : ℕ) (row : Row M O) → delivery s rows mail ≡ Some row → IsToldSo row.who row.event
       delivery_so mail row e = let p = and_then-some (λ m. acts s rows (s.receiver m) (Deliver mail)) (numbered (mails rows) mail) row e in acts_so (s.receiver p.0) (Deliver mail) row tt p.2
 
-      repeat_so : (mail : ℕ) (row : Row M O) → repeat_of s rows mail ≡ Some row → IsToldSo row.event
+      repeat_so : (mail : ℕ) (row : Row M O) → repeat_of s rows mail ≡ Some row → IsToldSo row.who row.event
       repeat_so mail row e =
           let p = and_then-some (λ m. cond (may_get (numbers_of s.births) rows (s.receiver m)) (Some (network (Again mail))) None) (numbered (mails rows) mail) row e in
           let q = cond_some (may_get (numbers_of s.births) rows (s.receiver p.0)) (network (Again mail)) row p.2 in
-          network_so (Again mail) row tt q.1
+          network_so (Again mail) row (λ who. tt) q.1
 
-      row_so : (line : Line O) (row : Row M O) → TellsSo line → Allows s rows (Once line) row → IsToldSo row.event
+      row_so : (line : Line O) (row : Row M O) → TellsSo line → Allows s rows (Once line) row → IsToldSo row.who row.event
       row_so (GoLine who) row q e = acts_so who Go row tt (unless-some (has_gone rows who) (acts s rows who Go) row e).1
       row_so (DeliverLine who k) row q e = let p = and_then-some (λ mail. acts s rows who (Deliver mail)) (kth (waiting s rows (Some who)) k) row e in acts_so who (Deliver p.0) row tt p.2
-      row_so (DropLine who k) row q e = let p = map-some (λ mail. network (Drop mail)) (kth (waiting s rows (Some who)) k) row e in network_so (Drop p.0) row tt p.2
+      row_so (DropLine who k) row q e = let p = map-some (λ mail. network (Drop mail)) (kth (waiting s rows (Some who)) k) row e in network_so (Drop p.0) row (λ who. tt) p.2
       row_so (AgainLine mail) row q e = repeat_so mail row e
       row_so (TickLine who) row q e = acts_so who Tick row tt (unless-some (has_crashed rows who) (acts s rows who Tick) row e).1
       row_so (CrashLine who) row q e = acts_so who Crash row tt (unless-some (has_crashed rows who) (acts s rows who Crash) row e).1
@@ -128,8 +130,8 @@ module _ {O : Type 0} (Q : O → Type 0) where
       row_so (Free most workers) row q e = cc
       row_so (Storm number most) row q e = cc
 
-      storm_row_so : (w v : ℕ) (row : Row M O) → storm_row s rows w v ≡ Some row → IsToldSo row.event
-      storm_row_so zero v row e = let p = map-some (λ mail. network (Drop mail)) (picked s rows v) row e in network_so (Drop p.0) row tt p.2
+      storm_row_so : (w v : ℕ) (row : Row M O) → storm_row s rows w v ≡ Some row → IsToldSo row.who row.event
+      storm_row_so zero v row e = let p = map-some (λ mail. network (Drop mail)) (picked s rows v) row e in network_so (Drop p.0) row (λ who. tt) p.2
       storm_row_so (suc zero) v row e = repeat_so (1 + v % length (mails rows)) row e
       storm_row_so (suc (suc zero)) v row e =
           let p = and_then-some (λ who. cond (has_crashed rows who) None (acts s rows who Tick)) (slice_get (numbers_of s.births) (v % length (numbers_of s.births))) row e in
@@ -137,19 +139,19 @@ module _ {O : Type 0} (Q : O → Type 0) where
       storm_row_so (suc (suc (suc more))) v row e = let p = and_then-some (delivery s rows) (picked s rows v) row e in delivery_so p.0 row p.2
 
       -- what a task allows tells only such orders
-      pub allows_so : (task : Task O) (row : Row M O) → IsTaskSo task → Allows s rows task row → IsToldSo row.event
+      pub allows_so : (task : Task O) (row : Row M O) → IsTaskSo task → Allows s rows task row → IsToldSo row.who row.event
       allows_so (Once line) row q e = row_so line row q e
       allows_so (Settles left) row q e = let p = and_then-some (delivery s rows) (kth (waiting s rows None) 1) row e in delivery_so p.0 row p.2
       allows_so (Frees left) row q e = let p = and_then-some (λ mail. acts s rows row.who (Deliver mail)) (kth (waiting s rows (Some row.who)) 1) row e in acts_so row.who (Deliver p.0) row tt p.2
       allows_so (Storms words) row q e = storm_row_so (words.0 % 16) words.1 row e
 
-      may_add_so : (tasks : List (Task O)) (row : Row M O) → Each IsTaskSo tasks → MayAdd s rows tasks row → IsToldSo row.event
+      may_add_so : (tasks : List (Task O)) (row : Row M O) → Each IsTaskSo tasks → MayAdd s rows tasks row → IsToldSo row.who row.event
       may_add_so [] row q e = absurd e
       may_add_so (task ∷ tasks) row q e = allows_so task row q.0 e
 
     -- ---- induction over lawful journals, where only such orders are told
 
-    module _ (P : List (Row M O) → Type 0) (keeps : (rows : List (Row M O)) (row : Row M O) → P rows → IsToldSo row.event → IsStep s rows row → P (rows ++ row ∷ [])) where
+    module _ (P : List (Row M O) → Type 0) (keeps : (rows : List (Row M O)) (row : Row M O) → P rows → IsToldSo row.who row.event → IsStep s rows row → P (rows ++ row ∷ [])) where
       walk_told : (place : WalkPlace M O) (rows : List (Row M O)) → Each IsTaskSo place.tasks → P place.rows → IsWalk s place rows → P (place.rows ++ rows)
       walk_told place [] q now walk = subst P (sym (append-nil place.rows)) now
       walk_told place (row ∷ rows) q now walk =
@@ -169,12 +171,12 @@ module _ {O : Type 0} (Q : O → Type 0) where
 -- ---- orders to join and leave
 
 -- an order to join or leave
-abbrev pub IsPlainOrder : OrderLine → Type 0
-IsPlainOrder line = IsOfMembers line.order
+abbrev pub IsPlainOrder : ℕ → OrderLine → Type 0
+IsPlainOrder who line = IsOfMembers line.order
 
--- an event that tells no other order
+-- an event that tells no other order, whomever it tells
 abbrev pub IsPlainEvent : Event OrderLine → Type 0
-IsPlainEvent event = IsToldSo IsPlainOrder event
+IsPlainEvent event = IsToldSo IsPlainOrder 0 event
 
 plain_line : (line : SchedLine) → TellsOfMembers line → TellsSo IsPlainOrder (line_of line)
 plain_line (scheduled.Told node order) q = q
@@ -192,9 +194,19 @@ plain_lines : (lines : List SchedLine) → Each TellsOfMembers lines → Each (T
 plain_lines [] q = tt
 plain_lines (line ∷ lines) q = (plain_line line q.0, plain_lines lines q.1)
 
+-- whoever is told
+plain_event : (who : ℕ) (event : Event OrderLine) → IsToldSo IsPlainOrder who event → IsPlainEvent event
+plain_event who (Told order) q = q
+plain_event who (Deliver mail) q = tt
+plain_event who Go q = tt
+plain_event who Tick q = tt
+plain_event who Crash q = tt
+plain_event who (Drop mail) q = tt
+plain_event who (Again mail) q = tt
+
 -- what holds before any row, and is kept by each step that tells no other order, holds of every lawful journal of a scenario whose orders are to join and leave
 pub plain_induction : (ahead : Ahead) (words : ℕ → ℕ → ℕ × ℕ) (scenario : Scenario) → Each TellsOfMembers scenario.lines → (P : List (Row Mail OrderLine) → Type 0)
     → ((rows : List (Row Mail OrderLine)) (row : Row Mail OrderLine) → P rows → IsPlainEvent row.event → IsStep (system_of ahead words scenario) rows row → P (rows ++ row ∷ []))
     → (rows : List (Row Mail OrderLine)) → P [] → Lawful ahead words scenario rows → P rows
 plain_induction ahead words scenario orders P keeps rows none lawful =
-    told_induction IsPlainOrder (system_of ahead words scenario) P keeps (schedule scenario) rows (plain_lines scenario.lines orders) none lawful
+    told_induction IsPlainOrder (system_of ahead words scenario) P (λ before row p told step. keeps before row p (plain_event row.who row.event told) step) (schedule scenario) rows (plain_lines scenario.lines orders) none lawful

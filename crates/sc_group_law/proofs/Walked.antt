@@ -6,6 +6,7 @@ use Rattle.std.proofs.lemmas.Bool.{cases_Bool, eqb-true, eqb-false, eq-eqb, ne_e
 use Rattle.sc_base.specs.declared.names.Draw.{Draw}
 use Rattle.sc_base.specs.declared.ops.Op.{Op}
 use Rattle.sc_cmd.specs.declared.commands.Command.{Command}
+use Rattle.sc_cmd.specs.declared.commands.Command.TheVariants.{Call}
 use Rattle.sc_cmd.specs.declared.cores.Base.{Base}
 use Rattle.sc_cmd.specs.declared.orders.OrderLine.{OrderLine}
 use Rattle.sc_mail.specs.declared.bodies.Mail.{Mail}
@@ -24,59 +25,77 @@ use Rattle.sc_client_table.specs.Client.{Client}
 use Rattle.sc_client_table.specs.Table.{table, request_of}
 use Rattle.sc_client_table.specs.Turns.{InTurn}
 use Rattle.sc_client_table.proofs.TurnLemmas.{sends_in_turn}
-use Rattle.sc_node_table.specs.Node.{NodeState, on_mail, on_tick, on_order}
+use Rattle.sc_node_table.specs.Node.{NodeState, group_of_order, on_mail, on_tick, on_order}
+use Rattle.sc_node_table.specs.Ordering.{ordered_command}
 use Rattle.sc_node_table.specs.Slots.{numbers_from}
 use Rattle.sc_base.specs.Drawing.{next_name}
 use Rattle.sc_base.specs.Among.{Among, Each}
-use Rattle.sc_paxos_words.proofs.ListLemmas.{Each-among, Each-weaker, find_found}
+use Rattle.sc_paxos_words.proofs.ListLemmas.{Each-among, find_found}
 use Rattle.sc_paxos_law.proofs.Among.{Among-either, from_map}
 use Rattle.sc_paxos_law.specs.Steps.{Offered}
 use Rattle.sc_paxos_law.specs.Lawful.{IsLawfulHistory}
 use Rattle.sc_base.specs.declared.names.Ballot.{Ballot}
 use Rattle.sc_scenario.specs.declared.scenarios.Asks.{Asks}
 use Rattle.sc_scenario.specs.declared.scenarios.Scenario.{Scenario}
-use Rattle.sc_players.specs.Players.{route_of, Ahead, node_seat, births, system_of, player_table, client_seat, client_seats, Player, replies_of}
+use Rattle.sc_players.specs.Players.{Ahead, node_seat, births, system_of, player_table, client_seat, Player, replies_of}
 use Rattle.sc_cmd.specs.declared.links.Route.{Route}
-use Rattle.sc_hist_law.specs.Laws.{LeavesWhole}
 use Rattle.sc_sound.specs.Requests.{issues, asks_for}
 use Rattle.sc_sound.proofs.Rows.{any_push}
 use Rattle.sc_group_law.specs.Steps.{steps_at}
-use Rattle.sc_group_law.specs.Groups.{HasGroups}
 use Rattle.sc_players.specs.declared.roles.Role.TheVariants.{Node as ANode, Client as AClient}
 use Rattle.sc_group_law.proofs.Invariant.{Steps, rule, first, Grants, IsTrue, grown_true}
 use Rattle.sc_group_law.proofs.RowSteps.{number_among, among_numbers, steps_deliver, steps_plain}
 use Rattle.sc_group_law.proofs.Frames.{node_row, steps_of}
 use Rattle.sc_group_law.proofs.Holding.{Holds, still_holds}
-use Rattle.sc_group_law.proofs.Orders.{IsPlainEvent}
 use Rattle.sc_group_law.proofs.Names.{IsNamed}
-use Rattle.sc_group_law.proofs.Nodes.{NodeEnded, unchanged, ends_as, mail_ended, order_ended}
+use Rattle.sc_group_law.proofs.Offspring.{IsChildOf}
+use Rattle.sc_group_law.proofs.Nodes.{IsNewborn, NodeEnded, unchanged, ends_as, mail_ended, order_ended}
 use Rattle.sc_group_law.proofs.Ticks.{tick_ended}
 use Rattle.sc_group_law.proofs.Voting.{ArePlain}
 use Rattle.sc_group_law.proofs.Projected.{steps-push}
 use Rattle.sc_group_law.proofs.Places.{Journal}
-use Rattle.sc_group_law.proofs.Clients.{Made, MadeBy, Heard, made_later, made_whole, order_made, grants, none_born, issued_now, IsAsk, HaveGrown, IsClient, Grew, later_client, client_after, client_sends}
-use Rattle.sc_group_law.proofs.Family.{h_of, IsNodeAt, IsClientAt, replies_in, Kept, PartMoved, ClientMoved, Moved}
-use Rattle.sc_base.specs.Limits.{client_actor}
+use Rattle.sc_group_law.proofs.Clients.{Heard, IsIssued, issued_now, IsAsk, HaveGrown, IsClient, Grew, later_client, client_after, client_sends}
+use Rattle.sc_group_law.proofs.Family.{h_of, IsNodeAt, IsClientAt, replies_in, Kept, PartMoved, ClientMoved, Moved, StaysMade}
+use Rattle.sc_base.specs.Limits.{client_actor, most_nodes}
 
-module _ (ahead : Ahead) (words : ℕ → ℕ → ℕ × ℕ) (scenario : Scenario) (base : Base) (others : List Base) (has : HasGroups scenario base others)
-    (some : (b : Base) → Among b (base ∷ others) → (log : List Command) → Each LeavesWhole log → (node : ℕ) × (rest : List ℕ) × ((rule ahead b).members log ≡ node ∷ rest)) where
-  abbrev bases : List Base
-  bases = base ∷ others
+-- what a family of groups rests on: how the players begin, whatever the rows; what may be queued stays so, no group is ever locked, and each has members
+pub record IsFamily (ahead : Ahead) (scenario : Scenario) (firsts bases : List Base) (route : Route) (made : Journal → Base → Command → Type 0) : Type 0 where
+  pub seats : births ahead scenario ≡ map (node_seat ahead firsts) (numbers_from 1 scenario.nodes) ++ map (client_seat route) scenario.clients
+  pub nodes : scenario.nodes ≤ most_nodes
+  pub numbered : Each (λ asks. 1 ≤ asks.client) scenario.clients
+  pub once : (one other : Asks) → Among one scenario.clients → Among other scenario.clients → one.client ≡ other.client → one ≡ other
+  pub later : StaysMade ahead scenario firsts bases route made
+  pub issued : (rows : Journal) (b : Base) (client seq : ℕ) (op : Op) → IsIssued scenario rows client seq op → made rows b (Call client seq op)
+  pub grants : (rows : Journal) (b : Base) → Among b bases → Grants ahead b (made rows b) Heard
+  pub some : (rows : Journal) (b : Base) → Among b bases → (log : List Command) → Each (made rows b) log → (node : ℕ) × (rest : List ℕ) × ((rule ahead b).members log ≡ node ∷ rest)
 
-  abbrev route : Route
-  route = route_of base
-
+module _ (ahead : Ahead) (words : ℕ → ℕ → ℕ × ℕ) (scenario : Scenario) (firsts bases : List Base) (route : Route) (made_by : Journal → Base → Command → Type 0) (has : IsFamily ahead scenario firsts bases route made_by) where
   abbrev nseat : ℕ → Seat Player
-  nseat n = node_seat ahead bases n
+  nseat n = node_seat ahead firsts n
 
   abbrev cseat : Asks → Seat Player
   cseat asks = client_seat route asks
 
   abbrev K : Journal → Type 0
-  K = Kept ahead scenario bases route
+  K = Kept ahead scenario firsts bases route made_by
 
   abbrev M : Journal → Row Mail OrderLine → Type 0
-  M = Moved ahead scenario bases route
+  M = Moved ahead scenario firsts bases route made_by
+
+  -- what an order asks for may be queued at its group, if one is told
+  abbrev pub MayTell : Journal → ℕ → Event OrderLine → Type 0
+  MayTell rows n (Told line) =
+      (node : NodeState) → value player_table (nseat n) rows ≡ ANode node → (b : Base) → Among b bases → group_of_order line.order ≡ b.core.id → made_by rows b (ordered_command (next_name node.draws) line.number line.order)
+  MayTell rows n (Deliver number) = Unit {0}
+  MayTell rows n Go = Unit {0}
+  MayTell rows n Tick = Unit {0}
+  MayTell rows n Crash = Unit {0}
+  MayTell rows n (Drop number) = Unit {0}
+  MayTell rows n (Again number) = Unit {0}
+
+  -- each child of a group is one of the groups
+  abbrev pub KnowsOffspring : Journal → Type 0
+  KnowsOffspring rows = (n : ℕ) (b : Base) → Among b bases → (child : Base) → IsChildOf ahead b (made_by rows b) n (h_of rows b) child → IsNewborn ahead bases (made_by rows) child
 
   -- ---- players that do not act
 
@@ -90,8 +109,8 @@ module _ (ahead : Ahead) (words : ℕ → ℕ → ℕ × ℕ) (scenario : Scenar
   still_gone : (rows : Journal) (row : Row Mail OrderLine) (who : ℕ) → has_gone (rows ++ row ∷ []) who ≡ false → has_gone rows who ≡ false
   still_gone rows row who e = (any_push (λ r. eqb r.who who && is_go r.event) rows row e).0
 
-  client_still : (rows : Journal) (row : Row Mail OrderLine) → HaveGrown ahead bases (h_of rows) (h_of (rows ++ row ∷ [])) → (asks : Asks) → IsClientAt ahead scenario bases route rows asks → eqb row.who (client_actor asks.client) ≡ false
-      → ClientMoved ahead scenario bases route rows row asks
+  client_still : (rows : Journal) (row : Row Mail OrderLine) → HaveGrown ahead bases (h_of rows) (h_of (rows ++ row ∷ [])) → (asks : Asks) → IsClientAt ahead scenario firsts bases route made_by rows asks → eqb row.who (client_actor asks.client) ≡ false
+      → ClientMoved ahead scenario firsts bases route made_by rows row asks
   client_still rows row grown asks c f =
       let same = other_value (cseat asks) rows row f in
       record {
@@ -109,34 +128,25 @@ module _ (ahead : Ahead) (words : ℕ → ℕ → ℕ × ℕ) (scenario : Scenar
 
   -- ---- rows of nodes
 
-  module _ (rows : Journal) (k : K rows) where
+  module _ (rows : Journal) (k : K rows) (offspring : KnowsOffspring rows) where
     abbrev h : Base → Steps
     h = h_of rows
 
-    abbrev made : Command → Type 0
-    made = Made scenario rows
-
-    abbrev made_by : Base → Command → Type 0
-    made_by = MadeBy scenario rows
+    abbrev made : Base → Command → Type 0
+    made = made_by rows
 
     lawful : (b : Base) → Among b bases → IsLawfulHistory (rule ahead b) (first ahead b) (h b)
     lawful b a = (k.parts b a).lawful
 
-    requested : (b : Base) → Among b bases → (ballot : Ballot) (slot : ℕ) (c : Command) → Among (Offered ballot slot c) (h b) → made c
+    requested : (b : Base) → Among b bases → (ballot : Ballot) (slot : ℕ) (c : Command) → Among (Offered ballot slot c) (h b) → made b c
     requested b a = (k.parts b a).requested
 
-    some_made : (b : Base) → Among b bases → (log : List Command) → Each made log → (node : ℕ) × (rest : List ℕ) × ((rule ahead b).members log ≡ node ∷ rest)
-    some_made b a log e = some b a log (Each-weaker made LeavesWhole (made_whole scenario rows) log e)
-
-    grants_of : (b : Base) → Among b bases → Grants ahead b made Heard
-    grants_of b a = grants ahead scenario rows b (has.empty b a).free
-
     abbrev Ends : ℕ → (Base → Steps) → NodeState × List Mail → Type 0
-    Ends n after step = NodeEnded ahead bases made_by Heard grants_of n h some_made lawful requested after step
+    Ends n after step = NodeEnded ahead bases made Heard (has.grants rows) n h (has.some rows) lawful requested after step
 
     -- a group's part of a node's row
     part_moved : (n : ℕ) (event : Event OrderLine) (step : NodeState × List Mail) (e : Ends n (λ b. steps_at b.core.id (mails rows) (node_row n event step.1) (h b)) step) (b : Base) → Among b bases
-        → PartMoved ahead scenario bases route rows (node_row n event step.1) b
+        → PartMoved ahead scenario firsts bases route made_by rows (node_row n event step.1) b
     part_moved n event step e b a =
         let p = e.parts b a in
         let row = node_row n event step.1 in
@@ -147,8 +157,8 @@ module _ (ahead : Ahead) (words : ℕ → ℕ → ℕ × ℕ) (scenario : Scenar
           are = are;
           lawful = subst (IsLawfulHistory (rule ahead b) (first ahead b)) (sym are) p.lawful_is;
           requested = λ ballot slot c o. p.requested_is ballot slot c (subst (Among (Offered ballot slot c)) are o);
-          true_sent = λ m o. subst (λ g. IsTrue ahead b (Made scenario next) Heard g m m.body) (sym are)
-              (grown_true ahead b made (Made scenario next) (made_later scenario rows row) Heard Heard (λ body none. none) [] (p.newer ++ h b) m m.body (p.mails m o));
+          true_sent = λ m o. subst (λ g. IsTrue ahead b (made_by next b) Heard g m m.body) (sym are)
+              (grown_true ahead b (made b) (made_by next b) (has.later rows row b) Heard Heard (λ body none. none) [] (p.newer ++ h b) m m.body (p.mails m o));
         }
 
     node_moved : (n : ℕ) → 1 ≤ n → n ≤ scenario.nodes → (event : Event OrderLine) (step : NodeState × List Mail)
@@ -164,14 +174,14 @@ module _ (ahead : Ahead) (words : ℕ → ℕ → ℕ × ℕ) (scenario : Scenar
           named = ended.named;
           nodes = λ j below above. elim (cases_Bool (eqb n j)) [
             | inl t ↦ (let same = eqb-true n j t in
-                subst (λ i. IsNodeAt ahead scenario bases route rows next i) same
+                subst (λ i. IsNodeAt ahead scenario firsts bases route made_by rows next i) same
                 (record {
                   node = step.0;
                   value_is = own_value (nseat n) rows row refl ∙ ap (λ x. x.0) acts;
                   is = record {
                     me_is = ended.me_is;
                     known = ended.known;
-                    holds = λ b a. subst (λ g. Holds ahead b made n g step.0.replicas) (sym (are b a)) (ended.parts b a).holds;
+                    holds = λ b a. subst (λ g. Holds ahead b (made b) n g step.0.replicas) (sym (are b a)) (ended.parts b a).holds;
                   };
                 }))
             | inr f ↦ (let at = k.nodes j below above in
@@ -181,8 +191,8 @@ module _ (ahead : Ahead) (words : ℕ → ℕ → ℕ × ℕ) (scenario : Scenar
                   is = record {
                     me_is = at.is.me_is;
                     known = at.is.known;
-                    holds = λ b a. subst (λ g. Holds ahead b made j g at.node.replicas) (sym (are b a))
-                        (still_holds ahead b made j n (ended.parts b a).newer (h b) (ended.parts b a).by (eqb-false n j f) at.node.replicas (at.is.holds b a));
+                    holds = λ b a. subst (λ g. Holds ahead b (made b) j g at.node.replicas) (sym (are b a))
+                        (still_holds ahead b (made b) j n (ended.parts b a).newer (h b) (ended.parts b a).by (eqb-false n j f) at.node.replicas (at.is.holds b a));
                   };
                 })
           ];
@@ -190,10 +200,10 @@ module _ (ahead : Ahead) (words : ℕ → ℕ → ℕ × ℕ) (scenario : Scenar
               client_still rows row (λ b a. ((ended.parts b a).newer, are b a)) asks (k.clients asks stands) (ne_eqb n (client_actor asks.client) (λ e. absurd (omega (arith, e, up, high, limit)))));
         }
 
-    node_event : (n : ℕ) → 1 ≤ n → n ≤ scenario.nodes → (event : Event OrderLine) → IsPlainEvent event → IsOpen (system_of ahead words scenario) rows n event → M rows (row_of player_table (nseat n) rows event)
-    node_event n low high event plain open_ = by event plain open_
+    node_event : (n : ℕ) → 1 ≤ n → n ≤ scenario.nodes → (event : Event OrderLine) → MayTell rows n event → IsOpen (system_of ahead words scenario) rows n event → M rows (row_of player_table (nseat n) rows event)
+    node_event n low high event may open_ = by event may open_
       where
-        at : IsNodeAt ahead scenario bases route rows rows n
+        at : IsNodeAt ahead scenario firsts bases route made_by rows rows n
         at = k.nodes n low high
 
         acting : (e : Event OrderLine) (step : NodeState × List Mail) → acted player_table (ANode at.node) (input_of (mails rows) e) ≡ (ANode step.0, step.1)
@@ -203,27 +213,27 @@ module _ (ahead : Ahead) (words : ℕ → ℕ → ℕ × ℕ) (scenario : Scenar
             subst (λ (sent : List Mail). M rows (node_row n e sent)) (sym (ap (λ x. x.1) all)) (node_moved n low high e step all ended)
 
         quiet : (e : Event OrderLine) → Ends n (λ b. steps_at b.core.id (mails rows) (node_row n e []) (h b)) (at.node, [])
-        quiet e = unchanged ahead bases made_by Heard grants_of n h some_made lawful requested (λ b. steps_at b.core.id (mails rows) (node_row n e []) (h b)) at.node [] at.is (λ b a. steps_plain b.core.id (mails rows) n e [] (h b) tt) (λ m a. absurd a) (λ b a m o. absurd o)
+        quiet e = unchanged ahead bases made Heard (has.grants rows) n h (has.some rows) lawful requested (λ b. steps_at b.core.id (mails rows) (node_row n e []) (h b)) at.node [] at.is (λ b a. steps_plain b.core.id (mails rows) n e [] (h b) tt) (λ m a. absurd a) (λ b a m o. absurd o)
 
-        by : (e : Event OrderLine) → IsPlainEvent e → IsOpen (system_of ahead words scenario) rows n e → M rows (row_of player_table (nseat n) rows e)
+        by : (e : Event OrderLine) → MayTell rows n e → IsOpen (system_of ahead words scenario) rows n e → M rows (row_of player_table (nseat n) rows e)
         by (Deliver number) plain (m, under, to) =
             let step = on_mail m.from m.body at.node in
             let came = number_among (mails rows) number m under.sent in
             acting (Deliver number) step (ap (λ o. acted player_table (ANode at.node) (option_map Got o)) under.sent)
-            (ends_as ahead bases made_by Heard grants_of n h some_made lawful requested (λ b. steps_of b.core.id n (Deliver number) m.body step.1 (h b))
+            (ends_as ahead bases made Heard (has.grants rows) n h (has.some rows) lawful requested (λ b. steps_of b.core.id n (Deliver number) m.body step.1 (h b))
             (λ b. steps_at b.core.id (mails rows) (node_row n (Deliver number) step.1) (h b)) step (λ b. sym (steps_deliver b.core.id (mails rows) n number m step.1 (h b) under.sent))
-            (mail_ended ahead bases made_by Heard grants_of n h some_made lawful requested (Deliver number) m (λ b a child is. absurd (none_born ahead scenario rows b n (h b) child is)) at.node at.is (k.named m came) (λ b a. (k.parts b a).true_mail m came)))
-        by Tick plain o = acting Tick (on_tick at.node) refl (tick_ended ahead bases made_by Heard grants_of n h some_made lawful requested at.node at.is)
+            (mail_ended ahead bases made Heard (has.grants rows) n h (has.some rows) lawful requested (Deliver number) m (offspring n) at.node at.is (k.named m came) (λ b a. (k.parts b a).true_mail m came)))
+        by Tick plain o = acting Tick (on_tick at.node) refl (tick_ended ahead bases made Heard (has.grants rows) n h (has.some rows) lawful requested at.node at.is)
         by Go plain o = acting Go (at.node, []) refl (quiet Go)
-        by (Told order) plain o = acting (Told order) (on_order order at.node) refl (order_ended ahead bases made_by Heard grants_of n h some_made lawful requested order at.node (λ b a is. order_made scenario rows (next_name at.node.draws) order.number order.order plain) at.is)
+        by (Told order) plain o = acting (Told order) (on_order order at.node) refl (order_ended ahead bases made Heard (has.grants rows) n h (has.some rows) lawful requested order at.node (plain at.node at.value_is) at.is)
         by Crash plain o = acting Crash (at.node, []) refl (quiet Crash)
         by (Drop number) plain o = absurd o
         by (Again number) plain o = absurd o
 
     -- ---- a row that takes no step
 
-    still_part : (row : Row Mail OrderLine) → ((b : Base) → steps_at b.core.id (mails rows) row (h b) ≡ h b) → ((b : Base) (m : Mail) → Among m row.sent → IsTrue ahead b (Made scenario (rows ++ row ∷ [])) Heard (h b) m m.body)
-        → (b : Base) → Among b bases → PartMoved ahead scenario bases route rows row b
+    still_part : (row : Row Mail OrderLine) → ((b : Base) → steps_at b.core.id (mails rows) row (h b) ≡ h b) → ((b : Base) (m : Mail) → Among m row.sent → IsTrue ahead b (made_by (rows ++ row ∷ []) b) Heard (h b) m m.body)
+        → (b : Base) → Among b bases → PartMoved ahead scenario firsts bases route made_by rows row b
     still_part row none sent b a =
         let next = rows ++ row ∷ [] in
         let are : h_of next b ≡ [] ++ h b = steps-push b.core.id rows row ∙ none b in
@@ -233,18 +243,18 @@ module _ (ahead : Ahead) (words : ℕ → ℕ → ℕ × ℕ) (scenario : Scenar
           are = are;
           lawful = subst (IsLawfulHistory (rule ahead b) (first ahead b)) (sym are) part.lawful;
           requested = λ ballot slot c o. part.requested ballot slot c (subst (Among (Offered ballot slot c)) are o);
-          true_sent = λ m o. subst (λ g. IsTrue ahead b (Made scenario next) Heard g m m.body) (sym are) (sent b m o);
+          true_sent = λ m o. subst (λ g. IsTrue ahead b (made_by next b) Heard g m m.body) (sym are) (sent b m o);
         }
 
-    still_node : (row : Row Mail OrderLine) → ((b : Base) → steps_at b.core.id (mails rows) row (h b) ≡ h b) → (j : ℕ) → eqb row.who j ≡ false → IsNodeAt ahead scenario bases route rows rows j
-        → IsNodeAt ahead scenario bases route rows (rows ++ row ∷ []) j
+    still_node : (row : Row Mail OrderLine) → ((b : Base) → steps_at b.core.id (mails rows) row (h b) ≡ h b) → (j : ℕ) → eqb row.who j ≡ false → IsNodeAt ahead scenario firsts bases route made_by rows rows j
+        → IsNodeAt ahead scenario firsts bases route made_by rows (rows ++ row ∷ []) j
     still_node row none j f at = record {
       node = at.node;
       value_is = other_value (nseat j) rows row f ∙ at.value_is;
       is = record {
         me_is = at.is.me_is;
         known = at.is.known;
-        holds = λ b a. subst (λ g. Holds ahead b made j g at.node.replicas) (sym (steps-push b.core.id rows row ∙ none b)) (at.is.holds b a);
+        holds = λ b a. subst (λ g. Holds ahead b (made b) j g at.node.replicas) (sym (steps-push b.core.id rows row ∙ none b)) (at.is.holds b a);
       };
     }
 
@@ -265,12 +275,13 @@ module _ (ahead : Ahead) (words : ℕ → ℕ → ℕ × ℕ) (scenario : Scenar
         ∙ or_left (eqb asks.client asks.client && eqb request.0 request.0) false (and_from (eqb asks.client asks.client) (eqb request.0 request.0) (eq-eqb asks.client asks.client refl) (eq-eqb request.0 request.0 refl)))
 
     sends_true : (asks : Asks) → Among asks scenario.clients → (event : Event OrderLine) (sent : List Mail) → (sent ≡ []) ⊎ ((g : Draw) × (target : ℕ) × (request : ℕ × Op) × IsAsk asks request × (sent ≡ request_of asks.client g target request ∷ []))
-        → (b : Base) (m : Mail) → Among m sent → IsTrue ahead b (Made scenario (rows ++ node_row (client_actor asks.client) event sent ∷ [])) Heard (h b) m m.body
+        → (b : Base) (m : Mail) → Among m sent → IsTrue ahead b (made_by (rows ++ node_row (client_actor asks.client) event sent ∷ []) b) Heard (h b) m m.body
     sends_true asks stands event sent (inl none) b m a = absurd (subst (Among m) none a)
     sends_true asks stands event sent (inr (g, target, request, ask, is)) b m a =
         elim (subst (Among m) is a) [
-          | inl e ↦ subst (λ (x : Mail). IsTrue ahead b (Made scenario (rows ++ node_row (client_actor asks.client) event sent ∷ [])) Heard (h b) x x.body) e
-              (issued_now scenario rows (node_row (client_actor asks.client) event sent) asks.client request.0 request.1 asks stands refl ask.0 ask.1 (issues_it asks g target request event sent is))
+          | inl e ↦ subst (λ (x : Mail). IsTrue ahead b (made_by (rows ++ node_row (client_actor asks.client) event sent ∷ []) b) Heard (h b) x x.body) e
+              (has.issued (rows ++ node_row (client_actor asks.client) event sent ∷ []) b asks.client request.0 request.1
+              (issued_now scenario rows (node_row (client_actor asks.client) event sent) asks.client request.0 request.1 asks stands refl ask.0 ask.1 (issues_it asks g target request event sent is)))
           | inr n ↦ absurd n
         ]
 
@@ -282,7 +293,7 @@ module _ (ahead : Ahead) (words : ℕ → ℕ → ℕ × ℕ) (scenario : Scenar
       abbrev who : ℕ
       who = client_actor asks.client
 
-      abbrev at : IsClientAt ahead scenario bases route rows asks
+      abbrev at : IsClientAt ahead scenario firsts bases route made_by rows asks
       at = k.clients asks stands
 
       -- what becomes of the client: it and its replies, and what it sends
@@ -302,7 +313,7 @@ module _ (ahead : Ahead) (words : ℕ → ℕ → ℕ × ℕ) (scenario : Scenar
           let became = own_value (cseat asks) rows row refl ∙ ap (λ x. x.0) all in
           let none : (b : Base) → steps_at b.core.id (mails rows) row (h b) ≡ h b = λ b. steps_plain b.core.id (mails rows) who event sent (h b) (sends_plain asks sent t.sends) in
           let grown = still_grown row none in
-          let mine : ClientMoved ahead scenario bases route rows row asks = record {
+          let mine : ClientMoved ahead scenario firsts bases route made_by rows row asks = record {
             after = record {
               client = after;
               value_is = became;
@@ -310,7 +321,7 @@ module _ (ahead : Ahead) (words : ℕ → ℕ → ℕ × ℕ) (scenario : Scenar
               fresh = λ e. (let parts = any_push (λ r. eqb r.who who && is_go r.event) rows row e in
                   t.fresh (not_go (eqb who who) (is_go event) (eq-eqb who who refl) parts.1) (at.fresh parts.0));
             };
-            grew = subst (λ rs. Grew ahead bases h asks rs (replies_in ahead scenario bases route asks (rows ++ row ∷ []))) (sym (ap replies_of at.value_is))
+            grew = subst (λ rs. Grew ahead bases h asks rs (replies_in ahead scenario firsts bases route made_by asks (rows ++ row ∷ []))) (sym (ap replies_of at.value_is))
                 (subst (Grew ahead bases h asks at.client.replies) (sym (ap replies_of became)) t.grew);
           } in
           subst (λ (ms : List Mail). M rows (node_row who event ms)) (sym (ap (λ x. x.1) all))
@@ -322,7 +333,7 @@ module _ (ahead : Ahead) (words : ℕ → ℕ → ℕ × ℕ) (scenario : Scenar
               | inl e ↦ (
                   let number = eqb-true who (client_actor other.client) e in
                   let same : asks ≡ other = has.once asks other stands there (omega (arith, number)) in
-                  subst (λ (x : Asks). ClientMoved ahead scenario bases route rows row x) same mine)
+                  subst (λ (x : Asks). ClientMoved ahead scenario firsts bases route made_by rows row x) same mine)
               | inr f ↦ client_still rows row grown other (k.clients other there) f
             ];
           })
@@ -341,7 +352,7 @@ module _ (ahead : Ahead) (words : ℕ → ℕ → ℕ × ℕ) (scenario : Scenar
           ]
 
       by_input : (event : Event OrderLine) (input : Input Mail OrderLine) → acted player_table (AClient at.client) (input_of (mails rows) event) ≡ (AClient (table at.client input).0, (table at.client input).1)
-          → ((m : Mail) → input ≡ Got m → (m.to ≡ client_actor asks.client) × IsNamed bases m.body × ((b : Base) → Among b bases → IsTrue ahead b made Heard (h b) m m.body)) → (input ≡ GoInput → (at.client.replies ≡ []) × (is_go event ≡ true))
+          → ((m : Mail) → input ≡ Got m → (m.to ≡ client_actor asks.client) × IsNamed bases m.body × ((b : Base) → Among b bases → IsTrue ahead b (made b) Heard (h b) m m.body)) → (input ≡ GoInput → (at.client.replies ≡ []) × (is_go event ≡ true))
           → M rows (row_of player_table (cseat asks) rows event)
       by_input event input acts told went =
           let turn = sends_in_turn at.client input in
@@ -363,7 +374,7 @@ module _ (ahead : Ahead) (words : ℕ → ℕ → ℕ × ℕ) (scenario : Scenar
           (λ other e. (
           let same : m ≡ other = cc in
           let came = number_among (mails rows) number m under.sent in
-          subst (λ (x : Mail). (x.to ≡ client_actor asks.client) × IsNamed bases x.body × ((b : Base) → Among b bases → IsTrue ahead b made Heard (h b) x x.body)) same (to, k.named m came, λ b a. (k.parts b a).true_mail m came)))
+          subst (λ (x : Mail). (x.to ≡ client_actor asks.client) × IsNamed bases x.body × ((b : Base) → Among b bases → IsTrue ahead b (made b) Heard (h b) x x.body)) same (to, k.named m came, λ b a. (k.parts b a).true_mail m came)))
           (λ e. cc)
       client_event Tick o = by_input Tick TickInput refl (λ m e. cc) (λ e. cc)
       client_event Go o = by_input Go GoInput refl (λ m e. cc) (λ e. ((at.fresh o).0, refl))
@@ -387,29 +398,26 @@ module _ (ahead : Ahead) (words : ℕ → ℕ → ℕ × ℕ) (scenario : Scenar
 
   -- ---- all rows
 
-  births_are : births ahead scenario ≡ map nseat (numbers_from 1 scenario.nodes) ++ map cseat scenario.clients
-  births_are = ap (λ groups. map (node_seat ahead groups) (numbers_from 1 scenario.nodes) ++ client_seats groups scenario.clients) has.groups
-
-  actor_step : (rows : Journal) (row : Row Mail OrderLine) → K rows → IsPlainEvent row.event → ActorStep (system_of ahead words scenario) rows row → M rows row
-  actor_step rows row k plain step =
-      let told = subst (λ (r : Row Mail OrderLine). IsPlainEvent r.event) step.row_is plain in
+  actor_step : (rows : Journal) (row : Row Mail OrderLine) → K rows → KnowsOffspring rows → MayTell rows row.who row.event → ActorStep (system_of ahead words scenario) rows row → M rows row
+  actor_step rows row k offspring may step =
+      let told = subst (λ (r : Row Mail OrderLine). MayTell rows r.who r.event) step.row_is may in
       let found = find_found (λ (other : Seat Player). eqb other.who step.seat.who) (births ahead scenario) step.seat step.born in
-      let there = subst (Among step.seat) births_are found.0 in
+      let there = subst (Among step.seat) has.seats found.0 in
       elim (Among-either step.seat (map nseat (numbers_from 1 scenario.nodes)) (map cseat scenario.clients) there) [
         | inl a ↦ (
             let from = from_map nseat (numbers_from 1 scenario.nodes) step.seat a in
             let bounds = among_numbers 1 scenario.nodes from.0 from.1 in
             let is : row ≡ row_of player_table (nseat from.0) rows step.event = step.row_is ∙ ap (λ (seat : Seat Player). row_of player_table seat rows step.event) (sym from.2) in
             subst (M rows) (sym is)
-            (node_event rows k from.0 bounds.0 (omega (arith, bounds.1)) step.event told (subst (λ (seat : Seat Player). IsOpen (system_of ahead words scenario) rows seat.who step.event) (sym from.2) step.open_)))
+            (node_event rows k offspring from.0 bounds.0 (omega (arith, bounds.1)) step.event (subst (λ (seat : Seat Player). MayTell rows seat.who step.event) (sym from.2) told) (subst (λ (seat : Seat Player). IsOpen (system_of ahead words scenario) rows seat.who step.event) (sym from.2) step.open_)))
         | inr a ↦ (
             let from = from_map cseat scenario.clients step.seat a in
             let is : row ≡ row_of player_table (cseat from.0) rows step.event = step.row_is ∙ ap (λ (seat : Seat Player). row_of player_table seat rows step.event) (sym from.2) in
             subst (M rows) (sym is)
-            (client_event rows k from.0 from.1 step.event (subst (λ (seat : Seat Player). IsOpen (system_of ahead words scenario) rows seat.who step.event) (sym from.2) step.open_)))
+            (client_event rows k offspring from.0 from.1 step.event (subst (λ (seat : Seat Player). IsOpen (system_of ahead words scenario) rows seat.who step.event) (sym from.2) step.open_)))
       ]
 
   -- each step that may come next moves what holds on
-  pub moved : (rows : Journal) (row : Row Mail OrderLine) → K rows → IsPlainEvent row.event → IsStep (system_of ahead words scenario) rows row → M rows row
-  moved rows row k plain (inl step) = actor_step rows row k plain step
-  moved rows row k plain (inr step) = subst (M rows) (sym step.row_is) (network_event rows k step.event)
+  pub moved : (rows : Journal) (row : Row Mail OrderLine) → K rows → KnowsOffspring rows → MayTell rows row.who row.event → IsStep (system_of ahead words scenario) rows row → M rows row
+  moved rows row k offspring may (inl step) = actor_step rows row k offspring may step
+  moved rows row k offspring may (inr step) = subst (M rows) (sym step.row_is) (network_event rows k offspring step.event)

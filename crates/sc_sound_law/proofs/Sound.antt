@@ -36,15 +36,15 @@ use Rattle.sc_sound.specs.Logs.{decided_log, decided_state}
 use Rattle.sc_sound.specs.Requests.{IsRequest, kept_replies, kept_reply, answer_row}
 use Rattle.sc_sound.specs.Soundness.{GoesOn, HasOneLog, HasRun, AllHaveRun, IsOneMap, AnswersRequests, told_row, IsTimely, KeepsRealTime, IsSound}
 use Rattle.sc_group_law.specs.Groups.{AreApart, HasGroups}
-use Rattle.sc_group_law.proofs.Births.{some_of, tells_of, at_birth}
+use Rattle.sc_group_law.proofs.Births.{tells_of}
 use Rattle.sc_group_law.proofs.Clients.{Made, MadeBy, IsAnswered}
-use Rattle.sc_group_law.proofs.Family.{h_of, entry_offered, push, entries_whole}
+use Rattle.sc_group_law.proofs.Family.{h_of, entry_offered, entries_whole}
 use Rattle.sc_group_law.proofs.Holding.{held}
 use Rattle.sc_group_law.proofs.Names.{IsOneOf}
 use Rattle.sc_group_law.proofs.Nodes.{IsNode}
 use Rattle.sc_group_law.proofs.Replicated.{one_value, is_log, executed_is, goes_on}
 use Rattle.sc_group_law.proofs.Replies.{reply_told}
-use Rattle.sc_group_law.proofs.Walked.{moved}
+use Rattle.sc_group_law.proofs.Several.{several_start, several_moved, several_push}
 use Rattle.sc_sound_law.specs.Together.{StartTogether}
 use Rattle.sc_sound_law.proofs.Told.{told_quietly}
 use Rattle.sc_sound_law.proofs.Placing.{ring_stays}
@@ -98,12 +98,12 @@ module _ (ahead : Ahead) (words : ℕ → ℕ → ℕ × ℕ) (any : Scenario) (
 
   keeps : (rows : Rows) (row : Row Mail OrderLine) → Holding rows → IsPlainEvent row.event → IsStep (system_of ahead words scenario) rows row → Holding (rows ++ row ∷ [])
   keeps rows row (k, t) plain step =
-      let m = moved ahead words scenario base others has (λ b a. some_of ahead b (has.empty b a)) rows row k plain step in
-      (push ahead scenario bases (route_of base) rows row k m, push_timed ahead scenario base others has.apart law rows row k t m)
+      let m = several_moved ahead words scenario base others has rows row k plain step in
+      (several_push ahead scenario base others rows row k m, push_timed ahead scenario base others has.apart law rows row k t m)
 
   all_hold : (rows : Rows) → Lawful ahead words scenario rows → Holding rows
   all_hold rows lawful =
-      plain_induction ahead words scenario has.orders Holding keeps rows (at_birth ahead scenario base others has, first_timed ahead scenario base others has.apart) lawful
+      plain_induction ahead words scenario has.orders Holding keeps rows (several_start ahead words scenario base others has, first_timed ahead scenario base others has.apart) lawful
 
   -- ---- a first part
 

@@ -36,8 +36,9 @@ use Rattle.sc_sound.proofs.Rows.{history-push}
 use Rattle.sc_sound.proofs.EntryRows.{entries-push, world-push}
 use Rattle.sc_group_law.specs.Groups.{AreApart}
 use Rattle.sc_group_law.proofs.Places.{or_now, issue-push, answered-push, done_append}
-use Rattle.sc_group_law.proofs.Clients.{Made, IsAnswered}
-use Rattle.sc_group_law.proofs.Family.{h_of, entry_offered, Kept, ClientMoved, Moved, push, entries_whole, log_goes_on}
+use Rattle.sc_group_law.proofs.Clients.{Made, MadeBy, IsAnswered}
+use Rattle.sc_group_law.proofs.Family.{h_of, entry_offered, Kept, ClientMoved, Moved, entries_whole, log_goes_on}
+use Rattle.sc_group_law.proofs.Several.{several_push}
 use Rattle.sc_group_law.proofs.Replies.{reply_told}
 use Rattle.sc_sound_law.specs.Together.{IsPlainCommand, IsPlainEntry}
 use Rattle.sc_sound_law.proofs.Tellings.{among_place, get_front, state_append, each_flat_map, made_plain, entries_plain, told-push}
@@ -53,7 +54,7 @@ module _ (ahead : Ahead) (scenario : Scenario) (base : Base) (others : List Base
 
   -- what holds of a journal
   abbrev pub K : Rows → Type 0
-  K = Kept ahead scenario bases route
+  K = Kept ahead scenario bases bases route (MadeBy scenario)
 
   abbrev replies_in : Asks → Rows → List Reply
   replies_in asks rows = kept_replies route asks rows
@@ -106,7 +107,7 @@ module _ (ahead : Ahead) (scenario : Scenario) (base : Base) (others : List Base
   -- ---- one more row
 
   module _ (law : (b : Base) → Among b bases → (log : List Command) → Each LeavesWhole log → LogTells (group_of b) log) (rows : Rows) (row : Row Mail OrderLine) (kept : K rows) (k : Timed rows)
-      (m : Moved ahead scenario bases route rows row) where
+      (m : Moved ahead scenario bases bases route (MadeBy scenario) rows row) where
     abbrev next : Rows
     next = rows ++ row ∷ []
 
@@ -117,7 +118,7 @@ module _ (ahead : Ahead) (scenario : Scenario) (base : Base) (others : List Base
     told_next = history ahead bases next
 
     after : K next
-    after = push ahead scenario bases route rows row kept m
+    after = several_push ahead scenario base others rows row kept m
 
     whole : AreUndivided ahead bases apart rows
     whole b a = entries_whole ahead scenario bases route b a rows kept
@@ -129,7 +130,7 @@ module _ (ahead : Ahead) (scenario : Scenario) (base : Base) (others : List Base
     longer = length_push rows row
 
     log_on : (b : Base) → Among b bases → decided_log ahead b next ≡ decided_log ahead b rows ++ added ahead bases apart rows next b
-    log_on b a = log_goes_on ahead scenario bases route b a rows row m
+    log_on b a = log_goes_on ahead scenario bases bases route (MadeBy scenario) b a rows row m
 
     -- ---- the world
 
@@ -269,7 +270,7 @@ module _ (ahead : Ahead) (scenario : Scenario) (base : Base) (others : List Base
     -- ---- replies
 
     module _ (asks : Asks) (stands : Among asks scenario.clients) where
-      moved : ClientMoved ahead scenario bases route rows row asks
+      moved : ClientMoved ahead scenario bases bases route (MadeBy scenario) rows row asks
       moved = m.clients asks stands
 
       answered_now : (seq : ℕ) (o : Option ℕ) → answer_row route asks seq rows ≡ o → answer_row route asks seq next ≡ or_now o (nat_le seq (length (replies_in asks next))) (length rows + 1)

@@ -1,0 +1,3 @@
+pub mod LoneSplit
+pub mod Once
+pub mod Laws
