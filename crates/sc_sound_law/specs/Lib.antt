@@ -1,3 +1,4 @@
 pub mod Laws
+pub mod LoneGroup
 pub mod Together
 pub mod TwoGroups
