@@ -1,5 +1,5 @@
 -- Where a group's replica stands, and a tick of each replica.
-use Rattle.std.proofs.Common.{◌≡◌, ℕ, ◌+◌, ◌<◌, ◌≤◌, Bool, true, false, List, [], ◌∷◌, ◌++◌, length, take, drop, set, get_or, zero, suc, Option, Some, None, Result, Ok, Err, IfOk, refl, sym, ap, ◌∙◌, arith, if◌then◌else◌}
+use Rattle.std.proofs.Common.{◌≡◌, ℕ, ◌+◌, ◌<◌, ◌≤◌, Bool, true, false, List, [], ◌∷◌, ◌++◌, length, take, drop, set, get_or, zero, suc, Option, Some, None, is_some, Result, Ok, Err, IfOk, refl, sym, ap, ◌∙◌, arith, if◌then◌else◌}
 use Rattle.std.proofs.lemmas.List.{append-nil, drop_all, take_all}
 use Rattle.sc_base.specs.declared.names.Draw.{Draw}
 use Rattle.sc_base.specs.Same.{same_draw}
@@ -68,6 +68,13 @@ nowhere-test group r rs false at is rest e = rw is (rest e)
 pub stands-nowhere : (group : Draw) (rs : List ReplicaState) (at : ℕ) → place_from at group rs ≡ None → replica_of group rs ≡ None
 stands-nowhere group [] at e = refl
 stands-nowhere group (r ∷ rs) at e = nowhere-test group r rs (same_draw (name_of r) group) at refl (stands-nowhere group rs (at + 1)) e
+
+-- whether there is a replica, by its place
+pub known_by : (group : Draw) (rs : List ReplicaState) (o : Option ℕ) → o ≡ place_from 0 group rs → is_some o ≡ is_some (replica_of group rs)
+known_by group [] (Some n) e = absurd (cc)
+known_by group [] None e = refl
+known_by group (r ∷ rs) (Some n) e = sym (ap is_some ((stands-at group (r ∷ rs) n (sym e)).found r))
+known_by group (r ∷ rs) None e = sym (ap is_some (stands-nowhere group (r ∷ rs) 0 (sym e)))
 
 -- replicas before others
 abbrev pub before : List ReplicaState → List ReplicaState × List Mail → List ReplicaState × List Mail

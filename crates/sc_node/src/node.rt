@@ -202,7 +202,8 @@ impl NodeCore {
             (taken_by (replica_of group self.old.replicas) group from body.now self.old
             ≡ (with_children made.new self.new, sent.new)) }
     {
-        take_mail(&mut self.replicas[i], from, body, sent, made)
+        take_mail(&mut self.replicas[i], from, body, sent, made)?;
+        Ok(())
     }
 
     fn take_at(

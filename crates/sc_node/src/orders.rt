@@ -1,5 +1,5 @@
 //! Orders: which are taken, and the names that they take of the node.
-ghost use Rattle.std.specs.Prelude.{◌≡◌, ◌||◌, ◌&&◌, not, true, false, OnOk, Some, None, is_some, if◌then◌else◌};
+ghost use Rattle.std.specs.Prelude.{◌≡◌, ◌≤◌, ◌-◌, ◌^◌, ◌||◌, ◌&&◌, not, true, false, OnOk, Some, None, is_some, if◌then◌else◌};
 ghost use Rattle.sc_base.specs.Drawing.{next_name, drawn_on};
 ghost use Rattle.sc_txn.specs.Checked.{is_checked};
 ghost use Rattle.sc_machine_table.specs.Orders.{refusal_of};
@@ -78,7 +78,8 @@ fn takes_name(order: &Order) -> bool
 
 /// Whether a node has drawn all its names.
 fn has_drawn_all(draws: &Draws) -> bool
-    ensures { result ≡ has_drawn_all draws.now }
+    ensures same { result ≡ has_drawn_all draws.now }
+    ensures most { draws.now.next ≤ 2 ^ 32 - 1 }
 {
     draws.spent()
 }
@@ -94,6 +95,7 @@ fn drawn_command(draws: &mut Draws, line: &OrderLine) -> Command
     if !takes_name(&line.order) {
         return ordered_command(NO_NAME, line.number, &line.order);
     }
+    prove!(!has_drawn_all(draws));
     let name = draws.draw();
     ordered_command(name, line.number, &line.order)
 }

@@ -1,6 +1,6 @@
 //! What is said of an executed command: a call is answered, of an order the desk is told, and a
 //! transaction goes on.
-ghost use Rattle.std.specs.Prelude.{◌≡◌, OnOk};
+ghost use Rattle.std.specs.Prelude.{◌≡◌, true, false, OnOk};
 ghost use Rattle.sc_node_table.specs.Execute.{result_of, order_result, told_effect, announced};
 ghost use Rattle.sc_node_table.specs.Spoken.{spoken};
 ghost use Rattle.sc_node.specs.Calls.{is_call};

@@ -185,13 +185,13 @@ fn post(rt: &impl Abort, alloc: Global, run: &mut Run, sent: &Sequence<Mail>) {
     }
 }
 
-fn party_of(parties: &mut Vec<Party>, node: u32) -> Option<&mut Party> {
-    parties.get_mut(node.saturating_sub(1) as usize)
+fn place_of(node: u32) -> usize {
+    node.saturating_sub(1) as usize
 }
 
 // A node steps.
 fn act(rt: &impl Abort, alloc: Global, run: &mut Run, node: u32, input: Input<Mail, OrderLine>) {
-    let Some(party) = party_of(&mut run.parties, node) else {
+    let Some(party) = run.parties.get_mut(place_of(node)) else {
         panic!(rt; "no such node");
     };
     let sent = party.node.step(alloc, &input).expect(rt, "memory");
@@ -202,7 +202,7 @@ fn act(rt: &impl Abort, alloc: Global, run: &mut Run, node: u32, input: Input<Ma
 }
 
 fn is_alive(parties: &[Party], node: u32) -> bool {
-    match parties.get(node.saturating_sub(1) as usize) {
+    match parties.get(place_of(node)) {
         Some(party) => node > 0 && !party.crashed,
         None => false,
     }
@@ -248,7 +248,7 @@ fn lose(rt: &impl Abort, alloc: Global, run: &mut Run, node: u32) {
 }
 
 fn crash(run: &mut Run, node: u32) {
-    if let Some(party) = party_of(&mut run.parties, node) {
+    if let Some(party) = run.parties.get_mut(place_of(node)) {
         party.crashed = true;
         run.rows = run.rows.saturating_add(1);
     }

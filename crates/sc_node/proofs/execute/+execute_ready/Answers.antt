@@ -1,4 +1,5 @@
 use Rattle.std.proofs.Common.{◌≡◌, ◌<◌, length, sym, ap, ◌∙◌, arith}
+use Rattle.std.proofs.lemmas.Result.{on_ok_weaker}
 use Rattle.sc_node_table.specs.Pump.{pumped}
 use Rattle.sc_node_table.specs.Execute.{executed_ready}
 use Rattle.sc_node_table.specs.Births.{ready_children}
@@ -30,6 +31,8 @@ returns-clause-place t c =
 
 pub returns-clause-made : goal.returns-clause-made
 returns-clause-made t c =
+    let made : c.execute_ready.new.made ≡ ready_children c.args.replica.now.ready (c.args.replica.now, c.args.out.now) c.args.made.now =
     c.in_ok-execute_ready.ensures.made
     ∙ turn-children c.args.replica.now c.execute_one.new.replica c.args.out.now c.execute_one.new.out c.args.made.now c.bear.new.made c.in-Some.command
-    (sym c.in_ok-command.ensures.ready ∙ c.in-Some.is) c.in_ok-execute_one.ensures c.in_ok-bear.ensures
+    (sym c.in_ok-command.ensures.ready ∙ c.in-Some.is) c.in_ok-execute_one.ensures c.in_ok-bear.ensures in
+    on_ok_weaker c.pump.result (λ _. made) c.pump.ensures

@@ -1,6 +1,6 @@
 use Rattle.std.proofs.Common.{◌≡◌, drop}
 use Rattle.sc_node_table.specs.Node.{with_children}
-use Rattle.sc_node.proofs.arrivals.NodeCore.bear_all.Given as goal
+use Rattle.sc_node.proofs.node.NodeCore.bear_all.Given as goal
 
 -- what is left makes the whole
 abbrev pub invariant-loop-child : goal.invariant-loop-child
