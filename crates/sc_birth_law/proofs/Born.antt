@@ -110,7 +110,7 @@ module _ (ahead : Ahead) (words : ℕ → ℕ → ℕ × ℕ) (scenario : Scenar
     pub draws : (n : ℕ) → HasDraws ahead one rows n
 
   -- before any row
-  pub first_born : ((n : ℕ) → HasDraws ahead one [] n) → Born []
+  unfoldable pub first_born : ((n : ℕ) → HasDraws ahead one [] n) → Born []
   first_born draws = record {
     groups = inl (record { none = refl; kept = at_birth ahead scenario one (route_of base) (MadeSplit scenario) (tt, tt) });
     draws = draws;
@@ -311,7 +311,8 @@ module _ (ahead : Ahead) (words : ℕ → ℕ → ℕ × ℕ) (scenario : Scenar
   well_line (scheduled.Free most workers) a early = tt
   well_line (scheduled.Storm number most) a early = tt
 
-  well_lines : (lines : List SchedLine) → ((line : SchedLine) → Among line lines → Among line scenario.lines) → Each TellsEarly lines → Each (TellsSo IsToldWell) (map line_of lines)
+  -- each line of the schedule tells its order well
+  pub well_lines : (lines : List SchedLine) → ((line : SchedLine) → Among line lines → Among line scenario.lines) → Each TellsEarly lines → Each (TellsSo IsToldWell) (map line_of lines)
   well_lines [] within early = tt
   well_lines (line ∷ lines) within early = (well_line line (within line (inl refl)) early.0, well_lines lines (λ other a. within other (inr a)) early.1)
 

@@ -11,3 +11,6 @@ pub mod Found
 pub mod Notes
 pub mod OneMap
 pub mod Telling
+pub mod Replying
+pub mod Timing
+pub mod Sound

@@ -55,10 +55,12 @@ none_one kid e = cc
 one_one : (other kid : Base) → other ∷ [] ≡ kid ∷ [] → other ≡ kid
 one_one other kid e = cc
 
-none_one_more : (kid : Base) (more : List Base) → [] ≡ (kid ∷ []) ++ more → ⊥
+-- a list with a first element is not empty
+pub none_one_more : (kid : Base) (more : List Base) → [] ≡ (kid ∷ []) ++ more → ⊥
 none_one_more kid more e = cc
 
-one_one_more : (other kid : Base) (more : List Base) → other ∷ [] ≡ (kid ∷ []) ++ more → other ≡ kid
+-- a list of one has the first element of another that it is
+pub one_one_more : (other kid : Base) (more : List Base) → other ∷ [] ≡ (kid ∷ []) ++ more → other ≡ kid
 one_one_more other kid more e = cc
 
 module _ (ahead : Ahead) (words : ℕ → ℕ → ℕ × ℕ) (scenario : Scenario) (base : Base) (open_slots : ahead.slots ≡ slots_ahead) (has : HasLoneSplit scenario base) (plan : ThePlan scenario) where
@@ -339,7 +341,8 @@ module _ (ahead : Ahead) (words : ℕ → ℕ → ℕ × ℕ) (scenario : Scenar
       let more_kids = children_of (decided_state ahead base rows) (more rows (rows ++ row ∷ []) base) in
       one_one_more other kid more_kids (sym q.kids ∙ later_kids rows row (both other) (inl refl) q.kept ∙ ap (λ ks. ks ++ more_kids) p.kids)
 
-  still_no_whole : (rows : Journal) (row : Row Mail OrderLine) (kid : Base) → Parted kid rows → Whole (rows ++ row ∷ []) → ⊥
+  -- .. and is not whole again
+  pub still_no_whole : (rows : Journal) (row : Row Mail OrderLine) (kid : Base) → Parted kid rows → Whole (rows ++ row ∷ []) → ⊥
   still_no_whole rows row kid p v =
       let more_kids = children_of (decided_state ahead base rows) (more rows (rows ++ row ∷ []) base) in
       none_one_more kid more_kids (sym v.none ∙ later_kids rows row one (inl refl) v.kept ∙ ap (λ ks. ks ++ more_kids) p.kids)
