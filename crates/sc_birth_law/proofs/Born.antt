@@ -99,13 +99,18 @@ module _ (ahead : Ahead) (words : ℕ → ℕ → ℕ × ℕ) (scenario : Scenar
     pub at_base : base.core.id ≡ plan.group
     pub kept : K (both kid) rows
 
+  -- the groups
+  abbrev pub bases_of : (rows : Journal) → IsWhole rows ⊎ ((kid : Base) × IsParted kid rows) → List Base
+  bases_of rows (inl w) = one
+  bases_of rows (inr (kid, p)) = both kid
+
   -- the groups of a journal, and the names that nodes draw
   pub record Born (rows : Journal) : Type 0 where
     pub groups : IsWhole rows ⊎ ((kid : Base) × IsParted kid rows)
     pub draws : (n : ℕ) → HasDraws ahead one rows n
 
   -- before any row
-  pub first_born : ((n : ℕ) → HasDraws ahead one [] n) → Born []
+  unfoldable pub first_born : ((n : ℕ) → HasDraws ahead one [] n) → Born []
   first_born draws = record {
     groups = inl (record { none = refl; kept = at_birth ahead scenario one (route_of base) (MadeSplit scenario) (tt, tt) });
     draws = draws;
@@ -234,12 +239,19 @@ module _ (ahead : Ahead) (words : ℕ → ℕ → ℕ × ℕ) (scenario : Scenar
     kids_next : (bases : List Base) → Among base bases → K bases next → HasKids plan.at plan.child plan.order (group_of base) (log_in next) (kids_in next)
     kids_next bases a after = kids_are plan.at plan.child plan.order (group_of base) (log_in next) (once_in bases a next after) (lone_stands plan.child base has.lone has.empty.roster)
 
+    -- the row moves what holds of the groups before it
+    pub moved_at : (g : IsWhole rows ⊎ ((kid : Base) × IsParted kid rows)) → Moved ahead scenario one (bases_of rows g) (route_of base) (MadeSplit scenario) rows row
+    moved_at (inl w) =
+        let family = first_family ahead scenario base has plan in
+        moved ahead words scenario one one (route_of base) (MadeSplit scenario) family rows row w.kept (whole_offspring rows w) (may_tell one family row.who row.event told few_now) step
+    moved_at (inr (kid, p)) =
+        let family = both_family ahead scenario base has plan (log_in rows) kid p.at_base p.is in
+        moved ahead words scenario one (both kid) (route_of base) (MadeSplit scenario) family rows row p.kept (parted_offspring kid rows p) (may_tell (both kid) family row.who row.event told few_now) step
+
     -- the lone group was whole
     whole_next : IsWhole rows → IsWhole next ⊎ ((kid : Base) × IsParted kid next)
     whole_next w =
-        let family = first_family ahead scenario base has plan in
-        let m = moved ahead words scenario one one (route_of base) (MadeSplit scenario) family rows row w.kept (whole_offspring rows w) (may_tell one family row.who row.event told few_now) step in
-        let after = pushed one w.kept m in
+        let after = pushed one w.kept (moved_at (inl w)) in
         elim (kids_next one (inl refl) after) [
           | inl none ↦ inl (record { none = none; kept = after })
           | inr (kid, is, k) ↦ inr (
@@ -256,8 +268,7 @@ module _ (ahead : Ahead) (words : ℕ → ℕ → ℕ × ℕ) (scenario : Scenar
     -- it was parted
     parted_next : (kid : Base) → IsParted kid rows → IsParted kid next
     parted_next kid p =
-        let family = both_family ahead scenario base has plan (log_in rows) kid p.at_base p.is in
-        let m = moved ahead words scenario one (both kid) (route_of base) (MadeSplit scenario) family rows row p.kept (parted_offspring kid rows p) (may_tell (both kid) family row.who row.event told few_now) step in
+        let m = moved_at (inr (kid, p)) in
         let after = pushed (both kid) p.kept m in
         let more = drop (length (log_in rows)) (log_in next) in
         let on = log_goes_on ahead scenario one (both kid) (route_of base) (MadeSplit scenario) base (inl refl) rows row m in
@@ -300,7 +311,8 @@ module _ (ahead : Ahead) (words : ℕ → ℕ → ℕ × ℕ) (scenario : Scenar
   well_line (scheduled.Free most workers) a early = tt
   well_line (scheduled.Storm number most) a early = tt
 
-  well_lines : (lines : List SchedLine) → ((line : SchedLine) → Among line lines → Among line scenario.lines) → Each TellsEarly lines → Each (TellsSo IsToldWell) (map line_of lines)
+  -- each line of the schedule tells its order well
+  pub well_lines : (lines : List SchedLine) → ((line : SchedLine) → Among line lines → Among line scenario.lines) → Each TellsEarly lines → Each (TellsSo IsToldWell) (map line_of lines)
   well_lines [] within early = tt
   well_lines (line ∷ lines) within early = (well_line line (within line (inl refl)) early.0, well_lines lines (λ other a. within other (inr a)) early.1)
 

@@ -113,16 +113,32 @@ module _ (at : ℕ) (child : Draw) (order : ℕ) where
     pub stood : SplitsOnce child (state_after group front)
     pub alone : is_alone (state_after group front).core ≡ true
     pub two : 2 ≤ length (state_after group front).core.members
+    pub none : children_of group front ≡ []
+    pub birth : birth_of (state_after group front) split (applied (state_after group front) split).1 ≡ Some kid
 
   -- a log's children are none, or one
   abbrev pub HasKids : Group → List Command → List Base → Type 0
   HasKids group log kids = (kids ≡ []) ⊎ ((kid : Base) × (kids ≡ kid ∷ []) × IsKid group log kid)
 
   -- the children of the rest of a log
-  later_kids : (group : Group) (c : Command) (log : List Command) (kids : List Base) → HasKids (applied group c).0 log kids → HasKids group (c ∷ log) kids
-  later_kids group c log kids (inl none) = inl none
-  later_kids group c log kids (inr (kid, is, k)) =
-      inr (kid, is, record { front = c ∷ k.front; rest = k.rest; is = ap (λ cs. c ∷ cs) k.is; kid_is = k.kid_is; stood = k.stood; alone = k.alone; two = k.two })
+  later_kids : (group : Group) (c : Command) (log : List Command) (kids : List Base) → birth_of group c (applied group c).1 ≡ None → HasKids (applied group c).0 log kids → HasKids group (c ∷ log) kids
+  later_kids group c log kids unborn (inl none) = inl none
+  later_kids group c log kids unborn (inr (kid, is, k)) =
+      inr (
+        kid,
+        is,
+        record {
+          front = c ∷ k.front;
+          rest = k.rest;
+          is = ap (λ cs. c ∷ cs) k.is;
+          kid_is = k.kid_is;
+          stood = k.stood;
+          alone = k.alone;
+          two = k.two;
+          none = ap (λ o. option_to_list o ++ children_of (applied group c).0 k.front) unborn ∙ k.none;
+          birth = k.birth;
+        },
+      )
 
   -- what the children of a log are
   pub kids_are : (group : Group) (log : List Command) → Each (IsOnce split) log → SplitsOnce child group → HasKids group log (children_of group log)
@@ -131,7 +147,7 @@ module _ (at : ℕ) (child : Draw) (order : ℕ) where
       elim here [
         | inl whole ↦ (
             let same = ap (λ o. option_to_list o ++ children_of (applied group c).0 log) (no_birth group c (applied group c).1 whole) in
-            later_kids group c log _ (subst (HasKids (applied group c).0 log) (sym same) (kids_are (applied group c).0 log rest (once_kept at child order group c (inl whole) k))))
+            later_kids group c log _ (no_birth group c (applied group c).1 whole) (subst (HasKids (applied group c).0 log) (sym same) (kids_are (applied group c).0 log rest (once_kept at child order group c (inl whole) k))))
         | inr is ↦ subst (λ d. HasKids group (d ∷ log) (Children group d log (applied group d))) (sym is) (by_split (kids_are (applied group split).0 log rest (once_kept at child order group split (inr refl) k)) (came_of group k))
       ]
     where
@@ -139,13 +155,13 @@ module _ (at : ℕ) (child : Draw) (order : ℕ) where
       by_split later (inl none) =
           let after = (applied group split).0 in
           subst (HasKids group (split ∷ log)) (ap (λ o. option_to_list o ++ children_of after log) (sym none))
-          (later_kids group split log (children_of after log) later)
+          (later_kids group split log (children_of after log) none later)
       by_split later (inr (born, birth, alone, two)) =
           let after = (applied group split).0 in
           inr (
             child_of group at child,
             ap (λ o. option_to_list o ++ children_of after log) birth ∙ ap (λ cs. child_of group at child ∷ cs) (none_more after log rest born),
-            record { front = []; rest = log; is = refl; kid_is = refl; stood = k; alone = alone; two = two },
+            record { front = []; rest = log; is = refl; kid_is = refl; stood = k; alone = alone; two = two; none = refl; birth = birth },
           )
 
 -- a lone group may split once

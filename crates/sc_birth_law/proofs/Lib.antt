@@ -6,3 +6,11 @@ pub mod Fits
 pub mod Growing
 pub mod Draws
 pub mod Born
+pub mod Logs
+pub mod Found
+pub mod Notes
+pub mod OneMap
+pub mod Telling
+pub mod Replying
+pub mod Timing
+pub mod Sound

@@ -1,2 +1,2 @@
 mod Executes
-mod OneMap
+pub mod OneMap

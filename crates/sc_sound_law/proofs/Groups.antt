@@ -55,7 +55,8 @@ apart_from one [] e base a same = absurd a
 apart_from one (b ∷ bases) e base (inl is) same = e.0 (ap (λ (x : Base). x.core.id) is ∙ same)
 apart_from one (b ∷ bases) e base (inr a) same = apart_from one bases e.1 base a same
 
-find_birth : (bases : List Base) → AreApart bases → (base : Base) → Among base bases → find (is_birth_of base.core.id) bases ≡ Some base
+-- a group is found by its name
+pub find_birth : (bases : List Base) → AreApart bases → (base : Base) → Among base bases → find (is_birth_of base.core.id) bases ≡ Some base
 find_birth [] apart base a = absurd a
 find_birth (b ∷ bases) apart base (inl is) =
     cond-true (is_birth_of base.core.id b) (Some b) (find (is_birth_of base.core.id) bases) (same_name b.core.id base.core.id (ap (λ (x : Base). x.core.id) is)) ∙ ap (λ (x : Base). Some x) is

@@ -31,11 +31,16 @@ find_there (c ∷ clients) asks (inr a) =
     let later = find_there clients asks a in
     cond_both (eqb c.client asks.client) (Some c) (find (λ (x : Asks). eqb x.client asks.client) clients) (λ o. (found : Asks) × (o ≡ Some found)) (λ _. (c, refl)) (λ _. later)
 
--- a request has that operation
-pub request_is : (scenario : Scenario) (base : Base) (others : List Base) → HasGroups scenario base others → (client seq : ℕ) (op : Op) → IsRequested scenario client seq op → op ≡ request_of scenario client seq
+-- a request has that operation, where no two clients have one number
+pub request_once : (scenario : Scenario) → ((one other : Asks) → Among one scenario.clients → Among other scenario.clients → one.client ≡ other.client → one ≡ other) → (client seq : ℕ) (op : Op) → IsRequested scenario client seq op
+    → op ≡ request_of scenario client seq
 unfolding request_of op_of op_or_get
-request_is scenario base others has client seq op r =
+request_once scenario once client seq op r =
     let there = find_there scenario.clients r.asks r.stands in
     let found = find_found (λ (a : Asks). eqb a.client r.asks.client) scenario.clients there.0 there.1 in
-    let same : there.0 ≡ r.asks = has.once there.0 r.asks found.0 r.stands (eqb-true there.0.client r.asks.client found.1) in
+    let same : there.0 ≡ r.asks = once there.0 r.asks found.0 r.stands (eqb-true there.0.client r.asks.client found.1) in
     sym (ap (λ n. request_of scenario n seq) r.who ∙ ap (λ o. op_of o seq) (there.1 ∙ ap (λ (a : Asks). Some a) same) ∙ ap op_or_get r.op_is)
+
+-- .. as in a scenario of several groups
+pub request_is : (scenario : Scenario) (base : Base) (others : List Base) → HasGroups scenario base others → (client seq : ℕ) (op : Op) → IsRequested scenario client seq op → op ≡ request_of scenario client seq
+request_is scenario base others has client seq op r = request_once scenario has.once client seq op r

@@ -53,11 +53,12 @@ use Rattle.sc_sound_law.proofs.Groups.{Rows, not_same, apart_from, AreUndivided,
 use Rattle.sc_sound_law.proofs.Tellings.{among_place, told_in_order}
 use Rattle.sc_sound_law.proofs.Times.{K, Timed, push_timed, first_timed}
 
-same_first : (one other : Base) (rest others : List Base) → one ∷ rest ≡ other ∷ others → one ≡ other
+-- the first of two lists that are one
+pub same_first : (one other : Base) (rest others : List Base) → one ∷ rest ≡ other ∷ others → one ≡ other
 same_first one other rest others e = cc
 
 -- two entries of one request stand at one place
-one_place : (es : List Entry) → AllPairs AreApartEntries es → (p q : ℕ) (e f : Entry) → slice_get es p ≡ Some e → slice_get es q ≡ Some f → e.client ≡ f.client → e.seq ≡ f.seq → p ≡ q
+pub one_place : (es : List Entry) → AllPairs AreApartEntries es → (p q : ℕ) (e f : Entry) → slice_get es p ≡ Some e → slice_get es q ≡ Some f → e.client ≡ f.client → e.seq ≡ f.seq → p ≡ q
 one_place es once p q e f at there who number =
     elim (cases_lt p q) [
       | inl lt ↦ absurd (not_before p q e f at there lt who number)
