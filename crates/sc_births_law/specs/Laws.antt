@@ -1,0 +1,52 @@
+-- What follows where each row of a journal decides in turn, whatever its groups order, split and merge.
+use Rattle.std.specs.Prelude.{◌≡◌, ℕ, List, [], ◌∷◌, ◌++◌, Some, slice_get}
+use Rattle.sc_cmd.specs.declared.cores.Base.{Base}
+use Rattle.sc_cmd.specs.declared.orders.OrderLine.{OrderLine}
+use Rattle.sc_mail.specs.declared.bodies.Mail.{Mail}
+use Rattle.sc_actor.specs.declared.rows.Row.{Row}
+use Rattle.sc_ideal.specs.declared.Entry.{Entry}
+use Rattle.sc_players.specs.Players.{Ahead}
+use Rattle.sc_ring_law.specs.Allowed.{Sources, AreAllowed, first_told}
+use Rattle.sc_ring_law.specs.Laws.{BeginInPlace}
+use Rattle.sc_hist_law.specs.Worlds.{BeginBare}
+use Rattle.sc_sound.specs.GroupsOf.{entries_at, history_at}
+use Rattle.sc_births_law.specs.Descent.{Rows}
+use Rattle.sc_births_law.specs.InTurn.{DecidesInTurn, DecideInTurn}
+use Rattle.sc_births_law.specs.Findings.{AreFound, AreOldOrNew, AreItsLogs, TellOneMap, IsToldAt, StayAsTold}
+
+-- one more row that decides in turn
+abbrev pub RowsGoOn : Type 0
+RowsGoOn = (sources : Sources) (ahead : Ahead) (bases : List Base) (rows : Rows) (row : Row Mail OrderLine) → DecideInTurn sources ahead bases [] rows → DecidesInTurn sources ahead bases rows row
+    → DecideInTurn sources ahead bases [] (rows ++ row ∷ [])
+
+-- the groups are those that are found
+abbrev pub GroupsAreFound : Type 0
+GroupsAreFound = (sources : Sources) (ahead : Ahead) (bases : List Base) → BeginInPlace sources bases → (rows : Rows) → DecideInTurn sources ahead bases [] rows → AreFound ahead bases rows
+
+-- each was there before the last row, or is new
+abbrev pub GroupsAreOldOrNew : Type 0
+GroupsAreOldOrNew = (sources : Sources) (ahead : Ahead) (bases : List Base) → BeginInPlace sources bases → (before : Rows) → DecideInTurn sources ahead bases [] before
+    → (row : Row Mail OrderLine) → DecidesInTurn sources ahead bases before row → AreOldOrNew ahead bases before row
+
+-- the entries are the logs of the groups
+abbrev pub EntriesAreLogs : Type 0
+EntriesAreLogs = (sources : Sources) (ahead : Ahead) (bases : List Base) → BeginInPlace sources bases → (rows : Rows) → DecideInTurn sources ahead bases [] rows → AreItsLogs ahead bases rows
+
+-- each entry is allowed by those before it
+abbrev pub EntriesAreAllowed : Type 0
+EntriesAreAllowed = (sources : Sources) (ahead : Ahead) (bases : List Base) → BeginInPlace sources bases → (rows : Rows) → DecideInTurn sources ahead bases [] rows
+    → AreAllowed sources (first_told bases) (entries_at ahead bases rows)
+
+-- they make one map
+abbrev pub EntriesTellOneMap : Type 0
+EntriesTellOneMap = (sources : Sources) (ahead : Ahead) (bases : List Base) → BeginInPlace sources bases → BeginBare bases → (rows : Rows) → DecideInTurn sources ahead bases [] rows
+    → TellOneMap ahead bases rows
+
+-- each entry of the history is told by a row that decides its call
+abbrev pub HistoryIsTold : Type 0
+HistoryIsTold = (sources : Sources) (ahead : Ahead) (bases : List Base) → BeginInPlace sources bases → (rows : Rows) → DecideInTurn sources ahead bases [] rows
+    → (place : ℕ) (entry : Entry) → slice_get (history_at ahead bases rows) place ≡ Some entry → IsToldAt ahead bases rows place entry
+
+-- what is told stays with more rows
+abbrev pub ToldRowsStay : Type 0
+ToldRowsStay = (sources : Sources) (ahead : Ahead) (bases : List Base) → BeginInPlace sources bases → (rows more : Rows) → DecideInTurn sources ahead bases [] (rows ++ more) → StayAsTold ahead bases rows more

@@ -1,0 +1,5 @@
+pub mod Descent
+pub mod Example
+pub mod Findings
+pub mod InTurn
+pub mod Laws
