@@ -49,7 +49,7 @@ born_as group None child e = absurd (none_is_not child e)
 born_as group (Some d) child e = (d, refl, ap (λ (b : Base). b.core.id) (some_is (child_of group d.at d.child) child e))
 
 -- nothing is where nothing can be
-none_there : (o : Option Group) → ((group : Group) → o ≡ Some group → ⊥) → o ≡ None
+pub none_there : (o : Option Group) → ((group : Group) → o ≡ Some group → ⊥) → o ≡ None
 none_there None never = refl
 none_there (Some group) never = absurd (never group refl)
 

@@ -53,6 +53,8 @@ all_allowed sources bases start entries allowed name slot (c ∷ cs) each =
     let one : AreAllowed sources w (e ∷ []) = (each.0, tt) in
     let is : told_after (first_told bases) (entries ++ e ∷ []) ≡ told_on w e = told_append (first_told bases) entries (e ∷ []) in
     let later : Each (IsAllowed sources (stories_of bases (entries ++ e ∷ [])) name) cs = Each-weaker (IsAllowed sources w.stories name) (IsAllowed sources (stories_of bases (entries ++ e ∷ [])) name)
-    (λ d a. subst (λ (x : ToldWorld). IsAllowed sources x.stories name d) (sym is) (allowed_entries_stay_allowed sources bases entries (e ∷ []) start allowed one name d a)) cs each.1 in
-    (each.0, subst (λ x. AreAllowed sources x (entries_from name (slot + 1) cs)) is
-      (all_allowed sources bases start (entries ++ e ∷ []) (allowed_lists_append sources (first_told bases) entries (e ∷ []) allowed one) name (slot + 1) cs later))
+    (λ d a. subst (λ (x : ToldWorld). IsAllowed sources x.stories name d) (sym is) (allowed_entries_stay_allowed sources bases entries (e ∷ []) start allowed one name d a)) cs each.1 in (
+      each.0,
+      subst (λ x. AreAllowed sources x (entries_from name (slot + 1) cs)) is
+          (all_allowed sources bases start (entries ++ e ∷ []) (allowed_lists_append sources (first_told bases) entries (e ∷ []) allowed one) name (slot + 1) cs later),
+    )

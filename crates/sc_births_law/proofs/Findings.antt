@@ -158,12 +158,12 @@ module _ (sources : Sources) (ahead : Ahead) (bases : List Base) (start : BeginI
     old_or_newborn row turn base a = elim (found_next sources ahead bases start rows k row turn base a) [
       | inl f ↦ inl (found_group ahead bases rows k.one k.near base f)
       | inr (parent, f, child) ↦ inr (record {
-          parent = parent;
-          stands = found_group ahead bases rows k.one k.near parent f;
-          named = child;
-          unborn = no_birth_at ahead bases rows base.core.id (new_name sources ahead bases start rows k row turn base (parent, f, child));
-          silent = turn.unheard parent f base child;
-        })
+        parent = parent;
+        stands = found_group ahead bases rows k.one k.near parent f;
+        named = child;
+        unborn = no_birth_at ahead bases rows base.core.id (new_name sources ahead bases start rows k row turn base (parent, f, child));
+        silent = turn.unheard parent f base child;
+      })
     ]
 
   -- ---- more rows
@@ -178,11 +178,12 @@ module _ (sources : Sources) (ahead : Ahead) (bases : List Base) (start : BeginI
   log_later before [] h base f = ([], ap (decided_log ahead base) (append-nil before) ∙ sym (append-nil (decided_log ahead base before)))
   log_later before (row ∷ more) h base f =
       let now = added_by ahead before row base in
-      let (later, is) = log_later (before ++ row ∷ []) more h.1 base (f.0, still_descends sources ahead bases before row h.0 f.0 base f.1) in
-      (now ++ later,
+      let (later, is) = log_later (before ++ row ∷ []) more h.1 base (f.0, still_descends sources ahead bases before row h.0 f.0 base f.1) in (
+        now ++ later,
         ap (decided_log ahead base) (sym (append_assoc before (row ∷ []) more)) ∙ is
-        ∙ ap (λ cs. cs ++ later) (log_on sources ahead bases before row h.0 base f)
-        ∙ append_assoc (decided_log ahead base before) now later)
+            ∙ ap (λ cs. cs ++ later) (log_on sources ahead bases before row h.0 base f)
+            ∙ append_assoc (decided_log ahead base before) now later,
+      )
 
   -- the history with one more row
   history_on : (before : Rows) (k : Told sources ahead bases before) (row : Row Mail OrderLine) (turn : DecidesInTurn sources ahead bases before row)
@@ -193,11 +194,12 @@ module _ (sources : Sources) (ahead : Ahead) (bases : List Base) (start : BeginI
   history_later before [] k h = ([], ap (history_at ahead bases) (append-nil before) ∙ sym (append-nil (history_at ahead bases before)))
   history_later before (row ∷ more) k h =
       let now = (d sources ahead bases start before k row h.0).news in
-      let (later, is) = history_later (before ++ row ∷ []) more (push_told sources ahead bases start before k row h.0) h.1 in
-      (now ++ later,
+      let (later, is) = history_later (before ++ row ∷ []) more (push_told sources ahead bases start before k row h.0) h.1 in (
+        now ++ later,
         ap (history_at ahead bases) (sym (append_assoc before (row ∷ []) more)) ∙ is
-        ∙ ap (λ es. es ++ later) (history_on before k row h.0)
-        ∙ append_assoc (history_at ahead bases before) now later)
+            ∙ ap (λ es. es ++ later) (history_on before k row h.0)
+            ∙ append_assoc (history_at ahead bases before) now later,
+      )
 
   -- ---- the row of an entry
 

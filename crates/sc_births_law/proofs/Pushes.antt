@@ -65,7 +65,7 @@ module _ (sources : Sources) (ahead : Ahead) (bases : List Base) (start : BeginI
   found_before base (depth, there) = elim (old_or_new sources ahead bases before row turn depth base there) [ inl was ↦ inl (depth, was) | inr now ↦ inr now ]
 
   -- a new child has no group's name
-  new_name : (child : Base) → IsNew child → (base : Base) → IsFound ahead bases before base → base.core.id ≡ child.core.id → ⊥
+  pub new_name : (child : Base) → IsNew child → (base : Base) → IsFound ahead bases before base → base.core.id ≡ child.core.id → ⊥
   new_name child n base f same = some_none (decided_state ahead base before) (sym (state_there sources ahead bases start before k base f) ∙ ap (λ name. named_group name world.groups) same ∙ d.unborn child n)
 
   one_of : (one other : Base) → IsFound ahead bases before one ⊎ IsNew one → IsFound ahead bases before other ⊎ IsNew other → one.core.id ≡ other.core.id → one ≡ other
@@ -106,7 +106,7 @@ module _ (sources : Sources) (ahead : Ahead) (bases : List Base) (start : BeginI
   nothing_for base (inl f) none = gained_old base f ∙ ap (λ cs. entries_from base.core.id (at base) cs) (none f)
   nothing_for base (inr n) none = gained_new base n
 
-  found_next : (base : Base) → Among base (groups_at ahead bases next) → IsFound ahead bases before base ⊎ IsNew base
+  pub found_next : (base : Base) → Among base (groups_at ahead bases next) → IsFound ahead bases before base ⊎ IsNew base
   found_next base a = found_before base (group_found ahead bases next base a)
 
   idle : (base : Base) → IsFound ahead bases before base → d.cs ≡ [] → added base ≡ []
