@@ -77,40 +77,38 @@ after_five = offers_split ∷ accepts_split ∷ decides_split ∷ asks_child ∷
 -- a row that decides nothing for one group
 rests_for_one : (before : Rows) (row : Row Mail OrderLine) → children_by four before lone_base ≡ [] → decided_log four lone_base (before ++ row ∷ []) ≡ decided_log four lone_base before → TurnAt before row
 rests_for_one before row none same =
-    in_turn split_sources four split_bases before row parent
-    (λ base f. of_one (TurnFor split_sources four split_bases before row parent) (rests split_sources four split_bases before row parent lone_base same) base (one_found before none base f))
+    in_turn split_sources four split_bases before row
+    (λ base f. of_one (TurnFor split_sources four split_bases before row) (rests split_sources four split_bases before row lone_base same) base (one_found before none base f))
 
 -- and for two
 rests_for_both : (before : Rows) (row : Row Mail OrderLine) → children_by four before lone_base ≡ child ∷ [] → children_by four before child ≡ []
     → decided_log four lone_base (before ++ row ∷ []) ≡ decided_log four lone_base before → decided_log four child (before ++ row ∷ []) ≡ decided_log four child before → TurnAt before row
 rests_for_both before row one none same still =
-    in_turn split_sources four split_bases before row parent
-    (λ base f. of_both (TurnFor split_sources four split_bases before row parent) (rests split_sources four split_bases before row parent lone_base same) (rests split_sources four split_bases before row parent child still)
+    in_turn split_sources four split_bases before row
+    (λ base f. of_both (TurnFor split_sources four split_bases before row) (rests split_sources four split_bases before row lone_base same) (rests split_sources four split_bases before row child still)
     base (two_found before one none base f))
 
-splits : TurnFor split_sources four split_bases after_two decides_split parent lone_base
+splits : TurnFor split_sources four split_bases after_two decides_split lone_base
 splits = record {
   goes_on = (split ∷ [], refl);
-  others = λ ne. absurd (ne refl);
   allowed = ((refl, omega arith), tt);
   unheard = λ c a. elim a [ inl e ↦ subst (λ b. decided_log four b after_three ≡ []) e refl | inr none ↦ absurd none ];
 }
 
-puts : TurnFor split_sources four split_bases after_five decides_put offspring child
+puts : TurnFor split_sources four split_bases after_five decides_put child
 puts = record {
   goes_on = (put ∷ [], refl);
-  others = λ ne. absurd (ne refl);
   allowed = (refl, tt);
   unheard = λ c a. absurd a;
 }
 
 third : TurnAt after_two decides_split
-third = in_turn split_sources four split_bases after_two decides_split parent (λ base f. of_one (TurnFor split_sources four split_bases after_two decides_split parent) splits base (one_found after_two refl base f))
+third = in_turn split_sources four split_bases after_two decides_split (λ base f. of_one (TurnFor split_sources four split_bases after_two decides_split) splits base (one_found after_two refl base f))
 
 last : TurnAt after_five decides_put
 last =
-    in_turn split_sources four split_bases after_five decides_put offspring
-    (λ base f. of_both (TurnFor split_sources four split_bases after_five decides_put offspring) (rests split_sources four split_bases after_five decides_put offspring lone_base refl) puts base (two_found after_five refl refl base f))
+    in_turn split_sources four split_bases after_five decides_put
+    (λ base f. of_both (TurnFor split_sources four split_bases after_five decides_put) (rests split_sources four split_bases after_five decides_put lone_base refl) puts base (two_found after_five refl refl base f))
 
 -- ---- all
 

@@ -17,12 +17,13 @@ use Rattle.sc_paxos_words.proofs.ListLemmas.{find_found}
 use Rattle.sc_players.specs.Players.{Ahead}
 use Rattle.sc_machine_table.specs.Group.{group_of}
 use Rattle.sc_machine_table.specs.Logs.{state_after}
-use Rattle.sc_ring_law.specs.Allowed.{Sources}
+use Rattle.sc_ring_law.specs.Allowed.{Sources, IsAllowed}
+use Rattle.sc_ring_law.specs.Laws.{stories_of}
 use Rattle.sc_ring_law.proofs.Finds.{Pairwise}
-use Rattle.sc_sound.specs.GroupsOf.{children_of, children_by, is_birth_of, with_birth, with_descendants, groups_at, birth_at, log_by, log_at, state_at}
+use Rattle.sc_sound.specs.GroupsOf.{children_of, children_by, is_birth_of, with_birth, with_descendants, groups_at, birth_at, log_by, log_at, state_at, entries_at}
 use Rattle.sc_sound.specs.Logs.{decided_log, decided_state}
+use Rattle.sc_sound.specs.Soundness.{GoesOn}
 use Rattle.sc_births_law.specs.Descent.{Rows, Descends, IsFound, added_by, newborn_by}
-use Rattle.sc_births_law.specs.InTurn.{DecidesInTurn}
 use Rattle.sc_births_law.specs.Findings.{IsKnown}
 use Rattle.sc_births_law.proofs.Lists.{drop_past, HaveTwoNames, find_base, find_no_base, births_from, births_still, births_named, births_apart}
 use Rattle.sc_births_law.proofs.Children.{children_append}
@@ -37,7 +38,15 @@ AreNear ahead bases rows = (base : Base) → IsFound ahead bases rows base → (
 
 -- ---- one more row
 
-module _ (sources : Sources) (ahead : Ahead) (bases : List Base) (before : Rows) (row : Row Mail OrderLine) (turn : DecidesInTurn sources ahead bases before row) where
+-- what a row does of the groups that are found before it
+pub record FoundInTurn (sources : Sources) (ahead : Ahead) (bases : List Base) (before : Rows) (row : Row Mail OrderLine) : Type 0 where
+  pub goes_on : (base : Base) → IsFound ahead bases before base → GoesOn (decided_log ahead base before) (decided_log ahead base (before ++ row ∷ []))
+  pub name : Draw
+  pub others : (base : Base) → IsFound ahead bases before base → (base.core.id ≡ name → ⊥) → decided_log ahead base (before ++ row ∷ []) ≡ decided_log ahead base before
+  pub allowed : (base : Base) → IsFound ahead bases before base → Each (IsAllowed sources (stories_of bases (entries_at ahead bases before)) base.core.id) (added_by ahead before row base)
+  pub unheard : (base : Base) → IsFound ahead bases before base → (child : Base) → Among child (newborn_by ahead before row base) → decided_log ahead child (before ++ row ∷ []) ≡ []
+
+module _ (sources : Sources) (ahead : Ahead) (bases : List Base) (before : Rows) (row : Row Mail OrderLine) (turn : FoundInTurn sources ahead bases before row) where
   abbrev next : Rows
   next = before ++ row ∷ []
 

@@ -1,10 +1,13 @@
 pub mod Lists
 pub mod Children
+pub mod OneGroup
 pub mod Generations
 pub mod Births
 pub mod Calls
 pub mod Told
 pub mod Pushes
+pub mod Parts
 pub mod Findings
+pub mod Histories
 pub mod Turns
 mod Example

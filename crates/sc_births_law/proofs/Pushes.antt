@@ -24,13 +24,12 @@ use Rattle.sc_sound.specs.GroupsOf.{groups_at, birth_at, log_at, entries_from, e
 use Rattle.sc_sound.specs.Logs.{decided_log, decided_state}
 use Rattle.sc_sound.proofs.EntryRows.{entries-push, world-push}
 use Rattle.sc_births_law.specs.Descent.{Rows, Descends, IsFound, added_by}
-use Rattle.sc_births_law.specs.InTurn.{DecidesInTurn}
 use Rattle.sc_births_law.proofs.Lists.{flat_map_none, flat_map_one}
 use Rattle.sc_births_law.proofs.Children.{log_append, log_of_others, log_of_own, entries_of}
-use Rattle.sc_births_law.proofs.Generations.{AreOne, AreNear, log_on, still_descends, IsNamedNow, now_descends, old_or_new, near_on, group_found, groups_apart, found_group, known_by_name, no_birth_at, no_log_at}
+use Rattle.sc_births_law.proofs.Generations.{FoundInTurn, AreOne, AreNear, log_on, still_descends, IsNamedNow, now_descends, old_or_new, near_on, group_found, groups_apart, found_group, known_by_name, no_birth_at, no_log_at}
 use Rattle.sc_births_law.proofs.Told.{IsBorn, Told, two_names, state_there, Decides, others_idle, decides}
 
-module _ (sources : Sources) (ahead : Ahead) (bases : List Base) (start : BeginInPlace sources bases) (before : Rows) (k : Told sources ahead bases before) (row : Row Mail OrderLine) (turn : DecidesInTurn sources ahead bases before row) where
+module _ (sources : Sources) (ahead : Ahead) (bases : List Base) (start : BeginInPlace sources bases) (before : Rows) (k : Told sources ahead bases before) (row : Row Mail OrderLine) (turn : FoundInTurn sources ahead bases before row) where
   abbrev next : Rows
   next = before ++ row ∷ []
 

@@ -2,7 +2,6 @@
 use Rattle.std.proofs.Common.{◌≡◌, ℕ, zero, suc, List, [], ◌∷◌, ◌++◌, length, drop, refl, sym, ◌∙◌, ap, subst, append-nil}
 use Rattle.std.proofs.Math.Seq.{drop-length}
 use Rattle.sc_base.specs.Among.{Among, Each}
-use Rattle.sc_base.specs.declared.names.Draw.{Draw}
 use Rattle.sc_cmd.specs.declared.commands.Command.{Command}
 use Rattle.sc_cmd.specs.declared.cores.Base.{Base}
 use Rattle.sc_cmd.specs.declared.orders.OrderLine.{OrderLine}
@@ -16,33 +15,30 @@ use Rattle.sc_sound.specs.Logs.{decided_log, decided_state}
 use Rattle.sc_sound.specs.Soundness.{GoesOn}
 use Rattle.sc_births_law.specs.Descent.{Rows, Descends, IsFound, added_by, newborn_by}
 use Rattle.sc_births_law.specs.InTurn.{DecidesInTurn}
+use Rattle.sc_births_law.proofs.Generations.{group_found}
 
 module _ (sources : Sources) (ahead : Ahead) (bases : List Base) (before : Rows) (row : Row Mail OrderLine) where
-  -- what a row that decides for the group of a name does of one group
-  pub record TurnFor (name : Draw) (base : Base) : Type 0 where
+  -- what a row does of one group
+  pub record TurnFor (base : Base) : Type 0 where
     pub goes_on : GoesOn (decided_log ahead base before) (decided_log ahead base (before ++ row ∷ []))
-    pub others : (base.core.id ≡ name → ⊥) → decided_log ahead base (before ++ row ∷ []) ≡ decided_log ahead base before
     pub allowed : Each (IsAllowed sources (stories_of bases (entries_at ahead bases before)) base.core.id) (added_by ahead before row base)
     pub unheard : (child : Base) → Among child (newborn_by ahead before row base) → decided_log ahead child (before ++ row ∷ []) ≡ []
 
   -- of each group
-  pub in_turn : (name : Draw) → ((base : Base) → IsFound ahead bases before base → TurnFor name base) → DecidesInTurn sources ahead bases before row
-  in_turn name each = record {
-    goes_on = λ base f. (each base f).goes_on;
-    name = name;
-    others = λ base f. (each base f).others;
-    allowed = λ base f. (each base f).allowed;
-    unheard = λ base f. (each base f).unheard;
+  pub in_turn : ((base : Base) → IsFound ahead bases before base → TurnFor base) → DecidesInTurn sources ahead bases before row
+  in_turn each = record {
+    goes_on = λ base a. (each base (group_found ahead bases before base a)).goes_on;
+    allowed = λ base a. (each base (group_found ahead bases before base a)).allowed;
+    unheard = λ base a. (each base (group_found ahead bases before base a)).unheard;
   }
 
   -- a group whose log stays
-  pub rests : (name : Draw) (base : Base) → decided_log ahead base (before ++ row ∷ []) ≡ decided_log ahead base before → TurnFor name base
-  rests name base same =
+  pub rests : (base : Base) → decided_log ahead base (before ++ row ∷ []) ≡ decided_log ahead base before → TurnFor base
+  rests base same =
       let none : added_by ahead before row base ≡ [] = ap (drop (length (decided_log ahead base before))) same ∙ drop-length (decided_log ahead base before) in
       let allows = IsAllowed sources (stories_of bases (entries_at ahead bases before)) base.core.id in
       record {
         goes_on = ([], same ∙ sym (append-nil (decided_log ahead base before)));
-        others = λ ne. same;
         allowed = subst (Each allows) (sym none) tt;
         unheard = λ child a. absurd (subst (λ cs. Among child (children_of (decided_state ahead base before) cs)) none a);
       }

@@ -11,8 +11,12 @@ use Rattle.sc_ring_law.specs.Laws.{BeginInPlace}
 use Rattle.sc_hist_law.specs.Worlds.{BeginBare}
 use Rattle.sc_sound.specs.GroupsOf.{entries_at, history_at}
 use Rattle.sc_births_law.specs.Descent.{Rows}
-use Rattle.sc_births_law.specs.InTurn.{DecidesInTurn, DecideInTurn}
+use Rattle.sc_births_law.specs.InTurn.{DecidesInTurn, DecideInTurn, DecidesForOne}
 use Rattle.sc_births_law.specs.Findings.{AreFound, AreOldOrNew, AreItsLogs, TellOneMap, IsToldAt, StayAsTold}
+
+-- each row decides for one group at most
+abbrev pub RowsDecideForOne : Type 0
+RowsDecideForOne = (ahead : Ahead) (before : Rows) (row : Row Mail OrderLine) → DecidesForOne ahead before row
 
 -- one more row that decides in turn
 abbrev pub RowsGoOn : Type 0

@@ -11,15 +11,18 @@ ghost use Rattle.sc_births_law.specs.Laws.{
   GroupsAreFound,
   GroupsAreOldOrNew,
   HistoryIsTold,
+  RowsDecideForOne,
   RowsGoOn,
   ToldRowsStay,
 };
 
 use sc_map_law::allowed_entries_make_one_map;
 
-/// Rows that decide in turn may be followed by one that does.
-pub fn rows_that_decide_go_on()
-    ensures { RowsGoOn }
+/// Each row decides for one group at most, whatever rows stand before it: a group of another name
+/// has the log that it had. And rows that decide in turn may be followed by one that does.
+pub fn rows_decide_for_one_group()
+    ensures one { RowsDecideForOne }
+    ensures more { RowsGoOn }
 {}
 
 /// Where each row decides in turn, the groups of a journal are those of its scenario and the

@@ -1,4 +1,4 @@
-use Rattle.sc_births_law.proofs.Findings.{history_is_told}
+use Rattle.sc_births_law.proofs.Histories.{history_is_told}
 use Rattle.sc_births_law.proofs.history_is_told_by_rows.Goals as goal
 
 pub returns : goal.returns
