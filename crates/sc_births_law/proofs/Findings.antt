@@ -10,6 +10,8 @@ use Rattle.sc_mail.specs.declared.bodies.Mail.{Mail}
 use Rattle.sc_actor.specs.declared.rows.Row.{Row}
 use Rattle.sc_players.specs.Players.{Ahead}
 use Rattle.sc_machine_table.specs.Group.{Group, group_of}
+use Rattle.sc_machine_table.specs.Logs.{state_after}
+use Rattle.sc_paxos_law.proofs.Among.{Among-left}
 use Rattle.sc_entries.specs.Worlds.{named_group}
 use Rattle.sc_hist_law.specs.Fronts.{log_in}
 use Rattle.sc_hist_law.specs.Worlds.{BeginBare}
@@ -18,14 +20,14 @@ use Rattle.sc_ring_law.specs.Allowed.{Sources}
 use Rattle.sc_ring_law.specs.Laws.{BeginInPlace}
 use Rattle.sc_ring_law.proofs.Rows.{some_none}
 use Rattle.sc_map_law.specs.Laws.{AllowedEntriesMakeOneMap}
-use Rattle.sc_sound.specs.GroupsOf.{birth_at, log_by, log_at, state_at, entries_at, world_at}
+use Rattle.sc_sound.specs.GroupsOf.{children_of, birth_at, log_by, log_at, state_at, entries_at, world_at}
 use Rattle.sc_sound.specs.Logs.{decided_state}
 use Rattle.sc_births_law.specs.Descent.{Rows, IsFound}
 use Rattle.sc_births_law.specs.InTurn.{DecidesInTurn, DecideInTurn}
 use Rattle.sc_births_law.specs.Findings.{AreFound, AreOldOrNew, AreItsLogs, TellOneMap}
 use Rattle.sc_births_law.specs.Laws.{GroupsAreFound, GroupsAreOldOrNew, EntriesAreLogs, EntriesAreAllowed, EntriesTellOneMap}
 use Rattle.sc_births_law.proofs.OneGroup.{for_one}
-use Rattle.sc_births_law.proofs.Children.{log_append, log_of_others}
+use Rattle.sc_births_law.proofs.Children.{children_append, log_append, log_of_others}
 use Rattle.sc_births_law.proofs.Generations.{FoundInTurn, group_found, found_group, known_by_name, no_birth_at, no_log_at, no_state_at, birth_found}
 use Rattle.sc_births_law.proofs.Births.{none_there}
 use Rattle.sc_births_law.proofs.Told.{Told, first_rows, state_there}
@@ -64,6 +66,11 @@ module _ (sources : Sources) (ahead : Ahead) (bases : List Base) (start : BeginI
     are_found = record {
       first = λ base a. found_group ahead bases rows k.one k.near base (0, a);
       closed = λ base a child c. (let (depth, there) = group_found ahead bases rows base a in found_group ahead bases rows k.one k.near child (suc depth, (base, there, c)));
+      fronts = λ base a front later is child c. (
+          let (depth, there) = group_found ahead bases rows base a in
+          let all = ap (children_of (group_of base)) is ∙ children_append (group_of base) front later in
+          found_group ahead bases rows k.one k.near child
+          (suc depth, (base, there, subst (Among child) (sym all) (Among-left child (children_of (group_of base) front) (children_of (state_after (group_of base) front) later) c))));
       all = found_group ahead bases rows k.one k.near;
       only = group_found ahead bases rows;
       apart = λ one other a b same. k.one one other (group_found ahead bases rows one a) (group_found ahead bases rows other b) same;

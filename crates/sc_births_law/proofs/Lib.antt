@@ -9,5 +9,6 @@ pub mod Pushes
 pub mod Parts
 pub mod Findings
 pub mod Histories
+pub mod Allowing
 pub mod Turns
 mod Example

@@ -9,14 +9,18 @@ use Rattle.sc_cmd.specs.declared.orders.OrderLine.{OrderLine}
 use Rattle.sc_mail.specs.declared.bodies.Mail.{Mail}
 use Rattle.sc_actor.specs.declared.rows.Row.{Row}
 use Rattle.sc_ideal.specs.declared.Entry.{Entry}
-use Rattle.sc_machine_table.specs.Group.{group_of}
+use Rattle.sc_machine_table.specs.Group.{Group, group_of}
 use Rattle.sc_machine_table.specs.Logs.{state_after}
+use Rattle.sc_machine_table.specs.Machine.{applied}
 use Rattle.sc_players.specs.Players.{Ahead}
 use Rattle.sc_entries.specs.declared.LogEntry.{LogEntry}
 use Rattle.sc_entries.specs.Worlds.{named_group}
 use Rattle.sc_hist_law.specs.Fronts.{log_in}
 use Rattle.sc_hist_law.specs.Moves.{HasNotes}
-use Rattle.sc_sound.specs.GroupsOf.{children_by, groups_at, birth_at, log_at, state_at, entries_at, world_at, history_at}
+use Rattle.sc_sound.specs.GroupsOf.{children_of, children_by, groups_at, birth_at, log_at, state_at, entries_at, world_at, history_at}
+use Rattle.sc_ring_law.specs.Allowed.{Sources, IsAllowed}
+use Rattle.sc_ring_law.specs.Invariant.{Groups, Facts}
+use Rattle.sc_ring_law.specs.Stories.{Stories, stories_after}
 use Rattle.sc_sound.specs.Logs.{decided_log, decided_state}
 use Rattle.sc_sound.specs.Soundness.{GoesOn, IsOneMap, told_row}
 use Rattle.sc_births_law.specs.Descent.{Rows, IsFound, added_by, newborn_by}
@@ -35,6 +39,9 @@ pub record AreFound (ahead : Ahead) (bases : List Base) (rows : Rows) : Type 0 w
   pub first : (base : Base) → Among base bases → Among base (groups_at ahead bases rows)
   -- and with each group the children that its log names
   pub closed : (base : Base) → Among base (groups_at ahead bases rows) → (child : Base) → Among child (children_by ahead rows base) → Among child (groups_at ahead bases rows)
+  -- as a front of its log names them
+  pub fronts : (base : Base) → Among base (groups_at ahead bases rows) → (front later : List Command) → decided_log ahead base rows ≡ front ++ later
+      → (child : Base) → Among child (children_of (group_of base) front) → Among child (groups_at ahead bases rows)
   -- all that are found are there, and no others
   pub all : (base : Base) → IsFound ahead bases rows base → Among base (groups_at ahead bases rows)
   pub only : (base : Base) → Among base (groups_at ahead bases rows) → IsFound ahead bases rows base
@@ -68,6 +75,11 @@ pub record TellOneMap (ahead : Ahead) (bases : List Base) (rows : Rows) : Type 0
   pub map : IsOneMap (world_at ahead bases rows)
   pub notes : (base : Base) → Among base (groups_at ahead bases rows) → (front later : List Command) → decided_log ahead base rows ≡ front ++ later
       → HasNotes (history_at ahead bases rows) (state_after (group_of base) front).clients
+
+-- an entry of a group makes a command allowed, whatever was told before it
+abbrev pub MakesAllowed : Sources → Draw → Group → Command → Draw → Command → Type 0
+MakesAllowed sources by group entry name command = (groups : Groups) (stories : Stories) → Facts sources.owner groups stories → groups by ≡ Some group → IsAllowed sources stories by entry
+    → IsAllowed sources (stories_after group entry (applied group entry).1 stories) name command
 
 -- ---- rows
 

@@ -1,18 +1,24 @@
 -- What follows where each row of a journal decides in turn, whatever its groups order, split and merge.
 use Rattle.std.specs.Prelude.{◌≡◌, ℕ, List, [], ◌∷◌, ◌++◌, Some, slice_get}
+use Rattle.sc_base.specs.Among.{Among}
+use Rattle.sc_base.specs.declared.names.Draw.{Draw}
+use Rattle.sc_cmd.specs.declared.commands.Command.{Command}
 use Rattle.sc_cmd.specs.declared.cores.Base.{Base}
 use Rattle.sc_cmd.specs.declared.orders.OrderLine.{OrderLine}
 use Rattle.sc_mail.specs.declared.bodies.Mail.{Mail}
 use Rattle.sc_actor.specs.declared.rows.Row.{Row}
 use Rattle.sc_ideal.specs.declared.Entry.{Entry}
 use Rattle.sc_players.specs.Players.{Ahead}
-use Rattle.sc_ring_law.specs.Allowed.{Sources, AreAllowed, first_told}
-use Rattle.sc_ring_law.specs.Laws.{BeginInPlace}
+use Rattle.sc_machine_table.specs.Group.{group_of}
+use Rattle.sc_machine_table.specs.Logs.{state_after}
+use Rattle.sc_ring_law.specs.Allowed.{Sources, IsAllowed, AreAllowed, first_told}
+use Rattle.sc_ring_law.specs.Laws.{BeginInPlace, stories_of}
 use Rattle.sc_hist_law.specs.Worlds.{BeginBare}
-use Rattle.sc_sound.specs.GroupsOf.{entries_at, history_at}
+use Rattle.sc_sound.specs.GroupsOf.{groups_at, entries_at, history_at}
+use Rattle.sc_sound.specs.Logs.{decided_log}
 use Rattle.sc_births_law.specs.Descent.{Rows}
 use Rattle.sc_births_law.specs.InTurn.{DecidesInTurn, DecideInTurn, DecidesForOne}
-use Rattle.sc_births_law.specs.Findings.{AreFound, AreOldOrNew, AreItsLogs, TellOneMap, IsToldAt, StayAsTold}
+use Rattle.sc_births_law.specs.Findings.{AreFound, AreOldOrNew, AreItsLogs, MakesAllowed, TellOneMap, IsToldAt, StayAsTold}
 
 -- each row decides for one group at most
 abbrev pub RowsDecideForOne : Type 0
@@ -40,6 +46,17 @@ EntriesAreLogs = (sources : Sources) (ahead : Ahead) (bases : List Base) → Beg
 abbrev pub EntriesAreAllowed : Type 0
 EntriesAreAllowed = (sources : Sources) (ahead : Ahead) (bases : List Base) → BeginInPlace sources bases → (rows : Rows) → DecideInTurn sources ahead bases [] rows
     → AreAllowed sources (first_told bases) (entries_at ahead bases rows)
+
+-- a command that is allowed stays allowed with more rows
+abbrev pub AllowedStaysAllowed : Type 0
+AllowedStaysAllowed = (sources : Sources) (ahead : Ahead) (bases : List Base) → BeginInPlace sources bases → (rows more : Rows) → DecideInTurn sources ahead bases [] (rows ++ more)
+    → (name : Draw) (command : Command) → IsAllowed sources (stories_of bases (entries_at ahead bases rows)) name command → IsAllowed sources (stories_of bases (entries_at ahead bases (rows ++ more))) name command
+
+-- a command that an entry of a group's log makes allowed is allowed
+abbrev pub FrontsAllow : Type 0
+FrontsAllow = (sources : Sources) (ahead : Ahead) (bases : List Base) → BeginInPlace sources bases → (rows : Rows) → DecideInTurn sources ahead bases [] rows
+    → (base : Base) → Among base (groups_at ahead bases rows) → (front : List Command) (entry : Command) (later : List Command) → decided_log ahead base rows ≡ front ++ entry ∷ later
+    → (name : Draw) (command : Command) → MakesAllowed sources base.core.id (state_after (group_of base) front) entry name command → IsAllowed sources (stories_of bases (entries_at ahead bases rows)) name command
 
 -- they make one map
 abbrev pub EntriesTellOneMap : Type 0

@@ -5,9 +5,11 @@
 
 ghost use Rattle.sc_births_law.specs.Example.{ExampleInTurn};
 ghost use Rattle.sc_births_law.specs.Laws.{
+  AllowedStaysAllowed,
   EntriesAreAllowed,
   EntriesAreLogs,
   EntriesTellOneMap,
+  FrontsAllow,
   GroupsAreFound,
   GroupsAreOldOrNew,
   HistoryIsTold,
@@ -40,6 +42,13 @@ pub fn groups_are_born_under_new_names()
 pub fn entries_are_allowed_logs()
     ensures logs { EntriesAreLogs }
     ensures allowed { EntriesAreAllowed }
+{}
+
+/// What is allowed stays allowed with more rows. So a command that an entry makes allowed, of any
+/// group's log that has got so far, is allowed from then on, whoever has heard of the entry.
+pub fn what_logs_allow_stays_allowed()
+    ensures stays { AllowedStaysAllowed }
+    ensures fronts { FrontsAllow }
 {}
 
 /// So they make one map: the ring covers and is served as its cuts say, the history is legal, and
