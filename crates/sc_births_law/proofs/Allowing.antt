@@ -1,13 +1,11 @@
 -- What was allowed stays allowed with more rows, and what an entry of a log makes allowed is allowed in the journal.
-use Rattle.std.proofs.Common.{◌≡◌, List, [], ◌∷◌, ◌++◌, Option, Some, inl, inr, refl, sym, ◌∙◌, ap, subst, append_assoc}
-use Rattle.sc_base.specs.Among.{Among}
+use Rattle.std.proofs.Common.{◌≡◌, List, [], ◌∷◌, ◌++◌, Some, inl, inr, refl, sym, ◌∙◌, ap, subst, append_assoc}
 use Rattle.sc_base.specs.declared.names.Draw.{Draw}
 use Rattle.sc_cmd.specs.declared.commands.Command.{Command}
 use Rattle.sc_cmd.specs.declared.cores.Base.{Base}
 use Rattle.sc_machine_table.specs.Group.{Group, group_of}
 use Rattle.sc_machine_table.specs.Logs.{state_after}
 use Rattle.sc_machine_table.specs.Machine.{applied}
-use Rattle.sc_players.specs.Players.{Ahead}
 use Rattle.sc_entries.specs.declared.LogEntry.{LogEntry}
 use Rattle.sc_entries.specs.Worlds.{StoreWorld, first_world, named_group, world_of}
 use Rattle.sc_entries.proofs.Pushes.{world_append}
@@ -18,10 +16,8 @@ use Rattle.sc_ring_law.specs.Allowed.{Sources, IsAllowed, AreAllowed, ToldWorld,
 use Rattle.sc_ring_law.specs.Laws.{BeginInPlace, stories_of}
 use Rattle.sc_ring_law.specs.Stories.{stories_after}
 use Rattle.sc_ring_law.proofs.Grows.{allowed_entries_stay_allowed}
-use Rattle.sc_ring_law.proofs.Sound.{allowed_lists_append, entries_keep_the_promises}
+use Rattle.sc_ring_law.proofs.Sound.{entries_keep_the_promises}
 use Rattle.sc_sound.specs.GroupsOf.{entries_by_rows, entries_at}
-use Rattle.sc_sound.specs.Logs.{decided_log}
-use Rattle.sc_births_law.specs.Descent.{Rows}
 use Rattle.sc_births_law.specs.Findings.{MakesAllowed}
 use Rattle.sc_births_law.specs.Laws.{AllowedStaysAllowed, FrontsAllow}
 use Rattle.sc_births_law.proofs.Births.{store_after, told_append}

@@ -1,7 +1,7 @@
 -- The entries of one log, one after another, in a world that allowed entries made: each child that they name is new, and is born as they say.
 use Rattle.std.proofs.Common.{◌≡◌, ℕ, ◌+◌, List, [], ◌∷◌, ◌++◌, Option, Some, None, ◌⊎◌, inl, inr, refl, sym, ◌∙◌, ap, append-nil, append_assoc}
 use Rattle.std.specs.Option.{option_map, option_to_list}
-use Rattle.sc_base.specs.Among.{Among, Each}
+use Rattle.sc_base.specs.Among.{Among}
 use Rattle.sc_base.specs.declared.names.Draw.{Draw}
 use Rattle.sc_cmd.specs.declared.commands.Command.{Command}
 use Rattle.sc_cmd.specs.declared.cores.Base.{Base}
@@ -20,7 +20,7 @@ use Rattle.sc_hist_law.proofs.Logs.{applied_same}
 use Rattle.sc_ring_law.specs.Allowed.{Sources, IsAllowed, AreAllowed, ToldWorld, told_on, told_after}
 use Rattle.sc_ring_law.specs.Stories.{put}
 use Rattle.sc_ring_law.specs.Invariant.{Groups}
-use Rattle.sc_ring_law.proofs.Cover.{at-same, at-is, at-other}
+use Rattle.sc_ring_law.proofs.Cover.{at-same, at-other}
 use Rattle.sc_ring_law.proofs.Cuts.{arcs_in}
 use Rattle.sc_ring_law.proofs.Finds.{some_is, none_is_not}
 use Rattle.sc_ring_law.proofs.Names.{draw_cases}

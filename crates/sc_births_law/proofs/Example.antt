@@ -1,15 +1,13 @@
 -- The rows of a journal with a split decide in turn, one after another.
-use Rattle.std.proofs.Common.{◌≡◌, ℕ, ◌+◌, ◌^◌, ◌<◌, ◌≤◌, List, [], ◌∷◌, ◌++◌, map, Some, inl, inr, refl, sym, ◌∙◌, subst, arith}
+use Rattle.std.proofs.Common.{◌≡◌, List, [], ◌∷◌, ◌++◌, inl, inr, refl, subst, arith}
 use Rattle.sc_base.specs.Among.{Among}
-use Rattle.sc_base.specs.declared.names.Draw.{Draw}
-use Rattle.sc_cmd.specs.declared.commands.Command.{Command}
 use Rattle.sc_cmd.specs.declared.cores.Base.{Base}
 use Rattle.sc_cmd.specs.declared.orders.OrderLine.{OrderLine}
 use Rattle.sc_mail.specs.declared.bodies.Mail.{Mail}
 use Rattle.sc_actor.specs.declared.rows.Row.{Row}
 use Rattle.sc_machine_table.specs.Group.{group_of}
 use Rattle.sc_machine_table.specs.Splits.{child_of}
-use Rattle.sc_hist_law.specs.Example.{parent, offspring, lone_base}
+use Rattle.sc_hist_law.specs.Example.{offspring, lone_base}
 use Rattle.sc_hist_law.proofs.EntriesExample.{example_of_entries}
 use Rattle.sc_ring_law.specs.Laws.{BeginInPlace, BeginsInPlace}
 use Rattle.sc_sound.specs.Example.{four}
@@ -17,7 +15,7 @@ use Rattle.sc_sound.specs.GroupsOf.{children_by}
 use Rattle.sc_sound.specs.Logs.{decided_log}
 use Rattle.sc_births_law.specs.Descent.{Rows, IsFound}
 use Rattle.sc_births_law.specs.InTurn.{DecidesInTurn}
-use Rattle.sc_births_law.specs.Example.{split_sources, split_bases, split, put, offers_split, accepts_split, decides_split, asks_child, offers_put, decides_put, split_rows, ExampleInTurn}
+use Rattle.sc_births_law.specs.Example.{split_sources, split_bases, split, put, offers_split, accepts_split, decides_split, asks_child, offers_put, decides_put, ExampleInTurn}
 use Rattle.sc_births_law.proofs.Turns.{TurnFor, in_turn, rests, found_within}
 
 -- the child

@@ -1,5 +1,5 @@
 -- Groups found generation by generation: with one more row, and among the groups of a journal.
-use Rattle.std.proofs.Common.{◌≡◌, ℕ, zero, suc, ◌+◌, ◌<◌, ◌≤◌, List, [], ◌∷◌, ◌++◌, find, length, drop, Option, Some, None, ◌⊎◌, inl, inr, refl, sym, ◌∙◌, ap, subst, append-nil, arith}
+use Rattle.std.proofs.Common.{◌≡◌, ℕ, zero, suc, ◌≤◌, List, [], ◌∷◌, ◌++◌, length, drop, Some, None, ◌⊎◌, inl, inr, sym, ◌∙◌, ap, subst, arith}
 use Rattle.std.specs.List.{flat_map}
 use Rattle.std.specs.Option.{option_map}
 use Rattle.std.proofs.lemmas.Bool.{cases_lt}
@@ -16,11 +16,10 @@ use Rattle.sc_paxos_law.proofs.Among.{Among-left, Among-right, Among-either, Amo
 use Rattle.sc_paxos_words.proofs.ListLemmas.{find_found}
 use Rattle.sc_players.specs.Players.{Ahead}
 use Rattle.sc_machine_table.specs.Group.{group_of}
-use Rattle.sc_machine_table.specs.Logs.{state_after}
 use Rattle.sc_ring_law.specs.Allowed.{Sources, IsAllowed}
 use Rattle.sc_ring_law.specs.Laws.{stories_of}
 use Rattle.sc_ring_law.proofs.Finds.{Pairwise}
-use Rattle.sc_sound.specs.GroupsOf.{children_of, children_by, is_birth_of, with_birth, with_descendants, groups_at, birth_at, log_by, log_at, state_at, entries_at}
+use Rattle.sc_sound.specs.GroupsOf.{children_of, children_by, is_birth_of, with_descendants, groups_at, birth_at, log_by, log_at, state_at, entries_at}
 use Rattle.sc_sound.specs.Logs.{decided_log, decided_state}
 use Rattle.sc_sound.specs.Soundness.{GoesOn}
 use Rattle.sc_births_law.specs.Descent.{Rows, Descends, IsFound, added_by, newborn_by}

@@ -19,7 +19,6 @@ use Rattle.sc_sound.specs.Logs.{decided_log}
 use Rattle.sc_sound.specs.Soundness.{GoesOn, told_from}
 use Rattle.sc_births_law.specs.Descent.{Rows, IsFound, added_by}
 use Rattle.sc_births_law.specs.InTurn.{DecidesInTurn, DecideInTurn}
-use Rattle.sc_births_law.specs.Findings.{IsToldAt, StayAsTold}
 use Rattle.sc_births_law.specs.Laws.{HistoryIsTold, ToldRowsStay}
 use Rattle.sc_births_law.proofs.Generations.{FoundInTurn, log_on, still_descends, group_found, found_group, known_by_name}
 use Rattle.sc_births_law.proofs.Told.{Told, first_rows, Decides}

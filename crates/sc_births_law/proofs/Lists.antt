@@ -1,5 +1,5 @@
 -- Lists: what several elements give, of which one gives something, and birth records that are found by their names.
-use Rattle.std.proofs.Common.{◌≡◌, ℕ, true, false, List, [], ◌∷◌, ◌++◌, fold, find, length, drop, Some, None, ◌⊎◌, inl, inr, refl, sym, ◌∙◌, ap, subst, append-nil}
+use Rattle.std.proofs.Common.{◌≡◌, true, false, List, [], ◌∷◌, ◌++◌, fold, find, length, drop, Some, None, ◌⊎◌, inl, inr, refl, sym, ◌∙◌, ap, subst, append-nil}
 use Rattle.std.specs.List.{flat_map, list_any}
 use Rattle.std.proofs.lemmas.Bool.{cases_Bool, or_left, or_right, or_cases, cond-true, cond-false}
 use Rattle.sc_base.specs.Among.{Among, Each}
@@ -8,7 +8,7 @@ use Rattle.sc_base.specs.declared.names.Draw.{Draw}
 use Rattle.sc_base.proofs.NameLemmas.{same_name, draw_is}
 use Rattle.sc_cmd.specs.declared.cores.Base.{Base}
 use Rattle.sc_paxos_law.proofs.Among.{Among-left, Among-right, Among-either}
-use Rattle.sc_paxos_words.proofs.ListLemmas.{Each-append, Each-among, Each-from, Each-weaker}
+use Rattle.sc_paxos_words.proofs.ListLemmas.{Each-append, Each-among}
 use Rattle.sc_ring_law.proofs.Finds.{Pairwise}
 use Rattle.sc_sound.specs.GroupsOf.{is_birth_of, with_birth}
 

@@ -1,18 +1,17 @@
 -- One more row that decides in turn: what it decides, group by group, and what holds afterwards.
-use Rattle.std.proofs.Common.{◌≡◌, ℕ, suc, ◌+◌, List, [], ◌∷◌, ◌++◌, length, drop, Option, Some, None, ◌⊎◌, inl, inr, refl, sym, ◌∙◌, ap, subst, append-nil, append_assoc}
-use Rattle.std.specs.List.{flat_map}
-use Rattle.sc_base.specs.Among.{Among, Each}
+use Rattle.std.proofs.Common.{◌≡◌, ℕ, suc, ◌+◌, List, [], ◌∷◌, ◌++◌, length, Some, ◌⊎◌, inl, inr, sym, ◌∙◌, ap, subst, append_assoc}
+use Rattle.sc_base.specs.Among.{Among}
 use Rattle.sc_base.specs.declared.names.Draw.{Draw}
 use Rattle.sc_cmd.specs.declared.commands.Command.{Command}
 use Rattle.sc_cmd.specs.declared.cores.Base.{Base}
 use Rattle.sc_cmd.specs.declared.orders.OrderLine.{OrderLine}
 use Rattle.sc_mail.specs.declared.bodies.Mail.{Mail}
 use Rattle.sc_actor.specs.declared.rows.Row.{Row}
-use Rattle.sc_machine_table.specs.Group.{Group, group_of}
+use Rattle.sc_machine_table.specs.Group.{Group}
 use Rattle.sc_paxos_law.proofs.Among.{Among-left, Among-right, Among-either}
 use Rattle.sc_players.specs.Players.{Ahead}
 use Rattle.sc_entries.specs.declared.LogEntry.{LogEntry}
-use Rattle.sc_entries.specs.Worlds.{StoreWorld, first_world, named_group, world_after, world_of}
+use Rattle.sc_entries.specs.Worlds.{StoreWorld, first_world, named_group, world_after}
 use Rattle.sc_entries.proofs.Pushes.{world_append}
 use Rattle.sc_hist_law.specs.Fronts.{log_in}
 use Rattle.sc_hist_law.proofs.Disjoint.{one_or_not}
@@ -20,10 +19,10 @@ use Rattle.sc_ring_law.specs.Allowed.{Sources, AreAllowed, first_told}
 use Rattle.sc_ring_law.specs.Laws.{BeginInPlace}
 use Rattle.sc_ring_law.proofs.Rows.{some_none}
 use Rattle.sc_ring_law.proofs.Sound.{allowed_lists_append}
-use Rattle.sc_sound.specs.GroupsOf.{groups_at, birth_at, log_at, entries_from, entries_after, entries_gained, entries_by_row, entries_at, world_at}
+use Rattle.sc_sound.specs.GroupsOf.{groups_at, log_at, entries_from, entries_after, entries_gained, entries_by_row, entries_at, world_at}
 use Rattle.sc_sound.specs.Logs.{decided_log, decided_state}
 use Rattle.sc_sound.proofs.EntryRows.{entries-push, world-push}
-use Rattle.sc_births_law.specs.Descent.{Rows, Descends, IsFound, added_by}
+use Rattle.sc_births_law.specs.Descent.{Rows, IsFound, added_by}
 use Rattle.sc_births_law.proofs.Lists.{flat_map_none, flat_map_one}
 use Rattle.sc_births_law.proofs.Children.{log_append, log_of_others, log_of_own, entries_of}
 use Rattle.sc_births_law.proofs.Generations.{FoundInTurn, AreOne, AreNear, log_on, still_descends, IsNamedNow, now_descends, old_or_new, near_on, group_found, groups_apart, found_group, known_by_name, no_birth_at, no_log_at}

@@ -1,7 +1,6 @@
 -- What holds of the groups and the entries of rows that decide in turn, with each row.
-use Rattle.std.proofs.Common.{◌≡◌, ℕ, zero, suc, ◌+◌, List, [], ◌∷◌, ◌++◌, map, length, drop, Option, Some, None, ◌⊎◌, inl, inr, refl, sym, ◌∙◌, ap, subst, append-nil, append_assoc, arith}
+use Rattle.std.proofs.Common.{◌≡◌, ℕ, zero, suc, ◌+◌, List, [], ◌∷◌, ◌++◌, map, length, drop, Option, Some, None, ◌⊎◌, inl, inr, refl, sym, ◌∙◌, ap, subst, append-nil, arith}
 use Rattle.std.proofs.Math.Seq.{drop-length}
-use Rattle.std.specs.List.{flat_map}
 use Rattle.sc_base.specs.Among.{Among, Each}
 use Rattle.sc_base.specs.declared.names.Draw.{Draw}
 use Rattle.sc_cmd.specs.declared.commands.Command.{Command}
@@ -13,7 +12,6 @@ use Rattle.sc_actor.specs.declared.rows.Row.{Row}
 use Rattle.sc_ideal.specs.declared.Entry.{Entry}
 use Rattle.sc_machine_table.specs.Group.{Group, group_of}
 use Rattle.sc_machine_table.specs.Logs.{state_after, done_by}
-use Rattle.sc_paxos_law.proofs.Among.{Among-left, Among-right, Among-either}
 use Rattle.sc_paxos_words.proofs.ListLemmas.{Each-among, Each-from}
 use Rattle.sc_players.specs.Players.{Ahead}
 use Rattle.sc_entries.specs.declared.Cut.{Cut}
@@ -28,17 +26,14 @@ use Rattle.sc_ring_law.specs.Allowed.{Sources, IsAllowed, AreAllowed, ToldWorld,
 use Rattle.sc_ring_law.specs.Laws.{BeginInPlace}
 use Rattle.sc_ring_law.proofs.Finds.{Pairwise, among_map, map_among, find_there}
 use Rattle.sc_ring_law.proofs.Rows.{some_none}
-use Rattle.sc_ring_law.proofs.Sound.{allowed_lists_append}
 use Rattle.sc_ring_law.proofs.Start.{at_start}
 use Rattle.sc_ring_law.proofs.Told.{group_named}
 use Rattle.sc_ring_law.proofs.Worlds.{KeptWorld, kept_after}
-use Rattle.sc_sound.specs.GroupsOf.{children_of, groups_at, birth_at, log_at, entries_from, entries_after, entries_gained, entries_by_row, entries_at, world_at, history_at}
+use Rattle.sc_sound.specs.GroupsOf.{children_of, birth_at, entries_from, entries_at, world_at}
 use Rattle.sc_sound.specs.Logs.{decided_log, decided_state}
-use Rattle.sc_sound.proofs.EntryRows.{entries-push, world-push}
 use Rattle.sc_births_law.specs.Descent.{Rows, Descends, IsFound, added_by, newborn_by}
-use Rattle.sc_births_law.proofs.Lists.{flat_map_none, flat_map_one, HaveTwoNames}
-use Rattle.sc_births_law.proofs.Children.{log_append, log_of_others, log_of_own, entries_of}
-use Rattle.sc_births_law.proofs.Generations.{FoundInTurn, AreOne, AreNear, log_on, still_descends, IsNamedNow, now_descends, old_or_new, near_on, group_found, groups_apart, found_group, known_by_name, no_birth_at, no_log_at, birth_found}
+use Rattle.sc_births_law.proofs.Lists.{HaveTwoNames}
+use Rattle.sc_births_law.proofs.Generations.{FoundInTurn, AreOne, AreNear, IsNamedNow, known_by_name, birth_found}
 use Rattle.sc_births_law.proofs.Births.{store_after, IsBornAmong, BornBy, born_by}
 use Rattle.sc_births_law.proofs.Calls.{calls_of, all_allowed}
 

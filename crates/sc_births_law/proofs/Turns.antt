@@ -1,8 +1,7 @@
 -- A row decides in turn where it does for each group that is found before it.
-use Rattle.std.proofs.Common.{◌≡◌, ℕ, zero, suc, List, [], ◌∷◌, ◌++◌, length, drop, refl, sym, ◌∙◌, ap, subst, append-nil}
+use Rattle.std.proofs.Common.{◌≡◌, zero, suc, List, [], ◌∷◌, ◌++◌, length, drop, sym, ◌∙◌, ap, subst, append-nil}
 use Rattle.std.proofs.Math.Seq.{drop-length}
 use Rattle.sc_base.specs.Among.{Among, Each}
-use Rattle.sc_cmd.specs.declared.commands.Command.{Command}
 use Rattle.sc_cmd.specs.declared.cores.Base.{Base}
 use Rattle.sc_cmd.specs.declared.orders.OrderLine.{OrderLine}
 use Rattle.sc_mail.specs.declared.bodies.Mail.{Mail}
@@ -13,7 +12,7 @@ use Rattle.sc_ring_law.specs.Laws.{stories_of}
 use Rattle.sc_sound.specs.GroupsOf.{children_of, children_by, entries_at}
 use Rattle.sc_sound.specs.Logs.{decided_log, decided_state}
 use Rattle.sc_sound.specs.Soundness.{GoesOn}
-use Rattle.sc_births_law.specs.Descent.{Rows, Descends, IsFound, added_by, newborn_by}
+use Rattle.sc_births_law.specs.Descent.{Rows, IsFound, added_by, newborn_by}
 use Rattle.sc_births_law.specs.InTurn.{DecidesInTurn}
 use Rattle.sc_births_law.proofs.Generations.{group_found}
 
