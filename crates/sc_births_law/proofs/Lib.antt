@@ -10,5 +10,8 @@ pub mod Parts
 pub mod Findings
 pub mod Histories
 pub mod Allowing
+pub mod Notes
+pub mod Times
+pub mod Sound
 pub mod Turns
 mod Example

@@ -9,6 +9,7 @@ use Rattle.sc_mail.specs.declared.bodies.Mail.{Mail}
 use Rattle.sc_actor.specs.declared.rows.Row.{Row}
 use Rattle.sc_ideal.specs.declared.Entry.{Entry}
 use Rattle.sc_players.specs.Players.{Ahead}
+use Rattle.sc_scenario.specs.declared.scenarios.Scenario.{Scenario}
 use Rattle.sc_machine_table.specs.Group.{group_of}
 use Rattle.sc_machine_table.specs.Logs.{state_after}
 use Rattle.sc_ring_law.specs.Allowed.{Sources, IsAllowed, AreAllowed, first_told}
@@ -16,6 +17,8 @@ use Rattle.sc_ring_law.specs.Laws.{BeginInPlace, stories_of}
 use Rattle.sc_hist_law.specs.Worlds.{BeginBare}
 use Rattle.sc_sound.specs.GroupsOf.{groups_at, entries_at, history_at}
 use Rattle.sc_sound.specs.Logs.{decided_log}
+use Rattle.sc_sound.specs.Soundness.{IsSound}
+use Rattle.sc_births_law.specs.Beside.{HoldsBeside}
 use Rattle.sc_births_law.specs.Descent.{Rows}
 use Rattle.sc_births_law.specs.InTurn.{DecidesInTurn, DecideInTurn, DecidesForOne}
 use Rattle.sc_births_law.specs.Findings.{AreFound, AreOldOrNew, AreItsLogs, MakesAllowed, TellOneMap, IsToldAt, StayAsTold}
@@ -71,3 +74,10 @@ HistoryIsTold = (sources : Sources) (ahead : Ahead) (bases : List Base) → Begi
 -- what is told stays with more rows
 abbrev pub ToldRowsStay : Type 0
 ToldRowsStay = (sources : Sources) (ahead : Ahead) (bases : List Base) → BeginInPlace sources bases → (rows more : Rows) → DecideInTurn sources ahead bases [] (rows ++ more) → StayAsTold ahead bases rows more
+
+-- ---- all together
+
+-- a journal whose rows decide in turn is sound, where one value per slot, executed fronts, and the order of calls and replies hold beside
+abbrev pub JournalsInTurnAreSound : Type 0
+JournalsInTurnAreSound = (sources : Sources) (ahead : Ahead) (scenario : Scenario) → BeginInPlace sources scenario.groups → BeginBare scenario.groups
+    → (rows more : Rows) → DecideInTurn sources ahead scenario.groups [] (rows ++ more) → HoldsBeside ahead scenario rows → IsSound ahead scenario rows more

@@ -13,6 +13,7 @@ ghost use Rattle.sc_births_law.specs.Laws.{
   GroupsAreFound,
   GroupsAreOldOrNew,
   HistoryIsTold,
+  JournalsInTurnAreSound,
   RowsDecideForOne,
   RowsGoOn,
   ToldRowsStay,
@@ -70,6 +71,16 @@ pub fn history_is_told_by_rows()
 pub fn told_rows_stay()
     ensures { ToldRowsStay }
 {}
+
+/// So a journal whose rows decide in turn is sound, whatever its groups order, split and merge, where
+/// these hold beside: each group has one value per slot, each replica has executed a front of its
+/// group's log, each call was issued before the row that decides it, and each reply was decided
+/// before the row that takes it.
+pub fn journals_in_turn_are_sound()
+    ensures { JournalsInTurnAreSound }
+{
+    allowed_entries_make_one_map();
+}
 
 /// Rows that decide in turn are about something: a group is split, and its child decides a call.
 pub fn a_split_decides_in_turn()
