@@ -1,0 +1,6 @@
+pub mod Beside
+pub mod Descent
+pub mod Example
+pub mod Findings
+pub mod InTurn
+pub mod Laws
