@@ -1,10 +1,8 @@
-mod Choices
 mod Clients
-mod Cuts
-mod Lists
 mod Records
 mod Results
 mod Rosters
 mod Spelled
+mod Starts
 mod Texts
 mod Verdicts

@@ -2,8 +2,8 @@
 use Rattle.std.proofs.Common.{◌≡◌, Option, Some, None, Bool, true, false, if◌then◌else◌, refl, sym, ap, true≢false}
 use Rattle.std.specs.Prelude.{Result, Ok, Err}
 use Rattle.std.specs.Result.{is_ok, result_unwrap_or}
-use Rattle.sc_scenario.specs.Reasons.{given, then_on}
-use Rattle.sc_scenario.specs.declared.reasons.Reason.{Reason}
+use Rattle.sc_lines.specs.Reasons.{given, then_on}
+use Rattle.sc_lines.specs.declared.reasons.Reason.{Reason}
 
 -- no fault is a value
 pub err_ok : {X E : Type 0} (e : E) (x : X) → Err e ≡ Ok x → ⊥

@@ -1,60 +1,36 @@
 -- What the words of a line spell: groups of nodes, lines of the schedule, orders.
-use Rattle.std.proofs.Common.{◌≡◌, ◌<◌, ◌≤◌, ◌+◌, ◌-◌, ◌&&◌, ◌||◌, ◌^◌, eqb, ltb, leb, not, ℕ, List, [], ◌∷◌, ◌++◌, drop, length, Some, None, Option, Bool, true, false, if◌then◌else◌, nat_le, nat_lt, refl, sym, ap, subst, inl, inr, arith, rules, is_none, true≢false, codes, ◌∙◌}
-use Rattle.std.specs.Prelude.{Result, Ok, Err, ⊤, ◌⊎◌}
-use Rattle.std.specs.Option.{option_map, option_and_then}
-use Rattle.std.specs.List.{All, AllPairs, list_any}
-use Rattle.std.specs.Result.{result_ok}
-use Rattle.std.proofs.lemmas.Bool.{and_parts, or_parts, eqb-true, eqb-false, eq-eqb, ltb-true, ltb-false, leb-true, leb-false, not-true}
-use Rattle.std.proofs.lemmas.List.{length_push}
+use Rattle.std.proofs.Common.{◌≡◌, ◌≤◌, ◌+◌, ◌||◌, eqb, ltb, leb, ℕ, List, [], ◌∷◌, ◌++◌, Some, None, Bool, true, false, if◌then◌else◌, refl, sym, ap, subst, inl, inr, arith, is_none, true≢false}
+use Rattle.std.specs.Prelude.{Ok}
+use Rattle.std.specs.Option.{option_map}
+use Rattle.std.specs.List.{All, list_any}
+use Rattle.std.proofs.lemmas.Bool.{or_parts, eqb-true, eq-eqb, ltb-false, leb-true}
 use Rattle.std.proofs.lemmas.Option.{none-some, same_Some}
 use Rattle.std.proofs.lemmas.List.Elements.{All-nil, All-cons, All-push, All-head, All-tail}
 use Rattle.sc_base.proofs.CommonLemmas.{and_then-some, map-some}
-use Rattle.sc_base.specs.Limits.{most_nodes, most_clients, most_requests, client_actor}
-use Rattle.sc_base.specs.Number.{number_of}
-use Rattle.sc_base.specs.declared.ops.Op.{Op}
-use Rattle.sc_base.specs.declared.names.Draw.{Draw}
-use Rattle.sc_cmd.specs.declared.cores.Base.{Base}
-use Rattle.sc_cmd.specs.declared.cores.Lock.TheVariants.{Free as NoLock}
+use Rattle.sc_base.specs.Limits.{most_nodes, most_clients, client_actor}
 use Rattle.sc_cmd.specs.declared.orders.Order.{Order}
 use Rattle.sc_cmd.specs.declared.orders.Order.TheVariants.{Join, Leave}
-use Rattle.sc_member.specs.Roster.{IsRoster, with_member, least_of}
+use Rattle.sc_member.specs.Roster.{IsRoster, with_member}
 use Rattle.sc_member.specs.Faults.{add_fault}
-use Rattle.sc_scenario.specs.Reasons.{reason_code, given, then_on}
-use Rattle.sc_scenario.specs.Words.{nth, words_of, count_in}
-use Rattle.sc_scenario.specs.Lines.{is_too_long, lines_of, trimmed, is_skipped, has_bad_byte, most_lines}
-use Rattle.sc_scenario.specs.Kinds.{kind_of, phase_of, is_inner, has_count}
-use Rattle.sc_scenario.specs.Requests.{request_in}
-use Rattle.sc_scenario.specs.Groups.{nodes_with, has_repeat, joined_by, joined_by_all, set_of, bases_of, way, lone_name, lone_link, lone_group}
-use Rattle.sc_scenario.specs.Schedules.{most_mails, most_deliveries, most_workers, last_storm, is_client, actor_in, line_in}
-use Rattle.sc_scenario.specs.Orders.{name_in, order_in, last_position}
-use Rattle.sc_scenario.specs.Statements.{group_in, statement_in}
-use Rattle.sc_scenario.specs.Places.{is_line_built, is_order_built, is_built, phase_so_far, may_follow, is_in_place}
-use Rattle.sc_scenario.specs.Taking.{is_actor, is_order_known, is_line_known, is_above, most_groups, most_members, with_group_line, has_stranger, group_taken, client_place, with_client, with_request, client_taken, request_taken, with_line, telling_of, with_order, line_taken, telling_taken, taken_outside, taken_within}
-use Rattle.sc_scenario.specs.Grammar.{begun, are_two, header_read, said, built_kind, words_read, is_fresh, line_read, scenario_by, reading_ended, text_ended, going_on, lines_read, verdict_of, scenario_of}
-use Rattle.sc_scenario.specs.Valid.{IsValid, IsEarly, IsEarlyClient, IsEarlyLine, IsEarlyOrder, IsActor, IsUpTo, TextsAreEarly}
-use Rattle.sc_scenario.specs.declared.reasons.Reason.{Reason}
-use Rattle.sc_scenario.specs.declared.reasons.Reason.TheVariants.{MissingHeader, BadByte, UnknownWord, OutOfPlace, WrongCount, BadNumber, BadKey, BadValue, UnknownName, Repeated, BadBoundary, TooMany, UnendedClient, MissingPart, TooLarge}
-use Rattle.sc_scenario.specs.declared.kinds.Kind.{Kind}
-use Rattle.sc_scenario.specs.declared.kinds.Kind.TheVariants.{Header, Nodes, Group, Policy, Client, End, Asking, Playing, Telling}
-use Rattle.sc_scenario.specs.declared.kinds.LineKind.{LineKind}
-use Rattle.sc_scenario.specs.declared.kinds.LineKind.TheVariants as kind
-use Rattle.sc_scenario.specs.declared.kinds.OrderKind.{OrderKind}
-use Rattle.sc_scenario.specs.declared.kinds.OrderKind.TheVariants as what
-use Rattle.sc_scenario.specs.declared.statements.Statement.{Statement}
-use Rattle.sc_scenario.specs.declared.statements.Statement.TheVariants.{NodeCount, NewGroup, WithPolicy, NewClient, Ask, SectionEnd, Play, Tell}
-use Rattle.sc_scenario.specs.declared.drafts.Draft.{Draft}
-use Rattle.sc_scenario.specs.declared.drafts.GroupLine.{GroupLine}
-use Rattle.sc_scenario.specs.declared.drafts.Reading.{Reading}
-use Rattle.sc_scenario.specs.declared.drafts.Reading.TheVariants.{Fresh, Outside, Within}
-use Rattle.sc_scenario.specs.declared.reading.ScenarioFault.{ScenarioFault}
-use Rattle.sc_scenario.specs.declared.reading.ScenarioFault.TheVariants.{Bad}
+use Rattle.sc_lines.specs.Reasons.{given}
+use Rattle.sc_lines.specs.Words.{nth, count_in}
+use Rattle.sc_scenario.specs.Groups.{nodes_with, joined_by, joined_by_all}
+use Rattle.sc_scenario.specs.Schedules.{most_mails, most_deliveries, most_workers, is_client, actor_in, line_in}
+use Rattle.sc_scenario.specs.Orders.{name_in, order_in}
+use Rattle.sc_scenario.specs.Places.{is_line_built, is_order_built}
+use Rattle.sc_scenario.specs.Taking.{is_actor, is_order_known, is_line_known, has_stranger}
+use Rattle.sc_scenario.specs.Valid.{IsEarlyLine, IsEarlyOrder, IsActor, IsUpTo}
+use Rattle.sc_lines.specs.declared.reasons.Reason.TheVariants.{WrongCount, BadNumber}
+use Rattle.sc_lines.specs.declared.kinds.LineKind.{LineKind}
+use Rattle.sc_lines.specs.declared.kinds.LineKind.TheVariants as kind
+use Rattle.sc_lines.specs.declared.kinds.OrderKind.{OrderKind}
+use Rattle.sc_lines.specs.declared.kinds.OrderKind.TheVariants as what
 use Rattle.sc_scenario.specs.declared.scenarios.Asks.{Asks}
-use Rattle.sc_scenario.specs.declared.scenarios.Scenario.{Scenario}
 use Rattle.sc_scenario.specs.declared.scenarios.SchedLine.{SchedLine}
-use Rattle.sc_scenario.specs.declared.scenarios.SchedLine.TheVariants.{Go, Deliver, Drop, Again, Tick, Crash, Told, Settle, Free}
-use Rattle.sc_scenario.proofs.Choices.{chosen, is_up_to, counted}
-use Rattle.sc_scenario.proofs.Results.{err_ok, same_Ok, given_ok, after_ok, passed, met}
-use Rattle.sc_scenario.proofs.Rosters.{roster_one, roster_with, all_with}
+use Rattle.sc_scenario.specs.declared.scenarios.SchedLine.TheVariants.{Go, Deliver, Drop, Again, Tick, Crash, Settle, Free}
+use Rattle.sc_lines.proofs.Choices.{counted}
+use Rattle.sc_scenario.proofs.Results.{err_ok, same_Ok, given_ok}
+use Rattle.sc_scenario.proofs.Rosters.{roster_with, all_with}
 
 -- ---- the nodes of a group
 
@@ -87,11 +63,6 @@ no_stranger most (node ∷ nodes) e all =
     let parts = or_parts (ltb most node) (has_stranger most nodes) e in
     let up = All-head (IsUpTo most_nodes) node nodes all in
     All-cons (IsUpTo most) node nodes (up.0, ltb-false most node parts.0) (no_stranger most nodes parts.1 (All-tail (IsUpTo most_nodes) node nodes all))
-
-pub record IsGroupLine (nodes : ℕ) (line : GroupLine) : Type 0 where
-  pub lo_in : line.lo < 2 ^ 32
-  pub roster : IsRoster line.members
-  pub all : All (IsUpTo nodes) line.members
 
 -- ---- the schedule
 

@@ -1,47 +1,36 @@
 -- What a text that is a scenario gives.
-use Rattle.std.proofs.Common.{◌≡◌, ◌<◌, ◌≤◌, ◌+◌, ◌-◌, ◌&&◌, ◌||◌, ◌^◌, eqb, ltb, leb, not, ℕ, List, [], ◌∷◌, ◌++◌, drop, length, Some, None, Option, Bool, true, false, if◌then◌else◌, nat_le, nat_lt, refl, sym, ap, subst, inl, inr, arith, rules, is_none, true≢false, codes, ◌∙◌}
+use Rattle.std.proofs.Common.{◌≡◌, ◌<◌, ◌≤◌, ◌+◌, ◌&&◌, ◌||◌, eqb, ltb, leb, not, ℕ, List, [], ◌∷◌, ◌++◌, drop, length, Some, None, Bool, true, false, if◌then◌else◌, nat_lt, refl, sym, ap, subst, inl, inr, arith, true≢false, codes}
 use Rattle.std.specs.Prelude.{Result, Ok, Err, ⊤, ◌⊎◌}
-use Rattle.std.specs.Option.{option_map, option_and_then}
-use Rattle.std.specs.List.{All, AllPairs, list_any}
+use Rattle.std.specs.List.{All, AllPairs}
 use Rattle.std.specs.Result.{result_ok}
-use Rattle.std.proofs.lemmas.Bool.{and_parts, or_parts, eqb-true, eqb-false, eq-eqb, ltb-true, ltb-false, leb-true, leb-false, not-true}
+use Rattle.std.proofs.lemmas.Bool.{and_parts, or_parts, eqb-true, eqb-false, leb-true, leb-false}
 use Rattle.std.proofs.lemmas.List.{length_push}
 use Rattle.std.proofs.lemmas.Option.{none-some, same_Some}
 use Rattle.std.proofs.lemmas.List.Elements.{All-nil, All-cons, All-push, All-head, All-tail}
-use Rattle.sc_base.proofs.CommonLemmas.{and_then-some, map-some}
-use Rattle.sc_base.specs.Limits.{most_nodes, most_clients, most_requests, client_actor}
+use Rattle.sc_base.proofs.CommonLemmas.{and_then-some}
+use Rattle.sc_base.specs.Limits.{most_nodes, most_clients, most_requests}
 use Rattle.sc_base.specs.Number.{number_of}
 use Rattle.sc_base.specs.declared.ops.Op.{Op}
-use Rattle.sc_base.specs.declared.names.Draw.{Draw}
-use Rattle.sc_cmd.specs.declared.cores.Base.{Base}
-use Rattle.sc_cmd.specs.declared.cores.Lock.TheVariants.{Free as NoLock}
 use Rattle.sc_cmd.specs.declared.orders.Order.{Order}
-use Rattle.sc_cmd.specs.declared.orders.Order.TheVariants.{Join, Leave}
-use Rattle.sc_member.specs.Roster.{IsRoster, with_member, least_of}
-use Rattle.sc_member.specs.Faults.{add_fault}
-use Rattle.sc_scenario.specs.Reasons.{reason_code, given, then_on}
-use Rattle.sc_scenario.specs.Words.{nth, words_of, count_in}
-use Rattle.sc_scenario.specs.Lines.{is_too_long, lines_of, trimmed, is_skipped, has_bad_byte, most_lines}
-use Rattle.sc_scenario.specs.Kinds.{kind_of, phase_of, is_inner, has_count}
-use Rattle.sc_scenario.specs.Requests.{request_in}
-use Rattle.sc_scenario.specs.Groups.{nodes_with, has_repeat, joined_by, joined_by_all, set_of, bases_of, way, lone_name, lone_link, lone_group}
-use Rattle.sc_scenario.specs.Schedules.{most_mails, most_deliveries, most_workers, last_storm, is_client, actor_in, line_in}
-use Rattle.sc_scenario.specs.Orders.{name_in, order_in, last_position}
+use Rattle.sc_lines.specs.Reasons.{reason_code, given, then_on}
+use Rattle.sc_lines.specs.Words.{nth, words_of, count_in}
+use Rattle.sc_lines.specs.Lines.{is_too_long, lines_of, trimmed, is_skipped, has_bad_byte, most_lines}
+use Rattle.sc_lines.specs.Kinds.{kind_of, phase_of, is_inner, has_count}
+use Rattle.sc_lines.specs.Requests.{request_in}
+use Rattle.sc_scenario.specs.Groups.{nodes_with, has_repeat, set_of}
+use Rattle.sc_scenario.specs.Schedules.{is_client, line_in}
+use Rattle.sc_scenario.specs.Orders.{order_in, last_position}
 use Rattle.sc_scenario.specs.Statements.{group_in, statement_in}
-use Rattle.sc_scenario.specs.Places.{is_line_built, is_order_built, is_built, phase_so_far, may_follow, is_in_place}
-use Rattle.sc_scenario.specs.Taking.{is_actor, is_order_known, is_line_known, is_above, most_groups, most_members, with_group_line, has_stranger, group_taken, client_place, with_client, with_request, client_taken, request_taken, with_line, telling_of, with_order, line_taken, telling_taken, taken_outside, taken_within}
-use Rattle.sc_scenario.specs.Grammar.{begun, are_two, header_read, said, built_kind, words_read, is_fresh, line_read, scenario_by, reading_ended, text_ended, going_on, lines_read, verdict_of, scenario_of}
-use Rattle.sc_scenario.specs.Valid.{IsValid, IsEarly, IsEarlyClient, IsEarlyLine, IsEarlyOrder, IsActor, IsUpTo, TextsAreEarly}
-use Rattle.sc_scenario.specs.declared.reasons.Reason.{Reason}
-use Rattle.sc_scenario.specs.declared.reasons.Reason.TheVariants.{MissingHeader, BadByte, UnknownWord, OutOfPlace, WrongCount, BadNumber, BadKey, BadValue, UnknownName, Repeated, BadBoundary, TooMany, UnendedClient, MissingPart, TooLarge}
-use Rattle.sc_scenario.specs.declared.kinds.Kind.{Kind}
-use Rattle.sc_scenario.specs.declared.kinds.Kind.TheVariants.{Header, Nodes, Group, Policy, Client, End, Asking, Playing, Telling}
-use Rattle.sc_scenario.specs.declared.kinds.LineKind.{LineKind}
-use Rattle.sc_scenario.specs.declared.kinds.LineKind.TheVariants as kind
-use Rattle.sc_scenario.specs.declared.kinds.OrderKind.{OrderKind}
-use Rattle.sc_scenario.specs.declared.kinds.OrderKind.TheVariants as what
+use Rattle.sc_scenario.specs.Places.{is_built, phase_so_far, may_follow, is_in_place}
+use Rattle.sc_scenario.specs.Taking.{is_order_known, is_line_known, is_above, most_groups, most_members, with_group_line, has_stranger, group_taken, client_place, with_client, with_request, client_taken, request_taken, with_line, telling_of, with_order, line_taken, telling_taken, taken_outside, taken_within}
+use Rattle.sc_scenario.specs.Grammar.{begun, are_two, header_read, said, built_kind, words_read, is_fresh, line_read, scenario_by, reading_ended, text_ended, going_on, lines_read, verdict_of}
+use Rattle.sc_scenario.specs.Valid.{IsEarly, IsEarlyGroup, IsEarlyClient, IsEarlyLine, IsUpTo, TextsAreEarly}
+use Rattle.sc_lines.specs.declared.reasons.Reason.{Reason}
+use Rattle.sc_lines.specs.declared.reasons.Reason.TheVariants.{MissingHeader, BadByte, UnknownWord, OutOfPlace, WrongCount, BadNumber, UnknownName, Repeated, BadBoundary, TooMany}
+use Rattle.sc_lines.specs.declared.kinds.Kind.{Kind}
+use Rattle.sc_lines.specs.declared.kinds.Kind.TheVariants.{Header, Nodes, Group, Policy, Client, End, Asking, Playing, Telling}
 use Rattle.sc_scenario.specs.declared.statements.Statement.{Statement}
-use Rattle.sc_scenario.specs.declared.statements.Statement.TheVariants.{NodeCount, NewGroup, WithPolicy, NewClient, Ask, SectionEnd, Play, Tell}
+use Rattle.sc_scenario.specs.declared.statements.Statement.TheVariants.{NodeCount, NewGroup, NewClient, Ask, SectionEnd, Play, Tell}
 use Rattle.sc_scenario.specs.declared.drafts.Draft.{Draft}
 use Rattle.sc_scenario.specs.declared.drafts.GroupLine.{GroupLine}
 use Rattle.sc_scenario.specs.declared.drafts.Reading.{Reading}
@@ -51,13 +40,12 @@ use Rattle.sc_scenario.specs.declared.reading.ScenarioFault.TheVariants.{Bad}
 use Rattle.sc_scenario.specs.declared.scenarios.Asks.{Asks}
 use Rattle.sc_scenario.specs.declared.scenarios.Scenario.{Scenario}
 use Rattle.sc_scenario.specs.declared.scenarios.SchedLine.{SchedLine}
-use Rattle.sc_scenario.specs.declared.scenarios.SchedLine.TheVariants.{Go, Deliver, Drop, Again, Tick, Crash, Told, Settle, Free}
-use Rattle.sc_scenario.proofs.Choices.{chosen, is_up_to, counted}
+use Rattle.sc_lines.proofs.Choices.{chosen, is_up_to, counted}
 use Rattle.sc_scenario.proofs.Results.{err_ok, same_Ok, given_ok, after_ok, passed, met}
-use Rattle.sc_scenario.proofs.Rosters.{roster_one, roster_with, all_with}
+use Rattle.sc_scenario.proofs.Rosters.{roster_one}
 use Rattle.sc_scenario.proofs.Clients.{Below, all_inserted, rising_with}
-use Rattle.sc_scenario.proofs.Spelled.{IsGroupLine, joined_is, joined_all, nodes_up, no_stranger, node_is, Played, line_is, Ordered, order_is}
-use Rattle.sc_scenario.proofs.Records.{lone_bases, one_line}
+use Rattle.sc_scenario.proofs.Spelled.{joined_is, joined_all, nodes_up, no_stranger, node_is, Played, line_is, Ordered, order_is}
+use Rattle.sc_scenario.proofs.Starts.{Lower, above_push}
 
 -- ---- what was read so far
 
@@ -67,8 +55,9 @@ IsVersion version = (version ≡ 1) ⊎ (version ≡ 2)
 record IsDraft (draft : Draft) : Type 0 where
   version : IsVersion draft.version
   nodes : draft.nodes ≤ most_nodes
-  groups : All (IsGroupLine draft.nodes) draft.groups
-  lone : length draft.groups ≤ 1
+  groups : All (IsEarlyGroup draft.nodes) draft.groups
+  few : length draft.groups ≤ most_groups
+  steps : AllPairs Lower draft.groups
   policy : draft.policy ≡ false
   clients : All IsEarlyClient draft.clients
   rising : AllPairs Below draft.clients
@@ -83,8 +72,8 @@ IsReading (Within draft asks) = IsDraft draft × (length draft.lines ≡ 0) × (
 none_of : {X : Type 0} (P : X → Type 0) (xs : List X) → length xs ≡ 0 → All P xs
 none_of P xs none k d within = absurd (omega (arith, none, within))
 
-no_pairs : (xs : List Asks) → length xs ≡ 0 → AllPairs Below xs
-no_pairs xs none i j d lt within = absurd (omega (arith, none, within))
+no_pairs : {X : Type 0} (R : X → X → Type 0) (xs : List X) → length xs ≡ 0 → AllPairs R xs
+no_pairs R xs none i j d lt within = absurd (omega (arith, none, within))
 
 first_holds : (a b c d e f : Bool) → (a && b && c && d && e && f) ≡ true → a ≡ true
 first_holds true b c d e f h = refl
@@ -127,20 +116,22 @@ counted_nodes : (draft : Draft) (n : ℕ) → n ≤ most_nodes → IsEmpty draft
 counted_nodes draft n up none is = record {
   version = is.version;
   nodes = up;
-  groups = none_of (IsGroupLine n) draft.groups none.groups;
-  lone = is.lone;
+  groups = none_of (IsEarlyGroup n) draft.groups none.groups;
+  few = is.few;
+  steps = is.steps;
   policy = is.policy;
   clients = is.clients;
   rising = is.rising;
   lines = none_of (IsEarlyLine n draft.clients) draft.lines none.lines;
 }
 
-grouped : (draft : Draft) (line : GroupLine) → length draft.groups ≡ 0 → IsGroupLine draft.nodes line → IsDraft draft → IsDraft (record draft { groups = draft.groups ++ line ∷ [] })
-grouped draft line none good is = record {
+grouped : (draft : Draft) (line : GroupLine) → length draft.groups < most_groups → is_above draft.groups line.lo ≡ true → IsEarlyGroup draft.nodes line → IsDraft draft → IsDraft (record draft { groups = draft.groups ++ line ∷ [] })
+grouped draft line room above good is = record {
   version = is.version;
   nodes = is.nodes;
-  groups = All-push (IsGroupLine draft.nodes) draft.groups line is.groups good;
-  lone = omega (arith, none, length_push draft.groups line);
+  groups = All-push (IsEarlyGroup draft.nodes) draft.groups line is.groups good;
+  few = omega (arith, room, length_push draft.groups line);
+  steps = above_push draft.groups line is.steps above;
   policy = is.policy;
   clients = is.clients;
   rising = is.rising;
@@ -152,36 +143,43 @@ lined draft line orders good is = record {
   version = is.version;
   nodes = is.nodes;
   groups = is.groups;
-  lone = is.lone;
+  few = is.few;
+  steps = is.steps;
   policy = is.policy;
   clients = is.clients;
   rising = is.rising;
   lines = All-push (IsEarlyLine draft.nodes draft.clients) draft.lines line is.lines good;
 }
 
-group_taken_is : (draft : Draft) (lo first : ℕ) (others : List ℕ) (more : Reading) → lo ≤ last_position → IsUpTo most_nodes first → All (IsUpTo most_nodes) others → length draft.groups ≡ 0 → IsDraft draft
+turned : (b : Bool) → not b ≡ false → b ≡ true
+turned true h = refl
+turned false h = absurd (true≢false h)
+
+group_taken_is : (draft : Draft) (lo first : ℕ) (others : List ℕ) (more : Reading) → lo ≤ last_position → IsUpTo most_nodes first → All (IsUpTo most_nodes) others → IsDraft draft
     → group_taken draft lo first others ≡ Ok more → IsReading more
-group_taken_is draft lo first others more low up all none is e =
+group_taken_is draft lo first others more low up all is e =
     let a = passed (has_stranger draft.nodes (first ∷ others)) UnknownName _ more e in
     let b = passed (has_repeat (first ∷ others)) Repeated _ more a.1 in
     let c = passed (not (is_above draft.groups lo)) BadBoundary _ more b.1 in
     let d = passed (leb most_groups (length draft.groups) || leb most_members (length others)) TooMany (Ok (Outside (with_group_line draft lo (set_of first others)))) more c.1 in
+    let parts = or_parts (leb most_groups (length draft.groups)) (leb most_members (length others)) d.0 in
     let known = no_stranger draft.nodes (first ∷ others) a.0 (All-cons (IsUpTo most_nodes) first others up all) in
-    let good : IsGroupLine draft.nodes (record { lo = lo; members = set_of first others }) = record {
+    let good : IsEarlyGroup draft.nodes (record { lo = lo; members = set_of first others }) = record {
       lo_in = omega (arith, low);
       roster = joined_is others (first ∷ []) (roster_one first);
-      all = joined_all (IsUpTo draft.nodes) others (first ∷ []) (All-cons (IsUpTo draft.nodes) first [] (All-head (IsUpTo draft.nodes) first others known) (All-nil (IsUpTo draft.nodes))) (All-tail (IsUpTo draft.nodes) first others known);
+      members_in = joined_all (IsUpTo draft.nodes) others (first ∷ []) (All-cons (IsUpTo draft.nodes) first [] (All-head (IsUpTo draft.nodes) first others known) (All-nil (IsUpTo draft.nodes))) (All-tail (IsUpTo draft.nodes) first others known);
     } in
-    subst IsReading (same_Ok _ more d.1) (grouped draft (record { lo = lo; members = set_of first others }) none good is)
+    subst IsReading (same_Ok _ more d.1)
+    (grouped draft (record { lo = lo; members = set_of first others }) (leb-false most_groups (length draft.groups) parts.0) (turned (is_above draft.groups lo) c.0) good is)
 
-group_is : (draft : Draft) (words : List (List ℕ)) (statement : Statement) (more : Reading) → length draft.groups ≡ 0 → IsDraft draft → group_in words ≡ Ok statement → taken_outside draft statement ≡ Ok more → IsReading more
-group_is draft words statement more none is e t =
+group_is : (draft : Draft) (words : List (List ℕ)) (statement : Statement) (more : Reading) → IsDraft draft → group_in words ≡ Ok statement → taken_outside draft statement ≡ Ok more → IsReading more
+group_is draft words statement more is e t =
     let lo = given_ok (number_of (nth words 1) last_position) BadNumber (λ lo. given (count_in most_nodes (nth words 2)) BadNumber (λ first. given (nodes_with [] (drop 3 words)) BadNumber (λ others. Ok (NewGroup lo first others)))) statement e in
     let first = given_ok (count_in most_nodes (nth words 2)) BadNumber (λ first. given (nodes_with [] (drop 3 words)) BadNumber (λ others. Ok (NewGroup lo.0 first others))) statement lo.2 in
     let others = given_ok (nodes_with [] (drop 3 words)) BadNumber (λ others. Ok (NewGroup lo.0 first.0 others)) statement first.2 in
     let taken : group_taken draft lo.0 first.0 others.0 ≡ Ok more = subst (λ s. taken_outside draft s ≡ Ok more) (sym (same_Ok (NewGroup lo.0 first.0 others.0) statement others.2)) t in
     group_taken_is draft lo.0 first.0 others.0 more (is_up_to last_position (nth words 1) lo.0 lo.1) (counted most_nodes (nth words 2) first.0 first.1)
-    (nodes_up (drop 3 words) [] others.0 (All-nil (IsUpTo most_nodes)) others.1) none is taken
+    (nodes_up (drop 3 words) [] others.0 (All-nil (IsUpTo most_nodes)) others.1) is taken
 
 client_is : (draft : Draft) (client : ℕ) (more : Reading) → IsUpTo most_clients client → length draft.lines ≡ 0 → IsDraft draft → client_taken draft client ≡ Ok more → IsReading more
 client_is draft client more up none is e =
@@ -199,14 +197,14 @@ told_is draft node word order more number good is e =
     let parts = and_parts (leb node draft.nodes) (is_order_known draft.nodes order) m.0 in
     subst IsReading (same_Ok _ more m.1) (lined draft (telling_of draft node order) (draft.orders + 1) (node_is draft.nodes word node number parts.0, good parts.1, omega arith) is)
 
-outside_is : (draft : Draft) (k : Kind) (words : List (List ℕ)) (statement : Statement) (more : Reading) → IsDraft draft → is_built draft k ≡ true → may_follow (phase_so_far draft) (phase_of k) ≡ true
+outside_is : (draft : Draft) (k : Kind) (words : List (List ℕ)) (statement : Statement) (more : Reading) → IsDraft draft → is_built k ≡ true → may_follow (phase_so_far draft) (phase_of k) ≡ true
     → statement_in k words ≡ Ok statement → taken_outside draft statement ≡ Ok more → IsReading more
 outside_is draft Header words statement more is built place e t = absurd (err_ok OutOfPlace statement e)
 outside_is draft Nodes words statement more is built place e t =
     let g = given_ok (count_in most_nodes (nth words 1)) BadNumber (λ nodes. Ok (NodeCount nodes)) statement e in
     let taken : Ok (Outside (record draft { nodes = g.0 })) ≡ Ok more = subst (λ s. taken_outside draft s ≡ Ok more) (sym (same_Ok (NodeCount g.0) statement g.2)) t in
     subst IsReading (same_Ok _ more taken) (counted_nodes draft g.0 (counted most_nodes (nth words 1) g.0 g.1).1 (empty draft (not_later (phase_so_far draft) 1 place)) is)
-outside_is draft Group words statement more is built place e t = group_is draft words statement more (eqb-true (length draft.groups) 0 built) is e t
+outside_is draft Group words statement more is built place e t = group_is draft words statement more is e t
 outside_is draft Policy words statement more is built place e t = absurd (true≢false (sym built))
 outside_is draft Client words statement more is built place e t =
     let g = given_ok (count_in most_clients (nth words 1)) BadNumber (λ client. Ok (NewClient client)) statement e in
@@ -234,7 +232,8 @@ section_ended draft asks is = record {
   version = is.0.version;
   nodes = is.0.nodes;
   groups = is.0.groups;
-  lone = is.0.lone;
+  few = is.0.few;
+  steps = is.0.steps;
   policy = is.0.policy;
   clients = all_inserted IsEarlyClient draft.clients (client_place asks.client draft.clients) asks is.0.clients is.3;
   rising = rising_with asks draft.clients is.0.rising is.2;
@@ -272,11 +271,12 @@ begun_is : (version : ℕ) → IsVersion version → IsReading (begun version)
 begun_is version is = record {
   version = is;
   nodes = omega arith;
-  groups = All-nil (IsGroupLine 0);
-  lone = omega arith;
+  groups = All-nil (IsEarlyGroup 0);
+  few = omega arith;
+  steps = no_pairs Lower [] refl;
   policy = refl;
   clients = All-nil IsEarlyClient;
-  rising = no_pairs [] refl;
+  rising = no_pairs Below [] refl;
   lines = All-nil (IsEarlyLine 0 []);
 }
 
@@ -290,15 +290,11 @@ header_is words more e =
     either IsReading (are_two words (codes "scatter") (codes "1")) (Ok (begun 1)) _ more (λ r h. subst IsReading (same_Ok _ r h) (begun_is 1 (inl refl))) (λ r h.
     either IsReading (are_two words (codes "scatter") (codes "2")) (Ok (begun 2)) (Err MissingHeader) r (λ r h. subst IsReading (same_Ok _ r h) (begun_is 2 (inr refl))) (λ r h. absurd (err_ok MissingHeader r h)) h) e
 
-built_is : (draft : Draft) (words : List (List ℕ)) (k : Kind) → built_kind draft words ≡ Some k → is_built draft k ≡ true
+built_is : (draft : Draft) (words : List (List ℕ)) (k : Kind) → built_kind draft words ≡ Some k → is_built k ≡ true
 built_is draft words k e =
-    let b = and_then-some (λ k. if is_built draft k then Some k else None) (kind_of draft.version words) k e in
-    let c = chosen (is_built draft b.0) (Some b.0) k b.2 in
-    subst (λ k. is_built draft k ≡ true) (same_Some b.0 k c.1) c.0
-
-turned : (b : Bool) → not b ≡ false → b ≡ true
-turned true h = refl
-turned false h = absurd (true≢false h)
+    let b = and_then-some (λ k. if is_built k then Some k else None) (kind_of draft.version words) k e in
+    let c = chosen (is_built b.0) (Some b.0) k b.2 in
+    subst (λ k. is_built k ≡ true) (same_Some b.0 k c.1) c.0
 
 said_is : (in_place : Bool) (k : Kind) (words : List (List ℕ)) (statement : Statement) → said in_place k words ≡ Ok statement → (in_place ≡ true) × (statement_in k words ≡ Ok statement)
 said_is in_place k words statement e =
@@ -334,38 +330,22 @@ going_ok number onward (Err reason) scenario e = absurd (err_ok (Bad number (rea
 not_zero : (n : ℕ) → eqb n 0 ≡ false → 1 ≤ n
 not_zero n e = let ne = eqb-false n 0 e in omega (arith, ne)
 
-record HasGroup (nodes : ℕ) (groups : List Base) : Type 0 where
-  lo : ℕ
-  members : List ℕ
-  lo_in : lo < 2 ^ 32
-  roster : IsRoster members
-  all : All (IsUpTo nodes) members
-  is : groups ≡ lone_group lo members ∷ []
-
-has_group : (nodes : ℕ) (line : GroupLine) (lines : List GroupLine) → lines ≡ line ∷ [] → All (IsGroupLine nodes) lines → HasGroup nodes (bases_of lines)
-has_group nodes line lines e all =
-    let good : IsGroupLine nodes line = All-head (IsGroupLine nodes) line [] (subst (All (IsGroupLine nodes)) e all) in
-    record { lo = line.lo; members = line.members; lo_in = good.lo_in; roster = good.roster; all = good.all; is = ap bases_of e ∙ lone_bases line }
-
 draft_is : (draft : Draft) → IsDraft draft → eqb draft.nodes 0 ≡ false → eqb (length draft.groups) 0 ≡ false → IsEarly (scenario_by draft)
-draft_is draft is some filled =
-    let one = one_line draft.groups is.lone filled in
-    let has = has_group draft.nodes one.0 draft.groups one.1 is.groups in
-    record {
-      lo = has.lo;
-      members = has.members;
-      nodes = (not_zero draft.nodes some, is.nodes);
-      lo_in = has.lo_in;
-      roster = has.roster;
-      members_in = has.all;
-      group = has.is;
-      policy = is.policy;
-      clients = is.clients;
-      ascending = is.rising;
-      lines = is.lines;
-      brief = refl;
-      version = is.version;
-    }
+draft_is draft is some filled = record {
+  starts = draft.groups;
+  nodes = (not_zero draft.nodes some, is.nodes);
+  some = not_zero (length draft.groups) filled;
+  few = is.few;
+  each = is.groups;
+  rising = is.steps;
+  groups = refl;
+  policy = is.policy;
+  clients = is.clients;
+  ascending = is.rising;
+  lines = is.lines;
+  brief = refl;
+  version = is.version;
+}
 
 finished_is : (number : ℕ) (reading : Reading) (scenario : Scenario) → IsReading reading → reading_ended number reading ≡ Ok scenario → IsEarly scenario
 finished_is number Fresh scenario is e = absurd (err_ok (Bad number 1) scenario e)

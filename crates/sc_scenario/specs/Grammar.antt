@@ -1,17 +1,17 @@
 -- Which texts are a scenario, which scenario, and else the first bad line and its reason.
 use Rattle.std.specs.Prelude.{ℕ, ◌+◌, ◌==◌, ◌&&◌, ◌||◌, not, nat_lt, Bool, true, false, List, [], ◌∷◌, length, codes, Option, Some, None, Result, Ok, Err, if◌then◌else◌, option_and_then, ◌≡◌, ◌⊎◌, MatchResult}
 use Rattle.std.specs.Result.{result_ok}
-use Rattle.sc_scenario.specs.Reasons.{reason_code, given, then_on}
-use Rattle.sc_scenario.specs.Words.{same, nth, words_of}
-use Rattle.sc_scenario.specs.Lines.{most_lines, is_too_long, lines_of, trimmed, is_skipped, has_bad_byte}
-use Rattle.sc_scenario.specs.Kinds.{kind_of, has_count}
+use Rattle.sc_lines.specs.Reasons.{reason_code, given, then_on}
+use Rattle.sc_lines.specs.Words.{same, nth, words_of}
+use Rattle.sc_lines.specs.Lines.{most_lines, is_too_long, lines_of, trimmed, is_skipped, has_bad_byte}
+use Rattle.sc_lines.specs.Kinds.{kind_of, has_count}
 use Rattle.sc_scenario.specs.Groups.{bases_of}
 use Rattle.sc_scenario.specs.Statements.{statement_in}
 use Rattle.sc_scenario.specs.Places.{is_built, is_in_place}
 use Rattle.sc_scenario.specs.Taking.{taken_outside, taken_within}
-use Rattle.sc_scenario.specs.declared.reasons.Reason.{Reason}
-use Rattle.sc_scenario.specs.declared.reasons.Reason.TheVariants.{MissingHeader, BadByte, UnknownWord, OutOfPlace, WrongCount, UnendedClient, MissingPart, TooLarge}
-use Rattle.sc_scenario.specs.declared.kinds.Kind.{Kind}
+use Rattle.sc_lines.specs.declared.reasons.Reason.{Reason}
+use Rattle.sc_lines.specs.declared.reasons.Reason.TheVariants.{MissingHeader, BadByte, UnknownWord, OutOfPlace, WrongCount, UnendedClient, MissingPart, TooLarge}
+use Rattle.sc_lines.specs.declared.kinds.Kind.{Kind}
 use Rattle.sc_scenario.specs.declared.statements.Statement.{Statement}
 use Rattle.sc_scenario.specs.declared.drafts.Draft.{Draft}
 use Rattle.sc_scenario.specs.declared.drafts.Reading.{Reading}
@@ -46,7 +46,7 @@ said in_place kind words =
 
 -- a kind that is not built is as good as unknown
 abbrev pub built_kind : Draft → List (List ℕ) → Option Kind
-built_kind draft words = option_and_then (λ kind. if is_built draft kind then Some kind else None) (kind_of draft.version words)
+built_kind draft words = option_and_then (λ kind. if is_built kind then Some kind else None) (kind_of draft.version words)
 
 -- what the words of a line say behind what was read
 abbrev pub words_read : Reading → List (List ℕ) → Result Reading Reason

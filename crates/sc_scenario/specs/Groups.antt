@@ -10,7 +10,7 @@ use Rattle.sc_cmd.specs.declared.cores.Base.{Base}
 use Rattle.sc_cmd.specs.declared.cores.Core.{Core}
 use Rattle.sc_cmd.specs.declared.cores.Lock.TheVariants.{Free}
 use Rattle.sc_cmd.specs.declared.links.Link.{Link}
-use Rattle.sc_scenario.specs.Words.{count_in}
+use Rattle.sc_lines.specs.Words.{count_in}
 use Rattle.sc_scenario.specs.declared.drafts.GroupLine.{GroupLine}
 
 -- ---- the nodes of a line

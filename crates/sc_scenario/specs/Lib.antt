@@ -1,8 +1,3 @@
-pub mod Reasons
-pub mod Words
-pub mod Lines
-pub mod Kinds
-pub mod Requests
 pub mod Orders
 pub mod Schedules
 pub mod Groups

@@ -6,13 +6,13 @@ use Rattle.sc_base.specs.Number.{number_of}
 use Rattle.sc_base.specs.declared.names.Draw.{Draw}
 use Rattle.sc_cmd.specs.declared.orders.Order.{Order}
 use Rattle.sc_cmd.specs.declared.orders.Order.TheVariants.{Join, Leave, Split, Merge, Repart, Migrate}
-use Rattle.sc_scenario.specs.Reasons.{given}
-use Rattle.sc_scenario.specs.Words.{pieces, nth, count_in}
+use Rattle.sc_lines.specs.Reasons.{given}
+use Rattle.sc_lines.specs.Words.{pieces, nth, count_in}
 use Rattle.sc_scenario.specs.Schedules.{most_mails}
-use Rattle.sc_scenario.specs.declared.reasons.Reason.{Reason}
-use Rattle.sc_scenario.specs.declared.reasons.Reason.TheVariants.{BadNumber, WrongCount}
-use Rattle.sc_scenario.specs.declared.kinds.OrderKind.{OrderKind}
-use Rattle.sc_scenario.specs.declared.kinds.OrderKind.TheVariants as kind
+use Rattle.sc_lines.specs.declared.reasons.Reason.{Reason}
+use Rattle.sc_lines.specs.declared.reasons.Reason.TheVariants.{BadNumber, WrongCount}
+use Rattle.sc_lines.specs.declared.kinds.OrderKind.{OrderKind}
+use Rattle.sc_lines.specs.declared.kinds.OrderKind.TheVariants as kind
 
 -- a group's name `A.B`: A is the node that drew it, or 0 where the scenario named it
 abbrev pub name_in_parts : List (List ℕ) → Option Draw

@@ -1,15 +1,15 @@
 -- Where a line of a kind may stand, and which kinds are built.
-use Rattle.std.specs.Prelude.{ℕ, ◌==◌, ◌&&◌, ◌||◌, not, nat_le, nat_lt, Bool, true, false, List, length, if◌then◌else◌}
-use Rattle.sc_scenario.specs.Kinds.{phase_of, is_inner}
+use Rattle.std.specs.Prelude.{ℕ, ◌==◌, ◌&&◌, ◌||◌, not, nat_le, nat_lt, Bool, true, false, length, if◌then◌else◌}
+use Rattle.sc_lines.specs.Kinds.{phase_of, is_inner}
 use Rattle.sc_scenario.specs.declared.drafts.Draft.{Draft}
 use Rattle.sc_scenario.specs.declared.drafts.Reading.{Reading}
 use Rattle.sc_scenario.specs.declared.drafts.Reading.TheVariants.{Fresh, Outside, Within}
-use Rattle.sc_scenario.specs.declared.kinds.Kind.{Kind}
-use Rattle.sc_scenario.specs.declared.kinds.Kind.TheVariants.{Header, Nodes, Group, Policy, Client, End, Asking, Playing, Telling}
-use Rattle.sc_scenario.specs.declared.kinds.LineKind.{LineKind}
-use Rattle.sc_scenario.specs.declared.kinds.LineKind.TheVariants as line
-use Rattle.sc_scenario.specs.declared.kinds.OrderKind.{OrderKind}
-use Rattle.sc_scenario.specs.declared.kinds.OrderKind.TheVariants as order
+use Rattle.sc_lines.specs.declared.kinds.Kind.{Kind}
+use Rattle.sc_lines.specs.declared.kinds.Kind.TheVariants.{Header, Nodes, Group, Policy, Client, End, Asking, Playing, Telling}
+use Rattle.sc_lines.specs.declared.kinds.LineKind.{LineKind}
+use Rattle.sc_lines.specs.declared.kinds.LineKind.TheVariants as line
+use Rattle.sc_lines.specs.declared.kinds.OrderKind.{OrderKind}
+use Rattle.sc_lines.specs.declared.kinds.OrderKind.TheVariants as order
 
 -- ---- what is built
 
@@ -35,17 +35,17 @@ is_order_built order.Repart = false
 is_order_built order.Migrate = false
 is_order_built order.Short = true
 
--- kinds of lines that are built: of groups one, and no policy
-abbrev pub is_built : Draft → Kind → Bool
-is_built draft Header = true
-is_built draft Nodes = true
-is_built draft Group = length draft.groups == 0
-is_built draft Policy = false
-is_built draft Client = true
-is_built draft End = true
-is_built draft (Asking kind) = true
-is_built draft (Playing kind) = is_line_built kind
-is_built draft (Telling kind) = is_order_built kind
+-- kinds of lines that are built: all but a policy
+abbrev pub is_built : Kind → Bool
+is_built Header = true
+is_built Nodes = true
+is_built Group = true
+is_built Policy = false
+is_built Client = true
+is_built End = true
+is_built (Asking kind) = true
+is_built (Playing kind) = is_line_built kind
+is_built (Telling kind) = is_order_built kind
 
 -- ---- where a line may stand
 

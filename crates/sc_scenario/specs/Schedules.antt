@@ -4,12 +4,12 @@ use Rattle.std.specs.List.{list_any}
 use Rattle.std.specs.Option.{option_map}
 use Rattle.sc_base.specs.Limits.{most_nodes, most_clients, client_actor}
 use Rattle.sc_base.specs.Number.{number_of}
-use Rattle.sc_scenario.specs.Reasons.{given}
-use Rattle.sc_scenario.specs.Words.{nth, count_in}
-use Rattle.sc_scenario.specs.declared.reasons.Reason.{Reason}
-use Rattle.sc_scenario.specs.declared.reasons.Reason.TheVariants.{BadNumber}
-use Rattle.sc_scenario.specs.declared.kinds.LineKind.{LineKind}
-use Rattle.sc_scenario.specs.declared.kinds.LineKind.TheVariants as kind
+use Rattle.sc_lines.specs.Reasons.{given}
+use Rattle.sc_lines.specs.Words.{nth, count_in}
+use Rattle.sc_lines.specs.declared.reasons.Reason.{Reason}
+use Rattle.sc_lines.specs.declared.reasons.Reason.TheVariants.{BadNumber}
+use Rattle.sc_lines.specs.declared.kinds.LineKind.{LineKind}
+use Rattle.sc_lines.specs.declared.kinds.LineKind.TheVariants as kind
 use Rattle.sc_scenario.specs.declared.scenarios.Asks.{Asks}
 use Rattle.sc_scenario.specs.declared.scenarios.SchedLine.{SchedLine}
 use Rattle.sc_scenario.specs.declared.scenarios.SchedLine.TheVariants.{Go, Deliver, Drop, Again, Tick, Crash, Settle, Free, Storm}

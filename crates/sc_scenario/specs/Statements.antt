@@ -2,16 +2,16 @@
 use Rattle.std.specs.Prelude.{ℕ, List, [], drop, Result, Ok, Err}
 use Rattle.sc_base.specs.Limits.{most_nodes, most_clients}
 use Rattle.sc_base.specs.Number.{number_of}
-use Rattle.sc_scenario.specs.Reasons.{given, then_on}
-use Rattle.sc_scenario.specs.Words.{nth, count_in}
-use Rattle.sc_scenario.specs.Requests.{request_in}
+use Rattle.sc_lines.specs.Reasons.{given, then_on}
+use Rattle.sc_lines.specs.Words.{nth, count_in}
+use Rattle.sc_lines.specs.Requests.{request_in}
 use Rattle.sc_scenario.specs.Orders.{order_in, last_position}
 use Rattle.sc_scenario.specs.Schedules.{line_in}
 use Rattle.sc_scenario.specs.Groups.{nodes_with}
-use Rattle.sc_scenario.specs.declared.reasons.Reason.{Reason}
-use Rattle.sc_scenario.specs.declared.reasons.Reason.TheVariants.{OutOfPlace, BadNumber}
-use Rattle.sc_scenario.specs.declared.kinds.Kind.{Kind}
-use Rattle.sc_scenario.specs.declared.kinds.Kind.TheVariants.{Header, Nodes, Group, Policy, Client, End, Asking, Playing, Telling}
+use Rattle.sc_lines.specs.declared.reasons.Reason.{Reason}
+use Rattle.sc_lines.specs.declared.reasons.Reason.TheVariants.{OutOfPlace, BadNumber}
+use Rattle.sc_lines.specs.declared.kinds.Kind.{Kind}
+use Rattle.sc_lines.specs.declared.kinds.Kind.TheVariants.{Header, Nodes, Group, Policy, Client, End, Asking, Playing, Telling}
 use Rattle.sc_scenario.specs.declared.statements.Statement.{Statement}
 use Rattle.sc_scenario.specs.declared.statements.Statement.TheVariants.{NodeCount, NewGroup, WithPolicy, NewClient, Ask, SectionEnd, Play, Tell}
 

@@ -7,8 +7,8 @@ use Rattle.sc_cmd.specs.declared.orders.Order.{Order}
 use Rattle.sc_cmd.specs.declared.orders.Order.TheVariants.{Join, Leave, Split, Merge, Repart, Migrate}
 use Rattle.sc_scenario.specs.Groups.{group_at, has_repeat, set_of}
 use Rattle.sc_scenario.specs.Schedules.{is_client}
-use Rattle.sc_scenario.specs.declared.reasons.Reason.{Reason}
-use Rattle.sc_scenario.specs.declared.reasons.Reason.TheVariants.{OutOfPlace, UnknownName, Repeated, BadBoundary, TooMany}
+use Rattle.sc_lines.specs.declared.reasons.Reason.{Reason}
+use Rattle.sc_lines.specs.declared.reasons.Reason.TheVariants.{OutOfPlace, UnknownName, Repeated, BadBoundary, TooMany}
 use Rattle.sc_scenario.specs.declared.statements.Statement.{Statement}
 use Rattle.sc_scenario.specs.declared.statements.Statement.TheVariants.{NodeCount, NewGroup, WithPolicy, NewClient, Ask, SectionEnd, Play, Tell}
 use Rattle.sc_scenario.specs.declared.drafts.Draft.{Draft}

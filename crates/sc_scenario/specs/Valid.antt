@@ -1,14 +1,16 @@
 -- Scenarios that some text is.
-use Rattle.std.specs.Prelude.{◌≡◌, ◌<◌, ◌≤◌, ℕ, ◌+◌, ◌^◌, false, true, List, [], ◌∷◌, Some, length, take, All, ◌⊎◌}
+use Rattle.std.specs.Prelude.{◌≡◌, ◌<◌, ◌≤◌, ℕ, ◌+◌, ◌^◌, false, true, List, Some, length, take, All, ◌⊎◌}
 use Rattle.std.specs.List.{AllPairs}
 use Rattle.sc_member.specs.Roster.{IsRoster}
 use Rattle.sc_cmd.specs.declared.orders.Order.{Order}
 use Rattle.sc_cmd.specs.declared.orders.Order.TheVariants.{Join, Leave, Split, Merge, Repart, Migrate}
-use Rattle.sc_scenario.specs.Groups.{lone_group}
+use Rattle.sc_scenario.specs.Groups.{bases_of}
 use Rattle.sc_base.specs.Limits.{most_nodes, most_clients, most_requests, client_actor}
 use Rattle.sc_scenario.specs.Schedules.{is_client, most_mails, most_deliveries, most_workers}
-use Rattle.sc_scenario.specs.Lines.{most_bytes}
+use Rattle.sc_lines.specs.Lines.{most_bytes}
+use Rattle.sc_scenario.specs.Taking.{most_groups}
 use Rattle.sc_scenario.specs.Grammar.{verdict_of, scenario_of}
+use Rattle.sc_scenario.specs.declared.drafts.GroupLine.{GroupLine}
 use Rattle.sc_scenario.specs.declared.scenarios.Asks.{Asks}
 use Rattle.sc_scenario.specs.declared.scenarios.Scenario.{Scenario}
 use Rattle.sc_scenario.specs.declared.scenarios.SchedLine.{SchedLine}
@@ -53,15 +55,21 @@ IsEarlyLine nodes clients (Storm number most) = ⊥
 abbrev pub IsEarlyClient : Asks → Type 0
 IsEarlyClient asks = IsUpTo most_clients asks.client × (length asks.ops ≤ most_requests)
 
--- one node or more, one group of some of them, clients in order of number, and a schedule that names these
+-- a group begins at a position of the ring, and has one to nine nodes that there are
+pub record IsEarlyGroup (nodes : ℕ) (line : GroupLine) : Type 0 where
+  pub lo_in : line.lo < 2 ^ 32
+  pub roster : IsRoster line.members
+  pub members_in : All (IsUpTo nodes) line.members
+
+-- one node or more, one to sixteen groups of some of them in the order of their beginnings, clients in order of number, and a schedule that names these
 pub record IsEarly (scenario : Scenario) : Type 0 where
-  pub lo : ℕ
-  pub members : List ℕ
+  pub starts : List GroupLine
   pub nodes : IsUpTo most_nodes scenario.nodes
-  pub lo_in : lo < 2 ^ 32
-  pub roster : IsRoster members
-  pub members_in : All (IsUpTo scenario.nodes) members
-  pub group : scenario.groups ≡ lone_group lo members ∷ []
+  pub some : 1 ≤ length starts
+  pub few : length starts ≤ most_groups
+  pub each : All (IsEarlyGroup scenario.nodes) starts
+  pub rising : AllPairs (λ (one other : GroupLine). one.lo < other.lo) starts
+  pub groups : scenario.groups ≡ bases_of starts
   pub policy : scenario.policy ≡ false
   pub clients : All IsEarlyClient scenario.clients
   pub ascending : AllPairs (λ (one other : Asks). one.client < other.client) scenario.clients

@@ -3,22 +3,16 @@
 
 mod drafts;
 mod groups;
-mod kinds;
-mod lines;
 mod orders;
-mod pieces;
 mod places;
 mod reading;
-mod reasons;
-mod requests;
 mod scenarios;
 mod schedules;
 mod statements;
 mod taking;
-mod words;
 
 pub use reading::{
     INPUT_LIMIT, LINE_LIMIT, ScenarioFault, first_bytes_decide, read_scenario, texts_are_early,
 };
-pub use reasons::reason_text;
+pub use sc_lines::reason_text;
 pub use scenarios::{Asks, ClientList, GroupList, Scenario, SchedLine, Schedule};

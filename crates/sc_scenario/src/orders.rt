@@ -1,14 +1,11 @@
 //! The orders that nodes are told.
 ghost use Rattle.std.specs.Prelude.{◌≡◌, map, IfOk};
 ghost use Rattle.sc_scenario.specs.Orders.{name_in_parts, name_in, order_in};
-ghost use Rattle.sc_scenario.specs.declared.kinds.OrderKind.TheVariants.{Join, Leave, Split, Merge, Repart, Migrate};
+ghost use Rattle.sc_lines.specs.declared.kinds.OrderKind.TheVariants.{Join, Leave, Split, Merge, Repart, Migrate};
 
-use crate::kinds::OrderKind;
-use crate::pieces::parts_of;
-use crate::reasons::Reason;
-use crate::words::{count_in, nth};
 use sc_base::{Draw, MOST_NODES, OutOfMemory, read_number};
 use sc_cmd::Order;
+use sc_lines::{OrderKind, Reason, count_in, nth, parts_of};
 use std::alloc::Global;
 
 const MOST_NAMES: u32 = 4_294_967_295;

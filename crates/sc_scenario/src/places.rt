@@ -4,7 +4,7 @@ ghost use Rattle.sc_scenario.specs.Places.{is_line_built, is_order_built, is_bui
 ghost use Rattle.sc_scenario.specs.declared.drafts.Reading.TheVariants.{Outside};
 
 use crate::drafts::Draft;
-use crate::kinds::{Kind, LineKind, OrderKind, is_inner, phase_of};
+use sc_lines::{Kind, LineKind, OrderKind, is_inner, phase_of};
 
 fn is_line_built(kind: LineKind) -> bool
     ensures { result ≡ is_line_built kind }
@@ -25,13 +25,13 @@ fn is_order_built(kind: OrderKind) -> bool
     }
 }
 
-/// Whether a line of this kind is built, behind what was read so far.
-pub fn is_built(draft: &Draft, kind: Kind) -> bool
-    ensures { result ≡ is_built draft.now kind }
+/// Whether a line of this kind is built.
+pub fn is_built(kind: Kind) -> bool
+    ensures { result ≡ is_built kind }
 {
     match kind {
-        Kind::Header | Kind::Nodes | Kind::Client | Kind::End | Kind::Asking(_) => true,
-        Kind::Group => draft.groups.len() == 0,
+        Kind::Header | Kind::Nodes | Kind::Group | Kind::Client | Kind::End => true,
+        Kind::Asking(_) => true,
         Kind::Policy => false,
         Kind::Playing(kind) => is_line_built(kind),
         Kind::Telling(kind) => is_order_built(kind),

@@ -1,23 +1,22 @@
 //! The reader: line by line, up to the first bad line.
 ghost use Rattle.std.specs.Prelude.{◌≡◌, map, IfOk};
 ghost use Rattle.sc_scenario.specs.Grammar.{HasVerdict, begun, are_two, header_read, said, built_kind, words_read, is_fresh, line_read, bad, scenario_by, reading_ended, lines_read, verdict_of};
-ghost use Rattle.sc_scenario.specs.Lines.{is_too_long, lines_in};
+ghost use Rattle.sc_lines.specs.Lines.{is_too_long, lines_in};
 ghost use Rattle.sc_scenario.specs.Valid.{TextsAreEarly, FirstBytesDecide};
 ghost use Rattle.sc_scenario.specs.declared.drafts.Reading.TheVariants.{Fresh, Outside, Within};
 ghost use Rattle.sc_scenario.specs.declared.reading.ScenarioFault.TheVariants.{OutOfMemory};
 
 use crate::drafts::{Draft, Reading};
 use crate::groups::bases_of;
-use crate::kinds::{Kind, has_count, is_inner, kind_of};
-use crate::lines::{has_bad_byte, is_skipped, next_line, trimmed};
-use crate::pieces::words_of;
 use crate::places::{is_built, may_stand};
-use crate::reasons::Reason;
 use crate::scenarios::{Asks, Scenario};
 use crate::statements::{Said, statement_in};
 use crate::taking::{Taken, taken_outside, taken_within};
-use crate::words::{is_text, nth};
 use sc_base::{self, Sequence};
+use sc_lines::{
+    Kind, Reason, has_bad_byte, has_count, is_inner, is_skipped, is_text, kind_of, next_line, nth,
+    trimmed, words_of,
+};
 use std::alloc::Global;
 
 /// The most bytes that an input has.
@@ -97,11 +96,7 @@ fn built_kind(draft: &Draft, words: &[&[u8]]) -> Option<Kind>
     ensures { result ≡ built_kind draft.now (map (λ word. word.now) words.now) }
 {
     let kind = kind_of(draft.version, words)?;
-    if is_built(draft, kind) {
-        Some(kind)
-    } else {
-        None
-    }
+    if is_built(kind) { Some(kind) } else { None }
 }
 
 fn read_outside(alloc: Global, draft: Draft, words: &[&[u8]]) -> Result<Taken, sc_base::OutOfMemory>
@@ -260,8 +255,9 @@ pub fn read_scenario(alloc: Global, text: &[u8]) -> Result<Scenario, ScenarioFau
     lines_read(alloc, false, text)
 }
 
-/// What holds of every scenario that some text is: nodes, one group of some of them, clients in
-/// order of number with few requests, and a schedule of lines that name these.
+/// What holds of every scenario that some text is: nodes, one to sixteen groups of some of them in
+/// the order in which they begin, clients in order of number with few requests, and a schedule of
+/// lines that name these.
 pub fn texts_are_early()
     ensures { TextsAreEarly }
 {}

@@ -1,13 +1,11 @@
 //! The lines of the schedule that are no orders.
 ghost use Rattle.std.specs.Prelude.{◌≡◌, map};
 ghost use Rattle.sc_scenario.specs.Schedules.{actor_in, line_in};
-ghost use Rattle.sc_scenario.specs.declared.kinds.LineKind.TheVariants.{Go, Deliver, Drop, Again, Tick, Crash, Settle, Free, Storm};
+ghost use Rattle.sc_lines.specs.declared.kinds.LineKind.TheVariants.{Go, Deliver, Drop, Again, Tick, Crash, Settle, Free, Storm};
 
-use crate::kinds::LineKind;
-use crate::reasons::Reason;
 use crate::scenarios::SchedLine;
-use crate::words::{count_in, nth};
 use sc_base::{MOST_CLIENTS, MOST_NODES, read_number};
+use sc_lines::{LineKind, Reason, count_in, nth};
 
 const MOST_MAILS: u32 = 4_294_967_295;
 

@@ -1,18 +1,15 @@
 //! What the words of a line say, each line by itself.
 ghost use Rattle.std.specs.Prelude.{◌≡◌, map, IfOk};
 ghost use Rattle.sc_scenario.specs.Statements.{statement_in};
-ghost use Rattle.sc_scenario.specs.declared.kinds.Kind.TheVariants.{Nodes, Group, Client, Asking, Playing, Telling};
+ghost use Rattle.sc_lines.specs.declared.kinds.Kind.TheVariants.{Nodes, Group, Client, Asking, Playing, Telling};
 
 use crate::groups::nodes_with;
-use crate::kinds::{Kind, LineKind, OrderKind, RequestKind};
 use crate::orders::{LAST_POSITION, order_in};
-use crate::reasons::Reason;
-use crate::requests::request_in;
 use crate::scenarios::SchedLine;
 use crate::schedules::line_in;
-use crate::words::{count_in, nth, rest};
 use sc_base::{MOST_CLIENTS, MOST_NODES, Op, OutOfMemory, Sequence, read_number};
 use sc_cmd::Order;
+use sc_lines::{Kind, LineKind, OrderKind, Reason, RequestKind, count_in, nth, request_in, rest};
 use std::alloc::Global;
 
 /// What a line says.

@@ -7,11 +7,11 @@ ghost use Rattle.sc_scenario.specs.Taking.{is_actor, is_order_known, is_line_kno
 
 use crate::drafts::{Draft, GroupLine, Reading};
 use crate::groups::{have_repeat, set_of};
-use crate::reasons::Reason;
 use crate::scenarios::{Asks, SchedLine};
 use crate::statements::Statement;
 use sc_base::{MOST_NODES, MOST_REQUESTS, Op, OutOfMemory, Sequence};
 use sc_cmd::{Order, OrderLine};
+use sc_lines::Reason;
 use sc_member::Members;
 use std::alloc::Global;
 

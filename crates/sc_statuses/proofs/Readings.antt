@@ -2,7 +2,7 @@
 use Rattle.std.proofs.Common.{◌≡◌, ℕ, ◌+◌, ◌<◌, List, length, take, Bool, true, false, Option, None, Some, nat_le, refl, sym, ◌∙◌, ap, arith, rules}
 use Rattle.std.specs.Prelude.{IfSome, IfOk, Result, Ok, Err}
 use Rattle.std.specs.Result.{result_ok}
-use Rattle.sc_scenario.specs.Lines.{most_bytes}
+use Rattle.sc_lines.specs.Lines.{most_bytes}
 use Rattle.sc_scenario.specs.Grammar.{verdict_of}
 use Rattle.sc_scenario.specs.Valid.{FirstBytesDecide}
 use Rattle.sc_scenario.specs.declared.reading.ScenarioFault.{ScenarioFault}

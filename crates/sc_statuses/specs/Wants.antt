@@ -3,9 +3,9 @@ use Rattle.std.specs.Prelude.{◌≡◌, ℕ, List, ◌++◌, ◌==◌, ◌&&◌
 use Rattle.std.specs.Fmt.{decimal}
 use Rattle.sc_edges.specs.Causes.{Rose}
 use Rattle.sc_scenario.specs.Grammar.{verdict_of}
-use Rattle.sc_scenario.specs.Reasons.{reason_text}
+use Rattle.sc_lines.specs.Reasons.{reason_text}
 use Rattle.sc_scenario.specs.Valid.{IsValid}
-use Rattle.sc_scenario.specs.Words.{same, nth}
+use Rattle.sc_lines.specs.Words.{same, nth}
 use Rattle.sc_scenario.specs.declared.reading.ScenarioFault.{ScenarioFault}
 use Rattle.sc_scenario.specs.declared.reading.ScenarioFault.TheVariants.{Bad}
 use Rattle.sc_scenario.specs.declared.scenarios.Scenario.{Scenario}

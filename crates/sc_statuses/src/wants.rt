@@ -1,6 +1,6 @@
 //! What the words and the input ask for.
 ghost use Rattle.std.specs.Prelude.{◌≡◌, map, false, string_bytes, IfOk};
-ghost use Rattle.sc_scenario.specs.Words.{nth};
+ghost use Rattle.sc_lines.specs.Words.{nth};
 ghost use Rattle.sc_statuses.specs.Wants.{is_run, fault_text, IsOf, IsRead, IsWanted};
 
 use sc_base::OutOfMemory;

@@ -1,6 +1,6 @@
 use Rattle.std.proofs.Common.{◌<◌, length, sym, ◌∙◌, arith, rules}
-use Rattle.sc_scenario.specs.Lines.{most_lines}
-use Rattle.sc_scenario.specs.declared.reasons.Reason.TheVariants.{TooLarge}
+use Rattle.sc_lines.specs.Lines.{most_lines}
+use Rattle.sc_lines.specs.declared.reasons.Reason.TheVariants.{TooLarge}
 use Rattle.sc_scenario.proofs.Verdicts.{many, refused}
 use Rattle.sc_scenario.proofs.reading.lines_read.Goals as goal
 

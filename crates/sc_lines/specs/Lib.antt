@@ -1,0 +1,5 @@
+pub mod Reasons
+pub mod Words
+pub mod Lines
+pub mod Kinds
+pub mod Requests

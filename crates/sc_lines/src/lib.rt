@@ -1,0 +1,17 @@
+//! Lines: what a text is cut into, what kind of line its words make, which requests they spell,
+//! and the reasons why a line is bad.
+#![tactic(auto)]
+
+mod kinds;
+mod lines;
+mod pieces;
+mod reasons;
+mod requests;
+mod words;
+
+pub use kinds::{Kind, LineKind, OrderKind, RequestKind, has_count, is_inner, kind_of, phase_of};
+pub use lines::{has_bad_byte, is_skipped, next_line, trimmed};
+pub use pieces::{parts_of, words_of};
+pub use reasons::{Reason, reason_text};
+pub use requests::{RequestSaid, request_in};
+pub use words::{count_in, is_text, nth, rest};

@@ -1,0 +1,21 @@
+//! Texts cut into words, and words into parts.
+ghost use Rattle.std.specs.Prelude.{◌≡◌, map, IfOk};
+ghost use Rattle.sc_lines.specs.Words.{pieces, words_of};
+
+use std::alloc::{AllocError, Global};
+
+/// The words of a line: what stands between blanks and tabs.
+pub fn words_of(alloc: Global, line: &[u8]) -> Result<Vec<&[u8]>, AllocError>
+    ensures { IfOk result (λ words. map (λ word. word.now) words.items ≡ words_of line.now) }
+{
+    line.split(|byte| *byte == b' ' || *byte == b'\t')
+        .filter(|word| !word.is_empty())
+        .collect(alloc)
+}
+
+/// The pieces between dots: one more than there are dots.
+pub fn parts_of(alloc: Global, word: &[u8]) -> Result<Vec<&[u8]>, AllocError>
+    ensures { IfOk result (λ parts. map (λ part. part.now) parts.items ≡ pieces 46 word.now) }
+{
+    word.split(|byte| *byte == b'.').collect(alloc)
+}
