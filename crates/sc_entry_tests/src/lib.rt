@@ -1,0 +1,6 @@
+//! What entries make of all groups, tried on a small list of entries. It stands in a crate of its
+//! own, so that no crate below is proved once more with its tests.
+#![tactic(auto)]
+
+#[cfg(test)]
+mod tests;

@@ -1,0 +1,2 @@
+mod Circle
+mod Pairs

@@ -1,0 +1,57 @@
+//! Histories, replayed on one map.
+ghost use Rattle.std.specs.Prelude.{◌≡◌, ◌↔◌, ◌<◌, IsTrue, IfOk, All, AllPairs};
+ghost use Rattle.std.specs.FinMap.{empty};
+ghost use Rattle.sc_ideal.specs.History.{HasStoreReplies, AreApart, Legal};
+
+use sc_base::{OutOfMemory, Same};
+use sc_ideal::Entry;
+use sc_store::Store;
+use std::alloc::Global;
+
+// Whether each entry has the reply of the map that the entries before it leave.
+fn has_store_replies(alloc: Global, entries: &[Entry]) -> Result<bool, OutOfMemory>
+    ensures { IfOk result (λ has. IsTrue has ↔ HasStoreReplies empty entries.now) }
+{
+    let mut store = Store::new(alloc);
+    for entry in entries {
+        let reply = store.apply(&entry.op)?;
+        if !reply.is_same(&entry.reply) {
+            return Ok(false);
+        }
+    }
+    Ok(true)
+}
+
+// Whether no entry has the client and the number of this one.
+fn is_apart(entries: &[Entry], entry: &Entry) -> bool
+    ensures { IsTrue result ↔ All (λ other. AreApart other entry.now) entries.now }
+{
+    for other in entries {
+        if other.client == entry.client && other.seq == entry.seq {
+            return false;
+        }
+    }
+    true
+}
+
+// Whether no client's number stands twice.
+fn is_once(entries: &[Entry]) -> bool
+    ensures { IsTrue result ↔ AllPairs AreApart entries.now }
+{
+    for i in 0..entries.len() {
+        if !is_apart(&entries[..i], &entries[i]) {
+            return false;
+        }
+    }
+    true
+}
+
+/// Whether a history is legal: replaying its operations in order on one empty map gives its replies,
+/// and no client's number stands twice (the sequential object of linearizability: Herlihy and Wing,
+/// 1990). Refused only for want of memory.
+pub fn legal(alloc: Global, entries: &[Entry]) -> Result<bool, OutOfMemory>
+    ensures { IfOk result (λ is_legal. IsTrue is_legal ↔ Legal entries.now) }
+{
+    let replayed = has_store_replies(alloc, entries)?;
+    Ok(replayed && is_once(entries))
+}

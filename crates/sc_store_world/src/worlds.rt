@@ -1,0 +1,251 @@
+//! All groups, after some entries.
+ghost use Rattle.std.specs.Prelude.{◌≡◌, ◌++◌, Some, find, map, if◌then◌else◌, IfOk, OnOk};
+ghost use Rattle.std.specs.Option.{option_map, option_copied};
+ghost use Rattle.sc_cmd.specs.declared.commands.Command.TheVariants.{Finish};
+ghost use Rattle.sc_machine_table.specs.Group.{Group, base_of};
+ghost use Rattle.sc_machine_table.specs.Machine.{applied};
+ghost use Rattle.sc_machine_table.specs.Logs.{entry_of};
+ghost use Rattle.sc_entries.specs.Effective.{is_commit, effective, effective_by, after_outcome};
+ghost use Rattle.sc_entries.specs.Rings.{ring_after};
+ghost use Rattle.sc_entries.specs.Worlds.{first_world, named_group, told, with_result, world_of};
+ghost use Rattle.sc_store_world.specs.Places.{StandsAt};
+
+use crate::groups::{again, born, execute, is_named, place_of};
+use sc_base::{Draw, Dup, OutOfMemory};
+use sc_cmd::{Base, Command, Core, Effect, Lock, Outcome};
+use sc_decisions::{decision, first_cuts, ring_after, tell};
+use sc_entries::{Cut, LogEntry, Transaction};
+use sc_ideal::Entry;
+use sc_machine::Machine;
+use std::alloc::Global;
+use std::marker::Model;
+use std::mem;
+
+/// All groups, after some entries: each as its own log makes it, what is told of transactions, the
+/// ring, and the history.
+#[derive(Drop)]
+pub struct StoreWorld {
+    groups: Vec<Machine>,
+    transactions: Vec<Transaction>,
+    ring: Vec<Cut>,
+    history: Vec<Entry>,
+    alloc: Global,
+}
+
+impl Model for StoreWorld {
+    ghost use Rattle.std.specs.FinMap as map;
+    ghost use Rattle.std.specs.Coded.{Coded, codes, coded_ℕ, coded_list};
+    ghost use Rattle.sc_ideal.specs.IdealStore.{Contents};
+    ghost use Rattle.sc_ideal.specs.Clients.{ClientTable};
+    ghost use Rattle.sc_entries.specs.Worlds.{StoreWorld};
+
+    ghost Value = { StoreWorld };
+
+    ghost coded = { let pairs : Coded Contents = map.code (coded_list coded_ℕ) (coded_list coded_ℕ)
+        in let clients : Coded ClientTable = map.code coded_ℕ (Prim.hlevel codes) in Prim.hlevel
+        (codes, pairs, clients) };
+
+    ghost view = { λ w. record { groups = w.groups.items; transactions = w.transactions.items; ring = w.ring.items; history = w.history.items } };
+}
+
+// The entry of a history that a command is with its effect, if it is one.
+fn note(
+    alloc: Global,
+    history: &mut Vec<Entry>,
+    command: &Command,
+    effect: Effect,
+) -> Result<(), OutOfMemory>
+    ensures { OnOk result (history.new.items ≡
+        history.old.items ++ entry_of command.now effect) }
+{
+    match command {
+        Command::Call { client, seq, op } => {
+            if let Effect::Done(reply) = effect {
+                history.push(Entry {
+                    client: *client,
+                    seq: *seq,
+                    op: op.dup(alloc)?,
+                    reply,
+                })?;
+            }
+            Ok(())
+        }
+        _ => Ok(()),
+    }
+}
+
+// The ring after an entry of the log of a group, whose record was this before.
+fn change_ring(
+    alloc: Global,
+    ring: &mut Vec<Cut>,
+    core: &Core,
+    command: &Command,
+    effect: &Effect,
+) -> Result<(), OutOfMemory>
+    ensures { OnOk result (ring.new.items ≡
+        ring_after core.now command.now effect.now ring.old.items) }
+{
+    let old = mem::replace(ring, Vec::new(alloc));
+    *ring = ring_after(alloc, core, command, effect, old)?;
+    Ok(())
+}
+
+impl StoreWorld {
+    /// The groups of a scenario, before any entry.
+    pub fn first(alloc: Global, bases: &[Base]) -> Result<StoreWorld, OutOfMemory>
+        ensures { IfOk result (λ world. world ≡ first_world bases.now) }
+    {
+        Ok(StoreWorld {
+            groups: born(alloc, bases)?,
+            transactions: Vec::new(alloc),
+            ring: first_cuts(alloc, bases)?,
+            history: Vec::new(alloc),
+            alloc,
+        })
+    }
+
+    /// One more entry is told. Refused for want of memory, and where the entry would leave a cut
+    /// that is no arc; then the world may only be dropped.
+    pub fn tell(&mut self, entry: &LogEntry) -> Result<(), OutOfMemory>
+        ensures { OnOk result (self.new ≡ told self.old entry.now) }
+    {
+        match place_of(self.groups.as_slice(), entry.group) {
+            None => Ok(()),
+            Some(at) => {
+                self.execute(entry.group, at, &entry.command)?;
+                Ok(())
+            }
+        }
+    }
+
+    fn execute(&mut self, name: Draw, at: usize, command: &Command) -> Result<(), OutOfMemory>
+        requires { StandsAt name self.old.groups at }
+        ensures { OnOk result ((group : Group) → named_group name self.old.groups ≡ Some group →
+            self.new ≡ with_result self.old group command.now (applied group command.now)) }
+    {
+        let (core, effect) = execute(self.alloc, &mut self.groups, at, command)?;
+        tell(self.alloc, &mut self.transactions, &core, command, &effect)?;
+        change_ring(self.alloc, &mut self.ring, &core, command, &effect)?;
+        note(self.alloc, &mut self.history, command, effect)?;
+        Ok(())
+    }
+
+    /// The decided ring.
+    pub fn ring(&self) -> &[Cut]
+        ensures { result.now ≡ self.now.ring }
+    {
+        self.ring.as_slice()
+    }
+
+    /// The calls that took effect.
+    pub fn history(&self) -> &[Entry]
+        ensures { result.now ≡ self.now.history }
+    {
+        self.history.as_slice()
+    }
+
+    /// The ring and the history alone.
+    pub fn into_parts(self) -> (Vec<Cut>, Vec<Entry>)
+        ensures ring { result.0.items ≡ self.ring }
+        ensures history { result.1.items ≡ self.history }
+    {
+        (self.ring, self.history)
+    }
+
+    /// The group with a name, as its own log makes it, if it was born.
+    pub fn group(&self, name: Draw) -> Option<&Machine>
+        ensures { option_copied result ≡ named_group name self.now.groups }
+    {
+        self.groups.iter().find(|group| is_named(group, name))
+    }
+
+    /// The effective record of a group, if it was born: as its own log makes it and as what was
+    /// decided elsewhere makes it.
+    pub fn effective(&self, name: Draw) -> Result<Option<Base>, OutOfMemory>
+        ensures { IfOk result (λ base. base ≡ option_map base_of (effective self.now name)) }
+    {
+        match self.group(name) {
+            None => Ok(None),
+            Some(group) => Ok(Some(self.effective_of(group)?)),
+        }
+    }
+
+    fn effective_of(&self, group: &Machine) -> Result<Base, OutOfMemory>
+        ensures { IfOk result (λ base. base ≡
+            base_of (effective_by group.now.core.lock self.now.transactions group.now)) }
+    {
+        match &group.core().lock {
+            Lock::Free | Lock::Coordinating { .. } => group.base(),
+            Lock::Promised { tx, .. } | Lock::Watching { tx, .. } => {
+                let outcome = decision(self.alloc, self.transactions.as_slice(), *tx)?;
+                after_outcome(self.alloc, outcome, *tx, group)
+            }
+        }
+    }
+}
+
+fn is_commit(outcome: &Outcome) -> bool
+    ensures { result ≡ is_commit outcome.now }
+{
+    match outcome {
+        Outcome::Abort => false,
+        Outcome::Merged { .. }
+        | Outcome::Moved { .. }
+        | Outcome::Migrated { .. }
+        | Outcome::Divided => true,
+    }
+}
+
+fn finish(machine: &mut Machine, command: &Command) -> Result<(), OutOfMemory>
+    ensures { OnOk result (machine.new ≡ (applied machine.old command.now).0) }
+{
+    machine.apply(command)?;
+    Ok(())
+}
+
+// A group's record, after what was decided.
+fn finished(alloc: Global, outcome: Outcome, tx: Draw, group: &Machine) -> Result<Base, OutOfMemory>
+    ensures { IfOk result (λ base. base ≡ base_of
+        (if is_commit outcome then (applied group.now (Finish tx outcome)).0 else group.now)) }
+{
+    if !is_commit(&outcome) {
+        let base = group.base()?;
+        return Ok(base);
+    }
+    let command = Command::Finish { tx, outcome };
+    let mut after = again(alloc, group)?;
+    finish(&mut after, &command)?;
+    let base = after.base()?;
+    Ok(base)
+}
+
+// A group's record, after what its transaction decided, if it did.
+fn after_outcome(
+    alloc: Global,
+    outcome: Option<Outcome>,
+    tx: Draw,
+    group: &Machine,
+) -> Result<Base, OutOfMemory>
+    ensures { IfOk result (λ base. base ≡ base_of (after_outcome outcome tx group.now)) }
+{
+    match outcome {
+        None => group.base(),
+        Some(outcome) => finished(alloc, outcome, tx, group),
+    }
+}
+
+/// What these entries make of the groups of a scenario. Refused for want of memory, and where an
+/// entry would leave a cut that is no arc.
+pub fn world_of(
+    alloc: Global,
+    bases: &[Base],
+    entries: &[LogEntry],
+) -> Result<StoreWorld, OutOfMemory>
+    ensures { IfOk result (λ world. world ≡ world_of bases.now entries.now) }
+{
+    let mut world = StoreWorld::first(alloc, bases)?;
+    for entry in entries {
+        world.tell(entry)?;
+    }
+    Ok(world)
+}
