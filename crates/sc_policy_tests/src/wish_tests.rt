@@ -25,19 +25,23 @@ fn nodes_to(last: u16) -> Members {
     members
 }
 
+/// A neighbour, whose members do not matter.
+fn link(group: Draw) -> Link {
+    Link {
+        group,
+        members: Members::one(9),
+    }
+}
+
 /// A group with the members from 1 to `last` on an arc, with the same neighbour on both sides.
 fn group(alloc: Global, last: u16, arc: RingArc, neighbour: Draw) -> Core {
-    let link = Link {
-        group: neighbour,
-        members: Members::one(9),
-    };
     Core {
         id: GROUP,
         first: 1,
         arc,
         members: nodes_to(last),
-        succ: link,
-        pred: link,
+        succ: link(neighbour),
+        pred: link(neighbour),
         lock: Lock::Free,
         begun: 0,
         decided: Sequence::new(alloc),
