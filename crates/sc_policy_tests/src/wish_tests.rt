@@ -1,7 +1,7 @@
 use sc_base::{Draw, Key, Op, Pairs, RingArc, Sequence, Value};
-use sc_cmd::{Core, Link, Lock};
+use sc_cmd::{Core, Link, Lock, Order};
 use sc_member::Members;
-use sc_policy::{Body0, wish};
+use sc_policy::{Body0, keys_rise_from_the_start, wish, wished_order};
 use sc_store::Store;
 use std::alloc::Global;
 use std::mem::forget;
@@ -158,4 +158,23 @@ fn a_boundary_stays_where_it_cannot_move(rt: HostRuntime) {
         None
     );
     forget(heap);
+}
+
+/// Whether the order is one to the group to merge.
+fn is_merge(rt: &impl Abort, alloc: Global) -> bool {
+    let arc = RingArc::try_new(0, 9).expect(rt, "an arc");
+    let core = group(alloc, 1, arc, OTHER);
+    let none = Pairs::new(alloc);
+    let order = wished_order(&core, &none);
+    forget(core);
+    match order {
+        Some(Order::Merge { group }) => group == GROUP,
+        _ => false,
+    }
+}
+
+#[test]
+fn the_order_is_to_the_group(rt: HostRuntime) {
+    assert!(rt; is_merge(&rt, rt.alloc()));
+    keys_rise_from_the_start();
 }
