@@ -1,1 +1,2 @@
 pub mod Wishes
+pub mod Laws

@@ -1,8 +1,12 @@
 -- What a policy wishes of a group, by its members and its pairs. Whether the order is accepted is not looked at here.
 use Rattle.std.specs.Prelude.{ℕ, ◌+◌, ◌/◌, ◌%◌, ◌^◌, ◌==◌, Bool, ◌&&◌, not, nat_lt, nat_le, List, ◌++◌, length, map, filter, slice_index, if◌then◌else◌, Option, Some, None}
+use Rattle.std.specs.Option.{option_map}
 use Rattle.sc_base.specs.Arc.{Arc}
+use Rattle.sc_base.specs.declared.names.Draw.{Draw}
 use Rattle.sc_base.specs.Text.{pos_of}
 use Rattle.sc_cmd.specs.declared.cores.Core.{Core}
+use Rattle.sc_cmd.specs.declared.orders.Order.{Order}
+use Rattle.sc_cmd.specs.declared.orders.Order.TheVariants as An
 use Rattle.sc_machine_table.specs.Orders.{is_alone}
 use Rattle.sc_policy.specs.declared.bodies.Body0.{Body0}
 use Rattle.sc_policy.specs.declared.bodies.Body0.TheVariants.{Split, Merge, Repart}
@@ -56,3 +60,13 @@ wished core pairs =
     if wants_split core then Some (Split (middle_of core.arc))
     else if is_alone core then None
     else wished_of_two core pairs
+
+-- the order of what is wished to the group of that name
+abbrev pub order_of : Draw → Body0 → Order
+order_of group (Split at) = An.Split group at
+order_of group Merge = An.Merge group
+order_of group (Repart at) = An.Repart group at
+
+-- the order that a policy makes for a group with these pairs, if it makes one
+abbrev pub wished_order : Core → List (List ℕ × List ℕ) → Option Order
+wished_order core pairs = option_map (order_of core.id) (wished core pairs)

@@ -1,4 +1,9 @@
 //! What a policy names.
+ghost use Rattle.std.specs.Prelude.{◌≡◌};
+ghost use Rattle.sc_policy.specs.Wishes.{order_of};
+
+use sc_base::Draw;
+use sc_cmd::Order;
 
 /// What a policy wishes of a group, with no name yet for a group or a transaction that it makes.
 #[derive(Clone, Copy, Debug, PartialEq, Eq)]
@@ -9,4 +14,17 @@ pub enum Body0 {
     Merge,
     /// The boundary between the group and its successor moves to `at`.
     Repart { at: u32 },
+}
+
+impl Body0 {
+    /// The order to the group of that name.
+    pub fn order(self, group: Draw) -> Order
+        ensures { result ≡ order_of group self }
+    {
+        match self {
+            Body0::Split { at } => Order::Split { group, at },
+            Body0::Merge => Order::Merge { group },
+            Body0::Repart { at } => Order::Repart { group, at },
+        }
+    }
 }

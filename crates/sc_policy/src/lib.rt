@@ -3,7 +3,9 @@
 #![tactic(auto)]
 
 mod bodies;
+mod laws;
 mod wishes;
 
 pub use bodies::Body0;
-pub use wishes::wish;
+pub use laws::keys_rise_from_the_start;
+pub use wishes::{wish, wished_order};

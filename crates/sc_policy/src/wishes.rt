@@ -1,10 +1,10 @@
 //! What is wished of a group.
 ghost use Rattle.std.specs.Prelude.{◌≡◌, nat_le, nat_lt, length, filter, slice_get};
-ghost use Rattle.sc_policy.specs.Wishes.{middle_of, positions, middle_key, wants_split, wished, wished_of_two};
+ghost use Rattle.sc_policy.specs.Wishes.{middle_of, positions, middle_key, wants_split, wished, wished_of_two, wished_order};
 
 use crate::bodies::Body0;
 use sc_base::{Key, Pairs, RingArc, Value};
-use sc_cmd::{Core, same_draw};
+use sc_cmd::{Core, Order, same_draw};
 
 /// More members are too many.
 const MOST_MEMBERS: u8 = 7;
@@ -32,6 +32,16 @@ pub fn wish(core: &Core, keys: &Pairs) -> Option<Body0>
         return None;
     }
     wish_of_two(core, keys)
+}
+
+/// The order that a policy makes for a group of that record with these pairs, if it makes one.
+pub fn wished_order(core: &Core, keys: &Pairs) -> Option<Order>
+    ensures { result ≡ wished_order core.now keys.now }
+{
+    match wish(core, keys) {
+        Some(body) => Some(body.order(core.id)),
+        None => None,
+    }
 }
 
 fn wants_split(core: &Core) -> bool

@@ -1,9 +1,57 @@
-use sc_base::Sequence;
+ghost use Rattle.std.specs.Prelude.{[]};
+
+use sc_actor::{Actor, Input, Parcel};
+use sc_base::{Dup, OutOfMemory, Sequence};
 use sc_exchange::{Look, Spot};
-use sc_sched::{Deed, Storm};
+use sc_sched::{Deed, Storm, deeds_are_rows_of_the_walk};
 use std::alloc::Global;
 use std::mem::forget;
 use std::process::Abort;
+
+#[derive(Drop)]
+struct Note {
+    to: u32,
+}
+
+impl Dup for Note {
+    fn dup(&self, _alloc: Global) -> Result<Note, OutOfMemory> {
+        Ok(Note { to: self.to })
+    }
+}
+
+impl Parcel for Note {
+    ghost receiver = { λ note. note.to };
+
+    ghost weighs = { λ _. 0 };
+
+    fn to(&self) -> u32 {
+        self.to
+    }
+
+    fn weight(&self) -> u64 {
+        0
+    }
+}
+
+/// An actor that sends nothing.
+#[derive(Drop)]
+struct Silent;
+
+impl Actor for Silent {
+    type Mail = Note;
+
+    type Order = u32;
+
+    ghost table = { λ silent _. (silent, []) };
+
+    fn step(
+        &mut self,
+        alloc: Global,
+        _input: &Input<Note, u32>,
+    ) -> Result<Sequence<Note>, OutOfMemory> {
+        Ok(Sequence::new(alloc))
+    }
+}
 
 /// The words of the first two steps of the storms 0, 7 and 2^64 - 1, by another program.
 const FIRST_WORDS: [(u64, (u32, u32), (u32, u32)); 3] = [
@@ -98,4 +146,9 @@ fn a_storm_over_nothing_ticks_alone(rt: HostRuntime) {
         assert_eq!(rt; done, if ticks { deed } else { Deed::Nothing });
     }
     forget(look);
+}
+
+#[test]
+fn the_law_of_deeds_is_of_any_actor() {
+    deeds_are_rows_of_the_walk::<Silent>();
 }

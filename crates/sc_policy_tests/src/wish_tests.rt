@@ -1,7 +1,7 @@
 use sc_base::{Draw, Key, Op, Pairs, RingArc, Sequence, Value};
-use sc_cmd::{Core, Link, Lock};
+use sc_cmd::{Core, Link, Lock, Order};
 use sc_member::Members;
-use sc_policy::{Body0, wish};
+use sc_policy::{Body0, keys_rise_from_the_start, wish, wished_order};
 use sc_store::Store;
 use std::alloc::Global;
 use std::mem::forget;
@@ -25,19 +25,23 @@ fn nodes_to(last: u16) -> Members {
     members
 }
 
+/// A neighbour, whose members do not matter.
+fn link(group: Draw) -> Link {
+    Link {
+        group,
+        members: Members::one(9),
+    }
+}
+
 /// A group with the members from 1 to `last` on an arc, with the same neighbour on both sides.
 fn group(alloc: Global, last: u16, arc: RingArc, neighbour: Draw) -> Core {
-    let link = Link {
-        group: neighbour,
-        members: Members::one(9),
-    };
     Core {
         id: GROUP,
         first: 1,
         arc,
         members: nodes_to(last),
-        succ: link,
-        pred: link,
+        succ: link(neighbour),
+        pred: link(neighbour),
         lock: Lock::Free,
         begun: 0,
         decided: Sequence::new(alloc),
@@ -154,4 +158,23 @@ fn a_boundary_stays_where_it_cannot_move(rt: HostRuntime) {
         None
     );
     forget(heap);
+}
+
+/// Whether the order is one to the group to merge.
+fn is_merge(rt: &impl Abort, alloc: Global) -> bool {
+    let arc = RingArc::try_new(0, 9).expect(rt, "an arc");
+    let core = group(alloc, 1, arc, OTHER);
+    let none = Pairs::new(alloc);
+    let order = wished_order(&core, &none);
+    forget(core);
+    match order {
+        Some(Order::Merge { group }) => group == GROUP,
+        _ => false,
+    }
+}
+
+#[test]
+fn the_order_is_to_the_group(rt: HostRuntime) {
+    assert!(rt; is_merge(&rt, rt.alloc()));
+    keys_rise_from_the_start();
 }

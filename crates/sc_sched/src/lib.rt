@@ -1,4 +1,4 @@
-//! The words of storms, and what each step of a storm does to a journal that was looked at.
+//! Storms: what each of their steps does to a journal that was looked at.
 #![tactic(auto)]
 
 mod deeds;

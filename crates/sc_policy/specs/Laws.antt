@@ -1,0 +1,19 @@
+-- What it means to go through keys from a position on.
+use Rattle.std.specs.Prelude.{◌≡◌, ℕ, ◌+◌, ◌-◌, ◌%◌, ◌^◌, ◌<◌, ◌≤◌, List, length, All}
+use Rattle.std.specs.List.{AllPairs}
+use Rattle.std.specs.Ordering.{nat_cmp}
+use Rattle.std.specs.Cmp.Lexicographic.{slice_cmp}
+use Rattle.sc_base.specs.Ascending.{IsAscending}
+use Rattle.sc_base.specs.Limits.{longest_key}
+use Rattle.sc_base.specs.Text.{IsText}
+use Rattle.sc_policy.specs.Wishes.{positions_from}
+
+-- how far a position lies after another, round the ring
+abbrev pub far_from : ℕ → ℕ → ℕ
+far_from lo p = ((p + 2 ^ 32) - lo) % 2 ^ 32
+
+-- of the keys of pairs, in the order of their bytes, each has one position, and none lies farther from the start than one that comes later
+abbrev pub KeysRiseFromTheStart : Type 0
+KeysRiseFromTheStart =
+    (lo : ℕ) (pairs : List (List ℕ × List ℕ)) → lo < 2 ^ 32 → All (λ (pair : List ℕ × List ℕ). IsText longest_key pair.0) pairs → IsAscending (slice_cmp nat_cmp) pairs →
+    (length (positions_from lo pairs) ≡ length pairs) × AllPairs (λ p q. far_from lo p ≤ far_from lo q) (positions_from lo pairs)

@@ -1,0 +1,7 @@
+//! What holds of the order in which a policy counts keys.
+ghost use Rattle.sc_policy.specs.Laws.{KeysRiseFromTheStart};
+
+/// The middle key is the middle one in the order in which the keys lie from the group's start on.
+pub fn keys_rise_from_the_start()
+    ensures { KeysRiseFromTheStart }
+{}
