@@ -1,0 +1,3 @@
+mod Parses
+mod Plain
+mod Shapes
