@@ -19,7 +19,6 @@ use Rattle.sc_hist_law.specs.Laws.{LeavesWhole, LogTells}
 use Rattle.sc_hist_law.proofs.Told.{log_tells}
 use Rattle.sc_machine_table.specs.Logs.{state_after}
 use Rattle.sc_group_law.specs.Groups.{StartsEmpty, AreApart, HasGroups}
-use Rattle.sc_group_law.specs.OneGroup.{HasOneGroup}
 use Rattle.sc_group_law.proofs.Held.{mirrors_itself}
 use Rattle.sc_group_law.proofs.Rosters.{state_roster}
 use Rattle.sc_group_law.proofs.Invariant.{rule, first, birth, IsReplica}
@@ -44,18 +43,6 @@ take_none (suc n) = refl
 first_of : (members : List ℕ) → 1 ≤ length members → (node : ℕ) × (rest : List ℕ) × (members ≡ node ∷ rest)
 first_of [] le = absurd (omega (arith, le))
 first_of (node ∷ rest) le = (node, rest, refl)
-
--- a scenario of one group is one of any number
-pub one_of_many : (scenario : Scenario) (base : Base) → HasOneGroup scenario base → HasGroups scenario base []
-one_of_many scenario base one = record {
-  groups = one.groups;
-  empty = λ other a. elim a [ inl e ↦ subst StartsEmpty e (record { roster = one.roster; pairs = one.pairs; clients = one.clients }) | inr none ↦ absurd none ];
-  apart = (tt, tt);
-  orders = one.orders;
-  nodes = one.nodes;
-  numbered = one.numbered;
-  once = one.once;
-}
 
 module _ (ahead : Ahead) (base : Base) (starts : StartsEmpty base) where
   -- a group has members after each log that divides no group

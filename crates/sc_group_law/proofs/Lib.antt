@@ -27,9 +27,7 @@ pub mod Family
 pub mod Replies
 pub mod Replicated
 pub mod Births
-pub mod Journal
 pub mod RowSteps
 pub mod Walked
-pub mod Sound
 pub mod Example
 pub mod JoinExample

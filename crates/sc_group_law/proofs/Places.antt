@@ -56,57 +56,6 @@ issue-push client seq rows row =
     let same : 0 + length rows + 1 ≡ length rows + 1 = omega arith in
     issued_from-push client seq 0 rows row ∙ ap (λ n. or_now (issued_from client seq 0 rows) (issues client seq row) n) same
 
--- ---- rows that decide
-
-decided_from-push : (ahead : Ahead) (base : Base) (place : ℕ) (before rows : Journal) (row : Row Mail OrderLine)
-    → decided_from ahead base place before (rows ++ row ∷ [])
-    ≡ or_now (decided_from ahead base place before rows) (nat_lt place (length (decided_log ahead base ((before ++ rows) ++ row ∷ [])))) (length (before ++ rows) + 1)
-decided_from-push ahead base place before [] row = ap (λ b. cond (nat_lt place (length (decided_log ahead base (b ++ row ∷ [])))) (Some (length b + 1)) None) (sym (append-nil before))
-decided_from-push ahead base place before (r ∷ rows) row =
-    let now = nat_lt place (length (decided_log ahead base (before ++ r ∷ []))) in
-    let later = λ (b : Journal). or_now (decided_from ahead base place before (r ∷ rows)) (nat_lt place (length (decided_log ahead base (b ++ row ∷ [])))) (length b + 1) in
-    elim (cases_Bool now) [
-      | inl t ↦ cond-true now (Some (length before + 1)) (decided_from ahead base place (before ++ r ∷ []) (rows ++ row ∷ [])) t
-          ∙ ap (λ o. or_now o (nat_lt place (length (decided_log ahead base ((before ++ r ∷ rows) ++ row ∷ [])))) (length (before ++ r ∷ rows) + 1))
-          (sym (cond-true now (Some (length before + 1)) (decided_from ahead base place (before ++ r ∷ []) rows) t))
-      | inr f ↦ cond-false now (Some (length before + 1)) (decided_from ahead base place (before ++ r ∷ []) (rows ++ row ∷ [])) f
-          ∙ decided_from-push ahead base place (before ++ r ∷ []) rows row
-          ∙ ap (λ o. or_now o (nat_lt place (length (decided_log ahead base (((before ++ r ∷ []) ++ rows) ++ row ∷ [])))) (length ((before ++ r ∷ []) ++ rows) + 1))
-          (sym (cond-false now (Some (length before + 1)) (decided_from ahead base place (before ++ r ∷ []) rows) f))
-          ∙ ap later (append_assoc before (r ∷ []) rows)
-    ]
-
--- where an entry is decided, with one more row
-pub decided-push : (ahead : Ahead) (base : Base) (place : ℕ) (rows : Journal) (row : Row Mail OrderLine)
-    → decided_row ahead base place (rows ++ row ∷ []) ≡ or_now (decided_row ahead base place rows) (nat_lt place (length (decided_log ahead base (rows ++ row ∷ [])))) (length rows + 1)
-decided-push ahead base place rows row = decided_from-push ahead base place [] rows row
-
-past_rows : (ahead : Ahead) (base : Base) (place : ℕ) (before rows : Journal) (d : ℕ) → decided_from ahead base place before rows ≡ Some d → length before + 1 ≤ d
-past_rows ahead base place before [] d e = cc
-past_rows ahead base place before (r ∷ rows) d e =
-    cond_both (nat_lt place (length (decided_log ahead base (before ++ r ∷ [])))) (Some (length before + 1)) (decided_from ahead base place (before ++ r ∷ []) rows) (λ o. o ≡ Some d → length before + 1 ≤ d)
-    (λ _ k. (let same : length before + 1 ≡ d = cc in omega (arith, same)))
-    (λ _ k. (let later = past_rows ahead base place (before ++ r ∷ []) rows d k in omega (arith, later, length_push before r))) e
-
--- an earlier place is decided no later
-pub decided_in_order : (ahead : Ahead) (base : Base) (place other : ℕ) → place ≤ other → (before rows : Journal) (d e : ℕ) → decided_from ahead base place before rows ≡ Some d → decided_from ahead base other before rows ≡ Some e → d ≤ e
-decided_in_order ahead base place other le before [] d e first second = cc
-decided_in_order ahead base place other le before (r ∷ rows) d e first second =
-    let log = decided_log ahead base (before ++ r ∷ []) in
-    elim (cases_Bool (nat_lt place (length log))) [
-      | inl t ↦ (
-          let now : Some (length before + 1) ≡ Some d = sym (cond-true (nat_lt place (length log)) (Some (length before + 1)) (decided_from ahead base place (before ++ r ∷ []) rows) t) ∙ first in
-          let same : length before + 1 ≡ d = cc in
-          let past = past_rows ahead base other before (r ∷ rows) e second in
-          omega (arith, same, past))
-      | inr f ↦ (
-          let out = ltb-false place (length log) f in
-          let later = le-ltb other (length log) (omega (arith, out, le)) in
-          decided_in_order ahead base place other le (before ++ r ∷ []) rows d e
-          (sym (cond-false (nat_lt place (length log)) (Some (length before + 1)) (decided_from ahead base place (before ++ r ∷ []) rows) f) ∙ first)
-          (sym (cond-false (nat_lt other (length log)) (Some (length before + 1)) (decided_from ahead base other (before ++ r ∷ []) rows) later) ∙ second))
-    ]
-
 -- ---- rows that answer
 
 answered_from-push : (first : Route) (asks : Asks) (seq : ℕ) (before rows : Journal) (row : Row Mail OrderLine)
@@ -138,37 +87,9 @@ answered-push first asks seq rows row = answered_from-push first asks seq [] row
 pub split_at : (n : ℕ) (log longer : List Command) → take n longer ≡ log → longer ≡ log ++ drop n longer
 split_at n log longer e = sym (take-append-drop n longer) ∙ ap (λ l. l ++ drop n longer) e
 
-drop_front : {X : Type 0} (xs ys : List X) → drop (length xs) (xs ++ ys) ≡ ys
-drop_front [] ys = refl
-drop_front (x ∷ xs) ys = drop_front xs ys
-
 -- the entries of a log that goes on
 pub done_append : (group : Group) (log more : List Command) → done_by group (log ++ more) ≡ done_by group log ++ done_by (state_after group log) more
 done_append group [] more = refl
 done_append group (c ∷ log) more =
     ap (λ es. entry_of c (applied group c).1 ++ es) (done_append (applied group c).0 log more)
     ∙ sym (append_assoc (entry_of c (applied group c).1) (done_by (applied group c).0 log) (done_by (state_after (applied group c).0 log) more))
-
-effects_append : (group : Group) (log more : List Command) → effects_of group (log ++ more) ≡ effects_of group log ++ effects_of (state_after group log) more
-effects_append group [] more = refl
-effects_append group (c ∷ log) more = ap (λ (es : List Effect). (applied group c).1 ∷ es) (effects_append (applied group c).0 log more)
-
--- a request that took effect did so in the log that goes on
-pub done_later : (group : Group) (log more : List Command) (place client seq : ℕ) → IsDone group log place client seq → IsDone group (log ++ more) place client seq
-done_later group log more place client seq d = record {
-  op = d.op;
-  reply = d.reply;
-  call = get_left log more place (Call client seq d.op) d.call;
-  effect = subst (λ es. slice_get es place ≡ Some (Done d.reply)) (sym (effects_append group log more)) (get_left (effects_of group log) (effects_of (state_after group log) more) place (Done d.reply) d.effect);
-}
-
--- the history with one more row
-pub history_on : (ahead : Ahead) (base : Base) (rows : Journal) (row : Row Mail OrderLine) (more : List Command) → decided_log ahead base (rows ++ row ∷ []) ≡ decided_log ahead base rows ++ more
-    → history ahead (base ∷ []) rows ≡ done_by (group_of base) (decided_log ahead base rows) → history ahead (base ∷ []) (rows ++ row ∷ []) ≡ done_by (group_of base) (decided_log ahead base (rows ++ row ∷ []))
-history_on ahead base rows row more e is =
-    let log = decided_log ahead base rows in
-    let group = group_of base in
-    history-push ahead (base ∷ []) rows row
-    ∙ ap (λ es. es ++ flat_map (newly_decided ahead rows (rows ++ row ∷ [])) (base ∷ [])) is
-    ∙ ap (λ es. done_by group log ++ es) (append-nil (newly_decided ahead rows (rows ++ row ∷ []) base) ∙ ap (λ l. done_by (state_after group log) (drop (length log) l)) e ∙ ap (done_by (state_after group log)) (drop_front log more))
-    ∙ sym (done_append group log more) ∙ ap (done_by group) (sym e)

@@ -14,12 +14,11 @@ use Rattle.sc_paxos_law.specs.Lawful.{IsLawfulHistory}
 use Rattle.sc_paxos_law.proofs.Law.{one_value_per_slot}
 use Rattle.sc_paxos_law.proofs.Decided.{log_of-longest, log_grows}
 use Rattle.sc_players.specs.Players.{Ahead}
-use Rattle.sc_sound.specs.Soundness.{GoesOn}
+use Rattle.sc_sound.specs.Soundness.{GoesOn, HasRun}
 use Rattle.sc_sound.specs.Accepts.{accepts, accepts_at}
 use Rattle.sc_machine_table.specs.Logs.{state_after}
 use Rattle.sc_sound.specs.Logs.{IsChosenIn, decided_log}
 use Rattle.sc_group_law.specs.Steps.{proposer_steps, asked_in, promises_at, steps_at, steps}
-use Rattle.sc_group_law.specs.Told.{HasExecuted}
 use Rattle.sc_group_law.proofs.Invariant.{Steps, rule, first, birth, IsReplica, next_after}
 use Rattle.sc_group_law.proofs.Projected.{only, only_steps, log_from_only, after_from_only, log_to_only, steps-push}
 use Rattle.sc_group_law.proofs.Places.{Journal, split_at}
@@ -79,7 +78,7 @@ module _ (ahead : Ahead) (base : Base) (rows : Journal) (lawful : IsLawfulHistor
   is_log = subst (λ g. IsLog (rule ahead base) g log) accepted_are (log_to_only (rule ahead base) h log steps_log)
 
   -- a replica has executed a front of it
-  pub executed_is : (made : Command → Type 0) (n : ℕ) (r : ReplicaState) → IsReplica ahead base made h n r → HasExecuted ahead base rows r
+  pub executed_is : (made : Command → Type 0) (n : ℕ) (r : ReplicaState) → IsReplica ahead base made h n r → HasRun ahead base rows r
   executed_is made n r is =
       let front = front_is ahead base rows lawful is.whole is.log_is.is_log in
       record {

@@ -1,18 +1,20 @@
 -- The actors of a scenario have different numbers: nodes up to 32, and then clients up to 96, ascending.
-use Rattle.std.proofs.Common.{◌≡◌, ℕ, zero, suc, ◌+◌, ◌<◌, ◌≤◌, true, false, not, eqb, List, [], ◌∷◌, ◌++◌, length, map, refl, sym, ap, subst, arith, slice_index_or}
-use Rattle.std.specs.List.{All, AllPairs, list_any}
-use Rattle.std.proofs.lemmas.Bool.{ne_eqb, and_from}
+use Rattle.std.proofs.Common.{◌≡◌, ℕ, zero, suc, ◌+◌, ◌<◌, ◌≤◌, true, false, not, eqb, List, [], ◌∷◌, ◌++◌, length, map, refl, ◌∙◌, ap, arith, slice_index_or}
+use Rattle.std.specs.List.{All, AllPairs, list_any, list_all}
+use Rattle.std.proofs.lemmas.Bool.{ne_eqb, and_from, lt-ltb}
 use Rattle.std.proofs.lemmas.List.Elements.{All-nil, All-cons}
 use Rattle.sc_cmd.specs.declared.cores.Base.{Base}
 use Rattle.sc_cmd.specs.declared.links.Route.{Route}
 use Rattle.sc_actor.specs.declared.actors.Seat.{Seat}
 use Rattle.sc_actor.specs.System.{are_apart}
 use Rattle.sc_node_table.specs.Slots.{numbers_from}
-use Rattle.sc_node_table.specs.Node.{are_in_order}
-use Rattle.sc_scenario.specs.Groups.{lone_group}
+use Rattle.sc_node_table.specs.Node.{is_before, are_in_order}
+use Rattle.sc_scenario.specs.Groups.{name_at, base_at, bases_of}
+use Rattle.sc_scenario.specs.declared.drafts.GroupLine.{GroupLine}
 use Rattle.sc_scenario.specs.Valid.{IsEarly, IsEarlyClient}
 use Rattle.sc_scenario.specs.declared.scenarios.Asks.{Asks}
 use Rattle.sc_scenario.specs.declared.scenarios.Scenario.{Scenario}
+use Rattle.sc_sound_law.proofs.Starts.{bases_from, all_from}
 use Rattle.sc_players.specs.Players.{node_seat, client_seat, client_seats, route_of, births, most_actor, Player, as_nodes}
 
 -- the numbers rise, from above a number on
@@ -62,6 +64,10 @@ clients_rise first low (asks ∷ clients) above rising = (
     later : (k : ℕ) (d : Asks) → k < length clients → asks.client < (slice_index_or clients k d).client
     later k d lt = rising 0 (suc k) d (omega arith) (omega (arith, lt))
 
+clients_rise_any : (groups : List Base) (clients : List Asks) → All (λ (asks : Asks). 0 < asks.client) clients → AllPairs (λ (a b : Asks). a.client < b.client) clients → Rises 32 (client_seats groups clients)
+clients_rise_any [] clients above rising = tt
+clients_rise_any (base ∷ groups) clients above rising = clients_rise (route_of base) 0 clients above rising
+
 within_on : (top : ℕ) (xs ys : List (Seat Player)) → Within top xs → Within top ys → Within top (xs ++ ys)
 within_on top [] ys w v = v
 within_on top (x ∷ xs) ys w v = (w.0, within_on top xs ys w.1 v)
@@ -72,6 +78,10 @@ clients_within first (asks ∷ clients) all = (
   omega (arith, (all 0 asks (omega arith)).0.1),
   clients_within first clients (λ k d lt. all (suc k) d (omega (arith, lt))),
 )
+
+clients_within_any : (groups : List Base) (clients : List Asks) → All IsEarlyClient clients → Within most_actor (client_seats groups clients)
+clients_within_any [] clients all = tt
+clients_within_any (base ∷ groups) clients all = clients_within (route_of base) clients all
 
 -- those that rise from above a number and are not above another lie between
 between : (low top : ℕ) (seats : List (Seat Player)) → Rises low seats → Within top seats → All (λ (seat : Seat Player). (low < seat.who) × (seat.who ≤ top)) seats
@@ -84,8 +94,7 @@ between low top (seat ∷ seats) r w =
 births_rise : (scenario : Scenario) → IsEarly scenario → Rises 0 (births as_nodes scenario)
 births_rise scenario early =
     let clients : Rises 32 (client_seats scenario.groups scenario.clients) =
-    subst (λ (groups : List Base). Rises 32 (client_seats groups scenario.clients)) (sym early.group)
-    (clients_rise (route_of (lone_group early.lo early.members)) 0 scenario.clients (λ k d lt. omega (arith, (early.clients k d lt).0.0)) early.ascending) in
+    clients_rise_any scenario.groups scenario.clients (λ k d lt. omega (arith, (early.clients k d lt).0.0)) early.ascending in
     rise_on 0 32 _ (client_seats scenario.groups scenario.clients) (omega arith) (nodes_rise scenario.groups 0 1 scenario.nodes (omega arith))
     (nodes_within scenario.groups 32 1 scenario.nodes (omega (arith, early.nodes.1))) clients
 
@@ -96,12 +105,25 @@ all_apart scenario early = apart_rising 0 (births as_nodes scenario) (births_ris
 -- and numbers from 1 to 96
 pub all_numbered : (scenario : Scenario) → IsEarly scenario → All (λ (seat : Seat Player). (0 < seat.who) × (seat.who ≤ most_actor)) (births as_nodes scenario)
 all_numbered scenario early =
-    let clients : Within most_actor (client_seats scenario.groups scenario.clients) =
-    subst (λ (groups : List Base). Within most_actor (client_seats groups scenario.clients)) (sym early.group)
-    (clients_within (route_of (lone_group early.lo early.members)) scenario.clients early.clients) in
+    let clients : Within most_actor (client_seats scenario.groups scenario.clients) = clients_within_any scenario.groups scenario.clients early.clients in
     between 0 most_actor (births as_nodes scenario) (births_rise scenario early)
     (within_on most_actor _ (client_seats scenario.groups scenario.clients) (nodes_within scenario.groups most_actor 1 scenario.nodes (omega (arith, early.nodes.1))) clients)
 
--- one group stands in order
+-- ---- names
+
+is_later : (k j : ℕ) → k < j → is_before (name_at k) (name_at j) ≡ true
+is_later k j lt = lt-ltb (k + 1) (j + 1) (omega (arith, lt))
+
+later_names : (lines : List GroupLine) (k j n : ℕ) → k < j → list_all (λ (other : Base). is_before (name_at k) other.core.id) (bases_from lines j n) ≡ true
+later_names lines k j zero lt = refl
+later_names lines k j (suc n) lt = and_from (is_before (name_at k) (name_at j)) (list_all (λ (other : Base). is_before (name_at k) other.core.id) (bases_from lines (j + 1) n)) (is_later k j lt) (later_names lines k (j + 1) n (omega (arith, lt)))
+
+names_rise : (lines : List GroupLine) (k n : ℕ) → are_in_order (bases_from lines k n) ≡ true
+names_rise lines k zero = refl
+names_rise lines k (suc n) =
+    and_from (list_all (λ (other : Base). is_before (name_at k) other.core.id) (bases_from lines (k + 1) n)) (are_in_order (bases_from lines (k + 1) n)) (later_names lines k (k + 1) n (omega arith)) (names_rise lines (k + 1) n)
+
+-- groups stand in the order of their names
 pub all_ordered : (scenario : Scenario) → IsEarly scenario → are_in_order scenario.groups ≡ true
-all_ordered scenario early = subst (λ (groups : List Base). are_in_order groups ≡ true) (sym early.group) refl
+all_ordered scenario early =
+    ap are_in_order (early.groups ∙ all_from early.starts (length early.starts)) ∙ names_rise early.starts 0 (length early.starts)

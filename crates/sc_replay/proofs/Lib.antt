@@ -6,3 +6,4 @@ mod Fronts
 mod Longer
 mod Newest
 mod Held
+mod Rows

@@ -4,7 +4,7 @@ ghost use Rattle.std.specs.Option.{option_copied, option_map};
 ghost use Rattle.sc_member.specs.Roster.{is_member};
 ghost use Rattle.sc_member.specs.Majority.{is_majority};
 ghost use Rattle.sc_paxos_law.specs.Decided.{voters_of, found_in, chosen_at, top_slot, log_of};
-ghost use Rattle.sc_machine_table.specs.Group.{Group};
+ghost use Rattle.sc_machine_table.specs.Group.{Group, group_of};
 ghost use Rattle.sc_machine_table.specs.Machine.{applied};
 ghost use Rattle.sc_sound.specs.Logs.{decided_log, rule_of};
 ghost use Rattle.sc_machine_table.specs.Logs.{state_after};
@@ -142,6 +142,17 @@ pub(crate) fn execute(machine: &mut Machine, command: &Command) -> Result<(), Ou
 {
     machine.apply(command)?;
     Ok(())
+}
+
+/// A group after these entries from its birth on.
+pub(crate) fn executed(alloc: Global, base: &Base, log: &[Command]) -> Result<Machine, OutOfMemory>
+    ensures { IfOk result (λ machine. machine ≡ state_after (group_of base.now) log.now) }
+{
+    let mut machine = Machine::born(alloc, base.dup(alloc)?)?;
+    for command in log {
+        execute(&mut machine, command)?;
+    }
+    Ok(machine)
 }
 
 // The log grows by one entry, and the state that decides the members of its next slot by the entry

@@ -1,11 +1,13 @@
 //! The history of a journal: the requests that took effect.
 ghost use Rattle.std.specs.Prelude.{◌≡◌, ◌++◌, IfOk, OnOk};
-ghost use Rattle.sc_machine_table.specs.Group.{group_of};
 ghost use Rattle.sc_machine_table.specs.Machine.{applied};
 ghost use Rattle.sc_machine_table.specs.Logs.{entry_of, done_by};
-ghost use Rattle.sc_replay.specs.Worlds.{entries_in, history_of};
+ghost use Rattle.std.specs.List.{flat_map};
+ghost use Rattle.sc_players.specs.Players.{as_nodes};
+ghost use Rattle.sc_sound.specs.Histories.{newly_decided};
+ghost use Rattle.sc_replay.specs.Worlds.{history_of};
 
-use crate::deciding::{execute, log_of_group};
+use crate::deciding::{execute, executed, log_of_group};
 use crate::worlds::World;
 use sc_actor::Row;
 use sc_base::{Dup, OutOfMemory};
@@ -43,33 +45,55 @@ fn add_entry(
     }
 }
 
-// The entries that the log of a group is.
+// The entries that these commands are, executed one after another.
 fn add_done(
     alloc: Global,
     entries: &mut Vec<Entry>,
-    base: &Base,
+    machine: Machine,
     log: &[Command],
 ) -> Result<(), OutOfMemory>
-    ensures { OnOk result (entries.new.items ≡
-        entries.old.items ++ done_by (group_of base.now) log.now) }
+    ensures { OnOk result (entries.new.items ≡ entries.old.items ++ done_by machine log.now) }
 {
-    let mut machine = Machine::born(alloc, base.dup(alloc)?)?;
+    let mut group = machine;
     for command in log {
-        add_entry(alloc, &mut machine, entries, command)?;
+        add_entry(alloc, &mut group, entries, command)?;
     }
     Ok(())
 }
 
-fn add_group(
+// The entries of a group that are decided after some rows and not after fewer.
+fn add_newly_decided(
     alloc: Global,
     entries: &mut Vec<Entry>,
-    rows: &[Row<Mail, OrderLine>],
+    before: &[Row<Mail, OrderLine>],
+    after: &[Row<Mail, OrderLine>],
     base: &Base,
 ) -> Result<(), OutOfMemory>
-    ensures { OnOk result (entries.new.items ≡ entries.old.items ++ entries_in rows.now base.now) }
+    ensures { OnOk result (entries.new.items ≡
+        entries.old.items ++ newly_decided as_nodes before.now after.now base.now) }
 {
-    let log = log_of_group(alloc, OPEN_SLOTS, base, rows)?;
-    add_done(alloc, entries, base, &log)
+    let log = log_of_group(alloc, OPEN_SLOTS, base, before)?;
+    let longer = log_of_group(alloc, OPEN_SLOTS, base, after)?;
+    let machine = executed(alloc, base, &log)?;
+    let known = log.len().min(longer.len());
+    add_done(alloc, entries, machine, &longer[known..])
+}
+
+// The entries that one more row decides: those of each group, by slot.
+fn add_row(
+    alloc: Global,
+    entries: &mut Vec<Entry>,
+    groups: &[Base],
+    before: &[Row<Mail, OrderLine>],
+    after: &[Row<Mail, OrderLine>],
+) -> Result<(), OutOfMemory>
+    ensures { OnOk result (entries.new.items ≡
+        entries.old.items ++ flat_map (newly_decided as_nodes before.now after.now) groups.now) }
+{
+    for base in groups {
+        add_newly_decided(alloc, entries, before, after, base)?;
+    }
+    Ok(())
 }
 
 /// The history of a journal: row by row the calls decided there that took effect, by slot. Read
@@ -79,8 +103,16 @@ pub fn history(alloc: Global, world: &World<'_>) -> Result<Vec<Entry>, OutOfMemo
     ensures { IfOk result (λ entries. entries.items ≡ history_of world.now) }
 {
     let mut entries = Vec::new(alloc);
-    for base in world.scenario.groups.as_slice() {
-        add_group(alloc, &mut entries, world.rows.as_slice(), base)?;
+    let groups = world.scenario.groups.as_slice();
+    let rows = world.rows.as_slice();
+    for done in 0..rows.len() {
+        add_row(
+            alloc,
+            &mut entries,
+            groups,
+            &rows[..done],
+            &rows[..done + 1],
+        )?;
     }
     Ok(entries)
 }

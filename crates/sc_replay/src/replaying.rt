@@ -14,9 +14,9 @@ use sc_actor::{Journal, Row};
 use sc_base::OutOfMemory;
 use sc_checker::{Replayed, replay};
 use sc_cmd::OrderLine;
-use sc_group_law::{group_journals_are_sound, valid_scenarios_have_one_group};
 use sc_mail::Mail;
 use sc_scenario::Scenario;
+use sc_sound_law::valid_journals_are_sound;
 use sc_world::{Party, births, parties_of, schedule};
 use std::alloc::Global;
 
@@ -102,8 +102,7 @@ fn world_of<'a>(
     requires few_mails { length (mails rows.now) < 2 ^ 31 }
     ensures { IfOk result (λ world. MayReplay scenario.now rows.now world) }
 {
-    valid_scenarios_have_one_group();
-    group_journals_are_sound();
+    valid_journals_are_sound();
     match left_by(alloc, scenario, rows.as_slice())? {
         None => Ok(None),
         Some(left) => {
@@ -119,8 +118,8 @@ fn world_of<'a>(
     }
 }
 
-/// Replays rows: the world that they leave where they are a lawful journal of a scenario, and else
-/// which row, from 1, is the first that is not. The scenario is one that some text is, and rows and
+/// Replays rows: the world that they leave where they are a lawful journal of a scenario, of which
+/// each first part is sound, and else which row, from 1, is the first that is not lawful. The scenario is one that some text is, and rows and
 /// their mails are fewer than 2^31 each.
 pub fn replay_rows<'a>(
     alloc: Global,

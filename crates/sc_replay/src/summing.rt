@@ -7,13 +7,12 @@ ghost use Rattle.sc_machine_table.specs.Logs.{state_after};
 ghost use Rattle.sc_replay.specs.Summary.{cut_of, decided_cut, summary_of};
 ghost use Rattle.sc_actor.specs.System.{no_words};
 
-use crate::deciding::{execute, log_of_group};
+use crate::deciding::{executed, log_of_group};
 use crate::orders::{order_count, orders_told};
 use crate::worlds::World;
 use sc_actor::{Journal, Row};
-use sc_base::{Dup, OutOfMemory, Sequence};
+use sc_base::{OutOfMemory, Sequence};
 use sc_cmd::{Base, Command, OrderLine, Route};
-use sc_machine::Machine;
 use sc_mail::Mail;
 use sc_node_table::OPEN_SLOTS;
 use sc_report::Summary;
@@ -25,10 +24,7 @@ use std::alloc::Global;
 fn cut_after(alloc: Global, base: &Base, log: &[Command]) -> Result<Route, OutOfMemory>
     ensures { IfOk result (λ cut. cut ≡ cut_of (state_after (group_of base.now) log.now)) }
 {
-    let mut machine = Machine::born(alloc, base.dup(alloc)?)?;
-    for command in log {
-        execute(&mut machine, command)?;
-    }
+    let machine = executed(alloc, base, log)?;
     let core = machine.core();
     Ok(Route {
         group: core.id,

@@ -20,9 +20,7 @@ use Rattle.sc_scenario.specs.declared.scenarios.Scenario.{Scenario}
 use Rattle.sc_report.specs.Report.{report_lines}
 use Rattle.sc_players.specs.Players.{schedule, system_of, Lawful, parties, Player, as_nodes}
 use Rattle.sc_replay.specs.Summary.{summary_of}
-use Rattle.sc_group_law.specs.Laws.{GroupJournalsAreSound}
-use Rattle.sc_sound_law.specs.Laws.{LoneJournalsAreSound, ValidHaveLoneGroup}
-use Rattle.sc_run.specs.Sound.{IsSoundThroughout}
+use Rattle.sc_sound_law.specs.Laws.{ValidJournalsAreSound}
 use Rattle.sc_statuses.specs.Causes.{said_of}
 use Rattle.sc_run.specs.declared.done.Text.{Text}
 use Rattle.sc_run.specs.Played.{mail_weight, HasPlayedToEnd, HasFilled}
@@ -38,23 +36,12 @@ Drove driven.OutOfMemory = ⊥
 pub drove_on : (cut quiet : Bool) (skips : ℕ) → driven.Ended cut quiet skips ≢ driven.OutOfMemory
 drove_on cut quiet skips e = subst Drove e tt
 
--- each first part of a lawful journal is sound
-sound_throughout : ValidHaveLoneGroup → LoneJournalsAreSound → GroupJournalsAreSound → (scenario : Scenario) → IsValid scenario → (journal : List (Row Mail OrderLine)) → Lawful as_nodes no_words scenario journal → IsSoundThroughout scenario journal
-sound_throughout lone sound law scenario valid journal lawful =
-    let group = lone scenario valid in
-    record {
-      sound = λ rows more is. sound as_nodes no_words scenario group rows more (subst (Lawful as_nodes no_words scenario) is lawful);
-      base = group.base;
-      one_group = group.one.groups;
-      sound_for_one = λ rows more is. law as_nodes no_words scenario group.base group.one rows more (subst (Lawful as_nodes no_words scenario) is lawful);
-    }
-
 -- the actors of shells are those of their seats
 pub actors_of : {A M O : Type 0} {g : Ghosts A M O} {h : MailGhosts M} (ss : List (Shell A M O g h)) → map (λ s. s.actor) ss ≡ map (λ seat. seat.actor) (seats ss)
 actors_of [] = refl
 actors_of (s ∷ ss) = ap (λ rest. s.actor ∷ rest) (actors_of ss)
 
-module _ (lone : ValidHaveLoneGroup) (sound : LoneJournalsAreSound) (law : GroupJournalsAreSound) (scenario : Scenario) (valid : IsValid scenario) (lines : List (Line OrderLine)) (lines_are : lines ≡ schedule scenario) (limit : ℕ) (journal : List (Row Mail OrderLine)) where
+module _ (law : ValidJournalsAreSound) (scenario : Scenario) (valid : IsValid scenario) (lines : List (Line OrderLine)) (lines_are : lines ≡ schedule scenario) (limit : ℕ) (journal : List (Row Mail OrderLine)) where
   -- a driver's end is a play's
   pub ends : (cut quiet : Bool) (skips : ℕ) (left : List Player) →
       IsLawful (system_of as_nodes no_words scenario) lines journal → IsWhole (system_of as_nodes no_words scenario) lines journal → journal_bytes mail_weight journal ≤ limit →
@@ -65,7 +52,7 @@ module _ (lone : ValidHaveLoneGroup) (sound : LoneJournalsAreSound) (law : Group
       record {
         lawful = allowed;
         whole = subst (λ l. IsWhole (system_of as_nodes no_words scenario) l journal) lines_are whole;
-        sound = sound_throughout lone sound law scenario valid journal allowed;
+        sound = law as_nodes no_words scenario valid journal allowed;
         within = within;
         cut_is = cut_is ∙ ap (λ l. unsettled (system_of as_nodes no_words scenario) l journal) lines_are;
         quiet_is = quiet_is;
@@ -77,7 +64,7 @@ module _ (lone : ValidHaveLoneGroup) (sound : LoneJournalsAreSound) (law : Group
   pub fills : IsFull (system_of as_nodes no_words scenario) mail_weight lines limit journal → HasFilled scenario limit journal
   fills h =
       let full : IsFull (system_of as_nodes no_words scenario) mail_weight (schedule scenario) limit journal = subst (λ l. IsFull (system_of as_nodes no_words scenario) mail_weight l limit journal) lines_are h in
-      record { full = full; sound = sound_throughout lone sound law scenario valid journal full.lawful }
+      record { full = full; sound = law as_nodes no_words scenario valid journal full.lawful }
 
 plays : (scenario : Scenario) (cut quiet : Bool) (skips : ℕ) (journal : List (Row Mail OrderLine)) (parties : List Player) (text : Text) →
     HasPlayedToEnd scenario journal_limit cut quiet skips journal parties → text.lines ≡ report_lines (summary_of scenario journal) → text.journal ≡ Some journal → text.parties ≡ parties → Plays scenario cut text

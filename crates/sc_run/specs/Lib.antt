@@ -1,3 +1,2 @@
 pub mod Played
 pub mod Run
-pub mod Sound

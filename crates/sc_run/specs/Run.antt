@@ -11,9 +11,9 @@ use Rattle.sc_actor.specs.Counted.{journal_bytes}
 use Rattle.sc_scenario.specs.declared.reading.ScenarioFault.TheVariants.{Bad}
 use Rattle.sc_scenario.specs.declared.scenarios.Scenario.{Scenario}
 use Rattle.sc_report.specs.Report.{report_lines}
+use Rattle.sc_sound.specs.Soundness.{IsSoundThroughout}
 use Rattle.sc_players.specs.Players.{system_of, schedule, Lawful, Whole, parties, as_nodes}
 use Rattle.sc_replay.specs.Summary.{summary_of}
-use Rattle.sc_run.specs.Sound.{IsSoundThroughout}
 use Rattle.sc_run.specs.Played.{mail_weight, HasFilled}
 use Rattle.sc_run.specs.declared.done.Text.{Text}
 use Rattle.sc_run.specs.declared.done.Done.{Done}
@@ -47,12 +47,12 @@ pub record TellsFull (journal : List (Row Mail OrderLine)) (text : Text) : Type 
 abbrev pub journal_limit : ℕ
 journal_limit = 2 ^ 30
 
--- The text is the report of a scenario and a journal of it that is lawful, whole and within the limit, of which each first part tells one legal history, and the parties are the replays of their rows.
+-- The text is the report of a scenario and a journal of it that is lawful, whole and within the limit, of which each first part is sound, and the parties are the replays of their rows.
 pub record ReportsJournal (scenario : Scenario) (journal : List (Row Mail OrderLine)) (text : Text) : Type 0 where
   pub lawful : Lawful as_nodes no_words scenario journal
   pub whole : Whole as_nodes no_words scenario journal
   pub within : journal_bytes mail_weight journal ≤ journal_limit
-  pub sound : IsSoundThroughout scenario journal
+  pub sound : IsSoundThroughout as_nodes scenario journal
   pub lines : text.lines ≡ report_lines (summary_of scenario journal)
   pub journal_is : text.journal ≡ Some journal
   pub parties_are : text.parties ≡ parties as_nodes scenario journal

@@ -11,12 +11,11 @@ use sc_actor::Gate;
 use sc_cmd::OrderLine;
 use sc_drive::{Driven, drive};
 use sc_exchange::Port;
-use sc_group_law::group_journals_are_sound;
 use sc_mail::Mail;
 use sc_replay::valid_scenarios_can_play;
 use sc_scenario::Scenario;
 use sc_shell::Shell;
-use sc_sound_law::{lone_journals_are_sound, valid_scenarios_have_a_lone_group};
+use sc_sound_law::valid_journals_are_sound;
 use sc_statuses::Played;
 use sc_world::{Party, schedule};
 use std::alloc::Global;
@@ -44,9 +43,7 @@ pub fn play<G: Gate, R: Threads + Wait + Sync>(
         (map (λ s. s.actor) shells.new.items) result }
 {
     valid_scenarios_can_play();
-    valid_scenarios_have_a_lone_group();
-    lone_journals_are_sound();
-    group_journals_are_sound();
+    valid_journals_are_sound();
     let Ok(lines) = schedule(alloc, scenario) else {
         return Played::OutOfMemory;
     };

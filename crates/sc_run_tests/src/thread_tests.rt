@@ -79,7 +79,20 @@ const EIGHT_REPLIES: &[u8] =
         reply 6 2 get value x\nreply 7 1 put none\nreply 7 2 get value x\nreply 8 1 put none\n\
         reply 8 2 get value x\nring ";
 
-fn add(rt: &impl Abort, text: &mut Vec<u8>, part: &[u8]) {
+// A client of each of four groups.
+const FOUR_GROUPS: &[u8] =
+    b"scatter 1\nnodes 4\ngroup 0 1 2\ngroup 1073741824 3\ngroup 1610612736 4 1\n\
+        group 1879048192 2\nclient 1\nput ! v\nget !\nend\nclient 2\nput A v\nget A\nend\n\
+        client 3\nput a v\nget a\nend\nclient 4\nput q v\nget q\nend\ngo 1\ngo 2\ngo 3\ngo 4\n";
+
+const FOUR_REPLIES: &[u8] =
+    b"scatter report 1\nreply 1 1 put none\nreply 1 2 get value v\nreply 2 1 put none\n\
+        reply 2 2 get value v\nreply 3 1 put none\nreply 3 2 get value v\nreply 4 1 put none\n\
+        reply 4 2 get value v\nring 0 group 0.1 members 1 2\nring 1073741824 group 0.2 members 3\n\
+        ring 1610612736 group 0.3 members 1 4\nring 1879048192 group 0.4 members 2\n";
+
+/// Adds a part to a text.
+pub fn add(rt: &impl Abort, text: &mut Vec<u8>, part: &[u8]) {
     text.extend_from_slice(part).expect(rt, "memory");
 }
 
@@ -95,8 +108,8 @@ fn input_of(rt: &impl Abort, alloc: Global, case: Case, workers: &[u8]) -> Vec<u
     text
 }
 
-// Whether a run ends settled, its report begins so, and its journal is lawful.
-fn runs_so<R: Abort + Threads + Wait + Sync>(
+/// Whether a run ends settled, its report begins so, and its journal is lawful.
+pub fn runs_so<R: Abort + Threads + Wait + Sync>(
     rt: &R,
     alloc: Global,
     input: &[u8],
@@ -138,6 +151,7 @@ const CASES: &[Case] = &[
     (LOST, b"", PUT_REPLY),
     (ELECTED, b"", PUT_REPLY),
     (EIGHT_CLIENTS, b"", EIGHT_REPLIES),
+    (FOUR_GROUPS, b"", FOUR_REPLIES),
 ];
 
 #[test]
@@ -148,7 +162,7 @@ fn replies_do_not_depend_on_the_number_of_workers(rt: HostRuntime) {
 }
 
 // Holds node 1 and node 2, each in its first pass of the line of deliveries until the other has
-// come to its own, for so many turns of waiting.
+// come to its own, for so many turns of waiting. Node 1 passes once before the line.
 #[derive(Drop)]
 struct Pair {
     turns: u32,
@@ -171,7 +185,6 @@ impl Pair {
     }
 }
 
-// Node 1 passes once before the line.
 impl Gate for Pair {
     fn pass(&self, who: u32) {
         if who == 1 && self.first.fetch_add(1, Ordering::SeqCst) == 1 {
@@ -193,17 +206,26 @@ const GATE_REPORT: &[u8] =
     b"scatter report 1\nreply 1 1 put none\nring 0 group 0.1 members 1 2\nrows 8\nmail 7\n\
         delivered 7\nskipped 0\nquiet yes\n";
 
-// Whether a run through a gate ends with that report, and both nodes came.
+const TWO_GROUPS: &[u8] =
+    b"scatter 1\nnodes 2\ngroup 0 1\ngroup 1828716544 2\nclient 1\nput a x\nend\nclient 2\nput z y\n\
+        end\ngo 2\ndeliver n1 1\ndeliver c2 1\ngo 1\nfree 100 4\n";
+
+const TWO_GROUPS_REPORT: &[u8] =
+    b"scatter report 1\nreply 1 1 put none\nreply 2 1 put none\nring 0 group 0.1 members 1\n\
+        ring 1828716544 group 0.2 members 2\nrows 12\nmail 10\ndelivered 10\nskipped 0\nquiet yes\n";
+
+// Whether a run through a gate ends with this report, and both nodes came.
 fn is_passed<R: Abort + Threads + Wait + Sync>(
     rt: &R,
     alloc: Global,
     input: &[u8],
+    report: &[u8],
     gate: &Pair,
 ) -> bool {
     let mut sink = MemSink::new(alloc, 1000, &[]).expect(rt, "memory");
     let done = ended(rt, alloc, "run", (input, 0), &mut sink, gate);
     let came = gate.first.load(Ordering::SeqCst) >= 2 && gate.second.load(Ordering::SeqCst) >= 1;
-    let is_so = done.status == 0 && sink.held() == GATE_REPORT;
+    let is_so = done.status == 0 && sink.held() == report;
     forget(done);
     forget(sink);
     is_so && came
@@ -213,7 +235,7 @@ fn is_passed<R: Abort + Threads + Wait + Sync>(
 fn lateness<R: Abort + Threads + Wait + Sync>(
     rt: &R,
     alloc: Global,
-    input: &[u8],
+    case: (&[u8], &[u8]),
     turns: u32,
 ) -> Option<u64> {
     let gate = Pair {
@@ -222,7 +244,7 @@ fn lateness<R: Abort + Threads + Wait + Sync>(
         second: AtomicU64::new(0),
         late: AtomicU64::new(0),
     };
-    if is_passed(rt, alloc, input, &gate) {
+    if is_passed(rt, alloc, case.0, case.1, &gate) {
         Some(gate.late.load(Ordering::SeqCst))
     } else {
         None
@@ -231,7 +253,13 @@ fn lateness<R: Abort + Threads + Wait + Sync>(
 
 #[test]
 fn nodes_of_one_group_work_at_the_same_time(rt: HostRuntime) {
-    let four = lateness(&rt, rt.alloc(), GATE_AT_FOUR, 1_000_000);
-    let one = lateness(&rt, rt.alloc(), GATE_AT_ONE, 1_000);
+    let four = lateness(&rt, rt.alloc(), (GATE_AT_FOUR, GATE_REPORT), 1_000_000);
+    let one = lateness(&rt, rt.alloc(), (GATE_AT_ONE, GATE_REPORT), 1_000);
     assert!(rt; four == Some(0) && one == Some(1));
+}
+
+#[test]
+fn nodes_of_two_groups_work_at_the_same_time(rt: HostRuntime) {
+    let two = lateness(&rt, rt.alloc(), (TWO_GROUPS, TWO_GROUPS_REPORT), 1_000_000);
+    assert!(rt; two == Some(0));
 }

@@ -20,7 +20,7 @@ above_each : (lines : List GroupLine) (line : GroupLine) → AllPairs Lower line
 above_each lines line rising above k d within =
     let some : eqb (length lines) 0 ≡ false = ne_eqb (length lines) 0 (λ e. omega (arith, e, within)) in
     let last : (group_at lines (length lines - 1)).lo < line.lo =
-        ltb-true (group_at lines (length lines - 1)).lo line.lo (second (eqb (length lines) 0) (ltb (group_at lines (length lines - 1)).lo line.lo) above some) in
+    ltb-true (group_at lines (length lines - 1)).lo line.lo (second (eqb (length lines) 0) (ltb (group_at lines (length lines - 1)).lo line.lo) above some) in
     let same = ap (λ (g : GroupLine). g.lo) (get_or_default lines k d (record { lo = 0; members = [] }) within) in
     elim (cases_lt k (length lines - 1)) [
       | inl lt ↦ (let up = rising k (length lines - 1) (record { lo = 0; members = [] }) lt (omega (arith, within)) in omega (arith, same, up, last))

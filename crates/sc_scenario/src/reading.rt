@@ -96,11 +96,7 @@ fn built_kind(draft: &Draft, words: &[&[u8]]) -> Option<Kind>
     ensures { result ≡ built_kind draft.now (map (λ word. word.now) words.now) }
 {
     let kind = kind_of(draft.version, words)?;
-    if is_built(kind) {
-        Some(kind)
-    } else {
-        None
-    }
+    if is_built(kind) { Some(kind) } else { None }
 }
 
 fn read_outside(alloc: Global, draft: Draft, words: &[&[u8]]) -> Result<Taken, sc_base::OutOfMemory>

@@ -152,3 +152,7 @@ pub record IsSound (ahead : Ahead) (scenario : Scenario) (rows more : List (Row 
   -- (g) each entry stands between its issue and its answer
   pub timely : (place : ℕ) (entry : Entry) → slice_get (history_at ahead scenario.groups rows) place ≡ Some entry → IsTimely ahead scenario rows place entry
   pub real_time : KeepsRealTime ahead scenario rows
+
+-- each first part of a journal is sound
+abbrev pub IsSoundThroughout : Ahead → Scenario → List (Row Mail OrderLine) → Type 0
+IsSoundThroughout ahead scenario journal = (rows more : List (Row Mail OrderLine)) → journal ≡ rows ++ more → IsSound ahead scenario rows more

@@ -1,12 +1,12 @@
-pub mod Circle
 pub mod Example
 pub mod Groups
-pub mod Lone
 pub mod Placing
 pub mod Plain
 pub mod Quiet
 pub mod Requests
+pub mod Round
 pub mod Sound
+pub mod Starts
 pub mod Tellings
 pub mod Times
 pub mod Told

@@ -36,7 +36,6 @@ use Rattle.sc_sound.specs.Logs.{decided_log, decided_state}
 use Rattle.sc_sound.specs.Requests.{IsRequest, kept_replies, kept_reply, answer_row}
 use Rattle.sc_sound.specs.Soundness.{GoesOn, HasOneLog, HasRun, AllHaveRun, IsOneMap, AnswersRequests, told_row, IsTimely, KeepsRealTime, IsSound}
 use Rattle.sc_group_law.specs.Groups.{AreApart, HasGroups}
-use Rattle.sc_group_law.specs.Told.{HasExecuted}
 use Rattle.sc_group_law.proofs.Births.{some_of, tells_of, at_birth}
 use Rattle.sc_group_law.proofs.Clients.{Made, MadeBy, IsAnswered}
 use Rattle.sc_group_law.proofs.Family.{h_of, entry_offered, push, entries_whole}
@@ -154,15 +153,12 @@ module _ (ahead : Ahead) (words : ℕ → ℕ → ℕ × ℕ) (any : Scenario) (
         ∙ found_in (λ (c : Base). decided_state ahead c rows) bases has.apart (λ c there. (state_same (group_of c) (decided_log ahead c rows)).0) b a
         ∙ sym (state_is ahead bases has.apart rows whole b a)
 
-    has_run : (b : Base) (r : ReplicaState) → HasExecuted ahead b rows r → HasRun ahead b rows r
-    has_run b r x = record { count = x.count; within = x.within; next_is = x.next_is; entries = x.entries; group_is = x.group_is }
-
     node_has_run : (n : ℕ) (node : NodeState) → IsNode ahead bases (MadeBy scenario rows) (h_of rows) n node → (r : ReplicaState) → Among r node.replicas
         → (b : Base) × Among b (groups_at ahead bases rows) × (b.core.id ≡ name_of r) × HasRun ahead b rows r
     node_has_run n node at r a =
         let (b, among, named) = Each-among (λ s. IsOneOf bases (name_of s)) node.replicas r at.known a in
         let replica = held ahead b (Made scenario rows) n (h_of rows b) node.replicas (at.holds b among) r a named in
-        (b, subst (Among b) (sym groups) among, sym named, has_run b r (executed_is ahead b rows (k.parts b among).lawful (Made scenario rows) n r replica))
+        (b, subst (Among b) (sym groups) among, sym named, executed_is ahead b rows (k.parts b among).lawful (Made scenario rows) n r replica)
 
     have_run : AllHaveRun ahead scenario rows
     have_run n low high node is r a =

@@ -1,13 +1,13 @@
 -- The example of two groups is a lawful journal of groups that start together.
-use Rattle.std.proofs.Common.{◌≡◌, ℕ, zero, suc, ◌^◌, ◌<◌, ◌≤◌, [], ◌∷◌, true, false, eqb, refl, sym, ◌∙◌, ap, subst, inl, inr, lit≤, arith}
-use Rattle.std.specs.Prelude.{AllPairs, IsTrue}
-use Rattle.std.proofs.lemmas.Bool.{cases_lt, eq-eqb, lt-ltb, ltb-true}
+use Rattle.std.proofs.Common.{◌≡◌, ℕ, zero, suc, ◌^◌, ◌<◌, List, [], ◌∷◌, length, get_or, true, false, eqb, refl, sym, ◌∙◌, ap, subst, inl, inr, lit≤, lit<, arith}
+use Rattle.std.specs.Prelude.{AllPairs}
+use Rattle.std.proofs.lemmas.Bool.{eq-eqb}
 use Rattle.sc_base.specs.Among.{Among}
-use Rattle.sc_base.specs.Arc.{IsArc, holds, offset}
-use Rattle.sc_entries.specs.declared.Cut.{Cut}
-use Rattle.sc_entries.specs.Rings.{Covers, first_cut}
-use Rattle.sc_sound_law.specs.Together.{StandsFree, StartTogether}
 use Rattle.sc_base.specs.declared.names.Draw.{Draw}
+use Rattle.sc_scenario.specs.Groups.{bases_of}
+use Rattle.sc_scenario.specs.declared.drafts.GroupLine.{GroupLine}
+use Rattle.sc_sound_law.specs.Together.{StartTogether}
+use Rattle.sc_sound_law.proofs.Starts.{starts_together}
 use Rattle.sc_actor.specs.System.{no_words}
 use Rattle.sc_node_table.specs.Election.{nodes_to, elected, ended, saw}
 use Rattle.sc_node_table.specs.Execute.{entered, told_call, told_effect, announced, learnt_to, welcomed, landed, left, looked, executed_one, executed_ready, executed}
@@ -23,7 +23,7 @@ use Rattle.sc_players.specs.Players.{Lawful}
 use Rattle.sc_sound.specs.Example.{four}
 use Rattle.sc_group_law.specs.Groups.{StartsEmpty, HasGroups}
 use Rattle.sc_group_law.proofs.Example.{one_member}
-use Rattle.sc_sound_law.specs.TwoGroups.{lower, upper, two_scenario, two_example}
+use Rattle.sc_sound_law.specs.TwoGroups.{two_lines, lower, upper, two_scenario, two_example}
 
 -- numbers that a test tells apart
 not_one : (a b : ℕ) → eqb a b ≡ false → a ≡ b → ⊥
@@ -56,67 +56,22 @@ unfolding nodes_to elected ended saw sent_all sent_others ticked next_call from_
     readied accepted_row entered told_call told_effect announced learnt_to welcomed landed left looked executed_one executed_ready executed install_to welcomed_all jumped told_order forgotten
 two_is_lawful = (refl, (refl, (refl, (refl, (refl, (refl, (refl, tt)))))))
 
--- ---- the two arcs cover the ring
+-- a text's lines spell them
+pub two_are_spelled : bases_of two_lines ≡ lower ∷ upper ∷ []
+two_are_spelled = refl
 
-in_lower : (p : ℕ) → p < 1610612736 → IsTrue (holds lower.core.arc p)
-in_lower p lt = lt-ltb (offset lower.core.arc p) 1610612736 (omega (arith, lt))
+two_rise : AllPairs (λ (one other : GroupLine). one.lo < other.lo) two_lines
+two_rise zero zero d below within = absurd (omega arith)
+two_rise zero (suc zero) d below within = lit< tt
+two_rise zero (suc (suc j)) d below within = absurd (omega arith)
+two_rise (suc i) zero d below within = absurd (omega arith)
+two_rise (suc i) (suc j) d below within = absurd (omega arith)
 
-in_upper : (p : ℕ) → p < 2 ^ 32 → 1610612736 ≤ p → IsTrue (holds upper.core.arc p)
-in_upper p fits ge = lt-ltb (offset upper.core.arc p) 2684354560 (omega (arith, fits, ge))
-
-of_lower : (p : ℕ) → p < 2 ^ 32 → IsTrue (holds lower.core.arc p) → p < 1610612736
-of_lower p fits t = let lt = ltb-true (offset lower.core.arc p) 1610612736 t in omega (arith, fits, lt)
-
-of_upper : (p : ℕ) → p < 2 ^ 32 → IsTrue (holds upper.core.arc p) → 1610612736 ≤ p
-of_upper p fits t = let lt = ltb-true (offset upper.core.arc p) 2684354560 t in omega (arith, fits, lt)
-
-apart_names : lower.core.id ≡ upper.core.id → ⊥
-apart_names e = not_one 1 2 refl (ap (λ (d : Draw). d.count) e)
-
-two_apart : AllPairs (λ (cut other : Cut). cut.group ≡ other.group → ⊥) (first_cut lower ∷ first_cut upper ∷ [])
-two_apart zero zero d below within = absurd (omega arith)
-two_apart zero (suc zero) d below within = apart_names
-two_apart zero (suc (suc j)) d below within = absurd (omega arith)
-two_apart (suc i) zero d below within = absurd (omega arith)
-two_apart (suc i) (suc zero) d below within = absurd (omega arith)
-two_apart (suc i) (suc (suc j)) d below within = absurd (omega arith)
-
-two_only : (p : ℕ) → p < 2 ^ 32 → (cut other : Cut) → Among cut (first_cut lower ∷ first_cut upper ∷ []) → Among other (first_cut lower ∷ first_cut upper ∷ []) → IsTrue (holds cut.arc p) → IsTrue (holds other.arc p) → cut ≡ other
-two_only p fits cut other (inl e) (inl f) s t = sym e ∙ f
-two_only p fits cut other (inr (inl e)) (inr (inl f)) s t = sym e ∙ f
-two_only p fits cut other (inl e) (inr (inl f)) s t =
-    let low = of_lower p fits (subst (λ (c : Cut). IsTrue (holds c.arc p)) (sym e) s) in
-    let high = of_upper p fits (subst (λ (c : Cut). IsTrue (holds c.arc p)) (sym f) t) in
-    absurd (omega (arith, low, high))
-two_only p fits cut other (inr (inl e)) (inl f) s t =
-    let high = of_upper p fits (subst (λ (c : Cut). IsTrue (holds c.arc p)) (sym e) s) in
-    let low = of_lower p fits (subst (λ (c : Cut). IsTrue (holds c.arc p)) (sym f) t) in
-    absurd (omega (arith, low, high))
-two_only p fits cut other (inr (inr none)) b s t = absurd none
-two_only p fits cut other (inl e) (inr (inr none)) s t = absurd none
-two_only p fits cut other (inr (inl e)) (inr (inr none)) s t = absurd none
-
-two_cover : Covers (first_cut lower ∷ first_cut upper ∷ [])
-two_cover = record {
-  arcs = λ cut a. elim a [
-    | inl e ↦ subst (λ (c : Cut). IsArc c.arc × (c.arc.lo < 2 ^ 32)) e (record { some = omega arith; most = omega arith }, omega arith)
-    | inr (inl e) ↦ subst (λ (c : Cut). IsArc c.arc × (c.arc.lo < 2 ^ 32)) e (record { some = omega arith; most = omega arith }, omega arith)
-    | inr (inr none) ↦ absurd none
-  ];
-  some = λ p fits. elim (cases_lt p 1610612736) [ inl lt ↦ (first_cut lower, inl refl, in_lower p lt) | inr ge ↦ (first_cut upper, inr (inl refl), in_upper p fits ge) ];
-  only = two_only;
-  apart = two_apart;
-}
+two_low : (k : ℕ) (d : GroupLine) → k < length two_lines → (get_or two_lines k d).lo < 2 ^ 32
+two_low zero d within = lit< tt
+two_low (suc zero) d within = lit< tt
+two_low (suc (suc k)) d within = absurd (omega arith)
 
 -- they start together, each the other's neighbour on both sides
 pub two_together : StartTogether (lower ∷ upper ∷ [])
-two_together = record {
-  covers = two_cover;
-  free = λ base a. elim a [
-    | inl e ↦ subst (StandsFree (lower ∷ upper ∷ [])) e
-        (record { between = record { succ = (upper, inr (inl refl), refl, refl); pred = (upper, inr (inl refl), refl, refl) }; lock = refl; gone = refl })
-    | inr (inl e) ↦ subst (StandsFree (lower ∷ upper ∷ [])) e
-        (record { between = record { succ = (lower, inl refl, refl, refl); pred = (lower, inl refl, refl, refl) }; lock = refl; gone = refl })
-    | inr (inr none) ↦ absurd none
-  ];
-}
+two_together = starts_together two_lines (record { some = lit≤ tt; low = two_low; rising = two_rise })

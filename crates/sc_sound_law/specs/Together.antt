@@ -1,5 +1,5 @@
 -- Groups that start together in a ring, and what the entries of their logs are where no group is divided.
-use Rattle.std.specs.Prelude.{◌≡◌, ℕ, ◌-◌, ◌≤◌, List, map, Some, None, slice_get}
+use Rattle.std.specs.Prelude.{◌≡◌, ℕ, ◌-◌, ◌≤◌, List, ◌∷◌, map, Some, None, slice_get}
 use Rattle.sc_base.specs.Among.{Among}
 use Rattle.sc_base.specs.declared.ops.Op.{Op}
 use Rattle.sc_cmd.specs.declared.commands.Command.{Command}
@@ -11,6 +11,7 @@ use Rattle.sc_scenario.specs.declared.scenarios.Scenario.{Scenario}
 use Rattle.sc_entries.specs.declared.LogEntry.{LogEntry}
 use Rattle.sc_entries.specs.Rings.{Covers, first_cut}
 use Rattle.sc_ring_law.specs.Laws.{StandsBetween}
+use Rattle.sc_group_law.specs.Groups.{HasGroups}
 
 -- a request of a client of the scenario, with its own operation
 pub record IsRequested (scenario : Scenario) (client seq : ℕ) (op : Op) : Type 0 where
@@ -49,3 +50,10 @@ pub record StandsFree (bases : List Base) (base : Base) : Type 0 where
 pub record StartTogether (bases : List Base) : Type 0 where
   pub covers : Covers (map first_cut bases)
   pub free : (base : Base) → Among base bases → StandsFree bases base
+
+-- a scenario of groups that start together, under names of their own
+pub record HasRing (scenario : Scenario) : Type 0 where
+  pub base : Base
+  pub others : List Base
+  pub groups : HasGroups scenario base others
+  pub together : StartTogether (base ∷ others)

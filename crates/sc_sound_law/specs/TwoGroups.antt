@@ -12,6 +12,7 @@ use Rattle.sc_mail.specs.declared.bodies.Mail.{Mail}
 use Rattle.sc_mail.specs.declared.bodies.MailBody.TheVariants.{Request, Answer, Accept, Accepted}
 use Rattle.sc_actor.specs.declared.rows.Row.{Row}
 use Rattle.sc_actor.specs.declared.rows.Event.TheVariants.{Deliver, Tick, Go}
+use Rattle.sc_scenario.specs.declared.drafts.GroupLine.{GroupLine}
 use Rattle.sc_scenario.specs.declared.scenarios.SchedLine.TheVariants as line
 use Rattle.sc_scenario.specs.declared.scenarios.Scenario.{Scenario}
 use Rattle.sc_sound.specs.Example.{ballot, put_it, mail, row}
@@ -55,6 +56,10 @@ lower = half one two 0 1610612736
 -- and the others
 abbrev pub upper : Base
 upper = half two one 1610612736 2684354560
+
+-- the lines of a text that spell them
+abbrev pub two_lines : List GroupLine
+two_lines = record { lo = 0; members = 1 ∷ [] } ∷ record { lo = 1610612736; members = 1 ∷ [] } ∷ []
 
 -- one client puts a value at a key of the second group
 abbrev pub two_scenario : Scenario

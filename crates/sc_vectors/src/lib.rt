@@ -40,7 +40,6 @@ pub const REFUSED: &[Refused] = &[
         5,
         3,
     ),
-    (b"scatter 1\nnodes 9\ngroup 5 1\ngroup 5 2\n", 0, 4, 3),
     (b"scatter 1\nnodes 2\ngroup 0 1\npolicy\n", 0, 4, 3),
     (b"scatter 1\nnodes 2\ngroup 0 1\nstorm 1 1\n", 0, 4, 3),
     (
@@ -216,7 +215,24 @@ pub const REFUSED: &[Refused] = &[
         3,
         10,
     ),
+    (b"scatter 1\nnodes 9\ngroup 5 1\ngroup 4 2 2\n", 0, 4, 10),
+    // 11: bad boundary
+    (b"scatter 1\nnodes 9\ngroup 5 1\ngroup 5 2\n", 0, 4, 11),
+    (
+        b"scatter 1\nnodes 9\ngroup 5 1\ngroup 7 1\ngroup 6 2\n",
+        0,
+        5,
+        11,
+    ),
     // 12: too many
+    (
+        b"scatter 1\nnodes 1\ngroup 1 1\ngroup 2 1\ngroup 3 1\ngroup 4 1\ngroup 5 1\ngroup 6 1\n\
+        group 7 1\ngroup 8 1\ngroup 9 1\ngroup 10 1\ngroup 11 1\ngroup 12 1\ngroup 13 1\n\
+        group 14 1\ngroup 15 1\ngroup 16 1\ngroup 17 1\n",
+        0,
+        19,
+        12,
+    ),
     (
         b"scatter 1\nnodes 12\ngroup 0 1 2 3 4 5 6 7 8 9 10\n",
         0,

@@ -1,5 +1,8 @@
-use Rattle.sc_sound_law.proofs.TwoGroups.{two_groups, two_together, two_is_lawful}
+use Rattle.sc_sound_law.proofs.TwoGroups.{two_are_spelled, two_groups, two_together, two_is_lawful}
 use Rattle.sc_sound_law.proofs.a_journal_of_two_groups.Goals as goal
+
+pub returns-clause-spelled : goal.returns-clause-spelled
+returns-clause-spelled c = two_are_spelled
 
 pub returns-clause-groups : goal.returns-clause-groups
 returns-clause-groups c = two_groups

@@ -10,5 +10,5 @@ invariant_of-result c =
     let s = system_of as_nodes no_words c.args.scenario.now in
     let lines = schedule c.args.scenario.now in
     let leaves : Leaves s lines c.as_slice.result.now c.in-Some.left = subst (IsReplayed s lines c.as_slice.result.now) c.in-Some.is c.in_ok-left_by.ensures in
-    holds c.valid_scenarios_have_one_group.ensures c.group_journals_are_sound.ensures c.args.scenario.now c.requires.valid c.args.rows.now c.in_ok-parties-in-Some.parties c.in-Some.left c.in_ok-parties-in-Some.ensures
+    holds c.args.scenario.now c.args.rows.now c.in_ok-parties-in-Some.parties c.in-Some.left c.in_ok-parties-in-Some.ensures
     (subst (λ rows. Leaves s lines rows c.in-Some.left) c.as_slice.ensures leaves)

@@ -20,11 +20,11 @@ returns-in-Ended-clause-played g c =
     let net = c.drive.new.net in let ss = c.drive.new.shells.items in let scenario = c.args.scenario.now in let cut = c.in-Ended.unsettled in let quiet = c.in-Ended.quiet in let skips = c.in-Ended.skipped in
     let e : HasEnded no_words (births as_nodes scenario) c.as_slice.result.now net ss cut quiet skips = c.in-Ended.ensures.driven no_words (births as_nodes scenario) c.requires.begins in
     let kept : IsKept c.args.net.now c.args.shells.now.items net ss = c.in-Ended.ensures.kept (drove_on cut quiet skips) in
-    ends c.valid_scenarios_have_a_lone_group.ensures c.lone_journals_are_sound.ensures c.group_journals_are_sound.ensures scenario c.requires.valid c.as_slice.result.now (c.as_slice.ensures.value ∙ c.in-Ok.ensures) c.args.net.now.limit (seen net) cut quiet skips (map (λ s. s.actor) ss)
+    ends c.valid_journals_are_sound.ensures scenario c.requires.valid c.as_slice.result.now (c.as_slice.ensures.value ∙ c.in-Ok.ensures) c.args.net.now.limit (seen net) cut quiet skips (map (λ s. s.actor) ss)
     e.lawful e.whole (subst (λ limit. journal_bytes mail_weight (seen net) ≤ limit) kept.stays.exchange.2 e.within) e.cut_is e.quiet_is e.skips_are (actors_of ss ∙ ap (map (λ seat. seat.actor)) e.left)
 
 pub returns-in-Full-clause-played : goal.returns-in-Full-clause-played
 returns-in-Full-clause-played g c =
     let scenario = c.args.scenario.now in
-    fills c.valid_scenarios_have_a_lone_group.ensures c.lone_journals_are_sound.ensures c.group_journals_are_sound.ensures scenario c.requires.valid c.as_slice.result.now (c.as_slice.ensures.value ∙ c.in-Ok.ensures) c.args.net.now.limit (seen c.drive.new.net)
+    fills c.valid_journals_are_sound.ensures scenario c.requires.valid c.as_slice.result.now (c.as_slice.ensures.value ∙ c.in-Ok.ensures) c.args.net.now.limit (seen c.drive.new.net)
     (c.in-Full.ensures.driven no_words (births as_nodes scenario) c.requires.begins)
