@@ -5,7 +5,9 @@ use Rattle.std.proofs.lemmas.Bool.{cases_Bool, cond-false, ne_eqb}
 use Rattle.std.proofs.lemmas.Option.{none-some}
 use Rattle.clap.specs.Walk.{Row, Text}
 use Rattle.clap.specs.Takes.{takes}
-use Rattle.clap.specs.Simple.{subcommand_of}
+use Rattle.clap.specs.Simple.{App, is_simple, subcommand_of}
+use Rattle.clap.specs.declared.error.kind.ErrorKind.{ErrorKind}
+use Rattle.clap.specs.declared.error.kind.ErrorKind.TheVariants.{OutOfMemory}
 use Rattle.clap.proofs.OnLiterals.{clap_on_literals}
 use Rattle.sc_lines.specs.Words.{same, nth}
 use Rattle.sc_words.specs.Asked.{is_run, is_make, make_of, asked_by, has_dash, is_plain}
@@ -28,6 +30,9 @@ run_or_make false true dash h f = refl
 run_or_make false false dash h f = absurd (true≢false (sym h))
 
 -- ---- it is given back
+
+simple : is_simple scatter_app ≡ true
+simple = refl
 
 run_alone : asked_in 1 (subcommand_of scatter_app (codes "run" ∷ [])) ≡ Some Run
 unfolding clap_on_literals
@@ -122,3 +127,20 @@ taken (word ∷ []) plain = one_taken word plain
 taken (word ∷ next ∷ []) plain = λ refused. refl
 taken (word ∷ count ∷ seed ∷ []) plain = three_taken word count seed plain
 taken (word ∷ count ∷ seed ∷ more ∷ words) plain = λ refused. other_count (word ∷ count ∷ seed ∷ more ∷ words) (λ e. omega (arith, e)) (λ e. omega (arith, e))
+
+-- what a parse of plain words gave is what they ask for
+pub read_back : (X : Type 0) (words : List Text) (n : ℕ) (app : App) (found : Option (Text × List Row)) → app ≡ scatter_app → n ≡ length words → is_plain words ≡ true
+    → (is_simple app ≡ true → X × (found ≡ subcommand_of app words)) → asked_in n found ≡ asked_by words
+read_back X words n app found app_is counted plain matches =
+    ap (λ n. asked_in n found) counted
+    ∙ ap (asked_in (length words)) ((matches (ap is_simple app_is ∙ simple)).1 ∙ ap (λ a. subcommand_of a words) app_is)
+    ∙ given_back words plain
+
+-- words at which a parse failed, not for want of memory, ask for nothing
+pub not_taken : (words : List Text) (app : App) (kind : ErrorKind) → app ≡ scatter_app → is_plain words ≡ true
+    → (takes app words ≡ true → kind ≡ OutOfMemory) → (kind ≡ OutOfMemory → ⊥) → asked_by words ≡ None
+not_taken words app kind app_is plain passes other =
+    elim (cases_Bool (takes scatter_app words)) [
+      | inl t ↦ absurd (other (passes (ap (λ a. takes a words) app_is ∙ t)))
+      | inr f ↦ taken words plain f
+    ]

@@ -1,5 +1,5 @@
 -- What the words behind a program's name ask for: `run`, or `make N S`.
-use Rattle.std.specs.Prelude.{ℕ, ◌==◌, ◌&&◌, ◌||◌, not, get_or, Bool, List, length, codes, Option, Some, None, if◌then◌else◌, option_and_then}
+use Rattle.std.specs.Prelude.{ℕ, ⊤, ◌≤◌, ◌==◌, ◌&&◌, ◌||◌, not, get_or, Bool, List, length, codes, Option, Some, None, if◌then◌else◌, option_and_then}
 use Rattle.std.specs.List.{list_any}
 use Rattle.std.specs.Option.{option_map}
 use Rattle.sc_base.specs.Limits.{most_requests}
@@ -30,6 +30,11 @@ asked_by words =
     if is_run words then Some Run
     else if is_make words then make_of (nth words 1) (nth words 2)
     else None
+
+-- a made scenario has 1 to 1,000 requests a client
+abbrev pub IsInRange : Asked → Type 0
+IsInRange Run = ⊤
+IsInRange (Make n seed) = (1 ≤ n) × (n ≤ most_requests)
 
 -- whether a word begins with a dash
 abbrev pub has_dash : List ℕ → Bool

@@ -1,15 +1,16 @@
 //! The words, parsed by clap.
-ghost use Rattle.std.specs.Prelude.{◌≡◌, ◌==◌, ◌||◌, true, false, List, length, map, string_bytes, codes, IfOk, OnOk, MatchResult};
+ghost use Rattle.std.specs.Prelude.{◌≡◌, ◌≢◌, true, false, map, string_bytes, None, Some, IfOk, IfSome};
 ghost use Rattle.std.specs.List.{list_any};
-ghost use Rattle.sc_lines.specs.Words.{same, nth};
-ghost use Rattle.clap.specs.Words.{Row, app_of, found_of, kind_of, rows_of, subcommand_rows_of, takes};
-ghost use Rattle.clap.specs.Simple.{subcommand_of};
-ghost use Rattle.sc_words.specs.Asked.{has_dash, is_plain, make_of, asked_by};
+ghost use Rattle.std.specs.Option.{option_map};
+ghost use Rattle.sc_lines.specs.Words.{nth};
+ghost use Rattle.clap.specs.Words.{app_of, fields_of, first_of, found_of, kind_of, rows_of, subcommand_rows_of};
+ghost use Rattle.sc_words.specs.Asked.{has_dash, is_plain, is_run, make_of, asked_by, IsInRange};
 ghost use Rattle.sc_words.specs.Commands.{make_app, scatter_app, make_in, asked_as, asked_in};
+ghost use Rattle.sc_words.specs.declared.asked.Asked.TheVariants.{Run};
 
 use crate::asked::Asked;
 use clap::error::ErrorKind;
-use clap::{Arg, ArgMatches, Command};
+use clap::{Arg, ArgMatches, Command, Error};
 use sc_base::{OutOfMemory, read_number};
 use sc_lines::{count_in, is_text};
 use std::alloc::{AllocError, Global};
@@ -36,10 +37,16 @@ fn has_dash(word: &str) -> bool
     !bytes.is_empty() && bytes[0] == b'-'
 }
 
+fn any_dash(words: &[String]) -> bool
+    ensures { result ≡ list_any (λ word. has_dash (string_bytes word)) words.now }
+{
+    words.iter().any(|word| has_dash(word.as_str()))
+}
+
 fn have_dash(words: &[String]) -> bool
     ensures { result ≡ list_any has_dash (map string_bytes words.now) }
 {
-    words.iter().any(|word| has_dash(word.as_str()))
+    any_dash(words)
 }
 
 // Whether the first word is `run` or `make`, and no word begins with a dash.
@@ -51,7 +58,8 @@ fn is_plain(words: &[String]) -> bool
 }
 
 fn make_command<'a>(alloc: Global) -> Result<Command<'a>, AllocError>
-    ensures { IfOk result (λ command. app_of command ≡ make_app) }
+    ensures app { IfOk result (λ command. app_of command ≡ make_app) }
+    ensures local { IfOk result (λ command. (fields_of command).has_globals ≡ false) }
 {
     let count = Arg::new(alloc, "N").required(true);
     let seed = Arg::new(alloc, "S").required(true);
@@ -75,11 +83,28 @@ fn make_of(count: &str, seed: &str) -> Option<Asked>
     Some(Asked::Make { n, seed })
 }
 
+// The value of an argument.
+fn value_of<'a>(matches: &ArgMatches<'a>, id: &str) -> Option<&'a str>
+    ensures { option_map (λ value. value.now) result
+        ≡ first_of id.now (rows_of (found_of matches.now)) }
+{
+    matches.get_str(id)
+}
+
+#[tactic(auto, using(
+    crate::proofs::Values::no_count,
+    crate::proofs::Values::no_seed,
+    crate::proofs::Values::both
+))]
 fn make_in(matches: &ArgMatches) -> Option<Asked>
     ensures { result ≡ make_in (rows_of (found_of matches.now)) }
 {
-    let count = matches.get_str("N")?;
-    let seed = matches.get_str("S")?;
+    let Some(count) = value_of(matches, "N") else {
+        return None;
+    };
+    let Some(seed) = value_of(matches, "S") else {
+        return None;
+    };
     make_of(count, seed)
 }
 
@@ -98,8 +123,20 @@ fn asked_as(count: usize, name: &str, matches: &ArgMatches) -> Option<Asked>
 fn asked_in(count: usize, matches: &ArgMatches) -> Option<Asked>
     ensures { result ≡ asked_in count (subcommand_rows_of matches.now) }
 {
-    let (name, inner) = matches.subcommand()?;
+    let Some((name, inner)) = matches.subcommand() else {
+        return None;
+    };
     asked_as(count, name, inner)
+}
+
+// What words that were refused ask for: nothing, unless memory was short.
+fn refused(error: &Error) -> Result<Option<Asked>, OutOfMemory>
+    ensures { IfOk result (λ asked. (asked ≡ None) × (kind_of error.now ≢ ErrorKind.OutOfMemory)) }
+{
+    match error.kind() {
+        ErrorKind::OutOfMemory => Err(OutOfMemory),
+        _ => Ok(None),
+    }
 }
 
 fn parsed(alloc: Global, words: &[String]) -> Result<Option<Asked>, OutOfMemory>
@@ -109,8 +146,7 @@ fn parsed(alloc: Global, words: &[String]) -> Result<Option<Asked>, OutOfMemory>
     let command = command(alloc)?;
     match command.try_get_matches_from(words) {
         Ok(matches) => Ok(asked_in(words.len(), &matches)),
-        Err(error) if error.kind() == ErrorKind::OutOfMemory => Err(OutOfMemory),
-        Err(_) => Ok(None),
+        Err(error) => refused(&error),
     }
 }
 
@@ -120,7 +156,10 @@ fn parsed(alloc: Global, words: &[String]) -> Result<Option<Asked>, OutOfMemory>
 /// Words of which the first is neither `run` nor `make`, or of which one begins with a dash, are
 /// refused as they are; all others are parsed by clap.
 pub fn asked_by(alloc: Global, words: &[String]) -> Result<Option<Asked>, OutOfMemory>
-    ensures { IfOk result (λ asked. asked ≡ asked_by (map string_bytes words.now)) }
+    ensures asked { IfOk result (λ asked. asked ≡ asked_by (map string_bytes words.now)) }
+    ensures range { IfOk result (λ asked. IfSome asked IsInRange) }
+    ensures run { IfOk result
+        (λ asked. asked ≡ Some Run → is_run (map string_bytes words.now) ≡ true) }
 {
     if !is_plain(words) {
         return Ok(None);
