@@ -42,12 +42,12 @@ reaches p (x ∷ xs) all =
 none_hidden : (bytes : List ℕ) → list_all is_visible bytes ≡ true → position (λ byte. not (is_visible byte)) bytes ≡ None
 none_hidden bytes all =
     let end = reaches is_visible bytes all in
-    cond-false (ltb (prefix_len (λ x. not (not (is_visible x))) bytes) (length bytes)) _ None (le-ltb (length bytes) (prefix_len (λ x. not (not (is_visible x))) bytes) (omega (arith, end)))
+    cond-false (ltb (prefix_len (λ x. not (not (is_visible x))) bytes) (length bytes)) _ None (le-ltb (prefix_len (λ x. not (not (is_visible x))) bytes) (length bytes) (omega (arith, end)))
 
 no_fault : (most : ℕ) (bytes : List ℕ) → 1 ≤ length bytes → length bytes ≤ most → list_all is_visible bytes ≡ true → text_fault most bytes ≡ None
 no_fault most bytes some few all =
     cond-false (eqb (length bytes) 0) _ _ (ne_eqb (length bytes) 0 (λ e. omega (arith, e, some)))
-    ∙ cond-false (ltb most (length bytes)) _ _ (le-ltb (length bytes) most few)
+    ∙ cond-false (ltb most (length bytes)) _ _ (le-ltb most (length bytes) few)
     ∙ ap (option_map BadByte) (none_hidden bytes all)
 
 -- a made key is a key

@@ -145,11 +145,14 @@ early_group lo a low some most = record {
   members_in = three_up 9 a (a + 1) (a + 2) (some, omega (arith, most)) (omega arith, omega (arith, most)) (omega arith, omega (arith, most));
 }
 
+abbrev three_from : ℕ → ℕ → GroupLine
+three_from lo a = record { lo = lo; members = a ∷ (a + 1) ∷ (a + 2) ∷ [] }
+
 groups_early : All (IsEarlyGroup 9) made_groups
 groups_early =
-    All-cons (IsEarlyGroup 9) _ _ (early_group 0 1 (omega arith) (omega arith) (omega arith))
-    (All-cons (IsEarlyGroup 9) _ _ (early_group 1342177280 4 (omega arith) (omega arith) (omega arith))
-    (All-cons (IsEarlyGroup 9) _ [] (early_group 1744830464 7 (omega arith) (omega arith) (omega arith)) (All-nil (IsEarlyGroup 9))))
+    All-cons (IsEarlyGroup 9) (three_from 0 1) (three_from 1342177280 4 ∷ three_from 1744830464 7 ∷ []) (early_group 0 1 (omega arith) (omega arith) (omega arith))
+    (All-cons (IsEarlyGroup 9) (three_from 1342177280 4) (three_from 1744830464 7 ∷ []) (early_group 1342177280 4 (omega arith) (omega arith) (omega arith))
+    (All-cons (IsEarlyGroup 9) (three_from 1744830464 7) [] (early_group 1744830464 7 (omega arith) (omega arith) (omega arith)) (All-nil (IsEarlyGroup 9))))
 
 groups_rise : AllPairs Lower made_groups
 groups_rise zero zero d lt within = absurd (omega (arith, lt))

@@ -3,7 +3,8 @@ ghost use Rattle.std.specs.Prelude.{◌≡◌, ◌≢◌, true, false, map, stri
 ghost use Rattle.std.specs.List.{list_any};
 ghost use Rattle.std.specs.Option.{option_map};
 ghost use Rattle.sc_lines.specs.Words.{nth};
-ghost use Rattle.clap.specs.Words.{app_of, fields_of, first_of, found_of, kind_of, rows_of, subcommand_rows_of};
+ghost use Rattle.clap.specs.Words.{app_of, first_of, found_of, kind_of, rows_of, subcommand_rows_of};
+ghost use Rattle.clap.specs.declared.builder.command.Command.TheViews.{out-Command};
 ghost use Rattle.sc_words.specs.Asked.{has_dash, is_plain, is_run, make_of, asked_by, IsInRange};
 ghost use Rattle.sc_words.specs.Commands.{make_app, scatter_app, make_in, asked_as, asked_in};
 ghost use Rattle.sc_words.specs.declared.asked.Asked.TheVariants.{Run};
@@ -59,7 +60,7 @@ fn is_plain(words: &[String]) -> bool
 
 fn make_command<'a>(alloc: Global) -> Result<Command<'a>, AllocError>
     ensures app { IfOk result (λ command. app_of command ≡ make_app) }
-    ensures local { IfOk result (λ command. (fields_of command).has_globals ≡ false) }
+    ensures local { IfOk result (λ command. (out-Command command).has_globals ≡ false) }
 {
     let count = Arg::new(alloc, "N").required(true);
     let seed = Arg::new(alloc, "S").required(true);
