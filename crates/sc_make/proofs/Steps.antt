@@ -30,8 +30,7 @@ pub one_more_op : (start here there : ChanceStep) (n before k : ℕ) (ops more :
     → words ≡ two_words here.number here.step → there ≡ after_step here → op ≡ made_op words (before + 1) (k + 1) → more ≡ ops ++ op ∷ []
     → (more ≡ made_ops start.number n before (k + 1)) × (there ≡ record start { step = before * n + (k + 1) })
 one_more_op start here there n before k ops more words op few short within so_far drawn next is put =
-    let words_are : words ≡ two_words start.number (before * n + k) = drawn ∙ ap₂ two_words (ap (λ (c : ChanceStep). c.number) so_far.1) (ap (λ (c : ChanceStep). c.step) so_far.1) in
-    (
+    let words_are : words ≡ two_words start.number (before * n + k) = drawn ∙ ap₂ two_words (ap (λ (c : ChanceStep). c.number) so_far.1) (ap (λ (c : ChanceStep). c.step) so_far.1) in (
       put ∙ ap₂ (λ ops op. ops ++ op ∷ []) so_far.0 (is ∙ ap (λ words. made_op words (before + 1) (k + 1)) words_are) ∙ sym (ops_next start.number n before k),
       next ∙ ap after_step so_far.1 ∙ ap (λ step. record start { step = step }) (step_next n before k few short within),
     )
@@ -42,8 +41,7 @@ pub one_more_client : (seed n k : ℕ) (here there : ChanceStep) (clients more :
     → ops ≡ made_ops here.number n k n → there ≡ record here { step = k * n + n } → more ≡ clients ++ record { client = k + 1; ops = ops } ∷ []
     → (more ≡ made_clients seed n (k + 1)) × (there ≡ record { number = seed; step = (k + 1) * n })
 one_more_client seed n k here there clients more ops so_far is next put =
-    let seed_is = ap (λ (c : ChanceStep). c.number) so_far.1 in
-    (
+    let seed_is = ap (λ (c : ChanceStep). c.number) so_far.1 in (
       put ∙ ap₂ (λ (clients : List Asks) ops. clients ++ record { client = k + 1; ops = ops } ∷ []) so_far.0 (is ∙ ap (λ seed. made_ops seed n k n) seed_is) ∙ sym (clients_next seed n k),
       next ∙ ap₂ (λ number step. record { number = number; step = step }) seed_is (next_start n k),
     )

@@ -57,12 +57,7 @@ fn made_value(alloc: Global, number: u16) -> Result<Value, OutOfMemory>
 }
 
 // A client's request of this number, by its two words.
-fn made_op(
-    alloc: Global,
-    words: (u32, u32),
-    client: u16,
-    number: u16,
-) -> Result<Op, OutOfMemory>
+fn made_op(alloc: Global, words: (u32, u32), client: u16, number: u16) -> Result<Op, OutOfMemory>
     ensures { IfOk result (λ op. op ≡ made_op words client number) }
 {
     let key = made_key(alloc, words.1, client)?;

@@ -99,7 +99,7 @@ is_made_client seed n (suc k) j lt =
       | inr ge ↦ (
           let same : k + 1 ≡ j + 1 = omega (arith, lt, ge) in
           ap (λ b. is_client (made_clients seed n k) (j + 1) || (b || false)) (eq-eqb (k + 1) (j + 1) same) ∙ found_last (is_client (made_clients seed n k) (j + 1))
-      )
+          )
     ]
 
 goes_more : (k : ℕ) → made_goes (suc k) ≡ made_goes k ++ Go (k + 1) ∷ []

@@ -69,7 +69,7 @@ one_back word plain =
       | inr not_run ↦ (
           let make = run_or_make (same word (codes "run")) (same word (codes "make")) _ plain not_run in
           subst (λ w. GivesBack (w ∷ [])) (sym (same_text word (codes "make") (sym make))) make_alone
-      )
+          )
     ]
 
 three_back : (word count seed : Text) → is_plain (word ∷ count ∷ seed ∷ []) ≡ true → GivesBack (word ∷ count ∷ seed ∷ [])
@@ -82,7 +82,7 @@ three_back word count seed plain =
           let plain_make : is_plain (codes "make" ∷ count ∷ seed ∷ []) ≡ true = subst (λ w. is_plain (w ∷ count ∷ seed ∷ []) ≡ true) e plain in
           let clear = no_dash (has_dash count) (has_dash seed) plain_make in
           subst (λ w. GivesBack (w ∷ count ∷ seed ∷ [])) (sym e) (ap (asked_in 3) (make_found count seed clear.0 clear.1) ∙ make_read count seed)
-      )
+          )
     ]
 
 -- plain words come out as what they ask for
@@ -116,7 +116,7 @@ three_taken word count seed plain =
           let plain_make : is_plain (codes "make" ∷ count ∷ seed ∷ []) ≡ true = subst (λ w. is_plain (w ∷ count ∷ seed ∷ []) ≡ true) e plain in
           let clear = no_dash (has_dash count) (has_dash seed) plain_make in
           subst (λ w. IsTaken (w ∷ count ∷ seed ∷ [])) (sym e) (λ refused. absurd (true≢false (sym (make_taken count seed clear.0 clear.1) ∙ refused)))
-      )
+          )
       | inr not_make ↦ λ refused. cond-false (same word (codes "make")) (make_of count seed) None not_make
     ]
 

@@ -54,8 +54,7 @@ fn have_dash(words: &[String]) -> bool
 fn is_plain(words: &[String]) -> bool
     ensures { result ≡ is_plain (map string_bytes words.now) }
 {
-    (is_text(first_word(words), b"run") || is_text(first_word(words), b"make"))
-        && !have_dash(words)
+    (is_text(first_word(words), b"run") || is_text(first_word(words), b"make")) && !have_dash(words)
 }
 
 fn make_command<'a>(alloc: Global) -> Result<Command<'a>, AllocError>
@@ -92,11 +91,7 @@ fn value_of<'a>(matches: &ArgMatches<'a>, id: &str) -> Option<&'a str>
     matches.get_str(id)
 }
 
-#[tactic(auto, using(
-    crate::proofs::Values::no_count,
-    crate::proofs::Values::no_seed,
-    crate::proofs::Values::both
-))]
+#[tactic(auto, using(crate::proofs::Values::no_count, crate::proofs::Values::no_seed, crate::proofs::Values::both))]
 fn make_in(matches: &ArgMatches) -> Option<Asked>
     ensures { result ≡ make_in (rows_of (found_of matches.now)) }
 {
