@@ -19,5 +19,5 @@ words_drawn number g h k a b key stream even below first second =
     let a_is = ap (λ (p : ℕ × ChaCha). p.0) first ∙ same_word g.key (key_of (seed_of number)) g.stream g.word_pos (2 * (g.word_pos / 2)) key stream even in
     let b_is = ap (λ (p : ℕ × ChaCha). p.0) second
     ∙ same_word h.key (key_of (seed_of number)) h.stream h.word_pos (2 * (g.word_pos / 2) + 1) (ap (λ (x : ChaCha). x.key) h_is ∙ key) (ap (λ (x : ChaCha). x.stream) h_is ∙ stream)
-      (ap (λ (x : ChaCha). x.word_pos) h_is ∙ even_more g.word_pos even below) in
+    (ap (λ (x : ChaCha). x.word_pos) h_is ∙ even_more g.word_pos even below) in
     ap₂ (λ x y. (x, y)) a_is b_is
