@@ -1,4 +1,5 @@
 mod Clients
+pub mod Made
 mod Records
 mod Results
 mod Rosters

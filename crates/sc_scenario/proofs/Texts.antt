@@ -24,7 +24,7 @@ use Rattle.sc_scenario.specs.Statements.{group_in, statement_in}
 use Rattle.sc_scenario.specs.Places.{is_built, phase_so_far, may_follow, is_in_place}
 use Rattle.sc_scenario.specs.Taking.{is_order_known, is_line_known, is_above, most_groups, most_members, with_group_line, has_stranger, group_taken, client_place, with_client, with_request, client_taken, request_taken, with_line, telling_of, with_order, line_taken, telling_taken, taken_outside, taken_within}
 use Rattle.sc_scenario.specs.Grammar.{begun, are_two, header_read, said, built_kind, words_read, is_fresh, line_read, scenario_by, reading_ended, text_ended, going_on, lines_read, verdict_of}
-use Rattle.sc_scenario.specs.Valid.{IsEarly, IsEarlyGroup, IsEarlyClient, IsEarlyLine, IsUpTo, TextsAreEarly}
+use Rattle.sc_scenario.specs.Valid.{IsWritten, IsEarly, IsEarlyGroup, IsEarlyClient, IsEarlyLine, IsUpTo, TextsAreEarly}
 use Rattle.sc_lines.specs.declared.reasons.Reason.{Reason}
 use Rattle.sc_lines.specs.declared.reasons.Reason.TheVariants.{MissingHeader, BadByte, UnknownWord, OutOfPlace, WrongCount, BadNumber, UnknownName, Repeated, BadBoundary, TooMany}
 use Rattle.sc_lines.specs.declared.kinds.Kind.{Kind}
@@ -44,6 +44,7 @@ use Rattle.sc_lines.proofs.Choices.{chosen, is_up_to, counted}
 use Rattle.sc_scenario.proofs.Results.{err_ok, same_Ok, given_ok, after_ok, passed, met}
 use Rattle.sc_scenario.proofs.Rosters.{roster_one}
 use Rattle.sc_scenario.proofs.Clients.{Below, all_inserted, rising_with}
+use Rattle.sc_scenario.proofs.Made.{made_early}
 use Rattle.sc_scenario.proofs.Spelled.{joined_is, joined_all, nodes_up, no_stranger, node_is, Played, line_is, Ordered, order_is}
 use Rattle.sc_scenario.proofs.Starts.{Lower, above_push}
 
@@ -343,7 +344,6 @@ draft_is draft is some filled = record {
   clients = is.clients;
   ascending = is.rising;
   lines = is.lines;
-  brief = refl;
   version = is.version;
 }
 
@@ -371,5 +371,10 @@ some_ok (Ok x) scenario e = ap (λ s. Ok s) (same_Some x scenario e)
 some_ok (Err f) scenario e = absurd (none-some scenario e)
 
 -- what a text gives is of the early form
+written_early : (scenario : Scenario) → IsWritten scenario → IsEarly scenario
+written_early scenario valid = lines_are (is_too_long valid.text) (lines_of valid.text) 1 Fresh scenario tt (some_ok (verdict_of valid.text) scenario valid.read)
+
+-- so is what is made
 pub texts_early : TextsAreEarly
-texts_early scenario valid = lines_are (is_too_long valid.text) (lines_of valid.text) 1 Fresh scenario tt (some_ok (verdict_of valid.text) scenario valid.read)
+texts_early scenario (inl written) = written_early scenario written
+texts_early scenario (inr made) = subst IsEarly made.is (made_early made.n made.seed made.few)

@@ -5,4 +5,5 @@ pub mod Statements
 pub mod Places
 pub mod Taking
 pub mod Grammar
+pub mod Made
 pub mod Valid

@@ -1,4 +1,4 @@
--- Scenarios that some text is.
+-- Scenarios that some text is, or that are made.
 use Rattle.std.specs.Prelude.{◌≡◌, ◌<◌, ◌≤◌, ℕ, ◌+◌, ◌^◌, false, true, List, Some, length, take, All, ◌⊎◌}
 use Rattle.std.specs.List.{AllPairs}
 use Rattle.sc_member.specs.Roster.{IsRoster}
@@ -10,6 +10,7 @@ use Rattle.sc_scenario.specs.Schedules.{is_client, most_mails, most_deliveries, 
 use Rattle.sc_lines.specs.Lines.{most_bytes}
 use Rattle.sc_scenario.specs.Taking.{most_groups}
 use Rattle.sc_scenario.specs.Grammar.{verdict_of, scenario_of}
+use Rattle.sc_scenario.specs.Made.{IsMade}
 use Rattle.sc_scenario.specs.declared.drafts.GroupLine.{GroupLine}
 use Rattle.sc_scenario.specs.declared.scenarios.Asks.{Asks}
 use Rattle.sc_scenario.specs.declared.scenarios.Scenario.{Scenario}
@@ -17,9 +18,13 @@ use Rattle.sc_scenario.specs.declared.scenarios.SchedLine.{SchedLine}
 use Rattle.sc_scenario.specs.declared.scenarios.SchedLine.TheVariants.{Go, Deliver, Drop, Again, Tick, Crash, Told, Settle, Free, Storm}
 
 -- some text is this scenario
-pub record IsValid (scenario : Scenario) : Type 0 where
+pub record IsWritten (scenario : Scenario) : Type 0 where
   pub text : List ℕ
   pub read : scenario_of text ≡ Some scenario
+
+-- a scenario that may be run: some text is it, or it is made
+abbrev pub IsValid : Scenario → Type 0
+IsValid scenario = IsWritten scenario ⊎ IsMade scenario
 
 -- a number from 1 to the most
 abbrev pub IsUpTo : ℕ → ℕ → Type 0
@@ -74,10 +79,9 @@ pub record IsEarly (scenario : Scenario) : Type 0 where
   pub clients : All IsEarlyClient scenario.clients
   pub ascending : AllPairs (λ (one other : Asks). one.client < other.client) scenario.clients
   pub lines : All (IsEarlyLine scenario.nodes scenario.clients) scenario.lines
-  pub brief : scenario.brief ≡ false
   pub version : (scenario.version ≡ 1) ⊎ (scenario.version ≡ 2)
 
--- every scenario that some text is has the early form
+-- every valid scenario has the early form
 abbrev pub TextsAreEarly : Type 0
 TextsAreEarly = (scenario : Scenario) → IsValid scenario → IsEarly scenario
 

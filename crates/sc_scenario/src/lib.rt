@@ -11,6 +11,8 @@ mod schedules;
 mod statements;
 mod taking;
 
+pub use drafts::GroupLine;
+pub use groups::bases_of;
 pub use reading::{
     INPUT_LIMIT, LINE_LIMIT, ScenarioFault, first_bytes_decide, read_scenario, texts_are_early,
 };
