@@ -1,0 +1,4 @@
+mod Parses
+mod Plain
+mod Shapes
+mod Values

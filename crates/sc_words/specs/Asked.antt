@@ -1,0 +1,45 @@
+-- What the words behind a program's name ask for: `run`, or `make N S`.
+use Rattle.std.specs.Prelude.{ℕ, ⊤, ◌≤◌, ◌==◌, ◌&&◌, ◌||◌, not, get_or, Bool, List, length, codes, Option, Some, None, if◌then◌else◌, option_and_then}
+use Rattle.std.specs.List.{list_any}
+use Rattle.std.specs.Option.{option_map}
+use Rattle.sc_base.specs.Limits.{most_requests}
+use Rattle.sc_base.specs.Number.{number_of}
+use Rattle.sc_lines.specs.Words.{same, nth, count_in}
+use Rattle.sc_words.specs.declared.asked.Asked.{Asked}
+use Rattle.sc_words.specs.declared.asked.Asked.TheVariants.{Run, Make}
+
+-- the one word `run`
+abbrev pub is_run : List (List ℕ) → Bool
+is_run words = (length words == 1) && same (nth words 0) (codes "run")
+
+-- the word `make` and two others
+abbrev pub is_make : List (List ℕ) → Bool
+is_make words = (length words == 3) && same (nth words 0) (codes "make")
+
+-- the greatest seed
+abbrev pub last_seed : ℕ
+last_seed = 18446744073709551615
+
+-- what two words behind `make` spell: 1 to 1,000 requests a client, and a seed
+abbrev pub make_of : List ℕ → List ℕ → Option Asked
+make_of count seed = option_and_then (λ n. option_map (λ s. Make n s) (number_of seed last_seed)) (count_in most_requests count)
+
+-- what words ask for
+abbrev pub asked_by : List (List ℕ) → Option Asked
+asked_by words =
+    if is_run words then Some Run
+    else if is_make words then make_of (nth words 1) (nth words 2)
+    else None
+
+-- a made scenario has 1 to 1,000 requests a client
+abbrev pub IsInRange : Asked → Type 0
+IsInRange Run = ⊤
+IsInRange (Make n seed) = (1 ≤ n) × (n ≤ most_requests)
+
+-- whether a word begins with a dash
+abbrev pub has_dash : List ℕ → Bool
+has_dash word = get_or word 0 0 == 45
+
+-- the first word is `run` or `make`, and no word begins with a dash
+abbrev pub is_plain : List (List ℕ) → Bool
+is_plain words = (same (nth words 0) (codes "run") || same (nth words 0) (codes "make")) && not (list_any has_dash words)

@@ -1,0 +1,37 @@
+-- The command line as clap knows it.
+use Rattle.std.specs.Prelude.{ℕ, ◌==◌, ◌&&◌, true, List, [], ◌∷◌, codes, Option, None, Some, if◌then◌else◌, option_and_then}
+use Rattle.clap.specs.Words.{App, Row, Rule, Shape, Text, first_of, new_app, new_rule, with_rule, with_subcommand}
+use Rattle.clap.specs.Simple.{new_shape, on_top}
+use Rattle.sc_lines.specs.Words.{same}
+use Rattle.sc_words.specs.Asked.{make_of}
+use Rattle.sc_words.specs.declared.asked.Asked.{Asked}
+use Rattle.sc_words.specs.declared.asked.Asked.TheVariants.{Run, Make}
+
+-- a word that must be there, by its name
+abbrev pub word_rule : Text → Rule
+word_rule id = record (new_rule id) { required = true }
+
+-- `make N S`
+abbrev pub make_app : App
+make_app = with_rule (with_rule (new_app (codes "make")) (word_rule (codes "N"))) (word_rule (codes "S"))
+
+-- `scatter`, with the subcommands `run` and `make`
+abbrev pub scatter_app : App
+scatter_app =
+    with_subcommand (with_subcommand (on_top (λ s. record s { no_binary_name = true }) (new_app (codes "scatter"))) (new_app (codes "run")).top) make_app.top
+
+-- what the values of `make` spell
+abbrev pub make_in : List Row → Option Asked
+make_in rows = option_and_then (λ count. option_and_then (λ seed. make_of count seed) (first_of (codes "S") rows)) (first_of (codes "N") rows)
+
+-- what a subcommand of so many words asks for
+abbrev pub asked_as : ℕ → Text → List Row → Option Asked
+asked_as count name rows =
+    if (count == 1) && same name (codes "run") then Some Run
+    else if (count == 3) && same name (codes "make") then make_in rows
+    else None
+
+-- the same of the one that was met, if one was
+abbrev pub asked_in : ℕ → Option (Text × List Row) → Option Asked
+asked_in count None = None
+asked_in count (Some met) = asked_as count met.0 met.1

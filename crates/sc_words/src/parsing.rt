@@ -1,0 +1,164 @@
+//! The words, parsed by clap.
+ghost use Rattle.std.specs.Prelude.{◌≡◌, ◌≢◌, true, false, map, string_bytes, None, Some, IfOk, IfSome};
+ghost use Rattle.std.specs.List.{list_any};
+ghost use Rattle.std.specs.Option.{option_map};
+ghost use Rattle.sc_lines.specs.Words.{nth};
+ghost use Rattle.clap.specs.Words.{app_of, first_of, found_of, kind_of, rows_of, subcommand_rows_of};
+ghost use Rattle.clap.specs.declared.builder.command.Command.TheViews.{out-Command};
+ghost use Rattle.sc_words.specs.Asked.{has_dash, is_plain, is_run, make_of, asked_by, IsInRange};
+ghost use Rattle.sc_words.specs.Commands.{make_app, scatter_app, make_in, asked_as, asked_in};
+ghost use Rattle.sc_words.specs.declared.asked.Asked.TheVariants.{Run};
+
+use crate::asked::Asked;
+use clap::error::ErrorKind;
+use clap::{Arg, ArgMatches, Command, Error};
+use sc_base::{OutOfMemory, read_number};
+use sc_lines::{count_in, is_text};
+use std::alloc::{AllocError, Global};
+
+const MOST_REQUESTS: u32 = 1_000;
+
+const LAST_SEED: u64 = 18_446_744_073_709_551_615;
+
+// The first word, or the empty text where there is none.
+fn first_word(words: &[String]) -> &[u8]
+    ensures { result.now ≡ nth (map string_bytes words.now) 0 }
+{
+    if 0 < words.len() {
+        words[0].as_bytes()
+    } else {
+        b""
+    }
+}
+
+fn has_dash(word: &str) -> bool
+    ensures { result ≡ has_dash word.now }
+{
+    let bytes = word.as_bytes();
+    !bytes.is_empty() && bytes[0] == b'-'
+}
+
+fn any_dash(words: &[String]) -> bool
+    ensures { result ≡ list_any (λ word. has_dash (string_bytes word)) words.now }
+{
+    words.iter().any(|word| has_dash(word.as_str()))
+}
+
+fn have_dash(words: &[String]) -> bool
+    ensures { result ≡ list_any has_dash (map string_bytes words.now) }
+{
+    any_dash(words)
+}
+
+// Whether the first word is `run` or `make`, and no word begins with a dash.
+fn is_plain(words: &[String]) -> bool
+    ensures { result ≡ is_plain (map string_bytes words.now) }
+{
+    (is_text(first_word(words), b"run") || is_text(first_word(words), b"make")) && !have_dash(words)
+}
+
+fn make_command<'a>(alloc: Global) -> Result<Command<'a>, AllocError>
+    ensures app { IfOk result (λ command. app_of command ≡ make_app) }
+    ensures local { IfOk result (λ command. (out-Command command).has_globals ≡ false) }
+{
+    let count = Arg::new(alloc, "N").required(true);
+    let seed = Arg::new(alloc, "S").required(true);
+    Command::new(alloc, "make").arg(count)?.arg(seed)
+}
+
+fn command<'a>(alloc: Global) -> Result<Command<'a>, AllocError>
+    ensures { IfOk result (λ command. app_of command ≡ scatter_app) }
+{
+    let run = Command::new(alloc, "run");
+    let make = make_command(alloc)?;
+    let scatter = Command::new(alloc, "scatter").no_binary_name(true);
+    scatter.subcommand(run)?.subcommand(make)
+}
+
+fn make_of(count: &str, seed: &str) -> Option<Asked>
+    ensures { result ≡ make_of count.now seed.now }
+{
+    let n = count_in(count.as_bytes(), MOST_REQUESTS)?;
+    let seed = read_number(seed.as_bytes(), LAST_SEED)?;
+    Some(Asked::Make { n, seed })
+}
+
+// The value of an argument.
+fn value_of<'a>(matches: &ArgMatches<'a>, id: &str) -> Option<&'a str>
+    ensures { option_map (λ value. value.now) result
+        ≡ first_of id.now (rows_of (found_of matches.now)) }
+{
+    matches.get_str(id)
+}
+
+#[tactic(auto, using(crate::proofs::Values::no_count, crate::proofs::Values::no_seed, crate::proofs::Values::both))]
+fn make_in(matches: &ArgMatches) -> Option<Asked>
+    ensures { result ≡ make_in (rows_of (found_of matches.now)) }
+{
+    let Some(count) = value_of(matches, "N") else {
+        return None;
+    };
+    let Some(seed) = value_of(matches, "S") else {
+        return None;
+    };
+    make_of(count, seed)
+}
+
+fn asked_as(count: usize, name: &str, matches: &ArgMatches) -> Option<Asked>
+    ensures { result ≡ asked_as count name.now (rows_of (found_of matches.now)) }
+{
+    if count == 1 && is_text(name.as_bytes(), b"run") {
+        return Some(Asked::Run);
+    }
+    if count == 3 && is_text(name.as_bytes(), b"make") {
+        return make_in(matches);
+    }
+    None
+}
+
+fn asked_in(count: usize, matches: &ArgMatches) -> Option<Asked>
+    ensures { result ≡ asked_in count (subcommand_rows_of matches.now) }
+{
+    let Some((name, inner)) = matches.subcommand() else {
+        return None;
+    };
+    asked_as(count, name, inner)
+}
+
+// What words that were refused ask for: nothing, unless memory was short.
+fn refused(error: &Error) -> Result<Option<Asked>, OutOfMemory>
+    ensures { IfOk result (λ asked. (asked ≡ None) × (kind_of error.now ≢ ErrorKind.OutOfMemory)) }
+{
+    match error.kind() {
+        ErrorKind::OutOfMemory => Err(OutOfMemory),
+        _ => Ok(None),
+    }
+}
+
+fn parsed(alloc: Global, words: &[String]) -> Result<Option<Asked>, OutOfMemory>
+    requires { is_plain (map string_bytes words.now) ≡ true }
+    ensures { IfOk result (λ asked. asked ≡ asked_by (map string_bytes words.now)) }
+{
+    let command = command(alloc)?;
+    match command.try_get_matches_from(words) {
+        Ok(matches) => Ok(asked_in(words.len(), &matches)),
+        Err(error) => refused(&error),
+    }
+}
+
+/// What the words behind a program's name ask for: `run`, or `make N S` with N from 1 to 1,000 and
+/// S from 0 to 2^64 - 1. None where they are none of these.
+///
+/// Words of which the first is neither `run` nor `make`, or of which one begins with a dash, are
+/// refused as they are; all others are parsed by clap.
+pub fn asked_by(alloc: Global, words: &[String]) -> Result<Option<Asked>, OutOfMemory>
+    ensures asked { IfOk result (λ asked. asked ≡ asked_by (map string_bytes words.now)) }
+    ensures range { IfOk result (λ asked. IfSome asked IsInRange) }
+    ensures run { IfOk result
+        (λ asked. asked ≡ Some Run → is_run (map string_bytes words.now) ≡ true) }
+{
+    if !is_plain(words) {
+        return Ok(None);
+    }
+    parsed(alloc, words)
+}
