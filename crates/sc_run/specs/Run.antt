@@ -6,6 +6,7 @@ use Rattle.sc_cmd.specs.declared.orders.OrderLine.{OrderLine}
 use Rattle.sc_mail.specs.declared.bodies.Mail.{Mail}
 use Rattle.sc_actor.specs.declared.rows.Row.{Row}
 use Rattle.sc_actor.specs.Walk.{unsettled}
+use Rattle.sc_scenario.specs.Made.{made_scenario}
 use Rattle.sc_scenario.specs.Valid.{IsValid}
 use Rattle.sc_actor.specs.Counted.{journal_bytes}
 use Rattle.sc_scenario.specs.declared.reading.ScenarioFault.TheVariants.{Bad}
@@ -18,7 +19,10 @@ use Rattle.sc_run.specs.Played.{mail_weight, HasFilled}
 use Rattle.sc_run.specs.declared.done.Text.{Text}
 use Rattle.sc_run.specs.declared.done.Done.{Done}
 use Rattle.sc_statuses.specs.Causes.{Prints}
-use Rattle.sc_statuses.specs.Wants.{is_run, fault_text, ReadsAs}
+use Rattle.sc_words.specs.Asked.{asked_by}
+use Rattle.sc_words.specs.declared.asked.Asked.{Asked}
+use Rattle.sc_words.specs.declared.asked.Asked.TheVariants as ask
+use Rattle.sc_statuses.specs.Wants.{fault_text, ReadsAs}
 use Rattle.sc_statuses.specs.declared.said.Said.{Said}
 use Rattle.sc_statuses.specs.declared.said.Said.TheVariants.{Ended, Unsettled, Filled, Usage, BadScenario, ReadFault}
 use Rattle.sc_actor.specs.System.{no_words}
@@ -99,10 +103,15 @@ Reads left before now Usage text = ⊥
 Reads left before now BadScenario text = ReadsAndRefuses left text
 Reads left before now ReadFault text = Rose before now × Tells (codes "read fault") text
 
+-- What a text says that was begun where the words ask for this: the usage line, what was read, or what comes of a made scenario.
+abbrev pub SaysFor : Option Asked → Option (List ℕ) → ℕ → ℕ → Said → Text → Type 0
+SaysFor None left before now said text = (said ≡ Usage) × Tells usage text
+SaysFor (Some ask.Run) left before now said text = Reads left before now said text
+SaysFor (Some (ask.Make n seed)) left before now said text = IsValid (made_scenario n seed) × ReportsAs said (made_scenario n seed) text
+
 -- the same for any words
 abbrev pub Says : List (List ℕ) → Option (List ℕ) → ℕ → ℕ → Said → Text → Type 0
-Says words left before now said text =
-    ((is_run words ≡ true) × Reads left before now said text) ⊎ ((is_run words ≡ false) × (said ≡ Usage) × Tells usage text)
+Says words left before now said text = SaysFor (asked_by words) left before now said text
 
 -- A text was begun and printed, and the run hands back what it was about.
 pub record Printed (words : List (List ℕ)) (left : Option (List ℕ)) (reads reads' : ℕ) (held held' : Option (List ℕ)) (writes writes' : ℕ) (done : Done) : Type 0 where

@@ -1,6 +1,7 @@
 //! From the words and bytes that come in to the bytes that go out.
 ghost use Rattle.std.specs.Prelude.{◌≡◌, map, false, string_bytes, IfOk};
-ghost use Rattle.sc_statuses.specs.Wants.{is_run, fault_text};
+ghost use Rattle.sc_words.specs.Asked.{is_run};
+ghost use Rattle.sc_statuses.specs.Wants.{fault_text};
 ghost use Rattle.sc_statuses.specs.declared.said.Said.TheVariants.{BadScenario};
 ghost use Rattle.sc_run.specs.Run.{Tells, Says, Runs};
 
@@ -51,7 +52,7 @@ fn say<S: Source, G: Gate, R: Threads + Wait + Sync>(
     }
 }
 
-/// Reads a scenario, runs it and prints its report.
+/// Reads a scenario or makes one, as the words ask, runs it and prints its report.
 ///
 /// The words are those behind the program's name. Each line of output is one call of the sink. A
 /// fault of the sink wins over the status that the text belongs to. The gate is passed before each

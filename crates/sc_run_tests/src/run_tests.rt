@@ -73,6 +73,21 @@ const CAS_IN_VERSION_ONE: &[u8] =
 const VERSION_THREE: &[u8] =
     b"scatter 3\nnodes 1\ngroup 0 1\nclient 1\nput a x\nget a\nend\ngo 1\nsettle 100\n";
 
+const MAKE_ONE_REPORT: &[u8] = b"scatter report 1\nanswered 16 of 16\n\
+        ring 0 group 0.1 members 1 2 3\nring 1342177280 group 0.2 members 4 5 6\n\
+        ring 1744830464 group 0.3 members 7 8 9\nrows 210\nmail 194\ndelivered 194\nskipped 0\n\
+        quiet yes\n";
+
+const MAKE_TWENTY_REPORT: &[u8] = b"scatter report 1\nanswered 320 of 320\n\
+        ring 0 group 0.1 members 1 2 3\nring 1342177280 group 0.2 members 4 5 6\n\
+        ring 1744830464 group 0.3 members 7 8 9\nrows 3280\nmail 3264\ndelivered 3264\n\
+        skipped 0\nquiet yes\n";
+
+const MAKE_TWO_HUNDRED_REPORT: &[u8] = b"scatter report 1\nanswered 3200 of 3200\n\
+        ring 0 group 0.1 members 1 2 3\nring 1342177280 group 0.2 members 4 5 6\n\
+        ring 1744830464 group 0.3 members 7 8 9\nrows 32080\nmail 32064\ndelivered 32064\n\
+        skipped 0\nquiet yes\n";
+
 // The words of a text, or none where it is empty.
 fn words_of(rt: &impl Abort, alloc: Global, text: &str) -> Vec<String> {
     let mut words = Vec::new(alloc);
@@ -143,11 +158,32 @@ const CASES: &[Case] = &[
         (3, false, b"line 1: missing header\n"),
     ),
     (("", FIRST, 0, 0), (2, false, USAGE)),
+    (("make 1001 7", FIRST, 0, 0), (2, false, USAGE)),
+    (("run run", FIRST, 0, 0), (2, false, USAGE)),
+    (("make 1 -7", FIRST, 0, 0), (2, false, USAGE)),
+    (("make 1", FIRST, 0, 0), (2, false, USAGE)),
 ];
 
 #[test]
 fn each_status_comes_with_its_text(rt: HostRuntime) {
     for (given, expected) in CASES {
+        check(&rt, rt.alloc(), *given, *expected);
+    }
+}
+
+// The source would fail at its first call.
+const MADE: &[Case] = &[
+    (("make 1 7", b"", 1, 0), (0, true, MAKE_ONE_REPORT)),
+    (("make 20 7", b"", 1, 0), (0, true, MAKE_TWENTY_REPORT)),
+    (
+        ("make 200 7", b"", 1, 0),
+        (0, true, MAKE_TWO_HUNDRED_REPORT),
+    ),
+];
+
+#[test]
+fn made_scenarios_run_without_an_input(rt: HostRuntime) {
+    for (given, expected) in MADE {
         check(&rt, rt.alloc(), *given, *expected);
     }
 }

@@ -1,20 +1,19 @@
 -- What words and input ask for.
-use Rattle.std.specs.Prelude.{◌≡◌, ℕ, List, ◌++◌, ◌==◌, ◌&&◌, length, Bool, true, false, Option, IfSome, Result, Ok, Err, codes}
+use Rattle.std.specs.Prelude.{◌≡◌, ℕ, List, ◌++◌, Option, None, Some, IfSome, Result, Ok, Err, codes}
 use Rattle.std.specs.Fmt.{decimal}
 use Rattle.sc_edges.specs.Causes.{Rose}
 use Rattle.sc_scenario.specs.Grammar.{verdict_of}
 use Rattle.sc_lines.specs.Reasons.{reason_text}
+use Rattle.sc_scenario.specs.Made.{made_scenario}
 use Rattle.sc_scenario.specs.Valid.{IsValid}
-use Rattle.sc_lines.specs.Words.{same, nth}
 use Rattle.sc_scenario.specs.declared.reading.ScenarioFault.{ScenarioFault}
 use Rattle.sc_scenario.specs.declared.reading.ScenarioFault.TheVariants.{Bad}
 use Rattle.sc_scenario.specs.declared.scenarios.Scenario.{Scenario}
+use Rattle.sc_words.specs.Asked.{asked_by}
+use Rattle.sc_words.specs.declared.asked.Asked.{Asked}
+use Rattle.sc_words.specs.declared.asked.Asked.TheVariants as ask
 use Rattle.sc_statuses.specs.declared.wants.Wanted.{Wanted}
 use Rattle.sc_statuses.specs.declared.wants.Wanted.TheVariants.{Usage, ReadFault, BadScenario, Run}
-
--- the grammar of the words: the one word `run`
-abbrev pub is_run : List (List ℕ) → Bool
-is_run words = (length words == 1) && same (nth words 0) (codes "run")
 
 -- what is told of a bad line: `line L: REASON`
 abbrev pub fault_text : ℕ → ℕ → List ℕ
@@ -38,9 +37,12 @@ IsRead left before now ReadFault = Rose before now
 IsRead left before now (BadScenario line why) = ReadsAs left (Err (Bad line why))
 IsRead left before now (Run scenario) = IsValid scenario × ReadsAs left (Ok scenario)
 
+-- What is wanted where the words ask for this: nothing, what a source asks for, or a run of a made scenario, without a look at the source.
+abbrev pub IsAskedFor : Option Asked → Option (List ℕ) → ℕ → ℕ → Wanted → Type 0
+IsAskedFor None left before now wanted = wanted ≡ Usage
+IsAskedFor (Some ask.Run) left before now wanted = IsRead left before now wanted
+IsAskedFor (Some (ask.Make n seed)) left before now wanted = (wanted ≡ Run (made_scenario n seed)) × IsValid (made_scenario n seed)
+
 -- The same after any words.
 abbrev pub IsWanted : List (List ℕ) → Option (List ℕ) → ℕ → ℕ → Wanted → Type 0
-IsWanted words left before now Usage = is_run words ≡ false
-IsWanted words left before now ReadFault = (is_run words ≡ true) × IsRead left before now ReadFault
-IsWanted words left before now (BadScenario line why) = (is_run words ≡ true) × IsRead left before now (BadScenario line why)
-IsWanted words left before now (Run scenario) = (is_run words ≡ true) × IsRead left before now (Run scenario)
+IsWanted words left before now wanted = IsAskedFor (asked_by words) left before now wanted

@@ -1,13 +1,15 @@
 //! What the words and the input ask for.
 ghost use Rattle.std.specs.Prelude.{◌≡◌, map, false, string_bytes, IfOk};
-ghost use Rattle.sc_lines.specs.Words.{nth};
-ghost use Rattle.sc_statuses.specs.Wants.{is_run, fault_text, IsOf, IsRead, IsWanted};
+ghost use Rattle.sc_words.specs.Asked.{is_run};
+ghost use Rattle.sc_statuses.specs.Wants.{fault_text, IsOf, IsRead, IsWanted};
 
 use sc_base::OutOfMemory;
 use sc_edges::{ReadFault, Source, read_all};
+use sc_make::made_scenario;
 use sc_scenario::{
     INPUT_LIMIT, Scenario, ScenarioFault, first_bytes_decide, read_scenario, reason_text,
 };
+use sc_words::{Asked, asked_by};
 use std::alloc::Global;
 
 /// What the words and the input ask for.
@@ -19,26 +21,8 @@ pub enum Wanted {
     ReadFault,
     /// The input is no scenario: its first bad line, and the number of the reason.
     BadScenario { line: u32, why: u8 },
-    /// A run of this scenario.
+    /// A run of this scenario, which was read or made.
     Run(Scenario),
-}
-
-// The first word, or the empty text where there is none.
-fn first_word(words: &[String]) -> &[u8]
-    ensures { result.now ≡ nth (map string_bytes words.now) 0 }
-{
-    if 0 < words.len() {
-        words[0].as_bytes()
-    } else {
-        b""
-    }
-}
-
-// Whether the words are the one word `run`.
-fn is_run(words: &[String]) -> bool
-    ensures { result ≡ is_run (map string_bytes words.now) }
-{
-    words.len() == 1 && first_word(words) == b"run".as_slice()
 }
 
 // What these bytes ask for.
@@ -77,10 +61,14 @@ pub fn wanted_of<S: Source>(
         (S.left input.old) (S.faults input.old) (S.faults input.new) wanted) }
     ensures unread { is_run (map string_bytes words.now) ≡ false → input.new ≡ input.old }
 {
-    if is_run(words) {
-        return read(alloc, input);
+    match asked_by(alloc, words)? {
+        None => Ok(Wanted::Usage),
+        Some(Asked::Run) => read(alloc, input),
+        Some(Asked::Make { n, seed }) => {
+            let scenario = made_scenario(alloc, n, seed)?;
+            Ok(Wanted::Run(scenario))
+        }
     }
-    Ok(Wanted::Usage)
 }
 
 /// What is told of a bad line: `line L: REASON`.

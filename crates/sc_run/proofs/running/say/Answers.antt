@@ -1,13 +1,13 @@
 use Rattle.std.proofs.Common.{map}
 use Rattle.std.specs.Prelude.{string_bytes}
 use Rattle.std.proofs.lemmas.Result.{IfOk-weaker}
-use Rattle.sc_run.proofs.Readings.{of_fault, of_report}
+use Rattle.sc_run.proofs.Readings.{says_fault, says_failure, says_report, says_usage}
 use Rattle.sc_run.proofs.running.say.Goals as goal
 
 pub returns-in-Run-clause-says : goal.returns-in-Run-clause-says
 returns-in-Run-clause-says g c =
-    IfOk-weaker c.report.result _ _ (λ begun h. of_report (map string_bytes c.args.words.now) _ _ _ _ c.in-Run.scenario begun.0 begun.1 c.in-Run.is c.in_ok-wanted_of.ensures.wanted h) c.report.ensures
+    IfOk-weaker c.report.result _ _ (λ begun h. says_report (map string_bytes c.args.words.now) _ _ _ _ c.in_ok-wanted_of.ensures.wanted c.in-Run.scenario begun.0 begun.1 c.in-Run.is h) c.report.ensures
 
 pub returns-in-BadScenario-clause-says : goal.returns-in-BadScenario-clause-says
 returns-in-BadScenario-clause-says g c =
-    IfOk-weaker c.refuse.result _ _ (λ begun h. of_fault (map string_bytes c.args.words.now) _ _ _ _ c.in-BadScenario.line c.in-BadScenario.why begun.0 begun.1 c.in-BadScenario.is c.in_ok-wanted_of.ensures.wanted h.0 h.1) c.refuse.ensures
+    IfOk-weaker c.refuse.result _ _ (λ begun h. says_fault (map string_bytes c.args.words.now) _ _ _ _ c.in_ok-wanted_of.ensures.wanted c.in-BadScenario.line c.in-BadScenario.why begun.0 begun.1 c.in-BadScenario.is h.0 h.1) c.refuse.ensures

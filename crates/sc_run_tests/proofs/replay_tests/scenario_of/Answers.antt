@@ -1,4 +1,4 @@
-use Rattle.std.proofs.Common.{◌≡◌, ℕ, List, ap, subst, rules}
+use Rattle.std.proofs.Common.{◌≡◌, ℕ, List, ap, subst, inl, rules}
 use Rattle.std.specs.Prelude.{Result, Ok}
 use Rattle.std.specs.Result.{result_ok}
 use Rattle.sc_scenario.specs.Grammar.{HasVerdict, verdict_of}
@@ -11,7 +11,7 @@ use Rattle.sc_run_tests.proofs.replay_tests.scenario_of.Goals as goal
 read_so : (text : List ℕ) (result : Result Scenario ScenarioFault) (scenario : Scenario) → HasVerdict (verdict_of text) result → result ≡ Ok scenario → IsValid scenario
 read_so text result scenario has is =
     let read : verdict_of text ≡ Ok scenario = subst (HasVerdict (verdict_of text)) is has in
-    record { text = text; read = ap result_ok read }
+    inl (record { text = text; read = ap result_ok read })
 
 pub returns : goal.returns
 returns g c =
