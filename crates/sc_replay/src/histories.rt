@@ -1,5 +1,5 @@
 //! The history of a journal: the requests that took effect.
-ghost use Rattle.std.specs.Prelude.{◌≡◌, ◌++◌, IfOk, OnOk};
+ghost use Rattle.std.specs.Prelude.{◌≡◌, ◌++◌, drop, IfOk, OnOk};
 ghost use Rattle.sc_machine_table.specs.Machine.{applied};
 ghost use Rattle.sc_machine_table.specs.Logs.{entry_of, done_by};
 ghost use Rattle.std.specs.List.{flat_map};
@@ -61,6 +61,17 @@ fn add_done(
     Ok(())
 }
 
+// What stands behind so many commands: nothing where there are no more.
+fn behind(log: &[Command], known: usize) -> &[Command]
+    ensures { result.now ≡ drop known log.now }
+{
+    if known < log.len() {
+        &log[known..]
+    } else {
+        &[]
+    }
+}
+
 // The entries of a group that are decided after some rows and not after fewer.
 fn add_newly_decided(
     alloc: Global,
@@ -75,8 +86,7 @@ fn add_newly_decided(
     let log = log_of_group(alloc, OPEN_SLOTS, base, before)?;
     let longer = log_of_group(alloc, OPEN_SLOTS, base, after)?;
     let machine = executed(alloc, base, &log)?;
-    let known = log.len().min(longer.len());
-    add_done(alloc, entries, machine, &longer[known..])
+    add_done(alloc, entries, machine, behind(&longer, log.len()))
 }
 
 // The entries that one more row decides: those of each group, by slot.
@@ -99,6 +109,7 @@ fn add_row(
 /// The history of a journal: row by row the calls decided there that took effect, by slot. Read
 /// from the mail that the rows send, never from what an actor holds. Refused only for want of
 /// memory.
+#[tactic(auto, using(crate::proofs::Rows::history_next))]
 pub fn history(alloc: Global, world: &World<'_>) -> Result<Vec<Entry>, OutOfMemory>
     ensures { IfOk result (λ entries. entries.items ≡ history_of world.now) }
 {
