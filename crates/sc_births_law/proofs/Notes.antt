@@ -1,7 +1,7 @@
 -- A group that answers a call has noted it.
-use Rattle.std.proofs.Common.{◌≡◌, ℕ, cond, eqb, nat_lt, Option, Some, None, inl, inr, refl, sym, ◌∙◌, ap}
+use Rattle.std.proofs.Common.{◌≡◌, ℕ, cond, eqb, nat_lt, Option, Some, None, inl, inr, refl, ◌∙◌, ap}
 use Rattle.std.specs.Cmp.{nat_cmp_total, unsigned_tied}
-use Rattle.std.specs.FinMap.{get, insert, get-insert}
+use Rattle.std.specs.FinMap.{get, get-insert}
 use Rattle.std.proofs.lemmas.Bool.{cond_both, cond-true, eq-eqb, eqb-true}
 use Rattle.sc_base.specs.declared.ops.Noted.{Noted}
 use Rattle.sc_base.specs.declared.ops.Op.{Op}
@@ -10,7 +10,6 @@ use Rattle.sc_cmd.specs.declared.commands.Command.TheVariants.{Call}
 use Rattle.sc_cmd.specs.declared.cores.Lock.{Lock}
 use Rattle.sc_cmd.specs.declared.cores.Lock.TheVariants.{Free, Coordinating, Promised, Watching}
 use Rattle.sc_cmd.specs.declared.effects.Effect.{Effect}
-use Rattle.sc_cmd.specs.declared.effects.Effect.TheVariants.{Done, Again}
 use Rattle.sc_cmd.specs.declared.links.Route.{Route}
 use Rattle.sc_ideal.specs.IdealStore.{key_of, holds_key, reply_of}
 use Rattle.sc_machine_table.specs.Group.{Group}

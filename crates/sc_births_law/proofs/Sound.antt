@@ -1,13 +1,11 @@
 -- A journal whose rows decide in turn is sound, where each group has one value per slot, replicas have executed fronts, and calls and replies come in order.
-use Rattle.std.proofs.Common.{◌≡◌, ℕ, ◌+◌, ◌<◌, ◌≤◌, List, [], ◌∷◌, ◌++◌, length, Some, inl, inr, refl, sym, ◌∙◌, ap, subst, append_assoc, arith}
+use Rattle.std.proofs.Common.{◌≡◌, ℕ, ◌+◌, ◌<◌, List, [], ◌∷◌, ◌++◌, length, Some, inl, inr, refl, sym, ◌∙◌, ap, subst, append_assoc, arith}
 use Rattle.std.specs.Prelude.{slice_get}
 use Rattle.std.specs.FinMap.{get}
 use Rattle.std.proofs.lemmas.Bool.{cases_lt}
 use Rattle.std.proofs.lemmas.List.{length-append}
 use Rattle.sc_base.specs.Among.{Among}
-use Rattle.sc_base.specs.declared.ops.Op.{Op}
 use Rattle.sc_base.specs.declared.ops.Reply.{Reply}
-use Rattle.sc_cmd.specs.declared.commands.Command.{Command}
 use Rattle.sc_cmd.specs.declared.commands.Command.TheVariants.{Call}
 use Rattle.sc_cmd.specs.declared.cores.Base.{Base}
 use Rattle.sc_cmd.specs.declared.orders.OrderLine.{OrderLine}
@@ -18,18 +16,16 @@ use Rattle.sc_ideal.specs.History.{HasEntry}
 use Rattle.sc_ideal.specs.declared.Entry.{Entry}
 use Rattle.sc_machine_table.specs.Group.{Group, group_of}
 use Rattle.sc_machine_table.specs.Logs.{state_after}
-use Rattle.sc_machine_table.specs.Machine.{applied}
-use Rattle.sc_paxos_law.proofs.Among.{Among-left, place_among}
-use Rattle.sc_players.specs.Players.{Ahead, route_of}
-use Rattle.sc_scenario.specs.declared.scenarios.Asks.{Asks}
+use Rattle.sc_paxos_law.proofs.Among.{Among-left}
+use Rattle.sc_players.specs.Players.{Ahead}
 use Rattle.sc_scenario.specs.declared.scenarios.Scenario.{Scenario}
 use Rattle.sc_hist_law.specs.Worlds.{BeginBare}
 use Rattle.sc_ring_law.specs.Allowed.{Sources}
 use Rattle.sc_ring_law.specs.Laws.{BeginInPlace}
 use Rattle.sc_map_law.specs.Laws.{AllowedEntriesMakeOneMap}
-use Rattle.sc_sound.specs.GroupsOf.{groups_at, history_at}
+use Rattle.sc_sound.specs.GroupsOf.{history_at}
 use Rattle.sc_sound.specs.Requests.{IsRequest, issue_row}
-use Rattle.sc_sound.specs.Soundness.{HasOneLog, AnswersRequests, told_row, IsTimely, KeepsRealTime, IsSound}
+use Rattle.sc_sound.specs.Soundness.{AnswersRequests, told_row, IsTimely, KeepsRealTime, IsSound}
 use Rattle.sc_births_law.specs.Descent.{Rows}
 use Rattle.sc_births_law.specs.InTurn.{DecideInTurn}
 use Rattle.sc_births_law.specs.Findings.{TellOneMap, IsToldAt, StayAsTold}

@@ -81,6 +81,10 @@ abbrev pub MakesAllowed : Sources → Draw → Group → Command → Draw → Co
 MakesAllowed sources by group entry name command = (groups : Groups) (stories : Stories) → Facts sources.owner groups stories → groups by ≡ Some group → IsAllowed sources stories by entry
     → IsAllowed sources (stories_after group entry (applied group entry).1 stories) name command
 
+-- a group as it stands makes a command allowed, whatever was told so far
+abbrev pub StandsFor : Sources → Draw → Group → Draw → Command → Type 0
+StandsFor sources by group name command = (groups : Groups) (stories : Stories) → Facts sources.owner groups stories → groups by ≡ Some group → IsAllowed sources stories name command
+
 -- ---- rows
 
 -- the row that tells the entry of the history at a place: it decides the call, for a group that was there before it

@@ -21,7 +21,7 @@ use Rattle.sc_sound.specs.Soundness.{IsSound}
 use Rattle.sc_births_law.specs.Beside.{HoldsBeside}
 use Rattle.sc_births_law.specs.Descent.{Rows}
 use Rattle.sc_births_law.specs.InTurn.{DecidesInTurn, DecideInTurn, DecidesForOne}
-use Rattle.sc_births_law.specs.Findings.{AreFound, AreOldOrNew, AreItsLogs, MakesAllowed, TellOneMap, IsToldAt, StayAsTold}
+use Rattle.sc_births_law.specs.Findings.{AreFound, AreOldOrNew, AreItsLogs, MakesAllowed, StandsFor, TellOneMap, IsToldAt, StayAsTold}
 
 -- each row decides for one group at most
 abbrev pub RowsDecideForOne : Type 0
@@ -60,6 +60,12 @@ abbrev pub FrontsAllow : Type 0
 FrontsAllow = (sources : Sources) (ahead : Ahead) (bases : List Base) → BeginInPlace sources bases → (rows : Rows) → DecideInTurn sources ahead bases [] rows
     → (base : Base) → Among base (groups_at ahead bases rows) → (front : List Command) (entry : Command) (later : List Command) → decided_log ahead base rows ≡ front ++ entry ∷ later
     → (name : Draw) (command : Command) → MakesAllowed sources base.core.id (state_after (group_of base) front) entry name command → IsAllowed sources (stories_of bases (entries_at ahead bases rows)) name command
+
+-- and so is one that a group as it stood after a front of its log makes allowed
+abbrev pub StatesAllow : Type 0
+StatesAllow = (sources : Sources) (ahead : Ahead) (bases : List Base) → BeginInPlace sources bases → (rows : Rows) → DecideInTurn sources ahead bases [] rows
+    → (base : Base) → Among base (groups_at ahead bases rows) → (front later : List Command) → decided_log ahead base rows ≡ front ++ later
+    → (name : Draw) (command : Command) → StandsFor sources base.core.id (state_after (group_of base) front) name command → IsAllowed sources (stories_of bases (entries_at ahead bases rows)) name command
 
 -- they make one map
 abbrev pub EntriesTellOneMap : Type 0

@@ -16,6 +16,7 @@ ghost use Rattle.sc_births_law.specs.Laws.{
   JournalsInTurnAreSound,
   RowsDecideForOne,
   RowsGoOn,
+  StatesAllow,
   ToldRowsStay,
 };
 
@@ -45,11 +46,13 @@ pub fn entries_are_allowed_logs()
     ensures allowed { EntriesAreAllowed }
 {}
 
-/// What is allowed stays allowed with more rows. So a command that an entry makes allowed, of any
-/// group's log that has got so far, is allowed from then on, whoever has heard of the entry.
+/// What is allowed stays allowed with more rows. So a command that an entry of a group's log makes
+/// allowed, or the group as it stands after a front of its log, is allowed from then on, whoever has
+/// heard of it.
 pub fn what_logs_allow_stays_allowed()
     ensures stays { AllowedStaysAllowed }
     ensures fronts { FrontsAllow }
+    ensures states { StatesAllow }
 {}
 
 /// So they make one map: the ring covers and is served as its cuts say, the history is legal, and
