@@ -216,15 +216,15 @@ module _ (ahead : Ahead) (words : ℕ → ℕ → ℕ × ℕ) (scenario : Scenar
     abbrev next : Journal
     next = rows ++ row ∷ []
 
-    may_tell : (bases : List Base) (family : IsFamily ahead scenario one bases (route_of base) (MadeSplit scenario)) (who : ℕ) (event : Event OrderLine) → IsToldSo IsToldWell who event
-        → splits_told rows + split_told_at event ≤ 1 → MayTell ahead words scenario one bases (route_of base) (MadeSplit scenario) family rows who event
-    may_tell bases family who (Told line) t f = λ node is b a into. order_made bases rows who line.number line.order (t, f) draws node is b into
-    may_tell bases family who (Deliver mail) t f = tt
-    may_tell bases family who Go t f = tt
-    may_tell bases family who Tick t f = tt
-    may_tell bases family who Crash t f = tt
-    may_tell bases family who (Drop mail) t f = tt
-    may_tell bases family who (Again mail) t f = tt
+    may_tell : (bases : List Base) (has_all : IsFamily ahead scenario one bases (route_of base) (MadeSplit scenario)) (who : ℕ) (event : Event OrderLine) → IsToldSo IsToldWell who event
+        → splits_told rows + split_told_at event ≤ 1 → MayTell ahead words scenario one bases (route_of base) (MadeSplit scenario) has_all rows who event
+    may_tell bases has_all who (Told line) t f = λ node is b a into. order_made bases rows who line.number line.order (t, f) draws node is b into
+    may_tell bases has_all who (Deliver mail) t f = tt
+    may_tell bases has_all who Go t f = tt
+    may_tell bases has_all who Tick t f = tt
+    may_tell bases has_all who Crash t f = tt
+    may_tell bases has_all who (Drop mail) t f = tt
+    may_tell bases has_all who (Again mail) t f = tt
 
     few_now : splits_told rows + split_told_at row.event ≤ 1
     few_now = (let e = splits-push rows row in omega (arith, few, e))
