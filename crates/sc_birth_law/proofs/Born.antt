@@ -1,9 +1,7 @@
 -- The lone group and its child, row by row: what holds of each lawful journal in which a lone group may split.
-use Rattle.std.proofs.Common.{◌≡◌, ℕ, ◌+◌, ◌≤◌, List, [], ◌∷◌, ◌++◌, length, take, drop, map, Some, None, ◌⊎◌, inl, inr, refl, sym, ◌∙◌, ap, subst, append_assoc, arith}
-use Rattle.std.specs.Option.{option_map}
+use Rattle.std.proofs.Common.{◌≡◌, ℕ, ◌+◌, ◌≤◌, List, [], ◌∷◌, ◌++◌, length, take, drop, map, Some, ◌⊎◌, inl, inr, refl, sym, ◌∙◌, ap, subst, append_assoc, arith}
 use Rattle.sc_base.specs.Among.{Among, Each}
 use Rattle.sc_base.specs.Drawing.{Drawer, next_name}
-use Rattle.sc_base.specs.declared.names.Draw.{Draw}
 use Rattle.sc_cmd.specs.declared.commands.Command.{Command}
 use Rattle.sc_cmd.specs.declared.commands.Command.TheVariants.{Split}
 use Rattle.sc_cmd.specs.declared.cores.Base.{Base}
@@ -16,15 +14,13 @@ use Rattle.sc_actor.specs.declared.rows.Event.{Event}
 use Rattle.sc_actor.specs.declared.rows.Event.TheVariants.{Deliver, Drop, Again, Go, Tick, Crash, Told}
 use Rattle.sc_actor.specs.Replay.{value}
 use Rattle.sc_actor.specs.Steps.{IsStep}
-use Rattle.sc_machine_table.specs.Children.{child_by}
-use Rattle.sc_machine_table.specs.Group.{Group, group_of}
+use Rattle.sc_machine_table.specs.Group.{group_of}
 use Rattle.sc_machine_table.specs.Logs.{state_after}
 use Rattle.sc_machine_table.specs.Machine.{applied}
 use Rattle.sc_node_table.specs.Node.{NodeState, group_of_order}
 use Rattle.sc_node_table.specs.Ordering.{ordered_command}
 use Rattle.sc_node_table.specs.Slots.{slots_ahead}
 use Rattle.sc_paxos_words.proofs.ListLemmas.{Each-among, Each-weaker}
-use Rattle.sc_paxos_law.specs.Lawful.{IsLawfulHistory}
 use Rattle.sc_players.specs.Players.{route_of, Ahead, node_seat, player_table, schedule, line_of, system_of, Lawful}
 use Rattle.sc_players.specs.declared.roles.Role.TheVariants.{Node as ANode}
 use Rattle.sc_scenario.specs.declared.scenarios.Scenario.{Scenario}
@@ -35,7 +31,7 @@ use Rattle.sc_entries.proofs.Children.{births_are_children}
 use Rattle.sc_sound.specs.GroupsOf.{children_of}
 use Rattle.sc_sound.specs.Logs.{decided_log}
 use Rattle.sc_group_law.proofs.Births.{at_birth}
-use Rattle.sc_group_law.proofs.Invariant.{rule, first, birth}
+use Rattle.sc_group_law.proofs.Invariant.{birth}
 use Rattle.sc_group_law.proofs.Family.{h_of, Kept, Moved, entries_made, log_goes_on, push}
 use Rattle.sc_group_law.proofs.Nodes.{IsNewborn}
 use Rattle.sc_group_law.proofs.Offspring.{IsChildOf}
@@ -48,7 +44,7 @@ use Rattle.sc_birth_law.specs.LoneSplit.{IsEarly, TellsEarly, HasLoneSplit}
 use Rattle.sc_birth_law.specs.Once.{IsOnce, splits_told}
 use Rattle.sc_birth_law.specs.Once.{split_at as split_told_at}
 use Rattle.sc_birth_law.proofs.Draws.{HasDraws, IsEarlyEvent, first_draws, draws_push}
-use Rattle.sc_birth_law.proofs.Fits.{base_free, kid_free, first_family, both_family, apart_names}
+use Rattle.sc_birth_law.proofs.Fits.{first_family, both_family, apart_names}
 use Rattle.sc_birth_law.proofs.Growing.{grown}
 use Rattle.sc_birth_law.proofs.Kids.{IsKid, HasKids, kids_are, lone_stands, child_among, children_append}
 use Rattle.sc_birth_law.proofs.Made.{MadeSplit, ThePlan, made_once, made_elsewhere, split_later}
@@ -220,15 +216,15 @@ module _ (ahead : Ahead) (words : ℕ → ℕ → ℕ × ℕ) (scenario : Scenar
     abbrev next : Journal
     next = rows ++ row ∷ []
 
-    may_tell : (bases : List Base) (family : IsFamily ahead scenario one bases (route_of base) (MadeSplit scenario)) (who : ℕ) (event : Event OrderLine) → IsToldSo IsToldWell who event
-        → splits_told rows + split_told_at event ≤ 1 → MayTell ahead words scenario one bases (route_of base) (MadeSplit scenario) family rows who event
-    may_tell bases family who (Told line) t f = λ node is b a into. order_made bases rows who line.number line.order (t, f) draws node is b into
-    may_tell bases family who (Deliver mail) t f = tt
-    may_tell bases family who Go t f = tt
-    may_tell bases family who Tick t f = tt
-    may_tell bases family who Crash t f = tt
-    may_tell bases family who (Drop mail) t f = tt
-    may_tell bases family who (Again mail) t f = tt
+    may_tell : (bases : List Base) (has_all : IsFamily ahead scenario one bases (route_of base) (MadeSplit scenario)) (who : ℕ) (event : Event OrderLine) → IsToldSo IsToldWell who event
+        → splits_told rows + split_told_at event ≤ 1 → MayTell ahead words scenario one bases (route_of base) (MadeSplit scenario) has_all rows who event
+    may_tell bases has_all who (Told line) t f = λ node is b a into. order_made bases rows who line.number line.order (t, f) draws node is b into
+    may_tell bases has_all who (Deliver mail) t f = tt
+    may_tell bases has_all who Go t f = tt
+    may_tell bases has_all who Tick t f = tt
+    may_tell bases has_all who Crash t f = tt
+    may_tell bases has_all who (Drop mail) t f = tt
+    may_tell bases has_all who (Again mail) t f = tt
 
     few_now : splits_told rows + split_told_at row.event ≤ 1
     few_now = (let e = splits-push rows row in omega (arith, few, e))

@@ -1,5 +1,5 @@
 -- The lone group and its child are a family of groups, whatever is queued.
-use Rattle.std.proofs.Common.{◌≡◌, ℕ, ◌+◌, ◌≤◌, List, [], ◌∷◌, ◌++◌, length, map, inl, inr, refl, sym, ◌∙◌, ap, subst, arith}
+use Rattle.std.proofs.Common.{◌≡◌, List, [], ◌∷◌, ◌++◌, map, inl, inr, sym, ◌∙◌, ap, subst, arith}
 use Rattle.sc_base.specs.Among.{Among, Each}
 use Rattle.sc_base.specs.declared.names.Draw.{Draw}
 use Rattle.sc_cmd.specs.declared.commands.Command.{Command}
@@ -8,7 +8,7 @@ use Rattle.sc_cmd.specs.declared.cores.Base.{Base}
 use Rattle.sc_cmd.specs.declared.cores.Core.{Core}
 use Rattle.sc_cmd.specs.declared.cores.Lock.TheVariants.{Free}
 use Rattle.sc_member.specs.Roster.{IsRoster}
-use Rattle.sc_machine_table.specs.Group.{Group, group_of}
+use Rattle.sc_machine_table.specs.Group.{group_of}
 use Rattle.sc_machine_table.specs.Logs.{state_after}
 use Rattle.sc_node_table.specs.Slots.{numbers_from}
 use Rattle.sc_paxos_words.proofs.ListLemmas.{Each-weaker}
@@ -17,14 +17,12 @@ use Rattle.sc_players.specs.Players.{route_of, Ahead, node_seat, client_seats}
 use Rattle.sc_hist_law.specs.Laws.{LeavesWhole}
 use Rattle.sc_hist_law.proofs.Logs.{state_core}
 use Rattle.sc_group_law.proofs.Births.{first_of}
-use Rattle.sc_group_law.proofs.Clients.{Heard}
-use Rattle.sc_group_law.proofs.Invariant.{rule, Grants}
 use Rattle.sc_group_law.proofs.Places.{Journal}
 use Rattle.sc_group_law.proofs.Rosters.{state_roster}
 use Rattle.sc_group_law.proofs.Walked.{IsFamily}
 use Rattle.sc_birth_law.specs.LoneSplit.{HasLoneSplit}
 use Rattle.sc_birth_law.specs.Once.{IsOnce}
-use Rattle.sc_birth_law.proofs.Dividing.{SplitsOnce, log_kept, right_roster}
+use Rattle.sc_birth_law.proofs.Dividing.{log_kept, right_roster}
 use Rattle.sc_birth_law.proofs.Kids.{IsKid, lone_stands}
 use Rattle.sc_birth_law.proofs.Made.{MadeSplit, split_later, split_quiet, ThePlan, made_once, made_elsewhere}
 

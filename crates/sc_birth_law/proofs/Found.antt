@@ -1,10 +1,9 @@
 -- The groups that a journal of a lone group has: the lone group, and its child once its log names it; and what each row decides.
-use Rattle.std.proofs.Common.{◌≡◌, ℕ, zero, suc, ◌+◌, ◌||◌, true, false, List, [], ◌∷◌, ◌++◌, length, take, drop, find, fold, Some, None, ◌⊎◌, inl, inr, refl, sym, ◌∙◌, ap, subst, length-append, arith}
+use Rattle.std.proofs.Common.{◌≡◌, ℕ, zero, suc, ◌+◌, ◌||◌, false, List, [], ◌∷◌, ◌++◌, length, take, drop, find, fold, Some, None, inl, inr, refl, sym, ◌∙◌, ap}
 use Rattle.std.specs.List.{flat_map, list_any}
 use Rattle.std.proofs.Math.Seq.{take-append_seam}
 use Rattle.std.proofs.lemmas.Bool.{or_left, or_right, cond-true, cond-false}
 use Rattle.sc_base.specs.Among.{Among, Each}
-use Rattle.sc_base.specs.declared.names.Draw.{Draw}
 use Rattle.sc_base.proofs.NameLemmas.{same_name}
 use Rattle.sc_cmd.specs.declared.commands.Command.{Command}
 use Rattle.sc_cmd.specs.declared.commands.Command.TheVariants.{Split}
@@ -12,7 +11,7 @@ use Rattle.sc_cmd.specs.declared.cores.Base.{Base}
 use Rattle.sc_cmd.specs.declared.orders.OrderLine.{OrderLine}
 use Rattle.sc_mail.specs.declared.bodies.Mail.{Mail}
 use Rattle.sc_actor.specs.declared.rows.Row.{Row}
-use Rattle.sc_machine_table.specs.Group.{Group, group_of}
+use Rattle.sc_machine_table.specs.Group.{group_of}
 use Rattle.sc_node_table.specs.Slots.{slots_ahead}
 use Rattle.sc_paxos_words.proofs.ListLemmas.{Each-weaker}
 use Rattle.sc_paxos_law.specs.Lawful.{IsLawfulHistory}
@@ -21,19 +20,18 @@ use Rattle.sc_players.specs.Players.{route_of, Ahead}
 use Rattle.sc_scenario.specs.declared.scenarios.Scenario.{Scenario}
 use Rattle.sc_entries.specs.declared.LogEntry.{LogEntry}
 use Rattle.sc_hist_law.specs.Laws.{LeavesWhole}
-use Rattle.sc_sound.specs.GroupsOf.{children_of, children_by, is_birth_of, with_birth, with_children, with_descendants, groups_at, birth_at, log_by, log_at, entries_from, entries_after, entries_gained, entries_by_row}
+use Rattle.sc_sound.specs.GroupsOf.{children_by, is_birth_of, with_birth, with_children, with_descendants, groups_at, log_by, log_at, entries_from, entries_after, entries_gained, entries_by_row}
 use Rattle.sc_sound.specs.Logs.{decided_log}
 use Rattle.sc_group_law.specs.Groups.{AreApart}
-use Rattle.sc_group_law.proofs.Invariant.{Steps, rule, first}
-use Rattle.sc_group_law.proofs.Family.{h_of, Kept, entries_made, decided_is}
+use Rattle.sc_group_law.proofs.Invariant.{rule, first}
+use Rattle.sc_group_law.proofs.Family.{h_of, entries_made, decided_is}
 use Rattle.sc_group_law.proofs.Places.{Journal, split_at}
 use Rattle.sc_group_law.proofs.Replicated.{goes_on}
 use Rattle.sc_sound_law.proofs.Groups.{flat_map_same, not_same, find_birth, no_children}
 use Rattle.sc_birth_law.specs.LoneSplit.{HasLoneSplit}
-use Rattle.sc_birth_law.proofs.Born.{IsWhole, IsParted, kids_in}
+use Rattle.sc_birth_law.proofs.Born.{IsWhole, IsParted}
 use Rattle.sc_birth_law.proofs.Fits.{apart_names}
 use Rattle.sc_birth_law.proofs.Growing.{empty_part}
-use Rattle.sc_birth_law.proofs.Kids.{IsKid}
 use Rattle.sc_birth_law.proofs.Made.{MadeSplit, ThePlan, made_elsewhere}
 
 module _ (ahead : Ahead) (words : ℕ → ℕ → ℕ × ℕ) (scenario : Scenario) (base : Base) (open_slots : ahead.slots ≡ slots_ahead) (has : HasLoneSplit scenario base) (plan : ThePlan scenario) where

@@ -22,22 +22,22 @@ use Rattle.sc_actor.specs.declared.rows.Event.{Event}
 use Rattle.sc_actor.specs.declared.rows.Event.TheVariants.{Deliver}
 use Rattle.sc_actor.specs.Mail.{mails, numbered}
 use Rattle.sc_node_table.specs.Node.{NodeState}
-use Rattle.sc_node_table.specs.Replica.{ReplicaState, name_of}
-use Rattle.sc_paxos_words.proofs.ListLemmas.{Each-among, Each-from, Each-weaker}
-use Rattle.sc_paxos_law.specs.Steps.{Step, Prepared, Promised, Offered, Accepted}
+use Rattle.sc_node_table.specs.Replica.{name_of}
+use Rattle.sc_paxos_words.proofs.ListLemmas.{Each-from, Each-weaker}
+use Rattle.sc_paxos_law.specs.Steps.{Prepared, Promised, Offered, Accepted}
 use Rattle.sc_paxos_law.proofs.Among.{Among-left, Among-right}
 use Rattle.sc_players.specs.Players.{Ahead}
 use Rattle.sc_scenario.specs.declared.scenarios.Asks.{Asks}
 use Rattle.sc_scenario.specs.declared.scenarios.Scenario.{Scenario}
 use Rattle.sc_sound.specs.Accepts.{is_accepted, accepts_of, accepts_got, accepts_at}
-use Rattle.sc_group_law.specs.Steps.{proposer_steps, asked_in, promised_by, promises_of, promises_got, promises_at, steps_at, steps_from, steps}
+use Rattle.sc_group_law.specs.Steps.{proposer_steps, asked_in, promised_by, promises_of, promises_got, promises_at, steps_at, steps_from}
 use Rattle.sc_paxos_law.specs.Lawful.{IsLawfulHistory}
 use Rattle.sc_group_law.proofs.Invariant.{Steps, rule, first, IsTrue}
 use Rattle.sc_group_law.proofs.Holding.{IsOther, Holds, holds_none}
 use Rattle.sc_group_law.proofs.Names.{IsOneOf, IsNamed, IsNamedAnswer}
 use Rattle.sc_group_law.proofs.Nodes.{IsNode}
 use Rattle.sc_group_law.proofs.Places.{Journal}
-use Rattle.sc_group_law.proofs.Clients.{Heard, IsClient, IsAnswered}
+use Rattle.sc_group_law.proofs.Clients.{Heard, IsAnswered}
 use Rattle.sc_group_law.proofs.Family.{h_of, IsNodeAt, IsClientAt, Part, Kept}
 use Rattle.sc_birth_law.proofs.Made.{MadeSplit}
 

@@ -4,7 +4,6 @@ use Rattle.std.specs.Option.{option_map, option_to_list}
 use Rattle.std.proofs.lemmas.Bool.{cond-true, cond_both}
 use Rattle.sc_base.specs.Among.{Among, Each}
 use Rattle.sc_base.specs.declared.names.Draw.{Draw}
-use Rattle.sc_base.specs.Same.{same_draw}
 use Rattle.sc_base.proofs.NameLemmas.{same_name}
 use Rattle.sc_cmd.specs.declared.commands.Command.{Command}
 use Rattle.sc_cmd.specs.declared.commands.Command.TheVariants.{Split}
@@ -23,7 +22,6 @@ use Rattle.sc_machine_table.specs.Orders.{is_alone, refusal_of, ordered}
 use Rattle.sc_machine_table.specs.Splits.{left_group, child_of, has_named}
 use Rattle.sc_entries.specs.Births.{birth_of}
 use Rattle.sc_entries.specs.declared.Division.{Division}
-use Rattle.sc_hist_law.specs.Laws.{LeavesWhole}
 use Rattle.sc_hist_law.proofs.Logs.{applied_core}
 use Rattle.sc_hist_law.proofs.Quiet.{no_birth}
 use Rattle.sc_paxos_law.proofs.Among.{Among-left, Among-right}

@@ -14,3 +14,4 @@ pub mod Telling
 pub mod Replying
 pub mod Timing
 pub mod Sound
+pub mod Example

@@ -1,7 +1,7 @@
 -- The entries of a journal of a lone group that may split are allowed, so they make one map.
-use Rattle.std.proofs.Common.{◌≡◌, ℕ, ◌<◌, ◌^◌, true, false, cond, List, [], ◌∷◌, ◌++◌, Option, Some, None, inl, inr, refl, sym, ◌∙◌, ap, subst, arith}
+use Rattle.std.proofs.Common.{◌≡◌, ℕ, ◌<◌, ◌^◌, cond, List, [], ◌∷◌, Option, Some, None, inl, inr, refl, sym, ◌∙◌, ap, subst}
 use Rattle.std.proofs.lemmas.Bool.{cond-true, cond-false}
-use Rattle.sc_base.specs.Among.{Among, Each}
+use Rattle.sc_base.specs.Among.{Each}
 use Rattle.sc_base.specs.Same.{same_draw}
 use Rattle.sc_base.specs.declared.names.Draw.{Draw}
 use Rattle.sc_base.proofs.NameLemmas.{same_name}
@@ -16,7 +16,7 @@ use Rattle.sc_hist_law.specs.Worlds.{BeginsBare, BeginBare}
 use Rattle.sc_map_law.specs.Laws.{MakeOneMap}
 use Rattle.sc_map_law.proofs.OneMap.{allowed_entries_make_one_map}
 use Rattle.sc_ring_law.specs.Allowed.{Sources, IsAllowed, ToldWorld, first_told, told_on, AreAllowed}
-use Rattle.sc_ring_law.specs.Laws.{BeginInPlace, BeginsInPlace, StandsBetween}
+use Rattle.sc_ring_law.specs.Laws.{BeginInPlace, BeginsInPlace}
 use Rattle.sc_ring_law.specs.Stories.{Stories}
 use Rattle.sc_group_law.proofs.Places.{Journal}
 use Rattle.sc_sound_law.specs.Together.{IsRequested}

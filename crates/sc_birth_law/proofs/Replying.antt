@@ -1,13 +1,11 @@
 -- A reply that a group of the journal gives is that of an entry of the history: also one that a child gives again, of what its parent did.
-use Rattle.std.proofs.Common.{◌≡◌, ℕ, List, [], ◌∷◌, ◌++◌, length, drop, Some, None, ◌⊎◌, inl, inr, refl, sym, ◌∙◌, ap, subst}
+use Rattle.std.proofs.Common.{◌≡◌, ℕ, List, [], ◌∷◌, ◌++◌, length, drop, Some, None, inl, inr, refl, ◌∙◌, ap, subst}
 use Rattle.std.proofs.lemmas.Bool.{cond-true}
 use Rattle.std.specs.FinMap.{get}
 use Rattle.sc_base.specs.Among.{Among, Each}
-use Rattle.sc_base.specs.declared.names.Draw.{Draw}
 use Rattle.sc_base.specs.declared.ops.Noted.{Noted}
 use Rattle.sc_base.specs.declared.ops.Reply.{Reply}
 use Rattle.sc_base.proofs.NameLemmas.{same_name}
-use Rattle.sc_cmd.specs.declared.commands.Command.{Command}
 use Rattle.sc_cmd.specs.declared.commands.Command.TheVariants.{Call}
 use Rattle.sc_cmd.specs.declared.cores.Base.{Base}
 use Rattle.sc_ideal.specs.History.{HasEntry}
@@ -17,8 +15,7 @@ use Rattle.sc_machine_table.proofs.LogLemmas.{state_push}
 use Rattle.sc_node_table.specs.Slots.{slots_ahead}
 use Rattle.sc_players.specs.Players.{route_of, Ahead}
 use Rattle.sc_scenario.specs.declared.scenarios.Scenario.{Scenario}
-use Rattle.sc_entries.specs.declared.LogEntry.{LogEntry}
-use Rattle.sc_entries.specs.Worlds.{named_group, is_named, world_of}
+use Rattle.sc_entries.specs.Worlds.{is_named}
 use Rattle.sc_hist_law.specs.Fronts.{log_in}
 use Rattle.sc_hist_law.proofs.Fronts.{fronts_answer}
 use Rattle.sc_sound.specs.GroupsOf.{entries_at, history_at}

@@ -1,23 +1,19 @@
 -- Each first part of a lawful journal of a lone group that may split is sound.
-use Rattle.std.proofs.Common.{◌≡◌, ℕ, ◌+◌, ◌-◌, ◌<◌, ◌≤◌, eqb, List, [], ◌∷◌, ◌++◌, length, drop, find, map, Some, None, ◌⊎◌, inl, inr, refl, sym, ◌∙◌, ap, subst, arith}
+use Rattle.std.proofs.Common.{◌≡◌, ℕ, ◌+◌, ◌-◌, ◌≤◌, eqb, List, [], ◌∷◌, ◌++◌, length, find, Some, None, inl, inr, refl, sym, ◌∙◌, ap, subst, arith}
 use Rattle.std.specs.Prelude.{slice_get}
-use Rattle.std.specs.List.{AllPairs}
 use Rattle.std.specs.Option.{option_map}
 use Rattle.std.proofs.lemmas.Bool.{cases_Bool, cases_lt, eqb-false, cond-true, cond-false}
-use Rattle.sc_base.specs.Among.{Among, Each}
-use Rattle.sc_base.specs.declared.ops.Op.{Op}
+use Rattle.sc_base.specs.Among.{Among}
 use Rattle.sc_base.specs.declared.ops.Reply.{Reply}
-use Rattle.sc_cmd.specs.declared.commands.Command.{Command}
-use Rattle.sc_cmd.specs.declared.commands.Command.TheVariants.{Call}
 use Rattle.sc_cmd.specs.declared.cores.Base.{Base}
 use Rattle.sc_cmd.specs.declared.orders.OrderLine.{OrderLine}
 use Rattle.sc_mail.specs.declared.bodies.Mail.{Mail}
 use Rattle.sc_actor.specs.declared.rows.Row.{Row}
 use Rattle.sc_actor.specs.Steps.{IsStep}
 use Rattle.sc_actor.proofs.WalkLemmas.{lawful-prefix}
-use Rattle.sc_ideal.specs.History.{HasEntry, AreApart as AreApartEntries}
+use Rattle.sc_ideal.specs.History.{HasEntry}
 use Rattle.sc_ideal.specs.declared.Entry.{Entry}
-use Rattle.sc_machine_table.specs.Group.{Group, group_of}
+use Rattle.sc_machine_table.specs.Group.{group_of}
 use Rattle.sc_machine_table.specs.Logs.{state_after}
 use Rattle.sc_node_table.specs.Node.{NodeState}
 use Rattle.sc_node_table.specs.Replica.{ReplicaState, name_of}
@@ -28,20 +24,17 @@ use Rattle.sc_players.specs.Players.{route_of, schedule, Ahead, system_of, Lawfu
 use Rattle.sc_players.specs.declared.roles.Role.TheVariants.{Node as ANode}
 use Rattle.sc_scenario.specs.declared.scenarios.Asks.{Asks}
 use Rattle.sc_scenario.specs.declared.scenarios.Scenario.{Scenario}
-use Rattle.sc_entries.specs.declared.Cut.{Cut}
-use Rattle.sc_entries.specs.declared.LogEntry.{LogEntry}
-use Rattle.sc_entries.specs.Worlds.{StoreWorld, named_group, first_world, world_after, world_of}
+use Rattle.sc_entries.specs.Worlds.{StoreWorld, named_group, first_world, world_of}
 use Rattle.sc_entries.proofs.Pushes.{world_append}
-use Rattle.sc_hist_law.specs.Fronts.{log_in}
 use Rattle.sc_hist_law.proofs.Fronts.{logs_make_states}
 use Rattle.sc_map_law.specs.Laws.{MakeOneMap}
-use Rattle.sc_sound.specs.GroupsOf.{children_of, is_birth_of, groups_at, birth_at, log_at, state_at, world_at, history_at, entries_at}
+use Rattle.sc_sound.specs.GroupsOf.{children_of, is_birth_of, groups_at, birth_at, state_at, world_at, history_at, entries_at}
 use Rattle.sc_sound.specs.Logs.{decided_log, decided_state}
 use Rattle.sc_sound.specs.Requests.{IsRequest, kept_replies, kept_reply, answer_row}
 use Rattle.sc_sound.specs.Soundness.{GoesOn, HasOneLog, HasRun, AllHaveRun, IsOneMap, AnswersRequests, told_row, IsTimely, KeepsRealTime, IsSound}
 use Rattle.sc_group_law.specs.Groups.{AreApart}
 use Rattle.sc_group_law.specs.Told.{HasExecuted}
-use Rattle.sc_group_law.proofs.Clients.{IsIssued, IsAnswered}
+use Rattle.sc_group_law.proofs.Clients.{IsAnswered}
 use Rattle.sc_group_law.proofs.Family.{h_of, Kept}
 use Rattle.sc_group_law.proofs.Holding.{held}
 use Rattle.sc_group_law.proofs.Names.{IsOneOf}
@@ -52,7 +45,7 @@ use Rattle.sc_group_law.proofs.Replicated.{one_value, is_log, executed_is, goes_
 use Rattle.sc_sound_law.proofs.Groups.{find_birth}
 use Rattle.sc_sound_law.proofs.Placing.{in_place}
 use Rattle.sc_sound_law.proofs.Sound.{same_first, one_place}
-use Rattle.sc_sound_law.proofs.Tellings.{among_place, told_in_order}
+use Rattle.sc_sound_law.proofs.Tellings.{told_in_order}
 use Rattle.sc_sound_law.specs.Together.{IsRequested}
 use Rattle.sc_birth_law.specs.LoneSplit.{HasLoneSplit}
 use Rattle.sc_birth_law.specs.Laws.{SplitJournalsAreSound}

@@ -1,5 +1,5 @@
 -- The entries of a journal of a lone group that may split, row by row: whose log each is of, and what they make of the groups.
-use Rattle.std.proofs.Common.{◌≡◌, ℕ, ◌+◌, true, false, List, [], ◌∷◌, ◌++◌, length, drop, map, Option, Some, None, ◌⊎◌, inl, inr, refl, sym, ◌∙◌, ap, subst, append_assoc, append-nil, arith}
+use Rattle.std.proofs.Common.{◌≡◌, ℕ, ◌+◌, List, [], ◌∷◌, ◌++◌, length, drop, map, Some, None, ◌⊎◌, inl, inr, refl, sym, ◌∙◌, ap, subst, append_assoc, append-nil}
 use Rattle.std.specs.List.{flat_map}
 use Rattle.std.specs.Option.{option_to_list}
 use Rattle.std.proofs.lemmas.Bool.{cond-true, cond-false}
@@ -16,33 +16,29 @@ use Rattle.sc_machine_table.specs.Group.{Group, group_of}
 use Rattle.sc_machine_table.specs.Logs.{state_after}
 use Rattle.sc_machine_table.specs.Machine.{applied}
 use Rattle.sc_node_table.specs.Slots.{slots_ahead}
-use Rattle.sc_paxos_words.proofs.ListLemmas.{Each-append, Each-weaker}
+use Rattle.sc_paxos_words.proofs.ListLemmas.{Each-weaker}
 use Rattle.sc_players.specs.Players.{route_of, Ahead}
 use Rattle.sc_scenario.specs.declared.scenarios.Scenario.{Scenario}
-use Rattle.sc_entries.specs.Births.{birth_of}
 use Rattle.sc_entries.specs.declared.LogEntry.{LogEntry}
 use Rattle.sc_entries.specs.Worlds.{StoreWorld, named_group, is_named, told, first_world, world_after, world_of}
 use Rattle.sc_entries.proofs.Pushes.{world_append}
 use Rattle.sc_hist_law.specs.Fronts.{log_in}
 use Rattle.sc_hist_law.proofs.Logs.{applied_same, state_same}
-use Rattle.sc_sound.specs.GroupsOf.{children_of, groups_at, log_at, entries_from, entries_by_row, entries_at, world_at}
+use Rattle.sc_sound.specs.GroupsOf.{children_of, log_at, entries_from, entries_by_row, entries_at, world_at}
 use Rattle.sc_sound.specs.Logs.{decided_log, decided_state}
 use Rattle.sc_sound.proofs.EntryRows.{entries-push, world-push}
-use Rattle.sc_group_law.specs.Groups.{AreApart}
 use Rattle.sc_group_law.proofs.Family.{Kept, entries_made}
 use Rattle.sc_group_law.proofs.Places.{Journal}
 use Rattle.sc_sound_law.proofs.Groups.{not_same}
-use Rattle.sc_sound_law.proofs.Tellings.{state_append, each_flat_map}
+use Rattle.sc_sound_law.proofs.Tellings.{state_append}
 use Rattle.sc_birth_law.specs.LoneSplit.{HasLoneSplit}
 use Rattle.sc_birth_law.specs.Once.{IsOnce}
 use Rattle.sc_birth_law.proofs.Born.{IsWhole, IsParted, kids_in, bases_of}
 use Rattle.sc_birth_law.proofs.Dividing.{SplitsOnce, log_kept}
 use Rattle.sc_birth_law.proofs.Found.{whole_groups, apart, both_apart, parted_groups, log_is, log_on, gained, row_decides, unborn_log, unborn_at}
-use Rattle.sc_birth_law.proofs.Growing.{grown}
-use Rattle.sc_birth_law.proofs.Kids.{IsKid, HasKids, kids_are, lone_stands, children_append}
-use Rattle.sc_birth_law.proofs.Logs.{log_append, log_own, log_other, from_append, each_from, one_told, alone_told}
+use Rattle.sc_birth_law.proofs.Kids.{IsKid, kids_are, lone_stands, children_append}
+use Rattle.sc_birth_law.proofs.Logs.{log_append, log_own, log_other, from_append, one_told, alone_told}
 use Rattle.sc_birth_law.proofs.Made.{MadeSplit, ThePlan, made_once}
-use Rattle.sc_birth_law.proofs.OneMap.{Fits, FitsEntry, made_fits}
 
 -- what holds of each element of two parts holds of each of the second
 each_behind : {X : Type 0} (P : X → Type 0) (xs ys : List X) → Each P (xs ++ ys) → Each P ys

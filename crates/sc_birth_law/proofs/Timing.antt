@@ -1,7 +1,6 @@
 -- The rows that issue, decide and answer the entries of the history of a journal of a lone group that may split, with each row.
-use Rattle.std.proofs.Common.{◌≡◌, ℕ, zero, suc, ◌+◌, ◌<◌, ◌≤◌, nat_lt, nat_le, List, [], ◌∷◌, ◌++◌, length, drop, Option, Some, None, ◌⊎◌, inl, inr, refl, sym, ◌∙◌, ap, subst, length-append, append-nil, arith}
+use Rattle.std.proofs.Common.{◌≡◌, ℕ, zero, suc, ◌+◌, ◌<◌, ◌≤◌, nat_lt, nat_le, List, [], ◌∷◌, ◌++◌, length, drop, Option, Some, None, inl, inr, refl, sym, ◌∙◌, ap, subst, length-append, arith}
 use Rattle.std.specs.Prelude.{slice_get}
-use Rattle.std.specs.List.{flat_map}
 use Rattle.std.proofs.lemmas.Bool.{cases_lt, lt-ltb, le-ltb, le-leb, lt-leb, cond-true, cond-false}
 use Rattle.std.proofs.lemmas.List.{length_push}
 use Rattle.std.proofs.lemmas.Option.{slice_get_within}
@@ -32,10 +31,10 @@ use Rattle.sc_sound.specs.Requests.{issues, issue_row, kept_replies, answer_row}
 use Rattle.sc_sound.specs.Soundness.{told_row}
 use Rattle.sc_sound.proofs.EntryRows.{entries-push, world-push}
 use Rattle.sc_group_law.proofs.Clients.{IsIssued, IsAnswered}
-use Rattle.sc_group_law.proofs.Family.{h_of, entry_offered, Kept, ClientMoved, Moved, push, entries_made, decided_is}
+use Rattle.sc_group_law.proofs.Family.{h_of, entry_offered, Kept, ClientMoved, Moved, push, decided_is}
 use Rattle.sc_group_law.proofs.Invariant.{rule}
 use Rattle.sc_group_law.proofs.Places.{Journal, or_now, issue-push, answered-push}
-use Rattle.sc_sound_law.proofs.Tellings.{among_place, get_front, each_flat_map, told-push}
+use Rattle.sc_sound_law.proofs.Tellings.{among_place, get_front, told-push}
 use Rattle.sc_birth_law.specs.LoneSplit.{HasLoneSplit}
 use Rattle.sc_birth_law.proofs.Born.{bases_of}
 use Rattle.sc_birth_law.proofs.Found.{apart, gained, log_on}

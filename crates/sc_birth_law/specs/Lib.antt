@@ -1,3 +1,4 @@
 pub mod LoneSplit
 pub mod Once
 pub mod Laws
+pub mod SplitExample

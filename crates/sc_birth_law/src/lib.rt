@@ -2,6 +2,23 @@
 //! Definitions and laws, no logic.
 #![tactic(auto)]
 
+ghost use Rattle.std.specs.Prelude.{◌≡◌, [], ◌∷◌};
+ghost use Rattle.sc_actor.specs.System.{no_words};
+ghost use Rattle.sc_players.specs.Players.{Lawful};
+ghost use Rattle.sc_sound.specs.Example.{four};
+ghost use Rattle.sc_sound.specs.GroupsOf.{groups_at, ring_at};
+ghost use Rattle.sc_sound.specs.Logs.{decided_log};
+ghost use Rattle.sc_sound.specs.Soundness.{IsSound};
+ghost use Rattle.sc_birth_law.specs.LoneSplit.{HasLoneSplit};
+ghost use Rattle.sc_birth_law.specs.SplitExample.{
+  pair,
+  kid,
+  split,
+  call,
+  parts,
+  split_scenario,
+  split_example,
+};
 ghost use Rattle.sc_birth_law.specs.Laws.{SplitJournalsAreSound};
 ghost use Rattle.sc_birth_law.specs.Once.{LogsNameOneChild, SplitsAreScheduled};
 
@@ -26,4 +43,16 @@ pub fn logs_name_one_child()
 /// A lawful journal tells no more orders to split than its schedule has.
 pub fn splits_are_scheduled()
     ensures { SplitsAreScheduled }
+{}
+
+/// The law is about something: a lawful journal of two nodes in which a lone group splits, the
+/// second node makes the child, and the child decides a request that its parent sends on.
+pub fn a_journal_with_a_split()
+    ensures lone { HasLoneSplit split_scenario pair }
+    ensures lawful { Lawful four no_words split_scenario split_example }
+    ensures sound { IsSound four split_scenario split_example [] }
+    ensures groups { groups_at four (pair ∷ []) split_example ≡ pair ∷ kid ∷ [] }
+    ensures log { decided_log four pair split_example ≡ split ∷ [] }
+    ensures kid_log { decided_log four kid split_example ≡ call ∷ [] }
+    ensures ring { ring_at four (pair ∷ []) split_example ≡ parts }
 {}

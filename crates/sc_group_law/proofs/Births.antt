@@ -1,8 +1,7 @@
 -- What holds of a scenario's groups before any row, and what the start of a group gives.
-use Rattle.std.proofs.Common.{◌≡◌, ℕ, zero, suc, ◌+◌, ◌<◌, ◌≤◌, List, [], ◌∷◌, length, take, map, filter, replicate, Some, inl, inr, refl, sym, ◌∙◌, ap, subst, arith}
-use Rattle.std.specs.Prelude.{slice_get}
+use Rattle.std.proofs.Common.{◌≡◌, ℕ, ◌≤◌, List, [], ◌∷◌, length, map, filter, inl, inr, refl, sym, ◌∙◌, ap, subst, arith}
 use Rattle.std.specs.FinMap.{empty}
-use Rattle.std.proofs.lemmas.Bool.{eqb-true, cond_both}
+use Rattle.std.proofs.lemmas.Bool.{cond_both}
 use Rattle.sc_base.specs.Among.{Among, Each}
 use Rattle.sc_cmd.specs.declared.commands.Command.{Command}
 use Rattle.sc_cmd.specs.declared.cores.Base.{Base}
@@ -11,8 +10,6 @@ use Rattle.sc_ideal.specs.IdealStore.{with_pairs}
 use Rattle.sc_ideal.specs.Clients.{joined_with}
 use Rattle.sc_member.specs.Roster.{is_member}
 use Rattle.sc_node_table.specs.Replica.{ReplicaState, name_of, born_replica}
-use Rattle.sc_paxos_words.specs.Acceptors.{born_acceptor}
-use Rattle.sc_paxos_law.specs.Chosen.{needed}
 use Rattle.sc_scenario.specs.declared.scenarios.Scenario.{Scenario}
 use Rattle.sc_cmd.specs.declared.links.Route.{Route}
 use Rattle.sc_players.specs.Players.{Ahead}
@@ -20,9 +17,8 @@ use Rattle.sc_hist_law.specs.Laws.{LeavesWhole, LogTells}
 use Rattle.sc_hist_law.proofs.Told.{log_tells}
 use Rattle.sc_machine_table.specs.Logs.{state_after}
 use Rattle.sc_group_law.specs.Groups.{StartsEmpty, AreApart, HasGroups}
-use Rattle.sc_group_law.proofs.Held.{mirrors_itself}
 use Rattle.sc_group_law.proofs.Rosters.{state_roster}
-use Rattle.sc_group_law.proofs.Invariant.{rule, first, birth, IsReplica}
+use Rattle.sc_group_law.proofs.Invariant.{rule, birth}
 use Rattle.sc_group_law.proofs.Holding.{IsOther, Holds, holds_none}
 use Rattle.sc_group_law.proofs.Newborn.{born_replica_is}
 use Rattle.sc_group_law.proofs.Names.{IsOneOf}

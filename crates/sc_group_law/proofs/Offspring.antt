@@ -1,5 +1,5 @@
 -- The children that a mail makes at a node: each is the child of a front of the log, by a command that the row executes.
-use Rattle.std.proofs.Common.{◌≡◌, ℕ, ◌+◌, ◌&&◌, nat_lt, Bool, true, false, eqb, List, [], ◌∷◌, ◌++◌, length, Option, Some, None, inl, inr, refl, sym, ◌∙◌, ap, subst}
+use Rattle.std.proofs.Common.{◌≡◌, ℕ, ◌+◌, ◌&&◌, nat_lt, Bool, true, false, eqb, List, [], ◌∷◌, ◌++◌, length, Option, Some, None, inl, inr, refl, sym, subst}
 use Rattle.std.proofs.lemmas.Bool.{eqb-true, and_parts, cond_both}
 use Rattle.sc_base.specs.declared.names.Ballot.{Ballot}
 use Rattle.sc_base.specs.declared.names.Draw.{Draw}
@@ -19,7 +19,7 @@ use Rattle.sc_paxos_words.specs.Leaders.{LeaderState, without_flight_at}
 use Rattle.sc_paxos_words.specs.declared.answers.Counted.{Counted}
 use Rattle.sc_paxos_words.specs.Votes.{counted}
 use Rattle.sc_paxos_words.proofs.ListLemmas.{Each-among, Each-append, Each-weaker}
-use Rattle.sc_paxos_law.specs.Steps.{Step, Prepared, Offered, Accepted}
+use Rattle.sc_paxos_law.specs.Steps.{Prepared, Offered, Accepted}
 use Rattle.sc_paxos_law.specs.Chosen.{Rule, IsLog}
 use Rattle.sc_paxos_law.proofs.Law.{earlier}
 use Rattle.sc_node_table.specs.Births.{with_child, next_child, ready_children, executed_children, learnt_children, readied_children, tallied_children, voted_children, accepted_children}

@@ -1,0 +1,100 @@
+-- A journal of two nodes: a lone group splits, the second node makes the child, and a client that asks the parent for a key of the child is sent on to it, which decides the request.
+use Rattle.std.specs.Prelude.{ℕ, false, List, [], ◌∷◌}
+use Rattle.sc_base.specs.declared.names.Ballot.{Ballot}
+use Rattle.sc_base.specs.declared.names.Draw.{Draw}
+use Rattle.sc_base.specs.declared.ops.Op.{Op}
+use Rattle.sc_base.specs.declared.ops.Op.TheVariants.{Put}
+use Rattle.sc_cmd.specs.declared.commands.Command.{Command}
+use Rattle.sc_cmd.specs.declared.commands.Command.TheVariants.{Call, Split}
+use Rattle.sc_cmd.specs.declared.cores.Base.{Base}
+use Rattle.sc_cmd.specs.declared.links.Link.{Link}
+use Rattle.sc_cmd.specs.declared.orders.OrderLine.{OrderLine}
+use Rattle.sc_cmd.specs.declared.orders.Order.TheVariants as An
+use Rattle.sc_cmd.specs.declared.orders.ToldResult.TheVariants as Tells
+use Rattle.sc_mail.specs.declared.bodies.AnswerBody.TheVariants as Says
+use Rattle.sc_mail.specs.declared.bodies.Mail.{Mail}
+use Rattle.sc_mail.specs.declared.bodies.MailBody.TheVariants.{Request, Answer, Accept, Accepted, Learn, Told as ToldMail}
+use Rattle.sc_machine_table.specs.Group.{group_of}
+use Rattle.sc_machine_table.specs.Splits.{child_of}
+use Rattle.sc_actor.specs.declared.rows.Row.{Row}
+use Rattle.sc_actor.specs.declared.rows.Event.TheVariants.{Deliver, Go, Told}
+use Rattle.sc_entries.specs.declared.Cut.{Cut}
+use Rattle.sc_scenario.specs.Groups.{lone_group, lone_name}
+use Rattle.sc_scenario.specs.declared.scenarios.SchedLine.TheVariants as line
+use Rattle.sc_scenario.specs.declared.scenarios.Scenario.{Scenario}
+use Rattle.sc_sound.specs.Example.{mail, row}
+
+-- a group of both nodes, with the whole circle
+abbrev pub pair : Base
+pair = lone_group 0 (1 ∷ 2 ∷ [])
+
+-- where it splits: keys from p on go to the child
+abbrev pub place : ℕ
+place = 1879048192
+
+-- the first name that node 1 draws
+abbrev pub kid_name : Draw
+kid_name = record { node = 1; count = 1 }
+
+-- the order to split
+abbrev pub order : OrderLine
+order = record { number = 1; order = An.Split lone_name place }
+
+-- the order, as a command
+abbrev pub split : Command
+split = Split place kid_name 1
+
+-- the child, whose one member is node 2
+abbrev pub kid : Base
+kid = child_of (group_of pair) place kid_name
+
+-- the one request: x at the key z, which is the child's
+abbrev pub put_z : Op
+put_z = Put (122 ∷ []) (120 ∷ [])
+
+-- the request, as a command
+abbrev pub call : Command
+call = Call 1 1 put_z
+
+-- the split is ordered and carried out, and then the client starts
+abbrev pub split_scenario : Scenario
+split_scenario = record {
+  nodes = 2;
+  groups = pair ∷ [];
+  policy = false;
+  clients = record { client = 1; ops = put_z ∷ [] } ∷ [];
+  lines = line.Told 1 order ∷ line.Settle 100 ∷ line.Go 1 ∷ line.Settle 100 ∷ [];
+  brief = false;
+  version = 1;
+}
+
+-- the ballots of the first leaders
+abbrev pub leads : Ballot
+leads = record { round = 1; node = 1 }
+
+-- the child's first leader is its own member
+abbrev pub kid_leads : Ballot
+kid_leads = record { round = 1; node = 2 }
+
+-- the way to the child
+abbrev pub way : Link
+way = record { group = kid_name; members = 2 ∷ [] }
+
+-- both nodes decide the split; node 2 executes it when it learns it, and leads the child from birth
+abbrev pub split_example : List (Row Mail OrderLine)
+split_example =
+    row 1 (Told order) (record { from = 1; to = 1; body = Accept lone_name leads 1 split } ∷ record { from = 1; to = 2; body = Accept lone_name leads 1 split } ∷ [])
+    ∷ row 1 (Deliver 1) (mail 1 1 (Accepted lone_name leads 1))
+    ∷ row 2 (Deliver 2) (mail 2 1 (Accepted lone_name leads 1))
+    ∷ row 1 (Deliver 3) []
+    ∷ row 1 (Deliver 4) (record { from = 1; to = 0; body = ToldMail 1 Tells.Done } ∷ record { from = 1; to = 2; body = Learn lone_name 1 split } ∷ [])
+    ∷ row 2 (Deliver 6) (mail 2 0 (ToldMail 1 Tells.Done))
+    ∷ row 33 Go (mail 33 1 (Request lone_name 1 1 put_z))
+    ∷ row 1 (Deliver 8) (mail 1 33 (Answer lone_name 1 (Says.NotMine (record { lo = 0; len = place }) way)))
+    ∷ row 33 (Deliver 9) (mail 33 2 (Request kid_name 1 1 put_z))
+    ∷ row 2 (Deliver 10) (mail 2 2 (Accept kid_name kid_leads 1 call))
+    ∷ row 2 (Deliver 11) (mail 2 2 (Accepted kid_name kid_leads 1)) ∷ []
+
+-- the ring afterwards
+abbrev pub parts : List Cut
+parts = record { arc = record { lo = 0; len = place }; group = lone_name } ∷ record { arc = record { lo = place; len = 2415919104 }; group = kid_name } ∷ []
