@@ -1,6 +1,6 @@
 -- The positions of keys from a position on rise.
-use Rattle.std.proofs.Common.{◌≡◌, ℕ, zero, suc, ◌+◌, ◌-◌, ◌%◌, ◌^◌, ◌<◌, ◌≤◌, leb, ltb, List, [], ◌∷◌, ◌++◌, length, map, filter, Bool, true, false, not, cond, ◌&&◌, get_or, refl, sym, ap, ◌∙◌, arith, length-append, All}
-use Rattle.std.specs.List.{AllPairs, list_all}
+use Rattle.std.proofs.Common.{◌≡◌, ℕ, suc, ◌+◌, ◌-◌, ◌%◌, ◌^◌, ◌<◌, ◌≤◌, leb, ltb, List, [], ◌∷◌, ◌++◌, length, filter, Bool, true, false, not, cond, get_or, refl, ap, ◌∙◌, arith, length-append, All}
+use Rattle.std.specs.List.{AllPairs}
 use Rattle.std.specs.Ordering.{nat_cmp, is_lt}
 use Rattle.std.specs.Cmp.Lexicographic.{slice_cmp}
 use Rattle.std.specs.FinMap.Entries.{below_all}
@@ -12,9 +12,9 @@ use Rattle.std.proofs.lemmas.List.Elements.{All-nil, All-cons, All-tail, All-hea
 use Rattle.std.proofs.Math.Nat.{add-mod_left, mod-eq_of_lt}
 use Rattle.sc_base.specs.Ascending.{IsAscending}
 use Rattle.sc_base.specs.Limits.{longest_key}
-use Rattle.sc_base.specs.Text.{IsText, is_visible, pos_of}
+use Rattle.sc_base.specs.Text.{IsText, pos_of}
 use Rattle.sc_base.proofs.AscendingLemmas.{is_less}
-use Rattle.sc_policy.specs.Wishes.{positions, positions_from}
+use Rattle.sc_policy.specs.Wishes.{positions}
 use Rattle.sc_policy.specs.Laws.{far_from, KeysRiseFromTheStart}
 use Rattle.sc_policy.proofs.Fronts.{are_bytes, pos_le, pos_small}
 

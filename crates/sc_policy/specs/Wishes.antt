@@ -3,11 +3,11 @@ use Rattle.std.specs.Prelude.{ℕ, ◌+◌, ◌/◌, ◌%◌, ◌^◌, ◌==◌,
 use Rattle.std.specs.Option.{option_map}
 use Rattle.sc_base.specs.Arc.{Arc}
 use Rattle.sc_base.specs.declared.names.Draw.{Draw}
+use Rattle.sc_base.specs.Same.{same_draw}
 use Rattle.sc_base.specs.Text.{pos_of}
 use Rattle.sc_cmd.specs.declared.cores.Core.{Core}
 use Rattle.sc_cmd.specs.declared.orders.Order.{Order}
 use Rattle.sc_cmd.specs.declared.orders.Order.TheVariants as An
-use Rattle.sc_machine_table.specs.Orders.{is_alone}
 use Rattle.sc_policy.specs.declared.bodies.Body0.{Body0}
 use Rattle.sc_policy.specs.declared.bodies.Body0.TheVariants.{Split, Merge, Repart}
 
@@ -22,6 +22,10 @@ is_small core = nat_lt (length core.members) 3
 -- more than 128 pairs are too many
 abbrev pub is_full : List (List ℕ × List ℕ) → Bool
 is_full pairs = nat_lt 128 (length pairs)
+
+-- whether another group is its successor
+abbrev pub has_neighbour : Core → Bool
+has_neighbour core = not (same_draw core.succ.group core.id)
 
 -- the position in the middle of an arc
 abbrev pub middle_of : Arc → ℕ
@@ -58,8 +62,8 @@ wished_of_two core pairs =
 abbrev pub wished : Core → List (List ℕ × List ℕ) → Option Body0
 wished core pairs =
     if wants_split core then Some (Split (middle_of core.arc))
-    else if is_alone core then None
-    else wished_of_two core pairs
+    else if has_neighbour core then wished_of_two core pairs
+    else None
 
 -- the order of what is wished to the group of that name
 abbrev pub order_of : Draw → Body0 → Order

@@ -1,6 +1,6 @@
 //! What is wished of a group.
 ghost use Rattle.std.specs.Prelude.{◌≡◌, nat_le, nat_lt, length, filter, slice_get};
-ghost use Rattle.sc_policy.specs.Wishes.{middle_of, positions, middle_key, wants_split, wished, wished_of_two, wished_order};
+ghost use Rattle.sc_policy.specs.Wishes.{has_neighbour, middle_of, positions, middle_key, wants_split, wished, wished_of_two, wished_order};
 
 use crate::bodies::Body0;
 use sc_base::{Key, Pairs, RingArc, Value};
@@ -28,10 +28,10 @@ pub fn wish(core: &Core, keys: &Pairs) -> Option<Body0>
         let at = middle_of(&core.arc);
         return Some(Body0::Split { at });
     }
-    if same_draw(core.succ.group, core.id) {
-        return None;
+    if has_neighbour(core) {
+        return wish_of_two(core, keys);
     }
-    wish_of_two(core, keys)
+    None
 }
 
 /// The order that a policy makes for a group of that record with these pairs, if it makes one.
@@ -48,6 +48,12 @@ fn wants_split(core: &Core) -> bool
     ensures { result ≡ wants_split core.now }
 {
     core.members.len() > MOST_MEMBERS && core.arc.len() > 1
+}
+
+fn has_neighbour(core: &Core) -> bool
+    ensures { result ≡ has_neighbour core.now }
+{
+    !same_draw(core.succ.group, core.id)
 }
 
 // The position in the middle.

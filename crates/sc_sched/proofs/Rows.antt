@@ -1,5 +1,5 @@
 -- A step of a storm makes the row of its deed.
-use Rattle.std.proofs.Common.{◌≡◌, ℕ, zero, suc, ◌+◌, ◌-◌, ◌%◌, ◌<◌, ◌≤◌, eqb, List, [], ◌∷◌, length, map, Bool, true, false, cond, ◌&&◌, not, get_or, refl, sym, ap, ◌∙◌, subst, arith, All, Option, None, Some}
+use Rattle.std.proofs.Common.{◌≡◌, ℕ, zero, suc, ◌+◌, ◌-◌, ◌%◌, ◌<◌, ◌≤◌, eqb, List, length, map, Bool, true, false, cond, ◌&&◌, not, get_or, refl, sym, ap, ◌∙◌, subst, arith, All, Option, None, Some}
 use Rattle.std.specs.Prelude.{slice_get, option_and_then}
 use Rattle.std.specs.Option.{option_map}
 use Rattle.std.proofs.lemmas.Bool.{and_parts, eqb-true}
@@ -8,7 +8,7 @@ use Rattle.std.proofs.lemmas.List.Elements.{All-filter}
 use Rattle.std.proofs.lemmas.Option.{slice_get-map, slice_get_past}
 use Rattle.sc_actor.specs.declared.rows.Row.{Row}
 use Rattle.sc_actor.specs.declared.rows.Event.TheVariants.{Deliver, Drop, Tick}
-use Rattle.sc_actor.specs.Mail.{mails, copies, numbers, numbered, has_crashed, may_get}
+use Rattle.sc_actor.specs.Mail.{mails, copies, numbers, numbered, has_crashed}
 use Rattle.sc_actor.specs.System.{System, waiting, numbers_of, network, kth, acts}
 use Rattle.sc_actor.specs.Walk.{storm_row, picked, delivery, repeat_of}
 use Rattle.sc_actor.specs.Steps.{IsUnderWay}
@@ -16,7 +16,6 @@ use Rattle.sc_actor.proofs.PendingLemmas.{waiting_at}
 use Rattle.sc_ledger.specs.declared.spots.Spot.{Spot}
 use Rattle.sc_ledger.specs.declared.spots.Look.{Look}
 use Rattle.sc_ledger.specs.Pending.{upto, pending_of, kth_pending}
-use Rattle.sc_ledger.specs.Spots.{spots_of}
 use Rattle.sc_exchange.specs.Answers.{IsLook}
 use Rattle.sc_sched.specs.Deeds.{is_actor, copies_for, picked_spot, dropped, delivered, ticked, repeated, deed_by}
 use Rattle.sc_sched.specs.Laws.{deed_row, AreWithin}

@@ -1,9 +1,9 @@
 -- A key that does not stand in the first part stands in the second.
-use Rattle.std.proofs.Common.{◌≡◌, ℕ, ◌+◌, ◌-◌, ◌<◌, ◌≤◌, ◌/◌, List, ◌++◌, length, filter, nat_le, nat_lt, slice_get, arith, get_or, ap, sym, ◌∙◌}
+use Rattle.std.proofs.Common.{◌≡◌, ℕ, ◌-◌, ◌<◌, ◌≤◌, ◌/◌, List, ◌++◌, length, filter, nat_le, nat_lt, slice_get, arith, get_or, sym, ◌∙◌}
 use Rattle.std.specs.Prelude.{unwrap_or}
 use Rattle.std.proofs.lemmas.Option.{unwrap_or-slice_get}
 use Rattle.std.proofs.lemmas.List.{get_or_append_left, get_or-append_right}
-use Rattle.sc_policy.specs.Wishes.{positions, middle_key}
+use Rattle.sc_policy.specs.Wishes.{positions}
 use Rattle.sc_policy.proofs.wishes.middle_key.Goals as goal
 use Rattle.sc_policy.proofs.wishes.middle_key.Goals.{then-middle-above, else-middle-above}
 

@@ -1,5 +1,5 @@
 -- Of the chain's items the one at that place.
-use Rattle.std.proofs.Common.{◌≡◌, ◌∙◌, sym, rules, nat_lt}
+use Rattle.std.proofs.Common.{◌∙◌, sym, rules, nat_lt}
 use borrow.Author.Tests.{tests}
 use Rattle.std.proofs.lemmas.Iterator.{YieldsList-from_slice, YieldsList-from_map}
 use Rattle.std.proofs.lemmas.Iterator.Consumers.{YieldsList-at, YieldsList-from_filter, nth_from_yields_List}
