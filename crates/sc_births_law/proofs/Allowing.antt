@@ -18,7 +18,7 @@ use Rattle.sc_ring_law.specs.Stories.{stories_after}
 use Rattle.sc_ring_law.proofs.Grows.{allowed_entries_stay_allowed}
 use Rattle.sc_ring_law.proofs.Sound.{entries_keep_the_promises}
 use Rattle.sc_sound.specs.GroupsOf.{entries_by_rows, entries_at}
-use Rattle.sc_births_law.specs.Findings.{MakesAllowed}
+use Rattle.sc_births_law.specs.Allows.{MakesAllowed}
 use Rattle.sc_births_law.specs.Laws.{AllowedStaysAllowed, FrontsAllow, StatesAllow}
 use Rattle.sc_births_law.proofs.Births.{store_after, told_append}
 use Rattle.sc_births_law.proofs.Children.{own_first, other_first}

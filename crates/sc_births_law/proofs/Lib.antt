@@ -10,6 +10,7 @@ pub mod Parts
 pub mod Findings
 pub mod Histories
 pub mod Allowing
+pub mod Allows
 pub mod Notes
 pub mod Times
 pub mod Sound

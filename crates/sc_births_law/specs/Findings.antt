@@ -9,18 +9,14 @@ use Rattle.sc_cmd.specs.declared.orders.OrderLine.{OrderLine}
 use Rattle.sc_mail.specs.declared.bodies.Mail.{Mail}
 use Rattle.sc_actor.specs.declared.rows.Row.{Row}
 use Rattle.sc_ideal.specs.declared.Entry.{Entry}
-use Rattle.sc_machine_table.specs.Group.{Group, group_of}
+use Rattle.sc_machine_table.specs.Group.{group_of}
 use Rattle.sc_machine_table.specs.Logs.{state_after}
-use Rattle.sc_machine_table.specs.Machine.{applied}
 use Rattle.sc_players.specs.Players.{Ahead}
 use Rattle.sc_entries.specs.declared.LogEntry.{LogEntry}
 use Rattle.sc_entries.specs.Worlds.{named_group}
 use Rattle.sc_hist_law.specs.Fronts.{log_in}
 use Rattle.sc_hist_law.specs.Moves.{HasNotes}
 use Rattle.sc_sound.specs.GroupsOf.{children_of, children_by, groups_at, birth_at, log_at, state_at, entries_at, world_at, history_at}
-use Rattle.sc_ring_law.specs.Allowed.{Sources, IsAllowed}
-use Rattle.sc_ring_law.specs.Invariant.{Groups, Facts}
-use Rattle.sc_ring_law.specs.Stories.{Stories, stories_after}
 use Rattle.sc_sound.specs.Logs.{decided_log, decided_state}
 use Rattle.sc_sound.specs.Soundness.{GoesOn, IsOneMap, told_row}
 use Rattle.sc_births_law.specs.Descent.{Rows, IsFound, added_by, newborn_by}
@@ -50,7 +46,7 @@ pub record AreFound (ahead : Ahead) (bases : List Base) (rows : Rows) : Type 0 w
   -- each is known by its name
   pub known : (base : Base) → Among base (groups_at ahead bases rows) → IsKnown ahead bases rows base
 
--- what one more row makes of the groups: each was there before, or is a child that the row's entries name, whose name was nobody's and whose log is empty
+-- a child that a row's own entries name: its name was nobody's, and its log is empty
 pub record IsNewborn (ahead : Ahead) (bases : List Base) (before : Rows) (row : Row Mail OrderLine) (child : Base) : Type 0 where
   pub parent : Base
   pub stands : Among parent (groups_at ahead bases before)
@@ -58,7 +54,7 @@ pub record IsNewborn (ahead : Ahead) (bases : List Base) (before : Rows) (row : 
   pub unborn : birth_at ahead bases before child.core.id ≡ None
   pub silent : decided_log ahead child (before ++ row ∷ []) ≡ []
 
--- each group after a row was there before it, or is new
+-- each group after a row was there before it, or is such a child
 abbrev pub AreOldOrNew : Ahead → List Base → Rows → Row Mail OrderLine → Type 0
 AreOldOrNew ahead bases before row =
     (base : Base) → Among base (groups_at ahead bases (before ++ row ∷ [])) → Among base (groups_at ahead bases before) ⊎ IsNewborn ahead bases before row base
@@ -75,15 +71,6 @@ pub record TellOneMap (ahead : Ahead) (bases : List Base) (rows : Rows) : Type 0
   pub map : IsOneMap (world_at ahead bases rows)
   pub notes : (base : Base) → Among base (groups_at ahead bases rows) → (front later : List Command) → decided_log ahead base rows ≡ front ++ later
       → HasNotes (history_at ahead bases rows) (state_after (group_of base) front).clients
-
--- an entry of a group makes a command allowed, whatever was told before it
-abbrev pub MakesAllowed : Sources → Draw → Group → Command → Draw → Command → Type 0
-MakesAllowed sources by group entry name command = (groups : Groups) (stories : Stories) → Facts sources.owner groups stories → groups by ≡ Some group → IsAllowed sources stories by entry
-    → IsAllowed sources (stories_after group entry (applied group entry).1 stories) name command
-
--- a group as it stands makes a command allowed, whatever was told so far
-abbrev pub StandsFor : Sources → Draw → Group → Draw → Command → Type 0
-StandsFor sources by group name command = (groups : Groups) (stories : Stories) → Facts sources.owner groups stories → groups by ≡ Some group → IsAllowed sources stories name command
 
 -- ---- rows
 

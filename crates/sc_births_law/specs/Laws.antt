@@ -10,7 +10,7 @@ use Rattle.sc_actor.specs.declared.rows.Row.{Row}
 use Rattle.sc_ideal.specs.declared.Entry.{Entry}
 use Rattle.sc_players.specs.Players.{Ahead}
 use Rattle.sc_scenario.specs.declared.scenarios.Scenario.{Scenario}
-use Rattle.sc_machine_table.specs.Group.{group_of}
+use Rattle.sc_machine_table.specs.Group.{Group, group_of}
 use Rattle.sc_machine_table.specs.Logs.{state_after}
 use Rattle.sc_ring_law.specs.Allowed.{Sources, IsAllowed, AreAllowed, first_told}
 use Rattle.sc_ring_law.specs.Laws.{BeginInPlace, stories_of}
@@ -18,10 +18,11 @@ use Rattle.sc_hist_law.specs.Worlds.{BeginBare}
 use Rattle.sc_sound.specs.GroupsOf.{groups_at, entries_at, history_at}
 use Rattle.sc_sound.specs.Logs.{decided_log}
 use Rattle.sc_sound.specs.Soundness.{IsSound}
+use Rattle.sc_births_law.specs.Allows.{StandsFor, MakesAllowed, GroupAllows}
 use Rattle.sc_births_law.specs.Beside.{HoldsBeside}
 use Rattle.sc_births_law.specs.Descent.{Rows}
 use Rattle.sc_births_law.specs.InTurn.{DecidesInTurn, DecideInTurn, DecidesForOne}
-use Rattle.sc_births_law.specs.Findings.{AreFound, AreOldOrNew, AreItsLogs, MakesAllowed, StandsFor, TellOneMap, IsToldAt, StayAsTold}
+use Rattle.sc_births_law.specs.Findings.{AreFound, AreOldOrNew, AreItsLogs, TellOneMap, IsToldAt, StayAsTold}
 
 -- each row decides for one group at most
 abbrev pub RowsDecideForOne : Type 0
@@ -66,6 +67,10 @@ abbrev pub StatesAllow : Type 0
 StatesAllow = (sources : Sources) (ahead : Ahead) (bases : List Base) → BeginInPlace sources bases → (rows : Rows) → DecideInTurn sources ahead bases [] rows
     → (base : Base) → Among base (groups_at ahead bases rows) → (front later : List Command) → decided_log ahead base rows ≡ front ++ later
     → (name : Draw) (command : Command) → StandsFor sources base.core.id (state_after (group_of base) front) name command → IsAllowed sources (stories_of bases (entries_at ahead bases rows)) name command
+
+-- so who takes part in a transaction, or coordinates it, acts by what was told
+abbrev pub GroupsAllowOthers : Type 0
+GroupsAllowOthers = (sources : Sources) (by : Draw) (group : Group) → GroupAllows sources by group
 
 -- they make one map
 abbrev pub EntriesTellOneMap : Type 0

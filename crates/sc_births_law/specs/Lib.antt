@@ -1,3 +1,4 @@
+pub mod Allows
 pub mod Beside
 pub mod Descent
 pub mod Example

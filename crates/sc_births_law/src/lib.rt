@@ -10,6 +10,7 @@ ghost use Rattle.sc_births_law.specs.Laws.{
   EntriesAreLogs,
   EntriesTellOneMap,
   FrontsAllow,
+  GroupsAllowOthers,
   GroupsAreFound,
   GroupsAreOldOrNew,
   HistoryIsTold,
@@ -53,6 +54,13 @@ pub fn what_logs_allow_stays_allowed()
     ensures stays { AllowedStaysAllowed }
     ensures fronts { FrontsAllow }
     ensures states { StatesAllow }
+{}
+
+/// A coordinator's lock makes its offer and its question to a watcher allowed at those it asks, a
+/// promise makes the promised Yes allowed, and so do the entries by which a watcher votes and a
+/// transaction is decided.
+pub fn groups_allow_others()
+    ensures { GroupsAllowOthers }
 {}
 
 /// So they make one map: the ring covers and is served as its cuts say, the history is legal, and
