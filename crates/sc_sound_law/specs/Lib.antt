@@ -1,4 +1,3 @@
 pub mod Laws
-pub mod LoneGroup
 pub mod Together
 pub mod TwoGroups
