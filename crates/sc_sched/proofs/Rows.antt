@@ -90,9 +90,9 @@ module _ {A M O : Type 0} (s : System A M O) (n : ℕ) (rows : List (Row M O)) (
         ap (option_and_then (λ m. acts s rows (s.receiver m) (Deliver spot.number))) way.1.sent
         ∙ (ap (λ who. acts s rows who (Deliver spot.number)) (sym goes_to) ∙ sym (ap (option_and_then (λ mail. acts s rows spot.who (Deliver mail))) own_kth))
 
-  drops_by : (o : Option Spot) → option_map (λ mail. network {M = M} {O = O} (Drop mail)) (option_map (λ (x : Spot). x.number) o) ≡ deed_row s rows (copy_lost o)
-  drops_by None = refl
-  drops_by (Some spot) = refl
+  drops_by : (v : ℕ) (o : Option Spot) → picked_spot mine v ≡ o → option_map (λ mail. network {M = M} {O = O} (Drop mail)) (option_map (λ (x : Spot). x.number) o) ≡ deed_row s rows (copy_lost o)
+  drops_by v None e = refl
+  drops_by v (Some spot) e = sym (ap (option_map (λ mail. network (Drop mail))) (own_kth v spot e))
 
   delivers_by : (v : ℕ) (o : Option Spot) → picked_spot mine v ≡ o → option_and_then (delivery s rows) (option_map (λ (x : Spot). x.number) o) ≡ deed_row s rows (copy_delivered o)
   delivers_by v None e = refl
@@ -112,7 +112,7 @@ module _ {A M O : Type 0} (s : System A M O) (n : ℕ) (rows : List (Row M O)) (
       by false e = rw e (ap (λ k. repeat_of s rows (1 + v % k)) (sym is.sent))
 
   by_kind : (kind v : ℕ) → storm_row s rows kind v ≡ deed_row s rows (deed_by actors look kind v)
-  by_kind zero v = ap (option_map (λ mail. network (Drop mail))) (same_pick v) ∙ drops_by (picked_spot mine v)
+  by_kind zero v = ap (option_map (λ mail. network (Drop mail))) (same_pick v) ∙ drops_by v (picked_spot mine v) refl
   by_kind (suc zero) v = repeats v
   by_kind (suc (suc zero)) v = ticks_by (slice_get actors (v % length actors))
   by_kind (suc (suc (suc more))) v = ap (option_and_then (delivery s rows)) (same_pick v) ∙ delivers_by v (picked_spot mine v) refl

@@ -1,6 +1,8 @@
--- What a step of a storm does, by its two words and by what is pending. The row that it makes is that of the walk.
+-- What a step of a storm does, by its two words and by what is pending, and the line that this is.
 use Rattle.std.specs.Prelude.{ℕ, zero, suc, ◌+◌, ◌%◌, ◌==◌, List, length, filter, slice_get, Bool, Option, Some, None, if◌then◌else◌}
 use Rattle.std.specs.List.{list_any}
+use Rattle.sc_actor.specs.declared.schedules.Line.{Line}
+use Rattle.sc_actor.specs.declared.schedules.Line.TheVariants as line
 use Rattle.sc_ledger.specs.declared.spots.Spot.{Spot}
 use Rattle.sc_ledger.specs.declared.spots.Look.{Look}
 use Rattle.sc_sched.specs.declared.deeds.Deed.{Deed}
@@ -21,7 +23,7 @@ picked_spot spots v = slice_get spots (v % length spots)
 -- a copy is lost, if there is one
 abbrev pub copy_lost : Option Spot → Deed
 copy_lost None = Nothing
-copy_lost (Some spot) = Drop spot.number
+copy_lost (Some spot) = Drop spot.number spot.who spot.k
 
 -- a copy is delivered, if there is one
 abbrev pub copy_delivered : Option Spot → Deed
@@ -47,3 +49,11 @@ deed_by actors look (suc (suc (suc more))) v = copy_delivered (picked_spot (copi
 -- what a step with these words does, where these are the actors and this was seen
 abbrev pub deed_of : List ℕ → Look → ℕ × ℕ → Deed
 deed_of actors look words = deed_by actors look (words.0 % 16) words.1
+
+-- the line of one row that a deed is, if it is one
+abbrev pub deed_line : {O : Type 0} → Deed → Option (Line O)
+deed_line (Drop number who k) = Some (line.Drop who k)
+deed_line (Again number) = Some (line.Again number)
+deed_line (Tick who) = Some (line.Tick who)
+deed_line (Deliver who k) = Some (line.Deliver who k)
+deed_line Nothing = None

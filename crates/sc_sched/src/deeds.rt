@@ -1,14 +1,16 @@
 //! What a step of a storm does.
 ghost use Rattle.std.specs.Prelude.{◌≡◌, ◌<◌, ◌%◌, length, slice_get};
-ghost use Rattle.sc_sched.specs.Deeds.{is_one_of, copies_for, picked_spot, copy_lost, copy_delivered, clock_ticked, mail_repeated, deed_by};
+ghost use Rattle.sc_sched.specs.Deeds.{is_one_of, copies_for, picked_spot, copy_lost, copy_delivered, clock_ticked, mail_repeated, deed_by, deed_line};
 
+use sc_actor::Line;
 use sc_exchange::{Look, Spot};
 
 /// What a step of a storm does.
 #[derive(Clone, Copy, Debug, PartialEq, Eq)]
 pub enum Deed {
-    /// A pending copy of the mail with this number is lost.
-    Drop { number: u32 },
+    /// A pending copy of the mail with this number is lost: the k-th pending mail of the actor,
+    /// counted from 1.
+    Drop { number: u32, who: u32, k: u32 },
     /// The mail with this number is repeated, if its receiver may get it.
     Again { number: u32 },
     /// The clock of the actor ticks, unless it has crashed.
@@ -18,6 +20,22 @@ pub enum Deed {
     /// Nothing: no mail was pending that could be lost or delivered, or none was sent that could
     /// be repeated.
     Nothing,
+}
+
+impl Deed {
+    /// The line of one row that it is. A storm's step makes the row of that line, if the line makes
+    /// one.
+    pub fn line<O>(self) -> Option<Line<O>>
+        ensures { result ≡ deed_line self }
+    {
+        match self {
+            Deed::Drop { number: _, who, k } => Some(Line::Drop { who, k }),
+            Deed::Again { number } => Some(Line::Again { mail: number }),
+            Deed::Tick { who } => Some(Line::Tick { who }),
+            Deed::Deliver { who, k } => Some(Line::Deliver { who, k }),
+            Deed::Nothing => None,
+        }
+    }
 }
 
 /// The deed by the first word modulo 16, and by the second.
@@ -75,6 +93,8 @@ fn copy_lost(spot: Option<Spot>) -> Deed
         None => Deed::Nothing,
         Some(spot) => Deed::Drop {
             number: spot.number,
+            who: spot.who,
+            k: spot.k,
         },
     }
 }
