@@ -5,6 +5,8 @@ pub mod Rosters
 pub mod Held
 pub mod Quiet
 pub mod Invariant
+pub mod Putting
+pub mod Speech
 pub mod Midway
 pub mod Sending
 pub mod Offering
