@@ -8,6 +8,7 @@ pub mod Invariant
 pub mod Putting
 pub mod Speech
 pub mod Midway
+pub mod Saying
 pub mod Sending
 pub mod Offering
 pub mod Entering
@@ -15,6 +16,7 @@ pub mod Welcoming
 pub mod Executing
 pub mod Counting
 pub mod Offspring
+pub mod Transacting
 pub mod Rows
 pub mod Installs
 pub mod Voting

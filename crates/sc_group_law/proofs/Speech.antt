@@ -76,6 +76,10 @@ Meets made heard group (Ask g from_slot) = Unit {0}
 Meets made heard group (Install g slot record_of sets) = Unit {0}
 Meets made heard group (Told number result) = Unit {0}
 
+-- to be sent elsewhere is heard by anyone who asks
+abbrev pub AnyoneHears : (MailBody → Type 0) → Type 0
+AnyoneHears heard = (body : MailBody) → heard body → (tx coord : Draw) (hint : Option ℕ) → heard (TxElsewhere tx coord hint)
+
 module _ (ahead : Ahead) (base : Base) where
   abbrev after : List Command → Group
   after log = state_after (birth ahead base) log
@@ -83,8 +87,8 @@ module _ (ahead : Ahead) (base : Base) where
   -- what a group's replicas may say and queue, where these are the steps before a row: a log is one that was decided before it
   pub record Speaks (made : Command → Type 0) (heard : MailBody → Type 0) (before : Steps) : Type 0 where
     pub noop : made Noop
-    -- to be sent elsewhere is heard by anyone who asks
-    pub elsewhere : (body : MailBody) → heard body → (tx coord : Draw) (hint : Option ℕ) → heard (TxElsewhere tx coord hint)
+    -- whoever asks may be sent elsewhere
+    pub elsewhere : AnyoneHears heard
     -- what an entry says to the parties of its transaction
     pub goes_on : (log : List Command) (c : Command) → IsLog (rule ahead base) before (log ++ c ∷ []) → Each made log → made c → (me : ℕ)
         → AreSaid heard (went_on me (applied (after log) c).0 (before_of (after log).core) (applied (after log) c).1 c [])

@@ -53,6 +53,7 @@ use Rattle.sc_group_law.proofs.Nodes.{IsNewborn, NodeEnded, unchanged, ends_as, 
 use Rattle.sc_group_law.proofs.Ticks.{tick_ended}
 use Rattle.sc_group_law.proofs.Voting.{ArePlain}
 use Rattle.sc_group_law.proofs.Projected.{steps-push}
+use Rattle.sc_group_law.proofs.Speech.{quiet_speaks}
 use Rattle.sc_group_law.proofs.Places.{Journal}
 use Rattle.sc_group_law.proofs.Clients.{Heard, IsIssued, issued_now, IsAsk, HaveGrown, IsClient, Grew, later_client, client_after, client_sends}
 use Rattle.sc_group_law.proofs.Family.{h_of, IsNodeAt, IsClientAt, replies_in, Kept, PartMoved, ClientMoved, Moved, StaysMade}
@@ -142,7 +143,7 @@ module _ (ahead : Ahead) (words : ℕ → ℕ → ℕ × ℕ) (scenario : Scenar
     requested b a = (k.parts b a).requested
 
     abbrev Ends : ℕ → (Base → Steps) → NodeState × List Mail → Type 0
-    Ends n after step = NodeEnded ahead bases made Heard (has.grants rows) n h (has.some rows) lawful requested after step
+    Ends n after step = NodeEnded ahead bases made Heard (λ body none. absurd none) n h (λ b a. quiet_speaks ahead b (made b) Heard (h b) (has.grants rows b a)) (has.some rows) lawful requested after step
 
     -- a group's part of a node's row
     part_moved : (n : ℕ) (event : Event OrderLine) (step : NodeState × List Mail) (e : Ends n (λ b. steps_at b.core.id (mails rows) (node_row n event step.1) (h b)) step) (b : Base) → Among b bases
@@ -213,19 +214,19 @@ module _ (ahead : Ahead) (words : ℕ → ℕ → ℕ × ℕ) (scenario : Scenar
             subst (λ (sent : List Mail). M rows (node_row n e sent)) (sym (ap (λ x. x.1) all)) (node_moved n low high e step all ended)
 
         quiet : (e : Event OrderLine) → Ends n (λ b. steps_at b.core.id (mails rows) (node_row n e []) (h b)) (at.node, [])
-        quiet e = unchanged ahead bases made Heard (has.grants rows) n h (has.some rows) lawful requested (λ b. steps_at b.core.id (mails rows) (node_row n e []) (h b)) at.node [] at.is (λ b a. steps_plain b.core.id (mails rows) n e [] (h b) tt) (λ m a. absurd a) (λ b a m o. absurd o)
+        quiet e = unchanged ahead bases made Heard (λ body none. absurd none) n h (λ b a. quiet_speaks ahead b (made b) Heard (h b) (has.grants rows b a)) (has.some rows) lawful requested (λ b. steps_at b.core.id (mails rows) (node_row n e []) (h b)) at.node [] at.is (λ b a. steps_plain b.core.id (mails rows) n e [] (h b) tt) (λ m a. absurd a) (λ b a m o. absurd o)
 
         by : (e : Event OrderLine) → MayTell rows n e → IsOpen (system_of ahead words scenario) rows n e → M rows (row_of player_table (nseat n) rows e)
         by (Deliver number) plain (m, under, to) =
             let step = on_mail m.from m.body at.node in
             let came = number_among (mails rows) number m under.sent in
             acting (Deliver number) step (ap (λ o. acted player_table (ANode at.node) (option_map Got o)) under.sent)
-            (ends_as ahead bases made Heard (has.grants rows) n h (has.some rows) lawful requested (λ b. steps_of b.core.id n (Deliver number) m.body step.1 (h b))
+            (ends_as ahead bases made Heard (λ body none. absurd none) n h (λ b a. quiet_speaks ahead b (made b) Heard (h b) (has.grants rows b a)) (has.some rows) lawful requested (λ b. steps_of b.core.id n (Deliver number) m.body step.1 (h b))
             (λ b. steps_at b.core.id (mails rows) (node_row n (Deliver number) step.1) (h b)) step (λ b. sym (steps_deliver b.core.id (mails rows) n number m step.1 (h b) under.sent))
-            (mail_ended ahead bases made Heard (has.grants rows) n h (has.some rows) lawful requested (Deliver number) m (offspring n) at.node at.is (k.named m came) (λ b a. (k.parts b a).true_mail m came)))
-        by Tick plain o = acting Tick (on_tick at.node) refl (tick_ended ahead bases made Heard (has.grants rows) n h (has.some rows) lawful requested at.node at.is)
+            (mail_ended ahead bases made Heard (λ body none. absurd none) n h (λ b a. quiet_speaks ahead b (made b) Heard (h b) (has.grants rows b a)) (has.some rows) lawful requested (Deliver number) m (offspring n) at.node at.is (k.named m came) (λ b a. (k.parts b a).true_mail m came)))
+        by Tick plain o = acting Tick (on_tick at.node) refl (tick_ended ahead bases made Heard (λ body none. absurd none) n h (λ b a. quiet_speaks ahead b (made b) Heard (h b) (has.grants rows b a)) (has.some rows) lawful requested at.node at.is)
         by Go plain o = acting Go (at.node, []) refl (quiet Go)
-        by (Told order) plain o = acting (Told order) (on_order order at.node) refl (order_ended ahead bases made Heard (has.grants rows) n h (has.some rows) lawful requested order at.node (plain at.node at.value_is) at.is)
+        by (Told order) plain o = acting (Told order) (on_order order at.node) refl (order_ended ahead bases made Heard (λ body none. absurd none) n h (λ b a. quiet_speaks ahead b (made b) Heard (h b) (has.grants rows b a)) (has.some rows) lawful requested order at.node (plain at.node at.value_is) at.is)
         by Crash plain o = acting Crash (at.node, []) refl (quiet Crash)
         by (Drop number) plain o = absurd o
         by (Again number) plain o = absurd o
