@@ -30,11 +30,13 @@ pub mod Projected
 pub mod Places
 pub mod Orders
 pub mod Clients
+pub mod Families
 pub mod Family
 pub mod Replies
 pub mod Replicated
 pub mod Births
 pub mod RowSteps
+pub mod Stepping
 pub mod Walked
 pub mod Several
 pub mod Example

@@ -86,6 +86,16 @@ IsNamedIn heard bases (Told number result) = Unit {0}
 abbrev pub IsNamed : List Base → MailBody → Type 0
 IsNamed bases body = IsNamedIn (λ other. ⊥) bases body
 
+-- what is named stays so where more is heard
+pub named_later : (heard further : MailBody → Type 0) → ((body : MailBody) → heard body → further body) → (bases : List Base) (body : MailBody) → IsNamedIn heard bases body → IsNamedIn further bases body
+named_later heard further f bases (TxPrepare tx offer) one = f (TxPrepare tx offer) one
+named_later heard further f bases (TxVote tx coord part vote) one = f (TxVote tx coord part vote) one
+named_later heard further f bases (TxOutcome tx part outcome) one = f (TxOutcome tx part outcome) one
+named_later heard further f bases (TxElsewhere tx coord hint) one = f (TxElsewhere tx coord hint) one
+named_later heard further f bases (TxWatch tx watch) one = f (TxWatch tx watch) one
+named_later heard further f bases (TxWatched tx coord part vote) one = f (TxWatched tx coord part vote) one
+named_later heard further f bases _ one = one
+
 -- what is sent where there is no replica is no step
 pub absent_replies : (me from : ℕ) (body : MailBody) → ArePlain (absent me from body)
 absent_replies me from (Request group client seq op) = (tt, tt)
