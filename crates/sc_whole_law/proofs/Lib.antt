@@ -1,2 +1,6 @@
 pub mod Coming
 pub mod Members
+pub mod Locks
+pub mod Asking
+pub mod Speaking
+pub mod Granting

@@ -19,8 +19,8 @@ use Rattle.sc_whole_law.proofs.Coming.{Cases, comes, staying_roster}
 -- a split that is not refused
 pub may_split : (core : Core) (at : ℕ) (child : Draw) (order : ℕ) → IsRoster core.members → refusal_of core (Split at child order) ≡ None → 2 ≤ length core.members
 may_split core at child order roster e =
-    cond_both (eqb at core.arc.lo || not (holds core.arc at)) (Some BadBoundary) _ (λ o. o ≡ None → 2 ≤ length core.members) (λ _ no. cc)
-    (λ _ rest. cond_both (eqb (length core.members) 1) (Some LastMember) _ (λ o. o ≡ None → 2 ≤ length core.members) (λ _ no. cc)
+    cond_both (eqb at core.arc.lo || not (holds core.arc at)) (Some BadBoundary) _ (λ o. o ≡ None → 2 ≤ length core.members) (λ _ other. cc)
+    (λ _ rest. cond_both (eqb (length core.members) 1) (Some LastMember) _ (λ o. o ≡ None → 2 ≤ length core.members) (λ _ other. cc)
     (λ f more. (let some = roster.some in let ne = eqb-false (length core.members) 1 f in omega (arith, some, ne))) rest)
     (free_refusal (locked_in core.lock) core (Split at child order) e)
 
@@ -29,8 +29,8 @@ pub members_after : (group : Group) (c : Command) → IsRoster group.core.member
 members_after group c roster =
     comes group (λ d x. IsRoster x.0.core.members)
     (record {
-      same = λ d effect. roster;
-      served = λ d after effect e. subst (λ (core : Core). IsRoster core.members) (sym e) roster;
+      same = λ d effect dull. roster;
+      served = λ client seq op after effect e. subst (λ (core : Core). IsRoster core.members) (sym e) roster;
       joined = λ node order. applied_roster group (Join node order) tt roster;
       left = λ node order. applied_roster group (Leave node order) tt roster;
       parted = λ at child order e. staying_roster group.core.members roster (may_split group.core at child order roster e);
@@ -39,7 +39,7 @@ members_after group c roster =
       offered = λ tx offer e. roster;
       asked = λ tx watch e. roster;
       heard = λ tx order got lock frozen by. roster;
-      ended = λ d tx ends after outcome r. r.roster roster;
+      ended = λ d tx ends free after outcome r. r.roster roster;
       finished = λ tx binds after outcome r. r.roster roster;
     }) c
 
