@@ -4,3 +4,5 @@ pub mod Locks
 pub mod Asking
 pub mod Speaking
 pub mod Granting
+pub mod Apart
+pub mod Children
