@@ -23,6 +23,9 @@ use Rattle.sc_group_law.proofs.Holding.{IsOther, Holds, holds_none}
 use Rattle.sc_group_law.proofs.Newborn.{born_replica_is}
 use Rattle.sc_group_law.proofs.Names.{IsOneOf}
 use Rattle.sc_group_law.proofs.Places.{Journal}
+use Rattle.sc_mail.specs.declared.bodies.MailBody.{MailBody}
+use Rattle.sc_group_law.proofs.Clients.{Heard}
+use Rattle.sc_group_law.proofs.Families.{Kept as KeptIn}
 use Rattle.sc_group_law.proofs.Family.{Kept}
 
 -- a list that is not empty has a first element
@@ -78,8 +81,8 @@ module _ (ahead : Ahead) (made : Command → Type 0) (n : ℕ) where
       (λ _. inr (apart_from b bases apart.0 base a, holds_born base bases apart.1 a)) (λ _. holds_born base bases apart.1 a)
 
 -- what holds before any row
-pub at_birth : (ahead : Ahead) (scenario : Scenario) (bases : List Base) (route : Route) (made : Journal → Base → Command → Type 0) → AreApart bases → Kept ahead scenario bases bases route made []
-at_birth ahead scenario bases route made apart = record {
+pub at_start : (ahead : Ahead) (scenario : Scenario) (bases : List Base) (route : Route) (made : Journal → Base → Command → Type 0) (heard : Journal → MailBody → Type 0) → AreApart bases → KeptIn ahead scenario bases bases route made heard []
+at_start ahead scenario bases route made heard apart = record {
   parts = λ b a. record { lawful = tt; requested = λ ballot slot c o. absurd o; true_mail = λ m o. absurd o };
   named = λ m a. absurd a;
   nodes = λ n low high. record {
@@ -98,3 +101,7 @@ at_birth ahead scenario bases route made apart = record {
     fresh = λ e. (refl, refl);
   };
 }
+
+-- and where no transaction is told
+pub at_birth : (ahead : Ahead) (scenario : Scenario) (bases : List Base) (route : Route) (made : Journal → Base → Command → Type 0) → AreApart bases → Kept ahead scenario bases bases route made []
+at_birth ahead scenario bases route made apart = at_start ahead scenario bases route made (λ older. Heard) apart

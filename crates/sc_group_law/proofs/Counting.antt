@@ -29,7 +29,8 @@ use Rattle.sc_node_table.specs.Execute.{has_room}
 use Rattle.sc_node_table.specs.Voting.{leads, promise_row, readied, vote_tallied, voted, accepted_row}
 use Rattle.sc_players.specs.Players.{Ahead}
 use Rattle.sc_group_law.proofs.Growth.{IsLearnt}
-use Rattle.sc_group_law.proofs.Invariant.{Steps, rule, first, IsFlying, IsTaken, Grants, IsReplica, next_after}
+use Rattle.sc_group_law.proofs.Invariant.{Steps, rule, first, IsFlying, IsTaken, IsReplica, next_after}
+use Rattle.sc_group_law.proofs.Speech.{Speaks}
 use Rattle.sc_group_law.proofs.Midway.{Fine, turn}
 use Rattle.sc_group_law.proofs.Parts.{among_without_flight, Each-without_flight}
 use Rattle.sc_group_law.proofs.Executing.{fine_executed}
@@ -89,7 +90,7 @@ still_ready (y ∷ es) slot c x (inl same) ne =
 still_ready (y ∷ es) slot c x (inr a) ne =
     cond_both (eqb y.0 slot) _ _ (Among x) (λ _. inr a) (λ _. cond_both (nat_lt slot y.0) _ _ (Among x) (λ _. inr (inr a)) (λ _. inr (still_ready es slot c x a ne)))
 
-module _ (ahead : Ahead) (base : Base) (made : Command → Type 0) (heard : MailBody → Type 0) (grants : Grants ahead base made heard) (me : ℕ) (older : List Mail) (before : Steps)
+module _ (ahead : Ahead) (base : Base) (made : Command → Type 0) (heard : MailBody → Type 0) (me : ℕ) (older : List Mail) (before : Steps) (speaks : Speaks ahead base made heard before)
     (some : (log : List Command) → Each made log → (node : ℕ) × (rest : List ℕ) × ((rule ahead base).members log ≡ node ∷ rest)) where
   abbrev Ok : Place → Type 0
   Ok = Fine ahead base made heard me older before
@@ -142,7 +143,7 @@ module _ (ahead : Ahead) (base : Base) (made : Command → Type 0) (heard : Mail
       let after = cond_both (same_ballot ballot r.leader.ballot && not (is_member r.leader.promisers from)) _ _
       (λ (x : Bool × LeaderState Command). Replica (f.newer ++ before) (record r { leader = x.1 }))
       (λ _. voter_replica (f.newer ++ before) from ballot reports start r f.replica parts.0 (ballot_is ballot r.leader.ballot parts.1) promised asked) (λ _. f.replica) in
-      fine_pumped ahead base made heard grants me older before some _ (turn ahead base made heard me older before r (record r { leader = (promise_counted from ballot reports r.leader).1 }) mails f after)))
+      fine_pumped ahead base made heard me older before speaks some _ (turn ahead base made heard me older before r (record r { leader = (promise_counted from ballot reports r.leader).1 }) mails f after)))
       (λ _. f)
 
   -- ---- a vote
@@ -220,7 +221,7 @@ module _ (ahead : Ahead) (base : Base) (made : Command → Type 0) (heard : Mail
       cond_both (eqb slot (next r) && has_room (record r { leader = without_flight_at slot r.leader })) _ _ Ok
       (λ e. (
       let parts = and_parts (eqb slot (next r)) (has_room (record r { leader = without_flight_at slot r.leader })) e in
-      fine_executed ahead base made heard grants me older before some true c after mails place
+      fine_executed ahead base made heard me older before speaks some true c after mails place
       (subst (λ n. IsLearnt (rule ahead base) (f.newer ++ before) n c) (eqb-true slot (next r) parts.0) t) (λ _. runs)))
       (λ _. place)
 

@@ -8,7 +8,6 @@ use Rattle.sc_cmd.specs.declared.links.Route.{Route}
 use Rattle.sc_cmd.specs.declared.commands.Command.{Command}
 use Rattle.sc_cmd.specs.declared.commands.Command.TheVariants.{Noop, Call, Join, Leave, Split, Begin}
 use Rattle.sc_cmd.specs.declared.cores.Base.{Base}
-use Rattle.sc_cmd.specs.declared.cores.Lock.TheVariants.{Free}
 use Rattle.sc_cmd.specs.declared.effects.Effect.{Effect}
 use Rattle.sc_cmd.specs.declared.effects.Effect.TheVariants as Was
 use Rattle.sc_mail.specs.declared.bodies.AnswerBody.{AnswerBody}
@@ -28,7 +27,7 @@ use Rattle.sc_paxos_words.proofs.ListLemmas.{Each-among, find_found}
 use Rattle.sc_paxos_law.specs.Chosen.{IsLog}
 use Rattle.sc_paxos_law.proofs.Law.{earlier}
 use Rattle.sc_node_table.specs.Slots.{at_slot, without_slot}
-use Rattle.sc_node_table.specs.Replica.{ReplicaState, Place, name_of, next, members, flying}
+use Rattle.sc_node_table.specs.Replica.{ReplicaState, Place, name_of, next, members, flying, forgotten}
 use Rattle.sc_node_table.specs.Mails.{sent, order_number, told_order}
 use Rattle.sc_node_table.specs.Queues.{call_of, without_call, call_before, put_back}
 use Rattle.sc_node_table.specs.Sameness.{same_command}
@@ -39,16 +38,18 @@ use Rattle.sc_node_table.specs.Spoken.{before_of, begun_result, spoken_number, t
 use Rattle.sc_hist_law.specs.Laws.{IsReplied}
 use Rattle.sc_players.specs.Players.{Ahead}
 use Rattle.sc_group_law.proofs.Growth.{IsLearnt, by_own_log, learnt_offered}
-use Rattle.sc_group_law.proofs.Invariant.{Steps, rule, first, Grants, IsTaken, IsReplica, next_after, IsReplyAt, IsTrueAnswer}
+use Rattle.sc_group_law.proofs.Invariant.{Steps, rule, first, IsTaken, IsReplica, next_after, IsReplyAt, IsTrueAnswer}
+use Rattle.sc_group_law.proofs.Speech.{AreSaid, Speaks}
 use Rattle.sc_group_law.proofs.Midway.{Fine, turn, says}
-use Rattle.sc_group_law.proofs.Quiet.{went_quiet}
+use Rattle.sc_group_law.proofs.Putting.{puts_went_on}
+use Rattle.sc_group_law.proofs.Saying.{log_before, says_all}
 use Rattle.sc_group_law.proofs.Sending.{name_is, learnt_others, fine_elected, fine_ended, fine_stopped}
 use Rattle.sc_group_law.proofs.Parts.{Each-without_flight, among_without_flight, Each-without_slot, among_without_slot, slot_among, Each-without_call, flying_found}
 use Rattle.sc_group_law.proofs.Offering.{with_calls, with_acts, fine_pumped}
 use Rattle.sc_group_law.proofs.Entering.{entered_has, entered_replica, entered_next, entered_runs}
 use Rattle.sc_group_law.proofs.Welcoming.{welcomed_place}
 
-module _ (ahead : Ahead) (base : Base) (made : Command → Type 0) (heard : MailBody → Type 0) (grants : Grants ahead base made heard) (me : ℕ) (older : List Mail) (before : Steps)
+module _ (ahead : Ahead) (base : Base) (made : Command → Type 0) (heard : MailBody → Type 0) (me : ℕ) (older : List Mail) (before : Steps) (speaks : Speaks ahead base made heard before)
     (some : (log : List Command) → Each made log → (node : ℕ) × (rest : List ℕ) × ((rule ahead base).members log ≡ node ∷ rest)) where
   abbrev Ok : Place → Type 0
   Ok = Fine ahead base made heard me older before
@@ -68,12 +69,12 @@ module _ (ahead : Ahead) (base : Base) (made : Command → Type 0) (heard : Mail
   back_replica : (h : Steps) (c : Command) (r : ReplicaState) → made c → Replica h r → Replica h (put_back c r)
   unfolding put_back
   back_replica h Noop r m k = k
-  back_replica h (Call client seq op) r m k = with_calls ahead base made heard grants me older before some h r _ k (before_calls (call_of r.calls client) client seq (Call client seq op) r.calls m k.calls)
-  back_replica h (Join node order) r m k = with_calls ahead base made heard grants me older before some h r (Join node order ∷ r.calls) k (m, k.calls)
-  back_replica h (Leave node order) r m k = with_calls ahead base made heard grants me older before some h r (Leave node order ∷ r.calls) k (m, k.calls)
-  back_replica h (Split at child order) r m k = with_calls ahead base made heard grants me older before some h r (Split at child order ∷ r.calls) k (m, k.calls)
-  back_replica h (Begin tx body order) r m k = with_calls ahead base made heard grants me older before some h r (Begin tx body order ∷ r.calls) k (m, k.calls)
-  back_replica h c r m k = with_acts ahead base made heard grants me older before some h r (c ∷ r.acts) k (m, k.acts)
+  back_replica h (Call client seq op) r m k = with_calls ahead base made heard me older before speaks some h r _ k (before_calls (call_of r.calls client) client seq (Call client seq op) r.calls m k.calls)
+  back_replica h (Join node order) r m k = with_calls ahead base made heard me older before speaks some h r (Join node order ∷ r.calls) k (m, k.calls)
+  back_replica h (Leave node order) r m k = with_calls ahead base made heard me older before speaks some h r (Leave node order ∷ r.calls) k (m, k.calls)
+  back_replica h (Split at child order) r m k = with_calls ahead base made heard me older before speaks some h r (Split at child order ∷ r.calls) k (m, k.calls)
+  back_replica h (Begin tx body order) r m k = with_calls ahead base made heard me older before speaks some h r (Begin tx body order ∷ r.calls) k (m, k.calls)
+  back_replica h c r m k = with_acts ahead base made heard me older before speaks some h r (c ∷ r.acts) k (m, k.acts)
 
   back_runs : (c : Command) (r : ReplicaState) → (put_back c r).running ≡ r.running
   unfolding put_back
@@ -95,6 +96,20 @@ module _ (ahead : Ahead) (base : Base) (made : Command → Type 0) (heard : Mail
   back_log (Begin tx body order) r = refl
   back_log c r = refl
 
+  back_group : (c : Command) (r : ReplicaState) → (put_back c r).group ≡ r.group
+  unfolding put_back
+  back_group Noop r = refl
+  back_group (Call client seq op) r = refl
+  back_group (Join node order) r = refl
+  back_group (Leave node order) r = refl
+  back_group (Split at child order) r = refl
+  back_group (Begin tx body order) r = refl
+  back_group c r = refl
+
+  entered_group : (c : Command) (r : ReplicaState) → (entered c r).group ≡ (applied r.group c).0
+  unfolding entered forgotten
+  entered_group c r = refl
+
   -- ---- a counted call is answered, or goes back
 
   true_answer : (h : Steps) (client seq : ℕ) (effect : Effect) → ((reply : Reply) → IsReplied effect reply → IsReplyAt ahead base h client seq reply)
@@ -110,72 +125,80 @@ module _ (ahead : Ahead) (base : Base) (made : Command → Type 0) (heard : Mail
   true_answer h client seq (Was.Gone into) f answer e = let same : Says.Gone into ≡ answer = cc in subst (IsTrueAnswer ahead base h (client_actor client) seq) same tt
   true_answer h client seq _ f answer e = cc
 
-  -- what stands after a part of an execution: the place, the command of the executed slot, that slot, and that a counted command is one's own
-  record Past (counted : Bool) (slot : ℕ) (c : Command) (place : Place) : Type 0 where
+  -- what stands after a part of an execution: the place, the group after the command, the command of the executed slot, that slot, and that a counted command is one's own
+  record Past (counted : Bool) (slot : ℕ) (c : Command) (group : Group) (place : Place) : Type 0 where
     fine : Ok place
+    group_is : place.0.group ≡ group
     learnt_is : IsLearnt (rule ahead base) (fine.newer ++ before) slot c
     executed_is : slot < next place.0
     runs_is : counted ≡ true → place.0.running ≡ true
 
-  told_place : (counted : Bool) (slot : ℕ) (d : Command) (o : Option AnswerBody) (c : Command) (r : ReplicaState) (mails : List Mail) → (p : Past counted slot d (r, mails)) → made c
+  told_place : (counted : Bool) (slot : ℕ) (d : Command) (g : Group) (o : Option AnswerBody) (c : Command) (r : ReplicaState) (mails : List Mail) → (p : Past counted slot d g (r, mails)) → made c
       → ((client seq : ℕ) (op : Op) (answer : AnswerBody) → c ≡ Call client seq op → o ≡ Some answer → IsTrueAnswer ahead base (p.fine.newer ++ before) (client_actor client) seq answer)
-      → Past counted slot d (told_call o c (r, mails))
+      → Past counted slot d g (told_call o c (r, mails))
   unfolding told_call says turn
-  told_place counted slot d (Some answer) (Call client seq op) r mails p m t = record {
+  told_place counted slot d g (Some answer) (Call client seq op) r mails p m t = record {
     fine = says ahead base made heard me older before r mails (record { from = r.me; to = client_actor client; body = Answer (name_of r) seq answer }) p.fine refl (named r mails p.fine) (λ _. t client seq op answer refl refl);
+    group_is = p.group_is;
     learnt_is = p.learnt_is;
     executed_is = p.executed_is;
     runs_is = p.runs_is;
   }
-  told_place counted slot d None (Call client seq op) r mails p m t = record {
+  told_place counted slot d g None (Call client seq op) r mails p m t = record {
     fine = turn ahead base made heard me older before r (put_back (Call client seq op) r) mails p.fine (back_replica (p.fine.newer ++ before) (Call client seq op) r m p.fine.replica);
+    group_is = back_group (Call client seq op) r ∙ p.group_is;
     learnt_is = p.learnt_is;
     executed_is = subst (λ (l : LogState Command). slot < next_of l) (sym (back_log (Call client seq op) r)) p.executed_is;
     runs_is = λ e. back_runs (Call client seq op) r ∙ p.runs_is e;
   }
-  told_place counted slot d (Some answer) c r mails p m t = p
-  told_place counted slot d None c r mails p m t = p
+  told_place counted slot d g (Some answer) c r mails p m t = p
+  told_place counted slot d g None c r mails p m t = p
 
   -- what an order came to is told
-  result_place : (counted : Bool) (slot : ℕ) (d : Command) (o : Option ToldResult) (number : ℕ) (r : ReplicaState) (mails : List Mail) → Past counted slot d (r, mails) → Past counted slot d (r, told_result r.me o number mails)
+  result_place : (counted : Bool) (slot : ℕ) (d : Command) (g : Group) (o : Option ToldResult) (number : ℕ) (r : ReplicaState) (mails : List Mail) → Past counted slot d g (r, mails) → Past counted slot d g (r, told_result r.me o number mails)
   unfolding told_order says
-  result_place counted slot d None number r mails p = p
-  result_place counted slot d (Some result) number r mails p =
-      cond_both (nat_lt 0 number) (sent r.me 0 (Told number result) mails) mails (λ ms. Past counted slot d (r, ms))
+  result_place counted slot d g None number r mails p = p
+  result_place counted slot d g (Some result) number r mails p =
+      cond_both (nat_lt 0 number) (sent r.me 0 (Told number result) mails) mails (λ ms. Past counted slot d g (r, ms))
       (λ _. record {
         fine = says ahead base made heard me older before r mails (record { from = r.me; to = 0; body = Told number result }) p.fine refl tt tt;
+        group_is = p.group_is;
         learnt_is = p.learnt_is;
         executed_is = p.executed_is;
         runs_is = p.runs_is;
       })
       (λ _. p)
 
-  ordered_place : (counted : Bool) (slot : ℕ) (d : Command) (o : Option ToldResult) (c : Command) (place : Place) → Past counted slot d place → Past counted slot d (told_effect o c place)
+  ordered_place : (counted : Bool) (slot : ℕ) (d : Command) (g : Group) (o : Option ToldResult) (c : Command) (place : Place) → Past counted slot d g place → Past counted slot d g (told_effect o c place)
   unfolding told_effect
-  ordered_place counted slot d None c place p = p
-  ordered_place counted slot d (Some result) c (r, mails) p = result_place counted slot d (Some result) (order_number c) r mails p
+  ordered_place counted slot d g None c place p = p
+  ordered_place counted slot d g (Some result) c (r, mails) p = result_place counted slot d g (Some result) (order_number c) r mails p
 
-  -- ---- and nothing is said to the parties of a transaction
+  -- ---- what is said to the parties of a transaction
 
-  -- its group is not locked
-  pub lock_free : (r : ReplicaState) (mails : List Mail) → Ok (r, mails) → r.group.core.lock ≡ Free
-  lock_free r mails f = ap (λ (g : Group). g.core.lock) f.replica.log_is.group_is ∙ grants.free f.replica.whole f.replica.log_is.all_made
-
-  spoken_place : (counted : Bool) (slot : ℕ) (d : Command) (was : Before) (effect : Effect) (c : Command) (place : Place) → made c → Past counted slot d place → Past counted slot d (spoken counted was effect c place)
-  unfolding spoken spoken_mails told_begun
-  spoken_place counted slot d was effect c (r, mails) m p =
-      let said = told_result r.me (begun_result was.alone effect c) (spoken_number was.order c) mails in
-      let told = result_place counted slot d (begun_result was.alone effect c) (spoken_number was.order c) r mails p in
-      cond_both counted (went_on r.me r.group was effect c said) said (λ ms. Past counted slot d (r, ms))
-      (λ _. subst (λ ms. Past counted slot d (r, ms)) (sym (went_quiet r.me r.group was effect c said (grants.quiet c m) (lock_free r mails p.fine))) told)
+  spoken_place : (counted : Bool) (slot : ℕ) (d : Command) (g : Group) (was : Before) (effect : Effect) (c : Command) (place : Place) → ((who : ℕ) → AreSaid heard (went_on who g was effect c []))
+      → Past counted slot d g place → Past counted slot d g (spoken counted was effect c place)
+  unfolding spoken spoken_mails told_begun says_all
+  spoken_place counted slot d g was effect c (r, mails) said p =
+      let before_it = told_result r.me (begun_result was.alone effect c) (spoken_number was.order c) mails in
+      let told = result_place counted slot d g (begun_result was.alone effect c) (spoken_number was.order c) r mails p in
+      cond_both counted (went_on r.me r.group was effect c before_it) before_it (λ ms. Past counted slot d g (r, ms))
+      (λ _. subst (λ ms. Past counted slot d g (r, ms)) (sym (puts_went_on r.me r.group was effect c before_it))
+      (record {
+        fine = says_all ahead base made heard me older before r before_it (went_on r.me r.group was effect c []) told.fine (subst (λ (x : Group). AreSaid heard (went_on r.me x was effect c [])) (sym told.group_is) (said r.me));
+        group_is = told.group_is;
+        learnt_is = told.learnt_is;
+        executed_is = told.executed_is;
+        runs_is = told.runs_is;
+      }))
       (λ _. told)
 
   -- ---- 2. the others learn it, and who was added is sent the state
 
-  learnt_place : (counted : Bool) (nodes : List ℕ) (slot : ℕ) (c : Command) (place : Place) → Past counted slot c place → Ok (learnt_to counted nodes slot c place)
+  learnt_place : (counted : Bool) (nodes : List ℕ) (slot : ℕ) (c : Command) (g : Group) (place : Place) → Past counted slot c g place → Ok (learnt_to counted nodes slot c place)
   unfolding learnt_to
-  learnt_place true nodes slot c (r, mails) p = learnt_others ahead base made heard me older before nodes r mails (name_of r) slot c (named r mails p.fine) p.fine p.learnt_is
-  learnt_place false nodes slot c (r, mails) p = p.fine
+  learnt_place true nodes slot c g (r, mails) p = learnt_others ahead base made heard me older before nodes r mails (name_of r) slot c (named r mails p.fine) p.fine p.learnt_is
+  learnt_place false nodes slot c g (r, mails) p = p.fine
 
   learnt_same : (counted : Bool) (nodes : List ℕ) (slot : ℕ) (c : Command) (place : Place) → (learnt_to counted nodes slot c place).0 ≡ place.0
   unfolding learnt_to
@@ -304,6 +327,10 @@ module _ (ahead : Ahead) (base : Base) (made : Command → Type 0) (heard : Mail
       let place = turn ahead base made heard me older before r (entered c r) mails f after in
       let up : next r < next (entered c r) = entered_next ahead base made me h c r k m chosen in
       let effect = (applied r.group c).1 in
+      let g = (applied r.group c).0 in
+      let logged = log_before ahead base made heard me older before (r, mails) f (log ++ c ∷ []) has.is_log in
+      let speech : (who : ℕ) → AreSaid heard (went_on who g (before_of r.group.core) effect c []) = λ who. (
+      subst (λ (x : Group). AreSaid heard (went_on who (applied x c).0 (before_of x.core) (applied x c).1 c [])) (sym k.log_is.group_is) (speaks.goes_on log c logged k.log_is.all_made m who)) in
       let replies : (client seq : ℕ) (op : Op) (reply : Reply) → c ≡ Call client seq op → IsReplied effect reply → IsReplyAt ahead base h client seq reply = λ client seq op reply is replied. (
       record {
         front = log;
@@ -313,14 +340,14 @@ module _ (ahead : Ahead) (base : Base) (made : Command → Type 0) (heard : Mail
       }) in
       let answers : (client seq : ℕ) (op : Op) (answer : AnswerBody) → c ≡ Call client seq op → answer_of effect ≡ Some answer → IsTrueAnswer ahead base h (client_actor client) seq answer = λ client seq op answer is e.
       (true_answer h client seq effect (λ reply replied. replies client seq op reply is replied) answer e) in
-      let start : Past counted (next r) c (entered c r, mails) = record { fine = place; learnt_is = t; executed_is = up; runs_is = λ e. entered_runs ahead base made me c r ∙ runs e } in
-      let answered_it : Past counted (next r) c (cond counted (told_call (answer_of effect) c (entered c r, mails)) (entered c r, mails)) = (
-      cond_both counted (told_call (answer_of effect) c (entered c r, mails)) (entered c r, mails) (Past counted (next r) c)
-      (λ _. told_place counted (next r) c (answer_of effect) c (entered c r) mails start m answers) (λ _. start)) in
-      let heard_of : Past counted (next r) c (announced counted effect c (entered c r, mails)) = ordered_place counted (next r) c (order_result c effect) c _ answered_it in
-      let spoke = spoken_place counted (next r) c (before_of r.group.core) effect c (announced counted effect c (entered c r, mails)) m heard_of in
+      let start : Past counted (next r) c g (entered c r, mails) = record { fine = place; group_is = entered_group c r; learnt_is = t; executed_is = up; runs_is = λ e. entered_runs ahead base made me c r ∙ runs e } in
+      let answered_it : Past counted (next r) c g (cond counted (told_call (answer_of effect) c (entered c r, mails)) (entered c r, mails)) = (
+      cond_both counted (told_call (answer_of effect) c (entered c r, mails)) (entered c r, mails) (Past counted (next r) c g)
+      (λ _. told_place counted (next r) c g (answer_of effect) c (entered c r) mails start m answers) (λ _. start)) in
+      let heard_of : Past counted (next r) c g (announced counted effect c (entered c r, mails)) = ordered_place counted (next r) c g (order_result c effect) c _ answered_it in
+      let spoke = spoken_place counted (next r) c g (before_of r.group.core) effect c (announced counted effect c (entered c r, mails)) speech heard_of in
       let said = spoken counted (before_of r.group.core) effect c (announced counted effect c (entered c r, mails)) in
-      let taught = learnt_place counted (members r) (next r) c said spoke in
+      let taught = learnt_place counted (members r) (next r) c g said spoke in
       let welcome = welcomed_place ahead base made heard me older before counted (members r) said.0 (learnt_to counted (members r) (next r) c said) (learnt_same counted (members r) (next r) c said) taught spoke.runs_is in
       let past = subst (λ (s : ReplicaState). next r < next s) (sym welcome.1) spoke.executed_is in
       looked_place _ (left_place _ (landed_place counted (next r) c _ welcome.0 past))
@@ -351,11 +378,11 @@ module _ (ahead : Ahead) (base : Base) (made : Command → Type 0) (heard : Mail
       go rest None is = f
       go rest (Some c) is =
           let t = Each-among _ place.0.ready (next place.0, c) f.replica.ready (next_ready_among place.0 c is) in
-          fine_pumped ahead base made heard grants me older before some _ (rest _ (fine_executed_one true c place.0 place.1 f t (learnt_made place f (next place.0) c t) (λ _. next_ready_runs place.0 c is)))
+          fine_pumped ahead base made heard me older before speaks some _ (rest _ (fine_executed_one true c place.0 place.1 f t (learnt_made place f (next place.0) c t) (λ _. next_ready_runs place.0 c is)))
 
   -- Execute
   pub fine_executed : (counted : Bool) (c : Command) (r : ReplicaState) (mails : List Mail) → (f : Ok (r, mails)) → IsLearnt (rule ahead base) (f.newer ++ before) (next r) c → (counted ≡ true → r.running ≡ true) → Ok (executed counted c (r, mails))
   unfolding executed
   fine_executed counted c r mails f t runs =
       let one = fine_executed_one counted c r mails f t (learnt_made (r, mails) f (next r) c t) runs in
-      fine_pumped ahead base made heard grants me older before some _ (fine_executed_ready (executed_one counted c (r, mails)).0.ready (executed_one counted c (r, mails)) one)
+      fine_pumped ahead base made heard me older before speaks some _ (fine_executed_ready (executed_one counted c (r, mails)).0.ready (executed_one counted c (r, mails)) one)

@@ -1,9 +1,5 @@
--- What holds of each lawful journal with any number of groups, its parts named: a part for each group, and what all groups share. One more row keeps it.
-use Rattle.std.proofs.Common.{◌≡◌, ℕ, ◌+◌, ◌≤◌, false, List, [], ◌∷◌, ◌++◌, length, drop, take, None, Some, inl, inr, sym, ◌∙◌, ap, subst}
-use Rattle.std.specs.Prelude.{slice_get}
-use Rattle.sc_base.specs.declared.names.Ballot.{Ballot}
-use Rattle.sc_base.specs.declared.ops.Reply.{Reply}
-use Rattle.sc_base.specs.Limits.{client_actor}
+-- What holds of each lawful journal of groups of which no transaction is told.
+use Rattle.std.proofs.Common.{◌≡◌, ℕ, List, [], ◌∷◌, ◌++◌, length, drop}
 use Rattle.sc_base.specs.Among.{Among, Each}
 use Rattle.sc_cmd.specs.declared.commands.Command.{Command}
 use Rattle.sc_cmd.specs.declared.cores.Base.{Base}
@@ -11,172 +7,68 @@ use Rattle.sc_cmd.specs.declared.links.Route.{Route}
 use Rattle.sc_cmd.specs.declared.orders.OrderLine.{OrderLine}
 use Rattle.sc_mail.specs.declared.bodies.Mail.{Mail}
 use Rattle.sc_actor.specs.declared.rows.Row.{Row}
-use Rattle.sc_actor.specs.Mail.{mails}
-use Rattle.sc_actor.specs.Replay.{value}
-use Rattle.sc_actor.specs.System.{has_gone}
-use Rattle.sc_actor.proofs.ReplayLemmas.{mails-snoc}
-use Rattle.sc_client_table.specs.Client.{Client}
-use Rattle.sc_node_table.specs.Node.{NodeState}
-use Rattle.sc_paxos_words.proofs.ListLemmas.{Each-among, Each-weaker}
-use Rattle.sc_paxos_law.specs.Steps.{Offered}
-use Rattle.sc_paxos_law.specs.Chosen.{members_of, IsChosenAfter}
-use Rattle.sc_paxos_law.specs.Decided.{log_of}
-use Rattle.sc_paxos_law.specs.Lawful.{IsLawfulHistory}
-use Rattle.sc_paxos_law.proofs.Among.{Among-either, shared_member}
-use Rattle.sc_paxos_law.proofs.History.{was_offered}
-use Rattle.sc_paxos_law.proofs.Decided.{log_of-longest, log_grows}
+use Rattle.sc_paxos_words.proofs.ListLemmas.{Each-weaker}
 use Rattle.sc_scenario.specs.declared.scenarios.Asks.{Asks}
 use Rattle.sc_scenario.specs.declared.scenarios.Scenario.{Scenario}
-use Rattle.sc_players.specs.Players.{Ahead, node_seat, player_table, client_seat}
-use Rattle.sc_players.specs.declared.roles.Role.TheVariants.{Node as ANode, Client as AClient}
+use Rattle.sc_players.specs.Players.{Ahead}
 use Rattle.sc_hist_law.specs.Laws.{LeavesWhole}
 use Rattle.sc_sound.specs.Logs.{decided_log}
-use Rattle.sc_sound.specs.Requests.{kept_replies}
-use Rattle.sc_group_law.specs.Steps.{steps}
-use Rattle.sc_group_law.proofs.Lists.{each_got}
-use Rattle.sc_group_law.proofs.Invariant.{Steps, rule, first, IsTrue, grown_true}
-use Rattle.sc_group_law.proofs.Holding.{more_holds}
-use Rattle.sc_group_law.proofs.Names.{IsNamed}
-use Rattle.sc_group_law.proofs.Nodes.{IsNode}
-use Rattle.sc_group_law.proofs.Projected.{log_only, only_steps}
-use Rattle.sc_group_law.proofs.Places.{Journal, split_at}
-use Rattle.sc_group_law.proofs.Clients.{Made, MadeBy, Heard, made_whole, IsClient, Grew}
-
--- the steps of a journal for each group
-abbrev pub h_of : Journal → Base → Steps
-h_of rows base = steps base.core.id rows
-
--- the decided log is that of the steps
-pub decided_is : (ahead : Ahead) (base : Base) (rows : Journal) → decided_log ahead base rows ≡ log_of (rule ahead base) (h_of rows base)
-decided_is ahead base rows = ap (log_of (rule ahead base)) (sym (only_steps base.core.id rows)) ∙ log_only (rule ahead base) (h_of rows base)
-
--- what is chosen was offered
-pub chosen_offered : (ahead : Ahead) (base : Base) (h : Steps) → IsLawfulHistory (rule ahead base) (first ahead base) h → (log : List Command) (slot : ℕ) (c : Command) → IsChosenAfter (rule ahead base) h log slot c
-    → (b : Ballot) × Among (Offered b slot c) h
-chosen_offered ahead base h l log slot c is =
-    let k = is.chosen in
-    let voter = shared_member (members_of (rule ahead base) log slot) k.voters k.voters k.majority k.majority in
-    (k.ballot, was_offered (rule ahead base) (first ahead base) h voter.0 k.ballot slot c l (Each-among _ k.voters voter.0 k.each voter.1))
-
--- what may be read off a group's log: each of its commands was offered
-pub entry_offered : (ahead : Ahead) (base : Base) (rows : Journal) → IsLawfulHistory (rule ahead base) (first ahead base) (h_of rows base) → (place : ℕ) (c : Command) → slice_get (decided_log ahead base rows) place ≡ Some c
-    → (b : Ballot) × (slot : ℕ) × Among (Offered b slot c) (h_of rows base)
-entry_offered ahead base rows lawful place c at =
-    let is_log = (log_of-longest (rule ahead base) (first ahead base) (h_of rows base) lawful).0 in
-    let chosen = is_log place c (subst (λ l. slice_get l place ≡ Some c) (decided_is ahead base rows) at) in
-    let offer = chosen_offered ahead base (h_of rows base) lawful _ (place + 1) c chosen in
-    (offer.0, place + 1, offer.1)
+use Rattle.sc_group_law.proofs.Places.{Journal}
+use Rattle.sc_group_law.proofs.Clients.{Made, MadeBy, Heard, made_whole}
+pub use Rattle.sc_group_law.proofs.Families.{h_of, decided_is, chosen_offered, entry_offered}
+use Rattle.sc_group_law.proofs.Families.{IsNodeAt as IsNodeIn, IsClientAt as IsClientIn, Part as PartIn, Kept as KeptIn, PartMoved as PartMovedIn, ClientMoved as ClientMovedIn, Moved as MovedIn, IsLater, stepped, push as push_on, entries_made as made_entries, log_goes_on as goes_on}
 
 -- the groups of a scenario, the groups so far, where clients ask first, and what each group's replicas may queue after some rows
 module _ (ahead : Ahead) (scenario : Scenario) (firsts bases : List Base) (route : Route) (made : Journal → Base → Command → Type 0) where
-  -- ---- players
-
   -- a node of the journal as the steps say
-  pub record IsNodeAt (since rows : Journal) (n : ℕ) : Type 0 where
-    pub node : NodeState
-    pub value_is : value player_table (node_seat ahead firsts n) rows ≡ ANode node
-    pub is : IsNode ahead bases (made since) (h_of rows) n node
+  abbrev pub IsNodeAt : Journal → Journal → ℕ → Type 0
+  IsNodeAt since rows n = IsNodeIn ahead scenario firsts bases route made (λ older. Heard) since rows n
 
   -- a client of the journal as the steps say
-  pub record IsClientAt (rows : Journal) (asks : Asks) : Type 0 where
-    pub client : Client
-    pub value_is : value player_table (client_seat route asks) rows ≡ AClient client
-    pub is : IsClient ahead bases (h_of rows) asks client
-    pub fresh : has_gone rows (client_actor asks.client) ≡ false → (client.replies ≡ []) × (client.waiting ≡ None)
+  abbrev pub IsClientAt : Journal → Asks → Type 0
+  IsClientAt rows asks = IsClientIn ahead scenario firsts bases route made (λ older. Heard) rows asks
 
-  -- a client's replies in a journal
-  abbrev pub replies_in : Asks → Journal → List Reply
-  replies_in asks rows = kept_replies route asks rows
-
-  -- ---- what holds
-
-  -- a group's part: its steps are lawful, each command that is offered was made, and what mail says of it is true
-  pub record Part (rows : Journal) (base : Base) : Type 0 where
-    pub lawful : IsLawfulHistory (rule ahead base) (first ahead base) (h_of rows base)
-    pub requested : (b : Ballot) (slot : ℕ) (c : Command) → Among (Offered b slot c) (h_of rows base) → made rows base c
-    pub true_mail : (m : Mail) → Among m (mails rows) → IsTrue ahead base (made rows base) Heard (h_of rows base) m m.body
+  -- a group's part
+  abbrev pub Part : Journal → Base → Type 0
+  Part rows base = PartIn ahead scenario firsts bases route made (λ older. Heard) rows base
 
   -- what holds of each lawful journal
-  pub record Kept (rows : Journal) : Type 0 where
-    pub parts : (base : Base) → Among base bases → Part rows base
-    -- mail of Paxos is of the groups
-    pub named : (m : Mail) → Among m (mails rows) → IsNamed bases m.body
-    -- nodes and clients are as the steps say
-    pub nodes : (n : ℕ) → 1 ≤ n → n ≤ scenario.nodes → IsNodeAt rows rows n
-    pub clients : (asks : Asks) → Among asks scenario.clients → IsClientAt rows asks
-
-  -- ---- one more row
+  abbrev pub Kept : Journal → Type 0
+  Kept rows = KeptIn ahead scenario firsts bases route made (λ older. Heard) rows
 
   -- a group's part of a row
-  pub record PartMoved (rows : Journal) (row : Row Mail OrderLine) (base : Base) : Type 0 where
-    pub newer : Steps
-    pub are : h_of (rows ++ row ∷ []) base ≡ newer ++ h_of rows base
-    pub lawful : IsLawfulHistory (rule ahead base) (first ahead base) (h_of (rows ++ row ∷ []) base)
-    pub requested : (b : Ballot) (slot : ℕ) (c : Command) → Among (Offered b slot c) (h_of (rows ++ row ∷ []) base) → made rows base c
-    pub true_sent : (m : Mail) → Among m row.sent → IsTrue ahead base (made (rows ++ row ∷ []) base) Heard (h_of (rows ++ row ∷ []) base) m m.body
+  abbrev pub PartMoved : Journal → Row Mail OrderLine → Base → Type 0
+  PartMoved rows row base = PartMovedIn ahead scenario firsts bases route made (λ older. Heard) rows row base
 
   -- a client after a row of its own, or as it was
-  pub record ClientMoved (rows : Journal) (row : Row Mail OrderLine) (asks : Asks) : Type 0 where
-    pub after : IsClientAt (rows ++ row ∷ []) asks
-    pub grew : Grew ahead bases (h_of rows) asks (replies_in asks rows) (replies_in asks (rows ++ row ∷ []))
+  abbrev pub ClientMoved : Journal → Row Mail OrderLine → Asks → Type 0
+  ClientMoved rows row asks = ClientMovedIn ahead scenario firsts bases route made (λ older. Heard) rows row asks
 
-  -- after one more row: lawful steps, true mail, and nodes and clients as the steps say
-  pub record Moved (rows : Journal) (row : Row Mail OrderLine) : Type 0 where
-    pub parts : (base : Base) → Among base bases → PartMoved rows row base
-    pub named : (m : Mail) → Among m row.sent → IsNamed bases m.body
-    pub nodes : (n : ℕ) → 1 ≤ n → n ≤ scenario.nodes → IsNodeAt rows (rows ++ row ∷ []) n
-    pub clients : (asks : Asks) → Among asks scenario.clients → ClientMoved rows row asks
+  -- after one more row
+  abbrev pub Moved : Journal → Row Mail OrderLine → Type 0
+  Moved rows row = MovedIn ahead scenario firsts bases route made (λ older. Heard) rows row
 
   -- what may be queued may be after more rows
   abbrev pub StaysMade : Type 0
   StaysMade = (rows : Journal) (row : Row Mail OrderLine) (base : Base) (c : Command) → made rows base c → made (rows ++ row ∷ []) base c
 
-  node_made : (old more : Base → Command → Type 0) → ((b : Base) (c : Command) → old b c → more b c) → (h : Base → Steps) (me : ℕ) (node : NodeState) → IsNode ahead bases old h me node → IsNode ahead bases more h me node
-  node_made old more f h me node at = record { me_is = at.me_is; known = at.known; holds = λ base a. more_holds ahead base (old base) (more base) (f base) me (h base) node.replicas (at.holds base a) }
+  -- as it is said of a family in which transactions are told
+  pub is_later : StaysMade → (rows : Journal) (row : Row Mail OrderLine) → IsLater ahead scenario firsts bases route made (λ older. Heard) rows row
+  is_later later rows row = record { made_later = λ base c m. later rows row base c m; heard_later = λ body none. none }
 
   -- what holds of a journal holds with one more row
   pub push : StaysMade → (rows : Journal) (row : Row Mail OrderLine) → Kept rows → Moved rows row → Kept (rows ++ row ∷ [])
-  push later rows row k m =
-      let next = rows ++ row ∷ [] in
-      record {
-        parts = λ base a. (
-            let p = m.parts base a in
-            record {
-              lawful = p.lawful;
-              requested = λ b slot c o. later rows row base c (p.requested b slot c o);
-              true_mail = λ x b. elim (Among-either x (mails rows) row.sent (subst (Among x) (mails-snoc rows row) b)) [
-                | inl old ↦ subst (λ g. IsTrue ahead base (made next base) Heard g x x.body) (sym p.are)
-                    (grown_true ahead base (made rows base) (made next base) (later rows row base) Heard Heard (λ body none. none) p.newer (h_of rows base) x x.body ((k.parts base a).true_mail x old))
-                | inr new ↦ p.true_sent x new
-              ];
-            });
-        named = λ x b. elim (Among-either x (mails rows) row.sent (subst (Among x) (mails-snoc rows row) b)) [ inl old ↦ k.named x old | inr new ↦ m.named x new ];
-        nodes = λ n some most. (let at = m.nodes n some most in
-            record { node = at.node; value_is = at.value_is; is = node_made (made rows) (made next) (later rows row) (h_of next) n at.node at.is });
-        clients = λ asks stands. (m.clients asks stands).after;
-      }
-
-  -- ---- a group's log
+  push later rows row k m = push_on ahead scenario firsts bases route made (λ older. Heard) rows row (is_later later rows row) k m
 
   -- what is decided was queued
   pub entries_made : (base : Base) → Among base bases → (rows : Journal) → Kept rows → Each (made rows base) (decided_log ahead base rows)
-  entries_made base a rows k = each_got (made rows base) (decided_log ahead base rows) (λ place c at. (
-      let part = k.parts base a in
-      let offer = entry_offered ahead base rows part.lawful place c at in
-      part.requested offer.0 offer.1 c offer.2))
+  entries_made base a rows k = made_entries ahead scenario firsts bases route made (λ older. Heard) base a rows k
 
   -- the log goes on
   pub log_goes_on : (base : Base) → Among base bases → (rows : Journal) (row : Row Mail OrderLine) → Moved rows row
       → decided_log ahead base (rows ++ row ∷ []) ≡ decided_log ahead base rows ++ drop (length (decided_log ahead base rows)) (decided_log ahead base (rows ++ row ∷ []))
   log_goes_on base a rows row m =
-      let p = m.parts base a in
-      let next = rows ++ row ∷ [] in
-      let log = decided_log ahead base rows in
-      let grown = log_grows (rule ahead base) (first ahead base) p.newer (h_of rows base) (subst (IsLawfulHistory (rule ahead base) (first ahead base)) p.are p.lawful) in
-      let same = decided_is ahead base rows in
-      let later = decided_is ahead base next ∙ ap (log_of (rule ahead base)) p.are in
-      split_at (length log) log (decided_log ahead base next)
-      (ap (take (length log)) later ∙ ap (λ l. take (length l) (log_of (rule ahead base) (p.newer ++ h_of rows base))) same ∙ grown.1 ∙ sym same)
+      goes_on ahead scenario firsts bases route made (λ older. Heard) base rows row (stepped ahead scenario firsts bases route made (λ older. Heard) rows row base (m.parts base a))
 
 -- nothing that is decided divides a group, where nothing that is queued does
 pub entries_whole : (ahead : Ahead) (scenario : Scenario) (bases : List Base) (route : Route) (base : Base) → Among base bases → (rows : Journal) → Kept ahead scenario bases bases route (MadeBy scenario) rows

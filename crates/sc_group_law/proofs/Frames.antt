@@ -30,52 +30,52 @@ abbrev pub steps_of : Draw → ℕ → Event OrderLine → MailBody → List Mai
 steps_of group who event body sent before = promises_of group (node_row who event sent) body ++ accepts_of group (node_row who event sent) body ++ asked_in group sent before
 
 -- a mail of a replica of another group than the one with this name
-abbrev pub IsFar : Draw → MailBody → Type 0
-IsFar name (Request group client seq op) = ⊥
-IsFar name (Answer group seq answer) = same_draw group name ≡ false
-IsFar name (Prepare group ballot from_slot) = same_draw group name ≡ false
-IsFar name (Promise group ballot reports) = same_draw group name ≡ false
-IsFar name (Accept group ballot slot command) = same_draw group name ≡ false
-IsFar name (AcceptedMail group ballot slot) = same_draw group name ≡ false
-IsFar name (Nack group promised) = same_draw group name ≡ false
-IsFar name (Learn group slot command) = same_draw group name ≡ false
-IsFar name (Ask group from_slot) = same_draw group name ≡ false
-IsFar name (Install group slot record_of sets) = same_draw group name ≡ false
-IsFar name (TxPrepare tx offer) = ⊥
-IsFar name (TxVote tx coord part vote) = ⊥
-IsFar name (TxOutcome tx part outcome) = ⊥
-IsFar name (TxElsewhere tx coord hint) = ⊥
-IsFar name (TxWatch tx watch) = ⊥
-IsFar name (TxWatched tx coord part vote) = ⊥
-IsFar name (Told number result) = Unit {0}
+abbrev pub IsFar : (MailBody → Type 0) → Draw → MailBody → Type 0
+IsFar heard name (Request group client seq op) = ⊥
+IsFar heard name (Answer group seq answer) = same_draw group name ≡ false
+IsFar heard name (Prepare group ballot from_slot) = same_draw group name ≡ false
+IsFar heard name (Promise group ballot reports) = same_draw group name ≡ false
+IsFar heard name (Accept group ballot slot command) = same_draw group name ≡ false
+IsFar heard name (AcceptedMail group ballot slot) = same_draw group name ≡ false
+IsFar heard name (Nack group promised) = same_draw group name ≡ false
+IsFar heard name (Learn group slot command) = same_draw group name ≡ false
+IsFar heard name (Ask group from_slot) = same_draw group name ≡ false
+IsFar heard name (Install group slot record_of sets) = same_draw group name ≡ false
+IsFar heard name (TxPrepare tx offer) = heard (TxPrepare tx offer)
+IsFar heard name (TxVote tx coord part vote) = heard (TxVote tx coord part vote)
+IsFar heard name (TxOutcome tx part outcome) = heard (TxOutcome tx part outcome)
+IsFar heard name (TxElsewhere tx coord hint) = heard (TxElsewhere tx coord hint)
+IsFar heard name (TxWatch tx watch) = heard (TxWatch tx watch)
+IsFar heard name (TxWatched tx coord part vote) = heard (TxWatched tx coord part vote)
+IsFar heard name (Told number result) = Unit {0}
 
 -- mails of replicas of other groups
-abbrev pub AreFar : Draw → List Mail → Type 0
-AreFar name mails = Each (λ mail. IsFar name mail.body) mails
+abbrev pub AreFar : (MailBody → Type 0) → Draw → List Mail → Type 0
+AreFar heard name mails = Each (λ mail. IsFar heard name mail.body) mails
 
 module _ (ahead : Ahead) (base : Base) where
   -- what is of the group's own name is of no other
-  pub own_far : (heard : MailBody → Type 0) → ((b : MailBody) → heard b → ⊥) → (name : Draw) → same_draw base.core.id name ≡ false → (body : MailBody) → IsOwn ahead base heard body → IsFar name body
-  own_far heard none name f (Request group client seq op) own = own
-  own_far heard none name f (Answer group seq answer) own = ap (λ d. same_draw d name) own ∙ f
-  own_far heard none name f (Prepare group ballot from_slot) own = ap (λ d. same_draw d name) own ∙ f
-  own_far heard none name f (Promise group ballot reports) own = ap (λ d. same_draw d name) own ∙ f
-  own_far heard none name f (Accept group ballot slot command) own = ap (λ d. same_draw d name) own ∙ f
-  own_far heard none name f (AcceptedMail group ballot slot) own = ap (λ d. same_draw d name) own ∙ f
-  own_far heard none name f (Nack group promised) own = ap (λ d. same_draw d name) own ∙ f
-  own_far heard none name f (Learn group slot command) own = ap (λ d. same_draw d name) own ∙ f
-  own_far heard none name f (Ask group from_slot) own = ap (λ d. same_draw d name) own ∙ f
-  own_far heard none name f (Install group slot record_of sets) own = ap (λ d. same_draw d name) own ∙ f
-  own_far heard none name f (TxPrepare tx offer) own = absurd (none (TxPrepare tx offer) own)
-  own_far heard none name f (TxVote tx coord part vote) own = absurd (none (TxVote tx coord part vote) own)
-  own_far heard none name f (TxOutcome tx part outcome) own = absurd (none (TxOutcome tx part outcome) own)
-  own_far heard none name f (TxElsewhere tx coord hint) own = absurd (none (TxElsewhere tx coord hint) own)
-  own_far heard none name f (TxWatch tx watch) own = absurd (none (TxWatch tx watch) own)
-  own_far heard none name f (TxWatched tx coord part vote) own = absurd (none (TxWatched tx coord part vote) own)
-  own_far heard none name f (Told number result) own = tt
+  pub own_far : (heard : MailBody → Type 0) (name : Draw) → same_draw base.core.id name ≡ false → (body : MailBody) → IsOwn ahead base heard body → IsFar heard name body
+  own_far heard name f (Request group client seq op) own = own
+  own_far heard name f (Answer group seq answer) own = ap (λ d. same_draw d name) own ∙ f
+  own_far heard name f (Prepare group ballot from_slot) own = ap (λ d. same_draw d name) own ∙ f
+  own_far heard name f (Promise group ballot reports) own = ap (λ d. same_draw d name) own ∙ f
+  own_far heard name f (Accept group ballot slot command) own = ap (λ d. same_draw d name) own ∙ f
+  own_far heard name f (AcceptedMail group ballot slot) own = ap (λ d. same_draw d name) own ∙ f
+  own_far heard name f (Nack group promised) own = ap (λ d. same_draw d name) own ∙ f
+  own_far heard name f (Learn group slot command) own = ap (λ d. same_draw d name) own ∙ f
+  own_far heard name f (Ask group from_slot) own = ap (λ d. same_draw d name) own ∙ f
+  own_far heard name f (Install group slot record_of sets) own = ap (λ d. same_draw d name) own ∙ f
+  own_far heard name f (TxPrepare tx offer) own = own
+  own_far heard name f (TxVote tx coord part vote) own = own
+  own_far heard name f (TxOutcome tx part outcome) own = own
+  own_far heard name f (TxElsewhere tx coord hint) own = own
+  own_far heard name f (TxWatch tx watch) own = own
+  own_far heard name f (TxWatched tx coord part vote) own = own
+  own_far heard name f (Told number result) own = tt
 
   -- what is said of another group is true of this one
-  pub far_true : (made : Command → Type 0) (heard : MailBody → Type 0) (h : Steps) (mail : Mail) (body : MailBody) → IsFar base.core.id body → IsTrue ahead base made heard h mail body
+  pub far_true : (made : Command → Type 0) (heard : MailBody → Type 0) (h : Steps) (mail : Mail) (body : MailBody) → IsFar heard base.core.id body → IsTrue ahead base made heard h mail body
   far_true made heard h mail (Request group client seq op) far = absurd far
   far_true made heard h mail (Answer group seq answer) far = λ t. (let no_way : true ≡ false = sym t ∙ far in absurd (cc))
   far_true made heard h mail (Prepare group ballot from_slot) far = λ t. (let no_way : true ≡ false = sym t ∙ far in absurd (cc))
@@ -86,45 +86,45 @@ module _ (ahead : Ahead) (base : Base) where
   far_true made heard h mail (Learn group slot command) far = λ t. (let no_way : true ≡ false = sym t ∙ far in absurd (cc))
   far_true made heard h mail (Ask group from_slot) far = tt
   far_true made heard h mail (Install group slot record_of sets) far = λ t. (let no_way : true ≡ false = sym t ∙ far in absurd (cc))
-  far_true made heard h mail (TxPrepare tx offer) far = absurd far
-  far_true made heard h mail (TxVote tx coord part vote) far = absurd far
-  far_true made heard h mail (TxOutcome tx part outcome) far = absurd far
-  far_true made heard h mail (TxElsewhere tx coord hint) far = absurd far
-  far_true made heard h mail (TxWatch tx watch) far = absurd far
-  far_true made heard h mail (TxWatched tx coord part vote) far = absurd far
+  far_true made heard h mail (TxPrepare tx offer) far = far
+  far_true made heard h mail (TxVote tx coord part vote) far = far
+  far_true made heard h mail (TxOutcome tx part outcome) far = far
+  far_true made heard h mail (TxElsewhere tx coord hint) far = far
+  far_true made heard h mail (TxWatch tx watch) far = far
+  far_true made heard h mail (TxWatched tx coord part vote) far = far
   far_true made heard h mail (Told number result) far = tt
 
 -- ---- steps
 
-far_asked : (name : Draw) (body : MailBody) → IsFar name body → proposer_steps name body ≡ []
-far_asked name (Prepare group ballot from_slot) far = cond-false (same_draw group name) (Prepared ballot from_slot ∷ []) [] far
-far_asked name (Accept group ballot slot command) far = cond-false (same_draw group name) (Offered ballot slot command ∷ []) [] far
-far_asked name _ far = refl
+far_asked : (heard : MailBody → Type 0) (name : Draw) (body : MailBody) → IsFar heard name body → proposer_steps name body ≡ []
+far_asked heard name (Prepare group ballot from_slot) far = cond-false (same_draw group name) (Prepared ballot from_slot ∷ []) [] far
+far_asked heard name (Accept group ballot slot command) far = cond-false (same_draw group name) (Offered ballot slot command ∷ []) [] far
+far_asked heard name _ far = refl
 
 -- they ask for nothing in this group
-pub far_all : (name : Draw) (mails : List Mail) (before : Steps) → AreFar name mails → asked_in name mails before ≡ before
-far_all name [] before far = refl
-far_all name (mail ∷ mails) before far = ap (λ x. asked_in name mails (x ++ before)) (far_asked name mail.body far.0) ∙ far_all name mails before far.1
+pub far_all : (heard : MailBody → Type 0) (name : Draw) (mails : List Mail) (before : Steps) → AreFar heard name mails → asked_in name mails before ≡ before
+far_all heard name [] before far = refl
+far_all heard name (mail ∷ mails) before far = ap (λ x. asked_in name mails (x ++ before)) (far_asked heard name mail.body far.0) ∙ far_all heard name mails before far.1
 
 -- what mails ask for, one part after another
 pub asked_append : (name : Draw) (one other : List Mail) (before : Steps) → asked_in name (one ++ other) before ≡ asked_in name other (asked_in name one before)
 asked_append name [] other before = refl
 asked_append name (mail ∷ one) other before = asked_append name one other (proposer_steps name mail.body ++ before)
 
-far_promised : (name : Draw) (who : ℕ) (ballot : Ballot) (from_slot : ℕ) (body : MailBody) → IsFar name body → promised_by name who ballot from_slot body ≡ []
-far_promised name who ballot from_slot (Promise group b reports) far =
+far_promised : (heard : MailBody → Type 0) (name : Draw) (who : ℕ) (ballot : Ballot) (from_slot : ℕ) (body : MailBody) → IsFar heard name body → promised_by name who ballot from_slot body ≡ []
+far_promised heard name who ballot from_slot (Promise group b reports) far =
     cond-false (same_draw group name && same_ballot b ballot) (Promised who ballot from_slot reports ∷ []) [] (and_left (same_draw group name) (same_ballot b ballot) far)
-far_promised name who ballot from_slot _ far = refl
+far_promised heard name who ballot from_slot _ far = refl
 
-all_promised : (name : Draw) (who : ℕ) (ballot : Ballot) (from_slot : ℕ) (mails : List Mail) → AreFar name mails → flat_map (λ mail. promised_by name who ballot from_slot mail.body) mails ≡ []
-all_promised name who ballot from_slot [] far = refl
-all_promised name who ballot from_slot (mail ∷ mails) far =
-    ap (λ (x : Steps). x ++ flat_map (λ (m : Mail). promised_by name who ballot from_slot m.body) mails) (far_promised name who ballot from_slot mail.body far.0)
-    ∙ all_promised name who ballot from_slot mails far.1
+all_promised : (heard : MailBody → Type 0) (name : Draw) (who : ℕ) (ballot : Ballot) (from_slot : ℕ) (mails : List Mail) → AreFar heard name mails → flat_map (λ mail. promised_by name who ballot from_slot mail.body) mails ≡ []
+all_promised heard name who ballot from_slot [] far = refl
+all_promised heard name who ballot from_slot (mail ∷ mails) far =
+    ap (λ (x : Steps). x ++ flat_map (λ (m : Mail). promised_by name who ballot from_slot m.body) mails) (far_promised heard name who ballot from_slot mail.body far.0)
+    ∙ all_promised heard name who ballot from_slot mails far.1
 
-far_promises : (name : Draw) (who : ℕ) (event : Event OrderLine) (sent : List Mail) → AreFar name sent → (body : MailBody) → promises_of name (node_row who event sent) body ≡ []
-far_promises name who event sent far (Prepare group ballot from_slot) = all_promised name who ballot from_slot sent far
-far_promises name who event sent far _ = refl
+far_promises : (heard : MailBody → Type 0) (name : Draw) (who : ℕ) (event : Event OrderLine) (sent : List Mail) → AreFar heard name sent → (body : MailBody) → promises_of name (node_row who event sent) body ≡ []
+far_promises heard name who event sent far (Prepare group ballot from_slot) = all_promised heard name who ballot from_slot sent far
+far_promises heard name who event sent far _ = refl
 
 far_accepts : (name : Draw) (who : ℕ) (event : Event OrderLine) (sent : List Mail) (group : Draw) → same_draw group name ≡ false → (body : MailBody) → group_of_mail body ≡ Some group
     → accepts_of name (node_row who event sent) body ≡ []
@@ -135,8 +135,8 @@ far_accepts name who event sent group far (Accept g ballot slot command) into =
 far_accepts name who event sent group far _ into = refl
 
 -- a row of another group's replica is no step
-pub far_steps : (name : Draw) (who : ℕ) (event : Event OrderLine) (group : Draw) → same_draw group name ≡ false → (body : MailBody) → group_of_mail body ≡ Some group
-    → (sent : List Mail) (before : Steps) → AreFar name sent → steps_of name who event body sent before ≡ before
-far_steps name who event group other body into sent before far =
-    ap (λ (x : Steps). x ++ accepts_of name (node_row who event sent) body ++ asked_in name sent before) (far_promises name who event sent far body)
-    ∙ ap (λ (x : Steps). x ++ asked_in name sent before) (far_accepts name who event sent group other body into) ∙ far_all name sent before far
+pub far_steps : (heard : MailBody → Type 0) (name : Draw) (who : ℕ) (event : Event OrderLine) (group : Draw) → same_draw group name ≡ false → (body : MailBody) → group_of_mail body ≡ Some group
+    → (sent : List Mail) (before : Steps) → AreFar heard name sent → steps_of name who event body sent before ≡ before
+far_steps heard name who event group other body into sent before far =
+    ap (λ (x : Steps). x ++ accepts_of name (node_row who event sent) body ++ asked_in name sent before) (far_promises heard name who event sent far body)
+    ∙ ap (λ (x : Steps). x ++ asked_in name sent before) (far_accepts name who event sent group other body into) ∙ far_all heard name sent before far

@@ -33,13 +33,14 @@ use Rattle.sc_hist_law.proofs.Logs.{state_same}
 use Rattle.sc_players.specs.Players.{Ahead}
 use Rattle.sc_group_law.proofs.Growth.{IsFresh, fresh_state}
 use Rattle.sc_group_law.proofs.Held.{Mirrors, mirrors_itself, floor_low}
-use Rattle.sc_group_law.proofs.Invariant.{Steps, rule, first, birth, Grants, AreSets, HasLog, IsReplica, next_after, forgotten_replica, IsState, grown_state}
+use Rattle.sc_group_law.proofs.Invariant.{Steps, rule, first, birth, AreSets, HasLog, IsReplica, next_after, forgotten_replica, IsState, grown_state}
+use Rattle.sc_group_law.proofs.Speech.{Speaks}
 use Rattle.sc_group_law.proofs.Midway.{Fine, turn, says}
 use Rattle.sc_group_law.proofs.Sending.{name_is, fine_stopped}
 use Rattle.sc_group_law.proofs.Offering.{with_calls, fine_pumped}
 use Rattle.sc_group_law.proofs.Executing.{hinted_place, looked_place}
 
-module _ (ahead : Ahead) (base : Base) (made : Command → Type 0) (heard : MailBody → Type 0) (grants : Grants ahead base made heard) (me : ℕ) (older : List Mail) (before : Steps)
+module _ (ahead : Ahead) (base : Base) (made : Command → Type 0) (heard : MailBody → Type 0) (me : ℕ) (older : List Mail) (before : Steps) (speaks : Speaks ahead base made heard before)
     (some : (log : List Command) → Each made log → (node : ℕ) × (rest : List ℕ) × ((rule ahead base).members log ≡ node ∷ rest)) where
   abbrev Ok : Place → Type 0
   Ok = Fine ahead base made heard me older before
@@ -97,8 +98,8 @@ module _ (ahead : Ahead) (base : Base) (made : Command → Type 0) (heard : Mail
   unfolding looked_up
   looked_up_place from r mails f =
       cond_both (is_member (members r) from) _ _ Ok
-      (λ _. hinted_place ahead base made heard grants me older before some r (Some from) mails f)
-      (λ _. looked_place ahead base made heard grants me older before some (r, mails) f)
+      (λ _. hinted_place ahead base made heard me older before speaks some r (Some from) mails f)
+      (λ _. looked_place ahead base made heard me older before speaks some (r, mails) f)
 
   jumped_place : (from slot : ℕ) (state : Base) (sets : List (List ℕ)) (place : Place) → Ok place → place.0.running ≡ false → length sets ≡ length place.0.sets → next place.0 ≤ slot → IsState ahead base made before slot state sets
       → Ok (looked_up from (jumped slot state sets place.0, place.1))
@@ -192,9 +193,9 @@ module _ (ahead : Ahead) (base : Base) (made : Command → Type 0) (heard : Mail
   queued_place : (o : Option OrderRefusal) (number : ℕ) (c : Command) (r : ReplicaState) (mails : List Mail) → Ok (r, mails) → made c → Ok (taken_or_told o number c (r, mails))
   queued_place (Some why) number c r mails f m = told_place number (Refused why) r mails f
   queued_place None number c r mails f m =
-      fine_pumped ahead base made heard grants me older before some _
+      fine_pumped ahead base made heard me older before speaks some _
       (turn ahead base made heard me older before r (record r { calls = r.calls ++ c ∷ [] }) mails f
-      (with_calls ahead base made heard grants me older before some (f.newer ++ before) r (r.calls ++ c ∷ []) f.replica (Each-append made r.calls (c ∷ []) f.replica.calls (m, tt))))
+      (with_calls ahead base made heard me older before speaks some (f.newer ++ before) r (r.calls ++ c ∷ []) f.replica (Each-append made r.calls (c ∷ []) f.replica.calls (m, tt))))
 
   -- Told: an order whose command may be queued
   pub fine_ordered_row : (drawer : Drawer) (line : OrderLine) → made (ordered_command (next_name drawer) line.number line.order) → (r : ReplicaState) (mails : List Mail) → Ok (r, mails) → Ok (ordered_row drawer line (r, mails))

@@ -5,7 +5,10 @@ pub mod Rosters
 pub mod Held
 pub mod Quiet
 pub mod Invariant
+pub mod Putting
+pub mod Speech
 pub mod Midway
+pub mod Saying
 pub mod Sending
 pub mod Offering
 pub mod Entering
@@ -13,6 +16,7 @@ pub mod Welcoming
 pub mod Executing
 pub mod Counting
 pub mod Offspring
+pub mod Transacting
 pub mod Rows
 pub mod Installs
 pub mod Voting
@@ -26,11 +30,13 @@ pub mod Projected
 pub mod Places
 pub mod Orders
 pub mod Clients
+pub mod Families
 pub mod Family
 pub mod Replies
 pub mod Replicated
 pub mod Births
 pub mod RowSteps
+pub mod Stepping
 pub mod Walked
 pub mod Several
 pub mod Example

@@ -1,5 +1,5 @@
 -- Names in mail, and mails that are no steps.
-use Rattle.std.proofs.Common.{◌≡◌, ℕ, ◌&&◌, List, [], ◌∷◌, ◌++◌, inl, inr, refl, ◌∙◌, ap, subst}
+use Rattle.std.proofs.Common.{◌≡◌, ℕ, ◌&&◌, List, [], ◌∷◌, ◌++◌, Option, None, inl, inr, refl, ◌∙◌, ap, subst}
 use Rattle.std.specs.List.{list_any}
 use Rattle.std.proofs.lemmas.Bool.{and_right, cond-false}
 use Rattle.sc_base.specs.declared.names.Draw.{Draw}
@@ -62,84 +62,104 @@ abbrev pub IsNamedAnswer : List Base → Draw → AnswerBody → Type 0
 IsNamedAnswer bases group (Says.Value reply) = IsOneOf bases group
 IsNamedAnswer bases group _ = Unit {0}
 
--- a mail of Paxos is of one of these groups, and none is of a transaction
+-- a mail of Paxos is of one of these groups, and one of a transaction is heard
+abbrev pub IsNamedIn : (MailBody → Type 0) → List Base → MailBody → Type 0
+IsNamedIn heard bases (Request group client seq op) = Unit {0}
+IsNamedIn heard bases (Answer group seq answer) = IsNamedAnswer bases group answer
+IsNamedIn heard bases (Prepare group ballot from_slot) = IsOneOf bases group
+IsNamedIn heard bases (Promise group ballot reports) = IsOneOf bases group
+IsNamedIn heard bases (Accept group ballot slot command) = IsOneOf bases group
+IsNamedIn heard bases (AcceptedMail group ballot slot) = IsOneOf bases group
+IsNamedIn heard bases (Nack group promised) = IsOneOf bases group
+IsNamedIn heard bases (Learn group slot command) = IsOneOf bases group
+IsNamedIn heard bases (Ask group from_slot) = IsOneOf bases group
+IsNamedIn heard bases (Install group slot record_of sets) = IsOneOf bases group
+IsNamedIn heard bases (TxPrepare tx offer) = heard (TxPrepare tx offer)
+IsNamedIn heard bases (TxVote tx coord part vote) = heard (TxVote tx coord part vote)
+IsNamedIn heard bases (TxOutcome tx part outcome) = heard (TxOutcome tx part outcome)
+IsNamedIn heard bases (TxElsewhere tx coord hint) = heard (TxElsewhere tx coord hint)
+IsNamedIn heard bases (TxWatch tx watch) = heard (TxWatch tx watch)
+IsNamedIn heard bases (TxWatched tx coord part vote) = heard (TxWatched tx coord part vote)
+IsNamedIn heard bases (Told number result) = Unit {0}
+
+-- where none of a transaction is
 abbrev pub IsNamed : List Base → MailBody → Type 0
-IsNamed bases (Request group client seq op) = Unit {0}
-IsNamed bases (Answer group seq answer) = IsNamedAnswer bases group answer
-IsNamed bases (Prepare group ballot from_slot) = IsOneOf bases group
-IsNamed bases (Promise group ballot reports) = IsOneOf bases group
-IsNamed bases (Accept group ballot slot command) = IsOneOf bases group
-IsNamed bases (AcceptedMail group ballot slot) = IsOneOf bases group
-IsNamed bases (Nack group promised) = IsOneOf bases group
-IsNamed bases (Learn group slot command) = IsOneOf bases group
-IsNamed bases (Ask group from_slot) = IsOneOf bases group
-IsNamed bases (Install group slot record_of sets) = IsOneOf bases group
-IsNamed bases (TxPrepare tx offer) = ⊥
-IsNamed bases (TxVote tx coord part vote) = ⊥
-IsNamed bases (TxOutcome tx part outcome) = ⊥
-IsNamed bases (TxElsewhere tx coord hint) = ⊥
-IsNamed bases (TxWatch tx watch) = ⊥
-IsNamed bases (TxWatched tx coord part vote) = ⊥
-IsNamed bases (Told number result) = Unit {0}
+IsNamed bases body = IsNamedIn (λ other. ⊥) bases body
+
+-- what is named stays so where more is heard
+pub named_later : (heard further : MailBody → Type 0) → ((body : MailBody) → heard body → further body) → (bases : List Base) (body : MailBody) → IsNamedIn heard bases body → IsNamedIn further bases body
+named_later heard further f bases (TxPrepare tx offer) one = f (TxPrepare tx offer) one
+named_later heard further f bases (TxVote tx coord part vote) one = f (TxVote tx coord part vote) one
+named_later heard further f bases (TxOutcome tx part outcome) one = f (TxOutcome tx part outcome) one
+named_later heard further f bases (TxElsewhere tx coord hint) one = f (TxElsewhere tx coord hint) one
+named_later heard further f bases (TxWatch tx watch) one = f (TxWatch tx watch) one
+named_later heard further f bases (TxWatched tx coord part vote) one = f (TxWatched tx coord part vote) one
+named_later heard further f bases _ one = one
 
 -- what is sent where there is no replica is no step
-pub absent_replies : (bases : List Base) (me from : ℕ) (body : MailBody) → IsNamed bases body → ArePlain (absent me from body)
-absent_replies bases me from (Request group client seq op) one = (tt, tt)
-absent_replies bases me from (Prepare group b start) one = (tt, tt)
-absent_replies bases me from (Accept group b slot c) one = (tt, tt)
-absent_replies bases me from (Learn group slot c) one = (tt, tt)
-absent_replies bases me from (TxPrepare tx offer) one = absurd one
-absent_replies bases me from (TxWatch tx watch) one = absurd one
-absent_replies bases me from _ one = tt
+pub absent_replies : (me from : ℕ) (body : MailBody) → ArePlain (absent me from body)
+absent_replies me from (Request group client seq op) = (tt, tt)
+absent_replies me from (Prepare group b start) = (tt, tt)
+absent_replies me from (Accept group b slot c) = (tt, tt)
+absent_replies me from (Learn group slot c) = (tt, tt)
+absent_replies me from (TxPrepare tx offer) = (tt, tt)
+absent_replies me from (TxWatch tx watch) = (tt, tt)
+absent_replies me from _ = tt
 
 answer_named : (bases : List Base) (group : Draw) (answer : AnswerBody) → IsOneOf bases group → IsNamedAnswer bases group answer
 answer_named bases group (Says.Value reply) one = one
 answer_named bases group _ one = tt
 
 -- the mails of a group's replica are of that group
-pub own_named : (ahead : Ahead) (heard : MailBody → Type 0) → ((b : MailBody) → heard b → ⊥) → (bases : List Base) (base : Base) → Among base bases → (body : MailBody) → IsOwn ahead base heard body → IsNamed bases body
-own_named ahead heard none bases base a (Request group client seq op) own = absurd own
-own_named ahead heard none bases base a (Answer group seq answer) own = answer_named bases group answer (base, a, own)
-own_named ahead heard none bases base a (Prepare group ballot from_slot) own = (base, a, own)
-own_named ahead heard none bases base a (Promise group ballot reports) own = (base, a, own)
-own_named ahead heard none bases base a (Accept group ballot slot command) own = (base, a, own)
-own_named ahead heard none bases base a (AcceptedMail group ballot slot) own = (base, a, own)
-own_named ahead heard none bases base a (Nack group promised) own = (base, a, own)
-own_named ahead heard none bases base a (Learn group slot command) own = (base, a, own)
-own_named ahead heard none bases base a (Ask group from_slot) own = (base, a, own)
-own_named ahead heard none bases base a (Install group slot record_of sets) own = (base, a, own)
-own_named ahead heard none bases base a (TxPrepare tx offer) own = absurd (none (TxPrepare tx offer) own)
-own_named ahead heard none bases base a (TxVote tx coord part vote) own = absurd (none (TxVote tx coord part vote) own)
-own_named ahead heard none bases base a (TxOutcome tx part outcome) own = absurd (none (TxOutcome tx part outcome) own)
-own_named ahead heard none bases base a (TxElsewhere tx coord hint) own = absurd (none (TxElsewhere tx coord hint) own)
-own_named ahead heard none bases base a (TxWatch tx watch) own = absurd (none (TxWatch tx watch) own)
-own_named ahead heard none bases base a (TxWatched tx coord part vote) own = absurd (none (TxWatched tx coord part vote) own)
-own_named ahead heard none bases base a (Told number result) own = tt
+pub own_named : (ahead : Ahead) (heard : MailBody → Type 0) (bases : List Base) (base : Base) → Among base bases → (body : MailBody) → IsOwn ahead base heard body → IsNamedIn heard bases body
+own_named ahead heard bases base a (Request group client seq op) own = absurd own
+own_named ahead heard bases base a (Answer group seq answer) own = answer_named bases group answer (base, a, own)
+own_named ahead heard bases base a (Prepare group ballot from_slot) own = (base, a, own)
+own_named ahead heard bases base a (Promise group ballot reports) own = (base, a, own)
+own_named ahead heard bases base a (Accept group ballot slot command) own = (base, a, own)
+own_named ahead heard bases base a (AcceptedMail group ballot slot) own = (base, a, own)
+own_named ahead heard bases base a (Nack group promised) own = (base, a, own)
+own_named ahead heard bases base a (Learn group slot command) own = (base, a, own)
+own_named ahead heard bases base a (Ask group from_slot) own = (base, a, own)
+own_named ahead heard bases base a (Install group slot record_of sets) own = (base, a, own)
+own_named ahead heard bases base a (TxPrepare tx offer) own = own
+own_named ahead heard bases base a (TxVote tx coord part vote) own = own
+own_named ahead heard bases base a (TxOutcome tx part outcome) own = own
+own_named ahead heard bases base a (TxElsewhere tx coord hint) own = own
+own_named ahead heard bases base a (TxWatch tx watch) own = own
+own_named ahead heard bases base a (TxWatched tx coord part vote) own = own
+own_named ahead heard bases base a (Told number result) own = tt
 
 -- what is sent where there is no replica is of the group of the mail that came
-pub absent_named : (bases : List Base) (me from : ℕ) (body : MailBody) → IsNamed bases body → (mail : Mail) → Among mail (absent me from body) → IsNamed bases mail.body
-absent_named bases me from (Request group client seq op) one mail (inl e) = subst (λ (m : Mail). IsNamed bases m.body) e tt
-absent_named bases me from (Request group client seq op) one mail (inr n) = absurd n
-absent_named bases me from (Prepare group b start) one mail (inl e) = subst (λ (m : Mail). IsNamed bases m.body) e one
-absent_named bases me from (Prepare group b start) one mail (inr n) = absurd n
-absent_named bases me from (Accept group b slot c) one mail (inl e) = subst (λ (m : Mail). IsNamed bases m.body) e one
-absent_named bases me from (Accept group b slot c) one mail (inr n) = absurd n
-absent_named bases me from (Learn group slot c) one mail (inl e) = subst (λ (m : Mail). IsNamed bases m.body) e one
-absent_named bases me from (Learn group slot c) one mail (inr n) = absurd n
-absent_named bases me from (TxPrepare tx offer) one mail a = absurd one
-absent_named bases me from (TxWatch tx watch) one mail a = absurd one
-absent_named bases me from _ one mail a = absurd a
+pub absent_named : (heard : MailBody → Type 0) → ((body : MailBody) → heard body → (tx coord : Draw) (hint : Option ℕ) → heard (TxElsewhere tx coord hint)) → (bases : List Base) (me from : ℕ) (body : MailBody) → IsNamedIn heard bases body
+    → (mail : Mail) → Among mail (absent me from body) → IsNamedIn heard bases mail.body
+absent_named heard elsewhere bases me from (Request group client seq op) one mail (inl e) = subst (λ (m : Mail). IsNamedIn heard bases m.body) e tt
+absent_named heard elsewhere bases me from (Request group client seq op) one mail (inr n) = absurd n
+absent_named heard elsewhere bases me from (Prepare group b start) one mail (inl e) = subst (λ (m : Mail). IsNamedIn heard bases m.body) e one
+absent_named heard elsewhere bases me from (Prepare group b start) one mail (inr n) = absurd n
+absent_named heard elsewhere bases me from (Accept group b slot c) one mail (inl e) = subst (λ (m : Mail). IsNamedIn heard bases m.body) e one
+absent_named heard elsewhere bases me from (Accept group b slot c) one mail (inr n) = absurd n
+absent_named heard elsewhere bases me from (Learn group slot c) one mail (inl e) = subst (λ (m : Mail). IsNamedIn heard bases m.body) e one
+absent_named heard elsewhere bases me from (Learn group slot c) one mail (inr n) = absurd n
+absent_named heard elsewhere bases me from (TxPrepare tx offer) one mail (inl e) = subst (λ (m : Mail). IsNamedIn heard bases m.body) e (elsewhere (TxPrepare tx offer) one tx offer.coord None)
+absent_named heard elsewhere bases me from (TxPrepare tx offer) one mail (inr n) = absurd n
+absent_named heard elsewhere bases me from (TxWatch tx watch) one mail (inl e) = subst (λ (m : Mail). IsNamedIn heard bases m.body) e (elsewhere (TxWatch tx watch) one tx watch.coord None)
+absent_named heard elsewhere bases me from (TxWatch tx watch) one mail (inr n) = absurd n
+absent_named heard elsewhere bases me from _ one mail a = absurd a
 
 -- ... and true
-pub absent_true : (bases : List Base) (ahead : Ahead) (base : Base) (made : Command → Type 0) (heard : MailBody → Type 0) (h : Steps) (me from : ℕ) (body : MailBody) → IsNamed bases body → (mail : Mail) → Among mail (absent me from body) → IsTrue ahead base made heard h mail mail.body
-absent_true bases ahead base made heard h me from (Request group client seq op) one mail (inl e) = subst (λ (m : Mail). IsTrue ahead base made heard h m m.body) e (λ _. tt)
-absent_true bases ahead base made heard h me from (Request group client seq op) one mail (inr n) = absurd n
-absent_true bases ahead base made heard h me from (Prepare group b start) one mail (inl e) = subst (λ (m : Mail). IsTrue ahead base made heard h m m.body) e tt
-absent_true bases ahead base made heard h me from (Prepare group b start) one mail (inr n) = absurd n
-absent_true bases ahead base made heard h me from (Accept group b slot c) one mail (inl e) = subst (λ (m : Mail). IsTrue ahead base made heard h m m.body) e tt
-absent_true bases ahead base made heard h me from (Accept group b slot c) one mail (inr n) = absurd n
-absent_true bases ahead base made heard h me from (Learn group slot c) one mail (inl e) = subst (λ (m : Mail). IsTrue ahead base made heard h m m.body) e tt
-absent_true bases ahead base made heard h me from (Learn group slot c) one mail (inr n) = absurd n
-absent_true bases ahead base made heard h me from (TxPrepare tx offer) one mail a = absurd one
-absent_true bases ahead base made heard h me from (TxWatch tx watch) one mail a = absurd one
-absent_true bases ahead base made heard h me from _ one mail a = absurd a
+pub absent_true : (heard : MailBody → Type 0) → ((body : MailBody) → heard body → (tx coord : Draw) (hint : Option ℕ) → heard (TxElsewhere tx coord hint)) → (bases : List Base) (ahead : Ahead) (base : Base) (made : Command → Type 0) (h : Steps) (me from : ℕ) (body : MailBody)
+    → IsNamedIn heard bases body → (mail : Mail) → Among mail (absent me from body) → IsTrue ahead base made heard h mail mail.body
+absent_true heard elsewhere bases ahead base made h me from (Request group client seq op) one mail (inl e) = subst (λ (m : Mail). IsTrue ahead base made heard h m m.body) e (λ _. tt)
+absent_true heard elsewhere bases ahead base made h me from (Request group client seq op) one mail (inr n) = absurd n
+absent_true heard elsewhere bases ahead base made h me from (Prepare group b start) one mail (inl e) = subst (λ (m : Mail). IsTrue ahead base made heard h m m.body) e tt
+absent_true heard elsewhere bases ahead base made h me from (Prepare group b start) one mail (inr n) = absurd n
+absent_true heard elsewhere bases ahead base made h me from (Accept group b slot c) one mail (inl e) = subst (λ (m : Mail). IsTrue ahead base made heard h m m.body) e tt
+absent_true heard elsewhere bases ahead base made h me from (Accept group b slot c) one mail (inr n) = absurd n
+absent_true heard elsewhere bases ahead base made h me from (Learn group slot c) one mail (inl e) = subst (λ (m : Mail). IsTrue ahead base made heard h m m.body) e tt
+absent_true heard elsewhere bases ahead base made h me from (Learn group slot c) one mail (inr n) = absurd n
+absent_true heard elsewhere bases ahead base made h me from (TxPrepare tx offer) one mail (inl e) = subst (λ (m : Mail). IsTrue ahead base made heard h m m.body) e (elsewhere (TxPrepare tx offer) one tx offer.coord None)
+absent_true heard elsewhere bases ahead base made h me from (TxPrepare tx offer) one mail (inr n) = absurd n
+absent_true heard elsewhere bases ahead base made h me from (TxWatch tx watch) one mail (inl e) = subst (λ (m : Mail). IsTrue ahead base made heard h m m.body) e (elsewhere (TxWatch tx watch) one tx watch.coord None)
+absent_true heard elsewhere bases ahead base made h me from (TxWatch tx watch) one mail (inr n) = absurd n
+absent_true heard elsewhere bases ahead base made h me from _ one mail a = absurd a

@@ -30,13 +30,15 @@ use Rattle.sc_node_table.specs.Rows.{made_by, mailed}
 use Rattle.sc_players.specs.Players.{Ahead}
 use Rattle.sc_group_law.specs.Steps.{asked_in}
 use Rattle.sc_group_law.proofs.Growth.{By}
-use Rattle.sc_group_law.proofs.Invariant.{Steps, rule, first, Grants, IsReplica, IsTrue}
+use Rattle.sc_group_law.proofs.Invariant.{Steps, rule, first, IsReplica, IsTrue}
+use Rattle.sc_group_law.proofs.Speech.{AnyoneHears, Speaks}
+use Rattle.sc_group_law.proofs.Transacting.{fine_offer_row, fine_vote_row, fine_outcome_row, fine_elsewhere_row, fine_watch_row, fine_watched_row}
 use Rattle.sc_group_law.proofs.Midway.{Fine}
 use Rattle.sc_group_law.proofs.Installs.{fine_install_row, made_place, fine_ordered_row}
 use Rattle.sc_group_law.proofs.Sending.{name_is}
 use Rattle.sc_group_law.proofs.Counting.{fine_promise_row, fine_accepted_row}
 use Rattle.sc_group_law.proofs.Rows.{fine_nack_row, fine_learn_row, fine_ask_row, fine_request_row}
-use Rattle.sc_group_law.proofs.Names.{quiet_steps, absent_replies, IsOneOf, IsNamed, own_named, absent_named, absent_true}
+use Rattle.sc_group_law.proofs.Names.{quiet_steps, absent_replies, IsOneOf, IsNamedIn, own_named, absent_named, absent_true}
 use Rattle.sc_group_law.proofs.Voting.{ArePlain, promised_in, Ended, ended_by, prepare_ended, accept_ended}
 use Rattle.sc_group_law.proofs.Frames.{steps_of, AreFar, own_far, far_true, far_all, far_steps}
 use Rattle.sc_group_law.proofs.Offspring.{IsChildOf, learnt_are, accepted_are}
@@ -46,7 +48,7 @@ use Rattle.sc_base.proofs.NameLemmas.{same_name, draw_is}
 
 -- ---- one group's replica
 
-module _ (ahead : Ahead) (base : Base) (made : Command → Type 0) (heard : MailBody → Type 0) (grants : Grants ahead base made heard) (me : ℕ) (before : Steps)
+module _ (ahead : Ahead) (base : Base) (made : Command → Type 0) (heard : MailBody → Type 0) (me : ℕ) (before : Steps) (speaks : Speaks ahead base made heard before)
     (some : (log : List Command) → Each made log → (node : ℕ) × (rest : List ℕ) × ((rule ahead base).members log ≡ node ∷ rest))
     (lawful : IsLawfulHistory (rule ahead base) (first ahead base) before)
     (requested : (b : Ballot) (slot : ℕ) (c : Command) → Among (Offered b slot c) before → made c) where
@@ -72,47 +74,59 @@ module _ (ahead : Ahead) (base : Base) (made : Command → Type 0) (heard : Mail
   RowEnded event body place = Ended ahead base made heard me before (steps_of group me event body place.1 before) place
 
   by_fine : (event : Event OrderLine) (body : MailBody) (place : Place) → Fine ahead base made heard me [] before place → steps_of group me event body place.1 before ≡ asked_in group place.1 before → RowEnded event body place
-  by_fine event body place f e = ended_by ahead base made heard grants me before some place _ f e
+  by_fine event body place f e = ended_by ahead base made heard me before speaks some place _ f e
 
   -- a mail comes for it
   mailed_ended : (event : Event OrderLine) (mail : Mail) (body : MailBody) (r : ReplicaState) → IsReplica ahead base made before me r → (g : Draw) → group_of_mail body ≡ Some g → g ≡ group
       → IsTrue ahead base made heard before mail body → RowEnded event body (mailed mail.from body (r, []))
   unfolding mailed start
   mailed_ended event mail (Request g client seq op) r k named into is t =
-      by_fine event (Request g client seq op) _ (fine_request_row ahead base made heard grants me [] before some client seq op r [] (start [] r k) t) refl
+      by_fine event (Request g client seq op) _ (fine_request_row ahead base made heard me [] before speaks some client seq op r [] (start [] r k) t) refl
   mailed_ended event mail (Prepare g b start_slot) r k named into is t =
       let same : g ≡ group = (let one : g ≡ named = cc in one ∙ is) in
       let place = prepare_row mail.from b start_slot (r, []) in
       subst (λ (x : Steps). Ended ahead base made heard me before (x ++ asked_in group place.1 before) place) (sym (append-nil (promised_in group me b start_slot place.1)))
-      (prepare_ended ahead base made heard grants me before some mail.from b start_slot r (start [] r k) (t (same_name g group same)))
+      (prepare_ended ahead base made heard me before speaks some mail.from b start_slot r (start [] r k) (t (same_name g group same)))
   mailed_ended event mail (Promise g b reports) r k named into is t =
       let same : g ≡ group = (let one : g ≡ named = cc in one ∙ is) in
       let told = t (same_name g group same) in
-      by_fine event (Promise g b reports) _ (fine_promise_row ahead base made heard grants me [] before some mail.from b reports told.0 r [] (start [] r k) told.1 told.2) refl
+      by_fine event (Promise g b reports) _ (fine_promise_row ahead base made heard me [] before speaks some mail.from b reports told.0 r [] (start [] r k) told.1 told.2) refl
   mailed_ended event mail (Accept g b slot c) r k named into is t =
       let same : g ≡ group = (let one : g ≡ named = cc in one ∙ is) in
       subst (λ d. RowEnded event (Accept d b slot c) (mailed mail.from (Accept g b slot c) (r, []))) (sym same)
-      (accept_ended ahead base made heard grants me before some mail.from b slot c r (start [] r k) (t (same_name g group same)))
+      (accept_ended ahead base made heard me before speaks some mail.from b slot c r (start [] r k) (t (same_name g group same)))
   mailed_ended event mail (AcceptedMail g b slot) r k named into is t =
       let same : g ≡ group = (let one : g ≡ named = cc in one ∙ is) in
       let told = t (same_name g group same) in
-      by_fine event (AcceptedMail g b slot) _ (fine_accepted_row ahead base made heard grants me [] before some mail.from b slot told.0 r [] (start [] r k) told.1) refl
-  mailed_ended event mail (Nack g promised) r k named into is t = by_fine event (Nack g promised) _ (fine_nack_row ahead base made heard grants me [] before some promised r [] (start [] r k)) refl
+      by_fine event (AcceptedMail g b slot) _ (fine_accepted_row ahead base made heard me [] before speaks some mail.from b slot told.0 r [] (start [] r k) told.1) refl
+  mailed_ended event mail (Nack g promised) r k named into is t = by_fine event (Nack g promised) _ (fine_nack_row ahead base made heard me [] before speaks some promised r [] (start [] r k)) refl
   mailed_ended event mail (Learn g slot c) r k named into is t =
       let same : g ≡ group = (let one : g ≡ named = cc in one ∙ is) in
-      by_fine event (Learn g slot c) _ (fine_learn_row ahead base made heard grants me [] before some mail.from slot c r [] (start [] r k) (t (same_name g group same))) refl
-  mailed_ended event mail (Ask g start_slot) r k named into is t = by_fine event (Ask g start_slot) _ (fine_ask_row ahead base made heard grants me [] before some mail.from start_slot r [] (start [] r k)) refl
+      by_fine event (Learn g slot c) _ (fine_learn_row ahead base made heard me [] before speaks some mail.from slot c r [] (start [] r k) (t (same_name g group same))) refl
+  mailed_ended event mail (Ask g start_slot) r k named into is t = by_fine event (Ask g start_slot) _ (fine_ask_row ahead base made heard me [] before speaks some mail.from start_slot r [] (start [] r k)) refl
   mailed_ended event mail (Install g slot state sets) r k named into is t =
       let same : g ≡ group = (let one : g ≡ named = cc in one ∙ is) in
-      by_fine event (Install g slot state sets) _ (fine_install_row ahead base made heard grants me [] before some mail.from slot state sets r [] (start [] r k) (t (same_name g group same))) refl
+      by_fine event (Install g slot state sets) _ (fine_install_row ahead base made heard me [] before speaks some mail.from slot state sets r [] (start [] r k) (t (same_name g group same))) refl
   mailed_ended event mail (Answer g seq answer) r k named into is t = cc
   mailed_ended event mail (Told number result) r k named into is t = cc
-  mailed_ended event mail (TxPrepare tx offer) r k named into is t = absurd (grants.unheard (TxPrepare tx offer) t)
-  mailed_ended event mail (TxVote tx coord part vote) r k named into is t = absurd (grants.unheard (TxVote tx coord part vote) t)
-  mailed_ended event mail (TxOutcome tx part outcome) r k named into is t = absurd (grants.unheard (TxOutcome tx part outcome) t)
-  mailed_ended event mail (TxElsewhere tx coord hint) r k named into is t = absurd (grants.unheard (TxElsewhere tx coord hint) t)
-  mailed_ended event mail (TxWatch tx watch) r k named into is t = absurd (grants.unheard (TxWatch tx watch) t)
-  mailed_ended event mail (TxWatched tx coord part vote) r k named into is t = absurd (grants.unheard (TxWatched tx coord part vote) t)
+  mailed_ended event mail (TxPrepare tx offer) r k named into is t =
+      let same : offer.part ≡ group = (let one : offer.part ≡ named = cc in one ∙ is) in
+      by_fine event (TxPrepare tx offer) _ (fine_offer_row ahead base made heard me [] before speaks some mail.from tx offer r [] (start [] r k) t same) refl
+  mailed_ended event mail (TxVote tx coord part vote) r k named into is t =
+      let same : coord ≡ group = (let one : coord ≡ named = cc in one ∙ is) in
+      by_fine event (TxVote tx coord part vote) _ (fine_vote_row ahead base made heard me [] before speaks some mail.from tx coord part vote r [] (start [] r k) t same) refl
+  mailed_ended event mail (TxOutcome tx part outcome) r k named into is t =
+      let same : part ≡ group = (let one : part ≡ named = cc in one ∙ is) in
+      by_fine event (TxOutcome tx part outcome) _ (fine_outcome_row ahead base made heard me [] before speaks some tx part outcome r [] (start [] r k) t same) refl
+  mailed_ended event mail (TxElsewhere tx coord hint) r k named into is t =
+      let same : coord ≡ group = (let one : coord ≡ named = cc in one ∙ is) in
+      by_fine event (TxElsewhere tx coord hint) _ (fine_elsewhere_row ahead base made heard me [] before speaks some mail.from tx coord hint r [] (start [] r k) t same) refl
+  mailed_ended event mail (TxWatch tx watch) r k named into is t =
+      let same : watch.part ≡ group = (let one : watch.part ≡ named = cc in one ∙ is) in
+      by_fine event (TxWatch tx watch) _ (fine_watch_row ahead base made heard me [] before speaks some mail.from tx watch r [] (start [] r k) t same) refl
+  mailed_ended event mail (TxWatched tx coord part vote) r k named into is t =
+      let same : coord ≡ group = (let one : coord ≡ named = cc in one ∙ is) in
+      by_fine event (TxWatched tx coord part vote) _ (fine_watched_row ahead base made heard me [] before speaks some mail.from tx coord part vote r [] (start [] r k) t same) refl
 
   -- the children that a mail makes are those of fronts of the log
   mailed_kids : (mail : Mail) (body : MailBody) (r : ReplicaState) → IsReplica ahead base made before me r → (g : Draw) → group_of_mail body ≡ Some g → g ≡ group
@@ -121,10 +135,10 @@ module _ (ahead : Ahead) (base : Base) (made : Command → Type 0) (heard : Mail
   mailed_kids mail (AcceptedMail g b slot) r k named into is t =
       let same : g ≡ group = (let one : g ≡ named = cc in one ∙ is) in
       let told = t (same_name g group same) in
-      accepted_are ahead base made heard grants me before some mail.from b slot told.0 r [] (start [] r k) told.1
+      accepted_are ahead base made heard me before speaks some mail.from b slot told.0 r [] (start [] r k) told.1
   mailed_kids mail (Learn g slot c) r k named into is t =
       let same : g ≡ group = (let one : g ≡ named = cc in one ∙ is) in
-      learnt_are ahead base made heard grants me before some slot c r [] (start [] r k) (t (same_name g group same))
+      learnt_are ahead base made heard me before speaks some slot c r [] (start [] r k) (t (same_name g group same))
   mailed_kids mail _ r k named into is t = tt
 
   -- the end of a row of a node, as the group sees it
@@ -170,18 +184,18 @@ module _ (ahead : Ahead) (bases : List Base) (made : Base → Command → Type 0
     pub alone : (base : Base) → Among base bases → base.core.id ≡ child.core.id → base ≡ child
     pub open_slots : ahead.slots ≡ slots_ahead
 
-  module _ (heard : MailBody → Type 0) (grants : (base : Base) → Among base bases → Grants ahead base (made base) heard) (me : ℕ) (h : Base → Steps)
+  module _ (heard : MailBody → Type 0) (elsewhere : AnyoneHears heard) (me : ℕ) (h : Base → Steps) (speaks : (base : Base) → Among base bases → Speaks ahead base (made base) heard (h base))
       (some : (base : Base) → Among base bases → (log : List Command) → Each (made base) log → (node : ℕ) × (rest : List ℕ) × ((rule ahead base).members log ≡ node ∷ rest))
       (lawful : (base : Base) → Among base bases → IsLawfulHistory (rule ahead base) (first ahead base) (h base))
       (requested : (base : Base) → Among base bases → (b : Ballot) (slot : ℕ) (c : Command) → Among (Offered b slot c) (h base) → made base c) where
     abbrev Part : (base : Base) → Among base bases → Steps → NodeState × List Mail → Type 0
-    Part base a after step = PartEnded ahead base (made base) heard (grants base a) me (h base) (some base a) (lawful base a) (requested base a) after step
+    Part base a after step = PartEnded ahead base (made base) heard me (h base) (speaks base a) (some base a) (lawful base a) (requested base a) after step
 
     -- the end of a node's row: after the row these are the steps of each group
     pub record NodeEnded (after : Base → Steps) (step : NodeState × List Mail) : Type 0 where
       pub me_is : step.0.me ≡ me
       pub known : Each (λ r. IsOneOf bases (name_of r)) step.0.replicas
-      pub named : (mail : Mail) → Among mail step.1 → IsNamed bases mail.body
+      pub named : (mail : Mail) → Among mail step.1 → IsNamedIn heard bases mail.body
       pub parts : (base : Base) (a : Among base bases) → Part base a (after base) step
 
     -- the same steps in other words
@@ -196,26 +210,26 @@ module _ (ahead : Ahead) (bases : List Base) (made : Base → Command → Type 0
     -- ---- nothing comes of it
 
     pub unchanged : (after : Base → Steps) (node : NodeState) (sent : List Mail) → IsNode h me node → ((base : Base) → Among base bases → after base ≡ h base)
-        → ((mail : Mail) → Among mail sent → IsNamed bases mail.body) → ((base : Base) → Among base bases → (mail : Mail) → Among mail sent → IsTrue ahead base (made base) heard (h base) mail mail.body) → NodeEnded after (node, sent)
+        → ((mail : Mail) → Among mail sent → IsNamedIn heard bases mail.body) → ((base : Base) → Among base bases → (mail : Mail) → Among mail sent → IsTrue ahead base (made base) heard (h base) mail mail.body) → NodeEnded after (node, sent)
     unchanged after node sent k same named t = record {
       me_is = k.me_is;
       known = k.known;
       named = named;
-      parts = λ base a. no_part ahead base (made base) heard (grants base a) me (h base) (some base a) (lawful base a) (requested base a) (after base) (node, sent) (same base a) (k.holds base a) (t base a);
+      parts = λ base a. no_part ahead base (made base) heard me (h base) (speaks base a) (some base a) (lawful base a) (requested base a) (after base) (node, sent) (same base a) (k.holds base a) (t base a);
     }
 
     -- ---- one replica's row
 
     -- the mails of a replica's row are of no other group
-    far_sent : (base : Base) → Among base bases → (before after : Steps) (place : Place) → Ended ahead base (made base) heard me before after place → (name : Draw) → same_draw base.core.id name ≡ false → AreFar name place.1
-    far_sent base a before after place e name f = Each-from _ place.1 (λ m b. own_far ahead base heard (grants base a).unheard name f m.body (e.own m b))
+    far_sent : (base : Base) → Among base bases → (before after : Steps) (place : Place) → Ended ahead base (made base) heard me before after place → (name : Draw) → same_draw base.core.id name ≡ false → AreFar heard name place.1
+    far_sent base a before after place e name f = Each-from _ place.1 (λ m b. own_far ahead base heard name f m.body (e.own m b))
 
     ended_name : (base : Base) → Among base bases → (before after : Steps) (place : Place) → Ended ahead base (made base) heard me before after place → name_of place.0 ≡ base.core.id
     ended_name base a before after place e = name_is ahead base (made base) heard me [] before (e.newer ++ before) place.0 e.replica
 
     one_row : (g : Draw) (r : ReplicaState) (node : NodeState) → IsNode h me node → replica_of g node.replicas ≡ Some r → (place : Place) (after : Base → Steps)
         → ((base : Base) (a : Among base bases) → g ≡ base.core.id → IsReplica ahead base (made base) (h base) me r → Ended ahead base (made base) heard me (h base) (after base) place)
-        → ((base : Base) → Among base bases → same_draw g base.core.id ≡ false → AreFar base.core.id place.1 → after base ≡ h base)
+        → ((base : Base) → Among base bases → same_draw g base.core.id ≡ false → AreFar heard base.core.id place.1 → after base ≡ h base)
         → NodeEnded after (record node { replicas = with_replica g place.0 node.replicas }, place.1)
     one_row g r node k found place after ends far =
         let there = find_found (λ (s : ReplicaState). same_draw (name_of s) g) node.replicas r found in
@@ -228,17 +242,17 @@ module _ (ahead : Ahead) (bases : List Base) (made : Base → Command → Type 0
         record {
           me_is = k.me_is;
           known = each_with (λ s. IsOneOf bases (name_of s)) g place.0 node.replicas k.known (mine.0, mine.1, new_name);
-          named = λ m a. own_named ahead heard (grants mine.0 mine.1).unheard bases mine.0 mine.1 m.body (e.own m a);
+          named = λ m a. own_named ahead heard bases mine.0 mine.1 m.body (e.own m a);
           parts = λ base a. elim (cases_Bool (same_draw g base.core.id)) [
             | inl t ↦ (
                 let same = draw_is g base.core.id t in
                 let ended = ends base a same (held ahead base (made base) me (h base) node.replicas (k.holds base a) r there.0 (named ∙ same)) in
-                own_part ahead base (made base) heard (grants base a) me (h base) (some base a) (lawful base a) (requested base a) (after base) place step refl ended
+                own_part ahead base (made base) heard me (h base) (speaks base a) (some base a) (lawful base a) (requested base a) (after base) place step refl ended
                 (with_held ahead base (made base) me (h base) (ended.newer ++ h base) g same place.0 (ended_name base a (h base) (after base) place ended) ended.replica node.replicas r (k.holds base a) found))
             | inr f ↦ (
                 let apart_from : same_draw mine.0.core.id base.core.id ≡ false = ap (λ d. same_draw d base.core.id) (sym is) ∙ f in
                 let sent = far_sent mine.0 mine.1 (h mine.0) (after mine.0) place e base.core.id apart_from in
-                no_part ahead base (made base) heard (grants base a) me (h base) (some base a) (lawful base a) (requested base a) (after base) step (far base a f sent)
+                no_part ahead base (made base) heard me (h base) (speaks base a) (some base a) (lawful base a) (requested base a) (after base) step (far base a f sent)
                 (with_far ahead base (made base) me (h base) g f place.0 (λ same. apart_names g base.core.id f (is ∙ sym new_name ∙ same)) node.replicas (k.holds base a))
                 (λ m b. far_true ahead base (made base) heard (h base) m m.body (Each-among _ place.1 m sent b)))
           ];
@@ -307,17 +321,17 @@ module _ (ahead : Ahead) (bases : List Base) (made : Base → Command → Type 0
     abbrev IsTrueOfAll : Mail → MailBody → Type 0
     IsTrueOfAll mail body = (base : Base) → Among base bases → IsTrue ahead base (made base) heard (h base) mail body
 
-    quiet : (event : Event OrderLine) (body : MailBody) (node : NodeState) (sent : List Mail) → IsNode h me node → ArePlain sent → ((mail : Mail) → Among mail sent → IsNamed bases mail.body)
+    quiet : (event : Event OrderLine) (body : MailBody) (node : NodeState) (sent : List Mail) → IsNode h me node → ArePlain sent → ((mail : Mail) → Among mail sent → IsNamedIn heard bases mail.body)
         → ((base : Base) → Among base bases → (mail : Mail) → Among mail sent → IsTrue ahead base (made base) heard (h base) mail mail.body) → Goal event body (node, sent)
     quiet event body node sent k plain named t = unchanged _ node sent k (λ base a. quiet_steps base.core.id me event body sent (h base) plain) named t
 
     nothing : (event : Event OrderLine) (body : MailBody) (node : NodeState) → IsNode h me node → Goal event body (node, [])
     nothing event body node k = quiet event body node [] k tt (λ m a. absurd a) (λ base a m b. absurd b)
 
-    absent_ended : (event : Event OrderLine) (mail : Mail) (body : MailBody) (node : NodeState) → IsNode h me node → IsNamed bases body → Goal event body (node, absent node.me mail.from body)
+    absent_ended : (event : Event OrderLine) (mail : Mail) (body : MailBody) (node : NodeState) → IsNode h me node → IsNamedIn heard bases body → Goal event body (node, absent node.me mail.from body)
     absent_ended event mail body node k named =
-        quiet event body node (absent node.me mail.from body) k (absent_replies bases node.me mail.from body named) (absent_named bases node.me mail.from body named)
-        (λ base a m b. absent_true bases ahead base (made base) heard (h base) node.me mail.from body named m b)
+        quiet event body node (absent node.me mail.from body) k (absent_replies node.me mail.from body) (absent_named heard elsewhere bases node.me mail.from body named)
+        (λ base a m b. absent_true heard elsewhere bases ahead base (made base) (h base) node.me mail.from body named m b)
 
     -- a node without a replica of the group makes one of the state that it is sent
     made_ended : (event : Event OrderLine) (mail : Mail) (g : Draw) (slot : ℕ) (state : Base) (sets : List (List ℕ)) (node : NodeState) → IsNode h me node → replica_of g node.replicas ≡ None → IsOneOf bases g
@@ -328,32 +342,32 @@ module _ (ahead : Ahead) (bases : List Base) (made : Base → Command → Type 0
         let step : NodeState × List Mail = (record node { replicas = with_new place.0 node.replicas }, place.1) in
         let ends = λ (base : Base) (a : Among base bases) (is : g ≡ base.core.id). (
         let fresh = none_held ahead base (made base) me (h base) g is node.replicas (k.holds base a) none in
-        by_fine ahead base (made base) heard (grants base a) me (h base) (some base a) (lawful base a) (requested base a) event body place
-        (made_place ahead base (made base) heard (grants base a) me [] (h base) (some base a) refl node.me mail.from g slot state sets k.me_is is fresh.1 (lawful base a) (requested base a) (t base a (same_name g base.core.id is))) refl) in
+        by_fine ahead base (made base) heard me (h base) (speaks base a) (some base a) (lawful base a) (requested base a) event body place
+        (made_place ahead base (made base) heard me [] (h base) (speaks base a) (some base a) refl node.me mail.from g slot state sets k.me_is is fresh.1 (lawful base a) (requested base a) (t base a (same_name g base.core.id is))) refl) in
         let e = ends one.0 one.1 one.2 in
         let new_name = ended_name one.0 one.1 (h one.0) _ place e in
         record {
           me_is = k.me_is;
           known = each_new (λ s. IsOneOf bases (name_of s)) place.0 node.replicas k.known (one.0, one.1, new_name);
-          named = λ m a. own_named ahead heard (grants one.0 one.1).unheard bases one.0 one.1 m.body (e.own m a);
+          named = λ m a. own_named ahead heard bases one.0 one.1 m.body (e.own m a);
           parts = λ base a. elim (cases_Bool (same_draw g base.core.id)) [
             | inl t ↦ (
                 let same = draw_is g base.core.id t in
                 let ended = ends base a same in
-                own_part ahead base (made base) heard (grants base a) me (h base) (some base a) (lawful base a) (requested base a) _ place step refl ended
+                own_part ahead base (made base) heard me (h base) (speaks base a) (some base a) (lawful base a) (requested base a) _ place step refl ended
                 (new_held ahead base (made base) me (ended.newer ++ h base) place.0 (ended_name base a (h base) _ place ended) ended.replica node.replicas
                 (none_held ahead base (made base) me (h base) g same node.replicas (k.holds base a) none).0))
             | inr f ↦ (
                 let apart_from : same_draw one.0.core.id base.core.id ≡ false = ap (λ d. same_draw d base.core.id) (sym one.2) ∙ f in
                 let sent = far_sent one.0 one.1 (h one.0) _ place e base.core.id apart_from in
-                no_part ahead base (made base) heard (grants base a) me (h base) (some base a) (lawful base a) (requested base a) _ step
-                (far_steps base.core.id me event g f body refl place.1 (h base) sent)
+                no_part ahead base (made base) heard me (h base) (speaks base a) (some base a) (lawful base a) (requested base a) _ step
+                (far_steps heard base.core.id me event g f body refl place.1 (h base) sent)
                 (new_far ahead base (made base) me (h base) place.0 (λ same. (let no_way : true ≡ false = sym (same_name g base.core.id (one.2 ∙ sym new_name ∙ same)) ∙ f in absurd (cc))) node.replicas (k.holds base a))
                 (λ m b. far_true ahead base (made base) heard (h base) m m.body (Each-among _ place.1 m sent b)))
           ];
         }
 
-    unknown_ended : (event : Event OrderLine) (mail : Mail) (body : MailBody) (g : Draw) → group_of_mail body ≡ Some g → (node : NodeState) → IsNode h me node → replica_of g node.replicas ≡ None → IsNamed bases body
+    unknown_ended : (event : Event OrderLine) (mail : Mail) (body : MailBody) (g : Draw) → group_of_mail body ≡ Some g → (node : NodeState) → IsNode h me node → replica_of g node.replicas ≡ None → IsNamedIn heard bases body
         → IsTrueOfAll mail body → Goal event body (unknown mail.from body node)
     unknown_ended event mail (Install named slot state sets) g into node k none one t =
         let same : named ≡ g = cc in
@@ -371,35 +385,29 @@ module _ (ahead : Ahead) (bases : List Base) (made : Base → Command → Type 0
         let (base, a, is) = mine in
         let was = held ahead base (made base) me (h base) node.replicas (k.holds base a) r there.0 is in
         Each-weaker _ _ (offspring base a) (mailed_children mail.from body (r, []) [])
-        (mailed_kids ahead base (made base) heard (grants base a) me (h base) (some base a) (lawful base a) (requested base a) mail body r was g into (sym named ∙ is) (t base a))
+        (mailed_kids ahead base (made base) heard me (h base) (speaks base a) (some base a) (lawful base a) (requested base a) mail body r was g into (sym named ∙ is) (t base a))
 
-    taken_ended : (event : Event OrderLine) (mail : Mail) (body : MailBody) (g : Draw) → HasOffspring → group_of_mail body ≡ Some g → (node : NodeState) → IsNode h me node → IsNamed bases body → IsTrueOfAll mail body
+    taken_ended : (event : Event OrderLine) (mail : Mail) (body : MailBody) (g : Draw) → HasOffspring → group_of_mail body ≡ Some g → (node : NodeState) → IsNode h me node → IsNamedIn heard bases body → IsTrueOfAll mail body
         → (o : Option ReplicaState) → replica_of g node.replicas ≡ o → Goal event body (taken_by o g mail.from body node)
     taken_ended event mail body g offspring into node k one t None e = unknown_ended event mail body g into node k e one t
     taken_ended event mail body g offspring into node k one t (Some r) e =
         let place = mailed mail.from body (r, []) in
         born_all (λ base. steps_of base.core.id me event body place.1 (h base)) (mailed_children mail.from body (r, []) []) _ place.1 (new_kids mail body g offspring into node k t r e)
         (one_row g r node k e place (λ base. steps_of base.core.id me event body place.1 (h base))
-        (λ base a is was. mailed_ended ahead base (made base) heard (grants base a) me (h base) (some base a) (lawful base a) (requested base a) event mail body r was g into is (t base a))
-        (λ base a f sent. far_steps base.core.id me event g f body into place.1 (h base) sent))
+        (λ base a is was. mailed_ended ahead base (made base) heard me (h base) (speaks base a) (some base a) (lawful base a) (requested base a) event mail body r was g into is (t base a))
+        (λ base a f sent. far_steps heard base.core.id me event g f body into place.1 (h base) sent))
 
-    routed_ended : (event : Event OrderLine) (mail : Mail) (body : MailBody) → HasOffspring → (o : Option Draw) → group_of_mail body ≡ o → (node : NodeState) → IsNode h me node → IsNamed bases body → IsTrueOfAll mail body
+    routed_ended : (event : Event OrderLine) (mail : Mail) (body : MailBody) → HasOffspring → (o : Option Draw) → group_of_mail body ≡ o → (node : NodeState) → IsNode h me node → IsNamedIn heard bases body → IsTrueOfAll mail body
         → Goal event body (routed o mail.from body node)
     routed_ended event mail body offspring None into node k one t = nothing event body node k
     routed_ended event mail body offspring (Some g) into node k one t = taken_ended event mail body g offspring into node k one t (replica_of g node.replicas) refl
 
-    come_ended : (event : Event OrderLine) (mail : Mail) (body : MailBody) → HasOffspring → (node : NodeState) → IsNode h me node → IsNamed bases body → IsTrueOfAll mail body → Goal event body (on_mail mail.from body node)
-    come_ended event mail (TxPrepare tx offer) offspring node k one t = absurd one
-    come_ended event mail (TxVote tx coord part vote) offspring node k one t = absurd one
-    come_ended event mail (TxOutcome tx part outcome) offspring node k one t = absurd one
-    come_ended event mail (TxElsewhere tx coord hint) offspring node k one t = absurd one
-    come_ended event mail (TxWatch tx watch) offspring node k one t = absurd one
-    come_ended event mail (TxWatched tx coord part vote) offspring node k one t = absurd one
+    come_ended : (event : Event OrderLine) (mail : Mail) (body : MailBody) → HasOffspring → (node : NodeState) → IsNode h me node → IsNamedIn heard bases body → IsTrueOfAll mail body → Goal event body (on_mail mail.from body node)
     come_ended event mail body offspring node k one t =
         cond_both (may_come mail.from body) _ _ (Goal event body) (λ _. routed_ended event mail body offspring (group_of_mail body) refl node k one t) (λ _. nothing event body node k)
 
     -- a mail comes
-    pub mail_ended : (event : Event OrderLine) (mail : Mail) → HasOffspring → (node : NodeState) → IsNode h me node → IsNamed bases mail.body → IsTrueOfAll mail mail.body → Goal event mail.body (on_mail mail.from mail.body node)
+    pub mail_ended : (event : Event OrderLine) (mail : Mail) → HasOffspring → (node : NodeState) → IsNode h me node → IsNamedIn heard bases mail.body → IsTrueOfAll mail mail.body → Goal event mail.body (on_mail mail.from mail.body node)
     mail_ended event mail offspring node k one t = come_ended event mail mail.body offspring node k one t
 
     -- ---- an order
@@ -410,7 +418,7 @@ module _ (ahead : Ahead) (bases : List Base) (made : Base → Command → Type 0
     desk_ended : (number : ℕ) (result : ToldResult) (node : NodeState) → IsNode h me node → Asked (node, told_desk node.me number result [])
     desk_ended number result node k =
         unchanged _ node (told_desk node.me number result []) k (λ base a. refl)
-        (λ m a. elim a [ inl e ↦ subst (λ (x : Mail). IsNamed bases x.body) e tt | inr n ↦ absurd n ])
+        (λ m a. elim a [ inl e ↦ subst (λ (x : Mail). IsNamedIn heard bases x.body) e tt | inr n ↦ absurd n ])
         (λ base b m a. elim a [ inl e ↦ subst (λ (x : Mail). IsTrue ahead base (made base) heard (h base) x x.body) e tt | inr n ↦ absurd n ])
 
     -- what the order asks for may be queued at its group
@@ -423,10 +431,10 @@ module _ (ahead : Ahead) (bases : List Base) (made : Base → Command → Type 0
         let place = ordered_row node.draws line (r, []) in
         redrawn (λ base. asked_in base.core.id place.1 (h base)) (record node { replicas = with_replica (group_of_order line.order) place.0 node.replicas }) (names_after node.draws line r) place.1
         (one_row (group_of_order line.order) r node k e place (λ base. asked_in base.core.id place.1 (h base))
-        (λ base a is was. ended_by ahead base (made base) heard (grants base a) me (h base) (some base a) place _
-        (fine_ordered_row ahead base (made base) heard (grants base a) me [] (h base) (some base a) node.draws line (may base a is) r []
-        (start ahead base (made base) heard (grants base a) me (h base) (some base a) (lawful base a) (requested base a) [] r was)) refl)
-        (λ base a f sent. far_all base.core.id place.1 (h base) sent))
+        (λ base a is was. ended_by ahead base (made base) heard me (h base) (speaks base a) (some base a) place _
+        (fine_ordered_row ahead base (made base) heard me [] (h base) (speaks base a) (some base a) node.draws line (may base a is) r []
+        (start ahead base (made base) heard me (h base) (speaks base a) (some base a) (lawful base a) (requested base a) [] r was)) refl)
+        (λ base a f sent. far_all heard base.core.id place.1 (h base) sent))
 
     -- the end of an order
     pub order_ended : (line : OrderLine) (node : NodeState) → MayOrder line node → IsNode h me node → Asked (on_order line node)

@@ -40,7 +40,8 @@ use Rattle.sc_node_table.specs.Slots.{at_slot}
 use Rattle.sc_node_table.specs.Replica.{ReplicaState, Place, name_of, next, flying, either, taken_at, may_offer, settled, under_way, is_idle, last_slot}
 use Rattle.sc_players.specs.Players.{Ahead}
 use Rattle.sc_group_law.proofs.Growth.{later_learnt}
-use Rattle.sc_group_law.proofs.Invariant.{Steps, rule, first, Grants, later_has, IsTaken, AreSets, IsReplica, next_after, IsTrueAnswer, later_flying}
+use Rattle.sc_group_law.proofs.Invariant.{Steps, rule, first, later_has, IsTaken, AreSets, IsReplica, next_after, IsTrueAnswer, later_flying}
+use Rattle.sc_group_law.proofs.Speech.{Speaks}
 use Rattle.sc_group_law.proofs.Midway.{Fine, turn, steps}
 use Rattle.sc_group_law.proofs.Lists.{Each-take}
 use Rattle.sc_group_law.proofs.Sending.{asked_accept, name_is, offered_again, answered_one}
@@ -97,7 +98,7 @@ module _ (ahead : Ahead) (base : Base) where
   this_set log slot set sets are =
       subst (λ n. (set ≡ members_of (rule ahead base) log n) × (needed (rule ahead base) n ≤ length log)) (first_set slot) (are 0 set refl)
 
-module _ (ahead : Ahead) (base : Base) (made : Command → Type 0) (heard : MailBody → Type 0) (grants : Grants ahead base made heard) (me : ℕ) (older : List Mail) (before : Steps)
+module _ (ahead : Ahead) (base : Base) (made : Command → Type 0) (heard : MailBody → Type 0) (me : ℕ) (older : List Mail) (before : Steps) (speaks : Speaks ahead base made heard before)
     (some : (log : List Command) → Each made log → (node : ℕ) × (rest : List ℕ) × ((rule ahead base).members log ≡ node ∷ rest)) where
   abbrev Ok : Place → Type 0
   Ok = Fine ahead base made heard me older before
@@ -354,7 +355,7 @@ module _ (ahead : Ahead) (base : Base) (made : Command → Type 0) (heard : Mail
     leader_is = refl;
     ready_is = refl;
     acceptor_is = refl;
-    command = (grants.noop, subst (λ x. Obeys x Noop) (sym e) tt);
+    command = (speaks.noop, subst (λ x. Obeys x Noop) (sym e) tt);
   }
   found_by_must slot r mails f runs Open e = found_in_queues slot r mails e f
 

@@ -30,40 +30,13 @@ use Rattle.sc_node_table.specs.Voting.{leads}
 use Rattle.sc_players.specs.Players.{Ahead}
 use Rattle.sc_group_law.specs.Steps.{proposer_steps, asked_in}
 use Rattle.sc_group_law.proofs.Growth.{IsLearnt, by_own_log}
-use Rattle.sc_group_law.proofs.Invariant.{Steps, rule, first, birth, Grants, next_after}
+use Rattle.sc_group_law.proofs.Invariant.{Steps, rule, first, birth, next_after}
+use Rattle.sc_group_law.proofs.Speech.{Speaks}
 use Rattle.sc_group_law.proofs.Midway.{Fine, turn}
+use Rattle.sc_group_law.proofs.Saying.{all_asked, fewer_log}
 use Rattle.sc_group_law.proofs.Entering.{entered_has}
 use Rattle.sc_group_law.proofs.Executing.{fine_executed_one, learnt_made, next_ready_among, next_ready_runs}
 use Rattle.sc_group_law.proofs.Counting.{ready_place, set_is, count_is}
-
--- ---- what is asked for chooses nothing
-
-one_asked : (group : Draw) (body : MailBody) (h : Steps) (node : ℕ) (b : Ballot) (slot : ℕ) (c : Command) → Among (Accepted node b slot c) (proposer_steps group body ++ h) → Among (Accepted node b slot c) h
-one_asked group (Prepare g ballot start) h node b slot c a =
-    cond_both (same_draw g group) (Prepared ballot start ∷ []) [] (λ (x : Steps). Among (Accepted node b slot c) (x ++ h) → Among (Accepted node b slot c) h)
-    (λ _ o. elim o [ inl e ↦ absurd (cc) | inr old ↦ old ]) (λ _ o. o) a
-one_asked group (Accept g ballot at d) h node b slot c a =
-    cond_both (same_draw g group) (Offered ballot at d ∷ []) [] (λ (x : Steps). Among (Accepted node b slot c) (x ++ h) → Among (Accepted node b slot c) h)
-    (λ _ o. elim o [ inl e ↦ absurd (cc) | inr old ↦ old ]) (λ _ o. o) a
-one_asked group _ h node b slot c a = a
-
-all_asked : (group : Draw) (mails : List Mail) (h : Steps) (node : ℕ) (b : Ballot) (slot : ℕ) (c : Command) → Among (Accepted node b slot c) (asked_in group mails h) → Among (Accepted node b slot c) h
-all_asked group [] h node b slot c a = a
-all_asked group (mail ∷ mails) h node b slot c a = one_asked group mail.body h node b slot c (all_asked group mails (proposer_steps group mail.body ++ h) node b slot c a)
-
--- a log is one before what chooses nothing
-fewer_log : (r : Rule Command) (h before : Steps) → ((node : ℕ) (b : Ballot) (slot : ℕ) (c : Command) → Among (Accepted node b slot c) h → Among (Accepted node b slot c) before) → (log : List Command) → IsLog r h log → IsLog r before log
-fewer_log r h before f log is_log place c at =
-    let k = is_log place c at in
-    record {
-      known = k.known;
-      chosen = record {
-        ballot = k.chosen.ballot;
-        voters = k.chosen.voters;
-        each = Each-weaker _ _ (λ node a. f node k.chosen.ballot (place + 1) c a) k.chosen.voters k.chosen.each;
-        majority = k.chosen.majority;
-      };
-    }
 
 -- the child of a front of the log at a node: the log begins so, and the command that comes next makes it
 pub record IsChildOf (ahead : Ahead) (base : Base) (made : Command → Type 0) (me : ℕ) (h : Steps) (child : Base) : Type 0 where
@@ -75,7 +48,7 @@ pub record IsChildOf (ahead : Ahead) (base : Base) (made : Command → Type 0) (
   pub child_is : child_by (state_after (birth ahead base) front) command ≡ Some child
   pub member : is_member child.core.members me ≡ true
 
-module _ (ahead : Ahead) (base : Base) (made : Command → Type 0) (heard : MailBody → Type 0) (grants : Grants ahead base made heard) (me : ℕ) (before : Steps)
+module _ (ahead : Ahead) (base : Base) (made : Command → Type 0) (heard : MailBody → Type 0) (me : ℕ) (before : Steps) (speaks : Speaks ahead base made heard before)
     (some : (log : List Command) → Each made log → (node : ℕ) × (rest : List ℕ) × ((rule ahead base).members log ≡ node ∷ rest)) where
   abbrev Ok : Place → Type 0
   Ok = Fine ahead base made heard me [] before
@@ -125,17 +98,17 @@ module _ (ahead : Ahead) (base : Base) (made : Command → Type 0) (heard : Mail
           → Children (elim o [ None ↦ done | Some command ↦ ready_children es (executed_one true command place) (next_child command place.0 done) ])
       go rest None is = e
       go rest (Some c) is =
-          let t = Each-among _ place.0.ready (next place.0, c) f.replica.ready (next_ready_among ahead base made heard grants me [] before some place.0 c is) in
-          let m = learnt_made ahead base made heard grants me [] before some place f (next place.0) c t in
-          rest _ (fine_executed_one ahead base made heard grants me [] before some true c place.0 place.1 f t m (λ _. next_ready_runs ahead base made heard grants me [] before some place.0 c is))
+          let t = Each-among _ place.0.ready (next place.0, c) f.replica.ready (next_ready_among ahead base made heard me [] before speaks some place.0 c is) in
+          let m = learnt_made ahead base made heard me [] before speaks some place f (next place.0) c t in
+          rest _ (fine_executed_one ahead base made heard me [] before speaks some true c place.0 place.1 f t m (λ _. next_ready_runs ahead base made heard me [] before speaks some place.0 c is))
           (next_child c place.0 done) (next_are c place.0 place.1 f t m done e)
 
   executed_are : (counted : Bool) (c : Command) (r : ReplicaState) (mails : List Mail) → (f : Ok (r, mails)) → IsLearnt (rule ahead base) (f.newer ++ before) (next r) c → (counted ≡ true → r.running ≡ true)
       → (done : List Base) → Children done → Children (executed_children counted c (r, mails) done)
   unfolding executed_children
   executed_are counted c r mails f t runs done e =
-      let m = learnt_made ahead base made heard grants me [] before some (r, mails) f (next r) c t in
-      let one = fine_executed_one ahead base made heard grants me [] before some counted c r mails f t m runs in
+      let m = learnt_made ahead base made heard me [] before speaks some (r, mails) f (next r) c t in
+      let one = fine_executed_one ahead base made heard me [] before speaks some counted c r mails f t m runs in
       ready_are (executed_one counted c (r, mails)).0.ready (executed_one counted c (r, mails)) one (next_child c r done) (next_are c r mails f t m done e)
 
   -- ---- mails
@@ -157,7 +130,7 @@ module _ (ahead : Ahead) (base : Base) (made : Command → Type 0) (heard : Mail
       cond_both (eqb slot (next r) && has_room (record r { leader = without_flight_at slot r.leader })) _ _ Children
       (λ e. (
       let parts = and_parts (eqb slot (next r)) (has_room (record r { leader = without_flight_at slot r.leader })) e in
-      executed_are true c after mails (ready_place ahead base made heard grants me [] before some slot c r mails f t)
+      executed_are true c after mails (ready_place ahead base made heard me [] before speaks some slot c r mails f t)
       (subst (λ n. IsLearnt (rule ahead base) (f.newer ++ before) n c) (eqb-true slot (next r) parts.0) t) (λ _. runs) [] tt))
       (λ _. tt)
 
@@ -175,7 +148,7 @@ module _ (ahead : Ahead) (base : Base) (made : Command → Type 0) (heard : Mail
       by_set : r.running ≡ true → ballot ≡ r.leader.ballot → (o : Option (List ℕ)) → set_at slot r ≡ o → Children (voted_children from ballot slot o (r, mails) [])
       by_set runs same None e = tt
       by_set runs same (Some set) e =
-          let here = set_is ahead base made heard grants me [] before some (f.newer ++ before) slot set r f.replica e in
+          let here = set_is ahead base made heard me [] before speaks some (f.newer ++ before) slot set r f.replica e in
           subst (λ b. Children (tallied_children slot (counted from b slot set r.leader) (r, mails) [])) (sym same)
-          (count_is ahead base made heard grants me [] before some from slot set r mails f runs d (subst (λ b. Among (Accepted from b slot d) (f.newer ++ before)) same did) here.0 here.1
+          (count_is ahead base made heard me [] before speaks some from slot set r mails f runs d (subst (λ b. Among (Accepted from b slot d) (f.newer ++ before)) same did) here.0 here.1
           (λ (x : Counted Command × LeaderState Command). Children (tallied_children slot x (r, mails) [])) (λ c t. readied_are slot c r mails f t runs) (λ n leader. tt))

@@ -29,21 +29,21 @@ use Rattle.sc_node_table.specs.Mails.{sent, sent_all}
 use Rattle.sc_node_table.specs.Queues.{call_of, without_call}
 use Rattle.sc_node_table.specs.Pump.{serves_calls}
 use Rattle.sc_node_table.specs.Voting.{nack_row}
-use Rattle.sc_node_table.specs.Reminders.{reminded}
 use Rattle.sc_node_table.specs.Rows.{refused_at, queued, requested, request_row, learn_row, taught, most_taught, ask_answered, ask_row, uncounted, asked_again, told_last, tick_row}
 use Rattle.sc_players.specs.Players.{Ahead}
 use Rattle.sc_group_law.proofs.Growth.{IsLearnt}
-use Rattle.sc_group_law.proofs.Invariant.{Steps, rule, Grants, IsReplica, IsTrueAnswer}
+use Rattle.sc_group_law.proofs.Invariant.{Steps, rule, IsReplica, IsTrueAnswer}
+use Rattle.sc_group_law.proofs.Speech.{Speaks}
 use Rattle.sc_group_law.proofs.Midway.{Fine, turn, says}
 use Rattle.sc_group_law.proofs.Sending.{name_is, offered_again, learnt_others, fine_elected, fine_saw}
 use Rattle.sc_group_law.proofs.Offering.{with_calls, fine_pumped}
 use Rattle.sc_group_law.proofs.Parts.{Each-without_call, flying_found}
 use Rattle.sc_group_law.proofs.Held.{get_dropped}
 use Rattle.sc_group_law.proofs.Welcoming.{installed_place}
-use Rattle.sc_group_law.proofs.Executing.{lock_free, fine_executed}
-use Rattle.sc_group_law.proofs.Quiet.{reminded_quiet}
+use Rattle.sc_group_law.proofs.Executing.{fine_executed}
+use Rattle.sc_group_law.proofs.Transacting.{reminded_place}
 
-module _ (ahead : Ahead) (base : Base) (made : Command → Type 0) (heard : MailBody → Type 0) (grants : Grants ahead base made heard) (me : ℕ) (older : List Mail) (before : Steps)
+module _ (ahead : Ahead) (base : Base) (made : Command → Type 0) (heard : MailBody → Type 0) (me : ℕ) (older : List Mail) (before : Steps) (speaks : Speaks ahead base made heard before)
     (some : (log : List Command) → Each made log → (node : ℕ) × (rest : List ℕ) × ((rule ahead base).members log ≡ node ∷ rest)) where
   abbrev Ok : Place → Type 0
   Ok = Fine ahead base made heard me older before
@@ -65,7 +65,7 @@ module _ (ahead : Ahead) (base : Base) (made : Command → Type 0) (heard : Mail
   fine_learn_row from slot c r mails f t =
       cond_both (nat_lt last_slot slot) _ _ Ok (λ _. f)
       (λ _. cond_both (eqb slot (next r)) _ _ Ok
-      (λ e. fine_executed ahead base made heard grants me older before some false c r mails f (subst (λ n. IsLearnt (rule ahead base) (f.newer ++ before) n c) (eqb-true slot (next r) e) t) (λ no. cc))
+      (λ e. fine_executed ahead base made heard me older before speaks some false c r mails f (subst (λ n. IsLearnt (rule ahead base) (f.newer ++ before) n c) (eqb-true slot (next r) e) t) (λ no. cc))
       (λ _. cond_both (nat_lt (next r) slot) _ _ Ok
       (λ _. says ahead base made heard me older before r mails (record { from = r.me; to = from; body = Ask (name_of r) (next r) }) f refl (named r mails f) tt) (λ _. f)))
 
@@ -119,14 +119,14 @@ module _ (ahead : Ahead) (base : Base) (made : Command → Type 0) (heard : Mail
       (λ _ j. (let same : Says.NotMine r.group.core.arc r.group.core.succ ≡ answer = cc in subst (IsTrueAnswer ahead base h to seq) same tt)) (λ _ j. cc) k) e
 
   with_calls_place : (r : ReplicaState) (calls : List Command) (mails : List Mail) → (f : Ok (r, mails)) → Each made calls → Ok (record r { calls = calls }, mails)
-  with_calls_place r calls mails f e = turn ahead base made heard me older before r (record r { calls = calls }) mails f (with_calls ahead base made heard grants me older before some (f.newer ++ before) r calls f.replica e)
+  with_calls_place r calls mails f e = turn ahead base made heard me older before r (record r { calls = calls }) mails f (with_calls ahead base made heard me older before speaks some (f.newer ++ before) r calls f.replica e)
 
   fine_queued : (o : Option ℕ) (client seq : ℕ) (op : Op) (r : ReplicaState) (mails : List Mail) → Ok (r, mails) → made (Call client seq op) → Ok (queued o client seq op (r, mails))
   unfolding queued
-  fine_queued None client seq op r mails f m = fine_pumped ahead base made heard grants me older before some _ (with_calls_place r (r.calls ++ Call client seq op ∷ []) mails f (Each-append made r.calls (Call client seq op ∷ []) f.replica.calls (m, tt)))
+  fine_queued None client seq op r mails f m = fine_pumped ahead base made heard me older before speaks some _ (with_calls_place r (r.calls ++ Call client seq op ∷ []) mails f (Each-append made r.calls (Call client seq op ∷ []) f.replica.calls (m, tt)))
   fine_queued (Some other) client seq op r mails f m =
       cond_both (nat_le seq other) _ _ Ok (λ _. f)
-      (λ _. fine_pumped ahead base made heard grants me older before some _ (with_calls_place r (without_call r.calls client ++ Call client seq op ∷ []) mails f
+      (λ _. fine_pumped ahead base made heard me older before speaks some _ (with_calls_place r (without_call r.calls client ++ Call client seq op ∷ []) mails f
       (Each-append made (without_call r.calls client) (Call client seq op ∷ []) (Each-without_call made r.calls client f.replica.calls) (m, tt))))
 
   fine_requested : (o : Option AnswerBody) (client seq : ℕ) (op : Op) (r : ReplicaState) (mails : List Mail) → ((answer : AnswerBody) → o ≡ Some answer → (h : Steps) (to seq : ℕ) → IsTrueAnswer ahead base h to seq answer)
@@ -169,10 +169,6 @@ module _ (ahead : Ahead) (base : Base) (made : Command → Type 0) (heard : Mail
   settled_runs : (r : ReplicaState) → not (settled r) ≡ false → r.running ≡ true
   settled_runs r e = (and_parts r.running (may_offer r (first_set r.sets)) (not-false (settled r) e)).0
 
-  -- nobody is reminded of a transaction
-  reminded_place : (r : ReplicaState) (mails : List Mail) → Ok (r, mails) → Ok (reminded (r, mails))
-  reminded_place r mails f = subst Ok (sym (reminded_quiet r mails (lock_free ahead base made heard grants me older before some r mails f))) f
-
   -- the row of a tick keeps what holds
   pub fine_tick_row : (r : ReplicaState) (mails : List Mail) → Ok (r, mails) → Ok (tick_row (r, mails))
   unfolding tick_row
@@ -180,5 +176,5 @@ module _ (ahead : Ahead) (base : Base) (made : Command → Type 0) (heard : Mail
       cond_both (is_some r.group.core.gone || not (is_member (members r) r.me)) _ _ Ok (λ _. f)
       (λ _. cond_both (not (settled r)) _ _ Ok (λ _. fine_elected ahead base made heard me older before r mails f)
       (λ runs. cond_both (is_idle r) _ _ Ok
-      (λ _. fine_pumped ahead base made heard grants me older before some _ (reminded_place r _ (fine_told_last (entry_at (next r - 1) r.log) r mails refl f)))
-      (λ _. fine_pumped ahead base made heard grants me older before some _ (reminded_place r _ (fine_asked_again (next r) r.sets r mails f (f.replica.leads (settled_runs r runs)).own)))))
+      (λ _. fine_pumped ahead base made heard me older before speaks some _ (reminded_place ahead base made heard me older before speaks some r _ (fine_told_last (entry_at (next r - 1) r.log) r mails refl f)))
+      (λ _. fine_pumped ahead base made heard me older before speaks some _ (reminded_place ahead base made heard me older before speaks some r _ (fine_asked_again (next r) r.sets r mails f (f.replica.leads (settled_runs r runs)).own)))))

@@ -19,17 +19,18 @@ use Rattle.sc_node_table.specs.Rows.{tick_row}
 use Rattle.sc_players.specs.Players.{Ahead}
 use Rattle.sc_group_law.specs.Steps.{asked_in}
 use Rattle.sc_group_law.proofs.Growth.{By}
-use Rattle.sc_group_law.proofs.Invariant.{Steps, rule, first, Grants, IsReplica, IsTrue}
+use Rattle.sc_group_law.proofs.Invariant.{Steps, rule, first, IsReplica, IsTrue}
+use Rattle.sc_group_law.proofs.Speech.{AnyoneHears, Speaks}
 use Rattle.sc_group_law.proofs.Midway.{Fine}
 use Rattle.sc_group_law.proofs.Sending.{name_is}
 use Rattle.sc_group_law.proofs.Rows.{fine_tick_row}
-use Rattle.sc_group_law.proofs.Names.{IsOneOf, IsNamed, own_named}
+use Rattle.sc_group_law.proofs.Names.{IsOneOf, IsNamedIn, own_named}
 use Rattle.sc_group_law.proofs.Nodes.{start, IsNode, NodeEnded}
 use Rattle.sc_group_law.proofs.Frames.{AreFar, own_far, far_true, far_all, asked_append}
 use Rattle.sc_group_law.proofs.Holding.{IsOther, Holds, held}
 use Rattle.sc_base.proofs.NameLemmas.{draw_is}
 
-module _ (ahead : Ahead) (bases : List Base) (made : Base → Command → Type 0) (heard : MailBody → Type 0) (grants : (base : Base) → Among base bases → Grants ahead base (made base) heard) (me : ℕ) (h : Base → Steps)
+module _ (ahead : Ahead) (bases : List Base) (made : Base → Command → Type 0) (heard : MailBody → Type 0) (elsewhere : AnyoneHears heard) (me : ℕ) (h : Base → Steps) (speaks : (base : Base) → Among base bases → Speaks ahead base (made base) heard (h base))
     (some : (base : Base) → Among base bases → (log : List Command) → Each (made base) log → (node : ℕ) × (rest : List ℕ) × ((rule ahead base).members log ≡ node ∷ rest))
     (lawful : (base : Base) → Among base bases → IsLawfulHistory (rule ahead base) (first ahead base) (h base))
     (requested : (base : Base) → Among base bases → (b : Ballot) (slot : ℕ) (c : Command) → Among (Offered b slot c) (h base) → made base c) where
@@ -38,7 +39,7 @@ module _ (ahead : Ahead) (bases : List Base) (made : Base → Command → Type 0
   IsLive r = (base : Base) × Among base bases × (name_of r ≡ base.core.id) × IsReplica ahead base (made base) (h base) me r
 
   ticks : (base : Base) → Among base bases → (r : ReplicaState) (mails : List Mail) → IsReplica ahead base (made base) (h base) me r → Fine ahead base (made base) heard me mails (h base) (tick_row (r, mails))
-  ticks base a r mails k = fine_tick_row ahead base (made base) heard (grants base a) me mails (h base) (some base a) r mails (start ahead base (made base) heard (grants base a) me (h base) (some base a) (lawful base a) (requested base a) mails r k)
+  ticks base a r mails k = fine_tick_row ahead base (made base) heard me mails (h base) (speaks base a) (some base a) r mails (start ahead base (made base) heard me (h base) (speaks base a) (some base a) (lawful base a) (requested base a) mails r k)
 
   tick_name : (base : Base) (mails : List Mail) (place : Place) → Fine ahead base (made base) heard me mails (h base) place → name_of place.0 ≡ base.core.id
   tick_name base mails place f = name_is ahead base (made base) heard me mails (h base) (f.newer ++ h base) place.0 f.replica
@@ -50,7 +51,7 @@ module _ (ahead : Ahead) (bases : List Base) (made : Base → Command → Type 0
   record Sends (rs : List ReplicaState) (mails : List Mail) : Type 0 where
     sent : List Mail
     sent_is : (ticked rs mails).1 ≡ mails ++ sent
-    named : (mail : Mail) → Among mail sent → IsNamed bases mail.body
+    named : (mail : Mail) → Among mail sent → IsNamedIn heard bases mail.body
     known : Each (λ r. IsOneOf bases (name_of r)) (ticked rs mails).0
 
   tick_sends : (rs : List ReplicaState) → Each IsLive rs → (mails : List Mail) → Sends rs mails
@@ -64,7 +65,7 @@ module _ (ahead : Ahead) (bases : List Base) (made : Base → Command → Type 0
       record {
         sent = f.sent ++ later.sent;
         sent_is = more_sent mails f.sent later.sent _ place.1 later.sent_is f.sent_is;
-        named = λ m b. elim (Among-either m f.sent later.sent b) [ inl c ↦ own_named ahead heard (grants base a).unheard bases base a m.body (f.own m c) | inr c ↦ later.named m c ];
+        named = λ m b. elim (Among-either m f.sent later.sent b) [ inl c ↦ own_named ahead heard bases base a m.body (f.own m c) | inr c ↦ later.named m c ];
         known = ((base, a, tick_name base mails place f), later.known);
       }
 
@@ -72,20 +73,20 @@ module _ (ahead : Ahead) (bases : List Base) (made : Base → Command → Type 0
   record TicksFar (base : Base) (rs : List ReplicaState) (mails : List Mail) : Type 0 where
     sent : List Mail
     sent_is : (ticked rs mails).1 ≡ mails ++ sent
-    far : AreFar base.core.id sent
+    far : AreFar heard base.core.id sent
     none : Each (IsOther base.core.id) (ticked rs mails).0
 
   far_name : (base other : Base) (r : ReplicaState) → name_of r ≡ other.core.id → IsOther base.core.id r → same_draw other.core.id base.core.id ≡ false
   far_name base other r is o =
       elim (cases_Bool (same_draw other.core.id base.core.id)) [ inl t ↦ absurd (o (is ∙ draw_is other.core.id base.core.id t)) | inr f ↦ f ]
 
-  far_part : (base other : Base) → Among other bases → (r : ReplicaState) (mails : List Mail) (place : Place) → name_of r ≡ other.core.id → IsOther base.core.id r → (f : Fine ahead other (made other) heard me mails (h other) place) → AreFar base.core.id f.sent × IsOther base.core.id place.0
+  far_part : (base other : Base) → Among other bases → (r : ReplicaState) (mails : List Mail) (place : Place) → name_of r ≡ other.core.id → IsOther base.core.id r → (f : Fine ahead other (made other) heard me mails (h other) place) → AreFar heard base.core.id f.sent × IsOther base.core.id place.0
   far_part base other b r mails place is o f = (
-    Each-from _ f.sent (λ m a. own_far ahead other heard (grants other b).unheard base.core.id (far_name base other r is o) m.body (f.own m a)),
+    Each-from _ f.sent (λ m a. own_far ahead other heard base.core.id (far_name base other r is o) m.body (f.own m a)),
     (λ same. o (is ∙ sym (tick_name other mails place f) ∙ same)),
   )
 
-  far_append : (name : Draw) (one other : List Mail) → AreFar name one → AreFar name other → AreFar name (one ++ other)
+  far_append : (name : Draw) (one other : List Mail) → AreFar heard name one → AreFar heard name other → AreFar heard name (one ++ other)
   far_append name [] other e f = f
   far_append name (mail ∷ one) other e f = (e.0, far_append name one other e.1 f)
 
@@ -138,7 +139,7 @@ module _ (ahead : Ahead) (bases : List Base) (made : Base → Command → Type 0
         sent = f.sent ++ later.sent;
         sent_is = more_sent mails f.sent later.sent _ place.1 later.sent_is f.sent_is;
         newer = f.newer;
-        are = asked_append base.core.id f.sent later.sent (h base) ∙ far_all base.core.id later.sent (asked_in base.core.id f.sent (h base)) later.far ∙ f.are;
+        are = asked_append base.core.id f.sent later.sent (h base) ∙ far_all heard base.core.id later.sent (asked_in base.core.id f.sent (h base)) later.far ∙ f.are;
         by = f.by;
         lawful_is = f.lawful;
         requested_is = f.requested;
@@ -158,7 +159,7 @@ module _ (ahead : Ahead) (bases : List Base) (made : Base → Command → Type 0
         sent = f.sent ++ later.sent;
         sent_is = more_sent mails f.sent later.sent _ place.1 later.sent_is f.sent_is;
         newer = later.newer;
-        are = asked_append base.core.id f.sent later.sent (h base) ∙ ap (asked_in base.core.id later.sent) (far_all base.core.id f.sent (h base) here.0) ∙ later.are;
+        are = asked_append base.core.id f.sent later.sent (h base) ∙ ap (asked_in base.core.id later.sent) (far_all heard base.core.id f.sent (h base) here.0) ∙ later.are;
         by = later.by;
         lawful_is = later.lawful_is;
         requested_is = later.requested_is;
@@ -174,7 +175,7 @@ module _ (ahead : Ahead) (bases : List Base) (made : Base → Command → Type 0
       (mine.0, mine.1, mine.2, held ahead mine.0 (made mine.0) me (h mine.0) node.replicas (k.holds mine.0 mine.1) r b mine.2)))
 
   -- the end of a tick
-  pub tick_ended : (node : NodeState) → IsNode ahead bases made h me node → NodeEnded ahead bases made heard grants me h some lawful requested (λ base. asked_in base.core.id (on_tick node).1 (h base)) (on_tick node)
+  pub tick_ended : (node : NodeState) → IsNode ahead bases made h me node → NodeEnded ahead bases made heard elsewhere me h speaks some lawful requested (λ base. asked_in base.core.id (on_tick node).1 (h base)) (on_tick node)
   tick_ended node k =
       let live = live_all node k in
       let all = tick_sends node.replicas live [] in

@@ -11,7 +11,7 @@ use Rattle.sc_cmd.specs.declared.cores.Base.{Base}
 use Rattle.sc_mail.specs.declared.bodies.AnswerBody.{AnswerBody}
 use Rattle.sc_mail.specs.declared.bodies.Mail.{Mail}
 use Rattle.sc_mail.specs.declared.bodies.MailBody.{MailBody}
-use Rattle.sc_mail.specs.declared.bodies.MailBody.TheVariants.{Request, Answer, Promise, Accepted as AcceptedMail, Nack, Ask, Install, Told}
+use Rattle.sc_mail.specs.declared.bodies.MailBody.TheVariants.{Request, Answer, Promise, Accepted as AcceptedMail, Nack, Ask, Install, Told, TxElsewhere}
 use Rattle.sc_cmd.specs.declared.orders.ToldResult.{ToldResult}
 use Rattle.sc_cmd.specs.declared.orders.ToldResult.TheVariants.{Refused}
 use Rattle.sc_cmd.specs.declared.orders.OrderRefusal.TheVariants.{NotLeader}
@@ -35,7 +35,8 @@ use Rattle.sc_players.specs.Players.{Ahead}
 use Rattle.sc_group_law.specs.Steps.{asked_in, promised_by}
 use Rattle.sc_group_law.proofs.Growth.{By, later_learnt}
 use Rattle.sc_group_law.proofs.Held.{Mirrors, promise_mirrors, accept_mirrors}
-use Rattle.sc_group_law.proofs.Invariant.{Steps, rule, first, Grants, later_has, IsReplica, IsOwn, IsTrue, later_flying, grown_true}
+use Rattle.sc_group_law.proofs.Invariant.{Steps, rule, first, later_has, IsReplica, IsOwn, IsTrue, later_flying, grown_true}
+use Rattle.sc_group_law.proofs.Speech.{Speaks}
 use Rattle.sc_group_law.proofs.Midway.{Fine, asked_push, says}
 use Rattle.sc_group_law.proofs.Sending.{name_is, fine_saw}
 use Rattle.sc_group_law.proofs.Executing.{hint_replica}
@@ -52,6 +53,7 @@ IsPlain (Nack group promised) = Unit {0}
 IsPlain (Ask group from_slot) = Unit {0}
 IsPlain (Install group slot record_of sets) = Unit {0}
 IsPlain (Told number result) = Unit {0}
+IsPlain (TxElsewhere tx coord hint) = Unit {0}
 IsPlain _ = ⊥
 
 -- mails that are no steps
@@ -105,6 +107,7 @@ none_promised group who b from_slot (Nack g promised) e = refl
 none_promised group who b from_slot (Ask g start) e = refl
 none_promised group who b from_slot (Install g slot record_of sets) e = refl
 none_promised group who b from_slot (Told number result) e = refl
+none_promised group who b from_slot (TxElsewhere tx coord hint) e = refl
 none_promised group who b from_slot _ e = absurd e
 
 none_accepted : (group : Draw) (b : Ballot) (slot : ℕ) (body : MailBody) → IsPlain body → is_accepted group b slot body ≡ false
@@ -114,6 +117,7 @@ none_accepted group b slot (Nack g promised) e = refl
 none_accepted group b slot (Ask g start) e = refl
 none_accepted group b slot (Install g at record_of sets) e = refl
 none_accepted group b slot (Told number result) e = refl
+none_accepted group b slot (TxElsewhere tx coord hint) e = refl
 none_accepted group b slot _ e = absurd e
 
 -- plain mails promise nothing
@@ -162,7 +166,7 @@ pub record Ended (ahead : Ahead) (base : Base) (made : Command → Type 0) (hear
   pub mails : (mail : Mail) → Among mail place.1 → IsTrue ahead base made heard (newer ++ before) mail mail.body
   pub own : (mail : Mail) → Among mail place.1 → IsOwn ahead base heard mail.body
 
-module _ (ahead : Ahead) (base : Base) (made : Command → Type 0) (heard : MailBody → Type 0) (grants : Grants ahead base made heard) (me : ℕ) (before : Steps)
+module _ (ahead : Ahead) (base : Base) (made : Command → Type 0) (heard : MailBody → Type 0) (me : ℕ) (before : Steps) (speaks : Speaks ahead base made heard before)
     (some : (log : List Command) → Each made log → (node : ℕ) × (rest : List ℕ) × ((rule ahead base).members log ≡ node ∷ rest)) where
   abbrev Ok : Place → Type 0
   Ok = Fine ahead base made heard me [] before
@@ -216,7 +220,7 @@ module _ (ahead : Ahead) (base : Base) (made : Command → Type 0) (heard : Mail
   }
 
   hinted_replica : (h : Steps) (b : Ballot) (r : ReplicaState) → Replica h r → Replica h (hinted b r)
-  hinted_replica h b r k = cond_both r.running r (record r { hint = Some b.node }) (Replica h) (λ _. k) (λ _. hint_replica ahead base made heard grants me [] before some h r (Some b.node) k)
+  hinted_replica h b r k = cond_both r.running r (record r { hint = Some b.node }) (Replica h) (λ _. k) (λ _. hint_replica ahead base made heard me [] before speaks some h r (Some b.node) k)
 
   -- a row of one acceptor's step
   acceptor_ended : (s : Step Command) (b : Ballot) (r : ReplicaState) (mails : List Mail) (mail : Mail) (acceptor : AcceptorState Command) (after : Steps) → (f : Ok (r, mails)) → after ≡ s ∷ f.newer ++ before → By me s

@@ -1,0 +1,48 @@
+-- The members of a group stay one to nine nodes, ascending, whatever its log has.
+use Rattle.std.proofs.Common.{◌≡◌, ℕ, ◌≤◌, ◌&&◌, ◌||◌, not, eqb, List, [], ◌∷◌, length, Some, None, sym, ap, subst, arith}
+use Rattle.std.proofs.lemmas.Bool.{eqb-false, cond_both}
+use Rattle.sc_base.specs.Arc.{holds}
+use Rattle.sc_base.specs.declared.names.Draw.{Draw}
+use Rattle.sc_cmd.specs.declared.commands.Command.{Command}
+use Rattle.sc_cmd.specs.declared.commands.Command.TheVariants.{Join, Leave, Split}
+use Rattle.sc_cmd.specs.declared.cores.Core.{Core}
+use Rattle.sc_cmd.specs.declared.orders.OrderRefusal.TheVariants.{BadBoundary, LastMember}
+use Rattle.sc_member.specs.Roster.{IsRoster}
+use Rattle.sc_machine_table.specs.Group.{Group}
+use Rattle.sc_machine_table.specs.Logs.{state_after}
+use Rattle.sc_machine_table.specs.Machine.{applied}
+use Rattle.sc_machine_table.specs.Orders.{locked_in, refusal_of, split_refused}
+use Rattle.sc_group_law.proofs.Rosters.{free_refusal, applied_roster}
+use Rattle.sc_whole_law.specs.Laws.{MembersStayRosters}
+use Rattle.sc_whole_law.proofs.Coming.{Cases, comes, staying_roster}
+
+-- a split that is not refused
+pub may_split : (core : Core) (at : ℕ) (child : Draw) (order : ℕ) → IsRoster core.members → refusal_of core (Split at child order) ≡ None → 2 ≤ length core.members
+may_split core at child order roster e =
+    cond_both (eqb at core.arc.lo || not (holds core.arc at)) (Some BadBoundary) _ (λ o. o ≡ None → 2 ≤ length core.members) (λ _ other. cc)
+    (λ _ rest. cond_both (eqb (length core.members) 1) (Some LastMember) _ (λ o. o ≡ None → 2 ≤ length core.members) (λ _ other. cc)
+    (λ f more. (let some = roster.some in let ne = eqb-false (length core.members) 1 f in omega (arith, some, ne))) rest)
+    (free_refusal (locked_in core.lock) core (Split at child order) e)
+
+-- with one command more
+pub members_after : (group : Group) (c : Command) → IsRoster group.core.members → IsRoster (applied group c).0.core.members
+members_after group c roster =
+    comes group (λ d x. IsRoster x.0.core.members)
+    (record {
+      same = λ d effect dull. roster;
+      served = λ client seq op after effect e. subst (λ (core : Core). IsRoster core.members) (sym e) roster;
+      joined = λ node order. applied_roster group (Join node order) tt roster;
+      left = λ node order. applied_roster group (Leave node order) tt roster;
+      parted = λ at child order e. staying_roster group.core.members roster (may_split group.core at child order roster e);
+      split = λ at child order e. roster;
+      begun = λ tx body order e. roster;
+      offered = λ tx offer e. roster;
+      asked = λ tx watch e. roster;
+      heard = λ tx order got lock frozen by. roster;
+      ended = λ d tx ends free after outcome r. r.roster roster;
+      finished = λ tx binds after outcome r. r.roster roster;
+    }) c
+
+pub members_stay_rosters : MembersStayRosters
+members_stay_rosters group [] roster = roster
+members_stay_rosters group (c ∷ log) roster = members_stay_rosters (applied group c).0 log (members_after group c roster)
