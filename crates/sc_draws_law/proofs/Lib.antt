@@ -1,0 +1,4 @@
+pub mod Owned
+pub mod Counters
+pub mod Ordered
+pub mod Machine
