@@ -1,5 +1,5 @@
 -- The names that a node has drawn, by its counter.
-use Rattle.std.proofs.Common.{◌≡◌, ℕ, suc, ◌+◌, ◌<◌, ◌≤◌, ◌&&◌, nat_le, List, [], ◌∷◌, ◌++◌, Bool, true, false, cond, eqb, length, Option, Some, None, ◌⊎◌, inl, inr, refl, sym, ◌∙◌, ap, subst, append_assoc, append-nil, arith}
+use Rattle.std.proofs.Common.{◌≡◌, ℕ, ◌+◌, ◌≤◌, ◌&&◌, nat_le, List, [], ◌∷◌, ◌++◌, false, eqb, length, Option, Some, None, ◌⊎◌, inl, inr, refl, sym, ◌∙◌, ap, subst, append_assoc, append-nil, arith}
 use Rattle.std.specs.Prelude.{is_some, is_none, nat_lt, ◌||◌, not}
 use Rattle.std.specs.Option.{option_map}
 use Rattle.std.proofs.lemmas.Bool.{cases_Bool, cond-true, cond-false, cond_both, eqb-true, eqb-false, eq-eqb, leb-true, le-leb, and_from, and_parts, cases_lt}
@@ -20,15 +20,15 @@ use Rattle.sc_actor.specs.Replay.{value, acted, input_of}
 use Rattle.sc_actor.proofs.ReplayLemmas.{value-snoc}
 use Rattle.sc_node_table.specs.Births.{mailed_children}
 use Rattle.sc_node_table.specs.Node.{NodeState, replica_of, with_replica, with_new, group_of_mail, with_made, unknown, may_come, with_born, with_children, taken_by, routed, on_mail, group_of_order, ordered_of, on_order, on_tick, born_node}
-use Rattle.sc_node_table.specs.Ordering.{takes_name, untaken, names_after}
+use Rattle.sc_node_table.specs.Ordering.{takes_name, untaken}
 use Rattle.sc_node_table.specs.Replica.{ReplicaState, born_replica, last_slot, either}
 use Rattle.sc_node_table.specs.Rows.{made_by, mailed}
 use Rattle.sc_node_table.specs.Slots.{slots_ahead}
 use Rattle.sc_players.specs.Players.{Ahead, node_seat, player_table, Player}
-use Rattle.sc_players.specs.declared.roles.Role.TheVariants.{Node as ANode, Client as AClient}
+use Rattle.sc_players.specs.declared.roles.Role.TheVariants.{Node as ANode}
 use Rattle.sc_scenario.specs.declared.scenarios.Scenario.{Scenario}
 use Rattle.sc_draws_law.specs.Owners.{Rows, Owned, drawn_for, drawn_by, is_node_of, drawn_at, owner_by, owner_in}
-use Rattle.sc_draws_law.specs.Laws.{HasNames, NodesHaveNames, DrawnNamesAreOwned, OwnedNamesAreOfNodes, OtherNamesAreFree, IsDrawn}
+use Rattle.sc_draws_law.specs.Laws.{HasNames, NodesHaveNames, DrawnNamesAreOwned, OwnedNamesAreOfNodes, OtherNamesAreFree}
 use Rattle.sc_draws_law.proofs.Owned.{owner_of_drawn, owner_of_other, owner-push, owned_later, drawn_in}
 
 -- names with the same parts are the same

@@ -1,5 +1,5 @@
 -- The group machine names nothing new: what stands in a group after a command, and in its effect, stood in the group before, or in the command.
-use Rattle.std.proofs.Common.{◌≡◌, ℕ, ◌&&◌, ◌||◌, not, nat_le, nat_lt, eqb, Bool, cond, List, [], ◌∷◌, ◌++◌, length, map, Option, Some, None}
+use Rattle.std.proofs.Common.{ℕ, ◌&&◌, ◌||◌, not, nat_le, nat_lt, eqb, Bool, cond, List, [], ◌∷◌, length, map, Option, Some, None}
 use Rattle.std.specs.FinMap.{get}
 use Rattle.std.proofs.lemmas.Bool.{cond_both}
 use Rattle.sc_base.specs.Among.{Each}
@@ -20,11 +20,9 @@ use Rattle.sc_cmd.specs.declared.cores.Core.{Core}
 use Rattle.sc_cmd.specs.declared.cores.Lock.{Lock}
 use Rattle.sc_cmd.specs.declared.cores.Lock.TheVariants.{Free, Coordinating, Promised, Watching}
 use Rattle.sc_cmd.specs.declared.effects.Effect.{Effect}
-use Rattle.sc_cmd.specs.declared.effects.Effect.TheVariants as Was
 use Rattle.sc_cmd.specs.declared.links.Link.{Link}
 use Rattle.sc_cmd.specs.declared.links.Route.{Route}
 use Rattle.sc_cmd.specs.declared.orders.OrderRefusal.{OrderRefusal}
-use Rattle.sc_cmd.specs.declared.orders.OrderRefusal.TheVariants as Why
 use Rattle.sc_cmd.specs.declared.votes.Frozen.{Frozen}
 use Rattle.sc_cmd.specs.declared.votes.Gift.{Gift}
 use Rattle.sc_cmd.specs.declared.votes.Heard.{Heard}
@@ -38,15 +36,15 @@ use Rattle.sc_cmd.specs.declared.votes.Vote.TheVariants as Says
 use Rattle.sc_paxos_words.proofs.ListLemmas.{Each-append}
 use Rattle.sc_member.specs.Roster.{is_member}
 use Rattle.sc_member.specs.Union.{united}
-use Rattle.sc_machine_table.specs.Children.{ordered_child, split_child, released_child, answered_child, watched_child, child_by}
-use Rattle.sc_machine_table.specs.Group.{Group, group_of, base_of}
-use Rattle.sc_machine_table.specs.Machine.{done, served_by_note, served, called, split_group, ordered_by, applied}
-use Rattle.sc_machine_table.specs.Orders.{locked_in, is_alone, join_refused, leave_refused, split_refused, limit_refused, repart_refused, migrate_refused, body_refused, begin_refused, refused_free, refused_in, refusal_of, ordered, with_node, without_node}
-use Rattle.sc_machine_table.specs.Splits.{left_link, right_link, left_pred, right_succ, left_core, right_core, left_group, child_of, has_named}
-use Rattle.sc_machine_table.specs.Plans.{Plan, can_cut, has_key_of, can_split, may_merge, can_repart, taken, can_migrate, split_plan, merged_succ, merged_core, merged_link, merge_plan, closing_plan, giving_plan, taking_plan, repart_plan, migrate_plan}
-use Rattle.sc_machine_table.specs.Transactions.{asks_watcher, is_coordinating, begun_group, decided, committed, granted, participant_answered, vote_recorded, released, watch_answered, watch_recorded, given_up}
-use Rattle.sc_machine_table.specs.Votes.{has_voted, size_no, place_no, body_no, offer_no, watch_no, no_of, vote_of, watch_vote_of, past_of, bound_by, voted_on, offer_voted, watched}
-use Rattle.sc_machine_table.specs.Finishes.{can_gain, gained, lost, moved, group_welcomed, participant_after, pred_after, watcher_after, closed, voted_after, party_freed, settled_in, watch_ended, finished}
+use Rattle.sc_machine_table.specs.Children.{ordered_child, released_child, answered_child, watched_child, child_by}
+use Rattle.sc_machine_table.specs.Group.{Group}
+use Rattle.sc_machine_table.specs.Machine.{served_by_note, served, called, split_group, ordered_by, applied}
+use Rattle.sc_machine_table.specs.Orders.{locked_in, is_alone, limit_refused, body_refused, refused_free, refused_in, refusal_of, ordered, with_node, without_node}
+use Rattle.sc_machine_table.specs.Splits.{left_link, right_link, left_group, child_of, has_named}
+use Rattle.sc_machine_table.specs.Plans.{Plan, can_cut, has_key_of, can_split, may_merge, can_repart, taken, can_migrate, split_plan, merged_core, merged_link, merge_plan, closing_plan, repart_plan, migrate_plan}
+use Rattle.sc_machine_table.specs.Transactions.{asks_watcher, is_coordinating, begun_group, decided, committed, granted, participant_answered, vote_recorded, released, watch_answered, watch_recorded}
+use Rattle.sc_machine_table.specs.Votes.{has_voted, size_no, body_no, offer_no, watch_no, no_of, vote_of, watch_vote_of, past_of, bound_by, voted_on, offer_voted, watched}
+use Rattle.sc_machine_table.specs.Finishes.{can_gain, moved, participant_after, pred_after, watcher_after, closed, party_freed, settled_in, finished}
 use Rattle.sc_draws_law.specs.Names.{Opt, BodyNames, OfferNames, WatchNames, NoNames, VoteNames, PastNames, OutcomeNames, HeardNames, LockNames, CoreNames, CommandNames, RefusalNames, EffectNames}
 
 -- whichever it is

@@ -1,10 +1,9 @@
 -- What an order queues is allowed in the log of its group.
-use Rattle.std.proofs.Common.{◌≡◌, ℕ, ◌<◌, ◌≤◌, ◌&&◌, nat_le, List, ◌∷◌, ◌++◌, true, cond, Option, Some, None, refl, ◌∙◌, ap}
+use Rattle.std.proofs.Common.{◌≡◌, ℕ, ◌&&◌, nat_le, ◌∷◌, ◌++◌, true, Option, Some, None, refl, ◌∙◌, ap}
 use Rattle.std.specs.Prelude.{is_none}
 use Rattle.std.proofs.lemmas.Bool.{cond-true, and_from, le-leb}
 use Rattle.sc_base.specs.Drawing.{next_name}
 use Rattle.sc_base.specs.declared.names.Draw.{Draw}
-use Rattle.sc_base.specs.declared.ops.Op.{Op}
 use Rattle.sc_cmd.specs.declared.orders.Order.{Order}
 use Rattle.sc_cmd.specs.declared.orders.Order.TheVariants as An
 use Rattle.sc_cmd.specs.declared.orders.OrderLine.{OrderLine}
@@ -12,7 +11,7 @@ use Rattle.sc_cmd.specs.declared.orders.OrderRefusal.{OrderRefusal}
 use Rattle.sc_mail.specs.declared.bodies.Mail.{Mail}
 use Rattle.sc_actor.specs.declared.rows.Row.{Row}
 use Rattle.sc_actor.specs.Replay.{value}
-use Rattle.sc_node_table.specs.Node.{NodeState, replica_of, group_of_order}
+use Rattle.sc_node_table.specs.Node.{NodeState, group_of_order}
 use Rattle.sc_node_table.specs.Ordering.{ordered_command, takes_name, untaken}
 use Rattle.sc_node_table.specs.Replica.{ReplicaState}
 use Rattle.sc_players.specs.Players.{Ahead, Player, player_table, node_seat}
@@ -39,7 +38,7 @@ module _ (ahead : Ahead) (scenario : Scenario) (before : Rows) (row : Row Mail O
       ∙ cond-true (takes_name line.order && is_none (untaken node.draws line r)) (Some owned) None
       (and_from (takes_name line.order) (is_none (untaken node.draws line r)) named (ap (λ (o : Option OrderRefusal). is_none o) takes.taken))
 
-  it_is_owned : takes_name line.order ≡ true → owner_in ahead scenario (before ++ row ∷ later) (next_name node.draws) ≡ Some (group_of_order line.order)
+  pub it_is_owned : takes_name line.order ≡ true → owner_in ahead scenario (before ++ row ∷ later) (next_name node.draws) ≡ Some (group_of_order line.order)
   it_is_owned named = (drawn_are_owned ahead scenario before row later owned (it_draws named)).1
 
 allowed_for : (sources : Sources) (stories : Stories) (name : Draw) (number : ℕ) (order : Order) → IsAtPosition order → (takes_name order ≡ true → sources.owner name ≡ Some (group_of_order order))

@@ -1,5 +1,5 @@
 -- Each name is drawn once, for one group, and what an order queues is allowed by the owner of its name.
-use Rattle.std.specs.Prelude.{◌≡◌, ℕ, ◌<◌, ◌≤◌, ◌^◌, List, [], ◌∷◌, ◌++◌, Option, Some, None}
+use Rattle.std.specs.Prelude.{◌≡◌, ℕ, ◌<◌, ◌≤◌, ◌^◌, ◌∷◌, ◌++◌, Some, None}
 use Rattle.sc_base.specs.Drawing.{next_name}
 use Rattle.sc_base.specs.declared.names.Draw.{Draw}
 use Rattle.sc_base.specs.declared.ops.Op.{Op}
@@ -16,7 +16,7 @@ use Rattle.sc_node_table.specs.Replica.{ReplicaState}
 use Rattle.sc_players.specs.Players.{Ahead, player_table, node_seat}
 use Rattle.sc_players.specs.declared.roles.Role.TheVariants.{Node}
 use Rattle.sc_scenario.specs.declared.scenarios.Scenario.{Scenario}
-use Rattle.sc_ring_law.specs.Allowed.{Sources, IsAllowed}
+use Rattle.sc_ring_law.specs.Allowed.{IsAllowed}
 use Rattle.sc_ring_law.specs.Stories.{Stories}
 use Rattle.sc_draws_law.specs.Owners.{Rows, Owned, drawn_at, owner_in}
 

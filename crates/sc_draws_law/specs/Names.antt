@@ -14,13 +14,11 @@ use Rattle.sc_cmd.specs.declared.cores.Lock.{Lock}
 use Rattle.sc_cmd.specs.declared.cores.Lock.TheVariants.{Free, Coordinating, Promised, Watching}
 use Rattle.sc_cmd.specs.declared.effects.Effect.{Effect}
 use Rattle.sc_cmd.specs.declared.effects.Effect.TheVariants as Was
-use Rattle.sc_cmd.specs.declared.links.Link.{Link}
 use Rattle.sc_cmd.specs.declared.links.Route.{Route}
 use Rattle.sc_cmd.specs.declared.orders.OrderRefusal.{OrderRefusal}
 use Rattle.sc_cmd.specs.declared.orders.OrderRefusal.TheVariants as Why
 use Rattle.sc_cmd.specs.declared.orders.ToldResult.{ToldResult}
 use Rattle.sc_cmd.specs.declared.orders.ToldResult.TheVariants as Tells
-use Rattle.sc_cmd.specs.declared.votes.Frozen.{Frozen}
 use Rattle.sc_cmd.specs.declared.votes.Heard.{Heard}
 use Rattle.sc_cmd.specs.declared.votes.No.{No}
 use Rattle.sc_cmd.specs.declared.votes.No.TheVariants as Because
@@ -37,6 +35,7 @@ use Rattle.sc_mail.specs.declared.bodies.MailBody.{MailBody}
 use Rattle.sc_mail.specs.declared.bodies.MailBody.TheVariants.{Request, Answer, Prepare, Promise, Accept, Accepted, Nack, Learn, Ask, Install, TxPrepare, TxVote, TxOutcome, TxElsewhere, TxWatch, TxWatched, Told}
 use Rattle.sc_node_table.specs.Node.{NodeState}
 use Rattle.sc_node_table.specs.Replica.{ReplicaState}
+use Rattle.sc_paxos_words.specs.declared.flights.Flight.{Flight}
 use Rattle.sc_paxos_words.specs.declared.reports.Report.{Report}
 use Rattle.sc_players.specs.Players.{Player}
 use Rattle.sc_players.specs.declared.roles.Role.TheVariants.{Node, Client}
@@ -206,16 +205,20 @@ pub record MailNames (K : Draw → Type 0) (mail : Mail) : Type 0 where
 
 -- ---- of players
 
+-- of what a replica holds: its group's record, its log, what it accepted, what its leader was told and has in flight, what is ready, and what waits
+pub record HeldNames (K : Draw → Type 0) (of : Core) (entries : List Command) (voted told : List (Report Command)) (flying : List (Flight Command)) (counted : List (ℕ × Command)) (parties others : List Command) : Type 0 where
+  pub core : CoreNames K of
+  pub log : Each (CommandNames K) entries
+  pub accepted : ReportsNames K voted
+  pub reports : ReportsNames K told
+  pub flights : Each (λ (flight : Flight Command). CommandNames K flight.value) flying
+  pub ready : Each (λ (e : ℕ × Command). CommandNames K e.1) counted
+  pub acts : Each (CommandNames K) parties
+  pub calls : Each (CommandNames K) others
+
 -- of a replica
-pub record ReplicaNames (K : Draw → Type 0) (r : ReplicaState) : Type 0 where
-  pub core : CoreNames K r.group.core
-  pub log : Each (CommandNames K) r.log.entries
-  pub accepted : ReportsNames K r.acceptor.accepted
-  pub reports : ReportsNames K r.leader.reports
-  pub flights : Each (λ flight. CommandNames K flight.value) r.leader.flights
-  pub ready : Each (λ (e : ℕ × Command). CommandNames K e.1) r.ready
-  pub acts : Each (CommandNames K) r.acts
-  pub calls : Each (CommandNames K) r.calls
+abbrev pub ReplicaNames : (Draw → Type 0) → ReplicaState → Type 0
+ReplicaNames K r = HeldNames K r.group.core r.log.entries r.acceptor.accepted r.leader.reports r.leader.flights r.ready r.acts r.calls
 
 -- of a node: of its replicas
 abbrev pub NodeNames : (Draw → Type 0) → NodeState → Type 0

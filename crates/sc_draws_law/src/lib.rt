@@ -2,6 +2,7 @@
 //! lawful journal and by orders of all kinds. Definitions and laws, no logic.
 #![tactic(auto)]
 
+ghost use Rattle.sc_draws_law.specs.Fresh.{DrawnNamesAreNew, NamesAreDrawn};
 ghost use Rattle.sc_draws_law.specs.Laws.{
   DrawnNamesAreOwned,
   NodesHaveNames,
@@ -35,4 +36,12 @@ pub fn counters_part_names()
 /// boundary is a position.
 pub fn orders_are_allowed()
     ensures { OrdersAreAllowed }
+{}
+
+/// In a lawful journal each name in a mail, and in what a node or a client keeps, is of the scenario
+/// or was drawn: the child that a split names, the transaction of a command, the groups in links.
+/// So a name that a row draws was nowhere before it.
+pub fn drawn_names_are_new()
+    ensures drawn { NamesAreDrawn }
+    ensures new { DrawnNamesAreNew }
 {}
