@@ -1,0 +1,12 @@
+pub mod Owned
+pub mod Counters
+pub mod Ordered
+pub mod Machine
+pub mod Sent
+pub mod Lists
+pub mod Held
+pub mod Executing
+pub mod Voted
+pub mod Stepping
+pub mod Playing
+pub mod Fresh
