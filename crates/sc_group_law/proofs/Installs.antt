@@ -190,14 +190,14 @@ module _ (ahead : Ahead) (base : Base) (made : Command → Type 0) (heard : Mail
   told_place : (number : ℕ) (result : ToldResult) (r : ReplicaState) (mails : List Mail) → Ok (r, mails) → Ok (r, told_desk r.me number result mails)
   told_place number result r mails f = says ahead base made heard me older before r mails (record { from = r.me; to = 0; body = Told number result }) f refl tt tt
 
-  queued_place : (o : Option OrderRefusal) (number : ℕ) (c : Command) (r : ReplicaState) (mails : List Mail) → Ok (r, mails) → made c → Ok (taken_or_told o number c (r, mails))
+  queued_place : (o : Option OrderRefusal) (number : ℕ) (c : Command) (r : ReplicaState) (mails : List Mail) → Ok (r, mails) → (o ≡ None → made c) → Ok (taken_or_told o number c (r, mails))
   queued_place (Some why) number c r mails f m = told_place number (Refused why) r mails f
   queued_place None number c r mails f m =
       fine_pumped ahead base made heard me older before speaks some _
       (turn ahead base made heard me older before r (record r { calls = r.calls ++ c ∷ [] }) mails f
-      (with_calls ahead base made heard me older before speaks some (f.newer ++ before) r (r.calls ++ c ∷ []) f.replica (Each-append made r.calls (c ∷ []) f.replica.calls (m, tt))))
+      (with_calls ahead base made heard me older before speaks some (f.newer ++ before) r (r.calls ++ c ∷ []) f.replica (Each-append made r.calls (c ∷ []) f.replica.calls (m refl, tt))))
 
-  -- Told: an order whose command may be queued
-  pub fine_ordered_row : (drawer : Drawer) (line : OrderLine) → made (ordered_command (next_name drawer) line.number line.order) → (r : ReplicaState) (mails : List Mail) → Ok (r, mails) → Ok (ordered_row drawer line (r, mails))
+  -- Told: an order whose command may be queued where it is taken
+  pub fine_ordered_row : (drawer : Drawer) (line : OrderLine) (r : ReplicaState) → (untaken drawer line r ≡ None → made (ordered_command (next_name drawer) line.number line.order)) → (mails : List Mail) → Ok (r, mails) → Ok (ordered_row drawer line (r, mails))
   unfolding ordered_row
-  fine_ordered_row drawer line m r mails f = queued_place (untaken drawer line r) line.number (ordered_command (next_name drawer) line.number line.order) r mails f m
+  fine_ordered_row drawer line r m mails f = queued_place (untaken drawer line r) line.number (ordered_command (next_name drawer) line.number line.order) r mails f m

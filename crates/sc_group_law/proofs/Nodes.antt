@@ -20,7 +20,7 @@ use Rattle.sc_paxos_law.specs.Steps.{Offered}
 use Rattle.sc_paxos_law.specs.Lawful.{IsLawfulHistory}
 use Rattle.sc_node_table.specs.Node.{NodeState, replica_of, with_replica, with_new, group_of_mail, absent, with_made, unknown, may_come, with_born, with_children, taken_by, routed, on_mail, group_of_order, ordered_of, on_order}
 use Rattle.sc_node_table.specs.Births.{mailed_children}
-use Rattle.sc_node_table.specs.Ordering.{ordered_command, ordered_row, names_after}
+use Rattle.sc_node_table.specs.Ordering.{ordered_command, ordered_row, names_after, untaken}
 use Rattle.sc_base.specs.Drawing.{Drawer, next_name}
 use Rattle.sc_node_table.specs.Slots.{slots_ahead}
 use Rattle.sc_node_table.specs.Mails.{told_desk}
@@ -421,9 +421,11 @@ module _ (ahead : Ahead) (bases : List Base) (made : Base → Command → Type 0
         (λ m a. elim a [ inl e ↦ subst (λ (x : Mail). IsNamedIn heard bases x.body) e tt | inr n ↦ absurd n ])
         (λ base b m a. elim a [ inl e ↦ subst (λ (x : Mail). IsTrue ahead base (made base) heard (h base) x x.body) e tt | inr n ↦ absurd n ])
 
-    -- what the order asks for may be queued at its group
+    -- what the order asks for may be queued at its group, where it is taken
     abbrev MayOrder : OrderLine → NodeState → Type 0
-    MayOrder line node = (base : Base) → Among base bases → group_of_order line.order ≡ base.core.id → made base (ordered_command (next_name node.draws) line.number line.order)
+    MayOrder line node =
+        (base : Base) → Among base bases → group_of_order line.order ≡ base.core.id → (r : ReplicaState) → replica_of (group_of_order line.order) node.replicas ≡ Some r → untaken node.draws line r ≡ None
+        → made base (ordered_command (next_name node.draws) line.number line.order)
 
     ordered_ended : (line : OrderLine) (node : NodeState) → MayOrder line node → IsNode h me node → (o : Option ReplicaState) → replica_of (group_of_order line.order) node.replicas ≡ o → Asked (ordered_of o line node)
     ordered_ended line node may k None e = desk_ended line.number (Refused (NotLeader None)) node k
@@ -432,7 +434,7 @@ module _ (ahead : Ahead) (bases : List Base) (made : Base → Command → Type 0
         redrawn (λ base. asked_in base.core.id place.1 (h base)) (record node { replicas = with_replica (group_of_order line.order) place.0 node.replicas }) (names_after node.draws line r) place.1
         (one_row (group_of_order line.order) r node k e place (λ base. asked_in base.core.id place.1 (h base))
         (λ base a is was. ended_by ahead base (made base) heard me (h base) (speaks base a) (some base a) place _
-        (fine_ordered_row ahead base (made base) heard me [] (h base) (speaks base a) (some base a) node.draws line (may base a is) r []
+        (fine_ordered_row ahead base (made base) heard me [] (h base) (speaks base a) (some base a) node.draws line r (may base a is r e) []
         (start ahead base (made base) heard me (h base) (speaks base a) (some base a) (lawful base a) (requested base a) [] r was)) refl)
         (λ base a f sent. far_all heard base.core.id place.1 (h base) sent))
 

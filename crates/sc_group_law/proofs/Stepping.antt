@@ -26,8 +26,9 @@ use Rattle.sc_client_table.specs.Client.{Client}
 use Rattle.sc_client_table.specs.Table.{table, request_of}
 use Rattle.sc_client_table.specs.Turns.{InTurn}
 use Rattle.sc_client_table.proofs.TurnLemmas.{sends_in_turn}
-use Rattle.sc_node_table.specs.Node.{NodeState, group_of_order, on_mail, on_tick, on_order}
-use Rattle.sc_node_table.specs.Ordering.{ordered_command}
+use Rattle.sc_node_table.specs.Node.{NodeState, group_of_order, replica_of, on_mail, on_tick, on_order}
+use Rattle.sc_node_table.specs.Replica.{ReplicaState}
+use Rattle.sc_node_table.specs.Ordering.{ordered_command, untaken}
 use Rattle.sc_node_table.specs.Slots.{numbers_from}
 use Rattle.sc_base.specs.Drawing.{next_name}
 use Rattle.sc_base.specs.Among.{Among, Each}
@@ -83,10 +84,11 @@ module _ (ahead : Ahead) (words : ℕ → ℕ → ℕ × ℕ) (scenario : Scenar
   abbrev M : Journal → Row Mail OrderLine → Type 0
   M = Moved ahead scenario firsts bases route made_by heard_by
 
-  -- what an order asks for may be queued at its group, if one is told
+  -- what an order asks for may be queued at its group, if one is told and taken
   abbrev pub MayTell : Journal → ℕ → Event OrderLine → Type 0
   MayTell rows n (Told line) =
-      (node : NodeState) → value player_table (nseat n) rows ≡ ANode node → (b : Base) → Among b bases → group_of_order line.order ≡ b.core.id → made_by rows b (ordered_command (next_name node.draws) line.number line.order)
+      1 ≤ n → n ≤ scenario.nodes → (node : NodeState) → value player_table (nseat n) rows ≡ ANode node → (b : Base) → Among b bases → group_of_order line.order ≡ b.core.id
+      → (r : ReplicaState) → replica_of (group_of_order line.order) node.replicas ≡ Some r → untaken node.draws line r ≡ None → made_by rows b (ordered_command (next_name node.draws) line.number line.order)
   MayTell rows n (Deliver number) = Unit {0}
   MayTell rows n Go = Unit {0}
   MayTell rows n Tick = Unit {0}
@@ -245,7 +247,7 @@ module _ (ahead : Ahead) (words : ℕ → ℕ → ℕ × ℕ) (scenario : Scenar
             (mail_ended ahead bases made heard elsewhere n h speaks (has.some rows) lawful requested (Deliver number) m (offspring n) at.node at.is (k.named m came) (λ b a. (k.parts b a).true_mail m came)))
         by Tick plain o = acting Tick (on_tick at.node) refl (tick_ended ahead bases made heard elsewhere n h speaks (has.some rows) lawful requested at.node at.is)
         by Go plain o = acting Go (at.node, []) refl (quiet Go)
-        by (Told order) plain o = acting (Told order) (on_order order at.node) refl (order_ended ahead bases made heard elsewhere n h speaks (has.some rows) lawful requested order at.node (plain at.node at.value_is) at.is)
+        by (Told order) plain o = acting (Told order) (on_order order at.node) refl (order_ended ahead bases made heard elsewhere n h speaks (has.some rows) lawful requested order at.node (plain low high at.node at.value_is) at.is)
         by Crash plain o = acting Crash (at.node, []) refl (quiet Crash)
         by (Drop number) plain o = absurd o
         by (Again number) plain o = absurd o

@@ -29,7 +29,7 @@ use Rattle.sc_group_law.proofs.Nodes.{IsNewborn}
 use Rattle.sc_group_law.proofs.Offspring.{IsChildOf}
 use Rattle.sc_group_law.proofs.Places.{Journal}
 use Rattle.sc_group_law.proofs.Speech.{quiet_speaks}
-use Rattle.sc_group_law.proofs.Stepping.{HasPlayers, moved as moved_on}
+use Rattle.sc_group_law.proofs.Stepping.{HasPlayers, MayTell as MayTellOn, moved as moved_on}
 
 -- what a family of groups rests on: how the players begin, whatever the rows; what may be queued stays so, no group is ever locked, and each has members
 pub record IsFamily (ahead : Ahead) (scenario : Scenario) (firsts bases : List Base) (route : Route) (made : Journal → Base → Command → Type 0) : Type 0 where
@@ -61,9 +61,18 @@ module _ (ahead : Ahead) (words : ℕ → ℕ → ℕ × ℕ) (scenario : Scenar
   players : HasPlayers ahead scenario firsts bases route made_by
   players = record { seats = has.seats; nodes = has.nodes; numbered = has.numbered; once = has.once; issued = has.issued; some = has.some }
 
+  told_on : (rows : Journal) (n : ℕ) (event : Event OrderLine) → MayTell rows n event → MayTellOn ahead words scenario firsts bases route made_by (λ older. Heard) players rows n event
+  told_on rows n (Told line) may = λ low high node is b a into r found taken. may node is b a into
+  told_on rows n (Deliver number) may = tt
+  told_on rows n Go may = tt
+  told_on rows n Tick may = tt
+  told_on rows n Crash may = tt
+  told_on rows n (Drop number) may = tt
+  told_on rows n (Again number) may = tt
+
   -- each step that may come next moves what holds on
   pub moved : (rows : Journal) (row : Row Mail OrderLine) → Kept ahead scenario firsts bases route made_by rows → KnowsOffspring rows → MayTell rows row.who row.event → IsStep (system_of ahead words scenario) rows row
       → Moved ahead scenario firsts bases route made_by rows row
   moved rows row k offspring may step =
       moved_on ahead words scenario firsts bases route made_by (λ older. Heard) players rows k (λ body none. absurd none)
-      (λ b a. quiet_speaks ahead b (made_by rows b) Heard (h_of rows b) (has.grants rows b a)) offspring (λ r steps. is_later ahead scenario firsts bases route made_by has.later rows r) row may step
+      (λ b a. quiet_speaks ahead b (made_by rows b) Heard (h_of rows b) (has.grants rows b a)) offspring (λ r steps. is_later ahead scenario firsts bases route made_by has.later rows r) row (told_on rows row.who row.event may) step

@@ -6,3 +6,5 @@ pub mod Speaking
 pub mod Granting
 pub mod Apart
 pub mod Children
+pub mod Growing
+pub mod Turning

@@ -1,0 +1,260 @@
+-- Each row of a lawful journal decides in turn, whatever its groups order; and what holds of the journal holds with one more row.
+use Rattle.std.proofs.Common.{◌≡◌, ℕ, zero, suc, ◌+◌, ◌-◌, ◌≤◌, List, [], ◌∷◌, ◌++◌, map, length, drop, Option, Some, None, ◌⊎◌, inl, inr, refl, sym, ◌∙◌, ap, subst, option_to_list}
+use Rattle.std.specs.Prelude.{slice_get}
+use Rattle.sc_base.specs.Among.{Among, Each}
+use Rattle.sc_base.specs.Limits.{most_nodes}
+use Rattle.sc_base.specs.declared.names.Draw.{Draw}
+use Rattle.sc_base.specs.declared.ops.Op.{Op}
+use Rattle.sc_cmd.specs.declared.commands.Command.{Command}
+use Rattle.sc_cmd.specs.declared.commands.Command.TheVariants.{Noop, Call, Join, Leave, Split, Begin, Prepared, RecordVote, GiveUp, Finish, Watched, RecordWatch}
+use Rattle.sc_cmd.specs.declared.cores.Base.{Base}
+use Rattle.sc_cmd.specs.declared.links.Route.{Route}
+use Rattle.sc_cmd.specs.declared.orders.OrderLine.{OrderLine}
+use Rattle.sc_mail.specs.declared.bodies.Mail.{Mail}
+use Rattle.sc_mail.specs.declared.bodies.MailBody.{MailBody}
+use Rattle.sc_mail.specs.declared.bodies.MailBody.TheVariants.{TxPrepare, TxVote, TxOutcome, TxWatch, TxWatched}
+use Rattle.sc_actor.specs.declared.rows.Row.{Row}
+use Rattle.sc_actor.specs.Mail.{mails}
+use Rattle.sc_actor.specs.Steps.{IsStep}
+use Rattle.sc_machine_table.specs.Children.{child_by}
+use Rattle.sc_machine_table.specs.Group.{Group, group_of}
+use Rattle.sc_machine_table.specs.Logs.{state_after}
+use Rattle.sc_machine_table.specs.Machine.{applied}
+use Rattle.sc_entries.specs.Births.{birth_of}
+use Rattle.sc_entries.specs.Worlds.{StoreWorld, named_group}
+use Rattle.sc_entries.specs.declared.LogEntry.{LogEntry}
+use Rattle.sc_entries.proofs.Children.{births_are_children}
+use Rattle.sc_node_table.specs.Slots.{numbers_from, slots_ahead}
+use Rattle.sc_paxos_words.proofs.ListLemmas.{Each-weaker}
+use Rattle.sc_paxos_law.proofs.Among.{Among-left, Among-right}
+use Rattle.sc_scenario.specs.declared.scenarios.Asks.{Asks}
+use Rattle.sc_scenario.specs.declared.scenarios.Scenario.{Scenario}
+use Rattle.sc_players.specs.Players.{Ahead, node_seat, client_seat, births, system_of}
+use Rattle.sc_sound.specs.GroupsOf.{children_of, groups_at, birth_at, entries_at, world_at}
+use Rattle.sc_sound.specs.Logs.{decided_log, decided_state}
+use Rattle.sc_sound.specs.Requests.{issue_row, issues}
+use Rattle.sc_ring_law.specs.Allowed.{Sources, IsAllowed, AreAllowed, ToldWorld, first_told, told_after}
+use Rattle.sc_ring_law.specs.Laws.{BeginInPlace}
+use Rattle.sc_ring_law.proofs.Rows.{some_none}
+use Rattle.sc_ring_law.proofs.Start.{at_start}
+use Rattle.sc_ring_law.proofs.Worlds.{KeptWorld, kept_after}
+use Rattle.sc_journal_law.specs.Beside.{IsIssuedIn}
+use Rattle.sc_journal_law.specs.Descent.{Rows, added_by, newborn_by}
+use Rattle.sc_journal_law.specs.Findings.{AreFound, IsNewborn}
+use Rattle.sc_journal_law.specs.InTurn.{DecidesInTurn, DecideInTurn}
+use Rattle.sc_journal_law.proofs.Allowing.{allowed_stays_allowed}
+use Rattle.sc_journal_law.proofs.Births.{store_after, BornBy, born_by}
+use Rattle.sc_journal_law.proofs.Calls.{all_allowed}
+use Rattle.sc_journal_law.proofs.Findings.{told_rows, groups_are_found, groups_are_old_or_new}
+use Rattle.sc_journal_law.proofs.Generations.{group_found}
+use Rattle.sc_journal_law.proofs.Histories.{told_rows_stay}
+use Rattle.sc_journal_law.proofs.Parts.{rows_go_on}
+use Rattle.sc_journal_law.proofs.Told.{state_there}
+use Rattle.sc_group_law.proofs.Births.{first_of}
+use Rattle.sc_group_law.proofs.Clients.{IsIssued}
+use Rattle.sc_group_law.proofs.Families.{h_of, Kept, Stepped, IsLater, Moved, stepped, push, log_goes_on, decided_made}
+use Rattle.sc_group_law.proofs.Invariant.{rule}
+use Rattle.sc_group_law.proofs.Nodes.{IsNewborn as IsNewReplica}
+use Rattle.sc_group_law.proofs.Offspring.{IsChildOf}
+use Rattle.sc_group_law.proofs.Places.{or_now, issue-push, split_at}
+use Rattle.sc_group_law.proofs.Replies.{front_is}
+use Rattle.sc_group_law.proofs.Stepping.{HasPlayers, MayTell, KnowsOffspring, moved}
+use Rattle.sc_whole_law.specs.Parameters.{stories_at, IsHeard, IsIssuedCall, MayQueue, MayHear}
+use Rattle.sc_whole_law.specs.Parties.{IsFresh, PartiesAreApart, MergesFit}
+use Rattle.sc_whole_law.specs.Players.{HasSeats, AsksAre}
+use Rattle.sc_whole_law.proofs.Apart.{IsNew, named_apart, silent}
+use Rattle.sc_whole_law.proofs.Children.{fresh_children}
+use Rattle.sc_whole_law.proofs.Granting.{speaks}
+use Rattle.sc_whole_law.proofs.Growing.{grown}
+use Rattle.sc_whole_law.proofs.Members.{members_stay_rosters}
+
+each_dropped : {X : Type 0} (P : X → Type 0) (n : ℕ) (xs : List X) → Each P xs → Each P (drop n xs)
+each_dropped P zero xs e = e
+each_dropped P (suc n) [] e = tt
+each_dropped P (suc n) (x ∷ xs) e = each_dropped P n xs e.1
+
+-- the child of an entry is one of its log's
+child_in : (group : Group) (front : List Command) (c : Command) (child : Base) → birth_of (state_after group front) c (applied (state_after group front) c).1 ≡ Some child → Among child (children_of group (front ++ c ∷ []))
+child_in group [] c child e = Among-left child (option_to_list (birth_of group c (applied group c).1)) [] (subst (λ o. Among child (option_to_list o)) (sym e) (inl refl))
+child_in group (d ∷ front) c child e =
+    Among-right child (option_to_list (birth_of group d (applied group d).1)) (children_of (applied group d).0 (front ++ c ∷ [])) (child_in (applied group d).0 front c child e)
+
+-- a call that was issued was so with one more row
+issued_later : (scenario : Scenario) (rows : Rows) (row : Row Mail OrderLine) (c : Command) → IsIssuedCall scenario rows c → IsIssuedCall scenario (rows ++ row ∷ []) c
+issued_later scenario rows row (Call client seq op) i = record {
+  asks = i.asks;
+  stands = i.stands;
+  who = i.who;
+  first = i.first;
+  op_is = i.op_is;
+  issued = i.issued;
+  is_issued = issue-push client seq rows row ∙ ap (λ o. or_now o (issues client seq row) (length rows + 1)) i.is_issued;
+}
+issued_later scenario rows row Noop i = tt
+issued_later scenario rows row (Join node order) i = tt
+issued_later scenario rows row (Leave node order) i = tt
+issued_later scenario rows row (Split at child order) i = tt
+issued_later scenario rows row (Begin tx body order) i = tt
+issued_later scenario rows row (Prepared tx offer) i = tt
+issued_later scenario rows row (RecordVote tx vote by) i = tt
+issued_later scenario rows row (GiveUp tx) i = tt
+issued_later scenario rows row (Finish tx outcome) i = tt
+issued_later scenario rows row (Watched tx watch) i = tt
+issued_later scenario rows row (RecordWatch tx vote by) i = tt
+
+module _ (sources : Sources) (ahead : Ahead) (words : ℕ → ℕ → ℕ × ℕ) (scenario : Scenario) (route : Route) (start : BeginInPlace sources scenario.groups) (seats : HasSeats ahead scenario route) (asks_are : AsksAre sources scenario) where
+  abbrev bases : Rows → List Base
+  bases rows = groups_at ahead scenario.groups rows
+
+  abbrev made : Rows → Base → Command → Type 0
+  made = MayQueue sources ahead scenario
+
+  abbrev heard : Rows → MailBody → Type 0
+  heard = MayHear sources ahead scenario
+
+  -- what holds of a journal: of its nodes and clients, of its mail and logs, and of its groups
+  pub record Holds (rows : Rows) : Type 0 where
+    pub kept : Kept ahead scenario scenario.groups (bases rows) route made heard rows
+    pub turn : DecideInTurn sources ahead scenario.groups [] rows
+    pub fresh : (b : Base) → Among b (bases rows) → IsFresh b
+
+  abbrev Steps : Rows → Row Mail OrderLine → Type 0
+  Steps rows row = (b : Base) → Among b (bases rows) → Stepped ahead scenario scenario.groups (bases rows) route made heard rows row b
+
+  module _ (rows : Rows) (h : Holds rows) where
+    found : AreFound ahead scenario.groups rows
+    found = groups_are_found sources ahead scenario.groups start rows h.turn
+
+    -- ---- the children that a row names are new
+
+    module _ (row : Row Mail OrderLine) where
+      abbrev next : Rows
+      next = rows ++ row ∷ []
+
+      abbrev added : Base → List Command
+      added b = added_by ahead rows row b
+
+      allowed : Steps rows row → (b : Base) → Among b (bases rows) → Each (IsAllowed sources (stories_at ahead scenario.groups rows) b.core.id) (added b)
+      allowed steps b a =
+          let before = length (decided_log ahead b rows) in
+          let all = decided_made ahead scenario scenario.groups (bases rows) route made heard b rows row (steps b a) in
+          each_dropped (IsAllowed sources (stories_at ahead scenario.groups rows) b.core.id) before (decided_log ahead b next)
+          (Each-weaker (made rows b) (IsAllowed sources (stories_at ahead scenario.groups rows) b.core.id) (λ c m. m.0) (decided_log ahead b next) all)
+
+      born : Steps rows row → (b : Base) (a : Among b (bases rows)) → BornBy b.core.id (world_at ahead scenario.groups rows) (length (decided_log ahead b rows) + 1) (decided_state ahead b rows) (added b)
+      born steps b a =
+          let k = told_rows sources ahead scenario.groups start rows h.turn in
+          let old = entries_at ahead scenario.groups rows in
+          let w = told_after (first_told scenario.groups) old in
+          let store_is = store_after (first_told scenario.groups) old in
+          let kept = kept_after sources (first_told scenario.groups) old (at_start sources scenario.groups start) k.allowed in
+          let may = all_allowed sources scenario.groups start old k.allowed b.core.id (length (decided_log ahead b rows) + 1) (added b) (allowed steps b a) in
+          let there = state_there sources ahead scenario.groups start rows k b (group_found ahead scenario.groups rows b a) in
+          subst (λ (x : StoreWorld). BornBy b.core.id x (length (decided_log ahead b rows) + 1) (decided_state ahead b rows) (added b)) store_is
+          (born_by sources b.core.id w kept (decided_state ahead b rows) (ap (λ (x : StoreWorld). named_group b.core.id x.groups) store_is ∙ there) (length (decided_log ahead b rows) + 1) (added b) may)
+
+      new_name : Steps rows row → (b : Base) → Among b (bases rows) → (child : Base) → Among child (newborn_by ahead rows row b) → IsNew (bases rows) child.core.id
+      new_name steps b a child c other o same =
+          let k = told_rows sources ahead scenario.groups start rows h.turn in
+          let unborn = (born steps b a).unborn child c in
+          some_none (decided_state ahead other rows)
+          (sym (state_there sources ahead scenario.groups start rows k other (group_found ahead scenario.groups rows other o)) ∙ ap (λ n. named_group n (world_at ahead scenario.groups rows).groups) same ∙ unborn)
+
+      -- ---- the row decides in turn
+
+      turned : Steps rows row → DecidesInTurn sources ahead scenario.groups rows row
+      turned steps = record {
+        goes_on = λ b a. (drop (length (decided_log ahead b rows)) (decided_log ahead b next), log_goes_on ahead scenario scenario.groups (bases rows) route made heard b rows row (steps b a));
+        allowed = allowed steps;
+        unheard = λ b a child c. silent ahead child rows row (λ m x. named_apart (heard rows) (bases rows) child.core.id (new_name steps b a child c) m.body (h.kept.named m x));
+      }
+
+      -- ---- what was allowed stays so
+
+      turned_all : Steps rows row → DecideInTurn sources ahead scenario.groups [] next
+      turned_all steps = rows_go_on sources ahead scenario.groups rows row h.turn (turned steps)
+
+      still : Steps rows row → (name : Draw) (c : Command) → IsAllowed sources (stories_at ahead scenario.groups rows) name c → IsAllowed sources (stories_at ahead scenario.groups next) name c
+      still steps name c a = allowed_stays_allowed sources ahead scenario.groups start rows (row ∷ []) (turned_all steps) name c a
+
+      still_heard : Steps rows row → (body : MailBody) → heard rows body → heard next body
+      still_heard steps (TxPrepare tx offer) t = still steps offer.part (Prepared tx offer) t
+      still_heard steps (TxVote tx coord part vote) t = still steps coord (RecordVote tx vote 0) t
+      still_heard steps (TxOutcome tx part outcome) t = still steps part (Finish tx outcome) t
+      still_heard steps (TxWatch tx watch) t = still steps watch.part (Watched tx watch) t
+      still_heard steps (TxWatched tx coord part vote) t = still steps coord (RecordWatch tx vote 0) t
+      still_heard steps _ t = tt
+
+      later : Steps rows row → IsLater ahead scenario scenario.groups (bases rows) route made heard rows row
+      later steps = record { made_later = λ b c m. (still steps b.core.id c m.0, issued_later scenario rows row c m.1); heard_later = still_heard steps }
+
+    -- ---- one row more
+
+    issued_call : (older : Rows) (b : Base) (client seq : ℕ) (op : Op) → IsIssued scenario older client seq op → made older b (Call client seq op)
+    issued_call older b client seq op i = (
+      asks_are i.asks i.stands seq op i.some i.op_is ∙ ap (λ n. sources.request n seq) (sym i.who),
+      record { asks = i.asks; stands = i.stands; who = i.who; first = i.some; op_is = i.op_is; issued = i.row; is_issued = i.issued },
+    )
+
+    -- the players of the scenario, and what its clients may queue
+    pub players : HasPlayers ahead scenario scenario.groups (bases rows) route made
+    players = record {
+      seats = seats.seats;
+      nodes = seats.nodes;
+      numbered = seats.numbered;
+      once = seats.once;
+      issued = issued_call;
+      some = λ older b a log all. (let roster = members_stay_rosters (group_of b) log (h.fresh b a).roster in first_of (state_after (group_of b) log).core.members roster.some);
+    }
+
+    offspring : KnowsOffspring ahead words scenario scenario.groups (bases rows) route made heard players rows
+    offspring n b a child is =
+        let log = is.front ++ is.command ∷ [] in
+        let decided = decided_log ahead b rows in
+        let on = split_at (length log) log decided (front_is ahead b rows (h.kept.parts b a).lawful log is.is_log).1 in
+        let birth = sym (births_are_children (state_after (group_of b) is.front) is.command) ∙ is.child_is in
+        record {
+          among = found.fronts b a log (drop (length log) decided) on child (child_in (group_of b) is.front is.command child birth);
+          alone = λ other o same. found.apart other child o (found.fronts b a log (drop (length log) decided) on child (child_in (group_of b) is.front is.command child birth)) same;
+          open_slots = seats.open_slots;
+        }
+
+    module _ (apart : PartiesAreApart (stories_at ahead scenario.groups rows)) (fit : MergesFit (stories_at ahead scenario.groups rows)) (row : Row Mail OrderLine)
+        (may : MayTell ahead words scenario scenario.groups (bases rows) route made heard players rows row.who row.event) (step : IsStep (system_of ahead words scenario) rows row) where
+      moves : Moved ahead scenario scenario.groups (bases rows) route made heard rows row
+      moves =
+          moved ahead words scenario scenario.groups (bases rows) route made heard players rows h.kept (λ body t tx coord hint. tt)
+          (λ b a. speaks sources ahead scenario start rows h.turn apart fit b a (h.kept.parts b a).lawful (h.fresh b a)) offspring (λ r steps. later r steps) row may step
+
+      steps : Steps rows row
+      steps b a = stepped ahead scenario scenario.groups (bases rows) route made heard rows row b (moves.parts b a)
+
+      -- the row decides in turn
+      pub decides : DecidesInTurn sources ahead scenario.groups rows row
+      decides = turned row steps
+
+      after : Kept ahead scenario scenario.groups (bases rows) route made heard (rows ++ row ∷ [])
+      after = push ahead scenario scenario.groups (bases rows) route made heard rows row (later row steps) h.kept moves
+
+      is_new : (b : Base) → IsNewborn ahead scenario.groups rows row b → IsNew (bases rows) b.core.id
+      is_new b n other o same = some_none other (sym (found.known other o).birth ∙ ap (birth_at ahead scenario.groups rows) same ∙ n.unborn)
+
+      old_or_new : (b : Base) → Among b (bases (rows ++ row ∷ [])) → Among b (bases rows) ⊎ (IsNew (bases rows) b.core.id × ((parent : Base) × Among parent (bases rows)))
+      old_or_new b a = elim (groups_are_old_or_new sources ahead scenario.groups start rows h.turn row decides b a) [ inl was ↦ inl was | inr n ↦ inr (is_new b n, (n.parent, n.stands)) ]
+
+      fresh_next : (b : Base) → Among b (bases (rows ++ row ∷ [])) → IsFresh b
+      fresh_next b a = elim (groups_are_old_or_new sources ahead scenario.groups start rows h.turn row decides b a) [
+        | inl was ↦ h.fresh b was
+        | inr n ↦ fresh_children (decided_state ahead n.parent rows) (added_by ahead rows row n.parent) (members_stay_rosters (group_of n.parent) (decided_log ahead n.parent rows) (h.fresh n.parent n.stands).roster) b n.named
+      ]
+
+      -- and all holds with it
+      pub holds_next : Holds (rows ++ row ∷ [])
+      holds_next =
+          let turn = turned_all row steps in
+          let stay = told_rows_stay sources ahead scenario.groups start rows (row ∷ []) turn in
+          record {
+            kept = grown ahead scenario scenario.groups (bases rows) (bases (rows ++ row ∷ [])) route made heard (rows ++ row ∷ []) stay.groups (λ b other client seq op m. m) after old_or_new;
+            turn = turn;
+            fresh = fresh_next;
+          }

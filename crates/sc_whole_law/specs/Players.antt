@@ -1,0 +1,23 @@
+-- What a journal begins with, beside its groups: its players and what they ask.
+use Rattle.std.specs.Prelude.{◌≡◌, ℕ, ◌-◌, ◌≤◌, ◌++◌, map, Some, slice_get}
+use Rattle.sc_base.specs.Among.{Among, Each}
+use Rattle.sc_base.specs.Limits.{most_nodes}
+use Rattle.sc_base.specs.declared.ops.Op.{Op}
+use Rattle.sc_cmd.specs.declared.links.Route.{Route}
+use Rattle.sc_node_table.specs.Slots.{numbers_from, slots_ahead}
+use Rattle.sc_players.specs.Players.{Ahead, node_seat, client_seat, births}
+use Rattle.sc_scenario.specs.declared.scenarios.Asks.{Asks}
+use Rattle.sc_scenario.specs.declared.scenarios.Scenario.{Scenario}
+use Rattle.sc_ring_law.specs.Allowed.{Sources}
+
+-- the nodes are numbered up to the most, and the clients from one, each once; as many slots are open as children have
+pub record HasSeats (ahead : Ahead) (scenario : Scenario) (route : Route) : Type 0 where
+  pub seats : births ahead scenario ≡ map (node_seat ahead scenario.groups) (numbers_from 1 scenario.nodes) ++ map (client_seat route) scenario.clients
+  pub nodes : scenario.nodes ≤ most_nodes
+  pub numbered : Each (λ asks. 1 ≤ asks.client) scenario.clients
+  pub once : (one other : Asks) → Among one scenario.clients → Among other scenario.clients → one.client ≡ other.client → one ≡ other
+  pub open_slots : ahead.slots ≡ slots_ahead
+
+-- what clients ask by each number is what their sections of the scenario say
+abbrev pub AsksAre : Sources → Scenario → Type 0
+AsksAre sources scenario = (asks : Asks) → Among asks scenario.clients → (seq : ℕ) (op : Op) → 1 ≤ seq → slice_get asks.ops (seq - 1) ≡ Some op → op ≡ sources.request asks.client seq
