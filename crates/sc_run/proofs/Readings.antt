@@ -69,8 +69,10 @@ module _ (words : List (List ℕ)) (left : Option (List ℕ)) (before now : ℕ)
   says_fault line why said text bad about tells =
       subst (λ said. Says words left before now said text) (sym about) (of_fault (asked_by words) left before now line why text (subst (IsWanted words left before now) bad is) tells)
 
-  pub says_failure : (text : Text) → wanted ≡ Failed → Tells (codes "read fault") text → Says words left before now ReadFault text
-  says_failure text failed tells = of_failure (asked_by words) left before now text (subst (IsWanted words left before now) failed is) tells
+  pub says_failure : (said : Said) (text : Text) → wanted ≡ Failed → said ≡ ReadFault → Tells (codes "read fault") text → Says words left before now said text
+  says_failure said text failed about tells =
+      subst (λ said. Says words left before now said text) (sym about) (of_failure (asked_by words) left before now text (subst (IsWanted words left before now) failed is) tells)
 
-  pub says_usage : (text : Text) → wanted ≡ Nothing → Tells usage text → Says words left before now Usage text
-  says_usage text nothing tells = of_usage (asked_by words) left before now text (subst (IsWanted words left before now) nothing is) tells
+  pub says_usage : (said : Said) (text : Text) → wanted ≡ Nothing → said ≡ Usage → Tells usage text → Says words left before now said text
+  says_usage said text nothing about tells =
+      subst (λ said. Says words left before now said text) (sym about) (of_usage (asked_by words) left before now text (subst (IsWanted words left before now) nothing is) tells)

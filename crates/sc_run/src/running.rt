@@ -1,9 +1,9 @@
 //! From the words and bytes that come in to the bytes that go out.
-ghost use Rattle.std.specs.Prelude.{◌≡◌, map, false, string_bytes, IfOk};
+ghost use Rattle.std.specs.Prelude.{◌≡◌, map, false, string_bytes, codes, IfOk};
 ghost use Rattle.sc_words.specs.Asked.{is_run};
 ghost use Rattle.sc_statuses.specs.Wants.{fault_text};
-ghost use Rattle.sc_statuses.specs.declared.said.Said.TheVariants.{BadScenario};
-ghost use Rattle.sc_run.specs.Run.{Tells, Says, Runs};
+ghost use Rattle.sc_statuses.specs.declared.said.Said.TheVariants.{Usage, ReadFault, BadScenario};
+ghost use Rattle.sc_run.specs.Run.{usage, Tells, Says, Runs};
 
 use crate::done::{Done, Text};
 use crate::reporting::report;
@@ -26,6 +26,22 @@ fn refuse(alloc: Global, line: u32, why: u8) -> Result<(Said, Text), OutOfMemory
     Ok((Said::BadScenario, text))
 }
 
+// The usage line.
+fn tell_usage(alloc: Global) -> Result<(Said, Text), OutOfMemory>
+    ensures { IfOk result (λ begun. (begun.0 ≡ Usage) × Tells usage begun.1) }
+{
+    let text = tells(alloc, b"usage: scatter run | scatter make N S")?;
+    Ok((Said::Usage, text))
+}
+
+// The text about a source that failed.
+fn tell_fault(alloc: Global) -> Result<(Said, Text), OutOfMemory>
+    ensures { IfOk result (λ begun. (begun.0 ≡ ReadFault) × Tells (codes "read fault") begun.1) }
+{
+    let text = tells(alloc, b"read fault")?;
+    Ok((Said::ReadFault, text))
+}
+
 // The text for what is asked.
 fn say<S: Source, G: Gate, R: Threads + Wait + Sync>(
     rt: &R,
@@ -39,14 +55,8 @@ fn say<S: Source, G: Gate, R: Threads + Wait + Sync>(
     ensures unread { is_run (map string_bytes words.now) ≡ false → input.new ≡ input.old }
 {
     match wanted_of(alloc, words, input)? {
-        Wanted::Usage => {
-            let text = tells(alloc, b"usage: scatter run | scatter make N S")?;
-            Ok((Said::Usage, text))
-        }
-        Wanted::ReadFault => {
-            let text = tells(alloc, b"read fault")?;
-            Ok((Said::ReadFault, text))
-        }
+        Wanted::Usage => tell_usage(alloc),
+        Wanted::ReadFault => tell_fault(alloc),
         Wanted::BadScenario { line, why } => refuse(alloc, line, why),
         Wanted::Run(scenario) => report(rt, alloc, &scenario, gate),
     }

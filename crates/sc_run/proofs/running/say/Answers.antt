@@ -11,3 +11,11 @@ returns-in-Run-clause-says g c =
 pub returns-in-BadScenario-clause-says : goal.returns-in-BadScenario-clause-says
 returns-in-BadScenario-clause-says g c =
     IfOk-weaker c.refuse.result _ _ (λ begun h. says_fault (map string_bytes c.args.words.now) _ _ _ _ c.in_ok-wanted_of.ensures.wanted c.in-BadScenario.line c.in-BadScenario.why begun.0 begun.1 c.in-BadScenario.is h.0 h.1) c.refuse.ensures
+
+pub returns-in-Usage-clause-says : goal.returns-in-Usage-clause-says
+returns-in-Usage-clause-says g c =
+    IfOk-weaker c.tell_usage.result _ _ (λ begun h. says_usage (map string_bytes c.args.words.now) _ _ _ _ c.in_ok-wanted_of.ensures.wanted begun.0 begun.1 c.in-Usage.is h.0 h.1) c.tell_usage.ensures
+
+pub returns-in-ReadFault-clause-says : goal.returns-in-ReadFault-clause-says
+returns-in-ReadFault-clause-says g c =
+    IfOk-weaker c.tell_fault.result _ _ (λ begun h. says_failure (map string_bytes c.args.words.now) _ _ _ _ c.in_ok-wanted_of.ensures.wanted begun.0 begun.1 c.in-ReadFault.is h.0 h.1) c.tell_fault.ensures
