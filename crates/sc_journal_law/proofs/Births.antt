@@ -22,10 +22,10 @@ use Rattle.sc_ring_law.specs.Stories.{put}
 use Rattle.sc_ring_law.specs.Invariant.{Groups}
 use Rattle.sc_ring_law.proofs.Cover.{at-same, at-other}
 use Rattle.sc_ring_law.proofs.Cuts.{arcs_in}
-use Rattle.sc_ring_law.proofs.Finds.{some_is, none_is_not}
-use Rattle.sc_ring_law.proofs.Names.{draw_cases}
+use Rattle.sc_ring_law.proofs.Finds.{none_is_not}
+use Rattle.sc_entries.proofs.Names.{draw_cases, some_is, found_name}
 use Rattle.sc_ring_law.proofs.Rows.{some_none}
-use Rattle.sc_ring_law.proofs.Told.{groups_in, with_child, groups_are, group_named}
+use Rattle.sc_ring_law.proofs.Told.{groups_in, with_child, groups_are}
 use Rattle.sc_ring_law.proofs.Worlds.{KeptWorld, kept_on, fits}
 use Rattle.sc_sound.specs.GroupsOf.{children_of, entries_from}
 use Rattle.sc_journal_law.proofs.Children.{log_of_own}
@@ -103,7 +103,7 @@ module _ (sources : Sources) (name : Draw) where
     now = told w.store entry
 
     named : group.core.id ≡ name
-    named = group_named name w.store.groups group found
+    named = found_name name w.store.groups group found
 
     here : named_group group.core.id w.store.groups ≡ Some group
     here = ap gs named ∙ found

@@ -27,7 +27,7 @@ use Rattle.sc_ring_law.specs.Laws.{BeginInPlace}
 use Rattle.sc_ring_law.proofs.Finds.{Pairwise, among_map, map_among, find_there}
 use Rattle.sc_ring_law.proofs.Rows.{some_none}
 use Rattle.sc_ring_law.proofs.Start.{at_start}
-use Rattle.sc_ring_law.proofs.Told.{group_named}
+use Rattle.sc_entries.proofs.Names.{found_name}
 use Rattle.sc_ring_law.proofs.Worlds.{KeptWorld, kept_after}
 use Rattle.sc_sound.specs.GroupsOf.{children_of, birth_at, entries_from, entries_at, world_at}
 use Rattle.sc_sound.specs.Logs.{decided_log, decided_state}
@@ -99,7 +99,7 @@ module _ (sources : Sources) (ahead : Ahead) (bases : List Base) (start : BeginI
     only = λ entry a. absurd a;
     who = λ name it e. (
         let (base, a, is) = among_map group_of bases it (find_there (is_named name) (map group_of bases) it e) in
-        (base, (0, a), ap (λ (x : Group). x.core.id) is ∙ group_named name (map group_of bases) it e));
+        (base, (0, a), ap (λ (x : Group). x.core.id) is ∙ found_name name (map group_of bases) it e));
   }
 
   module _ (before : Rows) (k : Told sources ahead bases before) where

@@ -56,12 +56,12 @@ use Rattle.sc_whole_law.proofs.Asking.{hears_merges, BeginsShared, splits_fit, n
 use Rattle.sc_whole_law.proofs.Speaking.{stands_watch, stands_offer, Stands, said_question, said_reminders, told_by, goes_on}
 
 -- only a Yes that is noted stands
-standing_yes : (o : Option Past) (locked : Bool) (gone : Option Route) → standing_by o locked gone ≡ Some Cast.Yes → o ≡ Some Cast.Yes
+standing_yes : (o : Option Past) (locked : Bool) (into : Option Route) → standing_by o locked into ≡ Some Cast.Yes → o ≡ Some Cast.Yes
 standing_yes None locked None e = cc
 standing_yes None locked (Some into) e = cc
-standing_yes (Some (Cast.No why)) locked gone e = cc
-standing_yes (Some Cast.Ended) locked gone e = cc
-standing_yes (Some Cast.Yes) locked gone e = refl
+standing_yes (Some (Cast.No why)) locked into e = cc
+standing_yes (Some Cast.Ended) locked into e = cc
+standing_yes (Some Cast.Yes) locked into e = refl
 
 -- a story is one
 one_story : (stories : Stories) (tx : Draw) (a b : Story) → stories tx ≡ Some a → stories tx ≡ Some b → a ≡ b
