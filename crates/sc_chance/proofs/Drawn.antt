@@ -1,5 +1,5 @@
 -- The words of a step are the next two of the generator.
-use Rattle.std.proofs.Common.{◌≡◌, ℕ, ◌+◌, ◌*◌, ◌/◌, ◌%◌, ◌^◌, ◌<◌, ◌≤◌, List, sym, ap, ◌∙◌, arith, ap₂}
+use Rattle.std.proofs.Common.{◌≡◌, ℕ, ◌+◌, ◌*◌, ◌/◌, ◌%◌, ◌^◌, ◌<◌, List, ap, ◌∙◌, arith, ap₂}
 use Rattle.rand_chacha.specs.ChaCha.{ChaCha, word_at, next_word, key_of}
 use Rattle.sc_chance.specs.Words.{seed_of, word_of, two_words}
 

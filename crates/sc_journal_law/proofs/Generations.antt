@@ -1,5 +1,6 @@
 -- Groups found generation by generation: with one more row, and among the groups of a journal.
 use Rattle.std.proofs.Common.{◌≡◌, ℕ, zero, suc, ◌≤◌, List, [], ◌∷◌, ◌++◌, length, drop, Some, None, ◌⊎◌, inl, inr, sym, ◌∙◌, ap, subst, arith}
+use Rattle.std.proofs.Math.Seq.{drop-append_seam}
 use Rattle.std.specs.List.{flat_map}
 use Rattle.std.specs.Option.{option_map}
 use Rattle.std.proofs.lemmas.Bool.{cases_lt}
@@ -24,7 +25,7 @@ use Rattle.sc_sound.specs.Logs.{decided_log, decided_state}
 use Rattle.sc_sound.specs.Soundness.{GoesOn}
 use Rattle.sc_journal_law.specs.Descent.{Rows, Descends, IsFound, added_by, newborn_by}
 use Rattle.sc_journal_law.specs.Findings.{IsKnown}
-use Rattle.sc_journal_law.proofs.Lists.{drop_past, HaveTwoNames, find_base, find_no_base, births_from, births_still, births_named, births_apart}
+use Rattle.sc_journal_law.proofs.Lists.{HaveTwoNames, find_base, find_no_base, births_from, births_still, births_named, births_apart}
 use Rattle.sc_journal_law.proofs.Children.{children_append}
 
 -- two groups that are found under one name are one
@@ -54,10 +55,7 @@ module _ (sources : Sources) (ahead : Ahead) (bases : List Base) (before : Rows)
   log_on base f =
       let old = decided_log ahead base before in
       let (more, is) = turn.goes_on base f in
-      is ∙ ap (λ cs. old ++ cs) (sym (ap (drop_of (length old)) is ∙ drop_past old more))
-    where
-      drop_of : ℕ → List Command → List Command
-      drop_of n cs = drop n cs
+      is ∙ ap (λ cs. old ++ cs) (sym (ap (λ cs. drop (length old) cs) is ∙ drop-append_seam old more))
 
   children_on : (base : Base) → IsFound ahead bases before base → children_by ahead next base ≡ children_by ahead before base ++ newborn_by ahead before row base
   children_on base f = ap (children_of (group_of base)) (log_on base f) ∙ children_append (group_of base) (decided_log ahead base before) (added_by ahead before row base)

@@ -1,5 +1,5 @@
 -- Lists: what several elements give, of which one gives something, and birth records that are found by their names.
-use Rattle.std.proofs.Common.{◌≡◌, true, false, List, [], ◌∷◌, ◌++◌, fold, find, length, drop, Some, None, ◌⊎◌, inl, inr, refl, sym, ◌∙◌, ap, subst, append-nil}
+use Rattle.std.proofs.Common.{◌≡◌, true, false, List, [], ◌∷◌, ◌++◌, fold, find, Some, None, ◌⊎◌, inl, inr, refl, sym, ◌∙◌, ap, subst, append-nil}
 use Rattle.std.specs.List.{flat_map, list_any}
 use Rattle.std.proofs.lemmas.Bool.{cases_Bool, or_left, or_right, or_cases, cond-true, cond-false}
 use Rattle.sc_base.specs.Among.{Among, Each}
@@ -13,11 +13,6 @@ use Rattle.sc_ring_law.proofs.Finds.{Pairwise}
 use Rattle.sc_sound.specs.GroupsOf.{is_birth_of, with_birth}
 
 -- ---- lists
-
--- what stands behind a first part
-pub drop_past : {X : Type 0} (xs ys : List X) → drop (length xs) (xs ++ ys) ≡ ys
-drop_past [] ys = refl
-drop_past (x ∷ xs) ys = drop_past xs ys
 
 -- nothing comes of elements of which nothing comes
 pub flat_map_none : {X Y : Type 0} (f : X → List Y) (xs : List X) → ((x : X) → Among x xs → f x ≡ []) → flat_map f xs ≡ []

@@ -48,8 +48,8 @@ pub fn entries_are_allowed_logs()
 {}
 
 /// What is allowed stays allowed with more rows. So a command that an entry of a group's log makes
-/// allowed, or the group as it stands after a front of its log, is allowed from then on, whoever has
-/// heard of it.
+/// allowed, or the group as it stands after a front of its log, is allowed from then on, whoever
+/// has heard of it.
 pub fn what_logs_allow_stays_allowed()
     ensures stays { AllowedStaysAllowed }
     ensures fronts { FrontsAllow }
@@ -83,9 +83,9 @@ pub fn told_rows_stay()
     ensures { ToldRowsStay }
 {}
 
-/// So a journal whose rows decide in turn is sound, whatever its groups order, split and merge, where
-/// these hold beside: each group has one value per slot, each replica has executed a front of its
-/// group's log, each call was issued before the row that decides it, and each reply was decided
+/// So a journal whose rows decide in turn is sound, whatever its groups order, split and merge,
+/// where these hold beside: each group has one value per slot, each replica has executed a front of
+/// its group's log, each call was issued before the row that decides it, and each reply was decided
 /// before the row that takes it.
 pub fn journals_in_turn_are_sound()
     ensures { JournalsInTurnAreSound }

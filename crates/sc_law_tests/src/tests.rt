@@ -6,12 +6,25 @@ use sc_hist_law::{
     fronts_of_logs_answer_by_history, logs_tell_histories, moves_tell_histories, plans_are_moves,
     quiet_entries_tell_a_legal_history, told_entries_tell_a_legal_history,
 };
+use sc_journal_law::{
+    a_split_decides_in_turn, entries_are_allowed_logs, entries_tell_one_map, groups_allow_others,
+    groups_are_born_under_new_names, history_is_told_by_rows, journals_in_turn_are_sound,
+    rows_decide_for_one_group, told_rows_stay, what_logs_allow_stays_allowed,
+};
+use sc_map_law::allowed_entries_make_one_map;
 use sc_paxos_law::{
     a_lawful_history, acceptors_are_lawful, leaders_are_lawful, one_log, one_value_per_slot,
+};
+use sc_ring_law::{
+    allowed_entries_stay_allowed, allowed_lists_append, draws_are_of_one_log,
+    entries_keep_the_promises, entries_keep_the_ring, merge_is_allowed, split_is_allowed,
 };
 use sc_sound_law::{
     a_journal_of_two_groups, an_election_is_sound, several_journals_are_sound,
     valid_journals_are_sound, valid_scenarios_start_together,
+};
+use sc_split_law::{
+    a_journal_with_a_split, logs_name_one_child, split_journals_are_sound, splits_are_scheduled,
 };
 
 #[test]
@@ -53,4 +66,38 @@ fn the_laws_of_several_groups_are_called() {
     valid_scenarios_start_together();
     valid_journals_are_sound();
     an_election_is_sound();
+}
+
+#[test]
+fn the_laws_of_entries_are_called() {
+    entries_keep_the_ring();
+    entries_keep_the_promises();
+    draws_are_of_one_log();
+    allowed_entries_stay_allowed();
+    allowed_lists_append();
+    allowed_entries_make_one_map();
+    merge_is_allowed();
+    split_is_allowed();
+}
+
+#[test]
+fn the_laws_of_journals_with_births_are_called() {
+    rows_decide_for_one_group();
+    groups_are_born_under_new_names();
+    entries_are_allowed_logs();
+    what_logs_allow_stays_allowed();
+    groups_allow_others();
+    entries_tell_one_map();
+    history_is_told_by_rows();
+    told_rows_stay();
+    journals_in_turn_are_sound();
+    a_split_decides_in_turn();
+}
+
+#[test]
+fn the_laws_of_a_lone_group_that_splits_are_called() {
+    split_journals_are_sound();
+    logs_name_one_child();
+    splits_are_scheduled();
+    a_journal_with_a_split();
 }

@@ -1,16 +1,16 @@
 -- The keys and values of made scenarios are texts.
-use Rattle.std.proofs.Common.{◌≡◌, ℕ, suc, ◌+◌, ◌/◌, ◌%◌, ◌^◌, ◌<◌, ◌≤◌, ◌&&◌, Bool, true, false, not, cond, eqb, leb, ltb, List, [], ◌∷◌, ◌++◌, length, position, None, refl, sym, ap, ap₂, ◌∙◌, arith}
+use Rattle.std.proofs.Common.{◌≡◌, ℕ, ◌+◌, ◌%◌, ◌^◌, ◌<◌, ◌≤◌, ◌&&◌, Bool, true, not, cond, eqb, ltb, List, [], ◌∷◌, length, position, None, refl, ap, ap₂, ◌∙◌, arith}
 use Rattle.std.specs.Option.{option_map}
 use Rattle.std.specs.Fmt.{decimal}
 use Rattle.std.specs.List.{list_all, prefix_len}
 use Rattle.std.proofs.lemmas.Fmt.{decimal_by_steps, length-decimal-le}
 use Rattle.std.proofs.lemmas.Nat.{mod_below}
-use Rattle.std.proofs.lemmas.Bool.{cond-false, le-leb, and_parts, lt-leb, ne_eqb, le-ltb}
+use Rattle.std.proofs.lemmas.Bool.{cond-false, le-leb, and_parts, ne_eqb, le-ltb}
 use Rattle.std.proofs.lemmas.List.Folds.{list_all-append}
 use Rattle.sc_base.specs.Limits.{longest_key, longest_value}
 use Rattle.sc_base.specs.Text.{is_visible}
 use Rattle.sc_base.specs.TextFault.{text_fault}
-use Rattle.sc_base.specs.declared.texts.KeyFault.TheVariants.{BadByte, Empty, TooLong}
+use Rattle.sc_base.specs.declared.texts.KeyFault.TheVariants.{BadByte}
 use Rattle.sc_scenario.specs.Made.{made_key, made_value}
 
 -- ---- visible bytes

@@ -1,5 +1,5 @@
 -- Refusals of orders do not look at the name.
-use Rattle.std.proofs.Common.{◌≡◌, ℕ, Bool, true, false, ◌&&◌, ◌||◌, not, Option, Some, None, refl, ap, is_some, if◌then◌else◌}
+use Rattle.std.proofs.Common.{◌≡◌, ℕ, Bool, true, false, ◌&&◌, ◌||◌, not, Option, Some, None, refl, is_some, if◌then◌else◌}
 use Rattle.sc_base.specs.declared.names.Draw.{Draw}
 use Rattle.sc_base.specs.Drawing.{Drawer}
 use Rattle.sc_cmd.specs.declared.cores.Core.{Core}
@@ -9,7 +9,7 @@ use Rattle.sc_cmd.specs.declared.orders.OrderLine.{OrderLine}
 use Rattle.sc_cmd.specs.declared.orders.OrderRefusal.{OrderRefusal}
 use Rattle.sc_machine_table.specs.Orders.{locked_in, refused_in, refusal_of}
 use Rattle.sc_node_table.specs.Replica.{ReplicaState, settled}
-use Rattle.sc_node_table.specs.Ordering.{ordered_command, takes_name, has_drawn_all, named_refused, first_of_both, untaken}
+use Rattle.sc_node_table.specs.Ordering.{ordered_command, takes_name, has_drawn_all, first_of_both, untaken}
 
 by_lock : (o : Option Draw) (core : Core) (a b : Draw) (number : ℕ) (order : Order) → refused_in o core (ordered_command a number order) ≡ refused_in o core (ordered_command b number order)
 by_lock (Some tx) core a b number order = refl

@@ -1,6 +1,6 @@
 ghost use Rattle.std.specs.Prelude.{[]};
 
-use sc_actor::{Actor, Input, Parcel};
+use sc_actor::{Actor, Input, Line, Parcel};
 use sc_base::{Dup, OutOfMemory, Sequence};
 use sc_exchange::{Look, Spot};
 use sc_sched::{Deed, Storm, deeds_are_rows_of_the_walk};
@@ -82,7 +82,11 @@ const STEPS_OF_SEVEN: [Deed; 4] = [
     Deed::Deliver { who: 33, k: 1 },
     Deed::Deliver { who: 1, k: 2 },
     Deed::Deliver { who: 1, k: 1 },
-    Deed::Drop { number: 4 },
+    Deed::Drop {
+        number: 4,
+        who: 1,
+        k: 1,
+    },
 ];
 
 fn spot(number: u32, who: u32, k: u32) -> Spot {
@@ -151,4 +155,25 @@ fn a_storm_over_nothing_ticks_alone(rt: HostRuntime) {
 #[test]
 fn the_law_of_deeds_is_of_any_actor() {
     deeds_are_rows_of_the_walk::<Silent>();
+}
+
+/// Whether it is the line that lets the k-th pending mail of the actor be lost.
+fn is_loss(line: &Option<Line<u32>>, actor: u32, place: u32) -> bool {
+    match line {
+        Some(Line::Drop { who, k }) => *who == actor && *k == place,
+        _ => false,
+    }
+}
+
+#[test]
+fn each_deed_is_a_line(rt: HostRuntime) {
+    let lost = Deed::Drop {
+        number: 4,
+        who: 1,
+        k: 2,
+    }
+    .line();
+    assert!(rt; is_loss(&lost, 1, 2));
+    let none: Option<Line<u32>> = Deed::Nothing.line();
+    assert!(rt; none.is_none());
 }

@@ -1,7 +1,6 @@
 -- One round over nodes, and over the open slots.
-use Rattle.std.proofs.Common.{◌≡◌, ℕ, ◌+◌, ◌-◌, ◌<◌, ◌≤◌, Bool, true, false, List, [], ◌∷◌, ◌++◌, length, filter, drop, zero, suc, add-one, add-suc, refl, ap, sym, ◌∙◌, arith, if◌then◌else◌, ◌||◌, nat_lt, slice_get, get_or, is_some, Option, Some, None}
-use Rattle.std.proofs.Math.Seq.{append_snoc}
-use Rattle.std.proofs.lemmas.List.{append-nil, drop_all}
+use Rattle.std.proofs.Common.{◌≡◌, ℕ, ◌+◌, ◌-◌, ◌<◌, ◌≤◌, Bool, true, false, List, [], ◌∷◌, ◌++◌, length, drop, suc, add-one, add-suc, refl, ap, sym, ◌∙◌, arith, ◌||◌, get_or, is_some, Option, Some, None}
+use Rattle.std.proofs.lemmas.List.{drop_all}
 use Rattle.sc_base.specs.declared.names.Draw.{Draw}
 use Rattle.sc_cmd.specs.declared.commands.Command.{Command}
 use Rattle.sc_mail.specs.declared.bodies.AnswerBody.{AnswerBody}
@@ -9,14 +8,13 @@ use Rattle.sc_mail.specs.declared.bodies.Mail.{Mail}
 use Rattle.sc_node_table.specs.Slots.{numbers_from}
 use Rattle.sc_node_table.specs.Replica.{ReplicaState, Place, name_of, flying, taken_at, taken_from, listed, next}
 use Rattle.sc_mail.specs.declared.bodies.MailBody.TheVariants.{Accept, Learn}
-use Rattle.sc_paxos_words.specs.Logs.{LogState, entry_at, next_of}
+use Rattle.sc_paxos_words.specs.Logs.{entry_at}
 use Rattle.sc_node_table.specs.Mails.{sent, sent_all, answered, answered_all}
 use Rattle.sc_node_table.specs.Pump.{pumped_from}
 use Rattle.sc_node_table.specs.Rows.{uncounted, asked_again, taught}
 use Rattle.sc_replica.specs.Again.{asked_for, asked_at}
 use Rattle.std.specs.List.{list_any}
-use Rattle.std.proofs.lemmas.Option.{slice_get_within}
-use Rattle.std.proofs.Math.Seq.{drop-cons, drop-nil}
+use Rattle.std.proofs.Math.Seq.{drop-cons}
 
 -- what is in flight or ready from one of the open slots on
 abbrev pub left_from : ReplicaState → ℕ → List Command

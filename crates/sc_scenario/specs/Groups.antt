@@ -1,5 +1,5 @@
 -- The groups' lines, and their records: group 0.k is of the k-th line, and the groups stand round the circle in this order.
-use Rattle.std.specs.Prelude.{ℕ, zero, suc, ◌^◌, ◌+◌, ◌-◌, ◌==◌, ◌||◌, nat_le, Bool, false, List, [], ◌∷◌, ◌++◌, get_or, length, map, is_none, Option, Some, None, if◌then◌else◌, option_and_then}
+use Rattle.std.specs.Prelude.{ℕ, zero, suc, ◌^◌, ◌+◌, ◌-◌, ◌==◌, ◌||◌, nat_le, Bool, false, List, [], ◌∷◌, ◌++◌, get_or, length, is_none, Option, Some, None, if◌then◌else◌, option_and_then}
 use Rattle.std.specs.List.{list_any}
 use Rattle.sc_base.specs.Limits.{most_nodes}
 use Rattle.sc_base.specs.Arc.{Arc}

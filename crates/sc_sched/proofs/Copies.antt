@@ -15,24 +15,27 @@ use Rattle.sc_actor.specs.System.{System, waiting, numbers_of}
 use Rattle.sc_ledger.specs.declared.spots.Spot.{Spot}
 use Rattle.sc_ledger.specs.Pending.{upto, pending_of}
 use Rattle.sc_ledger.specs.Spots.{spot_after, spots_from, spots_of}
-use Rattle.sc_sched.specs.Deeds.{is_actor, copies_for}
+use Rattle.sc_sched.specs.Deeds.{is_one_of, copies_for}
 use Rattle.sc_sched.specs.Laws.{AreWithin}
 
 -- what holds of each holds of the one at a place
 pub all_at : {X : Type 0} (P : X → Type 0) (xs : List X) (i : ℕ) (x : X) → All P xs → slice_get xs i ≡ Some x → P x
 all_at P xs i x all e = subst P (get_or_from_slice_get xs i x x e) (all i x (slice_get_within xs i x e))
 
-filter_same : (t : ℕ → Bool) (c n : ℕ) (q : Bool) → t n ≡ q → filter t (replicate c n) ≡ cond q (replicate c n) []
-filter_same t zero n true e = refl
-filter_same t zero n false e = refl
-filter_same t (suc c) n true e = rw e (ap (λ l. n ∷ l) (filter_same t c n true e))
-filter_same t (suc c) n false e = rw e (filter_same t c n false e)
+all_kept : (t : ℕ → Bool) (c n : ℕ) → t n ≡ true → filter t (replicate c n) ≡ replicate c n
+all_kept t zero n e = refl
+all_kept t (suc c) n e = rw e (ap (λ l. n ∷ l) (all_kept t c n e))
 
-filter_if : (t : ℕ → Bool) (b : Bool) (c n : ℕ) (q : Bool) → t n ≡ q → filter t (cond b (replicate c n) []) ≡ cond (q && b) (replicate c n) []
-filter_if t true c n true e = filter_same t c n true e
-filter_if t true c n false e = filter_same t c n false e
-filter_if t false c n true e = refl
-filter_if t false c n false e = refl
+none_kept : (t : ℕ → Bool) (c n : ℕ) → t n ≡ false → filter t (replicate c n) ≡ []
+none_kept t zero n e = refl
+none_kept t (suc c) n e = rw e (none_kept t c n e)
+
+-- the copies of one number, where one test let them in and another asks too
+kept_copies : (t : ℕ → Bool) (c n : ℕ) (asked let_in both : Bool) → t n ≡ asked → both ≡ (asked && let_in) → filter t (cond let_in (replicate c n) []) ≡ cond both (replicate c n) []
+kept_copies t c n true true both e f = all_kept t c n e ∙ ap (λ b. cond b (replicate c n) []) (sym f)
+kept_copies t c n true false both e f = ap (λ b. cond b (replicate c n) []) (sym f)
+kept_copies t c n false true both e f = none_kept t c n e ∙ ap (λ b. cond b (replicate c n) []) (sym f)
+kept_copies t c n false false both e f = ap (λ b. cond b (replicate c n) []) (sym f)
 
 next_place : (first j : ℕ) → suc first + j ≡ first + suc j
 next_place first j = omega arith
@@ -44,7 +47,7 @@ module _ {M : Type 0} (t : ℕ → Bool) (asks p q : M → Bool) (narrower : (m 
   filter_numbers first (m ∷ sent) [] tells = refl
   filter_numbers first (m ∷ sent) (c ∷ counts) tells =
       let here : t first ≡ asks m = ap t (sym (add-zero first)) ∙ tells 0 m refl in
-      let one : filter t (cond (p m) (replicate c first) []) ≡ cond (q m) (replicate c first) [] = filter_if t (p m) c first (asks m) here ∙ ap (λ b. cond b (replicate c first) []) (sym (narrower m)) in
+      let one : filter t (cond (p m) (replicate c first) []) ≡ cond (q m) (replicate c first) [] = kept_copies t c first (asks m) (p m) (q m) here (narrower m) in
       let more : filter t (numbers p (suc first) sent counts) ≡ numbers q (suc first) sent counts = filter_numbers (suc first) sent counts (λ j x e. ap t (next_place first j) ∙ tells (suc j) x e) in
       filter-append t (cond (p m) (replicate c first) []) (numbers p (suc first) sent counts) ∙ (λ i. one i ++ more i)
 
@@ -62,17 +65,17 @@ module _ (actors receivers : List ℕ) where
   one_copy s number rest false e = refl
 
   numbered_from : (rest : List ℕ) (done : List Spot) →
-      map (λ (s : Spot). s.number) (copies_for actors (fold step done rest)) ≡ map (λ (s : Spot). s.number) (copies_for actors done) ++ filter (λ n. is_actor actors (to n)) rest
+      map (λ (s : Spot). s.number) (copies_for actors (fold step done rest)) ≡ map (λ (s : Spot). s.number) (copies_for actors done) ++ filter (λ n. is_one_of actors (to n)) rest
   numbered_from [] done = sym (append_nil (map (λ (s : Spot). s.number) (copies_for actors done)))
     where
       append_nil : (xs : List ℕ) → xs ++ [] ≡ xs
       append_nil [] = refl
       append_nil (x ∷ xs) = ap (λ l. x ∷ l) (append_nil xs)
   numbered_from (n ∷ rest) done =
-      let f : Spot → Bool = λ s. is_actor actors s.who in
+      let f : Spot → Bool = λ s. is_one_of actors s.who in
       let num : Spot → ℕ = λ s. s.number in
       let s = spot_after receivers done n in
-      let t : ℕ → Bool = λ k. is_actor actors (to k) in
+      let t : ℕ → Bool = λ k. is_one_of actors (to k) in
       numbered_from rest (done ++ s ∷ [])
       ∙ (ap (λ l. map num l ++ filter t rest) (filter-append f done (s ∷ []))
       ∙ (ap (λ l. l ++ filter t rest) (map-append num (filter f done) (filter f (s ∷ [])))
@@ -80,7 +83,7 @@ module _ (actors receivers : List ℕ) where
       ∙ ap (λ l. map num (filter f done) ++ l) (one_copy s n (filter t rest) (t n) refl))))
 
   -- the numbers of the copies for the actors
-  pub numbers_are : (all : List ℕ) → map (λ (s : Spot). s.number) (copies_for actors (spots_from receivers all)) ≡ filter (λ n. is_actor actors (to n)) all
+  pub numbers_are : (all : List ℕ) → map (λ (s : Spot). s.number) (copies_for actors (spots_from receivers all)) ≡ filter (λ n. is_one_of actors (to n)) all
   numbers_are all = numbered_from all []
 
   abbrev Told : Spot → Type 0
@@ -111,24 +114,24 @@ any_append p (x ∷ xs) ys = by (p x) (any_append p xs ys)
     by false more = more
 
 -- the numbers of an exchange
-pub upto_has : (n r : ℕ) → 0 < r → r ≤ n → is_actor (upto n) r ≡ true
+pub upto_has : (n r : ℕ) → 0 < r → r ≤ n → is_one_of (upto n) r ≡ true
 upto_has zero r some le = absurd (omega arith)
 upto_has (suc n) r some le = any_append (λ a. eqb a r) (upto n) (suc n ∷ []) ∙ by (eqb (suc n) r) refl (upto_has n r some)
   where
-    by : (b : Bool) → eqb (suc n) r ≡ b → (r ≤ n → is_actor (upto n) r ≡ true) → (is_actor (upto n) r || (eqb (suc n) r || false)) ≡ true
-    by true same rest = or_other (is_actor (upto n) r) (eqb (suc n) r || false) (or_true (eqb (suc n) r) false same)
-    by false same rest = or_true (is_actor (upto n) r) (eqb (suc n) r || false) (rest (omega (arith, le, other)))
+    by : (b : Bool) → eqb (suc n) r ≡ b → (r ≤ n → is_one_of (upto n) r ≡ true) → (is_one_of (upto n) r || (eqb (suc n) r || false)) ≡ true
+    by true same rest = or_other (is_one_of (upto n) r) (eqb (suc n) r || false) (or_true (eqb (suc n) r) false same)
+    by false same rest = or_true (is_one_of (upto n) r) (eqb (suc n) r || false) (rest (omega (arith, le, other)))
       where
         other : r ≢ suc n
         other = λ e. false≢true (sym same ∙ eq-eqb (suc n) r (sym e))
 
 module _ {A : Type 0} (n : ℕ) where
   -- an actor's number is one of those
-  pub within : (births : List (Seat A)) (r : ℕ) → AreWithin n births → is_actor (numbers_of births) r ≡ true → (0 < r) × (r ≤ n)
+  pub within : (births : List (Seat A)) (r : ℕ) → AreWithin n births → is_one_of (numbers_of births) r ≡ true → (0 < r) × (r ≤ n)
   within [] r all e = absurd (false≢true e)
   within (b ∷ births) r all e = by (eqb b.who r) refl e (within births r (λ k d lt. all (suc k) d (omega (arith, lt))))
     where
-      by : (q : Bool) → eqb b.who r ≡ q → (q || is_actor (numbers_of births) r) ≡ true → (is_actor (numbers_of births) r ≡ true → (0 < r) × (r ≤ n)) → (0 < r) × (r ≤ n)
+      by : (q : Bool) → eqb b.who r ≡ q → (q || is_one_of (numbers_of births) r) ≡ true → (is_one_of (numbers_of births) r ≡ true → (0 < r) × (r ≤ n)) → (0 < r) × (r ≤ n)
       by true same some more = subst (λ v. (0 < v) × (v ≤ n)) (eqb-true b.who r same) (all 0 b (omega arith))
       by false same some more = more some
 
@@ -144,10 +147,10 @@ module _ {A M O : Type 0} (s : System A M O) (n : ℕ) (rows : List (Row M O)) (
   minus_one : (j : ℕ) → 1 + j - 1 ≡ j
   minus_one j = omega arith
 
-  split : (m : M) → is_for s.receiver (numbers_of s.births) rows None m ≡ (is_actor (numbers_of s.births) (s.receiver m) && is_for s.receiver (upto n) rows None m)
-  split m = by (is_actor (numbers_of s.births) (s.receiver m)) refl
+  split : (m : M) → is_for s.receiver (numbers_of s.births) rows None m ≡ (is_one_of (numbers_of s.births) (s.receiver m) && is_for s.receiver (upto n) rows None m)
+  split m = by (is_one_of (numbers_of s.births) (s.receiver m)) refl
     where
-      by : (b : Bool) → is_actor (numbers_of s.births) (s.receiver m) ≡ b → (b && not (has_crashed rows (s.receiver m))) ≡ (b && (is_actor (upto n) (s.receiver m) && not (has_crashed rows (s.receiver m))))
+      by : (b : Bool) → is_one_of (numbers_of s.births) (s.receiver m) ≡ b → (b && not (has_crashed rows (s.receiver m))) ≡ (b && (is_one_of (upto n) (s.receiver m) && not (has_crashed rows (s.receiver m))))
       by false is = refl
       by true is = let bounds = within n s.births (s.receiver m) inside is in ap (λ b. b && not (has_crashed rows (s.receiver m))) (sym (upto_has n (s.receiver m) bounds.0 bounds.1))
 
@@ -155,9 +158,9 @@ module _ {A M O : Type 0} (s : System A M O) (n : ℕ) (rows : List (Row M O)) (
   pub waiting_is : (spots : List Spot) → spots ≡ spots_of s.receiver n rows → waiting s rows None ≡ map (λ (x : Spot). x.number) (copies_for (numbers_of s.births) spots)
   waiting_is spots is =
       let actors = numbers_of s.births in
-      let t : ℕ → Bool = λ k. is_actor actors (get_or receivers (k - 1) 0) in
-      let asks : M → Bool = λ m. is_actor actors (s.receiver m) in
-      let tells : (j : ℕ) (m : M) → slice_get (mails rows) j ≡ Some m → t (1 + j) ≡ asks m = λ j m e. ap (is_actor actors) (ap (λ k. get_or receivers k 0) (minus_one j) ∙ receiver_is j m e) in
+      let t : ℕ → Bool = λ k. is_one_of actors (get_or receivers (k - 1) 0) in
+      let asks : M → Bool = λ m. is_one_of actors (s.receiver m) in
+      let tells : (j : ℕ) (m : M) → slice_get (mails rows) j ≡ Some m → t (1 + j) ≡ asks m = λ j m e. ap (is_one_of actors) (ap (λ k. get_or receivers k 0) (minus_one j) ∙ receiver_is j m e) in
       sym (ap (λ l. map (λ (x : Spot). x.number) (copies_for actors l)) is
       ∙ (numbers_are actors receivers (pending_of s.receiver n rows 0)
       ∙ filter_numbers t asks (is_for s.receiver (upto n) rows None) (is_for s.receiver actors rows None) split 1 (mails rows) (copies rows) tells))

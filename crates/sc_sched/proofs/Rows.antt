@@ -17,7 +17,7 @@ use Rattle.sc_ledger.specs.declared.spots.Spot.{Spot}
 use Rattle.sc_ledger.specs.declared.spots.Look.{Look}
 use Rattle.sc_ledger.specs.Pending.{upto, pending_of, kth_pending}
 use Rattle.sc_exchange.specs.Answers.{IsLook}
-use Rattle.sc_sched.specs.Deeds.{is_actor, copies_for, picked_spot, dropped, delivered, ticked, repeated, deed_by}
+use Rattle.sc_sched.specs.Deeds.{is_one_of, copies_for, picked_spot, copy_lost, copy_delivered, clock_ticked, mail_repeated, deed_by}
 use Rattle.sc_sched.specs.Laws.{deed_row, AreWithin}
 use Rattle.sc_sched.proofs.Copies.{all_at, told, within, upto_has, receivers, receiver_is, waiting_is}
 
@@ -61,14 +61,14 @@ module _ {A M O : Type 0} (s : System A M O) (n : ℕ) (rows : List (Row M O)) (
     goes_to =
         let all : All (λ (x : Spot). x.who ≡ get_or (receivers s n rows inside) (x.number - 1) 0) look.pending =
         subst (All (λ (x : Spot). x.who ≡ get_or (receivers s n rows inside) (x.number - 1) 0)) (sym is.spots) (told actors (receivers s n rows inside) (pending_of s.receiver n rows 0)) in
-        all_at (λ (x : Spot). x.who ≡ get_or (receivers s n rows inside) (x.number - 1) 0) mine (v % length mine) spot (All-filter (λ (x : Spot). is_actor actors x.who) (λ (x : Spot). x.who ≡ get_or (receivers s n rows inside) (x.number - 1) 0) look.pending all) found
+        all_at (λ (x : Spot). x.who ≡ get_or (receivers s n rows inside) (x.number - 1) 0) mine (v % length mine) spot (All-filter (λ (x : Spot). is_one_of actors x.who) (λ (x : Spot). x.who ≡ get_or (receivers s n rows inside) (x.number - 1) 0) look.pending all) found
         ∙ receiver_is s n rows inside (spot.number - 1) way.0 (sent_at (mails rows) spot.number way.0 way.1.sent)
 
-    among : is_actor actors spot.who ≡ true
-    among = ap (is_actor actors) goes_to ∙ (and_parts (is_actor actors (s.receiver way.0)) (not (has_crashed rows (s.receiver way.0))) way.1.may).0
+    among : is_one_of actors spot.who ≡ true
+    among = ap (is_one_of actors) goes_to ∙ (and_parts (is_one_of actors (s.receiver way.0)) (not (has_crashed rows (s.receiver way.0))) way.1.may).0
 
     its_kth : kth_pending s.receiver n rows spot.who spot.k ≡ Some spot.number
-    its_kth = all_at (λ (x : Spot). kth_pending s.receiver n rows x.who x.k ≡ Some x.number) mine (v % length mine) spot (All-filter (λ (x : Spot). is_actor actors x.who) (λ (x : Spot). kth_pending s.receiver n rows x.who x.k ≡ Some x.number) look.pending is.each) found
+    its_kth = all_at (λ (x : Spot). kth_pending s.receiver n rows x.who x.k ≡ Some x.number) mine (v % length mine) spot (All-filter (λ (x : Spot). is_one_of actors x.who) (λ (x : Spot). kth_pending s.receiver n rows x.who x.k ≡ Some x.number) look.pending is.each) found
 
     own_kth : kth (waiting s rows (Some spot.who)) spot.k ≡ Some spot.number
     own_kth = by spot.who refl its_kth
@@ -79,40 +79,40 @@ module _ {A M O : Type 0} (s : System A M O) (n : ℕ) (rows : List (Row M O)) (
         by : (who : ℕ) → spot.who ≡ who → kth_pending s.receiver n rows who spot.k ≡ Some spot.number → kth (waiting s rows (Some spot.who)) spot.k ≡ Some spot.number
         by zero e k = absurd (let some = bounds.0 in omega (arith, e, some))
         by (suc w) e k =
-            let wide : is_actor (upto n) (suc w) ≡ true = upto_has n (suc w) (omega arith) (subst (λ v. v ≤ n) e bounds.1) in
-            let own : is_actor actors (suc w) ≡ true = ap (is_actor actors) (sym e) ∙ among in
+            let wide : is_one_of (upto n) (suc w) ≡ true = upto_has n (suc w) (omega arith) (subst (λ v. v ≤ n) e bounds.1) in
+            let own : is_one_of actors (suc w) ≡ true = ap (is_one_of actors) (sym e) ∙ among in
             ap (λ who. kth (waiting s rows (Some who)) spot.k) e
             ∙ ((λ i. kth (numbers (λ m. eqb (s.receiver m) (suc w) && ((own ∙ sym wide) i && not (has_crashed rows (suc w)))) 1 (mails rows) (copies rows)) spot.k) ∙ k)
 
     -- the row of its delivery
-    delivers : delivery s rows spot.number ≡ deed_row s rows (delivered (Some spot))
+    delivers : delivery s rows spot.number ≡ deed_row s rows (copy_delivered (Some spot))
     delivers =
         ap (option_and_then (λ m. acts s rows (s.receiver m) (Deliver spot.number))) way.1.sent
         ∙ (ap (λ who. acts s rows who (Deliver spot.number)) (sym goes_to) ∙ sym (ap (option_and_then (λ mail. acts s rows spot.who (Deliver mail))) own_kth))
 
-  drops_by : (o : Option Spot) → option_map (λ mail. network {M = M} {O = O} (Drop mail)) (option_map (λ (x : Spot). x.number) o) ≡ deed_row s rows (dropped o)
-  drops_by None = refl
-  drops_by (Some spot) = refl
+  drops_by : (v : ℕ) (o : Option Spot) → picked_spot mine v ≡ o → option_map (λ mail. network {M = M} {O = O} (Drop mail)) (option_map (λ (x : Spot). x.number) o) ≡ deed_row s rows (copy_lost o)
+  drops_by v None e = refl
+  drops_by v (Some spot) e = sym (ap (option_map (λ mail. network (Drop mail))) (own_kth v spot e))
 
-  delivers_by : (v : ℕ) (o : Option Spot) → picked_spot mine v ≡ o → option_and_then (delivery s rows) (option_map (λ (x : Spot). x.number) o) ≡ deed_row s rows (delivered o)
+  delivers_by : (v : ℕ) (o : Option Spot) → picked_spot mine v ≡ o → option_and_then (delivery s rows) (option_map (λ (x : Spot). x.number) o) ≡ deed_row s rows (copy_delivered o)
   delivers_by v None e = refl
   delivers_by v (Some spot) e = delivers v spot e
 
-  ticks_by : (o : Option ℕ) → option_and_then (λ who. cond (has_crashed rows who) None (acts s rows who Tick)) o ≡ deed_row s rows (ticked o)
+  ticks_by : (o : Option ℕ) → option_and_then (λ who. cond (has_crashed rows who) None (acts s rows who Tick)) o ≡ deed_row s rows (clock_ticked o)
   ticks_by None = refl
   ticks_by (Some who) = refl
 
-  repeats : (v : ℕ) → repeat_of s rows (1 + v % length (mails rows)) ≡ deed_row s rows (repeated look.sent v)
+  repeats : (v : ℕ) → repeat_of s rows (1 + v % length (mails rows)) ≡ deed_row s rows (mail_repeated look.sent v)
   repeats v = by (eqb look.sent 0) refl
     where
-      by : (b : Bool) → eqb look.sent 0 ≡ b → repeat_of s rows (1 + v % length (mails rows)) ≡ deed_row s rows (repeated look.sent v)
+      by : (b : Bool) → eqb look.sent 0 ≡ b → repeat_of s rows (1 + v % length (mails rows)) ≡ deed_row s rows (mail_repeated look.sent v)
       by true e =
           let empty : length (mails rows) ≡ 0 = sym is.sent ∙ eqb-true look.sent 0 e in
           rw e (ap (option_and_then _) (none_at (mails rows) (1 + v % length (mails rows)) empty))
       by false e = rw e (ap (λ k. repeat_of s rows (1 + v % k)) (sym is.sent))
 
   by_kind : (kind v : ℕ) → storm_row s rows kind v ≡ deed_row s rows (deed_by actors look kind v)
-  by_kind zero v = ap (option_map (λ mail. network (Drop mail))) (same_pick v) ∙ drops_by (picked_spot mine v)
+  by_kind zero v = ap (option_map (λ mail. network (Drop mail))) (same_pick v) ∙ drops_by v (picked_spot mine v) refl
   by_kind (suc zero) v = repeats v
   by_kind (suc (suc zero)) v = ticks_by (slice_get actors (v % length actors))
   by_kind (suc (suc (suc more))) v = ap (option_and_then (delivery s rows)) (same_pick v) ∙ delivers_by v (picked_spot mine v) refl

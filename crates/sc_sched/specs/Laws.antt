@@ -1,24 +1,17 @@
 -- The rows that deeds make.
-use Rattle.std.specs.Prelude.{◌≡◌, ℕ, ◌%◌, ◌<◌, ◌≤◌, List, Option, Some, None, All}
+use Rattle.std.specs.Prelude.{◌≡◌, ℕ, ◌%◌, ◌<◌, ◌≤◌, List, Option, All, option_and_then}
 use Rattle.sc_actor.specs.declared.rows.Row.{Row}
-use Rattle.sc_actor.specs.declared.rows.Event.TheVariants.{Drop}
 use Rattle.sc_actor.specs.declared.actors.Seat.{Seat}
-use Rattle.sc_actor.specs.declared.schedules.Line.TheVariants.{Again as AgainLine, Tick as TickLine, Deliver as DeliverLine}
-use Rattle.sc_actor.specs.System.{System, numbers_of, network}
+use Rattle.sc_actor.specs.System.{System, numbers_of}
 use Rattle.sc_actor.specs.Walk.{line_row, storm_row}
 use Rattle.sc_ledger.specs.declared.spots.Look.{Look}
 use Rattle.sc_exchange.specs.Answers.{IsLook}
 use Rattle.sc_sched.specs.declared.deeds.Deed.{Deed}
-use Rattle.sc_sched.specs.declared.deeds.Deed.TheVariants as Does
-use Rattle.sc_sched.specs.Deeds.{deed_of}
+use Rattle.sc_sched.specs.Deeds.{deed_of, deed_line}
 
--- the row that a deed makes, or none: but for a loss it is that of a line of one row
+-- the row of a deed, or none: that of its line
 abbrev pub deed_row : {A M O : Type 0} → System A M O → List (Row M O) → Deed → Option (Row M O)
-deed_row s rows (Does.Drop number) = Some (network (Drop number))
-deed_row s rows (Does.Again number) = line_row s rows (AgainLine number)
-deed_row s rows (Does.Tick who) = line_row s rows (TickLine who)
-deed_row s rows (Does.Deliver who k) = line_row s rows (DeliverLine who k)
-deed_row s rows Does.Nothing = None
+deed_row s rows deed = option_and_then (line_row s rows) (deed_line deed)
 
 -- the actors have numbers from 1 to n
 abbrev pub AreWithin : {A : Type 0} → ℕ → List (Seat A) → Type 0

@@ -1,14 +1,16 @@
 //! What a step of a storm does.
 ghost use Rattle.std.specs.Prelude.{◌≡◌, ◌<◌, ◌%◌, length, slice_get};
-ghost use Rattle.sc_sched.specs.Deeds.{is_actor, copies_for, picked_spot, dropped, delivered, ticked, repeated, deed_by};
+ghost use Rattle.sc_sched.specs.Deeds.{is_one_of, copies_for, picked_spot, copy_lost, copy_delivered, clock_ticked, mail_repeated, deed_by, deed_line};
 
+use sc_actor::Line;
 use sc_exchange::{Look, Spot};
 
 /// What a step of a storm does.
 #[derive(Clone, Copy, Debug, PartialEq, Eq)]
 pub enum Deed {
-    /// A pending copy of the mail with this number is lost.
-    Drop { number: u32 },
+    /// A pending copy of the mail with this number is lost: the k-th pending mail of the actor,
+    /// counted from 1.
+    Drop { number: u32, who: u32, k: u32 },
     /// The mail with this number is repeated, if its receiver may get it.
     Again { number: u32 },
     /// The clock of the actor ticks, unless it has crashed.
@@ -20,20 +22,36 @@ pub enum Deed {
     Nothing,
 }
 
+impl Deed {
+    /// The line of one row that it is. A storm's step makes the row of that line, if the line makes
+    /// one.
+    pub fn line<O>(self) -> Option<Line<O>>
+        ensures { result ≡ deed_line self }
+    {
+        match self {
+            Deed::Drop { number: _, who, k } => Some(Line::Drop { who, k }),
+            Deed::Again { number } => Some(Line::Again { mail: number }),
+            Deed::Tick { who } => Some(Line::Tick { who }),
+            Deed::Deliver { who, k } => Some(Line::Deliver { who, k }),
+            Deed::Nothing => None,
+        }
+    }
+}
+
 /// The deed by the first word modulo 16, and by the second.
 pub(crate) fn deed_by(look: &Look, actors: &[u32], kind: u32, word: u32) -> Deed
     ensures { result ≡ deed_by actors.now look.now kind word }
 {
     match kind {
-        0 => dropped(picked(look.pending.as_slice(), actors, word)),
-        1 => repeated(look.sent, word),
-        2 => ticked(actors, word),
-        _ => delivered(picked(look.pending.as_slice(), actors, word)),
+        0 => copy_lost(picked(look.pending.as_slice(), actors, word)),
+        1 => mail_repeated(look.sent, word),
+        2 => clock_ticked(actors, word),
+        _ => copy_delivered(picked(look.pending.as_slice(), actors, word)),
     }
 }
 
-fn is_actor(actors: &[u32], who: u32) -> bool
-    ensures { result ≡ is_actor actors.now who }
+fn is_one_of(actors: &[u32], who: u32) -> bool
+    ensures { result ≡ is_one_of actors.now who }
 {
     actors.iter().any(|actor| *actor == who)
 }
@@ -43,7 +61,7 @@ fn count_for(actors: &[u32], spots: &[Spot]) -> usize
 {
     spots
         .iter()
-        .filter(|spot| is_actor(actors, spot.who))
+        .filter(|spot| is_one_of(actors, spot.who))
         .count()
 }
 
@@ -53,7 +71,7 @@ fn nth_for(actors: &[u32], spots: &[Spot], n: usize) -> Option<Spot>
     spots
         .iter()
         .copied()
-        .filter(|spot| is_actor(actors, spot.who))
+        .filter(|spot| is_one_of(actors, spot.who))
         .nth(n)
 }
 
@@ -68,19 +86,21 @@ fn picked(spots: &[Spot], actors: &[u32], word: u32) -> Option<Spot>
     nth_for(actors, spots, word as usize % many)
 }
 
-fn dropped(spot: Option<Spot>) -> Deed
-    ensures { result ≡ dropped spot }
+fn copy_lost(spot: Option<Spot>) -> Deed
+    ensures { result ≡ copy_lost spot }
 {
     match spot {
         None => Deed::Nothing,
         Some(spot) => Deed::Drop {
             number: spot.number,
+            who: spot.who,
+            k: spot.k,
         },
     }
 }
 
-fn delivered(spot: Option<Spot>) -> Deed
-    ensures { result ≡ delivered spot }
+fn copy_delivered(spot: Option<Spot>) -> Deed
+    ensures { result ≡ copy_delivered spot }
 {
     match spot {
         None => Deed::Nothing,
@@ -91,8 +111,8 @@ fn delivered(spot: Option<Spot>) -> Deed
     }
 }
 
-fn repeated(sent: u32, word: u32) -> Deed
-    ensures { result ≡ repeated sent word }
+fn mail_repeated(sent: u32, word: u32) -> Deed
+    ensures { result ≡ mail_repeated sent word }
 {
     if sent == 0 {
         return Deed::Nothing;
@@ -102,8 +122,8 @@ fn repeated(sent: u32, word: u32) -> Deed
     }
 }
 
-fn ticked(actors: &[u32], word: u32) -> Deed
-    ensures { result ≡ ticked (slice_get actors.now (word % length actors.now)) }
+fn clock_ticked(actors: &[u32], word: u32) -> Deed
+    ensures { result ≡ clock_ticked (slice_get actors.now (word % length actors.now)) }
 {
     if actors.is_empty() {
         return Deed::Nothing;

@@ -8,7 +8,7 @@ ghost use Rattle.sc_sched.specs.Laws.{MakesItsRow};
 
 use sc_actor::Actor;
 
-/// The deed of a storm's step makes the row that the walk has for that step, and none where the
+/// The line of a step's deed makes the row that the walk has for that step, and none where the
 /// walk has none.
 pub fn deeds_are_rows_of_the_walk<A: Actor>()
     ensures { (draws : ℕ → ℕ → ℕ × ℕ) (births : List (Seat A)) (actors : ℕ)

@@ -1,4 +1,5 @@
 pub mod ToldOnce
+pub mod Circle
 pub mod Dividing
 pub mod Made
 pub mod Kids

@@ -20,7 +20,7 @@ use Rattle.sc_ring_law.specs.Laws.{BeginInPlace, BeginsInPlace}
 use Rattle.sc_ring_law.specs.Stories.{Stories}
 use Rattle.sc_group_law.proofs.Places.{Journal}
 use Rattle.sc_sound_law.specs.Together.{IsRequested}
-use Rattle.sc_sound_law.proofs.Circle.{ends_at_start, alone_covers}
+use Rattle.sc_split_law.proofs.Circle.{ends_at_start, alone_covers}
 use Rattle.sc_sound_law.proofs.Groups.{not_same}
 use Rattle.sc_sound_law.proofs.Requests.{request_of, request_once}
 use Rattle.sc_split_law.specs.LoneSplit.{HasLoneSplit}

@@ -33,7 +33,6 @@ use Rattle.sc_sound.specs.Logs.{decided_log, decided_state}
 use Rattle.sc_sound.specs.Requests.{IsRequest, kept_replies, kept_reply, answer_row}
 use Rattle.sc_sound.specs.Soundness.{GoesOn, HasOneLog, HasRun, AllHaveRun, IsOneMap, AnswersRequests, told_row, IsTimely, KeepsRealTime, IsSound}
 use Rattle.sc_group_law.specs.Groups.{AreApart}
-use Rattle.sc_group_law.specs.Told.{HasExecuted}
 use Rattle.sc_group_law.proofs.Clients.{IsAnswered}
 use Rattle.sc_group_law.proofs.Family.{h_of, Kept}
 use Rattle.sc_group_law.proofs.Holding.{held}
@@ -43,7 +42,6 @@ use Rattle.sc_group_law.proofs.Orders.{IsToldSo, told_induction}
 use Rattle.sc_group_law.proofs.Places.{Journal}
 use Rattle.sc_group_law.proofs.Replicated.{one_value, is_log, executed_is, goes_on}
 use Rattle.sc_sound_law.proofs.Groups.{find_birth}
-use Rattle.sc_sound_law.proofs.Placing.{in_place}
 use Rattle.sc_sound_law.proofs.Sound.{same_first, one_place}
 use Rattle.sc_sound_law.proofs.Tellings.{told_in_order}
 use Rattle.sc_sound_law.specs.Together.{IsRequested}
@@ -203,15 +201,12 @@ module _ (ahead : Ahead) (words : ℕ → ℕ → ℕ × ℕ) (any : Scenario) (
         ∙ ap (λ log. Some (state_after (group_of b) log)) born.kid_log
         ∙ sym (ap (option_map (λ (c : Base). decided_state ahead c rows)) found)
 
-    has_run : (b : Base) (r : ReplicaState) → HasExecuted ahead b rows r → HasRun ahead b rows r
-    has_run b r h = record { count = h.count; within = h.within; next_is = h.next_is; entries = h.entries; group_is = h.group_is }
-
     node_has_run : (n : ℕ) (node : NodeState) → IsNode ahead (bases rows g) (MadeSplit scenario rows) (h_of rows) n node → (r : ReplicaState) → Among r node.replicas
         → (b : Base) × Among b (groups_at ahead one rows) × (b.core.id ≡ name_of r) × HasRun ahead b rows r
     node_has_run n node at r a =
         let (b, among, named) = Each-among (λ s. IsOneOf (bases rows g) (name_of s)) node.replicas r at.known a in
         let replica = held ahead b (MadeSplit scenario rows b) n (h_of rows b) node.replicas (at.holds b among) r a named in
-        (b, subst (Among b) (sym (groups_of rows g)) among, sym named, has_run b r (executed_is ahead b rows (k.parts b among).lawful (MadeSplit scenario rows b) n r replica))
+        (b, subst (Among b) (sym (groups_of rows g)) among, sym named, executed_is ahead b rows (k.parts b among).lawful (MadeSplit scenario rows b) n r replica)
 
     have_run : AllHaveRun ahead scenario rows
     have_run n low high node is r a =
@@ -225,7 +220,7 @@ module _ (ahead : Ahead) (words : ℕ → ℕ → ℕ × ℕ) (any : Scenario) (
     one_map : IsOneMap (world_at ahead one rows)
     one_map = record {
       covers = one_map_of.ring.covers;
-      placed = λ cut a. in_place (world_at ahead one rows) cut (one_map_of.ring.placed cut a);
+      placed = one_map_of.ring.placed;
       serves_apart = one_map_of.ring.serves_apart;
       legal = one_map_of.legal;
       parts = one_map_of.parts;

@@ -2,18 +2,16 @@
 use Rattle.std.proofs.Common.{◌≡◌, ℕ, ◌&&◌, ◌||◌, Bool, true, false, not, eqb, List, [], ◌∷◌, length, Option, Some, None, refl, sym, ap, ◌∙◌, subst, inl, inr, codes, true≢false, arith}
 use Rattle.std.specs.Cmp.Lexicographic.{same_text}
 use Rattle.std.proofs.lemmas.Bool.{cases_Bool, cond-false, ne_eqb}
-use Rattle.std.proofs.lemmas.Option.{none-some}
 use Rattle.clap.specs.Walk.{Row, Text}
 use Rattle.clap.specs.Takes.{takes}
 use Rattle.clap.specs.Simple.{App, is_simple, subcommand_of}
 use Rattle.clap.specs.declared.error.kind.ErrorKind.{ErrorKind}
 use Rattle.clap.specs.declared.error.kind.ErrorKind.TheVariants.{OutOfMemory}
 use Rattle.clap.proofs.OnLiterals.{clap_on_literals}
-use Rattle.sc_lines.specs.Words.{same, nth}
-use Rattle.sc_words.specs.Asked.{is_run, is_make, make_of, asked_by, has_dash, is_plain}
-use Rattle.sc_words.specs.Commands.{scatter_app, make_in, asked_as, asked_in}
-use Rattle.sc_words.specs.declared.asked.Asked.{Asked}
-use Rattle.sc_words.specs.declared.asked.Asked.TheVariants.{Run, Make}
+use Rattle.sc_lines.specs.Words.{same}
+use Rattle.sc_words.specs.Asked.{make_of, asked_by, has_dash, is_plain}
+use Rattle.sc_words.specs.Commands.{scatter_app, make_in, asked_in}
+use Rattle.sc_words.specs.declared.asked.Asked.TheVariants.{Run}
 use Rattle.sc_words.proofs.Shapes.{other_count}
 use Rattle.sc_words.proofs.Parses.{make_rows, make_taken, make_found, run_taken}
 

@@ -1,11 +1,11 @@
 -- The command line as clap knows it.
-use Rattle.std.specs.Prelude.{ℕ, ◌==◌, ◌&&◌, true, List, [], ◌∷◌, codes, Option, None, Some, if◌then◌else◌, option_and_then}
-use Rattle.clap.specs.Words.{App, Row, Rule, Shape, Text, first_of, new_app, new_rule, with_rule, with_subcommand}
-use Rattle.clap.specs.Simple.{new_shape, on_top}
+use Rattle.std.specs.Prelude.{ℕ, ◌==◌, ◌&&◌, true, List, codes, Option, None, Some, if◌then◌else◌, option_and_then}
+use Rattle.clap.specs.Words.{App, Row, Rule, Text, first_of, new_app, new_rule, with_rule, with_subcommand}
+use Rattle.clap.specs.Simple.{on_top}
 use Rattle.sc_lines.specs.Words.{same}
 use Rattle.sc_words.specs.Asked.{make_of}
 use Rattle.sc_words.specs.declared.asked.Asked.{Asked}
-use Rattle.sc_words.specs.declared.asked.Asked.TheVariants.{Run, Make}
+use Rattle.sc_words.specs.declared.asked.Asked.TheVariants.{Run}
 
 -- a word that must be there, by its name
 abbrev pub word_rule : Text → Rule

@@ -1,3 +1,7 @@
+use Rattle.std.proofs.Common.{◌≡◌, ◌≤◌, ◌<◌, true, List, IfOk, sym, subst, All}
+use Rattle.sc_actor.specs.System.{are_apart}
+use Rattle.sc_drive.specs.Companies.{AtBirth}
+use Rattle.sc_players.specs.Players.{most_actor}
 use Rattle.sc_run.proofs.begun.begin.Goals as goal
 
 pub births-requires-clause-ordered : goal.births-requires-clause-ordered
@@ -5,3 +9,16 @@ births-requires-clause-ordered c = (c.valid_scenarios_can_play.ensures c.args.sc
 
 pub births-requires-clause-few : goal.births-requires-clause-few
 births-requires-clause-few c = (c.valid_scenarios_can_play.ensures c.args.scenario.now c.requires.valid).few
+
+pub open-requires-clause-far : goal.open-requires-clause-far
+open-requires-clause-far c κs =
+    subst (λ seats. are_apart seats ≡ true) (sym c.in_ok-seats.ensures) (c.valid_scenarios_can_play.ensures c.args.scenario.now c.requires.valid).apart
+
+pub open-requires-clause-numbered : goal.open-requires-clause-numbered
+open-requires-clause-numbered c κs =
+    subst (λ seats. All (λ seat. (0 < seat.who) × (seat.who ≤ most_actor)) seats) (sym c.in_ok-seats.ensures)
+    (c.valid_scenarios_can_play.ensures c.args.scenario.now c.requires.valid).numbered
+
+pub returns-clause-births : goal.returns-clause-births
+returns-clause-births c =
+    subst (λ seats. IfOk c.open.result (λ begun. AtBirth seats begun.0 begun.1.items)) c.in_ok-seats.ensures c.open.ensures.births

@@ -1,6 +1,7 @@
-use Rattle.std.proofs.Common.{◌≤◌, ◌∙◌, map, sym, ap, subst}
+use Rattle.std.proofs.Common.{◌≡◌, ◌≤◌, ◌∙◌, true, map, sym, ap, subst, All}
 use Rattle.sc_actor.specs.Counted.{journal_bytes}
 use Rattle.sc_actor.specs.System.{no_words}
+use Rattle.sc_actor.specs.Walk.{has_one_task}
 use Rattle.sc_exchange.specs.Ports.{seen}
 use Rattle.sc_drive.specs.Goings.{HasEnded, IsKept, SparesGoers}
 use Rattle.sc_players.specs.Players.{births, as_nodes}
@@ -10,6 +11,11 @@ use Rattle.sc_run.proofs.played.play.Goals as goal
 
 pub drive-requires-clause-begins : goal.drive-requires-clause-begins
 drive-requires-clause-begins g c κs within = (births as_nodes c.args.scenario.now, c.requires.begins)
+
+pub drive-requires-clause-built : goal.drive-requires-clause-built
+drive-requires-clause-built g c κs within =
+    subst (λ lines. All (λ line. has_one_task line ≡ true) lines) (sym (c.as_slice.ensures.value ∙ c.in-Ok.ensures))
+    (c.valid_scenarios_can_play.ensures c.args.scenario.now c.requires.valid).built
 
 pub drive-requires-clause-spared : goal.drive-requires-clause-spared
 drive-requires-clause-spared g c κs within =

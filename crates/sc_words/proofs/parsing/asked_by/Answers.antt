@@ -1,7 +1,7 @@
-use Rattle.std.proofs.Common.{map, sym, ◌∙◌, Some}
+use Rattle.std.proofs.Common.{map, sym, ◌∙◌}
 use Rattle.std.specs.Prelude.{string_bytes}
 use Rattle.std.proofs.lemmas.Result.{IfOk-weaker}
-use Rattle.sc_words.proofs.Shapes.{refused, in_range, run_asked, if_asked}
+use Rattle.sc_words.proofs.Shapes.{run_asked, if_asked}
 use Rattle.sc_words.proofs.parsing.asked_by.Goals as goal
 
 pub returns-clause-range : goal.returns-clause-range
