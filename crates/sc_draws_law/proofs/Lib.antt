@@ -12,3 +12,4 @@ pub mod Playing
 pub mod Logs
 pub mod Fresh
 pub mod Example
+pub mod Naming

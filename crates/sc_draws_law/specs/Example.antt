@@ -1,6 +1,5 @@
 -- A journal of three orders to one node: two splits, and a merge of a group that has no neighbour.
-use Rattle.std.specs.Prelude.{ℕ, false, List, [], ◌∷◌}
-use Rattle.sc_base.specs.declared.names.Ballot.{Ballot}
+use Rattle.std.specs.Prelude.{false, [], ◌∷◌}
 use Rattle.sc_base.specs.declared.names.Draw.{Draw}
 use Rattle.sc_cmd.specs.declared.commands.Command.TheVariants.{Split}
 use Rattle.sc_cmd.specs.declared.orders.OrderLine.{OrderLine}

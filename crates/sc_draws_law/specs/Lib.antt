@@ -3,3 +3,4 @@ pub mod Names
 pub mod Laws
 pub mod Fresh
 pub mod Example
+pub mod Naming

@@ -17,6 +17,7 @@ ghost use Rattle.sc_draws_law.specs.Example.{
 };
 ghost use Rattle.sc_draws_law.specs.Owners.{owner_in};
 ghost use Rattle.sc_draws_law.specs.Fresh.{BeginsUndrawn, DrawnNamesAreNew, NamesAreDrawn};
+ghost use Rattle.sc_draws_law.specs.Naming.{AllowedNamesAreDrawn, LoggedNamesAreDrawn};
 ghost use Rattle.sc_draws_law.specs.Laws.{
   DrawnNamesAreOwned,
   NodesHaveNames,
@@ -62,8 +63,17 @@ pub fn drawn_names_are_new()
     ensures new { DrawnNamesAreNew }
 {}
 
-/// The laws are about something: a lawful journal in which a node is told to split a group twice and
-/// to merge it once. Both splits draw a name for the group, and the merge, which is refused, none.
+/// A Begin or a Split that is allowed in the log of a group brings a name that was drawn for this
+/// group by a node, so no group of a scenario has it, and no other group's log; and where it stands
+/// in a log after some rows, it was drawn in these, not later.
+pub fn logs_name_what_was_drawn()
+    ensures allowed { AllowedNamesAreDrawn }
+    ensures logged { LoggedNamesAreDrawn }
+{}
+
+/// The laws are about something: a lawful journal in which a node is told to split a group twice
+/// and to merge it once. Both splits draw a name for the group, and the merge, which is refused,
+/// none.
 pub fn a_journal_that_draws()
     ensures begins { Each BeginsUndrawn drawing_scenario.groups }
     ensures lawful { Lawful four no_words drawing_scenario drawing_rows }

@@ -1,5 +1,9 @@
 //! Each function that carries a law takes no input and answers nothing: calling it shows that its
 //! contract can be met.
+use sc_draws_law::{
+    a_journal_that_draws, counters_part_names, drawn_names_are_new, logs_name_what_was_drawn,
+    names_have_one_owner, orders_are_allowed,
+};
 use sc_group_law::{a_journal_with_a_join, a_journal_with_an_election};
 use sc_hist_law::{
     an_example_of_entries, an_example_of_moves, entries_that_move_tell_a_legal_history,
@@ -100,4 +104,14 @@ fn the_laws_of_a_lone_group_that_splits_are_called() {
     logs_name_one_child();
     splits_are_scheduled();
     a_journal_with_a_split();
+}
+
+#[test]
+fn the_laws_of_names_are_called() {
+    names_have_one_owner();
+    counters_part_names();
+    orders_are_allowed();
+    drawn_names_are_new();
+    logs_name_what_was_drawn();
+    a_journal_that_draws();
 }
