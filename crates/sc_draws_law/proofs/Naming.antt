@@ -11,7 +11,7 @@ use Rattle.sc_ring_law.specs.Stories.{Stories}
 use Rattle.sc_scenario.specs.declared.scenarios.Scenario.{Scenario}
 use Rattle.sc_sound.specs.Logs.{decided_log}
 use Rattle.sc_draws_law.specs.Fresh.{IsUsed}
-use Rattle.sc_draws_law.specs.Naming.{AllowedNamesAreDrawn, LoggedNamesAreDrawn}
+use Rattle.sc_draws_law.specs.Naming.{AllowedNamesAreDrawn, LoggedNamesAreDrawn, MoreOwnersAllow}
 use Rattle.sc_draws_law.specs.Names.{CommandNames}
 use Rattle.sc_draws_law.specs.Owners.{Rows, owner_in}
 use Rattle.sc_draws_law.proofs.Counters.{owned_are_of_nodes}
@@ -66,3 +66,17 @@ logged_are_drawn ahead words scenario begins rows more lawful base command among
     let used = is_named (IsUsed ahead scenario rows) command name (Each-among (CommandNames (IsUsed ahead scenario rows)) (decided_log ahead base rows) command (named.1.logs base) among) e in
     owned_are_drawn ahead scenario rows name group
     (used_by ahead scenario rows more name group used (owner_is (record { owner = owner_in ahead scenario (rows ++ more); request = request }) stories group command name a e))
+
+pub more_owners_allow : MoreOwnersAllow
+more_owners_allow ahead scenario rows more request stories group (Split at child order) a = (owned_later ahead scenario rows more child group a.0, a.1)
+more_owners_allow ahead scenario rows more request stories group (Begin tx body order) a = (owned_later ahead scenario rows more tx group a.0, a.1)
+more_owners_allow ahead scenario rows more request stories group (Call client seq op) a = a
+more_owners_allow ahead scenario rows more request stories group (Prepared tx offer) a = a
+more_owners_allow ahead scenario rows more request stories group (RecordVote tx vote by) a = a
+more_owners_allow ahead scenario rows more request stories group (Watched tx watch) a = a
+more_owners_allow ahead scenario rows more request stories group (RecordWatch tx vote by) a = a
+more_owners_allow ahead scenario rows more request stories group (Finish tx outcome) a = a
+more_owners_allow ahead scenario rows more request stories group Noop a = tt
+more_owners_allow ahead scenario rows more request stories group (Join node order) a = tt
+more_owners_allow ahead scenario rows more request stories group (Leave node order) a = tt
+more_owners_allow ahead scenario rows more request stories group (GiveUp tx) a = tt

@@ -25,3 +25,8 @@ abbrev pub LoggedNamesAreDrawn : Type 0
 LoggedNamesAreDrawn = (ahead : Ahead) (words : ℕ → ℕ → ℕ × ℕ) (scenario : Scenario) → Each BeginsUndrawn scenario.groups → (rows more : Rows) → Lawful ahead words scenario rows
     → (base : Base) (command : Command) → Among command (decided_log ahead base rows) → (request : ℕ → ℕ → Op) (stories : Stories) (group name : Draw)
     → IsAllowed (record { owner = owner_in ahead scenario (rows ++ more); request = request }) stories group command → draw_of command ≡ Some name → IsDrawn ahead scenario rows name group
+
+-- what is allowed by the owners of some rows is allowed by those of more rows
+abbrev pub MoreOwnersAllow : Type 0
+MoreOwnersAllow = (ahead : Ahead) (scenario : Scenario) (rows more : Rows) (request : ℕ → ℕ → Op) (stories : Stories) (group : Draw) (command : Command)
+    → IsAllowed (record { owner = owner_in ahead scenario rows; request = request }) stories group command → IsAllowed (record { owner = owner_in ahead scenario (rows ++ more); request = request }) stories group command

@@ -17,7 +17,11 @@ ghost use Rattle.sc_draws_law.specs.Example.{
 };
 ghost use Rattle.sc_draws_law.specs.Owners.{owner_in};
 ghost use Rattle.sc_draws_law.specs.Fresh.{BeginsUndrawn, DrawnNamesAreNew, NamesAreDrawn};
-ghost use Rattle.sc_draws_law.specs.Naming.{AllowedNamesAreDrawn, LoggedNamesAreDrawn};
+ghost use Rattle.sc_draws_law.specs.Naming.{
+  AllowedNamesAreDrawn,
+  LoggedNamesAreDrawn,
+  MoreOwnersAllow,
+};
 ghost use Rattle.sc_draws_law.specs.Laws.{
   DrawnNamesAreOwned,
   NodesHaveNames,
@@ -65,10 +69,12 @@ pub fn drawn_names_are_new()
 
 /// A Begin or a Split that is allowed in the log of a group brings a name that was drawn for this
 /// group by a node, so no group of a scenario has it, and no other group's log; and where it stands
-/// in a log after some rows, it was drawn in these, not later.
+/// in a log after some rows, it was drawn in these, not later. What is allowed by the owners of
+/// some rows is allowed by those of more.
 pub fn logs_name_what_was_drawn()
     ensures allowed { AllowedNamesAreDrawn }
     ensures logged { LoggedNamesAreDrawn }
+    ensures more { MoreOwnersAllow }
 {}
 
 /// The laws are about something: a lawful journal in which a node is told to split a group twice
