@@ -34,7 +34,7 @@ use Rattle.sc_players.specs.declared.roles.Role.TheVariants.{Node, Client}
 use Rattle.sc_scenario.specs.declared.scenarios.Asks.{Asks}
 use Rattle.sc_scenario.specs.declared.scenarios.Scenario.{Scenario}
 use Rattle.sc_draws_law.specs.Owners.{Rows, owner_in}
-use Rattle.sc_draws_law.specs.Fresh.{IsUsed, BeginsUndrawn, AllNames, NamesAreDrawn, DrawnNamesAreNew}
+use Rattle.sc_draws_law.specs.Fresh.{IsUsed, BeginsUndrawn, AllNames, AllDecided, NamesAreDrawn, DrawnNamesAreNew}
 use Rattle.sc_draws_law.specs.Names.{Opt, LockNames, OutcomeNames, PastNames, CoreNames, MailNames, ReplicaNames, NodeNames, ClientNames, PlayerNames}
 use Rattle.sc_draws_law.proofs.Counters.{fresh_at}
 use Rattle.sc_draws_law.proofs.Lists.{opt_get}
@@ -42,6 +42,7 @@ use Rattle.sc_draws_law.proofs.Machine.{Each-map}
 use Rattle.sc_draws_law.proofs.Sent.{Sent}
 use Rattle.sc_draws_law.proofs.Held.{born_names}
 use Rattle.sc_draws_law.proofs.Ordered.{it_is_owned}
+use Rattle.sc_draws_law.proofs.Logs.{decided_names}
 use Rattle.sc_draws_law.proofs.Owned.{owned_later}
 use Rattle.sc_draws_law.proofs.Playing.{Brings, node_names, client_names}
 
@@ -225,20 +226,30 @@ module _ (ahead : Ahead) (words : ℕ → ℕ → ℕ × ℕ) (scenario : Scenar
   drawn_before : (rows : Rows) (row : Row Mail OrderLine) → Drawn (rows ++ row ∷ []) → Drawn rows
   drawn_before rows row drawn name group e = drawn name group (owned_later ahead scenario rows (row ∷ []) name group e)
 
-  pub all_names : (rows : Rows) → Drawn rows → Lawful ahead words scenario rows → All rows
+  all_names : (rows : Rows) → Drawn rows → Lawful ahead words scenario rows → All rows
   all_names rows drawn lawful =
       lawful-induction (system_of ahead words scenario) (λ (xs : Rows). Drawn xs → All xs)
       (λ xs row keeps step d. next_all xs row d (keeps (drawn_before xs row d)) step) (schedule scenario) rows (λ d. first_all) lawful drawn
 
+  begin_all : (bases : List Base) → Each BeginsUndrawn bases → Each (λ (base : Base). CoreNames K base.core) bases
+  begin_all [] b = tt
+  begin_all (base ∷ bases) b = (begin_names base b.0, begin_all bases b.1)
+
+  -- what is in mail and players is in what is decided
+  pub both_names : (rows : Rows) → Drawn rows → Lawful ahead words scenario rows → All rows × AllDecided K ahead scenario rows
+  both_names rows drawn lawful =
+      let all = all_names rows drawn lawful in
+      (all, decided_names K ahead rows all.sent scenario (begin_all scenario.groups begins))
+
 -- ---- the laws
 
 pub names_are_drawn : NamesAreDrawn
-names_are_drawn ahead words scenario begins rows lawful = all_names ahead words scenario (IsUsed ahead scenario rows) (λ name e. inl e) begins rows (λ name group e. inr (group, e)) lawful
+names_are_drawn ahead words scenario begins rows lawful = both_names ahead words scenario (IsUsed ahead scenario rows) (λ name e. inl e) begins rows (λ name group e. inr (group, e)) lawful
 
 pub drawn_are_new : DrawnNamesAreNew
 drawn_are_new ahead words scenario begins before lawful row owned e =
     let fresh = fresh_at ahead scenario before row owned e in
-    all_names ahead words scenario (λ name. name ≡ owned.name → ⊥)
+    both_names ahead words scenario (λ name. name ≡ owned.name → ⊥)
     (λ name of same. (let node : name.node ≡ owned.name.node = ap (λ (d : Draw). d.node) same in let who = fresh.of in let low = fresh.low in absurd (omega (arith, of, node, who, low))))
     begins before
     (λ name group has same. (let none : None ≡ Some group = sym fresh.fresh ∙ ap (λ (d : Draw). owner_in ahead scenario before d) (sym same) ∙ has in absurd (cc))) lawful

@@ -9,4 +9,7 @@ pub mod Executing
 pub mod Voted
 pub mod Stepping
 pub mod Playing
+pub mod Logs
 pub mod Fresh
+pub mod Example
+pub mod Naming

@@ -1,9 +1,10 @@
 -- What an order queues is allowed in the log of its group.
-use Rattle.std.proofs.Common.{◌≡◌, ℕ, ◌&&◌, nat_le, ◌∷◌, ◌++◌, true, Option, Some, None, refl, ◌∙◌, ap}
+use Rattle.std.proofs.Common.{◌≡◌, ℕ, ◌&&◌, nat_le, List, [], ◌∷◌, ◌++◌, true, Option, Some, None, refl, ◌∙◌, ap}
 use Rattle.std.specs.Prelude.{is_none}
 use Rattle.std.proofs.lemmas.Bool.{cond-true, and_from, le-leb}
 use Rattle.sc_base.specs.Drawing.{next_name}
 use Rattle.sc_base.specs.declared.names.Draw.{Draw}
+use Rattle.sc_cmd.specs.declared.commands.Command.{Command}
 use Rattle.sc_cmd.specs.declared.orders.Order.{Order}
 use Rattle.sc_cmd.specs.declared.orders.Order.TheVariants as An
 use Rattle.sc_cmd.specs.declared.orders.OrderLine.{OrderLine}
@@ -12,7 +13,8 @@ use Rattle.sc_mail.specs.declared.bodies.Mail.{Mail}
 use Rattle.sc_actor.specs.declared.rows.Row.{Row}
 use Rattle.sc_actor.specs.Replay.{value}
 use Rattle.sc_node_table.specs.Node.{NodeState, group_of_order}
-use Rattle.sc_node_table.specs.Ordering.{ordered_command, takes_name, untaken}
+use Rattle.sc_node_table.specs.Ordering.{ordered_command, takes_name, untaken, taken_or_told, ordered_row}
+use Rattle.sc_node_table.specs.Pump.{pumped}
 use Rattle.sc_node_table.specs.Replica.{ReplicaState}
 use Rattle.sc_players.specs.Players.{Ahead, Player, player_table, node_seat}
 use Rattle.sc_players.specs.declared.roles.Role.TheVariants.{Node}
@@ -20,7 +22,7 @@ use Rattle.sc_scenario.specs.declared.scenarios.Scenario.{Scenario}
 use Rattle.sc_ring_law.specs.Allowed.{Sources, IsAllowed}
 use Rattle.sc_ring_law.specs.Stories.{Stories}
 use Rattle.sc_draws_law.specs.Owners.{Rows, Owned, drawn_for, drawn_by, drawn_at, is_node_of, owner_in}
-use Rattle.sc_draws_law.specs.Laws.{IsAtPosition, TakesOrder, OrdersAreAllowed}
+use Rattle.sc_draws_law.specs.Laws.{IsAtPosition, TakesOrder, OrdersAreAllowed, OrdersAreQueued}
 use Rattle.sc_draws_law.proofs.Counters.{drawn_are_owned}
 
 module _ (ahead : Ahead) (scenario : Scenario) (before : Rows) (row : Row Mail OrderLine) (later : Rows) (line : OrderLine) (node : NodeState) (r : ReplicaState) (takes : TakesOrder ahead scenario before row line node r) where
@@ -54,3 +56,11 @@ pub orders_are_allowed : OrdersAreAllowed
 orders_are_allowed ahead scenario before row later line node r takes at request stories =
     allowed_for (record { owner = owner_in ahead scenario (before ++ row ∷ later); request = request }) stories (next_name node.draws) line.number line.order at
     (it_is_owned ahead scenario before row later line node r takes)
+
+queued_by : (o : Option OrderRefusal) (number : ℕ) (command : Command) (r : ReplicaState) (mails : List Mail) → o ≡ None → taken_or_told o number command (r, mails) ≡ pumped (record r { calls = r.calls ++ command ∷ [] }, mails)
+queued_by None number command r mails e = refl
+queued_by (Some why) number command r mails e = cc
+
+pub orders_are_queued : OrdersAreQueued
+unfolding ordered_row
+orders_are_queued drawer line r mails taken = queued_by (untaken drawer line r) line.number (ordered_command (next_name drawer) line.number line.order) r mails taken

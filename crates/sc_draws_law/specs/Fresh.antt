@@ -1,4 +1,4 @@
--- A name that is drawn is new: no mail and no player had it before.
+-- A name that is drawn is new: no mail, no player, no log and no group had it before.
 use Rattle.std.specs.Prelude.{◌≡◌, ℕ, [], Some, None, ◌⊎◌}
 use Rattle.sc_base.specs.Among.{Among, Each}
 use Rattle.sc_base.specs.declared.names.Draw.{Draw}
@@ -12,8 +12,10 @@ use Rattle.sc_actor.specs.Mail.{mails}
 use Rattle.sc_actor.specs.Replay.{value}
 use Rattle.sc_players.specs.Players.{Ahead, Player, Lawful, player_table, births}
 use Rattle.sc_scenario.specs.declared.scenarios.Scenario.{Scenario}
+use Rattle.sc_sound.specs.GroupsOf.{groups_at}
+use Rattle.sc_sound.specs.Logs.{decided_log}
 use Rattle.sc_draws_law.specs.Owners.{Rows, Owned, drawn_at, owner_in}
-use Rattle.sc_draws_law.specs.Names.{MailNames, PlayerNames}
+use Rattle.sc_draws_law.specs.Names.{CoreNames, CommandNames, MailNames, PlayerNames}
 
 -- a name of no node, as groups of a scenario have, or one that these rows drew
 abbrev pub IsUsed : Ahead → Scenario → Rows → Draw → Type 0
@@ -35,11 +37,17 @@ pub record AllNames (K : Draw → Type 0) (ahead : Ahead) (scenario : Scenario) 
   pub sent : Each (MailNames K) (mails rows)
   pub players : (seat : Seat Player) → Among seat (births ahead scenario) → PlayerNames K (value player_table seat rows)
 
+-- all names in what the logs of a journal decided, and in its groups as they are born
+pub record AllDecided (K : Draw → Type 0) (ahead : Ahead) (scenario : Scenario) (rows : Rows) : Type 0 where
+  pub groups : Each (λ (base : Base). CoreNames K base.core) (groups_at ahead scenario.groups rows)
+  pub logs : (base : Base) → Each (CommandNames K) (decided_log ahead base rows)
+
 -- in a lawful journal each name is of the scenario, or was drawn: a child that a command names, a transaction, a group in a link
 abbrev pub NamesAreDrawn : Type 0
-NamesAreDrawn = (ahead : Ahead) (words : ℕ → ℕ → ℕ × ℕ) (scenario : Scenario) → Each BeginsUndrawn scenario.groups → (rows : Rows) → Lawful ahead words scenario rows → AllNames (IsUsed ahead scenario rows) ahead scenario rows
+NamesAreDrawn = (ahead : Ahead) (words : ℕ → ℕ → ℕ × ℕ) (scenario : Scenario) → Each BeginsUndrawn scenario.groups → (rows : Rows) → Lawful ahead words scenario rows
+    → AllNames (IsUsed ahead scenario rows) ahead scenario rows × AllDecided (IsUsed ahead scenario rows) ahead scenario rows
 
 -- a name that a row draws was nowhere before it
 abbrev pub DrawnNamesAreNew : Type 0
 DrawnNamesAreNew = (ahead : Ahead) (words : ℕ → ℕ → ℕ × ℕ) (scenario : Scenario) → Each BeginsUndrawn scenario.groups → (before : Rows) → Lawful ahead words scenario before
-    → (row : Row Mail OrderLine) (owned : Owned) → drawn_at ahead scenario before row ≡ Some owned → AllNames (λ name. name ≡ owned.name → ⊥) ahead scenario before
+    → (row : Row Mail OrderLine) (owned : Owned) → drawn_at ahead scenario before row ≡ Some owned → AllNames (λ name. name ≡ owned.name → ⊥) ahead scenario before × AllDecided (λ name. name ≡ owned.name → ⊥) ahead scenario before

@@ -1,6 +1,6 @@
 -- Each name is drawn once, for one group, and what an order queues is allowed by the owner of its name.
-use Rattle.std.specs.Prelude.{◌≡◌, ℕ, ◌<◌, ◌≤◌, ◌^◌, ◌∷◌, ◌++◌, Some, None}
-use Rattle.sc_base.specs.Drawing.{next_name}
+use Rattle.std.specs.Prelude.{List, [], ◌≡◌, ℕ, ◌<◌, ◌≤◌, ◌^◌, ◌∷◌, ◌++◌, Some, None}
+use Rattle.sc_base.specs.Drawing.{Drawer, next_name}
 use Rattle.sc_base.specs.declared.names.Draw.{Draw}
 use Rattle.sc_base.specs.declared.ops.Op.{Op}
 use Rattle.sc_cmd.specs.declared.orders.Order.{Order}
@@ -11,7 +11,8 @@ use Rattle.sc_actor.specs.declared.rows.Row.{Row}
 use Rattle.sc_actor.specs.declared.rows.Event.TheVariants.{Told}
 use Rattle.sc_actor.specs.Replay.{value}
 use Rattle.sc_node_table.specs.Node.{NodeState, replica_of, group_of_order}
-use Rattle.sc_node_table.specs.Ordering.{ordered_command, untaken}
+use Rattle.sc_node_table.specs.Ordering.{ordered_command, untaken, ordered_row}
+use Rattle.sc_node_table.specs.Pump.{pumped}
 use Rattle.sc_node_table.specs.Replica.{ReplicaState}
 use Rattle.sc_players.specs.Players.{Ahead, player_table, node_seat}
 use Rattle.sc_players.specs.declared.roles.Role.TheVariants.{Node}
@@ -80,6 +81,11 @@ pub record TakesOrder (ahead : Ahead) (scenario : Scenario) (before : Rows) (row
   pub event_is : row.event ≡ Told line
   pub found : replica_of (group_of_order line.order) node.replicas ≡ Some r
   pub taken : untaken node.draws line r ≡ None
+
+-- the command that waits last when an order was taken, and then the pump
+abbrev pub OrdersAreQueued : Type 0
+OrdersAreQueued = (drawer : Drawer) (line : OrderLine) (r : ReplicaState) (mails : List Mail) → untaken drawer line r ≡ None
+    → ordered_row drawer line (r, mails) ≡ pumped (record r { calls = r.calls ++ ordered_command (next_name drawer) line.number line.order ∷ [] }, mails)
 
 -- the command that is queued for an order is allowed in the log of its group, whatever was told, by the owners of any journal that goes on so
 abbrev pub OrdersAreAllowed : Type 0

@@ -2,3 +2,5 @@ pub mod Owners
 pub mod Names
 pub mod Laws
 pub mod Fresh
+pub mod Example
+pub mod Naming

@@ -1,7 +1,8 @@
 //! Each function that carries a law takes no input and answers nothing: calling it shows that its
 //! contract can be met.
 use sc_draws_law::{
-    counters_part_names, drawn_names_are_new, names_have_one_owner, orders_are_allowed,
+    a_journal_that_draws, counters_part_names, drawn_names_are_new, logs_name_what_was_drawn,
+    names_have_one_owner, orders_are_allowed,
 };
 use sc_group_law::{a_journal_with_a_join, a_journal_with_an_election};
 use sc_hist_law::{
@@ -112,6 +113,8 @@ fn the_laws_of_names_are_called() {
     counters_part_names();
     orders_are_allowed();
     drawn_names_are_new();
+    logs_name_what_was_drawn();
+    a_journal_that_draws();
 }
 
 #[test]
