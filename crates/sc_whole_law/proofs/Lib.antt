@@ -8,3 +8,4 @@ pub mod Apart
 pub mod Children
 pub mod Growing
 pub mod Turning
+pub mod Journals
