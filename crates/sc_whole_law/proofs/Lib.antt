@@ -9,3 +9,4 @@ pub mod Children
 pub mod Growing
 pub mod Turning
 pub mod Journals
+pub mod Sound
