@@ -23,7 +23,7 @@ use Rattle.sc_paxos_words.proofs.ListLemmas.{Each-among}
 use Rattle.sc_players.specs.Players.{Ahead, Lawful, system_of, schedule}
 use Rattle.sc_players.specs.declared.roles.Role.TheVariants.{Node as ANode}
 use Rattle.sc_scenario.specs.declared.scenarios.Scenario.{Scenario}
-use Rattle.sc_sound.specs.GroupsOf.{groups_at}
+use Rattle.sc_sound.specs.GroupsOf.{groups_at, entries_at}
 use Rattle.sc_sound.specs.Soundness.{HasRun, AllHaveRun}
 use Rattle.sc_ring_law.specs.Allowed.{Sources, IsAllowed}
 use Rattle.sc_ring_law.specs.Laws.{BeginInPlace}
@@ -38,10 +38,11 @@ use Rattle.sc_group_law.proofs.Names.{IsOneOf}
 use Rattle.sc_group_law.proofs.Nodes.{IsNode}
 use Rattle.sc_group_law.proofs.Replicated.{one_value, is_log, executed_is}
 use Rattle.sc_group_law.proofs.Stepping.{MayTell}
-use Rattle.sc_whole_law.specs.Orders.{OrdersAreAllowed, AllowedPartiesFit}
+use Rattle.sc_whole_law.specs.Orders.{OrdersAreAllowed, AllowedMergesFit}
 use Rattle.sc_whole_law.specs.Parameters.{stories_at, IsIssuedCall, MayQueue, MayHear}
 use Rattle.sc_whole_law.specs.Parties.{IsFresh, PartiesAreApart, MergesFit}
 use Rattle.sc_whole_law.specs.Players.{HasSeats, AsksAre}
+use Rattle.sc_whole_law.proofs.Distinct.{parties_are_apart}
 use Rattle.sc_whole_law.proofs.Turning.{Holds, players, issued_now, holds_next}
 
 -- rows and one more, in two parts
@@ -73,7 +74,7 @@ no_call scenario rows name number (An.Repart group at) = tt
 no_call scenario rows name number (An.Migrate group node) = tt
 
 module _ (sources : Sources) (ahead : Ahead) (words : ℕ → ℕ → ℕ × ℕ) (scenario : Scenario) (route : Route) (start : BeginInPlace sources scenario.groups) (seats : HasSeats ahead scenario route) (asks_are : AsksAre sources scenario)
-    (names : AreApart scenario.groups) (fresh : (b : Base) → Among b scenario.groups → IsFresh b) (fit : AllowedPartiesFit sources scenario.groups) where
+    (names : AreApart scenario.groups) (fresh : (b : Base) → Among b scenario.groups → IsFresh b) (fit : AllowedMergesFit sources scenario.groups) where
   abbrev All : Rows → Type 0
   All rows = Holds sources ahead words scenario route start seats asks_are rows
 
@@ -101,7 +102,10 @@ module _ (sources : Sources) (ahead : Ahead) (words : ℕ → ℕ → ℕ × ℕ
 
   module _ (all : Rows) (orders : OrdersAreAllowed sources ahead scenario all) where
     parties : (rows : Rows) → All rows → PartiesAreApart (stories_at ahead scenario.groups rows) × MergesFit (stories_at ahead scenario.groups rows)
-    parties rows h = fit _ (entries_are_allowed sources ahead scenario.groups start rows h.turn)
+    parties rows h =
+        let entries = entries_at ahead scenario.groups rows in
+        let allowed = entries_are_allowed sources ahead scenario.groups start rows h.turn in
+        (parties_are_apart sources scenario.groups start entries allowed, fit entries allowed)
 
     -- what holds of each first part of the journal
     abbrev P : Rows → Type 0

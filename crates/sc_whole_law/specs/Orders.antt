@@ -1,4 +1,4 @@
--- What is asked beside of a journal: that what its orders queue is allowed, and that the parties of allowed transactions fit.
+-- What is asked beside of a journal: that what its orders queue is allowed, and that the parties of allowed merges fit.
 use Rattle.std.specs.Prelude.{◌≡◌, ℕ, ◌≤◌, List, ◌∷◌, ◌++◌, None, Some}
 use Rattle.sc_base.specs.Drawing.{next_name}
 use Rattle.sc_cmd.specs.declared.cores.Base.{Base}
@@ -18,7 +18,7 @@ use Rattle.sc_ring_law.specs.Allowed.{Sources, IsAllowed, AreAllowed, first_told
 use Rattle.sc_ring_law.specs.Laws.{stories_of}
 use Rattle.sc_ring_law.specs.Stories.{Stories}
 use Rattle.sc_journal_law.specs.Descent.{Rows}
-use Rattle.sc_whole_law.specs.Parties.{PartiesAreApart, MergesFit}
+use Rattle.sc_whole_law.specs.Parties.{MergesFit}
 
 -- what a node of the scenario queues for an order that it takes, in a row of the journal, is allowed at the order's group, whatever was told
 abbrev pub OrdersAreAllowed : Sources → Ahead → Scenario → Rows → Type 0
@@ -27,6 +27,6 @@ OrdersAreAllowed sources ahead scenario rows = (before : Rows) (row : Row Mail O
     → (r : ReplicaState) → replica_of (group_of_order line.order) node.replicas ≡ Some r → untaken node.draws line r ≡ None
     → (stories : Stories) → IsAllowed sources stories (group_of_order line.order) (ordered_command (next_name node.draws) line.number line.order)
 
--- after allowed entries the parties of each transaction are apart and fit
-abbrev pub AllowedPartiesFit : Sources → List Base → Type 0
-AllowedPartiesFit sources bases = (entries : List LogEntry) → AreAllowed sources (first_told bases) entries → PartiesAreApart (stories_of bases entries) × MergesFit (stories_of bases entries)
+-- after allowed entries the parties of each merge fit
+abbrev pub AllowedMergesFit : Sources → List Base → Type 0
+AllowedMergesFit sources bases = (entries : List LogEntry) → AreAllowed sources (first_told bases) entries → MergesFit (stories_of bases entries)
