@@ -8,3 +8,6 @@ pub mod Apart
 pub mod Children
 pub mod Growing
 pub mod Turning
+pub mod Distinct
+pub mod Journals
+pub mod Sound

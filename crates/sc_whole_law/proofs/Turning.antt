@@ -25,7 +25,7 @@ use Rattle.sc_entries.specs.Worlds.{StoreWorld, named_group}
 use Rattle.sc_entries.specs.declared.LogEntry.{LogEntry}
 use Rattle.sc_entries.proofs.Children.{births_are_children}
 use Rattle.sc_node_table.specs.Slots.{numbers_from, slots_ahead}
-use Rattle.sc_paxos_words.proofs.ListLemmas.{Each-weaker}
+use Rattle.sc_paxos_words.proofs.ListLemmas.{Each-among, Each-weaker}
 use Rattle.sc_paxos_law.proofs.Among.{Among-left, Among-right}
 use Rattle.sc_scenario.specs.declared.scenarios.Asks.{Asks}
 use Rattle.sc_scenario.specs.declared.scenarios.Scenario.{Scenario}
@@ -232,6 +232,15 @@ module _ (sources : Sources) (ahead : Ahead) (words : ℕ → ℕ → ℕ × ℕ
       -- the row decides in turn
       pub decides : DecidesInTurn sources ahead scenario.groups rows row
       decides = turned row steps
+
+      -- each call that it decides was issued
+      pub issued_now : (b : Base) → Among b (bases rows) → (client seq : ℕ) (op : Op) → Among (Call client seq op) (added_by ahead rows row b) → IsIssuedCall scenario rows (Call client seq op)
+      issued_now b a client seq op c =
+          let next = rows ++ row ∷ [] in
+          let all = decided_made ahead scenario scenario.groups (bases rows) route made heard b rows row (steps b a) in
+          let each = each_dropped (IsIssuedCall scenario rows) (length (decided_log ahead b rows)) (decided_log ahead b next)
+          (Each-weaker (made rows b) (IsIssuedCall scenario rows) (λ d m. m.1) (decided_log ahead b next) all) in
+          Each-among (IsIssuedCall scenario rows) (added_by ahead rows row b) (Call client seq op) each c
 
       after : Kept ahead scenario scenario.groups (bases rows) route made heard (rows ++ row ∷ [])
       after = push ahead scenario scenario.groups (bases rows) route made heard rows row (later row steps) h.kept moves

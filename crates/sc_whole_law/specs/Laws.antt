@@ -1,10 +1,36 @@
--- The laws of this crate.
-use Rattle.std.specs.Prelude.{List}
+-- What every lawful journal says of all its groups, whatever these order.
+use Rattle.std.specs.Prelude.{ℕ, List, [], ◌++◌}
 use Rattle.sc_cmd.specs.declared.commands.Command.{Command}
+use Rattle.sc_cmd.specs.declared.links.Route.{Route}
 use Rattle.sc_machine_table.specs.Group.{Group}
 use Rattle.sc_machine_table.specs.Logs.{state_after}
 use Rattle.sc_member.specs.Roster.{IsRoster}
+use Rattle.sc_players.specs.Players.{Ahead, Lawful}
+use Rattle.sc_scenario.specs.declared.scenarios.Scenario.{Scenario}
+use Rattle.sc_hist_law.specs.Worlds.{BeginBare}
+use Rattle.sc_ring_law.specs.Allowed.{Sources}
+use Rattle.sc_sound.specs.Soundness.{IsSound}
+use Rattle.sc_journal_law.specs.Beside.{RepliesAreDecided, HoldsBeside}
+use Rattle.sc_journal_law.specs.Descent.{Rows}
+use Rattle.sc_journal_law.specs.InTurn.{DecideInTurn}
+use Rattle.sc_whole_law.specs.Orders.{OrdersAreAllowed, AllowedMergesFit}
+use Rattle.sc_whole_law.specs.Players.{BeginsWell}
 
 -- the members of a group stay one to nine nodes, ascending
 abbrev pub MembersStayRosters : Type 0
 MembersStayRosters = (group : Group) (log : List Command) → IsRoster group.core.members → IsRoster (state_after group log).core.members
+
+-- each row decides what was allowed, and nothing yet for a group that it gives birth to
+abbrev pub LawfulJournalsDecideInTurn : Type 0
+LawfulJournalsDecideInTurn = (sources : Sources) (ahead : Ahead) (words : ℕ → ℕ → ℕ × ℕ) (scenario : Scenario) (route : Route) → BeginsWell sources ahead scenario route → AllowedMergesFit sources scenario.groups
+    → (rows : Rows) → OrdersAreAllowed sources ahead scenario rows → Lawful ahead words scenario rows → DecideInTurn sources ahead scenario.groups [] rows
+
+-- one value per slot, executed fronts and issued calls hold beside, where each reply was decided
+abbrev pub LawfulJournalsHoldBeside : Type 0
+LawfulJournalsHoldBeside = (sources : Sources) (ahead : Ahead) (words : ℕ → ℕ → ℕ × ℕ) (scenario : Scenario) (route : Route) → BeginsWell sources ahead scenario route → AllowedMergesFit sources scenario.groups
+    → (rows : Rows) → OrdersAreAllowed sources ahead scenario rows → Lawful ahead words scenario rows → RepliesAreDecided ahead scenario rows → HoldsBeside ahead scenario rows
+
+-- so each first part is sound, where the replies in it were decided
+abbrev pub LawfulJournalsAreSound : Type 0
+LawfulJournalsAreSound = (sources : Sources) (ahead : Ahead) (words : ℕ → ℕ → ℕ × ℕ) (scenario : Scenario) (route : Route) → BeginsWell sources ahead scenario route → BeginBare scenario.groups → AllowedMergesFit sources scenario.groups
+    → (rows more : Rows) → OrdersAreAllowed sources ahead scenario (rows ++ more) → Lawful ahead words scenario (rows ++ more) → RepliesAreDecided ahead scenario rows → IsSound ahead scenario rows more

@@ -1,4 +1,5 @@
 pub mod Parameters
 pub mod Parties
 pub mod Players
+pub mod Orders
 pub mod Laws

@@ -1,4 +1,4 @@
--- What a journal begins with, beside its groups: its players and what they ask.
+-- What a journal begins with: its groups, its players and what they ask.
 use Rattle.std.specs.Prelude.{◌≡◌, ℕ, ◌-◌, ◌≤◌, ◌++◌, map, Some, slice_get}
 use Rattle.sc_base.specs.Among.{Among, Each}
 use Rattle.sc_base.specs.Limits.{most_nodes}
@@ -9,6 +9,10 @@ use Rattle.sc_players.specs.Players.{Ahead, node_seat, client_seat, births}
 use Rattle.sc_scenario.specs.declared.scenarios.Asks.{Asks}
 use Rattle.sc_scenario.specs.declared.scenarios.Scenario.{Scenario}
 use Rattle.sc_ring_law.specs.Allowed.{Sources}
+use Rattle.sc_ring_law.specs.Laws.{BeginInPlace}
+use Rattle.sc_group_law.specs.Groups.{AreApart}
+use Rattle.sc_whole_law.specs.Parties.{IsFresh}
+use Rattle.sc_cmd.specs.declared.cores.Base.{Base}
 
 -- the nodes are numbered up to the most, and the clients from one, each once; as many slots are open as children have
 pub record HasSeats (ahead : Ahead) (scenario : Scenario) (route : Route) : Type 0 where
@@ -21,3 +25,11 @@ pub record HasSeats (ahead : Ahead) (scenario : Scenario) (route : Route) : Type
 -- what clients ask by each number is what their sections of the scenario say
 abbrev pub AsksAre : Sources → Scenario → Type 0
 AsksAre sources scenario = (asks : Asks) → Among asks scenario.clients → (seq : ℕ) (op : Op) → 1 ≤ seq → slice_get asks.ops (seq - 1) ≡ Some op → op ≡ sources.request asks.client seq
+
+-- a scenario's groups stand in place under names of their own, and nothing has happened to them; its players are seated
+pub record BeginsWell (sources : Sources) (ahead : Ahead) (scenario : Scenario) (route : Route) : Type 0 where
+  pub place : BeginInPlace sources scenario.groups
+  pub apart : AreApart scenario.groups
+  pub fresh : (base : Base) → Among base scenario.groups → IsFresh base
+  pub seats : HasSeats ahead scenario route
+  pub asks : AsksAre sources scenario

@@ -1,0 +1,29 @@
+-- The laws of this crate: lawful journals decide in turn, so the law of journals makes them sound.
+use Rattle.std.proofs.Common.{◌≡◌, ℕ, List, [], ◌∷◌, ◌++◌, ◌∙◌, ap, append_assoc}
+use Rattle.sc_actor.proofs.WalkLemmas.{lawful-prefix}
+use Rattle.sc_players.specs.Players.{Ahead, system_of, schedule}
+use Rattle.sc_scenario.specs.declared.scenarios.Scenario.{Scenario}
+use Rattle.sc_ring_law.specs.Allowed.{Sources}
+use Rattle.sc_journal_law.specs.Descent.{Rows}
+use Rattle.sc_journal_law.specs.Laws.{JournalsInTurnAreSound}
+use Rattle.sc_whole_law.specs.Laws.{LawfulJournalsDecideInTurn, LawfulJournalsHoldBeside, LawfulJournalsAreSound}
+use Rattle.sc_whole_law.specs.Orders.{OrdersAreAllowed}
+use Rattle.sc_whole_law.proofs.Journals.{holds, beside}
+
+pub lawful_journals_decide_in_turn : LawfulJournalsDecideInTurn
+lawful_journals_decide_in_turn sources ahead words scenario route b fit rows orders lawful =
+    (holds sources ahead words scenario route b.place b.seats b.asks b.apart b.fresh fit rows orders lawful).turn
+
+pub lawful_journals_hold_beside : LawfulJournalsHoldBeside
+lawful_journals_hold_beside sources ahead words scenario route b fit rows orders lawful replies =
+    beside sources ahead words scenario route b.place b.seats b.asks b.apart b.fresh fit rows orders lawful replies
+
+-- what is asked of a journal's orders is asked of those of its first part
+fewer_orders : (sources : Sources) (ahead : Ahead) (scenario : Scenario) (rows more : Rows) → OrdersAreAllowed sources ahead scenario (rows ++ more) → OrdersAreAllowed sources ahead scenario rows
+fewer_orders sources ahead scenario rows more orders before row later e = orders before row (later ++ more) (ap (λ xs. xs ++ more) e ∙ append_assoc before (row ∷ later) more)
+
+pub lawful_journals_are_sound : JournalsInTurnAreSound → LawfulJournalsAreSound
+lawful_journals_are_sound law sources ahead words scenario route b bare fit rows more orders lawful replies =
+    let first = lawful-prefix (system_of ahead words scenario) (schedule scenario) rows more lawful in
+    law sources ahead scenario b.place bare rows more (lawful_journals_decide_in_turn sources ahead words scenario route b fit (rows ++ more) orders lawful)
+    (lawful_journals_hold_beside sources ahead words scenario route b fit rows (fewer_orders sources ahead scenario rows more orders) first replies)
