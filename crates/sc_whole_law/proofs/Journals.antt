@@ -89,10 +89,10 @@ module _ (sources : Sources) (ahead : Ahead) (words : ℕ → ℕ → ℕ × ℕ
   may_tell : (all before : Rows) (row : Row Mail OrderLine) (later : Rows) → all ≡ before ++ row ∷ later → OrdersAreAllowed sources ahead scenario all → (h : All before) → (event : Event OrderLine) → row.event ≡ event
       → MayTell ahead words scenario scenario.groups (bases before) route (MayQueue sources ahead scenario) (MayHear sources ahead scenario) (players sources ahead words scenario route start seats asks_are before h) before row.who event
   may_tell all before row later are orders h (Told line) e = λ low high node is b a into r found taken. (
-      subst (λ n. IsAllowed sources (stories_at ahead scenario.groups before) n (ordered_command (next_name node.draws) line.number line.order)) into
-          (orders before row later are line e low high node is r found taken (stories_at ahead scenario.groups before)),
-      no_call scenario before (next_name node.draws) line.number line.order,
-    )
+    subst (λ n. IsAllowed sources (stories_at ahead scenario.groups before) n (ordered_command (next_name node.draws) line.number line.order)) into
+        (orders before row later are line e low high node is r found taken (stories_at ahead scenario.groups before)),
+    no_call scenario before (next_name node.draws) line.number line.order,
+  )
   may_tell all before row later are orders h (Deliver number) e = tt
   may_tell all before row later are orders h Tick e = tt
   may_tell all before row later are orders h Go e = tt
