@@ -30,7 +30,10 @@ use sc_sound_law::{
 use sc_split_law::{
     a_journal_with_a_split, logs_name_one_child, split_journals_are_sound, splits_are_scheduled,
 };
-use sc_whole_law::members_stay_rosters;
+use sc_whole_law::{
+    lawful_journals_are_sound, lawful_journals_decide_in_turn, lawful_journals_hold_beside,
+    members_stay_rosters,
+};
 
 #[test]
 fn the_laws_of_paxos_are_of_any_value() {
@@ -118,6 +121,9 @@ fn the_laws_of_names_are_called() {
 }
 
 #[test]
-fn the_law_of_members_is_called() {
+fn the_laws_of_whole_journals_are_called() {
     members_stay_rosters();
+    lawful_journals_decide_in_turn();
+    lawful_journals_hold_beside();
+    lawful_journals_are_sound();
 }
