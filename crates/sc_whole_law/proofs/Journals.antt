@@ -38,11 +38,12 @@ use Rattle.sc_group_law.proofs.Names.{IsOneOf}
 use Rattle.sc_group_law.proofs.Nodes.{IsNode}
 use Rattle.sc_group_law.proofs.Replicated.{one_value, is_log, executed_is}
 use Rattle.sc_group_law.proofs.Stepping.{MayTell}
-use Rattle.sc_whole_law.specs.Orders.{OrdersAreAllowed, AllowedMergesFit}
+use Rattle.sc_whole_law.specs.Orders.{OrdersAreAllowed}
 use Rattle.sc_whole_law.specs.Parameters.{stories_at, IsIssuedCall, MayQueue, MayHear}
 use Rattle.sc_whole_law.specs.Parties.{IsFresh, PartiesAreApart, MergesFit}
 use Rattle.sc_whole_law.specs.Players.{HasSeats, AsksAre}
 use Rattle.sc_whole_law.proofs.Distinct.{parties_are_apart}
+use Rattle.sc_whole_law.proofs.Fitting.{merges_fit}
 use Rattle.sc_whole_law.proofs.Turning.{Holds, players, issued_now, holds_next}
 
 -- rows and one more, in two parts
@@ -74,7 +75,7 @@ no_call scenario rows name number (An.Repart group at) = tt
 no_call scenario rows name number (An.Migrate group node) = tt
 
 module _ (sources : Sources) (ahead : Ahead) (words : ℕ → ℕ → ℕ × ℕ) (scenario : Scenario) (route : Route) (start : BeginInPlace sources scenario.groups) (seats : HasSeats ahead scenario route) (asks_are : AsksAre sources scenario)
-    (names : AreApart scenario.groups) (fresh : (b : Base) → Among b scenario.groups → IsFresh b) (fit : AllowedMergesFit sources scenario.groups) where
+    (names : AreApart scenario.groups) (fresh : (b : Base) → Among b scenario.groups → IsFresh b) where
   abbrev All : Rows → Type 0
   All rows = Holds sources ahead words scenario route start seats asks_are rows
 
@@ -105,7 +106,7 @@ module _ (sources : Sources) (ahead : Ahead) (words : ℕ → ℕ → ℕ × ℕ
     parties rows h =
         let entries = entries_at ahead scenario.groups rows in
         let allowed = entries_are_allowed sources ahead scenario.groups start rows h.turn in
-        (parties_are_apart sources scenario.groups start entries allowed, fit entries allowed)
+        (parties_are_apart sources scenario.groups start entries allowed, merges_fit sources scenario.groups fresh entries allowed)
 
     -- what holds of each first part of the journal
     abbrev P : Rows → Type 0

@@ -9,5 +9,6 @@ pub mod Children
 pub mod Growing
 pub mod Turning
 pub mod Distinct
+pub mod Fitting
 pub mod Journals
 pub mod Sound

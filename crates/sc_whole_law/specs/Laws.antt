@@ -13,7 +13,7 @@ use Rattle.sc_sound.specs.Soundness.{IsSound}
 use Rattle.sc_journal_law.specs.Beside.{RepliesAreDecided, HoldsBeside}
 use Rattle.sc_journal_law.specs.Descent.{Rows}
 use Rattle.sc_journal_law.specs.InTurn.{DecideInTurn}
-use Rattle.sc_whole_law.specs.Orders.{OrdersAreAllowed, AllowedMergesFit}
+use Rattle.sc_whole_law.specs.Orders.{OrdersAreAllowed}
 use Rattle.sc_whole_law.specs.Players.{BeginsWell}
 
 -- the members of a group stay one to nine nodes, ascending
@@ -22,15 +22,15 @@ MembersStayRosters = (group : Group) (log : List Command) → IsRoster group.cor
 
 -- each row decides what was allowed, and nothing yet for a group that it gives birth to
 abbrev pub LawfulJournalsDecideInTurn : Type 0
-LawfulJournalsDecideInTurn = (sources : Sources) (ahead : Ahead) (words : ℕ → ℕ → ℕ × ℕ) (scenario : Scenario) (route : Route) → BeginsWell sources ahead scenario route → AllowedMergesFit sources scenario.groups
+LawfulJournalsDecideInTurn = (sources : Sources) (ahead : Ahead) (words : ℕ → ℕ → ℕ × ℕ) (scenario : Scenario) (route : Route) → BeginsWell sources ahead scenario route
     → (rows : Rows) → OrdersAreAllowed sources ahead scenario rows → Lawful ahead words scenario rows → DecideInTurn sources ahead scenario.groups [] rows
 
 -- one value per slot, executed fronts and issued calls hold beside, where each reply was decided
 abbrev pub LawfulJournalsHoldBeside : Type 0
-LawfulJournalsHoldBeside = (sources : Sources) (ahead : Ahead) (words : ℕ → ℕ → ℕ × ℕ) (scenario : Scenario) (route : Route) → BeginsWell sources ahead scenario route → AllowedMergesFit sources scenario.groups
+LawfulJournalsHoldBeside = (sources : Sources) (ahead : Ahead) (words : ℕ → ℕ → ℕ × ℕ) (scenario : Scenario) (route : Route) → BeginsWell sources ahead scenario route
     → (rows : Rows) → OrdersAreAllowed sources ahead scenario rows → Lawful ahead words scenario rows → RepliesAreDecided ahead scenario rows → HoldsBeside ahead scenario rows
 
 -- so each first part is sound, where the replies in it were decided
 abbrev pub LawfulJournalsAreSound : Type 0
-LawfulJournalsAreSound = (sources : Sources) (ahead : Ahead) (words : ℕ → ℕ → ℕ × ℕ) (scenario : Scenario) (route : Route) → BeginsWell sources ahead scenario route → BeginBare scenario.groups → AllowedMergesFit sources scenario.groups
+LawfulJournalsAreSound = (sources : Sources) (ahead : Ahead) (words : ℕ → ℕ → ℕ × ℕ) (scenario : Scenario) (route : Route) → BeginsWell sources ahead scenario route → BeginBare scenario.groups
     → (rows more : Rows) → OrdersAreAllowed sources ahead scenario (rows ++ more) → Lawful ahead words scenario (rows ++ more) → RepliesAreDecided ahead scenario rows → IsSound ahead scenario rows more

@@ -1,24 +1,20 @@
--- What is asked beside of a journal: that what its orders queue is allowed, and that the parties of allowed merges fit.
-use Rattle.std.specs.Prelude.{◌≡◌, ℕ, ◌≤◌, List, ◌∷◌, ◌++◌, None, Some}
+-- What is asked of a journal's orders: that what they queue is allowed.
+use Rattle.std.specs.Prelude.{◌≡◌, ℕ, ◌≤◌, ◌∷◌, ◌++◌, None, Some}
 use Rattle.sc_base.specs.Drawing.{next_name}
-use Rattle.sc_cmd.specs.declared.cores.Base.{Base}
 use Rattle.sc_cmd.specs.declared.orders.OrderLine.{OrderLine}
 use Rattle.sc_mail.specs.declared.bodies.Mail.{Mail}
 use Rattle.sc_actor.specs.declared.rows.Event.TheVariants.{Told}
 use Rattle.sc_actor.specs.declared.rows.Row.{Row}
 use Rattle.sc_actor.specs.Replay.{value}
-use Rattle.sc_entries.specs.declared.LogEntry.{LogEntry}
 use Rattle.sc_node_table.specs.Node.{NodeState, group_of_order, replica_of}
 use Rattle.sc_node_table.specs.Ordering.{ordered_command, untaken}
 use Rattle.sc_node_table.specs.Replica.{ReplicaState}
 use Rattle.sc_players.specs.Players.{Ahead, node_seat, player_table}
 use Rattle.sc_players.specs.declared.roles.Role.TheVariants.{Node}
 use Rattle.sc_scenario.specs.declared.scenarios.Scenario.{Scenario}
-use Rattle.sc_ring_law.specs.Allowed.{Sources, IsAllowed, AreAllowed, first_told}
-use Rattle.sc_ring_law.specs.Laws.{stories_of}
+use Rattle.sc_ring_law.specs.Allowed.{Sources, IsAllowed}
 use Rattle.sc_ring_law.specs.Stories.{Stories}
 use Rattle.sc_journal_law.specs.Descent.{Rows}
-use Rattle.sc_whole_law.specs.Parties.{MergesFit}
 
 -- what a node of the scenario queues for an order that it takes, in a row of the journal, is allowed at the order's group, whatever was told
 abbrev pub OrdersAreAllowed : Sources → Ahead → Scenario → Rows → Type 0
@@ -26,7 +22,3 @@ OrdersAreAllowed sources ahead scenario rows = (before : Rows) (row : Row Mail O
     → (line : OrderLine) → row.event ≡ Told line → 1 ≤ row.who → row.who ≤ scenario.nodes → (node : NodeState) → value player_table (node_seat ahead scenario.groups row.who) before ≡ Node node
     → (r : ReplicaState) → replica_of (group_of_order line.order) node.replicas ≡ Some r → untaken node.draws line r ≡ None
     → (stories : Stories) → IsAllowed sources stories (group_of_order line.order) (ordered_command (next_name node.draws) line.number line.order)
-
--- after allowed entries the parties of each merge fit
-abbrev pub AllowedMergesFit : Sources → List Base → Type 0
-AllowedMergesFit sources bases = (entries : List LogEntry) → AreAllowed sources (first_told bases) entries → MergesFit (stories_of bases entries)

@@ -1,0 +1,325 @@
+-- Where the participant of a merge has voted Yes, both groups have at most nine members together.
+use Rattle.std.proofs.Common.{◌≡◌, ℕ, suc, ◌+◌, ◌≤◌, ◌<◌, ◌&&◌, ◌||◌, not, nat_lt, Bool, true, false, cond, eqb, List, [], ◌∷◌, ◌++◌, length, filter, map, Option, Some, None, inl, inr, refl, sym, ◌∙◌, ap, subst, option_map, option_to_list, arith}
+use Rattle.std.specs.List.{list_any, AllPairs, All}
+use Rattle.std.specs.List.Sorted.{IsStrictlyIncreasing}
+use Rattle.std.proofs.lemmas.Bool.{cases_Bool, eqb-true, eqb-false, eq-eqb, ne_eqb, ltb-false, cond_both}
+use Rattle.std.proofs.lemmas.List.Elements.{All-tail, All-head}
+use Rattle.std.proofs.lemmas.List.Filters.{length-filter_both}
+use Rattle.std.proofs.lemmas.List.Kept.{AllPairs-from_increasing}
+use Rattle.sc_base.specs.Among.{Among, Each}
+use Rattle.sc_base.specs.Same.{same_draw}
+use Rattle.sc_base.specs.declared.names.Draw.{Draw}
+use Rattle.sc_cmd.specs.declared.bodies.Body.{Body}
+use Rattle.sc_cmd.specs.declared.bodies.Body.TheVariants as At
+use Rattle.sc_cmd.specs.declared.bodies.Offer.{Offer}
+use Rattle.sc_cmd.specs.declared.commands.Command.{Command}
+use Rattle.sc_cmd.specs.declared.commands.Command.TheVariants.{Noop, Call, Join, Leave, Split, Begin, Prepared, RecordVote, GiveUp, Finish, Watched, RecordWatch}
+use Rattle.sc_cmd.specs.declared.cores.Base.{Base}
+use Rattle.sc_cmd.specs.declared.cores.Core.{Core}
+use Rattle.sc_cmd.specs.declared.effects.Effect.{Effect}
+use Rattle.sc_cmd.specs.declared.effects.Effect.TheVariants as Was
+use Rattle.sc_cmd.specs.declared.links.Route.{Route}
+use Rattle.sc_cmd.specs.declared.votes.Frozen.{Frozen}
+use Rattle.sc_cmd.specs.declared.votes.No.{No}
+use Rattle.sc_cmd.specs.declared.votes.No.TheVariants as Why
+use Rattle.sc_base.specs.Arc.{end_of}
+use Rattle.sc_cmd.specs.declared.votes.Outcome.{Outcome}
+use Rattle.sc_cmd.specs.declared.votes.Past.{Past}
+use Rattle.sc_cmd.specs.declared.votes.Past.TheVariants as Cast
+use Rattle.sc_cmd.specs.declared.votes.Vote.{Vote}
+use Rattle.sc_cmd.specs.declared.votes.Vote.TheVariants as Vows
+use Rattle.sc_member.specs.Roster.{IsRoster, is_member}
+use Rattle.sc_member.specs.Union.{united}
+use Rattle.sc_member.proofs.Rising.{Below, head_below, tail_up}
+use Rattle.sc_member.proofs.UnionLemmas.{count_united}
+use Rattle.sc_machine_table.specs.Group.{Group, group_of}
+use Rattle.sc_machine_table.specs.Machine.{applied}
+use Rattle.sc_machine_table.specs.Orders.{is_alone, locked_in}
+use Rattle.sc_machine_table.specs.Plans.{frozen_of}
+use Rattle.sc_machine_table.specs.Votes.{has_voted, size_no, body_no, offer_no, no_of, vote_of, past_of, offer_voted}
+use Rattle.sc_entries.specs.Births.{is_changed, birth_of}
+use Rattle.sc_entries.specs.Decisions.{outcome_in}
+use Rattle.sc_entries.specs.Worlds.{is_named, named_group, with_group, groups_after, after_command}
+use Rattle.sc_entries.specs.declared.LogEntry.{LogEntry}
+use Rattle.sc_entries.proofs.Children.{births_are_children}
+use Rattle.sc_paxos_words.proofs.ListLemmas.{Each-among, Each-append, find_found}
+use Rattle.sc_ring_law.specs.Allowed.{Sources, IsAllowed, AreAllowed, ToldWorld, first_told, told_on, told_after, stories_told}
+use Rattle.sc_ring_law.specs.Laws.{stories_of}
+use Rattle.sc_ring_law.specs.Stories.{Story, Stories, put, retold, unsigned, new_story, vote_by, vote_in, watch_vote_in, with_vote, with_watch_vote, with_decision, with_asked, with_answer, stories_after}
+use Rattle.sc_whole_law.specs.Parties.{IsFresh, MergesFit}
+use Rattle.sc_whole_law.proofs.Children.{fresh_child}
+use Rattle.sc_whole_law.proofs.Members.{members_after}
+
+-- ---- how many nodes two sets have together
+
+-- each node stands once
+abbrev AreOnce : List ℕ → Type 0
+AreOnce [] = Unit {0}
+AreOnce (x ∷ xs) = (is_member xs x ≡ false) × AreOnce xs
+
+not_in : (x : ℕ) (xs : List ℕ) → All (λ y. x < y) xs → is_member xs x ≡ false
+not_in x [] all = refl
+not_in x (y ∷ ys) all =
+    let lt : x < y = All-head (λ z. x < z) y ys all in
+    ap (λ b. b || is_member ys x) (ne_eqb y x (λ e. omega (arith, e, lt))) ∙ not_in x ys (All-tail (λ z. x < z) y ys all)
+
+once_of : (xs : List ℕ) → AllPairs Below xs → AreOnce xs
+once_of [] pairs = tt
+once_of (x ∷ xs) pairs = (not_in x xs (head_below x xs pairs), once_of xs (tail_up x xs pairs))
+
+flipped : (x y : ℕ) → eqb x y ≡ eqb y x
+flipped x y = elim (cases_Bool (eqb x y)) [
+  | inl t ↦ t ∙ sym (eq-eqb y x (sym (eqb-true x y t)))
+  | inr f ↦ f ∙ sym (ne_eqb y x (λ e. eqb-false x y f (sym e)))
+]
+
+-- one or none
+abbrev bit : Bool → ℕ
+bit b = cond b 1 0
+
+-- a node stands in a set once or never
+single : (x : ℕ) (b : List ℕ) → AreOnce b → length (filter (λ y. eqb x y) b) ≡ bit (is_member b x)
+single x [] once = refl
+single x (y ∷ ys) once =
+    let rest = single x ys once.1 in
+    let others = filter (λ z. eqb x z) ys in
+    elim (cases_Bool (eqb x y)) [
+      | inl t ↦ (
+          let same : x ≡ y = eqb-true x y t in
+          let none : is_member ys x ≡ false = subst (λ z. is_member ys z ≡ false) (sym same) once.0 in
+          let zero : length others ≡ 0 = rest ∙ ap bit none in
+          ap (λ c. length (cond c (y ∷ others) others)) t ∙ ap suc zero ∙ sym (ap (λ c. bit (c || is_member ys x)) (sym (flipped x y) ∙ t)))
+      | inr f ↦ ap (λ c. length (cond c (y ∷ others) others)) f ∙ rest ∙ sym (ap (λ c. bit (c || is_member ys x)) (sym (flipped x y) ∙ f))
+    ]
+
+both_of : (x : ℕ) (a b : List ℕ) → is_member a x ≡ false → length (filter (λ y. is_member (x ∷ a) y) b) ≡ length (filter (λ y. eqb x y) b) + length (filter (is_member a) b)
+both_of x a [] none = refl
+both_of x a (y ∷ ys) none =
+    let rest = both_of x a ys none in
+    let all = filter (λ z. is_member (x ∷ a) z) ys in
+    let one = filter (λ z. eqb x z) ys in
+    let other = filter (is_member a) ys in
+    elim (cases_Bool (eqb x y)) [
+      | inl t ↦ (
+          let out : is_member a y ≡ false = subst (λ z. is_member a z ≡ false) (eqb-true x y t) none in
+          let first : length (cond (eqb x y || is_member a y) (y ∷ all) all) ≡ suc (length all) = ap (λ c. length (cond (c || is_member a y) (y ∷ all) all)) t in
+          let second : length (cond (eqb x y) (y ∷ one) one) ≡ suc (length one) = ap (λ c. length (cond c (y ∷ one) one)) t in
+          let third : length (cond (is_member a y) (y ∷ other) other) ≡ length other = ap (λ c. length (cond c (y ∷ other) other)) out in
+          omega (arith, rest, first, second, third))
+      | inr f ↦ (
+          let second : length (cond (eqb x y) (y ∷ one) one) ≡ length one = ap (λ c. length (cond c (y ∷ one) one)) f in
+          elim (cases_Bool (is_member a y)) [
+            | inl t ↦ (
+                let first : length (cond (eqb x y || is_member a y) (y ∷ all) all) ≡ suc (length all) = ap (λ c. length (cond (c || is_member a y) (y ∷ all) all)) f ∙ ap (λ c. length (cond c (y ∷ all) all)) t in
+                let third : length (cond (is_member a y) (y ∷ other) other) ≡ suc (length other) = ap (λ c. length (cond c (y ∷ other) other)) t in
+                omega (arith, rest, first, second, third))
+            | inr g ↦ (
+                let first : length (cond (eqb x y || is_member a y) (y ∷ all) all) ≡ length all = ap (λ c. length (cond (c || is_member a y) (y ∷ all) all)) f ∙ ap (λ c. length (cond c (y ∷ all) all)) g in
+                let third : length (cond (is_member a y) (y ∷ other) other) ≡ length other = ap (λ c. length (cond c (y ∷ other) other)) g in
+                omega (arith, rest, first, second, third))
+          ])
+    ]
+
+none_of : (b : List ℕ) → length (filter (λ y. is_member [] y) b) ≡ 0
+none_of [] = refl
+none_of (y ∷ ys) = none_of ys
+
+-- two sets share as many nodes as they do the other way round
+shared : (a b : List ℕ) → AreOnce a → AreOnce b → length (filter (is_member a) b) ≡ length (filter (is_member b) a)
+shared [] b once other = none_of b
+shared (x ∷ a) b once other =
+    let rest = shared a b once.1 other in
+    let split = both_of x a b once.0 in
+    let here = single x b other in
+    let mine = filter (is_member b) a in
+    elim (cases_Bool (is_member b x)) [
+      | inl t ↦ (
+          let one : bit (is_member b x) ≡ 1 = ap bit t in
+          let more : length (cond (is_member b x) (x ∷ mine) mine) ≡ suc (length mine) = ap (λ c. length (cond c (x ∷ mine) mine)) t in
+          omega (arith, rest, split, here, one, more))
+      | inr f ↦ (
+          let one : bit (is_member b x) ≡ 0 = ap bit f in
+          let more : length (cond (is_member b x) (x ∷ mine) mine) ≡ length mine = ap (λ c. length (cond c (x ∷ mine) mine)) f in
+          omega (arith, rest, split, here, one, more))
+    ]
+
+-- a union has as many nodes as it has the other way round
+pub either_way : (a b : List ℕ) → IsRoster a → IsRoster b → length (united a b) ≡ length (united b a)
+either_way a b one other =
+    let first = count_united a b other.ascending in
+    let second = count_united b a one.ascending in
+    let in_b = length-filter_both (is_member a) (λ x. not (is_member a x)) (λ x. refl) b in
+    let in_a = length-filter_both (is_member b) (λ x. not (is_member b x)) (λ x. refl) a in
+    let same = shared a b (once_of a (AllPairs-from_increasing a one.ascending)) (once_of b (AllPairs-from_increasing b other.ascending)) in
+    omega (arith, first, second, in_b, in_a, same)
+
+-- ---- stories
+
+-- what a story says of its offer
+abbrev FitsStory : Story → Type 0
+FitsStory y =
+    ((offer : Offer) → y.offer ≡ Some offer → IsRoster offer.members)
+    × ((offer : Offer) → y.offer ≡ Some offer → offer.body ≡ At.Merge → (frozen : Frozen) → y.vote ≡ Some (Vows.Yes frozen) → length (united offer.members frozen.members) ≤ 9)
+
+abbrev AllFit : Stories → Type 0
+AllFit ys = (tx : Draw) (y : Story) → ys tx ≡ Some y → FitsStory y
+
+fit_put : (ys : Stories) (tx : Draw) (o : Option Story) → ((y : Story) → o ≡ Some y → FitsStory y) → AllFit ys → AllFit (put ys tx o)
+fit_put ys tx o new old t story = cond_both (same_draw t tx) o (ys t) (λ (x : Option Story). x ≡ Some story → FitsStory story) (λ _ e. new story e) (λ _ e. old t story e)
+
+fit_retold : (ys : Stories) (tx : Draw) (f : Story → Story) → ((y : Story) → ys tx ≡ Some y → FitsStory (f y)) → AllFit ys → AllFit (retold ys tx f)
+fit_retold ys tx f new old = by (ys tx) refl
+  where
+    by : (o : Option Story) → ys tx ≡ o → AllFit (put ys tx (option_map f o))
+    by None e = fit_put ys tx None (λ y is. cc) old
+    by (Some story) e = fit_put ys tx (Some (f story)) (λ y is. (let same : f story ≡ y = cc in subst FitsStory same (new story e))) old
+
+no_vote : (frozen : Frozen) → None ≡ Some (Vows.Yes frozen) → ⊥
+no_vote frozen e = cc
+
+some_offer : (a b : Offer) → Some a ≡ Some b → a ≡ b
+some_offer a b e = cc
+
+offer_roster : (s : Group) → IsRoster s.core.members → (body : Body) (offer : Offer) → (new_story s body).offer ≡ Some offer → IsRoster offer.members
+offer_roster s roster At.Merge offer e = subst (λ (o : Offer). IsRoster o.members) (some_offer _ offer e) roster
+offer_roster s roster (At.Repart at) offer e = subst (λ (o : Offer). IsRoster o.members) (some_offer _ offer e) roster
+offer_roster s roster (At.Migrate node) offer e = subst (λ (o : Offer). IsRoster o.members) (some_offer _ offer e) roster
+offer_roster s roster (At.Split at child) offer e = (let no_way : None ≡ Some offer = e in absurd (cc))
+
+fit_new : (s : Group) → IsRoster s.core.members → (body : Body) → FitsStory (new_story s body)
+fit_new s roster body = (offer_roster s roster body, λ offer e merge frozen v. absurd (no_vote frozen v))
+
+watched_fit : (o : Option Past) (y : Story) → FitsStory y → FitsStory (with_watch_vote o y)
+watched_fit None y k = k
+watched_fit (Some past) y k = k
+
+decided_fit : (o : Option Outcome) (y : Story) → FitsStory y → FitsStory (with_decision o y)
+decided_fit None y k = k
+decided_fit (Some outcome) y k = k
+
+asked_fit : (core : Core) (vote : Vote) (y : Story) → FitsStory y → FitsStory (with_asked core vote y)
+asked_fit core (Vows.Yes frozen) y k = k
+asked_fit core (Vows.No why) y k = k
+
+-- ---- a vote
+
+few : (n : ℕ) → size_no n ≡ None → n ≤ 9
+few n = cond_both (nat_lt 9 n) _ None (λ o. o ≡ None → n ≤ 9) (λ _ e. cc) (λ f e. ltb-false 9 n f)
+
+open_why : (gone : Option Route) (tx : Option Draw) (why : Option No) → no_of gone tx why ≡ None → why ≡ None
+open_why (Some into) tx why e = cc
+open_why None (Some t) why e = cc
+open_why None None why e = e
+
+merge_few : (core : Core) (offer : Offer) → offer.body ≡ At.Merge → vote_of core offer ≡ None → length (united core.members offer.members) ≤ 9
+merge_few core offer merge e =
+    let why = open_why core.gone (locked_in core.lock) (offer_no core offer) e in
+    cond_both (eqb core.arc.lo (end_of offer.arc)) (body_no offer.body core offer) (Some Why.Apart) (λ o. o ≡ None → length (united core.members offer.members) ≤ 9)
+    (λ _ k. few (length (united core.members offer.members)) (ap (λ b. body_no b core offer) (sym merge) ∙ k)) (λ _ k. cc) why
+
+past_yes : (why : Option No) → past_of why ≡ Cast.Yes → why ≡ None
+past_yes None e = refl
+past_yes (Some reason) e = cc
+
+voted_few : (s : Group) (past : Past) (frozen : Frozen) → vote_by s past ≡ Some (Vows.Yes frozen) → (past ≡ Cast.Yes) × (frozen_of s ≡ frozen)
+voted_few s Cast.Yes frozen e = (refl, cc)
+voted_few s (Cast.No why) frozen e = cc
+voted_few s Cast.Ended frozen e = cc
+
+-- a Yes on a merge
+yes_few : (s : Group) (tx : Draw) (offer : Offer) (frozen : Frozen) → vote_in s (applied s (Prepared tx offer)).1 ≡ Some (Vows.Yes frozen) → (vote_of s.core offer ≡ None) × (frozen_of s ≡ frozen)
+yes_few s tx offer frozen =
+    cond_both (has_voted s.core tx) _ _ (λ (x : Group × Effect). vote_in s x.1 ≡ Some (Vows.Yes frozen) → (vote_of s.core offer ≡ None) × (frozen_of s ≡ frozen)) (λ _ e. cc)
+    (λ _ e. (let k = voted_few s (past_of (vote_of s.core offer)) frozen e in (past_yes (vote_of s.core offer) k.0, k.1)))
+
+prepared_fit : (s : Group) → IsRoster s.core.members → (tx : Draw) (offer : Offer) (y : Story) → y.offer ≡ Some (unsigned offer) → FitsStory y → FitsStory (with_vote (vote_in s (applied s (Prepared tx offer)).1) y)
+prepared_fit s roster tx offer y offered k = by (vote_in s (applied s (Prepared tx offer)).1) refl
+  where
+    by : (o : Option Vote) → vote_in s (applied s (Prepared tx offer)).1 ≡ o → FitsStory (with_vote o y)
+    by None e = k
+    by (Some vote) e = (
+      k.0,
+      λ it is merge frozen v. (
+          let vote_is : vote ≡ Vows.Yes frozen = cc in
+          let voted = yes_few s tx offer frozen (e ∙ ap (λ x. Some x) vote_is) in
+          let same : unsigned offer ≡ it = (let pair : Some (unsigned offer) ≡ Some it = sym offered ∙ is in cc) in
+          let body : offer.body ≡ At.Merge = ap (λ (o : Offer). o.body) same ∙ merge in
+          let nine = merge_few s.core offer body voted.0 in
+          let its : IsRoster offer.members = subst (λ (o : Offer). IsRoster o.members) (sym same) (k.0 it is) in
+          let turn = either_way offer.members s.core.members its roster in
+          let fits : length (united offer.members s.core.members) ≤ 9 = omega (arith, nine, turn) in
+          subst (λ (o : Offer). length (united o.members frozen.members) ≤ 9) same (subst (λ (f : Frozen). length (united offer.members f.members) ≤ 9) voted.1 fits)),
+    )
+
+-- ---- entries
+
+entry_fit : (sources : Sources) (ys : Stories) (g : Draw) (s : Group) → IsRoster s.core.members → (c : Command) → IsAllowed sources ys g c → AllFit ys → AllFit (stories_after s c (applied s c).1 ys)
+entry_fit sources ys g s roster Noop a old = old
+entry_fit sources ys g s roster (Call client seq op) a old = old
+entry_fit sources ys g s roster (Join node order) a old = old
+entry_fit sources ys g s roster (Leave node order) a old = old
+entry_fit sources ys g s roster (Finish tx outcome) a old = old
+entry_fit sources ys g s roster (Split at child order) a old =
+    cond_both (is_changed (applied s (Split at child order)).1 && not (is_alone s.core)) (put ys child (Some (new_story s (At.Split at child)))) ys AllFit
+    (λ _. fit_put ys child (Some (new_story s (At.Split at child))) (λ y e. (let same : new_story s (At.Split at child) ≡ y = cc in subst FitsStory same (fit_new s roster (At.Split at child)))) old) (λ _. old)
+entry_fit sources ys g s roster (Begin tx body order) a old =
+    cond_both (is_changed (applied s (Begin tx body order)).1) (put ys tx (Some (new_story s body))) ys AllFit
+    (λ _. fit_put ys tx (Some (new_story s body)) (λ y e. (let same : new_story s body ≡ y = cc in subst FitsStory same (fit_new s roster body))) old) (λ _. old)
+entry_fit sources ys g s roster (Prepared tx offer) a old =
+    fit_retold ys tx _ (λ y e. (let same : a.0 ≡ y = (let both : Some a.0 ≡ Some y = sym a.1 ∙ e in cc) in prepared_fit s roster tx offer y (ap (λ (z : Story). z.offer) (sym same) ∙ a.2) (old tx y e))) old
+entry_fit sources ys g s roster (Watched tx watch) a old = fit_retold ys tx _ (λ y e. watched_fit (watch_vote_in (applied s (Watched tx watch)).1) y (old tx y e)) old
+entry_fit sources ys g s roster (RecordVote tx vote by) a old = fit_retold ys tx _ (λ y e. (
+    let effect = (applied s (RecordVote tx vote by)).1 in
+    cond_both (is_changed effect) (with_asked s.core vote y) (with_decision (outcome_in effect) y) FitsStory (λ _. asked_fit s.core vote y (old tx y e)) (λ _. decided_fit (outcome_in effect) y (old tx y e)))) old
+entry_fit sources ys g s roster (RecordWatch tx vote by) a old = fit_retold ys tx _ (λ y e. decided_fit (outcome_in (applied s (RecordWatch tx vote by)).1) y (old tx y e)) old
+entry_fit sources ys g s roster (GiveUp tx) a old = fit_retold ys tx _ (λ y e. decided_fit (outcome_in (applied s (GiveUp tx)).1) y (old tx y e)) old
+
+-- the groups of a world have rosters
+abbrev HaveRosters : List Group → Type 0
+HaveRosters groups = Each (λ (group : Group). IsRoster group.core.members) groups
+
+replaced : (name : Draw) (after : Group) (groups : List Group) → IsRoster after.core.members → HaveRosters groups → HaveRosters (with_group name after groups)
+replaced name after [] roster all = tt
+replaced name after (group ∷ groups) roster all = (
+  cond_both (is_named name group) after group (λ (g : Group). IsRoster g.core.members) (λ _. roster) (λ _. all.0),
+  replaced name after groups roster all.1,
+)
+
+kids : (o : Option Base) → ((kid : Base) → o ≡ Some kid → IsFresh kid) → HaveRosters (map group_of (option_to_list o))
+kids None f = tt
+kids (Some kid) f = ((f kid refl).roster, tt)
+
+rosters_after : (s : Group) (c : Command) (groups : List Group) → IsRoster s.core.members → HaveRosters groups → HaveRosters (groups_after s (applied s c).0 (birth_of s c (applied s c).1) groups)
+rosters_after s c groups roster all =
+    Each-append (λ (group : Group). IsRoster group.core.members) (with_group s.core.id (applied s c).0 groups) (map group_of (option_to_list (birth_of s c (applied s c).1)))
+    (replaced s.core.id (applied s c).0 groups (members_after s c roster) all)
+    (kids (birth_of s c (applied s c).1) (λ kid e. fresh_child s c roster kid (births_are_children s c ∙ e)))
+
+-- with one entry more
+pub record Fit (w : ToldWorld) : Type 0 where
+  pub rosters : HaveRosters w.store.groups
+  pub stories : AllFit w.stories
+
+told_fit : (sources : Sources) (w : ToldWorld) (e : LogEntry) → IsAllowed sources w.stories e.group e.command → Fit w → Fit (told_on w e)
+told_fit sources w e a k = by (named_group e.group w.store.groups) refl
+  where
+    by : (o : Option Group) → named_group e.group w.store.groups ≡ o → Fit (record { store = after_command w.store o e.command; stories = stories_told w.stories o e.command })
+    by None is = k
+    by (Some s) is =
+        let there = find_found (is_named e.group) w.store.groups s is in
+        let roster = Each-among (λ (group : Group). IsRoster group.core.members) w.store.groups s k.rosters there.0 in
+        record { rosters = rosters_after s e.command w.store.groups roster k.rosters; stories = entry_fit sources w.stories e.group s roster e.command a k.stories }
+
+all_fit : (sources : Sources) (w : ToldWorld) (entries : List LogEntry) → AreAllowed sources w entries → Fit w → Fit (told_after w entries)
+all_fit sources w [] a k = k
+all_fit sources w (e ∷ entries) a k = all_fit sources (told_on w e) entries a.1 (told_fit sources w e a.0 k)
+
+first_rosters : (bases : List Base) → ((base : Base) → Among base bases → IsFresh base) → HaveRosters (map group_of bases)
+first_rosters [] fresh = tt
+first_rosters (base ∷ bases) fresh = ((fresh base (inl refl)).roster, first_rosters bases (λ b a. fresh b (inr a)))
+
+-- after allowed entries
+pub merges_fit : (sources : Sources) (bases : List Base) → ((base : Base) → Among base bases → IsFresh base) → (entries : List LogEntry) → AreAllowed sources (first_told bases) entries → MergesFit (stories_of bases entries)
+merges_fit sources bases fresh entries allowed tx story e offer offered merge frozen vote =
+    let k = all_fit sources (first_told bases) entries allowed (record { rosters = first_rosters bases fresh; stories = λ t y is. cc }) in
+    (k.stories tx story e).1 offer offered merge frozen vote
