@@ -1,7 +1,7 @@
 -- A name that no mail of Paxos has: nothing was promised, accepted or asked for in it.
-use Rattle.std.proofs.Common.{◌≡◌, ℕ, ◌&&◌, true, false, eqb, List, [], ◌∷◌, ◌++◌, Option, Some, None, inl, inr, refl, sym, ◌∙◌, ap, subst, append_assoc, append-nil}
+use Rattle.std.proofs.Common.{◌≡◌, ℕ, ◌&&◌, true, false, List, [], ◌∷◌, ◌++◌, Option, Some, None, inl, inr, refl, sym, ◌∙◌, ap, subst, append_assoc, append-nil}
 use Rattle.std.specs.List.{list_any, flat_map}
-use Rattle.std.proofs.lemmas.Bool.{cases_Bool, and_left, and_right, cond-false}
+use Rattle.std.proofs.lemmas.Bool.{cases_Bool, and_left, cond-false}
 use Rattle.sc_base.specs.Among.{Among, Each}
 use Rattle.sc_base.specs.Same.{same_draw, same_ballot}
 use Rattle.sc_base.specs.declared.names.Ballot.{Ballot}

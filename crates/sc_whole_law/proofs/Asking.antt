@@ -1,13 +1,11 @@
 -- What a coordinator's lock says of its body, whatever its log has.
-use Rattle.std.proofs.Common.{◌≡◌, ℕ, ◌≤◌, ◌&&◌, ◌||◌, not, true, nat_le, eqb, List, [], ◌∷◌, length, Option, Some, None, refl, sym, ◌∙◌, ap, subst, arith}
-use Rattle.std.proofs.lemmas.Bool.{and_from, or_parts, eqb-false, le-leb, not-false, cond_both}
+use Rattle.std.proofs.Common.{◌≡◌, ℕ, ◌&&◌, ◌||◌, not, true, nat_le, eqb, List, [], ◌∷◌, length, Option, Some, None, refl, sym, ◌∙◌, ap, subst}
+use Rattle.std.proofs.lemmas.Bool.{and_from, or_parts, le-leb, not-false, cond_both}
 use Rattle.sc_base.specs.Among.{Each}
 use Rattle.sc_base.specs.Arc.{holds}
 use Rattle.sc_base.specs.declared.names.Draw.{Draw}
 use Rattle.sc_cmd.specs.declared.bodies.Body.{Body}
 use Rattle.sc_cmd.specs.declared.bodies.Body.TheVariants as By
-use Rattle.sc_cmd.specs.declared.bodies.Offer.{Offer}
-use Rattle.sc_cmd.specs.declared.bodies.Watch.{Watch}
 use Rattle.sc_cmd.specs.declared.commands.Command.{Command}
 use Rattle.sc_cmd.specs.declared.commands.Command.TheVariants.{Join, Leave, Split, Begin}
 use Rattle.sc_cmd.specs.declared.cores.Core.{Core}
@@ -25,7 +23,7 @@ use Rattle.sc_machine_table.specs.Plans.{can_split}
 use Rattle.sc_machine_table.specs.Votes.{vote_of, watch_vote_of, bound_by}
 use Rattle.sc_ring_law.specs.Allowed.{IsShared}
 use Rattle.sc_group_law.proofs.Rosters.{ordered_if, free_refusal}
-use Rattle.sc_whole_law.proofs.Coming.{Cases, comes}
+use Rattle.sc_whole_law.proofs.Coming.{comes}
 use Rattle.sc_whole_law.proofs.Locks.{always, free_lock}
 use Rattle.sc_whole_law.proofs.Members.{may_split, members_after}
 

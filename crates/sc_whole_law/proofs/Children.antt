@@ -1,5 +1,5 @@
 -- A child of a group is bound in nothing, has voted and decided nothing, and has one to nine members.
-use Rattle.std.proofs.Common.{◌≡◌, ℕ, ◌+◌, ◌-◌, ◌/◌, ◌<◌, ◌≤◌, ◌&&◌, true, false, nat_le, List, [], ◌∷◌, ◌++◌, length, get_or, Option, Some, None, inl, inr, refl, sym, ◌∙◌, ap, subst, length-drop, option_to_list, arith}
+use Rattle.std.proofs.Common.{◌≡◌, ℕ, ◌+◌, ◌-◌, ◌/◌, ◌<◌, ◌≤◌, nat_le, List, [], ◌∷◌, length, get_or, Option, Some, None, inl, inr, refl, ◌∙◌, ap, subst, length-drop, option_to_list, arith}
 use Rattle.std.proofs.lemmas.Bool.{and_parts, leb-true, cond_both}
 use Rattle.std.proofs.lemmas.List.{get_or-drop}
 use Rattle.sc_base.specs.Among.{Among}
@@ -17,7 +17,7 @@ use Rattle.sc_cmd.specs.declared.orders.OrderRefusal.{OrderRefusal}
 use Rattle.sc_cmd.specs.declared.votes.Past.{Past}
 use Rattle.sc_cmd.specs.declared.votes.Past.TheVariants as Cast
 use Rattle.sc_member.specs.Roster.{IsRoster}
-use Rattle.sc_machine_table.specs.Children.{ordered_child, split_child, released_child, answered_child, watched_child, child_by}
+use Rattle.sc_machine_table.specs.Children.{ordered_child, released_child, answered_child, watched_child, child_by}
 use Rattle.sc_machine_table.specs.Group.{Group}
 use Rattle.sc_machine_table.specs.Machine.{applied}
 use Rattle.sc_machine_table.specs.Orders.{is_alone, refusal_of}

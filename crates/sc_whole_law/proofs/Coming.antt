@@ -1,6 +1,6 @@
 -- What may come of a command: the group as it was, or one of these.
 use Rattle.std.specs.List.Sorted.{IsStrictlyIncreasing}
-use Rattle.std.proofs.Common.{◌≡◌, ℕ, ◌+◌, ◌-◌, ◌/◌, ◌<◌, ◌≤◌, ◌&&◌, ◌||◌, not, if◌then◌else◌, cond, filter, Bool, true, false, nat_lt, nat_le, eqb, List, [], ◌∷◌, ◌++◌, length, get_or, Option, Some, None, refl, sym, ◌∙◌, ap, subst, length-drop, arith}
+use Rattle.std.proofs.Common.{◌≡◌, ℕ, ◌+◌, ◌-◌, ◌/◌, ◌<◌, ◌≤◌, ◌&&◌, not, if◌then◌else◌, cond, filter, Bool, true, false, nat_lt, nat_le, eqb, List, [], ◌∷◌, ◌++◌, length, Option, Some, None, refl, sym, ◌∙◌, ap, subst, arith}
 use Rattle.std.proofs.lemmas.Bool.{and_parts, leb-true, cond-true, cond-false, cond_both}
 use Rattle.std.proofs.lemmas.List.{length-take-le, get_or-take}
 use Rattle.sc_base.specs.Same.{same_draw}
@@ -31,18 +31,18 @@ use Rattle.sc_cmd.specs.declared.votes.Past.{Past}
 use Rattle.sc_cmd.specs.declared.votes.Past.TheVariants as Cast
 use Rattle.sc_cmd.specs.declared.votes.Vote.{Vote}
 use Rattle.sc_cmd.specs.declared.votes.Vote.TheVariants as Vows
-use Rattle.sc_member.specs.Roster.{IsRoster, is_member, without_member}
+use Rattle.sc_member.specs.Roster.{IsRoster, is_member}
 use Rattle.sc_member.specs.Union.{with_any, united}
 use Rattle.sc_member.proofs.Rising.{roster_with, roster_without}
 use Rattle.sc_member.proofs.UnionLemmas.{grows, count_united}
 use Rattle.sc_machine_table.specs.Finishes.{can_gain, gone_group, gained_group, lost_group, welcomed_group, participant_after, watcher_after, party_freed, settled_in, finished}
 use Rattle.sc_machine_table.specs.Group.{Group}
-use Rattle.sc_machine_table.specs.Machine.{served_by_note, called, split_group, ordered_by, applied}
-use Rattle.sc_machine_table.specs.Orders.{is_alone, refusal_of, with_node, without_node, ordered}
-use Rattle.sc_machine_table.specs.Plans.{Plan, can_cut, has_key_of, can_split, split_plan, can_merge, merged_group, may_merge, merged_route, merge_plan, closing_group, closing_plan, can_repart, giving_group, part_gift, taking_group, taken, giving_plan, taking_plan, repart_plan, can_migrate, migrated_group, migrate_plan}
+use Rattle.sc_machine_table.specs.Machine.{served_by_note, called, split_group, applied}
+use Rattle.sc_machine_table.specs.Orders.{is_alone, refusal_of, ordered}
+use Rattle.sc_machine_table.specs.Plans.{can_cut, has_key_of, can_split, split_plan, can_merge, merged_group, may_merge, merged_route, merge_plan, closing_group, closing_plan, can_repart, giving_group, part_gift, taking_group, taken, giving_plan, taking_plan, repart_plan, can_migrate, migrated_group, migrate_plan}
 use Rattle.sc_machine_table.specs.Splits.{staying, left_members, left_group, has_named}
-use Rattle.sc_machine_table.specs.Transactions.{begun_group, decided_group, decided, aborted, committed, heard_group, granted, participant_answered, asks_watcher, vote_recorded, released, watch_answered, watch_recorded, is_coordinating, given_up}
-use Rattle.sc_machine_table.specs.Votes.{has_voted, vote_of, watch_vote_of, past_of, bound_by, voted_on}
+use Rattle.sc_machine_table.specs.Transactions.{begun_group, decided_group, decided, aborted, committed, heard_group, granted, participant_answered, asks_watcher, vote_recorded, released, watch_answered, watch_recorded, is_coordinating}
+use Rattle.sc_machine_table.specs.Votes.{has_voted, vote_of, watch_vote_of, past_of, bound_by}
 
 -- ---- members
 

@@ -1,9 +1,8 @@
 -- The participant of a merge is not its watcher: a participant that stands behind another group is not its own successor.
-use Rattle.std.proofs.Common.{◌≡◌, ℕ, ◌&&◌, not, true, false, List, [], ◌∷◌, Option, Some, None, refl, sym, ◌∙◌, ap, subst, option_map}
+use Rattle.std.proofs.Common.{◌≡◌, ℕ, ◌&&◌, not, true, List, [], ◌∷◌, Option, Some, None, refl, sym, ◌∙◌, ap, subst, option_map}
 use Rattle.std.proofs.lemmas.Bool.{cond_both}
 use Rattle.sc_base.specs.Same.{same_draw}
 use Rattle.sc_base.specs.declared.names.Draw.{Draw}
-use Rattle.sc_base.proofs.NameLemmas.{draw_is}
 use Rattle.sc_cmd.specs.declared.bodies.Body.{Body}
 use Rattle.sc_cmd.specs.declared.bodies.Body.TheVariants as At
 use Rattle.sc_cmd.specs.declared.bodies.Offer.{Offer}
@@ -11,7 +10,7 @@ use Rattle.sc_cmd.specs.declared.bodies.Watch.{Watch}
 use Rattle.sc_cmd.specs.declared.commands.Command.{Command}
 use Rattle.sc_cmd.specs.declared.commands.Command.TheVariants.{Noop, Call, Join, Leave, Split, Begin, Prepared, RecordVote, GiveUp, Finish, Watched, RecordWatch}
 use Rattle.sc_cmd.specs.declared.cores.Base.{Base}
-use Rattle.sc_cmd.specs.declared.cores.Lock.TheVariants.{Coordinating, Promised}
+use Rattle.sc_cmd.specs.declared.cores.Lock.TheVariants.{Coordinating}
 use Rattle.sc_cmd.specs.declared.effects.Effect.{Effect}
 use Rattle.sc_cmd.specs.declared.effects.Effect.TheVariants as Was
 use Rattle.sc_cmd.specs.declared.votes.Frozen.{Frozen}
@@ -29,9 +28,9 @@ use Rattle.sc_entries.specs.Effective.{after_outcome}
 use Rattle.sc_entries.specs.Worlds.{named_group}
 use Rattle.sc_entries.specs.declared.LogEntry.{LogEntry}
 use Rattle.sc_ring_law.specs.Allowed.{Sources, IsVoteCast, IsAllowed, AreAllowed, ToldWorld, first_told, told_on, told_after, stories_told}
-use Rattle.sc_ring_law.specs.Invariant.{Groups, Facts, LockOk, IsCoordinating, IsPromised}
+use Rattle.sc_ring_law.specs.Invariant.{Groups, LockOk, IsCoordinating, IsPromised}
 use Rattle.sc_ring_law.specs.Laws.{BeginInPlace, stories_of}
-use Rattle.sc_ring_law.specs.Stories.{Story, Stories, no_stories, put, retold, unsigned, watch_with, merge_watch, offer_for, new_story, vote_in, watch_vote_in, with_vote, with_watch_vote, with_decision, with_asked, with_answer, stories_after}
+use Rattle.sc_ring_law.specs.Stories.{Story, Stories, put, retold, unsigned, new_story, vote_in, watch_vote_in, with_vote, with_watch_vote, with_decision, with_asked, with_answer, stories_after}
 use Rattle.sc_ring_law.proofs.Effects.{Decisions, decisions, outcome_of, settle_by, living, living_by, eff, view_of, arc_of, succ_of, Old}
 use Rattle.sc_ring_law.proofs.Links.{IsPair, not_back}
 use Rattle.sc_ring_law.proofs.Start.{at_start}
@@ -39,7 +38,7 @@ use Rattle.sc_ring_law.proofs.Steps.{Kept}
 use Rattle.sc_ring_law.proofs.View.{Ring}
 use Rattle.sc_ring_law.proofs.Worlds.{KeptWorld, kept_on}
 use Rattle.sc_whole_law.specs.Parties.{PartiesAreApart}
-use Rattle.sc_whole_law.proofs.Coming.{Cases, IsDull, comes}
+use Rattle.sc_whole_law.proofs.Coming.{IsDull, comes}
 
 -- a story of which the participant is not the watcher
 abbrev IsApartStory : Story → Type 0

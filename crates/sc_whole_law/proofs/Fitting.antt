@@ -1,7 +1,6 @@
 -- Where the participant of a merge has voted Yes, both groups have at most nine members together.
-use Rattle.std.proofs.Common.{◌≡◌, ℕ, suc, ◌+◌, ◌≤◌, ◌<◌, ◌&&◌, ◌||◌, not, nat_lt, Bool, true, false, cond, eqb, List, [], ◌∷◌, ◌++◌, length, filter, map, Option, Some, None, inl, inr, refl, sym, ◌∙◌, ap, subst, option_map, option_to_list, arith}
-use Rattle.std.specs.List.{list_any, AllPairs, All}
-use Rattle.std.specs.List.Sorted.{IsStrictlyIncreasing}
+use Rattle.std.proofs.Common.{◌≡◌, ℕ, suc, ◌+◌, ◌≤◌, ◌<◌, ◌&&◌, ◌||◌, not, nat_lt, Bool, false, cond, eqb, List, [], ◌∷◌, length, filter, map, Option, Some, None, inl, inr, refl, sym, ◌∙◌, ap, subst, option_map, option_to_list, arith}
+use Rattle.std.specs.List.{AllPairs, All}
 use Rattle.std.proofs.lemmas.Bool.{cases_Bool, eqb-true, eqb-false, eq-eqb, ne_eqb, ltb-false, cond_both}
 use Rattle.std.proofs.lemmas.List.Elements.{All-tail, All-head}
 use Rattle.std.proofs.lemmas.List.Filters.{length-filter_both}
@@ -17,7 +16,6 @@ use Rattle.sc_cmd.specs.declared.commands.Command.TheVariants.{Noop, Call, Join,
 use Rattle.sc_cmd.specs.declared.cores.Base.{Base}
 use Rattle.sc_cmd.specs.declared.cores.Core.{Core}
 use Rattle.sc_cmd.specs.declared.effects.Effect.{Effect}
-use Rattle.sc_cmd.specs.declared.effects.Effect.TheVariants as Was
 use Rattle.sc_cmd.specs.declared.links.Route.{Route}
 use Rattle.sc_cmd.specs.declared.votes.Frozen.{Frozen}
 use Rattle.sc_cmd.specs.declared.votes.No.{No}
@@ -36,7 +34,7 @@ use Rattle.sc_machine_table.specs.Group.{Group, group_of}
 use Rattle.sc_machine_table.specs.Machine.{applied}
 use Rattle.sc_machine_table.specs.Orders.{is_alone, locked_in}
 use Rattle.sc_machine_table.specs.Plans.{frozen_of}
-use Rattle.sc_machine_table.specs.Votes.{has_voted, size_no, body_no, offer_no, no_of, vote_of, past_of, offer_voted}
+use Rattle.sc_machine_table.specs.Votes.{has_voted, size_no, body_no, offer_no, no_of, vote_of, past_of}
 use Rattle.sc_entries.specs.Births.{is_changed, birth_of}
 use Rattle.sc_entries.specs.Decisions.{outcome_in}
 use Rattle.sc_entries.specs.Worlds.{is_named, named_group, with_group, groups_after, after_command}
@@ -45,7 +43,7 @@ use Rattle.sc_entries.proofs.Children.{births_are_children}
 use Rattle.sc_paxos_words.proofs.ListLemmas.{Each-among, Each-append, find_found}
 use Rattle.sc_ring_law.specs.Allowed.{Sources, IsAllowed, AreAllowed, ToldWorld, first_told, told_on, told_after, stories_told}
 use Rattle.sc_ring_law.specs.Laws.{stories_of}
-use Rattle.sc_ring_law.specs.Stories.{Story, Stories, put, retold, unsigned, new_story, vote_by, vote_in, watch_vote_in, with_vote, with_watch_vote, with_decision, with_asked, with_answer, stories_after}
+use Rattle.sc_ring_law.specs.Stories.{Story, Stories, put, retold, unsigned, new_story, vote_by, vote_in, watch_vote_in, with_vote, with_watch_vote, with_decision, with_asked, stories_after}
 use Rattle.sc_whole_law.specs.Parties.{IsFresh, MergesFit}
 use Rattle.sc_whole_law.proofs.Children.{fresh_child}
 use Rattle.sc_whole_law.proofs.Members.{members_after}

@@ -1,15 +1,14 @@
 -- What the replicas of a group of a journal say of transactions is true, and what they hear they may queue: the one link between a replica's mail and the entries of all logs.
-use Rattle.std.proofs.Common.{◌≡◌, ℕ, Bool, true, false, List, [], ◌∷◌, ◌++◌, length, drop, Option, Some, None, inl, inr, refl, sym, ◌∙◌, ap, subst, append_assoc, find, option_map}
+use Rattle.std.proofs.Common.{◌≡◌, ℕ, Bool, List, [], ◌∷◌, ◌++◌, length, drop, Option, Some, None, refl, sym, ◌∙◌, ap, subst, append_assoc, find, option_map}
 use Rattle.std.proofs.lemmas.Bool.{cond_both}
 use Rattle.sc_base.specs.Among.{Among, Each}
 use Rattle.sc_base.specs.Same.{same_draw}
 use Rattle.sc_base.specs.declared.names.Draw.{Draw}
 use Rattle.sc_base.proofs.NameLemmas.{draw_is}
-use Rattle.sc_cmd.specs.declared.bodies.Body.{Body}
 use Rattle.sc_cmd.specs.declared.bodies.Offer.{Offer}
 use Rattle.sc_cmd.specs.declared.bodies.Watch.{Watch}
 use Rattle.sc_cmd.specs.declared.commands.Command.{Command}
-use Rattle.sc_cmd.specs.declared.commands.Command.TheVariants.{Begin, Prepared, RecordVote, Finish, Watched, RecordWatch}
+use Rattle.sc_cmd.specs.declared.commands.Command.TheVariants.{Prepared, RecordVote, Finish, Watched, RecordWatch}
 use Rattle.sc_cmd.specs.declared.cores.Base.{Base}
 use Rattle.sc_cmd.specs.declared.cores.Lock.{Lock}
 use Rattle.sc_cmd.specs.declared.cores.Lock.TheVariants.{Free, Coordinating, Promised, Watching}
@@ -44,11 +43,11 @@ use Rattle.sc_journal_law.specs.InTurn.{DecideInTurn}
 use Rattle.sc_journal_law.proofs.Allowing.{fronts_allow, states_allow}
 use Rattle.sc_journal_law.proofs.Allows.{groups_allow_others}
 use Rattle.sc_group_law.proofs.Families.{h_of}
-use Rattle.sc_group_law.proofs.Invariant.{Steps, rule, first}
+use Rattle.sc_group_law.proofs.Invariant.{rule, first}
 use Rattle.sc_group_law.proofs.Places.{split_at}
 use Rattle.sc_group_law.proofs.Replies.{front_is}
 use Rattle.sc_group_law.proofs.Speech.{AreSaid, Meets, Speaks}
-use Rattle.sc_whole_law.specs.Parameters.{stories_at, IsHeard, MayQueue, MayHear}
+use Rattle.sc_whole_law.specs.Parameters.{stories_at, MayQueue, MayHear}
 use Rattle.sc_whole_law.specs.Parties.{IsFresh, PartiesAreApart, MergesFit}
 use Rattle.sc_whole_law.proofs.Coming.{Binds}
 use Rattle.sc_whole_law.proofs.Locks.{Ever, WatchesIt, watching_since, DecidesIt, decided_since, yes_binds}

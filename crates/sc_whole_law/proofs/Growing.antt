@@ -1,5 +1,5 @@
 -- What holds of a journal with the groups before a row holds with those after it: a new group has taken no step.
-use Rattle.std.proofs.Common.{◌≡◌, ℕ, ◌+◌, List, [], ◌∷◌, ◌++◌, None, Some, ◌⊎◌, inl, inr, sym, ◌∙◌, ap, subst}
+use Rattle.std.proofs.Common.{◌≡◌, ℕ, ◌+◌, List, [], ◌⊎◌, inl, inr, sym, ◌∙◌, subst}
 use Rattle.sc_base.specs.Among.{Among, Each}
 use Rattle.sc_base.specs.declared.names.Draw.{Draw}
 use Rattle.sc_base.specs.declared.ops.Op.{Op}

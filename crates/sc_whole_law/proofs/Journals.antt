@@ -1,6 +1,6 @@
 -- Every lawful journal decides in turn, row by row, whatever its groups order; and one value per slot, executed fronts and issued calls hold beside.
-use Rattle.std.proofs.Common.{◌≡◌, ℕ, ◌≤◌, List, [], ◌∷◌, ◌++◌, None, Some, ◌⊎◌, inl, inr, refl, sym, ◌∙◌, ap, subst, append_assoc, append-nil}
-use Rattle.sc_base.specs.Among.{Among, Each}
+use Rattle.std.proofs.Common.{◌≡◌, ℕ, List, [], ◌∷◌, ◌++◌, ◌⊎◌, inl, inr, refl, sym, ◌∙◌, ap, subst, append_assoc, append-nil}
+use Rattle.sc_base.specs.Among.{Among}
 use Rattle.sc_base.specs.Drawing.{next_name}
 use Rattle.sc_base.specs.declared.names.Draw.{Draw}
 use Rattle.sc_base.specs.declared.ops.Op.{Op}
@@ -16,7 +16,7 @@ use Rattle.sc_actor.specs.declared.rows.Event.TheVariants.{Deliver, Tick, Go, To
 use Rattle.sc_actor.specs.declared.rows.Row.{Row}
 use Rattle.sc_actor.specs.Steps.{IsStep}
 use Rattle.sc_actor.proofs.Induction.{lawful-induction}
-use Rattle.sc_node_table.specs.Node.{NodeState, group_of_order}
+use Rattle.sc_node_table.specs.Node.{NodeState}
 use Rattle.sc_node_table.specs.Ordering.{ordered_command}
 use Rattle.sc_node_table.specs.Replica.{ReplicaState, name_of}
 use Rattle.sc_paxos_words.proofs.ListLemmas.{Each-among}

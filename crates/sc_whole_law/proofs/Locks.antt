@@ -1,25 +1,21 @@
 -- What a group's lock, votes and decisions say of the entries of its log, whatever the log has.
-use Rattle.std.proofs.Common.{◌≡◌, ℕ, ◌≤◌, ◌&&◌, ◌||◌, not, Bool, true, false, cond, List, [], ◌∷◌, ◌++◌, map, length, Option, Some, None, ◌⊎◌, inl, inr, refl, sym, ◌∙◌, ap, subst, find, option_map, arith}
+use Rattle.std.proofs.Common.{◌≡◌, ◌||◌, Bool, true, false, cond, List, [], ◌∷◌, ◌++◌, map, Option, Some, None, ◌⊎◌, inl, inr, refl, sym, ◌∙◌, ap, subst, find, option_map}
 use Rattle.std.specs.List.{list_any}
-use Rattle.std.proofs.lemmas.Bool.{cases_Bool, and_from, or_parts, eqb-false, le-leb, cond-true, cond-false, cond_both}
+use Rattle.std.proofs.lemmas.Bool.{cond-true, cond-false, cond_both}
 use Rattle.sc_base.specs.Among.{Among}
-use Rattle.sc_base.specs.Arc.{holds}
 use Rattle.sc_base.specs.Same.{same_draw}
 use Rattle.sc_base.specs.declared.names.Draw.{Draw}
 use Rattle.sc_base.proofs.NameLemmas.{draw_is, same_name}
-use Rattle.sc_cmd.specs.declared.bodies.Body.{Body}
-use Rattle.sc_cmd.specs.declared.bodies.Body.TheVariants as By
 use Rattle.sc_cmd.specs.declared.bodies.Offer.{Offer}
 use Rattle.sc_cmd.specs.declared.bodies.Watch.{Watch}
 use Rattle.sc_cmd.specs.declared.commands.Command.{Command}
-use Rattle.sc_cmd.specs.declared.commands.Command.TheVariants.{Join, Leave, Split, RecordVote, RecordWatch, GiveUp, Watched}
+use Rattle.sc_cmd.specs.declared.commands.Command.TheVariants.{Join, Leave, Watched}
 use Rattle.sc_cmd.specs.declared.cores.Core.{Core}
 use Rattle.sc_cmd.specs.declared.cores.Lock.{Lock}
 use Rattle.sc_cmd.specs.declared.cores.Lock.TheVariants.{Free, Coordinating, Promised, Watching}
 use Rattle.sc_cmd.specs.declared.effects.Effect.{Effect}
 use Rattle.sc_cmd.specs.declared.effects.Effect.TheVariants as Was
 use Rattle.sc_cmd.specs.declared.links.Route.{Route}
-use Rattle.sc_cmd.specs.declared.votes.Heard.{Heard}
 use Rattle.sc_cmd.specs.declared.votes.No.{No}
 use Rattle.sc_cmd.specs.declared.votes.Outcome.{Outcome}
 use Rattle.sc_cmd.specs.declared.votes.Past.{Past}
@@ -30,10 +26,9 @@ use Rattle.sc_machine_table.specs.Logs.{state_after}
 use Rattle.sc_machine_table.specs.Machine.{applied}
 use Rattle.sc_machine_table.specs.Orders.{locked_in, refused_in, refusal_of, with_node, without_node}
 use Rattle.sc_machine_table.specs.Votes.{has_voted, no_of, offer_no, watch_no, vote_of, watch_vote_of, past_of, bound_by}
-use Rattle.sc_node_table.specs.Transactions.{noted_vote}
 use Rattle.sc_paxos_law.proofs.Among.{Among-either}
 use Rattle.sc_group_law.proofs.Rosters.{ordered_if}
-use Rattle.sc_whole_law.proofs.Coming.{Reshaped, EndsIt, Binds, Cases, comes}
+use Rattle.sc_whole_law.proofs.Coming.{EndsIt, Binds, comes}
 
 -- ---- what once came of an entry
 

@@ -1,5 +1,5 @@
 -- The members of a group stay one to nine nodes, ascending, whatever its log has.
-use Rattle.std.proofs.Common.{◌≡◌, ℕ, ◌≤◌, ◌&&◌, ◌||◌, not, eqb, List, [], ◌∷◌, length, Some, None, sym, ap, subst, arith}
+use Rattle.std.proofs.Common.{◌≡◌, ℕ, ◌≤◌, ◌||◌, not, eqb, [], ◌∷◌, length, Some, None, sym, subst, arith}
 use Rattle.std.proofs.lemmas.Bool.{eqb-false, cond_both}
 use Rattle.sc_base.specs.Arc.{holds}
 use Rattle.sc_base.specs.declared.names.Draw.{Draw}
@@ -9,12 +9,11 @@ use Rattle.sc_cmd.specs.declared.cores.Core.{Core}
 use Rattle.sc_cmd.specs.declared.orders.OrderRefusal.TheVariants.{BadBoundary, LastMember}
 use Rattle.sc_member.specs.Roster.{IsRoster}
 use Rattle.sc_machine_table.specs.Group.{Group}
-use Rattle.sc_machine_table.specs.Logs.{state_after}
 use Rattle.sc_machine_table.specs.Machine.{applied}
-use Rattle.sc_machine_table.specs.Orders.{locked_in, refusal_of, split_refused}
+use Rattle.sc_machine_table.specs.Orders.{locked_in, refusal_of}
 use Rattle.sc_group_law.proofs.Rosters.{free_refusal, applied_roster}
 use Rattle.sc_whole_law.specs.Laws.{MembersStayRosters}
-use Rattle.sc_whole_law.proofs.Coming.{Cases, comes, staying_roster}
+use Rattle.sc_whole_law.proofs.Coming.{comes, staying_roster}
 
 -- a split that is not refused
 pub may_split : (core : Core) (at : ℕ) (child : Draw) (order : ℕ) → IsRoster core.members → refusal_of core (Split at child order) ≡ None → 2 ≤ length core.members

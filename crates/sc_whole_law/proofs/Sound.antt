@@ -1,5 +1,5 @@
 -- The laws of this crate: lawful journals decide in turn, so the law of journals makes them sound.
-use Rattle.std.proofs.Common.{◌≡◌, ℕ, List, [], ◌∷◌, ◌++◌, ◌∙◌, ap, append_assoc}
+use Rattle.std.proofs.Common.{◌∷◌, ◌++◌, ◌∙◌, ap, append_assoc}
 use Rattle.sc_actor.proofs.WalkLemmas.{lawful-prefix}
 use Rattle.sc_players.specs.Players.{Ahead, system_of, schedule}
 use Rattle.sc_scenario.specs.declared.scenarios.Scenario.{Scenario}

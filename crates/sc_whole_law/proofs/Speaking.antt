@@ -1,24 +1,20 @@
 -- What a group that has executed a front of its log says to the parties of transactions is true, by what all logs told.
-use Rattle.std.proofs.Common.{◌≡◌, ℕ, ◌+◌, ◌≤◌, Bool, true, false, cond, nat_le, List, [], ◌∷◌, ◌++◌, length, drop, Option, Some, None, ◌⊎◌, inl, inr, refl, sym, ◌∙◌, ap, subst, append_assoc, find, option_map, arith}
-use Rattle.std.proofs.lemmas.Bool.{cases_Bool, le-leb, cond-true, cond_both}
-use Rattle.sc_base.specs.Among.{Among, Each}
+use Rattle.std.proofs.Common.{◌≡◌, ℕ, true, cond, nat_le, List, [], ◌∷◌, ◌++◌, length, Option, Some, None, refl, sym, ◌∙◌, ap, subst}
+use Rattle.std.proofs.lemmas.Bool.{le-leb, cond-true, cond_both}
 use Rattle.sc_base.specs.Same.{same_draw}
 use Rattle.sc_base.specs.declared.names.Draw.{Draw}
-use Rattle.sc_base.proofs.NameLemmas.{draw_is}
 use Rattle.sc_cmd.specs.declared.bodies.Body.{Body}
 use Rattle.sc_cmd.specs.declared.bodies.Body.TheVariants as By
 use Rattle.sc_cmd.specs.declared.bodies.Offer.{Offer}
 use Rattle.sc_cmd.specs.declared.bodies.Watch.{Watch}
 use Rattle.sc_cmd.specs.declared.commands.Command.{Command}
 use Rattle.sc_cmd.specs.declared.commands.Command.TheVariants.{Split, Begin, Prepared, RecordVote, GiveUp, Finish, Watched, RecordWatch}
-use Rattle.sc_cmd.specs.declared.cores.Base.{Base}
 use Rattle.sc_cmd.specs.declared.cores.Core.{Core}
 use Rattle.sc_cmd.specs.declared.cores.Lock.{Lock}
 use Rattle.sc_cmd.specs.declared.cores.Lock.TheVariants.{Free, Coordinating, Promised, Watching}
 use Rattle.sc_cmd.specs.declared.effects.Effect.{Effect}
 use Rattle.sc_cmd.specs.declared.effects.Effect.TheVariants as Was
 use Rattle.sc_cmd.specs.declared.links.Link.{Link}
-use Rattle.sc_cmd.specs.declared.votes.Frozen.{Frozen}
 use Rattle.sc_cmd.specs.declared.votes.Heard.{Heard}
 use Rattle.sc_cmd.specs.declared.votes.No.{No}
 use Rattle.sc_cmd.specs.declared.votes.Outcome.{Outcome}
@@ -29,28 +25,28 @@ use Rattle.sc_cmd.specs.declared.votes.Vote.{Vote}
 use Rattle.sc_cmd.specs.declared.votes.Vote.TheVariants as Vows
 use Rattle.sc_mail.specs.declared.bodies.Mail.{Mail}
 use Rattle.sc_mail.specs.declared.bodies.MailBody.{MailBody}
-use Rattle.sc_mail.specs.declared.bodies.MailBody.TheVariants.{TxPrepare, TxVote, TxOutcome, TxWatch, TxWatched}
+use Rattle.sc_mail.specs.declared.bodies.MailBody.TheVariants.{TxVote, TxOutcome, TxWatched}
 use Rattle.sc_machine_table.specs.Group.{Group}
 use Rattle.sc_machine_table.specs.Machine.{applied}
 use Rattle.sc_machine_table.specs.Plans.{frozen_of, can_split, merged_link}
 use Rattle.sc_machine_table.specs.Splits.{right_link}
-use Rattle.sc_machine_table.specs.Transactions.{decided_group, aborted, is_coordinating, watch_answered, asks_watcher, watch_recorded}
+use Rattle.sc_machine_table.specs.Transactions.{decided_group, aborted, is_coordinating, asks_watcher, watch_recorded}
 use Rattle.sc_machine_table.specs.Votes.{vote_of, watch_vote_of, past_of}
 use Rattle.sc_member.specs.Union.{united}
 use Rattle.sc_node_table.specs.declared.Before.{Before}
 use Rattle.sc_node_table.specs.Mails.{sent_all}
-use Rattle.sc_node_table.specs.Questions.{offer_of, question, asked_first, both_link, split_watch, child_link, watch_of, union_watch}
+use Rattle.sc_node_table.specs.Questions.{offer_of, question, asked_first, both_link, split_watch, child_link, union_watch}
 use Rattle.sc_node_table.specs.Reminders.{reminders}
 use Rattle.sc_node_table.specs.Transactions.{voted_to, watched_to}
 use Rattle.sc_node_table.specs.Spoken.{asked_on, decided_in, cast_in, vote_sent, watch_sent, aborted_to, aborted_watcher, given_up_by, vote_answered, released_to, watch_answered_by, went_on}
-use Rattle.sc_ring_law.specs.Allowed.{Sources, IsVoteCast, IsAllowed}
-use Rattle.sc_ring_law.specs.Invariant.{Groups, Facts, LockOk, IsCoordinating}
-use Rattle.sc_ring_law.specs.Stories.{Story, Stories, unsigned, unsigned_watch, watch_with, offer_for, watch_for}
-use Rattle.sc_journal_law.specs.Allows.{StandsFor, MakesAllowed, EndsBy, GroupAllows}
+use Rattle.sc_ring_law.specs.Allowed.{Sources, IsAllowed}
+use Rattle.sc_ring_law.specs.Invariant.{Groups, Facts, LockOk}
+use Rattle.sc_ring_law.specs.Stories.{Story, Stories, unsigned, watch_with}
+use Rattle.sc_journal_law.specs.Allows.{StandsFor, MakesAllowed, GroupAllows}
 use Rattle.sc_group_law.proofs.Speech.{IsSaid, AreSaid}
 use Rattle.sc_whole_law.specs.Parameters.{IsHeard}
-use Rattle.sc_whole_law.specs.Parties.{PartiesAreApart, MergesFit}
-use Rattle.sc_whole_law.proofs.Coming.{EndsIt, Cases, IsDull, voting_group, comes}
+use Rattle.sc_whole_law.specs.Parties.{MergesFit}
+use Rattle.sc_whole_law.proofs.Coming.{EndsIt, IsDull, voting_group, comes}
 
 -- ---- what a lock says beside what it makes allowed
 

@@ -1,8 +1,6 @@
 -- Each row of a lawful journal decides in turn, whatever its groups order; and what holds of the journal holds with one more row.
-use Rattle.std.proofs.Common.{◌≡◌, ℕ, zero, suc, ◌+◌, ◌-◌, ◌≤◌, List, [], ◌∷◌, ◌++◌, map, length, drop, Option, Some, None, ◌⊎◌, inl, inr, refl, sym, ◌∙◌, ap, subst, option_to_list}
-use Rattle.std.specs.Prelude.{slice_get}
+use Rattle.std.proofs.Common.{◌≡◌, ℕ, zero, suc, ◌+◌, List, [], ◌∷◌, ◌++◌, length, drop, Some, ◌⊎◌, inl, inr, refl, sym, ◌∙◌, ap, subst, option_to_list}
 use Rattle.sc_base.specs.Among.{Among, Each}
-use Rattle.sc_base.specs.Limits.{most_nodes}
 use Rattle.sc_base.specs.declared.names.Draw.{Draw}
 use Rattle.sc_base.specs.declared.ops.Op.{Op}
 use Rattle.sc_cmd.specs.declared.commands.Command.{Command}
@@ -14,31 +12,25 @@ use Rattle.sc_mail.specs.declared.bodies.Mail.{Mail}
 use Rattle.sc_mail.specs.declared.bodies.MailBody.{MailBody}
 use Rattle.sc_mail.specs.declared.bodies.MailBody.TheVariants.{TxPrepare, TxVote, TxOutcome, TxWatch, TxWatched}
 use Rattle.sc_actor.specs.declared.rows.Row.{Row}
-use Rattle.sc_actor.specs.Mail.{mails}
 use Rattle.sc_actor.specs.Steps.{IsStep}
-use Rattle.sc_machine_table.specs.Children.{child_by}
 use Rattle.sc_machine_table.specs.Group.{Group, group_of}
 use Rattle.sc_machine_table.specs.Logs.{state_after}
 use Rattle.sc_machine_table.specs.Machine.{applied}
 use Rattle.sc_entries.specs.Births.{birth_of}
 use Rattle.sc_entries.specs.Worlds.{StoreWorld, named_group}
-use Rattle.sc_entries.specs.declared.LogEntry.{LogEntry}
 use Rattle.sc_entries.proofs.Children.{births_are_children}
-use Rattle.sc_node_table.specs.Slots.{numbers_from, slots_ahead}
 use Rattle.sc_paxos_words.proofs.ListLemmas.{Each-among, Each-weaker}
 use Rattle.sc_paxos_law.proofs.Among.{Among-left, Among-right}
-use Rattle.sc_scenario.specs.declared.scenarios.Asks.{Asks}
 use Rattle.sc_scenario.specs.declared.scenarios.Scenario.{Scenario}
-use Rattle.sc_players.specs.Players.{Ahead, node_seat, client_seat, births, system_of}
+use Rattle.sc_players.specs.Players.{Ahead, system_of}
 use Rattle.sc_sound.specs.GroupsOf.{children_of, groups_at, birth_at, entries_at, world_at}
 use Rattle.sc_sound.specs.Logs.{decided_log, decided_state}
-use Rattle.sc_sound.specs.Requests.{issue_row, issues}
-use Rattle.sc_ring_law.specs.Allowed.{Sources, IsAllowed, AreAllowed, ToldWorld, first_told, told_after}
+use Rattle.sc_sound.specs.Requests.{issues}
+use Rattle.sc_ring_law.specs.Allowed.{Sources, IsAllowed, first_told, told_after}
 use Rattle.sc_ring_law.specs.Laws.{BeginInPlace}
 use Rattle.sc_ring_law.proofs.Rows.{some_none}
 use Rattle.sc_ring_law.proofs.Start.{at_start}
-use Rattle.sc_ring_law.proofs.Worlds.{KeptWorld, kept_after}
-use Rattle.sc_journal_law.specs.Beside.{IsIssuedIn}
+use Rattle.sc_ring_law.proofs.Worlds.{kept_after}
 use Rattle.sc_journal_law.specs.Descent.{Rows, added_by, newborn_by}
 use Rattle.sc_journal_law.specs.Findings.{AreFound, IsNewborn}
 use Rattle.sc_journal_law.specs.InTurn.{DecidesInTurn, DecideInTurn}
@@ -52,14 +44,11 @@ use Rattle.sc_journal_law.proofs.Parts.{rows_go_on}
 use Rattle.sc_journal_law.proofs.Told.{state_there}
 use Rattle.sc_group_law.proofs.Births.{first_of}
 use Rattle.sc_group_law.proofs.Clients.{IsIssued}
-use Rattle.sc_group_law.proofs.Families.{h_of, Kept, Stepped, IsLater, Moved, stepped, push, log_goes_on, decided_made}
-use Rattle.sc_group_law.proofs.Invariant.{rule}
-use Rattle.sc_group_law.proofs.Nodes.{IsNewborn as IsNewReplica}
-use Rattle.sc_group_law.proofs.Offspring.{IsChildOf}
+use Rattle.sc_group_law.proofs.Families.{Kept, Stepped, IsLater, Moved, stepped, push, log_goes_on, decided_made}
 use Rattle.sc_group_law.proofs.Places.{or_now, issue-push, split_at}
 use Rattle.sc_group_law.proofs.Replies.{front_is}
 use Rattle.sc_group_law.proofs.Stepping.{HasPlayers, MayTell, KnowsOffspring, moved}
-use Rattle.sc_whole_law.specs.Parameters.{stories_at, IsHeard, IsIssuedCall, MayQueue, MayHear}
+use Rattle.sc_whole_law.specs.Parameters.{stories_at, IsIssuedCall, MayQueue, MayHear}
 use Rattle.sc_whole_law.specs.Parties.{IsFresh, PartiesAreApart, MergesFit}
 use Rattle.sc_whole_law.specs.Players.{HasSeats, AsksAre}
 use Rattle.sc_whole_law.proofs.Apart.{IsNew, named_apart, silent}

@@ -1,5 +1,5 @@
 -- What groups are at their birth, and what stories say of the parties of one transaction, beside what each of them has promised.
-use Rattle.std.specs.Prelude.{◌≡◌, ℕ, ◌≤◌, [], length, Some}
+use Rattle.std.specs.Prelude.{◌≡◌, ◌≤◌, [], length, Some}
 use Rattle.sc_base.specs.declared.names.Draw.{Draw}
 use Rattle.sc_cmd.specs.declared.bodies.Body.TheVariants.{Merge}
 use Rattle.sc_cmd.specs.declared.bodies.Offer.{Offer}
