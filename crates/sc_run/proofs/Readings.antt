@@ -60,10 +60,19 @@ of_usage None left before now text is tells = (refl, tells)
 of_usage (Some ask.Run) left before now text is tells = absurd is
 of_usage (Some (ask.Make n seed)) left before now text is tells = absurd (let bad : Nothing ≡ Run (made_scenario n seed) = is.0 in cc)
 
+-- the scenario of a run is valid
+of_run : (asked : Option Asked) (left : Option (List ℕ)) (before now : ℕ) (scenario : Scenario) → IsAskedFor asked left before now (Run scenario) → IsValid scenario
+of_run None left before now scenario is = absurd (let bad : Run scenario ≡ Nothing = is in cc)
+of_run (Some ask.Run) left before now scenario is = is.0
+of_run (Some (ask.Make n seed)) left before now scenario is = subst (λ s. IsValid s) (sym (same_run scenario (made_scenario n seed) is.0)) is.1
+
 -- the same after any words
 module _ (words : List (List ℕ)) (left : Option (List ℕ)) (before now : ℕ) (wanted : Wanted) (is : IsWanted words left before now wanted) where
   pub says_report : (scenario : Scenario) (said : Said) (text : Text) → wanted ≡ Run scenario → ReportsAs said scenario text → Says words left before now said text
   says_report scenario said text run reports = of_report (asked_by words) left before now scenario said text (subst (IsWanted words left before now) run is) reports
+
+  pub says_valid : (scenario : Scenario) → wanted ≡ Run scenario → IsValid scenario
+  says_valid scenario run = of_run (asked_by words) left before now scenario (subst (IsWanted words left before now) run is)
 
   pub says_fault : (line why : ℕ) (said : Said) (text : Text) → wanted ≡ NoScenario line why → said ≡ BadScenario → Tells (fault_text line why) text → Says words left before now said text
   says_fault line why said text bad about tells =

@@ -1,8 +1,12 @@
 use Rattle.std.proofs.Common.{map}
 use Rattle.std.specs.Prelude.{string_bytes}
 use Rattle.std.proofs.lemmas.Result.{IfOk-weaker}
-use Rattle.sc_run.proofs.Readings.{says_fault, says_failure, says_report, says_usage}
+use Rattle.sc_run.proofs.Readings.{says_fault, says_failure, says_report, says_usage, says_valid}
 use Rattle.sc_run.proofs.running.say.Goals as goal
+
+pub report-requires-after_bounds : goal.report-requires-after_bounds
+report-requires-after_bounds g c κs within =
+    says_valid (map string_bytes c.args.words.now) _ _ _ _ c.in_ok-wanted_of.ensures.wanted c.in-Run.scenario c.in-Run.is
 
 pub returns-in-Run-clause-says : goal.returns-in-Run-clause-says
 returns-in-Run-clause-says g c =
