@@ -1,0 +1,250 @@
+//! The entries of all logs, row by row, and by slot within one row.
+ghost use Rattle.std.specs.Prelude.{◌≡◌, ◌+◌, ◌<◌, ◌++◌, ◌∷◌, [], List, true, Some, length, map, take, drop, find, if◌then◌else◌, IfOk, OnOk};
+ghost use Rattle.std.specs.List.{flat_map};
+ghost use Rattle.sc_base.specs.Same.{same_draw};
+ghost use Rattle.sc_base.specs.Among.{Each};
+ghost use Rattle.sc_base.specs.declared.names.Draw.{Draw};
+ghost use Rattle.sc_cmd.specs.declared.cores.Base.{Base};
+ghost use Rattle.sc_cmd.specs.declared.orders.OrderLine.{OrderLine};
+ghost use Rattle.sc_mail.specs.declared.bodies.Mail.{Mail};
+ghost use Rattle.sc_actor.specs.Mail.{mails};
+ghost use Rattle.sc_actor.specs.declared.rows.Row.{Row};
+ghost use Rattle.sc_machine_table.specs.Group.{group_of};
+ghost use Rattle.sc_players.specs.Players.{as_nodes};
+ghost use Rattle.sc_sound.specs.Accepts.{accepts};
+ghost use Rattle.sc_sound.specs.GroupsOf.{children_by, log_at, log_by, is_birth_of, entries_from, entries_after, entries_by_row, entries_at};
+ghost use Rattle.sc_decided.specs.Acceptances.{steps_by};
+ghost use Rattle.sc_decided.specs.Known.{log_kept, gained, grown_by, Adds, IsKnown, StayKnown, AreFound};
+
+use crate::accepting::{Acceptance, accepted_in, add_mails};
+use crate::births::{Groups, groups_of, log_in};
+use crate::known::{Known, both, taken};
+use sc_actor::Row;
+use sc_base::{Draw, Dup, OutOfMemory};
+use sc_cmd::{Base, Command, OrderLine, same_draw};
+use sc_entries::LogEntry;
+use sc_mail::Mail;
+use std::alloc::Global;
+
+// The entries of a log from a place on.
+fn add_entries(
+    alloc: Global,
+    entries: &mut Vec<LogEntry>,
+    name: Draw,
+    count: usize,
+    log: &[Command],
+) -> Result<(), OutOfMemory>
+    ensures { OnOk result (entries.new.items ≡
+        entries.old.items ++ entries_from name (count + 1) (drop count log.now)) }
+{
+    for at in count..log.len() {
+        if at >= 4_294_967_295 {
+            return Err(OutOfMemory);
+        }
+        entries.push(LogEntry {
+            group: name,
+            slot: at as u32 + 1,
+            command: log[at].dup(alloc)?,
+        })?;
+    }
+    Ok(())
+}
+
+// What one row adds, by the groups before it and after it: of each group its new entries.
+fn add_gained(
+    alloc: Global,
+    entries: &mut Vec<LogEntry>,
+    before: &[Known],
+    after: &[Known],
+) -> Result<(), OutOfMemory>
+    ensures { OnOk result (entries.new.items ≡ entries.old.items ++
+        flat_map (gained before.now after.now) after.now) }
+{
+    for known in after {
+        let name = known.base.core.id;
+        add_entries(
+            alloc,
+            entries,
+            name,
+            log_in(before, name).len(),
+            log_in(after, name),
+        )?;
+    }
+    Ok(())
+}
+
+// The same, where all groups are looked for anew.
+fn look_again(
+    alloc: Global,
+    entries: &mut Vec<LogEntry>,
+    bases: &[Base],
+    before: &[Row<Mail, OrderLine>],
+    after: &[Row<Mail, OrderLine>],
+) -> Result<Groups, OutOfMemory>
+    ensures { IfOk result (λ groups. AreFound bases.now after.now groups ×
+        ((row : Row Mail OrderLine) → after.now ≡ before.now ++ row ∷ [] →
+        entries.new.items ≡ entries.old.items ++ entries_by_row as_nodes bases.now before.now row)) }
+{
+    let old = groups_of(alloc, bases, before)?;
+    let new = groups_of(alloc, bases, after)?;
+    let olds = old.knowns.as_slice();
+    let news = new.knowns.as_slice();
+    add_gained(alloc, entries, olds, news)?;
+    Ok(new)
+}
+
+// The groups with one more acceptance. Whether their logs only go on, by entries that make no child.
+fn take_all(
+    alloc: Global,
+    knowns: Vec<Known>,
+    name: Draw,
+    acceptance: &Acceptance,
+) -> Result<(Vec<Known>, bool), OutOfMemory>
+    ensures { IfOk result (λ done. done.1 ≡ true → (rows after : List (Row Mail OrderLine)) →
+        Adds (Some (name, acceptance.now)) rows after → Each (IsKnown rows) knowns.items →
+        StayKnown rows after knowns.items done.0.items) }
+{
+    let mut after = Vec::new(alloc);
+    let mut calm = true;
+    for known in knowns {
+        let (known, was_calm) = taken(alloc, known, name, acceptance)?;
+        calm = both(calm, was_calm);
+        after.push(known)?;
+    }
+    Ok((after, calm))
+}
+
+// What a row adds to the log of the group with a name, which had so many entries.
+fn add_grown(
+    alloc: Global,
+    entries: &mut Vec<LogEntry>,
+    knowns: &[Known],
+    name: Draw,
+    count: usize,
+) -> Result<(), OutOfMemory>
+    ensures { OnOk result (entries.new.items ≡ entries.old.items ++
+        flat_map (grown_by name count (log_kept name knowns.now)) knowns.now) }
+{
+    let log = log_in(knowns, name);
+    for known in knowns {
+        if same_draw(known.base.core.id, name) {
+            add_entries(alloc, entries, name, count, log)?;
+        }
+    }
+    Ok(())
+}
+
+// One more row, which accepts a command.
+fn after_acceptance(
+    alloc: Global,
+    entries: &mut Vec<LogEntry>,
+    bases: &[Base],
+    before: &[Row<Mail, OrderLine>],
+    after: &[Row<Mail, OrderLine>],
+    knowns: Vec<Known>,
+    name: Draw,
+    acceptance: &Acceptance,
+) -> Result<Groups, OutOfMemory>
+    ensures { IfOk result (λ groups. (row : Row Mail OrderLine) → after.now ≡ before.now ++ row ∷ [] →
+        Adds (Some (name, acceptance.now)) before.now after.now →
+        AreFound bases.now before.now (record { knowns = knowns; settled = true }) →
+        AreFound bases.now after.now groups ×
+        (entries.new.items ≡ entries.old.items ++ entries_by_row as_nodes bases.now before.now row)) }
+{
+    let kept = knowns.as_slice();
+    let count = log_in(kept, name).len();
+    let (grown, calm) = take_all(alloc, knowns, name, acceptance)?;
+    if !calm {
+        let found = look_again(alloc, entries, bases, before, after)?;
+        return Ok(found);
+    }
+    let later = grown.as_slice();
+    add_grown(alloc, entries, later, name, count)?;
+    Ok(Groups {
+        knowns: grown,
+        settled: true,
+    })
+}
+
+// One more row.
+fn after_row(
+    alloc: Global,
+    entries: &mut Vec<LogEntry>,
+    bases: &[Base],
+    before: &[Row<Mail, OrderLine>],
+    after: &[Row<Mail, OrderLine>],
+    groups: Groups,
+    accepted: Option<(Draw, Acceptance)>,
+) -> Result<Groups, OutOfMemory>
+    ensures { IfOk result (λ found. (row : Row Mail OrderLine) → after.now ≡ before.now ++ row ∷ [] →
+        Adds accepted before.now after.now →
+        AreFound bases.now before.now groups →
+        AreFound bases.now after.now found ×
+        (entries.new.items ≡ entries.old.items ++ entries_by_row as_nodes bases.now before.now row)) }
+{
+    if !groups.settled {
+        let found = look_again(alloc, entries, bases, before, after)?;
+        return Ok(found);
+    }
+    match accepted {
+        None => Ok(groups),
+        Some((name, acceptance)) => {
+            let found = after_acceptance(
+                alloc,
+                entries,
+                bases,
+                before,
+                after,
+                groups.knowns,
+                name,
+                &acceptance,
+            )?;
+            Ok(found)
+        }
+    }
+}
+
+/// The entries of all logs, in the order of the rows that decided them, and by slot within one row.
+pub fn entries_of(
+    alloc: Global,
+    bases: &[Base],
+    rows: &[Row<Mail, OrderLine>],
+) -> Result<Vec<LogEntry>, OutOfMemory>
+    ensures { IfOk result (λ entries. entries.items ≡ entries_at as_nodes bases.now rows.now) }
+{
+    let mut entries = Vec::new(alloc);
+    let mut sent = Vec::new(alloc);
+    let mut groups = groups_of(alloc, bases, &rows[..0])?;
+    for i in 0..rows.len() {
+        let row = &rows[i];
+        let mails = sent.as_slice();
+        let accepted = accepted_in(alloc, mails, row)?;
+        let before = &rows[..i];
+        let after = &rows[..i + 1];
+        let next = after_row(alloc, &mut entries, bases, before, after, groups, accepted)?;
+        groups = next;
+        let more = row.sent.as_slice();
+        add_mails(&mut sent, more)?;
+    }
+    Ok(entries)
+}
+
+/// The decided log of the group with a name: the longest list whose entry k is chosen at slot k. It
+/// is empty where there is no such group.
+pub fn log_of(
+    alloc: Global,
+    bases: &[Base],
+    rows: &[Row<Mail, OrderLine>],
+    name: Draw,
+) -> Result<Vec<Command>, OutOfMemory>
+    ensures { IfOk result (λ log. log.items ≡ log_at as_nodes bases.now rows.now name) }
+{
+    let groups = groups_of(alloc, bases, rows)?;
+    let kept = groups.knowns.as_slice();
+    let found = log_in(kept, name);
+    let mut log = Vec::new(alloc);
+    for command in found {
+        log.push(command.dup(alloc)?)?;
+    }
+    Ok(log)
+}
