@@ -1,41 +1,12 @@
-//! Whole transactions between nodes, mail by mail. How many rows and mails there are, and what the
-//! desk is told, is as in the worked scenarios of the same names.
-ghost use Rattle.std.specs.Prelude.{◌≡◌, ◌<◌, ◌≤◌, length, true};
-ghost use Rattle.sc_node_table.specs.Node.{are_in_order};
-
-use sc_actor::Input;
-use sc_base::{Draw, Dup, Pairs, RingArc, SeenList, Sequence};
-use sc_cmd::{Base, Core, Link, Lock, Order, OrderLine, ToldResult};
-use sc_mail::{Mail, MailBody};
-use sc_member::Members;
-use sc_node::{NodeCore, are_in_order};
+//! Whole transactions between nodes, mail by mail. How many rows and mails there are, what the desk
+//! is told and what the parties say to each other is as in the worked scenarios of the same names.
+use crate::parties::{Came, Event, Place, Run, played};
+use sc_base::Draw;
+use sc_cmd::Order;
+use sc_mail::MailBody;
 use std::alloc::Global;
 use std::mem::forget;
 use std::process::Abort;
-
-// What happens: an order to a node, the lowest pending mail so many times, a pending mail of a node
-// that is delivered or lost, a tick, a crash.
-#[derive(Clone, Copy)]
-enum Event {
-    Told(u32, Order),
-    Settle(u32),
-    Deliver(u32),
-    Lose(u32),
-    Tick(u32),
-    Crash(u32),
-}
-
-// What an order came to.
-#[derive(Clone, Copy, PartialEq)]
-enum Came {
-    Done,
-    Committed,
-    Aborted,
-    Refused(u8),
-}
-
-// Where a group's arc begins, how long it is, and its members.
-type Place = (u32, u64, &'static [u16]);
 
 // How many rows and mails there are, how many mails were delivered, and what the desk was told of
 // the orders by their numbers.
@@ -43,243 +14,6 @@ type Counts = (u32, usize, u32, &'static [(u32, Came)]);
 
 // How many nodes there are, the groups, what happens, and the counts then.
 type Case = (u16, &'static [Place], &'static [Event], Counts);
-
-#[derive(Drop)]
-struct Party {
-    node: NodeCore,
-    crashed: bool,
-}
-
-#[derive(Drop)]
-struct Posted {
-    mail: Mail,
-    pending: bool,
-}
-
-#[derive(Drop)]
-struct Run {
-    parties: Vec<Party>,
-    mails: Vec<Posted>,
-    told: Vec<(u32, Came)>,
-    rows: u32,
-    delivered: u32,
-    orders: u32,
-}
-
-fn set_of(rt: &impl Abort, nodes: &[u16]) -> Members {
-    match nodes {
-        [first, others @ ..] => {
-            let mut members = Members::one(*first);
-            for node in others {
-                members.add(*node).expect(rt, "a member");
-            }
-            members
-        }
-        [] => panic!(rt; "no member"),
-    }
-}
-
-fn link_to(rt: &impl Abort, groups: &[Place], i: usize) -> Link
-    requires within { i < length groups.now }
-    requires few { length groups.now ≤ 16 }
-{
-    Link {
-        group: Draw {
-            node: 0,
-            count: i as u32 + 1,
-        },
-        members: set_of(rt, groups[i].2),
-    }
-}
-
-// The group at a place of the ring.
-fn base_at(rt: &impl Abort, alloc: Global, groups: &[Place], i: usize) -> Base
-    requires within { i < length groups.now }
-    requires few { length groups.now ≤ 16 }
-{
-    let Link { group, members } = link_to(rt, groups, i);
-    let after = if i + 1 < groups.len() { i + 1 } else { 0 };
-    let before = if i > 0 { i - 1 } else { groups.len() - 1 };
-    let core = Core {
-        id: group,
-        first: members.least(),
-        arc: RingArc::try_new(groups[i].0, groups[i].1).expect(rt, "an arc"),
-        members,
-        succ: link_to(rt, groups, after),
-        pred: link_to(rt, groups, before),
-        lock: Lock::Free,
-        begun: 0,
-        decided: Sequence::new(alloc),
-        voted: Sequence::new(alloc),
-        born: Sequence::new(alloc),
-        gone: None,
-    };
-    Base {
-        core,
-        pairs: Pairs::new(alloc),
-        clients: SeenList::new(alloc),
-    }
-}
-
-fn bases_of(rt: &impl Abort, alloc: Global, groups: &[Place]) -> Sequence<Base>
-    ensures { are_in_order result ≡ true }
-{
-    let mut bases = Sequence::new(alloc);
-    if groups.len() <= 16 {
-        for i in 0..groups.len() {
-            bases
-                .push(base_at(rt, alloc, groups, i))
-                .expect(rt, "memory");
-        }
-    }
-    assert!(rt; are_in_order(bases.as_slice()));
-    bases
-}
-
-fn parties_of(rt: &impl Abort, alloc: Global, nodes: u16, groups: &[Place]) -> Vec<Party> {
-    let bases = bases_of(rt, alloc, groups);
-    let mut parties = Vec::new(alloc);
-    for i in 0..nodes {
-        let node = NodeCore::born(alloc, i.saturating_add(1), &bases).expect(rt, "memory");
-        let crashed = false;
-        parties.push(Party { node, crashed }).expect(rt, "memory");
-    }
-    forget(bases);
-    parties
-}
-
-fn run_of(rt: &impl Abort, alloc: Global, nodes: u16, groups: &[Place]) -> Run {
-    Run {
-        parties: parties_of(rt, alloc, nodes, groups),
-        mails: Vec::new(alloc),
-        told: Vec::new(alloc),
-        rows: 0,
-        delivered: 0,
-        orders: 0,
-    }
-}
-
-fn came_to(told: &ToldResult) -> Came {
-    match told {
-        ToldResult::Done => Came::Done,
-        ToldResult::Committed => Came::Committed,
-        ToldResult::Aborted => Came::Aborted,
-        ToldResult::Refused(why) => Came::Refused(why.code()),
-    }
-}
-
-fn hear(rt: &impl Abort, told: &mut Vec<(u32, Came)>, mail: &Mail) {
-    if let MailBody::Told { order, result } = &mail.body {
-        told.push((*order, came_to(result))).expect(rt, "memory");
-    }
-}
-
-fn post(rt: &impl Abort, alloc: Global, run: &mut Run, sent: &Sequence<Mail>) {
-    for mail in sent.as_slice() {
-        hear(rt, &mut run.told, mail);
-        let mail = mail.dup(alloc).expect(rt, "memory");
-        let pending = true;
-        run.mails
-            .push(Posted { mail, pending })
-            .expect(rt, "memory");
-    }
-}
-
-fn place_of(node: u32) -> usize {
-    node.saturating_sub(1) as usize
-}
-
-// A node steps.
-fn act(rt: &impl Abort, alloc: Global, run: &mut Run, node: u32, input: Input<Mail, OrderLine>) {
-    let Some(party) = run.parties.get_mut(place_of(node)) else {
-        panic!(rt; "no such node");
-    };
-    let sent = party.node.step(alloc, &input).expect(rt, "memory");
-    run.rows = run.rows.saturating_add(1);
-    post(rt, alloc, run, &sent);
-    forget(sent);
-    forget(input);
-}
-
-fn is_alive(parties: &[Party], node: u32) -> bool {
-    match parties.get(place_of(node)) {
-        Some(party) => node > 0 && !party.crashed,
-        None => false,
-    }
-}
-
-// The first pending mail, of a node or (0) of any.
-fn first(run: &Run, node: u32) -> Option<usize> {
-    for (i, posted) in run.mails.iter().enumerate() {
-        let to = posted.mail.to;
-        if posted.pending && (node == 0 || node == to) && is_alive(run.parties.as_slice(), to) {
-            return Some(i);
-        }
-    }
-    None
-}
-
-// Takes a mail out of the pending ones.
-fn take(rt: &impl Abort, alloc: Global, mails: &mut Vec<Posted>, i: usize) -> Mail {
-    match mails.get_mut(i) {
-        Some(posted) => {
-            posted.pending = false;
-            posted.mail.dup(alloc).expect(rt, "memory")
-        }
-        None => panic!(rt; "no such mail"),
-    }
-}
-
-// The first pending mail is delivered, if there is one.
-fn deliver(rt: &impl Abort, alloc: Global, run: &mut Run, node: u32) {
-    if let Some(i) = first(run, node) {
-        let mail = take(rt, alloc, &mut run.mails, i);
-        run.delivered = run.delivered.saturating_add(1);
-        let to = mail.to;
-        act(rt, alloc, run, to, Input::Got(mail));
-    }
-}
-
-fn lose(rt: &impl Abort, alloc: Global, run: &mut Run, node: u32) {
-    if let Some(i) = first(run, node) {
-        forget(take(rt, alloc, &mut run.mails, i));
-        run.rows = run.rows.saturating_add(1);
-    }
-}
-
-fn crash(run: &mut Run, node: u32) {
-    if let Some(party) = run.parties.get_mut(place_of(node)) {
-        party.crashed = true;
-        run.rows = run.rows.saturating_add(1);
-    }
-}
-
-fn tell(rt: &impl Abort, alloc: Global, run: &mut Run, node: u32, order: Order) {
-    run.orders = run.orders.saturating_add(1);
-    let number = run.orders;
-    act(
-        rt,
-        alloc,
-        run,
-        node,
-        Input::Told(OrderLine { number, order }),
-    );
-}
-
-fn happen(rt: &impl Abort, alloc: Global, run: &mut Run, event: Event) {
-    match event {
-        Event::Told(node, order) => tell(rt, alloc, run, node, order),
-        Event::Settle(most) => {
-            for _ in 0..most {
-                deliver(rt, alloc, run, 0);
-            }
-        }
-        Event::Deliver(node) => deliver(rt, alloc, run, node),
-        Event::Lose(node) => lose(rt, alloc, run, node),
-        Event::Tick(node) => act(rt, alloc, run, node, Input::Tick),
-        Event::Crash(node) => crash(run, node),
-    }
-}
 
 fn has_counts(run: &Run, counts: Counts) -> bool {
     let (rows, mails, delivered, told) = counts;
@@ -291,10 +25,7 @@ fn has_counts(run: &Run, counts: Counts) -> bool {
 
 fn plays(rt: &impl Abort, alloc: Global, case: Case) -> bool {
     let (nodes, groups, events, counts) = case;
-    let mut run = run_of(rt, alloc, nodes, groups);
-    for event in events {
-        happen(rt, alloc, &mut run, *event);
-    }
+    let run = played(rt, alloc, nodes, groups, events);
     let plays = has_counts(&run, counts);
     forget(run);
     plays
@@ -491,4 +222,123 @@ fn a_node_migrates_and_a_group_splits(rt: HostRuntime) {
 #[test]
 fn orders_are_refused(rt: HostRuntime) {
     assert!(rt; plays(&rt, rt.alloc(), ORDER_REFUSALS));
+}
+
+// The mails of transactions.
+#[derive(Clone, Copy, PartialEq)]
+enum Word {
+    Prepare,
+    Vote,
+    Outcome,
+    Elsewhere,
+    Watch,
+    Watched,
+}
+
+fn word_of(body: &MailBody) -> Option<Word> {
+    match body {
+        MailBody::TxPrepare { .. } => Some(Word::Prepare),
+        MailBody::TxVote { .. } => Some(Word::Vote),
+        MailBody::TxOutcome { .. } => Some(Word::Outcome),
+        MailBody::TxElsewhere { .. } => Some(Word::Elsewhere),
+        MailBody::TxWatch { .. } => Some(Word::Watch),
+        MailBody::TxWatched { .. } => Some(Word::Watched),
+        _ => None,
+    }
+}
+
+// What is said, from which node to which.
+type Said = (Word, u32, u32);
+
+fn is_nth(said: &[Said], n: usize, word: Said) -> bool {
+    match said.get(n) {
+        Some(other) => *other == word,
+        None => false,
+    }
+}
+
+fn has_said(run: &Run, said: &[Said]) -> bool {
+    let mut n = 0usize;
+    for posted in &run.mails {
+        if let Some(word) = word_of(&posted.mail.body) {
+            if !is_nth(said, n, (word, posted.mail.from, posted.mail.to)) {
+                return false;
+            }
+            n = n.saturating_add(1);
+        }
+    }
+    n == said.len()
+}
+
+fn says(rt: &impl Abort, alloc: Global, case: Case, said: &[Said]) -> bool {
+    let (nodes, groups, events, _) = case;
+    let run = played(rt, alloc, nodes, groups, events);
+    let says = has_said(&run, said);
+    forget(run);
+    says
+}
+
+// Node 3 leads the participant, which its coordinator does not know.
+const LED_ELSEWHERE: Case = (
+    3,
+    &[(0, HALF, &[1]), (0x8000_0000, HALF, &[2, 3])],
+    &[
+        Event::Tick(3),
+        Event::Settle(100),
+        MERGE,
+        Event::Settle(100),
+    ],
+    (27, 26, 25, &[(1, Came::Committed)]),
+);
+
+#[test]
+fn parties_say_what_they_should(rt: HostRuntime) {
+    assert!(rt;
+        says(
+            &rt,
+            rt.alloc(),
+            MERGE_WITH_WATCHER,
+            &[
+                (Word::Prepare, 1, 2),
+                (Word::Vote, 2, 1),
+                (Word::Watch, 1, 3),
+                (Word::Watched, 3, 1),
+                (Word::Outcome, 1, 2),
+                (Word::Outcome, 1, 3),
+            ]
+        )
+    );
+    assert!(rt;
+        says(
+            &rt,
+            rt.alloc(),
+            LED_ELSEWHERE,
+            &[
+                (Word::Prepare, 1, 2),
+                (Word::Elsewhere, 2, 1),
+                (Word::Prepare, 1, 3),
+                (Word::Vote, 3, 1),
+                (Word::Outcome, 1, 3),
+            ]
+        )
+    );
+}
+
+#[test]
+fn parties_say_it_again(rt: HostRuntime) {
+    assert!(rt;
+        says(
+            &rt,
+            rt.alloc(),
+            COORDINATOR_LEADER_CRASH,
+            &[
+                (Word::Prepare, 1, 4),
+                (Word::Vote, 4, 1),
+                (Word::Vote, 4, 1),
+                (Word::Vote, 4, 2),
+                (Word::Vote, 4, 3),
+                (Word::Outcome, 2, 4),
+            ]
+        )
+    );
 }
