@@ -1,5 +1,5 @@
 -- What the words of a line spell: groups of nodes, lines of the schedule, orders.
-use Rattle.std.proofs.Common.{◌≡◌, ◌≤◌, ◌+◌, ◌||◌, eqb, ltb, leb, ℕ, List, [], ◌∷◌, ◌++◌, Some, None, Bool, true, false, if◌then◌else◌, refl, sym, ap, subst, inl, inr, arith, is_none, true≢false}
+use Rattle.std.proofs.Common.{◌≡◌, ◌<◌, ◌≤◌, ◌+◌, ◌^◌, ◌||◌, eqb, ltb, leb, ℕ, List, [], ◌∷◌, ◌++◌, Some, None, Bool, true, false, if◌then◌else◌, refl, sym, ap, subst, inl, inr, arith, is_none, true≢false}
 use Rattle.std.specs.Prelude.{Ok}
 use Rattle.std.specs.Option.{option_map}
 use Rattle.std.specs.List.{All, list_any}
@@ -8,16 +8,17 @@ use Rattle.std.proofs.lemmas.Option.{none-some, same_Some}
 use Rattle.std.proofs.lemmas.List.Elements.{All-nil, All-cons, All-push, All-head, All-tail}
 use Rattle.sc_base.proofs.CommonLemmas.{and_then-some, map-some}
 use Rattle.sc_base.specs.Limits.{most_nodes, most_clients, client_actor}
+use Rattle.sc_base.specs.Number.{number_of}
 use Rattle.sc_cmd.specs.declared.orders.Order.{Order}
-use Rattle.sc_cmd.specs.declared.orders.Order.TheVariants.{Join, Leave}
+use Rattle.sc_cmd.specs.declared.orders.Order.TheVariants.{Join, Leave, Split, Merge, Repart, Migrate}
 use Rattle.sc_member.specs.Roster.{IsRoster, with_member}
 use Rattle.sc_member.specs.Faults.{add_fault}
 use Rattle.sc_lines.specs.Reasons.{given}
 use Rattle.sc_lines.specs.Words.{nth, count_in}
 use Rattle.sc_scenario.specs.Groups.{nodes_with, joined_by, joined_by_all}
 use Rattle.sc_scenario.specs.Schedules.{most_mails, most_deliveries, most_workers, is_client, actor_in, line_in}
-use Rattle.sc_scenario.specs.Orders.{name_in, order_in}
-use Rattle.sc_scenario.specs.Places.{is_line_built, is_order_built}
+use Rattle.sc_scenario.specs.Orders.{name_in, last_position, order_in}
+use Rattle.sc_scenario.specs.Places.{is_line_built}
 use Rattle.sc_scenario.specs.Taking.{is_actor, is_order_known, is_line_known, has_stranger}
 use Rattle.sc_scenario.specs.Valid.{IsEarlyLine, IsEarlyOrder, IsActor, IsUpTo}
 use Rattle.sc_lines.specs.declared.reasons.Reason.TheVariants.{WrongCount, BadNumber}
@@ -28,7 +29,7 @@ use Rattle.sc_lines.specs.declared.kinds.OrderKind.TheVariants as what
 use Rattle.sc_scenario.specs.declared.scenarios.Asks.{Asks}
 use Rattle.sc_scenario.specs.declared.scenarios.SchedLine.{SchedLine}
 use Rattle.sc_scenario.specs.declared.scenarios.SchedLine.TheVariants.{Go, Deliver, Drop, Again, Tick, Crash, Settle, Free}
-use Rattle.sc_lines.proofs.Choices.{counted}
+use Rattle.sc_lines.proofs.Choices.{is_up_to, counted}
 use Rattle.sc_scenario.proofs.Results.{err_ok, same_Ok, given_ok}
 use Rattle.sc_scenario.proofs.Rosters.{roster_with, all_with}
 
@@ -147,17 +148,32 @@ line_is nodes clients kind.Storm words line built e = absurd (true≢false (sym 
 abbrev pub Ordered : ℕ → Order → Type 0
 Ordered nodes order = is_order_known nodes order ≡ true → IsEarlyOrder nodes order
 
-pub order_is : (nodes : ℕ) (k : OrderKind) (words : List (List ℕ)) (order : Order) → is_order_built k ≡ true → order_in k words ≡ Ok order → Ordered nodes order
-order_is nodes what.Join words order built e =
+-- a position that is read is one of the circle
+position_is : (word : List ℕ) (at : ℕ) → number_of word last_position ≡ Some at → at < 2 ^ 32
+position_is word at e = let low = is_up_to last_position word at e in omega (arith, low)
+
+pub order_is : (nodes : ℕ) (k : OrderKind) (words : List (List ℕ)) (order : Order) → order_in k words ≡ Ok order → Ordered nodes order
+order_is nodes what.Join words order e =
     let g = given_ok (count_in most_nodes (nth words 3)) BadNumber (λ node. given (name_in (nth words 4)) BadNumber (λ group. Ok (Join node group))) order e in
     let n = given_ok (name_in (nth words 4)) BadNumber (λ group. Ok (Join g.0 group)) order g.2 in
     subst (Ordered nodes) (same_Ok _ order n.2) (λ h. node_is nodes (nth words 3) g.0 g.1 h)
-order_is nodes what.Leave words order built e =
+order_is nodes what.Leave words order e =
     let g = given_ok (count_in most_nodes (nth words 3)) BadNumber (λ node. given (name_in (nth words 4)) BadNumber (λ group. Ok (Leave node group))) order e in
     let n = given_ok (name_in (nth words 4)) BadNumber (λ group. Ok (Leave g.0 group)) order g.2 in
     subst (Ordered nodes) (same_Ok _ order n.2) (λ h. node_is nodes (nth words 3) g.0 g.1 h)
-order_is nodes what.Split words order built e = absurd (true≢false (sym built))
-order_is nodes what.Merge words order built e = absurd (true≢false (sym built))
-order_is nodes what.Repart words order built e = absurd (true≢false (sym built))
-order_is nodes what.Migrate words order built e = absurd (true≢false (sym built))
-order_is nodes what.Short words order built e = absurd (err_ok WrongCount order e)
+order_is nodes what.Split words order e =
+    let g = given_ok (name_in (nth words 3)) BadNumber (λ group. given (number_of (nth words 4) last_position) BadNumber (λ at. Ok (Split group at))) order e in
+    let p = given_ok (number_of (nth words 4) last_position) BadNumber (λ at. Ok (Split g.0 at)) order g.2 in
+    subst (Ordered nodes) (same_Ok _ order p.2) (λ h. position_is (nth words 4) p.0 p.1)
+order_is nodes what.Merge words order e =
+    let g = given_ok (name_in (nth words 3)) BadNumber (λ group. Ok (Merge group)) order e in
+    subst (Ordered nodes) (same_Ok _ order g.2) (λ h. tt)
+order_is nodes what.Repart words order e =
+    let g = given_ok (name_in (nth words 3)) BadNumber (λ group. given (number_of (nth words 4) last_position) BadNumber (λ at. Ok (Repart group at))) order e in
+    let p = given_ok (number_of (nth words 4) last_position) BadNumber (λ at. Ok (Repart g.0 at)) order g.2 in
+    subst (Ordered nodes) (same_Ok _ order p.2) (λ h. position_is (nth words 4) p.0 p.1)
+order_is nodes what.Migrate words order e =
+    let g = given_ok (name_in (nth words 3)) BadNumber (λ group. given (count_in most_nodes (nth words 4)) BadNumber (λ node. Ok (Migrate group node))) order e in
+    let n = given_ok (count_in most_nodes (nth words 4)) BadNumber (λ node. Ok (Migrate g.0 node)) order g.2 in
+    subst (Ordered nodes) (same_Ok _ order n.2) (λ h. node_is nodes (nth words 4) n.0 n.1 h)
+order_is nodes what.Short words order e = absurd (err_ok WrongCount order e)

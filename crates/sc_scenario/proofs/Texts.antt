@@ -224,7 +224,7 @@ outside_is draft (Telling k) words statement more is built place e t =
     let g = given_ok (count_in most_nodes (nth words 1)) BadNumber (λ node. then_on (order_in k words) (λ order. Ok (Tell node order))) statement e in
     let a = after_ok (order_in k words) (λ order. Ok (Tell g.0 order)) statement g.2 in
     let taken : telling_taken draft (telling_of draft g.0 a.0) ≡ Ok more = subst (λ s. taken_outside draft s ≡ Ok more) (sym (same_Ok (Tell g.0 a.0) statement a.2)) t in
-    told_is draft g.0 (nth words 1) a.0 more g.1 (order_is draft.nodes k words a.0 built a.1) is taken
+    told_is draft g.0 (nth words 1) a.0 more g.1 (order_is draft.nodes k words a.0 a.1) is taken
 
 -- ---- inside a section
 

@@ -8,8 +8,6 @@ use Rattle.sc_lines.specs.declared.kinds.Kind.{Kind}
 use Rattle.sc_lines.specs.declared.kinds.Kind.TheVariants.{Header, Nodes, Group, Policy, Client, End, Asking, Playing, Telling}
 use Rattle.sc_lines.specs.declared.kinds.LineKind.{LineKind}
 use Rattle.sc_lines.specs.declared.kinds.LineKind.TheVariants as line
-use Rattle.sc_lines.specs.declared.kinds.OrderKind.{OrderKind}
-use Rattle.sc_lines.specs.declared.kinds.OrderKind.TheVariants as order
 
 -- ---- what is built
 
@@ -25,16 +23,6 @@ is_line_built line.Settle = true
 is_line_built line.Free = true
 is_line_built line.Storm = false
 
--- orders that are built: a node joins and leaves
-abbrev pub is_order_built : OrderKind → Bool
-is_order_built order.Join = true
-is_order_built order.Leave = true
-is_order_built order.Split = false
-is_order_built order.Merge = false
-is_order_built order.Repart = false
-is_order_built order.Migrate = false
-is_order_built order.Short = true
-
 -- kinds of lines that are built: all but a policy
 abbrev pub is_built : Kind → Bool
 is_built Header = true
@@ -45,7 +33,7 @@ is_built Client = true
 is_built End = true
 is_built (Asking kind) = true
 is_built (Playing kind) = is_line_built kind
-is_built (Telling kind) = is_order_built kind
+is_built (Telling kind) = true
 
 -- ---- where a line may stand
 

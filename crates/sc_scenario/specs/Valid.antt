@@ -34,14 +34,14 @@ IsUpTo most n = (1 ≤ n) × (n ≤ most)
 abbrev pub IsActor : ℕ → List Asks → ℕ → Type 0
 IsActor nodes clients who = IsUpTo nodes who ⊎ ((client : ℕ) × (who ≡ client_actor client) × (is_client clients client ≡ true))
 
--- an order names a node that there is
+-- an order names a node that there is, and a position of the ring
 abbrev pub IsEarlyOrder : ℕ → Order → Type 0
 IsEarlyOrder nodes (Join node group) = IsUpTo nodes node
 IsEarlyOrder nodes (Leave node group) = IsUpTo nodes node
-IsEarlyOrder nodes (Split group at) = ⊥
-IsEarlyOrder nodes (Merge group) = ⊥
-IsEarlyOrder nodes (Repart group at) = ⊥
-IsEarlyOrder nodes (Migrate group node) = ⊥
+IsEarlyOrder nodes (Split group at) = at < 2 ^ 32
+IsEarlyOrder nodes (Merge group) = Unit {0}
+IsEarlyOrder nodes (Repart group at) = at < 2 ^ 32
+IsEarlyOrder nodes (Migrate group node) = IsUpTo nodes node
 
 -- a line of the schedule names actors that there are, and orders have numbers from 1 on
 abbrev pub IsEarlyLine : ℕ → List Asks → SchedLine → Type 0

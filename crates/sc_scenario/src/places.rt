@@ -1,10 +1,10 @@
 //! Where a line of a kind may stand, and which kinds are built.
 ghost use Rattle.std.specs.Prelude.{◌≡◌};
-ghost use Rattle.sc_scenario.specs.Places.{is_line_built, is_order_built, is_built, phase_so_far, may_follow, is_in_place};
+ghost use Rattle.sc_scenario.specs.Places.{is_line_built, is_built, phase_so_far, may_follow, is_in_place};
 ghost use Rattle.sc_scenario.specs.declared.drafts.Reading.TheVariants.{Outside};
 
 use crate::drafts::Draft;
-use sc_lines::{Kind, LineKind, OrderKind, is_inner, phase_of};
+use sc_lines::{Kind, LineKind, is_inner, phase_of};
 
 fn is_line_built(kind: LineKind) -> bool
     ensures { result ≡ is_line_built kind }
@@ -16,25 +16,15 @@ fn is_line_built(kind: LineKind) -> bool
     }
 }
 
-fn is_order_built(kind: OrderKind) -> bool
-    ensures { result ≡ is_order_built kind }
-{
-    match kind {
-        OrderKind::Join | OrderKind::Leave | OrderKind::Short => true,
-        OrderKind::Split | OrderKind::Merge | OrderKind::Repart | OrderKind::Migrate => false,
-    }
-}
-
 /// Whether a line of this kind is built.
 pub fn is_built(kind: Kind) -> bool
     ensures { result ≡ is_built kind }
 {
     match kind {
         Kind::Header | Kind::Nodes | Kind::Group | Kind::Client | Kind::End => true,
-        Kind::Asking(_) => true,
+        Kind::Asking(_) | Kind::Telling(_) => true,
         Kind::Policy => false,
         Kind::Playing(kind) => is_line_built(kind),
-        Kind::Telling(kind) => is_order_built(kind),
     }
 }
 
