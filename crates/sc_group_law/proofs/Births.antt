@@ -16,7 +16,8 @@ use Rattle.sc_players.specs.Players.{Ahead}
 use Rattle.sc_hist_law.specs.Laws.{LeavesWhole, LogTells}
 use Rattle.sc_hist_law.proofs.Told.{log_tells}
 use Rattle.sc_machine_table.specs.Logs.{state_after}
-use Rattle.sc_group_law.specs.Groups.{StartsEmpty, AreApart, HasGroups}
+use Rattle.sc_sound.specs.GroupsOf.{AreApart}
+use Rattle.sc_group_law.specs.Groups.{StartsEmpty, HasGroups}
 use Rattle.sc_group_law.proofs.Rosters.{state_roster}
 use Rattle.sc_group_law.proofs.Invariant.{rule, birth}
 use Rattle.sc_group_law.proofs.Holding.{IsOther, Holds, holds_none}

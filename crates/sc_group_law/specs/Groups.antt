@@ -7,6 +7,7 @@ use Rattle.sc_member.specs.Roster.{IsRoster}
 use Rattle.sc_base.specs.Among.{Among, Each}
 use Rattle.sc_scenario.specs.declared.scenarios.Asks.{Asks}
 use Rattle.sc_scenario.specs.declared.scenarios.Scenario.{Scenario}
+use Rattle.sc_sound.specs.GroupsOf.{AreApart}
 use Rattle.sc_group_law.specs.Orders.{TellsOfMembers}
 
 -- a group that starts with one to nine members, no pairs and no lock
@@ -15,11 +16,6 @@ pub record StartsEmpty (base : Base) : Type 0 where
   pub pairs : base.pairs ≡ []
   pub clients : base.clients ≡ []
   pub free : base.core.lock ≡ Free
-
--- no two of these groups have one name
-abbrev pub AreApart : List Base → Type 0
-AreApart [] = Unit {0}
-AreApart (base ∷ bases) = Each (λ other. other.core.id ≡ base.core.id → ⊥) bases × AreApart bases
 
 -- a scenario of these groups, under names of their own; its orders are to join and leave; nodes are numbered up to 32, and clients from 1, each once
 pub record HasGroups (scenario : Scenario) (base : Base) (others : List Base) : Type 0 where

@@ -17,9 +17,8 @@ use Rattle.sc_machine_table.specs.Machine.{applied}
 use Rattle.sc_players.specs.Players.{Ahead}
 use Rattle.sc_entries.specs.declared.LogEntry.{LogEntry}
 use Rattle.sc_hist_law.specs.Laws.{LeavesWhole}
-use Rattle.sc_sound.specs.GroupsOf.{children_of, children_by, is_birth_of, with_birth, with_children, with_descendants, groups_at, birth_at, log_by, log_at, state_at, entries_from, entries_after, entries_gained, entries_by_row}
+use Rattle.sc_sound.specs.GroupsOf.{AreApart, children_of, children_by, is_birth_of, with_birth, with_children, with_descendants, groups_at, birth_at, log_by, log_at, state_at, entries_from, entries_after, entries_gained, entries_by_row}
 use Rattle.sc_sound.specs.Logs.{decided_log, decided_state}
-use Rattle.sc_group_law.specs.Groups.{AreApart}
 use Rattle.sc_sound_law.proofs.Plain.{no_birth}
 
 -- rows of a journal

@@ -19,8 +19,7 @@ use Rattle.sc_entries.specs.Worlds.{StoreWorld, is_named, with_group, groups_aft
 use Rattle.sc_entries.proofs.Pushes.{world_append}
 use Rattle.sc_hist_law.specs.Laws.{LeavesWhole}
 use Rattle.sc_hist_law.proofs.Logs.{state_same}
-use Rattle.sc_sound.specs.GroupsOf.{entries_from}
-use Rattle.sc_group_law.specs.Groups.{AreApart}
+use Rattle.sc_sound.specs.GroupsOf.{AreApart, entries_from}
 use Rattle.sc_sound_law.proofs.Groups.{not_same, apart_from}
 use Rattle.sc_sound_law.proofs.Plain.{no_birth, same_transactions, same_ring}
 

@@ -7,7 +7,7 @@ use Rattle.sc_base.specs.Arc.{Arc, IsArc, holds, offset}
 use Rattle.sc_cmd.specs.declared.cores.Base.{Base}
 use Rattle.sc_entries.specs.declared.Cut.{Cut}
 use Rattle.sc_entries.specs.Rings.{Covers, first_cut}
-use Rattle.sc_group_law.specs.Groups.{AreApart}
+use Rattle.sc_sound.specs.GroupsOf.{AreApart}
 
 -- ---- positions from a start on
 

@@ -30,12 +30,12 @@ use Rattle.sc_players.specs.declared.roles.Role.TheVariants.{Node as ANode}
 use Rattle.sc_entries.specs.Worlds.{StoreWorld, is_named, named_group}
 use Rattle.sc_hist_law.specs.Laws.{LeavesWhole, LogTells}
 use Rattle.sc_hist_law.proofs.Logs.{state_same}
-use Rattle.sc_sound.specs.GroupsOf.{groups_at, state_at, world_at, history_at, entries_at}
+use Rattle.sc_sound.specs.GroupsOf.{AreApart, groups_at, state_at, world_at, history_at, entries_at}
 use Rattle.sc_sound.specs.Histories.{history}
 use Rattle.sc_sound.specs.Logs.{decided_log, decided_state}
 use Rattle.sc_sound.specs.Requests.{IsRequest, kept_replies, kept_reply, answer_row}
 use Rattle.sc_sound.specs.Soundness.{GoesOn, HasOneLog, HasRun, AllHaveRun, IsOneMap, AnswersRequests, told_row, IsTimely, KeepsRealTime, IsSound}
-use Rattle.sc_group_law.specs.Groups.{AreApart, HasGroups}
+use Rattle.sc_group_law.specs.Groups.{HasGroups}
 use Rattle.sc_group_law.proofs.Births.{tells_of}
 use Rattle.sc_group_law.proofs.Clients.{Made, MadeBy, IsAnswered}
 use Rattle.sc_group_law.proofs.Family.{h_of, entry_offered, entries_whole}

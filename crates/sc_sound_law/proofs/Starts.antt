@@ -11,7 +11,8 @@ use Rattle.sc_scenario.specs.Groups.{group_at, name_at, place_right, place_left,
 use Rattle.sc_scenario.specs.declared.drafts.GroupLine.{GroupLine}
 use Rattle.sc_entries.specs.Rings.{first_cut}
 use Rattle.sc_ring_law.specs.Laws.{StandsBetween}
-use Rattle.sc_group_law.specs.Groups.{StartsEmpty, AreApart}
+use Rattle.sc_sound.specs.GroupsOf.{AreApart}
+use Rattle.sc_group_law.specs.Groups.{StartsEmpty}
 use Rattle.sc_sound_law.specs.Together.{StandsFree, StartTogether}
 use Rattle.sc_sound_law.proofs.Round.{IsSpan, GoRound, round_covers}
 

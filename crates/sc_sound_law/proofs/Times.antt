@@ -27,14 +27,13 @@ use Rattle.sc_hist_law.specs.Laws.{LeavesWhole, LogTells}
 use Rattle.sc_hist_law.proofs.Logs.{state_same}
 use Rattle.sc_machine_table.specs.Group.{group_of}
 use Rattle.sc_machine_table.specs.Logs.{state_after, done_by}
-use Rattle.sc_sound.specs.GroupsOf.{entries_by_row, entries_at, world_at, history_at}
+use Rattle.sc_sound.specs.GroupsOf.{AreApart, entries_by_row, entries_at, world_at, history_at}
 use Rattle.sc_sound.specs.Histories.{newly_decided, history}
 use Rattle.sc_sound.specs.Logs.{decided_log, decided_state}
 use Rattle.sc_sound.specs.Requests.{issues, issue_row, kept_replies, answer_row}
 use Rattle.sc_sound.specs.Soundness.{told_row}
 use Rattle.sc_sound.proofs.Rows.{history-push}
 use Rattle.sc_sound.proofs.EntryRows.{entries-push, world-push}
-use Rattle.sc_group_law.specs.Groups.{AreApart}
 use Rattle.sc_group_law.proofs.Places.{or_now, issue-push, answered-push, done_append}
 use Rattle.sc_group_law.proofs.Clients.{Made, MadeBy, IsAnswered}
 use Rattle.sc_group_law.proofs.Family.{h_of, entry_offered, Kept, ClientMoved, Moved, entries_whole, log_goes_on}

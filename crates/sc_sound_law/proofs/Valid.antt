@@ -12,7 +12,8 @@ use Rattle.sc_scenario.specs.declared.scenarios.Asks.{Asks}
 use Rattle.sc_scenario.specs.declared.scenarios.Scenario.{Scenario}
 use Rattle.sc_scenario.specs.declared.scenarios.SchedLine.{SchedLine}
 use Rattle.sc_scenario.specs.declared.scenarios.SchedLine.TheVariants as scheduled
-use Rattle.sc_group_law.specs.Groups.{StartsEmpty, AreApart, HasGroups}
+use Rattle.sc_sound.specs.GroupsOf.{AreApart}
+use Rattle.sc_group_law.specs.Groups.{StartsEmpty, HasGroups}
 use Rattle.sc_group_law.specs.Orders.{IsOfMembers, TellsOfMembers}
 use Rattle.sc_players.specs.Players.{Lawful}
 use Rattle.sc_sound_law.specs.Laws.{ValidStartTogether, ValidJournalsAreSound}

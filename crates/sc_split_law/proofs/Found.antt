@@ -20,9 +20,8 @@ use Rattle.sc_players.specs.Players.{route_of, Ahead}
 use Rattle.sc_scenario.specs.declared.scenarios.Scenario.{Scenario}
 use Rattle.sc_entries.specs.declared.LogEntry.{LogEntry}
 use Rattle.sc_hist_law.specs.Laws.{LeavesWhole}
-use Rattle.sc_sound.specs.GroupsOf.{children_by, is_birth_of, with_birth, with_children, with_descendants, groups_at, log_by, log_at, entries_from, entries_after, entries_gained, entries_by_row}
+use Rattle.sc_sound.specs.GroupsOf.{AreApart, children_by, is_birth_of, with_birth, with_children, with_descendants, groups_at, log_by, log_at, entries_from, entries_after, entries_gained, entries_by_row}
 use Rattle.sc_sound.specs.Logs.{decided_log}
-use Rattle.sc_group_law.specs.Groups.{AreApart}
 use Rattle.sc_group_law.proofs.Invariant.{rule, first}
 use Rattle.sc_group_law.proofs.Family.{h_of, entries_made, decided_is}
 use Rattle.sc_group_law.proofs.Places.{Journal, split_at}

@@ -28,11 +28,10 @@ use Rattle.sc_entries.specs.Worlds.{StoreWorld, named_group, first_world, world_
 use Rattle.sc_entries.proofs.Pushes.{world_append}
 use Rattle.sc_hist_law.proofs.Fronts.{logs_make_states}
 use Rattle.sc_map_law.specs.Laws.{MakeOneMap}
-use Rattle.sc_sound.specs.GroupsOf.{children_of, is_birth_of, groups_at, birth_at, state_at, world_at, history_at, entries_at}
+use Rattle.sc_sound.specs.GroupsOf.{AreApart, children_of, is_birth_of, groups_at, birth_at, state_at, world_at, history_at, entries_at}
 use Rattle.sc_sound.specs.Logs.{decided_log, decided_state}
 use Rattle.sc_sound.specs.Requests.{IsRequest, kept_replies, kept_reply, answer_row}
 use Rattle.sc_sound.specs.Soundness.{GoesOn, HasOneLog, HasRun, AllHaveRun, IsOneMap, AnswersRequests, told_row, IsTimely, KeepsRealTime, IsSound}
-use Rattle.sc_group_law.specs.Groups.{AreApart}
 use Rattle.sc_group_law.proofs.Clients.{IsAnswered}
 use Rattle.sc_group_law.proofs.Family.{h_of, Kept}
 use Rattle.sc_group_law.proofs.Holding.{held}

@@ -27,7 +27,7 @@ use Rattle.sc_entries.specs.Births.{birth_of}
 use Rattle.sc_entries.proofs.Children.{births_are_children}
 use Rattle.sc_paxos_law.proofs.Among.{Among-either}
 use Rattle.sc_sound.specs.GroupsOf.{children_of}
-use Rattle.sc_whole_law.specs.Parties.{IsFresh}
+use Rattle.sc_start_law.specs.Begins.{IsFresh}
 use Rattle.sc_whole_law.proofs.Members.{may_split, members_after}
 
 staying_some : (n : ℕ) → 2 ≤ n → n ≤ 9 → (1 ≤ n - n / 2) × (n - n / 2 < n)

@@ -48,7 +48,8 @@ use Rattle.sc_group_law.proofs.Places.{split_at}
 use Rattle.sc_group_law.proofs.Replies.{front_is}
 use Rattle.sc_group_law.proofs.Speech.{AreSaid, Meets, Speaks}
 use Rattle.sc_whole_law.specs.Parameters.{stories_at, MayQueue, MayHear}
-use Rattle.sc_whole_law.specs.Parties.{IsFresh, PartiesAreApart, MergesFit}
+use Rattle.sc_start_law.specs.Begins.{IsFresh}
+use Rattle.sc_whole_law.specs.Parties.{PartiesAreApart, MergesFit}
 use Rattle.sc_whole_law.proofs.Coming.{Binds}
 use Rattle.sc_whole_law.proofs.Locks.{Ever, WatchesIt, watching_since, DecidesIt, decided_since, yes_binds}
 use Rattle.sc_whole_law.proofs.Asking.{hears_merges, BeginsShared, splits_fit, none_split}

@@ -23,14 +23,13 @@ use Rattle.sc_paxos_words.proofs.ListLemmas.{Each-among}
 use Rattle.sc_players.specs.Players.{Ahead, Lawful, system_of, schedule}
 use Rattle.sc_players.specs.declared.roles.Role.TheVariants.{Node as ANode}
 use Rattle.sc_scenario.specs.declared.scenarios.Scenario.{Scenario}
-use Rattle.sc_sound.specs.GroupsOf.{groups_at, entries_at}
+use Rattle.sc_sound.specs.GroupsOf.{AreApart, groups_at, entries_at}
 use Rattle.sc_sound.specs.Soundness.{HasRun, AllHaveRun}
 use Rattle.sc_ring_law.specs.Allowed.{Sources, IsAllowed}
 use Rattle.sc_ring_law.specs.Laws.{BeginInPlace}
 use Rattle.sc_journal_law.specs.Beside.{HasOneValue, CallsAreIssued, RepliesAreDecided, HoldsBeside}
 use Rattle.sc_journal_law.specs.Descent.{Rows, added_by}
 use Rattle.sc_journal_law.proofs.Findings.{entries_are_allowed}
-use Rattle.sc_group_law.specs.Groups.{AreApart}
 use Rattle.sc_group_law.proofs.Births.{at_start}
 use Rattle.sc_group_law.proofs.Families.{h_of}
 use Rattle.sc_group_law.proofs.Holding.{held}
@@ -40,8 +39,8 @@ use Rattle.sc_group_law.proofs.Replicated.{one_value, is_log, executed_is}
 use Rattle.sc_group_law.proofs.Stepping.{MayTell}
 use Rattle.sc_whole_law.specs.Orders.{OrdersAreAllowed}
 use Rattle.sc_whole_law.specs.Parameters.{stories_at, IsIssuedCall, MayQueue, MayHear}
-use Rattle.sc_whole_law.specs.Parties.{IsFresh, PartiesAreApart, MergesFit}
-use Rattle.sc_whole_law.specs.Players.{HasSeats, AsksAre}
+use Rattle.sc_whole_law.specs.Parties.{PartiesAreApart, MergesFit}
+use Rattle.sc_start_law.specs.Begins.{IsFresh, HasSeats, AsksAre}
 use Rattle.sc_whole_law.proofs.Distinct.{parties_are_apart}
 use Rattle.sc_whole_law.proofs.Fitting.{merges_fit}
 use Rattle.sc_whole_law.proofs.Turning.{Holds, players, issued_now, holds_next}

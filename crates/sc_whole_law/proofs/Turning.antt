@@ -49,8 +49,8 @@ use Rattle.sc_group_law.proofs.Places.{or_now, issue-push, split_at}
 use Rattle.sc_group_law.proofs.Replies.{front_is}
 use Rattle.sc_group_law.proofs.Stepping.{HasPlayers, MayTell, KnowsOffspring, moved}
 use Rattle.sc_whole_law.specs.Parameters.{stories_at, IsIssuedCall, MayQueue, MayHear}
-use Rattle.sc_whole_law.specs.Parties.{IsFresh, PartiesAreApart, MergesFit}
-use Rattle.sc_whole_law.specs.Players.{HasSeats, AsksAre}
+use Rattle.sc_whole_law.specs.Parties.{PartiesAreApart, MergesFit}
+use Rattle.sc_start_law.specs.Begins.{IsFresh, HasSeats, AsksAre}
 use Rattle.sc_whole_law.proofs.Apart.{IsNew, named_apart, silent}
 use Rattle.sc_whole_law.proofs.Children.{fresh_children}
 use Rattle.sc_whole_law.proofs.Granting.{speaks}

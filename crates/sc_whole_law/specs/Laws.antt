@@ -14,7 +14,7 @@ use Rattle.sc_journal_law.specs.Beside.{RepliesAreDecided, HoldsBeside}
 use Rattle.sc_journal_law.specs.Descent.{Rows}
 use Rattle.sc_journal_law.specs.InTurn.{DecideInTurn}
 use Rattle.sc_whole_law.specs.Orders.{OrdersAreAllowed}
-use Rattle.sc_whole_law.specs.Players.{BeginsWell}
+use Rattle.sc_start_law.specs.Begins.{BeginsWell}
 
 -- the members of a group stay one to nine nodes, ascending
 abbrev pub MembersStayRosters : Type 0

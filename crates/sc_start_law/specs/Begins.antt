@@ -1,18 +1,26 @@
--- What a journal begins with: its groups, its players and what they ask.
-use Rattle.std.specs.Prelude.{◌≡◌, ℕ, ◌-◌, ◌≤◌, ◌++◌, map, Some, slice_get}
+-- What a journal begins with: its groups, to which nothing has happened, its players and what they ask.
+use Rattle.std.specs.Prelude.{◌≡◌, ℕ, ◌-◌, ◌≤◌, [], ◌++◌, map, Some, slice_get}
 use Rattle.sc_base.specs.Among.{Among, Each}
 use Rattle.sc_base.specs.Limits.{most_nodes}
 use Rattle.sc_base.specs.declared.ops.Op.{Op}
+use Rattle.sc_cmd.specs.declared.cores.Base.{Base}
+use Rattle.sc_cmd.specs.declared.cores.Lock.TheVariants.{Free}
 use Rattle.sc_cmd.specs.declared.links.Route.{Route}
+use Rattle.sc_member.specs.Roster.{IsRoster}
 use Rattle.sc_node_table.specs.Slots.{numbers_from, slots_ahead}
 use Rattle.sc_players.specs.Players.{Ahead, node_seat, client_seat, births}
 use Rattle.sc_scenario.specs.declared.scenarios.Asks.{Asks}
 use Rattle.sc_scenario.specs.declared.scenarios.Scenario.{Scenario}
 use Rattle.sc_ring_law.specs.Allowed.{Sources}
 use Rattle.sc_ring_law.specs.Laws.{BeginInPlace}
-use Rattle.sc_group_law.specs.Groups.{AreApart}
-use Rattle.sc_whole_law.specs.Parties.{IsFresh}
-use Rattle.sc_cmd.specs.declared.cores.Base.{Base}
+use Rattle.sc_sound.specs.GroupsOf.{AreApart}
+
+-- a group at its birth is bound in nothing, and has voted and decided nothing
+pub record IsFresh (base : Base) : Type 0 where
+  pub free : base.core.lock ≡ Free
+  pub unvoted : base.core.voted ≡ []
+  pub decided : base.core.decided ≡ []
+  pub roster : IsRoster base.core.members
 
 -- the nodes are numbered up to the most, and the clients from one, each once; as many slots are open as children have
 pub record HasSeats (ahead : Ahead) (scenario : Scenario) (route : Route) : Type 0 where
