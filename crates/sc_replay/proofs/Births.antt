@@ -14,7 +14,7 @@ use Rattle.sc_scenario.specs.declared.drafts.GroupLine.{GroupLine}
 use Rattle.sc_scenario.specs.Valid.{IsEarly, IsEarlyClient}
 use Rattle.sc_scenario.specs.declared.scenarios.Asks.{Asks}
 use Rattle.sc_scenario.specs.declared.scenarios.Scenario.{Scenario}
-use Rattle.sc_sound_law.proofs.Starts.{bases_from, all_from}
+use Rattle.sc_start_law.proofs.Starts.{bases_from, all_from}
 use Rattle.sc_players.specs.Players.{node_seat, client_seat, client_seats, route_of, births, most_actor, Player, as_nodes}
 
 -- the numbers rise, from above a number on

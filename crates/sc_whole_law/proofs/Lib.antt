@@ -12,3 +12,8 @@ pub mod Distinct
 pub mod Fitting
 pub mod Journals
 pub mod Sound
+pub mod Scheduled
+pub mod Valid
+pub mod TwoGroups
+pub mod SplitExample
+pub mod Examples
