@@ -9,6 +9,7 @@ pub mod Children
 pub mod Growing
 pub mod Turning
 pub mod Distinct
+pub mod Unions
 pub mod Fitting
 pub mod Journals
 pub mod Sound
