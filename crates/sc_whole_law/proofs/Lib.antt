@@ -7,6 +7,7 @@ pub mod Granting
 pub mod Apart
 pub mod Children
 pub mod Growing
+pub mod Replies
 pub mod Turning
 pub mod Distinct
 pub mod Unions
