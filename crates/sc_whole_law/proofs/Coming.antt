@@ -46,7 +46,8 @@ use Rattle.sc_machine_table.specs.Votes.{has_voted, vote_of, watch_vote_of, past
 
 -- ---- members
 
-staying_some : (n : ℕ) → 2 ≤ n → n ≤ 9 → (1 ≤ n - n / 2) × (n - n / 2 < n)
+-- of two to nine nodes some stay, and not all
+pub staying_some : (n : ℕ) → 2 ≤ n → n ≤ 9 → (1 ≤ n - n / 2) × (n - n / 2 < n)
 staying_some n two nine = (omega arith, omega arith)
 
 -- the members that stay are a roster

@@ -7,8 +7,10 @@ pub mod Granting
 pub mod Apart
 pub mod Children
 pub mod Growing
+pub mod Replies
 pub mod Turning
 pub mod Distinct
+pub mod Unions
 pub mod Fitting
 pub mod Journals
 pub mod Sound

@@ -53,13 +53,13 @@ pub fn lawful_journals_decide_in_turn()
 {}
 
 /// Each group of such a journal has one value per slot, each replica has executed a front of its
-/// group's log, and each call was issued before the row that decides it.
+/// group's log, each call was issued before the row that decides it, and each reply that a client
+/// keeps was decided before the row in which the client takes it.
 pub fn lawful_journals_hold_beside()
     ensures { LawfulJournalsHoldBeside }
 {}
 
-/// So each first part of a lawful journal is sound, whatever its groups order, where the replies in it
-/// were decided before the rows that take them.
+/// So each first part of a lawful journal is sound, whatever its groups order.
 pub fn lawful_journals_are_sound()
     ensures { LawfulJournalsAreSound }
 {
