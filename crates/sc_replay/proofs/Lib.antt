@@ -1,9 +1,6 @@
-mod Indexed
 mod OrderWords
 mod Births
 mod Lines
 mod Fronts
-mod Longer
-mod Newest
 mod Held
-mod Rows
+mod Places
