@@ -1,5 +1,6 @@
 mod OrderWords
 mod Births
+mod Names
 mod Lines
 mod Fronts
 mod Held

@@ -12,5 +12,5 @@ mod worlds;
 pub use laws::valid_scenarios_can_play;
 pub use replaying::{ReplayFault, replay_rows};
 pub use summing::{sum_up, summary};
-pub use telling::{decided_log, decided_ring, effective, history, store_world};
+pub use telling::{decided_log, decided_ring, effective, history};
 pub use worlds::World;

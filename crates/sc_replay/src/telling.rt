@@ -21,7 +21,7 @@ use std::alloc::Global;
 
 /// What the entries of rows make of the groups that the rows begin with. Refused for want of memory,
 /// and where an entry would leave a cut that is no arc.
-pub fn store_world(
+pub(crate) fn store_world(
     alloc: Global,
     groups: &[Base],
     rows: &[Row<Mail, OrderLine>],
