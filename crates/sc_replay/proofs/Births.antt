@@ -1,20 +1,16 @@
 -- The actors of a scenario have different numbers: nodes up to 32, and then clients up to 96, ascending.
 use Rattle.std.proofs.Common.{◌≡◌, ℕ, zero, suc, ◌+◌, ◌<◌, ◌≤◌, true, false, not, eqb, List, [], ◌∷◌, ◌++◌, length, map, refl, ◌∙◌, ap, arith, slice_index_or}
-use Rattle.std.specs.List.{All, AllPairs, list_any, list_all}
-use Rattle.std.proofs.lemmas.Bool.{ne_eqb, and_from, lt-ltb}
+use Rattle.std.specs.List.{All, AllPairs, list_any}
+use Rattle.std.proofs.lemmas.Bool.{ne_eqb, and_from}
 use Rattle.std.proofs.lemmas.List.Elements.{All-nil, All-cons}
 use Rattle.sc_cmd.specs.declared.cores.Base.{Base}
 use Rattle.sc_cmd.specs.declared.links.Route.{Route}
 use Rattle.sc_actor.specs.declared.actors.Seat.{Seat}
 use Rattle.sc_actor.specs.System.{are_apart}
 use Rattle.sc_node_table.specs.Slots.{numbers_from}
-use Rattle.sc_node_table.specs.Node.{is_before, are_in_order}
-use Rattle.sc_scenario.specs.Groups.{name_at, base_at, bases_of}
-use Rattle.sc_scenario.specs.declared.drafts.GroupLine.{GroupLine}
 use Rattle.sc_scenario.specs.Valid.{IsEarly, IsEarlyClient}
 use Rattle.sc_scenario.specs.declared.scenarios.Asks.{Asks}
 use Rattle.sc_scenario.specs.declared.scenarios.Scenario.{Scenario}
-use Rattle.sc_start_law.proofs.Starts.{bases_from, all_from}
 use Rattle.sc_players.specs.Players.{node_seat, client_seat, client_seats, route_of, births, most_actor, Player, as_nodes}
 
 -- the numbers rise, from above a number on
@@ -108,22 +104,3 @@ all_numbered scenario early =
     let clients : Within most_actor (client_seats scenario.groups scenario.clients) = clients_within_any scenario.groups scenario.clients early.clients in
     between 0 most_actor (births as_nodes scenario) (births_rise scenario early)
     (within_on most_actor _ (client_seats scenario.groups scenario.clients) (nodes_within scenario.groups most_actor 1 scenario.nodes (omega (arith, early.nodes.1))) clients)
-
--- ---- names
-
-is_later : (k j : ℕ) → k < j → is_before (name_at k) (name_at j) ≡ true
-is_later k j lt = lt-ltb (k + 1) (j + 1) (omega (arith, lt))
-
-later_names : (lines : List GroupLine) (k j n : ℕ) → k < j → list_all (λ (other : Base). is_before (name_at k) other.core.id) (bases_from lines j n) ≡ true
-later_names lines k j zero lt = refl
-later_names lines k j (suc n) lt = and_from (is_before (name_at k) (name_at j)) (list_all (λ (other : Base). is_before (name_at k) other.core.id) (bases_from lines (j + 1) n)) (is_later k j lt) (later_names lines k (j + 1) n (omega (arith, lt)))
-
-names_rise : (lines : List GroupLine) (k n : ℕ) → are_in_order (bases_from lines k n) ≡ true
-names_rise lines k zero = refl
-names_rise lines k (suc n) =
-    and_from (list_all (λ (other : Base). is_before (name_at k) other.core.id) (bases_from lines (k + 1) n)) (are_in_order (bases_from lines (k + 1) n)) (later_names lines k (k + 1) n (omega arith)) (names_rise lines (k + 1) n)
-
--- groups stand in the order of their names
-pub all_ordered : (scenario : Scenario) → IsEarly scenario → are_in_order scenario.groups ≡ true
-all_ordered scenario early =
-    ap are_in_order (early.groups ∙ all_from early.starts (length early.starts)) ∙ names_rise early.starts 0 (length early.starts)

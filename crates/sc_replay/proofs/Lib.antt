@@ -1,9 +1,7 @@
-mod Indexed
 mod OrderWords
 mod Births
+mod Names
 mod Lines
 mod Fronts
-mod Longer
-mod Newest
 mod Held
-mod Rows
+mod Places

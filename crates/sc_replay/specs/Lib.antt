@@ -1,5 +1,3 @@
-pub mod Acceptances
-pub mod Indexes
 pub mod Plays
 pub mod Replays
 pub mod Worlds

@@ -1,61 +1,89 @@
 //! The summary of a replayed journal.
-ghost use Rattle.std.specs.Prelude.{◌≡◌, map, IfOk};
+ghost use Rattle.std.specs.Prelude.{◌≡◌, ◌≤◌, length, fold, IfOk, OnOk};
+ghost use Rattle.std.specs.Option.{option_to_list};
 ghost use Rattle.sc_actor.specs.Walk.{is_quiet, skipped};
-ghost use Rattle.sc_machine_table.specs.Group.{group_of};
 ghost use Rattle.sc_players.specs.Players.{system_of, schedule, parties, as_nodes};
-ghost use Rattle.sc_machine_table.specs.Logs.{state_after};
-ghost use Rattle.sc_replay.specs.Summary.{cut_of, decided_cut, summary_of};
+ghost use Rattle.sc_sound.specs.GroupsOf.{world_at};
+ghost use Rattle.sc_replay.specs.Summary.{line_of, place_in, placed, ring_lines, summary_of};
 ghost use Rattle.sc_actor.specs.System.{no_words};
 
-use crate::deciding::{executed, log_of_group};
 use crate::orders::{order_count, orders_told};
+use crate::telling::store_world;
 use crate::worlds::World;
 use sc_actor::{Journal, Row};
 use sc_base::{OutOfMemory, Sequence};
-use sc_cmd::{Base, Command, OrderLine, Route};
+use sc_cmd::{Base, OrderLine, Route};
+use sc_entries::Cut;
 use sc_mail::Mail;
-use sc_node_table::OPEN_SLOTS;
 use sc_report::Summary;
 use sc_scenario::Scenario;
+use sc_store_world::StoreWorld;
 use sc_world::{Party, all_asked, deliveries, mail_count, small};
 use std::alloc::Global;
 
-// A group's part of the ring, and its members, after these entries.
-fn cut_after(alloc: Global, base: &Base, log: &[Command]) -> Result<Route, OutOfMemory>
-    ensures { IfOk result (λ cut. cut ≡ cut_of (state_after (group_of base.now) log.now)) }
+// The line of a cut, if its group was born.
+fn line_of(world: &StoreWorld, cut: &Cut) -> Option<Route>
+    ensures { result ≡ line_of world.now cut.now }
 {
-    let machine = executed(alloc, base, log)?;
-    let core = machine.core();
-    Ok(Route {
-        group: core.id,
-        lo: core.arc.lo(),
-        members: core.members,
-    })
+    match world.group(cut.group) {
+        None => None,
+        Some(group) => Some(Route {
+            group: cut.group,
+            lo: cut.arc.lo(),
+            members: group.core().members,
+        }),
+    }
 }
 
-fn decided_cut(
-    alloc: Global,
-    base: &Base,
-    rows: &[Row<Mail, OrderLine>],
-) -> Result<Route, OutOfMemory>
-    ensures { IfOk result (λ cut. cut ≡ decided_cut rows.now base.now) }
+// Where a line that begins at a position stands among lines by ascending beginning.
+fn place_in(lines: &[Route], lo: u32) -> usize
+    ensures value { result ≡ place_in lines.now lo }
+    ensures within { result ≤ length lines.now }
 {
-    let log = log_of_group(alloc, OPEN_SLOTS, base, rows)?;
-    cut_after(alloc, base, &log)
+    let mut at = 0usize;
+    for other in lines {
+        if lo < other.lo {
+            return at;
+        }
+        at += 1;
+    }
+    at
 }
 
+fn add_line(lines: &mut Vec<Route>, line: Option<Route>) -> Result<(), OutOfMemory>
+    ensures { OnOk result (lines.new.items ≡ fold placed lines.old.items (option_to_list line)) }
+{
+    match line {
+        None => Ok(()),
+        Some(line) => {
+            let at = place_in(lines.as_slice(), line.lo);
+            lines.insert(at, line)?;
+            Ok(())
+        }
+    }
+}
+
+fn ring_lines(alloc: Global, world: &StoreWorld) -> Result<Vec<Route>, OutOfMemory>
+    ensures { IfOk result (λ lines. lines.items ≡ ring_lines world.now) }
+{
+    let mut lines = Vec::new(alloc);
+    for cut in world.ring() {
+        add_line(&mut lines, line_of(world, cut))?;
+    }
+    Ok(lines)
+}
+
+// The lines of the ring of a journal.
 fn ring_of(
     alloc: Global,
     groups: &[Base],
     rows: &[Row<Mail, OrderLine>],
 ) -> Result<Sequence<Route>, OutOfMemory>
-    ensures { IfOk result (λ ring. ring ≡ map (decided_cut rows.now) groups.now) }
+    ensures { IfOk result (λ ring. ring ≡ ring_lines (world_at as_nodes groups.now rows.now)) }
 {
-    let mut ring = Sequence::new(alloc);
-    for base in groups {
-        ring.push(decided_cut(alloc, base, rows)?)?;
-    }
-    Ok(ring)
+    let world = store_world(alloc, groups, rows)?;
+    let lines = ring_lines(alloc, &world)?;
+    Ok(Sequence::from_vec(lines))
 }
 
 /// What the report tells of a journal, with the parties that its rows leave, the lines that were

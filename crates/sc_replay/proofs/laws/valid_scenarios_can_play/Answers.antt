@@ -1,7 +1,8 @@
 use Rattle.std.proofs.Common.{refl}
 use Rattle.sc_players.specs.Players.{schedule}
-use Rattle.sc_replay.proofs.Births.{all_apart, all_numbered, all_ordered}
+use Rattle.sc_replay.proofs.Births.{all_apart, all_numbered}
 use Rattle.sc_replay.proofs.Lines.{built, few, spared}
+use Rattle.sc_replay.proofs.Names.{all_ordered}
 use Rattle.sc_replay.proofs.laws.valid_scenarios_can_play.Goals as goal
 
 pub returns : goal.returns
