@@ -45,14 +45,13 @@ use Rattle.sc_journal_law.proofs.Allowing.{fronts_allow, states_allow}
 use Rattle.sc_journal_law.proofs.Allows.{groups_allow_others}
 use Rattle.sc_group_law.proofs.Families.{h_of}
 use Rattle.sc_group_law.proofs.Invariant.{rule, first}
-use Rattle.sc_group_law.proofs.Places.{split_at}
-use Rattle.sc_group_law.proofs.Replies.{front_is}
 use Rattle.sc_group_law.proofs.Speech.{AreSaid, Meets, Speaks}
 use Rattle.sc_whole_law.specs.Parameters.{stories_at, MayQueue, MayHear}
 use Rattle.sc_whole_law.specs.Parties.{IsFresh, PartiesAreApart, MergesFit}
 use Rattle.sc_whole_law.proofs.Coming.{Binds}
 use Rattle.sc_whole_law.proofs.Locks.{Ever, WatchesIt, watching_since, DecidesIt, decided_since, yes_binds}
 use Rattle.sc_whole_law.proofs.Asking.{hears_merges, BeginsShared, splits_fit, none_split}
+use Rattle.sc_whole_law.proofs.Fronts.{goes_on_from}
 use Rattle.sc_whole_law.proofs.Speaking.{stands_watch, stands_offer, Stands, said_question, said_reminders, told_by, goes_on}
 
 -- only a Yes that is noted stands
@@ -91,9 +90,9 @@ module _ (sources : Sources) (ahead : Ahead) (scenario : Scenario) (start : Begi
   al : (group : Group) → GroupAllows sources name group
   al group = groups_allow_others sources name group
 
-  -- a log of the steps is a front of the decided one
+  -- the decided log goes on from each log of the steps
   on : (log : List Command) → Log log → decided ≡ log ++ drop (length log) decided
-  on log is = split_at (length log) log decided (front_is ahead base rows lawful log is).1
+  on log is = goes_on_from ahead base rows lawful log is
 
   state_allows : (log : List Command) → Log log → (other : Draw) (c : Command) → StandsFor sources name (after log) other c → IsAllowed sources told other c
   state_allows log is other c stands = states_allow sources ahead scenario.groups start rows turn base among log (drop (length log) decided) (on log is) other c stands
