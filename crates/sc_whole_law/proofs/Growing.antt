@@ -33,13 +33,16 @@ use Rattle.sc_whole_law.proofs.Apart.{IsApart, IsNew, IsOldOrNew, named_apart, n
 
 -- a name of one of these groups is one of those
 module _ (heard : MailBody → Type 0) (bases more : List Base) (all : (b : Base) → Among b bases → Among b more) where
+  -- ... of a group
   more_one : (group : Draw) → IsOneOf bases group → IsOneOf more group
   more_one group (b, a, is) = (b, all b a, is)
 
+  -- ... of an answer
   more_answer : (group : Draw) (answer : AnswerBody) → IsNamedAnswer bases group answer → IsNamedAnswer more group answer
   more_answer group (Says.Value reply) one = more_one group one
   more_answer group _ one = tt
 
+  -- ... of a mail
   more_named : (body : MailBody) → IsNamedIn heard bases body → IsNamedIn heard more body
   more_named (Request group client seq op) one = tt
   more_named (Answer group seq answer) one = more_answer group answer one
@@ -99,6 +102,7 @@ module _ (ahead : Ahead) (scenario : Scenario) (firsts bases more : List Base) (
     answered : (client seq : ℕ) (reply : Reply) → IsAnswered ahead bases (h_of rows) client seq reply → IsAnswered ahead more (h_of rows) client seq reply
     answered client seq reply (b, a, at) = (b, all b a, at)
 
+    -- so are clients
     client_of : (asks : Asks) → IsClientAt ahead scenario firsts bases route made heard rows asks → IsClientAt ahead scenario firsts more route made heard rows asks
     client_of asks at = record {
       client = at.client;
