@@ -15,7 +15,6 @@ use Rattle.sc_cmd.specs.declared.bodies.Offer.{Offer}
 use Rattle.sc_cmd.specs.declared.bodies.Watch.{Watch}
 use Rattle.sc_cmd.specs.declared.commands.Command.{Command}
 use Rattle.sc_cmd.specs.declared.commands.Command.TheVariants.{Noop, Call, Join, Leave, Split, Begin, Prepared, RecordVote, GiveUp, Finish, Watched, RecordWatch}
-use Rattle.sc_cmd.specs.declared.cores.Core.{Core}
 use Rattle.sc_cmd.specs.declared.cores.Lock.{Lock}
 use Rattle.sc_cmd.specs.declared.cores.Lock.TheVariants.{Free, Coordinating, Promised, Watching}
 use Rattle.sc_cmd.specs.declared.effects.Effect.{Effect}
@@ -168,9 +167,6 @@ fits_nine : (n : ℕ) → nat_le n 9 ≡ true → n ≤ 9
 fits_nine n e = leb-true n 9 e
 
 module _ (group : Group) (P : Command → Group × Effect → Type 0) (k : Cases group P) where
-  same_core : Core → Group → Type 0
-  same_core core after = after.core ≡ core
-
   by_note : (o : _) (client seq : ℕ) (op : Op) → P (Call client seq op) (served_by_note o group client seq op)
   by_note None client seq op = k.served client seq op _ _ refl
   by_note (Some noted) client seq op =
