@@ -15,7 +15,6 @@ use Rattle.sc_cmd.specs.declared.bodies.Offer.{Offer}
 use Rattle.sc_cmd.specs.declared.bodies.Watch.{Watch}
 use Rattle.sc_cmd.specs.declared.commands.Command.{Command}
 use Rattle.sc_cmd.specs.declared.commands.Command.TheVariants.{Noop, Call, Join, Leave, Split, Begin, Prepared, RecordVote, GiveUp, Finish, Watched, RecordWatch}
-use Rattle.sc_cmd.specs.declared.cores.Core.{Core}
 use Rattle.sc_cmd.specs.declared.cores.Lock.{Lock}
 use Rattle.sc_cmd.specs.declared.cores.Lock.TheVariants.{Free, Coordinating, Promised, Watching}
 use Rattle.sc_cmd.specs.declared.effects.Effect.{Effect}
@@ -173,10 +172,6 @@ party_cases Q true after group tx outcome p q = q refl
 party_cases Q false after group tx outcome p q = p _ tt
 
 module _ (group : Group) (P : Command → Group × Effect → Type 0) (k : Cases group P) where
-  -- the group has this core
-  same_core : Core → Group → Type 0
-  same_core core after = after.core ≡ core
-
   -- a call, by what was noted of its client
   by_note : (o : _) (client seq : ℕ) (op : Op) → P (Call client seq op) (served_by_note o group client seq op)
   by_note None client seq op = k.served client seq op _ _ refl

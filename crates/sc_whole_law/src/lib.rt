@@ -19,7 +19,6 @@ ghost use Rattle.sc_whole_law.specs.Laws.{
   LawfulJournalsHoldBeside,
   MembersStayRosters,
 };
-
 ghost use Rattle.sc_whole_law.specs.SplitExample.{
   call,
   kid,
