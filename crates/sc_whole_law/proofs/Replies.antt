@@ -44,9 +44,9 @@ mapped_same f g (y ∷ ys) e x (inl is) = (let same : f y ≡ g y = cc in subst 
 mapped_same f g (y ∷ ys) e x (inr a) = (let rest : map f ys ≡ map g ys = cc in mapped_same f g ys rest x a)
 
 -- routes of the same group, start and members are one
-routes_equal : (g h : Draw) (lo start : ℕ) (members nodes : List ℕ) → g ≡ h → lo ≡ start → members ≡ nodes
+routes_are_one : (g h : Draw) (lo start : ℕ) (members nodes : List ℕ) → g ≡ h → lo ≡ start → members ≡ nodes
     → (let route : Route = record { group = g; lo = lo; members = members } in route) ≡ record { group = h; lo = start; members = nodes }
-routes_equal g h lo start members nodes e f i = cc
+routes_are_one g h lo start members nodes e f i = cc
 
 -- where one group is known, its name and the way to it are known
 one_known : (g h : Draw) (way other : Way) → (let known : Known = (g, way) ∷ [] in known) ≡ (h, other) ∷ [] → (g ≡ h) × (way ≡ other)
@@ -55,12 +55,12 @@ one_known g h way other e =
     (ap (λ (pair : Draw × Way). pair.0) same, ap (λ (pair : Draw × Way). pair.1) same)
 
 -- a client at its birth knows one group alone
-same_route : (one other : Route) (asks : Asks) → client_seat one asks ≡ client_seat other asks → one ≡ other
-same_route one other asks e =
+one_route : (one other : Route) (asks : Asks) → client_seat one asks ≡ client_seat other asks → one ≡ other
+one_route one other asks e =
     let role : AClient (born_client asks.client asks.ops one) ≡ AClient (born_client asks.client asks.ops other) = ap (λ (s : Seat Player). s.actor) e in
     let born : born_client asks.client asks.ops one ≡ born_client asks.client asks.ops other = cc in
     let both = one_known one.group other.group (new_way one.lo one.members) (new_way other.lo other.members) (ap (λ (c : Client). c.known) born) in
-    routes_equal one.group other.group one.lo other.lo one.members other.members both.0 (ap (λ (w : Way). w.lo) both.1) (ap (λ (w : Way). w.members) both.1)
+    routes_are_one one.group other.group one.lo other.lo one.members other.members both.0 (ap (λ (w : Way). w.lo) both.1) (ap (λ (w : Way). w.members) both.1)
 
 -- so it is the scenario's first group
 route_is : (ahead : Ahead) (scenario : Scenario) (route : Route) → HasSeats ahead scenario route
@@ -69,7 +69,7 @@ route_is ahead scenario route seats group others is asks stands =
     let nodes = map (node_seat ahead scenario.groups) (numbers_from 1 scenario.nodes) in
     let clients = append_cancel_left nodes (client_seats scenario.groups scenario.clients) (map (client_seat route) scenario.clients) seats.seats in
     let same : map (client_seat (route_of group)) scenario.clients ≡ map (client_seat route) scenario.clients = sym (ap (λ gs. client_seats gs scenario.clients) is) ∙ clients in
-    same_route (route_of group) route asks (mapped_same (client_seat (route_of group)) (client_seat route) scenario.clients same asks stands)
+    one_route (route_of group) route asks (mapped_same (client_seat (route_of group)) (client_seat route) scenario.clients same asks stands)
 
 -- ---- rows that answer
 
