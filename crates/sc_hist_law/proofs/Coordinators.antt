@@ -58,9 +58,6 @@ plan_cases : (P : Group × Effect → Type 0) (b : Bool) (planned group : Group)
 plan_cases P true planned group outcome tx go quiet = go refl
 plan_cases P false planned group outcome tx go quiet = quiet
 
-not_both : (b : Bool) → b ≡ true → b ≡ false → ⊥
-not_both b e f = let no_way : true ≡ false = sym e ∙ f in cc
-
 -- ---- a participant's vote
 
 module _ (request : RequestOf) (world : StoreWorld) (name : Draw) (group : Group) (found : named_group name world.groups ≡ Some group) (tx : Draw) (vote : Vote) (by : ℕ)

@@ -68,10 +68,6 @@ joined_from arc next is its can p e =
 pub joined_arc : (arc next : Arc) → IsOnRing arc → IsOnRing next → CanJoin arc next → IsOnRing (joined arc next)
 joined_arc arc next is its can = ((joins_hold arc next is.1 is.0 its.0 can).is_arc, is.1)
 
--- arcs that can be joined share nothing
-pub meet_apart : (arc next : Arc) → IsOnRing arc → IsOnRing next → CanJoin arc next → (p : ℕ) → holds arc p ≡ true → holds next p ≡ true → ⊥
-meet_apart arc next is its can p = not_both _ _ ((joins_hold arc next is.1 is.0 its.0 can).apart p)
-
 pub next_told : (history : List Entry) (holding next : Holding) → IsOnRing holding.arc → IsOnRing next.arc → CanJoin holding.arc next.arc → IsToldOf history holding → IsToldOf history next
     → IsToldOf history (with_next holding next)
 next_told history holding next is its can told other =

@@ -1,5 +1,5 @@
 -- What a log leaves of the group's record.
-use Rattle.std.proofs.Common.{◌≡◌, ℕ, Bool, true, false, cond, ◌&&◌, not, eqb, nat_lt, nat_le, length, List, [], ◌∷◌, Option, Some, None, refl, sym, ◌∙◌, ap}
+use Rattle.std.proofs.Common.{◌≡◌, ℕ, Bool, true, false, cond, ◌&&◌, not, eqb, nat_lt, nat_le, length, List, [], ◌∷◌, Option, Some, None, refl, ◌∙◌, ap}
 use Rattle.std.specs.FinMap.{get}
 use Rattle.sc_base.specs.declared.ops.Noted.{Noted}
 use Rattle.sc_base.specs.declared.ops.Op.{Op}
@@ -38,8 +38,6 @@ use Rattle.sc_machine_table.specs.Plans.{Plan, can_cut, has_key_of, can_split, s
 use Rattle.sc_machine_table.specs.Splits.{has_named, left_group}
 use Rattle.sc_machine_table.specs.Transactions.{begun_group, aborted, committed, heard_group, granted, participant_answered, asks_watcher, vote_recorded, released, watch_answered, watch_recorded, is_coordinating}
 use Rattle.sc_machine_table.specs.Votes.{has_voted, vote_of, watch_vote_of, voted_on}
-use Rattle.sc_base.specs.Among.{Each}
-use Rattle.sc_hist_law.specs.Laws.{LeavesWhole}
 use Rattle.sc_machine_table.specs.Logs.{state_after}
 
 -- ---- the core of the group stays
@@ -230,30 +228,3 @@ state_same group (c ∷ log) =
 
 abbrev pub OnlyMembers : Core → Core → Type 0
 OnlyMembers before after = after ≡ record before { members = after.members }
-
-same_but : (before after : Core) → after ≡ before → OnlyMembers before after
-same_but before after e = e ∙ ap (λ (ms : List ℕ). record before { members = ms }) (ap (λ (c : Core). c.members) (sym e))
-
--- so does one command
-pub applied_core : (group : Group) (c : Command) → LeavesWhole c → OnlyMembers group.core (applied group c).0.core
-applied_core group (Call client seq op) keeps = same_but group.core _ (called_core group.core.gone group.core.lock group client seq op)
-applied_core group (Join node order) keeps =
-    ordered_either (λ x. OnlyMembers group.core x.core) group.core.gone (refusal_of group.core (Join node order)) (with_node group node) group refl refl
-applied_core group (Leave node order) keeps =
-    ordered_either (λ x. OnlyMembers group.core x.core) group.core.gone (refusal_of group.core (Leave node order)) (without_node group node) group refl refl
-applied_core group Noop keeps = refl
-applied_core group (Split at child order) keeps = absurd keeps
-applied_core group (Begin tx body order) keeps = absurd keeps
-applied_core group (Prepared tx offer) keeps = absurd keeps
-applied_core group (RecordVote tx vote by) keeps = absurd keeps
-applied_core group (GiveUp tx) keeps = absurd keeps
-applied_core group (Finish tx outcome) keeps = absurd keeps
-applied_core group (Watched tx watch) keeps = absurd keeps
-applied_core group (RecordWatch tx vote by) keeps = absurd keeps
-
--- the rest of its record stays
-pub state_core : (group : Group) (log : List Command) → Each LeavesWhole log → OnlyMembers group.core (state_after group log).core
-state_core group [] keeps = refl
-state_core group (c ∷ log) keeps =
-    let after = (state_after group (c ∷ log)).core.members in
-    state_core (applied group c).0 log keeps.1 ∙ ap (λ (core : Core). record core { members = after }) (applied_core group c keeps.0)

@@ -17,7 +17,6 @@ use Rattle.sc_machine_table.specs.Orders.{locked_in}
 use Rattle.sc_entries.specs.declared.Transaction.{Transaction}
 use Rattle.sc_entries.specs.Decisions.{amended, concluded, decision, is_of, transaction_in, with_outcome, with_watcher}
 use Rattle.sc_entries.specs.Effective.{after_outcome, effective_by, is_commit}
-use Rattle.sc_entries.proofs.Names.{some_is}
 
 -- the commit in what was decided, if it is one
 abbrev pub commit_in : Option Outcome → Option Outcome

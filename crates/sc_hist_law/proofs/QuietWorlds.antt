@@ -23,14 +23,12 @@ use Rattle.sc_entries.specs.declared.LogEntry.{LogEntry}
 use Rattle.sc_entries.specs.Effective.{effective, effective_by}
 use Rattle.sc_entries.specs.Rings.{arc_in, first_cut}
 use Rattle.sc_entries.specs.Births.{birth_of}
-use Rattle.sc_entries.specs.Worlds.{StoreWorld, after_command, groups_after, named_group, told, with_group, with_result, world_after}
+use Rattle.sc_entries.specs.Worlds.{StoreWorld, after_command, named_group, told, with_result, world_after}
 use Rattle.sc_hist_law.proofs.Elsewhere.{own_group, here, there}
 use Rattle.sc_hist_law.specs.Laws.{LeavesWhole}
 use Rattle.sc_hist_law.specs.Moves.{Holding, RequestOf, MayServe, TellsHoldings, HasNotes, ServedBy, entries_by, holding_of, holdings_after, request_entry, with_request}
 use Rattle.sc_hist_law.specs.Worlds.{holdings_in, IsAsked, IsQuiet}
 use Rattle.sc_hist_law.proofs.Disjoint.{one_or_not, holding_here, holding_there}
-use Rattle.sc_entries.proofs.Names.{found_name}
-use Rattle.sc_hist_law.proofs.Found.{found_now, found_still}
 use Rattle.sc_hist_law.proofs.Logs.{OnlyMembers, ordered_either}
 use Rattle.sc_hist_law.proofs.MovesKept.{move_kept, same_told}
 use Rattle.sc_hist_law.proofs.Quiet.{no_birth, same_transactions, same_ring}

@@ -81,9 +81,6 @@ module _ (request : RequestOf) (history : List Entry) (holdings : Holdings) (tol
   found_old : (who : ℕ) → eqb who client ≡ false → get served.clients who ≡ get holding.clients who
   found_old who f = found_at who ∙ cond-false (eqb who client) (Some note) (get holding.clients who) f
 
-  pushed : List Entry
-  pushed = history ++ new ∷ []
-
   last_is : HasEntry (history ++ new ∷ []) client seq (reply_of op holding.pairs)
   last_is = record { entry = new; stands = Among-right new history (new ∷ []) (inl refl); client_is = refl; seq_is = refl; reply_is = refl }
 

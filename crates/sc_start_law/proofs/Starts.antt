@@ -185,7 +185,6 @@ module _ (lines : List GroupLine) where
     pub starts_bare : BeginBare (bases_of lines)
     starts_bare = subst BeginBare (sym (all_from (length lines))) bare
 
-    -- they are in place, where no node draws a name as they have
     module _ (sources : Sources) (unowned : (name : Draw) → name.node ≡ 0 → sources.owner name ≡ None) where
       in_place : BeginInPlace sources (bases_from 0 (length lines))
       in_place = record {
@@ -196,6 +195,7 @@ module _ (lines : List GroupLine) where
             (record { between = between k (omega (arith, inside)); free = refl; here = refl; empty = refl; unowned = unowned (name_at k) refl }));
       }
 
+      -- they are in place, where names as they have are drawn for no group
       pub starts_in_place : BeginInPlace sources (bases_of lines)
       starts_in_place = subst (BeginInPlace sources) (sym (all_from (length lines))) in_place
 

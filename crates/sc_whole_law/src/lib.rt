@@ -1,6 +1,6 @@
 //! What lawful journals say of all their groups, whatever these order: which commands may be queued
 //! and which mails of transactions are true, by what all logs told, and that each row decides in
-//! turn. Definitions and laws, no logic.
+//! turn. So lawful journals of valid scenarios are sound. Definitions and laws, no logic.
 #![tactic(auto)]
 
 ghost use Rattle.std.specs.Prelude.{◌≡◌, [], ◌∷◌, Some};
@@ -71,7 +71,8 @@ pub fn lawful_journals_are_sound()
 /// each node has executed a front of its group's log; the ring covers, and the group of each cut is
 /// placed in it and holds its part of the map; the history is legal (Herlihy and Wing, 1990), with
 /// the replies that clients keep; and each entry is decided after its issue and before its answer,
-/// whichever group decides it.
+/// whichever group decides it. As many slots are open as a child that is born has: its log would
+/// else be read by other members than its replicas count.
 pub fn valid_journals_are_sound()
     ensures { ValidJournalsAreSound }
 {
