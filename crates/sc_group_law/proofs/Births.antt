@@ -16,7 +16,7 @@ use Rattle.sc_group_law.proofs.Newborn.{born_replica_is}
 use Rattle.sc_group_law.proofs.Names.{IsOneOf}
 use Rattle.sc_group_law.proofs.Places.{Journal}
 use Rattle.sc_mail.specs.declared.bodies.MailBody.{MailBody}
-use Rattle.sc_group_law.proofs.Families.{Kept as KeptIn}
+use Rattle.sc_group_law.proofs.Families.{Kept}
 
 -- a list that is not empty has a first element
 pub first_of : (members : List ℕ) → 1 ≤ length members → (node : ℕ) × (rest : List ℕ) × (members ≡ node ∷ rest)
@@ -62,7 +62,7 @@ module _ (ahead : Ahead) (made : Command → Type 0) (n : ℕ) where
       (λ _. inr (apart_from b bases apart.0 base a, holds_born base bases apart.1 a)) (λ _. holds_born base bases apart.1 a)
 
 -- what holds before any row
-pub at_start : (ahead : Ahead) (scenario : Scenario) (bases : List Base) (route : Route) (made : Journal → Base → Command → Type 0) (heard : Journal → MailBody → Type 0) → AreApart bases → KeptIn ahead scenario bases bases route made heard []
+pub at_start : (ahead : Ahead) (scenario : Scenario) (bases : List Base) (route : Route) (made : Journal → Base → Command → Type 0) (heard : Journal → MailBody → Type 0) → AreApart bases → Kept ahead scenario bases bases route made heard []
 at_start ahead scenario bases route made heard apart = record {
   parts = λ b a. record { lawful = tt; requested = λ ballot slot c o. absurd o; true_mail = λ m o. absurd o };
   named = λ m a. absurd a;

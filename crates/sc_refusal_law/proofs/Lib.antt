@@ -7,3 +7,4 @@ pub mod Executing
 pub mod Voting
 pub mod Rows
 pub mod Steps
+pub mod Strangers

@@ -25,6 +25,7 @@ use Rattle.sc_paxos_words.specs.Logs.{LogState, next_of, log_cut}
 use Rattle.sc_node_table.specs.declared.ReplicaInput.{ReplicaInput}
 use Rattle.sc_node_table.specs.declared.ReplicaInput.TheVariants as Given
 use Rattle.sc_node_table.specs.Execute.{with_entry}
+use Rattle.sc_node_table.specs.Node.{NodeState, group_of_mail, replica_of, on_mail}
 use Rattle.sc_node_table.specs.Pump.{serves_calls}
 use Rattle.sc_node_table.specs.Replica.{ReplicaState, Place, floor_of, settled}
 use Rattle.sc_node_table.specs.Rows.{stepped}
@@ -167,3 +168,30 @@ IsNotLeader body = (group : Draw) × (seq : ℕ) × (hint : Option ℕ) × (body
 abbrev pub RunningReplicasTakeRequests : Type 0
 RunningReplicasTakeRequests = (drawer : Drawer) (r : ReplicaState) (from : ℕ) (to : ℕ) (group : Draw) (client seq : ℕ) (op : Op) → r.running ≡ true
     → Each (λ (mail : Mail). IsNotLeader mail.body → ⊥) (stepped drawer (Given.Got (record { from = from; to = to; body = Request group client seq op })) (r, [])).1
+
+-- ---- a node without a replica of the group
+
+-- an answer names no leader
+abbrev pub NamesNoLeader : MailBody → Type 0
+NamesNoLeader (Answer group seq answer) = answer ≡ NotLeader None
+NamesNoLeader (Request group client seq op) = Unit {0}
+NamesNoLeader (Prepare group ballot from_slot) = Unit {0}
+NamesNoLeader (Promise group ballot reports) = Unit {0}
+NamesNoLeader (Accept group ballot slot value) = Unit {0}
+NamesNoLeader (Accepted group ballot slot) = Unit {0}
+NamesNoLeader (Nack group promised) = Unit {0}
+NamesNoLeader (Learn group slot value) = Unit {0}
+NamesNoLeader (Ask group from_slot) = Unit {0}
+NamesNoLeader (Install group slot base sets) = Unit {0}
+NamesNoLeader (TxPrepare tx offer) = Unit {0}
+NamesNoLeader (TxVote tx coord part vote) = Unit {0}
+NamesNoLeader (TxOutcome tx part outcome) = Unit {0}
+NamesNoLeader (TxElsewhere tx coord hint) = Unit {0}
+NamesNoLeader (TxWatch tx watch) = Unit {0}
+NamesNoLeader (TxWatched tx coord part vote) = Unit {0}
+NamesNoLeader (Told order result) = Unit {0}
+
+-- a node that has no replica of a mail's group answers, if it answers a client, that it is not the leader, and names none
+abbrev pub StrangersNameNoLeader : Type 0
+StrangersNameNoLeader = (node : NodeState) (from : ℕ) (body : MailBody) (group : Draw) → group_of_mail body ≡ Some group → replica_of group node.replicas ≡ None
+    → Each (λ (mail : Mail). NamesNoLeader mail.body) (on_mail from body node).1

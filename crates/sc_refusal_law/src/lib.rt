@@ -2,7 +2,11 @@
 //! it had executed when it answered. Laws of the replica's table. Definitions and laws, no logic.
 #![tactic(auto)]
 
-ghost use Rattle.sc_refusal_law.specs.Causes.{RunningReplicasTakeRequests, StepsHaveCauses};
+ghost use Rattle.sc_refusal_law.specs.Causes.{
+  RunningReplicasTakeRequests,
+  StepsHaveCauses,
+  StrangersNameNoLeader,
+};
 
 /// A step of a replica executes some entries, or takes a state over. Each answer that it sends and
 /// that is no reply is to a call that was asked: one that the replica held, or that its input brings.
@@ -18,4 +22,9 @@ pub fn refusals_have_causes()
 /// A replica that runs never answers NotLeader in the step that brings it a request.
 pub fn running_replicas_take_requests()
     ensures { RunningReplicasTakeRequests }
+{}
+
+/// A node that has no replica of a mail's group answers a client, if at all, NotLeader with no hint.
+pub fn strangers_name_no_leader()
+    ensures { StrangersNameNoLeader }
 {}

@@ -1,5 +1,5 @@
 -- What a client's section says by a number is what its number and this one find in the scenario.
-use Rattle.std.proofs.Common.{◌≡◌, ℕ, ◌-◌, eqb, List, [], ◌∷◌, find, Option, Some, inl, inr, refl, sym, ◌∙◌, ap}
+use Rattle.std.proofs.Common.{◌≡◌, ◌-◌, eqb, List, [], ◌∷◌, find, Option, Some, inl, inr, refl, sym, ◌∙◌, ap}
 use Rattle.std.specs.Prelude.{slice_get, option_and_then}
 use Rattle.std.proofs.lemmas.Bool.{eqb-true, eq-eqb, cond-true, cond_both}
 use Rattle.sc_base.specs.Among.{Among}

@@ -1,9 +1,9 @@
 -- The groups of a scenario's lines stand round the circle, each between its neighbours.
-use Rattle.std.proofs.Common.{◌≡◌, ◌≢◌, ℕ, zero, suc, ◌+◌, ◌-◌, ◌%◌, ◌^◌, ◌<◌, ◌≤◌, true, false, eqb, leb, List, [], ◌∷◌, ◌++◌, length, get_or, None, inl, inr, refl, sym, ◌∙◌, ap, subst, arith, if◌then◌else◌}
+use Rattle.std.proofs.Common.{◌≡◌, ℕ, zero, suc, ◌+◌, ◌-◌, ◌%◌, ◌^◌, ◌<◌, ◌≤◌, false, eqb, leb, List, [], ◌∷◌, ◌++◌, length, get_or, None, inl, inr, refl, sym, ◌∙◌, ap, subst, arith}
 use Rattle.std.specs.Prelude.{map, AllPairs}
-use Rattle.std.proofs.lemmas.Bool.{cases_lt, cases_Bool, cond-true, cond-false, eqb-true, eqb-false, eq-eqb, ne_eqb, le-leb, lt-leb}
+use Rattle.std.proofs.lemmas.Bool.{cases_lt, cond-true, cond-false, eq-eqb, ne_eqb, le-leb, lt-leb}
 use Rattle.sc_base.specs.Among.{Among, Each}
-use Rattle.sc_base.specs.Arc.{Arc, end_of}
+use Rattle.sc_base.specs.Arc.{end_of}
 use Rattle.sc_base.specs.declared.names.Draw.{Draw}
 use Rattle.sc_member.specs.Roster.{IsRoster}
 use Rattle.sc_cmd.specs.declared.cores.Base.{Base}

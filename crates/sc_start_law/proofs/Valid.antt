@@ -6,7 +6,7 @@ use Rattle.sc_base.specs.declared.names.Draw.{Draw}
 use Rattle.sc_cmd.specs.declared.cores.Base.{Base}
 use Rattle.sc_node_table.specs.Slots.{numbers_from, slots_ahead}
 use Rattle.sc_players.specs.Players.{Ahead, node_seat, client_seats, route_of}
-use Rattle.sc_scenario.specs.Groups.{base_at, bases_of}
+use Rattle.sc_scenario.specs.Groups.{base_at}
 use Rattle.sc_scenario.specs.Valid.{IsEarly, TextsAreEarly}
 use Rattle.sc_scenario.specs.declared.scenarios.Asks.{Asks}
 use Rattle.sc_scenario.specs.declared.scenarios.Scenario.{Scenario}
@@ -14,7 +14,7 @@ use Rattle.sc_hist_law.specs.Worlds.{BeginBare}
 use Rattle.sc_ring_law.specs.Allowed.{Sources}
 use Rattle.sc_ring_law.specs.Laws.{BeginInPlace}
 use Rattle.sc_sound.specs.GroupsOf.{AreApart}
-use Rattle.sc_start_law.specs.Begins.{HasSeats, IsFresh, IsReady, request_of}
+use Rattle.sc_start_law.specs.Begins.{HasSeats, IsReady, request_of}
 use Rattle.sc_start_law.specs.Laws.{ValidScenariosBeginWell}
 use Rattle.sc_start_law.proofs.Requests.{asks_are}
 use Rattle.sc_start_law.proofs.Starts.{AreStarts, bases_from, first_and_others, starts_apart, starts_bare, starts_fresh, starts_in_place}
