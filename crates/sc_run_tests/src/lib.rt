@@ -16,3 +16,5 @@ mod run_tests;
 mod thread_tests;
 #[cfg(test)]
 mod tick_tests;
+#[cfg(test)]
+mod told_tests;
