@@ -22,7 +22,7 @@ use Rattle.sc_scenario.specs.declared.scenarios.Scenario.{Scenario}
 use Rattle.sc_ring_law.specs.Allowed.{Sources, IsAllowed}
 use Rattle.sc_ring_law.specs.Stories.{Stories}
 use Rattle.sc_draws_law.specs.Owners.{Rows, Owned, drawn_for, drawn_by, drawn_at, is_node_of, owner_in}
-use Rattle.sc_draws_law.specs.Laws.{IsAtPosition, TakesOrder, OrdersAreAllowed, OrdersAreQueued}
+use Rattle.sc_draws_law.specs.Laws.{IsAtPosition, TakesOrder, TakenOrdersAreAllowed, OrdersAreQueued}
 use Rattle.sc_draws_law.proofs.Counters.{drawn_are_owned}
 
 module _ (ahead : Ahead) (scenario : Scenario) (before : Rows) (row : Row Mail OrderLine) (later : Rows) (line : OrderLine) (node : NodeState) (r : ReplicaState) (takes : TakesOrder ahead scenario before row line node r) where
@@ -52,7 +52,7 @@ allowed_for sources stories name number (An.Merge group) at own = (own refl, tt)
 allowed_for sources stories name number (An.Repart group position) at own = (own refl, at)
 allowed_for sources stories name number (An.Migrate group node) at own = (own refl, tt)
 
-pub orders_are_allowed : OrdersAreAllowed
+pub orders_are_allowed : TakenOrdersAreAllowed
 orders_are_allowed ahead scenario before row later line node r takes at request stories =
     allowed_for (record { owner = owner_in ahead scenario (before ++ row ∷ later); request = request }) stories (next_name node.draws) line.number line.order at
     (it_is_owned ahead scenario before row later line node r takes)

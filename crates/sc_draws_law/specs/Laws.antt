@@ -88,7 +88,7 @@ OrdersAreQueued = (drawer : Drawer) (line : OrderLine) (r : ReplicaState) (mails
     → ordered_row drawer line (r, mails) ≡ pumped (record r { calls = r.calls ++ ordered_command (next_name drawer) line.number line.order ∷ [] }, mails)
 
 -- the command that is queued for an order is allowed in the log of its group, whatever was told, by the owners of any journal that goes on so
-abbrev pub OrdersAreAllowed : Type 0
-OrdersAreAllowed = (ahead : Ahead) (scenario : Scenario) (before : Rows) (row : Row Mail OrderLine) (later : Rows) (line : OrderLine) (node : NodeState) (r : ReplicaState)
+abbrev pub TakenOrdersAreAllowed : Type 0
+TakenOrdersAreAllowed = (ahead : Ahead) (scenario : Scenario) (before : Rows) (row : Row Mail OrderLine) (later : Rows) (line : OrderLine) (node : NodeState) (r : ReplicaState)
     → TakesOrder ahead scenario before row line node r → IsAtPosition line.order → (request : ℕ → ℕ → Op) (stories : Stories)
     → IsAllowed (record { owner = owner_in ahead scenario (before ++ row ∷ later); request = request }) stories (group_of_order line.order) (ordered_command (next_name node.draws) line.number line.order)

@@ -25,7 +25,7 @@ ghost use Rattle.sc_draws_law.specs.Naming.{
 ghost use Rattle.sc_draws_law.specs.Laws.{
   DrawnNamesAreOwned,
   NodesHaveNames,
-  OrdersAreAllowed,
+  TakenOrdersAreAllowed,
   OrdersAreQueued,
   OtherNamesAreFree,
   OwnedNamesAreDrawn,
@@ -55,7 +55,7 @@ pub fn counters_part_names()
 /// the child of a split, and a transaction that is begun, is a name that the group owns, and a
 /// boundary is a position. It waits last, and the pump is tried.
 pub fn orders_are_allowed()
-    ensures allowed { OrdersAreAllowed }
+    ensures allowed { TakenOrdersAreAllowed }
     ensures queued { OrdersAreQueued }
 {}
 

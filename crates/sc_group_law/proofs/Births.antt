@@ -1,46 +1,27 @@
 -- What holds of a scenario's groups before any row, and what the start of a group gives.
 use Rattle.std.proofs.Common.{◌≡◌, ℕ, ◌≤◌, List, [], ◌∷◌, length, map, filter, inl, inr, refl, sym, ◌∙◌, ap, subst, arith}
-use Rattle.std.specs.FinMap.{empty}
 use Rattle.std.proofs.lemmas.Bool.{cond_both}
 use Rattle.sc_base.specs.Among.{Among, Each}
 use Rattle.sc_cmd.specs.declared.commands.Command.{Command}
 use Rattle.sc_cmd.specs.declared.cores.Base.{Base}
 use Rattle.sc_client_table.specs.Client.{born_client}
-use Rattle.sc_ideal.specs.IdealStore.{with_pairs}
-use Rattle.sc_ideal.specs.Clients.{joined_with}
 use Rattle.sc_member.specs.Roster.{is_member}
 use Rattle.sc_node_table.specs.Replica.{ReplicaState, name_of, born_replica}
 use Rattle.sc_scenario.specs.declared.scenarios.Scenario.{Scenario}
 use Rattle.sc_cmd.specs.declared.links.Route.{Route}
 use Rattle.sc_players.specs.Players.{Ahead}
-use Rattle.sc_hist_law.specs.Laws.{LeavesWhole, LogTells}
-use Rattle.sc_hist_law.proofs.Told.{log_tells}
-use Rattle.sc_machine_table.specs.Logs.{state_after}
-use Rattle.sc_group_law.specs.Groups.{StartsEmpty, AreApart, HasGroups}
-use Rattle.sc_group_law.proofs.Rosters.{state_roster}
-use Rattle.sc_group_law.proofs.Invariant.{rule, birth}
+use Rattle.sc_sound.specs.GroupsOf.{AreApart}
 use Rattle.sc_group_law.proofs.Holding.{IsOther, Holds, holds_none}
 use Rattle.sc_group_law.proofs.Newborn.{born_replica_is}
 use Rattle.sc_group_law.proofs.Names.{IsOneOf}
 use Rattle.sc_group_law.proofs.Places.{Journal}
 use Rattle.sc_mail.specs.declared.bodies.MailBody.{MailBody}
-use Rattle.sc_group_law.proofs.Clients.{Heard}
-use Rattle.sc_group_law.proofs.Families.{Kept as KeptIn}
-use Rattle.sc_group_law.proofs.Family.{Kept}
+use Rattle.sc_group_law.proofs.Families.{Kept}
 
 -- a list that is not empty has a first element
 pub first_of : (members : List ℕ) → 1 ≤ length members → (node : ℕ) × (rest : List ℕ) × (members ≡ node ∷ rest)
 first_of [] le = absurd (omega (arith, le))
 first_of (node ∷ rest) le = (node, rest, refl)
-
-module _ (ahead : Ahead) (base : Base) (starts : StartsEmpty base) where
-  -- a group has members after each log that divides no group
-  pub some_of : (log : List Command) → Each LeavesWhole log → (node : ℕ) × (rest : List ℕ) × ((rule ahead base).members log ≡ node ∷ rest)
-  some_of log whole = first_of (state_after (birth ahead base) log).core.members (state_roster (birth ahead base) log whole starts.roster).some
-
-  -- such a log tells a history
-  pub tells_of : (log : List Command) → Each LeavesWhole log → LogTells (birth ahead base) log
-  tells_of = log_tells (birth ahead base) (record { pairs = ap (with_pairs empty) starts.pairs; clients = ap (joined_with empty) starts.clients })
 
 module _ (ahead : Ahead) (made : Command → Type 0) (n : ℕ) where
   -- the replicas of a node at the birth of these groups
@@ -81,7 +62,7 @@ module _ (ahead : Ahead) (made : Command → Type 0) (n : ℕ) where
       (λ _. inr (apart_from b bases apart.0 base a, holds_born base bases apart.1 a)) (λ _. holds_born base bases apart.1 a)
 
 -- what holds before any row
-pub at_start : (ahead : Ahead) (scenario : Scenario) (bases : List Base) (route : Route) (made : Journal → Base → Command → Type 0) (heard : Journal → MailBody → Type 0) → AreApart bases → KeptIn ahead scenario bases bases route made heard []
+pub at_start : (ahead : Ahead) (scenario : Scenario) (bases : List Base) (route : Route) (made : Journal → Base → Command → Type 0) (heard : Journal → MailBody → Type 0) → AreApart bases → Kept ahead scenario bases bases route made heard []
 at_start ahead scenario bases route made heard apart = record {
   parts = λ b a. record { lawful = tt; requested = λ ballot slot c o. absurd o; true_mail = λ m o. absurd o };
   named = λ m a. absurd a;
@@ -101,7 +82,3 @@ at_start ahead scenario bases route made heard apart = record {
     fresh = λ e. (refl, refl);
   };
 }
-
--- and where no transaction is told
-pub at_birth : (ahead : Ahead) (scenario : Scenario) (bases : List Base) (route : Route) (made : Journal → Base → Command → Type 0) → AreApart bases → Kept ahead scenario bases bases route made []
-at_birth ahead scenario bases route made apart = at_start ahead scenario bases route made (λ older. Heard) apart

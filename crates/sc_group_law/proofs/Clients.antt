@@ -9,7 +9,6 @@ use Rattle.sc_base.specs.declared.names.Draw.{Draw}
 use Rattle.sc_base.specs.declared.ops.Op.{Op}
 use Rattle.sc_base.specs.declared.ops.Reply.{Reply}
 use Rattle.sc_cmd.specs.declared.commands.Command.{Command}
-use Rattle.sc_cmd.specs.declared.commands.Command.TheVariants.{Noop, Call, Join, Leave, Split, Begin, Prepared, RecordVote, GiveUp, Finish, Watched, RecordWatch}
 use Rattle.sc_cmd.specs.declared.cores.Base.{Base}
 use Rattle.sc_cmd.specs.declared.orders.OrderLine.{OrderLine}
 use Rattle.sc_mail.specs.declared.bodies.AnswerBody.TheVariants.{Value}
@@ -24,25 +23,13 @@ use Rattle.sc_client_table.specs.Turns.{InTurn, Waits, Begins, TakesReply}
 use Rattle.sc_base.specs.Among.{Among}
 use Rattle.sc_scenario.specs.declared.scenarios.Asks.{Asks}
 use Rattle.sc_scenario.specs.declared.scenarios.Scenario.{Scenario}
-use Rattle.sc_hist_law.specs.Laws.{LeavesWhole}
 use Rattle.sc_players.specs.Players.{Ahead}
 use Rattle.sc_sound.specs.Requests.{issues, issued_from, issue_row}
-use Rattle.sc_group_law.specs.Orders.{IsOfMembers}
-use Rattle.sc_group_law.proofs.Invariant.{Steps, birth, Grants, IsReplyAt, IsTrue, IsTrueAnswer, grown_reply}
+use Rattle.sc_group_law.proofs.Invariant.{Steps, IsReplyAt, IsTrue, IsTrueAnswer, grown_reply}
 use Rattle.sc_group_law.proofs.Names.{IsOneOf, IsNamedIn}
 use Rattle.sc_group_law.proofs.Places.{Journal, or_now, issue-push}
 use Rattle.sc_paxos_law.proofs.Among.{get_pushed}
 use Rattle.sc_base.proofs.NameLemmas.{same_name}
-use Rattle.sc_cmd.specs.declared.orders.Order.{Order}
-use Rattle.sc_cmd.specs.declared.orders.Order.TheVariants as An
-use Rattle.sc_node_table.specs.Ordering.{ordered_command}
-use Rattle.sc_paxos_words.proofs.ListLemmas.{Each-weaker}
-use Rattle.sc_cmd.specs.declared.cores.Core.{Core}
-use Rattle.sc_cmd.specs.declared.cores.Lock.TheVariants.{Free}
-use Rattle.sc_machine_table.specs.Logs.{state_after}
-use Rattle.sc_hist_law.proofs.Logs.{state_core}
-use Rattle.sc_group_law.proofs.Quiet.{IsQuiet, no_child}
-use Rattle.sc_group_law.proofs.Offspring.{IsChildOf}
 
 -- ---- requests
 
@@ -56,103 +43,6 @@ pub record IsIssued (scenario : Scenario) (rows : Journal) (client seq : ℕ) (o
   pub row : ℕ
   pub issued : issue_row client seq rows ≡ Some row
   pub within : row ≤ length rows
-
--- a call is a request that was issued, and joins and leaves are told by anyone; nothing else is made
-abbrev pub Made : Scenario → Journal → Command → Type 0
-Made scenario rows (Call client seq op) = IsIssued scenario rows client seq op
-Made scenario rows Noop = Unit {0}
-Made scenario rows (Join node order) = Unit {0}
-Made scenario rows (Leave node order) = Unit {0}
-Made scenario rows (Split at child order) = ⊥
-Made scenario rows (Begin tx body order) = ⊥
-Made scenario rows (Prepared tx offer) = ⊥
-Made scenario rows (RecordVote tx vote by) = ⊥
-Made scenario rows (GiveUp tx) = ⊥
-Made scenario rows (Finish tx outcome) = ⊥
-Made scenario rows (Watched tx watch) = ⊥
-Made scenario rows (RecordWatch tx vote by) = ⊥
-
--- ... by whichever group
-abbrev pub MadeBy : Scenario → Journal → Base → Command → Type 0
-MadeBy scenario rows base = Made scenario rows
-
--- no mail of a transaction is sent so far
-abbrev pub Heard : MailBody → Type 0
-Heard body = ⊥
-
-issued_later : (scenario : Scenario) (rows : Journal) (row : Row Mail OrderLine) (client seq : ℕ) (op : Op) → IsIssued scenario rows client seq op → IsIssued scenario (rows ++ row ∷ []) client seq op
-issued_later scenario rows row client seq op i =
-    let longer = length_push rows row in
-    let le = i.within in
-    record {
-      asks = i.asks;
-      stands = i.stands;
-      who = i.who;
-      some = i.some;
-      op_is = i.op_is;
-      row = i.row;
-      issued = issue-push client seq rows row ∙ ap (λ o. or_now o (issues client seq row) (length rows + 1)) i.issued;
-      within = omega (arith, le, longer);
-    }
-
--- what is made is what may be queued so far
-pub made_whole : (scenario : Scenario) (rows : Journal) (c : Command) → Made scenario rows c → LeavesWhole c
-made_whole scenario rows Noop m = tt
-made_whole scenario rows (Call client seq op) m = tt
-made_whole scenario rows (Join node order) m = tt
-made_whole scenario rows (Leave node order) m = tt
-made_whole scenario rows (Split at child order) m = m
-made_whole scenario rows (Begin tx body order) m = m
-made_whole scenario rows (Prepared tx offer) m = m
-made_whole scenario rows (RecordVote tx vote by) m = m
-made_whole scenario rows (GiveUp tx) m = m
-made_whole scenario rows (Finish tx outcome) m = m
-made_whole scenario rows (Watched tx watch) m = m
-made_whole scenario rows (RecordWatch tx vote by) m = m
-
--- what an order to join or leave asks for may be queued
-pub order_made : (scenario : Scenario) (rows : Journal) (draw : Draw) (number : ℕ) (order : Order) → IsOfMembers order → Made scenario rows (ordered_command draw number order)
-order_made scenario rows draw number (An.Join node group) plain = tt
-order_made scenario rows draw number (An.Leave node group) plain = tt
-order_made scenario rows draw number (An.Split group at) plain = absurd plain
-order_made scenario rows draw number (An.Merge group) plain = absurd plain
-order_made scenario rows draw number (An.Repart group at) plain = absurd plain
-order_made scenario rows draw number (An.Migrate group node) plain = absurd plain
-
-made_quiet : (scenario : Scenario) (rows : Journal) (c : Command) → Made scenario rows c → IsQuiet c
-made_quiet scenario rows Noop m = tt
-made_quiet scenario rows (Call client seq op) m = tt
-made_quiet scenario rows (Join node order) m = tt
-made_quiet scenario rows (Leave node order) m = tt
-made_quiet scenario rows _ m = absurd m
-
--- what is made locks a group in no transaction
-pub grants : (ahead : Ahead) (scenario : Scenario) (rows : Journal) (base : Base) → base.core.lock ≡ Free → Grants ahead base (Made scenario rows) Heard
-grants ahead scenario rows base free = record {
-  noop = tt;
-  quiet = λ c m. made_quiet scenario rows c m;
-  free = λ log made. ap (λ (core : Core). core.lock) (state_core (birth ahead base) log (Each-weaker (Made scenario rows) LeavesWhole (made_whole scenario rows) log made)) ∙ free;
-  unheard = λ body none. none;
-}
-
--- it makes no child
-pub none_born : (ahead : Ahead) (scenario : Scenario) (rows : Journal) (base : Base) (me : ℕ) (h : Steps) (child : Base) → IsChildOf ahead base (Made scenario rows) me h child → ⊥
-none_born ahead scenario rows base me h child is = no_child (state_after (birth ahead base) is.front) is.command child (made_whole scenario rows is.command is.is_made) is.child_is
-
--- what was made stays made with one more row
-pub made_later : (scenario : Scenario) (rows : Journal) (row : Row Mail OrderLine) (c : Command) → Made scenario rows c → Made scenario (rows ++ row ∷ []) c
-made_later scenario rows row (Call client seq op) m = issued_later scenario rows row client seq op m
-made_later scenario rows row Noop m = tt
-made_later scenario rows row (Join node order) m = tt
-made_later scenario rows row (Leave node order) m = tt
-made_later scenario rows row (Split at child order) m = m
-made_later scenario rows row (Begin tx body order) m = m
-made_later scenario rows row (Prepared tx offer) m = m
-made_later scenario rows row (RecordVote tx vote by) m = m
-made_later scenario rows row (GiveUp tx) m = m
-made_later scenario rows row (Finish tx outcome) m = m
-made_later scenario rows row (Watched tx watch) m = m
-made_later scenario rows row (RecordWatch tx vote by) m = m
 
 issue_bound : (client seq before : ℕ) (rows : Journal) (i : ℕ) → issued_from client seq before rows ≡ Some i → i ≤ before + length rows
 issue_bound client seq before [] i e = cc

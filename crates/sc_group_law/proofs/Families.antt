@@ -173,13 +173,6 @@ module _ (ahead : Ahead) (scenario : Scenario) (firsts bases : List Base) (route
 
   -- ---- a group's log
 
-  -- what is decided was queued
-  pub entries_made : (base : Base) → Among base bases → (rows : Journal) → Kept rows → Each (made rows base) (decided_log ahead base rows)
-  entries_made base a rows k = each_got (made rows base) (decided_log ahead base rows) (λ place c at. (
-      let part = k.parts base a in
-      let offer = entry_offered ahead base rows part.lawful place c at in
-      part.requested offer.0 offer.1 c offer.2))
-
   -- the log goes on
   pub log_goes_on : (base : Base) (rows : Journal) (row : Row Mail OrderLine) → Stepped rows row base
       → decided_log ahead base (rows ++ row ∷ []) ≡ decided_log ahead base rows ++ drop (length (decided_log ahead base rows)) (decided_log ahead base (rows ++ row ∷ []))

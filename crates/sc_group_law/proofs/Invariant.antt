@@ -11,9 +11,8 @@ use Rattle.sc_base.specs.declared.ops.Op.{Op}
 use Rattle.sc_base.specs.declared.ops.Reply.{Reply}
 use Rattle.sc_base.specs.Same.{same_draw}
 use Rattle.sc_cmd.specs.declared.commands.Command.{Command}
-use Rattle.sc_cmd.specs.declared.commands.Command.TheVariants.{Noop, Call}
+use Rattle.sc_cmd.specs.declared.commands.Command.TheVariants.{Call}
 use Rattle.sc_cmd.specs.declared.cores.Base.{Base}
-use Rattle.sc_cmd.specs.declared.cores.Lock.TheVariants.{Free}
 use Rattle.sc_mail.specs.declared.bodies.AnswerBody.{AnswerBody}
 use Rattle.sc_mail.specs.declared.bodies.AnswerBody.TheVariants as Says
 use Rattle.sc_mail.specs.declared.bodies.Mail.{Mail}
@@ -38,7 +37,6 @@ use Rattle.sc_players.specs.Players.{Ahead}
 use Rattle.sc_machine_table.specs.Logs.{state_after}
 use Rattle.sc_sound.specs.Logs.{rule_of}
 use Rattle.sc_machine_table.proofs.LogLemmas.{state_push}
-use Rattle.sc_group_law.proofs.Quiet.{IsQuiet}
 use Rattle.sc_group_law.proofs.Growth.{IsLearnt, By, later_learnt, grown_learnt, state_kept}
 use Rattle.sc_group_law.proofs.Held.{Mirrors, cut_mirrors, max_is}
 use Rattle.sc_paxos_law.proofs.Decided.{later_logs}
@@ -73,13 +71,6 @@ module _ (ahead : Ahead) (base : Base) where
   -- something is in flight or ready at a slot
   abbrev pub IsTaken : LeaderState Command → List (ℕ × Command) → ℕ → Type 0
   IsTaken leader ready slot = ((flight : Flight Command) × Among flight leader.flights × (flight.slot ≡ slot)) ⊎ ((command : Command) × Among (slot, command) ready)
-
-  -- which commands a replica of the group may queue: a Noop, and so far none that is of a transaction; what may be queued locks the group in none, and no mail of one is sent
-  pub record Grants (made : Command → Type 0) (heard : MailBody → Type 0) : Type 0 where
-    pub noop : made Noop
-    pub quiet : (c : Command) → made c → IsQuiet c
-    pub free : (log : List Command) → Each made log → (state_after birth log).core.lock ≡ Free
-    pub unheard : (body : MailBody) → heard body → ⊥
 
   -- ---- what is held of the log
 

@@ -1,5 +1,5 @@
 -- The example of a join is a lawful journal.
-use Rattle.std.proofs.Common.{[], inl, inr, refl, subst, lit≤}
+use Rattle.std.proofs.Common.{refl}
 use Rattle.sc_actor.specs.System.{no_words}
 use Rattle.sc_node_table.specs.Births.{ready_children, executed_children, learnt_children, readied_children, accepted_children, mailed_children}
 use Rattle.sc_node_table.specs.Spoken.{told_begun, went_on, spoken_mails, spoken}
@@ -14,23 +14,9 @@ use Rattle.sc_node_table.specs.Replica.{forgotten}
 use Rattle.sc_node_table.specs.Ordering.{ordered_row}
 use Rattle.sc_node_table.specs.Rows.{looked_up, made_by, mailed}
 use Rattle.sc_node_table.specs.Voting.{readied, took, accept_row, accepted_row}
-use Rattle.sc_sound.specs.Example.{four, alone}
-use Rattle.sc_group_law.specs.Groups.{StartsEmpty, HasGroups}
+use Rattle.sc_sound.specs.Example.{four}
 use Rattle.sc_players.specs.Players.{Lawful}
 use Rattle.sc_group_law.specs.JoinExample.{join_scenario, join_example}
-use Rattle.sc_group_law.proofs.Example.{one_member}
-
--- the example's scenario has one group
-pub has_one_group : HasGroups join_scenario alone []
-has_one_group = record {
-  groups = refl;
-  empty = λ other a. elim a [ inl e ↦ subst StartsEmpty e (record { roster = one_member; pairs = refl; clients = refl; free = refl }) | inr none ↦ absurd none ];
-  apart = (tt, tt);
-  orders = (tt, (tt, (tt, (tt, tt))));
-  nodes = lit≤ tt;
-  numbered = tt;
-  once = λ one other a b same. absurd a;
-}
 
 -- the example is lawful
 pub join_is_lawful : Lawful four no_words join_scenario join_example

@@ -3,7 +3,6 @@ pub mod Parts
 pub mod Growth
 pub mod Rosters
 pub mod Held
-pub mod Quiet
 pub mod Invariant
 pub mod Putting
 pub mod Speech
@@ -31,13 +30,10 @@ pub mod Places
 pub mod Orders
 pub mod Clients
 pub mod Families
-pub mod Family
 pub mod Replies
 pub mod Replicated
 pub mod Births
 pub mod RowSteps
 pub mod Stepping
-pub mod Walked
-pub mod Several
 pub mod Example
 pub mod JoinExample

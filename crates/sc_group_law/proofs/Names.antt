@@ -82,10 +82,6 @@ IsNamedIn heard bases (TxWatch tx watch) = heard (TxWatch tx watch)
 IsNamedIn heard bases (TxWatched tx coord part vote) = heard (TxWatched tx coord part vote)
 IsNamedIn heard bases (Told number result) = Unit {0}
 
--- where none of a transaction is
-abbrev pub IsNamed : List Base → MailBody → Type 0
-IsNamed bases body = IsNamedIn (λ other. ⊥) bases body
-
 -- what is named stays so where more is heard
 pub named_later : (heard further : MailBody → Type 0) → ((body : MailBody) → heard body → further body) → (bases : List Base) (body : MailBody) → IsNamedIn heard bases body → IsNamedIn further bases body
 named_later heard further f bases (TxPrepare tx offer) one = f (TxPrepare tx offer) one

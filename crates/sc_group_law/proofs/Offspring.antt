@@ -1,16 +1,14 @@
 -- The children that a mail makes at a node: each is the child of a front of the log, by a command that the row executes.
-use Rattle.std.proofs.Common.{◌≡◌, ℕ, ◌+◌, ◌&&◌, nat_lt, Bool, true, false, eqb, List, [], ◌∷◌, ◌++◌, length, Option, Some, None, inl, inr, refl, sym, subst}
+use Rattle.std.proofs.Common.{◌≡◌, ℕ, ◌+◌, ◌&&◌, nat_lt, Bool, true, false, eqb, List, [], ◌∷◌, ◌++◌, length, Option, Some, None, refl, sym, subst}
 use Rattle.std.proofs.lemmas.Bool.{eqb-true, and_parts, cond_both}
 use Rattle.sc_base.specs.declared.names.Ballot.{Ballot}
-use Rattle.sc_base.specs.declared.names.Draw.{Draw}
 use Rattle.sc_base.specs.Among.{Among, Each}
-use Rattle.sc_base.specs.Same.{same_draw, same_ballot}
+use Rattle.sc_base.specs.Same.{same_ballot}
 use Rattle.sc_base.proofs.NameLemmas.{ballot_is}
 use Rattle.sc_cmd.specs.declared.commands.Command.{Command}
 use Rattle.sc_cmd.specs.declared.cores.Base.{Base}
 use Rattle.sc_mail.specs.declared.bodies.Mail.{Mail}
 use Rattle.sc_mail.specs.declared.bodies.MailBody.{MailBody}
-use Rattle.sc_mail.specs.declared.bodies.MailBody.TheVariants.{Prepare, Accept}
 use Rattle.sc_member.specs.Roster.{is_member}
 use Rattle.sc_machine_table.specs.Children.{child_by}
 use Rattle.sc_machine_table.specs.Group.{Group}
@@ -18,9 +16,9 @@ use Rattle.sc_machine_table.specs.Logs.{state_after}
 use Rattle.sc_paxos_words.specs.Leaders.{LeaderState, without_flight_at}
 use Rattle.sc_paxos_words.specs.declared.answers.Counted.{Counted}
 use Rattle.sc_paxos_words.specs.Votes.{counted}
-use Rattle.sc_paxos_words.proofs.ListLemmas.{Each-among, Each-append, Each-weaker}
-use Rattle.sc_paxos_law.specs.Steps.{Prepared, Offered, Accepted}
-use Rattle.sc_paxos_law.specs.Chosen.{Rule, IsLog}
+use Rattle.sc_paxos_words.proofs.ListLemmas.{Each-among, Each-append}
+use Rattle.sc_paxos_law.specs.Steps.{Accepted}
+use Rattle.sc_paxos_law.specs.Chosen.{IsLog}
 use Rattle.sc_paxos_law.proofs.Law.{earlier}
 use Rattle.sc_node_table.specs.Births.{with_child, next_child, ready_children, executed_children, learnt_children, readied_children, tallied_children, voted_children, accepted_children}
 use Rattle.sc_node_table.specs.Execute.{executed_one, has_room, next_ready}
@@ -28,7 +26,6 @@ use Rattle.sc_node_table.specs.Replica.{ReplicaState, Place, next, set_at, last_
 use Rattle.sc_node_table.specs.Slots.{with_slot}
 use Rattle.sc_node_table.specs.Voting.{leads}
 use Rattle.sc_players.specs.Players.{Ahead}
-use Rattle.sc_group_law.specs.Steps.{proposer_steps, asked_in}
 use Rattle.sc_group_law.proofs.Growth.{IsLearnt, by_own_log}
 use Rattle.sc_group_law.proofs.Invariant.{Steps, rule, first, birth, next_after}
 use Rattle.sc_group_law.proofs.Speech.{Speaks}

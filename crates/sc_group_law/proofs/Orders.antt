@@ -1,5 +1,5 @@
 -- The orders that are told in a lawful journal are those of its schedule.
-use Rattle.std.proofs.Common.{◌≡◌, ℕ, zero, suc, ◌+◌, ◌%◌, List, [], ◌∷◌, ◌++◌, length, map, Bool, true, false, cond, eqb, find, refl, sym, ◌∙◌, ap, subst, append_assoc, append-nil, Option, None, Some}
+use Rattle.std.proofs.Common.{◌≡◌, ℕ, zero, suc, ◌+◌, ◌%◌, List, [], ◌∷◌, ◌++◌, length, Bool, true, false, cond, eqb, find, refl, sym, ◌∙◌, ap, subst, append_assoc, append-nil, Option, None, Some}
 use Rattle.std.specs.Prelude.{slice_get}
 use Rattle.std.specs.List.{flat_map}
 use Rattle.std.proofs.lemmas.Option.{cond_some}
@@ -8,13 +8,6 @@ use Rattle.sc_base.specs.Among.{Each}
 use Rattle.sc_base.proofs.CommonLemmas.{and_then-some, map-some}
 use Rattle.sc_paxos_words.proofs.ListLemmas.{Each-append, find_found}
 use Rattle.sc_actor.specs.declared.actors.Seat.{Seat}
-use Rattle.sc_cmd.specs.declared.orders.OrderLine.{OrderLine}
-use Rattle.sc_mail.specs.declared.bodies.Mail.{Mail}
-use Rattle.sc_scenario.specs.declared.scenarios.SchedLine.{SchedLine}
-use Rattle.sc_scenario.specs.declared.scenarios.SchedLine.TheVariants as scheduled
-use Rattle.sc_scenario.specs.declared.scenarios.Scenario.{Scenario}
-use Rattle.sc_players.specs.Players.{Ahead, schedule, line_of, system_of, Lawful}
-use Rattle.sc_group_law.specs.Orders.{IsOfMembers, TellsOfMembers}
 use Rattle.sc_actor.specs.declared.rows.Row.{Row}
 use Rattle.sc_actor.specs.declared.rows.Event.{Event}
 use Rattle.sc_actor.specs.declared.rows.Event.TheVariants.{Deliver, Drop, Again, Go, Tick, Crash, Told}
@@ -167,46 +160,3 @@ module _ {O : Type 0} (Q : ℕ → O → Type 0) where
           let there : (start s lines).rows ≡ [] = onward-rows s [] (flat_map (tasks_of s.words) lines) 0 false in
           let tasks = onward_so [] (flat_map (tasks_of s.words) lines) 0 false (lines_so s.words lines q) in
           subst P (ap (λ xs. xs ++ journal) there) (walk_told (start s lines) journal tasks (subst P (sym there) none) lawful)
-
--- ---- orders to join and leave
-
--- an order to join or leave
-abbrev pub IsPlainOrder : ℕ → OrderLine → Type 0
-IsPlainOrder who line = IsOfMembers line.order
-
--- an event that tells no other order, whomever it tells
-abbrev pub IsPlainEvent : Event OrderLine → Type 0
-IsPlainEvent event = IsToldSo IsPlainOrder 0 event
-
-plain_line : (line : SchedLine) → TellsOfMembers line → TellsSo IsPlainOrder (line_of line)
-plain_line (scheduled.Told node order) q = q
-plain_line (scheduled.Go client) q = tt
-plain_line (scheduled.Deliver who k) q = tt
-plain_line (scheduled.Drop who k) q = tt
-plain_line (scheduled.Again mail) q = tt
-plain_line (scheduled.Tick who) q = tt
-plain_line (scheduled.Crash node) q = tt
-plain_line (scheduled.Settle most) q = tt
-plain_line (scheduled.Free most workers) q = tt
-plain_line (scheduled.Storm number most) q = tt
-
-plain_lines : (lines : List SchedLine) → Each TellsOfMembers lines → Each (TellsSo IsPlainOrder) (map line_of lines)
-plain_lines [] q = tt
-plain_lines (line ∷ lines) q = (plain_line line q.0, plain_lines lines q.1)
-
--- whoever is told
-plain_event : (who : ℕ) (event : Event OrderLine) → IsToldSo IsPlainOrder who event → IsPlainEvent event
-plain_event who (Told order) q = q
-plain_event who (Deliver mail) q = tt
-plain_event who Go q = tt
-plain_event who Tick q = tt
-plain_event who Crash q = tt
-plain_event who (Drop mail) q = tt
-plain_event who (Again mail) q = tt
-
--- what holds before any row, and is kept by each step that tells no other order, holds of every lawful journal of a scenario whose orders are to join and leave
-pub plain_induction : (ahead : Ahead) (words : ℕ → ℕ → ℕ × ℕ) (scenario : Scenario) → Each TellsOfMembers scenario.lines → (P : List (Row Mail OrderLine) → Type 0)
-    → ((rows : List (Row Mail OrderLine)) (row : Row Mail OrderLine) → P rows → IsPlainEvent row.event → IsStep (system_of ahead words scenario) rows row → P (rows ++ row ∷ []))
-    → (rows : List (Row Mail OrderLine)) → P [] → Lawful ahead words scenario rows → P rows
-plain_induction ahead words scenario orders P keeps rows none lawful =
-    told_induction IsPlainOrder (system_of ahead words scenario) P (λ before row p told step. keeps before row p (plain_event row.who row.event told) step) (schedule scenario) rows (plain_lines scenario.lines orders) none lawful

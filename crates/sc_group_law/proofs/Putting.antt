@@ -1,11 +1,10 @@
 -- What is said to the parties of transactions is put behind what was said before.
 use Rattle.std.proofs.Common.{◌≡◌, ℕ, Bool, true, false, if◌then◌else◌, List, [], ◌∷◌, ◌++◌, Option, Some, None, refl, sym, ◌∙◌, ap, append_assoc, append-nil}
 use Rattle.sc_base.specs.declared.names.Draw.{Draw}
-use Rattle.sc_cmd.specs.declared.bodies.Body.{Body}
 use Rattle.sc_cmd.specs.declared.bodies.Offer.{Offer}
 use Rattle.sc_cmd.specs.declared.bodies.Watch.{Watch}
 use Rattle.sc_cmd.specs.declared.commands.Command.{Command}
-use Rattle.sc_cmd.specs.declared.commands.Command.TheVariants.{Noop, Call, Join, Leave, Split, Begin, Prepared, RecordVote, GiveUp, Finish, Watched, RecordWatch}
+use Rattle.sc_cmd.specs.declared.commands.Command.TheVariants.{Split, Begin, Prepared, RecordVote, GiveUp, Watched, RecordWatch}
 use Rattle.sc_cmd.specs.declared.cores.Core.{Core}
 use Rattle.sc_cmd.specs.declared.cores.Lock.{Lock}
 use Rattle.sc_cmd.specs.declared.cores.Lock.TheVariants.{Free, Coordinating, Promised, Watching}
@@ -33,9 +32,6 @@ use Rattle.sc_base.specs.Same.{same_draw}
 -- mails are put behind those that are there
 abbrev pub Puts : (List Mail → List Mail) → Type 0
 Puts f = (mails : List Mail) → f mails ≡ mails ++ f []
-
-puts_none : Puts (λ mails. mails)
-puts_none mails = sym (append-nil mails)
 
 puts_after : (f g : List Mail → List Mail) → Puts f → Puts g → Puts (λ mails. g (f mails))
 puts_after f g p q mails = q (f mails) ∙ ap (λ ms. ms ++ g []) (p mails) ∙ append_assoc mails (f []) (g []) ∙ ap (λ ms. mails ++ ms) (sym (q (f [])))

@@ -1,51 +1,22 @@
 -- What the steps of one group say of its decided log: one value per slot, a log that only grows, and replicas that have executed a front of it.
-use Rattle.std.proofs.Common.{◌≡◌, ℕ, ◌+◌, List, [], ◌∷◌, ◌++◌, length, take, drop, refl, sym, ◌∙◌, ap, subst, append-nil, append_assoc}
-use Rattle.sc_base.specs.declared.names.Draw.{Draw}
+use Rattle.std.proofs.Common.{◌≡◌, ℕ, ◌+◌, List, length, drop, sym, ◌∙◌, ap, subst}
 use Rattle.sc_cmd.specs.declared.commands.Command.{Command}
 use Rattle.sc_cmd.specs.declared.cores.Base.{Base}
-use Rattle.sc_cmd.specs.declared.orders.OrderLine.{OrderLine}
-use Rattle.sc_mail.specs.declared.bodies.Mail.{Mail}
-use Rattle.sc_actor.specs.declared.rows.Row.{Row}
-use Rattle.sc_actor.specs.Mail.{mails}
 use Rattle.sc_node_table.specs.Replica.{ReplicaState}
 use Rattle.sc_paxos_law.specs.Chosen.{IsChosenAfter, IsLog}
-use Rattle.sc_paxos_law.specs.Decided.{log_of}
 use Rattle.sc_paxos_law.specs.Lawful.{IsLawfulHistory}
 use Rattle.sc_paxos_law.proofs.Law.{one_value_per_slot}
-use Rattle.sc_paxos_law.proofs.Decided.{log_of-longest, log_grows}
+use Rattle.sc_paxos_law.proofs.Decided.{log_of-longest}
 use Rattle.sc_players.specs.Players.{Ahead}
-use Rattle.sc_sound.specs.Soundness.{GoesOn, HasRun}
-use Rattle.sc_sound.specs.Accepts.{accepts, accepts_at}
+use Rattle.sc_sound.specs.Soundness.{HasRun}
+use Rattle.sc_sound.specs.Accepts.{accepts}
 use Rattle.sc_machine_table.specs.Logs.{state_after}
 use Rattle.sc_sound.specs.Logs.{IsChosenIn, decided_log}
-use Rattle.sc_group_law.specs.Steps.{proposer_steps, asked_in, promises_at, steps_at, steps}
 use Rattle.sc_group_law.proofs.Invariant.{Steps, rule, first, birth, IsReplica, next_after}
-use Rattle.sc_group_law.proofs.Projected.{only, only_steps, log_from_only, after_from_only, log_to_only, steps-push}
-use Rattle.sc_group_law.proofs.Places.{Journal, split_at}
-use Rattle.sc_group_law.proofs.Family.{h_of, decided_is}
+use Rattle.sc_group_law.proofs.Projected.{only, only_steps, log_from_only, after_from_only, log_to_only}
+use Rattle.sc_group_law.proofs.Places.{Journal}
+use Rattle.sc_group_law.proofs.Families.{h_of, decided_is}
 use Rattle.sc_group_law.proofs.Replies.{front_is}
-
--- ---- steps of a first part
-
-asked-after : (group : Draw) (sent : List Mail) (h : Steps) → asked_in group sent h ≡ asked_in group sent [] ++ h
-asked-after group [] h = refl
-asked-after group (m ∷ sent) h =
-    asked-after group sent (proposer_steps group m.body ++ h) ∙ sym (append_assoc (asked_in group sent []) (proposer_steps group m.body) h)
-    ∙ ap (λ x. x ++ h) (sym (asked-after group sent (proposer_steps group m.body)) ∙ ap (asked_in group sent) (sym (append-nil (proposer_steps group m.body))))
-
-row_after : (group : Draw) (sent : List Mail) (row : Row Mail OrderLine) (h : Steps) → (newer : Steps) × (steps_at group sent row h ≡ newer ++ h)
-row_after group sent row h =
-    let mine = promises_at group sent row row.event ++ accepts_at group sent row row.event in
-    (mine ++ asked_in group row.sent [], ap (λ x. mine ++ x) (asked-after group row.sent h) ∙ sym (append_assoc mine (asked_in group row.sent []) h))
-
-steps_split : (group : Draw) (rows more : Journal) → (newer : Steps) × (steps group (rows ++ more) ≡ newer ++ steps group rows)
-steps_split group rows [] = ([], ap (steps group) (append-nil rows))
-steps_split group rows (row ∷ more) =
-    let later = steps_split group (rows ++ row ∷ []) more in
-    let here = row_after group (mails rows) row (steps group rows) in (
-      later.0 ++ here.0,
-      ap (steps group) (sym (append_assoc rows (row ∷ []) more)) ∙ later.1 ∙ ap (λ x. later.0 ++ x) (steps-push group rows row ∙ here.1) ∙ sym (append_assoc later.0 here.0 (steps group rows)),
-    )
 
 module _ (ahead : Ahead) (base : Base) (rows : Journal) (lawful : IsLawfulHistory (rule ahead base) (first ahead base) (h_of rows base)) where
   abbrev h : Steps
@@ -88,17 +59,3 @@ module _ (ahead : Ahead) (base : Base) (rows : Journal) (lawful : IsLawfulHistor
         entries = is.log_is.entries_are ∙ ap (drop r.log.base) (sym front.1);
         group_is = is.log_is.group_is ∙ ap (state_after (birth ahead base)) (sym front.1);
       }
-
--- with more rows it goes on
-pub goes_on : (ahead : Ahead) (base : Base) (rows more : Journal) → IsLawfulHistory (rule ahead base) (first ahead base) (h_of (rows ++ more) base) → GoesOn (decided_log ahead base rows) (decided_log ahead base (rows ++ more))
-goes_on ahead base rows more all =
-    let log = decided_log ahead base rows in
-    let split = steps_split base.core.id rows more in
-    let lawful = subst (IsLawfulHistory (rule ahead base) (first ahead base)) split.1 all in
-    let grown = log_grows (rule ahead base) (first ahead base) split.0 (h_of rows base) lawful in
-    let later = decided_is ahead base (rows ++ more) ∙ ap (log_of (rule ahead base)) split.1 in
-    let same = decided_is ahead base rows in (
-      drop (length log) (decided_log ahead base (rows ++ more)),
-      split_at (length log) log (decided_log ahead base (rows ++ more))
-          (ap (take (length log)) later ∙ ap (λ l. take (length l) (log_of (rule ahead base) (split.0 ++ h_of rows base))) same ∙ grown.1 ∙ sym same),
-    )

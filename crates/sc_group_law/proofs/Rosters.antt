@@ -1,5 +1,5 @@
 -- A group that no split divides has one to nine members, ascending, whatever it executes.
-use Rattle.std.proofs.Common.{◌≡◌, ℕ, ◌≤◌, ◌&&◌, not, true, false, cond, eqb, List, [], ◌∷◌, length, Option, Some, None, inl, inr, refl, sym, ◌∙◌, subst, arith}
+use Rattle.std.proofs.Common.{◌≡◌, ℕ, ◌≤◌, ◌&&◌, not, true, false, cond, eqb, length, Option, Some, None, inl, inr, refl, sym, ◌∙◌, subst, arith}
 use Rattle.std.proofs.lemmas.Bool.{cases_Bool, eqb-false, and_from, cond_both}
 use Rattle.sc_cmd.specs.declared.commands.Command.{Command}
 use Rattle.sc_cmd.specs.declared.commands.Command.TheVariants.{Noop, Call, Join, Leave, Split, Begin, Prepared, RecordVote, GiveUp, Finish, Watched, RecordWatch}
@@ -13,10 +13,8 @@ use Rattle.sc_machine_table.specs.Machine.{applied}
 use Rattle.sc_machine_table.specs.Orders.{locked_in, join_refused, leave_refused, refused_in, refusal_of, ordered, with_node, without_node}
 use Rattle.sc_member.specs.Roster.{IsRoster, is_member}
 use Rattle.sc_member.proofs.Rising.{roster_with, roster_without}
-use Rattle.sc_base.specs.Among.{Each}
 use Rattle.sc_hist_law.specs.Laws.{LeavesWhole}
 use Rattle.sc_hist_law.proofs.Logs.{called_members}
-use Rattle.sc_machine_table.specs.Logs.{state_after}
 
 -- an order makes the group another one only where it is not refused
 pub ordered_if : (P : Group → Type 0) (gone : Option Route) (why : Option OrderRefusal) (after group : Group) → (why ≡ None → P after) → P group → P (ordered gone why after group).0
@@ -77,8 +75,3 @@ applied_roster group (GiveUp tx) whole roster = absurd whole
 applied_roster group (Finish tx outcome) whole roster = absurd whole
 applied_roster group (Watched tx watch) whole roster = absurd whole
 applied_roster group (RecordWatch tx vote by) whole roster = absurd whole
-
--- the members are a roster after each log that divides no group
-pub state_roster : (group : Group) (log : List Command) → Each LeavesWhole log → IsRoster group.core.members → IsRoster (state_after group log).core.members
-state_roster group [] whole roster = roster
-state_roster group (c ∷ log) whole roster = state_roster (applied group c).0 log whole.1 (applied_roster group c whole.0 roster)

@@ -1,12 +1,12 @@
 -- What is asked of what a group's replicas say of transactions, and queue: what they say is heard, and what they hear they may queue.
-use Rattle.std.proofs.Common.{◌≡◌, ℕ, List, [], ◌∷◌, ◌++◌, Option, Some, None, refl, sym, ◌∙◌, ap, subst}
-use Rattle.sc_base.specs.Among.{Among, Each}
+use Rattle.std.proofs.Common.{◌≡◌, ℕ, List, [], ◌∷◌, ◌++◌, Option, Some, refl, ◌∙◌, ap}
+use Rattle.sc_base.specs.Among.{Each}
 use Rattle.sc_base.specs.declared.names.Draw.{Draw}
 use Rattle.sc_cmd.specs.declared.bodies.Body.{Body}
 use Rattle.sc_cmd.specs.declared.commands.Command.{Command}
 use Rattle.sc_cmd.specs.declared.commands.Command.TheVariants.{Noop, Prepared, RecordVote, GiveUp, Finish, Watched, RecordWatch}
 use Rattle.sc_cmd.specs.declared.cores.Base.{Base}
-use Rattle.sc_cmd.specs.declared.cores.Lock.TheVariants.{Free, Coordinating}
+use Rattle.sc_cmd.specs.declared.cores.Lock.TheVariants.{Coordinating}
 use Rattle.sc_cmd.specs.declared.votes.Heard.{Heard}
 use Rattle.sc_cmd.specs.declared.votes.Outcome.{Outcome}
 use Rattle.sc_cmd.specs.declared.votes.Past.{Past}
@@ -23,10 +23,7 @@ use Rattle.sc_node_table.specs.Transactions.{standing_vote, noted_outcome, voted
 use Rattle.sc_paxos_law.specs.Chosen.{IsLog}
 use Rattle.sc_players.specs.Players.{Ahead}
 use Rattle.sc_group_law.specs.Steps.{proposer_steps, asked_in}
-use Rattle.sc_group_law.proofs.Invariant.{Steps, rule, birth, name, Grants, IsOwn, IsTrue}
-use Rattle.sc_group_law.proofs.Quiet.{went_quiet}
-use Rattle.sc_machine_table.proofs.LogLemmas.{state_push}
-use Rattle.sc_paxos_words.proofs.ListLemmas.{Each-append}
+use Rattle.sc_group_law.proofs.Invariant.{Steps, rule, birth, name, IsOwn, IsTrue}
 
 -- a mail of a transaction that is heard
 abbrev pub IsSaid : (MailBody → Type 0) → MailBody → Type 0
@@ -98,20 +95,6 @@ module _ (ahead : Ahead) (base : Base) where
     pub gives_up : (log : List Command) → IsLog (rule ahead base) before log → Each made log → (tx : Draw) (body : Body) (order : ℕ) (got : Option Heard) → (after log).core.lock ≡ Coordinating tx body order got → made (GiveUp tx)
     -- what comes of a mail that is heard
     pub meets : (log : List Command) → IsLog (rule ahead base) before log → Each made log → (body : MailBody) → heard body → group_of_mail body ≡ Some (name ahead base) → Meets made heard (after log) body
-
-  -- nothing is said where nothing that may be queued is of a transaction
-  pub quiet_speaks : (made : Command → Type 0) (heard : MailBody → Type 0) (before : Steps) → Grants ahead base made heard → Speaks made heard before
-  quiet_speaks made heard before grants = record {
-    noop = grants.noop;
-    elsewhere = λ body a tx coord hint. absurd (grants.unheard body a);
-    goes_on = λ log c is_log all m me. (
-        let free = grants.free (log ++ c ∷ []) (Each-append made log (c ∷ []) all (m, tt)) in
-        let here : (applied (after log) c).0.core.lock ≡ Free = ap (λ (g : Group). g.core.lock) (sym (state_push (birth ahead base) log c)) ∙ free in
-        subst (AreSaid heard) (sym (went_quiet me (applied (after log) c).0 (before_of (after log).core) (applied (after log) c).1 c [] (grants.quiet c m) here)) tt);
-    reminds = λ log is_log all me. subst (λ lock. AreSaid heard (reminders lock me (after log) [])) (sym (grants.free log all)) tt;
-    gives_up = λ log is_log all tx body order got e. (let no_way = sym (grants.free log all) ∙ e in absurd (cc));
-    meets = λ log is_log all body a named. absurd (grants.unheard body a);
-  }
 
   -- ---- such mails are of no group, and no steps
 

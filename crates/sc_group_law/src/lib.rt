@@ -10,7 +10,6 @@ ghost use Rattle.sc_sound.specs.Example.{four, alone};
 ghost use Rattle.sc_sound.specs.Logs.{decided_log, decided_state};
 ghost use Rattle.sc_sound.specs.Histories.{decided_row};
 ghost use Rattle.sc_sound.specs.Requests.{issue_row};
-ghost use Rattle.sc_group_law.specs.Groups.{HasGroups};
 ghost use Rattle.sc_players.specs.Players.{Lawful};
 ghost use Rattle.sc_group_law.specs.Example.{three_nodes, election_scenario, election_example, call};
 ghost use Rattle.sc_group_law.specs.JoinExample.{join_scenario, join_example, join};
@@ -18,7 +17,6 @@ ghost use Rattle.sc_group_law.specs.JoinExample.{join_scenario, join_example, jo
 /// The law is about something: a lawful journal of three nodes, in which a request is decided by
 /// two of them, and another node is elected and offers it again.
 pub fn a_journal_with_an_election()
-    ensures groups { HasGroups election_scenario three_nodes [] }
     ensures lawful { Lawful four no_words election_scenario election_example }
     ensures log { decided_log four three_nodes election_example ≡ call ∷ [] }
     ensures decided { decided_row four three_nodes 0 election_example ≡ Some 4 }
@@ -28,7 +26,6 @@ pub fn a_journal_with_an_election()
 /// The law is about groups that change: a lawful journal in which the one member of a group decides
 /// that another joins, and sends it the state.
 pub fn a_journal_with_a_join()
-    ensures groups { HasGroups join_scenario alone [] }
     ensures lawful { Lawful four no_words join_scenario join_example }
     ensures log { decided_log four alone join_example ≡ join ∷ [] }
     ensures decided { decided_row four alone 0 join_example ≡ Some 2 }

@@ -23,16 +23,11 @@ use sc_ring_law::{
     allowed_entries_stay_allowed, allowed_lists_append, draws_are_of_one_log,
     entries_keep_the_promises, entries_keep_the_ring, merge_is_allowed, split_is_allowed,
 };
-use sc_sound_law::{
-    a_journal_of_two_groups, an_election_is_sound, several_journals_are_sound,
-    valid_journals_are_sound, valid_scenarios_start_together,
-};
-use sc_split_law::{
-    a_journal_with_a_split, logs_name_one_child, split_journals_are_sound, splits_are_scheduled,
-};
+use sc_start_law::valid_scenarios_begin_well;
 use sc_whole_law::{
+    a_join_is_sound, a_journal_of_two_groups, a_journal_with_a_split, an_election_is_sound,
     lawful_journals_are_sound, lawful_journals_decide_in_turn, lawful_journals_hold_beside,
-    members_stay_rosters,
+    members_stay_rosters, valid_journals_are_sound,
 };
 
 #[test]
@@ -68,15 +63,6 @@ fn the_journals_of_one_group_are_called() {
 }
 
 #[test]
-fn the_laws_of_several_groups_are_called() {
-    several_journals_are_sound();
-    a_journal_of_two_groups();
-    valid_scenarios_start_together();
-    valid_journals_are_sound();
-    an_election_is_sound();
-}
-
-#[test]
 fn the_laws_of_entries_are_called() {
     entries_keep_the_ring();
     entries_keep_the_promises();
@@ -103,14 +89,6 @@ fn the_laws_of_journals_with_births_are_called() {
 }
 
 #[test]
-fn the_laws_of_a_lone_group_that_splits_are_called() {
-    split_journals_are_sound();
-    logs_name_one_child();
-    splits_are_scheduled();
-    a_journal_with_a_split();
-}
-
-#[test]
 fn the_laws_of_names_are_called() {
     names_have_one_owner();
     counters_part_names();
@@ -126,4 +104,18 @@ fn the_laws_of_whole_journals_are_called() {
     lawful_journals_decide_in_turn();
     lawful_journals_hold_beside();
     lawful_journals_are_sound();
+}
+
+#[test]
+fn the_laws_of_valid_scenarios_are_called() {
+    valid_scenarios_begin_well();
+    valid_journals_are_sound();
+}
+
+#[test]
+fn the_journals_of_texts_are_called() {
+    an_election_is_sound();
+    a_join_is_sound();
+    a_journal_of_two_groups();
+    a_journal_with_a_split();
 }

@@ -16,7 +16,7 @@ use sc_checker::{Replayed, replay};
 use sc_cmd::OrderLine;
 use sc_mail::Mail;
 use sc_scenario::Scenario;
-use sc_sound_law::valid_journals_are_sound;
+use sc_whole_law::valid_journals_are_sound;
 use sc_world::{Party, births, parties_of, schedule};
 use std::alloc::Global;
 

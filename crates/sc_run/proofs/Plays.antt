@@ -20,7 +20,7 @@ use Rattle.sc_scenario.specs.declared.scenarios.Scenario.{Scenario}
 use Rattle.sc_report.specs.Report.{report_lines}
 use Rattle.sc_players.specs.Players.{schedule, system_of, Lawful, parties, Player, as_nodes}
 use Rattle.sc_replay.specs.Summary.{summary_of}
-use Rattle.sc_sound_law.specs.Laws.{ValidJournalsAreSound}
+use Rattle.sc_whole_law.specs.Valid.{ValidJournalsAreSound}
 use Rattle.sc_statuses.specs.Causes.{said_of}
 use Rattle.sc_run.specs.declared.done.Text.{Text}
 use Rattle.sc_run.specs.Played.{mail_weight, HasPlayedToEnd, HasFilled}
@@ -52,7 +52,7 @@ module _ (law : ValidJournalsAreSound) (scenario : Scenario) (valid : IsValid sc
       record {
         lawful = allowed;
         whole = subst (λ l. IsWhole (system_of as_nodes no_words scenario) l journal) lines_are whole;
-        sound = law as_nodes no_words scenario valid journal allowed;
+        sound = law as_nodes refl no_words scenario valid journal allowed;
         within = within;
         cut_is = cut_is ∙ ap (λ l. unsettled (system_of as_nodes no_words scenario) l journal) lines_are;
         quiet_is = quiet_is;
@@ -64,7 +64,7 @@ module _ (law : ValidJournalsAreSound) (scenario : Scenario) (valid : IsValid sc
   pub fills : IsFull (system_of as_nodes no_words scenario) mail_weight lines limit journal → HasFilled scenario limit journal
   fills h =
       let full : IsFull (system_of as_nodes no_words scenario) mail_weight (schedule scenario) limit journal = subst (λ l. IsFull (system_of as_nodes no_words scenario) mail_weight l limit journal) lines_are h in
-      record { full = full; sound = law as_nodes no_words scenario valid journal full.lawful }
+      record { full = full; sound = law as_nodes refl no_words scenario valid journal full.lawful }
 
 plays : (scenario : Scenario) (cut quiet : Bool) (skips : ℕ) (journal : List (Row Mail OrderLine)) (parties : List Player) (text : Text) →
     HasPlayedToEnd scenario journal_limit cut quiet skips journal parties → text.lines ≡ report_lines (summary_of scenario journal) → text.journal ≡ Some journal → text.parties ≡ parties → Plays scenario cut text

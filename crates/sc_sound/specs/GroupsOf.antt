@@ -1,7 +1,8 @@
 -- The groups of a journal with their decided logs, and the entries of all these logs in one list. A group that the scenario does not have is born by an entry of another group's log, so groups and logs are found together.
-use Rattle.std.specs.Prelude.{ℕ, zero, suc, ◌+◌, Bool, List, [], ◌∷◌, ◌++◌, fold, find, length, drop, if◌then◌else◌, Option, Some, None}
+use Rattle.std.specs.Prelude.{◌≡◌, ℕ, zero, suc, ◌+◌, Bool, List, [], ◌∷◌, ◌++◌, fold, find, length, drop, if◌then◌else◌, Option, Some, None}
 use Rattle.std.specs.List.{flat_map, list_any}
 use Rattle.std.specs.Option.{option_map, option_to_list}
+use Rattle.sc_base.specs.Among.{Each}
 use Rattle.sc_base.specs.Same.{same_draw}
 use Rattle.sc_base.specs.declared.names.Draw.{Draw}
 use Rattle.sc_cmd.specs.declared.commands.Command.{Command}
@@ -51,6 +52,11 @@ with_descendants ahead rows (suc more) bases = with_children ahead rows (with_de
 -- the groups of a journal, each as it is born: those of the scenario, and again and again the children that the logs found so far name. Each birth takes a row of its own, so as many times as there are rows are enough.
 abbrev pub groups_at : Ahead → List Base → List (Row Mail OrderLine) → List Base
 groups_at ahead bases rows = with_descendants ahead rows (length rows) bases
+
+-- no two of these groups have one name
+abbrev pub AreApart : List Base → Type 0
+AreApart [] = Unit {0}
+AreApart (base ∷ bases) = Each (λ other. other.core.id ≡ base.core.id → ⊥) bases × AreApart bases
 
 -- ---- their logs
 

@@ -1,5 +1,5 @@
 -- A name that no mail of Paxos has: nothing was promised, accepted or asked for in it.
-use Rattle.std.proofs.Common.{◌≡◌, ℕ, ◌&&◌, true, false, List, [], ◌∷◌, ◌++◌, Option, Some, None, inl, inr, refl, sym, ◌∙◌, ap, subst, append_assoc, append-nil}
+use Rattle.std.proofs.Common.{◌≡◌, ℕ, ◌&&◌, true, false, List, [], ◌∷◌, ◌++◌, Option, Some, None, ◌⊎◌, inl, inr, refl, sym, ◌∙◌, ap, subst, append_assoc, append-nil}
 use Rattle.std.specs.List.{list_any, flat_map}
 use Rattle.std.proofs.lemmas.Bool.{cases_Bool, and_left, cond-false}
 use Rattle.sc_base.specs.Among.{Among, Each}
@@ -66,6 +66,10 @@ AreApart name out = Each (λ mail. IsApart name mail.body) out
 -- a name that none of these groups has
 abbrev pub IsNew : List Base → Draw → Type 0
 IsNew bases name = (b : Base) → Among b bases → b.core.id ≡ name → ⊥
+
+-- a group is one of these, or its name is nobody's, beside one of these
+abbrev pub IsOldOrNew : List Base → Base → Type 0
+IsOldOrNew bases base = Among base bases ⊎ (IsNew bases base.core.id × ((parent : Base) × Among parent bases))
 
 module _ (heard : MailBody → Type 0) (bases : List Base) (name : Draw) (new : IsNew bases name) where
   one_apart : (group : Draw) → IsOneOf bases group → same_draw group name ≡ false
@@ -182,6 +186,7 @@ module _ (ahead : Ahead) (base other : Base) (made made_there : Command → Type
   apart_answer h mail group seq (Says.Gone into) e = λ t. tt
   apart_answer h mail group seq (Says.NotLeader hint) e = λ t. tt
 
+  -- ... of whatever mail
   pub apart_true : (h there : Steps) (mail : Mail) (body : MailBody) → IsApart base.core.id body → IsTrue ahead other made_there heard there mail body → IsTrue ahead base made heard h mail body
   apart_true h there mail (Request group client seq op) e t = calls client seq op t
   apart_true h there mail (Answer group seq answer) e t = apart_answer h mail group seq answer e

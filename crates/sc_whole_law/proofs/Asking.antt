@@ -23,8 +23,9 @@ use Rattle.sc_machine_table.specs.Plans.{can_split}
 use Rattle.sc_machine_table.specs.Votes.{vote_of, watch_vote_of, bound_by}
 use Rattle.sc_ring_law.specs.Allowed.{IsShared}
 use Rattle.sc_group_law.proofs.Rosters.{ordered_if, free_refusal}
+use Rattle.sc_hist_law.proofs.Staying.{free_by}
 use Rattle.sc_whole_law.proofs.Coming.{comes}
-use Rattle.sc_whole_law.proofs.Locks.{always, free_lock}
+use Rattle.sc_whole_law.proofs.Locks.{always}
 use Rattle.sc_whole_law.proofs.Members.{may_split, members_after}
 
 no_lock : (tx : Draw) (body : Body) (order : ℕ) (got : Option Heard) → Free ≡ Coordinating tx body order got → ⊥
@@ -90,10 +91,10 @@ splits_step group c shared roster q =
       same = λ d effect dull _. q;
       served = λ client seq op after effect is _ tx at child order got e. ap (λ (core : Core). can_split core at) is ∙ q tx at child order got (ap (λ (core : Core). core.lock) (sym is) ∙ e);
       joined = λ node number _. ordered_if SplitsFit group.core.gone (refusal_of group.core (Join node number)) (with_node group node) group
-          (λ e tx at child order got l. absurd (no_lock tx (By.Split at child) order got (sym (free_lock group.core.lock group.core (Join node number) e) ∙ l))) q;
+          (λ e tx at child order got l. absurd (no_lock tx (By.Split at child) order got (sym (free_by group.core.lock group.core (Join node number) e) ∙ l))) q;
       left = λ node number _. ordered_if SplitsFit group.core.gone (refusal_of group.core (Leave node number)) (without_node group node) group
-          (λ e tx at child order got l. absurd (no_lock tx (By.Split at child) order got (sym (free_lock group.core.lock group.core (Leave node number) e) ∙ l))) q;
-      parted = λ where_to kid number e _ tx at child order got l. absurd (no_lock tx (By.Split at child) order got (sym (free_lock group.core.lock group.core (Split where_to kid number) e) ∙ l));
+          (λ e tx at child order got l. absurd (no_lock tx (By.Split at child) order got (sym (free_by group.core.lock group.core (Leave node number) e) ∙ l))) q;
+      parted = λ where_to kid number e _ tx at child order got l. absurd (no_lock tx (By.Split at child) order got (sym (free_by group.core.lock group.core (Split where_to kid number) e) ∙ l));
       split = λ where_to kid number e _ tx at child order got l. (let same : where_to ≡ at = cc in subst (λ n. can_split group.core n ≡ true) same (may_cut group.core where_to kid number roster e));
       begun = λ t about number e s tx at child order got l. (let same : about ≡ By.Split at child = cc in absurd (subst IsShared same (s t about number refl)));
       offered = λ t offer _ _ tx at child order got e. q tx at child order got (bound_lock (vote_of group.core offer) (Promised t offer) group.core.lock tx (By.Split at child) order got (λ other. cc) e);

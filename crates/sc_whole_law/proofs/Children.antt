@@ -1,5 +1,5 @@
 -- A child of a group is bound in nothing, has voted and decided nothing, and has one to nine members.
-use Rattle.std.proofs.Common.{◌≡◌, ℕ, ◌+◌, ◌-◌, ◌/◌, ◌<◌, ◌≤◌, nat_le, List, [], ◌∷◌, length, get_or, Option, Some, None, inl, inr, refl, ◌∙◌, ap, subst, length-drop, option_to_list, arith}
+use Rattle.std.proofs.Common.{◌≡◌, ℕ, ◌+◌, ◌≤◌, nat_le, List, [], ◌∷◌, length, get_or, Option, Some, None, inl, inr, refl, ◌∙◌, ap, subst, length-drop, option_to_list, arith}
 use Rattle.std.proofs.lemmas.Bool.{and_parts, leb-true, cond_both}
 use Rattle.std.proofs.lemmas.List.{get_or-drop}
 use Rattle.sc_base.specs.Among.{Among}
@@ -27,11 +27,9 @@ use Rattle.sc_entries.specs.Births.{birth_of}
 use Rattle.sc_entries.proofs.Children.{births_are_children}
 use Rattle.sc_paxos_law.proofs.Among.{Among-either}
 use Rattle.sc_sound.specs.GroupsOf.{children_of}
-use Rattle.sc_whole_law.specs.Parties.{IsFresh}
+use Rattle.sc_start_law.specs.Begins.{IsFresh}
+use Rattle.sc_whole_law.proofs.Coming.{staying_some}
 use Rattle.sc_whole_law.proofs.Members.{may_split, members_after}
-
-staying_some : (n : ℕ) → 2 ≤ n → n ≤ 9 → (1 ≤ n - n / 2) × (n - n / 2 < n)
-staying_some n two nine = (omega arith, omega arith)
 
 -- the members that go are a roster
 leaving_roster : (members : List ℕ) → IsRoster members → 2 ≤ length members → IsRoster (right_members members)

@@ -15,7 +15,6 @@ use Rattle.sc_cmd.specs.declared.bodies.Offer.{Offer}
 use Rattle.sc_cmd.specs.declared.bodies.Watch.{Watch}
 use Rattle.sc_cmd.specs.declared.commands.Command.{Command}
 use Rattle.sc_cmd.specs.declared.commands.Command.TheVariants.{Noop, Call, Join, Leave, Split, Begin, Prepared, RecordVote, GiveUp, Finish, Watched, RecordWatch}
-use Rattle.sc_cmd.specs.declared.cores.Core.{Core}
 use Rattle.sc_cmd.specs.declared.cores.Lock.{Lock}
 use Rattle.sc_cmd.specs.declared.cores.Lock.TheVariants.{Free, Coordinating, Promised, Watching}
 use Rattle.sc_cmd.specs.declared.effects.Effect.{Effect}
@@ -46,7 +45,8 @@ use Rattle.sc_machine_table.specs.Votes.{has_voted, vote_of, watch_vote_of, past
 
 -- ---- members
 
-staying_some : (n : ℕ) → 2 ≤ n → n ≤ 9 → (1 ≤ n - n / 2) × (n - n / 2 < n)
+-- of two to nine nodes some stay, and not all
+pub staying_some : (n : ℕ) → 2 ≤ n → n ≤ 9 → (1 ≤ n - n / 2) × (n - n / 2 < n)
 staying_some n two nine = (omega arith, omega arith)
 
 -- the members that stay are a roster
@@ -167,9 +167,6 @@ fits_nine : (n : ℕ) → nat_le n 9 ≡ true → n ≤ 9
 fits_nine n e = leb-true n 9 e
 
 module _ (group : Group) (P : Command → Group × Effect → Type 0) (k : Cases group P) where
-  same_core : Core → Group → Type 0
-  same_core core after = after.core ≡ core
-
   by_note : (o : _) (client seq : ℕ) (op : Op) → P (Call client seq op) (served_by_note o group client seq op)
   by_note None client seq op = k.served client seq op _ _ refl
   by_note (Some noted) client seq op =

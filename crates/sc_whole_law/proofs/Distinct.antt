@@ -1,6 +1,7 @@
 -- The participant of a merge is not its watcher: a participant that stands behind another group is not its own successor.
 use Rattle.std.proofs.Common.{◌≡◌, ℕ, ◌&&◌, not, true, List, [], ◌∷◌, Option, Some, None, refl, sym, ◌∙◌, ap, subst, option_map}
 use Rattle.std.proofs.lemmas.Bool.{cond_both}
+use Rattle.std.proofs.lemmas.Option.{same_Some}
 use Rattle.sc_base.specs.Same.{same_draw}
 use Rattle.sc_base.specs.declared.names.Draw.{Draw}
 use Rattle.sc_cmd.specs.declared.bodies.Body.{Body}
@@ -111,30 +112,21 @@ merges s tx vote by changed =
 eff_open : (f : Decisions) (s : Group) → settle_by s.core.lock f s ≡ s → s.core.gone ≡ None → eff f (Some s) ≡ Some s
 eff_open f s e here = ap living e ∙ ap (λ gone. living_by gone s) here
 
-one_story : (ys : Stories) (tx : Draw) (a b : Story) → ys tx ≡ Some a → ys tx ≡ Some b → a ≡ b
-one_story ys tx a b e f = (let both : Some a ≡ Some b = sym e ∙ f in cc)
-
-some_offer : (a b : Offer) → Some a ≡ Some b → a ≡ b
-some_offer a b e = cc
-
-some_watch : (a b : Watch) → Some a ≡ Some b → a ≡ b
-some_watch a b e = cc
-
 module _ (sources : Sources) (ring : Ring) (gs : Groups) (ys : Stories) (g : Draw) (s : Group) (k : Kept sources.owner ring gs ys) (is : gs g ≡ Some s) where
   -- the participant that was heard is not its own successor
   heard_apart : (tx : Draw) (frozen : Frozen) → IsVoteCast ys tx (Vows.Yes frozen) → (order : ℕ) (got : Option Heard) → s.core.lock ≡ Coordinating tx At.Merge order got → (story : Story) → ys tx ≡ Some story
       → (offer : Offer) → story.offer ≡ Some offer → offer.part ≡ frozen.succ.group → ⊥
   heard_apart tx frozen cast order got lock story there offer offered same =
       let own : IsCoordinating ys g s tx At.Merge got = subst (LockOk ys g s) lock (k.0.group g s is).lock_ok in
-      let mine = one_story ys tx story own.story there own.is in
-      let voted = one_story ys tx cast.0 story cast.1 there in
+      let mine = same_Some story own.story (sym there ∙ own.is) in
+      let voted = same_Some cast.0 story (sym cast.1 ∙ there) in
       let undecided : story.outcome ≡ None = ap (λ (y : Story). y.outcome) mine ∙ own.undecided in
       let vote : story.vote ≡ Some (Vows.Yes frozen) = ap (λ (y : Story). y.vote) (sym voted) ∙ cast.2 in
       let fr = (k.0.story tx story there).frozen undecided frozen vote in
       let p = fr.group in
       let name = fr.offer.part in
-      let asked : name ≡ offer.part = ap (λ (o : Offer). o.part) (some_offer (unsigned fr.offer) offer (sym fr.offered ∙ offered)) in
-      let succ : s.core.succ.group ≡ name = ap (λ (o : Offer). o.part) (some_offer _ (unsigned fr.offer) (sym own.offer ∙ ap (λ (y : Story). y.offer) (sym mine) ∙ fr.offered)) in
+      let asked : name ≡ offer.part = ap (λ (o : Offer). o.part) (same_Some (unsigned fr.offer) offer (sym fr.offered ∙ offered)) in
+      let succ : s.core.succ.group ≡ name = ap (λ (o : Offer). o.part) (same_Some _ (unsigned fr.offer) (sym own.offer ∙ ap (λ (y : Story). y.offer) (sym mine) ∙ fr.offered)) in
       let bound : IsPromised ys name p tx fr.offer = subst (LockOk ys name p) fr.lock (k.0.group name p fr.is).lock_ok in
       let f = decisions ys in
       let none : f tx ≡ None = ap outcome_of there ∙ undecided in
@@ -151,7 +143,7 @@ module _ (sources : Sources) (ring : Ring) (gs : Groups) (ys : Stories) (g : Dra
 
   asked_apart : (tx : Draw) (vote : Vote) → IsVoteCast ys tx vote → (order : ℕ) (got : Option Heard) → s.core.lock ≡ Coordinating tx At.Merge order got → (story : Story) → ys tx ≡ Some story → IsApartStory story → IsApartStory (with_asked s.core vote story)
   asked_apart tx (Vows.Yes frozen) cast order got lock story there old offer watch o w same =
-      let part : frozen.succ.group ≡ watch.part = ap (λ (x : Watch). x.part) (some_watch _ watch w) in
+      let part : frozen.succ.group ≡ watch.part = ap (λ (x : Watch). x.part) (same_Some _ watch w) in
       heard_apart tx frozen cast order got lock story there offer o (same ∙ sym part)
   asked_apart tx (Vows.No why) cast order got lock story there old offer watch o w same = old offer watch o w same
 

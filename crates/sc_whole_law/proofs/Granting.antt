@@ -1,6 +1,7 @@
 -- What the replicas of a group of a journal say of transactions is true, and what they hear they may queue: the one link between a replica's mail and the entries of all logs.
 use Rattle.std.proofs.Common.{◌≡◌, ℕ, Bool, List, [], ◌∷◌, ◌++◌, length, drop, Option, Some, None, refl, sym, ◌∙◌, ap, subst, append_assoc, find, option_map}
 use Rattle.std.proofs.lemmas.Bool.{cond_both}
+use Rattle.std.proofs.lemmas.Option.{same_Some}
 use Rattle.sc_base.specs.Among.{Among, Each}
 use Rattle.sc_base.specs.Same.{same_draw}
 use Rattle.sc_base.specs.declared.names.Draw.{Draw}
@@ -48,7 +49,8 @@ use Rattle.sc_group_law.proofs.Places.{split_at}
 use Rattle.sc_group_law.proofs.Replies.{front_is}
 use Rattle.sc_group_law.proofs.Speech.{AreSaid, Meets, Speaks}
 use Rattle.sc_whole_law.specs.Parameters.{stories_at, MayQueue, MayHear}
-use Rattle.sc_whole_law.specs.Parties.{IsFresh, PartiesAreApart, MergesFit}
+use Rattle.sc_start_law.specs.Begins.{IsFresh}
+use Rattle.sc_whole_law.specs.Parties.{PartiesAreApart, MergesFit}
 use Rattle.sc_whole_law.proofs.Coming.{Binds}
 use Rattle.sc_whole_law.proofs.Locks.{Ever, WatchesIt, watching_since, DecidesIt, decided_since, yes_binds}
 use Rattle.sc_whole_law.proofs.Asking.{hears_merges, BeginsShared, splits_fit, none_split}
@@ -61,13 +63,6 @@ standing_yes None locked (Some into) e = cc
 standing_yes (Some (Cast.No why)) locked into e = cc
 standing_yes (Some Cast.Ended) locked into e = cc
 standing_yes (Some Cast.Yes) locked into e = refl
-
--- a story is one
-one_story : (stories : Stories) (tx : Draw) (a b : Story) → stories tx ≡ Some a → stories tx ≡ Some b → a ≡ b
-one_story stories tx a b e f = (let both : Some a ≡ Some b = sym e ∙ f in cc)
-
-some_draw : (a b : Draw) → Some a ≡ Some b → a ≡ b
-some_draw a b e = cc
 
 noted_found : (tx : Draw) (outcome : Outcome) (o : Option (Draw × Outcome)) → option_map (λ (noted : Draw × Outcome). noted.1) o ≡ Some outcome → (noted : Draw × Outcome) × (o ≡ Some noted) × (noted.1 ≡ outcome)
 noted_found tx outcome None e = cc
@@ -155,7 +150,7 @@ module _ (sources : Sources) (ahead : Ahead) (scenario : Scenario) (start : Begi
   -- who watches is no participant of it
   no_both : (tx : Draw) (offer : Offer) (watch : Watch) → IsAllowed sources told name (Prepared tx offer) → IsAllowed sources told name (Watched tx watch) → ⊥
   no_both tx offer watch o w =
-      let same = one_story told tx w.0 o.0 w.1 o.1 in
+      let same = same_Some w.0 o.0 (sym w.1 ∙ o.1) in
       apart tx o.0 o.1 (unsigned offer) (unsigned_watch watch) o.2 (ap (λ (y : Story). y.watch) (sym same) ∙ w.2) (o.3 ∙ sym w.3)
 
   participant_yes : (log : List Command) → Log log → (tx : Draw) (offer : Offer) → IsAllowed sources told name (Prepared tx offer) → (lock : Lock) → (after log).core.lock ≡ lock → Binds lock tx → IsAllowed sources told name (RecordVote tx (Vows.Yes (frozen_of (after log))) 0)
@@ -202,10 +197,10 @@ module _ (sources : Sources) (ahead : Ahead) (scenario : Scenario) (start : Begi
 
   met : (log : List Command) → Log log → Each Queues log → (body : MailBody) → MayHear sources ahead scenario rows body → group_of_mail body ≡ Some name → Meets Queues (MayHear sources ahead scenario rows) (after log) body
   met log is all (TxPrepare tx offer) h named =
-      let a = subst (λ n. IsAllowed sources told n (Prepared tx offer)) (some_draw offer.part name named) h in
+      let a = subst (λ n. IsAllowed sources told n (Prepared tx offer)) (same_Some offer.part name named) h in
       ((a, tt), said_vote log is tx offer a)
   met log is all (TxWatch tx watch) h named =
-      let a = subst (λ n. IsAllowed sources told n (Watched tx watch)) (some_draw watch.part name named) h in
+      let a = subst (λ n. IsAllowed sources told n (Watched tx watch)) (same_Some watch.part name named) h in
       ((a, tt), said_watch log is tx watch a)
   met log is all (TxVote tx coord part vote) h named = ((λ from. (h, tt)), (λ outcome e. ended log is tx outcome e part))
   met log is all (TxWatched tx coord part vote) h named = ((λ from. (h, tt)), (λ outcome e. ended log is tx outcome e part))

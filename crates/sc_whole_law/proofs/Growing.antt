@@ -1,5 +1,5 @@
 -- What holds of a journal with the groups before a row holds with those after it: a new group has taken no step.
-use Rattle.std.proofs.Common.{◌≡◌, ℕ, ◌+◌, List, [], ◌⊎◌, inl, inr, sym, ◌∙◌, subst}
+use Rattle.std.proofs.Common.{◌≡◌, ℕ, ◌+◌, List, [], inl, inr, sym, ◌∙◌, subst}
 use Rattle.sc_base.specs.Among.{Among, Each}
 use Rattle.sc_base.specs.declared.names.Draw.{Draw}
 use Rattle.sc_base.specs.declared.ops.Op.{Op}
@@ -29,7 +29,7 @@ use Rattle.sc_group_law.proofs.Invariant.{rule, first}
 use Rattle.sc_group_law.proofs.Names.{IsOneOf, IsNamedAnswer, IsNamedIn}
 use Rattle.sc_group_law.proofs.Nodes.{IsNode}
 use Rattle.sc_group_law.proofs.Places.{Journal}
-use Rattle.sc_whole_law.proofs.Apart.{IsApart, IsNew, named_apart, no_steps, apart_true}
+use Rattle.sc_whole_law.proofs.Apart.{IsApart, IsNew, IsOldOrNew, named_apart, no_steps, apart_true}
 
 -- a name of one of these groups is one of those
 module _ (heard : MailBody → Type 0) (bases more : List Base) (all : (b : Base) → Among b bases → Among b more) where
@@ -55,11 +55,7 @@ module _ (heard : MailBody → Type 0) (bases more : List Base) (all : (b : Base
 
 module _ (ahead : Ahead) (scenario : Scenario) (firsts bases more : List Base) (route : Route) (made : Journal → Base → Command → Type 0) (heard : Journal → MailBody → Type 0) (rows : Journal) (all : (b : Base) → Among b bases → Among b more)
     (calls : (b other : Base) (client seq : ℕ) (op : Op) → made rows b (Call client seq op) → made rows other (Call client seq op)) where
-  -- each group was there, or its name is nobody's, beside one that was there
-  abbrev pub AreOldOrNew : Type 0
-  AreOldOrNew = (b : Base) → Among b more → Among b bases ⊎ (IsNew bases b.core.id × ((parent : Base) × Among parent bases))
-
-  module _ (k : Kept ahead scenario firsts bases route made heard rows) (old : AreOldOrNew) where
+  module _ (k : Kept ahead scenario firsts bases route made heard rows) (old : (b : Base) → Among b more → IsOldOrNew bases b) where
     apart_all : (b : Base) → IsNew bases b.core.id → (m : Mail) → Among m (mails rows) → IsApart b.core.id m.body
     apart_all b new m a = named_apart (heard rows) bases b.core.id new m.body (k.named m a)
 
@@ -67,7 +63,7 @@ module _ (ahead : Ahead) (scenario : Scenario) (firsts bases more : List Base) (
     empty : (b : Base) → IsNew bases b.core.id → h_of rows b ≡ []
     empty b new = no_steps b rows (apart_all b new)
 
-    part_of : (b : Base) → Among b bases ⊎ (IsNew bases b.core.id × ((parent : Base) × Among parent bases)) → Part ahead scenario firsts more route made heard rows b
+    part_of : (b : Base) → IsOldOrNew bases b → Part ahead scenario firsts more route made heard rows b
     part_of b (inl a) = (let p = k.parts b a in record { lawful = p.lawful; requested = p.requested; true_mail = p.true_mail })
     part_of b (inr (new, (parent, pa))) = record {
       lawful = subst (IsLawfulHistory (rule ahead b) (first ahead b)) (sym (empty b new)) tt;
@@ -78,7 +74,7 @@ module _ (ahead : Ahead) (scenario : Scenario) (firsts bases more : List Base) (
     others : (b : Base) → IsNew bases b.core.id → (n : ℕ) (node : NodeState) → IsNode ahead bases (made rows) (h_of rows) n node → Each (IsOther b.core.id) node.replicas
     others b new n node at = Each-weaker (λ r. IsOneOf bases (name_of r)) (IsOther b.core.id) (λ r is same. new is.0 is.1 (sym is.2 ∙ same)) node.replicas at.known
 
-    holds_of : (n : ℕ) (node : NodeState) → IsNode ahead bases (made rows) (h_of rows) n node → (b : Base) → Among b bases ⊎ (IsNew bases b.core.id × ((parent : Base) × Among parent bases)) → Holds ahead b (made rows b) n (h_of rows b) node.replicas
+    holds_of : (n : ℕ) (node : NodeState) → IsNode ahead bases (made rows) (h_of rows) n node → (b : Base) → IsOldOrNew bases b → Holds ahead b (made rows b) n (h_of rows b) node.replicas
     holds_of n node at b (inl a) = at.holds b a
     holds_of n node at b (inr (new, parent)) =
         subst (λ h. Holds ahead b (made rows b) n h node.replicas) (sym (empty b new)) (holds_none ahead b (made rows b) n [] node.replicas (others b new n node at) tt)
@@ -94,6 +90,7 @@ module _ (ahead : Ahead) (scenario : Scenario) (firsts bases more : List Base) (
       };
     }
 
+    -- what was answered is so
     answered : (client seq : ℕ) (reply : Reply) → IsAnswered ahead bases (h_of rows) client seq reply → IsAnswered ahead more (h_of rows) client seq reply
     answered client seq reply (b, a, at) = (b, all b a, at)
 

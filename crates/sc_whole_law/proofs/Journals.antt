@@ -1,9 +1,11 @@
--- Every lawful journal decides in turn, row by row, whatever its groups order; and one value per slot, executed fronts and issued calls hold beside.
-use Rattle.std.proofs.Common.{◌≡◌, ℕ, List, [], ◌∷◌, ◌++◌, ◌⊎◌, inl, inr, refl, sym, ◌∙◌, ap, subst, append_assoc, append-nil}
+-- Every lawful journal decides in turn, row by row, whatever its groups order; and one value per slot, executed fronts, issued calls and decided replies hold beside.
+use Rattle.std.proofs.Common.{◌≡◌, ℕ, ◌+◌, List, [], ◌∷◌, ◌++◌, length, Some, refl, sym, ◌∙◌, subst, append_assoc, append-nil}
+use Rattle.std.specs.Prelude.{slice_get}
 use Rattle.sc_base.specs.Among.{Among}
 use Rattle.sc_base.specs.Drawing.{next_name}
 use Rattle.sc_base.specs.declared.names.Draw.{Draw}
 use Rattle.sc_base.specs.declared.ops.Op.{Op}
+use Rattle.sc_base.specs.declared.ops.Reply.{Reply}
 use Rattle.sc_cmd.specs.declared.commands.Command.TheVariants.{Call}
 use Rattle.sc_cmd.specs.declared.cores.Base.{Base}
 use Rattle.sc_cmd.specs.declared.links.Route.{Route}
@@ -15,22 +17,25 @@ use Rattle.sc_actor.specs.declared.rows.Event.{Event}
 use Rattle.sc_actor.specs.declared.rows.Event.TheVariants.{Deliver, Tick, Go, Told, Crash, Drop, Again}
 use Rattle.sc_actor.specs.declared.rows.Row.{Row}
 use Rattle.sc_actor.specs.Steps.{IsStep}
-use Rattle.sc_actor.proofs.Induction.{lawful-induction}
+use Rattle.sc_actor.specs.Walk.{place_after}
+use Rattle.sc_actor.proofs.Induction.{MayAdd-step, lawful-induction}
+use Rattle.sc_actor.proofs.WalkLemmas.{lawful-prefix, lawful-last}
 use Rattle.sc_node_table.specs.Node.{NodeState}
 use Rattle.sc_node_table.specs.Ordering.{ordered_command}
 use Rattle.sc_node_table.specs.Replica.{ReplicaState, name_of}
 use Rattle.sc_paxos_words.proofs.ListLemmas.{Each-among}
 use Rattle.sc_players.specs.Players.{Ahead, Lawful, system_of, schedule}
 use Rattle.sc_players.specs.declared.roles.Role.TheVariants.{Node as ANode}
+use Rattle.sc_scenario.specs.declared.scenarios.Asks.{Asks}
 use Rattle.sc_scenario.specs.declared.scenarios.Scenario.{Scenario}
-use Rattle.sc_sound.specs.GroupsOf.{groups_at, entries_at}
+use Rattle.sc_sound.specs.GroupsOf.{AreApart, groups_at, entries_at}
+use Rattle.sc_sound.specs.Requests.{kept_replies}
 use Rattle.sc_sound.specs.Soundness.{HasRun, AllHaveRun}
 use Rattle.sc_ring_law.specs.Allowed.{Sources, IsAllowed}
 use Rattle.sc_ring_law.specs.Laws.{BeginInPlace}
-use Rattle.sc_journal_law.specs.Beside.{HasOneValue, CallsAreIssued, RepliesAreDecided, HoldsBeside}
+use Rattle.sc_journal_law.specs.Beside.{HasOneValue, IsIssuedIn, IsDecidedBefore, HoldsBeside}
 use Rattle.sc_journal_law.specs.Descent.{Rows, added_by}
 use Rattle.sc_journal_law.proofs.Findings.{entries_are_allowed}
-use Rattle.sc_group_law.specs.Groups.{AreApart}
 use Rattle.sc_group_law.proofs.Births.{at_start}
 use Rattle.sc_group_law.proofs.Families.{h_of}
 use Rattle.sc_group_law.proofs.Holding.{held}
@@ -40,30 +45,12 @@ use Rattle.sc_group_law.proofs.Replicated.{one_value, is_log, executed_is}
 use Rattle.sc_group_law.proofs.Stepping.{MayTell}
 use Rattle.sc_whole_law.specs.Orders.{OrdersAreAllowed}
 use Rattle.sc_whole_law.specs.Parameters.{stories_at, IsIssuedCall, MayQueue, MayHear}
-use Rattle.sc_whole_law.specs.Parties.{IsFresh, PartiesAreApart, MergesFit}
-use Rattle.sc_whole_law.specs.Players.{HasSeats, AsksAre}
+use Rattle.sc_start_law.specs.Begins.{IsFresh, HasSeats, AsksAre}
+use Rattle.sc_whole_law.specs.Parties.{PartiesAreApart, MergesFit}
 use Rattle.sc_whole_law.proofs.Distinct.{parties_are_apart}
 use Rattle.sc_whole_law.proofs.Fitting.{merges_fit}
-use Rattle.sc_whole_law.proofs.Turning.{Holds, players, issued_now, holds_next}
-
--- rows and one more, in two parts
-none_is : {X : Type 0} (y : X) (ys zs : List X) → [] ≡ ys ++ y ∷ zs → ⊥
-none_is y [] zs e = cc
-none_is y (b ∷ ys) zs e = cc
-
-heads : {X : Type 0} (a b : X) (xs ys : List X) → a ∷ xs ≡ b ∷ ys → (a ≡ b) × (xs ≡ ys)
-heads a b xs ys e = (cc, cc)
-
-last_or_before : {X : Type 0} (xs : List X) (x : X) (ys : List X) (y : X) (zs : List X) → xs ++ x ∷ [] ≡ ys ++ y ∷ zs → ((xs ≡ ys) × (x ≡ y)) ⊎ ((rest : List X) × (xs ≡ ys ++ y ∷ rest))
-last_or_before [] x [] y zs e = inl (refl, (heads x y [] zs e).0)
-last_or_before [] x (b ∷ ys) y zs e = absurd (none_is y ys zs (heads x b [] (ys ++ y ∷ zs) e).1)
-last_or_before (a ∷ xs) x [] y zs e = inr (xs, ap (λ z. z ∷ xs) (heads a y (xs ++ x ∷ []) zs e).0)
-last_or_before (a ∷ xs) x (b ∷ ys) y zs e =
-    let both = heads a b (xs ++ x ∷ []) (ys ++ y ∷ zs) e in
-    elim (last_or_before xs x ys y zs both.1) [
-      | inl (same, last) ↦ inl (ap (λ z. z ∷ xs) both.0 ∙ ap (λ l. b ∷ l) same, last)
-      | inr (rest, is) ↦ inr (rest, ap (λ z. z ∷ xs) both.0 ∙ ap (λ l. b ∷ l) is)
-    ]
+use Rattle.sc_whole_law.proofs.Replies.{decided_before, replies_are_decided}
+use Rattle.sc_whole_law.proofs.Turning.{Holds, players, issued_now, told_now, holds_next}
 
 -- what an order queues is no call
 no_call : (scenario : Scenario) (rows : Rows) (name : Draw) (number : ℕ) (order : Order) → IsIssuedCall scenario rows (ordered_command name number order)
@@ -110,59 +97,74 @@ module _ (sources : Sources) (ahead : Ahead) (words : ℕ → ℕ → ℕ × ℕ
 
     -- what holds of each first part of the journal
     abbrev P : Rows → Type 0
-    P rows = (more : Rows) → all ≡ rows ++ more → All rows × CallsAreIssued ahead scenario rows
-
-    issued_push : (rows : Rows) (row : Row Mail OrderLine) → CallsAreIssued ahead scenario rows
-        → ((b : Base) → Among b (bases rows) → (client seq : ℕ) (op : Op) → Among (Call client seq op) (added_by ahead rows row b) → IsIssuedCall scenario rows (Call client seq op)) → CallsAreIssued ahead scenario (rows ++ row ∷ [])
-    issued_push rows row old new before r later e b a client seq op c =
-        elim (last_or_before rows row before r later e) [
-          | inl (same, last) ↦ (
-              let here = subst (λ x. Among (Call client seq op) (added_by ahead before x b)) (sym last) c in
-              subst (λ x. IsIssuedCall scenario x (Call client seq op)) same
-              (new b (subst (λ x. Among b (bases x)) (sym same) a) client seq op (subst (λ x. Among (Call client seq op) (added_by ahead x row b)) (sym same) here)))
-          | inr (rest, is) ↦ old before r rest is b a client seq op c
-        ]
+    P rows = (more : Rows) → all ≡ rows ++ more → All rows
 
     keeps : (rows : Rows) (row : Row Mail OrderLine) → P rows → IsStep (system_of ahead words scenario) rows row → P (rows ++ row ∷ [])
     keeps rows row p step more e =
         let are : all ≡ rows ++ row ∷ more = e ∙ append_assoc rows (row ∷ []) more in
-        let q = p (row ∷ more) are in
-        let h = q.0 in
+        let h = p (row ∷ more) are in
         let both = parties rows h in
-        let may = may_tell all rows row more are orders h row.event refl in (
-          holds_next sources ahead words scenario route start seats asks_are rows h both.0 both.1 row may step,
-          issued_push rows row q.1 (issued_now sources ahead words scenario route start seats asks_are rows h both.0 both.1 row may step),
-        )
+        holds_next sources ahead words scenario route start seats asks_are rows h both.0 both.1 row (may_tell all rows row more are orders h row.event refl) step
 
-    none_issued : CallsAreIssued ahead scenario []
-    none_issued before r later e = absurd (none_is r before later e)
+    module _ (lawful : Lawful ahead words scenario all) where
+      first_lawful : (rows more : Rows) → all ≡ rows ++ more → Lawful ahead words scenario rows
+      first_lawful rows more e = lawful-prefix (system_of ahead words scenario) (schedule scenario) rows more (subst (Lawful ahead words scenario) e lawful)
 
-    kept_all : Lawful ahead words scenario all → All all × CallsAreIssued ahead scenario all
-    kept_all lawful = lawful-induction (system_of ahead words scenario) P keeps (schedule scenario) all (λ more e. (holds_first, none_issued)) lawful [] (sym (append-nil all))
+      holds_at : (rows more : Rows) → all ≡ rows ++ more → All rows
+      holds_at rows more e = lawful-induction (system_of ahead words scenario) P keeps (schedule scenario) rows (λ rest is. holds_first) (first_lawful rows more e) more e
 
-    -- it decides in turn, and so on
-    pub holds : Lawful ahead words scenario all → All all
-    holds lawful = (kept_all lawful).0
+      -- it decides in turn, and so on
+      pub holds : All all
+      holds = holds_at all [] (sym (append-nil all))
 
-    -- ---- beside
+      -- ---- beside, row by row
 
-    node_has_run : (h : All all) (n : ℕ) (node : NodeState) → IsNode ahead (bases all) (MayQueue sources ahead scenario all) (h_of all) n node → (r : ReplicaState) → Among r node.replicas
-        → (b : Base) × Among b (bases all) × (b.core.id ≡ name_of r) × HasRun ahead b all r
-    node_has_run h n node at r a =
-        let (b, among, named) = Each-among (λ s. IsOneOf (bases all) (name_of s)) node.replicas r at.known a in
-        let replica = held ahead b (MayQueue sources ahead scenario all b) n (h_of all b) node.replicas (at.holds b among) r a named in
-        (b, among, sym named, executed_is ahead b all (h.kept.parts b among).lawful (MayQueue sources ahead scenario all b) n r replica)
+      module _ (before : Rows) (row : Row Mail OrderLine) (later : Rows) (are : all ≡ before ++ row ∷ later) where
+        here : All before
+        here = holds_at before (row ∷ later) are
 
-    have_run : All all → AllHaveRun ahead scenario all
-    have_run h n low high node is r a =
-        let at = h.kept.nodes n low high in
-        let found : ANode at.node ≡ ANode node = sym at.value_is ∙ is in
-        let same : at.node ≡ node = cc in
-        node_has_run h n node (subst (IsNode ahead (bases all) (MayQueue sources ahead scenario all) (h_of all) n) same at.is) r a
+        step : IsStep (system_of ahead words scenario) before row
+        step =
+            let first = first_lawful (before ++ row ∷ []) later (are ∙ sym (append_assoc before (row ∷ []) later)) in
+            MayAdd-step (system_of ahead words scenario) before (place_after (system_of ahead words scenario) (schedule scenario) before).tasks row
+            (lawful-last (system_of ahead words scenario) (schedule scenario) before row first)
 
-    values : All all → (b : Base) → Among b (bases all) → HasOneValue ahead b all
-    values h b a = (let lawful = (h.kept.parts b a).lawful in record { one_value = one_value ahead b all lawful; is_log = is_log ahead b all lawful })
+        issued_here : (b : Base) → Among b (bases before) → (client seq : ℕ) (op : Op) → Among (Call client seq op) (added_by ahead before row b) → IsIssuedIn scenario before client seq op
+        issued_here =
+            let both = parties before here in
+            issued_now sources ahead words scenario route start seats asks_are before here both.0 both.1 row (may_tell all before row later are orders here row.event refl) step
 
-    -- what makes the journal sound beside its groups and entries, but for the replies
-    pub beside : Lawful ahead words scenario all → RepliesAreDecided ahead scenario all → HoldsBeside ahead scenario all
-    beside lawful replies = (let q = kept_all lawful in record { values = values q.0; have_run = have_run q.0; issued = q.1; replies = replies })
+        told_here : (asks : Asks) → Among asks scenario.clients → (place : ℕ) (reply : Reply) → slice_get (kept_replies route asks (before ++ row ∷ [])) place ≡ Some reply
+            → IsDecidedBefore ahead scenario.groups all asks.client (place + 1) reply (length before + 1)
+        told_here asks stands place reply at =
+            let both = parties before here in
+            decided_before ahead scenario route all before row later are (λ b a. (here.kept.parts b a).lawful) asks.client (place + 1) reply
+            (told_now sources ahead words scenario route start seats asks_are before here both.0 both.1 row (may_tell all before row later are orders here row.event refl) step asks stands place reply at)
+
+      -- ---- beside, at its end
+
+      node_has_run : (h : All all) (n : ℕ) (node : NodeState) → IsNode ahead (bases all) (MayQueue sources ahead scenario all) (h_of all) n node → (r : ReplicaState) → Among r node.replicas
+          → (b : Base) × Among b (bases all) × (b.core.id ≡ name_of r) × HasRun ahead b all r
+      node_has_run h n node at r a =
+          let (b, among, named) = Each-among (λ s. IsOneOf (bases all) (name_of s)) node.replicas r at.known a in
+          let replica = held ahead b (MayQueue sources ahead scenario all b) n (h_of all b) node.replicas (at.holds b among) r a named in
+          (b, among, sym named, executed_is ahead b all (h.kept.parts b among).lawful (MayQueue sources ahead scenario all b) n r replica)
+
+      have_run : All all → AllHaveRun ahead scenario all
+      have_run h n low high node is r a =
+          let at = h.kept.nodes n low high in
+          let found : ANode at.node ≡ ANode node = sym at.value_is ∙ is in
+          let same : at.node ≡ node = cc in
+          node_has_run h n node (subst (IsNode ahead (bases all) (MayQueue sources ahead scenario all) (h_of all) n) same at.is) r a
+
+      values : All all → (b : Base) → Among b (bases all) → HasOneValue ahead b all
+      values h b a = (let lawful = (h.kept.parts b a).lawful in record { one_value = one_value ahead b all lawful; is_log = is_log ahead b all lawful })
+
+      -- what makes the journal sound beside its groups and entries
+      pub beside : HoldsBeside ahead scenario all
+      beside = record {
+        values = values holds;
+        have_run = have_run holds;
+        issued = issued_here;
+        replies = replies_are_decided ahead scenario route all seats told_here;
+      }

@@ -7,8 +7,15 @@ pub mod Granting
 pub mod Apart
 pub mod Children
 pub mod Growing
+pub mod Replies
 pub mod Turning
 pub mod Distinct
+pub mod Unions
 pub mod Fitting
 pub mod Journals
 pub mod Sound
+pub mod Scheduled
+pub mod Valid
+pub mod TwoGroups
+pub mod SplitExample
+pub mod Examples

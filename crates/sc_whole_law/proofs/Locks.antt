@@ -24,10 +24,11 @@ use Rattle.sc_machine_table.specs.Finishes.{closed}
 use Rattle.sc_machine_table.specs.Group.{Group}
 use Rattle.sc_machine_table.specs.Logs.{state_after}
 use Rattle.sc_machine_table.specs.Machine.{applied}
-use Rattle.sc_machine_table.specs.Orders.{locked_in, refused_in, refusal_of, with_node, without_node}
+use Rattle.sc_machine_table.specs.Orders.{locked_in, refusal_of, with_node, without_node}
 use Rattle.sc_machine_table.specs.Votes.{has_voted, no_of, offer_no, watch_no, vote_of, watch_vote_of, past_of, bound_by}
 use Rattle.sc_paxos_law.proofs.Among.{Among-either}
 use Rattle.sc_group_law.proofs.Rosters.{ordered_if}
+use Rattle.sc_hist_law.proofs.Staying.{free_by}
 use Rattle.sc_whole_law.proofs.Coming.{EndsIt, Binds, comes}
 
 -- ---- what once came of an entry
@@ -58,14 +59,7 @@ pub always : (Q : Group → Type 0) → ((group : Group) (c : Command) → Q gro
 always Q step group [] q = q
 always Q step group (c ∷ log) q = always Q step (applied group c).0 log (step group c q)
 
--- what is ordered and not refused finds the group free
-pub free_lock : (lock : Lock) (core : Core) (c : Command) → refused_in (locked_in lock) core c ≡ None → lock ≡ Free
-free_lock Free core c e = refl
-free_lock (Coordinating tx body order got) core c e = cc
-free_lock (Promised tx offer) core c e = cc
-free_lock (Watching tx watch) core c e = cc
-
--- so does a Yes
+-- a vote of Yes finds the group free
 unlocked : (gone : Option Route) (lock : Lock) (why : Option No) → no_of gone (locked_in lock) why ≡ None → lock ≡ Free
 unlocked (Some into) lock why e = cc
 unlocked None Free why e = refl
@@ -273,8 +267,8 @@ module _ (tx : Draw) where
         joined = λ node order. ordered_if YesBinds group.core.gone _ (with_node group node) group (λ _. y) y;
         left = λ node order. ordered_if YesBinds group.core.gone _ (without_node group node) group (λ _. y) y;
         parted = λ at child order _. y;
-        split = λ at child order e n. subst (λ l. Binds l tx) (free_lock group.core.lock group.core _ e) (y n);
-        begun = λ t body order e n. subst (λ l. Binds l tx) (free_lock group.core.lock group.core _ e) (y n);
+        split = λ at child order e n. subst (λ l. Binds l tx) (free_by group.core.lock group.core _ e) (y n);
+        begun = λ t body order e n. subst (λ l. Binds l tx) (free_by group.core.lock group.core _ e) (y n);
         offered = λ t offer _. yes_of (vote_of group.core offer) (Promised t offer) group.core.lock group.core.voted t (unlocked group.core.gone group.core.lock (offer_no group.core offer)) refl y;
         asked = λ t w _. yes_of (watch_vote_of group.core w) (Watching t w) group.core.lock group.core.voted t (unlocked group.core.gone group.core.lock (watch_no group.core w)) refl y;
         heard = λ t order got lock frozen by n. subst (λ l. Binds l tx) lock (y n);

@@ -15,15 +15,15 @@ lawful_journals_decide_in_turn sources ahead words scenario route b rows orders 
     (holds sources ahead words scenario route b.place b.seats b.asks b.apart b.fresh rows orders lawful).turn
 
 pub lawful_journals_hold_beside : LawfulJournalsHoldBeside
-lawful_journals_hold_beside sources ahead words scenario route b rows orders lawful replies =
-    beside sources ahead words scenario route b.place b.seats b.asks b.apart b.fresh rows orders lawful replies
+lawful_journals_hold_beside sources ahead words scenario route b rows orders lawful =
+    beside sources ahead words scenario route b.place b.seats b.asks b.apart b.fresh rows orders lawful
 
 -- what is asked of a journal's orders is asked of those of its first part
 fewer_orders : (sources : Sources) (ahead : Ahead) (scenario : Scenario) (rows more : Rows) → OrdersAreAllowed sources ahead scenario (rows ++ more) → OrdersAreAllowed sources ahead scenario rows
 fewer_orders sources ahead scenario rows more orders before row later e = orders before row (later ++ more) (ap (λ xs. xs ++ more) e ∙ append_assoc before (row ∷ later) more)
 
 pub lawful_journals_are_sound : JournalsInTurnAreSound → LawfulJournalsAreSound
-lawful_journals_are_sound law sources ahead words scenario route b bare rows more orders lawful replies =
+lawful_journals_are_sound law sources ahead words scenario route b bare rows more orders lawful =
     let first = lawful-prefix (system_of ahead words scenario) (schedule scenario) rows more lawful in
     law sources ahead scenario b.place bare rows more (lawful_journals_decide_in_turn sources ahead words scenario route b (rows ++ more) orders lawful)
-    (lawful_journals_hold_beside sources ahead words scenario route b rows (fewer_orders sources ahead scenario rows more orders) first replies)
+    (lawful_journals_hold_beside sources ahead words scenario route b rows (fewer_orders sources ahead scenario rows more orders) first)

@@ -1,6 +1,7 @@
 -- What a group that has executed a front of its log says to the parties of transactions is true, by what all logs told.
 use Rattle.std.proofs.Common.{◌≡◌, ℕ, true, cond, nat_le, List, [], ◌∷◌, ◌++◌, length, Option, Some, None, refl, sym, ◌∙◌, ap, subst}
 use Rattle.std.proofs.lemmas.Bool.{le-leb, cond-true, cond_both}
+use Rattle.std.proofs.lemmas.Option.{same_Some}
 use Rattle.sc_base.specs.Same.{same_draw}
 use Rattle.sc_base.specs.declared.names.Draw.{Draw}
 use Rattle.sc_cmd.specs.declared.bodies.Body.{Body}
@@ -81,9 +82,6 @@ module _ (sources : Sources) (stories : Stories) (fit : MergesFit stories) (name
     pub merges : (tx : Draw) (body : Body) (order : ℕ) (heard : Heard) → group.core.lock ≡ Coordinating tx body order (Some heard) → body ≡ By.Merge
     pub splits : (tx : Draw) (at : ℕ) (child : Draw) (order : ℕ) (got : Option Heard) → group.core.lock ≡ Coordinating tx (By.Split at child) order got → can_split group.core at ≡ true
 
-  same_story : (a b : Story) → Some a ≡ Some b → a ≡ b
-  same_story a b e = cc
-
   module _ (al : (group : Group) → GroupAllows sources name group) where
     -- what a coordinator asks
     pub said_question : (group : Group) → Stands group → (me : ℕ) (tx : Draw) (body : Body) (order : ℕ) (got : Option Heard) → group.core.lock ≡ Coordinating tx body order got → IsSaid (IsHeard sources stories) (question me group.core tx body got)
@@ -92,7 +90,7 @@ module _ (sources : Sources) (stories : Stories) (fit : MergesFit stories) (name
         let offer = offer_of me group.core By.Merge in
         let o = s.allows group.core.succ.group (Prepared tx offer) ((al group).offers tx By.Merge order (Some heard) lock offer refl) in
         let v = s.allows name (RecordVote tx (Vows.Yes heard.frozen) 0) (stands_heard sources name group tx By.Merge order heard lock name 0) in
-        let one = same_story v.0 o.0 (sym v.1 ∙ o.1) in
+        let one = same_Some v.0 o.0 (sym v.1 ∙ o.1) in
         let nine = fit tx o.0 o.1 (unsigned offer) o.2 refl heard.frozen (ap (λ (y : Story). y.vote) (sym one) ∙ v.2) in
         let link : both_link group.core heard.frozen ≡ merged_link group.core heard.frozen = cond-true (nat_le (length (united group.core.members heard.frozen.members)) 9) _ _ (le-leb _ 9 nine) in
         s.allows heard.frozen.succ.group (Watched tx (union_watch me group.core heard))

@@ -1,8 +1,10 @@
 -- Each row of a lawful journal decides in turn, whatever its groups order; and what holds of the journal holds with one more row.
-use Rattle.std.proofs.Common.{◌≡◌, ℕ, zero, suc, ◌+◌, List, [], ◌∷◌, ◌++◌, length, drop, Some, ◌⊎◌, inl, inr, refl, sym, ◌∙◌, ap, subst, option_to_list}
+use Rattle.std.proofs.Common.{◌≡◌, ℕ, zero, suc, ◌+◌, List, [], ◌∷◌, ◌++◌, length, drop, Some, inl, inr, refl, sym, ◌∙◌, ap, subst, option_to_list}
+use Rattle.std.specs.Prelude.{slice_get}
 use Rattle.sc_base.specs.Among.{Among, Each}
 use Rattle.sc_base.specs.declared.names.Draw.{Draw}
 use Rattle.sc_base.specs.declared.ops.Op.{Op}
+use Rattle.sc_base.specs.declared.ops.Reply.{Reply}
 use Rattle.sc_cmd.specs.declared.commands.Command.{Command}
 use Rattle.sc_cmd.specs.declared.commands.Command.TheVariants.{Noop, Call, Join, Leave, Split, Begin, Prepared, RecordVote, GiveUp, Finish, Watched, RecordWatch}
 use Rattle.sc_cmd.specs.declared.cores.Base.{Base}
@@ -20,12 +22,13 @@ use Rattle.sc_entries.specs.Births.{birth_of}
 use Rattle.sc_entries.specs.Worlds.{StoreWorld, named_group}
 use Rattle.sc_entries.proofs.Children.{births_are_children}
 use Rattle.sc_paxos_words.proofs.ListLemmas.{Each-among, Each-weaker}
-use Rattle.sc_paxos_law.proofs.Among.{Among-left, Among-right}
+use Rattle.sc_paxos_law.proofs.Among.{Among-left, Among-right, get_pushed}
+use Rattle.sc_scenario.specs.declared.scenarios.Asks.{Asks}
 use Rattle.sc_scenario.specs.declared.scenarios.Scenario.{Scenario}
-use Rattle.sc_players.specs.Players.{Ahead, system_of}
+use Rattle.sc_players.specs.Players.{Ahead, system_of, replies_of}
 use Rattle.sc_sound.specs.GroupsOf.{children_of, groups_at, birth_at, entries_at, world_at}
 use Rattle.sc_sound.specs.Logs.{decided_log, decided_state}
-use Rattle.sc_sound.specs.Requests.{issues}
+use Rattle.sc_sound.specs.Requests.{issues, kept_replies}
 use Rattle.sc_ring_law.specs.Allowed.{Sources, IsAllowed, first_told, told_after}
 use Rattle.sc_ring_law.specs.Laws.{BeginInPlace}
 use Rattle.sc_ring_law.proofs.Rows.{some_none}
@@ -43,15 +46,15 @@ use Rattle.sc_journal_law.proofs.Histories.{told_rows_stay}
 use Rattle.sc_journal_law.proofs.Parts.{rows_go_on}
 use Rattle.sc_journal_law.proofs.Told.{state_there}
 use Rattle.sc_group_law.proofs.Births.{first_of}
-use Rattle.sc_group_law.proofs.Clients.{IsIssued}
-use Rattle.sc_group_law.proofs.Families.{Kept, Stepped, IsLater, Moved, stepped, push, log_goes_on, decided_made}
+use Rattle.sc_group_law.proofs.Clients.{IsIssued, IsAnswered}
+use Rattle.sc_group_law.proofs.Families.{h_of, Kept, Stepped, IsLater, Moved, stepped, push, log_goes_on, decided_made}
 use Rattle.sc_group_law.proofs.Places.{or_now, issue-push, split_at}
 use Rattle.sc_group_law.proofs.Replies.{front_is}
 use Rattle.sc_group_law.proofs.Stepping.{HasPlayers, MayTell, KnowsOffspring, moved}
 use Rattle.sc_whole_law.specs.Parameters.{stories_at, IsIssuedCall, MayQueue, MayHear}
-use Rattle.sc_whole_law.specs.Parties.{IsFresh, PartiesAreApart, MergesFit}
-use Rattle.sc_whole_law.specs.Players.{HasSeats, AsksAre}
-use Rattle.sc_whole_law.proofs.Apart.{IsNew, named_apart, silent}
+use Rattle.sc_start_law.specs.Begins.{IsFresh, HasSeats, AsksAre}
+use Rattle.sc_whole_law.specs.Parties.{PartiesAreApart, MergesFit}
+use Rattle.sc_whole_law.proofs.Apart.{IsNew, IsOldOrNew, named_apart, silent}
 use Rattle.sc_whole_law.proofs.Children.{fresh_children}
 use Rattle.sc_whole_law.proofs.Granting.{speaks}
 use Rattle.sc_whole_law.proofs.Growing.{grown}
@@ -231,13 +234,30 @@ module _ (sources : Sources) (ahead : Ahead) (words : ℕ → ℕ → ℕ × ℕ
           (Each-weaker (made rows b) (IsIssuedCall scenario rows) (λ d m. m.1) (decided_log ahead b next) all) in
           Each-among (IsIssuedCall scenario rows) (added_by ahead rows row b) (Call client seq op) each c
 
+      -- each reply that a client keeps after it was told by the logs before it
+      pub told_now : (asks : Asks) → Among asks scenario.clients → (place : ℕ) (reply : Reply) → slice_get (kept_replies route asks (rows ++ row ∷ [])) place ≡ Some reply
+          → IsAnswered ahead (bases rows) (h_of rows) asks.client (place + 1) reply
+      told_now asks stands place reply at =
+          let old = kept_replies route asks rows in
+          let next = rows ++ row ∷ [] in
+          let was = h.kept.clients asks stands in
+          let had = λ (e : slice_get old place ≡ Some reply). was.is.replies place reply (subst (λ (rs : List Reply). slice_get rs place ≡ Some reply) (ap replies_of was.value_is) e) in
+          elim (moves.clients asks stands).grew [
+            | inl same ↦ had (subst (λ (rs : List Reply). slice_get rs place ≡ Some reply) same at)
+            | inr (newest, grew, answered) ↦ elim (get_pushed old newest place reply (subst (λ (rs : List Reply). slice_get rs place ≡ Some reply) grew at)) [
+              | inl e ↦ had e
+              | inr (end, same) ↦ subst (λ n. IsAnswered ahead (bases rows) (h_of rows) asks.client (n + 1) reply) (sym end)
+                  (subst (IsAnswered ahead (bases rows) (h_of rows) asks.client (length old + 1)) same answered)
+            ]
+          ]
+
       after : Kept ahead scenario scenario.groups (bases rows) route made heard (rows ++ row ∷ [])
       after = push ahead scenario scenario.groups (bases rows) route made heard rows row (later row steps) h.kept moves
 
       is_new : (b : Base) → IsNewborn ahead scenario.groups rows row b → IsNew (bases rows) b.core.id
       is_new b n other o same = some_none other (sym (found.known other o).birth ∙ ap (birth_at ahead scenario.groups rows) same ∙ n.unborn)
 
-      old_or_new : (b : Base) → Among b (bases (rows ++ row ∷ [])) → Among b (bases rows) ⊎ (IsNew (bases rows) b.core.id × ((parent : Base) × Among parent (bases rows)))
+      old_or_new : (b : Base) → Among b (bases (rows ++ row ∷ [])) → IsOldOrNew (bases rows) b
       old_or_new b a = elim (groups_are_old_or_new sources ahead scenario.groups start rows h.turn row decides b a) [ inl was ↦ inl was | inr n ↦ inr (is_new b n, (n.parent, n.stands)) ]
 
       fresh_next : (b : Base) → Among b (bases (rows ++ row ∷ [])) → IsFresh b

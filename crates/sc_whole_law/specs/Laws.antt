@@ -10,11 +10,11 @@ use Rattle.sc_scenario.specs.declared.scenarios.Scenario.{Scenario}
 use Rattle.sc_hist_law.specs.Worlds.{BeginBare}
 use Rattle.sc_ring_law.specs.Allowed.{Sources}
 use Rattle.sc_sound.specs.Soundness.{IsSound}
-use Rattle.sc_journal_law.specs.Beside.{RepliesAreDecided, HoldsBeside}
+use Rattle.sc_journal_law.specs.Beside.{HoldsBeside}
 use Rattle.sc_journal_law.specs.Descent.{Rows}
 use Rattle.sc_journal_law.specs.InTurn.{DecideInTurn}
 use Rattle.sc_whole_law.specs.Orders.{OrdersAreAllowed}
-use Rattle.sc_whole_law.specs.Players.{BeginsWell}
+use Rattle.sc_start_law.specs.Begins.{BeginsWell}
 
 -- the members of a group stay one to nine nodes, ascending
 abbrev pub MembersStayRosters : Type 0
@@ -25,12 +25,12 @@ abbrev pub LawfulJournalsDecideInTurn : Type 0
 LawfulJournalsDecideInTurn = (sources : Sources) (ahead : Ahead) (words : ℕ → ℕ → ℕ × ℕ) (scenario : Scenario) (route : Route) → BeginsWell sources ahead scenario route
     → (rows : Rows) → OrdersAreAllowed sources ahead scenario rows → Lawful ahead words scenario rows → DecideInTurn sources ahead scenario.groups [] rows
 
--- one value per slot, executed fronts and issued calls hold beside, where each reply was decided
+-- one value per slot, executed fronts, issued calls and decided replies hold beside
 abbrev pub LawfulJournalsHoldBeside : Type 0
 LawfulJournalsHoldBeside = (sources : Sources) (ahead : Ahead) (words : ℕ → ℕ → ℕ × ℕ) (scenario : Scenario) (route : Route) → BeginsWell sources ahead scenario route
-    → (rows : Rows) → OrdersAreAllowed sources ahead scenario rows → Lawful ahead words scenario rows → RepliesAreDecided ahead scenario rows → HoldsBeside ahead scenario rows
+    → (rows : Rows) → OrdersAreAllowed sources ahead scenario rows → Lawful ahead words scenario rows → HoldsBeside ahead scenario rows
 
--- so each first part is sound, where the replies in it were decided
+-- so each first part is sound
 abbrev pub LawfulJournalsAreSound : Type 0
 LawfulJournalsAreSound = (sources : Sources) (ahead : Ahead) (words : ℕ → ℕ → ℕ × ℕ) (scenario : Scenario) (route : Route) → BeginsWell sources ahead scenario route → BeginBare scenario.groups
-    → (rows more : Rows) → OrdersAreAllowed sources ahead scenario (rows ++ more) → Lawful ahead words scenario (rows ++ more) → RepliesAreDecided ahead scenario rows → IsSound ahead scenario rows more
+    → (rows more : Rows) → OrdersAreAllowed sources ahead scenario (rows ++ more) → Lawful ahead words scenario (rows ++ more) → IsSound ahead scenario rows more

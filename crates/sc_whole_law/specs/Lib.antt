@@ -1,5 +1,8 @@
 pub mod Parameters
 pub mod Parties
-pub mod Players
 pub mod Orders
 pub mod Laws
+pub mod Valid
+pub mod Texts
+pub mod TwoGroups
+pub mod SplitExample

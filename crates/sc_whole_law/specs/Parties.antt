@@ -1,23 +1,13 @@
--- What groups are at their birth, and what stories say of the parties of one transaction, beside what each of them has promised.
-use Rattle.std.specs.Prelude.{◌≡◌, ◌≤◌, [], length, Some}
+-- What stories say of the parties of one transaction, beside what each of them has promised.
+use Rattle.std.specs.Prelude.{◌≡◌, ◌≤◌, length, Some}
 use Rattle.sc_base.specs.declared.names.Draw.{Draw}
 use Rattle.sc_cmd.specs.declared.bodies.Body.TheVariants.{Merge}
 use Rattle.sc_cmd.specs.declared.bodies.Offer.{Offer}
 use Rattle.sc_cmd.specs.declared.bodies.Watch.{Watch}
-use Rattle.sc_cmd.specs.declared.cores.Base.{Base}
-use Rattle.sc_cmd.specs.declared.cores.Lock.TheVariants.{Free}
 use Rattle.sc_cmd.specs.declared.votes.Frozen.{Frozen}
 use Rattle.sc_cmd.specs.declared.votes.Vote.TheVariants.{Yes}
-use Rattle.sc_member.specs.Roster.{IsRoster}
 use Rattle.sc_member.specs.Union.{united}
 use Rattle.sc_ring_law.specs.Stories.{Story, Stories}
-
--- a group at its birth is bound in nothing, and has voted and decided nothing
-pub record IsFresh (base : Base) : Type 0 where
-  pub free : base.core.lock ≡ Free
-  pub unvoted : base.core.voted ≡ []
-  pub decided : base.core.decided ≡ []
-  pub roster : IsRoster base.core.members
 
 -- the participant is not the watcher
 abbrev pub PartiesAreApart : Stories → Type 0

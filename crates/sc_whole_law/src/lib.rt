@@ -3,14 +3,40 @@
 //! turn. Definitions and laws, no logic.
 #![tactic(auto)]
 
+ghost use Rattle.std.specs.Prelude.{◌≡◌, [], ◌∷◌, Some};
+ghost use Rattle.sc_actor.specs.System.{no_words};
+ghost use Rattle.sc_players.specs.Players.{Lawful};
+ghost use Rattle.sc_scenario.specs.Grammar.{scenario_of};
+ghost use Rattle.sc_sound.specs.Example.{four};
+ghost use Rattle.sc_sound.specs.GroupsOf.{groups_at, ring_at};
+ghost use Rattle.sc_sound.specs.Logs.{decided_log};
+ghost use Rattle.sc_sound.specs.Soundness.{IsSound};
+ghost use Rattle.sc_group_law.specs.Example.{election_example, election_scenario};
+ghost use Rattle.sc_group_law.specs.JoinExample.{join_example, join_scenario};
 ghost use Rattle.sc_whole_law.specs.Laws.{
   LawfulJournalsAreSound,
   LawfulJournalsDecideInTurn,
   LawfulJournalsHoldBeside,
   MembersStayRosters,
 };
+ghost use Rattle.sc_whole_law.specs.SplitExample.{
+  call,
+  kid,
+  pair,
+  parts,
+  split,
+  split_example,
+  split_scenario,
+};
+ghost use Rattle.sc_whole_law.specs.Texts.{election_text, join_text, split_text, two_text};
+ghost use Rattle.sc_whole_law.specs.TwoGroups.{lower, put, two_example, two_scenario, upper};
+ghost use Rattle.sc_whole_law.specs.Valid.{ValidJournalsAreSound};
 
+use sc_draws_law::{names_have_one_owner, orders_are_allowed};
+use sc_group_law::{a_journal_with_a_join, a_journal_with_an_election};
 use sc_journal_law::journals_in_turn_are_sound;
+use sc_scenario::texts_are_early;
+use sc_start_law::valid_scenarios_begin_well;
 
 /// The members of a group are one to nine nodes, ascending, after every log, whatever stands in it.
 pub fn members_stay_rosters()
@@ -26,15 +52,78 @@ pub fn lawful_journals_decide_in_turn()
 {}
 
 /// Each group of such a journal has one value per slot, each replica has executed a front of its
-/// group's log, and each call was issued before the row that decides it.
+/// group's log, each call was issued before the row that decides it, and each reply that a client
+/// keeps was decided before the row in which the client takes it.
 pub fn lawful_journals_hold_beside()
     ensures { LawfulJournalsHoldBeside }
 {}
 
-/// So each first part of a lawful journal is sound, whatever its groups order, where the replies in it
-/// were decided before the rows that take them.
+/// So each first part of a lawful journal is sound, whatever its groups order.
 pub fn lawful_journals_are_sound()
     ensures { LawfulJournalsAreSound }
 {
     journals_in_turn_are_sound();
+}
+
+/// Each first part of a lawful journal of a valid scenario is sound, whatever its orders join, leave,
+/// split, merge or move, whatever is lost, repeated, late or crashed, and with no majority alive.
+/// Each group has one log, which only grows (Paxos Made Simple, sections 2.2 and 3); each replica of
+/// each node has executed a front of its group's log; the ring covers, and the group of each cut is
+/// placed in it and holds its part of the map; the history is legal (Herlihy and Wing, 1990), with
+/// the replies that clients keep; and each entry is decided after its issue and before its answer,
+/// whichever group decides it.
+pub fn valid_journals_are_sound()
+    ensures { ValidJournalsAreSound }
+{
+    texts_are_early();
+    valid_scenarios_begin_well();
+    orders_are_allowed();
+    names_have_one_owner();
+    lawful_journals_are_sound();
+}
+
+/// The law is about something: a journal of a text's scenario in which a request is decided and
+/// another node is elected.
+pub fn an_election_is_sound()
+    ensures text { scenario_of election_text ≡ Some election_scenario }
+    ensures sound { IsSound four election_scenario election_example [] }
+{
+    a_journal_with_an_election();
+    valid_journals_are_sound();
+}
+
+/// The law is about groups that change: a journal of a text's scenario in which the one member of a
+/// group decides that another node joins, and sends it the state.
+pub fn a_join_is_sound()
+    ensures text { scenario_of join_text ≡ Some join_scenario }
+    ensures sound { IsSound four join_scenario join_example [] }
+{
+    a_journal_with_a_join();
+    valid_journals_are_sound();
+}
+
+/// The law is about several groups: a journal of two of them on one node, in which a client asks the
+/// first and is sent on to the second, and the node's tick goes through both.
+pub fn a_journal_of_two_groups()
+    ensures text { scenario_of two_text ≡ Some two_scenario }
+    ensures lawful { Lawful four no_words two_scenario two_example }
+    ensures sound { IsSound four two_scenario two_example [] }
+    ensures first { decided_log four lower two_example ≡ [] }
+    ensures second { decided_log four upper two_example ≡ put ∷ [] }
+{
+    valid_journals_are_sound();
+}
+
+/// The law is about groups that are born: a journal of two nodes in which a lone group splits, the
+/// second node makes the child, and the child decides a request that its parent sends on.
+pub fn a_journal_with_a_split()
+    ensures text { scenario_of split_text ≡ Some split_scenario }
+    ensures lawful { Lawful four no_words split_scenario split_example }
+    ensures sound { IsSound four split_scenario split_example [] }
+    ensures groups { groups_at four (pair ∷ []) split_example ≡ pair ∷ kid ∷ [] }
+    ensures log { decided_log four pair split_example ≡ split ∷ [] }
+    ensures kid_log { decided_log four kid split_example ≡ call ∷ [] }
+    ensures ring { ring_at four (pair ∷ []) split_example ≡ parts }
+{
+    valid_journals_are_sound();
 }

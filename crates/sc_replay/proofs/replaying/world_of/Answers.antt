@@ -21,7 +21,7 @@ returns-in_ok-parties-in-Some c =
     let here : Leaves s lines c.args.rows.now c.in-Some.left = subst (λ rows. Leaves s lines rows c.in-Some.left) c.as_slice.ensures leaves in
     record {
       lawful = here.replayed.lawful;
-      sound = c.valid_journals_are_sound.ensures as_nodes no_words c.args.scenario.now c.requires.valid c.args.rows.now here.replayed.lawful;
+      sound = c.valid_journals_are_sound.ensures as_nodes refl no_words c.args.scenario.now c.requires.valid c.args.rows.now here.replayed.lawful;
       scenario_is = refl;
       rows_are = refl;
     }

@@ -1,4 +1,0 @@
-pub mod LoneSplit
-pub mod Once
-pub mod Laws
-pub mod SplitExample

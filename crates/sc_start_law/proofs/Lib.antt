@@ -1,0 +1,4 @@
+pub mod Requests
+pub mod Round
+pub mod Starts
+pub mod Valid

@@ -1,0 +1,62 @@
+-- What a journal begins with: its groups, to which nothing has happened, its players and what they ask.
+use Rattle.std.specs.Prelude.{◌≡◌, ◌==◌, ℕ, ◌-◌, ◌≤◌, List, [], ◌∷◌, ◌++◌, map, find, Option, None, Some, slice_get, option_and_then}
+use Rattle.sc_base.specs.Among.{Among, Each}
+use Rattle.sc_base.specs.Limits.{most_nodes}
+use Rattle.sc_base.specs.declared.ops.Op.{Op}
+use Rattle.sc_base.specs.declared.ops.Op.TheVariants.{Get}
+use Rattle.sc_cmd.specs.declared.cores.Base.{Base}
+use Rattle.sc_cmd.specs.declared.cores.Lock.TheVariants.{Free}
+use Rattle.sc_cmd.specs.declared.links.Route.{Route}
+use Rattle.sc_member.specs.Roster.{IsRoster}
+use Rattle.sc_node_table.specs.Slots.{numbers_from, slots_ahead}
+use Rattle.sc_players.specs.Players.{Ahead, node_seat, client_seat, births, route_of}
+use Rattle.sc_scenario.specs.declared.scenarios.Asks.{Asks}
+use Rattle.sc_scenario.specs.declared.scenarios.Scenario.{Scenario}
+use Rattle.sc_hist_law.specs.Worlds.{BeginBare}
+use Rattle.sc_ring_law.specs.Allowed.{Sources}
+use Rattle.sc_ring_law.specs.Laws.{BeginInPlace}
+use Rattle.sc_sound.specs.GroupsOf.{AreApart}
+
+-- a group at its birth is bound in nothing, and has voted and decided nothing
+pub record IsFresh (base : Base) : Type 0 where
+  pub free : base.core.lock ≡ Free
+  pub unvoted : base.core.voted ≡ []
+  pub decided : base.core.decided ≡ []
+  pub roster : IsRoster base.core.members
+
+-- the nodes are numbered up to the most, and the clients from one, each once; as many slots are open as children have
+pub record HasSeats (ahead : Ahead) (scenario : Scenario) (route : Route) : Type 0 where
+  pub seats : births ahead scenario ≡ map (node_seat ahead scenario.groups) (numbers_from 1 scenario.nodes) ++ map (client_seat route) scenario.clients
+  pub nodes : scenario.nodes ≤ most_nodes
+  pub numbered : Each (λ asks. 1 ≤ asks.client) scenario.clients
+  pub once : (one other : Asks) → Among one scenario.clients → Among other scenario.clients → one.client ≡ other.client → one ≡ other
+  pub open_slots : ahead.slots ≡ slots_ahead
+
+-- the operation that was found, if any was
+abbrev pub op_or_get : Option Op → Op
+op_or_get None = Get []
+op_or_get (Some op) = op
+
+-- what the section of a client says by a number
+abbrev pub request_of : Scenario → ℕ → ℕ → Op
+request_of scenario client seq = op_or_get (option_and_then (λ asks. slice_get asks.ops (seq - 1)) (find (λ asks. asks.client == client) scenario.clients))
+
+-- what clients ask by each number is what their sections of the scenario say
+abbrev pub AsksAre : Sources → Scenario → Type 0
+AsksAre sources scenario = (asks : Asks) → Among asks scenario.clients → (seq : ℕ) (op : Op) → 1 ≤ seq → slice_get asks.ops (seq - 1) ≡ Some op → op ≡ sources.request asks.client seq
+
+-- a scenario's groups stand in place under names of their own, and nothing has happened to them; its players are seated
+pub record BeginsWell (sources : Sources) (ahead : Ahead) (scenario : Scenario) (route : Route) : Type 0 where
+  pub place : BeginInPlace sources scenario.groups
+  pub apart : AreApart scenario.groups
+  pub fresh : (base : Base) → Among base scenario.groups → IsFresh base
+  pub seats : HasSeats ahead scenario route
+  pub asks : AsksAre sources scenario
+
+-- it begins so with a group at least, its groups hold nothing, and its clients ask the first of them
+pub record IsReady (sources : Sources) (ahead : Ahead) (scenario : Scenario) : Type 0 where
+  pub first : Base
+  pub others : List Base
+  pub groups : scenario.groups ≡ first ∷ others
+  pub well : BeginsWell sources ahead scenario (route_of first)
+  pub bare : BeginBare scenario.groups

@@ -1,0 +1,10 @@
+use Rattle.sc_group_law.specs.Example.{election_scenario, election_example}
+use Rattle.sc_whole_law.specs.Texts.{election_text}
+use Rattle.sc_whole_law.proofs.Examples.{text_sound, election_is_read}
+use Rattle.sc_whole_law.proofs.an_election_is_sound.Goals as goal
+
+pub returns-clause-text : goal.returns-clause-text
+returns-clause-text c = election_is_read
+
+pub returns-clause-sound : goal.returns-clause-sound
+returns-clause-sound c = text_sound c.valid_journals_are_sound.ensures election_text election_scenario election_is_read election_example c.a_journal_with_an_election.ensures.lawful

@@ -1,0 +1,84 @@
+-- A journal of two groups on one node: a client asks the first, is sent on to the second, and the node ticks, at which each replica has its part.
+use Rattle.std.specs.Prelude.{ℕ, false, List, [], ◌∷◌, None}
+use Rattle.sc_base.specs.declared.names.Draw.{Draw}
+use Rattle.sc_cmd.specs.declared.commands.Command.{Command}
+use Rattle.sc_cmd.specs.declared.commands.Command.TheVariants.{Call}
+use Rattle.sc_cmd.specs.declared.cores.Base.{Base}
+use Rattle.sc_cmd.specs.declared.cores.Lock.TheVariants.{Free}
+use Rattle.sc_cmd.specs.declared.links.Link.{Link}
+use Rattle.sc_cmd.specs.declared.orders.OrderLine.{OrderLine}
+use Rattle.sc_mail.specs.declared.bodies.AnswerBody.TheVariants.{NotMine}
+use Rattle.sc_mail.specs.declared.bodies.Mail.{Mail}
+use Rattle.sc_mail.specs.declared.bodies.MailBody.TheVariants.{Request, Answer, Accept, Accepted}
+use Rattle.sc_actor.specs.declared.rows.Row.{Row}
+use Rattle.sc_actor.specs.declared.rows.Event.TheVariants.{Deliver, Tick, Go}
+use Rattle.sc_scenario.specs.declared.scenarios.SchedLine.TheVariants as line
+use Rattle.sc_scenario.specs.declared.scenarios.Scenario.{Scenario}
+use Rattle.sc_sound.specs.Example.{ballot, put_it, mail, row}
+
+-- the names of the groups
+abbrev pub one : Draw
+one = record { node = 0; count = 1 }
+
+abbrev pub two : Draw
+two = record { node = 0; count = 2 }
+
+-- the way to a group whose one member is node 1
+abbrev pub link : Draw → Link
+link name = record { group = name; members = 1 ∷ [] }
+
+-- a group with this arc and the other for a neighbour on both sides
+abbrev pub half : Draw → Draw → ℕ → ℕ → Base
+half name other lo len = record {
+  core = record {
+    id = name;
+    first = 1;
+    arc = record { lo = lo; len = len };
+    members = 1 ∷ [];
+    succ = link other;
+    pred = link other;
+    lock = Free;
+    begun = 0;
+    decided = [];
+    voted = [];
+    born = [];
+    gone = None;
+  };
+  pairs = [];
+  clients = [];
+}
+
+-- the positions below those of keys that begin with a lower letter
+abbrev pub lower : Base
+lower = half one two 0 1610612736
+
+-- and the others
+abbrev pub upper : Base
+upper = half two one 1610612736 2684354560
+
+-- one client puts a value at a key of the second group
+abbrev pub two_scenario : Scenario
+two_scenario = record {
+  nodes = 1;
+  groups = lower ∷ upper ∷ [];
+  policy = false;
+  clients = record { client = 1; ops = put_it ∷ [] } ∷ [];
+  lines = line.Go 1 ∷ line.Settle 3 ∷ line.Tick 1 ∷ line.Settle 100 ∷ [];
+  brief = false;
+  version = 1;
+}
+
+-- the one request, as a command
+abbrev pub put : Command
+put = Call 1 1 put_it
+
+-- the first group does not hold the key; the second offers it, once more at the tick, and accepts it
+abbrev pub two_example : List (Row Mail OrderLine)
+two_example =
+    row 33 Go (mail 33 1 (Request one 1 1 put_it))
+    ∷ row 1 (Deliver 1) (mail 1 33 (Answer one 1 (NotMine (record { lo = 0; len = 1610612736 }) (link two))))
+    ∷ row 33 (Deliver 2) (mail 33 1 (Request two 1 1 put_it))
+    ∷ row 1 (Deliver 3) (mail 1 1 (Accept two ballot 1 put))
+    ∷ row 1 Tick (mail 1 1 (Accept two ballot 1 put))
+    ∷ row 1 (Deliver 4) (mail 1 1 (Accepted two ballot 1))
+    ∷ row 1 (Deliver 5) (mail 1 1 (Accepted two ballot 1)) ∷ []
