@@ -19,6 +19,9 @@ use sc_map_law::allowed_entries_make_one_map;
 use sc_paxos_law::{
     a_lawful_history, acceptors_are_lawful, leaders_are_lawful, one_log, one_value_per_slot,
 };
+use sc_refusal_law::{
+    refusals_have_causes, running_replicas_take_requests, strangers_name_no_leader,
+};
 use sc_ring_law::{
     allowed_entries_stay_allowed, allowed_lists_append, draws_are_of_one_log,
     entries_keep_the_promises, entries_keep_the_ring, merge_is_allowed, split_is_allowed,
@@ -118,4 +121,11 @@ fn the_journals_of_texts_are_called() {
     a_join_is_sound();
     a_journal_of_two_groups();
     a_journal_with_a_split();
+}
+
+#[test]
+fn the_laws_of_refusals_are_called() {
+    refusals_have_causes();
+    running_replicas_take_requests();
+    strangers_name_no_leader();
 }

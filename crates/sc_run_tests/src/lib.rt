@@ -18,3 +18,5 @@ mod thread_tests;
 mod tick_tests;
 #[cfg(test)]
 mod told_tests;
+#[cfg(test)]
+mod transaction_tests;

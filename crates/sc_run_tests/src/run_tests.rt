@@ -309,10 +309,11 @@ const JOIN_LEAVE_REFUSALS_REPORT: &[u8] =
         order 3 refused 6 not-member\norder 4 refused 7 last-member\nring 0 group 0.1 members 1\n\
         rows 4\nmail 4\ndelivered 0\nskipped 0\nquiet yes\n";
 
-// An input whose run keeps a journal, its status and its report.
-type TableRow = (&'static [u8], u8, &'static [u8]);
+/// An input whose run keeps a journal, its status and its report.
+pub type TableRow = (&'static [u8], u8, &'static [u8]);
 
-fn check_row<R: Abort + Threads + Wait + Sync>(rt: &R, alloc: Global, row: TableRow) {
+/// A row of a table is so.
+pub fn check_row<R: Abort + Threads + Wait + Sync>(rt: &R, alloc: Global, row: TableRow) {
     let (input, status, report) = row;
     check(rt, alloc, ("run", input, 0, 0), (status, true, report));
 }

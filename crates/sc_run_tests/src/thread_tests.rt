@@ -13,8 +13,8 @@ use std::sync::atomic::{AtomicU64, Ordering};
 use std::thread;
 use std::thread::Threads;
 
-// A text around a line of deliveries, and how the report begins with any number of workers.
-type Case = (&'static [u8], &'static [u8], &'static [u8]);
+/// A text around a line of deliveries, and how the report begins with any number of workers.
+pub type Case = (&'static [u8], &'static [u8], &'static [u8]);
 
 const PUT_REPLY: &[u8] = b"scatter report 1\nreply 1 1 put none\nring ";
 
@@ -129,8 +129,8 @@ pub fn runs_so<R: Abort + Threads + Wait + Sync>(
 
 const WORKERS: &[&[u8]] = &[b"1", b"2", b"4", b"8", b"16"];
 
-// Whether the replies of a case are the same with any number of workers.
-fn is_same<R: Abort + Threads + Wait + Sync>(rt: &R, alloc: Global, case: Case) -> bool {
+/// Whether the replies of a case are the same with any number of workers.
+pub fn is_same<R: Abort + Threads + Wait + Sync>(rt: &R, alloc: Global, case: Case) -> bool {
     for workers in WORKERS {
         let input = input_of(rt, alloc, case, workers);
         if !runs_so(rt, alloc, &input, case.2) {

@@ -43,25 +43,7 @@ pub const REFUSED: &[Refused] = &[
     (b"scatter 1\nnodes 2\ngroup 0 1\npolicy\n", 0, 4, 3),
     (b"scatter 1\nnodes 2\ngroup 0 1\nstorm 1 1\n", 0, 4, 3),
     (
-        b"scatter 1\nnodes 2\ngroup 0 1\norder 1 split 0.1 5\n",
-        0,
-        4,
-        3,
-    ),
-    (
-        b"scatter 1\nnodes 2\ngroup 0 1\norder 1 merge 0.1\n",
-        0,
-        4,
-        3,
-    ),
-    (
-        b"scatter 1\nnodes 2\ngroup 0 1\norder 1 repart 0.1 5\n",
-        0,
-        4,
-        3,
-    ),
-    (
-        b"scatter 1\nnodes 2\ngroup 0 1\norder 1 migrate 0.1 2\n",
+        b"scatter 1\nnodes 2\ngroup 0 1\norder 1 splits 0.1 5\n",
         0,
         4,
         3,
@@ -90,6 +72,18 @@ pub const REFUSED: &[Refused] = &[
     (b"scatter 1\nnodes 2\ngroup 0 1\nclient 1\nend 1\n", 0, 5, 5),
     (b"scatter 1\nnodes 2\ngroup 0 1\norder 1\n", 0, 4, 5),
     (b"scatter 1\nnodes 2\ngroup 0 1\norder 1 join 2\n", 0, 4, 5),
+    (
+        b"scatter 1\nnodes 2\ngroup 0 1\norder 1 split 0.1\n",
+        0,
+        4,
+        5,
+    ),
+    (
+        b"scatter 1\nnodes 2\ngroup 0 1\norder 1 merge 0.1 2\n",
+        0,
+        4,
+        5,
+    ),
     (
         b"scatter 2\nnodes 1\ngroup 0 1\nclient 1\ncas a x\n",
         0,
@@ -141,6 +135,18 @@ pub const REFUSED: &[Refused] = &[
     ),
     (
         b"scatter 1\nnodes 2\ngroup 0 1\norder 1 leave 1 1\n",
+        0,
+        4,
+        6,
+    ),
+    (
+        b"scatter 1\nnodes 2\ngroup 0 1\norder 1 repart 0.1 4294967296\n",
+        0,
+        4,
+        6,
+    ),
+    (
+        b"scatter 1\nnodes 2\ngroup 0 1\norder 1 migrate 3 0.1\n",
         0,
         4,
         6,
@@ -197,6 +203,12 @@ pub const REFUSED: &[Refused] = &[
     ),
     (
         b"scatter 1\nnodes 2\ngroup 0 1\norder 1 join 3 0.1\n",
+        0,
+        4,
+        9,
+    ),
+    (
+        b"scatter 1\nnodes 2\ngroup 0 1\norder 1 migrate 0.1 3\n",
         0,
         4,
         9,

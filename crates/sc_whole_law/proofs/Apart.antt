@@ -60,6 +60,7 @@ IsApart name (TxWatch tx watch) = Unit {0}
 IsApart name (TxWatched tx coord part vote) = Unit {0}
 IsApart name (Told number result) = Unit {0}
 
+-- so is each of these
 abbrev AreApart : Draw → List Mail → Type 0
 AreApart name out = Each (λ mail. IsApart name mail.body) out
 
@@ -72,9 +73,11 @@ abbrev pub IsOldOrNew : List Base → Base → Type 0
 IsOldOrNew bases base = Among base bases ⊎ (IsNew bases base.core.id × ((parent : Base) × Among parent bases))
 
 module _ (heard : MailBody → Type 0) (bases : List Base) (name : Draw) (new : IsNew bases name) where
+  -- a group of these has another name
   one_apart : (group : Draw) → IsOneOf bases group → same_draw group name ≡ false
   one_apart group (b, a, is) = elim (cases_Bool (same_draw group name)) [ inl t ↦ absurd (new b a (sym is ∙ draw_is group name t)) | inr f ↦ f ]
 
+  -- so has the group of an answer with a reply
   answer_apart : (group : Draw) (answer : AnswerBody) → IsNamedAnswer bases group answer → IsApartAnswer name group answer
   answer_apart group (Says.Value reply) one = one_apart group one
   answer_apart group _ one = tt
@@ -96,20 +99,24 @@ module _ (heard : MailBody → Type 0) (bases : List Base) (name : Draw) (new : 
 module _ (name : Draw) where
   -- ---- no steps
 
+  -- a mail of another group asks for nothing
   apart_asked : (body : MailBody) → IsApart name body → proposer_steps name body ≡ []
   apart_asked (Prepare group ballot from_slot) e = cond-false (same_draw group name) (Prepared ballot from_slot ∷ []) [] e
   apart_asked (Accept group ballot slot command) e = cond-false (same_draw group name) (Offered ballot slot command ∷ []) [] e
   apart_asked _ e = refl
 
+  -- nor do several
   none_asked : (out : List Mail) (before : Steps) → AreApart name out → asked_in name out before ≡ before
   none_asked [] before e = refl
   none_asked (mail ∷ out) before e = ap (λ x. asked_in name out (x ++ before)) (apart_asked mail.body e.0) ∙ none_asked out before e.1
 
+  -- it promises nothing
   apart_promised : (who : ℕ) (b : Ballot) (start : ℕ) (body : MailBody) → IsApart name body → promised_by name who b start body ≡ []
   apart_promised who b start (Promise group ballot reports) e =
       cond-false (same_draw group name && same_ballot ballot b) (Promised who b start reports ∷ []) [] (and_left (same_draw group name) (same_ballot ballot b) e)
   apart_promised who b start _ e = refl
 
+  -- nor do several
   all_promised : (who : ℕ) (b : Ballot) (start : ℕ) (out : List Mail) → AreApart name out → flat_map (λ mail. promised_by name who b start mail.body) out ≡ []
   all_promised who b start [] e = refl
   all_promised who b start (mail ∷ out) e =
@@ -122,14 +129,17 @@ module _ (name : Draw) where
       (and_left (same_draw group name) (list_any (λ (mail : Mail). is_accepted group ballot slot mail.body) row.sent) e)
   no_accepts row _ e = refl
 
+  -- nor is what was delivered
   got_accepts : (row : Row Mail OrderLine) (o : Option Mail) → ((m : Mail) → o ≡ Some m → IsApart name m.body) → accepts_got name row o ≡ []
   got_accepts row None e = refl
   got_accepts row (Some m) e = no_accepts row m.body (e m refl)
 
+  -- nor is anything at an event
   at_accepts : (sent : List Mail) (row : Row Mail OrderLine) (event : Event OrderLine) → ((m : Mail) → Among m sent → IsApart name m.body) → accepts_at name sent row event ≡ []
   at_accepts sent row (Deliver number) e = got_accepts row (numbered sent number) (λ m is. e m (number_among sent number m is))
   at_accepts sent row _ e = refl
 
+  -- nor in several rows with one more
   row_accepts : (sent : List Mail) (rows : Journal) (row : Row Mail OrderLine) (older : List (Step Command)) → ((m : Mail) → Among m (sent ++ mails rows) → IsApart name m.body)
       → accepts_from name sent (rows ++ row ∷ []) older ≡ older
   row_accepts sent [] row older e = ap (λ (x : List (Step Command)). x ++ older) (at_accepts sent row row.event (λ m a. e m (subst (Among m) (sym (append-nil sent)) a)))
@@ -142,23 +152,28 @@ module _ (name : Draw) where
   none_accepted rows row e = row_accepts [] rows row [] e
 
   module _ (row : Row Mail OrderLine) (e : AreApart name row.sent) where
+    -- a row that sends mail of other groups promises nothing
     no_promises : (body : MailBody) → promises_of name row body ≡ []
     no_promises (Prepare group ballot from_slot) = all_promised row.who ballot from_slot row.sent e
     no_promises _ = refl
 
+    -- whatever was delivered
     got_promises : (o : Option Mail) → promises_got name row o ≡ []
     got_promises None = refl
     got_promises (Some m) = no_promises m.body
 
+    -- whatever the event
     at_promises : (sent : List Mail) (event : Event OrderLine) → promises_at name sent row event ≡ []
     at_promises sent (Deliver number) = got_promises (numbered sent number)
     at_promises sent _ = refl
 
+    -- so it takes no step
     row_none : (sent : List Mail) (older : Steps) → ((m : Mail) → Among m sent → IsApart name m.body) → steps_at name sent row older ≡ older
     row_none sent older known =
         ap (λ (x : Steps). x ++ accepts_at name sent row row.event ++ asked_in name row.sent older) (at_promises sent row.event)
         ∙ ap (λ (x : Steps). x ++ asked_in name row.sent older) (at_accepts sent row row.event known) ∙ none_asked row.sent older e
 
+  -- nor do several rows
   rows_none : (sent : List Mail) (rows : Journal) (older : Steps) → ((m : Mail) → Among m (sent ++ mails rows) → IsApart name m.body) → steps_from name sent rows older ≡ older
   rows_none sent [] older e = refl
   rows_none sent (row ∷ rows) older e =
@@ -179,6 +194,7 @@ silent ahead base rows row e = nothing_decided (none_accepted base.core.id rows 
 
 -- what is said of other groups is true in this one, where it is true in another
 module _ (ahead : Ahead) (base other : Base) (made made_there : Command → Type 0) (heard : MailBody → Type 0) (calls : (client seq : ℕ) (op : Op) → made_there (Call client seq op) → made (Call client seq op)) where
+  -- an answer of another group says nothing of this one
   apart_answer : (h : Steps) (mail : Mail) (group : Draw) (seq : ℕ) (answer : AnswerBody) → IsApartAnswer base.core.id group answer → IsTrue ahead base made heard h mail (Answer group seq answer)
   apart_answer h mail group seq (Says.Value reply) e = λ t. (let no_way : true ≡ false = sym t ∙ e in absurd (cc))
   apart_answer h mail group seq (Says.Stale last) e = λ t. tt

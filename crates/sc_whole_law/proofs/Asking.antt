@@ -1,8 +1,6 @@
 -- What a coordinator's lock says of its body, whatever its log has.
-use Rattle.std.proofs.Common.{◌≡◌, ℕ, ◌&&◌, ◌||◌, not, true, nat_le, eqb, List, [], ◌∷◌, length, Option, Some, None, refl, sym, ◌∙◌, ap, subst}
-use Rattle.std.proofs.lemmas.Bool.{and_from, or_parts, le-leb, not-false, cond_both}
+use Rattle.std.proofs.Common.{◌≡◌, ℕ, true, List, [], ◌∷◌, Option, Some, None, refl, sym, ◌∙◌, ap, subst}
 use Rattle.sc_base.specs.Among.{Each}
-use Rattle.sc_base.specs.Arc.{holds}
 use Rattle.sc_base.specs.declared.names.Draw.{Draw}
 use Rattle.sc_cmd.specs.declared.bodies.Body.{Body}
 use Rattle.sc_cmd.specs.declared.bodies.Body.TheVariants as By
@@ -11,26 +9,27 @@ use Rattle.sc_cmd.specs.declared.commands.Command.TheVariants.{Join, Leave, Spli
 use Rattle.sc_cmd.specs.declared.cores.Core.{Core}
 use Rattle.sc_cmd.specs.declared.cores.Lock.{Lock}
 use Rattle.sc_cmd.specs.declared.cores.Lock.TheVariants.{Free, Coordinating, Promised, Watching}
-use Rattle.sc_cmd.specs.declared.orders.OrderRefusal.TheVariants.{BadBoundary}
 use Rattle.sc_cmd.specs.declared.votes.Heard.{Heard}
 use Rattle.sc_cmd.specs.declared.votes.No.{No}
 use Rattle.sc_member.specs.Roster.{IsRoster}
 use Rattle.sc_machine_table.specs.Group.{Group}
 use Rattle.sc_machine_table.specs.Logs.{state_after}
 use Rattle.sc_machine_table.specs.Machine.{applied}
-use Rattle.sc_machine_table.specs.Orders.{locked_in, refusal_of, with_node, without_node}
+use Rattle.sc_machine_table.specs.Orders.{refusal_of, with_node, without_node}
 use Rattle.sc_machine_table.specs.Plans.{can_split}
 use Rattle.sc_machine_table.specs.Votes.{vote_of, watch_vote_of, bound_by}
 use Rattle.sc_ring_law.specs.Allowed.{IsShared}
-use Rattle.sc_group_law.proofs.Rosters.{ordered_if, free_refusal}
+use Rattle.sc_group_law.proofs.Rosters.{ordered_if}
 use Rattle.sc_hist_law.proofs.Staying.{free_by}
 use Rattle.sc_whole_law.proofs.Coming.{comes}
 use Rattle.sc_whole_law.proofs.Locks.{always}
 use Rattle.sc_whole_law.proofs.Members.{may_split, members_after}
 
+-- a free group coordinates nothing
 no_lock : (tx : Draw) (body : Body) (order : ℕ) (got : Option Heard) → Free ≡ Coordinating tx body order got → ⊥
 no_lock tx body order got e = cc
 
+-- a vote makes no coordinator
 bound_lock : (why : Option No) (bond lock : Lock) (tx : Draw) (body : Body) (order : ℕ) (got : Option Heard) → (bond ≡ Coordinating tx body order got → ⊥) → bound_by why bond lock ≡ Coordinating tx body order got → lock ≡ Coordinating tx body order got
 bound_lock None bond lock tx body order got none e = absurd (none e)
 bound_lock (Some reason) bond lock tx body order got none e = e
@@ -41,6 +40,7 @@ bound_lock (Some reason) bond lock tx body order got none e = e
 abbrev HearsMerges : Group → Type 0
 HearsMerges group = (tx : Draw) (body : Body) (order : ℕ) (heard : Heard) → group.core.lock ≡ Coordinating tx body order (Some heard) → body ≡ By.Merge
 
+-- with one command more
 hears_step : (group : Group) (c : Command) → HearsMerges group → HearsMerges (applied group c).0
 hears_step group c q =
     comes group (λ d x. HearsMerges x.0)
@@ -73,17 +73,7 @@ BeginsShared c = (tx : Draw) (body : Body) (order : ℕ) → c ≡ Begin tx body
 abbrev SplitsFit : Group → Type 0
 SplitsFit group = (tx : Draw) (at : ℕ) (child : Draw) (order : ℕ) (got : Option Heard) → group.core.lock ≡ Coordinating tx (By.Split at child) order got → can_split group.core at ≡ true
 
--- where a split is not refused the arc can be cut
-may_cut : (core : Core) (at : ℕ) (child : Draw) (order : ℕ) → IsRoster core.members → refusal_of core (Split at child order) ≡ None → can_split core at ≡ true
-may_cut core at child order roster e =
-    cond_both (eqb at core.arc.lo || not (holds core.arc at)) (Some BadBoundary) _ (λ o. o ≡ None → can_split core at ≡ true) (λ _ other. cc)
-    (λ f _. (
-    let parts = or_parts (eqb at core.arc.lo) (not (holds core.arc at)) f in
-    let two = may_split core at child order roster e in
-    and_from (holds core.arc at && not (eqb at core.arc.lo)) (nat_le 2 (length core.members))
-    (and_from (holds core.arc at) (not (eqb at core.arc.lo)) (not-false (holds core.arc at) parts.1) (ap (λ b. not b) parts.0)) (le-leb 2 (length core.members) two)))
-    (free_refusal (locked_in core.lock) core (Split at child order) e)
-
+-- with one command more
 splits_step : (group : Group) (c : Command) → BeginsShared c → IsRoster group.core.members → SplitsFit group → SplitsFit (applied group c).0
 splits_step group c shared roster q =
     comes group (λ d x. BeginsShared d → SplitsFit x.0)
@@ -95,7 +85,7 @@ splits_step group c shared roster q =
       left = λ node number _. ordered_if SplitsFit group.core.gone (refusal_of group.core (Leave node number)) (without_node group node) group
           (λ e tx at child order got l. absurd (no_lock tx (By.Split at child) order got (sym (free_by group.core.lock group.core (Leave node number) e) ∙ l))) q;
       parted = λ where_to kid number e _ tx at child order got l. absurd (no_lock tx (By.Split at child) order got (sym (free_by group.core.lock group.core (Split where_to kid number) e) ∙ l));
-      split = λ where_to kid number e _ tx at child order got l. (let same : where_to ≡ at = cc in subst (λ n. can_split group.core n ≡ true) same (may_cut group.core where_to kid number roster e));
+      split = λ where_to kid number e _ tx at child order got l. (let same : where_to ≡ at = cc in subst (λ n. can_split group.core n ≡ true) same (may_split group.core where_to kid number roster e));
       begun = λ t about number e s tx at child order got l. (let same : about ≡ By.Split at child = cc in absurd (subst IsShared same (s t about number refl)));
       offered = λ t offer _ _ tx at child order got e. q tx at child order got (bound_lock (vote_of group.core offer) (Promised t offer) group.core.lock tx (By.Split at child) order got (λ other. cc) e);
       asked = λ t w _ _ tx at child order got e. q tx at child order got (bound_lock (watch_vote_of group.core w) (Watching t w) group.core.lock tx (By.Split at child) order got (λ other. cc) e);

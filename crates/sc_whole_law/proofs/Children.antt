@@ -1,6 +1,6 @@
 -- A child of a group is bound in nothing, has voted and decided nothing, and has one to nine members.
-use Rattle.std.proofs.Common.{◌≡◌, ℕ, ◌+◌, ◌≤◌, nat_le, List, [], ◌∷◌, length, get_or, Option, Some, None, inl, inr, refl, ◌∙◌, ap, subst, length-drop, option_to_list, arith}
-use Rattle.std.proofs.lemmas.Bool.{and_parts, leb-true, cond_both}
+use Rattle.std.proofs.Common.{◌≡◌, ℕ, ◌+◌, ◌≤◌, true, List, [], ◌∷◌, length, get_or, Option, Some, None, inl, inr, refl, ◌∙◌, ap, subst, length-drop, option_to_list, arith}
+use Rattle.std.proofs.lemmas.Bool.{cond_both}
 use Rattle.std.proofs.lemmas.List.{get_or-drop}
 use Rattle.sc_base.specs.Among.{Among}
 use Rattle.sc_base.specs.Same.{same_draw}
@@ -21,14 +21,14 @@ use Rattle.sc_machine_table.specs.Children.{ordered_child, released_child, answe
 use Rattle.sc_machine_table.specs.Group.{Group}
 use Rattle.sc_machine_table.specs.Machine.{applied}
 use Rattle.sc_machine_table.specs.Orders.{is_alone, refusal_of}
-use Rattle.sc_machine_table.specs.Plans.{can_cut, can_split}
+use Rattle.sc_machine_table.specs.Plans.{can_split}
 use Rattle.sc_machine_table.specs.Splits.{staying, right_members, child_of, has_named}
 use Rattle.sc_entries.specs.Births.{birth_of}
 use Rattle.sc_entries.proofs.Children.{births_are_children}
 use Rattle.sc_paxos_law.proofs.Among.{Among-either}
 use Rattle.sc_sound.specs.GroupsOf.{children_of}
 use Rattle.sc_start_law.specs.Begins.{IsFresh}
-use Rattle.sc_whole_law.proofs.Coming.{staying_some}
+use Rattle.sc_whole_law.proofs.Coming.{two_members, staying_some}
 use Rattle.sc_whole_law.proofs.Members.{may_split, members_after}
 
 -- the members that go are a roster
@@ -51,32 +51,32 @@ leaving_roster members is two =
     }
 
 -- the child of a group that can be split
-fresh_of : (group : Group) (at : ℕ) (child : Draw) → IsRoster group.core.members → 2 ≤ length group.core.members → IsFresh (child_of group at child)
-fresh_of group at child roster two = record { free = refl; unvoted = refl; decided = refl; roster = leaving_roster group.core.members roster two }
+fresh_of : (group : Group) (at : ℕ) (child : Draw) → IsRoster group.core.members → can_split group.core at ≡ true → IsFresh (child_of group at child)
+fresh_of group at child roster can = record { free = refl; unvoted = refl; decided = refl; roster = leaving_roster group.core.members roster (two_members group.core at can) }
 
+-- the child that an order names
 by_order : (gone : Option Route) (why : Option OrderRefusal) (group : Group) (at : ℕ) (child : Draw) → (why ≡ None → IsFresh (child_of group at child)) → (kid : Base) → ordered_child gone why group at child ≡ Some kid → IsFresh kid
 by_order (Some into) why group at child f kid e = cc
 by_order None (Some why) group at child f kid e = cc
 by_order None None group at child f kid e =
     cond_both (is_alone group.core) (Some (child_of group at child)) None (λ o. o ≡ Some kid → IsFresh kid) (λ _ is. (let same : child_of group at child ≡ kid = cc in subst IsFresh same (f refl))) (λ _ is. cc) e
 
+-- the child of a split that its watcher lets go on
 by_release : (body : Body) (group : Group) → IsRoster group.core.members → (kid : Base) → released_child body group ≡ Some kid → IsFresh kid
 by_release By.Merge group roster kid e = cc
 by_release (By.Repart at) group roster kid e = cc
 by_release (By.Migrate node) group roster kid e = cc
 by_release (By.Split at child) group roster kid e =
     cond_both (can_split group.core at) (Some (child_of group at child)) None (λ o. o ≡ Some kid → IsFresh kid)
-    (λ t is. (
-    let same : child_of group at child ≡ kid = cc in
-    let two = (and_parts (can_cut group.core.arc at) (nat_le 2 (length group.core.members)) t).1 in
-    subst IsFresh same (fresh_of group at child roster (leb-true 2 (length group.core.members) two))))
-    (λ _ is. cc) e
+    (λ can is. (let same : child_of group at child ≡ kid = cc in subst IsFresh same (fresh_of group at child roster can))) (λ _ is. cc) e
 
+-- whatever the watcher answers
 by_answer : (vote : Past) (body : Body) (group : Group) → IsRoster group.core.members → (kid : Base) → answered_child vote body group ≡ Some kid → IsFresh kid
 by_answer Cast.Yes body group roster kid e = by_release body group roster kid e
 by_answer (Cast.No why) body group roster kid e = cc
 by_answer Cast.Ended body group roster kid e = cc
 
+-- whatever binds the group
 by_watch : (lock : Lock) (group : Group) (tx : Draw) (vote : Past) → IsRoster group.core.members → (kid : Base) → watched_child lock group tx vote ≡ Some kid → IsFresh kid
 by_watch Free group tx vote roster kid e = cc
 by_watch (Promised t offer) group tx vote roster kid e = cc
@@ -92,6 +92,7 @@ fresh_child group (Split at child order) roster kid e =
 fresh_child group (RecordWatch tx vote by) roster kid e = by_watch group.core.lock group tx vote roster kid e
 fresh_child group _ roster kid e = cc
 
+-- what an option has
 listed : (o : Option Base) (kid : Base) → Among kid (option_to_list o) → o ≡ Some kid
 listed None kid a = absurd a
 listed (Some b) kid (inl e) = ap (λ (x : Base). Some x) e

@@ -45,6 +45,10 @@ use Rattle.sc_machine_table.specs.Votes.{has_voted, vote_of, watch_vote_of, past
 
 -- ---- members
 
+-- a group that can be split has two members or more
+pub two_members : (core : Core) (at : ℕ) → can_split core at ≡ true → 2 ≤ length core.members
+two_members core at can = leb-true 2 (length core.members) (and_parts (can_cut core.arc at) (nat_le 2 (length core.members)) can).1
+
 -- of two to nine nodes some stay, and not all
 pub staying_some : (n : ℕ) → 2 ≤ n → n ≤ 9 → (1 ≤ n - n / 2) × (n - n / 2 < n)
 staying_some n two nine = (omega arith, omega arith)
@@ -146,33 +150,36 @@ pub record Cases (group : Group) (P : Command → Group × Effect → Type 0) : 
 
 -- ---- what comes of each
 
+-- an order is carried out where nothing refuses it, and else changes nothing
 ordered_cases : (Q : Group × Effect → Type 0) (gone : Option Route) (why : Option OrderRefusal) (after group : Group) → ((effect : Effect) → IsDull effect → Q (group, effect)) → (why ≡ None → Q (after, Was.Changed)) → Q (ordered gone why after group)
 ordered_cases Q (Some into) why after group p q = p _ tt
 ordered_cases Q None (Some why) after group p q = p _ tt
 ordered_cases Q None None after group p q = q refl
 
+-- a group that is not changed
 as_it_was : (group : Group) → Reshaped group group
 as_it_was group = record { voted = refl; decided = refl; roster = λ r. r }
 
+-- a plan is decided where it may be carried out, and else changes nothing
 plan_cases : (Q : Group × Effect → Type 0) (b : Bool) (plan : Group × Outcome) (group : Group) (tx : Draw) → ((effect : Effect) → IsDull effect → Q (group, effect)) → (b ≡ true → Q (decided plan.0 tx plan.1)) → Q (committed (if b then Some plan else None) group tx)
 plan_cases Q true plan group tx p q = q refl
 plan_cases Q false plan group tx p q = p _ tt
 
+-- a party is freed where its part in one may be carried out, and else nothing changes
 party_cases : (Q : Group × Effect → Type 0) (b : Bool) (after group : Group) (tx : Draw) (outcome : Outcome) → ((effect : Effect) → IsDull effect → Q (group, effect)) → (b ≡ true → Q (party_freed after tx, Was.Decided outcome))
     → Q (settled_in (if b then Some after else None) group tx outcome)
 party_cases Q true after group tx outcome p q = q refl
 party_cases Q false after group tx outcome p q = p _ tt
 
-fits_nine : (n : ℕ) → nat_le n 9 ≡ true → n ≤ 9
-fits_nine n e = leb-true n 9 e
-
 module _ (group : Group) (P : Command → Group × Effect → Type 0) (k : Cases group P) where
+  -- a call, by what was noted of its client
   by_note : (o : _) (client seq : ℕ) (op : Op) → P (Call client seq op) (served_by_note o group client seq op)
   by_note None client seq op = k.served client seq op _ _ refl
   by_note (Some noted) client seq op =
       cond_both (nat_lt noted.seq seq) _ _ (P (Call client seq op)) (λ _. k.served client seq op _ _ refl)
       (λ _. cond_both (eqb noted.seq seq) _ _ (P (Call client seq op)) (λ _. k.same (Call client seq op) _ tt) (λ _. k.same (Call client seq op) _ tt))
 
+  -- a call
   by_call : (gone : Option Route) (lock : Lock) (client seq : ℕ) (op : Op) → P (Call client seq op) (called gone lock group client seq op)
   by_call (Some into) lock client seq op = k.same (Call client seq op) _ tt
   by_call None Free client seq op = cond_both (holds_key group.core.arc (key_of op)) _ _ (P (Call client seq op)) (λ _. by_note _ client seq op) (λ _. k.same (Call client seq op) _ tt)
@@ -180,6 +187,7 @@ module _ (group : Group) (P : Command → Group × Effect → Type 0) (k : Cases
   by_call None (Coordinating tx body order got) client seq op = k.same (Call client seq op) _ tt
   by_call None (Promised tx offer) client seq op = k.same (Call client seq op) _ tt
 
+  -- an order to split
   by_split : (at : ℕ) (child : Draw) (order : ℕ) → P (Split at child order) (applied group (Split at child order))
   by_split at child order =
       let c = Split at child order in
@@ -187,6 +195,7 @@ module _ (group : Group) (P : Command → Group × Effect → Type 0) (k : Cases
       (λ _. ordered_cases (P c) group.core.gone (refusal_of group.core c) (split_group group at child order) group (k.same c)
       (λ e. cond_both (is_alone group.core) (left_group group at child) (begun_group group child (By.Split at child) order) (λ g. P c (g, Was.Changed)) (λ _. k.parted at child order e) (λ _. k.split at child order e)))
 
+  -- a transaction that begins
   by_begin : (tx : Draw) (body : Body) (order : ℕ) → P (Begin tx body order) (applied group (Begin tx body order))
   by_begin tx body order =
       let c = Begin tx body order in
@@ -194,20 +203,24 @@ module _ (group : Group) (P : Command → Group × Effect → Type 0) (k : Cases
 
   -- ---- a plan
 
+  -- the members of two groups that may merge are a roster together
   merged : (frozen : Frozen) → may_merge group frozen ≡ true → IsRoster group.core.members → IsRoster (united group.core.members frozen.members)
   merged frozen t is =
       let fits = and_parts (can_merge group.core frozen) (not (has_key_of group.pairs frozen.pairs)) t in
       let nine = (and_parts _ (nat_le (length (united group.core.members frozen.members)) 9) fits.0).1 in
-      united_roster group.core.members frozen.members is (fits_nine _ nine)
+      united_roster group.core.members frozen.members is (leb-true _ 9 nine)
 
+  -- a merge
   by_merge : (c : Command) (tx : Draw) → EndsIt tx c → BindsNone group.core.lock → (frozen : Frozen) → P c (committed (merge_plan group frozen) group tx)
   by_merge c tx ends free frozen = plan_cases (P c) (may_merge group frozen) (merged_group group frozen, Is.Merged (merged_route group.core frozen)) group tx (k.same c)
       (λ t. k.ended c tx ends free (merged_group group frozen) _ (record { voted = refl; decided = refl; roster = merged frozen t }))
 
+  -- the end of a group that is merged
   by_closing : (c : Command) (tx : Draw) → EndsIt tx c → BindsNone group.core.lock → (frozen : Frozen) → P c (committed (closing_plan group frozen) group tx)
   by_closing c tx ends free frozen = plan_cases (P c) (may_merge group frozen) (closing_group group frozen, Is.Merged (merged_route group.core frozen)) group tx (k.same c)
       (λ t. k.ended c tx ends free (closing_group group frozen) _ (record { voted = refl; decided = refl; roster = merged frozen t }))
 
+  -- a boundary that moves
   by_repart : (c : Command) (tx : Draw) → EndsIt tx c → BindsNone group.core.lock → (at : ℕ) (frozen : Frozen) → P c (committed (repart_plan group at frozen) group tx)
   by_repart c tx ends free at frozen =
       cond_both (holds group.core.arc at) (giving_plan group at frozen) (taking_plan group at frozen) (λ plan. P c (committed plan group tx))
@@ -216,6 +229,7 @@ module _ (group : Group) (P : Command → Group × Effect → Type 0) (k : Cases
       (λ _. plan_cases (P c) (can_repart group.core at frozen && not (has_key_of group.pairs (taken at frozen).pairs)) (taking_group group at frozen, Is.Moved at None) group tx (k.same c)
       (λ _. k.ended c tx ends free (taking_group group at frozen) _ (record { voted = refl; decided = refl; roster = λ r. r })))
 
+  -- a node that moves
   by_migrate : (c : Command) (tx : Draw) → EndsIt tx c → BindsNone group.core.lock → (node : ℕ) (frozen : Frozen) → P c (committed (migrate_plan group node frozen) group tx)
   by_migrate c tx ends free node frozen = plan_cases (P c) (can_migrate group.core node frozen) (migrated_group group node frozen, Is.Migrated node) group tx (k.same c)
       (λ t. k.ended c tx ends free (migrated_group group node frozen) _ (record {
@@ -227,19 +241,22 @@ module _ (group : Group) (P : Command → Group × Effect → Type 0) (k : Cases
             roster_without group.core.members node is (leb-true 2 (length group.core.members) two));
       }))
 
+  -- a split
   by_division : (c : Command) (tx : Draw) → EndsIt tx c → BindsNone group.core.lock → (at : ℕ) (child : Draw) → P c (committed (split_plan group at child) group tx)
   by_division c tx ends free at child = plan_cases (P c) (can_split group.core at) (left_group group at child, Is.Divided) group tx (k.same c)
       (λ t. k.ended c tx ends free (left_group group at child) _ (record {
         voted = refl;
         decided = refl;
-        roster = λ is. staying_roster group.core.members is (leb-true 2 (length group.core.members) (and_parts (can_cut group.core.arc at) (nat_le 2 (length group.core.members)) t).1);
+        roster = λ is. staying_roster group.core.members is (two_members group.core at t);
       }))
 
   -- ---- a coordinator
 
+  -- a coordinator is bound in no other group's transaction
   none_bound : (lock : Lock) (tx : Draw) (body : Body) (order : ℕ) (got : Option Heard) → lock ≡ Coordinating tx body order got → BindsNone lock
   none_bound lock tx body order got e t binds = subst (λ l. Binds l t) e binds
 
+  -- a Yes of the participant
   by_granted : (tx : Draw) (body : Body) (order : ℕ) (got : Option Heard) → group.core.lock ≡ Coordinating tx body order got → (frozen : Frozen) (by : ℕ) → P (RecordVote tx (Vows.Yes frozen) by) (granted body group tx order frozen by)
   by_granted tx By.Merge order got lock frozen by =
       cond_both (same_draw frozen.succ.group group.core.id) _ _ (P (RecordVote tx (Vows.Yes frozen) by)) (λ _. by_closing (RecordVote tx (Vows.Yes frozen) by) tx refl (none_bound _ tx By.Merge order got lock) frozen) (λ _. k.heard tx order got lock frozen by)
@@ -247,10 +264,12 @@ module _ (group : Group) (P : Command → Group × Effect → Type 0) (k : Cases
   by_granted tx (By.Migrate node) order got lock frozen by = by_migrate (RecordVote tx (Vows.Yes frozen) by) tx refl (none_bound _ tx (By.Migrate node) order got lock) node frozen
   by_granted tx (By.Split at child) order got lock frozen by = k.same (RecordVote tx (Vows.Yes frozen) by) _ tt
 
+  -- a vote of the participant
   by_answer : (tx : Draw) (body : Body) (order : ℕ) (got : Option Heard) → group.core.lock ≡ Coordinating tx body order got → (vote : Vote) (by : ℕ) → P (RecordVote tx vote by) (participant_answered vote body group tx order by)
   by_answer tx body order got lock (Vows.Yes frozen) by = by_granted tx body order got lock frozen by
   by_answer tx body order got lock (Vows.No why) by = k.ended (RecordVote tx (Vows.No why) by) tx refl (none_bound _ tx body order got lock) group Is.Abort (as_it_was group)
 
+  -- a vote, in whatever the group is bound
   by_vote : (lock : Lock) → group.core.lock ≡ lock → (tx : Draw) (vote : Vote) (by : ℕ) → P (RecordVote tx vote by) (vote_recorded lock group tx vote by)
   by_vote Free e tx vote by = k.same (RecordVote tx vote by) _ tt
   by_vote (Promised t offer) e tx vote by = k.same (RecordVote tx vote by) _ tt
@@ -261,6 +280,7 @@ module _ (group : Group) (P : Command → Group × Effect → Type 0) (k : Cases
       (λ _. by_answer tx body order got (e ∙ ap (λ d. Coordinating d body order got) (draw_is t tx same)) vote by))
       (λ _. k.same (RecordVote tx vote by) _ tt)
 
+  -- a Yes of the watcher
   by_released : BindsNone group.core.lock → (tx : Draw) (by : ℕ) (body : Body) (got : Option Heard) → P (RecordWatch tx Cast.Yes by) (released body got group tx)
   by_released free tx by By.Merge (Some heard) = by_merge (RecordWatch tx Cast.Yes by) tx refl free heard.frozen
   by_released free tx by By.Merge None = k.same (RecordWatch tx Cast.Yes by) _ tt
@@ -268,11 +288,13 @@ module _ (group : Group) (P : Command → Group × Effect → Type 0) (k : Cases
   by_released free tx by (By.Migrate node) got = k.same (RecordWatch tx Cast.Yes by) _ tt
   by_released free tx by (By.Split at child) got = by_division (RecordWatch tx Cast.Yes by) tx refl free at child
 
+  -- a vote of the watcher
   by_watch_answer : BindsNone group.core.lock → (tx : Draw) (by : ℕ) (vote : Past) (body : Body) (got : Option Heard) → P (RecordWatch tx vote by) (watch_answered vote body got group tx)
   by_watch_answer free tx by Cast.Yes body got = by_released free tx by body got
   by_watch_answer free tx by (Cast.No why) body got = k.ended (RecordWatch tx (Cast.No why) by) tx refl free group Is.Abort (as_it_was group)
   by_watch_answer free tx by Cast.Ended body got = k.ended (RecordWatch tx Cast.Ended by) tx refl free group Is.Abort (as_it_was group)
 
+  -- a vote of a watcher, in whatever the group is bound
   by_watch : (lock : Lock) → group.core.lock ≡ lock → (tx : Draw) (vote : Past) (by : ℕ) → P (RecordWatch tx vote by) (watch_recorded lock group tx vote)
   by_watch Free e tx vote by = k.same (RecordWatch tx vote by) _ tt
   by_watch (Promised t offer) e tx vote by = k.same (RecordWatch tx vote by) _ tt
@@ -282,6 +304,7 @@ module _ (group : Group) (P : Command → Group × Effect → Type 0) (k : Cases
       (λ _. cond_both (asks_watcher body got) _ _ (P (RecordWatch tx vote by)) (λ _. by_watch_answer (none_bound _ t body order got e) tx by vote body got) (λ _. k.same (RecordWatch tx vote by) _ tt))
       (λ _. k.same (RecordWatch tx vote by) _ tt)
 
+  -- a transaction that is given up
   by_giving : (lock : Lock) → group.core.lock ≡ lock → (tx : Draw) → P (GiveUp tx) (if is_coordinating lock tx then aborted group tx else (group, Was.NoEffect tx))
   by_giving Free e tx = k.same _ _ tt
   by_giving (Promised t offer) e tx = k.same _ _ tt
@@ -291,6 +314,7 @@ module _ (group : Group) (P : Command → Group × Effect → Type 0) (k : Cases
 
   -- ---- a party
 
+  -- an end that a participant is told
   by_outcome : (tx : Draw) → Binds group.core.lock tx → (offer : Offer) (outcome : Outcome) → P (Finish tx outcome) (settled_in (participant_after outcome group offer) group tx outcome)
   by_outcome tx binds offer Is.Abort = k.finished tx binds group Is.Abort (as_it_was group)
   by_outcome tx binds offer (Is.Merged into) = k.finished tx binds (gone_group group into) (Is.Merged into) (record { voted = refl; decided = refl; roster = λ r. r })
@@ -299,9 +323,10 @@ module _ (group : Group) (P : Command → Group × Effect → Type 0) (k : Cases
   by_outcome tx binds offer (Is.Moved at None) = party_cases (P (Finish tx (Is.Moved at None))) (can_cut group.core.arc at) (lost_group group at) group tx (Is.Moved at None) (k.same _)
       (λ _. k.finished tx binds (lost_group group at) _ (record { voted = refl; decided = refl; roster = λ r. r }))
   by_outcome tx binds offer (Is.Migrated node) = party_cases (P (Finish tx (Is.Migrated node))) (nat_le (length (united group.core.members (node ∷ []))) 9) (welcomed_group group node) group tx (Is.Migrated node) (k.same _)
-      (λ t. k.finished tx binds (welcomed_group group node) _ (record { voted = refl; decided = refl; roster = λ is. united_roster group.core.members (node ∷ []) is (fits_nine _ t) }))
+      (λ t. k.finished tx binds (welcomed_group group node) _ (record { voted = refl; decided = refl; roster = λ is. united_roster group.core.members (node ∷ []) is (leb-true _ 9 t) }))
   by_outcome tx binds offer Is.Divided = k.same _ _ tt
 
+  -- an end, in whatever the group is bound
   by_finish : (lock : Lock) → group.core.lock ≡ lock → (tx : Draw) (outcome : Outcome) → P (Finish tx outcome) (finished lock group tx outcome)
   by_finish Free e tx outcome = k.same _ _ tt
   by_finish (Coordinating t body order got) e tx outcome = k.same _ _ tt

@@ -45,11 +45,13 @@ use Rattle.sc_whole_law.proofs.Coming.{IsDull, comes}
 abbrev IsApartStory : Story → Type 0
 IsApartStory y = (offer : Offer) (watch : Watch) → y.offer ≡ Some offer → y.watch ≡ Some watch → offer.part ≡ watch.part → ⊥
 
+-- with one story more
 apart_put : (ys : Stories) (tx : Draw) (o : Option Story) → ((y : Story) → o ≡ Some y → IsApartStory y) → PartiesAreApart ys → PartiesAreApart (put ys tx o)
 apart_put ys tx o new old t story =
     cond_both (same_draw t tx) o (ys t) (λ (x : Option Story). x ≡ Some story → (offer : Offer) (watch : Watch) → story.offer ≡ Some offer → story.watch ≡ Some watch → offer.part ≡ watch.part → ⊥)
     (λ _ e. new story e) (λ _ e. old t story e)
 
+-- with one story told anew
 apart_retold : (ys : Stories) (tx : Draw) (f : Story → Story) → ((y : Story) → ys tx ≡ Some y → IsApartStory (f y)) → PartiesAreApart ys → PartiesAreApart (retold ys tx f)
 apart_retold ys tx f new old = by (ys tx) refl
   where
@@ -69,14 +71,17 @@ voted_same : (o : Option Vote) (y : Story) → IsApartStory y → IsApartStory (
 voted_same None y k = k
 voted_same (Some vote) y k = k
 
+-- what a watcher votes leaves the parties
 watched_same : (o : Option Past) (y : Story) → IsApartStory y → IsApartStory (with_watch_vote o y)
 watched_same None y k = k
 watched_same (Some past) y k = k
 
+-- so does what is decided
 decided_same : (o : Option Outcome) (y : Story) → IsApartStory y → IsApartStory (with_decision o y)
 decided_same None y k = k
 decided_same (Some outcome) y k = k
 
+-- a dull effect changes nothing
 dull_same : (effect : Effect) → IsDull effect → is_changed effect ≡ true → ⊥
 dull_same (Was.Done reply) d e = cc
 dull_same (Was.Again reply) d e = cc
@@ -109,6 +114,7 @@ merges s tx vote by changed =
       finished = λ t binds after outcome r is e. cc;
     }) (RecordVote tx vote by) refl changed
 
+-- a group that is there counts as it stands, where nothing settles it
 eff_open : (f : Decisions) (s : Group) → settle_by s.core.lock f s ≡ s → s.core.gone ≡ None → eff f (Some s) ≡ Some s
 eff_open f s e here = ap living e ∙ ap (λ gone. living_by gone s) here
 
@@ -141,12 +147,14 @@ module _ (sources : Sources) (ring : Ring) (gs : Groups) (ys : Stories) (g : Dra
       } in
       not_back (view_of (Old gs ys)) g name s.core.arc p.core.arc k.1.0.1 pair (ap succ_of its ∙ next ∙ sym same ∙ sym asked)
 
+  -- a participant that is asked for after a vote is not the watcher
   asked_apart : (tx : Draw) (vote : Vote) → IsVoteCast ys tx vote → (order : ℕ) (got : Option Heard) → s.core.lock ≡ Coordinating tx At.Merge order got → (story : Story) → ys tx ≡ Some story → IsApartStory story → IsApartStory (with_asked s.core vote story)
   asked_apart tx (Vows.Yes frozen) cast order got lock story there old offer watch o w same =
       let part : frozen.succ.group ≡ watch.part = ap (λ (x : Watch). x.part) (same_Some _ watch w) in
       heard_apart tx frozen cast order got lock story there offer o (same ∙ sym part)
   asked_apart tx (Vows.No why) cast order got lock story there old offer watch o w same = old offer watch o w same
 
+  -- so is a story that goes on by a vote
   answer_apart : (tx : Draw) (vote : Vote) (by : ℕ) → IsVoteCast ys tx vote → (story : Story) → ys tx ≡ Some story → IsApartStory story → IsApartStory (with_answer s.core vote (applied s (RecordVote tx vote by)).1 story)
   answer_apart tx vote by cast story there old =
       cond_both (is_changed (applied s (RecordVote tx vote by)).1) (with_asked s.core vote story) (with_decision (outcome_in (applied s (RecordVote tx vote by)).1) story) IsApartStory
@@ -172,6 +180,7 @@ module _ (sources : Sources) (ring : Ring) (gs : Groups) (ys : Stories) (g : Dra
   entry_apart (RecordWatch tx vote by) a old = apart_retold ys tx _ (λ y e. decided_same (outcome_in (applied s (RecordWatch tx vote by)).1) y (old tx y e)) old
   entry_apart (GiveUp tx) a old = apart_retold ys tx _ (λ y e. decided_same (outcome_in (applied s (GiveUp tx)).1) y (old tx y e)) old
 
+-- with one entry more
 told_apart : (sources : Sources) (w : ToldWorld) (e : LogEntry) → KeptWorld sources.owner w → IsAllowed sources w.stories e.group e.command → PartiesAreApart w.stories → PartiesAreApart (told_on w e).stories
 told_apart sources w e k a old = by (named_group e.group w.store.groups) refl
   where
@@ -179,6 +188,7 @@ told_apart sources w e k a old = by (named_group e.group w.store.groups) refl
     by None is = old
     by (Some s) is = entry_apart sources _ _ w.stories e.group s k.kept is e.command a old
 
+-- with all entries
 all_apart : (sources : Sources) (w : ToldWorld) (entries : List LogEntry) → KeptWorld sources.owner w → AreAllowed sources w entries → PartiesAreApart w.stories → PartiesAreApart (told_after w entries).stories
 all_apart sources w [] k a old = old
 all_apart sources w (e ∷ entries) k a old = all_apart sources (told_on w e) entries (kept_on sources w e k a.0) a.1 (told_apart sources w e k a.0 old)

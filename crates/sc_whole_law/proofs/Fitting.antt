@@ -53,12 +53,15 @@ FitsStory y =
     ((offer : Offer) → y.offer ≡ Some offer → IsRoster offer.members)
     × ((offer : Offer) → y.offer ≡ Some offer → offer.body ≡ At.Merge → (frozen : Frozen) → y.vote ≡ Some (Vows.Yes frozen) → length (united offer.members frozen.members) ≤ 9)
 
+-- so does each
 abbrev AllFit : Stories → Type 0
 AllFit ys = (tx : Draw) (y : Story) → ys tx ≡ Some y → FitsStory y
 
+-- with one story more
 fit_put : (ys : Stories) (tx : Draw) (o : Option Story) → ((y : Story) → o ≡ Some y → FitsStory y) → AllFit ys → AllFit (put ys tx o)
 fit_put ys tx o new old t story = cond_both (same_draw t tx) o (ys t) (λ (x : Option Story). x ≡ Some story → FitsStory story) (λ _ e. new story e) (λ _ e. old t story e)
 
+-- with one story told anew
 fit_retold : (ys : Stories) (tx : Draw) (f : Story → Story) → ((y : Story) → ys tx ≡ Some y → FitsStory (f y)) → AllFit ys → AllFit (retold ys tx f)
 fit_retold ys tx f new old = by (ys tx) refl
   where
@@ -66,50 +69,61 @@ fit_retold ys tx f new old = by (ys tx) refl
     by None e = fit_put ys tx None (λ y is. cc) old
     by (Some story) e = fit_put ys tx (Some (f story)) (λ y is. (let same : f story ≡ y = cc in subst FitsStory same (new story e))) old
 
+-- none is no vote
 no_vote : (frozen : Frozen) → None ≡ Some (Vows.Yes frozen) → ⊥
 no_vote frozen e = cc
 
+-- the members in an offer are a roster
 offer_roster : (s : Group) → IsRoster s.core.members → (body : Body) (offer : Offer) → (new_story s body).offer ≡ Some offer → IsRoster offer.members
 offer_roster s roster At.Merge offer e = subst (λ (o : Offer). IsRoster o.members) (same_Some _ offer e) roster
 offer_roster s roster (At.Repart at) offer e = subst (λ (o : Offer). IsRoster o.members) (same_Some _ offer e) roster
 offer_roster s roster (At.Migrate node) offer e = subst (λ (o : Offer). IsRoster o.members) (same_Some _ offer e) roster
 offer_roster s roster (At.Split at child) offer e = (let no_way : None ≡ Some offer = e in absurd (cc))
 
+-- a story that begins fits
 fit_new : (s : Group) → IsRoster s.core.members → (body : Body) → FitsStory (new_story s body)
 fit_new s roster body = (offer_roster s roster body, λ offer e merge frozen v. absurd (no_vote frozen v))
 
+-- what a watcher votes leaves the offer
 watched_fit : (o : Option Past) (y : Story) → FitsStory y → FitsStory (with_watch_vote o y)
 watched_fit None y k = k
 watched_fit (Some past) y k = k
 
+-- so does what is decided
 decided_fit : (o : Option Outcome) (y : Story) → FitsStory y → FitsStory (with_decision o y)
 decided_fit None y k = k
 decided_fit (Some outcome) y k = k
 
+-- so does what a watcher is asked
 asked_fit : (core : Core) (vote : Vote) (y : Story) → FitsStory y → FitsStory (with_asked core vote y)
 asked_fit core (Vows.Yes frozen) y k = k
 asked_fit core (Vows.No why) y k = k
 
 -- ---- a vote
 
+-- a size that is not refused is at most nine
 few : (n : ℕ) → size_no n ≡ None → n ≤ 9
 few n = cond_both (nat_lt 9 n) _ None (λ o. o ≡ None → n ≤ 9) (λ _ e. cc) (λ f e. ltb-false 9 n f)
 
+-- where nothing refuses there is no reason to
 open_why : (gone : Option Route) (tx : Option Draw) (why : Option No) → no_of gone tx why ≡ None → why ≡ None
 open_why (Some into) tx why e = cc
 open_why None (Some t) why e = cc
 open_why None None why e = e
 
+-- a merge that is voted for has few enough members
 merge_few : (core : Core) (offer : Offer) → offer.body ≡ At.Merge → vote_of core offer ≡ None → length (united core.members offer.members) ≤ 9
 merge_few core offer merge e =
     let why = open_why core.gone (locked_in core.lock) (offer_no core offer) e in
     cond_both (eqb core.arc.lo (end_of offer.arc)) (body_no offer.body core offer) (Some Why.Apart) (λ o. o ≡ None → length (united core.members offer.members) ≤ 9)
     (λ _ k. few (length (united core.members offer.members)) (ap (λ b. body_no b core offer) (sym merge) ∙ k)) (λ _ k. cc) why
 
+-- a vote that has no reason against is Yes
 past_yes : (why : Option No) → past_of why ≡ Cast.Yes → why ≡ None
 past_yes None e = refl
 past_yes (Some reason) e = cc
 
+-- a Yes was cast as one, and freezes the group as it is
 voted_few : (s : Group) (past : Past) (frozen : Frozen) → vote_by s past ≡ Some (Vows.Yes frozen) → (past ≡ Cast.Yes) × (frozen_of s ≡ frozen)
 voted_few s Cast.Yes frozen e = (refl, cc)
 voted_few s (Cast.No why) frozen e = cc
@@ -121,6 +135,7 @@ yes_few s tx offer frozen =
     cond_both (has_voted s.core tx) _ _ (λ (x : Group × Effect). vote_in s x.1 ≡ Some (Vows.Yes frozen) → (vote_of s.core offer ≡ None) × (frozen_of s ≡ frozen)) (λ _ e. cc)
     (λ _ e. (let k = voted_few s (past_of (vote_of s.core offer)) frozen e in (past_yes (vote_of s.core offer) k.0, k.1)))
 
+-- so a story with the vote of its participant fits
 prepared_fit : (s : Group) → IsRoster s.core.members → (tx : Draw) (offer : Offer) (y : Story) → y.offer ≡ Some (unsigned offer) → FitsStory y → FitsStory (with_vote (vote_in s (applied s (Prepared tx offer)).1) y)
 prepared_fit s roster tx offer y offered k = by (vote_in s (applied s (Prepared tx offer)).1) refl
   where
@@ -142,6 +157,7 @@ prepared_fit s roster tx offer y offered k = by (vote_in s (applied s (Prepared 
 
 -- ---- entries
 
+-- stories fit with one command more
 entry_fit : (sources : Sources) (ys : Stories) (g : Draw) (s : Group) → IsRoster s.core.members → (c : Command) → IsAllowed sources ys g c → AllFit ys → AllFit (stories_after s c (applied s c).1 ys)
 entry_fit sources ys g s roster Noop a old = old
 entry_fit sources ys g s roster (Call client seq op) a old = old
@@ -167,6 +183,7 @@ entry_fit sources ys g s roster (GiveUp tx) a old = fit_retold ys tx _ (λ y e. 
 abbrev HaveRosters : List Group → Type 0
 HaveRosters groups = Each (λ (group : Group). IsRoster group.core.members) groups
 
+-- where one group is replaced they stay so
 replaced : (name : Draw) (after : Group) (groups : List Group) → IsRoster after.core.members → HaveRosters groups → HaveRosters (with_group name after groups)
 replaced name after [] roster all = tt
 replaced name after (group ∷ groups) roster all = (
@@ -174,10 +191,12 @@ replaced name after (group ∷ groups) roster all = (
   replaced name after groups roster all.1,
 )
 
+-- a group that is born is so
 kids : (o : Option Base) → ((kid : Base) → o ≡ Some kid → IsFresh kid) → HaveRosters (map group_of (option_to_list o))
 kids None f = tt
 kids (Some kid) f = ((f kid refl).roster, tt)
 
+-- and all groups after a command
 rosters_after : (s : Group) (c : Command) (groups : List Group) → IsRoster s.core.members → HaveRosters groups → HaveRosters (groups_after s (applied s c).0 (birth_of s c (applied s c).1) groups)
 rosters_after s c groups roster all =
     Each-append (λ (group : Group). IsRoster group.core.members) (with_group s.core.id (applied s c).0 groups) (map group_of (option_to_list (birth_of s c (applied s c).1)))
@@ -189,6 +208,7 @@ pub record Fit (w : ToldWorld) : Type 0 where
   pub rosters : HaveRosters w.store.groups
   pub stories : AllFit w.stories
 
+-- groups and stories with one entry more
 told_fit : (sources : Sources) (w : ToldWorld) (e : LogEntry) → IsAllowed sources w.stories e.group e.command → Fit w → Fit (told_on w e)
 told_fit sources w e a k = by (named_group e.group w.store.groups) refl
   where
@@ -199,10 +219,12 @@ told_fit sources w e a k = by (named_group e.group w.store.groups) refl
         let roster = Each-among (λ (group : Group). IsRoster group.core.members) w.store.groups s k.rosters there.0 in
         record { rosters = rosters_after s e.command w.store.groups roster k.rosters; stories = entry_fit sources w.stories e.group s roster e.command a k.stories }
 
+-- with all entries
 all_fit : (sources : Sources) (w : ToldWorld) (entries : List LogEntry) → AreAllowed sources w entries → Fit w → Fit (told_after w entries)
 all_fit sources w [] a k = k
 all_fit sources w (e ∷ entries) a k = all_fit sources (told_on w e) entries a.1 (told_fit sources w e a.0 k)
 
+-- the groups at the start have rosters
 first_rosters : (bases : List Base) → ((base : Base) → Among base bases → IsFresh base) → HaveRosters (map group_of bases)
 first_rosters [] fresh = tt
 first_rosters (base ∷ bases) fresh = ((fresh base (inl refl)).roster, first_rosters bases (λ b a. fresh b (inr a)))

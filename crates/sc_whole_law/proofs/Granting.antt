@@ -45,8 +45,6 @@ use Rattle.sc_journal_law.proofs.Allowing.{fronts_allow, states_allow}
 use Rattle.sc_journal_law.proofs.Allows.{groups_allow_others}
 use Rattle.sc_group_law.proofs.Families.{h_of}
 use Rattle.sc_group_law.proofs.Invariant.{rule, first}
-use Rattle.sc_group_law.proofs.Places.{split_at}
-use Rattle.sc_group_law.proofs.Replies.{front_is}
 use Rattle.sc_group_law.proofs.Speech.{AreSaid, Meets, Speaks}
 use Rattle.sc_whole_law.specs.Parameters.{stories_at, MayQueue, MayHear}
 use Rattle.sc_start_law.specs.Begins.{IsFresh}
@@ -54,6 +52,7 @@ use Rattle.sc_whole_law.specs.Parties.{PartiesAreApart, MergesFit}
 use Rattle.sc_whole_law.proofs.Coming.{Binds}
 use Rattle.sc_whole_law.proofs.Locks.{Ever, WatchesIt, watching_since, DecidesIt, decided_since, yes_binds}
 use Rattle.sc_whole_law.proofs.Asking.{hears_merges, BeginsShared, splits_fit, none_split}
+use Rattle.sc_whole_law.proofs.Fronts.{goes_on_from}
 use Rattle.sc_whole_law.proofs.Speaking.{stands_watch, stands_offer, Stands, said_question, said_reminders, told_by, goes_on}
 
 -- only a Yes that is noted stands
@@ -64,6 +63,7 @@ standing_yes (Some (Cast.No why)) locked into e = cc
 standing_yes (Some Cast.Ended) locked into e = cc
 standing_yes (Some Cast.Yes) locked into e = refl
 
+-- an outcome that is found in the notes
 noted_found : (tx : Draw) (outcome : Outcome) (o : Option (Draw × Outcome)) → option_map (λ (noted : Draw × Outcome). noted.1) o ≡ Some outcome → (noted : Draw × Outcome) × (o ≡ Some noted) × (noted.1 ≡ outcome)
 noted_found tx outcome None e = cc
 noted_found tx outcome (Some noted) e = (noted, refl, cc)
@@ -71,37 +71,47 @@ noted_found tx outcome (Some noted) e = (noted, refl, cc)
 module _ (sources : Sources) (ahead : Ahead) (scenario : Scenario) (start : BeginInPlace sources scenario.groups) (rows : Rows) (turn : DecideInTurn sources ahead scenario.groups [] rows)
     (apart : PartiesAreApart (stories_at ahead scenario.groups rows)) (fit : MergesFit (stories_at ahead scenario.groups rows))
     (base : Base) (among : Among base (groups_at ahead scenario.groups rows)) (lawful : IsLawfulHistory (rule ahead base) (first ahead base) (h_of rows base)) (fresh : IsFresh base) where
+  -- what all logs told
   abbrev told : Stories
   told = stories_at ahead scenario.groups rows
 
+  -- the group's name
   abbrev name : Draw
   name = base.core.id
 
+  -- the group after a log
   abbrev after : List Command → Group
   after log = state_after (group_of base) log
 
+  -- what its replicas may queue
   abbrev Queues : Command → Type 0
   Queues c = MayQueue sources ahead scenario rows base c
 
+  -- a log of its steps
   abbrev Log : List Command → Type 0
   Log log = IsLog (rule ahead base) (h_of rows base) log
 
+  -- its decided log
   abbrev decided : List Command
   decided = decided_log ahead base rows
 
+  -- what the group makes allowed for others
   al : (group : Group) → GroupAllows sources name group
   al group = groups_allow_others sources name group
 
-  -- a log of the steps is a front of the decided one
+  -- the decided log goes on from each log of the steps
   on : (log : List Command) → Log log → decided ≡ log ++ drop (length log) decided
-  on log is = split_at (length log) log decided (front_is ahead base rows lawful log is).1
+  on log is = goes_on_from ahead base rows lawful log is
 
+  -- what the group makes allowed as it stands after a log
   state_allows : (log : List Command) → Log log → (other : Draw) (c : Command) → StandsFor sources name (after log) other c → IsAllowed sources told other c
   state_allows log is other c stands = states_allow sources ahead scenario.groups start rows turn base among log (drop (length log) decided) (on log is) other c stands
 
+  -- what an entry of its log makes allowed
   front_allows : (front : List Command) (entry : Command) (later : List Command) → decided ≡ front ++ entry ∷ later → (other : Draw) (c : Command) → MakesAllowed sources name (after front) entry other c → IsAllowed sources told other c
   front_allows front entry later e other c makes = fronts_allow sources ahead scenario.groups start rows turn base among front entry later e other c makes
 
+  -- what the last entry of a log makes allowed
   entry_allows : (log : List Command) (c : Command) → Log (log ++ c ∷ []) → (other : Draw) (d : Command) → MakesAllowed sources name (after log) c other d → IsAllowed sources told other d
   entry_allows log c is other d makes =
       front_allows log c (drop (length (log ++ c ∷ [])) decided) (on (log ++ c ∷ []) is ∙ append_assoc log (c ∷ []) (drop (length (log ++ c ∷ [])) decided)) other d makes
@@ -113,9 +123,11 @@ module _ (sources : Sources) (ahead : Ahead) (scenario : Scenario) (start : Begi
       front_allows since.front since.entry (since.later ++ rest)
       (on log is ∙ ap (λ l. l ++ rest) since.is ∙ append_assoc since.front (since.entry ∷ since.later) rest) other c makes
 
+  -- what is begun has a participant
   shared : (c : Command) → Queues c → BeginsShared c
   shared c m tx body order is = (subst Queues is m).0.1
 
+  -- so the group after a log acts by what was told
   stands : (log : List Command) → Log log → Each Queues log → Stands sources told fit name (after log)
   stands log is all = record {
     allows = state_allows log is;
@@ -153,6 +165,7 @@ module _ (sources : Sources) (ahead : Ahead) (scenario : Scenario) (start : Begi
       let same = same_Some w.0 o.0 (sym w.1 ∙ o.1) in
       apart tx o.0 o.1 (unsigned offer) (unsigned_watch watch) o.2 (ap (λ (y : Story). y.watch) (sym same) ∙ w.2) (o.3 ∙ sym w.3)
 
+  -- the Yes of a participant that is bound may be recorded
   participant_yes : (log : List Command) → Log log → (tx : Draw) (offer : Offer) → IsAllowed sources told name (Prepared tx offer) → (lock : Lock) → (after log).core.lock ≡ lock → Binds lock tx → IsAllowed sources told name (RecordVote tx (Vows.Yes (frozen_of (after log))) 0)
   participant_yes log is tx offer a (Promised t o) e binds =
       subst (λ d. IsAllowed sources told name (RecordVote d (Vows.Yes (frozen_of (after log))) 0)) binds
@@ -162,6 +175,7 @@ module _ (sources : Sources) (ahead : Ahead) (scenario : Scenario) (start : Begi
   participant_yes log is tx offer a Free e binds = absurd binds
   participant_yes log is tx offer a (Coordinating t body order got) e binds = absurd binds
 
+  -- so may that of a watcher
   watcher_yes : (log : List Command) → Log log → (tx : Draw) (watch : Watch) → IsAllowed sources told name (Watched tx watch) → (lock : Lock) → (after log).core.lock ≡ lock → Binds lock tx → IsAllowed sources told name (RecordWatch tx Cast.Yes 0)
   watcher_yes log is tx watch a (Watching t w) e binds = subst (λ d. IsAllowed sources told name (RecordWatch d Cast.Yes 0)) binds (watched log is t w e)
   watcher_yes log is tx watch a (Promised t o) e binds =
@@ -169,21 +183,25 @@ module _ (sources : Sources) (ahead : Ahead) (scenario : Scenario) (start : Begi
   watcher_yes log is tx watch a Free e binds = absurd binds
   watcher_yes log is tx watch a (Coordinating t body order got) e binds = absurd binds
 
+  -- a group whose Yes stands is bound
   binds_it : (log : List Command) (tx : Draw) → standing_vote (after log).core tx ≡ Some Cast.Yes → Binds (after log).core.lock tx
   binds_it log tx e = yes_binds tx (group_of base) log fresh.unvoted (standing_yes _ _ _ e)
 
+  -- what a participant says of a vote that stands is heard
   said_vote : (log : List Command) → Log log → (tx : Draw) (offer : Offer) → IsAllowed sources told name (Prepared tx offer) → (vote : Past) → standing_vote (after log).core tx ≡ Some vote → (me node : ℕ)
       → AreSaid (MayHear sources ahead scenario rows) (voted_to me (after log) node tx offer vote [])
   said_vote log is tx offer a Cast.Yes e me node = (participant_yes log is tx offer a (after log).core.lock refl (binds_it log tx e), tt)
   said_vote log is tx offer a (Cast.No why) e me node = (tt, tt)
   said_vote log is tx offer a Cast.Ended e me node = tt
 
+  -- so is what a watcher says
   said_watch : (log : List Command) → Log log → (tx : Draw) (watch : Watch) → IsAllowed sources told name (Watched tx watch) → (vote : Past) → standing_vote (after log).core tx ≡ Some vote → (me node : ℕ)
       → AreSaid (MayHear sources ahead scenario rows) (watched_to me node tx watch vote [])
   said_watch log is tx watch a Cast.Yes e me node = (watcher_yes log is tx watch a (after log).core.lock refl (binds_it log tx e), tt)
   said_watch log is tx watch a (Cast.No why) e me node = (tt, tt)
   said_watch log is tx watch a Cast.Ended e me node = tt
 
+  -- so is what a coordinator asks another node
   said_next : (log : List Command) → Log log → Each Queues log → (me from : ℕ) (tx : Draw) (hint : Option ℕ) (lock : Lock) → (after log).core.lock ≡ lock
       → AreSaid (MayHear sources ahead scenario rows) (asked_next lock me (after log).core from tx hint [])
   said_next log is all me from tx hint Free e = tt
@@ -195,6 +213,7 @@ module _ (sources : Sources) (ahead : Ahead) (scenario : Scenario) (start : Begi
 
   -- ---- all together
 
+  -- what comes of a mail
   met : (log : List Command) → Log log → Each Queues log → (body : MailBody) → MayHear sources ahead scenario rows body → group_of_mail body ≡ Some name → Meets Queues (MayHear sources ahead scenario rows) (after log) body
   met log is all (TxPrepare tx offer) h named =
       let a = subst (λ n. IsAllowed sources told n (Prepared tx offer)) (same_Some offer.part name named) h in

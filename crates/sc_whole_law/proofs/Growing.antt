@@ -33,13 +33,16 @@ use Rattle.sc_whole_law.proofs.Apart.{IsApart, IsNew, IsOldOrNew, named_apart, n
 
 -- a name of one of these groups is one of those
 module _ (heard : MailBody → Type 0) (bases more : List Base) (all : (b : Base) → Among b bases → Among b more) where
+  -- ... of a group
   more_one : (group : Draw) → IsOneOf bases group → IsOneOf more group
   more_one group (b, a, is) = (b, all b a, is)
 
+  -- ... of an answer
   more_answer : (group : Draw) (answer : AnswerBody) → IsNamedAnswer bases group answer → IsNamedAnswer more group answer
   more_answer group (Says.Value reply) one = more_one group one
   more_answer group _ one = tt
 
+  -- ... of a mail
   more_named : (body : MailBody) → IsNamedIn heard bases body → IsNamedIn heard more body
   more_named (Request group client seq op) one = tt
   more_named (Answer group seq answer) one = more_answer group answer one
@@ -56,6 +59,7 @@ module _ (heard : MailBody → Type 0) (bases more : List Base) (all : (b : Base
 module _ (ahead : Ahead) (scenario : Scenario) (firsts bases more : List Base) (route : Route) (made : Journal → Base → Command → Type 0) (heard : Journal → MailBody → Type 0) (rows : Journal) (all : (b : Base) → Among b bases → Among b more)
     (calls : (b other : Base) (client seq : ℕ) (op : Op) → made rows b (Call client seq op) → made rows other (Call client seq op)) where
   module _ (k : Kept ahead scenario firsts bases route made heard rows) (old : (b : Base) → Among b more → IsOldOrNew bases b) where
+    -- no mail has a new name
     apart_all : (b : Base) → IsNew bases b.core.id → (m : Mail) → Among m (mails rows) → IsApart b.core.id m.body
     apart_all b new m a = named_apart (heard rows) bases b.core.id new m.body (k.named m a)
 
@@ -63,6 +67,7 @@ module _ (ahead : Ahead) (scenario : Scenario) (firsts bases more : List Base) (
     empty : (b : Base) → IsNew bases b.core.id → h_of rows b ≡ []
     empty b new = no_steps b rows (apart_all b new)
 
+    -- each group has its part
     part_of : (b : Base) → IsOldOrNew bases b → Part ahead scenario firsts more route made heard rows b
     part_of b (inl a) = (let p = k.parts b a in record { lawful = p.lawful; requested = p.requested; true_mail = p.true_mail })
     part_of b (inr (new, (parent, pa))) = record {
@@ -71,14 +76,17 @@ module _ (ahead : Ahead) (scenario : Scenario) (firsts bases more : List Base) (
       true_mail = λ m a. apart_true ahead b parent (made rows b) (made rows parent) (heard rows) (calls parent b) (h_of rows b) (h_of rows parent) m m.body (apart_all b new m a) ((k.parts parent pa).true_mail m a);
     }
 
+    -- no replica has a new name
     others : (b : Base) → IsNew bases b.core.id → (n : ℕ) (node : NodeState) → IsNode ahead bases (made rows) (h_of rows) n node → Each (IsOther b.core.id) node.replicas
     others b new n node at = Each-weaker (λ r. IsOneOf bases (name_of r)) (IsOther b.core.id) (λ r is same. new is.0 is.1 (sym is.2 ∙ same)) node.replicas at.known
 
+    -- what each group says of a node holds
     holds_of : (n : ℕ) (node : NodeState) → IsNode ahead bases (made rows) (h_of rows) n node → (b : Base) → IsOldOrNew bases b → Holds ahead b (made rows b) n (h_of rows b) node.replicas
     holds_of n node at b (inl a) = at.holds b a
     holds_of n node at b (inr (new, parent)) =
         subst (λ h. Holds ahead b (made rows b) n h node.replicas) (sym (empty b new)) (holds_none ahead b (made rows b) n [] node.replicas (others b new n node at) tt)
 
+    -- nodes and clients are as the steps say
     node_of : (n : ℕ) → IsNodeAt ahead scenario firsts bases route made heard rows rows n → IsNodeAt ahead scenario firsts more route made heard rows rows n
     node_of n at = record {
       node = at.node;
@@ -94,6 +102,7 @@ module _ (ahead : Ahead) (scenario : Scenario) (firsts bases more : List Base) (
     answered : (client seq : ℕ) (reply : Reply) → IsAnswered ahead bases (h_of rows) client seq reply → IsAnswered ahead more (h_of rows) client seq reply
     answered client seq reply (b, a, at) = (b, all b a, at)
 
+    -- so are clients
     client_of : (asks : Asks) → IsClientAt ahead scenario firsts bases route made heard rows asks → IsClientAt ahead scenario firsts more route made heard rows asks
     client_of asks at = record {
       client = at.client;

@@ -28,14 +28,13 @@ use Rattle.sc_players.specs.Players.{Ahead, Lawful, system_of, schedule}
 use Rattle.sc_players.specs.declared.roles.Role.TheVariants.{Node as ANode}
 use Rattle.sc_scenario.specs.declared.scenarios.Asks.{Asks}
 use Rattle.sc_scenario.specs.declared.scenarios.Scenario.{Scenario}
-use Rattle.sc_sound.specs.GroupsOf.{AreApart, groups_at, entries_at}
+use Rattle.sc_sound.specs.GroupsOf.{AreApart, groups_at}
 use Rattle.sc_sound.specs.Requests.{kept_replies}
 use Rattle.sc_sound.specs.Soundness.{HasRun, AllHaveRun}
 use Rattle.sc_ring_law.specs.Allowed.{Sources, IsAllowed}
 use Rattle.sc_ring_law.specs.Laws.{BeginInPlace}
 use Rattle.sc_journal_law.specs.Beside.{HasOneValue, IsIssuedIn, IsDecidedBefore, HoldsBeside}
 use Rattle.sc_journal_law.specs.Descent.{Rows, added_by}
-use Rattle.sc_journal_law.proofs.Findings.{entries_are_allowed}
 use Rattle.sc_group_law.proofs.Births.{at_start}
 use Rattle.sc_group_law.proofs.Families.{h_of}
 use Rattle.sc_group_law.proofs.Holding.{held}
@@ -46,9 +45,6 @@ use Rattle.sc_group_law.proofs.Stepping.{MayTell}
 use Rattle.sc_whole_law.specs.Orders.{OrdersAreAllowed}
 use Rattle.sc_whole_law.specs.Parameters.{stories_at, IsIssuedCall, MayQueue, MayHear}
 use Rattle.sc_start_law.specs.Begins.{IsFresh, HasSeats, AsksAre}
-use Rattle.sc_whole_law.specs.Parties.{PartiesAreApart, MergesFit}
-use Rattle.sc_whole_law.proofs.Distinct.{parties_are_apart}
-use Rattle.sc_whole_law.proofs.Fitting.{merges_fit}
 use Rattle.sc_whole_law.proofs.Replies.{decided_before, replies_are_decided}
 use Rattle.sc_whole_law.proofs.Turning.{Holds, players, issued_now, told_now, holds_next}
 
@@ -88,83 +84,85 @@ module _ (sources : Sources) (ahead : Ahead) (words : ℕ → ℕ → ℕ × ℕ
   may_tell all before row later are orders h (Drop number) e = tt
   may_tell all before row later are orders h (Again number) e = tt
 
-  module _ (all : Rows) (orders : OrdersAreAllowed sources ahead scenario all) where
-    parties : (rows : Rows) → All rows → PartiesAreApart (stories_at ahead scenario.groups rows) × MergesFit (stories_at ahead scenario.groups rows)
-    parties rows h =
-        let entries = entries_at ahead scenario.groups rows in
-        let allowed = entries_are_allowed sources ahead scenario.groups start rows h.turn in
-        (parties_are_apart sources scenario.groups start entries allowed, merges_fit sources scenario.groups fresh entries allowed)
+  -- ---- beside, where all holds
 
+  module _ (rows : Rows) (h : All rows) where
+    -- a node's replicas have executed fronts
+    node_has_run : (n : ℕ) (node : NodeState) → IsNode ahead (bases rows) (MayQueue sources ahead scenario rows) (h_of rows) n node → (r : ReplicaState) → Among r node.replicas
+        → (b : Base) × Among b (bases rows) × (b.core.id ≡ name_of r) × HasRun ahead b rows r
+    node_has_run n node at r a =
+        let (b, among, named) = Each-among (λ s. IsOneOf (bases rows) (name_of s)) node.replicas r at.known a in
+        let replica = held ahead b (MayQueue sources ahead scenario rows b) n (h_of rows b) node.replicas (at.holds b among) r a named in
+        (b, among, sym named, executed_is ahead b rows (h.kept.parts b among).lawful (MayQueue sources ahead scenario rows b) n r replica)
+
+    -- so have those of all nodes
+    have_run : AllHaveRun ahead scenario rows
+    have_run n low high node is r a =
+        let at = h.kept.nodes n low high in
+        let found : ANode at.node ≡ ANode node = sym at.value_is ∙ is in
+        let same : at.node ≡ node = cc in
+        node_has_run n node (subst (IsNode ahead (bases rows) (MayQueue sources ahead scenario rows) (h_of rows) n) same at.is) r a
+
+    -- each slot of a group has one value
+    values : (b : Base) → Among b (bases rows) → HasOneValue ahead b rows
+    values b a = (let lawful = (h.kept.parts b a).lawful in record { one_value = one_value ahead b rows lawful; is_log = is_log ahead b rows lawful })
+
+  -- ---- row by row
+
+  module _ (all : Rows) (orders : OrdersAreAllowed sources ahead scenario all) where
     -- what holds of each first part of the journal
     abbrev P : Rows → Type 0
     P rows = (more : Rows) → all ≡ rows ++ more → All rows
 
+    -- one row more keeps it
     keeps : (rows : Rows) (row : Row Mail OrderLine) → P rows → IsStep (system_of ahead words scenario) rows row → P (rows ++ row ∷ [])
     keeps rows row p step more e =
         let are : all ≡ rows ++ row ∷ more = e ∙ append_assoc rows (row ∷ []) more in
         let h = p (row ∷ more) are in
-        let both = parties rows h in
-        holds_next sources ahead words scenario route start seats asks_are rows h both.0 both.1 row (may_tell all rows row more are orders h row.event refl) step
+        holds_next sources ahead words scenario route start seats asks_are rows h row (may_tell all rows row more are orders h row.event refl) step
 
     module _ (lawful : Lawful ahead words scenario all) where
+      -- its first parts are lawful
       first_lawful : (rows more : Rows) → all ≡ rows ++ more → Lawful ahead words scenario rows
       first_lawful rows more e = lawful-prefix (system_of ahead words scenario) (schedule scenario) rows more (subst (Lawful ahead words scenario) e lawful)
 
+      -- so all holds of each
       holds_at : (rows more : Rows) → all ≡ rows ++ more → All rows
       holds_at rows more e = lawful-induction (system_of ahead words scenario) P keeps (schedule scenario) rows (λ rest is. holds_first) (first_lawful rows more e) more e
 
-      -- it decides in turn, and so on
+      -- and of the whole
       pub holds : All all
       holds = holds_at all [] (sym (append-nil all))
 
-      -- ---- beside, row by row
-
       module _ (before : Rows) (row : Row Mail OrderLine) (later : Rows) (are : all ≡ before ++ row ∷ later) where
+        -- all holds before a row
         here : All before
         here = holds_at before (row ∷ later) are
 
+        -- the row is a step
         step : IsStep (system_of ahead words scenario) before row
         step =
             let first = first_lawful (before ++ row ∷ []) later (are ∙ sym (append_assoc before (row ∷ []) later)) in
             MayAdd-step (system_of ahead words scenario) before (place_after (system_of ahead words scenario) (schedule scenario) before).tasks row
             (lawful-last (system_of ahead words scenario) (schedule scenario) before row first)
 
+        -- each call that it decides was issued
         issued_here : (b : Base) → Among b (bases before) → (client seq : ℕ) (op : Op) → Among (Call client seq op) (added_by ahead before row b) → IsIssuedIn scenario before client seq op
         issued_here =
-            let both = parties before here in
-            issued_now sources ahead words scenario route start seats asks_are before here both.0 both.1 row (may_tell all before row later are orders here row.event refl) step
+            issued_now sources ahead words scenario route start seats asks_are before here row (may_tell all before row later are orders here row.event refl) step
 
+        -- each reply that a client keeps after it was decided
         told_here : (asks : Asks) → Among asks scenario.clients → (place : ℕ) (reply : Reply) → slice_get (kept_replies route asks (before ++ row ∷ [])) place ≡ Some reply
             → IsDecidedBefore ahead scenario.groups all asks.client (place + 1) reply (length before + 1)
         told_here asks stands place reply at =
-            let both = parties before here in
-            decided_before ahead scenario route all before row later are (λ b a. (here.kept.parts b a).lawful) asks.client (place + 1) reply
-            (told_now sources ahead words scenario route start seats asks_are before here both.0 both.1 row (may_tell all before row later are orders here row.event refl) step asks stands place reply at)
-
-      -- ---- beside, at its end
-
-      node_has_run : (h : All all) (n : ℕ) (node : NodeState) → IsNode ahead (bases all) (MayQueue sources ahead scenario all) (h_of all) n node → (r : ReplicaState) → Among r node.replicas
-          → (b : Base) × Among b (bases all) × (b.core.id ≡ name_of r) × HasRun ahead b all r
-      node_has_run h n node at r a =
-          let (b, among, named) = Each-among (λ s. IsOneOf (bases all) (name_of s)) node.replicas r at.known a in
-          let replica = held ahead b (MayQueue sources ahead scenario all b) n (h_of all b) node.replicas (at.holds b among) r a named in
-          (b, among, sym named, executed_is ahead b all (h.kept.parts b among).lawful (MayQueue sources ahead scenario all b) n r replica)
-
-      have_run : All all → AllHaveRun ahead scenario all
-      have_run h n low high node is r a =
-          let at = h.kept.nodes n low high in
-          let found : ANode at.node ≡ ANode node = sym at.value_is ∙ is in
-          let same : at.node ≡ node = cc in
-          node_has_run h n node (subst (IsNode ahead (bases all) (MayQueue sources ahead scenario all) (h_of all) n) same at.is) r a
-
-      values : All all → (b : Base) → Among b (bases all) → HasOneValue ahead b all
-      values h b a = (let lawful = (h.kept.parts b a).lawful in record { one_value = one_value ahead b all lawful; is_log = is_log ahead b all lawful })
+            decided_before ahead scenario all before row later are (λ b a. (here.kept.parts b a).lawful) asks.client (place + 1) reply
+            (told_now sources ahead words scenario route start seats asks_are before here row (may_tell all before row later are orders here row.event refl) step asks stands place reply at)
 
       -- what makes the journal sound beside its groups and entries
       pub beside : HoldsBeside ahead scenario all
       beside = record {
-        values = values holds;
-        have_run = have_run holds;
+        values = values all holds;
+        have_run = have_run all holds;
         issued = issued_here;
         replies = replies_are_decided ahead scenario route all seats told_here;
       }

@@ -3,15 +3,16 @@ pub mod Members
 pub mod Locks
 pub mod Asking
 pub mod Speaking
+pub mod Fronts
 pub mod Granting
 pub mod Apart
 pub mod Children
 pub mod Growing
 pub mod Replies
-pub mod Turning
 pub mod Distinct
 pub mod Unions
 pub mod Fitting
+pub mod Turning
 pub mod Journals
 pub mod Sound
 pub mod Scheduled

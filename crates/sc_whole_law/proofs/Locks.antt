@@ -75,10 +75,12 @@ pub record WatchesIt (tx : Draw) (watch : Watch) (group : Group) (c : Command) :
   pub effect : (applied group c).1 ≡ Was.Voted Cast.Yes
 
 module _ (tx : Draw) (watch : Watch) where
+  -- a vote on an offer binds no watcher
   offered_lock : (why : Option No) (t : Draw) (offer : Offer) (lock : Lock) → bound_by why (Promised t offer) lock ≡ Watching tx watch → lock ≡ Watching tx watch
   offered_lock None t offer lock e = cc
   offered_lock (Some reason) t offer lock e = e
 
+  -- a vote on a question leaves the watcher, or is its Yes
   asked_lock : (why : Option No) (t : Draw) (w : Watch) (lock : Lock) → bound_by why (Watching t w) lock ≡ Watching tx watch
       → (lock ≡ Watching tx watch) ⊎ ((Watched t w ≡ Watched tx watch) × (Was.Voted (past_of why) ≡ Was.Voted Cast.Yes))
   asked_lock None t w lock e = (
@@ -87,9 +89,11 @@ module _ (tx : Draw) (watch : Watch) where
       inr (ap (λ d. Watched d w) one ∙ ap (λ v. Watched tx v) other, refl))
   asked_lock (Some reason) t w lock e = inl e
 
+  -- what came of a command
   abbrev Came : Group → Command → Group × Effect → Type 0
   Came group d x = x.0.core.lock ≡ Watching tx watch → (group.core.lock ≡ Watching tx watch) ⊎ ((d ≡ Watched tx watch) × (x.1 ≡ Was.Voted Cast.Yes))
 
+  -- with one command more
   watching_step : (group : Group) (c : Command) → (applied group c).0.core.lock ≡ Watching tx watch → (group.core.lock ≡ Watching tx watch) ⊎ WatchesIt tx watch group c
   watching_step group c e =
       elim (comes group (Came group)
@@ -127,9 +131,11 @@ pub record DecidesIt (tx : Draw) (outcome : Outcome) (group : Group) (c : Comman
   pub effect : (applied group c).1 ≡ Was.Decided outcome
 
 module _ (tx : Draw) (outcome : Outcome) where
+  -- the decision stands in the group
   abbrev HasIt : Group → Type 0
   HasIt group = Among (tx, outcome) group.core.decided
 
+  -- what came of a command
   abbrev CameOf : Group → Command → Group × Effect → Type 0
   CameOf group d x = HasIt x.0 → HasIt group ⊎ (EndsIt tx d × (x.1 ≡ Was.Decided outcome))
 
@@ -141,6 +147,7 @@ module _ (tx : Draw) (outcome : Outcome) where
         | inr (inr none) ↦ absurd none
       ]
 
+  -- with one command more
   decided_step : (group : Group) (c : Command) → HasIt (applied group c).0 → HasIt group ⊎ DecidesIt tx outcome group c
   decided_step group c a =
       elim (comes group (CameOf group)
@@ -174,6 +181,7 @@ module _ (tx : Draw) where
   abbrev noted : List (Draw × Past) → Option Past
   noted voted = option_map (λ (vote : Draw × Past). vote.1) (find (λ (vote : Draw × Past). same_draw vote.0 tx) voted)
 
+  -- with one vote more
   noted_push : (voted : List (Draw × Past)) (t : Draw) (p : Past) → noted (voted ++ (t, p) ∷ []) ≡ Some Cast.Yes → (noted voted ≡ Some Cast.Yes) ⊎ ((t ≡ tx) × (p ≡ Cast.Yes))
   noted_push [] t p =
       cond_both (same_draw t tx) (Some (t, p)) None (λ (o : Option (Draw × Past)). option_map (λ (vote : Draw × Past). vote.1) o ≡ Some Cast.Yes → (None ≡ Some Cast.Yes) ⊎ ((t ≡ tx) × (p ≡ Cast.Yes)))
@@ -187,6 +195,7 @@ module _ (tx : Draw) where
         | inr new ↦ inr new
       ])
 
+  -- what has ended is no Yes
   no_yes : (p : Past) → Some Cast.Ended ≡ Some Cast.Yes → ⊥
   no_yes p e = cc
 
@@ -211,13 +220,16 @@ module _ (tx : Draw) where
       ))
       (λ other more. (let k = rest more in (ap (option_map (λ (vote : Draw × Past). vote.1)) (cond-false (same_draw v.0 tx) (Some v) _ other) ∙ k.0, k.1))) got
 
+  -- of no votes none is noted
   none_noted : noted [] ≡ Some Cast.Yes → ⊥
   none_noted e = cc
 
+  -- a Yes among votes of which one was closed is another's
   closed_noted : (t : Draw) (voted : List (Draw × Past)) → noted (map (closed t) voted) ≡ Some Cast.Yes → (noted voted ≡ Some Cast.Yes) × (t ≡ tx → ⊥)
   closed_noted t [] y = absurd (none_noted y)
   closed_noted t (v ∷ voted) y = closed_one t v voted (same_draw v.0 t) refl (closed_noted t voted) y
 
+  -- a vote that is noted is one of these
   noted_any : (voted : List (Draw × Past)) → noted voted ≡ Some Cast.Yes → list_any (λ (vote : Draw × Past). same_draw vote.0 tx) voted ≡ true
   noted_any [] y = absurd (none_noted y)
   noted_any (v ∷ voted) y =
@@ -230,6 +242,7 @@ module _ (tx : Draw) where
   abbrev pub YesBinds : Group → Type 0
   YesBinds group = noted group.core.voted ≡ Some Cast.Yes → Binds group.core.lock tx
 
+  -- a Yes binds with one vote more
   yes_of : (why : Option No) (bond lock : Lock) (voted : List (Draw × Past)) (t : Draw) → (why ≡ None → lock ≡ Free) → Binds bond t → (noted voted ≡ Some Cast.Yes → Binds lock tx)
       → noted (voted ++ (t, past_of why) ∷ []) ≡ Some Cast.Yes → Binds (bound_by why bond lock) tx
   yes_of None bond lock voted t free binds y e = elim (noted_push voted t Cast.Yes e) [
@@ -238,12 +251,14 @@ module _ (tx : Draw) where
   ]
   yes_of (Some reason) bond lock voted t free binds y e = elim (noted_push voted t (Cast.No reason) e) [ inl old ↦ y old | inr (same, p) ↦ cc ]
 
+  -- a group is bound in one transaction
   one_bond : (lock : Lock) (t : Draw) → Binds lock t → Binds lock tx → t ≡ tx
   one_bond Free t a b = absurd a
   one_bond (Coordinating d body order got) t a b = absurd a
   one_bond (Promised d offer) t a b = sym a ∙ b
   one_bond (Watching d watch) t a b = sym a ∙ b
 
+  -- no Yes is left where the vote of its transaction was closed
   freed : (voted : List (Draw × Past)) (t : Draw) (lock : Lock) → Binds lock t → (noted voted ≡ Some Cast.Yes → Binds lock tx) → (b : Bool) → list_any (λ (vote : Draw × Past). same_draw vote.0 t) voted ≡ b
       → noted (cond b (map (closed t) voted) (voted ++ (t, Cast.Ended) ∷ [])) ≡ Some Cast.Yes → ⊥
   freed voted t lock binds y true has e =
@@ -258,6 +273,7 @@ module _ (tx : Draw) where
     | inr (same, p) ↦ cc
   ]
 
+  -- with one command more
   yes_step : (group : Group) (c : Command) → YesBinds group → YesBinds (applied group c).0
   yes_step group c y =
       comes group (λ d x. YesBinds x.0)

@@ -1,6 +1,6 @@
 -- The members of a group stay one to nine nodes, ascending, whatever its log has.
-use Rattle.std.proofs.Common.{◌≡◌, ℕ, ◌≤◌, ◌||◌, not, eqb, [], ◌∷◌, length, Some, None, sym, subst, arith}
-use Rattle.std.proofs.lemmas.Bool.{eqb-false, cond_both}
+use Rattle.std.proofs.Common.{◌≡◌, ℕ, ◌||◌, not, true, nat_le, eqb, [], ◌∷◌, length, Some, None, sym, ap, subst, arith}
+use Rattle.std.proofs.lemmas.Bool.{and_from, or_parts, not-false, eqb-false, le-leb, cond_both}
 use Rattle.sc_base.specs.Arc.{holds}
 use Rattle.sc_base.specs.declared.names.Draw.{Draw}
 use Rattle.sc_cmd.specs.declared.commands.Command.{Command}
@@ -11,16 +11,23 @@ use Rattle.sc_member.specs.Roster.{IsRoster}
 use Rattle.sc_machine_table.specs.Group.{Group}
 use Rattle.sc_machine_table.specs.Machine.{applied}
 use Rattle.sc_machine_table.specs.Orders.{locked_in, refusal_of}
+use Rattle.sc_machine_table.specs.Plans.{can_cut, can_split}
 use Rattle.sc_group_law.proofs.Rosters.{free_refusal, applied_roster}
 use Rattle.sc_whole_law.specs.Laws.{MembersStayRosters}
-use Rattle.sc_whole_law.proofs.Coming.{comes, staying_roster}
+use Rattle.sc_whole_law.proofs.Coming.{two_members, staying_roster, comes}
 
--- a split that is not refused
-pub may_split : (core : Core) (at : ℕ) (child : Draw) (order : ℕ) → IsRoster core.members → refusal_of core (Split at child order) ≡ None → 2 ≤ length core.members
+-- where a split is not refused the group can be split
+pub may_split : (core : Core) (at : ℕ) (child : Draw) (order : ℕ) → IsRoster core.members → refusal_of core (Split at child order) ≡ None → can_split core at ≡ true
 may_split core at child order roster e =
-    cond_both (eqb at core.arc.lo || not (holds core.arc at)) (Some BadBoundary) _ (λ o. o ≡ None → 2 ≤ length core.members) (λ _ other. cc)
-    (λ _ rest. cond_both (eqb (length core.members) 1) (Some LastMember) _ (λ o. o ≡ None → 2 ≤ length core.members) (λ _ other. cc)
-    (λ f more. (let some = roster.some in let ne = eqb-false (length core.members) 1 f in omega (arith, some, ne))) rest)
+    cond_both (eqb at core.arc.lo || not (holds core.arc at)) (Some BadBoundary) _ (λ o. o ≡ None → can_split core at ≡ true) (λ _ other. cc)
+    (λ f rest. (
+    let parts = or_parts (eqb at core.arc.lo) (not (holds core.arc at)) f in
+    let cut = and_from (holds core.arc at) (not (eqb at core.arc.lo)) (not-false (holds core.arc at) parts.1) (ap (λ b. not b) parts.0) in
+    cond_both (eqb (length core.members) 1) (Some LastMember) _ (λ o. o ≡ None → can_split core at ≡ true) (λ _ other. cc)
+    (λ g more. (
+    let some = roster.some in
+    let several = eqb-false (length core.members) 1 g in
+    and_from (can_cut core.arc at) (nat_le 2 (length core.members)) cut (le-leb 2 (length core.members) (omega (arith, some, several))))) rest))
     (free_refusal (locked_in core.lock) core (Split at child order) e)
 
 -- with one command more
@@ -32,7 +39,7 @@ members_after group c roster =
       served = λ client seq op after effect e. subst (λ (core : Core). IsRoster core.members) (sym e) roster;
       joined = λ node order. applied_roster group (Join node order) tt roster;
       left = λ node order. applied_roster group (Leave node order) tt roster;
-      parted = λ at child order e. staying_roster group.core.members roster (may_split group.core at child order roster e);
+      parted = λ at child order e. staying_roster group.core.members roster (two_members group.core at (may_split group.core at child order roster e));
       split = λ at child order e. roster;
       begun = λ tx body order e. roster;
       offered = λ tx offer e. roster;
@@ -42,6 +49,7 @@ members_after group c roster =
       finished = λ tx binds after outcome r. r.roster roster;
     }) c
 
+-- with all commands of a log
 pub members_stay_rosters : MembersStayRosters
 members_stay_rosters group [] roster = roster
 members_stay_rosters group (c ∷ log) roster = members_stay_rosters (applied group c).0 log (members_after group c roster)

@@ -32,9 +32,8 @@ use Rattle.sc_journal_law.specs.Descent.{Rows}
 use Rattle.sc_group_law.proofs.Clients.{IsAnswered}
 use Rattle.sc_group_law.proofs.Families.{h_of}
 use Rattle.sc_group_law.proofs.Invariant.{rule, first}
-use Rattle.sc_group_law.proofs.Places.{split_at}
-use Rattle.sc_group_law.proofs.Replies.{front_is}
 use Rattle.sc_start_law.specs.Begins.{HasSeats}
+use Rattle.sc_whole_law.proofs.Fronts.{goes_on_from}
 
 -- ---- the group that clients ask first
 
@@ -45,9 +44,9 @@ mapped_same f g (y ∷ ys) e x (inl is) = (let same : f y ≡ g y = cc in subst 
 mapped_same f g (y ∷ ys) e x (inr a) = (let rest : map f ys ≡ map g ys = cc in mapped_same f g ys rest x a)
 
 -- routes of the same group, start and members are one
-routes_equal : (g h : Draw) (lo start : ℕ) (members nodes : List ℕ) → g ≡ h → lo ≡ start → members ≡ nodes
+routes_are_one : (g h : Draw) (lo start : ℕ) (members nodes : List ℕ) → g ≡ h → lo ≡ start → members ≡ nodes
     → (let route : Route = record { group = g; lo = lo; members = members } in route) ≡ record { group = h; lo = start; members = nodes }
-routes_equal g h lo start members nodes e f i = cc
+routes_are_one g h lo start members nodes e f i = cc
 
 -- where one group is known, its name and the way to it are known
 one_known : (g h : Draw) (way other : Way) → (let known : Known = (g, way) ∷ [] in known) ≡ (h, other) ∷ [] → (g ≡ h) × (way ≡ other)
@@ -56,12 +55,12 @@ one_known g h way other e =
     (ap (λ (pair : Draw × Way). pair.0) same, ap (λ (pair : Draw × Way). pair.1) same)
 
 -- a client at its birth knows one group alone
-same_route : (one other : Route) (asks : Asks) → client_seat one asks ≡ client_seat other asks → one ≡ other
-same_route one other asks e =
+one_route : (one other : Route) (asks : Asks) → client_seat one asks ≡ client_seat other asks → one ≡ other
+one_route one other asks e =
     let role : AClient (born_client asks.client asks.ops one) ≡ AClient (born_client asks.client asks.ops other) = ap (λ (s : Seat Player). s.actor) e in
     let born : born_client asks.client asks.ops one ≡ born_client asks.client asks.ops other = cc in
     let both = one_known one.group other.group (new_way one.lo one.members) (new_way other.lo other.members) (ap (λ (c : Client). c.known) born) in
-    routes_equal one.group other.group one.lo other.lo one.members other.members both.0 (ap (λ (w : Way). w.lo) both.1) (ap (λ (w : Way). w.members) both.1)
+    routes_are_one one.group other.group one.lo other.lo one.members other.members both.0 (ap (λ (w : Way). w.lo) both.1) (ap (λ (w : Way). w.members) both.1)
 
 -- so it is the scenario's first group
 route_is : (ahead : Ahead) (scenario : Scenario) (route : Route) → HasSeats ahead scenario route
@@ -70,7 +69,7 @@ route_is ahead scenario route seats group others is asks stands =
     let nodes = map (node_seat ahead scenario.groups) (numbers_from 1 scenario.nodes) in
     let clients = append_cancel_left nodes (client_seats scenario.groups scenario.clients) (map (client_seat route) scenario.clients) seats.seats in
     let same : map (client_seat (route_of group)) scenario.clients ≡ map (client_seat route) scenario.clients = sym (ap (λ gs. client_seats gs scenario.clients) is) ∙ clients in
-    same_route (route_of group) route asks (mapped_same (client_seat (route_of group)) (client_seat route) scenario.clients same asks stands)
+    one_route (route_of group) route asks (mapped_same (client_seat (route_of group)) (client_seat route) scenario.clients same asks stands)
 
 -- ---- rows that answer
 
@@ -95,6 +94,7 @@ record IsAnswerRow (route : Route) (asks : Asks) (seq : ℕ) (before rows : Rows
   pub taken : answered ≡ length front + 1
   pub within : seq ≤ length (kept_replies route asks (front ++ row ∷ []))
 
+-- a row that answers is one of those with the replies so far
 answer_found : (route : Route) (asks : Asks) (seq : ℕ) (before rows : Rows) (answered : ℕ) → answered_from route asks seq before rows ≡ Some answered → IsAnswerRow route asks seq before rows answered
 answer_found route asks seq before [] answered e = cc
 answer_found route asks seq before (row ∷ rows) answered e =
@@ -110,7 +110,7 @@ answer_found route asks seq before (row ∷ rows) answered e =
 
 -- ---- what was decided
 
-module _ (ahead : Ahead) (scenario : Scenario) (route : Route) (rows : Rows) where
+module _ (ahead : Ahead) (scenario : Scenario) (rows : Rows) where
   -- what a log told was decided before the row that comes next
   pub decided_before : (before : Rows) (row : Row Mail OrderLine) (later : Rows) → rows ≡ before ++ row ∷ later
       → ((b : Base) → Among b (groups_at ahead scenario.groups before) → IsLawfulHistory (rule ahead b) (first ahead b) (h_of before b))
@@ -118,7 +118,6 @@ module _ (ahead : Ahead) (scenario : Scenario) (route : Route) (rows : Rows) whe
   decided_before before row later are lawful client seq reply (b, a, at) =
       let called = at.front ++ Call client seq at.op ∷ [] in
       let log = decided_log ahead b before in
-      let begins = front_is ahead b before (lawful b a) called at.is_log in
       record {
         before = before;
         row = row;
@@ -130,22 +129,25 @@ module _ (ahead : Ahead) (scenario : Scenario) (route : Route) (rows : Rows) whe
         front = at.front;
         op = at.op;
         rest = drop (length called) log;
-        log = split_at (length called) called log begins.1 ∙ append_assoc at.front (Call client seq at.op ∷ []) (drop (length called) log);
+        log = goes_on_from ahead b before (lawful b a) called at.is_log ∙ append_assoc at.front (Call client seq at.op ∷ []) (drop (length called) log);
         replied = at.replied;
       }
 
+module _ (ahead : Ahead) (scenario : Scenario) (route : Route) (rows : Rows) where
   -- after each row clients keep only what was decided before it
   abbrev pub KeepDecided : Type 0
   KeepDecided = (before : Rows) (row : Row Mail OrderLine) (later : Rows) → rows ≡ before ++ row ∷ later → (asks : Asks) → Among asks scenario.clients
       → (place : ℕ) (reply : Reply) → slice_get (kept_replies route asks (before ++ row ∷ [])) place ≡ Some reply → IsDecidedBefore ahead scenario.groups rows asks.client (place + 1) reply (length before + 1)
 
   module _ (keep : KeepDecided) (asks : Asks) (stands : Among asks scenario.clients) where
+    -- a reply was there after the last row
     kept_in : (some : Rows) → rows ≡ some → (place : ℕ) (reply : Reply) → slice_get (kept_replies route asks some) place ≡ Some reply → (answered : ℕ) × IsDecidedBefore ahead scenario.groups rows asks.client (place + 1) reply answered
     kept_in [] are place reply e = cc
     kept_in (x ∷ xs) are place reply e =
         let (before, row, is) = has_last x xs in
         (length before + 1, keep before row [] (are ∙ is) asks stands place reply (subst (λ (some : Rows). slice_get (kept_replies route asks some) place ≡ Some reply) is e))
 
+    -- so each that is kept was decided
     kept_now : (seq : ℕ) (reply : Reply) → kept_reply route asks seq rows ≡ Some reply → (answered : ℕ) × IsDecidedBefore ahead scenario.groups rows asks.client seq reply answered
     kept_now seq reply e = elim (cases_Bool (eqb seq 0)) [
       | inl z ↦ (let no_way : None ≡ Some reply = sym (cond-true (eqb seq 0) None (slice_get (kept_replies route asks rows) (seq - 1)) z) ∙ e in absurd (cc))
@@ -156,6 +158,7 @@ module _ (ahead : Ahead) (scenario : Scenario) (route : Route) (rows : Rows) whe
           (answered, subst (λ n. IsDecidedBefore ahead scenario.groups rows asks.client n reply answered) same d))
     ]
 
+    -- and the one that a row answers with
     answered_now : (seq : ℕ) → 1 ≤ seq → (answered : ℕ) → answer_row route asks seq rows ≡ Some answered → (reply : Reply) × IsDecidedBefore ahead scenario.groups rows asks.client seq reply answered
     answered_now seq some answered e =
         let r = answer_found route asks seq [] rows answered e in

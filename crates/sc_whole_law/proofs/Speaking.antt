@@ -52,6 +52,7 @@ use Rattle.sc_whole_law.proofs.Coming.{EndsIt, IsDull, voting_group, comes}
 -- ---- what a lock says beside what it makes allowed
 
 module _ (sources : Sources) (by : Draw) (group : Group) where
+  -- what a lock says
   lock_is : (groups : Groups) (stories : Stories) → Facts sources.owner groups stories → groups by ≡ Some group → (lock : Lock) → group.core.lock ≡ lock → LockOk stories by group lock
   lock_is groups stories facts is lock e = subst (LockOk stories by group) e (facts.group by group is).lock_ok
 
@@ -73,6 +74,7 @@ module _ (sources : Sources) (by : Draw) (group : Group) where
 
 -- a group as it stands after a front of its log, by what is true of it and allowed
 module _ (sources : Sources) (stories : Stories) (fit : MergesFit stories) (name : Draw) where
+  -- each of these mails is heard
   abbrev Said : List Mail → Type 0
   Said = AreSaid (IsHeard sources stories)
 
@@ -106,12 +108,14 @@ module _ (sources : Sources) (stories : Stories) (fit : MergesFit stories) (name
         s.allows group.core.succ.group (Watched tx (split_watch me group.core at child))
         ((al group).asks tx (By.Split at child) order got lock (split_watch me group.core at child) (ap (λ l. Some (watch_with group.core group.core.succ.group group.core.id l)) (sym link)))
 
+    -- what a group asks first is heard
     said_first : (group : Group) → Stands group → (me : ℕ) (lock : Lock) → group.core.lock ≡ lock → Said (asked_first lock me group.core [])
     said_first group s me Free e = tt
     said_first group s me (Coordinating tx body order got) e = (said_question group s me tx body order got e, tt)
     said_first group s me (Promised tx offer) e = tt
     said_first group s me (Watching tx watch) e = tt
 
+    -- so is what it sends to several nodes
     said_to_all : (me : ℕ) (nodes : List ℕ) (body : MailBody) (before : List Mail) → IsSaid (IsHeard sources stories) body → Said before → Said (sent_all me nodes body before)
     unfolding sent_all
     said_to_all me [] body before t e = e
@@ -134,10 +138,12 @@ module _ (sources : Sources) (stories : Stories) (fit : MergesFit stories) (name
 
     -- ---- what an entry says
 
+    -- where nothing changes nothing is asked
     dull_asks : (effect : Effect) → IsDull effect → (me : ℕ) (core : Core) → asked_on effect me core [] ≡ []
     dull_asks Was.Changed d me core = absurd d
     dull_asks _ d me core = refl
 
+    -- and nothing is decided
     dull_decides : (effect : Effect) → IsDull effect → decided_in effect ≡ None
     dull_decides (Was.Decided outcome) d = absurd d
     dull_decides (Was.Done reply) d = refl
@@ -176,16 +182,20 @@ module _ (sources : Sources) (stories : Stories) (fit : MergesFit stories) (name
     abbrev Told : Draw → Outcome → Type 0
     Told tx outcome = (part : Draw) → IsAllowed sources stories part (Finish tx outcome)
 
+    -- giving up aborts
     giving_aborts : (group : Group) (tx : Draw) (outcome : Outcome) → (applied group (GiveUp tx)).1 ≡ Was.Decided outcome → outcome ≡ Is.Abort
     giving_aborts group tx outcome =
         cond_both (is_coordinating group.core.lock tx) (aborted group tx) (group, Was.NoEffect tx) (λ x. x.1 ≡ Was.Decided outcome → outcome ≡ Is.Abort) (λ _ e. (let same : Is.Abort ≡ outcome = cc in sym same)) (λ _ e. cc)
 
+    -- what has no effect decides nothing
     nothing_aborts : (tx : Draw) (outcome : Outcome) → Was.NoEffect tx ≡ Was.Decided outcome → outcome ≡ Is.Abort
     nothing_aborts tx outcome e = cc
 
+    -- an abort is what was decided
     decided_aborts : (outcome : Outcome) → Was.Decided Is.Abort ≡ Was.Decided outcome → outcome ≡ Is.Abort
     decided_aborts outcome e = (let same : Is.Abort ≡ outcome = cc in sym same)
 
+    -- a No of a watcher aborts
     no_aborts : (lock : Lock) (group : Group) (tx : Draw) (why : No) (outcome : Outcome) → (watch_recorded lock group tx (Cast.No why)).1 ≡ Was.Decided outcome → outcome ≡ Is.Abort
     no_aborts Free group tx why outcome e = nothing_aborts tx outcome e
     no_aborts (Promised t offer) group tx why outcome e = nothing_aborts tx outcome e
@@ -195,23 +205,28 @@ module _ (sources : Sources) (stories : Stories) (fit : MergesFit stories) (name
         (λ _. cond_both (asks_watcher body got) (aborted group tx) (group, Was.NoEffect tx) (λ (x : Group × Effect). x.1 ≡ Was.Decided outcome → outcome ≡ Is.Abort) (λ _. decided_aborts outcome) (λ _. nothing_aborts tx outcome))
         (λ _. nothing_aborts tx outcome) e
 
+    -- an abort is heard by the group that it is told
     aborted_said : (me : ℕ) (tx : Draw) (link : Link) (before : List Mail) → Told tx Is.Abort → Said before → Said (aborted_to me tx link before)
     aborted_said me tx link before told e = said_to_all me link.members (TxOutcome tx link.group Is.Abort) before (told link.group) e
 
+    -- so it is by a watcher
     watcher_said : (me : ℕ) (tx : Draw) (o : Option (ℕ × Link)) (before : List Mail) → Told tx Is.Abort → Said before → Said (aborted_watcher me tx o before)
     watcher_said me tx None before told e = e
     watcher_said me tx (Some heard) before told e = aborted_said me tx heard.1 before told e
 
+    -- an end is heard by those whom it releases
     released_said : (o : Option (ℕ × Link)) (me : ℕ) (succ : Link) (tx : Draw) (by : ℕ) (outcome : Outcome) → Told tx outcome → Said (released_to o me succ tx by outcome [])
     released_said None me succ tx by outcome told = (told succ.group, tt)
     released_said (Some heard) me succ tx by outcome told = (told succ.group, (told heard.1.group, tt))
 
+    -- so is the end that a watcher's vote brings
     watch_said : (vote : Past) (me : ℕ) (was : Before) (tx : Draw) (by : ℕ) (outcome : Outcome) → Told tx outcome → ((why : No) → vote ≡ Cast.No why → outcome ≡ Is.Abort) → Said (watch_answered_by (Some outcome) vote me was tx by [])
     watch_said Cast.Yes me was tx by outcome told aborts = released_said was.heard me was.succ tx by outcome told
     watch_said (Cast.No why) me was tx by outcome told aborts =
         cond_both was.merges (aborted_to me tx was.succ []) [] Said (λ _. aborted_said me tx was.succ [] (subst (Told tx) (aborts why refl) told) tt) (λ _. tt)
     watch_said Cast.Ended me was tx by outcome told aborts = tt
 
+    -- and the one that a participant's vote brings
     vote_said : (vote : Vote) (me : ℕ) (was : Before) (tx : Draw) (by : ℕ) (outcome : Outcome) → Told tx outcome → Said (vote_answered (Some outcome) vote me was tx by [])
     vote_said (Vows.Yes frozen) me was tx by outcome told = (told was.succ.group, tt)
     vote_said (Vows.No why) me was tx by outcome told = tt
@@ -241,18 +256,22 @@ module _ (sources : Sources) (stories : Stories) (fit : MergesFit stories) (name
     -- ---- each entry
 
     module _ (group : Group) (was : Before) (me : ℕ) (c : Command) (may : EntryAllows group c) (next : Stands (applied group c).0) where
+      -- what is said of what came of a command is heard
       abbrev Goes : Command → Group × Effect → Type 0
       Goes d x = d ≡ c → x ≡ applied group c → Said (went_on me x.0 was x.1 d [])
 
+      -- the group after it
       stands_next : (after : Group) (effect : Effect) → (after, effect) ≡ applied group c → Stands after
       stands_next after effect e = subst Stands (ap (λ (x : Group × Effect). x.0) (sym e)) next
 
+      -- a participant's vote is heard
       offered_said : (tx : Draw) (offer : Offer) (why : Option No) → Stands (voting_group group tx why (Promised tx offer)) → Said (voted_to me (voting_group group tx why (Promised tx offer)) offer.by tx offer (past_of why) [])
       offered_said tx offer None s =
           let g = voting_group group tx None (Promised tx offer) in
           (s.allows name (RecordVote tx (Vows.Yes (frozen_of g)) 0) ((al g).promises tx offer refl name 0), tt)
       offered_said tx offer (Some reason) s = (tt, tt)
 
+      -- so is a watcher's
       asked_said : (tx : Draw) (watch : Watch) (why : Option No) → (past_of why ≡ Cast.Yes → IsAllowed sources stories name (RecordWatch tx Cast.Yes 0)) → Said (watched_to me watch.by tx watch (past_of why) [])
       asked_said tx watch None voted = (voted refl, tt)
       asked_said tx watch (Some reason) voted = (tt, tt)

@@ -44,22 +44,25 @@ use Rattle.sc_journal_law.proofs.Findings.{told_rows, groups_are_found, groups_a
 use Rattle.sc_journal_law.proofs.Generations.{group_found}
 use Rattle.sc_journal_law.proofs.Histories.{told_rows_stay}
 use Rattle.sc_journal_law.proofs.Parts.{rows_go_on}
-use Rattle.sc_journal_law.proofs.Told.{state_there}
+use Rattle.sc_journal_law.proofs.Told.{Told, state_there}
 use Rattle.sc_group_law.proofs.Births.{first_of}
 use Rattle.sc_group_law.proofs.Clients.{IsIssued, IsAnswered}
 use Rattle.sc_group_law.proofs.Families.{h_of, Kept, Stepped, IsLater, Moved, stepped, push, log_goes_on, decided_made}
-use Rattle.sc_group_law.proofs.Places.{or_now, issue-push, split_at}
-use Rattle.sc_group_law.proofs.Replies.{front_is}
+use Rattle.sc_group_law.proofs.Places.{or_now, issue-push}
 use Rattle.sc_group_law.proofs.Stepping.{HasPlayers, MayTell, KnowsOffspring, moved}
 use Rattle.sc_whole_law.specs.Parameters.{stories_at, IsIssuedCall, MayQueue, MayHear}
 use Rattle.sc_start_law.specs.Begins.{IsFresh, HasSeats, AsksAre}
 use Rattle.sc_whole_law.specs.Parties.{PartiesAreApart, MergesFit}
 use Rattle.sc_whole_law.proofs.Apart.{IsNew, IsOldOrNew, named_apart, silent}
 use Rattle.sc_whole_law.proofs.Children.{fresh_children}
+use Rattle.sc_whole_law.proofs.Distinct.{parties_are_apart}
+use Rattle.sc_whole_law.proofs.Fitting.{merges_fit}
+use Rattle.sc_whole_law.proofs.Fronts.{goes_on_from}
 use Rattle.sc_whole_law.proofs.Granting.{speaks}
 use Rattle.sc_whole_law.proofs.Growing.{grown}
 use Rattle.sc_whole_law.proofs.Members.{members_stay_rosters}
 
+-- what holds of each holds of those after some
 each_dropped : {X : Type 0} (P : X → Type 0) (n : ℕ) (xs : List X) → Each P xs → Each P (drop n xs)
 each_dropped P zero xs e = e
 each_dropped P (suc n) [] e = tt
@@ -114,8 +117,25 @@ module _ (sources : Sources) (ahead : Ahead) (words : ℕ → ℕ → ℕ × ℕ
   Steps rows row = (b : Base) → Among b (bases rows) → Stepped ahead scenario scenario.groups (bases rows) route made heard rows row b
 
   module _ (rows : Rows) (h : Holds rows) where
+    -- the groups that there are
     found : AreFound ahead scenario.groups rows
     found = groups_are_found sources ahead scenario.groups start rows h.turn
+
+    -- what the entries of their logs tell
+    told : Told sources ahead scenario.groups rows
+    told = told_rows sources ahead scenario.groups start rows h.turn
+
+    -- each group stands among all with the state after its log
+    state_is : (b : Base) → Among b (bases rows) → named_group b.core.id (world_at ahead scenario.groups rows).groups ≡ Some (decided_state ahead b rows)
+    state_is b a = state_there sources ahead scenario.groups start rows told b (group_found ahead scenario.groups rows b a)
+
+    -- the parties of a transaction are two
+    apart : PartiesAreApart (stories_at ahead scenario.groups rows)
+    apart = parties_are_apart sources scenario.groups start (entries_at ahead scenario.groups rows) told.allowed
+
+    -- and those of a merge have few enough members
+    fit : MergesFit (stories_at ahead scenario.groups rows)
+    fit = merges_fit sources scenario.groups (λ b a. h.fresh b (found.first b a)) (entries_at ahead scenario.groups rows) told.allowed
 
     -- ---- the children that a row names are new
 
@@ -126,6 +146,7 @@ module _ (sources : Sources) (ahead : Ahead) (words : ℕ → ℕ → ℕ × ℕ
       abbrev added : Base → List Command
       added b = added_by ahead rows row b
 
+      -- what it adds to a log is allowed
       allowed : Steps rows row → (b : Base) → Among b (bases rows) → Each (IsAllowed sources (stories_at ahead scenario.groups rows) b.core.id) (added b)
       allowed steps b a =
           let before = length (decided_log ahead b rows) in
@@ -133,27 +154,24 @@ module _ (sources : Sources) (ahead : Ahead) (words : ℕ → ℕ → ℕ × ℕ
           each_dropped (IsAllowed sources (stories_at ahead scenario.groups rows) b.core.id) before (decided_log ahead b next)
           (Each-weaker (made rows b) (IsAllowed sources (stories_at ahead scenario.groups rows) b.core.id) (λ c m. m.0) (decided_log ahead b next) all)
 
+      -- the children that it names were born by nobody
       born : Steps rows row → (b : Base) (a : Among b (bases rows)) → BornBy b.core.id (world_at ahead scenario.groups rows) (length (decided_log ahead b rows) + 1) (decided_state ahead b rows) (added b)
       born steps b a =
-          let k = told_rows sources ahead scenario.groups start rows h.turn in
           let old = entries_at ahead scenario.groups rows in
           let w = told_after (first_told scenario.groups) old in
           let store_is = store_after (first_told scenario.groups) old in
-          let kept = kept_after sources (first_told scenario.groups) old (at_start sources scenario.groups start) k.allowed in
-          let may = all_allowed sources scenario.groups start old k.allowed b.core.id (length (decided_log ahead b rows) + 1) (added b) (allowed steps b a) in
-          let there = state_there sources ahead scenario.groups start rows k b (group_found ahead scenario.groups rows b a) in
+          let kept = kept_after sources (first_told scenario.groups) old (at_start sources scenario.groups start) told.allowed in
+          let may = all_allowed sources scenario.groups start old told.allowed b.core.id (length (decided_log ahead b rows) + 1) (added b) (allowed steps b a) in
           subst (λ (x : StoreWorld). BornBy b.core.id x (length (decided_log ahead b rows) + 1) (decided_state ahead b rows) (added b)) store_is
-          (born_by sources b.core.id w kept (decided_state ahead b rows) (ap (λ (x : StoreWorld). named_group b.core.id x.groups) store_is ∙ there) (length (decided_log ahead b rows) + 1) (added b) may)
+          (born_by sources b.core.id w kept (decided_state ahead b rows) (ap (λ (x : StoreWorld). named_group b.core.id x.groups) store_is ∙ state_is b a) (length (decided_log ahead b rows) + 1) (added b) may)
 
+      -- so their names are new
       new_name : Steps rows row → (b : Base) → Among b (bases rows) → (child : Base) → Among child (newborn_by ahead rows row b) → IsNew (bases rows) child.core.id
       new_name steps b a child c other o same =
-          let k = told_rows sources ahead scenario.groups start rows h.turn in
           let unborn = (born steps b a).unborn child c in
-          some_none (decided_state ahead other rows)
-          (sym (state_there sources ahead scenario.groups start rows k other (group_found ahead scenario.groups rows other o)) ∙ ap (λ n. named_group n (world_at ahead scenario.groups rows).groups) same ∙ unborn)
+          some_none (decided_state ahead other rows) (sym (state_is other o) ∙ ap (λ n. named_group n (world_at ahead scenario.groups rows).groups) same ∙ unborn)
 
-      -- ---- the row decides in turn
-
+      -- the row decides in turn
       turned : Steps rows row → DecidesInTurn sources ahead scenario.groups rows row
       turned steps = record {
         goes_on = λ b a. (drop (length (decided_log ahead b rows)) (decided_log ahead b next), log_goes_on ahead scenario scenario.groups (bases rows) route made heard b rows row (steps b a));
@@ -161,14 +179,15 @@ module _ (sources : Sources) (ahead : Ahead) (words : ℕ → ℕ → ℕ × ℕ
         unheard = λ b a child c. silent ahead child rows row (λ m x. named_apart (heard rows) (bases rows) child.core.id (new_name steps b a child c) m.body (h.kept.named m x));
       }
 
-      -- ---- what was allowed stays so
-
+      -- so all rows do
       turned_all : Steps rows row → DecideInTurn sources ahead scenario.groups [] next
       turned_all steps = rows_go_on sources ahead scenario.groups rows row h.turn (turned steps)
 
+      -- what was allowed stays so
       still : Steps rows row → (name : Draw) (c : Command) → IsAllowed sources (stories_at ahead scenario.groups rows) name c → IsAllowed sources (stories_at ahead scenario.groups next) name c
       still steps name c a = allowed_stays_allowed sources ahead scenario.groups start rows (row ∷ []) (turned_all steps) name c a
 
+      -- and what was true in mail
       still_heard : Steps rows row → (body : MailBody) → heard rows body → heard next body
       still_heard steps (TxPrepare tx offer) t = still steps offer.part (Prepared tx offer) t
       still_heard steps (TxVote tx coord part vote) t = still steps coord (RecordVote tx vote 0) t
@@ -177,11 +196,13 @@ module _ (sources : Sources) (ahead : Ahead) (words : ℕ → ℕ → ℕ × ℕ
       still_heard steps (TxWatched tx coord part vote) t = still steps coord (RecordWatch tx vote 0) t
       still_heard steps _ t = tt
 
+      -- and what might be queued
       later : Steps rows row → IsLater ahead scenario scenario.groups (bases rows) route made heard rows row
       later steps = record { made_later = λ b c m. (still steps b.core.id c m.0, issued_later scenario rows row c m.1); heard_later = still_heard steps }
 
     -- ---- one row more
 
+    -- a call that was issued may be queued
     issued_call : (older : Rows) (b : Base) (client seq : ℕ) (op : Op) → IsIssued scenario older client seq op → made older b (Call client seq op)
     issued_call older b client seq op i = (
       asks_are i.asks i.stands seq op i.some i.op_is ∙ ap (λ n. sources.request n seq) (sym i.who),
@@ -199,11 +220,12 @@ module _ (sources : Sources) (ahead : Ahead) (words : ℕ → ℕ → ℕ × ℕ
       some = λ older b a log all. (let roster = members_stay_rosters (group_of b) log (h.fresh b a).roster in first_of (state_after (group_of b) log).core.members roster.some);
     }
 
+    -- a child that is born is one of the groups, under a name of its own
     offspring : KnowsOffspring ahead words scenario scenario.groups (bases rows) route made heard players rows
     offspring n b a child is =
         let log = is.front ++ is.command ∷ [] in
         let decided = decided_log ahead b rows in
-        let on = split_at (length log) log decided (front_is ahead b rows (h.kept.parts b a).lawful log is.is_log).1 in
+        let on = goes_on_from ahead b rows (h.kept.parts b a).lawful log is.is_log in
         let birth = sym (births_are_children (state_after (group_of b) is.front) is.command) ∙ is.child_is in
         record {
           among = found.fronts b a log (drop (length log) decided) on child (child_in (group_of b) is.front is.command child birth);
@@ -211,18 +233,20 @@ module _ (sources : Sources) (ahead : Ahead) (words : ℕ → ℕ → ℕ × ℕ
           open_slots = seats.open_slots;
         }
 
-    module _ (apart : PartiesAreApart (stories_at ahead scenario.groups rows)) (fit : MergesFit (stories_at ahead scenario.groups rows)) (row : Row Mail OrderLine)
-        (may : MayTell ahead words scenario scenario.groups (bases rows) route made heard players rows row.who row.event) (step : IsStep (system_of ahead words scenario) rows row) where
+    module _ (row : Row Mail OrderLine) (may : MayTell ahead words scenario scenario.groups (bases rows) route made heard players rows row.who row.event)
+        (step : IsStep (system_of ahead words scenario) rows row) where
+      -- what became of each part
       moves : Moved ahead scenario scenario.groups (bases rows) route made heard rows row
       moves =
           moved ahead words scenario scenario.groups (bases rows) route made heard players rows h.kept (λ body t tx coord hint. tt)
           (λ b a. speaks sources ahead scenario start rows h.turn apart fit b a (h.kept.parts b a).lawful (h.fresh b a)) offspring (λ r steps. later r steps) row may step
 
+      -- and of the logs alone
       steps : Steps rows row
       steps b a = stepped ahead scenario scenario.groups (bases rows) route made heard rows row b (moves.parts b a)
 
       -- the row decides in turn
-      pub decides : DecidesInTurn sources ahead scenario.groups rows row
+      decides : DecidesInTurn sources ahead scenario.groups rows row
       decides = turned row steps
 
       -- each call that it decides was issued
@@ -251,15 +275,19 @@ module _ (sources : Sources) (ahead : Ahead) (words : ℕ → ℕ → ℕ × ℕ
             ]
           ]
 
+      -- what holds of the groups that there were
       after : Kept ahead scenario scenario.groups (bases rows) route made heard (rows ++ row ∷ [])
       after = push ahead scenario scenario.groups (bases rows) route made heard rows row (later row steps) h.kept moves
 
+      -- a newborn has a new name
       is_new : (b : Base) → IsNewborn ahead scenario.groups rows row b → IsNew (bases rows) b.core.id
       is_new b n other o same = some_none other (sym (found.known other o).birth ∙ ap (birth_at ahead scenario.groups rows) same ∙ n.unborn)
 
+      -- the groups after the row
       old_or_new : (b : Base) → Among b (bases (rows ++ row ∷ [])) → IsOldOrNew (bases rows) b
       old_or_new b a = elim (groups_are_old_or_new sources ahead scenario.groups start rows h.turn row decides b a) [ inl was ↦ inl was | inr n ↦ inr (is_new b n, (n.parent, n.stands)) ]
 
+      -- nothing had happened to them at their birth
       fresh_next : (b : Base) → Among b (bases (rows ++ row ∷ [])) → IsFresh b
       fresh_next b a = elim (groups_are_old_or_new sources ahead scenario.groups start rows h.turn row decides b a) [
         | inl was ↦ h.fresh b was

@@ -15,16 +15,19 @@ abbrev AreOnce : List ℕ → Type 0
 AreOnce [] = Unit {0}
 AreOnce (x ∷ xs) = (is_member xs x ≡ false) × AreOnce xs
 
+-- a node below all of these is not among them
 not_in : (x : ℕ) (xs : List ℕ) → All (λ y. x < y) xs → is_member xs x ≡ false
 not_in x [] all = refl
 not_in x (y ∷ ys) all =
     let lt : x < y = All-head (λ z. x < z) y ys all in
     ap (λ b. b || is_member ys x) (ne_eqb y x (λ e. omega (arith, e, lt))) ∙ not_in x ys (All-tail (λ z. x < z) y ys all)
 
+-- nodes that ascend stand once
 once_of : (xs : List ℕ) → AllPairs Below xs → AreOnce xs
 once_of [] pairs = tt
 once_of (x ∷ xs) pairs = (not_in x xs (head_below x xs pairs), once_of xs (tail_up x xs pairs))
 
+-- the same test the other way round
 flipped : (x y : ℕ) → eqb x y ≡ eqb y x
 flipped x y = elim (cases_Bool (eqb x y)) [
   | inl t ↦ t ∙ sym (eq-eqb y x (sym (eqb-true x y t)))
@@ -50,6 +53,7 @@ single x (y ∷ ys) once =
       | inr f ↦ ap (λ c. length (cond c (y ∷ others) others)) f ∙ rest ∙ sym (ap (λ c. bit (c || is_member ys x)) (sym (flipped x y) ∙ f))
     ]
 
+-- what two sets share, with one node more in the first
 both_of : (x : ℕ) (a b : List ℕ) → is_member a x ≡ false → length (filter (λ y. is_member (x ∷ a) y) b) ≡ length (filter (λ y. eqb x y) b) + length (filter (is_member a) b)
 both_of x a [] none = refl
 both_of x a (y ∷ ys) none =
@@ -78,6 +82,7 @@ both_of x a (y ∷ ys) none =
           ])
     ]
 
+-- and with none in the first
 none_of : (b : List ℕ) → length (filter (λ y. is_member [] y) b) ≡ 0
 none_of [] = refl
 none_of (y ∷ ys) = none_of ys

@@ -43,9 +43,9 @@ pub fn members_stay_rosters()
     ensures { MembersStayRosters }
 {}
 
-/// Each row of a lawful journal decides in turn, whatever its groups order, split, merge and move: the
-/// logs go on, each entry is allowed by what the entries before the row told, and a group that a row
-/// gives birth to begins with no entry. So a replica queues no command, and sends no mail of a
+/// Each row of a lawful journal decides in turn, whatever its groups order, split, merge and move:
+/// the logs go on, each entry is allowed by what the entries before the row told, and a group that a
+/// row gives birth to begins with no entry. So a replica queues no command, and sends no mail of a
 /// transaction, that the logs of the groups before it did not make allowed.
 pub fn lawful_journals_decide_in_turn()
     ensures { LawfulJournalsDecideInTurn }

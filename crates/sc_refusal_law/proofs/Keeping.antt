@@ -1,0 +1,134 @@
+-- What is asked of the commands that a replica keeps stays true of those that it keeps on.
+use Rattle.std.proofs.Common.{◌≡◌, ℕ, not, nat_lt, eqb, Bool, true, false, refl, sym, List, [], ◌∷◌, ◌++◌, Option, Some, None}
+use Rattle.sc_base.specs.Among.{Each}
+use Rattle.sc_base.specs.declared.names.Draw.{Draw}
+use Rattle.sc_base.specs.declared.ops.Op.{Op}
+use Rattle.sc_cmd.specs.declared.commands.Command.{Command}
+use Rattle.sc_cmd.specs.declared.commands.Command.TheVariants.{Noop, Call, Join, Leave, Split, Begin, Prepared, RecordVote, GiveUp, Finish, Watched, RecordWatch}
+use Rattle.sc_paxos_words.proofs.ListLemmas.{Each-append}
+use Rattle.sc_paxos_words.specs.declared.answers.Must.{Must}
+use Rattle.sc_paxos_words.specs.declared.answers.Must.TheVariants.{Value, Gap, Free as Open}
+use Rattle.sc_paxos_words.specs.declared.flights.Flight.{Flight}
+use Rattle.sc_paxos_words.specs.declared.reports.Report.{Report}
+use Rattle.sc_paxos_words.specs.Choice.{choice, chosen_value, names_above}
+use Rattle.sc_paxos_words.specs.Leaders.{flight_at, must, must_without}
+use Rattle.sc_node_table.specs.Queues.{call_of, is_call_of, without_call, call_before, put_back}
+use Rattle.sc_node_table.specs.Replica.{ReplicaState, flying, taken_at, either, listed, taken_from, open_slots, under_way}
+use Rattle.sc_node_table.specs.Slots.{at_slot}
+use Rattle.sc_draws_law.specs.Names.{Opt}
+use Rattle.sc_draws_law.proofs.Lists.{opt_find, opt_map, opt_either, opt_slot, opt_choice}
+use Rattle.sc_draws_law.proofs.Machine.{either_way}
+
+-- a test that is turned round
+pub turned : (b : Bool) → not b ≡ false → b ≡ true
+turned true e = refl
+turned false e = sym e
+
+pub turned_off : (b : Bool) → not b ≡ true → b ≡ false
+turned_off true e = sym e
+turned_off false e = refl
+
+module _ (A : Command → Type 0) (G : Draw → Type 0) where
+  -- a call is one that was asked, and an end of waiting is one that may be
+  abbrev pub Kept : Command → Type 0
+  Kept (Call client seq op) = A (Call client seq op)
+  Kept (GiveUp tx) = G tx
+  Kept Noop = Unit {0}
+  Kept (Join node order) = Unit {0}
+  Kept (Leave node order) = Unit {0}
+  Kept (Split at child order) = Unit {0}
+  Kept (Begin tx body order) = Unit {0}
+  Kept (Prepared tx offer) = Unit {0}
+  Kept (RecordVote tx vote by) = Unit {0}
+  Kept (Finish tx outcome) = Unit {0}
+  Kept (Watched tx watch) = Unit {0}
+  Kept (RecordWatch tx vote by) = Unit {0}
+
+  abbrev pub KeptAll : List Command → Type 0
+  KeptAll commands = Each Kept commands
+
+  abbrev pub KeptOne : Option Command → Type 0
+  KeptOne o = Opt Kept o
+
+  abbrev pub Flying : Flight Command → Type 0
+  Flying flight = Kept flight.value
+
+  abbrev pub Reported : Report Command → Type 0
+  Reported report = Kept report.value
+
+  abbrev pub Ready : ℕ × Command → Type 0
+  Ready counted = Kept counted.1
+
+  -- so is all that a replica keeps
+  pub record Holds (r : ReplicaState) : Type 0 where
+    pub calls : KeptAll r.calls
+    pub acts : KeptAll r.acts
+    pub flights : Each Flying r.leader.flights
+    pub ready : Each Ready r.ready
+    pub reports : Each Reported r.leader.reports
+
+  pub with_calls : (r : ReplicaState) (calls : List Command) → KeptAll calls → Holds r → Holds (record r { calls = calls })
+  with_calls r calls c h = record { calls = c; acts = h.acts; flights = h.flights; ready = h.ready; reports = h.reports }
+
+  pub with_acts : (r : ReplicaState) (acts : List Command) → KeptAll acts → Holds r → Holds (record r { acts = acts })
+  with_acts r acts a h = record { calls = h.calls; acts = a; flights = h.flights; ready = h.ready; reports = h.reports }
+
+  -- ---- what goes back
+
+  pub without_kept : (calls : List Command) (client : ℕ) → KeptAll calls → KeptAll (without_call calls client)
+  without_kept [] client c = tt
+  without_kept (command ∷ calls) client c = either_way KeptAll (is_call_of client command) _ _ c.1 (c.0, without_kept calls client c.1)
+
+  before_kept : (o : Option ℕ) (client seq : ℕ) (command : Command) (calls : List Command) → Kept command → KeptAll calls → KeptAll (call_before o client seq command calls)
+  before_kept None client seq command calls k c = (k, c)
+  before_kept (Some other) client seq command calls k c = either_way KeptAll (nat_lt other seq) _ _ (k, without_kept calls client c) c
+
+  pub back_kept : (command : Command) (r : ReplicaState) → Kept command → Holds r → Holds (put_back command r)
+  unfolding put_back
+  back_kept Noop r k h = h
+  back_kept (Call client seq op) r k h =
+      with_calls r (call_before (call_of r.calls client) client seq (Call client seq op) r.calls) (before_kept (call_of r.calls client) client seq (Call client seq op) r.calls k h.calls) h
+  back_kept (Join node order) r k h = with_calls r (Join node order ∷ r.calls) (k, h.calls) h
+  back_kept (Leave node order) r k h = with_calls r (Leave node order ∷ r.calls) (k, h.calls) h
+  back_kept (Split at child order) r k h = with_calls r (Split at child order ∷ r.calls) (k, h.calls) h
+  back_kept (Begin tx body order) r k h = with_calls r (Begin tx body order ∷ r.calls) (k, h.calls) h
+  back_kept (Prepared tx offer) r k h = with_acts r (Prepared tx offer ∷ r.acts) (k, h.acts) h
+  back_kept (RecordVote tx vote by) r k h = with_acts r (RecordVote tx vote by ∷ r.acts) (k, h.acts) h
+  back_kept (GiveUp tx) r k h = with_acts r (GiveUp tx ∷ r.acts) (k, h.acts) h
+  back_kept (Finish tx outcome) r k h = with_acts r (Finish tx outcome ∷ r.acts) (k, h.acts) h
+  back_kept (Watched tx watch) r k h = with_acts r (Watched tx watch ∷ r.acts) (k, h.acts) h
+  back_kept (RecordWatch tx vote by) r k h = with_acts r (RecordWatch tx vote by ∷ r.acts) (k, h.acts) h
+
+  -- ---- what is in flight, counted or reported
+
+  pub flying_kept : (r : ReplicaState) (slot : ℕ) → Holds r → KeptOne (flying r slot)
+  flying_kept r slot h =
+      opt_map Flying Kept (λ (flight : Flight Command). flight.value) (λ flight k. k) (flight_at slot r.leader.flights) (opt_find Flying (λ (flight : Flight Command). eqb flight.slot slot) r.leader.flights h.flights)
+
+  listed_kept : (o : Option Command) → KeptOne o → KeptAll (listed o)
+  listed_kept None k = tt
+  listed_kept (Some command) k = (k, tt)
+
+  taken_kept : (r : ReplicaState) (slots : List ℕ) → Holds r → KeptAll (taken_from r slots)
+  taken_kept r [] h = tt
+  taken_kept r (slot ∷ slots) h =
+      Each-append Kept (listed (taken_at r slot)) (taken_from r slots)
+      (listed_kept (taken_at r slot) (opt_either Kept (flying r slot) (at_slot r.ready slot) (flying_kept r slot h) (opt_slot Kept r.ready slot h.ready))) (taken_kept r slots h)
+
+  pub way_kept : (r : ReplicaState) → Holds r → KeptAll (under_way r)
+  way_kept r h = taken_kept r (open_slots r) h
+
+  -- what a leader must propose
+  abbrev pub MustKept : Must Command → Type 0
+  MustKept (Value command) = Kept command
+  MustKept Gap = Unit {0}
+  MustKept Open = Unit {0}
+
+  must_by : (above : Bool) (o : Option Command) → KeptOne o → MustKept (must_without above o)
+  must_by above (Some command) k = k
+  must_by above None k = either_way MustKept above Gap Open tt tt
+
+  pub must_kept : (slot : ℕ) (r : ReplicaState) → Holds r → MustKept (must slot r.leader)
+  must_kept slot r h =
+      must_by (names_above slot r.leader.reports) (chosen_value slot r.leader.reports)
+      (opt_map Reported Kept (λ (report : Report Command). report.value) (λ report k. k) (choice slot r.leader.reports) (opt_choice Kept slot r.leader.reports h.reports))

@@ -1,0 +1,10 @@
+pub mod Plain
+pub mod Keeping
+pub mod Standing
+pub mod Stopping
+pub mod Pumping
+pub mod Executing
+pub mod Voting
+pub mod Rows
+pub mod Steps
+pub mod Strangers

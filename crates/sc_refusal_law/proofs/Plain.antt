@@ -1,0 +1,232 @@
+-- What is sent is no answer but where a client is answered: all other mail has any fact that holds of such mail.
+use Rattle.std.proofs.Common.{ℕ, zero, suc, ◌+◌, ◌-◌, nat_lt, eqb, Bool, cond, List, [], ◌∷◌, ◌++◌, Option, Some, None}
+use Rattle.sc_base.specs.Same.{same_draw}
+use Rattle.sc_base.specs.Among.{Each}
+use Rattle.sc_base.specs.declared.names.Draw.{Draw}
+use Rattle.sc_cmd.specs.declared.bodies.Offer.{Offer}
+use Rattle.sc_cmd.specs.declared.bodies.Body.{Body}
+use Rattle.sc_cmd.specs.declared.bodies.Body.TheVariants as At
+use Rattle.sc_cmd.specs.declared.bodies.Watch.{Watch}
+use Rattle.sc_cmd.specs.declared.commands.Command.{Command}
+use Rattle.sc_cmd.specs.declared.commands.Command.TheVariants.{Noop, Call, Join, Leave, Split, Begin, Prepared, RecordVote, GiveUp, Finish, Watched, RecordWatch}
+use Rattle.sc_cmd.specs.declared.cores.Core.{Core}
+use Rattle.sc_cmd.specs.declared.cores.Lock.{Lock}
+use Rattle.sc_cmd.specs.declared.cores.Lock.TheVariants.{Free, Coordinating, Promised, Watching}
+use Rattle.sc_cmd.specs.declared.effects.Effect.{Effect}
+use Rattle.sc_cmd.specs.declared.effects.Effect.TheVariants as Was
+use Rattle.sc_cmd.specs.declared.links.Link.{Link}
+use Rattle.sc_cmd.specs.declared.orders.ToldResult.{ToldResult}
+use Rattle.sc_cmd.specs.declared.votes.Heard.{Heard}
+use Rattle.sc_cmd.specs.declared.votes.Outcome.{Outcome}
+use Rattle.sc_cmd.specs.declared.votes.Outcome.TheVariants as Is
+use Rattle.sc_cmd.specs.declared.votes.Past.{Past}
+use Rattle.sc_cmd.specs.declared.votes.Past.TheVariants as Cast
+use Rattle.sc_cmd.specs.declared.votes.Vote.{Vote}
+use Rattle.sc_cmd.specs.declared.votes.Vote.TheVariants as Says
+use Rattle.sc_mail.specs.declared.bodies.Mail.{Mail}
+use Rattle.sc_mail.specs.declared.bodies.MailBody.{MailBody}
+use Rattle.sc_mail.specs.declared.bodies.MailBody.TheVariants.{Request, Answer, Prepare, Promise, Accept, Accepted, Nack, Learn, Ask, Install, TxPrepare, TxVote, TxOutcome, TxElsewhere, TxWatch, TxWatched, Told}
+use Rattle.sc_machine_table.specs.Group.{Group}
+use Rattle.sc_machine_table.specs.Plans.{frozen_of}
+use Rattle.sc_paxos_words.proofs.ListLemmas.{Each-append}
+use Rattle.sc_paxos_words.specs.Logs.{entry_at}
+use Rattle.sc_node_table.specs.declared.Before.{Before}
+use Rattle.sc_node_table.specs.Mails.{sent, sent_all, sent_others, told_order}
+use Rattle.sc_node_table.specs.Questions.{question, asked_first, asked_link}
+use Rattle.sc_node_table.specs.Replica.{ReplicaState, name_of, flying, members, next}
+use Rattle.sc_node_table.specs.Reminders.{reminders}
+use Rattle.sc_node_table.specs.Rows.{taught, uncounted, asked_again, told_last}
+use Rattle.sc_node_table.specs.Transactions.{voted_to, watched_to, told_outcome, next_asked, asked_next}
+use Rattle.sc_node_table.specs.Spoken.{begun_result, spoken_number, told_result, told_begun, decided_in, cast_in, asked_on, vote_sent, watch_sent, aborted_to, aborted_watcher, given_up_by, vote_answered, released_to, watch_answered_by, went_on, spoken_mails}
+use Rattle.sc_draws_law.proofs.Machine.{either_way}
+
+-- a mail that is no answer
+abbrev pub IsPlain : MailBody → Type 0
+IsPlain (Answer group seq answer) = ⊥
+IsPlain (Request group client seq op) = Unit {0}
+IsPlain (Prepare group ballot from_slot) = Unit {0}
+IsPlain (Promise group ballot reports) = Unit {0}
+IsPlain (Accept group ballot slot value) = Unit {0}
+IsPlain (Accepted group ballot slot) = Unit {0}
+IsPlain (Nack group promised) = Unit {0}
+IsPlain (Learn group slot value) = Unit {0}
+IsPlain (Ask group from_slot) = Unit {0}
+IsPlain (Install group slot base sets) = Unit {0}
+IsPlain (TxPrepare tx offer) = Unit {0}
+IsPlain (TxVote tx coord part vote) = Unit {0}
+IsPlain (TxOutcome tx part outcome) = Unit {0}
+IsPlain (TxElsewhere tx coord hint) = Unit {0}
+IsPlain (TxWatch tx watch) = Unit {0}
+IsPlain (TxWatched tx coord part vote) = Unit {0}
+IsPlain (Told order result) = Unit {0}
+
+question_plain : (me : ℕ) (core : Core) (tx : Draw) (body : Body) (heard : Option Heard) → IsPlain (question me core tx body heard)
+question_plain me core tx At.Merge None = tt
+question_plain me core tx At.Merge (Some heard) = tt
+question_plain me core tx (At.Repart at) None = tt
+question_plain me core tx (At.Repart at) (Some heard) = tt
+question_plain me core tx (At.Migrate node) None = tt
+question_plain me core tx (At.Migrate node) (Some heard) = tt
+question_plain me core tx (At.Split at child) heard = tt
+
+module _ (P : Mail → Type 0) (plain : (mail : Mail) → IsPlain mail.body → P mail) where
+  abbrev pub Sent : List Mail → Type 0
+  Sent mails = Each P mails
+
+  -- one mail more
+  pub sent_one : (mails : List Mail) (mail : Mail) → P mail → Sent mails → Sent (mails ++ mail ∷ [])
+  sent_one mails mail p m = Each-append P mails (mail ∷ []) m (p, tt)
+
+  pub sent_plain : (me to : ℕ) (body : MailBody) (mails : List Mail) → IsPlain body → Sent mails → Sent (sent me to body mails)
+  sent_plain me to body mails b m = sent_one mails (record { from = me; to = to; body = body }) (plain (record { from = me; to = to; body = body }) b) m
+
+  pub all_plain : (me : ℕ) (nodes : List ℕ) (body : MailBody) (mails : List Mail) → IsPlain body → Sent mails → Sent (sent_all me nodes body mails)
+  unfolding sent_all
+  all_plain me [] body mails b m = m
+  all_plain me (node ∷ nodes) body mails b m = all_plain me nodes body (sent me node body mails) b (sent_plain me node body mails b m)
+
+  pub others_plain : (me : ℕ) (nodes : List ℕ) (body : MailBody) (mails : List Mail) → IsPlain body → Sent mails → Sent (sent_others me nodes body mails)
+  unfolding sent_others
+  others_plain me [] body mails b m = m
+  others_plain me (node ∷ nodes) body mails b m =
+      others_plain me nodes body (cond (eqb node me) mails (sent me node body mails)) b (either_way Sent (eqb node me) mails (sent me node body mails) m (sent_plain me node body mails b m))
+
+  pub told_plain : (me number : ℕ) (result : ToldResult) (mails : List Mail) → Sent mails → Sent (told_order me number result mails)
+  unfolding told_order
+  told_plain me number result mails m = either_way Sent (nat_lt 0 number) (sent me 0 (Told number result) mails) mails (sent_plain me 0 (Told number result) mails tt m) m
+
+  -- ---- the parties of a transaction
+
+  first_plain : (lock : Lock) (me : ℕ) (core : Core) (mails : List Mail) → Sent mails → Sent (asked_first lock me core mails)
+  first_plain Free me core mails m = m
+  first_plain (Coordinating tx body order heard) me core mails m = sent_plain me _ (question me core tx body heard) mails (question_plain me core tx body heard) m
+  first_plain (Promised tx offer) me core mails m = m
+  first_plain (Watching tx watch) me core mails m = m
+
+  pub vote_plain : (me : ℕ) (group : Group) (node : ℕ) (tx : Draw) (offer : Offer) (vote : Past) (mails : List Mail) → Sent mails → Sent (voted_to me group node tx offer vote mails)
+  vote_plain me group node tx offer Cast.Yes mails m = sent_plain me node (TxVote tx offer.coord offer.part (Says.Yes (frozen_of group))) mails tt m
+  vote_plain me group node tx offer (Cast.No why) mails m = sent_plain me node (TxVote tx offer.coord offer.part (Says.No why)) mails tt m
+  vote_plain me group node tx offer Cast.Ended mails m = m
+
+  pub watched_plain : (me node : ℕ) (tx : Draw) (watch : Watch) (vote : Past) (mails : List Mail) → Sent mails → Sent (watched_to me node tx watch vote mails)
+  watched_plain me node tx watch Cast.Yes mails m = sent_plain me node (TxWatched tx watch.coord watch.part Cast.Yes) mails tt m
+  watched_plain me node tx watch (Cast.No why) mails m = sent_plain me node (TxWatched tx watch.coord watch.part (Cast.No why)) mails tt m
+  watched_plain me node tx watch Cast.Ended mails m = m
+
+  pub next_plain : (lock : Lock) (me : ℕ) (core : Core) (from : ℕ) (tx : Draw) (hint : Option ℕ) (mails : List Mail) → Sent mails → Sent (asked_next lock me core from tx hint mails)
+  next_plain Free me core from tx hint mails m = m
+  next_plain (Promised locked offer) me core from tx hint mails m = m
+  next_plain (Watching locked watch) me core from tx hint mails m = m
+  next_plain (Coordinating locked body order heard) me core from tx hint mails m =
+      either_way Sent (same_draw locked tx) _ _ (sent_plain me (next_asked hint (asked_link core body heard).members from) (question me core tx body heard) mails (question_plain me core tx body heard) m) m
+
+  pub reminders_plain : (lock : Lock) (me : ℕ) (group : Group) (mails : List Mail) → Sent mails → Sent (reminders lock me group mails)
+  reminders_plain Free me group mails m = m
+  reminders_plain (Coordinating tx body order heard) me group mails m = all_plain me (asked_link group.core body heard).members (question me group.core tx body heard) mails (question_plain me group.core tx body heard) m
+  reminders_plain (Promised tx offer) me group mails m = all_plain me offer.members (TxVote tx offer.coord offer.part (Says.Yes (frozen_of group))) mails tt m
+  reminders_plain (Watching tx watch) me group mails m = all_plain me watch.members (TxWatched tx watch.coord watch.part Cast.Yes) mails tt m
+
+  -- ---- what is said of an executed entry
+
+  result_plain : (me : ℕ) (result : Option ToldResult) (number : ℕ) (mails : List Mail) → Sent mails → Sent (told_result me result number mails)
+  result_plain me None number mails m = m
+  result_plain me (Some result) number mails m = told_plain me number result mails m
+
+  begun_plain : (me : ℕ) (before : Before) (effect : Effect) (command : Command) (mails : List Mail) → Sent mails → Sent (told_begun me before effect command mails)
+  unfolding told_begun
+  begun_plain me before effect command mails m = result_plain me (begun_result before.alone effect command) (spoken_number before.order command) mails m
+
+  on_plain : (effect : Effect) (me : ℕ) (core : Core) (mails : List Mail) → Sent mails → Sent (asked_on effect me core mails)
+  on_plain Was.Changed me core mails m = first_plain core.lock me core mails m
+  on_plain _ me core mails m = m
+
+  cast_plain : (vote : Option Past) (me : ℕ) (group : Group) (tx : Draw) (offer : Offer) (mails : List Mail) → Sent mails → Sent (vote_sent vote me group tx offer mails)
+  cast_plain None me group tx offer mails m = m
+  cast_plain (Some vote) me group tx offer mails m = vote_plain me group offer.by tx offer vote mails m
+
+  watch_plain : (vote : Option Past) (me : ℕ) (tx : Draw) (watch : Watch) (mails : List Mail) → Sent mails → Sent (watch_sent vote me tx watch mails)
+  watch_plain None me tx watch mails m = m
+  watch_plain (Some vote) me tx watch mails m = watched_plain me watch.by tx watch vote mails m
+
+  aborted_plain : (me : ℕ) (tx : Draw) (link : Link) (mails : List Mail) → Sent mails → Sent (aborted_to me tx link mails)
+  aborted_plain me tx link mails m = all_plain me link.members (TxOutcome tx link.group Is.Abort) mails tt m
+
+  watcher_plain : (me : ℕ) (tx : Draw) (heard : Option (ℕ × Link)) (mails : List Mail) → Sent mails → Sent (aborted_watcher me tx heard mails)
+  watcher_plain me tx None mails m = m
+  watcher_plain me tx (Some heard) mails m = aborted_plain me tx heard.1 mails m
+
+  given_up_plain : (outcome : Option Outcome) (me : ℕ) (before : Before) (tx : Draw) (mails : List Mail) → Sent mails → Sent (given_up_by outcome me before tx mails)
+  given_up_plain None me before tx mails m = m
+  given_up_plain (Some outcome) me before tx mails m = watcher_plain me tx before.heard (aborted_to me tx before.succ mails) (aborted_plain me tx before.succ mails m)
+
+  outcome_plain : (me node : ℕ) (tx part : Draw) (outcome : Outcome) (mails : List Mail) → Sent mails → Sent (told_outcome me node tx part outcome mails)
+  outcome_plain me node tx part outcome mails m = sent_plain me node (TxOutcome tx part outcome) mails tt m
+
+  answered_plain : (outcome : Option Outcome) (vote : Vote) (me : ℕ) (before : Before) (tx : Draw) (by : ℕ) (mails : List Mail) → Sent mails → Sent (vote_answered outcome vote me before tx by mails)
+  answered_plain None vote me before tx by mails m = m
+  answered_plain (Some outcome) (Says.Yes frozen) me before tx by mails m = outcome_plain me by tx before.succ.group outcome mails m
+  answered_plain (Some outcome) (Says.No why) me before tx by mails m = m
+
+  released_plain : (heard : Option (ℕ × Link)) (me : ℕ) (succ : Link) (tx : Draw) (by : ℕ) (outcome : Outcome) (mails : List Mail) → Sent mails → Sent (released_to heard me succ tx by outcome mails)
+  released_plain None me succ tx by outcome mails m = outcome_plain me by tx succ.group outcome mails m
+  released_plain (Some heard) me succ tx by outcome mails m =
+      outcome_plain me by tx heard.1.group outcome (told_outcome me heard.0 tx succ.group outcome mails) (outcome_plain me heard.0 tx succ.group outcome mails m)
+
+  watcher_answered : (outcome : Option Outcome) (vote : Past) (me : ℕ) (before : Before) (tx : Draw) (by : ℕ) (mails : List Mail) → Sent mails → Sent (watch_answered_by outcome vote me before tx by mails)
+  watcher_answered None vote me before tx by mails m = m
+  watcher_answered (Some outcome) Cast.Yes me before tx by mails m = released_plain before.heard me before.succ tx by outcome mails m
+  watcher_answered (Some outcome) (Cast.No why) me before tx by mails m = either_way Sent before.merges (aborted_to me tx before.succ mails) mails (aborted_plain me tx before.succ mails m) m
+  watcher_answered (Some outcome) Cast.Ended me before tx by mails m = m
+
+  went_plain : (me : ℕ) (group : Group) (before : Before) (effect : Effect) (command : Command) (mails : List Mail) → Sent mails → Sent (went_on me group before effect command mails)
+  unfolding went_on
+  went_plain me group before effect (Split at child order) mails m = on_plain effect me group.core mails m
+  went_plain me group before effect (Begin tx body order) mails m = on_plain effect me group.core mails m
+  went_plain me group before effect (Prepared tx offer) mails m = cast_plain (cast_in effect) me group tx offer mails m
+  went_plain me group before effect (RecordVote tx vote by) mails m = answered_plain (decided_in effect) vote me before tx by (asked_on effect me group.core mails) (on_plain effect me group.core mails m)
+  went_plain me group before effect (GiveUp tx) mails m = given_up_plain (decided_in effect) me before tx mails m
+  went_plain me group before effect (Watched tx watch) mails m = watch_plain (cast_in effect) me tx watch mails m
+  went_plain me group before effect (RecordWatch tx vote by) mails m = watcher_answered (decided_in effect) vote me before tx by mails m
+  went_plain me group before effect (Finish tx outcome) mails m = m
+  went_plain me group before effect Noop mails m = m
+  went_plain me group before effect (Call client seq op) mails m = m
+  went_plain me group before effect (Join node order) mails m = m
+  went_plain me group before effect (Leave node order) mails m = m
+
+  -- all that is said of an executed entry
+  pub spoken_plain : (counted : Bool) (me : ℕ) (group : Group) (before : Before) (effect : Effect) (command : Command) (mails : List Mail) → Sent mails → Sent (spoken_mails counted me group before effect command mails)
+  unfolding spoken_mails
+  spoken_plain counted me group before effect command mails m =
+      either_way Sent counted (went_on me group before effect command (told_begun me before effect command mails)) (told_begun me before effect command mails)
+      (went_plain me group before effect command (told_begun me before effect command mails) (begun_plain me before effect command mails m)) (begun_plain me before effect command mails m)
+
+  -- ---- entries that are taught, and what a leader asks again
+
+  taught_by : (count : ℕ) (r : ReplicaState) (from slot : ℕ) (mails : List Mail) (o : Option Command) → Sent mails → ((more : List Mail) → Sent more → Sent (taught count r from (slot + 1) more))
+      → Sent (elim o [ None ↦ mails | Some command ↦ taught count r from (slot + 1) (sent r.me from (Learn (name_of r) slot command) mails) ])
+  taught_by count r from slot mails None m more = m
+  taught_by count r from slot mails (Some command) m more = more (sent r.me from (Learn (name_of r) slot command) mails) (sent_plain r.me from (Learn (name_of r) slot command) mails tt m)
+
+  pub taught_plain : (count : ℕ) (r : ReplicaState) (from slot : ℕ) (mails : List Mail) → Sent mails → Sent (taught count r from slot mails)
+  unfolding taught
+  taught_plain zero r from slot mails m = m
+  taught_plain (suc count) r from slot mails m = taught_by count r from slot mails (entry_at slot r.log) m (λ more n. taught_plain count r from (slot + 1) more n)
+
+  again_by : (r : ReplicaState) (slot : ℕ) (set : List ℕ) (sets : List (List ℕ)) (mails : List Mail) (o : Option Command) → Sent mails → ((more : List Mail) → Sent more → Sent (asked_again r (slot + 1) sets more))
+      → Sent (elim o [
+        | None ↦ asked_again r (slot + 1) sets mails
+        | Some command ↦ asked_again r (slot + 1) sets (sent_all r.me (uncounted r slot set) (Accept (name_of r) r.leader.ballot slot command) mails)
+      ])
+  again_by r slot set sets mails None m more = more mails m
+  again_by r slot set sets mails (Some command) m more =
+      more (sent_all r.me (uncounted r slot set) (Accept (name_of r) r.leader.ballot slot command) mails) (all_plain r.me (uncounted r slot set) (Accept (name_of r) r.leader.ballot slot command) mails tt m)
+
+  pub again_plain : (r : ReplicaState) (slot : ℕ) (sets : List (List ℕ)) (mails : List Mail) → Sent mails → Sent (asked_again r slot sets mails)
+  unfolding asked_again
+  again_plain r slot [] mails m = m
+  again_plain r slot (set ∷ sets) mails m = again_by r slot set sets mails (flying r slot) m (λ more n. again_plain r (slot + 1) sets more n)
+
+  pub last_plain : (o : Option Command) (r : ReplicaState) (mails : List Mail) → Sent mails → Sent (told_last o r mails)
+  unfolding told_last
+  last_plain None r mails m = m
+  last_plain (Some command) r mails m = others_plain r.me (members r) (Learn (name_of r) (next r - 1) command) mails tt m

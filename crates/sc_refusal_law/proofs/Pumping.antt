@@ -1,0 +1,146 @@
+-- What a settled replica offers: each call that it turns down has its cause in the executed state.
+use Rattle.std.proofs.Common.{◌≡◌, ℕ, ◌+◌, ◌&&◌, ◌||◌, not, nat_le, Bool, true, false, List, [], ◌∷◌, ◌++◌, Option, Some, None, refl, sym, ap, subst, ◌∙◌, append-nil}
+use Rattle.std.specs.Prelude.{is_some}
+use Rattle.std.specs.List.{list_any}
+use Rattle.std.proofs.lemmas.Bool.{cond_both}
+use Rattle.sc_base.specs.Among.{Each}
+use Rattle.sc_base.specs.Limits.{client_actor}
+use Rattle.sc_base.specs.declared.names.Draw.{Draw}
+use Rattle.sc_base.specs.declared.ops.Op.{Op}
+use Rattle.sc_ideal.specs.IdealStore.{key_of, holds_key}
+use Rattle.sc_cmd.specs.declared.commands.Command.{Command}
+use Rattle.sc_cmd.specs.declared.commands.Command.TheVariants.{Noop, Call, Join, Leave, Split, Begin, Prepared, RecordVote, GiveUp, Finish, Watched, RecordWatch}
+use Rattle.sc_cmd.specs.declared.cores.Core.{Core}
+use Rattle.sc_cmd.specs.declared.links.Route.{Route}
+use Rattle.sc_mail.specs.declared.bodies.AnswerBody.{AnswerBody}
+use Rattle.sc_mail.specs.declared.bodies.AnswerBody.TheVariants as Says
+use Rattle.sc_mail.specs.declared.bodies.Mail.{Mail}
+use Rattle.sc_mail.specs.declared.bodies.MailBody.TheVariants.{Answer, Accept}
+use Rattle.sc_machine_table.specs.Group.{Group}
+use Rattle.sc_machine_table.specs.Logs.{state_after}
+use Rattle.sc_paxos_words.proofs.ListLemmas.{Each-append}
+use Rattle.sc_paxos_words.specs.declared.answers.Must.{Must}
+use Rattle.sc_paxos_words.specs.declared.answers.Must.TheVariants.{Value, Gap, Free as Open}
+use Rattle.sc_paxos_words.specs.Leaders.{must}
+use Rattle.sc_node_table.specs.Mails.{answered}
+use Rattle.sc_node_table.specs.Pump.{Found, is_act, serves_calls, waits, refused_by, turned_down, next_call, from_calls, from_acts, from_queues, found_by, found_for, offered, pumped_from, pumped}
+use Rattle.sc_node_table.specs.Replica.{ReplicaState, Place, name_of, next, settled, may_offer, taken_at, under_way, is_idle, last_slot}
+use Rattle.sc_draws_law.proofs.Machine.{either_way}
+use Rattle.sc_refusal_law.specs.Causes.{RefusesCall}
+use Rattle.sc_refusal_law.proofs.Keeping.{Kept, KeptAll, KeptOne, Flying, Holds, MustKept, turned, with_calls, with_acts, must_kept}
+use Rattle.sc_refusal_law.proofs.Plain.{sent_one}
+use Rattle.sc_refusal_law.proofs.Standing.{Caused, CausedAnswer, caused_plain, Fine, resent, with_all, refused_answer}
+
+-- why a call is turned down
+refused_so : (gone : Option Route) (group : Group) (client seq : ℕ) (op : Op) (answer : AnswerBody) → gone ≡ group.core.gone → serves_calls group.core.lock ≡ true → refused_by gone group.core op ≡ Some answer
+    → RefusesCall group client seq op answer
+refused_so (Some into) group client seq op answer g l e = let same : Says.Gone into ≡ answer = cc in subst (RefusesCall group client seq op) same (sym g)
+refused_so None group client seq op answer g l e =
+    cond_both (holds_key group.core.arc (key_of op)) None (Some (Says.NotMine group.core.arc group.core.succ)) (λ o. o ≡ Some answer → RefusesCall group client seq op answer)
+    (λ _ k. cc) (λ lacks k. (let same : Says.NotMine group.core.arc group.core.succ ≡ answer = cc in subst (RefusesCall group client seq op) same (sym g, l, lacks, refl, refl))) e
+
+-- the pump names no other leader: whether one was named stays as it is
+module _ (start : ReplicaState) (A : Command → Type 0) (G : Draw → Type 0) (named : Bool) where
+  abbrev pub FineSo : Place → Type 0
+  FineSo place = (f : Fine start A G place) × (f.1.refused ≡ named)
+
+  abbrev FoundFine : Found → Type 0
+  FoundFine found = KeptOne A G found.0 × FineSo found.1
+
+  -- ---- the calls at the head that the group does not serve
+
+  module _ (entries : List Command) (refused : Bool) (me : ℕ) (idle : Bool) (group : Group) (is : group ≡ state_after start.group entries) where
+    abbrev C : List Mail → Type 0
+    C mails = Each (Caused start A G entries refused) mails
+
+    abbrev Next : Option Command × List Command × List Mail → Type 0
+    Next found = KeptOne A G found.0 × KeptAll A G found.1 × C found.2
+
+    turned_answer : (client seq : ℕ) (op : Op) (answer : AnswerBody) → A (Call client seq op) → serves_calls group.core.lock ≡ true → refused_by group.core.gone group.core op ≡ Some answer → CausedAnswer start A G entries refused (client_actor client) seq answer
+    turned_answer client seq op answer a l e =
+        refused_answer start A G entries refused (client_actor client) seq answer (record {
+          front = entries;
+          rest = [];
+          are = sym (append-nil entries);
+          client = client;
+          op = op;
+          receiver = refl;
+          was_asked = a;
+          refuses = subst (λ g. RefusesCall g client seq op answer) is (refused_so group.core.gone group client seq op answer refl l e);
+        })
+
+    turned_caused : (command : Command) (answer : AnswerBody) (mails : List Mail) → Kept A G command → waits idle group.core.lock command ≡ false → turned_down group.core command ≡ Some answer → C mails → C (answered me group.core.id answer command mails)
+    unfolding answered
+    turned_caused (Call client seq op) answer mails k w e c =
+        sent_one (Caused start A G entries refused) (caused_plain start A G entries refused) mails (record { from = me; to = client_actor client; body = Answer group.core.id seq answer })
+        (turned_answer client seq op answer k (turned (serves_calls group.core.lock) w) e) c
+    turned_caused _ answer mails k w e c = c
+
+    next_by : (command : Command) (calls : List Command) (mails : List Mail) (o : Option AnswerBody) → turned_down group.core command ≡ o → waits idle group.core.lock command ≡ false → Kept A G command → KeptAll A G calls → C mails
+        → ((more : List Mail) → C more → Next (next_call me idle group.core calls more))
+        → Next (elim o [ None ↦ (Some command, calls, mails) | Some answer ↦ next_call me idle group.core calls (answered me group.core.id answer command mails) ])
+    next_by command calls mails None e w k ks c more = (k, ks, c)
+    next_by command calls mails (Some answer) e w k ks c more = more (answered me group.core.id answer command mails) (turned_caused command answer mails k w e c)
+
+    pub next_fine : (calls : List Command) (mails : List Mail) → KeptAll A G calls → C mails → Next (next_call me idle group.core calls mails)
+    unfolding next_call
+    next_fine [] mails k c = (tt, tt, c)
+    next_fine (command ∷ calls) mails k c =
+        cond_both (waits idle group.core.lock command) (None, command ∷ calls, mails) (elim (turned_down group.core command) [ None ↦ (Some command, calls, mails) | Some answer ↦ next_call me idle group.core calls (answered me group.core.id answer command mails) ]) Next
+        (λ _. (tt, k, c)) (λ w. next_by command calls mails (turned_down group.core command) refl w k.0 k.1 c (λ more d. next_fine calls more k.1 d))
+
+  -- ---- what is found for a slot
+
+  calls_fine : (place : Place) → FineSo place → FoundFine (from_calls place)
+  unfolding from_calls
+  calls_fine (r, mails) f =
+      let s = f.0.1 in
+      let found = next_fine s.entries s.refused r.me (is_idle r) r.group s.group_is r.calls mails f.0.0.calls s.sent in
+      let next : Option Command × List Command × List Mail = next_call r.me (is_idle r) r.group.core r.calls mails in
+      (found.0, ((with_calls A G r next.1 found.1 f.0.0, resent start A G r mails next.2 s found.2), f.1))
+
+  acts_fine : (acts : List Command) (place : Place) → KeptAll A G acts → FineSo place → FoundFine (from_acts acts place)
+  acts_fine [] place a f = calls_fine place f
+  acts_fine (act ∷ acts) (r, mails) a f = either_way FoundFine (is_idle r) (Some act, (record r { acts = acts }, mails)) (None, (r, mails)) (a.0, ((with_acts A G r acts a.1 f.0.0, f.0.1), f.1)) (tt, f)
+
+  queues_fine : (place : Place) → FineSo place → FoundFine (from_queues place)
+  unfolding from_queues
+  queues_fine (r, mails) f = either_way FoundFine (list_any is_act (under_way r)) (None, (r, mails)) (from_acts r.acts (r, mails)) (tt, f) (acts_fine r.acts (r, mails) f.0.0.acts f)
+
+  found_by_fine : (o : Must Command) (place : Place) → MustKept A G o → FineSo place → FoundFine (found_by o place)
+  found_by_fine (Value command) place k f = (k, f)
+  found_by_fine Gap place k f = (tt, f)
+  found_by_fine Open place k f = queues_fine place f
+
+  found_fine : (slot : ℕ) (place : Place) → FineSo place → FoundFine (found_for slot place)
+  unfolding found_for
+  found_fine slot (r, mails) f = found_by_fine (must slot r.leader) (r, mails) (must_kept A G slot r f.0.0) f
+
+  offered_fine : (slot : ℕ) (set : List ℕ) (command : Command) (place : Place) → Kept A G command → FineSo place → FineSo (offered slot set command place)
+  unfolding offered
+  offered_fine slot set command (r, mails) k f =
+      let h = f.0.0 in
+      ((
+        record { calls = h.calls; acts = h.acts; flights = Each-append (Flying A G) r.leader.flights (record { slot = slot; value = command; voters = None } ∷ []) h.flights (k, tt); ready = h.ready; reports = h.reports },
+        with_all start A G r mails r.me set (Accept (name_of r) r.leader.ballot slot command) tt f.0.1,
+      ), f.1)
+
+  pump_by : (slot : ℕ) (set : List ℕ) (sets : List (List ℕ)) (found : Found) → FoundFine found → ((place : Place) → FineSo place → FineSo (pumped_from (slot + 1) sets place))
+      → FineSo (elim (found.0) [ None ↦ found.1 | Some command ↦ pumped_from (slot + 1) sets (offered slot set command found.1) ])
+  pump_by slot set sets (None, place) f more = f.1
+  pump_by slot set sets (Some command, place) f more = more (offered slot set command place) (offered_fine slot set command place f.0 f.1)
+
+  from_fine : (slot : ℕ) (sets : List (List ℕ)) (place : Place) → FineSo place → FineSo (pumped_from slot sets place)
+  unfolding pumped_from
+  from_fine slot [] place f = f
+  from_fine slot (set ∷ sets) place f =
+      either_way FineSo (is_some (taken_at place.0 slot)) _ _ (from_fine (slot + 1) sets place f)
+      (either_way FineSo (may_offer place.0 set) _ _ (pump_by slot set sets (found_for slot place) (found_fine slot place f) (λ p g. from_fine (slot + 1) sets p g)) f)
+
+  pub pumped_so : (place : Place) → FineSo place → FineSo (pumped place)
+  unfolding pumped
+  pumped_so place f = either_way FineSo (settled place.0 && nat_le (next place.0) last_slot) (pumped_from (next place.0) place.0.sets place) place (from_fine (next place.0) place.0.sets place f) f
+
+-- what a replica offers
+pub pumped_fine : (start : ReplicaState) (A : Command → Type 0) (G : Draw → Type 0) (place : Place) → Fine start A G place → Fine start A G (pumped place)
+pumped_fine start A G place f = (pumped_so start A G f.1.refused place (f, refl)).0

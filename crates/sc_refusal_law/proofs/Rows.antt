@@ -1,0 +1,271 @@
+-- The rows of requests, ticks, transactions and orders, and a whole step.
+use Rattle.std.proofs.Common.{◌≡◌, ℕ, ◌+◌, ◌-◌, ◌≤◌, ◌^◌, ◌&&◌, ◌||◌, not, nat_le, nat_lt, eqb, Bool, true, false, cond, List, [], ◌∷◌, ◌++◌, Option, Some, None, refl, sym, ap, subst, ◌∙◌, inl, arith, append-nil}
+use Rattle.std.specs.Prelude.{is_some}
+use Rattle.std.proofs.lemmas.Bool.{cond_both, leb-true, and_parts}
+use Rattle.sc_base.specs.Among.{Each}
+use Rattle.sc_base.specs.Drawing.{Drawer, next_name}
+use Rattle.sc_base.specs.Limits.{client_actor}
+use Rattle.sc_base.specs.declared.names.Draw.{Draw}
+use Rattle.sc_base.specs.declared.ops.Op.{Op}
+use Rattle.sc_ideal.specs.IdealStore.{key_of, holds_key}
+use Rattle.sc_cmd.specs.declared.bodies.Body.{Body}
+use Rattle.sc_cmd.specs.declared.bodies.Offer.{Offer}
+use Rattle.sc_cmd.specs.declared.bodies.Watch.{Watch}
+use Rattle.sc_cmd.specs.declared.commands.Command.{Command}
+use Rattle.sc_cmd.specs.declared.commands.Command.TheVariants.{Call, GiveUp, Prepared, RecordVote, Finish, Watched, RecordWatch}
+use Rattle.sc_cmd.specs.declared.cores.Core.{Core}
+use Rattle.sc_cmd.specs.declared.cores.Lock.{Lock}
+use Rattle.sc_cmd.specs.declared.cores.Lock.TheVariants.{Free, Coordinating, Promised, Watching}
+use Rattle.sc_cmd.specs.declared.links.Route.{Route}
+use Rattle.sc_cmd.specs.declared.orders.Order.{Order}
+use Rattle.sc_cmd.specs.declared.orders.Order.TheVariants as An
+use Rattle.sc_cmd.specs.declared.orders.OrderLine.{OrderLine}
+use Rattle.sc_cmd.specs.declared.orders.OrderRefusal.{OrderRefusal}
+use Rattle.sc_cmd.specs.declared.orders.ToldResult.TheVariants as Tells
+use Rattle.sc_cmd.specs.declared.votes.Heard.{Heard}
+use Rattle.sc_cmd.specs.declared.votes.Outcome.{Outcome}
+use Rattle.sc_cmd.specs.declared.votes.Past.{Past}
+use Rattle.sc_cmd.specs.declared.votes.Past.TheVariants as Cast
+use Rattle.sc_cmd.specs.declared.votes.Vote.{Vote}
+use Rattle.sc_cmd.specs.declared.votes.Vote.TheVariants as Vows
+use Rattle.sc_mail.specs.declared.bodies.AnswerBody.{AnswerBody}
+use Rattle.sc_mail.specs.declared.bodies.AnswerBody.TheVariants as Says
+use Rattle.sc_mail.specs.declared.bodies.Mail.{Mail}
+use Rattle.sc_mail.specs.declared.bodies.MailBody.TheVariants.{Answer, TxOutcome, TxElsewhere, Told}
+use Rattle.sc_member.specs.Roster.{is_member}
+use Rattle.sc_machine_table.specs.Group.{Group}
+use Rattle.sc_machine_table.specs.Logs.{state_after}
+use Rattle.sc_paxos_words.proofs.ListLemmas.{Each-append}
+use Rattle.sc_paxos_words.specs.Logs.{entry_at}
+use Rattle.sc_node_table.specs.Acts.{has_act, with_act, act_queued}
+use Rattle.sc_node_table.specs.Election.{elected}
+use Rattle.sc_node_table.specs.Mails.{sent, told_desk}
+use Rattle.sc_node_table.specs.Ordering.{ordered_command, untaken, taken_or_told, ordered_row}
+use Rattle.sc_node_table.specs.Pump.{serves_calls, pumped}
+use Rattle.sc_node_table.specs.Queues.{call_of, without_call}
+use Rattle.sc_node_table.specs.Reminders.{patience, one_tick_more, impatient, waited_in, reminders, reminded}
+use Rattle.sc_node_table.specs.Replica.{ReplicaState, Place, name_of, next, members, settled, is_idle}
+use Rattle.sc_node_table.specs.Rows.{call_refusal, refused_at, queued, requested, request_row, asked_again, told_last, tick_row}
+use Rattle.sc_node_table.specs.Transactions.{noted_outcome, standing_vote, voted_to, sent_elsewhere, offered_by, offer_row, watched_to, watched_by, watch_row, awaits_vote, awaits_watch, told_outcome, vote_queued, vote_met, vote_row, watch_queued, watch_met, watched_row, asked_next, elsewhere_row, is_bound, outcome_row}
+use Rattle.sc_draws_law.proofs.Machine.{either_way}
+use Rattle.sc_refusal_law.specs.Causes.{RefusesCall}
+use Rattle.sc_refusal_law.proofs.Keeping.{Kept, turned, turned_off, with_calls, with_acts, without_kept}
+use Rattle.sc_refusal_law.proofs.Plain.{sent_one, again_plain, last_plain, reminders_plain, vote_plain, watched_plain, next_plain}
+use Rattle.sc_refusal_law.proofs.Standing.{Caused, CausedAnswer, caused_plain, stopped_caused, StandsIn, Fine, resent, with_plain, refused_answer}
+use Rattle.sc_refusal_law.proofs.Stopping.{elected_fine}
+use Rattle.sc_refusal_law.proofs.Pumping.{FineSo, pumped_so, pumped_fine}
+
+module _ (start : ReplicaState) (A : Command → Type 0) (G : Draw → Type 0) where
+  abbrev F : Place → Type 0
+  F place = Fine start A G place
+
+  -- ---- Request
+
+  -- why a request is not taken
+  abbrev pub Untaken : ReplicaState → ℕ → ℕ → Op → AnswerBody → Type 0
+  Untaken r client seq op (Says.Value reply) = ⊥
+  Untaken r client seq op (Says.NotLeader hint) = r.running ≡ false
+  Untaken r client seq op (Says.NotMine arc succ) = RefusesCall r.group client seq op (Says.NotMine arc succ)
+  Untaken r client seq op (Says.Gone into) = RefusesCall r.group client seq op (Says.Gone into)
+  Untaken r client seq op (Says.Stale last) = ⊥
+
+  pub refusal_by : (gone : Option Route) (r : ReplicaState) (client seq : ℕ) (op : Op) (answer : AnswerBody) → gone ≡ r.group.core.gone → call_refusal gone r.group.core r.running r.hint op ≡ Some answer → Untaken r client seq op answer
+  refusal_by (Some into) r client seq op answer g e = let same : Says.Gone into ≡ answer = cc in subst (Untaken r client seq op) same (sym g)
+  refusal_by None r client seq op answer g e =
+      cond_both (not r.running) (Some (Says.NotLeader r.hint)) _ (λ o. o ≡ Some answer → Untaken r client seq op answer)
+      (λ idle k. (let same : Says.NotLeader r.hint ≡ answer = cc in subst (Untaken r client seq op) same (turned_off r.running idle)))
+      (λ _ k. cond_both (serves_calls r.group.core.lock && not (holds_key r.group.core.arc (key_of op))) (Some (Says.NotMine r.group.core.arc r.group.core.succ)) None (λ o. o ≡ Some answer → Untaken r client seq op answer)
+      (λ both j. (let parts = and_parts (serves_calls r.group.core.lock) (not (holds_key r.group.core.arc (key_of op))) both in
+      let same : Says.NotMine r.group.core.arc r.group.core.succ ≡ answer = cc in subst (Untaken r client seq op) same (sym g, parts.0, turned_off (holds_key r.group.core.arc (key_of op)) parts.1, refl, refl))) (λ _ j. cc) k) e
+
+  -- it waits, and the pump is tried: no other leader is named
+  pub queued_so : (named : Bool) (o : Option ℕ) (client seq : ℕ) (op : Op) (r : ReplicaState) (mails : List Mail) → A (Call client seq op) → FineSo start A G named (r, mails) → FineSo start A G named (queued o client seq op (r, mails))
+  unfolding queued
+  queued_so named None client seq op r mails a f =
+      let calls : List Command = r.calls ++ Call client seq op ∷ [] in
+      pumped_so start A G named (record r { calls = calls }, mails) ((with_calls A G r calls (Each-append (Kept A G) r.calls (Call client seq op ∷ []) f.0.0.calls (a, tt)) f.0.0, f.0.1), f.1)
+  queued_so named (Some other) client seq op r mails a f =
+      let calls : List Command = without_call r.calls client ++ Call client seq op ∷ [] in
+      either_way (FineSo start A G named) (nat_le seq other) (r, mails) (pumped (record r { calls = calls }, mails)) f
+      (pumped_so start A G named (record r { calls = calls }, mails) ((with_calls A G r calls (Each-append (Kept A G) (without_call r.calls client) (Call client seq op ∷ []) (without_kept A G r.calls client f.0.0.calls) (a, tt)) f.0.0, f.0.1), f.1))
+
+  refused_fine : (client seq : ℕ) (op : Op) (answer : AnswerBody) (r : ReplicaState) (mails : List Mail) → A (Call client seq op) → RefusesCall r.group client seq op answer → F (r, mails)
+      → F (r, sent r.me (client_actor client) (Answer (name_of r) seq answer) mails)
+  refused_fine client seq op answer r mails a u f =
+      let s = f.1 in
+      let cause : CausedAnswer start A G s.entries s.refused (client_actor client) seq answer = refused_answer start A G s.entries s.refused (client_actor client) seq answer (record {
+        front = s.entries;
+        rest = [];
+        are = sym (append-nil s.entries);
+        client = client;
+        op = op;
+        receiver = refl;
+        was_asked = a;
+        refuses = subst (λ g. RefusesCall g client seq op answer) s.group_is u;
+      }) in
+      (f.0, resent start A G r mails _ s (sent_one (Caused start A G s.entries s.refused) (caused_plain start A G s.entries s.refused) mails (record { from = r.me; to = client_actor client; body = Answer (name_of r) seq answer }) cause s.sent))
+
+  -- an answer behind the mails, whose cause stands, or that comes of one that does not run
+  said_fine : (client seq : ℕ) (op : Op) (answer : AnswerBody) (r : ReplicaState) (mails : List Mail) → A (Call client seq op) → Untaken r client seq op answer → F (r, mails)
+      → F (r, sent r.me (client_actor client) (Answer (name_of r) seq answer) mails)
+  said_fine client seq op (Says.Value reply) r mails a u f = absurd u
+  said_fine client seq op (Says.Stale last) r mails a u f = absurd u
+  said_fine client seq op (Says.NotLeader hint) r mails a u f = (f.0, record {
+    entries = f.1.entries;
+    group_is = f.1.group_is;
+    log_is = f.1.log_is;
+    top_is = f.1.top_is;
+    refused = true;
+    out = λ _. inl u;
+    sent = sent_one (Caused start A G f.1.entries true) (caused_plain start A G f.1.entries true) mails (record { from = r.me; to = client_actor client; body = Answer (name_of r) seq (Says.NotLeader hint) }) refl
+        (stopped_caused start A G f.1.entries f.1.refused mails f.1.sent);
+  })
+  said_fine client seq op (Says.NotMine arc succ) r mails a u f = refused_fine client seq op (Says.NotMine arc succ) r mails a u f
+  said_fine client seq op (Says.Gone into) r mails a u f = refused_fine client seq op (Says.Gone into) r mails a u f
+
+  requested_by : (o : Option AnswerBody) (client seq : ℕ) (op : Op) (r : ReplicaState) (mails : List Mail) → A (Call client seq op) → ((answer : AnswerBody) → o ≡ Some answer → Untaken r client seq op answer) → F (r, mails)
+      → F (requested o client seq op (r, mails))
+  unfolding requested
+  requested_by (Some answer) client seq op r mails a u f = said_fine client seq op answer r mails a (u answer refl) f
+  requested_by None client seq op r mails a u f = (queued_so f.1.refused (call_of r.calls client) client seq op r mails a (f, refl)).0
+
+  pub request_fine : (client seq : ℕ) (op : Op) (r : ReplicaState) (mails : List Mail) → A (Call client seq op) → F (r, mails) → F (request_row client seq op (r, mails))
+  unfolding request_row
+  request_fine client seq op r mails a f =
+      requested_by (refused_at r.group.core.gone op r) client seq op r mails a (λ answer e. refusal_by r.group.core.gone r client seq op answer refl e) f
+
+  -- ---- the acts of transactions
+
+  act_fine : (act : Command) (r : ReplicaState) (mails : List Mail) → Kept A G act → F (r, mails) → F (with_act act r, mails)
+  act_fine act r mails k f =
+      either_way (λ (x : ReplicaState). F (x, mails)) (has_act act r) r (record r { acts = r.acts ++ act ∷ [] }) f (with_acts A G r (r.acts ++ act ∷ []) (Each-append (Kept A G) r.acts (act ∷ []) f.0.acts (k, tt)) f.0, f.1)
+
+  queued_act : (act : Command) (r : ReplicaState) (mails : List Mail) → Kept A G act → F (r, mails) → F (act_queued act (r, mails))
+  unfolding act_queued
+  queued_act act r mails k f = pumped_fine start A G (with_act act r, mails) (act_fine act r mails k f)
+
+  -- ---- Tick
+
+  -- a coordinator that has waited long enough may give up
+  abbrev pub GivesUp : ReplicaState → Type 0
+  GivesUp r = (tx : Draw) (body : Body) (order : ℕ) (heard : Option Heard) → r.group.core.lock ≡ Coordinating tx body order heard → 8 ≤ r.waits + 1 → G tx
+
+  long_enough : (waits : ℕ) → nat_le patience (one_tick_more waits) ≡ true → 8 ≤ waits + 1
+  long_enough waits e =
+      cond_both (eqb waits (2 ^ 32 - 1)) waits (waits + 1) (λ n. nat_le patience n ≡ true → 8 ≤ waits + 1)
+      (λ _ k. (let le = leb-true patience waits k in omega (arith, le))) (λ _ k. (let le = leb-true patience (waits + 1) k in omega (arith, le))) e
+
+  waited_fine : (lock : Lock) (r : ReplicaState) (mails : List Mail) → lock ≡ r.group.core.lock → GivesUp r → F (r, mails) → F (waited_in lock r, mails)
+  waited_fine Free r mails l g f = f
+  waited_fine (Promised tx offer) r mails l g f = f
+  waited_fine (Watching tx watch) r mails l g f = f
+  waited_fine (Coordinating tx body order heard) r mails l g f =
+      let more : ReplicaState = record r { waits = one_tick_more r.waits } in
+      let h : F (more, mails) = (record { calls = f.0.calls; acts = f.0.acts; flights = f.0.flights; ready = f.0.ready; reports = f.0.reports }, f.1) in
+      cond_both (nat_le patience more.waits) (with_act (GiveUp tx) more) more (λ (x : ReplicaState). F (x, mails)) (λ e. act_fine (GiveUp tx) more mails (g tx body order heard (sym l) (long_enough r.waits e)) h) (λ _. h)
+
+  reminded_fine : (r : ReplicaState) (mails : List Mail) → GivesUp r → F (r, mails) → F (reminded (r, mails))
+  unfolding reminded
+  reminded_fine r mails g f =
+      let s = f.1 in
+      let said : F (r, reminders r.group.core.lock r.me r.group mails) = (f.0, resent start A G r mails _ s (reminders_plain (Caused start A G s.entries s.refused) (caused_plain start A G s.entries s.refused) r.group.core.lock r.me r.group mails s.sent)) in
+      waited_fine r.group.core.lock r (reminders r.group.core.lock r.me r.group mails) refl g said
+
+  pub tick_fine : (r : ReplicaState) (mails : List Mail) → (settled r ≡ true → GivesUp r) → F (r, mails) → F (tick_row (r, mails))
+  unfolding tick_row
+  tick_fine r mails g f =
+      let s = f.1 in
+      let last : List Mail = told_last (entry_at (next r - 1) r.log) r mails in
+      let again : List Mail = asked_again r (next r) r.sets mails in
+      either_way F (is_some r.group.core.gone || not (is_member (members r) r.me)) (r, mails) _ f
+      (cond_both (not (settled r)) (elected (r, mails)) _ F (λ _. elected_fine start A G r mails f)
+      (λ e. either_way F (is_idle r) (pumped (reminded (r, last))) (pumped (reminded (r, again)))
+      (pumped_fine start A G (reminded (r, last)) (reminded_fine r last (g (turned (settled r) e)) (f.0, resent start A G r mails last s (last_plain (Caused start A G s.entries s.refused) (caused_plain start A G s.entries s.refused) (entry_at (next r - 1) r.log) r mails s.sent))))
+      (pumped_fine start A G (reminded (r, again)) (reminded_fine r again (g (turned (settled r) e)) (f.0, resent start A G r mails again s (again_plain (Caused start A G s.entries s.refused) (caused_plain start A G s.entries s.refused) r (next r) r.sets mails s.sent))))))
+
+  -- ---- the parties of a transaction
+
+  elsewhere_sent : (node : ℕ) (tx coord : Draw) (place : Place) → F place → F (sent_elsewhere node tx coord place)
+  elsewhere_sent node tx coord (r, mails) f = (f.0, with_plain start A G r mails r.me node (TxElsewhere tx coord r.hint) tt f.1)
+
+  offered_fine : (o : Option Past) (from : ℕ) (tx : Draw) (offer : Offer) (place : Place) → F place → F (offered_by o from tx offer place)
+  offered_fine (Some vote) from tx offer (r, mails) f =
+      (f.0, resent start A G r mails _ f.1 (vote_plain (Caused start A G f.1.entries f.1.refused) (caused_plain start A G f.1.entries f.1.refused) r.me r.group from tx offer vote mails f.1.sent))
+  offered_fine None from tx offer (r, mails) f =
+      either_way F r.running (act_queued (Prepared tx offer) (r, mails)) (sent_elsewhere from tx offer.coord (r, mails)) (queued_act (Prepared tx offer) r mails tt f) (elsewhere_sent from tx offer.coord (r, mails) f)
+
+  pub offer_fine : (from : ℕ) (tx : Draw) (offer : Offer) (r : ReplicaState) (mails : List Mail) → F (r, mails) → F (offer_row from tx offer (r, mails))
+  unfolding offer_row
+  offer_fine from tx offer r mails f = offered_fine (standing_vote r.group.core tx) from tx offer (r, mails) f
+
+  watched_by_fine : (o : Option Past) (from : ℕ) (tx : Draw) (watch : Watch) (place : Place) → F place → F (watched_by o from tx watch place)
+  watched_by_fine (Some vote) from tx watch (r, mails) f =
+      (f.0, resent start A G r mails _ f.1 (watched_plain (Caused start A G f.1.entries f.1.refused) (caused_plain start A G f.1.entries f.1.refused) r.me from tx watch vote mails f.1.sent))
+  watched_by_fine None from tx watch (r, mails) f =
+      either_way F r.running (act_queued (Watched tx watch) (r, mails)) (sent_elsewhere from tx watch.coord (r, mails)) (queued_act (Watched tx watch) r mails tt f) (elsewhere_sent from tx watch.coord (r, mails) f)
+
+  pub watch_fine : (from : ℕ) (tx : Draw) (watch : Watch) (r : ReplicaState) (mails : List Mail) → F (r, mails) → F (watch_row from tx watch (r, mails))
+  unfolding watch_row
+  watch_fine from tx watch r mails f = watched_by_fine (standing_vote r.group.core tx) from tx watch (r, mails) f
+
+  outcome_told : (node : ℕ) (tx part : Draw) (outcome : Outcome) (r : ReplicaState) (mails : List Mail) → F (r, mails) → F (r, told_outcome r.me node tx part outcome mails)
+  outcome_told node tx part outcome r mails f = (f.0, with_plain start A G r mails r.me node (TxOutcome tx part outcome) tt f.1)
+
+  vote_queued_fine : (from : ℕ) (tx : Draw) (vote : Vote) (place : Place) → F place → F (vote_queued from tx vote place)
+  vote_queued_fine from tx vote (r, mails) f =
+      either_way F (r.running && awaits_vote r.group.core.lock tx) (act_queued (RecordVote tx vote from) (r, mails)) (r, mails) (queued_act (RecordVote tx vote from) r mails tt f) f
+
+  vote_met_fine : (vote : Vote) (o : Option Outcome) (from : ℕ) (tx part : Draw) (place : Place) → F place → F (vote_met vote o from tx part place)
+  vote_met_fine (Vows.Yes frozen) (Some outcome) from tx part (r, mails) f = outcome_told from tx part outcome r mails f
+  vote_met_fine (Vows.Yes frozen) None from tx part place f = vote_queued_fine from tx (Vows.Yes frozen) place f
+  vote_met_fine (Vows.No why) outcome from tx part place f = vote_queued_fine from tx (Vows.No why) place f
+
+  pub vote_fine : (from : ℕ) (tx part : Draw) (vote : Vote) (r : ReplicaState) (mails : List Mail) → F (r, mails) → F (vote_row from tx part vote (r, mails))
+  unfolding vote_row
+  vote_fine from tx part vote r mails f = vote_met_fine vote (noted_outcome r.group.core tx) from tx part (r, mails) f
+
+  watch_queued_fine : (from : ℕ) (tx : Draw) (vote : Past) (place : Place) → F place → F (watch_queued from tx vote place)
+  watch_queued_fine from tx vote (r, mails) f =
+      either_way F (r.running && awaits_watch r.group.core.lock tx) (act_queued (RecordWatch tx vote from) (r, mails)) (r, mails) (queued_act (RecordWatch tx vote from) r mails tt f) f
+
+  watch_met_fine : (vote : Past) (o : Option Outcome) (from : ℕ) (tx part : Draw) (place : Place) → F place → F (watch_met vote o from tx part place)
+  watch_met_fine Cast.Yes (Some outcome) from tx part (r, mails) f = outcome_told from tx part outcome r mails f
+  watch_met_fine Cast.Yes None from tx part place f = watch_queued_fine from tx Cast.Yes place f
+  watch_met_fine (Cast.No why) outcome from tx part place f = watch_queued_fine from tx (Cast.No why) place f
+  watch_met_fine Cast.Ended outcome from tx part place f = watch_queued_fine from tx Cast.Ended place f
+
+  pub watched_fine : (from : ℕ) (tx part : Draw) (vote : Past) (r : ReplicaState) (mails : List Mail) → F (r, mails) → F (watched_row from tx part vote (r, mails))
+  unfolding watched_row
+  watched_fine from tx part vote r mails f = watch_met_fine vote (noted_outcome r.group.core tx) from tx part (r, mails) f
+
+  pub elsewhere_fine : (from : ℕ) (tx : Draw) (hint : Option ℕ) (r : ReplicaState) (mails : List Mail) → F (r, mails) → F (elsewhere_row from tx hint (r, mails))
+  unfolding elsewhere_row
+  elsewhere_fine from tx hint r mails f =
+      let s = f.1 in
+      either_way F (settled r) (r, asked_next r.group.core.lock r.me r.group.core from tx hint mails) (r, mails)
+      (f.0, resent start A G r mails _ s (next_plain (Caused start A G s.entries s.refused) (caused_plain start A G s.entries s.refused) r.group.core.lock r.me r.group.core from tx hint mails s.sent)) f
+
+  pub outcome_fine : (tx : Draw) (outcome : Outcome) (r : ReplicaState) (mails : List Mail) → F (r, mails) → F (outcome_row tx outcome (r, mails))
+  unfolding outcome_row
+  outcome_fine tx outcome r mails f =
+      either_way F (r.running && is_bound r.group.core.lock tx) (act_queued (Finish tx outcome) (r, mails)) (r, mails) (queued_act (Finish tx outcome) r mails tt f) f
+
+  -- ---- orders
+
+  order_kept : (name : Draw) (number : ℕ) (order : Order) → Kept A G (ordered_command name number order)
+  order_kept name number (An.Join node group) = tt
+  order_kept name number (An.Leave node group) = tt
+  order_kept name number (An.Split group at) = tt
+  order_kept name number (An.Merge group) = tt
+  order_kept name number (An.Repart group at) = tt
+  order_kept name number (An.Migrate group node) = tt
+
+  taken_fine : (o : Option OrderRefusal) (number : ℕ) (command : Command) (place : Place) → Kept A G command → F place → F (taken_or_told o number command place)
+  taken_fine (Some why) number command (r, mails) k f = (f.0, with_plain start A G r mails r.me 0 (Told number (Tells.Refused why)) tt f.1)
+  taken_fine None number command (r, mails) k f =
+      pumped_fine start A G (record r { calls = r.calls ++ command ∷ [] }, mails) (with_calls A G r (r.calls ++ command ∷ []) (Each-append (Kept A G) r.calls (command ∷ []) f.0.calls (k, tt)) f.0, f.1)
+
+  pub order_fine : (drawer : Drawer) (line : OrderLine) (r : ReplicaState) (mails : List Mail) → F (r, mails) → F (ordered_row drawer line (r, mails))
+  unfolding ordered_row
+  order_fine drawer line r mails f =
+      taken_fine (untaken drawer line r) line.number (ordered_command (next_name drawer) line.number line.order) (r, mails) (order_kept (next_name drawer) line.number line.order) f

@@ -1,0 +1,154 @@
+-- A replica that stops answers all calls that it keeps, each with its cause; one that is elected runs in a later round.
+use Rattle.std.proofs.Common.{◌≡◌, ℕ, ◌+◌, ◌-◌, ◌^◌, ◌<◌, ◌≤◌, ◌⊎◌, inl, inr, refl, arith, ◌&&◌, eqb, Bool, true, false, cond, List, [], ◌∷◌, Option, Some, None}
+use Rattle.std.proofs.lemmas.Bool.{cond_both}
+use Rattle.sc_base.specs.Limits.{client_actor}
+use Rattle.sc_base.specs.declared.names.Ballot.{Ballot}
+use Rattle.sc_base.specs.declared.names.Draw.{Draw}
+use Rattle.sc_base.specs.declared.ops.Op.{Op}
+use Rattle.sc_base.specs.Among.{Each}
+use Rattle.sc_cmd.specs.declared.commands.Command.{Command}
+use Rattle.sc_cmd.specs.declared.commands.Command.TheVariants.{Noop, Call, Join, Leave, Split, Begin, Prepared, RecordVote, GiveUp, Finish, Watched, RecordWatch}
+use Rattle.sc_cmd.specs.declared.orders.OrderRefusal.TheVariants as Why
+use Rattle.sc_cmd.specs.declared.orders.ToldResult.TheVariants as Tells
+use Rattle.sc_mail.specs.declared.bodies.AnswerBody.{AnswerBody}
+use Rattle.sc_mail.specs.declared.bodies.AnswerBody.TheVariants as Says
+use Rattle.sc_mail.specs.declared.bodies.Mail.{Mail}
+use Rattle.sc_mail.specs.declared.bodies.MailBody.TheVariants.{Answer, Prepare, Install}
+use Rattle.sc_machine_table.specs.Group.{base_of}
+use Rattle.sc_paxos_words.proofs.BallotLemmas.{below_parts}
+use Rattle.sc_paxos_words.specs.Ballots.{below}
+use Rattle.sc_paxos_words.specs.Leaders.{new_leader}
+use Rattle.sc_node_table.specs.Election.{open_nodes, elected, ended, stopped, saw}
+use Rattle.sc_node_table.specs.Install.{install_to, asked_to_promise, welcomed_all}
+use Rattle.sc_node_table.specs.Mails.{sent, answered, answered_all, told_order, dismissed, dismissed_all}
+use Rattle.sc_node_table.specs.Replica.{ReplicaState, Place, name_of, next, under_way}
+use Rattle.sc_draws_law.proofs.Machine.{either_way}
+use Rattle.sc_refusal_law.proofs.Keeping.{Kept, KeptAll, Holds, way_kept}
+use Rattle.sc_refusal_law.proofs.Plain.{sent_one, told_plain}
+use Rattle.sc_refusal_law.proofs.Standing.{Caused, CausedAnswer, caused_plain, stopped_caused, Stands, StandsIn, Fine, with_plain, with_all}
+
+module _ (start : ReplicaState) (A : Command → Type 0) (G : Draw → Type 0) where
+  abbrev F : Place → Type 0
+  F place = Fine start A G place
+
+  -- ---- answers to the calls that are kept
+
+  module _ (entries : List Command) (refused : Bool) (me : ℕ) (group : Draw) (answer : AnswerBody) (causes : (client seq : ℕ) (op : Op) → A (Call client seq op) → CausedAnswer start A G entries refused (client_actor client) seq answer) where
+    abbrev C : List Mail → Type 0
+    C mails = Each (Caused start A G entries refused) mails
+
+    answered_one : (client seq : ℕ) (op : Op) (mails : List Mail) → A (Call client seq op) → C mails → C (sent me (client_actor client) (Answer group seq answer) mails)
+    answered_one client seq op mails a c = sent_one (Caused start A G entries refused) (caused_plain start A G entries refused) mails (record { from = me; to = client_actor client; body = Answer group seq answer }) (causes client seq op a) c
+
+    answered_caused : (command : Command) (mails : List Mail) → Kept A G command → C mails → C (answered me group answer command mails)
+    unfolding answered
+    answered_caused (Call client seq op) mails k c = answered_one client seq op mails k c
+    answered_caused _ mails k c = c
+
+    pub answers_caused : (commands : List Command) (mails : List Mail) → KeptAll A G commands → C mails → C (answered_all me group answer commands mails)
+    unfolding answered_all
+    answers_caused [] mails k c = c
+    answers_caused (command ∷ commands) mails k c = answers_caused commands (answered me group answer command mails) k.1 (answered_caused command mails k.0 c)
+
+    desk : (number : ℕ) (hint : Option ℕ) (mails : List Mail) → C mails → C (told_order me number (Tells.Refused (Why.NotLeader hint)) mails)
+    desk number hint mails c = told_plain (Caused start A G entries refused) (caused_plain start A G entries refused) me number (Tells.Refused (Why.NotLeader hint)) mails c
+
+    dismissed_caused : (hint : Option ℕ) (command : Command) (mails : List Mail) → Kept A G command → C mails → C (dismissed me group hint answer command mails)
+    unfolding dismissed
+    dismissed_caused hint (Call client seq op) mails k c = answered_one client seq op mails k c
+    dismissed_caused hint Noop mails k c = desk 0 hint mails c
+    dismissed_caused hint (Join node order) mails k c = desk order hint mails c
+    dismissed_caused hint (Leave node order) mails k c = desk order hint mails c
+    dismissed_caused hint (Split at child order) mails k c = desk order hint mails c
+    dismissed_caused hint (Begin tx body order) mails k c = desk order hint mails c
+    dismissed_caused hint (Prepared tx offer) mails k c = desk 0 hint mails c
+    dismissed_caused hint (RecordVote tx vote by) mails k c = desk 0 hint mails c
+    dismissed_caused hint (GiveUp tx) mails k c = desk 0 hint mails c
+    dismissed_caused hint (Finish tx outcome) mails k c = desk 0 hint mails c
+    dismissed_caused hint (Watched tx watch) mails k c = desk 0 hint mails c
+    dismissed_caused hint (RecordWatch tx vote by) mails k c = desk 0 hint mails c
+
+    pub dismissals_caused : (hint : Option ℕ) (commands : List Command) (mails : List Mail) → KeptAll A G commands → C mails → C (dismissed_all me group hint answer commands mails)
+    unfolding dismissed_all
+    dismissals_caused hint [] mails k c = c
+    dismissals_caused hint (command ∷ commands) mails k c = dismissals_caused hint commands (dismissed me group hint answer command mails) k.1 (dismissed_caused hint command mails k.0 c)
+
+  -- ---- it stops
+
+  -- with an answer whose cause is that it has stopped, or stands already
+  unfoldable pub ended_fine : (hint : Option ℕ) (answer : AnswerBody) (r : ReplicaState) (mails : List Mail) (f : F (r, mails))
+      → ((client seq : ℕ) (op : Op) → A (Call client seq op) → CausedAnswer start A G f.1.entries true (client_actor client) seq answer) → F (ended hint answer (r, mails))
+  unfolding ended
+  ended_fine hint answer r mails f causes =
+      let first = answers_caused f.1.entries true r.me (name_of r) answer causes (under_way r) mails (way_kept A G r f.0) (stopped_caused start A G f.1.entries f.1.refused mails f.1.sent) in
+      (
+        record { calls = tt; acts = tt; flights = tt; ready = tt; reports = tt },
+        record {
+          entries = f.1.entries;
+          group_is = f.1.group_is;
+          log_is = f.1.log_is;
+          top_is = f.1.top_is;
+          refused = true;
+          out = λ e. inl refl;
+          sent = dismissals_caused f.1.entries true r.me (name_of r) answer causes hint r.calls (answered_all r.me (name_of r) answer (under_way r) mails) f.0.calls first;
+        },
+      )
+
+  unfoldable pub stopped_fine : (hint : Option ℕ) (r : ReplicaState) (mails : List Mail) → F (r, mails) → F (stopped hint (r, mails))
+  stopped_fine hint r mails f = ended_fine hint (Says.NotLeader hint) r mails f (λ client seq op a. refl)
+
+  -- ---- it is elected
+
+  pub elected_fine : (r : ReplicaState) (mails : List Mail) → F (r, mails) → F (elected (r, mails))
+  unfolding elected
+  elected_fine r mails f =
+      let ballot : Ballot = record { round = r.top.round + 1; node = r.me } in
+      let low = f.1.top_is in
+      let s : Stands start A G r.group r.log (r.top.round + 1) true (r.top.round + 1) mails = record {
+        entries = f.1.entries;
+        group_is = f.1.group_is;
+        log_is = f.1.log_is;
+        top_is = omega (arith, low);
+        refused = f.1.refused;
+        out = λ e. inr (omega (arith, low));
+        sent = f.1.sent;
+      } in
+      either_way F (eqb r.top.round (2 ^ 32 - 1)) _ _ f (
+        record { calls = f.0.calls; acts = f.0.acts; flights = tt; ready = tt; reports = tt },
+        with_all start A G (record r { top = ballot; hint = Some r.me; running = true; leader = new_leader ballot (next r); ready = []; waits = 0 }) mails r.me (open_nodes r.sets) (Prepare (name_of r) ballot (next r)) tt s,
+      )
+
+  -- ---- a ballot that is seen
+
+  below_round : (a b : Ballot) → below a b ≡ true → a.round ≤ b.round
+  below_round a b e = elim (below_parts a b e) [ inl lt ↦ omega (arith, lt) | inr p ↦ omega (arith, p.0) ]
+
+  raised : (r : ReplicaState) (ballot : Ballot) (mails : List Mail) → r.top.round ≤ ballot.round → F (r, mails) → F (record r { top = ballot }, mails)
+  raised r ballot mails le f =
+      let low = f.1.top_is in
+      (
+        record { calls = f.0.calls; acts = f.0.acts; flights = f.0.flights; ready = f.0.ready; reports = f.0.reports },
+        record { entries = f.1.entries; group_is = f.1.group_is; log_is = f.1.log_is; top_is = omega (arith, low, le); refused = f.1.refused; out = f.1.out; sent = f.1.sent },
+      )
+
+  pub saw_fine : (ballot : Ballot) (r : ReplicaState) (mails : List Mail) → F (r, mails) → F (saw ballot (r, mails))
+  unfolding saw
+  saw_fine ballot r mails f =
+      let seen : ReplicaState = cond (below r.top ballot) (record r { top = ballot }) r in
+      let g : F (seen, mails) = cond_both (below r.top ballot) (record r { top = ballot }) r (λ s. F (s, mails)) (λ e. raised r ballot mails (below_round r.top ballot e) f) (λ e. f) in
+      either_way F (r.running && below r.leader.ballot ballot) (stopped (Some ballot.node) (seen, mails)) (seen, mails) (stopped_fine (Some ballot.node) seen mails g) g
+
+  -- ---- the state is sent
+
+  pub installed_fine : (node : ℕ) (place : Place) → F place → F (install_to node place)
+  unfolding install_to
+  installed_fine node (r, mails) f = (f.0, with_plain start A G r mails r.me node (Install (name_of r) (next r - 1) (base_of r.group) r.sets) tt f.1)
+
+  asked_fine : (node : ℕ) (place : Place) → F place → F (asked_to_promise node place)
+  asked_fine node (r, mails) f =
+      either_way F r.leader.is_first (r, mails) (r, sent r.me node (Prepare (name_of r) r.leader.ballot (next r)) mails) f (f.0, with_plain start A G r mails r.me node (Prepare (name_of r) r.leader.ballot (next r)) tt f.1)
+
+  pub welcomed_fine : (nodes : List ℕ) (place : Place) → F place → F (welcomed_all nodes place)
+  unfolding welcomed_all
+  welcomed_fine [] place f = f
+  welcomed_fine (node ∷ nodes) place f = welcomed_fine nodes (asked_to_promise node (install_to node place)) (asked_fine node (install_to node place) (installed_fine node place f))

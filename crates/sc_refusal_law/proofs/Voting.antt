@@ -1,0 +1,182 @@
+-- The rows of Paxos: what a replica makes of promises, votes and executed entries that it is sent.
+use Rattle.std.proofs.Common.{◌≡◌, ℕ, ◌+◌, ◌-◌, ◌&&◌, not, nat_le, nat_lt, eqb, Bool, true, false, List, Option, Some, None, refl, true≢false, sym, subst}
+use Rattle.sc_base.specs.Among.{Each}
+use Rattle.sc_base.specs.Same.{same_ballot}
+use Rattle.sc_base.specs.declared.names.Ballot.{Ballot}
+use Rattle.sc_base.specs.declared.names.Draw.{Draw}
+use Rattle.sc_cmd.specs.declared.commands.Command.{Command}
+use Rattle.sc_mail.specs.declared.bodies.Mail.{Mail}
+use Rattle.sc_mail.specs.declared.bodies.MailBody.TheVariants.{Promise, Accepted, Nack, Ask}
+use Rattle.sc_member.specs.Roster.{is_member}
+use Rattle.sc_member.specs.Majority.{is_majority}
+use Rattle.sc_paxos_words.proofs.ListLemmas.{Each-append}
+use Rattle.sc_paxos_words.specs.declared.reports.Report.{Report}
+use Rattle.sc_paxos_words.specs.declared.flights.Flight.{Flight}
+use Rattle.sc_paxos_words.specs.declared.answers.PrepareAnswer.{PrepareAnswer}
+use Rattle.sc_paxos_words.specs.declared.answers.PrepareAnswer.TheVariants as Prepared
+use Rattle.sc_paxos_words.specs.declared.answers.AcceptAnswer.{AcceptAnswer}
+use Rattle.sc_paxos_words.specs.declared.answers.AcceptAnswer.TheVariants as Asked
+use Rattle.sc_paxos_words.specs.declared.answers.Counted.{Counted}
+use Rattle.sc_paxos_words.specs.declared.answers.Counted.TheVariants.{Chosen, NotYet}
+use Rattle.sc_paxos_words.specs.Preparing.{prepared}
+use Rattle.sc_paxos_words.specs.Accepting.{accepted as accepted_by}
+use Rattle.sc_paxos_words.specs.Acceptors.{AcceptorState}
+use Rattle.sc_paxos_words.specs.Leaders.{LeaderState, flight_at, promise_counted}
+use Rattle.sc_paxos_words.specs.Logs.{entry_at}
+use Rattle.sc_paxos_words.specs.Votes.{kept_voters, voters_after, tallied, vote_at, counted}
+use Rattle.sc_node_table.specs.Slots.{with_slot}
+use Rattle.sc_node_table.specs.Replica.{ReplicaState, Place, name_of, next, set_at, last_slot}
+use Rattle.sc_node_table.specs.Mails.{sent}
+use Rattle.sc_node_table.specs.Election.{saw}
+use Rattle.sc_node_table.specs.Execute.{executed, has_room}
+use Rattle.sc_node_table.specs.Install.{install_to}
+use Rattle.sc_node_table.specs.Pump.{pumped}
+use Rattle.sc_node_table.specs.Rows.{learn_row, taught, most_taught, ask_answered, ask_row}
+use Rattle.sc_node_table.specs.Voting.{hinted, promise_to, promised, prepare_row, accepted_to, took, accept_row, leads, promise_row, readied, vote_tallied, voted, accepted_row, nack_row}
+use Rattle.sc_draws_law.specs.Names.{Opt}
+use Rattle.sc_draws_law.proofs.Lists.{opt_find, slot_with, flight_without, voters_with}
+use Rattle.sc_draws_law.proofs.Machine.{either_way}
+use Rattle.sc_refusal_law.proofs.Keeping.{Kept, Flying, Reported, Holds}
+use Rattle.sc_refusal_law.proofs.Plain.{taught_plain}
+use Rattle.sc_refusal_law.proofs.Standing.{Caused, caused_plain, Stands, Fine, resent, with_plain}
+use Rattle.sc_refusal_law.proofs.Stopping.{saw_fine, installed_fine}
+use Rattle.sc_refusal_law.proofs.Pumping.{pumped_fine}
+use Rattle.sc_refusal_law.proofs.Executing.{executed_fine}
+
+module _ (start : ReplicaState) (A : Command → Type 0) (G : Draw → Type 0) where
+  abbrev F : Place → Type 0
+  F place = Fine start A G place
+
+  -- what a replica keeps of commands is the same with another acceptor, hint or hint and acceptor
+  with_acceptor : (r : ReplicaState) (acceptor : AcceptorState Command) → Holds A G r → Holds A G (record r { acceptor = acceptor })
+  with_acceptor r acceptor h = record { calls = h.calls; acts = h.acts; flights = h.flights; ready = h.ready; reports = h.reports }
+
+  hinted_fine : (ballot : Ballot) (r : ReplicaState) (mails : List Mail) → F (r, mails) → F (hinted ballot r, mails)
+  hinted_fine ballot r mails f =
+      either_way (λ (x : ReplicaState). F (x, mails)) r.running r (record r { hint = Some ballot.node }) f
+      (record { calls = f.0.calls; acts = f.0.acts; flights = f.0.flights; ready = f.0.ready; reports = f.0.reports }, f.1)
+
+  -- ---- Prepare and Accept
+
+  promise_fine : (from : ℕ) (ballot : Ballot) (p : PrepareAnswer Command × AcceptorState Command) (place : Place) → F place → F (promise_to from ballot p place)
+  promise_fine from ballot (Prepared.Promise reports, acceptor) (r, mails) f =
+      hinted_fine ballot (record r { acceptor = acceptor }) (sent r.me from (Promise (name_of r) ballot reports) mails) (with_acceptor r acceptor f.0, with_plain start A G r mails r.me from (Promise (name_of r) ballot reports) tt f.1)
+  promise_fine from ballot (Prepared.Ignored was, acceptor) (r, mails) f = (with_acceptor r acceptor f.0, with_plain start A G r mails r.me from (Nack (name_of r) was) tt f.1)
+
+  promised_fine : (from : ℕ) (ballot : Ballot) (from_slot : ℕ) (place : Place) → F place → F (promised from ballot from_slot place)
+  unfolding promised
+  promised_fine from ballot from_slot (r, mails) f =
+      either_way F (nat_le from_slot r.acceptor.floor) (install_to from (r, mails)) (promise_to from ballot (prepared ballot from_slot r.acceptor) (r, mails)) (installed_fine start A G from (r, mails) f)
+      (promise_fine from ballot (prepared ballot from_slot r.acceptor) (r, mails) f)
+
+  pub prepare_fine : (from : ℕ) (ballot : Ballot) (from_slot : ℕ) (r : ReplicaState) (mails : List Mail) → F (r, mails) → F (prepare_row from ballot from_slot (r, mails))
+  unfolding prepare_row
+  prepare_fine from ballot from_slot r mails f = promised_fine from ballot from_slot (saw ballot (r, mails)) (saw_fine start A G ballot r mails f)
+
+  accepted_to_fine : (from : ℕ) (ballot : Ballot) (slot : ℕ) (p : AcceptAnswer × AcceptorState Command) (place : Place) → F place → F (accepted_to from ballot slot p place)
+  accepted_to_fine from ballot slot (Asked.Accepted, acceptor) (r, mails) f =
+      hinted_fine ballot (record r { acceptor = acceptor }) (sent r.me from (Accepted (name_of r) ballot slot) mails) (with_acceptor r acceptor f.0, with_plain start A G r mails r.me from (Accepted (name_of r) ballot slot) tt f.1)
+  accepted_to_fine from ballot slot (Asked.Ignored was, acceptor) (r, mails) f = (with_acceptor r acceptor f.0, with_plain start A G r mails r.me from (Nack (name_of r) was) tt f.1)
+
+  took_fine : (from : ℕ) (report : Report Command) (place : Place) → F place → F (took from report place)
+  unfolding took
+  took_fine from report (r, mails) f =
+      either_way F (nat_le report.slot r.acceptor.floor) (install_to from (r, mails)) (accepted_to from report.ballot report.slot (accepted_by report r.acceptor) (r, mails)) (installed_fine start A G from (r, mails) f)
+      (accepted_to_fine from report.ballot report.slot (accepted_by report r.acceptor) (r, mails) f)
+
+  pub accept_fine : (from : ℕ) (ballot : Ballot) (slot : ℕ) (command : Command) (r : ReplicaState) (mails : List Mail) → F (r, mails) → F (accept_row from ballot slot command (r, mails))
+  unfolding accept_row
+  accept_fine from ballot slot command r mails f = took_fine from (record { slot = slot; ballot = ballot; value = command }) (saw ballot (r, mails)) (saw_fine start A G ballot r mails f)
+
+  -- ---- Promise
+
+  -- a leader keeps what was asked, in the same ballot
+  record Leads (r : ReplicaState) (leader : LeaderState Command) : Type 0 where
+    flights : Each (Flying A G) leader.flights
+    reports : Each (Reported A G) leader.reports
+    ballot : leader.ballot ≡ r.leader.ballot
+
+  with_leader : (r : ReplicaState) (leader : LeaderState Command) (mails : List Mail) → Leads r leader → F (r, mails) → F (record r { leader = leader }, mails)
+  with_leader r leader mails l f = (
+    record { calls = f.0.calls; acts = f.0.acts; flights = l.flights; ready = f.0.ready; reports = l.reports },
+    subst (λ ballot. Stands start A G r.group r.log r.top.round r.running ballot.round mails) (sym l.ballot) f.1,
+  )
+
+  counted_leads : (node : ℕ) (ballot : Ballot) (reports : List (Report Command)) (r : ReplicaState) → Each (Reported A G) reports → Holds A G r → Leads r (promise_counted node ballot reports r.leader).1
+  counted_leads node ballot reports r p h =
+      either_way (λ (x : Bool × LeaderState Command). Leads r x.1) (same_ballot ballot r.leader.ballot && not (is_member r.leader.promisers node)) _ _
+      (record { flights = h.flights; reports = Each-append (Reported A G) r.leader.reports reports h.reports p; ballot = refl }) (record { flights = h.flights; reports = h.reports; ballot = refl })
+
+  pub promise_row_fine : (from : ℕ) (ballot : Ballot) (reports : List (Report Command)) (r : ReplicaState) (mails : List Mail) → Each (Reported A G) reports → F (r, mails) → F (promise_row from ballot reports (r, mails))
+  unfolding promise_row
+  promise_row_fine from ballot reports r mails p f =
+      either_way F (leads ballot r) (pumped (record r { leader = (promise_counted from ballot reports r.leader).1 }, mails)) (r, mails)
+      (pumped_fine start A G (record r { leader = (promise_counted from ballot reports r.leader).1 }, mails) (with_leader r (promise_counted from ballot reports r.leader).1 mails (counted_leads from ballot reports r p f.0) f)) f
+
+  -- ---- Accepted
+
+  abbrev CountOf : Counted Command → Type 0
+  CountOf (Chosen command) = Kept A G command
+  CountOf (NotYet count) = Unit {0}
+
+  abbrev Counts : ReplicaState → Counted Command × LeaderState Command → Type 0
+  Counts r p = CountOf p.0 × Leads r p.1
+
+  tallied_counts : (slot : ℕ) (value : Command) (members : List ℕ) (voters : Option (List ℕ)) (r : ReplicaState) → Kept A G value → Holds A G r → Counts r (tallied slot value members voters r.leader)
+  tallied_counts slot value members voters r k h =
+      either_way (Counts r) (is_majority members (kept_voters voters)) _ _
+      (k, record { flights = flight_without (Kept A G) slot r.leader.flights h.flights; reports = h.reports; ballot = refl })
+      (tt, record { flights = voters_with (Kept A G) slot voters r.leader.flights h.flights; reports = h.reports; ballot = refl })
+
+  same_leads : (r : ReplicaState) → Holds A G r → Leads r r.leader
+  same_leads r h = record { flights = h.flights; reports = h.reports; ballot = refl }
+
+  vote_counts : (node slot : ℕ) (members : List ℕ) (o : Option (Flight Command)) (r : ReplicaState) → Opt (Flying A G) o → Holds A G r → Counts r (vote_at node slot members o r.leader)
+  vote_counts node slot members None r k h = (tt, same_leads r h)
+  vote_counts node slot members (Some flight) r k h = tallied_counts slot flight.value members (voters_after members node flight.voters) r k h
+
+  counted_counts : (node : ℕ) (ballot : Ballot) (slot : ℕ) (members : List ℕ) (r : ReplicaState) → Holds A G r → Counts r (counted node ballot slot members r.leader)
+  counted_counts node ballot slot members r h =
+      either_way (Counts r) (same_ballot ballot r.leader.ballot) (vote_at node slot members (flight_at slot r.leader.flights) r.leader) (NotYet 0, r.leader)
+      (vote_counts node slot members (flight_at slot r.leader.flights) r (opt_find (Flying A G) (λ (flight : Flight Command). eqb flight.slot slot) r.leader.flights h.flights) h) (tt, same_leads r h)
+
+  readied_fine : (slot : ℕ) (command : Command) (place : Place) → Kept A G command → F place → F (readied slot command place)
+  unfolding readied
+  readied_fine slot command (r, mails) k f =
+      let after : ReplicaState = record r { ready = with_slot r.ready slot command } in
+      let g : F (after, mails) = (record { calls = f.0.calls; acts = f.0.acts; flights = f.0.flights; ready = slot_with (Kept A G) r.ready slot command k f.0.ready; reports = f.0.reports }, f.1) in
+      either_way F (eqb slot (next r) && has_room r) (executed true command (after, mails)) (after, mails) (executed_fine start A G true command (after, mails) (λ _. k) g) g
+
+  tallied_fine : (slot : ℕ) (p : Counted Command × LeaderState Command) (r : ReplicaState) (mails : List Mail) → Counts r p → F (r, mails) → F (vote_tallied slot p (r, mails))
+  tallied_fine slot (Chosen command, leader) r mails c f = readied_fine slot command (record r { leader = leader }, mails) c.0 (with_leader r leader mails c.1 f)
+  tallied_fine slot (NotYet count, leader) r mails c f = with_leader r leader mails c.1 f
+
+  voted_fine : (from : ℕ) (ballot : Ballot) (slot : ℕ) (set : Option (List ℕ)) (r : ReplicaState) (mails : List Mail) → F (r, mails) → F (voted from ballot slot set (r, mails))
+  voted_fine from ballot slot None r mails f = f
+  voted_fine from ballot slot (Some set) r mails f = tallied_fine slot (counted from ballot slot set r.leader) r mails (counted_counts from ballot slot set r f.0) f
+
+  pub accepted_fine : (from : ℕ) (ballot : Ballot) (slot : ℕ) (r : ReplicaState) (mails : List Mail) → F (r, mails) → F (accepted_row from ballot slot (r, mails))
+  unfolding accepted_row
+  accepted_fine from ballot slot r mails f = either_way F (leads ballot r) (voted from ballot slot (set_at slot r) (r, mails)) (r, mails) (voted_fine from ballot slot (set_at slot r) r mails f) f
+
+  -- ---- Nack, Learn and Ask
+
+  pub nack_fine : (ballot : Ballot) (r : ReplicaState) (mails : List Mail) → F (r, mails) → F (nack_row ballot (r, mails))
+  unfolding nack_row
+  nack_fine ballot r mails f = saw_fine start A G ballot r mails f
+
+  pub learn_fine : (from slot : ℕ) (command : Command) (r : ReplicaState) (mails : List Mail) → F (r, mails) → F (learn_row from slot command (r, mails))
+  unfolding learn_row
+  learn_fine from slot command r mails f =
+      either_way F (nat_lt last_slot slot) _ _ f
+      (either_way F (eqb slot (next r)) _ _ (executed_fine start A G false command (r, mails) (λ e. absurd (true≢false (sym e))) f)
+      (either_way F (nat_lt (next r) slot) (r, sent r.me from (Ask (name_of r) (next r)) mails) (r, mails) (f.0, with_plain start A G r mails r.me from (Ask (name_of r) (next r)) tt f.1) f))
+
+  answered_by : (o : Option Command) (from slot : ℕ) (place : Place) → F place → F (ask_answered o from slot place)
+  answered_by None from slot place f = installed_fine start A G from place f
+  answered_by (Some command) from slot (r, mails) f =
+      (f.0, resent start A G r mails _ f.1 (taught_plain (Caused start A G f.1.entries f.1.refused) (caused_plain start A G f.1.entries f.1.refused) most_taught r from slot mails f.1.sent))
+
+  pub ask_fine : (from slot : ℕ) (r : ReplicaState) (mails : List Mail) → F (r, mails) → F (ask_row from slot (r, mails))
+  unfolding ask_row
+  ask_fine from slot r mails f = either_way F (nat_lt slot (next r)) (ask_answered (entry_at slot r.log) from slot (r, mails)) (r, mails) (answered_by (entry_at slot r.log) from slot (r, mails) f) f

@@ -1,0 +1,5 @@
+use Rattle.sc_refusal_law.proofs.Steps.{steps_have_causes}
+use Rattle.sc_refusal_law.proofs.refusals_have_causes.Goals as goal
+
+pub returns : goal.returns
+returns c = steps_have_causes

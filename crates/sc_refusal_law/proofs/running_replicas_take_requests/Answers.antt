@@ -1,0 +1,5 @@
+use Rattle.sc_refusal_law.proofs.Steps.{requests_are_taken}
+use Rattle.sc_refusal_law.proofs.running_replicas_take_requests.Goals as goal
+
+pub returns : goal.returns
+returns c = requests_are_taken
