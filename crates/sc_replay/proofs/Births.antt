@@ -1,5 +1,5 @@
 -- The actors of a scenario have different numbers: nodes up to 32, and then clients up to 96, ascending.
-use Rattle.std.proofs.Common.{◌≡◌, ℕ, zero, suc, ◌+◌, ◌<◌, ◌≤◌, true, false, not, eqb, List, [], ◌∷◌, ◌++◌, length, map, refl, ◌∙◌, ap, arith, slice_index_or}
+use Rattle.std.proofs.Common.{◌≡◌, ℕ, zero, suc, ◌+◌, ◌<◌, ◌≤◌, true, false, not, eqb, List, [], ◌∷◌, ◌++◌, length, map, refl, ap, arith, slice_index_or}
 use Rattle.std.specs.List.{All, AllPairs, list_any}
 use Rattle.std.proofs.lemmas.Bool.{ne_eqb, and_from}
 use Rattle.std.proofs.lemmas.List.Elements.{All-nil, All-cons}

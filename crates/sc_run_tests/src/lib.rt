@@ -17,4 +17,6 @@ mod thread_tests;
 #[cfg(test)]
 mod tick_tests;
 #[cfg(test)]
+mod told_tests;
+#[cfg(test)]
 mod transaction_tests;

@@ -68,8 +68,8 @@ enum Change {
 // none).
 type Case = (&'static [u8], Change, usize, u32);
 
-// The rows of a scenario that is played to its end.
-fn played<R: Abort + Threads + Wait + Sync>(
+/// The rows of a scenario that is played to its end.
+pub fn played<R: Abort + Threads + Wait + Sync>(
     rt: &R,
     alloc: Global,
     scenario: &Scenario,
@@ -87,6 +87,7 @@ fn played<R: Abort + Threads + Wait + Sync>(
     journal
 }
 
+/// The scenario that some text is.
 pub fn scenario_of(rt: &impl Abort, alloc: Global, input: &[u8]) -> Scenario
     ensures { IsValid result }
 {
@@ -212,8 +213,8 @@ fn a_played_journal_is_replayed_and_a_changed_row_is_named(rt: HostRuntime) {
     }
 }
 
-// The world of a journal of a scenario.
-fn replayed<'a>(
+/// The world of a journal of a scenario.
+pub fn replayed<'a>(
     rt: &impl Abort,
     alloc: Global,
     scenario: &'a Scenario,

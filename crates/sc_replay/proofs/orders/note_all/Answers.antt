@@ -1,4 +1,4 @@
-use Rattle.std.proofs.Common.{◌≡◌, ℕ, ◌+◌, ◌∷◌, ◌++◌, [], take, None, suc, sym, ap, ◌∙◌, arith, Option, get_or}
+use Rattle.std.proofs.Common.{◌≡◌, ◌+◌, ◌∷◌, ◌++◌, [], take, None, suc, sym, ap, ◌∙◌, arith, Option, get_or}
 use Rattle.std.proofs.Math.Seq.{take-suc}
 use Rattle.sc_mail.specs.declared.bodies.Mail.{Mail}
 use Rattle.sc_cmd.specs.declared.orders.ToldResult.{ToldResult}

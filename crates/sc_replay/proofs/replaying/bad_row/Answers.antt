@@ -1,4 +1,4 @@
-use Rattle.std.proofs.Common.{◌≡◌, ℕ, ◌+◌, ◌-◌, ◌<◌, ◌≤◌, length, take, subst, arith}
+use Rattle.std.proofs.Common.{◌≡◌, ℕ, ◌-◌, ◌<◌, ◌≤◌, take, subst, arith}
 use Rattle.sc_actor.specs.System.{no_words}
 use Rattle.sc_players.specs.Players.{Lawful, as_nodes}
 use Rattle.sc_replay.proofs.replaying.bad_row.Goals as goal

@@ -1,4 +1,4 @@
-use Rattle.std.proofs.Common.{◌≡◌, true, ◌∙◌, List, Option, ap, sym, subst}
+use Rattle.std.proofs.Common.{◌≡◌, true, ◌∙◌, List, ap, sym, subst}
 use Rattle.std.proofs.lemmas.Result.{IfOk-weaker}
 use Rattle.std.specs.List.{All}
 use Rattle.sc_cmd.specs.declared.orders.OrderLine.{OrderLine}

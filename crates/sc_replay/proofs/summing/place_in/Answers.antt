@@ -1,4 +1,4 @@
-use Rattle.std.proofs.Common.{◌≡◌, ◌+◌, ap, sym, ◌∙◌, arith}
+use Rattle.std.proofs.Common.{◌≡◌, ◌+◌, ap, arith}
 use Rattle.sc_replay.proofs.Places.{here, later, end, within}
 use Rattle.sc_replay.proofs.summing.place_in.Goals as goal
 

@@ -1,18 +1,12 @@
 //! Runs in which groups are divided, merged and moved, and one in which a merge is given up. What
 //! their rows tell in the end is as a second implementation of the rules tells it: the decided
 //! ring, which covers, the history, which is legal, and the effective record of each group.
-ghost use Rattle.sc_scenario.specs.Valid.{IsValid};
-
-use crate::gates::Open;
-use sc_actor::{Journal, are_few};
+use crate::replay_tests::{played, replayed, scenario_of};
 use sc_base::Draw;
-use sc_cmd::{Base, OrderLine};
+use sc_cmd::Base;
 use sc_entries::Cut;
-use sc_mail::Mail;
 use sc_map_checks::{covers, legal};
-use sc_replay::{World, decided_ring, effective, history, replay_rows};
-use sc_run::{Left, play_whole};
-use sc_scenario::{Scenario, read_scenario};
+use sc_replay::{World, decided_ring, effective, history};
 use std::alloc::Global;
 use std::mem::forget;
 use std::process::Abort;
@@ -170,55 +164,18 @@ const GIVEN_UP: Case = (
     1,
 );
 
-fn scenario_of(rt: &impl Abort, alloc: Global, input: &[u8]) -> Scenario
-    ensures { IsValid result }
-{
-    read_scenario(alloc, input).expect(rt, "a scenario")
-}
-
-// The rows of a scenario that is played.
-fn played<R: Abort + Threads + Wait + Sync>(
-    rt: &R,
-    alloc: Global,
-    scenario: &Scenario,
-) -> Journal<Mail, OrderLine>
-    requires { IsValid scenario.now }
-{
-    let left = play_whole(rt, alloc, scenario, 1 << 30, &Open).expect(rt, "memory");
-    let Left {
-        journal,
-        parties,
-        ..
-    } = left;
-    forget(parties);
-    journal
-}
-
-fn replayed<'a>(
-    rt: &impl Abort,
-    alloc: Global,
-    scenario: &'a Scenario,
-    journal: &'a Journal<Mail, OrderLine>,
-) -> World<'a>
-    requires { IsValid scenario.now }
-{
-    assert!(rt; are_few(journal.as_slice()));
-    match replay_rows(alloc, scenario, journal) {
-        Ok(world) => world,
-        Err(_) => panic!(rt; "the rows are not lawful"),
-    }
-}
-
 fn is_cut(cut: &Cut, told: &Told) -> bool {
     cut.group == told.group && cut.arc.lo() == told.lo && cut.arc.len() == told.len
 }
 
+fn has_cut(ring: &[Cut], told: &Told) -> bool {
+    ring.iter().any(|cut| is_cut(cut, told))
+}
+
 // Whether the cuts of a ring that covers are those of the groups.
 fn is_ring(ring: &[Cut], tolds: &[Told]) -> bool {
-    let each = tolds
-        .iter()
-        .all(|told| ring.iter().any(|cut| is_cut(cut, told)));
-    each && ring.len() == tolds.len() && covers(ring)
+    let has_each = tolds.iter().all(|told| has_cut(ring, told));
+    has_each && ring.len() == tolds.len() && covers(ring)
 }
 
 fn has_ring(rt: &impl Abort, alloc: Global, world: &World<'_>, tolds: &[Told]) -> bool {
