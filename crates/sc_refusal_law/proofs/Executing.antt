@@ -69,10 +69,10 @@ by_note (Some noted) group client seq op e =
     (λ h. cond_both (eqb noted.seq seq) (group, Was.Again noted.reply) (group, Was.Stale noted.seq) (Answers group client seq op)
     (λ _ answer a. (let same : Says.Value noted.reply ≡ answer = cc in subst (IsCaused group client seq op) same tt))
     (λ k answer a. (
-      let low = ltb-false noted.seq seq h in
-      let other = eqb-false noted.seq seq k in
-      let above : seq < noted.seq = omega (arith, low, other) in
-      let same : Says.Stale noted.seq ≡ answer = cc in subst (IsCaused group client seq op) same (noted, e, refl, above))))
+    let low = ltb-false noted.seq seq h in
+    let other = eqb-false noted.seq seq k in
+    let above : seq < noted.seq = omega (arith, low, other) in
+    let same : Says.Stale noted.seq ≡ answer = cc in subst (IsCaused group client seq op) same (noted, e, refl, above))))
 
 by_arc : (group : Group) (client seq : ℕ) (op : Op) → group.core.gone ≡ None → serves_calls group.core.lock ≡ true → Answers group client seq op (served group client seq op)
 by_arc group client seq op g l =
@@ -168,9 +168,11 @@ module _ (start : ReplicaState) (A : Command → Type 0) (G : Draw → Type 0) w
       → ((client seq : ℕ) (op : Op) (said : AnswerBody) → command ≡ Call client seq op → answer ≡ Some said → IsCaused before client seq op said) → F (told_call answer command place)
   unfolding told_call
   told_fine before (Some answer) (Call client seq op) (r, mails) f k b causes =
-      let s = f.1 in
-      (f.0, resent start A G r mails _ s (sent_one (Caused start A G s.entries s.refused) (caused_plain start A G s.entries s.refused) mails (record { from = r.me; to = client_actor client; body = Answer (name_of r) seq answer })
-      (caused_so before client seq op s.entries s.refused answer k b (causes client seq op answer refl refl)) s.sent))
+      let s = f.1 in (
+        f.0,
+        resent start A G r mails _ s (sent_one (Caused start A G s.entries s.refused) (caused_plain start A G s.entries s.refused) mails (record { from = r.me; to = client_actor client; body = Answer (name_of r) seq answer })
+            (caused_so before client seq op s.entries s.refused answer k b (causes client seq op answer refl refl)) s.sent),
+      )
   told_fine before None (Call client seq op) (r, mails) f k b causes = back_fine (Call client seq op) r mails k f
   told_fine before (Some answer) _ place f k b causes = f
   told_fine before None _ place f k b causes = f

@@ -119,11 +119,13 @@ module _ (start : ReplicaState) (A : Command → Type 0) (G : Draw → Type 0) (
   offered_fine : (slot : ℕ) (set : List ℕ) (command : Command) (place : Place) → Kept A G command → FineSo place → FineSo (offered slot set command place)
   unfolding offered
   offered_fine slot set command (r, mails) k f =
-      let h = f.0.0 in
-      ((
-        record { calls = h.calls; acts = h.acts; flights = Each-append (Flying A G) r.leader.flights (record { slot = slot; value = command; voters = None } ∷ []) h.flights (k, tt); ready = h.ready; reports = h.reports },
-        with_all start A G r mails r.me set (Accept (name_of r) r.leader.ballot slot command) tt f.0.1,
-      ), f.1)
+      let h = f.0.0 in (
+        (
+          record { calls = h.calls; acts = h.acts; flights = Each-append (Flying A G) r.leader.flights (record { slot = slot; value = command; voters = None } ∷ []) h.flights (k, tt); ready = h.ready; reports = h.reports },
+          with_all start A G r mails r.me set (Accept (name_of r) r.leader.ballot slot command) tt f.0.1,
+        ),
+        f.1,
+      )
 
   pump_by : (slot : ℕ) (set : List ℕ) (sets : List (List ℕ)) (found : Found) → FoundFine found → ((place : Place) → FineSo place → FineSo (pumped_from (slot + 1) sets place))
       → FineSo (elim (found.0) [ None ↦ found.1 | Some command ↦ pumped_from (slot + 1) sets (offered slot set command found.1) ])

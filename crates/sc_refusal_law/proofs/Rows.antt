@@ -110,16 +110,19 @@ module _ (start : ReplicaState) (A : Command → Type 0) (G : Draw → Type 0) w
       → F (r, sent r.me (client_actor client) (Answer (name_of r) seq answer) mails)
   said_fine client seq op (Says.Value reply) r mails a u f = absurd u
   said_fine client seq op (Says.Stale last) r mails a u f = absurd u
-  said_fine client seq op (Says.NotLeader hint) r mails a u f = (f.0, record {
-    entries = f.1.entries;
-    group_is = f.1.group_is;
-    log_is = f.1.log_is;
-    top_is = f.1.top_is;
-    refused = true;
-    out = λ _. inl u;
-    sent = sent_one (Caused start A G f.1.entries true) (caused_plain start A G f.1.entries true) mails (record { from = r.me; to = client_actor client; body = Answer (name_of r) seq (Says.NotLeader hint) }) refl
-        (stopped_caused start A G f.1.entries f.1.refused mails f.1.sent);
-  })
+  said_fine client seq op (Says.NotLeader hint) r mails a u f = (
+    f.0,
+    record {
+      entries = f.1.entries;
+      group_is = f.1.group_is;
+      log_is = f.1.log_is;
+      top_is = f.1.top_is;
+      refused = true;
+      out = λ _. inl u;
+      sent = sent_one (Caused start A G f.1.entries true) (caused_plain start A G f.1.entries true) mails (record { from = r.me; to = client_actor client; body = Answer (name_of r) seq (Says.NotLeader hint) }) refl
+          (stopped_caused start A G f.1.entries f.1.refused mails f.1.sent);
+    },
+  )
   said_fine client seq op (Says.NotMine arc succ) r mails a u f = refused_fine client seq op (Says.NotMine arc succ) r mails a u f
   said_fine client seq op (Says.Gone into) r mails a u f = refused_fine client seq op (Says.Gone into) r mails a u f
 

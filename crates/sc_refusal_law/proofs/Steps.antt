@@ -185,8 +185,8 @@ module _ (start : ReplicaState) (input : ReplicaInput) where
   taken_over from slot base sets over =
       cond_both start.running (stopped (Some from) (start, [])) (start, []) (λ (place1 : Place). StepHasCauses start input (looked_up from (jumped slot base sets place1.0, place1.1)))
       (λ _. (
-        let f : F (stopped (Some from) (start, [])) = stopped_fine start A G (Some from) start [] first in
-        taken_by from slot base sets (stopped (Some from) (start, [])).0 (stopped (Some from) (start, [])).1 refl (omega arith) (inl refl) f.1.sent over))
+      let f : F (stopped (Some from) (start, [])) = stopped_fine start A G (Some from) start [] first in
+      taken_by from slot base sets (stopped (Some from) (start, [])).0 (stopped (Some from) (start, [])).1 refl (omega arith) (inl refl) f.1.sent over))
       (λ idle. taken_by from slot base sets start [] idle (omega arith) (inr refl) tt over)
 
   install_shown : (from slot : ℕ) (base : Base) (sets : List (List ℕ)) → IsTakenOver input → StepHasCauses start input (install_row from slot base sets (start, []))
@@ -263,16 +263,19 @@ module _ (r : ReplicaState) where
   each_any of (x ∷ xs) = (any_kept (of x), each_any of xs)
 
   begins : FineSo r Any Ever false (r, [])
-  begins = ((
-    record {
-      calls = each_any (λ command. command) r.calls;
-      acts = each_any (λ command. command) r.acts;
-      flights = each_any (λ flight. flight.value) r.leader.flights;
-      ready = each_any (λ counted. counted.1) r.ready;
-      reports = each_any (λ report. report.value) r.leader.reports;
-    },
-    record { entries = []; group_is = refl; log_is = refl; top_is = omega arith; refused = false; out = λ e. absurd (true≢false (sym e)); sent = tt },
-  ), refl)
+  begins = (
+    (
+      record {
+        calls = each_any (λ command. command) r.calls;
+        acts = each_any (λ command. command) r.acts;
+        flights = each_any (λ flight. flight.value) r.leader.flights;
+        ready = each_any (λ counted. counted.1) r.ready;
+        reports = each_any (λ report. report.value) r.leader.reports;
+      },
+      record { entries = []; group_is = refl; log_is = refl; top_is = omega arith; refused = false; out = λ e. absurd (true≢false (sym e)); sent = tt },
+    ),
+    refl,
+  )
 
   -- what a running replica refuses for is another thing
   not_named : (client seq : ℕ) (op : Op) (answer : AnswerBody) (group : Draw) → Untaken r Any Ever r client seq op answer → r.running ≡ true → IsNotLeader (Answer group seq answer) → ⊥

@@ -80,8 +80,7 @@ module _ (start : ReplicaState) (A : Command → Type 0) (G : Draw → Type 0) w
       → ((client seq : ℕ) (op : Op) → A (Call client seq op) → CausedAnswer start A G f.1.entries true (client_actor client) seq answer) → F (ended hint answer (r, mails))
   unfolding ended
   ended_fine hint answer r mails f causes =
-      let first = answers_caused f.1.entries true r.me (name_of r) answer causes (under_way r) mails (way_kept A G r f.0) (stopped_caused start A G f.1.entries f.1.refused mails f.1.sent) in
-      (
+      let first = answers_caused f.1.entries true r.me (name_of r) answer causes (under_way r) mails (way_kept A G r f.0) (stopped_caused start A G f.1.entries f.1.refused mails f.1.sent) in (
         record { calls = tt; acts = tt; flights = tt; ready = tt; reports = tt },
         record {
           entries = f.1.entries;
@@ -125,8 +124,7 @@ module _ (start : ReplicaState) (A : Command → Type 0) (G : Draw → Type 0) w
 
   raised : (r : ReplicaState) (ballot : Ballot) (mails : List Mail) → r.top.round ≤ ballot.round → F (r, mails) → F (record r { top = ballot }, mails)
   raised r ballot mails le f =
-      let low = f.1.top_is in
-      (
+      let low = f.1.top_is in (
         record { calls = f.0.calls; acts = f.0.acts; flights = f.0.flights; ready = f.0.ready; reports = f.0.reports },
         record { entries = f.1.entries; group_is = f.1.group_is; log_is = f.1.log_is; top_is = omega (arith, low, le); refused = f.1.refused; out = f.1.out; sent = f.1.sent },
       )
