@@ -7,6 +7,8 @@ mod gates;
 #[cfg(test)]
 mod history_tests;
 #[cfg(test)]
+mod hostile_tests;
+#[cfg(test)]
 mod ordinary_tests;
 #[cfg(test)]
 mod replay_tests;

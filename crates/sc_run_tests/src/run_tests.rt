@@ -10,19 +10,21 @@ use std::process::Abort;
 use std::sync::Wait;
 use std::thread::Threads;
 
-// The words, the input, and the call of the source and that of the sink that fail (0: none).
-type Given = (&'static str, &'static [u8], u64, u64);
+/// The words, the input, and the call of the source and that of the sink that fail (0: none).
+pub type Given = (&'static str, &'static [u8], u64, u64);
 
-// What must come: the status, whether there is a journal, and the output.
-type Expected = (u8, bool, &'static [u8]);
+/// What must come: the status, whether there is a journal, and the output.
+pub type Expected = (u8, bool, &'static [u8]);
 
-type Case = (Given, Expected);
+/// What a run is given, and what must come of it.
+pub type Case = (Given, Expected);
 
 /// A put and a get of one client at one node.
 pub const FIRST: &[u8] =
     b"scatter 1\nnodes 1\ngroup 0 1\nclient 1\nput a x\nget a\nend\ngo 1\nsettle 100\n";
 
-const FIRST_REPORT: &[u8] =
+/// The report on it.
+pub const FIRST_REPORT: &[u8] =
     b"scatter report 1\nreply 1 1 put none\nreply 1 2 get value x\nring 0 group 0.1 members 1\n\
         rows 9\nmail 8\ndelivered 8\nskipped 0\nquiet yes\n";
 
@@ -118,11 +120,12 @@ pub fn ended<G: Gate, R: Abort + Threads + Wait + Sync>(
     done
 }
 
-fn check<R: Abort + Threads + Wait + Sync>(
+/// A run that is given this ends so.
+pub fn check<R: Abort + Threads + Wait + Sync>(
     rt: &R,
     alloc: Global,
-    given: Given,
-    expected: Expected,
+    given: (&str, &[u8], u64, u64),
+    expected: (u8, bool, &[u8]),
 ) {
     let (words, input, source_fails, sink_fails) = given;
     let mut output = MemSink::new(alloc, 1000, &[sink_fails]).expect(rt, "memory");
