@@ -17,9 +17,16 @@ const LOWER: Draw = Draw { node: 0, count: 1 };
 
 const UPPER: Draw = Draw { node: 0, count: 2 };
 
+const THIRD: Draw = Draw { node: 0, count: 3 };
+
 const CHILD: Draw = Draw { node: 1, count: 1 };
 
 const HALF: u32 = 2_147_483_648;
+
+const QUARTER: u32 = 1_073_741_824;
+
+// A position behind the half.
+const LATE: u32 = 3_000_000_000;
 
 // A position before that of the key a.
 const BEFORE_A: u32 = 1_610_612_736;
@@ -164,6 +171,96 @@ const GIVEN_UP: Case = (
     1,
 );
 
+// A group with a neighbour is divided, and the neighbour, which watches, has not heard of it yet.
+const WATCHED_SPLIT: Case = (
+    b"scatter 1\nnodes 3\ngroup 0 1 2\ngroup 2147483648 3\norder 1 split 0.1 1073741824\n\
+        settle 11\n",
+    &[
+        Told {
+            group: LOWER,
+            lo: 0,
+            len: 1_073_741_824,
+            succ: CHILD,
+            pred: UPPER,
+            members: &[1],
+            pairs: 0,
+        },
+        Told {
+            group: CHILD,
+            lo: QUARTER,
+            len: 1_073_741_824,
+            succ: UPPER,
+            pred: LOWER,
+            members: &[2],
+            pairs: 0,
+        },
+        Told {
+            group: UPPER,
+            lo: HALF,
+            len: 2_147_483_648,
+            succ: LOWER,
+            pred: CHILD,
+            members: &[3],
+            pairs: 0,
+        },
+    ],
+    0,
+);
+
+// Two of three groups have merged, and the third, which watches, has not heard of it yet.
+const WATCHED_MERGE: Case = (
+    b"scatter 1\nnodes 3\ngroup 0 1\ngroup 1073741824 2\ngroup 2147483648 3\n\
+        order 1 merge 0.1\nsettle 13\n",
+    &[
+        Told {
+            group: LOWER,
+            lo: 0,
+            len: 2_147_483_648,
+            succ: THIRD,
+            pred: THIRD,
+            members: &[1, 2],
+            pairs: 0,
+        },
+        Told {
+            group: THIRD,
+            lo: HALF,
+            len: 2_147_483_648,
+            succ: LOWER,
+            pred: LOWER,
+            members: &[3],
+            pairs: 0,
+        },
+    ],
+    0,
+);
+
+// A boundary has moved the other way, and the group that gives has not heard of it yet.
+const REPART_UPWARD: Case = (
+    b"scatter 1\nnodes 2\ngroup 0 1\ngroup 2147483648 2\norder 1 repart 0.1 3000000000\n\
+        settle 8\n",
+    &[
+        Told {
+            group: LOWER,
+            lo: 0,
+            len: 3_000_000_000,
+            succ: UPPER,
+            pred: UPPER,
+            members: &[1],
+            pairs: 0,
+        },
+        Told {
+            group: UPPER,
+            lo: LATE,
+            len: 1_294_967_296,
+            succ: LOWER,
+            pred: LOWER,
+            members: &[2],
+            pairs: 0,
+        },
+    ],
+    0,
+);
+
 fn is_cut(cut: &Cut, told: &Told) -> bool {
     cut.group == told.group && cut.arc.lo() == told.lo && cut.arc.len() == told.len
 }
@@ -259,4 +356,15 @@ fn a_moved_boundary_counts_before_the_other_group_hears(rt: HostRuntime) {
 #[test]
 fn a_merge_that_is_given_up_changes_nothing(rt: HostRuntime) {
     assert!(rt; tells(&rt, rt.alloc(), &GIVEN_UP));
+}
+
+#[test]
+fn a_watched_split_and_a_watched_merge_count_before_the_watcher_hears(rt: HostRuntime) {
+    assert!(rt; tells(&rt, rt.alloc(), &WATCHED_SPLIT));
+    assert!(rt; tells(&rt, rt.alloc(), &WATCHED_MERGE));
+}
+
+#[test]
+fn a_boundary_moves_both_ways(rt: HostRuntime) {
+    assert!(rt; tells(&rt, rt.alloc(), &REPART_UPWARD));
 }
