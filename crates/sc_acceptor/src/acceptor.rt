@@ -1,5 +1,5 @@
 //! The acceptor.
-ghost use Rattle.std.specs.Prelude.{◌≡◌, ◌+◌, ◌-◌, ◌<◌, ◌≤◌, OnOk, OnErr, IfOk, vec_len, count_by, filter, nat_lt};
+ghost use Rattle.std.specs.Prelude.{◌≡◌, ◌≢◌, ◌+◌, ◌-◌, ◌<◌, ◌≤◌, OnOk, OnErr, IfOk, vec_len, count_by, filter, nat_lt};
 ghost use Rattle.std.specs.Vec.{vec_capacity};
 ghost use Rattle.sc_paxos_words.specs.Acceptors.{IsBySlot, IsWholeAcceptor, born_acceptor, after_cut, reports_from, with_report};
 ghost use Rattle.sc_paxos_words.specs.Preparing.{prepared};
@@ -89,6 +89,7 @@ impl<V: Drop> Acceptor<V> {
             self.old.state
             ≡ (result, self.new.state) }
         ensures room { self.old.room ≤ self.new.room + 1 }
+        ensures ignored { result ≢ AcceptAnswer.Accepted → self.new ≡ self.old }
     {
         if ballot < self.promised {
             return AcceptAnswer::Ignored {

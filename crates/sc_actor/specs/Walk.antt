@@ -1,5 +1,5 @@
 -- Which journals a schedule allows.
-use Rattle.std.specs.Prelude.{◌≡◌, ℕ, zero, suc, ◌+◌, ◌-◌, ◌%◌, ◌==◌, List, [], ◌∷◌, ◌++◌, length, fold, ⊤, Bool, true, false, ◌||◌, not, if◌then◌else◌, Option, None, Some, is_none, slice_get, option_and_then}
+use Rattle.std.specs.Prelude.{◌≡◌, ℕ, zero, suc, ◌+◌, ◌-◌, ◌%◌, ◌==◌, List, [], ◌∷◌, ◌++◌, length, fold, ⊤, Bool, false, ◌||◌, not, if◌then◌else◌, Option, None, Some, is_none, slice_get, option_and_then}
 use Rattle.std.specs.Option.{option_map}
 use Rattle.std.specs.List.{flat_map}
 use Rattle.sc_actor.specs.declared.rows.Row.{Row}
@@ -33,32 +33,6 @@ tasks_of words (AgainLine mail) = Once (AgainLine mail) ∷ []
 tasks_of words (TickLine who) = Once (TickLine who) ∷ []
 tasks_of words (CrashLine who) = Once (CrashLine who) ∷ []
 tasks_of words (ToldLine who order) = Once (ToldLine who order) ∷ []
-
--- whether a line has one task: all lines but storms
-abbrev pub has_one_task : {O : Type 0} → Line O → Bool
-has_one_task (GoLine who) = true
-has_one_task (DeliverLine who k) = true
-has_one_task (DropLine who k) = true
-has_one_task (AgainLine mail) = true
-has_one_task (TickLine who) = true
-has_one_task (CrashLine who) = true
-has_one_task (ToldLine who order) = true
-has_one_task (Settle most) = true
-has_one_task (Free most workers) = true
-has_one_task (Storm number most) = false
-
--- the task of a line that has one
-abbrev pub line_task : {O : Type 0} → Line O → Task O
-line_task (Settle most) = Settles most
-line_task (Free most workers) = Frees most
-line_task (GoLine who) = Once (GoLine who)
-line_task (DeliverLine who k) = Once (DeliverLine who k)
-line_task (DropLine who k) = Once (DropLine who k)
-line_task (AgainLine mail) = Once (AgainLine mail)
-line_task (TickLine who) = Once (TickLine who)
-line_task (CrashLine who) = Once (CrashLine who)
-line_task (ToldLine who order) = Once (ToldLine who order)
-line_task (Storm number most) = Once (Storm number most)
 
 -- the delivery of a mail to its receiver
 abbrev pub delivery : {A M O : Type 0} → System A M O → List (Row M O) → ℕ → Option (Row M O)

@@ -1,37 +1,11 @@
 //! The conditions of a schedule and its rows, as tests.
-ghost use Rattle.std.specs.Prelude.{◌≡◌, ◌↔◌, ◌==◌, ◌<◌, ◌^◌, IsTrue, true, length, All};
+ghost use Rattle.std.specs.Prelude.{◌≡◌, ◌↔◌, ◌==◌, ◌<◌, ◌^◌, IsTrue, true, length};
 ghost use Rattle.sc_actor.specs.Mail.{mails};
 ghost use Rattle.std.specs.List.{list_any};
-ghost use Rattle.sc_actor.specs.Walk.{has_one_task};
 ghost use Rattle.sc_actor.specs.System.{are_apart};
 
 use crate::actors::Seat;
 use crate::rows::Row;
-use crate::schedules::Line;
-
-fn has_one_task<O>(line: &Line<O>) -> bool
-    ensures { result ≡ has_one_task line.now }
-{
-    match line {
-        Line::Storm { .. } => false,
-        Line::Go { .. }
-        | Line::Deliver { .. }
-        | Line::Drop { .. }
-        | Line::Again { .. }
-        | Line::Tick { .. }
-        | Line::Crash { .. }
-        | Line::Told { .. }
-        | Line::Settle { .. }
-        | Line::Free { .. } => true,
-    }
-}
-
-/// Whether each line has one task: none is a storm.
-pub fn have_one_task<O>(lines: &[Line<O>]) -> bool
-    ensures { IsTrue result ↔ All (λ line. has_one_task line ≡ true) lines.now }
-{
-    lines.iter().all(|line| has_one_task(line))
-}
 
 fn has_number<A>(seats: &[Seat<A>], who: u32) -> bool
     ensures { result ≡ list_any (λ seat. seat.who == who) seats.now }

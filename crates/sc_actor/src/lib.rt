@@ -9,7 +9,7 @@ mod rows;
 mod schedules;
 
 pub use actors::{Actor, Parcel, Seat};
-pub use conditions::{are_apart, are_few, have_one_task};
+pub use conditions::{are_apart, are_few};
 pub use gates::Gate;
 pub use laws::{journals_are_counted, journals_grow, lawful_journals_grow, next_rows_are_steps};
 pub use rows::{Event, Input, Journal, Row};

@@ -60,7 +60,7 @@ next_of s lines taken rows row follows lt is lawful =
 
 module _ {A M O : Type 0} (r : Rules A M O) (words : ℕ → ℕ → ℕ × ℕ) (births : List (Seat A)) (lines : List (Line O)) (old : Stage A M O) (rows : List (Row M O)) where
   -- the rows end before the first task makes its row
-  IsStageAt-open : (task : Task O) (rest : List (Task O)) → IsStageAt (with_births r words births) lines old (task ∷ rest) → is_over (with_births r words births) old.rows task ≡ false → Follows old.rows rows → length rows ≤ length old.rows → (old.rows ≡ rows) × HasReplayed (with_births r words births) lines rows old.unsettled old.skipped old.seats.items
+  pub IsStageAt-open : (task : Task O) (rest : List (Task O)) → IsStageAt (with_births r words births) lines old (task ∷ rest) → is_over (with_births r words births) old.rows task ≡ false → Follows old.rows rows → length rows ≤ length old.rows → (old.rows ≡ rows) × HasReplayed (with_births r words births) lines rows old.unsettled old.skipped old.seats.items
   IsStageAt-open task rest at opens follows le =
       let s = with_births r words births in
       let here = Stands-at s lines old.rows task rest old.skipped old.unsettled (record { lawful = at.lawful; place = at.place }) opens in
@@ -95,7 +95,7 @@ module _ {A M O : Type 0} (r : Rules A M O) (words : ℕ → ℕ → ℕ × ℕ)
       Stands-ended s lines old.rows old.skipped old.unsettled row (record { lawful = at.lawful; place = at.place }) (next_of s lines old.rows rows row follows lt is lawful)
 
   -- the row of the task's deed is another one
-  IsStageAt-misses : (task : Task O) (rest : List (Task O)) (d : Deed O) (row : Row M O) → IsStageAt (with_births r words births) lines old (task ∷ rest) → can_act (numbers_of old.seats.items) d ≡ true → Misses r old d row →
+  pub IsStageAt-misses : (task : Task O) (rest : List (Task O)) (d : Deed O) (row : Row M O) → IsStageAt (with_births r words births) lines old (task ∷ rest) → can_act (numbers_of old.seats.items) d ≡ true → Misses r old d row →
       ((x : Row M O) → row_made (with_births r words births) old.rows d ≡ Some x → is_over (with_births r words births) old.rows task ≡ false) →
       (Allows (with_births r words births) old.rows task row → row_made (with_births r words births) old.rows d ≡ Some row) →
       Follows old.rows rows → length old.rows < length rows → row ≡ get_or rows (length old.rows) row → IsLawful (with_births r words births) lines rows → ⊥
@@ -128,8 +128,8 @@ module _ {A M O : Type 0} (r : Rules A M O) (old new : Stage A M O) (rows : List
   loud-at : (words : ℕ → ℕ → ℕ × ℕ) (births : List (Seat A)) (lines : List (Line O)) (tasks : List (Task O)) → IsStageAt (with_births r words births) lines old tasks → is_none (lowest_deed {O = O} r.receiver (numbers_of old.seats.items) old.rows) ≡ false → is_quiet (with_births r words births) old.rows ≡ false
   loud-at words births lines tasks at loud = quiet_is {O = O} r.receiver births old.rows ∙ ap is_none (lowest-at r old old words births lines tasks at) ∙ loud
 
-  -- the rows end before the row of a deed that can be done
-  can_row : (s : System A M O) (d : Deed O) → can_act (numbers_of s.births) d ≡ true → (row : Row M O) × (row_made s old.rows d ≡ Some row)
+  -- the row of a deed that can be done
+  pub can_row : (s : System A M O) (d : Deed O) → can_act (numbers_of s.births) d ≡ true → (row : Row M O) × (row_made s old.rows d ≡ Some row)
   can_row s d can = by (is_of_network d.event) refl
     where
       by : (b : Bool) → is_of_network d.event ≡ b → (row : Row M O) × (row_made s old.rows d ≡ Some row)

@@ -56,7 +56,8 @@ module _ {A M O : Type 0} (s : System A M O) (rows : List (Row M O)) where
   of_delivery who None = refl
   of_delivery who (Some mail) = refl
 
-  of_drop : (o : Option ℕ) → option_map (λ mail. network (Drop mail)) o ≡ option_and_then (row_made s rows) (option_map (λ mail. deed 0 (Drop mail)) o)
+  -- a loss is the row of its deed
+  pub of_drop : (o : Option ℕ) → option_map (λ mail. network (Drop mail)) o ≡ option_and_then (row_made s rows) (option_map (λ mail. deed 0 (Drop mail)) o)
   of_drop None = refl
   of_drop (Some mail) = refl
 
@@ -86,7 +87,8 @@ module _ {A M O : Type 0} (s : System A M O) (rows : List (Row M O)) where
   lowest_by mail None = refl
   lowest_by mail (Some m) = refl
 
-  lowest_of : (o : Option ℕ) → option_and_then (delivery s rows) o ≡ option_and_then (row_made s rows) (option_and_then (λ mail. option_map (λ m. deed (s.receiver m) (Deliver mail)) (numbered (mails rows) mail)) o)
+  -- the delivery of a mail is the row of its deed
+  pub lowest_of : (o : Option ℕ) → option_and_then (delivery s rows) o ≡ option_and_then (row_made s rows) (option_and_then (λ mail. option_map (λ m. deed (s.receiver m) (Deliver mail)) (numbered (mails rows) mail)) o)
   lowest_of None = refl
   lowest_of (Some mail) = lowest_by mail (numbered (mails rows) mail)
 
@@ -96,18 +98,20 @@ module _ {A M O : Type 0} (s : System A M O) (rows : List (Row M O)) where
 
 -- a deed that is there can be done
 module _ {A M O : Type 0} (receiver : M → ℕ) (seats : List (Seat A)) (rows : List (Row M O)) where
-  abbrev any_system : System A M O
+  abbrev pub any_system : System A M O
   any_system = system (λ a input. (a, [])) receiver no_words seats
 
   when-can : (b : Bool) (who : ℕ) (event : Event O) (d : Deed O) → (b ≡ true → can_act (numbers_of seats) (deed who event) ≡ true) → when b (deed who event) ≡ Some d → can_act (numbers_of seats) d ≡ true
   when-can true who event d can e = let same : deed who event ≡ d = cc in subst (λ x. can_act (numbers_of seats) x ≡ true) same (can refl)
   when-can false who event d can e = cc
 
-  map-can : (who : ℕ) (f : ℕ → Event O) (o : Option ℕ) (d : Deed O) → ((mail : ℕ) → o ≡ Some mail → can_act (numbers_of seats) (deed who (f mail)) ≡ true) → option_map (λ mail. deed who (f mail)) o ≡ Some d → can_act (numbers_of seats) d ≡ true
+  -- a deed of the mail that is there can be done, if that of each mail can
+  pub map-can : (who : ℕ) (f : ℕ → Event O) (o : Option ℕ) (d : Deed O) → ((mail : ℕ) → o ≡ Some mail → can_act (numbers_of seats) (deed who (f mail)) ≡ true) → option_map (λ mail. deed who (f mail)) o ≡ Some d → can_act (numbers_of seats) d ≡ true
   map-can who f None d can e = cc
   map-can who f (Some mail) d can e = let same : deed who (f mail) ≡ d = cc in subst (λ x. can_act (numbers_of seats) x ≡ true) same (can mail refl)
 
-  own : (who : ℕ) → may_get (numbers_of seats) rows who ≡ true → is_number (numbers_of seats) who ≡ true
+  -- who may get mail is an actor
+  pub own : (who : ℕ) → may_get (numbers_of seats) rows who ≡ true → is_number (numbers_of seats) who ≡ true
   own who e = (and_parts (is_number (numbers_of seats) who) (not (has_crashed rows who)) e).0
 
   -- a line's deed can be done

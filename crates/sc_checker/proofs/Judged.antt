@@ -1,5 +1,5 @@
 -- What rows leave, and whether they are lawful, by where the check ended.
-use Rattle.std.proofs.Common.{◌≡◌, ℕ, suc, ◌+◌, ◌<◌, ◌≤◌, List, [], ◌∷◌, length, true, drop, get_or, refl, ◌∙◌, ap, subst, arith, zero, length-append, Option, None, Some, sym}
+use Rattle.std.proofs.Common.{◌≡◌, ℕ, suc, ◌+◌, ◌<◌, ◌≤◌, List, [], ◌∷◌, length, drop, get_or, refl, ◌∙◌, ap, subst, arith, zero, length-append, Option, None, Some, sym}
 use Rattle.std.specs.List.{flat_map}
 use Rattle.std.specs.Prelude.{◌↔◌, IsTrue, is_none, is_some}
 use Rattle.sc_actor.specs.declared.rows.Row.{Row}
@@ -7,7 +7,7 @@ use Rattle.sc_actor.specs.declared.actors.Seat.{Seat}
 use Rattle.sc_actor.specs.declared.schedules.Line.{Line}
 use Rattle.sc_actor.specs.Mail.{pending}
 use Rattle.sc_actor.specs.System.{System, numbers_of, kth}
-use Rattle.sc_actor.specs.Walk.{IsLawful, tasks_of, has_one_task, line_task}
+use Rattle.sc_actor.specs.Walk.{IsLawful, tasks_of}
 use Rattle.sc_actor.proofs.TaskLemmas.{split}
 use Rattle.std.proofs.lemmas.Bool.{false≢true}
 use Rattle.sc_checker.specs.declared.stages.Stage.{Stage}
@@ -33,15 +33,15 @@ module _ {A M O : Type 0} (r : Rules A M O) (words : ℕ → ℕ → ℕ × ℕ)
   })
 
   -- the rows end in a line
-  pub judged_ends : (new : Stage A M O) (i : ℕ) (line : Line O) → i < length lines → line ≡ get_or lines i line → has_one_task line ≡ true → IsStageAt (with_births r words births) lines old (flat_map (tasks_of words) (drop i lines)) → Ends r old (line_task line ∷ []) new rows →
+  pub judged_ends : (new : Stage A M O) (i : ℕ) (line : Line O) → i < length lines → line ≡ get_or lines i line → IsStageAt (with_births r words births) lines old (flat_map (tasks_of words) (drop i lines)) → Ends r old (tasks_of words line) new rows →
       (new.rows ≡ rows) × HasReplayed (with_births r words births) lines rows new.unsettled new.skipped new.seats.items
-  judged_ends new i line lt is one at ends =
-      ends words births lines (flat_map (tasks_of words) (drop (i + 1) lines)) (subst (λ ts. IsStageAt (with_births r words births) lines old ts) (split words lines i line lt is one) at)
+  judged_ends new i line lt is at ends =
+      ends words births lines (flat_map (tasks_of words) (drop (i + 1) lines)) (subst (λ ts. IsStageAt (with_births r words births) lines old ts) (split words lines i line lt is) at)
 
   -- a row is wrong
-  pub judged_breaks : (i : ℕ) (line : Line O) → i < length lines → line ≡ get_or lines i line → has_one_task line ≡ true → IsStageAt (with_births r words births) lines old (flat_map (tasks_of words) (drop i lines)) → Breaks r old (line_task line ∷ []) rows → IsLawful (with_births r words births) lines rows → ⊥
-  judged_breaks i line lt is one at breaks =
-      breaks words births lines (flat_map (tasks_of words) (drop (i + 1) lines)) (subst (λ ts. IsStageAt (with_births r words births) lines old ts) (split words lines i line lt is one) at)
+  pub judged_breaks : (i : ℕ) (line : Line O) → i < length lines → line ≡ get_or lines i line → IsStageAt (with_births r words births) lines old (flat_map (tasks_of words) (drop i lines)) → Breaks r old (tasks_of words line) rows → IsLawful (with_births r words births) lines rows → ⊥
+  judged_breaks i line lt is at breaks =
+      breaks words births lines (flat_map (tasks_of words) (drop (i + 1) lines)) (subst (λ ts. IsStageAt (with_births r words births) lines old ts) (split words lines i line lt is) at)
 
   first_left : (rest : List (Row M O)) → rest ≡ drop (length old.rows) rows → length old.rows < length rows → (row : Row M O) × (row ≡ get_or rows (length old.rows) row)
   first_left rest e lt = there rows (length old.rows) lt

@@ -14,7 +14,7 @@ use Rattle.sc_actor.specs.declared.schedules.Line.{Line}
 use Rattle.sc_actor.specs.Mail.{mails}
 use Rattle.sc_actor.specs.Replay.{Table, input_of, acted, value, values}
 use Rattle.sc_actor.specs.System.{System, are_apart, numbers_of, row_of, network}
-use Rattle.sc_actor.specs.Walk.{Task, Once, Allows, is_over, is_quiet, skips, cuts, rest_of_task, line_row, tasks_of, has_one_task, line_task}
+use Rattle.sc_actor.specs.Walk.{Task, Once, Allows, is_over, is_quiet, skips, cuts, rest_of_task, line_row, tasks_of}
 use Rattle.sc_actor.proofs.ReplayLemmas.{value-snoc}
 use Rattle.sc_actor.proofs.TaskLemmas.{split}
 use Rattle.sc_actor.proofs.WalkLemmas.{Stands-begin, Stands-over, Stands-row}
@@ -109,7 +109,7 @@ Fits {A} {M} {O} s rows task deed = (row : Row M O) → row_made s rows deed ≡
 
 module _ {A M O : Type 0} (r : Rules A M O) (words : ℕ → ℕ → ℕ × ℕ) (births : List (Seat A)) (lines : List (Line O)) (old new : Stage A M O) (task : Task O) (rest : List (Task O)) (at : IsStageAt (with_births r words births) lines old (task ∷ rest)) where
   -- a task that makes no row any more
-  IsStageAt-over : SameJournal old new → is_over (with_births r words births) old.rows task ≡ true → new.skipped ≡ old.skipped + skips task → new.unsettled ≡ (old.unsettled || cuts (with_births r words births) old.rows task) → IsStageAt (with_births r words births) lines new rest
+  pub IsStageAt-over : SameJournal old new → is_over (with_births r words births) old.rows task ≡ true → new.skipped ≡ old.skipped + skips task → new.unsettled ≡ (old.unsettled || cuts (with_births r words births) old.rows task) → IsStageAt (with_births r words births) lines new rest
   IsStageAt-over same over skips_ cut =
       let s = with_births r words births in
       let stands = Stands-over s lines old.rows task rest old.skipped old.unsettled (record { lawful = at.lawful; place = at.place }) over in
@@ -137,7 +137,7 @@ or_true : (b : Bool) → (b || true) ≡ true
 or_true true = refl
 or_true false = refl
 
-or_false : (b : Bool) → (b || false) ≡ b
+pub or_false : (b : Bool) → (b || false) ≡ b
 or_false true = refl
 or_false false = refl
 
@@ -229,10 +229,10 @@ module _ {A M O : Type 0} (r : Rules A M O) (words : ℕ → ℕ → ℕ × ℕ)
       }
 
   -- past a line
-  pub IsStageAt-line : (old new : Stage A M O) (i : ℕ) (line : Line O) → i < length lines → line ≡ get_or lines i line → has_one_task line ≡ true → IsStageAt (with_births r words births) lines old (flat_map (tasks_of words) (drop i lines)) → StageGoes r old (line_task line ∷ []) new [] →
+  pub IsStageAt-line : (old new : Stage A M O) (i : ℕ) (line : Line O) → i < length lines → line ≡ get_or lines i line → IsStageAt (with_births r words births) lines old (flat_map (tasks_of words) (drop i lines)) → StageGoes r old (tasks_of words line) new [] →
       IsStageAt (with_births r words births) lines new (flat_map (tasks_of words) (drop (i + 1) lines))
-  IsStageAt-line old new i line lt is one at goes =
-      goes words births lines (flat_map (tasks_of words) (drop (i + 1) lines)) (subst (λ ts. IsStageAt (with_births r words births) lines old ts) (split words lines i line lt is one) at)
+  IsStageAt-line old new i line lt is at goes =
+      goes words births lines (flat_map (tasks_of words) (drop (i + 1) lines)) (subst (λ ts. IsStageAt (with_births r words births) lines old ts) (split words lines i line lt is) at)
 
   -- past the last line
   pub IsStageAt-end : (stage : Stage A M O) (i : ℕ) → length lines ≤ i → IsStageAt (with_births r words births) lines stage (flat_map (tasks_of words) (drop i lines)) → IsStageAt (with_births r words births) lines stage []

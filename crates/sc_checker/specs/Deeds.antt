@@ -1,5 +1,5 @@
 -- Who acts next by a task, at what event: by the numbers of the actors and the rows alone.
-use Rattle.std.specs.Prelude.{ℕ, ◌==◌, List, Bool, true, false, ◌&&◌, ◌||◌, not, if◌then◌else◌, Option, None, Some, option_and_then}
+use Rattle.std.specs.Prelude.{ℕ, zero, suc, ◌+◌, ◌%◌, ◌==◌, List, length, slice_get, Bool, true, false, ◌&&◌, ◌||◌, not, if◌then◌else◌, Option, None, Some, option_and_then}
 use Rattle.std.specs.Option.{option_map}
 use Rattle.std.specs.List.{list_any}
 use Rattle.sc_actor.specs.declared.rows.Row.{Row}
@@ -63,12 +63,30 @@ line_deed receiver numbers rows (Settle most) = None
 line_deed receiver numbers rows (Free most workers) = None
 line_deed receiver numbers rows (Storm number most) = None
 
+-- the delivery of a mail to its receiver
+abbrev pub delivery_deed : {M O : Type 0} → (M → ℕ) → List (Row M O) → ℕ → Option (Deed O)
+delivery_deed receiver rows mail = option_map (λ m. deed (receiver m) (Deliver mail)) (numbered (mails rows) mail)
+
 -- the delivery of the lowest-numbered pending mail of all
 abbrev pub lowest_deed : {M O : Type 0} → (M → ℕ) → List ℕ → List (Row M O) → Option (Deed O)
-lowest_deed receiver numbers rows =
-    option_and_then (λ mail. option_map (λ m. deed (receiver m) (Deliver mail)) (numbered (mails rows) mail)) (kth (pending receiver numbers rows None) 1)
+lowest_deed receiver numbers rows = option_and_then (delivery_deed receiver rows) (kth (pending receiver numbers rows None) 1)
 
 -- The delivery that a line of many may make next: the lowest of all, or, where it is free, the first of one actor.
 abbrev pub chosen_deed : {M O : Type 0} → (M → ℕ) → List ℕ → List (Row M O) → Bool → ℕ → Option (Deed O)
 chosen_deed receiver numbers rows true who = line_deed receiver numbers rows (DeliverLine who 1)
 chosen_deed receiver numbers rows false who = lowest_deed receiver numbers rows
+
+-- the pending mail at the place that a word gives
+abbrev pub picked_mail : {M O : Type 0} → (M → ℕ) → List ℕ → List (Row M O) → ℕ → Option ℕ
+picked_mail receiver numbers rows v = slice_get (pending receiver numbers rows None) (v % length (pending receiver numbers rows None))
+
+-- a tick of an actor that has not crashed
+abbrev pub tick_deed : {M O : Type 0} → List ℕ → List (Row M O) → ℕ → Option (Deed O)
+tick_deed numbers rows who = when (may_get numbers rows who) (deed who Tick)
+
+-- The deed of a step of a storm, by the first word modulo 16: 0 drops, 1 repeats, 2 ticks and the others deliver what the second word picks.
+abbrev pub storm_deed : {M O : Type 0} → (M → ℕ) → List ℕ → List (Row M O) → ℕ → ℕ → Option (Deed O)
+storm_deed receiver numbers rows zero v = option_map (λ mail. deed 0 (Drop mail)) (picked_mail receiver numbers rows v)
+storm_deed receiver numbers rows (suc zero) v = line_deed receiver numbers rows (AgainLine (1 + v % length (mails rows)))
+storm_deed receiver numbers rows (suc (suc zero)) v = option_and_then (tick_deed numbers rows) (slice_get numbers (v % length numbers))
+storm_deed receiver numbers rows (suc (suc (suc more))) v = option_and_then (delivery_deed receiver rows) (picked_mail receiver numbers rows v)

@@ -2,7 +2,8 @@
 ghost use Rattle.std.specs.Prelude.{◌≡◌, ◌<◌, ◌≤◌, ◌+◌, ◌^◌, ◌-◌, [], ◌∷◌, true, length, IfOk, IfSome, OnOk, MatchBool};
 ghost use Rattle.sc_actor.specs.Mail.{mails};
 ghost use Rattle.sc_actor.specs.System.{numbers_of};
-ghost use Rattle.sc_actor.specs.Walk.{Once, line_task};
+ghost use Rattle.sc_actor.specs.Walk.{Once, Storms, storm_steps, tasks_of};
+ghost use Rattle.sc_chance.specs.Words.{two_words};
 ghost use Rattle.sc_checker.specs.Checks.{IsTaking, DidWithRow, Misses, IsChecked};
 ghost use Rattle.sc_checker.specs.Deeds.{can_act, chosen_deed};
 ghost use Rattle.sc_checker.specs.Moves.{rules_of, many};
@@ -10,12 +11,13 @@ ghost use Rattle.sc_checker.specs.Stages.{IsUpToDate};
 
 use crate::appending::append;
 use crate::checked::Checked;
-use crate::deeds::{first_deed, line_deed, lowest_deed};
+use crate::deeds::{first_deed, line_deed, lowest_deed, storm_deed};
 use crate::making::make_row;
 use crate::pending::is_quiet;
 use crate::stages::{Deed, Stage};
 use sc_actor::{Actor, Line, Parcel, Row};
 use sc_base::{OutOfMemory, Same};
+use sc_chance::Chance;
 use std::alloc::Global;
 
 // Does a deed, if its row is this one.
@@ -134,6 +136,69 @@ where
     Ok(Checked::On)
 }
 
+// A step of a storm, by its two words.
+fn check_step<A: Actor>(
+    alloc: Global,
+    stage: &mut Stage<A, A::Mail, A::Order>,
+    words: (u32, u32),
+    rows: &[Row<A::Mail, A::Order>],
+) -> Result<Checked, OutOfMemory>
+where
+    A::Mail: Same,
+    A::Order: Same,
+    requires taking { IsTaking stage.old rows.now }
+    ensures is { IfOk result
+        (λ checked.
+        IsChecked (rules_of A.table A.Mail.receiver) stage.old (Storms words ∷ []) stage.new
+        rows.now checked) }
+    ensures skipped { OnOk result (stage.new.skipped ≡ stage.old.skipped) }
+{
+    let Some(deed) = storm_deed(stage, words.0 % 16, words.1) else {
+        return Ok(Checked::On);
+    };
+    let at = stage.rows.len();
+    if at >= rows.len() {
+        return Ok(Checked::Ended);
+    }
+    let row = &rows[at];
+    if take_row(alloc, stage, deed, row)? {
+        Ok(Checked::On)
+    } else {
+        Ok(Checked::Wrong)
+    }
+}
+
+// A storm of so many steps, by the words that its number gives.
+fn check_storm<A: Actor>(
+    alloc: Global,
+    stage: &mut Stage<A, A::Mail, A::Order>,
+    number: u64,
+    most: u32,
+    rows: &[Row<A::Mail, A::Order>],
+) -> Result<Checked, OutOfMemory>
+where
+    A::Mail: Same,
+    A::Order: Same,
+    requires taking { IsTaking stage.old rows.now }
+    ensures is { IfOk result
+        (λ checked.
+        IsChecked (rules_of A.table A.Mail.receiver) stage.old
+        (storm_steps (two_words number) 0 most) stage.new rows.now checked) }
+    ensures skipped { OnOk result (stage.new.skipped ≡ stage.old.skipped) }
+{
+    let mut chance = Chance::start(number);
+    for done in 0..most {
+        let _ = done;
+        let words = chance.draw();
+        match check_step(alloc, stage, words, rows)? {
+            Checked::On => {}
+            Checked::Ended => return Ok(Checked::Ended),
+            Checked::Wrong => return Ok(Checked::Wrong),
+        }
+    }
+    Ok(Checked::On)
+}
+
 /// Checks a line against the rows from where the stage stands.
 pub fn check_line<A: Actor>(
     alloc: Global,
@@ -148,13 +213,14 @@ where
     requires room { stage.old.skipped < 2 ^ 64 - 1 }
     ensures is { IfOk result
         (λ checked.
-        IsChecked (rules_of A.table A.Mail.receiver) stage.old (line_task line.now ∷ []) stage.new
+        IsChecked (rules_of A.table A.Mail.receiver) stage.old (tasks_of two_words line.now) stage.new
         rows.now checked) }
     ensures skipped { OnOk result (stage.new.skipped ≤ stage.old.skipped + 1) }
 {
     match line {
         Line::Settle { most } => check_many(alloc, stage, *most, false, rows),
         Line::Free { most, .. } => check_many(alloc, stage, *most, true, rows),
+        Line::Storm { number, most } => check_storm(alloc, stage, *number, *most, rows),
         _ => check_once(alloc, stage, line, rows),
     }
 }

@@ -1,10 +1,10 @@
 //! Who acts next by a line, at what event.
 ghost use Rattle.std.specs.Prelude.{◌≡◌, true, IfOk, IfSome};
 ghost use Rattle.sc_actor.specs.System.{numbers_of};
-ghost use Rattle.sc_checker.specs.Deeds.{line_deed, lowest_deed, may_come_again, when, can_act};
+ghost use Rattle.sc_checker.specs.Deeds.{line_deed, lowest_deed, may_come_again, when, can_act, storm_deed};
 ghost use Rattle.sc_checker.specs.Stages.{IsUpToDate};
 
-use crate::pending::{has_gone, is_actor, may_get, waiting};
+use crate::pending::{has_gone, is_actor, may_get, picked, waiting};
 use crate::stages::{Deed, Stage};
 use sc_actor::{Event, Line, Parcel};
 use sc_base::{Dup, OutOfMemory};
@@ -55,12 +55,12 @@ pub fn line_deed<A, M: Parcel, O: Dup + Drop>(
     Ok(match line {
         Line::Go { who } => go(stage, *who),
         Line::Deliver { who, k } => {
-            waiting(stage, Some(*who), *k).map(|mail| Deed {
+            waiting(stage, Some(*who), u64::from(*k)).map(|mail| Deed {
                 who: *who,
                 event: Event::Deliver(mail),
             })
         }
-        Line::Drop { who, k } => waiting(stage, Some(*who), *k).map(|mail| Deed {
+        Line::Drop { who, k } => waiting(stage, Some(*who), u64::from(*k)).map(|mail| Deed {
             who: 0,
             event: Event::Drop(mail),
         }),
@@ -104,5 +104,71 @@ pub fn first_deed<A, M: Parcel, O>(stage: &Stage<A, M, O>, who: u32) -> Option<D
             who,
             event: Event::Deliver(mail),
         }),
+    }
+}
+
+// The mail that a word picks is repeated, if its receiver may get it.
+fn repeated<A, M: Parcel, O: Drop>(stage: &Stage<A, M, O>, word: u32) -> Option<Deed<O>>
+    requires { IsUpToDate stage.now }
+    ensures { result
+        ≡ storm_deed M.receiver (numbers_of stage.now.seats.items) stage.now.rows 1 word }
+{
+    if stage.mails.is_empty() {
+        return None;
+    }
+    let mail = 1 + word % stage.mails.len() as u32;
+    when_may(may_come_again(stage, mail), 0, Event::Again(mail))
+}
+
+// The actor that a word picks ticks, unless it has crashed.
+fn ticked<A, M: Parcel, O: Drop>(stage: &Stage<A, M, O>, word: u32) -> Option<Deed<O>>
+    ensures { result
+        ≡ storm_deed M.receiver (numbers_of stage.now.seats.items) stage.now.rows 2 word }
+{
+    if stage.seats.is_empty() {
+        return None;
+    }
+    let who = stage.seats[word as usize % stage.seats.len()].who;
+    let may = may_get(&stage.seats, stage.rows.as_slice(), who);
+    when_may(may, who, Event::Tick)
+}
+
+// The pending mail that a word picks is delivered, if any is pending.
+fn delivered<A, M: Parcel, O>(stage: &Stage<A, M, O>, word: u32) -> Option<Deed<O>>
+    requires { IsUpToDate stage.now }
+    ensures { result
+        ≡ storm_deed M.receiver (numbers_of stage.now.seats.items) stage.now.rows 3 word }
+{
+    match picked(stage, word) {
+        None => None,
+        Some(mail) => Some(Deed {
+            who: stage.mails[mail as usize - 1].to(),
+            event: Event::Deliver(mail),
+        }),
+    }
+}
+
+/// The deed of a step of a storm, by its first word modulo 16 and by the second, or none where it
+/// does nothing.
+pub fn storm_deed<A, M: Parcel, O: Drop>(
+    stage: &Stage<A, M, O>,
+    kind: u32,
+    word: u32,
+) -> Option<Deed<O>>
+    requires { IsUpToDate stage.now }
+    ensures { result
+        ≡ storm_deed M.receiver (numbers_of stage.now.seats.items) stage.now.rows kind word }
+{
+    match kind {
+        0 => match picked(stage, word) {
+            None => None,
+            Some(mail) => Some(Deed {
+                who: 0,
+                event: Event::Drop(mail),
+            }),
+        },
+        1 => repeated(stage, word),
+        2 => ticked(stage, word),
+        _ => delivered(stage, word),
     }
 }

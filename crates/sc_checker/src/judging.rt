@@ -1,8 +1,9 @@
 //! What a journal leaves of its actors, if it is lawful.
-ghost use Rattle.std.specs.Prelude.{◌≡◌, ◌<◌, ◌^◌, ◌↔◌, ℕ, None, true, length, All, IfOk, IsTrue, is_none};
+ghost use Rattle.std.specs.Prelude.{◌≡◌, ◌<◌, ◌^◌, ◌↔◌, None, true, length, IfOk, IsTrue, is_none};
 ghost use Rattle.sc_actor.specs.Mail.{mails, pending};
 ghost use Rattle.sc_actor.specs.System.{are_apart, system, numbers_of, kth};
-ghost use Rattle.sc_actor.specs.Walk.{IsLawful, has_one_task};
+ghost use Rattle.sc_actor.specs.Walk.{IsLawful};
+ghost use Rattle.sc_chance.specs.Words.{two_words};
 ghost use Rattle.sc_checker.specs.Replays.{IsReplayed};
 ghost use Rattle.sc_checker.specs.Stages.{IsUpToDate};
 
@@ -48,8 +49,7 @@ fn left_by<A: Actor>(stage: Stage<A, A::Mail, A::Order>) -> Replayed<A>
 /// Replays rows of a schedule of these actors, from their births: slowly, row by row. Nothing is
 /// left where they are not lawful. They may end before the schedule does.
 ///
-/// The actors have different numbers, each line has one task, which all have but storms, and there
-/// are fewer than 2^31 rows and mails.
+/// The actors have different numbers, and there are fewer than 2^31 rows and mails.
 pub fn replay<A: Actor>(
     alloc: Global,
     seats: Vec<Seat<A>>,
@@ -60,13 +60,12 @@ where
     A::Mail: Same,
     A::Order: Same,
     requires apart { are_apart seats.items ≡ true }
-    requires tasks { All (λ line. has_one_task line ≡ true) lines.now }
     requires few_rows { length rows.now < 2 ^ 31 }
     requires few_mails { length (mails rows.now) < 2 ^ 31 }
     ensures { IfOk result
         (λ replayed.
-        (words : ℕ → ℕ → ℕ × ℕ) →
-        IsReplayed (system A.table A.Mail.receiver words seats.items) lines.now rows.now replayed) }
+        IsReplayed (system A.table A.Mail.receiver two_words seats.items) lines.now rows.now
+        replayed) }
 {
     let mut stage = Stage {
         seats,
@@ -100,14 +99,12 @@ where
     A::Mail: Same,
     A::Order: Same,
     requires apart { are_apart seats.items ≡ true }
-    requires tasks { All (λ line. has_one_task line ≡ true) lines.now }
     requires few_rows { length rows.now < 2 ^ 31 }
     requires few_mails { length (mails rows.now) < 2 ^ 31 }
     ensures { IfOk result
         (λ lawful.
-        (words : ℕ → ℕ → ℕ × ℕ) →
-        (IsTrue lawful ↔ IsLawful (system A.table A.Mail.receiver words seats.items) lines.now
-        rows.now)) }
+        IsTrue lawful ↔ IsLawful (system A.table A.Mail.receiver two_words seats.items) lines.now
+        rows.now) }
 {
     let left = replay(alloc, seats, lines, rows)?;
     Ok(left.is_some())

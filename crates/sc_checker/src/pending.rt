@@ -4,7 +4,7 @@ ghost use Rattle.std.specs.Prelude.{IfSome, IsSomeAnd, map, true, if◌then◌el
 ghost use Rattle.std.specs.List.{list_any};
 ghost use Rattle.sc_actor.specs.Mail.{numbers, numbered, may_get, has_crashed, is_crash, is_for, pending};
 ghost use Rattle.sc_actor.specs.System.{kth, numbers_of, has_gone, is_go};
-ghost use Rattle.sc_checker.specs.Deeds.{is_number};
+ghost use Rattle.sc_checker.specs.Deeds.{is_number, picked_mail};
 ghost use Rattle.sc_checker.specs.Stages.{IsUpToDate};
 
 use crate::stages::Stage;
@@ -102,7 +102,7 @@ fn kth_pending<A, M: Parcel, O>(
     mails: &[M],
     copies: &[u32],
     whose: Option<u32>,
-    k: u32,
+    k: u64,
 ) -> Option<u32>
     requires first { 0 < k }
     requires few { length mails.now < 2 ^ 32 - 1 }
@@ -116,7 +116,7 @@ fn kth_pending<A, M: Parcel, O>(
     let mut left = k;
     let both = mails.len().min(copies.len());
     for i in 0..both {
-        let count = open_copies(seats, rows, whose, &mails[i], copies[i]);
+        let count = u64::from(open_copies(seats, rows, whose, &mails[i], copies[i]));
         if left <= count {
             return Some(i as u32 + 1);
         }
@@ -126,7 +126,7 @@ fn kth_pending<A, M: Parcel, O>(
 }
 
 /// The number of the k-th pending mail of a stage, from 1, of one actor or of all.
-pub fn waiting<A, M: Parcel, O>(stage: &Stage<A, M, O>, whose: Option<u32>, k: u32) -> Option<u32>
+pub fn waiting<A, M: Parcel, O>(stage: &Stage<A, M, O>, whose: Option<u32>, k: u64) -> Option<u32>
     requires { IsUpToDate stage.now }
     ensures number { result
         ≡ kth (pending M.receiver (numbers_of stage.now.seats.items) stage.now.rows whose) k }
@@ -155,4 +155,45 @@ pub fn is_quiet<A, M: Parcel, O>(stage: &Stage<A, M, O>) -> bool
         (kth (pending M.receiver (numbers_of stage.now.seats.items) stage.now.rows None) 1) }
 {
     waiting(stage, None, 1).is_none()
+}
+
+// How many pending mails there are.
+fn count_pending<A, M: Parcel, O>(
+    seats: &[Seat<A>],
+    rows: &[Row<M, O>],
+    mails: &[M],
+    copies: &[u32],
+) -> u64
+    requires few { length mails.now < 2 ^ 31 }
+    ensures { result
+        ≡ length
+        (numbers (is_for M.receiver (numbers_of seats.now) rows.now None) 1 mails.now copies.now) }
+{
+    let mut many = 0u64;
+    let both = mails.len().min(copies.len());
+    for i in 0..both {
+        many += u64::from(open_copies(seats, rows, None, &mails[i], copies[i]));
+    }
+    many
+}
+
+/// The number of the pending mail at the place that a word gives, counted from 0.
+pub fn picked<A, M: Parcel, O>(stage: &Stage<A, M, O>, word: u32) -> Option<u32>
+    requires { IsUpToDate stage.now }
+    ensures number { result
+        ≡ picked_mail M.receiver (numbers_of stage.now.seats.items) stage.now.rows word }
+    ensures mail { IfSome result (λ number. IsSomeAnd (numbered stage.now.mails.items number)
+        (λ mail.
+        is_for M.receiver (numbers_of stage.now.seats.items) stage.now.rows None mail ≡ true)) }
+{
+    let many = count_pending(
+        &stage.seats,
+        stage.rows.as_slice(),
+        &stage.mails,
+        &stage.copies,
+    );
+    if many == 0 {
+        return None;
+    }
+    waiting(stage, None, u64::from(word) % many + 1)
 }

@@ -1,9 +1,11 @@
 -- The names that a node has drawn, by its counter.
-use Rattle.std.proofs.Common.{◌≡◌, ℕ, ◌+◌, ◌≤◌, ◌&&◌, nat_le, List, [], ◌∷◌, ◌++◌, false, eqb, length, Option, Some, None, ◌⊎◌, inl, inr, refl, sym, ◌∙◌, ap, subst, append_assoc, append-nil, arith}
+use Rattle.std.specs.List.{AllPairs}
+use Rattle.std.proofs.Common.{◌≡◌, ℕ, ◌+◌, ◌≤◌, ◌&&◌, nat_le, Bool, List, [], ◌∷◌, ◌++◌, false, eqb, length, Option, Some, None, ◌⊎◌, inl, inr, refl, sym, ◌∙◌, ap, subst, append_assoc, append-nil, arith}
 use Rattle.std.specs.Prelude.{is_some, is_none, nat_lt, ◌||◌, not}
 use Rattle.std.specs.Option.{option_map}
 use Rattle.std.proofs.lemmas.Bool.{cases_Bool, cond-true, cond-false, cond_both, eqb-true, eqb-false, eq-eqb, leb-true, le-leb, and_from, and_parts, cases_lt}
-use Rattle.sc_base.specs.Drawing.{Drawer, next_name, drawn_on}
+use Rattle.sc_base.specs.Among.{Among}
+use Rattle.sc_base.specs.Drawing.{Drawer}
 use Rattle.sc_base.specs.declared.names.Draw.{Draw}
 use Rattle.sc_cmd.specs.declared.cores.Base.{Base}
 use Rattle.sc_cmd.specs.declared.orders.OrderLine.{OrderLine}
@@ -19,21 +21,18 @@ use Rattle.sc_actor.specs.Mail.{mails, numbered}
 use Rattle.sc_actor.specs.Replay.{value, acted, input_of}
 use Rattle.sc_actor.proofs.ReplayLemmas.{value-snoc}
 use Rattle.sc_node_table.specs.Births.{mailed_children}
-use Rattle.sc_node_table.specs.Node.{NodeState, replica_of, with_replica, with_new, group_of_mail, with_made, unknown, may_come, with_born, with_children, taken_by, routed, on_mail, group_of_order, ordered_of, on_order, on_tick, born_node}
-use Rattle.sc_node_table.specs.Ordering.{takes_name, untaken}
+use Rattle.sc_node_table.specs.Node.{NodeState, replica_of, with_replica, with_new, group_of_mail, with_made, unknown, may_come, with_born, with_children, taken_by, routed, on_mail, group_of_order, ordered_of, on_order, on_tick, names_after_ticks, born_node}
+use Rattle.sc_node_table.specs.Policy.{names_after_tick}
 use Rattle.sc_node_table.specs.Replica.{ReplicaState, born_replica, last_slot, either}
 use Rattle.sc_node_table.specs.Rows.{made_by, mailed}
 use Rattle.sc_node_table.specs.Slots.{slots_ahead}
 use Rattle.sc_players.specs.Players.{Ahead, node_seat, player_table, Player}
 use Rattle.sc_players.specs.declared.roles.Role.TheVariants.{Node as ANode}
 use Rattle.sc_scenario.specs.declared.scenarios.Scenario.{Scenario}
-use Rattle.sc_draws_law.specs.Owners.{Rows, Owned, drawn_for, drawn_by, is_node_of, drawn_at, owner_by, owner_in}
-use Rattle.sc_draws_law.specs.Laws.{HasNames, NodesHaveNames, DrawnNamesAreOwned, OwnedNamesAreOfNodes, OtherNamesAreFree}
-use Rattle.sc_draws_law.proofs.Owned.{owner_of_drawn, owner_of_other, owner-push, owned_later, drawn_in}
-
--- names with the same parts are the same
-draws_equal : (n c m d : ℕ) → n ≡ m → c ≡ d → (let a : Draw = record { node = n; count = c } in a) ≡ record { node = m; count = d }
-draws_equal n c m d e f = ap (λ x. (let a : Draw = record { node = x; count = c } in a)) e ∙ ap (λ x. (let a : Draw = record { node = m; count = x } in a)) f
+use Rattle.sc_draws_law.specs.Owners.{Rows, Owned, owned_by, drawn_for, waited, wished_at, drawn_wishing, drawn_ticking, drawn_by, is_node_of, drawn_at, owner_by, owner_in}
+use Rattle.sc_draws_law.specs.Laws.{HasNames, NodesHaveNames, DrawnNamesAreOwned, RowsDrawOnce, OwnedNamesAreOfNodes, OtherNamesAreFree}
+use Rattle.sc_draws_law.proofs.Drawn.{Draws, Differ, draws_both, draws_up, drawn_between, drawn_not_past, drawn_from, drawn_once, line_draws, tick_draws}
+use Rattle.sc_draws_law.proofs.Owned.{owner_was_drawn, owner-push, owned_later, drawn_in}
 
 -- ---- mail draws nothing
 
@@ -64,36 +63,19 @@ mail_draws : (from : ℕ) (body : MailBody) (node : NodeState) → (on_mail from
 mail_draws from body node =
     cond_both (may_come from body) (routed (group_of_mail body) from body node) (node, []) (λ (x : NodeState × List Mail). x.0.draws ≡ node.draws) (λ _. routed_draws (group_of_mail body) from body node) (λ _. refl)
 
--- ---- an event draws the next name, or none
+-- ---- an event draws the next names
 
--- what an event makes of a node's names: it draws none, or the next one
-pub record DrawsNone (before after : Drawer) (drawn : Option Owned) : Type 0 where
-  pub none : drawn ≡ None
-  pub same : after ≡ before
-
-pub record DrawsNext (before after : Drawer) (drawn : Option Owned) : Type 0 where
-  pub group : Draw
-  pub one : drawn ≡ Some (record { name = next_name before; group = group })
-  pub next : after ≡ drawn_on before
-
-abbrev pub Draws : Drawer → Drawer → Option Owned → Type 0
-Draws before after drawn = DrawsNone before after drawn ⊎ DrawsNext before after drawn
+-- the replicas' names are drawn one after another
+ticks_draw : (on : Bool) (drawer : Drawer) (replicas : List ReplicaState) → Draws drawer (names_after_ticks on drawer replicas) (drawn_ticking on drawer replicas)
+unfolding names_after_ticks
+ticks_draw on drawer [] = refl
+ticks_draw on drawer (r ∷ replicas) =
+    draws_both drawer (names_after_tick on drawer r) (names_after_ticks on (names_after_tick on drawer r) replicas) (drawn_wishing drawer (wished_at on r) (waited r)) (drawn_ticking on (names_after_tick on drawer r) replicas)
+    (tick_draws on drawer r) (ticks_draw on (names_after_tick on drawer r) replicas)
 
 order_draws : (line : OrderLine) (node : NodeState) (o : Option ReplicaState) → Draws node.draws (ordered_of o line node).0.draws (drawn_for node.draws line o)
-order_draws line node None = inl (record { none = refl; same = refl })
-order_draws line node (Some r) =
-    let owned : Owned = record { name = next_name node.draws; group = group_of_order line.order } in
-    elim (cases_Bool (takes_name line.order && is_none (untaken node.draws line r))) [
-      | inl t ↦ inr (record {
-        group = group_of_order line.order;
-        one = cond-true (takes_name line.order && is_none (untaken node.draws line r)) (Some owned) None t;
-        next = cond-true (takes_name line.order && is_none (untaken node.draws line r)) (drawn_on node.draws) node.draws t;
-      })
-      | inr f ↦ inl (record {
-        none = cond-false (takes_name line.order && is_none (untaken node.draws line r)) (Some owned) None f;
-        same = cond-false (takes_name line.order && is_none (untaken node.draws line r)) (drawn_on node.draws) node.draws f;
-      })
-    ]
+order_draws line node None = refl
+order_draws line node (Some r) = line_draws node.draws line r
 
 -- a node after an event of its own, and what it drew
 pub record Acts (sent : List Mail) (event : Event OrderLine) (old : NodeState) : Type 0 where
@@ -102,27 +84,27 @@ pub record Acts (sent : List Mail) (event : Event OrderLine) (old : NodeState) :
   pub draws : Draws old.draws node.draws (drawn_by (ANode old) event)
 
 got : (sent : List Mail) (number : ℕ) (old : NodeState) (o : Option Mail) → numbered sent number ≡ o → Acts sent (Deliver number) old
-got sent number old None e = record { node = old; value_is = ap (λ p. (acted player_table (ANode old) (option_map Got p)).0) e; draws = inl (record { none = refl; same = refl }) }
+got sent number old None e = record { node = old; value_is = ap (λ p. (acted player_table (ANode old) (option_map Got p)).0) e; draws = refl }
 got sent number old (Some mail) e = record {
   node = (on_mail mail.from mail.body old).0;
   value_is = ap (λ p. (acted player_table (ANode old) (option_map Got p)).0) e;
-  draws = inl (record { none = refl; same = mail_draws mail.from mail.body old });
+  draws = mail_draws mail.from mail.body old;
 }
 
 pub acts : (sent : List Mail) (event : Event OrderLine) (old : NodeState) → Acts sent event old
 acts sent (Deliver number) old = got sent number old (numbered sent number) refl
-acts sent Tick old = record { node = (on_tick old).0; value_is = refl; draws = inl (record { none = refl; same = refl }) }
-acts sent Go old = record { node = old; value_is = refl; draws = inl (record { none = refl; same = refl }) }
-acts sent Crash old = record { node = old; value_is = refl; draws = inl (record { none = refl; same = refl }) }
-acts sent (Drop number) old = record { node = old; value_is = refl; draws = inl (record { none = refl; same = refl }) }
-acts sent (Again number) old = record { node = old; value_is = refl; draws = inl (record { none = refl; same = refl }) }
+acts sent Tick old = record { node = (on_tick old).0; value_is = refl; draws = ticks_draw old.policy old.draws old.replicas }
+acts sent Go old = record { node = old; value_is = refl; draws = refl }
+acts sent Crash old = record { node = old; value_is = refl; draws = refl }
+acts sent (Drop number) old = record { node = old; value_is = refl; draws = refl }
+acts sent (Again number) old = record { node = old; value_is = refl; draws = refl }
 acts sent (Told line) old = record { node = (on_order line old).0; value_is = refl; draws = order_draws line old (replica_of (group_of_order line.order) old.replicas) }
 
 -- ---- all rows
 
 module _ (ahead : Ahead) (scenario : Scenario) where
   abbrev nseat : ℕ → Seat Player
-  nseat n = node_seat ahead scenario.groups n
+  nseat n = node_seat ahead scenario.groups scenario.policy n
 
   abbrev owner : Rows → Draw → Option Draw
   owner rows name = owner_in ahead scenario rows name
@@ -135,7 +117,7 @@ module _ (ahead : Ahead) (scenario : Scenario) where
 
   first_stands : (n : ℕ) → Stands [] n
   first_stands n = record {
-    node = born_node ahead.slots n scenario.groups;
+    node = born_node ahead.slots n scenario.groups scenario.policy;
     value_is = refl;
     names = record { number = refl; drawn = λ name of some below. absurd (omega (arith, some, below)); left = λ name of above. refl };
   }
@@ -144,18 +126,15 @@ module _ (ahead : Ahead) (scenario : Scenario) where
     abbrev next : Rows
     next = rows ++ row ∷ []
 
-    abbrev drawn : Option Owned
+    abbrev drawn : List Owned
     drawn = drawn_at ahead scenario rows row
 
-    -- a row that draws nothing leaves all owners
-    none_more : (name : Draw) → owner_by drawn name ≡ None → owner rows name ≡ None → owner next name ≡ None
-    none_more name here old = owner-push ahead scenario rows row name ∙ ap (λ (o : Option Draw). either o (owner_by drawn name)) old ∙ here
+    -- who owns a name that had no owner
+    one_more : (name : Draw) (o : Option Draw) → owner_by drawn name ≡ o → owner rows name ≡ None → owner next name ≡ o
+    one_more name o here old = owner-push ahead scenario rows row name ∙ ap (λ (p : Option Draw). either p (owner_by drawn name)) old ∙ here
 
     some_more : (name group : Draw) → owner rows name ≡ Some group → owner next name ≡ Some group
     some_more name group old = owned_later ahead scenario rows (row ∷ []) name group old
-
-    one_more : (name group : Draw) → owner_by drawn name ≡ Some group → owner rows name ≡ None → owner next name ≡ Some group
-    one_more name group here old = owner-push ahead scenario rows row name ∙ ap (λ (o : Option Draw). either o (owner_by drawn name)) old ∙ here
 
     -- what a node of the scenario has after this row
     module _ (n : ℕ) (low : 1 ≤ n) (high : n ≤ scenario.nodes) (who_is : row.who ≡ n) where
@@ -167,7 +146,7 @@ module _ (ahead : Ahead) (scenario : Scenario) where
 
       pub drawn_is : drawn ≡ drawn_by (ANode st.node) row.event
       drawn_is =
-          cond-true (is_node_of scenario row.who) (drawn_by (value player_table (nseat row.who) rows) row.event) None
+          cond-true (is_node_of scenario row.who) (drawn_by (value player_table (nseat row.who) rows) row.event) []
           (and_from (nat_le 1 row.who) (nat_le row.who scenario.nodes) (le-leb 1 row.who (omega (arith, low, who_is))) (le-leb row.who scenario.nodes (omega (arith, high, who_is))))
           ∙ ap (λ (p : Player). drawn_by p row.event) (ap (λ (w : ℕ). value player_table (nseat w) rows) who_is ∙ st.value_is)
 
@@ -177,46 +156,25 @@ module _ (ahead : Ahead) (scenario : Scenario) where
           ∙ cond-true (eqb row.who n) (acted player_table (value player_table (nseat n) rows) (input_of (mails rows) row.event)).0 (value player_table (nseat n) rows) (eq-eqb row.who n who_is)
           ∙ ap (λ p. (acted player_table p (input_of (mails rows) row.event)).0) st.value_is ∙ act.value_is
 
-      stands_none : DrawsNone st.node.draws act.node.draws (drawn_by (ANode st.node) row.event) → Stands next n
-      stands_none draws =
-          let same_next : act.node.draws.next ≡ st.node.draws.next = ap (λ (d : Drawer). d.next) draws.same in
-          record {
-            node = act.node;
-            value_is = act_value;
-            names = record {
-              number = ap (λ (d : Drawer). d.node) draws.same ∙ st.names.number;
-              drawn = λ name of some below. (let o = st.names.drawn name of some (omega (arith, below, same_next)) in (o.0, some_more name o.0 o.1));
-              left = λ name of above. none_more name (ap (λ (o : Option Owned). owner_by o name) (drawn_is ∙ draws.none)) (st.names.left name of (omega (arith, above, same_next)));
-            };
-          }
-
-      stands_next : DrawsNext st.node.draws act.node.draws (drawn_by (ANode st.node) row.event) → Stands next n
-      stands_next draws =
-          let owned : Owned = record { name = next_name st.node.draws; group = draws.group } in
-          let one_is : drawn ≡ Some owned = drawn_is ∙ draws.one in
-          let more_next : act.node.draws.next ≡ st.node.draws.next + 1 = ap (λ (d : Drawer). d.next) draws.next in
-          record {
-            node = act.node;
-            value_is = act_value;
-            names = record {
-              number = ap (λ (d : Drawer). d.node) draws.next ∙ st.names.number;
-              drawn = λ name of some below. elim (cases_lt name.count st.node.draws.next) [
-                | inl less ↦ (let o = st.names.drawn name of some less in (o.0, some_more name o.0 o.1))
-                | inr more ↦ (let same : next_name st.node.draws ≡ name = draws_equal st.node.draws.node st.node.draws.next name.node name.count (st.names.number ∙ sym of) (omega (arith, more, below, more_next)) in (
-                  draws.group,
-                  one_more name draws.group
-                      (ap (λ (o : Option Owned). owner_by o name) one_is ∙ ap (λ (m : Draw). owner_by (Some owned) m) (sym same) ∙ owner_of_drawn owned)
-                      (st.names.left name of more),
-                ))
-              ];
-              left = λ name of above. none_more name
-                  (ap (λ (o : Option Owned). owner_by o name) one_is ∙ owner_of_other owned name (λ same. (let count : st.node.draws.next ≡ name.count = ap (λ (d : Draw). d.count) same in absurd (omega (arith, count, above, more_next)))))
-                  (st.names.left name of (omega (arith, above, more_next)));
-            };
-          }
+      draws : Draws st.node.draws act.node.draws drawn
+      draws = subst (Draws st.node.draws act.node.draws) (sym drawn_is) act.draws
 
       stands_own : Stands next n
-      stands_own = elim act.draws [ inl none ↦ stands_none none | inr one ↦ stands_next one ]
+      stands_own =
+          let up = draws_up st.node.draws act.node.draws drawn draws in
+          let names = st.names in
+          record {
+            node = act.node;
+            value_is = act_value;
+            names = record {
+              number = sym up.0 ∙ names.number;
+              drawn = λ name of some below. elim (cases_lt name.count st.node.draws.next) [
+                | inl less ↦ (let o = names.drawn name of some less in (o.0, some_more name o.0 o.1))
+                | inr more ↦ (let o = drawn_between st.node.draws act.node.draws drawn draws name (of ∙ sym names.number) more below in (o.0, one_more name (Some o.0) o.1 (names.left name of more)))
+              ];
+              left = λ name of above. one_more name None (drawn_not_past st.node.draws act.node.draws drawn draws name above) (names.left name of (omega (arith, above, up.1)));
+            };
+          }
 
     -- what a row draws is a name of its own node, which had no owner
     pub record DrawsFresh (owned : Owned) : Type 0 where
@@ -224,33 +182,29 @@ module _ (ahead : Ahead) (scenario : Scenario) where
       pub high : row.who ≤ scenario.nodes
       pub of : owned.name.node ≡ row.who
       pub fresh : owner rows owned.name ≡ None
+      pub own : owner_by drawn owned.name ≡ Some owned.group
 
-    drawn_fresh_of : (owned : Owned) → drawn ≡ Some owned → (low : 1 ≤ row.who) → (high : row.who ≤ scenario.nodes) → Draws (st row.who low high refl).node.draws (act row.who low high refl).node.draws (drawn_by (ANode (st row.who low high refl).node) row.event) → DrawsFresh owned
-    drawn_fresh_of owned e low high (inl draws) = (let no_way : None ≡ Some owned = sym draws.none ∙ sym (drawn_is row.who low high refl) ∙ e in absurd (cc))
-    drawn_fresh_of owned e low high (inr draws) =
+    drawn_fresh_of : (owned : Owned) → Among owned drawn → 1 ≤ row.who → row.who ≤ scenario.nodes → DrawsFresh owned
+    drawn_fresh_of owned a low high =
         let here : Stands rows row.who = st row.who low high refl in
-        let same : Some (let o : Owned = record { name = next_name here.node.draws; group = draws.group } in o) ≡ Some owned = sym draws.one ∙ sym (drawn_is row.who low high refl) ∙ e in
-        let name_is : next_name here.node.draws ≡ owned.name = cc in
-        let node_is : here.node.draws.node ≡ owned.name.node = ap (λ (d : Draw). d.node) name_is in
-        let count_is : here.node.draws.next ≡ owned.name.count = ap (λ (d : Draw). d.count) name_is in
-        let of_it : owned.name.node ≡ row.who = sym node_is ∙ here.names.number in
-        record { low = low; high = high; of = of_it; fresh = here.names.left owned.name of_it (omega (arith, count_is)) }
+        let one = drawn_from here.node.draws (act row.who low high refl).node.draws drawn (draws row.who low high refl) owned a in
+        let of_it : owned.name.node ≡ row.who = one.of ∙ here.names.number in
+        record { low = low; high = high; of = of_it; fresh = here.names.left owned.name of_it one.from; own = one.own }
 
-    pub drawn_fresh : (owned : Owned) → drawn ≡ Some owned → DrawsFresh owned
-    drawn_fresh owned e = elim (cases_Bool (is_node_of scenario row.who)) [
+    pub drawn_fresh : (owned : Owned) → Among owned drawn → DrawsFresh owned
+    drawn_fresh owned a = elim (cases_Bool (is_node_of scenario row.who)) [
       | inl t ↦ (let parts = and_parts (nat_le 1 row.who) (nat_le row.who scenario.nodes) t in
-          let low : 1 ≤ row.who = leb-true 1 row.who parts.0 in
-          let high : row.who ≤ scenario.nodes = leb-true row.who scenario.nodes parts.1 in
-          drawn_fresh_of owned e low high (act row.who low high refl).draws)
-      | inr f ↦ (let none : None ≡ Some owned = sym (cond-false (is_node_of scenario row.who) (drawn_by (value player_table (nseat row.who) rows) row.event) None f) ∙ e in absurd (cc))
+          drawn_fresh_of owned a (leb-true 1 row.who parts.0) (leb-true row.who scenario.nodes parts.1))
+      | inr f ↦ absurd (subst (Among owned) (cond-false (is_node_of scenario row.who) (drawn_by (value player_table (nseat row.who) rows) row.event) [] f) a)
     ]
 
     -- a row of another leaves a node's names as they are
-    other_draws : (n : ℕ) → (row.who ≡ n → ⊥) → (name : Draw) → name.node ≡ n → (o : Option Owned) → drawn ≡ o → owner_by o name ≡ None
+    other_draws : (n : ℕ) → (row.who ≡ n → ⊥) → (name : Draw) → name.node ≡ n → (o : Option Draw) → owner_by drawn name ≡ o → o ≡ None
     other_draws n apart name of None e = refl
-    other_draws n apart name of (Some owned) e =
-        let fresh = drawn_fresh owned e in
-        owner_of_other owned name (λ same. apart (sym fresh.of ∙ ap (λ (d : Draw). d.node) same ∙ of))
+    other_draws n apart name of (Some group) e = (let fresh = drawn_fresh (owned_by name group) (owner_was_drawn drawn name group e) in absurd (apart (sym fresh.of ∙ of)))
+
+    no_draws : (n : ℕ) → (row.who ≡ n → ⊥) → (name : Draw) → name.node ≡ n → owner_by drawn name ≡ None
+    no_draws n apart name of = other_draws n apart name of (owner_by drawn name) refl
 
     stands_other : (n : ℕ) → (low : 1 ≤ n) → (high : n ≤ scenario.nodes) → eqb row.who n ≡ false → Stands next n
     stands_other n low high f =
@@ -262,7 +216,7 @@ module _ (ahead : Ahead) (scenario : Scenario) where
           names = record {
             number = here.names.number;
             drawn = λ name of some below. (let o = here.names.drawn name of some below in (o.0, some_more name o.0 o.1));
-            left = λ name of above. none_more name (other_draws n (eqb-false row.who n f) name of drawn refl) (here.names.left name of above);
+            left = λ name of above. one_more name None (no_draws n (eqb-false row.who n f) name of) (here.names.left name of above);
           };
         }
 
@@ -279,7 +233,7 @@ module _ (ahead : Ahead) (scenario : Scenario) where
   all_stand rows n low high = from_stands [] rows (λ m a b. first_stands m) n low high
 
   -- what a row draws is fresh
-  pub fresh_at : (before : Rows) (row : Row Mail OrderLine) (owned : Owned) → drawn_at ahead scenario before row ≡ Some owned → DrawsFresh before row (all_stand before) owned
+  pub fresh_at : (before : Rows) (row : Row Mail OrderLine) (owned : Owned) → Among owned (drawn_at ahead scenario before row) → DrawsFresh before row (all_stand before) owned
   fresh_at before row owned e = drawn_fresh before row (all_stand before) owned e
 
 -- ---- the laws
@@ -297,13 +251,13 @@ drawn_are_owned ahead scenario before row later owned e =
     let fresh = fresh_at ahead scenario before row owned e in
     let now : owner_in ahead scenario (before ++ row ∷ []) owned.name ≡ Some owned.group =
     owner-push ahead scenario before row owned.name ∙ ap (λ (o : Option Draw). either o (owner_by (drawn_at ahead scenario before row) owned.name)) fresh.fresh
-    ∙ ap (λ (o : Option Owned). owner_by o owned.name) e ∙ owner_of_drawn owned in
+    ∙ fresh.own in
     (fresh.fresh, subst (λ (xs : Rows). owner_in ahead scenario xs owned.name ≡ Some owned.group) (append_assoc before (row ∷ []) later) (owned_later ahead scenario (before ++ row ∷ []) later owned.name owned.group now))
 
 pub owned_are_of_nodes : OwnedNamesAreOfNodes
 owned_are_of_nodes ahead scenario rows name group e =
     let drawn = drawn_in ahead scenario [] rows name group e in
-    let fresh = fresh_at ahead scenario drawn.before drawn.row (record { name = name; group = group }) drawn.drawn in
+    let fresh = fresh_at ahead scenario drawn.before drawn.row (owned_by name group) drawn.drawn in
     let of : name.node ≡ drawn.row.who = fresh.of in
     (omega (arith, of, fresh.low), omega (arith, of, fresh.high))
 
@@ -313,3 +267,13 @@ free_by ahead scenario rows name none (Some group) e = (let of = owned_are_of_no
 
 pub others_are_free : OtherNamesAreFree
 others_are_free ahead scenario rows name none = free_by ahead scenario rows name none (owner_in ahead scenario rows name) refl
+
+pub rows_draw_once : RowsDrawOnce
+rows_draw_once ahead scenario before row = elim (cases_Bool (is_node_of scenario row.who)) [
+  | inl t ↦ (let parts = and_parts (nat_le 1 row.who) (nat_le row.who scenario.nodes) t in
+      let low : 1 ≤ row.who = leb-true 1 row.who parts.0 in
+      let high : row.who ≤ scenario.nodes = leb-true row.who scenario.nodes parts.1 in
+      let all = all_stand ahead scenario before in
+      drawn_once (all row.who low high).node.draws (act ahead scenario before row all row.who low high refl).node.draws (drawn_at ahead scenario before row) (draws ahead scenario before row all row.who low high refl))
+  | inr f ↦ subst (AllPairs Differ) (sym (cond-false (is_node_of scenario row.who) (drawn_by (value player_table (node_seat ahead scenario.groups scenario.policy row.who) before) row.event) [] f)) (λ i j d lt within. absurd (omega (arith, within)))
+]

@@ -28,20 +28,20 @@ use Rattle.sc_member.specs.Roster.{is_member}
 use Rattle.sc_node_table.specs.Node.{NodeState, born_node}
 use Rattle.sc_node_table.specs.Replica.{born_replica}
 use Rattle.sc_node_table.specs.Slots.{numbers_from}
-use Rattle.sc_paxos_words.proofs.ListLemmas.{Each-among, Each-append, Each-filter, find_found}
+use Rattle.sc_paxos_words.proofs.ListLemmas.{Each-among, Each-from, Each-append, Each-filter, find_found}
 use Rattle.sc_players.specs.Players.{Ahead, Player, Lawful, player_table, node_seat, client_seat, client_seats, route_of, births, schedule, system_of}
 use Rattle.sc_players.specs.declared.roles.Role.TheVariants.{Node, Client}
 use Rattle.sc_scenario.specs.declared.scenarios.Asks.{Asks}
 use Rattle.sc_scenario.specs.declared.scenarios.Scenario.{Scenario}
-use Rattle.sc_draws_law.specs.Owners.{Rows, owner_in}
+use Rattle.sc_draws_law.specs.Owners.{Rows, Owned, drawn_ticking, drawn_at, owner_in}
 use Rattle.sc_draws_law.specs.Fresh.{IsUsed, BeginsUndrawn, AllNames, AllDecided, NamesAreDrawn, DrawnNamesAreNew}
 use Rattle.sc_draws_law.specs.Names.{Opt, LockNames, OutcomeNames, PastNames, CoreNames, MailNames, ReplicaNames, NodeNames, ClientNames, PlayerNames}
-use Rattle.sc_draws_law.proofs.Counters.{fresh_at}
+use Rattle.sc_draws_law.proofs.Counters.{drawn_are_owned, fresh_at}
 use Rattle.sc_draws_law.proofs.Lists.{opt_get}
 use Rattle.sc_draws_law.proofs.Machine.{Each-map}
 use Rattle.sc_draws_law.proofs.Sent.{Sent}
 use Rattle.sc_draws_law.proofs.Held.{born_names}
-use Rattle.sc_draws_law.proofs.Ordered.{it_is_owned}
+use Rattle.sc_draws_law.proofs.Ordered.{it_ticks, it_is_owned}
 use Rattle.sc_draws_law.proofs.Logs.{decided_names}
 use Rattle.sc_draws_law.proofs.Owned.{owned_later}
 use Rattle.sc_draws_law.proofs.Playing.{Brings, node_names, client_names}
@@ -79,9 +79,9 @@ bounds from (suc more) = ((omega arith, omega arith), weaker (numbers_from (from
 module _ (ahead : Ahead) (scenario : Scenario) where
   -- a seat of a node of the scenario, or of a client
   abbrev IsSeat : Seat Player → Type 0
-  IsSeat seat = ((n : ℕ) × (1 ≤ n) × (n ≤ scenario.nodes) × (seat ≡ node_seat ahead scenario.groups n)) ⊎ IsClient seat.actor
+  IsSeat seat = ((n : ℕ) × (1 ≤ n) × (n ≤ scenario.nodes) × (seat ≡ node_seat ahead scenario.groups scenario.policy n)) ⊎ IsClient seat.actor
 
-  nodes_are : (ns : List ℕ) → Each (λ n. (1 ≤ n) × (n < 1 + scenario.nodes)) ns → Each IsSeat (map (node_seat ahead scenario.groups) ns)
+  nodes_are : (ns : List ℕ) → Each (λ n. (1 ≤ n) × (n < 1 + scenario.nodes)) ns → Each IsSeat (map (node_seat ahead scenario.groups scenario.policy) ns)
   nodes_are [] e = tt
   nodes_are (n ∷ ns) e = (let high = e.0.1 in (inl (n, e.0.0, omega (arith, high), refl), nodes_are ns e.1))
 
@@ -95,7 +95,7 @@ module _ (ahead : Ahead) (scenario : Scenario) where
 
   seats_are : Each IsSeat (births ahead scenario)
   seats_are =
-      Each-append IsSeat (map (node_seat ahead scenario.groups) (numbers_from 1 scenario.nodes)) (client_seats scenario.groups scenario.clients)
+      Each-append IsSeat (map (node_seat ahead scenario.groups scenario.policy) (numbers_from 1 scenario.nodes)) (client_seats scenario.groups scenario.clients)
       (nodes_are (numbers_from 1 scenario.nodes) (bounds 1 scenario.nodes)) (clients_are scenario.groups scenario.clients)
 
 module _ (ahead : Ahead) (words : ℕ → ℕ → ℕ × ℕ) (scenario : Scenario) (K : Draw → Type 0) (none : (name : Draw) → name.node ≡ 0 → K name) (begins : Each BeginsUndrawn scenario.groups) where
@@ -119,7 +119,7 @@ module _ (ahead : Ahead) (words : ℕ → ℕ → ℕ × ℕ) (scenario : Scenar
     gone = subst (λ (o : Option Route). Opt (λ (into : Route). K into.group) o) (sym b.here) tt;
   }
 
-  born_node_names : (n : ℕ) → NodeNames K (born_node ahead.slots n scenario.groups)
+  born_node_names : (n : ℕ) → NodeNames K (born_node ahead.slots n scenario.groups scenario.policy)
   born_node_names n =
       Each-map BeginsUndrawn (ReplicaNames K) (λ base. born_replica ahead.slots n base) (λ base b. born_names K ahead.slots n base (begin_names base b)) (filter (λ base. is_member base.core.members n) scenario.groups)
       (Each-filter BeginsUndrawn (λ base. is_member base.core.members n) scenario.groups begins)
@@ -127,7 +127,7 @@ module _ (ahead : Ahead) (words : ℕ → ℕ → ℕ × ℕ) (scenario : Scenar
   abbrev Begun : Seat Player → Type 0
   Begun seat = PlayerNames K seat.actor
 
-  begun_nodes : (ns : List ℕ) → Each Begun (map (node_seat ahead scenario.groups) ns)
+  begun_nodes : (ns : List ℕ) → Each Begun (map (node_seat ahead scenario.groups scenario.policy) ns)
   begun_nodes [] = tt
   begun_nodes (n ∷ ns) = (born_node_names n, begun_nodes ns)
 
@@ -140,7 +140,7 @@ module _ (ahead : Ahead) (words : ℕ → ℕ → ℕ × ℕ) (scenario : Scenar
   begun_clients (base ∷ bases) clients b = begun_some (route_of base) clients (none base.core.id b.0.id)
 
   begun : Each Begun (births ahead scenario)
-  begun = Each-append Begun (map (node_seat ahead scenario.groups) (numbers_from 1 scenario.nodes)) (client_seats scenario.groups scenario.clients) (begun_nodes (numbers_from 1 scenario.nodes)) (begun_clients scenario.groups scenario.clients begins)
+  begun = Each-append Begun (map (node_seat ahead scenario.groups scenario.policy) (numbers_from 1 scenario.nodes)) (client_seats scenario.groups scenario.clients) (begun_nodes (numbers_from 1 scenario.nodes)) (begun_clients scenario.groups scenario.clients begins)
 
   first_all : All []
   first_all = record { sent = tt; players = λ seat a. Each-among Begun (births ahead scenario) seat begun a }
@@ -169,42 +169,59 @@ module _ (ahead : Ahead) (words : ℕ → ℕ → ℕ × ℕ) (scenario : Scenar
     abbrev ToldSo : Player → Type 0
     ToldSo p = (node : NodeState) (line : OrderLine) → p ≡ Node node → row.event ≡ Told line → Brings K node (ToldInput line)
 
-    acts_by : (p : Player) → PlayerNames K p → ToldSo p → (event : Event OrderLine) → row.event ≡ event → Acted (acted player_table p (input_of (mails rows) event))
-    acts_by (Node node) k told (Deliver number) e = node_got node (numbered (mails rows) number) (numbered_names (mails rows) number now.sent) k
-    acts_by (Node node) k told Tick e = node_names K node TickInput tt k
-    acts_by (Node node) k told Go e = node_names K node GoInput tt k
-    acts_by (Node node) k told Crash e = (k, tt)
-    acts_by (Node node) k told (Drop number) e = (k, tt)
-    acts_by (Node node) k told (Again number) e = (k, tt)
-    acts_by (Node node) k told (Told line) e = node_names K node (ToldInput line) (told node line refl e) k
-    acts_by (Client client) k told (Deliver number) e = client_got client (numbered (mails rows) number) (numbered_names (mails rows) number now.sent) k
-    acts_by (Client client) k told Tick e = client_names K client TickInput tt k
-    acts_by (Client client) k told Go e = client_names K client GoInput tt k
-    acts_by (Client client) k told Crash e = (k, tt)
-    acts_by (Client client) k told (Drop number) e = (k, tt)
-    acts_by (Client client) k told (Again number) e = (k, tt)
-    acts_by (Client client) k told (Told line) e = client_names K client (ToldInput line) tt k
+    -- what a node draws at a tick
+    abbrev TicksSo : Player → Type 0
+    TicksSo p = (node : NodeState) → p ≡ Node node → row.event ≡ Tick → Brings K node TickInput
 
-    told_node : (n : ℕ) → 1 ≤ n → n ≤ scenario.nodes → row.who ≡ n → ToldSo (value player_table (node_seat ahead scenario.groups n) rows)
+    acts_by : (p : Player) → PlayerNames K p → ToldSo p → TicksSo p → (event : Event OrderLine) → row.event ≡ event → Acted (acted player_table p (input_of (mails rows) event))
+    acts_by (Node node) k told ticks (Deliver number) e = node_got node (numbered (mails rows) number) (numbered_names (mails rows) number now.sent) k
+    acts_by (Node node) k told ticks Tick e = node_names K node TickInput (ticks node refl e) k
+    acts_by (Node node) k told ticks Go e = node_names K node GoInput tt k
+    acts_by (Node node) k told ticks Crash e = (k, tt)
+    acts_by (Node node) k told ticks (Drop number) e = (k, tt)
+    acts_by (Node node) k told ticks (Again number) e = (k, tt)
+    acts_by (Node node) k told ticks (Told line) e = node_names K node (ToldInput line) (told node line refl e) k
+    acts_by (Client client) k told ticks (Deliver number) e = client_got client (numbered (mails rows) number) (numbered_names (mails rows) number now.sent) k
+    acts_by (Client client) k told ticks Tick e = client_names K client TickInput tt k
+    acts_by (Client client) k told ticks Go e = client_names K client GoInput tt k
+    acts_by (Client client) k told ticks Crash e = (k, tt)
+    acts_by (Client client) k told ticks (Drop number) e = (k, tt)
+    acts_by (Client client) k told ticks (Again number) e = (k, tt)
+    acts_by (Client client) k told ticks (Told line) e = client_names K client (ToldInput line) tt k
+
+    told_node : (n : ℕ) → 1 ≤ n → n ≤ scenario.nodes → row.who ≡ n → ToldSo (value player_table (node_seat ahead scenario.groups scenario.policy n) rows)
     told_node n low high who node line value_is event_is =
         λ r found taken named. drawn (next_name node.draws) _
         (it_is_owned ahead scenario rows row [] line node r
         (record {
           low = subst (λ (m : ℕ). 1 ≤ m) (sym who) low;
           high = subst (λ (m : ℕ). m ≤ scenario.nodes) (sym who) high;
-          value_is = ap (λ (m : ℕ). value player_table (node_seat ahead scenario.groups m) rows) who ∙ value_is;
+          value_is = ap (λ (m : ℕ). value player_table (node_seat ahead scenario.groups scenario.policy m) rows) who ∙ value_is;
           event_is = event_is;
           found = found;
           taken = taken;
         }) named)
 
-    told_so : (seat : Seat Player) → IsSeat ahead scenario seat → row.who ≡ seat.who → ToldSo (value player_table seat rows)
+    ticks_node : (n : ℕ) → 1 ≤ n → n ≤ scenario.nodes → row.who ≡ n → TicksSo (value player_table (node_seat ahead scenario.groups scenario.policy n) rows)
+    ticks_node n low high who node value_is event_is =
+        let from = ap (λ (m : ℕ). value player_table (node_seat ahead scenario.groups scenario.policy m) rows) who ∙ value_is in
+        let is : drawn_at ahead scenario rows row ≡ drawn_ticking node.policy node.draws node.replicas = it_ticks ahead scenario rows row node (subst (λ (m : ℕ). 1 ≤ m) (sym who) low) (subst (λ (m : ℕ). m ≤ scenario.nodes) (sym who) high) from event_is in
+        Each-from (λ (owned : Owned). K owned.name) (drawn_ticking node.policy node.draws node.replicas)
+        (λ owned a. drawn owned.name owned.group (drawn_are_owned ahead scenario rows row [] owned (subst (Among owned) (sym is) a)).1)
+
+    told_so : (seat : Seat Player) → IsSeat ahead scenario seat → row.who ≡ seat.who → ToldSo (value player_table seat rows) × TicksSo (value player_table seat rows)
     told_so seat (inl (n, low, high, is)) who =
-        subst (λ (s : Seat Player). ToldSo (value player_table s rows)) (sym is) (told_node n low high (who ∙ ap (λ (s : Seat Player). s.who) is))
-    told_so seat (inr client) who = λ node line value_is event_is. absurd (no_node (value player_table seat rows) node (replay_client seat.who seat.actor [] rows client) value_is)
+        subst (λ (s : Seat Player). ToldSo (value player_table s rows) × TicksSo (value player_table s rows)) (sym is)
+        (told_node n low high (who ∙ ap (λ (s : Seat Player). s.who) is), ticks_node n low high (who ∙ ap (λ (s : Seat Player). s.who) is))
+    told_so seat (inr client) who = (
+      λ node line value_is event_is. absurd (no_node (value player_table seat rows) node (replay_client seat.who seat.actor [] rows client) value_is),
+      λ node value_is event_is. absurd (no_node (value player_table seat rows) node (replay_client seat.who seat.actor [] rows client) value_is),
+    )
 
     seat_acts : (seat : Seat Player) → Among seat (births ahead scenario) → row.who ≡ seat.who → (event : Event OrderLine) → row.event ≡ event → Acted (acted player_table (value player_table seat rows) (input_of (mails rows) event))
-    seat_acts seat a who event e = acts_by (value player_table seat rows) (now.players seat a) (told_so seat (Each-among (IsSeat ahead scenario) (births ahead scenario) seat (seats_are ahead scenario) a) who) event e
+    seat_acts seat a who event e =
+        let so = told_so seat (Each-among (IsSeat ahead scenario) (births ahead scenario) seat (seats_are ahead scenario) a) who in
+        acts_by (value player_table seat rows) (now.players seat a) so.0 so.1 event e
 
     row_sent : IsStep (system_of ahead words scenario) rows row → Sent K row.sent
     row_sent (inl step) =

@@ -1,5 +1,7 @@
 pub mod Owned
+pub mod Drawn
 pub mod Counters
+pub mod Wished
 pub mod Ordered
 pub mod Machine
 pub mod Sent

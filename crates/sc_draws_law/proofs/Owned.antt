@@ -1,6 +1,7 @@
 -- The owner of a name, by the rows one after another.
-use Rattle.std.proofs.Common.{◌≡◌, [], ◌∷◌, ◌++◌, Option, Some, None, inl, inr, refl, sym, ◌∙◌, ap, subst, append_assoc, append-nil}
+use Rattle.std.proofs.Common.{◌≡◌, List, [], ◌∷◌, ◌++◌, Option, Some, None, inl, inr, refl, sym, ◌∙◌, ap, subst, append_assoc, append-nil}
 use Rattle.std.proofs.lemmas.Bool.{cases_Bool, cond-true, cond-false}
+use Rattle.sc_base.specs.Among.{Among}
 use Rattle.sc_base.specs.Same.{same_draw}
 use Rattle.sc_base.specs.declared.names.Draw.{Draw}
 use Rattle.sc_base.proofs.NameLemmas.{draw_is, same_name}
@@ -10,7 +11,7 @@ use Rattle.sc_actor.specs.declared.rows.Row.{Row}
 use Rattle.sc_node_table.specs.Replica.{either}
 use Rattle.sc_players.specs.Players.{Ahead}
 use Rattle.sc_scenario.specs.declared.scenarios.Scenario.{Scenario}
-use Rattle.sc_draws_law.specs.Owners.{Rows, Owned, drawn_at, owner_by, owner_from, owner_in}
+use Rattle.sc_draws_law.specs.Owners.{Rows, Owned, owned_by, drawn_at, owner_by, owner_from, owner_in}
 use Rattle.sc_draws_law.specs.Laws.{IsDrawn, OwnersStay, OwnedNamesAreDrawn}
 
 either_assoc : {X : Type 0} (a b c : Option X) → either a (either b c) ≡ either (either a b) c
@@ -21,26 +22,26 @@ either_none : {X : Type 0} (a : Option X) → either a None ≡ a
 either_none None = refl
 either_none (Some x) = refl
 
--- a drawn name is owned by its group
-pub owner_of_drawn : (owned : Owned) → owner_by (Some owned) owned.name ≡ Some owned.group
-owner_of_drawn owned = cond-true (same_draw owned.name owned.name) (Some owned.group) None (same_name owned.name owned.name refl)
+-- the first of drawn names is owned by its group
+pub owner_of_drawn : (owned : Owned) (more : List Owned) → owner_by (owned ∷ more) owned.name ≡ Some owned.group
+owner_of_drawn owned more = cond-true (same_draw owned.name owned.name) (Some owned.group) (owner_by more owned.name) (same_name owned.name owned.name refl)
 
 -- and no other by it
-pub owner_of_other : (owned : Owned) (name : Draw) → (owned.name ≡ name → ⊥) → owner_by (Some owned) name ≡ None
-owner_of_other owned name apart = elim (cases_Bool (same_draw owned.name name)) [
+pub owner_of_other : (owned : Owned) (more : List Owned) (name : Draw) → (owned.name ≡ name → ⊥) → owner_by (owned ∷ more) name ≡ owner_by more name
+owner_of_other owned more name apart = elim (cases_Bool (same_draw owned.name name)) [
   | inl t ↦ absurd (apart (draw_is owned.name name t))
-  | inr f ↦ cond-false (same_draw owned.name name) (Some owned.group) None f
+  | inr f ↦ cond-false (same_draw owned.name name) (Some owned.group) (owner_by more name) f
 ]
 
 -- who owns a name by what was drawn
-pub owner_was_drawn : (drawn : Option Owned) (name group : Draw) → owner_by drawn name ≡ Some group → drawn ≡ Some (record { name = name; group = group })
-owner_was_drawn None name group e = cc
-owner_was_drawn (Some owned) name group e = elim (cases_Bool (same_draw owned.name name)) [
-  | inl t ↦ (let is : owned.name ≡ name = draw_is owned.name name t in
-      let same : Some owned.group ≡ Some group = sym (cond-true (same_draw owned.name name) (Some owned.group) None t) ∙ e in
+pub owner_was_drawn : (drawn : List Owned) (name group : Draw) → owner_by drawn name ≡ Some group → Among (owned_by name group) drawn
+owner_was_drawn [] name group e = cc
+owner_was_drawn (owned ∷ more) name group e = elim (cases_Bool (same_draw owned.name name)) [
+  | inl t ↦ inl (let is : owned.name ≡ name = draw_is owned.name name t in
+      let same : Some owned.group ≡ Some group = sym (cond-true (same_draw owned.name name) (Some owned.group) (owner_by more name) t) ∙ e in
       let group_is : owned.group ≡ group = cc in
-      ap (λ (n : Draw). Some (record { name = n; group = owned.group })) is ∙ ap (λ (g : Draw). Some (record { name = name; group = g })) group_is)
-  | inr f ↦ (let none : None ≡ Some group = sym (cond-false (same_draw owned.name name) (Some owned.group) None f) ∙ e in absurd (cc))
+      ap (λ (n : Draw). owned_by n owned.group) is ∙ ap (λ (g : Draw). owned_by name g) group_is)
+  | inr f ↦ inr (owner_was_drawn more name group (sym (cond-false (same_draw owned.name name) (Some owned.group) (owner_by more name) f) ∙ e))
 ]
 
 module _ (ahead : Ahead) (scenario : Scenario) where

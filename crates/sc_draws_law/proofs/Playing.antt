@@ -8,7 +8,7 @@ use Rattle.sc_base.specs.Arc.{end_of}
 use Rattle.sc_base.specs.Operation.{key_of}
 use Rattle.sc_base.specs.Same.{same_draw}
 use Rattle.sc_base.specs.Text.{pos_of}
-use Rattle.sc_base.specs.Drawing.{next_name}
+use Rattle.sc_base.specs.Drawing.{Drawer, next_name}
 use Rattle.sc_base.specs.declared.names.Draw.{Draw}
 use Rattle.sc_base.specs.declared.ops.Op.{Op}
 use Rattle.sc_actor.specs.declared.rows.Input.{Input}
@@ -30,11 +30,13 @@ use Rattle.sc_mail.specs.declared.bodies.MailBody.TheVariants.{Request, Answer, 
 use Rattle.sc_node_table.specs.Births.{mailed_children}
 use Rattle.sc_node_table.specs.Node.{NodeState, replica_of, with_replica, is_before, with_new, group_of_mail, absent, with_made, unknown, may_come, with_born, with_children, taken_by, routed, on_mail, group_of_order, ordered_of, ticked, node_table}
 use Rattle.sc_node_table.specs.Ordering.{takes_name, untaken, ordered_row}
+use Rattle.sc_node_table.specs.Policy.{names_after_tick}
 use Rattle.sc_node_table.specs.Replica.{ReplicaState, Place, name_of, born_replica, last_slot}
 use Rattle.sc_node_table.specs.Rows.{tick_row, made_by, mailed}
 use Rattle.sc_node_table.specs.Slots.{slots_ahead}
 use Rattle.sc_paxos_words.proofs.ListLemmas.{Each-append}
 use Rattle.sc_draws_law.specs.Names.{Opt, CoreNames, AnswerNames, BodiesNames, MailNames, ReplicaNames, NodeNames, ClientNames}
+use Rattle.sc_draws_law.specs.Owners.{Owned, waited, wished_at, drawn_wishing, drawn_ticking}
 use Rattle.sc_draws_law.proofs.Lists.{opt_find, opt_map}
 use Rattle.sc_draws_law.proofs.Machine.{either_way}
 use Rattle.sc_draws_law.proofs.Sent.{Sent, sent_names}
@@ -45,6 +47,9 @@ use Rattle.sc_draws_law.proofs.Stepping.{made_names, tick_names, mailed_names, m
 module _ (K : Draw → Type 0) where
   abbrev Rs : List ReplicaState → Type 0
   Rs replicas = Each (ReplicaNames K) replicas
+
+  abbrev Drawn : List Owned → Type 0
+  Drawn drawn = Each (λ (owned : Owned). K owned.name) drawn
 
   -- ---- a node
 
@@ -129,24 +134,31 @@ module _ (K : Draw → Type 0) where
       let f : Fine K (ordered_row node.draws line (replica, [])) = ordered_row_names K node.draws line (replica, []) (λ taken. order_names K (next_name node.draws) line.number line.order (λ named. d replica refl taken named)) (r, tt) in
       (put_names (group_of_order line.order) (ordered_row node.draws line (replica, [])).0 node.replicas f.0 k, f.1)
 
-  ticked_names : (replicas : List ReplicaState) (mails : List Mail) → Rs replicas → Sent K mails → Rs (ticked replicas mails).0 × Sent K (ticked replicas mails).1
+  -- whatever each of two lists has
+  each_parts : (first later : List Owned) → Drawn (first ++ later) → Drawn first × Drawn later
+  each_parts [] later d = (tt, d)
+  each_parts (owned ∷ first) later d = (let parts = each_parts first later d.1 in ((d.0, parts.0), parts.1))
+
+  ticked_names : (on : Bool) (drawer : Drawer) (replicas : List ReplicaState) (mails : List Mail) → Drawn (drawn_ticking on drawer replicas) → Rs replicas → Sent K mails
+      → Rs (ticked on drawer replicas mails).0 × Sent K (ticked on drawer replicas mails).1
   unfolding ticked
-  ticked_names [] mails k m = (tt, m)
-  ticked_names (r ∷ replicas) mails k m =
-      let f : Fine K (tick_row (r, mails)) = tick_names K (r, mails) (k.0, m) in
-      let others = ticked_names replicas (tick_row (r, mails)).1 k.1 f.1 in
+  ticked_names on drawer [] mails d k m = (tt, m)
+  ticked_names on drawer (r ∷ replicas) mails d k m =
+      let parts = each_parts (drawn_wishing drawer (wished_at on r) (waited r)) (drawn_ticking on (names_after_tick on drawer r) replicas) d in
+      let f : Fine K (tick_row on drawer (r, mails)) = tick_names K on drawer r mails parts.0 (k.0, m) in
+      let others = ticked_names on (names_after_tick on drawer r) replicas (tick_row on drawer (r, mails)).1 parts.1 k.1 f.1 in
       ((f.0, others.0), others.1)
 
   -- what an input brings
   abbrev pub Brings : NodeState → Input Mail OrderLine → Type 0
   Brings node (Got mail) = MailNames K mail
-  Brings node Tick = Unit {0}
+  Brings node Tick = Drawn (drawn_ticking node.policy node.draws node.replicas)
   Brings node Go = Unit {0}
   Brings node (Told line) = (r : ReplicaState) → replica_of (group_of_order line.order) node.replicas ≡ Some r → untaken node.draws line r ≡ None → takes_name line.order ≡ true → K (next_name node.draws)
 
   pub node_names : (node : NodeState) (input : Input Mail OrderLine) → Brings node input → NodeNames K node → NodeStep (node_table node input)
   node_names node (Got mail) b k = mail_names mail.from mail.body node b.body k
-  node_names node Tick b k = ticked_names node.replicas [] k tt
+  node_names node Tick b k = ticked_names node.policy node.draws node.replicas [] b k tt
   node_names node Go b k = (k, tt)
   node_names node (Told line) b k = order_by (replica_of (group_of_order line.order) node.replicas) line node refl (of_group (group_of_order line.order) node k) b k
 

@@ -1,6 +1,8 @@
 -- All rows of a replica's table, and the children of a mail.
-use Rattle.std.proofs.Common.{◌≡◌, ℕ, ◌+◌, ◌-◌, ◌&&◌, ◌||◌, not, nat_le, nat_lt, eqb, Bool, true, cond, List, [], ◌∷◌, ◌++◌, length, find, Option, Some, None, refl}
-use Rattle.std.specs.Prelude.{is_some}
+use Rattle.std.proofs.Common.{◌≡◌, ℕ, ◌+◌, ◌-◌, ◌&&◌, ◌||◌, not, nat_le, nat_lt, eqb, Bool, true, cond, List, [], ◌∷◌, ◌++◌, length, find, Option, Some, None, refl, ap, subst, ◌∙◌}
+use Rattle.std.specs.Prelude.{is_some, is_none}
+use Rattle.std.proofs.lemmas.Bool.{and_from, cond-true, cond-false, cond_both}
+use Rattle.sc_base.specs.Among.{Each}
 use Rattle.sc_base.specs.Same.{same_draw}
 use Rattle.sc_base.specs.Drawing.{Drawer, next_name}
 use Rattle.sc_base.specs.declared.names.Draw.{Draw}
@@ -45,6 +47,8 @@ use Rattle.sc_node_table.specs.Execute.{looked}
 use Rattle.sc_node_table.specs.Install.{named, jumped}
 use Rattle.sc_node_table.specs.Mails.{sent_all}
 use Rattle.sc_node_table.specs.Ordering.{ordered_command, takes_name, has_drawn_all, named_refused, first_of_both, untaken, taken_or_told, ordered_row}
+use Rattle.sc_node_table.specs.Node.{group_of_order}
+use Rattle.sc_node_table.specs.Policy.{wished_line, with_command, with_line, wishing}
 use Rattle.sc_node_table.specs.Pump.{pumped, serves_calls}
 use Rattle.sc_node_table.specs.Questions.{asked_link, question}
 use Rattle.sc_node_table.specs.Queues.{call_of, without_call}
@@ -52,6 +56,7 @@ use Rattle.sc_node_table.specs.Reminders.{patience, one_tick_more, waited_in, re
 use Rattle.sc_node_table.specs.Rows.{call_refusal, refused_at, queued, requested, request_row, looked_up, took_over, install_row, made_by, uncounted, asked_again, told_last, tick_row, mailed}
 use Rattle.sc_node_table.specs.Transactions.{noted_vote, noted_outcome, gone_vote, standing_by, standing_vote, sent_elsewhere, offered_by, offer_row, watched_by, watch_row, awaits_vote, awaits_watch, vote_queued, vote_met, vote_row, watch_queued, watch_met, watched_row, next_asked, asked_next, elsewhere_row, is_bound, outcome_row}
 use Rattle.sc_draws_law.specs.Names.{Opt, OfferNames, WatchNames, VoteNames, PastNames, OutcomeNames, LockNames, CoreNames, CommandNames, RefusalNames, AnswerNames, BodiesNames, ReplicaNames}
+use Rattle.sc_draws_law.specs.Owners.{Owned, owned_by, drawn_for, waited, wished_at, drawn_wishing}
 use Rattle.sc_draws_law.proofs.Lists.{opt_find, opt_map}
 use Rattle.sc_draws_law.proofs.Machine.{either_way, refusal_names}
 use Rattle.sc_draws_law.proofs.Sent.{Sent, sent_names, sent_all_names, sent_others_names, question_names, voted_to_names, watched_to_names, outcome_names}
@@ -169,15 +174,6 @@ module _ (K : Draw → Type 0) where
   reminded_names : (place : Place) → F place → F (reminded place)
   unfolding reminded
   reminded_names (r, mails) f = (waited_names r.group.core.lock r f.0.core.lock f.0, reminder_names r.group.core.lock r.me r.group mails f.0.core.lock f.0.core f.1)
-
-  pub tick_names : (place : Place) → F place → F (tick_row place)
-  unfolding tick_row
-  tick_names (r, mails) f =
-      either_way F (is_some r.group.core.gone || not (is_member (members r) r.me)) (r, mails) _ f
-      (either_way F (not (settled r)) (elected (r, mails)) _ (elected_names K (r, mails) f)
-      (either_way F (is_idle r) (pumped (reminded (r, told_last (entry_at (next r - 1) r.log) r mails))) (pumped (reminded (r, asked_again r (next r) r.sets mails)))
-      (pumped_names K (reminded (r, told_last (entry_at (next r - 1) r.log) r mails)) (reminded_names (r, told_last (entry_at (next r - 1) r.log) r mails) (f.0, last_names (entry_at (next r - 1) r.log) r mails (held_names K (next r - 1) r f.0) f.0 f.1)))
-      (pumped_names K (reminded (r, asked_again r (next r) r.sets mails)) (reminded_names (r, asked_again r (next r) r.sets mails) (f.0, again_names r (next r) r.sets mails f.0 f.1)))))
 
   -- ---- the parties of a transaction
 
@@ -311,6 +307,42 @@ module _ (K : Draw → Type 0) where
   order_names name number (An.Merge group) n = (n refl, tt)
   order_names name number (An.Repart group at) n = (n refl, tt)
   order_names name number (An.Migrate group node) n = (n refl, tt)
+
+  -- ---- Tick, with what a policy orders
+
+  command_names : (o : Option OrderRefusal) (command : Command) (r : ReplicaState) → (o ≡ None → CommandNames K command) → R r → R (with_command o command r)
+  command_names None command r c k = with_calls r (r.calls ++ command ∷ []) (Each-append (CommandNames K) r.calls (command ∷ []) k.calls (c refl, tt)) k
+  command_names (Some why) command r c k = k
+
+  -- what is drawn for an order, if it is taken and takes a name
+  drawn_name : (drawer : Drawer) (line : OrderLine) (r : ReplicaState) → Each (λ (owned : Owned). K owned.name) (drawn_for drawer line (Some r)) → untaken drawer line r ≡ None → takes_name line.order ≡ true → K (next_name drawer)
+  drawn_name drawer line r d taken named =
+      let yes = and_from (takes_name line.order) (is_none (untaken drawer line r)) named (ap (λ (o : Option OrderRefusal). is_none o) taken) in
+      (subst (Each (λ (owned : Owned). K owned.name)) (cond-true (takes_name line.order && is_none (untaken drawer line r)) (owned_by (next_name drawer) (group_of_order line.order) ∷ []) [] yes) d).0
+
+  line_names : (drawer : Drawer) (o : Option OrderLine) (r : ReplicaState) → Each (λ (owned : Owned). K owned.name) (drawn_wishing drawer o r) → R r → R (with_line drawer o r)
+  line_names drawer None r d k = k
+  line_names drawer (Some line) r d k =
+      command_names (untaken drawer line r) (ordered_command (next_name drawer) line.number line.order) r (λ taken. order_names (next_name drawer) line.number line.order (drawn_name drawer line r d taken)) k
+
+  wishing_names : (on : Bool) (drawer : Drawer) (place : Place) → Each (λ (owned : Owned). K owned.name) (drawn_wishing drawer (wished_line on place.0) place.0) → F place → F (wishing on drawer place)
+  unfolding wishing
+  wishing_names on drawer (r, mails) d f = (line_names drawer (wished_line on r) r d f.0, f.1)
+
+  pub tick_names : (on : Bool) (drawer : Drawer) (r : ReplicaState) (mails : List Mail) → Each (λ (owned : Owned). K owned.name) (drawn_wishing drawer (wished_at on r) (waited r)) → F (r, mails) → F (tick_row on drawer (r, mails))
+  unfolding tick_row reminded
+  tick_names on drawer r mails d f =
+      cond_both (is_some r.group.core.gone || not (is_member (members r) r.me)) (r, mails) _ F (λ _. f)
+      (λ here. cond_both (not (settled r)) (elected (r, mails)) _ F (λ _. elected_names K (r, mails) f)
+      (λ leads. (
+      let line = wished_line on (waited r) in
+      let orders : wished_at on r ≡ line = cond-false (is_some r.group.core.gone || not (is_member (members r) r.me)) None (cond (not (settled r)) None line) here ∙ cond-false (not (settled r)) None line leads in
+      let drawn = subst (λ (o : Option OrderLine). Each (λ (owned : Owned). K owned.name) (drawn_wishing drawer o (waited r))) orders d in
+      let told = told_last (entry_at (next r - 1) r.log) r mails in
+      let again = asked_again r (next r) r.sets mails in
+      either_way F (is_idle r) (pumped (wishing on drawer (reminded (r, told)))) (pumped (wishing on drawer (reminded (r, again))))
+      (pumped_names K (wishing on drawer (reminded (r, told))) (wishing_names on drawer (reminded (r, told)) drawn (reminded_names (r, told) (f.0, last_names (entry_at (next r - 1) r.log) r mails (held_names K (next r - 1) r f.0) f.0 f.1))))
+      (pumped_names K (wishing on drawer (reminded (r, again))) (wishing_names on drawer (reminded (r, again)) drawn (reminded_names (r, again) (f.0, again_names r (next r) r.sets mails f.0 f.1)))))))
 
   -- ---- all mail
 

@@ -50,4 +50,4 @@ NamesAreDrawn = (ahead : Ahead) (words : ℕ → ℕ → ℕ × ℕ) (scenario :
 -- a name that a row draws was nowhere before it
 abbrev pub DrawnNamesAreNew : Type 0
 DrawnNamesAreNew = (ahead : Ahead) (words : ℕ → ℕ → ℕ × ℕ) (scenario : Scenario) → Each BeginsUndrawn scenario.groups → (before : Rows) → Lawful ahead words scenario before
-    → (row : Row Mail OrderLine) (owned : Owned) → drawn_at ahead scenario before row ≡ Some owned → AllNames (λ name. name ≡ owned.name → ⊥) ahead scenario before × AllDecided (λ name. name ≡ owned.name → ⊥) ahead scenario before
+    → (row : Row Mail OrderLine) (owned : Owned) → Among owned (drawn_at ahead scenario before row) → AllNames (λ name. name ≡ owned.name → ⊥) ahead scenario before × AllDecided (λ name. name ≡ owned.name → ⊥) ahead scenario before

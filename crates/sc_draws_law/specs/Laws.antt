@@ -1,5 +1,9 @@
 -- Each name is drawn once, for one group, and what an order queues is allowed by the owner of its name.
-use Rattle.std.specs.Prelude.{List, [], ◌≡◌, ℕ, ◌<◌, ◌≤◌, ◌^◌, ◌∷◌, ◌++◌, Some, None}
+use Rattle.std.specs.List.{AllPairs}
+use Rattle.std.specs.Prelude.{Bool, List, [], ◌≡◌, ℕ, ◌<◌, ◌≤◌, ◌^◌, ◌∷◌, ◌++◌, Some, None}
+use Rattle.std.specs.FinMap.{entries}
+use Rattle.sc_base.specs.Among.{Among, Each}
+use Rattle.sc_base.specs.Text.{pos_of}
 use Rattle.sc_base.specs.Drawing.{Drawer, next_name}
 use Rattle.sc_base.specs.declared.names.Draw.{Draw}
 use Rattle.sc_base.specs.declared.ops.Op.{Op}
@@ -8,18 +12,18 @@ use Rattle.sc_cmd.specs.declared.orders.Order.TheVariants as An
 use Rattle.sc_cmd.specs.declared.orders.OrderLine.{OrderLine}
 use Rattle.sc_mail.specs.declared.bodies.Mail.{Mail}
 use Rattle.sc_actor.specs.declared.rows.Row.{Row}
-use Rattle.sc_actor.specs.declared.rows.Event.TheVariants.{Told}
+use Rattle.sc_actor.specs.declared.rows.Event.TheVariants.{Tick, Told}
 use Rattle.sc_actor.specs.Replay.{value}
-use Rattle.sc_node_table.specs.Node.{NodeState, replica_of, group_of_order}
+use Rattle.sc_node_table.specs.Node.{NodeState, replica_of, group_of_order, names_after_ticks}
 use Rattle.sc_node_table.specs.Ordering.{ordered_command, untaken, ordered_row}
 use Rattle.sc_node_table.specs.Pump.{pumped}
-use Rattle.sc_node_table.specs.Replica.{ReplicaState}
+use Rattle.sc_node_table.specs.Replica.{ReplicaState, name_of}
 use Rattle.sc_players.specs.Players.{Ahead, player_table, node_seat}
 use Rattle.sc_players.specs.declared.roles.Role.TheVariants.{Node}
 use Rattle.sc_scenario.specs.declared.scenarios.Scenario.{Scenario}
 use Rattle.sc_ring_law.specs.Allowed.{IsAllowed}
 use Rattle.sc_ring_law.specs.Stories.{Stories}
-use Rattle.sc_draws_law.specs.Owners.{Rows, Owned, drawn_at, owner_in}
+use Rattle.sc_draws_law.specs.Owners.{Rows, Owned, owned_by, waited, wished_at, drawn_at, owner_in}
 
 -- ---- owners
 
@@ -29,16 +33,20 @@ OwnersStay = (ahead : Ahead) (scenario : Scenario) (rows more : Rows) (name grou
 
 -- a name that a row draws had no owner before it, and has the row's from then on
 abbrev pub DrawnNamesAreOwned : Type 0
-DrawnNamesAreOwned = (ahead : Ahead) (scenario : Scenario) (before : Rows) (row : Row Mail OrderLine) (later : Rows) (owned : Owned) → drawn_at ahead scenario before row ≡ Some owned
+DrawnNamesAreOwned = (ahead : Ahead) (scenario : Scenario) (before : Rows) (row : Row Mail OrderLine) (later : Rows) (owned : Owned) → Among owned (drawn_at ahead scenario before row)
     → (owner_in ahead scenario before owned.name ≡ None) × (owner_in ahead scenario (before ++ row ∷ later) owned.name ≡ Some owned.group)
 
--- the row that drew a name for a group
+-- a row that drew a name for a group
 pub record IsDrawn (ahead : Ahead) (scenario : Scenario) (rows : Rows) (name group : Draw) : Type 0 where
   pub before : Rows
   pub row : Row Mail OrderLine
   pub later : Rows
   pub are : rows ≡ before ++ row ∷ later
-  pub drawn : drawn_at ahead scenario before row ≡ Some (record { name = name; group = group })
+  pub drawn : Among (owned_by name group) (drawn_at ahead scenario before row)
+
+-- no row draws a name twice
+abbrev pub RowsDrawOnce : Type 0
+RowsDrawOnce = (ahead : Ahead) (scenario : Scenario) (before : Rows) (row : Row Mail OrderLine) → AllPairs (λ (one other : Owned). one.name ≡ other.name → ⊥) (drawn_at ahead scenario before row)
 
 -- a name that has an owner was drawn for it in a row
 abbrev pub OwnedNamesAreDrawn : Type 0
@@ -60,7 +68,7 @@ pub record HasNames (ahead : Ahead) (scenario : Scenario) (rows : Rows) (n : ℕ
 
 -- each node of a scenario has names so
 abbrev pub NodesHaveNames : Type 0
-NodesHaveNames = (ahead : Ahead) (scenario : Scenario) (rows : Rows) (n : ℕ) → 1 ≤ n → n ≤ scenario.nodes → (node : NodeState) → value player_table (node_seat ahead scenario.groups n) rows ≡ Node node → HasNames ahead scenario rows n node
+NodesHaveNames = (ahead : Ahead) (scenario : Scenario) (rows : Rows) (n : ℕ) → 1 ≤ n → n ≤ scenario.nodes → (node : NodeState) → value player_table (node_seat ahead scenario.groups scenario.policy n) rows ≡ Node node → HasNames ahead scenario rows n node
 
 -- ---- orders
 
@@ -77,7 +85,7 @@ IsAtPosition (An.Migrate group node) = Unit {0}
 pub record TakesOrder (ahead : Ahead) (scenario : Scenario) (before : Rows) (row : Row Mail OrderLine) (line : OrderLine) (node : NodeState) (r : ReplicaState) : Type 0 where
   pub low : 1 ≤ row.who
   pub high : row.who ≤ scenario.nodes
-  pub value_is : value player_table (node_seat ahead scenario.groups row.who) before ≡ Node node
+  pub value_is : value player_table (node_seat ahead scenario.groups scenario.policy row.who) before ≡ Node node
   pub event_is : row.event ≡ Told line
   pub found : replica_of (group_of_order line.order) node.replicas ≡ Some r
   pub taken : untaken node.draws line r ≡ None
@@ -92,3 +100,29 @@ abbrev pub TakenOrdersAreAllowed : Type 0
 TakenOrdersAreAllowed = (ahead : Ahead) (scenario : Scenario) (before : Rows) (row : Row Mail OrderLine) (later : Rows) (line : OrderLine) (node : NodeState) (r : ReplicaState)
     → TakesOrder ahead scenario before row line node r → IsAtPosition line.order → (request : ℕ → ℕ → Op) (stories : Stories)
     → IsAllowed (record { owner = owner_in ahead scenario (before ++ row ∷ later); request = request }) stories (group_of_order line.order) (ordered_command (next_name node.draws) line.number line.order)
+
+-- ---- policies
+
+-- the keys of pairs lie at positions of the ring
+abbrev pub LieAtPositions : List (List ℕ × List ℕ) → Type 0
+LieAtPositions pairs = Each (λ (pair : List ℕ × List ℕ). pos_of pair.0 < 2 ^ 32) pairs
+
+-- what a policy orders is at a position, where the keys of the replica's group are
+abbrev pub WishesAreAtPositions : Type 0
+WishesAreAtPositions = (on : Bool) (r : ReplicaState) (line : OrderLine) → wished_at on r ≡ Some line → LieAtPositions (entries r.group.pairs) → IsAtPosition line.order
+
+-- the row after these is a tick of a node at which a replica takes what its policy orders, with the names that the replicas before it left
+pub record TakesWish (ahead : Ahead) (scenario : Scenario) (before : Rows) (row : Row Mail OrderLine) (line : OrderLine) (node : NodeState) (older newer : List ReplicaState) (r : ReplicaState) : Type 0 where
+  pub low : 1 ≤ row.who
+  pub high : row.who ≤ scenario.nodes
+  pub value_is : value player_table (node_seat ahead scenario.groups scenario.policy row.who) before ≡ Node node
+  pub event_is : row.event ≡ Tick
+  pub replicas_are : node.replicas ≡ older ++ r ∷ newer
+  pub wished : wished_at node.policy r ≡ Some line
+  pub taken : untaken (names_after_ticks node.policy node.draws older) line (waited r) ≡ None
+
+-- the command that is queued for what a policy orders is allowed in the log of its replica's group, as that of an order
+abbrev pub TakenWishesAreAllowed : Type 0
+TakenWishesAreAllowed = (ahead : Ahead) (scenario : Scenario) (before : Rows) (row : Row Mail OrderLine) (later : Rows) (line : OrderLine) (node : NodeState) (older newer : List ReplicaState) (r : ReplicaState)
+    → TakesWish ahead scenario before row line node older newer r → IsAtPosition line.order → (request : ℕ → ℕ → Op) (stories : Stories)
+    → IsAllowed (record { owner = owner_in ahead scenario (before ++ row ∷ later); request = request }) stories (name_of r) (ordered_command (next_name (names_after_ticks node.policy node.draws older)) line.number line.order)

@@ -1,5 +1,6 @@
 //! Whose each name is: every name that a node draws is drawn once, in one row, for one group, and
-//! is new when it is drawn, whatever orders a journal tells. Definitions and laws, no logic.
+//! is new when it is drawn, whatever orders a journal tells and policies make. Definitions and
+//! laws, no logic.
 #![tactic(auto)]
 
 ghost use Rattle.std.specs.Prelude.{◌≡◌, Some, None};
@@ -26,20 +27,25 @@ ghost use Rattle.sc_draws_law.specs.Laws.{
   DrawnNamesAreOwned,
   NodesHaveNames,
   TakenOrdersAreAllowed,
+  TakenWishesAreAllowed,
+  WishesAreAtPositions,
   OrdersAreQueued,
   OtherNamesAreFree,
   OwnedNamesAreDrawn,
   OwnedNamesAreOfNodes,
   OwnersStay,
+  RowsDrawOnce,
 };
 
-/// The name that a row draws had no owner before it, and is owned by the order's group from then
-/// on, whatever rows come later. So one function, that of a whole journal, gives at each first part
-/// of it the owner of each name that was drawn so far. A name that has an owner was drawn for it in
-/// one row, by a node of the scenario.
+/// The names that a row draws, for an order or for what policies order, differ and had no owner
+/// before it, and are owned by the orders' groups from then on, whatever rows come later. So one
+/// function, that of a whole journal, gives at each first part of it the owner of each name that
+/// was drawn so far. A name that has an owner was drawn for it in one row, by a node of the
+/// scenario.
 pub fn names_have_one_owner()
     ensures stay { OwnersStay }
     ensures drawn { DrawnNamesAreOwned }
+    ensures once { RowsDrawOnce }
     ensures rows { OwnedNamesAreDrawn }
     ensures nodes { OwnedNamesAreOfNodes }
     ensures others { OtherNamesAreFree }
@@ -53,9 +59,13 @@ pub fn counters_part_names()
 
 /// The command that a replica queues for an order that it takes is allowed in the log of its group:
 /// the child of a split, and a transaction that is begun, is a name that the group owns, and a
-/// boundary is a position. It waits last, and the pump is tried.
+/// boundary is a position. It waits last, and the pump is tried. So is the command that a tick
+/// queues for what a policy orders, whose place is a position where the keys of the group lie at
+/// such.
 pub fn orders_are_allowed()
     ensures allowed { TakenOrdersAreAllowed }
+    ensures wishes { TakenWishesAreAllowed }
+    ensures positions { WishesAreAtPositions }
     ensures queued { OrdersAreQueued }
 {}
 

@@ -181,7 +181,7 @@ module _ {A M O : Type 0} {g : Ghosts A M O} {h : MailGhosts M} where
 
   module _ (net mid next : Port M O h) (ss after : List (Shell A M O g h)) (together : IsTogether net ss) (looked : Looked net mid) (len : length after ≡ length ss) (still : AllStill ss after) (looked2 : Looked mid next) (same : crew_numbers after ≡ crew_numbers ss) where
     -- nothing was made meanwhile
-    nothing_more : (births : List (Seat A)) → Company births next after → seen next ≡ seen mid
+    pub nothing_more : (births : List (Seat A)) → Company births next after → seen next ≡ seen mid
     nothing_more births c =
         let first : net.who ≡ 0 = together.crew.first in
         let all = looked.stays.given in

@@ -18,3 +18,4 @@ pub mod Seats
 pub mod Closed
 pub mod Crashes
 pub mod FirstCopies
+pub mod StormSteps

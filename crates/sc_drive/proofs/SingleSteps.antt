@@ -15,7 +15,7 @@ use Rattle.sc_actor.specs.declared.schedules.Line.TheVariants.{Go as GoLine, Del
 use Rattle.sc_actor.specs.Mail.{mails, numbered, has_crashed, may_get}
 use Rattle.sc_actor.specs.Counted.{journal_bytes, IsFull}
 use Rattle.sc_actor.specs.System.{System, system, numbers_of, row_of, acts, waiting, kth, network, has_gone, is_go}
-use Rattle.sc_actor.specs.Walk.{Once, line_row, line_task}
+use Rattle.sc_actor.specs.Walk.{Once, line_row}
 use Rattle.sc_actor.proofs.WalkLemmas.{Stands, Stands-over, Stands-row, Stands-next}
 use Rattle.sc_ledger.proofs.Kept.{bytes-push}
 use Rattle.sc_exchange.specs.declared.ports.Port.{Port}
@@ -187,16 +187,3 @@ calm_else (ToldLine who order) go settle free storm = tt
 calm_else (Settle most) go settle free storm = settle most refl
 calm_else (Free most workers) go settle free storm = free most workers refl
 calm_else (Storm number most) go settle free storm = storm number most refl
-
--- a line that is calm is one row
-pub calm_task : {O : Type 0} (line : Line O) → IsCalm line → Once line ≡ line_task line
-calm_task (GoLine who) calm = absurd calm
-calm_task (DeliverLine who k) calm = refl
-calm_task (DropLine who k) calm = refl
-calm_task (AgainLine mail) calm = refl
-calm_task (TickLine who) calm = refl
-calm_task (CrashLine who) calm = refl
-calm_task (ToldLine who order) calm = refl
-calm_task (Settle most) calm = absurd calm
-calm_task (Free most workers) calm = absurd calm
-calm_task (Storm number most) calm = absurd calm

@@ -1,5 +1,5 @@
 -- A schedule from its first line to its last.
-use Rattle.std.proofs.Common.{◌≡◌, ℕ, suc, ◌+◌, ◌<◌, ◌≤◌, Bool, true, false, List, [], ◌∷◌, length, get_or, drop, drop_of_length-le, refl, sym, ap, ◌∙◌, subst, arith, Option, Some, None}
+use Rattle.std.proofs.Common.{◌≡◌, ℕ, suc, ◌+◌, ◌<◌, ◌≤◌, Bool, false, List, [], ◌∷◌, length, get_or, drop, drop_of_length-le, refl, sym, ap, ◌∙◌, subst, arith, Option, Some, None}
 use Rattle.std.specs.Prelude.{is_none}
 use Rattle.std.specs.List.{flat_map}
 use Rattle.sc_actor.specs.declared.actors.Actor.{Ghosts}
@@ -10,7 +10,7 @@ use Rattle.sc_actor.specs.declared.schedules.Line.{Line}
 use Rattle.sc_actor.specs.Counted.{journal_bytes, IsFull}
 use Rattle.sc_actor.specs.Replay.{value, values}
 use Rattle.sc_actor.specs.System.{system, numbers_of, has_gone}
-use Rattle.sc_actor.specs.Walk.{IsLawful, IsWhole, tasks_of, skipped, unsettled, is_quiet, has_one_task, line_task}
+use Rattle.sc_actor.specs.Walk.{IsLawful, IsWhole, tasks_of, skipped, unsettled, is_quiet}
 use Rattle.sc_actor.proofs.WalkLemmas.{Stands, Stands-begin, Stands-whole}
 use Rattle.sc_exchange.specs.declared.ports.Port.{Port}
 use Rattle.sc_exchange.specs.Ports.{seen}
@@ -56,17 +56,17 @@ module _ {A M O : Type 0} {g : Ghosts A M O} {h : MailGhosts M} where
         }
 
     -- past a line
-    pub drive_on : (net next : Port M O h) (ss after : List (Shell A M O g h)) (score now : Score) (i : ℕ) (line : Line O) → i < length lines → line ≡ get_or lines i line → has_one_task line ≡ true → HasReached words births lines net ss score (flat_map (tasks_of words) (drop i lines)) →
-        Goes net ss score (line_task line ∷ []) next after now [] → HasReached words births lines next after now (flat_map (tasks_of words) (drop (i + 1) lines))
-    drive_on net next ss after score now i line lt is built at goes =
-        goes words births lines (flat_map (tasks_of words) (drop (i + 1) lines)) (subst (λ ts. HasReached words births lines net ss score ts) (split words lines i line lt is built) at)
+    pub drive_on : (net next : Port M O h) (ss after : List (Shell A M O g h)) (score now : Score) (i : ℕ) (line : Line O) → i < length lines → line ≡ get_or lines i line → HasReached words births lines net ss score (flat_map (tasks_of words) (drop i lines)) →
+        Goes net ss score (tasks_of words line) next after now [] → HasReached words births lines next after now (flat_map (tasks_of words) (drop (i + 1) lines))
+    drive_on net next ss after score now i line lt is at goes =
+        goes words births lines (flat_map (tasks_of words) (drop (i + 1) lines)) (subst (λ ts. HasReached words births lines net ss score ts) (split words lines i line lt is) at)
 
     -- to a row that passes the limit
-    pub drive_fills : (start net next : Port M O h) (ss : List (Shell A M O g h)) (score : Score) (i : ℕ) (line : Line O) → net.limit ≡ start.limit → i < length lines → line ≡ get_or lines i line → has_one_task line ≡ true → HasReached words births lines net ss score (flat_map (tasks_of words) (drop i lines)) →
-        Fills net ss score (line_task line ∷ []) next → IsFull (system g.table h.receiver words births) h.weighs lines start.limit (seen next)
-    drive_fills start net next ss score i line limit lt is built at fills =
+    pub drive_fills : (start net next : Port M O h) (ss : List (Shell A M O g h)) (score : Score) (i : ℕ) (line : Line O) → net.limit ≡ start.limit → i < length lines → line ≡ get_or lines i line → HasReached words births lines net ss score (flat_map (tasks_of words) (drop i lines)) →
+        Fills net ss score (tasks_of words line) next → IsFull (system g.table h.receiver words births) h.weighs lines start.limit (seen next)
+    drive_fills start net next ss score i line limit lt is at fills =
         subst (λ n. IsFull (system g.table h.receiver words births) h.weighs lines n (seen next)) limit
-        (fills words births lines (flat_map (tasks_of words) (drop (i + 1) lines)) (subst (λ ts. HasReached words births lines net ss score ts) (split words lines i line lt is built) at))
+        (fills words births lines (flat_map (tasks_of words) (drop (i + 1) lines)) (subst (λ ts. HasReached words births lines net ss score ts) (split words lines i line lt is) at))
 
     -- past the last line, once it was looked whether mail is pending
     pub drive_ends : (net next : Port M O h) (ss after : List (Shell A M O g h)) (score : Score) (i : ℕ) (found : Option ℕ) → length lines ≤ i → HasReached words births lines net ss score (flat_map (tasks_of words) (drop i lines)) →

@@ -1,5 +1,5 @@
 -- How a driver stands with the walk of a schedule.
-use Rattle.std.specs.Prelude.{◌≡◌, ℕ, ◌≤◌, List, ◌++◌, Bool, false, Option, ⊤, Contains}
+use Rattle.std.specs.Prelude.{◌≡◌, ℕ, ◌≤◌, List, ◌++◌, Bool, false, Option, option_and_then, ⊤, Contains}
 use Rattle.sc_actor.specs.declared.actors.Actor.{Ghosts}
 use Rattle.sc_actor.specs.declared.actors.Parcel.{Ghosts as MailGhosts}
 use Rattle.sc_actor.specs.declared.actors.Seat.{Seat}
@@ -51,6 +51,10 @@ module _ {A M O : Type 0} {g : Ghosts A M O} {h : MailGhosts M} where
   -- the row of a line
   abbrev pub LineMade : Line O → Port M O h → List (Shell A M O g h) → Port M O h → List (Shell A M O g h) → LineResult → Type 0
   LineMade line = MakesSo (λ s rows. line_row s rows line)
+
+  -- the row of a line, if there is one
+  abbrev pub DeedMade : Option (Line O) → Port M O h → List (Shell A M O g h) → Port M O h → List (Shell A M O g h) → LineResult → Type 0
+  DeedMade line = MakesSo (λ s rows. option_and_then (line_row s rows) line)
 
   -- the row of an event of an actor, unless it has crashed
   abbrev pub EventMade : ℕ → Event O → Port M O h → List (Shell A M O g h) → Port M O h → List (Shell A M O g h) → LineResult → Type 0

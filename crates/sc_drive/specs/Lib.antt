@@ -5,4 +5,5 @@ pub mod Stepping
 pub mod Goings
 pub mod Changing
 pub mod Lowest
+pub mod Storming
 pub mod Ends

@@ -12,6 +12,7 @@ mod settle_lines;
 mod single_lines;
 mod start;
 mod steps;
+mod storm_lines;
 
 pub use conditions::goers_are_spared;
 pub use end::close;

@@ -1,14 +1,16 @@
 //! A schedule driven to its end.
-ghost use Rattle.std.specs.Prelude.{◌≡◌, ◌≢◌, ℕ, [], ◌∷◌, List, OnOk, IsErrOf, false, true, All};
+ghost use Rattle.std.specs.Prelude.{◌≡◌, ◌≢◌, ℕ, [], List, OnOk, IsErrOf, false};
 ghost use Rattle.sc_actor.specs.declared.actors.Seat.{Seat};
 ghost use Rattle.sc_drive.specs.Companies.{AtBirth, Company};
 ghost use Rattle.sc_drive.specs.Goings.{Goes, Fills, IsDriven, IsKept, IsOn, IsTogether, MayGo, SparesGoers};
-ghost use Rattle.sc_actor.specs.Walk.{has_one_task, line_task};
+ghost use Rattle.sc_actor.specs.Walk.{tasks_of};
+ghost use Rattle.sc_chance.specs.Words.{two_words};
 
 use crate::free_lines::run_free;
 use crate::settle_lines::{lowest, run_settle};
 use crate::single_lines::{run_go, run_once};
 use crate::steps::{Driven, Score, Stop};
+use crate::storm_lines::run_storm;
 use sc_actor::{Actor, Gate, Line};
 use sc_exchange::Port;
 use sc_shell::Shell;
@@ -40,16 +42,15 @@ fn run_line<A: Actor, G: Gate, R: Threads + Wait + Sync>(
 ) -> Result<(), Stop>
     requires together { IsTogether net.old shells.old.items }
     requires company { (births : List (Seat A)) × Company births net.old shells.old.items }
-    requires built { has_one_task line.now ≡ true }
     requires runs { (who : ℕ) → line.now ≡ Line.Go who → MayGo who net.old shells.old.items }
     ensures on { OnOk result (IsOn net.old shells.old.items net.new shells.new.items) }
     ensures kept { IsErrOf result Stop.Full →
         IsKept net.old shells.old.items net.new shells.new.items }
     ensures goes { OnOk result
-        (Goes net.old shells.old.items score.old (line_task line.now ∷ []) net.new shells.new.items
-        score.new []) }
+        (Goes net.old shells.old.items score.old (tasks_of two_words line.now) net.new
+        shells.new.items score.new []) }
     ensures fills { IsErrOf result Stop.Full →
-        Fills net.old shells.old.items score.old (line_task line.now ∷ []) net.new }
+        Fills net.old shells.old.items score.old (tasks_of two_words line.now) net.new }
 {
     match line {
         Line::Go { who } => run_go(rt, alloc, net, shells, score, *who),
@@ -57,7 +58,9 @@ fn run_line<A: Actor, G: Gate, R: Threads + Wait + Sync>(
         Line::Free { most, workers } => {
             run_free(rt, alloc, net, shells, score, *most, *workers, gate)
         }
-        Line::Storm { .. } => unreachable!(),
+        Line::Storm { number, most } => {
+            run_storm(rt, alloc, net, shells, score, *number, *most, gate)
+        }
         _ => run_once(rt, alloc, net, shells, score, line, gate),
     }
 }
@@ -65,8 +68,8 @@ fn run_line<A: Actor, G: Gate, R: Threads + Wait + Sync>(
 /// Drives a schedule through the network's port and the shells of its actors.
 ///
 /// The shells are those of actors at their births, each at its port, and no port has made a row. No
-/// line is a storm, and none tells an actor to go that another lets crash (`goers_are_spared`). The
-/// journal is afterwards what the contract of a played schedule says.
+/// line tells an actor to go that another lets crash (`goers_are_spared`). The journal is afterwards
+/// what the contract of a played schedule says.
 pub fn drive<A: Actor, G: Gate, R: Threads + Wait + Sync>(
     rt: &R,
     alloc: Global,
@@ -76,13 +79,11 @@ pub fn drive<A: Actor, G: Gate, R: Threads + Wait + Sync>(
     gate: &G,
 ) -> Driven
     requires begins { (births : List (Seat A)) × AtBirth births net.old shells.old.items }
-    requires built { All (λ line. has_one_task line ≡ true) lines.now }
     requires spared { SparesGoers lines.now }
     ensures kept { result ≢ Driven.OutOfMemory →
         IsKept net.old shells.old.items net.new shells.new.items }
-    ensures driven { (words : ℕ → ℕ → ℕ × ℕ) (births : List (Seat A)) →
-        AtBirth births net.old shells.old.items →
-        IsDriven words births lines.now net.old.limit net.new shells.new.items result }
+    ensures driven { (births : List (Seat A)) → AtBirth births net.old shells.old.items →
+        IsDriven two_words births lines.now net.old.limit net.new shells.new.items result }
 {
     let mut score = no_score(alloc);
     // Until all have gathered it is not known that there is no row.

@@ -1,6 +1,6 @@
 //! Lines of one row.
 ghost use Rattle.std.specs.Prelude.{◌≡◌, ◌+◌, [], ◌∷◌, IfOk, OnOk, IsErrOf};
-ghost use Rattle.sc_actor.specs.Walk.{Once, line_task};
+ghost use Rattle.sc_actor.specs.Walk.{Once};
 ghost use Rattle.sc_drive.specs.Numbers.{is_in};
 ghost use Rattle.sc_drive.specs.Goings.{Goes, Fills, GoMade, LineMade, IsCalm, IsKept, IsOn, IsTogether, MayGo, StaysSo};
 
@@ -29,8 +29,8 @@ fn skip(score: &mut Score) -> Result<(), Stop>
     Ok(())
 }
 
-// What a line of one row came to at which no actor is told to go.
-fn step_line<A: Actor, G: Gate, R: Wait>(
+/// What a line of one row came to at which no actor is told to go.
+pub(crate) fn step_line<A: Actor, G: Gate, R: Wait>(
     rt: &R,
     alloc: Global,
     net: &mut Port<A::Mail, A::Order>,
@@ -75,10 +75,10 @@ pub(crate) fn run_once<A: Actor, G: Gate, R: Wait>(
     ensures kept { IsErrOf result Stop.Full →
         IsKept net.old shells.old.items net.new shells.new.items }
     ensures goes { OnOk result
-        (Goes net.old shells.old.items score.old (line_task line.now ∷ []) net.new shells.new.items
+        (Goes net.old shells.old.items score.old (Once line.now ∷ []) net.new shells.new.items
         score.new []) }
     ensures fills { IsErrOf result Stop.Full →
-        Fills net.old shells.old.items score.old (line_task line.now ∷ []) net.new }
+        Fills net.old shells.old.items score.old (Once line.now ∷ []) net.new }
 {
     let Ok(step) = step_line(rt, alloc, net, shells, line, gate) else {
         return Err(Stop::OutOfMemory);

@@ -67,7 +67,7 @@ at_start ahead scenario bases route made heard apart = record {
   parts = λ b a. record { lawful = tt; requested = λ ballot slot c o. absurd o; true_mail = λ m o. absurd o };
   named = λ m a. absurd a;
   nodes = λ n low high. record {
-    node = record { me = n; draws = record { node = n; next = 1 }; replicas = map (λ b. born_replica ahead.slots n b) (filter (λ b. is_member b.core.members n) bases) };
+    node = record { me = n; draws = record { node = n; next = 1 }; policy = scenario.policy; replicas = map (λ b. born_replica ahead.slots n b) (filter (λ b. is_member b.core.members n) bases) };
     value_is = refl;
     is = record {
       me_is = refl;

@@ -74,7 +74,7 @@ module _ (ahead : Ahead) (scenario : Scenario) (firsts bases : List Base) (route
   -- a node of the journal as the steps say
   pub record IsNodeAt (since rows : Journal) (n : ℕ) : Type 0 where
     pub node : NodeState
-    pub value_is : value player_table (node_seat ahead firsts n) rows ≡ ANode node
+    pub value_is : value player_table (node_seat ahead firsts scenario.policy n) rows ≡ ANode node
     pub is : IsNode ahead bases (made since) (h_of rows) n node
 
   -- a client of the journal as the steps say

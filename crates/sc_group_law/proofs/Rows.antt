@@ -1,8 +1,9 @@
 -- The rows of a replica that neither promise nor accept: Nack, Learn, Ask, Request and Tick.
-use Rattle.std.proofs.Common.{◌≡◌, ℕ, zero, suc, ◌+◌, ◌-◌, ◌<◌, ◌&&◌, ◌||◌, not, nat_lt, nat_le, true, false, eqb, List, [], ◌∷◌, ◌++◌, drop, Option, Some, None, is_some, refl, sym, ◌∙◌, ap, subst, arith}
+use Rattle.std.proofs.Common.{◌≡◌, ℕ, zero, suc, ◌+◌, ◌-◌, ◌<◌, ◌&&◌, ◌||◌, not, nat_lt, nat_le, true, false, eqb, Bool, List, [], ◌∷◌, ◌++◌, drop, Option, Some, None, is_some, refl, sym, ◌∙◌, ap, subst, arith}
 use Rattle.std.specs.Prelude.{slice_get}
 use Rattle.std.proofs.lemmas.Bool.{eqb-true, ltb-true, and_parts, cond_both, not-false}
 use Rattle.std.proofs.lemmas.Option.{slice_get_within}
+use Rattle.sc_base.specs.Drawing.{Drawer, next_name}
 use Rattle.sc_base.specs.Limits.{client_actor}
 use Rattle.sc_base.specs.declared.names.Ballot.{Ballot}
 use Rattle.sc_base.specs.declared.ops.Op.{Op}
@@ -11,6 +12,8 @@ use Rattle.sc_cmd.specs.declared.links.Route.{Route}
 use Rattle.sc_cmd.specs.declared.commands.Command.{Command}
 use Rattle.sc_cmd.specs.declared.commands.Command.TheVariants.{Call}
 use Rattle.sc_cmd.specs.declared.cores.Base.{Base}
+use Rattle.sc_cmd.specs.declared.orders.OrderLine.{OrderLine}
+use Rattle.sc_cmd.specs.declared.orders.OrderRefusal.{OrderRefusal}
 use Rattle.sc_mail.specs.declared.bodies.AnswerBody.{AnswerBody}
 use Rattle.sc_mail.specs.declared.bodies.AnswerBody.TheVariants as Says
 use Rattle.sc_mail.specs.declared.bodies.Mail.{Mail}
@@ -27,7 +30,10 @@ use Rattle.sc_paxos_law.proofs.Law.{chosen_by, earlier}
 use Rattle.sc_node_table.specs.Replica.{ReplicaState, Place, name_of, next, members, settled, may_offer, first_set, flying, is_idle, last_slot}
 use Rattle.sc_node_table.specs.Mails.{sent, sent_all}
 use Rattle.sc_node_table.specs.Queues.{call_of, without_call}
+use Rattle.sc_node_table.specs.Ordering.{ordered_command, untaken}
+use Rattle.sc_node_table.specs.Policy.{wished_line, with_command, with_line, wishing}
 use Rattle.sc_node_table.specs.Pump.{serves_calls}
+use Rattle.sc_node_table.specs.Reminders.{waited_in, reminded}
 use Rattle.sc_node_table.specs.Voting.{nack_row}
 use Rattle.sc_node_table.specs.Rows.{refused_at, queued, requested, request_row, learn_row, taught, most_taught, ask_answered, ask_row, uncounted, asked_again, told_last, tick_row}
 use Rattle.sc_players.specs.Players.{Ahead}
@@ -42,6 +48,12 @@ use Rattle.sc_group_law.proofs.Held.{get_dropped}
 use Rattle.sc_group_law.proofs.Welcoming.{installed_place}
 use Rattle.sc_group_law.proofs.Executing.{fine_executed}
 use Rattle.sc_group_law.proofs.Transacting.{reminded_place}
+
+-- what a policy, if it is on, orders at a tick of a settled member may be queued, where it is taken
+abbrev pub MayWish : (Command → Type 0) → Bool → Drawer → ReplicaState → Type 0
+MayWish made on drawer r =
+    (is_some r.group.core.gone || not (is_member (members r) r.me)) ≡ false → not (settled r) ≡ false → (line : OrderLine)
+    → wished_line on (waited_in r.group.core.lock r) ≡ Some line → untaken drawer line (waited_in r.group.core.lock r) ≡ None → made (ordered_command (next_name drawer) line.number line.order)
 
 module _ (ahead : Ahead) (base : Base) (made : Command → Type 0) (heard : MailBody → Type 0) (me : ℕ) (older : List Mail) (before : Steps) (speaks : Speaks ahead base made heard before)
     (some : (log : List Command) → Each made log → (node : ℕ) × (rest : List ℕ) × ((rule ahead base).members log ≡ node ∷ rest)) where
@@ -169,12 +181,29 @@ module _ (ahead : Ahead) (base : Base) (made : Command → Type 0) (heard : Mail
   settled_runs : (r : ReplicaState) → not (settled r) ≡ false → r.running ≡ true
   settled_runs r e = (and_parts r.running (may_offer r (first_set r.sets)) (not-false (settled r) e)).0
 
+  commanded : (o : Option OrderRefusal) (c : Command) (r : ReplicaState) (mails : List Mail) → (o ≡ None → made c) → Ok (r, mails) → Ok (with_command o c r, mails)
+  commanded None c r mails m f = with_calls_place r (r.calls ++ c ∷ []) mails f (Each-append made r.calls (c ∷ []) f.replica.calls (m refl, tt))
+  commanded (Some why) c r mails m f = f
+
+  lined : (drawer : Drawer) (o : Option OrderLine) (r : ReplicaState) (mails : List Mail) → ((line : OrderLine) → o ≡ Some line → untaken drawer line r ≡ None → made (ordered_command (next_name drawer) line.number line.order)) → Ok (r, mails)
+      → Ok (with_line drawer o r, mails)
+  lined drawer None r mails m f = f
+  lined drawer (Some line) r mails m f = commanded (untaken drawer line r) (ordered_command (next_name drawer) line.number line.order) r mails (λ taken. m line refl taken) f
+
+  -- what a policy orders waits
+  fine_wishing : (on : Bool) (drawer : Drawer) (r : ReplicaState) (mails : List Mail)
+      → ((line : OrderLine) → wished_line on r ≡ Some line → untaken drawer line r ≡ None → made (ordered_command (next_name drawer) line.number line.order)) → Ok (r, mails) → Ok (wishing on drawer (r, mails))
+  unfolding wishing
+  fine_wishing on drawer r mails m f = lined drawer (wished_line on r) r mails m f
+
   -- the row of a tick keeps what holds
-  pub fine_tick_row : (r : ReplicaState) (mails : List Mail) → Ok (r, mails) → Ok (tick_row (r, mails))
-  unfolding tick_row
-  fine_tick_row r mails f =
+  pub fine_tick_row : (on : Bool) (drawer : Drawer) (r : ReplicaState) (mails : List Mail) → MayWish made on drawer r → Ok (r, mails) → Ok (tick_row on drawer (r, mails))
+  unfolding tick_row reminded
+  fine_tick_row on drawer r mails may f =
       cond_both (is_some r.group.core.gone || not (is_member (members r) r.me)) _ _ Ok (λ _. f)
-      (λ _. cond_both (not (settled r)) _ _ Ok (λ _. fine_elected ahead base made heard me older before r mails f)
+      (λ here. cond_both (not (settled r)) _ _ Ok (λ _. fine_elected ahead base made heard me older before r mails f)
       (λ runs. cond_both (is_idle r) _ _ Ok
-      (λ _. fine_pumped ahead base made heard me older before speaks some _ (reminded_place ahead base made heard me older before speaks some r _ (fine_told_last (entry_at (next r - 1) r.log) r mails refl f)))
-      (λ _. fine_pumped ahead base made heard me older before speaks some _ (reminded_place ahead base made heard me older before speaks some r _ (fine_asked_again (next r) r.sets r mails f (f.replica.leads (settled_runs r runs)).own)))))
+      (λ _. fine_pumped ahead base made heard me older before speaks some _
+      (fine_wishing on drawer _ _ (may here runs) (reminded_place ahead base made heard me older before speaks some r _ (fine_told_last (entry_at (next r - 1) r.log) r mails refl f))))
+      (λ _. fine_pumped ahead base made heard me older before speaks some _
+      (fine_wishing on drawer _ _ (may here runs) (reminded_place ahead base made heard me older before speaks some r _ (fine_asked_again (next r) r.sets r mails f (f.replica.leads (settled_runs r runs)).own))))))

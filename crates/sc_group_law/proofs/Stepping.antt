@@ -52,7 +52,7 @@ use Rattle.sc_group_law.proofs.Holding.{Holds, still_holds}
 use Rattle.sc_group_law.proofs.Names.{IsNamedIn, named_later}
 use Rattle.sc_group_law.proofs.Offspring.{IsChildOf}
 use Rattle.sc_group_law.proofs.Nodes.{IsNewborn, NodeEnded, unchanged, ends_as, mail_ended, order_ended}
-use Rattle.sc_group_law.proofs.Ticks.{tick_ended}
+use Rattle.sc_group_law.proofs.Ticks.{MayTick, tick_ended}
 use Rattle.sc_group_law.proofs.Voting.{ArePlain}
 use Rattle.sc_group_law.proofs.Projected.{steps-push}
 use Rattle.sc_group_law.proofs.Places.{Journal}
@@ -63,7 +63,7 @@ use Rattle.sc_base.specs.Limits.{client_actor, most_nodes}
 
 -- what a family of groups rests on: how the players begin, whatever the rows; what clients issue may be queued, and each group has members
 pub record HasPlayers (ahead : Ahead) (scenario : Scenario) (firsts bases : List Base) (route : Route) (made : Journal → Base → Command → Type 0) : Type 0 where
-  pub seats : births ahead scenario ≡ map (node_seat ahead firsts) (numbers_from 1 scenario.nodes) ++ map (client_seat route) scenario.clients
+  pub seats : births ahead scenario ≡ map (node_seat ahead firsts scenario.policy) (numbers_from 1 scenario.nodes) ++ map (client_seat route) scenario.clients
   pub nodes : scenario.nodes ≤ most_nodes
   pub numbered : Each (λ asks. 1 ≤ asks.client) scenario.clients
   pub once : (one other : Asks) → Among one scenario.clients → Among other scenario.clients → one.client ≡ other.client → one ≡ other
@@ -73,7 +73,7 @@ pub record HasPlayers (ahead : Ahead) (scenario : Scenario) (firsts bases : List
 module _ (ahead : Ahead) (words : ℕ → ℕ → ℕ × ℕ) (scenario : Scenario) (firsts bases : List Base) (route : Route) (made_by : Journal → Base → Command → Type 0) (heard_by : Journal → MailBody → Type 0)
     (has : HasPlayers ahead scenario firsts bases route made_by) where
   abbrev nseat : ℕ → Seat Player
-  nseat n = node_seat ahead firsts n
+  nseat n = node_seat ahead firsts scenario.policy n
 
   abbrev cseat : Asks → Seat Player
   cseat asks = client_seat route asks
@@ -84,14 +84,14 @@ module _ (ahead : Ahead) (words : ℕ → ℕ → ℕ × ℕ) (scenario : Scenar
   abbrev M : Journal → Row Mail OrderLine → Type 0
   M = Moved ahead scenario firsts bases route made_by heard_by
 
-  -- what an order asks for may be queued at its group, if one is told and taken
+  -- what an order asks for may be queued at its group, if one is told and taken, and what policies order at a tick
   abbrev pub MayTell : Journal → ℕ → Event OrderLine → Type 0
   MayTell rows n (Told line) =
       1 ≤ n → n ≤ scenario.nodes → (node : NodeState) → value player_table (nseat n) rows ≡ ANode node → (b : Base) → Among b bases → group_of_order line.order ≡ b.core.id
       → (r : ReplicaState) → replica_of (group_of_order line.order) node.replicas ≡ Some r → untaken node.draws line r ≡ None → made_by rows b (ordered_command (next_name node.draws) line.number line.order)
   MayTell rows n (Deliver number) = Unit {0}
   MayTell rows n Go = Unit {0}
-  MayTell rows n Tick = Unit {0}
+  MayTell rows n Tick = 1 ≤ n → n ≤ scenario.nodes → (node : NodeState) → value player_table (nseat n) rows ≡ ANode node → MayTick bases (made_by rows) node.policy node.draws node.replicas
   MayTell rows n Crash = Unit {0}
   MayTell rows n (Drop number) = Unit {0}
   MayTell rows n (Again number) = Unit {0}
@@ -245,7 +245,7 @@ module _ (ahead : Ahead) (words : ℕ → ℕ → ℕ × ℕ) (scenario : Scenar
             (ends_as ahead bases made heard elsewhere n h speaks (has.some rows) lawful requested (λ b. steps_of b.core.id n (Deliver number) m.body step.1 (h b))
             (λ b. steps_at b.core.id (mails rows) (node_row n (Deliver number) step.1) (h b)) step (λ b. sym (steps_deliver b.core.id (mails rows) n number m step.1 (h b) under.sent))
             (mail_ended ahead bases made heard elsewhere n h speaks (has.some rows) lawful requested (Deliver number) m (offspring n) at.node at.is (k.named m came) (λ b a. (k.parts b a).true_mail m came)))
-        by Tick plain o = acting Tick (on_tick at.node) refl (tick_ended ahead bases made heard elsewhere n h speaks (has.some rows) lawful requested at.node at.is)
+        by Tick plain o = acting Tick (on_tick at.node) refl (tick_ended ahead bases made heard elsewhere n h speaks (has.some rows) lawful requested at.node (plain low high at.node at.value_is) at.is)
         by Go plain o = acting Go (at.node, []) refl (quiet Go)
         by (Told order) plain o = acting (Told order) (on_order order at.node) refl (order_ended ahead bases made heard elsewhere n h speaks (has.some rows) lawful requested order at.node (plain low high at.node at.value_is) at.is)
         by Crash plain o = acting Crash (at.node, []) refl (quiet Crash)

@@ -1,6 +1,7 @@
 -- A tick of a node: each of its replicas has its part of the row.
-use Rattle.std.proofs.Common.{◌≡◌, ℕ, false, List, [], ◌∷◌, ◌++◌, inl, inr, refl, sym, ◌∙◌, ap, subst, append-nil, append_assoc}
+use Rattle.std.proofs.Common.{◌≡◌, ℕ, false, Bool, List, [], ◌∷◌, ◌++◌, inl, inr, refl, sym, ◌∙◌, ap, subst, append-nil, append_assoc}
 use Rattle.std.proofs.lemmas.Bool.{cases_Bool}
+use Rattle.sc_base.specs.Drawing.{Drawer}
 use Rattle.sc_base.specs.declared.names.Ballot.{Ballot}
 use Rattle.sc_base.specs.declared.names.Draw.{Draw}
 use Rattle.sc_base.specs.Same.{same_draw}
@@ -14,6 +15,7 @@ use Rattle.sc_paxos_law.specs.Steps.{Offered}
 use Rattle.sc_paxos_law.specs.Lawful.{IsLawfulHistory}
 use Rattle.sc_paxos_law.proofs.Among.{Among-either}
 use Rattle.sc_node_table.specs.Node.{NodeState, ticked, on_tick}
+use Rattle.sc_node_table.specs.Policy.{names_after_tick}
 use Rattle.sc_node_table.specs.Replica.{ReplicaState, Place, name_of}
 use Rattle.sc_node_table.specs.Rows.{tick_row}
 use Rattle.sc_players.specs.Players.{Ahead}
@@ -23,23 +25,28 @@ use Rattle.sc_group_law.proofs.Invariant.{Steps, rule, first, IsReplica, IsTrue}
 use Rattle.sc_group_law.proofs.Speech.{AnyoneHears, Speaks}
 use Rattle.sc_group_law.proofs.Midway.{Fine}
 use Rattle.sc_group_law.proofs.Sending.{name_is}
-use Rattle.sc_group_law.proofs.Rows.{fine_tick_row}
+use Rattle.sc_group_law.proofs.Rows.{MayWish, fine_tick_row}
 use Rattle.sc_group_law.proofs.Names.{IsOneOf, IsNamedIn, own_named}
 use Rattle.sc_group_law.proofs.Nodes.{start, IsNode, NodeEnded}
 use Rattle.sc_group_law.proofs.Frames.{AreFar, own_far, far_true, far_all, asked_append}
 use Rattle.sc_group_law.proofs.Holding.{IsOther, Holds, held}
 use Rattle.sc_base.proofs.NameLemmas.{draw_is}
 
+-- what policies order at a tick of these replicas may be queued at their groups, each with the names that those before it left
+abbrev pub MayTick : List Base → (Base → Command → Type 0) → Bool → Drawer → List ReplicaState → Type 0
+MayTick bases made on drawer [] = Unit {0}
+MayTick bases made on drawer (r ∷ rs) = ((base : Base) → Among base bases → name_of r ≡ base.core.id → MayWish (made base) on drawer r) × MayTick bases made on (names_after_tick on drawer r) rs
+
 module _ (ahead : Ahead) (bases : List Base) (made : Base → Command → Type 0) (heard : MailBody → Type 0) (elsewhere : AnyoneHears heard) (me : ℕ) (h : Base → Steps) (speaks : (base : Base) → Among base bases → Speaks ahead base (made base) heard (h base))
     (some : (base : Base) → Among base bases → (log : List Command) → Each (made base) log → (node : ℕ) × (rest : List ℕ) × ((rule ahead base).members log ≡ node ∷ rest))
     (lawful : (base : Base) → Among base bases → IsLawfulHistory (rule ahead base) (first ahead base) (h base))
-    (requested : (base : Base) → Among base bases → (b : Ballot) (slot : ℕ) (c : Command) → Among (Offered b slot c) (h base) → made base c) where
+    (requested : (base : Base) → Among base bases → (b : Ballot) (slot : ℕ) (c : Command) → Among (Offered b slot c) (h base) → made base c) (on : Bool) where
   -- a replica of one of the groups, as the steps say
   abbrev IsLive : ReplicaState → Type 0
   IsLive r = (base : Base) × Among base bases × (name_of r ≡ base.core.id) × IsReplica ahead base (made base) (h base) me r
 
-  ticks : (base : Base) → Among base bases → (r : ReplicaState) (mails : List Mail) → IsReplica ahead base (made base) (h base) me r → Fine ahead base (made base) heard me mails (h base) (tick_row (r, mails))
-  ticks base a r mails k = fine_tick_row ahead base (made base) heard me mails (h base) (speaks base a) (some base a) r mails (start ahead base (made base) heard me (h base) (speaks base a) (some base a) (lawful base a) (requested base a) mails r k)
+  ticks : (drawer : Drawer) (base : Base) → Among base bases → (r : ReplicaState) (mails : List Mail) → MayWish (made base) on drawer r → IsReplica ahead base (made base) (h base) me r → Fine ahead base (made base) heard me mails (h base) (tick_row on drawer (r, mails))
+  ticks drawer base a r mails may k = fine_tick_row ahead base (made base) heard me mails (h base) (speaks base a) (some base a) on drawer r mails may (start ahead base (made base) heard me (h base) (speaks base a) (some base a) (lawful base a) (requested base a) mails r k)
 
   tick_name : (base : Base) (mails : List Mail) (place : Place) → Fine ahead base (made base) heard me mails (h base) place → name_of place.0 ≡ base.core.id
   tick_name base mails place f = name_is ahead base (made base) heard me mails (h base) (f.newer ++ h base) place.0 f.replica
@@ -48,20 +55,20 @@ module _ (ahead : Ahead) (bases : List Base) (made : Base → Command → Type 0
   more_sent mails one other all place e f = e ∙ ap (λ ms. ms ++ other) f ∙ append_assoc mails one other
 
   -- what the node's replicas send at a tick
-  record Sends (rs : List ReplicaState) (mails : List Mail) : Type 0 where
+  record Sends (drawer : Drawer) (rs : List ReplicaState) (mails : List Mail) : Type 0 where
     sent : List Mail
-    sent_is : (ticked rs mails).1 ≡ mails ++ sent
+    sent_is : (ticked on drawer rs mails).1 ≡ mails ++ sent
     named : (mail : Mail) → Among mail sent → IsNamedIn heard bases mail.body
-    known : Each (λ r. IsOneOf bases (name_of r)) (ticked rs mails).0
+    known : Each (λ r. IsOneOf bases (name_of r)) (ticked on drawer rs mails).0
 
-  tick_sends : (rs : List ReplicaState) → Each IsLive rs → (mails : List Mail) → Sends rs mails
+  tick_sends : (drawer : Drawer) (rs : List ReplicaState) → MayTick bases made on drawer rs → Each IsLive rs → (mails : List Mail) → Sends drawer rs mails
   unfolding ticked
-  tick_sends [] live mails = record { sent = []; sent_is = sym (append-nil mails); named = λ m a. absurd a; known = tt }
-  tick_sends (r ∷ rs) live mails =
+  tick_sends drawer [] may live mails = record { sent = []; sent_is = sym (append-nil mails); named = λ m a. absurd a; known = tt }
+  tick_sends drawer (r ∷ rs) may live mails =
       let (base, a, is, k) = live.0 in
-      let f = ticks base a r mails k in
-      let place = tick_row (r, mails) in
-      let later = tick_sends rs live.1 place.1 in
+      let f = ticks drawer base a r mails (may.0 base a is) k in
+      let place = tick_row on drawer (r, mails) in
+      let later = tick_sends (names_after_tick on drawer r) rs may.1 live.1 place.1 in
       record {
         sent = f.sent ++ later.sent;
         sent_is = more_sent mails f.sent later.sent _ place.1 later.sent_is f.sent_is;
@@ -70,11 +77,11 @@ module _ (ahead : Ahead) (bases : List Base) (made : Base → Command → Type 0
       }
 
   -- where none of the replicas is the group's
-  record TicksFar (base : Base) (rs : List ReplicaState) (mails : List Mail) : Type 0 where
+  record TicksFar (base : Base) (drawer : Drawer) (rs : List ReplicaState) (mails : List Mail) : Type 0 where
     sent : List Mail
-    sent_is : (ticked rs mails).1 ≡ mails ++ sent
+    sent_is : (ticked on drawer rs mails).1 ≡ mails ++ sent
     far : AreFar heard base.core.id sent
-    none : Each (IsOther base.core.id) (ticked rs mails).0
+    none : Each (IsOther base.core.id) (ticked on drawer rs mails).0
 
   far_name : (base other : Base) (r : ReplicaState) → name_of r ≡ other.core.id → IsOther base.core.id r → same_draw other.core.id base.core.id ≡ false
   far_name base other r is o =
@@ -90,15 +97,15 @@ module _ (ahead : Ahead) (bases : List Base) (made : Base → Command → Type 0
   far_append name [] other e f = f
   far_append name (mail ∷ one) other e f = (e.0, far_append name one other e.1 f)
 
-  tick_far : (base : Base) (rs : List ReplicaState) → Each IsLive rs → Each (IsOther base.core.id) rs → (mails : List Mail) → TicksFar base rs mails
+  tick_far : (base : Base) (drawer : Drawer) (rs : List ReplicaState) → MayTick bases made on drawer rs → Each IsLive rs → Each (IsOther base.core.id) rs → (mails : List Mail) → TicksFar base drawer rs mails
   unfolding ticked
-  tick_far base [] live none mails = record { sent = []; sent_is = sym (append-nil mails); far = tt; none = tt }
-  tick_far base (r ∷ rs) live none mails =
+  tick_far base drawer [] may live none mails = record { sent = []; sent_is = sym (append-nil mails); far = tt; none = tt }
+  tick_far base drawer (r ∷ rs) may live none mails =
       let (other, a, is, k) = live.0 in
-      let f = ticks other a r mails k in
-      let place = tick_row (r, mails) in
+      let f = ticks drawer other a r mails (may.0 other a is) k in
+      let place = tick_row on drawer (r, mails) in
       let here = far_part base other a r mails place is none.0 f in
-      let later = tick_far base rs live.1 none.1 place.1 in
+      let later = tick_far base (names_after_tick on drawer r) rs may.1 live.1 none.1 place.1 in
       record {
         sent = f.sent ++ later.sent;
         sent_is = more_sent mails f.sent later.sent _ place.1 later.sent_is f.sent_is;
@@ -107,20 +114,20 @@ module _ (ahead : Ahead) (bases : List Base) (made : Base → Command → Type 0
       }
 
   -- the group's part of a tick
-  record TicksOwn (base : Base) (rs : List ReplicaState) (mails : List Mail) : Type 0 where
+  record TicksOwn (base : Base) (drawer : Drawer) (rs : List ReplicaState) (mails : List Mail) : Type 0 where
     sent : List Mail
-    sent_is : (ticked rs mails).1 ≡ mails ++ sent
+    sent_is : (ticked on drawer rs mails).1 ≡ mails ++ sent
     newer : Steps
     are : asked_in base.core.id sent (h base) ≡ newer ++ h base
     by : Each (By me) newer
     lawful_is : IsLawfulHistory (rule ahead base) (first ahead base) (newer ++ h base)
     requested_is : (b : Ballot) (slot : ℕ) (c : Command) → Among (Offered b slot c) (newer ++ h base) → made base c
-    holds : Holds ahead base (made base) me (newer ++ h base) (ticked rs mails).0
+    holds : Holds ahead base (made base) me (newer ++ h base) (ticked on drawer rs mails).0
     mails_are : (mail : Mail) → Among mail sent → IsTrue ahead base (made base) heard (newer ++ h base) mail mail.body
 
-  tick_own : (base : Base) (a : Among base bases) (rs : List ReplicaState) → Each IsLive rs → Holds ahead base (made base) me (h base) rs → (mails : List Mail) → TicksOwn base rs mails
+  tick_own : (base : Base) (a : Among base bases) (drawer : Drawer) (rs : List ReplicaState) → MayTick bases made on drawer rs → Each IsLive rs → Holds ahead base (made base) me (h base) rs → (mails : List Mail) → TicksOwn base drawer rs mails
   unfolding ticked
-  tick_own base a [] live fresh mails = record {
+  tick_own base a drawer [] may live fresh mails = record {
     sent = [];
     sent_is = sym (append-nil mails);
     newer = [];
@@ -131,10 +138,10 @@ module _ (ahead : Ahead) (bases : List Base) (made : Base → Command → Type 0
     holds = fresh;
     mails_are = λ m b. absurd b;
   }
-  tick_own base a (r ∷ rs) live (inl (is, k, none)) mails =
-      let f = ticks base a r mails k in
-      let place = tick_row (r, mails) in
-      let later = tick_far base rs live.1 none place.1 in
+  tick_own base a drawer (r ∷ rs) may live (inl (is, k, none)) mails =
+      let f = ticks drawer base a r mails (may.0 base a is) k in
+      let place = tick_row on drawer (r, mails) in
+      let later = tick_far base (names_after_tick on drawer r) rs may.1 live.1 none place.1 in
       record {
         sent = f.sent ++ later.sent;
         sent_is = more_sent mails f.sent later.sent _ place.1 later.sent_is f.sent_is;
@@ -149,12 +156,12 @@ module _ (ahead : Ahead) (bases : List Base) (made : Base → Command → Type 0
           | inr c ↦ far_true ahead base (made base) heard (f.newer ++ h base) m m.body (Each-among _ later.sent m later.far c)
         ];
       }
-  tick_own base a (r ∷ rs) live (inr (o, holds)) mails =
+  tick_own base a drawer (r ∷ rs) may live (inr (o, holds)) mails =
       let (other, b, is, k) = live.0 in
-      let f = ticks other b r mails k in
-      let place = tick_row (r, mails) in
+      let f = ticks drawer other b r mails (may.0 other b is) k in
+      let place = tick_row on drawer (r, mails) in
       let here = far_part base other b r mails place is o f in
-      let later = tick_own base a rs live.1 holds place.1 in
+      let later = tick_own base a (names_after_tick on drawer r) rs may.1 live.1 holds place.1 in
       record {
         sent = f.sent ++ later.sent;
         sent_is = more_sent mails f.sent later.sent _ place.1 later.sent_is f.sent_is;
@@ -170,20 +177,25 @@ module _ (ahead : Ahead) (bases : List Base) (made : Base → Command → Type 0
         ];
       }
 
-  live_all : (node : NodeState) → IsNode ahead bases made h me node → Each IsLive node.replicas
-  live_all node k = Each-from IsLive node.replicas (λ r b. (let mine = Each-among (λ s. IsOneOf bases (name_of s)) node.replicas r k.known b in
+module _ (ahead : Ahead) (bases : List Base) (made : Base → Command → Type 0) (heard : MailBody → Type 0) (elsewhere : AnyoneHears heard) (me : ℕ) (h : Base → Steps) (speaks : (base : Base) → Among base bases → Speaks ahead base (made base) heard (h base))
+    (some : (base : Base) → Among base bases → (log : List Command) → Each (made base) log → (node : ℕ) × (rest : List ℕ) × ((rule ahead base).members log ≡ node ∷ rest))
+    (lawful : (base : Base) → Among base bases → IsLawfulHistory (rule ahead base) (first ahead base) (h base))
+    (requested : (base : Base) → Among base bases → (b : Ballot) (slot : ℕ) (c : Command) → Among (Offered b slot c) (h base) → made base c) where
+  live_all : (node : NodeState) → IsNode ahead bases made h me node → Each (IsLive ahead bases made heard elsewhere me h speaks some lawful requested node.policy) node.replicas
+  live_all node k = Each-from (IsLive ahead bases made heard elsewhere me h speaks some lawful requested node.policy) node.replicas (λ r b. (let mine = Each-among (λ s. IsOneOf bases (name_of s)) node.replicas r k.known b in
       (mine.0, mine.1, mine.2, held ahead mine.0 (made mine.0) me (h mine.0) node.replicas (k.holds mine.0 mine.1) r b mine.2)))
 
   -- the end of a tick
-  pub tick_ended : (node : NodeState) → IsNode ahead bases made h me node → NodeEnded ahead bases made heard elsewhere me h speaks some lawful requested (λ base. asked_in base.core.id (on_tick node).1 (h base)) (on_tick node)
-  tick_ended node k =
+  pub tick_ended : (node : NodeState) → MayTick bases made node.policy node.draws node.replicas → IsNode ahead bases made h me node
+      → NodeEnded ahead bases made heard elsewhere me h speaks some lawful requested (λ base. asked_in base.core.id (on_tick node).1 (h base)) (on_tick node)
+  tick_ended node may k =
       let live = live_all node k in
-      let all = tick_sends node.replicas live [] in
+      let all = tick_sends ahead bases made heard elsewhere me h speaks some lawful requested node.policy node.draws node.replicas may live [] in
       record {
         me_is = k.me_is;
         known = all.known;
         named = λ m b. all.named m (subst (Among m) all.sent_is b);
-        parts = λ base a. (let own = tick_own base a node.replicas live (k.holds base a) [] in
+        parts = λ base a. (let own = tick_own ahead bases made heard elsewhere me h speaks some lawful requested node.policy base a node.draws node.replicas may live (k.holds base a) [] in
             record {
               newer = own.newer;
               are = ap (λ ms. asked_in base.core.id ms (h base)) own.sent_is ∙ own.are;

@@ -1,13 +1,13 @@
 //! The group machine: one command, and requests.
 ghost use Rattle.std.specs.Prelude.{◌≡◌, IfOk};
-ghost use Rattle.std.specs.FinMap.{get};
+ghost use Rattle.std.specs.FinMap.{entries, get};
 ghost use Rattle.sc_ideal.specs.IdealStore.{holds_key, key_of};
 ghost use Rattle.sc_ideal.specs.Clients.{seen_of};
 ghost use Rattle.sc_machine_table.specs.Group.{Group, base_of, group_of};
 ghost use Rattle.sc_machine_table.specs.Machine.{applied, called, served, served_by_note, done};
 ghost use Rattle.sc_machine_table.specs.Plans.{frozen_of};
 
-use sc_base::{Dup, Op, OutOfMemory, RingArc};
+use sc_base::{Dup, Op, OutOfMemory, Pairs, RingArc};
 use sc_clients::ClientTable;
 use sc_cmd::{Base, Command, Core, Effect, Frozen};
 use sc_ideal::Seen;
@@ -76,6 +76,13 @@ impl Machine {
         &self.core
     }
 
+    /// The group's pairs, in the order of their keys.
+    pub fn pairs(&self) -> Result<Pairs, OutOfMemory>
+        ensures { IfOk result (λ pairs. pairs ≡ entries self.now.pairs) }
+    {
+        self.store.list()
+    }
+
     /// The group's whole record. A machine that is born from it is the same as this one.
     #[tactic(auto, using(sc_machine_table::proofs::Parts::group_again))]
     pub fn base(&self) -> Result<Base, OutOfMemory>
@@ -84,7 +91,7 @@ impl Machine {
     {
         Ok(Base {
             core: self.core.dup(self.alloc)?,
-            pairs: self.store.list()?,
+            pairs: self.pairs()?,
             clients: self.clients.list()?,
         })
     }
@@ -97,7 +104,7 @@ impl Machine {
             arc: self.core.arc,
             members: self.core.members,
             succ: self.core.succ,
-            pairs: self.store.list()?,
+            pairs: self.pairs()?,
             clients: self.clients.list()?,
         })
     }

@@ -9,10 +9,11 @@ use Rattle.sc_cmd.specs.declared.orders.ToldResult.TheVariants.{Refused}
 use Rattle.sc_mail.specs.declared.bodies.Mail.{Mail}
 use Rattle.sc_mail.specs.declared.bodies.MailBody.{MailBody}
 use Rattle.sc_node_table.specs.Replica.{ReplicaState, Place, name_of}
-use Rattle.sc_node_table.specs.Node.{NodeState, replica_of, with_replica, with_children, taken_by, unknown, group_of_order, ordered_of, on_order, ticked}
+use Rattle.sc_node_table.specs.Node.{NodeState, replica_of, with_replica, with_children, taken_by, unknown, group_of_order, ordered_of, on_order, ticked, names_after_ticks}
 use Rattle.sc_node_table.specs.Mails.{told_desk}
 use Rattle.sc_node_table.specs.Rows.{mailed, tick_row}
 use Rattle.sc_node_table.specs.Ordering.{ordered_row, names_after}
+use Rattle.sc_node_table.specs.Policy.{names_after_tick}
 use Rattle.sc_node_table.specs.Births.{mailed_children}
 use Rattle.sc_base.specs.Drawing.{Drawer}
 use Rattle.sc_cmd.specs.declared.cores.Base.{Base}
@@ -80,28 +81,51 @@ known_by group (r ∷ rs) None e = sym (ap is_some (stands-nowhere group (r ∷ 
 abbrev pub before : List ReplicaState → List ReplicaState × List Mail → List ReplicaState × List Mail
 before rs p = (rs ++ p.0, p.1)
 
-ticked-suc : (rs : List ReplicaState) (i : ℕ) (d new : ReplicaState) (mails more : List Mail) → i < length rs → (new, more) ≡ tick_row (get_or rs i d, mails)
-    → before (take (suc i) (set rs i new)) (ticked (drop (suc i) (set rs i new)) more) ≡ before (take i rs) (ticked (drop i rs) mails)
+ticked-suc : (on : Bool) (names left : Drawer) (rs : List ReplicaState) (i : ℕ) (d new : ReplicaState) (mails more : List Mail) → i < length rs
+    → (new, more) ≡ tick_row on names (get_or rs i d, mails) → left ≡ names_after_tick on names (get_or rs i d)
+    → before (take (suc i) (set rs i new)) (ticked on left (drop (suc i) (set rs i new)) more) ≡ before (take i rs) (ticked on names (drop i rs) mails)
 unfolding ticked
-ticked-suc [] i d new mails more less e = absurd (omega arith)
-ticked-suc (r ∷ rs) zero d new mails more less e = ap (λ (p : Place). (p.0 ∷ (ticked rs p.1).0, (ticked rs p.1).1)) e
-ticked-suc (r ∷ rs) (suc i) d new mails more less e =
-    ap (λ (p : List ReplicaState × List Mail). (r ∷ p.0, p.1)) (ticked-suc rs i d new mails more (omega arith) e)
+ticked-suc on names left [] i d new mails more less e same = absurd (omega arith)
+ticked-suc on names left (r ∷ rs) zero d new mails more less e same =
+    ap (λ (p : Place). (p.0 ∷ (ticked on left rs p.1).0, (ticked on left rs p.1).1)) e
+    ∙ ap (λ (l : Drawer). let p = tick_row on names (r, mails) in (p.0 ∷ (ticked on l rs p.1).0, (ticked on l rs p.1).1)) same
+ticked-suc on names left (r ∷ rs) (suc i) d new mails more less e same =
+    ap (λ (p : List ReplicaState × List Mail). (r ∷ p.0, p.1)) (ticked-suc on names left rs i d new mails more (omega arith) e same)
 
 -- one replica more has ticked
-pub ticked-step : (rs : List ReplicaState) (i : ℕ) (d new : ReplicaState) (mails more : List Mail) → i < length rs → (new, more) ≡ tick_row (get_or rs i d, mails)
-    → before (take (i + 1) (set rs i new)) (ticked (drop (i + 1) (set rs i new)) more) ≡ before (take i rs) (ticked (drop i rs) mails)
-ticked-step rs i d new mails more less e =
+pub ticked-step : (on : Bool) (names left : Drawer) (rs : List ReplicaState) (i : ℕ) (d new : ReplicaState) (mails more : List Mail) → i < length rs
+    → (new, more) ≡ tick_row on names (get_or rs i d, mails) → left ≡ names_after_tick on names (get_or rs i d)
+    → before (take (i + 1) (set rs i new)) (ticked on left (drop (i + 1) (set rs i new)) more) ≡ before (take i rs) (ticked on names (drop i rs) mails)
+ticked-step on names left rs i d new mails more less e same =
     let n : i + 1 ≡ suc i = omega arith in
-    ap (λ m. before (take m (set rs i new)) (ticked (drop m (set rs i new)) more)) n ∙ ticked-suc rs i d new mails more less e
+    ap (λ m. before (take m (set rs i new)) (ticked on left (drop m (set rs i new)) more)) n ∙ ticked-suc on names left rs i d new mails more less e same
 
 -- all have ticked
-pub ticked-all : (rs : List ReplicaState) (i : ℕ) (mails : List Mail) → length rs ≤ i → (rs, mails) ≡ before (take i rs) (ticked (drop i rs) mails)
+pub ticked-all : (on : Bool) (names : Drawer) (rs : List ReplicaState) (i : ℕ) (mails : List Mail) → length rs ≤ i → (rs, mails) ≡ before (take i rs) (ticked on names (drop i rs) mails)
 unfolding ticked
-ticked-all rs i mails le =
+ticked-all on names rs i mails le =
     ap (λ ys. (ys, mails)) (sym (append-nil rs))
     ∙ ap (λ ys. before ys ([], mails)) (sym (take_all i rs le))
-    ∙ ap (λ ys. before (take i rs) (ticked ys mails)) (sym (drop_all i rs le))
+    ∙ ap (λ ys. before (take i rs) (ticked on names ys mails)) (sym (drop_all i rs le))
+
+names-suc : (on : Bool) (names left : Drawer) (rs : List ReplicaState) (i : ℕ) (d new : ReplicaState) → i < length rs → left ≡ names_after_tick on names (get_or rs i d)
+    → names_after_ticks on left (drop (suc i) (set rs i new)) ≡ names_after_ticks on names (drop i rs)
+unfolding names_after_ticks
+names-suc on names left [] i d new less same = absurd (omega arith)
+names-suc on names left (r ∷ rs) zero d new less same = ap (λ (l : Drawer). names_after_ticks on l rs) same
+names-suc on names left (r ∷ rs) (suc i) d new less same = names-suc on names left rs i d new (omega arith) same
+
+-- .. and the names that one more leaves
+pub names-step : (on : Bool) (names left : Drawer) (rs : List ReplicaState) (i : ℕ) (d new : ReplicaState) → i < length rs → left ≡ names_after_tick on names (get_or rs i d)
+    → names_after_ticks on left (drop (i + 1) (set rs i new)) ≡ names_after_ticks on names (drop i rs)
+names-step on names left rs i d new less same =
+    let n : i + 1 ≡ suc i = omega arith in
+    ap (λ m. names_after_ticks on left (drop m (set rs i new))) n ∙ names-suc on names left rs i d new less same
+
+-- .. and those that all leave
+pub names-all : (on : Bool) (names : Drawer) (rs : List ReplicaState) (i : ℕ) → length rs ≤ i → names ≡ names_after_ticks on names (drop i rs)
+unfolding names_after_ticks
+names-all on names rs i le = ap (λ ys. names_after_ticks on names ys) (sym (drop_all i rs le))
 
 -- a mail for a group whose replica stands at a place
 pub taken-at : (group : Draw) (from : ℕ) (body : MailBody) (node : NodeState) (n : ℕ) (d new : ReplicaState) (more : List Mail) (made : List Base) → StandsAt group node.replicas n

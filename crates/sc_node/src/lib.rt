@@ -14,6 +14,7 @@ mod rows;
 mod speech;
 mod ticks;
 mod transactions;
+mod wishes;
 
 pub use node::{NodeCore, are_in_order};
 pub use orders::on_order;

@@ -4,7 +4,7 @@ ghost use Rattle.std.specs.List.{list_all};
 ghost use Rattle.sc_cmd.specs.declared.cores.Base.{Base};
 ghost use Rattle.sc_node_table.specs.Slots.{slots_ahead};
 ghost use Rattle.sc_node_table.specs.Replica.{name_of};
-ghost use Rattle.sc_node_table.specs.Node.{is_before, are_in_order, born_node, replica_of, taken_by, routed, on_mail, with_children, ticked, on_tick, node_table, may_come};
+ghost use Rattle.sc_node_table.specs.Node.{is_before, are_in_order, born_replicas, born_node, replica_of, taken_by, routed, on_mail, with_children, ticked, names_after_ticks, on_tick, node_table, may_come};
 ghost use Rattle.sc_node.specs.Places.{place_from};
 
 use crate::absent::{group_in, may_come};
@@ -25,6 +25,8 @@ use std::marker::Model;
 pub struct NodeCore {
     pub(crate) me: u16,
     pub(crate) draws: Draws,
+    /// Whether it has a policy.
+    pub(crate) policy: bool,
     pub(crate) replicas: Vec<Replica>,
 }
 
@@ -44,7 +46,7 @@ impl Model for NodeCore {
         Group = Prim.hlevel (codes, pairs, clients) in let replica : Coded ReplicaState =
         Prim.hlevel (codes, group) in Prim.hlevel (codes, replica) };
 
-    ghost view = { λ n. record { me = n.me; draws = n.draws; replicas = n.replicas.items } };
+    ghost view = { λ n. record { me = n.me; draws = n.draws; policy = n.policy; replicas = n.replicas.items } };
 }
 
 /// Whether a group's name stands before those of all these groups.
@@ -67,7 +69,7 @@ pub fn are_in_order(groups: &[Base]) -> bool
 /// The replicas at the birth of groups, of each of which the node is a member.
 fn born_replicas(alloc: Global, me: u16, groups: &[Base]) -> Result<Vec<Replica>, OutOfMemory>
     ensures { IfOk result
-        (λ replicas. replicas.items ≡ (born_node slots_ahead me groups.now).replicas) }
+        (λ replicas. replicas.items ≡ born_replicas slots_ahead me groups.now) }
 {
     let mut replicas = Vec::new(alloc);
     for base in groups {
@@ -90,27 +92,42 @@ pub(crate) fn place_of(replicas: &[Replica], group: Draw) -> Option<usize>
     None
 }
 
-/// Each replica ticks, in their order.
-fn tick_all(replicas: &mut Vec<Replica>, sent: &mut Sequence<Mail>) -> Result<(), OutOfMemory>
-    ensures { OnOk result ((replicas.new.items, sent.new) ≡ ticked replicas.old.items sent.old) }
+/// Each replica ticks, in their order, with the names that those before it left.
+fn tick_all(
+    replicas: &mut Vec<Replica>,
+    policy: bool,
+    draws: &mut Draws,
+    sent: &mut Sequence<Mail>,
+) -> Result<(), OutOfMemory>
+    ensures row { OnOk result
+        ((replicas.new.items, sent.new)
+        ≡ ticked policy draws.old replicas.old.items sent.old) }
+    ensures names { OnOk result
+        (draws.new ≡ names_after_ticks policy draws.old replicas.old.items) }
 {
     for i in 0..replicas.len() {
-        on_tick(&mut replicas[i], sent)?;
+        on_tick(&mut replicas[i], policy, draws, sent)?;
     }
     Ok(())
 }
 
 impl NodeCore {
     /// A node at the birth of groups, in the order of their names: it has a replica of each of
-    /// which it is a member. `OPEN_SLOTS` slots of a log are open at a time. `are_in_order` tests
-    /// the order.
-    pub fn born(alloc: Global, me: u16, groups: &Sequence<Base>) -> Result<NodeCore, OutOfMemory>
+    /// which it is a member. `OPEN_SLOTS` slots of a log are open at a time. With a policy it
+    /// orders what is wished of the groups that it leads. `are_in_order` tests the order.
+    pub fn born(
+        alloc: Global,
+        me: u16,
+        groups: &Sequence<Base>,
+        policy: bool,
+    ) -> Result<NodeCore, OutOfMemory>
         requires { are_in_order groups.now ≡ true }
-        ensures { IfOk result (λ node. node ≡ born_node slots_ahead me groups.now) }
+        ensures { IfOk result (λ node. node ≡ born_node slots_ahead me groups.now policy) }
     {
         Ok(NodeCore {
             me,
             draws: Draws::start(me),
+            policy,
             replicas: born_replicas(alloc, me, groups.as_slice())?,
         })
     }
@@ -232,7 +249,7 @@ impl NodeCore {
         ensures { IfOk result (λ sent. on_tick self.old ≡ (self.new, sent)) }
     {
         let mut sent = Sequence::new(alloc);
-        tick_all(&mut self.replicas, &mut sent)?;
+        tick_all(&mut self.replicas, self.policy, &mut self.draws, &mut sent)?;
         Ok(sent)
     }
 }

@@ -4,6 +4,8 @@ ghost use Rattle.sc_base.specs.Drawing.{next_name, drawn_on};
 ghost use Rattle.sc_txn.specs.Checked.{is_checked};
 ghost use Rattle.sc_machine_table.specs.Orders.{refusal_of};
 ghost use Rattle.sc_node_table.specs.Replica.{settled};
+ghost use Rattle.sc_node_table.specs.Queues.{with_call};
+ghost use Rattle.sc_node_table.specs.Policy.{with_line};
 ghost use Rattle.sc_node_table.specs.Ordering.{ordered_command, takes_name, has_drawn_all, named_refused, first_of_both, untaken, taken_or_told, ordered_row, names_after};
 
 use sc_base::{Draw, Draws, OutOfMemory, Sequence};
@@ -137,6 +139,20 @@ fn untaken(replica: &Replica, draws: &Draws, line: &OrderLine) -> Option<OrderRe
 }
 
 /// An order that is not refused waits last.
+fn put_drawn(replica: &mut Replica, draws: &mut Draws, line: &OrderLine) -> Result<(), OutOfMemory>
+    requires { (takes_name line.now.order && has_drawn_all draws.old) ≡ false }
+    ensures row { OnOk result
+        (replica.new
+        ≡ with_call (ordered_command (next_name draws.old) line.now.number line.now.order)
+        replica.old) }
+    ensures names { draws.new
+        ≡ (if takes_name line.now.order then drawn_on draws.old else draws.old) }
+{
+    let command = drawn_command(draws, line);
+    replica.put_order(command)
+}
+
+/// .. and the pump is tried.
 fn queue_order(
     replica: &mut Replica,
     draws: &mut Draws,
@@ -152,8 +168,24 @@ fn queue_order(
     ensures names { draws.new
         ≡ (if takes_name line.now.order then drawn_on draws.old else draws.old) }
 {
-    let command = drawn_command(draws, line);
-    replica.queue_order(command, out)
+    put_drawn(replica, draws, line)?;
+    replica.pump(out)
+}
+
+/// An order of which nothing is told: it waits last, unless it is refused.
+#[tactic(auto, using(crate::proofs::Naming::has_name))]
+pub(crate) fn put_untold(
+    replica: &mut Replica,
+    draws: &mut Draws,
+    line: &OrderLine,
+) -> Result<(), OutOfMemory>
+    ensures row { OnOk result (replica.new ≡ with_line draws.old (Some line.now) replica.old) }
+    ensures names { OnOk result (draws.new ≡ names_after draws.old line.now replica.old) }
+{
+    match untaken(replica, draws, line) {
+        Some(_) => Ok(()),
+        None => put_drawn(replica, draws, line),
+    }
 }
 
 /// An order to its group: it waits last, or the desk is told why not. An order of a split or a

@@ -1,9 +1,8 @@
 //! The rows of a replica's table, by the input.
 ghost use Rattle.std.specs.Prelude.{◌≡◌, true, IfOk, OnOk};
 ghost use Rattle.sc_node_table.specs.Node.{may_come};
-ghost use Rattle.sc_node_table.specs.Rows.{mailed, stepped};
+ghost use Rattle.sc_node_table.specs.Rows.{mailed, stepped, names_left};
 ghost use Rattle.sc_node_table.specs.Births.{mailed_children, made_in};
-ghost use Rattle.sc_node_table.specs.Ordering.{names_left};
 ghost use Rattle.sc_node.specs.Given.{is_of_transaction, may_take};
 
 use crate::counts::{on_accepted, on_learn};
@@ -120,21 +119,22 @@ pub fn take_mail(
     }
 }
 
-/// One step by the replica's table: the new value, the mails behind those that are there, and
-/// the children whose replicas the node must make. The names of splits and transactions are
-/// drawn from the node's. Only a request may come from others than the nodes. After want of
-/// memory the replica may only be dropped.
+/// One step by the replica's table, on a node with a policy or without: the new value, the mails
+/// behind those that are there, and the children whose replicas the node must make. The names of
+/// splits and transactions are drawn from the node's. Only a request may come from others than the
+/// nodes. After want of memory the replica may only be dropped.
 #[tactic(auto, unfolding(sc_node_table::specs::Rows::stepped))]
 pub fn step_replica(
     replica: &mut Replica,
     input: &ReplicaInput,
+    policy: bool,
     draws: &mut Draws,
     out: &mut Sequence<Mail>,
 ) -> Result<Made, OutOfMemory>
     requires { may_take input.now ≡ true }
     ensures place { OnOk result
-        ((replica.new, out.new) ≡ stepped draws.old input.now (replica.old, out.old)) }
-    ensures draws { OnOk result (draws.new ≡ names_left draws.old input.now replica.old) }
+        ((replica.new, out.new) ≡ stepped policy draws.old input.now (replica.old, out.old)) }
+    ensures draws { OnOk result (draws.new ≡ names_left policy draws.old input.now replica.old) }
     ensures made { IfOk result
         (λ made. made.children ≡ made_in input.now (replica.old, out.old)) }
 {
@@ -143,7 +143,7 @@ pub fn step_replica(
         ReplicaInput::Got(mail) => {
             take_mail(replica, mail.from, &mail.body, out, &mut children)?;
         }
-        ReplicaInput::Tick => on_tick(replica, out)?,
+        ReplicaInput::Tick => on_tick(replica, policy, draws, out)?,
         ReplicaInput::Told(line) => on_order(replica, draws, line, out)?,
     }
     Ok(Made { children })

@@ -1,9 +1,11 @@
 //! A tick of a replica.
 ghost use Rattle.std.specs.Prelude.{◌≡◌, OnOk};
 ghost use Rattle.sc_node_table.specs.Reminders.{impatient, waited_in, reminded};
+ghost use Rattle.sc_node_table.specs.Policy.{wished_line, names_with, wishing, names_after_tick};
 ghost use Rattle.sc_node_table.specs.Rows.{tick_row};
 
-use sc_base::{Draw, OutOfMemory, Sequence};
+use crate::wishes::wish;
+use sc_base::{Draw, Draws, OutOfMemory, Sequence};
 use sc_cmd::{Command, Lock};
 use sc_mail::Mail;
 use sc_replica::Replica;
@@ -38,17 +40,48 @@ fn wait(replica: &mut Replica) -> Result<(), OutOfMemory>
 /// Who is bound in a transaction asks again, or says its vote again.
 #[tactic(auto, unfolding(sc_node_table::specs::Reminders::reminded))]
 fn remind(replica: &mut Replica, out: &mut Sequence<Mail>) -> Result<(), OutOfMemory>
-    ensures { OnOk result ((replica.new, out.new) ≡ reminded (replica.old, out.old)) }
+    ensures row { OnOk result ((replica.new, out.new) ≡ reminded (replica.old, out.old)) }
+    ensures waits { OnOk result
+        (replica.new ≡ waited_in replica.old.group.core.lock replica.old) }
 {
     transactions::remind(replica.alloc(), replica.machine(), replica.me(), out)?;
     wait(replica)
 }
 
-/// A tick of the node's clock, by the row of Tick. The mails come behind those that are there. After
-/// want of memory the replica may only be dropped.
+/// .. and then what a policy wishes is ordered, if one is on.
+#[tactic(auto, unfolding(sc_node_table::specs::Policy::wishing))]
+fn remind_and_wish(
+    replica: &mut Replica,
+    policy: bool,
+    draws: &mut Draws,
+    out: &mut Sequence<Mail>,
+) -> Result<(), OutOfMemory>
+    ensures row { OnOk result
+        ((replica.new, out.new)
+        ≡ wishing policy draws.old (reminded (replica.old, out.old))) }
+    ensures names { OnOk result
+        (draws.new
+        ≡ names_with draws.old
+        (wished_line policy (waited_in replica.old.group.core.lock replica.old))
+        (waited_in replica.old.group.core.lock replica.old)) }
+{
+    remind(replica, out)?;
+    wish(replica, policy, draws)
+}
+
+/// A tick of the clock of a node with a policy or without, by the row of Tick. What the policy
+/// orders takes a name of the node. The mails come behind those that are there. After want of
+/// memory the replica may only be dropped.
 #[tactic(auto, unfolding(sc_node_table::specs::Rows::tick_row))]
-pub fn on_tick(replica: &mut Replica, out: &mut Sequence<Mail>) -> Result<(), OutOfMemory>
-    ensures { OnOk result ((replica.new, out.new) ≡ tick_row (replica.old, out.old)) }
+pub fn on_tick(
+    replica: &mut Replica,
+    policy: bool,
+    draws: &mut Draws,
+    out: &mut Sequence<Mail>,
+) -> Result<(), OutOfMemory>
+    ensures row { OnOk result
+        ((replica.new, out.new) ≡ tick_row policy draws.old (replica.old, out.old)) }
+    ensures names { OnOk result (draws.new ≡ names_after_tick policy draws.old replica.old) }
 {
     if !replica.takes_part() {
         return Ok(());
@@ -57,6 +90,6 @@ pub fn on_tick(replica: &mut Replica, out: &mut Sequence<Mail>) -> Result<(), Ou
         return replica.elect(out);
     }
     replica.repeat(out)?;
-    remind(replica, out)?;
+    remind_and_wish(replica, policy, draws, out)?;
     replica.pump(out)
 }

@@ -1,5 +1,6 @@
 mod Runs
 mod TransactionRuns
+mod PolicyRuns
 pub mod Frames
 pub mod SamenessLemmas
 pub mod MemberRuns

@@ -1,5 +1,5 @@
 -- Small runs of a replica, computed: what it sends from birth on.
-use Rattle.std.proofs.Common.{◌≡◌, ℕ, ◌^◌, List, [], ◌∷◌, map, replicate, Some, None, refl}
+use Rattle.std.proofs.Common.{◌≡◌, ℕ, ◌^◌, false, List, [], ◌∷◌, map, replicate, Some, None, refl}
 use Rattle.sc_base.specs.declared.names.Draw.{Draw}
 use Rattle.sc_base.specs.Drawing.{Drawer}
 use Rattle.sc_base.specs.declared.names.Ballot.{Ballot}
@@ -26,6 +26,7 @@ use Rattle.sc_node_table.specs.Execute.{entered, announced, told_call, told_effe
 use Rattle.sc_node_table.specs.Voting.{promised, prepare_row, took, accept_row, promise_row, readied, accepted_row, nack_row}
 use Rattle.sc_node_table.specs.Spoken.{spoken, spoken_mails, told_begun, went_on}
 use Rattle.sc_node_table.specs.Reminders.{reminded}
+use Rattle.sc_node_table.specs.Policy.{wishing}
 use Rattle.sc_node_table.specs.Ordering.{ordered_row}
 use Rattle.sc_node_table.specs.Acts.{act_queued}
 use Rattle.sc_node_table.specs.Transactions.{offer_row, watch_row, vote_row, watched_row, elsewhere_row, outcome_row}
@@ -75,7 +76,7 @@ names = record { node = 1; next = 1 }
 -- the place after these inputs
 abbrev pub run : Place → List ReplicaInput → Place
 run place [] = place
-run place (input ∷ inputs) = run (stepped names input place) inputs
+run place (input ∷ inputs) = run (stepped false names input place) inputs
 
 -- a leader has four requests in flight at once, and the fifth waits
 fifth_waits :
@@ -91,7 +92,7 @@ fifth_waits :
     ∷ mail 1 1 (Accept g (b 1 1) 3 (Call 3 1 (Put (99 ∷ []) (120 ∷ []))))
     ∷ mail 1 1 (Accept g (b 1 1) 4 (Call 4 1 (Put (100 ∷ []) (120 ∷ []))))
     ∷ mail 1 1 (Accepted g (b 1 1) 1) ∷ []
-unfolding stepped mailed request_row requested queued learn_row taught ask_row asked_again told_last tick_row prepare_row promised accept_row took promise_row accepted_row readied nack_row pumped pumped_from found_for from_queues from_calls next_call offered sent_all sent_others answered answered_all nodes_to elected ended saw entered announced told_call learnt_to landed left looked executed_one executed_ready executed put_back forgotten told_effect told_order welcomed welcomed_all dismissed dismissed_all install_to spoken spoken_mails told_begun went_on reminded ordered_row offer_row watch_row vote_row watched_row elsewhere_row outcome_row act_queued
+unfolding stepped mailed request_row requested queued learn_row taught ask_row asked_again told_last tick_row prepare_row promised accept_row took promise_row accepted_row readied nack_row pumped pumped_from found_for from_queues from_calls next_call offered sent_all sent_others answered answered_all nodes_to elected ended saw entered announced told_call learnt_to landed left looked executed_one executed_ready executed put_back forgotten told_effect told_order welcomed welcomed_all dismissed dismissed_all install_to spoken spoken_mails told_begun went_on reminded wishing ordered_row offer_row watch_row vote_row watched_row elsewhere_row outcome_row act_queued
 fifth_waits = refl
 
 -- one that is elected offers a Noop below a slot that was reported, and there the value that was reported; the Noop is counted and executed
@@ -121,7 +122,7 @@ gap :
     ∷ mail 2 2 (Accepted g (b 2 2) 2)
     ∷ mail 2 1 (Learn g 1 Noop)
     ∷ mail 2 3 (Learn g 1 Noop) ∷ []
-unfolding stepped mailed request_row requested queued learn_row taught ask_row asked_again told_last tick_row prepare_row promised accept_row took promise_row accepted_row readied nack_row pumped pumped_from found_for from_queues from_calls next_call offered sent_all sent_others answered answered_all nodes_to elected ended saw entered announced told_call learnt_to landed left looked executed_one executed_ready executed put_back forgotten told_effect told_order welcomed welcomed_all dismissed dismissed_all install_to spoken spoken_mails told_begun went_on reminded ordered_row offer_row watch_row vote_row watched_row elsewhere_row outcome_row act_queued
+unfolding stepped mailed request_row requested queued learn_row taught ask_row asked_again told_last tick_row prepare_row promised accept_row took promise_row accepted_row readied nack_row pumped pumped_from found_for from_queues from_calls next_call offered sent_all sent_others answered answered_all nodes_to elected ended saw entered announced told_call learnt_to landed left looked executed_one executed_ready executed put_back forgotten told_effect told_order welcomed welcomed_all dismissed dismissed_all install_to spoken spoken_mails told_begun went_on reminded wishing ordered_row offer_row watch_row vote_row watched_row elsewhere_row outcome_row act_queued
 gap = refl
 
 -- a leader that sees a higher ballot answers what is in flight and what waits, and then promises
@@ -151,7 +152,7 @@ stop :
     ∷ mail 1 36 (Answer g 1 (Says.NotLeader (Some 2)))
     ∷ mail 1 37 (Answer g 1 (Says.NotLeader (Some 2)))
     ∷ mail 1 2 (Promise g (b 2 2) []) ∷ []
-unfolding stepped mailed request_row requested queued learn_row taught ask_row asked_again told_last tick_row prepare_row promised accept_row took promise_row accepted_row readied nack_row pumped pumped_from found_for from_queues from_calls next_call offered sent_all sent_others answered answered_all nodes_to elected ended saw entered announced told_call learnt_to landed left looked executed_one executed_ready executed put_back forgotten told_effect told_order welcomed welcomed_all dismissed dismissed_all install_to spoken spoken_mails told_begun went_on reminded ordered_row offer_row watch_row vote_row watched_row elsewhere_row outcome_row act_queued
+unfolding stepped mailed request_row requested queued learn_row taught ask_row asked_again told_last tick_row prepare_row promised accept_row took promise_row accepted_row readied nack_row pumped pumped_from found_for from_queues from_calls next_call offered sent_all sent_others answered answered_all nodes_to elected ended saw entered announced told_call learnt_to landed left looked executed_one executed_ready executed put_back forgotten told_effect told_order welcomed welcomed_all dismissed dismissed_all install_to spoken spoken_mails told_begun went_on reminded wishing ordered_row offer_row watch_row vote_row watched_row elsewhere_row outcome_row act_queued
 stop = refl
 
 -- a call whose slot went to a learnt Noop is offered again at the next free slot
@@ -169,7 +170,7 @@ lost_slot :
     ∷ mail 1 1 (Accept g (b 1 1) 3 (Call 1 1 (Put (97 ∷ []) (120 ∷ []))))
     ∷ mail 1 2 (Accept g (b 1 1) 3 (Call 1 1 (Put (97 ∷ []) (120 ∷ []))))
     ∷ mail 1 3 (Accept g (b 1 1) 3 (Call 1 1 (Put (97 ∷ []) (120 ∷ [])))) ∷ []
-unfolding stepped mailed request_row requested queued learn_row taught ask_row asked_again told_last tick_row prepare_row promised accept_row took promise_row accepted_row readied nack_row pumped pumped_from found_for from_queues from_calls next_call offered sent_all sent_others answered answered_all nodes_to elected ended saw entered announced told_call learnt_to landed left looked executed_one executed_ready executed put_back forgotten told_effect told_order welcomed welcomed_all dismissed dismissed_all install_to spoken spoken_mails told_begun went_on reminded ordered_row offer_row watch_row vote_row watched_row elsewhere_row outcome_row act_queued
+unfolding stepped mailed request_row requested queued learn_row taught ask_row asked_again told_last tick_row prepare_row promised accept_row took promise_row accepted_row readied nack_row pumped pumped_from found_for from_queues from_calls next_call offered sent_all sent_others answered answered_all nodes_to elected ended saw entered announced told_call learnt_to landed left looked executed_one executed_ready executed put_back forgotten told_effect told_order welcomed welcomed_all dismissed dismissed_all install_to spoken spoken_mails told_begun went_on reminded wishing ordered_row offer_row watch_row vote_row watched_row elsewhere_row outcome_row act_queued
 lost_slot = refl
 
 -- one that promised a higher ballot ignores an accept of a lower one
@@ -181,7 +182,7 @@ follower :
     ≡ mail 3 2 (Promise g (b 2 2) [])
     ∷ mail 3 2 (Accepted g (b 2 2) 1)
     ∷ mail 3 1 (Nack g (b 2 2)) ∷ []
-unfolding stepped mailed request_row requested queued learn_row taught ask_row asked_again told_last tick_row prepare_row promised accept_row took promise_row accepted_row readied nack_row pumped pumped_from found_for from_queues from_calls next_call offered sent_all sent_others answered answered_all nodes_to elected ended saw entered announced told_call learnt_to landed left looked executed_one executed_ready executed put_back forgotten told_effect told_order welcomed welcomed_all dismissed dismissed_all install_to spoken spoken_mails told_begun went_on reminded ordered_row offer_row watch_row vote_row watched_row elsewhere_row outcome_row act_queued
+unfolding stepped mailed request_row requested queued learn_row taught ask_row asked_again told_last tick_row prepare_row promised accept_row took promise_row accepted_row readied nack_row pumped pumped_from found_for from_queues from_calls next_call offered sent_all sent_others answered answered_all nodes_to elected ended saw entered announced told_call learnt_to landed left looked executed_one executed_ready executed put_back forgotten told_effect told_order welcomed welcomed_all dismissed dismissed_all install_to spoken spoken_mails told_begun went_on reminded wishing ordered_row offer_row watch_row vote_row watched_row elsewhere_row outcome_row act_queued
 follower = refl
 
 -- a Nack stops a leader, and its next ballot is above the one that it was told of
@@ -197,7 +198,7 @@ nack :
     ∷ mail 1 1 (Prepare g (b 3 1) 1)
     ∷ mail 1 2 (Prepare g (b 3 1) 1)
     ∷ mail 1 3 (Prepare g (b 3 1) 1) ∷ []
-unfolding stepped mailed request_row requested queued learn_row taught ask_row asked_again told_last tick_row prepare_row promised accept_row took promise_row accepted_row readied nack_row pumped pumped_from found_for from_queues from_calls next_call offered sent_all sent_others answered answered_all nodes_to elected ended saw entered announced told_call learnt_to landed left looked executed_one executed_ready executed put_back forgotten told_effect told_order welcomed welcomed_all dismissed dismissed_all install_to spoken spoken_mails told_begun went_on reminded ordered_row offer_row watch_row vote_row watched_row elsewhere_row outcome_row act_queued
+unfolding stepped mailed request_row requested queued learn_row taught ask_row asked_again told_last tick_row prepare_row promised accept_row took promise_row accepted_row readied nack_row pumped pumped_from found_for from_queues from_calls next_call offered sent_all sent_others answered answered_all nodes_to elected ended saw entered announced told_call learnt_to landed left looked executed_one executed_ready executed put_back forgotten told_effect told_order welcomed welcomed_all dismissed dismissed_all install_to spoken spoken_mails told_begun went_on reminded wishing ordered_row offer_row watch_row vote_row watched_row elsewhere_row outcome_row act_queued
 nack = refl
 
 -- a Noop that lost its slot to a learnt call is dropped
@@ -220,7 +221,7 @@ noop_lost :
     ∷ mail 2 1 (Accept g (b 2 2) 2 (Call 2 1 (Put (97 ∷ []) (121 ∷ []))))
     ∷ mail 2 2 (Accept g (b 2 2) 2 (Call 2 1 (Put (97 ∷ []) (121 ∷ []))))
     ∷ mail 2 3 (Accept g (b 2 2) 2 (Call 2 1 (Put (97 ∷ []) (121 ∷ [])))) ∷ []
-unfolding stepped mailed request_row requested queued learn_row taught ask_row asked_again told_last tick_row prepare_row promised accept_row took promise_row accepted_row readied nack_row pumped pumped_from found_for from_queues from_calls next_call offered sent_all sent_others answered answered_all nodes_to elected ended saw entered announced told_call learnt_to landed left looked executed_one executed_ready executed put_back forgotten told_effect told_order welcomed welcomed_all dismissed dismissed_all install_to spoken spoken_mails told_begun went_on reminded ordered_row offer_row watch_row vote_row watched_row elsewhere_row outcome_row act_queued
+unfolding stepped mailed request_row requested queued learn_row taught ask_row asked_again told_last tick_row prepare_row promised accept_row took promise_row accepted_row readied nack_row pumped pumped_from found_for from_queues from_calls next_call offered sent_all sent_others answered answered_all nodes_to elected ended saw entered announced told_call learnt_to landed left looked executed_one executed_ready executed put_back forgotten told_effect told_order welcomed welcomed_all dismissed dismissed_all install_to spoken spoken_mails told_begun went_on reminded wishing ordered_row offer_row watch_row vote_row watched_row elsewhere_row outcome_row act_queued
 noop_lost = refl
 
 -- a tick asks again each member whose vote was not counted
@@ -239,7 +240,7 @@ tick :
     ∷ mail 1 3 (Accept g (b 1 1) 1 (Call 1 1 (Put (97 ∷ []) (120 ∷ []))))
     ∷ mail 1 2 (Accept g (b 1 1) 1 (Call 1 1 (Put (97 ∷ []) (120 ∷ []))))
     ∷ mail 1 3 (Accept g (b 1 1) 1 (Call 1 1 (Put (97 ∷ []) (120 ∷ [])))) ∷ []
-unfolding stepped mailed request_row requested queued learn_row taught ask_row asked_again told_last tick_row prepare_row promised accept_row took promise_row accepted_row readied nack_row pumped pumped_from found_for from_queues from_calls next_call offered sent_all sent_others answered answered_all nodes_to elected ended saw entered announced told_call learnt_to landed left looked executed_one executed_ready executed put_back forgotten told_effect told_order welcomed welcomed_all dismissed dismissed_all install_to spoken spoken_mails told_begun went_on reminded ordered_row offer_row watch_row vote_row watched_row elsewhere_row outcome_row act_queued
+unfolding stepped mailed request_row requested queued learn_row taught ask_row asked_again told_last tick_row prepare_row promised accept_row took promise_row accepted_row readied nack_row pumped pumped_from found_for from_queues from_calls next_call offered sent_all sent_others answered answered_all nodes_to elected ended saw entered announced told_call learnt_to landed left looked executed_one executed_ready executed put_back forgotten told_effect told_order welcomed welcomed_all dismissed dismissed_all install_to spoken spoken_mails told_begun went_on reminded wishing ordered_row offer_row watch_row vote_row watched_row elsewhere_row outcome_row act_queued
 tick = refl
 
 -- two commands in flight, of which the second has its majority first: it is executed after the first. The group no longer holds their keys
@@ -257,7 +258,7 @@ elsewhere to = mail 1 to (Answer g 1 (Says.NotMine (record { lo = 0; len = 1 }) 
 second_first :
     (run (two_in_flight, []) (Got (mail 1 1 (Accepted g (b 1 1) 2)) ∷ Got (mail 1 1 (Accepted g (b 1 1) 1)) ∷ [])).1
     ≡ elsewhere 33 ∷ elsewhere 34 ∷ []
-unfolding stepped mailed request_row requested queued learn_row taught ask_row asked_again told_last tick_row prepare_row promised accept_row took promise_row accepted_row readied nack_row pumped pumped_from found_for from_queues from_calls next_call offered sent_all sent_others answered answered_all nodes_to elected ended saw entered announced told_call learnt_to landed left looked executed_one executed_ready executed put_back forgotten told_effect told_order welcomed welcomed_all dismissed dismissed_all install_to spoken spoken_mails told_begun went_on reminded ordered_row offer_row watch_row vote_row watched_row elsewhere_row outcome_row act_queued
+unfolding stepped mailed request_row requested queued learn_row taught ask_row asked_again told_last tick_row prepare_row promised accept_row took promise_row accepted_row readied nack_row pumped pumped_from found_for from_queues from_calls next_call offered sent_all sent_others answered answered_all nodes_to elected ended saw entered announced told_call learnt_to landed left looked executed_one executed_ready executed put_back forgotten told_effect told_order welcomed welcomed_all dismissed dismissed_all install_to spoken spoken_mails told_begun went_on reminded wishing ordered_row offer_row watch_row vote_row watched_row elsewhere_row outcome_row act_queued
 second_first = refl
 
 -- an Ask is answered by at most 32 entries
@@ -265,10 +266,10 @@ abbrev long : ReplicaState
 long = record (born_replica 4 1 (base (1 ∷ 2 ∷ 3 ∷ []))) { log = record { base = 0; entries = replicate 40 Noop } }
 
 asked : (run (long, []) (Got (mail 2 1 (Ask g 3)) ∷ [])).1 ≡ map (λ slot. mail 1 2 (Learn g slot Noop)) (numbers_from 3 32)
-unfolding stepped mailed ask_row taught spoken spoken_mails told_begun went_on reminded ordered_row offer_row watch_row vote_row watched_row elsewhere_row outcome_row act_queued
+unfolding stepped mailed ask_row taught spoken spoken_mails told_begun went_on reminded wishing ordered_row offer_row watch_row vote_row watched_row elsewhere_row outcome_row act_queued
 asked = refl
 
 -- a tick of a settled leader with nothing in flight tells the others its last entry
 told_again : (run (long, []) (Tick ∷ [])).1 ≡ mail 1 2 (Learn g 40 Noop) ∷ mail 1 3 (Learn g 40 Noop) ∷ []
-unfolding stepped mailed request_row requested queued learn_row taught ask_row asked_again told_last tick_row prepare_row promised accept_row took promise_row accepted_row readied nack_row pumped pumped_from found_for from_queues from_calls next_call offered sent_all sent_others answered answered_all nodes_to elected ended saw entered announced told_call learnt_to landed left looked executed_one executed_ready executed put_back forgotten told_effect told_order welcomed welcomed_all dismissed dismissed_all install_to spoken spoken_mails told_begun went_on reminded ordered_row offer_row watch_row vote_row watched_row elsewhere_row outcome_row act_queued
+unfolding stepped mailed request_row requested queued learn_row taught ask_row asked_again told_last tick_row prepare_row promised accept_row took promise_row accepted_row readied nack_row pumped pumped_from found_for from_queues from_calls next_call offered sent_all sent_others answered answered_all nodes_to elected ended saw entered announced told_call learnt_to landed left looked executed_one executed_ready executed put_back forgotten told_effect told_order welcomed welcomed_all dismissed dismissed_all install_to spoken spoken_mails told_begun went_on reminded wishing ordered_row offer_row watch_row vote_row watched_row elsewhere_row outcome_row act_queued
 told_again = refl

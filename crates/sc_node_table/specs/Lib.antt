@@ -6,6 +6,7 @@ pub mod Install
 pub mod Mails
 pub mod Node
 pub mod Ordering
+pub mod Policy
 pub mod Pump
 pub mod Questions
 pub mod Queues

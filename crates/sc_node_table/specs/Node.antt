@@ -23,17 +23,28 @@ use Rattle.sc_node_table.specs.Replica.{ReplicaState, Place, name_of, born_repli
 use Rattle.sc_node_table.specs.Mails.{sent, answer_to, told_desk}
 use Rattle.sc_node_table.specs.Rows.{mailed, tick_row, made_by}
 use Rattle.sc_node_table.specs.Ordering.{ordered_row, names_after}
+use Rattle.sc_node_table.specs.Policy.{names_after_tick}
 use Rattle.sc_node_table.specs.Births.{mailed_children}
 
--- the node's number, the names that it draws, and its replicas in the order of their groups' names
+-- the node's number, the names that it draws, whether it has a policy, and its replicas in the order of their groups' names
 pub record NodeState : Type 0 where
   pub me : ℕ
   pub draws : Drawer
+  pub policy : Bool
   pub replicas : List ReplicaState
 
--- a node at the birth of groups that are in the order of their names, so many slots of a log of which are open at a time: it has a replica of each of which it is a member
-abbrev pub born_node : ℕ → ℕ → List Base → NodeState
-born_node ahead me groups = record { me = me; draws = record { node = me; next = 1 }; replicas = map (λ base. born_replica ahead me base) (filter (λ base. is_member base.core.members me) groups) }
+-- the replicas at the birth of groups that are in the order of their names, so many slots of a log of which are open at a time: one of each group of which the node is a member
+abbrev pub born_replicas : ℕ → ℕ → List Base → List ReplicaState
+born_replicas ahead me groups = map (λ base. born_replica ahead me base) (filter (λ base. is_member base.core.members me) groups)
+
+-- a node at the birth of groups, with a policy or without
+abbrev pub born_node : ℕ → ℕ → List Base → Bool → NodeState
+born_node ahead me groups policy = record {
+  me = me;
+  draws = record { node = me; next = 1 };
+  policy = policy;
+  replicas = born_replicas ahead me groups;
+}
 
 -- the replica of a group
 abbrev pub replica_of : Draw → List ReplicaState → Option ReplicaState
@@ -180,19 +191,24 @@ ordered_of (Some r) line node =
 abbrev pub on_order : OrderLine → NodeState → NodeState × List Mail
 on_order line node = ordered_of (replica_of (group_of_order line.order) node.replicas) line node
 
--- each replica ticks, in their order
-unfoldable pub ticked : List ReplicaState → List Mail → List ReplicaState × List Mail
-ticked [] mails = ([], mails)
-ticked (r ∷ replicas) mails =
-    let after = tick_row (r, mails) in
-    let others = ticked replicas after.1 in
+-- each replica ticks, in their order, with the names that those before it left
+unfoldable pub ticked : Bool → Drawer → List ReplicaState → List Mail → List ReplicaState × List Mail
+ticked on drawer [] mails = ([], mails)
+ticked on drawer (r ∷ replicas) mails =
+    let after = tick_row on drawer (r, mails) in
+    let others = ticked on (names_after_tick on drawer r) replicas after.1 in
     (after.0 ∷ others.0, others.1)
+
+-- .. and the names that all leave
+unfoldable pub names_after_ticks : Bool → Drawer → List ReplicaState → Drawer
+names_after_ticks on drawer [] = drawer
+names_after_ticks on drawer (r ∷ replicas) = names_after_ticks on (names_after_tick on drawer r) replicas
 
 -- the node ticks
 abbrev pub on_tick : NodeState → NodeState × List Mail
 on_tick node =
-    let after = ticked node.replicas [] in
-    (record node { replicas = after.0 }, after.1)
+    let after = ticked node.policy node.draws node.replicas [] in
+    (record node { draws = names_after_ticks node.policy node.draws node.replicas; replicas = after.0 }, after.1)
 
 -- a node's table
 abbrev pub node_table : NodeState → Input Mail OrderLine → NodeState × List Mail

@@ -1,5 +1,5 @@
 -- Orders of all kinds: which are taken, and the names that they take of the node.
-use Rattle.std.specs.Prelude.{ℕ, Bool, true, false, ◌-◌, ◌^◌, ◌==◌, ◌&&◌, ◌||◌, not, [], ◌∷◌, ◌++◌, if◌then◌else◌, Option, Some, None, is_some, is_none}
+use Rattle.std.specs.Prelude.{ℕ, Bool, true, false, ◌-◌, ◌^◌, ◌==◌, ◌&&◌, ◌||◌, not, if◌then◌else◌, Option, Some, None, is_some, is_none}
 use Rattle.sc_base.specs.Drawing.{Drawer, next_name, drawn_on}
 use Rattle.sc_base.specs.declared.names.Draw.{Draw}
 use Rattle.sc_cmd.specs.declared.bodies.Body.TheVariants as To
@@ -12,10 +12,9 @@ use Rattle.sc_cmd.specs.declared.orders.OrderRefusal.{OrderRefusal}
 use Rattle.sc_cmd.specs.declared.orders.OrderRefusal.TheVariants.{NotLeader}
 use Rattle.sc_cmd.specs.declared.orders.ToldResult.TheVariants.{Refused}
 use Rattle.sc_machine_table.specs.Orders.{refusal_of}
-use Rattle.sc_node_table.specs.declared.ReplicaInput.{ReplicaInput}
-use Rattle.sc_node_table.specs.declared.ReplicaInput.TheVariants as Given
 use Rattle.sc_node_table.specs.Replica.{ReplicaState, Place, settled}
 use Rattle.sc_node_table.specs.Mails.{told_desk}
+use Rattle.sc_node_table.specs.Queues.{with_call}
 use Rattle.sc_node_table.specs.Pump.{pumped}
 
 -- the command of an order, with a name for its child or its transaction
@@ -58,7 +57,7 @@ untaken drawer line r =
 -- it waits last, or the desk is told why not
 abbrev pub taken_or_told : Option OrderRefusal → ℕ → Command → Place → Place
 taken_or_told (Some why) number command (r, mails) = (r, told_desk r.me number (Refused why) mails)
-taken_or_told None number command (r, mails) = pumped (record r { calls = r.calls ++ command ∷ [] }, mails)
+taken_or_told None number command (r, mails) = pumped (with_call command r, mails)
 
 -- Told order
 unfoldable pub ordered_row : Drawer → OrderLine → Place → Place
@@ -68,9 +67,3 @@ ordered_row drawer line (r, mails) =
 -- the names that are left: an order that is taken takes one, if its kind takes any
 abbrev pub names_after : Drawer → OrderLine → ReplicaState → Drawer
 names_after drawer line r = if takes_name line.order && is_none (untaken drawer line r) then drawn_on drawer else drawer
-
--- the names that are left after a step
-abbrev pub names_left : Drawer → ReplicaInput → ReplicaState → Drawer
-names_left drawer (Given.Got mail) r = drawer
-names_left drawer Given.Tick r = drawer
-names_left drawer (Given.Told line) r = names_after drawer line r

@@ -1,8 +1,12 @@
 -- The waiting commands of a replica.
-use Rattle.std.specs.Prelude.{ℕ, ◌==◌, nat_lt, Bool, false, List, [], ◌∷◌, if◌then◌else◌, Option, Some, None}
+use Rattle.std.specs.Prelude.{ℕ, ◌==◌, nat_lt, Bool, false, List, [], ◌∷◌, ◌++◌, if◌then◌else◌, Option, Some, None}
 use Rattle.sc_cmd.specs.declared.commands.Command.{Command}
 use Rattle.sc_cmd.specs.declared.commands.Command.TheVariants.{Noop, Call, Join, Leave, Split, Begin, Prepared, RecordVote, GiveUp, Finish, Watched, RecordWatch}
 use Rattle.sc_node_table.specs.Replica.{ReplicaState}
+
+-- a replica with one more order, which waits last
+abbrev pub with_call : Command → ReplicaState → ReplicaState
+with_call command r = record r { calls = r.calls ++ command ∷ [] }
 
 -- the number of a client's waiting call
 abbrev pub call_of : List Command → ℕ → Option ℕ

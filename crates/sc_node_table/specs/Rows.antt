@@ -28,7 +28,8 @@ use Rattle.sc_node_table.specs.Install.{install_to, named, jumped}
 use Rattle.sc_node_table.specs.Pump.{pumped, serves_calls}
 use Rattle.sc_node_table.specs.Transactions.{offer_row, watch_row, vote_row, watched_row, elsewhere_row, outcome_row}
 use Rattle.sc_node_table.specs.Reminders.{reminded}
-use Rattle.sc_node_table.specs.Ordering.{ordered_row}
+use Rattle.sc_node_table.specs.Ordering.{ordered_row, names_after}
+use Rattle.sc_node_table.specs.Policy.{wishing, names_after_tick}
 use Rattle.sc_node_table.specs.Voting.{prepare_row, promise_row, accept_row, accepted_row, nack_row}
 
 -- why a request is not taken, the first that holds
@@ -124,13 +125,13 @@ unfoldable pub told_last : Option Command → ReplicaState → List Mail → Lis
 told_last None r mails = mails
 told_last (Some command) r mails = sent_others r.me (members r) (Learn (name_of r) (next r - 1) command) mails
 
--- Tick: a member that is not settled is elected; one that is settled asks again, reminds the other parties of a transaction, and pumps
-unfoldable pub tick_row : Place → Place
-tick_row (r, mails) =
+-- Tick: a member that is not settled is elected; one that is settled asks again, reminds the other parties of a transaction, orders what a policy wishes, if one is on, and pumps
+unfoldable pub tick_row : Bool → Drawer → Place → Place
+tick_row on drawer (r, mails) =
     if is_some r.group.core.gone || not (is_member (members r) r.me) then (r, mails)
     else if not (settled r) then elected (r, mails)
-    else if is_idle r then pumped (reminded (r, told_last (entry_at (next r - 1) r.log) r mails))
-    else pumped (reminded (r, asked_again r (next r) r.sets mails))
+    else if is_idle r then pumped (wishing on drawer (reminded (r, told_last (entry_at (next r - 1) r.log) r mails)))
+    else pumped (wishing on drawer (reminded (r, asked_again r (next r) r.sets mails)))
 
 -- a mail from an actor; those of no row change nothing
 unfoldable pub mailed : ℕ → MailBody → Place → Place
@@ -152,8 +153,14 @@ mailed from (TxWatch tx watch) place = watch_row from tx watch place
 mailed from (TxWatched tx coord part vote) place = watched_row from tx part vote place
 mailed from (Told order result) place = place
 
--- a replica's table, with the names that its node draws
-unfoldable pub stepped : Drawer → ReplicaInput → Place → Place
-stepped drawer (Given.Got mail) place = mailed mail.from mail.body place
-stepped drawer Given.Tick place = tick_row place
-stepped drawer (Given.Told line) place = ordered_row drawer line place
+-- a replica's table, with whether its node has a policy, and the names that its node draws
+unfoldable pub stepped : Bool → Drawer → ReplicaInput → Place → Place
+stepped on drawer (Given.Got mail) place = mailed mail.from mail.body place
+stepped on drawer Given.Tick place = tick_row on drawer place
+stepped on drawer (Given.Told line) place = ordered_row drawer line place
+
+-- the names that are left after a step
+abbrev pub names_left : Bool → Drawer → ReplicaInput → ReplicaState → Drawer
+names_left on drawer (Given.Got mail) r = drawer
+names_left on drawer Given.Tick r = names_after_tick on drawer r
+names_left on drawer (Given.Told line) r = names_after drawer line r

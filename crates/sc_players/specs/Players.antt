@@ -1,5 +1,5 @@
 -- The players of a scenario, as the system that the walk runs: each node and each client as the value of its table.
-use Rattle.std.specs.Prelude.{ℕ, ◌+◌, ◌≤◌, List, [], ◌∷◌, ◌++◌, length, map, All}
+use Rattle.std.specs.Prelude.{ℕ, ◌+◌, ◌≤◌, Bool, List, [], ◌∷◌, ◌++◌, length, map, All}
 use Rattle.std.proofs.Common.{lit≤}
 use Rattle.sc_base.specs.declared.ops.Reply.{Reply}
 use Rattle.sc_base.specs.Limits.{client_actor, most_clients, most_requests}
@@ -47,9 +47,9 @@ as_nodes = record { slots = slots_ahead; some = lit≤ tt }
 abbrev pub most_actor : ℕ
 most_actor = client_actor most_clients
 
--- a node at the birth of the groups, so many slots of which are open at a time: it has a replica of each of which it is a member
-abbrev pub node_seat : Ahead → List Base → ℕ → Seat Player
-node_seat ahead groups me = record { who = me; actor = Node (born_node ahead.slots me groups) }
+-- a node at the birth of the groups, so many slots of which are open at a time: it has a replica of each of which it is a member, and perhaps a policy
+abbrev pub node_seat : Ahead → List Base → Bool → ℕ → Seat Player
+node_seat ahead groups policy me = record { who = me; actor = Node (born_node ahead.slots me groups policy) }
 
 -- the way to a group at its birth
 abbrev pub route_of : Base → Route
@@ -70,7 +70,7 @@ AreFew scenario = All (λ asks. length asks.ops ≤ most_requests) scenario.clie
 
 -- the nodes and then the clients, in order of number, as they are born where so many slots are open
 abbrev pub births : Ahead → Scenario → List (Seat Player)
-births ahead scenario = map (node_seat ahead scenario.groups) (numbers_from 1 scenario.nodes) ++ client_seats scenario.groups scenario.clients
+births ahead scenario = map (node_seat ahead scenario.groups scenario.policy) (numbers_from 1 scenario.nodes) ++ client_seats scenario.groups scenario.clients
 
 -- a line of a scenario, as the walk takes it
 abbrev pub line_of : SchedLine → Line OrderLine

@@ -41,6 +41,7 @@ use Rattle.sc_node_table.specs.Acts.{has_act, with_act, act_queued}
 use Rattle.sc_node_table.specs.Election.{elected}
 use Rattle.sc_node_table.specs.Mails.{sent, told_desk}
 use Rattle.sc_node_table.specs.Ordering.{ordered_command, untaken, taken_or_told, ordered_row}
+use Rattle.sc_node_table.specs.Policy.{wished_line, with_command, with_line, wishing}
 use Rattle.sc_node_table.specs.Pump.{serves_calls, pumped}
 use Rattle.sc_node_table.specs.Queues.{call_of, without_call}
 use Rattle.sc_node_table.specs.Reminders.{patience, one_tick_more, impatient, waited_in, reminders, reminded}
@@ -174,18 +175,6 @@ module _ (start : ReplicaState) (A : Command → Type 0) (G : Draw → Type 0) w
       let said : F (r, reminders r.group.core.lock r.me r.group mails) = (f.0, resent start A G r mails _ s (reminders_plain (Caused start A G s.entries s.refused) (caused_plain start A G s.entries s.refused) r.group.core.lock r.me r.group mails s.sent)) in
       waited_fine r.group.core.lock r (reminders r.group.core.lock r.me r.group mails) refl g said
 
-  pub tick_fine : (r : ReplicaState) (mails : List Mail) → (settled r ≡ true → GivesUp r) → F (r, mails) → F (tick_row (r, mails))
-  unfolding tick_row
-  tick_fine r mails g f =
-      let s = f.1 in
-      let last : List Mail = told_last (entry_at (next r - 1) r.log) r mails in
-      let again : List Mail = asked_again r (next r) r.sets mails in
-      either_way F (is_some r.group.core.gone || not (is_member (members r) r.me)) (r, mails) _ f
-      (cond_both (not (settled r)) (elected (r, mails)) _ F (λ _. elected_fine start A G r mails f)
-      (λ e. either_way F (is_idle r) (pumped (reminded (r, last))) (pumped (reminded (r, again)))
-      (pumped_fine start A G (reminded (r, last)) (reminded_fine r last (g (turned (settled r) e)) (f.0, resent start A G r mails last s (last_plain (Caused start A G s.entries s.refused) (caused_plain start A G s.entries s.refused) (entry_at (next r - 1) r.log) r mails s.sent))))
-      (pumped_fine start A G (reminded (r, again)) (reminded_fine r again (g (turned (settled r) e)) (f.0, resent start A G r mails again s (again_plain (Caused start A G s.entries s.refused) (caused_plain start A G s.entries s.refused) r (next r) r.sets mails s.sent))))))
-
   -- ---- the parties of a transaction
 
   elsewhere_sent : (node : ℕ) (tx coord : Draw) (place : Place) → F place → F (sent_elsewhere node tx coord place)
@@ -272,3 +261,32 @@ module _ (start : ReplicaState) (A : Command → Type 0) (G : Draw → Type 0) w
   unfolding ordered_row
   order_fine drawer line r mails f =
       taken_fine (untaken drawer line r) line.number (ordered_command (next_name drawer) line.number line.order) (r, mails) (order_kept (next_name drawer) line.number line.order) f
+
+  -- ---- Tick, with what a policy orders
+
+  command_fine : (o : Option OrderRefusal) (command : Command) (r : ReplicaState) (mails : List Mail) → Kept A G command → F (r, mails) → F (with_command o command r, mails)
+  command_fine (Some why) command r mails k f = f
+  command_fine None command r mails k f = (with_calls A G r (r.calls ++ command ∷ []) (Each-append (Kept A G) r.calls (command ∷ []) f.0.calls (k, tt)) f.0, f.1)
+
+  line_fine : (drawer : Drawer) (o : Option OrderLine) (r : ReplicaState) (mails : List Mail) → F (r, mails) → F (with_line drawer o r, mails)
+  line_fine drawer None r mails f = f
+  line_fine drawer (Some line) r mails f =
+      command_fine (untaken drawer line r) (ordered_command (next_name drawer) line.number line.order) r mails (order_kept (next_name drawer) line.number line.order) f
+
+  wishing_fine : (on : Bool) (drawer : Drawer) (place : Place) → F place → F (wishing on drawer place)
+  unfolding wishing
+  wishing_fine on drawer (r, mails) f = line_fine drawer (wished_line on r) r mails f
+
+  pub tick_fine : (on : Bool) (drawer : Drawer) (r : ReplicaState) (mails : List Mail) → (settled r ≡ true → GivesUp r) → F (r, mails) → F (tick_row on drawer (r, mails))
+  unfolding tick_row
+  tick_fine on drawer r mails g f =
+      let s = f.1 in
+      let last : List Mail = told_last (entry_at (next r - 1) r.log) r mails in
+      let again : List Mail = asked_again r (next r) r.sets mails in
+      either_way F (is_some r.group.core.gone || not (is_member (members r) r.me)) (r, mails) _ f
+      (cond_both (not (settled r)) (elected (r, mails)) _ F (λ _. elected_fine start A G r mails f)
+      (λ e. either_way F (is_idle r) (pumped (wishing on drawer (reminded (r, last)))) (pumped (wishing on drawer (reminded (r, again))))
+      (pumped_fine start A G (wishing on drawer (reminded (r, last))) (wishing_fine on drawer (reminded (r, last))
+      (reminded_fine r last (g (turned (settled r) e)) (f.0, resent start A G r mails last s (last_plain (Caused start A G s.entries s.refused) (caused_plain start A G s.entries s.refused) (entry_at (next r - 1) r.log) r mails s.sent)))))
+      (pumped_fine start A G (wishing on drawer (reminded (r, again))) (wishing_fine on drawer (reminded (r, again))
+      (reminded_fine r again (g (turned (settled r) e)) (f.0, resent start A G r mails again s (again_plain (Caused start A G s.entries s.refused) (caused_plain start A G s.entries s.refused) r (next r) r.sets mails s.sent)))))))

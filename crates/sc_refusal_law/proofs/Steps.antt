@@ -223,10 +223,10 @@ mailed_shown r mail (Told order result) e = shown r (Given.Got mail) (r, []) (fi
 
 pub steps_have_causes : StepsHaveCauses
 unfolding stepped
-steps_have_causes drawer r (Given.Got mail) = mailed_shown r mail mail.body refl
-steps_have_causes drawer r Given.Tick =
-    shown r Given.Tick _ (tick_fine r (A r Given.Tick) (G r Given.Tick) r [] (λ leads tx body order heard lock long. inr (refl, leads, long, (body, order, heard, lock))) (first r Given.Tick))
-steps_have_causes drawer r (Given.Told line) = shown r (Given.Told line) _ (order_fine r (A r (Given.Told line)) (G r (Given.Told line)) drawer line r [] (first r (Given.Told line)))
+steps_have_causes on drawer r (Given.Got mail) = mailed_shown r mail mail.body refl
+steps_have_causes on drawer r Given.Tick =
+    shown r Given.Tick _ (tick_fine r (A r Given.Tick) (G r Given.Tick) on drawer r [] (λ leads tx body order heard lock long. inr (refl, leads, long, (body, order, heard, lock))) (first r Given.Tick))
+steps_have_causes on drawer r (Given.Told line) = shown r (Given.Told line) _ (order_fine r (A r (Given.Told line)) (G r (Given.Told line)) drawer line r [] (first r (Given.Told line)))
 
 -- ---- a request
 
@@ -292,5 +292,5 @@ module _ (r : ReplicaState) where
 
 pub requests_are_taken : RunningReplicasTakeRequests
 unfolding stepped mailed request_row
-requests_are_taken drawer r from to group client seq op runs =
+requests_are_taken on drawer r from to group client seq op runs =
     taken r (refused_at r.group.core.gone op r) client seq op (λ answer e. refusal_by r (Any r) (Ever r) r.group.core.gone r client seq op answer refl e) runs

@@ -1,6 +1,6 @@
 -- Why a replica refuses what it is asked: each refusal by its cause, in the state that was executed when it was made. One row may execute several entries.
 use Rattle.std.specs.FinMap.{get}
-use Rattle.std.specs.Prelude.{◌≡◌, ℕ, ◌+◌, ◌<◌, ◌≤◌, true, false, List, [], ◌∷◌, ◌++◌, map, Option, None, Some, ◌⊎◌}
+use Rattle.std.specs.Prelude.{◌≡◌, ℕ, ◌+◌, ◌<◌, ◌≤◌, Bool, true, false, List, [], ◌∷◌, ◌++◌, map, Option, None, Some, ◌⊎◌}
 use Rattle.sc_base.specs.Among.{Among, Each}
 use Rattle.sc_base.specs.Drawing.{Drawer}
 use Rattle.sc_base.specs.Limits.{client_actor}
@@ -158,7 +158,7 @@ pub record StepHasCauses (r : ReplicaState) (input : ReplicaInput) (step : Place
 
 -- every step of a replica is so
 abbrev pub StepsHaveCauses : Type 0
-StepsHaveCauses = (drawer : Drawer) (r : ReplicaState) (input : ReplicaInput) → StepHasCauses r input (stepped drawer input (r, []))
+StepsHaveCauses = (on : Bool) (drawer : Drawer) (r : ReplicaState) (input : ReplicaInput) → StepHasCauses r input (stepped on drawer input (r, []))
 
 -- an answer that names another leader, or none
 abbrev pub IsNotLeader : MailBody → Type 0
@@ -166,8 +166,8 @@ IsNotLeader body = (group : Draw) × (seq : ℕ) × (hint : Option ℕ) × (body
 
 -- a replica that runs never answers so in the step that brings it a request
 abbrev pub RunningReplicasTakeRequests : Type 0
-RunningReplicasTakeRequests = (drawer : Drawer) (r : ReplicaState) (from : ℕ) (to : ℕ) (group : Draw) (client seq : ℕ) (op : Op) → r.running ≡ true
-    → Each (λ (mail : Mail). IsNotLeader mail.body → ⊥) (stepped drawer (Given.Got (record { from = from; to = to; body = Request group client seq op })) (r, [])).1
+RunningReplicasTakeRequests = (on : Bool) (drawer : Drawer) (r : ReplicaState) (from : ℕ) (to : ℕ) (group : Draw) (client seq : ℕ) (op : Op) → r.running ≡ true
+    → Each (λ (mail : Mail). IsNotLeader mail.body → ⊥) (stepped on drawer (Given.Got (record { from = from; to = to; body = Request group client seq op })) (r, [])).1
 
 -- ---- a node without a replica of the group
 

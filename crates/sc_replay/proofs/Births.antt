@@ -1,5 +1,5 @@
 -- The actors of a scenario have different numbers: nodes up to 32, and then clients up to 96, ascending.
-use Rattle.std.proofs.Common.{◌≡◌, ℕ, zero, suc, ◌+◌, ◌<◌, ◌≤◌, true, false, not, eqb, List, [], ◌∷◌, ◌++◌, length, map, refl, ap, arith, slice_index_or}
+use Rattle.std.proofs.Common.{◌≡◌, ℕ, zero, suc, ◌+◌, ◌<◌, ◌≤◌, Bool, true, false, not, eqb, List, [], ◌∷◌, ◌++◌, length, map, refl, ap, arith, slice_index_or}
 use Rattle.std.specs.List.{All, AllPairs, list_any}
 use Rattle.std.proofs.lemmas.Bool.{ne_eqb, and_from}
 use Rattle.std.proofs.lemmas.List.Elements.{All-nil, All-cons}
@@ -41,13 +41,13 @@ rise_on : (low top : ℕ) (xs ys : List (Seat Player)) → low ≤ top → Rises
 rise_on low top [] ys le r w s = lower low top ys le s
 rise_on low top (x ∷ xs) ys le r w s = (r.0, rise_on x.who top xs ys w.0 r.1 w.1 s)
 
-nodes_rise : (groups : List Base) (low from count : ℕ) → low < from → Rises low (map (node_seat as_nodes groups) (numbers_from from count))
-nodes_rise groups low from zero lt = tt
-nodes_rise groups low from (suc count) lt = (lt, nodes_rise groups from (from + 1) count (omega arith))
+nodes_rise : (groups : List Base) (policy : Bool) (low from count : ℕ) → low < from → Rises low (map (node_seat as_nodes groups policy) (numbers_from from count))
+nodes_rise groups policy low from zero lt = tt
+nodes_rise groups policy low from (suc count) lt = (lt, nodes_rise groups policy from (from + 1) count (omega arith))
 
-nodes_within : (groups : List Base) (top from count : ℕ) → from + count ≤ top + 1 → Within top (map (node_seat as_nodes groups) (numbers_from from count))
-nodes_within groups top from zero le = tt
-nodes_within groups top from (suc count) le = (omega (arith, le), nodes_within groups top (from + 1) count (omega (arith, le)))
+nodes_within : (groups : List Base) (policy : Bool) (top from count : ℕ) → from + count ≤ top + 1 → Within top (map (node_seat as_nodes groups policy) (numbers_from from count))
+nodes_within groups policy top from zero le = tt
+nodes_within groups policy top from (suc count) le = (omega (arith, le), nodes_within groups policy top (from + 1) count (omega (arith, le)))
 
 clients_rise : (first : Route) (low : ℕ) (clients : List Asks) → All (λ (asks : Asks). low < asks.client) clients → AllPairs (λ (a b : Asks). a.client < b.client) clients
     → Rises (32 + low) (map (client_seat first) clients)
@@ -91,8 +91,8 @@ births_rise : (scenario : Scenario) → IsEarly scenario → Rises 0 (births as_
 births_rise scenario early =
     let clients : Rises 32 (client_seats scenario.groups scenario.clients) =
     clients_rise_any scenario.groups scenario.clients (λ k d lt. omega (arith, (early.clients k d lt).0.0)) early.ascending in
-    rise_on 0 32 _ (client_seats scenario.groups scenario.clients) (omega arith) (nodes_rise scenario.groups 0 1 scenario.nodes (omega arith))
-    (nodes_within scenario.groups 32 1 scenario.nodes (omega (arith, early.nodes.1))) clients
+    rise_on 0 32 _ (client_seats scenario.groups scenario.clients) (omega arith) (nodes_rise scenario.groups scenario.policy 0 1 scenario.nodes (omega arith))
+    (nodes_within scenario.groups scenario.policy 32 1 scenario.nodes (omega (arith, early.nodes.1))) clients
 
 -- so they have different numbers
 pub all_apart : (scenario : Scenario) → IsEarly scenario → are_apart (births as_nodes scenario) ≡ true
@@ -103,4 +103,4 @@ pub all_numbered : (scenario : Scenario) → IsEarly scenario → All (λ (seat 
 all_numbered scenario early =
     let clients : Within most_actor (client_seats scenario.groups scenario.clients) = clients_within_any scenario.groups scenario.clients early.clients in
     between 0 most_actor (births as_nodes scenario) (births_rise scenario early)
-    (within_on most_actor _ (client_seats scenario.groups scenario.clients) (nodes_within scenario.groups most_actor 1 scenario.nodes (omega (arith, early.nodes.1))) clients)
+    (within_on most_actor _ (client_seats scenario.groups scenario.clients) (nodes_within scenario.groups scenario.policy most_actor 1 scenario.nodes (omega (arith, early.nodes.1))) clients)

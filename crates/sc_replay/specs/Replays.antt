@@ -7,14 +7,14 @@ use Rattle.sc_scenario.specs.declared.scenarios.Scenario.{Scenario}
 use Rattle.sc_players.specs.Players.{Lawful, as_nodes}
 use Rattle.sc_replay.specs.declared.replaying.ReplayFault.{ReplayFault}
 use Rattle.sc_replay.specs.declared.replaying.ReplayFault.TheVariants.{BadRow, OutOfMemory}
-use Rattle.sc_actor.specs.System.{no_words}
+use Rattle.sc_chance.specs.Words.{two_words}
 
 -- the row at a place, from 1, is the first that is not lawful: those before it are, and with it they are not
 pub record IsBadRow (scenario : Scenario) (rows : List (Row Mail OrderLine)) (at : ℕ) : Type 0 where
   pub first : 1 ≤ at
   pub within : at ≤ length rows
-  pub before : Lawful as_nodes no_words scenario (take (at - 1) rows)
-  pub not_with : Lawful as_nodes no_words scenario (take at rows) → ⊥
+  pub before : Lawful as_nodes two_words scenario (take (at - 1) rows)
+  pub not_with : Lawful as_nodes two_words scenario (take at rows) → ⊥
 
 -- why rows are not replayed; want of memory is free
 abbrev pub IsFault : Scenario → List (Row Mail OrderLine) → ReplayFault → Type 0

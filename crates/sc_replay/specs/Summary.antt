@@ -22,7 +22,7 @@ use Rattle.sc_players.specs.Summary.{asked_by}
 use Rattle.sc_entries.specs.declared.Cut.{Cut}
 use Rattle.sc_entries.specs.Worlds.{StoreWorld, named_group}
 use Rattle.sc_sound.specs.GroupsOf.{world_at}
-use Rattle.sc_actor.specs.System.{no_words}
+use Rattle.sc_chance.specs.Words.{two_words}
 
 -- what a mail tells of the order of a number
 abbrev pub told_in_mail : ℕ → MailBody → Option ToldResult
@@ -75,6 +75,6 @@ summary_of scenario journal = record {
   rows = length journal;
   mail = length (mails journal);
   delivered = count_by (λ row. is_delivery row.event) journal;
-  skipped = skipped (system_of as_nodes no_words scenario) (schedule scenario) journal;
-  quiet = is_quiet (system_of as_nodes no_words scenario) journal;
+  skipped = skipped (system_of as_nodes two_words scenario) (schedule scenario) journal;
+  quiet = is_quiet (system_of as_nodes two_words scenario) journal;
 }

@@ -4,8 +4,8 @@ ghost use Rattle.sc_replay.specs.Plays.{ValidCanPlay};
 use sc_scenario::texts_are_early;
 
 /// Every valid scenario can be played: its groups stand in the order of their names, its actors have
-/// different numbers from 1 to 96, none of its lines is a storm, no line tells an actor to go that
-/// another lets crash, and no client has more requests than it may have.
+/// different numbers from 1 to 96, no line tells an actor to go that another lets crash, and no
+/// client has more requests than it may have.
 pub fn valid_scenarios_can_play()
     ensures { ValidCanPlay }
 {

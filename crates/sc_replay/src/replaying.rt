@@ -6,7 +6,7 @@ ghost use Rattle.sc_checker.specs.Replays.{IsReplayed};
 ghost use Rattle.sc_players.specs.Players.{system_of, schedule, Lawful, as_nodes};
 ghost use Rattle.sc_replay.specs.Replays.{IsBadRow, IsFault};
 ghost use Rattle.sc_replay.specs.Worlds.{MayReplay, StandsFor};
-ghost use Rattle.sc_actor.specs.System.{no_words};
+ghost use Rattle.sc_chance.specs.Words.{two_words};
 
 use crate::laws::valid_scenarios_can_play;
 use crate::worlds::World;
@@ -38,7 +38,7 @@ fn left_by(
     requires few_rows { length rows.now < 2 ^ 31 }
     requires few_mails { length (mails rows.now) < 2 ^ 31 }
     ensures { IfOk result (λ left.
-        IsReplayed (system_of as_nodes no_words scenario.now) (schedule scenario.now) rows.now left) }
+        IsReplayed (system_of as_nodes two_words scenario.now) (schedule scenario.now) rows.now left) }
 {
     valid_scenarios_can_play();
     let seats = births(alloc, scenario)?;
@@ -58,7 +58,7 @@ fn front_is_lawful(
     requires few_rows { length rows.now < 2 ^ 31 }
     requires few_mails { length (mails rows.now) < 2 ^ 31 }
     ensures { IfOk result (λ lawful. IsTrue lawful ↔
-        Lawful as_nodes no_words scenario.now (take count rows.now)) }
+        Lawful as_nodes two_words scenario.now (take count rows.now)) }
 {
     match left_by(alloc, scenario, &rows[..count])? {
         Some(_) => Ok(true),
@@ -75,7 +75,7 @@ fn bad_row(
     requires valid { IsValid scenario.now }
     requires few_rows { length rows.now < 2 ^ 31 }
     requires few_mails { length (mails rows.now) < 2 ^ 31 }
-    requires not_lawful { Lawful as_nodes no_words scenario.now rows.now → ⊥ }
+    requires not_lawful { Lawful as_nodes two_words scenario.now rows.now → ⊥ }
     ensures { IfOk result (λ at. IsBadRow scenario.now rows.now at) }
 {
     let mut low = 0;

@@ -5,7 +5,7 @@ ghost use Rattle.sc_actor.specs.Walk.{is_quiet, skipped};
 ghost use Rattle.sc_players.specs.Players.{system_of, schedule, parties, as_nodes};
 ghost use Rattle.sc_sound.specs.GroupsOf.{world_at};
 ghost use Rattle.sc_replay.specs.Summary.{line_of, place_in, placed, ring_lines, summary_of};
-ghost use Rattle.sc_actor.specs.System.{no_words};
+ghost use Rattle.sc_chance.specs.Words.{two_words};
 
 use crate::orders::{order_count, orders_told};
 use crate::telling::store_world;
@@ -98,8 +98,8 @@ pub fn sum_up(
 ) -> Result<Summary, OutOfMemory>
     requires parties { left.now ≡ parties as_nodes scenario.now journal.now }
     requires skipped { skips ≡
-        skipped (system_of as_nodes no_words scenario.now) (schedule scenario.now) journal.now }
-    requires quiet { quiet ≡ is_quiet (system_of as_nodes no_words scenario.now) journal.now }
+        skipped (system_of as_nodes two_words scenario.now) (schedule scenario.now) journal.now }
+    requires quiet { quiet ≡ is_quiet (system_of as_nodes two_words scenario.now) journal.now }
     ensures { IfOk result (λ told. told ≡ summary_of scenario.now journal.now) }
 {
     if skips > 4_294_967_295 {

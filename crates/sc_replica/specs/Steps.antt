@@ -1,5 +1,5 @@
 -- A replica with one part of its record changed by an input.
-use Rattle.std.specs.Prelude.{ℕ, [], ◌∷◌, ◌++◌}
+use Rattle.std.specs.Prelude.{ℕ}
 use Rattle.sc_cmd.specs.declared.commands.Command.{Command}
 use Rattle.sc_paxos_words.specs.Leaders.{LeaderState}
 use Rattle.sc_node_table.specs.Slots.{with_slot}
@@ -12,7 +12,3 @@ with_leader leader r = record r { leader = leader }
 -- with a command that is ready at a slot
 abbrev pub with_ready : ℕ → Command → ReplicaState → ReplicaState
 with_ready slot command r = record r { ready = with_slot r.ready slot command }
-
--- with one more order, which waits last
-abbrev pub with_call : Command → ReplicaState → ReplicaState
-with_call command r = record r { calls = r.calls ++ command ∷ [] }

@@ -3,15 +3,15 @@
 ghost use Rattle.std.specs.Prelude.{◌≡◌, OnOk};
 ghost use Rattle.std.specs.List.{list_any};
 ghost use Rattle.sc_node_table.specs.Replica.{taken_at, listed, under_way};
-ghost use Rattle.sc_node_table.specs.Pump.{pumped};
+ghost use Rattle.sc_node_table.specs.Queues.{with_call};
+ghost use Rattle.sc_node_table.specs.Policy.{is_at_rest};
 ghost use Rattle.sc_node_table.specs.Acts.{is_of_kind, has_act, with_act, act_queued};
-ghost use Rattle.sc_replica.specs.Steps.{with_call};
 
 use crate::replica::Replica;
 use sc_base::{OutOfMemory, Sequence};
 use sc_cmd::Command;
 use sc_mail::Mail;
-use sc_replica_choices::{has_kind, is_of_kind};
+use sc_replica_choices::{has_kind, is_at_rest, is_of_kind};
 use sc_replica_parts::push_back;
 
 impl Replica {
@@ -63,16 +63,18 @@ impl Replica {
         self.pump(out)
     }
 
-    /// The command of an order waits last, and the pump is tried.
-    pub fn queue_order(
-        &mut self,
-        command: Command,
-        out: &mut Sequence<Mail>,
-    ) -> Result<(), OutOfMemory>
-        ensures { OnOk result
-            ((self.new, out.new) ≡ pumped (with_call command self.old, out.old)) }
+    /// Whether nothing is in flight or ready, nothing waits, and no transaction holds the group.
+    pub fn is_at_rest(&self) -> bool
+        ensures { result ≡ is_at_rest self.now }
     {
-        push_back(&mut self.calls, command)?;
-        self.pump(out)
+        let idle = self.is_idle();
+        is_at_rest(idle, &self.acts, &self.calls, &self.machine.core().lock)
+    }
+
+    /// The command of an order waits last.
+    pub fn put_order(&mut self, command: Command) -> Result<(), OutOfMemory>
+        ensures { OnOk result (self.new ≡ with_call command self.old) }
+    {
+        push_back(&mut self.calls, command)
     }
 }

@@ -1,14 +1,16 @@
 //! Choices that look at the executed state, or at a number.
-ghost use Rattle.std.specs.Prelude.{◌≡◌, ◌≤◌};
+ghost use Rattle.std.specs.Prelude.{◌≡◌, ◌≤◌, ◌==◌, ◌&&◌, length};
 ghost use Rattle.sc_ideal.specs.IdealStore.{key_of, holds_key};
 ghost use Rattle.sc_node_table.specs.Replica.{floor_of, waits_in};
 ghost use Rattle.sc_node_table.specs.Pump.{serves_calls, waits, turned_down, refused_by};
+ghost use Rattle.sc_node_table.specs.Policy.{is_free};
 ghost use Rattle.sc_node_table.specs.Rows.{call_refusal};
 
 use sc_base::{Op, RingArc};
 use sc_cmd::{Command, Core, Lock};
 use sc_mail::AnswerBody;
 use sc_node_table::CUT_UNIT;
+use std::collections::VecDeque;
 
 // Whether calls are served under this lock.
 fn serves_calls(lock: &Lock) -> bool
@@ -81,6 +83,30 @@ fn refused_by(core: &Core, op: &Op) -> Option<AnswerBody>
         arc: core.arc,
         succ: core.succ,
     })
+}
+
+// Whether no transaction holds a group.
+fn is_free(lock: &Lock) -> bool
+    ensures { result ≡ is_free lock.now }
+{
+    match lock {
+        Lock::Free => true,
+        Lock::Coordinating { .. } | Lock::Promised { .. } | Lock::Watching { .. } => false,
+    }
+}
+
+/// Whether a replica is at rest: nothing is in flight or ready (`idle`), nothing waits, and no
+/// transaction holds its group.
+pub fn is_at_rest(
+    idle: bool,
+    acts: &VecDeque<Command>,
+    calls: &VecDeque<Command>,
+    lock: &Lock,
+) -> bool
+    ensures { result ≡ (idle && (length acts.now.items == 0) && (length calls.now.items == 0)
+        && is_free lock.now) }
+{
+    idle && acts.is_empty() && calls.is_empty() && is_free(lock)
 }
 
 /// How long a transaction has waited: it waits no more where the group is not locked.

@@ -9,7 +9,7 @@ mod nodes;
 mod open_sets;
 
 pub use acts::{has_kind, is_of_kind};
-pub use choices::{floor_of, refusal, turned_down, waits, waits_in};
+pub use choices::{floor_of, is_at_rest, refusal, turned_down, waits, waits_in};
 pub use commands::{is_act, same_command};
 pub use nodes::{nodes_to, not_among, uncounted};
 pub use open_sets::Sets;

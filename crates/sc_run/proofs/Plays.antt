@@ -8,7 +8,7 @@ use Rattle.sc_actor.specs.declared.actors.Actor.{Ghosts}
 use Rattle.sc_actor.specs.declared.actors.Parcel.{Ghosts as MailGhosts}
 use Rattle.sc_actor.specs.declared.schedules.Line.{Line}
 use Rattle.sc_actor.specs.Counted.{journal_bytes}
-use Rattle.sc_actor.specs.System.{no_words}
+use Rattle.sc_chance.specs.Words.{two_words}
 use Rattle.sc_actor.specs.Walk.{IsLawful, IsWhole, skipped, unsettled, is_quiet}
 use Rattle.sc_actor.specs.Counted.{IsFull}
 use Rattle.sc_shell.specs.declared.shells.Shell.{Shell}
@@ -44,27 +44,27 @@ actors_of (s ∷ ss) = ap (λ rest. s.actor ∷ rest) (actors_of ss)
 module _ (law : ValidJournalsAreSound) (scenario : Scenario) (valid : IsValid scenario) (lines : List (Line OrderLine)) (lines_are : lines ≡ schedule scenario) (limit : ℕ) (journal : List (Row Mail OrderLine)) where
   -- a driver's end is a play's
   pub ends : (cut quiet : Bool) (skips : ℕ) (left : List Player) →
-      IsLawful (system_of as_nodes no_words scenario) lines journal → IsWhole (system_of as_nodes no_words scenario) lines journal → journal_bytes mail_weight journal ≤ limit →
-      cut ≡ unsettled (system_of as_nodes no_words scenario) lines journal → quiet ≡ is_quiet (system_of as_nodes no_words scenario) journal → skips ≡ skipped (system_of as_nodes no_words scenario) lines journal →
+      IsLawful (system_of as_nodes two_words scenario) lines journal → IsWhole (system_of as_nodes two_words scenario) lines journal → journal_bytes mail_weight journal ≤ limit →
+      cut ≡ unsettled (system_of as_nodes two_words scenario) lines journal → quiet ≡ is_quiet (system_of as_nodes two_words scenario) journal → skips ≡ skipped (system_of as_nodes two_words scenario) lines journal →
       left ≡ parties as_nodes scenario journal → HasPlayedToEnd scenario limit cut quiet skips journal left
   ends cut quiet skips left lawful whole within cut_is quiet_is skips_are parties_are =
-      let allowed : Lawful as_nodes no_words scenario journal = subst (λ l. IsLawful (system_of as_nodes no_words scenario) l journal) lines_are lawful in
+      let allowed : Lawful as_nodes two_words scenario journal = subst (λ l. IsLawful (system_of as_nodes two_words scenario) l journal) lines_are lawful in
       record {
         lawful = allowed;
-        whole = subst (λ l. IsWhole (system_of as_nodes no_words scenario) l journal) lines_are whole;
-        sound = law as_nodes refl no_words scenario valid journal allowed;
+        whole = subst (λ l. IsWhole (system_of as_nodes two_words scenario) l journal) lines_are whole;
+        sound = law as_nodes refl two_words scenario valid journal allowed;
         within = within;
-        cut_is = cut_is ∙ ap (λ l. unsettled (system_of as_nodes no_words scenario) l journal) lines_are;
+        cut_is = cut_is ∙ ap (λ l. unsettled (system_of as_nodes two_words scenario) l journal) lines_are;
         quiet_is = quiet_is;
-        skips_are = skips_are ∙ ap (λ l. skipped (system_of as_nodes no_words scenario) l journal) lines_are;
+        skips_are = skips_are ∙ ap (λ l. skipped (system_of as_nodes two_words scenario) l journal) lines_are;
         parties_are = parties_are;
       }
 
   -- a journal that a driver has filled is a play's
-  pub fills : IsFull (system_of as_nodes no_words scenario) mail_weight lines limit journal → HasFilled scenario limit journal
+  pub fills : IsFull (system_of as_nodes two_words scenario) mail_weight lines limit journal → HasFilled scenario limit journal
   fills h =
-      let full : IsFull (system_of as_nodes no_words scenario) mail_weight (schedule scenario) limit journal = subst (λ l. IsFull (system_of as_nodes no_words scenario) mail_weight l limit journal) lines_are h in
-      record { full = full; sound = law as_nodes refl no_words scenario valid journal full.lawful }
+      let full : IsFull (system_of as_nodes two_words scenario) mail_weight (schedule scenario) limit journal = subst (λ l. IsFull (system_of as_nodes two_words scenario) mail_weight l limit journal) lines_are h in
+      record { full = full; sound = law as_nodes refl two_words scenario valid journal full.lawful }
 
 plays : (scenario : Scenario) (cut quiet : Bool) (skips : ℕ) (journal : List (Row Mail OrderLine)) (parties : List Player) (text : Text) →
     HasPlayedToEnd scenario journal_limit cut quiet skips journal parties → text.lines ≡ report_lines (summary_of scenario journal) → text.journal ≡ Some journal → text.parties ≡ parties → Plays scenario cut text

@@ -12,7 +12,7 @@ use Rattle.sc_sound.specs.Soundness.{IsSoundThroughout}
 use Rattle.sc_players.specs.Players.{system_of, schedule, Lawful, Whole, parties, Player, as_nodes}
 use Rattle.sc_statuses.specs.declared.said.Played.{Played}
 use Rattle.sc_statuses.specs.declared.said.Played.TheVariants.{Ended, Full, OutOfMemory}
-use Rattle.sc_actor.specs.System.{no_words}
+use Rattle.sc_chance.specs.Words.{two_words}
 
 -- what a mail weighs
 abbrev pub mail_weight : Mail → ℕ
@@ -20,18 +20,18 @@ mail_weight mail = body_weight mail.body
 
 -- The journal is lawful and whole and within the limit, each first part of it is sound, the counts are the walk's, and each party is its replay.
 pub record HasPlayedToEnd (scenario : Scenario) (limit : ℕ) (cut quiet : Bool) (skips : ℕ) (journal : List (Row Mail OrderLine)) (left : List Player) : Type 0 where
-  pub lawful : Lawful as_nodes no_words scenario journal
-  pub whole : Whole as_nodes no_words scenario journal
+  pub lawful : Lawful as_nodes two_words scenario journal
+  pub whole : Whole as_nodes two_words scenario journal
   pub sound : IsSoundThroughout as_nodes scenario journal
   pub within : journal_bytes mail_weight journal ≤ limit
-  pub cut_is : cut ≡ unsettled (system_of as_nodes no_words scenario) (schedule scenario) journal
-  pub quiet_is : quiet ≡ is_quiet (system_of as_nodes no_words scenario) journal
-  pub skips_are : skips ≡ skipped (system_of as_nodes no_words scenario) (schedule scenario) journal
+  pub cut_is : cut ≡ unsettled (system_of as_nodes two_words scenario) (schedule scenario) journal
+  pub quiet_is : quiet ≡ is_quiet (system_of as_nodes two_words scenario) journal
+  pub skips_are : skips ≡ skipped (system_of as_nodes two_words scenario) (schedule scenario) journal
   pub parties_are : left ≡ parties as_nodes scenario journal
 
 -- The journal is lawful and within the limit, each first part of it is sound, and a row that may come next passes the limit.
 pub record HasFilled (scenario : Scenario) (limit : ℕ) (journal : List (Row Mail OrderLine)) : Type 0 where
-  pub full : IsFull (system_of as_nodes no_words scenario) mail_weight (schedule scenario) limit journal
+  pub full : IsFull (system_of as_nodes two_words scenario) mail_weight (schedule scenario) limit journal
   pub sound : IsSoundThroughout as_nodes scenario journal
 
 -- How a scenario was played within a limit: the journal, and the parties as they were left.

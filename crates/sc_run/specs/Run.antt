@@ -1,5 +1,5 @@
 -- What a run says and prints, and why.
-use Rattle.std.specs.Prelude.{◌≡◌, ◌⊎◌, ◌≤◌, ◌^◌, ℕ, List, [], ◌∷◌, ◌++◌, length, Bool, true, false, Option, None, Some, Result, Ok, Err, codes}
+use Rattle.std.specs.Prelude.{◌≡◌, ◌⊎◌, ◌≤◌, ◌+◌, ◌^◌, ℕ, List, [], ◌∷◌, ◌++◌, length, Bool, true, false, Option, None, Some, Result, Ok, Err, codes}
 use Rattle.std.specs.Fmt.{decimal}
 use Rattle.sc_edges.specs.Causes.{Rose}
 use Rattle.sc_cmd.specs.declared.orders.OrderLine.{OrderLine}
@@ -25,7 +25,7 @@ use Rattle.sc_words.specs.declared.asked.Asked.TheVariants as ask
 use Rattle.sc_statuses.specs.Wants.{fault_text, ReadsAs}
 use Rattle.sc_statuses.specs.declared.said.Said.{Said}
 use Rattle.sc_statuses.specs.declared.said.Said.TheVariants.{Ended, Unsettled, Filled, Usage, BadScenario, ReadFault}
-use Rattle.sc_actor.specs.System.{no_words}
+use Rattle.sc_chance.specs.Words.{two_words}
 
 -- the text for other words
 abbrev pub usage : List ℕ
@@ -53,8 +53,8 @@ journal_limit = 2 ^ 30
 
 -- The text is the report of a scenario and a journal of it that is lawful, whole and within the limit, of which each first part is sound, and the parties are the replays of their rows.
 pub record ReportsJournal (scenario : Scenario) (journal : List (Row Mail OrderLine)) (text : Text) : Type 0 where
-  pub lawful : Lawful as_nodes no_words scenario journal
-  pub whole : Whole as_nodes no_words scenario journal
+  pub lawful : Lawful as_nodes two_words scenario journal
+  pub whole : Whole as_nodes two_words scenario journal
   pub within : journal_bytes mail_weight journal ≤ journal_limit
   pub sound : IsSoundThroughout as_nodes scenario journal
   pub lines : text.lines ≡ report_lines (summary_of scenario journal)
@@ -65,7 +65,7 @@ pub record ReportsJournal (scenario : Scenario) (journal : List (Row Mail OrderL
 pub record Plays (scenario : Scenario) (cut : Bool) (text : Text) : Type 0 where
   pub journal : List (Row Mail OrderLine)
   pub reports : ReportsJournal scenario journal text
-  pub cut_is : unsettled (system_of as_nodes no_words scenario) (schedule scenario) journal ≡ cut
+  pub cut_is : unsettled (system_of as_nodes two_words scenario) (schedule scenario) journal ≡ cut
 
 -- The text tells of some journal of the scenario that it is full: a row that may come next passes the limit.
 pub record PlaysUntilFull (scenario : Scenario) (text : Text) : Type 0 where
@@ -113,12 +113,13 @@ SaysFor (Some (ask.Make n seed)) left before now said text = IsValid (made_scena
 abbrev pub Says : List (List ℕ) → Option (List ℕ) → ℕ → ℕ → Said → Text → Type 0
 Says words left before now said text = SaysFor (asked_by words) left before now said text
 
--- A text was begun and printed, and the run hands back what it was about.
-pub record Printed (words : List (List ℕ)) (left : Option (List ℕ)) (reads reads' : ℕ) (held held' : Option (List ℕ)) (writes writes' : ℕ) (done : Done) : Type 0 where
+-- A text was begun and printed, in one call of the sink for each line, and the run hands back what it was about.
+pub record Printed (words : List (List ℕ)) (left : Option (List ℕ)) (reads reads' : ℕ) (held held' : Option (List ℕ)) (writes writes' puts puts' : ℕ) (done : Done) : Type 0 where
   pub said : Said
   pub text : Text
   pub says : Says words left reads reads' said text
   pub prints : Prints held held' writes writes' said text.lines done.status
+  pub calls : puts' ≤ puts + length text.lines
   pub journal : done.journal ≡ text.journal
   pub parties : done.parties ≡ text.parties
 
@@ -129,5 +130,5 @@ pub record RanOut (done : Done) : Type 0 where
   pub parties : done.parties ≡ []
 
 -- A run printed a text, or memory was short.
-abbrev pub Runs : List (List ℕ) → Option (List ℕ) → ℕ → ℕ → Option (List ℕ) → Option (List ℕ) → ℕ → ℕ → Done → Type 0
-Runs words left reads reads' held held' writes writes' done = Printed words left reads reads' held held' writes writes' done ⊎ RanOut done
+abbrev pub Runs : List (List ℕ) → Option (List ℕ) → ℕ → ℕ → Option (List ℕ) → Option (List ℕ) → ℕ → ℕ → ℕ → ℕ → Done → Type 0
+Runs words left reads reads' held held' writes writes' puts puts' done = Printed words left reads reads' held held' writes writes' puts puts' done ⊎ RanOut done

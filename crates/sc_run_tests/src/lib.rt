@@ -15,6 +15,8 @@ mod replay_tests;
 #[cfg(test)]
 mod run_tests;
 #[cfg(test)]
+mod storm_tests;
+#[cfg(test)]
 mod thread_tests;
 #[cfg(test)]
 mod tick_tests;

@@ -168,6 +168,40 @@ fn groups_split_merge_move_a_boundary_and_hand_over_a_member(rt: HostRuntime) {
     }
 }
 
+const POLICY_SPLITS: &[u8] =
+    b"scatter 1\nnodes 8\ngroup 0 1 2 3 4 5 6 7 8\npolicy\ntick n1\nsettle 100\n";
+
+const POLICY_SPLITS_REPORT: &[u8] = b"scatter report 1\nring 0 group 0.1 members 1 2 3 4\n\
+        ring 2147483648 group 1.1 members 5 6 7 8\nrows 24\nmail 23\ndelivered 23\nskipped 0\n\
+        quiet yes\n";
+
+const POLICY_MERGES: &[u8] =
+    b"scatter 1\nnodes 2\ngroup 0 1\ngroup 2147483648 2\npolicy\ntick n1\nsettle 100\n";
+
+const POLICY_MERGES_REPORT: &[u8] =
+    b"scatter report 1\nring 0 group 0.1 members 1 2\nrows 13\nmail 12\ndelivered 12\n\
+        skipped 0\nquiet yes\n";
+
+const NO_POLICY: &[u8] =
+    b"scatter 1\nnodes 2\ngroup 0 1\ngroup 2147483648 2\ntick n1\nsettle 100\n";
+
+const NO_POLICY_REPORT: &[u8] =
+    b"scatter report 1\nring 0 group 0.1 members 1\nring 2147483648 group 0.2 members 2\n\
+        rows 1\nmail 0\ndelivered 0\nskipped 0\nquiet yes\n";
+
+const POLICY_ROWS: &[TableRow] = &[
+    (POLICY_SPLITS, 0, POLICY_SPLITS_REPORT),
+    (POLICY_MERGES, 0, POLICY_MERGES_REPORT),
+    (NO_POLICY, 0, NO_POLICY_REPORT),
+];
+
+#[test]
+fn with_a_policy_leaders_split_and_merge_their_groups(rt: HostRuntime) {
+    for row in POLICY_ROWS {
+        check_row(&rt, rt.alloc(), *row);
+    }
+}
+
 // Two groups, a client of each, and orders of which one may refuse the other; then a line of
 // deliveries by several workers.
 const BOTH_BUSY: &[u8] =

@@ -177,7 +177,6 @@ made_early n seed few = record {
   each = groups_early;
   rising = groups_rise;
   groups = refl;
-  policy = refl;
   clients = clients_early seed n few;
   ascending = clients_rise seed n 16;
   lines = lines_early seed n;

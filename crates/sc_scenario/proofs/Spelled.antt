@@ -16,9 +16,8 @@ use Rattle.sc_member.specs.Faults.{add_fault}
 use Rattle.sc_lines.specs.Reasons.{given}
 use Rattle.sc_lines.specs.Words.{nth, count_in}
 use Rattle.sc_scenario.specs.Groups.{nodes_with, joined_by, joined_by_all}
-use Rattle.sc_scenario.specs.Schedules.{most_mails, most_deliveries, most_workers, is_client, actor_in, line_in}
+use Rattle.sc_scenario.specs.Schedules.{most_mails, most_deliveries, most_workers, last_storm, is_client, actor_in, line_in}
 use Rattle.sc_scenario.specs.Orders.{name_in, last_position, order_in}
-use Rattle.sc_scenario.specs.Places.{is_line_built}
 use Rattle.sc_scenario.specs.Taking.{is_actor, is_order_known, is_line_known, has_stranger}
 use Rattle.sc_scenario.specs.Valid.{IsEarlyLine, IsEarlyOrder, IsActor, IsUpTo}
 use Rattle.sc_lines.specs.declared.reasons.Reason.TheVariants.{WrongCount, BadNumber}
@@ -28,7 +27,7 @@ use Rattle.sc_lines.specs.declared.kinds.OrderKind.{OrderKind}
 use Rattle.sc_lines.specs.declared.kinds.OrderKind.TheVariants as what
 use Rattle.sc_scenario.specs.declared.scenarios.Asks.{Asks}
 use Rattle.sc_scenario.specs.declared.scenarios.SchedLine.{SchedLine}
-use Rattle.sc_scenario.specs.declared.scenarios.SchedLine.TheVariants.{Go, Deliver, Drop, Again, Tick, Crash, Settle, Free}
+use Rattle.sc_scenario.specs.declared.scenarios.SchedLine.TheVariants.{Go, Deliver, Drop, Again, Tick, Crash, Settle, Free, Storm}
 use Rattle.sc_lines.proofs.Choices.{is_up_to, counted}
 use Rattle.sc_scenario.proofs.Results.{err_ok, same_Ok, given_ok}
 use Rattle.sc_scenario.proofs.Rosters.{roster_with, all_with}
@@ -114,35 +113,38 @@ node_is nodes word node e h = ((counted most_nodes word node e).0, leb-true node
 abbrev pub Played : ℕ → List Asks → SchedLine → Type 0
 Played nodes clients line = is_line_known nodes clients line ≡ true → IsEarlyLine nodes clients line
 
-pub line_is : (nodes : ℕ) (clients : List Asks) (k : LineKind) (words : List (List ℕ)) (line : SchedLine) → is_line_built k ≡ true → line_in k words ≡ Ok line → Played nodes clients line
-line_is nodes clients kind.Go words line built e =
+pub line_is : (nodes : ℕ) (clients : List Asks) (k : LineKind) (words : List (List ℕ)) (line : SchedLine) → line_in k words ≡ Ok line → Played nodes clients line
+line_is nodes clients kind.Go words line e =
     let g = given_ok (count_in most_clients (nth words 1)) BadNumber (λ client. Ok (Go client)) line e in
     subst (Played nodes clients) (same_Ok _ line g.2) (λ h. h)
-line_is nodes clients kind.Deliver words line built e =
+line_is nodes clients kind.Deliver words line e =
     let g = given_ok (actor_in (nth words 1)) BadNumber (λ who. given (count_in most_mails (nth words 2)) BadNumber (λ k. Ok (Deliver who k))) line e in
     let k = given_ok (count_in most_mails (nth words 2)) BadNumber (λ k. Ok (Deliver g.0 k)) line g.2 in
     subst (Played nodes clients) (same_Ok _ line k.2) (λ h. (actor_is nodes clients g.0 (some_actor (nth words 1) g.0 g.1) h, counted most_mails (nth words 2) k.0 k.1))
-line_is nodes clients kind.Drop words line built e =
+line_is nodes clients kind.Drop words line e =
     let g = given_ok (actor_in (nth words 1)) BadNumber (λ who. given (count_in most_mails (nth words 2)) BadNumber (λ k. Ok (Drop who k))) line e in
     let k = given_ok (count_in most_mails (nth words 2)) BadNumber (λ k. Ok (Drop g.0 k)) line g.2 in
     subst (Played nodes clients) (same_Ok _ line k.2) (λ h. (actor_is nodes clients g.0 (some_actor (nth words 1) g.0 g.1) h, counted most_mails (nth words 2) k.0 k.1))
-line_is nodes clients kind.Again words line built e =
+line_is nodes clients kind.Again words line e =
     let g = given_ok (count_in most_mails (nth words 1)) BadNumber (λ mail. Ok (Again mail)) line e in
     subst (Played nodes clients) (same_Ok _ line g.2) (λ h. counted most_mails (nth words 1) g.0 g.1)
-line_is nodes clients kind.Tick words line built e =
+line_is nodes clients kind.Tick words line e =
     let g = given_ok (actor_in (nth words 1)) BadNumber (λ who. Ok (Tick who)) line e in
     subst (Played nodes clients) (same_Ok _ line g.2) (λ h. actor_is nodes clients g.0 (some_actor (nth words 1) g.0 g.1) h)
-line_is nodes clients kind.Crash words line built e =
+line_is nodes clients kind.Crash words line e =
     let g = given_ok (count_in most_nodes (nth words 1)) BadNumber (λ node. Ok (Crash node)) line e in
     subst (Played nodes clients) (same_Ok _ line g.2) (λ h. node_is nodes (nth words 1) g.0 g.1 h)
-line_is nodes clients kind.Settle words line built e =
+line_is nodes clients kind.Settle words line e =
     let g = given_ok (count_in most_deliveries (nth words 1)) BadNumber (λ most. Ok (Settle most)) line e in
     subst (Played nodes clients) (same_Ok _ line g.2) (λ h. counted most_deliveries (nth words 1) g.0 g.1)
-line_is nodes clients kind.Free words line built e =
+line_is nodes clients kind.Free words line e =
     let g = given_ok (count_in most_deliveries (nth words 1)) BadNumber (λ most. given (count_in most_workers (nth words 2)) BadNumber (λ workers. Ok (Free most workers))) line e in
     let w = given_ok (count_in most_workers (nth words 2)) BadNumber (λ workers. Ok (Free g.0 workers)) line g.2 in
     subst (Played nodes clients) (same_Ok _ line w.2) (λ h. (counted most_deliveries (nth words 1) g.0 g.1, counted most_workers (nth words 2) w.0 w.1))
-line_is nodes clients kind.Storm words line built e = absurd (true≢false (sym built))
+line_is nodes clients kind.Storm words line e =
+    let g = given_ok (number_of (nth words 1) last_storm) BadNumber (λ number. given (count_in most_deliveries (nth words 2)) BadNumber (λ most. Ok (Storm number most))) line e in
+    let k = given_ok (count_in most_deliveries (nth words 2)) BadNumber (λ most. Ok (Storm g.0 most)) line g.2 in
+    subst (Played nodes clients) (same_Ok _ line k.2) (λ h. (is_up_to last_storm (nth words 1) g.0 g.1, counted most_deliveries (nth words 2) k.0 k.1))
 
 -- what an order was read from holds of the order
 abbrev pub Ordered : ℕ → Order → Type 0

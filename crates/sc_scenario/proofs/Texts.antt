@@ -21,16 +21,16 @@ use Rattle.sc_scenario.specs.Groups.{nodes_with, has_repeat, set_of}
 use Rattle.sc_scenario.specs.Schedules.{is_client, line_in}
 use Rattle.sc_scenario.specs.Orders.{order_in, last_position}
 use Rattle.sc_scenario.specs.Statements.{group_in, statement_in}
-use Rattle.sc_scenario.specs.Places.{is_built, phase_so_far, may_follow, is_in_place}
+use Rattle.sc_scenario.specs.Places.{phase_so_far, may_follow, is_in_place}
 use Rattle.sc_scenario.specs.Taking.{is_order_known, is_line_known, is_above, most_groups, most_members, with_group_line, has_stranger, group_taken, client_place, with_client, with_request, client_taken, request_taken, with_line, telling_of, with_order, line_taken, telling_taken, taken_outside, taken_within}
-use Rattle.sc_scenario.specs.Grammar.{begun, are_two, header_read, said, built_kind, words_read, is_fresh, line_read, scenario_by, reading_ended, text_ended, going_on, lines_read, verdict_of}
+use Rattle.sc_scenario.specs.Grammar.{begun, are_two, header_read, said, words_read, is_fresh, line_read, scenario_by, reading_ended, text_ended, going_on, lines_read, verdict_of}
 use Rattle.sc_scenario.specs.Valid.{IsWritten, IsEarly, IsEarlyGroup, IsEarlyClient, IsEarlyLine, IsUpTo, TextsAreEarly}
 use Rattle.sc_lines.specs.declared.reasons.Reason.{Reason}
 use Rattle.sc_lines.specs.declared.reasons.Reason.TheVariants.{MissingHeader, BadByte, UnknownWord, OutOfPlace, WrongCount, BadNumber, UnknownName, Repeated, BadBoundary, TooMany}
 use Rattle.sc_lines.specs.declared.kinds.Kind.{Kind}
 use Rattle.sc_lines.specs.declared.kinds.Kind.TheVariants.{Header, Nodes, Group, Policy, Client, End, Asking, Playing, Telling}
 use Rattle.sc_scenario.specs.declared.statements.Statement.{Statement}
-use Rattle.sc_scenario.specs.declared.statements.Statement.TheVariants.{NodeCount, NewGroup, NewClient, Ask, SectionEnd, Play, Tell}
+use Rattle.sc_scenario.specs.declared.statements.Statement.TheVariants.{NodeCount, NewGroup, WithPolicy, NewClient, Ask, SectionEnd, Play, Tell}
 use Rattle.sc_scenario.specs.declared.drafts.Draft.{Draft}
 use Rattle.sc_scenario.specs.declared.drafts.GroupLine.{GroupLine}
 use Rattle.sc_scenario.specs.declared.drafts.Reading.{Reading}
@@ -59,7 +59,6 @@ record IsDraft (draft : Draft) : Type 0 where
   groups : All (IsEarlyGroup draft.nodes) draft.groups
   few : length draft.groups ≤ most_groups
   steps : AllPairs Lower draft.groups
-  policy : draft.policy ≡ false
   clients : All IsEarlyClient draft.clients
   rising : AllPairs Below draft.clients
   lines : All (IsEarlyLine draft.nodes draft.clients) draft.lines
@@ -120,7 +119,6 @@ counted_nodes draft n up none is = record {
   groups = none_of (IsEarlyGroup n) draft.groups none.groups;
   few = is.few;
   steps = is.steps;
-  policy = is.policy;
   clients = is.clients;
   rising = is.rising;
   lines = none_of (IsEarlyLine n draft.clients) draft.lines none.lines;
@@ -133,7 +131,6 @@ grouped draft line room above good is = record {
   groups = All-push (IsEarlyGroup draft.nodes) draft.groups line is.groups good;
   few = omega (arith, room, length_push draft.groups line);
   steps = above_push draft.groups line is.steps above;
-  policy = is.policy;
   clients = is.clients;
   rising = is.rising;
   lines = is.lines;
@@ -146,10 +143,21 @@ lined draft line orders good is = record {
   groups = is.groups;
   few = is.few;
   steps = is.steps;
-  policy = is.policy;
   clients = is.clients;
   rising = is.rising;
   lines = All-push (IsEarlyLine draft.nodes draft.clients) draft.lines line is.lines good;
+}
+
+policy_read : (draft : Draft) → IsDraft draft → IsDraft (record draft { policy = true })
+policy_read draft is = record {
+  version = is.version;
+  nodes = is.nodes;
+  groups = is.groups;
+  few = is.few;
+  steps = is.steps;
+  clients = is.clients;
+  rising = is.rising;
+  lines = is.lines;
 }
 
 turned : (b : Bool) → not b ≡ false → b ≡ true
@@ -198,29 +206,31 @@ told_is draft node word order more number good is e =
     let parts = and_parts (leb node draft.nodes) (is_order_known draft.nodes order) m.0 in
     subst IsReading (same_Ok _ more m.1) (lined draft (telling_of draft node order) (draft.orders + 1) (node_is draft.nodes word node number parts.0, good parts.1, omega arith) is)
 
-outside_is : (draft : Draft) (k : Kind) (words : List (List ℕ)) (statement : Statement) (more : Reading) → IsDraft draft → is_built k ≡ true → may_follow (phase_so_far draft) (phase_of k) ≡ true
+outside_is : (draft : Draft) (k : Kind) (words : List (List ℕ)) (statement : Statement) (more : Reading) → IsDraft draft → may_follow (phase_so_far draft) (phase_of k) ≡ true
     → statement_in k words ≡ Ok statement → taken_outside draft statement ≡ Ok more → IsReading more
-outside_is draft Header words statement more is built place e t = absurd (err_ok OutOfPlace statement e)
-outside_is draft Nodes words statement more is built place e t =
+outside_is draft Header words statement more is place e t = absurd (err_ok OutOfPlace statement e)
+outside_is draft Nodes words statement more is place e t =
     let g = given_ok (count_in most_nodes (nth words 1)) BadNumber (λ nodes. Ok (NodeCount nodes)) statement e in
     let taken : Ok (Outside (record draft { nodes = g.0 })) ≡ Ok more = subst (λ s. taken_outside draft s ≡ Ok more) (sym (same_Ok (NodeCount g.0) statement g.2)) t in
     subst IsReading (same_Ok _ more taken) (counted_nodes draft g.0 (counted most_nodes (nth words 1) g.0 g.1).1 (empty draft (not_later (phase_so_far draft) 1 place)) is)
-outside_is draft Group words statement more is built place e t = group_is draft words statement more is e t
-outside_is draft Policy words statement more is built place e t = absurd (true≢false (sym built))
-outside_is draft Client words statement more is built place e t =
+outside_is draft Group words statement more is place e t = group_is draft words statement more is e t
+outside_is draft Policy words statement more is place e t =
+    let taken : Ok (Outside (record draft { policy = true })) ≡ Ok more = subst (λ s. taken_outside draft s ≡ Ok more) (sym (same_Ok WithPolicy statement e)) t in
+    subst IsReading (same_Ok _ more taken) (policy_read draft is)
+outside_is draft Client words statement more is place e t =
     let g = given_ok (count_in most_clients (nth words 1)) BadNumber (λ client. Ok (NewClient client)) statement e in
     let taken : client_taken draft g.0 ≡ Ok more = subst (λ s. taken_outside draft s ≡ Ok more) (sym (same_Ok (NewClient g.0) statement g.2)) t in
     client_is draft g.0 more (counted most_clients (nth words 1) g.0 g.1) (no_lines draft (not_later (phase_so_far draft) 4 place)) is taken
-outside_is draft End words statement more is built place e t =
+outside_is draft End words statement more is place e t =
     absurd (err_ok OutOfPlace more (subst (λ s. taken_outside draft s ≡ Ok more) (sym (same_Ok SectionEnd statement e)) t))
-outside_is draft (Asking k) words statement more is built place e t =
+outside_is draft (Asking k) words statement more is place e t =
     let a = after_ok (request_in k words) (λ op. Ok (Ask op)) statement e in
     absurd (err_ok OutOfPlace more (subst (λ s. taken_outside draft s ≡ Ok more) (sym (same_Ok (Ask a.0) statement a.2)) t))
-outside_is draft (Playing k) words statement more is built place e t =
+outside_is draft (Playing k) words statement more is place e t =
     let a = after_ok (line_in k words) (λ line. Ok (Play line)) statement e in
     let taken : line_taken draft a.0 ≡ Ok more = subst (λ s. taken_outside draft s ≡ Ok more) (sym (same_Ok (Play a.0) statement a.2)) t in
-    played_is draft a.0 more (line_is draft.nodes draft.clients k words a.0 built a.1) is taken
-outside_is draft (Telling k) words statement more is built place e t =
+    played_is draft a.0 more (line_is draft.nodes draft.clients k words a.0 a.1) is taken
+outside_is draft (Telling k) words statement more is place e t =
     let g = given_ok (count_in most_nodes (nth words 1)) BadNumber (λ node. then_on (order_in k words) (λ order. Ok (Tell node order))) statement e in
     let a = after_ok (order_in k words) (λ order. Ok (Tell g.0 order)) statement g.2 in
     let taken : telling_taken draft (telling_of draft g.0 a.0) ≡ Ok more = subst (λ s. taken_outside draft s ≡ Ok more) (sym (same_Ok (Tell g.0 a.0) statement a.2)) t in
@@ -235,7 +245,6 @@ section_ended draft asks is = record {
   groups = is.0.groups;
   few = is.0.few;
   steps = is.0.steps;
-  policy = is.0.policy;
   clients = all_inserted IsEarlyClient draft.clients (client_place asks.client draft.clients) asks is.0.clients is.3;
   rising = rising_with asks draft.clients is.0.rising is.2;
   lines = none_of (IsEarlyLine draft.nodes (with_client draft asks).clients) draft.lines is.1;
@@ -275,7 +284,6 @@ begun_is version is = record {
   groups = All-nil (IsEarlyGroup 0);
   few = omega arith;
   steps = no_pairs Lower [] refl;
-  policy = refl;
   clients = All-nil IsEarlyClient;
   rising = no_pairs Below [] refl;
   lines = All-nil (IsEarlyLine 0 []);
@@ -291,12 +299,6 @@ header_is words more e =
     either IsReading (are_two words (codes "scatter") (codes "1")) (Ok (begun 1)) _ more (λ r h. subst IsReading (same_Ok _ r h) (begun_is 1 (inl refl))) (λ r h.
     either IsReading (are_two words (codes "scatter") (codes "2")) (Ok (begun 2)) (Err MissingHeader) r (λ r h. subst IsReading (same_Ok _ r h) (begun_is 2 (inr refl))) (λ r h. absurd (err_ok MissingHeader r h)) h) e
 
-built_is : (draft : Draft) (words : List (List ℕ)) (k : Kind) → built_kind draft words ≡ Some k → is_built k ≡ true
-built_is draft words k e =
-    let b = and_then-some (λ k. if is_built k then Some k else None) (kind_of draft.version words) k e in
-    let c = chosen (is_built b.0) (Some b.0) k b.2 in
-    subst (λ k. is_built k ≡ true) (same_Some b.0 k c.1) c.0
-
 said_is : (in_place : Bool) (k : Kind) (words : List (List ℕ)) (statement : Statement) → said in_place k words ≡ Ok statement → (in_place ≡ true) × (statement_in k words ≡ Ok statement)
 said_is in_place k words statement e =
     let a = passed (not in_place) OutOfPlace _ statement e in
@@ -306,13 +308,13 @@ said_is in_place k words statement e =
 words_are : (reading : Reading) (words : List (List ℕ)) (more : Reading) → IsReading reading → words_read reading words ≡ Ok more → IsReading more
 words_are Fresh words more is e = header_is words more e
 words_are (Outside draft) words more is e =
-    let k = given_ok (built_kind draft words) UnknownWord (λ k. then_on (said (is_in_place (Outside draft) k) k words) (taken_outside draft)) more e in
+    let k = given_ok (kind_of draft.version words) UnknownWord (λ k. then_on (said (is_in_place (Outside draft) k) k words) (taken_outside draft)) more e in
     let s = after_ok (said (is_in_place (Outside draft) k.0) k.0 words) (taken_outside draft) more k.2 in
     let p = said_is (is_in_place (Outside draft) k.0) k.0 words s.0 s.1 in
     let parts = and_parts (not (is_inner k.0)) (may_follow (phase_so_far draft) (phase_of k.0)) p.0 in
-    outside_is draft k.0 words s.0 more is (built_is draft words k.0 k.1) parts.1 p.1 s.2
+    outside_is draft k.0 words s.0 more is parts.1 p.1 s.2
 words_are (Within draft asks) words more is e =
-    let k = given_ok (built_kind draft words) UnknownWord (λ k. then_on (said (is_in_place (Within draft asks) k) k words) (taken_within draft asks)) more e in
+    let k = given_ok (kind_of draft.version words) UnknownWord (λ k. then_on (said (is_in_place (Within draft asks) k) k words) (taken_within draft asks)) more e in
     let s = after_ok (said (is_in_place (Within draft asks) k.0) k.0 words) (taken_within draft asks) more k.2 in
     let p = said_is (is_in_place (Within draft asks) k.0) k.0 words s.0 s.1 in
     within_is draft asks k.0 words s.0 more is p.0 p.1 s.2
@@ -340,7 +342,6 @@ draft_is draft is some filled = record {
   each = is.groups;
   rising = is.steps;
   groups = refl;
-  policy = is.policy;
   clients = is.clients;
   ascending = is.rising;
   lines = is.lines;

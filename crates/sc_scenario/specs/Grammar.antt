@@ -7,7 +7,7 @@ use Rattle.sc_lines.specs.Lines.{most_lines, is_too_long, lines_of, trimmed, is_
 use Rattle.sc_lines.specs.Kinds.{kind_of, has_count}
 use Rattle.sc_scenario.specs.Groups.{bases_of}
 use Rattle.sc_scenario.specs.Statements.{statement_in}
-use Rattle.sc_scenario.specs.Places.{is_built, is_in_place}
+use Rattle.sc_scenario.specs.Places.{is_in_place}
 use Rattle.sc_scenario.specs.Taking.{taken_outside, taken_within}
 use Rattle.sc_lines.specs.declared.reasons.Reason.{Reason}
 use Rattle.sc_lines.specs.declared.reasons.Reason.TheVariants.{MissingHeader, BadByte, UnknownWord, OutOfPlace, WrongCount, UnendedClient, MissingPart, TooLarge}
@@ -44,17 +44,13 @@ said in_place kind words =
     else if not (has_count kind (length words)) then Err WrongCount
     else statement_in kind words
 
--- a kind that is not built is as good as unknown
-abbrev pub built_kind : Draft → List (List ℕ) → Option Kind
-built_kind draft words = option_and_then (λ kind. if is_built kind then Some kind else None) (kind_of draft.version words)
-
 -- what the words of a line say behind what was read
 abbrev pub words_read : Reading → List (List ℕ) → Result Reading Reason
 words_read Fresh words = header_read words
 words_read (Outside draft) words =
-    given (built_kind draft words) UnknownWord (λ kind. then_on (said (is_in_place (Outside draft) kind) kind words) (taken_outside draft))
+    given (kind_of draft.version words) UnknownWord (λ kind. then_on (said (is_in_place (Outside draft) kind) kind words) (taken_outside draft))
 words_read (Within draft asks) words =
-    given (built_kind draft words) UnknownWord (λ kind. then_on (said (is_in_place (Within draft asks) kind) kind words) (taken_within draft asks))
+    given (kind_of draft.version words) UnknownWord (λ kind. then_on (said (is_in_place (Within draft asks) kind) kind words) (taken_within draft asks))
 
 -- whether nothing is read yet
 abbrev pub is_fresh : Reading → Bool

@@ -1,4 +1,4 @@
--- Where a line of a kind may stand, and which kinds are built.
+-- Where a line of a kind may stand.
 use Rattle.std.specs.Prelude.{ℕ, ◌==◌, ◌&&◌, ◌||◌, not, nat_le, nat_lt, Bool, true, false, length, if◌then◌else◌}
 use Rattle.sc_lines.specs.Kinds.{phase_of, is_inner}
 use Rattle.sc_scenario.specs.declared.drafts.Draft.{Draft}
@@ -6,34 +6,6 @@ use Rattle.sc_scenario.specs.declared.drafts.Reading.{Reading}
 use Rattle.sc_scenario.specs.declared.drafts.Reading.TheVariants.{Fresh, Outside, Within}
 use Rattle.sc_lines.specs.declared.kinds.Kind.{Kind}
 use Rattle.sc_lines.specs.declared.kinds.Kind.TheVariants.{Header, Nodes, Group, Policy, Client, End, Asking, Playing, Telling}
-use Rattle.sc_lines.specs.declared.kinds.LineKind.{LineKind}
-use Rattle.sc_lines.specs.declared.kinds.LineKind.TheVariants as line
-
--- ---- what is built
-
--- lines of the schedule that are built: all but storms
-abbrev pub is_line_built : LineKind → Bool
-is_line_built line.Go = true
-is_line_built line.Deliver = true
-is_line_built line.Drop = true
-is_line_built line.Again = true
-is_line_built line.Tick = true
-is_line_built line.Crash = true
-is_line_built line.Settle = true
-is_line_built line.Free = true
-is_line_built line.Storm = false
-
--- kinds of lines that are built: all but a policy
-abbrev pub is_built : Kind → Bool
-is_built Header = true
-is_built Nodes = true
-is_built Group = true
-is_built Policy = false
-is_built Client = true
-is_built End = true
-is_built (Asking kind) = true
-is_built (Playing kind) = is_line_built kind
-is_built (Telling kind) = true
 
 -- ---- where a line may stand
 

@@ -6,7 +6,7 @@ use Rattle.sc_cmd.specs.declared.orders.Order.{Order}
 use Rattle.sc_cmd.specs.declared.orders.Order.TheVariants.{Join, Leave, Split, Merge, Repart, Migrate}
 use Rattle.sc_scenario.specs.Groups.{bases_of}
 use Rattle.sc_base.specs.Limits.{most_nodes, most_clients, most_requests, client_actor}
-use Rattle.sc_scenario.specs.Schedules.{is_client, most_mails, most_deliveries, most_workers}
+use Rattle.sc_scenario.specs.Schedules.{is_client, most_mails, most_deliveries, most_workers, last_storm}
 use Rattle.sc_lines.specs.Lines.{most_bytes}
 use Rattle.sc_scenario.specs.Taking.{most_groups}
 use Rattle.sc_scenario.specs.Grammar.{verdict_of, scenario_of}
@@ -43,7 +43,7 @@ IsEarlyOrder nodes (Merge group) = Unit {0}
 IsEarlyOrder nodes (Repart group at) = at < 2 ^ 32
 IsEarlyOrder nodes (Migrate group node) = IsUpTo nodes node
 
--- a line of the schedule names actors that there are, and orders have numbers from 1 on
+-- a line of the schedule names actors that there are, orders have numbers from 1 on, and storms one of 64 bits
 abbrev pub IsEarlyLine : ℕ → List Asks → SchedLine → Type 0
 IsEarlyLine nodes clients (Go client) = is_client clients client ≡ true
 IsEarlyLine nodes clients (Deliver who k) = IsActor nodes clients who × IsUpTo most_mails k
@@ -54,7 +54,7 @@ IsEarlyLine nodes clients (Crash node) = IsUpTo nodes node
 IsEarlyLine nodes clients (Told node line) = IsUpTo nodes node × IsEarlyOrder nodes line.order × (1 ≤ line.number)
 IsEarlyLine nodes clients (Settle most) = IsUpTo most_deliveries most
 IsEarlyLine nodes clients (Free most workers) = IsUpTo most_deliveries most × IsUpTo most_workers workers
-IsEarlyLine nodes clients (Storm number most) = ⊥
+IsEarlyLine nodes clients (Storm number most) = (number ≤ last_storm) × IsUpTo most_deliveries most
 
 -- a client's number and how many requests it has
 abbrev pub IsEarlyClient : Asks → Type 0
@@ -75,7 +75,6 @@ pub record IsEarly (scenario : Scenario) : Type 0 where
   pub each : All (IsEarlyGroup scenario.nodes) starts
   pub rising : AllPairs (λ (one other : GroupLine). one.lo < other.lo) starts
   pub groups : scenario.groups ≡ bases_of starts
-  pub policy : scenario.policy ≡ false
   pub clients : All IsEarlyClient scenario.clients
   pub ascending : AllPairs (λ (one other : Asks). one.client < other.client) scenario.clients
   pub lines : All (IsEarlyLine scenario.nodes scenario.clients) scenario.lines

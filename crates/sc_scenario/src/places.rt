@@ -1,32 +1,10 @@
-//! Where a line of a kind may stand, and which kinds are built.
+//! Where a line of a kind may stand.
 ghost use Rattle.std.specs.Prelude.{◌≡◌};
-ghost use Rattle.sc_scenario.specs.Places.{is_line_built, is_built, phase_so_far, may_follow, is_in_place};
+ghost use Rattle.sc_scenario.specs.Places.{phase_so_far, may_follow, is_in_place};
 ghost use Rattle.sc_scenario.specs.declared.drafts.Reading.TheVariants.{Outside};
 
 use crate::drafts::Draft;
-use sc_lines::{Kind, LineKind, is_inner, phase_of};
-
-fn is_line_built(kind: LineKind) -> bool
-    ensures { result ≡ is_line_built kind }
-{
-    match kind {
-        LineKind::Go | LineKind::Deliver | LineKind::Drop | LineKind::Again => true,
-        LineKind::Tick | LineKind::Crash | LineKind::Settle | LineKind::Free => true,
-        LineKind::Storm => false,
-    }
-}
-
-/// Whether a line of this kind is built.
-pub fn is_built(kind: Kind) -> bool
-    ensures { result ≡ is_built kind }
-{
-    match kind {
-        Kind::Header | Kind::Nodes | Kind::Group | Kind::Client | Kind::End => true,
-        Kind::Asking(_) | Kind::Telling(_) => true,
-        Kind::Policy => false,
-        Kind::Playing(kind) => is_line_built(kind),
-    }
-}
+use sc_lines::{Kind, is_inner, phase_of};
 
 fn phase_so_far(draft: &Draft) -> u8
     ensures { result ≡ phase_so_far draft.now }

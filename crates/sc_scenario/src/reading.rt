@@ -1,6 +1,6 @@
 //! The reader: line by line, up to the first bad line.
 ghost use Rattle.std.specs.Prelude.{◌≡◌, map, IfOk};
-ghost use Rattle.sc_scenario.specs.Grammar.{HasVerdict, begun, are_two, header_read, said, built_kind, words_read, is_fresh, line_read, bad, scenario_by, reading_ended, lines_read, verdict_of};
+ghost use Rattle.sc_scenario.specs.Grammar.{HasVerdict, begun, are_two, header_read, said, words_read, is_fresh, line_read, bad, scenario_by, reading_ended, lines_read, verdict_of};
 ghost use Rattle.sc_lines.specs.Lines.{is_too_long, lines_in};
 ghost use Rattle.sc_scenario.specs.Valid.{TextsAreEarly, FirstBytesDecide};
 ghost use Rattle.sc_scenario.specs.declared.drafts.Reading.TheVariants.{Fresh, Outside, Within};
@@ -8,7 +8,7 @@ ghost use Rattle.sc_scenario.specs.declared.reading.ScenarioFault.TheVariants.{O
 
 use crate::drafts::{Draft, Reading};
 use crate::groups::bases_of;
-use crate::places::{is_built, may_stand};
+use crate::places::may_stand;
 use crate::scenarios::{Asks, Scenario};
 use crate::statements::{Said, statement_in};
 use crate::taking::{Taken, taken_outside, taken_within};
@@ -91,19 +91,11 @@ fn said(
     statement_in(alloc, kind, words)
 }
 
-// The kind of a line, if it is built.
-fn built_kind(draft: &Draft, words: &[&[u8]]) -> Option<Kind>
-    ensures { result ≡ built_kind draft.now (map (λ word. word.now) words.now) }
-{
-    let kind = kind_of(draft.version, words)?;
-    if is_built(kind) { Some(kind) } else { None }
-}
-
 fn read_outside(alloc: Global, draft: Draft, words: &[&[u8]]) -> Result<Taken, sc_base::OutOfMemory>
     ensures { IfOk result
         (λ taken. taken ≡ words_read (Outside draft) (map (λ word. word.now) words.now)) }
 {
-    let Some(kind) = built_kind(&draft, words) else {
+    let Some(kind) = kind_of(draft.version, words) else {
         return Ok(Err(Reason::UnknownWord));
     };
     let in_place = may_stand(&draft, kind);
@@ -122,7 +114,7 @@ fn read_within(
     ensures { IfOk result
         (λ taken. taken ≡ words_read (Within draft asks) (map (λ word. word.now) words.now)) }
 {
-    let Some(kind) = built_kind(&draft, words) else {
+    let Some(kind) = kind_of(draft.version, words) else {
         return Ok(Err(Reason::UnknownWord));
     };
     match said(alloc, is_inner(kind), kind, words)? {

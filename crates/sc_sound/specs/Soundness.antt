@@ -58,7 +58,7 @@ pub record HasRun (ahead : Ahead) (base : Base) (rows : List (Row Mail OrderLine
 -- each replica of each node is one of a group of the journal, and has executed a front of its log
 abbrev pub AllHaveRun : Ahead → Scenario → List (Row Mail OrderLine) → Type 0
 AllHaveRun ahead scenario rows = (number : ℕ) → 1 ≤ number → number ≤ scenario.nodes
-    → (node : NodeState) → value player_table (node_seat ahead scenario.groups number) rows ≡ ANode node
+    → (node : NodeState) → value player_table (node_seat ahead scenario.groups scenario.policy number) rows ≡ ANode node
     → (r : ReplicaState) → Among r node.replicas
     → (base : Base) × Among base (groups_at ahead scenario.groups rows) × (base.core.id ≡ name_of r) × HasRun ahead base rows r
 

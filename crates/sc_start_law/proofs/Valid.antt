@@ -67,7 +67,7 @@ module _ (owner : Draw → Option Draw) (unowned : (name : Draw) → name.node �
 
   seats : HasSeats ahead scenario (route_of first)
   seats = record {
-    seats = ap (λ gs. map (node_seat ahead scenario.groups) (numbers_from 1 scenario.nodes) ++ client_seats gs scenario.clients) groups_are;
+    seats = ap (λ gs. map (node_seat ahead scenario.groups scenario.policy) (numbers_from 1 scenario.nodes) ++ client_seats gs scenario.clients) groups_are;
     nodes = early.nodes.1;
     numbered = each_of (λ (asks : Asks). 1 ≤ asks.client) scenario.clients (λ k d lt. (early.clients k d lt).0.0);
     once = once;

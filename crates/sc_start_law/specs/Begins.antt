@@ -26,7 +26,7 @@ pub record IsFresh (base : Base) : Type 0 where
 
 -- the nodes are numbered up to the most, and the clients from one, each once; as many slots are open as children have
 pub record HasSeats (ahead : Ahead) (scenario : Scenario) (route : Route) : Type 0 where
-  pub seats : births ahead scenario ≡ map (node_seat ahead scenario.groups) (numbers_from 1 scenario.nodes) ++ map (client_seat route) scenario.clients
+  pub seats : births ahead scenario ≡ map (node_seat ahead scenario.groups scenario.policy) (numbers_from 1 scenario.nodes) ++ map (client_seat route) scenario.clients
   pub nodes : scenario.nodes ≤ most_nodes
   pub numbered : Each (λ asks. 1 ≤ asks.client) scenario.clients
   pub once : (one other : Asks) → Among one scenario.clients → Among other scenario.clients → one.client ≡ other.client → one ≡ other

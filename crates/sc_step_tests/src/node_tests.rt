@@ -90,7 +90,7 @@ fn replica_sends(
     let mut sent = Sequence::new(alloc);
     let input = replica_input_of(rt, alloc, step, op);
     let mut draws = Draws::start(1);
-    let made = step_replica(replica, &input, &mut draws, &mut sent).expect(rt, "memory");
+    let made = step_replica(replica, &input, false, &mut draws, &mut sent).expect(rt, "memory");
     forget(input);
     forget(made);
     sent
@@ -136,7 +136,7 @@ fn born_node(rt: &impl Abort, alloc: Global) -> NodeCore {
     let mut groups = Sequence::new(alloc);
     groups.push(group(rt, alloc, 1)).expect(rt, "memory");
     assert!(rt; are_in_order(groups.as_slice()));
-    let node = NodeCore::born(alloc, 1, &groups).expect(rt, "memory");
+    let node = NodeCore::born(alloc, 1, &groups, false).expect(rt, "memory");
     forget(groups);
     node
 }

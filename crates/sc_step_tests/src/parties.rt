@@ -128,11 +128,18 @@ fn bases_of(rt: &impl Abort, alloc: Global, groups: &[Place]) -> Sequence<Base>
     bases
 }
 
-fn parties_of(rt: &impl Abort, alloc: Global, nodes: u16, groups: &[Place]) -> Vec<Party> {
+fn parties_of(
+    rt: &impl Abort,
+    alloc: Global,
+    nodes: u16,
+    groups: &[Place],
+    policy: bool,
+) -> Vec<Party> {
     let bases = bases_of(rt, alloc, groups);
     let mut parties = Vec::new(alloc);
     for i in 0..nodes {
-        let node = NodeCore::born(alloc, i.saturating_add(1), &bases).expect(rt, "memory");
+        let me = i.saturating_add(1);
+        let node = NodeCore::born(alloc, me, &bases, policy).expect(rt, "memory");
         let crashed = false;
         parties.push(Party { node, crashed }).expect(rt, "memory");
     }
@@ -140,9 +147,9 @@ fn parties_of(rt: &impl Abort, alloc: Global, nodes: u16, groups: &[Place]) -> V
     parties
 }
 
-fn run_of(rt: &impl Abort, alloc: Global, nodes: u16, groups: &[Place]) -> Run {
+fn run_of(rt: &impl Abort, alloc: Global, nodes: u16, groups: &[Place], policy: bool) -> Run {
     Run {
-        parties: parties_of(rt, alloc, nodes, groups),
+        parties: parties_of(rt, alloc, nodes, groups, policy),
         mails: Vec::new(alloc),
         told: Vec::new(alloc),
         rows: 0,
@@ -273,15 +280,16 @@ fn happen(rt: &impl Abort, alloc: Global, run: &mut Run, event: Event) {
     }
 }
 
-// The nodes and their mails after all that happened.
+// The nodes, with a policy or without, and their mails after all that happened.
 pub(crate) fn played(
     rt: &impl Abort,
     alloc: Global,
     nodes: u16,
     groups: &[Place],
+    policy: bool,
     events: &[Event],
 ) -> Run {
-    let mut run = run_of(rt, alloc, nodes, groups);
+    let mut run = run_of(rt, alloc, nodes, groups, policy);
     for event in events {
         happen(rt, alloc, &mut run, *event);
     }

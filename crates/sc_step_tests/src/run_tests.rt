@@ -23,12 +23,16 @@ fn has_counts(run: &Run, counts: Counts) -> bool {
         && run.told.as_slice() == told
 }
 
-fn plays(rt: &impl Abort, alloc: Global, case: Case) -> bool {
+fn plays_by(rt: &impl Abort, alloc: Global, policy: bool, case: Case) -> bool {
     let (nodes, groups, events, counts) = case;
-    let run = played(rt, alloc, nodes, groups, events);
+    let run = played(rt, alloc, nodes, groups, policy, events);
     let plays = has_counts(&run, counts);
     forget(run);
     plays
+}
+
+fn plays(rt: &impl Abort, alloc: Global, case: Case) -> bool {
+    plays_by(rt, alloc, false, case)
 }
 
 const QUARTER: u64 = 1 << 30;
@@ -224,6 +228,43 @@ fn orders_are_refused(rt: HostRuntime) {
     assert!(rt; plays(&rt, rt.alloc(), ORDER_REFUSALS));
 }
 
+const CROWDED: &[Place] = &[(0, 1 << 32, &[1, 2, 3, 4, 5, 6, 7, 8])];
+
+const POLICY_SPLIT: Case = (
+    8,
+    CROWDED,
+    &[Event::Tick(1), Event::Settle(100)],
+    (24, 23, 23, &[]),
+);
+
+const POLICY_MERGE: Case = (
+    2,
+    TWO,
+    &[Event::Tick(1), Event::Settle(100)],
+    (13, 12, 12, &[]),
+);
+
+const NO_POLICY: Case = (
+    2,
+    TWO,
+    &[Event::Tick(1), Event::Settle(100)],
+    (1, 0, 0, &[]),
+);
+
+// Of the orders that a policy makes nothing is told.
+#[test]
+fn a_policy_splits_and_merges(rt: HostRuntime) {
+    assert!(rt; plays_by(&rt, rt.alloc(), true, POLICY_SPLIT));
+    assert!(rt; plays_by(&rt, rt.alloc(), true, POLICY_MERGE));
+    assert!(rt; plays(&rt, rt.alloc(), NO_POLICY));
+}
+
+// An order is begun or refused as without a policy: at its tick the group is locked.
+#[test]
+fn a_policy_leaves_a_locked_group_alone(rt: HostRuntime) {
+    assert!(rt; plays_by(&rt, rt.alloc(), true, GIVE_UP));
+}
+
 // The mails of transactions.
 #[derive(Clone, Copy, PartialEq)]
 enum Word {
@@ -272,7 +313,7 @@ fn has_said(run: &Run, said: &[Said]) -> bool {
 
 fn says(rt: &impl Abort, alloc: Global, case: Case, said: &[Said]) -> bool {
     let (nodes, groups, events, _) = case;
-    let run = played(rt, alloc, nodes, groups, events);
+    let run = played(rt, alloc, nodes, groups, false, events);
     let says = has_said(&run, said);
     forget(run);
     says

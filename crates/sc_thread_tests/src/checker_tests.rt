@@ -2,7 +2,7 @@
 ghost use Rattle.std.specs.Prelude.{[], ◌∷◌, ◌-◌, ◌==◌, if◌then◌else◌};
 
 use crate::notes::Note;
-use sc_actor::{Actor, Event, Input, Journal, Line, Row, Seat, are_apart, are_few, have_one_task};
+use sc_actor::{Actor, Event, Input, Journal, Line, Row, Seat, are_apart, are_few};
 use sc_base::{OutOfMemory, Sequence};
 use sc_checker::{Replayed, is_lawful, pending_of, replay};
 use std::alloc::Global;
@@ -114,7 +114,7 @@ fn journal(rt: &impl Abort, alloc: Global, acts: &[Act]) -> Journal<Note, u32> {
 fn lawful(rt: &impl Abort, alloc: Global, lines: &[Line<u32>], acts: &[Act]) -> bool {
     let rows = journal(rt, alloc, acts);
     let seats = pair(rt, alloc);
-    assert!(rt; have_one_task(lines) && are_apart(&seats) && are_few(rows.as_slice()));
+    assert!(rt; are_apart(&seats) && are_few(rows.as_slice()));
     let is_lawful = is_lawful(alloc, seats, lines, rows.as_slice()).expect(rt, "memory");
     forget(rows);
     is_lawful
@@ -177,7 +177,7 @@ fn leave(
 ) -> bool {
     let rows = journal(rt, alloc, acts);
     let seats = pair(rt, alloc);
-    assert!(rt; have_one_task(lines) && are_apart(&seats) && are_few(rows.as_slice()));
+    assert!(rt; are_apart(&seats) && are_few(rows.as_slice()));
     let left = replay(alloc, seats, lines, rows.as_slice()).expect(rt, "memory");
     let is_so = is_told(&left, wanted);
     forget(left);

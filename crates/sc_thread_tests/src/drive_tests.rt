@@ -2,7 +2,7 @@
 ghost use Rattle.std.specs.Prelude.{◌≤◌};
 
 use crate::players::{Open, Pair, seats};
-use sc_actor::{Gate, Line, have_one_task};
+use sc_actor::{Gate, Line};
 use sc_drive::{Driven, drive, goers_are_spared, open};
 use std::alloc::Global;
 use std::mem::forget;
@@ -23,7 +23,6 @@ fn driven_to<G: Gate, R: Threads + Wait + Abort + Sync>(
 ) -> Driven
     requires { bytes ≤ 1000000 }
 {
-    assert!(rt; have_one_task(lines));
     assert!(rt; goers_are_spared(lines));
     let seats = seats(rt, alloc, other, 4, starves);
     let (mut net, mut shells) = open(alloc, seats, 3, bytes).expect(rt, "memory");
@@ -103,6 +102,29 @@ const LINES_OF_ONE_ROW: &[Line<u32>] = &[
     Line::Tick { who: 3 },
     Line::Settle { most: 0 },
 ];
+
+// Both are told to go, a storm delivers, loses and repeats some of it, and the rest is delivered.
+const LINES_WITH_A_STORM: &[Line<u32>] = &[
+    Line::Go { who: 1 },
+    Line::Go { who: 2 },
+    Line::Storm {
+        number: 7,
+        most: 20,
+    },
+    Line::Settle { most: 100 },
+];
+
+// No step of a storm is skipped.
+#[test]
+fn storms_are_driven(rt: HostRuntime) {
+    let end = driven_to(&rt, rt.alloc(), 1 << 19, 2, 0, LINES_WITH_A_STORM, &Open);
+    let wanted = Driven::Ended {
+        unsettled: false,
+        quiet: true,
+        skipped: 0,
+    };
+    assert!(rt; end == wanted);
+}
 
 // Skipped are: the first, the second loss, the repeat of a mail that was not sent, and the two last
 // ticks. A note to the first actor is pending at the end.

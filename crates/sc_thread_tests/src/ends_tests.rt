@@ -8,7 +8,7 @@ ghost use Rattle.sc_drive.specs.Goings.{IsKept};
 
 use crate::notes::Note;
 use crate::players::{Open, Player, go, seats};
-use sc_actor::{Line, Row, Seat, are_few, have_one_task};
+use sc_actor::{Line, Row, Seat, are_few};
 use sc_checker::replay;
 use sc_drive::{Driven, close, drive, goers_are_spared, open};
 use sc_exchange::Port;
@@ -92,7 +92,6 @@ fn drive_all<R: Threads + Wait + Abort + Sync>(
     requires begins { (births : List (Seat Player)) × AtBirth births net.old shells.old.items }
     ensures kept { IsKept net.old shells.old.items net.new shells.new.items }
 {
-    assert!(rt; have_one_task(lines));
     assert!(rt; goers_are_spared(lines));
     match drive(rt, alloc, net, shells, lines, &Open) {
         Driven::OutOfMemory => panic!(rt; "memory"),
@@ -107,7 +106,7 @@ fn replayed(
     lines: &[Line<u32>],
     rows: &[Row<Note, u32>],
 ) -> Option<u32> {
-    assert!(rt; have_one_task(lines) && are_few(rows));
+    assert!(rt; are_few(rows));
     match replay(alloc, seats(rt, alloc, 2, 7, 0), lines, rows).expect(rt, "memory") {
         None => None,
         Some(left) => {

@@ -41,7 +41,6 @@ pub const REFUSED: &[Refused] = &[
         3,
     ),
     (b"scatter 1\nnodes 2\ngroup 0 1\npolicy\n", 0, 4, 3),
-    (b"scatter 1\nnodes 2\ngroup 0 1\nstorm 1 1\n", 0, 4, 3),
     (
         b"scatter 1\nnodes 2\ngroup 0 1\norder 1 splits 0.1 5\n",
         0,
@@ -109,6 +108,13 @@ pub const REFUSED: &[Refused] = &[
     (b"scatter 1\nnodes 2\ngroup 0 1\nagain +1\n", 0, 4, 6),
     (b"scatter 1\nnodes 2\ngroup 0 1\nsettle 1000001\n", 0, 4, 6),
     (b"scatter 1\nnodes 2\ngroup 0 1\nfree 1 17\n", 0, 4, 6),
+    (b"scatter 1\nnodes 2\ngroup 0 1\nstorm 1 0\n", 0, 4, 6),
+    (
+        b"scatter 1\nnodes 2\ngroup 0 1\nstorm 18446744073709551616 1\n",
+        0,
+        4,
+        6,
+    ),
     (
         b"scatter 1\nnodes 2\ngroup 0 1\norder 33 join 1 0.1\n",
         0,

@@ -1,8 +1,9 @@
 -- Every lawful journal decides in turn, row by row, whatever its groups order; and one value per slot, executed fronts, issued calls and decided replies hold beside.
-use Rattle.std.proofs.Common.{◌≡◌, ℕ, ◌+◌, List, [], ◌∷◌, ◌++◌, length, Some, refl, sym, ◌∙◌, subst, append_assoc, append-nil}
-use Rattle.std.specs.Prelude.{slice_get}
+use Rattle.std.proofs.Common.{◌≡◌, ℕ, ◌+◌, ◌≤◌, ◌||◌, not, Bool, cond, List, [], ◌∷◌, ◌++◌, length, Some, None, refl, sym, ◌∙◌, subst, append_assoc, append-nil}
+use Rattle.std.specs.Prelude.{is_some, slice_get}
+use Rattle.std.proofs.lemmas.Bool.{cond-false}
 use Rattle.sc_base.specs.Among.{Among}
-use Rattle.sc_base.specs.Drawing.{next_name}
+use Rattle.sc_base.specs.Drawing.{Drawer, next_name}
 use Rattle.sc_base.specs.declared.names.Draw.{Draw}
 use Rattle.sc_base.specs.declared.ops.Op.{Op}
 use Rattle.sc_base.specs.declared.ops.Reply.{Reply}
@@ -17,14 +18,17 @@ use Rattle.sc_actor.specs.declared.rows.Event.{Event}
 use Rattle.sc_actor.specs.declared.rows.Event.TheVariants.{Deliver, Tick, Go, Told, Crash, Drop, Again}
 use Rattle.sc_actor.specs.declared.rows.Row.{Row}
 use Rattle.sc_actor.specs.Steps.{IsStep}
+use Rattle.sc_actor.specs.Replay.{value}
 use Rattle.sc_actor.specs.Walk.{place_after}
 use Rattle.sc_actor.proofs.Induction.{MayAdd-step, lawful-induction}
 use Rattle.sc_actor.proofs.WalkLemmas.{lawful-prefix, lawful-last}
-use Rattle.sc_node_table.specs.Node.{NodeState}
+use Rattle.sc_member.specs.Roster.{is_member}
+use Rattle.sc_node_table.specs.Node.{NodeState, names_after_ticks}
 use Rattle.sc_node_table.specs.Ordering.{ordered_command}
-use Rattle.sc_node_table.specs.Replica.{ReplicaState, name_of}
+use Rattle.sc_node_table.specs.Policy.{wished_line, names_after_tick}
+use Rattle.sc_node_table.specs.Replica.{ReplicaState, name_of, members, settled}
 use Rattle.sc_paxos_words.proofs.ListLemmas.{Each-among}
-use Rattle.sc_players.specs.Players.{Ahead, Lawful, system_of, schedule}
+use Rattle.sc_players.specs.Players.{Ahead, Lawful, node_seat, player_table, system_of, schedule}
 use Rattle.sc_players.specs.declared.roles.Role.TheVariants.{Node as ANode}
 use Rattle.sc_scenario.specs.declared.scenarios.Asks.{Asks}
 use Rattle.sc_scenario.specs.declared.scenarios.Scenario.{Scenario}
@@ -35,6 +39,7 @@ use Rattle.sc_ring_law.specs.Allowed.{Sources, IsAllowed}
 use Rattle.sc_ring_law.specs.Laws.{BeginInPlace}
 use Rattle.sc_journal_law.specs.Beside.{HasOneValue, IsIssuedIn, IsDecidedBefore, HoldsBeside}
 use Rattle.sc_journal_law.specs.Descent.{Rows, added_by}
+use Rattle.sc_draws_law.specs.Owners.{waited, wished_at}
 use Rattle.sc_group_law.proofs.Births.{at_start}
 use Rattle.sc_group_law.proofs.Families.{h_of}
 use Rattle.sc_group_law.proofs.Holding.{held}
@@ -42,6 +47,7 @@ use Rattle.sc_group_law.proofs.Names.{IsOneOf}
 use Rattle.sc_group_law.proofs.Nodes.{IsNode}
 use Rattle.sc_group_law.proofs.Replicated.{one_value, is_log, executed_is}
 use Rattle.sc_group_law.proofs.Stepping.{MayTell}
+use Rattle.sc_group_law.proofs.Ticks.{MayTick}
 use Rattle.sc_whole_law.specs.Orders.{OrdersAreAllowed}
 use Rattle.sc_whole_law.specs.Parameters.{stories_at, IsIssuedCall, MayQueue, MayHear}
 use Rattle.sc_start_law.specs.Begins.{IsFresh, HasSeats, AsksAre}
@@ -57,6 +63,12 @@ no_call scenario rows name number (An.Merge group) = tt
 no_call scenario rows name number (An.Repart group at) = tt
 no_call scenario rows name number (An.Migrate group node) = tt
 
+-- the names that are left after one replica more
+names_push : (on : Bool) (drawer : Drawer) (older : List ReplicaState) (r : ReplicaState) → names_after_ticks on drawer (older ++ r ∷ []) ≡ names_after_tick on (names_after_ticks on drawer older) r
+unfolding names_after_ticks
+names_push on drawer [] r = refl
+names_push on drawer (s ∷ older) r = names_push on (names_after_tick on drawer s) older r
+
 module _ (sources : Sources) (ahead : Ahead) (words : ℕ → ℕ → ℕ × ℕ) (scenario : Scenario) (route : Route) (start : BeginInPlace sources scenario.groups) (seats : HasSeats ahead scenario route) (asks_are : AsksAre sources scenario)
     (names : AreApart scenario.groups) (fresh : (b : Base) → Among b scenario.groups → IsFresh b) where
   abbrev All : Rows → Type 0
@@ -69,16 +81,36 @@ module _ (sources : Sources) (ahead : Ahead) (words : ℕ → ℕ → ℕ × ℕ
   pub holds_first : All []
   holds_first = record { kept = at_start ahead scenario scenario.groups route (MayQueue sources ahead scenario) (MayHear sources ahead scenario) names; turn = tt; fresh = fresh }
 
+  -- what policies may queue at a tick
+  may_tick : (all before : Rows) (row : Row Mail OrderLine) (later : Rows) → all ≡ before ++ row ∷ later → OrdersAreAllowed sources ahead scenario all → row.event ≡ Tick → 1 ≤ row.who → row.who ≤ scenario.nodes
+      → (node : NodeState) → value player_table (node_seat ahead scenario.groups scenario.policy row.who) before ≡ ANode node → (older rs : List ReplicaState) → node.replicas ≡ older ++ rs
+      → MayTick (bases before) (MayQueue sources ahead scenario before) node.policy (names_after_ticks node.policy node.draws older) rs
+  may_tick all before row later are orders e low high node is older [] all_are = tt
+  may_tick all before row later are orders e low high node is older (r ∷ rs) all_are = (
+    λ b a into here leads line wished taken. (
+        let name = next_name (names_after_ticks node.policy node.draws older) in
+        let orders_it : wished_at node.policy r ≡ Some line = cond-false (is_some r.group.core.gone || not (is_member (members r) r.me)) None (cond (not (settled r)) None (wished_line node.policy (waited r))) here
+        ∙ cond-false (not (settled r)) None (wished_line node.policy (waited r)) leads ∙ wished in
+        (
+          subst (λ n. IsAllowed sources (stories_at ahead scenario.groups before) n (ordered_command name line.number line.order)) into
+              (orders.wished before row later are e low high node is older rs r all_are line orders_it taken (stories_at ahead scenario.groups before)),
+          no_call scenario before name line.number line.order,
+        )),
+    subst (λ (d : Drawer). MayTick (bases before) (MayQueue sources ahead scenario before) node.policy d rs) (names_push node.policy node.draws older r)
+        (may_tick all before row later are orders e low high node is (older ++ r ∷ []) rs (all_are ∙ sym (append_assoc older (r ∷ []) rs))),
+  )
+
   -- what an order may queue
   may_tell : (all before : Rows) (row : Row Mail OrderLine) (later : Rows) → all ≡ before ++ row ∷ later → OrdersAreAllowed sources ahead scenario all → (h : All before) → (event : Event OrderLine) → row.event ≡ event
       → MayTell ahead words scenario scenario.groups (bases before) route (MayQueue sources ahead scenario) (MayHear sources ahead scenario) (players sources ahead words scenario route start seats asks_are before h) before row.who event
+  unfolding names_after_ticks
   may_tell all before row later are orders h (Told line) e = λ low high node is b a into r found taken. (
     subst (λ n. IsAllowed sources (stories_at ahead scenario.groups before) n (ordered_command (next_name node.draws) line.number line.order)) into
-        (orders before row later are line e low high node is r found taken (stories_at ahead scenario.groups before)),
+        (orders.told before row later are line e low high node is r found taken (stories_at ahead scenario.groups before)),
     no_call scenario before (next_name node.draws) line.number line.order,
   )
   may_tell all before row later are orders h (Deliver number) e = tt
-  may_tell all before row later are orders h Tick e = tt
+  may_tell all before row later are orders h Tick e = λ low high node is. may_tick all before row later are orders e low high node is [] node.replicas refl
   may_tell all before row later are orders h Go e = tt
   may_tell all before row later are orders h Crash e = tt
   may_tell all before row later are orders h (Drop number) e = tt

@@ -66,7 +66,7 @@ one_route one other asks e =
 route_is : (ahead : Ahead) (scenario : Scenario) (route : Route) → HasSeats ahead scenario route
     → (group : Base) (others : List Base) → scenario.groups ≡ group ∷ others → (asks : Asks) → Among asks scenario.clients → route_of group ≡ route
 route_is ahead scenario route seats group others is asks stands =
-    let nodes = map (node_seat ahead scenario.groups) (numbers_from 1 scenario.nodes) in
+    let nodes = map (node_seat ahead scenario.groups scenario.policy) (numbers_from 1 scenario.nodes) in
     let clients = append_cancel_left nodes (client_seats scenario.groups scenario.clients) (map (client_seat route) scenario.clients) seats.seats in
     let same : map (client_seat (route_of group)) scenario.clients ≡ map (client_seat route) scenario.clients = sym (ap (λ gs. client_seats gs scenario.clients) is) ∙ clients in
     one_route (route_of group) route asks (mapped_same (client_seat (route_of group)) (client_seat route) scenario.clients same asks stands)

@@ -1,4 +1,4 @@
--- The orders of a lawful journal of a valid scenario are at positions of the ring, so what nodes queue for them is allowed by the owners of names.
+-- The orders of a lawful journal of a valid scenario are at positions of the ring, so what nodes queue for them, and for what policies order, is allowed by the owners of names.
 use Rattle.std.proofs.Common.{ℕ, List, [], ◌∷◌, ◌++◌, map, inl, refl, sym, subst}
 use Rattle.sc_base.specs.Among.{Each}
 use Rattle.sc_base.specs.Drawing.{next_name}
@@ -7,8 +7,9 @@ use Rattle.sc_cmd.specs.declared.orders.Order.TheVariants as An
 use Rattle.sc_cmd.specs.declared.orders.OrderLine.{OrderLine}
 use Rattle.sc_mail.specs.declared.bodies.Mail.{Mail}
 use Rattle.sc_actor.specs.declared.rows.Row.{Row}
-use Rattle.sc_node_table.specs.Node.{group_of_order}
+use Rattle.sc_node_table.specs.Node.{group_of_order, names_after_ticks}
 use Rattle.sc_node_table.specs.Ordering.{ordered_command}
+use Rattle.sc_node_table.specs.Replica.{name_of}
 use Rattle.sc_paxos_words.proofs.ListLemmas.{Each-among, Each-append}
 use Rattle.sc_paxos_law.proofs.Among.{Among-right}
 use Rattle.sc_players.specs.Players.{Ahead, Lawful, line_of, schedule, system_of}
@@ -18,13 +19,14 @@ use Rattle.sc_scenario.specs.declared.scenarios.Scenario.{Scenario}
 use Rattle.sc_scenario.specs.declared.scenarios.SchedLine.{SchedLine}
 use Rattle.sc_scenario.specs.declared.scenarios.SchedLine.TheVariants as scheduled
 use Rattle.sc_ring_law.specs.Allowed.{IsAllowed}
-use Rattle.sc_draws_law.specs.Laws.{IsAtPosition, TakesOrder, TakenOrdersAreAllowed}
+use Rattle.sc_draws_law.specs.Laws.{IsAtPosition, TakesOrder, TakenOrdersAreAllowed, TakesWish, TakenWishesAreAllowed, WishesAreAtPositions}
 use Rattle.sc_draws_law.specs.Owners.{owner_in}
 use Rattle.sc_group_law.proofs.Orders.{IsToldSo, TellsSo, told_induction}
 use Rattle.sc_journal_law.specs.Descent.{Rows}
 use Rattle.sc_start_law.specs.Begins.{request_of}
 use Rattle.sc_start_law.proofs.Valid.{each_of}
-use Rattle.sc_whole_law.specs.Orders.{OrdersAreAllowed}
+use Rattle.sc_whole_law.specs.Orders.{ToldAreAllowed, WishedAreAllowed, OrdersAreAllowed}
+use Rattle.sc_whole_law.proofs.Policies.{KeysLie, keys_lie}
 
 -- ---- the schedule
 
@@ -68,11 +70,24 @@ module _ (ahead : Ahead) (words : ℕ → ℕ → ℕ × ℕ) (scenario : Scenar
       told_induction IsPlaced (system_of ahead words scenario) (Each IsPlacedRow) (λ before row p told step. Each-append IsPlacedRow before (row ∷ []) p (told, tt)) (schedule scenario) rows
       (placed_lines scenario.nodes scenario.clients scenario.lines (each_of (IsEarlyLine scenario.nodes scenario.clients) scenario.lines early.lines)) tt lawful
 
-  -- what is queued is allowed by the owners of the whole journal
-  pub orders_allowed : TakenOrdersAreAllowed → (rows : Rows) → Lawful ahead words scenario rows → OrdersAreAllowed (record { owner = owner_in ahead scenario rows; request = request_of scenario }) ahead scenario rows
-  orders_allowed law rows lawful before row later are line told low high node value_is r found taken stories =
+  -- what is queued for what is told is allowed by the owners of the whole journal
+  told_allowed : TakenOrdersAreAllowed → (rows : Rows) → Lawful ahead words scenario rows → ToldAreAllowed (record { owner = owner_in ahead scenario rows; request = request_of scenario }) ahead scenario rows
+  told_allowed law rows lawful before row later are line told low high node value_is r found taken stories =
       let all = subst (Each IsPlacedRow) are (placed_rows rows lawful) in
       let placed = subst (IsToldSo IsPlaced row.who) told (Each-among IsPlacedRow (before ++ row ∷ later) row all (Among-right row before (row ∷ later) (inl refl))) in
       let takes : TakesOrder ahead scenario before row line node r = record { low = low; high = high; value_is = value_is; event_is = told; found = found; taken = taken } in
       subst (λ (journal : Rows). IsAllowed (record { owner = owner_in ahead scenario journal; request = request_of scenario }) stories (group_of_order line.order) (ordered_command (next_name node.draws) line.number line.order)) (sym are)
       (law ahead scenario before row later line node r takes placed (request_of scenario) stories)
+
+  -- so is what is queued for what policies order
+  wished_allowed : TakenWishesAreAllowed → WishesAreAtPositions → (rows : Rows) → KeysLie ahead scenario rows → WishedAreAllowed (record { owner = owner_in ahead scenario rows; request = request_of scenario }) ahead scenario rows
+  wished_allowed law positions rows keys before row later are event low high node value_is older newer r replicas line wished taken stories =
+      let name = next_name (names_after_ticks node.policy node.draws older) in
+      let placed = positions node.policy r line wished (keys before row later are event low high node value_is older newer r replicas line wished) in
+      let takes : TakesWish ahead scenario before row line node older newer r = record { low = low; high = high; value_is = value_is; event_is = event; replicas_are = replicas; wished = wished; taken = taken } in
+      subst (λ (journal : Rows). IsAllowed (record { owner = owner_in ahead scenario journal; request = request_of scenario }) stories (name_of r) (ordered_command name line.number line.order)) (sym are)
+      (law ahead scenario before row later line node older newer r takes placed (request_of scenario) stories)
+
+  -- both
+  pub orders_allowed : TakenOrdersAreAllowed → TakenWishesAreAllowed → WishesAreAtPositions → (rows : Rows) → Lawful ahead words scenario rows → OrdersAreAllowed (record { owner = owner_in ahead scenario rows; request = request_of scenario }) ahead scenario rows
+  orders_allowed told wished positions rows lawful = record { told = told_allowed told rows lawful; wished = wished_allowed wished positions rows (keys_lie ahead scenario early.policy rows) }

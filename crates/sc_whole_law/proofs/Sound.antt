@@ -1,5 +1,8 @@
 -- The laws of this crate: lawful journals decide in turn, so the law of journals makes them sound.
-use Rattle.std.proofs.Common.{◌∷◌, ◌++◌, ◌∙◌, ap, append_assoc}
+use Rattle.std.proofs.Common.{◌≡◌, ◌∷◌, ◌++◌, ◌∙◌, ap, append_assoc}
+use Rattle.sc_cmd.specs.declared.orders.OrderLine.{OrderLine}
+use Rattle.sc_mail.specs.declared.bodies.Mail.{Mail}
+use Rattle.sc_actor.specs.declared.rows.Row.{Row}
 use Rattle.sc_actor.proofs.WalkLemmas.{lawful-prefix}
 use Rattle.sc_players.specs.Players.{Ahead, system_of, schedule}
 use Rattle.sc_scenario.specs.declared.scenarios.Scenario.{Scenario}
@@ -20,7 +23,13 @@ lawful_journals_hold_beside sources ahead words scenario route b rows orders law
 
 -- what is asked of a journal's orders is asked of those of its first part
 fewer_orders : (sources : Sources) (ahead : Ahead) (scenario : Scenario) (rows more : Rows) → OrdersAreAllowed sources ahead scenario (rows ++ more) → OrdersAreAllowed sources ahead scenario rows
-fewer_orders sources ahead scenario rows more orders before row later e = orders before row (later ++ more) (ap (λ xs. xs ++ more) e ∙ append_assoc before (row ∷ later) more)
+fewer_orders sources ahead scenario rows more orders = record {
+  told = λ before row later e. orders.told before row (later ++ more) (longer before row later e);
+  wished = λ before row later e. orders.wished before row (later ++ more) (longer before row later e);
+}
+  where
+    longer : (before : Rows) (row : Row Mail OrderLine) (later : Rows) → rows ≡ before ++ row ∷ later → rows ++ more ≡ before ++ row ∷ (later ++ more)
+    longer before row later e = ap (λ xs. xs ++ more) e ∙ append_assoc before (row ∷ later) more
 
 pub lawful_journals_are_sound : JournalsInTurnAreSound → LawfulJournalsAreSound
 lawful_journals_are_sound law sources ahead words scenario route b bare rows more orders lawful =

@@ -9,6 +9,7 @@ use Rattle.sc_node_table.specs.Execute.{entered, told_call, told_effect, announc
 use Rattle.sc_node_table.specs.Install.{install_to, welcomed_all, jumped}
 use Rattle.sc_node_table.specs.Mails.{sent_all, sent_others, told_order}
 use Rattle.sc_node_table.specs.Node.{ticked, with_children}
+use Rattle.sc_node_table.specs.Policy.{wishing}
 use Rattle.sc_node_table.specs.Pump.{next_call, from_calls, from_queues, found_for, offered, pumped_from, pumped}
 use Rattle.sc_node_table.specs.Replica.{forgotten}
 use Rattle.sc_node_table.specs.Rows.{queued, requested, request_row, asked_again, told_last, tick_row, mailed}
@@ -19,6 +20,6 @@ use Rattle.sc_whole_law.specs.TwoGroups.{two_scenario, two_example}
 
 -- the journal is lawful
 pub two_is_lawful : Lawful four no_words two_scenario two_example
-unfolding nodes_to elected ended saw sent_all sent_others ticked next_call from_calls from_queues found_for offered pumped_from pumped queued requested request_row asked_again told_last tick_row mailed took accept_row spoken spoken_mails told_begun went_on reminded ready_children executed_children learnt_children readied_children accepted_children mailed_children with_children
+unfolding nodes_to elected ended saw sent_all sent_others ticked next_call from_calls from_queues found_for offered pumped_from pumped queued requested request_row asked_again told_last tick_row mailed took accept_row spoken spoken_mails told_begun went_on reminded wishing ready_children executed_children learnt_children readied_children accepted_children mailed_children with_children
     readied accepted_row entered told_call told_effect announced learnt_to welcomed landed left looked executed_one executed_ready executed install_to welcomed_all jumped told_order forgotten
 two_is_lawful = (refl, (refl, (refl, (refl, (refl, (refl, (refl, tt)))))))

@@ -2,7 +2,7 @@
 use Rattle.std.proofs.Common.{◌++◌, subst}
 use Rattle.sc_players.specs.Players.{Lawful, route_of}
 use Rattle.sc_scenario.specs.Valid.{TextsAreEarly}
-use Rattle.sc_draws_law.specs.Laws.{OtherNamesAreFree, TakenOrdersAreAllowed}
+use Rattle.sc_draws_law.specs.Laws.{OtherNamesAreFree, TakenOrdersAreAllowed, TakenWishesAreAllowed, WishesAreAtPositions}
 use Rattle.sc_draws_law.specs.Owners.{owner_in}
 use Rattle.sc_start_law.specs.Begins.{request_of}
 use Rattle.sc_start_law.specs.Laws.{ValidScenariosBeginWell}
@@ -10,10 +10,10 @@ use Rattle.sc_whole_law.specs.Laws.{LawfulJournalsAreSound}
 use Rattle.sc_whole_law.specs.Valid.{ValidJournalsAreSound}
 use Rattle.sc_whole_law.proofs.Scheduled.{orders_allowed}
 
-pub valid_sound : TextsAreEarly → ValidScenariosBeginWell → TakenOrdersAreAllowed → OtherNamesAreFree → LawfulJournalsAreSound → ValidJournalsAreSound
-valid_sound early begin allowed free law ahead open_slots words scenario valid journal lawful rows more is =
+pub valid_sound : TextsAreEarly → ValidScenariosBeginWell → TakenOrdersAreAllowed → TakenWishesAreAllowed → WishesAreAtPositions → OtherNamesAreFree → LawfulJournalsAreSound → ValidJournalsAreSound
+valid_sound early begin allowed wishes positions free law ahead open_slots words scenario valid journal lawful rows more is =
     let all = subst (Lawful ahead words scenario) is lawful in
     let owner = owner_in ahead scenario (rows ++ more) in
     let ready = begin owner (free ahead scenario (rows ++ more)) ahead open_slots scenario valid in
     law (record { owner = owner; request = request_of scenario }) ahead words scenario (route_of ready.first) ready.well ready.bare rows more
-    (orders_allowed ahead words scenario (early scenario valid) allowed (rows ++ more) all) all
+    (orders_allowed ahead words scenario (early scenario valid) allowed wishes positions (rows ++ more) all) all

@@ -1,24 +1,38 @@
--- What is asked of a journal's orders: that what they queue is allowed.
-use Rattle.std.specs.Prelude.{◌≡◌, ◌≤◌, ◌∷◌, ◌++◌, None, Some}
+-- What is asked of a journal's orders, told and of policies: that what they queue is allowed.
+use Rattle.std.specs.Prelude.{◌≡◌, ◌≤◌, List, ◌∷◌, ◌++◌, None, Some}
 use Rattle.sc_base.specs.Drawing.{next_name}
 use Rattle.sc_cmd.specs.declared.orders.OrderLine.{OrderLine}
 use Rattle.sc_mail.specs.declared.bodies.Mail.{Mail}
-use Rattle.sc_actor.specs.declared.rows.Event.TheVariants.{Told}
+use Rattle.sc_actor.specs.declared.rows.Event.TheVariants.{Tick, Told}
 use Rattle.sc_actor.specs.declared.rows.Row.{Row}
 use Rattle.sc_actor.specs.Replay.{value}
-use Rattle.sc_node_table.specs.Node.{NodeState, group_of_order, replica_of}
+use Rattle.sc_node_table.specs.Node.{NodeState, group_of_order, names_after_ticks, replica_of}
 use Rattle.sc_node_table.specs.Ordering.{ordered_command, untaken}
-use Rattle.sc_node_table.specs.Replica.{ReplicaState}
+use Rattle.sc_node_table.specs.Replica.{ReplicaState, name_of}
 use Rattle.sc_players.specs.Players.{Ahead, node_seat, player_table}
 use Rattle.sc_players.specs.declared.roles.Role.TheVariants.{Node}
 use Rattle.sc_scenario.specs.declared.scenarios.Scenario.{Scenario}
 use Rattle.sc_ring_law.specs.Allowed.{Sources, IsAllowed}
 use Rattle.sc_ring_law.specs.Stories.{Stories}
+use Rattle.sc_draws_law.specs.Owners.{waited, wished_at}
 use Rattle.sc_journal_law.specs.Descent.{Rows}
 
 -- what a node of the scenario queues for an order that it takes, in a row of the journal, is allowed at the order's group, whatever was told
-abbrev pub OrdersAreAllowed : Sources → Ahead → Scenario → Rows → Type 0
-OrdersAreAllowed sources ahead scenario rows = (before : Rows) (row : Row Mail OrderLine) (later : Rows) → rows ≡ before ++ row ∷ later
-    → (line : OrderLine) → row.event ≡ Told line → 1 ≤ row.who → row.who ≤ scenario.nodes → (node : NodeState) → value player_table (node_seat ahead scenario.groups row.who) before ≡ Node node
+abbrev pub ToldAreAllowed : Sources → Ahead → Scenario → Rows → Type 0
+ToldAreAllowed sources ahead scenario rows = (before : Rows) (row : Row Mail OrderLine) (later : Rows) → rows ≡ before ++ row ∷ later
+    → (line : OrderLine) → row.event ≡ Told line → 1 ≤ row.who → row.who ≤ scenario.nodes → (node : NodeState) → value player_table (node_seat ahead scenario.groups scenario.policy row.who) before ≡ Node node
     → (r : ReplicaState) → replica_of (group_of_order line.order) node.replicas ≡ Some r → untaken node.draws line r ≡ None
     → (stories : Stories) → IsAllowed sources stories (group_of_order line.order) (ordered_command (next_name node.draws) line.number line.order)
+
+-- what it queues for what a policy orders, in a row that is its tick, is so at the replica's group: each replica takes of the names that those before it left
+abbrev pub WishedAreAllowed : Sources → Ahead → Scenario → Rows → Type 0
+WishedAreAllowed sources ahead scenario rows = (before : Rows) (row : Row Mail OrderLine) (later : Rows) → rows ≡ before ++ row ∷ later
+    → row.event ≡ Tick → 1 ≤ row.who → row.who ≤ scenario.nodes → (node : NodeState) → value player_table (node_seat ahead scenario.groups scenario.policy row.who) before ≡ Node node
+    → (older newer : List ReplicaState) (r : ReplicaState) → node.replicas ≡ older ++ r ∷ newer → (line : OrderLine) → wished_at node.policy r ≡ Some line
+    → untaken (names_after_ticks node.policy node.draws older) line (waited r) ≡ None
+    → (stories : Stories) → IsAllowed sources stories (name_of r) (ordered_command (next_name (names_after_ticks node.policy node.draws older)) line.number line.order)
+
+-- both
+pub record OrdersAreAllowed (sources : Sources) (ahead : Ahead) (scenario : Scenario) (rows : Rows) : Type 0 where
+  pub told : ToldAreAllowed sources ahead scenario rows
+  pub wished : WishedAreAllowed sources ahead scenario rows

@@ -18,11 +18,16 @@ use std::alloc::Global;
 /// The greatest number of an actor: that of the last client.
 pub const MOST_ACTOR: u32 = MOST_NODES + MOST_CLIENTS;
 
-fn node_seat(alloc: Global, groups: &Sequence<Base>, me: u16) -> Result<Seat<Party>, OutOfMemory>
+fn node_seat(
+    alloc: Global,
+    groups: &Sequence<Base>,
+    policy: bool,
+    me: u16,
+) -> Result<Seat<Party>, OutOfMemory>
     requires { are_in_order groups.now ≡ true }
-    ensures { IfOk result (λ seat. seat ≡ node_seat as_nodes groups.now me) }
+    ensures { IfOk result (λ seat. seat ≡ node_seat as_nodes groups.now policy me) }
 {
-    let node = NodeCore::born(alloc, me, groups)?;
+    let node = NodeCore::born(alloc, me, groups, policy)?;
     Ok(Seat {
         who: me as u32,
         actor: Party::Node(node),
@@ -54,14 +59,15 @@ fn add_nodes(
     alloc: Global,
     seats: &mut Vec<Seat<Party>>,
     groups: &Sequence<Base>,
+    policy: bool,
     nodes: u16,
 ) -> Result<(), OutOfMemory>
     requires { are_in_order groups.now ≡ true }
     ensures { OnOk result (seats.new.items ≡
-        seats.old.items ++ map (node_seat as_nodes groups.now) (numbers_from 1 nodes)) }
+        seats.old.items ++ map (node_seat as_nodes groups.now policy) (numbers_from 1 nodes)) }
 {
     for done in 0..nodes {
-        seats.push(node_seat(alloc, groups, done + 1)?)?;
+        seats.push(node_seat(alloc, groups, policy, done + 1)?)?;
     }
     Ok(())
 }
@@ -106,7 +112,13 @@ pub fn births(alloc: Global, scenario: &Scenario) -> Result<Vec<Seat<Party>>, Ou
     ensures { IfOk result (λ seats. seats.items ≡ births as_nodes scenario.now) }
 {
     let mut seats = Vec::new(alloc);
-    add_nodes(alloc, &mut seats, &scenario.groups, scenario.nodes)?;
+    add_nodes(
+        alloc,
+        &mut seats,
+        &scenario.groups,
+        scenario.policy,
+        scenario.nodes,
+    )?;
     let groups = scenario.groups.as_slice();
     add_clients(alloc, &mut seats, groups, scenario.clients.as_slice())?;
     Ok(seats)

@@ -1,12 +1,13 @@
-use Rattle.std.proofs.Common.{ℕ, ◌≤◌, drop}
+use Rattle.std.proofs.Common.{◌≤◌, drop}
 use Rattle.std.specs.List.{flat_map}
 use Rattle.sc_actor.specs.Walk.{tasks_of}
+use Rattle.sc_chance.specs.Words.{two_words}
 use Rattle.sc_checker.specs.Checks.{IsTaking}
 use Rattle.sc_checker.specs.Moves.{IsStageAt, rules_of, with_births}
 use Rattle.sc_checker.proofs.judging.replay.Given as goal
 
 abbrev pub invariant-loop-line : goal.invariant-loop-line
 invariant-loop-line g l =
-    ((words : ℕ → ℕ → ℕ × ℕ) → IsStageAt (with_births (rules_of g.A.Actor.table g.A.Mail.Parcel.receiver) words l.fn.seats.items) l.lines l.stage (flat_map (tasks_of words) (drop l.line-index l.lines)))
+    IsStageAt (with_births (rules_of g.A.Actor.table g.A.Mail.Parcel.receiver) two_words l.fn.seats.items) l.lines l.stage (flat_map (tasks_of two_words) (drop l.line-index l.lines))
     × IsTaking l.stage l.rows
     × (l.stage.skipped ≤ l.line-index)

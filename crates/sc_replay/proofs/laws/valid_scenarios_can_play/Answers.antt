@@ -1,7 +1,5 @@
-use Rattle.std.proofs.Common.{refl}
-use Rattle.sc_players.specs.Players.{schedule}
 use Rattle.sc_replay.proofs.Births.{all_apart, all_numbered}
-use Rattle.sc_replay.proofs.Lines.{built, few, spared}
+use Rattle.sc_replay.proofs.Lines.{few, spared}
 use Rattle.sc_replay.proofs.Names.{all_ordered}
 use Rattle.sc_replay.proofs.laws.valid_scenarios_can_play.Goals as goal
 
@@ -12,7 +10,6 @@ returns c = λ scenario valid.
       ordered = all_ordered scenario early;
       apart = all_apart scenario early;
       numbered = all_numbered scenario early;
-      built = built scenario early (schedule scenario) refl;
       spared = spared scenario early;
       few = few scenario early;
     }

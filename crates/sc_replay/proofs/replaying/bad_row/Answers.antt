@@ -1,5 +1,5 @@
 use Rattle.std.proofs.Common.{◌≡◌, ℕ, ◌-◌, ◌<◌, ◌≤◌, take, subst, arith}
-use Rattle.sc_actor.specs.System.{no_words}
+use Rattle.sc_chance.specs.Words.{two_words}
 use Rattle.sc_players.specs.Players.{Lawful, as_nodes}
 use Rattle.sc_replay.proofs.replaying.bad_row.Goals as goal
 
@@ -13,6 +13,6 @@ pub returns : goal.returns
 returns c = record {
   first = above c.loop-high.low c.loop-high.high c.loop-high.invariant.order;
   within = c.loop-high.invariant.within;
-  before = subst (λ n. Lawful as_nodes no_words c.args.scenario.now (take n c.args.rows.now)) (next_to c.loop-high.low c.loop-high.high c.loop-high.invariant.order c.loop-high-test.false) c.loop-high.invariant.lawful;
+  before = subst (λ n. Lawful as_nodes two_words c.args.scenario.now (take n c.args.rows.now)) (next_to c.loop-high.low c.loop-high.high c.loop-high.invariant.order c.loop-high-test.false) c.loop-high.invariant.lawful;
   not_with = c.loop-high.invariant.not_lawful;
 }

@@ -1,5 +1,5 @@
 use Rattle.std.proofs.Common.{◌<◌, ◌≤◌, ◌-◌, length, take}
-use Rattle.sc_actor.specs.System.{no_words}
+use Rattle.sc_chance.specs.Words.{two_words}
 use Rattle.sc_players.specs.Players.{Lawful, as_nodes}
 use Rattle.sc_replay.proofs.replaying.bad_row.Given as goal
 
@@ -8,8 +8,8 @@ abbrev pub invariant-loop-high : goal.invariant-loop-high
 invariant-loop-high l = record {
   order : l.low < l.high;
   within : l.high ≤ length l.rows;
-  lawful : Lawful as_nodes no_words l.scenario (take l.low l.rows);
-  not_lawful : Lawful as_nodes no_words l.scenario (take l.high l.rows) → ⊥;
+  lawful : Lawful as_nodes two_words l.scenario (take l.low l.rows);
+  not_lawful : Lawful as_nodes two_words l.scenario (take l.high l.rows) → ⊥;
 }
 
 abbrev pub decreases-loop-high : goal.decreases-loop-high

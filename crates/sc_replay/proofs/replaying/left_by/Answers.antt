@@ -1,11 +1,10 @@
-use Rattle.std.proofs.Common.{◌≡◌, true, ◌∙◌, List, ap, sym, subst}
+use Rattle.std.proofs.Common.{◌∙◌, List, ap, subst}
 use Rattle.std.proofs.lemmas.Result.{IfOk-weaker}
-use Rattle.std.specs.List.{All}
 use Rattle.sc_cmd.specs.declared.orders.OrderLine.{OrderLine}
 use Rattle.sc_actor.specs.declared.actors.Seat.{Seat}
 use Rattle.sc_actor.specs.declared.schedules.Line.{Line}
-use Rattle.sc_actor.specs.Walk.{has_one_task}
-use Rattle.sc_actor.specs.System.{are_apart, system, no_words}
+use Rattle.sc_actor.specs.System.{are_apart, system}
+use Rattle.sc_chance.specs.Words.{two_words}
 use Rattle.sc_checker.specs.Replays.{IsReplayed}
 use Rattle.sc_players.specs.Players.{Player, player_table, receiver_of, schedule}
 use Rattle.sc_replay.proofs.replaying.left_by.Goals as goal
@@ -19,15 +18,11 @@ births-requires-clause-few c = (c.valid_scenarios_can_play.ensures c.args.scenar
 pub replay-requires-clause-apart : goal.replay-requires-clause-apart
 replay-requires-clause-apart c = λ _. ap are_apart c.in_ok-seats.ensures ∙ (c.valid_scenarios_can_play.ensures c.args.scenario.now c.requires.valid).apart
 
-pub replay-requires-clause-tasks : goal.replay-requires-clause-tasks
-replay-requires-clause-tasks c = λ _.
-    subst (All (λ line. has_one_task line ≡ true)) (sym (c.as_slice.ensures.value ∙ c.in_ok-lines.ensures)) (c.valid_scenarios_can_play.ensures c.args.scenario.now c.requires.valid).built
-
 -- the seats are the births, and the lines the schedule
 pub returns : goal.returns
 returns c =
     IfOk-weaker c.replay.result _ _
     (λ left h.
-    subst (λ (seats : List (Seat Player)). IsReplayed (system player_table receiver_of no_words seats) (schedule c.args.scenario.now) c.args.rows.now left) c.in_ok-seats.ensures
-    (subst (λ (lines : List (Line OrderLine)). IsReplayed (system player_table receiver_of no_words c.in_ok-seats.seats.items) lines c.args.rows.now left) (c.as_slice.ensures.value ∙ c.in_ok-lines.ensures) (h no_words)))
+    subst (λ (seats : List (Seat Player)). IsReplayed (system player_table receiver_of two_words seats) (schedule c.args.scenario.now) c.args.rows.now left) c.in_ok-seats.ensures
+    (subst (λ (lines : List (Line OrderLine)). IsReplayed (system player_table receiver_of two_words c.in_ok-seats.seats.items) lines c.args.rows.now left) (c.as_slice.ensures.value ∙ c.in_ok-lines.ensures) h))
     c.replay.ensures

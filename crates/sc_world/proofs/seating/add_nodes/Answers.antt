@@ -7,7 +7,7 @@ use Rattle.sc_world.proofs.seating.add_nodes.Goals as goal
 
 pub loop-done-preserved : goal.loop-done-preserved
 loop-done-preserved c =
-    let seat : ℕ → Seat Player = node_seat as_nodes c.args.groups.now in
+    let seat : ℕ → Seat Player = node_seat as_nodes c.args.groups.now c.args.policy in
     let d : ℕ = c.loop-done.done in
     let some : 0 < c.args.nodes - d = omega (arith, c.loop-done-test.true) in
     let order : 1 + (d + 1) ≡ 1 + d + 1 = omega arith in

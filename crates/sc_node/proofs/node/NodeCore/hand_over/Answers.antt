@@ -14,7 +14,7 @@ index_mut-requires c =
 pub returns : goal.returns
 returns c =
     let stands = stands-at c.args.group c.self.inside.replicas.items c.args.i (ap (λ (n : NodeState). place_from 0 c.args.group n.replicas) c.self.view_is ∙ c.requires.place) in
-    let node : NodeState = record { me = c.self.inside.me; draws = c.self.inside.draws; replicas = c.self.inside.replicas.items } in
+    let node : NodeState = record { me = c.self.inside.me; draws = c.self.inside.draws; policy = c.self.inside.policy; replicas = c.self.inside.replicas.items } in
     ap (λ (n : NodeState). taken_by (replica_of c.args.group n.replicas) c.args.group c.args.from c.args.body.now n) (sym c.self.view_is)
     ∙ taken-at c.args.group c.args.from c.args.body.now node c.args.i c.index_mut.result.now c.take_mail.new.replica c.take_mail.new.out c.take_mail.new.made stands
     (c.in_ok-take_mail.ensures.place

@@ -7,7 +7,7 @@ use Rattle.sc_node.proofs.node.NodeCore.on_order.Goals as goal
 pub returns-in-None : goal.returns-in-None
 returns-in-None c =
     let group = group_of_order c.args.line.now.order in
-    let node : NodeState = record { me = c.self.inside.me; draws = c.self.inside.draws; replicas = c.self.inside.replicas.items } in
+    let node : NodeState = record { me = c.self.inside.me; draws = c.self.inside.draws; policy = c.self.inside.policy; replicas = c.self.inside.replicas.items } in
     let nowhere : replica_of group c.self.inside.replicas.items ≡ None =
     stands-nowhere group c.self.inside.replicas.items 0 (sym (c.in-None.ensures ∙ ap (λ g. place_from 0 g c.as_slice.result.now) c.group_of_order.ensures ∙ ap (place_from 0 group) c.as_slice.ensures.value)) in
     subst (λ (n : NodeState). IfOk c.tell_unknown.result (λ sent. on_order c.args.line.now n ≡ (n, sent))) c.self.view_is

@@ -13,7 +13,7 @@ index_mut-requires c =
 pub returns : goal.returns
 returns c =
     let stands = stands-at (group_of_order c.args.line.now.order) c.self.inside.replicas.items c.args.i (ap (λ (n : NodeState). place_from 0 (group_of_order c.args.line.now.order) n.replicas) c.self.view_is ∙ c.requires) in
-    let node : NodeState = record { me = c.self.inside.me; draws = c.self.inside.draws; replicas = c.self.inside.replicas.items } in
+    let node : NodeState = record { me = c.self.inside.me; draws = c.self.inside.draws; policy = c.self.inside.policy; replicas = c.self.inside.replicas.items } in
     ap (λ (n : NodeState). on_order c.args.line.now n) (sym c.self.view_is)
     ∙ ordered-at c.args.line.now node c.args.i c.index_mut.result.now c.on_order.new.replica c.on_order.new.out c.on_order.new.draws stands
     (c.in_ok-on_order.ensures.row

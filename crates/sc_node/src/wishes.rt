@@ -1,0 +1,41 @@
+//! What a policy orders of a group at a tick.
+ghost use Rattle.std.specs.Prelude.{◌≡◌, IfOk, OnOk, Some};
+ghost use Rattle.sc_node_table.specs.Policy.{wished_line, with_line, names_with};
+
+use crate::orders::put_untold;
+use sc_base::{Draws, OutOfMemory};
+use sc_cmd::OrderLine;
+use sc_policy::wished_order;
+use sc_replica::Replica;
+
+/// What a policy, if it is on, orders of a group that is at rest. Its orders have the number 0.
+fn wished_line(replica: &Replica, policy: bool) -> Result<Option<OrderLine>, OutOfMemory>
+    ensures { IfOk result (λ line. line ≡ wished_line policy replica.now) }
+{
+    if !policy || !replica.is_at_rest() {
+        return Ok(None);
+    }
+    let pairs = replica.machine().pairs()?;
+    match wished_order(replica.machine().core(), &pairs) {
+        Some(order) => Ok(Some(OrderLine { number: 0, order })),
+        None => Ok(None),
+    }
+}
+
+/// What is wished waits last, if it is taken; of what is not taken nothing is told. It takes a name
+/// of the node.
+pub(crate) fn wish(
+    replica: &mut Replica,
+    policy: bool,
+    draws: &mut Draws,
+) -> Result<(), OutOfMemory>
+    ensures row { OnOk result
+        (replica.new ≡ with_line draws.old (wished_line policy replica.old) replica.old) }
+    ensures names { OnOk result
+        (draws.new ≡ names_with draws.old (wished_line policy replica.old) replica.old) }
+{
+    match wished_line(replica, policy)? {
+        Some(line) => put_untold(replica, draws, &line),
+        None => Ok(()),
+    }
+}
