@@ -143,11 +143,14 @@ impl Sink for MemSink {
 
     ghost faults = { λ s. s.faults };
 
+    ghost calls = { λ s. s.calls };
+
     fn put(&mut self, piece: &[u8]) -> Result<(), Failed>
         ensures whole { OnOk result (Appends (Some self.old.held) (Some self.new.held) piece.now) }
         ensures part { OnErr result
             (AppendsPart (Some self.old.held) (Some self.new.held) piece.now) }
         ensures cause { HasCause self.old.faults self.new.faults result }
+        ensures call { self.new.calls ≤ self.old.calls + 1 }
         ensures fails { IsErr result ↔
             (Contains self.old.failing self.new.calls ⊎ self.old.room < length piece.now) }
         ensures calls { self.new.calls ≡ min (self.old.calls + 1) u64.MAX }

@@ -1,6 +1,6 @@
 //! Sources and sinks over the readers and writers of std. Over the real input and output they tell
 //! no bytes.
-ghost use Rattle.std.specs.Prelude.{◌≡◌, ◌+◌, min, IfOk, OnOk, OnErr};
+ghost use Rattle.std.specs.Prelude.{◌≡◌, ◌≤◌, ◌+◌, min, IfOk, OnOk, OnErr};
 ghost use Rattle.std.specs.Io.KnownBytes.{Appends};
 ghost use Rattle.sc_edges.specs.Bytes.{Gives, AppendsPart};
 ghost use Rattle.sc_edges.specs.Causes.{HasCause};
@@ -8,19 +8,24 @@ ghost use Rattle.sc_edges.specs.Causes.{HasCause};
 use crate::traits::{Failed, Sink, Source};
 use std::io::{Read, Write};
 
-/// A source over a reader, with a count of its errors.
+/// A source over a reader, with a count of its calls and of its errors.
 #[derive(Drop)]
 pub struct StdSource<R> {
     reader: R,
+    calls: u64,
     faults: u64,
 }
 
 impl<R> StdSource<R> {
-    /// The source over a reader, without faults. It takes no memory.
+    /// The source over a reader, before its first call. It takes no memory.
     pub fn new(reader: R) -> StdSource<R>
-        ensures { result ≡ record { reader = reader; faults = 0 } }
+        ensures { result ≡ record { reader = reader; calls = 0; faults = 0 } }
     {
-        StdSource { reader, faults: 0 }
+        StdSource {
+            reader,
+            calls: 0,
+            faults: 0,
+        }
     }
 }
 
@@ -29,13 +34,18 @@ impl<R: Read> Source for StdSource<R> {
 
     ghost faults = { λ s. s.faults };
 
+    ghost calls = { λ s. s.calls };
+
     fn take(&mut self, buf: &mut [u8]) -> Result<usize, Failed>
         ensures taken { IfOk result
             (λ n. Gives (R.remaining self.old.reader) (R.remaining self.new.reader) n buf.new) }
         ensures cause { HasCause self.old.faults self.new.faults result }
+        ensures call { self.new.calls ≤ self.old.calls + 1 }
+        ensures counted { self.new.calls ≡ min (self.old.calls + 1) u64.MAX }
         ensures same { OnOk result (self.new.faults ≡ self.old.faults) }
         ensures risen { OnErr result (self.new.faults ≡ min (self.old.faults + 1) u64.MAX) }
     {
+        self.calls = self.calls.saturating_add(1);
         match self.reader.read(buf) {
             Ok(n) => Ok(n),
             Err(_) => {
@@ -46,19 +56,24 @@ impl<R: Read> Source for StdSource<R> {
     }
 }
 
-/// A sink over a writer, with a count of its errors.
+/// A sink over a writer, with a count of its calls and of its errors.
 #[derive(Drop)]
 pub struct StdSink<W> {
     writer: W,
+    calls: u64,
     faults: u64,
 }
 
 impl<W> StdSink<W> {
-    /// The sink over a writer, without faults. It takes no memory.
+    /// The sink over a writer, before its first call. It takes no memory.
     pub fn new(writer: W) -> StdSink<W>
-        ensures { result ≡ record { writer = writer; faults = 0 } }
+        ensures { result ≡ record { writer = writer; calls = 0; faults = 0 } }
     {
-        StdSink { writer, faults: 0 }
+        StdSink {
+            writer,
+            calls: 0,
+            faults: 0,
+        }
     }
 }
 
@@ -67,15 +82,20 @@ impl<W: Write> Sink for StdSink<W> {
 
     ghost faults = { λ s. s.faults };
 
+    ghost calls = { λ s. s.calls };
+
     fn put(&mut self, piece: &[u8]) -> Result<(), Failed>
         ensures whole { OnOk result
             (Appends (W.contents self.old.writer) (W.contents self.new.writer) piece.now) }
         ensures part { OnErr result
             (AppendsPart (W.contents self.old.writer) (W.contents self.new.writer) piece.now) }
         ensures cause { HasCause self.old.faults self.new.faults result }
+        ensures call { self.new.calls ≤ self.old.calls + 1 }
+        ensures counted { self.new.calls ≡ min (self.old.calls + 1) u64.MAX }
         ensures same { OnOk result (self.new.faults ≡ self.old.faults) }
         ensures risen { OnErr result (self.new.faults ≡ min (self.old.faults + 1) u64.MAX) }
     {
+        self.calls = self.calls.saturating_add(1);
         let mut at = 0;
         while at < piece.len() {
             match self.writer.write(&piece[at..]) {

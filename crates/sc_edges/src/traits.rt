@@ -37,9 +37,13 @@ pub trait Sink {
     /// 1.
     ghost faults: { Self → ℕ };
 
+    /// How many calls there were, where the sink counts them.
+    ghost calls: { Self → ℕ } = { λ _. 0 };
+
     /// Appends the whole piece, or, where it failed, a first part of it.
     fn put(&mut self, piece: &[u8]) -> Result<(), Failed>
         ensures whole { OnOk result (Appends (held self.old) (held self.new) piece.now) }
         ensures part { OnErr result (AppendsPart (held self.old) (held self.new) piece.now) }
-        ensures cause { HasCause (faults self.old) (faults self.new) result };
+        ensures cause { HasCause (faults self.old) (faults self.new) result }
+        ensures call { calls self.new ≤ calls self.old + 1 };
 }

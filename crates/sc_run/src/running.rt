@@ -1,7 +1,7 @@
 //! From the words and bytes that come in to the bytes that go out.
-ghost use Rattle.std.specs.Prelude.{◌≡◌, map, false, string_bytes, codes, IfOk};
+ghost use Rattle.std.specs.Prelude.{◌≡◌, ◌≤◌, ◌+◌, map, false, string_bytes, codes, IfOk};
 ghost use Rattle.sc_words.specs.Asked.{is_run};
-ghost use Rattle.sc_statuses.specs.Wants.{fault_text};
+ghost use Rattle.sc_statuses.specs.Wants.{fault_text, most_takes};
 ghost use Rattle.sc_statuses.specs.declared.said.Said.TheVariants.{Usage, ReadFault, BadScenario};
 ghost use Rattle.sc_run.specs.Run.{usage, Tells, Says, Runs};
 
@@ -53,6 +53,7 @@ fn say<S: Source, G: Gate, R: Threads + Wait + Sync>(
     ensures says { IfOk result (λ begun. Says (map string_bytes words.now) (S.left input.old)
         (S.faults input.old) (S.faults input.new) begun.0 begun.1) }
     ensures unread { is_run (map string_bytes words.now) ≡ false → input.new ≡ input.old }
+    ensures takes { S.calls input.new ≤ S.calls input.old + most_takes }
 {
     match wanted_of(alloc, words, input)? {
         Wanted::Usage => tell_usage(alloc),
@@ -64,9 +65,9 @@ fn say<S: Source, G: Gate, R: Threads + Wait + Sync>(
 
 /// Reads a scenario or makes one, as the words ask, runs it and prints its report.
 ///
-/// The words are those behind the program's name. Each line of output is one call of the sink. A
-/// fault of the sink wins over the status that the text belongs to. The gate is passed before each
-/// row that delivers a mail.
+/// The words are those behind the program's name. Each line of output is one call of the sink, and
+/// the source is called 16,777,218 times at most. A fault of the sink wins over the status that the
+/// text belongs to. The gate is passed before each row that delivers a mail.
 pub fn run<S: Source, K: Sink, G: Gate, R: Threads + Wait + Sync>(
     rt: &R,
     alloc: Global,
@@ -77,8 +78,10 @@ pub fn run<S: Source, K: Sink, G: Gate, R: Threads + Wait + Sync>(
 ) -> Done
     ensures runs { Runs (map string_bytes words.now.items)
         (S.left input.old) (S.faults input.old) (S.faults input.new)
-        (K.held output.old) (K.held output.new) (K.faults output.old) (K.faults output.new) result }
+        (K.held output.old) (K.held output.new) (K.faults output.old) (K.faults output.new)
+        (K.calls output.old) (K.calls output.new) result }
     ensures unread { is_run (map string_bytes words.now.items) ≡ false → input.new ≡ input.old }
+    ensures takes { S.calls input.new ≤ S.calls input.old + most_takes }
 {
     let (said, text) = match say(rt, alloc, words.as_slice(), input, gate) {
         Ok(begun) => begun,

@@ -1,5 +1,5 @@
 -- What was read of a source is the whole of it, or too long either way.
-use Rattle.std.proofs.Common.{◌≡◌, ℕ, ◌+◌, ◌<◌, List, length, take, Bool, true, false, Option, None, Some, nat_le, refl, sym, ◌∙◌, ap, subst, inl, arith, rules}
+use Rattle.std.proofs.Common.{◌≡◌, ℕ, ◌+◌, List, take, Option, None, Some, sym, ◌∙◌, ap, subst, inl}
 use Rattle.std.specs.Prelude.{IfSome, IfOk, Result, Ok, Err}
 use Rattle.std.specs.Result.{result_ok}
 use Rattle.sc_lines.specs.Lines.{most_bytes}

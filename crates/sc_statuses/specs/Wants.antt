@@ -1,8 +1,9 @@
 -- What words and input ask for.
-use Rattle.std.specs.Prelude.{◌≡◌, ℕ, List, ◌++◌, Option, None, Some, IfSome, Result, Ok, Err, codes}
+use Rattle.std.specs.Prelude.{◌≡◌, ℕ, ◌+◌, List, ◌++◌, Option, None, Some, IfSome, Result, Ok, Err, codes}
 use Rattle.std.specs.Fmt.{decimal}
 use Rattle.sc_edges.specs.Causes.{Rose}
 use Rattle.sc_scenario.specs.Grammar.{verdict_of}
+use Rattle.sc_lines.specs.Lines.{most_bytes}
 use Rattle.sc_lines.specs.Reasons.{reason_text}
 use Rattle.sc_scenario.specs.Made.{made_scenario}
 use Rattle.sc_scenario.specs.Valid.{IsValid}
@@ -18,6 +19,10 @@ use Rattle.sc_statuses.specs.declared.wants.Wanted.TheVariants.{Usage, ReadFault
 -- what is told of a bad line: `line L: REASON`
 abbrev pub fault_text : ℕ → ℕ → List ℕ
 fault_text line why = (codes "line " ++ decimal line ++ codes ": ") ++ reason_text why
+
+-- the most calls of the source: one for each byte of the longest input, one for a byte too many, and one at the end
+abbrev pub most_takes : ℕ
+most_takes = most_bytes + 2
 
 -- All of the input, where the source told it, comes out as this scenario, or with this bad line.
 abbrev pub ReadsAs : Option (List ℕ) → Result Scenario ScenarioFault → Type 0

@@ -1,5 +1,5 @@
 //! Lines, each put whole.
-ghost use Rattle.std.specs.Prelude.{OnOk, OnErr};
+ghost use Rattle.std.specs.Prelude.{◌≤◌, ◌+◌, length, OnOk, OnErr};
 ghost use Rattle.std.specs.List.{concat};
 ghost use Rattle.std.specs.Io.KnownBytes.{Appends};
 ghost use Rattle.sc_edges.specs.Bytes.{AppendsPart};
@@ -16,6 +16,7 @@ fn put_all<K: Sink>(sink: &mut K, lines: &[ReportLine]) -> Result<(), Failed>
     ensures part { OnErr result
         (AppendsPart (K.held sink.old) (K.held sink.new) (concat lines.now)) }
     ensures cause { HasCause (K.faults sink.old) (K.faults sink.new) result }
+    ensures calls { K.calls sink.new ≤ K.calls sink.old + length lines.now }
 {
     for line in lines {
         if let Err(Failed) = sink.put(line.bytes()) {
@@ -28,8 +29,9 @@ fn put_all<K: Sink>(sink: &mut K, lines: &[ReportLine]) -> Result<(), Failed>
 /// Puts each line of a text by one call of the sink, and answers the status that the text belongs
 /// to, or 5 after a fault of the sink.
 pub fn print<K: Sink>(sink: &mut K, said: Said, lines: &[ReportLine]) -> u8
-    ensures { Prints (K.held sink.old) (K.held sink.new) (K.faults sink.old) (K.faults sink.new)
-        said lines.now result }
+    ensures prints { Prints (K.held sink.old) (K.held sink.new)
+        (K.faults sink.old) (K.faults sink.new) said lines.now result }
+    ensures calls { K.calls sink.new ≤ K.calls sink.old + length lines.now }
 {
     match put_all(sink, lines) {
         Ok(()) => said.status(),

@@ -1,7 +1,7 @@
 //! What the words and the input ask for.
-ghost use Rattle.std.specs.Prelude.{◌≡◌, map, false, string_bytes, IfOk};
+ghost use Rattle.std.specs.Prelude.{◌≡◌, ◌≤◌, ◌+◌, map, false, string_bytes, IfOk};
 ghost use Rattle.sc_words.specs.Asked.{is_run};
-ghost use Rattle.sc_statuses.specs.Wants.{fault_text, IsOf, IsRead, IsWanted};
+ghost use Rattle.sc_statuses.specs.Wants.{fault_text, IsOf, IsRead, IsWanted, most_takes};
 
 use sc_base::OutOfMemory;
 use sc_edges::{ReadFault, Source, read_all};
@@ -38,8 +38,9 @@ fn wanted_by(alloc: Global, bytes: &[u8]) -> Result<Wanted, OutOfMemory>
 
 // What the source asks for.
 fn read<S: Source>(alloc: Global, input: &mut S) -> Result<Wanted, OutOfMemory>
-    ensures { IfOk result
+    ensures read { IfOk result
         (λ wanted. IsRead (S.left input.old) (S.faults input.old) (S.faults input.new) wanted) }
+    ensures calls { S.calls input.new ≤ S.calls input.old + most_takes }
 {
     let bytes = match read_all(alloc, input, INPUT_LIMIT) {
         Ok(bytes) => bytes,
@@ -60,6 +61,7 @@ pub fn wanted_of<S: Source>(
     ensures wanted { IfOk result (λ wanted. IsWanted (map string_bytes words.now)
         (S.left input.old) (S.faults input.old) (S.faults input.new) wanted) }
     ensures unread { is_run (map string_bytes words.now) ≡ false → input.new ≡ input.old }
+    ensures calls { S.calls input.new ≤ S.calls input.old + most_takes }
 {
     match asked_by(alloc, words)? {
         None => Ok(Wanted::Usage),

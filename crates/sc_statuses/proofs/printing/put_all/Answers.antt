@@ -9,6 +9,7 @@ loop-line-preserved g c = (
   Appends-more (g.K.Sink.held c.args.sink.now) (g.K.Sink.held c.loop-line.sink) (g.K.Sink.held c.put.new.self) c.args.lines.now c.loop-line.line-index c.line-item.result c.loop-line-test.true c.line-item.is c.loop-line.invariant.0
       (subst (Appends (g.K.Sink.held c.loop-line.sink) (g.K.Sink.held c.put.new.self)) c.bytes.ensures c.in_default.ensures.whole),
   omega (arith, c.in_default.ensures.cause.later),
+  omega (arith, c.put.ensures.call, c.loop-line.invariant.2),
 )
 
 pub returns-in-Err-clause-part : goal.returns-in-Err-clause-part

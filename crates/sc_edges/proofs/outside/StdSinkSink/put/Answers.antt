@@ -10,4 +10,5 @@ loop-at-preserved g c =
       Appends-piece (g.W.Write.contents c.args.self.now.writer) (g.W.Write.contents c.loop-at.self.writer) (g.W.Write.contents c.write.new.self) c.loop-at.at c.in-Ok.n c.args.piece.now _ rest c.loop-at.invariant.0 c.in-Ok.ensures.bytes,
       omega (arith, bound, length-drop c.loop-at.at c.args.piece.now),
       c.loop-at.invariant.2,
+      c.loop-at.invariant.3,
     )

@@ -7,6 +7,7 @@ invariant-loop-at g l =
     Appends (g.W.Write.contents l.initial.self.writer) (g.W.Write.contents l.self.writer) (take l.at l.piece)
     × (l.at ≤ length l.piece)
     × (l.self.faults ≡ l.initial.self.faults)
+    × (l.self.calls ≡ l.initial.self.calls)
 
 abbrev pub decreases-loop-at : goal.decreases-loop-at
 decreases-loop-at g l = length l.piece - l.at
