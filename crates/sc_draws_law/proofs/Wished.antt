@@ -1,12 +1,10 @@
--- What a policy orders is an order to its replica's group, and at a position where the group's keys lie at positions.
-use Rattle.std.proofs.Common.{◌≡◌, ℕ, zero, suc, ◌+◌, ◌/◌, ◌<◌, ◌^◌, ◌&&◌, ◌||◌, not, nat_le, nat_lt, Bool, cond, List, [], ◌∷◌, ◌++◌, length, filter, map, get_or, Option, Some, None, refl, sym, ◌∙◌, ap, subst, arith}
-use Rattle.std.specs.Prelude.{is_some}
+-- What a policy orders is an order to its replica's group, at a position of the ring.
+use Rattle.std.proofs.Common.{◌≡◌, ℕ, ◌+◌, ◌/◌, ◌<◌, ◌^◌, ◌&&◌, ◌||◌, not, nat_le, Bool, cond, List, [], ◌∷◌, ◌++◌, length, Option, Some, None, refl, sym, ◌∙◌, ap, subst, arith}
+use Rattle.std.specs.Prelude.{is_some, slice_index}
 use Rattle.std.specs.FinMap.{entries}
 use Rattle.std.specs.Option.{option_map}
 use Rattle.std.proofs.lemmas.Bool.{cond_both}
 use Rattle.std.proofs.lemmas.Nat.{mod_below}
-use Rattle.sc_base.specs.Among.{Each}
-use Rattle.sc_base.specs.Text.{pos_of}
 use Rattle.sc_base.specs.declared.names.Draw.{Draw}
 use Rattle.sc_cmd.specs.declared.commands.Command.TheVariants.{GiveUp}
 use Rattle.sc_cmd.specs.declared.cores.Core.{Core}
@@ -15,16 +13,15 @@ use Rattle.sc_cmd.specs.declared.cores.Lock.TheVariants.{Free, Coordinating, Pro
 use Rattle.sc_cmd.specs.declared.orders.OrderLine.{OrderLine}
 use Rattle.sc_machine_table.specs.Group.{Group}
 use Rattle.sc_member.specs.Roster.{is_member}
-use Rattle.sc_paxos_words.proofs.ListLemmas.{Each-append, Each-filter}
 use Rattle.sc_policy.specs.declared.bodies.Body0.{Body0}
 use Rattle.sc_policy.specs.declared.bodies.Body0.TheVariants.{Split, Merge, Repart}
-use Rattle.sc_policy.specs.Wishes.{has_neighbour, is_small, middle_of, positions, positions_from, middle_key, wants_split, wants_repart, wished, wished_of_two, order_of, wished_order}
+use Rattle.sc_policy.specs.Wishes.{has_neighbour, is_small, middle_of, positions_from, middle_key, wants_split, wants_repart, wished, wished_of_two, order_of, wished_order}
 use Rattle.sc_node_table.specs.Acts.{has_act, with_act}
 use Rattle.sc_node_table.specs.Node.{group_of_order}
 use Rattle.sc_node_table.specs.Policy.{is_at_rest, policy_line, wished_line}
 use Rattle.sc_node_table.specs.Reminders.{patience, one_tick_more, waited_in}
 use Rattle.sc_node_table.specs.Replica.{ReplicaState, name_of, members, settled}
-use Rattle.sc_draws_law.specs.Laws.{IsAtPosition, LieAtPositions, WishesAreAtPositions}
+use Rattle.sc_draws_law.specs.Laws.{IsAtPosition, WishesAreAtPositions}
 use Rattle.sc_draws_law.specs.Owners.{waited, wished_at}
 
 -- ---- waiting leaves the group
@@ -73,21 +70,8 @@ wished_of on r line = of_tick (λ group l. group_of_order l.order ≡ group) on 
 
 -- ---- the position
 
-small_at : (xs : List ℕ) (i : ℕ) → Each (λ p. p < 2 ^ 32) xs → get_or xs i 0 < 2 ^ 32
-small_at [] i s = omega arith
-small_at (x ∷ xs) zero s = s.0
-small_at (x ∷ xs) (suc i) s = small_at xs i s.1
-
-small_positions : (pairs : List (List ℕ × List ℕ)) → LieAtPositions pairs → Each (λ p. p < 2 ^ 32) (positions pairs)
-small_positions [] s = tt
-small_positions (pair ∷ pairs) s = (s.0, small_positions pairs s.1)
-
-middle_small : (lo : ℕ) (pairs : List (List ℕ × List ℕ)) → LieAtPositions pairs → middle_key lo pairs < 2 ^ 32
-middle_small lo pairs s =
-    let all = small_positions pairs s in
-    small_at (positions_from lo pairs) (length pairs / 2)
-    (Each-append (λ p. p < 2 ^ 32) (filter (λ p. nat_le lo p) (positions pairs)) (filter (λ p. nat_lt p lo) (positions pairs))
-    (Each-filter (λ p. p < 2 ^ 32) (λ p. nat_le lo p) (positions pairs) all) (Each-filter (λ p. p < 2 ^ 32) (λ p. nat_lt p lo) (positions pairs) all))
+middle_small : (lo : ℕ) (pairs : List (List ℕ × List ℕ)) → middle_key lo pairs < 2 ^ 32
+middle_small lo pairs = mod_below (slice_index (positions_from lo pairs) (length pairs / 2)) (2 ^ 32) (omega arith)
 
 -- of what a policy wishes
 abbrev IsPlaced : Option Body0 → Type 0
@@ -99,13 +83,13 @@ placed b at group body e = (let same : b ≡ body = cc in subst (λ (x : Body0).
 unplaced : IsPlaced None
 unplaced group body e = cc
 
-wished_placed : (core : Core) (pairs : List (List ℕ × List ℕ)) → LieAtPositions pairs → IsPlaced (wished core pairs)
-wished_placed core pairs s =
+wished_placed : (core : Core) (pairs : List (List ℕ × List ℕ)) → IsPlaced (wished core pairs)
+wished_placed core pairs =
     cond_both (wants_split core) (Some (Split (middle_of core.arc))) _ IsPlaced (λ _. placed (Split (middle_of core.arc)) (λ group. mod_below (core.arc.lo + core.arc.len / 2) (2 ^ 32) (omega arith)))
     (λ _. cond_both (has_neighbour core) (wished_of_two core pairs) None IsPlaced
     (λ _. cond_both (is_small core) (Some Merge) _ IsPlaced (λ _. placed Merge (λ group. tt))
-    (λ _. cond_both (wants_repart core pairs) (Some (Repart (middle_key core.arc.lo pairs))) None IsPlaced (λ _. placed (Repart (middle_key core.arc.lo pairs)) (λ group. middle_small core.arc.lo pairs s)) (λ _. unplaced)))
+    (λ _. cond_both (wants_repart core pairs) (Some (Repart (middle_key core.arc.lo pairs))) None IsPlaced (λ _. placed (Repart (middle_key core.arc.lo pairs)) (λ group. middle_small core.arc.lo pairs)) (λ _. unplaced)))
     (λ _. unplaced))
 
 pub wishes_at_positions : WishesAreAtPositions
-wishes_at_positions on r line e s = of_tick (λ group l. IsAtPosition l.order) on r line (λ body is. wished_placed r.group.core (entries r.group.pairs) s r.group.core.id body is) e
+wishes_at_positions on r line e = of_tick (λ group l. IsAtPosition l.order) on r line (λ body is. wished_placed r.group.core (entries r.group.pairs) r.group.core.id body is) e

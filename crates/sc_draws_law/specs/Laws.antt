@@ -1,9 +1,7 @@
 -- Each name is drawn once, for one group, and what an order queues is allowed by the owner of its name.
 use Rattle.std.specs.List.{AllPairs}
 use Rattle.std.specs.Prelude.{Bool, List, [], ◌≡◌, ℕ, ◌<◌, ◌≤◌, ◌^◌, ◌∷◌, ◌++◌, Some, None}
-use Rattle.std.specs.FinMap.{entries}
-use Rattle.sc_base.specs.Among.{Among, Each}
-use Rattle.sc_base.specs.Text.{pos_of}
+use Rattle.sc_base.specs.Among.{Among}
 use Rattle.sc_base.specs.Drawing.{Drawer, next_name}
 use Rattle.sc_base.specs.declared.names.Draw.{Draw}
 use Rattle.sc_base.specs.declared.ops.Op.{Op}
@@ -103,13 +101,9 @@ TakenOrdersAreAllowed = (ahead : Ahead) (scenario : Scenario) (before : Rows) (r
 
 -- ---- policies
 
--- the keys of pairs lie at positions of the ring
-abbrev pub LieAtPositions : List (List ℕ × List ℕ) → Type 0
-LieAtPositions pairs = Each (λ (pair : List ℕ × List ℕ). pos_of pair.0 < 2 ^ 32) pairs
-
--- what a policy orders is at a position, where the keys of the replica's group are
+-- what a policy orders is at a position of the ring
 abbrev pub WishesAreAtPositions : Type 0
-WishesAreAtPositions = (on : Bool) (r : ReplicaState) (line : OrderLine) → wished_at on r ≡ Some line → LieAtPositions (entries r.group.pairs) → IsAtPosition line.order
+WishesAreAtPositions = (on : Bool) (r : ReplicaState) (line : OrderLine) → wished_at on r ≡ Some line → IsAtPosition line.order
 
 -- the row after these is a tick of a node at which a replica takes what its policy orders, with the names that the replicas before it left
 pub record TakesWish (ahead : Ahead) (scenario : Scenario) (before : Rows) (row : Row Mail OrderLine) (line : OrderLine) (node : NodeState) (older newer : List ReplicaState) (r : ReplicaState) : Type 0 where

@@ -39,9 +39,9 @@ positions pairs = map (λ pair. pos_of pair.0) pairs
 abbrev pub positions_from : ℕ → List (List ℕ × List ℕ) → List ℕ
 positions_from lo pairs = filter (λ p. nat_le lo p) (positions pairs) ++ filter (λ p. nat_lt p lo) (positions pairs)
 
--- the position of the key in the middle: of n keys from a position on, counted from 0, that with the number n/2
+-- the position of the key in the middle, as one of the ring: of n keys from a position on, counted from 0, that with the number n/2
 abbrev pub middle_key : ℕ → List (List ℕ × List ℕ) → ℕ
-middle_key lo pairs = slice_index (positions_from lo pairs) (length pairs / 2)
+middle_key lo pairs = slice_index (positions_from lo pairs) (length pairs / 2) % 2 ^ 32
 
 -- a group that has too many members and can be cut is split in the middle of its arc
 abbrev pub wants_split : Core → Bool

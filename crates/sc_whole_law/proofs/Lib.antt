@@ -15,7 +15,6 @@ pub mod Fitting
 pub mod Turning
 pub mod Journals
 pub mod Sound
-pub mod Policies
 pub mod Scheduled
 pub mod Valid
 pub mod TwoGroups

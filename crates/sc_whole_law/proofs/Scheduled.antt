@@ -26,7 +26,6 @@ use Rattle.sc_journal_law.specs.Descent.{Rows}
 use Rattle.sc_start_law.specs.Begins.{request_of}
 use Rattle.sc_start_law.proofs.Valid.{each_of}
 use Rattle.sc_whole_law.specs.Orders.{ToldAreAllowed, WishedAreAllowed, OrdersAreAllowed}
-use Rattle.sc_whole_law.proofs.Policies.{KeysLie, keys_lie}
 
 -- ---- the schedule
 
@@ -80,14 +79,14 @@ module _ (ahead : Ahead) (words : ℕ → ℕ → ℕ × ℕ) (scenario : Scenar
       (law ahead scenario before row later line node r takes placed (request_of scenario) stories)
 
   -- so is what is queued for what policies order
-  wished_allowed : TakenWishesAreAllowed → WishesAreAtPositions → (rows : Rows) → KeysLie ahead scenario rows → WishedAreAllowed (record { owner = owner_in ahead scenario rows; request = request_of scenario }) ahead scenario rows
-  wished_allowed law positions rows keys before row later are event low high node value_is older newer r replicas line wished taken stories =
+  wished_allowed : TakenWishesAreAllowed → WishesAreAtPositions → (rows : Rows) → WishedAreAllowed (record { owner = owner_in ahead scenario rows; request = request_of scenario }) ahead scenario rows
+  wished_allowed law positions rows before row later are event low high node value_is older newer r replicas line wished taken stories =
       let name = next_name (names_after_ticks node.policy node.draws older) in
-      let placed = positions node.policy r line wished (keys before row later are event low high node value_is older newer r replicas line wished) in
+      let placed = positions node.policy r line wished in
       let takes : TakesWish ahead scenario before row line node older newer r = record { low = low; high = high; value_is = value_is; event_is = event; replicas_are = replicas; wished = wished; taken = taken } in
       subst (λ (journal : Rows). IsAllowed (record { owner = owner_in ahead scenario journal; request = request_of scenario }) stories (name_of r) (ordered_command name line.number line.order)) (sym are)
       (law ahead scenario before row later line node older newer r takes placed (request_of scenario) stories)
 
   -- both
   pub orders_allowed : TakenOrdersAreAllowed → TakenWishesAreAllowed → WishesAreAtPositions → (rows : Rows) → Lawful ahead words scenario rows → OrdersAreAllowed (record { owner = owner_in ahead scenario rows; request = request_of scenario }) ahead scenario rows
-  orders_allowed told wished positions rows lawful = record { told = told_allowed told rows lawful; wished = wished_allowed wished positions rows (keys_lie ahead scenario early.policy rows) }
+  orders_allowed told wished positions rows lawful = record { told = told_allowed told rows lawful; wished = wished_allowed wished positions rows }

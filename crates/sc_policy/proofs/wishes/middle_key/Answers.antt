@@ -1,8 +1,9 @@
 -- A key that does not stand in the first part stands in the second.
-use Rattle.std.proofs.Common.{◌≡◌, ℕ, ◌-◌, ◌<◌, ◌≤◌, ◌/◌, List, ◌++◌, length, filter, nat_le, nat_lt, slice_get, arith, get_or, sym, ◌∙◌}
+use Rattle.std.proofs.Common.{◌≡◌, ℕ, ◌-◌, ◌<◌, ◌≤◌, ◌/◌, ◌%◌, ◌^◌, List, ◌++◌, length, filter, nat_le, nat_lt, slice_get, arith, get_or, sym, ◌∙◌}
 use Rattle.std.specs.Prelude.{unwrap_or}
 use Rattle.std.proofs.lemmas.Option.{unwrap_or-slice_get}
 use Rattle.std.proofs.lemmas.List.{get_or_append_left, get_or-append_right}
+use Rattle.std.proofs.Math.Nat.{mod-eq_of_lt}
 use Rattle.sc_policy.specs.Wishes.{positions}
 use Rattle.sc_policy.proofs.wishes.middle_key.Goals as goal
 use Rattle.sc_policy.proofs.wishes.middle_key.Goals.{then-middle-above, else-middle-above}
@@ -19,6 +20,6 @@ returns c =
     let ys = filter (λ p. nat_lt p c.args.lo) (positions c.args.pairs.now) in
     let n = length c.args.pairs.now / 2 in
     elim c.if-middle-above.branch [
-      | then-middle-above w ↦ (let h : n < length xs = omega arith in let e = in_first xs ys n h in cc)
-      | else-middle-above w ↦ (let h : length xs ≤ n = omega arith in let e = in_second xs ys n h in cc)
+      | then-middle-above w ↦ (let h : n < length xs = omega arith in let e = in_first xs ys n h in let whole : c.unwrap_or.result % 2 ^ 32 ≡ c.unwrap_or.result = mod-eq_of_lt {n = c.unwrap_or.result} {m = 2 ^ 32} (omega arith) in cc)
+      | else-middle-above w ↦ (let h : length xs ≤ n = omega arith in let e = in_second xs ys n h in let whole : c.unwrap_or.result % 2 ^ 32 ≡ c.unwrap_or.result = mod-eq_of_lt {n = c.unwrap_or.result} {m = 2 ^ 32} (omega arith) in cc)
     ]
