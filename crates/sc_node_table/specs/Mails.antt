@@ -1,5 +1,5 @@
 -- Mails of a replica, each put behind those that are there.
-use Rattle.std.specs.Prelude.{ℕ, ◌+◌, ◌==◌, nat_lt, List, [], ◌∷◌, ◌++◌, if◌then◌else◌, Option}
+use Rattle.std.specs.Prelude.{ℕ, ◌+◌, ◌==◌, List, [], ◌∷◌, ◌++◌, if◌then◌else◌, Option}
 use Rattle.sc_base.specs.Limits.{client_actor}
 use Rattle.sc_base.specs.declared.names.Draw.{Draw}
 use Rattle.sc_cmd.specs.declared.commands.Command.{Command}
@@ -11,6 +11,7 @@ use Rattle.sc_mail.specs.declared.bodies.AnswerBody.{AnswerBody}
 use Rattle.sc_mail.specs.declared.bodies.MailBody.{MailBody}
 use Rattle.sc_mail.specs.declared.bodies.MailBody.TheVariants.{Answer, Told}
 use Rattle.sc_mail.specs.declared.bodies.Mail.{Mail}
+use Rattle.sc_policy.specs.Wishes.{is_told}
 
 -- one mail more
 abbrev pub sent : ℕ → ℕ → MailBody → List Mail → List Mail
@@ -61,7 +62,7 @@ order_number (RecordWatch tx vote by) = 0
 
 -- ... and nothing of an order without a number
 unfoldable pub told_order : ℕ → ℕ → ToldResult → List Mail → List Mail
-told_order me number result mails = if nat_lt 0 number then told_desk me number result mails else mails
+told_order me number result mails = if is_told number then told_desk me number result mails else mails
 
 -- a waiting command of one that runs no longer: the client of a call is answered so, and of an order it is told that this node, which takes another for the leader, does not lead
 unfoldable pub dismissed : ℕ → Draw → Option ℕ → AnswerBody → Command → List Mail → List Mail

@@ -65,6 +65,10 @@ wished core pairs =
     else if has_neighbour core then wished_of_two core pairs
     else None
 
+-- an order with a number is told of; a policy's orders have the number 0, and nothing is told of them
+abbrev pub is_told : ℕ → Bool
+is_told number = nat_lt 0 number
+
 -- the order of what is wished to the group of that name
 abbrev pub order_of : Draw → Body0 → Order
 order_of group (Split at) = An.Split group at

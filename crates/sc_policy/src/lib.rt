@@ -4,8 +4,10 @@
 
 mod bodies;
 mod laws;
+mod orders;
 mod wishes;
 
 pub use bodies::Body0;
 pub use laws::keys_rise_from_the_start;
+pub use orders::is_told;
 pub use wishes::{wish, wished_order};

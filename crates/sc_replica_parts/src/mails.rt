@@ -7,6 +7,7 @@ ghost use Rattle.sc_node_table.specs.Mails.{sent, answer_to, answered, told_desk
 use sc_base::{Draw, Dup, OutOfMemory, Sequence};
 use sc_cmd::{Command, OrderRefusal, ToldResult};
 use sc_mail::{AnswerBody, DESK, Mail, MailBody, client_number};
+use sc_policy::is_told;
 use std::alloc::Global;
 use std::collections::VecDeque;
 
@@ -110,7 +111,7 @@ pub fn tell_order(
 ) -> Result<(), OutOfMemory>
     ensures { OnOk result (out.new ≡ told_order me number told out.old) }
 {
-    if number == 0 {
+    if !is_told(number) {
         return Ok(());
     }
     tell_desk(me, number, told, out)
