@@ -1,8 +1,8 @@
 //! The traits of the outside.
-ghost use Rattle.std.specs.Prelude.{◌≤◌, ◌+◌, List, ℕ, Option, length, IfOk, OnOk, OnErr};
+ghost use Rattle.std.specs.Prelude.{◌≤◌, ◌+◌, List, ℕ, Option, None, length, IfOk, OnOk, OnErr};
 ghost use Rattle.std.specs.Io.KnownBytes.{Appends};
 ghost use Rattle.sc_edges.specs.Causes.{HasCause};
-ghost use Rattle.sc_edges.specs.Bytes.{Gives, AppendsPart};
+ghost use Rattle.sc_edges.specs.Bytes.{Gives, AppendsPart, IsHanded};
 
 /// A call of a source or a sink failed. It comes only where the count of faults rose.
 #[derive(Clone, Copy, Debug, PartialEq, Eq)]
@@ -40,10 +40,14 @@ pub trait Sink {
     /// How many calls there were, where the sink counts them.
     ghost calls: { Self → ℕ } = { λ _. 0 };
 
+    /// The pieces that its calls brought, one a call, where the sink tells them.
+    ghost pieces: { Self → Option (List (List ℕ)) } = { λ _. None };
+
     /// Appends the whole piece, or, where it failed, a first part of it.
     fn put(&mut self, piece: &[u8]) -> Result<(), Failed>
         ensures whole { OnOk result (Appends (held self.old) (held self.new) piece.now) }
         ensures part { OnErr result (AppendsPart (held self.old) (held self.new) piece.now) }
         ensures cause { HasCause (faults self.old) (faults self.new) result }
-        ensures call { calls self.new ≤ calls self.old + 1 };
+        ensures call { calls self.new ≤ calls self.old + 1 }
+        ensures piece { IsHanded (pieces self.old) (pieces self.new) piece.now };
 }

@@ -113,12 +113,12 @@ SaysFor (Some (ask.Make n seed)) left before now said text = IsValid (made_scena
 abbrev pub Says : List (List ℕ) → Option (List ℕ) → ℕ → ℕ → Said → Text → Type 0
 Says words left before now said text = SaysFor (asked_by words) left before now said text
 
--- A text was begun and printed, in one call of the sink for each line, and the run hands back what it was about.
-pub record Printed (words : List (List ℕ)) (left : Option (List ℕ)) (reads reads' : ℕ) (held held' : Option (List ℕ)) (writes writes' puts puts' : ℕ) (done : Done) : Type 0 where
+-- A text was begun and printed, each line by one call of the sink, and the run hands back what it was about.
+pub record Printed (words : List (List ℕ)) (left : Option (List ℕ)) (reads reads' : ℕ) (held held' : Option (List ℕ)) (pieces pieces' : Option (List (List ℕ))) (writes writes' puts puts' : ℕ) (done : Done) : Type 0 where
   pub said : Said
   pub text : Text
   pub says : Says words left reads reads' said text
-  pub prints : Prints held held' writes writes' said text.lines done.status
+  pub prints : Prints held held' pieces pieces' writes writes' said text.lines done.status
   pub calls : puts' ≤ puts + length text.lines
   pub journal : done.journal ≡ text.journal
   pub parties : done.parties ≡ text.parties
@@ -130,5 +130,5 @@ pub record RanOut (done : Done) : Type 0 where
   pub parties : done.parties ≡ []
 
 -- A run printed a text, or memory was short.
-abbrev pub Runs : List (List ℕ) → Option (List ℕ) → ℕ → ℕ → Option (List ℕ) → Option (List ℕ) → ℕ → ℕ → ℕ → ℕ → Done → Type 0
-Runs words left reads reads' held held' writes writes' puts puts' done = Printed words left reads reads' held held' writes writes' puts puts' done ⊎ RanOut done
+abbrev pub Runs : List (List ℕ) → Option (List ℕ) → ℕ → ℕ → Option (List ℕ) → Option (List ℕ) → Option (List (List ℕ)) → Option (List (List ℕ)) → ℕ → ℕ → ℕ → ℕ → Done → Type 0
+Runs words left reads reads' held held' pieces pieces' writes writes' puts puts' done = Printed words left reads reads' held held' pieces pieces' writes writes' puts puts' done ⊎ RanOut done

@@ -78,8 +78,9 @@ pub fn run<S: Source, K: Sink, G: Gate, R: Threads + Wait + Sync>(
 ) -> Done
     ensures runs { Runs (map string_bytes words.now.items)
         (S.left input.old) (S.faults input.old) (S.faults input.new)
-        (K.held output.old) (K.held output.new) (K.faults output.old) (K.faults output.new)
-        (K.calls output.old) (K.calls output.new) result }
+        (K.held output.old) (K.held output.new) (K.pieces output.old) (K.pieces output.new)
+        (K.faults output.old) (K.faults output.new) (K.calls output.old) (K.calls output.new)
+        result }
     ensures unread { is_run (map string_bytes words.now.items) ≡ false → input.new ≡ input.old }
     ensures takes { S.calls input.new ≤ S.calls input.old + most_takes }
 {

@@ -1,10 +1,11 @@
 -- Pieces that a sink gains one after another.
-use Rattle.std.proofs.Common.{◌≡◌, ℕ, zero, suc, ◌+◌, ◌<◌, min, List, [], ◌∷◌, ◌++◌, length, take, get_or, refl, sym, ◌∙◌, ap, append_assoc, append-nil, arith, add-one, Option}
+use Rattle.std.proofs.Common.{◌≡◌, ℕ, zero, suc, ◌+◌, ◌<◌, min, List, [], ◌∷◌, ◌++◌, length, take, get_or, refl, sym, ◌∙◌, ap, append_assoc, append-nil, arith, add-one, subst, Option, Some, None}
 use Rattle.std.proofs.Math.Seq.{take-append-add}
 use Rattle.std.specs.List.{concat}
 use Rattle.std.specs.Io.KnownBytes.{Appends}
-use Rattle.sc_edges.specs.Bytes.{AppendsPart}
+use Rattle.sc_edges.specs.Bytes.{AppendsPart, IsHanded}
 use Rattle.sc_edges.proofs.Known.{Appends-trans}
+use Rattle.sc_statuses.specs.Causes.{BringsLines}
 
 concat-take : (xs : List (List ℕ)) (i : ℕ) (x : List ℕ) → i < length xs → x ≡ get_or xs i x → concat (take (suc i) xs) ≡ concat (take i xs) ++ x
 concat-take [] i x lt is = absurd (omega arith)
@@ -38,3 +39,16 @@ module _ (old mid new : Option (List ℕ)) (pieces : List (List ℕ)) (i : ℕ) 
   AppendsPart-more part =
       let m = part-take pieces i piece part.0 lt is in
       (m.0, rw m.1 (Appends-trans old mid new (concat (take i pieces)) (take part.0 piece) so_far part.1))
+
+one-take : (xs : List (List ℕ)) (i : ℕ) (x : List ℕ) → i < length xs → x ≡ get_or xs i x → take (suc i) xs ≡ take i xs ++ x ∷ []
+one-take [] i x lt is = absurd (omega arith)
+one-take (y ∷ xs) zero x lt is = ap (λ t. t ∷ []) (sym is)
+one-take (y ∷ xs) (suc i) x lt is = ap (λ t. y ∷ t) (one-take xs i x (omega arith) is)
+
+-- one line more was brought by a call
+pub BringsLines-more : (old mid new : Option (List (List ℕ))) (lines : List (List ℕ)) (i : ℕ) (line : List ℕ) → i < length lines → line ≡ get_or lines i line
+    → BringsLines old mid (take i lines) → IsHanded mid new line → BringsLines old new (take (i + 1) lines)
+BringsLines-more None mid new lines i line lt is so_far handed = tt
+BringsLines-more (Some pieces) mid new lines i line lt is so_far handed =
+    let last : new ≡ Some ((pieces ++ take i lines) ++ line ∷ []) = subst (λ o. IsHanded o new line) so_far handed in
+    last ∙ ap Some (append_assoc pieces (take i lines) (line ∷ []) ∙ ap (λ t. pieces ++ t) (sym (one-take lines i line lt is) ∙ ap (λ (n : ℕ). take n lines) (let e : suc i ≡ i + 1 = omega arith in e)))

@@ -1,5 +1,5 @@
 -- Which text is begun, and the status that it belongs to.
-use Rattle.std.specs.Prelude.{◌≡◌, ◌⊎◌, ℕ, List, Bool, true, false, Option, None, Some}
+use Rattle.std.specs.Prelude.{◌≡◌, ◌⊎◌, ℕ, List, ◌++◌, take, Bool, true, false, Option, None, Some, IfSome}
 use Rattle.std.specs.List.{concat}
 use Rattle.std.specs.Io.KnownBytes.{Appends}
 use Rattle.sc_edges.specs.Bytes.{AppendsPart}
@@ -29,8 +29,16 @@ status_of ReadFault = 4
 status_of Unsettled = 6
 status_of Filled = 7
 
--- The lines of a text were printed whole, or up to a fault of the sink, which wins over the status that the text belongs to.
-abbrev pub Prints : Option (List ℕ) → Option (List ℕ) → ℕ → ℕ → Said → List (List ℕ) → ℕ → Type 0
-Prints held gained before now said lines status =
-    ((status ≡ status_of said) × Appends held gained (concat lines))
-    ⊎ ((status ≡ 5) × AppendsPart held gained (concat lines) × Rose before now)
+-- a sink's calls, where it tells their pieces, brought these lines, one a call
+abbrev pub BringsLines : Option (List (List ℕ)) → Option (List (List ℕ)) → List (List ℕ) → Type 0
+BringsLines told told' lines = IfSome told (λ pieces. told' ≡ Some (pieces ++ lines))
+
+-- .. or the first of them
+abbrev pub BringsFirst : Option (List (List ℕ)) → Option (List (List ℕ)) → List (List ℕ) → Type 0
+BringsFirst told told' lines = (n : ℕ) × BringsLines told told' (take n lines)
+
+-- The lines of a text were printed whole, each by one call of the sink, or up to a fault of the sink, which wins over the status that the text belongs to.
+abbrev pub Prints : Option (List ℕ) → Option (List ℕ) → Option (List (List ℕ)) → Option (List (List ℕ)) → ℕ → ℕ → Said → List (List ℕ) → ℕ → Type 0
+Prints held gained told told' before now said lines status =
+    ((status ≡ status_of said) × Appends held gained (concat lines) × BringsLines told told' lines)
+    ⊎ ((status ≡ 5) × AppendsPart held gained (concat lines) × BringsFirst told told' lines × Rose before now)

@@ -4,7 +4,7 @@ ghost use Rattle.std.specs.List.{concat};
 ghost use Rattle.std.specs.Io.KnownBytes.{Appends};
 ghost use Rattle.sc_edges.specs.Bytes.{AppendsPart};
 ghost use Rattle.sc_edges.specs.Causes.{HasCause};
-ghost use Rattle.sc_statuses.specs.Causes.{Prints};
+ghost use Rattle.sc_statuses.specs.Causes.{BringsLines, BringsFirst, Prints};
 
 use crate::said::Said;
 use sc_edges::{Failed, Sink};
@@ -17,6 +17,8 @@ fn put_all<K: Sink>(sink: &mut K, lines: &[ReportLine]) -> Result<(), Failed>
         (AppendsPart (K.held sink.old) (K.held sink.new) (concat lines.now)) }
     ensures cause { HasCause (K.faults sink.old) (K.faults sink.new) result }
     ensures calls { K.calls sink.new ≤ K.calls sink.old + length lines.now }
+    ensures each { OnOk result (BringsLines (K.pieces sink.old) (K.pieces sink.new) lines.now) }
+    ensures first { OnErr result (BringsFirst (K.pieces sink.old) (K.pieces sink.new) lines.now) }
 {
     for line in lines {
         if let Err(Failed) = sink.put(line.bytes()) {
@@ -29,8 +31,8 @@ fn put_all<K: Sink>(sink: &mut K, lines: &[ReportLine]) -> Result<(), Failed>
 /// Puts each line of a text by one call of the sink, and answers the status that the text belongs
 /// to, or 5 after a fault of the sink.
 pub fn print<K: Sink>(sink: &mut K, said: Said, lines: &[ReportLine]) -> u8
-    ensures prints { Prints (K.held sink.old) (K.held sink.new)
-        (K.faults sink.old) (K.faults sink.new) said lines.now result }
+    ensures prints { Prints (K.held sink.old) (K.held sink.new) (K.pieces sink.old)
+        (K.pieces sink.new) (K.faults sink.old) (K.faults sink.new) said lines.now result }
     ensures calls { K.calls sink.new ≤ K.calls sink.old + length lines.now }
 {
     match put_all(sink, lines) {
