@@ -90,8 +90,7 @@ module _ (sources : Sources) (ahead : Ahead) (words : ℕ → ℕ → ℕ × ℕ
     λ b a into here leads line wished taken. (
         let name = next_name (names_after_ticks node.policy node.draws older) in
         let orders_it : wished_at node.policy r ≡ Some line = cond-false (is_some r.group.core.gone || not (is_member (members r) r.me)) None (cond (not (settled r)) None (wished_line node.policy (waited r))) here
-        ∙ cond-false (not (settled r)) None (wished_line node.policy (waited r)) leads ∙ wished in
-        (
+        ∙ cond-false (not (settled r)) None (wished_line node.policy (waited r)) leads ∙ wished in (
           subst (λ n. IsAllowed sources (stories_at ahead scenario.groups before) n (ordered_command name line.number line.order)) into
               (orders.wished before row later are e low high node is older rs r all_are line orders_it taken (stories_at ahead scenario.groups before)),
           no_call scenario before name line.number line.order,
