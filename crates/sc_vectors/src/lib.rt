@@ -6,8 +6,7 @@
 pub type Refused = (&'static [u8], usize, u32, u8);
 
 /// At least one text for each reason, and texts in which several reasons meet, of which the lowest
-/// counts. The values come from another implementation of the grammar, except those of kinds of
-/// lines that are not built yet: reason 3.
+/// counts. The values come from another implementation of the grammar.
 pub const REFUSED: &[Refused] = &[
     // 1: missing header
     (b"", 0, 1, 1),
@@ -40,7 +39,6 @@ pub const REFUSED: &[Refused] = &[
         5,
         3,
     ),
-    (b"scatter 1\nnodes 2\ngroup 0 1\npolicy\n", 0, 4, 3),
     (
         b"scatter 1\nnodes 2\ngroup 0 1\norder 1 splits 0.1 5\n",
         0,
@@ -62,8 +60,11 @@ pub const REFUSED: &[Refused] = &[
     ),
     (b"scatter 1\nnodes 1\nsettle 1\n", 0, 3, 4),
     (b"scatter 1\nnodes 2\ngroup 0 1\nnodes 2\n", 0, 4, 4),
+    (b"scatter 1\nnodes 2\ngroup 0 1\npolicy\npolicy\n", 0, 5, 4),
+    (b"scatter 1\nnodes 2\npolicy\ngroup 0 1\n", 0, 3, 4),
     // 5: wrong count
     (b"scatter 1\nnodes 2\ngroup 0 1\ntick n1 n1\n", 0, 4, 5),
+    (b"scatter 1\nnodes 2\ngroup 0 1\npolicy on\n", 0, 4, 5),
     (b"scatter 1\nnodes 2\ngroup 0 1\ntick\n", 0, 4, 5),
     (b"scatter 1\nnodes\n", 0, 2, 5),
     (b"scatter 1\nnodes 9\ngroup 0\n", 0, 3, 5),
