@@ -19,6 +19,7 @@ use sc_map_law::allowed_entries_make_one_map;
 use sc_paxos_law::{
     a_lawful_history, acceptors_are_lawful, leaders_are_lawful, one_log, one_value_per_slot,
 };
+use sc_queue_law::{queues_keep_one_call, steps_keep_one_call};
 use sc_refusal_law::{
     refusals_have_causes, running_replicas_take_requests, strangers_name_no_leader,
 };
@@ -128,4 +129,10 @@ fn the_laws_of_refusals_are_called() {
     refusals_have_causes();
     running_replicas_take_requests();
     strangers_name_no_leader();
+}
+
+#[test]
+fn the_laws_of_queues_are_called() {
+    steps_keep_one_call();
+    queues_keep_one_call();
 }

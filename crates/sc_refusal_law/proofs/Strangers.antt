@@ -79,7 +79,7 @@ Says step = Each P step.1
 with_made_says : (place : Place) (node : NodeState) → Sends place → Says (with_made place node)
 with_made_says (r, mails) node m = m
 
-unknown_says : (from : ℕ) (body : MailBody) (node : NodeState) → Says (unknown from body node)
+pub unknown_says : (from : ℕ) (body : MailBody) (node : NodeState) → Says (unknown from body node)
 unknown_says from (Install group slot base sets) node =
     either_way Says (not (eqb (length sets) slots_ahead) || nat_lt last_slot slot) (node, []) (with_made (made_by node.me from group slot base sets) node) tt (with_made_says (made_by node.me from group slot base sets) node (made_sends node.me from group slot base sets))
 unknown_says from (Request group client seq op) node = (refl, tt)

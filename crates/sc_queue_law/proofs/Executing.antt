@@ -1,0 +1,117 @@
+-- The queue of calls while entries are executed.
+use Rattle.std.proofs.Common.{ℕ, ◌||◌, not, eqb, Bool, true, cond, List, [], ◌∷◌, filter, Option, Some, None}
+use Rattle.sc_cmd.specs.declared.commands.Command.{Command}
+use Rattle.sc_cmd.specs.declared.commands.Command.TheVariants.{Call}
+use Rattle.sc_cmd.specs.declared.effects.Effect.{Effect}
+use Rattle.sc_cmd.specs.declared.links.Route.{Route}
+use Rattle.sc_cmd.specs.declared.orders.ToldResult.{ToldResult}
+use Rattle.sc_mail.specs.declared.bodies.AnswerBody.{AnswerBody}
+use Rattle.sc_mail.specs.declared.bodies.AnswerBody.TheVariants as Says
+use Rattle.sc_member.specs.Roster.{is_member, least_of}
+use Rattle.sc_machine_table.specs.Machine.{applied}
+use Rattle.sc_paxos_words.specs.Leaders.{without_flight_at}
+use Rattle.sc_node_table.specs.declared.Before.{Before}
+use Rattle.sc_node_table.specs.Election.{elected, stopped}
+use Rattle.sc_node_table.specs.Execute.{entered, answer_of, told_call, order_result, told_effect, announced, learnt_to, welcomed, slot_lost, landed, left_gone, left, is_among, looked_for, looked, executed_one, next_ready, executed_ready, all_ready, executed}
+use Rattle.sc_node_table.specs.Pump.{pumped}
+use Rattle.sc_node_table.specs.Queues.{put_back}
+use Rattle.sc_node_table.specs.Replica.{ReplicaState, Place, next, members, flying, forgotten}
+use Rattle.sc_node_table.specs.Sameness.{same_command}
+use Rattle.sc_node_table.specs.Slots.{without_slot}
+use Rattle.sc_node_table.specs.Spoken.{before_of, spoken}
+use Rattle.sc_queue_law.specs.OneCall.{KeepsOneCall}
+use Rattle.sc_queue_law.proofs.Lists.{either_way}
+use Rattle.sc_queue_law.proofs.Queueing.{Keeps, back_keeps, pumped_keeps, ended_keeps, elected_keeps, welcomed_keeps}
+
+entered_keeps : (command : Command) (r : ReplicaState) → KeepsOneCall r → KeepsOneCall (entered command r)
+unfolding entered forgotten
+entered_keeps command r k = k
+
+-- a counted call that has no effect goes back
+told_keeps : (answer : Option AnswerBody) (command : Command) (place : Place) → Keeps place → Keeps (told_call answer command place)
+unfolding told_call
+told_keeps (Some answer) (Call client seq op) (r, mails) k = k
+told_keeps None (Call client seq op) (r, mails) k = back_keeps (Call client seq op) r k
+told_keeps (Some answer) _ place k = k
+told_keeps None _ place k = k
+
+effect_keeps : (result : Option ToldResult) (command : Command) (place : Place) → Keeps place → Keeps (told_effect result command place)
+unfolding told_effect
+effect_keeps None command place k = k
+effect_keeps (Some result) command (r, mails) k = k
+
+announced_keeps : (counted : Bool) (effect : Effect) (command : Command) (place : Place) → Keeps place → Keeps (announced counted effect command place)
+unfolding announced
+announced_keeps counted effect command place k =
+    effect_keeps (order_result command effect) command (cond counted (told_call (answer_of effect) command place) place) (either_way Keeps counted (told_call (answer_of effect) command place) place (told_keeps (answer_of effect) command place k) k)
+
+spoken_keeps : (counted : Bool) (before : Before) (effect : Effect) (command : Command) (place : Place) → Keeps place → Keeps (spoken counted before effect command place)
+unfolding spoken
+spoken_keeps counted before effect command (r, mails) k = k
+
+learnt_keeps : (counted : Bool) (nodes : List ℕ) (slot : ℕ) (command : Command) (place : Place) → Keeps place → Keeps (learnt_to counted nodes slot command place)
+unfolding learnt_to
+learnt_keeps counted nodes slot command (r, mails) k = either_way Keeps counted _ _ k k
+
+welcomed_keep : (counted : Bool) (nodes : List ℕ) (place : Place) → Keeps place → Keeps (welcomed counted nodes place)
+unfolding welcomed
+welcomed_keep counted nodes (r, mails) k = either_way Keeps counted _ _ (welcomed_keeps (filter (λ node. not (is_member nodes node)) (members r)) (r, mails) k) k
+
+-- a command that lost its slot goes back
+lost_keeps : (counted : Bool) (command : Command) (o : Option Command) (r : ReplicaState) → KeepsOneCall r → KeepsOneCall (slot_lost counted command o r)
+lost_keeps counted command None r k = k
+lost_keeps counted command (Some other) r k = either_way KeepsOneCall (counted || same_command other command) r (put_back other r) k (back_keeps other r k)
+
+landed_keeps : (counted : Bool) (slot : ℕ) (command : Command) (place : Place) → Keeps place → Keeps (landed counted slot command place)
+unfolding landed
+landed_keeps counted slot command (r, mails) k = lost_keeps counted command (flying r slot) (record r { leader = without_flight_at slot r.leader; ready = without_slot r.ready slot }) k
+
+gone_keeps : (gone : Option Route) (place : Place) → Keeps place → Keeps (left_gone gone place)
+gone_keeps (Some into) place k = ended_keeps None (Says.Gone into) place
+gone_keeps None (r, mails) k = either_way Keeps (is_member (members r) r.me) (r, mails) (stopped (Some (least_of (members r))) (r, mails)) k (ended_keeps (Some (least_of (members r))) (Says.NotLeader (Some (least_of (members r)))) (r, mails))
+
+left_keeps : (place : Place) → Keeps place → Keeps (left place)
+unfolding left
+left_keeps (r, mails) k = either_way Keeps r.running (left_gone r.group.core.gone (r, mails)) (r, mails) (gone_keeps r.group.core.gone (r, mails) k) k
+
+looked_by : (gone : Option Route) (place : Place) → Keeps place → Keeps (looked_for gone place)
+looked_by (Some into) place k = k
+looked_by None (r, mails) k =
+    either_way Keeps (is_among (members r) r.hint) (r, mails) _ k
+    (either_way Keeps (eqb (least_of (members r)) r.me) (elected (record r { hint = Some r.me }, mails)) (record r { hint = Some (least_of (members r)) }, mails) (elected_keeps (record r { hint = Some r.me }, mails) k) k)
+
+pub looked_keeps : (place : Place) → Keeps place → Keeps (looked place)
+unfolding looked
+looked_keeps (r, mails) k = either_way Keeps r.running (r, mails) (looked_for r.group.core.gone (r, mails)) k (looked_by r.group.core.gone (r, mails) k)
+
+one_keeps : (counted : Bool) (command : Command) (place : Place) → Keeps place → Keeps (executed_one counted command place)
+unfolding executed_one
+one_keeps counted command (r, mails) k =
+    let effect : Effect = (applied r.group command).1 in
+    let place0 : Place = (entered command r, mails) in
+    let place1 : Place = announced counted effect command place0 in
+    let k1 : Keeps place1 = announced_keeps counted effect command place0 (entered_keeps command r k) in
+    let place2 : Place = spoken counted (before_of r.group.core) effect command place1 in
+    let k2 : Keeps place2 = spoken_keeps counted (before_of r.group.core) effect command place1 k1 in
+    let place3 : Place = learnt_to counted (members r) (next r) command place2 in
+    let k3 : Keeps place3 = learnt_keeps counted (members r) (next r) command place2 k2 in
+    let place4 : Place = welcomed counted (members r) place3 in
+    let k4 : Keeps place4 = welcomed_keep counted (members r) place3 k3 in
+    let place5 : Place = landed counted (next r) command place4 in
+    looked_keeps (left place5) (left_keeps place5 (landed_keeps counted (next r) command place4 k4))
+
+ready_by : (es : List (ℕ × Command)) (place : Place) (o : Option Command) → Keeps place → ((p : Place) → Keeps p → Keeps (executed_ready es p))
+    → Keeps (elim o [ None ↦ place | Some command ↦ pumped (executed_ready es (executed_one true command place)) ])
+ready_by es place None k more = k
+ready_by es place (Some command) k more = pumped_keeps (executed_ready es (executed_one true command place)) (more (executed_one true command place) (one_keeps true command place k))
+
+all_keep : (es : List (ℕ × Command)) (place : Place) → Keeps place → Keeps (executed_ready es place)
+unfolding executed_ready
+all_keep [] place k = k
+all_keep (e ∷ es) place k = ready_by es place (next_ready place.0) k (λ p q. all_keep es p q)
+
+pub executed_keeps : (counted : Bool) (command : Command) (place : Place) → Keeps place → Keeps (executed counted command place)
+unfolding executed
+executed_keeps counted command place k =
+    let one : Place = executed_one counted command place in
+    pumped_keeps (all_ready one) (all_keep one.0.ready one (one_keeps counted command place k))

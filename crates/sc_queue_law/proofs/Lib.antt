@@ -1,0 +1,5 @@
+pub mod Lists
+pub mod Queueing
+pub mod Executing
+pub mod Rows
+pub mod Nodes

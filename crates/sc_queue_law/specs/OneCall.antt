@@ -1,0 +1,41 @@
+-- At most one call of each client waits at a replica.
+use Rattle.std.specs.Prelude.{◌≡◌, ℕ, ◌≤◌, List, length, filter}
+use Rattle.sc_base.specs.Among.{Each}
+use Rattle.sc_cmd.specs.declared.commands.Command.{Command}
+use Rattle.sc_cmd.specs.declared.orders.OrderLine.{OrderLine}
+use Rattle.sc_mail.specs.declared.bodies.Mail.{Mail}
+use Rattle.sc_actor.specs.declared.rows.Input.{Input}
+use Rattle.sc_actor.specs.declared.rows.Row.{Row}
+use Rattle.sc_actor.specs.Replay.{value}
+use Rattle.sc_node_table.specs.Node.{NodeState, node_table}
+use Rattle.sc_node_table.specs.Queues.{is_call_of}
+use Rattle.sc_node_table.specs.Replica.{ReplicaState}
+use Rattle.sc_scenario.specs.declared.scenarios.Scenario.{Scenario}
+use Rattle.sc_players.specs.Players.{Ahead, node_seat, player_table}
+use Rattle.sc_players.specs.declared.roles.Role.TheVariants.{Node}
+
+-- how many of these commands are calls of a client
+abbrev pub calls_of : ℕ → List Command → ℕ
+calls_of client commands = length (filter (λ command. is_call_of client command) commands)
+
+-- a replica has at most one call of each client in its queue
+abbrev pub KeepsOneCall : ReplicaState → Type 0
+KeepsOneCall r = (client : ℕ) → calls_of client r.calls ≤ 1
+
+-- .. each replica of a node
+abbrev pub EachKeepsOneCall : NodeState → Type 0
+EachKeepsOneCall node = Each KeepsOneCall node.replicas
+
+-- a step of a node keeps it so, whatever the input
+abbrev pub StepsKeepOneCall : Type 0
+StepsKeepOneCall =
+    (node : NodeState) (input : Input Mail OrderLine)
+    → EachKeepsOneCall node → EachKeepsOneCall (node_table node input).0
+
+-- it is so of each node of a scenario after any rows, lawful or not
+abbrev pub QueuesKeepOneCall : Type 0
+QueuesKeepOneCall =
+    (ahead : Ahead) (scenario : Scenario) (me : ℕ)
+    → (rows : List (Row Mail OrderLine)) (node : NodeState)
+    → value player_table (node_seat ahead scenario.groups scenario.policy me) rows ≡ Node node
+    → EachKeepsOneCall node
