@@ -1,5 +1,5 @@
 -- A node's whole step: each of its mails has its cause at a replica, and so has each end of waiting that is queued after it.
-use Rattle.std.proofs.Common.{◌≡◌, ℕ, ◌+◌, ◌^◌, ◌⊎◌, inl, inr, ◌||◌, not, nat_lt, eqb, Bool, true, false, cond, List, [], ◌∷◌, ◌++◌, length, Option, Some, None, refl, sym, ap, subst, ◌∙◌, append-nil}
+use Rattle.std.proofs.Common.{◌≡◌, ℕ, ◌+◌, ◌-◌, ◌^◌, ◌⊎◌, inl, inr, ◌||◌, not, nat_lt, eqb, Bool, true, false, cond, List, [], ◌∷◌, ◌++◌, length, Option, Some, None, refl, sym, ap, subst, ◌∙◌, append-nil}
 use Rattle.std.specs.Prelude.{is_some}
 use Rattle.sc_base.specs.Among.{Among, Each}
 use Rattle.sc_base.specs.Drawing.{Drawer}
@@ -99,7 +99,7 @@ unfolding looked
 looked_acts r mails = either_way (λ (p : Place). p.0.acts ≡ r.acts) r.running (r, mails) (looked_for r.group.core.gone (r, mails)) refl (for_acts r.group.core.gone r mails)
 
 made_acts : (me from : ℕ) (group : Draw) (slot : ℕ) (base : Base) (sets : List (List ℕ)) → (made_by me from group slot base sets).0.acts ≡ []
-unfolding made_by looked_up installed_replica forgotten
+unfolding made_by looked_up forgotten
 made_acts me from group slot base sets =
     let r : ReplicaState = installed_replica me slot (named group base) sets in
     either_way (λ (p : Place). p.0.acts ≡ []) (is_member (members r) from) (record r { hint = Some from }, []) (looked (r, [])) refl (looked_acts r [])

@@ -26,7 +26,7 @@ abbrev pub own_step : NodeState → Drawer → ReplicaInput → ReplicaState →
 own_step node drawer input r = stepped node.policy drawer input (r, [])
 
 -- a mail of a node is sent in the step of one of its replicas, each refusal of which has its cause
-record pub IsOfReplica (node after : NodeState) (input : ReplicaInput) (mail : Mail) : Type 0 where
+pub record IsOfReplica (node after : NodeState) (input : ReplicaInput) (mail : Mail) : Type 0 where
   pub replica : ReplicaState
   pub drawer : Drawer
   pub stood : Among replica node.replicas
@@ -47,7 +47,7 @@ MailHasCause node after input mail =
     IsOfReplica node after input mail ⊎ (IsStranger node input × NamesNoLeader mail.body)
 
 -- a replica may give up after a node's step: as one that the node had, and that is as it was, or after its own step
-record pub MayGiveUpAt (node : NodeState) (input : ReplicaInput) (later : ReplicaState) (tx : Draw) : Type 0 where
+pub record MayGiveUpAt (node : NodeState) (input : ReplicaInput) (later : ReplicaState) (tx : Draw) : Type 0 where
   pub replica : ReplicaState
   pub drawer : Drawer
   pub stood : Among replica node.replicas
@@ -55,7 +55,7 @@ record pub MayGiveUpAt (node : NodeState) (input : ReplicaInput) (later : Replic
   pub may : MayGiveUp replica input tx
 
 -- the mails of a node's step have causes, and so have the ends of waiting that its replicas have queued after it
-record pub NodeHasCauses (node : NodeState) (input : ReplicaInput) (step : NodeState × List Mail) : Type 0 where
+pub record NodeHasCauses (node : NodeState) (input : ReplicaInput) (step : NodeState × List Mail) : Type 0 where
   pub answers : Each (λ (mail : Mail). MailHasCause node step.0 input mail) step.1
   pub acts :
       Each
