@@ -1,11 +1,10 @@
 -- A node's whole step: each of its mails has its cause at a replica, and so has each end of waiting that is queued after it.
-use Rattle.std.proofs.Common.{◌≡◌, ℕ, ◌+◌, ◌-◌, ◌^◌, ◌⊎◌, inl, inr, ◌||◌, not, nat_lt, eqb, Bool, true, false, cond, List, [], ◌∷◌, ◌++◌, length, Option, Some, None, refl, sym, ap, subst, ◌∙◌, append-nil}
+use Rattle.std.proofs.Common.{◌≡◌, ℕ, ◌-◌, ◌^◌, inl, inr, ◌||◌, not, nat_lt, eqb, Bool, true, false, cond, List, [], ◌∷◌, ◌++◌, length, Option, Some, None, refl, sym, ap, subst, ◌∙◌, append-nil}
 use Rattle.std.specs.Prelude.{is_some}
 use Rattle.sc_base.specs.Among.{Among, Each}
 use Rattle.sc_base.specs.Drawing.{Drawer}
 use Rattle.sc_base.specs.Same.{same_draw}
 use Rattle.sc_base.specs.declared.names.Draw.{Draw}
-use Rattle.sc_cmd.specs.declared.commands.Command.{Command}
 use Rattle.sc_cmd.specs.declared.commands.Command.TheVariants.{GiveUp}
 use Rattle.sc_cmd.specs.declared.cores.Base.{Base}
 use Rattle.sc_cmd.specs.declared.links.Route.{Route}
@@ -21,15 +20,15 @@ use Rattle.sc_node_table.specs.Births.{mailed_children}
 use Rattle.sc_node_table.specs.Election.{elected}
 use Rattle.sc_node_table.specs.Execute.{is_among, looked_for, looked}
 use Rattle.sc_node_table.specs.Install.{named}
-use Rattle.sc_node_table.specs.Node.{NodeState, replica_of, with_replica, is_before, with_new, group_of_mail, with_made, unknown, may_come, with_born, with_children, taken_by, routed, on_mail, group_of_order, ordered_of, ticked, on_tick}
+use Rattle.sc_node_table.specs.Node.{NodeState, replica_of, with_replica, is_before, with_new, group_of_mail, with_made, unknown, may_come, with_born, with_children, taken_by, routed, group_of_order, ordered_of, ticked, on_tick}
 use Rattle.sc_node_table.specs.Ordering.{ordered_row}
 use Rattle.sc_node_table.specs.Policy.{names_after_tick}
 use Rattle.sc_node_table.specs.Replica.{ReplicaState, Place, name_of, members, born_replica, installed_replica, last_slot, forgotten}
 use Rattle.sc_node_table.specs.Rows.{tick_row, looked_up, made_by, mailed, stepped}
 use Rattle.sc_node_table.specs.Slots.{slots_ahead}
 use Rattle.sc_draws_law.proofs.Machine.{either_way}
-use Rattle.sc_refusal_law.specs.Causes.{MayGiveUp, StepHasCauses, NamesNoLeader}
-use Rattle.sc_refusal_law.specs.NodeCauses.{own_step, IsOfReplica, IsStranger, MailHasCause, MayGiveUpAt, NodeHasCauses, NodesHaveCauses}
+use Rattle.sc_refusal_law.specs.Causes.{NamesNoLeader}
+use Rattle.sc_refusal_law.specs.NodeCauses.{own_step, Takes, MailHasCause, ActsHaveCauses, NodeHasCauses, NodesHaveCauses}
 use Rattle.sc_refusal_law.proofs.Joining.{tick_behind}
 use Rattle.sc_refusal_law.proofs.Steps.{steps_have_causes}
 use Rattle.sc_refusal_law.proofs.Strangers.{unknown_says}
@@ -119,7 +118,7 @@ ticked_each Q on drawer [] mails c f = c
 ticked_each Q on drawer (r ∷ replicas) mails c f =
     let own = ticks_alone on drawer r mails in
     let first : Each Q (tick_row on drawer (r, mails)).1 =
-        subst (λ (p : Place). Each Q p.1) (sym own) (Each-append Q mails (tick_row on drawer (r, [])).1 c (f r (inl refl) drawer (inl (ap (λ (p : Place). p.0) own)))) in
+    subst (λ (p : Place). Each Q p.1) (sym own) (Each-append Q mails (tick_row on drawer (r, [])).1 c (f r (inl refl) drawer (inl (ap (λ (p : Place). p.0) own)))) in
     ticked_each Q on (names_after_tick on drawer r) replicas (tick_row on drawer (r, mails)).1 first (λ other among names stands. f other (inr among) names (inr stands))
 
 -- .. and of the replicas
@@ -136,7 +135,7 @@ ticked_replicas T on drawer (r ∷ replicas) mails f = (
 
 module _ (node : NodeState) (input : ReplicaInput) where
   abbrev Acts : ReplicaState → Type 0
-  Acts later = (tx : Draw) → Among (GiveUp tx) later.acts → MayGiveUpAt node input later tx
+  Acts later = ActsHaveCauses node input later
 
   abbrev Step : NodeState × List Mail → Type 0
   Step step = NodeHasCauses node input step
@@ -150,13 +149,13 @@ module _ (node : NodeState) (input : ReplicaInput) where
   still = record { answers = tt; acts = untouched }
 
   -- one that takes a step
-  stepped_acts : (drawer : Drawer) (r : ReplicaState) → Among r node.replicas → Acts (own_step node drawer input r).0
-  stepped_acts drawer r stood tx queued = record { replica = r; drawer = drawer; stood = stood; is_later = inr refl; may = (steps_have_causes node.policy drawer r input).acts tx queued }
+  stepped_acts : (drawer : Drawer) (r : ReplicaState) → Among r node.replicas → Takes node input r → Acts (own_step node drawer input r).0
+  stepped_acts drawer r stood takes tx queued = record { replica = r; stood = stood; drawer = drawer; is_later = inr (takes, refl); may = (steps_have_causes node.policy drawer r input).acts tx queued }
 
-  stepped_mails : (after : NodeState) (drawer : Drawer) (r : ReplicaState) → Among r node.replicas → Among (own_step node drawer input r).0 after.replicas → Each (λ (mail : Mail). MailHasCause node after input mail) (own_step node drawer input r).1
-  stepped_mails after drawer r stood stands =
+  stepped_mails : (after : NodeState) (drawer : Drawer) (r : ReplicaState) → Takes node input r → Among (own_step node drawer input r).0 after.replicas → Each (λ (mail : Mail). MailHasCause node after input mail) (own_step node drawer input r).1
+  stepped_mails after drawer r takes stands =
       Each-from (λ (mail : Mail). MailHasCause node after input mail) (own_step node drawer input r).1
-      (λ mail sends. inl (record { replica = r; drawer = drawer; stood = stood; stands = stands; sends = sends; causes = steps_have_causes node.policy drawer r input }))
+      (λ mail sends. inl (record { replica = r; takes = takes; drawer = drawer; stands = stands; sends = sends; causes = steps_have_causes node.policy drawer r input }))
 
   -- one that is made has nothing queued
   none_queued : (r : ReplicaState) → r.acts ≡ [] → Acts r
@@ -186,8 +185,8 @@ taken_causes node mail (Some r) group named e =
     let stood : Among r node.replicas = (find_found (λ (other : ReplicaState). same_draw (name_of other) group) node.replicas r e).0 in
     let stands : Among new.0 (with_children children put).replicas = children_among new.0 children put (put_among group new.0 r node.replicas e) in
     record {
-      answers = stepped_mails node input (with_children children put) node.draws r stood stands;
-      acts = children_each (Acts node input) (λ me child tx queued. absurd queued) children put (put_each (Acts node input) group new.0 node.replicas (stepped_acts node input node.draws r stood) (untouched node input));
+      answers = stepped_mails node input (with_children children put) node.draws r (group, named, e) stands;
+      acts = children_each (Acts node input) (λ me child tx queued. absurd queued) children put (put_each (Acts node input) group new.0 node.replicas (stepped_acts node input node.draws r stood (group, named, e)) (untouched node input));
     }
 
 routed_causes : (node : NodeState) (mail : Mail) (o : Option Draw) → group_of_mail mail.body ≡ o → NodeHasCauses node (Given.Got mail) (routed o mail.from mail.body node)
@@ -205,8 +204,8 @@ ordered_causes node line (Some r) e =
     let new : Place = ordered_row node.draws line (r, []) in
     let stood : Among r node.replicas = (find_found (λ (other : ReplicaState). same_draw (name_of other) group) node.replicas r e).0 in
     record {
-      answers = stepped_mails node input (ordered_of (Some r) line node).0 node.draws r stood (put_among group new.0 r node.replicas e);
-      acts = put_each (Acts node input) group new.0 node.replicas (stepped_acts node input node.draws r stood) (untouched node input);
+      answers = stepped_mails node input (ordered_of (Some r) line node).0 node.draws r e (put_among group new.0 r node.replicas e);
+      acts = put_each (Acts node input) group new.0 node.replicas (stepped_acts node input node.draws r stood e) (untouched node input);
     }
 
 -- ---- a tick
@@ -215,7 +214,7 @@ tick_causes : (node : NodeState) → NodeHasCauses node Given.Tick (on_tick node
 unfolding stepped
 tick_causes node = record {
   answers = ticked_each (λ (mail : Mail). MailHasCause node (on_tick node).0 Given.Tick mail) node.policy node.draws node.replicas [] tt (λ r stood names stands. stepped_mails node Given.Tick (on_tick node).0 names r stood stands);
-  acts = ticked_replicas (Acts node Given.Tick) node.policy node.draws node.replicas [] (λ r stood names. stepped_acts node Given.Tick names r stood);
+  acts = ticked_replicas (Acts node Given.Tick) node.policy node.draws node.replicas [] (λ r stood names. stepped_acts node Given.Tick names r stood stood);
 }
 
 pub nodes_have_causes : NodesHaveCauses
