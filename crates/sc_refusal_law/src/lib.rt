@@ -1,6 +1,6 @@
-//! Why a replica refuses: each answer by which it turns a client away has its cause in the state that
-//! it had executed when it answered; and so of a node's whole step. Laws of the tables of a replica and
-//! of a node. Definitions and laws, no logic.
+//! Why a replica refuses: each answer by which it turns a client away has its cause in the state
+//! that it had executed when it answered; and so of a node's whole step. Laws of the tables of a
+//! replica and of a node. Definitions and laws, no logic.
 #![tactic(auto)]
 
 ghost use Rattle.sc_refusal_law.specs.Causes.{
@@ -22,11 +22,11 @@ pub fn refusals_have_causes()
 {}
 
 /// So it is of a whole step of a node, whether it takes a mail, ticks with all its replicas, with a
-/// policy or without, or takes an order. Each mail that it sends is sent in the step of a replica that
-/// takes the input, which begins from the state that the node had of it and behind no other mail, and
-/// each refusal of which has its cause; or the node has no replica of the group that the mail or order
-/// is for, and an answer names no leader. Each end of waiting that a replica has queued after the step
-/// has its cause at that replica.
+/// policy or without, or takes an order. Each mail that it sends is sent in the step of a replica
+/// that takes the input, which begins from the state that the node had of it and behind no other
+/// mail, and each refusal of which has its cause; or the node has no replica of the group that the
+/// mail or order is for, and an answer names no leader. Each end of waiting that a replica has
+/// queued after the step has its cause at that replica.
 pub fn nodes_have_causes()
     ensures { NodesHaveCauses }
 {}
