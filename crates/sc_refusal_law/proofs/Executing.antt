@@ -1,8 +1,7 @@
 -- What an execution answers has its cause in the state before the entry, and what the replica is after it stands behind one entry more.
-use Rattle.std.proofs.Common.{◌≡◌, ◌<◌, ℕ, ◌+◌, ◌&&◌, ◌||◌, not, nat_lt, eqb, Bool, true, false, cond, List, [], ◌∷◌, ◌++◌, filter, Option, Some, None, refl, sym, ap, subst, ◌∙◌, arith, append-nil}
+use Rattle.std.proofs.Common.{◌≡◌, ◌<◌, ℕ, ◌&&◌, ◌||◌, not, nat_lt, eqb, Bool, true, cond, List, [], ◌∷◌, ◌++◌, filter, Option, Some, None, refl, sym, ap, subst, ◌∙◌, arith, append-nil}
 use Rattle.std.specs.FinMap.{get}
 use Rattle.std.proofs.lemmas.Bool.{cond_both, ltb-false, eqb-false}
-use Rattle.sc_base.specs.Among.{Each}
 use Rattle.sc_base.specs.Limits.{client_actor}
 use Rattle.sc_base.specs.declared.names.Draw.{Draw}
 use Rattle.sc_base.specs.declared.ops.Noted.{Noted}
@@ -38,13 +37,12 @@ use Rattle.sc_node_table.specs.Replica.{ReplicaState, Place, name_of, next, memb
 use Rattle.sc_node_table.specs.Sameness.{same_command}
 use Rattle.sc_node_table.specs.Slots.{at_slot, without_slot}
 use Rattle.sc_node_table.specs.Spoken.{before_of, spoken}
-use Rattle.sc_draws_law.specs.Names.{Opt}
 use Rattle.sc_draws_law.proofs.Lists.{opt_slot, slot_without, flight_without}
 use Rattle.sc_draws_law.proofs.Machine.{either_way}
 use Rattle.sc_refusal_law.specs.Causes.{IsRefusedIn, RefusesCall, log_with, log_after}
 use Rattle.sc_refusal_law.proofs.Keeping.{Kept, KeptOne, Holds, back_kept, flying_kept}
 use Rattle.sc_refusal_law.proofs.Plain.{sent_one, others_plain, told_plain, spoken_plain}
-use Rattle.sc_refusal_law.proofs.Standing.{Caused, CausedAnswer, caused_plain, more_caused, StandsIn, Fine, resent, refused_answer}
+use Rattle.sc_refusal_law.proofs.Standing.{Caused, CausedAnswer, caused_plain, more_caused, Fine, resent}
 use Rattle.sc_refusal_law.proofs.Stopping.{ended_fine, stopped_fine, elected_fine, welcomed_fine}
 use Rattle.sc_refusal_law.proofs.Pumping.{pumped_fine}
 

@@ -1,8 +1,7 @@
 -- What is asked of the commands that a replica keeps stays true of those that it keeps on.
-use Rattle.std.proofs.Common.{◌≡◌, ℕ, not, nat_lt, eqb, Bool, true, false, refl, sym, List, [], ◌∷◌, ◌++◌, Option, Some, None}
+use Rattle.std.proofs.Common.{◌≡◌, ℕ, not, nat_lt, eqb, Bool, true, false, refl, sym, List, [], ◌∷◌, Option, Some, None}
 use Rattle.sc_base.specs.Among.{Each}
 use Rattle.sc_base.specs.declared.names.Draw.{Draw}
-use Rattle.sc_base.specs.declared.ops.Op.{Op}
 use Rattle.sc_cmd.specs.declared.commands.Command.{Command}
 use Rattle.sc_cmd.specs.declared.commands.Command.TheVariants.{Noop, Call, Join, Leave, Split, Begin, Prepared, RecordVote, GiveUp, Finish, Watched, RecordWatch}
 use Rattle.sc_paxos_words.proofs.ListLemmas.{Each-append}
@@ -13,7 +12,7 @@ use Rattle.sc_paxos_words.specs.declared.reports.Report.{Report}
 use Rattle.sc_paxos_words.specs.Choice.{choice, chosen_value, names_above}
 use Rattle.sc_paxos_words.specs.Leaders.{flight_at, must, must_without}
 use Rattle.sc_node_table.specs.Queues.{call_of, is_call_of, without_call, call_before, put_back}
-use Rattle.sc_node_table.specs.Replica.{ReplicaState, flying, taken_at, either, listed, taken_from, open_slots, under_way}
+use Rattle.sc_node_table.specs.Replica.{ReplicaState, flying, taken_at, listed, taken_from, open_slots, under_way}
 use Rattle.sc_node_table.specs.Slots.{at_slot}
 use Rattle.sc_draws_law.specs.Names.{Opt}
 use Rattle.sc_draws_law.proofs.Lists.{opt_find, opt_map, opt_either, opt_slot, opt_choice}

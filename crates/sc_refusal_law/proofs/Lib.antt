@@ -8,3 +8,5 @@ pub mod Voting
 pub mod Rows
 pub mod Steps
 pub mod Strangers
+pub mod Joining
+pub mod NodeSteps

@@ -23,9 +23,10 @@ use Rattle.sc_cmd.specs.declared.votes.Past.{Past}
 use Rattle.sc_cmd.specs.declared.votes.Past.TheVariants as Cast
 use Rattle.sc_cmd.specs.declared.votes.Vote.{Vote}
 use Rattle.sc_cmd.specs.declared.votes.Vote.TheVariants as Says
+use Rattle.sc_mail.specs.declared.bodies.AnswerBody.{AnswerBody}
 use Rattle.sc_mail.specs.declared.bodies.Mail.{Mail}
 use Rattle.sc_mail.specs.declared.bodies.MailBody.{MailBody}
-use Rattle.sc_mail.specs.declared.bodies.MailBody.TheVariants.{Request, Answer, Prepare, Promise, Accept, Accepted, Nack, Learn, Ask, Install, TxPrepare, TxVote, TxOutcome, TxElsewhere, TxWatch, TxWatched, Told}
+use Rattle.sc_mail.specs.declared.bodies.MailBody.TheVariants.{Answer, Accept, Learn, TxVote, TxOutcome, TxWatched, Told}
 use Rattle.sc_machine_table.specs.Group.{Group}
 use Rattle.sc_machine_table.specs.Plans.{frozen_of}
 use Rattle.sc_paxos_words.proofs.ListLemmas.{Each-append}
@@ -39,26 +40,20 @@ use Rattle.sc_node_table.specs.Rows.{taught, uncounted, asked_again, told_last}
 use Rattle.sc_node_table.specs.Transactions.{voted_to, watched_to, told_outcome, next_asked, asked_next}
 use Rattle.sc_node_table.specs.Spoken.{begun_result, spoken_number, told_result, told_begun, decided_in, cast_in, asked_on, vote_sent, watch_sent, aborted_to, aborted_watcher, given_up_by, vote_answered, released_to, watch_answered_by, went_on, spoken_mails}
 use Rattle.sc_draws_law.proofs.Machine.{either_way}
+use Rattle.sc_refusal_law.specs.Causes.{IfAnswer}
 
 -- a mail that is no answer
 abbrev pub IsPlain : MailBody → Type 0
-IsPlain (Answer group seq answer) = ⊥
-IsPlain (Request group client seq op) = Unit {0}
-IsPlain (Prepare group ballot from_slot) = Unit {0}
-IsPlain (Promise group ballot reports) = Unit {0}
-IsPlain (Accept group ballot slot value) = Unit {0}
-IsPlain (Accepted group ballot slot) = Unit {0}
-IsPlain (Nack group promised) = Unit {0}
-IsPlain (Learn group slot value) = Unit {0}
-IsPlain (Ask group from_slot) = Unit {0}
-IsPlain (Install group slot base sets) = Unit {0}
-IsPlain (TxPrepare tx offer) = Unit {0}
-IsPlain (TxVote tx coord part vote) = Unit {0}
-IsPlain (TxOutcome tx part outcome) = Unit {0}
-IsPlain (TxElsewhere tx coord hint) = Unit {0}
-IsPlain (TxWatch tx watch) = Unit {0}
-IsPlain (TxWatched tx coord part vote) = Unit {0}
-IsPlain (Told order result) = Unit {0}
+IsPlain body = IfAnswer (λ seq answer. ⊥) body
+
+-- a fact of an answer that follows from another
+pub answer_weaker : (P Q : ℕ → AnswerBody → Type 0) → ((seq : ℕ) (answer : AnswerBody) → P seq answer → Q seq answer) → (body : MailBody) → IfAnswer P body → IfAnswer Q body
+answer_weaker P Q f (Answer group seq answer) p = f seq answer p
+answer_weaker P Q f _ p = p
+
+-- what is no answer has any fact of answers
+pub plain_has : (P : ℕ → AnswerBody → Type 0) (body : MailBody) → IsPlain body → IfAnswer P body
+plain_has P body p = answer_weaker (λ seq answer. ⊥) P (λ seq answer none. absurd none) body p
 
 question_plain : (me : ℕ) (core : Core) (tx : Draw) (body : Body) (heard : Option Heard) → IsPlain (question me core tx body heard)
 question_plain me core tx At.Merge None = tt

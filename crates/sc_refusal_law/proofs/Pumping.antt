@@ -1,5 +1,5 @@
 -- What a settled replica offers: each call that it turns down has its cause in the executed state.
-use Rattle.std.proofs.Common.{◌≡◌, ℕ, ◌+◌, ◌&&◌, ◌||◌, not, nat_le, Bool, true, false, List, [], ◌∷◌, ◌++◌, Option, Some, None, refl, sym, ap, subst, ◌∙◌, append-nil}
+use Rattle.std.proofs.Common.{◌≡◌, ℕ, ◌+◌, ◌&&◌, nat_le, Bool, true, false, List, [], ◌∷◌, Option, Some, None, refl, sym, subst, append-nil}
 use Rattle.std.specs.Prelude.{is_some}
 use Rattle.std.specs.List.{list_any}
 use Rattle.std.proofs.lemmas.Bool.{cond_both}
@@ -9,8 +9,7 @@ use Rattle.sc_base.specs.declared.names.Draw.{Draw}
 use Rattle.sc_base.specs.declared.ops.Op.{Op}
 use Rattle.sc_ideal.specs.IdealStore.{key_of, holds_key}
 use Rattle.sc_cmd.specs.declared.commands.Command.{Command}
-use Rattle.sc_cmd.specs.declared.commands.Command.TheVariants.{Noop, Call, Join, Leave, Split, Begin, Prepared, RecordVote, GiveUp, Finish, Watched, RecordWatch}
-use Rattle.sc_cmd.specs.declared.cores.Core.{Core}
+use Rattle.sc_cmd.specs.declared.commands.Command.TheVariants.{Call}
 use Rattle.sc_cmd.specs.declared.links.Route.{Route}
 use Rattle.sc_mail.specs.declared.bodies.AnswerBody.{AnswerBody}
 use Rattle.sc_mail.specs.declared.bodies.AnswerBody.TheVariants as Says
@@ -27,7 +26,7 @@ use Rattle.sc_node_table.specs.Pump.{Found, is_act, serves_calls, waits, refused
 use Rattle.sc_node_table.specs.Replica.{ReplicaState, Place, name_of, next, settled, may_offer, taken_at, under_way, is_idle, last_slot}
 use Rattle.sc_draws_law.proofs.Machine.{either_way}
 use Rattle.sc_refusal_law.specs.Causes.{RefusesCall}
-use Rattle.sc_refusal_law.proofs.Keeping.{Kept, KeptAll, KeptOne, Flying, Holds, MustKept, turned, with_calls, with_acts, must_kept}
+use Rattle.sc_refusal_law.proofs.Keeping.{Kept, KeptAll, KeptOne, Flying, MustKept, turned, with_calls, with_acts, must_kept}
 use Rattle.sc_refusal_law.proofs.Plain.{sent_one}
 use Rattle.sc_refusal_law.proofs.Standing.{Caused, CausedAnswer, caused_plain, Fine, resent, with_all, refused_answer}
 

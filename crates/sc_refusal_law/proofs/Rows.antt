@@ -1,8 +1,7 @@
 -- The rows of requests, ticks, transactions and orders, and a whole step.
-use Rattle.std.proofs.Common.{◌≡◌, ℕ, ◌+◌, ◌-◌, ◌≤◌, ◌^◌, ◌&&◌, ◌||◌, not, nat_le, nat_lt, eqb, Bool, true, false, cond, List, [], ◌∷◌, ◌++◌, Option, Some, None, refl, sym, ap, subst, ◌∙◌, inl, arith, append-nil}
+use Rattle.std.proofs.Common.{◌≡◌, ℕ, ◌+◌, ◌-◌, ◌≤◌, ◌^◌, ◌&&◌, ◌||◌, not, nat_le, eqb, Bool, true, false, List, [], ◌∷◌, ◌++◌, Option, Some, None, refl, sym, subst, inl, arith, append-nil}
 use Rattle.std.specs.Prelude.{is_some}
 use Rattle.std.proofs.lemmas.Bool.{cond_both, leb-true, and_parts}
-use Rattle.sc_base.specs.Among.{Each}
 use Rattle.sc_base.specs.Drawing.{Drawer, next_name}
 use Rattle.sc_base.specs.Limits.{client_actor}
 use Rattle.sc_base.specs.declared.names.Draw.{Draw}
@@ -13,7 +12,6 @@ use Rattle.sc_cmd.specs.declared.bodies.Offer.{Offer}
 use Rattle.sc_cmd.specs.declared.bodies.Watch.{Watch}
 use Rattle.sc_cmd.specs.declared.commands.Command.{Command}
 use Rattle.sc_cmd.specs.declared.commands.Command.TheVariants.{Call, GiveUp, Prepared, RecordVote, Finish, Watched, RecordWatch}
-use Rattle.sc_cmd.specs.declared.cores.Core.{Core}
 use Rattle.sc_cmd.specs.declared.cores.Lock.{Lock}
 use Rattle.sc_cmd.specs.declared.cores.Lock.TheVariants.{Free, Coordinating, Promised, Watching}
 use Rattle.sc_cmd.specs.declared.links.Route.{Route}
@@ -33,26 +31,24 @@ use Rattle.sc_mail.specs.declared.bodies.AnswerBody.TheVariants as Says
 use Rattle.sc_mail.specs.declared.bodies.Mail.{Mail}
 use Rattle.sc_mail.specs.declared.bodies.MailBody.TheVariants.{Answer, TxOutcome, TxElsewhere, Told}
 use Rattle.sc_member.specs.Roster.{is_member}
-use Rattle.sc_machine_table.specs.Group.{Group}
-use Rattle.sc_machine_table.specs.Logs.{state_after}
 use Rattle.sc_paxos_words.proofs.ListLemmas.{Each-append}
 use Rattle.sc_paxos_words.specs.Logs.{entry_at}
 use Rattle.sc_node_table.specs.Acts.{has_act, with_act, act_queued}
 use Rattle.sc_node_table.specs.Election.{elected}
-use Rattle.sc_node_table.specs.Mails.{sent, told_desk}
+use Rattle.sc_node_table.specs.Mails.{sent}
 use Rattle.sc_node_table.specs.Ordering.{ordered_command, untaken, taken_or_told, ordered_row}
 use Rattle.sc_node_table.specs.Policy.{wished_line, with_command, with_line, wishing}
 use Rattle.sc_node_table.specs.Pump.{serves_calls, pumped}
 use Rattle.sc_node_table.specs.Queues.{call_of, without_call}
-use Rattle.sc_node_table.specs.Reminders.{patience, one_tick_more, impatient, waited_in, reminders, reminded}
+use Rattle.sc_node_table.specs.Reminders.{patience, one_tick_more, waited_in, reminders, reminded}
 use Rattle.sc_node_table.specs.Replica.{ReplicaState, Place, name_of, next, members, settled, is_idle}
 use Rattle.sc_node_table.specs.Rows.{call_refusal, refused_at, queued, requested, request_row, asked_again, told_last, tick_row}
-use Rattle.sc_node_table.specs.Transactions.{noted_outcome, standing_vote, voted_to, sent_elsewhere, offered_by, offer_row, watched_to, watched_by, watch_row, awaits_vote, awaits_watch, told_outcome, vote_queued, vote_met, vote_row, watch_queued, watch_met, watched_row, asked_next, elsewhere_row, is_bound, outcome_row}
+use Rattle.sc_node_table.specs.Transactions.{noted_outcome, standing_vote, sent_elsewhere, offered_by, offer_row, watched_by, watch_row, awaits_vote, awaits_watch, told_outcome, vote_queued, vote_met, vote_row, watch_queued, watch_met, watched_row, asked_next, elsewhere_row, is_bound, outcome_row}
 use Rattle.sc_draws_law.proofs.Machine.{either_way}
 use Rattle.sc_refusal_law.specs.Causes.{RefusesCall}
 use Rattle.sc_refusal_law.proofs.Keeping.{Kept, turned, turned_off, with_calls, with_acts, without_kept}
 use Rattle.sc_refusal_law.proofs.Plain.{sent_one, again_plain, last_plain, reminders_plain, vote_plain, watched_plain, next_plain}
-use Rattle.sc_refusal_law.proofs.Standing.{Caused, CausedAnswer, caused_plain, stopped_caused, StandsIn, Fine, resent, with_plain, refused_answer}
+use Rattle.sc_refusal_law.proofs.Standing.{Caused, CausedAnswer, caused_plain, stopped_caused, Fine, resent, with_plain, refused_answer}
 use Rattle.sc_refusal_law.proofs.Stopping.{elected_fine}
 use Rattle.sc_refusal_law.proofs.Pumping.{FineSo, pumped_so, pumped_fine}
 

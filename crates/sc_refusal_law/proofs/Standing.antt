@@ -1,34 +1,21 @@
 -- Where a step of a replica stands: what it has executed so far, and that each refusal that it has sent has its cause.
-use Rattle.std.proofs.Common.{◌≡◌, ℕ, ◌+◌, ◌-◌, ◌^◌, ◌<◌, ◌≤◌, ◌⊎◌, inl, inr, refl, sym, ap, subst, ◌∙◌, arith, ◌&&◌, nat_lt, eqb, Bool, true, false, cond, List, [], ◌∷◌, ◌++◌, Option, Some, None, append_assoc}
-use Rattle.std.proofs.lemmas.Bool.{cond_both}
+use Rattle.std.proofs.Common.{◌≡◌, ℕ, ◌<◌, ◌≤◌, ◌⊎◌, refl, ap, ◌∙◌, Bool, true, false, List, ◌++◌, append_assoc}
 use Rattle.sc_base.specs.Among.{Each}
-use Rattle.sc_base.specs.Limits.{client_actor}
-use Rattle.sc_base.specs.declared.names.Ballot.{Ballot}
 use Rattle.sc_base.specs.declared.names.Draw.{Draw}
-use Rattle.sc_base.specs.declared.ops.Op.{Op}
 use Rattle.sc_cmd.specs.declared.commands.Command.{Command}
-use Rattle.sc_cmd.specs.declared.commands.Command.TheVariants.{Noop, Call, Join, Leave, Split, Begin, Prepared, RecordVote, GiveUp, Finish, Watched, RecordWatch}
-use Rattle.sc_cmd.specs.declared.links.Route.{Route}
-use Rattle.sc_cmd.specs.declared.orders.OrderRefusal.TheVariants as Why
-use Rattle.sc_cmd.specs.declared.orders.ToldResult.TheVariants as Tells
 use Rattle.sc_mail.specs.declared.bodies.AnswerBody.{AnswerBody}
 use Rattle.sc_mail.specs.declared.bodies.AnswerBody.TheVariants as Says
 use Rattle.sc_mail.specs.declared.bodies.Mail.{Mail}
 use Rattle.sc_mail.specs.declared.bodies.MailBody.{MailBody}
-use Rattle.sc_mail.specs.declared.bodies.MailBody.TheVariants.{Request, Answer, Prepare, Promise, Accept, Accepted, Nack, Learn, Ask, Install, TxPrepare, TxVote, TxOutcome, TxElsewhere, TxWatch, TxWatched, Told}
-use Rattle.sc_machine_table.specs.Group.{Group, base_of}
+use Rattle.sc_machine_table.specs.Group.{Group}
 use Rattle.sc_machine_table.specs.Logs.{state_after}
-use Rattle.sc_paxos_words.proofs.ListLemmas.{Each-append, Each-weaker}
-use Rattle.sc_paxos_words.specs.Ballots.{below}
+use Rattle.sc_paxos_words.proofs.ListLemmas.{Each-weaker}
 use Rattle.sc_paxos_words.specs.Logs.{LogState}
-use Rattle.sc_node_table.specs.Replica.{ReplicaState, Place, name_of, next, under_way}
-use Rattle.sc_node_table.specs.Mails.{sent, sent_all, answered, answered_all, dismissed, dismissed_all}
-use Rattle.sc_node_table.specs.Election.{open_nodes, elected, ended, stopped, saw}
-use Rattle.sc_node_table.specs.Install.{install_to, asked_to_promise, welcomed_all}
-use Rattle.sc_draws_law.proofs.Machine.{either_way}
-use Rattle.sc_refusal_law.specs.Causes.{IsRefusedIn, log_after}
-use Rattle.sc_refusal_law.proofs.Keeping.{Kept, KeptAll, Holds, way_kept}
-use Rattle.sc_refusal_law.proofs.Plain.{IsPlain, sent_one, sent_plain, all_plain, told_plain}
+use Rattle.sc_node_table.specs.Replica.{ReplicaState, Place}
+use Rattle.sc_node_table.specs.Mails.{sent, sent_all}
+use Rattle.sc_refusal_law.specs.Causes.{IsRefusedIn, IfAnswer, log_after}
+use Rattle.sc_refusal_law.proofs.Keeping.{Holds}
+use Rattle.sc_refusal_law.proofs.Plain.{IsPlain, answer_weaker, plain_has, sent_plain, all_plain}
 
 module _ (start : ReplicaState) (A : Command → Type 0) (G : Draw → Type 0) where
   -- the cause of an answer, after these entries; one that names another leader needs that the replica has stopped
@@ -40,49 +27,14 @@ module _ (start : ReplicaState) (A : Command → Type 0) (G : Draw → Type 0) w
   CausedAnswer entries refused to seq (Says.Stale last) = IsRefusedIn A start.group entries to seq (Says.Stale last)
 
   abbrev pub CausedBody : List Command → Bool → ℕ → MailBody → Type 0
-  CausedBody entries refused to (Answer group seq answer) = CausedAnswer entries refused to seq answer
-  CausedBody entries refused to (Request group client seq op) = Unit {0}
-  CausedBody entries refused to (Prepare group ballot from_slot) = Unit {0}
-  CausedBody entries refused to (Promise group ballot reports) = Unit {0}
-  CausedBody entries refused to (Accept group ballot slot value) = Unit {0}
-  CausedBody entries refused to (Accepted group ballot slot) = Unit {0}
-  CausedBody entries refused to (Nack group promised) = Unit {0}
-  CausedBody entries refused to (Learn group slot value) = Unit {0}
-  CausedBody entries refused to (Ask group from_slot) = Unit {0}
-  CausedBody entries refused to (Install group slot base sets) = Unit {0}
-  CausedBody entries refused to (TxPrepare tx offer) = Unit {0}
-  CausedBody entries refused to (TxVote tx coord part vote) = Unit {0}
-  CausedBody entries refused to (TxOutcome tx part outcome) = Unit {0}
-  CausedBody entries refused to (TxElsewhere tx coord hint) = Unit {0}
-  CausedBody entries refused to (TxWatch tx watch) = Unit {0}
-  CausedBody entries refused to (TxWatched tx coord part vote) = Unit {0}
-  CausedBody entries refused to (Told order result) = Unit {0}
+  CausedBody entries refused to body = IfAnswer (λ seq answer. CausedAnswer entries refused to seq answer) body
 
   abbrev pub Caused : List Command → Bool → Mail → Type 0
   Caused entries refused mail = CausedBody entries refused mail.to mail.body
 
-  plain_body : (entries : List Command) (refused : Bool) (to : ℕ) (body : MailBody) → IsPlain body → CausedBody entries refused to body
-  plain_body entries refused to (Answer group seq answer) p = absurd p
-  plain_body entries refused to (Request group client seq op) p = tt
-  plain_body entries refused to (Prepare group ballot from_slot) p = tt
-  plain_body entries refused to (Promise group ballot reports) p = tt
-  plain_body entries refused to (Accept group ballot slot value) p = tt
-  plain_body entries refused to (Accepted group ballot slot) p = tt
-  plain_body entries refused to (Nack group promised) p = tt
-  plain_body entries refused to (Learn group slot value) p = tt
-  plain_body entries refused to (Ask group from_slot) p = tt
-  plain_body entries refused to (Install group slot base sets) p = tt
-  plain_body entries refused to (TxPrepare tx offer) p = tt
-  plain_body entries refused to (TxVote tx coord part vote) p = tt
-  plain_body entries refused to (TxOutcome tx part outcome) p = tt
-  plain_body entries refused to (TxElsewhere tx coord hint) p = tt
-  plain_body entries refused to (TxWatch tx watch) p = tt
-  plain_body entries refused to (TxWatched tx coord part vote) p = tt
-  plain_body entries refused to (Told order result) p = tt
-
   -- mail that is no answer has no cause to show
   pub caused_plain : (entries : List Command) (refused : Bool) (mail : Mail) → IsPlain mail.body → Caused entries refused mail
-  caused_plain entries refused mail p = plain_body entries refused mail.to mail.body p
+  caused_plain entries refused mail p = plain_has (λ seq answer. CausedAnswer entries refused mail.to seq answer) mail.body p
 
   -- what was caused so stays so, with more entries, and once the replica has stopped
   more_refused : (entries : List Command) (more : List Command) (to seq : ℕ) (answer : AnswerBody) → IsRefusedIn A start.group entries to seq answer → IsRefusedIn A start.group (entries ++ more) to seq answer
@@ -105,23 +57,8 @@ module _ (start : ReplicaState) (A : Command → Type 0) (G : Draw → Type 0) w
   more_answer entries more refused to seq (Says.Stale last) c = more_refused entries more to seq (Says.Stale last) c
 
   more_body : (entries more : List Command) (refused : Bool) (to : ℕ) (body : MailBody) → CausedBody entries refused to body → CausedBody (entries ++ more) refused to body
-  more_body entries more refused to (Answer group seq answer) c = more_answer entries more refused to seq answer c
-  more_body entries more refused to (Request group client seq op) c = tt
-  more_body entries more refused to (Prepare group ballot from_slot) c = tt
-  more_body entries more refused to (Promise group ballot reports) c = tt
-  more_body entries more refused to (Accept group ballot slot value) c = tt
-  more_body entries more refused to (Accepted group ballot slot) c = tt
-  more_body entries more refused to (Nack group promised) c = tt
-  more_body entries more refused to (Learn group slot value) c = tt
-  more_body entries more refused to (Ask group from_slot) c = tt
-  more_body entries more refused to (Install group slot base sets) c = tt
-  more_body entries more refused to (TxPrepare tx offer) c = tt
-  more_body entries more refused to (TxVote tx coord part vote) c = tt
-  more_body entries more refused to (TxOutcome tx part outcome) c = tt
-  more_body entries more refused to (TxElsewhere tx coord hint) c = tt
-  more_body entries more refused to (TxWatch tx watch) c = tt
-  more_body entries more refused to (TxWatched tx coord part vote) c = tt
-  more_body entries more refused to (Told order result) c = tt
+  more_body entries more refused to body c =
+      answer_weaker (λ seq answer. CausedAnswer entries refused to seq answer) (λ seq answer. CausedAnswer (entries ++ more) refused to seq answer) (λ seq answer k. more_answer entries more refused to seq answer k) body c
 
   pub more_caused : (entries more : List Command) (refused : Bool) (mails : List Mail) → Each (Caused entries refused) mails → Each (Caused (entries ++ more) refused) mails
   more_caused entries more refused mails c = Each-weaker (Caused entries refused) (Caused (entries ++ more) refused) (λ mail m. more_body entries more refused mail.to mail.body m) mails c
@@ -134,23 +71,8 @@ module _ (start : ReplicaState) (A : Command → Type 0) (G : Draw → Type 0) w
   stopped_answer entries refused to seq (Says.Stale last) c = c
 
   stopped_body : (entries : List Command) (refused : Bool) (to : ℕ) (body : MailBody) → CausedBody entries refused to body → CausedBody entries true to body
-  stopped_body entries refused to (Answer group seq answer) c = stopped_answer entries refused to seq answer c
-  stopped_body entries refused to (Request group client seq op) c = tt
-  stopped_body entries refused to (Prepare group ballot from_slot) c = tt
-  stopped_body entries refused to (Promise group ballot reports) c = tt
-  stopped_body entries refused to (Accept group ballot slot value) c = tt
-  stopped_body entries refused to (Accepted group ballot slot) c = tt
-  stopped_body entries refused to (Nack group promised) c = tt
-  stopped_body entries refused to (Learn group slot value) c = tt
-  stopped_body entries refused to (Ask group from_slot) c = tt
-  stopped_body entries refused to (Install group slot base sets) c = tt
-  stopped_body entries refused to (TxPrepare tx offer) c = tt
-  stopped_body entries refused to (TxVote tx coord part vote) c = tt
-  stopped_body entries refused to (TxOutcome tx part outcome) c = tt
-  stopped_body entries refused to (TxElsewhere tx coord hint) c = tt
-  stopped_body entries refused to (TxWatch tx watch) c = tt
-  stopped_body entries refused to (TxWatched tx coord part vote) c = tt
-  stopped_body entries refused to (Told order result) c = tt
+  stopped_body entries refused to body c =
+      answer_weaker (λ seq answer. CausedAnswer entries refused to seq answer) (λ seq answer. CausedAnswer entries true to seq answer) (λ seq answer k. stopped_answer entries refused to seq answer k) body c
 
   pub stopped_caused : (entries : List Command) (refused : Bool) (mails : List Mail) → Each (Caused entries refused) mails → Each (Caused entries true) mails
   stopped_caused entries refused mails c = Each-weaker (Caused entries refused) (Caused entries true) (λ mail m. stopped_body entries refused mail.to mail.body m) mails c

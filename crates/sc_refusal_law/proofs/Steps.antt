@@ -1,8 +1,7 @@
 -- A whole step: each refusal has its cause, and a replica that runs takes a request.
-use Rattle.std.proofs.Common.{◌≡◌, ℕ, ◌+◌, ◌-◌, ◌<◌, ◌≤◌, ◌^◌, ◌⊎◌, ◌&&◌, ◌||◌, not, nat_lt, eqb, Bool, true, false, cond, List, [], ◌∷◌, length, map, Option, Some, None, refl, sym, ◌∙◌, subst, inl, inr, arith, true≢false}
+use Rattle.std.proofs.Common.{◌≡◌, ℕ, ◌+◌, ◌-◌, ◌≤◌, ◌^◌, ◌⊎◌, ◌||◌, not, nat_lt, eqb, Bool, true, false, List, [], ◌∷◌, length, map, Option, Some, None, refl, sym, ◌∙◌, subst, inl, inr, arith, true≢false}
 use Rattle.std.proofs.lemmas.Bool.{cond_both}
 use Rattle.sc_base.specs.Among.{Among, Each}
-use Rattle.sc_base.specs.Drawing.{Drawer}
 use Rattle.sc_base.specs.declared.names.Draw.{Draw}
 use Rattle.sc_base.specs.declared.ops.Op.{Op}
 use Rattle.sc_cmd.specs.declared.commands.Command.{Command}
@@ -16,7 +15,6 @@ use Rattle.sc_mail.specs.declared.bodies.MailBody.{MailBody}
 use Rattle.sc_mail.specs.declared.bodies.MailBody.TheVariants.{Request, Answer, Prepare, Promise, Accept, Accepted, Nack, Learn, Ask, Install, TxPrepare, TxVote, TxOutcome, TxElsewhere, TxWatch, TxWatched, Told}
 use Rattle.sc_member.specs.Roster.{is_member, least_of}
 use Rattle.sc_paxos_words.proofs.ListLemmas.{Each-among, Each-weaker}
-use Rattle.sc_paxos_words.specs.declared.reports.Report.{Report}
 use Rattle.sc_node_table.specs.declared.ReplicaInput.{ReplicaInput}
 use Rattle.sc_node_table.specs.declared.ReplicaInput.TheVariants as Given
 use Rattle.sc_node_table.specs.Election.{open_nodes, elected, ended, stopped}
@@ -26,9 +24,9 @@ use Rattle.sc_node_table.specs.Queues.{call_of}
 use Rattle.sc_node_table.specs.Replica.{ReplicaState, Place, name_of, next, members, last_slot, forgotten}
 use Rattle.sc_node_table.specs.Rows.{refused_at, queued, requested, request_row, looked_up, took_over, install_row, mailed, stepped}
 use Rattle.sc_draws_law.proofs.Machine.{either_way}
-use Rattle.sc_refusal_law.specs.Causes.{IsBroughtBy, IsAsked, HasExecuted, LeadsNoMore, AnswerHasCause, BodyHasCause, MayGiveUp, IsTakenOver, StepHasCauses, StepsHaveCauses, IsNotLeader, RunningReplicasTakeRequests}
+use Rattle.sc_refusal_law.specs.Causes.{IsBroughtBy, IsAsked, LeadsNoMore, AnswerHasCause, BodyHasCause, MayGiveUp, IsTakenOver, StepHasCauses, StepsHaveCauses, IsNotLeader, RunningReplicasTakeRequests}
 use Rattle.sc_refusal_law.proofs.Keeping.{Kept, Holds}
-use Rattle.sc_refusal_law.proofs.Plain.{all_plain}
+use Rattle.sc_refusal_law.proofs.Plain.{answer_weaker, all_plain}
 use Rattle.sc_refusal_law.proofs.Standing.{Caused, CausedAnswer, CausedBody, caused_plain, Fine}
 use Rattle.sc_refusal_law.proofs.Pumping.{FineSo}
 use Rattle.sc_refusal_law.proofs.Stopping.{ended_fine, stopped_fine}
@@ -93,23 +91,8 @@ module _ (start : ReplicaState) (input : ReplicaInput) where
   answer_cause after entries refused to seq (Says.Stale last) out c = c
 
   body_cause : (after : ReplicaState) (entries : List Command) (refused : Bool) (to : ℕ) (body : MailBody) → (refused ≡ true → LeadsNoMore start after) → CausedBody start A G entries refused to body → BodyHasCause A start after entries to body
-  body_cause after entries refused to (Answer group seq answer) out c = answer_cause after entries refused to seq answer out c
-  body_cause after entries refused to (Request group client seq op) out c = tt
-  body_cause after entries refused to (Prepare group ballot from_slot) out c = tt
-  body_cause after entries refused to (Promise group ballot reports) out c = tt
-  body_cause after entries refused to (Accept group ballot slot value) out c = tt
-  body_cause after entries refused to (Accepted group ballot slot) out c = tt
-  body_cause after entries refused to (Nack group promised) out c = tt
-  body_cause after entries refused to (Learn group slot value) out c = tt
-  body_cause after entries refused to (Ask group from_slot) out c = tt
-  body_cause after entries refused to (Install group slot base sets) out c = tt
-  body_cause after entries refused to (TxPrepare tx offer) out c = tt
-  body_cause after entries refused to (TxVote tx coord part vote) out c = tt
-  body_cause after entries refused to (TxOutcome tx part outcome) out c = tt
-  body_cause after entries refused to (TxElsewhere tx coord hint) out c = tt
-  body_cause after entries refused to (TxWatch tx watch) out c = tt
-  body_cause after entries refused to (TxWatched tx coord part vote) out c = tt
-  body_cause after entries refused to (Told order result) out c = tt
+  body_cause after entries refused to body out c =
+      answer_weaker (λ seq answer. CausedAnswer start A G entries refused to seq answer) (λ seq answer. AnswerHasCause A start after entries to seq answer) (λ seq answer k. answer_cause after entries refused to seq answer out k) body c
 
   pub answers_of : (after : ReplicaState) (entries : List Command) (refused : Bool) (mails : List Mail) → (refused ≡ true → LeadsNoMore start after) → Each (Caused start A G entries refused) mails
       → Each (λ (mail : Mail). BodyHasCause A start after entries mail.to mail.body) mails

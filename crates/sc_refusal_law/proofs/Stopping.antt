@@ -1,5 +1,5 @@
 -- A replica that stops answers all calls that it keeps, each with its cause; one that is elected runs in a later round.
-use Rattle.std.proofs.Common.{◌≡◌, ℕ, ◌+◌, ◌-◌, ◌^◌, ◌<◌, ◌≤◌, ◌⊎◌, inl, inr, refl, arith, ◌&&◌, eqb, Bool, true, false, cond, List, [], ◌∷◌, Option, Some, None}
+use Rattle.std.proofs.Common.{◌≡◌, ℕ, ◌+◌, ◌-◌, ◌^◌, ◌≤◌, inl, inr, refl, arith, ◌&&◌, eqb, Bool, true, cond, List, [], ◌∷◌, Option, Some}
 use Rattle.std.proofs.lemmas.Bool.{cond_both}
 use Rattle.sc_base.specs.Limits.{client_actor}
 use Rattle.sc_base.specs.declared.names.Ballot.{Ballot}
@@ -23,9 +23,9 @@ use Rattle.sc_node_table.specs.Install.{install_to, asked_to_promise, welcomed_a
 use Rattle.sc_node_table.specs.Mails.{sent, answered, answered_all, told_order, dismissed, dismissed_all}
 use Rattle.sc_node_table.specs.Replica.{ReplicaState, Place, name_of, next, under_way}
 use Rattle.sc_draws_law.proofs.Machine.{either_way}
-use Rattle.sc_refusal_law.proofs.Keeping.{Kept, KeptAll, Holds, way_kept}
+use Rattle.sc_refusal_law.proofs.Keeping.{Kept, KeptAll, way_kept}
 use Rattle.sc_refusal_law.proofs.Plain.{sent_one, told_plain}
-use Rattle.sc_refusal_law.proofs.Standing.{Caused, CausedAnswer, caused_plain, stopped_caused, Stands, StandsIn, Fine, with_plain, with_all}
+use Rattle.sc_refusal_law.proofs.Standing.{Caused, CausedAnswer, caused_plain, stopped_caused, Stands, Fine, with_plain, with_all}
 
 module _ (start : ReplicaState) (A : Command → Type 0) (G : Draw → Type 0) where
   abbrev F : Place → Type 0

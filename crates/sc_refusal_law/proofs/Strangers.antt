@@ -1,9 +1,10 @@
 -- A node without a replica of a mail's group: what it answers to a client names no leader.
-use Rattle.std.proofs.Common.{◌≡◌, ℕ, ◌+◌, ◌-◌, ◌^◌, ◌||◌, not, nat_lt, eqb, List, [], ◌∷◌, length, Option, Some, None, refl, sym, subst}
+use Rattle.std.proofs.Common.{◌≡◌, ℕ, ◌+◌, ◌-◌, ◌^◌, ◌||◌, not, nat_lt, eqb, List, [], length, Option, Some, None, refl, sym, subst}
 use Rattle.sc_base.specs.Among.{Each}
 use Rattle.sc_base.specs.declared.names.Draw.{Draw}
 use Rattle.sc_cmd.specs.declared.cores.Base.{Base}
 use Rattle.sc_cmd.specs.declared.links.Route.{Route}
+use Rattle.sc_mail.specs.declared.bodies.AnswerBody.TheVariants as Said
 use Rattle.sc_mail.specs.declared.bodies.Mail.{Mail}
 use Rattle.sc_mail.specs.declared.bodies.MailBody.{MailBody}
 use Rattle.sc_mail.specs.declared.bodies.MailBody.TheVariants.{Request, Answer, Prepare, Promise, Accept, Accepted, Nack, Learn, Ask, Install, TxPrepare, TxVote, TxOutcome, TxElsewhere, TxWatch, TxWatched, Told}
@@ -11,39 +12,19 @@ use Rattle.sc_member.specs.Roster.{is_member, least_of}
 use Rattle.sc_node_table.specs.Election.{open_nodes, elected}
 use Rattle.sc_node_table.specs.Execute.{is_among, looked_for, looked}
 use Rattle.sc_node_table.specs.Install.{named}
-use Rattle.sc_node_table.specs.Mails.{sent}
-use Rattle.sc_node_table.specs.Node.{NodeState, replica_of, with_made, unknown, may_come, taken_by, routed, on_mail}
+use Rattle.sc_node_table.specs.Node.{NodeState, with_made, unknown, may_come, taken_by, routed}
 use Rattle.sc_node_table.specs.Replica.{ReplicaState, Place, name_of, next, members, last_slot, installed_replica}
 use Rattle.sc_node_table.specs.Rows.{looked_up, made_by}
 use Rattle.sc_node_table.specs.Slots.{slots_ahead}
 use Rattle.sc_draws_law.proofs.Machine.{either_way}
 use Rattle.sc_refusal_law.specs.Causes.{NamesNoLeader, StrangersNameNoLeader}
-use Rattle.sc_refusal_law.proofs.Plain.{IsPlain, sent_plain, all_plain}
+use Rattle.sc_refusal_law.proofs.Plain.{IsPlain, plain_has, sent_plain, all_plain}
 
 abbrev P : Mail → Type 0
 P mail = NamesNoLeader mail.body
 
-plain_body : (body : MailBody) → IsPlain body → NamesNoLeader body
-plain_body (Answer group seq answer) p = absurd p
-plain_body (Request group client seq op) p = tt
-plain_body (Prepare group ballot from_slot) p = tt
-plain_body (Promise group ballot reports) p = tt
-plain_body (Accept group ballot slot value) p = tt
-plain_body (Accepted group ballot slot) p = tt
-plain_body (Nack group promised) p = tt
-plain_body (Learn group slot value) p = tt
-plain_body (Ask group from_slot) p = tt
-plain_body (Install group slot base sets) p = tt
-plain_body (TxPrepare tx offer) p = tt
-plain_body (TxVote tx coord part vote) p = tt
-plain_body (TxOutcome tx part outcome) p = tt
-plain_body (TxElsewhere tx coord hint) p = tt
-plain_body (TxWatch tx watch) p = tt
-plain_body (TxWatched tx coord part vote) p = tt
-plain_body (Told order result) p = tt
-
 plain : (mail : Mail) → IsPlain mail.body → P mail
-plain mail p = plain_body mail.body p
+plain mail p = plain_has (λ seq answer. answer ≡ Said.NotLeader None) mail.body p
 
 abbrev Sends : Place → Type 0
 Sends place = Each P place.1
@@ -79,7 +60,7 @@ Says step = Each P step.1
 with_made_says : (place : Place) (node : NodeState) → Sends place → Says (with_made place node)
 with_made_says (r, mails) node m = m
 
-unknown_says : (from : ℕ) (body : MailBody) (node : NodeState) → Says (unknown from body node)
+pub unknown_says : (from : ℕ) (body : MailBody) (node : NodeState) → Says (unknown from body node)
 unknown_says from (Install group slot base sets) node =
     either_way Says (not (eqb (length sets) slots_ahead) || nat_lt last_slot slot) (node, []) (with_made (made_by node.me from group slot base sets) node) tt (with_made_says (made_by node.me from group slot base sets) node (made_sends node.me from group slot base sets))
 unknown_says from (Request group client seq op) node = (refl, tt)

@@ -1,5 +1,5 @@
 -- The rows of Paxos: what a replica makes of promises, votes and executed entries that it is sent.
-use Rattle.std.proofs.Common.{◌≡◌, ℕ, ◌+◌, ◌-◌, ◌&&◌, not, nat_le, nat_lt, eqb, Bool, true, false, List, Option, Some, None, refl, true≢false, sym, subst}
+use Rattle.std.proofs.Common.{◌≡◌, ℕ, ◌&&◌, not, nat_le, nat_lt, eqb, Bool, true, false, List, Option, Some, None, refl, true≢false, sym, subst}
 use Rattle.sc_base.specs.Among.{Each}
 use Rattle.sc_base.specs.Same.{same_ballot}
 use Rattle.sc_base.specs.declared.names.Ballot.{Ballot}
@@ -31,7 +31,7 @@ use Rattle.sc_node_table.specs.Election.{saw}
 use Rattle.sc_node_table.specs.Execute.{executed, has_room}
 use Rattle.sc_node_table.specs.Install.{install_to}
 use Rattle.sc_node_table.specs.Pump.{pumped}
-use Rattle.sc_node_table.specs.Rows.{learn_row, taught, most_taught, ask_answered, ask_row}
+use Rattle.sc_node_table.specs.Rows.{learn_row, most_taught, ask_answered, ask_row}
 use Rattle.sc_node_table.specs.Voting.{hinted, promise_to, promised, prepare_row, accepted_to, took, accept_row, leads, promise_row, readied, vote_tallied, voted, accepted_row, nack_row}
 use Rattle.sc_draws_law.specs.Names.{Opt}
 use Rattle.sc_draws_law.proofs.Lists.{opt_find, slot_with, flight_without, voters_with}

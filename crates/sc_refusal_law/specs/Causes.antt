@@ -109,6 +109,26 @@ pub record IsRefusedIn (asked : Command → Type 0) (group : Group) (entries : L
 abbrev pub LeadsNoMore : ReplicaState → ReplicaState → Type 0
 LeadsNoMore r after = (after.running ≡ false) ⊎ (r.top.round < after.leader.ballot.round)
 
+-- a fact of the answer that a mail brings, if it brings one
+abbrev pub IfAnswer : (ℕ → AnswerBody → Type 0) → MailBody → Type 0
+IfAnswer Fact (Answer group seq answer) = Fact seq answer
+IfAnswer Fact (Request group client seq op) = Unit {0}
+IfAnswer Fact (Prepare group ballot from_slot) = Unit {0}
+IfAnswer Fact (Promise group ballot reports) = Unit {0}
+IfAnswer Fact (Accept group ballot slot value) = Unit {0}
+IfAnswer Fact (Accepted group ballot slot) = Unit {0}
+IfAnswer Fact (Nack group promised) = Unit {0}
+IfAnswer Fact (Learn group slot value) = Unit {0}
+IfAnswer Fact (Ask group from_slot) = Unit {0}
+IfAnswer Fact (Install group slot base sets) = Unit {0}
+IfAnswer Fact (TxPrepare tx offer) = Unit {0}
+IfAnswer Fact (TxVote tx coord part vote) = Unit {0}
+IfAnswer Fact (TxOutcome tx part outcome) = Unit {0}
+IfAnswer Fact (TxElsewhere tx coord hint) = Unit {0}
+IfAnswer Fact (TxWatch tx watch) = Unit {0}
+IfAnswer Fact (TxWatched tx coord part vote) = Unit {0}
+IfAnswer Fact (Told order result) = Unit {0}
+
 -- each answer but a reply has its cause
 abbrev pub AnswerHasCause : (Command → Type 0) → ReplicaState → ReplicaState → List Command → ℕ → ℕ → AnswerBody → Type 0
 AnswerHasCause asked r after entries to seq (Value reply) = Unit {0}
@@ -119,23 +139,7 @@ AnswerHasCause asked r after entries to seq (Stale last) = IsRefusedIn asked r.g
 
 -- .. of the answers among all mail
 abbrev pub BodyHasCause : (Command → Type 0) → ReplicaState → ReplicaState → List Command → ℕ → MailBody → Type 0
-BodyHasCause asked r after entries to (Answer group seq answer) = AnswerHasCause asked r after entries to seq answer
-BodyHasCause asked r after entries to (Request group client seq op) = Unit {0}
-BodyHasCause asked r after entries to (Prepare group ballot from_slot) = Unit {0}
-BodyHasCause asked r after entries to (Promise group ballot reports) = Unit {0}
-BodyHasCause asked r after entries to (Accept group ballot slot value) = Unit {0}
-BodyHasCause asked r after entries to (Accepted group ballot slot) = Unit {0}
-BodyHasCause asked r after entries to (Nack group promised) = Unit {0}
-BodyHasCause asked r after entries to (Learn group slot value) = Unit {0}
-BodyHasCause asked r after entries to (Ask group from_slot) = Unit {0}
-BodyHasCause asked r after entries to (Install group slot base sets) = Unit {0}
-BodyHasCause asked r after entries to (TxPrepare tx offer) = Unit {0}
-BodyHasCause asked r after entries to (TxVote tx coord part vote) = Unit {0}
-BodyHasCause asked r after entries to (TxOutcome tx part outcome) = Unit {0}
-BodyHasCause asked r after entries to (TxElsewhere tx coord hint) = Unit {0}
-BodyHasCause asked r after entries to (TxWatch tx watch) = Unit {0}
-BodyHasCause asked r after entries to (TxWatched tx coord part vote) = Unit {0}
-BodyHasCause asked r after entries to (Told order result) = Unit {0}
+BodyHasCause asked r after entries to body = IfAnswer (λ seq answer. AnswerHasCause asked r after entries to seq answer) body
 
 -- a coordinator gives up only where it was to do so already, or at a tick: settled, and locked for at least so many ticks of its leadership
 abbrev pub MayGiveUp : ReplicaState → ReplicaInput → Draw → Type 0
@@ -173,23 +177,7 @@ RunningReplicasTakeRequests = (on : Bool) (drawer : Drawer) (r : ReplicaState) (
 
 -- an answer names no leader
 abbrev pub NamesNoLeader : MailBody → Type 0
-NamesNoLeader (Answer group seq answer) = answer ≡ NotLeader None
-NamesNoLeader (Request group client seq op) = Unit {0}
-NamesNoLeader (Prepare group ballot from_slot) = Unit {0}
-NamesNoLeader (Promise group ballot reports) = Unit {0}
-NamesNoLeader (Accept group ballot slot value) = Unit {0}
-NamesNoLeader (Accepted group ballot slot) = Unit {0}
-NamesNoLeader (Nack group promised) = Unit {0}
-NamesNoLeader (Learn group slot value) = Unit {0}
-NamesNoLeader (Ask group from_slot) = Unit {0}
-NamesNoLeader (Install group slot base sets) = Unit {0}
-NamesNoLeader (TxPrepare tx offer) = Unit {0}
-NamesNoLeader (TxVote tx coord part vote) = Unit {0}
-NamesNoLeader (TxOutcome tx part outcome) = Unit {0}
-NamesNoLeader (TxElsewhere tx coord hint) = Unit {0}
-NamesNoLeader (TxWatch tx watch) = Unit {0}
-NamesNoLeader (TxWatched tx coord part vote) = Unit {0}
-NamesNoLeader (Told order result) = Unit {0}
+NamesNoLeader body = IfAnswer (λ seq answer. answer ≡ NotLeader None) body
 
 -- a node that has no replica of a mail's group answers, if it answers a client, that it is not the leader, and names none
 abbrev pub StrangersNameNoLeader : Type 0
