@@ -27,7 +27,7 @@ module _ {A M O : Type 0} (s : System A M O) (rows : List (Row M O)) where
   tick_of (Some who) = line_row-deed s rows (TickLine who)
 
   -- a step of a storm makes the row of its deed
-  pub storm_row-deed : (kind v : ℕ) → storm_row s rows kind v ≡ option_and_then (row_made s rows) (storm_deed s.receiver (numbers_of s.births) rows kind v)
+  storm_row-deed : (kind v : ℕ) → storm_row s rows kind v ≡ option_and_then (row_made s rows) (storm_deed s.receiver (numbers_of s.births) rows kind v)
   storm_row-deed zero v = of_drop s rows (picked s rows v)
   storm_row-deed (suc zero) v = line_row-deed s rows (AgainLine (1 + v % length (mails rows)))
   storm_row-deed (suc (suc zero)) v = tick_of (slice_get (numbers_of s.births) (v % length (numbers_of s.births)))

@@ -57,11 +57,6 @@ changed-next-at f xs ys i x y lt so_far item is =
     let one : suc i ≡ i + 1 = omega arith in
     ap (λ zs. set zs i y) so_far ∙ ap (set (changed f i xs) i) (is ∙ ap f here) ∙ changed-next f xs i x lt ∙ ap (λ n. changed f n xs) one
 
-pub changed-stays-at : {X : Type 0} (f : X → X) (xs ys : List X) (i : ℕ) (d : X) → i < length xs → ys ≡ changed f i xs → f (get_or xs i d) ≡ get_or xs i d → ys ≡ changed f (i + 1) xs
-changed-stays-at f xs ys i d lt so_far same =
-    let one : suc i ≡ i + 1 = omega arith in
-    so_far ∙ changed-stays f xs i d lt same ∙ ap (λ n. changed f n xs) one
-
 changed-past : {X : Type 0} (f : X → X) (xs : List X) (i : ℕ) → length xs ≤ i → changed f i xs ≡ map f xs
 changed-past f [] zero le = refl
 changed-past f [] (suc i) le = refl

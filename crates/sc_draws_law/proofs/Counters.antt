@@ -1,7 +1,7 @@
 -- The names that a node has drawn, by its counter.
 use Rattle.std.specs.List.{AllPairs}
-use Rattle.std.proofs.Common.{◌≡◌, ℕ, ◌+◌, ◌≤◌, ◌&&◌, nat_le, Bool, List, [], ◌∷◌, ◌++◌, false, eqb, length, Option, Some, None, ◌⊎◌, inl, inr, refl, sym, ◌∙◌, ap, subst, append_assoc, append-nil, arith}
-use Rattle.std.specs.Prelude.{is_some, is_none, nat_lt, ◌||◌, not}
+use Rattle.std.proofs.Common.{◌≡◌, ℕ, ◌≤◌, nat_le, Bool, List, [], ◌∷◌, ◌++◌, false, eqb, length, Option, Some, None, inl, inr, refl, sym, ◌∙◌, ap, subst, append_assoc, append-nil, arith}
+use Rattle.std.specs.Prelude.{is_some, nat_lt, ◌||◌, not}
 use Rattle.std.specs.Option.{option_map}
 use Rattle.std.proofs.lemmas.Bool.{cases_Bool, cond-true, cond-false, cond_both, eqb-true, eqb-false, eq-eqb, leb-true, le-leb, and_from, and_parts, cases_lt}
 use Rattle.sc_base.specs.Among.{Among}

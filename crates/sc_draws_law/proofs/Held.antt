@@ -16,7 +16,7 @@ use Rattle.sc_mail.specs.declared.bodies.AnswerBody.{AnswerBody}
 use Rattle.sc_mail.specs.declared.bodies.AnswerBody.TheVariants as Says
 use Rattle.sc_mail.specs.declared.bodies.Mail.{Mail}
 use Rattle.sc_mail.specs.declared.bodies.MailBody.TheVariants.{Prepare, Accept, Install}
-use Rattle.sc_machine_table.specs.Group.{Group, base_of}
+use Rattle.sc_machine_table.specs.Group.{base_of}
 use Rattle.sc_paxos_words.proofs.ListLemmas.{Each-append, Each-filter}
 use Rattle.sc_paxos_words.specs.declared.answers.Must.{Must}
 use Rattle.sc_paxos_words.specs.declared.answers.Must.TheVariants.{Value, Gap, Free as Open}
@@ -114,9 +114,6 @@ module _ (K : Draw → Type 0) where
       either_way Fine (r.running && below r.leader.ballot ballot) (stopped (Some ballot.node) (seen, mails)) (seen, mails) (stopped_names (Some ballot.node) (seen, mails) (k, f.1)) (k, f.1)
 
   -- ---- what is installed
-
-  pub base_names : (group : Group) → CoreNames K group.core → CoreNames K (base_of group).core
-  base_names group k = k
 
   pub install_names : (node : ℕ) (place : Place) → Fine place → Fine (install_to node place)
   unfolding install_to

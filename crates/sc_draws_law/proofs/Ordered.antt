@@ -1,5 +1,5 @@
 -- What an order and a policy queue is allowed in the log of its group.
-use Rattle.std.proofs.Common.{◌≡◌, ℕ, ◌≤◌, ◌&&◌, Bool, nat_le, List, [], ◌∷◌, ◌++◌, true, Option, Some, None, inl, inr, refl, sym, ◌∙◌, ap, subst}
+use Rattle.std.proofs.Common.{◌≡◌, ℕ, ◌≤◌, ◌&&◌, Bool, nat_le, List, [], ◌∷◌, ◌++◌, true, Option, Some, None, inl, refl, sym, ◌∙◌, ap, subst}
 use Rattle.std.specs.Prelude.{is_none}
 use Rattle.std.proofs.lemmas.Bool.{cond-true, and_from, le-leb}
 use Rattle.sc_base.specs.Among.{Among}
@@ -18,7 +18,7 @@ use Rattle.sc_node_table.specs.Node.{NodeState, group_of_order, names_after_tick
 use Rattle.sc_node_table.specs.Ordering.{ordered_command, takes_name, untaken, taken_or_told, ordered_row}
 use Rattle.sc_node_table.specs.Policy.{names_after_tick}
 use Rattle.sc_node_table.specs.Pump.{pumped}
-use Rattle.sc_node_table.specs.Replica.{ReplicaState, name_of}
+use Rattle.sc_node_table.specs.Replica.{ReplicaState}
 use Rattle.sc_paxos_law.proofs.Among.{Among-left, Among-right}
 use Rattle.sc_players.specs.Players.{Ahead, Player, player_table, node_seat}
 use Rattle.sc_players.specs.declared.roles.Role.TheVariants.{Node}

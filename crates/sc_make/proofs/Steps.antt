@@ -9,7 +9,7 @@ use Rattle.sc_scenario.specs.declared.scenarios.Asks.{Asks}
 use Rattle.sc_scenario.proofs.Made.{ops_next, clients_next}
 
 -- few steps do not come round
-pub step_small : (step : ℕ) → step + 1 < 2 ^ 67 → (step + 1) % 2 ^ 67 ≡ step + 1
+step_small : (step : ℕ) → step + 1 < 2 ^ 67 → (step + 1) % 2 ^ 67 ≡ step + 1
 step_small step few =
     let zero_times : 0 * 2 ^ 67 + (step + 1) ≡ step + 1 = omega arith in
     ap (λ n. n % 2 ^ 67) (sym zero_times) ∙ mod_low 0 67 (step + 1) few

@@ -160,10 +160,6 @@ covers_by cut cuts others followed all =
       apart = no_group_twice ring others;
     }
 
--- cuts that cover are some
-pub covers_some : Covers [] → ⊥
-covers_some covers = (covers.some 0 (omega arith)).1
-
 covers_others : (ring : List Cut) → ((cut : Cut) → Among cut ring → IsOn cut)
     → ((p : ℕ) → p < 2 ^ 32 → (cut other : Cut) → Among cut ring → Among other ring → holds cut.arc p ≡ true → holds other.arc p ≡ true → cut ≡ other)
     → AllPairs (λ (cut other : Cut). cut.group ≢ other.group) ring → are_others ring ≡ true

@@ -253,7 +253,7 @@ module _ (start : ReplicaState) (A : Command → Type 0) (G : Draw → Type 0) w
       (either_way F (eqb (least_of (members r)) r.me) (elected (record r { hint = Some r.me }, mails)) (record r { hint = Some (least_of (members r)) }, mails)
       (elected_fine start A G (record r { hint = Some r.me }) mails (hinted_fine r (Some r.me) mails f)) (hinted_fine r (Some (least_of (members r))) mails f))
 
-  pub looked_fine : (place : Place) → F place → F (looked place)
+  looked_fine : (place : Place) → F place → F (looked place)
   unfolding looked
   looked_fine (r, mails) f = either_way F r.running (r, mails) (looked_for r.group.core.gone (r, mails)) f (looked_by r.group.core.gone r mails f)
 

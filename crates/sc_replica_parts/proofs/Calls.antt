@@ -1,5 +1,5 @@
 -- The queues' heads.
-use Rattle.std.proofs.Common.{◌≡◌, List, [], ◌∷◌, ◌++◌, drop, length, suc, Option, Some, None, sym, ◌∙◌, ap, refl, ℕ, arith}
+use Rattle.std.proofs.Common.{◌≡◌, List, [], ◌∷◌, ◌++◌, drop, length, suc, Option, Some, None, sym, ◌∙◌, ap, refl, arith}
 use Rattle.std.specs.Option.{option_to_list}
 use Rattle.sc_node_table.specs.Slots.{rest_of}
 use Rattle.sc_replica_parts.specs.Heads.{head_of}

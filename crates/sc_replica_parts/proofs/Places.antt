@@ -1,14 +1,7 @@
 -- A write or a removal at a place, against a recursion on the list that stops there.
-use Rattle.std.proofs.Common.{◌≡◌, ℕ, ◌<◌, List, ◌∷◌, ◌++◌, length, get_or, take, drop, set, sym, ap, ◌∙◌, suc}
+use Rattle.std.proofs.Common.{◌≡◌, ℕ, ◌<◌, List, ◌∷◌, ◌++◌, length, get_or, take, drop, ap, ◌∙◌, suc}
 use Rattle.std.specs.List.{remove}
-use Rattle.std.proofs.lemmas.List.{set_split}
 use Rattle.std.proofs.Math.Seq.{drop-cons}
-
--- a write at the place where the recursion stops
-pub set_here : {X : Type 0} (f : List X → List X) (xs : List X) (i : ℕ) (d y : X) → i < length xs
-    → ((ys : List X) → f (get_or xs i d ∷ ys) ≡ y ∷ ys) → take i xs ++ f (drop i xs) ≡ set xs i y
-set_here f xs i d y h e =
-    ap (λ ys. take i xs ++ f ys) (drop-cons xs i d h) ∙ ap (λ ys. take i xs ++ ys) (e (drop (suc i) xs)) ∙ sym (set_split xs i y h)
 
 -- a removal there
 pub remove_here : {X : Type 0} (f : List X → List X) (xs : List X) (i : ℕ) (d : X) → i < length xs

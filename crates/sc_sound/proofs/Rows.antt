@@ -6,7 +6,7 @@ use Rattle.sc_cmd.specs.declared.orders.OrderLine.{OrderLine}
 use Rattle.sc_mail.specs.declared.bodies.Mail.{Mail}
 use Rattle.sc_actor.specs.declared.rows.Row.{Row}
 use Rattle.sc_players.specs.Players.{Ahead}
-use Rattle.sc_sound.specs.Histories.{newly_decided, history, history_from}
+use Rattle.sc_sound.specs.Histories.{newly_decided, history_from}
 
 history_from-push : (ahead : Ahead) (groups : List Base) (before rows : List (Row Mail OrderLine)) (row : Row Mail OrderLine)
     → history_from ahead groups before (rows ++ row ∷ []) ≡ history_from ahead groups before rows ++ flat_map (newly_decided ahead (before ++ rows) ((before ++ rows) ++ row ∷ [])) groups
@@ -18,11 +18,6 @@ history_from-push ahead groups before (r ∷ rows) row =
     ap (λ es. there ++ es) (history_from-push ahead groups (before ++ r ∷ []) rows row)
     ∙ sym (append_assoc there (history_from ahead groups (before ++ r ∷ []) rows) (flat_map (newly_decided ahead ((before ++ r ∷ []) ++ rows) (((before ++ r ∷ []) ++ rows) ++ row ∷ [])) groups))
     ∙ ap (λ b. (there ++ history_from ahead groups (before ++ r ∷ []) rows) ++ flat_map (newly_decided ahead b (b ++ row ∷ [])) groups) (append_assoc before (r ∷ []) rows)
-
--- the history of a journal with one more row
-pub history-push : (ahead : Ahead) (groups : List Base) (rows : List (Row Mail OrderLine)) (row : Row Mail OrderLine)
-    → history ahead groups (rows ++ row ∷ []) ≡ history ahead groups rows ++ flat_map (newly_decided ahead rows (rows ++ row ∷ [])) groups
-history-push ahead groups rows row = history_from-push ahead groups [] rows row
 
 -- where no element of a list with one more passes a test, none of the list does, nor the new one
 pub any_push : {X : Type 0} (p : X → Bool) (xs : List X) (y : X) → list_any p (xs ++ y ∷ []) ≡ false → (list_any p xs ≡ false) × (p y ≡ false)

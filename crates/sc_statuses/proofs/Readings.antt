@@ -1,5 +1,5 @@
 -- What was read of a source is the whole of it, or too long either way.
-use Rattle.std.proofs.Common.{◌≡◌, ℕ, ◌+◌, List, take, Option, None, Some, sym, ◌∙◌, ap, subst, inl}
+use Rattle.std.proofs.Common.{◌≡◌, ℕ, ◌+◌, List, take, Option, None, Some, sym, ◌∙◌, ap, inl}
 use Rattle.std.specs.Prelude.{IfSome, IfOk, Result, Ok, Err}
 use Rattle.std.specs.Result.{result_ok}
 use Rattle.sc_lines.specs.Lines.{most_bytes}
@@ -10,9 +10,7 @@ use Rattle.sc_scenario.specs.declared.reading.ScenarioFault.TheVariants.{Bad}
 use Rattle.sc_scenario.specs.declared.scenarios.Scenario.{Scenario}
 use Rattle.sc_statuses.specs.declared.wants.Wanted.{Wanted}
 use Rattle.sc_statuses.specs.declared.wants.Wanted.TheVariants.{Usage, ReadFault, BadScenario, Run}
-use Rattle.sc_words.specs.Asked.{asked_by}
-use Rattle.sc_words.specs.declared.asked.Asked.{Asked}
-use Rattle.sc_statuses.specs.Wants.{ReadsAs, IsOf, IsRead, IsAskedFor, IsWanted}
+use Rattle.sc_statuses.specs.Wants.{ReadsAs, IsOf, IsRead}
 
 -- what was read of a source comes out as the whole
 read_whole : FirstBytesDecide → (left : Option (List ℕ)) (bytes : List ℕ) (verdict : Result Scenario ScenarioFault) → IfSome left (λ input. bytes ≡ take (most_bytes + 1) input) → verdict_of bytes ≡ verdict → ReadsAs left verdict
@@ -30,7 +28,3 @@ of_bytes decide left before now bytes Usage taken h = h
 of_bytes decide left before now bytes ReadFault taken h = absurd h
 of_bytes decide left before now bytes (BadScenario line why) taken h = read_whole decide left bytes (Err (Bad line why)) taken h
 of_bytes decide left before now bytes (Run scenario) taken h = (inl (record { text = bytes; read = ap result_ok h }), read_whole decide left bytes (Ok scenario) taken h)
-
--- what is asked for, where this is what the words ask
-pub of_words : (words : List (List ℕ)) (asked : Option Asked) (left : Option (List ℕ)) (before now : ℕ) (wanted : Wanted) → asked ≡ asked_by words → IsAskedFor asked left before now wanted → IsWanted words left before now wanted
-of_words words asked left before now wanted is h = subst (λ asked. IsAskedFor asked left before now wanted) is h
