@@ -48,8 +48,8 @@ fn add_client(rt: &impl Abort, text: &mut Vec<u8>, client: &[u8], key: &[u8]) {
     }
 }
 
-// The scenario, with a line of deliveries by so many workers.
-fn scenario(rt: &impl Abort, alloc: Global, workers: &[u8]) -> Vec<u8> {
+/// The scenario, with these lines behind those by which the clients start.
+pub fn scenario(rt: &impl Abort, alloc: Global, lines: &[u8]) -> Vec<u8> {
     let mut text = Vec::new(alloc);
     add(rt, &mut text, HEAD);
     for (i, client) in CLIENTS.iter().enumerate() {
@@ -60,9 +60,7 @@ fn scenario(rt: &impl Abort, alloc: Global, workers: &[u8]) -> Vec<u8> {
         add(rt, &mut text, client);
         add(rt, &mut text, b"\n");
     }
-    add(rt, &mut text, b"free 200000 ");
-    add(rt, &mut text, workers);
-    add(rt, &mut text, b"\n");
+    add(rt, &mut text, lines);
     text
 }
 
@@ -82,7 +80,7 @@ fn report(rt: &impl Abort, alloc: Global) -> Vec<u8> {
 
 #[test]
 fn four_groups_serve_sixteen_clients(rt: HostRuntime) {
-    let input = scenario(&rt, rt.alloc(), b"4");
+    let input = scenario(&rt, rt.alloc(), b"free 200000 4\n");
     let wanted = report(&rt, rt.alloc());
     let is_so = runs_so(&rt, rt.alloc(), &input, &wanted);
     forget(input);

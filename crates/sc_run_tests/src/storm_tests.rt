@@ -1,6 +1,22 @@
 //! Storms through a whole run: worked rows with their reports, by another program.
 
-use crate::run_tests::{TableRow, check_row};
+use crate::gates::Open;
+use crate::ordinary_tests::scenario;
+use crate::replay_tests::{replayed, scenario_of};
+use crate::run_tests::{TableRow, check_row, ended};
+use crate::thread_tests::add;
+use sc_actor::Journal;
+use sc_cmd::OrderLine;
+use sc_edges::MemSink;
+use sc_mail::Mail;
+use sc_map_checks::{covers, legal};
+use sc_replay::{World, decided_ring, history};
+use sc_run::Done;
+use std::alloc::Global;
+use std::mem::forget;
+use std::process::Abort;
+use std::sync::Wait;
+use std::thread::Threads;
 
 // Its steps tick the one node, which has crashed.
 const STORM_ON_CRASHED: &[u8] = b"scatter 1\nnodes 1\ngroup 0 1\ncrash 1\nstorm 7 100\n";
@@ -39,5 +55,184 @@ const STORMS: &[TableRow] = &[
 fn storms_run_by_their_numbers(rt: HostRuntime) {
     for row in STORMS {
         check_row(&rt, rt.alloc(), *row);
+    }
+}
+
+// Two groups merge in a storm, and then the node that led the first crashes.
+const CRASH: (&[u8], &[u8]) = (
+    b"scatter 1\nnodes 4\ngroup 0 1 2 3\ngroup 2147483648 4\norder 1 merge 0.1\n",
+    b"crash 1\ntick n2\nsettle 100\ntick n4\nsettle 100\n",
+);
+
+// The storms, and how the reports end.
+const CRASHES: &[(&[u8], &[u8])] = &[
+    (
+        b"storm 0 60\n",
+        b"order 1 open\nring 0 group 0.1 members 1 2 3\nring 2147483648 group 0.2 members 4\n\
+        rows 40\nmail 28\ndelivered 27\nskipped 0\nquiet yes\n",
+    ),
+    (
+        b"storm 1 60\n",
+        b"order 1 committed\nring 0 group 0.1 members 1 2 3 4\nrows 79\nmail 71\n\
+        delivered 66\nskipped 0\nquiet yes\n",
+    ),
+    (
+        b"storm 2 60\n",
+        b"order 1 committed\nring 0 group 0.1 members 1 2 3 4\nrows 79\nmail 68\n\
+        delivered 60\nskipped 0\nquiet yes\n",
+    ),
+    (
+        b"storm 3 60\n",
+        b"order 1 committed\nring 0 group 0.1 members 1 2 3 4\nrows 87\nmail 76\n\
+        delivered 70\nskipped 0\nquiet yes\n",
+    ),
+    (
+        b"storm 4 60\n",
+        b"order 1 committed\nring 0 group 0.1 members 1 2 3 4\nrows 60\nmail 55\n\
+        delivered 49\nskipped 0\nquiet yes\n",
+    ),
+    (
+        b"storm 5 60\n",
+        b"order 1 committed\nring 0 group 0.1 members 1 2 3 4\nrows 56\nmail 53\n\
+        delivered 46\nskipped 0\nquiet yes\n",
+    ),
+    (
+        b"storm 6 60\n",
+        b"order 1 committed\nring 0 group 0.1 members 1 2 3 4\nrows 87\nmail 81\n\
+        delivered 71\nskipped 0\nquiet yes\n",
+    ),
+    (
+        b"storm 7 60\n",
+        b"order 1 committed\nring 0 group 0.1 members 1 2 3 4\nrows 48\nmail 44\n\
+        delivered 38\nskipped 0\nquiet yes\n",
+    ),
+    (
+        b"storm 8 60\n",
+        b"order 1 open\nring 0 group 0.1 members 1 2 3\nring 2147483648 group 0.2 members 4\n\
+        rows 44\nmail 28\ndelivered 27\nskipped 0\nquiet yes\n",
+    ),
+    (
+        b"storm 9 60\n",
+        b"order 1 committed\nring 0 group 0.1 members 1 2 3 4\nrows 77\nmail 69\n\
+        delivered 63\nskipped 0\nquiet yes\n",
+    ),
+];
+
+// The storms, and how the reports end.
+const ORDINARY: &[(&[u8], &[u8])] = &[
+    (
+        b"storm 0 400\nsettle 100000\n",
+        b"rows 980\nmail 875\ndelivered 881\nskipped 0\nquiet yes\n",
+    ),
+    (
+        b"storm 1 400\nsettle 100000\n",
+        b"rows 783\nmail 696\ndelivered 685\nskipped 0\nquiet yes\n",
+    ),
+    (
+        b"storm 3 400\nsettle 100000\n",
+        b"rows 896\nmail 799\ndelivered 807\nskipped 0\nquiet yes\n",
+    ),
+    (
+        b"storm 4 400\nsettle 100000\n",
+        b"rows 905\nmail 811\ndelivered 810\nskipped 0\nquiet yes\n",
+    ),
+    (
+        b"storm 5 400\nsettle 100000\n",
+        b"rows 899\nmail 812\ndelivered 806\nskipped 0\nquiet yes\n",
+    ),
+    (
+        b"storm 6 400\nsettle 100000\n",
+        b"rows 1108\nmail 1006\ndelivered 1014\nskipped 0\nquiet yes\n",
+    ),
+    (
+        b"storm 7 400\nsettle 100000\n",
+        b"rows 888\nmail 797\ndelivered 796\nskipped 0\nquiet yes\n",
+    ),
+    (
+        b"storm 8 400\nsettle 100000\n",
+        b"rows 864\nmail 768\ndelivered 774\nskipped 0\nquiet yes\n",
+    ),
+    (
+        b"storm 9 400\nsettle 100000\n",
+        b"rows 962\nmail 878\ndelivered 871\nskipped 0\nquiet yes\n",
+    ),
+];
+
+// Whether the ring that rows tell covers.
+fn has_ring(rt: &impl Abort, alloc: Global, world: &World<'_>) -> bool {
+    let ring = decided_ring(alloc, world).expect(rt, "memory");
+    covers(ring.as_slice())
+}
+
+// Whether the history that rows tell is legal.
+fn has_history(rt: &impl Abort, alloc: Global, world: &World<'_>) -> bool {
+    let entries = history(alloc, world).expect(rt, "memory");
+    let is_legal = legal(alloc, entries.as_slice()).expect(rt, "memory");
+    forget(entries);
+    is_legal
+}
+
+// Whether a replay takes the rows, and their ring and history are well.
+fn is_sound(
+    rt: &impl Abort,
+    alloc: Global,
+    input: &[u8],
+    journal: &Journal<Mail, OrderLine>,
+) -> bool {
+    let scenario = scenario_of(rt, alloc, input);
+    let world = replayed(rt, alloc, &scenario, journal);
+    let is_sound = has_ring(rt, alloc, &world) && has_history(rt, alloc, &world);
+    forget(world);
+    forget(scenario);
+    is_sound
+}
+
+// Whether a run ended settled, and its journal is sound.
+fn is_ended(rt: &impl Abort, alloc: Global, input: &[u8], done: &Done) -> bool {
+    match &done.journal {
+        Some(journal) => done.status == 0 && is_sound(rt, alloc, input, journal),
+        None => false,
+    }
+}
+
+// Whether a run of an input ends settled and is sound, and its report ends so.
+fn ends_so<R: Abort + Threads + Wait + Sync>(
+    rt: &R,
+    alloc: Global,
+    input: &[u8],
+    end: &[u8],
+) -> bool {
+    let mut sink = MemSink::new(alloc, 2000, &[]).expect(rt, "memory");
+    let done = ended(rt, alloc, "run", (input, 0), &mut sink, &Open);
+    let is_so = is_ended(rt, alloc, input, &done) && sink.held().ends_with(end);
+    forget(done);
+    forget(sink);
+    is_so
+}
+
+// The merge, with this line of a storm.
+fn crash_in(rt: &impl Abort, alloc: Global, storm: &[u8]) -> Vec<u8> {
+    let mut text = Vec::new(alloc);
+    add(rt, &mut text, CRASH.0);
+    add(rt, &mut text, storm);
+    add(rt, &mut text, CRASH.1);
+    text
+}
+
+#[test]
+fn a_merge_in_a_storm_is_the_same_each_time(rt: HostRuntime) {
+    for (storm, end) in CRASHES {
+        let input = crash_in(&rt, rt.alloc(), storm);
+        assert!(rt; ends_so(&rt, rt.alloc(), &input, end));
+        assert!(rt; ends_so(&rt, rt.alloc(), &input, end));
+    }
+}
+
+#[test]
+fn ordinary_use_in_a_storm_is_the_same_each_time(rt: HostRuntime) {
+    for (storm, end) in ORDINARY {
+        let input = scenario(&rt, rt.alloc(), storm);
+        assert!(rt; ends_so(&rt, rt.alloc(), &input, end));
+        assert!(rt; ends_so(&rt, rt.alloc(), &input, end));
     }
 }
