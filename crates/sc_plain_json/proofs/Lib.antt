@@ -1,0 +1,4 @@
+pub mod Example
+pub mod ReadBack
+pub mod OneLine
+pub mod Lengths

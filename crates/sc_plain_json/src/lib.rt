@@ -1,0 +1,29 @@
+//! The JSON that journals hold: plain data, whose one text is ASCII on one line and is read back as
+//! that data. Definitions and laws, no logic.
+#![tactic(auto)]
+
+ghost use Rattle.std.specs.Prelude.{◌≡◌, ◌≤◌, ℕ, List, length, Bool, true, false, Some, IsUtf8};
+ghost use Rattle.serde_json.specs.Data.{Data, array, Items, item, Members, member};
+ghost use Rattle.serde_json.specs.Events.{items_len};
+ghost use Rattle.serde_json.specs.Read.{read};
+ghost use Rattle.serde_json.specs.Written.{has_float, compact_text, items_text, members_text};
+ghost use Rattle.sc_plain_json.specs.Plain.{IsPlain, is_one_line};
+
+/// The text that is written for plain data is read back as that data, to the depth that a reader
+/// takes: a journal's line says one row, and the row has one line. `whole` is what the writer asks
+/// of its value, `utf8` what makes the bytes a text, and `one_line` that a line ends where its row
+/// does. The last three bound a list's count and the texts of parts by the text that holds them,
+/// so that what fits as a whole fits in each part.
+pub fn plain_values_read_back()
+    ensures whole { (d : Data) → IsPlain 127 d → has_float d ≡ false }
+    ensures back { (d : Data) → IsPlain 127 d → read (compact_text d) ≡ Some d }
+    ensures utf8 { (d : Data) → IsPlain 127 d → IsUtf8 (compact_text d) }
+    ensures one_line { (d : Data) → IsPlain 127 d → is_one_line (compact_text d) ≡ true }
+    ensures items { (ds : Items) → items_len ds ≤ length (compact_text (array ds)) }
+    ensures item_parts { (later : Bool) (d : Data) (ds : Items)
+        → (length (compact_text d) ≤ length (items_text later (item d ds)))
+        × (length (items_text true ds) ≤ length (items_text later (item d ds))) }
+    ensures member_parts { (later : Bool) (name : List ℕ) (d : Data) (ms : Members)
+        → (length (compact_text d) ≤ length (members_text later (member name d ms)))
+        × (length (members_text true ms) ≤ length (members_text later (member name d ms))) }
+{}
