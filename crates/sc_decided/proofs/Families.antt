@@ -13,14 +13,15 @@ use Rattle.sc_cmd.specs.declared.orders.OrderLine.{OrderLine}
 use Rattle.sc_mail.specs.declared.bodies.Mail.{Mail}
 use Rattle.sc_actor.specs.declared.rows.Row.{Row}
 use Rattle.sc_machine_table.specs.Group.{group_of}
-use Rattle.sc_players.specs.Players.{as_nodes}
+use Rattle.sc_sound.specs.Players.{as_nodes}
 use Rattle.sc_sound.specs.Accepts.{accepts}
 use Rattle.sc_sound.specs.GroupsOf.{children_of, children_by, is_birth_of, with_birth, with_children, with_descendants, groups_at, log_by}
 use Rattle.sc_sound.specs.Logs.{rule_of, decided_log}
-use Rattle.sc_decided.specs.Known.{kept_log, is_kept_of, log_kept, IsKnown, AreKnown, AreFound}
+use Rattle.sc_known.specs.Known.{IsKnown}
+use Rattle.sc_decided.specs.Found.{kept_log, is_kept_of, log_kept, AreKnown, AreFound}
 use Rattle.sc_decided.specs.declared.births.Groups.{Groups}
-use Rattle.sc_decided.specs.declared.known.Known.{Known}
-use Rattle.sc_decided.proofs.Chosen.{log_is}
+use Rattle.sc_known.specs.declared.known.Known.{Known}
+use Rattle.sc_known.proofs.Chosen.{log_is}
 
 -- ---- facts of each
 

@@ -6,7 +6,7 @@ use Rattle.std.proofs.Math.Seq.{drop-length}
 use Rattle.std.proofs.lemmas.Bool.{cases_Bool, cond-true, cond-false}
 use Rattle.std.proofs.lemmas.List.{map-append}
 use Rattle.std.proofs.lemmas.List.Folds.{flat_map-map}
-use Rattle.sc_base.proofs.NameLemmas.{draw_is, same_name}
+use Rattle.sc_base.proofs.NameLemmas.{draw_is}
 use Rattle.sc_base.specs.Among.{Each}
 use Rattle.sc_base.specs.Same.{same_draw}
 use Rattle.sc_base.specs.declared.names.Draw.{Draw}
@@ -16,34 +16,21 @@ use Rattle.sc_cmd.specs.declared.orders.OrderLine.{OrderLine}
 use Rattle.sc_mail.specs.declared.bodies.Mail.{Mail}
 use Rattle.sc_actor.specs.declared.rows.Row.{Row}
 use Rattle.sc_machine_table.specs.Group.{group_of}
-use Rattle.sc_players.specs.Players.{as_nodes}
-use Rattle.sc_paxos_law.specs.Steps.{Step}
+use Rattle.sc_sound.specs.Players.{as_nodes}
 use Rattle.sc_paxos_law.specs.Decided.{log_of}
 use Rattle.sc_entries.specs.declared.LogEntry.{LogEntry}
 use Rattle.sc_sound.specs.Accepts.{accepts}
 use Rattle.sc_sound.specs.GroupsOf.{children_of, children_by, is_birth_of, with_children, groups_at, log_by, entries_from, entries_after, entries_by_row}
 use Rattle.sc_sound.specs.Logs.{rule_of, decided_log}
-use Rattle.sc_decided.specs.Acceptances.{step_of, steps_by}
-use Rattle.sc_decided.specs.Known.{Adds, Agrees, Ends, IsKnown, AreKnown, AreFound, StaysKnown, StayKnown, log_kept, gained, grown_by}
-use Rattle.sc_decided.specs.declared.accepting.Acceptance.{Acceptance}
+use Rattle.sc_known.specs.Known.{Adds, IsKnown, StaysKnown}
+use Rattle.sc_decided.specs.Found.{AreKnown, AreFound, StayKnown, log_kept, gained, grown_by}
+use Rattle.sc_known.specs.declared.accepting.Acceptance.{Acceptance}
 use Rattle.sc_decided.specs.declared.births.Groups.{Groups}
-use Rattle.sc_decided.specs.declared.known.Known.{Known}
+use Rattle.sc_known.specs.declared.known.Known.{Known}
 use Rattle.sc_decided.proofs.Families.{each_push, each_of, flat_same, known_log, log_in_is, same_groups, SameChildren}
+use Rattle.sc_known.proofs.Elsewhere.{accepts_elsewhere, known_elsewhere}
 
 -- ---- other groups
-
--- nothing is accepted for a group with another name
-pub accepts_elsewhere : (name : Draw) (acceptance : Acceptance) (rows after : List (Row Mail OrderLine)) → Adds (Some (name, acceptance)) rows after → (group : Draw) → same_draw group name ≡ false
-    → accepts group after ≡ accepts group rows
-accepts_elsewhere name acceptance rows after adds group other =
-    let nothing : steps_by group (Some (name, acceptance)) ≡ [] = elim (cases_Bool (same_draw name group)) [
-      | inl t ↦ (
-          let same : same_draw group name ≡ true = same_name group name (sym (draw_is name group t)) in
-          let never : true ≡ false = sym same ∙ other in
-          cc)
-      | inr f ↦ cond-false (same_draw name group) (step_of acceptance ∷ []) [] f
-    ] in
-    adds group ∙ ap (λ (steps : List (Step Command)). steps ++ accepts group rows) nothing
 
 -- its decided log is the same
 log_elsewhere : (rows after : List (Row Mail OrderLine)) (base : Base) → accepts base.core.id after ≡ accepts base.core.id rows → decided_log as_nodes base after ≡ decided_log as_nodes base rows
@@ -98,13 +85,6 @@ row_gains rows row bases f same each =
     ∙ flat_same
     (λ (base : Base). entries_after base.core.id (log_by as_nodes rows (find (is_birth_of base.core.id) old)) (log_by as_nodes after (find (is_birth_of base.core.id) old)))
     f old (each_of _ old each)
-
--- what is known of the groups is known after the row
-pub known_elsewhere : (rows after : List (Row Mail OrderLine)) (known : Known) → accepts known.base.core.id after ≡ accepts known.base.core.id rows → IsKnown rows known → IsKnown after known
-known_elsewhere rows after known same is = record {
-  agrees = subst (λ (h : List (Step Command)). Agrees h known) (sym same) is.agrees;
-  ends = subst (λ (h : List (Step Command)). Ends (rule_of as_nodes known.base) h known.log.items) (sym same) is.ends;
-}
 
 each_elsewhere : (rows after : List (Row Mail OrderLine)) (knowns : List Known) → ((name : Draw) → accepts name after ≡ accepts name rows) → Each (IsKnown rows) knowns → Each (IsKnown after) knowns
 each_elsewhere rows after [] same all = tt
@@ -242,10 +222,3 @@ stay_push rows after knowns later known next all so_far one =
         ap (λ (b : Base). children_by as_nodes after b) (sym stays.base_is)
         ∙ ap (children_of (group_of next.base)) (sym (known_log after next stays.is))
         ∙ stays.children_are ∙ ap (children_of (group_of known.base)) (known_log rows known is)
-
--- what is accepted for a group with this name is the newest step
-pub accepts_here : (name : Draw) (acceptance : Acceptance) (rows after : List (Row Mail OrderLine)) → Adds (Some (name, acceptance)) rows after → (group : Draw) → same_draw group name ≡ true
-    → accepts group after ≡ step_of acceptance ∷ accepts group rows
-accepts_here name acceptance rows after adds group here =
-    let same : same_draw name group ≡ true = same_name name group (sym (draw_is group name here)) in
-    adds group ∙ ap (λ (steps : List (Step Command)). steps ++ accepts group rows) (cond-true (same_draw name group) (step_of acceptance ∷ []) [] same)

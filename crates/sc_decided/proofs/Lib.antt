@@ -1,9 +1,3 @@
-pub mod Chosen
 pub mod Families
 pub mod Gained
-pub mod Grown
-pub mod Indexed
-pub mod Longer
-pub mod Newest
 pub mod OneMore
-pub mod Stays

@@ -1,46 +1,19 @@
 -- What one more row accepts.
-use Rattle.std.proofs.Common.{◌≡◌, ℕ, suc, ◌+◌, ◌<◌, length, get_or, take, Option, arith, Bool, true, false, ◌&&◌, List, [], ◌∷◌, ◌++◌, if◌then◌else◌, refl, sym, ap, ◌∙◌, append_assoc, append-nil}
-use Rattle.std.specs.List.{flat_map, list_any}
+use Rattle.std.proofs.Common.{◌≡◌, ℕ, suc, ◌+◌, ◌<◌, length, get_or, take, Option, arith, List, [], ◌∷◌, ◌++◌, sym, ap, ◌∙◌, append_assoc, append-nil}
+use Rattle.std.specs.List.{flat_map}
 use Rattle.std.proofs.Math.Seq.{take-suc}
 use Rattle.std.proofs.lemmas.Grind.{flat_map-append}
-use Rattle.sc_base.specs.Same.{same_draw}
 use Rattle.sc_base.specs.declared.names.Draw.{Draw}
-use Rattle.sc_base.specs.declared.names.Ballot.{Ballot}
 use Rattle.sc_cmd.specs.declared.commands.Command.{Command}
 use Rattle.sc_cmd.specs.declared.orders.OrderLine.{OrderLine}
 use Rattle.sc_mail.specs.declared.bodies.Mail.{Mail}
-use Rattle.sc_mail.specs.declared.bodies.MailBody.TheVariants.{Accept}
 use Rattle.sc_actor.specs.Mail.{mails}
 use Rattle.sc_actor.specs.declared.rows.Row.{Row}
-use Rattle.sc_paxos_law.specs.Steps.{Step, Accepted}
-use Rattle.sc_sound.specs.Accepts.{is_accepted, accepts_of, accepts_at, accepts_from, accepts}
-use Rattle.sc_decided.specs.Acceptances.{steps_by}
-use Rattle.sc_decided.specs.Known.{Adds}
-use Rattle.sc_decided.specs.declared.accepting.Acceptance.{Acceptance}
-
-both : (b : Bool) → (b && true) ≡ b
-both true = refl
-both false = refl
-
-neither : (b : Bool) → (b && false) ≡ false
-neither true = refl
-neither false = refl
-
--- a row that says that it accepted accepts for the group that is asked
-pub accepts-said : (group : Draw) (row : Row Mail OrderLine) (of : Draw) (ballot : Ballot) (slot : ℕ) (command : Command)
-    → list_any (λ (mail : Mail). is_accepted of ballot slot mail.body) row.sent ≡ true
-    → accepts_of group row (Accept of ballot slot command) ≡ (if same_draw of group then Accepted row.who ballot slot command ∷ [] else [])
-accepts-said group row of ballot slot command said =
-    let taken : List (Step Command) = Accepted row.who ballot slot command ∷ [] in
-    ap (λ (t : Bool). if t then taken else []) (ap (λ (b : Bool). same_draw of group && b) said ∙ both (same_draw of group))
-
--- one that does not say so accepts nothing
-pub accepts-unsaid : (group : Draw) (row : Row Mail OrderLine) (of : Draw) (ballot : Ballot) (slot : ℕ) (command : Command)
-    → list_any (λ (mail : Mail). is_accepted of ballot slot mail.body) row.sent ≡ false
-    → accepts_of group row (Accept of ballot slot command) ≡ []
-accepts-unsaid group row of ballot slot command unsaid =
-    let taken : List (Step Command) = Accepted row.who ballot slot command ∷ [] in
-    ap (λ (t : Bool). if t then taken else []) (ap (λ (b : Bool). same_draw of group && b) unsaid ∙ neither (same_draw of group))
+use Rattle.sc_paxos_law.specs.Steps.{Step}
+use Rattle.sc_sound.specs.Accepts.{accepts_at, accepts_from, accepts}
+use Rattle.sc_known.specs.Acceptances.{steps_by}
+use Rattle.sc_known.specs.Known.{Adds}
+use Rattle.sc_known.specs.declared.accepting.Acceptance.{Acceptance}
 
 accepts_from-push : (group : Draw) (sent : List Mail) (rows : List (Row Mail OrderLine)) (row : Row Mail OrderLine) (steps : List (Step Command))
     → accepts_from group sent (rows ++ row ∷ []) steps ≡ accepts_at group (sent ++ mails rows) row row.event ++ accepts_from group sent rows steps

@@ -1,3 +1,1 @@
-pub mod Acceptances
-pub mod Indexes
-pub mod Known
+pub mod Found

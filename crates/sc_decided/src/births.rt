@@ -1,6 +1,6 @@
 //! The groups of rows, found by the logs: those of a scenario, and again and again the children
 //! that the logs found so far name.
-ghost use Rattle.std.specs.Prelude.{◌≡◌, ◌++◌, ◌∷◌, [], List, true, fold, find, IfOk, OnOk};
+ghost use Rattle.std.specs.Prelude.{◌≡◌, ◌&&◌, ◌++◌, ◌∷◌, [], List, true, fold, find, IfOk, OnOk};
 ghost use Rattle.std.specs.List.{flat_map, list_any};
 ghost use Rattle.std.specs.Option.{option_copied, option_to_list};
 ghost use Rattle.sc_cmd.specs.declared.cores.Base.{Base};
@@ -9,15 +9,15 @@ ghost use Rattle.sc_machine_table.specs.Machine.{applied};
 ghost use Rattle.sc_cmd.specs.declared.orders.OrderLine.{OrderLine};
 ghost use Rattle.sc_mail.specs.declared.bodies.Mail.{Mail};
 ghost use Rattle.sc_actor.specs.declared.rows.Row.{Row};
-ghost use Rattle.sc_players.specs.Players.{as_nodes};
+ghost use Rattle.sc_sound.specs.Players.{as_nodes};
 ghost use Rattle.sc_sound.specs.GroupsOf.{children_of, with_birth, with_children};
-ghost use Rattle.sc_decided.specs.Known.{is_kept_of, log_kept, AreKnown, AreFound};
+ghost use Rattle.sc_decided.specs.Found.{is_kept_of, log_kept, AreKnown, AreFound};
 
-use crate::known::{Known, both, execute, known_of};
 use sc_actor::Row;
 use sc_base::{Draw, Dup, OutOfMemory};
 use sc_cmd::{Base, Command, OrderLine, same_draw};
 use sc_entries::births_are_children;
+use sc_known::{Known, known_of};
 use sc_machine::Machine;
 use sc_mail::Mail;
 use std::alloc::Global;
@@ -27,6 +27,13 @@ use std::alloc::Global;
 pub(crate) struct Groups {
     pub knowns: Vec<Known>,
     pub settled: bool,
+}
+
+/// Whether both hold.
+pub(crate) fn both(one: bool, other: bool) -> bool
+    ensures { result ≡ (one && other) }
+{
+    one && other
 }
 
 fn first_knowns(
@@ -68,7 +75,7 @@ fn add_child(
     births_are_children();
     let child = machine.child_by(command)?;
     add_found(children, child)?;
-    execute(machine, command)?;
+    machine.apply(command)?;
     Ok(())
 }
 

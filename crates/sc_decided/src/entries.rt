@@ -10,19 +10,19 @@ ghost use Rattle.sc_mail.specs.declared.bodies.Mail.{Mail};
 ghost use Rattle.sc_actor.specs.Mail.{mails};
 ghost use Rattle.sc_actor.specs.declared.rows.Row.{Row};
 ghost use Rattle.sc_machine_table.specs.Group.{group_of};
-ghost use Rattle.sc_players.specs.Players.{as_nodes};
+ghost use Rattle.sc_sound.specs.Players.{as_nodes};
 ghost use Rattle.sc_sound.specs.Accepts.{accepts};
 ghost use Rattle.sc_sound.specs.GroupsOf.{children_by, log_at, log_by, is_birth_of, entries_from, entries_after, entries_by_row, entries_at};
-ghost use Rattle.sc_decided.specs.Acceptances.{steps_by};
-ghost use Rattle.sc_decided.specs.Known.{log_kept, gained, grown_by, Adds, IsKnown, StayKnown, AreFound};
+ghost use Rattle.sc_known.specs.Acceptances.{steps_by};
+ghost use Rattle.sc_known.specs.Known.{Adds, IsKnown};
+ghost use Rattle.sc_decided.specs.Found.{log_kept, gained, grown_by, StayKnown, AreFound};
 
-use crate::accepting::{Acceptance, accepted_in, add_mails};
-use crate::births::{Groups, groups_of, log_in};
-use crate::known::{Known, both, taken};
+use crate::births::{Groups, both, groups_of, log_in};
 use sc_actor::Row;
 use sc_base::{Draw, Dup, OutOfMemory};
 use sc_cmd::{Base, Command, OrderLine, same_draw};
 use sc_entries::LogEntry;
+use sc_known::{Acceptance, Known, accepted_in, add_mails, taken};
 use sc_mail::Mail;
 use std::alloc::Global;
 
@@ -83,7 +83,8 @@ fn look_again(
 ) -> Result<Groups, OutOfMemory>
     ensures { IfOk result (λ groups. AreFound bases.now after.now groups ×
         ((row : Row Mail OrderLine) → after.now ≡ before.now ++ row ∷ [] →
-        entries.new.items ≡ entries.old.items ++ entries_by_row as_nodes bases.now before.now row)) }
+        entries.new.items ≡
+        entries.old.items ++ entries_by_row as_nodes bases.now before.now row)) }
 {
     let old = groups_of(alloc, bases, before)?;
     let new = groups_of(alloc, bases, after)?;
@@ -93,7 +94,8 @@ fn look_again(
     Ok(new)
 }
 
-// The groups with one more acceptance. Whether their logs only go on, by entries that make no child.
+// The groups with one more acceptance. Whether their logs only go on, by entries that make no
+// child.
 fn take_all(
     alloc: Global,
     knowns: Vec<Known>,
@@ -145,11 +147,13 @@ fn after_acceptance(
     name: Draw,
     acceptance: &Acceptance,
 ) -> Result<Groups, OutOfMemory>
-    ensures { IfOk result (λ groups. (row : Row Mail OrderLine) → after.now ≡ before.now ++ row ∷ [] →
+    ensures { IfOk result (λ groups.
+        (row : Row Mail OrderLine) → after.now ≡ before.now ++ row ∷ [] →
         Adds (Some (name, acceptance.now)) before.now after.now →
         AreFound bases.now before.now (record { knowns = knowns; settled = true }) →
         AreFound bases.now after.now groups ×
-        (entries.new.items ≡ entries.old.items ++ entries_by_row as_nodes bases.now before.now row)) }
+        (entries.new.items ≡
+        entries.old.items ++ entries_by_row as_nodes bases.now before.now row)) }
 {
     let kept = knowns.as_slice();
     let count = log_in(kept, name).len();
@@ -176,11 +180,13 @@ fn after_row(
     groups: Groups,
     accepted: Option<(Draw, Acceptance)>,
 ) -> Result<Groups, OutOfMemory>
-    ensures { IfOk result (λ found. (row : Row Mail OrderLine) → after.now ≡ before.now ++ row ∷ [] →
+    ensures { IfOk result (λ found.
+        (row : Row Mail OrderLine) → after.now ≡ before.now ++ row ∷ [] →
         Adds accepted before.now after.now →
         AreFound bases.now before.now groups →
         AreFound bases.now after.now found ×
-        (entries.new.items ≡ entries.old.items ++ entries_by_row as_nodes bases.now before.now row)) }
+        (entries.new.items ≡
+        entries.old.items ++ entries_by_row as_nodes bases.now before.now row)) }
 {
     if !groups.settled {
         let found = look_again(alloc, entries, bases, before, after)?;

@@ -5,7 +5,7 @@ use Rattle.sc_base.specs.Among.{Each}
 use Rattle.sc_node_table.specs.Mails.{sent_all}
 use Rattle.sc_node_table.specs.Ordering.{ordered_row}
 use Rattle.sc_node_table.specs.Pump.{next_call, from_calls, from_queues, found_for, offered, pumped_from, pumped}
-use Rattle.sc_players.specs.Players.{Lawful}
+use Rattle.sc_sound.specs.Players.{Lawful}
 use Rattle.sc_scenario.specs.Groups.{lone_name}
 use Rattle.sc_sound.specs.Example.{four}
 use Rattle.sc_draws_law.specs.Example.{first_name, second_name, third_name, drawing_scenario, drawing_rows}

@@ -35,7 +35,7 @@ use Rattle.sc_paxos_law.specs.Steps.{Step, Prepared, Promised, Offered, Accepted
 use Rattle.sc_paxos_words.proofs.ListLemmas.{Each-append}
 use Rattle.sc_paxos_words.specs.declared.reports.Report.{Report}
 use Rattle.sc_paxos_words.specs.Ballots.{below}
-use Rattle.sc_players.specs.Players.{Ahead}
+use Rattle.sc_sound.specs.Players.{Ahead}
 use Rattle.sc_scenario.specs.declared.scenarios.Scenario.{Scenario}
 use Rattle.sc_sound.specs.Accepts.{is_accepted, accepts_of, accepts_got, accepts_at, accepts_from, accepts}
 use Rattle.sc_sound.specs.GroupsOf.{children_of, children_by, is_birth_of, with_birth, with_descendants}

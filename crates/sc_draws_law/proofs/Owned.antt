@@ -9,7 +9,7 @@ use Rattle.sc_cmd.specs.declared.orders.OrderLine.{OrderLine}
 use Rattle.sc_mail.specs.declared.bodies.Mail.{Mail}
 use Rattle.sc_actor.specs.declared.rows.Row.{Row}
 use Rattle.sc_node_table.specs.Replica.{either}
-use Rattle.sc_players.specs.Players.{Ahead}
+use Rattle.sc_sound.specs.Players.{Ahead}
 use Rattle.sc_scenario.specs.declared.scenarios.Scenario.{Scenario}
 use Rattle.sc_draws_law.specs.Owners.{Rows, Owned, owned_by, drawn_at, owner_by, owner_from, owner_in}
 use Rattle.sc_draws_law.specs.Laws.{IsDrawn, OwnersStay, OwnedNamesAreDrawn}

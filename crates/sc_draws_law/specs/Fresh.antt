@@ -10,7 +10,7 @@ use Rattle.sc_actor.specs.declared.actors.Seat.{Seat}
 use Rattle.sc_actor.specs.declared.rows.Row.{Row}
 use Rattle.sc_actor.specs.Mail.{mails}
 use Rattle.sc_actor.specs.Replay.{value}
-use Rattle.sc_players.specs.Players.{Ahead, Player, Lawful, player_table, births}
+use Rattle.sc_sound.specs.Players.{Ahead, Player, Lawful, player_table, births}
 use Rattle.sc_scenario.specs.declared.scenarios.Scenario.{Scenario}
 use Rattle.sc_sound.specs.GroupsOf.{groups_at}
 use Rattle.sc_sound.specs.Logs.{decided_log}

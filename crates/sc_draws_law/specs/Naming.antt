@@ -5,7 +5,7 @@ use Rattle.sc_base.specs.declared.names.Draw.{Draw}
 use Rattle.sc_base.specs.declared.ops.Op.{Op}
 use Rattle.sc_cmd.specs.declared.commands.Command.{Command}
 use Rattle.sc_cmd.specs.declared.cores.Base.{Base}
-use Rattle.sc_players.specs.Players.{Ahead, Lawful}
+use Rattle.sc_sound.specs.Players.{Ahead, Lawful}
 use Rattle.sc_ring_law.specs.Allowed.{IsAllowed}
 use Rattle.sc_ring_law.specs.Laws.{draw_of}
 use Rattle.sc_ring_law.specs.Stories.{Stories}

@@ -6,7 +6,7 @@
 ghost use Rattle.std.specs.Prelude.{◌≡◌, Some, None};
 ghost use Rattle.sc_actor.specs.System.{no_words};
 ghost use Rattle.sc_base.specs.Among.{Each};
-ghost use Rattle.sc_players.specs.Players.{Lawful};
+ghost use Rattle.sc_sound.specs.Players.{Lawful};
 ghost use Rattle.sc_scenario.specs.Groups.{lone_name};
 ghost use Rattle.sc_sound.specs.Example.{four};
 ghost use Rattle.sc_draws_law.specs.Example.{

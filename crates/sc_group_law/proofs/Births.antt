@@ -9,7 +9,7 @@ use Rattle.sc_member.specs.Roster.{is_member}
 use Rattle.sc_node_table.specs.Replica.{ReplicaState, name_of, born_replica}
 use Rattle.sc_scenario.specs.declared.scenarios.Scenario.{Scenario}
 use Rattle.sc_cmd.specs.declared.links.Route.{Route}
-use Rattle.sc_players.specs.Players.{Ahead}
+use Rattle.sc_sound.specs.Players.{Ahead}
 use Rattle.sc_sound.specs.GroupsOf.{AreApart}
 use Rattle.sc_group_law.proofs.Holding.{IsOther, Holds, holds_none}
 use Rattle.sc_group_law.proofs.Newborn.{born_replica_is}

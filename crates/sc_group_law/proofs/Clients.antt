@@ -23,7 +23,7 @@ use Rattle.sc_client_table.specs.Turns.{InTurn, Waits, Begins, TakesReply}
 use Rattle.sc_base.specs.Among.{Among}
 use Rattle.sc_scenario.specs.declared.scenarios.Asks.{Asks}
 use Rattle.sc_scenario.specs.declared.scenarios.Scenario.{Scenario}
-use Rattle.sc_players.specs.Players.{Ahead}
+use Rattle.sc_sound.specs.Players.{Ahead}
 use Rattle.sc_sound.specs.Requests.{issues, issued_from, issue_row}
 use Rattle.sc_group_law.proofs.Invariant.{Steps, IsReplyAt, IsTrue, IsTrueAnswer, grown_reply}
 use Rattle.sc_group_law.proofs.Names.{IsOneOf, IsNamedIn}

@@ -14,7 +14,7 @@ use Rattle.sc_paxos_law.proofs.Law.{longer_log}
 use Rattle.sc_node_table.specs.Slots.{rest_of}
 use Rattle.sc_node_table.specs.Replica.{ReplicaState, next, floor_of, forgotten, waits_in}
 use Rattle.sc_node_table.specs.Execute.{with_entry, entered}
-use Rattle.sc_players.specs.Players.{Ahead}
+use Rattle.sc_sound.specs.Players.{Ahead}
 use Rattle.sc_group_law.proofs.Held.{floor_low}
 use Rattle.sc_group_law.proofs.Invariant.{Steps, rule, AreSets, HasLog, next_is, pushed_has, cut_has, IsReplica, next_after, forgotten_replica}
 use Rattle.sc_group_law.proofs.Parts.{rest_length, rest_count, rest_get}

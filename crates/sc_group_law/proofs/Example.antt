@@ -11,7 +11,7 @@ use Rattle.sc_node_table.specs.Pump.{next_call, from_calls, from_queues, found_f
 use Rattle.sc_node_table.specs.Rows.{queued, requested, request_row, tick_row, mailed}
 use Rattle.sc_node_table.specs.Voting.{promised, prepare_row, took, accept_row, promise_row}
 use Rattle.sc_sound.specs.Example.{four}
-use Rattle.sc_players.specs.Players.{Lawful}
+use Rattle.sc_sound.specs.Players.{Lawful}
 use Rattle.sc_group_law.specs.Example.{election_scenario, election_example}
 
 -- the example is lawful

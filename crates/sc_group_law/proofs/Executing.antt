@@ -36,7 +36,7 @@ use Rattle.sc_node_table.specs.Pump.{pumped}
 use Rattle.sc_node_table.specs.declared.Before.{Before}
 use Rattle.sc_node_table.specs.Spoken.{before_of, begun_result, spoken_number, told_result, told_begun, went_on, spoken_mails, spoken}
 use Rattle.sc_hist_law.specs.Laws.{IsReplied}
-use Rattle.sc_players.specs.Players.{Ahead}
+use Rattle.sc_sound.specs.Players.{Ahead}
 use Rattle.sc_group_law.proofs.Growth.{IsLearnt, by_own_log, learnt_offered}
 use Rattle.sc_group_law.proofs.Invariant.{Steps, rule, first, IsTaken, IsReplica, next_after, IsReplyAt, IsTrueAnswer}
 use Rattle.sc_group_law.proofs.Speech.{AreSaid, Speaks}

@@ -17,7 +17,7 @@ use Rattle.sc_actor.specs.declared.rows.Event.{Event}
 use Rattle.sc_paxos_law.specs.Steps.{Prepared, Promised, Offered, Accepted}
 use Rattle.sc_node_table.specs.Node.{group_of_mail}
 use Rattle.sc_sound.specs.Accepts.{is_accepted, accepts_of}
-use Rattle.sc_players.specs.Players.{Ahead}
+use Rattle.sc_sound.specs.Players.{Ahead}
 use Rattle.sc_group_law.specs.Steps.{proposer_steps, asked_in, promised_by, promises_of}
 use Rattle.sc_group_law.proofs.Invariant.{Steps, IsOwn, IsTrue}
 

@@ -10,7 +10,7 @@ use Rattle.sc_cmd.specs.declared.cores.Base.{Base}
 use Rattle.sc_node_table.specs.Node.{replica_of, with_replica, is_before, with_new}
 use Rattle.sc_node_table.specs.Replica.{ReplicaState, name_of}
 use Rattle.sc_paxos_words.proofs.ListLemmas.{Each-among}
-use Rattle.sc_players.specs.Players.{Ahead}
+use Rattle.sc_sound.specs.Players.{Ahead}
 use Rattle.sc_group_law.proofs.Growth.{By, IsFresh, fresh_on}
 use Rattle.sc_group_law.proofs.Invariant.{Steps, IsReplica, more_made, other_steps}
 

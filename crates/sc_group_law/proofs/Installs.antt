@@ -30,7 +30,7 @@ use Rattle.sc_node_table.specs.Rows.{looked_up, took_over, install_row, made_by}
 use Rattle.sc_node_table.specs.Ordering.{ordered_command, untaken, taken_or_told, ordered_row}
 use Rattle.sc_base.specs.Drawing.{Drawer, next_name}
 use Rattle.sc_hist_law.proofs.Logs.{state_same}
-use Rattle.sc_players.specs.Players.{Ahead}
+use Rattle.sc_sound.specs.Players.{Ahead}
 use Rattle.sc_group_law.proofs.Growth.{IsFresh, fresh_state}
 use Rattle.sc_group_law.proofs.Held.{Mirrors, mirrors_itself, floor_low}
 use Rattle.sc_group_law.proofs.Invariant.{Steps, rule, first, birth, AreSets, HasLog, IsReplica, next_after, forgotten_replica, IsState, grown_state}

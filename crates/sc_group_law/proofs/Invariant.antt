@@ -33,7 +33,7 @@ use Rattle.sc_paxos_law.proofs.Among.{Among-right}
 use Rattle.sc_paxos_law.proofs.Law.{later_log}
 use Rattle.sc_node_table.specs.Replica.{ReplicaState, first_ballot, next, floor_of, forgotten}
 use Rattle.sc_hist_law.specs.Laws.{IsReplied}
-use Rattle.sc_players.specs.Players.{Ahead}
+use Rattle.sc_sound.specs.Players.{Ahead}
 use Rattle.sc_machine_table.specs.Logs.{state_after}
 use Rattle.sc_sound.specs.Logs.{rule_of}
 use Rattle.sc_machine_table.proofs.LogLemmas.{state_push}

@@ -15,7 +15,7 @@ use Rattle.sc_node_table.specs.Ordering.{ordered_row}
 use Rattle.sc_node_table.specs.Rows.{looked_up, made_by, mailed}
 use Rattle.sc_node_table.specs.Voting.{readied, took, accept_row, accepted_row}
 use Rattle.sc_sound.specs.Example.{four}
-use Rattle.sc_players.specs.Players.{Lawful}
+use Rattle.sc_sound.specs.Players.{Lawful}
 use Rattle.sc_group_law.specs.JoinExample.{join_scenario, join_example}
 
 -- the example is lawful

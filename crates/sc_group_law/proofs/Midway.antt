@@ -10,7 +10,7 @@ use Rattle.sc_paxos_law.specs.Steps.{Step, Offered}
 use Rattle.sc_paxos_law.specs.Lawful.{IsLawfulStep, IsLawfulHistory}
 use Rattle.sc_paxos_law.proofs.Among.{Among-either}
 use Rattle.sc_node_table.specs.Replica.{ReplicaState, Place}
-use Rattle.sc_players.specs.Players.{Ahead}
+use Rattle.sc_sound.specs.Players.{Ahead}
 use Rattle.sc_group_law.specs.Steps.{proposer_steps, asked_in}
 use Rattle.sc_group_law.proofs.Growth.{By}
 use Rattle.sc_group_law.proofs.Invariant.{Steps, rule, first, IsReplica, IsOwn, IsTrue, grown_true}

@@ -17,7 +17,7 @@ use Rattle.sc_base.specs.Among.{Among}
 use Rattle.sc_paxos_law.specs.Steps.{Accepted}
 use Rattle.sc_node_table.specs.Node.{absent}
 use Rattle.sc_sound.specs.Accepts.{accepts_of, is_accepted}
-use Rattle.sc_players.specs.Players.{Ahead}
+use Rattle.sc_sound.specs.Players.{Ahead}
 use Rattle.sc_group_law.specs.Steps.{proposer_steps, asked_in, promises_of}
 use Rattle.sc_group_law.proofs.Invariant.{Steps, IsOwn, IsTrue}
 use Rattle.sc_group_law.proofs.Voting.{IsPlain, ArePlain, no_promises, any_accepted}

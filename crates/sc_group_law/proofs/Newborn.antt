@@ -9,7 +9,7 @@ use Rattle.sc_paxos_words.specs.Acceptors.{born_acceptor}
 use Rattle.sc_paxos_words.proofs.ListLemmas.{Each-among}
 use Rattle.sc_paxos_law.specs.Steps.{Prepared, Offered}
 use Rattle.sc_paxos_law.specs.Chosen.{needed}
-use Rattle.sc_players.specs.Players.{Ahead}
+use Rattle.sc_sound.specs.Players.{Ahead}
 use Rattle.sc_group_law.proofs.Growth.{IsFresh, fresh_state}
 use Rattle.sc_group_law.proofs.Held.{Mirrors, mirrors_itself}
 use Rattle.sc_group_law.proofs.Invariant.{Steps, rule, first, IsReplica}

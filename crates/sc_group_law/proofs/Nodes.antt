@@ -27,7 +27,7 @@ use Rattle.sc_node_table.specs.Mails.{told_desk}
 use Rattle.sc_node_table.specs.Replica.{ReplicaState, Place, name_of, born_replica, last_slot}
 use Rattle.sc_node_table.specs.Voting.{prepare_row}
 use Rattle.sc_node_table.specs.Rows.{made_by, mailed}
-use Rattle.sc_players.specs.Players.{Ahead}
+use Rattle.sc_sound.specs.Players.{Ahead}
 use Rattle.sc_group_law.specs.Steps.{asked_in}
 use Rattle.sc_group_law.proofs.Growth.{By}
 use Rattle.sc_group_law.proofs.Invariant.{Steps, rule, first, IsReplica, IsTrue}

@@ -38,7 +38,7 @@ use Rattle.sc_node_table.specs.Pump.{Found, is_act, waits, refused_by, turned_do
 use Rattle.sc_node_table.specs.Mails.{sent_all, answered}
 use Rattle.sc_node_table.specs.Slots.{at_slot}
 use Rattle.sc_node_table.specs.Replica.{ReplicaState, Place, name_of, next, flying, either, taken_at, may_offer, settled, under_way, is_idle, last_slot}
-use Rattle.sc_players.specs.Players.{Ahead}
+use Rattle.sc_sound.specs.Players.{Ahead}
 use Rattle.sc_group_law.proofs.Growth.{later_learnt}
 use Rattle.sc_group_law.proofs.Invariant.{Steps, rule, first, later_has, IsTaken, AreSets, IsReplica, next_after, IsTrueAnswer, later_flying}
 use Rattle.sc_group_law.proofs.Speech.{Speaks}

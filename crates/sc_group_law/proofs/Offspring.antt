@@ -25,7 +25,7 @@ use Rattle.sc_node_table.specs.Execute.{executed_one, has_room, next_ready}
 use Rattle.sc_node_table.specs.Replica.{ReplicaState, Place, next, set_at, last_slot}
 use Rattle.sc_node_table.specs.Slots.{with_slot}
 use Rattle.sc_node_table.specs.Voting.{leads}
-use Rattle.sc_players.specs.Players.{Ahead}
+use Rattle.sc_sound.specs.Players.{Ahead}
 use Rattle.sc_group_law.proofs.Growth.{IsLearnt, by_own_log}
 use Rattle.sc_group_law.proofs.Invariant.{Steps, rule, first, birth, next_after}
 use Rattle.sc_group_law.proofs.Speech.{Speaks}

@@ -7,7 +7,7 @@ use Rattle.sc_paxos_law.specs.Chosen.{IsChosenAfter, IsLog}
 use Rattle.sc_paxos_law.specs.Lawful.{IsLawfulHistory}
 use Rattle.sc_paxos_law.proofs.Law.{one_value_per_slot}
 use Rattle.sc_paxos_law.proofs.Decided.{log_of-longest}
-use Rattle.sc_players.specs.Players.{Ahead}
+use Rattle.sc_sound.specs.Players.{Ahead}
 use Rattle.sc_sound.specs.Soundness.{HasRun}
 use Rattle.sc_sound.specs.Accepts.{accepts}
 use Rattle.sc_machine_table.specs.Logs.{state_after}

@@ -5,7 +5,7 @@ use Rattle.sc_cmd.specs.declared.cores.Base.{Base}
 use Rattle.sc_paxos_law.specs.Chosen.{IsLog}
 use Rattle.sc_paxos_law.specs.Lawful.{IsLawfulHistory}
 use Rattle.sc_paxos_law.proofs.Decided.{front_of_log}
-use Rattle.sc_players.specs.Players.{Ahead}
+use Rattle.sc_sound.specs.Players.{Ahead}
 use Rattle.sc_sound.specs.Logs.{decided_log}
 use Rattle.sc_group_law.proofs.Invariant.{rule, first}
 use Rattle.sc_group_law.proofs.Places.{Journal}

@@ -36,7 +36,7 @@ use Rattle.sc_node_table.specs.Pump.{serves_calls}
 use Rattle.sc_node_table.specs.Reminders.{waited_in, reminded}
 use Rattle.sc_node_table.specs.Voting.{nack_row}
 use Rattle.sc_node_table.specs.Rows.{refused_at, queued, requested, request_row, learn_row, taught, most_taught, ask_answered, ask_row, uncounted, asked_again, told_last, tick_row}
-use Rattle.sc_players.specs.Players.{Ahead}
+use Rattle.sc_sound.specs.Players.{Ahead}
 use Rattle.sc_group_law.proofs.Growth.{IsLearnt}
 use Rattle.sc_group_law.proofs.Invariant.{Steps, rule, IsReplica, IsTrueAnswer}
 use Rattle.sc_group_law.proofs.Speech.{Speaks}

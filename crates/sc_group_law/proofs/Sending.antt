@@ -25,7 +25,7 @@ use Rattle.sc_paxos_law.specs.Steps.{Step, Prepared, Offered}
 use Rattle.sc_node_table.specs.Election.{elected, ended, stopped, saw, open_nodes}
 use Rattle.sc_node_table.specs.Mails.{sent, sent_all, sent_others, answered, answered_all, order_number, told_order, dismissed, dismissed_all}
 use Rattle.sc_node_table.specs.Replica.{ReplicaState, Place, name_of, next, under_way}
-use Rattle.sc_players.specs.Players.{Ahead}
+use Rattle.sc_sound.specs.Players.{Ahead}
 use Rattle.sc_hist_law.proofs.Logs.{state_same}
 use Rattle.sc_group_law.specs.Steps.{proposer_steps}
 use Rattle.sc_group_law.proofs.Growth.{IsLearnt, offer_again}

@@ -21,7 +21,7 @@ use Rattle.sc_node_table.specs.Reminders.{reminders}
 use Rattle.sc_node_table.specs.Spoken.{before_of, went_on}
 use Rattle.sc_node_table.specs.Transactions.{standing_vote, noted_outcome, voted_to, watched_to, asked_next}
 use Rattle.sc_paxos_law.specs.Chosen.{IsLog}
-use Rattle.sc_players.specs.Players.{Ahead}
+use Rattle.sc_sound.specs.Players.{Ahead}
 use Rattle.sc_group_law.specs.Steps.{proposer_steps, asked_in}
 use Rattle.sc_group_law.proofs.Invariant.{Steps, rule, birth, name, IsOwn, IsTrue}
 

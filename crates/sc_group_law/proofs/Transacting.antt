@@ -27,7 +27,7 @@ use Rattle.sc_node_table.specs.Node.{group_of_mail}
 use Rattle.sc_node_table.specs.Reminders.{patience, one_tick_more, waited_in, reminders, reminded}
 use Rattle.sc_node_table.specs.Replica.{ReplicaState, Place, settled}
 use Rattle.sc_node_table.specs.Transactions.{standing_vote, noted_outcome, voted_to, offered_by, offer_row, watched_to, watched_by, watch_row, awaits_vote, vote_queued, vote_met, vote_row, awaits_watch, watch_queued, watch_met, watched_row, asked_next, elsewhere_row, is_bound, outcome_row}
-use Rattle.sc_players.specs.Players.{Ahead}
+use Rattle.sc_sound.specs.Players.{Ahead}
 use Rattle.sc_group_law.proofs.Invariant.{Steps, rule, IsReplica}
 use Rattle.sc_group_law.proofs.Midway.{Fine, turn}
 use Rattle.sc_group_law.proofs.Offering.{with_acts, fine_pumped}

@@ -12,7 +12,7 @@ use Rattle.sc_node_table.specs.Replica.{ReplicaState, Place, name_of, next, memb
 use Rattle.sc_node_table.specs.Mails.{sent, sent_all}
 use Rattle.sc_node_table.specs.Install.{install_to, asked_to_promise, welcomed_all}
 use Rattle.sc_node_table.specs.Execute.{welcomed}
-use Rattle.sc_players.specs.Players.{Ahead}
+use Rattle.sc_sound.specs.Players.{Ahead}
 use Rattle.sc_machine_table.proofs.Parts.{group_again}
 use Rattle.sc_group_law.proofs.Invariant.{Steps, AreSets, next_after}
 use Rattle.sc_group_law.proofs.Midway.{Fine, says}

@@ -10,7 +10,7 @@ ghost use Rattle.sc_sound.specs.Example.{four, alone};
 ghost use Rattle.sc_sound.specs.Logs.{decided_log, decided_state};
 ghost use Rattle.sc_sound.specs.Histories.{decided_row};
 ghost use Rattle.sc_sound.specs.Requests.{issue_row};
-ghost use Rattle.sc_players.specs.Players.{Lawful};
+ghost use Rattle.sc_sound.specs.Players.{Lawful};
 ghost use Rattle.sc_group_law.specs.Example.{three_nodes, election_scenario, election_example, call};
 ghost use Rattle.sc_group_law.specs.JoinExample.{join_scenario, join_example, join};
 

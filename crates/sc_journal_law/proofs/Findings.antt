@@ -7,7 +7,7 @@ use Rattle.sc_cmd.specs.declared.cores.Base.{Base}
 use Rattle.sc_cmd.specs.declared.orders.OrderLine.{OrderLine}
 use Rattle.sc_mail.specs.declared.bodies.Mail.{Mail}
 use Rattle.sc_actor.specs.declared.rows.Row.{Row}
-use Rattle.sc_players.specs.Players.{Ahead}
+use Rattle.sc_sound.specs.Players.{Ahead}
 use Rattle.sc_machine_table.specs.Group.{group_of}
 use Rattle.sc_machine_table.specs.Logs.{state_after}
 use Rattle.sc_paxos_law.proofs.Among.{Among-left}
@@ -18,7 +18,7 @@ use Rattle.sc_hist_law.proofs.Fronts.{fronts_answer}
 use Rattle.sc_ring_law.specs.Allowed.{Sources}
 use Rattle.sc_ring_law.specs.Laws.{BeginInPlace}
 use Rattle.sc_ring_law.proofs.Rows.{some_none}
-use Rattle.sc_map_law.specs.Laws.{AllowedEntriesMakeOneMap}
+use Rattle.sc_journal_law.specs.OneMap.{AllowedEntriesMakeOneMap}
 use Rattle.sc_sound.specs.GroupsOf.{children_of, birth_at, log_by, log_at, state_at, entries_at, world_at}
 use Rattle.sc_sound.specs.Logs.{decided_state}
 use Rattle.sc_journal_law.specs.Descent.{Rows, IsFound}

@@ -15,7 +15,7 @@ use Rattle.sc_mail.specs.declared.bodies.Mail.{Mail}
 use Rattle.sc_actor.specs.declared.rows.Row.{Row}
 use Rattle.sc_paxos_law.proofs.Among.{Among-left, Among-right, Among-either, Among-flat_map, from_flat_map}
 use Rattle.sc_paxos_words.proofs.ListLemmas.{find_found}
-use Rattle.sc_players.specs.Players.{Ahead}
+use Rattle.sc_sound.specs.Players.{Ahead}
 use Rattle.sc_machine_table.specs.Group.{group_of}
 use Rattle.sc_ring_law.specs.Allowed.{Sources, IsAllowed}
 use Rattle.sc_ring_law.specs.Laws.{stories_of}

@@ -10,7 +10,7 @@ use Rattle.sc_cmd.specs.declared.orders.OrderLine.{OrderLine}
 use Rattle.sc_mail.specs.declared.bodies.Mail.{Mail}
 use Rattle.sc_actor.specs.declared.rows.Row.{Row}
 use Rattle.sc_ideal.specs.declared.Entry.{Entry}
-use Rattle.sc_players.specs.Players.{Ahead}
+use Rattle.sc_sound.specs.Players.{Ahead}
 use Rattle.sc_entries.specs.Worlds.{StoreWorld}
 use Rattle.sc_ring_law.specs.Allowed.{Sources}
 use Rattle.sc_ring_law.specs.Laws.{BeginInPlace}

@@ -1,3 +1,5 @@
+mod Executes
+pub mod OneMap
 pub mod Lists
 pub mod Children
 pub mod OneGroup

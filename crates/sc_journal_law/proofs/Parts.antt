@@ -7,7 +7,7 @@ use Rattle.sc_cmd.specs.declared.cores.Base.{Base}
 use Rattle.sc_cmd.specs.declared.orders.OrderLine.{OrderLine}
 use Rattle.sc_mail.specs.declared.bodies.Mail.{Mail}
 use Rattle.sc_actor.specs.declared.rows.Row.{Row}
-use Rattle.sc_players.specs.Players.{Ahead}
+use Rattle.sc_sound.specs.Players.{Ahead}
 use Rattle.sc_ring_law.specs.Allowed.{Sources}
 use Rattle.sc_sound.specs.GroupsOf.{entries_by_row, entries_by_rows, history_at}
 use Rattle.sc_sound.specs.Soundness.{told_from}

@@ -17,12 +17,12 @@ use Rattle.sc_ideal.specs.declared.Entry.{Entry}
 use Rattle.sc_machine_table.specs.Group.{Group, group_of}
 use Rattle.sc_machine_table.specs.Logs.{state_after}
 use Rattle.sc_paxos_law.proofs.Among.{Among-left}
-use Rattle.sc_players.specs.Players.{Ahead}
+use Rattle.sc_sound.specs.Players.{Ahead}
 use Rattle.sc_scenario.specs.declared.scenarios.Scenario.{Scenario}
 use Rattle.sc_hist_law.specs.Worlds.{BeginBare}
 use Rattle.sc_ring_law.specs.Allowed.{Sources}
 use Rattle.sc_ring_law.specs.Laws.{BeginInPlace}
-use Rattle.sc_map_law.specs.Laws.{AllowedEntriesMakeOneMap}
+use Rattle.sc_journal_law.specs.OneMap.{AllowedEntriesMakeOneMap}
 use Rattle.sc_sound.specs.GroupsOf.{history_at}
 use Rattle.sc_sound.specs.Requests.{IsRequest, issue_row}
 use Rattle.sc_sound.specs.Soundness.{AnswersRequests, told_row, IsTimely, KeepsRealTime, IsSound}

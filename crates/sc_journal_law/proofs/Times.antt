@@ -9,7 +9,7 @@ use Rattle.sc_base.specs.Among.{Among}
 use Rattle.sc_cmd.specs.declared.cores.Base.{Base}
 use Rattle.sc_ideal.specs.History.{AreApart}
 use Rattle.sc_ideal.specs.declared.Entry.{Entry}
-use Rattle.sc_players.specs.Players.{Ahead}
+use Rattle.sc_sound.specs.Players.{Ahead}
 use Rattle.sc_sound.specs.GroupsOf.{history_at}
 use Rattle.sc_sound.specs.Requests.{issues, issued_from, issue_row}
 use Rattle.sc_sound.specs.Soundness.{told_from}

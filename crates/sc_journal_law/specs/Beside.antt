@@ -13,7 +13,7 @@ use Rattle.sc_machine_table.specs.Group.{group_of}
 use Rattle.sc_machine_table.specs.Logs.{state_after}
 use Rattle.sc_machine_table.specs.Machine.{applied}
 use Rattle.sc_paxos_law.specs.Chosen.{IsLog}
-use Rattle.sc_players.specs.Players.{Ahead, route_of}
+use Rattle.sc_sound.specs.Players.{Ahead, route_of}
 use Rattle.sc_scenario.specs.declared.scenarios.Asks.{Asks}
 use Rattle.sc_scenario.specs.declared.scenarios.Scenario.{Scenario}
 use Rattle.sc_hist_law.specs.Laws.{IsReplied}

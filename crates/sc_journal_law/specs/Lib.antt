@@ -5,3 +5,4 @@ pub mod Example
 pub mod Findings
 pub mod InTurn
 pub mod Laws
+pub mod OneMap

@@ -1,5 +1,6 @@
-//! What the rows of a journal decide, entry by entry, with groups that are born: the bridge from
-//! decided logs to the law of entries. Of mail it knows no more than what a decided log is.
+//! What allowed entries make of the store, by the law of entries and the law of histories together,
+//! and what the rows of a journal decide, entry by entry, with groups that are born: the bridge
+//! from decided logs to these laws. Of mail it knows no more than what a decided log is.
 //! Definitions and laws, no logic.
 #![tactic(auto)]
 
@@ -20,8 +21,15 @@ ghost use Rattle.sc_journal_law.specs.Laws.{
   StatesAllow,
   ToldRowsStay,
 };
+ghost use Rattle.sc_journal_law.specs.OneMap.{AllowedEntriesMakeOneMap};
 
-use sc_map_law::allowed_entries_make_one_map;
+/// After every list of allowed entries from groups that hold nothing, the ring covers and is
+/// served as the cuts say, the requests that took effect are one legal history, and the map after
+/// it is the pairs of the cuts' groups, each on its cut. What any group's log ever made it note
+/// has its entry in the history.
+pub fn allowed_entries_make_one_map()
+    ensures { AllowedEntriesMakeOneMap }
+{}
 
 /// Each row decides for one group at most, whatever rows stand before it: a group of another name
 /// has the log that it had. And rows that decide in turn may be followed by one that does.

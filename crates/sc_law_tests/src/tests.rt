@@ -11,11 +11,11 @@ use sc_hist_law::{
     quiet_entries_tell_a_legal_history, told_entries_tell_a_legal_history,
 };
 use sc_journal_law::{
-    a_split_decides_in_turn, entries_are_allowed_logs, entries_tell_one_map, groups_allow_others,
-    groups_are_born_under_new_names, history_is_told_by_rows, journals_in_turn_are_sound,
-    rows_decide_for_one_group, told_rows_stay, what_logs_allow_stays_allowed,
+    a_split_decides_in_turn, allowed_entries_make_one_map, entries_are_allowed_logs,
+    entries_tell_one_map, groups_allow_others, groups_are_born_under_new_names,
+    history_is_told_by_rows, journals_in_turn_are_sound, rows_decide_for_one_group, told_rows_stay,
+    what_logs_allow_stays_allowed,
 };
-use sc_map_law::allowed_entries_make_one_map;
 use sc_paxos_law::{
     a_lawful_history, acceptors_are_lawful, leaders_are_lawful, one_log, one_value_per_slot,
 };

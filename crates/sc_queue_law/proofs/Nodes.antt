@@ -22,8 +22,8 @@ use Rattle.sc_node_table.specs.Policy.{names_after_tick}
 use Rattle.sc_node_table.specs.Replica.{ReplicaState, Place, name_of, born_replica, last_slot}
 use Rattle.sc_node_table.specs.Rows.{tick_row, made_by, mailed}
 use Rattle.sc_node_table.specs.Slots.{slots_ahead}
-use Rattle.sc_players.specs.Players.{Player, player_table}
-use Rattle.sc_players.specs.declared.roles.Role.TheVariants.{Node, Client}
+use Rattle.sc_sound.specs.Players.{Player, player_table}
+use Rattle.sc_sound.specs.declared.roles.Role.TheVariants.{Node, Client}
 use Rattle.sc_queue_law.specs.OneCall.{KeepsOneCall, EachKeepsOneCall, StepsKeepOneCall, QueuesKeepOneCall}
 use Rattle.sc_queue_law.proofs.Lists.{either_way, one_none}
 use Rattle.sc_queue_law.proofs.Queueing.{Keeps}

@@ -18,8 +18,8 @@ use Rattle.sc_drive.specs.declared.steps.Driven.TheVariants as driven
 use Rattle.sc_scenario.specs.Valid.{IsValid}
 use Rattle.sc_scenario.specs.declared.scenarios.Scenario.{Scenario}
 use Rattle.sc_report.specs.Report.{report_lines}
-use Rattle.sc_players.specs.Players.{schedule, system_of, Lawful, parties, Player, as_nodes}
-use Rattle.sc_replay.specs.Summary.{summary_of}
+use Rattle.sc_sound.specs.Players.{schedule, system_of, Lawful, parties, Player, as_nodes}
+use Rattle.sc_world.specs.Summary.{summary_of}
 use Rattle.sc_whole_law.specs.Valid.{ValidJournalsAreSound}
 use Rattle.sc_statuses.specs.Causes.{said_of}
 use Rattle.sc_run.specs.declared.done.Text.{Text}

@@ -13,8 +13,8 @@ use Rattle.sc_scenario.specs.declared.reading.ScenarioFault.TheVariants.{Bad}
 use Rattle.sc_scenario.specs.declared.scenarios.Scenario.{Scenario}
 use Rattle.sc_report.specs.Report.{report_lines}
 use Rattle.sc_sound.specs.Soundness.{IsSoundThroughout}
-use Rattle.sc_players.specs.Players.{system_of, schedule, Lawful, Whole, parties, as_nodes}
-use Rattle.sc_replay.specs.Summary.{summary_of}
+use Rattle.sc_sound.specs.Players.{system_of, schedule, Lawful, Whole, parties, as_nodes}
+use Rattle.sc_world.specs.Summary.{summary_of}
 use Rattle.sc_run.specs.Played.{mail_weight, HasFilled}
 use Rattle.sc_run.specs.declared.done.Text.{Text}
 use Rattle.sc_run.specs.declared.done.Done.{Done}

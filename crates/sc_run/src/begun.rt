@@ -3,17 +3,16 @@ ghost use Rattle.std.specs.Prelude.{◌≡◌, ◌≤◌, ◌^◌, [], IfOk};
 ghost use Rattle.sc_exchange.specs.Ports.{joined_ports};
 ghost use Rattle.sc_drive.specs.Companies.{AtBirth};
 ghost use Rattle.sc_scenario.specs.Valid.{IsValid};
-ghost use Rattle.sc_players.specs.Players.{births, as_nodes};
+ghost use Rattle.sc_sound.specs.Players.{births, as_nodes};
 
 use sc_base::OutOfMemory;
 use sc_cmd::OrderLine;
 use sc_drive::open;
 use sc_exchange::Port;
 use sc_mail::Mail;
-use sc_replay::valid_scenarios_can_play;
 use sc_scenario::Scenario;
 use sc_shell::Shell;
-use sc_world::{MOST_ACTOR, Party, births};
+use sc_world::{MOST_ACTOR, Party, births, valid_scenarios_can_play};
 use std::alloc::Global;
 
 /// The network's port to a new exchange within a limit of counted bytes of at most 2^30, and the

@@ -6,7 +6,7 @@ use sc_base::Draw;
 use sc_cmd::Base;
 use sc_entries::Cut;
 use sc_map_checks::{covers, legal};
-use sc_replay::{World, decided_ring, effective, history};
+use sc_world::{World, decided_ring, effective, history};
 use std::alloc::Global;
 use std::mem::forget;
 use std::process::Abort;

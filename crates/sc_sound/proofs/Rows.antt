@@ -5,7 +5,7 @@ use Rattle.sc_cmd.specs.declared.cores.Base.{Base}
 use Rattle.sc_cmd.specs.declared.orders.OrderLine.{OrderLine}
 use Rattle.sc_mail.specs.declared.bodies.Mail.{Mail}
 use Rattle.sc_actor.specs.declared.rows.Row.{Row}
-use Rattle.sc_players.specs.Players.{Ahead}
+use Rattle.sc_sound.specs.Players.{Ahead}
 use Rattle.sc_sound.specs.Histories.{newly_decided, history_from}
 
 history_from-push : (ahead : Ahead) (groups : List Base) (before rows : List (Row Mail OrderLine)) (row : Row Mail OrderLine)

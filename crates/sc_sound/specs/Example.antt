@@ -18,7 +18,7 @@ use Rattle.sc_cmd.specs.declared.cores.Base.{Base}
 use Rattle.sc_scenario.specs.Groups.{lone_name, lone_group}
 use Rattle.sc_scenario.specs.declared.scenarios.SchedLine.TheVariants.{Go as GoLine, Settle}
 use Rattle.sc_scenario.specs.declared.scenarios.Scenario.{Scenario}
-use Rattle.sc_players.specs.Players.{Ahead}
+use Rattle.sc_sound.specs.Players.{Ahead}
 
 -- four slots are open
 abbrev pub four : Ahead

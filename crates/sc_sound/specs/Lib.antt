@@ -3,5 +3,8 @@ pub mod Example
 pub mod GroupsOf
 pub mod Histories
 pub mod Logs
+pub mod Players
 pub mod Requests
+pub mod Roles
 pub mod Soundness
+pub mod Summary

@@ -13,7 +13,7 @@ use Rattle.sc_ideal.specs.declared.Entry.{Entry}
 use Rattle.sc_base.specs.Among.{Among}
 use Rattle.sc_scenario.specs.declared.scenarios.Asks.{Asks}
 use Rattle.sc_scenario.specs.declared.scenarios.Scenario.{Scenario}
-use Rattle.sc_players.specs.Players.{player_table, client_seat, replies_of}
+use Rattle.sc_sound.specs.Players.{player_table, client_seat, replies_of}
 use Rattle.sc_base.specs.Limits.{client_actor}
 
 -- an entry is a request of a client with its own operation; requests are numbered from 1

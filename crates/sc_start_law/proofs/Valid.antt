@@ -5,7 +5,7 @@ use Rattle.sc_base.specs.Among.{Among, Each}
 use Rattle.sc_base.specs.declared.names.Draw.{Draw}
 use Rattle.sc_cmd.specs.declared.cores.Base.{Base}
 use Rattle.sc_node_table.specs.Slots.{numbers_from, slots_ahead}
-use Rattle.sc_players.specs.Players.{Ahead, node_seat, client_seats, route_of}
+use Rattle.sc_sound.specs.Players.{Ahead, node_seat, client_seats, route_of}
 use Rattle.sc_scenario.specs.Groups.{base_at}
 use Rattle.sc_scenario.specs.Valid.{IsEarly, TextsAreEarly}
 use Rattle.sc_scenario.specs.declared.scenarios.Asks.{Asks}

@@ -2,7 +2,7 @@
 use Rattle.std.specs.Prelude.{◌≡◌, Option, None}
 use Rattle.sc_base.specs.declared.names.Draw.{Draw}
 use Rattle.sc_node_table.specs.Slots.{slots_ahead}
-use Rattle.sc_players.specs.Players.{Ahead}
+use Rattle.sc_sound.specs.Players.{Ahead}
 use Rattle.sc_scenario.specs.Valid.{IsValid}
 use Rattle.sc_scenario.specs.declared.scenarios.Scenario.{Scenario}
 use Rattle.sc_start_law.specs.Begins.{IsReady, request_of}

@@ -22,7 +22,7 @@ use Rattle.sc_actor.specs.Mail.{mails, numbered}
 use Rattle.sc_paxos_words.proofs.ListLemmas.{Each-from}
 use Rattle.sc_paxos_law.specs.Steps.{Step, Prepared, Promised, Offered, Accepted}
 use Rattle.sc_paxos_law.proofs.Among.{Among-left, Among-right}
-use Rattle.sc_players.specs.Players.{Ahead}
+use Rattle.sc_sound.specs.Players.{Ahead}
 use Rattle.sc_sound.specs.Accepts.{is_accepted, accepts_of, accepts_got, accepts_at, accepts_from, accepts}
 use Rattle.sc_sound.specs.Logs.{rule_of, decided_log}
 use Rattle.sc_paxos_law.specs.Decided.{log_of}

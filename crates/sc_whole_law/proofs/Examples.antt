@@ -1,7 +1,7 @@
 -- The examples are read off texts, so their lawful journals are sound.
 use Rattle.std.proofs.Common.{◌≡◌, ℕ, List, [], Some, inl, refl, sym, append-nil}
 use Rattle.sc_actor.specs.System.{no_words}
-use Rattle.sc_players.specs.Players.{Lawful}
+use Rattle.sc_sound.specs.Players.{Lawful}
 use Rattle.sc_scenario.specs.Grammar.{scenario_of}
 use Rattle.sc_scenario.specs.declared.scenarios.Scenario.{Scenario}
 use Rattle.sc_sound.specs.Example.{four}

@@ -4,7 +4,7 @@ use Rattle.sc_cmd.specs.declared.commands.Command.{Command}
 use Rattle.sc_cmd.specs.declared.cores.Base.{Base}
 use Rattle.sc_paxos_law.specs.Chosen.{IsLog}
 use Rattle.sc_paxos_law.specs.Lawful.{IsLawfulHistory}
-use Rattle.sc_players.specs.Players.{Ahead}
+use Rattle.sc_sound.specs.Players.{Ahead}
 use Rattle.sc_sound.specs.Logs.{decided_log}
 use Rattle.sc_group_law.proofs.Families.{h_of}
 use Rattle.sc_group_law.proofs.Invariant.{rule, first}

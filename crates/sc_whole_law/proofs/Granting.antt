@@ -31,7 +31,7 @@ use Rattle.sc_node_table.specs.Transactions.{standing_by, standing_vote, noted_o
 use Rattle.sc_paxos_words.proofs.ListLemmas.{Each-append, Each-weaker, find_found}
 use Rattle.sc_paxos_law.specs.Chosen.{IsLog}
 use Rattle.sc_paxos_law.specs.Lawful.{IsLawfulHistory}
-use Rattle.sc_players.specs.Players.{Ahead}
+use Rattle.sc_sound.specs.Players.{Ahead}
 use Rattle.sc_scenario.specs.declared.scenarios.Scenario.{Scenario}
 use Rattle.sc_sound.specs.GroupsOf.{groups_at}
 use Rattle.sc_sound.specs.Logs.{decided_log}

@@ -12,7 +12,7 @@ use Rattle.sc_node_table.specs.Ordering.{ordered_command}
 use Rattle.sc_node_table.specs.Replica.{name_of}
 use Rattle.sc_paxos_words.proofs.ListLemmas.{Each-among, Each-append}
 use Rattle.sc_paxos_law.proofs.Among.{Among-right}
-use Rattle.sc_players.specs.Players.{Ahead, Lawful, line_of, schedule, system_of}
+use Rattle.sc_sound.specs.Players.{Ahead, Lawful, line_of, schedule, system_of}
 use Rattle.sc_scenario.specs.Valid.{IsEarly, IsEarlyLine, IsEarlyOrder}
 use Rattle.sc_scenario.specs.declared.scenarios.Asks.{Asks}
 use Rattle.sc_scenario.specs.declared.scenarios.Scenario.{Scenario}

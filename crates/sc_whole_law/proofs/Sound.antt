@@ -4,7 +4,7 @@ use Rattle.sc_cmd.specs.declared.orders.OrderLine.{OrderLine}
 use Rattle.sc_mail.specs.declared.bodies.Mail.{Mail}
 use Rattle.sc_actor.specs.declared.rows.Row.{Row}
 use Rattle.sc_actor.proofs.WalkLemmas.{lawful-prefix}
-use Rattle.sc_players.specs.Players.{Ahead, system_of, schedule}
+use Rattle.sc_sound.specs.Players.{Ahead, system_of, schedule}
 use Rattle.sc_scenario.specs.declared.scenarios.Scenario.{Scenario}
 use Rattle.sc_ring_law.specs.Allowed.{Sources}
 use Rattle.sc_journal_law.specs.Descent.{Rows}

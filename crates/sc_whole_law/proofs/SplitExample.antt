@@ -14,7 +14,7 @@ use Rattle.sc_node_table.specs.Replica.{forgotten}
 use Rattle.sc_node_table.specs.Rows.{queued, requested, request_row, learn_row, mailed}
 use Rattle.sc_node_table.specs.Spoken.{told_begun, went_on, spoken_mails, spoken}
 use Rattle.sc_node_table.specs.Voting.{readied, took, accept_row, accepted_row}
-use Rattle.sc_players.specs.Players.{Lawful}
+use Rattle.sc_sound.specs.Players.{Lawful}
 use Rattle.sc_sound.specs.Example.{four}
 use Rattle.sc_whole_law.specs.SplitExample.{split_scenario, split_example}
 

@@ -25,7 +25,7 @@ use Rattle.sc_paxos_words.proofs.ListLemmas.{Each-among, Each-weaker}
 use Rattle.sc_paxos_law.proofs.Among.{Among-left, Among-right, get_pushed}
 use Rattle.sc_scenario.specs.declared.scenarios.Asks.{Asks}
 use Rattle.sc_scenario.specs.declared.scenarios.Scenario.{Scenario}
-use Rattle.sc_players.specs.Players.{Ahead, system_of, replies_of}
+use Rattle.sc_sound.specs.Players.{Ahead, system_of, replies_of}
 use Rattle.sc_sound.specs.GroupsOf.{children_of, groups_at, birth_at, entries_at, world_at}
 use Rattle.sc_sound.specs.Logs.{decided_log, decided_state}
 use Rattle.sc_sound.specs.Requests.{issues, kept_replies}

@@ -14,7 +14,7 @@ use Rattle.sc_node_table.specs.Pump.{next_call, from_calls, from_queues, found_f
 use Rattle.sc_node_table.specs.Replica.{forgotten}
 use Rattle.sc_node_table.specs.Rows.{queued, requested, request_row, asked_again, told_last, tick_row, mailed}
 use Rattle.sc_node_table.specs.Voting.{readied, took, accept_row, accepted_row}
-use Rattle.sc_players.specs.Players.{Lawful}
+use Rattle.sc_sound.specs.Players.{Lawful}
 use Rattle.sc_sound.specs.Example.{four}
 use Rattle.sc_whole_law.specs.TwoGroups.{two_scenario, two_example}
 

@@ -1,6 +1,6 @@
 -- Lawful journals of valid scenarios are sound: they begin well, and what their orders queue is allowed.
 use Rattle.std.proofs.Common.{◌++◌, subst}
-use Rattle.sc_players.specs.Players.{Lawful, route_of}
+use Rattle.sc_sound.specs.Players.{Lawful, route_of}
 use Rattle.sc_scenario.specs.Valid.{TextsAreEarly}
 use Rattle.sc_draws_law.specs.Laws.{OtherNamesAreFree, TakenOrdersAreAllowed, TakenWishesAreAllowed, WishesAreAtPositions}
 use Rattle.sc_draws_law.specs.Owners.{owner_in}

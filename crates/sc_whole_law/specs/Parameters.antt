@@ -5,7 +5,7 @@ use Rattle.sc_cmd.specs.declared.commands.Command.TheVariants.{Noop, Call, Join,
 use Rattle.sc_cmd.specs.declared.cores.Base.{Base}
 use Rattle.sc_mail.specs.declared.bodies.MailBody.{MailBody}
 use Rattle.sc_mail.specs.declared.bodies.MailBody.TheVariants.{Request, Answer, Prepare, Promise, Accept, Accepted, Nack, Learn, Ask, Install, TxPrepare, TxVote, TxOutcome, TxElsewhere, TxWatch, TxWatched, Told}
-use Rattle.sc_players.specs.Players.{Ahead}
+use Rattle.sc_sound.specs.Players.{Ahead}
 use Rattle.sc_scenario.specs.declared.scenarios.Scenario.{Scenario}
 use Rattle.sc_ring_law.specs.Allowed.{Sources, IsVoteCast, IsWatchVoteCast, IsAllowed}
 use Rattle.sc_ring_law.specs.Stories.{Stories}

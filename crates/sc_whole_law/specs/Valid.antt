@@ -1,7 +1,7 @@
 -- What holds of every lawful journal of a valid scenario.
 use Rattle.std.specs.Prelude.{◌≡◌, ℕ}
 use Rattle.sc_node_table.specs.Slots.{slots_ahead}
-use Rattle.sc_players.specs.Players.{Ahead, Lawful}
+use Rattle.sc_sound.specs.Players.{Ahead, Lawful}
 use Rattle.sc_scenario.specs.Valid.{IsValid}
 use Rattle.sc_scenario.specs.declared.scenarios.Scenario.{Scenario}
 use Rattle.sc_sound.specs.Soundness.{IsSoundThroughout}

@@ -5,7 +5,7 @@
 
 ghost use Rattle.std.specs.Prelude.{◌≡◌, [], ◌∷◌, Some};
 ghost use Rattle.sc_actor.specs.System.{no_words};
-ghost use Rattle.sc_players.specs.Players.{Lawful};
+ghost use Rattle.sc_sound.specs.Players.{Lawful};
 ghost use Rattle.sc_scenario.specs.Grammar.{scenario_of};
 ghost use Rattle.sc_sound.specs.Example.{four};
 ghost use Rattle.sc_sound.specs.GroupsOf.{groups_at, ring_at};

@@ -1,1 +1,8 @@
+mod Fronts
+mod Held
+mod Lines
+mod Names
 mod Numbers
+mod OrderWords
+mod Places
+mod Seats

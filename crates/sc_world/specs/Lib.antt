@@ -1,0 +1,4 @@
+pub mod Plays
+pub mod Replays
+pub mod Summary
+pub mod Worlds

@@ -1,10 +1,22 @@
-//! The parties of a scenario, and what a journal of theirs says.
+//! The parties of a scenario, and what a journal of theirs says: whether it is lawful, what it
+//! leaves of each party, each group's decided log, the decided ring, its history, what was decided
+//! of each group, and its summary.
 #![tactic(auto)]
 
+mod counting;
+mod laws;
+mod orders;
 mod party;
+mod replaying;
 mod seating;
 mod summing;
+mod telling;
+mod worlds;
 
+pub use laws::valid_scenarios_can_play;
 pub use party::Party;
+pub use replaying::{ReplayFault, replay_rows};
 pub use seating::{MOST_ACTOR, are_few, births, schedule};
-pub use summing::{all_asked, deliveries, mail_count, parties_of, small};
+pub use summing::{sum_up, summary};
+pub use telling::{decided_log, decided_ring, effective, history};
+pub use worlds::World;

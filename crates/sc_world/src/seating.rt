@@ -3,7 +3,7 @@ ghost use Rattle.std.specs.Prelude.{◌≡◌, ◌≤◌, ◌↔◌, IsTrue, tru
 ghost use Rattle.sc_base.specs.Limits.{most_requests};
 ghost use Rattle.sc_node_table.specs.Slots.{numbers_from};
 ghost use Rattle.sc_node_table.specs.Node.{are_in_order};
-ghost use Rattle.sc_players.specs.Players.{births, schedule, node_seat, client_seat, client_seats, route_of, line_of, AreFew, as_nodes};
+ghost use Rattle.sc_sound.specs.Players.{births, schedule, node_seat, client_seat, client_seats, route_of, line_of, AreFew, as_nodes};
 
 use crate::party::Party;
 use sc_actor::{Line, Seat};

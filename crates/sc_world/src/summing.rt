@@ -1,136 +1,142 @@
-//! What is counted for the summary of a journal.
-ghost use Rattle.std.specs.Prelude.{◌≡◌, ◌++◌, map, length, count_by, IfOk, OnOk, slice_get};
-ghost use Rattle.std.specs.List.{flat_map};
-ghost use Rattle.sc_actor.specs.Mail.{is_delivery, mails};
-ghost use Rattle.sc_players.specs.Summary.{asked_by, asked_from, asked_after, got_of};
+//! The summary of a replayed journal.
+ghost use Rattle.std.specs.Prelude.{◌≡◌, ◌≤◌, length, fold, IfOk, OnOk};
+ghost use Rattle.std.specs.Option.{option_to_list};
+ghost use Rattle.sc_actor.specs.Walk.{is_quiet, skipped};
+ghost use Rattle.sc_sound.specs.Players.{system_of, schedule, parties, as_nodes};
+ghost use Rattle.sc_sound.specs.GroupsOf.{world_at};
+ghost use Rattle.sc_world.specs.Summary.{line_of, place_in, placed, ring_lines, summary_of};
+ghost use Rattle.sc_chance.specs.Words.{two_words};
 
+use crate::counting::{all_asked, deliveries, mail_count, small};
+use crate::orders::{order_count, orders_told};
 use crate::party::Party;
-use sc_actor::{Event, Row, Seat};
-use sc_base::{Dup, Op, OutOfMemory, Sequence};
-use sc_client::ClientCore;
-use sc_cmd::OrderLine;
+use crate::telling::store_world;
+use crate::worlds::World;
+use sc_actor::{Journal, Row};
+use sc_base::{OutOfMemory, Sequence};
+use sc_cmd::{Base, OrderLine, Route};
+use sc_entries::Cut;
 use sc_mail::Mail;
-use sc_players::got_by;
-use sc_report::{Asked, Progress};
+use sc_report::Summary;
+use sc_scenario::Scenario;
+use sc_store_world::StoreWorld;
 use std::alloc::Global;
 
-/// A count that a report can tell: more than 2^32 - 1 rows or mails have no room in memory.
-pub fn small(n: usize) -> Result<u32, OutOfMemory>
-    ensures { IfOk result (λ m. m ≡ n) }
+// The line of a cut, if its group was born.
+fn line_of(world: &StoreWorld, cut: &Cut) -> Option<Route>
+    ensures { result ≡ line_of world.now cut.now }
 {
-    if n > 4_294_967_295 {
+    match world.group(cut.group) {
+        None => None,
+        Some(group) => Some(Route {
+            group: cut.group,
+            lo: cut.arc.lo(),
+            members: group.core().members,
+        }),
+    }
+}
+
+// Where a line that begins at a position stands among lines by ascending beginning.
+fn place_in(lines: &[Route], lo: u32) -> usize
+    ensures value { result ≡ place_in lines.now lo }
+    ensures within { result ≤ length lines.now }
+{
+    let mut at = 0usize;
+    for other in lines {
+        if lo < other.lo {
+            return at;
+        }
+        at += 1;
+    }
+    at
+}
+
+fn add_line(lines: &mut Vec<Route>, line: Option<Route>) -> Result<(), OutOfMemory>
+    ensures { OnOk result (lines.new.items ≡ fold placed lines.old.items (option_to_list line)) }
+{
+    match line {
+        None => Ok(()),
+        Some(line) => {
+            let at = place_in(lines.as_slice(), line.lo);
+            lines.insert(at, line)?;
+            Ok(())
+        }
+    }
+}
+
+fn ring_lines(alloc: Global, world: &StoreWorld) -> Result<Vec<Route>, OutOfMemory>
+    ensures { IfOk result (λ lines. lines.items ≡ ring_lines world.now) }
+{
+    let mut lines = Vec::new(alloc);
+    for cut in world.ring() {
+        add_line(&mut lines, line_of(world, cut))?;
+    }
+    Ok(lines)
+}
+
+// The lines of the ring of a journal.
+fn ring_of(
+    alloc: Global,
+    groups: &[Base],
+    rows: &[Row<Mail, OrderLine>],
+) -> Result<Sequence<Route>, OutOfMemory>
+    ensures { IfOk result (λ ring. ring ≡ ring_lines (world_at as_nodes groups.now rows.now)) }
+{
+    let world = store_world(alloc, groups, rows)?;
+    let lines = ring_lines(alloc, &world)?;
+    Ok(Sequence::from_vec(lines))
+}
+
+/// What the report tells of a journal, with the parties that its rows leave, the lines that were
+/// skipped, and whether no mail is pending. Refused only for want of memory.
+pub fn sum_up(
+    alloc: Global,
+    scenario: &Scenario,
+    journal: &Journal<Mail, OrderLine>,
+    left: &Sequence<Party>,
+    skips: u64,
+    quiet: bool,
+) -> Result<Summary, OutOfMemory>
+    requires parties { left.now ≡ parties as_nodes scenario.now journal.now }
+    requires skipped { skips ≡
+        skipped (system_of as_nodes two_words scenario.now) (schedule scenario.now) journal.now }
+    requires quiet { quiet ≡ is_quiet (system_of as_nodes two_words scenario.now) journal.now }
+    ensures { IfOk result (λ told. told ≡ summary_of scenario.now journal.now) }
+{
+    if skips > 4_294_967_295 {
         return Err(OutOfMemory);
     }
-    Ok(n as u32)
-}
-
-fn got_at(alloc: Global, client: &ClientCore, i: usize, seq: u32) -> Result<Progress, OutOfMemory>
-    ensures { IfOk result (λ got. got ≡ got_of (slice_get client.now.replies i) client.now seq) }
-{
-    let waits = client.waiting() == Some(seq);
-    if i < client.replies().len() {
-        let reply = client.replies().at(i).dup(alloc)?;
-        return Ok(got_by(Some(reply), waits));
-    }
-    Ok(got_by(None, waits))
-}
-
-// The request after so many.
-fn asked_at(alloc: Global, client: &ClientCore, i: usize, op: &Op) -> Result<Asked, OutOfMemory>
-    ensures { IfOk result (λ asked. asked ≡ asked_after client.now i op.now) }
-{
-    let seq = small(i.saturating_add(1))?;
-    let got = got_at(alloc, client, i, seq)?;
-    Ok(Asked {
-        client: client.me(),
-        seq,
-        op: op.dup(alloc)?,
-        got,
+    let rows = journal.as_slice();
+    Ok(Summary {
+        version: scenario.version,
+        brief: scenario.brief,
+        asked: all_asked(alloc, left.as_slice())?,
+        orders: orders_told(alloc, order_count(scenario.lines.as_slice()), rows)?,
+        ring: ring_of(alloc, scenario.groups.as_slice(), rows)?,
+        rows: small(rows.len())?,
+        mail: mail_count(rows)?,
+        delivered: deliveries(rows)?,
+        skipped: skips as u32,
+        quiet,
     })
 }
 
-fn add_client(
+/// What the report tells of a journal that was replayed for this scenario. Refused only for want of
+/// memory.
+pub fn summary(
     alloc: Global,
-    asked: &mut Sequence<Asked>,
-    client: &ClientCore,
-    ops: &[Op],
-) -> Result<(), OutOfMemory>
-    ensures { OnOk result (asked.new ≡ asked.old ++ asked_from client.now 0 ops.now) }
+    scenario: &Scenario,
+    world: &World<'_>,
+) -> Result<Summary, OutOfMemory>
+    requires { world.now.scenario ≡ scenario.now }
+    ensures { IfOk result (λ told. told ≡ summary_of scenario.now world.now.rows) }
 {
-    for i in 0..ops.len() {
-        asked.push(asked_at(alloc, client, i, &ops[i])?)?;
-    }
-    Ok(())
-}
-
-fn add_party(alloc: Global, asked: &mut Sequence<Asked>, party: &Party) -> Result<(), OutOfMemory>
-    ensures { OnOk result (asked.new ≡ asked.old ++ asked_by party.now) }
-{
-    match party {
-        Party::Node(_) => Ok(()),
-        Party::Client(client) => add_client(alloc, asked, client, client.requests().as_slice()),
-    }
-}
-
-/// The requests of the clients, each with how far it came.
-pub fn all_asked(alloc: Global, parties: &[Party]) -> Result<Sequence<Asked>, OutOfMemory>
-    ensures { IfOk result (λ asked. asked ≡ flat_map asked_by parties.now) }
-{
-    let mut asked = Sequence::new(alloc);
-    for party in parties {
-        add_party(alloc, &mut asked, party)?;
-    }
-    Ok(asked)
-}
-
-fn is_delivery(event: &Event<OrderLine>) -> bool
-    ensures { result ≡ is_delivery event.now }
-{
-    match event {
-        Event::Deliver(_) => true,
-        _ => false,
-    }
-}
-
-/// How many rows deliver a mail.
-pub fn deliveries(rows: &[Row<Mail, OrderLine>]) -> Result<u32, OutOfMemory>
-    ensures { IfOk result (λ n. n ≡ count_by (λ row. is_delivery row.event) rows.now) }
-{
-    let mut total = 0u32;
-    for row in rows {
-        if is_delivery(&row.event) {
-            total = match total.checked_add(1) {
-                Some(sum) => sum,
-                None => return Err(OutOfMemory),
-            };
-        }
-    }
-    Ok(total)
-}
-
-/// How many mails the rows send.
-pub fn mail_count(rows: &[Row<Mail, OrderLine>]) -> Result<u32, OutOfMemory>
-    ensures { IfOk result (λ n. n ≡ length (mails rows.now)) }
-{
-    let mut total = 0u32;
-    for row in rows {
-        let more = small(row.sent.len())?;
-        total = match total.checked_add(more) {
-            Some(sum) => sum,
-            None => return Err(OutOfMemory),
-        };
-    }
-    Ok(total)
-}
-
-/// The actors without their numbers.
-pub fn parties_of(alloc: Global, seats: Vec<Seat<Party>>) -> Result<Sequence<Party>, OutOfMemory>
-    ensures { IfOk result (λ parties. parties ≡ map (λ seat. seat.actor) seats.items) }
-{
-    let mut parties = Sequence::new(alloc);
-    for seat in seats {
-        let Seat { actor, .. } = seat;
-        parties.push(actor)?;
-    }
-    Ok(parties)
+    sum_up(
+        alloc,
+        scenario,
+        world.rows,
+        &world.parties,
+        world.skipped,
+        world.quiet,
+    )
 }

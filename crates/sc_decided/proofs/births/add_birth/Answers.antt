@@ -1,6 +1,6 @@
 use Rattle.std.proofs.Common.{◌≡◌, List, [], ◌∷◌, ◌++◌, true, false, sym, subst, ◌∙◌}
 use Rattle.sc_cmd.specs.declared.cores.Base.{Base}
-use Rattle.sc_decided.specs.Known.{AreKnown}
+use Rattle.sc_decided.specs.Found.{AreKnown}
 use Rattle.sc_decided.proofs.Families.{birth_was, birth_is, known_push}
 use Rattle.sc_decided.proofs.births.add_birth.Goals as goal
 

@@ -3,7 +3,7 @@ use Rattle.std.proofs.lemmas.Bool.{and_parts}
 use Rattle.std.proofs.lemmas.List.{take_all}
 use Rattle.sc_cmd.specs.declared.cores.Base.{Base}
 use Rattle.sc_sound.specs.GroupsOf.{with_birth}
-use Rattle.sc_decided.specs.Known.{AreKnown}
+use Rattle.sc_decided.specs.Found.{AreKnown}
 use Rattle.sc_decided.proofs.Families.{births_push}
 use Rattle.sc_decided.proofs.births.add_births.Goals as goal
 

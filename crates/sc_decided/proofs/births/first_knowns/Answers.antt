@@ -1,5 +1,5 @@
 use Rattle.std.proofs.Common.{◌+◌, take, arith, ◌∙◌, sym, subst}
-use Rattle.sc_decided.specs.Known.{AreKnown}
+use Rattle.sc_decided.specs.Found.{AreKnown}
 use Rattle.sc_decided.proofs.Families.{first_push}
 use Rattle.sc_decided.proofs.births.first_knowns.Goals as goal
 

@@ -1,5 +1,5 @@
 use Rattle.std.proofs.Common.{take}
-use Rattle.sc_decided.specs.Known.{AreKnown}
+use Rattle.sc_decided.specs.Found.{AreKnown}
 use Rattle.sc_decided.proofs.births.first_knowns.Given as goal
 
 -- those so far are known

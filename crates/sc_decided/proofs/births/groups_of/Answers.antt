@@ -1,7 +1,7 @@
 use Rattle.std.proofs.Common.{◌≡◌, ℕ, suc, ◌+◌, length, true, false, arith, subst}
-use Rattle.sc_players.specs.Players.{as_nodes}
+use Rattle.sc_sound.specs.Players.{as_nodes}
 use Rattle.sc_sound.specs.GroupsOf.{with_descendants}
-use Rattle.sc_decided.specs.Known.{AreKnown}
+use Rattle.sc_decided.specs.Found.{AreKnown}
 use Rattle.sc_decided.proofs.Families.{found_all}
 use Rattle.sc_decided.proofs.births.groups_of.Goals as goal
 

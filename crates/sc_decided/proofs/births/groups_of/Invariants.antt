@@ -1,6 +1,6 @@
-use Rattle.sc_players.specs.Players.{as_nodes}
+use Rattle.sc_sound.specs.Players.{as_nodes}
 use Rattle.sc_sound.specs.GroupsOf.{with_descendants}
-use Rattle.sc_decided.specs.Known.{AreKnown}
+use Rattle.sc_decided.specs.Found.{AreKnown}
 use Rattle.sc_decided.proofs.births.groups_of.Given as goal
 
 -- the groups of so many rounds are known

@@ -1,6 +1,6 @@
 use Rattle.std.proofs.Common.{◌≡◌, false, take}
 use Rattle.std.specs.List.{list_any}
-use Rattle.sc_decided.specs.Known.{is_kept_of}
+use Rattle.sc_decided.specs.Found.{is_kept_of}
 use Rattle.sc_decided.proofs.births.has_named.Given as goal
 
 -- none so far

@@ -1,7 +1,7 @@
 use Rattle.std.proofs.Common.{◌≡◌, List, true, fold, sym, subst, ◌∙◌}
 use Rattle.sc_cmd.specs.declared.cores.Base.{Base}
 use Rattle.sc_sound.specs.GroupsOf.{with_birth}
-use Rattle.sc_decided.specs.Known.{AreKnown}
+use Rattle.sc_decided.specs.Found.{AreKnown}
 use Rattle.sc_decided.proofs.Families.{children_are}
 use Rattle.sc_decided.proofs.births.look_on.Goals as goal
 

@@ -1,6 +1,6 @@
 use Rattle.std.proofs.Common.{◌≡◌, ◌++◌, take}
 use Rattle.std.specs.List.{flat_map}
-use Rattle.sc_decided.specs.Known.{log_kept, grown_by}
+use Rattle.sc_decided.specs.Found.{log_kept, grown_by}
 use Rattle.sc_decided.proofs.entries.add_grown.Given as goal
 
 -- what those so far have gained

@@ -1,8 +1,8 @@
 use Rattle.std.proofs.Common.{◌≡◌, map, take}
 use Rattle.sc_actor.specs.Mail.{mails}
-use Rattle.sc_players.specs.Players.{as_nodes}
+use Rattle.sc_sound.specs.Players.{as_nodes}
 use Rattle.sc_sound.specs.GroupsOf.{entries_at}
-use Rattle.sc_decided.specs.Known.{AreFound}
+use Rattle.sc_decided.specs.Found.{AreFound}
 use Rattle.sc_decided.proofs.entries.entries_of.Given as goal
 
 -- the rows so far

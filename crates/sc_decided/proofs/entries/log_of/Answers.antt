@@ -1,8 +1,8 @@
 use Rattle.std.proofs.Common.{ap, ◌∙◌, arith}
 use Rattle.std.proofs.lemmas.List.{take_all}
-use Rattle.sc_players.specs.Players.{as_nodes}
+use Rattle.sc_sound.specs.Players.{as_nodes}
 use Rattle.sc_sound.specs.GroupsOf.{groups_at}
-use Rattle.sc_decided.specs.Known.{log_kept}
+use Rattle.sc_decided.specs.Found.{log_kept}
 use Rattle.sc_decided.proofs.Families.{log_in_is}
 use Rattle.sc_decided.proofs.entries.log_of.Goals as goal
 

@@ -3,7 +3,7 @@ use Rattle.sc_actor.specs.Counted.{journal_bytes}
 use Rattle.sc_chance.specs.Words.{two_words}
 use Rattle.sc_exchange.specs.Ports.{seen}
 use Rattle.sc_drive.specs.Goings.{HasEnded, IsKept, SparesGoers}
-use Rattle.sc_players.specs.Players.{births, as_nodes}
+use Rattle.sc_sound.specs.Players.{births, as_nodes}
 use Rattle.sc_run.specs.Played.{mail_weight}
 use Rattle.sc_run.proofs.Plays.{drove_on, actors_of, ends, fills}
 use Rattle.sc_run.proofs.played.play.Goals as goal

@@ -1,0 +1,3 @@
+pub mod Acceptances
+pub mod Indexes
+pub mod Known

@@ -1,2 +1,0 @@
-mod Executes
-pub mod OneMap

@@ -1,3 +1,0 @@
-pub mod Roles
-pub mod Players
-pub mod Summary

@@ -1,7 +1,0 @@
-mod OrderWords
-mod Births
-mod Names
-mod Lines
-mod Fronts
-mod Held
-mod Places

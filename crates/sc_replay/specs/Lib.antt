@@ -1,4 +1,0 @@
-pub mod Plays
-pub mod Replays
-pub mod Worlds
-pub mod Summary

@@ -1,0 +1,20 @@
+-- What a replay leaves is what a world holds.
+use Rattle.std.proofs.Common.{◌≡◌, List, map, ◌∙◌, ap}
+use Rattle.sc_cmd.specs.declared.orders.OrderLine.{OrderLine}
+use Rattle.sc_mail.specs.declared.bodies.Mail.{Mail}
+use Rattle.sc_actor.specs.declared.rows.Row.{Row}
+use Rattle.sc_chance.specs.Words.{two_words}
+use Rattle.sc_checker.specs.declared.judging.Replayed.{Replayed}
+use Rattle.sc_checker.specs.Replays.{Leaves}
+use Rattle.sc_scenario.specs.declared.scenarios.Scenario.{Scenario}
+use Rattle.sc_sound.specs.Players.{system_of, schedule, Player, as_nodes}
+use Rattle.sc_world.specs.Worlds.{WorldHolds}
+
+-- what a replay leaves is what a world holds
+pub holds : (scenario : Scenario) (rows : List (Row Mail OrderLine)) (parties : List Player) (left : Replayed Player) →
+    parties ≡ map (λ seat. seat.actor) left.seats.items → Leaves (system_of as_nodes two_words scenario) (schedule scenario) rows left → WorldHolds scenario rows parties left.skipped left.quiet
+holds scenario rows parties left are leaves = record {
+  parties_are = are ∙ ap (map (λ seat. seat.actor)) leaves.replayed.actors;
+  skips_are = leaves.replayed.skips_are;
+  quiet_is = leaves.quiet_now;
+}

@@ -1,0 +1,27 @@
+use Rattle.std.proofs.Common.{refl, subst}
+use Rattle.sc_checker.specs.Replays.{IsReplayed, Leaves}
+use Rattle.sc_chance.specs.Words.{two_words}
+use Rattle.sc_sound.specs.Players.{as_nodes, system_of, schedule}
+use Rattle.sc_world.proofs.Held.{holds}
+use Rattle.sc_world.proofs.replaying.world_of.Goals as goal
+
+pub invariant_of-result : goal.invariant_of-result
+invariant_of-result c =
+    let s = system_of as_nodes two_words c.args.scenario.now in
+    let lines = schedule c.args.scenario.now in
+    let leaves : Leaves s lines c.as_slice.result.now c.in-Some.left = subst (IsReplayed s lines c.as_slice.result.now) c.in-Some.is c.in_ok-left_by.ensures in
+    holds c.args.scenario.now c.args.rows.now c.in_ok-parties-in-Some.parties c.in-Some.left c.in_ok-parties-in-Some.ensures
+    (subst (λ rows. Leaves s lines rows c.in-Some.left) c.as_slice.ensures leaves)
+
+pub returns-in_ok-parties-in-Some : goal.returns-in_ok-parties-in-Some
+returns-in_ok-parties-in-Some c =
+    let s = system_of as_nodes two_words c.args.scenario.now in
+    let lines = schedule c.args.scenario.now in
+    let leaves : Leaves s lines c.as_slice.result.now c.in-Some.left = subst (IsReplayed s lines c.as_slice.result.now) c.in-Some.is c.in_ok-left_by.ensures in
+    let here : Leaves s lines c.args.rows.now c.in-Some.left = subst (λ rows. Leaves s lines rows c.in-Some.left) c.as_slice.ensures leaves in
+    record {
+      lawful = here.replayed.lawful;
+      sound = c.valid_journals_are_sound.ensures as_nodes refl two_words c.args.scenario.now c.requires.valid c.args.rows.now here.replayed.lawful;
+      scenario_is = refl;
+      rows_are = refl;
+    }

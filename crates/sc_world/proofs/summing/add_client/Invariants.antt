@@ -1,7 +1,0 @@
-use Rattle.std.proofs.Common.{◌≡◌, ◌++◌, drop}
-use Rattle.sc_players.specs.Summary.{asked_from}
-use Rattle.sc_world.proofs.summing.add_client.Given as goal
-
--- what was added, and then what is left, are the requests
-abbrev pub invariant-loop-i : goal.invariant-loop-i
-invariant-loop-i l = l.asked ++ asked_from l.client l.i (drop l.i l.ops) ≡ l.initial.asked ++ asked_from l.client 0 l.ops

@@ -1,0 +1,20 @@
+-- Scenarios that can be played.
+use Rattle.std.specs.Prelude.{◌≡◌, ℕ, ◌<◌, ◌≤◌, true, All, Contains}
+use Rattle.sc_actor.specs.declared.schedules.Line.TheVariants.{Go, Crash}
+use Rattle.sc_actor.specs.System.{are_apart}
+use Rattle.sc_scenario.specs.Valid.{IsValid}
+use Rattle.sc_scenario.specs.declared.scenarios.Scenario.{Scenario}
+use Rattle.sc_node_table.specs.Node.{are_in_order}
+use Rattle.sc_sound.specs.Players.{most_actor, births, schedule, AreFew, as_nodes}
+
+-- what a play asks of a scenario: groups in the order of their names, actors with different numbers from 1 to 96, no actor that is told to go and may crash, and no client with more requests than it may have
+pub record CanPlay (scenario : Scenario) : Type 0 where
+  pub ordered : are_in_order scenario.groups ≡ true
+  pub apart : are_apart (births as_nodes scenario) ≡ true
+  pub numbered : All (λ seat. (0 < seat.who) × (seat.who ≤ most_actor)) (births as_nodes scenario)
+  pub spared : (who : ℕ) → Contains (schedule scenario) (Go who) → ¬ Contains (schedule scenario) (Crash who)
+  pub few : AreFew scenario
+
+-- each valid scenario can be played
+abbrev pub ValidCanPlay : Type 0
+ValidCanPlay = (scenario : Scenario) → IsValid scenario → CanPlay scenario

@@ -1,0 +1,80 @@
+-- What the report tells of a scenario and a journal of it.
+use Rattle.std.specs.Prelude.{ℕ, ◌+◌, ◌==◌, nat_lt, Bool, true, false, List, [], ◌∷◌, length, map, fold, count_by, if◌then◌else◌, Option, Some, None}
+use Rattle.std.specs.List.{flat_map, insert}
+use Rattle.std.specs.Option.{option_map, option_to_list}
+use Rattle.sc_cmd.specs.declared.links.Route.{Route}
+use Rattle.sc_cmd.specs.declared.orders.OrderLine.{OrderLine}
+use Rattle.sc_cmd.specs.declared.orders.ToldResult.{ToldResult}
+use Rattle.sc_mail.specs.declared.bodies.Mail.{Mail}
+use Rattle.sc_mail.specs.declared.bodies.MailBody.{MailBody}
+use Rattle.sc_mail.specs.declared.bodies.MailBody.TheVariants.{Told as TellsOrder}
+use Rattle.sc_actor.specs.declared.rows.Row.{Row}
+use Rattle.sc_actor.specs.Mail.{is_delivery, mails}
+use Rattle.sc_actor.specs.Walk.{skipped, is_quiet}
+use Rattle.sc_node_table.specs.Slots.{numbers_from}
+use Rattle.sc_node_table.specs.Replica.{either}
+use Rattle.sc_report.specs.declared.summaries.Summary.{Summary}
+use Rattle.sc_scenario.specs.declared.scenarios.Scenario.{Scenario}
+use Rattle.sc_scenario.specs.declared.scenarios.SchedLine.{SchedLine}
+use Rattle.sc_scenario.specs.declared.scenarios.SchedLine.TheVariants.{Told}
+use Rattle.sc_sound.specs.Players.{system_of, schedule, parties, as_nodes}
+use Rattle.sc_sound.specs.Summary.{asked_by}
+use Rattle.sc_entries.specs.declared.Cut.{Cut}
+use Rattle.sc_entries.specs.Worlds.{StoreWorld, named_group}
+use Rattle.sc_sound.specs.GroupsOf.{world_at}
+use Rattle.sc_chance.specs.Words.{two_words}
+
+-- what a mail tells of the order of a number
+abbrev pub told_in_mail : ℕ → MailBody → Option ToldResult
+told_in_mail number (TellsOrder order result) = if order == number then Some result else None
+told_in_mail number _ = None
+
+-- what these mails tell of an order: what the first that tells of it says
+abbrev pub told_of : ℕ → List Mail → Option ToldResult
+told_of number [] = None
+told_of number (mail ∷ more) = either (told_in_mail number mail.body) (told_of number more)
+
+-- whether a line is an order
+abbrev pub is_order : SchedLine → Bool
+is_order (Told node line) = true
+is_order _ = false
+
+-- what these mails tell of so many orders, which are numbered from 1
+abbrev pub orders_told : ℕ → List Mail → List (Option ToldResult)
+orders_told count sent = map (λ number. told_of number sent) (numbers_from 1 count)
+
+-- how many orders a scenario has
+abbrev pub orders_in : Scenario → ℕ
+orders_in scenario = count_by is_order scenario.lines
+
+-- the line of a cut: where it begins, and the members of its group, as the group's own log makes it; none of a group that was not born
+abbrev pub line_of : StoreWorld → Cut → Option Route
+line_of world cut = option_map (λ group. record { group = cut.group; lo = cut.arc.lo; members = group.core.members }) (named_group cut.group world.groups)
+
+-- where a line that begins at a position stands among lines by ascending beginning: before the first that begins later
+abbrev pub place_in : List Route → ℕ → ℕ
+place_in [] lo = 0
+place_in (other ∷ lines) lo = if nat_lt lo other.lo then 0 else 1 + place_in lines lo
+
+-- these lines and one more, in its place
+abbrev pub placed : List Route → Route → List Route
+placed lines line = insert lines (place_in lines line.lo) line
+
+-- the lines of the decided ring, by ascending beginning
+abbrev pub ring_lines : StoreWorld → List Route
+ring_lines world = fold placed [] (flat_map (λ cut. option_to_list (line_of world cut)) world.ring)
+
+-- the summary of a journal
+abbrev pub summary_of : Scenario → List (Row Mail OrderLine) → Summary
+summary_of scenario journal = record {
+  version = scenario.version;
+  brief = scenario.brief;
+  asked = flat_map asked_by (parties as_nodes scenario journal);
+  orders = orders_told (orders_in scenario) (mails journal);
+  ring = ring_lines (world_at as_nodes scenario.groups journal);
+  rows = length journal;
+  mail = length (mails journal);
+  delivered = count_by (λ row. is_delivery row.event) journal;
+  skipped = skipped (system_of as_nodes two_words scenario) (schedule scenario) journal;
+  quiet = is_quiet (system_of as_nodes two_words scenario) journal;
+}

@@ -1,0 +1,33 @@
+-- What a world stands for, and what it holds of it.
+use Rattle.std.specs.Prelude.{◌≡◌, ℕ, Bool, List, Option, Some, None}
+use Rattle.sc_cmd.specs.declared.orders.OrderLine.{OrderLine}
+use Rattle.sc_mail.specs.declared.bodies.Mail.{Mail}
+use Rattle.sc_actor.specs.declared.rows.Row.{Row}
+use Rattle.sc_actor.specs.Walk.{skipped, is_quiet}
+use Rattle.sc_scenario.specs.declared.scenarios.Scenario.{Scenario}
+use Rattle.sc_sound.specs.Players.{system_of, schedule, Lawful, parties, Player, as_nodes}
+use Rattle.sc_sound.specs.Soundness.{IsSoundThroughout}
+use Rattle.sc_chance.specs.Words.{two_words}
+
+-- a scenario, and rows of it
+pub record Standing : Type 0 where
+  pub scenario : Scenario
+  pub rows : List (Row Mail OrderLine)
+
+-- what a world holds: the parties as their rows leave them, how many lines were skipped, and whether no mail is pending
+pub record WorldHolds (scenario : Scenario) (rows : List (Row Mail OrderLine)) (left : List Player) (skips : ℕ) (quiet : Bool) : Type 0 where
+  pub parties_are : left ≡ parties as_nodes scenario rows
+  pub skips_are : skips ≡ skipped (system_of as_nodes two_words scenario) (schedule scenario) rows
+  pub quiet_is : quiet ≡ is_quiet (system_of as_nodes two_words scenario) rows
+
+-- a world stands for these rows of a scenario, which are lawful, and each first part of which is sound
+pub record StandsFor (scenario : Scenario) (rows : List (Row Mail OrderLine)) (world : Standing) : Type 0 where
+  pub lawful : Lawful as_nodes two_words scenario rows
+  pub sound : IsSoundThroughout as_nodes scenario rows
+  pub scenario_is : world.scenario ≡ scenario
+  pub rows_are : world.rows ≡ rows
+
+-- there is a world exactly where the rows are lawful
+abbrev pub MayReplay : Scenario → List (Row Mail OrderLine) → Option Standing → Type 0
+MayReplay scenario rows None = Lawful as_nodes two_words scenario rows → ⊥
+MayReplay scenario rows (Some world) = StandsFor scenario rows world

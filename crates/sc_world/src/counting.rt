@@ -1,0 +1,139 @@
+//! What is counted for the summary of a journal.
+ghost use Rattle.std.specs.Prelude.{◌≡◌, ◌++◌, map, length, count_by, IfOk, OnOk, slice_get};
+ghost use Rattle.std.specs.List.{flat_map};
+ghost use Rattle.sc_actor.specs.Mail.{is_delivery, mails};
+ghost use Rattle.sc_sound.specs.Summary.{asked_by, asked_from, asked_after, got_of};
+
+use crate::party::Party;
+use sc_actor::{Event, Row, Seat};
+use sc_base::{Dup, Op, OutOfMemory, Sequence};
+use sc_client::ClientCore;
+use sc_cmd::OrderLine;
+use sc_mail::Mail;
+use sc_report::{Asked, Progress};
+use sc_sound::got_by;
+use std::alloc::Global;
+
+/// A count that a report can tell: more than 2^32 - 1 rows or mails have no room in memory.
+pub(crate) fn small(n: usize) -> Result<u32, OutOfMemory>
+    ensures { IfOk result (λ m. m ≡ n) }
+{
+    if n > 4_294_967_295 {
+        return Err(OutOfMemory);
+    }
+    Ok(n as u32)
+}
+
+fn got_at(alloc: Global, client: &ClientCore, i: usize, seq: u32) -> Result<Progress, OutOfMemory>
+    ensures { IfOk result (λ got. got ≡ got_of (slice_get client.now.replies i) client.now seq) }
+{
+    let waits = client.waiting() == Some(seq);
+    if i < client.replies().len() {
+        let reply = client.replies().at(i).dup(alloc)?;
+        return Ok(got_by(Some(reply), waits));
+    }
+    Ok(got_by(None, waits))
+}
+
+// The request after so many.
+fn asked_at(alloc: Global, client: &ClientCore, i: usize, op: &Op) -> Result<Asked, OutOfMemory>
+    ensures { IfOk result (λ asked. asked ≡ asked_after client.now i op.now) }
+{
+    let seq = small(i.saturating_add(1))?;
+    let got = got_at(alloc, client, i, seq)?;
+    Ok(Asked {
+        client: client.me(),
+        seq,
+        op: op.dup(alloc)?,
+        got,
+    })
+}
+
+fn add_client(
+    alloc: Global,
+    asked: &mut Sequence<Asked>,
+    client: &ClientCore,
+    ops: &[Op],
+) -> Result<(), OutOfMemory>
+    ensures { OnOk result (asked.new ≡ asked.old ++ asked_from client.now 0 ops.now) }
+{
+    for i in 0..ops.len() {
+        asked.push(asked_at(alloc, client, i, &ops[i])?)?;
+    }
+    Ok(())
+}
+
+fn add_party(alloc: Global, asked: &mut Sequence<Asked>, party: &Party) -> Result<(), OutOfMemory>
+    ensures { OnOk result (asked.new ≡ asked.old ++ asked_by party.now) }
+{
+    match party {
+        Party::Node(_) => Ok(()),
+        Party::Client(client) => add_client(alloc, asked, client, client.requests().as_slice()),
+    }
+}
+
+/// The requests of the clients, each with how far it came.
+pub(crate) fn all_asked(alloc: Global, parties: &[Party]) -> Result<Sequence<Asked>, OutOfMemory>
+    ensures { IfOk result (λ asked. asked ≡ flat_map asked_by parties.now) }
+{
+    let mut asked = Sequence::new(alloc);
+    for party in parties {
+        add_party(alloc, &mut asked, party)?;
+    }
+    Ok(asked)
+}
+
+fn is_delivery(event: &Event<OrderLine>) -> bool
+    ensures { result ≡ is_delivery event.now }
+{
+    match event {
+        Event::Deliver(_) => true,
+        _ => false,
+    }
+}
+
+/// How many rows deliver a mail.
+pub(crate) fn deliveries(rows: &[Row<Mail, OrderLine>]) -> Result<u32, OutOfMemory>
+    ensures { IfOk result (λ n. n ≡ count_by (λ row. is_delivery row.event) rows.now) }
+{
+    let mut total = 0u32;
+    for row in rows {
+        if is_delivery(&row.event) {
+            total = match total.checked_add(1) {
+                Some(sum) => sum,
+                None => return Err(OutOfMemory),
+            };
+        }
+    }
+    Ok(total)
+}
+
+/// How many mails the rows send.
+pub(crate) fn mail_count(rows: &[Row<Mail, OrderLine>]) -> Result<u32, OutOfMemory>
+    ensures { IfOk result (λ n. n ≡ length (mails rows.now)) }
+{
+    let mut total = 0u32;
+    for row in rows {
+        let more = small(row.sent.len())?;
+        total = match total.checked_add(more) {
+            Some(sum) => sum,
+            None => return Err(OutOfMemory),
+        };
+    }
+    Ok(total)
+}
+
+/// The actors without their numbers.
+pub(crate) fn parties_of(
+    alloc: Global,
+    seats: Vec<Seat<Party>>,
+) -> Result<Sequence<Party>, OutOfMemory>
+    ensures { IfOk result (λ parties. parties ≡ map (λ seat. seat.actor) seats.items) }
+{
+    let mut parties = Sequence::new(alloc);
+    for seat in seats {
+        let Seat { actor, .. } = seat;
+        parties.push(actor)?;
+    }
+    Ok(parties)
+}

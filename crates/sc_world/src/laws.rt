@@ -1,0 +1,13 @@
+//! What holds of every scenario that some text is.
+ghost use Rattle.sc_world.specs.Plays.{ValidCanPlay};
+
+use sc_scenario::texts_are_early;
+
+/// Every valid scenario can be played: its groups stand in the order of their names, its actors
+/// have different numbers from 1 to 96, no line tells an actor to go that another lets crash, and
+/// no client has more requests than it may have.
+pub fn valid_scenarios_can_play()
+    ensures { ValidCanPlay }
+{
+    texts_are_early();
+}

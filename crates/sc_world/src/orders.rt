@@ -1,0 +1,98 @@
+//! What the desk was told of the orders.
+ghost use Rattle.std.specs.Prelude.{◌≡◌, ℕ, ◌+◌, ◌<◌, ◌==◌, length, get_or, replicate, count_by, if◌then◌else◌, Some, None, IfOk};
+ghost use Rattle.sc_actor.specs.Mail.{mails};
+ghost use Rattle.sc_node_table.specs.Replica.{either};
+ghost use Rattle.sc_world.specs.Summary.{is_order, told_in_mail, told_of, orders_told};
+
+use sc_actor::Row;
+use sc_base::{OutOfMemory, Sequence};
+use sc_cmd::{OrderLine, ToldResult};
+use sc_mail::{Mail, MailBody};
+use sc_scenario::SchedLine;
+use std::alloc::Global;
+
+fn is_order(line: &SchedLine) -> bool
+    ensures { result ≡ is_order line.now }
+{
+    match line {
+        SchedLine::Told { .. } => true,
+        _ => false,
+    }
+}
+
+/// How many lines of a schedule are orders.
+pub(crate) fn order_count(lines: &[SchedLine]) -> usize
+    ensures { result ≡ count_by is_order lines.now }
+{
+    lines.iter().filter(|line| is_order(line)).count()
+}
+
+// The word on an order is kept, if it is the first on it.
+fn keep(told: &mut [Option<ToldResult>], order: u32, word: ToldResult)
+    ensures len { length told.new ≡ length told.old }
+    ensures kept { (k : ℕ) → k < length told.old → get_or told.new k None ≡
+        either (get_or told.old k None) (if order == k + 1 then Some word else None) }
+{
+    if order == 0 {
+        return;
+    }
+    let place = (order - 1) as usize;
+    if place >= told.len() || told[place].is_some() {
+        return;
+    }
+    told[place] = Some(word);
+}
+
+fn note(told: &mut [Option<ToldResult>], body: &MailBody)
+    ensures len { length told.new ≡ length told.old }
+    ensures kept { (k : ℕ) → k < length told.old → get_or told.new k None ≡
+        either (get_or told.old k None) (told_in_mail (k + 1) body.now) }
+{
+    if let MailBody::Told { order, result } = body {
+        keep(told, *order, *result);
+    }
+}
+
+fn note_all(told: &mut [Option<ToldResult>], sent: &[Mail])
+    ensures len { length told.new ≡ length told.old }
+    ensures kept { (k : ℕ) → k < length told.old → get_or told.new k None ≡
+        either (get_or told.old k None) (told_of (k + 1) sent.now) }
+{
+    for mail in sent {
+        note(told, &mail.body);
+    }
+}
+
+fn note_rows(told: &mut [Option<ToldResult>], rows: &[Row<Mail, OrderLine>])
+    ensures len { length told.new ≡ length told.old }
+    ensures kept { (k : ℕ) → k < length told.old → get_or told.new k None ≡
+        either (get_or told.old k None) (told_of (k + 1) (mails rows.now)) }
+{
+    for row in rows {
+        note_all(told, row.sent.as_slice());
+    }
+}
+
+// No order is told of yet.
+fn untold(alloc: Global, count: usize) -> Result<Vec<Option<ToldResult>>, OutOfMemory>
+    ensures { IfOk result (λ told. told.items ≡ replicate count None) }
+{
+    let mut told = Vec::new(alloc);
+    for _number in 0..count {
+        told.push(None)?;
+    }
+    Ok(told)
+}
+
+/// What these rows' mails tell of so many orders: what the first mail on each says.
+pub(crate) fn orders_told(
+    alloc: Global,
+    count: usize,
+    rows: &[Row<Mail, OrderLine>],
+) -> Result<Sequence<Option<ToldResult>>, OutOfMemory>
+    ensures { IfOk result (λ told. told ≡ orders_told count (mails rows.now)) }
+{
+    let mut told = untold(alloc, count)?;
+    note_rows(&mut told, rows);
+    Ok(Sequence::from_vec(told))
+}

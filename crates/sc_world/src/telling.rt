@@ -1,0 +1,96 @@
+//! What the rows of a journal tell: each group's decided log, the decided ring, the history, and
+//! what was decided of each group. Read from the mail that the rows deliver and send, never from
+//! what an actor holds; any rows may be asked, lawful or not.
+ghost use Rattle.std.specs.Prelude.{◌≡◌, IfOk};
+ghost use Rattle.std.specs.Option.{option_map};
+ghost use Rattle.sc_machine_table.specs.Group.{base_of};
+ghost use Rattle.sc_entries.specs.Effective.{effective};
+ghost use Rattle.sc_sound.specs.Players.{as_nodes};
+ghost use Rattle.sc_sound.specs.GroupsOf.{log_at, ring_at, history_at, world_at};
+
+use crate::worlds::World;
+use sc_actor::Row;
+use sc_base::{Draw, OutOfMemory};
+use sc_cmd::{Base, Command, OrderLine};
+use sc_decided::{entries_of, log_of};
+use sc_entries::Cut;
+use sc_ideal::Entry;
+use sc_mail::Mail;
+use sc_store_world::{StoreWorld, world_of};
+use std::alloc::Global;
+
+/// What the entries of rows make of the groups that the rows begin with. Refused for want of
+/// memory, and where an entry would leave a cut that is no arc.
+pub(crate) fn store_world(
+    alloc: Global,
+    groups: &[Base],
+    rows: &[Row<Mail, OrderLine>],
+) -> Result<StoreWorld, OutOfMemory>
+    ensures { IfOk result (λ world. world ≡ world_at as_nodes groups.now rows.now) }
+{
+    let entries = entries_of(alloc, groups, rows)?;
+    let world = world_of(alloc, groups, entries.as_slice())?;
+    Ok(world)
+}
+
+/// The decided log of the group with a name in a journal: the longest list whose entry k is chosen
+/// at slot k. It is empty where the journal has no such group. Refused only for want of memory.
+pub fn decided_log(
+    alloc: Global,
+    world: &World<'_>,
+    group: Draw,
+) -> Result<Vec<Command>, OutOfMemory>
+    ensures { IfOk result (λ log. log.items ≡
+        log_at as_nodes world.now.scenario.groups world.now.rows group) }
+{
+    log_of(
+        alloc,
+        world.scenario.groups.as_slice(),
+        world.rows.as_slice(),
+        group,
+    )
+}
+
+/// The decided ring of a journal: the cuts of the scenario's groups, as the entries of coordinators
+/// change them.
+pub fn decided_ring(alloc: Global, world: &World<'_>) -> Result<Vec<Cut>, OutOfMemory>
+    ensures { IfOk result (λ ring. ring.items ≡
+        ring_at as_nodes world.now.scenario.groups world.now.rows) }
+{
+    let told = store_world(
+        alloc,
+        world.scenario.groups.as_slice(),
+        world.rows.as_slice(),
+    )?;
+    let (ring, _history) = told.into_parts();
+    Ok(ring)
+}
+
+/// The history of a journal: row by row the calls decided there that took effect, by slot,
+/// whichever group they are of.
+pub fn history(alloc: Global, world: &World<'_>) -> Result<Vec<Entry>, OutOfMemory>
+    ensures { IfOk result (λ entries. entries.items ≡
+        history_at as_nodes world.now.scenario.groups world.now.rows) }
+{
+    let told = store_world(
+        alloc,
+        world.scenario.groups.as_slice(),
+        world.rows.as_slice(),
+    )?;
+    let (_ring, history) = told.into_parts();
+    Ok(history)
+}
+
+/// The effective record of a group in a journal, if it was born: as its own log makes it and as
+/// what was decided elsewhere makes it.
+pub fn effective(alloc: Global, world: &World<'_>, group: Draw) -> Result<Option<Base>, OutOfMemory>
+    ensures { IfOk result (λ base. base ≡ option_map base_of
+        (effective (world_at as_nodes world.now.scenario.groups world.now.rows) group)) }
+{
+    let told = store_world(
+        alloc,
+        world.scenario.groups.as_slice(),
+        world.rows.as_slice(),
+    )?;
+    told.effective(group)
+}
