@@ -1,0 +1,44 @@
+//! Numbers.
+ghost use Rattle.std.specs.Prelude.{◌≡◌};
+ghost use Rattle.sc_row_text.specs.Shapes.{number_json};
+ghost use Rattle.sc_row_text.specs.Held.{FitsU16, FitsU32};
+
+use crate::faults::RowFault;
+use crate::stored::Stored;
+use sc_base::OutOfMemory;
+use serde_json::Value as Json;
+use std::alloc::Global;
+
+impl Stored for u16 {
+    ghost json_of = { number_json };
+
+    ghost Fits = { FitsU16 };
+
+    fn to_json(&self, _alloc: Global) -> Result<Json, OutOfMemory> {
+        Ok(Json::from(*self))
+    }
+
+    fn from_json(_alloc: Global, json: &Json) -> Result<u16, RowFault> {
+        match json.as_u64() {
+            Some(n) if n <= u16::MAX as u64 => Ok(n as u16),
+            _ => Err(RowFault::NoRow),
+        }
+    }
+}
+
+impl Stored for u32 {
+    ghost json_of = { number_json };
+
+    ghost Fits = { FitsU32 };
+
+    fn to_json(&self, _alloc: Global) -> Result<Json, OutOfMemory> {
+        Ok(Json::from(*self))
+    }
+
+    fn from_json(_alloc: Global, json: &Json) -> Result<u32, RowFault> {
+        match json.as_u64() {
+            Some(n) if n <= u32::MAX as u64 => Ok(n as u32),
+            _ => Err(RowFault::NoRow),
+        }
+    }
+}
