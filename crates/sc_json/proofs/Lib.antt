@@ -1,1 +1,5 @@
+pub mod Apart
+pub mod Arrays
 pub mod Finding
+pub mod Members
+pub mod TextSteps

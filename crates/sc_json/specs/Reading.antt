@@ -8,6 +8,10 @@ use Rattle.sc_json.specs.declared.faults.RowFault.TheVariants.{OutOfMemory}
 abbrev pub Finds : {T : Type 0} → T → Result T RowFault → Type 0
 Finds value result = MatchResult result (λ found. found ≡ value) (λ why. why ≡ OutOfMemory)
 
+-- the reader found what is seen as this value, or memory was short
+abbrev pub Shows : {T X : Type 0} → (T → X) → X → Result T RowFault → Type 0
+Shows seen value result = MatchResult result (λ found. seen found ≡ value) (λ why. why ≡ OutOfMemory)
+
 -- the name of the first member, if there is one
 abbrev pub first_name : Members → List ℕ
 first_name no_members = []

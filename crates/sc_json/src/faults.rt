@@ -1,4 +1,5 @@
 //! Why a text is not read.
+use sc_base::KeyFault;
 use std::alloc::{AllocError, AllocFailed};
 
 /// Why a text gives no value: there is none with that text, or there was no memory left.
@@ -38,5 +39,20 @@ impl From<sc_base::OutOfMemory> for RowFault {
 
     fn from(_e: sc_base::OutOfMemory) -> RowFault {
         RowFault::OutOfMemory
+    }
+}
+
+impl From<KeyFault> for RowFault {
+    ghost use Rattle.std.specs.Prelude.{◌≡◌};
+    ghost use Rattle.sc_base.specs.declared.texts.KeyFault.TheVariants as TheFault;
+    ghost use Rattle.sc_json.specs.declared.faults.RowFault.TheVariants.{OutOfMemory};
+
+    ghost from_gives = { λ fault e. fault ≡ TheFault.OutOfMemory → e ≡ OutOfMemory };
+
+    fn from(fault: KeyFault) -> RowFault {
+        match fault {
+            KeyFault::OutOfMemory => RowFault::OutOfMemory,
+            _ => RowFault::NoRow,
+        }
     }
 }

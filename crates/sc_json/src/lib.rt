@@ -1,4 +1,4 @@
-//! Values, commands, mails and rows as JSON, and read again.
+//! Values, commands and records as JSON, and read again.
 #![tactic(auto)]
 
 mod answers;
@@ -8,7 +8,9 @@ mod commands;
 mod cores;
 mod faults;
 mod links;
+mod lists;
 mod mails;
+mod names;
 mod numbers;
 mod ops;
 mod orders;
@@ -16,8 +18,15 @@ mod outcomes;
 mod reading;
 mod rows;
 mod stored;
+mod texts;
 mod votes;
 mod writing;
 
 pub use faults::RowFault;
-pub use stored::Stored;
+pub use lists::{array_of, items_of};
+pub use reading::{five_of, four_of, member, pair_of, parts_of, six_of, triple_of};
+pub use stored::{Present, Stored};
+pub use writing::{
+    add, add_six, five, four, one, pair, six, three, triple, two, unit, variant_four, variant_of,
+    variant_one, variant_three, variant_two,
+};

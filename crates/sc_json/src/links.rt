@@ -4,7 +4,7 @@ ghost use Rattle.sc_row_text.specs.Links.{route_json, FitsRoute};
 
 use crate::faults::RowFault;
 use crate::reading::{pair_of, triple_of};
-use crate::stored::Stored;
+use crate::stored::{Present, Stored};
 use crate::writing::{three, two};
 use sc_base::OutOfMemory;
 use sc_cmd::{Link, Route};
@@ -49,4 +49,10 @@ impl Stored for Route {
         let (group, lo, members) = triple_of(alloc, json, "group", "lo", "members")?;
         Ok(Route { group, lo, members })
     }
+}
+
+impl Present for Route {
+    ghost use Rattle.sc_json.specs.Presence.{route_there};
+
+    ghost is_there = { route_there };
 }

@@ -204,9 +204,9 @@ fn mail_body_tx_watched(alloc: Global, content: &Json) -> Result<MailBody, RowFa
 }
 
 fn mail_body_told(alloc: Global, content: &Json) -> Result<MailBody, RowFault>
-    ensures { (order : _) (result : _) → FitsMailBody (MailBody.Told order result)
-        → variant_json (codes "Told") (view content.now) ≡ mail_body_json (MailBody.Told order result)
-        → Finds (MailBody.Told order result) result }
+    ensures { (order : _) (outcome : _) → FitsMailBody (MailBody.Told order outcome)
+        → variant_json (codes "Told") (view content.now) ≡ mail_body_json (MailBody.Told order outcome)
+        → Finds (MailBody.Told order outcome) result }
 {
     let (order, result) = pair_of(alloc, content, "order", "result")?;
     Ok(MailBody::Told { order, result })

@@ -1,13 +1,29 @@
 //! Numbers.
-ghost use Rattle.std.specs.Prelude.{◌≡◌};
 ghost use Rattle.sc_row_text.specs.Shapes.{number_json};
-ghost use Rattle.sc_row_text.specs.Held.{FitsU16, FitsU32};
+ghost use Rattle.sc_row_text.specs.Held.{FitsU8, FitsU16, FitsU32, FitsU64};
 
 use crate::faults::RowFault;
-use crate::stored::Stored;
+use crate::stored::{Present, Stored};
 use sc_base::OutOfMemory;
 use serde_json::Value as Json;
 use std::alloc::Global;
+
+impl Stored for u8 {
+    ghost json_of = { number_json };
+
+    ghost Fits = { FitsU8 };
+
+    fn to_json(&self, _alloc: Global) -> Result<Json, OutOfMemory> {
+        Ok(Json::from(*self))
+    }
+
+    fn from_json(_alloc: Global, json: &Json) -> Result<u8, RowFault> {
+        match json.as_u64() {
+            Some(n) if n <= u8::MAX as u64 => Ok(n as u8),
+            _ => Err(RowFault::NoRow),
+        }
+    }
+}
 
 impl Stored for u16 {
     ghost json_of = { number_json };
@@ -41,4 +57,27 @@ impl Stored for u32 {
             _ => Err(RowFault::NoRow),
         }
     }
+}
+
+impl Stored for u64 {
+    ghost json_of = { number_json };
+
+    ghost Fits = { FitsU64 };
+
+    fn to_json(&self, _alloc: Global) -> Result<Json, OutOfMemory> {
+        Ok(Json::from(*self))
+    }
+
+    fn from_json(_alloc: Global, json: &Json) -> Result<u64, RowFault> {
+        match json.as_u64() {
+            Some(n) => Ok(n),
+            None => Err(RowFault::NoRow),
+        }
+    }
+}
+
+impl Present for u16 {
+    ghost use Rattle.std.proofs.Common.{rules};
+
+    ghost is_there = { λ n fits none. Prim.cc };
 }

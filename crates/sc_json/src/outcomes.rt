@@ -9,7 +9,7 @@ ghost use Rattle.sc_row_text.specs.Outcomes.{outcome_json, FitsOutcome};
 
 use crate::faults::RowFault;
 use crate::reading::{member, pair_of, parts_of};
-use crate::stored::Stored;
+use crate::stored::{Present, Stored};
 use crate::writing::{two, unit, variant_one, variant_two};
 use sc_base::OutOfMemory;
 use sc_cmd::{Gift, Outcome};
@@ -88,4 +88,10 @@ impl Stored for Outcome {
             _ => Err(RowFault::NoRow),
         }
     }
+}
+
+impl Present for Gift {
+    ghost use Rattle.sc_json.specs.Presence.{gift_there};
+
+    ghost is_there = { gift_there };
 }

@@ -1,4 +1,4 @@
-//! Objects, arrays and variants, read.
+//! Members, items and variants, read.
 ghost use Rattle.std.specs.Prelude.{◌≡◌, Some, IsSomeAnd};
 ghost use Rattle.serde_json.specs.View.{view};
 ghost use Rattle.sc_json.specs.Reading.{Finds, MayBeVariant, name_of, content_of};
@@ -9,18 +9,14 @@ use serde_json::{Index, Value as Json};
 use std::alloc::Global;
 
 /// The value that a whole JSON is.
-pub(crate) fn whole<T: Stored>(alloc: Global, json: &Json) -> Result<T, RowFault>
+pub fn whole<T: Stored>(alloc: Global, json: &Json) -> Result<T, RowFault>
     ensures { (value : T) → T.Fits value → view json.now ≡ T.json_of value → Finds value result }
 {
     T::from_json(alloc, json)
 }
 
 /// The value of a member, or of an item.
-pub(crate) fn member<I: Index + Drop, T: Stored>(
-    alloc: Global,
-    json: &Json,
-    at: I,
-) -> Result<T, RowFault>
+pub fn member<I: Index + Drop, T: Stored>(alloc: Global, json: &Json, at: I) -> Result<T, RowFault>
     ensures { (value : T) → T.Fits value
         → I.Index.finds at (view json.now) ≡ Some (T.json_of value) → Finds value result }
 {
@@ -30,8 +26,8 @@ pub(crate) fn member<I: Index + Drop, T: Stored>(
     }
 }
 
-/// The values of two members, or items.
-pub(crate) fn pair_of<I: Index + Drop, A: Stored + Drop, B: Stored>(
+/// Two members or items.
+pub fn pair_of<I: Index + Drop, A: Stored + Drop, B: Stored>(
     alloc: Global,
     json: &Json,
     first: I,
@@ -40,16 +36,15 @@ pub(crate) fn pair_of<I: Index + Drop, A: Stored + Drop, B: Stored>(
     ensures { (a : A) (b : B)
         → A.Fits a → B.Fits b
         → I.Index.finds first (view json.now) ≡ Some (A.json_of a)
-        → I.Index.finds second (view json.now) ≡ Some (B.json_of b)
-        → Finds (a, b) result }
+        → I.Index.finds second (view json.now) ≡ Some (B.json_of b) → Finds (a, b) result }
 {
     let a = member(alloc, json, first)?;
     let b = member(alloc, json, second)?;
     Ok((a, b))
 }
 
-/// The values of three members, or items.
-pub(crate) fn triple_of<I: Index + Drop, A: Stored + Drop, B: Stored + Drop, C: Stored>(
+/// Three members or items.
+pub fn triple_of<I: Index + Drop, A: Stored + Drop, B: Stored + Drop, C: Stored>(
     alloc: Global,
     json: &Json,
     first: I,
@@ -60,8 +55,7 @@ pub(crate) fn triple_of<I: Index + Drop, A: Stored + Drop, B: Stored + Drop, C: 
         → A.Fits a → B.Fits b → C.Fits c
         → I.Index.finds first (view json.now) ≡ Some (A.json_of a)
         → I.Index.finds second (view json.now) ≡ Some (B.json_of b)
-        → I.Index.finds third (view json.now) ≡ Some (C.json_of c)
-        → Finds (a, b, c) result }
+        → I.Index.finds third (view json.now) ≡ Some (C.json_of c) → Finds (a, b, c) result }
 {
     let a = member(alloc, json, first)?;
     let b = member(alloc, json, second)?;
@@ -69,14 +63,8 @@ pub(crate) fn triple_of<I: Index + Drop, A: Stored + Drop, B: Stored + Drop, C: 
     Ok((a, b, c))
 }
 
-/// The values of four members, or items.
-pub(crate) fn four_of<
-    I: Index + Drop,
-    A: Stored + Drop,
-    B: Stored + Drop,
-    C: Stored + Drop,
-    D: Stored,
->(
+/// Four members or items.
+pub fn four_of<I: Index + Drop, A: Stored + Drop, B: Stored + Drop, C: Stored + Drop, D: Stored>(
     alloc: Global,
     json: &Json,
     first: I,
@@ -89,8 +77,7 @@ pub(crate) fn four_of<
         → I.Index.finds first (view json.now) ≡ Some (A.json_of a)
         → I.Index.finds second (view json.now) ≡ Some (B.json_of b)
         → I.Index.finds third (view json.now) ≡ Some (C.json_of c)
-        → I.Index.finds fourth (view json.now) ≡ Some (D.json_of d)
-        → Finds (a, b, c, d) result }
+        → I.Index.finds fourth (view json.now) ≡ Some (D.json_of d) → Finds (a, b, c, d) result }
 {
     let a = member(alloc, json, first)?;
     let b = member(alloc, json, second)?;
@@ -99,8 +86,8 @@ pub(crate) fn four_of<
     Ok((a, b, c, d))
 }
 
-/// The values of five members, or items.
-pub(crate) fn five_of<
+/// Five members or items.
+pub fn five_of<
     I: Index + Drop,
     A: Stored + Drop,
     B: Stored + Drop,
@@ -122,8 +109,7 @@ pub(crate) fn five_of<
         → I.Index.finds second (view json.now) ≡ Some (B.json_of b)
         → I.Index.finds third (view json.now) ≡ Some (C.json_of c)
         → I.Index.finds fourth (view json.now) ≡ Some (D.json_of d)
-        → I.Index.finds fifth (view json.now) ≡ Some (E.json_of e)
-        → Finds (a, b, c, d, e) result }
+        → I.Index.finds fifth (view json.now) ≡ Some (E.json_of e) → Finds (a, b, c, d, e) result }
 {
     let a = member(alloc, json, first)?;
     let b = member(alloc, json, second)?;
@@ -133,8 +119,8 @@ pub(crate) fn five_of<
     Ok((a, b, c, d, e))
 }
 
-/// The values of six members, or items.
-pub(crate) fn six_of<
+/// Six members or items.
+pub fn six_of<
     I: Index + Drop,
     A: Stored + Drop,
     B: Stored + Drop,
@@ -159,8 +145,7 @@ pub(crate) fn six_of<
         → I.Index.finds third (view json.now) ≡ Some (C.json_of c)
         → I.Index.finds fourth (view json.now) ≡ Some (D.json_of d)
         → I.Index.finds fifth (view json.now) ≡ Some (E.json_of e)
-        → I.Index.finds sixth (view json.now) ≡ Some (F.json_of f)
-        → Finds (a, b, c, d, e, f) result }
+        → I.Index.finds sixth (view json.now) ≡ Some (F.json_of f) → Finds (a, b, c, d, e, f) result }
 {
     let a = member(alloc, json, first)?;
     let b = member(alloc, json, second)?;
@@ -172,7 +157,7 @@ pub(crate) fn six_of<
 }
 
 /// The name of a variant and its content; one without content is its own.
-pub(crate) fn parts_of(json: &Json) -> Option<(&str, &Json)>
+pub fn parts_of(json: &Json) -> Option<(&str, &Json)>
     ensures { MayBeVariant (view json.now) → IsSomeAnd result (λ parts.
         (parts.0.now ≡ name_of (view json.now)) × (view parts.1.now ≡ content_of (view json.now))) }
 {

@@ -1,6 +1,6 @@
 //! What is stored as JSON.
 ghost use Rattle.std.specs.Prelude.{◌≡◌, IfOk, OnOk};
-ghost use Rattle.serde_json.specs.Data.{Data};
+ghost use Rattle.serde_json.specs.Data.{Data, null};
 ghost use Rattle.serde_json.specs.View.{view};
 ghost use Rattle.sc_json.specs.Reading.{Finds};
 
@@ -25,4 +25,10 @@ pub trait Stored: Sized {
     /// The value that has this JSON.
     fn from_json(alloc: Global, json: &Json) -> Result<Self, RowFault>
         ensures { (value : Self) → Fits value → view json.now ≡ json_of value → Finds value result };
+}
+
+/// What is stored otherwise than as null, so that what may be absent is told from it.
+pub trait Present: Stored {
+    /// No value has the JSON of what is absent.
+    ghost is_there: { (value : Self) → Self.Fits value → Self.json_of value ≡ null → ⊥ };
 }

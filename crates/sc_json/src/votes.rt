@@ -14,7 +14,7 @@ ghost use Rattle.sc_row_text.specs.Votes.{past_json, FitsPast};
 
 use crate::faults::RowFault;
 use crate::reading::{five_of, member, pair_of, parts_of, whole};
-use crate::stored::Stored;
+use crate::stored::{Present, Stored};
 use crate::writing::{five, two, unit, variant_of, variant_one};
 use sc_base::OutOfMemory;
 use sc_cmd::{Frozen, Heard, No, Past, Vote};
@@ -197,4 +197,10 @@ impl Stored for Past {
             _ => Err(RowFault::NoRow),
         }
     }
+}
+
+impl Present for Heard {
+    ghost use Rattle.sc_json.specs.Presence.{heard_there};
+
+    ghost is_there = { heard_there };
 }

@@ -16,13 +16,13 @@ FitsU8 n = n < 2 ^ 8
 abbrev pub FitsU16 : ℕ → Type 0
 FitsU16 n = n < 2 ^ 16
 
--- numbers of 64 bits
-abbrev pub FitsU64 : ℕ → Type 0
-FitsU64 n = n < 2 ^ 64
-
 -- numbers of 32 bits
 abbrev pub FitsU32 : ℕ → Type 0
 FitsU32 n = n < 2 ^ 32
+
+-- numbers of 64 bits
+abbrev pub FitsU64 : ℕ → Type 0
+FitsU64 n = n < 2 ^ 64
 
 -- a key has 1 to 64 visible bytes
 abbrev pub FitsKey : List ℕ → Type 0

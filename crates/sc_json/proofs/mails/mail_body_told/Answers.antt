@@ -8,8 +8,8 @@ use Rattle.sc_json.proofs.mails.mail_body_told.Goals as goal
 
 pub returns-in_err-order : goal.returns-in_err-order
 unfolding mail_body_json FitsMailBody
-returns-in_err-order c = λ order result fits e. failed _ _ _ c.from_residual.ensures (c.in_err-order.ensures order result fits.0 fits.1 (ap (λ d. get (codes "order") (content_of d)) e) (ap (λ d. get (codes "result") (content_of d)) e))
+returns-in_err-order c = λ order outcome fits e. failed _ _ _ c.from_residual.ensures (c.in_err-order.ensures order outcome fits.0 fits.1 (ap (λ d. get (codes "order") (content_of d)) e) (ap (λ d. get (codes "result") (content_of d)) e))
 
 pub returns : goal.returns
 unfolding mail_body_json FitsMailBody
-returns c = λ order result fits e. ap (λ p. Told p.0 p.1) (c.in_ok-order.ensures order result fits.0 fits.1 (ap (λ d. get (codes "order") (content_of d)) e) (ap (λ d. get (codes "result") (content_of d)) e))
+returns c = λ order outcome fits e. ap (λ p. Told p.0 p.1) (c.in_ok-order.ensures order outcome fits.0 fits.1 (ap (λ d. get (codes "order") (content_of d)) e) (ap (λ d. get (codes "result") (content_of d)) e))

@@ -11,7 +11,7 @@ returns-in_err-arc c = λ core fits e. failed _ _ _ c.from_residual.ensures (c.i
 
 pub returns-in_err-id : goal.returns-in_err-id
 unfolding core_json FitsCore
-returns-in_err-id c = λ core fits e. failed _ _ _ c.from_residual-2.ensures (c.in_err-id.ensures core.id core.lock core.members core.pred core.succ core.voted fits.1.0 fits.1.1 fits.1.2 fits.1.3 fits.1.4 fits.1.5 (ap (get (codes "id")) e) (ap (get (codes "lock")) e) (ap (get (codes "members")) e) (ap (get (codes "pred")) e) (ap (get (codes "succ")) e) (ap (get (codes "voted")) e))
+returns-in_err-id c = λ core fits e. failed _ _ _ c.from_residual-in_err-id.ensures (c.in_err-id.ensures core.id core.lock core.members core.pred core.succ core.voted fits.1.0 fits.1.1 fits.1.2 fits.1.3 fits.1.4 fits.1.5 (ap (get (codes "id")) e) (ap (get (codes "lock")) e) (ap (get (codes "members")) e) (ap (get (codes "pred")) e) (ap (get (codes "succ")) e) (ap (get (codes "voted")) e))
 
 pub returns : goal.returns
 unfolding core_json FitsCore

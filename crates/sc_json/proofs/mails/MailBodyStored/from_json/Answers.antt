@@ -7,7 +7,7 @@ use Rattle.sc_row_text.specs.Shapes.{variant}
 use Rattle.sc_json.specs.Reading.{Finds, MayBeVariant, name_of, content_of}
 use Rattle.sc_json.specs.declared.faults.RowFault.{RowFault}
 use Rattle.sc_json.specs.declared.faults.RowFault.TheVariants.{NoRow, OutOfMemory}
-use Rattle.sc_json.proofs.Finding.{apart}
+use Rattle.sc_json.proofs.Apart.{apart}
 use Rattle.sc_json.proofs.mails.MailBodyStored.from_json.Goals as goal
 
 of_value : (value : MailBody) → MayBeVariant (mail_body_json value)
@@ -28,7 +28,7 @@ of_value (TxOutcome tx part outcome) = tt
 of_value (TxElsewhere tx coord hint) = tt
 of_value (TxWatch tx watch) = tt
 of_value (TxWatched tx coord part vote) = tt
-of_value (Told order result) = tt
+of_value (Told order outcome) = tt
 
 -- the JSON may be a variant
 shaped : (json : Data) (value : MailBody) → json ≡ mail_body_json value → MayBeVariant json
@@ -54,7 +54,7 @@ none_left json name (TxOutcome tx part outcome) e named n0 n1 n2 n3 n4 n5 n6 n7 
 none_left json name (TxElsewhere tx coord hint) e named n0 n1 n2 n3 n4 n5 n6 n7 n8 n9 n10 n11 n12 n13 n14 n15 n16 = absurd (n13 (named ∙ ap name_of e))
 none_left json name (TxWatch tx watch) e named n0 n1 n2 n3 n4 n5 n6 n7 n8 n9 n10 n11 n12 n13 n14 n15 n16 = absurd (n14 (named ∙ ap name_of e))
 none_left json name (TxWatched tx coord part vote) e named n0 n1 n2 n3 n4 n5 n6 n7 n8 n9 n10 n11 n12 n13 n14 n15 n16 = absurd (n15 (named ∙ ap name_of e))
-none_left json name (Told order result) e named n0 n1 n2 n3 n4 n5 n6 n7 n8 n9 n10 n11 n12 n13 n14 n15 n16 = absurd (n16 (named ∙ ap name_of e))
+none_left json name (Told order outcome) e named n0 n1 n2 n3 n4 n5 n6 n7 n8 n9 n10 n11 n12 n13 n14 n15 n16 = absurd (n16 (named ∙ ap name_of e))
 
 at_request : (json content : Data) (name : List ℕ) (value : MailBody) (result : Result MailBody RowFault) → json ≡ mail_body_json value → name ≡ name_of json → content ≡ content_of json → name ≡ codes "Request" → FitsMailBody value
     → ((group : _) (client : _) (seq : _) (op : _) → FitsMailBody (Request group client seq op) → variant (codes "Request") content ≡ mail_body_json (Request group client seq op) → Finds (Request group client seq op) result) → Finds value result
@@ -153,9 +153,9 @@ at_tx_watched json content name (TxWatched tx coord part vote) result e named in
 at_tx_watched json content name _ result e named inner_is is fits read = absurd (apart _ _ (sym is ∙ (named ∙ ap name_of e)) refl)
 
 at_told : (json content : Data) (name : List ℕ) (value : MailBody) (result : Result MailBody RowFault) → json ≡ mail_body_json value → name ≡ name_of json → content ≡ content_of json → name ≡ codes "Told" → FitsMailBody value
-    → ((order : _) (result : _) → FitsMailBody (Told order result) → variant (codes "Told") content ≡ mail_body_json (Told order result) → Finds (Told order result) result) → Finds value result
+    → ((order : _) (outcome : _) → FitsMailBody (Told order outcome) → variant (codes "Told") content ≡ mail_body_json (Told order outcome) → Finds (Told order outcome) result) → Finds value result
 unfolding mail_body_json
-at_told json content name (Told order result) result e named inner_is is fits read = read order result fits (ap (variant (codes "Told")) (inner_is ∙ ap content_of e))
+at_told json content name (Told order outcome) result e named inner_is is fits read = read order outcome fits (ap (variant (codes "Told")) (inner_is ∙ ap content_of e))
 at_told json content name _ result e named inner_is is fits read = absurd (apart _ _ (sym is ∙ (named ∙ ap name_of e)) refl)
 
 pub returns-in_default : goal.returns-in_default

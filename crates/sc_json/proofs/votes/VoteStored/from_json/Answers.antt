@@ -7,7 +7,7 @@ use Rattle.sc_row_text.specs.Shapes.{variant}
 use Rattle.sc_json.specs.Reading.{Finds, MayBeVariant, name_of, content_of}
 use Rattle.sc_json.specs.declared.faults.RowFault.{RowFault}
 use Rattle.sc_json.specs.declared.faults.RowFault.TheVariants.{NoRow, OutOfMemory}
-use Rattle.sc_json.proofs.Finding.{apart}
+use Rattle.sc_json.proofs.Apart.{apart}
 use Rattle.sc_json.proofs.votes.VoteStored.from_json.Goals as goal
 
 of_value : (value : Vote) → MayBeVariant (vote_json value)

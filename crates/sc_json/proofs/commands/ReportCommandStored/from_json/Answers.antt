@@ -4,7 +4,7 @@ use Rattle.sc_paxos_words.specs.declared.reports.Report.{Report}
 use Rattle.sc_cmd.specs.declared.commands.Command.{Command}
 use Rattle.sc_row_text.specs.Commands.{report_json, FitsReport}
 use Rattle.sc_json.proofs.Finding.{failed}
-use Rattle.sc_json.proofs.commands.ReportStored.from_json.Goals as goal
+use Rattle.sc_json.proofs.commands.ReportCommandStored.from_json.Goals as goal
 
 pub returns-in_err-ballot : goal.returns-in_err-ballot
 unfolding report_json FitsReport

@@ -5,7 +5,7 @@ use Rattle.sc_mail.specs.declared.bodies.Mail.{Mail}
 use Rattle.sc_cmd.specs.declared.orders.OrderLine.{OrderLine}
 use Rattle.sc_row_text.specs.Rows.{row_json, FitsRow}
 use Rattle.sc_json.proofs.Finding.{failed}
-use Rattle.sc_json.proofs.rows.RowStored.from_json.Goals as goal
+use Rattle.sc_json.proofs.rows.RowMailOrderLineStored.from_json.Goals as goal
 
 pub returns-in_err-event : goal.returns-in_err-event
 unfolding row_json FitsRow
