@@ -14,3 +14,8 @@ failed (Err e) value why is short = is.1 ∙ short
 pub failed_as : {T X : Type 0} (result : Result T RowFault) (seen : T → X) (value : X) (why : RowFault) → IsErr result × IsErrAnd result (λ e. e ≡ why) → why ≡ OutOfMemory → Shows seen value result
 failed_as (Ok found) seen value why is short = absurd is.1
 failed_as (Err e) seen value why is short = is.1 ∙ short
+
+-- what fails for want of memory where its cause is so
+pub failed_for : {T : Type 0} (result : Result T RowFault) (value : T) (Cause : Type 0) → IsErr result × IsErrAnd result (λ e. Cause → e ≡ OutOfMemory) → Cause → Finds value result
+failed_for (Ok found) value Cause is cause = absurd is.1
+failed_for (Err e) value Cause is cause = is.1 cause

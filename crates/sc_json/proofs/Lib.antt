@@ -1,5 +1,6 @@
 pub mod Apart
 pub mod Arrays
+pub mod Digits
 pub mod Finding
 pub mod Members
 pub mod TextSteps

@@ -15,7 +15,7 @@ use serde_json::Value as Json;
 use std::alloc::Global;
 
 /// An array of the items.
-pub fn array_of<T: Stored>(alloc: Global, items: &[T]) -> Result<Json, OutOfMemory>
+pub(crate) fn array_of<T: Stored>(alloc: Global, items: &[T]) -> Result<Json, OutOfMemory>
     ensures json { IfOk result (λ json. view json ≡ list_json T.json_of items.now) }
     ensures fits { OnOk result (Each T.Fits items.now) }
 {
@@ -42,7 +42,7 @@ fn values_of<T: Stored + Drop>(alloc: Global, list: &[Json]) -> Result<Vec<T>, R
 }
 
 /// The values of which this is an array.
-pub fn items_of<T: Stored + Drop>(alloc: Global, json: &Json) -> Result<Vec<T>, RowFault>
+pub(crate) fn items_of<T: Stored + Drop>(alloc: Global, json: &Json) -> Result<Vec<T>, RowFault>
     ensures { (values : List T) → Each T.Fits values
         → view json.now ≡ list_json T.json_of values
         → Shows (λ found. found.items) values result }

@@ -41,7 +41,8 @@ impl Stored for Draw {
 
     #[tactic(auto, unfolding(sc_row_text::specs::Names::draw_json, sc_row_text::specs::Names::FitsDraw))]
     fn to_json(&self, alloc: Global) -> Result<Json, OutOfMemory> {
-        let text = format!(in alloc; "{}.{}", self.node, self.count)?;
+        let Draw { node, count } = *self;
+        let text = format!(in alloc; "{node}.{count}")?;
         Ok(Json::String(text))
     }
 

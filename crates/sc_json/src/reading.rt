@@ -9,14 +9,18 @@ use serde_json::{Index, Value as Json};
 use std::alloc::Global;
 
 /// The value that a whole JSON is.
-pub fn whole<T: Stored>(alloc: Global, json: &Json) -> Result<T, RowFault>
+pub(crate) fn whole<T: Stored>(alloc: Global, json: &Json) -> Result<T, RowFault>
     ensures { (value : T) → T.Fits value → view json.now ≡ T.json_of value → Finds value result }
 {
     T::from_json(alloc, json)
 }
 
 /// The value of a member, or of an item.
-pub fn member<I: Index + Drop, T: Stored>(alloc: Global, json: &Json, at: I) -> Result<T, RowFault>
+pub(crate) fn member<I: Index + Drop, T: Stored>(
+    alloc: Global,
+    json: &Json,
+    at: I,
+) -> Result<T, RowFault>
     ensures { (value : T) → T.Fits value
         → I.Index.finds at (view json.now) ≡ Some (T.json_of value) → Finds value result }
 {
@@ -27,7 +31,7 @@ pub fn member<I: Index + Drop, T: Stored>(alloc: Global, json: &Json, at: I) -> 
 }
 
 /// Two members or items.
-pub fn pair_of<I: Index + Drop, A: Stored + Drop, B: Stored>(
+pub(crate) fn pair_of<I: Index + Drop, A: Stored + Drop, B: Stored>(
     alloc: Global,
     json: &Json,
     first: I,
@@ -44,7 +48,7 @@ pub fn pair_of<I: Index + Drop, A: Stored + Drop, B: Stored>(
 }
 
 /// Three members or items.
-pub fn triple_of<I: Index + Drop, A: Stored + Drop, B: Stored + Drop, C: Stored>(
+pub(crate) fn triple_of<I: Index + Drop, A: Stored + Drop, B: Stored + Drop, C: Stored>(
     alloc: Global,
     json: &Json,
     first: I,
@@ -64,7 +68,13 @@ pub fn triple_of<I: Index + Drop, A: Stored + Drop, B: Stored + Drop, C: Stored>
 }
 
 /// Four members or items.
-pub fn four_of<I: Index + Drop, A: Stored + Drop, B: Stored + Drop, C: Stored + Drop, D: Stored>(
+pub(crate) fn four_of<
+    I: Index + Drop,
+    A: Stored + Drop,
+    B: Stored + Drop,
+    C: Stored + Drop,
+    D: Stored,
+>(
     alloc: Global,
     json: &Json,
     first: I,
@@ -87,7 +97,7 @@ pub fn four_of<I: Index + Drop, A: Stored + Drop, B: Stored + Drop, C: Stored + 
 }
 
 /// Five members or items.
-pub fn five_of<
+pub(crate) fn five_of<
     I: Index + Drop,
     A: Stored + Drop,
     B: Stored + Drop,
@@ -120,7 +130,7 @@ pub fn five_of<
 }
 
 /// Six members or items.
-pub fn six_of<
+pub(crate) fn six_of<
     I: Index + Drop,
     A: Stored + Drop,
     B: Stored + Drop,
@@ -157,7 +167,7 @@ pub fn six_of<
 }
 
 /// The name of a variant and its content; one without content is its own.
-pub fn parts_of(json: &Json) -> Option<(&str, &Json)>
+pub(crate) fn parts_of(json: &Json) -> Option<(&str, &Json)>
     ensures { MayBeVariant (view json.now) → IsSomeAnd result (λ parts.
         (parts.0.now ≡ name_of (view json.now)) × (view parts.1.now ≡ content_of (view json.now))) }
 {

@@ -10,7 +10,7 @@ use serde_json::{Map, Value as Json};
 use std::alloc::Global;
 
 /// Adds a member to those of an object.
-pub fn add<T: Stored>(
+pub(crate) fn add<T: Stored>(
     members: &mut Map<String, Json>,
     alloc: Global,
     name: &str,
@@ -26,7 +26,7 @@ pub fn add<T: Stored>(
 }
 
 /// Adds six members to those of an object.
-pub fn add_six<A: Stored, B: Stored, C: Stored, D: Stored, E: Stored, F: Stored>(
+pub(crate) fn add_six<A: Stored, B: Stored, C: Stored, D: Stored, E: Stored, F: Stored>(
     members: &mut Map<String, Json>,
     alloc: Global,
     a: &str,
@@ -60,7 +60,7 @@ pub fn add_six<A: Stored, B: Stored, C: Stored, D: Stored, E: Stored, F: Stored>
 }
 
 /// An object of one member.
-pub fn one<A: Stored>(alloc: Global, a: &str, first: &A) -> Result<Json, OutOfMemory>
+pub(crate) fn one<A: Stored>(alloc: Global, a: &str, first: &A) -> Result<Json, OutOfMemory>
     ensures json { IfOk result (λ json. view json
         ≡ object (put a.now (A.json_of first.now) no_members)) }
     ensures fits { OnOk result (A.Fits first.now) }
@@ -71,7 +71,7 @@ pub fn one<A: Stored>(alloc: Global, a: &str, first: &A) -> Result<Json, OutOfMe
 }
 
 /// An object of two members.
-pub fn two<A: Stored, B: Stored>(
+pub(crate) fn two<A: Stored, B: Stored>(
     alloc: Global,
     a: &str,
     first: &A,
@@ -90,7 +90,7 @@ pub fn two<A: Stored, B: Stored>(
 }
 
 /// An object of three members.
-pub fn three<A: Stored, B: Stored, C: Stored>(
+pub(crate) fn three<A: Stored, B: Stored, C: Stored>(
     alloc: Global,
     a: &str,
     first: &A,
@@ -112,7 +112,7 @@ pub fn three<A: Stored, B: Stored, C: Stored>(
 }
 
 /// An object of four members.
-pub fn four<A: Stored, B: Stored, C: Stored, D: Stored>(
+pub(crate) fn four<A: Stored, B: Stored, C: Stored, D: Stored>(
     alloc: Global,
     a: &str,
     first: &A,
@@ -138,7 +138,7 @@ pub fn four<A: Stored, B: Stored, C: Stored, D: Stored>(
 }
 
 /// An object of five members.
-pub fn five<A: Stored, B: Stored, C: Stored, D: Stored, E: Stored>(
+pub(crate) fn five<A: Stored, B: Stored, C: Stored, D: Stored, E: Stored>(
     alloc: Global,
     a: &str,
     first: &A,
@@ -168,7 +168,7 @@ pub fn five<A: Stored, B: Stored, C: Stored, D: Stored, E: Stored>(
 }
 
 /// An object of six members.
-pub fn six<A: Stored, B: Stored, C: Stored, D: Stored, E: Stored, F: Stored>(
+pub(crate) fn six<A: Stored, B: Stored, C: Stored, D: Stored, E: Stored, F: Stored>(
     alloc: Global,
     a: &str,
     first: &A,
@@ -212,7 +212,7 @@ pub fn six<A: Stored, B: Stored, C: Stored, D: Stored, E: Stored, F: Stored>(
 }
 
 /// A variant without content.
-pub fn unit(alloc: Global, name: &str) -> Result<Json, OutOfMemory>
+pub(crate) fn unit(alloc: Global, name: &str) -> Result<Json, OutOfMemory>
     ensures { IfOk result (λ json. view json ≡ string name.now) }
 {
     Ok(Json::try_from_str(alloc, name)?)
@@ -228,7 +228,11 @@ fn wrapped(alloc: Global, name: &str, content: Json) -> Result<Json, OutOfMemory
 }
 
 /// A variant whose content is one value.
-pub fn variant_of<T: Stored>(alloc: Global, name: &str, content: &T) -> Result<Json, OutOfMemory>
+pub(crate) fn variant_of<T: Stored>(
+    alloc: Global,
+    name: &str,
+    content: &T,
+) -> Result<Json, OutOfMemory>
     ensures json { IfOk result (λ json. view json ≡ variant name.now (T.json_of content.now)) }
     ensures fits { OnOk result (T.Fits content.now) }
 {
@@ -237,7 +241,7 @@ pub fn variant_of<T: Stored>(alloc: Global, name: &str, content: &T) -> Result<J
 }
 
 /// A variant whose content is an object of one member.
-pub fn variant_one<A: Stored>(
+pub(crate) fn variant_one<A: Stored>(
     alloc: Global,
     name: &str,
     a: &str,
@@ -252,7 +256,7 @@ pub fn variant_one<A: Stored>(
 }
 
 /// A variant whose content is an object of two members.
-pub fn variant_two<A: Stored, B: Stored>(
+pub(crate) fn variant_two<A: Stored, B: Stored>(
     alloc: Global,
     name: &str,
     a: &str,
@@ -270,7 +274,7 @@ pub fn variant_two<A: Stored, B: Stored>(
 }
 
 /// A variant whose content is an object of three members.
-pub fn variant_three<A: Stored, B: Stored, C: Stored>(
+pub(crate) fn variant_three<A: Stored, B: Stored, C: Stored>(
     alloc: Global,
     name: &str,
     a: &str,
@@ -290,7 +294,7 @@ pub fn variant_three<A: Stored, B: Stored, C: Stored>(
 }
 
 /// A variant whose content is an object of four members.
-pub fn variant_four<A: Stored, B: Stored, C: Stored, D: Stored>(
+pub(crate) fn variant_four<A: Stored, B: Stored, C: Stored, D: Stored>(
     alloc: Global,
     name: &str,
     a: &str,
@@ -314,7 +318,11 @@ pub fn variant_four<A: Stored, B: Stored, C: Stored, D: Stored>(
 }
 
 /// An array of two items.
-pub fn pair<A: Stored, B: Stored>(alloc: Global, first: &A, second: &B) -> Result<Json, OutOfMemory>
+pub(crate) fn pair<A: Stored, B: Stored>(
+    alloc: Global,
+    first: &A,
+    second: &B,
+) -> Result<Json, OutOfMemory>
     ensures json { IfOk result (λ json. view json
         ≡ array (item (A.json_of first.now) (item (B.json_of second.now) no_items))) }
     ensures fits { OnOk result (A.Fits first.now × B.Fits second.now) }
@@ -326,7 +334,7 @@ pub fn pair<A: Stored, B: Stored>(alloc: Global, first: &A, second: &B) -> Resul
 }
 
 /// An array of three items.
-pub fn triple<A: Stored, B: Stored, C: Stored>(
+pub(crate) fn triple<A: Stored, B: Stored, C: Stored>(
     alloc: Global,
     first: &A,
     second: &B,
