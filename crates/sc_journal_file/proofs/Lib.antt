@@ -1,0 +1,4 @@
+pub mod Fronts
+pub mod Plain
+pub mod Rows
+pub mod OneFile

@@ -1,0 +1,8 @@
+//! Stored journals: files of a scenario's text, the line `journal`, and a line for each row.
+#![tactic(auto)]
+
+mod cuts;
+mod reading;
+
+pub use cuts::{StoredText, cut};
+pub use reading::{FILE_LIMIT, read_file};
