@@ -2,7 +2,9 @@
 #![tactic(auto)]
 
 mod cuts;
+mod laws;
 mod reading;
 
 pub use cuts::{StoredText, cut};
+pub use laws::printed_files_are_files;
 pub use reading::{FILE_LIMIT, read_file};
