@@ -5,3 +5,5 @@ pub mod OneFile
 pub mod NoDivider
 pub mod WholeLines
 pub mod Printed
+pub mod FirstBytes
+pub mod Verdicts

@@ -6,5 +6,5 @@ mod laws;
 mod reading;
 
 pub use cuts::{StoredText, cut};
-pub use laws::printed_files_are_files;
+pub use laws::{files_have_one_verdict, first_file_bytes_decide, printed_files_are_files};
 pub use reading::{FILE_LIMIT, read_file};
