@@ -8,7 +8,7 @@ use Rattle.sc_cmd.specs.declared.orders.OrderLine.{OrderLine}
 use Rattle.sc_mail.specs.declared.bodies.Mail.{Mail}
 use Rattle.sc_scenario.specs.declared.scenarios.Scenario.{Scenario}
 use Rattle.sc_journal_file.specs.Stored.{most_file_bytes, IsFile, IsTooLarge, IsBadFile}
-use Rattle.sc_journal_file.specs.Laws.{first_bytes, FirstFileBytesDecide}
+use Rattle.sc_journal_file.specs.Laws.{first_bytes, FirstBytesDecideFiles, FirstBytesDecideFaults}
 
 -- both ways, where two lists are one
 along : (P : List ℕ → Type 0) (one other : List ℕ) → one ≡ other → P one ↔ P other
@@ -48,9 +48,10 @@ bad_by input line why (inl over) =
       λ bad. large_too input (first_bytes input) line why more taken bad,
     )
 
--- one byte more than the most is enough
-pub first_decide : FirstFileBytesDecide
-first_decide = record {
-  files = λ input scenario rows. files_by input scenario rows (cases_lt (most_file_bytes + 1) (length input));
-  bad = λ input line why. bad_by input line why (cases_lt (most_file_bytes + 1) (length input));
-}
+-- one byte more than the most is enough to know a file
+pub files_decided : FirstBytesDecideFiles
+files_decided input scenario rows = files_by input scenario rows (cases_lt (most_file_bytes + 1) (length input))
+
+-- .. and a fault
+pub faults_decided : FirstBytesDecideFaults
+faults_decided input line why = bad_by input line why (cases_lt (most_file_bytes + 1) (length input))

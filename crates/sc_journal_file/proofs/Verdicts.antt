@@ -58,7 +58,7 @@ same_count are (row ∷ rows) [] rest end held helds bad bads e =
     absurd (bads.1 row (rows_whole rows ++ rest) held.0 (sym e ∙ append_assoc (fed (text_of row)) (rows_whole rows) rest))
 same_count are (row ∷ rows) (other ∷ others) rest end held helds bad bads e =
     let apart = fed_apart (text_of row) (text_of other) (rows_whole rows ++ rest) (rows_whole others ++ end) (are row held.0) (are other helds.0)
-        (sym (append_assoc (fed (text_of row)) (rows_whole rows) rest) ∙ e ∙ append_assoc (fed (text_of other)) (rows_whole others) end) in
+    (sym (append_assoc (fed (text_of row)) (rows_whole rows) rest) ∙ e ∙ append_assoc (fed (text_of other)) (rows_whole others) end) in
     let more = same_count are rows others rest end held.1 helds.1 bad bads apart.1 in
     omega (arith, more)
 

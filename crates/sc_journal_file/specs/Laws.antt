@@ -22,10 +22,13 @@ PrintedFilesAreFiles = (bytes : List ℕ) (scenario : Scenario) (rows : List (Ro
 abbrev pub first_bytes : List ℕ → List ℕ
 first_bytes input = take (most_file_bytes + 1) input
 
--- an input is a file, or is bad, as its first bytes are
-pub record FirstFileBytesDecide : Type 0 where
-  pub files : (input : List ℕ) (scenario : Scenario) (rows : List (Row Mail OrderLine)) → IsFile (first_bytes input) scenario rows ↔ IsFile input scenario rows
-  pub bad : (input : List ℕ) (line why : ℕ) → IsBadFile (first_bytes input) line why ↔ IsBadFile input line why
+-- an input is a file exactly where they are
+abbrev pub FirstBytesDecideFiles : Type 0
+FirstBytesDecideFiles = (input : List ℕ) (scenario : Scenario) (rows : List (Row Mail OrderLine)) → IsFile (first_bytes input) scenario rows ↔ IsFile input scenario rows
+
+-- .. and is bad exactly where they are
+abbrev pub FirstBytesDecideFaults : Type 0
+FirstBytesDecideFaults = (input : List ℕ) (line why : ℕ) → IsBadFile (first_bytes input) line why ↔ IsBadFile input line why
 
 -- no two rows have the same text
 abbrev pub TextsAreApart : Type 0

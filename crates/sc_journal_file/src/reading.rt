@@ -89,12 +89,13 @@ fn read_rows(
     Ok(rows)
 }
 
-/// The scenario and the rows that a file is. `Bad` exactly where it is none: the line that counts
-/// from 1 over the whole file, and the number of the reason.
+/// The scenario and the rows that a file is. `Bad` exactly where it is none: the bad line, and the
+/// number of the reason.
 ///
-/// The causes, of which the first counts: a file above the limit (18, line 0); no line `journal`
-/// that a line feed ends (16, the line behind the last); a fault of the scenario (1 to 15); a line
-/// behind `journal` that lacks its line feed or is no row's text (17).
+/// The first of these causes counts. The file has more than `FILE_LIMIT` bytes: line 0, reason 18.
+/// None of the lines that a line feed ends is `journal`: the line after the last, reason 16. The
+/// part before `journal` is no scenario: the line and the reason of `read_scenario`. A line behind
+/// `journal` has no line feed, or is no row's text: the first such line, reason 17.
 pub fn read_file(
     alloc: Global,
     file: &[u8],
