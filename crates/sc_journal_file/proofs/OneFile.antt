@@ -1,5 +1,5 @@
 -- What a reader of files answers.
-use Rattle.std.proofs.Common.{◌≡◌, ℕ, ◌+◌, ◌<◌, ◌≤◌, ◌^◌, List, length, take, Some, refl, sym, ap, subst, ◌∙◌, inl, inr, arith}
+use Rattle.std.proofs.Common.{◌≡◌, ℕ, ◌+◌, ◌<◌, ◌≤◌, ◌^◌, List, length, take, sym, ap, ◌∙◌, inl, inr, arith}
 use Rattle.std.specs.Prelude.{Result, Ok, Err, ◌⊎◌}
 use Rattle.std.specs.Result.{result_ok, result_unwrap_or}
 use Rattle.std.proofs.lemmas.List.{length-drop}
@@ -13,7 +13,7 @@ use Rattle.sc_scenario.specs.Valid.{IsValid}
 use Rattle.sc_scenario.specs.declared.reading.ScenarioFault.{ScenarioFault}
 use Rattle.sc_scenario.specs.declared.reading.ScenarioFault.TheVariants.{Bad, OutOfMemory}
 use Rattle.sc_scenario.specs.declared.scenarios.Scenario.{Scenario}
-use Rattle.sc_journal_file.specs.Files.{front_of, scenario_text, rows_text, IsCut}
+use Rattle.sc_journal_file.specs.Files.{scenario_text, rows_text, IsCut}
 use Rattle.sc_journal_file.specs.Stored.{most_file_bytes, rows_whole, IsFile, IsFileFault, IsRowFault, AreRows}
 use Rattle.sc_journal_file.specs.Laws.{IsFileOfOne}
 use Rattle.sc_journal_file.proofs.Rows.{AreLines, AreLong, few_rows, few_mails, same_rows}

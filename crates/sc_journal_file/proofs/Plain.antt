@@ -1,10 +1,9 @@
 -- Texts without a line feed, and the lines that they make.
-use Rattle.std.proofs.Common.{◌≡◌, ℕ, ◌+◌, ◌<◌, Bool, true, cond, not, eqb, nat_lt, List, [], ◌∷◌, ◌++◌, length, take, drop, get_or, position, Option, Some, None, refl, sym, ap, ◌∙◌, arith, append_assoc, length-append}
+use Rattle.std.proofs.Common.{◌≡◌, ℕ, ◌+◌, ◌<◌, Bool, true, not, eqb, nat_lt, List, [], ◌∷◌, ◌++◌, length, take, drop, get_or, position, Some, None, refl, sym, ap, ◌∙◌, arith, append_assoc, length-append}
 use Rattle.std.specs.List.{list_all, position_or_len}
-use Rattle.std.proofs.lemmas.Bool.{and_parts, not_from_false, cond-true, lt-ltb, eqb-true}
-use Rattle.std.proofs.lemmas.List.{take_at, drop_at, drop_more, take-append-drop, length-take-le, get_or-take}
+use Rattle.std.proofs.lemmas.Bool.{and_parts, cond-true, lt-ltb, eqb-true}
+use Rattle.std.proofs.lemmas.List.{take_at, drop_at, drop_more, take-append-drop}
 use Rattle.std.proofs.lemmas.List.Quantifiers.{position-Some}
-use Rattle.std.proofs.lemmas.List.Sums.{list_all-from_AllPass}
 use Rattle.std.proofs.lemmas.Option.{same_Some}
 use Rattle.sc_journal_file.specs.Files.{fed}
 use Rattle.sc_journal_file.proofs.Fronts.{is_feed}

@@ -1,10 +1,9 @@
 -- The file of a scenario's bytes and rows is one.
-use Rattle.std.proofs.Common.{◌≡◌, ℕ, ◌+◌, ◌-◌, ◌<◌, ◌≤◌, ◌||◌, Bool, true, false, not, cond, eqb, nat_lt, if◌then◌else◌, List, [], ◌∷◌, ◌++◌, length, take, drop, get_or, map, Option, Some, None, refl, sym, ap, ◌∙◌, subst, inl, inr, arith, append_assoc, length-append}
-use Rattle.std.specs.Prelude.{Result, Ok, ◌⊎◌}
-use Rattle.std.specs.List.{concat, list_all}
+use Rattle.std.proofs.Common.{◌≡◌, ℕ, ◌+◌, ◌-◌, ◌<◌, ◌≤◌, true, false, not, eqb, nat_lt, List, [], ◌∷◌, ◌++◌, length, take, drop, get_or, map, Some, refl, sym, ap, ◌∙◌, subst, inl, inr, arith, append_assoc, length-append}
+use Rattle.std.specs.Prelude.{Ok, ◌⊎◌}
 use Rattle.std.specs.Option.{option_map}
 use Rattle.std.proofs.lemmas.Bool.{cond-true, cond-false, cond_both, or_from, or_left, or_right, le-ltb, lt-ltb, ltb-false, eq-eqb, ne_eqb, eqb-false, not-true}
-use Rattle.std.proofs.lemmas.List.{append-nil, take_at, drop_at, length-take, length-take-le, get_or_push, get_or_append_left, get_or-append_right}
+use Rattle.std.proofs.lemmas.List.{append-nil, take_at, drop_at, length-take, get_or_push, get_or_append_left, get_or-append_right}
 use Rattle.std.proofs.lemmas.List.Sums.{AllPass-from_list_all}
 use Rattle.sc_base.specs.Among.{Each}
 use Rattle.sc_actor.specs.declared.rows.Row.{Row}
@@ -15,15 +14,14 @@ use Rattle.sc_lines.specs.Words.{same}
 use Rattle.sc_row_text.specs.RowText.{text_of, IsHeld}
 use Rattle.sc_scenario.specs.Grammar.{lines_read, verdict_of}
 use Rattle.sc_scenario.specs.declared.drafts.Reading.TheVariants.{Fresh}
-use Rattle.sc_scenario.specs.declared.reading.ScenarioFault.{ScenarioFault}
 use Rattle.sc_scenario.specs.declared.scenarios.Scenario.{Scenario}
-use Rattle.sc_journal_file.specs.Files.{divider, fed, whole, lines_before, front_of, has_empty_end, scenario_text, rows_text, IsCut}
-use Rattle.sc_journal_file.specs.Stored.{most_file_bytes, file_text, rows_whole, IsFile}
+use Rattle.sc_journal_file.specs.Files.{divider, fed, whole, lines_before, front_of, has_empty_end, scenario_text, IsCut}
+use Rattle.sc_journal_file.specs.Stored.{rows_whole}
 use Rattle.sc_journal_file.specs.Laws.{PrintedFilesAreFiles}
 use Rattle.sc_journal_file.proofs.Fronts.{measure}
 use Rattle.sc_journal_file.proofs.Rows.{AreLines}
 use Rattle.sc_journal_file.proofs.NoDivider.{IsOther, all_other, not_long, verdict_all}
-use Rattle.sc_journal_file.proofs.WholeLines.{IsPlain, EndsBare, AreLinesOf, lines_ended, lines_bare, lines_are}
+use Rattle.sc_journal_file.proofs.WholeLines.{IsPlain, EndsBare, lines_ended, lines_bare, lines_are}
 
 -- ---- where the last line ends
 

@@ -1,8 +1,6 @@
 -- A file has one verdict.
-use Rattle.std.proofs.Common.{◌≡◌, ℕ, ◌+◌, ◌<◌, ◌≤◌, List, [], ◌∷◌, ◌++◌, length, map, Some, None, refl, sym, ap, ◌∙◌, subst, inl, inr, arith, append_assoc, length-append}
-use Rattle.std.specs.Prelude.{Result, Ok, Err, ◌⊎◌}
-use Rattle.std.specs.List.{concat}
-use Rattle.std.proofs.lemmas.List.{append-nil}
+use Rattle.std.proofs.Common.{◌≡◌, ℕ, ◌<◌, ◌≤◌, List, [], ◌∷◌, ◌++◌, length, map, None, refl, sym, ap, ◌∙◌, inl, inr, arith, append_assoc}
+use Rattle.std.specs.Prelude.{Result, Ok, Err}
 use Rattle.std.proofs.lemmas.Option.{none-some}
 use Rattle.sc_base.specs.Among.{Each}
 use Rattle.sc_actor.specs.declared.rows.Row.{Row}
@@ -14,7 +12,7 @@ use Rattle.sc_scenario.specs.declared.reading.ScenarioFault.{ScenarioFault}
 use Rattle.sc_scenario.specs.declared.reading.ScenarioFault.TheVariants.{Bad}
 use Rattle.sc_scenario.specs.declared.scenarios.Scenario.{Scenario}
 use Rattle.sc_journal_file.specs.Files.{fed, front_of, IsCut}
-use Rattle.sc_journal_file.specs.Stored.{most_file_bytes, rows_whole, IsFile, BeginsBadly, HasBadRow, IsTooLarge, LacksJournal, LacksScenario, LacksRow, IsBadFile, missing_journal, bad_row, file_too_large}
+use Rattle.sc_journal_file.specs.Stored.{most_file_bytes, rows_whole, IsFile, BeginsBadly, LacksScenario, LacksRow, IsBadFile}
 use Rattle.sc_journal_file.specs.Laws.{TextsAreApart, FilesHaveOneVerdict}
 use Rattle.sc_journal_file.proofs.Plain.{fed_apart}
 use Rattle.sc_journal_file.proofs.Rows.{AreLines, some_bytes}

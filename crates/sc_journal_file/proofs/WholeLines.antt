@@ -1,9 +1,9 @@
 -- Lines with their line feeds, and the lines of a text.
-use Rattle.std.proofs.Common.{◌≡◌, ℕ, zero, suc, ◌+◌, ◌-◌, ◌<◌, ◌≤◌, Bool, true, false, not, cond, eqb, nat_lt, List, [], ◌∷◌, ◌++◌, length, take, drop, get_or, position, Option, Some, None, refl, sym, ap, ◌∙◌, subst, inl, inr, arith, append_assoc, length-append, length-drop}
+use Rattle.std.proofs.Common.{◌≡◌, ℕ, zero, suc, ◌+◌, ◌<◌, ◌≤◌, Bool, true, false, not, cond, eqb, nat_lt, List, [], ◌∷◌, ◌++◌, length, take, drop, get_or, position, Option, Some, None, refl, sym, ap, ◌∙◌, subst, inl, inr, arith, append_assoc, length-drop}
 use Rattle.std.specs.Prelude.{◌⊎◌}
-use Rattle.std.specs.List.{list_all, position_or_len}
+use Rattle.std.specs.List.{position_or_len}
 use Rattle.std.proofs.lemmas.Bool.{and_parts, cond-true, cond-false, not_from_false, le-ltb, ltb-false}
-use Rattle.std.proofs.lemmas.List.{append-nil, nil_from_length, get_or-take, length-take-le}
+use Rattle.std.proofs.lemmas.List.{append-nil, get_or-take, length-take-le}
 use Rattle.std.proofs.lemmas.List.Quantifiers.{position-Some}
 use Rattle.std.proofs.lemmas.List.Sums.{list_all-from_AllPass, fails_before_first}
 use Rattle.std.proofs.lemmas.Option.{none-some}
@@ -11,7 +11,7 @@ use Rattle.sc_base.specs.Among.{Each}
 use Rattle.sc_lines.proofs.Cuts.{lines_first, lines_last}
 use Rattle.sc_lines.specs.Lines.{lines_in}
 use Rattle.sc_journal_file.specs.Files.{fed, whole}
-use Rattle.sc_journal_file.proofs.Fronts.{is_feed, feed_within}
+use Rattle.sc_journal_file.proofs.Fronts.{is_feed}
 use Rattle.sc_journal_file.proofs.Plain.{is_plain, plain_feed, line_taken, line_dropped, cut_at}
 
 -- a text without a line feed

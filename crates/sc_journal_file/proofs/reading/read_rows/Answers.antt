@@ -1,11 +1,8 @@
-use Rattle.std.proofs.Common.{◌≡◌, ◌+◌, ◌++◌, [], ◌∷◌, List, length, sym, subst, arith}
+use Rattle.std.proofs.Common.{◌≡◌, ◌++◌, [], ◌∷◌, sym, subst, arith}
 use Rattle.std.proofs.lemmas.List.{length_push}
 use Rattle.sc_base.specs.Among.{Each}
-use Rattle.sc_actor.specs.declared.rows.Row.{Row}
-use Rattle.sc_cmd.specs.declared.orders.OrderLine.{OrderLine}
-use Rattle.sc_mail.specs.declared.bodies.Mail.{Mail}
 use Rattle.sc_row_text.specs.RowText.{IsHeld}
-use Rattle.sc_journal_file.specs.Stored.{IsSole, rows_whole, GoesOn}
+use Rattle.sc_journal_file.specs.Stored.{IsSole, GoesOn}
 use Rattle.sc_journal_file.proofs.Rows.{each_push, rows_on, rest_shorter}
 use Rattle.sc_journal_file.proofs.reading.read_rows.Goals as goal
 
