@@ -1,9 +1,9 @@
-pub mod Fronts
-pub mod Plain
-pub mod Rows
-pub mod OneFile
-pub mod NoDivider
-pub mod WholeLines
-pub mod Printed
-pub mod FirstBytes
-pub mod Verdicts
+mod FirstBytes
+mod Fronts
+mod NoDivider
+mod OneFile
+mod Plain
+mod Printed
+mod Rows
+mod Verdicts
+mod WholeLines
