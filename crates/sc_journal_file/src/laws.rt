@@ -10,8 +10,8 @@ pub fn printed_files_are_files()
     row_texts_are_lines();
 }
 
-/// An input is a file, or bad at a line for a reason, exactly where its first bytes are, one more than
-/// the most that a file may have.
+/// An input is a file, or bad at a line for a reason, exactly where its first bytes are: one more
+/// than the most that a file may have.
 pub fn first_file_bytes_decide()
     ensures files { FirstBytesDecideFiles }
     ensures faults { FirstBytesDecideFaults }
