@@ -1,5 +1,5 @@
 -- Steps of readers.
-use Rattle.std.proofs.Common.{◌≡◌, Result, Ok, Err, IsErr, MatchResult, ◌∙◌}
+use Rattle.std.proofs.Common.{◌≡◌, Result, Ok, Err, IsErr, ◌∙◌}
 use Rattle.std.specs.Result.{IsErrAnd}
 use Rattle.sc_json.specs.Reading.{Finds, Shows}
 use Rattle.sc_json.specs.declared.faults.RowFault.{RowFault}

@@ -1,7 +1,6 @@
 -- The first member of an object.
-use Rattle.std.proofs.Common.{◌≡◌, ℕ, List, [], ◌∷◌, Option, Some, None, String, BTreeMap, Global, ◌<◌, length, true, false, string_bytes, btree_map_len, refl, ap, sym, ◌∙◌, arith, rules}
+use Rattle.std.proofs.Common.{◌≡◌, List, [], ◌∷◌, Some, String, BTreeMap, Global, ◌<◌, length, true, false, string_bytes, btree_map_len, ap, sym, arith}
 use Rattle.std.specs.List.{slice_get}
-use Rattle.serde_json.specs.Data.{Data, object, Members, no_members, member}
 use Rattle.serde_json.specs.View.{view, members_view}
 use Rattle.serde_json.specs.declared.value.Value.{Value, Object}
 use Rattle.serde_json.proofs.Views.{view-Object}

@@ -19,6 +19,7 @@ mod rows;
 mod sets;
 mod stored;
 mod texts;
+mod tries;
 mod votes;
 mod writing;
 

@@ -23,7 +23,8 @@ fn dot_of(text: &[u8]) -> Option<usize>
 /// The name that a text spells.
 #[tactic(auto, unfolding(sc_row_text::specs::Names::draw_json, sc_row_text::specs::Names::FitsDraw))]
 fn draw_of(text: &[u8]) -> Option<Draw>
-    ensures { (draw : Draw) → FitsDraw draw → string text.now ≡ draw_json draw → result ≡ Some draw }
+    ensures { (draw : Draw) → FitsDraw draw → string text.now ≡ draw_json draw
+        → result ≡ Some draw }
 {
     let dot = dot_of(text)?;
     let node = read_number(&text[..dot], u16::MAX as u64)?;

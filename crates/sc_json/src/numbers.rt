@@ -76,8 +76,18 @@ impl Stored for u64 {
     }
 }
 
-impl Present for u16 {
-    ghost use Rattle.std.proofs.Common.{rules};
+impl Present for u8 {
+    ghost is_there = { λ n fits none. Prim.cc };
+}
 
+impl Present for u16 {
+    ghost is_there = { λ n fits none. Prim.cc };
+}
+
+impl Present for u32 {
+    ghost is_there = { λ n fits none. Prim.cc };
+}
+
+impl Present for u64 {
     ghost is_there = { λ n fits none. Prim.cc };
 }

@@ -155,7 +155,8 @@ pub(crate) fn six_of<
         → I.Index.finds third (view json.now) ≡ Some (C.json_of c)
         → I.Index.finds fourth (view json.now) ≡ Some (D.json_of d)
         → I.Index.finds fifth (view json.now) ≡ Some (E.json_of e)
-        → I.Index.finds sixth (view json.now) ≡ Some (F.json_of f) → Finds (a, b, c, d, e, f) result }
+        → I.Index.finds sixth (view json.now) ≡ Some (F.json_of f)
+        → Finds (a, b, c, d, e, f) result }
 {
     let a = member(alloc, json, first)?;
     let b = member(alloc, json, second)?;

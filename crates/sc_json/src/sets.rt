@@ -13,7 +13,7 @@ ghost use Rattle.sc_json.specs.Reading.{Finds, Shows};
 use crate::faults::RowFault;
 use crate::lists::{array_of, items_of};
 use crate::reading::{pair_of, triple_of};
-use crate::stored::Stored;
+use crate::stored::{Present, Stored};
 use crate::writing::{pair, triple};
 use sc_base::{Key, Noted, Ordered, OutOfMemory, RingArc, Value};
 use sc_member::Members;
@@ -39,6 +39,12 @@ impl Stored for RingArc {
             Err(_) => Err(RowFault::NoRow),
         }
     }
+}
+
+impl Present for RingArc {
+    ghost use Rattle.sc_json.specs.Presence.{arc_there};
+
+    ghost is_there = { arc_there };
 }
 
 /// The set of these nodes, where they are one to nine, ascending.
@@ -75,6 +81,12 @@ impl Stored for Members {
             None => Err(RowFault::NoRow),
         }
     }
+}
+
+impl Present for Members {
+    ghost use Rattle.sc_json.specs.Presence.{nodes_there};
+
+    ghost is_there = { nodes_there };
 }
 
 fn ends_below<K: Ord, V>(list: &Ordered<K, V>, key: &K) -> bool
@@ -122,6 +134,12 @@ impl Stored for Ordered<Key, Value> {
             None => Err(RowFault::NoRow),
         }
     }
+}
+
+impl Present for Ordered<Key, Value> {
+    ghost use Rattle.sc_json.specs.Presence.{pairs_there};
+
+    ghost is_there = { pairs_there };
 }
 
 /// An entry of a client table.
@@ -183,4 +201,10 @@ impl Stored for Ordered<u16, Noted> {
             None => Err(RowFault::NoRow),
         }
     }
+}
+
+impl Present for Ordered<u16, Noted> {
+    ghost use Rattle.sc_json.specs.Presence.{clients_there};
+
+    ghost is_there = { clients_there };
 }

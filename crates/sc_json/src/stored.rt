@@ -24,7 +24,8 @@ pub trait Stored: Sized {
 
     /// The value that has this JSON.
     fn from_json(alloc: Global, json: &Json) -> Result<Self, RowFault>
-        ensures { (value : Self) → Fits value → view json.now ≡ json_of value → Finds value result };
+        ensures { (value : Self) → Fits value → view json.now ≡ json_of value
+            → Finds value result };
 }
 
 /// What is stored otherwise than as null, so that what may be absent is told from it.

@@ -58,6 +58,10 @@ impl Stored for Value {
     }
 }
 
+impl Present for Key {
+    ghost is_there = { λ key fits none. Prim.cc };
+}
+
 impl Present for Value {
     ghost is_there = { λ value fits none. Prim.cc };
 }

@@ -41,9 +41,9 @@ counted : (mails : List Mail) → items_len (items_json mail_json mails) ≡ len
 counted [] = refl
 counted (mail ∷ mails) = ap suc (counted mails)
 
-pub mails_counted : (row : Row Mail OrderLine) → length row.sent ≤ length (text_of row)
+pub mails_counted : (row : Row Mail OrderLine) → IsHeld row → length row.sent ≤ length (text_of row)
 unfolding text_of row_json
-mails_counted row =
+mails_counted row held =
     let mails = counted row.sent in
     let items = items_counted (items_json mail_json row.sent) in
     let later = members_parts true (codes "sent") (list_json mail_json row.sent) (members_json ((codes "who", number_json row.who) ∷ [])) in

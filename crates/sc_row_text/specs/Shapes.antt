@@ -1,6 +1,6 @@
 -- Numbers, lists, pairs, what may be absent, objects and variants as JSON.
 use Rattle.std.specs.Prelude.{ℕ, List, [], ◌∷◌, Option, Some, None}
-use Rattle.serde_json.specs.Data.{Data, Items, Members, null, number, unsigned, string, array, object, no_items, item, no_members, member}
+use Rattle.serde_json.specs.Data.{Data, Items, Members, null, number, unsigned, array, object, no_items, item, no_members, member}
 
 -- a number
 abbrev pub number_json : ℕ → Data

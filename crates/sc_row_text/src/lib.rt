@@ -16,7 +16,8 @@ ghost use Rattle.sc_row_text.specs.RowText.{text_of, IsHeld};
 pub fn row_texts_are_lines()
     ensures one_line { (row : Row Mail OrderLine) → IsHeld row
         → is_one_line (text_of row) ≡ true }
-    ensures mails { (row : Row Mail OrderLine) → length row.sent ≤ length (text_of row) }
+    ensures mails { (row : Row Mail OrderLine) → IsHeld row
+        → length row.sent ≤ length (text_of row) }
 {
 }
 
