@@ -4,6 +4,7 @@ use Rattle.sc_base.specs.Among.{Each}
 use Rattle.sc_actor.specs.declared.rows.Row.{Row}
 use Rattle.sc_cmd.specs.declared.orders.OrderLine.{OrderLine}
 use Rattle.sc_mail.specs.declared.bodies.Mail.{Mail}
+use Rattle.sc_lines.specs.Lines.{most_bytes}
 use Rattle.sc_row_text.specs.RowText.{text_of, IsHeld}
 use Rattle.sc_scenario.specs.Grammar.{verdict_of}
 use Rattle.sc_scenario.specs.declared.scenarios.Scenario.{Scenario}
@@ -41,3 +42,7 @@ pub record FilesHaveOneVerdict : Type 0 where
   pub rows : TextsAreApart → (file : List ℕ) (one other : Scenario) (rows others : List (Row Mail OrderLine)) → IsFile file one rows → IsFile file other others → rows ≡ others
   pub not_both : (file : List ℕ) (scenario : Scenario) (rows : List (Row Mail OrderLine)) (line why : ℕ) → IsFile file scenario rows → IsBadFile file line why → ⊥
   pub lines : (file : List ℕ) (line line' why why' : ℕ) → IsBadFile file line why → IsBadFile file line' why' → (line ≡ line') × (why ≡ why')
+
+-- a text that is a scenario has no more bytes than a text may have
+abbrev pub ScenariosAreShort : Type 0
+ScenariosAreShort = (text : List ℕ) (scenario : Scenario) → verdict_of text ≡ Ok scenario → length text ≤ most_bytes

@@ -1,5 +1,5 @@
 //! Laws of stored journals.
-ghost use Rattle.sc_journal_file.specs.Laws.{FilesHaveOneVerdict, FirstBytesDecideFaults, FirstBytesDecideFiles, PrintedFilesAreFiles};
+ghost use Rattle.sc_journal_file.specs.Laws.{FilesHaveOneVerdict, FirstBytesDecideFaults, FirstBytesDecideFiles, PrintedFilesAreFiles, ScenariosAreShort};
 
 use sc_row_text::row_texts_are_lines;
 
@@ -24,3 +24,8 @@ pub fn files_have_one_verdict()
 {
     row_texts_are_lines();
 }
+
+/// A text that is a scenario has no more bytes than a text may have.
+pub fn scenarios_are_short()
+    ensures { ScenariosAreShort }
+{}
