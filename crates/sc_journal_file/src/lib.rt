@@ -11,12 +11,12 @@
 
 mod cuts;
 mod laws;
-mod printed;
+mod lines;
 mod reading;
 
 pub use cuts::{StoredText, cut};
 pub use laws::{
     files_have_one_verdict, first_file_bytes_decide, printed_files_are_files, scenarios_are_short,
 };
-pub use printed::file_lines;
+pub use lines::file_lines;
 pub use reading::{FILE_LIMIT, read_file};

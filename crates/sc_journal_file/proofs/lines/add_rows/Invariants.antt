@@ -2,7 +2,7 @@ use Rattle.std.proofs.Common.{◌≡◌, ◌++◌, map, take}
 use Rattle.sc_base.specs.Among.{Each}
 use Rattle.sc_row_text.specs.RowText.{text_of, IsHeld}
 use Rattle.sc_journal_file.specs.Files.{fed}
-use Rattle.sc_journal_file.proofs.printed.add_rows.Given as goal
+use Rattle.sc_journal_file.proofs.lines.add_rows.Given as goal
 
 -- the rows so far have their lines
 abbrev pub invariant-loop-row : goal.invariant-loop-row

@@ -1,7 +1,7 @@
 use Rattle.std.proofs.Common.{◌≡◌, ◌++◌, false, length, map}
 use Rattle.sc_lines.specs.Lines.{lines_in}
 use Rattle.sc_journal_file.specs.Files.{fed}
-use Rattle.sc_journal_file.proofs.printed.add_text.Given as goal
+use Rattle.sc_journal_file.proofs.lines.add_text.Given as goal
 
 -- the lines so far and the lines to come are all
 abbrev pub invariant-loop-rest : goal.invariant-loop-rest
