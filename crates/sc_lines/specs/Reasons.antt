@@ -1,4 +1,4 @@
--- Why a text is no scenario, or no stored journal.
+-- Why a text is no scenario.
 use Rattle.std.specs.Prelude.{ℕ, List, [], ◌∷◌, get_or, codes, Option, Some, None, Result, Ok, Err}
 use Rattle.sc_lines.specs.declared.reasons.Reason.{Reason}
 use Rattle.sc_lines.specs.declared.reasons.Reason.TheVariants.{MissingHeader, BadByte, UnknownWord, OutOfPlace, WrongCount, BadNumber, BadKey, BadValue, UnknownName, Repeated, BadBoundary, TooMany, UnendedClient, MissingPart, TooLarge}
@@ -21,13 +21,12 @@ reason_code UnendedClient = 13
 reason_code MissingPart = 14
 reason_code TooLarge = 15
 
--- the words for the reasons, in the order of their numbers; none for 0, and those above 15 of stored journals
+-- the words for the reasons, in the order of their numbers; none for 0
 abbrev pub reasons : List (List ℕ)
 reasons =
     codes "" ∷ codes "missing header" ∷ codes "bad byte" ∷ codes "unknown word" ∷ codes "out of place" ∷ codes "wrong count"
     ∷ codes "bad number" ∷ codes "bad key" ∷ codes "bad value" ∷ codes "unknown name" ∷ codes "repeated"
-    ∷ codes "bad boundary" ∷ codes "too many" ∷ codes "unended client" ∷ codes "missing part" ∷ codes "too large"
-    ∷ codes "missing journal" ∷ codes "bad row" ∷ codes "file too large" ∷ []
+    ∷ codes "bad boundary" ∷ codes "too many" ∷ codes "unended client" ∷ codes "missing part" ∷ codes "too large" ∷ []
 
 -- the words for the reason of this number
 abbrev pub reason_text : ℕ → List ℕ

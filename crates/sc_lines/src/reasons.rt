@@ -1,4 +1,4 @@
-//! Why a text is no scenario, or no stored journal.
+//! Why a text is no scenario.
 ghost use Rattle.std.specs.Prelude.{◌≡◌};
 ghost use Rattle.sc_lines.specs.Reasons.{reason_code, reason_text};
 
@@ -60,8 +60,7 @@ impl Reason {
     }
 }
 
-/// The words for the reason of this number, from 1 to 18; those above 15 are of stored journals.
-/// Empty for other numbers.
+/// The words for the reason of this number, from 1 to 15. Empty for other numbers.
 pub fn reason_text(why: u8) -> &'static [u8]
     ensures { result.now ≡ reason_text why }
 {
@@ -81,9 +80,6 @@ pub fn reason_text(why: u8) -> &'static [u8]
         13 => b"unended client",
         14 => b"missing part",
         15 => b"too large",
-        16 => b"missing journal",
-        17 => b"bad row",
-        18 => b"file too large",
         _ => b"",
     }
 }
