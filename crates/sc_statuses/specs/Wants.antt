@@ -1,5 +1,5 @@
 -- What words and input ask for.
-use Rattle.std.specs.Prelude.{◌≡◌, ℕ, ◌+◌, ◌<◌, ◌^◌, List, ◌++◌, length, Option, None, Some, IfSome, Result, Ok, Err, codes, if◌then◌else◌}
+use Rattle.std.specs.Prelude.{◌≡◌, ℕ, ◌+◌, ◌<◌, ◌^◌, ◌==◌, List, ◌++◌, length, Option, None, Some, IfSome, Result, Ok, Err, codes, if◌then◌else◌}
 use Rattle.std.specs.Fmt.{decimal}
 use Rattle.sc_actor.specs.Mail.{mails}
 use Rattle.sc_actor.specs.declared.rows.Row.{Row}
@@ -15,16 +15,24 @@ use Rattle.sc_scenario.specs.declared.reading.ScenarioFault.{ScenarioFault}
 use Rattle.sc_scenario.specs.declared.reading.ScenarioFault.TheVariants.{Bad}
 use Rattle.sc_scenario.specs.declared.scenarios.Scenario.{Scenario}
 use Rattle.sc_journal_file.specs.Laws.{IsFileOfOne}
-use Rattle.sc_journal_file.specs.Stored.{most_file_bytes, IsFile, IsBadFile}
+use Rattle.sc_journal_file.specs.Stored.{most_file_bytes, missing_journal, bad_row, file_too_large, IsFile, IsBadFile}
 use Rattle.sc_words.specs.Asked.{asked_by, is_audit}
 use Rattle.sc_words.specs.declared.asked.Asked.{Asked}
 use Rattle.sc_words.specs.declared.asked.Asked.TheVariants as ask
 use Rattle.sc_statuses.specs.declared.wants.Wanted.{Wanted}
 use Rattle.sc_statuses.specs.declared.wants.Wanted.TheVariants.{Usage, ReadFault, BadScenario, Run, Journal, Audit}
 
+-- the words for the reason of this number: those above 15 are of stored journals alone
+abbrev pub words_for : ℕ → List ℕ
+words_for why =
+    if why == missing_journal then codes "missing journal"
+    else if why == bad_row then codes "bad row"
+    else if why == file_too_large then codes "file too large"
+    else reason_text why
+
 -- what is told of a bad line: `line L: REASON`
 abbrev pub fault_text : ℕ → ℕ → List ℕ
-fault_text line why = (codes "line " ++ decimal line ++ codes ": ") ++ reason_text why
+fault_text line why = (codes "line " ++ decimal line ++ codes ": ") ++ words_for why
 
 -- the most calls of the source: one for each byte of the longest input, which is a stored journal's or a scenario's, one for a byte too many, and one at the end
 abbrev pub most_takes : List (List ℕ) → ℕ

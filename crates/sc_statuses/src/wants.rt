@@ -3,7 +3,7 @@ ghost use Rattle.std.specs.Prelude.{◌≡◌, ◌≤◌, ◌+◌, map, false, s
 ghost use Rattle.sc_lines.specs.Lines.{most_bytes};
 ghost use Rattle.sc_journal_file.specs.Stored.{most_file_bytes};
 ghost use Rattle.sc_words.specs.Asked.{reads_input};
-ghost use Rattle.sc_statuses.specs.Wants.{fault_text, IsOf, IsKeptOf, IsStoredIn, IsRead, IsKept, IsAudited, IsWanted, most_takes};
+ghost use Rattle.sc_statuses.specs.Wants.{fault_text, IsOf, IsKeptOf, IsStoredIn, IsRead, IsKept, IsAudited, IsWanted, most_takes, words_for};
 
 use sc_actor::Journal;
 use sc_base::OutOfMemory;
@@ -143,12 +143,24 @@ pub fn wanted_of<S: Source>(
     }
 }
 
+// The words for the reason of this number, from 1 to 18: those above 15 are of stored journals.
+fn words_for(why: u8) -> &'static [u8]
+    ensures { result.now ≡ words_for why }
+{
+    match why {
+        16 => b"missing journal",
+        17 => b"bad row",
+        18 => b"file too large",
+        _ => reason_text(why),
+    }
+}
+
 /// What is told of a bad line: `line L: REASON`.
 pub fn fault_text(alloc: Global, line: u32, why: u8) -> Result<Vec<u8>, OutOfMemory>
     ensures { IfOk result (λ text. text.items ≡ fault_text line why) }
 {
     let head = format!(in alloc; "line {line}: ")?;
     let mut text = Vec::from_slice(alloc, head.as_bytes())?;
-    text.extend_from_slice(reason_text(why))?;
+    text.extend_from_slice(words_for(why))?;
     Ok(text)
 }
