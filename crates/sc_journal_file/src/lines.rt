@@ -35,11 +35,7 @@ fn row_line(alloc: Global, row: &Row<Mail, OrderLine>) -> Result<ReportLine, Out
 }
 
 // Adds the lines of a text.
-fn add_text(
-    alloc: Global,
-    lines: &mut Sequence<ReportLine>,
-    text: &[u8],
-) -> Result<(), OutOfMemory>
+fn add_text(alloc: Global, lines: &mut Sequence<ReportLine>, text: &[u8]) -> Result<(), OutOfMemory>
     ensures { OnOk result (lines.new ≡ lines.old ++ map fed (lines_in false text.now)) }
 {
     let mut rest = text;

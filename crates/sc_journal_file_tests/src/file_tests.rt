@@ -37,7 +37,11 @@ const FILES: &[(&[u8], u32, u8)] = &[
     (b"\njournal\n", 1, 1),
     (b"scatter 1\nnodes 1\njournal\n", 3, 14),
     (b"scatter 1\nnodes 1\n\njournal\n", 4, 14),
-    (b"scatter 1\nnodes 1\ngroup 0 1\nclient 1\nget a\njournal\n", 6, 13),
+    (
+        b"scatter 1\nnodes 1\ngroup 0 1\nclient 1\nget a\njournal\n",
+        6,
+        13,
+    ),
     (b"scatter 1\nfoo\njournal\nx", 2, 3),
     // a line behind it is no row's
     (b"scatter 1\nnodes 1\ngroup 0 1\njournal\nx", 5, 17),

@@ -18,8 +18,7 @@ pub fn row_texts_are_lines()
         → is_one_line (text_of row) ≡ true }
     ensures mails { (row : Row Mail OrderLine) → IsHeld row
         → length row.sent ≤ length (text_of row) }
-{
-}
+{}
 
 /// The text of each row that a value can hold is UTF-8, and a reader of JSON finds the row's JSON in
 /// it: two rows with one text have one JSON.
@@ -28,5 +27,4 @@ pub fn row_texts_read_back()
     ensures back { (row : Row Mail OrderLine) → IsHeld row
         → read (text_of row) ≡ Some (row_json row) }
     ensures utf8 { (row : Row Mail OrderLine) → IsHeld row → IsUtf8 (text_of row) }
-{
-}
+{}

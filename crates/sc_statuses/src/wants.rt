@@ -27,11 +27,17 @@ pub enum Wanted {
     ReadFault,
     /// The input is no scenario, or no stored journal: its first bad line, and the number of the
     /// reason.
-    BadScenario { line: u32, why: u8 },
+    BadScenario {
+        line: u32,
+        why: u8,
+    },
     /// A run of this scenario, which was read or made.
     Run(Scenario),
     /// A run of this scenario, of which the journal is printed behind the scenario's text.
-    Journal { scenario: Scenario, text: Vec<u8> },
+    Journal {
+        scenario: Scenario,
+        text: Vec<u8>,
+    },
     /// Whether these rows are a lawful journal of this scenario.
     Audit {
         scenario: Scenario,

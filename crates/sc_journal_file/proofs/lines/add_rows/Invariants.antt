@@ -8,5 +8,5 @@ use Rattle.sc_journal_file.proofs.lines.add_rows.Given as goal
 abbrev pub invariant-loop-row : goal.invariant-loop-row
 invariant-loop-row l = record {
   lines : l.lines ≡ l.fn.lines ++ map fed (map text_of (take l.row-index l.rows));
-  held : Each IsHeld (take l.row-index l.rows)
+  held : Each IsHeld (take l.row-index l.rows);
 }
