@@ -13,4 +13,4 @@ returns-in_ok-lines-in-Ended g c =
     let text : Text = record { lines = c.in_ok-lines-in-Ended.lines; journal = Some left.journal; parties = left.parties } in
     subst (λ begun. IfSome begun (λ said. ReportsAs (ShowsFile c.args.bytes.now) said scenario text)) (sym (sym c.in-Some.is ∙ (c.said_by.ensures ∙ ap said_by c.in-Ended.is)))
     (reports_as (ShowsFile c.args.bytes.now) scenario c.in-Ended.unsettled c.in-Ended.quiet c.in-Ended.skipped left.journal left.parties text
-    (subst (IsPlayed scenario journal_limit left.journal left.parties) c.in-Ended.is c.in_ok-left.ensures) (c.in_ok-lines-in-Ended.ensures.lines, c.in_ok-lines-in-Ended.ensures.held) refl refl)
+    (subst (IsPlayed scenario journal_limit left.journal left.parties) c.in-Ended.is c.in_ok-left.ensures) (subst (λ rows. ShowsFile c.args.bytes.now rows text.lines) c.as_slice.ensures (c.in_ok-lines-in-Ended.ensures.lines, c.in_ok-lines-in-Ended.ensures.held)) refl refl)

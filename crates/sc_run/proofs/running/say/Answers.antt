@@ -1,6 +1,7 @@
-use Rattle.std.proofs.Common.{map}
+use Rattle.std.proofs.Common.{map, subst}
 use Rattle.std.specs.Prelude.{string_bytes}
 use Rattle.std.proofs.lemmas.Result.{IfOk-weaker}
+use Rattle.sc_run.specs.Run.{ReportsAs, ShowsFile}
 use Rattle.sc_run.proofs.Readings.{says_audit, says_fault, says_failure, says_kept, says_report, says_store, says_stored, says_usage, says_valid}
 use Rattle.sc_run.proofs.running.say.Goals as goal
 
@@ -30,7 +31,8 @@ store-requires-after_bounds g c κs within =
 
 pub returns-in-Journal-clause-says : goal.returns-in-Journal-clause-says
 returns-in-Journal-clause-says g c =
-    IfOk-weaker c.store.result _ _ (λ begun h. says_store (map string_bytes c.args.words.now) _ _ _ _ c.in_ok-wanted_of.ensures.wanted c.in-Journal.scenario c.in-Journal.text begun.0 begun.1 c.in-Journal.is h) c.store.ensures
+    IfOk-weaker c.store.result _ _ (λ begun h. says_store (map string_bytes c.args.words.now) _ _ _ _ c.in_ok-wanted_of.ensures.wanted c.in-Journal.scenario c.in-Journal.text begun.0 begun.1 c.in-Journal.is
+    (subst (λ bytes. ReportsAs (ShowsFile bytes) begun.0 c.in-Journal.scenario begun.1) c.deref.ensures.value h)) c.store.ensures
 
 pub returns-in-Audit-clause-says : goal.returns-in-Audit-clause-says
 returns-in-Audit-clause-says g c =

@@ -1,4 +1,5 @@
 use Rattle.std.proofs.Common.{◌≡◌, List, ℕ, codes, ap, sym, ◌∙◌, Result, refl, subst}
+use Rattle.std.specs.Prelude.{⊤}
 use Rattle.serde_json.specs.Data.{Data}
 use Rattle.sc_cmd.specs.declared.votes.Vote.{Vote}
 use Rattle.sc_cmd.specs.declared.votes.Vote.TheVariants.{Yes, No}
@@ -10,6 +11,16 @@ use Rattle.sc_json.specs.declared.faults.RowFault.TheVariants.{NoRow, OutOfMemor
 use Rattle.sc_json.proofs.Apart.{apart}
 use Rattle.sc_json.proofs.votes.VoteStored.from_json.Goals as goal
 
+-- the name of each variant
+name : Vote → List ℕ
+name (Yes inner) = codes "Yes"
+name (No inner) = codes "No"
+
+-- the variants that have a content
+HasContent : Vote → Type 0
+HasContent (Yes inner) = ⊤
+HasContent (No inner) = ⊤
+
 of_value : (value : Vote) → MayBeVariant (vote_json value)
 unfolding vote_json
 of_value (Yes inner) = tt
@@ -19,33 +30,51 @@ of_value (No inner) = tt
 shaped : (json : Data) (value : Vote) → json ≡ vote_json value → MayBeVariant json
 shaped json value e = subst MayBeVariant (sym e) (of_value value)
 
+named_as : (value : Vote) → name_of (vote_json value) ≡ name value
+unfolding name vote_json
+named_as (Yes inner) = refl
+named_as (No inner) = refl
+
+-- the name that was found is that of the variant
+called : (json : Data) (found : List ℕ) (value : Vote) → json ≡ vote_json value → found ≡ name_of json → found ≡ name value
+called json found value e named = named ∙ (ap name_of e ∙ named_as value)
+
+whole_of : (value : Vote) → HasContent value → variant (name value) (content_of (vote_json value)) ≡ vote_json value
+unfolding name HasContent vote_json
+whole_of (Yes inner) some = refl
+whole_of (No inner) some = refl
+
+-- the name and the content that were found make the JSON
+rebuilt : (json content : Data) (value : Vote) → json ≡ vote_json value → content ≡ content_of json → HasContent value → variant (name value) content ≡ vote_json value
+rebuilt json content value e inner some = ap (variant (name value)) (inner ∙ ap content_of e) ∙ whole_of value some
+
 -- one of the names is that of the variant
-none_left : (json : Data) (name : List ℕ) (value : Vote) → json ≡ vote_json value → name ≡ name_of json
-    → (name ≡ codes "Yes" → ⊥) → (name ≡ codes "No" → ⊥) → NoRow ≡ OutOfMemory
-unfolding vote_json
-none_left json name (Yes inner) e named n0 n1 = absurd (n0 (named ∙ ap name_of e))
-none_left json name (No inner) e named n0 n1 = absurd (n1 (named ∙ ap name_of e))
+none_left : (found : List ℕ) (value : Vote) → found ≡ name value
+    → (found ≡ codes "Yes" → ⊥) → (found ≡ codes "No" → ⊥) → NoRow ≡ OutOfMemory
+unfolding name
+none_left found (Yes inner) is n0 n1 = absurd (n0 is)
+none_left found (No inner) is n0 n1 = absurd (n1 is)
 
-at_yes : (json content : Data) (name : List ℕ) (value : Vote) (result : Result Vote RowFault) → json ≡ vote_json value → name ≡ name_of json → content ≡ content_of json → name ≡ codes "Yes" → FitsVote value
+at_yes : (json content : Data) (found : List ℕ) (value : Vote) (result : Result Vote RowFault) → json ≡ vote_json value → content ≡ content_of json → found ≡ name value → found ≡ codes "Yes" → FitsVote value
     → ((inner : _) → FitsVote (Yes inner) → variant (codes "Yes") content ≡ vote_json (Yes inner) → Finds (Yes inner) result) → Finds value result
-unfolding vote_json
-at_yes json content name (Yes inner) result e named inner_is is fits read = read inner fits (ap (variant (codes "Yes")) (inner_is ∙ ap content_of e))
-at_yes json content name _ result e named inner_is is fits read = absurd (apart _ _ (sym is ∙ (named ∙ ap name_of e)) refl)
+unfolding name HasContent
+at_yes json content found (Yes inner) result e inner_is called_so is fits read = read inner fits (rebuilt json content (Yes inner) e inner_is tt)
+at_yes json content found _ result e inner_is called_so is fits read = absurd (apart _ _ (sym is ∙ called_so) refl)
 
-at_no : (json content : Data) (name : List ℕ) (value : Vote) (result : Result Vote RowFault) → json ≡ vote_json value → name ≡ name_of json → content ≡ content_of json → name ≡ codes "No" → FitsVote value
+at_no : (json content : Data) (found : List ℕ) (value : Vote) (result : Result Vote RowFault) → json ≡ vote_json value → content ≡ content_of json → found ≡ name value → found ≡ codes "No" → FitsVote value
     → ((inner : _) → FitsVote (No inner) → variant (codes "No") content ≡ vote_json (No inner) → Finds (No inner) result) → Finds value result
-unfolding vote_json
-at_no json content name (No inner) result e named inner_is is fits read = read inner fits (ap (variant (codes "No")) (inner_is ∙ ap content_of e))
-at_no json content name _ result e named inner_is is fits read = absurd (apart _ _ (sym is ∙ (named ∙ ap name_of e)) refl)
+unfolding name HasContent
+at_no json content found (No inner) result e inner_is called_so is fits read = read inner fits (rebuilt json content (No inner) e inner_is tt)
+at_no json content found _ result e inner_is called_so is fits read = absurd (apart _ _ (sym is ∙ called_so) refl)
 
 pub returns-in_default : goal.returns-in_default
 returns-in_default c = λ value fits e. absurd (c.in_default.ensures (shaped _ value e))
 
 pub returns-in-Yes : goal.returns-in-Yes
-returns-in-Yes c = λ value fits e. let parts = c.in-Some.ensures (shaped _ value e) in at_yes _ _ _ value _ e parts.0 parts.1 c.in-Yes.is fits c.vote_yes.ensures
+returns-in-Yes c = λ value fits e. let parts = c.in-Some.ensures (shaped _ value e) in at_yes _ _ _ value _ e parts.1 (called _ _ value e parts.0) c.in-Yes.is fits c.vote_yes.ensures
 
 pub returns-in-No : goal.returns-in-No
-returns-in-No c = λ value fits e. let parts = c.in-Some.ensures (shaped _ value e) in at_no _ _ _ value _ e parts.0 parts.1 c.in-No.is fits c.vote_no.ensures
+returns-in-No c = λ value fits e. let parts = c.in-Some.ensures (shaped _ value e) in at_no _ _ _ value _ e parts.1 (called _ _ value e parts.0) c.in-No.is fits c.vote_no.ensures
 
 pub returns-in_default-name : goal.returns-in_default-name
-returns-in_default-name c = λ value fits e. let parts = c.in-Some.ensures (shaped _ value e) in none_left _ _ value e parts.0 c.in_default-name.not-Yes c.in_default-name.not-No
+returns-in_default-name c = λ value fits e. let parts = c.in-Some.ensures (shaped _ value e) in none_left _ value (called _ _ value e parts.0) c.in_default-name.not-Yes c.in_default-name.not-No
