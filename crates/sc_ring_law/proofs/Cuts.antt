@@ -15,7 +15,8 @@ use Rattle.sc_ring_law.specs.Stories.{put}
 use Rattle.sc_entries.proofs.Names.{draw_cases, other_name, some_is}
 use Rattle.sc_ring_law.proofs.Cover.{at-is, at-other}
 use Rattle.sc_ring_law.proofs.View.{Ring}
-use Rattle.sc_ring_law.proofs.Finds.{find_map, find_first, find_skips, find_passes, find_there, each_from, each_map, each_filter, Pairwise, pairwise_filter}
+use Rattle.sc_paxos_words.proofs.ListLemmas.{Each-among, find_found}
+use Rattle.sc_ring_law.proofs.Finds.{find_map, find_first, find_skips, each_map, Pairwise}
 
 -- the ring by the names of groups
 abbrev pub arcs_in : List Cut → Ring
@@ -23,7 +24,7 @@ arcs_in ring name = arc_in name ring
 
 -- the cut that is found is the group's
 pub cut_named : (h : Draw) (ring : List Cut) (c : Cut) → find (is_cut_of h) ring ≡ Some c → c.group ≡ h
-cut_named h ring c e = draw_is c.group h (find_passes (is_cut_of h) ring c e)
+cut_named h ring c e = draw_is c.group h (find_found (is_cut_of h) ring c e).1
 
 none_arc : (a : Arc) → None ≡ Some a → ⊥
 none_arc a e = cc
@@ -206,7 +207,7 @@ pub arc_of_cut : (ring : List Cut) → Pairwise (λ (c o : Cut). c.group ≢ o.g
 arc_of_cut [] h c a = absurd a
 arc_of_cut (x ∷ ring) h c (inl e) = ap (option_map (λ (k : Cut). k.arc)) (find_first (is_cut_of c.group) x ring (same_name x.group c.group (ap (λ (k : Cut). k.group) e))) ∙ ap (λ (k : Cut). Some k.arc) e
 arc_of_cut (x ∷ ring) h c (inr a) =
-    ap (option_map (λ (k : Cut). k.arc)) (find_skips (is_cut_of c.group) x ring (other_name x.group c.group (Rattle.sc_ring_law.proofs.Finds.each_among (λ (o : Cut). x.group ≢ o.group) ring h.0 c a)))
+    ap (option_map (λ (k : Cut). k.arc)) (find_skips (is_cut_of c.group) x ring (other_name x.group c.group (Each-among (λ (o : Cut). x.group ≢ o.group) ring c h.0 a)))
     ∙ arc_of_cut ring h.1 c a
 
 -- the cut of a group that has an arc
@@ -218,7 +219,7 @@ pub record HasCut (ring : List Cut) (g : Draw) (a : Arc) : Type 0 where
 
 has_cut : (ring : List Cut) (g : Draw) (a : Arc) (o : Option Cut) → find (is_cut_of g) ring ≡ o → option_map (λ (k : Cut). k.arc) o ≡ Some a → HasCut ring g a
 has_cut ring g a None f e = absurd (none_arc a e)
-has_cut ring g a (Some c) f e = record { cut = c; there = find_there (is_cut_of g) ring c f; group = cut_named g ring c f; arc = some_is c.arc a e }
+has_cut ring g a (Some c) f e = record { cut = c; there = (find_found (is_cut_of g) ring c f).0; group = cut_named g ring c f; arc = some_is c.arc a e }
 
 pub cut_of_arc : (ring : List Cut) (g : Draw) (a : Arc) → arc_in g ring ≡ Some a → HasCut ring g a
 cut_of_arc ring g a e = has_cut ring g a (find (is_cut_of g) ring) refl e

@@ -1,7 +1,9 @@
 -- What is heard, decided and ended keeps the facts; so does a child that is born.
 use Rattle.std.proofs.Common.{◌≡◌, ℕ, true, false, inl, inr, Option, Some, None, refl, sym, ◌∙◌, ap, subst}
 use Rattle.std.proofs.lemmas.Bool.{both_ways}
+use Rattle.sc_base.specs.Same.{same_draw}
 use Rattle.sc_base.specs.declared.names.Draw.{Draw}
+use Rattle.sc_base.proofs.NameLemmas.{draw_is}
 use Rattle.sc_cmd.specs.declared.bodies.Body.{Body}
 use Rattle.sc_cmd.specs.declared.bodies.Body.TheVariants as At
 use Rattle.sc_cmd.specs.declared.bodies.Offer.{Offer}
@@ -26,6 +28,9 @@ own_story gs ys owner g s tx body order heard f is lock = subst (LockOk ys g s) 
 
 is_of : (l : Lock) (tx : Draw) (body : Body) (order : ℕ) (heard : Option Heard) → l ≡ Coordinating tx body order heard → IsOf l tx
 is_of l tx body order heard e = subst (λ k. IsOf k tx) (sym e) refl
+
+pub same_lock : (l : Lock) (t tx : Draw) (body : Body) (order : ℕ) (heard : Option Heard) → l ≡ Coordinating t body order heard → same_draw t tx ≡ true → l ≡ Coordinating tx body order heard
+same_lock l t tx body order heard e q = e ∙ ap (λ n. Coordinating n body order heard) (draw_is t tx q)
 
 promised_not : (l : Lock) (tx : Draw) (body : Body) (order : ℕ) (heard : Option Heard) (t : Draw) (offer : Offer) → l ≡ Coordinating tx body order heard → l ≡ Promised t offer → ⊥
 promised_not l tx body order heard t offer a b = let e = sym a ∙ b in cc

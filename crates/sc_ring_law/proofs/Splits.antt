@@ -28,7 +28,7 @@ use Rattle.sc_ring_law.proofs.Insides.{inside_part, inside_again}
 use Rattle.sc_ring_law.proofs.Commits.{ring_split, IsDeciding, own_is, New, mine_old, mine_new, other_eff, watch_eff, IsSplit, split_agrees, inside_at, ring_at, same_ring}
 use Rattle.sc_ring_law.proofs.Reshapes.{Ends}
 
-pub split_good : (ring : Ring) (d e : Draw → Option Group) (g child x : Draw) (s l r : Group) (place : ℕ) → IsSplit d e g child x s l r place → place < 2 ^ 32 → Holds s.core.arc place → (place ≡ s.core.arc.lo → ⊥) → IsInside l → IsInside r
+split_good : (ring : Ring) (d e : Draw → Option Group) (g child x : Draw) (s l r : Group) (place : ℕ) → IsSplit d e g child x s l r place → place < 2 ^ 32 → Holds s.core.arc place → (place ≡ s.core.arc.lo → ⊥) → IsInside l → IsInside r
     → Good ring d → Good (ring_split (ring g) (record { at = place; child = child }) ring g) e
 split_good ring d e g child x s l r place k fits held inside il ir w =
     let agrees = split_agrees d e g child x s l r place k in (
