@@ -24,11 +24,11 @@ use Rattle.sc_hist_law.proofs.Logs.{applied_same}
 -- ---- one entry
 
 -- the log with an entry of the group, and with another's
-own_first : (name : Draw) (entry : LogEntry) (entries : List LogEntry) → entry.group ≡ name → log_in name (entry ∷ entries) ≡ entry.command ∷ log_in name entries
+pub own_first : (name : Draw) (entry : LogEntry) (entries : List LogEntry) → entry.group ≡ name → log_in name (entry ∷ entries) ≡ entry.command ∷ log_in name entries
 own_first name entry entries e =
     ap (map (λ (x : LogEntry). x.command)) (cond-true (same_draw entry.group name) (entry ∷ filter (λ (x : LogEntry). same_draw x.group name) entries) (filter (λ (x : LogEntry). same_draw x.group name) entries) (same_name entry.group name e))
 
-other_first : (name : Draw) (entry : LogEntry) (entries : List LogEntry) → (entry.group ≡ name → ⊥) → log_in name (entry ∷ entries) ≡ log_in name entries
+pub other_first : (name : Draw) (entry : LogEntry) (entries : List LogEntry) → (entry.group ≡ name → ⊥) → log_in name (entry ∷ entries) ≡ log_in name entries
 other_first name entry entries ne =
     ap (map (λ (x : LogEntry). x.command)) (cond-false (same_draw entry.group name) (entry ∷ filter (λ (x : LogEntry). same_draw x.group name) entries) (filter (λ (x : LogEntry). same_draw x.group name) entries) (other_name entry.group name ne))
 
@@ -71,7 +71,7 @@ record PartsAt (name : Draw) (entries : List LogEntry) (front : List Command) : 
   are : entries ≡ first ++ rest
   log : log_in name first ≡ front
 
-heads : (c d : Command) (cs ds : List Command) → c ∷ cs ≡ d ∷ ds → (c ≡ d) × (cs ≡ ds)
+pub heads : (c d : Command) (cs ds : List Command) → c ∷ cs ≡ d ∷ ds → (c ≡ d) × (cs ≡ ds)
 heads c d cs ds e = (cc, cc)
 
 parts_at : (name : Draw) (entries : List LogEntry) (front later : List Command) → log_in name entries ≡ front ++ later → PartsAt name entries front

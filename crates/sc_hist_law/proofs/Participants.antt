@@ -9,7 +9,6 @@ use Rattle.std.specs.FinMap.Entries.{is_some-find}
 use Rattle.std.specs.Ordering.{nat_cmp, eq_by_cmp}
 use Rattle.std.proofs.lemmas.Bool.{and_parts, eq-eqb, eqb-false, eqb-true, le-leb, leb-true, ltb-true}
 use Rattle.sc_base.specs.Arc.{Arc, CanCut, CanJoin, IsArc, before, end_of, from, holds, offset}
-use Rattle.sc_base.specs.ArcLaws.{PartsJoin}
 use Rattle.sc_base.specs.Text.{pos_of}
 use Rattle.sc_base.specs.declared.names.Draw.{Draw}
 use Rattle.sc_base.proofs.ArcLemmas.{cuts_join, joins_hold}
@@ -51,14 +50,11 @@ pub is_join : (arc next : Arc) → CanJoin arc next → can_join arc next ≡ tr
 is_join arc next can = ap (λ b. b && nat_le (arc.len + next.len) (2 ^ 32)) (eq-eqb next.lo (end_of arc) can.0) ∙ le-leb (arc.len + next.len) (2 ^ 32) can.1
 
 -- what is cut off the end of an arc meets what the arc meets
-second_end : (arc : Arc) (at : ℕ) → arc.lo < 2 ^ 32 → PartsJoin arc at → end_of arc ≡ end_of (from arc at)
-second_end arc at fits parts = ap end_of (sym parts.same) ∙ (joins_hold (before arc at) (from arc at) fits parts.first parts.second parts.can).end
-
 pub rest_meets : (arc next : Arc) (at : ℕ) → IsArc arc → arc.lo < 2 ^ 32 → at < 2 ^ 32 → CanCut arc at → CanJoin arc next → CanJoin (from arc at) next
 rest_meets arc next at is fits at_fits cut can =
     let parts = cuts_join arc at fits at_fits is cut in
     let inside : offset arc at < arc.len = ltb-true _ _ cut.0 in
-    (can.0 ∙ second_end arc at fits parts, (let sum = can.1 in omega (arith, sum, inside)))
+    (can.0 ∙ ap end_of (sym parts.same) ∙ (joins_hold (before arc at) (from arc at) fits parts.first parts.second parts.can).end, (let sum = can.1 in omega (arith, sum, inside)))
 
 -- ---- keys of a gift
 

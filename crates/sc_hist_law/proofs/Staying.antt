@@ -108,7 +108,7 @@ free_by (Coordinating tx body order heard) core c e = cc
 free_by (Promised tx offer) core c e = cc
 free_by (Watching tx watch) core c e = cc
 
-free_by_no : (gone : Option Route) (lock : Lock) (why : Option No) → no_of gone (locked_in lock) why ≡ None → lock ≡ Free
+pub free_by_no : (gone : Option Route) (lock : Lock) (why : Option No) → no_of gone (locked_in lock) why ≡ None → lock ≡ Free
 free_by_no (Some into) lock why e = cc
 free_by_no None Free why e = refl
 free_by_no None (Coordinating tx body order heard) why e = cc
