@@ -158,7 +158,7 @@ module _ (owner : Draw → Option Draw) (w : ToldWorld) (k : KeptWorld owner w) 
 
 -- ---- the laws
 
-store_after : (w : ToldWorld) (entries : List LogEntry) → (told_after w entries).store ≡ world_after w.store entries
+pub store_after : (w : ToldWorld) (entries : List LogEntry) → (told_after w entries).store ≡ world_after w.store entries
 store_after w [] = refl
 store_after w (e ∷ es) = store_after (told_on w e) es
 
@@ -172,7 +172,7 @@ entries_keep_the_promises sources bases entries start allowed =
     subst (λ (w : StoreWorld). Facts sources.owner (λ name. named_group name w.groups) (told_after (first_told bases) entries).stories) (store_after (first_told bases) entries)
     (kept_after sources (first_told bases) entries (at_start sources bases start) allowed).kept.0
 
-owned : (sources : Sources) (ys : Stories) (g : Draw) (command : Command) (name : Draw) → IsAllowed sources ys g command → draw_of command ≡ Some name → sources.owner name ≡ Some g
+pub owned : (sources : Sources) (ys : Stories) (g : Draw) (command : Command) (name : Draw) → IsAllowed sources ys g command → draw_of command ≡ Some name → sources.owner name ≡ Some g
 owned sources ys g (Split at child order) name a e = ap sources.owner (sym (some_is child name e)) ∙ a.0
 owned sources ys g (Begin tx body order) name a e = ap sources.owner (sym (some_is tx name e)) ∙ a.0
 owned sources ys g Noop name a e = absurd (none_is_not name e)
