@@ -65,16 +65,16 @@ logs_make_states world name group found (entry ∷ entries) = elim (one_or_not e
 ]
 
 -- entries in two parts, the first of which has this log of the group
-record PartsAt (name : Draw) (entries : List LogEntry) (front : List Command) : Type 0 where
-  first : List LogEntry
-  rest : List LogEntry
-  are : entries ≡ first ++ rest
-  log : log_in name first ≡ front
+pub record PartsAt (name : Draw) (entries : List LogEntry) (front : List Command) : Type 0 where
+  pub first : List LogEntry
+  pub rest : List LogEntry
+  pub are : entries ≡ first ++ rest
+  pub log : log_in name first ≡ front
 
 pub heads : (c d : Command) (cs ds : List Command) → c ∷ cs ≡ d ∷ ds → (c ≡ d) × (cs ≡ ds)
 heads c d cs ds e = (cc, cc)
 
-parts_at : (name : Draw) (entries : List LogEntry) (front later : List Command) → log_in name entries ≡ front ++ later → PartsAt name entries front
+pub parts_at : (name : Draw) (entries : List LogEntry) (front later : List Command) → log_in name entries ≡ front ++ later → PartsAt name entries front
 parts_at name entries [] later e = record { first = []; rest = entries; are = refl; log = refl }
 parts_at name [] (c ∷ front) later e = cc
 parts_at name (entry ∷ entries) (c ∷ front) later e = elim (one_or_not entry.group name) [

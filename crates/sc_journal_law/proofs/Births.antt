@@ -30,11 +30,6 @@ use Rattle.sc_ring_law.proofs.Worlds.{KeptWorld, kept_on, fits}
 use Rattle.sc_sound.specs.GroupsOf.{children_of, entries_from}
 use Rattle.sc_journal_law.proofs.Children.{log_of_own}
 
--- the worlds with and without stories are one
-pub store_after : (w : ToldWorld) (entries : List LogEntry) → (told_after w entries).store ≡ world_after w.store entries
-store_after w [] = refl
-store_after w (e ∷ es) = store_after (told_on w e) es
-
 -- more entries are told to the world before them
 pub told_append : (w : ToldWorld) (entries more : List LogEntry) → told_after w (entries ++ more) ≡ told_after (told_after w entries) more
 told_append w [] more = refl
@@ -192,7 +187,7 @@ module _ (sources : Sources) (name : Draw) where
       told_now : now.history ≡ w.store.history ++ entry_of c r.1
       told_now = ap (λ o. (after_command w.store o c).history) found
 
-      pub push_born_by : BornBy name w.store slot group (c ∷ cs)
+      push_born_by : BornBy name w.store slot group (c ∷ cs)
       push_born_by = record {
         unborn = λ child a. push_unborn child (from_joined birth rest child a);
         one = λ child other a b same. push_one child other (from_joined birth rest child a) (from_joined birth rest other b) same;

@@ -14,8 +14,8 @@ use Rattle.sc_entries.specs.Births.{birth_of}
 use Rattle.sc_entries.specs.declared.LogEntry.{LogEntry}
 use Rattle.sc_hist_law.specs.Fronts.{log_in}
 use Rattle.sc_hist_law.proofs.Disjoint.{one_or_not}
+use Rattle.sc_hist_law.proofs.Fronts.{other_first, own_first}
 use Rattle.sc_sound.specs.GroupsOf.{children_of, entries_from}
-use Rattle.sc_journal_law.proofs.Lists.{not_same}
 
 -- the children of two parts of a log
 pub children_append : (group : Group) (log more : List Command) → children_of group (log ++ more) ≡ children_of group log ++ children_of (state_after group log) more
@@ -31,15 +31,6 @@ state_append group [] more = refl
 state_append group (c ∷ log) more = state_append (applied group c).0 log more
 
 -- ---- logs among entries
-
--- an entry of the group, and one of another's
-pub own_first : (name : Draw) (entry : LogEntry) (entries : List LogEntry) → entry.group ≡ name → log_in name (entry ∷ entries) ≡ entry.command ∷ log_in name entries
-own_first name entry entries e =
-    ap (map (λ (x : LogEntry). x.command)) (cond-true (same_draw entry.group name) (entry ∷ filter (λ (x : LogEntry). same_draw x.group name) entries) (filter (λ (x : LogEntry). same_draw x.group name) entries) (same_name entry.group name e))
-
-pub other_first : (name : Draw) (entry : LogEntry) (entries : List LogEntry) → (entry.group ≡ name → ⊥) → log_in name (entry ∷ entries) ≡ log_in name entries
-other_first name entry entries ne =
-    ap (map (λ (x : LogEntry). x.command)) (cond-false (same_draw entry.group name) (entry ∷ filter (λ (x : LogEntry). same_draw x.group name) entries) (filter (λ (x : LogEntry). same_draw x.group name) entries) (not_same entry.group name ne))
 
 -- the log of a group in two lists of entries
 pub log_append : (name : Draw) (entries more : List LogEntry) → log_in name (entries ++ more) ≡ log_in name entries ++ log_in name more

@@ -43,7 +43,8 @@ use Rattle.sc_ring_law.proofs.Commits.{IsDeciding, own_is, mine_old, part_eff, p
 use Rattle.sc_ring_law.proofs.Cuts.{arcs_in, arc_of_cut}
 use Rattle.sc_ring_law.proofs.Effects.{decisions, outcome_of, living, eff, arc_of, succ_of, view_of, Old, eff_by, eff_free, living_is}
 use Rattle.sc_ring_law.proofs.Ends.{own_story, group_none}
-use Rattle.sc_ring_law.proofs.Finds.{none_is_not, find_there}
+use Rattle.sc_paxos_words.proofs.ListLemmas.{find_found}
+use Rattle.sc_ring_law.proofs.Finds.{none_is_not}
 use Rattle.sc_ring_law.proofs.Insides.{room_of}
 use Rattle.sc_ring_law.proofs.Links.{IsPair, pair_meets}
 use Rattle.sc_ring_law.proofs.Reshapes.{Ends}
@@ -109,7 +110,7 @@ module _ (sources : Sources) (w : ToldWorld) (k : KeptWorld sources.owner w) (g 
   may_call client seq op a = record {
     asked = a;
     cut = λ h. (
-        let c = (sound_world sources.owner w k).serves_apart s (find_there (is_named g) w.store.groups s is) (key_of op) h in
+        let c = (sound_world sources.owner w k).serves_apart s (find_found (is_named g) w.store.groups s is).0 (key_of op) h in
         (c.0.arc, ap (arcs_in w.store.ring) (sym c.2) ∙ arc_of_cut w.store.ring k.apart c.0 c.1));
   }
 
