@@ -25,12 +25,13 @@ use Rattle.sc_entries.specs.Worlds.{StoreWorld, named_group, with_result}
 use Rattle.sc_hist_law.specs.Moves.{GivenFrom, JoinedTo, RequestOf, TakenUpTo, Unmoved, both_holdings, holding_of, part_before, part_from, with_next, with_previous}
 use Rattle.sc_hist_law.specs.Telling.{IsItsOwn, IsParty}
 use Rattle.sc_hist_law.specs.Worlds.{HasKnownTable, holdings_in}
-use Rattle.sc_hist_law.proofs.Disjoint.{first_here, neither_here, one_or_not, second_here}
+use Rattle.sc_hist_law.proofs.Disjoint.{first_here, neither_here, second_here}
 use Rattle.sc_hist_law.proofs.Elsewhere.{elsewhere, held_by, held_none, held_some, here, own_group, tables_from, there}
 use Rattle.sc_hist_law.proofs.Parties.{next_after, next_before, others_after, own_before}
 use Rattle.sc_hist_law.proofs.Recuts.{arc_of, gone_cut, has_arc, has_recut, is_none_of, taken_out}
 use Rattle.sc_hist_law.proofs.Shares.{both_are}
 use Rattle.sc_hist_law.proofs.Staying.{Goes}
+use Rattle.sc_entries.proofs.Names.{draw_cases}
 
 has_some : (name : Draw) (ring : List Cut) (arc : Arc) → arc_in name ring ≡ Some arc → has_arc name ring ≡ true
 has_some name ring arc e = ap is_some e
@@ -102,9 +103,9 @@ module _ (request : RequestOf) (world : StoreWorld) (name : Draw) (group : Group
     merge_goes = record {
       move = JoinedTo mine theirs;
       may = record { holding = holding_of group; is = mine_before; other = holding_of party.next; next_is = theirs_before; apart = party.apart; fits = party.meet };
-      holds = λ other. elim (one_or_not other theirs) [
+      holds = λ other. elim (draw_cases other theirs) [
         | inl e ↦ ap (holdings_in after) e ∙ held_none after theirs theirs_gone ∙ sym (second_here mine theirs (both_holdings with_next (holdings_in world mine) (holdings_in world theirs)) (None) (holdings_in world) other e)
-        | inr not ↦ elim (one_or_not other mine) [
+        | inr not ↦ elim (draw_cases other mine) [
           | inl e ↦ ap (holdings_in after) e ∙ mine_after (merged_has mine party.apart) ∙ ap Some holds_both ∙ sym together ∙ sym (first_here mine theirs (both_holdings with_next (holdings_in world mine) (holdings_in world theirs)) (None) (holdings_in world) other not e)
           | inr ne ↦ others other ne not (merged_has other not) ∙ sym (neither_here mine theirs (both_holdings with_next (holdings_in world mine) (holdings_in world theirs)) (None) (holdings_in world) other not ne)
         ]
@@ -135,11 +136,11 @@ module _ (request : RequestOf) (world : StoreWorld) (name : Draw) (group : Group
         record {
           move = GivenFrom mine at theirs;
           may = record { holding = holding_of group; is = mine_before; other = holding_of party.next; next_is = theirs_before; apart = party.apart; fits = (fits, cut, meet) };
-          holds = λ other. elim (one_or_not other theirs) [
+          holds = λ other. elim (draw_cases other theirs) [
             | inl e ↦ ap (holdings_in after) e ∙ moved_theirs ∙ ap Some gains
                 ∙ sym (both_are with_previous (holdings_in world theirs) (option_map (part_from at) (holdings_in world mine)) (holding_of party.next) (part_from at (holding_of group)) theirs_before rest)
                 ∙ sym (second_here mine theirs (option_map (part_before at) (holdings_in world mine)) (both_holdings with_previous (holdings_in world theirs) (option_map (part_from at) (holdings_in world mine))) (holdings_in world) other e)
-            | inr not ↦ elim (one_or_not other mine) [
+            | inr not ↦ elim (draw_cases other mine) [
               | inl e ↦ ap (holdings_in after) e ∙ mine_after (moved_has mine) ∙ ap Some keeps ∙ sym (ap (option_map (part_before at)) mine_before) ∙ sym (first_here mine theirs (option_map (part_before at) (holdings_in world mine)) (both_holdings with_previous (holdings_in world theirs) (option_map (part_from at) (holdings_in world mine))) (holdings_in world) other not e)
               | inr ne ↦ others other ne not (moved_has other) ∙ sym (neither_here mine theirs (option_map (part_before at) (holdings_in world mine)) (both_holdings with_previous (holdings_in world theirs) (option_map (part_from at) (holdings_in world mine))) (holdings_in world) other not ne)
             ]
@@ -155,9 +156,9 @@ module _ (request : RequestOf) (world : StoreWorld) (name : Draw) (group : Group
         record {
           move = TakenUpTo mine at theirs;
           may = record { holding = holding_of group; is = mine_before; other = holding_of party.next; next_is = theirs_before; apart = party.apart; fits = (fits, cut, meet) };
-          holds = λ other. elim (one_or_not other theirs) [
+          holds = λ other. elim (draw_cases other theirs) [
             | inl e ↦ ap (holdings_in after) e ∙ moved_theirs ∙ ap Some keeps ∙ sym (ap (option_map (part_from at)) theirs_before) ∙ sym (second_here mine theirs (both_holdings with_next (holdings_in world mine) (option_map (part_before at) (holdings_in world theirs))) (option_map (part_from at) (holdings_in world theirs)) (holdings_in world) other e)
-            | inr not ↦ elim (one_or_not other mine) [
+            | inr not ↦ elim (draw_cases other mine) [
               | inl e ↦ ap (holdings_in after) e ∙ mine_after (moved_has mine) ∙ ap Some gains
                   ∙ sym (both_are with_next (holdings_in world mine) (option_map (part_before at) (holdings_in world theirs)) (holding_of group) (part_before at (holding_of party.next)) mine_before part)
                   ∙ sym (first_here mine theirs (both_holdings with_next (holdings_in world mine) (option_map (part_before at) (holdings_in world theirs))) (option_map (part_from at) (holdings_in world theirs)) (holdings_in world) other not e)
@@ -177,9 +178,9 @@ module _ (request : RequestOf) (world : StoreWorld) (name : Draw) (group : Group
       record {
         move = Unmoved;
         may = tt;
-        holds = λ other. elim (one_or_not other theirs) [
+        holds = λ other. elim (draw_cases other theirs) [
           | inl e ↦ ap (holdings_in after) e ∙ theirs_after (ap (has_arc theirs) ring) ∙ ap Some stays ∙ sym theirs_before ∙ sym (ap (holdings_in world) e)
-          | inr not ↦ elim (one_or_not other mine) [
+          | inr not ↦ elim (draw_cases other mine) [
             | inl e ↦ ap (holdings_in after) e ∙ now ∙ ap Some keeps ∙ sym mine_before ∙ sym (ap (holdings_in world) e)
             | inr ne ↦ others other ne not (ap (has_arc other) ring)
           ]

@@ -7,7 +7,7 @@ use Rattle.std.specs.Cmp.Lexicographic.{slice_cmp, nat_list_cmp_total}
 use Rattle.std.specs.FinMap.{entries, get, get-entries}
 use Rattle.std.specs.FinMap.Entries.{is_some-find}
 use Rattle.std.specs.Ordering.{nat_cmp, eq_by_cmp}
-use Rattle.std.proofs.lemmas.Bool.{and_parts, eq-eqb, eqb-false, eqb-true, le-leb, leb-true, ltb-true}
+use Rattle.std.proofs.lemmas.Bool.{and_parts, eq-eqb, eqb-false, eqb-true, le-leb, leb-true, ltb-true, not-true, or_right}
 use Rattle.sc_base.specs.Arc.{Arc, CanCut, CanJoin, IsArc, before, end_of, from, holds, offset}
 use Rattle.sc_base.specs.Text.{pos_of}
 use Rattle.sc_base.specs.declared.names.Draw.{Draw}
@@ -30,15 +30,11 @@ use Rattle.sc_hist_law.proofs.PlanHoldings.{plans_move}
 
 -- ---- tests of arcs
 
-not_test : (b : Bool) → not b ≡ true → b ≡ false
-not_test true e = (let no_way : false ≡ true = e in absurd (cc))
-not_test false e = refl
-
 -- an arc that passes the test can be cut
 pub cut_is : (arc : Arc) (at : ℕ) → can_cut arc at ≡ true → CanCut arc at
 cut_is arc at e =
     let parts = and_parts (holds arc at) (not (eqb at arc.lo)) e in
-    (parts.0, eqb-false at arc.lo (not_test (eqb at arc.lo) parts.1))
+    (parts.0, eqb-false at arc.lo (not-true (eqb at arc.lo) parts.1))
 
 -- arcs that pass the test can be joined, and the other way round
 pub join_is : (arc next : Arc) → can_join arc next ≡ true → CanJoin arc next
@@ -62,11 +58,7 @@ none_passes : (contents : Contents) (pairs : List (List ℕ × List ℕ)) → ((
 none_passes contents [] none = refl
 none_passes contents (pair ∷ pairs) none =
     ap (λ b. b || has_key_of contents pairs) (none pair (ap (λ b. b || list_any (eq_by_cmp (slice_cmp nat_cmp) pair.0) (map (λ e. e.0) pairs)) ((eq_by_cmp_equiv nat_list_cmp_total).refl pair.0)))
-    ∙ none_passes contents pairs (λ other among. none other (or_second (eq_by_cmp (slice_cmp nat_cmp) other.0 pair.0) _ among))
-  where
-    or_second : (a b : Bool) → b ≡ true → (a || b) ≡ true
-    or_second true b e = refl
-    or_second false b e = e
+    ∙ none_passes contents pairs (λ other among. none other (or_right (eq_by_cmp (slice_cmp nat_cmp) other.0 pair.0) _ among))
 
 some_part : (b : Bool) (o : Option (List ℕ)) → is_some (cond b o None) ≡ true → b ≡ true
 some_part true o e = refl

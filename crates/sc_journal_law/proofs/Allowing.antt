@@ -10,7 +10,6 @@ use Rattle.sc_entries.specs.declared.LogEntry.{LogEntry}
 use Rattle.sc_entries.specs.Worlds.{StoreWorld, first_world, named_group, world_of}
 use Rattle.sc_entries.proofs.Pushes.{world_append}
 use Rattle.sc_hist_law.specs.Fronts.{log_in}
-use Rattle.sc_hist_law.proofs.Disjoint.{one_or_not}
 use Rattle.sc_hist_law.proofs.Fronts.{heads, logs_make_states, other_first, own_first, parts_at}
 use Rattle.sc_ring_law.specs.Allowed.{Sources, IsAllowed, AreAllowed, ToldWorld, first_told, stories_told, told_on, told_after}
 use Rattle.sc_ring_law.specs.Laws.{BeginInPlace, stories_of}
@@ -24,6 +23,7 @@ use Rattle.sc_journal_law.proofs.Births.{told_append}
 use Rattle.sc_journal_law.proofs.Generations.{group_found}
 use Rattle.sc_journal_law.proofs.Parts.{entries_parts}
 use Rattle.sc_journal_law.proofs.Findings.{told_rows}
+use Rattle.sc_entries.proofs.Names.{draw_cases}
 
 -- entries that are allowed one after another, in two parts
 allowed_parts : (sources : Sources) (w : ToldWorld) (entries more : List LogEntry) → AreAllowed sources w (entries ++ more) → AreAllowed sources w entries × AreAllowed sources (told_after w entries) more
@@ -73,7 +73,7 @@ find_other name e entries front command ne at = record {
 
 find_entry : (name : Draw) (entries : List LogEntry) (front : List Command) (command : Command) (later : List Command) → log_in name entries ≡ front ++ command ∷ later → IsAt name entries front command
 find_entry name [] front command later e = absurd (none_left front command later e)
-find_entry name (x ∷ entries) [] command later e = elim (one_or_not x.group name) [
+find_entry name (x ∷ entries) [] command later e = elim (draw_cases x.group name) [
   | inl same ↦ record {
     first = [];
     entry = x;
@@ -85,7 +85,7 @@ find_entry name (x ∷ entries) [] command later e = elim (one_or_not x.group na
   }
   | inr ne ↦ find_other name x entries [] command ne (find_entry name entries [] command later (sym (other_first name x entries ne) ∙ e))
 ]
-find_entry name (x ∷ entries) (c ∷ front) command later e = elim (one_or_not x.group name) [
+find_entry name (x ∷ entries) (c ∷ front) command later e = elim (draw_cases x.group name) [
   | inl same ↦ (
       let both = heads x.command c (log_in name entries) (front ++ command ∷ later) (sym (own_first name x entries same) ∙ e) in
       let at = find_entry name entries front command later both.1 in

@@ -20,7 +20,7 @@ use Rattle.sc_sound.specs.Soundness.{GoesOn, told_from}
 use Rattle.sc_journal_law.specs.Descent.{Rows, IsFound, added_by}
 use Rattle.sc_journal_law.specs.InTurn.{DecidesInTurn, DecideInTurn}
 use Rattle.sc_journal_law.specs.Laws.{HistoryIsTold, ToldRowsStay}
-use Rattle.sc_journal_law.proofs.Generations.{FoundInTurn, log_on, still_descends, group_found, found_group, known_by_name}
+use Rattle.sc_journal_law.proofs.Generations.{log_on, still_descends, group_found, found_group, known_by_name}
 use Rattle.sc_journal_law.proofs.Told.{Told, first_rows, Decides}
 use Rattle.sc_journal_law.proofs.Pushes.{d, world_next}
 use Rattle.sc_journal_law.proofs.Parts.{in_turn_parts, entries_parts, told_stays, get_front, get_behind}

@@ -20,17 +20,15 @@ use Rattle.sc_entries.specs.Rings.{first_cut}
 use Rattle.sc_entries.specs.Worlds.{StoreWorld, first_world, is_named, named_group, world_after, world_of}
 use Rattle.sc_entries.proofs.Pushes.{world_append}
 use Rattle.sc_hist_law.specs.Fronts.{log_in}
-use Rattle.sc_hist_law.proofs.Disjoint.{one_or_not}
 use Rattle.sc_hist_law.proofs.Fronts.{logs_make_states}
 use Rattle.sc_hist_law.proofs.Told.{calls_of}
 use Rattle.sc_paxos_law.proofs.Among.{from_map}
 use Rattle.sc_ring_law.proofs.Sound.{store_after}
 use Rattle.sc_ring_law.specs.Allowed.{Sources, IsAllowed, AreAllowed, ToldWorld, first_told, told_after}
 use Rattle.sc_ring_law.specs.Laws.{BeginInPlace}
-use Rattle.sc_ring_law.proofs.Finds.{Pairwise, map_among}
-use Rattle.sc_ring_law.proofs.Rows.{some_none}
+use Rattle.sc_ring_law.proofs.Finds.{Pairwise, map_among, some_none}
 use Rattle.sc_ring_law.proofs.Start.{at_start}
-use Rattle.sc_entries.proofs.Names.{found_name}
+use Rattle.sc_entries.proofs.Names.{found_name, draw_cases}
 use Rattle.sc_ring_law.proofs.Worlds.{KeptWorld, kept_after}
 use Rattle.sc_sound.specs.GroupsOf.{children_of, birth_at, entries_from, entries_at, world_at}
 use Rattle.sc_sound.specs.Logs.{decided_log, decided_state}
@@ -204,7 +202,7 @@ module _ (sources : Sources) (ahead : Ahead) (bases : List Base) (start : BeginI
 
         -- a new child is the group's
         its : (child : Base) → IsNew child → Among child (newborn_by ahead before row group)
-        its child (parent, f, a) = elim (one_or_not parent.core.id turn.name) [
+        its child (parent, f, a) = elim (draw_cases parent.core.id turn.name) [
           | inl e ↦ subst (λ x. Among child (newborn_by ahead before row x)) (k.one parent group f found (e ∙ sym named)) a
           | inr ne ↦ absurd (subst (Among child) (others_barren parent f ne) a)
         ]

@@ -7,8 +7,8 @@ use Rattle.std.proofs.lemmas.Bool.{cond-true, cond-false}
 use Rattle.sc_base.specs.Among.{Among, Each}
 use Rattle.sc_paxos_words.proofs.ListLemmas.{Each-among, Each-from, Each-filter}
 
-pub none_is_not : {X : Type 0} (a : X) → None ≡ Some a → ⊥
-none_is_not a e = cc
+pub some_none : {X : Type 0} (a : X) → Some a ≡ None → ⊥
+some_none a e = cc
 
 cond_map : {X : Type 0} (f : X → X) (b : Bool) (x : X) (o : Option X) → cond b (Some (f x)) (option_map f o) ≡ option_map f (cond b (Some x) o)
 cond_map f true x o = refl

@@ -39,13 +39,14 @@ use Rattle.sc_ring_law.specs.Laws.{AllowedEntriesStayAllowed}
 use Rattle.sc_entries.proofs.Names.{draw_cases, some_is}
 use Rattle.sc_ring_law.proofs.View.{Ring}
 use Rattle.sc_ring_law.proofs.Cover.{at-is, at-other}
-use Rattle.sc_ring_law.proofs.Rows.{some_none, unheard, not_passed}
+use Rattle.sc_ring_law.proofs.Rows.{unheard, not_passed}
 use Rattle.sc_ring_law.proofs.Ends.{draw_new, own_story, same_lock}
 use Rattle.sc_ring_law.proofs.Steps.{Kept, named_cases}
 use Rattle.sc_ring_law.proofs.Cuts.{arcs_in}
 use Rattle.sc_ring_law.proofs.Told.{groups_in}
 use Rattle.sc_ring_law.proofs.Start.{at_start}
 use Rattle.sc_ring_law.proofs.Worlds.{KeptWorld, kept_on, kept_after}
+use Rattle.sc_ring_law.proofs.Finds.{some_none}
 
 -- a story tells all that another told
 pub record TellsOn (y z : Story) : Type 0 where

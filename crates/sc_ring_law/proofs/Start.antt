@@ -25,7 +25,7 @@ use Rattle.sc_entries.proofs.Names.{other_name, found_name, some_is}
 use Rattle.sc_ring_law.proofs.View.{IsOnRing, Holds, HeldBy, Ring, CoversBy, View, IsLinked}
 use Rattle.sc_paxos_law.proofs.Among.{from_map}
 use Rattle.sc_paxos_words.proofs.ListLemmas.{Each-among, Each-from, find_found}
-use Rattle.sc_ring_law.proofs.Finds.{none_is_not, find_first, find_skips, map_among, Pairwise, pairwise_from}
+use Rattle.sc_ring_law.proofs.Finds.{find_first, find_skips, map_among, Pairwise, pairwise_from}
 use Rattle.sc_ring_law.proofs.Cuts.{arcs_in, cut_of_arc, arc_of_cut}
 use Rattle.sc_ring_law.proofs.Effects.{decisions, eff, arc_of, succ_of, pred_of, view_of, IsInside, Good, Old, eff_free}
 use Rattle.sc_ring_law.proofs.Insides.{holds_first}
@@ -33,6 +33,7 @@ use Rattle.sc_ring_law.proofs.Told.{groups_in}
 use Rattle.sc_ring_law.proofs.Steps.{same_fun}
 use Rattle.sc_ring_law.proofs.Rings.{AreApart}
 use Rattle.sc_ring_law.proofs.Worlds.{KeptWorld}
+use Rattle.std.proofs.lemmas.Option.{none-some}
 
 -- ---- the list of cuts covers where the ring by names does
 
@@ -119,7 +120,7 @@ cut_arc h (b ∷ bases) = elim (cases_Bool (same_draw b.core.id h)) [
 
 -- who has an arc is there
 pub arc_some : (o : Option Group) (a : Arc) → arc_of o ≡ Some a → (u : Group) × (o ≡ Some u) × (u.core.arc ≡ a)
-arc_some None a e = absurd (none_is_not a e)
+arc_some None a e = absurd (none-some a e)
 arc_some (Some u) a e = (u, refl, some_is u.core.arc a e)
 
 -- ---- the start
@@ -233,7 +234,7 @@ module _ (sources : Sources) (bases : List Base) (start : BeginInPlace sources b
       named = found_name h (map group_of bases) u e;
       lock_ok = subst (LockOk no_stories h u) (sym (ap (λ (x : Group). x.core.lock) (sym r.0.is) ∙ r.1.free)) tt;
     });
-    story = λ tx y e. absurd (none_is_not y e);
+    story = λ tx y e. absurd (none-some y e);
     origin = λ h u e. (let r = is_first h u e in inl (ap sources.owner (sym (found_name h (map group_of bases) u e) ∙ ap (λ (x : Group). x.core.id) (sym r.0.is)) ∙ r.1.unowned));
   }
 

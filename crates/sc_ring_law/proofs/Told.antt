@@ -21,7 +21,8 @@ use Rattle.sc_ring_law.proofs.Cover.{at-same, at-is, at-other}
 use Rattle.sc_ring_law.proofs.Effects.{outcome_of}
 use Rattle.sc_paxos_law.proofs.Among.{Among-either, from_map}
 use Rattle.sc_paxos_words.proofs.ListLemmas.{find_found}
-use Rattle.sc_ring_law.proofs.Finds.{none_is_not, find_map}
+use Rattle.sc_ring_law.proofs.Finds.{find_map, some_none}
+use Rattle.std.proofs.lemmas.Option.{none-some}
 
 -- ---- groups
 
@@ -38,7 +39,7 @@ replaced_name name after id h u =
     (λ e. ap (λ n. same_draw n h) (id ∙ sym (draw_is u.core.id name e))) (λ e. refl)
 
 replaced_same : (name : Draw) (after : Group) (h : Draw) → h ≡ name → (o : Option Group) → ((u : Group) → o ≡ Some u → u.core.id ≡ h) → (s : Group) → o ≡ Some s → option_map (replaced name after) o ≡ Some after
-replaced_same name after h q None named s e = absurd (none_is_not s e)
+replaced_same name after h q None named s e = absurd (none-some s e)
 replaced_same name after h q (Some u) named s e = ap Some (cond-true (is_named name u) after u (same_name u.core.id name (named u refl ∙ q)))
 
 replaced_other : (name : Draw) (after : Group) (h : Draw) → (h ≡ name → ⊥) → (o : Option Group) → ((u : Group) → o ≡ Some u → u.core.id ≡ h) → option_map (replaced name after) o ≡ o
@@ -99,9 +100,6 @@ replaced_cases name after v = elim (cases_Bool (is_named name v)) [ inl t ↦ in
 false_true : (b : Bool) → b ≡ false → b ≡ true → ⊥
 false_true b p q = absurd (let f : false ≡ true = sym p ∙ q in cc)
 
-some_group_none : (u : Group) → Some u ≡ None → ⊥
-some_group_none u e = cc
-
 child_keeps : (f : Groups) (child : Option Base) (v : Group) → f v.core.id ≡ Some v → ((base : Base) → child ≡ Some base → v.core.id ≡ base.core.id → ⊥) → with_child f child v.core.id ≡ Some v
 child_keeps f None v e ne = e
 child_keeps f (Some base) v e ne = at-other f base.core.id (Some (group_of base)) v.core.id (ne base refl) ∙ e
@@ -117,7 +115,7 @@ found_after s after child groups id is fresh found u a =
     let f = put (groups_in groups) s.core.id (Some after) in
     let all = groups_are s after child groups id is fresh in
     let old : (v : Group) → f v.core.id ≡ Some v → with_child f child v.core.id ≡ Some v =
-    λ v e. child_keeps f child v e (λ base q. (λ w. some_group_none v (sym e ∙ ap f w ∙ fresh base q))) in
+    λ v e. child_keeps f child v e (λ base q. (λ w. some_none v (sym e ∙ ap f w ∙ fresh base q))) in
     elim (Among-either u (with_group s.core.id after groups) (map group_of (option_to_list child)) a) [
       | inl b ↦ (let r = from_map (replaced s.core.id after) groups u b in elim (replaced_cases s.core.id after r.0) [
         | inl c ↦ (

@@ -36,7 +36,6 @@ use Rattle.sc_ring_law.specs.Stories.{Story, Stories, put, retold, new_story, vo
 use Rattle.sc_ring_law.specs.Invariant.{Groups}
 use Rattle.sc_ring_law.proofs.View.{Ring}
 use Rattle.sc_ring_law.proofs.Cover.{at-same, at-other}
-use Rattle.sc_ring_law.proofs.Rows.{some_none}
 use Rattle.sc_ring_law.proofs.Ends.{draw_new, group_none, own_story, same_lock}
 use Rattle.sc_ring_law.proofs.Effects.{decisions, eff, arc_of}
 use Rattle.sc_ring_law.proofs.Steps.{Kept, same_fun, idle, call_kept, join_kept, leave_kept, begin_kept, prepared_kept, watched_kept, named_cases}
@@ -47,6 +46,7 @@ use Rattle.sc_ring_law.proofs.Commits.{ring_told}
 use Rattle.sc_ring_law.proofs.Decisions.{born_too, record_kept, give_up_kept, watch_record_kept}
 use Rattle.sc_ring_law.proofs.Orders.{split_kept, finish_kept}
 use Rattle.sc_ring_law.proofs.Rings.{AreApart, no_division, ring_is, ring_apart}
+use Rattle.sc_ring_law.proofs.Finds.{some_none}
 
 -- what an entry makes of the facts and of the view
 abbrev pub Landed : (Draw → Option Draw) → Ring → Groups → Stories → Draw → Group → Command → Group × Effect → Type 0
