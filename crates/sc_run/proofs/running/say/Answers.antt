@@ -37,3 +37,7 @@ returns-in-Journal-clause-says g c =
 pub returns-in-Audit-clause-says : goal.returns-in-Audit-clause-says
 returns-in-Audit-clause-says g c =
     IfOk-weaker c.audit.result _ _ (λ begun h. says_audit (map string_bytes c.args.words.now) _ _ _ _ c.in_ok-wanted_of.ensures.wanted c.in-Audit.scenario c.in-Audit.rows begun.0 begun.1 c.in-Audit.is h) c.audit.ensures
+
+pub audit-requires-clause-valid : goal.audit-requires-clause-valid
+audit-requires-clause-valid g c =
+    (says_stored (map string_bytes c.args.words.now) _ _ _ _ c.in_ok-wanted_of.ensures.wanted c.in-Audit.scenario c.in-Audit.rows c.in-Audit.is).stores.valid
