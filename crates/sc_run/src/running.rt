@@ -31,7 +31,10 @@ fn refuse(alloc: Global, line: u32, why: u8) -> Result<(Said, Text), OutOfMemory
 fn tell_usage(alloc: Global) -> Result<(Said, Text), OutOfMemory>
     ensures { IfOk result (λ begun. (begun.0 ≡ Usage) × Tells usage begun.1) }
 {
-    let text = tells(alloc, b"usage: scatter run | scatter make N S | scatter journal | scatter audit")?;
+    let text = tells(
+        alloc,
+        b"usage: scatter run | scatter make N S | scatter journal | scatter audit",
+    )?;
     Ok((Said::Usage, text))
 }
 

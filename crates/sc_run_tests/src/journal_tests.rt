@@ -3,11 +3,11 @@
 use crate::gates::Open;
 use crate::run_tests::{Case, FIRST, FIRST_REPORT, ended};
 use sc_edges::MemSink;
+use std::alloc::Global;
 use std::mem::forget;
 use std::process::Abort;
 use std::sync::Wait;
 use std::thread::Threads;
-use std::alloc::Global;
 
 // The journal of a put and a get of one client at one node.
 const STORED: &[u8] = b"scatter 1\n\
@@ -271,16 +271,34 @@ const CASES: &[Case] = &[
     (("audit", OTHER_MAIL, 0, 0), (9, true, b"unlawful row 9\n")),
     (("audit", WITHOUT_LAST, 0, 0), (0, true, b"lawful rows 8\n")),
     (("audit", OTHER_SENT, 0, 0), (9, true, b"unlawful row 2\n")),
-    (("audit", SECOND_SPELLING, 0, 0), (3, false, b"line 11: bad row\n")),
-    (("audit", CUT_SHORT_ROW, 0, 0), (3, false, b"line 19: bad row\n")),
-    (("audit", WITHOUT_JOURNAL, 0, 0), (3, false, b"line 10: missing journal\n")),
-    (("audit", NO_SCENARIO, 0, 0), (3, false, b"line 1: missing header\n")),
-    (("audit", b"", 0, 0), (3, false, b"line 1: missing journal\n")),
+    (
+        ("audit", SECOND_SPELLING, 0, 0),
+        (3, false, b"line 11: bad row\n"),
+    ),
+    (
+        ("audit", CUT_SHORT_ROW, 0, 0),
+        (3, false, b"line 19: bad row\n"),
+    ),
+    (
+        ("audit", WITHOUT_JOURNAL, 0, 0),
+        (3, false, b"line 10: missing journal\n"),
+    ),
+    (
+        ("audit", NO_SCENARIO, 0, 0),
+        (3, false, b"line 1: missing header\n"),
+    ),
+    (
+        ("audit", b"", 0, 0),
+        (3, false, b"line 1: missing journal\n"),
+    ),
     (("audit", STORED, 1, 0), (4, false, b"read fault\n")),
     (("audit", STORED, 0, 1), (5, true, b"")),
     (("journal", FIRST, 1, 0), (4, false, b"read fault\n")),
     (("journal", FIRST, 0, 2), (5, true, b"scatter 1\n")),
-    (("journal", NO_SCENARIO, 0, 0), (3, false, b"line 1: missing header\n")),
+    (
+        ("journal", NO_SCENARIO, 0, 0),
+        (3, false, b"line 1: missing header\n"),
+    ),
     (("audit x", STORED, 0, 0), (2, false, USAGE)),
     (("journal journal", FIRST, 0, 0), (2, false, USAGE)),
     (("journal -x", FIRST, 0, 0), (2, false, USAGE)),
