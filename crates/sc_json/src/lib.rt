@@ -19,7 +19,6 @@ mod rows;
 mod sets;
 mod stored;
 mod texts;
-mod tries;
 mod votes;
 mod writing;
 
