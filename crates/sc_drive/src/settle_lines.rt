@@ -103,15 +103,13 @@ fn settle_step<A: Actor, G: Gate, R: Wait>(
     requires finds { Finds net.old shells.old.items (Some place) }
     requires left { 0 < left }
     ensures on { OnOk result (IsOn net.old shells.old.items net.new shells.new.items) }
-    ensures company { OnOk result
-        ((births : List (Seat A)) → Company births net.old shells.old.items →
-        Company births net.new shells.new.items) }
+    ensures company { OnOk result ((births : List (Seat A)) →
+        Company births net.old shells.old.items → Company births net.new shells.new.items) }
     ensures kept { IsErrOf result Stop.Full →
         IsKept net.old shells.old.items net.new shells.new.items }
     ensures finds { IfOk result (Finds net.new shells.new.items) }
-    ensures goes { OnOk result
-        (Goes net.old shells.old.items score.now (Settles left ∷ []) net.new shells.new.items
-        score.now (Settles (left - 1) ∷ [])) }
+    ensures goes { OnOk result (Goes net.old shells.old.items score.now (Settles left ∷ [])
+        net.new shells.new.items score.now (Settles (left - 1) ∷ [])) }
     ensures fills { IsErrOf result Stop.Full →
         Fills net.old shells.old.items score.now (Settles left ∷ []) net.new }
 {
@@ -126,8 +124,7 @@ fn settle_step<A: Actor, G: Gate, R: Wait>(
             Ok(next)
         }
         Turn::Full { .. } => Err(Stop::Full),
-        Turn::Empty { .. } => unreachable!(),
-        Turn::Spent => unreachable!(),
+        Turn::Empty { .. } | Turn::Spent => unreachable!(),
         Turn::OutOfMemory => Err(Stop::OutOfMemory),
     }
 }

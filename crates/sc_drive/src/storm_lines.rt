@@ -136,19 +136,11 @@ pub(crate) fn run_storm<A: Actor, G: Gate, R: Wait>(
     let Ok(actors) = numbers_of(alloc, shells.as_slice()) else {
         return Err(Stop::OutOfMemory);
     };
+    let numbers = actors.as_slice();
     let mut storm = Storm::start(number);
     for done in 0..most {
         let _ = done;
-        match storm_step(
-            rt,
-            alloc,
-            net,
-            shells,
-            score,
-            &mut storm,
-            actors.as_slice(),
-            gate,
-        ) {
+        match storm_step(rt, alloc, net, shells, score, &mut storm, numbers, gate) {
             Ok(()) => {}
             Err(stop) => return Err(stop),
         }

@@ -1,7 +1,7 @@
-use Rattle.std.proofs.Common.{◌-◌, [], ◌∷◌, refl, subst}
+use Rattle.std.proofs.Common.{◌-◌, [], ◌∷◌, inl, inr, refl, subst}
 use Rattle.sc_actor.specs.Walk.{Settles}
 use Rattle.sc_shell.specs.declared.turns.Turn.{Turn}
-use Rattle.sc_shell.specs.declared.turns.Turn.TheVariants.{Did, Empty, Full, Spent}
+use Rattle.sc_shell.specs.declared.turns.Turn.TheVariants.{Did, Full}
 use Rattle.sc_drive.specs.Acts.{Served, ServedAll, SoundAfter}
 use Rattle.sc_drive.proofs.SettleSteps.{goes_rest, goes_then, never_empty, never_spent, settles_did, settles_full}
 use Rattle.sc_drive.proofs.Kept.{on_then, together_on}
@@ -47,11 +47,8 @@ returns-in-Did-clause-company g c = λ births company.
 pub unreachable-requires : goal.unreachable-requires
 unreachable-requires g c =
     let net = c.args.net.now in let ss = c.args.shells.now.items in let mid = c.serve.new.net in let mids = c.serve.new.shells.items in let born = c.requires.company in
-    let served : Served born.0 c.args.place 1 net mid ss mids (Empty c.in-Empty.seen) = subst (Served born.0 c.args.place 1 net mid ss mids) c.in-Empty.is (c.in-Ok.ensures.served born.0 born.1) in
-    never_empty born.0 net mid ss mids c.args.place born.1 c.requires.finds c.in-Empty.seen served
-
-pub unreachable-requires-in-Spent : goal.unreachable-requires-in-Spent
-unreachable-requires-in-Spent g c =
-    let net = c.args.net.now in let ss = c.args.shells.now.items in let mid = c.serve.new.net in let mids = c.serve.new.shells.items in let born = c.requires.company in
-    let served : Served born.0 c.args.place 1 net mid ss mids Spent = subst (Served born.0 c.args.place 1 net mid ss mids) c.in-Spent.is (c.in-Ok.ensures.served born.0 born.1) in
-    never_spent born.0 net mid ss mids c.args.place born.1 c.requires.finds served
+    let served : Served born.0 c.args.place 1 net mid ss mids c.in-Ok.turn = c.in-Ok.ensures.served born.0 born.1 in
+    elim c.in-Empty.is [
+      | inl empty ↦ never_empty born.0 net mid ss mids c.args.place born.1 c.requires.finds empty.0 (subst (Served born.0 c.args.place 1 net mid ss mids) empty.1 served)
+      | inr spent ↦ never_spent born.0 net mid ss mids c.args.place born.1 c.requires.finds (subst (Served born.0 c.args.place 1 net mid ss mids) spent served)
+    ]

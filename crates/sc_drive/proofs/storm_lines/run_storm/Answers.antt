@@ -19,7 +19,7 @@ pub storm_step-requires-clause-together : goal.storm_step-requires-clause-togeth
 storm_step-requires-clause-together g c κs within = together_on c.args.net.now c.loop-done.net c.args.shells.now.items c.loop-done.shells.items c.requires.together.crew.first c.loop-done.invariant.on
 
 pub storm_step-requires-clause-actors : goal.storm_step-requires-clause-actors
-storm_step-requires-clause-actors g c κs within = c.as_slice-in-loop-done.ensures.value ∙ (c.in-Ok.ensures ∙ (ap crew_numbers c.as_slice.ensures.value ∙ sym c.loop-done.invariant.on.kept.same))
+storm_step-requires-clause-actors g c κs within = c.as_slice-numbers.ensures.value ∙ (c.in-Ok.ensures ∙ (ap crew_numbers c.as_slice.ensures.value ∙ sym c.loop-done.invariant.on.kept.same))
 
 pub loop-done-preserved : goal.loop-done-preserved
 loop-done-preserved g c =
