@@ -263,11 +263,15 @@ const LINE_WITHOUT_FEED: &[u8] = b"scatter 1\n\
 
 const USAGE: &[u8] = b"usage: scatter run | scatter make N S | scatter journal | scatter audit\n";
 
-const CASES: &[Case] = &[
+// What is printed, and that it is lawful.
+const STORED_ONES: &[Case] = &[
     (("journal", FIRST, 0, 0), (0, true, STORED)),
     (("journal", LINE_WITHOUT_FEED, 0, 0), (0, true, STORED)),
     (("run", LINE_WITHOUT_FEED, 0, 0), (0, true, FIRST_REPORT)),
     (("audit", STORED, 0, 0), (0, true, b"lawful rows 9\n")),
+];
+
+const DAMAGED_ROWS: &[Case] = &[
     (("audit", OTHER_MAIL, 0, 0), (9, true, b"unlawful row 9\n")),
     (("audit", WITHOUT_LAST, 0, 0), (0, true, b"lawful rows 8\n")),
     (("audit", OTHER_SENT, 0, 0), (9, true, b"unlawful row 2\n")),
@@ -275,6 +279,9 @@ const CASES: &[Case] = &[
         ("audit", SECOND_SPELLING, 0, 0),
         (3, false, b"line 11: bad row\n"),
     ),
+];
+
+const NO_JOURNALS: &[Case] = &[
     (
         ("audit", CUT_SHORT_ROW, 0, 0),
         (3, false, b"line 19: bad row\n"),
@@ -291,14 +298,18 @@ const CASES: &[Case] = &[
         ("audit", b"", 0, 0),
         (3, false, b"line 1: missing journal\n"),
     ),
-    (("audit", STORED, 1, 0), (4, false, b"read fault\n")),
-    (("audit", STORED, 0, 1), (5, true, b"")),
-    (("journal", FIRST, 1, 0), (4, false, b"read fault\n")),
-    (("journal", FIRST, 0, 2), (5, true, b"scatter 1\n")),
     (
         ("journal", NO_SCENARIO, 0, 0),
         (3, false, b"line 1: missing header\n"),
     ),
+];
+
+// Sources and sinks that fail, and words that are none.
+const FAULTS: &[Case] = &[
+    (("audit", STORED, 1, 0), (4, false, b"read fault\n")),
+    (("audit", STORED, 0, 1), (5, true, b"")),
+    (("journal", FIRST, 1, 0), (4, false, b"read fault\n")),
+    (("journal", FIRST, 0, 2), (5, true, b"scatter 1\n")),
     (("audit x", STORED, 0, 0), (2, false, USAGE)),
     (("journal journal", FIRST, 0, 0), (2, false, USAGE)),
     (("journal -x", FIRST, 0, 0), (2, false, USAGE)),
@@ -322,36 +333,16 @@ fn check<R: Abort + Threads + Wait + Sync>(
     assert!(rt; is_so && is_told);
 }
 
-#[test]
-fn has_journals_stored_and_audited(rt: HostRuntime) {
-    for (given, expected) in CASES {
-        check(&rt, rt.alloc(), *given, *expected);
+fn check_all<R: Abort + Threads + Wait + Sync>(rt: &R, alloc: Global, cases: &[Case]) {
+    for (given, expected) in cases {
+        check(rt, alloc, *given, *expected);
     }
 }
 
-// How many rows and parties a run on an input hands back.
-fn handed_back<R: Abort + Threads + Wait + Sync>(
-    rt: &R,
-    alloc: Global,
-    words: &str,
-    input: &[u8],
-) -> (usize, usize) {
-    let mut output = MemSink::new(alloc, 10_000, &[]).expect(rt, "memory");
-    let done = ended(rt, alloc, words, (input, 0), &mut output, &Open);
-    let rows = match &done.journal {
-        Some(journal) => journal.len(),
-        None => 0,
-    };
-    let counts = (rows, done.parties.len());
-    forget(done);
-    forget(output);
-    counts
-}
-
 #[test]
-fn has_rows_and_parties_of_stored_journals(rt: HostRuntime) {
-    let stored = handed_back(&rt, rt.alloc(), "journal", FIRST);
-    let audited = handed_back(&rt, rt.alloc(), "audit", STORED);
-    let unlawful = handed_back(&rt, rt.alloc(), "audit", OTHER_MAIL);
-    assert!(rt; stored == (9, 2) && audited == (9, 0) && unlawful == (9, 0));
+fn has_journals_stored_and_audited(rt: HostRuntime) {
+    check_all(&rt, rt.alloc(), STORED_ONES);
+    check_all(&rt, rt.alloc(), DAMAGED_ROWS);
+    check_all(&rt, rt.alloc(), NO_JOURNALS);
+    check_all(&rt, rt.alloc(), FAULTS);
 }
