@@ -107,7 +107,7 @@ const WITHOUT_LAST: &[u8] = b"scatter 1\n\
         {\"event\":{\"Deliver\":7},\"sent\":[{\"body\":{\"Answer\":{\"answer\":{\"Value\":{\
         \"old\":\"x\"}},\"group\":\"0.1\",\"seq\":2}},\"from\":1,\"to\":33}],\"who\":1}\n";
 
-// .. of which one row has a second spelling.
+// .. of which one row has a blank.
 const SECOND_SPELLING: &[u8] = b"scatter 1\n\
         nodes 1\n\
         group 0 1\n\
@@ -118,7 +118,7 @@ const SECOND_SPELLING: &[u8] = b"scatter 1\n\
         go 1\n\
         settle 100\n\
         journal\n\
-         {\"event\":\"Go\",\"sent\":[{\"body\":{\"Request\":{\"client\":1,\"group\":\"0.1\",\
+        {\"event\": \"Go\",\"sent\":[{\"body\":{\"Request\":{\"client\":1,\"group\":\"0.1\",\
         \"op\":{\"Put\":{\"key\":\"a\",\"value\":\"x\"}},\"seq\":1}},\"from\":33,\"to\":1}],\
         \"who\":33}\n\
         {\"event\":{\"Deliver\":1},\"sent\":[{\"body\":{\"Accept\":{\"ballot\":[1,1],\"comma\
