@@ -1,13 +1,14 @@
 -- Names that a node draws one after another: each is the next, so none is drawn twice.
 use Rattle.std.specs.List.{AllPairs}
-use Rattle.std.proofs.Common.{◌≡◌, ℕ, ◌<◌, ◌≤◌, ◌&&◌, ◌||◌, not, Bool, true, false, cond, List, [], ◌∷◌, ◌++◌, Option, Some, None, inl, inr, refl, sym, ◌∙◌, ap, subst, arith, All}
+use Rattle.std.proofs.Common.{◌≡◌, ◌<◌, ◌≤◌, ◌&&◌, ◌||◌, not, eqb, Bool, true, false, cond, List, [], ◌∷◌, ◌++◌, Option, Some, None, inl, inr, refl, sym, ◌∙◌, ap, subst, arith, All}
 use Rattle.std.specs.Prelude.{is_some, is_none}
-use Rattle.std.proofs.lemmas.Bool.{cases_Bool, cases_lt, cond-true, cond-false}
+use Rattle.std.proofs.lemmas.Bool.{and_from, cases_Bool, cases_lt, cond-true, cond-false, eq-eqb}
 use Rattle.std.proofs.lemmas.List.Elements.{All-nil, All-cons}
 use Rattle.std.proofs.lemmas.List.Kept.{AllPairs-cons}
 use Rattle.sc_base.specs.Among.{Among}
 use Rattle.sc_base.specs.Drawing.{Drawer, next_name, drawn_on}
 use Rattle.sc_base.specs.declared.names.Draw.{Draw}
+use Rattle.sc_base.proofs.NameLemmas.{draw_is}
 use Rattle.sc_cmd.specs.declared.orders.OrderLine.{OrderLine}
 use Rattle.sc_member.specs.Roster.{is_member}
 use Rattle.sc_node_table.specs.Node.{group_of_order}
@@ -32,10 +33,6 @@ pub draws_up : (before after : Drawer) (drawn : List Owned) → Draws before aft
 draws_up before after [] d = (let next : after.next ≡ before.next = ap (λ (x : Drawer). x.next) d in (ap (λ (x : Drawer). x.node) (sym d), omega (arith, next)))
 draws_up before after (owned ∷ more) d = (let up = draws_up (drawn_on before) after more d.1 in let most = up.1 in (up.0, omega (arith, most)))
 
--- names with the same parts are the same
-draws_equal : (n c m d : ℕ) → n ≡ m → c ≡ d → (let a : Draw = record { node = n; count = c } in a) ≡ record { node = m; count = d }
-draws_equal n c m d e f = ap (λ x. (let a : Draw = record { node = x; count = c } in a)) e ∙ ap (λ x. (let a : Draw = record { node = m; count = x } in a)) f
-
 -- each name from the counter before up to the counter after was drawn
 pub drawn_between : (before after : Drawer) (drawn : List Owned) → Draws before after drawn → (name : Draw) → name.node ≡ before.node → before.next ≤ name.count → name.count < after.next → (group : Draw) × (owner_by drawn name ≡ Some group)
 drawn_between before after [] d name of low high = (let next : after.next ≡ before.next = ap (λ (x : Drawer). x.next) d in absurd (omega (arith, low, high, next)))
@@ -46,7 +43,7 @@ drawn_between before after (owned ∷ more) d name of low high = elim (cases_lt 
       (later.0, owner_of_other owned more name apart ∙ later.1))
   | inr most ↦ (
       let count : before.next ≡ name.count = omega (arith, most, low) in
-      let same : owned.name ≡ name = d.0 ∙ draws_equal before.node before.next name.node name.count (sym of) count in
+      let same : owned.name ≡ name = d.0 ∙ draw_is (next_name before) name (and_from (eqb before.node name.node) (eqb before.next name.count) (eq-eqb before.node name.node (sym of)) (eq-eqb before.next name.count count)) in
       (owned.group, subst (λ (n : Draw). owner_by (owned ∷ more) n ≡ Some owned.group) same (owner_of_drawn owned more)))
 ]
 

@@ -1,5 +1,5 @@
 -- What an executed entry leaves in a replica, what is sent for it, and the children that it makes.
-use Rattle.std.proofs.Common.{ℕ, ◌&&◌, ◌||◌, not, nat_lt, eqb, Bool, true, cond, List, [], ◌∷◌, ◌++◌, filter, Option, Some, None}
+use Rattle.std.proofs.Common.{ℕ, ◌&&◌, ◌||◌, nat_lt, eqb, Bool, true, cond, List, [], ◌∷◌, ◌++◌, Option, Some, None}
 use Rattle.sc_base.specs.Among.{Each}
 use Rattle.sc_base.specs.declared.names.Draw.{Draw}
 use Rattle.sc_cmd.specs.declared.commands.Command.{Command}
@@ -27,13 +27,13 @@ use Rattle.sc_node_table.specs.Sameness.{same_command}
 use Rattle.sc_node_table.specs.Mails.{sent_others, order_number}
 use Rattle.sc_node_table.specs.Queues.{put_back}
 use Rattle.sc_node_table.specs.Election.{elected, stopped}
-use Rattle.sc_node_table.specs.Install.{welcomed_all}
-use Rattle.sc_node_table.specs.Execute.{with_entry, entered, answer_of, told_call, result_of, order_result, told_effect, announced, learnt_to, welcomed, slot_lost, landed, left_gone, left, is_among, looked_for, looked, executed_one, has_room, next_ready, executed_ready, all_ready, executed}
-use Rattle.sc_node_table.specs.Pump.{pumped}
+use Rattle.sc_node_table.specs.Execute.{with_entry, entered, answer_of, told_call, result_of, order_result, told_effect, announced, learnt_to, welcomed, slot_lost, landed, left_gone, left, is_among, looked_for, looked, executed_one, has_room, next_ready, executed}
 use Rattle.sc_node_table.specs.Spoken.{before_of, spoken}
 use Rattle.sc_draws_law.specs.Names.{Opt, CoreNames, CommandNames, EffectNames, AnswerNames, ResultNames, ReplicaNames}
 use Rattle.sc_draws_law.proofs.Lists.{opt_slot, slot_without, flight_without}
-use Rattle.sc_draws_law.proofs.Machine.{either_way, applied_names, child_by_names}
+use Rattle.sc_draws_law.proofs.Machine.{applied_names, child_by_names}
+use Rattle.sc_law_lemmas.proofs.Places.{welcomed_place, executed_place}
+use Rattle.sc_law_lemmas.proofs.Ways.{either_way}
 use Rattle.sc_draws_law.proofs.Sent.{BeforeNames, sent_names, sent_others_names, told_names, before_names, spoken_names}
 use Rattle.sc_draws_law.proofs.Held.{Fine, Cmds, Cmd, back_names, flying_names, elected_names, ended_names, stopped_names, welcomed_names, forgotten_names, pumped_names}
 
@@ -107,11 +107,6 @@ module _ (K : Draw → Type 0) where
       either_way F counted (r, sent_others r.me nodes (Learn (name_of r) slot command) mails) (r, mails)
       (f.0, sent_others_names K r.me nodes (Learn (name_of r) slot command) mails (f.0.core.id, c) f.1) f
 
-  welcomed_place : (counted : Bool) (nodes : List ℕ) (place : Place) → F place → F (welcomed counted nodes place)
-  unfolding welcomed
-  welcomed_place counted nodes (r, mails) f =
-      either_way F counted (welcomed_all (filter (λ node. not (is_member nodes node)) (members r)) (r, mails)) (r, mails) (welcomed_names K (filter (λ node. not (is_member nodes node)) (members r)) (r, mails) f) f
-
   -- ---- 4
 
   lost_names : (counted : Bool) (command : Command) (o : Option Command) (r : ReplicaState) → Cmd K o → R r → R (slot_lost counted command o r)
@@ -174,7 +169,7 @@ module _ (K : Draw → Type 0) where
       let place3 : Place = learnt_to counted (members r) (next r) command place2 in
       let f3 : F place3 = learnt_names counted (members r) (next r) command place2 c f2 in
       let place4 : Place = welcomed counted (members r) place3 in
-      let f4 : F place4 = welcomed_place counted (members r) place3 f3 in
+      let f4 : F place4 = welcomed_place F (welcomed_names K) counted (members r) place3 f3 in
       let place5 : Place = landed counted (next r) command place4 in
       let f5 : F place5 = landed_names counted (next r) command place4 f4 in
       looked_names (left place5) (left_names place5 f5)
@@ -182,22 +177,10 @@ module _ (K : Draw → Type 0) where
   ready_names : (r : ReplicaState) → R r → Cmd K (next_ready r)
   ready_names r k = either_way (Cmd K) (r.running && has_room r) (at_slot r.ready (next r)) None (opt_slot (CommandNames K) r.ready (next r) k.ready) tt
 
-  ready_by : (es : List (ℕ × Command)) (place : Place) (o : Option Command) → Cmd K o → F place → ((p : Place) → F p → F (executed_ready es p))
-      → F (elim o [ None ↦ place | Some command ↦ pumped (executed_ready es (executed_one true command place)) ])
-  ready_by es place None c f more = f
-  ready_by es place (Some command) c f more = pumped_names K (executed_ready es (executed_one true command place)) (more (executed_one true command place) (one_names true command place c f))
-
-  all_names : (es : List (ℕ × Command)) (place : Place) → F place → F (executed_ready es place)
-  unfolding executed_ready
-  all_names [] place f = f
-  all_names (e ∷ es) place f = ready_by es place (next_ready place.0) (ready_names place.0 f.0) f (λ p g. all_names es p g)
-
   -- the whole of an execution
   pub executed_names : (counted : Bool) (command : Command) (place : Place) → CommandNames K command → F place → F (executed counted command place)
-  unfolding executed
   executed_names counted command place c f =
-      let one : Place = executed_one counted command place in
-      pumped_names K (all_ready one) (all_names one.0.ready one (one_names counted command place c f))
+      executed_place F (Cmd K) (λ p g. ready_names p.0 g.0) (λ x p d g. one_names true x p d g) (pumped_names K) counted command place (one_names counted command place c f)
 
   -- ---- children
 

@@ -33,7 +33,7 @@ use Rattle.sc_node_table.specs.Pump.{Found, is_act, waits, refused_by, turned_do
 use Rattle.sc_paxos_words.specs.Ballots.{below}
 use Rattle.sc_draws_law.specs.Names.{Opt, CoreNames, CommandNames, AnswerNames, ReplicaNames}
 use Rattle.sc_draws_law.proofs.Lists.{opt_find, opt_map, opt_choice, Each-drop}
-use Rattle.sc_draws_law.proofs.Machine.{either_way}
+use Rattle.sc_law_lemmas.proofs.Ways.{either_way}
 use Rattle.sc_draws_law.proofs.Sent.{Sent, sent_names, sent_all_names, answered_names, answered_all_names, dismissed_all_names}
 
 module _ (K : Draw → Type 0) where
@@ -59,11 +59,11 @@ module _ (K : Draw → Type 0) where
   before_call None client seq command calls n c = (n, c)
   before_call (Some other) client seq command calls n c = either_way Cmds (nat_lt other seq) _ _ (n, without_names calls client c) c
 
-  with_calls : (r : ReplicaState) (calls : List Command) → Cmds calls → R r → R (record r { calls = calls })
-  with_calls r calls c k = record { core = k.core; log = k.log; accepted = k.accepted; reports = k.reports; flights = k.flights; ready = k.ready; acts = k.acts; calls = c }
+  pub with_calls : (r : ReplicaState) (commands : List Command) → Cmds commands → R r → R (record r { calls = commands })
+  with_calls r commands c k = record { core = k.core; log = k.log; accepted = k.accepted; reports = k.reports; flights = k.flights; ready = k.ready; acts = k.acts; calls = c }
 
-  with_acts : (r : ReplicaState) (acts : List Command) → Cmds acts → R r → R (record r { acts = acts })
-  with_acts r acts c k = record { core = k.core; log = k.log; accepted = k.accepted; reports = k.reports; flights = k.flights; ready = k.ready; acts = c; calls = k.calls }
+  pub with_acts : (r : ReplicaState) (commands : List Command) → Cmds commands → R r → R (record r { acts = commands })
+  with_acts r commands c k = record { core = k.core; log = k.log; accepted = k.accepted; reports = k.reports; flights = k.flights; ready = k.ready; acts = c; calls = k.calls }
 
   pub back_names : (command : Command) (r : ReplicaState) → CommandNames K command → R r → R (put_back command r)
   unfolding put_back

@@ -14,7 +14,7 @@ use Rattle.sc_paxos_words.specs.Votes.{with_voters}
 use Rattle.sc_node_table.specs.Replica.{either}
 use Rattle.sc_node_table.specs.Slots.{at_slot, with_slot, without_slot}
 use Rattle.sc_draws_law.specs.Names.{Opt}
-use Rattle.sc_draws_law.proofs.Machine.{either_way}
+use Rattle.sc_law_lemmas.proofs.Ways.{either_way}
 
 pub opt_find : {X : Type 0} (P : X → Type 0) (p : X → Bool) (xs : List X) → Each P xs → Opt P (find p xs)
 opt_find P p [] e = tt

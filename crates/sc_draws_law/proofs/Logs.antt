@@ -44,7 +44,8 @@ use Rattle.sc_draws_law.specs.Fresh.{AllDecided}
 use Rattle.sc_draws_law.specs.Owners.{Rows}
 use Rattle.sc_draws_law.specs.Names.{Opt, BodyNames, LockNames, CoreNames, CommandNames, MailNames, BodiesNames}
 use Rattle.sc_draws_law.proofs.Lists.{opt_map, opt_get}
-use Rattle.sc_draws_law.proofs.Machine.{either_way, applied_names, child_names}
+use Rattle.sc_draws_law.proofs.Machine.{applied_names, child_names}
+use Rattle.sc_law_lemmas.proofs.Ways.{either_way}
 
 module _ (K : Draw → Type 0) where
   abbrev Ms : List Mail → Type 0

@@ -1,7 +1,6 @@
 -- The group machine names nothing new: what stands in a group after a command, and in its effect, stood in the group before, or in the command.
-use Rattle.std.proofs.Common.{ℕ, ◌&&◌, ◌||◌, not, nat_le, nat_lt, eqb, Bool, cond, List, [], ◌∷◌, length, map, Option, Some, None}
+use Rattle.std.proofs.Common.{ℕ, ◌&&◌, ◌||◌, not, nat_le, nat_lt, eqb, List, [], ◌∷◌, length, map, Option, Some, None}
 use Rattle.std.specs.FinMap.{get}
-use Rattle.std.proofs.lemmas.Bool.{cond_both}
 use Rattle.sc_base.specs.Among.{Each}
 use Rattle.sc_base.specs.Arc.{holds, end_of}
 use Rattle.sc_base.specs.Same.{same_draw}
@@ -45,11 +44,8 @@ use Rattle.sc_machine_table.specs.Plans.{Plan, can_cut, has_key_of, can_split, m
 use Rattle.sc_machine_table.specs.Transactions.{asks_watcher, is_coordinating, begun_group, decided, committed, granted, participant_answered, vote_recorded, released, watch_answered, watch_recorded}
 use Rattle.sc_machine_table.specs.Votes.{has_voted, size_no, body_no, offer_no, watch_no, no_of, vote_of, watch_vote_of, past_of, bound_by, voted_on, offer_voted, watched}
 use Rattle.sc_machine_table.specs.Finishes.{can_gain, moved, participant_after, pred_after, watcher_after, closed, party_freed, settled_in, finished}
+use Rattle.sc_law_lemmas.proofs.Ways.{either_way}
 use Rattle.sc_draws_law.specs.Names.{Opt, BodyNames, OfferNames, WatchNames, NoNames, VoteNames, PastNames, OutcomeNames, HeardNames, LockNames, CoreNames, CommandNames, RefusalNames, EffectNames}
-
--- whichever it is
-pub either_way : {A : Type 0} (P : A → Type 0) (b : Bool) (x y : A) → P x → P y → P (cond b x y)
-either_way P b x y p q = cond_both b x y P (λ _. p) (λ _. q)
 
 -- of each of a list that is mapped
 pub Each-map : {X Y : Type 0} (P : X → Type 0) (Q : Y → Type 0) (f : X → Y) → ((x : X) → P x → Q (f x)) → (xs : List X) → Each P xs → Each Q (map f xs)

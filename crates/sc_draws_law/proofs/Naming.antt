@@ -5,41 +5,23 @@ use Rattle.sc_cmd.specs.declared.commands.Command.{Command}
 use Rattle.sc_cmd.specs.declared.commands.Command.TheVariants.{Noop, Call, Join, Leave, Split, Begin, Prepared, RecordVote, GiveUp, Finish, Watched, RecordWatch}
 use Rattle.sc_paxos_words.proofs.ListLemmas.{Each-among}
 use Rattle.sc_sound.specs.Players.{Ahead}
-use Rattle.sc_ring_law.specs.Allowed.{Sources, IsAllowed}
 use Rattle.sc_ring_law.specs.Laws.{draw_of}
-use Rattle.sc_ring_law.specs.Stories.{Stories}
 use Rattle.sc_scenario.specs.declared.scenarios.Scenario.{Scenario}
 use Rattle.sc_sound.specs.Logs.{decided_log}
 use Rattle.sc_draws_law.specs.Fresh.{IsUsed}
 use Rattle.sc_draws_law.specs.Naming.{AllowedNamesAreDrawn, LoggedNamesAreDrawn, MoreOwnersAllow}
 use Rattle.sc_draws_law.specs.Names.{CommandNames}
 use Rattle.sc_draws_law.specs.Owners.{Rows, owner_in}
+use Rattle.sc_entries.proofs.Names.{some_is}
+use Rattle.sc_ring_law.proofs.Sound.{owned}
 use Rattle.sc_draws_law.proofs.Counters.{owned_are_of_nodes}
 use Rattle.sc_draws_law.proofs.Fresh.{names_are_drawn}
 use Rattle.sc_draws_law.proofs.Owned.{owned_are_drawn, owned_later}
 
-same_draw_of : (a b : Draw) → Some a ≡ Some b → a ≡ b
-same_draw_of a b e = cc
-
--- the group owns it
-owner_is : (sources : Sources) (stories : Stories) (group : Draw) (command : Command) (name : Draw) → IsAllowed sources stories group command → draw_of command ≡ Some name → sources.owner name ≡ Some group
-owner_is sources stories group (Split at child order) name a e = subst (λ (n : Draw). sources.owner n ≡ Some group) (same_draw_of child name e) a.0
-owner_is sources stories group (Begin tx body order) name a e = subst (λ (n : Draw). sources.owner n ≡ Some group) (same_draw_of tx name e) a.0
-owner_is sources stories group Noop name a e = cc
-owner_is sources stories group (Call client seq op) name a e = cc
-owner_is sources stories group (Join node order) name a e = cc
-owner_is sources stories group (Leave node order) name a e = cc
-owner_is sources stories group (Prepared tx offer) name a e = cc
-owner_is sources stories group (RecordVote tx vote by) name a e = cc
-owner_is sources stories group (GiveUp tx) name a e = cc
-owner_is sources stories group (Finish tx outcome) name a e = cc
-owner_is sources stories group (Watched tx watch) name a e = cc
-owner_is sources stories group (RecordWatch tx vote by) name a e = cc
-
 -- it is one of the command's names
 is_named : (K : Draw → Type 0) (command : Command) (name : Draw) → CommandNames K command → draw_of command ≡ Some name → K name
-is_named K (Split at child order) name c e = subst K (same_draw_of child name e) c
-is_named K (Begin tx body order) name c e = subst K (same_draw_of tx name e) c.0
+is_named K (Split at child order) name c e = subst K (some_is child name e) c
+is_named K (Begin tx body order) name c e = subst K (some_is tx name e) c.0
 is_named K Noop name c e = cc
 is_named K (Call client seq op) name c e = cc
 is_named K (Join node order) name c e = cc
@@ -53,7 +35,7 @@ is_named K (RecordWatch tx vote by) name c e = cc
 
 pub allowed_are_drawn : AllowedNamesAreDrawn
 allowed_are_drawn ahead scenario rows request stories group command name a e =
-    let own = owner_is (record { owner = owner_in ahead scenario rows; request = request }) stories group command name a e in
+    let own = owned (record { owner = owner_in ahead scenario rows; request = request }) stories group command name a e in
     (owned_are_drawn ahead scenario rows name group own, (owned_are_of_nodes ahead scenario rows name group own).0)
 
 used_by : (ahead : Ahead) (scenario : Scenario) (rows more : Rows) (name group : Draw) → IsUsed ahead scenario rows name → owner_in ahead scenario (rows ++ more) name ≡ Some group → owner_in ahead scenario rows name ≡ Some group
@@ -65,7 +47,7 @@ logged_are_drawn ahead words scenario begins rows more lawful base command among
     let named = names_are_drawn ahead words scenario begins rows lawful in
     let used = is_named (IsUsed ahead scenario rows) command name (Each-among (CommandNames (IsUsed ahead scenario rows)) (decided_log ahead base rows) command (named.1.logs base) among) e in
     owned_are_drawn ahead scenario rows name group
-    (used_by ahead scenario rows more name group used (owner_is (record { owner = owner_in ahead scenario (rows ++ more); request = request }) stories group command name a e))
+    (used_by ahead scenario rows more name group used (owned (record { owner = owner_in ahead scenario (rows ++ more); request = request }) stories group command name a e))
 
 pub more_owners_allow : MoreOwnersAllow
 more_owners_allow ahead scenario rows more request stories group (Split at child order) a = (owned_later ahead scenario rows more child group a.0, a.1)

@@ -38,7 +38,7 @@ use Rattle.sc_paxos_words.proofs.ListLemmas.{Each-append}
 use Rattle.sc_draws_law.specs.Names.{Opt, CoreNames, AnswerNames, BodiesNames, MailNames, ReplicaNames, NodeNames, ClientNames}
 use Rattle.sc_draws_law.specs.Owners.{Owned, waited, wished_at, drawn_wishing, drawn_ticking}
 use Rattle.sc_draws_law.proofs.Lists.{opt_find, opt_map}
-use Rattle.sc_draws_law.proofs.Machine.{either_way}
+use Rattle.sc_law_lemmas.proofs.Ways.{either_way}
 use Rattle.sc_draws_law.proofs.Sent.{Sent, sent_names}
 use Rattle.sc_draws_law.proofs.Held.{Fine, born_names}
 use Rattle.sc_draws_law.proofs.Executing.{Kids}

@@ -39,7 +39,7 @@ use Rattle.sc_node_table.specs.Questions.{offer_of, heard_question, question, as
 use Rattle.sc_node_table.specs.Transactions.{voted_to, watched_to, told_outcome}
 use Rattle.sc_node_table.specs.Spoken.{heard_from, before_in, before_of, refused_result, split_result, outcome_result, decided_result, begun_result, spoken_number, told_result, told_begun, decided_in, cast_in, asked_on, vote_sent, watch_sent, aborted_to, aborted_watcher, given_up_by, vote_answered, released_to, watch_answered_by, went_on, spoken_mails}
 use Rattle.sc_draws_law.specs.Names.{Opt, BodyNames, OfferNames, WatchNames, PastNames, OutcomeNames, HeardNames, LockNames, CoreNames, CommandNames, EffectNames, ResultNames, AnswerNames, BodiesNames, MailNames}
-use Rattle.sc_draws_law.proofs.Machine.{either_way}
+use Rattle.sc_law_lemmas.proofs.Ways.{either_way}
 
 module _ (K : Draw → Type 0) where
   abbrev pub Sent : List Mail → Type 0

@@ -58,9 +58,10 @@ use Rattle.sc_node_table.specs.Transactions.{noted_vote, noted_outcome, gone_vot
 use Rattle.sc_draws_law.specs.Names.{Opt, OfferNames, WatchNames, VoteNames, PastNames, OutcomeNames, LockNames, CoreNames, CommandNames, RefusalNames, AnswerNames, BodiesNames, ReplicaNames}
 use Rattle.sc_draws_law.specs.Owners.{Owned, owned_by, drawn_for, waited, wished_at, drawn_wishing}
 use Rattle.sc_draws_law.proofs.Lists.{opt_find, opt_map}
-use Rattle.sc_draws_law.proofs.Machine.{either_way, refusal_names}
+use Rattle.sc_draws_law.proofs.Machine.{refusal_names}
+use Rattle.sc_law_lemmas.proofs.Ways.{either_way}
 use Rattle.sc_draws_law.proofs.Sent.{Sent, sent_names, sent_all_names, sent_others_names, question_names, voted_to_names, watched_to_names, outcome_names}
-use Rattle.sc_draws_law.proofs.Held.{Fine, Cmds, Cmd, without_names, flying_names, elected_names, stopped_names, named_names, jumped_names, installed_names, pumped_names}
+use Rattle.sc_draws_law.proofs.Held.{Fine, Cmd, with_calls, with_acts, without_names, flying_names, elected_names, stopped_names, named_names, jumped_names, installed_names, pumped_names}
 use Rattle.sc_draws_law.proofs.Executing.{Kids, looked_names}
 use Rattle.sc_draws_law.proofs.Voted.{prepare_names, accept_names, promise_row_names, accepted_names, accepted_kids, nack_names, learn_names, learn_kids, held_names, ask_names}
 
@@ -70,12 +71,6 @@ module _ (K : Draw → Type 0) where
 
   abbrev F : Place → Type 0
   F place = Fine K place
-
-  with_calls : (r : ReplicaState) (calls : List Command) → Cmds K calls → R r → R (record r { calls = calls })
-  with_calls r calls c k = record { core = k.core; log = k.log; accepted = k.accepted; reports = k.reports; flights = k.flights; ready = k.ready; acts = k.acts; calls = c }
-
-  with_acts : (r : ReplicaState) (acts : List Command) → Cmds K acts → R r → R (record r { acts = acts })
-  with_acts r acts c k = record { core = k.core; log = k.log; accepted = k.accepted; reports = k.reports; flights = k.flights; ready = k.ready; acts = c; calls = k.calls }
 
   -- ---- Request
 
@@ -89,11 +84,11 @@ module _ (K : Draw → Type 0) where
   queued_names : (o : Option ℕ) (client seq : ℕ) (op : Op) (place : Place) → F place → F (queued o client seq op place)
   unfolding queued
   queued_names None client seq op (r, mails) f =
-      pumped_names K (record r { calls = r.calls ++ Call client seq op ∷ [] }, mails) (with_calls r (r.calls ++ Call client seq op ∷ []) (Each-append (CommandNames K) r.calls (Call client seq op ∷ []) f.0.calls (tt, tt)) f.0, f.1)
+      pumped_names K (record r { calls = r.calls ++ Call client seq op ∷ [] }, mails) (with_calls K r (r.calls ++ Call client seq op ∷ []) (Each-append (CommandNames K) r.calls (Call client seq op ∷ []) f.0.calls (tt, tt)) f.0, f.1)
   queued_names (Some other) client seq op (r, mails) f =
       let calls : List Command = without_call r.calls client ++ Call client seq op ∷ [] in
       either_way F (nat_le seq other) (r, mails) (pumped (record r { calls = calls }, mails)) f
-      (pumped_names K (record r { calls = calls }, mails) (with_calls r calls (Each-append (CommandNames K) (without_call r.calls client) (Call client seq op ∷ []) (without_names K r.calls client f.0.calls) (tt, tt)) f.0, f.1))
+      (pumped_names K (record r { calls = calls }, mails) (with_calls K r calls (Each-append (CommandNames K) (without_call r.calls client) (Call client seq op ∷ []) (without_names K r.calls client f.0.calls) (tt, tt)) f.0, f.1))
 
   requested_names : (o : Option AnswerBody) (client seq : ℕ) (op : Op) (place : Place) → Ans o → F place → F (requested o client seq op place)
   unfolding requested
@@ -129,7 +124,7 @@ module _ (K : Draw → Type 0) where
   -- ---- the acts of transactions
 
   with_act_names : (act : Command) (r : ReplicaState) → CommandNames K act → R r → R (with_act act r)
-  with_act_names act r c k = either_way R (has_act act r) r (record r { acts = r.acts ++ act ∷ [] }) k (with_acts r (r.acts ++ act ∷ []) (Each-append (CommandNames K) r.acts (act ∷ []) k.acts (c, tt)) k)
+  with_act_names act r c k = either_way R (has_act act r) r (record r { acts = r.acts ++ act ∷ [] }) k (with_acts K r (r.acts ++ act ∷ []) (Each-append (CommandNames K) r.acts (act ∷ []) k.acts (c, tt)) k)
 
   queued_act : (act : Command) (place : Place) → CommandNames K act → F place → F (act_queued act place)
   unfolding act_queued
@@ -292,7 +287,7 @@ module _ (K : Draw → Type 0) where
   taken_names : (o : Option OrderRefusal) (number : ℕ) (command : Command) (place : Place) → Refused o → (o ≡ None → CommandNames K command) → F place → F (taken_or_told o number command place)
   taken_names (Some why) number command (r, mails) w c f = (f.0, sent_names K r.me 0 (Told number (Tells.Refused why)) mails w f.1)
   taken_names None number command (r, mails) w c f =
-      pumped_names K (record r { calls = r.calls ++ command ∷ [] }, mails) (with_calls r (r.calls ++ command ∷ []) (Each-append (CommandNames K) r.calls (command ∷ []) f.0.calls (c refl, tt)) f.0, f.1)
+      pumped_names K (record r { calls = r.calls ++ command ∷ [] }, mails) (with_calls K r (r.calls ++ command ∷ []) (Each-append (CommandNames K) r.calls (command ∷ []) f.0.calls (c refl, tt)) f.0, f.1)
 
   pub ordered_row_names : (drawer : Drawer) (line : OrderLine) (place : Place) → (untaken drawer line place.0 ≡ None → CommandNames K (ordered_command (next_name drawer) line.number line.order)) → F place → F (ordered_row drawer line place)
   unfolding ordered_row
@@ -311,7 +306,7 @@ module _ (K : Draw → Type 0) where
   -- ---- Tick, with what a policy orders
 
   command_names : (o : Option OrderRefusal) (command : Command) (r : ReplicaState) → (o ≡ None → CommandNames K command) → R r → R (with_command o command r)
-  command_names None command r c k = with_calls r (r.calls ++ command ∷ []) (Each-append (CommandNames K) r.calls (command ∷ []) k.calls (c refl, tt)) k
+  command_names None command r c k = with_calls K r (r.calls ++ command ∷ []) (Each-append (CommandNames K) r.calls (command ∷ []) k.calls (c refl, tt)) k
   command_names (Some why) command r c k = k
 
   -- what is drawn for an order, if it is taken and takes a name

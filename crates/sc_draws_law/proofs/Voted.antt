@@ -32,11 +32,12 @@ use Rattle.sc_node_table.specs.Election.{saw}
 use Rattle.sc_node_table.specs.Execute.{executed, has_room}
 use Rattle.sc_node_table.specs.Install.{install_to}
 use Rattle.sc_node_table.specs.Pump.{pumped}
-use Rattle.sc_node_table.specs.Rows.{learn_row, taught, most_taught, ask_answered, ask_row}
+use Rattle.sc_node_table.specs.Rows.{learn_row, taught, most_taught, ask_row}
 use Rattle.sc_node_table.specs.Voting.{hinted, promise_to, promised, prepare_row, accepted_to, took, accept_row, leads, promise_row, readied, vote_tallied, voted, accepted_row, nack_row}
 use Rattle.sc_draws_law.specs.Names.{Opt, CommandNames, ReportsNames, ReplicaNames}
 use Rattle.sc_draws_law.proofs.Lists.{Flights, opt_find, opt_get, slot_with, flight_without, voters_with, report_with}
-use Rattle.sc_draws_law.proofs.Machine.{either_way}
+use Rattle.sc_law_lemmas.proofs.Places.{promised_place, asked_place}
+use Rattle.sc_law_lemmas.proofs.Ways.{either_way}
 use Rattle.sc_draws_law.proofs.Sent.{Sent, sent_names}
 use Rattle.sc_draws_law.proofs.Held.{Fine, Cmd, saw_names, install_names, pumped_names}
 use Rattle.sc_draws_law.proofs.Executing.{Kids, executed_names, executed_kids}
@@ -78,15 +79,12 @@ module _ (K : Draw → Type 0) where
     sent_names K r.me from (Nack (name_of r) was) mails f.0.core.id f.1,
   )
 
-  promised_names : (from : ℕ) (ballot : Ballot) (from_slot : ℕ) (place : Place) → F place → F (promised from ballot from_slot place)
-  unfolding promised
-  promised_names from ballot from_slot (r, mails) f =
-      either_way F (nat_le from_slot r.acceptor.floor) (install_to from (r, mails)) (promise_to from ballot (prepared ballot from_slot r.acceptor) (r, mails)) (install_names K from (r, mails) f)
-      (promise_names from ballot (prepared ballot from_slot r.acceptor) (r, mails) (prepared_names ballot from_slot r.acceptor f.0.accepted) f)
-
   pub prepare_names : (from : ℕ) (ballot : Ballot) (from_slot : ℕ) (place : Place) → F place → F (prepare_row from ballot from_slot place)
   unfolding prepare_row
-  prepare_names from ballot from_slot place f = promised_names from ballot from_slot (saw ballot place) (saw_names K ballot place f)
+  prepare_names from ballot from_slot place f =
+      let seen : Place = saw ballot place in
+      let g : F seen = saw_names K ballot place f in
+      promised_place F from ballot from_slot seen (install_names K from seen g) (promise_names from ballot (prepared ballot from_slot seen.0.acceptor) seen (prepared_names ballot from_slot seen.0.acceptor g.0.accepted) g)
 
   -- ---- Accept
 
@@ -231,10 +229,5 @@ module _ (K : Draw → Type 0) where
   taught_names zero r from slot mails k m = m
   taught_names (suc count) r from slot mails k m = taught_by count r from slot mails (entry_at slot r.log) (held_names slot r k) k m (λ more n. taught_names count r from (slot + 1) more k n)
 
-  answered_by : (o : Option Command) (from slot : ℕ) (place : Place) → F place → F (ask_answered o from slot place)
-  answered_by None from slot place f = install_names K from place f
-  answered_by (Some command) from slot (r, mails) f = (f.0, taught_names most_taught r from slot mails f.0 f.1)
-
   pub ask_names : (from slot : ℕ) (place : Place) → F place → F (ask_row from slot place)
-  unfolding ask_row
-  ask_names from slot (r, mails) f = either_way F (nat_lt slot (next r)) (ask_answered (entry_at slot r.log) from slot (r, mails)) (r, mails) (answered_by (entry_at slot r.log) from slot (r, mails) f) f
+  ask_names from slot (r, mails) f = asked_place F from slot (r, mails) f (install_names K from (r, mails) f) (f.0, taught_names most_taught r from slot mails f.0 f.1)

@@ -1,11 +1,12 @@
 -- What holds of a scenario's groups before any row, and what the start of a group gives.
-use Rattle.std.proofs.Common.{◌≡◌, ℕ, ◌≤◌, List, [], ◌∷◌, length, map, filter, inl, inr, refl, sym, ◌∙◌, ap, subst, arith}
+use Rattle.std.proofs.Common.{◌≡◌, ℕ, ◌≤◌, List, [], ◌∷◌, length, map, filter, inl, inr, refl, sym, subst, arith}
 use Rattle.std.proofs.lemmas.Bool.{cond_both}
 use Rattle.sc_base.specs.Among.{Among, Each}
 use Rattle.sc_cmd.specs.declared.commands.Command.{Command}
 use Rattle.sc_cmd.specs.declared.cores.Base.{Base}
 use Rattle.sc_client_table.specs.Client.{born_client}
 use Rattle.sc_member.specs.Roster.{is_member}
+use Rattle.sc_paxos_words.proofs.ListLemmas.{Each-among}
 use Rattle.sc_node_table.specs.Replica.{ReplicaState, name_of, born_replica}
 use Rattle.sc_scenario.specs.declared.scenarios.Scenario.{Scenario}
 use Rattle.sc_cmd.specs.declared.links.Route.{Route}
@@ -43,11 +44,6 @@ module _ (ahead : Ahead) (made : Command → Type 0) (n : ℕ) where
       (λ bs. Each (IsOther base.core.id) (map (λ c. born_replica ahead.slots n c) bs))
       (λ _. (apart.0, none_born base bases apart.1)) (λ _. none_born base bases apart.1)
 
-  apart_from : (one : Base) (bases : List Base) → Each (λ other. other.core.id ≡ one.core.id → ⊥) bases → (base : Base) → Among base bases → one.core.id ≡ base.core.id → ⊥
-  apart_from one [] e base a same = absurd a
-  apart_from one (b ∷ bases) e base (inl is) same = e.0 (ap (λ (x : Base). x.core.id) is ∙ sym same)
-  apart_from one (b ∷ bases) e base (inr a) same = apart_from one bases e.1 base a same
-
   -- of each group there is one, or none
   holds_born : (base : Base) (bases : List Base) → AreApart bases → Among base bases → Holds ahead base made n [] (born bases)
   holds_born base [] apart a = absurd a
@@ -59,7 +55,7 @@ module _ (ahead : Ahead) (made : Command → Type 0) (n : ℕ) where
   holds_born base (b ∷ bases) apart (inr a) =
       cond_both (is_member b.core.members n) (b ∷ filter (λ c. is_member c.core.members n) bases) (filter (λ c. is_member c.core.members n) bases)
       (λ bs. Holds ahead base made n [] (map (λ c. born_replica ahead.slots n c) bs))
-      (λ _. inr (apart_from b bases apart.0 base a, holds_born base bases apart.1 a)) (λ _. holds_born base bases apart.1 a)
+      (λ _. inr (λ same. Each-among (λ other. other.core.id ≡ b.core.id → ⊥) bases base apart.0 a (sym same), holds_born base bases apart.1 a)) (λ _. holds_born base bases apart.1 a)
 
 -- what holds before any row
 pub at_start : (ahead : Ahead) (scenario : Scenario) (bases : List Base) (route : Route) (made : Journal → Base → Command → Type 0) (heard : Journal → MailBody → Type 0) → AreApart bases → Kept ahead scenario bases bases route made heard []

@@ -98,6 +98,10 @@ IsNextOf (Some seq) n = seq ≡ n + 1
 abbrev pub IsAsk : Asks → ℕ × Op → Type 0
 IsAsk asks request = (1 ≤ request.0) × (slice_get asks.ops (request.0 - 1) ≡ Some request.1)
 
+-- nothing is sent, or a request that is asked
+abbrev pub SendsAsked : Asks → List Mail → Type 0
+SendsAsked asks sent = (sent ≡ []) ⊎ ((group : Draw) × (target : ℕ) × (request : ℕ × Op) × IsAsk asks request × (sent ≡ request_of asks.client group target request ∷ []))
+
 asked_op : (requests : List Op) (seq n : ℕ) (request : ℕ × Op) → seq ≡ n + 1 → (o : Option Op) → slice_get requests (seq - 1) ≡ o → option_map (λ op. (seq, op)) o ≡ Some request
     → (1 ≤ request.0) × (slice_get requests (request.0 - 1) ≡ Some request.1)
 asked_op requests seq n request is None at e = cc
@@ -201,7 +205,7 @@ module _ (ahead : Ahead) (bases : List Base) where
     client_after = elim turn.moves [ inl s ↦ waited s | inr (inl s) ↦ begun s | inr (inr s) ↦ took s ]
 
     -- it sends nothing, or a request that it has
-    pub client_sends : (sent ≡ []) ⊎ ((group : Draw) × (target : ℕ) × (request : ℕ × Op) × IsAsk asks request × (sent ≡ request_of asks.client group target request ∷ []))
+    pub client_sends : SendsAsked asks sent
     client_sends =
         elim turn.sends [
           | inl none ↦ inl none

@@ -57,9 +57,6 @@ module _ (ahead : Ahead) (base : Base) (made : Command → Type 0) (heard : Mail
   abbrev Replica : Steps → ReplicaState → Type 0
   Replica h r = IsReplica ahead base made h me r
 
-  named : (r : ReplicaState) (mails : List Mail) → Ok (r, mails) → name_of r ≡ base.core.id
-  named r mails f = name_is ahead base made heard me older before (f.newer ++ before) r f.replica
-
   -- ---- a command goes back
 
   before_calls : (o : Option ℕ) (client seq : ℕ) (c : Command) (calls : List Command) → made c → Each made calls → Each made (call_before o client seq c calls)
@@ -138,7 +135,7 @@ module _ (ahead : Ahead) (base : Base) (made : Command → Type 0) (heard : Mail
       → Past counted slot d g (told_call o c (r, mails))
   unfolding told_call says turn
   told_place counted slot d g (Some answer) (Call client seq op) r mails p m t = record {
-    fine = says ahead base made heard me older before r mails (record { from = r.me; to = client_actor client; body = Answer (name_of r) seq answer }) p.fine refl (named r mails p.fine) (λ _. t client seq op answer refl refl);
+    fine = says ahead base made heard me older before r mails (record { from = r.me; to = client_actor client; body = Answer (name_of r) seq answer }) p.fine refl (name_is ahead base made heard me older before (p.fine.newer ++ before) r p.fine.replica) (λ _. t client seq op answer refl refl);
     group_is = p.group_is;
     learnt_is = p.learnt_is;
     executed_is = p.executed_is;
@@ -197,7 +194,7 @@ module _ (ahead : Ahead) (base : Base) (made : Command → Type 0) (heard : Mail
 
   learnt_place : (counted : Bool) (nodes : List ℕ) (slot : ℕ) (c : Command) (g : Group) (place : Place) → Past counted slot c g place → Ok (learnt_to counted nodes slot c place)
   unfolding learnt_to
-  learnt_place true nodes slot c g (r, mails) p = learnt_others ahead base made heard me older before nodes r mails (name_of r) slot c (named r mails p.fine) p.fine p.learnt_is
+  learnt_place true nodes slot c g (r, mails) p = learnt_others ahead base made heard me older before nodes r mails (name_of r) slot c (name_is ahead base made heard me older before (p.fine.newer ++ before) r p.fine.replica) p.fine p.learnt_is
   learnt_place false nodes slot c g (r, mails) p = p.fine
 
   learnt_same : (counted : Bool) (nodes : List ℕ) (slot : ℕ) (c : Command) (place : Place) → (learnt_to counted nodes slot c place).0 ≡ place.0

@@ -121,20 +121,13 @@ module _ (ahead : Ahead) (scenario : Scenario) (firsts bases : List Base) (route
 
   -- a group's part of a row
   pub record PartMoved (rows : Journal) (row : Row Mail OrderLine) (base : Base) : Type 0 where
-    pub newer : Steps
-    pub are : h_of (rows ++ row ∷ []) base ≡ newer ++ h_of rows base
-    pub lawful : IsLawfulHistory (rule ahead base) (first ahead base) (h_of (rows ++ row ∷ []) base)
-    pub requested : (b : Ballot) (slot : ℕ) (c : Command) → Among (Offered b slot c) (h_of (rows ++ row ∷ []) base) → made rows base c
+    pub stepped : Stepped rows row base
     pub true_sent : (m : Mail) → Among m row.sent → IsTrue ahead base (made (rows ++ row ∷ []) base) (heard (rows ++ row ∷ [])) (h_of (rows ++ row ∷ []) base) m m.body
 
   -- a client after a row of its own, or as it was
   pub record ClientMoved (rows : Journal) (row : Row Mail OrderLine) (asks : Asks) : Type 0 where
     pub after : IsClientAt (rows ++ row ∷ []) asks
     pub grew : Grew ahead bases (h_of rows) asks (replies_in asks rows) (replies_in asks (rows ++ row ∷ []))
-
-  -- its steps alone
-  pub stepped : (rows : Journal) (row : Row Mail OrderLine) (base : Base) → PartMoved rows row base → Stepped rows row base
-  stepped rows row base p = record { newer = p.newer; are = p.are; lawful = p.lawful; requested = p.requested }
 
   -- after one more row: lawful steps, true mail, and nodes and clients as the steps say
   pub record Moved (rows : Journal) (row : Row Mail OrderLine) : Type 0 where
@@ -152,14 +145,14 @@ module _ (ahead : Ahead) (scenario : Scenario) (firsts bases : List Base) (route
       let next = rows ++ row ∷ [] in
       record {
         parts = λ base a. (
-            let p = m.parts base a in
+            let p = (m.parts base a).stepped in
             record {
               lawful = p.lawful;
               requested = λ b slot c o. later.made_later base c (p.requested b slot c o);
               true_mail = λ x b. elim (Among-either x (mails rows) row.sent (subst (Among x) (mails-snoc rows row) b)) [
                 | inl old ↦ subst (λ g. IsTrue ahead base (made next base) (heard next) g x x.body) (sym p.are)
                     (grown_true ahead base (made rows base) (made next base) (later.made_later base) (heard rows) (heard next) later.heard_later p.newer (h_of rows base) x x.body ((k.parts base a).true_mail x old))
-                | inr new ↦ p.true_sent x new
+                | inr new ↦ (m.parts base a).true_sent x new
               ];
             });
         named = λ x b. elim (Among-either x (mails rows) row.sent (subst (Among x) (mails-snoc rows row) b)) [

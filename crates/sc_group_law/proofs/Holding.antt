@@ -1,10 +1,11 @@
 -- The replicas of a node, and which of them is a group's.
-use Rattle.std.proofs.Common.{◌≡◌, ℕ, true, false, List, [], ◌∷◌, ◌++◌, Some, None, ◌⊎◌, inl, inr, sym, ◌∙◌, ap, subst}
+use Rattle.std.proofs.Common.{◌≡◌, ℕ, false, List, [], ◌∷◌, ◌++◌, Some, None, ◌⊎◌, inl, inr, sym, ◌∙◌, ap, subst}
 use Rattle.std.proofs.lemmas.Bool.{cases_Bool, cond-true, cond-false, cond_both}
 use Rattle.sc_base.specs.Among.{Among, Each}
 use Rattle.sc_base.specs.Same.{same_draw}
 use Rattle.sc_base.specs.declared.names.Draw.{Draw}
 use Rattle.sc_base.proofs.NameLemmas.{same_name, draw_is}
+use Rattle.sc_entries.proofs.Names.{names_differ}
 use Rattle.sc_cmd.specs.declared.commands.Command.{Command}
 use Rattle.sc_cmd.specs.declared.cores.Base.{Base}
 use Rattle.sc_node_table.specs.Node.{replica_of, with_replica, is_before, with_new}
@@ -21,9 +22,6 @@ IsOther name r = name_of r ≡ name → ⊥
 other_false : (name : Draw) (r : ReplicaState) → IsOther name r → same_draw (name_of r) name ≡ false
 other_false name r other =
     elim (cases_Bool (same_draw (name_of r) name)) [ inl t ↦ absurd (other (draw_is (name_of r) name t)) | inr f ↦ f ]
-
-apart : (one other : Draw) → same_draw one other ≡ false → one ≡ other → ⊥
-apart one other f e = let no_way : true ≡ false = sym (same_name one other e) ∙ f in absurd (cc)
 
 -- each replica and the new value of one
 pub each_with : (P : ReplicaState → Type 0) (g : Draw) (new : ReplicaState) (rs : List ReplicaState) → Each P rs → P new → Each P (with_replica g new rs)
@@ -91,7 +89,7 @@ module _ (ahead : Ahead) (base : Base) (made : Command → Type 0) (me : ℕ) wh
   with_far h g far new other [] fresh = fresh
   with_far h g far new other (s ∷ rs) (inl (mine, k, none)) =
       cond_both (same_draw (name_of s) g) (new ∷ rs) (s ∷ with_replica g new rs) (Holds h)
-      (λ t. absurd (apart g name far (sym (draw_is (name_of s) g t) ∙ mine)))
+      (λ t. absurd (names_differ g name far (sym (draw_is (name_of s) g t) ∙ mine)))
       (λ _. inl (mine, k, each_with (IsOther name) g new rs none other))
   with_far h g far new other (s ∷ rs) (inr (o, holds)) =
       cond_both (same_draw (name_of s) g) (new ∷ rs) (s ∷ with_replica g new rs) (Holds h) (λ _. inr (other, holds)) (λ _. inr (o, with_far h g far new other rs holds))

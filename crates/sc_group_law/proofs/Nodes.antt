@@ -45,6 +45,7 @@ use Rattle.sc_group_law.proofs.Offspring.{IsChildOf, learnt_are, accepted_are}
 use Rattle.sc_group_law.proofs.Newborn.{born_replica_is}
 use Rattle.sc_group_law.proofs.Holding.{each_with, each_new, Holds, held, none_held, with_held, with_far, new_held, new_far}
 use Rattle.sc_base.proofs.NameLemmas.{same_name, draw_is}
+use Rattle.sc_entries.proofs.Names.{names_differ}
 
 -- ---- one group's replica
 
@@ -253,13 +254,10 @@ module _ (ahead : Ahead) (bases : List Base) (made : Base → Command → Type 0
                 let apart_from : same_draw mine.0.core.id base.core.id ≡ false = ap (λ d. same_draw d base.core.id) (sym is) ∙ f in
                 let sent = far_sent mine.0 mine.1 (h mine.0) (after mine.0) place e base.core.id apart_from in
                 no_part ahead base (made base) heard me (h base) (speaks base a) (some base a) (lawful base a) (requested base a) (after base) step (far base a f sent)
-                (with_far ahead base (made base) me (h base) g f place.0 (λ same. apart_names g base.core.id f (is ∙ sym new_name ∙ same)) node.replicas (k.holds base a))
+                (with_far ahead base (made base) me (h base) g f place.0 (λ same. names_differ g base.core.id f (is ∙ sym new_name ∙ same)) node.replicas (k.holds base a))
                 (λ m b. far_true ahead base (made base) heard (h base) m m.body (Each-among _ place.1 m sent b)))
           ];
         }
-      where
-        apart_names : (one other : Draw) → same_draw one other ≡ false → one ≡ other → ⊥
-        apart_names one other f e = let no_way : true ≡ false = sym (same_name one other e) ∙ f in absurd (cc)
 
     -- the node draws other names
     redrawn : (after : Base → Steps) (node : NodeState) (draws : Drawer) (sent : List Mail) → NodeEnded after (node, sent) → NodeEnded after (record node { draws = draws }, sent)

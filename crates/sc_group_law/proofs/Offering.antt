@@ -212,8 +212,8 @@ module _ (ahead : Ahead) (base : Base) (made : Command → Type 0) (heard : Mail
     pub command : IfSome found.0 (λ c. made c × Obeys (must slot r.leader) c)
 
   -- other calls that were made may wait
-  pub with_calls : (h : Steps) (r : ReplicaState) (calls : List Command) → IsReplica ahead base made h me r → Each made calls → IsReplica ahead base made h me (record r { calls = calls })
-  with_calls h r calls k e = record {
+  pub with_calls : (h : Steps) (r : ReplicaState) (commands : List Command) → IsReplica ahead base made h me r → Each made commands → IsReplica ahead base made h me (record r { calls = commands })
+  with_calls h r commands k e = record {
     me_is = k.me_is;
     whole = k.whole;
     log_is = k.log_is;
@@ -231,8 +231,8 @@ module _ (ahead : Ahead) (base : Base) (made : Command → Type 0) (heard : Mail
   }
 
   -- other acts that were made may wait
-  pub with_acts : (h : Steps) (r : ReplicaState) (acts : List Command) → IsReplica ahead base made h me r → Each made acts → IsReplica ahead base made h me (record r { acts = acts })
-  with_acts h r acts k e = record {
+  pub with_acts : (h : Steps) (r : ReplicaState) (commands : List Command) → IsReplica ahead base made h me r → Each made commands → IsReplica ahead base made h me (record r { acts = commands })
+  with_acts h r commands k e = record {
     me_is = k.me_is;
     whole = k.whole;
     log_is = k.log_is;

@@ -1,5 +1,5 @@
 -- Mails that a row sends, and elections.
-use Rattle.std.proofs.Common.{◌≡◌, ℕ, ◌+◌, ◌≤◌, ◌-◌, ◌^◌, ◌&&◌, true, false, cond, eqb, nat_lt, List, [], ◌∷◌, ◌++◌, Option, Some, inl, inr, refl, ◌∙◌, ap, subst, arith}
+use Rattle.std.proofs.Common.{◌≡◌, ℕ, ◌+◌, ◌≤◌, ◌-◌, ◌^◌, ◌&&◌, true, false, cond, eqb, nat_lt, List, [], ◌∷◌, ◌++◌, Option, Some, inl, refl, ◌∙◌, ap, subst, arith}
 use Rattle.std.proofs.lemmas.Bool.{cond-true, cond_both}
 use Rattle.sc_base.specs.Limits.{client_actor}
 use Rattle.sc_base.specs.declared.names.Ballot.{Ballot}
@@ -20,7 +20,7 @@ use Rattle.sc_machine_table.specs.Group.{Group}
 use Rattle.sc_base.specs.Among.{Among}
 use Rattle.sc_paxos_words.specs.Ballots.{below}
 use Rattle.sc_paxos_words.specs.Leaders.{new_leader}
-use Rattle.sc_paxos_words.proofs.BallotLemmas.{below_parts}
+use Rattle.sc_law_lemmas.proofs.Ballots.{below_round}
 use Rattle.sc_paxos_law.specs.Steps.{Step, Prepared, Offered}
 use Rattle.sc_node_table.specs.Election.{elected, ended, stopped, saw, open_nodes}
 use Rattle.sc_node_table.specs.Mails.{sent, sent_all, sent_others, answered, answered_all, order_number, told_order, dismissed, dismissed_all}
@@ -206,9 +206,6 @@ module _ (ahead : Ahead) (base : Base) (made : Command → Type 0) (heard : Mail
   fine_stopped hint r mails f = fine_ended hint (Says.NotLeader hint) (λ h to seq. tt) r mails f
 
   -- ---- a ballot that is seen
-
-  below_round : (a b : Ballot) → below a b ≡ true → a.round ≤ b.round
-  below_round a b e = elim (below_parts a b e) [ inl lt ↦ omega (arith, lt) | inr p ↦ omega (arith, p.0) ]
 
   seen_replica : (h : Steps) (r : ReplicaState) (b : Ballot) → r.top.round ≤ b.round → Replica h r → Replica h (record r { top = b })
   seen_replica h r b le k = record {

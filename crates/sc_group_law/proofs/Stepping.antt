@@ -1,5 +1,5 @@
 -- What each row of a lawful journal does to what holds, whatever may be queued and said of transactions: the rows of nodes, of clients and of the network.
-use Rattle.std.proofs.Common.{◌≡◌, ℕ, ◌≤◌, ◌&&◌, Bool, true, false, eqb, List, [], ◌∷◌, ◌++◌, map, Some, None, ◌⊎◌, inl, inr, refl, sym, ◌∙◌, ap, subst, arith}
+use Rattle.std.proofs.Common.{◌≡◌, ℕ, ◌≤◌, ◌&&◌, Bool, true, false, eqb, List, [], ◌∷◌, ◌++◌, map, Some, None, inl, inr, refl, sym, ◌∙◌, ap, subst, arith}
 use Rattle.std.specs.Option.{option_map}
 use Rattle.std.specs.List.{list_any}
 use Rattle.std.proofs.lemmas.Bool.{cases_Bool, eqb-true, eqb-false, eq-eqb, ne_eqb, and_from, or_left, cond-true, cond-false}
@@ -56,7 +56,7 @@ use Rattle.sc_group_law.proofs.Ticks.{MayTick, tick_ended}
 use Rattle.sc_group_law.proofs.Voting.{ArePlain}
 use Rattle.sc_group_law.proofs.Projected.{steps-push}
 use Rattle.sc_group_law.proofs.Places.{Journal}
-use Rattle.sc_group_law.proofs.Clients.{IsIssued, issued_now, IsAsk, HaveGrown, IsClient, Grew, later_client, client_after, client_sends}
+use Rattle.sc_group_law.proofs.Clients.{IsIssued, issued_now, SendsAsked, HaveGrown, IsClient, Grew, later_client, client_after, client_sends}
 use Rattle.sc_group_law.proofs.Families.{h_of, IsNodeAt, IsClientAt, replies_in, Kept, Stepped, IsLater, PartMoved, ClientMoved, Moved}
 use Rattle.sc_group_law.proofs.Speech.{AnyoneHears, Speaks}
 use Rattle.sc_base.specs.Limits.{client_actor, most_nodes}
@@ -175,10 +175,7 @@ module _ (ahead : Ahead) (words : ℕ → ℕ → ℕ × ℕ) (scenario : Scenar
         let are : h_of next b ≡ p.newer ++ h b = steps-push b.core.id rows row ∙ p.are in
         let more = later row (part_stepped n event step e) in
         record {
-          newer = p.newer;
-          are = are;
-          lawful = subst (IsLawfulHistory (rule ahead b) (first ahead b)) (sym are) p.lawful_is;
-          requested = λ ballot slot c o. p.requested_is ballot slot c (subst (Among (Offered ballot slot c)) are o);
+          stepped = part_stepped n event step e b a;
           true_sent = λ m o. subst (λ g. IsTrue ahead b (made_by next b) (heard_by next) g m m.body) (sym are)
               (grown_true ahead b (made b) (made_by next b) (more.made_later b) heard (heard_by next) more.heard_later [] (p.newer ++ h b) m m.body (p.mails m o));
         }
@@ -261,10 +258,12 @@ module _ (ahead : Ahead) (words : ℕ → ℕ → ℕ × ℕ) (scenario : Scenar
         let are : h_of next b ≡ [] ++ h b = steps-push b.core.id rows row ∙ none b in
         let part = k.parts b a in
         record {
-          newer = [];
-          are = are;
-          lawful = subst (IsLawfulHistory (rule ahead b) (first ahead b)) (sym are) part.lawful;
-          requested = λ ballot slot c o. part.requested ballot slot c (subst (Among (Offered ballot slot c)) are o);
+          stepped = record {
+            newer = [];
+            are = are;
+            lawful = subst (IsLawfulHistory (rule ahead b) (first ahead b)) (sym are) part.lawful;
+            requested = λ ballot slot c o. part.requested ballot slot c (subst (Among (Offered ballot slot c)) are o);
+          };
           true_sent = λ m o. subst (λ g. IsTrue ahead b (made_by next b) (heard_by next) g m m.body) (sym are) (sent b m o);
         }
 
@@ -285,7 +284,7 @@ module _ (ahead : Ahead) (words : ℕ → ℕ → ℕ × ℕ) (scenario : Scenar
 
     -- ---- rows of clients
 
-    sends_plain : (asks : Asks) (sent : List Mail) → (sent ≡ []) ⊎ ((g : Draw) × (target : ℕ) × (request : ℕ × Op) × IsAsk asks request × (sent ≡ request_of asks.client g target request ∷ [])) → ArePlain sent
+    sends_plain : (asks : Asks) (sent : List Mail) → SendsAsked asks sent → ArePlain sent
     sends_plain asks sent (inl none) = subst ArePlain (sym none) tt
     sends_plain asks sent (inr (g, target, request, ask, is)) = subst ArePlain (sym is) (tt, tt)
 
@@ -296,7 +295,7 @@ module _ (ahead : Ahead) (words : ℕ → ℕ → ℕ × ℕ) (scenario : Scenar
         (ap (λ ms. list_any (λ (mail : Mail). asks_for asks.client request.0 mail.body) ms) is
         ∙ or_left (eqb asks.client asks.client && eqb request.0 request.0) false (and_from (eqb asks.client asks.client) (eqb request.0 request.0) (eq-eqb asks.client asks.client refl) (eq-eqb request.0 request.0 refl)))
 
-    sends_true : (asks : Asks) → Among asks scenario.clients → (event : Event OrderLine) (sent : List Mail) → (sent ≡ []) ⊎ ((g : Draw) × (target : ℕ) × (request : ℕ × Op) × IsAsk asks request × (sent ≡ request_of asks.client g target request ∷ []))
+    sends_true : (asks : Asks) → Among asks scenario.clients → (event : Event OrderLine) (sent : List Mail) → SendsAsked asks sent
         → (b : Base) (m : Mail) → Among m sent → IsTrue ahead b (made_by (rows ++ node_row (client_actor asks.client) event sent ∷ []) b) (heard_by (rows ++ node_row (client_actor asks.client) event sent ∷ [])) (h b) m m.body
     sends_true asks stands event sent (inl none) b m a = absurd (subst (Among m) none a)
     sends_true asks stands event sent (inr (g, target, request, ask, is)) b m a =
@@ -307,7 +306,7 @@ module _ (ahead : Ahead) (words : ℕ → ℕ → ℕ × ℕ) (scenario : Scenar
           | inr n ↦ absurd n
         ]
 
-    sends_named : (later_rows : Journal) (asks : Asks) (sent : List Mail) → (sent ≡ []) ⊎ ((g : Draw) × (target : ℕ) × (request : ℕ × Op) × IsAsk asks request × (sent ≡ request_of asks.client g target request ∷ [])) → (m : Mail) → Among m sent → IsNamedIn (heard_by later_rows) bases m.body
+    sends_named : (later_rows : Journal) (asks : Asks) (sent : List Mail) → SendsAsked asks sent → (m : Mail) → Among m sent → IsNamedIn (heard_by later_rows) bases m.body
     sends_named later_rows asks sent (inl none) m a = absurd (subst (Among m) none a)
     sends_named later_rows asks sent (inr (g, target, request, ask, is)) m a = elim (subst (Among m) is a) [ inl e ↦ subst (λ (x : Mail). IsNamedIn (heard_by later_rows) bases x.body) e tt | inr n ↦ absurd n ]
 
@@ -323,7 +322,7 @@ module _ (ahead : Ahead) (words : ℕ → ℕ → ℕ × ℕ) (scenario : Scenar
         acts : acted player_table (AClient at.client) (input_of (mails rows) event) ≡ (AClient after, sent)
         is : IsClient ahead bases h asks after
         grew : Grew ahead bases h asks at.client.replies after.replies
-        sends : (sent ≡ []) ⊎ ((g : Draw) × (target : ℕ) × (request : ℕ × Op) × IsAsk asks request × (sent ≡ request_of asks.client g target request ∷ []))
+        sends : SendsAsked asks sent
         fresh : is_go event ≡ false → (at.client.replies ≡ []) × (at.client.waiting ≡ None) → (after.replies ≡ []) × (after.waiting ≡ None)
 
       client_moved : (event : Event OrderLine) (after : Client) (sent : List Mail) → IsTurned event after sent → M rows (row_of player_table (cseat asks) rows event)

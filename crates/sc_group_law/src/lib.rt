@@ -1,7 +1,7 @@
-//! What every lawful journal says of each of its groups: its steps are a lawful history of Paxos, its
-//! replicas have executed fronts of its log, and what they and the clients hold and send is true of
-//! it. The laws are lemmas, which the law of all groups together takes; what is called here are
-//! journals that show that there are such. Definitions and laws, no logic.
+//! What every lawful journal says of each of its groups: its steps are a lawful history of Paxos,
+//! its replicas have executed fronts of its log, and what they and the clients hold and send is
+//! true of it. The laws are lemmas, which the law of all groups together takes; what is called here
+//! are journals that show that there are such. Definitions and laws, no logic.
 #![tactic(auto)]
 
 ghost use Rattle.std.specs.Prelude.{◌≡◌, [], ◌∷◌, Some};

@@ -25,12 +25,13 @@ use Rattle.sc_entries.specs.Worlds.{StoreWorld, named_group, with_result}
 use Rattle.sc_hist_law.specs.Moves.{GivenFrom, JoinedTo, RequestOf, TakenUpTo, Unmoved, both_holdings, holding_of, part_before, part_from, with_next, with_previous}
 use Rattle.sc_hist_law.specs.Telling.{IsItsOwn, IsParty}
 use Rattle.sc_hist_law.specs.Worlds.{HasKnownTable, holdings_in}
-use Rattle.sc_hist_law.proofs.Disjoint.{first_here, neither_here, one_or_not, second_here}
+use Rattle.sc_hist_law.proofs.Disjoint.{first_here, neither_here, second_here}
 use Rattle.sc_hist_law.proofs.Elsewhere.{elsewhere, held_by, held_none, held_some, here, own_group, tables_from, there}
 use Rattle.sc_hist_law.proofs.Parties.{next_after, next_before, others_after, own_before}
 use Rattle.sc_hist_law.proofs.Recuts.{arc_of, gone_cut, has_arc, has_recut, is_none_of, taken_out}
 use Rattle.sc_hist_law.proofs.Shares.{both_are}
 use Rattle.sc_hist_law.proofs.Staying.{Goes}
+use Rattle.sc_entries.proofs.Names.{draw_cases}
 
 has_some : (name : Draw) (ring : List Cut) (arc : Arc) → arc_in name ring ≡ Some arc → has_arc name ring ≡ true
 has_some name ring arc e = ap is_some e
@@ -62,12 +63,12 @@ module _ (request : RequestOf) (world : StoreWorld) (name : Draw) (group : Group
   theirs_before = next_before world group tx frozen own party coordinates own_is
 
   -- the coordinator is free afterwards
-  mine_after : has_arc mine after.ring ≡ true → holdings_in after mine ≡ Some (holding_of planned)
-  mine_after has = held_some after mine result.0 (arc_of mine after.ring has) (here world name group found c result id_is unborn mine refl)
+  mine_after : has_arc mine after.ring ≡ has_arc mine world.ring → holdings_in after mine ≡ Some (holding_of planned)
+  mine_after has = held_some after mine result.0 (arc_of mine after.ring (has ∙ has_some mine world.ring party.own_cut.0 party.own_cut.1)) (here world name group found c result id_is unborn mine refl)
 
-  theirs_after : has_arc theirs after.ring ≡ true → holdings_in after theirs ≡ Some (holding_of (after_outcome (Some outcome) tx party.next))
+  theirs_after : has_arc theirs after.ring ≡ has_arc theirs world.ring → holdings_in after theirs ≡ Some (holding_of (after_outcome (Some outcome) tx party.next))
   theirs_after has =
-      held_some after theirs party.next (arc_of theirs after.ring has) (there world name group found c result id_is unborn theirs (λ e. party.apart (sym e)) ∙ party.found)
+      held_some after theirs party.next (arc_of theirs after.ring (has ∙ has_some theirs world.ring party.next_cut.0 party.next_cut.1)) (there world name group found c result id_is unborn theirs (λ e. party.apart (sym e)) ∙ party.found)
       ∙ ap Some (ap (λ ts. held_by ts party.next) transactions_are ∙ next_after world group tx frozen own party coordinates own_is outcome)
 
   others : (other : Draw) → (other ≡ mine → ⊥) → (other ≡ theirs → ⊥) → has_arc other after.ring ≡ has_arc other world.ring → holdings_in after other ≡ holdings_in world other
@@ -79,12 +80,6 @@ module _ (request : RequestOf) (world : StoreWorld) (name : Draw) (group : Group
 
   both_cuts : both_arcs (arc_in mine world.ring) (arc_in theirs world.ring) ≡ Some (joined party.own_cut.0 party.next_cut.0)
   both_cuts = ap (λ o. both_arcs o (arc_in theirs world.ring)) party.own_cut.1 ∙ ap (both_arcs (Some party.own_cut.0)) party.next_cut.1
-
-  mine_cut : has_arc mine world.ring ≡ true
-  mine_cut = has_some mine world.ring party.own_cut.0 party.own_cut.1
-
-  theirs_cut : has_arc theirs world.ring ≡ true
-  theirs_cut = has_some theirs world.ring party.next_cut.0 party.next_cut.1
 
   -- ---- a merge
 
@@ -101,9 +96,6 @@ module _ (request : RequestOf) (world : StoreWorld) (name : Draw) (group : Group
     theirs_gone : arc_in theirs after.ring ≡ None
     theirs_gone = is_none_of (arc_in theirs after.ring) (ap (has_arc theirs) merged_ring ∙ has_recut theirs mine (joined party.own_cut.0 party.next_cut.0) others_ring ∙ ap is_some (gone_cut theirs world.ring))
 
-    now : holdings_in after mine ≡ Some (holding_of planned)
-    now = mine_after (merged_has mine party.apart ∙ mine_cut)
-
     together : both_holdings with_next (holdings_in world mine) (holdings_in world theirs) ≡ Some (with_next (holding_of group) (holding_of party.next))
     together = both_are with_next (holdings_in world mine) (holdings_in world theirs) (holding_of group) (holding_of party.next) mine_before theirs_before
 
@@ -111,15 +103,15 @@ module _ (request : RequestOf) (world : StoreWorld) (name : Draw) (group : Group
     merge_goes = record {
       move = JoinedTo mine theirs;
       may = record { holding = holding_of group; is = mine_before; other = holding_of party.next; next_is = theirs_before; apart = party.apart; fits = party.meet };
-      holds = λ other. elim (one_or_not other theirs) [
+      holds = λ other. elim (draw_cases other theirs) [
         | inl e ↦ ap (holdings_in after) e ∙ held_none after theirs theirs_gone ∙ sym (second_here mine theirs (both_holdings with_next (holdings_in world mine) (holdings_in world theirs)) (None) (holdings_in world) other e)
-        | inr not ↦ elim (one_or_not other mine) [
-          | inl e ↦ ap (holdings_in after) e ∙ now ∙ ap Some holds_both ∙ sym together ∙ sym (first_here mine theirs (both_holdings with_next (holdings_in world mine) (holdings_in world theirs)) (None) (holdings_in world) other not e)
+        | inr not ↦ elim (draw_cases other mine) [
+          | inl e ↦ ap (holdings_in after) e ∙ mine_after (merged_has mine party.apart) ∙ ap Some holds_both ∙ sym together ∙ sym (first_here mine theirs (both_holdings with_next (holdings_in world mine) (holdings_in world theirs)) (None) (holdings_in world) other not e)
           | inr ne ↦ others other ne not (merged_has other not) ∙ sym (neither_here mine theirs (both_holdings with_next (holdings_in world mine) (holdings_in world theirs)) (None) (holdings_in world) other not ne)
         ]
       ];
       adds = ap (λ es. world.history ++ es) no_entry;
-      tables = tables (inr (inr (holding_of planned, now, refl)));
+      tables = tables (inr (inr (holding_of planned, mine_after (merged_has mine party.apart), refl)));
     }
 
   -- ---- a boundary that moves
@@ -134,11 +126,8 @@ module _ (request : RequestOf) (world : StoreWorld) (name : Draw) (group : Group
         ∙ has_recut other mine (before (joined party.own_cut.0 party.next_cut.0) at) (recut theirs (from (joined party.own_cut.0 party.next_cut.0) at) world.ring)
         ∙ has_recut other theirs (from (joined party.own_cut.0 party.next_cut.0) at) world.ring
 
-    moved_mine : holdings_in after mine ≡ Some (holding_of planned)
-    moved_mine = mine_after (moved_has mine ∙ mine_cut)
-
     moved_theirs : holdings_in after theirs ≡ Some (holding_of (after_outcome (Some outcome) tx party.next))
-    moved_theirs = theirs_after (moved_has theirs ∙ theirs_cut)
+    moved_theirs = theirs_after (moved_has theirs)
 
     pub give_goes : holding_of planned ≡ part_before at (holding_of group) → holding_of (after_outcome (Some outcome) tx party.next) ≡ with_previous (holding_of party.next) (part_from at (holding_of group))
         → at < 2 ^ 32 → CanCut group.core.arc at → CanJoin (from group.core.arc at) party.next.core.arc → Goes request world name group found c (decided planned tx outcome)
@@ -147,17 +136,17 @@ module _ (request : RequestOf) (world : StoreWorld) (name : Draw) (group : Group
         record {
           move = GivenFrom mine at theirs;
           may = record { holding = holding_of group; is = mine_before; other = holding_of party.next; next_is = theirs_before; apart = party.apart; fits = (fits, cut, meet) };
-          holds = λ other. elim (one_or_not other theirs) [
+          holds = λ other. elim (draw_cases other theirs) [
             | inl e ↦ ap (holdings_in after) e ∙ moved_theirs ∙ ap Some gains
                 ∙ sym (both_are with_previous (holdings_in world theirs) (option_map (part_from at) (holdings_in world mine)) (holding_of party.next) (part_from at (holding_of group)) theirs_before rest)
                 ∙ sym (second_here mine theirs (option_map (part_before at) (holdings_in world mine)) (both_holdings with_previous (holdings_in world theirs) (option_map (part_from at) (holdings_in world mine))) (holdings_in world) other e)
-            | inr not ↦ elim (one_or_not other mine) [
-              | inl e ↦ ap (holdings_in after) e ∙ moved_mine ∙ ap Some keeps ∙ sym (ap (option_map (part_before at)) mine_before) ∙ sym (first_here mine theirs (option_map (part_before at) (holdings_in world mine)) (both_holdings with_previous (holdings_in world theirs) (option_map (part_from at) (holdings_in world mine))) (holdings_in world) other not e)
+            | inr not ↦ elim (draw_cases other mine) [
+              | inl e ↦ ap (holdings_in after) e ∙ mine_after (moved_has mine) ∙ ap Some keeps ∙ sym (ap (option_map (part_before at)) mine_before) ∙ sym (first_here mine theirs (option_map (part_before at) (holdings_in world mine)) (both_holdings with_previous (holdings_in world theirs) (option_map (part_from at) (holdings_in world mine))) (holdings_in world) other not e)
               | inr ne ↦ others other ne not (moved_has other) ∙ sym (neither_here mine theirs (option_map (part_before at) (holdings_in world mine)) (both_holdings with_previous (holdings_in world theirs) (option_map (part_from at) (holdings_in world mine))) (holdings_in world) other not ne)
             ]
           ];
           adds = ap (λ es. world.history ++ es) no_entry;
-          tables = tables (inr (inr (holding_of planned, moved_mine, refl)));
+          tables = tables (inr (inr (holding_of planned, mine_after (moved_has mine), refl)));
         }
 
     pub take_goes : holding_of planned ≡ with_next (holding_of group) (part_before at (holding_of party.next)) → holding_of (after_outcome (Some outcome) tx party.next) ≡ part_from at (holding_of party.next)
@@ -167,17 +156,17 @@ module _ (request : RequestOf) (world : StoreWorld) (name : Draw) (group : Group
         record {
           move = TakenUpTo mine at theirs;
           may = record { holding = holding_of group; is = mine_before; other = holding_of party.next; next_is = theirs_before; apart = party.apart; fits = (fits, cut, meet) };
-          holds = λ other. elim (one_or_not other theirs) [
+          holds = λ other. elim (draw_cases other theirs) [
             | inl e ↦ ap (holdings_in after) e ∙ moved_theirs ∙ ap Some keeps ∙ sym (ap (option_map (part_from at)) theirs_before) ∙ sym (second_here mine theirs (both_holdings with_next (holdings_in world mine) (option_map (part_before at) (holdings_in world theirs))) (option_map (part_from at) (holdings_in world theirs)) (holdings_in world) other e)
-            | inr not ↦ elim (one_or_not other mine) [
-              | inl e ↦ ap (holdings_in after) e ∙ moved_mine ∙ ap Some gains
+            | inr not ↦ elim (draw_cases other mine) [
+              | inl e ↦ ap (holdings_in after) e ∙ mine_after (moved_has mine) ∙ ap Some gains
                   ∙ sym (both_are with_next (holdings_in world mine) (option_map (part_before at) (holdings_in world theirs)) (holding_of group) (part_before at (holding_of party.next)) mine_before part)
                   ∙ sym (first_here mine theirs (both_holdings with_next (holdings_in world mine) (option_map (part_before at) (holdings_in world theirs))) (option_map (part_from at) (holdings_in world theirs)) (holdings_in world) other not e)
               | inr ne ↦ others other ne not (moved_has other) ∙ sym (neither_here mine theirs (both_holdings with_next (holdings_in world mine) (option_map (part_before at) (holdings_in world theirs))) (option_map (part_from at) (holdings_in world theirs)) (holdings_in world) other not ne)
             ]
           ];
           adds = ap (λ es. world.history ++ es) no_entry;
-          tables = tables (inr (inr (holding_of planned, moved_mine, refl)));
+          tables = tables (inr (inr (holding_of planned, mine_after (moved_has mine), refl)));
         }
 
   -- ---- a member that moves on
@@ -185,13 +174,13 @@ module _ (request : RequestOf) (world : StoreWorld) (name : Draw) (group : Group
   pub migrate_goes : (node : ℕ) → outcome ≡ Migrated node → holding_of planned ≡ holding_of group → holding_of (after_outcome (Some outcome) tx party.next) ≡ holding_of party.next → Goes request world name group found c (decided planned tx outcome)
   migrate_goes node is keeps stays =
       let ring : after.ring ≡ world.ring = ring_are ∙ ap (λ o. ring_decided (Some o) mine theirs world.ring) is in
-      let now : holdings_in after mine ≡ Some (holding_of planned) = mine_after (ap (has_arc mine) ring ∙ mine_cut) in
+      let now : holdings_in after mine ≡ Some (holding_of planned) = mine_after (ap (has_arc mine) ring) in
       record {
         move = Unmoved;
         may = tt;
-        holds = λ other. elim (one_or_not other theirs) [
-          | inl e ↦ ap (holdings_in after) e ∙ theirs_after (ap (has_arc theirs) ring ∙ theirs_cut) ∙ ap Some stays ∙ sym theirs_before ∙ sym (ap (holdings_in world) e)
-          | inr not ↦ elim (one_or_not other mine) [
+        holds = λ other. elim (draw_cases other theirs) [
+          | inl e ↦ ap (holdings_in after) e ∙ theirs_after (ap (has_arc theirs) ring) ∙ ap Some stays ∙ sym theirs_before ∙ sym (ap (holdings_in world) e)
+          | inr not ↦ elim (draw_cases other mine) [
             | inl e ↦ ap (holdings_in after) e ∙ now ∙ ap Some keeps ∙ sym mine_before ∙ sym (ap (holdings_in world) e)
             | inr ne ↦ others other ne not (ap (has_arc other) ring)
           ]

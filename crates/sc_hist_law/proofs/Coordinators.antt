@@ -68,9 +68,6 @@ module _ (request : RequestOf) (world : StoreWorld) (name : Draw) (group : Group
   quiet : Hears (group, Was.NoEffect tx)
   quiet = idles request world name group found (RecordVote tx vote by) (Was.NoEffect tx) refl refl refl refl
 
-  own_is : named_group group.core.id world.groups ≡ Some group
-  own_is = own_group world name group found (RecordVote tx vote by) (group, Was.NoEffect tx) refl refl
-
   module _ (is : is_coordinating group.core.lock tx ≡ true) where
     coordinates : held_by world.transactions group ≡ holding_of group
     coordinates = coordinator_held world.transactions group tx group.core.lock refl is
@@ -89,12 +86,6 @@ module _ (request : RequestOf) (world : StoreWorld) (name : Draw) (group : Group
       abbrev next : Group
       next = party.next
 
-      mine : holdings_in world group.core.id ≡ Some (holding_of group)
-      mine = own_before world group tx frozen own party coordinates own_is
-
-      theirs : holdings_in world group.core.succ.group ≡ Some (holding_of next)
-      theirs = next_before world group tx frozen own party coordinates own_is
-
       merges : (order : ℕ) → Hears (granted At.Merge group tx order frozen by)
       merges order =
           cond_both (same_draw frozen.succ.group group.core.id) _ _ Hears
@@ -111,6 +102,9 @@ module _ (request : RequestOf) (world : StoreWorld) (name : Draw) (group : Group
           (λ can. (
           let tested : can_cut group.core.arc at ≡ true = sym (cond-true (holds group.core.arc at) (can_cut group.core.arc at) (can_cut frozen.arc at && can_join group.core.arc (before frozen.arc at)) within) ∙ can in
           let cut = cut_is group.core.arc at tested in
+          let own_is = own_group world name group found (RecordVote tx vote by) (group, Was.NoEffect tx) refl refl in
+          let mine = own_before world group tx frozen own party coordinates own_is in
+          let theirs = next_before world group tx frozen own party coordinates own_is in
           let arc = told.disjoint.arcs group.core.id (holding_of group) mine in
           let meet = rest_meets group.core.arc next.core.arc at arc.0 arc.1 fits cut party.meet in
           let whole = contents_after empty world.history in

@@ -1,5 +1,5 @@
 -- Two groups' holdings that are replaced: what is shared out between the two touches no other group.
-use Rattle.std.proofs.Common.{◌≡◌, ℕ, true, false, List, Option, Some, ◌⊎◌, inl, inr, sym, ◌∙◌}
+use Rattle.std.proofs.Common.{◌≡◌, ℕ, true, List, Option, Some, ◌⊎◌, inl, inr, sym, ◌∙◌}
 use Rattle.std.proofs.lemmas.Bool.{cases_Bool, cond-true, cond-false}
 use Rattle.sc_base.specs.Arc.{holds}
 use Rattle.sc_base.specs.Same.{same_draw}
@@ -8,13 +8,7 @@ use Rattle.sc_base.proofs.NameLemmas.{draw_is, same_name}
 use Rattle.sc_ideal.specs.declared.Entry.{Entry}
 use Rattle.sc_hist_law.specs.Moves.{Holding, Holdings, with_holding, AreDisjoint, IsToldOf}
 use Rattle.sc_hist_law.proofs.Holdings.{IsOnRing}
-
--- two names are one, or not
-pub one_or_not : (a b : Draw) → (a ≡ b) ⊎ (a ≡ b → ⊥)
-one_or_not a b = elim (cases_Bool (same_draw a b)) [
-  | inl t ↦ inl (draw_is a b t)
-  | inr f ↦ inr (λ e. (let t = same_name a b e in let no_way : true ≡ false = sym t ∙ f in absurd (cc)))
-]
+use Rattle.sc_entries.proofs.Names.{draw_cases}
 
 pub holding_here : (group : Draw) (holding : Option Holding) (holdings : Holdings) (other : Draw) → other ≡ group → with_holding group holding holdings other ≡ holding
 holding_here group holding holdings other e = cond-true (same_draw other group) holding (holdings other) (same_name other group e)
@@ -74,11 +68,11 @@ module _ (history : List Entry) (holdings : Holdings) (group other : Draw) (mine
     Third : (name ≡ group → ⊥) → (name ≡ other → ⊥) → shared name ≡ holdings name → Place name
 
   place : (name : Draw) → Place name
-  place name = elim (one_or_not name other) [
+  place name = elim (draw_cases name other) [
     | inl e ↦ Second e (holding_here other theirs (with_holding group mine holdings) name e)
     | inr ne ↦ (
         let past = holding_there other theirs (with_holding group mine holdings) name ne in
-        elim (one_or_not name group) [
+        elim (draw_cases name group) [
           | inl e ↦ First e (past ∙ holding_here group mine holdings name e)
           | inr not ↦ Third not ne (past ∙ holding_there group mine holdings name not)
         ])

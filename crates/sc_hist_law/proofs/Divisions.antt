@@ -20,20 +20,18 @@ use Rattle.sc_entries.specs.Worlds.{StoreWorld, groups_after, is_named, named_gr
 use Rattle.sc_hist_law.specs.Moves.{DividedAt, Holding, RequestOf, holding_of, part_before, part_from}
 use Rattle.sc_hist_law.specs.Telling.{IsNewChild}
 use Rattle.sc_hist_law.specs.Worlds.{HasKnownTable, holdings_in}
-use Rattle.sc_hist_law.proofs.Disjoint.{first_here, neither_here, one_or_not, second_here}
+use Rattle.sc_hist_law.proofs.Disjoint.{first_here, neither_here, second_here}
 use Rattle.sc_hist_law.proofs.Elsewhere.{held_by, held_none, held_some, same_at, same_found}
-use Rattle.sc_entries.proofs.Names.{found_name, some_is}
+use Rattle.sc_entries.proofs.Names.{found_name, some_is, draw_cases}
 use Rattle.sc_hist_law.proofs.Found.{found_now, found_still}
 use Rattle.sc_hist_law.proofs.PlanHoldings.{plans_move}
 use Rattle.sc_hist_law.proofs.Recuts.{arc_of, child_has, has_arc, has_divided}
 use Rattle.sc_hist_law.proofs.Staying.{Goes}
-
-none_group : (group : Group) → None ≡ Some group → ⊥
-none_group group e = cc
+use Rattle.std.proofs.lemmas.Option.{none-some}
 
 -- what is found first stays first
 pub found_left : (name : Draw) (groups more : List Group) (group : Group) → named_group name groups ≡ Some group → named_group name (groups ++ more) ≡ Some group
-found_left name [] more group e = absurd (none_group group e)
+found_left name [] more group e = absurd (none-some group e)
 found_left name (g ∷ groups) more group e =
     elim (cases_Bool (is_named name g)) [
       | inl t ↦ cond-true (is_named name g) (Some g) (named_group name (groups ++ more)) t ∙ sym (cond-true (is_named name g) (Some g) (named_group name groups) t) ∙ e
@@ -45,7 +43,7 @@ found_right : (name : Draw) (groups more : List Group) → named_group name grou
 found_right name [] more e = refl
 found_right name (g ∷ groups) more e =
     elim (cases_Bool (is_named name g)) [
-      | inl t ↦ absurd (none_group g (sym e ∙ cond-true (is_named name g) (Some g) (named_group name groups) t))
+      | inl t ↦ absurd (none-some g (sym e ∙ cond-true (is_named name g) (Some g) (named_group name groups) t))
       | inr f ↦ cond-false (is_named name g) (Some g) (named_group name (groups ++ more)) f ∙ found_right name groups more (sym (cond-false (is_named name g) (Some g) (named_group name groups) f) ∙ e)
     ]
 
@@ -72,7 +70,7 @@ module _ (request : RequestOf) (world : StoreWorld) (name : Draw) (group : Group
 
   -- the child has another name
   apart : mine ≡ child → ⊥
-  apart e = none_group group (sym fresh.unborn ∙ ap (λ n. named_group n world.groups) (sym e) ∙ own_is)
+  apart e = none-some group (sym fresh.unborn ∙ ap (λ n. named_group n world.groups) (sym e) ∙ own_is)
 
   groups_are : after.groups ≡ kept ++ newborn ∷ []
   groups_are = ap (λ o. groups_after group result.0 o world.groups) born
@@ -122,11 +120,11 @@ module _ (request : RequestOf) (world : StoreWorld) (name : Draw) (group : Group
     elsewhere other ne not = same_at world after other (has other not) (same_found after.transactions world.transactions _ _ (there other ne not) (λ g is. same other g is))
 
     tables : (other : Draw) (g : Group) → named_group other after.groups ≡ Some g → HasKnownTable world after other g
-    tables other g is = elim (one_or_not other child) [
+    tables other g is = elim (draw_cases other child) [
       | inl e ↦ (
           let it : newborn ≡ g = some_is newborn g (sym child_there ∙ ap (λ n. named_group n after.groups) (sym e) ∙ is) in
           inr (inr (part_from at (holding_of group), ap (holdings_in after) e ∙ child_after, ap (λ (h : Holding). h.clients) (sym (plans_move.divides group at child).rest) ∙ ap (λ (x : Group). x.clients) it)))
-      | inr not ↦ elim (one_or_not other mine) [
+      | inr not ↦ elim (draw_cases other mine) [
         | inl e ↦ (
             let it : result.0 ≡ g = some_is result.0 g (sym here ∙ ap (λ n. named_group n after.groups) (sym e) ∙ is) in
             inr (inl (group, ap (λ n. named_group n world.groups) e ∙ own_is, sym table ∙ ap (λ (x : Group). x.clients) it)))
@@ -139,9 +137,9 @@ module _ (request : RequestOf) (world : StoreWorld) (name : Draw) (group : Group
     division_goes = record {
       move = DividedAt mine at child;
       may = record { holding = holding_of group; is = mine_before; fits = fits; cut = cut; free = held_none world child fresh.uncut };
-      holds = λ other. elim (one_or_not other child) [
+      holds = λ other. elim (draw_cases other child) [
         | inl e ↦ ap (holdings_in after) e ∙ child_after ∙ sym (ap (option_map (part_from at)) mine_before) ∙ sym (second_here mine child (option_map (part_before at) (holdings_in world mine)) (option_map (part_from at) (holdings_in world mine)) (holdings_in world) other e)
-        | inr not ↦ elim (one_or_not other mine) [
+        | inr not ↦ elim (draw_cases other mine) [
           | inl e ↦ ap (holdings_in after) e ∙ mine_after ∙ sym (ap (option_map (part_before at)) mine_before) ∙ sym (first_here mine child (option_map (part_before at) (holdings_in world mine)) (option_map (part_from at) (holdings_in world mine)) (holdings_in world) other not e)
           | inr ne ↦ elsewhere other ne not ∙ sym (neither_here mine child (option_map (part_before at) (holdings_in world mine)) (option_map (part_from at) (holdings_in world mine)) (holdings_in world) other not ne)
         ]

@@ -14,8 +14,7 @@ use Rattle.sc_entries.specs.Rings.{arc_in}
 use Rattle.sc_entries.specs.Worlds.{StoreWorld, groups_after, named_group, with_group, with_result}
 use Rattle.sc_hist_law.specs.Moves.{Holding, holding_of}
 use Rattle.sc_hist_law.specs.Worlds.{HasKnownTable, holdings_in}
-use Rattle.sc_hist_law.proofs.Disjoint.{one_or_not}
-use Rattle.sc_entries.proofs.Names.{found_name, some_is}
+use Rattle.sc_entries.proofs.Names.{found_name, some_is, draw_cases}
 use Rattle.sc_hist_law.proofs.Found.{found_now, found_still}
 
 -- what a group holds by the decisions of these transactions
@@ -98,7 +97,7 @@ module _ (world : StoreWorld) (name : Draw) (group : Group) (found : named_group
 
   -- the tables of logs: only its own may be another
   pub tables_from : HasKnownTable world after group.core.id result.0 → (other : Draw) (g : Group) → named_group other after.groups ≡ Some g → HasKnownTable world after other g
-  tables_from own other g is = elim (one_or_not other group.core.id) [
+  tables_from own other g is = elim (draw_cases other group.core.id) [
     | inl e ↦ subst (λ n. HasKnownTable world after n g) (sym e) (subst (HasKnownTable world after group.core.id) (some_is result.0 g (sym (here other e) ∙ is)) own)
     | inr ne ↦ inr (inl (g, sym (there other ne) ∙ is, refl))
   ]

@@ -118,24 +118,21 @@ module _ (world : StoreWorld) (group : Group) (tx : Draw) (outcome : Outcome) (d
       by_outcome true t = ap (λ b. holding_of (cond b after group)) t
       by_outcome false f = ap (λ b. holding_of (cond b after group)) f ∙ sym (ap holding_of is ∙ ended.abort f)
 
+  -- an end that a test lets happen
+  tested : (lock : Lock) → group.core.lock ≡ lock → (b : Bool) (ended : Group × Effect) → (finished lock group tx outcome).0 ≡ (cond b ended (group, NoEffect tx)).0
+      → (b ≡ true → after ≡ ended.0 → held_by world.transactions after ≡ held_by world.transactions group) → held_by world.transactions after ≡ held_by world.transactions group
+  tested lock e true ended is ends = ends refl (ap (λ l. (finished l group tx outcome).0) e ∙ is)
+  tested lock e false ended is ends = unchanged lock e is
+
   by_lock : (lock : Lock) → group.core.lock ≡ lock → held_by world.transactions after ≡ held_by world.transactions group
   by_lock Free e = unchanged Free e refl
   by_lock (Coordinating locked body order heard) e = unchanged (Coordinating locked body order heard) e refl
-  by_lock (Promised locked offer) e = by_test (same_draw locked tx) refl
-    where
-      by_test : (b : Bool) → same_draw locked tx ≡ b → held_by world.transactions after ≡ held_by world.transactions group
-      by_test true t =
-          promised offer (e ∙ ap (λ x. Promised x offer) (draw_is locked tx t))
-          (ap (λ l. (finished l group tx outcome).0) e ∙ ap (λ b. (cond b (settled_in (participant_after outcome group offer) group tx outcome) (group, NoEffect tx)).0) t)
-          (settled_end outcome group tx offer)
-      by_test false f = unchanged (Promised locked offer) e (ap (λ b. (cond b (settled_in (participant_after outcome group offer) group tx outcome) (group, NoEffect tx)).0) f)
-  by_lock (Watching locked watch) e = by_test (same_draw locked tx) refl
-    where
-      by_test : (b : Bool) → same_draw locked tx ≡ b → held_by world.transactions after ≡ held_by world.transactions group
-      by_test true t =
-          let is : after ≡ (watch_ended outcome group tx watch).0 = ap (λ l. (finished l group tx outcome).0) e ∙ ap (λ b. (cond b (watch_ended outcome group tx watch) (group, NoEffect tx)).0) t in
-          free_held world.transactions after (ap (λ (g : Group). g.core.lock) is) ∙ ap holding_of is ∙ sym (watching_held world.transactions group locked watch e)
-      by_test false f = unchanged (Watching locked watch) e (ap (λ b. (cond b (watch_ended outcome group tx watch) (group, NoEffect tx)).0) f)
+  by_lock (Promised locked offer) e =
+      tested (Promised locked offer) e (same_draw locked tx) (settled_in (participant_after outcome group offer) group tx outcome) refl
+      (λ t is. promised offer (e ∙ ap (λ x. Promised x offer) (draw_is locked tx t)) is (settled_end outcome group tx offer))
+  by_lock (Watching locked watch) e =
+      tested (Watching locked watch) e (same_draw locked tx) (watch_ended outcome group tx watch) refl
+      (λ t is. free_held world.transactions after (ap (λ (g : Group). g.core.lock) is) ∙ ap holding_of is ∙ sym (watching_held world.transactions group locked watch e))
 
   -- what a party holds stays
   pub end_held : held_by world.transactions after ≡ held_by world.transactions group

@@ -78,9 +78,6 @@ abbrev newborn : Group
 newborn = group_of (child_of served 1610612736 offspring)
 
 -- the calls are new ones
-put_is_new : applied start (Call 1 1 put_a) ≡ done start 1 1 put_a
-put_is_new = ap (λ (o : Option Noted). served_by_note o start 1 1 put_a) (get-empty nat_cmp 1)
-
 nothing_noted : get newborn.clients 2 ≡ None
 nothing_noted = ap (λ t. get t 2) (clients_again served.clients) ∙ get-insert nat_cmp_total start.clients 1 _ 2 ∙ get-empty nat_cmp 2
 
@@ -88,7 +85,7 @@ get_is_new : applied newborn (Call 2 1 get_a) ≡ done newborn 2 1 get_a
 get_is_new = ap (λ (o : Option Noted). served_by_note o newborn 2 1 get_a) nothing_noted
 
 second_is : told first put_entry ≡ second
-second_is = ap (λ (result : Group × Effect). with_result first start (Call 1 1 put_a) result) put_is_new
+second_is = ap (λ (result : Group × Effect). with_result first start (Call 1 1 put_a) result) (ap (λ (o : Option Noted). served_by_note o start 1 1 put_a) (get-empty nat_cmp 1))
 
 -- ---- each entry may be told
 

@@ -15,20 +15,19 @@ use Rattle.sc_entries.specs.declared.LogEntry.{LogEntry}
 use Rattle.sc_entries.specs.Worlds.{StoreWorld, after_command, first_world, named_group, told, with_group, world_of}
 use Rattle.sc_entries.proofs.Pushes.{world_append}
 use Rattle.sc_hist_law.specs.Fronts.{FrontsAnswerByHistory, LogsMakeStates, log_in}
-use Rattle.sc_hist_law.proofs.Disjoint.{one_or_not}
 use Rattle.sc_hist_law.proofs.Divisions.{found_left}
-use Rattle.sc_entries.proofs.Names.{found_name, other_name}
+use Rattle.sc_entries.proofs.Names.{found_name, other_name, draw_cases}
 use Rattle.sc_hist_law.proofs.Found.{found_now, found_still}
 use Rattle.sc_hist_law.proofs.Logs.{applied_same}
 
 -- ---- one entry
 
 -- the log with an entry of the group, and with another's
-own_first : (name : Draw) (entry : LogEntry) (entries : List LogEntry) → entry.group ≡ name → log_in name (entry ∷ entries) ≡ entry.command ∷ log_in name entries
+pub own_first : (name : Draw) (entry : LogEntry) (entries : List LogEntry) → entry.group ≡ name → log_in name (entry ∷ entries) ≡ entry.command ∷ log_in name entries
 own_first name entry entries e =
     ap (map (λ (x : LogEntry). x.command)) (cond-true (same_draw entry.group name) (entry ∷ filter (λ (x : LogEntry). same_draw x.group name) entries) (filter (λ (x : LogEntry). same_draw x.group name) entries) (same_name entry.group name e))
 
-other_first : (name : Draw) (entry : LogEntry) (entries : List LogEntry) → (entry.group ≡ name → ⊥) → log_in name (entry ∷ entries) ≡ log_in name entries
+pub other_first : (name : Draw) (entry : LogEntry) (entries : List LogEntry) → (entry.group ≡ name → ⊥) → log_in name (entry ∷ entries) ≡ log_in name entries
 other_first name entry entries ne =
     ap (map (λ (x : LogEntry). x.command)) (cond-false (same_draw entry.group name) (entry ∷ filter (λ (x : LogEntry). same_draw x.group name) entries) (filter (λ (x : LogEntry). same_draw x.group name) entries) (other_name entry.group name ne))
 
@@ -54,7 +53,7 @@ other_told world name group found other ne (Some it) e c =
 
 pub logs_make_states : LogsMakeStates
 logs_make_states world name group found [] = found
-logs_make_states world name group found (entry ∷ entries) = elim (one_or_not entry.group name) [
+logs_make_states world name group found (entry ∷ entries) = elim (draw_cases entry.group name) [
   | inl e ↦ (
       let now : named_group name (told world entry).groups ≡ Some (applied group entry.command).0 =
       ap (λ o. named_group name (after_command world o entry.command).groups) (ap (λ n. named_group n world.groups) e ∙ found) ∙ own_told world name group found entry.command in
@@ -65,19 +64,19 @@ logs_make_states world name group found (entry ∷ entries) = elim (one_or_not e
 ]
 
 -- entries in two parts, the first of which has this log of the group
-record PartsAt (name : Draw) (entries : List LogEntry) (front : List Command) : Type 0 where
-  first : List LogEntry
-  rest : List LogEntry
-  are : entries ≡ first ++ rest
-  log : log_in name first ≡ front
+pub record PartsAt (name : Draw) (entries : List LogEntry) (front : List Command) : Type 0 where
+  pub first : List LogEntry
+  pub rest : List LogEntry
+  pub are : entries ≡ first ++ rest
+  pub log : log_in name first ≡ front
 
-heads : (c d : Command) (cs ds : List Command) → c ∷ cs ≡ d ∷ ds → (c ≡ d) × (cs ≡ ds)
+pub heads : (c d : Command) (cs ds : List Command) → c ∷ cs ≡ d ∷ ds → (c ≡ d) × (cs ≡ ds)
 heads c d cs ds e = (cc, cc)
 
-parts_at : (name : Draw) (entries : List LogEntry) (front later : List Command) → log_in name entries ≡ front ++ later → PartsAt name entries front
+pub parts_at : (name : Draw) (entries : List LogEntry) (front later : List Command) → log_in name entries ≡ front ++ later → PartsAt name entries front
 parts_at name entries [] later e = record { first = []; rest = entries; are = refl; log = refl }
 parts_at name [] (c ∷ front) later e = cc
-parts_at name (entry ∷ entries) (c ∷ front) later e = elim (one_or_not entry.group name) [
+parts_at name (entry ∷ entries) (c ∷ front) later e = elim (draw_cases entry.group name) [
   | inl same ↦ (
       let both = heads entry.command c (log_in name entries) (front ++ later) (sym (own_first name entry entries same) ∙ e) in
       let parts = parts_at name entries front later both.1 in

@@ -1,6 +1,6 @@
 -- Parts of what a group holds, and two holdings as one: each is told of by the history that told of what it was made of.
-use Rattle.std.proofs.Common.{◌≡◌, ℕ, ◌<◌, ◌^◌, Bool, true, false, ◌&&◌, List, ◌⊎◌, inl, inr, sym, ap, ◌∙◌}
-use Rattle.std.proofs.lemmas.Bool.{or_cases}
+use Rattle.std.proofs.Common.{◌≡◌, ℕ, ◌<◌, ◌^◌, true, ◌&&◌, List, ◌⊎◌, inl, inr, sym, ap, ◌∙◌}
+use Rattle.std.proofs.lemmas.Bool.{and_from, both_ways, or_cases}
 use Rattle.std.specs.FinMap.{empty, entries}
 use Rattle.sc_base.specs.Arc.{Arc, IsArc, CanCut, CanJoin, holds, before, from, joined}
 use Rattle.sc_base.specs.Text.{pos_of}
@@ -34,14 +34,11 @@ from_arc arc at is fits can =
     let parts = cuts_join arc at is.1 fits is.0 can in
     ((parts.second, fits), second_inside arc at is.1 parts)
 
-not_both : (a b : Bool) → (a && b) ≡ false → a ≡ true → b ≡ true → ⊥
-not_both a b e f g = cc
-
 -- the two parts share nothing
 pub parts_apart : (arc : Arc) (at : ℕ) → IsOnRing arc → at < 2 ^ 32 → CanCut arc at → (p : ℕ) → holds (before arc at) p ≡ true → holds (from arc at) p ≡ true → ⊥
-parts_apart arc at is fits can p =
+parts_apart arc at is fits can p first second =
     let parts = cuts_join arc at is.1 fits is.0 can in
-    not_both _ _ ((joins_hold (before arc at) (from arc at) is.1 parts.first parts.second parts.can).apart p)
+    both_ways (holds (before arc at) p && holds (from arc at) p) ((joins_hold (before arc at) (from arc at) is.1 parts.first parts.second parts.can).apart p) (and_from (holds (before arc at) p) (holds (from arc at) p) first second)
 
 -- a part on an arc that lies in the whole
 part_told : (history : List Entry) (holding : Holding) (arc : Arc) → LiesIn arc holding.arc → IsToldOf history holding

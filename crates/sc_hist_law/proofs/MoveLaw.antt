@@ -1,12 +1,11 @@
 -- Entries that make moves tell a legal history.
-use Rattle.std.proofs.Common.{◌≡◌, List, [], ◌∷◌, ◌++◌, Option, Some, None, inl, inr, sym, ap, ◌∙◌, subst}
+use Rattle.std.proofs.Common.{◌≡◌, List, [], ◌∷◌, ◌++◌, Option, Some, inl, inr, sym, ap, ◌∙◌, subst}
 use Rattle.std.specs.FinMap.{empty, get, get-empty}
 use Rattle.std.specs.Option.{option_map, option_and_then}
 use Rattle.std.specs.Ordering.{nat_cmp}
 use Rattle.sc_base.specs.Among.{Among}
 use Rattle.sc_base.specs.Arc.{Arc}
 use Rattle.sc_base.specs.declared.names.Draw.{Draw}
-use Rattle.sc_base.specs.declared.ops.Noted.{Noted}
 use Rattle.sc_cmd.specs.declared.cores.Base.{Base}
 use Rattle.sc_ideal.specs.Clients.{ClientTable}
 use Rattle.sc_ideal.specs.History.{contents_after}
@@ -25,17 +24,15 @@ use Rattle.sc_hist_law.proofs.Cuts.{has_cut}
 use Rattle.sc_hist_law.proofs.MovesKept.{move_kept, same_told}
 use Rattle.sc_hist_law.proofs.QuietLaw.{first_notes, first_told}
 use Rattle.sc_hist_law.proofs.QuietWorlds.{notes_grow, tables_grow}
+use Rattle.std.proofs.lemmas.Option.{none-some}
 
 -- what holds after each entry: the history tells what all groups hold, and what their own logs made them note
 record IsMoved (request : RequestOf) (world : StoreWorld) : Type 0 where
   holds : TellsHoldings request world.history (holdings_in world)
   notes : (name : Draw) (group : Group) → named_group name world.groups ≡ Some group → HasNotes world.history group.clients
 
-none_note : (n : Noted) → None ≡ Some n → ⊥
-none_note n e = cc
-
 no_notes : (history : List Entry) (clients : ClientTable) → clients ≡ empty → HasNotes history clients
-no_notes history clients none client n e = absurd (none_note n (sym (get-empty nat_cmp client) ∙ ap (λ t. get t client) (sym none) ∙ e))
+no_notes history clients none client n e = absurd (none-some n (sym (get-empty nat_cmp client) ∙ ap (λ t. get t client) (sym none) ∙ e))
 
 same_notes : (history : List Entry) (clients others : ClientTable) → clients ≡ others → HasNotes history clients → HasNotes history others
 same_notes history clients others same notes = subst (HasNotes history) same notes

@@ -6,27 +6,21 @@ use Rattle.std.specs.FinMap.{empty, get, get-empty, get-insert}
 use Rattle.std.specs.Ordering.{nat_cmp}
 use Rattle.sc_base.specs.Arc.{IsArc}
 use Rattle.sc_base.specs.declared.names.Draw.{Draw}
-use Rattle.sc_base.specs.declared.ops.Noted.{Noted}
 use Rattle.sc_base.specs.declared.ops.Reply.{Reply}
 use Rattle.sc_ideal.specs.Clients.{later}
 use Rattle.sc_ideal.proofs.Tables.{joined_by_number}
 use Rattle.sc_hist_law.specs.Moves.{Holding, AreBare, MayMakeAll, history_by, part_before, part_from, with_previous, with_request}
 use Rattle.sc_hist_law.specs.Example.{ExampleOfMoves, answers_with, bare_ring, example_moves, lone_holdings, offspring, parent, put_a, two_requests}
-use Rattle.sc_hist_law.proofs.Disjoint.{one_or_not, holding_here, holding_there}
+use Rattle.sc_hist_law.proofs.Disjoint.{holding_here, holding_there}
 use Rattle.sc_hist_law.proofs.MovesKept.{moves_tell}
-use Rattle.sc_entries.proofs.Names.{some_is}
-
-none_is : (one : Holding) → None ≡ Some one → ⊥
-none_is one e = cc
-
-none_note : (n : Noted) → None ≡ Some n → ⊥
-none_note n e = cc
+use Rattle.sc_entries.proofs.Names.{some_is, draw_cases}
+use Rattle.std.proofs.lemmas.Option.{none-some}
 
 -- only the group holds something
 lone : (name : Draw) (holding : Holding) → lone_holdings name ≡ Some holding → (name ≡ parent) × (bare_ring ≡ holding)
-lone name holding is = elim (one_or_not name parent) [
+lone name holding is = elim (draw_cases name parent) [
   | inl e ↦ (e, some_is bare_ring holding (sym (holding_here parent (Some bare_ring) (λ _. None) name e) ∙ is))
-  | inr ne ↦ absurd (none_is holding (sym (holding_there parent (Some bare_ring) (λ _. None) name ne) ∙ is))
+  | inr ne ↦ absurd (none-some holding (sym (holding_there parent (Some bare_ring) (λ _. None) name ne) ∙ is))
 ]
 
 ring_fits : IsArc bare_ring.arc × (bare_ring.arc.lo < 2 ^ 32)
@@ -71,7 +65,7 @@ may : MayMakeAll two_requests lone_holdings example_moves
 may = (
   record { holding = bare_ring; is = refl; fits = omega arith; cut = (refl, λ e. omega (arith, e)); free = refl },
   (
-    record { holding = left; is = refl; its = refl; above = λ n e. absurd (none_note n (sym (get-empty nat_cmp 1) ∙ e)); asked = refl },
+    record { holding = left; is = refl; its = refl; above = λ n e. absurd (none-some n (sym (get-empty nat_cmp 1) ∙ e)); asked = refl },
     (
       record {
         holding = served;
@@ -81,7 +75,7 @@ may = (
         apart = apart;
         fits = (omega arith, (refl, λ e. omega (arith, e)), (refl, omega arith));
       },
-      (record { holding = gained; is = refl; its = refl; above = λ n e. absurd (none_note n (sym nothing_of_two ∙ e)); asked = refl }, tt),
+      (record { holding = gained; is = refl; its = refl; above = λ n e. absurd (none-some n (sym nothing_of_two ∙ e)); asked = refl }, tt),
     ),
   ),
 )

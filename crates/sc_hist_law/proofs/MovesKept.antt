@@ -1,11 +1,10 @@
 -- Each move keeps what the history tells of what all groups hold, and so do all moves one after another.
-use Rattle.std.proofs.Common.{◌≡◌, cond, List, [], ◌∷◌, ◌++◌, Option, Some, None, refl, sym, ap, ◌∙◌, subst, append-nil, append_assoc, arith}
+use Rattle.std.proofs.Common.{◌≡◌, cond, List, [], ◌∷◌, ◌++◌, Option, None, refl, sym, ap, ◌∙◌, subst, append-nil, append_assoc, arith}
 use Rattle.std.specs.FinMap.{empty, get, get-empty}
 use Rattle.std.specs.Ordering.{nat_cmp}
 use Rattle.std.specs.Cmp.Lexicographic.{slice_cmp}
 use Rattle.sc_base.specs.Arc.{Arc}
 use Rattle.sc_base.specs.declared.names.Draw.{Draw}
-use Rattle.sc_base.specs.declared.ops.Noted.{Noted}
 use Rattle.sc_base.proofs.CommonLemmas.{cond-same}
 use Rattle.sc_ideal.specs.History.{HasEntry}
 use Rattle.sc_ideal.specs.IdealStore.{holds_key, part_of}
@@ -16,9 +15,7 @@ use Rattle.sc_hist_law.proofs.Disjoint.{IsGood, SharesOut, shared_disjoint, shar
 use Rattle.sc_hist_law.proofs.Shares.{divided, joined_up, given, taken}
 use Rattle.sc_hist_law.proofs.Serving.{served_kept}
 use Rattle.sc_hist_law.proofs.Told.{entry_later}
-
-none_note : (n : Noted) → None ≡ Some n → ⊥
-none_note n e = cc
+use Rattle.std.proofs.lemmas.Option.{none-some}
 
 -- ---- one move
 
@@ -104,7 +101,7 @@ bare_told request holdings bare = record {
       record {
         pairs = none.pairs ∙ sym (empty_part holding.arc);
         noted = λ e a h. absurd a;
-        notes = λ client n e. absurd (none_note n (sym (get-empty nat_cmp client) ∙ ap (λ t. get t client) (sym none.clients) ∙ e));
+        notes = λ client n e. absurd (none-some n (sym (get-empty nat_cmp client) ∙ ap (λ t. get t client) (sym none.clients) ∙ e));
       });
 }
 

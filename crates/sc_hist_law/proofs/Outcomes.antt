@@ -17,6 +17,7 @@ use Rattle.sc_machine_table.specs.Orders.{locked_in}
 use Rattle.sc_entries.specs.declared.Transaction.{Transaction}
 use Rattle.sc_entries.specs.Decisions.{amended, concluded, decision, is_of, transaction_in, with_outcome, with_watcher}
 use Rattle.sc_entries.specs.Effective.{after_outcome, effective_by, is_commit}
+use Rattle.sc_entries.proofs.Names.{some_is}
 
 -- the commit in what was decided, if it is one
 abbrev pub commit_in : Option Outcome → Option Outcome
@@ -117,9 +118,6 @@ pub other_concluded : (ts : List Transaction) (tx coordinator name : Draw) (outc
 other_concluded ts tx coordinator name outcome ne =
     read_amended (λ o. o) tx coordinator (with_outcome (Some outcome)) (name_kept (Some outcome)) name ts (λ t rest a b c e. absurd (ne (sym c ∙ a)))
 
-some_transaction : (t u : Transaction) → Some t ≡ Some u → t ≡ u
-some_transaction t u e = cc
-
 -- the coordinator's own is decided
 pub own_concluded : (ts : List Transaction) (tx coordinator : Draw) (outcome : Outcome) (found : Transaction) → transaction_in tx ts ≡ Some found → found.coordinator ≡ coordinator
     → decision tx (concluded (Some outcome) tx coordinator ts) ≡ Some outcome
@@ -128,7 +126,7 @@ own_concluded (t ∷ ts) tx coordinator outcome found e is =
     let rest = concluded (Some outcome) tx coordinator ts in
     elim (cases_Bool (same_draw t.tx tx)) [
       | inl here ↦ (
-          let same : t ≡ found = some_transaction t found (sym (cond-true (same_draw t.tx tx) (Some t) _ here) ∙ e) in
+          let same : t ≡ found = some_is t found (sym (cond-true (same_draw t.tx tx) (Some t) _ here) ∙ e) in
           let of : is_of tx coordinator t ≡ true = and_from (same_draw t.tx tx) (same_draw t.coordinator coordinator) here (same_name t.coordinator coordinator (ap (λ (x : Transaction). x.coordinator) same ∙ is)) in
           ap (λ x. decision tx (x ∷ rest)) (cond-true (is_of tx coordinator t) (with_outcome (Some outcome) t) t of)
           ∙ first_outcome (with_outcome (Some outcome) t) rest tx (draw_is t.tx tx here))

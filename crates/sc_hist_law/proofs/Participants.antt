@@ -7,9 +7,8 @@ use Rattle.std.specs.Cmp.Lexicographic.{slice_cmp, nat_list_cmp_total}
 use Rattle.std.specs.FinMap.{entries, get, get-entries}
 use Rattle.std.specs.FinMap.Entries.{is_some-find}
 use Rattle.std.specs.Ordering.{nat_cmp, eq_by_cmp}
-use Rattle.std.proofs.lemmas.Bool.{and_parts, eq-eqb, eqb-false, eqb-true, le-leb, leb-true, ltb-true}
+use Rattle.std.proofs.lemmas.Bool.{and_parts, eq-eqb, eqb-false, eqb-true, le-leb, leb-true, ltb-true, not-true, or_right}
 use Rattle.sc_base.specs.Arc.{Arc, CanCut, CanJoin, IsArc, before, end_of, from, holds, offset}
-use Rattle.sc_base.specs.ArcLaws.{PartsJoin}
 use Rattle.sc_base.specs.Text.{pos_of}
 use Rattle.sc_base.specs.declared.names.Draw.{Draw}
 use Rattle.sc_base.proofs.ArcLemmas.{cuts_join, joins_hold}
@@ -31,15 +30,11 @@ use Rattle.sc_hist_law.proofs.PlanHoldings.{plans_move}
 
 -- ---- tests of arcs
 
-not_test : (b : Bool) → not b ≡ true → b ≡ false
-not_test true e = (let no_way : false ≡ true = e in absurd (cc))
-not_test false e = refl
-
 -- an arc that passes the test can be cut
 pub cut_is : (arc : Arc) (at : ℕ) → can_cut arc at ≡ true → CanCut arc at
 cut_is arc at e =
     let parts = and_parts (holds arc at) (not (eqb at arc.lo)) e in
-    (parts.0, eqb-false at arc.lo (not_test (eqb at arc.lo) parts.1))
+    (parts.0, eqb-false at arc.lo (not-true (eqb at arc.lo) parts.1))
 
 -- arcs that pass the test can be joined, and the other way round
 pub join_is : (arc next : Arc) → can_join arc next ≡ true → CanJoin arc next
@@ -51,14 +46,11 @@ pub is_join : (arc next : Arc) → CanJoin arc next → can_join arc next ≡ tr
 is_join arc next can = ap (λ b. b && nat_le (arc.len + next.len) (2 ^ 32)) (eq-eqb next.lo (end_of arc) can.0) ∙ le-leb (arc.len + next.len) (2 ^ 32) can.1
 
 -- what is cut off the end of an arc meets what the arc meets
-second_end : (arc : Arc) (at : ℕ) → arc.lo < 2 ^ 32 → PartsJoin arc at → end_of arc ≡ end_of (from arc at)
-second_end arc at fits parts = ap end_of (sym parts.same) ∙ (joins_hold (before arc at) (from arc at) fits parts.first parts.second parts.can).end
-
 pub rest_meets : (arc next : Arc) (at : ℕ) → IsArc arc → arc.lo < 2 ^ 32 → at < 2 ^ 32 → CanCut arc at → CanJoin arc next → CanJoin (from arc at) next
 rest_meets arc next at is fits at_fits cut can =
     let parts = cuts_join arc at fits at_fits is cut in
     let inside : offset arc at < arc.len = ltb-true _ _ cut.0 in
-    (can.0 ∙ second_end arc at fits parts, (let sum = can.1 in omega (arith, sum, inside)))
+    (can.0 ∙ ap end_of (sym parts.same) ∙ (joins_hold (before arc at) (from arc at) fits parts.first parts.second parts.can).end, (let sum = can.1 in omega (arith, sum, inside)))
 
 -- ---- keys of a gift
 
@@ -66,11 +58,7 @@ none_passes : (contents : Contents) (pairs : List (List ℕ × List ℕ)) → ((
 none_passes contents [] none = refl
 none_passes contents (pair ∷ pairs) none =
     ap (λ b. b || has_key_of contents pairs) (none pair (ap (λ b. b || list_any (eq_by_cmp (slice_cmp nat_cmp) pair.0) (map (λ e. e.0) pairs)) ((eq_by_cmp_equiv nat_list_cmp_total).refl pair.0)))
-    ∙ none_passes contents pairs (λ other among. none other (or_second (eq_by_cmp (slice_cmp nat_cmp) other.0 pair.0) _ among))
-  where
-    or_second : (a b : Bool) → b ≡ true → (a || b) ≡ true
-    or_second true b e = refl
-    or_second false b e = e
+    ∙ none_passes contents pairs (λ other among. none other (or_right (eq_by_cmp (slice_cmp nat_cmp) other.0 pair.0) _ among))
 
 some_part : (b : Bool) (o : Option (List ℕ)) → is_some (cond b o None) ≡ true → b ≡ true
 some_part true o e = refl

@@ -15,12 +15,11 @@ use Rattle.sc_entries.specs.Worlds.{StoreWorld, named_group}
 use Rattle.sc_hist_law.specs.Moves.{holding_of}
 use Rattle.sc_hist_law.specs.Telling.{IsItsOwn, IsParty}
 use Rattle.sc_hist_law.specs.Worlds.{holdings_in}
-use Rattle.sc_hist_law.proofs.Disjoint.{one_or_not}
 use Rattle.sc_hist_law.proofs.Elsewhere.{held_by, held_some}
 use Rattle.sc_hist_law.proofs.Finishing.{coordinating_held, free_held, promised_held, watching_held}
 use Rattle.sc_hist_law.proofs.Outcomes.{commit_in, other_concluded, own_concluded, same_party}
 use Rattle.sc_hist_law.proofs.Staying.{none_committed}
-use Rattle.sc_entries.proofs.Names.{some_is}
+use Rattle.sc_entries.proofs.Names.{some_is, draw_cases}
 
 -- who has not promised in a transaction holds the same whatever it comes to
 pub others_held : (transactions : List Transaction) (tx coordinator : Draw) (outcome : Outcome) (group : Group) (lock : Lock) → group.core.lock ≡ lock → ((offer : Offer) → lock ≡ Promised tx offer → ⊥)
@@ -29,7 +28,7 @@ others_held transactions tx coordinator outcome group Free e apart = free_held _
 others_held transactions tx coordinator outcome group (Coordinating locked body order heard) e apart =
     coordinating_held _ group (Coordinating locked body order heard) e refl ∙ sym (coordinating_held transactions group (Coordinating locked body order heard) e refl)
 others_held transactions tx coordinator outcome group (Watching locked watch) e apart = watching_held _ group locked watch e ∙ sym (watching_held transactions group locked watch e)
-others_held transactions tx coordinator outcome group (Promised locked offer) e apart = elim (one_or_not locked tx) [
+others_held transactions tx coordinator outcome group (Promised locked offer) e apart = elim (draw_cases locked tx) [
   | inl same ↦ absurd (apart offer (ap (λ x. Promised x offer) same))
   | inr ne ↦ ap holding_of (same_party group.core.lock (concluded (Some outcome) tx coordinator transactions) transactions group
       (λ t is. ap commit_in (other_concluded transactions tx coordinator t outcome (λ same. ne (some_is locked t (sym (ap locked_in e) ∙ is) ∙ same)))))

@@ -28,12 +28,13 @@ use Rattle.sc_hist_law.proofs.Elsewhere.{own_group, here, there}
 use Rattle.sc_hist_law.specs.Laws.{LeavesWhole}
 use Rattle.sc_hist_law.specs.Moves.{Holding, RequestOf, MayServe, TellsHoldings, HasNotes, ServedBy, entries_by, holding_of, holdings_after, request_entry, with_request}
 use Rattle.sc_hist_law.specs.Worlds.{holdings_in, IsAsked, IsQuiet}
-use Rattle.sc_hist_law.proofs.Disjoint.{one_or_not, holding_here, holding_there}
+use Rattle.sc_hist_law.proofs.Disjoint.{holding_here, holding_there}
 use Rattle.sc_hist_law.proofs.Logs.{OnlyMembers, ordered_either}
 use Rattle.sc_hist_law.proofs.MovesKept.{move_kept, same_told}
 use Rattle.sc_hist_law.proofs.Quiet.{no_birth, same_transactions, same_ring}
 use Rattle.sc_hist_law.proofs.Requests.{TakesEffect, request_cases}
 use Rattle.sc_hist_law.proofs.Told.{entry_later}
+use Rattle.sc_entries.proofs.Names.{draw_cases}
 
 -- ---- without transactions the effective record is the group's own
 
@@ -99,7 +100,7 @@ module _ (request : RequestOf) (bases : List Base) (world : StoreWorld) (quiet :
   cuts_are : HaveCuts after
   cuts_are other now is =
       ap (arc_in other) ring_is
-      ∙ elim (one_or_not other group.core.id) as (λ _. arc_in other world.ring ≡ Some now.core.arc) [
+      ∙ elim (draw_cases other group.core.id) as (λ _. arc_in other world.ring ≡ Some now.core.arc) [
         | inl e ↦ (
             let same : Some result.0 ≡ Some now = sym (here world name group found c result id_is unborn other e) ∙ is in
             let it : result.0 ≡ now = cc in
@@ -134,7 +135,7 @@ module _ (request : RequestOf) (bases : List Base) (world : StoreWorld) (quiet :
       (same_told request world.history (holdings_in world) (holdings_in after) as_before quiet.told)))
     where
       as_before : (other : Draw) → holdings_in after other ≡ holdings_in world other
-      as_before other = elim (one_or_not other group.core.id) [
+      as_before other = elim (draw_cases other group.core.id) [
         | inl e ↦ held_here other e ∙ ap Some same ∙ sym own_holding ∙ ap (holdings_in world) (sym e)
         | inr ne ↦ held_there other ne
       ]
@@ -154,7 +155,7 @@ module _ (request : RequestOf) (bases : List Base) (world : StoreWorld) (quiet :
       mine = ap (option_map (with_request client seq op)) own_holding
 
       as_moved : (other : Draw) → holdings_in after other ≡ holdings_after (ServedBy group.core.id client seq op) (holdings_in world) other
-      as_moved other = elim (one_or_not other group.core.id) [
+      as_moved other = elim (draw_cases other group.core.id) [
         | inl e ↦ held_here other e ∙ ap Some holds ∙ sym mine ∙ sym (holding_here group.core.id _ (holdings_in world) other e)
         | inr ne ↦ held_there other ne ∙ sym (holding_there group.core.id _ (holdings_in world) other ne)
       ]

@@ -3,7 +3,7 @@ use Rattle.std.specs.Prelude.{is_some, not}
 use Rattle.std.proofs.Common.{◌≡◌, Bool, true, false, cond, List, [], ◌∷◌, ◌++◌, Option, Some, None, inl, inr, refl, sym, ap, ◌∙◌}
 use Rattle.std.specs.List.{filter, find, flat_map}
 use Rattle.std.specs.Option.{option_map}
-use Rattle.std.proofs.lemmas.Bool.{cases_Bool, cond-true, cond-false}
+use Rattle.std.proofs.lemmas.Bool.{cases_Bool, cond-true, cond-false, not-true}
 use Rattle.sc_base.specs.Arc.{Arc, before, from}
 use Rattle.sc_base.specs.Same.{same_draw}
 use Rattle.sc_base.specs.declared.names.Draw.{Draw}
@@ -41,10 +41,6 @@ is_none_of None e = refl
 is_none_of (Some arc) e = (let no_way : true ≡ false = e in absurd (cc))
 
 -- a cut that is taken out
-not_passed : (b : Bool) → not b ≡ true → b ≡ false
-not_passed true e = (let no_way : false ≡ true = e in absurd (cc))
-not_passed false e = refl
-
 passes_not : (name other : Draw) (cut : Cut) → (name ≡ other → ⊥) → is_cut_of name cut ≡ true → not (is_cut_of other cut) ≡ true
 passes_not name other cut ne t = elim (cases_Bool (is_cut_of other cut)) [
   | inl u ↦ absurd (ne (sym (draw_is cut.group name t) ∙ draw_is cut.group other u))
@@ -58,7 +54,7 @@ taken_out name other ring ne =
 pub gone_cut : (other : Draw) (ring : List Cut) → arc_in other (filter (λ cut. not (is_cut_of other cut)) ring) ≡ None
 gone_cut other ring =
     ap (option_map (λ (c : Cut). c.arc)) (find_nothing (is_cut_of other) (filter (λ cut. not (is_cut_of other cut)) ring)
-    (Each-weaker (λ (cut : Cut). not (is_cut_of other cut) ≡ true) (λ cut. is_cut_of other cut ≡ false) (λ cut t. not_passed (is_cut_of other cut) t) (filter (λ cut. not (is_cut_of other cut)) ring) (Each-passes (λ cut. not (is_cut_of other cut)) ring)))
+    (Each-weaker (λ (cut : Cut). not (is_cut_of other cut) ≡ true) (λ cut. is_cut_of other cut ≡ false) (λ cut t. not-true (is_cut_of other cut) t) (filter (λ cut. not (is_cut_of other cut)) ring) (Each-passes (λ cut. not (is_cut_of other cut)) ring)))
 
 -- ---- a division
 

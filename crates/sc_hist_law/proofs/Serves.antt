@@ -18,11 +18,12 @@ use Rattle.sc_entries.specs.Worlds.{StoreWorld, named_group, with_result}
 use Rattle.sc_hist_law.specs.Moves.{RequestOf, ServedBy, holding_of, request_entry, with_request}
 use Rattle.sc_hist_law.specs.Telling.{MayCall}
 use Rattle.sc_hist_law.specs.Worlds.{holdings_in}
-use Rattle.sc_hist_law.proofs.Disjoint.{holding_here, holding_there, one_or_not}
+use Rattle.sc_hist_law.proofs.Disjoint.{holding_here, holding_there}
 use Rattle.sc_hist_law.proofs.Elsewhere.{elsewhere, held_by, held_some, here, own_group, tables_from}
 use Rattle.sc_hist_law.proofs.Finishing.{free_held, watching_held}
 use Rattle.sc_hist_law.proofs.Requests.{TakesEffect, request_cases}
 use Rattle.sc_hist_law.proofs.Staying.{Goes, idles}
+use Rattle.sc_entries.proofs.Names.{draw_cases}
 
 -- an open group holds what its own log says
 open_held : (lock : Lock) (transactions : List Transaction) (group : Group) → group.core.lock ≡ lock → is_open lock ≡ true → held_by transactions group ≡ holding_of group
@@ -52,7 +53,7 @@ module _ (request : RequestOf) (world : StoreWorld) (name : Draw) (group : Group
       record {
         move = ServedBy group.core.id client seq op;
         may = record { holding = holding_of group; is = own; its = takes.its; above = takes.above; asked = may.asked };
-        holds = λ other. elim (one_or_not other group.core.id) [
+        holds = λ other. elim (draw_cases other group.core.id) [
           | inl e ↦ ap (holdings_in after) e ∙ now ∙ sym mine ∙ sym (holding_here group.core.id (option_map (with_request client seq op) (holdings_in world group.core.id)) (holdings_in world) other e)
           | inr ne ↦ elsewhere world name group found (Call client seq op) result refl refl other ne refl (λ g is. refl)
               ∙ sym (holding_there group.core.id (option_map (with_request client seq op) (holdings_in world group.core.id)) (holdings_in world) other ne)

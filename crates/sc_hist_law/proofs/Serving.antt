@@ -17,19 +17,17 @@ use Rattle.sc_ideal.specs.declared.Entry.{Entry}
 use Rattle.sc_ideal.proofs.Apart.{apart, get-part}
 use Rattle.sc_paxos_law.proofs.Among.{Among-right, Among-either}
 use Rattle.sc_hist_law.specs.Moves.{Holding, Holdings, RequestOf, MayServe, TellsHoldings, IsToldOf, IsNotedIn, with_request, with_holding, holdings_after, entries_by, AreDisjoint, ServedBy, request_entry}
-use Rattle.sc_hist_law.proofs.Disjoint.{one_or_not, holding_here, holding_there}
+use Rattle.sc_hist_law.proofs.Disjoint.{holding_here, holding_there}
 use Rattle.sc_hist_law.proofs.Holdings.{IsOnRing}
 use Rattle.sc_hist_law.proofs.Kept.{IsApart, all_pairs, apart_push}
 use Rattle.sc_hist_law.proofs.Positions.{first_pairs, other_pairs}
 use Rattle.sc_hist_law.proofs.Told.{replay_push, after_push, entry_later}
+use Rattle.sc_entries.proofs.Names.{some_is, draw_cases}
 
 -- entries that are apart, one by one
 one_by_one : (es : List Entry) → AllPairs AreApart es → IsApart es
 one_by_one [] a = tt
 one_by_one (e ∷ es) a = (first_pairs AreApart e es a, one_by_one es (other_pairs AreApart e es a))
-
-some_noted : (n m : Noted) → Some n ≡ Some m → n ≡ m
-some_noted n m e = cc
 
 not_held : (b : Bool) → (b ≡ true → ⊥) → b ≡ false
 not_held true no_way = absurd (no_way refl)
@@ -105,7 +103,7 @@ module _ (request : RequestOf) (history : List Entry) (holdings : Holdings) (tol
   notes_now who n e =
       elim (cases_Bool (eqb who client)) [
         | inl t ↦ (
-            let same : note ≡ n = some_noted note n (sym (found_new who (eqb-true who client t)) ∙ e) in
+            let same : note ≡ n = some_is note n (sym (found_new who (eqb-true who client t)) ∙ e) in
             subst (λ (x : Noted). HasEntry (history ++ new ∷ []) who x.seq x.reply) same
             (subst (λ c. HasEntry (history ++ new ∷ []) c seq (reply_of op holding.pairs)) (sym (eqb-true who client t)) last_is))
         | inr f ↦ entry_later history (new ∷ []) who n.seq n.reply (here.notes who n (sym (found_old who f) ∙ e))
@@ -147,7 +145,7 @@ module _ (request : RequestOf) (history : List Entry) (holdings : Holdings) (tol
 
   -- what a group has afterwards has the arc that it had
   same_arc : (name : Draw) (now : Holding) → changed name ≡ Some now → (old : Holding) × (holdings name ≡ Some old) × (old.arc ≡ now.arc)
-  same_arc name now is = elim (one_or_not name group) [
+  same_arc name now is = elim (draw_cases name group) [
     | inl e ↦ (
         let same : Some served ≡ Some now = sym mine_is ∙ sym (holding_here group mine holdings name e) ∙ is in
         let it : served ≡ now = cc in
@@ -166,7 +164,7 @@ module _ (request : RequestOf) (history : List Entry) (holdings : Holdings) (tol
   }
 
   changed_told : (name : Draw) (now : Holding) → changed name ≡ Some now → IsToldOf (history ++ new ∷ []) now
-  changed_told name now is = elim (one_or_not name group) [
+  changed_told name now is = elim (draw_cases name group) [
     | inl e ↦ (
         let same : Some served ≡ Some now = sym mine_is ∙ sym (holding_here group mine holdings name e) ∙ is in
         let it : served ≡ now = cc in

@@ -8,9 +8,7 @@ use Rattle.sc_hist_law.specs.Moves.{Holding, Holdings, AreDisjoint, IsToldOf, Is
 use Rattle.sc_hist_law.proofs.Holdings.{IsOnRing, before_arc, from_arc, parts_apart, before_told, from_told, joined_from, joined_arc, next_told, previous_told}
 use Rattle.sc_hist_law.proofs.Disjoint.{HoldsAt, IsGood, SharesOut, owner}
 use Rattle.sc_entries.proofs.Names.{some_is}
-
-none_holding : (one : Holding) → None ≡ Some one → ⊥
-none_holding one e = cc
+use Rattle.std.proofs.lemmas.Option.{none-some}
 
 -- of a holding that is known
 good_is : (history : List Entry) (found : Option Holding) (holding : Holding) → found ≡ Some holding → IsOnRing holding.arc → IsToldOf history holding → IsGood history found
@@ -39,7 +37,7 @@ module _ (history : List Entry) (holdings : Holdings) (disjoint : AreDisjoint ho
       let before_is = before_arc arc at good.0 may.fits may.cut in
       let from_is = from_arc arc at good.0 may.fits may.cut in
       record {
-        apart = λ e. none_holding may.holding (sym may.free ∙ ap holdings (sym e) ∙ may.is);
+        apart = λ e. none-some may.holding (sym may.free ∙ ap holdings (sym e) ∙ may.is);
         mine_good = good_is history _ (part_before at may.holding) mine before_is.0 (before_told history may.holding at good.0 may.fits may.cut good.1);
         theirs_good = good_is history _ (part_from at may.holding) theirs from_is.0 (from_told history may.holding at good.0 may.fits may.cut good.1);
         mine_from = λ p h. inl (record { holding = may.holding; is = may.is; at = before_is.1 p (at_is _ (part_before at may.holding) p mine h) });
@@ -63,11 +61,11 @@ module _ (history : List Entry) (holdings : Holdings) (disjoint : AreDisjoint ho
         apart = may.apart;
         mine_good = good_is history _ (with_next may.holding may.other) mine (joined_arc may.holding.arc may.other.arc good.0 well.0 may.fits)
             (next_told history may.holding may.other good.0 well.0 may.fits good.1 well.1);
-        theirs_good = λ holding e. absurd (none_holding holding e);
+        theirs_good = λ holding e. absurd (none-some holding e);
         mine_from = λ p h. from_either group next may.holding may.other p may.is may.next_is
             (joined_from may.holding.arc may.other.arc good.0 well.0 may.fits p (at_is _ (with_next may.holding may.other) p mine h));
-        theirs_from = λ p h. absurd (none_holding h.holding h.is);
-        disjoint = λ p h k. absurd (none_holding k.holding k.is);
+        theirs_from = λ p h. absurd (none-some h.holding h.is);
+        disjoint = λ p h k. absurd (none-some k.holding k.is);
       }
 
   -- a position of both groups' arcs is none

@@ -34,10 +34,10 @@ use Rattle.sc_entries.specs.Worlds.{StoreWorld, named_group, with_result}
 use Rattle.sc_hist_law.specs.Moves.{RequestOf, Unmoved, holding_of}
 use Rattle.sc_hist_law.specs.Worlds.{HasKnownTable, IsMoveTo}
 use Rattle.sc_hist_law.specs.Telling.{IsUncommitted}
-use Rattle.sc_hist_law.proofs.Disjoint.{one_or_not}
 use Rattle.sc_hist_law.proofs.Elsewhere.{elsewhere, held_by, itself, same_table, tables_from}
 use Rattle.sc_hist_law.proofs.Finishing.{coordinator_held, free_held, promised_held, votes_held, watching_held, with_votes}
 use Rattle.sc_hist_law.proofs.Outcomes.{abort_concluded, commit_in, one_begun, same_party}
+use Rattle.sc_entries.proofs.Names.{draw_cases}
 
 -- ---- what is decided, by commits
 
@@ -70,7 +70,7 @@ module _ (request : RequestOf) (world : StoreWorld) (name : Draw) (group : Group
       record {
         move = Unmoved;
         may = tt;
-        holds = λ other. elim (one_or_not other group.core.id) [
+        holds = λ other. elim (draw_cases other group.core.id) [
           | inl e ↦ itself world name group found c result id_is unborn other e (cuts other) own
           | inr ne ↦ elsewhere world name group found c result id_is unborn other ne (cuts other)
               (λ g is. ap holding_of (same_party g.core.lock after.transactions world.transactions g (λ tx _. commits tx)))
@@ -108,7 +108,7 @@ free_by (Coordinating tx body order heard) core c e = cc
 free_by (Promised tx offer) core c e = cc
 free_by (Watching tx watch) core c e = cc
 
-free_by_no : (gone : Option Route) (lock : Lock) (why : Option No) → no_of gone (locked_in lock) why ≡ None → lock ≡ Free
+pub free_by_no : (gone : Option Route) (lock : Lock) (why : Option No) → no_of gone (locked_in lock) why ≡ None → lock ≡ Free
 free_by_no (Some into) lock why e = cc
 free_by_no None Free why e = refl
 free_by_no None (Coordinating tx body order heard) why e = cc

@@ -219,7 +219,7 @@ of_command : (c : Command) (effect : Effect) (e : Entry) → Among e (entry_of c
 of_command (Call client seq op) effect e a = entry_by_call client seq op effect e a
 of_command _ effect e a = absurd a
 
-calls_of : (group : Group) (log : List Command) (e : Entry) → Among e (done_by group log) → Among (Call e.client e.seq e.op) log
+pub calls_of : (group : Group) (log : List Command) (e : Entry) → Among e (done_by group log) → Among (Call e.client e.seq e.op) log
 calls_of group [] e a = absurd a
 calls_of group (c ∷ log) e a =
     elim (Among-either e (entry_of c (applied group c).1) (done_by (applied group c).0 log) a) [

@@ -48,8 +48,8 @@ pub fn plans_are_moves()
     ensures { PlansAreMoves }
 {}
 
-/// Whatever the entries are, each group is after them as its own log makes it. So where the notes of
-/// all logs stay in the history, a replica that lags, and answers by what a front of its group's
+/// Whatever the entries are, each group is after them as its own log makes it. So where the notes
+/// of all logs stay in the history, a replica that lags, and answers by what a front of its group's
 /// log made it note, answers by the history of all.
 pub fn fronts_of_logs_answer_by_history()
     ensures states { LogsMakeStates }

@@ -10,21 +10,20 @@ use Rattle.sc_entries.specs.declared.LogEntry.{LogEntry}
 use Rattle.sc_entries.specs.Worlds.{StoreWorld, first_world, named_group, world_of}
 use Rattle.sc_entries.proofs.Pushes.{world_append}
 use Rattle.sc_hist_law.specs.Fronts.{log_in}
-use Rattle.sc_hist_law.proofs.Disjoint.{one_or_not}
-use Rattle.sc_hist_law.proofs.Fronts.{logs_make_states}
+use Rattle.sc_hist_law.proofs.Fronts.{heads, logs_make_states, other_first, own_first, parts_at}
 use Rattle.sc_ring_law.specs.Allowed.{Sources, IsAllowed, AreAllowed, ToldWorld, first_told, stories_told, told_on, told_after}
 use Rattle.sc_ring_law.specs.Laws.{BeginInPlace, stories_of}
 use Rattle.sc_ring_law.specs.Stories.{stories_after}
 use Rattle.sc_ring_law.proofs.Grows.{allowed_entries_stay_allowed}
-use Rattle.sc_ring_law.proofs.Sound.{entries_keep_the_promises}
+use Rattle.sc_ring_law.proofs.Sound.{entries_keep_the_promises, store_after}
 use Rattle.sc_sound.specs.GroupsOf.{entries_by_rows, entries_at}
 use Rattle.sc_journal_law.specs.Allows.{MakesAllowed}
 use Rattle.sc_journal_law.specs.Laws.{AllowedStaysAllowed, FrontsAllow, StatesAllow}
-use Rattle.sc_journal_law.proofs.Births.{store_after, told_append}
-use Rattle.sc_journal_law.proofs.Children.{own_first, other_first}
+use Rattle.sc_journal_law.proofs.Births.{told_append}
 use Rattle.sc_journal_law.proofs.Generations.{group_found}
 use Rattle.sc_journal_law.proofs.Parts.{entries_parts}
 use Rattle.sc_journal_law.proofs.Findings.{told_rows}
+use Rattle.sc_entries.proofs.Names.{draw_cases}
 
 -- entries that are allowed one after another, in two parts
 allowed_parts : (sources : Sources) (w : ToldWorld) (entries more : List LogEntry) → AreAllowed sources w (entries ++ more) → AreAllowed sources w entries × AreAllowed sources (told_after w entries) more
@@ -57,9 +56,6 @@ record IsAt (name : Draw) (entries : List LogEntry) (front : List Command) (comm
   its : entry.group ≡ name
   is : entry.command ≡ command
 
-heads : (c d : Command) (cs ds : List Command) → c ∷ cs ≡ d ∷ ds → (c ≡ d) × (cs ≡ ds)
-heads c d cs ds e = (cc, cc)
-
 none_left : (front : List Command) (command : Command) (later : List Command) → [] ≡ front ++ command ∷ later → ⊥
 none_left [] command later e = cc
 none_left (c ∷ front) command later e = cc
@@ -77,7 +73,7 @@ find_other name e entries front command ne at = record {
 
 find_entry : (name : Draw) (entries : List LogEntry) (front : List Command) (command : Command) (later : List Command) → log_in name entries ≡ front ++ command ∷ later → IsAt name entries front command
 find_entry name [] front command later e = absurd (none_left front command later e)
-find_entry name (x ∷ entries) [] command later e = elim (one_or_not x.group name) [
+find_entry name (x ∷ entries) [] command later e = elim (draw_cases x.group name) [
   | inl same ↦ record {
     first = [];
     entry = x;
@@ -89,7 +85,7 @@ find_entry name (x ∷ entries) [] command later e = elim (one_or_not x.group na
   }
   | inr ne ↦ find_other name x entries [] command ne (find_entry name entries [] command later (sym (other_first name x entries ne) ∙ e))
 ]
-find_entry name (x ∷ entries) (c ∷ front) command later e = elim (one_or_not x.group name) [
+find_entry name (x ∷ entries) (c ∷ front) command later e = elim (draw_cases x.group name) [
   | inl same ↦ (
       let both = heads x.command c (log_in name entries) (front ++ command ∷ later) (sym (own_first name x entries same) ∙ e) in
       let at = find_entry name entries front command later both.1 in
@@ -146,47 +142,18 @@ fronts_allow sources ahead bases start rows h base a front entry later is name c
 
 -- ---- what a group makes allowed as it stands
 
--- entries in two parts, the first of which has this front of a log
-record IsParted (name : Draw) (entries : List LogEntry) (front : List Command) : Type 0 where
-  first : List LogEntry
-  more : List LogEntry
-  are : entries ≡ first ++ more
-  log : log_in name first ≡ front
-
-part_other : (name : Draw) (e : LogEntry) (entries : List LogEntry) (front : List Command) → (e.group ≡ name → ⊥) → IsParted name entries front → IsParted name (e ∷ entries) front
-part_other name e entries front ne at = record { first = e ∷ at.first; more = at.more; are = ap (λ es. e ∷ es) at.are; log = other_first name e at.first ne ∙ at.log }
-
-none_before : (c : Command) (front later : List Command) → [] ≡ (c ∷ front) ++ later → ⊥
-none_before c front later e = cc
-
-part : (name : Draw) (entries : List LogEntry) (front later : List Command) → log_in name entries ≡ front ++ later → IsParted name entries front
-part name entries [] later e = record { first = []; more = entries; are = refl; log = refl }
-part name [] (c ∷ front) later e = absurd (none_before c front later e)
-part name (x ∷ entries) (c ∷ front) later e = elim (one_or_not x.group name) [
-  | inl same ↦ (
-      let both = heads x.command c (log_in name entries) (front ++ later) (sym (own_first name x entries same) ∙ e) in
-      let at = part name entries front later both.1 in
-      record {
-        first = x ∷ at.first;
-        more = at.more;
-        are = ap (λ es. x ∷ es) at.are;
-        log = own_first name x at.first same ∙ ap (λ cs. x.command ∷ cs) at.log ∙ ap (λ d. d ∷ front) both.0;
-      })
-  | inr ne ↦ part_other name x entries (c ∷ front) ne (part name entries (c ∷ front) later (sym (other_first name x entries ne) ∙ e))
-]
-
 pub states_allow : StatesAllow
 states_allow sources ahead bases start rows h base a front later is name command stands =
     let k = told_rows sources ahead bases start rows h in
     let b = k.born base (group_found ahead bases rows base a) in
-    let at = part base.core.id b.rest front later (b.log_is ∙ is) in
+    let at = parts_at base.core.id b.rest front later (b.log_is ∙ is) in
     let before = b.first ++ at.first in
     let group : Group = state_after (group_of base) front in
-    let whole : entries_at ahead bases rows ≡ before ++ at.more = b.are ∙ ap (λ es. b.first ++ es) at.are ∙ sym (append_assoc b.first at.first at.more) in
+    let whole : entries_at ahead bases rows ≡ before ++ at.rest = b.are ∙ ap (λ es. b.first ++ es) at.are ∙ sym (append_assoc b.first at.first at.rest) in
     let there : named_group base.core.id (world_of bases before).groups ≡ Some group =
     ap (λ (w : StoreWorld). named_group base.core.id w.groups) (world_append (first_world bases) b.first at.first)
     ∙ logs_make_states (world_of bases b.first) base.core.id (group_of base) b.there at.first ∙ ap (λ cs. Some (state_after (group_of base) cs)) at.log in
     let allowed = subst (AreAllowed sources (first_told bases)) whole k.allowed in
-    let facts = entries_keep_the_promises sources bases before start (allowed_parts sources (first_told bases) before at.more allowed).0 in
+    let facts = entries_keep_the_promises sources bases before start (allowed_parts sources (first_told bases) before at.rest allowed).0 in
     subst (λ es. IsAllowed sources (stories_of bases es) name command) (sym whole)
-    (stays sources bases start before at.more allowed name command (stands (λ n. named_group n (world_of bases before).groups) (stories_of bases before) facts there))
+    (stays sources bases start before at.rest allowed name command (stands (λ n. named_group n (world_of bases before).groups) (stories_of bases before) facts there))

@@ -22,18 +22,13 @@ use Rattle.sc_ring_law.specs.Stories.{put}
 use Rattle.sc_ring_law.specs.Invariant.{Groups}
 use Rattle.sc_ring_law.proofs.Cover.{at-same, at-other}
 use Rattle.sc_ring_law.proofs.Cuts.{arcs_in}
-use Rattle.sc_ring_law.proofs.Finds.{none_is_not}
 use Rattle.sc_entries.proofs.Names.{draw_cases, some_is, found_name}
-use Rattle.sc_ring_law.proofs.Rows.{some_none}
 use Rattle.sc_ring_law.proofs.Told.{groups_in, with_child, groups_are}
 use Rattle.sc_ring_law.proofs.Worlds.{KeptWorld, kept_on, fits}
 use Rattle.sc_sound.specs.GroupsOf.{children_of, entries_from}
 use Rattle.sc_journal_law.proofs.Children.{log_of_own}
-
--- the worlds with and without stories are one
-pub store_after : (w : ToldWorld) (entries : List LogEntry) → (told_after w entries).store ≡ world_after w.store entries
-store_after w [] = refl
-store_after w (e ∷ es) = store_after (told_on w e) es
+use Rattle.std.proofs.lemmas.Option.{none-some}
+use Rattle.sc_ring_law.proofs.Finds.{some_none}
 
 -- more entries are told to the world before them
 pub told_append : (w : ToldWorld) (entries more : List LogEntry) → told_after w (entries ++ more) ≡ told_after (told_after w entries) more
@@ -45,7 +40,7 @@ pub stays_there : (world : StoreWorld) (name : Draw) (group : Group) → named_g
 stays_there world name group found entries = (_, logs_make_states world name group found entries)
 
 born_as : (group : Group) (o : Option Division) (child : Base) → option_map (λ (d : Division). child_of group d.at d.child) o ≡ Some child → (d : Division) × (o ≡ Some d) × (d.child ≡ child.core.id)
-born_as group None child e = absurd (none_is_not child e)
+born_as group None child e = absurd (none-some child e)
 born_as group (Some d) child e = (d, refl, ap (λ (b : Base). b.core.id) (some_is (child_of group d.at d.child) child e))
 
 -- nothing is where nothing can be
@@ -60,7 +55,7 @@ from_joined (Some first) rest child (inl same) = inl (ap Some same)
 from_joined (Some first) rest child (inr a) = inr a
 
 joined_first : (o : Option Base) (rest : List Base) (child : Base) → o ≡ Some child → Among child (option_to_list o ++ rest)
-joined_first None rest child e = absurd (none_is_not child e)
+joined_first None rest child e = absurd (none-some child e)
 joined_first (Some first) rest child e = inl (some_is first child e)
 
 -- where a child is born among entries
@@ -192,7 +187,7 @@ module _ (sources : Sources) (name : Draw) where
       told_now : now.history ≡ w.store.history ++ entry_of c r.1
       told_now = ap (λ o. (after_command w.store o c).history) found
 
-      pub push_born_by : BornBy name w.store slot group (c ∷ cs)
+      push_born_by : BornBy name w.store slot group (c ∷ cs)
       push_born_by = record {
         unborn = λ child a. push_unborn child (from_joined birth rest child a);
         one = λ child other a b same. push_one child other (from_joined birth rest child a) (from_joined birth rest other b) same;

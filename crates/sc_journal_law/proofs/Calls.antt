@@ -1,18 +1,9 @@
--- The calls of a log that took effect, and entries that are allowed one after another.
-use Rattle.std.proofs.Common.{◌≡◌, ℕ, ◌+◌, List, [], ◌∷◌, ◌++◌, inl, inr, sym, ap, subst}
-use Rattle.sc_base.specs.Among.{Among, Each}
+-- Entries that are allowed one after another.
+use Rattle.std.proofs.Common.{◌≡◌, ℕ, ◌+◌, List, [], ◌∷◌, ◌++◌, sym, subst}
+use Rattle.sc_base.specs.Among.{Each}
 use Rattle.sc_base.specs.declared.names.Draw.{Draw}
-use Rattle.sc_base.specs.declared.ops.Op.{Op}
 use Rattle.sc_cmd.specs.declared.commands.Command.{Command}
-use Rattle.sc_cmd.specs.declared.commands.Command.TheVariants.{Call}
 use Rattle.sc_cmd.specs.declared.cores.Base.{Base}
-use Rattle.sc_cmd.specs.declared.effects.Effect.{Effect}
-use Rattle.sc_cmd.specs.declared.effects.Effect.TheVariants.{Done}
-use Rattle.sc_ideal.specs.declared.Entry.{Entry}
-use Rattle.sc_machine_table.specs.Group.{Group}
-use Rattle.sc_machine_table.specs.Logs.{entry_by, entry_of, done_by}
-use Rattle.sc_machine_table.specs.Machine.{applied}
-use Rattle.sc_paxos_law.proofs.Among.{Among-either}
 use Rattle.sc_paxos_words.proofs.ListLemmas.{Each-weaker}
 use Rattle.sc_entries.specs.declared.LogEntry.{LogEntry}
 use Rattle.sc_ring_law.specs.Allowed.{Sources, IsAllowed, AreAllowed, ToldWorld, first_told, told_on, told_after}
@@ -21,27 +12,6 @@ use Rattle.sc_ring_law.proofs.Grows.{allowed_entries_stay_allowed}
 use Rattle.sc_ring_law.proofs.Sound.{allowed_lists_append}
 use Rattle.sc_sound.specs.GroupsOf.{entries_from}
 use Rattle.sc_journal_law.proofs.Births.{told_append}
-
--- ---- calls
-
-call_by : (client seq : ℕ) (op : Op) (effect : Effect) (e : Entry) → Among e (entry_by client seq op effect) → Call client seq op ≡ Call e.client e.seq e.op
-call_by client seq op (Done reply) e (inl same) = ap (λ (x : Entry). Call x.client x.seq x.op) same
-call_by client seq op (Done reply) e (inr n) = absurd n
-call_by client seq op _ e a = absurd a
-
-call_of : (c : Command) (effect : Effect) (e : Entry) → Among e (entry_of c effect) → c ≡ Call e.client e.seq e.op
-call_of (Call client seq op) effect e a = call_by client seq op effect e a
-call_of _ effect e a = absurd a
-
--- each call that took effect stands in the log
-pub calls_of : (group : Group) (log : List Command) (e : Entry) → Among e (done_by group log) → Among (Call e.client e.seq e.op) log
-calls_of group [] e a = absurd a
-calls_of group (c ∷ log) e a = elim (Among-either e (entry_of c (applied group c).1) (done_by (applied group c).0 log) a) [
-  | inl now ↦ inl (call_of c (applied group c).1 e now)
-  | inr later ↦ inr (calls_of (applied group c).0 log e later)
-]
-
--- ---- what is allowed
 
 -- commands of one log that are allowed by what was told before the first of them may come one after another
 pub all_allowed : (sources : Sources) (bases : List Base) → BeginInPlace sources bases → (entries : List LogEntry) → AreAllowed sources (first_told bases) entries → (name : Draw) (slot : ℕ) (cs : List Command)

@@ -1,11 +1,8 @@
 -- The children that a log names, and what the entries of one group's log are of another's.
-use Rattle.std.proofs.Common.{◌≡◌, ℕ, ◌+◌, List, [], ◌∷◌, ◌++◌, map, filter, inl, inr, refl, sym, ◌∙◌, ap, append_assoc}
+use Rattle.std.proofs.Common.{◌≡◌, ℕ, ◌+◌, List, [], ◌∷◌, ◌++◌, inl, inr, refl, sym, ◌∙◌, ap, append_assoc}
 use Rattle.std.specs.Option.{option_to_list}
-use Rattle.std.proofs.lemmas.Bool.{cond-true, cond-false}
 use Rattle.sc_base.specs.Among.{Among}
-use Rattle.sc_base.specs.Same.{same_draw}
 use Rattle.sc_base.specs.declared.names.Draw.{Draw}
-use Rattle.sc_base.proofs.NameLemmas.{same_name}
 use Rattle.sc_cmd.specs.declared.commands.Command.{Command}
 use Rattle.sc_machine_table.specs.Group.{Group}
 use Rattle.sc_machine_table.specs.Logs.{state_after}
@@ -13,9 +10,9 @@ use Rattle.sc_machine_table.specs.Machine.{applied}
 use Rattle.sc_entries.specs.Births.{birth_of}
 use Rattle.sc_entries.specs.declared.LogEntry.{LogEntry}
 use Rattle.sc_hist_law.specs.Fronts.{log_in}
-use Rattle.sc_hist_law.proofs.Disjoint.{one_or_not}
+use Rattle.sc_hist_law.proofs.Fronts.{other_first, own_first}
 use Rattle.sc_sound.specs.GroupsOf.{children_of, entries_from}
-use Rattle.sc_journal_law.proofs.Lists.{not_same}
+use Rattle.sc_entries.proofs.Names.{draw_cases}
 
 -- the children of two parts of a log
 pub children_append : (group : Group) (log more : List Command) → children_of group (log ++ more) ≡ children_of group log ++ children_of (state_after group log) more
@@ -32,19 +29,10 @@ state_append group (c ∷ log) more = state_append (applied group c).0 log more
 
 -- ---- logs among entries
 
--- an entry of the group, and one of another's
-pub own_first : (name : Draw) (entry : LogEntry) (entries : List LogEntry) → entry.group ≡ name → log_in name (entry ∷ entries) ≡ entry.command ∷ log_in name entries
-own_first name entry entries e =
-    ap (map (λ (x : LogEntry). x.command)) (cond-true (same_draw entry.group name) (entry ∷ filter (λ (x : LogEntry). same_draw x.group name) entries) (filter (λ (x : LogEntry). same_draw x.group name) entries) (same_name entry.group name e))
-
-pub other_first : (name : Draw) (entry : LogEntry) (entries : List LogEntry) → (entry.group ≡ name → ⊥) → log_in name (entry ∷ entries) ≡ log_in name entries
-other_first name entry entries ne =
-    ap (map (λ (x : LogEntry). x.command)) (cond-false (same_draw entry.group name) (entry ∷ filter (λ (x : LogEntry). same_draw x.group name) entries) (filter (λ (x : LogEntry). same_draw x.group name) entries) (not_same entry.group name ne))
-
 -- the log of a group in two lists of entries
 pub log_append : (name : Draw) (entries more : List LogEntry) → log_in name (entries ++ more) ≡ log_in name entries ++ log_in name more
 log_append name [] more = refl
-log_append name (entry ∷ entries) more = elim (one_or_not entry.group name) [
+log_append name (entry ∷ entries) more = elim (draw_cases entry.group name) [
   | inl e ↦ own_first name entry (entries ++ more) e ∙ ap (λ cs. entry.command ∷ cs) (log_append name entries more) ∙ sym (ap (λ cs. cs ++ log_in name more) (own_first name entry entries e))
   | inr ne ↦ other_first name entry (entries ++ more) ne ∙ log_append name entries more ∙ sym (ap (λ cs. cs ++ log_in name more) (other_first name entry entries ne))
 ]

@@ -43,17 +43,19 @@ use Rattle.sc_ring_law.proofs.Commits.{IsDeciding, own_is, mine_old, part_eff, p
 use Rattle.sc_ring_law.proofs.Cuts.{arcs_in, arc_of_cut}
 use Rattle.sc_ring_law.proofs.Effects.{decisions, outcome_of, living, eff, arc_of, succ_of, view_of, Old, eff_by, eff_free, living_is}
 use Rattle.sc_ring_law.proofs.Ends.{own_story, group_none}
-use Rattle.sc_ring_law.proofs.Finds.{none_is_not, find_there}
+use Rattle.sc_paxos_words.proofs.ListLemmas.{find_found}
 use Rattle.sc_ring_law.proofs.Insides.{room_of}
 use Rattle.sc_ring_law.proofs.Links.{IsPair, pair_meets}
 use Rattle.sc_ring_law.proofs.Reshapes.{Ends}
-use Rattle.sc_ring_law.proofs.Rows.{some_none, same_offer, unheard}
+use Rattle.sc_ring_law.proofs.Rows.{unheard}
 use Rattle.sc_ring_law.proofs.Sound.{sound_world}
 use Rattle.sc_ring_law.proofs.Steps.{lock_free, watch_settled}
 use Rattle.sc_entries.proofs.Names.{found_name, some_is}
 use Rattle.sc_ring_law.proofs.Told.{groups_in, brief, story_brief, decision_is}
 use Rattle.sc_ring_law.proofs.Worlds.{KeptWorld, kept_on}
 use Rattle.sc_hist_law.specs.Telling.{HasCut, IsUncommitted, MayCall, MaySplit, IsItsOwn, IsParty, MayHear, MayHearWatcher, MayFinish, MayExecute, MayAllBeTold}
+use Rattle.std.proofs.lemmas.Option.{none-some}
+use Rattle.sc_ring_law.proofs.Finds.{some_none}
 
 -- what a lock that coordinates a transaction is
 coordinating : (l : Lock) (tx : Draw) → is_coordinating l tx ≡ true → (body : Body) × (order : ℕ) × (heard : Option Heard) × (l ≡ Coordinating tx body order heard)
@@ -67,10 +69,10 @@ offer_some : (core : Core) (body : Body) (o : Offer) → offer_for core body ≡
 offer_some core At.Merge o e = refl
 offer_some core (At.Repart at) o e = refl
 offer_some core (At.Migrate node) o e = refl
-offer_some core (At.Split at child) o e = absurd (none_is_not o e)
+offer_some core (At.Split at child) o e = absurd (none-some o e)
 
 brief_some : (o : Option Transaction) (b : Draw × Option Outcome) → option_map brief o ≡ Some b → (t : Transaction) × (o ≡ Some t) × (brief t ≡ b)
-brief_some None b e = absurd (none_is_not b e)
+brief_some None b e = absurd (none-some b e)
 brief_some (Some t) b e = (t, refl, some_is (brief t) b e)
 
 abort_false : (o : Outcome) → is_commit o ≡ true → o ≡ Abort → ⊥
@@ -109,7 +111,7 @@ module _ (sources : Sources) (w : ToldWorld) (k : KeptWorld sources.owner w) (g 
   may_call client seq op a = record {
     asked = a;
     cut = λ h. (
-        let c = (sound_world sources.owner w k).serves_apart s (find_there (is_named g) w.store.groups s is) (key_of op) h in
+        let c = (sound_world sources.owner w k).serves_apart s (find_found (is_named g) w.store.groups s is).0 (key_of op) h in
         (c.0.arc, ap (arcs_in w.store.ring) (sym c.2) ∙ arc_of_cut w.store.ring k.apart c.0 c.1));
   }
 
@@ -157,7 +159,7 @@ module _ (sources : Sources) (w : ToldWorld) (k : KeptWorld sources.owner w) (g 
       let o = own_is sources.owner gs ys g s tx body heard y d in
       let r = (k.kept.0.story tx y d.there).frozen o.undecided fz vote in
       let has = offer_some s.core body (unsigned r.offer) (sym o.offer ∙ r.offered) in
-      let same = same_offer (offer_with s.core body) (unsigned r.offer) (sym has ∙ sym o.offer ∙ r.offered) in
+      let same = some_is (offer_with s.core body) (unsigned r.offer) (sym has ∙ sym o.offer ∙ r.offered) in
       let line : s.core.succ.group ≡ r.offer.part = ap (λ (z : Offer). z.part) same in
       let ne : g ≡ r.offer.part → ⊥ = λ e. o.apart (line ∙ sym e) in
       let p = part_eff sources.owner gs ys g s tx body heard y d s (Ends y Divided) Divided fz r (λ e. ne (sym e)) refl refl in
@@ -179,7 +181,7 @@ module _ (sources : Sources) (w : ToldWorld) (k : KeptWorld sources.owner w) (g 
         only = λ name other offer there lock. (
             let u = subst (LockOk ys name other) lock (k.kept.0.group name other there).lock_ok in
             let story = some_is u.story y (sym u.is ∙ d.there) in
-            let part = ap (λ (z : Offer). z.part) (same_offer (unsigned offer) (unsigned r.offer) (sym u.offered ∙ ap (λ (z : Story). z.offer) story ∙ r.offered)) in
+            let part = ap (λ (z : Offer). z.part) (some_is (unsigned offer) (unsigned r.offer) (sym u.offered ∙ ap (λ (z : Story). z.offer) story ∙ r.offered)) in
             sym u.part ∙ part ∙ sym line);
         own_cut = mine_cut s mine;
         next_cut = subst (HasCut w.store) (sym line) (cut_by r.offer.part r.group p.0);
@@ -238,7 +240,7 @@ module _ (sources : Sources) (w : ToldWorld) (k : KeptWorld sources.owner w) (g 
   gained_lives at gift offer tx here false = (s, living_is s here)
 
   finish_cut : (tx : Draw) (y : Story) (at : ℕ) (gift : Gift) → ys tx ≡ Some y → y.outcome ≡ Some (Moved at (Some gift)) → (l : Lock) → s.core.lock ≡ l → locked_in l ≡ Some tx → HasCut w.store s.core.id
-  finish_cut tx y at gift there out Free lock e = absurd (none_is_not tx e)
+  finish_cut tx y at gift there out Free lock e = absurd (none-some tx e)
   finish_cut tx y at gift there out (Coordinating t body order heard) lock e =
       let same = some_is t tx e in
       let o = own tx body order heard (lock ∙ ap (λ n. Coordinating n body order heard) same) in

@@ -17,7 +17,6 @@ use Rattle.sc_hist_law.specs.Worlds.{BeginBare}
 use Rattle.sc_hist_law.proofs.Fronts.{fronts_answer}
 use Rattle.sc_ring_law.specs.Allowed.{Sources}
 use Rattle.sc_ring_law.specs.Laws.{BeginInPlace}
-use Rattle.sc_ring_law.proofs.Rows.{some_none}
 use Rattle.sc_journal_law.specs.OneMap.{AllowedEntriesMakeOneMap}
 use Rattle.sc_sound.specs.GroupsOf.{children_of, birth_at, log_by, log_at, state_at, entries_at, world_at}
 use Rattle.sc_sound.specs.Logs.{decided_state}
@@ -31,6 +30,7 @@ use Rattle.sc_journal_law.proofs.Generations.{FoundInTurn, group_found, found_gr
 use Rattle.sc_journal_law.proofs.Births.{none_there}
 use Rattle.sc_journal_law.proofs.Told.{Told, first_rows, state_there}
 use Rattle.sc_journal_law.proofs.Pushes.{found_next, new_name, push_told}
+use Rattle.sc_ring_law.proofs.Finds.{some_none}
 
 -- ---- what is told
 

@@ -20,7 +20,7 @@ use Rattle.sc_sound.specs.Soundness.{GoesOn, told_from}
 use Rattle.sc_journal_law.specs.Descent.{Rows, IsFound, added_by}
 use Rattle.sc_journal_law.specs.InTurn.{DecidesInTurn, DecideInTurn}
 use Rattle.sc_journal_law.specs.Laws.{HistoryIsTold, ToldRowsStay}
-use Rattle.sc_journal_law.proofs.Generations.{FoundInTurn, log_on, still_descends, group_found, found_group, known_by_name}
+use Rattle.sc_journal_law.proofs.Generations.{log_on, still_descends, group_found, found_group, known_by_name}
 use Rattle.sc_journal_law.proofs.Told.{Told, first_rows, Decides}
 use Rattle.sc_journal_law.proofs.Pushes.{d, world_next}
 use Rattle.sc_journal_law.proofs.Parts.{in_turn_parts, entries_parts, told_stays, get_front, get_behind}
@@ -29,32 +29,26 @@ use Rattle.sc_journal_law.proofs.Findings.{found_turn, push_turn, told_rows}
 -- ---- with more rows
 
 module _ (sources : Sources) (ahead : Ahead) (bases : List Base) (start : BeginInPlace sources bases) where
-  turns : (before : Rows) → Told sources ahead bases before → (row : Row Mail OrderLine) → DecidesInTurn sources ahead bases before row → FoundInTurn sources ahead bases before row
-  turns = found_turn sources ahead bases start
-
-  push : (before : Rows) → Told sources ahead bases before → (row : Row Mail OrderLine) → DecidesInTurn sources ahead bases before row → Told sources ahead bases (before ++ row ∷ [])
-  push = push_turn sources ahead bases start
-
-  decided : (before : Rows) (k : Told sources ahead bases before) (row : Row Mail OrderLine) (turn : DecidesInTurn sources ahead bases before row) → Decides sources ahead bases start before k row (turns before k row turn)
-  decided before k row turn = d sources ahead bases start before k row (turns before k row turn)
+  decided : (before : Rows) (k : Told sources ahead bases before) (row : Row Mail OrderLine) (turn : DecidesInTurn sources ahead bases before row) → Decides sources ahead bases start before k row (found_turn sources ahead bases start before k row turn)
+  decided before k row turn = d sources ahead bases start before k row (found_turn sources ahead bases start before k row turn)
 
   still : (before : Rows) → Told sources ahead bases before → (row : Row Mail OrderLine) → DecidesInTurn sources ahead bases before row → (base : Base) → IsFound ahead bases before base → IsFound ahead bases (before ++ row ∷ []) base
-  still before k row turn base f = (f.0, still_descends sources ahead bases before row (turns before k row turn) f.0 base f.1)
+  still before k row turn base f = (f.0, still_descends sources ahead bases before row (found_turn sources ahead bases start before k row turn) f.0 base f.1)
 
   found_later : (before more : Rows) → Told sources ahead bases before → DecideInTurn sources ahead bases before more → (base : Base) → IsFound ahead bases before base → IsFound ahead bases (before ++ more) base
   found_later before [] k h base f = subst (λ b. IsFound ahead bases b base) (sym (append-nil before)) f
   found_later before (row ∷ more) k h base f =
       subst (λ b. IsFound ahead bases b base) (append_assoc before (row ∷ []) more)
-      (found_later (before ++ row ∷ []) more (push before k row h.0) h.1 base (still before k row h.0 base f))
+      (found_later (before ++ row ∷ []) more (push_turn sources ahead bases start before k row h.0) h.1 base (still before k row h.0 base f))
 
   log_later : (before more : Rows) → Told sources ahead bases before → DecideInTurn sources ahead bases before more → (base : Base) → IsFound ahead bases before base → GoesOn (decided_log ahead base before) (decided_log ahead base (before ++ more))
   log_later before [] k h base f = ([], ap (decided_log ahead base) (append-nil before) ∙ sym (append-nil (decided_log ahead base before)))
   log_later before (row ∷ more) k h base f =
       let now = added_by ahead before row base in
-      let (later, is) = log_later (before ++ row ∷ []) more (push before k row h.0) h.1 base (still before k row h.0 base f) in (
+      let (later, is) = log_later (before ++ row ∷ []) more (push_turn sources ahead bases start before k row h.0) h.1 base (still before k row h.0 base f) in (
         now ++ later,
         ap (decided_log ahead base) (sym (append_assoc before (row ∷ []) more)) ∙ is
-            ∙ ap (λ cs. cs ++ later) (log_on sources ahead bases before row (turns before k row h.0) base f)
+            ∙ ap (λ cs. cs ++ later) (log_on sources ahead bases before row (found_turn sources ahead bases start before k row h.0) base f)
             ∙ append_assoc (decided_log ahead base before) now later,
       )
 
@@ -62,13 +56,13 @@ module _ (sources : Sources) (ahead : Ahead) (bases : List Base) (start : BeginI
   history_on : (before : Rows) (k : Told sources ahead bases before) (row : Row Mail OrderLine) (turn : DecidesInTurn sources ahead bases before row)
       → history_at ahead bases (before ++ row ∷ []) ≡ history_at ahead bases before ++ (decided before k row turn).news
   unfolding decided
-  history_on before k row turn = ap (λ (w : StoreWorld). w.history) (world_next sources ahead bases start before k row (turns before k row turn)) ∙ (decided before k row turn).history
+  history_on before k row turn = ap (λ (w : StoreWorld). w.history) (world_next sources ahead bases start before k row (found_turn sources ahead bases start before k row turn)) ∙ (decided before k row turn).history
 
   history_later : (before more : Rows) → Told sources ahead bases before → DecideInTurn sources ahead bases before more → (later : List Entry) × (history_at ahead bases (before ++ more) ≡ history_at ahead bases before ++ later)
   history_later before [] k h = ([], ap (history_at ahead bases) (append-nil before) ∙ sym (append-nil (history_at ahead bases before)))
   history_later before (row ∷ more) k h =
       let now = (decided before k row h.0).news in
-      let (later, is) = history_later (before ++ row ∷ []) more (push before k row h.0) h.1 in (
+      let (later, is) = history_later (before ++ row ∷ []) more (push_turn sources ahead bases start before k row h.0) h.1 in (
         now ++ later,
         ap (history_at ahead bases) (sym (append_assoc before (row ∷ []) more)) ∙ is
             ∙ ap (λ es. es ++ later) (history_on before k row h.0)
@@ -97,7 +91,7 @@ module _ (sources : Sources) (ahead : Ahead) (bases : List Base) (start : BeginI
       let next = before ++ row ∷ [] in
       let told = history_at ahead bases next in
       let decides = decided before k row turn in
-      let (later, is) = history_later next rows (push before k row turn) h in
+      let (later, is) = history_later next rows (push_turn sources ahead bases start before k row turn) h in
       let whole : history_at ahead bases (before ++ row ∷ rows) ≡ told ++ later = ap (history_at ahead bases) (sym (append_assoc before (row ∷ []) rows)) ∙ is in
       let here = get_front told later place entry lt (subst (λ es. slice_get es place ≡ Some entry) whole at) in
       let new = get_behind (history_at ahead bases before) decides.news place entry le (subst (λ es. slice_get es place ≡ Some entry) (history_on before k row turn) here) in
@@ -126,7 +120,7 @@ module _ (sources : Sources) (ahead : Ahead) (bases : List Base) (start : BeginI
       elim (cases_lt place (length told)) [
         | inl lt ↦ told_now before rows row k h.0 h.1 place entry le lt at
         | inr ge ↦ (
-            let t = told_place next rows (push before k row h.0) h.1 place entry (omega (arith, ge)) (subst (λ b. slice_get (history_at ahead bases b) place ≡ Some entry) (sym (append_assoc before (row ∷ []) rows)) at) in
+            let t = told_place next rows (push_turn sources ahead bases start before k row h.0) h.1 place entry (omega (arith, ge)) (subst (λ b. slice_get (history_at ahead bases b) place ≡ Some entry) (sym (append_assoc before (row ∷ []) rows)) at) in
             record {
               front = t.front;
               row = t.row;

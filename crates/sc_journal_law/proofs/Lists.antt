@@ -3,12 +3,12 @@ use Rattle.std.proofs.Common.{◌≡◌, true, false, List, [], ◌∷◌, ◌++
 use Rattle.std.specs.List.{flat_map, list_any}
 use Rattle.std.proofs.lemmas.Bool.{cases_Bool, or_left, or_right, or_cases, cond-true, cond-false}
 use Rattle.sc_base.specs.Among.{Among, Each}
-use Rattle.sc_base.specs.Same.{same_draw}
 use Rattle.sc_base.specs.declared.names.Draw.{Draw}
 use Rattle.sc_base.proofs.NameLemmas.{same_name, draw_is}
 use Rattle.sc_cmd.specs.declared.cores.Base.{Base}
 use Rattle.sc_paxos_law.proofs.Among.{Among-left, Among-right, Among-either}
 use Rattle.sc_paxos_words.proofs.ListLemmas.{Each-append, Each-among}
+use Rattle.sc_entries.proofs.Names.{other_name}
 use Rattle.sc_ring_law.proofs.Finds.{Pairwise}
 use Rattle.sc_sound.specs.GroupsOf.{is_birth_of, with_birth}
 
@@ -36,9 +36,6 @@ flat_map_one f (b ∷ bases) apart base (inr a) none =
 
 -- ---- names
 
-pub not_same : (one other : Draw) → (one ≡ other → ⊥) → same_draw one other ≡ false
-not_same one other ne = elim (cases_Bool (same_draw one other)) [ inl t ↦ absurd (ne (draw_is one other t)) | inr f ↦ f ]
-
 -- the one of these with a name is found by it
 pub find_base : (bases : List Base) (base : Base) → Among base bases → ((other : Base) → Among other bases → other.core.id ≡ base.core.id → other ≡ base) → find (is_birth_of base.core.id) bases ≡ Some base
 find_base [] base a only = absurd a
@@ -57,7 +54,7 @@ find_base (b ∷ bases) base a only =
 pub find_no_base : (bases : List Base) (name : Draw) → ((other : Base) → Among other bases → other.core.id ≡ name → ⊥) → find (is_birth_of name) bases ≡ None
 find_no_base [] name none = refl
 find_no_base (b ∷ bases) name none =
-    cond-false (is_birth_of name b) (Some b) (find (is_birth_of name) bases) (not_same b.core.id name (none b (inl refl))) ∙ find_no_base bases name (λ other a. none other (inr a))
+    cond-false (is_birth_of name b) (Some b) (find (is_birth_of name) bases) (other_name b.core.id name (none b (inl refl))) ∙ find_no_base bases name (λ other a. none other (inr a))
 
 -- ---- one birth more
 

@@ -17,7 +17,7 @@ use Rattle.sc_sound.specs.Accepts.{is_accepted, accepts_of, accepts_got, accepts
 use Rattle.sc_sound.specs.Logs.{rule_of}
 use Rattle.sc_journal_law.specs.Descent.{Rows}
 use Rattle.sc_journal_law.specs.Laws.{RowsDecideForOne}
-use Rattle.sc_journal_law.proofs.Lists.{not_same}
+use Rattle.sc_entries.proofs.Names.{other_name}
 
 -- all that was sent
 abbrev sent_by : List Mail → Rows → List Mail
@@ -49,7 +49,7 @@ name_at sent _ = no_name
 -- for other groups nothing is accepted
 other_of : (group : Draw) (row : Row Mail OrderLine) (body : MailBody) → (group ≡ name_of body → ⊥) → accepts_of group row body ≡ []
 other_of group row (Accept g ballot slot command) ne =
-    ap (λ same. cond (same && list_any (λ mail. is_accepted g ballot slot mail.body) row.sent) (Accepted row.who ballot slot command ∷ []) []) (not_same g group (λ e. ne (sym e)))
+    ap (λ same. cond (same && list_any (λ mail. is_accepted g ballot slot mail.body) row.sent) (Accepted row.who ballot slot command ∷ []) []) (other_name g group (λ e. ne (sym e)))
 other_of group row _ ne = refl
 
 other_got : (group : Draw) (row : Row Mail OrderLine) (mail : Option Mail) → (group ≡ name_got mail → ⊥) → accepts_got group row mail ≡ []

@@ -14,10 +14,8 @@ use Rattle.sc_entries.specs.declared.LogEntry.{LogEntry}
 use Rattle.sc_entries.specs.Worlds.{StoreWorld, first_world, named_group, world_after}
 use Rattle.sc_entries.proofs.Pushes.{world_append}
 use Rattle.sc_hist_law.specs.Fronts.{log_in}
-use Rattle.sc_hist_law.proofs.Disjoint.{one_or_not}
 use Rattle.sc_ring_law.specs.Allowed.{Sources, AreAllowed, first_told}
 use Rattle.sc_ring_law.specs.Laws.{BeginInPlace}
-use Rattle.sc_ring_law.proofs.Rows.{some_none}
 use Rattle.sc_ring_law.proofs.Sound.{allowed_lists_append}
 use Rattle.sc_sound.specs.GroupsOf.{groups_at, log_at, entries_from, entries_after, entries_gained, entries_by_row, entries_at, world_at}
 use Rattle.sc_sound.specs.Logs.{decided_log, decided_state}
@@ -27,6 +25,8 @@ use Rattle.sc_journal_law.proofs.Lists.{flat_map_none, flat_map_one}
 use Rattle.sc_journal_law.proofs.Children.{log_append, log_of_others, log_of_own, entries_of}
 use Rattle.sc_journal_law.proofs.Generations.{FoundInTurn, AreOne, AreNear, log_on, still_descends, IsNamedNow, now_descends, old_or_new, near_on, group_found, groups_apart, found_group, known_by_name, no_birth_at, no_log_at}
 use Rattle.sc_journal_law.proofs.Told.{IsBorn, Told, two_names, state_there, Decides, others_idle, decides}
+use Rattle.sc_ring_law.proofs.Finds.{some_none}
+use Rattle.sc_entries.proofs.Names.{draw_cases}
 
 module _ (sources : Sources) (ahead : Ahead) (bases : List Base) (start : BeginInPlace sources bases) (before : Rows) (k : Told sources ahead bases before) (row : Row Mail OrderLine) (turn : FoundInTurn sources ahead bases before row) where
   abbrev next : Rows
@@ -108,7 +108,7 @@ module _ (sources : Sources) (ahead : Ahead) (bases : List Base) (start : BeginI
   found_next base a = found_before base (group_found ahead bases next base a)
 
   idle : (base : Base) → IsFound ahead bases before base → d.cs ≡ [] → added base ≡ []
-  idle base f none = elim (one_or_not base.core.id turn.name) [
+  idle base f none = elim (draw_cases base.core.id turn.name) [
     | inl e ↦ d.mine base f e ∙ none
     | inr ne ↦ others_idle sources ahead bases start before k row turn base f ne
   ]
@@ -154,7 +154,7 @@ module _ (sources : Sources) (ahead : Ahead) (bases : List Base) (start : BeginI
 
   -- a group's own are what its log gets
   own_of : (base : Base) → IsFound ahead bases before base → log_in base.core.id new ≡ added base
-  own_of base f = elim (one_or_not base.core.id turn.name) [
+  own_of base f = elim (draw_cases base.core.id turn.name) [
     | inl e ↦ ap (λ n. log_in n new) e ∙ log_of_own turn.name d.slot d.cs ∙ sym (d.mine base f e)
     | inr ne ↦ log_of_others base.core.id new (λ entry a same. ne (sym (entries_of turn.name d.slot d.cs entry a ∙ same))) ∙ sym (others_idle sources ahead bases start before k row turn base f ne)
   ]

@@ -12,7 +12,7 @@ use Rattle.sc_actor.specs.declared.rows.Row.{Row}
 use Rattle.sc_ideal.specs.declared.Entry.{Entry}
 use Rattle.sc_machine_table.specs.Group.{Group, group_of}
 use Rattle.sc_machine_table.specs.Logs.{state_after, done_by}
-use Rattle.sc_paxos_words.proofs.ListLemmas.{Each-among, Each-from}
+use Rattle.sc_paxos_words.proofs.ListLemmas.{Each-among, Each-from, find_found}
 use Rattle.sc_sound.specs.Players.{Ahead}
 use Rattle.sc_entries.specs.declared.Cut.{Cut}
 use Rattle.sc_entries.specs.declared.LogEntry.{LogEntry}
@@ -20,22 +20,23 @@ use Rattle.sc_entries.specs.Rings.{first_cut}
 use Rattle.sc_entries.specs.Worlds.{StoreWorld, first_world, is_named, named_group, world_after, world_of}
 use Rattle.sc_entries.proofs.Pushes.{world_append}
 use Rattle.sc_hist_law.specs.Fronts.{log_in}
-use Rattle.sc_hist_law.proofs.Disjoint.{one_or_not}
 use Rattle.sc_hist_law.proofs.Fronts.{logs_make_states}
+use Rattle.sc_hist_law.proofs.Told.{calls_of}
+use Rattle.sc_paxos_law.proofs.Among.{from_map}
+use Rattle.sc_ring_law.proofs.Sound.{store_after}
 use Rattle.sc_ring_law.specs.Allowed.{Sources, IsAllowed, AreAllowed, ToldWorld, first_told, told_after}
 use Rattle.sc_ring_law.specs.Laws.{BeginInPlace}
-use Rattle.sc_ring_law.proofs.Finds.{Pairwise, among_map, map_among, find_there}
-use Rattle.sc_ring_law.proofs.Rows.{some_none}
+use Rattle.sc_ring_law.proofs.Finds.{Pairwise, map_among, some_none}
 use Rattle.sc_ring_law.proofs.Start.{at_start}
-use Rattle.sc_entries.proofs.Names.{found_name}
+use Rattle.sc_entries.proofs.Names.{found_name, draw_cases}
 use Rattle.sc_ring_law.proofs.Worlds.{KeptWorld, kept_after}
 use Rattle.sc_sound.specs.GroupsOf.{children_of, birth_at, entries_from, entries_at, world_at}
 use Rattle.sc_sound.specs.Logs.{decided_log, decided_state}
 use Rattle.sc_journal_law.specs.Descent.{Rows, Descends, IsFound, added_by, newborn_by}
 use Rattle.sc_journal_law.proofs.Lists.{HaveTwoNames}
 use Rattle.sc_journal_law.proofs.Generations.{FoundInTurn, AreOne, AreNear, IsNamedNow, known_by_name, birth_found}
-use Rattle.sc_journal_law.proofs.Births.{store_after, IsBornAmong, BornBy, born_by}
-use Rattle.sc_journal_law.proofs.Calls.{calls_of, all_allowed}
+use Rattle.sc_journal_law.proofs.Births.{IsBornAmong, BornBy, born_by}
+use Rattle.sc_journal_law.proofs.Calls.{all_allowed}
 
 -- a group is born among the entries, and its own entries come after
 pub record IsBorn (bases : List Base) (entries : List LogEntry) (base : Base) (log : List Command) : Type 0 where
@@ -98,7 +99,7 @@ module _ (sources : Sources) (ahead : Ahead) (bases : List Base) (start : BeginI
     };
     only = λ entry a. absurd a;
     who = λ name it e. (
-        let (base, a, is) = among_map group_of bases it (find_there (is_named name) (map group_of bases) it e) in
+        let (base, a, is) = from_map group_of bases it (find_found (is_named name) (map group_of bases) it e).0 in
         (base, (0, a), ap (λ (x : Group). x.core.id) is ∙ found_name name (map group_of bases) it e));
   }
 
@@ -201,7 +202,7 @@ module _ (sources : Sources) (ahead : Ahead) (bases : List Base) (start : BeginI
 
         -- a new child is the group's
         its : (child : Base) → IsNew child → Among child (newborn_by ahead before row group)
-        its child (parent, f, a) = elim (one_or_not parent.core.id turn.name) [
+        its child (parent, f, a) = elim (draw_cases parent.core.id turn.name) [
           | inl e ↦ subst (λ x. Among child (newborn_by ahead before row x)) (k.one parent group f found (e ∙ sym named)) a
           | inr ne ↦ absurd (subst (Among child) (others_barren parent f ne) a)
         ]

@@ -73,23 +73,20 @@ chosen_elsewhere {V} members n b s value h slot other =
 
 -- ---- a log that grows
 
-early_members : {V : Type 0} (rule : Rule V) (log more : List V) (k : ℕ) → k ≤ length log → members_of rule (log ++ more) (k + 1) ≡ members_of rule log (k + 1)
-early_members rule log more k le =
+pub members_so_far : {V : Type 0} (rule : Rule V) (log more : List V) (k : ℕ) → k ≤ length log → members_of rule (log ++ more) (k + 1) ≡ members_of rule log (k + 1)
+members_so_far rule log more k le =
     let some : 1 ≤ rule.ahead = rule.some in
     ap rule.members (take-append-le (needed rule (k + 1)) log more (omega (arith, le, some)))
-
-pub members_so_far : {V : Type 0} (rule : Rule V) (log more : List V) (k : ℕ) → k ≤ length log → members_of rule (log ++ more) (k + 1) ≡ members_of rule log (k + 1)
-members_so_far = early_members
 
 pub chosen_more : {V : Type 0} (rule : Rule V) (h : List (Step V)) (log : List V) (value : V) → IsChosenSoFar rule h log
     → chosen_at (members_of rule log (length log + 1)) h (length log + 1) ≡ Some value → IsChosenSoFar rule h (log ++ value ∷ [])
 chosen_more {V} rule h log value so_far next = λ k v is. elim (get_pushed log value k v is) [
   | inl old ↦ (
       let lt : k < length log = slice_get_within log k v old in
-      ap (λ (ms : List ℕ). chosen_at ms h (k + 1)) (early_members rule log (value ∷ []) k (omega (arith, lt))) ∙ so_far k v old)
+      ap (λ (ms : List ℕ). chosen_at ms h (k + 1)) (members_so_far rule log (value ∷ []) k (omega (arith, lt))) ∙ so_far k v old)
   | inr last ↦ (
       let at : k ≡ length log = last.0 in
-      ap (λ (ms : List ℕ). chosen_at ms h (k + 1)) (early_members rule log (value ∷ []) k (omega (arith, at)))
+      ap (λ (ms : List ℕ). chosen_at ms h (k + 1)) (members_so_far rule log (value ∷ []) k (omega (arith, at)))
       ∙ ap (λ (n : ℕ). chosen_at (members_of rule log (n + 1)) h (n + 1)) at ∙ next ∙ ap Some last.1)
 ]
 
@@ -109,7 +106,7 @@ walk {V} rule h log so_far ends (x ∷ rest) front is (suc more) le =
     let here : slice_get log (length front) ≡ Some x = ap (λ (xs : List V). slice_get xs (length front)) is ∙ seam front x rest in
     let chosen : chosen_at (members_of rule front (length front + 1)) h (length front + 1) ≡ Some x =
     ap (λ (ms : List ℕ). chosen_at ms h (length front + 1))
-    (sym (early_members rule front (x ∷ rest) (length front) (omega arith)) ∙ ap (λ (xs : List V). members_of rule xs (length front + 1)) (sym is))
+    (sym (members_so_far rule front (x ∷ rest) (length front) (omega arith)) ∙ ap (λ (xs : List V). members_of rule xs (length front + 1)) (sym is))
     ∙ so_far (length front) x here in
     with_next_entries-grows rule h more front x chosen
     ∙ walk rule h log so_far ends rest (front ++ x ∷ []) (is ∙ sym (append_assoc front (x ∷ []) rest)) more (omega (arith, le))

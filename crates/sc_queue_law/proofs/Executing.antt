@@ -1,5 +1,5 @@
 -- The queue of calls while entries are executed.
-use Rattle.std.proofs.Common.{ℕ, ◌||◌, not, eqb, Bool, true, cond, List, [], ◌∷◌, filter, Option, Some, None}
+use Rattle.std.proofs.Common.{ℕ, ◌||◌, eqb, Bool, true, cond, List, Option, Some, None}
 use Rattle.sc_cmd.specs.declared.commands.Command.{Command}
 use Rattle.sc_cmd.specs.declared.commands.Command.TheVariants.{Call}
 use Rattle.sc_cmd.specs.declared.effects.Effect.{Effect}
@@ -12,15 +12,15 @@ use Rattle.sc_machine_table.specs.Machine.{applied}
 use Rattle.sc_paxos_words.specs.Leaders.{without_flight_at}
 use Rattle.sc_node_table.specs.declared.Before.{Before}
 use Rattle.sc_node_table.specs.Election.{elected, stopped}
-use Rattle.sc_node_table.specs.Execute.{entered, answer_of, told_call, order_result, told_effect, announced, learnt_to, welcomed, slot_lost, landed, left_gone, left, is_among, looked_for, looked, executed_one, next_ready, executed_ready, all_ready, executed}
-use Rattle.sc_node_table.specs.Pump.{pumped}
+use Rattle.sc_node_table.specs.Execute.{entered, answer_of, told_call, order_result, told_effect, announced, learnt_to, welcomed, slot_lost, landed, left_gone, left, is_among, looked_for, looked, executed_one, executed}
 use Rattle.sc_node_table.specs.Queues.{put_back}
 use Rattle.sc_node_table.specs.Replica.{ReplicaState, Place, next, members, flying, forgotten}
 use Rattle.sc_node_table.specs.Sameness.{same_command}
 use Rattle.sc_node_table.specs.Slots.{without_slot}
 use Rattle.sc_node_table.specs.Spoken.{before_of, spoken}
 use Rattle.sc_queue_law.specs.OneCall.{KeepsOneCall}
-use Rattle.sc_queue_law.proofs.Lists.{either_way}
+use Rattle.sc_law_lemmas.proofs.Places.{welcomed_place, executed_place}
+use Rattle.sc_law_lemmas.proofs.Ways.{either_way}
 use Rattle.sc_queue_law.proofs.Queueing.{Keeps, back_keeps, pumped_keeps, ended_keeps, elected_keeps, welcomed_keeps}
 
 entered_keeps : (command : Command) (r : ReplicaState) → KeepsOneCall r → KeepsOneCall (entered command r)
@@ -52,10 +52,6 @@ spoken_keeps counted before effect command (r, mails) k = k
 learnt_keeps : (counted : Bool) (nodes : List ℕ) (slot : ℕ) (command : Command) (place : Place) → Keeps place → Keeps (learnt_to counted nodes slot command place)
 unfolding learnt_to
 learnt_keeps counted nodes slot command (r, mails) k = either_way Keeps counted _ _ k k
-
-welcomed_keep : (counted : Bool) (nodes : List ℕ) (place : Place) → Keeps place → Keeps (welcomed counted nodes place)
-unfolding welcomed
-welcomed_keep counted nodes (r, mails) k = either_way Keeps counted _ _ (welcomed_keeps (filter (λ node. not (is_member nodes node)) (members r)) (r, mails) k) k
 
 -- a command that lost its slot goes back
 lost_keeps : (counted : Bool) (command : Command) (o : Option Command) (r : ReplicaState) → KeepsOneCall r → KeepsOneCall (slot_lost counted command o r)
@@ -96,22 +92,10 @@ one_keeps counted command (r, mails) k =
     let place3 : Place = learnt_to counted (members r) (next r) command place2 in
     let k3 : Keeps place3 = learnt_keeps counted (members r) (next r) command place2 k2 in
     let place4 : Place = welcomed counted (members r) place3 in
-    let k4 : Keeps place4 = welcomed_keep counted (members r) place3 k3 in
+    let k4 : Keeps place4 = welcomed_place Keeps welcomed_keeps counted (members r) place3 k3 in
     let place5 : Place = landed counted (next r) command place4 in
     looked_keeps (left place5) (left_keeps place5 (landed_keeps counted (next r) command place4 k4))
 
-ready_by : (es : List (ℕ × Command)) (place : Place) (o : Option Command) → Keeps place → ((p : Place) → Keeps p → Keeps (executed_ready es p))
-    → Keeps (elim o [ None ↦ place | Some command ↦ pumped (executed_ready es (executed_one true command place)) ])
-ready_by es place None k more = k
-ready_by es place (Some command) k more = pumped_keeps (executed_ready es (executed_one true command place)) (more (executed_one true command place) (one_keeps true command place k))
-
-all_keep : (es : List (ℕ × Command)) (place : Place) → Keeps place → Keeps (executed_ready es place)
-unfolding executed_ready
-all_keep [] place k = k
-all_keep (e ∷ es) place k = ready_by es place (next_ready place.0) k (λ p q. all_keep es p q)
-
 pub executed_keeps : (counted : Bool) (command : Command) (place : Place) → Keeps place → Keeps (executed counted command place)
-unfolding executed
 executed_keeps counted command place k =
-    let one : Place = executed_one counted command place in
-    pumped_keeps (all_ready one) (all_keep one.0.ready one (one_keeps counted command place k))
+    executed_place Keeps (λ _. Unit {0}) (λ p q. tt) (λ x p d q. one_keeps true x p q) pumped_keeps counted command place (one_keeps counted command place k)

@@ -5,11 +5,8 @@ use Rattle.sc_base.specs.declared.ops.Op.{Op}
 use Rattle.sc_cmd.specs.declared.commands.Command.{Command}
 use Rattle.sc_cmd.specs.declared.commands.Command.TheVariants.{Call}
 use Rattle.sc_node_table.specs.Queues.{call_of, is_call_of, without_call}
+use Rattle.sc_law_lemmas.proofs.Ways.{either_way}
 use Rattle.sc_queue_law.specs.OneCall.{calls_of}
-
--- whichever it is
-pub either_way : {A : Type 0} (P : A → Type 0) (b : Bool) (x y : A) → P x → P y → P (cond b x y)
-either_way P b x y p q = cond_both b x y P (λ _. p) (λ _. q)
 
 -- at most one call of each client
 abbrev pub One : List Command → Type 0

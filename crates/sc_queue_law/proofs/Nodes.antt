@@ -25,7 +25,8 @@ use Rattle.sc_node_table.specs.Slots.{slots_ahead}
 use Rattle.sc_sound.specs.Players.{Player, player_table}
 use Rattle.sc_sound.specs.declared.roles.Role.TheVariants.{Node, Client}
 use Rattle.sc_queue_law.specs.OneCall.{KeepsOneCall, EachKeepsOneCall, StepsKeepOneCall, QueuesKeepOneCall}
-use Rattle.sc_queue_law.proofs.Lists.{either_way, one_none}
+use Rattle.sc_queue_law.proofs.Lists.{one_none}
+use Rattle.sc_law_lemmas.proofs.Ways.{either_way}
 use Rattle.sc_queue_law.proofs.Queueing.{Keeps}
 use Rattle.sc_queue_law.proofs.Rows.{order_keeps, tick_keeps, mailed_keeps, made_keeps}
 

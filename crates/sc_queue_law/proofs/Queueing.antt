@@ -22,7 +22,8 @@ use Rattle.sc_node_table.specs.Pump.{Found, is_act, waits, turned_down, next_cal
 use Rattle.sc_node_table.specs.Queues.{call_of, without_call, call_before, put_back}
 use Rattle.sc_node_table.specs.Replica.{ReplicaState, Place, next, settled, may_offer, taken_at, under_way, is_idle, last_slot}
 use Rattle.sc_queue_law.specs.OneCall.{KeepsOneCall}
-use Rattle.sc_queue_law.proofs.Lists.{either_way, One, one_none, one_rest, one_first, one_without, none_left, none_found}
+use Rattle.sc_queue_law.proofs.Lists.{One, one_none, one_rest, one_first, one_without, none_left, none_found}
+use Rattle.sc_law_lemmas.proofs.Ways.{either_way}
 
 -- a place whose replica keeps at most one call of each client
 abbrev pub Keeps : Place → Type 0

@@ -49,12 +49,14 @@ use Rattle.sc_node_table.specs.Pump.{pumped}
 use Rattle.sc_node_table.specs.Queues.{call_of, without_call}
 use Rattle.sc_node_table.specs.Reminders.{patience, one_tick_more, waited_in, reminded}
 use Rattle.sc_node_table.specs.Replica.{ReplicaState, Place, next, members, settled, is_idle, set_at, last_slot, forgotten, installed_replica}
-use Rattle.sc_node_table.specs.Rows.{refused_at, queued, requested, request_row, learn_row, ask_answered, ask_row, looked_up, took_over, install_row, made_by, asked_again, told_last, tick_row, mailed}
+use Rattle.sc_node_table.specs.Rows.{refused_at, queued, requested, request_row, learn_row, ask_row, looked_up, took_over, install_row, made_by, asked_again, told_last, tick_row, mailed}
 use Rattle.sc_node_table.specs.Slots.{with_slot}
 use Rattle.sc_node_table.specs.Transactions.{noted_outcome, standing_vote, sent_elsewhere, offered_by, offer_row, watched_by, watch_row, awaits_vote, awaits_watch, vote_queued, vote_met, vote_row, watch_queued, watch_met, watched_row, elsewhere_row, is_bound, outcome_row}
-use Rattle.sc_node_table.specs.Voting.{hinted, promise_to, promised, prepare_row, accepted_to, took, accept_row, leads, promise_row, readied, vote_tallied, voted, accepted_row, nack_row}
+use Rattle.sc_node_table.specs.Voting.{hinted, promise_to, prepare_row, accepted_to, took, accept_row, leads, promise_row, readied, vote_tallied, voted, accepted_row, nack_row}
 use Rattle.sc_queue_law.specs.OneCall.{KeepsOneCall}
-use Rattle.sc_queue_law.proofs.Lists.{either_way, One, one_none, one_last, one_first, one_without, none_left, none_found}
+use Rattle.sc_queue_law.proofs.Lists.{One, one_none, one_last, one_first, one_without, none_left, none_found}
+use Rattle.sc_law_lemmas.proofs.Places.{promised_place, asked_place}
+use Rattle.sc_law_lemmas.proofs.Ways.{either_way}
 use Rattle.sc_queue_law.proofs.Queueing.{Keeps, pumped_keeps, act_keeps, queued_act, ended_keeps, elected_keeps, saw_keeps, sent_keeps}
 use Rattle.sc_queue_law.proofs.Executing.{looked_keeps, executed_keeps}
 
@@ -88,14 +90,12 @@ promise_keeps : (from : ℕ) (ballot : Ballot) (p : PrepareAnswer Command × Acc
 promise_keeps from ballot (Prepared.Promise reports, acceptor) (r, mails) k = hinted_keeps ballot (record r { acceptor = acceptor }) k
 promise_keeps from ballot (Prepared.Ignored was, acceptor) (r, mails) k = k
 
-promised_keeps : (from : ℕ) (ballot : Ballot) (from_slot : ℕ) (place : Place) → Keeps place → Keeps (promised from ballot from_slot place)
-unfolding promised
-promised_keeps from ballot from_slot (r, mails) k =
-    either_way Keeps (nat_le from_slot r.acceptor.floor) _ _ (sent_keeps from (r, mails) k) (promise_keeps from ballot (prepared ballot from_slot r.acceptor) (r, mails) k)
-
 prepare_keeps : (from : ℕ) (ballot : Ballot) (from_slot : ℕ) (place : Place) → Keeps place → Keeps (prepare_row from ballot from_slot place)
 unfolding prepare_row
-prepare_keeps from ballot from_slot place k = promised_keeps from ballot from_slot (saw ballot place) (saw_keeps ballot place k)
+prepare_keeps from ballot from_slot place k =
+    let seen : Place = saw ballot place in
+    let q : Keeps seen = saw_keeps ballot place k in
+    promised_place Keeps from ballot from_slot seen (sent_keeps from seen q) (promise_keeps from ballot (prepared ballot from_slot seen.0.acceptor) seen q)
 
 accepted_to_keeps : (from : ℕ) (ballot : Ballot) (slot : ℕ) (p : AcceptAnswer × AcceptorState Command) (place : Place) → Keeps place → Keeps (accepted_to from ballot slot p place)
 accepted_to_keeps from ballot slot (Asked.Accepted, acceptor) (r, mails) k = hinted_keeps ballot (record r { acceptor = acceptor }) k
@@ -144,13 +144,8 @@ unfolding learn_row
 learn_keeps from slot command (r, mails) k =
     either_way Keeps (nat_lt last_slot slot) _ _ k (either_way Keeps (eqb slot (next r)) _ _ (executed_keeps false command (r, mails) k) (either_way Keeps (nat_lt (next r) slot) _ _ k k))
 
-answered_keeps : (o : Option Command) (from slot : ℕ) (place : Place) → Keeps place → Keeps (ask_answered o from slot place)
-answered_keeps None from slot place k = sent_keeps from place k
-answered_keeps (Some command) from slot (r, mails) k = k
-
 ask_keeps : (from slot : ℕ) (place : Place) → Keeps place → Keeps (ask_row from slot place)
-unfolding ask_row
-ask_keeps from slot (r, mails) k = either_way Keeps (nat_lt slot (next r)) _ _ (answered_keeps (entry_at slot r.log) from slot (r, mails) k) k
+ask_keeps from slot (r, mails) k = asked_place Keeps from slot (r, mails) k (sent_keeps from (r, mails) k) k
 
 looked_up_keeps : (from : ℕ) (place : Place) → Keeps place → Keeps (looked_up from place)
 unfolding looked_up

@@ -1,6 +1,6 @@
 //! What waits at a leader: its queue keeps at most one call of each client, so there is no answer
-//! `busy` to a client. Laws of the node's table, and of the rows of a journal. Definitions and laws,
-//! no logic.
+//! `busy` to a client. Laws of the node's table, and of the rows of a journal. Definitions and
+//! laws, no logic.
 #![tactic(auto)]
 
 ghost use Rattle.sc_queue_law.specs.OneCall.{QueuesKeepOneCall, StepsKeepOneCall};

@@ -1,5 +1,5 @@
 -- What an execution answers has its cause in the state before the entry, and what the replica is after it stands behind one entry more.
-use Rattle.std.proofs.Common.{◌≡◌, ◌<◌, ℕ, ◌&&◌, ◌||◌, not, nat_lt, eqb, Bool, true, cond, List, [], ◌∷◌, ◌++◌, filter, Option, Some, None, refl, sym, ap, subst, ◌∙◌, arith, append-nil}
+use Rattle.std.proofs.Common.{◌≡◌, ◌<◌, ℕ, ◌&&◌, ◌||◌, nat_lt, eqb, Bool, true, cond, List, [], ◌∷◌, ◌++◌, Option, Some, None, refl, sym, ap, subst, ◌∙◌, arith, append-nil}
 use Rattle.std.specs.FinMap.{get}
 use Rattle.std.proofs.lemmas.Bool.{cond_both, ltb-false, eqb-false}
 use Rattle.sc_base.specs.Limits.{client_actor}
@@ -28,17 +28,17 @@ use Rattle.sc_paxos_words.specs.Leaders.{without_flight_at}
 use Rattle.sc_paxos_words.specs.Logs.{LogState}
 use Rattle.sc_node_table.specs.declared.Before.{Before}
 use Rattle.sc_node_table.specs.Election.{elected, ended, stopped}
-use Rattle.sc_node_table.specs.Execute.{entered, answer_of, told_call, order_result, told_effect, announced, learnt_to, welcomed, slot_lost, landed, left_gone, left, is_among, looked_for, looked, executed_one, has_room, next_ready, executed_ready, all_ready, executed}
-use Rattle.sc_node_table.specs.Install.{welcomed_all}
+use Rattle.sc_node_table.specs.Execute.{entered, answer_of, told_call, order_result, told_effect, announced, learnt_to, welcomed, slot_lost, landed, left_gone, left, is_among, looked_for, looked, executed_one, has_room, next_ready, executed}
 use Rattle.sc_node_table.specs.Mails.{sent_others, order_number}
-use Rattle.sc_node_table.specs.Pump.{serves_calls, pumped}
+use Rattle.sc_node_table.specs.Pump.{serves_calls}
 use Rattle.sc_node_table.specs.Queues.{put_back}
 use Rattle.sc_node_table.specs.Replica.{ReplicaState, Place, name_of, next, members, flying, forgotten}
 use Rattle.sc_node_table.specs.Sameness.{same_command}
 use Rattle.sc_node_table.specs.Slots.{at_slot, without_slot}
 use Rattle.sc_node_table.specs.Spoken.{before_of, spoken}
 use Rattle.sc_draws_law.proofs.Lists.{opt_slot, slot_without, flight_without}
-use Rattle.sc_draws_law.proofs.Machine.{either_way}
+use Rattle.sc_law_lemmas.proofs.Places.{welcomed_place, executed_place}
+use Rattle.sc_law_lemmas.proofs.Ways.{either_way}
 use Rattle.sc_refusal_law.specs.Causes.{IsRefusedIn, RefusesCall, log_with, log_after}
 use Rattle.sc_refusal_law.proofs.Keeping.{Kept, KeptOne, Holds, back_kept, flying_kept}
 use Rattle.sc_refusal_law.proofs.Plain.{sent_one, others_plain, told_plain, spoken_plain}
@@ -204,11 +204,6 @@ module _ (start : ReplicaState) (A : Command → Type 0) (G : Draw → Type 0) w
       either_way F counted (r, sent_others r.me nodes (Learn (name_of r) slot command) mails) (r, mails)
       (f.0, resent start A G r mails _ f.1 (others_plain (Caused start A G f.1.entries f.1.refused) (caused_plain start A G f.1.entries f.1.refused) r.me nodes (Learn (name_of r) slot command) mails tt f.1.sent)) f
 
-  welcomed_place : (counted : Bool) (nodes : List ℕ) (place : Place) → F place → F (welcomed counted nodes place)
-  unfolding welcomed
-  welcomed_place counted nodes (r, mails) f =
-      either_way F counted (welcomed_all (filter (λ node. not (is_member nodes node)) (members r)) (r, mails)) (r, mails) (welcomed_fine start A G (filter (λ node. not (is_member nodes node)) (members r)) (r, mails) f) f
-
   lost_fine : (counted : Bool) (command : Command) (o : Option Command) (r : ReplicaState) (mails : List Mail) → KeptOne A G o → F (r, mails) → F (slot_lost counted command o r, mails)
   lost_fine counted command None r mails k f = f
   lost_fine counted command (Some other) r mails k f =
@@ -273,7 +268,7 @@ module _ (start : ReplicaState) (A : Command → Type 0) (G : Draw → Type 0) w
       let place3 : Place = learnt_to counted (members r) (next r) command place2 in
       let f3 : F place3 = learnt_fine counted (members r) (next r) command place2 f2 in
       let place4 : Place = welcomed counted (members r) place3 in
-      let f4 : F place4 = welcomed_place counted (members r) place3 f3 in
+      let f4 : F place4 = welcomed_place F (welcomed_fine start A G) counted (members r) place3 f3 in
       let place5 : Place = landed counted (next r) command place4 in
       let f5 : F place5 = landed_fine counted (next r) command place4 f4 in
       looked_fine (left place5) (left_fine place5 f5)
@@ -281,19 +276,7 @@ module _ (start : ReplicaState) (A : Command → Type 0) (G : Draw → Type 0) w
   ready_kept : (r : ReplicaState) → Holds A G r → KeptOne A G (next_ready r)
   ready_kept r h = either_way (KeptOne A G) (r.running && has_room r) (at_slot r.ready (next r)) None (opt_slot (Kept A G) r.ready (next r) h.ready) tt
 
-  ready_by : (es : List (ℕ × Command)) (place : Place) (o : Option Command) → KeptOne A G o → F place → ((p : Place) → F p → F (executed_ready es p))
-      → F (elim o [ None ↦ place | Some command ↦ pumped (executed_ready es (executed_one true command place)) ])
-  ready_by es place None k f more = f
-  ready_by es place (Some command) k f more = pumped_fine start A G (executed_ready es (executed_one true command place)) (more (executed_one true command place) (one_fine true command place (λ _. k) f))
-
-  all_fine : (es : List (ℕ × Command)) (place : Place) → F place → F (executed_ready es place)
-  unfolding executed_ready
-  all_fine [] place f = f
-  all_fine (e ∷ es) place f = ready_by es place (next_ready place.0) (ready_kept place.0 f.0) f (λ p g. all_fine es p g)
-
   -- the whole of an execution
   pub executed_fine : (counted : Bool) (command : Command) (place : Place) → (counted ≡ true → Kept A G command) → F place → F (executed counted command place)
-  unfolding executed
   executed_fine counted command place k f =
-      let one : Place = executed_one counted command place in
-      pumped_fine start A G (all_ready one) (all_fine one.0.ready one (one_fine counted command place k f))
+      executed_place F (KeptOne A G) (λ p g. ready_kept p.0 g.0) (λ x p d g. one_fine true x p (λ _. d) g) (pumped_fine start A G) counted command place (one_fine counted command place k f)

@@ -1,5 +1,5 @@
 -- What is asked of the commands that a replica keeps stays true of those that it keeps on.
-use Rattle.std.proofs.Common.{◌≡◌, ℕ, not, nat_lt, eqb, Bool, true, false, refl, sym, List, [], ◌∷◌, Option, Some, None}
+use Rattle.std.proofs.Common.{ℕ, nat_lt, eqb, Bool, List, [], ◌∷◌, Option, Some, None}
 use Rattle.sc_base.specs.Among.{Each}
 use Rattle.sc_base.specs.declared.names.Draw.{Draw}
 use Rattle.sc_cmd.specs.declared.commands.Command.{Command}
@@ -16,16 +16,7 @@ use Rattle.sc_node_table.specs.Replica.{ReplicaState, flying, taken_at, listed, 
 use Rattle.sc_node_table.specs.Slots.{at_slot}
 use Rattle.sc_draws_law.specs.Names.{Opt}
 use Rattle.sc_draws_law.proofs.Lists.{opt_find, opt_map, opt_either, opt_slot, opt_choice}
-use Rattle.sc_draws_law.proofs.Machine.{either_way}
-
--- a test that is turned round
-pub turned : (b : Bool) → not b ≡ false → b ≡ true
-turned true e = refl
-turned false e = sym e
-
-pub turned_off : (b : Bool) → not b ≡ true → b ≡ false
-turned_off true e = sym e
-turned_off false e = refl
+use Rattle.sc_law_lemmas.proofs.Ways.{either_way}
 
 module _ (A : Command → Type 0) (G : Draw → Type 0) where
   -- a call is one that was asked, and an end of waiting is one that may be
@@ -66,11 +57,11 @@ module _ (A : Command → Type 0) (G : Draw → Type 0) where
     pub ready : Each Ready r.ready
     pub reports : Each Reported r.leader.reports
 
-  pub with_calls : (r : ReplicaState) (calls : List Command) → KeptAll calls → Holds r → Holds (record r { calls = calls })
-  with_calls r calls c h = record { calls = c; acts = h.acts; flights = h.flights; ready = h.ready; reports = h.reports }
+  pub with_calls : (r : ReplicaState) (commands : List Command) → KeptAll commands → Holds r → Holds (record r { calls = commands })
+  with_calls r commands c h = record { calls = c; acts = h.acts; flights = h.flights; ready = h.ready; reports = h.reports }
 
-  pub with_acts : (r : ReplicaState) (acts : List Command) → KeptAll acts → Holds r → Holds (record r { acts = acts })
-  with_acts r acts a h = record { calls = h.calls; acts = a; flights = h.flights; ready = h.ready; reports = h.reports }
+  pub with_acts : (r : ReplicaState) (commands : List Command) → KeptAll commands → Holds r → Holds (record r { acts = commands })
+  with_acts r commands a h = record { calls = h.calls; acts = a; flights = h.flights; ready = h.ready; reports = h.reports }
 
   -- ---- what goes back
 

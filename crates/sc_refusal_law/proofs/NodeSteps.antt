@@ -26,7 +26,7 @@ use Rattle.sc_node_table.specs.Policy.{names_after_tick}
 use Rattle.sc_node_table.specs.Replica.{ReplicaState, Place, name_of, members, born_replica, installed_replica, last_slot, forgotten}
 use Rattle.sc_node_table.specs.Rows.{tick_row, looked_up, made_by, mailed, stepped}
 use Rattle.sc_node_table.specs.Slots.{slots_ahead}
-use Rattle.sc_draws_law.proofs.Machine.{either_way}
+use Rattle.sc_law_lemmas.proofs.Ways.{either_way}
 use Rattle.sc_refusal_law.specs.Causes.{NamesNoLeader}
 use Rattle.sc_refusal_law.specs.NodeCauses.{own_step, Takes, MailHasCause, ActsHaveCauses, NodeHasCauses, NodesHaveCauses}
 use Rattle.sc_refusal_law.proofs.Joining.{tick_behind}

@@ -39,7 +39,7 @@ use Rattle.sc_node_table.specs.Reminders.{reminders}
 use Rattle.sc_node_table.specs.Rows.{taught, uncounted, asked_again, told_last}
 use Rattle.sc_node_table.specs.Transactions.{voted_to, watched_to, told_outcome, next_asked, asked_next}
 use Rattle.sc_node_table.specs.Spoken.{begun_result, spoken_number, told_result, told_begun, decided_in, cast_in, asked_on, vote_sent, watch_sent, aborted_to, aborted_watcher, given_up_by, vote_answered, released_to, watch_answered_by, went_on, spoken_mails}
-use Rattle.sc_draws_law.proofs.Machine.{either_way}
+use Rattle.sc_law_lemmas.proofs.Ways.{either_way}
 use Rattle.sc_refusal_law.specs.Causes.{IfAnswer}
 
 -- a mail that is no answer

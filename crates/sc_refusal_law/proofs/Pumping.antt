@@ -2,7 +2,7 @@
 use Rattle.std.proofs.Common.{◌≡◌, ℕ, ◌+◌, ◌&&◌, nat_le, Bool, true, false, List, [], ◌∷◌, Option, Some, None, refl, sym, subst, append-nil}
 use Rattle.std.specs.Prelude.{is_some}
 use Rattle.std.specs.List.{list_any}
-use Rattle.std.proofs.lemmas.Bool.{cond_both}
+use Rattle.std.proofs.lemmas.Bool.{cond_both, not-false}
 use Rattle.sc_base.specs.Among.{Each}
 use Rattle.sc_base.specs.Limits.{client_actor}
 use Rattle.sc_base.specs.declared.names.Draw.{Draw}
@@ -24,9 +24,9 @@ use Rattle.sc_paxos_words.specs.Leaders.{must}
 use Rattle.sc_node_table.specs.Mails.{answered}
 use Rattle.sc_node_table.specs.Pump.{Found, is_act, serves_calls, waits, refused_by, turned_down, next_call, from_calls, from_acts, from_queues, found_by, found_for, offered, pumped_from, pumped}
 use Rattle.sc_node_table.specs.Replica.{ReplicaState, Place, name_of, next, settled, may_offer, taken_at, under_way, is_idle, last_slot}
-use Rattle.sc_draws_law.proofs.Machine.{either_way}
+use Rattle.sc_law_lemmas.proofs.Ways.{either_way}
 use Rattle.sc_refusal_law.specs.Causes.{RefusesCall}
-use Rattle.sc_refusal_law.proofs.Keeping.{Kept, KeptAll, KeptOne, Flying, MustKept, turned, with_calls, with_acts, must_kept}
+use Rattle.sc_refusal_law.proofs.Keeping.{Kept, KeptAll, KeptOne, Flying, MustKept, with_calls, with_acts, must_kept}
 use Rattle.sc_refusal_law.proofs.Plain.{sent_one}
 use Rattle.sc_refusal_law.proofs.Standing.{Caused, CausedAnswer, caused_plain, Fine, resent, with_all, refused_answer}
 
@@ -72,7 +72,7 @@ module _ (start : ReplicaState) (A : Command → Type 0) (G : Draw → Type 0) (
     unfolding answered
     turned_caused (Call client seq op) answer mails k w e c =
         sent_one (Caused start A G entries refused) (caused_plain start A G entries refused) mails (record { from = me; to = client_actor client; body = Answer group.core.id seq answer })
-        (turned_answer client seq op answer k (turned (serves_calls group.core.lock) w) e) c
+        (turned_answer client seq op answer k (not-false (serves_calls group.core.lock) w) e) c
     turned_caused _ answer mails k w e c = c
 
     next_by : (command : Command) (calls : List Command) (mails : List Mail) (o : Option AnswerBody) → turned_down group.core command ≡ o → waits idle group.core.lock command ≡ false → Kept A G command → KeptAll A G calls → C mails

@@ -1,7 +1,7 @@
 -- The rows of requests, ticks, transactions and orders, and a whole step.
 use Rattle.std.proofs.Common.{◌≡◌, ℕ, ◌+◌, ◌-◌, ◌≤◌, ◌^◌, ◌&&◌, ◌||◌, not, nat_le, eqb, Bool, true, false, List, [], ◌∷◌, ◌++◌, Option, Some, None, refl, sym, subst, inl, arith, append-nil}
 use Rattle.std.specs.Prelude.{is_some}
-use Rattle.std.proofs.lemmas.Bool.{cond_both, leb-true, and_parts}
+use Rattle.std.proofs.lemmas.Bool.{cond_both, leb-true, and_parts, not-true, not-false}
 use Rattle.sc_base.specs.Drawing.{Drawer, next_name}
 use Rattle.sc_base.specs.Limits.{client_actor}
 use Rattle.sc_base.specs.declared.names.Draw.{Draw}
@@ -44,9 +44,9 @@ use Rattle.sc_node_table.specs.Reminders.{patience, one_tick_more, waited_in, re
 use Rattle.sc_node_table.specs.Replica.{ReplicaState, Place, name_of, next, members, settled, is_idle}
 use Rattle.sc_node_table.specs.Rows.{call_refusal, refused_at, queued, requested, request_row, asked_again, told_last, tick_row}
 use Rattle.sc_node_table.specs.Transactions.{noted_outcome, standing_vote, sent_elsewhere, offered_by, offer_row, watched_by, watch_row, awaits_vote, awaits_watch, told_outcome, vote_queued, vote_met, vote_row, watch_queued, watch_met, watched_row, asked_next, elsewhere_row, is_bound, outcome_row}
-use Rattle.sc_draws_law.proofs.Machine.{either_way}
+use Rattle.sc_law_lemmas.proofs.Ways.{either_way}
 use Rattle.sc_refusal_law.specs.Causes.{RefusesCall}
-use Rattle.sc_refusal_law.proofs.Keeping.{Kept, turned, turned_off, with_calls, with_acts, without_kept}
+use Rattle.sc_refusal_law.proofs.Keeping.{Kept, with_calls, with_acts, without_kept}
 use Rattle.sc_refusal_law.proofs.Plain.{sent_one, again_plain, last_plain, reminders_plain, vote_plain, watched_plain, next_plain}
 use Rattle.sc_refusal_law.proofs.Standing.{Caused, CausedAnswer, caused_plain, stopped_caused, Fine, resent, with_plain, refused_answer}
 use Rattle.sc_refusal_law.proofs.Stopping.{elected_fine}
@@ -70,10 +70,10 @@ module _ (start : ReplicaState) (A : Command → Type 0) (G : Draw → Type 0) w
   refusal_by (Some into) r client seq op answer g e = let same : Says.Gone into ≡ answer = cc in subst (Untaken r client seq op) same (sym g)
   refusal_by None r client seq op answer g e =
       cond_both (not r.running) (Some (Says.NotLeader r.hint)) _ (λ o. o ≡ Some answer → Untaken r client seq op answer)
-      (λ idle k. (let same : Says.NotLeader r.hint ≡ answer = cc in subst (Untaken r client seq op) same (turned_off r.running idle)))
+      (λ idle k. (let same : Says.NotLeader r.hint ≡ answer = cc in subst (Untaken r client seq op) same (not-true r.running idle)))
       (λ _ k. cond_both (serves_calls r.group.core.lock && not (holds_key r.group.core.arc (key_of op))) (Some (Says.NotMine r.group.core.arc r.group.core.succ)) None (λ o. o ≡ Some answer → Untaken r client seq op answer)
       (λ both j. (let parts = and_parts (serves_calls r.group.core.lock) (not (holds_key r.group.core.arc (key_of op))) both in
-      let same : Says.NotMine r.group.core.arc r.group.core.succ ≡ answer = cc in subst (Untaken r client seq op) same (sym g, parts.0, turned_off (holds_key r.group.core.arc (key_of op)) parts.1, refl, refl))) (λ _ j. cc) k) e
+      let same : Says.NotMine r.group.core.arc r.group.core.succ ≡ answer = cc in subst (Untaken r client seq op) same (sym g, parts.0, not-true (holds_key r.group.core.arc (key_of op)) parts.1, refl, refl))) (λ _ j. cc) k) e
 
   -- it waits, and the pump is tried: no other leader is named
   pub queued_so : (named : Bool) (o : Option ℕ) (client seq : ℕ) (op : Op) (r : ReplicaState) (mails : List Mail) → A (Call client seq op) → FineSo start A G named (r, mails) → FineSo start A G named (queued o client seq op (r, mails))
@@ -283,6 +283,6 @@ module _ (start : ReplicaState) (A : Command → Type 0) (G : Draw → Type 0) w
       (cond_both (not (settled r)) (elected (r, mails)) _ F (λ _. elected_fine start A G r mails f)
       (λ e. either_way F (is_idle r) (pumped (wishing on drawer (reminded (r, last)))) (pumped (wishing on drawer (reminded (r, again))))
       (pumped_fine start A G (wishing on drawer (reminded (r, last))) (wishing_fine on drawer (reminded (r, last))
-      (reminded_fine r last (g (turned (settled r) e)) (f.0, resent start A G r mails last s (last_plain (Caused start A G s.entries s.refused) (caused_plain start A G s.entries s.refused) (entry_at (next r - 1) r.log) r mails s.sent)))))
+      (reminded_fine r last (g (not-false (settled r) e)) (f.0, resent start A G r mails last s (last_plain (Caused start A G s.entries s.refused) (caused_plain start A G s.entries s.refused) (entry_at (next r - 1) r.log) r mails s.sent)))))
       (pumped_fine start A G (wishing on drawer (reminded (r, again))) (wishing_fine on drawer (reminded (r, again))
-      (reminded_fine r again (g (turned (settled r) e)) (f.0, resent start A G r mails again s (again_plain (Caused start A G s.entries s.refused) (caused_plain start A G s.entries s.refused) r (next r) r.sets mails s.sent)))))))
+      (reminded_fine r again (g (not-false (settled r) e)) (f.0, resent start A G r mails again s (again_plain (Caused start A G s.entries s.refused) (caused_plain start A G s.entries s.refused) r (next r) r.sets mails s.sent)))))))

@@ -23,7 +23,7 @@ use Rattle.sc_node_table.specs.Install.{jumped}
 use Rattle.sc_node_table.specs.Queues.{call_of}
 use Rattle.sc_node_table.specs.Replica.{ReplicaState, Place, name_of, next, members, last_slot, forgotten}
 use Rattle.sc_node_table.specs.Rows.{refused_at, queued, requested, request_row, looked_up, took_over, install_row, mailed, stepped}
-use Rattle.sc_draws_law.proofs.Machine.{either_way}
+use Rattle.sc_law_lemmas.proofs.Ways.{either_way}
 use Rattle.sc_refusal_law.specs.Causes.{IsBroughtBy, IsAsked, LeadsNoMore, AnswerHasCause, BodyHasCause, MayGiveUp, IsTakenOver, StepHasCauses, StepsHaveCauses, IsNotLeader, RunningReplicasTakeRequests}
 use Rattle.sc_refusal_law.proofs.Keeping.{Kept, Holds}
 use Rattle.sc_refusal_law.proofs.Plain.{answer_weaker, all_plain}

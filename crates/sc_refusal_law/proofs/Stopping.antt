@@ -1,5 +1,5 @@
 -- A replica that stops answers all calls that it keeps, each with its cause; one that is elected runs in a later round.
-use Rattle.std.proofs.Common.{◌≡◌, ℕ, ◌+◌, ◌-◌, ◌^◌, ◌≤◌, inl, inr, refl, arith, ◌&&◌, eqb, Bool, true, cond, List, [], ◌∷◌, Option, Some}
+use Rattle.std.proofs.Common.{ℕ, ◌+◌, ◌-◌, ◌^◌, ◌≤◌, inl, inr, refl, arith, ◌&&◌, eqb, Bool, true, cond, List, [], ◌∷◌, Option, Some}
 use Rattle.std.proofs.lemmas.Bool.{cond_both}
 use Rattle.sc_base.specs.Limits.{client_actor}
 use Rattle.sc_base.specs.declared.names.Ballot.{Ballot}
@@ -15,14 +15,14 @@ use Rattle.sc_mail.specs.declared.bodies.AnswerBody.TheVariants as Says
 use Rattle.sc_mail.specs.declared.bodies.Mail.{Mail}
 use Rattle.sc_mail.specs.declared.bodies.MailBody.TheVariants.{Answer, Prepare, Install}
 use Rattle.sc_machine_table.specs.Group.{base_of}
-use Rattle.sc_paxos_words.proofs.BallotLemmas.{below_parts}
+use Rattle.sc_law_lemmas.proofs.Ballots.{below_round}
 use Rattle.sc_paxos_words.specs.Ballots.{below}
 use Rattle.sc_paxos_words.specs.Leaders.{new_leader}
 use Rattle.sc_node_table.specs.Election.{open_nodes, elected, ended, stopped, saw}
 use Rattle.sc_node_table.specs.Install.{install_to, asked_to_promise, welcomed_all}
 use Rattle.sc_node_table.specs.Mails.{sent, answered, answered_all, told_order, dismissed, dismissed_all}
 use Rattle.sc_node_table.specs.Replica.{ReplicaState, Place, name_of, next, under_way}
-use Rattle.sc_draws_law.proofs.Machine.{either_way}
+use Rattle.sc_law_lemmas.proofs.Ways.{either_way}
 use Rattle.sc_refusal_law.proofs.Keeping.{Kept, KeptAll, way_kept}
 use Rattle.sc_refusal_law.proofs.Plain.{sent_one, told_plain}
 use Rattle.sc_refusal_law.proofs.Standing.{Caused, CausedAnswer, caused_plain, stopped_caused, Stands, Fine, with_plain, with_all}
@@ -118,9 +118,6 @@ module _ (start : ReplicaState) (A : Command → Type 0) (G : Draw → Type 0) w
       )
 
   -- ---- a ballot that is seen
-
-  below_round : (a b : Ballot) → below a b ≡ true → a.round ≤ b.round
-  below_round a b e = elim (below_parts a b e) [ inl lt ↦ omega (arith, lt) | inr p ↦ omega (arith, p.0) ]
 
   raised : (r : ReplicaState) (ballot : Ballot) (mails : List Mail) → r.top.round ≤ ballot.round → F (r, mails) → F (record r { top = ballot }, mails)
   raised r ballot mails le f =

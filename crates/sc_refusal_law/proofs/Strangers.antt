@@ -16,7 +16,7 @@ use Rattle.sc_node_table.specs.Node.{NodeState, with_made, unknown, may_come, ta
 use Rattle.sc_node_table.specs.Replica.{ReplicaState, Place, name_of, next, members, last_slot, installed_replica}
 use Rattle.sc_node_table.specs.Rows.{looked_up, made_by}
 use Rattle.sc_node_table.specs.Slots.{slots_ahead}
-use Rattle.sc_draws_law.proofs.Machine.{either_way}
+use Rattle.sc_law_lemmas.proofs.Ways.{either_way}
 use Rattle.sc_refusal_law.specs.Causes.{NamesNoLeader, StrangersNameNoLeader}
 use Rattle.sc_refusal_law.proofs.Plain.{IsPlain, plain_has, sent_plain, all_plain}
 

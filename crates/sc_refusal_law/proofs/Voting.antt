@@ -22,7 +22,6 @@ use Rattle.sc_paxos_words.specs.Preparing.{prepared}
 use Rattle.sc_paxos_words.specs.Accepting.{accepted as accepted_by}
 use Rattle.sc_paxos_words.specs.Acceptors.{AcceptorState}
 use Rattle.sc_paxos_words.specs.Leaders.{LeaderState, flight_at, promise_counted}
-use Rattle.sc_paxos_words.specs.Logs.{entry_at}
 use Rattle.sc_paxos_words.specs.Votes.{kept_voters, voters_after, tallied, vote_at, counted}
 use Rattle.sc_node_table.specs.Slots.{with_slot}
 use Rattle.sc_node_table.specs.Replica.{ReplicaState, Place, name_of, next, set_at, last_slot}
@@ -31,11 +30,12 @@ use Rattle.sc_node_table.specs.Election.{saw}
 use Rattle.sc_node_table.specs.Execute.{executed, has_room}
 use Rattle.sc_node_table.specs.Install.{install_to}
 use Rattle.sc_node_table.specs.Pump.{pumped}
-use Rattle.sc_node_table.specs.Rows.{learn_row, most_taught, ask_answered, ask_row}
-use Rattle.sc_node_table.specs.Voting.{hinted, promise_to, promised, prepare_row, accepted_to, took, accept_row, leads, promise_row, readied, vote_tallied, voted, accepted_row, nack_row}
+use Rattle.sc_node_table.specs.Rows.{learn_row, most_taught, ask_row}
+use Rattle.sc_node_table.specs.Voting.{hinted, promise_to, prepare_row, accepted_to, took, accept_row, leads, promise_row, readied, vote_tallied, voted, accepted_row, nack_row}
 use Rattle.sc_draws_law.specs.Names.{Opt}
 use Rattle.sc_draws_law.proofs.Lists.{opt_find, slot_with, flight_without, voters_with}
-use Rattle.sc_draws_law.proofs.Machine.{either_way}
+use Rattle.sc_law_lemmas.proofs.Places.{promised_place, asked_place}
+use Rattle.sc_law_lemmas.proofs.Ways.{either_way}
 use Rattle.sc_refusal_law.proofs.Keeping.{Kept, Flying, Reported, Holds}
 use Rattle.sc_refusal_law.proofs.Plain.{taught_plain}
 use Rattle.sc_refusal_law.proofs.Standing.{Caused, caused_plain, Stands, Fine, resent, with_plain}
@@ -63,15 +63,12 @@ module _ (start : ReplicaState) (A : Command → Type 0) (G : Draw → Type 0) w
       hinted_fine ballot (record r { acceptor = acceptor }) (sent r.me from (Promise (name_of r) ballot reports) mails) (with_acceptor r acceptor f.0, with_plain start A G r mails r.me from (Promise (name_of r) ballot reports) tt f.1)
   promise_fine from ballot (Prepared.Ignored was, acceptor) (r, mails) f = (with_acceptor r acceptor f.0, with_plain start A G r mails r.me from (Nack (name_of r) was) tt f.1)
 
-  promised_fine : (from : ℕ) (ballot : Ballot) (from_slot : ℕ) (place : Place) → F place → F (promised from ballot from_slot place)
-  unfolding promised
-  promised_fine from ballot from_slot (r, mails) f =
-      either_way F (nat_le from_slot r.acceptor.floor) (install_to from (r, mails)) (promise_to from ballot (prepared ballot from_slot r.acceptor) (r, mails)) (installed_fine start A G from (r, mails) f)
-      (promise_fine from ballot (prepared ballot from_slot r.acceptor) (r, mails) f)
-
   pub prepare_fine : (from : ℕ) (ballot : Ballot) (from_slot : ℕ) (r : ReplicaState) (mails : List Mail) → F (r, mails) → F (prepare_row from ballot from_slot (r, mails))
   unfolding prepare_row
-  prepare_fine from ballot from_slot r mails f = promised_fine from ballot from_slot (saw ballot (r, mails)) (saw_fine start A G ballot r mails f)
+  prepare_fine from ballot from_slot r mails f =
+      let seen : Place = saw ballot (r, mails) in
+      let g : F seen = saw_fine start A G ballot r mails f in
+      promised_place F from ballot from_slot seen (installed_fine start A G from seen g) (promise_fine from ballot (prepared ballot from_slot seen.0.acceptor) seen g)
 
   accepted_to_fine : (from : ℕ) (ballot : Ballot) (slot : ℕ) (p : AcceptAnswer × AcceptorState Command) (place : Place) → F place → F (accepted_to from ballot slot p place)
   accepted_to_fine from ballot slot (Asked.Accepted, acceptor) (r, mails) f =
@@ -172,11 +169,7 @@ module _ (start : ReplicaState) (A : Command → Type 0) (G : Draw → Type 0) w
       (either_way F (eqb slot (next r)) _ _ (executed_fine start A G false command (r, mails) (λ e. absurd (true≢false (sym e))) f)
       (either_way F (nat_lt (next r) slot) (r, sent r.me from (Ask (name_of r) (next r)) mails) (r, mails) (f.0, with_plain start A G r mails r.me from (Ask (name_of r) (next r)) tt f.1) f))
 
-  answered_by : (o : Option Command) (from slot : ℕ) (place : Place) → F place → F (ask_answered o from slot place)
-  answered_by None from slot place f = installed_fine start A G from place f
-  answered_by (Some command) from slot (r, mails) f =
-      (f.0, resent start A G r mails _ f.1 (taught_plain (Caused start A G f.1.entries f.1.refused) (caused_plain start A G f.1.entries f.1.refused) most_taught r from slot mails f.1.sent))
-
   pub ask_fine : (from slot : ℕ) (r : ReplicaState) (mails : List Mail) → F (r, mails) → F (ask_row from slot (r, mails))
-  unfolding ask_row
-  ask_fine from slot r mails f = either_way F (nat_lt slot (next r)) (ask_answered (entry_at slot r.log) from slot (r, mails)) (r, mails) (answered_by (entry_at slot r.log) from slot (r, mails) f) f
+  ask_fine from slot r mails f =
+      asked_place F from slot (r, mails) f (installed_fine start A G from (r, mails) f)
+      (f.0, resent start A G r mails _ f.1 (taught_plain (Caused start A G f.1.entries f.1.refused) (caused_plain start A G f.1.entries f.1.refused) most_taught r from slot mails f.1.sent))

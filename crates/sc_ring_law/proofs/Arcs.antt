@@ -8,12 +8,6 @@ use Rattle.sc_ring_law.proofs.View.{IsOnRing, Holds}
 abbrev away : ℕ → ℕ → ℕ
 away lo p = ((p + 2 ^ 32) - lo) % 2 ^ 32
 
-pub away-ge : (lo p : ℕ) → p < 2 ^ 32 → lo ≤ p → away lo p ≡ p - lo
-away-ge lo p h le = omega arith
-
-pub away-lt : (lo p : ℕ) → lo < 2 ^ 32 → p < lo → away lo p ≡ (p + 2 ^ 32) - lo
-away-lt lo p h lt = omega arith
-
 -- from lo over at to p
 pub three : (lo at p : ℕ) → lo < 2 ^ 32 → at < 2 ^ 32 → p < 2 ^ 32
     → ((away lo p < away lo at) × (away at p ≡ (away lo p + 2 ^ 32) - away lo at)) ⊎ ((away lo at ≤ away lo p) × (away at p ≡ away lo p - away lo at))
@@ -75,7 +69,3 @@ end_right arc place a q h = let f = a.lo_fits in let k = a.len_fits in omega ari
 
 pub end_joined : (arc its : Arc) → its.lo ≡ end_of arc → end_of (joined arc its) ≡ end_of its
 end_joined arc its e = omega arith
-
--- the place is as far from the next arc as the right part is long
-pub far_right : (arc : Arc) (place next : ℕ) → IsOnRing arc → place < 2 ^ 32 → Holds arc place → arc.len < 2 ^ 32 → next ≡ end_of arc → away place next ≡ arc.len - away arc.lo place
-far_right arc place next a q h short e = let f = a.lo_fits in omega (arith, h)

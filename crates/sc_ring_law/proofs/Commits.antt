@@ -28,17 +28,17 @@ use Rattle.sc_entries.specs.Rings.{both_arcs, decided_by}
 use Rattle.sc_entries.specs.declared.Division.{Division}
 use Rattle.sc_ring_law.specs.Stories.{Story, Stories, put, unsigned, unsigned_watch, offer_for, watch_for}
 use Rattle.sc_ring_law.specs.Invariant.{Groups, LockOk, IsOwnBody, IsFrozen, IsAgreed, Facts}
-use Rattle.sc_entries.proofs.Names.{draw_cases}
+use Rattle.sc_entries.proofs.Names.{draw_cases, some_is}
 use Rattle.sc_ring_law.proofs.View.{Ring, HeldBy, Holds, merge_view, move_view, split_view, IsOnRing}
 use Rattle.sc_ring_law.proofs.Cover.{at-same, at-is, at-other}
 use Rattle.sc_ring_law.proofs.Links.{IsPair, pair_meets}
 use Rattle.sc_ring_law.proofs.Recut.{IsWhole, merge_whole}
-use Rattle.sc_ring_law.proofs.Facts.{same_story, same_group, IsOf}
-use Rattle.sc_ring_law.proofs.Rows.{some_none}
+use Rattle.sc_ring_law.proofs.Facts.{IsOf}
 use Rattle.sc_ring_law.proofs.Ends.{own_story}
 use Rattle.sc_ring_law.proofs.Effects.{decisions, outcome_of, settle_by, living, eff, arc_of, succ_of, pred_of, view_of, IsInside, AllInside, Good, Agrees, whole_agree, inside_same, Old, eff_by, living_is, eff_free, party}
 use Rattle.sc_ring_law.proofs.Steps.{same_fun, watch_settled}
 use Rattle.sc_ring_law.proofs.Insides.{InsideOf, room_of}
+use Rattle.sc_ring_law.proofs.Finds.{some_none}
 
 -- ---- the ring by names, after a decision
 
@@ -132,7 +132,7 @@ module _ (owner : Draw → Option Draw) (gs : Groups) (ys : Stories) (g : Draw) 
   pub own_is : IsOwn g s tx body heard y
   own_is =
       let own = own_story gs ys owner g s tx body d.order heard d.facts d.is d.lock in
-      let q = same_story y own.story (sym d.there ∙ own.is) in
+      let q = some_is y own.story (sym d.there ∙ own.is) in
       record {
         coordinator = ap (λ (z : Story). z.coordinator) q ∙ own.coordinator;
         undecided = ap (λ (z : Story). z.outcome) q ∙ own.undecided;
@@ -253,7 +253,7 @@ merged_view d e g p x s f m k =
 
 -- a record of the new world is the one that is known there
 pub inside_at : (o : Option Group) (a b : Group) → o ≡ Some a → o ≡ Some b → IsInside a → IsInside b
-inside_at o a b e q k = subst IsInside (same_group a b (sym e ∙ q)) k
+inside_at o a b e q k = subst IsInside (some_is a b (sym e ∙ q)) k
 
 -- arcs of groups in line share nothing
 pub apart_of : (d : Draw → Option Group) (g p : Draw) (s f : Group) → IsWhole (view_of d) → d g ≡ Some s → d p ≡ Some f → (g ≡ p → ⊥) → (n : ℕ) → n < 2 ^ 32 → Holds s.core.arc n → Holds f.core.arc n → ⊥

@@ -105,6 +105,3 @@ covers_edit ring x c y d v ne r =
         ]
       ];
     }
-
-pub some_same : (x y : Arc) → Some x ≡ Some y → x ≡ y
-some_same x y e = cc

@@ -15,7 +15,9 @@ use Rattle.sc_ring_law.specs.Stories.{put}
 use Rattle.sc_entries.proofs.Names.{draw_cases, other_name, some_is}
 use Rattle.sc_ring_law.proofs.Cover.{at-is, at-other}
 use Rattle.sc_ring_law.proofs.View.{Ring}
-use Rattle.sc_ring_law.proofs.Finds.{find_map, find_first, find_skips, find_passes, find_there, each_from, each_map, each_filter, Pairwise, pairwise_filter}
+use Rattle.sc_paxos_words.proofs.ListLemmas.{Each-among, find_found}
+use Rattle.sc_ring_law.proofs.Finds.{find_map, find_first, find_skips, each_map, Pairwise, some_none}
+use Rattle.std.proofs.lemmas.Option.{none-some}
 
 -- the ring by the names of groups
 abbrev pub arcs_in : List Cut → Ring
@@ -23,10 +25,7 @@ arcs_in ring name = arc_in name ring
 
 -- the cut that is found is the group's
 pub cut_named : (h : Draw) (ring : List Cut) (c : Cut) → find (is_cut_of h) ring ≡ Some c → c.group ≡ h
-cut_named h ring c e = draw_is c.group h (find_passes (is_cut_of h) ring c e)
-
-none_arc : (a : Arc) → None ≡ Some a → ⊥
-none_arc a e = cc
+cut_named h ring c e = draw_is c.group h (find_found (is_cut_of h) ring c e).1
 
 -- ---- another arc for a group
 
@@ -37,7 +36,7 @@ recut_name : (g : Draw) (a : Arc) (h : Draw) (c : Cut) → is_cut_of h (recut_on
 recut_name g a h c = cond_both (is_cut_of g c) (record c { arc = a }) c (λ (x : Cut). is_cut_of h x ≡ is_cut_of h c) (λ e. refl) (λ e. refl)
 
 recut_same : (g : Draw) (a : Arc) (h : Draw) → h ≡ g → (o : Option Cut) → ((c : Cut) → o ≡ Some c → c.group ≡ h) → (b : Arc) → option_map (λ (c : Cut). c.arc) o ≡ Some b → option_map (λ (c : Cut). c.arc) (option_map (recut_one g a) o) ≡ Some a
-recut_same g a h q None named b e = absurd (none_arc b e)
+recut_same g a h q None named b e = absurd (none-some b e)
 recut_same g a h q (Some c) named b e = ap (λ (x : Cut). Some x.arc) (cond-true (is_cut_of g c) (record c { arc = a }) c (same_name c.group g (named c refl ∙ q)))
 
 recut_other : (g : Draw) (a : Arc) (h : Draw) → (h ≡ g → ⊥) → (o : Option Cut) → ((c : Cut) → o ≡ Some c → c.group ≡ h) → option_map (λ (c : Cut). c.arc) (option_map (recut_one g a) o) ≡ option_map (λ (c : Cut). c.arc) o
@@ -111,7 +110,7 @@ module _ (g : Draw) (d : Division) where
   ]
 
   divided_first : (ring : List Cut) (arc : Arc) → arc_in g ring ≡ Some arc → arc_in g (flat ring) ≡ Some (before arc d.at)
-  divided_first [] arc e = absurd (none_arc arc e)
+  divided_first [] arc e = absurd (none-some arc e)
   divided_first (c ∷ cs) arc e = elim (cases_Bool (is_cut_of g c)) [
     | inl t ↦ (
         let found : c.arc ≡ arc = some_is c.arc arc (sym (ap (option_map (λ (x : Cut). x.arc)) (find_first (is_cut_of g) c cs t)) ∙ e) in
@@ -121,11 +120,8 @@ module _ (g : Draw) (d : Division) where
         ∙ divided_first cs arc (sym (ap (option_map (λ (x : Cut). x.arc)) (find_skips (is_cut_of g) c cs t)) ∙ e)
   ]
 
-  some_cut : (c : Cut) → Some c ≡ None → ⊥
-  some_cut c e = cc
-
   divided_second : (g ≡ d.child → ⊥) → (ring : List Cut) (arc : Arc) → arc_in g ring ≡ Some arc → find (is_cut_of d.child) ring ≡ None → arc_in d.child (flat ring) ≡ Some (from arc d.at)
-  divided_second gc [] arc e none = absurd (none_arc arc e)
+  divided_second gc [] arc e none = absurd (none-some arc e)
   divided_second gc (c ∷ cs) arc e none = elim (cases_Bool (is_cut_of g c)) [
     | inl t ↦ (
         let found : c.arc ≡ arc = some_is c.arc arc (sym (ap (option_map (λ (x : Cut). x.arc)) (find_first (is_cut_of g) c cs t)) ∙ e) in
@@ -134,7 +130,7 @@ module _ (g : Draw) (d : Division) where
         ∙ ap (option_map (λ (x : Cut). x.arc)) (find_first (is_cut_of d.child) (second_part c) (flat cs) (same_name d.child d.child refl))
         ∙ ap (λ a. Some (from a d.at)) found)
     | inr t ↦ elim (cases_Bool (is_cut_of d.child c)) [
-      | inl u ↦ absurd (some_cut c (sym (find_first (is_cut_of d.child) c cs u) ∙ none))
+      | inl u ↦ absurd (some_none c (sym (find_first (is_cut_of d.child) c cs u) ∙ none))
       | inr u ↦ ap (λ l. arc_in d.child l) (flat_else c cs t) ∙ ap (option_map (λ (x : Cut). x.arc)) (find_skips (is_cut_of d.child) c (flat cs) u)
           ∙ divided_second gc cs arc (sym (ap (option_map (λ (x : Cut). x.arc)) (find_skips (is_cut_of g) c cs t)) ∙ e) (sym (find_skips (is_cut_of d.child) c cs u) ∙ none)
     ]
@@ -168,7 +164,7 @@ module _ (g : Draw) (d : Division) where
   pub none_each : (n : Draw) (cs : List Cut) → find (is_cut_of n) cs ≡ None → Each (λ o. n ≢ o.group) cs
   none_each n [] e = tt
   none_each n (c ∷ cs) e = elim (cases_Bool (is_cut_of n c)) [
-    | inl t ↦ absurd (some_cut c (sym (find_first (is_cut_of n) c cs t) ∙ e))
+    | inl t ↦ absurd (some_none c (sym (find_first (is_cut_of n) c cs t) ∙ e))
     | inr t ↦ (λ q. (let u = sym (same_name c.group n (sym q)) ∙ t in absurd (let f : true ≡ false = u in cc)), none_each n cs (sym (find_skips (is_cut_of n) c cs t) ∙ e))
   ]
 
@@ -183,7 +179,7 @@ module _ (g : Draw) (d : Division) where
         subst (Pairwise (λ (x o : Cut). x.group ≢ o.group)) (sym (flat_mine c cs t ∙ ap (λ l. first_part c ∷ second_part c ∷ l) (flat_none cs rest)))
         (((λ q. gc (sym named ∙ q)), h.0), (kids, h.1)))
     | inr t ↦ elim (cases_Bool (is_cut_of d.child c)) [
-      | inl u ↦ absurd (some_cut c (sym (find_first (is_cut_of d.child) c cs u) ∙ none))
+      | inl u ↦ absurd (some_none c (sym (find_first (is_cut_of d.child) c cs u) ∙ none))
       | inr u ↦ subst (Pairwise (λ (x o : Cut). x.group ≢ o.group)) (sym (flat_else c cs t))
           (each_flat c.group (λ q. (let v = sym (same_name c.group d.child q) ∙ u in absurd (let f : true ≡ false = v in cc))) cs h.0, apart_divided gc cs (sym (find_skips (is_cut_of d.child) c cs u) ∙ none) h.1)
     ]
@@ -206,7 +202,7 @@ pub arc_of_cut : (ring : List Cut) → Pairwise (λ (c o : Cut). c.group ≢ o.g
 arc_of_cut [] h c a = absurd a
 arc_of_cut (x ∷ ring) h c (inl e) = ap (option_map (λ (k : Cut). k.arc)) (find_first (is_cut_of c.group) x ring (same_name x.group c.group (ap (λ (k : Cut). k.group) e))) ∙ ap (λ (k : Cut). Some k.arc) e
 arc_of_cut (x ∷ ring) h c (inr a) =
-    ap (option_map (λ (k : Cut). k.arc)) (find_skips (is_cut_of c.group) x ring (other_name x.group c.group (Rattle.sc_ring_law.proofs.Finds.each_among (λ (o : Cut). x.group ≢ o.group) ring h.0 c a)))
+    ap (option_map (λ (k : Cut). k.arc)) (find_skips (is_cut_of c.group) x ring (other_name x.group c.group (Each-among (λ (o : Cut). x.group ≢ o.group) ring c h.0 a)))
     ∙ arc_of_cut ring h.1 c a
 
 -- the cut of a group that has an arc
@@ -217,8 +213,8 @@ pub record HasCut (ring : List Cut) (g : Draw) (a : Arc) : Type 0 where
   pub arc : cut.arc ≡ a
 
 has_cut : (ring : List Cut) (g : Draw) (a : Arc) (o : Option Cut) → find (is_cut_of g) ring ≡ o → option_map (λ (k : Cut). k.arc) o ≡ Some a → HasCut ring g a
-has_cut ring g a None f e = absurd (none_arc a e)
-has_cut ring g a (Some c) f e = record { cut = c; there = find_there (is_cut_of g) ring c f; group = cut_named g ring c f; arc = some_is c.arc a e }
+has_cut ring g a None f e = absurd (none-some a e)
+has_cut ring g a (Some c) f e = record { cut = c; there = (find_found (is_cut_of g) ring c f).0; group = cut_named g ring c f; arc = some_is c.arc a e }
 
 pub cut_of_arc : (ring : List Cut) (g : Draw) (a : Arc) → arc_in g ring ≡ Some a → HasCut ring g a
 cut_of_arc ring g a e = has_cut ring g a (find (is_cut_of g) ring) refl e

@@ -6,7 +6,7 @@ use Rattle.std.proofs.lemmas.Bool.{cond_both, and_parts, cond-true, cond-false}
 use Rattle.sc_base.specs.Arc.{holds, before}
 use Rattle.sc_base.specs.Same.{same_draw}
 use Rattle.sc_base.specs.declared.names.Draw.{Draw}
-use Rattle.sc_base.proofs.NameLemmas.{draw_is, same_name}
+use Rattle.sc_base.proofs.NameLemmas.{same_name}
 use Rattle.sc_member.specs.Roster.{is_member}
 use Rattle.sc_member.specs.Union.{united}
 use Rattle.sc_cmd.specs.declared.bodies.Body.{Body}
@@ -33,19 +33,18 @@ use Rattle.sc_entries.specs.declared.Division.{Division}
 use Rattle.sc_ring_law.specs.Allowed.{IsVoteCast, IsWatchVoteCast}
 use Rattle.sc_ring_law.specs.Stories.{Story, Stories, put, retold, merge_watch, with_decision, with_answer}
 use Rattle.sc_ring_law.specs.Invariant.{Groups, has_born, IsEarned, Facts}
-use Rattle.sc_entries.proofs.Names.{names_differ}
+use Rattle.sc_entries.proofs.Names.{names_differ, some_is}
 use Rattle.sc_ring_law.proofs.Notes.{any_keeps, any_drops, any_new, is_vote_on}
 use Rattle.sc_ring_law.proofs.View.{Ring}
 use Rattle.sc_ring_law.proofs.Cover.{at-same, at-other}
-use Rattle.sc_ring_law.proofs.Facts.{same_story}
-use Rattle.sc_ring_law.proofs.Rows.{some_none}
-use Rattle.sc_ring_law.proofs.Ends.{own_story, hear_facts, IsDecision, decide_facts, born_facts}
+use Rattle.sc_ring_law.proofs.Ends.{own_story, same_lock, hear_facts, IsDecision, decide_facts, born_facts}
 use Rattle.sc_ring_law.proofs.Effects.{decisions, eff, arc_of, succ_of, pred_of, pairs_of, Good, Like, like_abort, like_at, whole_change, eff_by, living_is}
 use Rattle.sc_ring_law.proofs.Commits.{ring_cut, ring_out, IsDeciding, own_is, New}
 use Rattle.sc_ring_law.proofs.Reshapes.{Ends, merge_closing, merge_watched}
 use Rattle.sc_ring_law.proofs.Moves.{cut_is, give_commit, take_commit, migrate_commit}
 use Rattle.sc_ring_law.proofs.Splits.{divide_commit}
 use Rattle.sc_ring_law.proofs.Steps.{Kept, idle_told, told_at, outcome_like}
+use Rattle.sc_ring_law.proofs.Finds.{some_none}
 
 -- the groups with the child of a division, if there is one
 abbrev pub born_too : Group → Groups → Option Division → Groups
@@ -195,7 +194,7 @@ module _ (owner : Draw → Option Draw) (ring : Ring) (gs : Groups) (ys : Storie
   yes_kept tx (At.Split at child) f by o vote = lands_idle tx (Ballot.Yes f)
 
   vote_is : (tx : Draw) (f : Frozen) (y : Story) → ys tx ≡ Some y → IsVoteCast ys tx (Ballot.Yes f) → y.vote ≡ Some (Ballot.Yes f)
-  vote_is tx f y there h = ap (λ (z : Story). z.vote) (same_story y h.0 (sym there ∙ h.1)) ∙ h.2
+  vote_is tx f y there h = ap (λ (z : Story). z.vote) (some_is y h.0 (sym there ∙ h.1)) ∙ h.2
 
   answered_kept : (tx : Draw) (body : Body) (by : ℕ) → (o : IsMineOpen owner gs ys g s tx body None) → (vote : Vote) → IsVoteCast ys tx vote → Lands tx vote (participant_answered vote body s tx o.deciding.order by)
   answered_kept tx body by o (Ballot.Yes f) h = yes_kept tx body f by o (vote_is tx f o.story o.deciding.there h)
@@ -210,16 +209,13 @@ module _ (owner : Draw → Option Draw) (ring : Ring) (gs : Groups) (ys : Storie
   heard_none (At.Migrate node) (Some h) e = absurd (let f : true ≡ false = e in cc)
   heard_none (At.Split at child) heard e = absurd (let f : true ≡ false = e in cc)
 
-  coord_tx : (l : Lock) (t tx : Draw) (body : Body) (order : ℕ) (heard : Option Heard) → l ≡ Coordinating t body order heard → same_draw t tx ≡ true → l ≡ Coordinating tx body order heard
-  coord_tx l t tx body order heard e q = e ∙ ap (λ n. Coordinating n body order heard) (draw_is t tx q)
-
   pub record_kept : (tx : Draw) (vote : Vote) (by : ℕ) → IsVoteCast ys tx vote → (l : Lock) → s.core.lock ≡ l → Lands tx vote (vote_recorded l s tx vote by)
-  unfolding heard_none coord_tx mine_open
+  unfolding heard_none mine_open
   record_kept tx vote by h Free e = lands_idle tx vote
   record_kept tx vote by h (Coordinating t body order heard) e =
       cond_both (same_draw t tx) _ _ (Lands tx vote)
       (λ q. cond_both (asks_watcher body heard) _ _ (Lands tx vote) (λ a. lands_idle tx vote)
-      (λ a. answered_kept tx body by (mine_open tx body order None (coord_tx s.core.lock t tx body order None (e ∙ ap (Coordinating t body order) (heard_none body heard a)) q)) vote h))
+      (λ a. answered_kept tx body by (mine_open tx body order None (same_lock s.core.lock t tx body order None (e ∙ ap (Coordinating t body order) (heard_none body heard a)) q)) vote h))
       (λ q. lands_idle tx vote)
   record_kept tx vote by h (Promised t offer) e = lands_idle tx vote
   record_kept tx vote by h (Watching t watch) e = lands_idle tx vote
@@ -231,7 +227,7 @@ module _ (owner : Draw → Option Draw) (ring : Ring) (gs : Groups) (ys : Storie
   give_up_kept tx Free e = idle_told owner ring gs ys g s tx (with_decision None) (λ y. refl) k is
   give_up_kept tx (Coordinating t body order heard) e =
       cond_both (same_draw t tx) _ _ (λ (r : Group × Effect). Kept owner ring (put gs g (Some r.0)) (retold ys tx (with_decision (outcome_in r.1))))
-      (λ q. (let o = mine_open tx body order heard (coord_tx s.core.lock t tx body order heard e q) in
+      (λ q. (let o = mine_open tx body order heard (same_lock s.core.lock t tx body order heard e q) in
       subst (λ z. Kept owner ring (put gs g (Some (decided_group s tx Abort))) z) (sym (told_at ys tx (with_decision (Some Abort)) o.story o.deciding.there)) (abort_kept tx body heard o)))
       (λ q. idle_told owner ring gs ys g s tx (with_decision None) (λ y. refl) k is)
   give_up_kept tx (Promised t offer) e = idle_told owner ring gs ys g s tx (with_decision None) (λ y. refl) k is
@@ -274,7 +270,7 @@ module _ (owner : Draw → Option Draw) (ring : Ring) (gs : Groups) (ys : Storie
             (λ na. (λ offer q. absurd (some_none offer (sym q ∙ own.offer)), λ w q. passed)))
             (at-other gs g (Some s') tx gt ∙ none) refl refl ((k.0.story tx y d.there).named ∙ ap Some own.coordinator) (at-same gs g (Some s'))
             (any_new (λ c. same_draw c tx) s.core.born tx (same_name tx tx refl))
-            (λ z p q there b u. some_none Divided (ap (λ (x : Story). x.outcome) (same_story (Ends y Divided) z (sym (at-same ys tx (Some (Ends y Divided))) ∙ there)) ∙ u)),
+            (λ z p q there b u. some_none Divided (ap (λ (x : Story). x.outcome) (some_is (Ends y Divided) z (sym (at-same ys tx (Some (Ends y Divided))) ∙ there)) ∙ u)),
         divide_commit owner ring gs ys g s tx at heard y d passed none named own.own.0 cut.held cut.inside k.1,
       ))))
       (λ c. w_idle tx)
@@ -307,7 +303,7 @@ module _ (owner : Draw → Option Draw) (ring : Ring) (gs : Groups) (ys : Storie
       divide_as tx at child heard own.own.1 o passed
 
   watch_vote_is : (tx : Draw) (y : Story) → ys tx ≡ Some y → IsWatchVoteCast ys tx Cast.Yes → y.watch_vote ≡ Some Cast.Yes
-  watch_vote_is tx y there h = ap (λ (z : Story). z.watch_vote) (same_story y h.0 (sym there ∙ h.1)) ∙ h.2
+  watch_vote_is tx y there h = ap (λ (z : Story). z.watch_vote) (some_is y h.0 (sym there ∙ h.1)) ∙ h.2
 
   watch_kept : (tx : Draw) (body : Body) (heard : Option Heard) → (o : IsMineOpen owner gs ys g s tx body heard) → (past : Past) → IsWatchVoteCast ys tx past → WLands tx (watch_answered past body heard s tx)
   watch_kept tx body heard o Cast.Yes h = released_kept tx body heard o (watch_vote_is tx o.story o.deciding.there h)
@@ -319,7 +315,7 @@ module _ (owner : Draw → Option Draw) (ring : Ring) (gs : Groups) (ys : Storie
   watch_record_kept tx past h (Coordinating t body order heard) e =
       cond_both (same_draw t tx) _ _ (WLands tx)
       (λ q. cond_both (asks_watcher body heard) _ _ (WLands tx)
-      (λ a. watch_kept tx body heard (mine_open tx body order heard (coord_tx s.core.lock t tx body order heard e q)) past h) (λ a. w_idle tx))
+      (λ a. watch_kept tx body heard (mine_open tx body order heard (same_lock s.core.lock t tx body order heard e q)) past h) (λ a. w_idle tx))
       (λ q. w_idle tx)
   watch_record_kept tx past h (Promised t offer) e = w_idle tx
   watch_record_kept tx past h (Watching t watch) e = w_idle tx

@@ -14,14 +14,9 @@ use Rattle.sc_machine_table.specs.Plans.{frozen_of}
 use Rattle.sc_machine_table.specs.Votes.{has_voted}
 use Rattle.sc_ring_law.specs.Stories.{Story, Stories, put, unsigned_watch}
 use Rattle.sc_ring_law.specs.Invariant.{Groups, has_decided, has_born, LockOk, GroupOk, IsFrozen, IsAgreed, IsVoter, IsWatcher, StoryOk, Origin, Facts}
-use Rattle.sc_entries.proofs.Names.{draw_cases}
+use Rattle.sc_entries.proofs.Names.{draw_cases, some_is}
 use Rattle.sc_ring_law.proofs.Cover.{at-same, at-is, at-other, from_at}
-
-pub same_group : (a b : Group) → Some a ≡ Some b → a ≡ b
-same_group a b e = cc
-
-pub same_story : (a b : Story) → Some a ≡ Some b → a ≡ b
-same_story a b e = cc
+use Rattle.sc_ring_law.proofs.Finds.{some_none}
 
 pub same_frozen : (a b : Frozen) → Some (Yes a) ≡ Some (Yes b) → a ≡ b
 same_frozen a b e = cc
@@ -53,7 +48,7 @@ pub keep_known : (gs : Groups) (g : Draw) (s s' : Group) (tx : Draw) (y : Story)
 keep_known gs g s s' tx y is dec lock k u e n =
     elim (from_at gs g (Some s') y.coordinator (Some u) e) [
       | inl m ↦ (
-          let u_is = same_group s' u m.1 in
+          let u_is = some_is s' u m.1 in
           let r = k s (ap gs m.0 ∙ is) (dec (subst (λ (b : Group). has_decided b.core tx ≡ false) (sym u_is) n)) in
           subst (λ (b : Group). Locks b tx y.body) u_is (lock r))
       | inr m ↦ k u m.1 n
@@ -66,7 +61,7 @@ pub keep_voter : (gs : Groups) (g : Draw) (s s' : Group) (tx : Draw) (y : Story)
 keep_voter gs g s s' tx y is vot r =
     elim (draw_cases r.offer.part g) [
       | inl q ↦ (
-          let u_is = same_group r.group s (sym r.is ∙ ap gs q ∙ is) in
+          let u_is = some_is r.group s (sym r.is ∙ ap gs q ∙ is) in
           record { offer = r.offer; offered = r.offered; group = s'; is = at-is gs g (Some s') r.offer.part q; voted = vot (subst (λ (b : Group). has_voted b.core tx ≡ true) u_is r.voted) })
       | inr q ↦ record { offer = r.offer; offered = r.offered; group = r.group; is = at-other gs g (Some s') r.offer.part q ∙ r.is; voted = r.voted }
     ]
@@ -75,7 +70,7 @@ pub keep_watcher : (gs : Groups) (g : Draw) (s s' : Group) (tx : Draw) (w : Opti
 keep_watcher gs g s s' tx w is vot r =
     elim (draw_cases r.watch.part g) [
       | inl q ↦ (
-          let u_is = same_group r.group s (sym r.is ∙ ap gs q ∙ is) in
+          let u_is = some_is r.group s (sym r.is ∙ ap gs q ∙ is) in
           record { watch = r.watch; is_asked = r.is_asked; group = s'; is = at-is gs g (Some s') r.watch.part q; voted = vot (subst (λ (b : Group). has_voted b.core tx ≡ true) u_is r.voted) })
       | inr q ↦ record { watch = r.watch; is_asked = r.is_asked; group = r.group; is = at-other gs g (Some s') r.watch.part q ∙ r.is; voted = r.voted }
     ]
@@ -85,7 +80,7 @@ pub keep_frozen : (gs : Groups) (g : Draw) (s s' : Group) (tx : Draw) (y : Story
 keep_frozen gs g s s' tx y f is lock r =
     elim (draw_cases r.offer.part g) [
       | inl q ↦ (
-          let u_is = same_group s r.group (sym is ∙ ap gs (sym q) ∙ r.is) in
+          let u_is = some_is s r.group (sym is ∙ ap gs (sym q) ∙ r.is) in
           let was : s.core.lock ≡ Promised tx r.offer = ap (λ (b : Group). b.core.lock) u_is ∙ r.lock in
           record {
             offer = r.offer;
@@ -102,17 +97,14 @@ pub keep_agreed : (gs : Groups) (g : Draw) (s s' : Group) (tx : Draw) (y : Story
 keep_agreed gs g s s' tx y is lock r =
     elim (draw_cases r.watch.part g) [
       | inl q ↦ (
-          let u_is = same_group s r.group (sym is ∙ ap gs (sym q) ∙ r.is) in
+          let u_is = some_is s r.group (sym is ∙ ap gs (sym q) ∙ r.is) in
           let was : s.core.lock ≡ Watching tx r.watch = ap (λ (b : Group). b.core.lock) u_is ∙ r.lock in
           record { watch = r.watch; asked = r.asked; group = s'; is = at-is gs g (Some s') r.watch.part q; lock = lock r.watch was ∙ was })
       | inr q ↦ record { watch = r.watch; asked = r.asked; group = r.group; is = at-other gs g (Some s') r.watch.part q ∙ r.is; lock = r.lock }
     ]
 
-none_some_group : (a : Group) → Some a ≡ None → ⊥
-none_some_group a e = cc
-
 pub keep_none : (gs : Groups) (g : Draw) (s s' : Group) (t : Draw) → gs g ≡ Some s → gs t ≡ None → put gs g (Some s') t ≡ None
-keep_none gs g s s' t is n = at-other gs g (Some s') t (λ q. none_some_group s (sym is ∙ ap gs (sym q) ∙ n)) ∙ n
+keep_none gs g s s' t is n = at-other gs g (Some s') t (λ q. some_none s (sym is ∙ ap gs (sym q) ∙ n)) ∙ n
 
 pub story_keep : (gs : Groups) (owner : Draw → Option Draw) (g : Draw) (s s' : Group) (tx : Draw) (y : Story) → gs g ≡ Some s → IsCalm tx s s' → StoryOk owner gs tx y → StoryOk owner (put gs g (Some s')) tx y
 story_keep gs owner g s s' tx y is calm k = record {
@@ -141,7 +133,7 @@ lock_keep ys g tx y y' is grown h u ne Free k = tt
 lock_keep ys g tx y y' is grown h u ne (Coordinating t body order heard) r =
     elim (draw_cases t tx) [
       | inl q ↦ (
-          let y_is = same_story y r.story (sym is ∙ ap ys (sym q) ∙ r.is) in
+          let y_is = some_is y r.story (sym is ∙ ap ys (sym q) ∙ r.is) in
           let m = grown.coordinator h ne (ap (λ (z : Story). z.coordinator) y_is ∙ r.coordinator) in
           record {
             story = y';
@@ -175,14 +167,14 @@ lock_keep ys g tx y y' is grown h u ne (Coordinating t body order heard) r =
 lock_keep ys g tx y y' is grown h u ne (Promised t offer) r =
     elim (draw_cases t tx) [
       | inl q ↦ (
-          let y_is = same_story y r.story (sym is ∙ ap ys (sym q) ∙ r.is) in
+          let y_is = some_is y r.story (sym is ∙ ap ys (sym q) ∙ r.is) in
           record { story = y'; is = at-is ys tx (Some y') t q; offered = grown.offer ∙ ap (λ (z : Story). z.offer) y_is ∙ r.offered; part = r.part; vote = grown.votes (frozen_of u) (ap (λ (z : Story). z.vote) y_is ∙ r.vote); here = r.here })
       | inr q ↦ record { story = r.story; is = at-other ys tx (Some y') t q ∙ r.is; offered = r.offered; part = r.part; vote = r.vote; here = r.here }
     ]
 lock_keep ys g tx y y' is grown h u ne (Watching t watch) r =
     elim (draw_cases t tx) [
       | inl q ↦ (
-          let y_is = same_story y r.story (sym is ∙ ap ys (sym q) ∙ r.is) in
+          let y_is = some_is y r.story (sym is ∙ ap ys (sym q) ∙ r.is) in
           record { story = y'; is = at-is ys tx (Some y') t q; asked = grown.watch (unsigned_watch watch) (ap (λ (z : Story). z.watch) y_is ∙ r.asked); part = r.part; here = r.here })
       | inr q ↦ record { story = r.story; is = at-other ys tx (Some y') t q ∙ r.is; asked = r.asked; part = r.part; here = r.here }
     ]
@@ -191,11 +183,8 @@ pub group_keep : (ys : Stories) (g tx : Draw) (y y' : Story) → ys tx ≡ Some 
 group_keep ys g tx y y' is grown h u ne k = record { named = k.named; lock_ok = lock_keep ys g tx y y' is grown h u ne u.core.lock k.lock_ok }
 
 -- a story that is new
-some_none_story : (y : Story) → Some y ≡ None → ⊥
-some_none_story y e = cc
-
 new_other : (ys : Stories) (tx : Draw) (y' : Story) → ys tx ≡ None → (t : Draw) (z : Story) → ys t ≡ Some z → put ys tx (Some y') t ≡ Some z
-new_other ys tx y' none t z e = at-other ys tx (Some y') t (λ q. some_none_story z (sym e ∙ ap ys q ∙ none)) ∙ e
+new_other ys tx y' none t z e = at-other ys tx (Some y') t (λ q. some_none z (sym e ∙ ap ys q ∙ none)) ∙ e
 
 lock_new : (ys : Stories) (tx : Draw) (y' : Story) → ys tx ≡ None → (h : Draw) (u : Group) (lock : Lock) → LockOk ys h u lock → LockOk (put ys tx (Some y')) h u lock
 lock_new ys tx y' none h u Free r = tt
@@ -223,7 +212,7 @@ pub origin_keep : (gs : Groups) (owner : Draw → Option Draw) (g : Draw) (s s' 
 origin_keep gs owner g s s' is born h (inl e) = inl e
 origin_keep gs owner g s s' is born h (inr r) =
     elim (draw_cases r.0 g) [
-      | inl q ↦ inr (g, s', r.2 ∙ ap Some q, at-same gs g (Some s'), born h (subst (λ (b : Group). has_born b.core h ≡ true) (same_group r.1 s (sym r.3 ∙ ap gs q ∙ is)) r.4))
+      | inl q ↦ inr (g, s', r.2 ∙ ap Some q, at-same gs g (Some s'), born h (subst (λ (b : Group). has_born b.core h ≡ true) (some_is r.1 s (sym r.3 ∙ ap gs q ∙ is)) r.4))
       | inr q ↦ inr (r.0, r.1, r.2, at-other gs g (Some s') r.0 q ∙ r.3, r.4)
     ]
 
@@ -235,7 +224,7 @@ pub facts_change : (gs : Groups) (ys ys' : Stories) (owner : Draw → Option Dra
     → Facts owner (put gs g (Some s')) ys'
 facts_change gs ys ys' owner g s s' f is born mine others stories = record {
   group = λ h u e. elim (from_at gs g (Some s') h (Some u) e) [
-    | inl m ↦ subst (λ (b : Group). GroupOk ys' h b) (same_group s' u m.1) (subst (λ n. GroupOk ys' n s') (sym m.0) mine)
+    | inl m ↦ subst (λ (b : Group). GroupOk ys' h b) (some_is s' u m.1) (subst (λ n. GroupOk ys' n s') (sym m.0) mine)
     | inr m ↦ others h u m.0 (f.group h u m.1)
   ];
   story = stories;
@@ -260,6 +249,6 @@ facts_told gs ys owner g s s' tx y y' f is there born mine grown calm told =
     facts_change gs ys (put ys tx (Some y')) owner g s s' f is born mine
     (λ h u ne k. group_keep ys g tx y y' there grown h u ne k)
     (λ t z e. elim (from_at ys tx (Some y') t (Some z) e) [
-      | inl m ↦ subst (StoryOk owner (put gs g (Some s')) t) (same_story y' z m.1) (subst (λ n. StoryOk owner (put gs g (Some s')) n y') (sym m.0) told)
+      | inl m ↦ subst (StoryOk owner (put gs g (Some s')) t) (some_is y' z m.1) (subst (λ n. StoryOk owner (put gs g (Some s')) n y') (sym m.0) told)
       | inr m ↦ story_keep gs owner g s s' t z is (calm t m.0) (f.story t z m.1)
     ])

@@ -1,14 +1,14 @@
 -- Look-ups in lists that are changed, added to or filtered.
-use Rattle.std.specs.Prelude.{map, find, ◌++◌}
+use Rattle.std.specs.Prelude.{map, find}
 use Rattle.std.specs.List.{filter}
 use Rattle.std.specs.Option.{option_map}
-use Rattle.std.proofs.Common.{◌≡◌, ℕ, zero, suc, ◌<◌, Bool, true, false, cond, List, [], ◌∷◌, ◌⊎◌, inl, inr, Option, Some, None, refl, sym, ◌∙◌, ap, subst, arith, length, AllPairs, get_or}
-use Rattle.std.proofs.lemmas.Bool.{cases_Bool, cond-true, cond-false}
+use Rattle.std.proofs.Common.{◌≡◌, ℕ, zero, suc, ◌<◌, Bool, true, false, cond, List, [], ◌∷◌, inl, inr, Option, Some, None, refl, ◌∙◌, ap, subst, arith, length, AllPairs, get_or}
+use Rattle.std.proofs.lemmas.Bool.{cond-true, cond-false}
 use Rattle.sc_base.specs.Among.{Among, Each}
-use Rattle.sc_entries.proofs.Names.{some_is}
+use Rattle.sc_paxos_words.proofs.ListLemmas.{Each-among, Each-from, Each-filter}
 
-pub none_is_not : {X : Type 0} (a : X) → None ≡ Some a → ⊥
-none_is_not a e = cc
+pub some_none : {X : Type 0} (a : X) → Some a ≡ None → ⊥
+some_none a e = cc
 
 cond_map : {X : Type 0} (f : X → X) (b : Bool) (x : X) (o : Option X) → cond b (Some (f x)) (option_map f o) ≡ option_map f (cond b (Some x) o)
 cond_map f true x o = refl
@@ -28,55 +28,16 @@ find_first p x xs t = cond-true (p x) (Some x) (find p xs) t
 pub find_skips : {X : Type 0} (p : X → Bool) (x : X) (xs : List X) → p x ≡ false → find p (x ∷ xs) ≡ find p xs
 find_skips p x xs t = cond-false (p x) (Some x) (find p xs) t
 
-pub find_passes : {X : Type 0} (p : X → Bool) (xs : List X) (x : X) → find p xs ≡ Some x → p x ≡ true
-find_passes p [] x e = absurd (none_is_not x e)
-find_passes p (y ∷ xs) x e = elim (cases_Bool (p y)) [
-  | inl t ↦ subst (λ z. p z ≡ true) (some_is y x (sym (find_first p y xs t) ∙ e)) t
-  | inr t ↦ find_passes p xs x (sym (find_skips p y xs t) ∙ e)
-]
-
-pub find_there : {X : Type 0} (p : X → Bool) (xs : List X) (x : X) → find p xs ≡ Some x → Among x xs
-find_there p [] x e = absurd (none_is_not x e)
-find_there p (y ∷ xs) x e = elim (cases_Bool (p y)) [
-  | inl t ↦ inl (some_is y x (sym (find_first p y xs t) ∙ e))
-  | inr t ↦ inr (find_there p xs x (sym (find_skips p y xs t) ∙ e))
-]
-
 -- ---- elements
-
-pub among_map : {X Y : Type 0} (f : X → Y) (xs : List X) (y : Y) → Among y (map f xs) → (x : X) × Among x xs × (f x ≡ y)
-among_map f [] y a = absurd a
-among_map f (x ∷ xs) y (inl e) = (x, inl refl, e)
-among_map f (x ∷ xs) y (inr a) = let r = among_map f xs y a in (r.0, inr r.1, r.2)
 
 pub map_among : {X Y : Type 0} (f : X → Y) (xs : List X) (x : X) → Among x xs → Among (f x) (map f xs)
 map_among f [] x a = absurd a
 map_among f (y ∷ xs) x (inl e) = inl (ap f e)
 map_among f (y ∷ xs) x (inr a) = inr (map_among f xs x a)
 
-pub among_append : {X : Type 0} (xs ys : List X) (x : X) → Among x (xs ++ ys) → Among x xs ⊎ Among x ys
-among_append [] ys x a = inr a
-among_append (y ∷ xs) ys x (inl e) = inl (inl e)
-among_append (y ∷ xs) ys x (inr a) = elim (among_append xs ys x a) [ inl b ↦ inl (inr b) | inr b ↦ inr b ]
-
-pub each_among : {X : Type 0} (P : X → Type 0) (xs : List X) → Each P xs → (x : X) → Among x xs → P x
-each_among P [] h x a = absurd a
-each_among P (y ∷ xs) h x (inl e) = subst P e h.0
-each_among P (y ∷ xs) h x (inr a) = each_among P xs h.1 x a
-
-pub each_from : {X : Type 0} (P : X → Type 0) (xs : List X) → ((x : X) → Among x xs → P x) → Each P xs
-each_from P [] h = tt
-each_from P (y ∷ xs) h = (h y (inl refl), each_from P xs (λ x a. h x (inr a)))
-
 pub each_map : {X : Type 0} (P : X → Type 0) (f : X → X) → ((x : X) → P x → P (f x)) → (xs : List X) → Each P xs → Each P (map f xs)
 each_map P f keeps [] h = tt
 each_map P f keeps (x ∷ xs) h = (keeps x h.0, each_map P f keeps xs h.1)
-
-pub each_filter : {X : Type 0} (P : X → Type 0) (p : X → Bool) (xs : List X) → Each P xs → Each P (filter p xs)
-each_filter P p [] h = tt
-each_filter P p (x ∷ xs) h =
-    let rest = each_filter P p xs h.1 in
-    elim (p x) as (λ b. Each P (cond b (x ∷ filter p xs) (filter p xs))) [ true ↦ (h.0, rest) | false ↦ rest ]
 
 -- ---- pairs of elements
 
@@ -93,7 +54,7 @@ get_among (e ∷ xs) (suc k) d lt = inr (get_among xs k d (omega (arith, lt)))
 pub all_pairs : {X : Type 0} (R : X → X → Type 0) (xs : List X) → Pairwise R xs → AllPairs R xs
 all_pairs R [] a i j d below inside = absurd (omega (arith, inside))
 all_pairs R (e ∷ xs) a i zero d below inside = absurd (omega (arith, below))
-all_pairs R (e ∷ xs) a zero (suc j) d below inside = each_among (R e) xs a.0 (get_or xs j d) (get_among xs j d (omega (arith, inside)))
+all_pairs R (e ∷ xs) a zero (suc j) d below inside = Each-among (R e) xs (get_or xs j d) a.0 (get_among xs j d (omega (arith, inside)))
 all_pairs R (e ∷ xs) a (suc i) (suc j) d below inside = all_pairs R xs a.1 i j d (omega (arith, below)) (omega (arith, inside))
 
 -- where an element stands
@@ -105,7 +66,7 @@ place_of (y ∷ xs) x d (inr a) = let r = place_of xs x d a in let lt = r.1 in (
 pub pairwise_from : {X : Type 0} (R : X → X → Type 0) (xs : List X) → AllPairs R xs → Pairwise R xs
 pairwise_from R [] all = tt
 pairwise_from R (x ∷ xs) all = (
-  each_from (R x) xs (λ y a. (
+  Each-from (R x) xs (λ y a. (
       let r = place_of xs y x a in
       let lt = r.1 in
       subst (R x) r.2 (all 0 (suc r.0) x (omega arith) (omega (arith, lt))))),
@@ -116,4 +77,4 @@ pub pairwise_filter : {X : Type 0} (R : X → X → Type 0) (p : X → Bool) (xs
 pairwise_filter R p [] h = tt
 pairwise_filter R p (x ∷ xs) h =
     let rest = pairwise_filter R p xs h.1 in
-    elim (p x) as (λ b. Pairwise R (cond b (x ∷ filter p xs) (filter p xs))) [ true ↦ (each_filter (R x) p xs h.0, rest) | false ↦ rest ]
+    elim (p x) as (λ b. Pairwise R (cond b (x ∷ filter p xs) (filter p xs))) [ true ↦ (Each-filter (R x) p xs h.0, rest) | false ↦ rest ]

@@ -5,7 +5,6 @@ use Rattle.std.proofs.lemmas.Bool.{cond_both}
 use Rattle.std.specs.Option.{option_map}
 use Rattle.sc_base.specs.Same.{same_draw}
 use Rattle.sc_base.specs.declared.names.Draw.{Draw}
-use Rattle.sc_base.proofs.NameLemmas.{draw_is}
 use Rattle.sc_cmd.specs.declared.bodies.Body.{Body}
 use Rattle.sc_cmd.specs.declared.bodies.Body.TheVariants as At
 use Rattle.sc_cmd.specs.declared.bodies.Offer.{Offer}
@@ -40,13 +39,14 @@ use Rattle.sc_ring_law.specs.Laws.{AllowedEntriesStayAllowed}
 use Rattle.sc_entries.proofs.Names.{draw_cases, some_is}
 use Rattle.sc_ring_law.proofs.View.{Ring}
 use Rattle.sc_ring_law.proofs.Cover.{at-is, at-other}
-use Rattle.sc_ring_law.proofs.Rows.{some_none, unheard, not_passed}
-use Rattle.sc_ring_law.proofs.Ends.{draw_new, own_story}
+use Rattle.sc_ring_law.proofs.Rows.{unheard, not_passed}
+use Rattle.sc_ring_law.proofs.Ends.{draw_new, own_story, same_lock}
 use Rattle.sc_ring_law.proofs.Steps.{Kept, named_cases}
 use Rattle.sc_ring_law.proofs.Cuts.{arcs_in}
 use Rattle.sc_ring_law.proofs.Told.{groups_in}
 use Rattle.sc_ring_law.proofs.Start.{at_start}
 use Rattle.sc_ring_law.proofs.Worlds.{KeptWorld, kept_on, kept_after}
+use Rattle.sc_ring_law.proofs.Finds.{some_none}
 
 -- a story tells all that another told
 pub record TellsOn (y z : Story) : Type 0 where
@@ -137,9 +137,6 @@ module _ (sources : Sources) (ring : Ring) (gs : Groups) (ys : Stories) (g : Dra
       watch_first z (Some (past_of (watch_vote_of s.core watch)))
       (λ v. not_passed gs g s tx y watch is e asked part ((k.0.story tx y there).watcher Cast.Yes (ap (λ (x : Story). x.watch_vote) same ∙ v))))))
 
-  same_lock : (t tx : Draw) (body : Body) (order : ℕ) (heard : Option Heard) → s.core.lock ≡ Coordinating t body order heard → same_draw t tx ≡ true → s.core.lock ≡ Coordinating tx body order heard
-  same_lock t tx body order heard e q = e ∙ ap (λ n. Coordinating n body order heard) (draw_is t tx q)
-
   undecided : (tx : Draw) (body : Body) (order : ℕ) (heard : Option Heard) → s.core.lock ≡ Coordinating tx body order heard → (y : Story) → ys tx ≡ Some y → (y.outcome ≡ None) × (y.watch ≡ watch_for s.core body heard)
   undecided tx body order heard lock y there =
       let own = own_story gs ys sources.owner g s tx body order heard k.0 is lock in
@@ -179,7 +176,7 @@ module _ (sources : Sources) (ring : Ring) (gs : Groups) (ys : Stories) (g : Dra
       (λ q. cond_both (asks_watcher body heard) (s, Was.NoEffect tx) (participant_answered vote body s tx order by) (λ (r : Group × Effect). Grows ys (retold ys tx (with_answer s.core vote r.1)))
       (λ a. vote_quiet tx vote)
       (λ a. grows_told ys tx (with_answer s.core vote (participant_answered vote body s tx order by).1) (λ y w. (
-      let u = undecided tx body order heard (same_lock t tx body order heard e q) y w in
+      let u = undecided tx body order heard (same_lock s.core.lock t tx body order heard e q) y w in
       answer_first y vote (participant_answered vote body s tx order by).1 (u.1 ∙ unasked s.core body heard a) u.0))))
       (λ q. vote_quiet tx vote)
   vote_grows tx vote by (Promised t offer) e = vote_quiet tx vote
@@ -193,7 +190,7 @@ module _ (sources : Sources) (ring : Ring) (gs : Groups) (ys : Stories) (g : Dra
   watch_grows tx past (Coordinating t body order heard) e =
       cond_both (same_draw t tx) (cond (asks_watcher body heard) (watch_answered past body heard s tx) (s, Was.NoEffect tx)) (s, Was.NoEffect tx) (λ (r : Group × Effect). Grows ys (retold ys tx (with_decision (outcome_in r.1))))
       (λ q. (let r = cond (asks_watcher body heard) (watch_answered past body heard s tx) (s, Was.NoEffect tx) in
-      grows_told ys tx (with_decision (outcome_in r.1)) (λ y w. outcome_first y (outcome_in r.1) (undecided tx body order heard (same_lock t tx body order heard e q) y w).0)))
+      grows_told ys tx (with_decision (outcome_in r.1)) (λ y w. outcome_first y (outcome_in r.1) (undecided tx body order heard (same_lock s.core.lock t tx body order heard e q) y w).0)))
       (λ q. outcome_quiet tx)
   watch_grows tx past (Promised t offer) e = outcome_quiet tx
   watch_grows tx past (Watching t watch) e = outcome_quiet tx
@@ -202,7 +199,7 @@ module _ (sources : Sources) (ring : Ring) (gs : Groups) (ys : Stories) (g : Dra
   give_up_grows tx Free e = outcome_quiet tx
   give_up_grows tx (Coordinating t body order heard) e =
       cond_both (same_draw t tx) (aborted s tx) (s, Was.NoEffect tx) (λ (r : Group × Effect). Grows ys (retold ys tx (with_decision (outcome_in r.1))))
-      (λ q. grows_told ys tx (with_decision (outcome_in (aborted s tx).1)) (λ y w. outcome_first y (outcome_in (aborted s tx).1) (undecided tx body order heard (same_lock t tx body order heard e q) y w).0))
+      (λ q. grows_told ys tx (with_decision (outcome_in (aborted s tx).1)) (λ y w. outcome_first y (outcome_in (aborted s tx).1) (undecided tx body order heard (same_lock s.core.lock t tx body order heard e q) y w).0))
       (λ q. outcome_quiet tx)
   give_up_grows tx (Promised t offer) e = outcome_quiet tx
   give_up_grows tx (Watching t watch) e = outcome_quiet tx

@@ -17,6 +17,7 @@ use Rattle.sc_ideal.proofs.Joins.{or_else, get-with_pairs, none_past, sorted_res
 use Rattle.sc_machine_table.specs.Plans.{has_key_of}
 use Rattle.sc_ring_law.proofs.View.{IsOnRing, Holds}
 use lib.Dec.{T}
+use Rattle.std.proofs.lemmas.Option.{none-some}
 
 -- what the map holds lies on the arc
 abbrev pub InsideOf : Arc → Contents → Type 0
@@ -61,13 +62,10 @@ self_by Greater e = absurd (let f : Greater ≡ Less = e in cc)
 ties_itself : (x : List ℕ) → eq_by_cmp (slice_cmp nat_cmp) x x ≡ true
 ties_itself x = ap is_eq (self_by (slice_cmp nat_cmp x x) (nat_list_cmp_total.antisymm x x))
 
-some_none_value : (v : List ℕ) → None ≡ Some v → ⊥
-some_none_value v e = cc
-
 later : (e : List ℕ × List ℕ) (es : List (List ℕ × List ℕ)) → T (is_sorted (slice_cmp nat_cmp) (e ∷ es)) → (q v : List ℕ) → find (slice_cmp nat_cmp) q es ≡ Some v → find (slice_cmp nat_cmp) q (e ∷ es) ≡ Some v
 later e es up q v f =
     elim (cases_Bool (eq_by_cmp (slice_cmp nat_cmp) q e.0)) [
-      | inl t ↦ absurd (some_none_value v (sym (none_past (slice_cmp nat_cmp) nat_list_cmp_total q e es up t) ∙ f))
+      | inl t ↦ absurd (none-some v (sym (none_past (slice_cmp nat_cmp) nat_list_cmp_total q e es up t) ∙ f))
       | inr t ↦ cond-false (eq_by_cmp (slice_cmp nat_cmp) q e.0) (Some e.1) (find (slice_cmp nat_cmp) q es) t ∙ f
     ]
 
@@ -84,7 +82,7 @@ no_shared a b p q ip iq apart = clear_of p (entries q) (entries_sorted q) (λ k 
     let found : get q k ≡ Some v = get-entries q k ∙ f in
     elim (cases_Bool (holds_key b k)) [
       | inl t ↦ ip k (apart k t)
-      | inr t ↦ absurd (some_none_value v (sym (iq k t) ∙ found))
+      | inr t ↦ absurd (none-some v (sym (iq k t) ∙ found))
     ]))
 
 -- ---- arithmetic of arcs

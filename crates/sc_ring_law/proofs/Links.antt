@@ -2,24 +2,22 @@
 use Rattle.std.proofs.Common.{◌≡◌, ℕ, ◌^◌, ◌<◌, inl, inr, Some, None, refl, sym, ◌∙◌, ap}
 use Rattle.sc_base.specs.declared.names.Draw.{Draw}
 use Rattle.sc_ring_law.specs.Stories.{put}
-use Rattle.sc_entries.proofs.Names.{draw_cases}
+use Rattle.sc_entries.proofs.Names.{draw_cases, some_is}
 use Rattle.sc_base.specs.Arc.{Arc, end_of, before, from, joined}
 use Rattle.sc_ring_law.proofs.View.{IsOnRing, Holds, Ring, View, IsLinked, split_view, merge_view, move_view}
 use Rattle.sc_ring_law.proofs.Arcs.{end_left, end_right, end_joined}
-use Rattle.sc_ring_law.proofs.Cover.{at-same, at-is, at-other, some_same}
-
-no_arc : (x : Arc) → Some x ≡ None → ⊥
-no_arc x e = cc
+use Rattle.sc_ring_law.proofs.Cover.{at-same, at-is, at-other}
+use Rattle.sc_ring_law.proofs.Finds.{some_none}
 
 -- a group with an arc is none without
 pub differ : (f : Ring) (g h : Draw) (a : Arc) → f g ≡ Some a → f h ≡ None → g ≡ h → ⊥
-differ f g h a is none e = no_arc a (sym is ∙ ap f e ∙ none)
+differ f g h a is none e = some_none a (sym is ∙ ap f e ∙ none)
 
 -- the arc put n, edited put g, begins where it did
 lo_at : (f : Ring) (g : Draw) (arc arc' : Arc) → f g ≡ Some arc → arc'.lo ≡ arc.lo → (n : Draw) (b : Arc) → f n ≡ Some b → (c : Arc) × (put f g (Some arc') n ≡ Some c) × (c.lo ≡ b.lo)
 lo_at f g arc arc' is same n b e =
     elim (draw_cases n g) [
-      | inl k ↦ (arc', at-is f g (Some arc') n k, same ∙ ap (λ (x : Arc). x.lo) (some_same arc b (sym is ∙ ap f (sym k) ∙ e)))
+      | inl k ↦ (arc', at-is f g (Some arc') n k, same ∙ ap (λ (x : Arc). x.lo) (some_is arc b (sym is ∙ ap f (sym k) ∙ e)))
       | inr k ↦ (b, at-other f g (Some arc') n k ∙ e, refl)
     ]
 
@@ -50,11 +48,11 @@ linked_split v g arc place child l ok is free fits held =
       meets = λ h a e. elim (draw_cases h child) [
         | inl k ↦ (
             let s = still w m.0 m.1 in
-            let a_is = some_same right a (sym (at-same mid child (Some right)) ∙ ap arcs (sym k) ∙ e) in
+            let a_is = some_is right a (sym (at-same mid child (Some right)) ∙ ap arcs (sym k) ∙ e) in
             (s.0, ap arcs (ap next k ∙ next_child) ∙ s.1, s.2 ∙ m.2 ∙ sym (end_right arc place ok fits held) ∙ ap end_of a_is))
         | inr nc ↦ elim (draw_cases h g) [
           | inl k ↦ (
-              let a_is = some_same left a (sym (at-other mid child (Some right) g gc ∙ at-same v.arc g (Some left)) ∙ ap arcs (sym k) ∙ e) in
+              let a_is = some_is left a (sym (at-other mid child (Some right) g gc ∙ at-same v.arc g (Some left)) ∙ ap arcs (sym k) ∙ e) in
               (right, ap arcs (ap next k ∙ next_g) ∙ at-same mid child (Some right), end_left arc place ok fits ∙ ap end_of a_is))
           | inr ng ↦ (
               let a_is = sym (at-other mid child (Some right) h nc ∙ at-other v.arc g (Some left) h ng) ∙ e in
@@ -109,7 +107,7 @@ pub record IsPair (v : View) (g p : Draw) (arc its : Arc) : Type 0 where
 
 pub pair_meets : (v : View) (g p : Draw) (arc its : Arc) → IsLinked v → IsPair v g p arc its → its.lo ≡ end_of arc
 pair_meets v g p arc its l k =
-    let m = l.meets g arc k.first in ap (λ (x : Arc). x.lo) (some_same its m.0 (sym k.second ∙ ap v.arc (sym k.line) ∙ m.1)) ∙ m.2
+    let m = l.meets g arc k.first in ap (λ (x : Arc). x.lo) (some_is its m.0 (sym k.second ∙ ap v.arc (sym k.line) ∙ m.1)) ∙ m.2
 
 pub not_back : (v : View) (g p : Draw) (arc its : Arc) → IsLinked v → IsPair v g p arc its → v.next p ≡ p → ⊥
 not_back v g p arc its l k e = k.apart (sym (l.back g arc k.first) ∙ ap v.prev k.line ∙ sym (ap v.prev e) ∙ l.back p its k.second)
@@ -123,7 +121,7 @@ linked_merge v g p arc its l k =
     let next : Draw → Draw = put v.next g x in
     let prev : Draw → Draw = put v.prev x g in
     let xp : x ≡ p → ⊥ = not_back v g p arc its l k in
-    let here : (h : Draw) (a : Arc) → arcs h ≡ Some a → h ≡ p → ⊥ = λ h a e q. no_arc a (sym e ∙ ap arcs q ∙ at-same mid p None) in
+    let here : (h : Draw) (a : Arc) → arcs h ≡ Some a → h ≡ p → ⊥ = λ h a e q. some_none a (sym e ∙ ap arcs q ∙ at-same mid p None) in
     let old : (h : Draw) (a : Arc) → arcs h ≡ Some a → (b : Arc) × (v.arc h ≡ Some b) =
     λ h a e. elim (draw_cases h g) [ inl q ↦ (arc, ap v.arc q ∙ k.first) | inr q ↦ (a, sym (at-other v.arc g (Some joined) h q) ∙ sym (at-other mid p None h (here h a e)) ∙ e) ] in
     let still : (n : Draw) (b : Arc) → v.arc n ≡ Some b → (n ≡ p → ⊥) → (c : Arc) × (arcs n ≡ Some c) × (c.lo ≡ b.lo) =
@@ -136,7 +134,7 @@ linked_merge v g p arc its l k =
       meets = λ h a e. elim (draw_cases h g) [
         | inl q ↦ (
             let s = still x m.0 m.1 xp in
-            let a_is = some_same joined a (sym (at-other mid p None g k.apart ∙ at-same v.arc g (Some joined)) ∙ ap arcs (sym q) ∙ e) in
+            let a_is = some_is joined a (sym (at-other mid p None g k.apart ∙ at-same v.arc g (Some joined)) ∙ ap arcs (sym q) ∙ e) in
             (s.0, ap arcs (ap next q ∙ next_g) ∙ s.1, s.2 ∙ m.2 ∙ sym (end_joined arc its (pair_meets v g p arc its l k)) ∙ ap end_of a_is))
         | inr ng ↦ (
             let a_is = sym (at-other mid p None h (here h a e) ∙ at-other v.arc g (Some joined) h ng) ∙ e in
@@ -186,12 +184,12 @@ linked_move v g p arc its a b l k same seam end =
     λ n c e np. (let q = lo_at v.arc g arc a k.first same n c e in (q.0, at-other mid p (Some b) n np ∙ q.1, q.2)) in
     record {
       meets = λ h c e. elim (draw_cases h g) [
-        | inl q ↦ (b, ap arcs (ap v.next q ∙ k.line) ∙ at_p, seam ∙ ap end_of (some_same a c (sym at_g ∙ ap arcs (sym q) ∙ e)))
+        | inl q ↦ (b, ap arcs (ap v.next q ∙ k.line) ∙ at_p, seam ∙ ap end_of (some_is a c (sym at_g ∙ ap arcs (sym q) ∙ e)))
         | inr ng ↦ elim (draw_cases h p) [
           | inl q ↦ (
               let m = l.meets p its k.second in
               let s = still (v.next p) m.0 m.1 xp in
-              (s.0, ap arcs (ap v.next q) ∙ s.1, s.2 ∙ m.2 ∙ sym end ∙ ap end_of (some_same b c (sym at_p ∙ ap arcs (sym q) ∙ e))))
+              (s.0, ap arcs (ap v.next q) ∙ s.1, s.2 ∙ m.2 ∙ sym end ∙ ap end_of (some_is b c (sym at_p ∙ ap arcs (sym q) ∙ e))))
           | inr np ↦ (
               let is = sym (at-other mid p (Some b) h np ∙ at-other v.arc g (Some a) h ng) ∙ e in
               let n = l.meets h c is in

@@ -33,12 +33,12 @@ use Rattle.sc_entries.specs.Effective.{after_outcome, is_commit}
 use Rattle.sc_entries.specs.declared.Division.{Division}
 use Rattle.sc_ring_law.specs.Stories.{Story, Stories, put, new_story, stories_after}
 use Rattle.sc_ring_law.specs.Invariant.{Groups, LockOk}
-use Rattle.sc_entries.proofs.Names.{names_differ}
+use Rattle.sc_entries.proofs.Names.{names_differ, some_is}
 use Rattle.sc_ring_law.proofs.Notes.{any_keeps, any_new, ended_keeps, is_vote_on}
 use Rattle.sc_ring_law.proofs.View.{Ring}
 use Rattle.sc_ring_law.proofs.Cover.{at-same, at-other}
-use Rattle.sc_ring_law.proofs.Facts.{IsOf, same_group}
-use Rattle.sc_ring_law.proofs.Rows.{some_none, plain_facts}
+use Rattle.sc_ring_law.proofs.Facts.{IsOf}
+use Rattle.sc_ring_law.proofs.Rows.{plain_facts}
 use Rattle.sc_ring_law.proofs.Ends.{draw_new, group_none, born_facts, IsEnd, finish_facts}
 use Rattle.sc_ring_law.proofs.Effects.{decisions, outcome_of, living, eff, arc_of, succ_of, pred_of, pairs_of, Good, Alike, alike_same, like_same, Old, whole_change, eff_by, living_is}
 use Rattle.sc_ring_law.proofs.Commits.{ring_cut, promise_settled}
@@ -46,6 +46,7 @@ use Rattle.sc_ring_law.proofs.Moves.{IsCut}
 use Rattle.sc_ring_law.proofs.Splits.{split_now}
 use Rattle.sc_ring_law.proofs.Decisions.{born_too}
 use Rattle.sc_ring_law.proofs.Steps.{Kept, idle, named_cases, lock_taken, watch_settled}
+use Rattle.sc_ring_law.proofs.Finds.{some_none}
 
 -- ---- a split
 
@@ -105,7 +106,7 @@ same_self : (s : Group) → IsSame s s
 same_self s = record { id = refl; decided = refl; voted = refl; born = refl }
 
 same_made : (s x after : Group) → IsSame s x → Some x ≡ Some after → IsSame s after
-same_made s x after k e = subst (IsSame s) (same_group x after e) k
+same_made s x after k e = subst (IsSame s) (some_is x after e) k
 
 none_made : (s after : Group) → None ≡ Some after → IsSame s after
 none_made s after e = absurd (let f : None ≡ Some after = e in cc)
@@ -179,7 +180,7 @@ module _ (owner : Draw → Option Draw) (ring : Ring) (gs : Groups) (ys : Storie
         | inl c ↦ alike_same _ _ (eff_s ∙ ap living (promise_settled o tx s offer c lock) ∙ ap (λ x. living (settled_in x s tx o).0) m)
         | inr c ↦ (
             let a = not_commit o c in
-            let same : s ≡ after = same_group s after (ap (λ x. participant_after x s offer) (sym a) ∙ m) in
+            let same : s ≡ after = some_is s after (ap (λ x. participant_after x s offer) (sym a) ∙ m) in
             abort_alike tx after here (eff_s ∙ ap (λ x. living (after_outcome (Some x) tx s)) a)
             (ap (λ (x : Group). x.core.arc) (sym same), ap (λ (x : Group). x.core.succ.group) (sym same), ap (λ (x : Group). x.core.pred.group) (sym same), ap (λ (x : Group). x.pairs) (sym same), ap (λ (x : Group). x.core.gone) (sym same)))
       ])

@@ -5,14 +5,13 @@ use Rattle.sc_ring_law.proofs.View.{IsOnRing, Holds, HeldBy, Ring, CoversBy, Vie
 use Rattle.sc_base.specs.declared.names.Draw.{Draw}
 use Rattle.sc_ring_law.specs.Stories.{put}
 use Rattle.sc_ring_law.proofs.Arcs.{to_parts, from_left, from_right, not_both, left_is, right_is, from_joined, to_joined, end_left, end_right, end_joined}
-use Rattle.sc_ring_law.proofs.Cover.{IsRecut, covers_edit, some_same}
+use Rattle.sc_ring_law.proofs.Cover.{IsRecut, covers_edit}
 use Rattle.sc_ring_law.proofs.Links.{differ, IsPair, pair_meets, linked_split, linked_merge, linked_move}
-
-no_arc_here : (x : Arc) → None ≡ Some x → ⊥
-no_arc_here x e = cc
+use Rattle.sc_entries.proofs.Names.{some_is}
+use Rattle.std.proofs.lemmas.Option.{none-some}
 
 is_arc : (a b : Arc) → IsOnRing a → Some a ≡ Some b → IsOnRing b
-is_arc a b k e = subst IsOnRing (some_same a b e) k
+is_arc a b k e = subst IsOnRing (some_is a b e) k
 
 pub covers_recut : (ring : Ring) (x : Draw) (a c : Option Arc) (y : Draw) (b d : Option Arc) → CoversBy ring → (x ≡ y → ⊥) → ring x ≡ a → ring y ≡ b → IsRecut a b c d → CoversBy (put (put ring x c) y d)
 covers_recut ring x a c y b d v ne e f r = covers_edit ring x c y d v ne (subst (λ k. IsRecut k (ring y) c d) (sym e) (subst (λ k. IsRecut a k c d) (sym f) r))
@@ -45,7 +44,7 @@ held_joined arc its p h = omega (arith, h)
 merge_recut : (arc its : Arc) → IsSeam arc its → IsRecut (Some arc) (Some its) (Some (joined arc its)) None
 merge_recut arc its s = record {
   first = λ x e. is_arc (joined arc its) x (joined_is arc its s.left s.room) e;
-  second = λ x e. absurd (no_arc_here x e);
+  second = λ x e. absurd (none-some x e);
   to_a = λ p q h. inl (held_joined arc its p h);
   to_b = λ p q h. inl (to_joined arc its p s.left q s.meet s.room h);
   from_c = λ p q h. from_joined arc its p s.left q s.meet h;

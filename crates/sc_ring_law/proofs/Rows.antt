@@ -23,10 +23,11 @@ use Rattle.sc_machine_table.specs.Transactions.{begun_group}
 use Rattle.sc_machine_table.specs.Votes.{has_voted}
 use Rattle.sc_ring_law.specs.Stories.{Story, Stories, put, unsigned, unsigned_watch, offer_for, watch_for, new_story}
 use Rattle.sc_ring_law.specs.Invariant.{Groups, has_decided, has_born, IsOwnBody, LockOk, IsWatcher, StoryOk, Facts}
-use Rattle.sc_entries.proofs.Names.{draw_cases}
+use Rattle.sc_entries.proofs.Names.{draw_cases, some_is}
 use Rattle.sc_ring_law.proofs.Notes.{any_keeps, any_new, is_vote_on}
 use Rattle.sc_ring_law.proofs.Cover.{at-same, at-is, at-other, from_at}
-use Rattle.sc_ring_law.proofs.Facts.{same_group, same_story, same_frozen, IsOf, IsCalm, keep_known, keep_there, keep_voter, keep_watcher, keep_frozen, keep_agreed, keep_none, story_keep, IsGrown, group_new, facts_change, facts_quiet, facts_told}
+use Rattle.sc_ring_law.proofs.Facts.{same_frozen, IsOf, IsCalm, keep_known, keep_there, keep_voter, keep_watcher, keep_frozen, keep_agreed, keep_none, story_keep, IsGrown, group_new, facts_change, facts_quiet, facts_told}
+use Rattle.sc_ring_law.proofs.Finds.{some_none}
 
 pub no_promise : (l : Lock) (tx : Draw) (offer : Offer) → l ≡ Free → l ≡ Promised tx offer → ⊥
 no_promise l tx offer a b = let e = sym a ∙ b in cc
@@ -36,9 +37,6 @@ no_coord l tx body order heard a b = let e = sym a ∙ b in cc
 
 pub no_watch : (l : Lock) (tx : Draw) (watch : Watch) → l ≡ Free → l ≡ Watching tx watch → ⊥
 no_watch l tx watch a b = let e = sym a ∙ b in cc
-
-pub some_none : {X : Type 0} (x : X) → Some x ≡ None → ⊥
-some_none x e = cc
 
 pub free_calm : (t : Draw) (s s' : Group) → s.core.lock ≡ Free → (has_decided s'.core t ≡ false → has_decided s.core t ≡ false) → (has_voted s.core t ≡ true → has_voted s'.core t ≡ true) → IsCalm t s s'
 free_calm t s s' free dec vot = record {
@@ -65,19 +63,13 @@ other_calm t tx s s' of ne dec vot = record {
 pub same_calm : (t : Draw) (s s' : Group) → s'.core.lock ≡ s.core.lock → frozen_of s' ≡ frozen_of s → (has_decided s'.core t ≡ false → has_decided s.core t ≡ false) → (has_voted s.core t ≡ true → has_voted s'.core t ≡ true) → IsCalm t s s'
 same_calm t s s' lock held dec vot = record { decided = dec; voted = vot; lock = λ o. lock; held = λ offer e. held }
 
-pub same_offer : (a b : Offer) → Some a ≡ Some b → a ≡ b
-same_offer a b e = cc
-
-pub same_watch : (a b : Watch) → Some a ≡ Some b → a ≡ b
-same_watch a b e = cc
-
 -- a vote that the voter has no note of was not made
 pub unheard : (gs : Groups) (owner : Draw → Option Draw) (tx : Draw) (y : Story) (offer : Offer) (s : Group) → StoryOk owner gs tx y → y.offer ≡ Some (unsigned offer) → gs offer.part ≡ Some s → has_voted s.core tx ≡ false → (o : Option Vote) → y.vote ≡ o → y.vote ≡ None
 unheard gs owner tx y offer s k is there none None e = e
 unheard gs owner tx y offer s k is there none (Some v) e =
     let r = k.voter v e in
-    let o : unsigned offer ≡ r.offer = same_offer (unsigned offer) r.offer (sym is ∙ r.offered) in
-    absurd (both_ways (has_voted s.core tx) none (subst (λ (b : Group). has_voted b.core tx ≡ true) (same_group r.group s (sym r.is ∙ ap (λ (x : Offer). gs x.part) (sym o) ∙ there)) r.voted))
+    let o : unsigned offer ≡ r.offer = some_is (unsigned offer) r.offer (sym is ∙ r.offered) in
+    absurd (both_ways (has_voted s.core tx) none (subst (λ (b : Group). has_voted b.core tx ≡ true) (some_is r.group s (sym r.is ∙ ap (λ (x : Offer). gs x.part) (sym o) ∙ there)) r.voted))
 
 -- ---- a change without a story, of a group that is free or watches
 
@@ -156,9 +148,9 @@ begin_facts gs ys owner g s tx body order f is free here fresh mine unborn apart
     })
     (λ h u ne k. group_new ys tx y' fresh h u k)
     (λ t z e. elim (from_at ys tx (Some y') t (Some z) e) [
-      | inl m ↦ subst (StoryOk owner (put gs g (Some s')) t) (same_story y' z m.1) (subst (λ n. StoryOk owner (put gs g (Some s')) n y') (sym m.0) (record {
+      | inl m ↦ subst (StoryOk owner (put gs g (Some s')) t) (some_is y' z m.1) (subst (λ n. StoryOk owner (put gs g (Some s')) n y') (sym m.0) (record {
         named = mine ∙ ap Some (sym named);
-        known = λ u q n. (order, None, subst (λ (b : Group). b.core.lock ≡ Coordinating tx body order None) (same_group s' u (sym (at-same gs g (Some s')) ∙ ap (put gs g (Some s')) (sym named) ∙ q)) refl);
+        known = λ u q n. (order, None, subst (λ (b : Group). b.core.lock ≡ Coordinating tx body order None) (some_is s' u (sym (at-same gs g (Some s')) ∙ ap (put gs g (Some s')) (sym named) ∙ q)) refl);
         there = (s', ap (put gs g (Some s')) named ∙ at-same gs g (Some s'));
         voter = λ v q. absurd (some_none v (sym q));
         watcher = λ v q. absurd (some_none v (sym q));
@@ -221,7 +213,7 @@ lock_story ys g s s' tx y y' there e votes same Free ok = tt
 lock_story ys g s s' tx y y' there e votes same (Coordinating t body order heard) r =
     elim (draw_cases t tx) [
       | inl q ↦ (
-          let y_is = same_story y r.story (sym there ∙ ap ys (sym q) ∙ r.is) in
+          let y_is = some_is y r.story (sym there ∙ ap ys (sym q) ∙ r.is) in
           record {
             story = y';
             is = at-is ys tx (Some y') t q;
@@ -254,7 +246,7 @@ lock_story ys g s s' tx y y' there e votes same (Coordinating t body order heard
 lock_story ys g s s' tx y y' there e votes same (Promised t offer) r =
     elim (draw_cases t tx) [
       | inl q ↦ (
-          let y_is = same_story y r.story (sym there ∙ ap ys (sym q) ∙ r.is) in
+          let y_is = some_is y r.story (sym there ∙ ap ys (sym q) ∙ r.is) in
           record {
             story = y';
             is = at-is ys tx (Some y') t q;
@@ -268,7 +260,7 @@ lock_story ys g s s' tx y y' there e votes same (Promised t offer) r =
 lock_story ys g s s' tx y y' there e votes same (Watching t watch) r =
     elim (draw_cases t tx) [
       | inl q ↦ (
-          let y_is = same_story y r.story (sym there ∙ ap ys (sym q) ∙ r.is) in
+          let y_is = some_is y r.story (sym there ∙ ap ys (sym q) ∙ r.is) in
           record { story = y'; is = at-is ys tx (Some y') t q; asked = e.3 ∙ ap (λ (z : Story). z.watch) y_is ∙ r.asked; part = r.part; here = same.0 ∙ r.here })
       | inr q ↦ record { story = r.story; is = at-other ys tx (Some y') t q ∙ r.is; asked = r.asked; part = r.part; here = same.0 ∙ r.here }
     ]
@@ -322,8 +314,8 @@ past_grown g y p = record { offer = refl; votes = λ f q. q; watch = λ w e. e; 
 
 pub not_passed : (gs : Groups) (g : Draw) (s : Group) (tx : Draw) (y : Story) (watch : Watch) → gs g ≡ Some s → has_voted s.core tx ≡ false → y.watch ≡ Some (unsigned_watch watch) → watch.part ≡ g → IsWatcher gs tx y.watch → ⊥
 not_passed gs g s tx y watch is new asked part r =
-    let o : unsigned_watch watch ≡ r.watch = same_watch (unsigned_watch watch) r.watch (sym asked ∙ r.is_asked) in
-    both_ways (has_voted s.core tx) new (subst (λ (b : Group). has_voted b.core tx ≡ true) (same_group r.group s (sym r.is ∙ ap (λ (x : Watch). gs x.part) (sym o) ∙ ap gs part ∙ is)) r.voted)
+    let o : unsigned_watch watch ≡ r.watch = some_is (unsigned_watch watch) r.watch (sym asked ∙ r.is_asked) in
+    both_ways (has_voted s.core tx) new (subst (λ (b : Group). has_voted b.core tx ≡ true) (some_is r.group s (sym r.is ∙ ap (λ (x : Watch). gs x.part) (sym o) ∙ ap gs part ∙ is)) r.voted)
 
 pub agree_facts : (gs : Groups) (ys : Stories) (owner : Draw → Option Draw) (g : Draw) (s : Group) (tx : Draw) (y : Story) (watch : Watch) → Facts owner gs ys → gs g ≡ Some s → s.core.lock ≡ Free → s.core.gone ≡ None
     → ys tx ≡ Some y → y.watch ≡ Some (unsigned_watch watch) → watch.part ≡ g

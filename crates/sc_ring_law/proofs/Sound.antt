@@ -26,7 +26,7 @@ use Rattle.sc_entries.specs.Parts.{IsPlaced}
 use Rattle.sc_ring_law.specs.Laws.{IsRingSound, EntriesKeepTheRing, EntriesKeepThePromises, DrawsAreOfOneLog, draw_of, AllowedListsAppend}
 use Rattle.sc_ring_law.proofs.View.{Holds, HeldBy, CoversBy}
 use Rattle.sc_entries.proofs.Names.{some_is}
-use Rattle.sc_ring_law.proofs.Finds.{none_is_not, all_pairs}
+use Rattle.sc_ring_law.proofs.Finds.{all_pairs}
 use Rattle.sc_ring_law.proofs.Cuts.{arcs_in, cut_of_arc, arc_of_cut}
 use Rattle.sc_ring_law.proofs.Rows.{IsOpen}
 use Rattle.sc_ring_law.proofs.Effects.{decisions, settle_by, living_by, eff, arc_of, succ_of, pred_of, view_of, Old}
@@ -34,6 +34,7 @@ use Rattle.sc_ring_law.proofs.Steps.{same_fun, serving}
 use Rattle.sc_ring_law.proofs.Told.{groups_in, Agree, decision_is}
 use Rattle.sc_ring_law.proofs.Worlds.{KeptWorld, kept_after}
 use Rattle.sc_ring_law.proofs.Start.{at_start, is_held, arc_some}
+use Rattle.std.proofs.lemmas.Option.{none-some}
 
 -- ---- effective records
 
@@ -45,7 +46,7 @@ effective_is (Watching tx watch) ts ys u k = ap (λ o. after_outcome o tx u) (de
 
 living_was : (went : Option Route) (x e : Group) → living_by went x ≡ Some e → (x ≡ e) × (went ≡ None)
 living_was None x e q = (some_is x e q, refl)
-living_was (Some into) x e q = absurd (none_is_not e q)
+living_was (Some into) x e q = absurd (none-some e q)
 
 -- a record that has an arc
 pub record HasRecord (w : ToldWorld) (g : Draw) (a : Arc) : Type 0 where
@@ -56,7 +57,7 @@ pub record HasRecord (w : ToldWorld) (g : Draw) (a : Arc) : Type 0 where
   pub old : Old (groups_in w.store.groups) w.stories g ≡ Some group
 
 eff_has : (w : ToldWorld) (g : Draw) (a : Arc) (e : Group) → Agree w.store.transactions w.stories → e.core.arc ≡ a → (o : Option Group) → named_group g w.store.groups ≡ o → eff (decisions w.stories) o ≡ Some e → HasRecord w g a
-eff_has w g a e k arc None is q = absurd (none_is_not e q)
+eff_has w g a e k arc None is q = absurd (none-some e q)
 eff_has w g a e k arc (Some u) is q =
     let x = settle_by u.core.lock (decisions w.stories) u in
     let r = living_was x.core.gone x e q in
@@ -158,7 +159,7 @@ module _ (owner : Draw → Option Draw) (w : ToldWorld) (k : KeptWorld owner w) 
 
 -- ---- the laws
 
-store_after : (w : ToldWorld) (entries : List LogEntry) → (told_after w entries).store ≡ world_after w.store entries
+pub store_after : (w : ToldWorld) (entries : List LogEntry) → (told_after w entries).store ≡ world_after w.store entries
 store_after w [] = refl
 store_after w (e ∷ es) = store_after (told_on w e) es
 
@@ -172,19 +173,19 @@ entries_keep_the_promises sources bases entries start allowed =
     subst (λ (w : StoreWorld). Facts sources.owner (λ name. named_group name w.groups) (told_after (first_told bases) entries).stories) (store_after (first_told bases) entries)
     (kept_after sources (first_told bases) entries (at_start sources bases start) allowed).kept.0
 
-owned : (sources : Sources) (ys : Stories) (g : Draw) (command : Command) (name : Draw) → IsAllowed sources ys g command → draw_of command ≡ Some name → sources.owner name ≡ Some g
+pub owned : (sources : Sources) (ys : Stories) (g : Draw) (command : Command) (name : Draw) → IsAllowed sources ys g command → draw_of command ≡ Some name → sources.owner name ≡ Some g
 owned sources ys g (Split at child order) name a e = ap sources.owner (sym (some_is child name e)) ∙ a.0
 owned sources ys g (Begin tx body order) name a e = ap sources.owner (sym (some_is tx name e)) ∙ a.0
-owned sources ys g Noop name a e = absurd (none_is_not name e)
-owned sources ys g (Call client seq op) name a e = absurd (none_is_not name e)
-owned sources ys g (Join node order) name a e = absurd (none_is_not name e)
-owned sources ys g (Leave node order) name a e = absurd (none_is_not name e)
-owned sources ys g (Prepared tx offer) name a e = absurd (none_is_not name e)
-owned sources ys g (RecordVote tx vote by) name a e = absurd (none_is_not name e)
-owned sources ys g (GiveUp tx) name a e = absurd (none_is_not name e)
-owned sources ys g (Finish tx outcome) name a e = absurd (none_is_not name e)
-owned sources ys g (Watched tx watch) name a e = absurd (none_is_not name e)
-owned sources ys g (RecordWatch tx vote by) name a e = absurd (none_is_not name e)
+owned sources ys g Noop name a e = absurd (none-some name e)
+owned sources ys g (Call client seq op) name a e = absurd (none-some name e)
+owned sources ys g (Join node order) name a e = absurd (none-some name e)
+owned sources ys g (Leave node order) name a e = absurd (none-some name e)
+owned sources ys g (Prepared tx offer) name a e = absurd (none-some name e)
+owned sources ys g (RecordVote tx vote by) name a e = absurd (none-some name e)
+owned sources ys g (GiveUp tx) name a e = absurd (none-some name e)
+owned sources ys g (Finish tx outcome) name a e = absurd (none-some name e)
+owned sources ys g (Watched tx watch) name a e = absurd (none-some name e)
+owned sources ys g (RecordWatch tx vote by) name a e = absurd (none-some name e)
 
 owned_among : (sources : Sources) (w : ToldWorld) (entries : List LogEntry) → AreAllowed sources w entries → (a : LogEntry) → Among a entries → (name : Draw) → draw_of a.command ≡ Some name → sources.owner name ≡ Some a.group
 owned_among sources w [] k a x name e = absurd x

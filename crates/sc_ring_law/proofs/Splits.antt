@@ -18,17 +18,17 @@ use Rattle.sc_machine_table.specs.Splits.{left_group, child_of, left_link, right
 use Rattle.sc_machine_table.specs.Transactions.{decided_group}
 use Rattle.sc_ring_law.specs.Stories.{Story, Stories, put, unsigned, unsigned_watch, watch_with}
 use Rattle.sc_ring_law.specs.Invariant.{Groups}
-use Rattle.sc_entries.proofs.Names.{draw_cases, other_name}
+use Rattle.sc_entries.proofs.Names.{draw_cases, other_name, some_is}
 use Rattle.sc_ring_law.proofs.View.{Ring, Holds, split_view}
 use Rattle.sc_ring_law.proofs.Cover.{at-same, at-other}
 use Rattle.sc_ring_law.proofs.Recut.{split_whole}
-use Rattle.sc_ring_law.proofs.Rows.{some_none, same_watch}
 use Rattle.sc_ring_law.proofs.Effects.{decisions, eff, arc_of, view_of, IsInside, Good, whole_agree, inside_same, Old, eff_free}
 use Rattle.sc_ring_law.proofs.Insides.{inside_part, inside_again}
 use Rattle.sc_ring_law.proofs.Commits.{ring_split, IsDeciding, own_is, New, mine_old, mine_new, other_eff, watch_eff, IsSplit, split_agrees, inside_at, ring_at, same_ring}
 use Rattle.sc_ring_law.proofs.Reshapes.{Ends}
+use Rattle.sc_ring_law.proofs.Finds.{some_none}
 
-pub split_good : (ring : Ring) (d e : Draw → Option Group) (g child x : Draw) (s l r : Group) (place : ℕ) → IsSplit d e g child x s l r place → place < 2 ^ 32 → Holds s.core.arc place → (place ≡ s.core.arc.lo → ⊥) → IsInside l → IsInside r
+split_good : (ring : Ring) (d e : Draw → Option Group) (g child x : Draw) (s l r : Group) (place : ℕ) → IsSplit d e g child x s l r place → place < 2 ^ 32 → Holds s.core.arc place → (place ≡ s.core.arc.lo → ⊥) → IsInside l → IsInside r
     → Good ring d → Good (ring_split (ring g) (record { at = place; child = child }) ring g) e
 split_good ring d e g child x s l r place k fits held inside il ir w =
     let agrees = split_agrees d e g child x s l r place k in (
@@ -67,7 +67,7 @@ module _ (owner : Draw → Option Draw) (ring : Ring) (gs : Groups) (ys : Storie
   divide_commit passed none named fits held inside w =
       let own = own_is owner gs ys g s tx (At.Split at tx) heard y d in
       let a = (d.facts.story tx y d.there).agreed own.undecided passed in
-      let watch = same_watch (watch_with s.core s.core.succ.group s.core.id (right_link s.core tx)) (unsigned_watch a.watch) (sym own.watch ∙ a.asked) in
+      let watch = some_is (watch_with s.core s.core.succ.group s.core.id (right_link s.core tx)) (unsigned_watch a.watch) (sym own.watch ∙ a.asked) in
       let x_is : s.core.succ.group ≡ a.watch.part = ap (λ (z : Watch). z.part) watch in
       let l = decided_group (left_group s at tx) tx Divided in
       let r = group_of (child_of s at tx) in
@@ -85,7 +85,7 @@ module _ (owner : Draw → Option Draw) (ring : Ring) (gs : Groups) (ys : Storie
         left = sym (other g gt) ∙ mine_new owner gs ys g s tx (At.Split at tx) heard y d l y' refl refl;
         right = ap (eff f') (at-same mid tx (Some r));
         others = λ h ng nc nx. other_eff owner gs ys g s tx (At.Split at tx) heard y d l y' h ng
-            (λ z q v. some_none (unsigned z) (sym q ∙ own.offer)) (λ z q v. nx (sym v ∙ ap (λ (b : Watch). b.part) (same_watch (unsigned_watch z) (unsigned_watch a.watch) (sym q ∙ a.asked)))) (gs h) refl ∙ other h nc;
+            (λ z q v. some_none (unsigned z) (sym q ∙ own.offer)) (λ z q v. nx (sym v ∙ ap (λ (b : Watch). b.part) (some_is (unsigned_watch z) (unsigned_watch a.watch) (sym q ∙ a.asked)))) (gs h) refl ∙ other h nc;
         watched = λ n. (let x = watch_eff owner gs ys g s tx (At.Split at tx) heard y d l y' Divided a n refl refl in
             (a.group, party_freed (watcher_after Divided a.group a.watch) tx, x.0, sym (other a.watch.part xt) ∙ x.1, refl, refl, sym (ap (λ (z : Watch). z.next.group) watch), refl));
         apart = gt;

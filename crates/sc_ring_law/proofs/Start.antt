@@ -23,7 +23,9 @@ use Rattle.sc_ring_law.specs.Invariant.{Groups, LockOk, Facts}
 use Rattle.sc_ring_law.specs.Laws.{BeginInPlace, BeginsInPlace}
 use Rattle.sc_entries.proofs.Names.{other_name, found_name, some_is}
 use Rattle.sc_ring_law.proofs.View.{IsOnRing, Holds, HeldBy, Ring, CoversBy, View, IsLinked}
-use Rattle.sc_ring_law.proofs.Finds.{none_is_not, find_first, find_skips, find_there, among_map, map_among, each_among, each_from, Pairwise, pairwise_from}
+use Rattle.sc_paxos_law.proofs.Among.{from_map}
+use Rattle.sc_paxos_words.proofs.ListLemmas.{Each-among, Each-from, find_found}
+use Rattle.sc_ring_law.proofs.Finds.{find_first, find_skips, map_among, Pairwise, pairwise_from}
 use Rattle.sc_ring_law.proofs.Cuts.{arcs_in, cut_of_arc, arc_of_cut}
 use Rattle.sc_ring_law.proofs.Effects.{decisions, eff, arc_of, succ_of, pred_of, view_of, IsInside, Good, Old, eff_free}
 use Rattle.sc_ring_law.proofs.Insides.{holds_first}
@@ -31,6 +33,7 @@ use Rattle.sc_ring_law.proofs.Told.{groups_in}
 use Rattle.sc_ring_law.proofs.Steps.{same_fun}
 use Rattle.sc_ring_law.proofs.Rings.{AreApart}
 use Rattle.sc_ring_law.proofs.Worlds.{KeptWorld}
+use Rattle.std.proofs.lemmas.Option.{none-some}
 
 -- ---- the list of cuts covers where the ring by names does
 
@@ -84,7 +87,7 @@ covers_by ring apart c = record {
 pairwise_back : (bases : List Base) → Pairwise (λ (c o : Cut). c.group ≢ o.group) (map first_cut bases) → Pairwise (λ (a b : Base). a.core.id ≢ b.core.id) bases
 pairwise_back [] k = tt
 pairwise_back (base ∷ bases) k = (
-  each_from (λ (b : Base). base.core.id ≢ b.core.id) bases (λ b a. each_among (λ (o : Cut). base.core.id ≢ o.group) (map first_cut bases) k.0 (first_cut b) (map_among first_cut bases b a)),
+  Each-from (λ (b : Base). base.core.id ≢ b.core.id) bases (λ b a. Each-among (λ (o : Cut). base.core.id ≢ o.group) (map first_cut bases) (first_cut b) k.0 (map_among first_cut bases b a)),
   pairwise_back bases k.1,
 )
 
@@ -94,7 +97,7 @@ base_found [] k b a = absurd a
 base_found (x ∷ bases) k b (inl e) =
     find_first (is_named b.core.id) (group_of x) (map group_of bases) (same_name x.core.id b.core.id (ap (λ (z : Base). z.core.id) e)) ∙ ap (λ (z : Base). Some (group_of z)) e
 base_found (x ∷ bases) k b (inr a) =
-    find_skips (is_named b.core.id) (group_of x) (map group_of bases) (other_name x.core.id b.core.id (each_among (λ (o : Base). x.core.id ≢ o.core.id) bases k.0 b a)) ∙ base_found bases k.1 b a
+    find_skips (is_named b.core.id) (group_of x) (map group_of bases) (other_name x.core.id b.core.id (Each-among (λ (o : Base). x.core.id ≢ o.core.id) bases b k.0 a)) ∙ base_found bases k.1 b a
 
 -- a group that is found is one of the scenario's
 pub record IsBase (bases : List Base) (u : Group) : Type 0 where
@@ -104,7 +107,7 @@ pub record IsBase (bases : List Base) (u : Group) : Type 0 where
 
 found_base : (bases : List Base) (h : Draw) (u : Group) → named_group h (map group_of bases) ≡ Some u → IsBase bases u
 found_base bases h u e =
-    let r = among_map group_of bases u (find_there (is_named h) (map group_of bases) u e) in
+    let r = from_map group_of bases u (find_found (is_named h) (map group_of bases) u e).0 in
     record { base = r.0; there = r.1; is = r.2 }
 
 -- the cuts have the groups' arcs
@@ -117,7 +120,7 @@ cut_arc h (b ∷ bases) = elim (cases_Bool (same_draw b.core.id h)) [
 
 -- who has an arc is there
 pub arc_some : (o : Option Group) (a : Arc) → arc_of o ≡ Some a → (u : Group) × (o ≡ Some u) × (u.core.arc ≡ a)
-arc_some None a e = absurd (none_is_not a e)
+arc_some None a e = absurd (none-some a e)
 arc_some (Some u) a e = (u, refl, some_is u.core.arc a e)
 
 -- ---- the start
@@ -231,14 +234,14 @@ module _ (sources : Sources) (bases : List Base) (start : BeginInPlace sources b
       named = found_name h (map group_of bases) u e;
       lock_ok = subst (LockOk no_stories h u) (sym (ap (λ (x : Group). x.core.lock) (sym r.0.is) ∙ r.1.free)) tt;
     });
-    story = λ tx y e. absurd (none_is_not y e);
+    story = λ tx y e. absurd (none-some y e);
     origin = λ h u e. (let r = is_first h u e in inl (ap sources.owner (sym (found_name h (map group_of bases) u e) ∙ ap (λ (x : Group). x.core.id) (sym r.0.is)) ∙ r.1.unowned));
   }
 
   pub at_start : KeptWorld sources.owner (first_told bases)
   at_start = record {
     kept = (facts, good);
-    found = λ u a. (let r = among_map group_of bases u a in
+    found = λ u a. (let r = from_map group_of bases u a in
         ap (λ (x : Group). named_group x.core.id (map group_of bases)) (sym r.2) ∙ base_found bases ids r.0 r.1 ∙ ap Some r.2);
     apart = apart;
     told = λ tx. refl;

@@ -47,14 +47,14 @@ use Rattle.sc_entries.specs.Effective.{after_outcome, is_commit}
 use Rattle.sc_ring_law.specs.Allowed.{IsShared}
 use Rattle.sc_ring_law.specs.Stories.{Story, Stories, put, retold, new_story, unsigned, unsigned_watch, vote_in, watch_vote_in, with_vote, with_watch_vote, stories_after}
 use Rattle.sc_ring_law.specs.Invariant.{Groups, has_decided, has_born, IsOwnBody, Facts}
-use Rattle.sc_entries.proofs.Names.{draw_cases, names_differ}
+use Rattle.sc_entries.proofs.Names.{draw_cases, names_differ, some_is}
 use Rattle.sc_ring_law.proofs.View.{Ring}
 use Rattle.sc_ring_law.proofs.Cover.{at-same, at-is, at-other}
 use Rattle.sc_base.proofs.NameLemmas.{same_name}
-use Rattle.sc_ring_law.proofs.Facts.{same_group}
-use Rattle.sc_ring_law.proofs.Rows.{some_none, IsPlain, IsOpen, plain_facts, begin_facts, Votes, yes_facts, no_facts, agree_facts, deny_facts, unheard, not_passed}
+use Rattle.sc_ring_law.proofs.Rows.{IsPlain, IsOpen, plain_facts, begin_facts, Votes, yes_facts, no_facts, agree_facts, deny_facts, unheard, not_passed}
 use Rattle.sc_ring_law.proofs.Ends.{draw_new}
 use Rattle.sc_ring_law.proofs.Effects.{Decisions, decisions, outcome_of, settle_by, living, living_by, eff, view_of, arc_of, succ_of, pred_of, pairs_of, IsInside, inside_same, Good, Agrees, whole_agree, Alike, Like, eff_like, like_same, like_at, Old, whole_change, eff_by, living_is, eff_free, no_commit}
+use Rattle.sc_ring_law.proofs.Finds.{some_none}
 
 -- the facts of all groups and stories, and the view of the effective records
 abbrev pub Kept : (Draw → Option Draw) → Ring → Groups → Stories → Type 0
@@ -177,7 +177,7 @@ plain owner ring gs ys g s s' k is here free same inside =
       (
         whole_agree (view_of d) (view_of n) agrees k.1.0,
         λ h c q. elim (draw_cases h g) [
-          | inl w ↦ subst IsInside (same_group b.e c (sym new ∙ ap n (sym w) ∙ q)) mine
+          | inl w ↦ subst IsInside (some_is b.e c (sym new ∙ ap n (sym w) ∙ q)) mine
           | inr ne ↦ k.1.1 h c (other h ne ∙ q)
         ],
         λ h. k.1.2 h ∙ agrees.arcs h,

@@ -19,7 +19,10 @@ use Rattle.sc_ring_law.specs.Invariant.{Groups}
 use Rattle.sc_entries.proofs.Names.{draw_cases, other_name, some_is, found_name}
 use Rattle.sc_ring_law.proofs.Cover.{at-same, at-is, at-other}
 use Rattle.sc_ring_law.proofs.Effects.{outcome_of}
-use Rattle.sc_ring_law.proofs.Finds.{none_is_not, find_map, find_passes, among_map, among_append}
+use Rattle.sc_paxos_law.proofs.Among.{Among-either, from_map}
+use Rattle.sc_paxos_words.proofs.ListLemmas.{find_found}
+use Rattle.sc_ring_law.proofs.Finds.{find_map, some_none}
+use Rattle.std.proofs.lemmas.Option.{none-some}
 
 -- ---- groups
 
@@ -36,7 +39,7 @@ replaced_name name after id h u =
     (λ e. ap (λ n. same_draw n h) (id ∙ sym (draw_is u.core.id name e))) (λ e. refl)
 
 replaced_same : (name : Draw) (after : Group) (h : Draw) → h ≡ name → (o : Option Group) → ((u : Group) → o ≡ Some u → u.core.id ≡ h) → (s : Group) → o ≡ Some s → option_map (replaced name after) o ≡ Some after
-replaced_same name after h q None named s e = absurd (none_is_not s e)
+replaced_same name after h q None named s e = absurd (none-some s e)
 replaced_same name after h q (Some u) named s e = ap Some (cond-true (is_named name u) after u (same_name u.core.id name (named u refl ∙ q)))
 
 replaced_other : (name : Draw) (after : Group) (h : Draw) → (h ≡ name → ⊥) → (o : Option Group) → ((u : Group) → o ≡ Some u → u.core.id ≡ h) → option_map (replaced name after) o ≡ o
@@ -97,9 +100,6 @@ replaced_cases name after v = elim (cases_Bool (is_named name v)) [ inl t ↦ in
 false_true : (b : Bool) → b ≡ false → b ≡ true → ⊥
 false_true b p q = absurd (let f : false ≡ true = sym p ∙ q in cc)
 
-some_group_none : (u : Group) → Some u ≡ None → ⊥
-some_group_none u e = cc
-
 child_keeps : (f : Groups) (child : Option Base) (v : Group) → f v.core.id ≡ Some v → ((base : Base) → child ≡ Some base → v.core.id ≡ base.core.id → ⊥) → with_child f child v.core.id ≡ Some v
 child_keeps f None v e ne = e
 child_keeps f (Some base) v e ne = at-other f base.core.id (Some (group_of base)) v.core.id (ne base refl) ∙ e
@@ -115,9 +115,9 @@ found_after s after child groups id is fresh found u a =
     let f = put (groups_in groups) s.core.id (Some after) in
     let all = groups_are s after child groups id is fresh in
     let old : (v : Group) → f v.core.id ≡ Some v → with_child f child v.core.id ≡ Some v =
-    λ v e. child_keeps f child v e (λ base q. (λ w. some_group_none v (sym e ∙ ap f w ∙ fresh base q))) in
-    elim (among_append (with_group s.core.id after groups) (map group_of (option_to_list child)) u a) [
-      | inl b ↦ (let r = among_map (replaced s.core.id after) groups u b in elim (replaced_cases s.core.id after r.0) [
+    λ v e. child_keeps f child v e (λ base q. (λ w. some_none v (sym e ∙ ap f w ∙ fresh base q))) in
+    elim (Among-either u (with_group s.core.id after groups) (map group_of (option_to_list child)) a) [
+      | inl b ↦ (let r = from_map (replaced s.core.id after) groups u b in elim (replaced_cases s.core.id after r.0) [
         | inl c ↦ (
             let u_is : u ≡ after = sym r.2 ∙ c.1 in
             all u.core.id ∙ old u (ap f (ap (λ (x : Group). x.core.id) u_is ∙ id) ∙ at-same (groups_in groups) s.core.id (Some after) ∙ ap Some (sym u_is)))
@@ -157,7 +157,7 @@ decision_is transactions stories agree tx =
     outcome_by (transaction_in tx transactions) ∙ ap (option_and_then (λ (b : Draw × Option Outcome). b.1)) (agree tx) ∙ story_outcome (stories tx)
 
 transaction_named : (h : Draw) (ts : List Transaction) (t : Transaction) → transaction_in h ts ≡ Some t → t.tx ≡ h
-transaction_named h ts t e = draw_is t.tx h (find_passes (λ (x : Transaction). same_draw x.tx h) ts t e)
+transaction_named h ts t e = draw_is t.tx h (find_found (λ (x : Transaction). same_draw x.tx h) ts t e).1
 
 no_transaction : (o : Option Transaction) (p : Option Story) → option_map brief o ≡ option_map story_brief p → p ≡ None → o ≡ None
 no_transaction None p e n = refl
@@ -197,7 +197,7 @@ module _ (ts : List Transaction) (ys : Stories) (tx c : Draw) (change : Transact
   same_told h q (Some t) named None e k = absurd (let f : Some (brief t) ≡ None = e in cc)
   same_told h q (Some t) named (Some y) e k = ap Some (k t y refl refl (some_is (brief t) (story_brief y) e))
 
-  pub agree_amended : ((t : Transaction) (y : Story) → t.tx ≡ tx → ys tx ≡ Some y → brief t ≡ story_brief y → brief (amends tx c change t) ≡ story_brief (told y)) → Agree (amended tx c change ts) (retold ys tx told)
+  agree_amended : ((t : Transaction) (y : Story) → t.tx ≡ tx → ys tx ≡ Some y → brief t ≡ story_brief y → brief (amends tx c change t) ≡ story_brief (told y)) → Agree (amended tx c change ts) (retold ys tx told)
   agree_amended k h =
       ap (option_map brief) (amended_found tx c change keeps ts h)
       ∙ elim (draw_cases h tx) as (λ _. option_map brief (option_map (amends tx c change) (transaction_in h ts)) ≡ option_map story_brief (retold ys tx told h)) [

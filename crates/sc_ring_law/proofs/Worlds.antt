@@ -5,7 +5,6 @@ use Rattle.std.proofs.Common.{◌≡◌, ℕ, true, false, cond, List, [], ◌�
 use Rattle.std.proofs.lemmas.Bool.{cases_Bool, cond_both}
 use Rattle.sc_base.specs.Same.{same_draw}
 use Rattle.sc_base.specs.declared.names.Draw.{Draw}
-use Rattle.sc_base.proofs.NameLemmas.{draw_is}
 use Rattle.sc_cmd.specs.declared.bodies.Body.{Body}
 use Rattle.sc_cmd.specs.declared.bodies.Body.TheVariants as At
 use Rattle.sc_cmd.specs.declared.commands.Command.{Command}
@@ -37,8 +36,7 @@ use Rattle.sc_ring_law.specs.Stories.{Story, Stories, put, retold, new_story, vo
 use Rattle.sc_ring_law.specs.Invariant.{Groups}
 use Rattle.sc_ring_law.proofs.View.{Ring}
 use Rattle.sc_ring_law.proofs.Cover.{at-same, at-other}
-use Rattle.sc_ring_law.proofs.Rows.{some_none}
-use Rattle.sc_ring_law.proofs.Ends.{draw_new, group_none, own_story}
+use Rattle.sc_ring_law.proofs.Ends.{draw_new, group_none, own_story, same_lock}
 use Rattle.sc_ring_law.proofs.Effects.{decisions, eff, arc_of}
 use Rattle.sc_ring_law.proofs.Steps.{Kept, same_fun, idle, call_kept, join_kept, leave_kept, begin_kept, prepared_kept, watched_kept, named_cases}
 use Rattle.sc_ring_law.proofs.Cuts.{arcs_in}
@@ -48,6 +46,7 @@ use Rattle.sc_ring_law.proofs.Commits.{ring_told}
 use Rattle.sc_ring_law.proofs.Decisions.{born_too, record_kept, give_up_kept, watch_record_kept}
 use Rattle.sc_ring_law.proofs.Orders.{split_kept, finish_kept}
 use Rattle.sc_ring_law.proofs.Rings.{AreApart, no_division, ring_is, ring_apart}
+use Rattle.sc_ring_law.proofs.Finds.{some_none}
 
 -- what an entry makes of the facts and of the view
 abbrev pub Landed : (Draw → Option Draw) → Ring → Groups → Stories → Draw → Group → Command → Group × Effect → Type 0
@@ -146,9 +145,6 @@ module _ (sources : Sources) (ring : Ring) (gs : Groups) (ys : Stories) (g : Dra
   own_apart : (tx : Draw) (body : Body) (order : ℕ) (heard : Option Heard) → s.core.lock ≡ Coordinating tx body order heard → s.core.id ≡ s.core.succ.group → ⊥
   own_apart tx body order heard lock q = (own_story gs ys sources.owner g s tx body order heard k.0 is lock).apart (sym q ∙ named)
 
-  same_lock : (t tx : Draw) (body : Body) (order : ℕ) (heard : Option Heard) → s.core.lock ≡ Coordinating t body order heard → same_draw t tx ≡ true → s.core.lock ≡ Coordinating tx body order heard
-  same_lock t tx body order heard e q = e ∙ ap (λ n. Coordinating n body order heard) (draw_is t tx q)
-
   vote_told : (tx : Draw) (vote : Vote) (effect : Effect) → ((y : Story) → ys tx ≡ Some y → y.coordinator ≡ s.core.id) → (ts : List Transaction) → Agree ts ys
       → Agree (cond (is_changed effect) (amended tx s.core.id (with_watcher (named_watcher vote)) ts) (concluded (outcome_in effect) tx s.core.id ts)) (retold ys tx (with_answer s.core vote effect))
   vote_told tx vote effect coord ts a =
@@ -165,7 +161,7 @@ module _ (sources : Sources) (ring : Ring) (gs : Groups) (ys : Stories) (g : Dra
   vote_fits tx vote by Free e = vote_quiet tx vote by
   vote_fits tx vote by (Coordinating t body order heard) e =
       cond_both (same_draw t tx) (cond (asks_watcher body heard) (s, Was.NoEffect tx) (participant_answered vote body s tx order by)) (s, Was.NoEffect tx) (λ (r : Group × Effect). Fits gs ys s (RecordVote tx vote by) r.1)
-      (λ q. (let lock = same_lock t tx body order heard e q in record {
+      (λ q. (let lock = same_lock s.core.lock t tx body order heard e q in record {
         births = λ d w. no_division d w;
         told = vote_told tx vote (cond (asks_watcher body heard) (s, Was.NoEffect tx) (participant_answered vote body s tx order by)).1 (own_coordinator tx body order heard lock);
         apart = λ x w. own_apart tx body order heard lock;
@@ -183,7 +179,7 @@ module _ (sources : Sources) (ring : Ring) (gs : Groups) (ys : Stories) (g : Dra
       cond_both (same_draw t tx) (aborted s tx) (s, Was.NoEffect tx) (λ (r : Group × Effect). Fits gs ys s (GiveUp tx) r.1)
       (λ q. record {
         births = λ d w. no_division d w;
-        told = λ ts a. agree_concluded ts ys tx s.core.id (outcome_in (aborted s tx).1) a (λ x w. own_coordinator tx body order heard (same_lock t tx body order heard e q));
+        told = λ ts a. agree_concluded ts ys tx s.core.id (outcome_in (aborted s tx).1) a (λ x w. own_coordinator tx body order heard (same_lock s.core.lock t tx body order heard e q));
         apart = λ x w. none_decided x w;
       })
       (λ q. give_up_quiet tx)
@@ -212,7 +208,7 @@ module _ (sources : Sources) (ring : Ring) (gs : Groups) (ys : Stories) (g : Dra
   watch_fits tx vote by Free e = watch_quiet tx vote by
   watch_fits tx vote by (Coordinating t body order heard) e =
       cond_both (same_draw t tx) (cond (asks_watcher body heard) (watch_answered vote body heard s tx) (s, Was.NoEffect tx)) (s, Was.NoEffect tx) (λ (r : Group × Effect). Fits gs ys s (RecordWatch tx vote by) r.1)
-      (λ q. (let lock = same_lock t tx body order heard e q in
+      (λ q. (let lock = same_lock s.core.lock t tx body order heard e q in
       let r = cond (asks_watcher body heard) (watch_answered vote body heard s tx) (s, Was.NoEffect tx) in record {
         births = λ d w. cond_both (is_divided r.1) (division_in s.core.lock) None (λ (x : Option Division). x ≡ Some d → gs d.child ≡ None) (λ b z. lock_new s.core.lock refl d z) (λ b z. no_division d z) w;
         told = λ ts a. agree_concluded ts ys tx s.core.id (outcome_in r.1) a (λ x w. own_coordinator tx body order heard lock);

@@ -1,5 +1,5 @@
 -- What holds after every list of allowed entries from the groups of a scenario.
-use Rattle.std.specs.Prelude.{◌≡◌, ℕ, IsTrue, List, [], ◌++◌, map, Option, Some, None}
+use Rattle.std.specs.Prelude.{◌≡◌, List, [], ◌++◌, map, Option, Some, None}
 use Rattle.sc_base.specs.Among.{Among}
 use Rattle.sc_base.specs.Arc.{end_of}
 use Rattle.sc_base.specs.declared.names.Draw.{Draw}
@@ -8,7 +8,6 @@ use Rattle.sc_cmd.specs.declared.commands.Command.TheVariants.{Noop, Call, Join,
 use Rattle.sc_cmd.specs.declared.cores.Base.{Base}
 use Rattle.sc_cmd.specs.declared.cores.Core.{Core}
 use Rattle.sc_cmd.specs.declared.cores.Lock.TheVariants.{Free}
-use Rattle.sc_machine_table.specs.Group.{Group}
 use Rattle.sc_entries.specs.declared.Cut.{Cut}
 use Rattle.sc_entries.specs.declared.LogEntry.{LogEntry}
 use Rattle.sc_entries.specs.Parts.{IsPlaced, ServesItsCut}

@@ -1,2 +1,3 @@
 mod Plays
 mod Readings
+pub mod Told

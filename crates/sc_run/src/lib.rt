@@ -2,6 +2,7 @@
 //! else but its real input and output.
 #![tactic(auto)]
 
+mod auditing;
 mod begun;
 mod done;
 mod played;
@@ -9,9 +10,10 @@ mod reporting;
 mod running;
 mod telling;
 
+pub use auditing::{audit, lawful_journals_are_told};
 pub use begun::begin;
 pub use done::{Done, Text};
 pub use played::play;
-pub use reporting::{Left, play_whole, report};
+pub use reporting::{Left, play_whole, report, store};
 pub use running::run;
 pub use telling::tells_full;

@@ -2,7 +2,7 @@
 ghost use Rattle.std.specs.Prelude.{◌≡◌, ◌≤◌, ◌^◌, IfOk};
 ghost use Rattle.sc_scenario.specs.Valid.{IsValid};
 ghost use Rattle.sc_run.specs.Played.{IsPlayed};
-ghost use Rattle.sc_run.specs.Run.{ReportsAs};
+ghost use Rattle.sc_run.specs.Run.{ReportsAs, ShowsFile, ShowsReport};
 
 use crate::begun::begin;
 use crate::done::Text;
@@ -12,6 +12,7 @@ use sc_actor::{Gate, Journal};
 use sc_base::{OutOfMemory, Sequence};
 use sc_cmd::OrderLine;
 use sc_drive::close;
+use sc_journal_file::file_lines;
 use sc_mail::Mail;
 use sc_report::lines;
 use sc_scenario::Scenario;
@@ -67,7 +68,8 @@ pub fn report<G: Gate, R: Threads + Wait + Sync>(
     gate: &G,
 ) -> Result<(Said, Text), OutOfMemory>
     requires { IsValid scenario.now }
-    ensures { IfOk result (λ begun. ReportsAs begun.0 scenario.now begun.1) }
+    ensures { IfOk result (λ begun.
+        ReportsAs (ShowsReport scenario.now) begun.0 scenario.now begun.1) }
 {
     let left = play_whole(rt, alloc, scenario, 1 << 30, gate)?;
     let Some(said) = said_by(left.played) else {
@@ -84,6 +86,43 @@ pub fn report<G: Gate, R: Threads + Wait + Sync>(
             } = left;
             let told = sum_up(alloc, scenario, &journal, &parties, skipped, quiet)?;
             let lines = lines(alloc, &told)?;
+            let text = Text {
+                lines,
+                journal: Some(journal),
+                parties,
+            };
+            Ok((said, text))
+        }
+    }
+}
+
+/// The file that stores the journal of a scenario that was played to its end, behind the scenario's
+/// text, or what is told of one that was not, as by `report`.
+pub fn store<G: Gate, R: Threads + Wait + Sync>(
+    rt: &R,
+    alloc: Global,
+    scenario: &Scenario,
+    bytes: &[u8],
+    gate: &G,
+) -> Result<(Said, Text), OutOfMemory>
+    requires { IsValid scenario.now }
+    ensures { IfOk result (λ begun.
+        ReportsAs (ShowsFile bytes.now) begun.0 scenario.now begun.1) }
+{
+    let left = play_whole(rt, alloc, scenario, 1 << 30, gate)?;
+    let Some(said) = said_by(left.played) else {
+        return Err(OutOfMemory);
+    };
+    match left.played {
+        Played::OutOfMemory => Err(OutOfMemory),
+        Played::Full => Ok((said, tells_full(alloc, left.journal)?)),
+        Played::Ended { .. } => {
+            let Left {
+                journal,
+                parties,
+                ..
+            } = left;
+            let lines = file_lines(alloc, bytes, journal.as_slice())?;
             let text = Text {
                 lines,
                 journal: Some(journal),

@@ -1,12 +1,13 @@
 //! From the words and bytes that come in to the bytes that go out.
 ghost use Rattle.std.specs.Prelude.{◌≡◌, ◌≤◌, ◌+◌, map, false, string_bytes, codes, IfOk};
-ghost use Rattle.sc_words.specs.Asked.{is_run};
+ghost use Rattle.sc_words.specs.Asked.{reads_input};
 ghost use Rattle.sc_statuses.specs.Wants.{fault_text, most_takes};
 ghost use Rattle.sc_statuses.specs.declared.said.Said.TheVariants.{Usage, ReadFault, BadScenario};
 ghost use Rattle.sc_run.specs.Run.{usage, Tells, Says, Runs};
 
+use crate::auditing::audit;
 use crate::done::{Done, Text};
-use crate::reporting::report;
+use crate::reporting::{report, store};
 use crate::telling::tells;
 use sc_actor::Gate;
 use sc_base::{OutOfMemory, Sequence};
@@ -30,7 +31,10 @@ fn refuse(alloc: Global, line: u32, why: u8) -> Result<(Said, Text), OutOfMemory
 fn tell_usage(alloc: Global) -> Result<(Said, Text), OutOfMemory>
     ensures { IfOk result (λ begun. (begun.0 ≡ Usage) × Tells usage begun.1) }
 {
-    let text = tells(alloc, b"usage: scatter run | scatter make N S")?;
+    let text = tells(
+        alloc,
+        b"usage: scatter run | scatter make N S | scatter journal | scatter audit",
+    )?;
     Ok((Said::Usage, text))
 }
 
@@ -52,21 +56,25 @@ fn say<S: Source, G: Gate, R: Threads + Wait + Sync>(
 ) -> Result<(Said, Text), OutOfMemory>
     ensures says { IfOk result (λ begun. Says (map string_bytes words.now) (S.left input.old)
         (S.faults input.old) (S.faults input.new) begun.0 begun.1) }
-    ensures unread { is_run (map string_bytes words.now) ≡ false → input.new ≡ input.old }
-    ensures takes { S.calls input.new ≤ S.calls input.old + most_takes }
+    ensures unread { reads_input (map string_bytes words.now) ≡ false → input.new ≡ input.old }
+    ensures takes { S.calls input.new ≤ S.calls input.old
+        + most_takes (map string_bytes words.now) }
 {
     match wanted_of(alloc, words, input)? {
         Wanted::Usage => tell_usage(alloc),
         Wanted::ReadFault => tell_fault(alloc),
         Wanted::BadScenario { line, why } => refuse(alloc, line, why),
         Wanted::Run(scenario) => report(rt, alloc, &scenario, gate),
+        Wanted::Journal { scenario, text } => store(rt, alloc, &scenario, &text, gate),
+        Wanted::Audit { scenario, rows } => audit(alloc, &scenario, rows),
     }
 }
 
-/// Reads a scenario or makes one, as the words ask, runs it and prints its report.
+/// Reads a scenario or makes one, as the words ask, runs it and prints its report, or its journal
+/// behind it; or reads a stored journal and prints whether it is lawful.
 ///
 /// The words are those behind the program's name. Each line of output is one call of the sink, and
-/// the source is called 16,777,218 times at most. A fault of the sink wins over the status that the
+/// the source is called 16,777,218 times at most, after the word `audit` 268,435,458 times. A fault of the sink wins over the status that the
 /// text belongs to. The gate is passed before each row that delivers a mail.
 pub fn run<S: Source, K: Sink, G: Gate, R: Threads + Wait + Sync>(
     rt: &R,
@@ -81,8 +89,9 @@ pub fn run<S: Source, K: Sink, G: Gate, R: Threads + Wait + Sync>(
         (K.held output.old) (K.held output.new) (K.pieces output.old) (K.pieces output.new)
         (K.faults output.old) (K.faults output.new) (K.calls output.old) (K.calls output.new)
         result }
-    ensures unread { is_run (map string_bytes words.now.items) ≡ false → input.new ≡ input.old }
-    ensures takes { S.calls input.new ≤ S.calls input.old + most_takes }
+    ensures unread { reads_input (map string_bytes words.now.items) ≡ false → input.new ≡ input.old }
+    ensures takes { S.calls input.new ≤ S.calls input.old
+        + most_takes (map string_bytes words.now.items) }
 {
     let (said, text) = match say(rt, alloc, words.as_slice(), input, gate) {
         Ok(begun) => begun,

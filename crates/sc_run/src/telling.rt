@@ -1,6 +1,6 @@
 //! Texts of one line.
 ghost use Rattle.std.specs.Prelude.{◌≡◌, IfOk, length};
-ghost use Rattle.sc_run.specs.Run.{Tells, TellsFull, full_line};
+ghost use Rattle.sc_run.specs.Run.{Tells, TellsFull, TellsOfRows, full_line, lawful_line, unlawful_line};
 
 use crate::done::Text;
 use sc_actor::Journal;
@@ -45,6 +45,43 @@ pub fn tells_full(alloc: Global, journal: Journal<Mail, OrderLine>) -> Result<Te
     Ok(Text {
         lines,
         journal: Some(journal),
+        parties: Sequence::new(alloc),
+    })
+}
+
+/// The line of lawful rows.
+pub(crate) fn lawful_line(alloc: Global, rows: u64) -> Result<ReportLine, OutOfMemory>
+    ensures { IfOk result (λ line. line ≡ lawful_line rows) }
+{
+    let text = format!(in alloc; "lawful rows {rows}")?;
+    let mut bytes = Vec::from_slice(alloc, text.as_bytes())?;
+    bytes.push(b'\n')?;
+    Ok(ReportLine::from_vec(bytes))
+}
+
+/// The line of the first row that is not lawful.
+pub(crate) fn unlawful_line(alloc: Global, row: u32) -> Result<ReportLine, OutOfMemory>
+    ensures { IfOk result (λ line. line ≡ unlawful_line row) }
+{
+    let text = format!(in alloc; "unlawful row {row}")?;
+    let mut bytes = Vec::from_slice(alloc, text.as_bytes())?;
+    bytes.push(b'\n')?;
+    Ok(ReportLine::from_vec(bytes))
+}
+
+/// The text about the rows of a stored journal.
+pub(crate) fn tells_of_rows(
+    alloc: Global,
+    line: ReportLine,
+    rows: Journal<Mail, OrderLine>,
+) -> Result<Text, OutOfMemory>
+    ensures { IfOk result (λ text. TellsOfRows line rows text) }
+{
+    let mut lines = Sequence::new(alloc);
+    lines.push(line)?;
+    Ok(Text {
+        lines,
+        journal: Some(rows),
         parties: Sequence::new(alloc),
     })
 }

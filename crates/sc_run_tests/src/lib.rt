@@ -9,6 +9,8 @@ mod history_tests;
 #[cfg(test)]
 mod hostile_tests;
 #[cfg(test)]
+mod journal_tests;
+#[cfg(test)]
 mod ordinary_tests;
 #[cfg(test)]
 mod replay_tests;

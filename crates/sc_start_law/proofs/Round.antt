@@ -2,12 +2,13 @@
 use Rattle.std.proofs.Common.{◌≡◌, ◌≢◌, ℕ, zero, suc, ◌+◌, ◌-◌, ◌%◌, ◌^◌, ◌<◌, ◌≤◌, List, [], ◌∷◌, length, get_or, inl, inr, refl, sym, ◌∙◌, ap, subst, arith}
 use Rattle.std.specs.Prelude.{AllPairs, IsTrue, map, ◌⊎◌}
 use Rattle.std.proofs.lemmas.Bool.{cases_lt, lt-ltb, ltb-true}
-use Rattle.sc_base.specs.Among.{Among, Each}
+use Rattle.sc_base.specs.Among.{Among}
 use Rattle.sc_base.specs.Arc.{Arc, IsArc, holds, offset}
 use Rattle.sc_cmd.specs.declared.cores.Base.{Base}
 use Rattle.sc_entries.specs.declared.Cut.{Cut}
 use Rattle.sc_entries.specs.Rings.{Covers, first_cut}
 use Rattle.sc_sound.specs.GroupsOf.{AreApart}
+use Rattle.sc_paxos_words.proofs.ListLemmas.{Each-among}
 
 -- ---- positions from a start on
 
@@ -95,17 +96,12 @@ among_cuts [] k d lt = absurd (omega (arith, lt))
 among_cuts (b ∷ bases) zero d lt = (b, inl refl, refl)
 among_cuts (b ∷ bases) (suc k) d lt = let r = among_cuts bases k d (omega (arith, lt)) in (r.0, inr r.1, r.2)
 
-other_name : (one : Base) (bases : List Base) → Each (λ other. other.core.id ≡ one.core.id → ⊥) bases → (b : Base) → Among b bases → one.core.id ≡ b.core.id → ⊥
-other_name one [] e b a same = absurd a
-other_name one (x ∷ bases) e b (inl is) same = e.0 (ap (λ (z : Base). z.core.id) is ∙ sym same)
-other_name one (x ∷ bases) e b (inr a) same = other_name one bases e.1 b a same
-
 cuts_apart : (bases : List Base) → AreApart bases → AllPairs (λ (cut other : Cut). cut.group ≢ other.group) (map first_cut bases)
 cuts_apart [] apart i j d below within = absurd (omega (arith, within))
 cuts_apart (b ∷ bases) apart i zero d below within = absurd (omega (arith, below))
 cuts_apart (b ∷ bases) apart zero (suc j) d below within =
     let r = among_cuts bases j d (omega (arith, within)) in
-    λ same. other_name b bases apart.0 r.0 r.1 (same ∙ ap (λ (c : Cut). c.group) r.2)
+    λ same. Each-among (λ other. other.core.id ≡ b.core.id → ⊥) bases r.0 apart.0 r.1 (sym (same ∙ ap (λ (c : Cut). c.group) r.2))
 cuts_apart (b ∷ bases) apart (suc i) (suc j) d below within = cuts_apart bases apart.1 i j d (omega (arith, below)) (omega (arith, within))
 
 -- groups with names of their own whose arcs go round the circle

@@ -7,7 +7,7 @@ use Rattle.sc_edges.specs.Causes.{Rose}
 use Rattle.sc_statuses.specs.declared.said.Played.{Played}
 use Rattle.sc_statuses.specs.declared.said.Played.TheVariants as Was
 use Rattle.sc_statuses.specs.declared.said.Said.{Said}
-use Rattle.sc_statuses.specs.declared.said.Said.TheVariants.{Ended, Unsettled, Filled, Usage, BadScenario, ReadFault}
+use Rattle.sc_statuses.specs.declared.said.Said.TheVariants.{Ended, Unsettled, Filled, Usage, BadScenario, ReadFault, Lawful, Unlawful}
 
 -- which text a run that ended begins
 abbrev pub said_of : Bool → Said
@@ -28,6 +28,8 @@ status_of BadScenario = 3
 status_of ReadFault = 4
 status_of Unsettled = 6
 status_of Filled = 7
+status_of Lawful = 0
+status_of Unlawful = 9
 
 -- a sink's calls, where it tells their pieces, brought these lines, one a call
 abbrev pub BringsLines : Option (List (List ℕ)) → Option (List (List ℕ)) → List (List ℕ) → Type 0

@@ -26,6 +26,8 @@ pub enum Said {
     ReadFault,
     Unsettled,
     Filled,
+    Lawful,
+    Unlawful,
 }
 
 impl Said {
@@ -40,6 +42,8 @@ impl Said {
             Said::ReadFault => 4,
             Said::Unsettled => 6,
             Said::Filled => 7,
+            Said::Lawful => 0,
+            Said::Unlawful => 9,
         }
     }
 }

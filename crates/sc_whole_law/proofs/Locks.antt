@@ -15,7 +15,6 @@ use Rattle.sc_cmd.specs.declared.cores.Lock.{Lock}
 use Rattle.sc_cmd.specs.declared.cores.Lock.TheVariants.{Free, Coordinating, Promised, Watching}
 use Rattle.sc_cmd.specs.declared.effects.Effect.{Effect}
 use Rattle.sc_cmd.specs.declared.effects.Effect.TheVariants as Was
-use Rattle.sc_cmd.specs.declared.links.Route.{Route}
 use Rattle.sc_cmd.specs.declared.votes.No.{No}
 use Rattle.sc_cmd.specs.declared.votes.Outcome.{Outcome}
 use Rattle.sc_cmd.specs.declared.votes.Past.{Past}
@@ -24,12 +23,13 @@ use Rattle.sc_machine_table.specs.Finishes.{closed}
 use Rattle.sc_machine_table.specs.Group.{Group}
 use Rattle.sc_machine_table.specs.Logs.{state_after}
 use Rattle.sc_machine_table.specs.Machine.{applied}
-use Rattle.sc_machine_table.specs.Orders.{locked_in, refusal_of, with_node, without_node}
-use Rattle.sc_machine_table.specs.Votes.{has_voted, no_of, offer_no, watch_no, vote_of, watch_vote_of, past_of, bound_by}
+use Rattle.sc_machine_table.specs.Orders.{refusal_of, with_node, without_node}
+use Rattle.sc_machine_table.specs.Votes.{has_voted, offer_no, watch_no, vote_of, watch_vote_of, past_of, bound_by}
 use Rattle.sc_paxos_law.proofs.Among.{Among-either}
 use Rattle.sc_group_law.proofs.Rosters.{ordered_if}
 use Rattle.sc_hist_law.proofs.Staying.{free_by}
 use Rattle.sc_whole_law.proofs.Coming.{EndsIt, Binds, comes}
+use Rattle.sc_hist_law.proofs.Staying.{free_by_no}
 
 -- ---- what once came of an entry
 
@@ -58,14 +58,6 @@ ever Q Did step group (c ∷ log) q =
 pub always : (Q : Group → Type 0) → ((group : Group) (c : Command) → Q group → Q (applied group c).0) → (group : Group) (log : List Command) → Q group → Q (state_after group log)
 always Q step group [] q = q
 always Q step group (c ∷ log) q = always Q step (applied group c).0 log (step group c q)
-
--- a vote of Yes finds the group free
-unlocked : (gone : Option Route) (lock : Lock) (why : Option No) → no_of gone (locked_in lock) why ≡ None → lock ≡ Free
-unlocked (Some into) lock why e = cc
-unlocked None Free why e = refl
-unlocked None (Coordinating tx body order got) why e = cc
-unlocked None (Promised tx offer) why e = cc
-unlocked None (Watching tx watch) why e = cc
 
 -- ---- a watcher
 
@@ -285,8 +277,8 @@ module _ (tx : Draw) where
         parted = λ at child order _. y;
         split = λ at child order e n. subst (λ l. Binds l tx) (free_by group.core.lock group.core _ e) (y n);
         begun = λ t body order e n. subst (λ l. Binds l tx) (free_by group.core.lock group.core _ e) (y n);
-        offered = λ t offer _. yes_of (vote_of group.core offer) (Promised t offer) group.core.lock group.core.voted t (unlocked group.core.gone group.core.lock (offer_no group.core offer)) refl y;
-        asked = λ t w _. yes_of (watch_vote_of group.core w) (Watching t w) group.core.lock group.core.voted t (unlocked group.core.gone group.core.lock (watch_no group.core w)) refl y;
+        offered = λ t offer _. yes_of (vote_of group.core offer) (Promised t offer) group.core.lock group.core.voted t (free_by_no group.core.gone group.core.lock (offer_no group.core offer)) refl y;
+        asked = λ t w _. yes_of (watch_vote_of group.core w) (Watching t w) group.core.lock group.core.voted t (free_by_no group.core.gone group.core.lock (watch_no group.core w)) refl y;
         heard = λ t order got lock frozen by n. subst (λ l. Binds l tx) lock (y n);
         ended = λ d t ends free after o r n. absurd (free tx (y (subst (λ v. noted v ≡ Some Cast.Yes) r.voted n)));
         finished = λ t binds after o r n. absurd (freed after.core.voted t group.core.lock binds (λ m. y (subst (λ v. noted v ≡ Some Cast.Yes) r.voted m)) (has_voted after.core t) refl n);

@@ -1,5 +1,5 @@
 -- Each row of a lawful journal decides in turn, whatever its groups order; and what holds of the journal holds with one more row.
-use Rattle.std.proofs.Common.{◌≡◌, ℕ, zero, suc, ◌+◌, List, [], ◌∷◌, ◌++◌, length, drop, Some, inl, inr, refl, sym, ◌∙◌, ap, subst, option_to_list}
+use Rattle.std.proofs.Common.{◌≡◌, ℕ, ◌+◌, List, [], ◌∷◌, ◌++◌, length, drop, Some, inl, inr, refl, sym, ◌∙◌, ap, subst, option_to_list}
 use Rattle.std.specs.Prelude.{slice_get}
 use Rattle.sc_base.specs.Among.{Among, Each}
 use Rattle.sc_base.specs.declared.names.Draw.{Draw}
@@ -31,14 +31,15 @@ use Rattle.sc_sound.specs.Logs.{decided_log, decided_state}
 use Rattle.sc_sound.specs.Requests.{issues, kept_replies}
 use Rattle.sc_ring_law.specs.Allowed.{Sources, IsAllowed, first_told, told_after}
 use Rattle.sc_ring_law.specs.Laws.{BeginInPlace}
-use Rattle.sc_ring_law.proofs.Rows.{some_none}
 use Rattle.sc_ring_law.proofs.Start.{at_start}
 use Rattle.sc_ring_law.proofs.Worlds.{kept_after}
 use Rattle.sc_journal_law.specs.Descent.{Rows, added_by, newborn_by}
 use Rattle.sc_journal_law.specs.Findings.{AreFound, IsNewborn}
 use Rattle.sc_journal_law.specs.InTurn.{DecidesInTurn, DecideInTurn}
 use Rattle.sc_journal_law.proofs.Allowing.{allowed_stays_allowed}
-use Rattle.sc_journal_law.proofs.Births.{store_after, BornBy, born_by}
+use Rattle.sc_draws_law.proofs.Lists.{Each-drop}
+use Rattle.sc_ring_law.proofs.Sound.{store_after}
+use Rattle.sc_journal_law.proofs.Births.{BornBy, born_by}
 use Rattle.sc_journal_law.proofs.Calls.{all_allowed}
 use Rattle.sc_journal_law.proofs.Findings.{told_rows, groups_are_found, groups_are_old_or_new}
 use Rattle.sc_journal_law.proofs.Generations.{group_found}
@@ -47,7 +48,7 @@ use Rattle.sc_journal_law.proofs.Parts.{rows_go_on}
 use Rattle.sc_journal_law.proofs.Told.{Told, state_there}
 use Rattle.sc_group_law.proofs.Births.{first_of}
 use Rattle.sc_group_law.proofs.Clients.{IsIssued, IsAnswered}
-use Rattle.sc_group_law.proofs.Families.{h_of, Kept, Stepped, IsLater, Moved, stepped, push, log_goes_on, decided_made}
+use Rattle.sc_group_law.proofs.Families.{h_of, Kept, Stepped, IsLater, Moved, push, log_goes_on, decided_made}
 use Rattle.sc_group_law.proofs.Places.{or_now, issue-push}
 use Rattle.sc_group_law.proofs.Stepping.{HasPlayers, MayTell, KnowsOffspring, moved}
 use Rattle.sc_whole_law.specs.Parameters.{stories_at, IsIssuedCall, MayQueue, MayHear}
@@ -61,12 +62,7 @@ use Rattle.sc_whole_law.proofs.Fronts.{goes_on_from}
 use Rattle.sc_whole_law.proofs.Granting.{speaks}
 use Rattle.sc_whole_law.proofs.Growing.{grown}
 use Rattle.sc_whole_law.proofs.Members.{members_stay_rosters}
-
--- what holds of each holds of those after some
-each_dropped : {X : Type 0} (P : X → Type 0) (n : ℕ) (xs : List X) → Each P xs → Each P (drop n xs)
-each_dropped P zero xs e = e
-each_dropped P (suc n) [] e = tt
-each_dropped P (suc n) (x ∷ xs) e = each_dropped P n xs e.1
+use Rattle.sc_ring_law.proofs.Finds.{some_none}
 
 -- the child of an entry is one of its log's
 child_in : (group : Group) (front : List Command) (c : Command) (child : Base) → birth_of (state_after group front) c (applied (state_after group front) c).1 ≡ Some child → Among child (children_of group (front ++ c ∷ []))
@@ -151,7 +147,7 @@ module _ (sources : Sources) (ahead : Ahead) (words : ℕ → ℕ → ℕ × ℕ
       allowed steps b a =
           let before = length (decided_log ahead b rows) in
           let all = decided_made ahead scenario scenario.groups (bases rows) route made heard b rows row (steps b a) in
-          each_dropped (IsAllowed sources (stories_at ahead scenario.groups rows) b.core.id) before (decided_log ahead b next)
+          Each-drop (IsAllowed sources (stories_at ahead scenario.groups rows) b.core.id) before (decided_log ahead b next)
           (Each-weaker (made rows b) (IsAllowed sources (stories_at ahead scenario.groups rows) b.core.id) (λ c m. m.0) (decided_log ahead b next) all)
 
       -- the children that it names were born by nobody
@@ -243,7 +239,7 @@ module _ (sources : Sources) (ahead : Ahead) (words : ℕ → ℕ → ℕ × ℕ
 
       -- and of the logs alone
       steps : Steps rows row
-      steps b a = stepped ahead scenario scenario.groups (bases rows) route made heard rows row b (moves.parts b a)
+      steps b a = (moves.parts b a).stepped
 
       -- the row decides in turn
       decides : DecidesInTurn sources ahead scenario.groups rows row
@@ -254,7 +250,7 @@ module _ (sources : Sources) (ahead : Ahead) (words : ℕ → ℕ → ℕ × ℕ
       issued_now b a client seq op c =
           let next = rows ++ row ∷ [] in
           let all = decided_made ahead scenario scenario.groups (bases rows) route made heard b rows row (steps b a) in
-          let each = each_dropped (IsIssuedCall scenario rows) (length (decided_log ahead b rows)) (decided_log ahead b next)
+          let each = Each-drop (IsIssuedCall scenario rows) (length (decided_log ahead b rows)) (decided_log ahead b next)
           (Each-weaker (made rows b) (IsIssuedCall scenario rows) (λ d m. m.1) (decided_log ahead b next) all) in
           Each-among (IsIssuedCall scenario rows) (added_by ahead rows row b) (Call client seq op) each c
 

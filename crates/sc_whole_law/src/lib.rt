@@ -44,9 +44,9 @@ pub fn members_stay_rosters()
 {}
 
 /// Each row of a lawful journal decides in turn, whatever its groups order, split, merge and move:
-/// the logs go on, each entry is allowed by what the entries before the row told, and a group that a
-/// row gives birth to begins with no entry. So a replica queues no command, and sends no mail of a
-/// transaction, that the logs of the groups before it did not make allowed.
+/// the logs go on, each entry is allowed by what the entries before the row told, and a group that
+/// a row gives birth to begins with no entry. So a replica queues no command, and sends no mail of
+/// a transaction, that the logs of the groups before it did not make allowed.
 pub fn lawful_journals_decide_in_turn()
     ensures { LawfulJournalsDecideInTurn }
 {}
@@ -65,14 +65,14 @@ pub fn lawful_journals_are_sound()
     journals_in_turn_are_sound();
 }
 
-/// Each first part of a lawful journal of a valid scenario is sound, whatever its orders join, leave,
-/// split, merge or move, whatever is lost, repeated, late or crashed, and with no majority alive.
-/// Each group has one log, which only grows (Paxos Made Simple, sections 2.2 and 3); each replica of
-/// each node has executed a front of its group's log; the ring covers, and the group of each cut is
-/// placed in it and holds its part of the map; the history is legal (Herlihy and Wing, 1990), with
-/// the replies that clients keep; and each entry is decided after its issue and before its answer,
-/// whichever group decides it. As many slots are open as a child that is born has: its log would
-/// else be read by other members than its replicas count.
+/// Each first part of a lawful journal of a valid scenario is sound, whatever its orders join,
+/// leave, split, merge or move, whatever is lost, repeated, late or crashed, and with no majority
+/// alive. Each group has one log, which only grows (Paxos Made Simple, sections 2.2 and 3); each
+/// replica of each node has executed a front of its group's log; the ring covers, and the group of
+/// each cut is placed in it and holds its part of the map; the history is legal (Herlihy and Wing,
+/// 1990), with the replies that clients keep; and each entry is decided after its issue and before
+/// its answer, whichever group decides it. As many slots are open as a child that is born has: its
+/// log would else be read by other members than its replicas count.
 pub fn valid_journals_are_sound()
     ensures { ValidJournalsAreSound }
 {
@@ -103,8 +103,8 @@ pub fn a_join_is_sound()
     valid_journals_are_sound();
 }
 
-/// The law is about several groups: a journal of two of them on one node, in which a client asks the
-/// first and is sent on to the second, and the node's tick goes through both.
+/// The law is about several groups: a journal of two of them on one node, in which a client asks
+/// the first and is sent on to the second, and the node's tick goes through both.
 pub fn a_journal_of_two_groups()
     ensures text { scenario_of two_text ≡ Some two_scenario }
     ensures lawful { Lawful four no_words two_scenario two_example }

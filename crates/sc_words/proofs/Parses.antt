@@ -61,7 +61,7 @@ turn_passed s h position word clear passes =
 -- ---- two of them behind `make`
 
 abbrev pub make_shape : Shape
-make_shape = slice_index_or (built scatter_app).subs 1 (new_shape [])
+make_shape = slice_index_or (built scatter_app).subs 3 (new_shape [])
 
 abbrev first_step : Text → Walk
 first_step count = to_positional make_shape.rules (arg_by_index make_shape.rules 1) count (at nothing_held 1) nothing_held
@@ -108,3 +108,11 @@ make_found count seed c s = ap (λ rows. Some (codes "make", rows)) (rows_found 
 pub run_taken : takes scatter_app (codes "run" ∷ []) ≡ true
 unfolding clap_on_literals
 run_taken = refl
+
+pub journal_taken : takes scatter_app (codes "journal" ∷ []) ≡ true
+unfolding clap_on_literals
+journal_taken = refl
+
+pub audit_taken : takes scatter_app (codes "audit" ∷ []) ≡ true
+unfolding clap_on_literals
+audit_taken = refl

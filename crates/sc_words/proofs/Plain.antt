@@ -1,7 +1,8 @@
 -- What clap makes of plain words is what they ask for.
 use Rattle.std.proofs.Common.{◌≡◌, ℕ, ◌&&◌, ◌||◌, Bool, true, false, not, eqb, List, [], ◌∷◌, length, Option, Some, None, refl, sym, ap, ◌∙◌, subst, inl, inr, codes, true≢false, arith}
+use Rattle.std.specs.List.{list_any}
 use Rattle.std.specs.Cmp.Lexicographic.{same_text}
-use Rattle.std.proofs.lemmas.Bool.{cases_Bool, cond-false, ne_eqb}
+use Rattle.std.proofs.lemmas.Bool.{cases_Bool, ne_eqb}
 use Rattle.clap.specs.Walk.{Row, Text}
 use Rattle.clap.specs.Takes.{takes}
 use Rattle.clap.specs.Simple.{App, is_simple, subcommand_of}
@@ -9,11 +10,11 @@ use Rattle.clap.specs.declared.error.kind.ErrorKind.{ErrorKind}
 use Rattle.clap.specs.declared.error.kind.ErrorKind.TheVariants.{OutOfMemory}
 use Rattle.clap.proofs.OnLiterals.{clap_on_literals}
 use Rattle.sc_lines.specs.Words.{same}
-use Rattle.sc_words.specs.Asked.{make_of, asked_by, has_dash, is_plain}
+use Rattle.sc_words.specs.Asked.{make_of, asked_by, has_dash, is_known, is_plain}
 use Rattle.sc_words.specs.Commands.{scatter_app, make_in, asked_in}
-use Rattle.sc_words.specs.declared.asked.Asked.TheVariants.{Run}
-use Rattle.sc_words.proofs.Shapes.{other_count}
-use Rattle.sc_words.proofs.Parses.{make_rows, make_taken, make_found, run_taken}
+use Rattle.sc_words.specs.declared.asked.Asked.TheVariants.{Run, Journal, Audit}
+use Rattle.sc_words.proofs.Shapes.{passed, other_count}
+use Rattle.sc_words.proofs.Parses.{make_rows, make_taken, make_found, run_taken, journal_taken, audit_taken}
 
 -- ---- the word
 
@@ -22,10 +23,36 @@ no_dash true b h = absurd (true≢false (sym h))
 no_dash false true h = absurd (true≢false (sym h))
 no_dash false false h = (refl, refl)
 
-run_or_make : (run make dash : Bool) → ((run || make) && not dash) ≡ true → run ≡ false → make ≡ true
-run_or_make true make dash h f = absurd (true≢false f)
-run_or_make false true dash h f = refl
-run_or_make false false dash h f = absurd (true≢false (sym h))
+both_true : (a b : Bool) → (a && b) ≡ true → a ≡ true
+both_true true b h = refl
+both_true false b h = h
+
+one_of_four : (a b c d : Bool) → (a || (b || (c || d))) ≡ true → a ≡ false → b ≡ false → c ≡ false → d ≡ true
+one_of_four a b c d h is_a is_b is_c =
+    sym (ap (λ x. x || (b || (c || d))) is_a ∙ ap (λ x. x || (c || d)) is_b ∙ ap (λ x. x || d) is_c) ∙ h
+
+-- what holds of a word that is written out holds of a word that is the same
+of_same : (P : Text → Type 0) (word known : Text) → same word known ≡ true → P known → P word
+of_same P word known is holds = subst P (sym (same_text word known (sym is))) holds
+
+-- a known word is one of the four
+of_known : (P : Text → Type 0) (word : Text) → is_known word ≡ true → P (codes "run") → P (codes "journal") → P (codes "audit") → P (codes "make") → P word
+of_known P word known run journal audit make =
+    elim (cases_Bool (same word (codes "run"))) [
+      | inl is ↦ of_same P word (codes "run") is run
+      | inr no_run ↦ elim (cases_Bool (same word (codes "journal"))) [
+        | inl is ↦ of_same P word (codes "journal") is journal
+        | inr no_journal ↦ elim (cases_Bool (same word (codes "audit"))) [
+          | inl is ↦ of_same P word (codes "audit") is audit
+          | inr no_audit ↦ of_same P word (codes "make")
+              (one_of_four (same word (codes "run")) (same word (codes "journal")) (same word (codes "audit")) (same word (codes "make")) known no_run no_journal no_audit) make
+        ]
+      ]
+    ]
+
+-- plain words begin with one of the four
+of_plain : (P : Text → Type 0) (word : Text) (words : List Text) → is_plain (word ∷ words) ≡ true → P (codes "run") → P (codes "journal") → P (codes "audit") → P (codes "make") → P word
+of_plain P word words plain = of_known P word (both_true (is_known word) (not (list_any has_dash (word ∷ words))) plain)
 
 -- ---- it is given back
 
@@ -36,6 +63,14 @@ run_alone : asked_in 1 (subcommand_of scatter_app (codes "run" ∷ [])) ≡ Some
 unfolding clap_on_literals
 run_alone = refl
 
+journal_alone : asked_in 1 (subcommand_of scatter_app (codes "journal" ∷ [])) ≡ Some Journal
+unfolding clap_on_literals
+journal_alone = refl
+
+audit_alone : asked_in 1 (subcommand_of scatter_app (codes "audit" ∷ [])) ≡ Some Audit
+unfolding clap_on_literals
+audit_alone = refl
+
 make_alone : asked_in 1 (subcommand_of scatter_app (codes "make" ∷ [])) ≡ None
 unfolding clap_on_literals
 make_alone = refl
@@ -43,6 +78,14 @@ make_alone = refl
 run_and_two : (one other : Text) → asked_in 3 (subcommand_of scatter_app (codes "run" ∷ one ∷ other ∷ [])) ≡ None
 unfolding clap_on_literals
 run_and_two one other = refl
+
+journal_and_two : (one other : Text) → asked_in 3 (subcommand_of scatter_app (codes "journal" ∷ one ∷ other ∷ [])) ≡ None
+unfolding clap_on_literals
+journal_and_two one other = refl
+
+audit_and_two : (one other : Text) → asked_in 3 (subcommand_of scatter_app (codes "audit" ∷ one ∷ other ∷ [])) ≡ None
+unfolding clap_on_literals
+audit_and_two one other = refl
 
 make_read : (count seed : Text) → asked_in 3 (Some (codes "make", make_rows count seed)) ≡ make_of count seed
 make_read count seed = refl
@@ -54,34 +97,27 @@ of_two (Some met) = refl
 of_many : (n : ℕ) (o : Option (Text × List Row)) → (n ≡ 1 → ⊥) → (n ≡ 3 → ⊥) → asked_in n o ≡ None
 of_many n None one three = refl
 of_many n (Some met) one three =
-    cond-false ((eqb n 1) && same met.0 (codes "run")) (Some Run) _ (ap (λ b. b && same met.0 (codes "run")) (ne_eqb n 1 one))
-    ∙ cond-false ((eqb n 3) && same met.0 (codes "make")) (make_in met.1) None (ap (λ b. b && same met.0 (codes "make")) (ne_eqb n 3 three))
+    let not_one = ne_eqb n 1 one in
+    passed (eqb n 1) (same met.0 (codes "run")) (Some Run) _ not_one
+    ∙ passed (eqb n 1) (same met.0 (codes "journal")) (Some Journal) _ not_one
+    ∙ passed (eqb n 1) (same met.0 (codes "audit")) (Some Audit) _ not_one
+    ∙ passed (eqb n 3) (same met.0 (codes "make")) (make_in met.1) None (ne_eqb n 3 three)
 
 abbrev GivesBack : List Text → Type 0
 GivesBack words = asked_in (length words) (subcommand_of scatter_app words) ≡ asked_by words
 
 one_back : (word : Text) → is_plain (word ∷ []) ≡ true → GivesBack (word ∷ [])
-one_back word plain =
-    elim (cases_Bool (same word (codes "run"))) [
-      | inl run ↦ subst (λ w. GivesBack (w ∷ [])) (sym (same_text word (codes "run") (sym run))) run_alone
-      | inr not_run ↦ (
-          let make = run_or_make (same word (codes "run")) (same word (codes "make")) _ plain not_run in
-          subst (λ w. GivesBack (w ∷ [])) (sym (same_text word (codes "make") (sym make))) make_alone
-          )
-    ]
+one_back word plain = of_plain (λ w. GivesBack (w ∷ [])) word [] plain run_alone journal_alone audit_alone make_alone
+
+make_back : (count seed : Text) → is_plain (codes "make" ∷ count ∷ seed ∷ []) ≡ true → GivesBack (codes "make" ∷ count ∷ seed ∷ [])
+make_back count seed plain =
+    let clear = no_dash (has_dash count) (has_dash seed) plain in
+    ap (asked_in 3) (make_found count seed clear.0 clear.1) ∙ make_read count seed
 
 three_back : (word count seed : Text) → is_plain (word ∷ count ∷ seed ∷ []) ≡ true → GivesBack (word ∷ count ∷ seed ∷ [])
 three_back word count seed plain =
-    elim (cases_Bool (same word (codes "run"))) [
-      | inl run ↦ subst (λ w. GivesBack (w ∷ count ∷ seed ∷ [])) (sym (same_text word (codes "run") (sym run))) (run_and_two count seed)
-      | inr not_run ↦ (
-          let make = run_or_make (same word (codes "run")) (same word (codes "make")) _ plain not_run in
-          let e = same_text word (codes "make") (sym make) in
-          let plain_make : is_plain (codes "make" ∷ count ∷ seed ∷ []) ≡ true = subst (λ w. is_plain (w ∷ count ∷ seed ∷ []) ≡ true) e plain in
-          let clear = no_dash (has_dash count) (has_dash seed) plain_make in
-          subst (λ w. GivesBack (w ∷ count ∷ seed ∷ [])) (sym e) (ap (asked_in 3) (make_found count seed clear.0 clear.1) ∙ make_read count seed)
-          )
-    ]
+    of_plain (λ w. is_plain (w ∷ count ∷ seed ∷ []) ≡ true → GivesBack (w ∷ count ∷ seed ∷ [])) word (count ∷ seed ∷ []) plain
+    (λ p. run_and_two count seed) (λ p. journal_and_two count seed) (λ p. audit_and_two count seed) (make_back count seed) plain
 
 -- plain words come out as what they ask for
 pub given_back : (words : List Text) → is_plain words ≡ true → asked_in (length words) (subcommand_of scatter_app words) ≡ asked_by words
@@ -99,24 +135,24 @@ given_back (word ∷ count ∷ seed ∷ more ∷ words) plain =
 abbrev pub IsTaken : List Text → Type 0
 IsTaken words = (takes scatter_app words ≡ false) → asked_by words ≡ None
 
+-- words that clap takes
+are_taken : (words : List Text) → takes scatter_app words ≡ true → IsTaken words
+are_taken words takes = λ refused. absurd (true≢false (sym takes ∙ refused))
+
 one_taken : (word : Text) → is_plain (word ∷ []) ≡ true → IsTaken (word ∷ [])
 one_taken word plain =
-    elim (cases_Bool (same word (codes "run"))) [
-      | inl run ↦ subst (λ w. IsTaken (w ∷ [])) (sym (same_text word (codes "run") (sym run))) (λ refused. absurd (true≢false (sym run_taken ∙ refused)))
-      | inr not_run ↦ λ refused. cond-false (same word (codes "run")) (Some Run) None not_run
-    ]
+    of_plain (λ w. IsTaken (w ∷ [])) word [] plain
+    (are_taken (codes "run" ∷ []) run_taken) (are_taken (codes "journal" ∷ []) journal_taken) (are_taken (codes "audit" ∷ []) audit_taken) (λ refused. refl)
+
+make_is_taken : (count seed : Text) → is_plain (codes "make" ∷ count ∷ seed ∷ []) ≡ true → IsTaken (codes "make" ∷ count ∷ seed ∷ [])
+make_is_taken count seed plain =
+    let clear = no_dash (has_dash count) (has_dash seed) plain in
+    are_taken (codes "make" ∷ count ∷ seed ∷ []) (make_taken count seed clear.0 clear.1)
 
 three_taken : (word count seed : Text) → is_plain (word ∷ count ∷ seed ∷ []) ≡ true → IsTaken (word ∷ count ∷ seed ∷ [])
 three_taken word count seed plain =
-    elim (cases_Bool (same word (codes "make"))) [
-      | inl make ↦ (
-          let e = same_text word (codes "make") (sym make) in
-          let plain_make : is_plain (codes "make" ∷ count ∷ seed ∷ []) ≡ true = subst (λ w. is_plain (w ∷ count ∷ seed ∷ []) ≡ true) e plain in
-          let clear = no_dash (has_dash count) (has_dash seed) plain_make in
-          subst (λ w. IsTaken (w ∷ count ∷ seed ∷ [])) (sym e) (λ refused. absurd (true≢false (sym (make_taken count seed clear.0 clear.1) ∙ refused)))
-          )
-      | inr not_make ↦ λ refused. cond-false (same word (codes "make")) (make_of count seed) None not_make
-    ]
+    of_plain (λ w. is_plain (w ∷ count ∷ seed ∷ []) ≡ true → IsTaken (w ∷ count ∷ seed ∷ [])) word (count ∷ seed ∷ []) plain
+    (λ p refused. refl) (λ p refused. refl) (λ p refused. refl) (make_is_taken count seed) plain
 
 -- plain words that clap refuses ask for nothing
 pub taken : (words : List Text) → is_plain words ≡ true → IsTaken words

@@ -1,5 +1,5 @@
 -- What words ask for, by how many they are.
-use Rattle.std.proofs.Common.{◌≡◌, ℕ, ◌≤◌, ◌&&◌, ◌||◌, Bool, true, false, not, nat_le, if◌then◌else◌, arith, List, [], ◌∷◌, length, Option, Some, None, refl, sym, ap, ◌∙◌, subst, inl, inr, codes, true≢false}
+use Rattle.std.proofs.Common.{◌≡◌, ℕ, ◌≤◌, ◌&&◌, ◌||◌, Bool, true, false, not, nat_le, if◌then◌else◌, arith, eqb, List, [], ◌∷◌, length, Option, Some, None, refl, sym, ap, ◌∙◌, subst, inl, inr, codes, true≢false}
 use Rattle.std.specs.Prelude.{IfSome, option_and_then}
 use Rattle.std.specs.Option.{option_map}
 use Rattle.std.specs.Cmp.Lexicographic.{same_text}
@@ -9,10 +9,10 @@ use Rattle.sc_base.proofs.CommonLemmas.{and_then-some}
 use Rattle.sc_base.specs.Limits.{most_requests}
 use Rattle.sc_base.specs.Number.{number_of}
 use Rattle.sc_lines.specs.Words.{same, nth, count_in}
-use Rattle.sc_words.specs.Asked.{is_run, is_make, last_seed, make_of, asked_by, has_dash, is_plain, IsInRange}
+use Rattle.sc_words.specs.Asked.{is_run, is_journal, is_audit, is_make, reads_input, is_on_input, last_seed, make_of, asked_by, has_dash, is_plain, IsInRange}
 use Rattle.sc_lines.proofs.Choices.{counted}
 use Rattle.sc_words.specs.declared.asked.Asked.{Asked}
-use Rattle.sc_words.specs.declared.asked.Asked.TheVariants.{Run, Make}
+use Rattle.sc_words.specs.declared.asked.Asked.TheVariants.{Run, Journal, Audit, Make}
 
 -- ---- words with a dash spell no number
 
@@ -39,19 +39,40 @@ no_seed count seed dash =
 
 -- ---- other numbers of words
 
+-- a choice that falls away
+pub passed : (counts known : Bool) (this other : Option Asked) → counts ≡ false → (if counts && known then this else other) ≡ other
+passed counts known this other e = cond-false (counts && known) this other (ap (λ b. b && known) e)
+
 pub other_count : (words : List (List ℕ)) → (length words ≡ 1 → ⊥) → (length words ≡ 3 → ⊥) → asked_by words ≡ None
 other_count words one three =
-    cond-false (is_run words) (Some Run) _ (ap (λ b. b && same (nth words 0) (codes "run")) (ne_eqb (length words) 1 one))
-    ∙ cond-false (is_make words) (make_of (nth words 1) (nth words 2)) None (ap (λ b. b && same (nth words 0) (codes "make")) (ne_eqb (length words) 3 three))
+    let not_one = ne_eqb (length words) 1 one in
+    passed (eqb (length words) 1) (same (nth words 0) (codes "run")) (Some Run) _ not_one
+    ∙ passed (eqb (length words) 1) (same (nth words 0) (codes "journal")) (Some Journal) _ not_one
+    ∙ passed (eqb (length words) 1) (same (nth words 0) (codes "audit")) (Some Audit) _ not_one
+    ∙ passed (eqb (length words) 3) (same (nth words 0) (codes "make")) (make_of (nth words 1) (nth words 2)) None (ne_eqb (length words) 3 three)
 
 -- ---- words that are not plain
 
+-- a word that is not plain alone is none that is
+not_alone : (word known : List ℕ) → is_plain (word ∷ []) ≡ false → is_plain (known ∷ []) ≡ true → same word known ≡ false
+not_alone word known other plain =
+    elim (cases_Bool (same word known)) [
+      | inl is ↦ absurd (true≢false (sym plain ∙ subst (λ w. is_plain (w ∷ []) ≡ false) (same_text word known (sym is)) other))
+      | inr not ↦ not
+    ]
+
+-- what one word alone asks for, by which it is
+abbrev alone : Bool → Bool → Bool → Option Asked
+alone run journal audit = if run then Some Run else if journal then Some Journal else if audit then Some Audit else None
+
+none_alone : (run journal audit : Bool) → run ≡ false → journal ≡ false → audit ≡ false → alone run journal audit ≡ None
+none_alone run journal audit r j a =
+    cond-false run (Some Run) _ r ∙ cond-false journal (Some Journal) _ j ∙ cond-false audit (Some Audit) None a
+
 one_word : (word : List ℕ) → is_plain (word ∷ []) ≡ false → asked_by (word ∷ []) ≡ None
 one_word word other =
-    elim (cases_Bool (same word (codes "run"))) [
-      | inl is ↦ absurd (true≢false (subst (λ w. is_plain (w ∷ []) ≡ false) (same_text word (codes "run") (sym is)) other))
-      | inr not_run ↦ cond-false (same word (codes "run")) (Some Run) None not_run
-    ]
+    none_alone (same word (codes "run")) (same word (codes "journal")) (same word (codes "audit"))
+    (not_alone word (codes "run") other refl) (not_alone word (codes "journal") other refl) (not_alone word (codes "audit") other refl)
 
 some_dash : (a b : Bool) → not (a || (b || false)) ≡ false → (b ≡ false → a ≡ true)
 some_dash true b h f = refl
@@ -99,25 +120,64 @@ choice : (b : Bool) (count seed : List ℕ) (asked : Asked) → (if b then make_
 choice true count seed asked e = e
 choice false count seed asked e = absurd (none-some asked e)
 
-range_case : (run make : Bool) (count seed : List ℕ) (asked : Asked) → (if run then Some Run else if make then make_of count seed else None) ≡ Some asked → IsInRange asked
-range_case true make count seed asked e = subst IsInRange (same_Some Run asked e) tt
-range_case false make count seed asked e =
+-- what words ask for, by which they are
+abbrev chosen : Bool → Bool → Bool → Bool → List ℕ → List ℕ → Option Asked
+chosen run journal audit make count seed =
+    if run then Some Run else if journal then Some Journal else if audit then Some Audit else if make then make_of count seed else None
+
+range_case : (run journal audit make : Bool) (count seed : List ℕ) (asked : Asked) → chosen run journal audit make count seed ≡ Some asked → IsInRange asked
+range_case true journal audit make count seed asked e = subst IsInRange (same_Some Run asked e) tt
+range_case false true audit make count seed asked e = subst IsInRange (same_Some Journal asked e) tt
+range_case false false true make count seed asked e = subst IsInRange (same_Some Audit asked e) tt
+range_case false false false make count seed asked e =
     let m = made count seed asked (choice make count seed asked e) in
     subst IsInRange m.2 (m.3, m.4)
 
 -- what is asked is in range
 pub in_range : (words : List (List ℕ)) (asked : Asked) → asked_by words ≡ Some asked → IsInRange asked
-in_range words asked e = range_case (is_run words) (is_make words) (nth words 1) (nth words 2) asked e
+in_range words asked e = range_case (is_run words) (is_journal words) (is_audit words) (is_make words) (nth words 1) (nth words 2) asked e
 
-run_case : (run make : Bool) (count seed : List ℕ) → (if run then Some Run else if make then make_of count seed else None) ≡ Some Run → run ≡ true
-run_case true make count seed e = refl
-run_case false make count seed e =
-    let m = made count seed Run (choice make count seed Run e) in
-    absurd (let bad : Make m.0 m.1 ≡ Run = m.2 in cc)
+-- what is asked tells which words they are
+abbrev Tells : Bool → Bool → Bool → Asked → Type 0
+Tells run journal audit Run = run ≡ true
+Tells run journal audit Journal = journal ≡ true
+Tells run journal audit Audit = audit ≡ true
+Tells run journal audit (Make n seed) = (run || (journal || audit)) ≡ false
+
+tells_case : (run journal audit make : Bool) (count seed : List ℕ) (asked : Asked) → chosen run journal audit make count seed ≡ Some asked → Tells run journal audit asked
+tells_case true journal audit make count seed asked e = subst (Tells true journal audit) (same_Some Run asked e) refl
+tells_case false true audit make count seed asked e = subst (Tells false true audit) (same_Some Journal asked e) refl
+tells_case false false true make count seed asked e = subst (Tells false false true) (same_Some Audit asked e) refl
+tells_case false false false make count seed asked e = subst (Tells false false false) (made count seed asked (choice make count seed asked e)).2 refl
+
+tells : (words : List (List ℕ)) (asked : Asked) → asked_by words ≡ Some asked → Tells (is_run words) (is_journal words) (is_audit words) asked
+tells words asked e = tells_case (is_run words) (is_journal words) (is_audit words) (is_make words) (nth words 1) (nth words 2) asked e
 
 -- a run is asked for by the one word alone
 pub run_asked : (words : List (List ℕ)) → asked_by words ≡ Some Run → is_run words ≡ true
-run_asked words e = run_case (is_run words) (is_make words) (nth words 1) (nth words 2) e
+run_asked words e = tells words Run e
+
+-- and so is its journal
+pub journal_asked : (words : List (List ℕ)) → asked_by words ≡ Some Journal → is_journal words ≡ true
+journal_asked words e = tells words Journal e
+
+-- and an audit
+pub audit_asked : (words : List (List ℕ)) → asked_by words ≡ Some Audit → is_audit words ≡ true
+audit_asked words e = tells words Audit e
+
+on_input : (run journal audit : Bool) (asked : Asked) → Tells run journal audit asked → is_on_input asked ≡ (run || (journal || audit))
+on_input run journal audit Run e = sym (ap (λ b. b || (journal || audit)) e)
+on_input true journal audit Journal e = refl
+on_input false journal audit Journal e = sym (ap (λ b. b || audit) e)
+on_input true journal audit Audit e = refl
+on_input false true audit Audit e = refl
+on_input false false audit Audit e = sym e
+on_input run journal audit (Make n seed) e = sym e
+
+-- what is on the input is asked for by words that read it
+pub if_reads : (words : List (List ℕ)) (asked : Option Asked) → asked ≡ asked_by words → IfSome asked (λ what. is_on_input what ≡ reads_input words)
+if_reads words None e = tt
+if_reads words (Some asked) e = on_input (is_run words) (is_journal words) (is_audit words) asked (tells words asked (sym e))
 
 -- the same, where something is asked
 pub if_asked : (words : List (List ℕ)) (asked : Option Asked) → asked ≡ asked_by words → IfSome asked IsInRange

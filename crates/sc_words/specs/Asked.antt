@@ -1,16 +1,28 @@
--- What the words behind a program's name ask for: `run`, or `make N S`.
-use Rattle.std.specs.Prelude.{ℕ, ⊤, ◌≤◌, ◌==◌, ◌&&◌, ◌||◌, not, get_or, Bool, List, length, codes, Option, Some, None, if◌then◌else◌, option_and_then}
+-- What the words behind a program's name ask for: `run`, `journal`, `audit`, or `make N S`.
+use Rattle.std.specs.Prelude.{ℕ, ⊤, ◌≤◌, ◌==◌, ◌&&◌, ◌||◌, not, get_or, Bool, true, false, List, length, codes, Option, Some, None, if◌then◌else◌, option_and_then}
 use Rattle.std.specs.List.{list_any}
 use Rattle.std.specs.Option.{option_map}
 use Rattle.sc_base.specs.Limits.{most_requests}
 use Rattle.sc_base.specs.Number.{number_of}
 use Rattle.sc_lines.specs.Words.{same, nth, count_in}
 use Rattle.sc_words.specs.declared.asked.Asked.{Asked}
-use Rattle.sc_words.specs.declared.asked.Asked.TheVariants.{Run, Make}
+use Rattle.sc_words.specs.declared.asked.Asked.TheVariants.{Run, Journal, Audit, Make}
 
 -- the one word `run`
 abbrev pub is_run : List (List ℕ) → Bool
 is_run words = (length words == 1) && same (nth words 0) (codes "run")
+
+-- the one word `journal`
+abbrev pub is_journal : List (List ℕ) → Bool
+is_journal words = (length words == 1) && same (nth words 0) (codes "journal")
+
+-- the one word `audit`
+abbrev pub is_audit : List (List ℕ) → Bool
+is_audit words = (length words == 1) && same (nth words 0) (codes "audit")
+
+-- whether words read the input: `run`, `journal` or `audit` alone
+abbrev pub reads_input : List (List ℕ) → Bool
+reads_input words = is_run words || (is_journal words || is_audit words)
 
 -- the word `make` and two others
 abbrev pub is_make : List (List ℕ) → Bool
@@ -28,18 +40,33 @@ make_of count seed = option_and_then (λ n. option_map (λ s. Make n s) (number_
 abbrev pub asked_by : List (List ℕ) → Option Asked
 asked_by words =
     if is_run words then Some Run
+    else if is_journal words then Some Journal
+    else if is_audit words then Some Audit
     else if is_make words then make_of (nth words 1) (nth words 2)
     else None
+
+-- whether what is asked for is on the input: all but a made scenario is
+abbrev pub is_on_input : Asked → Bool
+is_on_input Run = true
+is_on_input Journal = true
+is_on_input Audit = true
+is_on_input (Make n seed) = false
 
 -- a made scenario has 1 to 1,000 requests a client
 abbrev pub IsInRange : Asked → Type 0
 IsInRange Run = ⊤
+IsInRange Journal = ⊤
+IsInRange Audit = ⊤
 IsInRange (Make n seed) = (1 ≤ n) × (n ≤ most_requests)
 
 -- whether a word begins with a dash
 abbrev pub has_dash : List ℕ → Bool
 has_dash word = get_or word 0 0 == 45
 
--- the first word is `run` or `make`, and no word begins with a dash
+-- whether a word is a first word: `run`, `journal`, `audit` or `make`
+abbrev pub is_known : List ℕ → Bool
+is_known word = same word (codes "run") || (same word (codes "journal") || (same word (codes "audit") || same word (codes "make")))
+
+-- the first word is one of the four, and no word begins with a dash
 abbrev pub is_plain : List (List ℕ) → Bool
-is_plain words = (same (nth words 0) (codes "run") || same (nth words 0) (codes "make")) && not (list_any has_dash words)
+is_plain words = is_known (nth words 0) && not (list_any has_dash words)

@@ -5,7 +5,7 @@ use Rattle.clap.specs.Simple.{on_top}
 use Rattle.sc_lines.specs.Words.{same}
 use Rattle.sc_words.specs.Asked.{make_of}
 use Rattle.sc_words.specs.declared.asked.Asked.{Asked}
-use Rattle.sc_words.specs.declared.asked.Asked.TheVariants.{Run}
+use Rattle.sc_words.specs.declared.asked.Asked.TheVariants.{Run, Journal, Audit}
 
 -- a word that must be there, by its name
 abbrev pub word_rule : Text → Rule
@@ -15,10 +15,21 @@ word_rule id = record (new_rule id) { required = true }
 abbrev pub make_app : App
 make_app = with_rule (with_rule (new_app (codes "make")) (word_rule (codes "N"))) (word_rule (codes "S"))
 
--- `scatter`, with the subcommands `run` and `make`
+-- `scatter` alone: its words begin behind its name
+abbrev pub bare_app : App
+bare_app = on_top (λ s. record s { no_binary_name = true }) (new_app (codes "scatter"))
+
+-- an app with one more subcommand, which takes no words
+abbrev pub with_word : App → Text → App
+with_word app name = with_subcommand app (new_app name).top
+
+-- `scatter`, with the subcommands of one word: `run`, `journal` and `audit`
+abbrev pub words_app : App
+words_app = with_word (with_word (with_word bare_app (codes "run")) (codes "journal")) (codes "audit")
+
+-- `scatter`, with all its subcommands: these and `make`
 abbrev pub scatter_app : App
-scatter_app =
-    with_subcommand (with_subcommand (on_top (λ s. record s { no_binary_name = true }) (new_app (codes "scatter"))) (new_app (codes "run")).top) make_app.top
+scatter_app = with_subcommand words_app make_app.top
 
 -- what the values of `make` spell
 abbrev pub make_in : List Row → Option Asked
@@ -28,6 +39,8 @@ make_in rows = option_and_then (λ count. option_and_then (λ seed. make_of coun
 abbrev pub asked_as : ℕ → Text → List Row → Option Asked
 asked_as count name rows =
     if (count == 1) && same name (codes "run") then Some Run
+    else if (count == 1) && same name (codes "journal") then Some Journal
+    else if (count == 1) && same name (codes "audit") then Some Audit
     else if (count == 3) && same name (codes "make") then make_in rows
     else None
 

@@ -5,9 +5,11 @@ ghost use Rattle.std.specs.Option.{option_map};
 ghost use Rattle.sc_lines.specs.Words.{nth};
 ghost use Rattle.clap.specs.Words.{app_of, first_of, found_of, kind_of, rows_of, subcommand_rows_of};
 ghost use Rattle.clap.specs.declared.builder.command.Command.TheViews.{out-Command};
-ghost use Rattle.sc_words.specs.Asked.{has_dash, is_plain, is_run, make_of, asked_by, IsInRange};
-ghost use Rattle.sc_words.specs.Commands.{make_app, scatter_app, make_in, asked_as, asked_in};
-ghost use Rattle.sc_words.specs.declared.asked.Asked.TheVariants.{Run};
+ghost use Rattle.sc_words.specs.Asked.{has_dash, is_known, is_plain, make_of, asked_by, IsInRange};
+ghost use Rattle.sc_words.specs.Asked.{is_run, is_journal, is_audit, reads_input, is_on_input};
+ghost use Rattle.sc_words.specs.Commands.{make_app, bare_app, with_word, words_app, scatter_app};
+ghost use Rattle.sc_words.specs.Commands.{make_in, asked_as, asked_in};
+ghost use Rattle.sc_words.specs.declared.asked.Asked.TheVariants.{Run, Journal, Audit};
 
 use crate::asked::Asked;
 use clap::error::ErrorKind;
@@ -50,11 +52,21 @@ fn have_dash(words: &[String]) -> bool
     any_dash(words)
 }
 
-// Whether the first word is `run` or `make`, and no word begins with a dash.
+// Whether a word is one of the four first words.
+fn is_known(word: &[u8]) -> bool
+    ensures { result ≡ is_known word.now }
+{
+    is_text(word, b"run")
+        || is_text(word, b"journal")
+        || is_text(word, b"audit")
+        || is_text(word, b"make")
+}
+
+// Whether the first word is one of the four, and no word begins with a dash.
 fn is_plain(words: &[String]) -> bool
     ensures { result ≡ is_plain (map string_bytes words.now) }
 {
-    (is_text(first_word(words), b"run") || is_text(first_word(words), b"make")) && !have_dash(words)
+    is_known(first_word(words)) && !have_dash(words)
 }
 
 fn make_command<'a>(alloc: Global) -> Result<Command<'a>, AllocError>
@@ -66,13 +78,36 @@ fn make_command<'a>(alloc: Global) -> Result<Command<'a>, AllocError>
     Command::new(alloc, "make").arg(count)?.arg(seed)
 }
 
+fn bare_command<'a>(alloc: Global) -> Command<'a>
+    ensures { app_of result ≡ bare_app }
+{
+    Command::new(alloc, "scatter").no_binary_name(true)
+}
+
+// With one more subcommand, which takes no words.
+fn with_word<'a>(
+    alloc: Global,
+    command: Command<'a>,
+    name: &'a str,
+) -> Result<Command<'a>, AllocError>
+    ensures { IfOk result (λ more. app_of more ≡ with_word (app_of command.entry) name.now) }
+{
+    command.subcommand(Command::new(alloc, name))
+}
+
+fn words_command<'a>(alloc: Global) -> Result<Command<'a>, AllocError>
+    ensures { IfOk result (λ command. app_of command ≡ words_app) }
+{
+    let run = with_word(alloc, bare_command(alloc), "run")?;
+    let journal = with_word(alloc, run, "journal")?;
+    with_word(alloc, journal, "audit")
+}
+
 fn command<'a>(alloc: Global) -> Result<Command<'a>, AllocError>
     ensures { IfOk result (λ command. app_of command ≡ scatter_app) }
 {
-    let run = Command::new(alloc, "run");
     let make = make_command(alloc)?;
-    let scatter = Command::new(alloc, "scatter").no_binary_name(true);
-    scatter.subcommand(run)?.subcommand(make)
+    words_command(alloc)?.subcommand(make)
 }
 
 fn make_of(count: &str, seed: &str) -> Option<Asked>
@@ -110,6 +145,12 @@ fn asked_as(count: usize, name: &str, matches: &ArgMatches) -> Option<Asked>
     if count == 1 && is_text(name.as_bytes(), b"run") {
         return Some(Asked::Run);
     }
+    if count == 1 && is_text(name.as_bytes(), b"journal") {
+        return Some(Asked::Journal);
+    }
+    if count == 1 && is_text(name.as_bytes(), b"audit") {
+        return Some(Asked::Audit);
+    }
     if count == 3 && is_text(name.as_bytes(), b"make") {
         return make_in(matches);
     }
@@ -146,16 +187,22 @@ fn parsed(alloc: Global, words: &[String]) -> Result<Option<Asked>, OutOfMemory>
     }
 }
 
-/// What the words behind a program's name ask for: `run`, or `make N S` with N from 1 to 1,000 and
-/// S from 0 to 2^64 - 1. None where they are none of these.
+/// What the words behind a program's name ask for: `run`, `journal`, `audit`, or `make N S` with N
+/// from 1 to 1,000 and S from 0 to 2^64 - 1. None where they are none of these.
 ///
-/// Words of which the first is neither `run` nor `make`, or of which one begins with a dash, are
-/// refused as they are; all others are parsed by clap.
+/// Words of which the first is none of the four, or of which one begins with a dash, are refused
+/// as they are; all others are parsed by clap.
 pub fn asked_by(alloc: Global, words: &[String]) -> Result<Option<Asked>, OutOfMemory>
     ensures asked { IfOk result (λ asked. asked ≡ asked_by (map string_bytes words.now)) }
     ensures range { IfOk result (λ asked. IfSome asked IsInRange) }
     ensures run { IfOk result
         (λ asked. asked ≡ Some Run → is_run (map string_bytes words.now) ≡ true) }
+    ensures journal { IfOk result
+        (λ asked. asked ≡ Some Journal → is_journal (map string_bytes words.now) ≡ true) }
+    ensures audit { IfOk result
+        (λ asked. asked ≡ Some Audit → is_audit (map string_bytes words.now) ≡ true) }
+    ensures reads { IfOk result (λ asked. IfSome asked
+        (λ what. is_on_input what ≡ reads_input (map string_bytes words.now))) }
 {
     if !is_plain(words) {
         return Ok(None);

@@ -1,0 +1,7 @@
+//! The texts of a journal's rows: compact JSON with sorted names, written and read again.
+#![tactic(auto)]
+
+mod texts;
+
+pub use sc_json::RowFault;
+pub use texts::{read_row, row_text};

@@ -1,0 +1,67 @@
+//! The text of a row, and the row of a text.
+ghost use Rattle.std.specs.Prelude.{◌≡◌, IfOk, OnOk, Err};
+ghost use Rattle.sc_actor.specs.declared.rows.Row.{Row};
+ghost use Rattle.sc_cmd.specs.declared.orders.OrderLine.{OrderLine};
+ghost use Rattle.sc_mail.specs.declared.bodies.Mail.{Mail};
+ghost use Rattle.serde_json.specs.Read.{read};
+ghost use Rattle.serde_json.specs.View.{view};
+ghost use Rattle.std.specs.Prelude.{Some, None, IsUtf8, MatchResult};
+ghost use Rattle.sc_row_text.specs.RowText.{text_of, IsHeld};
+ghost use Rattle.sc_json.specs.declared.faults.RowFault.TheVariants as why;
+
+use sc_actor::Row;
+use sc_base::OutOfMemory;
+use sc_cmd::OrderLine;
+use sc_json::{RowFault, Stored};
+use sc_mail::Mail;
+use sc_row_text::row_texts_read_back;
+use serde_json::Value as Json;
+use std::alloc::Global;
+
+/// The row's text, with no line feed. Each row has one, and only want of memory is refused.
+#[tactic(auto, unfolding(sc_row_text::specs::RowText::text_of, sc_row_text::specs::RowText::IsHeld))]
+pub fn row_text(alloc: Global, row: &Row<Mail, OrderLine>) -> Result<Vec<u8>, OutOfMemory>
+    ensures text { IfOk result (λ text. text.items ≡ text_of row.now) }
+    ensures held { OnOk result (IsHeld row.now) }
+{
+    row_texts_read_back();
+    let json = row.to_json(alloc)?;
+    Ok(json.to_vec(alloc)?)
+}
+
+// The JSON that a text is.
+fn json_of(alloc: Global, text: &[u8]) -> Result<Json, RowFault>
+    ensures { MatchResult result (λ json. read text.now ≡ Some (view json))
+        (λ fault. fault ≡ RowFault.NoRow → IsUtf8 text.now → read text.now ≡ None) }
+{
+    match Json::from_slice(alloc, text) {
+        Ok(json) => Ok(json),
+        Err(error) => {
+            if error.is_memory() {
+                Err(RowFault::OutOfMemory)
+            } else {
+                Err(RowFault::NoRow)
+            }
+        }
+    }
+}
+
+/// The row with that text. `NoRow` exactly where no row has it; a second spelling of a row's text, as
+/// one with a space, is no row's text.
+pub fn read_row(alloc: Global, text: &[u8]) -> Result<Row<Mail, OrderLine>, RowFault>
+    ensures text { IfOk result (λ row. text_of row ≡ text.now) }
+    ensures held { IfOk result (λ row. IsHeld row) }
+    ensures only { IfOk result (λ row. (other : Row Mail OrderLine) → IsHeld other
+        → text_of other ≡ text.now → other ≡ row) }
+    ensures none { result ≡ Err RowFault.NoRow
+        → (row : Row Mail OrderLine) → IsHeld row → text_of row ≡ text.now → ⊥ }
+{
+    row_texts_read_back();
+    let json = json_of(alloc, text)?;
+    let row = Row::from_json(alloc, &json)?;
+    if row_text(alloc, &row)?.as_slice() == text {
+        Ok(row)
+    } else {
+        Err(RowFault::NoRow)
+    }
+}

@@ -1,0 +1,9 @@
+mod FirstBytes
+mod Fronts
+mod NoDivider
+mod OneFile
+mod Plain
+mod Printed
+mod Rows
+mod Verdicts
+mod WholeLines

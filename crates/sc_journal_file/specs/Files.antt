@@ -1,0 +1,43 @@
+-- A stored journal: a scenario's text, the line `journal`, and a line for each row.
+use Rattle.std.specs.Prelude.{true, ◌≡◌, ℕ, ◌+◌, ◌-◌, ◌==◌, ◌||◌, nat_lt, Bool, get_or, List, [], ◌∷◌, ◌++◌, length, take, drop, map, codes, Option, Some, None, if◌then◌else◌}
+use Rattle.std.specs.List.{concat}
+use Rattle.std.specs.Option.{option_map}
+use Rattle.sc_lines.specs.Lines.{lines_in}
+use Rattle.sc_lines.specs.Words.{same}
+
+-- the line that ends the scenario
+abbrev pub divider : List ℕ
+divider = codes "journal"
+
+-- a line with its line feed
+abbrev pub fed : List ℕ → List ℕ
+fed line = line ++ 10 ∷ []
+
+-- lines with their line feeds
+abbrev pub whole : List (List ℕ) → List ℕ
+whole lines = concat (map fed lines)
+
+-- of lines those before the first that is `journal`, if one is
+abbrev pub lines_before : List (List ℕ) → Option (List (List ℕ))
+lines_before [] = None
+lines_before (line ∷ lines) = if same line divider then Some [] else option_map (λ more. line ∷ more) (lines_before lines)
+
+-- how many bytes and lines stand before a file's first line `journal`, if it has one: lines that a line feed ends
+abbrev pub front_of : List ℕ → Option (ℕ × ℕ)
+front_of file = option_map (λ (lines : List (List ℕ)). (length (whole lines), length lines)) (lines_before (lines_in true file))
+
+-- whether the last line of lines with their line feeds is empty, if there is one
+abbrev pub has_empty_end : List ℕ → Bool
+has_empty_end front = nat_lt (length front) 2 || (get_or front (length front - 2) 0 == 10)
+
+-- the scenario's text: what stands before the line `journal`, without its last line feed where its last line is not empty
+abbrev pub scenario_text : List ℕ → List ℕ
+scenario_text front = if has_empty_end front then front else take (length front - 1) front
+
+-- what stands behind so many bytes and the line `journal`
+abbrev pub rows_text : ℕ → List ℕ → List ℕ
+rows_text bytes file = drop (bytes + length (fed divider)) file
+
+-- this is the text of the scenario of a file, the number of its lines, and what stands behind the line `journal`
+abbrev pub IsCut : List ℕ → List ℕ → ℕ → List ℕ → Type 0
+IsCut file scenario lines rows = (bytes : ℕ) × (front_of file ≡ Some (bytes, lines)) × (scenario ≡ scenario_text (take bytes file)) × (rows ≡ rows_text bytes file)

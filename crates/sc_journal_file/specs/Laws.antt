@@ -1,0 +1,48 @@
+-- Laws of stored journals.
+use Rattle.std.specs.Prelude.{◌≡◌, ◌↔◌, ◌≤◌, ℕ, ◌+◌, List, length, take, map, Ok}
+use Rattle.sc_base.specs.Among.{Each}
+use Rattle.sc_actor.specs.declared.rows.Row.{Row}
+use Rattle.sc_cmd.specs.declared.orders.OrderLine.{OrderLine}
+use Rattle.sc_mail.specs.declared.bodies.Mail.{Mail}
+use Rattle.sc_lines.specs.Lines.{most_bytes}
+use Rattle.sc_row_text.specs.RowText.{text_of, IsHeld}
+use Rattle.sc_scenario.specs.Grammar.{verdict_of}
+use Rattle.sc_scenario.specs.declared.scenarios.Scenario.{Scenario}
+use Rattle.sc_journal_file.specs.Stored.{most_file_bytes, file_text, IsFile, IsBadFile}
+
+-- a file is the file of this scenario and these rows, and of no other
+abbrev pub IsFileOfOne : List ℕ → Scenario → List (Row Mail OrderLine) → Type 0
+IsFileOfOne file scenario rows = (other : Scenario) (others : List (Row Mail OrderLine)) → IsFile file other others → (other ≡ scenario) × (others ≡ rows)
+
+-- the file of a scenario's bytes and rows is the file of the scenario and the rows, if it is within the limit
+abbrev pub PrintedFilesAreFiles : Type 0
+PrintedFilesAreFiles = (bytes : List ℕ) (scenario : Scenario) (rows : List (Row Mail OrderLine)) → verdict_of bytes ≡ Ok scenario → Each IsHeld rows → length (file_text bytes rows) ≤ most_file_bytes
+    → IsFile (file_text bytes rows) scenario rows
+
+-- the bytes that are read of an input: one more than the most that a file may have
+abbrev pub first_bytes : List ℕ → List ℕ
+first_bytes input = take (most_file_bytes + 1) input
+
+-- an input is a file exactly where they are
+abbrev pub FirstBytesDecideFiles : Type 0
+FirstBytesDecideFiles = (input : List ℕ) (scenario : Scenario) (rows : List (Row Mail OrderLine)) → IsFile (first_bytes input) scenario rows ↔ IsFile input scenario rows
+
+-- .. and is bad exactly where they are
+abbrev pub FirstBytesDecideFaults : Type 0
+FirstBytesDecideFaults = (input : List ℕ) (line why : ℕ) → IsBadFile (first_bytes input) line why ↔ IsBadFile input line why
+
+-- no two rows have the same text
+abbrev pub TextsAreApart : Type 0
+TextsAreApart = (row other : Row Mail OrderLine) → IsHeld row → IsHeld other → text_of row ≡ text_of other → row ≡ other
+
+-- a file has one scenario, and rows with these texts alone; it is not bad too; and a bad file has one bad line and one reason
+pub record FilesHaveOneVerdict : Type 0 where
+  pub scenarios : (file : List ℕ) (one other : Scenario) (rows others : List (Row Mail OrderLine)) → IsFile file one rows → IsFile file other others → one ≡ other
+  pub texts : (file : List ℕ) (one other : Scenario) (rows others : List (Row Mail OrderLine)) → IsFile file one rows → IsFile file other others → map text_of rows ≡ map text_of others
+  pub rows : TextsAreApart → (file : List ℕ) (one other : Scenario) (rows others : List (Row Mail OrderLine)) → IsFile file one rows → IsFile file other others → rows ≡ others
+  pub not_both : (file : List ℕ) (scenario : Scenario) (rows : List (Row Mail OrderLine)) (line why : ℕ) → IsFile file scenario rows → IsBadFile file line why → ⊥
+  pub lines : (file : List ℕ) (line line' why why' : ℕ) → IsBadFile file line why → IsBadFile file line' why' → (line ≡ line') × (why ≡ why')
+
+-- a text that is a scenario has no more bytes than a text may have
+abbrev pub ScenariosAreShort : Type 0
+ScenariosAreShort = (text : List ℕ) (scenario : Scenario) → verdict_of text ≡ Ok scenario → length text ≤ most_bytes

@@ -1,0 +1,22 @@
+//! Stored journals as bytes, and their reader.
+//!
+//! A file holds a scenario and the rows of a journal: the scenario's bytes, of which a last line
+//! without a line feed is given one; a line `journal`; and a line for each row, its text. Each line
+//! ends with a line feed. The scenario ends at the first line that is exactly `journal`, which no
+//! scenario has as a line of its own.
+//!
+//! Of a file that is read, the scenario's part is taken without its last line feed where the line
+//! before it is not empty. Lines are counted from 1 over the whole file.
+#![tactic(auto)]
+
+mod cuts;
+mod laws;
+mod lines;
+mod reading;
+
+pub use cuts::{StoredText, cut};
+pub use laws::{
+    files_have_one_verdict, first_file_bytes_decide, printed_files_are_files, scenarios_are_short,
+};
+pub use lines::file_lines;
+pub use reading::{FILE_LIMIT, read_file};

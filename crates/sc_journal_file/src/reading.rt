@@ -1,0 +1,126 @@
+//! The reader of stored journals.
+ghost use Rattle.std.specs.Prelude.{◌≡◌, ◌≤◌, ◌+◌, ◌<◌, ◌^◌, false, length, MatchOption, MatchResult, IfOk};
+ghost use Rattle.sc_actor.specs.Mail.{mails};
+ghost use Rattle.sc_lines.specs.Lines.{lines_in};
+ghost use Rattle.sc_scenario.specs.Valid.{IsValid};
+ghost use Rattle.sc_journal_file.specs.Stored.{BeginsBadly, GoesOn, AreRows, IsRowFault, IsFile, IsFileFault};
+ghost use Rattle.sc_journal_file.specs.Laws.{IsFileOfOne};
+
+use crate::cuts::{cut, feed_at};
+use sc_actor::{Journal, Row};
+use sc_base::{OutOfMemory, Sequence};
+use sc_cmd::OrderLine;
+use sc_journal::{RowFault, read_row};
+use sc_lines::next_line;
+use sc_mail::Mail;
+use sc_row_text::row_texts_are_lines;
+use sc_scenario::{Scenario, ScenarioFault, read_scenario};
+use std::alloc::Global;
+
+/// The most bytes that a file has.
+pub const FILE_LIMIT: u64 = 268_435_456;
+
+const MISSING_JOURNAL: u8 = 16;
+
+const BAD_ROW: u8 = 17;
+
+const FILE_TOO_LARGE: u8 = 18;
+
+// How many lines a file has.
+fn line_count(file: &[u8]) -> u32
+    requires { length file.now < 2 ^ 31 }
+    ensures lines { result ≡ length (lines_in false file.now) }
+    ensures within { result ≤ length file.now }
+{
+    let mut rest = file;
+    let mut lines = 0u32;
+    while !rest.is_empty() {
+        let Some((_, behind)) = next_line(false, rest) else {
+            unreachable!();
+        };
+        rest = behind;
+        lines += 1;
+    }
+    lines
+}
+
+// The row whose line begins some bytes, and what stands behind the line. None where no row's line
+// does.
+fn next_row(
+    alloc: Global,
+    bytes: &[u8],
+) -> Result<Option<(Row<Mail, OrderLine>, &[u8])>, OutOfMemory>
+    requires { 0 < length bytes.now }
+    ensures { IfOk result (λ next. MatchOption next (BeginsBadly bytes.now)
+        (λ parts. GoesOn bytes.now parts.0 parts.1.now)) }
+{
+    row_texts_are_lines();
+    let Some(at) = feed_at(bytes) else {
+        return Ok(None);
+    };
+    match read_row(alloc, &bytes[..at]) {
+        Ok(row) => Ok(Some((row, &bytes[at + 1..]))),
+        Err(RowFault::NoRow) => Ok(None),
+        Err(RowFault::OutOfMemory) => Err(OutOfMemory),
+    }
+}
+
+// Row by row, of which the first stands on the line `first`; the first bad line ends it.
+fn read_rows(
+    alloc: Global,
+    bytes: &[u8],
+    first: u32,
+) -> Result<Journal<Mail, OrderLine>, ScenarioFault>
+    requires { first + length bytes.now < 2 ^ 31 }
+    ensures { MatchResult result (λ rows. AreRows bytes.now rows)
+        (λ fault. IsRowFault bytes.now first fault) }
+{
+    let mut rows = Sequence::new(alloc);
+    let mut rest = bytes;
+    let mut line = first;
+    while !rest.is_empty() {
+        let Some((row, more)) = next_row(alloc, rest)? else {
+            return Err(ScenarioFault::Bad { line, why: BAD_ROW });
+        };
+        rows.push(row)?;
+        rest = more;
+        line += 1;
+    }
+    Ok(rows)
+}
+
+/// The scenario and the rows that a file is. `Bad` exactly where it is none: the bad line, and the
+/// number of the reason.
+///
+/// The first of these causes counts. The file has more than `FILE_LIMIT` bytes: line 0, reason 18.
+/// None of the lines that a line feed ends is `journal`: the line after the last, reason 16. The
+/// part before `journal` is no scenario: the line and the reason of `read_scenario`. A line behind
+/// `journal` has no line feed, or is no row's text: the first such line, reason 17.
+pub fn read_file(
+    alloc: Global,
+    file: &[u8],
+) -> Result<(Scenario, Journal<Mail, OrderLine>), ScenarioFault>
+    ensures file { MatchResult result (λ read. IsFile file.now read.0 read.1)
+        (λ fault. IsFileFault file.now fault) }
+    ensures one { IfOk result (λ read. IsFileOfOne file.now read.0 read.1) }
+    ensures valid { IfOk result (λ read. IsValid read.0) }
+    ensures few_rows { IfOk result (λ read. length read.1 < 2 ^ 31) }
+    ensures few_mails { IfOk result (λ read. length (mails read.1) < 2 ^ 31) }
+{
+    row_texts_are_lines();
+    if file.len() as u64 > FILE_LIMIT {
+        return Err(ScenarioFault::Bad {
+            line: 0,
+            why: FILE_TOO_LARGE,
+        });
+    }
+    let Some(parts) = cut(file) else {
+        return Err(ScenarioFault::Bad {
+            line: line_count(file) + 1,
+            why: MISSING_JOURNAL,
+        });
+    };
+    let scenario = read_scenario(alloc, parts.scenario)?;
+    let rows = read_rows(alloc, parts.rows, parts.lines + 2)?;
+    Ok((scenario, rows))
+}

@@ -1,0 +1,8 @@
+pub mod Apart
+pub mod Arrays
+pub mod Digits
+pub mod Finding
+pub mod Members
+pub mod Nodes
+pub mod Risen
+pub mod TextSteps

@@ -1,0 +1,194 @@
+//! Groups.
+ghost use Rattle.std.specs.Prelude.{◌≡◌, codes};
+ghost use Rattle.serde_json.specs.View.{view};
+ghost use Rattle.sc_cmd.specs.declared.cores.Lock.{Lock};
+ghost use Rattle.sc_row_text.specs.Shapes.{variant as variant_json};
+ghost use Rattle.sc_json.specs.Reading.{Finds};
+ghost use Rattle.sc_row_text.specs.Cores.{lock_json, FitsLock};
+ghost use Rattle.sc_row_text.specs.Cores.{core_json, FitsCore};
+ghost use Rattle.sc_row_text.specs.Cores.{base_json, FitsBase};
+
+use crate::faults::RowFault;
+use crate::reading::{four_of, pair_of, parts_of, six_of, triple_of};
+use crate::stored::Stored;
+use crate::writing::{add_six, three, unit, variant_four, variant_two};
+use sc_base::OutOfMemory;
+use sc_cmd::{Base, Core, Lock};
+use serde_json::{Map, Value as Json};
+use std::alloc::Global;
+
+fn lock_coordinating(alloc: Global, content: &Json) -> Result<Lock, RowFault>
+    ensures { (tx : _) (body : _) (order : _) (heard : _) → FitsLock (Lock.Coordinating tx body order heard)
+        → variant_json (codes "Coordinating") (view content.now) ≡ lock_json (Lock.Coordinating tx body order heard)
+        → Finds (Lock.Coordinating tx body order heard) result }
+{
+    let (body, heard, order, tx) = four_of(alloc, content, "body", "heard", "order", "tx")?;
+    Ok(Lock::Coordinating {
+        tx,
+        body,
+        order,
+        heard,
+    })
+}
+
+fn lock_promised(alloc: Global, content: &Json) -> Result<Lock, RowFault>
+    ensures { (tx : _) (offer : _) → FitsLock (Lock.Promised tx offer)
+        → variant_json (codes "Promised") (view content.now) ≡ lock_json (Lock.Promised tx offer)
+        → Finds (Lock.Promised tx offer) result }
+{
+    let (offer, tx) = pair_of(alloc, content, "offer", "tx")?;
+    Ok(Lock::Promised { tx, offer })
+}
+
+fn lock_watching(alloc: Global, content: &Json) -> Result<Lock, RowFault>
+    ensures { (tx : _) (watch : _) → FitsLock (Lock.Watching tx watch)
+        → variant_json (codes "Watching") (view content.now) ≡ lock_json (Lock.Watching tx watch)
+        → Finds (Lock.Watching tx watch) result }
+{
+    let (tx, watch) = pair_of(alloc, content, "tx", "watch")?;
+    Ok(Lock::Watching { tx, watch })
+}
+
+impl Stored for Lock {
+    ghost json_of = { lock_json };
+
+    ghost Fits = { FitsLock };
+
+    #[tactic(auto, unfolding(sc_row_text::specs::Cores::lock_json, sc_row_text::specs::Cores::FitsLock))]
+    fn to_json(&self, alloc: Global) -> Result<Json, OutOfMemory> {
+        match self {
+            Lock::Free => unit(alloc, "Free"),
+            Lock::Coordinating {
+                tx,
+                body,
+                order,
+                heard,
+            } => variant_four(
+                alloc,
+                "Coordinating",
+                "body",
+                body,
+                "heard",
+                heard,
+                "order",
+                order,
+                "tx",
+                tx,
+            ),
+            Lock::Promised { tx, offer } => variant_two(
+                alloc, "Promised", "offer", offer, "tx", tx,
+            ),
+            Lock::Watching { tx, watch } => variant_two(
+                alloc, "Watching", "tx", tx, "watch", watch,
+            ),
+        }
+    }
+
+    fn from_json(alloc: Global, json: &Json) -> Result<Lock, RowFault> {
+        let Some((name, content)) = parts_of(json) else {
+            return Err(RowFault::NoRow);
+        };
+        match name {
+            "Free" => Ok(Lock::Free),
+            "Coordinating" => lock_coordinating(alloc, content),
+            "Promised" => lock_promised(alloc, content),
+            "Watching" => lock_watching(alloc, content),
+            _ => Err(RowFault::NoRow),
+        }
+    }
+}
+
+impl Stored for Core {
+    ghost json_of = { core_json };
+
+    ghost Fits = { FitsCore };
+
+    #[tactic(auto, unfolding(sc_row_text::specs::Cores::core_json, sc_row_text::specs::Cores::FitsCore))]
+    fn to_json(&self, alloc: Global) -> Result<Json, OutOfMemory> {
+        let mut members = Map::new(alloc);
+        add_six(
+            &mut members,
+            alloc,
+            "arc",
+            &self.arc,
+            "begun",
+            &self.begun,
+            "born",
+            &self.born,
+            "decided",
+            &self.decided,
+            "first",
+            &self.first,
+            "gone",
+            &self.gone,
+        )?;
+        add_six(
+            &mut members,
+            alloc,
+            "id",
+            &self.id,
+            "lock",
+            &self.lock,
+            "members",
+            &self.members,
+            "pred",
+            &self.pred,
+            "succ",
+            &self.succ,
+            "voted",
+            &self.voted,
+        )?;
+        Ok(Json::Object(members))
+    }
+
+    fn from_json(alloc: Global, json: &Json) -> Result<Core, RowFault> {
+        let (arc, begun, born, decided, first, gone) = six_of(
+            alloc, json, "arc", "begun", "born", "decided", "first", "gone",
+        )?;
+        let (id, lock, members, pred, succ, voted) = six_of(
+            alloc, json, "id", "lock", "members", "pred", "succ", "voted",
+        )?;
+        Ok(Core {
+            id,
+            first,
+            arc,
+            members,
+            succ,
+            pred,
+            lock,
+            begun,
+            decided,
+            voted,
+            born,
+            gone,
+        })
+    }
+}
+
+impl Stored for Base {
+    ghost json_of = { base_json };
+
+    ghost Fits = { FitsBase };
+
+    #[tactic(auto, unfolding(sc_row_text::specs::Cores::base_json, sc_row_text::specs::Cores::FitsBase))]
+    fn to_json(&self, alloc: Global) -> Result<Json, OutOfMemory> {
+        three(
+            alloc,
+            "clients",
+            &self.clients,
+            "core",
+            &self.core,
+            "pairs",
+            &self.pairs,
+        )
+    }
+
+    fn from_json(alloc: Global, json: &Json) -> Result<Base, RowFault> {
+        let (clients, core, pairs) = triple_of(alloc, json, "clients", "core", "pairs")?;
+        Ok(Base {
+            core,
+            pairs,
+            clients,
+        })
+    }
+}

@@ -1,0 +1,132 @@
+//! Lists, pairs, what may be absent, and values in blocks of their own.
+ghost use Rattle.std.specs.Prelude.{◌≡◌, List, OnOk, IfOk};
+ghost use Rattle.serde_json.specs.View.{view, items_view};
+ghost use Rattle.sc_base.specs.Among.{Each};
+ghost use Rattle.sc_row_text.specs.Held.{OptionFits, PairFits};
+ghost use Rattle.sc_row_text.specs.Shapes.{items_json, list_json, option_json, pair_json};
+ghost use Rattle.sc_json.specs.Reading.{Shows};
+
+use crate::faults::RowFault;
+use crate::reading::pair_of;
+use crate::stored::{Present, Stored};
+use crate::writing::pair;
+use sc_base::{Boxed, OutOfMemory, Sequence};
+use serde_json::Value as Json;
+use std::alloc::Global;
+
+/// An array of the items.
+pub(crate) fn array_of<T: Stored>(alloc: Global, items: &[T]) -> Result<Json, OutOfMemory>
+    ensures json { IfOk result (λ json. view json ≡ list_json T.json_of items.now) }
+    ensures fits { OnOk result (Each T.Fits items.now) }
+{
+    let mut list = Vec::new(alloc);
+    for item in items {
+        let json = item.to_json(alloc)?;
+        list.push(json)?;
+    }
+    Ok(Json::Array(list))
+}
+
+/// The values that have these JSONs.
+fn values_of<T: Stored + Drop>(alloc: Global, list: &[Json]) -> Result<Vec<T>, RowFault>
+    ensures { (values : List T) → Each T.Fits values
+        → items_view list.now ≡ items_json T.json_of values
+        → Shows (λ found. found.items) values result }
+{
+    let mut values = Vec::new(alloc);
+    for json in list {
+        let value = T::from_json(alloc, json)?;
+        values.push(value)?;
+    }
+    Ok(values)
+}
+
+/// The values of which this is an array.
+pub(crate) fn items_of<T: Stored + Drop>(alloc: Global, json: &Json) -> Result<Vec<T>, RowFault>
+    ensures { (values : List T) → Each T.Fits values
+        → view json.now ≡ list_json T.json_of values
+        → Shows (λ found. found.items) values result }
+{
+    match json.as_array() {
+        Some(list) => values_of(alloc, list.as_slice()),
+        None => Err(RowFault::NoRow),
+    }
+}
+
+impl<T: Stored + Drop> Stored for Sequence<T> {
+    ghost json_of = { list_json T.json_of };
+
+    ghost Fits = { Each T.Fits };
+
+    fn to_json(&self, alloc: Global) -> Result<Json, OutOfMemory> {
+        array_of(alloc, self.as_slice())
+    }
+
+    fn from_json(alloc: Global, json: &Json) -> Result<Sequence<T>, RowFault> {
+        let items = items_of(alloc, json)?;
+        Ok(Sequence::from_vec(items))
+    }
+}
+
+impl<T: Stored + Drop> Present for Sequence<T> {
+    ghost is_there = { λ list fits none. Prim.cc };
+}
+
+impl<A: Stored + Drop, B: Stored + Drop> Stored for (A, B) {
+    ghost json_of = { pair_json A.json_of B.json_of };
+
+    ghost Fits = { PairFits A.Fits B.Fits };
+
+    fn to_json(&self, alloc: Global) -> Result<Json, OutOfMemory> {
+        pair(alloc, &self.0, &self.1)
+    }
+
+    fn from_json(alloc: Global, json: &Json) -> Result<(A, B), RowFault> {
+        pair_of(alloc, json, 0usize, 1usize)
+    }
+}
+
+impl<A: Stored + Drop, B: Stored + Drop> Present for (A, B) {
+    ghost is_there = { λ pair fits none. Prim.cc };
+}
+
+impl<T: Stored + Drop> Stored for Boxed<T> {
+    ghost json_of = { T.json_of };
+
+    ghost Fits = { T.Fits };
+
+    fn to_json(&self, alloc: Global) -> Result<Json, OutOfMemory> {
+        self.get().to_json(alloc)
+    }
+
+    fn from_json(alloc: Global, json: &Json) -> Result<Boxed<T>, RowFault> {
+        let value = T::from_json(alloc, json)?;
+        Ok(Boxed::new(alloc, value)?)
+    }
+}
+
+impl<T: Present + Drop> Present for Boxed<T> {
+    ghost is_there = { T.is_there };
+}
+
+impl<T: Present> Stored for Option<T> {
+    ghost json_of = { option_json T.Stored.json_of };
+
+    ghost Fits = { OptionFits T.Stored.Fits };
+
+    fn to_json(&self, alloc: Global) -> Result<Json, OutOfMemory> {
+        match self {
+            Some(value) => value.to_json(alloc),
+            None => Ok(Json::Null),
+        }
+    }
+
+    fn from_json(alloc: Global, json: &Json) -> Result<Option<T>, RowFault> {
+        if json.is_null() {
+            Ok(None)
+        } else {
+            let value = T::from_json(alloc, json)?;
+            Ok(Some(value))
+        }
+    }
+}

@@ -1,0 +1,15 @@
+pub mod ShapesPlain
+pub mod NamesPlain
+pub mod OpsPlain
+pub mod SetsPlain
+pub mod LinksPlain
+pub mod BodiesPlain
+pub mod VotesPlain
+pub mod OutcomesPlain
+pub mod CoresPlain
+pub mod CommandsPlain
+pub mod OrdersPlain
+pub mod AnswersPlain
+pub mod MailsPlain
+pub mod RowsPlain
+pub mod Texts

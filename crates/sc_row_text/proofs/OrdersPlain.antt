@@ -1,0 +1,47 @@
+-- Orders and what is told of them are plain JSON.
+use Rattle.std.proofs.Common.{◌≡◌, ℕ, suc, refl}
+use Rattle.sc_cmd.specs.declared.orders.Order.{Order}
+use Rattle.sc_cmd.specs.declared.orders.Order.TheVariants as TheOrder
+use Rattle.sc_cmd.specs.declared.orders.OrderLine.{OrderLine}
+use Rattle.sc_cmd.specs.declared.orders.OrderRefusal.{OrderRefusal}
+use Rattle.sc_cmd.specs.declared.orders.OrderRefusal.TheVariants as TheOrderRefusal
+use Rattle.sc_cmd.specs.declared.orders.ToldResult.{ToldResult}
+use Rattle.sc_cmd.specs.declared.orders.ToldResult.TheVariants as TheToldResult
+use Rattle.sc_plain_json.specs.Plain.{IsPlain}
+use Rattle.sc_row_text.specs.Shapes.{number_json}
+use Rattle.sc_row_text.specs.Held.{FitsU16}
+use Rattle.sc_row_text.specs.Orders.{order_json, FitsOrder, order_line_json, FitsOrderLine, order_refusal_json, FitsOrderRefusal, told_result_json, FitsToldResult}
+use Rattle.sc_row_text.proofs.NamesPlain.{draw_plain}
+use Rattle.sc_row_text.proofs.ShapesPlain.{option_plain, u16_plain, u32_plain, u8_plain}
+
+pub order_plain : (room : ℕ) (order : Order) → FitsOrder order → IsPlain (suc (suc room)) (order_json order)
+unfolding order_json FitsOrder
+order_plain room (TheOrder.Join node group) fits = (refl, (refl, (draw_plain room group fits.0), refl, (refl, (u16_plain node fits.1), tt, tt)), tt, tt)
+order_plain room (TheOrder.Leave node group) fits = (refl, (refl, (draw_plain room group fits.0), refl, (refl, (u16_plain node fits.1), tt, tt)), tt, tt)
+order_plain room (TheOrder.Split group at) fits = (refl, (refl, (u32_plain at fits.0), refl, (refl, (draw_plain room group fits.1), tt, tt)), tt, tt)
+order_plain room (TheOrder.Merge group) fits = (refl, (refl, (draw_plain room group fits), tt, tt), tt, tt)
+order_plain room (TheOrder.Repart group at) fits = (refl, (refl, (u32_plain at fits.0), refl, (refl, (draw_plain room group fits.1), tt, tt)), tt, tt)
+order_plain room (TheOrder.Migrate group node) fits = (refl, (refl, (draw_plain room group fits.0), refl, (refl, (u16_plain node fits.1), tt, tt)), tt, tt)
+
+pub order_line_plain : (room : ℕ) (line : OrderLine) → FitsOrderLine line → IsPlain (suc (suc (suc room))) (order_line_json line)
+unfolding order_line_json FitsOrderLine
+order_line_plain room line fits = (refl, (u32_plain line.number fits.0), refl, (refl, (order_plain room line.order fits.1), tt, tt))
+
+pub order_refusal_plain : (room : ℕ) (order_refusal : OrderRefusal) → FitsOrderRefusal order_refusal → IsPlain (suc (suc room)) (order_refusal_json order_refusal)
+unfolding order_refusal_json FitsOrderRefusal
+order_refusal_plain room (TheOrderRefusal.NotLeader hint) fits = (refl, (refl, (option_plain room number_json FitsU16 (λ y0 g0. (u16_plain y0 g0)) hint fits), tt, tt), tt, tt)
+order_refusal_plain room (TheOrderRefusal.InTransaction tx) fits = (refl, (refl, (draw_plain room tx fits), tt, tt), tt, tt)
+order_refusal_plain room TheOrderRefusal.NoNeighbour fits = refl
+order_refusal_plain room TheOrderRefusal.BadBoundary fits = refl
+order_refusal_plain room (TheOrderRefusal.TooManyMembers n) fits = (refl, (refl, (u8_plain n fits), tt, tt), tt, tt)
+order_refusal_plain room TheOrderRefusal.NotMember fits = refl
+order_refusal_plain room TheOrderRefusal.LastMember fits = refl
+order_refusal_plain room TheOrderRefusal.TxLimit fits = refl
+order_refusal_plain room TheOrderRefusal.IsMember fits = refl
+
+pub told_result_plain : (room : ℕ) (told_result : ToldResult) → FitsToldResult told_result → IsPlain (suc (suc (suc room))) (told_result_json told_result)
+unfolding told_result_json FitsToldResult
+told_result_plain room TheToldResult.Done fits = refl
+told_result_plain room TheToldResult.Committed fits = refl
+told_result_plain room TheToldResult.Aborted fits = refl
+told_result_plain room (TheToldResult.Refused content) fits = (refl, (order_refusal_plain room content fits), tt, tt)

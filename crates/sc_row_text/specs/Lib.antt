@@ -1,0 +1,16 @@
+pub mod Shapes
+pub mod Held
+pub mod Names
+pub mod Ops
+pub mod Sets
+pub mod Links
+pub mod Bodies
+pub mod Votes
+pub mod Outcomes
+pub mod Cores
+pub mod Commands
+pub mod Orders
+pub mod Answers
+pub mod Mails
+pub mod Rows
+pub mod RowText

@@ -1,0 +1,45 @@
+-- Rows and their events as JSON.
+use Rattle.std.specs.Prelude.{[], ◌∷◌, codes, ⊤}
+use Rattle.serde_json.specs.Data.{Data, string}
+use Rattle.sc_base.specs.Among.{Each}
+use Rattle.sc_actor.specs.declared.rows.Event.{Event}
+use Rattle.sc_actor.specs.declared.rows.Event.TheVariants as TheEvent
+use Rattle.sc_actor.specs.declared.rows.Row.{Row}
+use Rattle.sc_mail.specs.declared.bodies.Mail.{Mail}
+use Rattle.sc_cmd.specs.declared.orders.OrderLine.{OrderLine}
+use Rattle.sc_row_text.specs.Shapes.{number_json, list_json, fields, variant}
+use Rattle.sc_row_text.specs.Held.{FitsU32}
+use Rattle.sc_row_text.specs.Orders.{order_line_json, FitsOrderLine}
+use Rattle.sc_row_text.specs.Mails.{mail_json, FitsMail}
+
+-- an event
+unfoldable pub event_json : Event OrderLine → Data
+event_json (TheEvent.Deliver content) = variant (codes "Deliver") (number_json content)
+event_json TheEvent.Tick = string (codes "Tick")
+event_json TheEvent.Go = string (codes "Go")
+event_json (TheEvent.Told content) = variant (codes "Told") (order_line_json content)
+event_json TheEvent.Crash = string (codes "Crash")
+event_json (TheEvent.Drop content) = variant (codes "Drop") (number_json content)
+event_json (TheEvent.Again content) = variant (codes "Again") (number_json content)
+
+-- each part of it is as it is to be
+unfoldable pub FitsEvent : Event OrderLine → Type 0
+FitsEvent (TheEvent.Deliver content) = FitsU32 content
+FitsEvent TheEvent.Tick = ⊤
+FitsEvent TheEvent.Go = ⊤
+FitsEvent (TheEvent.Told content) = FitsOrderLine content
+FitsEvent TheEvent.Crash = ⊤
+FitsEvent (TheEvent.Drop content) = FitsU32 content
+FitsEvent (TheEvent.Again content) = FitsU32 content
+
+-- a row
+unfoldable pub row_json : Row Mail OrderLine → Data
+row_json row = fields
+    ((codes "event", event_json row.event)
+    ∷ (codes "sent", list_json mail_json row.sent)
+    ∷ (codes "who", number_json row.who)
+    ∷ [])
+
+-- each part of it is as it is to be
+unfoldable pub FitsRow : Row Mail OrderLine → Type 0
+FitsRow row = FitsEvent row.event × Each FitsMail row.sent × FitsU32 row.who

@@ -1,0 +1,77 @@
+-- Votes as JSON.
+use Rattle.std.specs.Prelude.{[], ◌∷◌, codes, ⊤}
+use Rattle.serde_json.specs.Data.{Data, string}
+use Rattle.sc_cmd.specs.declared.votes.No.{No}
+use Rattle.sc_cmd.specs.declared.votes.No.TheVariants as TheNo
+use Rattle.sc_cmd.specs.declared.votes.Frozen.{Frozen}
+use Rattle.sc_cmd.specs.declared.votes.Heard.{Heard}
+use Rattle.sc_cmd.specs.declared.votes.Vote.{Vote}
+use Rattle.sc_cmd.specs.declared.votes.Vote.TheVariants as TheVote
+use Rattle.sc_cmd.specs.declared.votes.Past.{Past}
+use Rattle.sc_cmd.specs.declared.votes.Past.TheVariants as ThePast
+use Rattle.sc_row_text.specs.Shapes.{number_json, fields, variant}
+use Rattle.sc_row_text.specs.Held.{FitsU8, FitsU16, FitsArc, FitsMembers}
+use Rattle.sc_row_text.specs.Links.{link_json, FitsLink}
+use Rattle.sc_row_text.specs.Names.{draw_json, FitsDraw}
+use Rattle.sc_row_text.specs.Sets.{arc_json, nodes_json, pairs_json, FitsPairs, clients_json, FitsClients}
+
+-- a No
+unfoldable pub no_json : No → Data
+no_json (TheNo.Busy tx) = variant (codes "Busy") (fields ((codes "tx", draw_json tx) ∷ []))
+no_json TheNo.Gone = string (codes "Gone")
+no_json TheNo.Apart = string (codes "Apart")
+no_json (TheNo.TooMany n) = variant (codes "TooMany") (fields ((codes "n", number_json n) ∷ []))
+
+-- each part of it is as it is to be
+unfoldable pub FitsNo : No → Type 0
+FitsNo (TheNo.Busy tx) = FitsDraw tx
+FitsNo TheNo.Gone = ⊤
+FitsNo TheNo.Apart = ⊤
+FitsNo (TheNo.TooMany n) = FitsU8 n
+
+-- a frozen record
+unfoldable pub frozen_json : Frozen → Data
+frozen_json frozen = fields
+    ((codes "arc", arc_json frozen.arc)
+    ∷ (codes "clients", clients_json frozen.clients)
+    ∷ (codes "members", nodes_json frozen.members)
+    ∷ (codes "pairs", pairs_json frozen.pairs)
+    ∷ (codes "succ", link_json frozen.succ)
+    ∷ [])
+
+-- each part of it is as it is to be
+unfoldable pub FitsFrozen : Frozen → Type 0
+FitsFrozen frozen = FitsArc frozen.arc × FitsClients frozen.clients × FitsMembers frozen.members × FitsPairs frozen.pairs × FitsLink frozen.succ
+
+-- what was heard
+unfoldable pub heard_json : Heard → Data
+heard_json heard = fields
+    ((codes "by", number_json heard.by)
+    ∷ (codes "frozen", frozen_json heard.frozen)
+    ∷ [])
+
+-- each part of it is as it is to be
+unfoldable pub FitsHeard : Heard → Type 0
+FitsHeard heard = FitsU16 heard.by × FitsFrozen heard.frozen
+
+-- a vote
+unfoldable pub vote_json : Vote → Data
+vote_json (TheVote.Yes content) = variant (codes "Yes") (frozen_json content)
+vote_json (TheVote.No content) = variant (codes "No") (no_json content)
+
+-- each part of it is as it is to be
+unfoldable pub FitsVote : Vote → Type 0
+FitsVote (TheVote.Yes content) = FitsFrozen content
+FitsVote (TheVote.No content) = FitsNo content
+
+-- a past vote
+unfoldable pub past_json : Past → Data
+past_json ThePast.Yes = string (codes "Yes")
+past_json (ThePast.No content) = variant (codes "No") (no_json content)
+past_json ThePast.Ended = string (codes "Ended")
+
+-- each part of it is as it is to be
+unfoldable pub FitsPast : Past → Type 0
+FitsPast ThePast.Yes = ⊤
+FitsPast (ThePast.No content) = FitsNo content
+FitsPast ThePast.Ended = ⊤

@@ -1,0 +1,30 @@
+//! What the rows of a journal look like as JSON: definitions, and what holds of every such text.
+#![tactic(auto)]
+
+ghost use Rattle.std.specs.Prelude.{◌≡◌, ◌≤◌, length, true, false, Some, IsUtf8};
+ghost use Rattle.serde_json.specs.Read.{read};
+ghost use Rattle.serde_json.specs.Written.{has_float};
+ghost use Rattle.sc_actor.specs.declared.rows.Row.{Row};
+ghost use Rattle.sc_cmd.specs.declared.orders.OrderLine.{OrderLine};
+ghost use Rattle.sc_mail.specs.declared.bodies.Mail.{Mail};
+ghost use Rattle.sc_plain_json.specs.Plain.{is_one_line};
+ghost use Rattle.sc_row_text.specs.Rows.{row_json};
+ghost use Rattle.sc_row_text.specs.RowText.{text_of, IsHeld};
+
+/// The text of each row that a value can hold is one line, and has a byte for each mail of the row
+/// at least.
+pub fn row_texts_are_lines()
+    ensures one_line { (row : Row Mail OrderLine) → IsHeld row
+        → is_one_line (text_of row) ≡ true }
+    ensures mails { (row : Row Mail OrderLine) → IsHeld row
+        → length row.sent ≤ length (text_of row) }
+{}
+
+/// The text of each row that a value can hold is UTF-8, and a reader of JSON finds the row's JSON in
+/// it: two rows with one text have one JSON.
+pub fn row_texts_read_back()
+    ensures whole { (row : Row Mail OrderLine) → IsHeld row → has_float (row_json row) ≡ false }
+    ensures back { (row : Row Mail OrderLine) → IsHeld row
+        → read (text_of row) ≡ Some (row_json row) }
+    ensures utf8 { (row : Row Mail OrderLine) → IsHeld row → IsUtf8 (text_of row) }
+{}

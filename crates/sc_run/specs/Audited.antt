@@ -1,0 +1,29 @@
+-- What an audit answers of files that store lawful journals.
+use Rattle.std.specs.Prelude.{◌≡◌, ◌⊎◌, ◌≤◌, ℕ, List, length, Some, Ok}
+use Rattle.std.specs.List.{concat}
+use Rattle.sc_cmd.specs.declared.orders.OrderLine.{OrderLine}
+use Rattle.sc_mail.specs.declared.bodies.Mail.{Mail}
+use Rattle.sc_actor.specs.declared.rows.Row.{Row}
+use Rattle.sc_chance.specs.Words.{two_words}
+use Rattle.sc_scenario.specs.Grammar.{verdict_of}
+use Rattle.sc_scenario.specs.declared.scenarios.Scenario.{Scenario}
+use Rattle.sc_journal_file.specs.Stored.{most_file_bytes, IsFile}
+use Rattle.sc_sound.specs.Players.{Lawful, as_nodes}
+use Rattle.sc_statuses.specs.declared.said.Said.{Said}
+use Rattle.sc_statuses.specs.declared.said.Said.TheVariants as said
+use Rattle.sc_run.specs.declared.done.Text.{Text}
+use Rattle.sc_run.specs.Run.{Audits, ReportsJournal, ShowsFile}
+
+-- an audit says yes, or the source failed
+abbrev pub SaysYes : Said → Type 0
+SaysYes what = (what ≡ said.Lawful) ⊎ (what ≡ said.ReadFault)
+
+-- an audit of a file whose rows are a lawful journal of its scenario says yes
+abbrev pub LawfulFilesAreTold : Type 0
+LawfulFilesAreTold = (file : List ℕ) (scenario : Scenario) (rows : List (Row Mail OrderLine)) → IsFile file scenario rows → Lawful as_nodes two_words scenario rows
+    → (before now : ℕ) (what : Said) (text : Text) → Audits (Some file) before now what text → SaysYes what
+
+-- an audit of what was printed behind a scenario's text, if it is no longer than a file may be, says yes
+abbrev pub PrintedJournalsAreTold : Type 0
+PrintedJournalsAreTold = (bytes : List ℕ) (scenario : Scenario) (rows : List (Row Mail OrderLine)) (printed : Text) → verdict_of bytes ≡ Ok scenario → ReportsJournal (ShowsFile bytes) scenario rows printed → length (concat printed.lines) ≤ most_file_bytes
+    → (before now : ℕ) (what : Said) (text : Text) → Audits (Some (concat printed.lines)) before now what text → SaysYes what

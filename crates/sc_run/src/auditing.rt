@@ -1,0 +1,77 @@
+//! Whether stored rows are a lawful journal.
+ghost use Rattle.std.specs.Prelude.{◌<◌, ◌^◌, length, IfOk, MatchOption};
+ghost use Rattle.sc_actor.specs.Mail.{mails};
+ghost use Rattle.sc_chance.specs.Words.{two_words};
+ghost use Rattle.sc_sound.specs.Players.{Lawful, as_nodes};
+ghost use Rattle.sc_world.specs.Replays.{IsBadRow};
+ghost use Rattle.sc_scenario.specs.Valid.{IsValid};
+ghost use Rattle.sc_sound.specs.Soundness.{IsSoundThroughout};
+ghost use Rattle.sc_run.specs.Audited.{LawfulFilesAreTold, PrintedJournalsAreTold};
+ghost use Rattle.sc_run.specs.Run.{AuditsAs};
+
+use crate::done::Text;
+use crate::telling::{lawful_line, tells_of_rows, unlawful_line};
+use sc_actor::Journal;
+use sc_base::OutOfMemory;
+use sc_cmd::OrderLine;
+use sc_journal_file::{files_have_one_verdict, printed_files_are_files};
+use sc_mail::Mail;
+use sc_world::{ReplayFault, replay_rows};
+use sc_scenario::Scenario;
+use sc_statuses::Said;
+use std::alloc::Global;
+
+// The first row that is not lawful, from 1, if there is one.
+fn bad_row(
+    alloc: Global,
+    scenario: &Scenario,
+    rows: &Journal<Mail, OrderLine>,
+) -> Result<Option<u32>, OutOfMemory>
+    requires valid { IsValid scenario.now }
+    requires few_rows { length rows.now < 2 ^ 31 }
+    requires few_mails { length (mails rows.now) < 2 ^ 31 }
+    ensures { IfOk result (λ bad. MatchOption bad
+        (Lawful as_nodes two_words scenario.now rows.now
+        × IsSoundThroughout as_nodes scenario.now rows.now)
+        (λ at. IsBadRow scenario.now rows.now at)) }
+{
+    match replay_rows(alloc, scenario, rows) {
+        Ok(_world) => Ok(None),
+        Err(ReplayFault::BadRow { at }) => Ok(Some(at)),
+        Err(ReplayFault::OutOfMemory) => Err(OutOfMemory),
+    }
+}
+
+/// Whether rows are a lawful journal of a scenario, and else the first that is not lawful. The
+/// scenario is one that some text is, and rows and their mails are fewer than 2^31 each.
+pub fn audit(
+    alloc: Global,
+    scenario: &Scenario,
+    rows: Journal<Mail, OrderLine>,
+) -> Result<(Said, Text), OutOfMemory>
+    requires valid { IsValid scenario.now }
+    requires few_rows { length rows < 2 ^ 31 }
+    requires few_mails { length (mails rows) < 2 ^ 31 }
+    ensures { IfOk result (λ begun. AuditsAs begun.0 scenario.now rows begun.1) }
+{
+    match bad_row(alloc, scenario, &rows)? {
+        None => {
+            let line = lawful_line(alloc, rows.len() as u64)?;
+            Ok((Said::Lawful, tells_of_rows(alloc, line, rows)?))
+        }
+        Some(at) => {
+            let line = unlawful_line(alloc, at)?;
+            Ok((Said::Unlawful, tells_of_rows(alloc, line, rows)?))
+        }
+    }
+}
+
+/// An audit of a file whose rows are a lawful journal of its scenario says yes, unless the source
+/// fails; so does an audit of what was printed as a stored journal, within the limit of files.
+pub fn lawful_journals_are_told()
+    ensures files { LawfulFilesAreTold }
+    ensures printed { PrintedJournalsAreTold }
+{
+    files_have_one_verdict();
+    printed_files_are_files();
+}
