@@ -7,14 +7,16 @@ use Rattle.std.proofs.lemmas.Option.{same_Some}
 use Rattle.sc_actor.specs.declared.rows.Row.{Row}
 use Rattle.sc_actor.specs.declared.actors.Seat.{Seat}
 use Rattle.sc_actor.specs.declared.schedules.Line.{Line}
-use Rattle.sc_actor.specs.Mail.{mails, copies}
-use Rattle.sc_actor.specs.System.{System, acts, numbers_of, waiting, kth, network}
+use Rattle.std.specs.List.{list_any}
+use Rattle.sc_actor.specs.Mail.{mails, has_crashed}
+use Rattle.sc_actor.specs.System.{System, acts, numbers_of, waiting, kth, network, has_gone}
 use Rattle.sc_actor.specs.Walk.{Task, Once, WalkPlace, Allows, IsLawful, IsNext, is_over, is_quiet, rest_of_task, line_row, first_of}
 use Rattle.sc_actor.proofs.ReplayLemmas.{mails-append}
 use Rattle.sc_actor.proofs.WalkLemmas.{Stands-at, Stands-allows, Stands-ended, Stands-whole, lawful-prefix, lawful-last}
 use Rattle.sc_checker.specs.declared.stages.Stage.{Stage}
 use Rattle.sc_checker.specs.declared.stages.Deed.{Deed}
 use Rattle.sc_checker.specs.Deeds.{is_of_network, is_number, can_act, row_made, line_deed, lowest_deed, chosen_deed}
+use Rattle.sc_checker.specs.Opens.{opens_of}
 use Rattle.sc_checker.specs.Moves.{IsStageAt, Rules, with_births, StageGoes, many}
 use Rattle.sc_checker.specs.Checks.{Follows, IsTaking, DidWithRow, Misses, Ends, Breaks}
 use Rattle.sc_checker.specs.Replays.{HasReplayed}
@@ -207,7 +209,7 @@ module _ {A M O : Type 0} (r : Rules A M O) where
   Breaks-then first second a b rows p q = λ words births lines rest at. q words births lines rest (p words births lines rest at)
 
 -- the stage after one more row
-pub taking_next : {A M O : Type 0} (r : Rules A M O) (old new : Stage A M O) (d : Deed O) (row : Row M O) (rows : List (Row M O)) → IsTaking old rows → length old.rows < length rows → row ≡ get_or rows (length old.rows) row → DidWithRow r old new d row → IsTaking new rows
+pub taking_next : {A M O : Type 0} (r : Rules A M O) (old new : Stage A M O) (d : Deed O) (row : Row M O) (rows : List (Row M O)) → IsTaking r.receiver old rows → length old.rows < length rows → row ≡ get_or rows (length old.rows) row → DidWithRow r old new d row → IsTaking r.receiver new rows
 taking_next r old new d row rows taking lt is took =
     record {
       kept = took.kept;
@@ -217,16 +219,30 @@ taking_next r old new d row rows taking lt is took =
     }
 
 -- two stages that differ in what they count
-pub taking_same : {A M O : Type 0} (old new : Stage A M O) (rows : List (Row M O)) → new.rows ≡ old.rows → new.mails.items ≡ old.mails.items → new.copies.items ≡ old.copies.items → IsTaking old rows → IsTaking new rows
-taking_same old new rows rows_same mails_same copies_same taking =
+pub record SameKept {A M O : Type 0} (old new : Stage A M O) : Type 0 where
+  pub rows : new.rows ≡ old.rows
+  pub seats : new.seats.items ≡ old.seats.items
+  pub mails : new.mails.items ≡ old.mails.items
+  pub pending : new.pending.items ≡ old.pending.items
+  pub gone : new.gone.items ≡ old.gone.items
+  pub crashed : new.crashed.items ≡ old.crashed.items
+
+pub taking_same : {A M O : Type 0} (receiver : M → ℕ) (old new : Stage A M O) (rows : List (Row M O)) → SameKept old new → IsTaking receiver old rows → IsTaking receiver new rows
+taking_same receiver old new rows same taking =
     record {
       kept = record {
-        all_mails = mails_same ∙ taking.kept.all_mails ∙ ap mails (sym rows_same);
-        all_copies = copies_same ∙ taking.kept.all_copies ∙ ap copies (sym rows_same);
-        few_rows = subst (λ xs. length xs < 2 ^ 31) (sym rows_same) taking.kept.few_rows;
-        few_mails = subst (λ xs. length (mails xs) < 2 ^ 31) (sym rows_same) taking.kept.few_mails;
+        all_mails = same.mails ∙ taking.kept.all_mails ∙ ap mails (sym same.rows);
+        all_pending =
+            same.pending
+            ∙ taking.kept.all_pending
+            ∙ ap (λ seats. opens_of receiver (numbers_of seats) old.rows) (sym same.seats)
+            ∙ ap (opens_of receiver (numbers_of new.seats.items)) (sym same.rows);
+        all_gone = λ who. ap (list_any (λ number. eqb number who)) same.gone ∙ taking.kept.all_gone who ∙ ap (λ xs. has_gone xs who) (sym same.rows);
+        all_crashed = λ who. ap (list_any (λ number. eqb number who)) same.crashed ∙ taking.kept.all_crashed who ∙ ap (λ xs. has_crashed xs who) (sym same.rows);
+        few_rows = subst (λ xs. length xs < 2 ^ 31) (sym same.rows) taking.kept.few_rows;
+        few_mails = subst (λ xs. length (mails xs) < 2 ^ 31) (sym same.rows) taking.kept.few_mails;
       };
-      follows = subst (λ xs. Follows xs rows) (sym rows_same) taking.follows;
+      follows = subst (λ xs. Follows xs rows) (sym same.rows) taking.follows;
       few_rows_in_all = taking.few_rows_in_all;
       few_mails_in_all = taking.few_mails_in_all;
     }
@@ -246,10 +262,17 @@ pub next_row : {M O : Type 0} (taken rows : List (Row M O)) (row : Row M O) (at 
 next_row taken rows row at e lt is = record { more = subst (λ n. n < length rows) e lt; is = subst (λ n. row ≡ get_or rows n row) e is }
 
 -- a stage begins with no row taken
-pub taking_begin : {A M O : Type 0} (stage : Stage A M O) (rows : List (Row M O)) → stage.rows ≡ [] → stage.mails.items ≡ [] → stage.copies.items ≡ [] → length rows < 2 ^ 31 → length (mails rows) < 2 ^ 31 → IsTaking stage rows
-taking_begin stage rows none no_mails no_copies few_rows few_mails =
+pub taking_begin : {A M O : Type 0} (receiver : M → ℕ) (stage : Stage A M O) (rows : List (Row M O)) → stage.rows ≡ [] → stage.mails.items ≡ [] → stage.pending.items ≡ [] → stage.gone.items ≡ [] → stage.crashed.items ≡ [] → length rows < 2 ^ 31 → length (mails rows) < 2 ^ 31 → IsTaking receiver stage rows
+taking_begin receiver stage rows none no_mails no_copies no_gone no_crashed few_rows few_mails =
     record {
-      kept = record { all_mails = rw none no_mails; all_copies = rw none no_copies; few_rows = rw none (omega arith); few_mails = rw none (omega arith) };
+      kept = record {
+        all_mails = rw none no_mails;
+        all_pending = rw none no_copies;
+        all_gone = λ who. rw (none, no_gone) refl;
+        all_crashed = λ who. rw (none, no_crashed) refl;
+        few_rows = rw none (omega arith);
+        few_mails = rw none (omega arith);
+      };
       follows = rw none refl;
       few_rows_in_all = few_rows;
       few_mails_in_all = few_mails;

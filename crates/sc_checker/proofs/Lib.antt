@@ -1,3 +1,5 @@
+pub mod Opens
+pub mod Kept
 pub mod Seats
 pub mod DeedLemmas
 pub mod Steps

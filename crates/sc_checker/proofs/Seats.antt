@@ -127,3 +127,9 @@ place_number seats who place seat placed is =
     let found = found_at seats who place placed in
     let same : found.0 ≡ seat = same_Some found.0 seat (sym found.1.at ∙ is) in
     ap (λ s. s.who) (sym same) ∙ found.1.number
+
+-- a seat of the same number in its place changes no number
+pub numbers_of-set : {A : Type 0} (seats : List (Seat A)) (place : ℕ) (old new : Seat A) → slice_get seats place ≡ Some old → new.who ≡ old.who → numbers_of (set seats place new) ≡ numbers_of seats
+numbers_of-set [] place old new at same = refl
+numbers_of-set (s ∷ ss) zero old new at same = let here : s ≡ old = cc in ap (λ n. n ∷ numbers_of ss) (same ∙ ap (λ x. x.who) (sym here))
+numbers_of-set (s ∷ ss) (suc place) old new at same = ap (λ ns. s.who ∷ ns) (numbers_of-set ss place old new at same)

@@ -18,8 +18,8 @@ abbrev pub Follows : {M O : Type 0} → List (Row M O) → List (Row M O) → Ty
 Follows taken rows = rows ≡ taken ++ drop (length taken) rows
 
 -- The stage has taken its journal from the front of the rows, of which there are few enough to be counted.
-pub record IsTaking {A M O : Type 0} (stage : Stage A M O) (rows : List (Row M O)) : Type 0 where
-  pub kept : IsUpToDate stage
+pub record IsTaking {A M O : Type 0} (receiver : M → ℕ) (stage : Stage A M O) (rows : List (Row M O)) : Type 0 where
+  pub kept : IsUpToDate receiver stage
   pub follows : Follows stage.rows rows
   pub few_rows_in_all : length rows < 2 ^ 31
   pub few_mails_in_all : length (mails rows) < 2 ^ 31
@@ -28,7 +28,7 @@ pub record IsTaking {A M O : Type 0} (stage : Stage A M O) (rows : List (Row M O
 pub record DidWithRow {A M O : Type 0} (r : Rules A M O) (old new : Stage A M O) (deed : Deed O) (row : Row M O) : Type 0 where
   pub did : Did r old new deed
   pub same : did.row ≡ row
-  pub kept : IsUpToDate new
+  pub kept : IsUpToDate r.receiver new
 
 -- the row of a deed is another one
 pub record Misses {A M O : Type 0} (r : Rules A M O) (old : Stage A M O) (deed : Deed O) (row : Row M O) : Type 0 where
@@ -51,6 +51,6 @@ Breaks {A} {M} {O} r old before rows =
 
 -- what the answer of a check says
 abbrev pub IsChecked : {A M O : Type 0} → Rules A M O → Stage A M O → List (Task O) → Stage A M O → List (Row M O) → Checked → Type 0
-IsChecked r old before new rows On = StageGoes r old before new [] × IsTaking new rows
-IsChecked r old before new rows Ended = Ends r old before new rows × IsTaking new rows
+IsChecked r old before new rows On = StageGoes r old before new [] × IsTaking r.receiver new rows
+IsChecked r old before new rows Ended = Ends r old before new rows × IsTaking r.receiver new rows
 IsChecked r old before new rows Wrong = Breaks r old before rows

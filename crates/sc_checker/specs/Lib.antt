@@ -1,4 +1,5 @@
 pub mod Deeds
+pub mod Opens
 pub mod Stages
 pub mod Moves
 pub mod Checks

@@ -1,20 +1,24 @@
 -- What a stage keeps of its journal, and what a deed makes of its actors.
 use Rattle.std.specs.Prelude.{◌≡◌, ℕ, suc, ◌^◌, ◌==◌, ◌<◌, List, [], ◌∷◌, true, false, if◌then◌else◌, Option, None, Some, length, slice_get, slice_set}
+use Rattle.std.specs.List.{list_any}
 use Rattle.std.specs.Option.{option_map}
 use Rattle.sc_actor.specs.declared.rows.Row.{Row}
 use Rattle.sc_actor.specs.declared.actors.Seat.{Seat}
 use Rattle.sc_actor.specs.declared.rows.Event.{Event}
-use Rattle.sc_actor.specs.Mail.{mails, copies}
+use Rattle.sc_actor.specs.Mail.{mails, has_crashed}
 use Rattle.sc_actor.specs.Replay.{Table, input_of, acted}
-use Rattle.sc_actor.specs.System.{network}
+use Rattle.sc_actor.specs.System.{network, numbers_of, has_gone}
 use Rattle.sc_checker.specs.declared.stages.Stage.{Stage}
 use Rattle.sc_checker.specs.declared.stages.Deed.{Deed}
 use Rattle.sc_checker.specs.Deeds.{is_of_network}
+use Rattle.sc_checker.specs.Opens.{opens_of}
 
--- The mail and the copies are those of the journal, which is small enough to be counted.
-pub record IsUpToDate {A M O : Type 0} (stage : Stage A M O) : Type 0 where
+-- What is kept beside the journal is what the journal says, and the journal is small enough to be counted.
+pub record IsUpToDate {A M O : Type 0} (receiver : M → ℕ) (stage : Stage A M O) : Type 0 where
   pub all_mails : stage.mails.items ≡ mails stage.rows
-  pub all_copies : stage.copies.items ≡ copies stage.rows
+  pub all_pending : stage.pending.items ≡ opens_of receiver (numbers_of stage.seats.items) stage.rows
+  pub all_gone : (who : ℕ) → list_any (λ number. number == who) stage.gone.items ≡ has_gone stage.rows who
+  pub all_crashed : (who : ℕ) → list_any (λ number. number == who) stage.crashed.items ≡ has_crashed stage.rows who
   pub few_rows : length stage.rows < 2 ^ 31
   pub few_mails : length (mails stage.rows) < 2 ^ 31
 

@@ -30,7 +30,7 @@ fn take_row<A: Actor>(
 where
     A::Mail: Same,
     A::Order: Same,
-    requires kept { IsUpToDate stage.old }
+    requires kept { IsUpToDate A.Mail.receiver stage.old }
     requires can { can_act (numbers_of stage.old.seats.items) deed ≡ true }
     requires rows { length stage.old.rows + 1 < 2 ^ 31 }
     requires mails { length (mails stage.old.rows) + length row.now.sent < 2 ^ 31 }
@@ -57,7 +57,7 @@ fn check_once<A: Actor>(
 where
     A::Mail: Same,
     A::Order: Same,
-    requires taking { IsTaking stage.old rows.now }
+    requires taking { IsTaking A.Mail.receiver stage.old rows.now }
     requires room { stage.old.skipped < 2 ^ 64 - 1 }
     ensures is { IfOk result
         (λ checked.
@@ -83,7 +83,7 @@ where
 
 // The delivery that a line of many may make next: the lowest of all, or the first of one actor.
 fn chosen_deed<A, M: Parcel, O>(stage: &Stage<A, M, O>, free: bool, who: u32) -> Option<Deed<O>>
-    requires { IsUpToDate stage.now }
+    requires { IsUpToDate M.receiver stage.now }
     ensures is { result
         ≡ chosen_deed M.receiver (numbers_of stage.now.seats.items) stage.now.rows free who }
     ensures can { IfSome result (λ deed. can_act (numbers_of stage.now.seats.items) deed ≡ true) }
@@ -106,7 +106,7 @@ fn check_many<A: Actor>(
 where
     A::Mail: Same,
     A::Order: Same,
-    requires taking { IsTaking stage.old rows.now }
+    requires taking { IsTaking A.Mail.receiver stage.old rows.now }
     ensures is { IfOk result
         (λ checked.
         IsChecked (rules_of A.table A.Mail.receiver) stage.old (many free most ∷ []) stage.new
@@ -146,7 +146,7 @@ fn check_step<A: Actor>(
 where
     A::Mail: Same,
     A::Order: Same,
-    requires taking { IsTaking stage.old rows.now }
+    requires taking { IsTaking A.Mail.receiver stage.old rows.now }
     ensures is { IfOk result
         (λ checked.
         IsChecked (rules_of A.table A.Mail.receiver) stage.old (Storms words ∷ []) stage.new
@@ -179,7 +179,7 @@ fn check_storm<A: Actor>(
 where
     A::Mail: Same,
     A::Order: Same,
-    requires taking { IsTaking stage.old rows.now }
+    requires taking { IsTaking A.Mail.receiver stage.old rows.now }
     ensures is { IfOk result
         (λ checked.
         IsChecked (rules_of A.table A.Mail.receiver) stage.old
@@ -209,7 +209,7 @@ pub fn check_line<A: Actor>(
 where
     A::Mail: Same,
     A::Order: Same,
-    requires taking { IsTaking stage.old rows.now }
+    requires taking { IsTaking A.Mail.receiver stage.old rows.now }
     requires room { stage.old.skipped < 2 ^ 64 - 1 }
     ensures is { IfOk result
         (λ checked.

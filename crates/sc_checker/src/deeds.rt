@@ -12,7 +12,7 @@ use std::alloc::Global;
 
 // Whether a mail was sent to an actor that has not crashed.
 fn may_come_again<A, M: Parcel, O>(stage: &Stage<A, M, O>, mail: u32) -> bool
-    requires { IsUpToDate stage.now }
+    requires { IsUpToDate M.receiver stage.now }
     ensures { result
         ≡ may_come_again M.receiver (numbers_of stage.now.seats.items) stage.now.rows mail }
 {
@@ -20,7 +20,7 @@ fn may_come_again<A, M: Parcel, O>(stage: &Stage<A, M, O>, mail: u32) -> bool
         return false;
     }
     let receiver = stage.mails[mail as usize - 1].to();
-    may_get(&stage.seats, stage.rows.as_slice(), receiver)
+    may_get(stage, receiver)
 }
 
 // The deed, if it may come.
@@ -31,10 +31,11 @@ fn when_may<O: Drop>(may: bool, who: u32, event: Event<O>) -> Option<Deed<O>>
 }
 
 fn go<A, M: Parcel, O: Drop>(stage: &Stage<A, M, O>, who: u32) -> Option<Deed<O>>
+    requires { IsUpToDate M.receiver stage.now }
     ensures { result
         ≡ line_deed M.receiver (numbers_of stage.now.seats.items) stage.now.rows (Line.Go who) }
 {
-    let may = is_actor(&stage.seats, who) && !has_gone(stage.rows.as_slice(), who);
+    let may = is_actor(&stage.seats, who) && !has_gone(stage, who);
     when_may(may, who, Event::Go)
 }
 
@@ -44,14 +45,13 @@ pub fn line_deed<A, M: Parcel, O: Dup + Drop>(
     stage: &Stage<A, M, O>,
     line: &Line<O>,
 ) -> Result<Option<Deed<O>>, OutOfMemory>
-    requires { IsUpToDate stage.now }
+    requires { IsUpToDate M.receiver stage.now }
     ensures is { IfOk result
         (λ deed.
         deed ≡ line_deed M.receiver (numbers_of stage.now.seats.items) stage.now.rows line.now) }
     ensures can { IfOk result
         (λ found. IfSome found (λ deed. can_act (numbers_of stage.now.seats.items) deed ≡ true)) }
 {
-    let rows = stage.rows.as_slice();
     Ok(match line {
         Line::Go { who } => go(stage, *who),
         Line::Deliver { who, k } => {
@@ -65,11 +65,11 @@ pub fn line_deed<A, M: Parcel, O: Dup + Drop>(
             event: Event::Drop(mail),
         }),
         Line::Again { mail } => when_may(may_come_again(stage, *mail), 0, Event::Again(*mail)),
-        Line::Tick { who } => when_may(may_get(&stage.seats, rows, *who), *who, Event::Tick),
-        Line::Crash { who } => when_may(may_get(&stage.seats, rows, *who), *who, Event::Crash),
+        Line::Tick { who } => when_may(may_get(stage, *who), *who, Event::Tick),
+        Line::Crash { who } => when_may(may_get(stage, *who), *who, Event::Crash),
         Line::Told { who, order } => {
             let order = order.dup(alloc)?;
-            when_may(may_get(&stage.seats, rows, *who), *who, Event::Told(order))
+            when_may(may_get(stage, *who), *who, Event::Told(order))
         }
         Line::Settle { .. } | Line::Free { .. } | Line::Storm { .. } => None,
     })
@@ -77,7 +77,7 @@ pub fn line_deed<A, M: Parcel, O: Dup + Drop>(
 
 /// The delivery of the lowest-numbered pending mail of all, or none where no mail is pending.
 pub fn lowest_deed<A, M: Parcel, O>(stage: &Stage<A, M, O>) -> Option<Deed<O>>
-    requires { IsUpToDate stage.now }
+    requires { IsUpToDate M.receiver stage.now }
     ensures is { result ≡ lowest_deed M.receiver (numbers_of stage.now.seats.items) stage.now.rows }
     ensures can { IfSome result (λ deed. can_act (numbers_of stage.now.seats.items) deed ≡ true) }
 {
@@ -92,7 +92,7 @@ pub fn lowest_deed<A, M: Parcel, O>(stage: &Stage<A, M, O>) -> Option<Deed<O>>
 
 /// The delivery of the first pending mail of an actor, or none where it has no pending mail.
 pub fn first_deed<A, M: Parcel, O>(stage: &Stage<A, M, O>, who: u32) -> Option<Deed<O>>
-    requires { IsUpToDate stage.now }
+    requires { IsUpToDate M.receiver stage.now }
     ensures is { result
         ≡ line_deed M.receiver (numbers_of stage.now.seats.items) stage.now.rows
         (Line.Deliver who 1) }
@@ -109,7 +109,7 @@ pub fn first_deed<A, M: Parcel, O>(stage: &Stage<A, M, O>, who: u32) -> Option<D
 
 // The mail that a word picks is repeated, if its receiver may get it.
 fn repeated<A, M: Parcel, O: Drop>(stage: &Stage<A, M, O>, word: u32) -> Option<Deed<O>>
-    requires { IsUpToDate stage.now }
+    requires { IsUpToDate M.receiver stage.now }
     ensures { result
         ≡ storm_deed M.receiver (numbers_of stage.now.seats.items) stage.now.rows 1 word }
 {
@@ -122,6 +122,7 @@ fn repeated<A, M: Parcel, O: Drop>(stage: &Stage<A, M, O>, word: u32) -> Option<
 
 // The actor that a word picks ticks, unless it has crashed.
 fn ticked<A, M: Parcel, O: Drop>(stage: &Stage<A, M, O>, word: u32) -> Option<Deed<O>>
+    requires { IsUpToDate M.receiver stage.now }
     ensures { result
         ≡ storm_deed M.receiver (numbers_of stage.now.seats.items) stage.now.rows 2 word }
 {
@@ -129,13 +130,13 @@ fn ticked<A, M: Parcel, O: Drop>(stage: &Stage<A, M, O>, word: u32) -> Option<De
         return None;
     }
     let who = stage.seats[word as usize % stage.seats.len()].who;
-    let may = may_get(&stage.seats, stage.rows.as_slice(), who);
+    let may = may_get(stage, who);
     when_may(may, who, Event::Tick)
 }
 
 // The pending mail that a word picks is delivered, if any is pending.
 fn delivered<A, M: Parcel, O>(stage: &Stage<A, M, O>, word: u32) -> Option<Deed<O>>
-    requires { IsUpToDate stage.now }
+    requires { IsUpToDate M.receiver stage.now }
     ensures { result
         ≡ storm_deed M.receiver (numbers_of stage.now.seats.items) stage.now.rows 3 word }
 {
@@ -155,7 +156,7 @@ pub fn storm_deed<A, M: Parcel, O: Drop>(
     kind: u32,
     word: u32,
 ) -> Option<Deed<O>>
-    requires { IsUpToDate stage.now }
+    requires { IsUpToDate M.receiver stage.now }
     ensures { result
         ≡ storm_deed M.receiver (numbers_of stage.now.seats.items) stage.now.rows kind word }
 {

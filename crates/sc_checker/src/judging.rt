@@ -27,7 +27,7 @@ pub struct Replayed<A> {
 
 // What a stage leaves.
 fn left_by<A: Actor>(stage: Stage<A, A::Mail, A::Order>) -> Replayed<A>
-    requires { IsUpToDate stage }
+    requires { IsUpToDate A.Mail.receiver stage }
     ensures { result
         ≡ record {
           seats = stage.seats;
@@ -71,7 +71,9 @@ where
         seats,
         rows: Journal::new(alloc),
         mails: Vec::new(alloc),
-        copies: Vec::new(alloc),
+        pending: Vec::new(alloc),
+        gone: Vec::new(alloc),
+        crashed: Vec::new(alloc),
         skipped: 0,
         unsettled: false,
     };

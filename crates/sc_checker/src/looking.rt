@@ -1,13 +1,93 @@
 //! Plain functions that look a journal over from its start.
-ghost use Rattle.std.specs.Prelude.{◌≡◌, ◌<◌, ◌^◌, ◌++◌, replicate, length, IfOk, OnOk};
-ghost use Rattle.sc_actor.specs.Mail.{mails, copies, pending};
+ghost use Rattle.std.specs.Prelude.{◌≡◌, ◌<◌, ◌-◌, ◌^◌, ◌++◌, All, replicate, length, IfOk, OnOk, if◌then◌else◌};
+ghost use Rattle.sc_actor.specs.Mail.{mails, copies, counts_at, has_crashed, may_get, is_for, pending};
 ghost use Rattle.sc_actor.specs.System.{numbers_of};
 
-use crate::appending::{add_copies, add_mails, count};
-use crate::pending::open_copies;
-use sc_actor::{Parcel, Row, Seat};
+use crate::appending::add_mails;
+use crate::pending::{is_actor, is_crash};
+use sc_actor::{Event, Parcel, Row, Seat};
 use sc_base::{Dup, OutOfMemory, Sequence};
 use std::alloc::Global;
+
+// A delivery or a drop takes a copy away, and a repeat adds one.
+fn count<O>(copies: &mut Vec<u32>, event: &Event<O>)
+    requires { All (λ count. count < 2 ^ 32 - 1) copies.old.items }
+    ensures { copies.new.items ≡ counts_at copies.old.items event.now }
+{
+    match event {
+        Event::Deliver(mail) | Event::Drop(mail) => {
+            let mail = *mail as usize;
+            if mail != 0 && mail <= copies.len() {
+                copies[mail - 1] = copies[mail - 1].saturating_sub(1);
+            }
+        }
+        Event::Again(mail) => {
+            let mail = *mail as usize;
+            if mail != 0 && mail <= copies.len() {
+                copies[mail - 1] += 1;
+            }
+        }
+        _ => {}
+    }
+}
+
+// One copy each of so many mails that are sent.
+fn add_copies(copies: &mut Vec<u32>, n: usize) -> Result<(), OutOfMemory>
+    ensures { OnOk result (copies.new.items ≡ copies.old.items ++ replicate n 1) }
+{
+    for i in 0..n {
+        let _ = i;
+        copies.push(1)?;
+    }
+    Ok(())
+}
+
+fn has_crashed<M, O>(rows: &[Row<M, O>], who: u32) -> bool
+    ensures { result ≡ has_crashed rows.now who }
+{
+    rows.iter()
+        .any(|row| row.who == who && is_crash(&row.event))
+}
+
+// Whether there is an actor with a number that has not crashed.
+fn may_get<A, M, O>(seats: &[Seat<A>], rows: &[Row<M, O>], who: u32) -> bool
+    ensures { result ≡ may_get (numbers_of seats.now) rows.now who }
+{
+    is_actor(seats, who) && !has_crashed(rows, who)
+}
+
+// Whether mail is for an actor, or for any, that may get it.
+fn is_for<A, M: Parcel, O>(
+    seats: &[Seat<A>],
+    rows: &[Row<M, O>],
+    whose: Option<u32>,
+    mail: &M,
+) -> bool
+    ensures { result ≡ is_for M.receiver (numbers_of seats.now) rows.now whose mail.now }
+{
+    match whose {
+        None => may_get(seats, rows, mail.to()),
+        Some(who) => mail.to() == who && may_get(seats, rows, who),
+    }
+}
+
+// The copies of a mail that count, which is looked up only where there are some.
+fn open_copies<A, M: Parcel, O>(
+    seats: &[Seat<A>],
+    rows: &[Row<M, O>],
+    whose: Option<u32>,
+    mail: &M,
+    count: u32,
+) -> u32
+    ensures { result
+        ≡ (if is_for M.receiver (numbers_of seats.now) rows.now whose mail.now then count else 0) }
+{
+    if count > 0 && is_for(seats, rows, whose, mail) {
+        count
+    } else {
+        0
+    }
+}
 
 // Of each mail, in order of number, how many copies are under way.
 fn copies_of<M, O>(alloc: Global, rows: &[Row<M, O>]) -> Result<Vec<u32>, OutOfMemory>

@@ -1,5 +1,5 @@
 //! What a deed makes of its actor, and its row.
-ghost use Rattle.std.specs.Prelude.{◌≡◌, ◌<◌, length, IfSome, IfOk, true};
+ghost use Rattle.std.specs.Prelude.{◌≡◌, ◌<◌, length, IfSome, IfOk, OnOk, true};
 ghost use Rattle.sc_actor.specs.Replay.{acted, input_of};
 ghost use Rattle.sc_actor.specs.System.{numbers_of};
 ghost use Rattle.sc_checker.specs.Deeds.{is_of_network, can_act};
@@ -82,8 +82,9 @@ pub fn make_row<A: Actor>(
     deed: Deed<A::Order>,
 ) -> Result<Row<A::Mail, A::Order>, OutOfMemory>
     requires { can_act (numbers_of seats.old.items) deed ≡ true }
-    ensures { IfOk result
+    ensures makes { IfOk result
         (λ row. Makes A.table mails.now seats.old.items seats.new.items deed row) }
+    ensures numbers { OnOk result (numbers_of seats.new.items ≡ numbers_of seats.old.items) }
 {
     let Deed { who, event } = deed;
     if is_of_network(&event) {

@@ -8,7 +8,7 @@ use Rattle.sc_checker.proofs.checking.check_storm.Given as goal
 abbrev pub invariant-loop-done : goal.invariant-loop-done
 invariant-loop-done g l = record {
   goes : StageGoes (rules_of g.A.Actor.table g.A.Mail.Parcel.receiver) l.initial.stage (storm_steps (two_words l.number) 0 l.most) l.stage (storm_steps (two_words l.number) l.done (l.most - l.done));
-  taking : IsTaking l.stage l.rows;
+  taking : IsTaking g.A.Mail.Parcel.receiver l.stage l.rows;
   skipped : l.stage.skipped ≡ l.initial.stage.skipped;
   chance : l.chance ≡ record { number = l.number; step = l.done };
 }

@@ -13,7 +13,7 @@ pub loop-line-init : goal.loop-line-init
 loop-line-init g c =
     let r = rules_of g.A.Actor.table g.A.Mail.Parcel.receiver in (
       IsStageAt-begin r two_words c.args.seats.items c.args.lines.now _ c.requires.apart refl c.new.ensures refl refl,
-      taking_begin _ c.args.rows.now c.new.ensures c.new-2.ensures.items c.new-3.ensures.items c.requires.few_rows c.requires.few_mails,
+      taking_begin g.A.Mail.Parcel.receiver _ c.args.rows.now c.new.ensures c.new-2.ensures.items c.new-3.ensures.items c.new-4.ensures.items c.new-5.ensures.items c.requires.few_rows c.requires.few_mails,
       omega arith,
     )
 

@@ -9,5 +9,5 @@ use Rattle.sc_checker.proofs.judging.replay.Given as goal
 abbrev pub invariant-loop-line : goal.invariant-loop-line
 invariant-loop-line g l =
     IsStageAt (with_births (rules_of g.A.Actor.table g.A.Mail.Parcel.receiver) two_words l.fn.seats.items) l.lines l.stage (flat_map (tasks_of two_words) (drop l.line-index l.lines))
-    × IsTaking l.stage l.rows
+    × IsTaking g.A.Mail.Parcel.receiver l.stage l.rows
     × (l.stage.skipped ≤ l.line-index)

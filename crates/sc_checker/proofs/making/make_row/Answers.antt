@@ -1,12 +1,12 @@
-use Rattle.std.proofs.Common.{◌≡◌, true, ◌||◌, Some, sym, ◌∙◌, ap, subst, refl}
+use Rattle.std.proofs.Common.{◌≡◌, ◌<◌, length, true, ◌||◌, Some, sym, ◌∙◌, ap, subst, refl}
 use Rattle.std.specs.Prelude.{slice_get}
 use Rattle.std.proofs.lemmas.Bool.{false≢true}
-use Rattle.std.proofs.lemmas.Option.{get_or_from_slice_get, same_Some}
+use Rattle.std.proofs.lemmas.Option.{get_or_from_slice_get, same_Some, slice_get_read}
 use Rattle.sc_actor.specs.Replay.{acted, input_of}
 use Rattle.sc_actor.specs.System.{numbers_of}
 use Rattle.sc_checker.specs.Deeds.{is_number}
 use Rattle.sc_checker.specs.Stages.{place_of}
-use Rattle.sc_checker.proofs.Seats.{has_place, place_number}
+use Rattle.sc_checker.proofs.Seats.{has_place, numbers_of-set, place_number}
 use Rattle.sc_checker.proofs.making.make_row.Goals as goal
 
 pub unreachable-requires : goal.unreachable-requires
@@ -15,8 +15,8 @@ unreachable-requires g c =
     let there = has_place c.args.seats.now.items c.args.deed.who actor in
     c.in_default.not-Some there.0 (c.place_of.ensures.place ∙ ap (λ xs. place_of xs c.args.deed.who) c.deref.ensures.value ∙ there.1)
 
-pub returns : goal.returns
-returns g c =
+pub returns-clause-makes : goal.returns-clause-makes
+returns-clause-makes g c =
     record {
       by_network = λ own. absurd (false≢true (c.if-is_of_network.ensures ∙ own));
       by_actor = λ own place seat placed is.
@@ -29,3 +29,9 @@ returns g c =
           let sent : (acted g.A.Actor.table seat.actor (input_of c.args.mails.now c.args.deed.event)).1 ≡ c.in_ok-sent.sent = ap (λ p. p.1) did in
           (rw (sent, own_number) refl, rw (actor, number, here) refl);
     }
+
+pub returns-clause-numbers : goal.returns-clause-numbers
+returns-clause-numbers g c =
+    let seats = c.args.seats.now.items in
+    let within : c.in-Some.place < length seats = subst (λ xs. c.in-Some.place < length xs) c.deref.ensures.value c.in-Some.ensures.bound in
+    numbers_of-set seats c.in-Some.place c.index_mut.result.now _ (slice_get_read seats (length seats) c.in-Some.place c.index_mut.result.now refl within c.index_mut.ensures.value) refl
