@@ -17,7 +17,7 @@ use Rattle.sc_actor.proofs.ReplayLemmas.{mails-snoc, copies-snoc}
 use Rattle.sc_checker.specs.declared.stages.OpenCopy.{OpenCopy}
 use Rattle.sc_checker.specs.declared.stages.Stage.{Stage}
 use Rattle.sc_checker.specs.Stages.{IsUpToDate}
-use Rattle.sc_checker.specs.Opens.{copy_of, opens, opens_of, opened, repeated, runs, without, with_copy, without_to}
+use Rattle.sc_checker.specs.Opens.{copy_of, opens, opens_of, opened, repeated, runs, without, with_copy}
 use Rattle.sc_checker.proofs.Opens.{opens-agree, opens-append, opens-crash, opens-for, opens-less, opens-more, opens-numbers, without-fresh}
 
 module _ {M O : Type 0} (receiver : M → ℕ) (actors : List ℕ) (rows : List (Row M O)) where

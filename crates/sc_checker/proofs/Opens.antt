@@ -1,8 +1,8 @@
 -- Pending copies: what they say of pending mail, and what one more row makes of them.
-use Rattle.std.proofs.Common.{◌≡◌, ℕ, zero, suc, ◌+◌, ◌-◌, ◌<◌, ◌≤◌, List, [], ◌∷◌, ◌++◌, length, Bool, true, false, ◌&&◌, not, cond, eqb, take, drop, replicate, filter, map, get_or, set, refl, sym, ◌∙◌, ap, arith, add-one, append_assoc, None, Some}
+use Rattle.std.proofs.Common.{◌≡◌, ℕ, zero, suc, ◌+◌, ◌-◌, ◌<◌, ◌≤◌, List, [], ◌∷◌, ◌++◌, length, Bool, true, false, ◌&&◌, not, cond, eqb, replicate, filter, map, get_or, set, refl, sym, ◌∙◌, ap, arith, append_assoc, Some}
 use Rattle.std.specs.Prelude.{slice_get, nat_lt, insert, remove}
 use Rattle.std.specs.List.{prefix_len}
-use Rattle.std.proofs.lemmas.Bool.{eqb-true, eq-eqb, ne_eqb, eqb-false, lt-ltb, le-ltb, ltb-false, ltb-true, false≢true}
+use Rattle.std.proofs.lemmas.Bool.{eqb-true, eq-eqb, ne_eqb, lt-ltb, le-ltb}
 use Rattle.std.proofs.lemmas.List.{map-append}
 use Rattle.std.proofs.lemmas.List.Elements.{filter-append}
 use Rattle.sc_actor.specs.Mail.{numbers}

@@ -15,12 +15,12 @@ loop-i-preserved g c =
     let next : c.if-runs.pending.items ≡ found ++ cond (test (receiver mail)) (here ∷ []) [] =
     elim c.if-runs.branch [
       | then-runs+in_ok-push w ↦ (
-        let yes : test (receiver mail) ≡ true = ap test (sym c.to-to.ensures) ∙ sym c.runs.ensures ∙ w.if-runs.true in
-        ap (λ v. v.items) w.pending-is ∙ w.in_ok-push.ensures.items ∙ ap (λ to. found ++ copy_of (c.args.first + c.loop-i.i) to ∷ []) c.to-to.ensures ∙ ap (λ b. found ++ cond b (here ∷ []) []) (sym yes)
-      )
+          let yes : test (receiver mail) ≡ true = ap test (sym c.to-to.ensures) ∙ sym c.runs.ensures ∙ w.if-runs.true in
+          ap (λ v. v.items) w.pending-is ∙ w.in_ok-push.ensures.items ∙ ap (λ to. found ++ copy_of (c.args.first + c.loop-i.i) to ∷ []) c.to-to.ensures ∙ ap (λ b. found ++ cond b (here ∷ []) []) (sym yes)
+          )
       | else-runs w ↦ (
-        let no : test (receiver mail) ≡ false = ap test (sym c.to-to.ensures) ∙ sym c.runs.ensures ∙ w.if-runs.false in
-        ap (λ v. v.items) w.pending-is ∙ sym (append-nil found) ∙ ap (λ b. found ++ cond b (here ∷ []) []) (sym no)
-      )
+          let no : test (receiver mail) ≡ false = ap test (sym c.to-to.ensures) ∙ sym c.runs.ensures ∙ w.if-runs.false in
+          ap (λ v. v.items) w.pending-is ∙ sym (append-nil found) ∙ ap (λ b. found ++ cond b (here ∷ []) []) (sym no)
+          )
     ] in
     open_next receiver test found c.if-runs.pending.items _ c.args.first c.loop-i.i c.args.sent.now mail c.loop-i-test.true c.index-sent-i.is next c.loop-i.invariant

@@ -1,4 +1,4 @@
-use Rattle.std.proofs.Common.{◌≡◌, length, map, sym, ◌∙◌, ap}
+use Rattle.std.proofs.Common.{length, map, sym, ◌∙◌, ap}
 use Rattle.std.proofs.Math.ListN.{length-map}
 use Rattle.sc_actor.specs.System.{numbers_of}
 use Rattle.sc_checker.proofs.Kept.{pending-all}

@@ -1,6 +1,5 @@
-use Rattle.std.proofs.Common.{◌≡◌, eqb, filter, map, sym, ◌∙◌, ap, subst, None, Some}
-use Rattle.std.specs.Prelude.{IfSome, IsSomeAnd}
-use Rattle.sc_actor.specs.Mail.{numbered, is_for, pending}
+use Rattle.std.proofs.Common.{eqb, filter, map, sym, ◌∙◌, ap}
+use Rattle.sc_actor.specs.Mail.{pending}
 use Rattle.sc_actor.specs.System.{kth, numbers_of}
 use Rattle.sc_checker.proofs.Kept.{pending-all, pending-for, known-some}
 use Rattle.sc_checker.proofs.pending.waiting.Goals as goal
