@@ -1,5 +1,5 @@
 //! What a journal leaves of its actors, if it is lawful.
-ghost use Rattle.std.specs.Prelude.{◌≡◌, ◌<◌, ◌^◌, ◌↔◌, None, true, length, IfOk, IsTrue, is_none};
+ghost use Rattle.std.specs.Prelude.{◌≡◌, ◌<◌, ◌^◌, ◌↔◌, [], None, true, false, length, IfOk, IsTrue, is_none};
 ghost use Rattle.sc_actor.specs.Mail.{mails, pending};
 ghost use Rattle.sc_actor.specs.System.{are_apart, system, numbers_of, kth};
 ghost use Rattle.sc_actor.specs.Walk.{IsLawful};
@@ -46,8 +46,31 @@ fn left_by<A: Actor>(stage: Stage<A, A::Mail, A::Order>) -> Replayed<A>
     }
 }
 
-/// Replays rows of a schedule of these actors, from their births: slowly, row by row. Nothing is
-/// left where they are not lawful. They may end before the schedule does.
+// Before the first row.
+fn begun<A, M, O>(alloc: Global, seats: Vec<Seat<A>>) -> Stage<A, M, O>
+    ensures seats { result.seats ≡ seats }
+    ensures rows { result.rows ≡ [] }
+    ensures mails { result.mails.items ≡ [] }
+    ensures pending { result.pending.items ≡ [] }
+    ensures gone { result.gone.items ≡ [] }
+    ensures crashed { result.crashed.items ≡ [] }
+    ensures skipped { result.skipped ≡ 0 }
+    ensures unsettled { result.unsettled ≡ false }
+{
+    Stage {
+        seats,
+        rows: Journal::new(alloc),
+        mails: Vec::new(alloc),
+        pending: Vec::new(alloc),
+        gone: Vec::new(alloc),
+        crashed: Vec::new(alloc),
+        skipped: 0,
+        unsettled: false,
+    }
+}
+
+/// Replays rows of a schedule of these actors, from their births, row by row. Nothing is left where
+/// they are not lawful. They may end before the schedule does.
 ///
 /// The actors have different numbers, and there are fewer than 2^31 rows and mails.
 pub fn replay<A: Actor>(
@@ -67,16 +90,7 @@ where
         IsReplayed (system A.table A.Mail.receiver two_words seats.items) lines.now rows.now
         replayed) }
 {
-    let mut stage = Stage {
-        seats,
-        rows: Journal::new(alloc),
-        mails: Vec::new(alloc),
-        pending: Vec::new(alloc),
-        gone: Vec::new(alloc),
-        crashed: Vec::new(alloc),
-        skipped: 0,
-        unsettled: false,
-    };
+    let mut stage = begun(alloc, seats);
     for line in lines {
         match check_line(alloc, &mut stage, line, rows)? {
             Checked::On => {}
@@ -88,6 +102,33 @@ where
         return Ok(None);
     }
     Ok(Some(left_by(stage)))
+}
+
+/// How many rows a replay takes before it meets one that it does not make, or the end of the rows
+/// or of the schedule. So it is where to look for the first row that is not lawful; that this is
+/// the place, is not said.
+///
+/// There are fewer than 2^31 rows and mails.
+pub fn taken_by<A: Actor>(
+    alloc: Global,
+    seats: Vec<Seat<A>>,
+    lines: &[Line<A::Order>],
+    rows: &[Row<A::Mail, A::Order>],
+) -> Result<usize, OutOfMemory>
+where
+    A::Mail: Same,
+    A::Order: Same,
+    requires few_rows { length rows.now < 2 ^ 31 }
+    requires few_mails { length (mails rows.now) < 2 ^ 31 }
+{
+    let mut stage = begun(alloc, seats);
+    for line in lines {
+        match check_line(alloc, &mut stage, line, rows)? {
+            Checked::On => {}
+            Checked::Ended | Checked::Wrong => return Ok(stage.rows.len()),
+        }
+    }
+    Ok(stage.rows.len())
 }
 
 /// Whether rows are lawful for a schedule of these actors, as `replay` says.

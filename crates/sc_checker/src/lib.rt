@@ -12,5 +12,5 @@ mod making;
 mod pending;
 mod stages;
 
-pub use judging::{Replayed, is_lawful, replay};
+pub use judging::{Replayed, is_lawful, replay, taken_by};
 pub use looking::pending_of;

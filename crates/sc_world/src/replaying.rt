@@ -1,5 +1,5 @@
 //! The world that a lawful journal of a scenario leaves, or the first row that is not lawful.
-ghost use Rattle.std.specs.Prelude.{◌≡◌, ◌<◌, ◌≤◌, ◌^◌, ◌↔◌, IsTrue, length, take, IfOk, MatchResult};
+ghost use Rattle.std.specs.Prelude.{◌≡◌, ◌<◌, ◌≤◌, ◌+◌, ◌^◌, ◌↔◌, IsTrue, length, take, IfOk, MatchResult};
 ghost use Rattle.sc_actor.specs.Mail.{mails};
 ghost use Rattle.sc_scenario.specs.Valid.{IsValid};
 ghost use Rattle.sc_checker.specs.Replays.{IsReplayed};
@@ -15,7 +15,7 @@ use crate::seating::{births, schedule};
 use crate::worlds::World;
 use sc_actor::{Journal, Row};
 use sc_base::OutOfMemory;
-use sc_checker::{Replayed, replay};
+use sc_checker::{Replayed, replay, taken_by};
 use sc_cmd::OrderLine;
 use sc_mail::Mail;
 use sc_scenario::Scenario;
@@ -69,7 +69,35 @@ fn front_is_lawful(
     }
 }
 
-// The first row that is not lawful, of rows that are not.
+// How many rows a replay takes before it meets one that it does not make.
+fn taken(
+    alloc: Global,
+    scenario: &Scenario,
+    rows: &[Row<Mail, OrderLine>],
+) -> Result<usize, OutOfMemory>
+    requires valid { IsValid scenario.now }
+    requires few_rows { length rows.now < 2 ^ 31 }
+    requires few_mails { length (mails rows.now) < 2 ^ 31 }
+{
+    let seats = births(alloc, scenario)?;
+    let lines = schedule(alloc, scenario)?;
+    taken_by(alloc, seats, lines.as_slice(), rows)
+}
+
+// A place between two: this one if it is, and else the middle.
+fn between(low: usize, high: usize, place: usize) -> usize
+    requires { low + 1 < high }
+    ensures { (low < result) × (result < high) }
+{
+    if low < place && place < high {
+        place
+    } else {
+        low + (high - low) / 2
+    }
+}
+
+// The first row that is not lawful, of rows that are not. The row at which a replay ends is looked
+// at first, so that a long journal is not replayed many times.
 fn bad_row(
     alloc: Global,
     scenario: &Scenario,
@@ -83,10 +111,12 @@ fn bad_row(
 {
     let mut low = 0;
     let mut high = rows.len();
+    let mut place = taken(alloc, scenario, rows)?;
     while 1 < high - low {
-        let middle = low + (high - low) / 2;
+        let middle = between(low, high, place);
         if front_is_lawful(alloc, scenario, rows, middle)? {
             low = middle;
+            place = middle.saturating_add(1);
         } else {
             high = middle;
         }

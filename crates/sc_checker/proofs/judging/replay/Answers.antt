@@ -1,4 +1,4 @@
-use Rattle.std.proofs.Common.{refl, sym, ◌∙◌, subst, arith}
+use Rattle.std.proofs.Common.{sym, ◌∙◌, ap, subst, arith}
 use Rattle.sc_checker.specs.declared.checked.Checked.TheVariants.{On, Ended}
 use Rattle.sc_checker.specs.Checks.{IsChecked}
 use Rattle.sc_checker.specs.Moves.{rules_of}
@@ -12,9 +12,9 @@ use Rattle.sc_checker.proofs.judging.replay.Goals as goal
 pub loop-line-init : goal.loop-line-init
 loop-line-init g c =
     let r = rules_of g.A.Actor.table g.A.Mail.Parcel.receiver in (
-      IsStageAt-begin r two_words c.args.seats.items c.args.lines.now _ c.requires.apart refl c.new.ensures refl refl,
-      taking_begin g.A.Mail.Parcel.receiver _ c.args.rows.now c.new.ensures c.new-2.ensures.items c.new-3.ensures.items c.new-4.ensures.items c.new-5.ensures.items c.requires.few_rows c.requires.few_mails,
-      omega arith,
+      IsStageAt-begin r two_words c.args.seats.items c.args.lines.now _ c.requires.apart (ap (λ v. v.items) c.begun-stage.ensures.seats) c.begun-stage.ensures.rows c.begun-stage.ensures.skipped c.begun-stage.ensures.unsettled,
+      taking_begin g.A.Mail.Parcel.receiver _ c.args.rows.now c.begun-stage.ensures.rows c.begun-stage.ensures.mails c.begun-stage.ensures.pending c.begun-stage.ensures.gone c.begun-stage.ensures.crashed c.requires.few_rows c.requires.few_mails,
+      omega (arith, c.begun-stage.ensures.skipped),
     )
 
 pub returns-in-Ended : goal.returns-in-Ended
