@@ -17,7 +17,7 @@ use Rattle.sc_actor.proofs.ReplayLemmas.{mails-snoc, copies-snoc}
 use Rattle.sc_checker.specs.declared.stages.OpenCopy.{OpenCopy}
 use Rattle.sc_checker.specs.declared.stages.Stage.{Stage}
 use Rattle.sc_checker.specs.Stages.{IsUpToDate}
-use Rattle.sc_checker.specs.Opens.{copy_of, opens, opens_of, opened, repeated, runs, without, with_copy}
+use Rattle.sc_checker.specs.Opens.{copy_of, opens, opens_of, opened, reopened, runs, without, with_copy}
 use Rattle.sc_checker.proofs.Opens.{opens-agree, opens-append, opens-crash, opens-for, opens-less, opens-more, opens-numbers, without-fresh}
 
 module _ {M O : Type 0} (receiver : M → ℕ) (actors : List ℕ) (rows : List (Row M O)) where
@@ -94,7 +94,7 @@ set-past (m ∷ ms) (c ∷ cs) (suc place) v e none = ap (λ zs. c ∷ zs) (set-
 
 module _ {M : Type 0} (receiver : M → ℕ) (test other : ℕ → Bool) (who : ℕ) (ms : List M) (cs : List ℕ) (many : length cs ≡ length ms) where
   again_at : (place : ℕ) → ((w : ℕ) → other w ≡ test w) → (o : Option M) → slice_get ms place ≡ o →
-      opens receiver other 1 ms (set cs place (get_or cs place 0 + 1)) ≡ repeated receiver test (opens receiver test 1 ms cs) (suc place) o
+      opens receiver other 1 ms (set cs place (get_or cs place 0 + 1)) ≡ reopened receiver test (opens receiver test 1 ms cs) (suc place) o
   again_at place agree None is = opens-agree receiver test other agree 1 ms (set cs place (get_or cs place 0 + 1)) ∙ ap (opens receiver test 1 ms) (set-past ms cs place (get_or cs place 0 + 1) many is)
   again_at place agree (Some mail) is =
       let within = slice_get_within ms place mail is in

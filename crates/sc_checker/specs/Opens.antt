@@ -41,15 +41,15 @@ abbrev pub without_to : List OpenCopy → ℕ → List OpenCopy
 without_to xs who = filter (λ copy. not (copy.to == who)) xs
 
 -- with one more copy of a mail that was found, if its receiver passes the test
-abbrev pub repeated : {M : Type 0} → (M → ℕ) → (ℕ → Bool) → List OpenCopy → ℕ → Option M → List OpenCopy
-repeated receiver test xs number None = xs
-repeated receiver test xs number (Some mail) = if test (receiver mail) then with_copy xs (copy_of number (receiver mail)) else xs
+abbrev pub reopened : {M : Type 0} → (M → ℕ) → (ℕ → Bool) → List OpenCopy → ℕ → Option M → List OpenCopy
+reopened receiver test xs number None = xs
+reopened receiver test xs number (Some mail) = if test (receiver mail) then with_copy xs (copy_of number (receiver mail)) else xs
 
 -- the copies after an event, before its row's mail joins them
 abbrev pub opened : {M O : Type 0} → (M → ℕ) → (ℕ → Bool) → List M → List OpenCopy → ℕ → Event O → List OpenCopy
 opened receiver test sent xs who (Deliver mail) = without xs mail
 opened receiver test sent xs who (Drop mail) = without xs mail
-opened receiver test sent xs who (Again mail) = repeated receiver test xs mail (numbered sent mail)
+opened receiver test sent xs who (Again mail) = reopened receiver test xs mail (numbered sent mail)
 opened receiver test sent xs who Crash = without_to xs who
 opened receiver test sent xs who Tick = xs
 opened receiver test sent xs who Go = xs

@@ -3,7 +3,7 @@ ghost use Rattle.std.specs.Prelude.{◌≡◌, ℕ, ◌<◌, ◌≤◌, ◌+◌,
 ghost use Rattle.std.specs.List.{list_any, prefix_len};
 ghost use Rattle.sc_actor.specs.Mail.{mails, numbered, is_crash};
 ghost use Rattle.sc_actor.specs.System.{numbers_of, is_go};
-ghost use Rattle.sc_checker.specs.Opens.{opens, opened, repeated, runs, without, with_copy, without_to};
+ghost use Rattle.sc_checker.specs.Opens.{opens, opened, reopened, runs, without, with_copy, without_to};
 ghost use Rattle.sc_checker.specs.Stages.{IsUpToDate};
 
 use crate::pending::{is_crash, is_go, runs};
@@ -61,7 +61,7 @@ fn repeat<A, M: Parcel>(
 ) -> Result<(), OutOfMemory>
     ensures { OnOk result
         (pending.new.items
-        ≡ repeated M.receiver (runs (numbers_of seats.now) crashed.now) pending.old.items mail
+        ≡ reopened M.receiver (runs (numbers_of seats.now) crashed.now) pending.old.items mail
         (numbered mails.now mail)) }
 {
     if mail == 0 || mail as usize > mails.len() {
