@@ -9,11 +9,11 @@ use Rattle.sc_scenario.specs.Valid.{FirstBytesDecide}
 use Rattle.sc_scenario.specs.declared.reading.ScenarioFault.{ScenarioFault}
 use Rattle.sc_scenario.specs.declared.reading.ScenarioFault.TheVariants.{Bad}
 use Rattle.sc_scenario.specs.declared.scenarios.Scenario.{Scenario}
-use Rattle.sc_statuses.specs.declared.wants.Wanted.{Wanted}
-use Rattle.sc_statuses.specs.declared.wants.Wanted.TheVariants.{Usage, ReadFault, BadScenario, Run, Journal, Audit}
+use Rattle.sc_wants.specs.declared.wants.Wanted.{Wanted}
+use Rattle.sc_wants.specs.declared.wants.Wanted.TheVariants.{Usage, ReadFault, BadScenario, Run, Journal, Audit}
 use Rattle.sc_journal_file.specs.Laws.{FirstBytesDecideFaults, ScenariosAreShort}
 use Rattle.sc_journal_file.specs.Stored.{most_file_bytes, IsBadFile}
-use Rattle.sc_statuses.specs.Wants.{AreAll, ReadsAs, IsOf, IsKeptOf, IsStoredIn, IsRead, IsKept, IsAudited}
+use Rattle.sc_wants.specs.Wants.{AreAll, ReadsAs, IsOf, IsKeptOf, IsStoredIn, IsRead, IsKept, IsAudited}
 
 -- what was read of a source comes out as the whole
 read_whole : FirstBytesDecide → (left : Option (List ℕ)) (bytes : List ℕ) (verdict : Result Scenario ScenarioFault) → IfSome left (λ input. bytes ≡ take (most_bytes + 1) input) → verdict_of bytes ≡ verdict → ReadsAs left verdict

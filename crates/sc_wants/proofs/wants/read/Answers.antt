@@ -1,7 +1,7 @@
 use Rattle.std.proofs.Common.{subst}
-use Rattle.sc_statuses.specs.Wants.{IsOf}
-use Rattle.sc_statuses.proofs.Readings.{if_ok, of_bytes}
-use Rattle.sc_statuses.proofs.wants.read.Goals as goal
+use Rattle.sc_wants.specs.Wants.{IsOf}
+use Rattle.sc_wants.proofs.Readings.{if_ok, of_bytes}
+use Rattle.sc_wants.proofs.wants.read.Goals as goal
 
 pub returns-clause-read : goal.returns-clause-read
 returns-clause-read g c =

@@ -1,6 +1,6 @@
 use Rattle.std.proofs.Common.{subst}
-use Rattle.sc_statuses.proofs.Readings.{if_ok, of_text}
-use Rattle.sc_statuses.proofs.wants.keep.Goals as goal
+use Rattle.sc_wants.proofs.Readings.{if_ok, of_text}
+use Rattle.sc_wants.proofs.wants.keep.Goals as goal
 
 pub returns-clause-kept : goal.returns-clause-kept
 returns-clause-kept g c =

@@ -1,7 +1,7 @@
 use Rattle.std.proofs.Common.{subst}
-use Rattle.sc_statuses.specs.Wants.{IsStoredIn}
-use Rattle.sc_statuses.proofs.Readings.{if_ok, of_file}
-use Rattle.sc_statuses.proofs.wants.audit.Goals as goal
+use Rattle.sc_wants.specs.Wants.{IsStoredIn}
+use Rattle.sc_wants.proofs.Readings.{if_ok, of_file}
+use Rattle.sc_wants.proofs.wants.audit.Goals as goal
 
 pub returns-clause-audited : goal.returns-clause-audited
 returns-clause-audited g c =

@@ -3,7 +3,7 @@ ghost use Rattle.std.specs.Prelude.{◌≡◌, ◌≤◌, ◌+◌, map, false, s
 ghost use Rattle.sc_lines.specs.Lines.{most_bytes};
 ghost use Rattle.sc_journal_file.specs.Stored.{most_file_bytes};
 ghost use Rattle.sc_words.specs.Asked.{reads_input};
-ghost use Rattle.sc_statuses.specs.Wants.{fault_text, IsOf, IsKeptOf, IsStoredIn, IsRead, IsKept, IsAudited, IsWanted, most_takes, words_for};
+ghost use Rattle.sc_wants.specs.Wants.{fault_text, IsOf, IsKeptOf, IsStoredIn, IsRead, IsKept, IsAudited, IsWanted, most_takes, words_for};
 
 use sc_actor::Journal;
 use sc_base::OutOfMemory;

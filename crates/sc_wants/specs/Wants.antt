@@ -19,8 +19,8 @@ use Rattle.sc_journal_file.specs.Stored.{most_file_bytes, missing_journal, bad_r
 use Rattle.sc_words.specs.Asked.{asked_by, is_audit}
 use Rattle.sc_words.specs.declared.asked.Asked.{Asked}
 use Rattle.sc_words.specs.declared.asked.Asked.TheVariants as ask
-use Rattle.sc_statuses.specs.declared.wants.Wanted.{Wanted}
-use Rattle.sc_statuses.specs.declared.wants.Wanted.TheVariants.{Usage, ReadFault, BadScenario, Run, Journal, Audit}
+use Rattle.sc_wants.specs.declared.wants.Wanted.{Wanted}
+use Rattle.sc_wants.specs.declared.wants.Wanted.TheVariants.{Usage, ReadFault, BadScenario, Run, Journal, Audit}
 
 -- the words for the reason of this number: those above 15 are of stored journals alone
 abbrev pub words_for : ℕ → List ℕ
