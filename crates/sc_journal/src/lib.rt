@@ -3,5 +3,5 @@
 
 mod texts;
 
-pub use sc_json::RowFault;
+pub use sc_from_json::RowFault;
 pub use texts::{read_row, row_text};
