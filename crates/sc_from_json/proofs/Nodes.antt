@@ -3,7 +3,7 @@ use Rattle.std.proofs.Common.{◌≡◌, ℕ, zero, suc, ◌+◌, ◌<◌, ◌==
 use Rattle.std.specs.List.Sorted.{IsStrictlyIncreasing}
 use Rattle.std.specs.Result.{is_err}
 use Rattle.std.proofs.lemmas.Bool.Decides.{nat_tests}
-use Rattle.std.proofs.lemmas.List.{length-take-le}
+use Rattle.std.proofs.lemmas.List.{length-take-le, take_more}
 use Rattle.sc_base.specs.Among.{Each}
 use Rattle.sc_member.specs.Roster.{IsRoster, is_member, with_member}
 use Rattle.sc_member.specs.Faults.{add_fault}
@@ -50,11 +50,6 @@ earlier_below [] i up within = absurd (omega arith)
 earlier_below (x ∷ xs) zero up within = tt
 earlier_below (x ∷ xs) (suc i) up within = (above_first x xs i up (omega arith), earlier_below xs i (rising_rest x xs up) (omega arith))
 
-one_longer : (nodes : List ℕ) (i : ℕ) → i < length nodes → take (suc i) nodes ≡ take i nodes ++ get_or nodes i 0 ∷ []
-one_longer [] i within = absurd (omega arith)
-one_longer (x ∷ xs) zero within = refl
-one_longer (x ∷ xs) (suc i) within = ap (λ l. x ∷ l) (one_longer xs i (omega arith))
-
 no_fault : (nodes : List ℕ) (i : ℕ) → IsRoster nodes → i < length nodes → add_fault (take i nodes) (get_or nodes i 0) ≡ None
 no_fault nodes i roster within =
     let none = absent (get_or nodes i 0) (take i nodes) (earlier_below nodes i roster.ascending within) in
@@ -69,9 +64,8 @@ Added old new node result = MatchResult result (λ _. (add_fault old node ≡ No
 -- the next node of ascending ones is added at the end
 pub adds_next : (nodes old new : List ℕ) (i : ℕ) (result : Result (Unit {0}) MemberFault) → IsRoster nodes → i < length nodes → old ≡ take i nodes → Added old new (get_or nodes i 0) result → (is_err result ≡ false) × (new ≡ take (i + 1) nodes)
 adds_next nodes old new i (Ok u) roster within is added =
-    let next : suc i ≡ i + 1 = omega arith in
     let last = placed_last (get_or nodes i 0) (take i nodes) (earlier_below nodes i roster.ascending within) in
-    (refl, added.1 ∙ (ap (λ l. with_member l (get_or nodes i 0)) is ∙ (last ∙ (sym (one_longer nodes i within) ∙ ap (λ n. take n nodes) next))))
+    (refl, added.1 ∙ (ap (λ l. with_member l (get_or nodes i 0)) is ∙ (last ∙ sym (take_more nodes i 0 within))))
 adds_next nodes old new i (Err fault) roster within is added =
     let none = ap (λ l. add_fault l (get_or nodes i 0)) is ∙ no_fault nodes i roster within in
     absurd (let clash : Some fault ≡ None = sym added.0 ∙ none in cc)

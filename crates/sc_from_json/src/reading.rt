@@ -31,7 +31,7 @@ pub(crate) fn member<I: Index + Drop, T: FromJson>(
 }
 
 /// Two members or items.
-pub(crate) fn pair_of<I: Index + Drop, A: FromJson + Drop, B: FromJson>(
+pub fn pair_of<I: Index + Drop, A: FromJson + Drop, B: FromJson>(
     alloc: Global,
     json: &Json,
     first: I,
@@ -48,7 +48,7 @@ pub(crate) fn pair_of<I: Index + Drop, A: FromJson + Drop, B: FromJson>(
 }
 
 /// Three members or items.
-pub(crate) fn triple_of<I: Index + Drop, A: FromJson + Drop, B: FromJson + Drop, C: FromJson>(
+pub fn triple_of<I: Index + Drop, A: FromJson + Drop, B: FromJson + Drop, C: FromJson>(
     alloc: Global,
     json: &Json,
     first: I,
@@ -68,7 +68,7 @@ pub(crate) fn triple_of<I: Index + Drop, A: FromJson + Drop, B: FromJson + Drop,
 }
 
 /// Four members or items.
-pub(crate) fn four_of<
+pub fn four_of<
     I: Index + Drop,
     A: FromJson + Drop,
     B: FromJson + Drop,
@@ -89,10 +89,8 @@ pub(crate) fn four_of<
         → I.Index.finds third (view json.now) ≡ Some (C.json_of c)
         → I.Index.finds fourth (view json.now) ≡ Some (D.json_of d) → Finds (a, b, c, d) result }
 {
-    let a = member(alloc, json, first)?;
-    let b = member(alloc, json, second)?;
-    let c = member(alloc, json, third)?;
-    let d = member(alloc, json, fourth)?;
+    let (a, b) = pair_of(alloc, json, first, second)?;
+    let (c, d) = pair_of(alloc, json, third, fourth)?;
     Ok((a, b, c, d))
 }
 
@@ -121,11 +119,8 @@ pub(crate) fn five_of<
         → I.Index.finds fourth (view json.now) ≡ Some (D.json_of d)
         → I.Index.finds fifth (view json.now) ≡ Some (E.json_of e) → Finds (a, b, c, d, e) result }
 {
-    let a = member(alloc, json, first)?;
-    let b = member(alloc, json, second)?;
-    let c = member(alloc, json, third)?;
-    let d = member(alloc, json, fourth)?;
-    let e = member(alloc, json, fifth)?;
+    let (a, b, c) = triple_of(alloc, json, first, second, third)?;
+    let (d, e) = pair_of(alloc, json, fourth, fifth)?;
     Ok((a, b, c, d, e))
 }
 
@@ -158,17 +153,13 @@ pub(crate) fn six_of<
         → I.Index.finds sixth (view json.now) ≡ Some (F.json_of f)
         → Finds (a, b, c, d, e, f) result }
 {
-    let a = member(alloc, json, first)?;
-    let b = member(alloc, json, second)?;
-    let c = member(alloc, json, third)?;
-    let d = member(alloc, json, fourth)?;
-    let e = member(alloc, json, fifth)?;
-    let f = member(alloc, json, sixth)?;
+    let (a, b, c) = triple_of(alloc, json, first, second, third)?;
+    let (d, e, f) = triple_of(alloc, json, fourth, fifth, sixth)?;
     Ok((a, b, c, d, e, f))
 }
 
 /// The name of a variant and its content; one without content is its own.
-pub(crate) fn parts_of(json: &Json) -> Option<(&str, &Json)>
+pub fn parts_of(json: &Json) -> Option<(&str, &Json)>
     ensures { MayBeVariant (view json.now) → IsSomeAnd result (λ parts.
         (parts.0.now ≡ name_of (view json.now)) × (view parts.1.now ≡ content_of (view json.now))) }
 {

@@ -9,10 +9,11 @@ ghost use Rattle.std.specs.Prelude.{Some, None, IsUtf8, MatchResult};
 ghost use Rattle.sc_row_text.specs.RowText.{text_of, IsHeld};
 ghost use Rattle.sc_from_json.specs.declared.faults.RowFault.TheVariants as why;
 
+use crate::rows::row_from_json;
 use sc_actor::Row;
 use sc_base::OutOfMemory;
 use sc_cmd::OrderLine;
-use sc_from_json::{FromJson, RowFault};
+use sc_from_json::RowFault;
 use sc_mail::Mail;
 use sc_row_text::row_texts_read_back;
 use sc_to_json::ToJson;
@@ -59,7 +60,7 @@ pub fn read_row(alloc: Global, text: &[u8]) -> Result<Row<Mail, OrderLine>, RowF
 {
     row_texts_read_back();
     let json = json_of(alloc, text)?;
-    let row = Row::from_json(alloc, &json)?;
+    let row = row_from_json(alloc, &json)?;
     if row_text(alloc, &row)?.as_slice() == text {
         Ok(row)
     } else {
