@@ -19,8 +19,8 @@ use sc_replica::Replica;
 use std::alloc::Global;
 use std::marker::Model;
 
-/// A node, the names that it draws, and its replicas, one a group. Contracts see it as the record of
-/// the node's table.
+/// A node, the names that it draws, and its replicas, one a group. Contracts see it as the record
+/// of the node's table.
 #[derive(Drop)]
 pub struct NodeCore {
     pub(crate) me: u16,
@@ -41,12 +41,20 @@ impl Model for NodeCore {
 
     ghost Value = { NodeState };
 
-    ghost coded = { let pairs : Coded Contents = map.code (coded_list coded_ℕ) (coded_list coded_ℕ)
-        in let clients : Coded ClientTable = map.code coded_ℕ (Prim.hlevel codes) in let group : Coded
-        Group = Prim.hlevel (codes, pairs, clients) in let replica : Coded ReplicaState =
-        Prim.hlevel (codes, group) in Prim.hlevel (codes, replica) };
+    ghost coded = { let pairs : Coded Contents =
+        map.code (coded_list coded_ℕ) (coded_list coded_ℕ) in
+        let clients : Coded ClientTable = map.code coded_ℕ (Prim.hlevel codes) in
+        let group : Coded Group = Prim.hlevel (codes, pairs, clients) in
+        let replica : Coded ReplicaState = Prim.hlevel (codes, group) in
+        Prim.hlevel (codes, replica) };
 
-    ghost view = { λ n. record { me = n.me; draws = n.draws; policy = n.policy; replicas = n.replicas.items } };
+    ghost view = { λ n.
+        record {
+          me = n.me;
+          draws = n.draws;
+          policy = n.policy;
+          replicas = n.replicas.items;
+        } };
 }
 
 /// Whether a group's name stands before those of all these groups.
