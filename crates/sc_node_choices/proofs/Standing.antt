@@ -64,25 +64,21 @@ known_by group (r ∷ rs) (Some n) e = sym (ap is_some ((stands-at group (r ∷ 
 known_by group (r ∷ rs) None e = sym (ap is_some (stands-nowhere group (r ∷ rs) 0 (sym e)))
 
 -- the replica at a place is the group's
-pub found-here : (at i : ℕ) (group : Draw) (rs : List ReplicaState) (name : Draw) → i < length rs → ((d : ReplicaState) → name ≡ name_of (get_or rs i d)) → same_draw name group ≡ true
+pub found-here : (at i : ℕ) (group : Draw) (rs : List ReplicaState) → i < length rs → ((d : ReplicaState) → true ≡ same_draw (name_of (get_or rs i d)) group)
     → place_from at group (drop i rs) ≡ Some at
-found-here at i group [] name less is e = absurd (omega arith)
-found-here at zero group (r ∷ rs) name less is e =
-    let same : same_draw (name_of r) group ≡ true = ap (λ n. same_draw n group) (sym (is r)) ∙ e in
-    ap (λ b. if b then Some at else place_from (at + 1) group rs) same
-found-here at (suc i) group (r ∷ rs) name less is e = found-here at i group rs name (omega arith) is e
+found-here at i group [] less is = absurd (omega arith)
+found-here at zero group (r ∷ rs) less is = ap (λ b. if b then Some at else place_from (at + 1) group rs) (sym (is r))
+found-here at (suc i) group (r ∷ rs) less is = found-here at i group rs (omega arith) is
 
-passed-suc : (at i : ℕ) (group : Draw) (rs : List ReplicaState) (name : Draw) → i < length rs → ((d : ReplicaState) → name ≡ name_of (get_or rs i d)) → same_draw name group ≡ false
+passed-suc : (at i : ℕ) (group : Draw) (rs : List ReplicaState) → i < length rs → ((d : ReplicaState) → false ≡ same_draw (name_of (get_or rs i d)) group)
     → place_from at group (drop i rs) ≡ place_from (at + 1) group (drop (suc i) rs)
-passed-suc at i group [] name less is e = absurd (omega arith)
-passed-suc at zero group (r ∷ rs) name less is e =
-    let other : same_draw (name_of r) group ≡ false = ap (λ n. same_draw n group) (sym (is r)) ∙ e in
-    ap (λ b. if b then Some at else place_from (at + 1) group rs) other
-passed-suc at (suc i) group (r ∷ rs) name less is e = passed-suc at i group rs name (omega arith) is e
+passed-suc at i group [] less is = absurd (omega arith)
+passed-suc at zero group (r ∷ rs) less is = ap (λ b. if b then Some at else place_from (at + 1) group rs) (sym (is r))
+passed-suc at (suc i) group (r ∷ rs) less is = passed-suc at i group rs (omega arith) is
 
--- .. or it is that of another
-pub passed-by : (i : ℕ) (group : Draw) (rs : List ReplicaState) (name : Draw) → i < length rs → ((d : ReplicaState) → name ≡ name_of (get_or rs i d)) → same_draw name group ≡ false
+-- .. or it is another's
+pub passed-by : (i : ℕ) (group : Draw) (rs : List ReplicaState) → i < length rs → ((d : ReplicaState) → false ≡ same_draw (name_of (get_or rs i d)) group)
     → place_from i group (drop i rs) ≡ place_from (i + 1) group (drop (i + 1) rs)
-passed-by i group rs name less is e =
+passed-by i group rs less is =
     let n : suc i ≡ i + 1 = omega arith in
-    passed-suc i i group rs name less is e ∙ ap (λ m. place_from (i + 1) group (drop m rs)) n
+    passed-suc i i group rs less is ∙ ap (λ m. place_from (i + 1) group (drop m rs)) n
