@@ -1,5 +1,6 @@
--- What comes for a group, by where its replica stands.
-use Rattle.std.proofs.Common.{◌≡◌, ℕ, List, [], set, get_or, Option, Some, None, Result, Ok, Err, IfOk, sym, ap, ◌∙◌}
+-- What comes for a group, by where its replica stands, and a tick of the replica at a place.
+use Rattle.std.proofs.Common.{◌≡◌, ℕ, ◌<◌, List, [], length, set, get_or, Option, Some, None, Result, Ok, Err, IfOk, refl, sym, ap, ◌∙◌}
+use Rattle.std.proofs.lemmas.List.{get_or_read_under}
 use Rattle.sc_base.specs.declared.names.Draw.{Draw}
 use Rattle.sc_base.specs.Drawing.{Drawer}
 use Rattle.sc_cmd.specs.declared.cores.Base.{Base}
@@ -11,10 +12,12 @@ use Rattle.sc_mail.specs.declared.bodies.MailBody.{MailBody}
 use Rattle.sc_node_table.specs.Replica.{ReplicaState, Place}
 use Rattle.sc_node_table.specs.Node.{NodeState, replica_of, with_replica, with_children, taken_by, unknown, group_of_order, ordered_of, on_order}
 use Rattle.sc_node_table.specs.Mails.{told_desk}
-use Rattle.sc_node_table.specs.Rows.{mailed}
+use Rattle.sc_node_table.specs.Rows.{mailed, tick_row}
+use Rattle.sc_node_table.specs.Policy.{names_after_tick}
 use Rattle.sc_node_table.specs.Ordering.{ordered_row, names_after}
 use Rattle.sc_node_table.specs.Births.{mailed_children}
 use Rattle.sc_node_choices.specs.Places.{StandsAt}
+use Rattle.sc_node_choices.specs.Ticking.{ticked_at}
 
 -- a mail for a group whose replica stands at a place
 pub taken-at : (group : Draw) (from : ℕ) (body : MailBody) (node : NodeState) (n : ℕ) (d new : ReplicaState) (more : List Mail) (made : List Base) → StandsAt group node.replicas n
@@ -47,3 +50,13 @@ pub ordered-nowhere : {E : Type 0} (line : OrderLine) (node : NodeState) (result
     → IfOk result (λ mails. mails ≡ told_desk node.me line.number (Refused (NotLeader None)) []) → IfOk result (λ mails. on_order line node ≡ (node, mails))
 ordered-nowhere line node (Ok mails) none e = ap (λ o. ordered_of o line node) none ∙ ap (λ ms. (node, ms)) (sym e)
 ordered-nowhere line node (Err x) none e = e
+
+-- the replica at a place has ticked
+pub ticked-there : (node : NodeState) (i : ℕ) (x new : ReplicaState) (mails more : List Mail) (left : Drawer) → i < length node.replicas → x ≡ get_or node.replicas i x
+    → (new, more) ≡ tick_row node.policy node.draws (x, mails) → left ≡ names_after_tick node.policy node.draws x
+    → (d : ReplicaState) → (record node { draws = left; replicas = set node.replicas i new }, more) ≡ ticked_at i d (node, mails)
+ticked-there node i x new mails more left less read e names d =
+    ap (λ (p : Place). (record node { draws = left; replicas = set node.replicas i p.0 }, p.1)) e
+    ∙ ap (λ (l : Drawer). let p = tick_row node.policy node.draws (x, mails) in (record node { draws = l; replicas = set node.replicas i p.0 }, p.1)) names
+    ∙ ap (λ (r : ReplicaState). let p = tick_row node.policy node.draws (r, mails) in (record node { draws = names_after_tick node.policy node.draws r; replicas = set node.replicas i p.0 }, p.1))
+      (get_or_read_under node.replicas i (length node.replicas) x d read less refl)

@@ -17,6 +17,7 @@ impl Holder for NodeCore {
     }
 
     fn tick_at(&mut self, i: usize, sent: &mut Sequence<Mail>) -> Result<(), OutOfMemory> {
-        on_tick(&mut self.replicas[i], self.policy, &mut self.draws, sent)
+        on_tick(&mut self.replicas[i], self.policy, &mut self.draws, sent)?;
+        Ok(())
     }
 }
