@@ -59,4 +59,4 @@ ticked-there node i x new mails more left less read e names d =
     ap (λ (p : Place). (record node { draws = left; replicas = set node.replicas i p.0 }, p.1)) e
     ∙ ap (λ (l : Drawer). let p = tick_row node.policy node.draws (x, mails) in (record node { draws = l; replicas = set node.replicas i p.0 }, p.1)) names
     ∙ ap (λ (r : ReplicaState). let p = tick_row node.policy node.draws (r, mails) in (record node { draws = names_after_tick node.policy node.draws r; replicas = set node.replicas i p.0 }, p.1))
-      (get_or_read_under node.replicas i (length node.replicas) x d read less refl)
+    (get_or_read_under node.replicas i (length node.replicas) x d read less refl)

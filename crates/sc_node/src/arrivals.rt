@@ -1,9 +1,9 @@
 //! A mail for a group of which the node has no replica: it makes one of the state that it is sent.
-ghost use Rattle.std.specs.Prelude.{◌≡◌, ◌≤◌, ◌||◌, ◌==◌, not, nat_lt, length, true, is_some, IfOk, OnOk};
+ghost use Rattle.std.specs.Prelude.{◌≡◌, ◌≤◌, ◌||◌, ◌==◌, not, nat_lt, length, true, IfOk, OnOk};
 ghost use Rattle.sc_node_table.specs.Slots.{slots_ahead};
 ghost use Rattle.sc_node_table.specs.Replica.{last_slot};
 ghost use Rattle.sc_node_table.specs.Rows.{made_by};
-ghost use Rattle.sc_node_table.specs.Node.{is_before, replica_of, with_new, with_made, with_born, with_children, unknown, may_come};
+ghost use Rattle.sc_node_table.specs.Node.{is_before, with_new, with_made, with_born, with_children, unknown, may_come};
 
 use crate::absent::absent;
 use crate::node::NodeCore;

@@ -1,5 +1,5 @@
 //! The node.
-ghost use Rattle.std.specs.Prelude.{◌≡◌, [], Some, true, IfOk, OnOk};
+ghost use Rattle.std.specs.Prelude.{◌≡◌, [], true, IfOk, OnOk};
 ghost use Rattle.std.specs.List.{list_all};
 ghost use Rattle.sc_cmd.specs.declared.cores.Base.{Base};
 ghost use Rattle.sc_node_table.specs.Slots.{slots_ahead};

@@ -1,5 +1,5 @@
 //! An order for the replica of its group.
-ghost use Rattle.std.specs.Prelude.{◌≡◌, [], Some, None, IfOk};
+ghost use Rattle.std.specs.Prelude.{◌≡◌, [], None, IfOk};
 ghost use Rattle.sc_node_table.specs.Mails.{told_desk};
 ghost use Rattle.sc_node_table.specs.Node.{group_of_order, on_order};
 ghost use Rattle.sc_cmd.specs.declared.orders.ToldResult.TheVariants.{Refused};
