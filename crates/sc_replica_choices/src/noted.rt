@@ -76,8 +76,8 @@ fn standing_by(noted: Option<Past>, locked: bool, gone: &Option<Route>) -> Optio
     }
 }
 
-/// The vote that needs no entry any more: a No, a Yes under whose lock the group is, or one that has
-/// ended; and of a group that is gone, No.
+/// The vote that needs no entry any more: a No, a Yes under whose lock the group is, or one that
+/// has ended; and of a group that is gone, No.
 pub fn standing_vote(core: &Core, tx: Draw) -> Option<Past>
     ensures { result ≡ standing_vote core.now tx }
 {

@@ -100,8 +100,8 @@ pub(crate) fn answer_vote(
     }
 }
 
-/// What a watcher's Yes decided is told to the participant that was heard, and then to the node that
-/// brought the vote.
+/// What a watcher's Yes decided is told to the participant that was heard, and then to the node
+/// that brought the vote.
 fn release(
     alloc: Global,
     me: u16,
