@@ -35,7 +35,8 @@ impl<V> Model for Acceptor<V> {
         } };
 
     ghost invariant = { λ a.
-        IsWholeAcceptor (record { promised = a.promised; floor = a.floor; accepted = a.accepted.items }) };
+        IsWholeAcceptor
+        (record { promised = a.promised; floor = a.floor; accepted = a.accepted.items }) };
 }
 
 impl<V> Acceptor<V> {

@@ -8,8 +8,8 @@ use Rattle.serde_json.specs.Read.{read}
 use Rattle.sc_actor.specs.declared.rows.Row.{Row}
 use Rattle.sc_cmd.specs.declared.orders.OrderLine.{OrderLine}
 use Rattle.sc_mail.specs.declared.bodies.Mail.{Mail}
-use Rattle.sc_json.specs.declared.faults.RowFault.{RowFault}
-use Rattle.sc_json.specs.declared.faults.RowFault.TheVariants.{NoRow, OutOfMemory}
+use Rattle.sc_from_json.specs.declared.faults.RowFault.{RowFault}
+use Rattle.sc_from_json.specs.declared.faults.RowFault.TheVariants.{NoRow, OutOfMemory}
 use Rattle.sc_row_text.specs.Rows.{row_json, FitsRow}
 use Rattle.sc_row_text.specs.RowText.{text_of, IsHeld}
 

@@ -7,14 +7,16 @@ ghost use Rattle.serde_json.specs.Read.{read};
 ghost use Rattle.serde_json.specs.View.{view};
 ghost use Rattle.std.specs.Prelude.{Some, None, IsUtf8, MatchResult};
 ghost use Rattle.sc_row_text.specs.RowText.{text_of, IsHeld};
-ghost use Rattle.sc_json.specs.declared.faults.RowFault.TheVariants as why;
+ghost use Rattle.sc_from_json.specs.declared.faults.RowFault.TheVariants as why;
 
+use crate::rows::row_from_json;
 use sc_actor::Row;
 use sc_base::OutOfMemory;
 use sc_cmd::OrderLine;
-use sc_json::{RowFault, Stored};
+use sc_from_json::RowFault;
 use sc_mail::Mail;
 use sc_row_text::row_texts_read_back;
+use sc_to_json::ToJson;
 use serde_json::Value as Json;
 use std::alloc::Global;
 
@@ -46,8 +48,8 @@ fn json_of(alloc: Global, text: &[u8]) -> Result<Json, RowFault>
     }
 }
 
-/// The row with that text. `NoRow` exactly where no row has it; a second spelling of a row's text, as
-/// one with a space, is no row's text.
+/// The row with that text. `NoRow` exactly where no row has it; a second spelling of a row's text,
+/// as one with a space, is no row's text.
 pub fn read_row(alloc: Global, text: &[u8]) -> Result<Row<Mail, OrderLine>, RowFault>
     ensures text { IfOk result (λ row. text_of row ≡ text.now) }
     ensures held { IfOk result (λ row. IsHeld row) }
@@ -58,7 +60,7 @@ pub fn read_row(alloc: Global, text: &[u8]) -> Result<Row<Mail, OrderLine>, RowF
 {
     row_texts_read_back();
     let json = json_of(alloc, text)?;
-    let row = Row::from_json(alloc, &json)?;
+    let row = row_from_json(alloc, &json)?;
     if row_text(alloc, &row)?.as_slice() == text {
         Ok(row)
     } else {

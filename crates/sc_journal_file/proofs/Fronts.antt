@@ -58,7 +58,7 @@ further_twice bytes lines n None = refl
 further_twice bytes lines n (Some m) = ap Some (ap (λ (k : ℕ). (k, lines + (1 + m.1))) (omega arith) ∙ ap (λ (k : ℕ). (bytes + (n + 1) + m.0, k)) (omega arith))
 
 -- one line further
-pub front_on : (file text : List ℕ) (bytes lines n : ℕ) → front_of file ≡ option_map (further bytes lines) (front_of text) → position is_feed text ≡ Some n → same (take n text) divider ≡ false
+front_on : (file text : List ℕ) (bytes lines n : ℕ) → front_of file ≡ option_map (further bytes lines) (front_of text) → position is_feed text ≡ Some n → same (take n text) divider ≡ false
     → front_of file ≡ option_map (further (bytes + (n + 1)) (lines + 1)) (front_of (drop (n + 1) text))
 front_on file text bytes lines n is e other =
     is ∙ ap (option_map (further bytes lines)) (front_first text n e ∙ ap (λ b. cond b (Some (0, 0)) (option_map (further (n + 1) 1) (front_of (drop (n + 1) text)))) other)

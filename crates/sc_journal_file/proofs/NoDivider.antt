@@ -7,7 +7,7 @@ use Rattle.std.proofs.lemmas.Bool.{false_from_ne_true}
 use Rattle.sc_base.specs.Among.{Each}
 use Rattle.sc_lines.specs.Lines.{most_lines, is_too_long, lines_in, lines_of, trimmed}
 use Rattle.sc_lines.specs.Kinds.{request_kind, kind_of}
-use Rattle.sc_lines.specs.Reasons.{reason_code, given, then_on}
+use Rattle.sc_lines.specs.Reasons.{given, then_on}
 use Rattle.sc_lines.specs.Words.{same}
 use Rattle.sc_lines.specs.declared.kinds.Kind.{Kind}
 use Rattle.sc_lines.specs.declared.kinds.Kind.TheVariants.{Asking}
@@ -15,7 +15,6 @@ use Rattle.sc_lines.specs.declared.kinds.RequestKind.{RequestKind}
 use Rattle.sc_lines.specs.declared.kinds.RequestKind.TheVariants as ask
 use Rattle.sc_lines.specs.declared.reasons.Reason.{Reason}
 use Rattle.sc_lines.specs.declared.reasons.Reason.TheVariants.{MissingHeader, UnknownWord}
-use Rattle.sc_lines.proofs.Cuts.{lines_all}
 use Rattle.sc_scenario.specs.Grammar.{said, line_read, going_on, lines_read, verdict_of}
 use Rattle.sc_scenario.specs.Places.{is_in_place}
 use Rattle.sc_scenario.specs.Taking.{taken_outside, taken_within}
@@ -24,6 +23,8 @@ use Rattle.sc_scenario.specs.declared.drafts.Reading.TheVariants.{Fresh, Outside
 use Rattle.sc_scenario.specs.declared.reading.ScenarioFault.{ScenarioFault}
 use Rattle.sc_scenario.specs.declared.reading.ScenarioFault.TheVariants.{Bad}
 use Rattle.sc_scenario.specs.declared.scenarios.Scenario.{Scenario}
+use Rattle.sc_scenario.proofs.Texts.{going_ok}
+use Rattle.sc_scenario.proofs.Verdicts.{verdict_all}
 use Rattle.sc_journal_file.specs.Files.{divider}
 
 -- a line other than `journal`
@@ -70,15 +71,11 @@ passed : (b : Bool) (fault : ScenarioFault) (r : Result Scenario ScenarioFault) 
 passed true fault r scenario e = absurd (no_scenario fault scenario (Err fault) refl e)
 passed false fault r scenario e = e
 
-went_on : (number : ℕ) (onward : Reading → Result Scenario ScenarioFault) (r : Result Reading Reason) (scenario : Scenario) → going_on number onward r ≡ Ok scenario → (more : Reading) × (r ≡ Ok more) × (onward more ≡ Ok scenario)
-went_on number onward (Ok more) scenario e = (more, refl, e)
-went_on number onward (Err reason) scenario e = absurd (no_scenario (Bad number (reason_code reason)) scenario (Err (Bad number (reason_code reason))) refl e)
-
 -- what a line and those behind it gave
 pub first_read : (is_long : Bool) (number : ℕ) (reading : Reading) (line : List ℕ) (lines : List (List ℕ)) (scenario : Scenario) → lines_read is_long number reading (line ∷ lines) ≡ Ok scenario
     → (more : Reading) × (line_read reading (trimmed line) ≡ Ok more) × (lines_read is_long (number + 1) more lines ≡ Ok scenario)
 first_read is_long number reading line lines scenario e =
-    went_on number (λ more. lines_read is_long (number + 1) more lines) (line_read reading (trimmed line)) scenario
+    going_ok number (λ more. lines_read is_long (number + 1) more lines) (line_read reading (trimmed line)) scenario
     (passed (nat_lt most_lines number) (Bad number 15) (going_on number (λ more. lines_read is_long (number + 1) more lines) (line_read reading (trimmed line))) scenario e)
 
 lines_other : (lines : List (List ℕ)) (number : ℕ) (reading : Reading) (scenario : Scenario) → lines_read false number reading lines ≡ Ok scenario → Each IsOther lines
@@ -96,10 +93,6 @@ never_long (line ∷ lines) number reading scenario e =
 pub not_long : (text : List ℕ) (scenario : Scenario) → verdict_of text ≡ Ok scenario → is_too_long text ≡ false
 not_long text scenario e =
     false_from_ne_true (is_too_long text) (λ long. never_long (lines_of text) 1 Fresh scenario (subst (λ b. lines_read b 1 Fresh (lines_of text) ≡ Ok scenario) long e))
-
--- of a text that is not too long all lines are read
-pub verdict_all : (text : List ℕ) → is_too_long text ≡ false → verdict_of text ≡ lines_read false 1 Fresh (lines_in false text)
-verdict_all text e = ap (λ b. lines_read b 1 Fresh (lines_of text)) e ∙ ap (lines_read false 1 Fresh) (lines_all text e)
 
 -- no line of a scenario is `journal`
 pub all_other : (text : List ℕ) (scenario : Scenario) → verdict_of text ≡ Ok scenario → Each IsOther (lines_in false text)

@@ -19,7 +19,8 @@ plain_first (byte ∷ text) more p =
     let on = plain_first text more parts.1 in
     cond-true (not (eqb byte 10)) (1 + position_or_len is_feed (fed text ++ more)) 0 parts.0 ∙ omega (arith, on)
 
-length_fed : (text : List ℕ) → length (fed text) ≡ length text + 1
+-- a line feed more
+pub length_fed : (text : List ℕ) → length (fed text) ≡ length text + 1
 length_fed text = omega (arith, length-append text (10 ∷ []))
 
 -- the first line feed is the one behind such a text

@@ -15,22 +15,22 @@ use Rattle.sc_row_text.specs.RowText.{text_of, IsHeld}
 use Rattle.sc_scenario.specs.Grammar.{lines_read, verdict_of}
 use Rattle.sc_scenario.specs.declared.drafts.Reading.TheVariants.{Fresh}
 use Rattle.sc_scenario.specs.declared.scenarios.Scenario.{Scenario}
+use Rattle.sc_paxos_words.proofs.ListLemmas.{Each-append}
+use Rattle.sc_scenario.proofs.Verdicts.{verdict_all}
 use Rattle.sc_journal_file.specs.Files.{divider, fed, whole, lines_before, front_of, has_empty_end, scenario_text, IsCut}
 use Rattle.sc_journal_file.specs.Stored.{rows_whole}
 use Rattle.sc_journal_file.specs.Laws.{PrintedFilesAreFiles}
 use Rattle.sc_journal_file.proofs.Fronts.{measure}
+use Rattle.sc_journal_file.proofs.Plain.{length_fed}
 use Rattle.sc_journal_file.proofs.Rows.{AreLines}
-use Rattle.sc_journal_file.proofs.NoDivider.{IsOther, all_other, not_long, verdict_all}
+use Rattle.sc_journal_file.proofs.NoDivider.{IsOther, all_other, not_long}
 use Rattle.sc_journal_file.proofs.WholeLines.{IsPlain, EndsBare, lines_ended, lines_bare, lines_are}
 
 -- ---- where the last line ends
 
-length_line : (line : List ℕ) → length (fed line) ≡ length line + 1
-length_line line = omega (arith, length-append line (10 ∷ []))
-
 last_of : (line more : List ℕ) → (more ≡ []) ⊎ ((0 < length more) × (get_or more (length more - 1) 0 ≡ 10)) → (0 < length (fed line ++ more)) × (get_or (fed line ++ more) (length (fed line ++ more) - 1) 0 ≡ 10)
 last_of line more (inl none) =
-    let len : length (fed line ++ more) ≡ length line + 1 = omega (arith, length-append (fed line) more, length_line line, ap length none) in (
+    let len : length (fed line ++ more) ≡ length line + 1 = omega (arith, length-append (fed line) more, length_fed line, ap length none) in (
       omega (arith, len),
       ap (λ n. get_or (fed line ++ more) n 0) (let k : length (fed line ++ more) - 1 ≡ length line = omega (arith, len) in k)
           ∙ ap (λ end. get_or (fed line ++ end) (length line) 0) none ∙ ap (λ text. get_or text (length line) 0) (append-nil (fed line)) ∙ get_or_push line 10 0 (length line) refl,
@@ -47,14 +47,23 @@ last_feed : (lines : List (List ℕ)) → (whole lines ≡ []) ⊎ ((0 < length 
 last_feed [] = inl refl
 last_feed (line ∷ lines) = inr (last_of line (whole lines) (last_feed lines))
 
-ends_on : (line : List ℕ) (lines : List (List ℕ)) → (lines ≡ []) ⊎ ((front : List (List ℕ)) × (last : List ℕ) × (lines ≡ front ++ last ∷ [])) → (front : List (List ℕ)) × (last : List ℕ) × (line ∷ lines ≡ front ++ last ∷ [])
-ends_on line lines (inl none) = ([], line, ap (λ more. line ∷ more) none)
-ends_on line lines (inr e) = (line ∷ e.0, e.1, ap (λ more. line ∷ more) e.2)
+-- lines without line feeds within, with a last one
+record HasLast (lines : List (List ℕ)) : Type 0 where
+  front : List (List ℕ)
+  last : List ℕ
+  lines_are : lines ≡ front ++ last ∷ []
+  plain : Each IsPlain front
+  plain_last : IsPlain last
+
+ends_on : (line : List ℕ) (lines : List (List ℕ)) → IsPlain line → (lines ≡ []) ⊎ HasLast lines → HasLast (line ∷ lines)
+ends_on line lines here (inl none) = record { front = []; last = line; lines_are = ap (λ more. line ∷ more) none; plain = tt; plain_last = here }
+ends_on line lines here (inr e) =
+    record { front = line ∷ e.front; last = e.last; lines_are = ap (λ more. line ∷ more) e.lines_are; plain = (here, e.plain); plain_last = e.plain_last }
 
 -- lines are none, or some and a last one
-ends : (lines : List (List ℕ)) → (lines ≡ []) ⊎ ((front : List (List ℕ)) × (last : List ℕ) × (lines ≡ front ++ last ∷ []))
-ends [] = inl refl
-ends (line ∷ lines) = inr (ends_on line lines (ends lines))
+ends : (lines : List (List ℕ)) → Each IsPlain lines → (lines ≡ []) ⊎ HasLast lines
+ends [] plain = inl refl
+ends (line ∷ lines) plain = inr (ends_on line lines plain.0 (ends lines plain.1))
 
 -- lines with a last one
 whole_push : (front : List (List ℕ)) (last : List ℕ) → whole (front ++ last ∷ []) ≡ whole front ++ fed last
@@ -66,16 +75,16 @@ whole_push (line ∷ front) last = ap (λ rest. fed line ++ rest) (whole_push fr
 -- the byte before the last line feed
 before_last : (text : List ℕ) → 0 < length text → get_or (text ++ 10 ∷ []) (length (text ++ 10 ∷ []) - 2) 0 ≡ get_or text (length text - 1) 0
 before_last text some =
-    let len : length (text ++ 10 ∷ []) ≡ length text + 1 = length_line text in
+    let len : length (text ++ 10 ∷ []) ≡ length text + 1 = length_fed text in
     ap (λ n. get_or (text ++ 10 ∷ []) n 0) (let k : length (text ++ 10 ∷ []) - 2 ≡ length text - 1 = omega (arith, len) in k) ∙ get_or_append_left text (10 ∷ []) 0 (length text - 1) (omega (arith, some))
 
 -- without the last line feed
 cut_feed : (text : List ℕ) → take (length (text ++ 10 ∷ []) - 1) (text ++ 10 ∷ []) ≡ text
-cut_feed text = take_at text (10 ∷ []) (length (text ++ 10 ∷ []) - 1) (let len : length (text ++ 10 ∷ []) ≡ length text + 1 = length_line text in omega (arith, len))
+cut_feed text = take_at text (10 ∷ []) (length (text ++ 10 ∷ []) - 1) (let len : length (text ++ 10 ∷ []) ≡ length text + 1 = length_fed text in omega (arith, len))
 
 empty_by : (text : List ℕ) → (text ≡ []) ⊎ ((0 < length text) × (get_or text (length text - 1) 0 ≡ 10)) → has_empty_end (text ++ 10 ∷ []) ≡ true
 empty_by text (inl none) =
-    let lt : length (text ++ 10 ∷ []) < 2 = omega (arith, length_line text, ap length none) in
+    let lt : length (text ++ 10 ∷ []) < 2 = omega (arith, length_fed text, ap length none) in
     or_left (nat_lt (length (text ++ 10 ∷ [])) 2) (eqb (get_or (text ++ 10 ∷ []) (length (text ++ 10 ∷ []) - 2) 0) 10) (lt-ltb (length (text ++ 10 ∷ [])) 2 lt)
 empty_by text (inr last) =
     or_right (nat_lt (length (text ++ 10 ∷ [])) 2) (eqb (get_or (text ++ 10 ∷ []) (length (text ++ 10 ∷ []) - 2) 0) 10)
@@ -84,7 +93,7 @@ empty_by text (inr last) =
 -- a line feed behind another byte ends a line that is not empty
 full_by : (text : List ℕ) → 0 < length text → (get_or text (length text - 1) 0 ≡ 10 → ⊥) → has_empty_end (text ++ 10 ∷ []) ≡ false
 full_by text some other =
-    let le : 2 ≤ length (text ++ 10 ∷ []) = omega (arith, length_line text, some) in
+    let le : 2 ≤ length (text ++ 10 ∷ []) = omega (arith, length_fed text, some) in
     or_from (nat_lt (length (text ++ 10 ∷ [])) 2) (eqb (get_or (text ++ 10 ∷ []) (length (text ++ 10 ∷ []) - 2) 0) 10) (le-ltb (length (text ++ 10 ∷ [])) 2 le)
     (ne_eqb (get_or (text ++ 10 ∷ []) (length (text ++ 10 ∷ []) - 2) 0) 10 (λ e. other (sym (before_last text some) ∙ e)))
 
@@ -108,28 +117,18 @@ bare_back front last plain some =
 
 -- ---- the same lines
 
-each_append : {X : Type 0} (P : X → Type 0) (xs ys : List X) → Each P xs → Each P ys → Each P (xs ++ ys)
-each_append P [] ys all more = more
-each_append P (x ∷ xs) ys all more = (all.0, each_append P xs ys all.1 more)
-
-each_ends : {X : Type 0} (P : X → Type 0) (xs : List X) (x : X) → Each P (xs ++ x ∷ []) → Each P xs × P x
-each_ends P [] x all = (tt, all.0)
-each_ends P (y ∷ xs) x all = let rest = each_ends P xs x all.1 in ((all.0, rest.0), rest.1)
-
-lines_kept : (front : List (List ℕ)) (last : List ℕ) → Each IsPlain (front ++ last ∷ []) → lines_in false (scenario_text (whole (front ++ last ∷ []))) ≡ front ++ last ∷ []
-lines_kept front [] plain =
+lines_kept : (front : List (List ℕ)) (last : List ℕ) → Each IsPlain front → IsPlain last → lines_in false (scenario_text (whole (front ++ last ∷ []))) ≡ front ++ last ∷ []
+lines_kept front [] plain plain_last =
     let empty : has_empty_end (whole (front ++ [] ∷ [])) ≡ true = ap has_empty_end (whole_push front []) ∙ empty_by (whole front) (last_feed front) in
     ap (lines_in false) (cond-true (has_empty_end (whole (front ++ [] ∷ []))) (whole (front ++ [] ∷ [])) (take (length (whole (front ++ [] ∷ [])) - 1) (whole (front ++ [] ∷ []))) empty)
-    ∙ lines_ended false (front ++ [] ∷ []) plain refl
-lines_kept front (byte ∷ last) plain =
-    let parts = each_ends IsPlain front (byte ∷ last) plain in
+    ∙ lines_ended false (front ++ [] ∷ []) (Each-append IsPlain front ([] ∷ []) plain (plain_last, tt)) refl
+lines_kept front (byte ∷ last) plain plain_last =
     let some : 0 < length (byte ∷ last) = omega arith in
-    ap (lines_in false) (bare_back front (byte ∷ last) parts.1 some) ∙ lines_bare front (byte ∷ last) parts.0 parts.1 some
+    ap (lines_in false) (bare_back front (byte ∷ last) plain_last some) ∙ lines_bare front (byte ∷ last) plain plain_last some
 
-kept_by : (lines : List (List ℕ)) → Each IsPlain lines → (lines ≡ []) ⊎ ((front : List (List ℕ)) × (last : List ℕ) × (lines ≡ front ++ last ∷ [])) → lines_in false (scenario_text (whole lines)) ≡ lines
-kept_by lines plain (inl none) = subst (λ lines. lines_in false (scenario_text (whole lines)) ≡ lines) (sym none) refl
-kept_by lines plain (inr e) =
-    subst (λ lines. lines_in false (scenario_text (whole lines)) ≡ lines) (sym e.2) (lines_kept e.0 e.1 (subst (Each IsPlain) e.2 plain))
+kept_by : (lines : List (List ℕ)) → (lines ≡ []) ⊎ HasLast lines → lines_in false (scenario_text (whole lines)) ≡ lines
+kept_by lines (inl none) = subst (λ lines. lines_in false (scenario_text (whole lines)) ≡ lines) (sym none) refl
+kept_by lines (inr e) = subst (λ lines. lines_in false (scenario_text (whole lines)) ≡ lines) (sym e.lines_are) (lines_kept e.front e.last e.plain e.plain_last)
 
 -- the scenario's text is no longer than its whole lines
 no_longer : (front : List ℕ) → length (scenario_text front) ≤ length front
@@ -146,7 +145,7 @@ same_lines bytes text lines scenario e f le read =
 verdict_by : (bytes : List ℕ) (lines : List (List ℕ)) (scenario : Scenario) → lines_in false bytes ≡ lines → Each IsPlain lines → (whole lines ≡ bytes) ⊎ EndsBare bytes lines → verdict_of bytes ≡ Ok scenario
     → verdict_of (scenario_text (whole lines)) ≡ Ok scenario
 verdict_by bytes lines scenario e plain (inl is) read =
-    same_lines bytes (scenario_text (whole lines)) lines scenario e (kept_by lines plain (ends lines)) (omega (arith, no_longer (whole lines), ap length is)) read
+    same_lines bytes (scenario_text (whole lines)) lines scenario e (kept_by lines (ends lines plain)) (omega (arith, no_longer (whole lines), ap length is)) read
 verdict_by bytes lines scenario e plain (inr bare) read =
     ap verdict_of (ap (λ all. scenario_text (whole all)) bare.lines_are ∙ bare_back bare.front bare.last bare.plain bare.some ∙ sym bare.text_is) ∙ read
 
@@ -172,7 +171,7 @@ before_divider (line ∷ lines) more other =
 
 front_is : (lines more : List (List ℕ)) → Each IsPlain lines → Each IsPlain more → Each IsOther lines → front_of (whole (lines ++ divider ∷ more)) ≡ Some (length (whole lines), length lines)
 front_is lines more plain plains other =
-    ap (λ all. option_map measure (lines_before all)) (lines_ended true (lines ++ divider ∷ more) (each_append IsPlain lines (divider ∷ more) plain (refl, plains)) refl)
+    ap (λ all. option_map measure (lines_before all)) (lines_ended true (lines ++ divider ∷ more) (Each-append IsPlain lines (divider ∷ more) plain (refl, plains)) refl)
     ∙ ap (option_map measure) (before_divider lines more other)
 
 cut_is : (lines more : List (List ℕ)) → Each IsPlain lines → Each IsPlain more → Each IsOther lines → IsCut (whole (lines ++ divider ∷ more)) (scenario_text (whole lines)) (length lines) (whole more)

@@ -1,7 +1,7 @@
 -- The lines of rows.
 use Rattle.std.proofs.Common.{◌≡◌, ℕ, ◌+◌, ◌-◌, ◌<◌, ◌≤◌, true, not, eqb, List, [], ◌∷◌, ◌++◌, length, take, drop, position, Some, None, refl, sym, ap, ◌∙◌, arith, append_assoc, length-append}
 use Rattle.std.specs.List.{list_all}
-use Rattle.std.proofs.lemmas.List.{append-nil, nil_from_length, take_rest}
+use Rattle.std.proofs.lemmas.List.{append-nil, take_rest}
 use Rattle.std.proofs.lemmas.Option.{same_Some, none-some}
 use Rattle.sc_base.specs.Among.{Each}
 use Rattle.sc_actor.specs.Mail.{mails}
@@ -10,7 +10,7 @@ use Rattle.sc_cmd.specs.declared.orders.OrderLine.{OrderLine}
 use Rattle.sc_mail.specs.declared.bodies.Mail.{Mail}
 use Rattle.sc_row_text.specs.RowText.{text_of, IsHeld}
 use Rattle.sc_journal_file.specs.Files.{fed}
-use Rattle.sc_journal_file.specs.Stored.{rows_whole, BeginsBadly, HasBadRow, IsSole, GoesOn, AreRows}
+use Rattle.sc_journal_file.specs.Stored.{rows_whole, BeginsBadly, IsSole, GoesOn}
 use Rattle.sc_journal_file.proofs.Fronts.{is_feed}
 use Rattle.sc_journal_file.proofs.Plain.{plain_feed, line_taken, fed_apart, cut_at}
 
@@ -49,10 +49,6 @@ good_line bytes at row e is held only = record {
 
 -- ---- line by line
 
-pub each_push : {X : Type 0} (P : X → Type 0) (xs : List X) (x : X) → Each P xs → P x → Each P (xs ++ x ∷ [])
-each_push P [] x all here = (here, tt)
-each_push P (y ∷ xs) x all here = (all.0, each_push P xs x all.1 here)
-
 whole_push : (rows : List (Row Mail OrderLine)) (row : Row Mail OrderLine) (more : List ℕ) → rows_whole (rows ++ row ∷ []) ++ more ≡ rows_whole rows ++ (fed (text_of row) ++ more)
 whole_push [] row more = ap (λ bytes. bytes ++ more) (append-nil (fed (text_of row)))
 whole_push (first ∷ rows) row more =
@@ -68,18 +64,6 @@ rows_on bytes rest more rows row is on = is ∙ ap (λ end. rows_whole rows ++ e
 pub rest_shorter : (rest more : List ℕ) (row : Row Mail OrderLine) → GoesOn rest row more → length more + 1 ≤ length rest
 rest_shorter rest more row on =
     omega (arith, ap length on.bytes_are, length-append (fed (text_of row)) more, length-append (text_of row) (10 ∷ []))
-
--- at the end
-pub rows_end : (bytes rest : List ℕ) (rows : List (Row Mail OrderLine)) → Each IsHeld rows → Each IsSole rows → bytes ≡ rows_whole rows ++ rest → length rest ≡ 0 → AreRows bytes rows
-rows_end bytes rest rows held sole is none = record {
-  held = held;
-  sole = sole;
-  bytes_are = is ∙ ap (λ end. rows_whole rows ++ end) (nil_from_length rest none) ∙ append-nil (rows_whole rows);
-}
-
--- at a bad line
-pub rows_stop : (bytes rest : List ℕ) (rows : List (Row Mail OrderLine)) → Each IsHeld rows → bytes ≡ rows_whole rows ++ rest → BeginsBadly rest → HasBadRow bytes (length rows)
-rows_stop bytes rest rows held is bad = record { before = rows; held = held; rest = rest; bytes_are = is; count_is = refl; bad = bad }
 
 -- ---- how many
 

@@ -73,7 +73,8 @@ impl Machine {
         by: u16,
     ) -> Result<Effect, OutOfMemory>
         ensures { IfOk result
-            (λ effect. participant_answered vote.now body.now self.old tx order by ≡ (self.new, effect)) }
+            (λ effect.
+            participant_answered vote.now body.now self.old tx order by ≡ (self.new, effect)) }
     {
         match vote {
             Vote::Yes(frozen) => self.grant(body, frozen.get(), tx, order, by),

@@ -109,8 +109,8 @@ impl Machine {
         })
     }
 
-    /// Applies a command, by the group machine's table. After want of memory the machine may only be
-    /// dropped.
+    /// Applies a command, by the group machine's table. After want of memory the machine may only
+    /// be dropped.
     pub fn apply(&mut self, command: &Command) -> Result<Effect, OutOfMemory>
         ensures { IfOk result (λ effect. applied self.old command.now ≡ (self.new, effect)) }
     {

@@ -12,7 +12,8 @@ use sc_cmd::{Core, Lock, Outcome};
 pub fn note_decision(core: &mut Core, tx: Draw, outcome: Outcome) -> Result<(), OutOfMemory>
     ensures { OnOk result
         (core.new
-        ≡ (decided_group (record { core = core.old; pairs = empty; clients = empty }) tx outcome).core) }
+        ≡ (decided_group
+        (record { core = core.old; pairs = empty; clients = empty }) tx outcome).core) }
 {
     core.decided.push((tx, outcome))?;
     core.lock = Lock::Free;

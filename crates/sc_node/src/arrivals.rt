@@ -1,15 +1,16 @@
 //! A mail for a group of which the node has no replica: it makes one of the state that it is sent.
-ghost use Rattle.std.specs.Prelude.{◌≡◌, ◌≤◌, ◌||◌, ◌==◌, not, nat_lt, length, true, is_some, IfOk, OnOk};
+ghost use Rattle.std.specs.Prelude.{◌≡◌, ◌≤◌, ◌||◌, ◌==◌, not, nat_lt, length, true, IfOk, OnOk};
 ghost use Rattle.sc_node_table.specs.Slots.{slots_ahead};
 ghost use Rattle.sc_node_table.specs.Replica.{last_slot};
 ghost use Rattle.sc_node_table.specs.Rows.{made_by};
-ghost use Rattle.sc_node_table.specs.Node.{is_before, replica_of, with_new, with_made, with_born, with_children, unknown, may_come};
+ghost use Rattle.sc_node_table.specs.Node.{is_before, with_new, with_made, with_born, with_children, unknown, may_come};
 
 use crate::absent::absent;
-use crate::node::{NodeCore, place_of};
+use crate::node::NodeCore;
 use sc_base::{Draw, Dup, OutOfMemory, Sequence};
 use sc_cmd::{Base, MemberSets};
 use sc_mail::{Mail, MailBody};
+use sc_node_choices::has_replica;
 use sc_node_table::OPEN_SLOTS;
 use sc_replica::{LAST_SLOT, Replica};
 use std::alloc::Global;
@@ -66,19 +67,11 @@ impl NodeCore {
         Ok(sent)
     }
 
-    /// Whether it has a replica of a group.
-    #[tactic(auto, using(crate::proofs::Standing::known_by))]
-    fn is_known(&self, group: Draw) -> bool
-        ensures { result ≡ is_some (replica_of group self.now.replicas) }
-    {
-        place_of(self.replicas.as_slice(), group).is_some()
-    }
-
     /// The replica of a child is made as at birth, unless there is one.
     fn bear(&mut self, alloc: Global, child: &Base) -> Result<(), OutOfMemory>
         ensures { OnOk result (self.new ≡ with_born child.now self.old) }
     {
-        if self.is_known(child.core.id) {
+        if has_replica(self, child.core.id) {
             return Ok(());
         }
         let replica = Replica::born(alloc, self.me, child.dup(alloc)?)?;

@@ -36,7 +36,7 @@ fn make_ready(
 }
 
 /// The count of a vote at an open slot.
-#[tactic(auto, using(crate::proofs::Counting::chosen_row, crate::proofs::Counting::waiting_row, crate::proofs::Counting::chosen_children, crate::proofs::Counting::waiting_children))]
+#[tactic(auto, using(crate::proofs::Counting::counted))]
 fn count(
     replica: &mut Replica,
     from: u16,

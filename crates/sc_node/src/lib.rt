@@ -7,6 +7,7 @@ mod arrivals;
 mod births;
 mod counts;
 mod execute;
+mod holding;
 mod node;
 mod ordered;
 mod orders;

@@ -1,26 +1,26 @@
 //! The node.
-ghost use Rattle.std.specs.Prelude.{◌≡◌, [], Some, true, IfOk, OnOk};
+ghost use Rattle.std.specs.Prelude.{◌≡◌, [], true, IfOk, OnOk};
 ghost use Rattle.std.specs.List.{list_all};
 ghost use Rattle.sc_cmd.specs.declared.cores.Base.{Base};
 ghost use Rattle.sc_node_table.specs.Slots.{slots_ahead};
 ghost use Rattle.sc_node_table.specs.Replica.{name_of};
-ghost use Rattle.sc_node_table.specs.Node.{is_before, are_in_order, born_replicas, born_node, replica_of, taken_by, routed, on_mail, with_children, ticked, names_after_ticks, on_tick, node_table, may_come};
-ghost use Rattle.sc_node.specs.Places.{place_from};
+ghost use Rattle.sc_node_table.specs.Node.{is_before, are_in_order, born_replicas, born_node, replica_of, taken_by, routed, on_mail, with_children, on_tick, node_table, may_come};
+ghost use Rattle.sc_node_choices.specs.Places.{StandsAt};
 
 use crate::absent::{group_in, may_come};
 use crate::arrivals::is_before;
 use crate::rows::take_mail;
-use crate::ticks::on_tick;
 use sc_actor::{Actor, Input};
 use sc_base::{Draw, Draws, Dup, OutOfMemory, Sequence};
-use sc_cmd::{Base, OrderLine, same_draw};
+use sc_cmd::{Base, OrderLine};
 use sc_mail::{Mail, MailBody};
+use sc_node_choices::{on_tick, place_of};
 use sc_replica::Replica;
 use std::alloc::Global;
 use std::marker::Model;
 
-/// A node, the names that it draws, and its replicas, one a group. Contracts see it as the record of
-/// the node's table.
+/// A node, the names that it draws, and its replicas, one a group. Contracts see it as the record
+/// of the node's table.
 #[derive(Drop)]
 pub struct NodeCore {
     pub(crate) me: u16,
@@ -41,12 +41,20 @@ impl Model for NodeCore {
 
     ghost Value = { NodeState };
 
-    ghost coded = { let pairs : Coded Contents = map.code (coded_list coded_ℕ) (coded_list coded_ℕ)
-        in let clients : Coded ClientTable = map.code coded_ℕ (Prim.hlevel codes) in let group : Coded
-        Group = Prim.hlevel (codes, pairs, clients) in let replica : Coded ReplicaState =
-        Prim.hlevel (codes, group) in Prim.hlevel (codes, replica) };
+    ghost coded = { let pairs : Coded Contents =
+        map.code (coded_list coded_ℕ) (coded_list coded_ℕ) in
+        let clients : Coded ClientTable = map.code coded_ℕ (Prim.hlevel codes) in
+        let group : Coded Group = Prim.hlevel (codes, pairs, clients) in
+        let replica : Coded ReplicaState = Prim.hlevel (codes, group) in
+        Prim.hlevel (codes, replica) };
 
-    ghost view = { λ n. record { me = n.me; draws = n.draws; policy = n.policy; replicas = n.replicas.items } };
+    ghost view = { λ n.
+        record {
+          me = n.me;
+          draws = n.draws;
+          policy = n.policy;
+          replicas = n.replicas.items;
+        } };
 }
 
 /// Whether a group's name stands before those of all these groups.
@@ -78,37 +86,6 @@ fn born_replicas(alloc: Global, me: u16, groups: &[Base]) -> Result<Vec<Replica>
         }
     }
     Ok(replicas)
-}
-
-/// The place of a group's replica, if there is one.
-pub(crate) fn place_of(replicas: &[Replica], group: Draw) -> Option<usize>
-    ensures { result ≡ place_from 0 group replicas.now }
-{
-    for i in 0..replicas.len() {
-        if same_draw(replicas[i].name(), group) {
-            return Some(i);
-        }
-    }
-    None
-}
-
-/// Each replica ticks, in their order, with the names that those before it left.
-fn tick_all(
-    replicas: &mut Vec<Replica>,
-    policy: bool,
-    draws: &mut Draws,
-    sent: &mut Sequence<Mail>,
-) -> Result<(), OutOfMemory>
-    ensures row { OnOk result
-        ((replicas.new.items, sent.new)
-        ≡ ticked policy draws.old replicas.old.items sent.old) }
-    ensures names { OnOk result
-        (draws.new ≡ names_after_ticks policy draws.old replicas.old.items) }
-{
-    for i in 0..replicas.len() {
-        on_tick(&mut replicas[i], policy, draws, sent)?;
-    }
-    Ok(())
 }
 
 impl NodeCore {
@@ -194,7 +171,7 @@ impl NodeCore {
             taken_by (replica_of group self.old.replicas) group from body.now self.old
             ≡ (self.new, sent)) }
     {
-        match place_of(self.replicas.as_slice(), group) {
+        match place_of(self, group) {
             None => self.take_unknown(alloc, from, body),
             Some(i) => self.take_at(alloc, i, group, from, body),
         }
@@ -212,7 +189,7 @@ impl NodeCore {
         made: &mut Sequence<Base>,
     ) -> Result<(), OutOfMemory>
         requires may_come { may_come from body.now ≡ true }
-        requires place { place_from 0 group self.old.replicas ≡ Some i }
+        requires place { StandsAt group self.old.replicas i }
         requires unsent { sent.old ≡ [] }
         requires none { made.old ≡ [] }
         ensures { OnOk result
@@ -232,7 +209,7 @@ impl NodeCore {
         body: &MailBody,
     ) -> Result<Sequence<Mail>, OutOfMemory>
         requires may_come { may_come from body.now ≡ true }
-        requires place { place_from 0 group self.old.replicas ≡ Some i }
+        requires place { StandsAt group self.old.replicas i }
         ensures { IfOk result
             (λ sent.
             taken_by (replica_of group self.old.replicas) group from body.now self.old
@@ -249,7 +226,7 @@ impl NodeCore {
         ensures { IfOk result (λ sent. on_tick self.old ≡ (self.new, sent)) }
     {
         let mut sent = Sequence::new(alloc);
-        tick_all(&mut self.replicas, self.policy, &mut self.draws, &mut sent)?;
+        on_tick(self, &mut sent)?;
         Ok(sent)
     }
 }

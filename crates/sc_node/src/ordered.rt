@@ -1,17 +1,18 @@
 //! An order for the replica of its group.
-ghost use Rattle.std.specs.Prelude.{◌≡◌, [], Some, None, IfOk};
+ghost use Rattle.std.specs.Prelude.{◌≡◌, [], None, IfOk};
 ghost use Rattle.sc_node_table.specs.Mails.{told_desk};
 ghost use Rattle.sc_node_table.specs.Node.{group_of_order, on_order};
 ghost use Rattle.sc_cmd.specs.declared.orders.ToldResult.TheVariants.{Refused};
 ghost use Rattle.sc_cmd.specs.declared.orders.OrderRefusal.TheVariants.{NotLeader};
-ghost use Rattle.sc_node.specs.Places.{place_from};
+ghost use Rattle.sc_node_choices.specs.Places.{StandsAt};
 
 use crate::absent::alone;
-use crate::node::{NodeCore, place_of};
+use crate::node::NodeCore;
 use crate::orders::on_order;
 use sc_base::{Draw, OutOfMemory, Sequence};
 use sc_cmd::{Order, OrderLine, OrderRefusal, ToldResult};
 use sc_mail::{DESK, Mail, MailBody};
+use sc_node_choices::place_of;
 use std::alloc::Global;
 
 /// The group of an order.
@@ -53,7 +54,7 @@ impl NodeCore {
     ) -> Result<Sequence<Mail>, OutOfMemory>
         ensures { IfOk result (λ sent. on_order line.now self.old ≡ (self.new, sent)) }
     {
-        match place_of(self.replicas.as_slice(), group_of_order(&line.order)) {
+        match place_of(self, group_of_order(&line.order)) {
             None => tell_unknown(alloc, self.me, line.number),
             Some(i) => self.take_order_at(alloc, i, line),
         }
@@ -65,7 +66,7 @@ impl NodeCore {
         i: usize,
         line: &OrderLine,
     ) -> Result<Sequence<Mail>, OutOfMemory>
-        requires { place_from 0 (group_of_order line.now.order) self.old.replicas ≡ Some i }
+        requires { StandsAt (group_of_order line.now.order) self.old.replicas i }
         ensures { IfOk result (λ sent. on_order line.now self.old ≡ (self.new, sent)) }
     {
         let mut sent = Sequence::new(alloc);

@@ -68,9 +68,7 @@ fn on_mail(
         MailBody::Accepted { ballot, slot, .. } => {
             on_accepted(replica, from, *ballot, *slot, out, made)
         }
-        MailBody::Learn { slot, command, .. } => {
-            on_learn(replica, from, *slot, command, out, made)
-        }
+        MailBody::Learn { slot, command, .. } => on_learn(replica, from, *slot, command, out, made),
         MailBody::Prepare { .. }
         | MailBody::Promise { .. }
         | MailBody::Accept { .. }

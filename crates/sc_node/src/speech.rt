@@ -60,7 +60,7 @@ fn order_result(command: &Command, effect: &Effect) -> Option<ToldResult>
 }
 
 /// A call is answered where it was counted; nothing else is said of it.
-#[tactic(auto, unfolding(sc_node_table::specs::Execute::announced), using(crate::proofs::Saying::nothing_of_calls))]
+#[tactic(auto, using(crate::proofs::Saying::nothing_of_calls))]
 fn tell_call(
     replica: &mut Replica,
     counted: bool,
@@ -105,7 +105,7 @@ fn speak(
 }
 
 /// Of any other command the desk is told, and a transaction goes on.
-#[tactic(auto, unfolding(sc_node_table::specs::Execute::announced), using(crate::proofs::Saying::no_answer_of_others))]
+#[tactic(auto, using(crate::proofs::Saying::no_answer_of_others))]
 fn tell_others(
     replica: &Replica,
     counted: bool,

@@ -52,9 +52,11 @@ impl Model for Replica {
 
     ghost Value = { ReplicaState };
 
-    ghost coded = { let pairs : Coded Contents = map.code (coded_list coded_ℕ) (coded_list coded_ℕ)
-        in let clients : Coded ClientTable = map.code coded_ℕ (Prim.hlevel codes) in let group : Coded
-        Group = Prim.hlevel (codes, pairs, clients) in Prim.hlevel (codes, group) };
+    ghost coded = { let pairs : Coded Contents =
+        map.code (coded_list coded_ℕ) (coded_list coded_ℕ) in
+        let clients : Coded ClientTable = map.code coded_ℕ (Prim.hlevel codes) in
+        let group : Coded Group = Prim.hlevel (codes, pairs, clients) in
+        Prim.hlevel (codes, group) };
 
     ghost view = { λ r. record {
       me = r.me;

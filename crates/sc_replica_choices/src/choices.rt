@@ -49,8 +49,8 @@ pub fn refusal(core: &Core, running: bool, hint: Option<u16>, op: &Op) -> Option
     None
 }
 
-/// Whether a command at the head of the calls waits: a call for the lock, and an order also for what
-/// is under way.
+/// Whether a command at the head of the calls waits: a call for the lock, and an order also for
+/// what is under way.
 pub fn waits(idle: bool, lock: &Lock, command: &Command) -> bool
     ensures { result ≡ waits idle lock.now command.now }
 {

@@ -1,15 +1,20 @@
 //! What a replica chooses from a part of what it keeps: why a request is not taken, the members of
-//! the open slots, and which nodes are asked or told. Nothing here drops a mail or a command.
+//! the open slots, which nodes are asked or told, what a group has noted of transactions, and what an
+//! entry decided. Nothing here drops a mail or a command.
 #![tactic(auto)]
 
 mod acts;
 mod choices;
 mod commands;
+mod effects;
 mod nodes;
+mod noted;
 mod open_sets;
 
 pub use acts::{has_kind, is_of_kind};
 pub use choices::{floor_of, is_at_rest, refusal, turned_down, waits, waits_in};
 pub use commands::{is_act, same_command};
+pub use effects::{decided_in, has_decided};
 pub use nodes::{nodes_to, not_among, uncounted};
+pub use noted::{awaits_vote, awaits_watch, is_bound, noted_outcome, standing_vote};
 pub use open_sets::Sets;

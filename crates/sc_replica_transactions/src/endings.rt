@@ -1,6 +1,5 @@
 //! What a coordinator tells of its decision.
 ghost use Rattle.std.specs.Prelude.{◌≡◌, OnOk, Option, Some};
-ghost use Rattle.std.specs.Option.{option_copied};
 ghost use Rattle.sc_cmd.specs.declared.votes.Outcome.TheVariants.{Abort};
 ghost use Rattle.sc_mail.specs.declared.bodies.MailBody.TheVariants.{TxOutcome};
 ghost use Rattle.sc_node_table.specs.Mails.{sent_all};
@@ -11,27 +10,9 @@ use sc_base::{Draw, OutOfMemory, Sequence};
 use sc_cmd::{Effect, Link, Outcome, Past, Vote};
 use sc_mail::{Mail, MailBody};
 use sc_node_table::Before;
+use sc_replica_choices::{decided_in, has_decided};
 use sc_replica_parts::send;
 use std::alloc::Global;
-
-/// The outcome that an entry decided.
-fn decided_in(effect: &Effect) -> Option<&Outcome>
-    ensures { option_copied result ≡ decided_in effect.now }
-{
-    match effect {
-        Effect::Decided(outcome) => Some(outcome),
-        Effect::Done(_)
-        | Effect::Again(_)
-        | Effect::Stale { .. }
-        | Effect::NotMine { .. }
-        | Effect::Gone { .. }
-        | Effect::NoEffect { .. }
-        | Effect::Idle
-        | Effect::Changed
-        | Effect::Voted(_)
-        | Effect::Refused(_) => None,
-    }
-}
 
 /// Each of several nodes is told that nothing comes of it.
 #[tactic(auto, unfolding(sc_node_table::specs::Mails::sent_all))]
@@ -89,7 +70,7 @@ pub(crate) fn give_up(
     ensures { OnOk result
         (out.new ≡ given_up_by (decided_in effect.now) me before.now tx out.old) }
 {
-    if decided_in(effect).is_none() {
+    if !has_decided(effect) {
         return Ok(());
     }
     abort_to(me, tx, &before.succ, out)?;
@@ -119,8 +100,8 @@ pub(crate) fn answer_vote(
     }
 }
 
-/// What a watcher's Yes decided is told to the participant that was heard, and then to the node that
-/// brought the vote.
+/// What a watcher's Yes decided is told to the participant that was heard, and then to the node
+/// that brought the vote.
 fn release(
     alloc: Global,
     me: u16,

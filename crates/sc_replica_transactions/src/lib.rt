@@ -4,16 +4,15 @@
 #![tactic(auto)]
 
 mod endings;
-mod noted;
 mod progress;
 mod questions;
 mod reminders;
 mod tellings;
 mod votes;
 
-pub use noted::{awaits_vote, awaits_watch, is_bound, noted_outcome, standing_vote};
 pub use progress::{before_of, speak};
 pub use questions::ask_next;
 pub use reminders::{has_waited, one_tick_more, remind};
+pub use sc_replica_choices::{awaits_vote, awaits_watch, is_bound, noted_outcome, standing_vote};
 pub use tellings::{pass_on, tell_outcome};
 pub use votes::{tell_vote, tell_watch};

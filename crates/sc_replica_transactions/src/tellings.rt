@@ -104,8 +104,8 @@ fn begun_result(alone: bool, effect: &Effect, command: &Command) -> Option<ToldR
     }
 }
 
-/// The number of the order that is spoken of: the command's own, or that of the transaction that the
-/// group coordinated.
+/// The number of the order that is spoken of: the command's own, or that of the transaction that
+/// the group coordinated.
 fn spoken_number(begun: u32, command: &Command) -> u32
     ensures { result ≡ spoken_number begun command.now }
 {

@@ -20,8 +20,8 @@ pub fn row_texts_are_lines()
         → length row.sent ≤ length (text_of row) }
 {}
 
-/// The text of each row that a value can hold is UTF-8, and a reader of JSON finds the row's JSON in
-/// it: two rows with one text have one JSON.
+/// The text of each row that a value can hold is UTF-8, and a reader of JSON finds the row's JSON
+/// in it: two rows with one text have one JSON.
 pub fn row_texts_read_back()
     ensures whole { (row : Row Mail OrderLine) → IsHeld row → has_float (row_json row) ≡ false }
     ensures back { (row : Row Mail OrderLine) → IsHeld row

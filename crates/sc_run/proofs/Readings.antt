@@ -11,9 +11,9 @@ use Rattle.sc_actor.specs.Mail.{mails}
 use Rattle.sc_actor.specs.declared.rows.Row.{Row}
 use Rattle.sc_cmd.specs.declared.orders.OrderLine.{OrderLine}
 use Rattle.sc_mail.specs.declared.bodies.Mail.{Mail}
-use Rattle.sc_statuses.specs.Wants.{fault_text, ReadsAs, ReadsText, ReadsFile, Stores, IsAskedFor, IsWanted}
-use Rattle.sc_statuses.specs.declared.wants.Wanted.{Wanted}
-use Rattle.sc_statuses.specs.declared.wants.Wanted.TheVariants.{Usage as Nothing, ReadFault as Failed, Run, BadScenario as NoScenario, Journal, Audit}
+use Rattle.sc_wants.specs.Wants.{fault_text, ReadsAs, ReadsText, ReadsFile, Stores, IsAskedFor, IsWanted}
+use Rattle.sc_wants.specs.declared.wants.Wanted.{Wanted}
+use Rattle.sc_wants.specs.declared.wants.Wanted.TheVariants.{Usage as Nothing, ReadFault as Failed, Run, BadScenario as NoScenario, Journal, Audit}
 use Rattle.sc_statuses.specs.declared.said.Said.{Said}
 use Rattle.sc_statuses.specs.declared.said.Said.TheVariants.{Ended, Unsettled, Filled, Usage, BadScenario, ReadFault, Lawful, Unlawful}
 use Rattle.sc_run.specs.declared.done.Text.{Text}

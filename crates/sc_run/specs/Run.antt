@@ -26,7 +26,7 @@ use Rattle.sc_statuses.specs.Causes.{Prints}
 use Rattle.sc_words.specs.Asked.{asked_by}
 use Rattle.sc_words.specs.declared.asked.Asked.{Asked}
 use Rattle.sc_words.specs.declared.asked.Asked.TheVariants as ask
-use Rattle.sc_statuses.specs.Wants.{fault_text, ReadsAs, ReadsText, ReadsFile}
+use Rattle.sc_wants.specs.Wants.{fault_text, ReadsAs, ReadsText, ReadsFile}
 use Rattle.sc_statuses.specs.declared.said.Said.{Said}
 use Rattle.sc_statuses.specs.declared.said.Said.TheVariants as said
 use Rattle.sc_statuses.specs.declared.said.Said.TheVariants.{Ended, Unsettled, Filled, Usage, BadScenario, ReadFault}

@@ -1,7 +1,7 @@
 //! From the words and bytes that come in to the bytes that go out.
 ghost use Rattle.std.specs.Prelude.{◌≡◌, ◌≤◌, ◌+◌, map, false, string_bytes, codes, IfOk};
 ghost use Rattle.sc_words.specs.Asked.{reads_input};
-ghost use Rattle.sc_statuses.specs.Wants.{fault_text, most_takes};
+ghost use Rattle.sc_wants.specs.Wants.{fault_text, most_takes};
 ghost use Rattle.sc_statuses.specs.declared.said.Said.TheVariants.{Usage, ReadFault, BadScenario};
 ghost use Rattle.sc_run.specs.Run.{usage, Tells, Says, Runs};
 
@@ -12,7 +12,8 @@ use crate::telling::tells;
 use sc_actor::Gate;
 use sc_base::{OutOfMemory, Sequence};
 use sc_edges::{Sink, Source};
-use sc_statuses::{Said, Wanted, fault_text, print, wanted_of};
+use sc_statuses::{Said, print};
+use sc_wants::{Wanted, fault_text, wanted_of};
 use std::alloc::Global;
 use std::sync::Wait;
 use std::thread::Threads;

@@ -5,5 +5,5 @@ mod Results
 mod Rosters
 mod Spelled
 mod Starts
-mod Texts
-mod Verdicts
+pub mod Texts
+pub mod Verdicts

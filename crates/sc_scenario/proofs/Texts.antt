@@ -326,7 +326,8 @@ line_read_is reading line more is e =
 
 -- ---- the whole
 
-going_ok : (number : ℕ) (onward : Reading → Result Scenario ScenarioFault) (r : Result Reading Reason) (scenario : Scenario) → going_on number onward r ≡ Ok scenario → (more : Reading) × (r ≡ Ok more) × (onward more ≡ Ok scenario)
+-- what a line gave, where the reading went on to a scenario
+pub going_ok : (number : ℕ) (onward : Reading → Result Scenario ScenarioFault) (r : Result Reading Reason) (scenario : Scenario) → going_on number onward r ≡ Ok scenario → (more : Reading) × (r ≡ Ok more) × (onward more ≡ Ok scenario)
 going_ok number onward (Ok more) scenario e = (more, refl, e)
 going_ok number onward (Err reason) scenario e = absurd (err_ok (Bad number (reason_code reason)) scenario e)
 

@@ -1,9 +1,10 @@
 use Rattle.std.proofs.Common.{◌≡◌, ◌++◌, [], ◌∷◌, sym, subst, arith}
 use Rattle.std.proofs.lemmas.List.{length_push}
 use Rattle.sc_base.specs.Among.{Each}
+use Rattle.sc_paxos_words.proofs.ListLemmas.{Each-append}
 use Rattle.sc_row_text.specs.RowText.{IsHeld}
 use Rattle.sc_journal_file.specs.Stored.{IsSole, GoesOn}
-use Rattle.sc_journal_file.proofs.Rows.{each_push, rows_on, rest_shorter}
+use Rattle.sc_journal_file.proofs.Rows.{rows_on, rest_shorter}
 use Rattle.sc_journal_file.proofs.reading.read_rows.Goals as goal
 
 pub loop-rest-preserved : goal.loop-rest-preserved
@@ -15,8 +16,8 @@ loop-rest-preserved c =
     let shorter = rest_shorter c.loop-rest.rest.now c.in-Some.more.now row on in
     let before = c.loop-rest.invariant in
     record {
-      held = subst (Each IsHeld) (sym pushed) (each_push IsHeld rows row before.held on.held);
-      sole = subst (Each IsSole) (sym pushed) (each_push IsSole rows row before.sole on.sole);
+      held = subst (Each IsHeld) (sym pushed) (Each-append IsHeld rows (row ∷ []) before.held (on.held, tt));
+      sole = subst (Each IsSole) (sym pushed) (Each-append IsSole rows (row ∷ []) before.sole (on.sole, tt));
       bytes_are = rw pushed (rows_on c.args.bytes.now c.loop-rest.rest.now c.in-Some.more.now rows row before.bytes_are on);
       line_is = rw pushed (let one = length_push rows row in omega (arith, one, before.line_is));
       within = omega (arith, shorter, before.within);

@@ -1,19 +1,19 @@
-use Rattle.std.proofs.Common.{[], get_or, sym, ◌∙◌, ap, arith}
+use Rattle.std.proofs.Common.{[], get_or, sym, subst, ◌∙◌, ap, arith}
 use Rattle.sc_node_table.specs.Node.{NodeState, replica_of, taken_by}
 use Rattle.sc_node_table.specs.Rows.{mailed}
 use Rattle.sc_node_table.specs.Births.{mailed_children}
-use Rattle.sc_node.specs.Places.{place_from}
-use Rattle.sc_node.proofs.Standing.{stands-at, taken-at}
+use Rattle.sc_node_choices.specs.Places.{StandsAt}
+use Rattle.sc_node.proofs.Standing.{taken-at}
 use Rattle.sc_node.proofs.node.NodeCore.hand_over.Goals as goal
 
 pub index_mut-requires : goal.index_mut-requires
 index_mut-requires c =
-    let stands = stands-at c.args.group c.self.inside.replicas.items c.args.i (ap (λ (n : NodeState). place_from 0 c.args.group n.replicas) c.self.view_is ∙ c.requires.place) in
+    let stands = subst (λ (n : NodeState). StandsAt c.args.group n.replicas c.args.i) (sym c.self.view_is) c.requires.place in
     omega (arith, stands.within, c.self.inside.replicas.ok.0)
 
 pub returns : goal.returns
 returns c =
-    let stands = stands-at c.args.group c.self.inside.replicas.items c.args.i (ap (λ (n : NodeState). place_from 0 c.args.group n.replicas) c.self.view_is ∙ c.requires.place) in
+    let stands = subst (λ (n : NodeState). StandsAt c.args.group n.replicas c.args.i) (sym c.self.view_is) c.requires.place in
     let node : NodeState = record { me = c.self.inside.me; draws = c.self.inside.draws; policy = c.self.inside.policy; replicas = c.self.inside.replicas.items } in
     ap (λ (n : NodeState). taken_by (replica_of c.args.group n.replicas) c.args.group c.args.from c.args.body.now n) (sym c.self.view_is)
     ∙ taken-at c.args.group c.args.from c.args.body.now node c.args.i c.index_mut.result.now c.take_mail.new.replica c.take_mail.new.out c.take_mail.new.made stands

@@ -1,18 +1,18 @@
-use Rattle.std.proofs.Common.{get_or, sym, ◌∙◌, ap, arith}
+use Rattle.std.proofs.Common.{get_or, sym, subst, ◌∙◌, ap, arith}
 use Rattle.sc_node_table.specs.Node.{NodeState, group_of_order, on_order}
 use Rattle.sc_node_table.specs.Ordering.{ordered_row, names_after}
-use Rattle.sc_node.specs.Places.{place_from}
-use Rattle.sc_node.proofs.Standing.{stands-at, ordered-at}
+use Rattle.sc_node_choices.specs.Places.{StandsAt}
+use Rattle.sc_node.proofs.Standing.{ordered-at}
 use Rattle.sc_node.proofs.node.NodeCore.take_order_at.Goals as goal
 
 pub index_mut-requires : goal.index_mut-requires
 index_mut-requires c =
-    let stands = stands-at (group_of_order c.args.line.now.order) c.self.inside.replicas.items c.args.i (ap (λ (n : NodeState). place_from 0 (group_of_order c.args.line.now.order) n.replicas) c.self.view_is ∙ c.requires) in
+    let stands = subst (λ (n : NodeState). StandsAt (group_of_order c.args.line.now.order) n.replicas c.args.i) (sym c.self.view_is) c.requires in
     omega (arith, stands.within, c.self.inside.replicas.ok.0)
 
 pub returns : goal.returns
 returns c =
-    let stands = stands-at (group_of_order c.args.line.now.order) c.self.inside.replicas.items c.args.i (ap (λ (n : NodeState). place_from 0 (group_of_order c.args.line.now.order) n.replicas) c.self.view_is ∙ c.requires) in
+    let stands = subst (λ (n : NodeState). StandsAt (group_of_order c.args.line.now.order) n.replicas c.args.i) (sym c.self.view_is) c.requires in
     let node : NodeState = record { me = c.self.inside.me; draws = c.self.inside.draws; policy = c.self.inside.policy; replicas = c.self.inside.replicas.items } in
     ap (λ (n : NodeState). on_order c.args.line.now n) (sym c.self.view_is)
     ∙ ordered-at c.args.line.now node c.args.i c.index_mut.result.now c.on_order.new.replica c.on_order.new.out c.on_order.new.draws stands

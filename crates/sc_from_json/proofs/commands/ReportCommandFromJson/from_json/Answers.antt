@@ -1,0 +1,15 @@
+use Rattle.std.proofs.Common.{codes, ap}
+use Rattle.serde_json.specs.Find.{get}
+use Rattle.sc_paxos_words.specs.declared.reports.Report.{Report}
+use Rattle.sc_cmd.specs.declared.commands.Command.{Command}
+use Rattle.sc_row_text.specs.Commands.{report_json, FitsReport}
+use Rattle.sc_from_json.proofs.Finding.{failed}
+use Rattle.sc_from_json.proofs.commands.ReportCommandFromJson.from_json.Goals as goal
+
+pub returns-in_err-ballot : goal.returns-in_err-ballot
+unfolding report_json FitsReport
+returns-in_err-ballot c = λ report fits e. failed _ _ _ c.from_residual.ensures (c.in_err-ballot.ensures report.ballot report.slot report.value fits.0 fits.1 fits.2 (ap (get (codes "ballot")) e) (ap (get (codes "slot")) e) (ap (get (codes "value")) e))
+
+pub returns : goal.returns
+unfolding report_json FitsReport
+returns c = λ report fits e. ap (λ p. let r : Report Command = record { ballot = p.0; slot = p.1; value = p.2 } in r) (c.in_ok-ballot.ensures report.ballot report.slot report.value fits.0 fits.1 fits.2 (ap (get (codes "ballot")) e) (ap (get (codes "slot")) e) (ap (get (codes "value")) e))

@@ -1,0 +1,125 @@
+use Rattle.std.proofs.Common.{◌≡◌, List, ℕ, codes, ap, sym, ◌∙◌, Result, refl, subst}
+use Rattle.std.specs.Prelude.{⊤}
+use Rattle.serde_json.specs.Data.{Data}
+use Rattle.sc_base.specs.declared.ops.Op.{Op}
+use Rattle.sc_base.specs.declared.ops.Op.TheVariants.{Get, Put, Del, Add, Cas}
+use Rattle.sc_row_text.specs.Ops.{op_json, FitsOp}
+use Rattle.sc_row_text.specs.Shapes.{variant}
+use Rattle.sc_from_json.specs.Reading.{Finds, MayBeVariant, name_of, content_of}
+use Rattle.sc_from_json.specs.declared.faults.RowFault.{RowFault}
+use Rattle.sc_from_json.specs.declared.faults.RowFault.TheVariants.{NoRow, OutOfMemory}
+use Rattle.sc_from_json.proofs.Apart.{apart}
+use Rattle.sc_from_json.proofs.ops.OpFromJson.from_json.Goals as goal
+
+-- the name of each variant
+name : Op → List ℕ
+name (Get key) = codes "Get"
+name (Put key value) = codes "Put"
+name (Del key) = codes "Del"
+name (Add key value) = codes "Add"
+name (Cas key expect value) = codes "Cas"
+
+-- the variants that have a content
+HasContent : Op → Type 0
+HasContent (Get key) = ⊤
+HasContent (Put key value) = ⊤
+HasContent (Del key) = ⊤
+HasContent (Add key value) = ⊤
+HasContent (Cas key expect value) = ⊤
+
+of_value : (value : Op) → MayBeVariant (op_json value)
+unfolding op_json
+of_value (Get key) = tt
+of_value (Put key value) = tt
+of_value (Del key) = tt
+of_value (Add key value) = tt
+of_value (Cas key expect value) = tt
+
+-- the JSON may be a variant
+shaped : (json : Data) (value : Op) → json ≡ op_json value → MayBeVariant json
+shaped json value e = subst MayBeVariant (sym e) (of_value value)
+
+named_as : (value : Op) → name_of (op_json value) ≡ name value
+unfolding name op_json
+named_as (Get key) = refl
+named_as (Put key value) = refl
+named_as (Del key) = refl
+named_as (Add key value) = refl
+named_as (Cas key expect value) = refl
+
+-- the name that was found is that of the variant
+called : (json : Data) (found : List ℕ) (value : Op) → json ≡ op_json value → found ≡ name_of json → found ≡ name value
+called json found value e named = named ∙ (ap name_of e ∙ named_as value)
+
+whole_of : (value : Op) → HasContent value → variant (name value) (content_of (op_json value)) ≡ op_json value
+unfolding name HasContent op_json
+whole_of (Get key) some = refl
+whole_of (Put key value) some = refl
+whole_of (Del key) some = refl
+whole_of (Add key value) some = refl
+whole_of (Cas key expect value) some = refl
+
+-- the name and the content that were found make the JSON
+rebuilt : (json content : Data) (value : Op) → json ≡ op_json value → content ≡ content_of json → HasContent value → variant (name value) content ≡ op_json value
+rebuilt json content value e inner some = ap (variant (name value)) (inner ∙ ap content_of e) ∙ whole_of value some
+
+-- one of the names is that of the variant
+none_left : (found : List ℕ) (value : Op) → found ≡ name value
+    → (found ≡ codes "Get" → ⊥) → (found ≡ codes "Put" → ⊥) → (found ≡ codes "Del" → ⊥) → (found ≡ codes "Add" → ⊥) → (found ≡ codes "Cas" → ⊥) → NoRow ≡ OutOfMemory
+unfolding name
+none_left found (Get key) is n0 n1 n2 n3 n4 = absurd (n0 is)
+none_left found (Put key value) is n0 n1 n2 n3 n4 = absurd (n1 is)
+none_left found (Del key) is n0 n1 n2 n3 n4 = absurd (n2 is)
+none_left found (Add key value) is n0 n1 n2 n3 n4 = absurd (n3 is)
+none_left found (Cas key expect value) is n0 n1 n2 n3 n4 = absurd (n4 is)
+
+at_get : (json content : Data) (found : List ℕ) (value : Op) (result : Result Op RowFault) → json ≡ op_json value → content ≡ content_of json → found ≡ name value → found ≡ codes "Get" → FitsOp value
+    → ((key : _) → FitsOp (Get key) → variant (codes "Get") content ≡ op_json (Get key) → Finds (Get key) result) → Finds value result
+unfolding name HasContent
+at_get json content found (Get key) result e inner_is called_so is fits read = read key fits (rebuilt json content (Get key) e inner_is tt)
+at_get json content found _ result e inner_is called_so is fits read = absurd (apart _ _ (sym is ∙ called_so) refl)
+
+at_put : (json content : Data) (found : List ℕ) (value : Op) (result : Result Op RowFault) → json ≡ op_json value → content ≡ content_of json → found ≡ name value → found ≡ codes "Put" → FitsOp value
+    → ((key : _) (value : _) → FitsOp (Put key value) → variant (codes "Put") content ≡ op_json (Put key value) → Finds (Put key value) result) → Finds value result
+unfolding name HasContent
+at_put json content found (Put key value) result e inner_is called_so is fits read = read key value fits (rebuilt json content (Put key value) e inner_is tt)
+at_put json content found _ result e inner_is called_so is fits read = absurd (apart _ _ (sym is ∙ called_so) refl)
+
+at_del : (json content : Data) (found : List ℕ) (value : Op) (result : Result Op RowFault) → json ≡ op_json value → content ≡ content_of json → found ≡ name value → found ≡ codes "Del" → FitsOp value
+    → ((key : _) → FitsOp (Del key) → variant (codes "Del") content ≡ op_json (Del key) → Finds (Del key) result) → Finds value result
+unfolding name HasContent
+at_del json content found (Del key) result e inner_is called_so is fits read = read key fits (rebuilt json content (Del key) e inner_is tt)
+at_del json content found _ result e inner_is called_so is fits read = absurd (apart _ _ (sym is ∙ called_so) refl)
+
+at_add : (json content : Data) (found : List ℕ) (value : Op) (result : Result Op RowFault) → json ≡ op_json value → content ≡ content_of json → found ≡ name value → found ≡ codes "Add" → FitsOp value
+    → ((key : _) (value : _) → FitsOp (Add key value) → variant (codes "Add") content ≡ op_json (Add key value) → Finds (Add key value) result) → Finds value result
+unfolding name HasContent
+at_add json content found (Add key value) result e inner_is called_so is fits read = read key value fits (rebuilt json content (Add key value) e inner_is tt)
+at_add json content found _ result e inner_is called_so is fits read = absurd (apart _ _ (sym is ∙ called_so) refl)
+
+at_cas : (json content : Data) (found : List ℕ) (value : Op) (result : Result Op RowFault) → json ≡ op_json value → content ≡ content_of json → found ≡ name value → found ≡ codes "Cas" → FitsOp value
+    → ((key : _) (expect : _) (value : _) → FitsOp (Cas key expect value) → variant (codes "Cas") content ≡ op_json (Cas key expect value) → Finds (Cas key expect value) result) → Finds value result
+unfolding name HasContent
+at_cas json content found (Cas key expect value) result e inner_is called_so is fits read = read key expect value fits (rebuilt json content (Cas key expect value) e inner_is tt)
+at_cas json content found _ result e inner_is called_so is fits read = absurd (apart _ _ (sym is ∙ called_so) refl)
+
+pub returns-in_default : goal.returns-in_default
+returns-in_default c = λ value fits e. absurd (c.in_default.ensures (shaped _ value e))
+
+pub returns-in-Get : goal.returns-in-Get
+returns-in-Get c = λ value fits e. let parts = c.in-Some.ensures (shaped _ value e) in at_get _ _ _ value _ e parts.1 (called _ _ value e parts.0) c.in-Get.is fits c.op_get.ensures
+
+pub returns-in-Put : goal.returns-in-Put
+returns-in-Put c = λ value fits e. let parts = c.in-Some.ensures (shaped _ value e) in at_put _ _ _ value _ e parts.1 (called _ _ value e parts.0) c.in-Put.is fits c.op_put.ensures
+
+pub returns-in-Del : goal.returns-in-Del
+returns-in-Del c = λ value fits e. let parts = c.in-Some.ensures (shaped _ value e) in at_del _ _ _ value _ e parts.1 (called _ _ value e parts.0) c.in-Del.is fits c.op_del.ensures
+
+pub returns-in-Add : goal.returns-in-Add
+returns-in-Add c = λ value fits e. let parts = c.in-Some.ensures (shaped _ value e) in at_add _ _ _ value _ e parts.1 (called _ _ value e parts.0) c.in-Add.is fits c.op_add.ensures
+
+pub returns-in-Cas : goal.returns-in-Cas
+returns-in-Cas c = λ value fits e. let parts = c.in-Some.ensures (shaped _ value e) in at_cas _ _ _ value _ e parts.1 (called _ _ value e parts.0) c.in-Cas.is fits c.op_cas.ensures
+
+pub returns-in_default-name : goal.returns-in_default-name
+returns-in_default-name c = λ value fits e. let parts = c.in-Some.ensures (shaped _ value e) in none_left _ value (called _ _ value e parts.0) c.in_default-name.not-Get c.in_default-name.not-Put c.in_default-name.not-Del c.in_default-name.not-Add c.in_default-name.not-Cas

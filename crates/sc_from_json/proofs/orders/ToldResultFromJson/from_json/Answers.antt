@@ -1,0 +1,107 @@
+use Rattle.std.proofs.Common.{◌≡◌, List, ℕ, codes, ap, sym, ◌∙◌, Result, refl, subst}
+use Rattle.std.specs.Prelude.{⊤}
+use Rattle.serde_json.specs.Data.{Data}
+use Rattle.sc_cmd.specs.declared.orders.ToldResult.{ToldResult}
+use Rattle.sc_cmd.specs.declared.orders.ToldResult.TheVariants.{Done, Committed, Aborted, Refused}
+use Rattle.sc_row_text.specs.Orders.{told_result_json, FitsToldResult}
+use Rattle.sc_row_text.specs.Shapes.{variant}
+use Rattle.sc_from_json.specs.Reading.{Finds, MayBeVariant, name_of, content_of}
+use Rattle.sc_from_json.specs.declared.faults.RowFault.{RowFault}
+use Rattle.sc_from_json.specs.declared.faults.RowFault.TheVariants.{NoRow, OutOfMemory}
+use Rattle.sc_from_json.proofs.Apart.{apart}
+use Rattle.sc_from_json.proofs.orders.ToldResultFromJson.from_json.Goals as goal
+
+-- the name of each variant
+name : ToldResult → List ℕ
+name Done = codes "Done"
+name Committed = codes "Committed"
+name Aborted = codes "Aborted"
+name (Refused inner) = codes "Refused"
+
+-- the variants that have a content
+HasContent : ToldResult → Type 0
+HasContent Done = ⊥
+HasContent Committed = ⊥
+HasContent Aborted = ⊥
+HasContent (Refused inner) = ⊤
+
+of_value : (value : ToldResult) → MayBeVariant (told_result_json value)
+unfolding told_result_json
+of_value Done = tt
+of_value Committed = tt
+of_value Aborted = tt
+of_value (Refused inner) = tt
+
+-- the JSON may be a variant
+shaped : (json : Data) (value : ToldResult) → json ≡ told_result_json value → MayBeVariant json
+shaped json value e = subst MayBeVariant (sym e) (of_value value)
+
+named_as : (value : ToldResult) → name_of (told_result_json value) ≡ name value
+unfolding name told_result_json
+named_as Done = refl
+named_as Committed = refl
+named_as Aborted = refl
+named_as (Refused inner) = refl
+
+-- the name that was found is that of the variant
+called : (json : Data) (found : List ℕ) (value : ToldResult) → json ≡ told_result_json value → found ≡ name_of json → found ≡ name value
+called json found value e named = named ∙ (ap name_of e ∙ named_as value)
+
+whole_of : (value : ToldResult) → HasContent value → variant (name value) (content_of (told_result_json value)) ≡ told_result_json value
+unfolding name HasContent told_result_json
+whole_of Done some = absurd some
+whole_of Committed some = absurd some
+whole_of Aborted some = absurd some
+whole_of (Refused inner) some = refl
+
+-- the name and the content that were found make the JSON
+rebuilt : (json content : Data) (value : ToldResult) → json ≡ told_result_json value → content ≡ content_of json → HasContent value → variant (name value) content ≡ told_result_json value
+rebuilt json content value e inner some = ap (variant (name value)) (inner ∙ ap content_of e) ∙ whole_of value some
+
+-- one of the names is that of the variant
+none_left : (found : List ℕ) (value : ToldResult) → found ≡ name value
+    → (found ≡ codes "Done" → ⊥) → (found ≡ codes "Committed" → ⊥) → (found ≡ codes "Aborted" → ⊥) → (found ≡ codes "Refused" → ⊥) → NoRow ≡ OutOfMemory
+unfolding name
+none_left found Done is n0 n1 n2 n3 = absurd (n0 is)
+none_left found Committed is n0 n1 n2 n3 = absurd (n1 is)
+none_left found Aborted is n0 n1 n2 n3 = absurd (n2 is)
+none_left found (Refused inner) is n0 n1 n2 n3 = absurd (n3 is)
+
+at_done : (found : List ℕ) (value : ToldResult) → found ≡ name value → found ≡ codes "Done" → Done ≡ value
+unfolding name
+at_done found Done called_so is = refl
+at_done found _ called_so is = absurd (apart _ _ (sym is ∙ called_so) refl)
+
+at_committed : (found : List ℕ) (value : ToldResult) → found ≡ name value → found ≡ codes "Committed" → Committed ≡ value
+unfolding name
+at_committed found Committed called_so is = refl
+at_committed found _ called_so is = absurd (apart _ _ (sym is ∙ called_so) refl)
+
+at_aborted : (found : List ℕ) (value : ToldResult) → found ≡ name value → found ≡ codes "Aborted" → Aborted ≡ value
+unfolding name
+at_aborted found Aborted called_so is = refl
+at_aborted found _ called_so is = absurd (apart _ _ (sym is ∙ called_so) refl)
+
+at_refused : (json content : Data) (found : List ℕ) (value : ToldResult) (result : Result ToldResult RowFault) → json ≡ told_result_json value → content ≡ content_of json → found ≡ name value → found ≡ codes "Refused" → FitsToldResult value
+    → ((inner : _) → FitsToldResult (Refused inner) → variant (codes "Refused") content ≡ told_result_json (Refused inner) → Finds (Refused inner) result) → Finds value result
+unfolding name HasContent
+at_refused json content found (Refused inner) result e inner_is called_so is fits read = read inner fits (rebuilt json content (Refused inner) e inner_is tt)
+at_refused json content found _ result e inner_is called_so is fits read = absurd (apart _ _ (sym is ∙ called_so) refl)
+
+pub returns-in_default : goal.returns-in_default
+returns-in_default c = λ value fits e. absurd (c.in_default.ensures (shaped _ value e))
+
+pub returns-in-Done : goal.returns-in-Done
+returns-in-Done c = λ value fits e. let parts = c.in-Some.ensures (shaped _ value e) in at_done _ value (called _ _ value e parts.0) c.in-Done.is
+
+pub returns-in-Committed : goal.returns-in-Committed
+returns-in-Committed c = λ value fits e. let parts = c.in-Some.ensures (shaped _ value e) in at_committed _ value (called _ _ value e parts.0) c.in-Committed.is
+
+pub returns-in-Aborted : goal.returns-in-Aborted
+returns-in-Aborted c = λ value fits e. let parts = c.in-Some.ensures (shaped _ value e) in at_aborted _ value (called _ _ value e parts.0) c.in-Aborted.is
+
+pub returns-in-Refused : goal.returns-in-Refused
+returns-in-Refused c = λ value fits e. let parts = c.in-Some.ensures (shaped _ value e) in at_refused _ _ _ value _ e parts.1 (called _ _ value e parts.0) c.in-Refused.is fits c.told_result_refused.ensures
+
+pub returns-in_default-name : goal.returns-in_default-name
+returns-in_default-name c = λ value fits e. let parts = c.in-Some.ensures (shaped _ value e) in none_left _ value (called _ _ value e parts.0) c.in_default-name.not-Done c.in_default-name.not-Committed c.in_default-name.not-Aborted c.in_default-name.not-Refused

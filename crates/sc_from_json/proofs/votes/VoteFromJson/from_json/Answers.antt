@@ -1,0 +1,80 @@
+use Rattle.std.proofs.Common.{◌≡◌, List, ℕ, codes, ap, sym, ◌∙◌, Result, refl, subst}
+use Rattle.std.specs.Prelude.{⊤}
+use Rattle.serde_json.specs.Data.{Data}
+use Rattle.sc_cmd.specs.declared.votes.Vote.{Vote}
+use Rattle.sc_cmd.specs.declared.votes.Vote.TheVariants.{Yes, No}
+use Rattle.sc_row_text.specs.Votes.{vote_json, FitsVote}
+use Rattle.sc_row_text.specs.Shapes.{variant}
+use Rattle.sc_from_json.specs.Reading.{Finds, MayBeVariant, name_of, content_of}
+use Rattle.sc_from_json.specs.declared.faults.RowFault.{RowFault}
+use Rattle.sc_from_json.specs.declared.faults.RowFault.TheVariants.{NoRow, OutOfMemory}
+use Rattle.sc_from_json.proofs.Apart.{apart}
+use Rattle.sc_from_json.proofs.votes.VoteFromJson.from_json.Goals as goal
+
+-- the name of each variant
+name : Vote → List ℕ
+name (Yes inner) = codes "Yes"
+name (No inner) = codes "No"
+
+-- the variants that have a content
+HasContent : Vote → Type 0
+HasContent (Yes inner) = ⊤
+HasContent (No inner) = ⊤
+
+of_value : (value : Vote) → MayBeVariant (vote_json value)
+unfolding vote_json
+of_value (Yes inner) = tt
+of_value (No inner) = tt
+
+-- the JSON may be a variant
+shaped : (json : Data) (value : Vote) → json ≡ vote_json value → MayBeVariant json
+shaped json value e = subst MayBeVariant (sym e) (of_value value)
+
+named_as : (value : Vote) → name_of (vote_json value) ≡ name value
+unfolding name vote_json
+named_as (Yes inner) = refl
+named_as (No inner) = refl
+
+-- the name that was found is that of the variant
+called : (json : Data) (found : List ℕ) (value : Vote) → json ≡ vote_json value → found ≡ name_of json → found ≡ name value
+called json found value e named = named ∙ (ap name_of e ∙ named_as value)
+
+whole_of : (value : Vote) → HasContent value → variant (name value) (content_of (vote_json value)) ≡ vote_json value
+unfolding name HasContent vote_json
+whole_of (Yes inner) some = refl
+whole_of (No inner) some = refl
+
+-- the name and the content that were found make the JSON
+rebuilt : (json content : Data) (value : Vote) → json ≡ vote_json value → content ≡ content_of json → HasContent value → variant (name value) content ≡ vote_json value
+rebuilt json content value e inner some = ap (variant (name value)) (inner ∙ ap content_of e) ∙ whole_of value some
+
+-- one of the names is that of the variant
+none_left : (found : List ℕ) (value : Vote) → found ≡ name value
+    → (found ≡ codes "Yes" → ⊥) → (found ≡ codes "No" → ⊥) → NoRow ≡ OutOfMemory
+unfolding name
+none_left found (Yes inner) is n0 n1 = absurd (n0 is)
+none_left found (No inner) is n0 n1 = absurd (n1 is)
+
+at_yes : (json content : Data) (found : List ℕ) (value : Vote) (result : Result Vote RowFault) → json ≡ vote_json value → content ≡ content_of json → found ≡ name value → found ≡ codes "Yes" → FitsVote value
+    → ((inner : _) → FitsVote (Yes inner) → variant (codes "Yes") content ≡ vote_json (Yes inner) → Finds (Yes inner) result) → Finds value result
+unfolding name HasContent
+at_yes json content found (Yes inner) result e inner_is called_so is fits read = read inner fits (rebuilt json content (Yes inner) e inner_is tt)
+at_yes json content found _ result e inner_is called_so is fits read = absurd (apart _ _ (sym is ∙ called_so) refl)
+
+at_no : (json content : Data) (found : List ℕ) (value : Vote) (result : Result Vote RowFault) → json ≡ vote_json value → content ≡ content_of json → found ≡ name value → found ≡ codes "No" → FitsVote value
+    → ((inner : _) → FitsVote (No inner) → variant (codes "No") content ≡ vote_json (No inner) → Finds (No inner) result) → Finds value result
+unfolding name HasContent
+at_no json content found (No inner) result e inner_is called_so is fits read = read inner fits (rebuilt json content (No inner) e inner_is tt)
+at_no json content found _ result e inner_is called_so is fits read = absurd (apart _ _ (sym is ∙ called_so) refl)
+
+pub returns-in_default : goal.returns-in_default
+returns-in_default c = λ value fits e. absurd (c.in_default.ensures (shaped _ value e))
+
+pub returns-in-Yes : goal.returns-in-Yes
+returns-in-Yes c = λ value fits e. let parts = c.in-Some.ensures (shaped _ value e) in at_yes _ _ _ value _ e parts.1 (called _ _ value e parts.0) c.in-Yes.is fits c.vote_yes.ensures
+
+pub returns-in-No : goal.returns-in-No
+returns-in-No c = λ value fits e. let parts = c.in-Some.ensures (shaped _ value e) in at_no _ _ _ value _ e parts.1 (called _ _ value e parts.0) c.in-No.is fits c.vote_no.ensures
+
+pub returns-in_default-name : goal.returns-in_default-name
+returns-in_default-name c = λ value fits e. let parts = c.in-Some.ensures (shaped _ value e) in none_left _ value (called _ _ value e parts.0) c.in_default-name.not-Yes c.in_default-name.not-No

@@ -1,0 +1,14 @@
+use Rattle.std.proofs.Common.{ap}
+use Rattle.sc_cmd.specs.declared.votes.Vote.TheVariants.{Yes}
+use Rattle.sc_row_text.specs.Votes.{vote_json, FitsVote}
+use Rattle.sc_from_json.specs.Reading.{content_of}
+use Rattle.sc_from_json.proofs.Finding.{failed}
+use Rattle.sc_from_json.proofs.votes.vote_yes.Goals as goal
+
+pub returns-in_err-inner : goal.returns-in_err-inner
+unfolding vote_json FitsVote
+returns-in_err-inner c = λ inner fits e. failed _ _ _ c.from_residual.ensures (c.in_err-inner.ensures inner fits (ap content_of e))
+
+pub returns : goal.returns
+unfolding vote_json FitsVote
+returns c = λ inner fits e. ap Yes (c.in_ok-inner.ensures inner fits (ap content_of e))

@@ -1,0 +1,82 @@
+//! Answers.
+ghost use Rattle.std.specs.Prelude.{◌≡◌, codes};
+ghost use Rattle.serde_json.specs.View.{view};
+ghost use Rattle.sc_mail.specs.declared.bodies.AnswerBody.{AnswerBody};
+ghost use Rattle.sc_row_text.specs.Shapes.{variant as variant_json};
+ghost use Rattle.sc_from_json.specs.Reading.{Finds};
+ghost use Rattle.sc_row_text.specs.Answers.{answer_body_json, FitsAnswerBody};
+
+use crate::faults::RowFault;
+use crate::from_json::FromJson;
+use crate::reading::{member, pair_of, parts_of, whole};
+use sc_mail::AnswerBody;
+use serde_json::Value as Json;
+use std::alloc::Global;
+
+fn answer_body_value(alloc: Global, content: &Json) -> Result<AnswerBody, RowFault>
+    ensures { (inner : _) → FitsAnswerBody (AnswerBody.Value inner)
+        → variant_json (codes "Value") (view content.now)
+        ≡ answer_body_json (AnswerBody.Value inner)
+        → Finds (AnswerBody.Value inner) result }
+{
+    let inner = whole(alloc, content)?;
+    Ok(AnswerBody::Value(inner))
+}
+
+fn answer_body_not_leader(alloc: Global, content: &Json) -> Result<AnswerBody, RowFault>
+    ensures { (hint : _) → FitsAnswerBody (AnswerBody.NotLeader hint)
+        → variant_json (codes "NotLeader") (view content.now)
+        ≡ answer_body_json (AnswerBody.NotLeader hint)
+        → Finds (AnswerBody.NotLeader hint) result }
+{
+    let hint = member(alloc, content, "hint")?;
+    Ok(AnswerBody::NotLeader { hint })
+}
+
+fn answer_body_not_mine(alloc: Global, content: &Json) -> Result<AnswerBody, RowFault>
+    ensures { (arc : _) (succ : _) → FitsAnswerBody (AnswerBody.NotMine arc succ)
+        → variant_json (codes "NotMine") (view content.now)
+        ≡ answer_body_json (AnswerBody.NotMine arc succ)
+        → Finds (AnswerBody.NotMine arc succ) result }
+{
+    let (arc, succ) = pair_of(alloc, content, "arc", "succ")?;
+    Ok(AnswerBody::NotMine { arc, succ })
+}
+
+fn answer_body_gone(alloc: Global, content: &Json) -> Result<AnswerBody, RowFault>
+    ensures { (into : _) → FitsAnswerBody (AnswerBody.Gone into)
+        → variant_json (codes "Gone") (view content.now) ≡ answer_body_json (AnswerBody.Gone into)
+        → Finds (AnswerBody.Gone into) result }
+{
+    let into = member(alloc, content, "into")?;
+    Ok(AnswerBody::Gone { into })
+}
+
+fn answer_body_stale(alloc: Global, content: &Json) -> Result<AnswerBody, RowFault>
+    ensures { (last : _) → FitsAnswerBody (AnswerBody.Stale last)
+        → variant_json (codes "Stale") (view content.now) ≡ answer_body_json (AnswerBody.Stale last)
+        → Finds (AnswerBody.Stale last) result }
+{
+    let last = member(alloc, content, "last")?;
+    Ok(AnswerBody::Stale { last })
+}
+
+impl FromJson for AnswerBody {
+    ghost json_of = { answer_body_json };
+
+    ghost Fits = { FitsAnswerBody };
+
+    fn from_json(alloc: Global, json: &Json) -> Result<AnswerBody, RowFault> {
+        let Some((name, content)) = parts_of(json) else {
+            return Err(RowFault::NoRow);
+        };
+        match name {
+            "Value" => answer_body_value(alloc, content),
+            "NotLeader" => answer_body_not_leader(alloc, content),
+            "NotMine" => answer_body_not_mine(alloc, content),
+            "Gone" => answer_body_gone(alloc, content),
+            "Stale" => answer_body_stale(alloc, content),
+            _ => Err(RowFault::NoRow),
+        }
+    }
+}

@@ -1,0 +1,102 @@
+//! What transactions do and ask.
+ghost use Rattle.std.specs.Prelude.{◌≡◌, codes};
+ghost use Rattle.serde_json.specs.View.{view};
+ghost use Rattle.sc_cmd.specs.declared.bodies.Body.{Body};
+ghost use Rattle.sc_row_text.specs.Shapes.{variant as variant_json};
+ghost use Rattle.sc_from_json.specs.Reading.{Finds};
+ghost use Rattle.sc_row_text.specs.Bodies.{body_json, FitsBody};
+ghost use Rattle.sc_row_text.specs.Bodies.{offer_json, FitsOffer};
+ghost use Rattle.sc_row_text.specs.Bodies.{watch_json, FitsWatch};
+
+use crate::faults::RowFault;
+use crate::from_json::FromJson;
+use crate::reading::{member, pair_of, parts_of, six_of};
+use sc_cmd::{Body, Offer, Watch};
+use serde_json::Value as Json;
+use std::alloc::Global;
+
+fn body_repart(alloc: Global, content: &Json) -> Result<Body, RowFault>
+    ensures { (at : _) → FitsBody (Body.Repart at)
+        → variant_json (codes "Repart") (view content.now) ≡ body_json (Body.Repart at)
+        → Finds (Body.Repart at) result }
+{
+    let at = member(alloc, content, "at")?;
+    Ok(Body::Repart { at })
+}
+
+fn body_migrate(alloc: Global, content: &Json) -> Result<Body, RowFault>
+    ensures { (node : _) → FitsBody (Body.Migrate node)
+        → variant_json (codes "Migrate") (view content.now) ≡ body_json (Body.Migrate node)
+        → Finds (Body.Migrate node) result }
+{
+    let node = member(alloc, content, "node")?;
+    Ok(Body::Migrate { node })
+}
+
+fn body_split(alloc: Global, content: &Json) -> Result<Body, RowFault>
+    ensures { (at : _) (child : _) → FitsBody (Body.Split at child)
+        → variant_json (codes "Split") (view content.now) ≡ body_json (Body.Split at child)
+        → Finds (Body.Split at child) result }
+{
+    let (at, child) = pair_of(alloc, content, "at", "child")?;
+    Ok(Body::Split { at, child })
+}
+
+impl FromJson for Body {
+    ghost json_of = { body_json };
+
+    ghost Fits = { FitsBody };
+
+    fn from_json(alloc: Global, json: &Json) -> Result<Body, RowFault> {
+        let Some((name, content)) = parts_of(json) else {
+            return Err(RowFault::NoRow);
+        };
+        match name {
+            "Merge" => Ok(Body::Merge),
+            "Repart" => body_repart(alloc, content),
+            "Migrate" => body_migrate(alloc, content),
+            "Split" => body_split(alloc, content),
+            _ => Err(RowFault::NoRow),
+        }
+    }
+}
+
+impl FromJson for Offer {
+    ghost json_of = { offer_json };
+
+    ghost Fits = { FitsOffer };
+
+    fn from_json(alloc: Global, json: &Json) -> Result<Offer, RowFault> {
+        let (arc, body, by, coord, members, part) = six_of(
+            alloc, json, "arc", "body", "by", "coord", "members", "part",
+        )?;
+        Ok(Offer {
+            coord,
+            part,
+            arc,
+            members,
+            body,
+            by,
+        })
+    }
+}
+
+impl FromJson for Watch {
+    ghost json_of = { watch_json };
+
+    ghost Fits = { FitsWatch };
+
+    fn from_json(alloc: Global, json: &Json) -> Result<Watch, RowFault> {
+        let (by, coord, members, next, old, part) = six_of(
+            alloc, json, "by", "coord", "members", "next", "old", "part",
+        )?;
+        Ok(Watch {
+            coord,
+            members,
+            part,
+            old,
+            next,
+            by,
+        })
+    }
+}

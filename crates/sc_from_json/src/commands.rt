@@ -1,0 +1,164 @@
+//! Commands and reports of them.
+ghost use Rattle.std.specs.Prelude.{◌≡◌, codes};
+ghost use Rattle.serde_json.specs.View.{view};
+ghost use Rattle.sc_cmd.specs.declared.commands.Command.{Command};
+ghost use Rattle.sc_row_text.specs.Shapes.{variant as variant_json};
+ghost use Rattle.sc_from_json.specs.Reading.{Finds};
+ghost use Rattle.sc_row_text.specs.Commands.{command_json, FitsCommand};
+ghost use Rattle.sc_row_text.specs.Commands.{report_json, FitsReport};
+
+use crate::faults::RowFault;
+use crate::from_json::FromJson;
+use crate::reading::{member, pair_of, parts_of, triple_of};
+use sc_cmd::Command;
+use sc_paxos_words::Report;
+use serde_json::Value as Json;
+use std::alloc::Global;
+
+fn command_call(alloc: Global, content: &Json) -> Result<Command, RowFault>
+    ensures { (client : _) (seq : _) (op : _) → FitsCommand (Command.Call client seq op)
+        → variant_json (codes "Call") (view content.now) ≡ command_json (Command.Call client seq op)
+        → Finds (Command.Call client seq op) result }
+{
+    let (client, op, seq) = triple_of(alloc, content, "client", "op", "seq")?;
+    Ok(Command::Call { client, seq, op })
+}
+
+fn command_join(alloc: Global, content: &Json) -> Result<Command, RowFault>
+    ensures { (node : _) (order : _) → FitsCommand (Command.Join node order)
+        → variant_json (codes "Join") (view content.now) ≡ command_json (Command.Join node order)
+        → Finds (Command.Join node order) result }
+{
+    let (node, order) = pair_of(alloc, content, "node", "order")?;
+    Ok(Command::Join { node, order })
+}
+
+fn command_leave(alloc: Global, content: &Json) -> Result<Command, RowFault>
+    ensures { (node : _) (order : _) → FitsCommand (Command.Leave node order)
+        → variant_json (codes "Leave") (view content.now) ≡ command_json (Command.Leave node order)
+        → Finds (Command.Leave node order) result }
+{
+    let (node, order) = pair_of(alloc, content, "node", "order")?;
+    Ok(Command::Leave { node, order })
+}
+
+fn command_split(alloc: Global, content: &Json) -> Result<Command, RowFault>
+    ensures { (at : _) (child : _) (order : _) → FitsCommand (Command.Split at child order)
+        → variant_json (codes "Split") (view content.now)
+        ≡ command_json (Command.Split at child order)
+        → Finds (Command.Split at child order) result }
+{
+    let (at, child, order) = triple_of(alloc, content, "at", "child", "order")?;
+    Ok(Command::Split { at, child, order })
+}
+
+fn command_begin(alloc: Global, content: &Json) -> Result<Command, RowFault>
+    ensures { (tx : _) (body : _) (order : _) → FitsCommand (Command.Begin tx body order)
+        → variant_json (codes "Begin") (view content.now)
+        ≡ command_json (Command.Begin tx body order)
+        → Finds (Command.Begin tx body order) result }
+{
+    let (body, order, tx) = triple_of(alloc, content, "body", "order", "tx")?;
+    Ok(Command::Begin { tx, body, order })
+}
+
+fn command_prepared(alloc: Global, content: &Json) -> Result<Command, RowFault>
+    ensures { (tx : _) (offer : _) → FitsCommand (Command.Prepared tx offer)
+        → variant_json (codes "Prepared") (view content.now)
+        ≡ command_json (Command.Prepared tx offer)
+        → Finds (Command.Prepared tx offer) result }
+{
+    let (offer, tx) = pair_of(alloc, content, "offer", "tx")?;
+    Ok(Command::Prepared { tx, offer })
+}
+
+fn command_record_vote(alloc: Global, content: &Json) -> Result<Command, RowFault>
+    ensures { (tx : _) (vote : _) (by : _) → FitsCommand (Command.RecordVote tx vote by)
+        → variant_json (codes "RecordVote") (view content.now)
+        ≡ command_json (Command.RecordVote tx vote by)
+        → Finds (Command.RecordVote tx vote by) result }
+{
+    let (by, tx, vote) = triple_of(alloc, content, "by", "tx", "vote")?;
+    Ok(Command::RecordVote { tx, vote, by })
+}
+
+fn command_give_up(alloc: Global, content: &Json) -> Result<Command, RowFault>
+    ensures { (tx : _) → FitsCommand (Command.GiveUp tx)
+        → variant_json (codes "GiveUp") (view content.now) ≡ command_json (Command.GiveUp tx)
+        → Finds (Command.GiveUp tx) result }
+{
+    let tx = member(alloc, content, "tx")?;
+    Ok(Command::GiveUp { tx })
+}
+
+fn command_finish(alloc: Global, content: &Json) -> Result<Command, RowFault>
+    ensures { (tx : _) (outcome : _) → FitsCommand (Command.Finish tx outcome)
+        → variant_json (codes "Finish") (view content.now)
+        ≡ command_json (Command.Finish tx outcome)
+        → Finds (Command.Finish tx outcome) result }
+{
+    let (outcome, tx) = pair_of(alloc, content, "outcome", "tx")?;
+    Ok(Command::Finish { tx, outcome })
+}
+
+fn command_watched(alloc: Global, content: &Json) -> Result<Command, RowFault>
+    ensures { (tx : _) (watch : _) → FitsCommand (Command.Watched tx watch)
+        → variant_json (codes "Watched") (view content.now)
+        ≡ command_json (Command.Watched tx watch)
+        → Finds (Command.Watched tx watch) result }
+{
+    let (tx, watch) = pair_of(alloc, content, "tx", "watch")?;
+    Ok(Command::Watched { tx, watch })
+}
+
+fn command_record_watch(alloc: Global, content: &Json) -> Result<Command, RowFault>
+    ensures { (tx : _) (vote : _) (by : _) → FitsCommand (Command.RecordWatch tx vote by)
+        → variant_json (codes "RecordWatch") (view content.now)
+        ≡ command_json (Command.RecordWatch tx vote by)
+        → Finds (Command.RecordWatch tx vote by) result }
+{
+    let (by, tx, vote) = triple_of(alloc, content, "by", "tx", "vote")?;
+    Ok(Command::RecordWatch { tx, vote, by })
+}
+
+impl FromJson for Command {
+    ghost json_of = { command_json };
+
+    ghost Fits = { FitsCommand };
+
+    fn from_json(alloc: Global, json: &Json) -> Result<Command, RowFault> {
+        let Some((name, content)) = parts_of(json) else {
+            return Err(RowFault::NoRow);
+        };
+        match name {
+            "Noop" => Ok(Command::Noop),
+            "Call" => command_call(alloc, content),
+            "Join" => command_join(alloc, content),
+            "Leave" => command_leave(alloc, content),
+            "Split" => command_split(alloc, content),
+            "Begin" => command_begin(alloc, content),
+            "Prepared" => command_prepared(alloc, content),
+            "RecordVote" => command_record_vote(alloc, content),
+            "GiveUp" => command_give_up(alloc, content),
+            "Finish" => command_finish(alloc, content),
+            "Watched" => command_watched(alloc, content),
+            "RecordWatch" => command_record_watch(alloc, content),
+            _ => Err(RowFault::NoRow),
+        }
+    }
+}
+
+impl FromJson for Report<Command> {
+    ghost json_of = { report_json };
+
+    ghost Fits = { FitsReport };
+
+    fn from_json(alloc: Global, json: &Json) -> Result<Report<Command>, RowFault> {
+        let (ballot, slot, value) = triple_of(alloc, json, "ballot", "slot", "value")?;
+        Ok(Report {
+            slot,
+            ballot,
+            value,
+        })
+    }
+}

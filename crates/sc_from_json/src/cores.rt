@@ -1,0 +1,113 @@
+//! Groups.
+ghost use Rattle.std.specs.Prelude.{◌≡◌, codes};
+ghost use Rattle.serde_json.specs.View.{view};
+ghost use Rattle.sc_cmd.specs.declared.cores.Lock.{Lock};
+ghost use Rattle.sc_row_text.specs.Shapes.{variant as variant_json};
+ghost use Rattle.sc_from_json.specs.Reading.{Finds};
+ghost use Rattle.sc_row_text.specs.Cores.{lock_json, FitsLock};
+ghost use Rattle.sc_row_text.specs.Cores.{core_json, FitsCore};
+ghost use Rattle.sc_row_text.specs.Cores.{base_json, FitsBase};
+
+use crate::faults::RowFault;
+use crate::from_json::FromJson;
+use crate::reading::{four_of, pair_of, parts_of, six_of, triple_of};
+use sc_cmd::{Base, Core, Lock};
+use serde_json::Value as Json;
+use std::alloc::Global;
+
+fn lock_coordinating(alloc: Global, content: &Json) -> Result<Lock, RowFault>
+    ensures { (tx : _) (body : _) (order : _) (heard : _)
+        → FitsLock (Lock.Coordinating tx body order heard)
+        → variant_json (codes "Coordinating") (view content.now)
+        ≡ lock_json (Lock.Coordinating tx body order heard)
+        → Finds (Lock.Coordinating tx body order heard) result }
+{
+    let (body, heard, order, tx) = four_of(alloc, content, "body", "heard", "order", "tx")?;
+    Ok(Lock::Coordinating {
+        tx,
+        body,
+        order,
+        heard,
+    })
+}
+
+fn lock_promised(alloc: Global, content: &Json) -> Result<Lock, RowFault>
+    ensures { (tx : _) (offer : _) → FitsLock (Lock.Promised tx offer)
+        → variant_json (codes "Promised") (view content.now) ≡ lock_json (Lock.Promised tx offer)
+        → Finds (Lock.Promised tx offer) result }
+{
+    let (offer, tx) = pair_of(alloc, content, "offer", "tx")?;
+    Ok(Lock::Promised { tx, offer })
+}
+
+fn lock_watching(alloc: Global, content: &Json) -> Result<Lock, RowFault>
+    ensures { (tx : _) (watch : _) → FitsLock (Lock.Watching tx watch)
+        → variant_json (codes "Watching") (view content.now) ≡ lock_json (Lock.Watching tx watch)
+        → Finds (Lock.Watching tx watch) result }
+{
+    let (tx, watch) = pair_of(alloc, content, "tx", "watch")?;
+    Ok(Lock::Watching { tx, watch })
+}
+
+impl FromJson for Lock {
+    ghost json_of = { lock_json };
+
+    ghost Fits = { FitsLock };
+
+    fn from_json(alloc: Global, json: &Json) -> Result<Lock, RowFault> {
+        let Some((name, content)) = parts_of(json) else {
+            return Err(RowFault::NoRow);
+        };
+        match name {
+            "Free" => Ok(Lock::Free),
+            "Coordinating" => lock_coordinating(alloc, content),
+            "Promised" => lock_promised(alloc, content),
+            "Watching" => lock_watching(alloc, content),
+            _ => Err(RowFault::NoRow),
+        }
+    }
+}
+
+impl FromJson for Core {
+    ghost json_of = { core_json };
+
+    ghost Fits = { FitsCore };
+
+    fn from_json(alloc: Global, json: &Json) -> Result<Core, RowFault> {
+        let (arc, begun, born, decided, first, gone) = six_of(
+            alloc, json, "arc", "begun", "born", "decided", "first", "gone",
+        )?;
+        let (id, lock, members, pred, succ, voted) = six_of(
+            alloc, json, "id", "lock", "members", "pred", "succ", "voted",
+        )?;
+        Ok(Core {
+            id,
+            first,
+            arc,
+            members,
+            succ,
+            pred,
+            lock,
+            begun,
+            decided,
+            voted,
+            born,
+            gone,
+        })
+    }
+}
+
+impl FromJson for Base {
+    ghost json_of = { base_json };
+
+    ghost Fits = { FitsBase };
+
+    fn from_json(alloc: Global, json: &Json) -> Result<Base, RowFault> {
+        let (clients, core, pairs) = triple_of(alloc, json, "clients", "core", "pairs")?;
+        Ok(Base {
+            core,
+            pairs,
+            clients,
+        })
+    }
+}

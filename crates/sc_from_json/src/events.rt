@@ -1,0 +1,72 @@
+//! Events of rows.
+ghost use Rattle.std.specs.Prelude.{◌≡◌, codes};
+ghost use Rattle.serde_json.specs.View.{view};
+ghost use Rattle.sc_row_text.specs.Shapes.{variant as variant_json};
+ghost use Rattle.sc_from_json.specs.Reading.{Finds};
+ghost use Rattle.sc_row_text.specs.Rows.{event_json, FitsEvent};
+
+use crate::faults::RowFault;
+use crate::from_json::FromJson;
+use crate::reading::{parts_of, whole};
+use sc_actor::Event;
+use sc_cmd::OrderLine;
+use serde_json::Value as Json;
+use std::alloc::Global;
+
+fn event_deliver(alloc: Global, content: &Json) -> Result<Event<OrderLine>, RowFault>
+    ensures { (inner : _) → FitsEvent (Event.Deliver inner)
+        → variant_json (codes "Deliver") (view content.now) ≡ event_json (Event.Deliver inner)
+        → Finds (Event.Deliver inner) result }
+{
+    let inner = whole(alloc, content)?;
+    Ok(Event::Deliver(inner))
+}
+
+fn event_told(alloc: Global, content: &Json) -> Result<Event<OrderLine>, RowFault>
+    ensures { (inner : _) → FitsEvent (Event.Told inner)
+        → variant_json (codes "Told") (view content.now) ≡ event_json (Event.Told inner)
+        → Finds (Event.Told inner) result }
+{
+    let inner = whole(alloc, content)?;
+    Ok(Event::Told(inner))
+}
+
+fn event_drop(alloc: Global, content: &Json) -> Result<Event<OrderLine>, RowFault>
+    ensures { (inner : _) → FitsEvent (Event.Drop inner)
+        → variant_json (codes "Drop") (view content.now) ≡ event_json (Event.Drop inner)
+        → Finds (Event.Drop inner) result }
+{
+    let inner = whole(alloc, content)?;
+    Ok(Event::Drop(inner))
+}
+
+fn event_again(alloc: Global, content: &Json) -> Result<Event<OrderLine>, RowFault>
+    ensures { (inner : _) → FitsEvent (Event.Again inner)
+        → variant_json (codes "Again") (view content.now) ≡ event_json (Event.Again inner)
+        → Finds (Event.Again inner) result }
+{
+    let inner = whole(alloc, content)?;
+    Ok(Event::Again(inner))
+}
+
+impl FromJson for Event<OrderLine> {
+    ghost json_of = { event_json };
+
+    ghost Fits = { FitsEvent };
+
+    fn from_json(alloc: Global, json: &Json) -> Result<Event<OrderLine>, RowFault> {
+        let Some((name, content)) = parts_of(json) else {
+            return Err(RowFault::NoRow);
+        };
+        match name {
+            "Deliver" => event_deliver(alloc, content),
+            "Tick" => Ok(Event::Tick),
+            "Go" => Ok(Event::Go),
+            "Told" => event_told(alloc, content),
+            "Crash" => Ok(Event::Crash),
+            "Drop" => event_drop(alloc, content),
+            "Again" => event_again(alloc, content),
+            _ => Err(RowFault::NoRow),
+        }
+    }
+}

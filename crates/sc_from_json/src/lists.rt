@@ -1,0 +1,99 @@
+//! Lists, pairs, what may be absent, and values in blocks of their own.
+ghost use Rattle.std.specs.Prelude.{◌≡◌, List};
+ghost use Rattle.serde_json.specs.View.{view, items_view};
+ghost use Rattle.sc_base.specs.Among.{Each};
+ghost use Rattle.sc_row_text.specs.Held.{OptionFits, PairFits};
+ghost use Rattle.sc_row_text.specs.Shapes.{items_json, list_json, option_json, pair_json};
+ghost use Rattle.sc_from_json.specs.Reading.{Shows};
+
+use crate::faults::RowFault;
+use crate::from_json::{FromJson, Present};
+use crate::reading::pair_of;
+use sc_base::{Boxed, Sequence};
+use serde_json::Value as Json;
+use std::alloc::Global;
+
+/// The values that have these JSONs.
+fn values_of<T: FromJson + Drop>(alloc: Global, list: &[Json]) -> Result<Vec<T>, RowFault>
+    ensures { (values : List T) → Each T.Fits values
+        → items_view list.now ≡ items_json T.json_of values
+        → Shows (λ found. found.items) values result }
+{
+    let mut values = Vec::new(alloc);
+    for json in list {
+        let value = T::from_json(alloc, json)?;
+        values.push(value)?;
+    }
+    Ok(values)
+}
+
+/// The values of which this is an array.
+pub(crate) fn items_of<T: FromJson + Drop>(alloc: Global, json: &Json) -> Result<Vec<T>, RowFault>
+    ensures { (values : List T) → Each T.Fits values
+        → view json.now ≡ list_json T.json_of values
+        → Shows (λ found. found.items) values result }
+{
+    match json.as_array() {
+        Some(list) => values_of(alloc, list.as_slice()),
+        None => Err(RowFault::NoRow),
+    }
+}
+
+impl<T: FromJson + Drop> FromJson for Sequence<T> {
+    ghost json_of = { list_json T.json_of };
+
+    ghost Fits = { Each T.Fits };
+
+    fn from_json(alloc: Global, json: &Json) -> Result<Sequence<T>, RowFault> {
+        let items = items_of(alloc, json)?;
+        Ok(Sequence::from_vec(items))
+    }
+}
+
+impl<T: FromJson + Drop> Present for Sequence<T> {
+    ghost is_there = { λ list fits none. Prim.cc };
+}
+
+impl<A: FromJson + Drop, B: FromJson + Drop> FromJson for (A, B) {
+    ghost json_of = { pair_json A.json_of B.json_of };
+
+    ghost Fits = { PairFits A.Fits B.Fits };
+
+    fn from_json(alloc: Global, json: &Json) -> Result<(A, B), RowFault> {
+        pair_of(alloc, json, 0usize, 1usize)
+    }
+}
+
+impl<A: FromJson + Drop, B: FromJson + Drop> Present for (A, B) {
+    ghost is_there = { λ pair fits none. Prim.cc };
+}
+
+impl<T: FromJson + Drop> FromJson for Boxed<T> {
+    ghost json_of = { T.json_of };
+
+    ghost Fits = { T.Fits };
+
+    fn from_json(alloc: Global, json: &Json) -> Result<Boxed<T>, RowFault> {
+        let value = T::from_json(alloc, json)?;
+        Ok(Boxed::new(alloc, value)?)
+    }
+}
+
+impl<T: Present + Drop> Present for Boxed<T> {
+    ghost is_there = { T.is_there };
+}
+
+impl<T: Present> FromJson for Option<T> {
+    ghost json_of = { option_json T.FromJson.json_of };
+
+    ghost Fits = { OptionFits T.FromJson.Fits };
+
+    fn from_json(alloc: Global, json: &Json) -> Result<Option<T>, RowFault> {
+        if json.is_null() {
+            Ok(None)
+        } else {
+            let value = T::from_json(alloc, json)?;
+            Ok(Some(value))
+        }
+    }
+}

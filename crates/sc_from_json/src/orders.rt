@@ -1,0 +1,188 @@
+//! Orders and what is told of them.
+ghost use Rattle.std.specs.Prelude.{◌≡◌, codes};
+ghost use Rattle.serde_json.specs.View.{view};
+ghost use Rattle.sc_cmd.specs.declared.orders.Order.{Order};
+ghost use Rattle.sc_cmd.specs.declared.orders.OrderRefusal.{OrderRefusal};
+ghost use Rattle.sc_cmd.specs.declared.orders.ToldResult.{ToldResult};
+ghost use Rattle.sc_row_text.specs.Shapes.{variant as variant_json};
+ghost use Rattle.sc_from_json.specs.Reading.{Finds};
+ghost use Rattle.sc_row_text.specs.Orders.{order_json, FitsOrder};
+ghost use Rattle.sc_row_text.specs.Orders.{order_line_json, FitsOrderLine};
+ghost use Rattle.sc_row_text.specs.Orders.{order_refusal_json, FitsOrderRefusal};
+ghost use Rattle.sc_row_text.specs.Orders.{told_result_json, FitsToldResult};
+
+use crate::faults::RowFault;
+use crate::from_json::FromJson;
+use crate::reading::{member, pair_of, parts_of, whole};
+use sc_cmd::{Order, OrderLine, OrderRefusal, ToldResult};
+use serde_json::Value as Json;
+use std::alloc::Global;
+
+fn order_join(alloc: Global, content: &Json) -> Result<Order, RowFault>
+    ensures { (node : _) (group : _) → FitsOrder (Order.Join node group)
+        → variant_json (codes "Join") (view content.now) ≡ order_json (Order.Join node group)
+        → Finds (Order.Join node group) result }
+{
+    let (group, node) = pair_of(alloc, content, "group", "node")?;
+    Ok(Order::Join { node, group })
+}
+
+fn order_leave(alloc: Global, content: &Json) -> Result<Order, RowFault>
+    ensures { (node : _) (group : _) → FitsOrder (Order.Leave node group)
+        → variant_json (codes "Leave") (view content.now) ≡ order_json (Order.Leave node group)
+        → Finds (Order.Leave node group) result }
+{
+    let (group, node) = pair_of(alloc, content, "group", "node")?;
+    Ok(Order::Leave { node, group })
+}
+
+fn order_split(alloc: Global, content: &Json) -> Result<Order, RowFault>
+    ensures { (group : _) (at : _) → FitsOrder (Order.Split group at)
+        → variant_json (codes "Split") (view content.now) ≡ order_json (Order.Split group at)
+        → Finds (Order.Split group at) result }
+{
+    let (at, group) = pair_of(alloc, content, "at", "group")?;
+    Ok(Order::Split { group, at })
+}
+
+fn order_merge(alloc: Global, content: &Json) -> Result<Order, RowFault>
+    ensures { (group : _) → FitsOrder (Order.Merge group)
+        → variant_json (codes "Merge") (view content.now) ≡ order_json (Order.Merge group)
+        → Finds (Order.Merge group) result }
+{
+    let group = member(alloc, content, "group")?;
+    Ok(Order::Merge { group })
+}
+
+fn order_repart(alloc: Global, content: &Json) -> Result<Order, RowFault>
+    ensures { (group : _) (at : _) → FitsOrder (Order.Repart group at)
+        → variant_json (codes "Repart") (view content.now) ≡ order_json (Order.Repart group at)
+        → Finds (Order.Repart group at) result }
+{
+    let (at, group) = pair_of(alloc, content, "at", "group")?;
+    Ok(Order::Repart { group, at })
+}
+
+fn order_migrate(alloc: Global, content: &Json) -> Result<Order, RowFault>
+    ensures { (group : _) (node : _) → FitsOrder (Order.Migrate group node)
+        → variant_json (codes "Migrate") (view content.now) ≡ order_json (Order.Migrate group node)
+        → Finds (Order.Migrate group node) result }
+{
+    let (group, node) = pair_of(alloc, content, "group", "node")?;
+    Ok(Order::Migrate { group, node })
+}
+
+impl FromJson for Order {
+    ghost json_of = { order_json };
+
+    ghost Fits = { FitsOrder };
+
+    fn from_json(alloc: Global, json: &Json) -> Result<Order, RowFault> {
+        let Some((name, content)) = parts_of(json) else {
+            return Err(RowFault::NoRow);
+        };
+        match name {
+            "Join" => order_join(alloc, content),
+            "Leave" => order_leave(alloc, content),
+            "Split" => order_split(alloc, content),
+            "Merge" => order_merge(alloc, content),
+            "Repart" => order_repart(alloc, content),
+            "Migrate" => order_migrate(alloc, content),
+            _ => Err(RowFault::NoRow),
+        }
+    }
+}
+
+impl FromJson for OrderLine {
+    ghost json_of = { order_line_json };
+
+    ghost Fits = { FitsOrderLine };
+
+    fn from_json(alloc: Global, json: &Json) -> Result<OrderLine, RowFault> {
+        let (number, order) = pair_of(alloc, json, "number", "order")?;
+        Ok(OrderLine { number, order })
+    }
+}
+
+fn order_refusal_not_leader(alloc: Global, content: &Json) -> Result<OrderRefusal, RowFault>
+    ensures { (hint : _) → FitsOrderRefusal (OrderRefusal.NotLeader hint)
+        → variant_json (codes "NotLeader") (view content.now)
+        ≡ order_refusal_json (OrderRefusal.NotLeader hint)
+        → Finds (OrderRefusal.NotLeader hint) result }
+{
+    let hint = member(alloc, content, "hint")?;
+    Ok(OrderRefusal::NotLeader { hint })
+}
+
+fn order_refusal_in_transaction(alloc: Global, content: &Json) -> Result<OrderRefusal, RowFault>
+    ensures { (tx : _) → FitsOrderRefusal (OrderRefusal.InTransaction tx)
+        → variant_json (codes "InTransaction") (view content.now)
+        ≡ order_refusal_json (OrderRefusal.InTransaction tx)
+        → Finds (OrderRefusal.InTransaction tx) result }
+{
+    let tx = member(alloc, content, "tx")?;
+    Ok(OrderRefusal::InTransaction { tx })
+}
+
+fn order_refusal_too_many_members(alloc: Global, content: &Json) -> Result<OrderRefusal, RowFault>
+    ensures { (n : _) → FitsOrderRefusal (OrderRefusal.TooManyMembers n)
+        → variant_json (codes "TooManyMembers") (view content.now)
+        ≡ order_refusal_json (OrderRefusal.TooManyMembers n)
+        → Finds (OrderRefusal.TooManyMembers n) result }
+{
+    let n = member(alloc, content, "n")?;
+    Ok(OrderRefusal::TooManyMembers { n })
+}
+
+impl FromJson for OrderRefusal {
+    ghost json_of = { order_refusal_json };
+
+    ghost Fits = { FitsOrderRefusal };
+
+    fn from_json(alloc: Global, json: &Json) -> Result<OrderRefusal, RowFault> {
+        let Some((name, content)) = parts_of(json) else {
+            return Err(RowFault::NoRow);
+        };
+        match name {
+            "NotLeader" => order_refusal_not_leader(alloc, content),
+            "InTransaction" => order_refusal_in_transaction(alloc, content),
+            "NoNeighbour" => Ok(OrderRefusal::NoNeighbour),
+            "BadBoundary" => Ok(OrderRefusal::BadBoundary),
+            "TooManyMembers" => order_refusal_too_many_members(alloc, content),
+            "NotMember" => Ok(OrderRefusal::NotMember),
+            "LastMember" => Ok(OrderRefusal::LastMember),
+            "TxLimit" => Ok(OrderRefusal::TxLimit),
+            "IsMember" => Ok(OrderRefusal::IsMember),
+            _ => Err(RowFault::NoRow),
+        }
+    }
+}
+
+fn told_result_refused(alloc: Global, content: &Json) -> Result<ToldResult, RowFault>
+    ensures { (inner : _) → FitsToldResult (ToldResult.Refused inner)
+        → variant_json (codes "Refused") (view content.now)
+        ≡ told_result_json (ToldResult.Refused inner)
+        → Finds (ToldResult.Refused inner) result }
+{
+    let inner = whole(alloc, content)?;
+    Ok(ToldResult::Refused(inner))
+}
+
+impl FromJson for ToldResult {
+    ghost json_of = { told_result_json };
+
+    ghost Fits = { FitsToldResult };
+
+    fn from_json(alloc: Global, json: &Json) -> Result<ToldResult, RowFault> {
+        let Some((name, content)) = parts_of(json) else {
+            return Err(RowFault::NoRow);
+        };
+        match name {
+            "Done" => Ok(ToldResult::Done),
+            "Committed" => Ok(ToldResult::Committed),
+            "Aborted" => Ok(ToldResult::Aborted),
+            "Refused" => told_result_refused(alloc, content),
+            _ => Err(RowFault::NoRow),
+        }
+    }
+}

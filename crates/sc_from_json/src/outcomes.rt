@@ -1,0 +1,79 @@
+//! Outcomes.
+ghost use Rattle.std.specs.Prelude.{◌≡◌, codes};
+ghost use Rattle.serde_json.specs.View.{view};
+ghost use Rattle.sc_cmd.specs.declared.votes.Outcome.{Outcome};
+ghost use Rattle.sc_row_text.specs.Shapes.{variant as variant_json};
+ghost use Rattle.sc_from_json.specs.Reading.{Finds};
+ghost use Rattle.sc_row_text.specs.Outcomes.{gift_json, FitsGift};
+ghost use Rattle.sc_row_text.specs.Outcomes.{outcome_json, FitsOutcome};
+
+use crate::faults::RowFault;
+use crate::from_json::{FromJson, Present};
+use crate::reading::{member, pair_of, parts_of};
+use sc_cmd::{Gift, Outcome};
+use serde_json::Value as Json;
+use std::alloc::Global;
+
+impl FromJson for Gift {
+    ghost json_of = { gift_json };
+
+    ghost Fits = { FitsGift };
+
+    fn from_json(alloc: Global, json: &Json) -> Result<Gift, RowFault> {
+        let (clients, pairs) = pair_of(alloc, json, "clients", "pairs")?;
+        Ok(Gift { pairs, clients })
+    }
+}
+
+fn outcome_merged(alloc: Global, content: &Json) -> Result<Outcome, RowFault>
+    ensures { (into : _) → FitsOutcome (Outcome.Merged into)
+        → variant_json (codes "Merged") (view content.now) ≡ outcome_json (Outcome.Merged into)
+        → Finds (Outcome.Merged into) result }
+{
+    let into = member(alloc, content, "into")?;
+    Ok(Outcome::Merged { into })
+}
+
+fn outcome_moved(alloc: Global, content: &Json) -> Result<Outcome, RowFault>
+    ensures { (at : _) (gift : _) → FitsOutcome (Outcome.Moved at gift)
+        → variant_json (codes "Moved") (view content.now) ≡ outcome_json (Outcome.Moved at gift)
+        → Finds (Outcome.Moved at gift) result }
+{
+    let (at, gift) = pair_of(alloc, content, "at", "gift")?;
+    Ok(Outcome::Moved { at, gift })
+}
+
+fn outcome_migrated(alloc: Global, content: &Json) -> Result<Outcome, RowFault>
+    ensures { (node : _) → FitsOutcome (Outcome.Migrated node)
+        → variant_json (codes "Migrated") (view content.now) ≡ outcome_json (Outcome.Migrated node)
+        → Finds (Outcome.Migrated node) result }
+{
+    let node = member(alloc, content, "node")?;
+    Ok(Outcome::Migrated { node })
+}
+
+impl FromJson for Outcome {
+    ghost json_of = { outcome_json };
+
+    ghost Fits = { FitsOutcome };
+
+    fn from_json(alloc: Global, json: &Json) -> Result<Outcome, RowFault> {
+        let Some((name, content)) = parts_of(json) else {
+            return Err(RowFault::NoRow);
+        };
+        match name {
+            "Abort" => Ok(Outcome::Abort),
+            "Merged" => outcome_merged(alloc, content),
+            "Moved" => outcome_moved(alloc, content),
+            "Migrated" => outcome_migrated(alloc, content),
+            "Divided" => Ok(Outcome::Divided),
+            _ => Err(RowFault::NoRow),
+        }
+    }
+}
+
+impl Present for Gift {
+    ghost use Rattle.sc_from_json.specs.Presence.{gift_there};
+
+    ghost is_there = { gift_there };
+}

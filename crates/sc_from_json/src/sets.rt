@@ -1,0 +1,175 @@
+//! Arcs, sets of nodes, pairs of keys and values, and client tables.
+ghost use Rattle.std.specs.Prelude.{◌≡◌, ℕ, List, IfOk, Some, IsTrue, ◌↔◌};
+ghost use Rattle.serde_json.specs.View.{view, items_view};
+ghost use Rattle.sc_base.specs.Among.{Each};
+ghost use Rattle.sc_base.specs.Ascending.{IsAscending, EndsBelow};
+ghost use Rattle.sc_base.specs.declared.ops.Noted.{Noted};
+ghost use Rattle.sc_member.specs.Roster.{IsRoster};
+ghost use Rattle.sc_row_text.specs.Held.{FitsArc, FitsMembers, FitsU16, PairFits};
+ghost use Rattle.sc_row_text.specs.Sets.{arc_json, nodes_json, pairs_json, FitsPairs, client_json, FitsNoted, clients_json, FitsClients};
+ghost use Rattle.sc_row_text.specs.Shapes.{items_json};
+ghost use Rattle.sc_from_json.specs.Reading.{Finds, Shows};
+
+use crate::faults::RowFault;
+use crate::from_json::{FromJson, Present};
+use crate::lists::items_of;
+use crate::reading::{pair_of, triple_of};
+use sc_base::{Key, Noted, Ordered, OutOfMemory, RingArc, Value};
+use sc_member::Members;
+use serde_json::Value as Json;
+use std::alloc::Global;
+use std::cmp::Ordering;
+
+impl FromJson for RingArc {
+    ghost json_of = { arc_json };
+
+    ghost Fits = { FitsArc };
+
+    #[tactic(auto, unfolding(sc_row_text::specs::Sets::arc_json))]
+    fn from_json(alloc: Global, json: &Json) -> Result<RingArc, RowFault> {
+        let (lo, len) = pair_of(alloc, json, 0usize, 1usize)?;
+        match RingArc::try_new(lo, len) {
+            Ok(arc) => Ok(arc),
+            Err(_) => Err(RowFault::NoRow),
+        }
+    }
+}
+
+impl Present for RingArc {
+    ghost use Rattle.sc_from_json.specs.Presence.{arc_there};
+
+    ghost is_there = { arc_there };
+}
+
+/// The set of these nodes, where they are one to nine, ascending.
+fn set_of(nodes: &[u16]) -> Option<Members>
+    ensures { IsRoster nodes.now → result ≡ Some nodes.now }
+{
+    if nodes.is_empty() {
+        return None;
+    }
+    let mut members = Members::one(nodes[0]);
+    for i in 1..nodes.len() {
+        if members.add(nodes[i]).is_err() {
+            return None;
+        }
+    }
+    Some(members)
+}
+
+impl FromJson for Members {
+    ghost json_of = { nodes_json };
+
+    ghost Fits = { FitsMembers };
+
+    #[tactic(auto, unfolding(sc_row_text::specs::Sets::nodes_json))]
+    fn from_json(alloc: Global, json: &Json) -> Result<Members, RowFault> {
+        let nodes = items_of::<u16>(alloc, json)?;
+        match set_of(nodes.as_slice()) {
+            Some(members) => Ok(members),
+            None => Err(RowFault::NoRow),
+        }
+    }
+}
+
+impl Present for Members {
+    ghost use Rattle.sc_from_json.specs.Presence.{nodes_there};
+
+    ghost is_there = { nodes_there };
+}
+
+fn ends_below<K: Ord, V>(list: &Ordered<K, V>, key: &K) -> bool
+    ensures { IsTrue result ↔ EndsBelow K.cmp list.now key.now }
+{
+    match list.as_slice().last() {
+        Some(last) => last.0.cmp(key) == Ordering::Less,
+        None => true,
+    }
+}
+
+/// The list of these entries, where their keys rise.
+fn rising<K: Ord + Drop, V: Drop>(
+    alloc: Global,
+    entries: Vec<(K, V)>,
+) -> Result<Option<Ordered<K, V>>, OutOfMemory>
+    ensures { IfOk result
+        (λ list. IsAscending K.cmp entries.items → list ≡ Some entries.items) }
+{
+    let mut list = Ordered::new(alloc);
+    for (key, value) in entries {
+        if !ends_below(&list, &key) {
+            return Ok(None);
+        }
+        list.push(key, value)?;
+    }
+    Ok(Some(list))
+}
+
+impl FromJson for Ordered<Key, Value> {
+    ghost json_of = { pairs_json };
+
+    ghost Fits = { FitsPairs };
+
+    #[tactic(auto, unfolding(crate::specs::Json::pairs_json, crate::specs::Json::FitsPairs))]
+    fn from_json(alloc: Global, json: &Json) -> Result<Ordered<Key, Value>, RowFault> {
+        let entries = items_of::<(Key, Value)>(alloc, json)?;
+        match rising(alloc, entries)? {
+            Some(list) => Ok(list),
+            None => Err(RowFault::NoRow),
+        }
+    }
+}
+
+impl Present for Ordered<Key, Value> {
+    ghost use Rattle.sc_from_json.specs.Presence.{pairs_there};
+
+    ghost is_there = { pairs_there };
+}
+
+/// The entry of a client table that has this JSON.
+#[tactic(auto, unfolding(crate::specs::Json::client_json, crate::specs::Json::FitsNoted))]
+fn client_from_json(alloc: Global, json: &Json) -> Result<(u16, Noted), RowFault>
+    ensures { (entry : ℕ × Noted) → PairFits FitsU16 FitsNoted entry
+        → view json.now ≡ client_json entry → Finds entry result }
+{
+    let (client, seq, reply) = triple_of(alloc, json, 0usize, 1usize, 2usize)?;
+    Ok((client, Noted { seq, reply }))
+}
+
+/// The entries of a client table that have these JSONs.
+fn clients_of(alloc: Global, list: &[Json]) -> Result<Vec<(u16, Noted)>, RowFault>
+    ensures { (entries : List (ℕ × Noted)) → Each (PairFits FitsU16 FitsNoted) entries
+        → items_view list.now ≡ items_json client_json entries
+        → Shows (λ found. found.items) entries result }
+{
+    let mut entries = Vec::new(alloc);
+    for json in list {
+        let entry = client_from_json(alloc, json)?;
+        entries.push(entry)?;
+    }
+    Ok(entries)
+}
+
+impl FromJson for Ordered<u16, Noted> {
+    ghost json_of = { clients_json };
+
+    ghost Fits = { FitsClients };
+
+    #[tactic(auto, unfolding(crate::specs::Json::clients_json, crate::specs::Json::FitsClients))]
+    fn from_json(alloc: Global, json: &Json) -> Result<Ordered<u16, Noted>, RowFault> {
+        let Some(list) = json.as_array() else {
+            return Err(RowFault::NoRow);
+        };
+        let entries = clients_of(alloc, list.as_slice())?;
+        match rising(alloc, entries)? {
+            Some(list) => Ok(list),
+            None => Err(RowFault::NoRow),
+        }
+    }
+}
+
+impl Present for Ordered<u16, Noted> {
+    ghost use Rattle.sc_from_json.specs.Presence.{clients_there};
+
+    ghost is_there = { clients_there };
+}

@@ -1,0 +1,43 @@
+//! Keys and values: strings.
+ghost use Rattle.serde_json.specs.Data.{string};
+ghost use Rattle.sc_row_text.specs.Held.{FitsKey, FitsValue};
+
+use crate::faults::RowFault;
+use crate::from_json::{FromJson, Present};
+use sc_base::{Key, Value};
+use serde_json::Value as Json;
+use std::alloc::Global;
+
+impl FromJson for Key {
+    ghost json_of = { string };
+
+    ghost Fits = { FitsKey };
+
+    fn from_json(alloc: Global, json: &Json) -> Result<Key, RowFault> {
+        match json.as_str() {
+            Some(text) => Ok(Key::try_new(alloc, text.as_bytes())?),
+            None => Err(RowFault::NoRow),
+        }
+    }
+}
+
+impl FromJson for Value {
+    ghost json_of = { string };
+
+    ghost Fits = { FitsValue };
+
+    fn from_json(alloc: Global, json: &Json) -> Result<Value, RowFault> {
+        match json.as_str() {
+            Some(text) => Ok(Value::try_new(alloc, text.as_bytes())?),
+            None => Err(RowFault::NoRow),
+        }
+    }
+}
+
+impl Present for Key {
+    ghost is_there = { λ key fits none. Prim.cc };
+}
+
+impl Present for Value {
+    ghost is_there = { λ value fits none. Prim.cc };
+}

@@ -1,0 +1,155 @@
+//! Votes.
+ghost use Rattle.std.specs.Prelude.{◌≡◌, codes};
+ghost use Rattle.serde_json.specs.View.{view};
+ghost use Rattle.sc_cmd.specs.declared.votes.No.{No};
+ghost use Rattle.sc_cmd.specs.declared.votes.Vote.{Vote};
+ghost use Rattle.sc_cmd.specs.declared.votes.Past.{Past};
+ghost use Rattle.sc_row_text.specs.Shapes.{variant as variant_json};
+ghost use Rattle.sc_from_json.specs.Reading.{Finds};
+ghost use Rattle.sc_row_text.specs.Votes.{no_json, FitsNo};
+ghost use Rattle.sc_row_text.specs.Votes.{frozen_json, FitsFrozen};
+ghost use Rattle.sc_row_text.specs.Votes.{heard_json, FitsHeard};
+ghost use Rattle.sc_row_text.specs.Votes.{vote_json, FitsVote};
+ghost use Rattle.sc_row_text.specs.Votes.{past_json, FitsPast};
+
+use crate::faults::RowFault;
+use crate::from_json::{FromJson, Present};
+use crate::reading::{five_of, member, pair_of, parts_of, whole};
+use sc_cmd::{Frozen, Heard, No, Past, Vote};
+use serde_json::Value as Json;
+use std::alloc::Global;
+
+fn no_busy(alloc: Global, content: &Json) -> Result<No, RowFault>
+    ensures { (tx : _) → FitsNo (No.Busy tx)
+        → variant_json (codes "Busy") (view content.now) ≡ no_json (No.Busy tx)
+        → Finds (No.Busy tx) result }
+{
+    let tx = member(alloc, content, "tx")?;
+    Ok(No::Busy { tx })
+}
+
+fn no_too_many(alloc: Global, content: &Json) -> Result<No, RowFault>
+    ensures { (n : _) → FitsNo (No.TooMany n)
+        → variant_json (codes "TooMany") (view content.now) ≡ no_json (No.TooMany n)
+        → Finds (No.TooMany n) result }
+{
+    let n = member(alloc, content, "n")?;
+    Ok(No::TooMany { n })
+}
+
+impl FromJson for No {
+    ghost json_of = { no_json };
+
+    ghost Fits = { FitsNo };
+
+    fn from_json(alloc: Global, json: &Json) -> Result<No, RowFault> {
+        let Some((name, content)) = parts_of(json) else {
+            return Err(RowFault::NoRow);
+        };
+        match name {
+            "Busy" => no_busy(alloc, content),
+            "Gone" => Ok(No::Gone),
+            "Apart" => Ok(No::Apart),
+            "TooMany" => no_too_many(alloc, content),
+            _ => Err(RowFault::NoRow),
+        }
+    }
+}
+
+impl FromJson for Frozen {
+    ghost json_of = { frozen_json };
+
+    ghost Fits = { FitsFrozen };
+
+    fn from_json(alloc: Global, json: &Json) -> Result<Frozen, RowFault> {
+        let (arc, clients, members, pairs, succ) = five_of(
+            alloc, json, "arc", "clients", "members", "pairs", "succ",
+        )?;
+        Ok(Frozen {
+            arc,
+            members,
+            succ,
+            pairs,
+            clients,
+        })
+    }
+}
+
+impl FromJson for Heard {
+    ghost json_of = { heard_json };
+
+    ghost Fits = { FitsHeard };
+
+    fn from_json(alloc: Global, json: &Json) -> Result<Heard, RowFault> {
+        let (by, frozen) = pair_of(alloc, json, "by", "frozen")?;
+        Ok(Heard { frozen, by })
+    }
+}
+
+fn vote_yes(alloc: Global, content: &Json) -> Result<Vote, RowFault>
+    ensures { (inner : _) → FitsVote (Vote.Yes inner)
+        → variant_json (codes "Yes") (view content.now) ≡ vote_json (Vote.Yes inner)
+        → Finds (Vote.Yes inner) result }
+{
+    let inner = whole(alloc, content)?;
+    Ok(Vote::Yes(inner))
+}
+
+fn vote_no(alloc: Global, content: &Json) -> Result<Vote, RowFault>
+    ensures { (inner : _) → FitsVote (Vote.No inner)
+        → variant_json (codes "No") (view content.now) ≡ vote_json (Vote.No inner)
+        → Finds (Vote.No inner) result }
+{
+    let inner = whole(alloc, content)?;
+    Ok(Vote::No(inner))
+}
+
+impl FromJson for Vote {
+    ghost json_of = { vote_json };
+
+    ghost Fits = { FitsVote };
+
+    fn from_json(alloc: Global, json: &Json) -> Result<Vote, RowFault> {
+        let Some((name, content)) = parts_of(json) else {
+            return Err(RowFault::NoRow);
+        };
+        match name {
+            "Yes" => vote_yes(alloc, content),
+            "No" => vote_no(alloc, content),
+            _ => Err(RowFault::NoRow),
+        }
+    }
+}
+
+fn past_no(alloc: Global, content: &Json) -> Result<Past, RowFault>
+    ensures { (inner : _) → FitsPast (Past.No inner)
+        → variant_json (codes "No") (view content.now) ≡ past_json (Past.No inner)
+        → Finds (Past.No inner) result }
+{
+    let inner = whole(alloc, content)?;
+    Ok(Past::No(inner))
+}
+
+impl FromJson for Past {
+    ghost json_of = { past_json };
+
+    ghost Fits = { FitsPast };
+
+    fn from_json(alloc: Global, json: &Json) -> Result<Past, RowFault> {
+        let Some((name, content)) = parts_of(json) else {
+            return Err(RowFault::NoRow);
+        };
+        match name {
+            "Yes" => Ok(Past::Yes),
+            "No" => past_no(alloc, content),
+            "Ended" => Ok(Past::Ended),
+            _ => Err(RowFault::NoRow),
+        }
+    }
+}
+
+impl Present for Heard {
+    ghost use Rattle.sc_from_json.specs.Presence.{heard_there};
+
+    ghost is_there = { heard_there };
+}

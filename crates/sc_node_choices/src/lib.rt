@@ -1,0 +1,12 @@
+//! What a node chooses among its replicas, by their groups' names and their places: which one a
+//! mail or an order is for, whether there is one of a group, and which ticks next. What the
+//! replicas do stands in the crates above.
+#![tactic(auto)]
+
+mod holders;
+mod places;
+mod ticks;
+
+pub use holders::Holder;
+pub use places::{has_replica, place_of};
+pub use ticks::on_tick;

@@ -1,0 +1,140 @@
+//! What a group has noted of transactions, and what its lock waits for.
+ghost use Rattle.std.specs.Prelude.{◌≡◌, Some, find};
+ghost use Rattle.std.specs.Option.{option_copied, option_map};
+ghost use Rattle.sc_base.specs.Same.{same_draw};
+ghost use Rattle.sc_machine_table.specs.Orders.{locked_in};
+ghost use Rattle.sc_machine_table.specs.Splits.{is_locked_in};
+ghost use Rattle.sc_machine_table.specs.Transactions.{asks_watcher};
+ghost use Rattle.sc_node_table.specs.Transactions.{noted_vote, noted_outcome, gone_vote, standing_by, standing_vote, awaits_vote, awaits_watch, is_bound};
+
+use sc_base::Draw;
+use sc_cmd::{Body, Core, Heard, Lock, No, Outcome, Past, Route, same_draw};
+
+fn noted_vote(core: &Core, tx: Draw) -> Option<Past>
+    ensures { result ≡ noted_vote core.now tx }
+{
+    let noted = core
+        .voted
+        .as_slice()
+        .iter()
+        .find(|noted| same_draw(noted.0, tx));
+    match noted {
+        Some(noted) => Some(noted.1),
+        None => None,
+    }
+}
+
+/// What a group has noted of its decision.
+pub fn noted_outcome(core: &Core, tx: Draw) -> Option<&Outcome>
+    ensures { option_copied result ≡ noted_outcome core.now tx }
+{
+    let noted = core
+        .decided
+        .as_slice()
+        .iter()
+        .find(|noted| same_draw(noted.0, tx));
+    match noted {
+        Some(noted) => Some(&noted.1),
+        None => None,
+    }
+}
+
+fn gone_vote(gone: &Option<Route>) -> Option<Past>
+    ensures { result ≡ gone_vote gone.now }
+{
+    match gone {
+        None => None,
+        Some(_) => Some(Past::No(No::Gone)),
+    }
+}
+
+fn is_locked_in(lock: &Lock, tx: Draw) -> bool
+    ensures { result ≡ is_locked_in (locked_in lock.now) tx }
+{
+    match lock {
+        Lock::Free => false,
+        Lock::Coordinating { tx: locked, .. }
+        | Lock::Promised { tx: locked, .. }
+        | Lock::Watching { tx: locked, .. } => same_draw(*locked, tx),
+    }
+}
+
+fn standing_by(noted: Option<Past>, locked: bool, gone: &Option<Route>) -> Option<Past>
+    ensures { result ≡ standing_by noted locked gone.now }
+{
+    match noted {
+        None => gone_vote(gone),
+        Some(Past::No(why)) => Some(Past::No(why)),
+        Some(Past::Ended) => Some(Past::Ended),
+        Some(Past::Yes) => {
+            if locked {
+                Some(Past::Yes)
+            } else {
+                gone_vote(gone)
+            }
+        }
+    }
+}
+
+/// The vote that needs no entry any more: a No, a Yes under whose lock the group is, or one that
+/// has ended; and of a group that is gone, No.
+pub fn standing_vote(core: &Core, tx: Draw) -> Option<Past>
+    ensures { result ≡ standing_vote core.now tx }
+{
+    standing_by(
+        noted_vote(core, tx),
+        is_locked_in(&core.lock, tx),
+        &core.gone,
+    )
+}
+
+fn asks_watcher(body: &Body, heard: &Option<Heard>) -> bool
+    ensures { result ≡ asks_watcher body.now heard.now }
+{
+    match body {
+        Body::Merge | Body::Repart { .. } | Body::Migrate { .. } => heard.is_some(),
+        Body::Split { .. } => true,
+    }
+}
+
+/// Whether a group waits for its participant's vote in this transaction.
+pub fn awaits_vote(lock: &Lock, tx: Draw) -> bool
+    ensures { result ≡ awaits_vote lock.now tx }
+{
+    match lock {
+        Lock::Coordinating {
+            tx: locked,
+            body,
+            heard,
+            ..
+        } => same_draw(*locked, tx) && !asks_watcher(body, heard),
+        Lock::Free | Lock::Promised { .. } | Lock::Watching { .. } => false,
+    }
+}
+
+/// Whether it waits for its watcher's vote.
+pub fn awaits_watch(lock: &Lock, tx: Draw) -> bool
+    ensures { result ≡ awaits_watch lock.now tx }
+{
+    match lock {
+        Lock::Coordinating {
+            tx: locked,
+            body,
+            heard,
+            ..
+        } => same_draw(*locked, tx) && asks_watcher(body, heard),
+        Lock::Free | Lock::Promised { .. } | Lock::Watching { .. } => false,
+    }
+}
+
+/// Whether a group is bound by a Yes of its own in this transaction.
+pub fn is_bound(lock: &Lock, tx: Draw) -> bool
+    ensures { result ≡ is_bound lock.now tx }
+{
+    match lock {
+        Lock::Free | Lock::Coordinating { .. } => false,
+        Lock::Promised { tx: locked, .. } | Lock::Watching { tx: locked, .. } => {
+            same_draw(*locked, tx)
+        }
+    }
+}

@@ -1,0 +1,14 @@
+-- What values look like as JSON, under one name: `sc_row_text` has the definitions.
+pub use Rattle.sc_row_text.specs.Names.{draw_json, FitsDraw, ballot_json, FitsBallot}
+pub use Rattle.sc_row_text.specs.Ops.{op_json, FitsOp, reply_json, FitsReply}
+pub use Rattle.sc_row_text.specs.Sets.{arc_json, nodes_json, pairs_json, FitsPairs, client_json, FitsNoted, clients_json, FitsClients}
+pub use Rattle.sc_row_text.specs.Links.{link_json, FitsLink, route_json, FitsRoute}
+pub use Rattle.sc_row_text.specs.Bodies.{body_json, FitsBody, offer_json, FitsOffer, watch_json, FitsWatch}
+pub use Rattle.sc_row_text.specs.Votes.{no_json, FitsNo, frozen_json, FitsFrozen, heard_json, FitsHeard, vote_json, FitsVote, past_json, FitsPast}
+pub use Rattle.sc_row_text.specs.Outcomes.{gift_json, FitsGift, outcome_json, FitsOutcome}
+pub use Rattle.sc_row_text.specs.Cores.{lock_json, FitsLock, core_json, FitsCore, base_json, FitsBase}
+pub use Rattle.sc_row_text.specs.Commands.{command_json, FitsCommand, report_json, FitsReport}
+pub use Rattle.sc_row_text.specs.Orders.{order_json, FitsOrder, order_line_json, FitsOrderLine, order_refusal_json, FitsOrderRefusal, told_result_json, FitsToldResult}
+pub use Rattle.sc_row_text.specs.Answers.{answer_body_json, FitsAnswerBody}
+pub use Rattle.sc_row_text.specs.Mails.{mail_body_json, FitsMailBody, mail_json, FitsMail}
+pub use Rattle.sc_row_text.specs.Rows.{event_json, FitsEvent, row_json, FitsRow}

@@ -1,0 +1,56 @@
+-- What mails and commands are about, so that one function writes those of one topic.
+use Rattle.std.specs.Prelude.{Bool, true, false}
+use Rattle.sc_cmd.specs.declared.commands.Command.{Command}
+use Rattle.sc_cmd.specs.declared.commands.Command.TheVariants as TheCommand
+use Rattle.sc_mail.specs.declared.bodies.MailBody.{MailBody}
+use Rattle.sc_mail.specs.declared.bodies.MailBody.TheVariants as TheMailBody
+
+-- a topic of mails
+pub data Topic : Type 0 where
+  -- requests, answers, and what is told of orders
+  Asked : Topic
+  -- promises of a ballot
+  Promised : Topic
+  -- values of slots
+  Valued : Topic
+  -- what a member lacks
+  Lacked : Topic
+  -- votes of transactions
+  Voted : Topic
+  -- outcomes of transactions, and who watches them
+  Decided : Topic
+
+-- what a mail is about
+abbrev pub topic : MailBody → Topic
+topic (TheMailBody.Request group client seq op) = Asked
+topic (TheMailBody.Answer group seq answer) = Asked
+topic (TheMailBody.Prepare group ballot from_slot) = Promised
+topic (TheMailBody.Promise group ballot reports) = Promised
+topic (TheMailBody.Accept group ballot slot command) = Valued
+topic (TheMailBody.Accepted group ballot slot) = Valued
+topic (TheMailBody.Nack group promised) = Promised
+topic (TheMailBody.Learn group slot command) = Valued
+topic (TheMailBody.Ask group from_slot) = Lacked
+topic (TheMailBody.Install group slot base sets) = Lacked
+topic (TheMailBody.TxPrepare tx offer) = Voted
+topic (TheMailBody.TxVote tx coord part vote) = Voted
+topic (TheMailBody.TxOutcome tx part outcome) = Decided
+topic (TheMailBody.TxElsewhere tx coord hint) = Voted
+topic (TheMailBody.TxWatch tx watch) = Decided
+topic (TheMailBody.TxWatched tx coord part vote) = Decided
+topic (TheMailBody.Told order result) = Asked
+
+-- whether a command prepares or watches an offer, or records a vote or a watch
+abbrev pub is_vote : Command → Bool
+is_vote TheCommand.Noop = false
+is_vote (TheCommand.Call client seq op) = false
+is_vote (TheCommand.Join node order) = false
+is_vote (TheCommand.Leave node order) = false
+is_vote (TheCommand.Split at child order) = false
+is_vote (TheCommand.Begin tx body order) = false
+is_vote (TheCommand.Prepared tx offer) = true
+is_vote (TheCommand.RecordVote tx vote by) = true
+is_vote (TheCommand.GiveUp tx) = false
+is_vote (TheCommand.Finish tx outcome) = false
+is_vote (TheCommand.Watched tx watch) = true
+is_vote (TheCommand.RecordWatch tx vote by) = true

@@ -1,0 +1,22 @@
+//! What is written as JSON.
+ghost use Rattle.std.specs.Prelude.{◌≡◌, IfOk, OnOk};
+ghost use Rattle.serde_json.specs.Data.{Data};
+ghost use Rattle.serde_json.specs.View.{view};
+
+use sc_base::OutOfMemory;
+use serde_json::Value as Json;
+use std::alloc::Global;
+
+/// What has a JSON.
+pub trait ToJson: Sized {
+    /// The JSON.
+    ghost json_of: { Self → Data };
+
+    /// What holds of each value of the type: numbers are in their range, texts and sets are valid.
+    ghost Fits: { Self → Type 0 };
+
+    /// The value's JSON.
+    fn to_json(&self, alloc: Global) -> Result<Json, OutOfMemory>
+        ensures json { IfOk result (λ json. view json ≡ json_of self.now) }
+        ensures fits { OnOk result (Fits self.now) };
+}
