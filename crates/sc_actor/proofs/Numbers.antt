@@ -1,9 +1,7 @@
 -- The k-th of the pending numbers, mail by mail.
 use Rattle.std.proofs.Common.{◌≡◌, ℕ, zero, suc, ◌+◌, ◌-◌, ◌<◌, ◌≤◌, List, [], ◌∷◌, ◌++◌, length, Bool, true, false, cond, drop, replicate, get_or, min, map, refl, ap, arith, None, Some, add-one, ◌||◌}
 use Rattle.std.specs.List.{list_any}
-use Rattle.std.proofs.lemmas.Option.{slice_get_read}
-use Rattle.std.specs.Prelude.{IsSomeAnd}
-use Rattle.sc_actor.specs.Mail.{numbers, numbered}
+use Rattle.sc_actor.specs.Mail.{numbers}
 use Rattle.sc_actor.specs.System.{kth}
 
 -- within the copies of one mail
@@ -61,15 +59,6 @@ module _ {M : Type 0} (test : M → Bool) where
   kth-later number i k sent counts mail lt lt' is few =
       rw (numbers-drop number i sent counts mail lt lt' is, open_first (test mail) (get_or counts i 0) number)
       (kth-past (cond (test mail) (get_or counts i 0) 0) number k (numbers test (number + 1) (drop (i + 1) sent) (drop (i + 1) counts)) few)
-
-  test-true : (b : Bool) (c k : ℕ) → 0 < k → k ≤ cond b c 0 → b ≡ true
-  test-true true c k p q = refl
-  test-true false c k p q = absurd (omega arith)
-
-  -- its mail is there, and passes the test
-  pub kth-mail : (i c k : ℕ) (sent : List M) (mail : M) → i < length sent → mail ≡ get_or sent i mail → 0 < k → k ≤ cond (test mail) c 0 → IsSomeAnd (numbered sent (i + 1)) (λ m. test m ≡ true)
-  kth-mail i c k sent mail lt is first enough =
-      rw (add-one, slice_get_read sent (length sent) i mail refl lt is) (test-true (test mail) c k first enough)
 
 -- a test of what a function makes of some element
 pub list_any-map : {X Y : Type 0} (p : Y → Bool) (f : X → Y) (xs : List X) → list_any p (map f xs) ≡ list_any (λ x. p (f x)) xs

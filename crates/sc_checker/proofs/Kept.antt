@@ -18,6 +18,7 @@ use Rattle.sc_checker.specs.declared.stages.OpenCopy.{OpenCopy}
 use Rattle.sc_checker.specs.declared.stages.Stage.{Stage}
 use Rattle.sc_checker.specs.Stages.{IsUpToDate}
 use Rattle.sc_checker.specs.Opens.{copy_of, opens, opens_of, opened, reopened, runs, without, with_copy}
+use Rattle.sc_checker.proofs.Steps.{or_false}
 use Rattle.sc_checker.proofs.Opens.{opens-agree, opens-append, opens-crash, opens-for, opens-less, opens-more, opens-numbers, without-fresh}
 
 module _ {M O : Type 0} (receiver : M → ℕ) (actors : List ℕ) (rows : List (Row M O)) where
@@ -45,10 +46,6 @@ module _ {M O : Type 0} (receiver : M → ℕ) (actors : List ℕ) (rows : List 
 -- whoever runs by what is kept may get mail
 pub runs-may : {M O : Type 0} (actors : List ℕ) (rows : List (Row M O)) (crashed : List ℕ) → ((who : ℕ) → list_any (λ number. eqb number who) crashed ≡ has_crashed rows who) → runs actors crashed ≡ may_get actors rows
 runs-may actors rows crashed is = fun_ext (λ who. ap (λ b. list_any (λ actor. eqb actor who) actors && not b) (is who))
-
-or_false : (b : Bool) → (b || false) ≡ b
-or_false true = refl
-or_false false = refl
 
 module _ {M O : Type 0} (rows : List (Row M O)) (row : Row M O) where
   -- who has crashed after one more row

@@ -1,6 +1,5 @@
 -- What plain functions find in a journal.
-use Rattle.std.proofs.Common.{◌≡◌, ℕ, zero, suc, ◌+◌, ◌-◌, ◌<◌, ◌≤◌, ◌^◌, List, [], ◌∷◌, ◌++◌, length, Bool, cond, take, drop, replicate, All, get_or, sym, ◌∙◌, ap, subst, arith, append_assoc, length-append}
-use Rattle.std.proofs.Math.ListN.{length-replicate}
+use Rattle.std.proofs.Common.{◌≡◌, ℕ, zero, suc, ◌+◌, ◌-◌, ◌<◌, ◌≤◌, ◌^◌, List, [], ◌∷◌, ◌++◌, length, Bool, cond, take, drop, replicate, All, get_or, sym, ◌∙◌, ap, subst, arith, append_assoc}
 use Rattle.std.proofs.lemmas.List.Elements.{All-weaker}
 use Rattle.sc_actor.specs.declared.rows.Row.{Row}
 use Rattle.sc_actor.specs.Mail.{mails, copies, numbers}
@@ -17,17 +16,6 @@ found_next test found i times sent counts mail all lt lt' is times_is e =
     ∙ ap (λ xs. found ++ (xs ++ numbers test (i + 1 + 1) (drop (i + 1) sent) (drop (i + 1) counts))) (sym (open_first test (test mail) (get_or counts i 0) (i + 1)))
     ∙ ap (λ xs. found ++ xs) (sym (numbers-drop test (i + 1) i sent counts mail lt lt' is))
     ∙ e
-
--- the numbers so far and those of one more mail are counted together
-pub count_next : {M : Type 0} (test : M → Bool) (i times many : ℕ) (sent : List M) (counts : List ℕ) (mail : M) (all : ℕ) → i < length sent → i < length counts → mail ≡ get_or sent i mail → times ≡ cond (test mail) (get_or counts i 0) 0 →
-    all ≡ many + length (numbers test (i + 1) (drop i sent) (drop i counts)) → all ≡ many + times + length (numbers test (i + 1 + 1) (drop (i + 1) sent) (drop (i + 1) counts))
-count_next test i times many sent counts mail all lt lt' is times_is e =
-    let rest = numbers test (i + 1 + 1) (drop (i + 1) sent) (drop (i + 1) counts) in
-    let here : length (numbers test (i + 1) (drop i sent) (drop i counts)) ≡ times + length rest =
-    ap length (numbers-drop test (i + 1) i sent counts mail lt lt' is)
-    ∙ (length-append (cond (test mail) (replicate (get_or counts i 0) (i + 1)) []) rest
-    ∙ ap (λ n. n + length rest) (ap length (open_first test (test mail) (get_or counts i 0) (i + 1)) ∙ (length-replicate (cond (test mail) (get_or counts i 0) 0) (i + 1) ∙ sym times_is))) in
-    omega (arith, e, here)
 
 short : {X : Type 0} (i : ℕ) (xs : List X) → length (take i xs) ≤ length xs
 short zero xs = omega arith
