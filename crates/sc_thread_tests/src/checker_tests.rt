@@ -1,58 +1,32 @@
-//! Journals of toy actors, each of which sends one note at each input while it has turns left.
-ghost use Rattle.std.specs.Prelude.{[], ◌∷◌, ◌-◌, ◌==◌, if◌then◌else◌};
+//! Journals of players, each of which sends one note at each input while it has notes left.
 
 use crate::notes::Note;
-use sc_actor::{Actor, Event, Input, Journal, Line, Row, Seat, are_apart, are_few};
-use sc_base::{OutOfMemory, Sequence};
+use crate::players::Player;
+use sc_actor::{Event, Journal, Line, Row, Seat, are_apart, are_few};
+use sc_base::Sequence;
 use sc_checker::{Replayed, is_lawful, pending_of, replay};
 use std::alloc::Global;
 use std::mem::forget;
 use std::process::Abort;
 
-#[derive(Drop)]
-struct Relay {
-    left: u32,
-    next: u32,
-}
-
-impl Actor for Relay {
-    type Mail = Note;
-
-    type Order = u32;
-
-    ghost table = { λ relay _.
-        if relay.left == 0 then (relay, []) else (
-          record { left = relay.left - 1; next = relay.next },
-          (record { to = relay.next; size = 7 })
-              ∷ [],
-        ) };
-
-    fn step(
-        &mut self,
-        alloc: Global,
-        _input: &Input<Note, u32>,
-    ) -> Result<Sequence<Note>, OutOfMemory> {
-        let mut sent = Sequence::new(alloc);
-        if self.left > 0 {
-            self.left -= 1;
-            sent.push(Note {
-                to: self.next,
-                size: 7,
-            })?;
-        }
-        Ok(sent)
+// A player that has two notes left for another.
+fn player(other: u32) -> Player {
+    Player {
+        other,
+        left: 2,
+        starves: 0,
     }
 }
 
-// Actors 1 and 2, which send to each other, with two turns each.
-fn pair(rt: &impl Abort, alloc: Global) -> Vec<Seat<Relay>> {
+// Actors 1 and 2, which send to each other, with two notes each.
+fn pair(rt: &impl Abort, alloc: Global) -> Vec<Seat<Player>> {
     let one = Seat {
         who: 1,
-        actor: Relay { left: 2, next: 2 },
+        actor: player(2),
     };
     let two = Seat {
         who: 2,
-        actor: Relay { left: 2, next: 1 },
+        actor: player(1),
     };
     let mut seats = Vec::new(alloc);
     seats.push(one).expect(rt, "memory");
@@ -88,7 +62,7 @@ fn event_of(when: When) -> Event<u32> {
 fn notes_to(rt: &impl Abort, alloc: Global, to: u32) -> Sequence<Note> {
     let mut notes = Sequence::new(alloc);
     if to > 0 {
-        notes.push(Note { to, size: 7 }).expect(rt, "memory");
+        notes.push(Note { to, size: 0 }).expect(rt, "memory");
     }
     notes
 }
@@ -142,24 +116,24 @@ struct Left {
     unsettled: bool,
     // Whether no mail is pending.
     quiet: bool,
-    // The turns that each actor has left.
-    turns: (u32, u32),
+    // The notes that each actor has left.
+    notes: (u32, u32),
 }
 
-fn is_left(left: &Replayed<Relay>, wanted: Left) -> bool {
+fn is_left(left: &Replayed<Player>, wanted: Left) -> bool {
     match left.seats.as_slice() {
         [one, two] => {
             left.skipped == wanted.skipped
                 && left.unsettled == wanted.unsettled
                 && left.quiet == wanted.quiet
-                && one.actor.left == wanted.turns.0
-                && two.actor.left == wanted.turns.1
+                && one.actor.left == wanted.notes.0
+                && two.actor.left == wanted.notes.1
         }
         _ => false,
     }
 }
 
-fn is_told(left: &Option<Replayed<Relay>>, wanted: Option<Left>) -> bool {
+fn is_told(left: &Option<Replayed<Player>>, wanted: Option<Left>) -> bool {
     match (left, wanted) {
         (Some(left), Some(wanted)) => is_left(left, wanted),
         (None, None) => true,
@@ -305,7 +279,7 @@ fn free_lines_leave_the_order_of_actors_open(rt: HostRuntime) {
         skipped: 0,
         unsettled: true,
         quiet: false,
-        turns: (0, 0),
+        notes: (0, 0),
     };
     assert!(rt; leave(&rt, rt.alloc(), BOTH_AND_FREE, &SECOND_FIRST, Some(left)));
     assert!(rt; lawful_parts(&rt, rt.alloc(), BOTH_AND_TWO, &SECOND_FIRST) == 3);
@@ -335,7 +309,7 @@ fn lines_are_skipped_where_they_make_no_row(rt: HostRuntime) {
         skipped: 6,
         unsettled: false,
         quiet: true,
-        turns: (0, 1),
+        notes: (0, 1),
     };
     assert!(rt; lawful_parts(&rt, rt.alloc(), SKIPPED, &TROUBLED) == 9);
     assert!(rt; leave(&rt, rt.alloc(), SKIPPED, &TROUBLED, Some(left)));
@@ -349,12 +323,12 @@ const TWO_SETTLES: &[Line<u32>] = &[
 ];
 
 // What is left where one line is skipped.
-fn one_skipped(unsettled: bool, quiet: bool, turns: (u32, u32)) -> Option<Left> {
+fn one_skipped(unsettled: bool, quiet: bool, notes: (u32, u32)) -> Option<Left> {
     Some(Left {
         skipped: 1,
         unsettled,
         quiet,
-        turns,
+        notes,
     })
 }
 

@@ -42,18 +42,17 @@ impl Actor for Player {
         alloc: Global,
         _input: &Input<Note, u32>,
     ) -> Result<Sequence<Note>, OutOfMemory> {
-        let mut sent = Sequence::new(alloc);
-        if self.left == 0 {
-            return Ok(sent);
-        }
-        if self.left == self.starves {
+        if self.left > 0 && self.left == self.starves {
             return Err(OutOfMemory);
         }
-        sent.push(Note {
-            to: self.other,
-            size: 0,
-        })?;
-        self.left -= 1;
+        let mut sent = Sequence::new(alloc);
+        if self.left > 0 {
+            self.left -= 1;
+            sent.push(Note {
+                to: self.other,
+                size: 0,
+            })?;
+        }
         Ok(sent)
     }
 }

@@ -1,4 +1,3 @@
-use Rattle.std.proofs.Common.{subst}
 use Rattle.sc_wants.proofs.Readings.{if_ok, of_text}
 use Rattle.sc_wants.proofs.wants.keep.Goals as goal
 
