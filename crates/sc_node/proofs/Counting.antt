@@ -12,22 +12,22 @@ use Rattle.sc_node_table.specs.Births.{readied_children, tallied_children}
 use Rattle.sc_replica.specs.Steps.{with_leader}
 
 -- a majority was counted
-chosen_row : (slot : ℕ) (p : Counted Command × LeaderState Command) (c : Command) (r : ReplicaState) (mails : List Mail) → Chosen c ≡ p.0
+pub chosen_row : (slot : ℕ) (p : Counted Command × LeaderState Command) (c : Command) (r : ReplicaState) (mails : List Mail) → Chosen c ≡ p.0
     → readied slot c (with_leader p.1 r, mails) ≡ vote_tallied slot p (r, mails)
 chosen_row slot p c r mails e = rw (← e)
 
 -- .. and the children of what is executed then
-chosen_children : (slot : ℕ) (p : Counted Command × LeaderState Command) (c : Command) (r : ReplicaState) (mails : List Mail) (made : List Base) → Chosen c ≡ p.0
+pub chosen_children : (slot : ℕ) (p : Counted Command × LeaderState Command) (c : Command) (r : ReplicaState) (mails : List Mail) (made : List Base) → Chosen c ≡ p.0
     → readied_children slot c (with_leader p.1 r, mails) made ≡ tallied_children slot p (r, mails) made
 chosen_children slot p c r mails made e = rw (← e)
 
 -- none was
-waiting_row : (slot : ℕ) (p : Counted Command × LeaderState Command) (n : ℕ) (r : ReplicaState) (mails : List Mail) → NotYet n ≡ p.0
+pub waiting_row : (slot : ℕ) (p : Counted Command × LeaderState Command) (n : ℕ) (r : ReplicaState) (mails : List Mail) → NotYet n ≡ p.0
     → (with_leader p.1 r, mails) ≡ vote_tallied slot p (r, mails)
 waiting_row slot p n r mails e = rw (← e)
 
 -- .. and nothing is executed
-waiting_children : (slot : ℕ) (p : Counted Command × LeaderState Command) (n : ℕ) (r : ReplicaState) (mails : List Mail) (made : List Base) → NotYet n ≡ p.0
+pub waiting_children : (slot : ℕ) (p : Counted Command × LeaderState Command) (n : ℕ) (r : ReplicaState) (mails : List Mail) (made : List Base) → NotYet n ≡ p.0
     → made ≡ tallied_children slot p (r, mails) made
 waiting_children slot p n r mails made e = rw (← e)
 
