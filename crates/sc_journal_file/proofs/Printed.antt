@@ -48,12 +48,12 @@ last_feed [] = inl refl
 last_feed (line ∷ lines) = inr (last_of line (whole lines) (last_feed lines))
 
 -- lines without line feeds within, with a last one
-record HasLast (lines : List (List ℕ)) : Type 0 where
-  front : List (List ℕ)
-  last : List ℕ
-  lines_are : lines ≡ front ++ last ∷ []
-  plain : Each IsPlain front
-  plain_last : IsPlain last
+pub record HasLast (lines : List (List ℕ)) : Type 0 where
+  pub front : List (List ℕ)
+  pub last : List ℕ
+  pub lines_are : lines ≡ front ++ last ∷ []
+  pub plain : Each IsPlain front
+  pub plain_last : IsPlain last
 
 ends_on : (line : List ℕ) (lines : List (List ℕ)) → IsPlain line → (lines ≡ []) ⊎ HasLast lines → HasLast (line ∷ lines)
 ends_on line lines here (inl none) = record { front = []; last = line; lines_are = ap (λ more. line ∷ more) none; plain = tt; plain_last = here }
