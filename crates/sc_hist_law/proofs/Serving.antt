@@ -4,6 +4,7 @@ use Rattle.std.specs.Cmp.{nat_cmp_total, unsigned_tied}
 use Rattle.std.specs.FinMap.{empty, get, get-insert}
 use Rattle.std.specs.Option.{option_map}
 use Rattle.std.proofs.lemmas.Bool.{cases_Bool, eqb-true, eq-eqb, cond-true, cond-false}
+use Rattle.std.proofs.lemmas.Option.{same_Some}
 use Rattle.sc_base.specs.Among.{Among}
 use Rattle.sc_base.specs.Arc.{holds}
 use Rattle.sc_base.specs.Text.{pos_of}
@@ -22,7 +23,7 @@ use Rattle.sc_hist_law.proofs.Holdings.{IsOnRing}
 use Rattle.sc_hist_law.proofs.Kept.{IsApart, all_pairs, apart_push}
 use Rattle.sc_hist_law.proofs.Positions.{first_pairs, other_pairs}
 use Rattle.sc_hist_law.proofs.Told.{replay_push, after_push, entry_later}
-use Rattle.sc_entries.proofs.Names.{some_is, draw_cases}
+use Rattle.sc_entries.proofs.Names.{draw_cases}
 
 -- entries that are apart, one by one
 one_by_one : (es : List Entry) → AllPairs AreApart es → IsApart es
@@ -103,7 +104,7 @@ module _ (request : RequestOf) (history : List Entry) (holdings : Holdings) (tol
   notes_now who n e =
       elim (cases_Bool (eqb who client)) [
         | inl t ↦ (
-            let same : note ≡ n = some_is note n (sym (found_new who (eqb-true who client t)) ∙ e) in
+            let same : note ≡ n = same_Some note n (sym (found_new who (eqb-true who client t)) ∙ e) in
             subst (λ (x : Noted). HasEntry (history ++ new ∷ []) who x.seq x.reply) same
             (subst (λ c. HasEntry (history ++ new ∷ []) c seq (reply_of op holding.pairs)) (sym (eqb-true who client t)) last_is))
         | inr f ↦ entry_later history (new ∷ []) who n.seq n.reply (here.notes who n (sym (found_old who f) ∙ e))

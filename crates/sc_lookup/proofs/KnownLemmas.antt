@@ -48,11 +48,6 @@ some_learnt group lo members known =
       | Some way ↦ λ e. omega (arith, some_known group known way e, length-changed (λ way. record way { lo = lo }) group known (Some way))
     ] refl
 
--- what was learnt, or was there before, has some group
-pub some_left : (result : Result (Unit {0}) OutOfMemory) (new more old : Known) → OnOk result (new ≡ more) → OnErr result (new ≡ old) → 1 ≤ length more → 1 ≤ length old → 1 ≤ length new
-some_left (Ok done) new more old ok err some some' = omega (arith, ap length ok)
-some_left (Err fault) new more old ok err some some' = omega (arith, ap length err)
-
 -- what holds where a call is done holds of a call that is done
 pub of_done : {T E P : Type 0} (result : Result T E) → OnOk result P → IsOk result → P
 of_done (Ok done) ok is = ok

@@ -1,6 +1,6 @@
 -- Elements of lists, and what is found first.
-use Rattle.std.proofs.Common.{◌≡◌, Bool, true, false, cond, List, [], ◌∷◌, ◌++◌, filter, Some, None, inl, inr, refl, sym, ◌∙◌, ap, subst}
-use Rattle.std.specs.List.{find}
+use Rattle.std.proofs.Common.{◌≡◌, suc, Bool, true, false, cond, List, [], ◌∷◌, ◌++◌, filter, Some, None, inl, inr, refl, sym, ◌∙◌, ap, subst, arith}
+use Rattle.std.specs.List.{All, AllPairs, find}
 use Rattle.std.proofs.lemmas.Bool.{cases_Bool, cond-true, cond-false}
 use Rattle.sc_base.specs.Among.{Among, Each}
 
@@ -23,6 +23,22 @@ Each-weaker P Q f (x ∷ xs) e = (f x e.0, Each-weaker P Q f xs e.1)
 pub Each-append : {X : Type 0} (P : X → Type 0) (xs ys : List X) → Each P xs → Each P ys → Each P (xs ++ ys)
 Each-append P [] ys e f = f
 Each-append P (x ∷ xs) ys e f = (e.0, Each-append P xs ys e.1 f)
+
+-- what holds of each, and of one more behind them
+pub Each-push : {X : Type 0} (P : X → Type 0) (xs : List X) (x : X) → Each P xs → P x → Each P (xs ++ x ∷ [])
+Each-push P xs x e here = Each-append P xs (x ∷ []) e (here, tt)
+
+-- what holds of each of two lists in a row holds of each of the first, and of each of the second
+pub Each-split : {X : Type 0} (P : X → Type 0) (xs ys : List X) → Each P (xs ++ ys) → Each P xs × Each P ys
+Each-split P [] ys e = (tt, e)
+Each-split P (x ∷ xs) ys e = (let rest = Each-split P xs ys e.1 in ((e.0, rest.0), rest.1))
+
+-- what holds of each two, the earlier first, holds of the first with each other, and of each two others
+pub AllPairs-head : {X : Type 0} (R : X → X → Type 0) (x : X) (xs : List X) → AllPairs R (x ∷ xs) → All (R x) xs
+AllPairs-head R x xs all k d lt = all 0 (suc k) d (omega arith) (omega (arith, lt))
+
+pub AllPairs-tail : {X : Type 0} (R : X → X → Type 0) (x : X) (xs : List X) → AllPairs R (x ∷ xs) → AllPairs R xs
+AllPairs-tail R x xs all i j d lt within = all (suc i) (suc j) d (omega (arith, lt)) (omega (arith, within))
 
 filter-yes : {X : Type 0} (p : X → Bool) (x : X) (xs : List X) → p x ≡ true → filter p (x ∷ xs) ≡ x ∷ filter p xs
 filter-yes p x xs t = cond-true (p x) (x ∷ filter p xs) (filter p xs) t

@@ -18,9 +18,10 @@ use Rattle.sc_start_law.specs.Begins.{HasSeats, IsReady, request_of}
 use Rattle.sc_start_law.specs.Laws.{ValidScenariosBeginWell}
 use Rattle.sc_start_law.proofs.Requests.{asks_are}
 use Rattle.sc_start_law.proofs.Starts.{AreStarts, bases_from, first_and_others, starts_apart, starts_bare, starts_fresh, starts_in_place}
+use Rattle.sc_paxos_words.proofs.ListLemmas.{AllPairs-head, AllPairs-tail}
 
 -- the first of clients that rise is below each later one
-below_later : (first : ℕ) (clients : List Asks) (other : Asks) → ((k : ℕ) (d : Asks) → k < length clients → first < (slice_index_or clients k d).client) → Among other clients → first < other.client
+below_later : (first : ℕ) (clients : List Asks) (other : Asks) → All (λ (b : Asks). first < b.client) clients → Among other clients → first < other.client
 below_later first [] other above among = absurd among
 below_later first (asks ∷ clients) other above (inl e) = subst (λ (a : Asks). first < a.client) e (above 0 asks (omega arith))
 below_later first (asks ∷ clients) other above (inr later) = below_later first clients other (λ k d lt. above (suc k) d (omega (arith, lt))) later
@@ -34,12 +35,12 @@ numbered_once (asks ∷ clients) rising one other a b same =
       | inl e ↦ elim b [ inl f ↦ sym e ∙ f | inr m ↦ absurd (omega (arith, below_later asks.client clients other above m, ap (λ (x : Asks). x.client) e, same)) ]
       | inr m ↦ elim b [
         | inl f ↦ absurd (omega (arith, below_later asks.client clients one above m, ap (λ (x : Asks). x.client) f, same))
-        | inr n ↦ numbered_once clients (λ i j d lt within. rising (suc i) (suc j) d (omega (arith, lt)) (omega (arith, within))) one other m n same
+        | inr n ↦ numbered_once clients (AllPairs-tail (λ (a b : Asks). a.client < b.client) asks clients rising) one other m n same
       ]
     ]
   where
-    above : (k : ℕ) (d : Asks) → k < length clients → asks.client < (slice_index_or clients k d).client
-    above k d lt = rising 0 (suc k) d (omega arith) (omega (arith, lt))
+    above : All (λ (other : Asks). asks.client < other.client) clients
+    above = AllPairs-head (λ (a b : Asks). a.client < b.client) asks clients rising
 
 -- what holds of all, by place, holds of each
 pub each_of : {X : Type 0} (P : X → Type 0) (xs : List X) → All P xs → Each P xs
@@ -62,15 +63,12 @@ module _ (owner : Draw → Option Draw) (unowned : (name : Draw) → name.node �
   are_starts : AreStarts early.starts
   are_starts = record { some = early.some; low = λ k d lt. (early.each k d lt).lo_in; rising = early.rising }
 
-  once : (one other : Asks) → Among one scenario.clients → Among other scenario.clients → one.client ≡ other.client → one ≡ other
-  once = numbered_once scenario.clients early.ascending
-
   seats : HasSeats ahead scenario (route_of first)
   seats = record {
     seats = ap (λ gs. map (node_seat ahead scenario.groups scenario.policy) (numbers_from 1 scenario.nodes) ++ client_seats gs scenario.clients) groups_are;
     nodes = early.nodes.1;
     numbered = each_of (λ (asks : Asks). 1 ≤ asks.client) scenario.clients (λ k d lt. (early.clients k d lt).0.0);
-    once = once;
+    once = numbered_once scenario.clients early.ascending;
     open_slots = open_slots;
   }
 
@@ -84,7 +82,7 @@ module _ (owner : Draw → Option Draw) (unowned : (name : Draw) → name.node �
       apart = subst AreApart (sym early.groups) (starts_apart early.starts);
       fresh = λ base a. starts_fresh early.starts (λ k d lt. (early.each k d lt).roster) base (subst (Among base) early.groups a);
       seats = seats;
-      asks = asks_are owner scenario once;
+      asks = asks_are owner scenario seats.once;
     };
     bare = subst BeginBare (sym early.groups) (starts_bare early.starts are_starts);
   }
