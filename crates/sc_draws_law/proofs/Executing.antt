@@ -1,5 +1,5 @@
 -- What an executed entry leaves in a replica, what is sent for it, and the children that it makes.
-use Rattle.std.proofs.Common.{ℕ, ◌&&◌, ◌||◌, nat_lt, eqb, Bool, true, cond, List, [], ◌∷◌, ◌++◌, Option, Some, None}
+use Rattle.std.proofs.Common.{ℕ, ◌&&◌, nat_lt, eqb, Bool, true, cond, List, [], ◌∷◌, ◌++◌, Option, Some, None}
 use Rattle.sc_base.specs.Among.{Each}
 use Rattle.sc_base.specs.declared.names.Draw.{Draw}
 use Rattle.sc_cmd.specs.declared.commands.Command.{Command}
@@ -22,12 +22,10 @@ use Rattle.sc_paxos_words.specs.Logs.{LogState, next_of}
 use Rattle.sc_node_table.specs.declared.Before.{Before}
 use Rattle.sc_node_table.specs.Births.{with_child, next_child, ready_children, executed_children}
 use Rattle.sc_node_table.specs.Slots.{at_slot, without_slot}
-use Rattle.sc_node_table.specs.Replica.{ReplicaState, Place, name_of, next, members, flying}
-use Rattle.sc_node_table.specs.Sameness.{same_command}
+use Rattle.sc_node_table.specs.Replica.{ReplicaState, Place, name_of, next, members}
 use Rattle.sc_node_table.specs.Mails.{sent_others, order_number}
-use Rattle.sc_node_table.specs.Queues.{put_back}
 use Rattle.sc_node_table.specs.Election.{elected, stopped}
-use Rattle.sc_node_table.specs.Execute.{with_entry, entered, answer_of, told_call, result_of, order_result, told_effect, announced, learnt_to, welcomed, slot_lost, landed, left_gone, left, is_among, looked_for, looked, executed_one, has_room, next_ready, executed}
+use Rattle.sc_node_table.specs.Execute.{with_entry, entered, answer_of, told_call, result_of, order_result, told_effect, announced, learnt_to, welcomed, landed, left_gone, left, is_among, looked_for, looked, executed_one, has_room, next_ready, executed}
 use Rattle.sc_node_table.specs.Spoken.{before_of, spoken}
 use Rattle.sc_draws_law.specs.Names.{Opt, CoreNames, CommandNames, EffectNames, AnswerNames, ResultNames, ReplicaNames}
 use Rattle.sc_draws_law.proofs.Lists.{opt_slot, slot_without, flight_without}

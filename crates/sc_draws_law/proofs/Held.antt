@@ -14,7 +14,6 @@ use Rattle.sc_cmd.specs.declared.cores.Core.{Core}
 use Rattle.sc_cmd.specs.declared.links.Route.{Route}
 use Rattle.sc_mail.specs.declared.bodies.AnswerBody.{AnswerBody}
 use Rattle.sc_mail.specs.declared.bodies.AnswerBody.TheVariants as Says
-use Rattle.sc_mail.specs.declared.bodies.Mail.{Mail}
 use Rattle.sc_mail.specs.declared.bodies.MailBody.TheVariants.{Prepare, Accept, Install}
 use Rattle.sc_machine_table.specs.Group.{base_of}
 use Rattle.sc_paxos_words.proofs.ListLemmas.{Each-append, Each-filter}
@@ -25,11 +24,11 @@ use Rattle.sc_paxos_words.specs.declared.reports.Report.{Report}
 use Rattle.sc_paxos_words.specs.Choice.{choice, chosen_value, names_above}
 use Rattle.sc_paxos_words.specs.Leaders.{flight_at, must, must_without}
 use Rattle.sc_node_table.specs.Replica.{ReplicaState, Place, name_of, next, flying, taken_at, under_way, is_idle, settled, may_offer, last_slot, born_replica, installed_replica, floor_of, forgotten}
-use Rattle.sc_node_table.specs.Mails.{sent, answered, answered_all}
+use Rattle.sc_node_table.specs.Mails.{sent, answered_all}
 use Rattle.sc_node_table.specs.Queues.{call_of, is_call_of, without_call, call_before, put_back}
 use Rattle.sc_node_table.specs.Election.{open_nodes, elected, ended, stopped, saw}
 use Rattle.sc_node_table.specs.Install.{install_to, asked_to_promise, welcomed_all, named, jumped}
-use Rattle.sc_node_table.specs.Pump.{Found, is_act, waits, refused_by, turned_down, next_call, from_calls, from_acts, from_queues, found_by, found_for, offered, pumped_from, pumped}
+use Rattle.sc_node_table.specs.Pump.{Found, is_act, refused_by, turned_down, from_calls, from_acts, from_queues, found_by, found_for, offered, pumped_from, pumped}
 use Rattle.sc_paxos_words.specs.Ballots.{below}
 use Rattle.sc_draws_law.specs.Names.{Opt, CoreNames, CommandNames, AnswerNames, ReplicaNames}
 use Rattle.sc_draws_law.proofs.Lists.{opt_find, opt_map, opt_choice, Each-drop}

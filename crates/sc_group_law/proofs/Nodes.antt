@@ -1,7 +1,6 @@
 -- What holds of a node with its replicas, and what comes of mail and orders.
 use Rattle.std.proofs.Common.{◌≡◌, ℕ, ◌||◌, not, nat_lt, true, false, cond, eqb, List, [], ◌∷◌, ◌++◌, length, Option, Some, None, is_some, inl, inr, refl, sym, ◌∙◌, ap, subst, append-nil}
 use Rattle.std.proofs.lemmas.Bool.{cases_Bool, cond_both}
-use Rattle.sc_base.specs.declared.names.Ballot.{Ballot}
 use Rattle.sc_base.specs.declared.names.Draw.{Draw}
 use Rattle.sc_base.specs.Same.{same_draw}
 use Rattle.sc_cmd.specs.declared.commands.Command.{Command}
@@ -16,7 +15,6 @@ use Rattle.sc_cmd.specs.declared.orders.OrderRefusal.TheVariants.{NotLeader}
 use Rattle.sc_actor.specs.declared.rows.Event.{Event}
 use Rattle.sc_base.specs.Among.{Among, Each}
 use Rattle.sc_paxos_words.proofs.ListLemmas.{Each-among, Each-from, Each-weaker, find_found}
-use Rattle.sc_paxos_law.specs.Steps.{Offered}
 use Rattle.sc_paxos_law.specs.Lawful.{IsLawfulHistory}
 use Rattle.sc_node_table.specs.Node.{NodeState, replica_of, with_replica, with_new, group_of_mail, absent, with_made, unknown, may_come, with_born, with_children, taken_by, routed, on_mail, group_of_order, ordered_of, on_order}
 use Rattle.sc_node_table.specs.Births.{mailed_children}

@@ -35,7 +35,7 @@ use Rattle.sc_paxos_law.proofs.History.{was_offered, report_accepted}
 use Rattle.sc_paxos_words.specs.Logs.{next_of}
 use Rattle.sc_paxos_law.proofs.Leading.{elected_by}
 use Rattle.sc_node_table.specs.Pump.{Found, is_act, waits, refused_by, turned_down, next_call, from_calls, from_acts, from_queues, found_by, found_for, offered, pumped_from, pumped}
-use Rattle.sc_node_table.specs.Mails.{sent_all, answered}
+use Rattle.sc_node_table.specs.Mails.{sent_all}
 use Rattle.sc_node_table.specs.Slots.{at_slot}
 use Rattle.sc_node_table.specs.Replica.{ReplicaState, Place, name_of, next, flying, either, taken_at, may_offer, settled, under_way, is_idle, last_slot}
 use Rattle.sc_sound.specs.Players.{Ahead}

@@ -1,5 +1,5 @@
 -- Several groups that begin bare, and quiet entries: what they tell.
-use Rattle.std.proofs.Common.{◌≡◌, ◌%◌, ◌^◌, List, [], ◌∷◌, ◌++◌, map, Some, inl, inr, refl, sym, ap, ◌∙◌, subst}
+use Rattle.std.proofs.Common.{◌≡◌, ◌%◌, ◌^◌, List, [], ◌∷◌, map, Some, inl, inr, refl, sym, ap, ◌∙◌, subst}
 use Rattle.std.specs.FinMap.{empty}
 use Rattle.std.specs.Option.{option_map}
 use Rattle.std.specs.List.{find}
@@ -19,14 +19,14 @@ use Rattle.sc_entries.specs.declared.LogEntry.{LogEntry}
 use Rattle.sc_entries.specs.Rings.{Covers, arc_in, first_cut, is_cut_of}
 use Rattle.sc_entries.specs.Worlds.{StoreWorld, first_world, is_named, named_group, world_of}
 use Rattle.sc_entries.proofs.Pushes.{world_append}
-use Rattle.sc_paxos_words.proofs.ListLemmas.{find_found, Each-split}
+use Rattle.sc_paxos_words.proofs.ListLemmas.{find_found, Each-split, one_of_name}
 use Rattle.sc_paxos_law.proofs.Among.{from_map}
 use Rattle.sc_hist_law.specs.Moves.{Holding, RequestOf, AreBare, HasNotes, TellsHoldings, holding_of}
 use Rattle.sc_hist_law.specs.Worlds.{BeginBare, IsQuiet, IsToldWorld, QuietEntriesTell, holdings_in}
 use Rattle.sc_hist_law.proofs.MovesKept.{bare_told}
 use Rattle.sc_hist_law.proofs.Cuts.{cut_of}
 use Rattle.sc_hist_law.proofs.Holdings.{IsOnRing}
-use Rattle.sc_hist_law.proofs.Positions.{holds_round, on_ring, one_of_name}
+use Rattle.sc_hist_law.proofs.Positions.{holds_round, on_ring}
 use Rattle.sc_hist_law.proofs.QuietWorlds.{HaveCuts, IsQuietWorld, effective_is, holdings_are, notes_grow, own_notes, quiet_all}
 
 -- ---- at the start

@@ -21,14 +21,15 @@ use Rattle.sc_hist_law.specs.Moves.{Holding, Holdings, RequestOf, MayServe, Tell
 use Rattle.sc_hist_law.proofs.Disjoint.{holding_here, holding_there}
 use Rattle.sc_hist_law.proofs.Holdings.{IsOnRing}
 use Rattle.sc_hist_law.proofs.Kept.{IsApart, all_pairs, apart_push}
-use Rattle.sc_hist_law.proofs.Positions.{first_pairs, other_pairs}
 use Rattle.sc_hist_law.proofs.Told.{replay_push, after_push, entry_later}
 use Rattle.sc_entries.proofs.Names.{draw_cases}
+use Rattle.sc_paxos_words.proofs.ListLemmas.{Each-from_All}
+use Rattle.sc_member.proofs.Pairs.{AllPairs-head, AllPairs-tail}
 
 -- entries that are apart, one by one
 one_by_one : (es : List Entry) → AllPairs AreApart es → IsApart es
 one_by_one [] a = tt
-one_by_one (e ∷ es) a = (first_pairs AreApart e es a, one_by_one es (other_pairs AreApart e es a))
+one_by_one (e ∷ es) a = (Each-from_All (AreApart e) es (AllPairs-head AreApart e es a), one_by_one es (AllPairs-tail AreApart e es a))
 
 not_held : (b : Bool) → (b ≡ true → ⊥) → b ≡ false
 not_held true no_way = absurd (no_way refl)

@@ -6,8 +6,7 @@ use Rattle.indexmap.specs.IndexMap.{insert_entry}
 use Rattle.sc_base.specs.declared.names.Draw.{Draw}
 use Rattle.sc_base.specs.Same.{same_draw}
 use Rattle.sc_lookup.specs.declared.ways.Way.{Way}
-use Rattle.std.specs.Prelude.{is_some, Result, Ok, Err, OnOk, OnErr, IsOk}
-use Rattle.sc_base.specs.declared.dups.OutOfMemory.{OutOfMemory}
+use Rattle.std.specs.Prelude.{is_some, Result, Ok, Err, OnOk, IsOk}
 use Rattle.sc_lookup.specs.Ways.{new_way}
 use Rattle.sc_lookup.specs.Known.{Known, way_to, changed, group_learnt}
 

@@ -11,6 +11,7 @@ use Rattle.sc_base.specs.Same.{same_draw}
 use Rattle.sc_entries.specs.declared.Cut.{Cut}
 use Rattle.sc_entries.specs.Rings.{Covers}
 use Rattle.sc_map_checks.specs.Covering.{is_beside, is_other, are_others, is_followed}
+use Rattle.sc_member.proofs.Pairs.{AllPairs-head, AllPairs-tail}
 
 -- an arc of the circle that starts on it
 abbrev pub IsOn : Cut → Type 0
@@ -152,13 +153,17 @@ covers_by cut cuts others followed all =
       apart = no_group_twice ring others;
     }
 
+-- two cuts are of two groups
+abbrev Apart : Cut → Cut → Type 0
+Apart cut other = cut.group ≢ other.group
+
 covers_others : (ring : List Cut) → ((cut : Cut) → Among cut ring → IsOn cut)
     → ((p : ℕ) → p < 2 ^ 32 → (cut other : Cut) → Among cut ring → Among other ring → holds cut.arc p ≡ true → holds other.arc p ≡ true → cut ≡ other)
-    → AllPairs (λ (cut other : Cut). cut.group ≢ other.group) ring → are_others ring ≡ true
+    → AllPairs Apart ring → are_others ring ≡ true
 covers_others [] on only apart = refl
 covers_others (x ∷ ring) on only apart =
-    and_from (list_all (is_other x) ring) (are_others ring) (others ring (λ o a. a) (λ k d lt. apart 0 (suc k) d (omega arith) (omega (arith, lt))))
-    (covers_others ring (λ c a. on c (inr a)) (λ p small c o a b. only p small c o (inr a) (inr b)) (λ i j d lt within. apart (suc i) (suc j) d (omega (arith, lt)) (omega (arith, within))))
+    and_from (list_all (is_other x) ring) (are_others ring) (others ring (λ o a. a) (AllPairs-head Apart x ring apart))
+    (covers_others ring (λ c a. on c (inr a)) (λ p small c o a b. only p small c o (inr a) (inr b)) (AllPairs-tail Apart x ring apart))
   where
     false_not : (b : Bool) → (b ≡ true → ⊥) → not b ≡ true
     false_not true never = absurd (never refl)

@@ -1,5 +1,5 @@
 -- The queue of calls while entries are executed.
-use Rattle.std.proofs.Common.{ℕ, ◌||◌, eqb, Bool, true, cond, List, Option, Some, None}
+use Rattle.std.proofs.Common.{ℕ, eqb, Bool, true, cond, List, Option, Some, None}
 use Rattle.sc_cmd.specs.declared.commands.Command.{Command}
 use Rattle.sc_cmd.specs.declared.commands.Command.TheVariants.{Call}
 use Rattle.sc_cmd.specs.declared.effects.Effect.{Effect}
@@ -9,14 +9,10 @@ use Rattle.sc_mail.specs.declared.bodies.AnswerBody.{AnswerBody}
 use Rattle.sc_mail.specs.declared.bodies.AnswerBody.TheVariants as Says
 use Rattle.sc_member.specs.Roster.{is_member, least_of}
 use Rattle.sc_machine_table.specs.Machine.{applied}
-use Rattle.sc_paxos_words.specs.Leaders.{without_flight_at}
 use Rattle.sc_node_table.specs.declared.Before.{Before}
 use Rattle.sc_node_table.specs.Election.{elected, stopped}
-use Rattle.sc_node_table.specs.Execute.{entered, answer_of, told_call, order_result, told_effect, announced, learnt_to, welcomed, slot_lost, landed, left_gone, left, is_among, looked_for, looked, executed_one, executed}
-use Rattle.sc_node_table.specs.Queues.{put_back}
-use Rattle.sc_node_table.specs.Replica.{ReplicaState, Place, next, members, flying, forgotten}
-use Rattle.sc_node_table.specs.Sameness.{same_command}
-use Rattle.sc_node_table.specs.Slots.{without_slot}
+use Rattle.sc_node_table.specs.Execute.{entered, answer_of, told_call, order_result, told_effect, announced, learnt_to, welcomed, landed, left_gone, left, is_among, looked_for, looked, executed_one, executed}
+use Rattle.sc_node_table.specs.Replica.{ReplicaState, Place, next, members, forgotten}
 use Rattle.sc_node_table.specs.Spoken.{before_of, spoken}
 use Rattle.sc_queue_law.specs.OneCall.{KeepsOneCall}
 use Rattle.sc_law_lemmas.proofs.Places.{welcomed_place, executed_place, landed_place}

@@ -1,5 +1,5 @@
 -- What an execution answers has its cause in the state before the entry, and what the replica is after it stands behind one entry more.
-use Rattle.std.proofs.Common.{◌≡◌, ◌<◌, ℕ, ◌&&◌, ◌||◌, nat_lt, eqb, Bool, true, cond, List, [], ◌∷◌, ◌++◌, Option, Some, None, refl, sym, ap, subst, ◌∙◌, arith, append-nil}
+use Rattle.std.proofs.Common.{◌≡◌, ◌<◌, ℕ, ◌&&◌, nat_lt, eqb, Bool, true, cond, List, [], ◌∷◌, ◌++◌, Option, Some, None, refl, sym, ap, subst, ◌∙◌, arith, append-nil}
 use Rattle.std.specs.FinMap.{get}
 use Rattle.std.proofs.lemmas.Bool.{cond_both, ltb-false, eqb-false}
 use Rattle.sc_base.specs.Limits.{client_actor}
@@ -24,17 +24,15 @@ use Rattle.sc_machine_table.specs.Group.{Group}
 use Rattle.sc_machine_table.specs.Logs.{state_after}
 use Rattle.sc_machine_table.specs.Machine.{applied, called, served, served_by_note}
 use Rattle.sc_machine_table.proofs.LogLemmas.{state_push}
-use Rattle.sc_paxos_words.specs.Leaders.{without_flight_at}
 use Rattle.sc_paxos_words.specs.Logs.{LogState}
 use Rattle.sc_node_table.specs.declared.Before.{Before}
 use Rattle.sc_node_table.specs.Election.{elected, ended, stopped}
-use Rattle.sc_node_table.specs.Execute.{entered, answer_of, told_call, order_result, told_effect, announced, learnt_to, welcomed, slot_lost, landed, left_gone, left, is_among, looked_for, looked, executed_one, has_room, next_ready, executed}
+use Rattle.sc_node_table.specs.Execute.{entered, answer_of, told_call, order_result, told_effect, announced, learnt_to, welcomed, landed, left_gone, left, is_among, looked_for, looked, executed_one, has_room, next_ready, executed}
 use Rattle.sc_node_table.specs.Mails.{sent_others, order_number}
 use Rattle.sc_node_table.specs.Pump.{serves_calls}
 use Rattle.sc_node_table.specs.Queues.{put_back}
-use Rattle.sc_node_table.specs.Replica.{ReplicaState, Place, name_of, next, members, flying, forgotten}
-use Rattle.sc_node_table.specs.Sameness.{same_command}
-use Rattle.sc_node_table.specs.Slots.{at_slot, without_slot}
+use Rattle.sc_node_table.specs.Replica.{ReplicaState, Place, name_of, next, members, forgotten}
+use Rattle.sc_node_table.specs.Slots.{at_slot}
 use Rattle.sc_node_table.specs.Spoken.{before_of, spoken}
 use Rattle.sc_draws_law.proofs.Lists.{opt_slot, slot_without, flight_without}
 use Rattle.sc_law_lemmas.proofs.Places.{welcomed_place, executed_place, landed_place, cleared}

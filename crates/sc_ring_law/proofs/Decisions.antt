@@ -33,7 +33,7 @@ use Rattle.sc_entries.specs.Decisions.{outcome_in}
 use Rattle.sc_entries.specs.declared.Division.{Division}
 use Rattle.sc_ring_law.specs.Allowed.{IsVoteCast, IsWatchVoteCast}
 use Rattle.sc_ring_law.specs.Stories.{Story, Stories, put, retold, merge_watch, with_decision, with_answer}
-use Rattle.sc_ring_law.specs.Invariant.{Groups, has_born, IsEarned, Facts}
+use Rattle.sc_ring_law.specs.Invariant.{Groups, IsEarned, Facts}
 use Rattle.sc_entries.proofs.Names.{names_differ}
 use Rattle.sc_ring_law.proofs.Notes.{any_keeps, any_drops, any_new, is_vote_on}
 use Rattle.sc_ring_law.proofs.View.{Ring}

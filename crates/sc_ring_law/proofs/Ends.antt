@@ -16,7 +16,6 @@ use Rattle.sc_cmd.specs.declared.votes.Outcome.TheVariants.{Abort}
 use Rattle.sc_cmd.specs.declared.votes.Vote.TheVariants as Ballot
 use Rattle.sc_machine_table.specs.Group.{Group}
 use Rattle.sc_machine_table.specs.Transactions.{heard_group}
-use Rattle.sc_machine_table.specs.Votes.{has_voted}
 use Rattle.sc_ring_law.specs.Stories.{Story, Stories, put, merge_watch, unsigned_watch}
 use Rattle.sc_ring_law.specs.Invariant.{Groups, has_decided, has_born, IsCoordinating, LockOk, IsEarned, Origin, Facts}
 use Rattle.sc_entries.proofs.Names.{draw_cases}

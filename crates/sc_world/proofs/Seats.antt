@@ -1,5 +1,5 @@
 -- The actors of a scenario have different numbers: nodes up to 32, and then clients up to 96, ascending.
-use Rattle.std.proofs.Common.{◌≡◌, ℕ, zero, suc, ◌+◌, ◌<◌, ◌≤◌, Bool, true, false, not, eqb, List, [], ◌∷◌, ◌++◌, length, map, refl, ap, arith, slice_index_or}
+use Rattle.std.proofs.Common.{◌≡◌, ℕ, zero, suc, ◌+◌, ◌<◌, ◌≤◌, Bool, true, false, not, eqb, List, [], ◌∷◌, ◌++◌, map, refl, ap, arith}
 use Rattle.std.specs.List.{All, AllPairs, list_any}
 use Rattle.std.proofs.lemmas.Bool.{ne_eqb, and_from}
 use Rattle.std.proofs.lemmas.List.Elements.{All-nil, All-cons}
@@ -12,7 +12,7 @@ use Rattle.sc_scenario.specs.Valid.{IsEarly, IsEarlyClient}
 use Rattle.sc_scenario.specs.declared.scenarios.Asks.{Asks}
 use Rattle.sc_scenario.specs.declared.scenarios.Scenario.{Scenario}
 use Rattle.sc_sound.specs.Players.{node_seat, client_seat, client_seats, route_of, births, most_actor, Player, as_nodes}
-use Rattle.sc_paxos_words.proofs.ListLemmas.{AllPairs-head, AllPairs-tail}
+use Rattle.sc_member.proofs.Pairs.{AllPairs-head, AllPairs-tail}
 
 -- the numbers rise, from above a number on
 abbrev Rises : ℕ → List (Seat Player) → Type 0
