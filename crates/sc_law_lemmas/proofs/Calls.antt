@@ -14,7 +14,7 @@ module _ (me : ℕ) (idle : Bool) (core : Core) (Q : List Command → List Mail 
     (none : (calls : List Command) (mails : List Mail) → Q calls mails → N (None, calls, mails))
     (taken : (command : Command) (calls : List Command) (mails : List Mail) → Q (command ∷ calls) mails → N (Some command, calls, mails))
     (goes : (command : Command) (answer : AnswerBody) (calls : List Command) (mails : List Mail) → waits idle core.lock command ≡ false → turned_down core command ≡ Some answer → Q (command ∷ calls) mails
-        → Q calls (answered me core.id answer command mails)) where
+    → Q calls (answered me core.id answer command mails)) where
   next_by : (command : Command) (calls : List Command) (mails : List Mail) (o : Option AnswerBody) → turned_down core command ≡ o → waits idle core.lock command ≡ false → Q (command ∷ calls) mails
       → ((more : List Mail) → Q calls more → N (next_call me idle core calls more))
       → N (elim o [ None ↦ (Some command, calls, mails) | Some answer ↦ next_call me idle core calls (answered me core.id answer command mails) ])

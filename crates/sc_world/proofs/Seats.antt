@@ -56,7 +56,7 @@ clients_rise first low [] above rising = tt
 clients_rise first low (asks ∷ clients) above rising = (
   omega (arith, above 0 asks (omega arith)),
   clients_rise first asks.client clients (AllPairs-head (λ (a b : Asks). a.client < b.client) asks clients rising)
-  (AllPairs-tail (λ (a b : Asks). a.client < b.client) asks clients rising),
+      (AllPairs-tail (λ (a b : Asks). a.client < b.client) asks clients rising),
 )
 
 clients_rise_any : (groups : List Base) (clients : List Asks) → All (λ (asks : Asks). 0 < asks.client) clients → AllPairs (λ (a b : Asks). a.client < b.client) clients → Rises 32 (client_seats groups clients)
