@@ -1,5 +1,5 @@
 -- The actors of a scenario have different numbers: nodes up to 32, and then clients up to 96, ascending.
-use Rattle.std.proofs.Common.{◌≡◌, ℕ, zero, suc, ◌+◌, ◌<◌, ◌≤◌, Bool, true, false, not, eqb, List, [], ◌∷◌, ◌++◌, map, refl, ap, arith}
+use Rattle.std.proofs.Common.{◌≡◌, ℕ, zero, suc, ◌+◌, ◌<◌, ◌≤◌, Bool, true, false, not, eqb, List, [], ◌∷◌, ◌++◌, length, map, refl, ap, arith, slice_index_or}
 use Rattle.std.specs.List.{All, AllPairs, list_any}
 use Rattle.std.proofs.lemmas.Bool.{ne_eqb, and_from}
 use Rattle.std.proofs.lemmas.List.Elements.{All-nil, All-cons}
@@ -12,7 +12,6 @@ use Rattle.sc_scenario.specs.Valid.{IsEarly, IsEarlyClient}
 use Rattle.sc_scenario.specs.declared.scenarios.Asks.{Asks}
 use Rattle.sc_scenario.specs.declared.scenarios.Scenario.{Scenario}
 use Rattle.sc_sound.specs.Players.{node_seat, client_seat, client_seats, route_of, births, most_actor, Player, as_nodes}
-use Rattle.sc_member.proofs.Pairs.{AllPairs-head, AllPairs-tail}
 
 -- the numbers rise, from above a number on
 abbrev Rises : ℕ → List (Seat Player) → Type 0
@@ -55,9 +54,11 @@ clients_rise : (first : Route) (low : ℕ) (clients : List Asks) → All (λ (as
 clients_rise first low [] above rising = tt
 clients_rise first low (asks ∷ clients) above rising = (
   omega (arith, above 0 asks (omega arith)),
-  clients_rise first asks.client clients (AllPairs-head (λ (a b : Asks). a.client < b.client) asks clients rising)
-      (AllPairs-tail (λ (a b : Asks). a.client < b.client) asks clients rising),
+  clients_rise first asks.client clients (λ k d lt. later k d lt) (λ i j d lt within. rising (suc i) (suc j) d (omega (arith, lt)) (omega (arith, within))),
 )
+  where
+    later : (k : ℕ) (d : Asks) → k < length clients → asks.client < (slice_index_or clients k d).client
+    later k d lt = rising 0 (suc k) d (omega arith) (omega (arith, lt))
 
 clients_rise_any : (groups : List Base) (clients : List Asks) → All (λ (asks : Asks). 0 < asks.client) clients → AllPairs (λ (a b : Asks). a.client < b.client) clients → Rises 32 (client_seats groups clients)
 clients_rise_any [] clients above rising = tt
