@@ -243,7 +243,8 @@ fn after_decision(
     ring: Vec<Cut>,
 ) -> Result<Vec<Cut>, OutOfMemory>
     ensures { IfOk result (λ after. after.items ≡
-        ring_decided (decided_by command.now effect.now) core.now.id core.now.succ.group ring.items) }
+        ring_decided (decided_by command.now effect.now) core.now.id core.now.succ.group
+        ring.items) }
 {
     match command {
         Command::RecordVote { .. } | Command::RecordWatch { .. } => match effect {

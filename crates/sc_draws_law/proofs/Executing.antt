@@ -1,5 +1,5 @@
 -- What an executed entry leaves in a replica, what is sent for it, and the children that it makes.
-use Rattle.std.proofs.Common.{ℕ, ◌&&◌, ◌||◌, nat_lt, eqb, Bool, true, cond, List, [], ◌∷◌, ◌++◌, Option, Some, None}
+use Rattle.std.proofs.Common.{ℕ, ◌&&◌, nat_lt, eqb, Bool, true, cond, List, [], ◌∷◌, ◌++◌, Option, Some, None}
 use Rattle.sc_base.specs.Among.{Each}
 use Rattle.sc_base.specs.declared.names.Draw.{Draw}
 use Rattle.sc_cmd.specs.declared.commands.Command.{Command}
@@ -22,17 +22,15 @@ use Rattle.sc_paxos_words.specs.Logs.{LogState, next_of}
 use Rattle.sc_node_table.specs.declared.Before.{Before}
 use Rattle.sc_node_table.specs.Births.{with_child, next_child, ready_children, executed_children}
 use Rattle.sc_node_table.specs.Slots.{at_slot, without_slot}
-use Rattle.sc_node_table.specs.Replica.{ReplicaState, Place, name_of, next, members, flying}
-use Rattle.sc_node_table.specs.Sameness.{same_command}
+use Rattle.sc_node_table.specs.Replica.{ReplicaState, Place, name_of, next, members}
 use Rattle.sc_node_table.specs.Mails.{sent_others, order_number}
-use Rattle.sc_node_table.specs.Queues.{put_back}
 use Rattle.sc_node_table.specs.Election.{elected, stopped}
-use Rattle.sc_node_table.specs.Execute.{with_entry, entered, answer_of, told_call, result_of, order_result, told_effect, announced, learnt_to, welcomed, slot_lost, landed, left_gone, left, is_among, looked_for, looked, executed_one, has_room, next_ready, executed}
+use Rattle.sc_node_table.specs.Execute.{with_entry, entered, answer_of, told_call, result_of, order_result, told_effect, announced, learnt_to, welcomed, landed, left_gone, left, is_among, looked_for, looked, executed_one, has_room, next_ready, executed}
 use Rattle.sc_node_table.specs.Spoken.{before_of, spoken}
 use Rattle.sc_draws_law.specs.Names.{Opt, CoreNames, CommandNames, EffectNames, AnswerNames, ResultNames, ReplicaNames}
 use Rattle.sc_draws_law.proofs.Lists.{opt_slot, slot_without, flight_without}
 use Rattle.sc_draws_law.proofs.Machine.{applied_names, child_by_names}
-use Rattle.sc_law_lemmas.proofs.Places.{welcomed_place, executed_place}
+use Rattle.sc_law_lemmas.proofs.Places.{welcomed_place, executed_place, landed_place}
 use Rattle.sc_law_lemmas.proofs.Ways.{either_way}
 use Rattle.sc_draws_law.proofs.Sent.{BeforeNames, sent_names, sent_others_names, told_names, before_names, spoken_names}
 use Rattle.sc_draws_law.proofs.Held.{Fine, Cmds, Cmd, back_names, flying_names, elected_names, ended_names, stopped_names, welcomed_names, forgotten_names, pumped_names}
@@ -109,26 +107,17 @@ module _ (K : Draw → Type 0) where
 
   -- ---- 4
 
-  lost_names : (counted : Bool) (command : Command) (o : Option Command) (r : ReplicaState) → Cmd K o → R r → R (slot_lost counted command o r)
-  lost_names counted command None r c k = k
-  lost_names counted command (Some other) r c k = either_way R (counted || same_command other command) r (put_back other r) k (back_names K other r c k)
-
-  landed_names : (counted : Bool) (slot : ℕ) (command : Command) (place : Place) → F place → F (landed counted slot command place)
-  unfolding landed
-  landed_names counted slot command (r, mails) f = (
-    lost_names counted command (flying r slot) (record r { leader = without_flight_at slot r.leader; ready = without_slot r.ready slot }) (flying_names K r slot f.0)
-        (record {
-          core = f.0.core;
-          log = f.0.log;
-          accepted = f.0.accepted;
-          reports = f.0.reports;
-          flights = flight_without (CommandNames K) slot r.leader.flights f.0.flights;
-          ready = slot_without (CommandNames K) r.ready slot f.0.ready;
-          acts = f.0.acts;
-          calls = f.0.calls;
-        }),
-    f.1,
-  )
+  cleared_names : (slot : ℕ) (r : ReplicaState) → R r → R (record r { leader = without_flight_at slot r.leader; ready = without_slot r.ready slot })
+  cleared_names slot r k = record {
+    core = k.core;
+    log = k.log;
+    accepted = k.accepted;
+    reports = k.reports;
+    flights = flight_without (CommandNames K) slot r.leader.flights k.flights;
+    ready = slot_without (CommandNames K) r.ready slot k.ready;
+    acts = k.acts;
+    calls = k.calls;
+  }
 
   -- ---- 5 and 6
 
@@ -171,7 +160,9 @@ module _ (K : Draw → Type 0) where
       let place4 : Place = welcomed counted (members r) place3 in
       let f4 : F place4 = welcomed_place F (welcomed_names K) counted (members r) place3 f3 in
       let place5 : Place = landed counted (next r) command place4 in
-      let f5 : F place5 = landed_names counted (next r) command place4 f4 in
+      let f5 : F place5 =
+      landed_place F (Cmd K) (λ other p o g. (back_names K other p.0 o g.0, g.1)) counted (next r) command place4 (flying_names K place4.0 (next r) f4.0)
+      (cleared_names (next r) place4.0 f4.0, f4.1) in
       looked_names (left place5) (left_names place5 f5)
 
   ready_names : (r : ReplicaState) → R r → Cmd K (next_ready r)

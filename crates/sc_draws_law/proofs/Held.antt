@@ -1,5 +1,5 @@
 -- Parts of a replica's table: what goes back, elections, what a leader offers, and what is installed.
-use Rattle.std.proofs.Common.{ℕ, ◌+◌, ◌-◌, ◌^◌, ◌&&◌, nat_le, nat_lt, eqb, Bool, cond, List, [], ◌∷◌, Option, Some, None}
+use Rattle.std.proofs.Common.{subst, ℕ, ◌+◌, ◌-◌, ◌^◌, ◌&&◌, nat_le, nat_lt, eqb, Bool, cond, List, [], ◌∷◌, Option, Some, None}
 use Rattle.std.specs.Prelude.{is_some}
 use Rattle.std.specs.List.{list_any}
 use Rattle.sc_base.specs.Among.{Each}
@@ -14,7 +14,6 @@ use Rattle.sc_cmd.specs.declared.cores.Core.{Core}
 use Rattle.sc_cmd.specs.declared.links.Route.{Route}
 use Rattle.sc_mail.specs.declared.bodies.AnswerBody.{AnswerBody}
 use Rattle.sc_mail.specs.declared.bodies.AnswerBody.TheVariants as Says
-use Rattle.sc_mail.specs.declared.bodies.Mail.{Mail}
 use Rattle.sc_mail.specs.declared.bodies.MailBody.TheVariants.{Prepare, Accept, Install}
 use Rattle.sc_machine_table.specs.Group.{base_of}
 use Rattle.sc_paxos_words.proofs.ListLemmas.{Each-append, Each-filter}
@@ -25,16 +24,17 @@ use Rattle.sc_paxos_words.specs.declared.reports.Report.{Report}
 use Rattle.sc_paxos_words.specs.Choice.{choice, chosen_value, names_above}
 use Rattle.sc_paxos_words.specs.Leaders.{flight_at, must, must_without}
 use Rattle.sc_node_table.specs.Replica.{ReplicaState, Place, name_of, next, flying, taken_at, under_way, is_idle, settled, may_offer, last_slot, born_replica, installed_replica, floor_of, forgotten}
-use Rattle.sc_node_table.specs.Mails.{sent, answered, answered_all}
+use Rattle.sc_node_table.specs.Mails.{sent, answered_all}
 use Rattle.sc_node_table.specs.Queues.{call_of, is_call_of, without_call, call_before, put_back}
 use Rattle.sc_node_table.specs.Election.{open_nodes, elected, ended, stopped, saw}
 use Rattle.sc_node_table.specs.Install.{install_to, asked_to_promise, welcomed_all, named, jumped}
-use Rattle.sc_node_table.specs.Pump.{Found, is_act, waits, refused_by, turned_down, next_call, from_calls, from_acts, from_queues, found_by, found_for, offered, pumped_from, pumped}
+use Rattle.sc_node_table.specs.Pump.{Found, is_act, refused_by, turned_down, from_calls, from_acts, from_queues, found_by, found_for, offered, pumped_from, pumped}
 use Rattle.sc_paxos_words.specs.Ballots.{below}
 use Rattle.sc_draws_law.specs.Names.{Opt, CoreNames, CommandNames, AnswerNames, ReplicaNames}
 use Rattle.sc_draws_law.proofs.Lists.{opt_find, opt_map, opt_choice, Each-drop}
 use Rattle.sc_law_lemmas.proofs.Ways.{either_way}
 use Rattle.sc_draws_law.proofs.Sent.{Sent, sent_names, sent_all_names, answered_names, answered_all_names, dismissed_all_names}
+use Rattle.sc_law_lemmas.proofs.Calls.{next_found}
 
 module _ (K : Draw → Type 0) where
   abbrev pub Fine : Place → Type 0
@@ -178,27 +178,15 @@ module _ (K : Draw → Type 0) where
   turned_names core (Watched tx watch) k = tt
   turned_names core (RecordWatch tx vote by) k = tt
 
-  abbrev Next : Option Command × List Command × List Mail → Type 0
-  Next found = Cmd found.0 × Cmds found.1 × Sent K found.2
-
-  next_by : (me : ℕ) (idle : Bool) (core : Core) (command : Command) (calls : List Command) (mails : List Mail) (o : Option AnswerBody) → Opt (AnswerNames K) o → CoreNames K core → CommandNames K command → Cmds calls → Sent K mails
-      → ((answer : AnswerBody) → AnswerNames K answer → Next (next_call me idle core calls (answered me core.id answer command mails)))
-      → Next (elim o [ None ↦ (Some command, calls, mails) | Some answer ↦ next_call me idle core calls (answered me core.id answer command mails) ])
-  next_by me idle core command calls mails None a k c cs m more = (c, cs, m)
-  next_by me idle core command calls mails (Some answer) a k c cs m more = more answer a
-
-  next_names : (me : ℕ) (idle : Bool) (core : Core) (calls : List Command) (mails : List Mail) → CoreNames K core → Cmds calls → Sent K mails → Next (next_call me idle core calls mails)
-  unfolding next_call
-  next_names me idle core [] mails k c m = (tt, tt, m)
-  next_names me idle core (command ∷ calls) mails k c m =
-      either_way Next (waits idle core.lock command) _ _ (tt, c, m)
-      (next_by me idle core command calls mails (turned_down core command) (turned_names core command k) k c.0 c.1 m
-      (λ answer a. next_names me idle core calls (answered me core.id answer command mails) k c.1 (answered_names K me core.id answer command mails k.id a m)))
-
   calls_names : (place : Place) → Fine place → FoundNames (from_calls place)
   unfolding from_calls
   calls_names (r, mails) f =
-      let found = next_names r.me (is_idle r) r.group.core r.calls mails f.0.core f.0.calls f.1 in
+      let found = next_found r.me (is_idle r) r.group.core (λ calls mails. Cmds calls × Sent K mails) (λ found. Cmd found.0 × Cmds found.1 × Sent K found.2)
+      (λ calls mails q. (tt, q.0, q.1)) (λ command calls mails q. (q.0.0, q.0.1, q.1))
+      (λ command answer calls mails w e q. (
+      let a : AnswerNames K answer = subst (λ (o : Option AnswerBody). Opt (AnswerNames K) o) e (turned_names r.group.core command f.0.core) in
+      (q.0.1, answered_names K r.me r.group.core.id answer command mails f.0.core.id a q.1)))
+      r.calls mails (f.0.calls, f.1) in
       (found.0, (with_calls r _ found.1 f.0, found.2))
 
   acts_names : (acts : List Command) (place : Place) → Cmds acts → Fine place → FoundNames (from_acts acts place)

@@ -1,5 +1,6 @@
 -- The names that logs name: each was drawn for its group.
 use Rattle.std.proofs.Common.{◌≡◌, ◌++◌, Some, inl, inr, sym, ◌∙◌, subst, arith}
+use Rattle.std.proofs.lemmas.Option.{same_Some}
 use Rattle.sc_base.specs.declared.names.Draw.{Draw}
 use Rattle.sc_cmd.specs.declared.commands.Command.{Command}
 use Rattle.sc_cmd.specs.declared.commands.Command.TheVariants.{Noop, Call, Join, Leave, Split, Begin, Prepared, RecordVote, GiveUp, Finish, Watched, RecordWatch}
@@ -12,7 +13,6 @@ use Rattle.sc_draws_law.specs.Fresh.{IsUsed}
 use Rattle.sc_draws_law.specs.Naming.{AllowedNamesAreDrawn, LoggedNamesAreDrawn, MoreOwnersAllow}
 use Rattle.sc_draws_law.specs.Names.{CommandNames}
 use Rattle.sc_draws_law.specs.Owners.{Rows, owner_in}
-use Rattle.sc_entries.proofs.Names.{some_is}
 use Rattle.sc_ring_law.proofs.Sound.{owned}
 use Rattle.sc_draws_law.proofs.Counters.{owned_are_of_nodes}
 use Rattle.sc_draws_law.proofs.Fresh.{names_are_drawn}
@@ -20,8 +20,8 @@ use Rattle.sc_draws_law.proofs.Owned.{owned_are_drawn, owned_later}
 
 -- it is one of the command's names
 is_named : (K : Draw → Type 0) (command : Command) (name : Draw) → CommandNames K command → draw_of command ≡ Some name → K name
-is_named K (Split at child order) name c e = subst K (some_is child name e) c
-is_named K (Begin tx body order) name c e = subst K (some_is tx name e) c.0
+is_named K (Split at child order) name c e = subst K (same_Some child name e) c
+is_named K (Begin tx body order) name c e = subst K (same_Some tx name e) c.0
 is_named K Noop name c e = cc
 is_named K (Call client seq op) name c e = cc
 is_named K (Join node order) name c e = cc

@@ -13,14 +13,7 @@ use Rattle.sc_sound.specs.Players.{Ahead}
 use Rattle.sc_scenario.specs.declared.scenarios.Scenario.{Scenario}
 use Rattle.sc_draws_law.specs.Owners.{Rows, Owned, owned_by, drawn_at, owner_by, owner_from, owner_in}
 use Rattle.sc_draws_law.specs.Laws.{IsDrawn, OwnersStay, OwnedNamesAreDrawn}
-
-either_assoc : {X : Type 0} (a b c : Option X) → either a (either b c) ≡ either (either a b) c
-either_assoc None b c = refl
-either_assoc (Some x) b c = refl
-
-either_none : {X : Type 0} (a : Option X) → either a None ≡ a
-either_none None = refl
-either_none (Some x) = refl
+use Rattle.sc_law_lemmas.proofs.Ways.{either_assoc, either_none}
 
 -- the first of drawn names is owned by its group
 pub owner_of_drawn : (owned : Owned) (more : List Owned) → owner_by (owned ∷ more) owned.name ≡ Some owned.group
@@ -53,7 +46,7 @@ module _ (ahead : Ahead) (scenario : Scenario) where
   owner-append before [] more name = ap (λ (b : Rows). from b more name) (sym (append-nil before))
   owner-append before (row ∷ rows) more name =
       ap (λ (o : Option Draw). either (owner_by (drawn_at ahead scenario before row) name) o) (owner-append (before ++ row ∷ []) rows more name)
-      ∙ either_assoc (owner_by (drawn_at ahead scenario before row) name) (from (before ++ row ∷ []) rows name) (from ((before ++ row ∷ []) ++ rows) more name)
+      ∙ sym (either_assoc (owner_by (drawn_at ahead scenario before row) name) (from (before ++ row ∷ []) rows name) (from ((before ++ row ∷ []) ++ rows) more name))
       ∙ ap (λ (b : Rows). either (from before (row ∷ rows) name) (from b more name)) (append_assoc before (row ∷ []) rows)
 
   -- one row more

@@ -7,7 +7,3 @@ use Rattle.sc_entries.specs.Worlds.{StoreWorld, told, world_after}
 pub world_append : (world : StoreWorld) (entries more : List LogEntry) → world_after world (entries ++ more) ≡ world_after (world_after world entries) more
 world_append world [] more = refl
 world_append world (entry ∷ entries) more = world_append (told world entry) entries more
-
--- one entry more is told to the world after the others
-pub world_push : (world : StoreWorld) (entries : List LogEntry) (entry : LogEntry) → world_after world (entries ++ entry ∷ []) ≡ told (world_after world entries) entry
-world_push world entries entry = world_append world entries (entry ∷ [])

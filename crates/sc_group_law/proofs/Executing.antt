@@ -1,5 +1,5 @@
 -- Execution: the command of the next slot, which is chosen there, lengthens the log.
-use Rattle.std.proofs.Common.{◌≡◌, ℕ, ◌+◌, ◌<◌, ◌&&◌, ◌||◌, nat_lt, Bool, true, false, cond, eqb, List, [], ◌∷◌, ◌++◌, length, Option, Some, None, ◌⊎◌, inl, inr, refl, sym, ◌∙◌, subst, arith}
+use Rattle.std.proofs.Common.{◌≡◌, ℕ, ◌+◌, ◌<◌, ◌&&◌, nat_lt, Bool, true, false, cond, eqb, List, [], ◌∷◌, ◌++◌, length, Option, Some, None, ◌⊎◌, inl, inr, refl, sym, ◌∙◌, subst, arith}
 use Rattle.std.proofs.lemmas.Bool.{cases_Bool, eqb-true, eqb-false, and_parts, cond_both}
 use Rattle.sc_base.specs.Limits.{client_actor}
 use Rattle.sc_base.specs.declared.ops.Op.{Op}
@@ -30,8 +30,7 @@ use Rattle.sc_node_table.specs.Slots.{at_slot, without_slot}
 use Rattle.sc_node_table.specs.Replica.{ReplicaState, Place, name_of, next, members, flying, forgotten}
 use Rattle.sc_node_table.specs.Mails.{sent, order_number, told_order}
 use Rattle.sc_node_table.specs.Queues.{call_of, without_call, call_before, put_back}
-use Rattle.sc_node_table.specs.Sameness.{same_command}
-use Rattle.sc_node_table.specs.Execute.{entered, answer_of, told_call, order_result, told_effect, announced, learnt_to, slot_lost, landed, left_gone, left, is_among, looked_for, looked, executed_one, has_room, next_ready, executed_ready, executed}
+use Rattle.sc_node_table.specs.Execute.{entered, answer_of, told_call, order_result, told_effect, announced, learnt_to, landed, left_gone, left, is_among, looked_for, looked, executed_one, has_room, next_ready, executed_ready, executed}
 use Rattle.sc_node_table.specs.Pump.{pumped}
 use Rattle.sc_node_table.specs.declared.Before.{Before}
 use Rattle.sc_node_table.specs.Spoken.{before_of, begun_result, spoken_number, told_result, told_begun, went_on, spoken_mails, spoken}
@@ -48,6 +47,7 @@ use Rattle.sc_group_law.proofs.Parts.{Each-without_flight, among_without_flight,
 use Rattle.sc_group_law.proofs.Offering.{with_calls, with_acts, fine_pumped}
 use Rattle.sc_group_law.proofs.Entering.{entered_has, entered_replica, entered_next, entered_runs}
 use Rattle.sc_group_law.proofs.Welcoming.{welcomed_place}
+use Rattle.sc_law_lemmas.proofs.Places.{landed_place, cleared}
 
 module _ (ahead : Ahead) (base : Base) (made : Command → Type 0) (heard : MailBody → Type 0) (me : ℕ) (older : List Mail) (before : Steps) (speaks : Speaks ahead base made heard before)
     (some : (log : List Command) → Each made log → (node : ℕ) × (rest : List ℕ) × ((rule ahead base).members log ≡ node ∷ rest)) where
@@ -252,15 +252,12 @@ module _ (ahead : Ahead) (base : Base) (made : Command → Type 0) (heard : Mail
       let offer = Each-among _ r.leader.flights got.0 f.replica.flights there.0 in
       subst made got.2 (f.requested r.leader.ballot got.0.slot got.0.value offer.0)
 
-  lost_replica : (h : Steps) (counted : Bool) (c : Command) (o : Option Command) (r : ReplicaState) → ((d : Command) → o ≡ Some d → made d) → Replica h r → Replica h (slot_lost counted c o r)
-  lost_replica h counted c None r m k = k
-  lost_replica h counted c (Some other) r m k = cond_both (counted || same_command other c) r (put_back other r) (Replica h) (λ _. k) (λ _. back_replica h other r (m other refl) k)
-
-  landed_place : (counted : Bool) (slot : ℕ) (c : Command) (place : Place) → Ok place → slot < next place.0 → Ok (landed counted slot c place)
-  unfolding landed
-  landed_place counted slot c (r, mails) f past =
-      turn ahead base made heard me older before r _ mails f
-      (lost_replica (f.newer ++ before) counted c (flying r slot) _ (λ d e. flying_made slot r mails d f e) (over_replica (f.newer ++ before) slot r past f.replica))
+  landed_ok : (counted : Bool) (slot : ℕ) (c : Command) (place : Place) → Ok place → slot < next place.0 → Ok (landed counted slot c place)
+  landed_ok counted slot c (r, mails) f past =
+      landed_place Ok (λ o. (d : Command) → o ≡ Some d → made d)
+      (λ d p m g. turn ahead base made heard me older before p.0 (put_back d p.0) p.1 g (back_replica (g.newer ++ before) d p.0 (m d refl) g.replica))
+      counted slot c (r, mails) (λ d e. flying_made slot r mails d f e)
+      (turn ahead base made heard me older before r (cleared slot (r, mails)).0 mails f (over_replica (f.newer ++ before) slot r past f.replica))
 
   -- ---- 5 and 6
 
@@ -347,7 +344,7 @@ module _ (ahead : Ahead) (base : Base) (made : Command → Type 0) (heard : Mail
       let taught = learnt_place counted (members r) (next r) c g said spoke in
       let welcome = welcomed_place ahead base made heard me older before counted (members r) said.0 (learnt_to counted (members r) (next r) c said) (learnt_same counted (members r) (next r) c said) taught spoke.runs_is in
       let past = subst (λ (s : ReplicaState). next r < next s) (sym welcome.1) spoke.executed_is in
-      looked_place _ (left_place _ (landed_place counted (next r) c _ welcome.0 past))
+      looked_place _ (left_place _ (landed_ok counted (next r) c _ welcome.0 past))
 
   -- what is chosen was requested
   pub learnt_made : (place : Place) → (f : Ok place) → (slot : ℕ) (c : Command) → IsLearnt (rule ahead base) (f.newer ++ before) slot c → made c

@@ -34,7 +34,7 @@ use Rattle.sc_sound.specs.Logs.{decided_log}
 use Rattle.sc_sound.specs.Requests.{kept_replies}
 use Rattle.sc_group_law.specs.Steps.{steps}
 use Rattle.sc_group_law.proofs.Lists.{each_got}
-use Rattle.sc_group_law.proofs.Invariant.{Steps, rule, first, IsTrue, grown_true}
+use Rattle.sc_group_law.proofs.Invariant.{Steps, rule, first, IsTrue, grown_true, OffersMade}
 use Rattle.sc_group_law.proofs.Holding.{more_holds}
 use Rattle.sc_group_law.proofs.Names.{IsNamedIn, named_later}
 use Rattle.sc_group_law.proofs.Nodes.{IsNode}
@@ -93,7 +93,7 @@ module _ (ahead : Ahead) (scenario : Scenario) (firsts bases : List Base) (route
   -- a group's part: its steps are lawful, each command that is offered was made, and what mail says of it is true
   pub record Part (rows : Journal) (base : Base) : Type 0 where
     pub lawful : IsLawfulHistory (rule ahead base) (first ahead base) (h_of rows base)
-    pub requested : (b : Ballot) (slot : ℕ) (c : Command) → Among (Offered b slot c) (h_of rows base) → made rows base c
+    pub requested : OffersMade (made rows base) (h_of rows base)
     pub true_mail : (m : Mail) → Among m (mails rows) → IsTrue ahead base (made rows base) (heard rows) (h_of rows base) m m.body
 
   -- what holds of each lawful journal
@@ -117,7 +117,7 @@ module _ (ahead : Ahead) (scenario : Scenario) (firsts bases : List Base) (route
     pub newer : Steps
     pub are : h_of (rows ++ row ∷ []) base ≡ newer ++ h_of rows base
     pub lawful : IsLawfulHistory (rule ahead base) (first ahead base) (h_of (rows ++ row ∷ []) base)
-    pub requested : (b : Ballot) (slot : ℕ) (c : Command) → Among (Offered b slot c) (h_of (rows ++ row ∷ []) base) → made rows base c
+    pub requested : OffersMade (made rows base) (h_of (rows ++ row ∷ []) base)
 
   -- a group's part of a row
   pub record PartMoved (rows : Journal) (row : Row Mail OrderLine) (base : Base) : Type 0 where

@@ -45,6 +45,10 @@ use Rattle.sc_paxos_law.proofs.Decided.{later_logs}
 abbrev pub Steps : Type 0
 Steps = List (Step Command)
 
+-- what was offered is among the commands that are made
+abbrev pub OffersMade : (Command → Type 0) → Steps → Type 0
+OffersMade made h = (b : Ballot) (slot : ℕ) (c : Command) → Among (Offered b slot c) h → made c
+
 module _ (ahead : Ahead) (base : Base) where
   -- the group's rule of members
   abbrev pub rule : Rule Command

@@ -13,7 +13,7 @@ use Rattle.sc_node_table.specs.Replica.{ReplicaState, Place}
 use Rattle.sc_sound.specs.Players.{Ahead}
 use Rattle.sc_group_law.specs.Steps.{proposer_steps, asked_in}
 use Rattle.sc_group_law.proofs.Growth.{By}
-use Rattle.sc_group_law.proofs.Invariant.{Steps, rule, first, IsReplica, IsOwn, IsTrue, grown_true}
+use Rattle.sc_group_law.proofs.Invariant.{Steps, rule, first, IsReplica, IsOwn, IsTrue, grown_true, OffersMade}
 
 module _ (ahead : Ahead) (base : Base) where
   -- ---- a place in the middle of a row of a node, where these mails were sent and these steps taken before the replica's part of the row
@@ -26,7 +26,7 @@ module _ (ahead : Ahead) (base : Base) where
     pub are : asked_in base.core.id sent before ≡ newer ++ before
     pub by : Each (By me) newer
     pub lawful : IsLawfulHistory (rule ahead base) (first ahead base) (newer ++ before)
-    pub requested : (b : Ballot) (slot : ℕ) (c : Command) → Among (Offered b slot c) (newer ++ before) → made c
+    pub requested : OffersMade made (newer ++ before)
     pub replica : IsReplica ahead base made (newer ++ before) me place.0
     pub mails : (mail : Mail) → Among mail sent → IsTrue ahead base made heard (newer ++ before) mail mail.body
     -- each of its mails names the group

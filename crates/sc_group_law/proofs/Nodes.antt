@@ -1,7 +1,6 @@
 -- What holds of a node with its replicas, and what comes of mail and orders.
 use Rattle.std.proofs.Common.{◌≡◌, ℕ, ◌||◌, not, nat_lt, true, false, cond, eqb, List, [], ◌∷◌, ◌++◌, length, Option, Some, None, is_some, inl, inr, refl, sym, ◌∙◌, ap, subst, append-nil}
 use Rattle.std.proofs.lemmas.Bool.{cases_Bool, cond_both}
-use Rattle.sc_base.specs.declared.names.Ballot.{Ballot}
 use Rattle.sc_base.specs.declared.names.Draw.{Draw}
 use Rattle.sc_base.specs.Same.{same_draw}
 use Rattle.sc_cmd.specs.declared.commands.Command.{Command}
@@ -16,7 +15,6 @@ use Rattle.sc_cmd.specs.declared.orders.OrderRefusal.TheVariants.{NotLeader}
 use Rattle.sc_actor.specs.declared.rows.Event.{Event}
 use Rattle.sc_base.specs.Among.{Among, Each}
 use Rattle.sc_paxos_words.proofs.ListLemmas.{Each-among, Each-from, Each-weaker, find_found}
-use Rattle.sc_paxos_law.specs.Steps.{Offered}
 use Rattle.sc_paxos_law.specs.Lawful.{IsLawfulHistory}
 use Rattle.sc_node_table.specs.Node.{NodeState, replica_of, with_replica, with_new, group_of_mail, absent, with_made, unknown, may_come, with_born, with_children, taken_by, routed, on_mail, group_of_order, ordered_of, on_order}
 use Rattle.sc_node_table.specs.Births.{mailed_children}
@@ -30,7 +28,7 @@ use Rattle.sc_node_table.specs.Rows.{made_by, mailed}
 use Rattle.sc_sound.specs.Players.{Ahead}
 use Rattle.sc_group_law.specs.Steps.{asked_in}
 use Rattle.sc_group_law.proofs.Growth.{By}
-use Rattle.sc_group_law.proofs.Invariant.{Steps, rule, first, IsReplica, IsTrue}
+use Rattle.sc_group_law.proofs.Invariant.{Steps, rule, first, IsReplica, IsTrue, OffersMade}
 use Rattle.sc_group_law.proofs.Speech.{AnyoneHears, Speaks}
 use Rattle.sc_group_law.proofs.Transacting.{fine_offer_row, fine_vote_row, fine_outcome_row, fine_elsewhere_row, fine_watch_row, fine_watched_row}
 use Rattle.sc_group_law.proofs.Midway.{Fine}
@@ -52,7 +50,7 @@ use Rattle.sc_entries.proofs.Names.{names_differ}
 module _ (ahead : Ahead) (base : Base) (made : Command → Type 0) (heard : MailBody → Type 0) (me : ℕ) (before : Steps) (speaks : Speaks ahead base made heard before)
     (some : (log : List Command) → Each made log → (node : ℕ) × (rest : List ℕ) × ((rule ahead base).members log ≡ node ∷ rest))
     (lawful : IsLawfulHistory (rule ahead base) (first ahead base) before)
-    (requested : (b : Ballot) (slot : ℕ) (c : Command) → Among (Offered b slot c) before → made c) where
+    (requested : OffersMade made before) where
   abbrev group : Draw
   group = base.core.id
 
@@ -148,7 +146,7 @@ module _ (ahead : Ahead) (base : Base) (made : Command → Type 0) (heard : Mail
     pub are : after ≡ newer ++ before
     pub by : Each (By me) newer
     pub lawful_is : IsLawfulHistory (rule ahead base) (first ahead base) (newer ++ before)
-    pub requested_is : (b : Ballot) (slot : ℕ) (c : Command) → Among (Offered b slot c) (newer ++ before) → made c
+    pub requested_is : OffersMade made (newer ++ before)
     pub holds : Holds ahead base made me (newer ++ before) step.0.replicas
     pub mails : (mail : Mail) → Among mail step.1 → IsTrue ahead base made heard (newer ++ before) mail mail.body
 
@@ -188,7 +186,7 @@ module _ (ahead : Ahead) (bases : List Base) (made : Base → Command → Type 0
   module _ (heard : MailBody → Type 0) (elsewhere : AnyoneHears heard) (me : ℕ) (h : Base → Steps) (speaks : (base : Base) → Among base bases → Speaks ahead base (made base) heard (h base))
       (some : (base : Base) → Among base bases → (log : List Command) → Each (made base) log → (node : ℕ) × (rest : List ℕ) × ((rule ahead base).members log ≡ node ∷ rest))
       (lawful : (base : Base) → Among base bases → IsLawfulHistory (rule ahead base) (first ahead base) (h base))
-      (requested : (base : Base) → Among base bases → (b : Ballot) (slot : ℕ) (c : Command) → Among (Offered b slot c) (h base) → made base c) where
+      (requested : (base : Base) → Among base bases → OffersMade (made base) (h base)) where
     abbrev Part : (base : Base) → Among base bases → Steps → NodeState × List Mail → Type 0
     Part base a after step = PartEnded ahead base (made base) heard me (h base) (speaks base a) (some base a) (lawful base a) (requested base a) after step
 

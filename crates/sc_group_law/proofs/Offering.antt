@@ -35,7 +35,7 @@ use Rattle.sc_paxos_law.proofs.History.{was_offered, report_accepted}
 use Rattle.sc_paxos_words.specs.Logs.{next_of}
 use Rattle.sc_paxos_law.proofs.Leading.{elected_by}
 use Rattle.sc_node_table.specs.Pump.{Found, is_act, waits, refused_by, turned_down, next_call, from_calls, from_acts, from_queues, found_by, found_for, offered, pumped_from, pumped}
-use Rattle.sc_node_table.specs.Mails.{sent_all, answered}
+use Rattle.sc_node_table.specs.Mails.{sent_all}
 use Rattle.sc_node_table.specs.Slots.{at_slot}
 use Rattle.sc_node_table.specs.Replica.{ReplicaState, Place, name_of, next, flying, either, taken_at, may_offer, settled, under_way, is_idle, last_slot}
 use Rattle.sc_sound.specs.Players.{Ahead}
@@ -45,6 +45,7 @@ use Rattle.sc_group_law.proofs.Speech.{Speaks}
 use Rattle.sc_group_law.proofs.Midway.{Fine, turn, steps}
 use Rattle.sc_group_law.proofs.Lists.{Each-take}
 use Rattle.sc_group_law.proofs.Sending.{asked_accept, name_is, offered_again, answered_one}
+use Rattle.sc_law_lemmas.proofs.Calls.{next_found}
 
 -- ---- what is taken
 
@@ -268,16 +269,9 @@ module _ (ahead : Ahead) (base : Base) (made : Command → Type 0) (heard : Mail
   turned_dull core _ answer e = cc
 
   called : (idle : Bool) (core : Core) → core.id ≡ base.core.id → (calls : List Command) (r : ReplicaState) (mails : List Mail) → Ok (r, mails) → Each made calls → IsCalled r (next_call r.me idle core calls mails)
-  unfolding next_call
-  called idle core named [] r mails f e = record { fine = f; rest = tt; command = tt }
-  called idle core named (c ∷ calls) r mails f e =
-      cond_both (waits idle core.lock c) _ _ (IsCalled r) (λ _. record { fine = f; rest = e; command = tt }) (λ _. by_turned (λ ms g. called idle core named calls r ms g e.1) (turned_down core c) refl)
-    where
-      by_turned : ((ms : List Mail) → Ok (r, ms) → IsCalled r (next_call r.me idle core calls ms)) → (o : Option AnswerBody) → turned_down core c ≡ o
-          → IsCalled r (elim o [ None ↦ (Some c, calls, mails) | Some answer ↦ next_call r.me idle core calls (answered r.me core.id answer c mails) ])
-      by_turned rest None is = record { fine = f; rest = e.1; command = e.0 }
-      by_turned rest (Some answer) is =
-          rest (answered r.me core.id answer c mails) (answered_one ahead base made heard me older before r mails core.id answer named (turned_dull core c answer is) c f)
+  called idle core named calls r mails f e =
+      next_found r.me idle core (λ cs ms. Ok (r, ms) × Each made cs) (IsCalled r) (λ cs ms q. record { fine = q.0; rest = q.1; command = tt }) (λ c cs ms q. record { fine = q.0; rest = q.1.1; command = q.1.0 })
+      (λ c answer cs ms w is q. (answered_one ahead base made heard me older before r ms core.id answer named (turned_dull core c answer is) c q.0, q.1.1)) calls mails (f, e)
 
   found_in_calls : (slot : ℕ) (r : ReplicaState) (mails : List Mail) → must slot r.leader ≡ Open → Ok (r, mails) → IsFound slot r (from_calls (r, mails))
   unfolding from_calls turn

@@ -2,7 +2,6 @@
 use Rattle.std.proofs.Common.{◌≡◌, ℕ, false, Bool, List, [], ◌∷◌, ◌++◌, inl, inr, refl, sym, ◌∙◌, ap, subst, append-nil, append_assoc}
 use Rattle.std.proofs.lemmas.Bool.{cases_Bool}
 use Rattle.sc_base.specs.Drawing.{Drawer}
-use Rattle.sc_base.specs.declared.names.Ballot.{Ballot}
 use Rattle.sc_base.specs.declared.names.Draw.{Draw}
 use Rattle.sc_base.specs.Same.{same_draw}
 use Rattle.sc_cmd.specs.declared.commands.Command.{Command}
@@ -11,7 +10,6 @@ use Rattle.sc_mail.specs.declared.bodies.Mail.{Mail}
 use Rattle.sc_mail.specs.declared.bodies.MailBody.{MailBody}
 use Rattle.sc_base.specs.Among.{Among, Each}
 use Rattle.sc_paxos_words.proofs.ListLemmas.{Each-among, Each-from}
-use Rattle.sc_paxos_law.specs.Steps.{Offered}
 use Rattle.sc_paxos_law.specs.Lawful.{IsLawfulHistory}
 use Rattle.sc_paxos_law.proofs.Among.{Among-either}
 use Rattle.sc_node_table.specs.Node.{NodeState, ticked, on_tick}
@@ -21,7 +19,7 @@ use Rattle.sc_node_table.specs.Rows.{tick_row}
 use Rattle.sc_sound.specs.Players.{Ahead}
 use Rattle.sc_group_law.specs.Steps.{asked_in}
 use Rattle.sc_group_law.proofs.Growth.{By}
-use Rattle.sc_group_law.proofs.Invariant.{Steps, rule, first, IsReplica, IsTrue}
+use Rattle.sc_group_law.proofs.Invariant.{Steps, rule, first, IsReplica, IsTrue, OffersMade}
 use Rattle.sc_group_law.proofs.Speech.{AnyoneHears, Speaks}
 use Rattle.sc_group_law.proofs.Midway.{Fine}
 use Rattle.sc_group_law.proofs.Sending.{name_is}
@@ -40,7 +38,7 @@ MayTick bases made on drawer (r ∷ rs) = ((base : Base) → Among base bases �
 module _ (ahead : Ahead) (bases : List Base) (made : Base → Command → Type 0) (heard : MailBody → Type 0) (elsewhere : AnyoneHears heard) (me : ℕ) (h : Base → Steps) (speaks : (base : Base) → Among base bases → Speaks ahead base (made base) heard (h base))
     (some : (base : Base) → Among base bases → (log : List Command) → Each (made base) log → (node : ℕ) × (rest : List ℕ) × ((rule ahead base).members log ≡ node ∷ rest))
     (lawful : (base : Base) → Among base bases → IsLawfulHistory (rule ahead base) (first ahead base) (h base))
-    (requested : (base : Base) → Among base bases → (b : Ballot) (slot : ℕ) (c : Command) → Among (Offered b slot c) (h base) → made base c) (on : Bool) where
+    (requested : (base : Base) → Among base bases → OffersMade (made base) (h base)) (on : Bool) where
   -- a replica of one of the groups, as the steps say
   abbrev IsLive : ReplicaState → Type 0
   IsLive r = (base : Base) × Among base bases × (name_of r ≡ base.core.id) × IsReplica ahead base (made base) (h base) me r
@@ -121,7 +119,7 @@ module _ (ahead : Ahead) (bases : List Base) (made : Base → Command → Type 0
     are : asked_in base.core.id sent (h base) ≡ newer ++ h base
     by : Each (By me) newer
     lawful_is : IsLawfulHistory (rule ahead base) (first ahead base) (newer ++ h base)
-    requested_is : (b : Ballot) (slot : ℕ) (c : Command) → Among (Offered b slot c) (newer ++ h base) → made base c
+    requested_is : OffersMade (made base) (newer ++ h base)
     holds : Holds ahead base (made base) me (newer ++ h base) (ticked on drawer rs mails).0
     mails_are : (mail : Mail) → Among mail sent → IsTrue ahead base (made base) heard (newer ++ h base) mail mail.body
 
@@ -180,7 +178,7 @@ module _ (ahead : Ahead) (bases : List Base) (made : Base → Command → Type 0
 module _ (ahead : Ahead) (bases : List Base) (made : Base → Command → Type 0) (heard : MailBody → Type 0) (elsewhere : AnyoneHears heard) (me : ℕ) (h : Base → Steps) (speaks : (base : Base) → Among base bases → Speaks ahead base (made base) heard (h base))
     (some : (base : Base) → Among base bases → (log : List Command) → Each (made base) log → (node : ℕ) × (rest : List ℕ) × ((rule ahead base).members log ≡ node ∷ rest))
     (lawful : (base : Base) → Among base bases → IsLawfulHistory (rule ahead base) (first ahead base) (h base))
-    (requested : (base : Base) → Among base bases → (b : Ballot) (slot : ℕ) (c : Command) → Among (Offered b slot c) (h base) → made base c) where
+    (requested : (base : Base) → Among base bases → OffersMade (made base) (h base)) where
   live_all : (node : NodeState) → IsNode ahead bases made h me node → Each (IsLive ahead bases made heard elsewhere me h speaks some lawful requested node.policy) node.replicas
   live_all node k = Each-from (IsLive ahead bases made heard elsewhere me h speaks some lawful requested node.policy) node.replicas (λ r b. (let mine = Each-among (λ s. IsOneOf bases (name_of s)) node.replicas r k.known b in
       (mine.0, mine.1, mine.2, held ahead mine.0 (made mine.0) me (h mine.0) node.replicas (k.holds mine.0 mine.1) r b mine.2)))

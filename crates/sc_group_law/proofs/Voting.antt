@@ -35,7 +35,7 @@ use Rattle.sc_sound.specs.Players.{Ahead}
 use Rattle.sc_group_law.specs.Steps.{asked_in, promised_by}
 use Rattle.sc_group_law.proofs.Growth.{By, later_learnt}
 use Rattle.sc_group_law.proofs.Held.{Mirrors, promise_mirrors, accept_mirrors}
-use Rattle.sc_group_law.proofs.Invariant.{Steps, rule, first, later_has, IsReplica, IsOwn, IsTrue, later_flying, grown_true}
+use Rattle.sc_group_law.proofs.Invariant.{Steps, rule, first, later_has, IsReplica, IsOwn, IsTrue, later_flying, grown_true, OffersMade}
 use Rattle.sc_group_law.proofs.Speech.{Speaks}
 use Rattle.sc_group_law.proofs.Midway.{Fine, asked_push, says}
 use Rattle.sc_group_law.proofs.Sending.{name_is, fine_saw}
@@ -161,7 +161,7 @@ pub record Ended (ahead : Ahead) (base : Base) (made : Command → Type 0) (hear
   pub are : after ≡ newer ++ before
   pub by : Each (By me) newer
   pub lawful : IsLawfulHistory (rule ahead base) (first ahead base) (newer ++ before)
-  pub requested : (b : Ballot) (slot : ℕ) (c : Command) → Among (Offered b slot c) (newer ++ before) → made c
+  pub requested : OffersMade made (newer ++ before)
   pub replica : IsReplica ahead base made (newer ++ before) me place.0
   pub mails : (mail : Mail) → Among mail place.1 → IsTrue ahead base made heard (newer ++ before) mail mail.body
   pub own : (mail : Mail) → Among mail place.1 → IsOwn ahead base heard mail.body

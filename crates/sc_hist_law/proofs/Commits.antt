@@ -26,8 +26,8 @@ use Rattle.sc_hist_law.specs.Moves.{GivenFrom, JoinedTo, RequestOf, TakenUpTo, U
 use Rattle.sc_hist_law.specs.Telling.{IsItsOwn, IsParty}
 use Rattle.sc_hist_law.specs.Worlds.{HasKnownTable, holdings_in}
 use Rattle.sc_hist_law.proofs.Disjoint.{first_here, neither_here, second_here}
-use Rattle.sc_hist_law.proofs.Elsewhere.{elsewhere, held_by, held_none, held_some, here, own_group, tables_from, there}
-use Rattle.sc_hist_law.proofs.Parties.{next_after, next_before, others_after, own_before}
+use Rattle.sc_hist_law.proofs.Elsewhere.{elsewhere, held_by, held_none, held_some, here, own_group, tables_from, there, holds_own}
+use Rattle.sc_hist_law.proofs.Parties.{next_after, next_before, others_after}
 use Rattle.sc_hist_law.proofs.Recuts.{arc_of, gone_cut, has_arc, has_recut, is_none_of, taken_out}
 use Rattle.sc_hist_law.proofs.Shares.{both_are}
 use Rattle.sc_hist_law.proofs.Staying.{Goes}
@@ -57,10 +57,10 @@ module _ (request : RequestOf) (world : StoreWorld) (name : Draw) (group : Group
   own_is = own_group world name group found c result id_is unborn
 
   mine_before : holdings_in world mine ≡ Some (holding_of group)
-  mine_before = own_before world group tx frozen own party coordinates own_is
+  mine_before = holds_own world mine group party.own_cut own_is coordinates
 
   theirs_before : holdings_in world theirs ≡ Some (holding_of party.next)
-  theirs_before = next_before world group tx frozen own party coordinates own_is
+  theirs_before = next_before world group tx frozen own party
 
   -- the coordinator is free afterwards
   mine_after : has_arc mine after.ring ≡ has_arc mine world.ring → holdings_in after mine ≡ Some (holding_of planned)
@@ -69,11 +69,11 @@ module _ (request : RequestOf) (world : StoreWorld) (name : Draw) (group : Group
   theirs_after : has_arc theirs after.ring ≡ has_arc theirs world.ring → holdings_in after theirs ≡ Some (holding_of (after_outcome (Some outcome) tx party.next))
   theirs_after has =
       held_some after theirs party.next (arc_of theirs after.ring (has ∙ has_some theirs world.ring party.next_cut.0 party.next_cut.1)) (there world name group found c result id_is unborn theirs (λ e. party.apart (sym e)) ∙ party.found)
-      ∙ ap Some (ap (λ ts. held_by ts party.next) transactions_are ∙ next_after world group tx frozen own party coordinates own_is outcome)
+      ∙ ap Some (ap (λ ts. held_by ts party.next) transactions_are ∙ next_after world group tx frozen own party outcome)
 
   others : (other : Draw) → (other ≡ mine → ⊥) → (other ≡ theirs → ⊥) → has_arc other after.ring ≡ has_arc other world.ring → holdings_in after other ≡ holdings_in world other
   others other ne not has = elsewhere world name group found c result id_is unborn other ne has
-      (λ g is. ap (λ ts. held_by ts g) transactions_are ∙ others_after world group tx frozen own party coordinates own_is outcome other g not is)
+      (λ g is. ap (λ ts. held_by ts g) transactions_are ∙ others_after world group tx frozen own party outcome other g not is)
 
   tables : HasKnownTable world after mine result.0 → (other : Draw) (g : Group) → named_group other after.groups ≡ Some g → HasKnownTable world after other g
   tables = tables_from world name group found c result id_is unborn

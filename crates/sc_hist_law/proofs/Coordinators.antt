@@ -43,12 +43,12 @@ use Rattle.sc_hist_law.specs.Telling.{IsItsOwn, IsParty, MayHear, MayHearWatcher
 use Rattle.sc_hist_law.specs.Worlds.{holdings_in}
 use Rattle.sc_hist_law.proofs.Commits.{give_goes, merge_goes, migrate_goes, take_goes}
 use Rattle.sc_hist_law.proofs.Divisions.{division_goes}
-use Rattle.sc_hist_law.proofs.Elsewhere.{held_by, own_group}
+use Rattle.sc_hist_law.proofs.Elsewhere.{held_by, own_group, holds_own}
 use Rattle.sc_hist_law.proofs.Finishing.{coordinator_held, free_held}
 use Rattle.sc_hist_law.proofs.Holdings.{from_arc}
 use Rattle.sc_hist_law.proofs.Outcomes.{abort_concluded, commit_in, one_begun, watcher_known}
 use Rattle.sc_hist_law.proofs.Participants.{cut_is, gains, join_is, loses, no_common_key, rest_meets, welcomes}
-use Rattle.sc_hist_law.proofs.Parties.{next_before, others_held, own_before}
+use Rattle.sc_hist_law.proofs.Parties.{next_before, others_held}
 use Rattle.sc_hist_law.proofs.PlanHoldings.{plans_move}
 use Rattle.sc_hist_law.proofs.Staying.{Goes, free_by, idles, none_committed, order_cases, stays}
 
@@ -103,8 +103,8 @@ module _ (request : RequestOf) (world : StoreWorld) (name : Draw) (group : Group
           let tested : can_cut group.core.arc at ≡ true = sym (cond-true (holds group.core.arc at) (can_cut group.core.arc at) (can_cut frozen.arc at && can_join group.core.arc (before frozen.arc at)) within) ∙ can in
           let cut = cut_is group.core.arc at tested in
           let own_is = own_group world name group found (RecordVote tx vote by) (group, Was.NoEffect tx) refl refl in
-          let mine = own_before world group tx frozen own party coordinates own_is in
-          let theirs = next_before world group tx frozen own party coordinates own_is in
+          let mine = holds_own world group.core.id group party.own_cut own_is coordinates in
+          let theirs = next_before world group tx frozen own party in
           let arc = told.disjoint.arcs group.core.id (holding_of group) mine in
           let meet = rest_meets group.core.arc next.core.arc at arc.0 arc.1 fits cut party.meet in
           let whole = contents_after empty world.history in

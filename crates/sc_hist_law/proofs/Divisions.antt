@@ -21,13 +21,13 @@ use Rattle.sc_hist_law.specs.Moves.{DividedAt, Holding, RequestOf, holding_of, p
 use Rattle.sc_hist_law.specs.Telling.{IsNewChild}
 use Rattle.sc_hist_law.specs.Worlds.{HasKnownTable, holdings_in}
 use Rattle.sc_hist_law.proofs.Disjoint.{first_here, neither_here, second_here}
-use Rattle.sc_hist_law.proofs.Elsewhere.{held_by, held_none, held_some, same_at, same_found}
-use Rattle.sc_entries.proofs.Names.{found_name, some_is, draw_cases}
+use Rattle.sc_hist_law.proofs.Elsewhere.{held_by, held_none, held_some, same_at, same_found, holds_own}
+use Rattle.sc_entries.proofs.Names.{found_name, draw_cases}
 use Rattle.sc_hist_law.proofs.Found.{found_now, found_still}
 use Rattle.sc_hist_law.proofs.PlanHoldings.{plans_move}
 use Rattle.sc_hist_law.proofs.Recuts.{arc_of, child_has, has_arc, has_divided}
 use Rattle.sc_hist_law.proofs.Staying.{Goes}
-use Rattle.std.proofs.lemmas.Option.{none-some}
+use Rattle.std.proofs.lemmas.Option.{none-some, same_Some}
 
 -- what is found first stays first
 pub found_left : (name : Draw) (groups more : List Group) (group : Group) → named_group name groups ≡ Some group → named_group name (groups ++ more) ≡ Some group
@@ -107,11 +107,8 @@ module _ (request : RequestOf) (world : StoreWorld) (name : Draw) (group : Group
   module _ (holds : holding_of result.0 ≡ part_before at (holding_of group)) (before : held_by world.transactions group ≡ holding_of group) (now : held_by after.transactions result.0 ≡ holding_of result.0)
       (same : (other : Draw) (g : Group) → named_group other world.groups ≡ Some g → held_by after.transactions g ≡ held_by world.transactions g) (no_entry : entry_of c result.1 ≡ [])
       (table : result.0.clients ≡ group.clients) (fits : at < 2 ^ 32) (cut : CanCut group.core.arc at) where
-    mine_before : holdings_in world mine ≡ Some (holding_of group)
-    mine_before = held_some world mine group fresh.cut own_is ∙ ap Some before
-
     mine_after : holdings_in after mine ≡ Some (part_before at (holding_of group))
-    mine_after = held_some after mine result.0 (arc_of mine after.ring (has mine apart ∙ own_cut)) here ∙ ap Some (now ∙ holds)
+    mine_after = holds_own after mine result.0 (arc_of mine after.ring (has mine apart ∙ own_cut)) here now ∙ ap Some holds
 
     child_after : holdings_in after child ≡ Some (part_from at (holding_of group))
     child_after = held_some after child newborn (arc_of child after.ring child_cut) child_there ∙ ap Some (plans_move.divides group at child).rest
@@ -122,11 +119,11 @@ module _ (request : RequestOf) (world : StoreWorld) (name : Draw) (group : Group
     tables : (other : Draw) (g : Group) → named_group other after.groups ≡ Some g → HasKnownTable world after other g
     tables other g is = elim (draw_cases other child) [
       | inl e ↦ (
-          let it : newborn ≡ g = some_is newborn g (sym child_there ∙ ap (λ n. named_group n after.groups) (sym e) ∙ is) in
+          let it : newborn ≡ g = same_Some newborn g (sym child_there ∙ ap (λ n. named_group n after.groups) (sym e) ∙ is) in
           inr (inr (part_from at (holding_of group), ap (holdings_in after) e ∙ child_after, ap (λ (h : Holding). h.clients) (sym (plans_move.divides group at child).rest) ∙ ap (λ (x : Group). x.clients) it)))
       | inr not ↦ elim (draw_cases other mine) [
         | inl e ↦ (
-            let it : result.0 ≡ g = some_is result.0 g (sym here ∙ ap (λ n. named_group n after.groups) (sym e) ∙ is) in
+            let it : result.0 ≡ g = same_Some result.0 g (sym here ∙ ap (λ n. named_group n after.groups) (sym e) ∙ is) in
             inr (inl (group, ap (λ n. named_group n world.groups) e ∙ own_is, sym table ∙ ap (λ (x : Group). x.clients) it)))
         | inr ne ↦ inr (inl (g, sym (there other ne not) ∙ is, refl))
       ]
@@ -134,16 +131,18 @@ module _ (request : RequestOf) (world : StoreWorld) (name : Draw) (group : Group
 
     -- the move of a division
     pub division_goes : Goes request world name group found c result
-    division_goes = record {
-      move = DividedAt mine at child;
-      may = record { holding = holding_of group; is = mine_before; fits = fits; cut = cut; free = held_none world child fresh.uncut };
-      holds = λ other. elim (draw_cases other child) [
-        | inl e ↦ ap (holdings_in after) e ∙ child_after ∙ sym (ap (option_map (part_from at)) mine_before) ∙ sym (second_here mine child (option_map (part_before at) (holdings_in world mine)) (option_map (part_from at) (holdings_in world mine)) (holdings_in world) other e)
-        | inr not ↦ elim (draw_cases other mine) [
-          | inl e ↦ ap (holdings_in after) e ∙ mine_after ∙ sym (ap (option_map (part_before at)) mine_before) ∙ sym (first_here mine child (option_map (part_before at) (holdings_in world mine)) (option_map (part_from at) (holdings_in world mine)) (holdings_in world) other not e)
-          | inr ne ↦ elsewhere other ne not ∙ sym (neither_here mine child (option_map (part_before at) (holdings_in world mine)) (option_map (part_from at) (holdings_in world mine)) (holdings_in world) other not ne)
-        ]
-      ];
-      adds = ap (λ es. world.history ++ es) no_entry;
-      tables = tables;
-    }
+    division_goes =
+        let own = holds_own world mine group fresh.cut own_is before in
+        record {
+          move = DividedAt mine at child;
+          may = record { holding = holding_of group; is = own; fits = fits; cut = cut; free = held_none world child fresh.uncut };
+          holds = λ other. elim (draw_cases other child) [
+            | inl e ↦ ap (holdings_in after) e ∙ child_after ∙ sym (ap (option_map (part_from at)) own) ∙ sym (second_here mine child (option_map (part_before at) (holdings_in world mine)) (option_map (part_from at) (holdings_in world mine)) (holdings_in world) other e)
+            | inr not ↦ elim (draw_cases other mine) [
+              | inl e ↦ ap (holdings_in after) e ∙ mine_after ∙ sym (ap (option_map (part_before at)) own) ∙ sym (first_here mine child (option_map (part_before at) (holdings_in world mine)) (option_map (part_from at) (holdings_in world mine)) (holdings_in world) other not e)
+              | inr ne ↦ elsewhere other ne not ∙ sym (neither_here mine child (option_map (part_before at) (holdings_in world mine)) (option_map (part_from at) (holdings_in world mine)) (holdings_in world) other not ne)
+            ]
+          ];
+          adds = ap (λ es. world.history ++ es) no_entry;
+          tables = tables;
+        }

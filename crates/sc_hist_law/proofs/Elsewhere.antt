@@ -2,6 +2,7 @@
 use Rattle.std.proofs.Common.{◌≡◌, true, false, List, Option, Some, None, inl, inr, refl, sym, ap, ◌∙◌, subst, append-nil}
 use Rattle.std.specs.Prelude.{is_some}
 use Rattle.std.specs.Option.{option_map, option_and_then}
+use Rattle.std.proofs.lemmas.Option.{same_Some}
 use Rattle.sc_base.specs.Arc.{Arc}
 use Rattle.sc_base.specs.declared.names.Draw.{Draw}
 use Rattle.sc_cmd.specs.declared.commands.Command.{Command}
@@ -14,7 +15,7 @@ use Rattle.sc_entries.specs.Rings.{arc_in}
 use Rattle.sc_entries.specs.Worlds.{StoreWorld, groups_after, named_group, with_group, with_result}
 use Rattle.sc_hist_law.specs.Moves.{Holding, holding_of}
 use Rattle.sc_hist_law.specs.Worlds.{HasKnownTable, holdings_in}
-use Rattle.sc_entries.proofs.Names.{found_name, some_is, draw_cases}
+use Rattle.sc_entries.proofs.Names.{found_name, draw_cases}
 use Rattle.sc_hist_law.proofs.Found.{found_now, found_still}
 
 -- what a group holds by the decisions of these transactions
@@ -30,6 +31,11 @@ pub held_some : (world : StoreWorld) (name : Draw) (group : Group) → (arc : Ar
 held_some world name group cut found =
     ap (λ o. held_in o world.transactions (named_group name world.groups)) cut.1
     ∙ ap (λ o. option_map holding_of (option_map (λ group. effective_by group.core.lock world.transactions group) o)) found
+
+-- and by decisions that leave it as it is
+pub holds_own : (world : StoreWorld) (name : Draw) (group : Group) → (arc : Arc) × (arc_in name world.ring ≡ Some arc) → named_group name world.groups ≡ Some group → held_by world.transactions group ≡ holding_of group
+    → holdings_in world name ≡ Some (holding_of group)
+holds_own world name group cut found same = held_some world name group cut found ∙ ap Some same
 
 -- of one that has none
 pub held_none : (world : StoreWorld) (name : Draw) → arc_in name world.ring ≡ None → holdings_in world name ≡ None
@@ -98,7 +104,7 @@ module _ (world : StoreWorld) (name : Draw) (group : Group) (found : named_group
   -- the tables of logs: only its own may be another
   pub tables_from : HasKnownTable world after group.core.id result.0 → (other : Draw) (g : Group) → named_group other after.groups ≡ Some g → HasKnownTable world after other g
   tables_from own other g is = elim (draw_cases other group.core.id) [
-    | inl e ↦ subst (λ n. HasKnownTable world after n g) (sym e) (subst (HasKnownTable world after group.core.id) (some_is result.0 g (sym (here other e) ∙ is)) own)
+    | inl e ↦ subst (λ n. HasKnownTable world after n g) (sym e) (subst (HasKnownTable world after group.core.id) (same_Some result.0 g (sym (here other e) ∙ is)) own)
     | inr ne ↦ inr (inl (g, sym (there other ne) ∙ is, refl))
   ]
 

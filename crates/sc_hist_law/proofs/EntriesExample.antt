@@ -6,6 +6,7 @@ use Rattle.std.specs.Cmp.Lexicographic.{slice_cmp, nat_list_cmp_total}
 use Rattle.std.specs.FinMap.{empty, get, get-empty, get-insert}
 use Rattle.std.specs.Ordering.{nat_cmp}
 use Rattle.std.proofs.lemmas.Bool.{lt-ltb}
+use Rattle.std.proofs.lemmas.Option.{same_Some}
 use Rattle.sc_base.specs.Arc.{IsArc, holds, offset}
 use Rattle.sc_base.specs.declared.ops.Noted.{Noted}
 use Rattle.sc_base.specs.declared.ops.Reply.{Reply}
@@ -24,7 +25,6 @@ use Rattle.sc_hist_law.specs.Example.{ExampleOfEntries, answers_with, example_lo
 use Rattle.sc_hist_law.specs.Telling.{MayAllBeTold, MayBeTold, MayCall, MaySplit}
 use Rattle.sc_hist_law.specs.Worlds.{BeginBare, BeginsBare}
 use Rattle.sc_hist_law.proofs.Entries.{entries_tell}
-use Rattle.sc_entries.proofs.Names.{some_is}
 
 -- ---- the start
 
@@ -90,16 +90,16 @@ second_is = ap (λ (result : Group × Effect). with_result first start (Call 1 1
 -- ---- each entry may be told
 
 may_put : MayBeTold two_requests first put_entry
-may_put group found = subst (λ g. MayCall two_requests first g 1 1 put_a) (some_is start group found) (record { asked = refl; cut = λ serves. (lone_base.core.arc, refl) })
+may_put group found = subst (λ g. MayCall two_requests first g 1 1 put_a) (same_Some start group found) (record { asked = refl; cut = λ serves. (lone_base.core.arc, refl) })
 
 may_split : MayBeTold two_requests second split_entry
-may_split group found = subst (λ g. MaySplit second g 1610612736 offspring) (some_is served group found) (record {
+may_split group found = subst (λ g. MaySplit second g 1610612736 offspring) (same_Some served group found) (record {
   fits = omega arith;
   fresh = λ alone here unlocked named. record { cut = (lone_base.core.arc, refl); unborn = refl; uncut = refl };
 })
 
 may_get : MayBeTold two_requests third get_entry
-may_get group found = subst (λ g. MayCall two_requests third g 2 1 get_a) (some_is newborn group found) (record { asked = refl; cut = λ serves. (newborn.core.arc, refl) })
+may_get group found = subst (λ g. MayCall two_requests third g 2 1 get_a) (same_Some newborn group found) (record { asked = refl; cut = λ serves. (newborn.core.arc, refl) })
 
 may : MayAllBeTold two_requests first example_log
 may = (may_put, subst (λ world. MayAllBeTold two_requests world (split_entry ∷ get_entry ∷ [])) (sym second_is) (may_split, (may_get, tt)))

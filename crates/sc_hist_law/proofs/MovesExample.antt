@@ -13,13 +13,13 @@ use Rattle.sc_hist_law.specs.Moves.{Holding, AreBare, MayMakeAll, history_by, pa
 use Rattle.sc_hist_law.specs.Example.{ExampleOfMoves, answers_with, bare_ring, example_moves, lone_holdings, offspring, parent, put_a, two_requests}
 use Rattle.sc_hist_law.proofs.Disjoint.{holding_here, holding_there}
 use Rattle.sc_hist_law.proofs.MovesKept.{moves_tell}
-use Rattle.sc_entries.proofs.Names.{some_is, draw_cases}
-use Rattle.std.proofs.lemmas.Option.{none-some}
+use Rattle.sc_entries.proofs.Names.{draw_cases}
+use Rattle.std.proofs.lemmas.Option.{none-some, same_Some}
 
 -- only the group holds something
 lone : (name : Draw) (holding : Holding) → lone_holdings name ≡ Some holding → (name ≡ parent) × (bare_ring ≡ holding)
 lone name holding is = elim (draw_cases name parent) [
-  | inl e ↦ (e, some_is bare_ring holding (sym (holding_here parent (Some bare_ring) (λ _. None) name e) ∙ is))
+  | inl e ↦ (e, same_Some bare_ring holding (sym (holding_here parent (Some bare_ring) (λ _. None) name e) ∙ is))
   | inr ne ↦ absurd (none-some holding (sym (holding_there parent (Some bare_ring) (λ _. None) name ne) ∙ is))
 ]
 

@@ -3,6 +3,7 @@ use Rattle.std.proofs.Common.{◌≡◌, true, false, cond, ◌&&◌, List, [], 
 use Rattle.std.specs.List.{find}
 use Rattle.std.specs.Option.{option_and_then}
 use Rattle.std.proofs.lemmas.Bool.{cases_Bool, cond-true, cond-false, and_from, and_parts}
+use Rattle.std.proofs.lemmas.Option.{same_Some}
 use Rattle.sc_base.specs.Same.{same_draw}
 use Rattle.sc_base.specs.declared.names.Draw.{Draw}
 use Rattle.sc_base.proofs.NameLemmas.{draw_is, same_name}
@@ -17,7 +18,6 @@ use Rattle.sc_machine_table.specs.Orders.{locked_in}
 use Rattle.sc_entries.specs.declared.Transaction.{Transaction}
 use Rattle.sc_entries.specs.Decisions.{amended, concluded, decision, is_of, transaction_in, with_outcome, with_watcher}
 use Rattle.sc_entries.specs.Effective.{after_outcome, effective_by, is_commit}
-use Rattle.sc_entries.proofs.Names.{some_is}
 
 -- the commit in what was decided, if it is one
 abbrev pub commit_in : Option Outcome → Option Outcome
@@ -126,7 +126,7 @@ own_concluded (t ∷ ts) tx coordinator outcome found e is =
     let rest = concluded (Some outcome) tx coordinator ts in
     elim (cases_Bool (same_draw t.tx tx)) [
       | inl here ↦ (
-          let same : t ≡ found = some_is t found (sym (cond-true (same_draw t.tx tx) (Some t) _ here) ∙ e) in
+          let same : t ≡ found = same_Some t found (sym (cond-true (same_draw t.tx tx) (Some t) _ here) ∙ e) in
           let of : is_of tx coordinator t ≡ true = and_from (same_draw t.tx tx) (same_draw t.coordinator coordinator) here (same_name t.coordinator coordinator (ap (λ (x : Transaction). x.coordinator) same ∙ is)) in
           ap (λ x. decision tx (x ∷ rest)) (cond-true (is_of tx coordinator t) (with_outcome (Some outcome) t) t of)
           ∙ first_outcome (with_outcome (Some outcome) t) rest tx (draw_is t.tx tx here))

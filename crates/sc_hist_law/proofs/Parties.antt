@@ -1,5 +1,6 @@
 -- What the parties of a transaction hold before and after its coordinator decides.
 use Rattle.std.proofs.Common.{◌≡◌, List, Some, inl, inr, refl, sym, ap, ◌∙◌}
+use Rattle.std.proofs.lemmas.Option.{same_Some}
 use Rattle.sc_base.specs.declared.names.Draw.{Draw}
 use Rattle.sc_cmd.specs.declared.bodies.Offer.{Offer}
 use Rattle.sc_cmd.specs.declared.cores.Lock.{Lock}
@@ -15,11 +16,11 @@ use Rattle.sc_entries.specs.Worlds.{StoreWorld, named_group}
 use Rattle.sc_hist_law.specs.Moves.{holding_of}
 use Rattle.sc_hist_law.specs.Telling.{IsItsOwn, IsParty}
 use Rattle.sc_hist_law.specs.Worlds.{holdings_in}
-use Rattle.sc_hist_law.proofs.Elsewhere.{held_by, held_some}
+use Rattle.sc_hist_law.proofs.Elsewhere.{held_by, holds_own}
 use Rattle.sc_hist_law.proofs.Finishing.{coordinating_held, free_held, promised_held, watching_held}
 use Rattle.sc_hist_law.proofs.Outcomes.{commit_in, other_concluded, own_concluded, same_party}
 use Rattle.sc_hist_law.proofs.Staying.{none_committed}
-use Rattle.sc_entries.proofs.Names.{some_is, draw_cases}
+use Rattle.sc_entries.proofs.Names.{draw_cases}
 
 -- who has not promised in a transaction holds the same whatever it comes to
 pub others_held : (transactions : List Transaction) (tx coordinator : Draw) (outcome : Outcome) (group : Group) (lock : Lock) → group.core.lock ≡ lock → ((offer : Offer) → lock ≡ Promised tx offer → ⊥)
@@ -31,20 +32,16 @@ others_held transactions tx coordinator outcome group (Watching locked watch) e 
 others_held transactions tx coordinator outcome group (Promised locked offer) e apart = elim (draw_cases locked tx) [
   | inl same ↦ absurd (apart offer (ap (λ x. Promised x offer) same))
   | inr ne ↦ ap holding_of (same_party group.core.lock (concluded (Some outcome) tx coordinator transactions) transactions group
-      (λ t is. ap commit_in (other_concluded transactions tx coordinator t outcome (λ same. ne (some_is locked t (sym (ap locked_in e) ∙ is) ∙ same)))))
+      (λ t is. ap commit_in (other_concluded transactions tx coordinator t outcome (λ same. ne (same_Some locked t (sym (ap locked_in e) ∙ is) ∙ same)))))
 ]
 
-module _ (world : StoreWorld) (group : Group) (tx : Draw) (frozen : Frozen) (own : IsItsOwn world group tx) (party : IsParty world group tx frozen) (holds : held_by world.transactions group ≡ holding_of group)
-    (found : named_group group.core.id world.groups ≡ Some group) where
+module _ (world : StoreWorld) (group : Group) (tx : Draw) (frozen : Frozen) (own : IsItsOwn world group tx) (party : IsParty world group tx frozen) where
   -- before
-  pub own_before : holdings_in world group.core.id ≡ Some (holding_of group)
-  own_before = held_some world group.core.id group party.own_cut found ∙ ap Some holds
-
   next_holds : held_by world.transactions party.next ≡ holding_of party.next
   next_holds = promised_held world.transactions party.next tx party.offer party.lock (none_committed world tx own.uncommitted)
 
   pub next_before : holdings_in world group.core.succ.group ≡ Some (holding_of party.next)
-  next_before = held_some world group.core.succ.group party.next party.next_cut party.found ∙ ap Some next_holds
+  next_before = holds_own world group.core.succ.group party.next party.next_cut party.found next_holds
 
   -- afterwards
   module _ (outcome : Outcome) where

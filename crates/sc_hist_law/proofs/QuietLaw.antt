@@ -1,5 +1,5 @@
 -- Several groups that begin bare, and quiet entries: what they tell.
-use Rattle.std.proofs.Common.{◌≡◌, ◌%◌, ◌^◌, List, [], ◌∷◌, ◌++◌, map, Some, inl, inr, refl, sym, ap, ◌∙◌, subst}
+use Rattle.std.proofs.Common.{◌≡◌, ◌%◌, ◌^◌, List, [], ◌∷◌, map, Some, inl, inr, refl, sym, ap, ◌∙◌, subst}
 use Rattle.std.specs.FinMap.{empty}
 use Rattle.std.specs.Option.{option_map}
 use Rattle.std.specs.List.{find}
@@ -19,14 +19,14 @@ use Rattle.sc_entries.specs.declared.LogEntry.{LogEntry}
 use Rattle.sc_entries.specs.Rings.{Covers, arc_in, first_cut, is_cut_of}
 use Rattle.sc_entries.specs.Worlds.{StoreWorld, first_world, is_named, named_group, world_of}
 use Rattle.sc_entries.proofs.Pushes.{world_append}
-use Rattle.sc_paxos_words.proofs.ListLemmas.{find_found}
+use Rattle.sc_paxos_words.proofs.ListLemmas.{find_found, Each-split, one_of_name}
 use Rattle.sc_paxos_law.proofs.Among.{from_map}
 use Rattle.sc_hist_law.specs.Moves.{Holding, RequestOf, AreBare, HasNotes, TellsHoldings, holding_of}
 use Rattle.sc_hist_law.specs.Worlds.{BeginBare, IsQuiet, IsToldWorld, QuietEntriesTell, holdings_in}
 use Rattle.sc_hist_law.proofs.MovesKept.{bare_told}
 use Rattle.sc_hist_law.proofs.Cuts.{cut_of}
 use Rattle.sc_hist_law.proofs.Holdings.{IsOnRing}
-use Rattle.sc_hist_law.proofs.Positions.{holds_round, on_ring, one_of_name}
+use Rattle.sc_hist_law.proofs.Positions.{holds_round, on_ring}
 use Rattle.sc_hist_law.proofs.QuietWorlds.{HaveCuts, IsQuietWorld, effective_is, holdings_are, notes_grow, own_notes, quiet_all}
 
 -- ---- at the start
@@ -130,10 +130,6 @@ told_world request bases world begin quiet = record {
 quiet_world : (request : RequestOf) (bases : List Base) → BeginBare bases → (entries : List LogEntry) → Each (IsQuiet request) entries → IsQuietWorld request bases (world_of bases entries)
 quiet_world request bases begin entries each = quiet_all request bases (first_world bases) entries (first_quiet bases begin request) each
 
-each_front : (P : LogEntry → Type 0) (front more : List LogEntry) → Each P (front ++ more) → Each P front
-each_front P [] more e = tt
-each_front P (x ∷ front) more e = (e.0, each_front P front more e.1)
-
 pub quiet_tell : QuietEntriesTell
 quiet_tell request bases begin entries each =
     let world = quiet_world request bases begin entries each in
@@ -141,7 +137,7 @@ quiet_tell request bases begin entries each =
       world = told_world request bases (world_of bases entries) begin world;
       ring = world.ring;
       notes = λ front more is name group found. (
-          let first = quiet_world request bases begin front (each_front (IsQuiet request) front more (subst (Each (IsQuiet request)) is each)) in
+          let first = quiet_world request bases begin front (Each-split (IsQuiet request) front more (subst (Each (IsQuiet request)) is each)).0 in
           let had = own_notes request bases (world_of bases front) first name group found in
           subst (λ (w : StoreWorld). HasNotes w.history group.clients)
           (sym (ap (world_of bases) is ∙ world_append (first_world bases) front more))

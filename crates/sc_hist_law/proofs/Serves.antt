@@ -19,7 +19,7 @@ use Rattle.sc_hist_law.specs.Moves.{RequestOf, ServedBy, holding_of, request_ent
 use Rattle.sc_hist_law.specs.Telling.{MayCall}
 use Rattle.sc_hist_law.specs.Worlds.{holdings_in}
 use Rattle.sc_hist_law.proofs.Disjoint.{holding_here, holding_there}
-use Rattle.sc_hist_law.proofs.Elsewhere.{elsewhere, held_by, held_some, here, own_group, tables_from}
+use Rattle.sc_hist_law.proofs.Elsewhere.{elsewhere, held_by, held_some, here, own_group, tables_from, holds_own}
 use Rattle.sc_hist_law.proofs.Finishing.{free_held, watching_held}
 use Rattle.sc_hist_law.proofs.Requests.{TakesEffect, request_cases}
 use Rattle.sc_hist_law.proofs.Staying.{Goes, idles}
@@ -44,8 +44,8 @@ module _ (request : RequestOf) (world : StoreWorld) (name : Draw) (group : Group
       let cut = may.cut (and_from (holds_key group.core.arc (key_of op) && is_open group.core.lock) (is_none group.core.gone)
       (and_from (holds_key group.core.arc (key_of op)) (is_open group.core.lock) takes.its takes.open_now) (ap is_none takes.here)) in
       let own : holdings_in world group.core.id ≡ Some (holding_of group) =
-      held_some world group.core.id group cut (own_group world name group found (Call client seq op) result refl refl)
-      ∙ ap Some (open_held group.core.lock world.transactions group refl takes.open_now) in
+      holds_own world group.core.id group cut (own_group world name group found (Call client seq op) result refl refl)
+      (open_held group.core.lock world.transactions group refl takes.open_now) in
       let now : holdings_in after group.core.id ≡ Some (with_request client seq op (holding_of group)) =
       held_some after group.core.id result.0 cut (here world name group found (Call client seq op) result refl refl group.core.id refl)
       ∙ ap Some (open_held group.core.lock world.transactions result.0 refl takes.open_now) in

@@ -4,6 +4,7 @@ use Rattle.std.specs.Cmp.{nat_cmp_total, unsigned_tied}
 use Rattle.std.specs.FinMap.{empty, get, get-insert}
 use Rattle.std.specs.Option.{option_map}
 use Rattle.std.proofs.lemmas.Bool.{cases_Bool, eqb-true, eq-eqb, cond-true, cond-false}
+use Rattle.std.proofs.lemmas.Option.{same_Some}
 use Rattle.sc_base.specs.Among.{Among}
 use Rattle.sc_base.specs.Arc.{holds}
 use Rattle.sc_base.specs.Text.{pos_of}
@@ -20,14 +21,15 @@ use Rattle.sc_hist_law.specs.Moves.{Holding, Holdings, RequestOf, MayServe, Tell
 use Rattle.sc_hist_law.proofs.Disjoint.{holding_here, holding_there}
 use Rattle.sc_hist_law.proofs.Holdings.{IsOnRing}
 use Rattle.sc_hist_law.proofs.Kept.{IsApart, all_pairs, apart_push}
-use Rattle.sc_hist_law.proofs.Positions.{first_pairs, other_pairs}
 use Rattle.sc_hist_law.proofs.Told.{replay_push, after_push, entry_later}
-use Rattle.sc_entries.proofs.Names.{some_is, draw_cases}
+use Rattle.sc_entries.proofs.Names.{draw_cases}
+use Rattle.sc_paxos_words.proofs.ListLemmas.{Each-from_All}
+use Rattle.sc_member.proofs.Pairs.{AllPairs-head, AllPairs-tail}
 
 -- entries that are apart, one by one
 one_by_one : (es : List Entry) → AllPairs AreApart es → IsApart es
 one_by_one [] a = tt
-one_by_one (e ∷ es) a = (first_pairs AreApart e es a, one_by_one es (other_pairs AreApart e es a))
+one_by_one (e ∷ es) a = (Each-from_All (AreApart e) es (AllPairs-head AreApart e es a), one_by_one es (AllPairs-tail AreApart e es a))
 
 not_held : (b : Bool) → (b ≡ true → ⊥) → b ≡ false
 not_held true no_way = absurd (no_way refl)
@@ -103,7 +105,7 @@ module _ (request : RequestOf) (history : List Entry) (holdings : Holdings) (tol
   notes_now who n e =
       elim (cases_Bool (eqb who client)) [
         | inl t ↦ (
-            let same : note ≡ n = some_is note n (sym (found_new who (eqb-true who client t)) ∙ e) in
+            let same : note ≡ n = same_Some note n (sym (found_new who (eqb-true who client t)) ∙ e) in
             subst (λ (x : Noted). HasEntry (history ++ new ∷ []) who x.seq x.reply) same
             (subst (λ c. HasEntry (history ++ new ∷ []) c seq (reply_of op holding.pairs)) (sym (eqb-true who client t)) last_is))
         | inr f ↦ entry_later history (new ∷ []) who n.seq n.reply (here.notes who n (sym (found_old who f) ∙ e))

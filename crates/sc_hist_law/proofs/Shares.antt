@@ -7,18 +7,17 @@ use Rattle.sc_ideal.specs.declared.Entry.{Entry}
 use Rattle.sc_hist_law.specs.Moves.{Holding, Holdings, AreDisjoint, IsToldOf, IsBetween, MayDivide, CanFollow, CanGive, CanTake, part_before, part_from, with_next, with_previous, both_holdings}
 use Rattle.sc_hist_law.proofs.Holdings.{IsOnRing, before_arc, from_arc, parts_apart, before_told, from_told, joined_from, joined_arc, next_told, previous_told}
 use Rattle.sc_hist_law.proofs.Disjoint.{HoldsAt, IsGood, SharesOut, owner}
-use Rattle.sc_entries.proofs.Names.{some_is}
-use Rattle.std.proofs.lemmas.Option.{none-some}
+use Rattle.std.proofs.lemmas.Option.{none-some, same_Some}
 
 -- of a holding that is known
 good_is : (history : List Entry) (found : Option Holding) (holding : Holding) → found ≡ Some holding → IsOnRing holding.arc → IsToldOf history holding → IsGood history found
 good_is history found holding is arc told other its =
-    let same : holding ≡ other = some_is holding other (sym is ∙ its) in
+    let same : holding ≡ other = same_Some holding other (sym is ∙ its) in
     subst (λ h. IsOnRing h.arc × IsToldOf history h) same (arc, told)
 
 at_is : (found : Option Holding) (holding : Holding) (p : ℕ) → found ≡ Some holding → HoldsAt found p → holds holding.arc p ≡ true
 at_is found holding p is h =
-    let same : h.holding ≡ holding = some_is h.holding holding (sym h.is ∙ is) in
+    let same : h.holding ≡ holding = same_Some h.holding holding (sym h.is ∙ is) in
     subst (λ (x : Holding). holds x.arc p ≡ true) same h.at
 
 -- two that are known, as one

@@ -8,15 +8,14 @@ use Rattle.sc_ideal.specs.Clients.{ClientTable, joined_with, later}
 use Rattle.sc_ideal.specs.declared.Entry.{Entry}
 use Rattle.sc_ideal.proofs.Tables.{joined_by_number}
 use Rattle.sc_hist_law.specs.Moves.{IsNotedIn, HasNotes}
-use Rattle.sc_entries.proofs.Names.{some_is}
-use Rattle.std.proofs.lemmas.Option.{none-some}
+use Rattle.std.proofs.lemmas.Option.{none-some, same_Some}
 
 -- of two notes the later one is at no lower number than either
 later_left : (least : ℕ) (a b : Option Noted) (n : Noted) → a ≡ Some n → least ≤ n.seq → (m : Noted) × (later a b ≡ Some m) × (least ≤ m.seq)
 later_left least None b n e k = absurd (none-some n e)
-later_left least (Some a) None n e k = (a, refl, subst (λ (x : Noted). least ≤ x.seq) (sym (some_is a n e)) k)
+later_left least (Some a) None n e k = (a, refl, subst (λ (x : Noted). least ≤ x.seq) (sym (same_Some a n e)) k)
 later_left least (Some a) (Some b) n e k =
-    let ak : least ≤ a.seq = subst (λ (x : Noted). least ≤ x.seq) (sym (some_is a n e)) k in
+    let ak : least ≤ a.seq = subst (λ (x : Noted). least ≤ x.seq) (sym (same_Some a n e)) k in
     elim (cases_Bool (nat_lt a.seq b.seq)) [
       | inl t ↦ (let l = ltb-true a.seq b.seq t in (b, cond-true (nat_lt a.seq b.seq) (Some b) (Some a) t, omega (arith, ak, l)))
       | inr t ↦ (a, cond-false (nat_lt a.seq b.seq) (Some b) (Some a) t, ak)
@@ -24,9 +23,9 @@ later_left least (Some a) (Some b) n e k =
 
 later_right : (least : ℕ) (a b : Option Noted) (n : Noted) → b ≡ Some n → least ≤ n.seq → (m : Noted) × (later a b ≡ Some m) × (least ≤ m.seq)
 later_right least a None n e k = absurd (none-some n e)
-later_right least None (Some b) n e k = (b, refl, subst (λ (x : Noted). least ≤ x.seq) (sym (some_is b n e)) k)
+later_right least None (Some b) n e k = (b, refl, subst (λ (x : Noted). least ≤ x.seq) (sym (same_Some b n e)) k)
 later_right least (Some a) (Some b) n e k =
-    let bk : least ≤ b.seq = subst (λ (x : Noted). least ≤ x.seq) (sym (some_is b n e)) k in
+    let bk : least ≤ b.seq = subst (λ (x : Noted). least ≤ x.seq) (sym (same_Some b n e)) k in
     elim (cases_Bool (nat_lt a.seq b.seq)) [
       | inl t ↦ (b, cond-true (nat_lt a.seq b.seq) (Some b) (Some a) t, bk)
       | inr t ↦ (let l = ltb-false a.seq b.seq t in (a, cond-false (nat_lt a.seq b.seq) (Some b) (Some a) t, omega (arith, bk, l)))

@@ -22,12 +22,12 @@ use Rattle.sc_ring_law.specs.Stories.{put}
 use Rattle.sc_ring_law.specs.Invariant.{Groups}
 use Rattle.sc_ring_law.proofs.Cover.{at-same, at-other}
 use Rattle.sc_ring_law.proofs.Cuts.{arcs_in}
-use Rattle.sc_entries.proofs.Names.{draw_cases, some_is, found_name}
+use Rattle.sc_entries.proofs.Names.{draw_cases, found_name}
 use Rattle.sc_ring_law.proofs.Told.{groups_in, with_child, groups_are}
 use Rattle.sc_ring_law.proofs.Worlds.{KeptWorld, kept_on, fits}
 use Rattle.sc_sound.specs.GroupsOf.{children_of, entries_from}
 use Rattle.sc_journal_law.proofs.Children.{log_of_own}
-use Rattle.std.proofs.lemmas.Option.{none-some}
+use Rattle.std.proofs.lemmas.Option.{none-some, same_Some}
 use Rattle.sc_ring_law.proofs.Finds.{some_none}
 
 -- more entries are told to the world before them
@@ -41,7 +41,7 @@ stays_there world name group found entries = (_, logs_make_states world name gro
 
 born_as : (group : Group) (o : Option Division) (child : Base) → option_map (λ (d : Division). child_of group d.at d.child) o ≡ Some child → (d : Division) × (o ≡ Some d) × (d.child ≡ child.core.id)
 born_as group None child e = absurd (none-some child e)
-born_as group (Some d) child e = (d, refl, ap (λ (b : Base). b.core.id) (some_is (child_of group d.at d.child) child e))
+born_as group (Some d) child e = (d, refl, ap (λ (b : Base). b.core.id) (same_Some (child_of group d.at d.child) child e))
 
 -- nothing is where nothing can be
 pub none_there : (o : Option Group) → ((group : Group) → o ≡ Some group → ⊥) → o ≡ None
@@ -56,7 +56,7 @@ from_joined (Some first) rest child (inr a) = inr a
 
 joined_first : (o : Option Base) (rest : List Base) (child : Base) → o ≡ Some child → Among child (option_to_list o ++ rest)
 joined_first None rest child e = absurd (none-some child e)
-joined_first (Some first) rest child e = inl (some_is first child e)
+joined_first (Some first) rest child e = inl (same_Some first child e)
 
 -- where a child is born among entries
 pub record IsBornAmong (world : StoreWorld) (entries : List LogEntry) (child : Base) : Type 0 where
@@ -162,7 +162,7 @@ module _ (sources : Sources) (name : Draw) where
       not_later child other e a same = some_none (group_of child) (sym (child_there child e) ∙ ap (λ n. named_group n now.groups) same ∙ more.unborn other a)
 
       push_one : (child other : Base) → (birth ≡ Some child) ⊎ Among child rest → (birth ≡ Some other) ⊎ Among other rest → child.core.id ≡ other.core.id → child ≡ other
-      push_one child other (inl e) (inl f) same = some_is child other (sym e ∙ f)
+      push_one child other (inl e) (inl f) same = same_Some child other (sym e ∙ f)
       push_one child other (inl e) (inr b) same = absurd (not_later child other e b same)
       push_one child other (inr a) (inl f) same = absurd (not_later other child f a (sym same))
       push_one child other (inr a) (inr b) same = more.one child other a b same

@@ -50,11 +50,11 @@ use Rattle.sc_ring_law.proofs.Reshapes.{Ends}
 use Rattle.sc_ring_law.proofs.Rows.{unheard}
 use Rattle.sc_ring_law.proofs.Sound.{sound_world}
 use Rattle.sc_ring_law.proofs.Steps.{lock_free, watch_settled}
-use Rattle.sc_entries.proofs.Names.{found_name, some_is}
+use Rattle.sc_entries.proofs.Names.{found_name}
 use Rattle.sc_ring_law.proofs.Told.{groups_in, brief, story_brief, decision_is}
 use Rattle.sc_ring_law.proofs.Worlds.{KeptWorld, kept_on}
 use Rattle.sc_hist_law.specs.Telling.{HasCut, IsUncommitted, MayCall, MaySplit, IsItsOwn, IsParty, MayHear, MayHearWatcher, MayFinish, MayExecute, MayAllBeTold}
-use Rattle.std.proofs.lemmas.Option.{none-some}
+use Rattle.std.proofs.lemmas.Option.{none-some, same_Some}
 use Rattle.sc_ring_law.proofs.Finds.{some_none}
 
 -- what a lock that coordinates a transaction is
@@ -73,7 +73,7 @@ offer_some core (At.Split at child) o e = absurd (none-some o e)
 
 brief_some : (o : Option Transaction) (b : Draw × Option Outcome) → option_map brief o ≡ Some b → (t : Transaction) × (o ≡ Some t) × (brief t ≡ b)
 brief_some None b e = absurd (none-some b e)
-brief_some (Some t) b e = (t, refl, some_is (brief t) b e)
+brief_some (Some t) b e = (t, refl, same_Some (brief t) b e)
 
 abort_false : (o : Outcome) → is_commit o ≡ true → o ≡ Abort → ⊥
 abort_false o c e = absurd (let f : true ≡ false = sym c ∙ ap is_commit e in cc)
@@ -159,7 +159,7 @@ module _ (sources : Sources) (w : ToldWorld) (k : KeptWorld sources.owner w) (g 
       let o = own_is sources.owner gs ys g s tx body heard y d in
       let r = (k.kept.0.story tx y d.there).frozen o.undecided fz vote in
       let has = offer_some s.core body (unsigned r.offer) (sym o.offer ∙ r.offered) in
-      let same = some_is (offer_with s.core body) (unsigned r.offer) (sym has ∙ sym o.offer ∙ r.offered) in
+      let same = same_Some (offer_with s.core body) (unsigned r.offer) (sym has ∙ sym o.offer ∙ r.offered) in
       let line : s.core.succ.group ≡ r.offer.part = ap (λ (z : Offer). z.part) same in
       let ne : g ≡ r.offer.part → ⊥ = λ e. o.apart (line ∙ sym e) in
       let p = part_eff sources.owner gs ys g s tx body heard y d s (Ends y Divided) Divided fz r (λ e. ne (sym e)) refl refl in
@@ -180,8 +180,8 @@ module _ (sources : Sources) (w : ToldWorld) (k : KeptWorld sources.owner w) (g 
         offered = sym (ap (λ (z : Offer). z.arc) same);
         only = λ name other offer there lock. (
             let u = subst (LockOk ys name other) lock (k.kept.0.group name other there).lock_ok in
-            let story = some_is u.story y (sym u.is ∙ d.there) in
-            let part = ap (λ (z : Offer). z.part) (some_is (unsigned offer) (unsigned r.offer) (sym u.offered ∙ ap (λ (z : Story). z.offer) story ∙ r.offered)) in
+            let story = same_Some u.story y (sym u.is ∙ d.there) in
+            let part = ap (λ (z : Offer). z.part) (same_Some (unsigned offer) (unsigned r.offer) (sym u.offered ∙ ap (λ (z : Story). z.offer) story ∙ r.offered)) in
             sym u.part ∙ part ∙ sym line);
         own_cut = mine_cut s mine;
         next_cut = subst (HasCut w.store) (sym line) (cut_by r.offer.part r.group p.0);
@@ -191,7 +191,7 @@ module _ (sources : Sources) (w : ToldWorld) (k : KeptWorld sources.owner w) (g 
   vote_is : (tx : Draw) (fz : Frozen) (y : Story) → ys tx ≡ Some y → (vote : Vote) → vote ≡ Ballot.Yes fz → IsVoteCast ys tx vote → y.vote ≡ Some (Ballot.Yes fz)
   vote_is tx fz y there vote e a =
       let h = subst (IsVoteCast ys tx) e a in
-      ap (λ (z : Story). z.vote) (some_is y h.0 (sym there ∙ h.1)) ∙ h.2
+      ap (λ (z : Story). z.vote) (same_Some y h.0 (sym there ∙ h.1)) ∙ h.2
 
   may_hear : (tx : Draw) (vote : Vote) → IsVoteCast ys tx vote → MayHear w.store s tx vote
   may_hear tx vote a = record {
@@ -208,7 +208,7 @@ module _ (sources : Sources) (w : ToldWorld) (k : KeptWorld sources.owner w) (g 
   no_offer tx at child order heard lock name other offer there locked =
       let o = own tx (At.Split at child) order heard lock in
       let u = subst (LockOk ys name other) locked (k.kept.0.group name other there).lock_ok in
-      let story = some_is u.story o.story (sym u.is ∙ o.is) in
+      let story = same_Some u.story o.story (sym u.is ∙ o.is) in
       some_none (unsigned offer) (sym u.offered ∙ ap (λ (z : Story). z.offer) story ∙ o.offer)
 
   may_hear_watcher : (tx : Draw) (vote : Past) → MayHearWatcher w.store s tx vote
@@ -242,18 +242,18 @@ module _ (sources : Sources) (w : ToldWorld) (k : KeptWorld sources.owner w) (g 
   finish_cut : (tx : Draw) (y : Story) (at : ℕ) (gift : Gift) → ys tx ≡ Some y → y.outcome ≡ Some (Moved at (Some gift)) → (l : Lock) → s.core.lock ≡ l → locked_in l ≡ Some tx → HasCut w.store s.core.id
   finish_cut tx y at gift there out Free lock e = absurd (none-some tx e)
   finish_cut tx y at gift there out (Coordinating t body order heard) lock e =
-      let same = some_is t tx e in
+      let same = same_Some t tx e in
       let o = own tx body order heard (lock ∙ ap (λ n. Coordinating n body order heard) same) in
-      absurd (some_none (Moved at (Some gift)) (sym out ∙ ap (λ (z : Story). z.outcome) (some_is y o.story (sym there ∙ o.is)) ∙ o.undecided))
+      absurd (some_none (Moved at (Some gift)) (sym out ∙ ap (λ (z : Story). z.outcome) (same_Some y o.story (sym there ∙ o.is)) ∙ o.undecided))
   finish_cut tx y at gift there out (Promised t offer) lock e =
-      let here_lock : s.core.lock ≡ Promised tx offer = lock ∙ ap (λ n. Promised n offer) (some_is t tx e) in
+      let here_lock : s.core.lock ≡ Promised tx offer = lock ∙ ap (λ n. Promised n offer) (same_Some t tx e) in
       let u = subst (LockOk ys g s) here_lock (k.kept.0.group g s is).lock_ok in
       let o : Outcome = Moved at (Some gift) in
       let lives = gained_lives at gift offer tx u.here (can_gain s.core offer at && not (has_key_of s.pairs gift.pairs)) in
       mine_cut lives.0 (ap (eff (decisions ys)) is ∙ eff_by (decisions ys) s (Promised tx offer) here_lock ∙ ap (λ x. living (after_outcome x tx s)) (ap outcome_of there ∙ out)
       ∙ ap living (promise_settled o tx s offer refl here_lock) ∙ lives.1)
   finish_cut tx y at gift there out (Watching t watch) lock e =
-      let here_lock : s.core.lock ≡ Watching tx watch = lock ∙ ap (λ n. Watching n watch) (some_is t tx e) in
+      let here_lock : s.core.lock ≡ Watching tx watch = lock ∙ ap (λ n. Watching n watch) (same_Some t tx e) in
       let u = subst (LockOk ys g s) here_lock (k.kept.0.group g s is).lock_ok in
       let o : Outcome = Moved at (Some gift) in
       let end = party_freed (watcher_after o s watch) tx in

@@ -1,8 +1,8 @@
 -- The ring, the history and the map of allowed entries.
 use Rattle.std.proofs.Common.{sym, ◌∙◌, ap}
+use Rattle.std.proofs.lemmas.Option.{same_Some}
 use Rattle.sc_machine_table.specs.Group.{Group}
 use Rattle.sc_ring_law.specs.Allowed.{first_told}
-use Rattle.sc_entries.proofs.Names.{some_is}
 use Rattle.sc_ring_law.proofs.Sound.{entries_keep_the_ring}
 use Rattle.sc_ring_law.proofs.Start.{at_start}
 use Rattle.sc_hist_law.specs.Telling.{EntriesThatMayBeToldTell}
@@ -17,7 +17,7 @@ one_map telling sources bases entries start bare allowed =
     record {
       ring = ring;
       legal = told.told.legal;
-      parts = λ cut among. told.parts cut among (λ group is. (let p = ring.placed cut among in ap (λ (x : Group). x.core.arc) (some_is group p.group (sym is ∙ p.is)) ∙ p.arc));
+      parts = λ cut among. told.parts cut among (λ group is. (let p = ring.placed cut among in ap (λ (x : Group). x.core.arc) (same_Some group p.group (sym is ∙ p.is)) ∙ p.arc));
       notes = told.notes;
     }
 

@@ -128,9 +128,6 @@ module _ (sources : Sources) (ahead : Ahead) (bases : List Base) (start : BeginI
     -- ---- one more row
 
     module _ (row : Row Mail OrderLine) (turn : FoundInTurn sources ahead bases before row) where
-      abbrev next : Rows
-      next = before ++ row ∷ []
-
       abbrev added : Base → List Command
       added base = added_by ahead before row base
 

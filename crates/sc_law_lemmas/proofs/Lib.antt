@@ -1,3 +1,4 @@
 pub mod Ballots
+pub mod Calls
 pub mod Places
 pub mod Ways

@@ -1,17 +1,25 @@
 -- What holds of a replica with its mails, and is kept by the parts of a row, is kept by the row.
-use Rattle.std.proofs.Common.{ℕ, not, nat_le, nat_lt, Bool, true, List, [], ◌∷◌, filter, Option, Some, None}
+use Rattle.std.proofs.Common.{ℕ, ◌||◌, not, nat_le, nat_lt, Bool, true, List, [], ◌∷◌, filter, Option, Some, None}
 use Rattle.sc_base.specs.declared.names.Ballot.{Ballot}
 use Rattle.sc_cmd.specs.declared.commands.Command.{Command}
 use Rattle.sc_member.specs.Roster.{is_member}
+use Rattle.sc_paxos_words.specs.Leaders.{without_flight_at}
 use Rattle.sc_paxos_words.specs.Logs.{entry_at}
 use Rattle.sc_paxos_words.specs.Preparing.{prepared}
-use Rattle.sc_node_table.specs.Execute.{welcomed, executed_one, next_ready, executed_ready, all_ready, executed}
+use Rattle.sc_node_table.specs.Execute.{welcomed, slot_lost, landed, executed_one, next_ready, executed_ready, all_ready, executed}
 use Rattle.sc_node_table.specs.Install.{install_to, welcomed_all}
 use Rattle.sc_node_table.specs.Pump.{pumped}
-use Rattle.sc_node_table.specs.Replica.{Place, members, next}
+use Rattle.sc_node_table.specs.Queues.{put_back}
+use Rattle.sc_node_table.specs.Replica.{ReplicaState, Place, members, next, flying}
 use Rattle.sc_node_table.specs.Rows.{taught, most_taught, ask_answered, ask_row}
+use Rattle.sc_node_table.specs.Sameness.{same_command}
+use Rattle.sc_node_table.specs.Slots.{without_slot}
 use Rattle.sc_node_table.specs.Voting.{promise_to, promised}
 use Rattle.sc_law_lemmas.proofs.Ways.{either_way}
+
+-- a place with nothing in flight or ready at a slot
+abbrev pub cleared : ℕ → Place → Place
+cleared slot (r, mails) = (record r { leader = without_flight_at slot r.leader; ready = without_slot r.ready slot }, mails)
 
 module _ (F : Place → Type 0) where
   -- those that an entry added are welcomed
@@ -35,6 +43,19 @@ module _ (F : Place → Type 0) where
   unfolding ask_row
   asked_place from slot (r, mails) f install teach =
       either_way F (nat_lt slot (next r)) (ask_answered (entry_at slot r.log) from slot (r, mails)) (r, mails) (answered_by (entry_at slot r.log) from slot (r, mails) install teach) f
+
+  -- ---- a slot that is decided: O holds of what was under way there, if anything was
+
+  module _ (O : Option Command → Type 0) (back : (command : Command) (place : Place) → O (Some command) → F place → F (put_back command place.0, place.1)) where
+    lost_by : (counted : Bool) (command : Command) (o : Option Command) (place : Place) → O o → F place → F (slot_lost counted command o place.0, place.1)
+    lost_by counted command None place k f = f
+    lost_by counted command (Some other) (r, mails) k f =
+        either_way (λ (x : ReplicaState). F (x, mails)) (counted || same_command other command) r (put_back other r) f (back other (r, mails) k f)
+
+    -- what was under way there goes back, if it lost the slot
+    pub landed_place : (counted : Bool) (slot : ℕ) (command : Command) (place : Place) → O (flying place.0 slot) → F (cleared slot place) → F (landed counted slot command place)
+    unfolding landed
+    landed_place counted slot command (r, mails) k f = lost_by counted command (flying r slot) (cleared slot (r, mails)) k f
 
   -- ---- an execution: O holds of what is ready next, if anything is
 

@@ -1,7 +1,18 @@
--- One of two values.
-use Rattle.std.proofs.Common.{Bool, cond}
+-- One of two values, and the first of two that is there.
+use Rattle.std.proofs.Common.{◌≡◌, Bool, cond, Option, Some, None, refl}
 use Rattle.std.proofs.lemmas.Bool.{cond_both}
+use Rattle.sc_node_table.specs.Replica.{either}
 
 -- whichever it is
 pub either_way : {A : Type 0} (P : A → Type 0) (b : Bool) (x y : A) → P x → P y → P (cond b x y)
 either_way P b x y p q = cond_both b x y P (λ _. p) (λ _. q)
+
+-- which of three is there first, whichever two are asked first
+pub either_assoc : {X : Type 0} (a b c : Option X) → either (either a b) c ≡ either a (either b c)
+either_assoc None b c = refl
+either_assoc (Some x) b c = refl
+
+-- nothing behind changes nothing
+pub either_none : {X : Type 0} (a : Option X) → either a None ≡ a
+either_none None = refl
+either_none (Some x) = refl

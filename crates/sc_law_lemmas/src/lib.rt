@@ -1,3 +1,4 @@
-//! Lemmas that several laws cite, of either of two values, of ballots, and of what holds of a
-//! replica with its mails through the rows of its table. No definitions, no logic.
+//! Lemmas that several laws cite, of either of two values, of ballots, of the queue of calls, and
+//! of what holds of a replica with its mails through the rows of its table. No definitions, no
+//! logic.
 #![tactic(auto)]

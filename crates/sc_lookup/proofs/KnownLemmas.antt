@@ -6,8 +6,7 @@ use Rattle.indexmap.specs.IndexMap.{insert_entry}
 use Rattle.sc_base.specs.declared.names.Draw.{Draw}
 use Rattle.sc_base.specs.Same.{same_draw}
 use Rattle.sc_lookup.specs.declared.ways.Way.{Way}
-use Rattle.std.specs.Prelude.{is_some, Result, Ok, Err, OnOk, OnErr, IsOk}
-use Rattle.sc_base.specs.declared.dups.OutOfMemory.{OutOfMemory}
+use Rattle.std.specs.Prelude.{is_some, Result, Ok, Err, OnOk, IsOk}
 use Rattle.sc_lookup.specs.Ways.{new_way}
 use Rattle.sc_lookup.specs.Known.{Known, way_to, changed, group_learnt}
 
@@ -47,11 +46,6 @@ some_learnt group lo members known =
       | None ↦ λ e. some_added known (group, new_way lo members)
       | Some way ↦ λ e. omega (arith, some_known group known way e, length-changed (λ way. record way { lo = lo }) group known (Some way))
     ] refl
-
--- what was learnt, or was there before, has some group
-pub some_left : (result : Result (Unit {0}) OutOfMemory) (new more old : Known) → OnOk result (new ≡ more) → OnErr result (new ≡ old) → 1 ≤ length more → 1 ≤ length old → 1 ≤ length new
-some_left (Ok done) new more old ok err some some' = omega (arith, ap length ok)
-some_left (Err fault) new more old ok err some some' = omega (arith, ap length err)
 
 -- what holds where a call is done holds of a call that is done
 pub of_done : {T E P : Type 0} (result : Result T E) → OnOk result P → IsOk result → P

@@ -1,7 +1,7 @@
 -- Cuts of which each is followed by another, and of which no two have a position in common, share the circle out.
 use Rattle.std.proofs.Common.{◌≡◌, ◌≢◌, ℕ, zero, suc, ◌+◌, ◌-◌, ◌%◌, ◌^◌, ◌<◌, ◌≤◌, ltb, eqb, not, Bool, true, false, ◌||◌, List, [], ◌∷◌, length, inl, inr, refl, sym, ◌∙◌, ap, subst, arith}
 use Rattle.std.specs.List.{All, AllPairs, list_all, list_any}
-use Rattle.std.proofs.lemmas.Bool.{cases_Bool, cases_lt, ltb-true, lt-ltb, and_parts, and_from}
+use Rattle.std.proofs.lemmas.Bool.{cases_Bool, cases_lt, ltb-true, lt-ltb, and_parts, and_from, or_right}
 use Rattle.std.proofs.lemmas.List.Kept.{AllPairs-cons}
 use Rattle.std.proofs.lemmas.List.Elements.{All-nil, All-cons}
 use Rattle.sc_base.proofs.NameLemmas.{draw_is, same_name}
@@ -11,6 +11,7 @@ use Rattle.sc_base.specs.Same.{same_draw}
 use Rattle.sc_entries.specs.declared.Cut.{Cut}
 use Rattle.sc_entries.specs.Rings.{Covers}
 use Rattle.sc_map_checks.specs.Covering.{is_beside, is_other, are_others, is_followed}
+use Rattle.sc_member.proofs.Pairs.{AllPairs-head, AllPairs-tail}
 
 -- an arc of the circle that starts on it
 abbrev pub IsOn : Cut → Type 0
@@ -61,21 +62,13 @@ found : {X : Type 0} (test : X → Bool) (xs : List X) → list_any test xs ≡ 
 found test [] t = absurd (let no : false ≡ true = t in cc)
 found {X} test (x ∷ xs) t = elim (cases_Bool (test x)) [
   | inl here ↦ (x, inl refl, here)
-  | inr not_here ↦ (let there = found test xs (later (test x) (list_any test xs) not_here t) in (there.0, inr there.1, there.2))
+  | inr not_here ↦ (let there = found test xs (sym (ap (λ (a : Bool). a || list_any test xs) not_here) ∙ t) in (there.0, inr there.1, there.2))
 ]
-  where
-    later : (a b : Bool) → a ≡ false → (a || b) ≡ true → b ≡ true
-    later true b f e = absurd (let no : true ≡ false = f in cc)
-    later false b f e = e
 
 any_among : {X : Type 0} (test : X → Bool) (xs : List X) (x : X) → Among x xs → test x ≡ true → list_any test xs ≡ true
 any_among test [] x a t = elim a [ ]
 any_among {X} test (y ∷ xs) x (inl same) t = ap (λ (b : Bool). b || list_any test xs) (ap test same ∙ t)
-any_among test (y ∷ xs) x (inr there) t = either (test y) (any_among test xs x there t)
-  where
-    either : (b : Bool) → list_any test xs ≡ true → (b || list_any test xs) ≡ true
-    either true e = refl
-    either false e = e
+any_among test (y ∷ xs) x (inr there) t = or_right (test y) (list_any test xs) (any_among test xs x there t)
 
 all_among : {X : Type 0} (test : X → Bool) (xs : List X) (x : X) → list_all test xs ≡ true → Among x xs → test x ≡ true
 all_among test [] x all a = elim a [ ]
@@ -160,13 +153,17 @@ covers_by cut cuts others followed all =
       apart = no_group_twice ring others;
     }
 
+-- two cuts are of two groups
+abbrev Apart : Cut → Cut → Type 0
+Apart cut other = cut.group ≢ other.group
+
 covers_others : (ring : List Cut) → ((cut : Cut) → Among cut ring → IsOn cut)
     → ((p : ℕ) → p < 2 ^ 32 → (cut other : Cut) → Among cut ring → Among other ring → holds cut.arc p ≡ true → holds other.arc p ≡ true → cut ≡ other)
-    → AllPairs (λ (cut other : Cut). cut.group ≢ other.group) ring → are_others ring ≡ true
+    → AllPairs Apart ring → are_others ring ≡ true
 covers_others [] on only apart = refl
 covers_others (x ∷ ring) on only apart =
-    and_from (list_all (is_other x) ring) (are_others ring) (others ring (λ o a. a) (λ k d lt. apart 0 (suc k) d (omega arith) (omega (arith, lt))))
-    (covers_others ring (λ c a. on c (inr a)) (λ p small c o a b. only p small c o (inr a) (inr b)) (λ i j d lt within. apart (suc i) (suc j) d (omega (arith, lt)) (omega (arith, within))))
+    and_from (list_all (is_other x) ring) (are_others ring) (others ring (λ o a. a) (AllPairs-head Apart x ring apart))
+    (covers_others ring (λ c a. on c (inr a)) (λ p small c o a b. only p small c o (inr a) (inr b)) (AllPairs-tail Apart x ring apart))
   where
     false_not : (b : Bool) → (b ≡ true → ⊥) → not b ≡ true
     false_not true never = absurd (never refl)

@@ -1,24 +1,9 @@
 -- No number of a client stands twice among entries.
-use Rattle.std.proofs.Common.{◌≡◌, ℕ, zero, suc, ◌+◌, ◌<◌, ◌≤◌, Bool, true, false, List, [], ◌∷◌, length, take, get_or, ◌⊎◌, inl, inr, refl, sym, ◌∙◌, ap, subst, arith}
+use Rattle.std.proofs.Common.{◌≡◌, ℕ, zero, suc, ◌+◌, ◌<◌, Bool, true, false, List, length, take, get_or, ◌⊎◌, inl, inr, refl, sym, ◌∙◌, ap, subst, arith}
 use Rattle.std.specs.List.{All, AllPairs}
+use Rattle.std.proofs.lemmas.List.{get_or_default, get_or-take, length-take-le}
 use Rattle.sc_ideal.specs.declared.Entry.{Entry}
 use Rattle.sc_ideal.specs.History.{AreApart}
-
-one_default : {X : Type 0} (xs : List X) (i : ℕ) (d e : X) → i < length xs → get_or xs i d ≡ get_or xs i e
-one_default [] i d e lt = absurd (omega (arith, lt))
-one_default (x ∷ xs) zero d e lt = refl
-one_default (x ∷ xs) (suc i) d e lt = one_default xs i d e (omega (arith, lt))
-
-in_front : {X : Type 0} (xs : List X) (n i : ℕ) (d : X) → i < n → get_or (take n xs) i d ≡ get_or xs i d
-in_front xs zero i d lt = absurd (omega (arith, lt))
-in_front [] (suc n) i d lt = refl
-in_front (x ∷ xs) (suc n) zero d lt = refl
-in_front (x ∷ xs) (suc n) (suc i) d lt = in_front xs n i d (omega (arith, lt))
-
-front_length : {X : Type 0} (xs : List X) (n : ℕ) → n ≤ length xs → length (take n xs) ≡ n
-front_length xs zero le = refl
-front_length [] (suc n) le = absurd (omega (arith, le))
-front_length (x ∷ xs) (suc n) le = ap suc (front_length xs n (omega (arith, le)))
 
 before_or_here : (i n : ℕ) → i < n + 1 → (i < n) ⊎ (i ≡ n)
 before_or_here zero zero lt = inr refl
@@ -35,11 +20,11 @@ more_pairs xs n x apart within here tells is so_far i j d lt most = elim (before
   | inl before ↦ so_far i j d lt before
   | inr last ↦ (
       let all : All (λ (other : Entry). AreApart other x) (take n xs) = tells.0 is in
-      let long : length (take n xs) ≡ n = front_length xs n (omega (arith, within)) in
+      let long : length (take n xs) ≡ n = length-take-le n xs (omega (arith, within)) in
       let small : i < n = omega (arith, lt, last) in
       let one : AreApart (get_or (take n xs) i d) x = all i d (omega (arith, small, long)) in
-      let other : get_or (take n xs) i d ≡ get_or xs i d = in_front xs n i d small in
-      let this : x ≡ get_or xs j d = here ∙ one_default xs n x d within ∙ ap (λ (k : ℕ). get_or xs k d) (sym last) in
+      let other : get_or (take n xs) i d ≡ get_or xs i d = get_or-take n xs i d small in
+      let this : x ≡ get_or xs j d = here ∙ get_or_default xs n x d within ∙ ap (λ (k : ℕ). get_or xs k d) (sym last) in
       subst (λ (y : Entry). AreApart (get_or xs i d) y) this (subst (λ (y : Entry). AreApart y x) other one))
 ]
 
@@ -50,10 +35,10 @@ pub twice : (xs : List Entry) (n : ℕ) (x : Entry) (apart : Bool) → n < lengt
 twice xs n x apart within here tells not = (
   (λ t. let no : false ≡ true = t in cc),
   (λ all.
-      let long : length (take n xs) ≡ n = front_length xs n (omega (arith, within)) in
+      let long : length (take n xs) ≡ n = length-take-le n xs (omega (arith, within)) in
       let each : All (λ (other : Entry). AreApart other x) (take n xs) =
       λ i d lt.
       let small : i < n = omega (arith, lt, long) in
-      subst (λ (y : Entry). AreApart y x) (sym (in_front xs n i d small)) (subst (λ (y : Entry). AreApart (get_or xs i d) y) (one_default xs n d x within ∙ sym here) (all i n d small within)) in
+      subst (λ (y : Entry). AreApart y x) (sym (get_or-take n xs i d small)) (subst (λ (y : Entry). AreApart (get_or xs i d) y) (get_or_default xs n d x within ∙ sym here) (all i n d small within)) in
       sym not ∙ tells.1 each),
 )

@@ -46,9 +46,9 @@ fn is_once(entries: &[Entry]) -> bool
     true
 }
 
-/// Whether a history is legal: replaying its operations in order on one empty map gives its replies,
-/// and no client's number stands twice (the sequential object of linearizability: Herlihy and Wing,
-/// 1990). Refused only for want of memory.
+/// Whether a history is legal: replaying its operations in order on one empty map gives its
+/// replies, and no client's number stands twice (the sequential object of linearizability: Herlihy
+/// and Wing, 1990). Refused only for want of memory.
 pub fn legal(alloc: Global, entries: &[Entry]) -> Result<bool, OutOfMemory>
     ensures { IfOk result (λ is_legal. IsTrue is_legal ↔ Legal entries.now) }
 {

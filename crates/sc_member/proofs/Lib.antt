@@ -1,4 +1,5 @@
 mod Meeting
 mod SetLemmas
+pub mod Pairs
 pub mod Rising
 pub mod UnionLemmas

@@ -8,26 +8,19 @@ use Rattle.std.proofs.lemmas.List.Elements.{All-cons, All-tail, All-head, All-ap
 use Rattle.std.proofs.lemmas.List.{length-append}
 use Rattle.sc_member.specs.Roster.{IsRoster, is_member, with_member, without_member}
 use Rattle.sc_member.proofs.SetLemmas.{split_length, length-filter-le}
+use Rattle.sc_member.proofs.Pairs.{AllPairs-head, AllPairs-tail}
 
 -- one node is below another
 abbrev pub Below : ℕ → ℕ → Type 0
 Below x y = x < y
-
--- the first of nodes that rise is below the others, and they rise too
-pub head_below : (x : ℕ) (xs : List ℕ) → AllPairs Below (x ∷ xs) → All (Below x) xs
-head_below x xs up = All-from_get_or (Below x) xs 0 (λ i within. up 0 (suc i) 0 (omega arith) (omega arith))
-
--- the rest of a rising list rises
-pub tail_up : (x : ℕ) (xs : List ℕ) → AllPairs Below (x ∷ xs) → AllPairs Below xs
-tail_up x xs up i j d lt within = up (suc i) (suc j) d (omega arith) (omega arith)
 
 joined : (low : List ℕ) (n : ℕ) (high : List ℕ) → AllPairs Below low → All (λ x. x < n) low → AllPairs Below high → All (Below n) high → AllPairs Below (low ++ n ∷ high)
 joined [] n high up under up' over = AllPairs-cons Below n high over up'
 joined (x ∷ low) n high up under up' over =
     let lt : x < n = All-head (λ y. y < n) x low under in
     AllPairs-cons Below x (low ++ n ∷ high)
-    (All-append (Below x) low (n ∷ high) (head_below x low up) (All-cons (Below x) n high lt (All-weaker (Below n) (Below x) (λ y h. omega arith) high over)))
-    (joined low n high (tail_up x low up) (All-tail (λ y. y < n) x low under) up' over)
+    (All-append (Below x) low (n ∷ high) (AllPairs-head Below x low up) (All-cons (Below x) n high lt (All-weaker (Below n) (Below x) (λ y h. omega arith) high over)))
+    (joined low n high (AllPairs-tail Below x low up) (All-tail (λ y. y < n) x low under) up' over)
 
 ascending_with : (members : List ℕ) (n : ℕ) → IsStrictlyIncreasing members → IsStrictlyIncreasing (with_member members n)
 ascending_with members n up =

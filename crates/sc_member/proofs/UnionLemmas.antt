@@ -10,7 +10,8 @@ use Rattle.sc_member.specs.Roster.{is_member, with_member}
 use Rattle.sc_member.specs.Faults.{add_fault}
 use Rattle.sc_member.specs.Union.{with_any, united}
 use Rattle.sc_member.proofs.Meeting.{length_with}
-use Rattle.sc_member.proofs.Rising.{head_below, tail_up}
+use Rattle.sc_member.proofs.Rising.{Below}
+use Rattle.sc_member.proofs.Pairs.{AllPairs-head, AllPairs-tail}
 
 -- a set does not shrink
 pub grows_by : (members : List ℕ) (node : ℕ) → length members ≤ length (with_any members node)
@@ -88,9 +89,9 @@ pub count_united : (members others : List ℕ) → IsStrictlyIncreasing others �
 count_united members [] up = omega arith
 count_united members (node ∷ others) up =
     let pairs = AllPairs-from_increasing (node ∷ others) up in
-    let rises : IsStrictlyIncreasing others = λ k within. tail_up node others pairs k (k + 1) 0 (omega arith) within in
+    let rises : IsStrictlyIncreasing others = λ k within. AllPairs-tail Below node others pairs k (k + 1) 0 (omega arith) within in
     let rest = count_united (with_any members node) others rises in
-    let same = ap length (same_strangers members node others (head_below node others pairs)) in
+    let same = ap length (same_strangers members node others (AllPairs-head Below node others pairs)) in
     elim (cases_Bool (is_member members node)) [
       | inl t ↦ (
           let here = ap length (cond-true (is_member members node) members (with_member members node) t) in

@@ -1,8 +1,10 @@
 -- Elements of lists, and what is found first.
-use Rattle.std.proofs.Common.{◌≡◌, Bool, true, false, cond, List, [], ◌∷◌, ◌++◌, filter, Some, None, inl, inr, refl, sym, ◌∙◌, ap, subst}
-use Rattle.std.specs.List.{find}
+use Rattle.std.proofs.Common.{◌≡◌, ◌≢◌, Bool, true, false, cond, List, [], ◌∷◌, ◌++◌, filter, Some, None, inl, inr, refl, sym, ◌∙◌, ap, subst, arith}
+use Rattle.std.specs.List.{All, AllPairs, find}
+use Rattle.std.proofs.lemmas.List.Elements.{All-tail}
 use Rattle.std.proofs.lemmas.Bool.{cases_Bool, cond-true, cond-false}
 use Rattle.sc_base.specs.Among.{Among, Each}
+use Rattle.sc_member.proofs.Pairs.{AllPairs-head, AllPairs-tail}
 
 -- what holds of each holds of one among them
 pub Each-among : {X : Type 0} (P : X → Type 0) (xs : List X) (x : X) → Each P xs → Among x xs → P x
@@ -23,6 +25,33 @@ Each-weaker P Q f (x ∷ xs) e = (f x e.0, Each-weaker P Q f xs e.1)
 pub Each-append : {X : Type 0} (P : X → Type 0) (xs ys : List X) → Each P xs → Each P ys → Each P (xs ++ ys)
 Each-append P [] ys e f = f
 Each-append P (x ∷ xs) ys e f = (e.0, Each-append P xs ys e.1 f)
+
+-- what holds of each, and of one more behind them
+pub Each-push : {X : Type 0} (P : X → Type 0) (xs : List X) (x : X) → Each P xs → P x → Each P (xs ++ x ∷ [])
+Each-push P xs x e here = Each-append P xs (x ∷ []) e (here, tt)
+
+-- what holds of each of two lists in a row holds of each of the first, and of each of the second
+pub Each-split : {X : Type 0} (P : X → Type 0) (xs ys : List X) → Each P (xs ++ ys) → Each P xs × Each P ys
+Each-split P [] ys e = (tt, e)
+Each-split P (x ∷ xs) ys e = (let rest = Each-split P xs ys e.1 in ((e.0, rest.0), rest.1))
+
+-- what holds at each place holds of each
+pub Each-from_All : {X : Type 0} (P : X → Type 0) (xs : List X) → All P xs → Each P xs
+Each-from_All P [] all = tt
+Each-from_All P (x ∷ xs) all = (all 0 x (omega arith), Each-from_All P xs (All-tail P x xs all))
+
+-- where no two elements have one name, there is one of a name
+pub one_of_name : {X N : Type 0} (name : X → N) (xs : List X) → AllPairs (λ x y. name x ≢ name y) xs → (x y : X) → Among x xs → Among y xs → name x ≡ name y → x ≡ y
+one_of_name name [] all x y a b e = absurd a
+one_of_name {X} name (z ∷ zs) all x y a b e =
+    let apart = Each-from_All (λ (w : X). name z ≢ name w) zs (AllPairs-head (λ v w. name v ≢ name w) z zs all) in
+    elim a [
+      | inl is ↦ elim b [ inl its ↦ sym is ∙ its | inr m ↦ absurd (Each-among (λ (w : X). name z ≢ name w) zs y apart m (ap name is ∙ e)) ]
+      | inr m ↦ elim b [
+        | inl its ↦ absurd (Each-among (λ (w : X). name z ≢ name w) zs x apart m (ap name its ∙ sym e))
+        | inr n ↦ one_of_name name zs (AllPairs-tail (λ v w. name v ≢ name w) z zs all) x y m n e
+      ]
+    ]
 
 filter-yes : {X : Type 0} (p : X → Bool) (x : X) (xs : List X) → p x ≡ true → filter p (x ∷ xs) ≡ x ∷ filter p xs
 filter-yes p x xs t = cond-true (p x) (x ∷ filter p xs) (filter p xs) t

@@ -17,6 +17,7 @@ use Rattle.sc_base.proofs.AscendingLemmas.{is_less}
 use Rattle.sc_policy.specs.Wishes.{positions}
 use Rattle.sc_policy.specs.Laws.{far_from, KeysRiseFromTheStart}
 use Rattle.sc_policy.proofs.Fronts.{are_bytes, pos_le, pos_small}
+use Rattle.sc_member.proofs.Pairs.{AllPairs-head, AllPairs-tail}
 
 abbrev HasKey : List ℕ × List ℕ → Type 0
 HasKey pair = IsText longest_key pair.0
@@ -90,9 +91,8 @@ module _ (lo : ℕ) (lo_small : lo < 2 ^ 32) where
   joined [] qs up upper up' lower = up'
   joined (p ∷ ps) qs up upper up' lower =
       let own : Upper p = All-head Upper p ps upper in
-      let others : All (Nearer p) ps = λ k d lt. up 0 (suc k) d (omega arith) (omega (arith, lt)) in
-      AllPairs-cons Nearer p (ps ++ qs) (All-append (Nearer p) ps qs others (All-weaker Lower (Nearer p) (λ q b. crossing p q own b) qs lower))
-      (joined ps qs (λ i j d lt within. up (suc i) (suc j) d (omega (arith, lt)) (omega (arith, within))) (All-tail Upper p ps upper) up' lower)
+      AllPairs-cons Nearer p (ps ++ qs) (All-append (Nearer p) ps qs (AllPairs-head Nearer p ps up) (All-weaker Lower (Nearer p) (λ q b. crossing p q own b) qs lower))
+      (joined ps qs (AllPairs-tail Nearer p ps up) (All-tail Upper p ps upper) up' lower)
 
 split : (p q : ℕ → Bool) → ((x : ℕ) → q x ≡ not (p x)) → (xs : List ℕ) → length (filter p xs) + length (filter q xs) ≡ length xs
 split p q other [] = refl

@@ -1,5 +1,5 @@
 -- The queue of calls while entries are executed.
-use Rattle.std.proofs.Common.{ℕ, ◌||◌, eqb, Bool, true, cond, List, Option, Some, None}
+use Rattle.std.proofs.Common.{ℕ, eqb, Bool, true, cond, List, Option, Some, None}
 use Rattle.sc_cmd.specs.declared.commands.Command.{Command}
 use Rattle.sc_cmd.specs.declared.commands.Command.TheVariants.{Call}
 use Rattle.sc_cmd.specs.declared.effects.Effect.{Effect}
@@ -9,17 +9,13 @@ use Rattle.sc_mail.specs.declared.bodies.AnswerBody.{AnswerBody}
 use Rattle.sc_mail.specs.declared.bodies.AnswerBody.TheVariants as Says
 use Rattle.sc_member.specs.Roster.{is_member, least_of}
 use Rattle.sc_machine_table.specs.Machine.{applied}
-use Rattle.sc_paxos_words.specs.Leaders.{without_flight_at}
 use Rattle.sc_node_table.specs.declared.Before.{Before}
 use Rattle.sc_node_table.specs.Election.{elected, stopped}
-use Rattle.sc_node_table.specs.Execute.{entered, answer_of, told_call, order_result, told_effect, announced, learnt_to, welcomed, slot_lost, landed, left_gone, left, is_among, looked_for, looked, executed_one, executed}
-use Rattle.sc_node_table.specs.Queues.{put_back}
-use Rattle.sc_node_table.specs.Replica.{ReplicaState, Place, next, members, flying, forgotten}
-use Rattle.sc_node_table.specs.Sameness.{same_command}
-use Rattle.sc_node_table.specs.Slots.{without_slot}
+use Rattle.sc_node_table.specs.Execute.{entered, answer_of, told_call, order_result, told_effect, announced, learnt_to, welcomed, landed, left_gone, left, is_among, looked_for, looked, executed_one, executed}
+use Rattle.sc_node_table.specs.Replica.{ReplicaState, Place, next, members, forgotten}
 use Rattle.sc_node_table.specs.Spoken.{before_of, spoken}
 use Rattle.sc_queue_law.specs.OneCall.{KeepsOneCall}
-use Rattle.sc_law_lemmas.proofs.Places.{welcomed_place, executed_place}
+use Rattle.sc_law_lemmas.proofs.Places.{welcomed_place, executed_place, landed_place}
 use Rattle.sc_law_lemmas.proofs.Ways.{either_way}
 use Rattle.sc_queue_law.proofs.Queueing.{Keeps, back_keeps, pumped_keeps, ended_keeps, elected_keeps, welcomed_keeps}
 
@@ -54,13 +50,8 @@ unfolding learnt_to
 learnt_keeps counted nodes slot command (r, mails) k = either_way Keeps counted _ _ k k
 
 -- a command that lost its slot goes back
-lost_keeps : (counted : Bool) (command : Command) (o : Option Command) (r : ReplicaState) → KeepsOneCall r → KeepsOneCall (slot_lost counted command o r)
-lost_keeps counted command None r k = k
-lost_keeps counted command (Some other) r k = either_way KeepsOneCall (counted || same_command other command) r (put_back other r) k (back_keeps other r k)
-
 landed_keeps : (counted : Bool) (slot : ℕ) (command : Command) (place : Place) → Keeps place → Keeps (landed counted slot command place)
-unfolding landed
-landed_keeps counted slot command (r, mails) k = lost_keeps counted command (flying r slot) (record r { leader = without_flight_at slot r.leader; ready = without_slot r.ready slot }) k
+landed_keeps counted slot command place k = landed_place Keeps (λ _. Unit {0}) (λ other p o q. back_keeps other p.0 q) counted slot command place tt k
 
 gone_keeps : (gone : Option Route) (place : Place) → Keeps place → Keeps (left_gone gone place)
 gone_keeps (Some into) place k = ended_keeps None (Says.Gone into) place

@@ -1,15 +1,13 @@
 -- The queue of calls: what goes back to it, what is offered from it, and where it is emptied.
-use Rattle.std.proofs.Common.{◌≡◌, ℕ, ◌+◌, ◌-◌, ◌^◌, ◌&&◌, nat_le, nat_lt, eqb, refl, Bool, List, [], ◌∷◌, ◌++◌, Option, Some, None}
+use Rattle.std.proofs.Common.{◌≡◌, ℕ, ◌+◌, ◌-◌, ◌^◌, ◌&&◌, nat_le, nat_lt, eqb, refl, List, [], ◌∷◌, ◌++◌, Option, Some, None}
 use Rattle.std.specs.Prelude.{is_some}
 use Rattle.std.specs.List.{list_any}
 use Rattle.sc_base.specs.declared.names.Ballot.{Ballot}
 use Rattle.sc_base.specs.declared.ops.Op.{Op}
 use Rattle.sc_cmd.specs.declared.commands.Command.{Command}
 use Rattle.sc_cmd.specs.declared.commands.Command.TheVariants.{Call}
-use Rattle.sc_cmd.specs.declared.cores.Core.{Core}
 use Rattle.sc_mail.specs.declared.bodies.AnswerBody.{AnswerBody}
 use Rattle.sc_mail.specs.declared.bodies.AnswerBody.TheVariants as Says
-use Rattle.sc_mail.specs.declared.bodies.Mail.{Mail}
 use Rattle.sc_paxos_words.specs.declared.answers.Must.{Must}
 use Rattle.sc_paxos_words.specs.declared.answers.Must.TheVariants.{Value, Gap, Free as Open}
 use Rattle.sc_paxos_words.specs.Ballots.{below}
@@ -17,13 +15,13 @@ use Rattle.sc_paxos_words.specs.Leaders.{must}
 use Rattle.sc_node_table.specs.Acts.{has_act, with_act, act_queued}
 use Rattle.sc_node_table.specs.Election.{elected, ended, saw}
 use Rattle.sc_node_table.specs.Install.{install_to, asked_to_promise, welcomed_all}
-use Rattle.sc_node_table.specs.Mails.{answered}
-use Rattle.sc_node_table.specs.Pump.{Found, is_act, waits, turned_down, next_call, from_calls, from_acts, from_queues, found_by, found_for, offered, pumped_from, pumped}
+use Rattle.sc_node_table.specs.Pump.{Found, is_act, from_calls, from_acts, from_queues, found_by, found_for, offered, pumped_from, pumped}
 use Rattle.sc_node_table.specs.Queues.{call_of, without_call, call_before, put_back}
 use Rattle.sc_node_table.specs.Replica.{ReplicaState, Place, next, settled, may_offer, taken_at, under_way, is_idle, last_slot}
 use Rattle.sc_queue_law.specs.OneCall.{KeepsOneCall}
 use Rattle.sc_queue_law.proofs.Lists.{One, one_none, one_rest, one_first, one_without, none_left, none_found}
 use Rattle.sc_law_lemmas.proofs.Ways.{either_way}
+use Rattle.sc_law_lemmas.proofs.Calls.{next_found}
 
 -- a place whose replica keeps at most one call of each client
 abbrev pub Keeps : Place → Type 0
@@ -43,28 +41,14 @@ back_keeps _ r k = k
 
 -- ---- the pump
 
--- what is left of the queue once a command is found in it
-abbrev Left : Option Command × List Command × List Mail → Type 0
-Left found = One found.1
-
-next_by : (me : ℕ) (idle : Bool) (core : Core) (command : Command) (calls : List Command) (mails : List Mail) (o : Option AnswerBody) → One calls → ((more : List Mail) → Left (next_call me idle core calls more))
-    → Left (elim o [ None ↦ (Some command, calls, mails) | Some answer ↦ next_call me idle core calls (answered me core.id answer command mails) ])
-next_by me idle core command calls mails None k more = k
-next_by me idle core command calls mails (Some answer) k more = more (answered me core.id answer command mails)
-
-next_keeps : (me : ℕ) (idle : Bool) (core : Core) (calls : List Command) (mails : List Mail) → One calls → Left (next_call me idle core calls mails)
-unfolding next_call
-next_keeps me idle core [] mails k = k
-next_keeps me idle core (command ∷ calls) mails k =
-    either_way Left (waits idle core.lock command) (None, command ∷ calls, mails) _ k
-    (next_by me idle core command calls mails (turned_down core command) (one_rest command calls k) (λ more. next_keeps me idle core calls more (one_rest command calls k)))
-
 abbrev FoundKeeps : Found → Type 0
 FoundKeeps found = Keeps found.1
 
 calls_keep : (place : Place) → Keeps place → FoundKeeps (from_calls place)
 unfolding from_calls
-calls_keep (r, mails) k = next_keeps r.me (is_idle r) r.group.core r.calls mails k
+calls_keep (r, mails) k =
+    next_found r.me (is_idle r) r.group.core (λ calls mails. One calls) (λ found. One found.1) (λ calls mails q. q) (λ command calls mails q. one_rest command calls q)
+    (λ command answer calls mails w e q. one_rest command calls q) r.calls mails k
 
 acts_keep : (acts : List Command) (place : Place) → Keeps place → FoundKeeps (from_acts acts place)
 acts_keep [] place k = calls_keep place k

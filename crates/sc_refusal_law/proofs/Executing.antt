@@ -1,5 +1,5 @@
 -- What an execution answers has its cause in the state before the entry, and what the replica is after it stands behind one entry more.
-use Rattle.std.proofs.Common.{◌≡◌, ◌<◌, ℕ, ◌&&◌, ◌||◌, nat_lt, eqb, Bool, true, cond, List, [], ◌∷◌, ◌++◌, Option, Some, None, refl, sym, ap, subst, ◌∙◌, arith, append-nil}
+use Rattle.std.proofs.Common.{◌≡◌, ◌<◌, ℕ, ◌&&◌, nat_lt, eqb, Bool, true, cond, List, [], ◌∷◌, ◌++◌, Option, Some, None, refl, sym, ap, subst, ◌∙◌, arith, append-nil}
 use Rattle.std.specs.FinMap.{get}
 use Rattle.std.proofs.lemmas.Bool.{cond_both, ltb-false, eqb-false}
 use Rattle.sc_base.specs.Limits.{client_actor}
@@ -24,20 +24,18 @@ use Rattle.sc_machine_table.specs.Group.{Group}
 use Rattle.sc_machine_table.specs.Logs.{state_after}
 use Rattle.sc_machine_table.specs.Machine.{applied, called, served, served_by_note}
 use Rattle.sc_machine_table.proofs.LogLemmas.{state_push}
-use Rattle.sc_paxos_words.specs.Leaders.{without_flight_at}
 use Rattle.sc_paxos_words.specs.Logs.{LogState}
 use Rattle.sc_node_table.specs.declared.Before.{Before}
 use Rattle.sc_node_table.specs.Election.{elected, ended, stopped}
-use Rattle.sc_node_table.specs.Execute.{entered, answer_of, told_call, order_result, told_effect, announced, learnt_to, welcomed, slot_lost, landed, left_gone, left, is_among, looked_for, looked, executed_one, has_room, next_ready, executed}
+use Rattle.sc_node_table.specs.Execute.{entered, answer_of, told_call, order_result, told_effect, announced, learnt_to, welcomed, landed, left_gone, left, is_among, looked_for, looked, executed_one, has_room, next_ready, executed}
 use Rattle.sc_node_table.specs.Mails.{sent_others, order_number}
 use Rattle.sc_node_table.specs.Pump.{serves_calls}
 use Rattle.sc_node_table.specs.Queues.{put_back}
-use Rattle.sc_node_table.specs.Replica.{ReplicaState, Place, name_of, next, members, flying, forgotten}
-use Rattle.sc_node_table.specs.Sameness.{same_command}
-use Rattle.sc_node_table.specs.Slots.{at_slot, without_slot}
+use Rattle.sc_node_table.specs.Replica.{ReplicaState, Place, name_of, next, members, forgotten}
+use Rattle.sc_node_table.specs.Slots.{at_slot}
 use Rattle.sc_node_table.specs.Spoken.{before_of, spoken}
 use Rattle.sc_draws_law.proofs.Lists.{opt_slot, slot_without, flight_without}
-use Rattle.sc_law_lemmas.proofs.Places.{welcomed_place, executed_place}
+use Rattle.sc_law_lemmas.proofs.Places.{welcomed_place, executed_place, landed_place, cleared}
 use Rattle.sc_law_lemmas.proofs.Ways.{either_way}
 use Rattle.sc_refusal_law.specs.Causes.{IsRefusedIn, RefusesCall, log_with, log_after}
 use Rattle.sc_refusal_law.proofs.Keeping.{Kept, KeptOne, Holds, back_kept, flying_kept}
@@ -204,16 +202,11 @@ module _ (start : ReplicaState) (A : Command → Type 0) (G : Draw → Type 0) w
       either_way F counted (r, sent_others r.me nodes (Learn (name_of r) slot command) mails) (r, mails)
       (f.0, resent start A G r mails _ f.1 (others_plain (Caused start A G f.1.entries f.1.refused) (caused_plain start A G f.1.entries f.1.refused) r.me nodes (Learn (name_of r) slot command) mails tt f.1.sent)) f
 
-  lost_fine : (counted : Bool) (command : Command) (o : Option Command) (r : ReplicaState) (mails : List Mail) → KeptOne A G o → F (r, mails) → F (slot_lost counted command o r, mails)
-  lost_fine counted command None r mails k f = f
-  lost_fine counted command (Some other) r mails k f =
-      either_way (λ (x : ReplicaState). F (x, mails)) (counted || same_command other command) r (put_back other r) f (back_fine other r mails k f)
-
-  landed_fine : (counted : Bool) (slot : ℕ) (command : Command) (place : Place) → F place → F (landed counted slot command place)
-  unfolding landed
-  landed_fine counted slot command (r, mails) f =
-      lost_fine counted command (flying r slot) (record r { leader = without_flight_at slot r.leader; ready = without_slot r.ready slot }) mails (flying_kept A G r slot f.0)
-      (record { calls = f.0.calls; acts = f.0.acts; flights = flight_without (Kept A G) slot r.leader.flights f.0.flights; ready = slot_without (Kept A G) r.ready slot f.0.ready; reports = f.0.reports }, f.1)
+  cleared_fine : (slot : ℕ) (place : Place) → F place → F (cleared slot place)
+  cleared_fine slot (r, mails) f = (
+    record { calls = f.0.calls; acts = f.0.acts; flights = flight_without (Kept A G) slot r.leader.flights f.0.flights; ready = slot_without (Kept A G) r.ready slot f.0.ready; reports = f.0.reports },
+    f.1,
+  )
 
   -- ---- the end of a leadership
 
@@ -270,7 +263,9 @@ module _ (start : ReplicaState) (A : Command → Type 0) (G : Draw → Type 0) w
       let place4 : Place = welcomed counted (members r) place3 in
       let f4 : F place4 = welcomed_place F (welcomed_fine start A G) counted (members r) place3 f3 in
       let place5 : Place = landed counted (next r) command place4 in
-      let f5 : F place5 = landed_fine counted (next r) command place4 f4 in
+      let f5 : F place5 =
+      landed_place F (KeptOne A G) (λ other p o g. back_fine other p.0 p.1 o g) counted (next r) command place4 (flying_kept A G place4.0 (next r) f4.0)
+      (cleared_fine (next r) place4 f4) in
       looked_fine (left place5) (left_fine place5 f5)
 
   ready_kept : (r : ReplicaState) → Holds A G r → KeptOne A G (next_ready r)

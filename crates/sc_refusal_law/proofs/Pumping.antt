@@ -29,6 +29,7 @@ use Rattle.sc_refusal_law.specs.Causes.{RefusesCall}
 use Rattle.sc_refusal_law.proofs.Keeping.{Kept, KeptAll, KeptOne, Flying, MustKept, with_calls, with_acts, must_kept}
 use Rattle.sc_refusal_law.proofs.Plain.{sent_one}
 use Rattle.sc_refusal_law.proofs.Standing.{Caused, CausedAnswer, caused_plain, Fine, resent, with_all, refused_answer}
+use Rattle.sc_law_lemmas.proofs.Calls.{next_found}
 
 -- why a call is turned down
 refused_so : (gone : Option Route) (group : Group) (client seq : ℕ) (op : Op) (answer : AnswerBody) → gone ≡ group.core.gone → serves_calls group.core.lock ≡ true → refused_by gone group.core op ≡ Some answer
@@ -75,18 +76,10 @@ module _ (start : ReplicaState) (A : Command → Type 0) (G : Draw → Type 0) (
         (turned_answer client seq op answer k (not-false (serves_calls group.core.lock) w) e) c
     turned_caused _ answer mails k w e c = c
 
-    next_by : (command : Command) (calls : List Command) (mails : List Mail) (o : Option AnswerBody) → turned_down group.core command ≡ o → waits idle group.core.lock command ≡ false → Kept A G command → KeptAll A G calls → C mails
-        → ((more : List Mail) → C more → Next (next_call me idle group.core calls more))
-        → Next (elim o [ None ↦ (Some command, calls, mails) | Some answer ↦ next_call me idle group.core calls (answered me group.core.id answer command mails) ])
-    next_by command calls mails None e w k ks c more = (k, ks, c)
-    next_by command calls mails (Some answer) e w k ks c more = more (answered me group.core.id answer command mails) (turned_caused command answer mails k w e c)
-
     pub next_fine : (calls : List Command) (mails : List Mail) → KeptAll A G calls → C mails → Next (next_call me idle group.core calls mails)
-    unfolding next_call
-    next_fine [] mails k c = (tt, tt, c)
-    next_fine (command ∷ calls) mails k c =
-        cond_both (waits idle group.core.lock command) (None, command ∷ calls, mails) (elim (turned_down group.core command) [ None ↦ (Some command, calls, mails) | Some answer ↦ next_call me idle group.core calls (answered me group.core.id answer command mails) ]) Next
-        (λ _. (tt, k, c)) (λ w. next_by command calls mails (turned_down group.core command) refl w k.0 k.1 c (λ more d. next_fine calls more k.1 d))
+    next_fine calls mails k c =
+        next_found me idle group.core (λ cs ms. KeptAll A G cs × C ms) Next (λ cs ms q. (tt, q.0, q.1)) (λ command cs ms q. (q.0.0, q.0.1, q.1))
+        (λ command answer cs ms w e q. (q.0.1, turned_caused command answer ms q.0.0 w e q.1)) calls mails (k, c)
 
   -- ---- what is found for a slot
 

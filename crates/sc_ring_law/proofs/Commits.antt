@@ -1,6 +1,7 @@
 -- A commit changes the view as its body says.
-use Rattle.std.proofs.Common.{◌≡◌, ℕ, ◌+◌, ◌^◌, ◌<◌, ◌≤◌, true, ◌⊎◌, inl, inr, Option, Some, None, refl, sym, ◌∙◌, ap, subst}
+use Rattle.std.proofs.Common.{◌≡◌, ℕ, ◌+◌, ◌^◌, ◌<◌, ◌≤◌, true, inl, inr, Option, Some, None, refl, sym, ◌∙◌, ap, subst}
 use Rattle.std.proofs.lemmas.Bool.{cond-true}
+use Rattle.std.proofs.lemmas.Option.{same_Some}
 use Rattle.sc_base.specs.Arc.{Arc, before, from, joined}
 use Rattle.sc_base.specs.Same.{same_draw}
 use Rattle.sc_base.specs.declared.names.Draw.{Draw}
@@ -28,7 +29,7 @@ use Rattle.sc_entries.specs.Rings.{both_arcs, decided_by}
 use Rattle.sc_entries.specs.declared.Division.{Division}
 use Rattle.sc_ring_law.specs.Stories.{Story, Stories, put, unsigned, unsigned_watch, offer_for, watch_for}
 use Rattle.sc_ring_law.specs.Invariant.{Groups, LockOk, IsOwnBody, IsFrozen, IsAgreed, Facts}
-use Rattle.sc_entries.proofs.Names.{draw_cases, some_is}
+use Rattle.sc_entries.proofs.Names.{draw_cases}
 use Rattle.sc_ring_law.proofs.View.{Ring, HeldBy, Holds, merge_view, move_view, split_view, IsOnRing}
 use Rattle.sc_ring_law.proofs.Cover.{at-same, at-is, at-other}
 use Rattle.sc_ring_law.proofs.Links.{IsPair, pair_meets}
@@ -84,12 +85,6 @@ turned f g p x y ne h =
 
 -- ---- who a decision touches
 
-of_or_not : (l : Lock) (tx : Draw) → IsOf l tx ⊎ (IsOf l tx → ⊥)
-of_or_not Free tx = inr (λ x. x)
-of_or_not (Coordinating t body order heard) tx = draw_cases t tx
-of_or_not (Promised t offer) tx = draw_cases t tx
-of_or_not (Watching t watch) tx = draw_cases t tx
-
 untouched_lock : (ys : Stories) (tx : Draw) (y : Story) (l : Lock) (s : Group) → (IsOf l tx → ⊥) → settle_by l (decisions ys) s ≡ settle_by l (decisions (put ys tx (Some y))) s
 untouched_lock ys tx y Free s ne = refl
 untouched_lock ys tx y (Coordinating t body order heard) s ne = refl
@@ -132,7 +127,7 @@ module _ (owner : Draw → Option Draw) (gs : Groups) (ys : Stories) (g : Draw) 
   pub own_is : IsOwn g s tx body heard y
   own_is =
       let own = own_story gs ys owner g s tx body d.order heard d.facts d.is d.lock in
-      let q = some_is y own.story (sym d.there ∙ own.is) in
+      let q = same_Some y own.story (sym d.there ∙ own.is) in
       record {
         coordinator = ap (λ (z : Story). z.coordinator) q ∙ own.coordinator;
         undecided = ap (λ (z : Story). z.outcome) q ∙ own.undecided;
@@ -253,7 +248,7 @@ merged_view d e g p x s f m k =
 
 -- a record of the new world is the one that is known there
 pub inside_at : (o : Option Group) (a b : Group) → o ≡ Some a → o ≡ Some b → IsInside a → IsInside b
-inside_at o a b e q k = subst IsInside (some_is a b (sym e ∙ q)) k
+inside_at o a b e q k = subst IsInside (same_Some a b (sym e ∙ q)) k
 
 -- arcs of groups in line share nothing
 pub apart_of : (d : Draw → Option Group) (g p : Draw) (s f : Group) → IsWhole (view_of d) → d g ≡ Some s → d p ≡ Some f → (g ≡ p → ⊥) → (n : ℕ) → n < 2 ^ 32 → Holds s.core.arc n → Holds f.core.arc n → ⊥

@@ -12,12 +12,12 @@ use Rattle.sc_entries.specs.declared.Cut.{Cut}
 use Rattle.sc_entries.specs.declared.Division.{Division}
 use Rattle.sc_entries.specs.Rings.{is_cut_of, arc_in, recut, parts_of}
 use Rattle.sc_ring_law.specs.Stories.{put}
-use Rattle.sc_entries.proofs.Names.{draw_cases, other_name, some_is}
+use Rattle.sc_entries.proofs.Names.{draw_cases, other_name}
 use Rattle.sc_ring_law.proofs.Cover.{at-is, at-other}
 use Rattle.sc_ring_law.proofs.View.{Ring}
 use Rattle.sc_paxos_words.proofs.ListLemmas.{Each-among, find_found}
 use Rattle.sc_ring_law.proofs.Finds.{find_map, find_first, find_skips, each_map, Pairwise, some_none}
-use Rattle.std.proofs.lemmas.Option.{none-some}
+use Rattle.std.proofs.lemmas.Option.{none-some, same_Some}
 
 -- the ring by the names of groups
 abbrev pub arcs_in : List Cut → Ring
@@ -113,7 +113,7 @@ module _ (g : Draw) (d : Division) where
   divided_first [] arc e = absurd (none-some arc e)
   divided_first (c ∷ cs) arc e = elim (cases_Bool (is_cut_of g c)) [
     | inl t ↦ (
-        let found : c.arc ≡ arc = some_is c.arc arc (sym (ap (option_map (λ (x : Cut). x.arc)) (find_first (is_cut_of g) c cs t)) ∙ e) in
+        let found : c.arc ≡ arc = same_Some c.arc arc (sym (ap (option_map (λ (x : Cut). x.arc)) (find_first (is_cut_of g) c cs t)) ∙ e) in
         ap (λ l. arc_in g l) (flat_mine c cs t) ∙ ap (option_map (λ (x : Cut). x.arc)) (find_first (is_cut_of g) (first_part c) (second_part c ∷ flat cs) t)
         ∙ ap (λ a. Some (before a d.at)) found)
     | inr t ↦ ap (λ l. arc_in g l) (flat_else c cs t) ∙ ap (option_map (λ (x : Cut). x.arc)) (find_skips (is_cut_of g) c (flat cs) t)
@@ -124,7 +124,7 @@ module _ (g : Draw) (d : Division) where
   divided_second gc [] arc e none = absurd (none-some arc e)
   divided_second gc (c ∷ cs) arc e none = elim (cases_Bool (is_cut_of g c)) [
     | inl t ↦ (
-        let found : c.arc ≡ arc = some_is c.arc arc (sym (ap (option_map (λ (x : Cut). x.arc)) (find_first (is_cut_of g) c cs t)) ∙ e) in
+        let found : c.arc ≡ arc = same_Some c.arc arc (sym (ap (option_map (λ (x : Cut). x.arc)) (find_first (is_cut_of g) c cs t)) ∙ e) in
         ap (λ l. arc_in d.child l) (flat_mine c cs t)
         ∙ ap (option_map (λ (x : Cut). x.arc)) (find_skips (is_cut_of d.child) (first_part c) (second_part c ∷ flat cs) (other_name c.group d.child (λ q. gc (sym (draw_is c.group g t) ∙ q))))
         ∙ ap (option_map (λ (x : Cut). x.arc)) (find_first (is_cut_of d.child) (second_part c) (flat cs) (same_name d.child d.child refl))
@@ -214,7 +214,7 @@ pub record HasCut (ring : List Cut) (g : Draw) (a : Arc) : Type 0 where
 
 has_cut : (ring : List Cut) (g : Draw) (a : Arc) (o : Option Cut) → find (is_cut_of g) ring ≡ o → option_map (λ (k : Cut). k.arc) o ≡ Some a → HasCut ring g a
 has_cut ring g a None f e = absurd (none-some a e)
-has_cut ring g a (Some c) f e = record { cut = c; there = (find_found (is_cut_of g) ring c f).0; group = cut_named g ring c f; arc = some_is c.arc a e }
+has_cut ring g a (Some c) f e = record { cut = c; there = (find_found (is_cut_of g) ring c f).0; group = cut_named g ring c f; arc = same_Some c.arc a e }
 
 pub cut_of_arc : (ring : List Cut) (g : Draw) (a : Arc) → arc_in g ring ≡ Some a → HasCut ring g a
 cut_of_arc ring g a e = has_cut ring g a (find (is_cut_of g) ring) refl e

@@ -3,6 +3,7 @@ use Rattle.std.specs.Prelude.{nat_le, not, ◌&&◌, length}
 use Rattle.std.specs.List.{list_any}
 use Rattle.std.proofs.Common.{◌≡◌, ℕ, true, false, cond, [], ◌∷◌, Option, Some, None, refl, sym, ◌∙◌, ap, subst}
 use Rattle.std.proofs.lemmas.Bool.{cond_both, and_parts, cond-true, cond-false}
+use Rattle.std.proofs.lemmas.Option.{same_Some}
 use Rattle.sc_base.specs.Arc.{holds, before}
 use Rattle.sc_base.specs.Same.{same_draw}
 use Rattle.sc_base.specs.declared.names.Draw.{Draw}
@@ -32,8 +33,8 @@ use Rattle.sc_entries.specs.Decisions.{outcome_in}
 use Rattle.sc_entries.specs.declared.Division.{Division}
 use Rattle.sc_ring_law.specs.Allowed.{IsVoteCast, IsWatchVoteCast}
 use Rattle.sc_ring_law.specs.Stories.{Story, Stories, put, retold, merge_watch, with_decision, with_answer}
-use Rattle.sc_ring_law.specs.Invariant.{Groups, has_born, IsEarned, Facts}
-use Rattle.sc_entries.proofs.Names.{names_differ, some_is}
+use Rattle.sc_ring_law.specs.Invariant.{Groups, IsEarned, Facts}
+use Rattle.sc_entries.proofs.Names.{names_differ}
 use Rattle.sc_ring_law.proofs.Notes.{any_keeps, any_drops, any_new, is_vote_on}
 use Rattle.sc_ring_law.proofs.View.{Ring}
 use Rattle.sc_ring_law.proofs.Cover.{at-same, at-other}
@@ -45,6 +46,7 @@ use Rattle.sc_ring_law.proofs.Moves.{cut_is, give_commit, take_commit, migrate_c
 use Rattle.sc_ring_law.proofs.Splits.{divide_commit}
 use Rattle.sc_ring_law.proofs.Steps.{Kept, idle_told, told_at, outcome_like}
 use Rattle.sc_ring_law.proofs.Finds.{some_none}
+use Rattle.sc_ring_law.proofs.Facts.{StayBorn}
 
 -- the groups with the child of a division, if there is one
 abbrev pub born_too : Group → Groups → Option Division → Groups
@@ -63,7 +65,7 @@ pub record IsMineOpen (owner : Draw → Option Draw) (gs : Groups) (ys : Stories
   pub unborn : (at : ℕ) (child : Draw) → body ≡ At.Split at child → gs tx ≡ None
 
 -- the group that a decision leaves notes it, and keeps its other notes
-decision_of : (s m : Group) (tx : Draw) (o : Outcome) → m.core.id ≡ s.core.id → m.core.decided ≡ s.core.decided → m.core.voted ≡ s.core.voted → ((h : Draw) → has_born s.core h ≡ true → has_born m.core h ≡ true) → IsDecision tx s (decided_group m tx o)
+decision_of : (s m : Group) (tx : Draw) (o : Outcome) → m.core.id ≡ s.core.id → m.core.decided ≡ s.core.decided → m.core.voted ≡ s.core.voted → StayBorn s m → IsDecision tx s (decided_group m tx o)
 decision_of s m tx o id dec vot born = record {
   id = id;
   free = refl;
@@ -194,7 +196,7 @@ module _ (owner : Draw → Option Draw) (ring : Ring) (gs : Groups) (ys : Storie
   yes_kept tx (At.Split at child) f by o vote = lands_idle tx (Ballot.Yes f)
 
   vote_is : (tx : Draw) (f : Frozen) (y : Story) → ys tx ≡ Some y → IsVoteCast ys tx (Ballot.Yes f) → y.vote ≡ Some (Ballot.Yes f)
-  vote_is tx f y there h = ap (λ (z : Story). z.vote) (some_is y h.0 (sym there ∙ h.1)) ∙ h.2
+  vote_is tx f y there h = ap (λ (z : Story). z.vote) (same_Some y h.0 (sym there ∙ h.1)) ∙ h.2
 
   answered_kept : (tx : Draw) (body : Body) (by : ℕ) → (o : IsMineOpen owner gs ys g s tx body None) → (vote : Vote) → IsVoteCast ys tx vote → Lands tx vote (participant_answered vote body s tx o.deciding.order by)
   answered_kept tx body by o (Ballot.Yes f) h = yes_kept tx body f by o (vote_is tx f o.story o.deciding.there h)
@@ -270,7 +272,7 @@ module _ (owner : Draw → Option Draw) (ring : Ring) (gs : Groups) (ys : Storie
             (λ na. (λ offer q. absurd (some_none offer (sym q ∙ own.offer)), λ w q. passed)))
             (at-other gs g (Some s') tx gt ∙ none) refl refl ((k.0.story tx y d.there).named ∙ ap Some own.coordinator) (at-same gs g (Some s'))
             (any_new (λ c. same_draw c tx) s.core.born tx (same_name tx tx refl))
-            (λ z p q there b u. some_none Divided (ap (λ (x : Story). x.outcome) (some_is (Ends y Divided) z (sym (at-same ys tx (Some (Ends y Divided))) ∙ there)) ∙ u)),
+            (λ z p q there b u. some_none Divided (ap (λ (x : Story). x.outcome) (same_Some (Ends y Divided) z (sym (at-same ys tx (Some (Ends y Divided))) ∙ there)) ∙ u)),
         divide_commit owner ring gs ys g s tx at heard y d passed none named own.own.0 cut.held cut.inside k.1,
       ))))
       (λ c. w_idle tx)
@@ -303,7 +305,7 @@ module _ (owner : Draw → Option Draw) (ring : Ring) (gs : Groups) (ys : Storie
       divide_as tx at child heard own.own.1 o passed
 
   watch_vote_is : (tx : Draw) (y : Story) → ys tx ≡ Some y → IsWatchVoteCast ys tx Cast.Yes → y.watch_vote ≡ Some Cast.Yes
-  watch_vote_is tx y there h = ap (λ (z : Story). z.watch_vote) (some_is y h.0 (sym there ∙ h.1)) ∙ h.2
+  watch_vote_is tx y there h = ap (λ (z : Story). z.watch_vote) (same_Some y h.0 (sym there ∙ h.1)) ∙ h.2
 
   watch_kept : (tx : Draw) (body : Body) (heard : Option Heard) → (o : IsMineOpen owner gs ys g s tx body heard) → (past : Past) → IsWatchVoteCast ys tx past → WLands tx (watch_answered past body heard s tx)
   watch_kept tx body heard o Cast.Yes h = released_kept tx body heard o (watch_vote_is tx o.story o.deciding.there h)

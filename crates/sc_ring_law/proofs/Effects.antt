@@ -16,11 +16,11 @@ use Rattle.sc_entries.specs.Effective.{after_outcome}
 use Rattle.sc_ring_law.specs.Stories.{Story, Stories, put, unsigned, unsigned_watch}
 use Rattle.sc_ring_law.specs.Invariant.{Groups, LockOk}
 use Rattle.sc_ring_law.proofs.View.{View, Ring, HeldBy}
-use Rattle.sc_entries.proofs.Names.{draw_cases, some_is}
+use Rattle.sc_entries.proofs.Names.{draw_cases}
 use Rattle.sc_ring_law.proofs.Cover.{at-is, at-other}
 use Rattle.sc_ring_law.proofs.Facts.{IsOf}
 use Rattle.sc_ring_law.proofs.Recut.{IsWhole}
-use Rattle.std.proofs.lemmas.Option.{none-some}
+use Rattle.std.proofs.lemmas.Option.{none-some, same_Some}
 
 -- ---- effective records
 
@@ -127,7 +127,7 @@ inside_same a b e p k key n = subst (λ (m : Contents). get m key ≡ None) p (k
 
 alike_inside : (a : Option Group) (b : Group) → Alike a (Some b) → ((h : Group) → a ≡ Some h → IsInside h) → IsInside b
 alike_inside None b k ok = absurd (none-some b.core.arc k.0)
-alike_inside (Some a) b k ok = inside_same a b (some_is a.core.arc b.core.arc k.0) k.3 (ok a refl)
+alike_inside (Some a) b k ok = inside_same a b (same_Some a.core.arc b.core.arc k.0) k.3 (ok a refl)
 
 pub alike_all : (d e : Draw → Option Group) → ((h : Draw) → Alike (d h) (e h)) → AllInside d → AllInside e
 alike_all d e k ok h b q = alike_inside (d h) b (subst (Alike (d h)) q (k h)) (λ a w. ok h a w)
@@ -218,10 +218,10 @@ pub record IsParty (y : Story) (h tx : Draw) (lock : Lock) : Type 0 where
 pub party : (ys : Stories) (tx : Draw) (y : Story) (g h : Draw) (u : Group) → ys tx ≡ Some y → y.coordinator ≡ g → (h ≡ g → ⊥) → (l : Lock) → LockOk ys h u l → IsOf l tx → IsParty y h tx l
 party ys tx y g h u is coord ne Free ok of = absurd of
 party ys tx y g h u is coord ne (Coordinating t body order heard) ok of =
-    absurd (ne (sym ok.coordinator ∙ sym (ap (λ (z : Story). z.coordinator) (some_is y ok.story (sym is ∙ ap ys (sym of) ∙ ok.is))) ∙ coord))
+    absurd (ne (sym ok.coordinator ∙ sym (ap (λ (z : Story). z.coordinator) (same_Some y ok.story (sym is ∙ ap ys (sym of) ∙ ok.is))) ∙ coord))
 party ys tx y g h u is coord ne (Promised t offer) ok of = record {
-  cases = inl (offer, ap (λ n. Promised n offer) of, ap (λ (z : Story). z.offer) (some_is y ok.story (sym is ∙ ap ys (sym of) ∙ ok.is)) ∙ ok.offered, ok.part);
+  cases = inl (offer, ap (λ n. Promised n offer) of, ap (λ (z : Story). z.offer) (same_Some y ok.story (sym is ∙ ap ys (sym of) ∙ ok.is)) ∙ ok.offered, ok.part);
 }
 party ys tx y g h u is coord ne (Watching t watch) ok of = record {
-  cases = inr (watch, ap (λ n. Watching n watch) of, ap (λ (z : Story). z.watch) (some_is y ok.story (sym is ∙ ap ys (sym of) ∙ ok.is)) ∙ ok.asked, ok.part);
+  cases = inr (watch, ap (λ n. Watching n watch) of, ap (λ (z : Story). z.watch) (same_Some y ok.story (sym is ∙ ap ys (sym of) ∙ ok.is)) ∙ ok.asked, ok.part);
 }

@@ -1,6 +1,7 @@
 -- What is heard, decided and ended keeps the facts; so does a child that is born.
 use Rattle.std.proofs.Common.{◌≡◌, ℕ, true, false, inl, inr, Option, Some, None, refl, sym, ◌∙◌, ap, subst}
 use Rattle.std.proofs.lemmas.Bool.{both_ways}
+use Rattle.std.proofs.lemmas.Option.{same_Some}
 use Rattle.sc_base.specs.Same.{same_draw}
 use Rattle.sc_base.specs.declared.names.Draw.{Draw}
 use Rattle.sc_base.proofs.NameLemmas.{draw_is}
@@ -15,12 +16,11 @@ use Rattle.sc_cmd.specs.declared.votes.Outcome.TheVariants.{Abort}
 use Rattle.sc_cmd.specs.declared.votes.Vote.TheVariants as Ballot
 use Rattle.sc_machine_table.specs.Group.{Group}
 use Rattle.sc_machine_table.specs.Transactions.{heard_group}
-use Rattle.sc_machine_table.specs.Votes.{has_voted}
 use Rattle.sc_ring_law.specs.Stories.{Story, Stories, put, merge_watch, unsigned_watch}
 use Rattle.sc_ring_law.specs.Invariant.{Groups, has_decided, has_born, IsCoordinating, LockOk, IsEarned, Origin, Facts}
-use Rattle.sc_entries.proofs.Names.{draw_cases, some_is}
+use Rattle.sc_entries.proofs.Names.{draw_cases}
 use Rattle.sc_ring_law.proofs.Cover.{at-same, at-is, at-other, from_at}
-use Rattle.sc_ring_law.proofs.Facts.{IsOf, keep_known, keep_there, keep_voter, keep_watcher, keep_frozen, keep_none, facts_quiet, facts_told}
+use Rattle.sc_ring_law.proofs.Facts.{IsOf, keep_known, keep_there, keep_voter, keep_watcher, keep_frozen, keep_none, facts_quiet, facts_told, StayBorn, StayVoted, SameDecided}
 use Rattle.sc_ring_law.proofs.Rows.{other_calm, no_coord}
 use Rattle.sc_ring_law.proofs.Finds.{some_none}
 
@@ -46,7 +46,7 @@ hear_facts gs ys owner g s tx order y h f is lock there vote foreign =
     let y' : Story = record y { watch = merge_watch s.core (Some h) } in
     let k = f.story tx y there in
     let own = own_story gs ys owner g s tx At.Merge order None f is lock in
-    let y_is = some_is own.story y (sym own.is ∙ there) in
+    let y_is = same_Some own.story y (sym own.is ∙ there) in
     let coord : y.coordinator ≡ g = sym (ap (λ (z : Story). z.coordinator) y_is) ∙ own.coordinator in
     let body : y.body ≡ At.Merge = sym (ap (λ (z : Story). z.body) y_is) ∙ own.same_body in
     let unasked : y.watch ≡ None = sym (ap (λ (z : Story). z.watch) y_is) ∙ own.watch in
@@ -64,7 +64,7 @@ hear_facts gs ys owner g s tx order y h f is lock there vote foreign =
         standing = own.standing ∙ ap (λ (z : Story). z.standing) y_is;
         offer = sym (ap (λ (z : Story). z.offer) y_is) ∙ own.offer;
         watch = refl;
-        heard_vote = λ a e. (let q = some_is h a e in (vote ∙ ap (λ (x : Heard). Some (Ballot.Yes x.frozen)) q, subst (λ (x : Heard). x.frozen.succ.group ≡ g → ⊥) q foreign));
+        heard_vote = λ a e. (let q = same_Some h a e in (vote ∙ ap (λ (x : Heard). Some (Ballot.Yes x.frozen)) q, subst (λ (x : Heard). x.frozen.succ.group ≡ g → ⊥) q foreign));
         apart = own.apart;
         own = tt;
       };
@@ -92,8 +92,8 @@ pub record IsDecision (tx : Draw) (s s' : Group) : Type 0 where
   pub free : s'.core.lock ≡ Free
   pub noted : has_decided s'.core tx ≡ true
   pub decided : (t : Draw) → has_decided s'.core t ≡ false → has_decided s.core t ≡ false
-  pub voted : (t : Draw) → has_voted s.core t ≡ true → has_voted s'.core t ≡ true
-  pub born : (h : Draw) → has_born s.core h ≡ true → has_born s'.core h ≡ true
+  pub voted : StayVoted s s'
+  pub born : StayBorn s s'
 
 pub decide_facts : (gs : Groups) (ys : Stories) (owner : Draw → Option Draw) (g : Draw) (s s' : Group) (tx : Draw) (body : Body) (order : ℕ) (heard : Option Heard) (y : Story) (o : Outcome)
     → Facts owner gs ys → gs g ≡ Some s → s.core.lock ≡ Coordinating tx body order heard → ys tx ≡ Some y → IsDecision tx s s' → ((o ≡ Abort → ⊥) → IsEarned y)
@@ -102,7 +102,7 @@ decide_facts gs ys owner g s s' tx body order heard y o f is lock there d earned
     let y' : Story = record y { outcome = Some o } in
     let k = f.story tx y there in
     let own = own_story gs ys owner g s tx body order heard f is lock in
-    let y_is = some_is own.story y (sym own.is ∙ there) in
+    let y_is = same_Some own.story y (sym own.is ∙ there) in
     let coord : y.coordinator ≡ g = sym (ap (λ (z : Story). z.coordinator) y_is) ∙ own.coordinator in
     facts_told gs ys owner g s s' tx y y' f is there d.born
     (record { named = d.id ∙ (f.group g s is).named; lock_ok = subst (LockOk (put ys tx (Some y')) g s') (sym d.free) tt })
@@ -110,11 +110,11 @@ decide_facts gs ys owner g s s' tx body order heard y o f is lock there d earned
     (λ t ne. other_calm t tx s s' (is_of s.core.lock tx body order heard lock) ne (d.decided t) (d.voted t))
     (record {
       named = k.named;
-      known = λ u e n. absurd (both_ways (has_decided s'.core tx) (subst (λ (b : Group). has_decided b.core tx ≡ false) (sym (some_is s' u (sym (at-is gs g (Some s') y.coordinator coord) ∙ e))) n) d.noted);
+      known = λ u e n. absurd (both_ways (has_decided s'.core tx) (subst (λ (b : Group). has_decided b.core tx ≡ false) (sym (same_Some s' u (sym (at-is gs g (Some s') y.coordinator coord) ∙ e))) n) d.noted);
       there = keep_there gs g s' y.coordinator k.there;
       voter = λ v e. (let r = keep_voter gs g s s' tx y is (d.voted tx) (k.voter v e) in record { offer = r.offer; offered = r.offered; group = r.group; is = r.is; voted = r.voted });
       watcher = λ v e. keep_watcher gs g s s' tx y.watch is (d.voted tx) (k.watcher v e);
-      earned = λ p q na. (let e = some_is o p q in earned (λ a. na (sym e ∙ a)));
+      earned = λ p q na. (let e = same_Some o p q in earned (λ a. na (sym e ∙ a)));
       frozen = λ a. absurd (some_none o a);
       agreed = λ a. absurd (some_none o a);
       unborn = λ place child b a. absurd (some_none o a);
@@ -126,9 +126,9 @@ decide_facts gs ys owner g s s' tx body order heard y o f is lock there d earned
 pub record IsEnd (s s' : Group) : Type 0 where
   pub id : s'.core.id ≡ s.core.id
   pub free : s'.core.lock ≡ Free
-  pub decided : (t : Draw) → has_decided s'.core t ≡ has_decided s.core t
-  pub voted : (t : Draw) → has_voted s.core t ≡ true → has_voted s'.core t ≡ true
-  pub born : (h : Draw) → has_born s.core h ≡ true → has_born s'.core h ≡ true
+  pub decided : SameDecided s s'
+  pub voted : StayVoted s s'
+  pub born : StayBorn s s'
 
 pub finish_facts : (gs : Groups) (ys : Stories) (owner : Draw → Option Draw) (g : Draw) (s s' : Group) (tx : Draw) (y : Story) (o : Outcome) → Facts owner gs ys → gs g ≡ Some s → IsOf s.core.lock tx
     → ((body : Body) (order : ℕ) (heard : Option Heard) → s.core.lock ≡ Coordinating tx body order heard → ⊥) → ys tx ≡ Some y → y.outcome ≡ Some o → IsEnd s s'
@@ -140,7 +140,7 @@ finish_facts gs ys owner g s s' tx y o f is of other there decided d =
       | inr ne ↦ inl (other_calm t tx s s' of ne (λ n. sym (d.decided t) ∙ n) (d.voted t))
       | inl q ↦ (
           let k = f.story t z e in
-          let z_is = some_is y z (sym there ∙ ap ys (sym q) ∙ e) in
+          let z_is = same_Some y z (sym there ∙ ap ys (sym q) ∙ e) in
           let out : z.outcome ≡ Some o = sym (ap (λ (x : Story). x.outcome) z_is) ∙ decided in
           inr (record {
             named = k.named;
@@ -166,7 +166,7 @@ born_facts gs ys owner g child t b f none free id mine there born closed =
     record {
       group = λ h u e. elim (from_at gs child (Some b) h (Some u) e) [
         | inl m ↦ (
-            let u_is = some_is b u m.1 in
+            let u_is = same_Some b u m.1 in
             record { named = sym (ap (λ (x : Group). x.core.id) u_is) ∙ id ∙ sym m.0; lock_ok = subst (LockOk ys h u) (sym free ∙ ap (λ (x : Group). x.core.lock) u_is) tt })
         | inr m ↦ f.group h u m.1
       ];
@@ -194,7 +194,7 @@ pub draw_new : (gs : Groups) (ys : Stories) (owner : Draw → Option Draw) (g d 
 draw_new gs ys owner g d s f mine is free dec None e = e
 draw_new gs ys owner g d s f mine is free dec (Some y) e =
     let k = f.story d y e in
-    let c = some_is y.coordinator g (sym k.named ∙ mine) in
+    let c = same_Some y.coordinator g (sym k.named ∙ mine) in
     let r = k.known s (ap gs c ∙ is) dec in
     absurd (no_coord s.core.lock d y.body r.0 r.1 free r.2)
 
@@ -205,6 +205,6 @@ group_none gs ys owner g d s f mine is born (Some u) e =
     elim (f.origin d u e) [
       | inl first ↦ absurd (some_none g (sym mine ∙ first))
       | inr r ↦ (
-          let c = some_is r.0 g (sym r.2 ∙ mine) in
-          absurd (both_ways (has_born s.core d) born (subst (λ (b : Group). has_born b.core d ≡ true) (some_is r.1 s (sym r.3 ∙ ap gs c ∙ is)) r.4)))
+          let c = same_Some r.0 g (sym r.2 ∙ mine) in
+          absurd (both_ways (has_born s.core d) born (subst (λ (b : Group). has_born b.core d ≡ true) (same_Some r.1 s (sym r.3 ∙ ap gs c ∙ is)) r.4)))
     ]

@@ -1,5 +1,6 @@
 -- How the facts pass through a change of one group and one story.
 use Rattle.std.proofs.Common.{◌≡◌, ℕ, true, false, ◌⊎◌, inl, inr, Option, Some, None, refl, sym, ◌∙◌, ap, subst}
+use Rattle.std.proofs.lemmas.Option.{same_Some}
 use Rattle.sc_base.specs.declared.names.Draw.{Draw}
 use Rattle.sc_cmd.specs.declared.bodies.Body.{Body}
 use Rattle.sc_cmd.specs.declared.bodies.Offer.{Offer}
@@ -14,7 +15,7 @@ use Rattle.sc_machine_table.specs.Plans.{frozen_of}
 use Rattle.sc_machine_table.specs.Votes.{has_voted}
 use Rattle.sc_ring_law.specs.Stories.{Story, Stories, put, unsigned_watch}
 use Rattle.sc_ring_law.specs.Invariant.{Groups, has_decided, has_born, LockOk, GroupOk, IsFrozen, IsAgreed, IsVoter, IsWatcher, StoryOk, Origin, Facts}
-use Rattle.sc_entries.proofs.Names.{draw_cases, some_is}
+use Rattle.sc_entries.proofs.Names.{draw_cases}
 use Rattle.sc_ring_law.proofs.Cover.{at-same, at-is, at-other, from_at}
 use Rattle.sc_ring_law.proofs.Finds.{some_none}
 
@@ -48,7 +49,7 @@ pub keep_known : (gs : Groups) (g : Draw) (s s' : Group) (tx : Draw) (y : Story)
 keep_known gs g s s' tx y is dec lock k u e n =
     elim (from_at gs g (Some s') y.coordinator (Some u) e) [
       | inl m ↦ (
-          let u_is = some_is s' u m.1 in
+          let u_is = same_Some s' u m.1 in
           let r = k s (ap gs m.0 ∙ is) (dec (subst (λ (b : Group). has_decided b.core tx ≡ false) (sym u_is) n)) in
           subst (λ (b : Group). Locks b tx y.body) u_is (lock r))
       | inr m ↦ k u m.1 n
@@ -61,7 +62,7 @@ pub keep_voter : (gs : Groups) (g : Draw) (s s' : Group) (tx : Draw) (y : Story)
 keep_voter gs g s s' tx y is vot r =
     elim (draw_cases r.offer.part g) [
       | inl q ↦ (
-          let u_is = some_is r.group s (sym r.is ∙ ap gs q ∙ is) in
+          let u_is = same_Some r.group s (sym r.is ∙ ap gs q ∙ is) in
           record { offer = r.offer; offered = r.offered; group = s'; is = at-is gs g (Some s') r.offer.part q; voted = vot (subst (λ (b : Group). has_voted b.core tx ≡ true) u_is r.voted) })
       | inr q ↦ record { offer = r.offer; offered = r.offered; group = r.group; is = at-other gs g (Some s') r.offer.part q ∙ r.is; voted = r.voted }
     ]
@@ -70,7 +71,7 @@ pub keep_watcher : (gs : Groups) (g : Draw) (s s' : Group) (tx : Draw) (w : Opti
 keep_watcher gs g s s' tx w is vot r =
     elim (draw_cases r.watch.part g) [
       | inl q ↦ (
-          let u_is = some_is r.group s (sym r.is ∙ ap gs q ∙ is) in
+          let u_is = same_Some r.group s (sym r.is ∙ ap gs q ∙ is) in
           record { watch = r.watch; is_asked = r.is_asked; group = s'; is = at-is gs g (Some s') r.watch.part q; voted = vot (subst (λ (b : Group). has_voted b.core tx ≡ true) u_is r.voted) })
       | inr q ↦ record { watch = r.watch; is_asked = r.is_asked; group = r.group; is = at-other gs g (Some s') r.watch.part q ∙ r.is; voted = r.voted }
     ]
@@ -80,7 +81,7 @@ pub keep_frozen : (gs : Groups) (g : Draw) (s s' : Group) (tx : Draw) (y : Story
 keep_frozen gs g s s' tx y f is lock r =
     elim (draw_cases r.offer.part g) [
       | inl q ↦ (
-          let u_is = some_is s r.group (sym is ∙ ap gs (sym q) ∙ r.is) in
+          let u_is = same_Some s r.group (sym is ∙ ap gs (sym q) ∙ r.is) in
           let was : s.core.lock ≡ Promised tx r.offer = ap (λ (b : Group). b.core.lock) u_is ∙ r.lock in
           record {
             offer = r.offer;
@@ -97,7 +98,7 @@ pub keep_agreed : (gs : Groups) (g : Draw) (s s' : Group) (tx : Draw) (y : Story
 keep_agreed gs g s s' tx y is lock r =
     elim (draw_cases r.watch.part g) [
       | inl q ↦ (
-          let u_is = some_is s r.group (sym is ∙ ap gs (sym q) ∙ r.is) in
+          let u_is = same_Some s r.group (sym is ∙ ap gs (sym q) ∙ r.is) in
           let was : s.core.lock ≡ Watching tx r.watch = ap (λ (b : Group). b.core.lock) u_is ∙ r.lock in
           record { watch = r.watch; asked = r.asked; group = s'; is = at-is gs g (Some s') r.watch.part q; lock = lock r.watch was ∙ was })
       | inr q ↦ record { watch = r.watch; asked = r.asked; group = r.group; is = at-other gs g (Some s') r.watch.part q ∙ r.is; lock = r.lock }
@@ -133,7 +134,7 @@ lock_keep ys g tx y y' is grown h u ne Free k = tt
 lock_keep ys g tx y y' is grown h u ne (Coordinating t body order heard) r =
     elim (draw_cases t tx) [
       | inl q ↦ (
-          let y_is = some_is y r.story (sym is ∙ ap ys (sym q) ∙ r.is) in
+          let y_is = same_Some y r.story (sym is ∙ ap ys (sym q) ∙ r.is) in
           let m = grown.coordinator h ne (ap (λ (z : Story). z.coordinator) y_is ∙ r.coordinator) in
           record {
             story = y';
@@ -167,14 +168,14 @@ lock_keep ys g tx y y' is grown h u ne (Coordinating t body order heard) r =
 lock_keep ys g tx y y' is grown h u ne (Promised t offer) r =
     elim (draw_cases t tx) [
       | inl q ↦ (
-          let y_is = some_is y r.story (sym is ∙ ap ys (sym q) ∙ r.is) in
+          let y_is = same_Some y r.story (sym is ∙ ap ys (sym q) ∙ r.is) in
           record { story = y'; is = at-is ys tx (Some y') t q; offered = grown.offer ∙ ap (λ (z : Story). z.offer) y_is ∙ r.offered; part = r.part; vote = grown.votes (frozen_of u) (ap (λ (z : Story). z.vote) y_is ∙ r.vote); here = r.here })
       | inr q ↦ record { story = r.story; is = at-other ys tx (Some y') t q ∙ r.is; offered = r.offered; part = r.part; vote = r.vote; here = r.here }
     ]
 lock_keep ys g tx y y' is grown h u ne (Watching t watch) r =
     elim (draw_cases t tx) [
       | inl q ↦ (
-          let y_is = some_is y r.story (sym is ∙ ap ys (sym q) ∙ r.is) in
+          let y_is = same_Some y r.story (sym is ∙ ap ys (sym q) ∙ r.is) in
           record { story = y'; is = at-is ys tx (Some y') t q; asked = grown.watch (unsigned_watch watch) (ap (λ (z : Story). z.watch) y_is ∙ r.asked); part = r.part; here = r.here })
       | inr q ↦ record { story = r.story; is = at-other ys tx (Some y') t q ∙ r.is; asked = r.asked; part = r.part; here = r.here }
     ]
@@ -208,23 +209,35 @@ lock_new ys tx y' none h u (Watching t watch) r = record { story = r.story; is =
 pub group_new : (ys : Stories) (tx : Draw) (y' : Story) → ys tx ≡ None → (h : Draw) (u : Group) → GroupOk ys h u → GroupOk (put ys tx (Some y')) h u
 group_new ys tx y' none h u k = record { named = k.named; lock_ok = lock_new ys tx y' none h u u.core.lock k.lock_ok }
 
-pub origin_keep : (gs : Groups) (owner : Draw → Option Draw) (g : Draw) (s s' : Group) → gs g ≡ Some s → ((h : Draw) → has_born s.core h ≡ true → has_born s'.core h ≡ true) → (h : Draw) → Origin owner gs h → Origin owner (put gs g (Some s')) h
+-- the children that a group has noted stay noted
+abbrev pub StayBorn : Group → Group → Type 0
+StayBorn s s' = (h : Draw) → has_born s.core h ≡ true → has_born s'.core h ≡ true
+
+-- so do its votes
+abbrev pub StayVoted : Group → Group → Type 0
+StayVoted s s' = (t : Draw) → has_voted s.core t ≡ true → has_voted s'.core t ≡ true
+
+-- the decisions that it has noted are the same
+abbrev pub SameDecided : Group → Group → Type 0
+SameDecided s s' = (t : Draw) → has_decided s'.core t ≡ has_decided s.core t
+
+pub origin_keep : (gs : Groups) (owner : Draw → Option Draw) (g : Draw) (s s' : Group) → gs g ≡ Some s → StayBorn s s' → (h : Draw) → Origin owner gs h → Origin owner (put gs g (Some s')) h
 origin_keep gs owner g s s' is born h (inl e) = inl e
 origin_keep gs owner g s s' is born h (inr r) =
     elim (draw_cases r.0 g) [
-      | inl q ↦ inr (g, s', r.2 ∙ ap Some q, at-same gs g (Some s'), born h (subst (λ (b : Group). has_born b.core h ≡ true) (some_is r.1 s (sym r.3 ∙ ap gs q ∙ is)) r.4))
+      | inl q ↦ inr (g, s', r.2 ∙ ap Some q, at-same gs g (Some s'), born h (subst (λ (b : Group). has_born b.core h ≡ true) (same_Some r.1 s (sym r.3 ∙ ap gs q ∙ is)) r.4))
       | inr q ↦ inr (r.0, r.1, r.2, at-other gs g (Some s') r.0 q ∙ r.3, r.4)
     ]
 
 -- one group changes, and one story or none
-pub facts_change : (gs : Groups) (ys ys' : Stories) (owner : Draw → Option Draw) (g : Draw) (s s' : Group) → Facts owner gs ys → gs g ≡ Some s → ((h : Draw) → has_born s.core h ≡ true → has_born s'.core h ≡ true)
+pub facts_change : (gs : Groups) (ys ys' : Stories) (owner : Draw → Option Draw) (g : Draw) (s s' : Group) → Facts owner gs ys → gs g ≡ Some s → StayBorn s s'
     → GroupOk ys' g s'
     → ((h : Draw) (u : Group) → (h ≡ g → ⊥) → GroupOk ys h u → GroupOk ys' h u)
     → ((tx : Draw) (y : Story) → ys' tx ≡ Some y → StoryOk owner (put gs g (Some s')) tx y)
     → Facts owner (put gs g (Some s')) ys'
 facts_change gs ys ys' owner g s s' f is born mine others stories = record {
   group = λ h u e. elim (from_at gs g (Some s') h (Some u) e) [
-    | inl m ↦ subst (λ (b : Group). GroupOk ys' h b) (some_is s' u m.1) (subst (λ n. GroupOk ys' n s') (sym m.0) mine)
+    | inl m ↦ subst (λ (b : Group). GroupOk ys' h b) (same_Some s' u m.1) (subst (λ n. GroupOk ys' n s') (sym m.0) mine)
     | inr m ↦ others h u m.0 (f.group h u m.1)
   ];
   story = stories;
@@ -235,7 +248,7 @@ facts_change gs ys ys' owner g s s' f is born mine others stories = record {
 }
 
 -- one group changes, and no story
-pub facts_quiet : (gs : Groups) (ys : Stories) (owner : Draw → Option Draw) (g : Draw) (s s' : Group) → Facts owner gs ys → gs g ≡ Some s → ((h : Draw) → has_born s.core h ≡ true → has_born s'.core h ≡ true)
+pub facts_quiet : (gs : Groups) (ys : Stories) (owner : Draw → Option Draw) (g : Draw) (s s' : Group) → Facts owner gs ys → gs g ≡ Some s → StayBorn s s'
     → GroupOk ys g s' → ((tx : Draw) (y : Story) → ys tx ≡ Some y → IsCalm tx s s' ⊎ StoryOk owner (put gs g (Some s')) tx y) → Facts owner (put gs g (Some s')) ys
 facts_quiet gs ys owner g s s' f is born mine calm =
     facts_change gs ys ys owner g s s' f is born mine (λ h u ne k. k)
@@ -243,12 +256,12 @@ facts_quiet gs ys owner g s s' f is born mine calm =
 
 -- one group and one story change; the other stories see nothing
 pub facts_told : (gs : Groups) (ys : Stories) (owner : Draw → Option Draw) (g : Draw) (s s' : Group) (tx : Draw) (y y' : Story) → Facts owner gs ys → gs g ≡ Some s → ys tx ≡ Some y
-    → ((h : Draw) → has_born s.core h ≡ true → has_born s'.core h ≡ true) → GroupOk (put ys tx (Some y')) g s' → IsGrown g y y'
+    → StayBorn s s' → GroupOk (put ys tx (Some y')) g s' → IsGrown g y y'
     → ((t : Draw) → (t ≡ tx → ⊥) → IsCalm t s s') → StoryOk owner (put gs g (Some s')) tx y' → Facts owner (put gs g (Some s')) (put ys tx (Some y'))
 facts_told gs ys owner g s s' tx y y' f is there born mine grown calm told =
     facts_change gs ys (put ys tx (Some y')) owner g s s' f is born mine
     (λ h u ne k. group_keep ys g tx y y' there grown h u ne k)
     (λ t z e. elim (from_at ys tx (Some y') t (Some z) e) [
-      | inl m ↦ subst (StoryOk owner (put gs g (Some s')) t) (some_is y' z m.1) (subst (λ n. StoryOk owner (put gs g (Some s')) n y') (sym m.0) told)
+      | inl m ↦ subst (StoryOk owner (put gs g (Some s')) t) (same_Some y' z m.1) (subst (λ n. StoryOk owner (put gs g (Some s')) n y') (sym m.0) told)
       | inr m ↦ story_keep gs owner g s s' t z is (calm t m.0) (f.story t z m.1)
     ])

@@ -2,10 +2,11 @@
 use Rattle.std.specs.Prelude.{map, find}
 use Rattle.std.specs.List.{filter}
 use Rattle.std.specs.Option.{option_map}
-use Rattle.std.proofs.Common.{◌≡◌, ℕ, zero, suc, ◌<◌, Bool, true, false, cond, List, [], ◌∷◌, inl, inr, Option, Some, None, refl, ◌∙◌, ap, subst, arith, length, AllPairs, get_or}
+use Rattle.std.proofs.Common.{◌≡◌, ℕ, zero, suc, ◌<◌, Bool, true, false, cond, List, [], ◌∷◌, inl, inr, Option, Some, None, refl, ◌∙◌, ap, arith, length, AllPairs, get_or}
 use Rattle.std.proofs.lemmas.Bool.{cond-true, cond-false}
 use Rattle.sc_base.specs.Among.{Among, Each}
-use Rattle.sc_paxos_words.proofs.ListLemmas.{Each-among, Each-from, Each-filter}
+use Rattle.sc_paxos_words.proofs.ListLemmas.{Each-among, Each-filter, Each-from_All}
+use Rattle.sc_member.proofs.Pairs.{AllPairs-head, AllPairs-tail}
 
 pub some_none : {X : Type 0} (a : X) → Some a ≡ None → ⊥
 some_none a e = cc
@@ -57,21 +58,9 @@ all_pairs R (e ∷ xs) a i zero d below inside = absurd (omega (arith, below))
 all_pairs R (e ∷ xs) a zero (suc j) d below inside = Each-among (R e) xs (get_or xs j d) a.0 (get_among xs j d (omega (arith, inside)))
 all_pairs R (e ∷ xs) a (suc i) (suc j) d below inside = all_pairs R xs a.1 i j d (omega (arith, below)) (omega (arith, inside))
 
--- where an element stands
-place_of : {X : Type 0} (xs : List X) (x : X) (d : X) → Among x xs → (k : ℕ) × (k < length xs) × (get_or xs k d ≡ x)
-place_of [] x d a = absurd a
-place_of (y ∷ xs) x d (inl e) = (0, omega arith, e)
-place_of (y ∷ xs) x d (inr a) = let r = place_of xs x d a in let lt = r.1 in (suc r.0, omega (arith, lt), r.2)
-
 pub pairwise_from : {X : Type 0} (R : X → X → Type 0) (xs : List X) → AllPairs R xs → Pairwise R xs
 pairwise_from R [] all = tt
-pairwise_from R (x ∷ xs) all = (
-  Each-from (R x) xs (λ y a. (
-      let r = place_of xs y x a in
-      let lt = r.1 in
-      subst (R x) r.2 (all 0 (suc r.0) x (omega arith) (omega (arith, lt))))),
-  pairwise_from R xs (λ i j d below inside. all (suc i) (suc j) d (omega (arith, below)) (omega (arith, inside))),
-)
+pairwise_from R (x ∷ xs) all = (Each-from_All (R x) xs (AllPairs-head R x xs all), pairwise_from R xs (AllPairs-tail R x xs all))
 
 pub pairwise_filter : {X : Type 0} (R : X → X → Type 0) (p : X → Bool) (xs : List X) → Pairwise R xs → Pairwise R (filter p xs)
 pairwise_filter R p [] h = tt

@@ -3,6 +3,7 @@ use Rattle.std.specs.Prelude.{not, ◌&&◌}
 use Rattle.std.proofs.Common.{◌≡◌, ℕ, true, false, cond, List, [], ◌∷◌, inl, inr, Option, Some, None, refl, sym, ◌∙◌, ap, subst}
 use Rattle.std.proofs.lemmas.Bool.{cond_both}
 use Rattle.std.specs.Option.{option_map}
+use Rattle.std.proofs.lemmas.Option.{same_Some}
 use Rattle.sc_base.specs.Same.{same_draw}
 use Rattle.sc_base.specs.declared.names.Draw.{Draw}
 use Rattle.sc_cmd.specs.declared.bodies.Body.{Body}
@@ -36,7 +37,7 @@ use Rattle.sc_ring_law.specs.Allowed.{Sources, IsVoteCast, IsWatchVoteCast, IsAl
 use Rattle.sc_ring_law.specs.Stories.{Story, Stories, put, retold, new_story, unsigned, unsigned_watch, watch_for, vote_in, watch_vote_in, with_vote, with_watch_vote, with_decision, with_asked, with_answer, stories_after}
 use Rattle.sc_ring_law.specs.Invariant.{Groups}
 use Rattle.sc_ring_law.specs.Laws.{AllowedEntriesStayAllowed}
-use Rattle.sc_entries.proofs.Names.{draw_cases, some_is}
+use Rattle.sc_entries.proofs.Names.{draw_cases}
 use Rattle.sc_ring_law.proofs.View.{Ring}
 use Rattle.sc_ring_law.proofs.Cover.{at-is, at-other}
 use Rattle.sc_ring_law.proofs.Rows.{unheard, not_passed}
@@ -120,7 +121,7 @@ module _ (sources : Sources) (ring : Ring) (gs : Groups) (ys : Stories) (g : Dra
       cond_both (has_voted s.core tx) _ _ (λ (r : Group × Effect). Grows ys (retold ys tx (with_vote (vote_in s r.1))))
       (λ e. grows_told ys tx (with_vote None) (λ z w. tells_same z))
       (λ e. grows_told ys tx (with_vote (vote_in s (Was.Voted (past_of (vote_of s.core offer))))) (λ z w. (
-      let same = some_is y z (sym there ∙ w) in
+      let same = same_Some y z (sym there ∙ w) in
       let none = unheard gs sources.owner tx y offer s (k.0.story tx y there) offered (ap gs part ∙ is) e y.vote refl in
       vote_first z (vote_in s (Was.Voted (past_of (vote_of s.core offer)))) (ap (λ (x : Story). x.vote) (sym same) ∙ none))))
 
@@ -133,14 +134,14 @@ module _ (sources : Sources) (ring : Ring) (gs : Groups) (ys : Stories) (g : Dra
       cond_both (has_voted s.core tx) _ _ (λ (r : Group × Effect). Grows ys (retold ys tx (with_watch_vote (watch_vote_in r.1))))
       (λ e. grows_told ys tx (with_watch_vote None) (λ z w. tells_same z))
       (λ e. grows_told ys tx (with_watch_vote (Some (past_of (watch_vote_of s.core watch)))) (λ z w. (
-      let same = some_is y z (sym there ∙ w) in
+      let same = same_Some y z (sym there ∙ w) in
       watch_first z (Some (past_of (watch_vote_of s.core watch)))
       (λ v. not_passed gs g s tx y watch is e asked part ((k.0.story tx y there).watcher Cast.Yes (ap (λ (x : Story). x.watch_vote) same ∙ v))))))
 
   undecided : (tx : Draw) (body : Body) (order : ℕ) (heard : Option Heard) → s.core.lock ≡ Coordinating tx body order heard → (y : Story) → ys tx ≡ Some y → (y.outcome ≡ None) × (y.watch ≡ watch_for s.core body heard)
   undecided tx body order heard lock y there =
       let own = own_story gs ys sources.owner g s tx body order heard k.0 is lock in
-      let same = some_is y own.story (sym there ∙ own.is) in
+      let same = same_Some y own.story (sym there ∙ own.is) in
       (ap (λ (z : Story). z.outcome) same ∙ own.undecided, ap (λ (z : Story). z.watch) same ∙ own.watch)
 
   outcome_first : (y : Story) (o : Option Outcome) → y.outcome ≡ None → TellsOn y (with_decision o y)

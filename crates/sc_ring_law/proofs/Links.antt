@@ -1,8 +1,9 @@
 -- Reshaping keeps the links.
 use Rattle.std.proofs.Common.{◌≡◌, ℕ, ◌^◌, ◌<◌, inl, inr, Some, None, refl, sym, ◌∙◌, ap}
+use Rattle.std.proofs.lemmas.Option.{same_Some}
 use Rattle.sc_base.specs.declared.names.Draw.{Draw}
 use Rattle.sc_ring_law.specs.Stories.{put}
-use Rattle.sc_entries.proofs.Names.{draw_cases, some_is}
+use Rattle.sc_entries.proofs.Names.{draw_cases}
 use Rattle.sc_base.specs.Arc.{Arc, end_of, before, from, joined}
 use Rattle.sc_ring_law.proofs.View.{IsOnRing, Holds, Ring, View, IsLinked, split_view, merge_view, move_view}
 use Rattle.sc_ring_law.proofs.Arcs.{end_left, end_right, end_joined}
@@ -17,7 +18,7 @@ differ f g h a is none e = some_none a (sym is ∙ ap f e ∙ none)
 lo_at : (f : Ring) (g : Draw) (arc arc' : Arc) → f g ≡ Some arc → arc'.lo ≡ arc.lo → (n : Draw) (b : Arc) → f n ≡ Some b → (c : Arc) × (put f g (Some arc') n ≡ Some c) × (c.lo ≡ b.lo)
 lo_at f g arc arc' is same n b e =
     elim (draw_cases n g) [
-      | inl k ↦ (arc', at-is f g (Some arc') n k, same ∙ ap (λ (x : Arc). x.lo) (some_is arc b (sym is ∙ ap f (sym k) ∙ e)))
+      | inl k ↦ (arc', at-is f g (Some arc') n k, same ∙ ap (λ (x : Arc). x.lo) (same_Some arc b (sym is ∙ ap f (sym k) ∙ e)))
       | inr k ↦ (b, at-other f g (Some arc') n k ∙ e, refl)
     ]
 
@@ -48,11 +49,11 @@ linked_split v g arc place child l ok is free fits held =
       meets = λ h a e. elim (draw_cases h child) [
         | inl k ↦ (
             let s = still w m.0 m.1 in
-            let a_is = some_is right a (sym (at-same mid child (Some right)) ∙ ap arcs (sym k) ∙ e) in
+            let a_is = same_Some right a (sym (at-same mid child (Some right)) ∙ ap arcs (sym k) ∙ e) in
             (s.0, ap arcs (ap next k ∙ next_child) ∙ s.1, s.2 ∙ m.2 ∙ sym (end_right arc place ok fits held) ∙ ap end_of a_is))
         | inr nc ↦ elim (draw_cases h g) [
           | inl k ↦ (
-              let a_is = some_is left a (sym (at-other mid child (Some right) g gc ∙ at-same v.arc g (Some left)) ∙ ap arcs (sym k) ∙ e) in
+              let a_is = same_Some left a (sym (at-other mid child (Some right) g gc ∙ at-same v.arc g (Some left)) ∙ ap arcs (sym k) ∙ e) in
               (right, ap arcs (ap next k ∙ next_g) ∙ at-same mid child (Some right), end_left arc place ok fits ∙ ap end_of a_is))
           | inr ng ↦ (
               let a_is = sym (at-other mid child (Some right) h nc ∙ at-other v.arc g (Some left) h ng) ∙ e in
@@ -107,7 +108,7 @@ pub record IsPair (v : View) (g p : Draw) (arc its : Arc) : Type 0 where
 
 pub pair_meets : (v : View) (g p : Draw) (arc its : Arc) → IsLinked v → IsPair v g p arc its → its.lo ≡ end_of arc
 pair_meets v g p arc its l k =
-    let m = l.meets g arc k.first in ap (λ (x : Arc). x.lo) (some_is its m.0 (sym k.second ∙ ap v.arc (sym k.line) ∙ m.1)) ∙ m.2
+    let m = l.meets g arc k.first in ap (λ (x : Arc). x.lo) (same_Some its m.0 (sym k.second ∙ ap v.arc (sym k.line) ∙ m.1)) ∙ m.2
 
 pub not_back : (v : View) (g p : Draw) (arc its : Arc) → IsLinked v → IsPair v g p arc its → v.next p ≡ p → ⊥
 not_back v g p arc its l k e = k.apart (sym (l.back g arc k.first) ∙ ap v.prev k.line ∙ sym (ap v.prev e) ∙ l.back p its k.second)
@@ -134,7 +135,7 @@ linked_merge v g p arc its l k =
       meets = λ h a e. elim (draw_cases h g) [
         | inl q ↦ (
             let s = still x m.0 m.1 xp in
-            let a_is = some_is joined a (sym (at-other mid p None g k.apart ∙ at-same v.arc g (Some joined)) ∙ ap arcs (sym q) ∙ e) in
+            let a_is = same_Some joined a (sym (at-other mid p None g k.apart ∙ at-same v.arc g (Some joined)) ∙ ap arcs (sym q) ∙ e) in
             (s.0, ap arcs (ap next q ∙ next_g) ∙ s.1, s.2 ∙ m.2 ∙ sym (end_joined arc its (pair_meets v g p arc its l k)) ∙ ap end_of a_is))
         | inr ng ↦ (
             let a_is = sym (at-other mid p None h (here h a e) ∙ at-other v.arc g (Some joined) h ng) ∙ e in
@@ -184,12 +185,12 @@ linked_move v g p arc its a b l k same seam end =
     λ n c e np. (let q = lo_at v.arc g arc a k.first same n c e in (q.0, at-other mid p (Some b) n np ∙ q.1, q.2)) in
     record {
       meets = λ h c e. elim (draw_cases h g) [
-        | inl q ↦ (b, ap arcs (ap v.next q ∙ k.line) ∙ at_p, seam ∙ ap end_of (some_is a c (sym at_g ∙ ap arcs (sym q) ∙ e)))
+        | inl q ↦ (b, ap arcs (ap v.next q ∙ k.line) ∙ at_p, seam ∙ ap end_of (same_Some a c (sym at_g ∙ ap arcs (sym q) ∙ e)))
         | inr ng ↦ elim (draw_cases h p) [
           | inl q ↦ (
               let m = l.meets p its k.second in
               let s = still (v.next p) m.0 m.1 xp in
-              (s.0, ap arcs (ap v.next q) ∙ s.1, s.2 ∙ m.2 ∙ sym end ∙ ap end_of (some_is b c (sym at_p ∙ ap arcs (sym q) ∙ e))))
+              (s.0, ap arcs (ap v.next q) ∙ s.1, s.2 ∙ m.2 ∙ sym end ∙ ap end_of (same_Some b c (sym at_p ∙ ap arcs (sym q) ∙ e))))
           | inr np ↦ (
               let is = sym (at-other mid p (Some b) h np ∙ at-other v.arc g (Some a) h ng) ∙ e in
               let n = l.meets h c is in

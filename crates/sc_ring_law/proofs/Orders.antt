@@ -3,6 +3,7 @@ use Rattle.std.specs.Prelude.{not, ◌&&◌, ◌||◌, ◌==◌, nat_le, length}
 use Rattle.std.specs.List.{list_any}
 use Rattle.std.proofs.Common.{◌≡◌, ℕ, ◌^◌, ◌<◌, Bool, true, false, cond, [], ◌∷◌, inl, inr, Option, Some, None, refl, sym, ◌∙◌, ap, subst}
 use Rattle.std.proofs.lemmas.Bool.{cases_Bool, cond_both, cond-true, or_parts, not-false, eqb-false, ltb-true}
+use Rattle.std.proofs.lemmas.Option.{same_Some}
 use Rattle.sc_base.specs.Arc.{holds, offset}
 use Rattle.sc_base.specs.Same.{same_draw}
 use Rattle.sc_base.specs.declared.names.Draw.{Draw}
@@ -33,7 +34,7 @@ use Rattle.sc_entries.specs.Effective.{after_outcome, is_commit}
 use Rattle.sc_entries.specs.declared.Division.{Division}
 use Rattle.sc_ring_law.specs.Stories.{Story, Stories, put, new_story, stories_after}
 use Rattle.sc_ring_law.specs.Invariant.{Groups, LockOk}
-use Rattle.sc_entries.proofs.Names.{names_differ, some_is}
+use Rattle.sc_entries.proofs.Names.{names_differ}
 use Rattle.sc_ring_law.proofs.Notes.{any_keeps, any_new, ended_keeps, is_vote_on}
 use Rattle.sc_ring_law.proofs.View.{Ring}
 use Rattle.sc_ring_law.proofs.Cover.{at-same, at-other}
@@ -106,7 +107,7 @@ same_self : (s : Group) → IsSame s s
 same_self s = record { id = refl; decided = refl; voted = refl; born = refl }
 
 same_made : (s x after : Group) → IsSame s x → Some x ≡ Some after → IsSame s after
-same_made s x after k e = subst (IsSame s) (some_is x after e) k
+same_made s x after k e = subst (IsSame s) (same_Some x after e) k
 
 none_made : (s after : Group) → None ≡ Some after → IsSame s after
 none_made s after e = absurd (let f : None ≡ Some after = e in cc)
@@ -180,7 +181,7 @@ module _ (owner : Draw → Option Draw) (ring : Ring) (gs : Groups) (ys : Storie
         | inl c ↦ alike_same _ _ (eff_s ∙ ap living (promise_settled o tx s offer c lock) ∙ ap (λ x. living (settled_in x s tx o).0) m)
         | inr c ↦ (
             let a = not_commit o c in
-            let same : s ≡ after = some_is s after (ap (λ x. participant_after x s offer) (sym a) ∙ m) in
+            let same : s ≡ after = same_Some s after (ap (λ x. participant_after x s offer) (sym a) ∙ m) in
             abort_alike tx after here (eff_s ∙ ap (λ x. living (after_outcome (Some x) tx s)) a)
             (ap (λ (x : Group). x.core.arc) (sym same), ap (λ (x : Group). x.core.succ.group) (sym same), ap (λ (x : Group). x.core.pred.group) (sym same), ap (λ (x : Group). x.pairs) (sym same), ap (λ (x : Group). x.core.gone) (sym same)))
       ])

@@ -7,11 +7,10 @@ use Rattle.sc_ring_law.specs.Stories.{put}
 use Rattle.sc_ring_law.proofs.Arcs.{to_parts, from_left, from_right, not_both, left_is, right_is, from_joined, to_joined, end_left, end_right, end_joined}
 use Rattle.sc_ring_law.proofs.Cover.{IsRecut, covers_edit}
 use Rattle.sc_ring_law.proofs.Links.{differ, IsPair, pair_meets, linked_split, linked_merge, linked_move}
-use Rattle.sc_entries.proofs.Names.{some_is}
-use Rattle.std.proofs.lemmas.Option.{none-some}
+use Rattle.std.proofs.lemmas.Option.{none-some, same_Some}
 
 is_arc : (a b : Arc) → IsOnRing a → Some a ≡ Some b → IsOnRing b
-is_arc a b k e = subst IsOnRing (some_is a b e) k
+is_arc a b k e = subst IsOnRing (same_Some a b e) k
 
 pub covers_recut : (ring : Ring) (x : Draw) (a c : Option Arc) (y : Draw) (b d : Option Arc) → CoversBy ring → (x ≡ y → ⊥) → ring x ≡ a → ring y ≡ b → IsRecut a b c d → CoversBy (put (put ring x c) y d)
 covers_recut ring x a c y b d v ne e f r = covers_edit ring x c y d v ne (subst (λ k. IsRecut k (ring y) c d) (sym e) (subst (λ k. IsRecut a k c d) (sym f) r))

@@ -1,5 +1,6 @@
 -- The commits: merges, moved boundaries, members that move on, and splits.
 use Rattle.std.proofs.Common.{◌≡◌, true, cond, Option, Some, None, refl, sym, ◌∙◌, ap, subst}
+use Rattle.std.proofs.lemmas.Option.{same_Some}
 use Rattle.sc_base.specs.Arc.{joined}
 use Rattle.sc_base.specs.Same.{same_draw}
 use Rattle.sc_base.specs.declared.names.Draw.{Draw}
@@ -23,7 +24,7 @@ use Rattle.sc_entries.specs.Effective.{is_commit}
 use Rattle.sc_base.proofs.NameLemmas.{draw_is}
 use Rattle.sc_ring_law.specs.Stories.{Story, Stories, unsigned, unsigned_watch, offer_for, offer_with, watch_for, watch_with}
 use Rattle.sc_ring_law.specs.Invariant.{Groups, IsFrozen}
-use Rattle.sc_entries.proofs.Names.{other_name, some_is}
+use Rattle.sc_entries.proofs.Names.{other_name}
 use Rattle.sc_ring_law.proofs.View.{Ring}
 use Rattle.sc_ring_law.proofs.Links.{not_back}
 use Rattle.sc_ring_law.proofs.Effects.{living, arc_of, succ_of, view_of, Good, Old, living_is}
@@ -45,7 +46,7 @@ module _ (owner : Draw → Option Draw) (ring : Ring) (gs : Groups) (ys : Storie
       let o : Outcome = Merged (merged_route s.core fz) in
       let own = own_is owner gs ys g s tx At.Merge None y d in
       let r = (d.facts.story tx y d.there).frozen own.undecided fz vote in
-      let line : s.core.succ.group ≡ r.offer.part = ap (λ (z : Offer). z.part) (some_is (offer_with s.core At.Merge) (unsigned r.offer) (sym own.offer ∙ r.offered)) in
+      let line : s.core.succ.group ≡ r.offer.part = ap (λ (z : Offer). z.part) (same_Some (offer_with s.core At.Merge) (unsigned r.offer) (sym own.offer ∙ r.offered)) in
       let s' = decided_group (closing_group s fz) tx o in
       let y' = Ends y o in
       let ne : g ≡ r.offer.part → ⊥ = λ e. own.apart (line ∙ sym e) in
@@ -57,7 +58,7 @@ module _ (owner : Draw → Option Draw) (ring : Ring) (gs : Groups) (ys : Storie
         then = mine_new owner gs ys g s tx At.Merge None y d s' y' refl refl;
         gone = p.1;
         others = λ h ng np nx. other_eff owner gs ys g s tx At.Merge None y d s' y' h ng
-            (λ q e z. np (sym z ∙ ap (λ (x : Offer). x.part) (some_is (unsigned q) (unsigned r.offer) (sym e ∙ r.offered)))) (λ z e q. some_none (unsigned_watch z) (sym e ∙ own.watch)) (gs h) refl;
+            (λ q e z. np (sym z ∙ ap (λ (x : Offer). x.part) (same_Some (unsigned q) (unsigned r.offer) (sym e ∙ r.offered)))) (λ z e q. some_none (unsigned_watch z) (sym e ∙ own.watch)) (gs h) refl;
         watched = λ n. absurd (n refl);
         apart = ne;
         away = ne;
@@ -80,8 +81,8 @@ module _ (owner : Draw → Option Draw) (ring : Ring) (gs : Groups) (ys : Storie
       let k = d.facts.story tx y d.there in
       let r = k.frozen own.undecided fz vote in
       let a = k.agreed own.undecided passed in
-      let line : s.core.succ.group ≡ r.offer.part = ap (λ (z : Offer). z.part) (some_is (offer_with s.core At.Merge) (unsigned r.offer) (sym own.offer ∙ r.offered)) in
-      let watch = some_is (watch_with s.core fz.succ.group s.core.succ.group (merged_link s.core fz)) (unsigned_watch a.watch) (sym own.watch ∙ a.asked) in
+      let line : s.core.succ.group ≡ r.offer.part = ap (λ (z : Offer). z.part) (same_Some (offer_with s.core At.Merge) (unsigned r.offer) (sym own.offer ∙ r.offered)) in
+      let watch = same_Some (watch_with s.core fz.succ.group s.core.succ.group (merged_link s.core fz)) (unsigned_watch a.watch) (sym own.watch ∙ a.asked) in
       let x_is : fz.succ.group ≡ a.watch.part = ap (λ (z : Watch). z.part) watch in
       let s' = decided_group (merged_group s fz) tx o in
       let y' = Ends y o in
@@ -95,8 +96,8 @@ module _ (owner : Draw → Option Draw) (ring : Ring) (gs : Groups) (ys : Storie
         then = mine_new owner gs ys g s tx At.Merge (Some h) y d s' y' refl refl;
         gone = p.1;
         others = λ n ng np nx. other_eff owner gs ys g s tx At.Merge (Some h) y d s' y' n ng
-            (λ q e z. np (sym z ∙ ap (λ (x : Offer). x.part) (some_is (unsigned q) (unsigned r.offer) (sym e ∙ r.offered))))
-            (λ z e q. nx (sym q ∙ ap (λ (x : Watch). x.part) (some_is (unsigned_watch z) (unsigned_watch a.watch) (sym e ∙ a.asked)))) (gs n) refl;
+            (λ q e z. np (sym z ∙ ap (λ (x : Offer). x.part) (same_Some (unsigned q) (unsigned r.offer) (sym e ∙ r.offered))))
+            (λ z e q. nx (sym q ∙ ap (λ (x : Watch). x.part) (same_Some (unsigned_watch z) (unsigned_watch a.watch) (sym e ∙ a.asked)))) (gs n) refl;
         watched = λ n. (let x = watch_eff owner gs ys g s tx At.Merge (Some h) y d s' y' o a n refl refl in
             (a.group, party_freed (watcher_after o a.group a.watch) tx, x.0, x.1, refl, refl, sym (ap (λ (z : Watch). z.next.group) watch) ∙ named, refl));
         apart = ne;
@@ -125,7 +126,7 @@ module _ (owner : Draw → Option Draw) (ring : Ring) (gs : Groups) (ys : Storie
   part_is fz vote some =
       let own = own_is owner gs ys g s tx body None y d in
       let r = (d.facts.story tx y d.there).frozen own.undecided fz vote in
-      let same = some_is (offer_with s.core body) (unsigned r.offer) (sym some ∙ sym own.offer ∙ r.offered) in
+      let same = same_Some (offer_with s.core body) (unsigned r.offer) (sym some ∙ sym own.offer ∙ r.offered) in
       let line : s.core.succ.group ≡ r.offer.part = ap (λ (z : Offer). z.part) same in
       record { frozen = r; line = line; apart = λ e. own.apart (line ∙ sym e); arc = ap (λ (z : Offer). z.arc) same }
 
@@ -143,6 +144,6 @@ module _ (owner : Draw → Option Draw) (ring : Ring) (gs : Groups) (ys : Storie
         first = mine_new owner gs ys g s tx body None y d s' y' gone free;
         second = q.1 ∙ ap (λ z. living (settled_in z r.group tx o).0) after ∙ living_is (party_freed b tx) (here ∙ q.2);
         others = λ h ng np. other_eff owner gs ys g s tx body None y d s' y' h ng
-            (λ z e w. np (sym w ∙ ap (λ (a : Offer). a.part) (some_is (unsigned z) (unsigned r.offer) (sym e ∙ r.offered)))) (λ z e w. some_none (unsigned_watch z) (sym e ∙ own.watch ∙ unwatched)) (gs h) refl;
+            (λ z e w. np (sym w ∙ ap (λ (a : Offer). a.part) (same_Some (unsigned z) (unsigned r.offer) (sym e ∙ r.offered)))) (λ z e w. some_none (unsigned_watch z) (sym e ∙ own.watch ∙ unwatched)) (gs h) refl;
         links = links;
       }

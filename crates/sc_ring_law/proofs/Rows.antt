@@ -2,6 +2,7 @@
 use Rattle.std.specs.Prelude.{◌++◌}
 use Rattle.std.proofs.Common.{◌≡◌, ℕ, true, false, [], ◌∷◌, ◌⊎◌, inl, inr, Option, Some, None, refl, sym, ◌∙◌, ap, subst}
 use Rattle.std.proofs.lemmas.Bool.{both_ways}
+use Rattle.std.proofs.lemmas.Option.{same_Some}
 use Rattle.sc_base.specs.declared.names.Draw.{Draw}
 use Rattle.sc_base.proofs.NameLemmas.{same_name}
 use Rattle.sc_cmd.specs.declared.bodies.Body.{Body}
@@ -22,11 +23,11 @@ use Rattle.sc_machine_table.specs.Plans.{frozen_of}
 use Rattle.sc_machine_table.specs.Transactions.{begun_group}
 use Rattle.sc_machine_table.specs.Votes.{has_voted}
 use Rattle.sc_ring_law.specs.Stories.{Story, Stories, put, unsigned, unsigned_watch, offer_for, watch_for, new_story}
-use Rattle.sc_ring_law.specs.Invariant.{Groups, has_decided, has_born, IsOwnBody, LockOk, IsWatcher, StoryOk, Facts}
-use Rattle.sc_entries.proofs.Names.{draw_cases, some_is}
+use Rattle.sc_ring_law.specs.Invariant.{Groups, has_decided, IsOwnBody, LockOk, IsWatcher, StoryOk, Facts}
+use Rattle.sc_entries.proofs.Names.{draw_cases}
 use Rattle.sc_ring_law.proofs.Notes.{any_keeps, any_new, is_vote_on}
 use Rattle.sc_ring_law.proofs.Cover.{at-same, at-is, at-other, from_at}
-use Rattle.sc_ring_law.proofs.Facts.{same_frozen, IsOf, IsCalm, keep_known, keep_there, keep_voter, keep_watcher, keep_frozen, keep_agreed, keep_none, story_keep, IsGrown, group_new, facts_change, facts_quiet, facts_told}
+use Rattle.sc_ring_law.proofs.Facts.{same_frozen, IsOf, IsCalm, keep_known, keep_there, keep_voter, keep_watcher, keep_frozen, keep_agreed, keep_none, story_keep, IsGrown, group_new, facts_change, facts_quiet, facts_told, StayBorn, SameDecided}
 use Rattle.sc_ring_law.proofs.Finds.{some_none}
 
 pub no_promise : (l : Lock) (tx : Draw) (offer : Offer) → l ≡ Free → l ≡ Promised tx offer → ⊥
@@ -68,8 +69,8 @@ pub unheard : (gs : Groups) (owner : Draw → Option Draw) (tx : Draw) (y : Stor
 unheard gs owner tx y offer s k is there none None e = e
 unheard gs owner tx y offer s k is there none (Some v) e =
     let r = k.voter v e in
-    let o : unsigned offer ≡ r.offer = some_is (unsigned offer) r.offer (sym is ∙ r.offered) in
-    absurd (both_ways (has_voted s.core tx) none (subst (λ (b : Group). has_voted b.core tx ≡ true) (some_is r.group s (sym r.is ∙ ap (λ (x : Offer). gs x.part) (sym o) ∙ there)) r.voted))
+    let o : unsigned offer ≡ r.offer = same_Some (unsigned offer) r.offer (sym is ∙ r.offered) in
+    absurd (both_ways (has_voted s.core tx) none (subst (λ (b : Group). has_voted b.core tx ≡ true) (same_Some r.group s (sym r.is ∙ ap (λ (x : Offer). gs x.part) (sym o) ∙ there)) r.voted))
 
 -- ---- a change without a story, of a group that is free or watches
 
@@ -78,9 +79,9 @@ pub record IsPlain (s s' : Group) : Type 0 where
   pub id : s'.core.id ≡ s.core.id
   pub lock : s'.core.lock ≡ s.core.lock
   pub here : s'.core.gone ≡ s.core.gone
-  pub decided : (t : Draw) → has_decided s'.core t ≡ has_decided s.core t
+  pub decided : SameDecided s s'
   pub voted : (t : Draw) → has_voted s'.core t ≡ has_voted s.core t
-  pub born : (h : Draw) → has_born s.core h ≡ true → has_born s'.core h ≡ true
+  pub born : StayBorn s s'
 
 -- a lock that leaves a group open
 abbrev pub IsOpen : Lock → Type 0
@@ -148,9 +149,9 @@ begin_facts gs ys owner g s tx body order f is free here fresh mine unborn apart
     })
     (λ h u ne k. group_new ys tx y' fresh h u k)
     (λ t z e. elim (from_at ys tx (Some y') t (Some z) e) [
-      | inl m ↦ subst (StoryOk owner (put gs g (Some s')) t) (some_is y' z m.1) (subst (λ n. StoryOk owner (put gs g (Some s')) n y') (sym m.0) (record {
+      | inl m ↦ subst (StoryOk owner (put gs g (Some s')) t) (same_Some y' z m.1) (subst (λ n. StoryOk owner (put gs g (Some s')) n y') (sym m.0) (record {
         named = mine ∙ ap Some (sym named);
-        known = λ u q n. (order, None, subst (λ (b : Group). b.core.lock ≡ Coordinating tx body order None) (some_is s' u (sym (at-same gs g (Some s')) ∙ ap (put gs g (Some s')) (sym named) ∙ q)) refl);
+        known = λ u q n. (order, None, subst (λ (b : Group). b.core.lock ≡ Coordinating tx body order None) (same_Some s' u (sym (at-same gs g (Some s')) ∙ ap (put gs g (Some s')) (sym named) ∙ q)) refl);
         there = (s', ap (put gs g (Some s')) named ∙ at-same gs g (Some s'));
         voter = λ v q. absurd (some_none v (sym q));
         watcher = λ v q. absurd (some_none v (sym q));
@@ -213,7 +214,7 @@ lock_story ys g s s' tx y y' there e votes same Free ok = tt
 lock_story ys g s s' tx y y' there e votes same (Coordinating t body order heard) r =
     elim (draw_cases t tx) [
       | inl q ↦ (
-          let y_is = some_is y r.story (sym there ∙ ap ys (sym q) ∙ r.is) in
+          let y_is = same_Some y r.story (sym there ∙ ap ys (sym q) ∙ r.is) in
           record {
             story = y';
             is = at-is ys tx (Some y') t q;
@@ -246,7 +247,7 @@ lock_story ys g s s' tx y y' there e votes same (Coordinating t body order heard
 lock_story ys g s s' tx y y' there e votes same (Promised t offer) r =
     elim (draw_cases t tx) [
       | inl q ↦ (
-          let y_is = some_is y r.story (sym there ∙ ap ys (sym q) ∙ r.is) in
+          let y_is = same_Some y r.story (sym there ∙ ap ys (sym q) ∙ r.is) in
           record {
             story = y';
             is = at-is ys tx (Some y') t q;
@@ -260,7 +261,7 @@ lock_story ys g s s' tx y y' there e votes same (Promised t offer) r =
 lock_story ys g s s' tx y y' there e votes same (Watching t watch) r =
     elim (draw_cases t tx) [
       | inl q ↦ (
-          let y_is = some_is y r.story (sym there ∙ ap ys (sym q) ∙ r.is) in
+          let y_is = same_Some y r.story (sym there ∙ ap ys (sym q) ∙ r.is) in
           record { story = y'; is = at-is ys tx (Some y') t q; asked = e.3 ∙ ap (λ (z : Story). z.watch) y_is ∙ r.asked; part = r.part; here = same.0 ∙ r.here })
       | inr q ↦ record { story = r.story; is = at-other ys tx (Some y') t q ∙ r.is; asked = r.asked; part = r.part; here = same.0 ∙ r.here }
     ]
@@ -314,8 +315,8 @@ past_grown g y p = record { offer = refl; votes = λ f q. q; watch = λ w e. e; 
 
 pub not_passed : (gs : Groups) (g : Draw) (s : Group) (tx : Draw) (y : Story) (watch : Watch) → gs g ≡ Some s → has_voted s.core tx ≡ false → y.watch ≡ Some (unsigned_watch watch) → watch.part ≡ g → IsWatcher gs tx y.watch → ⊥
 not_passed gs g s tx y watch is new asked part r =
-    let o : unsigned_watch watch ≡ r.watch = some_is (unsigned_watch watch) r.watch (sym asked ∙ r.is_asked) in
-    both_ways (has_voted s.core tx) new (subst (λ (b : Group). has_voted b.core tx ≡ true) (some_is r.group s (sym r.is ∙ ap (λ (x : Watch). gs x.part) (sym o) ∙ ap gs part ∙ is)) r.voted)
+    let o : unsigned_watch watch ≡ r.watch = same_Some (unsigned_watch watch) r.watch (sym asked ∙ r.is_asked) in
+    both_ways (has_voted s.core tx) new (subst (λ (b : Group). has_voted b.core tx ≡ true) (same_Some r.group s (sym r.is ∙ ap (λ (x : Watch). gs x.part) (sym o) ∙ ap gs part ∙ is)) r.voted)
 
 pub agree_facts : (gs : Groups) (ys : Stories) (owner : Draw → Option Draw) (g : Draw) (s : Group) (tx : Draw) (y : Story) (watch : Watch) → Facts owner gs ys → gs g ≡ Some s → s.core.lock ≡ Free → s.core.gone ≡ None
     → ys tx ≡ Some y → y.watch ≡ Some (unsigned_watch watch) → watch.part ≡ g

@@ -25,7 +25,6 @@ use Rattle.sc_ring_law.specs.Invariant.{Facts}
 use Rattle.sc_entries.specs.Parts.{IsPlaced}
 use Rattle.sc_ring_law.specs.Laws.{IsRingSound, EntriesKeepTheRing, EntriesKeepThePromises, DrawsAreOfOneLog, draw_of, AllowedListsAppend}
 use Rattle.sc_ring_law.proofs.View.{Holds, HeldBy, CoversBy}
-use Rattle.sc_entries.proofs.Names.{some_is}
 use Rattle.sc_ring_law.proofs.Finds.{all_pairs}
 use Rattle.sc_ring_law.proofs.Cuts.{arcs_in, cut_of_arc, arc_of_cut}
 use Rattle.sc_ring_law.proofs.Rows.{IsOpen}
@@ -34,7 +33,7 @@ use Rattle.sc_ring_law.proofs.Steps.{same_fun, serving}
 use Rattle.sc_ring_law.proofs.Told.{groups_in, Agree, decision_is}
 use Rattle.sc_ring_law.proofs.Worlds.{KeptWorld, kept_after}
 use Rattle.sc_ring_law.proofs.Start.{at_start, is_held, arc_some}
-use Rattle.std.proofs.lemmas.Option.{none-some}
+use Rattle.std.proofs.lemmas.Option.{none-some, same_Some}
 
 -- ---- effective records
 
@@ -45,7 +44,7 @@ effective_is (Promised tx offer) ts ys u k = ap (λ o. after_outcome o tx u) (de
 effective_is (Watching tx watch) ts ys u k = ap (λ o. after_outcome o tx u) (decision_is ts ys k tx)
 
 living_was : (went : Option Route) (x e : Group) → living_by went x ≡ Some e → (x ≡ e) × (went ≡ None)
-living_was None x e q = (some_is x e q, refl)
+living_was None x e q = (same_Some x e q, refl)
 living_was (Some into) x e q = absurd (none-some e q)
 
 -- a record that has an arc
@@ -109,7 +108,7 @@ module _ (owner : Draw → Option Draw) (w : ToldWorld) (k : KeptWorld owner w) 
         (c.cut, c.there, lt-ltb (offset c.cut.arc p) c.cut.arc.len (subst (λ z. Holds z p) (sym c.arc) x.2)));
     only = λ p q a b x y u v. (
         let same = cover.only p a.group b.group q (held a x p u) (held b y p v) in
-        cuts_equal a b (some_is a.arc b.arc (sym (cut_arc a x) ∙ ap (arcs_in w.store.ring) same ∙ cut_arc b y)) same);
+        cuts_equal a b (same_Some a.arc b.arc (sym (cut_arc a x) ∙ ap (arcs_in w.store.ring) same ∙ cut_arc b y)) same);
     apart = all_pairs (λ (c o : Cut). c.group ≢ o.group) w.store.ring k.apart;
   }
 
@@ -135,7 +134,7 @@ module _ (owner : Draw → Option Draw) (w : ToldWorld) (k : KeptWorld owner w) 
       let b = l.behind c.group c.arc mine in
       let p = view_cut (v.prev c.group) b.0 b.1 in
       let n = l.meets (v.prev c.group) b.0 b.1 in
-      let same : n.0 ≡ c.arc = some_is n.0 c.arc (sym n.1 ∙ ap v.arc (l.forth c.group c.arc mine) ∙ mine) in
+      let same : n.0 ≡ c.arc = same_Some n.0 c.arc (sym n.1 ∙ ap v.arc (l.forth c.group c.arc mine) ∙ mine) in
       record {
         group = r.group;
         is = r.is;
@@ -174,8 +173,8 @@ entries_keep_the_promises sources bases entries start allowed =
     (kept_after sources (first_told bases) entries (at_start sources bases start) allowed).kept.0
 
 pub owned : (sources : Sources) (ys : Stories) (g : Draw) (command : Command) (name : Draw) → IsAllowed sources ys g command → draw_of command ≡ Some name → sources.owner name ≡ Some g
-owned sources ys g (Split at child order) name a e = ap sources.owner (sym (some_is child name e)) ∙ a.0
-owned sources ys g (Begin tx body order) name a e = ap sources.owner (sym (some_is tx name e)) ∙ a.0
+owned sources ys g (Split at child order) name a e = ap sources.owner (sym (same_Some child name e)) ∙ a.0
+owned sources ys g (Begin tx body order) name a e = ap sources.owner (sym (same_Some tx name e)) ∙ a.0
 owned sources ys g Noop name a e = absurd (none-some name e)
 owned sources ys g (Call client seq op) name a e = absurd (none-some name e)
 owned sources ys g (Join node order) name a e = absurd (none-some name e)
@@ -194,7 +193,7 @@ owned_among sources w (b ∷ es) k a (inr x) name e = owned_among sources (told_
 
 pub draws_are_of_one_log : DrawsAreOfOneLog
 draws_are_of_one_log sources bases entries k a b x y name e q =
-    some_is a.group b.group (sym (owned_among sources (first_told bases) entries k a x name e) ∙ owned_among sources (first_told bases) entries k b y name q)
+    same_Some a.group b.group (sym (owned_among sources (first_told bases) entries k a x name e) ∙ owned_among sources (first_told bases) entries k b y name q)
 
 pub allowed_lists_append : AllowedListsAppend
 allowed_lists_append sources w [] more a b = b

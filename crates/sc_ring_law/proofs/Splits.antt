@@ -1,5 +1,6 @@
 -- Splits: at once, and with a watcher.
 use Rattle.std.proofs.Common.{◌≡◌, ℕ, ◌^◌, ◌<◌, Bool, true, false, cond, inl, inr, Option, Some, None, refl, sym, ◌∙◌, ap}
+use Rattle.std.proofs.lemmas.Option.{same_Some}
 use Rattle.sc_base.specs.Arc.{before, from}
 use Rattle.sc_base.specs.declared.names.Draw.{Draw}
 use Rattle.sc_base.proofs.NameLemmas.{draw_is}
@@ -18,7 +19,7 @@ use Rattle.sc_machine_table.specs.Splits.{left_group, child_of, left_link, right
 use Rattle.sc_machine_table.specs.Transactions.{decided_group}
 use Rattle.sc_ring_law.specs.Stories.{Story, Stories, put, unsigned, unsigned_watch, watch_with}
 use Rattle.sc_ring_law.specs.Invariant.{Groups}
-use Rattle.sc_entries.proofs.Names.{draw_cases, other_name, some_is}
+use Rattle.sc_entries.proofs.Names.{draw_cases, other_name}
 use Rattle.sc_ring_law.proofs.View.{Ring, Holds, split_view}
 use Rattle.sc_ring_law.proofs.Cover.{at-same, at-other}
 use Rattle.sc_ring_law.proofs.Recut.{split_whole}
@@ -67,7 +68,7 @@ module _ (owner : Draw → Option Draw) (ring : Ring) (gs : Groups) (ys : Storie
   divide_commit passed none named fits held inside w =
       let own = own_is owner gs ys g s tx (At.Split at tx) heard y d in
       let a = (d.facts.story tx y d.there).agreed own.undecided passed in
-      let watch = some_is (watch_with s.core s.core.succ.group s.core.id (right_link s.core tx)) (unsigned_watch a.watch) (sym own.watch ∙ a.asked) in
+      let watch = same_Some (watch_with s.core s.core.succ.group s.core.id (right_link s.core tx)) (unsigned_watch a.watch) (sym own.watch ∙ a.asked) in
       let x_is : s.core.succ.group ≡ a.watch.part = ap (λ (z : Watch). z.part) watch in
       let l = decided_group (left_group s at tx) tx Divided in
       let r = group_of (child_of s at tx) in
@@ -85,7 +86,7 @@ module _ (owner : Draw → Option Draw) (ring : Ring) (gs : Groups) (ys : Storie
         left = sym (other g gt) ∙ mine_new owner gs ys g s tx (At.Split at tx) heard y d l y' refl refl;
         right = ap (eff f') (at-same mid tx (Some r));
         others = λ h ng nc nx. other_eff owner gs ys g s tx (At.Split at tx) heard y d l y' h ng
-            (λ z q v. some_none (unsigned z) (sym q ∙ own.offer)) (λ z q v. nx (sym v ∙ ap (λ (b : Watch). b.part) (some_is (unsigned_watch z) (unsigned_watch a.watch) (sym q ∙ a.asked)))) (gs h) refl ∙ other h nc;
+            (λ z q v. some_none (unsigned z) (sym q ∙ own.offer)) (λ z q v. nx (sym v ∙ ap (λ (b : Watch). b.part) (same_Some (unsigned_watch z) (unsigned_watch a.watch) (sym q ∙ a.asked)))) (gs h) refl ∙ other h nc;
         watched = λ n. (let x = watch_eff owner gs ys g s tx (At.Split at tx) heard y d l y' Divided a n refl refl in
             (a.group, party_freed (watcher_after Divided a.group a.watch) tx, x.0, sym (other a.watch.part xt) ∙ x.1, refl, refl, sym (ap (λ (z : Watch). z.next.group) watch), refl));
         apart = gt;

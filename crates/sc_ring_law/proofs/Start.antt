@@ -21,7 +21,7 @@ use Rattle.sc_ring_law.specs.Allowed.{Sources, first_told}
 use Rattle.sc_ring_law.specs.Stories.{no_stories}
 use Rattle.sc_ring_law.specs.Invariant.{Groups, LockOk, Facts}
 use Rattle.sc_ring_law.specs.Laws.{BeginInPlace, BeginsInPlace}
-use Rattle.sc_entries.proofs.Names.{other_name, found_name, some_is}
+use Rattle.sc_entries.proofs.Names.{other_name, found_name}
 use Rattle.sc_ring_law.proofs.View.{IsOnRing, Holds, HeldBy, Ring, CoversBy, View, IsLinked}
 use Rattle.sc_paxos_law.proofs.Among.{from_map}
 use Rattle.sc_paxos_words.proofs.ListLemmas.{Each-among, Each-from, find_found}
@@ -33,7 +33,7 @@ use Rattle.sc_ring_law.proofs.Told.{groups_in}
 use Rattle.sc_ring_law.proofs.Steps.{same_fun}
 use Rattle.sc_ring_law.proofs.Rings.{AreApart}
 use Rattle.sc_ring_law.proofs.Worlds.{KeptWorld}
-use Rattle.std.proofs.lemmas.Option.{none-some}
+use Rattle.std.proofs.lemmas.Option.{none-some, same_Some}
 
 -- ---- the list of cuts covers where the ring by names does
 
@@ -121,7 +121,7 @@ cut_arc h (b ∷ bases) = elim (cases_Bool (same_draw b.core.id h)) [
 -- who has an arc is there
 pub arc_some : (o : Option Group) (a : Arc) → arc_of o ≡ Some a → (u : Group) × (o ≡ Some u) × (u.core.arc ≡ a)
 arc_some None a e = absurd (none-some a e)
-arc_some (Some u) a e = (u, refl, some_is u.core.arc a e)
+arc_some (Some u) a e = (u, refl, same_Some u.core.arc a e)
 
 -- ---- the start
 

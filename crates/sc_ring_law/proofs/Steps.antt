@@ -4,6 +4,7 @@ use Rattle.std.proofs.Common.{◌≡◌, ℕ, Bool, true, false, cond, List, [],
 use Rattle.std.proofs.lemmas.Bool.{cases_Bool, cond_both, or_parts, not_from_true, not_from_false, cond-true, cond-false}
 use Rattle.std.specs.Option.{option_map}
 use Rattle.std.specs.FinMap.{get, retain_keys}
+use Rattle.std.proofs.lemmas.Option.{same_Some}
 use Rattle.sc_base.specs.Same.{same_draw}
 use Rattle.sc_base.specs.Arc.{Arc}
 use Rattle.sc_base.specs.declared.names.Draw.{Draw}
@@ -47,7 +48,7 @@ use Rattle.sc_entries.specs.Effective.{after_outcome, is_commit}
 use Rattle.sc_ring_law.specs.Allowed.{IsShared}
 use Rattle.sc_ring_law.specs.Stories.{Story, Stories, put, retold, new_story, unsigned, unsigned_watch, vote_in, watch_vote_in, with_vote, with_watch_vote, stories_after}
 use Rattle.sc_ring_law.specs.Invariant.{Groups, has_decided, has_born, IsOwnBody, Facts}
-use Rattle.sc_entries.proofs.Names.{draw_cases, names_differ, some_is}
+use Rattle.sc_entries.proofs.Names.{draw_cases, names_differ}
 use Rattle.sc_ring_law.proofs.View.{Ring}
 use Rattle.sc_ring_law.proofs.Cover.{at-same, at-is, at-other}
 use Rattle.sc_base.proofs.NameLemmas.{same_name}
@@ -177,7 +178,7 @@ plain owner ring gs ys g s s' k is here free same inside =
       (
         whole_agree (view_of d) (view_of n) agrees k.1.0,
         λ h c q. elim (draw_cases h g) [
-          | inl w ↦ subst IsInside (some_is b.e c (sym new ∙ ap n (sym w) ∙ q)) mine
+          | inl w ↦ subst IsInside (same_Some b.e c (sym new ∙ ap n (sym w) ∙ q)) mine
           | inr ne ↦ k.1.1 h c (other h ne ∙ q)
         ],
         λ h. k.1.2 h ∙ agrees.arcs h,

@@ -16,13 +16,13 @@ use Rattle.sc_entries.specs.Decisions.{is_of, amended, concluded, with_outcome a
 use Rattle.sc_entries.specs.Worlds.{is_named, named_group, with_group, groups_after}
 use Rattle.sc_ring_law.specs.Stories.{Story, Stories, put, retold, with_decision}
 use Rattle.sc_ring_law.specs.Invariant.{Groups}
-use Rattle.sc_entries.proofs.Names.{draw_cases, other_name, some_is, found_name}
+use Rattle.sc_entries.proofs.Names.{draw_cases, other_name, found_name}
 use Rattle.sc_ring_law.proofs.Cover.{at-same, at-is, at-other}
 use Rattle.sc_ring_law.proofs.Effects.{outcome_of}
 use Rattle.sc_paxos_law.proofs.Among.{Among-either, from_map}
 use Rattle.sc_paxos_words.proofs.ListLemmas.{find_found}
 use Rattle.sc_ring_law.proofs.Finds.{find_map, some_none}
-use Rattle.std.proofs.lemmas.Option.{none-some}
+use Rattle.std.proofs.lemmas.Option.{none-some, same_Some}
 
 -- ---- groups
 
@@ -195,7 +195,7 @@ module _ (ts : List Transaction) (ys : Stories) (tx c : Draw) (change : Transact
   same_told h q None named None e k = refl
   same_told h q None named (Some y) e k = absurd (let f : None ≡ Some (story_brief y) = e in cc)
   same_told h q (Some t) named None e k = absurd (let f : Some (brief t) ≡ None = e in cc)
-  same_told h q (Some t) named (Some y) e k = ap Some (k t y refl refl (some_is (brief t) (story_brief y) e))
+  same_told h q (Some t) named (Some y) e k = ap Some (k t y refl refl (same_Some (brief t) (story_brief y) e))
 
   agree_amended : ((t : Transaction) (y : Story) → t.tx ≡ tx → ys tx ≡ Some y → brief t ≡ story_brief y → brief (amends tx c change t) ≡ story_brief (told y)) → Agree (amended tx c change ts) (retold ys tx told)
   agree_amended k h =

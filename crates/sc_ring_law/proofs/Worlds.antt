@@ -3,6 +3,7 @@ use Rattle.std.specs.Prelude.{not, ◌&&◌, ◌++◌}
 use Rattle.std.specs.Option.{option_map}
 use Rattle.std.proofs.Common.{◌≡◌, ℕ, true, false, cond, List, [], ◌∷◌, inl, inr, Option, Some, None, refl, sym, ◌∙◌, ap, subst}
 use Rattle.std.proofs.lemmas.Bool.{cases_Bool, cond_both}
+use Rattle.std.proofs.lemmas.Option.{same_Some}
 use Rattle.sc_base.specs.Same.{same_draw}
 use Rattle.sc_base.specs.declared.names.Draw.{Draw}
 use Rattle.sc_cmd.specs.declared.bodies.Body.{Body}
@@ -40,7 +41,7 @@ use Rattle.sc_ring_law.proofs.Ends.{draw_new, group_none, own_story, same_lock}
 use Rattle.sc_ring_law.proofs.Effects.{decisions, eff, arc_of}
 use Rattle.sc_ring_law.proofs.Steps.{Kept, same_fun, idle, call_kept, join_kept, leave_kept, begin_kept, prepared_kept, watched_kept, named_cases}
 use Rattle.sc_ring_law.proofs.Cuts.{arcs_in}
-use Rattle.sc_entries.proofs.Names.{found_name, some_is}
+use Rattle.sc_entries.proofs.Names.{found_name}
 use Rattle.sc_ring_law.proofs.Told.{groups_in, with_child, groups_are, AreFound, found_after, Agree, story_brief, agree_begun, agree_retold, agree_watcher, agree_concluded}
 use Rattle.sc_ring_law.proofs.Commits.{ring_told}
 use Rattle.sc_ring_law.proofs.Decisions.{born_too, record_kept, give_up_kept, watch_record_kept}
@@ -112,7 +113,7 @@ module _ (sources : Sources) (ring : Ring) (gs : Groups) (ys : Stories) (g : Dra
       let fresh = draw_new gs ys sources.owner g child s k.0 mine is o.free n.undecided (ys child) refl in
       record {
         births = λ d w. cond_both (is_alone s.core) (Some div) None (λ (x : Option Division). x ≡ Some d → gs d.child ≡ None)
-            (λ t e. ap (λ (z : Division). gs z.child) (sym (some_is div d e)) ∙ none) (λ t e. no_division d e) w;
+            (λ t e. ap (λ (z : Division). gs z.child) (sym (same_Some div d e)) ∙ none) (λ t e. no_division d e) w;
         told = λ ts a. elim (cases_Bool (not (is_alone s.core))) [
           | inl t ↦ subst (λ b. Agree (cond b (ts ++ begun ∷ []) ts) (cond b (put ys child (Some story)) ys)) (sym t) (agree_begun ts ys begun story a fresh refl)
           | inr t ↦ subst (λ b. Agree (cond b (ts ++ begun ∷ []) ts) (cond b (put ys child (Some story)) ys)) (sym t) a
@@ -140,7 +141,7 @@ module _ (sources : Sources) (ring : Ring) (gs : Groups) (ys : Stories) (g : Dra
   own_coordinator : (tx : Draw) (body : Body) (order : ℕ) (heard : Option Heard) → s.core.lock ≡ Coordinating tx body order heard → (y : Story) → ys tx ≡ Some y → y.coordinator ≡ s.core.id
   own_coordinator tx body order heard lock y there =
       let own = own_story gs ys sources.owner g s tx body order heard k.0 is lock in
-      ap (λ (z : Story). z.coordinator) (some_is y own.story (sym there ∙ own.is)) ∙ own.coordinator ∙ sym named
+      ap (λ (z : Story). z.coordinator) (same_Some y own.story (sym there ∙ own.is)) ∙ own.coordinator ∙ sym named
 
   own_apart : (tx : Draw) (body : Body) (order : ℕ) (heard : Option Heard) → s.core.lock ≡ Coordinating tx body order heard → s.core.id ≡ s.core.succ.group → ⊥
   own_apart tx body order heard lock q = (own_story gs ys sources.owner g s tx body order heard k.0 is lock).apart (sym q ∙ named)
@@ -193,7 +194,7 @@ module _ (sources : Sources) (ring : Ring) (gs : Groups) (ys : Stories) (g : Dra
   body_new t (At.Migrate node) order heard lock d e = no_division d e
   body_new t (At.Split at child) order heard lock d e =
       let own = own_story gs ys sources.owner g s t (At.Split at child) order heard k.0 is lock in
-      ap (λ (z : Division). gs z.child) (sym (some_is (record { at = at; child = child }) d e)) ∙ ap gs own.own.1 ∙ (k.0.story t own.story own.is).unborn at child own.same_body own.undecided
+      ap (λ (z : Division). gs z.child) (sym (same_Some (record { at = at; child = child }) d e)) ∙ ap gs own.own.1 ∙ (k.0.story t own.story own.is).unborn at child own.same_body own.undecided
 
   lock_new : (l : Lock) → s.core.lock ≡ l → (d : Division) → division_in l ≡ Some d → gs d.child ≡ None
   lock_new Free lock d e = no_division d e
@@ -260,7 +261,7 @@ birth_new : (gs : Groups) (g : Draw) (s after : Group) → gs g ≡ Some s → (
     → (base : Base) → option_map (λ (d : Division). child_of s d.at d.child) o ≡ Some base → put gs g (Some after) base.core.id ≡ None
 birth_new gs g s after is None fresh base e = absurd (let f : None ≡ Some base = e in cc)
 birth_new gs g s after is (Some d) fresh base e =
-    let id : d.child ≡ base.core.id = ap (λ (b : Base). b.core.id) (some_is (child_of s d.at d.child) base e) in
+    let id : d.child ≡ base.core.id = ap (λ (b : Base). b.core.id) (same_Some (child_of s d.at d.child) base e) in
     at-other gs g (Some after) base.core.id (λ q. some_none s (sym is ∙ ap gs (sym q) ∙ ap gs (sym id) ∙ fresh d refl)) ∙ ap gs (sym id) ∙ fresh d refl
 
 step_kept : (sources : Sources) (w : ToldWorld) (g : Draw) (command : Command) → KeptWorld sources.owner w → IsAllowed sources w.stories g command → (o : Option Group) → named_group g w.store.groups ≡ o

@@ -3,10 +3,11 @@ use Rattle.std.proofs.Common.{◌≡◌, ℕ, suc, ◌+◌, ◌<◌, ◌≤◌, 
 use Rattle.std.specs.List.{All, AllPairs, insert}
 use Rattle.std.proofs.lemmas.Bool.{cases_Bool, cond-true, cond-false, ltb-true, ltb-false, or_parts, eqb-false}
 use Rattle.std.proofs.lemmas.List.Kept.{AllPairs-cons}
-use Rattle.std.proofs.lemmas.List.Elements.{All-cons, All-append, All-take, All-drop, All-weaker, All-from_get_or}
+use Rattle.std.proofs.lemmas.List.Elements.{All-cons, All-append, All-take, All-drop, All-weaker}
 use Rattle.sc_scenario.specs.Schedules.{is_client}
 use Rattle.sc_scenario.specs.Taking.{client_place}
 use Rattle.sc_scenario.specs.declared.scenarios.Asks.{Asks}
+use Rattle.sc_member.proofs.Pairs.{AllPairs-head, AllPairs-tail}
 
 -- clients in order of number
 abbrev pub Below : Asks → Asks → Type 0
@@ -18,12 +19,6 @@ place_here client other others t = cond-true (ltb client other.client) 0 (1 + cl
 place_later : (client : ℕ) (other : Asks) (others : List Asks) → ltb client other.client ≡ false → client_place client (other ∷ others) ≡ suc (client_place client others)
 place_later client other others f = cond-false (ltb client other.client) 0 (1 + client_place client others) f ∙ (omega arith)
 
-head_below : (x : Asks) (xs : List Asks) → AllPairs Below (x ∷ xs) → All (Below x) xs
-head_below x xs up = All-from_get_or (Below x) xs x (λ i within. up 0 (suc i) x (omega arith) (omega arith))
-
-tail_up : (x : Asks) (xs : List Asks) → AllPairs Below (x ∷ xs) → AllPairs Below xs
-tail_up x xs up i j d lt within = up (suc i) (suc j) d (omega arith) (omega arith)
-
 -- what holds of all and of one more holds where it is put among them
 pub all_inserted : (P : Asks → Type 0) (xs : List Asks) (i : ℕ) (y : Asks) → All P xs → P y → All P (insert xs i y)
 all_inserted P xs i y all here = All-append P (take i xs) (y ∷ drop i xs) (All-take P i xs all) (All-cons P y (drop i xs) here (All-drop P i xs all))
@@ -34,8 +29,8 @@ rising_with asks [] up absent = AllPairs-cons Below asks [] (λ k d within. absu
 rising_with asks (other ∷ others) up absent =
     let parts = or_parts (eqb other.client asks.client) (is_client others asks.client) absent in
     let differ = eqb-false other.client asks.client parts.0 in
-    let rest = rising_with asks others (tail_up other others up) parts.1 in
-    let over = head_below other others up in
+    let rest = rising_with asks others (AllPairs-tail Below other others up) parts.1 in
+    let over = AllPairs-head Below other others up in
     elim (cases_Bool (ltb asks.client other.client)) [
       | inl t ↦ (
           let lt : asks.client < other.client = ltb-true asks.client other.client t in

@@ -31,6 +31,7 @@ use Rattle.sc_scenario.specs.declared.scenarios.SchedLine.TheVariants.{Go, Deliv
 use Rattle.sc_lines.proofs.Choices.{is_up_to, counted}
 use Rattle.sc_scenario.proofs.Results.{err_ok, same_Ok, given_ok}
 use Rattle.sc_scenario.proofs.Rosters.{roster_with, all_with}
+use Rattle.std.proofs.Math.Bool.{or-true}
 
 -- ---- the nodes of a group
 
@@ -73,16 +74,12 @@ Found clients who = (client : ℕ) × (who ≡ client_actor client) × (is_clien
 abbrev pub has_actor : List Asks → ℕ → Bool
 has_actor clients who = list_any (λ asks. eqb (client_actor asks.client) who) clients
 
-pub or_true : (b : Bool) → (b || true) ≡ true
-or_true true = refl
-or_true false = refl
-
 pub found_by : (asks : Asks) (clients : List Asks) (who : ℕ) → (has_actor clients who ≡ true → Found clients who) → (b : Bool) → eqb (client_actor asks.client) who ≡ b → (b || has_actor clients who) ≡ true → Found (asks ∷ clients) who
 found_by asks clients who more true h e =
     (asks.client, sym (eqb-true (client_actor asks.client) who h), ap (λ b. b || is_client clients asks.client) (eq-eqb asks.client asks.client refl))
 found_by asks clients who more false h e =
     let m = more e in
-    (m.0, m.1, subst (λ c. (eqb asks.client m.0 || c) ≡ true) (sym m.2) (or_true (eqb asks.client m.0)))
+    (m.0, m.1, subst (λ c. (eqb asks.client m.0 || c) ≡ true) (sym m.2) (or-true (eqb asks.client m.0)))
 
 pub found : (clients : List Asks) (who : ℕ) → has_actor clients who ≡ true → Found clients who
 found [] who e = absurd (true≢false (sym e))

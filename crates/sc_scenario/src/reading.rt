@@ -80,7 +80,8 @@ fn said(
     kind: Kind,
     words: &[&[u8]],
 ) -> Result<Said, sc_base::OutOfMemory>
-    ensures { IfOk result (λ sentence. sentence ≡ said in_place kind (map (λ word. word.now) words.now)) }
+    ensures { IfOk result (λ sentence. sentence ≡
+        said in_place kind (map (λ word. word.now) words.now)) }
 {
     if !in_place {
         return Ok(Err(Reason::OutOfPlace));

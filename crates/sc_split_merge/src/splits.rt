@@ -112,8 +112,13 @@ fn left_part(
     ensures { IfOk result
         (λ left.
         left
-        ≡ record core.now
-        { arc = arc; members = own.now.members; succ = child.now; pred = if is_alone core.now then child.now else core.now.pred; born = core.now.born ++ child.now.group ∷ [] }) }
+        ≡ record core.now {
+          arc = arc;
+          members = own.now.members;
+          succ = child.now;
+          pred = if is_alone core.now then child.now else core.now.pred;
+          born = core.now.born ++ child.now.group ∷ [];
+        }) }
 {
     let pred = if is_alone(core) { *child } else { core.pred };
     let mut left = core.dup(alloc)?;
@@ -128,8 +133,20 @@ fn left_part(
 /// The child on this arc, of a group that is `parent` from now on.
 fn right_part(alloc: Global, core: &Core, arc: RingArc, parent: &Link, child: &Link) -> Core
     ensures { result
-        ≡ record
-        { id = child.now.group; first = least_of child.now.members; arc = arc; members = child.now.members; succ = if is_alone core.now then parent.now else core.now.succ; pred = parent.now; lock = Free; begun = 0; decided = []; voted = []; born = []; gone = None } }
+        ≡ record {
+          id = child.now.group;
+          first = least_of child.now.members;
+          arc = arc;
+          members = child.now.members;
+          succ = if is_alone core.now then parent.now else core.now.succ;
+          pred = parent.now;
+          lock = Free;
+          begun = 0;
+          decided = [];
+          voted = [];
+          born = [];
+          gone = None;
+        } }
 {
     let succ = if is_alone(core) { *parent } else { core.succ };
     Core {

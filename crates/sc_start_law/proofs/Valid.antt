@@ -1,6 +1,6 @@
 -- Each valid scenario has one to sixteen groups in place, and its players are seated.
-use Rattle.std.proofs.Common.{◌≡◌, ℕ, suc, ◌-◌, ◌<◌, ◌≤◌, List, [], ◌∷◌, ◌++◌, length, map, slice_index_or, Option, None, inl, inr, sym, ◌∙◌, ap, subst, arith}
-use Rattle.std.specs.List.{All, AllPairs}
+use Rattle.std.proofs.Common.{◌≡◌, ◌-◌, ◌<◌, ◌≤◌, List, ◌∷◌, ◌++◌, length, map, Option, None, sym, ◌∙◌, ap, subst, arith}
+use Rattle.std.specs.List.{AllPairs}
 use Rattle.sc_base.specs.Among.{Among, Each}
 use Rattle.sc_base.specs.declared.names.Draw.{Draw}
 use Rattle.sc_cmd.specs.declared.cores.Base.{Base}
@@ -18,33 +18,12 @@ use Rattle.sc_start_law.specs.Begins.{HasSeats, IsReady, request_of}
 use Rattle.sc_start_law.specs.Laws.{ValidScenariosBeginWell}
 use Rattle.sc_start_law.proofs.Requests.{asks_are}
 use Rattle.sc_start_law.proofs.Starts.{AreStarts, bases_from, first_and_others, starts_apart, starts_bare, starts_fresh, starts_in_place}
-
--- the first of clients that rise is below each later one
-below_later : (first : ℕ) (clients : List Asks) (other : Asks) → ((k : ℕ) (d : Asks) → k < length clients → first < (slice_index_or clients k d).client) → Among other clients → first < other.client
-below_later first [] other above among = absurd among
-below_later first (asks ∷ clients) other above (inl e) = subst (λ (a : Asks). first < a.client) e (above 0 asks (omega arith))
-below_later first (asks ∷ clients) other above (inr later) = below_later first clients other (λ k d lt. above (suc k) d (omega (arith, lt))) later
+use Rattle.sc_paxos_words.proofs.ListLemmas.{one_of_name, Each-from_All}
 
 -- clients that rise are numbered each once
 numbered_once : (clients : List Asks) → AllPairs (λ (a b : Asks). a.client < b.client) clients
     → (one other : Asks) → Among one clients → Among other clients → one.client ≡ other.client → one ≡ other
-numbered_once [] rising one other a b same = absurd a
-numbered_once (asks ∷ clients) rising one other a b same =
-    elim a [
-      | inl e ↦ elim b [ inl f ↦ sym e ∙ f | inr m ↦ absurd (omega (arith, below_later asks.client clients other above m, ap (λ (x : Asks). x.client) e, same)) ]
-      | inr m ↦ elim b [
-        | inl f ↦ absurd (omega (arith, below_later asks.client clients one above m, ap (λ (x : Asks). x.client) f, same))
-        | inr n ↦ numbered_once clients (λ i j d lt within. rising (suc i) (suc j) d (omega (arith, lt)) (omega (arith, within))) one other m n same
-      ]
-    ]
-  where
-    above : (k : ℕ) (d : Asks) → k < length clients → asks.client < (slice_index_or clients k d).client
-    above k d lt = rising 0 (suc k) d (omega arith) (omega (arith, lt))
-
--- what holds of all, by place, holds of each
-pub each_of : {X : Type 0} (P : X → Type 0) (xs : List X) → All P xs → Each P xs
-each_of P [] all = tt
-each_of P (x ∷ xs) all = (all 0 x (omega arith), each_of P xs (λ k d lt. all (suc k) d (omega (arith, lt))))
+numbered_once clients rising = one_of_name (λ (asks : Asks). asks.client) clients (λ i j d lt within e. (let below = rising i j d lt within in absurd (omega (arith, below, e))))
 
 module _ (owner : Draw → Option Draw) (unowned : (name : Draw) → name.node ≡ 0 → owner name ≡ None) (ahead : Ahead) (open_slots : ahead.slots ≡ slots_ahead) (scenario : Scenario) (early : IsEarly scenario) where
   abbrev sources : Sources
@@ -62,15 +41,12 @@ module _ (owner : Draw → Option Draw) (unowned : (name : Draw) → name.node �
   are_starts : AreStarts early.starts
   are_starts = record { some = early.some; low = λ k d lt. (early.each k d lt).lo_in; rising = early.rising }
 
-  once : (one other : Asks) → Among one scenario.clients → Among other scenario.clients → one.client ≡ other.client → one ≡ other
-  once = numbered_once scenario.clients early.ascending
-
   seats : HasSeats ahead scenario (route_of first)
   seats = record {
     seats = ap (λ gs. map (node_seat ahead scenario.groups scenario.policy) (numbers_from 1 scenario.nodes) ++ client_seats gs scenario.clients) groups_are;
     nodes = early.nodes.1;
-    numbered = each_of (λ (asks : Asks). 1 ≤ asks.client) scenario.clients (λ k d lt. (early.clients k d lt).0.0);
-    once = once;
+    numbered = Each-from_All (λ (asks : Asks). 1 ≤ asks.client) scenario.clients (λ k d lt. (early.clients k d lt).0.0);
+    once = numbered_once scenario.clients early.ascending;
     open_slots = open_slots;
   }
 
@@ -84,7 +60,7 @@ module _ (owner : Draw → Option Draw) (unowned : (name : Draw) → name.node �
       apart = subst AreApart (sym early.groups) (starts_apart early.starts);
       fresh = λ base a. starts_fresh early.starts (λ k d lt. (early.each k d lt).roster) base (subst (Among base) early.groups a);
       seats = seats;
-      asks = asks_are owner scenario once;
+      asks = asks_are owner scenario seats.once;
     };
     bare = subst BeginBare (sym early.groups) (starts_bare early.starts are_starts);
   }

@@ -10,7 +10,7 @@ use Rattle.sc_actor.specs.declared.rows.Row.{Row}
 use Rattle.sc_node_table.specs.Node.{group_of_order, names_after_ticks}
 use Rattle.sc_node_table.specs.Ordering.{ordered_command}
 use Rattle.sc_node_table.specs.Replica.{name_of}
-use Rattle.sc_paxos_words.proofs.ListLemmas.{Each-among, Each-append}
+use Rattle.sc_paxos_words.proofs.ListLemmas.{Each-among, Each-append, Each-from_All}
 use Rattle.sc_paxos_law.proofs.Among.{Among-right}
 use Rattle.sc_sound.specs.Players.{Ahead, Lawful, line_of, schedule, system_of}
 use Rattle.sc_scenario.specs.Valid.{IsEarly, IsEarlyLine, IsEarlyOrder}
@@ -24,7 +24,6 @@ use Rattle.sc_draws_law.specs.Owners.{owner_in}
 use Rattle.sc_group_law.proofs.Orders.{IsToldSo, TellsSo, told_induction}
 use Rattle.sc_journal_law.specs.Descent.{Rows}
 use Rattle.sc_start_law.specs.Begins.{request_of}
-use Rattle.sc_start_law.proofs.Valid.{each_of}
 use Rattle.sc_whole_law.specs.Orders.{ToldAreAllowed, WishedAreAllowed, OrdersAreAllowed}
 
 -- ---- the schedule
@@ -67,7 +66,7 @@ module _ (ahead : Ahead) (words : ℕ → ℕ → ℕ × ℕ) (scenario : Scenar
   placed_rows : (rows : Rows) → Lawful ahead words scenario rows → Each IsPlacedRow rows
   placed_rows rows lawful =
       told_induction IsPlaced (system_of ahead words scenario) (Each IsPlacedRow) (λ before row p told step. Each-append IsPlacedRow before (row ∷ []) p (told, tt)) (schedule scenario) rows
-      (placed_lines scenario.nodes scenario.clients scenario.lines (each_of (IsEarlyLine scenario.nodes scenario.clients) scenario.lines early.lines)) tt lawful
+      (placed_lines scenario.nodes scenario.clients scenario.lines (Each-from_All (IsEarlyLine scenario.nodes scenario.clients) scenario.lines early.lines)) tt lawful
 
   -- what is queued for what is told is allowed by the owners of the whole journal
   told_allowed : TakenOrdersAreAllowed → (rows : Rows) → Lawful ahead words scenario rows → ToldAreAllowed (record { owner = owner_in ahead scenario rows; request = request_of scenario }) ahead scenario rows

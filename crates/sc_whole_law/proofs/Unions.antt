@@ -7,8 +7,9 @@ use Rattle.std.proofs.lemmas.List.Filters.{length-filter_both}
 use Rattle.std.proofs.lemmas.List.Kept.{AllPairs-from_increasing}
 use Rattle.sc_member.specs.Roster.{IsRoster, is_member}
 use Rattle.sc_member.specs.Union.{united}
-use Rattle.sc_member.proofs.Rising.{Below, head_below, tail_up}
+use Rattle.sc_member.proofs.Rising.{Below}
 use Rattle.sc_member.proofs.UnionLemmas.{count_united}
+use Rattle.sc_member.proofs.Pairs.{AllPairs-head, AllPairs-tail}
 
 -- each node stands once
 abbrev AreOnce : List ℕ → Type 0
@@ -25,7 +26,7 @@ not_in x (y ∷ ys) all =
 -- nodes that ascend stand once
 once_of : (xs : List ℕ) → AllPairs Below xs → AreOnce xs
 once_of [] pairs = tt
-once_of (x ∷ xs) pairs = (not_in x xs (head_below x xs pairs), once_of xs (tail_up x xs pairs))
+once_of (x ∷ xs) pairs = (not_in x xs (AllPairs-head Below x xs pairs), once_of xs (AllPairs-tail Below x xs pairs))
 
 -- the same test the other way round
 flipped : (x y : ℕ) → eqb x y ≡ eqb y x
