@@ -4,7 +4,7 @@ use crate::notes::Note;
 use crate::players::Player;
 use sc_actor::{Event, Journal, Line, Row, Seat, are_apart, are_few};
 use sc_base::Sequence;
-use sc_checker::{Replayed, is_lawful, pending_of, replay};
+use sc_checker::{Replayed, is_lawful, pending_of, replay, taken_by};
 use std::alloc::Global;
 use std::mem::forget;
 use std::process::Abort;
@@ -92,6 +92,16 @@ fn lawful(rt: &impl Abort, alloc: Global, lines: &[Line<u32>], acts: &[Act]) -> 
     let is_lawful = is_lawful(alloc, seats, lines, rows.as_slice()).expect(rt, "memory");
     forget(rows);
     is_lawful
+}
+
+// How many rows a replay takes before the first that it does not make.
+fn taken(rt: &impl Abort, alloc: Global, lines: &[Line<u32>], acts: &[Act]) -> usize {
+    let rows = journal(rt, alloc, acts);
+    let seats = pair(rt, alloc);
+    assert!(rt; are_few(rows.as_slice()));
+    let taken = taken_by(alloc, seats, lines, rows.as_slice()).expect(rt, "memory");
+    forget(rows);
+    taken
 }
 
 // How many first parts of rows are lawful, all of them among these.
@@ -236,11 +246,14 @@ const CHANGED: [[Act; 2]; 6] = [
 fn changed_rows_are_not_lawful(rt: HostRuntime) {
     for acts in &CHANGED {
         assert!(rt; lawful_parts(&rt, rt.alloc(), GO_AND_SETTLE, acts) == 2);
+        assert!(rt; taken(&rt, rt.alloc(), GO_AND_SETTLE, acts) == 1);
     }
     // A note too many.
     let mut more = SETTLED;
     more[4].2 = 2;
     assert!(rt; lawful_parts(&rt, rt.alloc(), GO_AND_SETTLE, &more) == 5);
+    assert!(rt; taken(&rt, rt.alloc(), GO_AND_SETTLE, &more) == 4);
+    assert!(rt; taken(&rt, rt.alloc(), GO_AND_SETTLE, &SETTLED) == 5);
 }
 
 const BOTH_AND_FREE: &[Line<u32>] = &[

@@ -3,26 +3,17 @@ use Rattle.std.proofs.Common.{◌≡◌, ℕ, zero, suc, ◌+◌, ◌<◌, List,
 use Rattle.sc_mail.specs.declared.bodies.Mail.{Mail}
 use Rattle.sc_node_table.specs.Slots.{numbers_from}
 use Rattle.sc_node_table.specs.Replica.{either}
+use Rattle.sc_law_lemmas.proofs.Ways.{either_assoc, either_none}
 use Rattle.sc_world.specs.Summary.{told_in_mail, told_of}
-
--- which of three words stands first, whichever two are asked first
-pub first_then : {X : Type 0} (a b c : Option X) → either (either a b) c ≡ either a (either b c)
-first_then (Some x) b c = refl
-first_then None b c = refl
-
--- no word behind one changes nothing
-pub first_alone : {X : Type 0} (a : Option X) → either a None ≡ a
-first_alone (Some x) = refl
-first_alone None = refl
 
 -- what more mails tell of an order
 pub told-append : (number : ℕ) (xs ys : List Mail) → told_of number (xs ++ ys) ≡ either (told_of number xs) (told_of number ys)
 told-append number [] ys = refl
-told-append number (x ∷ xs) ys = ap (either (told_in_mail number x.body)) (told-append number xs ys) ∙ sym (first_then (told_in_mail number x.body) (told_of number xs) (told_of number ys))
+told-append number (x ∷ xs) ys = ap (either (told_in_mail number x.body)) (told-append number xs ys) ∙ sym (either_assoc (told_in_mail number x.body) (told_of number xs) (told_of number ys))
 
 -- what one more mail tells of an order
 pub told-last : (number : ℕ) (xs : List Mail) (x : Mail) → told_of number (xs ++ x ∷ []) ≡ either (told_of number xs) (told_in_mail number x.body)
-told-last number xs x = told-append number xs (x ∷ []) ∙ ap (either (told_of number xs)) (first_alone (told_in_mail number x.body))
+told-last number xs x = told-append number xs (x ∷ []) ∙ ap (either (told_of number xs)) (either_none (told_in_mail number x.body))
 
 -- so many are made of so many numbers
 pub length-numbered : {X : Type 0} (f : ℕ → X) (from count : ℕ) → length (map f (numbers_from from count)) ≡ count

@@ -4,7 +4,8 @@ use Rattle.sc_mail.specs.declared.bodies.Mail.{Mail}
 use Rattle.sc_cmd.specs.declared.orders.ToldResult.{ToldResult}
 use Rattle.sc_node_table.specs.Replica.{either}
 use Rattle.sc_world.specs.Summary.{told_in_mail, told_of}
-use Rattle.sc_world.proofs.OrderWords.{told-last, first_then}
+use Rattle.sc_law_lemmas.proofs.Ways.{either_assoc}
+use Rattle.sc_world.proofs.OrderWords.{told-last}
 use Rattle.sc_world.proofs.orders.note_all.Goals as goal
 
 pub loop-mail-preserved : goal.loop-mail-preserved
@@ -18,6 +19,6 @@ loop-mail-preserved c = record {
       ap (λ n. take n sent) one ∙ take-suc sent i c.mail-item.result (omega (arith, c.loop-mail-test.true)) ∙ ap (λ (x : Mail). take i sent ++ x ∷ []) (sym c.mail-item.is) in
       c.note.ensures.kept k (omega (arith, within, c.loop-mail.invariant.len))
       ∙ ap (λ (o : Option ToldResult). either o (told_in_mail (k + 1) c.mail-item.result.body)) (c.loop-mail.invariant.kept k within)
-      ∙ first_then (get_or c.args.told.now k None) (told_of (k + 1) (take i sent)) (told_in_mail (k + 1) c.mail-item.result.body)
+      ∙ either_assoc (get_or c.args.told.now k None) (told_of (k + 1) (take i sent)) (told_in_mail (k + 1) c.mail-item.result.body)
       ∙ ap (either (get_or c.args.told.now k None)) (sym (told-last (k + 1) (take i sent) c.mail-item.result) ∙ sym (ap (told_of (k + 1)) more));
 }
