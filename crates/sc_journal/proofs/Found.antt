@@ -1,5 +1,5 @@
 -- What a reader of JSON finds in the text of a row.
-use Rattle.std.proofs.Common.{◌≡◌, ℕ, List, true, false, bytes_eq, Option, Some, Result, Err, IsErr, sym, ap, ◌∙◌, subst}
+use Rattle.std.proofs.Common.{◌≡◌, ℕ, List, true, false, bytes_eq, Some, Result, Err, IsErr, sym, ap, ◌∙◌, subst}
 use Rattle.std.specs.Result.{IsErrAnd}
 use Rattle.std.proofs.lemmas.Option.{same_Some}
 use Rattle.std.proofs.lemmas.Slice.Eq.{bytes_eq-Decides}
