@@ -22,9 +22,20 @@ use Rattle.sc_decided.specs.Found.{kept_log, is_kept_of, log_kept, AreKnown, Are
 use Rattle.sc_decided.specs.declared.births.Groups.{Groups}
 use Rattle.sc_known.specs.declared.known.Known.{Known}
 use Rattle.sc_known.proofs.Chosen.{log_is}
-use Rattle.sc_paxos_words.proofs.ListLemmas.{Each-push, Each-split}
 
 -- ---- facts of each
+
+pub each_push : {X : Type 0} (P : X → Type 0) (xs : List X) (x : X) → Each P xs → P x → Each P (xs ++ x ∷ [])
+each_push P [] x all here = (here, tt)
+each_push P (y ∷ xs) x all here = (all.0, each_push P xs x all.1 here)
+
+each_front : {X : Type 0} (P : X → Type 0) (xs : List X) (x : X) → Each P (xs ++ x ∷ []) → Each P xs
+each_front P [] x all = tt
+each_front P (y ∷ xs) x all = (all.0, each_front P xs x all.1)
+
+pub each_of : {X : Type 0} (P : X → Type 0) (xs : List X) → ((x : X) → P x) → Each P xs
+each_of P [] all = tt
+each_of P (x ∷ xs) all = (all x, each_of P xs all)
 
 pub flat_same : {X Y : Type 0} (f g : X → List Y) (xs : List X) → Each (λ (x : X). f x ≡ g x) xs → flat_map f xs ≡ flat_map g xs
 flat_same f g [] same = refl
@@ -78,7 +89,7 @@ known_push rows bases knowns base known are is born = record {
   bases_are =
       map-append (λ (k : Known). k.base) knowns (known ∷ []) ∙ ap (λ (bs : List Base). bs ++ known.base ∷ []) are.bases_are
       ∙ ap (λ (b : Base). bases ++ b ∷ []) born;
-  each = Each-push (IsKnown rows) knowns known are.each is;
+  each = each_push (IsKnown rows) knowns known are.each is;
 }
 
 -- a child whose name is there is not born
@@ -115,7 +126,7 @@ stable rows bases i (suc n) le calm = elim (last i n le) [
 each_before : (P : Base → Type 0) (bases : List Base) (base : Base) → Each P (with_birth bases base) → Each P bases
 each_before P bases base all = elim (cases_Bool (list_any (is_birth_of base.core.id) bases)) [
   | inl t ↦ subst (Each P) (cond-true (list_any (is_birth_of base.core.id) bases) bases (bases ++ base ∷ []) t) all
-  | inr f ↦ (Each-split P bases (base ∷ []) (subst (Each P) (cond-false (list_any (is_birth_of base.core.id) bases) bases (bases ++ base ∷ []) f) all)).0
+  | inr f ↦ each_front P bases base (subst (Each P) (cond-false (list_any (is_birth_of base.core.id) bases) bases (bases ++ base ∷ []) f) all)
 ]
 
 each_earlier : (P : Base → Type 0) (bases children : List Base) → Each P (fold with_birth bases children) → Each P bases

@@ -27,9 +27,8 @@ use Rattle.sc_decided.specs.Found.{AreKnown, AreFound, StayKnown, log_kept, gain
 use Rattle.sc_known.specs.declared.accepting.Acceptance.{Acceptance}
 use Rattle.sc_decided.specs.declared.births.Groups.{Groups}
 use Rattle.sc_known.specs.declared.known.Known.{Known}
-use Rattle.sc_decided.proofs.Families.{flat_same, known_log, log_in_is, same_groups, SameChildren}
+use Rattle.sc_decided.proofs.Families.{each_push, each_of, flat_same, known_log, log_in_is, same_groups, SameChildren}
 use Rattle.sc_known.proofs.Elsewhere.{accepts_elsewhere, known_elsewhere}
-use Rattle.sc_paxos_words.proofs.ListLemmas.{Each-from, Each-push, Each-split}
 
 -- ---- other groups
 
@@ -85,7 +84,7 @@ row_gains rows row bases f same each =
     same
     ∙ flat_same
     (λ (base : Base). entries_after base.core.id (log_by as_nodes rows (find (is_birth_of base.core.id) old)) (log_by as_nodes after (find (is_birth_of base.core.id) old)))
-    f old (Each-from _ old (λ base a. each base))
+    f old (each_of _ old each)
 
 each_elsewhere : (rows after : List (Row Mail OrderLine)) (knowns : List Known) → ((name : Draw) → accepts name after ≡ accepts name rows) → Each (IsKnown rows) knowns → Each (IsKnown after) knowns
 each_elsewhere rows after [] same all = tt
@@ -101,7 +100,7 @@ nothing_added : (bases : List Base) (rows : List (Row Mail OrderLine)) (row : Ro
     → AreFound bases (rows ++ row ∷ []) groups × (entries_by_row as_nodes bases rows row ≡ [])
 nothing_added bases rows row groups adds calm found =
     let after : List (Row Mail OrderLine) = rows ++ row ∷ [] in
-    let same = same_groups rows row bases (found.settled calm) (Each-from (SameChildren rows after) (groups_at as_nodes bases rows) (λ base a. all_elsewhere rows after adds base)) in
+    let same = same_groups rows row bases (found.settled calm) (each_of (SameChildren rows after) (groups_at as_nodes bases rows) (all_elsewhere rows after adds)) in
     let nothing : Base → List LogEntry = λ (base : Base). [] in (
       record {
         known = record {
@@ -186,8 +185,8 @@ gained_here bases rows row old new known known_new =
     let f : Base → List LogEntry =
     λ (base : Base). entries_after base.core.id (log_by as_nodes rows (find (is_birth_of base.core.id) (groups_at as_nodes bases rows))) (log_by as_nodes after (find (is_birth_of base.core.id) (groups_at as_nodes bases after))) in
     flat_same (gained old new) (λ (k : Known). f k.base) new
-    (Each-from (λ (k : Known). gained old new k ≡ f k.base) new
-    (λ k a. ap (λ (l : List Command). entries_after k.base.core.id l (log_kept k.base.core.id new)) (log_in_is rows (groups_at as_nodes bases rows) old k.base.core.id known)
+    (each_of (λ (k : Known). gained old new k ≡ f k.base) new
+    (λ k. ap (λ (l : List Command). entries_after k.base.core.id l (log_kept k.base.core.id new)) (log_in_is rows (groups_at as_nodes bases rows) old k.base.core.id known)
     ∙ ap (entries_after k.base.core.id (log_by as_nodes rows (find (is_birth_of k.base.core.id) (groups_at as_nodes bases rows)))) (log_in_is after (groups_at as_nodes bases after) new k.base.core.id known_new)))
     ∙ sym (flat_map-map f (λ (k : Known). k.base) new) ∙ ap (flat_map f) known_new.bases_are
 
@@ -198,20 +197,24 @@ gained_is bases rows after row old new is known known_new =
 
 -- ---- group by group
 
+split_each : {X : Type 0} (P : X → Type 0) (xs : List X) (x : X) → Each P (xs ++ x ∷ []) → Each P xs × P x
+split_each P [] x all = (tt, all.0)
+split_each P (y ∷ xs) x all = (let more = split_each P xs x all.1 in ((all.0, more.0), more.1))
+
 -- one group more that stays known
 pub stay_push : (rows after : List (Row Mail OrderLine)) (knowns later : List Known) (known next : Known) → Each (IsKnown rows) (knowns ++ known ∷ [])
     → (Each (IsKnown rows) knowns → StayKnown rows after knowns later) → (IsKnown rows known → StaysKnown rows after known next) → StayKnown rows after (knowns ++ known ∷ []) (later ++ next ∷ [])
 stay_push rows after knowns later known next all so_far one =
-    let parts = Each-split (IsKnown rows) knowns (known ∷ []) all in
+    let parts = split_each (IsKnown rows) knowns known all in
     let stay = so_far parts.0 in
-    let stays = one parts.1.0 in
+    let stays = one parts.1 in
     let bases : List Known → List Base = map (λ (k : Known). k.base) in
     record {
       same =
           map-append (λ (k : Known). k.base) later (next ∷ []) ∙ ap (λ (bs : List Base). bs ++ next.base ∷ []) stay.same
           ∙ ap (λ (b : Base). bases knowns ++ b ∷ []) stays.base_is ∙ sym (map-append (λ (k : Known). k.base) knowns (known ∷ []));
-      each = Each-push (IsKnown after) later next stay.each stays.is;
-      children = subst (Each (SameChildren rows after)) (sym (map-append (λ (k : Known). k.base) knowns (known ∷ []))) (Each-push (SameChildren rows after) (bases knowns) known.base stay.children (same_children parts.1.0 stays));
+      each = each_push (IsKnown after) later next stay.each stays.is;
+      children = subst (Each (SameChildren rows after)) (sym (map-append (λ (k : Known). k.base) knowns (known ∷ []))) (each_push (SameChildren rows after) (bases knowns) known.base stay.children (same_children parts.1 stays));
     }
   where
     same_children : IsKnown rows known → StaysKnown rows after known next → SameChildren rows after known.base

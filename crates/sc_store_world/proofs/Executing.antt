@@ -1,10 +1,9 @@
 -- The groups after one of them has executed a command.
-use Rattle.std.proofs.Common.{◌≡◌, ℕ, zero, suc, ◌+◌, ◌<◌, true, false, List, [], ◌∷◌, ◌++◌, length, map, set, get_or, if◌then◌else◌, Option, Some, refl, sym, ap, ◌∙◌, arith}
+use Rattle.std.proofs.Common.{◌≡◌, ℕ, zero, suc, ◌+◌, ◌<◌, true, false, List, [], ◌∷◌, ◌++◌, length, map, set, get_or, if◌then◌else◌, Option, Some, None, refl, sym, ap, ◌∙◌, arith}
 use Rattle.std.specs.Prelude.{slice_get}
 use Rattle.std.specs.Option.{option_to_list}
 use Rattle.std.proofs.lemmas.Bool.{cond-true, cond-false}
-use Rattle.std.proofs.lemmas.List.{get_or_default}
-use Rattle.std.proofs.lemmas.Option.{none-some, same_Some, slice_get_within, get_or_from_slice_get, slice_get-get_or}
+use Rattle.std.proofs.lemmas.Option.{none-some, slice_get_within, get_or_from_slice_get, slice_get-get_or}
 use Rattle.sc_base.proofs.CommonLemmas.{cond-same}
 use Rattle.sc_base.proofs.NameLemmas.{same_name}
 use Rattle.sc_base.specs.declared.names.Draw.{Draw}
@@ -48,11 +47,19 @@ executed xs ys zs at group command child is changes copies born =
 
 -- ---- groups of one name
 
+one_default : {X : Type 0} (xs : List X) (i : ℕ) (d e : X) → i < length xs → get_or xs i d ≡ get_or xs i e
+one_default [] i d e lt = absurd (omega (arith, lt))
+one_default (x ∷ xs) zero d e lt = refl
+one_default (x ∷ xs) (suc i) d e lt = one_default xs i d e (omega (arith, lt))
+
+same_some : {X : Type 0} (x y : X) → Some x ≡ Some y → x ≡ y
+same_some {X} x y e = ap (λ (o : Option X). elim o [ None ↦ x | Some z ↦ z ]) e
+
 -- the group at the place itself stays
 pub copied-self : (xs : List Group) (at i : ℕ) (name : Draw) (after group : Group) → i ≡ at → slice_get xs at ≡ Some after → slice_get xs i ≡ Some group
     → xs ≡ set xs i (if is_named name group then after else group)
 copied-self xs at i name after group place here is =
-    let same : after ≡ group = same_Some after group (sym here ∙ ap (λ (n : ℕ). slice_get xs n) (sym place) ∙ is) in
+    let same : after ≡ group = same_some after group (sym here ∙ ap (λ (n : ℕ). slice_get xs n) (sym place) ∙ is) in
     sym (ap (λ (g : Group). set xs i (if is_named name group then g else group)) same ∙ ap (set xs i) (cond-same (is_named name group) group) ∙ put-same xs i group is)
 
 -- one with another name stays
@@ -69,7 +76,7 @@ copied-named xs ys i name after group copied named = copied ∙ ap (set xs i) (s
 keeps : {X : Type 0} (f : X → X) (xs : List X) (i at : ℕ) (x : X) → slice_get xs at ≡ Some x → f x ≡ x → slice_get (changed f i xs) at ≡ Some x
 keeps f xs zero at x is same = is
 keeps f [] (suc i) at x is same = absurd (none-some x is)
-keeps {X} f (y ∷ xs) (suc i) zero x is same = (let e : y ≡ x = same_Some y x is in ap (λ (z : X). Some (f z)) e ∙ ap (λ (z : X). Some z) same)
+keeps {X} f (y ∷ xs) (suc i) zero x is same = (let e : y ≡ x = same_some y x is in ap (λ (z : X). Some (f z)) e ∙ ap (λ (z : X). Some z) same)
 keeps f (y ∷ xs) (suc i) (suc at) x is same = keeps f xs i at x is same
 
 -- one place more
@@ -83,7 +90,7 @@ copied-next xs ys zs at i name after is so_far lt copies =
     let group : Group = get_or ys i after in
     let found : slice_get ys i ≡ Some group = slice_get-get_or ys i after (omega (arith, lt, long)) in
     copies after group here found
-    ∙ changed-next-at f xs ys i group (f group) lt so_far (get_or_default ys i after group (omega (arith, lt, long))) refl
+    ∙ changed-next-at f xs ys i group (f group) lt so_far (one_default ys i after group (omega (arith, lt, long))) refl
 
 pub item-at : {X : Type 0} (xs : List X) (i : ℕ) → i < length xs → (x : X) × (slice_get xs i ≡ Some x)
 item-at [] i lt = absurd (omega (arith, lt))

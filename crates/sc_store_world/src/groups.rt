@@ -75,8 +75,8 @@ fn copy_at(
     requires at { at < length groups.old.items }
     requires i { i < length groups.old.items }
     ensures long { OnOk result (length groups.new.items ≡ length groups.old.items) }
-    ensures value { OnOk result ((after group : Group) →
-        slice_get groups.old.items at ≡ Some after → slice_get groups.old.items i ≡ Some group →
+    ensures value { OnOk result ((after group : Group) → slice_get groups.old.items at ≡ Some after →
+        slice_get groups.old.items i ≡ Some group →
         groups.new.items ≡ set groups.old.items i (if is_named name group then after else group)) }
 {
     if i == at {
@@ -133,8 +133,7 @@ fn look(
 ) -> Result<(Core, Option<Base>), OutOfMemory>
     requires { at < length groups.now }
     ensures { IfOk result (λ seen. (group : Group) → slice_get groups.now at ≡ Some group →
-        (seen.0 ≡ group.core) ×
-        (seen.1 ≡ birth_of group command.now (applied group command.now).1)) }
+        (seen.0 ≡ group.core) × (seen.1 ≡ birth_of group command.now (applied group command.now).1)) }
 {
     births_are_children();
     let group = &groups[at];
@@ -146,8 +145,7 @@ fn look(
 fn apply_at(groups: &mut Vec<Machine>, at: usize, command: &Command) -> Result<Effect, OutOfMemory>
     requires { at < length groups.old.items }
     ensures long { OnOk result (length groups.new.items ≡ length groups.old.items) }
-    ensures value { IfOk result (λ effect. (group : Group) →
-        slice_get groups.old.items at ≡ Some group →
+    ensures value { IfOk result (λ effect. (group : Group) → slice_get groups.old.items at ≡ Some group →
         (effect ≡ (applied group command.now).1) ×
         (groups.new.items ≡ set groups.old.items at (applied group command.now).0)) }
 {

@@ -45,12 +45,7 @@ impl Model for StoreWorld {
         in let clients : Coded ClientTable = map.code coded_ℕ (Prim.hlevel codes) in Prim.hlevel
         (codes, pairs, clients) };
 
-    ghost view = { λ w. record {
-      groups = w.groups.items;
-      transactions = w.transactions.items;
-      ring = w.ring.items;
-      history = w.history.items;
-    } };
+    ghost view = { λ w. record { groups = w.groups.items; transactions = w.transactions.items; ring = w.ring.items; history = w.history.items } };
 }
 
 // The entry of a history that a command is with its effect, if it is one.

@@ -9,13 +9,10 @@ use std::mem::forget;
 use std::process::Abort;
 
 const REPORT: &[u8] =
-    b"scatter report 1\nreply 1 1 get value x\nreply 1 2 get none\nunanswered 1 3 get\n\
-        unsent 1 4 get\norder 1 open\norder 2 refused 4 bad-boundary\n\
-        ring 7 group 0.1 members 3\nrows 5\nmail 4\ndelivered 3\nskipped 2\nquiet no\n";
+    b"scatter report 1\nreply 1 1 get value x\nreply 1 2 get none\nunanswered 1 3 get\nunsent 1 4 get\norder 1 open\norder 2 refused 4 bad-boundary\nring 7 group 0.1 members 3\nrows 5\nmail 4\ndelivered 3\nskipped 2\nquiet no\n";
 
 const BRIEF: &[u8] =
-    b"scatter report 1\nanswered 2 of 4\norder 1 open\norder 2 refused 4 bad-boundary\n\
-        ring 7 group 0.1 members 3\nrows 5\nmail 4\ndelivered 3\nskipped 2\nquiet no\n";
+    b"scatter report 1\nanswered 2 of 4\norder 1 open\norder 2 refused 4 bad-boundary\nring 7 group 0.1 members 3\nrows 5\nmail 4\ndelivered 3\nskipped 2\nquiet no\n";
 
 fn asked(rt: &impl Abort, alloc: Global, seq: u32, got: Progress) -> Asked {
     Asked {

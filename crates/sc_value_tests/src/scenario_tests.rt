@@ -8,9 +8,7 @@ use std::mem::forget;
 use std::process::Abort;
 
 const ALL_LINES: &[u8] =
-    b"scatter 1\nnodes 3\ngroup 7 3 1\nclient 5\nput a x\nget a\ndel a\nend\nclient 2\nend\n\
-        go 5\ndeliver n3 1\ndrop c5 4294967295\nagain 9\ntick c2\ncrash 3\norder 3 join 2 0.1\n\
-        order 1 leave 3 32.4294967295\nsettle 1000000\n";
+    b"scatter 1\nnodes 3\ngroup 7 3 1\nclient 5\nput a x\nget a\ndel a\nend\nclient 2\nend\ngo 5\ndeliver n3 1\ndrop c5 4294967295\nagain 9\ntick c2\ncrash 3\norder 3 join 2 0.1\norder 1 leave 3 32.4294967295\nsettle 1000000\n";
 
 fn are_clients_read(clients: &ClientList) -> bool {
     match clients.as_slice() {
@@ -108,8 +106,8 @@ fn bad_texts_name_their_first_bad_line_and_its_lowest_reason(rt: HostRuntime) {
 
 // The same lines, with a comment, tabs, carriage returns, empty lines, and no line feed at the end.
 const LOOSE: &[u8] =
-    b" scatter\t1 \r\n# x\r\nnodes  3\n\n \t\r\ngroup 7 3 1\nclient 5\n\tput a x\nget a\ndel a\n\
-        end\nclient 2\nend\ngo 5\ndeliver n3 1\ndrop c5 4294967295\nagain 9\ntick c2\ncrash 3\n\
+    b" scatter\t1 \r\n# x\r\nnodes  3\n\n \t\r\ngroup 7 3 1\nclient 5\n\tput a x\nget a\ndel a\nend\n\
+        client 2\nend\ngo 5\ndeliver n3 1\ndrop c5 4294967295\nagain 9\ntick c2\ncrash 3\n\
         order 3 join 2 0.1\n#\norder 1 leave 3 32.4294967295\nsettle 1000000\r";
 
 #[test]
