@@ -79,6 +79,7 @@ fn taken(
     requires few_rows { length rows.now < 2 ^ 31 }
     requires few_mails { length (mails rows.now) < 2 ^ 31 }
 {
+    valid_scenarios_can_play();
     let seats = births(alloc, scenario)?;
     let lines = schedule(alloc, scenario)?;
     taken_by(alloc, seats, lines.as_slice(), rows)
