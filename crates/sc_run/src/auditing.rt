@@ -16,9 +16,9 @@ use sc_base::OutOfMemory;
 use sc_cmd::OrderLine;
 use sc_journal_file::{files_have_one_verdict, printed_files_are_files};
 use sc_mail::Mail;
-use sc_world::{ReplayFault, replay_rows};
 use sc_scenario::Scenario;
 use sc_statuses::Said;
+use sc_world::{ReplayFault, replay_rows};
 use std::alloc::Global;
 
 // The first row that is not lawful, from 1, if there is one.
