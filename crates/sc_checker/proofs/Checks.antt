@@ -14,13 +14,13 @@ use Rattle.sc_actor.specs.Walk.{Task, Once, WalkPlace, Allows, IsLawful, IsNext,
 use Rattle.sc_actor.proofs.ReplayLemmas.{mails-append}
 use Rattle.sc_actor.proofs.WalkLemmas.{Stands-at, Stands-allows, Stands-ended, Stands-whole, lawful-prefix, lawful-last}
 use Rattle.sc_checker.specs.declared.stages.Stage.{Stage}
-use Rattle.sc_checker.specs.declared.stages.Deed.{Deed}
-use Rattle.sc_checker.specs.Deeds.{is_of_network, is_number, can_act, row_made, line_deed, lowest_deed, chosen_deed}
+use Rattle.sc_checker.specs.declared.stages.Action.{Action}
+use Rattle.sc_checker.specs.Actions.{is_of_network, is_number, can_act, row_made, line_action, lowest_action, chosen_action}
 use Rattle.sc_checker.specs.Opens.{opens_of}
 use Rattle.sc_checker.specs.Moves.{IsStageAt, Rules, with_births, StageGoes, many}
 use Rattle.sc_checker.specs.Checks.{Follows, IsTaking, DidWithRow, Misses, Ends, Breaks}
 use Rattle.sc_checker.specs.Replays.{HasReplayed}
-use Rattle.sc_checker.proofs.DeedLemmas.{acts-some, line_row-deed, line_deed-can, lowest-deed, quiet_is, of_delivery}
+use Rattle.sc_checker.proofs.ActionLemmas.{acts-some, line_row-action, line_action-can, lowest-action, quiet_is, of_delivery}
 use Rattle.sc_checker.proofs.Steps.{IsStageAt-did, made, or_is, line-at, lowest-at, numbers-at}
 
 -- the rows split at the first that was not taken
@@ -96,8 +96,8 @@ module _ {A M O : Type 0} (r : Rules A M O) (words : ℕ → ℕ → ℕ × ℕ)
       let s = with_births r words births in
       Stands-ended s lines old.rows old.skipped old.unsettled row (record { lawful = at.lawful; place = at.place }) (next_of s lines old.rows rows row follows lt is lawful)
 
-  -- the row of the task's deed is another one
-  pub IsStageAt-misses : (task : Task O) (rest : List (Task O)) (d : Deed O) (row : Row M O) → IsStageAt (with_births r words births) lines old (task ∷ rest) → can_act (numbers_of old.seats.items) d ≡ true → Misses r old d row →
+  -- the row of the task's action is another one
+  pub IsStageAt-misses : (task : Task O) (rest : List (Task O)) (d : Action O) (row : Row M O) → IsStageAt (with_births r words births) lines old (task ∷ rest) → can_act (numbers_of old.seats.items) d ≡ true → Misses r old d row →
       ((x : Row M O) → row_made (with_births r words births) old.rows d ≡ Some x → is_over (with_births r words births) old.rows task ≡ false) →
       (Allows (with_births r words births) old.rows task row → row_made (with_births r words births) old.rows d ≡ Some row) →
       Follows old.rows rows → length old.rows < length rows → row ≡ get_or rows (length old.rows) row → IsLawful (with_births r words births) lines rows → ⊥
@@ -115,23 +115,23 @@ module _ {A M O : Type 0} (s : System A M O) (rows : List (Row M O)) where
       by false e = e
 
   -- what a line of many allows is the chosen delivery
-  pub chosen_decides : (free : Bool) (left : ℕ) (row : Row M O) → Allows s rows (many free left) row → option_and_then (row_made s rows) (chosen_deed s.receiver (numbers_of s.births) rows free row.who) ≡ Some row
+  pub chosen_decides : (free : Bool) (left : ℕ) (row : Row M O) → Allows s rows (many free left) row → option_and_then (row_made s rows) (chosen_action s.receiver (numbers_of s.births) rows free row.who) ≡ Some row
   chosen_decides true left row e = sym (of_delivery s rows row.who (kth (waiting s rows (Some row.who)) 1)) ∙ e
-  chosen_decides false left row e = sym (lowest-deed s rows) ∙ e
+  chosen_decides false left row e = sym (lowest-action s rows) ∙ e
 
-  chosen_allows : (free : Bool) (left who : ℕ) (row : Row M O) → row.who ≡ who → option_and_then (row_made s rows) (chosen_deed s.receiver (numbers_of s.births) rows free who) ≡ Some row → Allows s rows (many free left) row
+  chosen_allows : (free : Bool) (left who : ℕ) (row : Row M O) → row.who ≡ who → option_and_then (row_made s rows) (chosen_action s.receiver (numbers_of s.births) rows free who) ≡ Some row → Allows s rows (many free left) row
   chosen_allows true left who row e is = ap (first_of s rows) e ∙ of_delivery s rows who (kth (waiting s rows (Some who)) 1) ∙ is
-  chosen_allows false left who row e is = lowest-deed s rows ∙ is
+  chosen_allows false left who row e is = lowest-action s rows ∙ is
 
 module _ {A M O : Type 0} (r : Rules A M O) (old new : Stage A M O) (rows : List (Row M O)) where
-  chosen-at : (words : ℕ → ℕ → ℕ × ℕ) (births : List (Seat A)) (lines : List (Line O)) (tasks : List (Task O)) (free : Bool) (who : ℕ) → IsStageAt (with_births r words births) lines old tasks → chosen_deed {O = O} r.receiver (numbers_of births) old.rows free who ≡ chosen_deed r.receiver (numbers_of old.seats.items) old.rows free who
-  chosen-at words births lines tasks free who at = ap (λ numbers. chosen_deed r.receiver numbers old.rows free who) (sym (numbers-at r old old words births lines tasks at))
+  chosen-at : (words : ℕ → ℕ → ℕ × ℕ) (births : List (Seat A)) (lines : List (Line O)) (tasks : List (Task O)) (free : Bool) (who : ℕ) → IsStageAt (with_births r words births) lines old tasks → chosen_action {O = O} r.receiver (numbers_of births) old.rows free who ≡ chosen_action r.receiver (numbers_of old.seats.items) old.rows free who
+  chosen-at words births lines tasks free who at = ap (λ numbers. chosen_action r.receiver numbers old.rows free who) (sym (numbers-at r old old words births lines tasks at))
 
-  loud-at : (words : ℕ → ℕ → ℕ × ℕ) (births : List (Seat A)) (lines : List (Line O)) (tasks : List (Task O)) → IsStageAt (with_births r words births) lines old tasks → is_none (lowest_deed {O = O} r.receiver (numbers_of old.seats.items) old.rows) ≡ false → is_quiet (with_births r words births) old.rows ≡ false
+  loud-at : (words : ℕ → ℕ → ℕ × ℕ) (births : List (Seat A)) (lines : List (Line O)) (tasks : List (Task O)) → IsStageAt (with_births r words births) lines old tasks → is_none (lowest_action {O = O} r.receiver (numbers_of old.seats.items) old.rows) ≡ false → is_quiet (with_births r words births) old.rows ≡ false
   loud-at words births lines tasks at loud = quiet_is {O = O} r.receiver births old.rows ∙ ap is_none (lowest-at r old old words births lines tasks at) ∙ loud
 
-  -- the row of a deed that can be done
-  pub can_row : (s : System A M O) (d : Deed O) → can_act (numbers_of s.births) d ≡ true → (row : Row M O) × (row_made s old.rows d ≡ Some row)
+  -- the row of an action that can be done
+  pub can_row : (s : System A M O) (d : Action O) → can_act (numbers_of s.births) d ≡ true → (row : Row M O) × (row_made s old.rows d ≡ Some row)
   can_row s d can = by (is_of_network d.event) refl
     where
       by : (b : Bool) → is_of_network d.event ≡ b → (row : Row M O) × (row_made s old.rows d ≡ Some row)
@@ -141,31 +141,31 @@ module _ {A M O : Type 0} (r : Rules A M O) (old new : Stage A M O) (rows : List
           (there.0, ap (λ b. cond b (Some (network d.event)) (acts s old.rows d.who d.event)) own ∙ there.1)
 
   -- rows that end before a line of one row
-  pub Ends-line : (line : Line O) (d : Deed O) → line_deed r.receiver (numbers_of old.seats.items) old.rows line ≡ Some d → Follows old.rows rows → length rows ≤ length old.rows → Ends r old (Once line ∷ []) old rows
+  pub Ends-line : (line : Line O) (d : Action O) → line_action r.receiver (numbers_of old.seats.items) old.rows line ≡ Some d → Follows old.rows rows → length rows ≤ length old.rows → Ends r old (Once line ∷ []) old rows
   Ends-line line d is follows le = λ words births lines rest at.
       let s = with_births r words births in
-      let here : line_deed r.receiver (numbers_of births) old.rows line ≡ Some d = line-at r old old line words births lines (Once line ∷ rest) at ∙ is in
-      let row = can_row s d (line_deed-can r.receiver births old.rows line d here) in
-      let made_row : line_row s old.rows line ≡ Some row.0 = line_row-deed s old.rows line ∙ ap (option_and_then (row_made s old.rows)) here ∙ row.1 in
+      let here : line_action r.receiver (numbers_of births) old.rows line ≡ Some d = line-at r old old line words births lines (Once line ∷ rest) at ∙ is in
+      let row = can_row s d (line_action-can r.receiver births old.rows line d here) in
+      let made_row : line_row s old.rows line ≡ Some row.0 = line_row-action s old.rows line ∙ ap (option_and_then (row_made s old.rows)) here ∙ row.1 in
       IsStageAt-open r words births lines old rows (Once line) rest at (ap is_none made_row) follows le
 
   -- rows that end within a line of many
-  pub Ends-many : (free : Bool) (left : ℕ) → 0 < left → is_none (lowest_deed {O = O} r.receiver (numbers_of old.seats.items) old.rows) ≡ false → Follows old.rows rows → length rows ≤ length old.rows → Ends r old (many free left ∷ []) old rows
+  pub Ends-many : (free : Bool) (left : ℕ) → 0 < left → is_none (lowest_action {O = O} r.receiver (numbers_of old.seats.items) old.rows) ≡ false → Follows old.rows rows → length rows ≤ length old.rows → Ends r old (many free left ∷ []) old rows
   Ends-many free left more loud follows le = λ words births lines rest at.
       let s = with_births r words births in
       IsStageAt-open r words births lines old rows (many free left) rest at (not_over s old.rows free left more (loud-at words births lines (many free left ∷ rest) at loud)) follows le
 
   -- a line of one row
-  pub Breaks-line : (line : Line O) (d : Deed O) (row : Row M O) → line_deed r.receiver (numbers_of old.seats.items) old.rows line ≡ Some d → Misses r old d row → Follows old.rows rows → length old.rows < length rows → row ≡ get_or rows (length old.rows) row → Breaks r old (Once line ∷ []) rows
+  pub Breaks-line : (line : Line O) (d : Action O) (row : Row M O) → line_action r.receiver (numbers_of old.seats.items) old.rows line ≡ Some d → Misses r old d row → Follows old.rows rows → length old.rows < length rows → row ≡ get_or rows (length old.rows) row → Breaks r old (Once line ∷ []) rows
   Breaks-line line d row is misses follows lt at_row = λ words births lines rest at.
       let s = with_births r words births in
-      let here : line_deed r.receiver (numbers_of births) old.rows line ≡ Some d = line-at r old old line words births lines (Once line ∷ rest) at ∙ is in
-      let same : line_row s old.rows line ≡ row_made s old.rows d = line_row-deed s old.rows line ∙ ap (option_and_then (row_made s old.rows)) here in
-      IsStageAt-misses r words births lines old rows (Once line) rest d row at (line_deed-can r.receiver old.seats.items old.rows line d is) misses
+      let here : line_action r.receiver (numbers_of births) old.rows line ≡ Some d = line-at r old old line words births lines (Once line ∷ rest) at ∙ is in
+      let same : line_row s old.rows line ≡ row_made s old.rows d = line_row-action s old.rows line ∙ ap (option_and_then (row_made s old.rows)) here in
+      IsStageAt-misses r words births lines old rows (Once line) rest d row at (line_action-can r.receiver old.seats.items old.rows line d is) misses
       (λ x made_x. ap is_none (same ∙ made_x)) (λ allows. sym same ∙ allows) follows lt at_row
 
   -- a line of many deliveries
-  pub Breaks-many : (free : Bool) (left : ℕ) (d : Deed O) (row : Row M O) → chosen_deed r.receiver (numbers_of old.seats.items) old.rows free row.who ≡ Some d → can_act (numbers_of old.seats.items) d ≡ true → 0 < left → is_none (lowest_deed {O = O} r.receiver (numbers_of old.seats.items) old.rows) ≡ false → Misses r old d row → Follows old.rows rows → length old.rows < length rows → row ≡ get_or rows (length old.rows) row → Breaks r old (many free left ∷ []) rows
+  pub Breaks-many : (free : Bool) (left : ℕ) (d : Action O) (row : Row M O) → chosen_action r.receiver (numbers_of old.seats.items) old.rows free row.who ≡ Some d → can_act (numbers_of old.seats.items) d ≡ true → 0 < left → is_none (lowest_action {O = O} r.receiver (numbers_of old.seats.items) old.rows) ≡ false → Misses r old d row → Follows old.rows rows → length old.rows < length rows → row ≡ get_or rows (length old.rows) row → Breaks r old (many free left ∷ []) rows
   Breaks-many free left d row is can more loud misses follows lt at_row = λ words births lines rest at.
       let s = with_births r words births in
       IsStageAt-misses r words births lines old rows (many free left) rest d row at can misses
@@ -173,7 +173,7 @@ module _ {A M O : Type 0} (r : Rules A M O) (old new : Stage A M O) (rows : List
       (λ allows. sym (ap (option_and_then (row_made s old.rows)) (chosen-at words births lines (many free left ∷ rest) free row.who at ∙ is)) ∙ chosen_decides s old.rows free left row allows) follows lt at_row
 
   -- a row where the line of many has none to make
-  pub Breaks-none : (free : Bool) (left : ℕ) (row : Row M O) → chosen_deed {O = O} r.receiver (numbers_of old.seats.items) old.rows free row.who ≡ None → 0 < left → is_none (lowest_deed {O = O} r.receiver (numbers_of old.seats.items) old.rows) ≡ false → Follows old.rows rows → length old.rows < length rows → row ≡ get_or rows (length old.rows) row → Breaks r old (many free left ∷ []) rows
+  pub Breaks-none : (free : Bool) (left : ℕ) (row : Row M O) → chosen_action {O = O} r.receiver (numbers_of old.seats.items) old.rows free row.who ≡ None → 0 < left → is_none (lowest_action {O = O} r.receiver (numbers_of old.seats.items) old.rows) ≡ false → Follows old.rows rows → length old.rows < length rows → row ≡ get_or rows (length old.rows) row → Breaks r old (many free left ∷ []) rows
   Breaks-none free left row none more loud follows lt at_row = λ words births lines rest at.
       let s = with_births r words births in
       IsStageAt-wrong r words births lines old rows (many free left) rest row at (not_over s old.rows free left more (loud-at words births lines (many free left ∷ rest) at loud)) follows lt at_row
@@ -183,11 +183,11 @@ module _ {A M O : Type 0} (r : Rules A M O) (old new : Stage A M O) (rows : List
       no_row row e = cc
 
   -- the chosen delivery was made
-  pub StageGoes-chosen : (free : Bool) (left : ℕ) (d : Deed O) (row : Row M O) → chosen_deed r.receiver (numbers_of old.seats.items) old.rows free row.who ≡ Some d → can_act (numbers_of old.seats.items) d ≡ true → 0 < left → is_none (lowest_deed {O = O} r.receiver (numbers_of old.seats.items) old.rows) ≡ false → DidWithRow r old new d row → StageGoes r old (many free left ∷ []) new (many free (left - 1) ∷ [])
+  pub StageGoes-chosen : (free : Bool) (left : ℕ) (d : Action O) (row : Row M O) → chosen_action r.receiver (numbers_of old.seats.items) old.rows free row.who ≡ Some d → can_act (numbers_of old.seats.items) d ≡ true → 0 < left → is_none (lowest_action {O = O} r.receiver (numbers_of old.seats.items) old.rows) ≡ false → DidWithRow r old new d row → StageGoes r old (many free left ∷ []) new (many free (left - 1) ∷ [])
   StageGoes-chosen free left d row is can more loud took = λ words births lines rest at.
       let s = with_births r words births in
       let m = made s old.rows old.seats.items new.seats.items d took.did.row at.seats at.apart took.did.makes can in
-      let chosen : option_and_then (row_made s old.rows) (chosen_deed r.receiver (numbers_of births) old.rows free row.who) ≡ row_made s old.rows d = ap (option_and_then (row_made s old.rows)) (chosen-at words births lines (many free left ∷ rest) free row.who at ∙ is) in
+      let chosen : option_and_then (row_made s old.rows) (chosen_action r.receiver (numbers_of births) old.rows free row.who) ≡ row_made s old.rows d = ap (option_and_then (row_made s old.rows)) (chosen-at words births lines (many free left ∷ rest) free row.who at ∙ is) in
       subst (λ ts. IsStageAt s lines new (ts ++ rest)) (rest_many free)
       (IsStageAt-did r words births lines old new (many free left) rest at d can took.did
       (λ x made_x. (
@@ -209,7 +209,7 @@ module _ {A M O : Type 0} (r : Rules A M O) where
   Breaks-then first second a b rows p q = λ words births lines rest at. q words births lines rest (p words births lines rest at)
 
 -- the stage after one more row
-pub taking_next : {A M O : Type 0} (r : Rules A M O) (old new : Stage A M O) (d : Deed O) (row : Row M O) (rows : List (Row M O)) → IsTaking r.receiver old rows → length old.rows < length rows → row ≡ get_or rows (length old.rows) row → DidWithRow r old new d row → IsTaking r.receiver new rows
+pub taking_next : {A M O : Type 0} (r : Rules A M O) (old new : Stage A M O) (d : Action O) (row : Row M O) (rows : List (Row M O)) → IsTaking r.receiver old rows → length old.rows < length rows → row ≡ get_or rows (length old.rows) row → DidWithRow r old new d row → IsTaking r.receiver new rows
 taking_next r old new d row rows taking lt is took =
     record {
       kept = took.kept;

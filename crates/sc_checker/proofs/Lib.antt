@@ -1,7 +1,7 @@
 pub mod Opens
 pub mod Kept
 pub mod Seats
-pub mod DeedLemmas
+pub mod ActionLemmas
 pub mod Steps
 pub mod Looks
 pub mod Checks

@@ -19,12 +19,12 @@ use Rattle.sc_actor.proofs.ReplayLemmas.{value-snoc}
 use Rattle.sc_actor.proofs.TaskLemmas.{split}
 use Rattle.sc_actor.proofs.WalkLemmas.{Stands-begin, Stands-over, Stands-row}
 use Rattle.sc_checker.specs.declared.stages.Stage.{Stage}
-use Rattle.sc_checker.specs.declared.stages.Deed.{Deed}
-use Rattle.sc_checker.specs.Deeds.{is_of_network, is_number, can_act, row_made, line_deed, lowest_deed}
+use Rattle.sc_checker.specs.declared.stages.Action.{Action}
+use Rattle.sc_checker.specs.Actions.{is_of_network, is_number, can_act, row_made, line_action, lowest_action}
 use Rattle.sc_checker.specs.Stages.{Makes, place_of, seat_after}
 use Rattle.sc_checker.specs.Moves.{IsStageAt, Rules, with_births, Did, StageGoes, many}
 use Rattle.sc_checker.proofs.Seats.{found_at, has_place, place_of-values, values-snoc, slice_get-values, numbers_of-values}
-use Rattle.sc_checker.proofs.DeedLemmas.{line_row-deed, line_deed-can, quiet_is}
+use Rattle.sc_checker.proofs.ActionLemmas.{line_row-action, line_action-can, quiet_is}
 
 -- a row of the network leaves each actor as it is
 network-nothing : {M O : Type 0} (sent : List M) (event : Event O) → is_of_network event ≡ true → input_of sent event ≡ None
@@ -54,9 +54,9 @@ module _ {A M O : Type 0} (table : Table A M O) where
   values-none [] = refl
   values-none (s ∷ ss) = ap (λ xs. s ∷ xs) (values-none ss)
 
--- What a deed makes is the row of the walk, and the actors after it.
-pub record Made {A M O : Type 0} (s : System A M O) (rows : List (Row M O)) (seats : List (Seat A)) (deed : Deed O) (row : Row M O) : Type 0 where
-  pub row_is : row_made s rows deed ≡ Some row
+-- What an action makes is the row of the walk, and the actors after it.
+pub record Made {A M O : Type 0} (s : System A M O) (rows : List (Row M O)) (seats : List (Seat A)) (action : Action O) (row : Row M O) : Type 0 where
+  pub row_is : row_made s rows action ≡ Some row
   pub seats_are : seats ≡ values s.table s.births (rows ++ row ∷ [])
 
 -- of two of which one holds and not the first, the second
@@ -64,48 +64,48 @@ pub or_is : (a b : Bool) → a ≡ false → (a || b) ≡ true → b ≡ true
 or_is true b e h = absurd (false≢true (sym e))
 or_is false b e h = h
 
-module _ {A M O : Type 0} (s : System A M O) (rows : List (Row M O)) (old new : List (Seat A)) (deed : Deed O) (row : Row M O) (seats : old ≡ values s.table s.births rows) (apart : are_apart s.births ≡ true) (makes : Makes s.table (mails rows) old new deed row) where
-  made_by_network : is_of_network deed.event ≡ true → Made s rows new deed row
+module _ {A M O : Type 0} (s : System A M O) (rows : List (Row M O)) (old new : List (Seat A)) (action : Action O) (row : Row M O) (seats : old ≡ values s.table s.births rows) (apart : are_apart s.births ≡ true) (makes : Makes s.table (mails rows) old new action row) where
+  made_by_network : is_of_network action.event ≡ true → Made s rows new action row
   made_by_network own =
       let did = makes.by_network own in
       record {
         row_is = rw (own, did.0) refl;
-        seats_are = did.1 ∙ seats ∙ sym (values-network s.table s.births rows deed.event own) ∙ ap (λ r. values s.table s.births (rows ++ r ∷ [])) (sym did.0);
+        seats_are = did.1 ∙ seats ∙ sym (values-network s.table s.births rows action.event own) ∙ ap (λ r. values s.table s.births (rows ++ r ∷ [])) (sym did.0);
       }
 
-  made_by_actor : is_of_network deed.event ≡ false → is_number (numbers_of old) deed.who ≡ true → Made s rows new deed row
+  made_by_actor : is_of_network action.event ≡ false → is_number (numbers_of old) action.who ≡ true → Made s rows new action row
   made_by_actor own number =
-      let there = has_place old deed.who number in
-      let birth_placed : place_of s.births deed.who ≡ Some there.0 = sym (place_of-values s.table s.births rows deed.who) ∙ ap (λ xs. place_of xs deed.who) (sym seats) ∙ there.1 in
-      let birth = found_at s.births deed.who there.0 birth_placed in
+      let there = has_place old action.who number in
+      let birth_placed : place_of s.births action.who ≡ Some there.0 = sym (place_of-values s.table s.births rows action.who) ∙ ap (λ xs. place_of xs action.who) (sym seats) ∙ there.1 in
+      let birth = found_at s.births action.who there.0 birth_placed in
       let now : Seat A = record { who = birth.0.who; actor = value s.table birth.0 rows } in
       let now_at : slice_get old there.0 ≡ Some now = ap (λ xs. slice_get xs there.0) seats ∙ slice_get-values s.table s.births rows there.0 birth.0 birth.1.at in
       let did = makes.by_actor own there.0 now there.1 now_at in
       record {
-        row_is = rw own (ap (option_map (λ seat. row_of s.table seat rows deed.event)) birth.1.found ∙ ap Some (sym did.0));
+        row_is = rw own (ap (option_map (λ seat. row_of s.table seat rows action.event)) birth.1.found ∙ ap Some (sym did.0));
         seats_are =
             did.1
-            ∙ ap (λ xs. set xs there.0 (seat_after s.table now (mails rows) deed.event)) seats
-            ∙ sym (values-snoc s.table s.births rows (row_of s.table birth.0 rows deed.event) there.0 birth.0 apart birth.1.at refl)
+            ∙ ap (λ xs. set xs there.0 (seat_after s.table now (mails rows) action.event)) seats
+            ∙ sym (values-snoc s.table s.births rows (row_of s.table birth.0 rows action.event) there.0 birth.0 apart birth.1.at refl)
             ∙ ap (λ r. values s.table s.births (rows ++ r ∷ [])) (sym did.0);
       }
 
-  made_cases : (b : Bool) → is_of_network deed.event ≡ b → can_act (numbers_of old) deed ≡ true → Made s rows new deed row
+  made_cases : (b : Bool) → is_of_network action.event ≡ b → can_act (numbers_of old) action ≡ true → Made s rows new action row
   made_cases true own can = made_by_network own
-  made_cases false own can = made_by_actor own (or_is (is_of_network deed.event) (is_number (numbers_of old) deed.who) own can)
+  made_cases false own can = made_by_actor own (or_is (is_of_network action.event) (is_number (numbers_of old) action.who) own can)
 
-  -- what a deed makes is the row of the walk
-  pub made : can_act (numbers_of old) deed ≡ true → Made s rows new deed row
-  made can = made_cases (is_of_network deed.event) refl can
+  -- what an action makes is the row of the walk
+  pub made : can_act (numbers_of old) action ≡ true → Made s rows new action row
+  made can = made_cases (is_of_network action.event) refl can
 
 -- two stages that differ in what they count
 pub record SameJournal {A M O : Type 0} (old new : Stage A M O) : Type 0 where
   pub rows : new.rows ≡ old.rows
   pub seats : new.seats.items ≡ old.seats.items
 
--- A deed that a task allows: the task is not over, and its row is that of the deed.
-abbrev pub Fits : {A M O : Type 0} → System A M O → List (Row M O) → Task O → Deed O → Type 0
-Fits {A} {M} {O} s rows task deed = (row : Row M O) → row_made s rows deed ≡ Some row → (is_over s rows task ≡ false) × Allows s rows task row
+-- An action that a task allows: the task is not over, and its row is that of the action.
+abbrev pub Fits : {A M O : Type 0} → System A M O → List (Row M O) → Task O → Action O → Type 0
+Fits {A} {M} {O} s rows task action = (row : Row M O) → row_made s rows action ≡ Some row → (is_over s rows task ≡ false) × Allows s rows task row
 
 module _ {A M O : Type 0} (r : Rules A M O) (words : ℕ → ℕ → ℕ × ℕ) (births : List (Seat A)) (lines : List (Line O)) (old new : Stage A M O) (task : Task O) (rest : List (Task O)) (at : IsStageAt (with_births r words births) lines old (task ∷ rest)) where
   -- a task that makes no row any more
@@ -121,10 +121,10 @@ module _ {A M O : Type 0} (r : Rules A M O) (words : ℕ → ℕ → ℕ × ℕ)
       }
 
   -- a row of the first task
-  pub IsStageAt-did : (deed : Deed O) → can_act (numbers_of old.seats.items) deed ≡ true → Did r old new deed → Fits (with_births r words births) old.rows task deed → IsStageAt (with_births r words births) lines new (rest_of_task task ++ rest)
-  IsStageAt-did deed can did fits =
+  pub IsStageAt-did : (action : Action O) → can_act (numbers_of old.seats.items) action ≡ true → Did r old new action → Fits (with_births r words births) old.rows task action → IsStageAt (with_births r words births) lines new (rest_of_task task ++ rest)
+  IsStageAt-did action can did fits =
       let s = with_births r words births in
-      let m = made s old.rows old.seats.items new.seats.items deed did.row at.seats at.apart did.makes can in
+      let m = made s old.rows old.seats.items new.seats.items action did.row at.seats at.apart did.makes can in
       let stands = Stands-row s lines old.rows task rest old.skipped old.unsettled did.row (record { lawful = at.lawful; place = at.place }) (fits did.row m.row_is).0 (fits did.row m.row_is).1 in
       record {
         lawful = rw did.rows stands.lawful;
@@ -142,9 +142,9 @@ or_false true = refl
 or_false false = refl
 
 module _ {A M O : Type 0} (s : System A M O) (rows : List (Row M O)) where
-  pub fits_line : (line : Line O) (deed : Deed O) → line_deed s.receiver (numbers_of s.births) rows line ≡ Some deed → Fits s rows (Once line) deed
-  fits_line line deed is row made_row =
-      let same : line_row s rows line ≡ Some row = line_row-deed s rows line ∙ ap (option_and_then (row_made s rows)) is ∙ made_row in
+  pub fits_line : (line : Line O) (action : Action O) → line_action s.receiver (numbers_of s.births) rows line ≡ Some action → Fits s rows (Once line) action
+  fits_line line action is row made_row =
+      let same : line_row s rows line ≡ Some row = line_row-action s rows line ∙ ap (option_and_then (row_made s rows)) is ∙ made_row in
       (ap is_none same, same)
 
 module _ {A M O : Type 0} (r : Rules A M O) (old new : Stage A M O) where
@@ -153,28 +153,28 @@ module _ {A M O : Type 0} (r : Rules A M O) (old new : Stage A M O) where
   numbers-at words births lines tasks at = ap numbers_of at.seats ∙ numbers_of-values r.table births old.rows
 
   module _ (line : Line O) where
-    -- a line has the same deed by the births and by the actors as they are
-    pub line-at : (words : ℕ → ℕ → ℕ × ℕ) (births : List (Seat A)) (lines : List (Line O)) (tasks : List (Task O)) → IsStageAt (with_births r words births) lines old tasks → line_deed r.receiver (numbers_of births) old.rows line ≡ line_deed r.receiver (numbers_of old.seats.items) old.rows line
-    line-at words births lines tasks at = ap (λ numbers. line_deed r.receiver numbers old.rows line) (sym (numbers-at words births lines tasks at))
+    -- a line has the same action by the births and by the actors as they are
+    pub line-at : (words : ℕ → ℕ → ℕ × ℕ) (births : List (Seat A)) (lines : List (Line O)) (tasks : List (Task O)) → IsStageAt (with_births r words births) lines old tasks → line_action r.receiver (numbers_of births) old.rows line ≡ line_action r.receiver (numbers_of old.seats.items) old.rows line
+    line-at words births lines tasks at = ap (λ numbers. line_action r.receiver numbers old.rows line) (sym (numbers-at words births lines tasks at))
 
     -- a line that is skipped
-    pub StageGoes-skip : line_deed r.receiver (numbers_of old.seats.items) old.rows line ≡ None → SameJournal old new → new.skipped ≡ old.skipped + 1 → new.unsettled ≡ old.unsettled → StageGoes r old (Once line ∷ []) new []
+    pub StageGoes-skip : line_action r.receiver (numbers_of old.seats.items) old.rows line ≡ None → SameJournal old new → new.skipped ≡ old.skipped + 1 → new.unsettled ≡ old.unsettled → StageGoes r old (Once line ∷ []) new []
     StageGoes-skip none same skips_ cut = λ words births lines rest at.
         let s = with_births r words births in
-        let row_is : line_row s old.rows line ≡ None = line_row-deed s old.rows line ∙ ap (option_and_then (row_made s old.rows)) (line-at words births lines (Once line ∷ rest) at ∙ none) in
+        let row_is : line_row s old.rows line ≡ None = line_row-action s old.rows line ∙ ap (option_and_then (row_made s old.rows)) (line-at words births lines (Once line ∷ rest) at ∙ none) in
         IsStageAt-over r words births lines old new (Once line) rest at same (ap is_none row_is) skips_ (cut ∙ sym (or_false old.unsettled))
 
     -- a line that makes its row
-    pub StageGoes-line : (deed : Deed O) → line_deed r.receiver (numbers_of old.seats.items) old.rows line ≡ Some deed → Did r old new deed → StageGoes r old (Once line ∷ []) new []
-    StageGoes-line deed is did = λ words births lines rest at.
-        IsStageAt-did r words births lines old new (Once line) rest at deed (line_deed-can r.receiver old.seats.items old.rows line deed is) did
-        (fits_line (with_births r words births) old.rows line deed (line-at words births lines (Once line ∷ rest) at ∙ is))
+    pub StageGoes-line : (action : Action O) → line_action r.receiver (numbers_of old.seats.items) old.rows line ≡ Some action → Did r old new action → StageGoes r old (Once line ∷ []) new []
+    StageGoes-line action is did = λ words births lines rest at.
+        IsStageAt-did r words births lines old new (Once line) rest at action (line_action-can r.receiver old.seats.items old.rows line action is) did
+        (fits_line (with_births r words births) old.rows line action (line-at words births lines (Once line ∷ rest) at ∙ is))
 
   -- the lowest delivery is the same by the births and by the actors as they are
-  pub lowest-at : (words : ℕ → ℕ → ℕ × ℕ) (births : List (Seat A)) (lines : List (Line O)) (tasks : List (Task O)) → IsStageAt (with_births r words births) lines old tasks → lowest_deed {O = O} r.receiver (numbers_of births) old.rows ≡ lowest_deed r.receiver (numbers_of old.seats.items) old.rows
-  lowest-at words births lines tasks at = ap (λ numbers. lowest_deed r.receiver numbers old.rows) (sym (numbers-at words births lines tasks at))
+  pub lowest-at : (words : ℕ → ℕ → ℕ × ℕ) (births : List (Seat A)) (lines : List (Line O)) (tasks : List (Task O)) → IsStageAt (with_births r words births) lines old tasks → lowest_action {O = O} r.receiver (numbers_of births) old.rows ≡ lowest_action r.receiver (numbers_of old.seats.items) old.rows
+  lowest-at words births lines tasks at = ap (λ numbers. lowest_action r.receiver numbers old.rows) (sym (numbers-at words births lines tasks at))
 
-  quiet-at : (words : ℕ → ℕ → ℕ × ℕ) (births : List (Seat A)) (lines : List (Line O)) (tasks : List (Task O)) → IsStageAt (with_births r words births) lines old tasks → is_quiet (with_births r words births) old.rows ≡ is_none (lowest_deed {O = O} r.receiver (numbers_of old.seats.items) old.rows)
+  quiet-at : (words : ℕ → ℕ → ℕ × ℕ) (births : List (Seat A)) (lines : List (Line O)) (tasks : List (Task O)) → IsStageAt (with_births r words births) lines old tasks → is_quiet (with_births r words births) old.rows ≡ is_none (lowest_action {O = O} r.receiver (numbers_of old.seats.items) old.rows)
   quiet-at words births lines tasks at = quiet_is {O = O} r.receiver births old.rows ∙ ap is_none (lowest-at words births lines tasks at)
 
   many_over : (s : System A M O) (free : Bool) (left : ℕ) → (eqb left 0 || is_quiet s old.rows) ≡ true → is_over s old.rows (many free left) ≡ true
@@ -190,7 +190,7 @@ module _ {A M O : Type 0} (r : Rules A M O) (old new : Stage A M O) where
   many_cuts s false left = refl
 
   -- no mail is pending
-  pub StageGoes-quiet : (free : Bool) (left : ℕ) → lowest_deed {O = O} r.receiver (numbers_of old.seats.items) old.rows ≡ None → SameJournal old new → new.skipped ≡ old.skipped → new.unsettled ≡ old.unsettled → StageGoes r old (many free left ∷ []) new []
+  pub StageGoes-quiet : (free : Bool) (left : ℕ) → lowest_action {O = O} r.receiver (numbers_of old.seats.items) old.rows ≡ None → SameJournal old new → new.skipped ≡ old.skipped → new.unsettled ≡ old.unsettled → StageGoes r old (many free left ∷ []) new []
   StageGoes-quiet free left none same skips_ cut = λ words births lines rest at.
       let s = with_births r words births in
       let quiet : is_quiet s old.rows ≡ true = quiet-at words births lines (many free left ∷ rest) at ∙ ap is_none none in
@@ -199,7 +199,7 @@ module _ {A M O : Type 0} (r : Rules A M O) (old new : Stage A M O) where
       (rw (many_cuts s free left, quiet) (cut ∙ sym (or_false old.unsettled)))
 
   -- no delivery is left
-  pub StageGoes-close : (free : Bool) → SameJournal old new → new.skipped ≡ old.skipped → new.unsettled ≡ (old.unsettled || not (is_none (lowest_deed {O = O} r.receiver (numbers_of old.seats.items) old.rows))) → StageGoes r old (many free 0 ∷ []) new []
+  pub StageGoes-close : (free : Bool) → SameJournal old new → new.skipped ≡ old.skipped → new.unsettled ≡ (old.unsettled || not (is_none (lowest_action {O = O} r.receiver (numbers_of old.seats.items) old.rows))) → StageGoes r old (many free 0 ∷ []) new []
   StageGoes-close free same skips_ cut = λ words births lines rest at.
       let s = with_births r words births in
       IsStageAt-over r words births lines old new (many free 0) rest at same (many_over s free 0 refl)

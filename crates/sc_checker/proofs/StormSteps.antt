@@ -13,68 +13,68 @@ use Rattle.sc_actor.specs.Walk.{Task, Storms, storm_row, storm_steps, picked}
 use Rattle.sc_actor.proofs.PendingLemmas.{waiting_at}
 use Rattle.sc_actor.proofs.TaskLemmas.{steps_left}
 use Rattle.sc_checker.specs.declared.stages.Stage.{Stage}
-use Rattle.sc_checker.specs.declared.stages.Deed.{Deed}
-use Rattle.sc_checker.specs.Deeds.{can_act, row_made, deed, delivery_deed, tick_deed, storm_deed, picked_mail}
+use Rattle.sc_checker.specs.declared.stages.Action.{Action}
+use Rattle.sc_checker.specs.Actions.{can_act, row_made, action, delivery_action, tick_action, storm_action, picked_mail}
 use Rattle.sc_checker.specs.Moves.{IsStageAt, Rules, with_births, Did, StageGoes}
 use Rattle.sc_checker.specs.Checks.{Follows, Misses, Ends, Breaks}
-use Rattle.sc_checker.proofs.DeedLemmas.{line_row-deed, line_deed-can, lowest_of, of_drop, map-can, own, any_system}
+use Rattle.sc_checker.proofs.ActionLemmas.{line_row-action, line_action-can, lowest_of, of_drop, map-can, own, any_system}
 use Rattle.sc_checker.proofs.Steps.{IsStageAt-did, IsStageAt-over, numbers-at, or_false}
 use Rattle.sc_checker.proofs.Checks.{IsStageAt-open, IsStageAt-misses, can_row}
 
 module _ {A M O : Type 0} (s : System A M O) (rows : List (Row M O)) where
-  tick_of : (o : Option ℕ) → option_and_then (λ who. cond (has_crashed rows who) None (acts s rows who Tick)) o ≡ option_and_then (row_made s rows) (option_and_then (tick_deed (numbers_of s.births) rows) o)
+  tick_of : (o : Option ℕ) → option_and_then (λ who. cond (has_crashed rows who) None (acts s rows who Tick)) o ≡ option_and_then (row_made s rows) (option_and_then (tick_action (numbers_of s.births) rows) o)
   tick_of None = refl
-  tick_of (Some who) = line_row-deed s rows (TickLine who)
+  tick_of (Some who) = line_row-action s rows (TickLine who)
 
-  -- a step of a storm makes the row of its deed
-  storm_row-deed : (kind v : ℕ) → storm_row s rows kind v ≡ option_and_then (row_made s rows) (storm_deed s.receiver (numbers_of s.births) rows kind v)
-  storm_row-deed zero v = of_drop s rows (picked s rows v)
-  storm_row-deed (suc zero) v = line_row-deed s rows (AgainLine (1 + v % length (mails rows)))
-  storm_row-deed (suc (suc zero)) v = tick_of (slice_get (numbers_of s.births) (v % length (numbers_of s.births)))
-  storm_row-deed (suc (suc (suc more))) v = lowest_of s rows (picked s rows v)
+  -- a step of a storm makes the row of its action
+  storm_row-action : (kind v : ℕ) → storm_row s rows kind v ≡ option_and_then (row_made s rows) (storm_action s.receiver (numbers_of s.births) rows kind v)
+  storm_row-action zero v = of_drop s rows (picked s rows v)
+  storm_row-action (suc zero) v = line_row-action s rows (AgainLine (1 + v % length (mails rows)))
+  storm_row-action (suc (suc zero)) v = tick_of (slice_get (numbers_of s.births) (v % length (numbers_of s.births)))
+  storm_row-action (suc (suc (suc more))) v = lowest_of s rows (picked s rows v)
 
 module _ {A M O : Type 0} (receiver : M → ℕ) (seats : List (Seat A)) (rows : List (Row M O)) where
-  tick-can : (o : Option ℕ) (d : Deed O) → option_and_then (tick_deed (numbers_of seats) rows) o ≡ Some d → can_act (numbers_of seats) d ≡ true
+  tick-can : (o : Option ℕ) (d : Action O) → option_and_then (tick_action (numbers_of seats) rows) o ≡ Some d → can_act (numbers_of seats) d ≡ true
   tick-can None d e = cc
-  tick-can (Some who) d e = line_deed-can receiver seats rows (TickLine who) d e
+  tick-can (Some who) d e = line_action-can receiver seats rows (TickLine who) d e
 
-  delivery-can : (place : ℕ) (o : Option ℕ) (d : Deed O) → slice_get (pending receiver (numbers_of seats) rows None) place ≡ o → option_and_then (delivery_deed receiver rows) o ≡ Some d → can_act (numbers_of seats) d ≡ true
+  delivery-can : (place : ℕ) (o : Option ℕ) (d : Action O) → slice_get (pending receiver (numbers_of seats) rows None) place ≡ o → option_and_then (delivery_action receiver rows) o ≡ Some d → can_act (numbers_of seats) d ≡ true
   delivery-can place None d is e = cc
   delivery-can place (Some number) d is e =
       let under = waiting_at (any_system receiver seats rows) rows place number is in
-      let here : deed (receiver under.0) (Deliver number) ≡ d = (let some : Some (deed (receiver under.0) (Deliver number)) ≡ Some d = ap (option_map (λ m. deed (receiver m) (Deliver number))) (sym under.1.sent) ∙ e in cc) in
+      let here : action (receiver under.0) (Deliver number) ≡ d = (let some : Some (action (receiver under.0) (Deliver number)) ≡ Some d = ap (option_map (λ m. action (receiver m) (Deliver number))) (sym under.1.sent) ∙ e in cc) in
       subst (λ x. can_act (numbers_of seats) x ≡ true) here (own receiver seats rows (receiver under.0) under.1.may)
 
-  -- the deed of a step of a storm can be done
-  pub storm_deed-can : (kind v : ℕ) (d : Deed O) → storm_deed receiver (numbers_of seats) rows kind v ≡ Some d → can_act (numbers_of seats) d ≡ true
-  storm_deed-can zero v d e = map-can receiver seats rows 0 Drop (picked_mail receiver (numbers_of seats) rows v) d (λ mail is. refl) e
-  storm_deed-can (suc zero) v d e = line_deed-can receiver seats rows (AgainLine (1 + v % length (mails rows))) d e
-  storm_deed-can (suc (suc zero)) v d e = tick-can (slice_get (numbers_of seats) (v % length (numbers_of seats))) d e
-  storm_deed-can (suc (suc (suc more))) v d e =
+  -- the action of a step of a storm can be done
+  pub storm_action-can : (kind v : ℕ) (d : Action O) → storm_action receiver (numbers_of seats) rows kind v ≡ Some d → can_act (numbers_of seats) d ≡ true
+  storm_action-can zero v d e = map-can receiver seats rows 0 Drop (picked_mail receiver (numbers_of seats) rows v) d (λ mail is. refl) e
+  storm_action-can (suc zero) v d e = line_action-can receiver seats rows (AgainLine (1 + v % length (mails rows))) d e
+  storm_action-can (suc (suc zero)) v d e = tick-can (slice_get (numbers_of seats) (v % length (numbers_of seats))) d e
+  storm_action-can (suc (suc (suc more))) v d e =
       delivery-can (v % length (pending receiver (numbers_of seats) rows None)) (picked_mail receiver (numbers_of seats) rows v) d refl e
 
 module _ {A M O : Type 0} (r : Rules A M O) (old new : Stage A M O) (rows : List (Row M O)) (step : ℕ × ℕ) where
-  -- the deed of the step, by the actors as they are
-  abbrev pub deed_now : Option (Deed O)
-  deed_now = storm_deed r.receiver (numbers_of old.seats.items) old.rows (step.0 % 16) step.1
+  -- the action of the step, by the actors as they are
+  abbrev pub action_now : Option (Action O)
+  action_now = storm_action r.receiver (numbers_of old.seats.items) old.rows (step.0 % 16) step.1
 
   row_at : (words : ℕ → ℕ → ℕ × ℕ) (births : List (Seat A)) (lines : List (Line O)) (tasks : List (Task O)) → IsStageAt (with_births r words births) lines old tasks →
-      storm_row (with_births r words births) old.rows (step.0 % 16) step.1 ≡ option_and_then (row_made (with_births r words births) old.rows) deed_now
+      storm_row (with_births r words births) old.rows (step.0 % 16) step.1 ≡ option_and_then (row_made (with_births r words births) old.rows) action_now
   row_at words births lines tasks at =
       let s = with_births r words births in
-      storm_row-deed s old.rows (step.0 % 16) step.1
-      ∙ ap (λ numbers. option_and_then (row_made s old.rows) (storm_deed r.receiver numbers old.rows (step.0 % 16) step.1)) (sym (numbers-at r old old words births lines tasks at))
+      storm_row-action s old.rows (step.0 % 16) step.1
+      ∙ ap (λ numbers. option_and_then (row_made s old.rows) (storm_action r.receiver numbers old.rows (step.0 % 16) step.1)) (sym (numbers-at r old old words births lines tasks at))
 
   -- a step that makes no row
-  pub StageGoes-pass : deed_now ≡ None → StageGoes r old (Storms step ∷ []) old []
+  pub StageGoes-pass : action_now ≡ None → StageGoes r old (Storms step ∷ []) old []
   StageGoes-pass none = λ words births lines rest at.
       let s = with_births r words births in
       let row_is : storm_row s old.rows (step.0 % 16) step.1 ≡ None = row_at words births lines (Storms step ∷ rest) at ∙ ap (option_and_then (row_made s old.rows)) none in
       IsStageAt-over r words births lines old old (Storms step) rest at (record { rows = refl; seats = refl }) (ap is_none row_is) (sym (add-zero old.skipped)) (sym (or_false old.unsettled))
 
-  module _ (d : Deed O) (is : deed_now ≡ Some d) where
+  module _ (d : Action O) (is : action_now ≡ Some d) where
     can : can_act (numbers_of old.seats.items) d ≡ true
-    can = storm_deed-can r.receiver old.seats.items old.rows (step.0 % 16) step.1 d is
+    can = storm_action-can r.receiver old.seats.items old.rows (step.0 % 16) step.1 d is
 
     same_row : (words : ℕ → ℕ → ℕ × ℕ) (births : List (Seat A)) (lines : List (Line O)) (tasks : List (Task O)) → IsStageAt (with_births r words births) lines old tasks →
         storm_row (with_births r words births) old.rows (step.0 % 16) step.1 ≡ row_made (with_births r words births) old.rows d

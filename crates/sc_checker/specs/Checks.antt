@@ -6,7 +6,7 @@ use Rattle.sc_actor.specs.declared.schedules.Line.{Line}
 use Rattle.sc_actor.specs.Mail.{mails}
 use Rattle.sc_actor.specs.Walk.{Task, IsLawful}
 use Rattle.sc_checker.specs.declared.stages.Stage.{Stage}
-use Rattle.sc_checker.specs.declared.stages.Deed.{Deed}
+use Rattle.sc_checker.specs.declared.stages.Action.{Action}
 use Rattle.sc_checker.specs.declared.checked.Checked.{Checked}
 use Rattle.sc_checker.specs.declared.checked.Checked.TheVariants.{On, Ended, Wrong}
 use Rattle.sc_checker.specs.Stages.{IsUpToDate, Makes}
@@ -24,17 +24,17 @@ pub record IsTaking {A M O : Type 0} (receiver : M → ℕ) (stage : Stage A M O
   pub few_rows_in_all : length rows < 2 ^ 31
   pub few_mails_in_all : length (mails rows) < 2 ^ 31
 
--- a deed was done, and its row is this one
-pub record DidWithRow {A M O : Type 0} (r : Rules A M O) (old new : Stage A M O) (deed : Deed O) (row : Row M O) : Type 0 where
-  pub did : Did r old new deed
+-- an action was done, and its row is this one
+pub record DidWithRow {A M O : Type 0} (r : Rules A M O) (old new : Stage A M O) (action : Action O) (row : Row M O) : Type 0 where
+  pub did : Did r old new action
   pub same : did.row ≡ row
   pub kept : IsUpToDate r.receiver new
 
--- the row of a deed is another one
-pub record Misses {A M O : Type 0} (r : Rules A M O) (old : Stage A M O) (deed : Deed O) (row : Row M O) : Type 0 where
+-- the row of an action is another one
+pub record Misses {A M O : Type 0} (r : Rules A M O) (old : Stage A M O) (action : Action O) (row : Row M O) : Type 0 where
   pub made : Row M O
   pub seats : List (Seat A)
-  pub makes : Makes r.table (mails old.rows) old.seats.items seats deed made
+  pub makes : Makes r.table (mails old.rows) old.seats.items seats action made
   pub differs : made ≡ row → ⊥
 
 -- the rows end here, wherever the walk stands at the old stage with these tasks: they are lawful, and the new stage is what they leave

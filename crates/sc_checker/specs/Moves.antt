@@ -8,7 +8,7 @@ use Rattle.sc_actor.specs.Replay.{Table, values}
 use Rattle.sc_actor.specs.System.{System, system, are_apart}
 use Rattle.sc_actor.specs.Walk.{Task, Settles, Frees, IsLawful, place_after, onward}
 use Rattle.sc_checker.specs.declared.stages.Stage.{Stage}
-use Rattle.sc_checker.specs.declared.stages.Deed.{Deed}
+use Rattle.sc_checker.specs.declared.stages.Action.{Action}
 use Rattle.sc_checker.specs.Stages.{Makes}
 
 -- The journal of the stage is lawful, the walk after it has these tasks left, and each actor is its replay.
@@ -31,10 +31,10 @@ rules_of table receiver = record { table = table; receiver = receiver }
 abbrev pub with_births : {A M O : Type 0} → Rules A M O → (ℕ → ℕ → ℕ × ℕ) → List (Seat A) → System A M O
 with_births r words births = system r.table r.receiver words births
 
--- a deed was done: its row joined the journal
-pub record Did {A M O : Type 0} (r : Rules A M O) (old new : Stage A M O) (deed : Deed O) : Type 0 where
+-- an action was done: its row joined the journal
+pub record Did {A M O : Type 0} (r : Rules A M O) (old new : Stage A M O) (action : Action O) : Type 0 where
   pub row : Row M O
-  pub makes : Makes r.table (mails old.rows) old.seats.items new.seats.items deed row
+  pub makes : Makes r.table (mails old.rows) old.seats.items new.seats.items action row
   pub rows : new.rows ≡ old.rows ++ row ∷ []
   pub skipped : new.skipped ≡ old.skipped
   pub unsettled : new.unsettled ≡ old.unsettled

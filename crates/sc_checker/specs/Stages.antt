@@ -1,4 +1,4 @@
--- What a stage keeps of its journal, and what a deed makes of its actors.
+-- What a stage keeps of its journal, and what an action makes of its actors.
 use Rattle.std.specs.Prelude.{◌≡◌, ℕ, suc, ◌^◌, ◌==◌, ◌<◌, List, [], ◌∷◌, true, false, if◌then◌else◌, Option, None, Some, length, slice_get, slice_set}
 use Rattle.std.specs.List.{list_any}
 use Rattle.std.specs.Option.{option_map}
@@ -9,8 +9,8 @@ use Rattle.sc_actor.specs.Mail.{mails, has_crashed}
 use Rattle.sc_actor.specs.Replay.{Table, input_of, acted}
 use Rattle.sc_actor.specs.System.{network, numbers_of, has_gone}
 use Rattle.sc_checker.specs.declared.stages.Stage.{Stage}
-use Rattle.sc_checker.specs.declared.stages.Deed.{Deed}
-use Rattle.sc_checker.specs.Deeds.{is_of_network}
+use Rattle.sc_checker.specs.declared.stages.Action.{Action}
+use Rattle.sc_checker.specs.Actions.{is_of_network}
 use Rattle.sc_checker.specs.Opens.{opens_of}
 
 -- What is kept beside the journal is what the journal says, and the journal is small enough to be counted.
@@ -35,8 +35,8 @@ row_in table seat sent event = record { who = seat.who; event = event; sent = (a
 abbrev pub seat_after : {A M O : Type 0} → Table A M O → Seat A → List M → Event O → Seat A
 seat_after table seat sent event = record { who = seat.who; actor = (acted table seat.actor (input_of sent event)).0 }
 
--- What a deed makes of the seats, and its row, where these mails were sent before it.
-pub record Makes {A M O : Type 0} (table : Table A M O) (sent : List M) (old new : List (Seat A)) (deed : Deed O) (row : Row M O) : Type 0 where
-  pub by_network : is_of_network deed.event ≡ true → (row ≡ network deed.event) × (new ≡ old)
-  pub by_actor : is_of_network deed.event ≡ false → (place : ℕ) (seat : Seat A) → place_of old deed.who ≡ Some place → slice_get old place ≡ Some seat →
-      (row ≡ row_in table seat sent deed.event) × (new ≡ slice_set old place (seat_after table seat sent deed.event))
+-- What an action makes of the seats, and its row, where these mails were sent before it.
+pub record Makes {A M O : Type 0} (table : Table A M O) (sent : List M) (old new : List (Seat A)) (action : Action O) (row : Row M O) : Type 0 where
+  pub by_network : is_of_network action.event ≡ true → (row ≡ network action.event) × (new ≡ old)
+  pub by_actor : is_of_network action.event ≡ false → (place : ℕ) (seat : Seat A) → place_of old action.who ≡ Some place → slice_get old place ≡ Some seat →
+      (row ≡ row_in table seat sent action.event) × (new ≡ slice_set old place (seat_after table seat sent action.event))

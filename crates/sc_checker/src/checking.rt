@@ -5,41 +5,41 @@ ghost use Rattle.sc_actor.specs.System.{numbers_of};
 ghost use Rattle.sc_actor.specs.Walk.{Once, Storms, storm_steps, tasks_of};
 ghost use Rattle.sc_chance.specs.Words.{two_words};
 ghost use Rattle.sc_checker.specs.Checks.{IsTaking, DidWithRow, Misses, IsChecked};
-ghost use Rattle.sc_checker.specs.Deeds.{can_act, chosen_deed};
+ghost use Rattle.sc_checker.specs.Actions.{can_act, chosen_action};
 ghost use Rattle.sc_checker.specs.Moves.{rules_of, many};
 ghost use Rattle.sc_checker.specs.Stages.{IsUpToDate};
 
+use crate::actions::{first_action, line_action, lowest_action, storm_action};
 use crate::appending::append;
 use crate::checked::Checked;
-use crate::deeds::{first_deed, line_deed, lowest_deed, storm_deed};
 use crate::making::make_row;
 use crate::pending::is_quiet;
-use crate::stages::{Deed, Stage};
+use crate::stages::{Action, Stage};
 use sc_actor::{Actor, Line, Parcel, Row};
 use sc_base::{OutOfMemory, Same};
 use sc_chance::Chance;
 use std::alloc::Global;
 
-// Does a deed, if its row is this one.
+// Does an action, if its row is this one.
 fn take_row<A: Actor>(
     alloc: Global,
     stage: &mut Stage<A, A::Mail, A::Order>,
-    deed: Deed<A::Order>,
+    action: Action<A::Order>,
     row: &Row<A::Mail, A::Order>,
 ) -> Result<bool, OutOfMemory>
 where
     A::Mail: Same,
     A::Order: Same,
     requires kept { IsUpToDate A.Mail.receiver stage.old }
-    requires can { can_act (numbers_of stage.old.seats.items) deed ≡ true }
+    requires can { can_act (numbers_of stage.old.seats.items) action ≡ true }
     requires rows { length stage.old.rows + 1 < 2 ^ 31 }
     requires mails { length (mails stage.old.rows) + length row.now.sent < 2 ^ 31 }
     ensures took { IfOk result (λ same. MatchBool same
-        (DidWithRow (rules_of A.table A.Mail.receiver) stage.old stage.new deed row.now)
-        (Misses (rules_of A.table A.Mail.receiver) stage.old deed row.now)) }
+        (DidWithRow (rules_of A.table A.Mail.receiver) stage.old stage.new action row.now)
+        (Misses (rules_of A.table A.Mail.receiver) stage.old action row.now)) }
     ensures skipped { OnOk result (stage.new.skipped ≡ stage.old.skipped) }
 {
-    let made = make_row(alloc, &mut stage.seats, &stage.mails, deed)?;
+    let made = make_row(alloc, &mut stage.seats, &stage.mails, action)?;
     if !made.is_same(row) {
         return Ok(false);
     }
@@ -65,7 +65,7 @@ where
         rows.now checked) }
     ensures skipped { OnOk result (stage.new.skipped ≤ stage.old.skipped + 1) }
 {
-    let Some(deed) = line_deed(alloc, stage, line)? else {
+    let Some(action) = line_action(alloc, stage, line)? else {
         stage.skipped += 1;
         return Ok(Checked::On);
     };
@@ -74,7 +74,7 @@ where
         return Ok(Checked::Ended);
     }
     let row = &rows[at];
-    if take_row(alloc, stage, deed, row)? {
+    if take_row(alloc, stage, action, row)? {
         Ok(Checked::On)
     } else {
         Ok(Checked::Wrong)
@@ -82,16 +82,16 @@ where
 }
 
 // The delivery that a line of many may make next: the lowest of all, or the first of one actor.
-fn chosen_deed<A, M: Parcel, O>(stage: &Stage<A, M, O>, free: bool, who: u32) -> Option<Deed<O>>
+fn chosen_action<A, M: Parcel, O>(stage: &Stage<A, M, O>, free: bool, who: u32) -> Option<Action<O>>
     requires { IsUpToDate M.receiver stage.now }
     ensures is { result
-        ≡ chosen_deed M.receiver (numbers_of stage.now.seats.items) stage.now.rows free who }
-    ensures can { IfSome result (λ deed. can_act (numbers_of stage.now.seats.items) deed ≡ true) }
+        ≡ chosen_action M.receiver (numbers_of stage.now.seats.items) stage.now.rows free who }
+    ensures can { IfSome result (λ action. can_act (numbers_of stage.now.seats.items) action ≡ true) }
 {
     if free {
-        first_deed(stage, who)
+        first_action(stage, who)
     } else {
-        lowest_deed(stage)
+        lowest_action(stage)
     }
 }
 
@@ -123,10 +123,10 @@ where
             return Ok(Checked::Ended);
         }
         let row = &rows[at];
-        let Some(deed) = chosen_deed(stage, free, row.who) else {
+        let Some(action) = chosen_action(stage, free, row.who) else {
             return Ok(Checked::Wrong);
         };
-        if !take_row(alloc, stage, deed, row)? {
+        if !take_row(alloc, stage, action, row)? {
             return Ok(Checked::Wrong);
         }
     }
@@ -153,7 +153,7 @@ where
         rows.now checked) }
     ensures skipped { OnOk result (stage.new.skipped ≡ stage.old.skipped) }
 {
-    let Some(deed) = storm_deed(stage, words.0 % 16, words.1) else {
+    let Some(action) = storm_action(stage, words.0 % 16, words.1) else {
         return Ok(Checked::On);
     };
     let at = stage.rows.len();
@@ -161,7 +161,7 @@ where
         return Ok(Checked::Ended);
     }
     let row = &rows[at];
-    if take_row(alloc, stage, deed, row)? {
+    if take_row(alloc, stage, action, row)? {
         Ok(Checked::On)
     } else {
         Ok(Checked::Wrong)

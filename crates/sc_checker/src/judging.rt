@@ -109,7 +109,7 @@ where
 /// the place, is not said.
 ///
 /// There are fewer than 2^31 rows and mails.
-pub fn taken_by<A: Actor>(
+pub fn rows_replayed<A: Actor>(
     alloc: Global,
     seats: Vec<Seat<A>>,
     lines: &[Line<A::Order>],

@@ -2,15 +2,15 @@
 //! journal over.
 #![tactic(auto)]
 
+mod actions;
 mod appending;
 mod checked;
 mod checking;
-mod deeds;
 mod judging;
 mod looking;
 mod making;
 mod pending;
 mod stages;
 
-pub use judging::{Replayed, is_lawful, replay, taken_by};
+pub use judging::{Replayed, is_lawful, replay, rows_replayed};
 pub use looking::pending_of;

@@ -1,11 +1,11 @@
-//! What a deed makes of its actor, and its row.
+//! What an action makes of its actor, and its row.
 ghost use Rattle.std.specs.Prelude.{◌≡◌, ◌<◌, length, IfSome, IfOk, OnOk, true};
 ghost use Rattle.sc_actor.specs.Replay.{acted, input_of};
 ghost use Rattle.sc_actor.specs.System.{numbers_of};
-ghost use Rattle.sc_checker.specs.Deeds.{is_of_network, can_act};
+ghost use Rattle.sc_checker.specs.Actions.{is_of_network, can_act};
 ghost use Rattle.sc_checker.specs.Stages.{place_of, Makes};
 
-use crate::stages::Deed;
+use crate::stages::Action;
 use sc_actor::{Actor, Event, Input, Row, Seat};
 use sc_base::{Dup, OutOfMemory, Sequence};
 use std::alloc::Global;
@@ -74,19 +74,19 @@ fn is_of_network<O>(event: &Event<O>) -> bool
     }
 }
 
-/// Does a deed: its actor takes the event, and its row is answered.
+/// Does an action: its actor takes the event, and its row is answered.
 pub fn make_row<A: Actor>(
     alloc: Global,
     seats: &mut Vec<Seat<A>>,
     mails: &[A::Mail],
-    deed: Deed<A::Order>,
+    action: Action<A::Order>,
 ) -> Result<Row<A::Mail, A::Order>, OutOfMemory>
-    requires { can_act (numbers_of seats.old.items) deed ≡ true }
+    requires { can_act (numbers_of seats.old.items) action ≡ true }
     ensures makes { IfOk result
-        (λ row. Makes A.table mails.now seats.old.items seats.new.items deed row) }
+        (λ row. Makes A.table mails.now seats.old.items seats.new.items action row) }
     ensures numbers { OnOk result (numbers_of seats.new.items ≡ numbers_of seats.old.items) }
 {
-    let Deed { who, event } = deed;
+    let Action { who, event } = action;
     if is_of_network(&event) {
         return Ok(Row {
             who: 0,

@@ -3,7 +3,7 @@ ghost use Rattle.std.specs.Prelude.{◌≡◌, ◌<◌, ◌%◌, ◌==◌, lengt
 ghost use Rattle.std.specs.List.{list_any};
 ghost use Rattle.sc_actor.specs.Mail.{numbered, may_get, is_crash, is_for, pending};
 ghost use Rattle.sc_actor.specs.System.{kth, numbers_of, has_gone, is_go};
-ghost use Rattle.sc_checker.specs.Deeds.{is_number, picked_mail};
+ghost use Rattle.sc_checker.specs.Actions.{is_number, picked_mail};
 ghost use Rattle.sc_checker.specs.Opens.{runs};
 ghost use Rattle.sc_checker.specs.Stages.{IsUpToDate};
 

@@ -25,7 +25,7 @@ pub struct Stage<A, M, O> {
 
 /// Who acts next, at what event. The network's number counts for nothing.
 #[derive(Drop)]
-pub struct Deed<O> {
+pub struct Action<O> {
     pub who: u32,
     pub event: Event<O>,
 }

@@ -12,7 +12,7 @@ use Rattle.sc_mail.specs.declared.bodies.MailBody.{MailBody}
 use Rattle.sc_mail.specs.declared.bodies.MailBody.TheVariants.{Answer}
 use Rattle.sc_mail.specs.declared.bodies.AnswerBody.{AnswerBody}
 use Rattle.sc_mail.specs.declared.bodies.AnswerBody.TheVariants.{Value, NotLeader, NotMine, Gone, Stale}
-use Rattle.sc_lookup.specs.Known.{Known, target_in, preferring, passed_on, told_not_mine, told_gone}
+use Rattle.sc_lookup.specs.Known.{KnownGroups, target_in, preferring, passed_on, told_not_mine, told_gone}
 use Rattle.sc_client_table.specs.Client.{Client, waiting_request}
 use Rattle.sc_client_table.specs.Table.{ClientStep, asked_of, sent_to, sent_where, chosen_for, request_sent, started, turned_on, client_ticked, waits_for, was_asked, redirected, answer_taken, got}
 use Rattle.sc_client_table.specs.Turns.{SendsWaiting, InTurn, SendsInTurn}
@@ -80,7 +80,7 @@ takes client mail group seq reply body waited step is = record {
 }
 
 -- a client that only learnt of other groups
-to_known : (client : Client) (known : Known) (step : ClientStep) → Sent (record client { known = known }) step → Sent client step
+to_known : (client : Client) (known : KnownGroups) (step : ClientStep) → Sent (record client { known = known }) step → Sent client step
 to_known client known step is = record { me = is.me; requests = is.requests; number = is.number; replies = is.replies; sends = is.sends }
 
 turned_sends : (group : Draw) (client : Client) → Sent client (turned_on group client)

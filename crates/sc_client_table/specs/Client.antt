@@ -6,7 +6,7 @@ use Rattle.sc_base.specs.declared.ops.Op.{Op}
 use Rattle.sc_base.specs.declared.ops.Reply.{Reply}
 use Rattle.sc_cmd.specs.declared.links.Route.{Route}
 use Rattle.sc_lookup.specs.Ways.{new_way}
-use Rattle.sc_lookup.specs.Known.{Known}
+use Rattle.sc_lookup.specs.Known.{KnownGroups}
 
 -- what a client keeps
 pub record Client : Type 0 where
@@ -17,7 +17,7 @@ pub record Client : Type 0 where
   -- the number of the request that waits, if one does
   pub waiting : Option ℕ
   -- the groups that it knows
-  pub known : Known
+  pub known : KnownGroups
   -- the group and the node last asked, if it asked any
   pub asked : Option (Draw × ℕ)
   -- the replies to its requests, in their order

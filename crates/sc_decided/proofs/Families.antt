@@ -15,10 +15,10 @@ use Rattle.sc_actor.specs.declared.rows.Row.{Row}
 use Rattle.sc_machine_table.specs.Group.{group_of}
 use Rattle.sc_sound.specs.Players.{as_nodes}
 use Rattle.sc_sound.specs.Accepts.{accepts}
-use Rattle.sc_sound.specs.GroupsOf.{children_of, children_by, is_birth_of, with_birth, with_children, with_descendants, groups_at, log_by}
+use Rattle.sc_sound.specs.GroupsOf.{children_of, children_by, is_birth_of, with_birth, with_next_children, with_descendants, groups_at, log_by}
 use Rattle.sc_sound.specs.Logs.{rule_of, decided_log}
 use Rattle.sc_known.specs.Known.{IsKnown}
-use Rattle.sc_decided.specs.Found.{kept_log, is_kept_of, log_kept, AreKnown, AreFound}
+use Rattle.sc_decided.specs.Found.{kept_log, is_kept_of, log_kept, AreKnown, AreTracked}
 use Rattle.sc_decided.specs.declared.births.Groups.{Groups}
 use Rattle.sc_known.specs.declared.known.Known.{Known}
 use Rattle.sc_known.proofs.Chosen.{log_is}
@@ -109,11 +109,11 @@ birth_is rows bases knowns child are there =
 -- ---- again and again
 
 -- where the children of the groups are there, more rounds find no other
-pub stable : (rows : List (Row Mail OrderLine)) (bases : List Base) (i n : ℕ) → i ≤ n → with_children as_nodes rows (with_descendants as_nodes rows i bases) ≡ with_descendants as_nodes rows i bases
+pub stable : (rows : List (Row Mail OrderLine)) (bases : List Base) (i n : ℕ) → i ≤ n → with_next_children as_nodes rows (with_descendants as_nodes rows i bases) ≡ with_descendants as_nodes rows i bases
     → with_descendants as_nodes rows n bases ≡ with_descendants as_nodes rows i bases
 stable rows bases i zero le calm = (let none : zero ≡ i = omega (arith, le) in ap (λ (k : ℕ). with_descendants as_nodes rows k bases) none)
 stable rows bases i (suc n) le calm = elim (last i n le) [
-  | inl before ↦ ap (with_children as_nodes rows) (stable rows bases i n before calm) ∙ calm
+  | inl before ↦ ap (with_next_children as_nodes rows) (stable rows bases i n before calm) ∙ calm
   | inr here ↦ ap (λ (k : ℕ). with_descendants as_nodes rows k bases) here
 ]
   where
@@ -137,7 +137,7 @@ each_earlier P bases (child ∷ children) all = each_before P bases child (each_
 abbrev pub SameChildren : List (Row Mail OrderLine) → List (Row Mail OrderLine) → Base → Type 0
 SameChildren rows after base = children_by as_nodes after base ≡ children_by as_nodes rows base
 
-same_round : (rows after : List (Row Mail OrderLine)) (bases : List Base) → Each (SameChildren rows after) bases → with_children as_nodes after bases ≡ with_children as_nodes rows bases
+same_round : (rows after : List (Row Mail OrderLine)) (bases : List Base) → Each (SameChildren rows after) bases → with_next_children as_nodes after bases ≡ with_next_children as_nodes rows bases
 same_round rows after bases same = ap (fold with_birth bases) (flat_same (children_by as_nodes after) (children_by as_nodes rows) bases same)
 
 same_rounds : (rows after : List (Row Mail OrderLine)) (bases : List Base) (n : ℕ) → Each (SameChildren rows after) (with_descendants as_nodes rows n bases)
@@ -146,19 +146,19 @@ same_rounds rows after bases zero same = refl
 same_rounds rows after bases (suc n) same =
     let before : List Base = with_descendants as_nodes rows n bases in
     let each : Each (SameChildren rows after) before = each_earlier (SameChildren rows after) before (flat_map (children_by as_nodes rows) before) same in
-    ap (with_children as_nodes after) (same_rounds rows after bases n each) ∙ same_round rows after before each
+    ap (with_next_children as_nodes after) (same_rounds rows after bases n each) ∙ same_round rows after before each
 
 -- the groups with one more row, where it makes no child
 pub same_groups : (rows : List (Row Mail OrderLine)) (row : Row Mail OrderLine) (bases : List Base)
-    → with_children as_nodes rows (groups_at as_nodes bases rows) ≡ groups_at as_nodes bases rows
+    → with_next_children as_nodes rows (groups_at as_nodes bases rows) ≡ groups_at as_nodes bases rows
     → Each (SameChildren rows (rows ++ row ∷ [])) (groups_at as_nodes bases rows)
     → (groups_at as_nodes bases (rows ++ row ∷ []) ≡ groups_at as_nodes bases rows)
-    × (with_children as_nodes (rows ++ row ∷ []) (groups_at as_nodes bases rows) ≡ groups_at as_nodes bases rows)
+    × (with_next_children as_nodes (rows ++ row ∷ []) (groups_at as_nodes bases rows) ≡ groups_at as_nodes bases rows)
 same_groups rows row bases settled same =
     let after : List (Row Mail OrderLine) = rows ++ row ∷ [] in
     let one : length after ≡ suc (length rows) = length_push rows row ∙ omega arith in
-    let still : with_children as_nodes after (groups_at as_nodes bases rows) ≡ groups_at as_nodes bases rows = same_round rows after (groups_at as_nodes bases rows) same ∙ settled in (
-      ap (λ (n : ℕ). with_descendants as_nodes after n bases) one ∙ ap (with_children as_nodes after) (same_rounds rows after bases (length rows) same) ∙ still,
+    let still : with_next_children as_nodes after (groups_at as_nodes bases rows) ≡ groups_at as_nodes bases rows = same_round rows after (groups_at as_nodes bases rows) same ∙ settled in (
+      ap (λ (n : ℕ). with_descendants as_nodes after n bases) one ∙ ap (with_next_children as_nodes after) (same_rounds rows after bases (length rows) same) ∙ still,
       still,
     )
 
@@ -180,11 +180,11 @@ births_push bases children i child within here =
 
 -- the groups after a round that finds no other are all groups
 pub found_all : (rows : List (Row Mail OrderLine)) (bases : List Base) (i : ℕ) (groups : Groups) → i ≤ length rows
-    → AreKnown rows (with_children as_nodes rows (with_descendants as_nodes rows i bases)) groups.knowns.items
-    → with_children as_nodes rows (with_descendants as_nodes rows i bases) ≡ with_descendants as_nodes rows i bases → AreFound bases rows groups
+    → AreKnown rows (with_next_children as_nodes rows (with_descendants as_nodes rows i bases)) groups.knowns.items
+    → with_next_children as_nodes rows (with_descendants as_nodes rows i bases) ≡ with_descendants as_nodes rows i bases → AreTracked bases rows groups
 found_all rows bases i groups within known calm =
     let last : groups_at as_nodes bases rows ≡ with_descendants as_nodes rows i bases = stable rows bases i (length rows) within calm in
     record {
       known = subst (λ (bs : List Base). AreKnown rows bs groups.knowns.items) (calm ∙ sym last) known;
-      settled = λ t. ap (with_children as_nodes rows) last ∙ calm ∙ sym last;
+      settled = λ t. ap (with_next_children as_nodes rows) last ∙ calm ∙ sym last;
     }

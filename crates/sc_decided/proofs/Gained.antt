@@ -20,10 +20,10 @@ use Rattle.sc_sound.specs.Players.{as_nodes}
 use Rattle.sc_paxos_law.specs.Decided.{log_of}
 use Rattle.sc_entries.specs.declared.LogEntry.{LogEntry}
 use Rattle.sc_sound.specs.Accepts.{accepts}
-use Rattle.sc_sound.specs.GroupsOf.{children_of, children_by, is_birth_of, with_children, groups_at, log_by, entries_from, entries_after, entries_by_row}
+use Rattle.sc_sound.specs.GroupsOf.{children_of, children_by, is_birth_of, with_next_children, groups_at, log_by, entries_from, entries_after, entries_by_row}
 use Rattle.sc_sound.specs.Logs.{rule_of, decided_log}
 use Rattle.sc_known.specs.Known.{Adds, IsKnown, StaysKnown}
-use Rattle.sc_decided.specs.Found.{AreKnown, AreFound, StayKnown, log_kept, gained, grown_by}
+use Rattle.sc_decided.specs.Found.{AreKnown, AreTracked, StayKnown, log_kept, new_entries, grown_by}
 use Rattle.sc_known.specs.declared.accepting.Acceptance.{Acceptance}
 use Rattle.sc_decided.specs.declared.births.Groups.{Groups}
 use Rattle.sc_known.specs.declared.known.Known.{Known}
@@ -96,8 +96,8 @@ gains rows after bases adds base =
     nothing_gained base.core.id (log_by as_nodes rows (find (is_birth_of base.core.id) bases)) (log_by as_nodes after (find (is_birth_of base.core.id) bases))
     (named_log_elsewhere rows after base.core.id bases (adds base.core.id))
 
-nothing_added : (bases : List Base) (rows : List (Row Mail OrderLine)) (row : Row Mail OrderLine) (groups : Groups) → Adds None rows (rows ++ row ∷ []) → groups.settled ≡ true → AreFound bases rows groups
-    → AreFound bases (rows ++ row ∷ []) groups × (entries_by_row as_nodes bases rows row ≡ [])
+nothing_added : (bases : List Base) (rows : List (Row Mail OrderLine)) (row : Row Mail OrderLine) (groups : Groups) → Adds None rows (rows ++ row ∷ []) → groups.settled ≡ true → AreTracked bases rows groups
+    → AreTracked bases (rows ++ row ∷ []) groups × (entries_by_row as_nodes bases rows row ≡ [])
 nothing_added bases rows row groups adds calm found =
     let after : List (Row Mail OrderLine) = rows ++ row ∷ [] in
     let same = same_groups rows row bases (found.settled calm) (each_of (SameChildren rows after) (groups_at as_nodes bases rows) (all_elsewhere rows after adds)) in
@@ -107,17 +107,17 @@ nothing_added bases rows row groups adds calm found =
           bases_are = found.known.bases_are ∙ sym same.0;
           each = each_elsewhere rows after groups.knowns.items adds found.known.each;
         };
-        settled = λ t. ap (with_children as_nodes after) same.0 ∙ same.1 ∙ sym same.0;
+        settled = λ t. ap (with_next_children as_nodes after) same.0 ∙ same.1 ∙ sym same.0;
       },
       row_gains rows row bases nothing same.0 (gains rows after (groups_at as_nodes bases rows) adds) ∙ none_gained (groups_at as_nodes bases rows),
     )
 
 -- a row that accepts nothing
 pub nothing_accepted : (bases : List Base) (rows after : List (Row Mail OrderLine)) (row : Row Mail OrderLine) (groups : Groups) → after ≡ rows ++ row ∷ [] → Adds None rows after → groups.settled ≡ true
-    → AreFound bases rows groups → AreFound bases after groups × (entries_by_row as_nodes bases rows row ≡ [])
+    → AreTracked bases rows groups → AreTracked bases after groups × (entries_by_row as_nodes bases rows row ≡ [])
 nothing_accepted bases rows after row groups is adds calm found =
     let done = nothing_added bases rows row groups (subst (Adds None rows) is adds) calm found in
-    (subst (λ (a : List (Row Mail OrderLine)). AreFound bases a groups) (sym is) done.0, done.1)
+    (subst (λ (a : List (Row Mail OrderLine)). AreTracked bases a groups) (sym is) done.0, done.1)
 
 -- ---- a row that accepts for a group
 
@@ -146,11 +146,11 @@ grows rows after name acceptance bases knowns later count adds known known_later
 -- the groups with one more row, and what it adds, where their logs only go on
 pub record GoesOn (bases : List Base) (rows after : List (Row Mail OrderLine)) (row : Row Mail OrderLine) (name : Draw) (count : ℕ) (later : List Known) : Type 0 where
   pub known : AreKnown after (groups_at as_nodes bases after) later
-  pub settled : with_children as_nodes after (groups_at as_nodes bases after) ≡ groups_at as_nodes bases after
+  pub settled : with_next_children as_nodes after (groups_at as_nodes bases after) ≡ groups_at as_nodes bases after
   pub entries : flat_map (grown_by name count (log_kept name later)) later ≡ entries_by_row as_nodes bases rows row
 
 goes_on : (bases : List Base) (rows : List (Row Mail OrderLine)) (row : Row Mail OrderLine) (name : Draw) (acceptance : Acceptance) (knowns later : List Known) (count : ℕ)
-    → Adds (Some (name, acceptance)) rows (rows ++ row ∷ []) → AreKnown rows (groups_at as_nodes bases rows) knowns → with_children as_nodes rows (groups_at as_nodes bases rows) ≡ groups_at as_nodes bases rows
+    → Adds (Some (name, acceptance)) rows (rows ++ row ∷ []) → AreKnown rows (groups_at as_nodes bases rows) knowns → with_next_children as_nodes rows (groups_at as_nodes bases rows) ≡ groups_at as_nodes bases rows
     → StayKnown rows (rows ++ row ∷ []) knowns later → count ≡ length (log_kept name knowns) → GoesOn bases rows (rows ++ row ∷ []) row name count later
 unfolding grown_of
 goes_on bases rows row name acceptance knowns later count adds known settled stay is =
@@ -161,7 +161,7 @@ goes_on bases rows row name acceptance knowns later count adds known settled sta
     let f : Base → List LogEntry = grown_of name count (log_kept name later) in
     record {
       known = record { bases_are = stay.same ∙ known.bases_are ∙ sym same.0; each = stay.each };
-      settled = ap (with_children as_nodes after) same.0 ∙ same.1 ∙ sym same.0;
+      settled = ap (with_next_children as_nodes after) same.0 ∙ same.1 ∙ sym same.0;
       entries =
           sym (flat_map-map f (λ (k : Known). k.base) later) ∙ ap (flat_map f) (stay.same ∙ known.bases_are)
           ∙ sym (row_gains rows row bases f same.0 (grows rows after name acceptance old knowns later count adds known now is));
@@ -169,7 +169,7 @@ goes_on bases rows row name acceptance knowns later count adds known settled sta
 
 -- a row that accepts for a group
 pub one_accepted : (bases : List Base) (rows after : List (Row Mail OrderLine)) (row : Row Mail OrderLine) (name : Draw) (acceptance : Acceptance) (knowns later : List Known) (count : ℕ) → after ≡ rows ++ row ∷ []
-    → Adds (Some (name, acceptance)) rows after → AreKnown rows (groups_at as_nodes bases rows) knowns → with_children as_nodes rows (groups_at as_nodes bases rows) ≡ groups_at as_nodes bases rows
+    → Adds (Some (name, acceptance)) rows after → AreKnown rows (groups_at as_nodes bases rows) knowns → with_next_children as_nodes rows (groups_at as_nodes bases rows) ≡ groups_at as_nodes bases rows
     → StayKnown rows after knowns later → count ≡ length (log_kept name knowns) → GoesOn bases rows after row name count later
 one_accepted bases rows after row name acceptance knowns later count is adds known settled stay count_is =
     subst (λ (a : List (Row Mail OrderLine)). GoesOn bases rows a row name count later) (sym is)
@@ -179,19 +179,19 @@ one_accepted bases rows after row name acceptance knowns later count is adds kno
 
 gained_here : (bases : List Base) (rows : List (Row Mail OrderLine)) (row : Row Mail OrderLine) (old new : List Known)
     → AreKnown rows (groups_at as_nodes bases rows) old → AreKnown (rows ++ row ∷ []) (groups_at as_nodes bases (rows ++ row ∷ [])) new
-    → flat_map (gained old new) new ≡ entries_by_row as_nodes bases rows row
+    → flat_map (new_entries old new) new ≡ entries_by_row as_nodes bases rows row
 gained_here bases rows row old new known known_new =
     let after : List (Row Mail OrderLine) = rows ++ row ∷ [] in
     let f : Base → List LogEntry =
     λ (base : Base). entries_after base.core.id (log_by as_nodes rows (find (is_birth_of base.core.id) (groups_at as_nodes bases rows))) (log_by as_nodes after (find (is_birth_of base.core.id) (groups_at as_nodes bases after))) in
-    flat_same (gained old new) (λ (k : Known). f k.base) new
-    (each_of (λ (k : Known). gained old new k ≡ f k.base) new
+    flat_same (new_entries old new) (λ (k : Known). f k.base) new
+    (each_of (λ (k : Known). new_entries old new k ≡ f k.base) new
     (λ k. ap (λ (l : List Command). entries_after k.base.core.id l (log_kept k.base.core.id new)) (log_in_is rows (groups_at as_nodes bases rows) old k.base.core.id known)
     ∙ ap (entries_after k.base.core.id (log_by as_nodes rows (find (is_birth_of k.base.core.id) (groups_at as_nodes bases rows)))) (log_in_is after (groups_at as_nodes bases after) new k.base.core.id known_new)))
     ∙ sym (flat_map-map f (λ (k : Known). k.base) new) ∙ ap (flat_map f) known_new.bases_are
 
 pub gained_is : (bases : List Base) (rows after : List (Row Mail OrderLine)) (row : Row Mail OrderLine) (old new : List Known) → after ≡ rows ++ row ∷ []
-    → AreKnown rows (groups_at as_nodes bases rows) old → AreKnown after (groups_at as_nodes bases after) new → flat_map (gained old new) new ≡ entries_by_row as_nodes bases rows row
+    → AreKnown rows (groups_at as_nodes bases rows) old → AreKnown after (groups_at as_nodes bases after) new → flat_map (new_entries old new) new ≡ entries_by_row as_nodes bases rows row
 gained_is bases rows after row old new is known known_new =
     gained_here bases rows row old new known (subst (λ (a : List (Row Mail OrderLine)). AreKnown a (groups_at as_nodes bases a) new) is known_new)
 

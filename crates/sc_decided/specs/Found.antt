@@ -10,7 +10,7 @@ use Rattle.sc_mail.specs.declared.bodies.Mail.{Mail}
 use Rattle.sc_actor.specs.declared.rows.Row.{Row}
 use Rattle.sc_sound.specs.Players.{as_nodes}
 use Rattle.sc_entries.specs.declared.LogEntry.{LogEntry}
-use Rattle.sc_sound.specs.GroupsOf.{children_by, groups_at, with_children, entries_from, entries_after}
+use Rattle.sc_sound.specs.GroupsOf.{children_by, groups_at, with_next_children, entries_from, entries_after}
 use Rattle.sc_known.specs.declared.known.Known.{Known}
 use Rattle.sc_decided.specs.declared.births.Groups.{Groups}
 use Rattle.sc_known.specs.Known.{IsKnown}
@@ -40,14 +40,14 @@ pub record StayKnown (rows after : List (Row Mail OrderLine)) (knowns later : Li
   pub children : Each (λ base. children_by as_nodes after base ≡ children_by as_nodes rows base) (map (λ known. known.base) knowns)
 
 -- the entries that a group has gained, by what was kept of all groups before and what is kept now
-abbrev pub gained : List Known → List Known → Known → List LogEntry
-gained before after known = entries_after known.base.core.id (log_kept known.base.core.id before) (log_kept known.base.core.id after)
+abbrev pub new_entries : List Known → List Known → Known → List LogEntry
+new_entries before after known = entries_after known.base.core.id (log_kept known.base.core.id before) (log_kept known.base.core.id after)
 
 -- the entries from a place on, of the group with a name
 abbrev pub grown_by : Draw → ℕ → List Command → Known → List LogEntry
 grown_by name count log known = if same_draw known.base.core.id name then entries_from name (count + 1) (drop count log) else []
 
 -- all groups of rows were found: each with what the rows tell of it, and where they are settled, their logs name no other
-pub record AreFound (bases : List Base) (rows : List (Row Mail OrderLine)) (groups : Groups) : Type 0 where
+pub record AreTracked (bases : List Base) (rows : List (Row Mail OrderLine)) (groups : Groups) : Type 0 where
   pub known : AreKnown rows (groups_at as_nodes bases rows) groups.knowns.items
-  pub settled : groups.settled ≡ true → with_children as_nodes rows (groups_at as_nodes bases rows) ≡ groups_at as_nodes bases rows
+  pub settled : groups.settled ≡ true → with_next_children as_nodes rows (groups_at as_nodes bases rows) ≡ groups_at as_nodes bases rows

@@ -10,8 +10,8 @@ ghost use Rattle.sc_cmd.specs.declared.orders.OrderLine.{OrderLine};
 ghost use Rattle.sc_mail.specs.declared.bodies.Mail.{Mail};
 ghost use Rattle.sc_actor.specs.declared.rows.Row.{Row};
 ghost use Rattle.sc_sound.specs.Players.{as_nodes};
-ghost use Rattle.sc_sound.specs.GroupsOf.{children_of, with_birth, with_children};
-ghost use Rattle.sc_decided.specs.Found.{is_kept_of, log_kept, AreKnown, AreFound};
+ghost use Rattle.sc_sound.specs.GroupsOf.{children_of, with_birth, with_next_children};
+ghost use Rattle.sc_decided.specs.Found.{is_kept_of, log_kept, AreKnown, AreTracked};
 
 use sc_actor::Row;
 use sc_base::{Draw, Dup, OutOfMemory};
@@ -158,8 +158,8 @@ fn look_on(
     rows: &[Row<Mail, OrderLine>],
 ) -> Result<bool, OutOfMemory>
     ensures { IfOk result (λ were. (bases : List Base) → AreKnown rows.now bases knowns.old.items →
-        AreKnown rows.now (with_children as_nodes rows.now bases) knowns.new.items ×
-        (were ≡ true → with_children as_nodes rows.now bases ≡ bases)) }
+        AreKnown rows.now (with_next_children as_nodes rows.now bases) knowns.new.items ×
+        (were ≡ true → with_next_children as_nodes rows.now bases ≡ bases)) }
 {
     let kept = knowns.as_slice();
     let children = all_children(alloc, kept)?;
@@ -174,7 +174,7 @@ pub(crate) fn groups_of(
     bases: &[Base],
     rows: &[Row<Mail, OrderLine>],
 ) -> Result<Groups, OutOfMemory>
-    ensures { IfOk result (λ groups. AreFound bases.now rows.now groups) }
+    ensures { IfOk result (λ groups. AreTracked bases.now rows.now groups) }
 {
     let mut knowns = first_knowns(alloc, bases, rows)?;
     for _round in 0..rows.len() {

@@ -15,14 +15,14 @@ ghost use Rattle.sc_sound.specs.Accepts.{accepts};
 ghost use Rattle.sc_sound.specs.GroupsOf.{children_by, log_at, log_by, is_birth_of, entries_from, entries_after, entries_by_row, entries_at};
 ghost use Rattle.sc_known.specs.Acceptances.{steps_by};
 ghost use Rattle.sc_known.specs.Known.{Adds, IsKnown};
-ghost use Rattle.sc_decided.specs.Found.{log_kept, gained, grown_by, StayKnown, AreFound};
+ghost use Rattle.sc_decided.specs.Found.{log_kept, new_entries, grown_by, StayKnown, AreTracked};
 
 use crate::births::{Groups, both, groups_of, log_in};
 use sc_actor::Row;
 use sc_base::{Draw, Dup, OutOfMemory};
 use sc_cmd::{Base, Command, OrderLine, same_draw};
 use sc_entries::LogEntry;
-use sc_known::{Acceptance, Known, accepted_in, add_mails, taken};
+use sc_known::{Acceptance, Known, accepted_in, add_mails, taken_in};
 use sc_mail::Mail;
 use std::alloc::Global;
 
@@ -58,7 +58,7 @@ fn add_gained(
     after: &[Known],
 ) -> Result<(), OutOfMemory>
     ensures { OnOk result (entries.new.items ≡ entries.old.items ++
-        flat_map (gained before.now after.now) after.now) }
+        flat_map (new_entries before.now after.now) after.now) }
 {
     for known in after {
         let name = known.base.core.id;
@@ -81,7 +81,7 @@ fn look_again(
     before: &[Row<Mail, OrderLine>],
     after: &[Row<Mail, OrderLine>],
 ) -> Result<Groups, OutOfMemory>
-    ensures { IfOk result (λ groups. AreFound bases.now after.now groups ×
+    ensures { IfOk result (λ groups. AreTracked bases.now after.now groups ×
         ((row : Row Mail OrderLine) → after.now ≡ before.now ++ row ∷ [] →
         entries.new.items ≡
         entries.old.items ++ entries_by_row as_nodes bases.now before.now row)) }
@@ -109,7 +109,7 @@ fn take_all(
     let mut after = Vec::new(alloc);
     let mut calm = true;
     for known in knowns {
-        let (known, was_calm) = taken(alloc, known, name, acceptance)?;
+        let (known, was_calm) = taken_in(alloc, known, name, acceptance)?;
         calm = both(calm, was_calm);
         after.push(known)?;
     }
@@ -150,8 +150,8 @@ fn after_acceptance(
     ensures { IfOk result (λ groups.
         (row : Row Mail OrderLine) → after.now ≡ before.now ++ row ∷ [] →
         Adds (Some (name, acceptance.now)) before.now after.now →
-        AreFound bases.now before.now (record { knowns = knowns; settled = true }) →
-        AreFound bases.now after.now groups ×
+        AreTracked bases.now before.now (record { knowns = knowns; settled = true }) →
+        AreTracked bases.now after.now groups ×
         (entries.new.items ≡
         entries.old.items ++ entries_by_row as_nodes bases.now before.now row)) }
 {
@@ -183,8 +183,8 @@ fn after_row(
     ensures { IfOk result (λ found.
         (row : Row Mail OrderLine) → after.now ≡ before.now ++ row ∷ [] →
         Adds accepted before.now after.now →
-        AreFound bases.now before.now groups →
-        AreFound bases.now after.now found ×
+        AreTracked bases.now before.now groups →
+        AreTracked bases.now after.now found ×
         (entries.new.items ≡
         entries.old.items ++ entries_by_row as_nodes bases.now before.now row)) }
 {
@@ -237,7 +237,7 @@ pub fn entries_of(
 
 /// The decided log of the group with a name: the longest list whose entry k is chosen at slot k. It
 /// is empty where there is no such group.
-pub fn log_of(
+pub fn log_at(
     alloc: Global,
     bases: &[Base],
     rows: &[Row<Mail, OrderLine>],

@@ -6,4 +6,4 @@
 mod births;
 mod entries;
 
-pub use entries::{entries_of, log_of};
+pub use entries::{entries_of, log_at};

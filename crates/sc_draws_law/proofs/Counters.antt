@@ -29,7 +29,7 @@ use Rattle.sc_node_table.specs.Slots.{slots_ahead}
 use Rattle.sc_sound.specs.Players.{Ahead, node_seat, player_table, Player}
 use Rattle.sc_sound.specs.declared.roles.Role.TheVariants.{Node as ANode}
 use Rattle.sc_scenario.specs.declared.scenarios.Scenario.{Scenario}
-use Rattle.sc_draws_law.specs.Owners.{Rows, Owned, owned_by, drawn_for, waited, wished_at, drawn_wishing, drawn_ticking, drawn_by, is_node_of, drawn_at, owner_by, owner_in}
+use Rattle.sc_draws_law.specs.Owners.{Rows, Owned, owned_by, drawn_for, waited, wished_at, drawn_wishing, drawn_ticking, names_drawn, is_node_of, drawn_at, owner_by, owner_in}
 use Rattle.sc_draws_law.specs.Laws.{HasNames, NodesHaveNames, DrawnNamesAreOwned, RowsDrawOnce, OwnedNamesAreOfNodes, OtherNamesAreFree}
 use Rattle.sc_draws_law.proofs.Drawn.{Draws, Differ, draws_both, draws_up, drawn_between, drawn_not_past, drawn_from, drawn_once, line_draws, tick_draws}
 use Rattle.sc_draws_law.proofs.Owned.{owner_was_drawn, owner-push, owned_later, drawn_in}
@@ -81,7 +81,7 @@ order_draws line node (Some r) = line_draws node.draws line r
 pub record Acts (sent : List Mail) (event : Event OrderLine) (old : NodeState) : Type 0 where
   pub node : NodeState
   pub value_is : (acted player_table (ANode old) (input_of sent event)).0 ≡ ANode node
-  pub draws : Draws old.draws node.draws (drawn_by (ANode old) event)
+  pub draws : Draws old.draws node.draws (names_drawn (ANode old) event)
 
 got : (sent : List Mail) (number : ℕ) (old : NodeState) (o : Option Mail) → numbered sent number ≡ o → Acts sent (Deliver number) old
 got sent number old None e = record { node = old; value_is = ap (λ p. (acted player_table (ANode old) (option_map Got p)).0) e; draws = refl }
@@ -144,11 +144,11 @@ module _ (ahead : Ahead) (scenario : Scenario) where
       abbrev act : Acts (mails rows) row.event st.node
       act = acts (mails rows) row.event st.node
 
-      pub drawn_is : drawn ≡ drawn_by (ANode st.node) row.event
+      pub drawn_is : drawn ≡ names_drawn (ANode st.node) row.event
       drawn_is =
-          cond-true (is_node_of scenario row.who) (drawn_by (value player_table (nseat row.who) rows) row.event) []
+          cond-true (is_node_of scenario row.who) (names_drawn (value player_table (nseat row.who) rows) row.event) []
           (and_from (nat_le 1 row.who) (nat_le row.who scenario.nodes) (le-leb 1 row.who (omega (arith, low, who_is))) (le-leb row.who scenario.nodes (omega (arith, high, who_is))))
-          ∙ ap (λ (p : Player). drawn_by p row.event) (ap (λ (w : ℕ). value player_table (nseat w) rows) who_is ∙ st.value_is)
+          ∙ ap (λ (p : Player). names_drawn p row.event) (ap (λ (w : ℕ). value player_table (nseat w) rows) who_is ∙ st.value_is)
 
       act_value : value player_table (nseat n) next ≡ ANode act.node
       act_value =
@@ -195,7 +195,7 @@ module _ (ahead : Ahead) (scenario : Scenario) where
     drawn_fresh owned a = elim (cases_Bool (is_node_of scenario row.who)) [
       | inl t ↦ (let parts = and_parts (nat_le 1 row.who) (nat_le row.who scenario.nodes) t in
           drawn_fresh_of owned a (leb-true 1 row.who parts.0) (leb-true row.who scenario.nodes parts.1))
-      | inr f ↦ absurd (subst (Among owned) (cond-false (is_node_of scenario row.who) (drawn_by (value player_table (nseat row.who) rows) row.event) [] f) a)
+      | inr f ↦ absurd (subst (Among owned) (cond-false (is_node_of scenario row.who) (names_drawn (value player_table (nseat row.who) rows) row.event) [] f) a)
     ]
 
     -- a row of another leaves a node's names as they are
@@ -275,5 +275,5 @@ rows_draw_once ahead scenario before row = elim (cases_Bool (is_node_of scenario
       let high : row.who ≤ scenario.nodes = leb-true row.who scenario.nodes parts.1 in
       let all = all_stand ahead scenario before in
       drawn_once (all row.who low high).node.draws (act ahead scenario before row all row.who low high refl).node.draws (drawn_at ahead scenario before row) (draws ahead scenario before row all row.who low high refl))
-  | inr f ↦ subst (AllPairs Differ) (sym (cond-false (is_node_of scenario row.who) (drawn_by (value player_table (node_seat ahead scenario.groups scenario.policy row.who) before) row.event) [] f)) (λ i j d lt within. absurd (omega (arith, within)))
+  | inr f ↦ subst (AllPairs Differ) (sym (cond-false (is_node_of scenario row.who) (names_drawn (value player_table (node_seat ahead scenario.groups scenario.policy row.who) before) row.event) [] f)) (λ i j d lt within. absurd (omega (arith, within)))
 ]

@@ -8,7 +8,7 @@ use Rattle.sc_node_table.specs.Pump.{next_call, from_calls, from_queues, found_f
 use Rattle.sc_sound.specs.Players.{Lawful}
 use Rattle.sc_scenario.specs.Groups.{lone_name}
 use Rattle.sc_sound.specs.Example.{four}
-use Rattle.sc_draws_law.specs.Example.{first_name, second_name, third_name, drawing_scenario, drawing_rows}
+use Rattle.sc_draws_law.specs.Example.{example_name, second_name, third_name, drawing_scenario, drawing_rows}
 use Rattle.sc_draws_law.specs.Fresh.{BeginsUndrawn}
 use Rattle.sc_draws_law.specs.Owners.{owner_in}
 
@@ -19,7 +19,7 @@ pub is_lawful : Lawful four no_words drawing_scenario drawing_rows
 unfolding sent_all ordered_row next_call from_calls from_queues found_for offered pumped_from pumped
 is_lawful = (refl, (refl, (refl, tt)))
 
-pub first_owned : owner_in four drawing_scenario drawing_rows first_name ≡ Some lone_name
+pub first_owned : owner_in four drawing_scenario drawing_rows example_name ≡ Some lone_name
 unfolding sent_all ordered_row next_call from_calls from_queues found_for offered pumped_from pumped
 first_owned = refl
 

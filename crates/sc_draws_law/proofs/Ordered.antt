@@ -25,7 +25,7 @@ use Rattle.sc_sound.specs.declared.roles.Role.TheVariants.{Node}
 use Rattle.sc_scenario.specs.declared.scenarios.Scenario.{Scenario}
 use Rattle.sc_ring_law.specs.Allowed.{Sources, IsAllowed}
 use Rattle.sc_ring_law.specs.Stories.{Stories}
-use Rattle.sc_draws_law.specs.Owners.{Rows, Owned, drawn_for, waited, wished_at, drawn_wishing, drawn_ticking, drawn_by, drawn_at, is_node_of, owner_in}
+use Rattle.sc_draws_law.specs.Owners.{Rows, Owned, drawn_for, waited, wished_at, drawn_wishing, drawn_ticking, names_drawn, drawn_at, is_node_of, owner_in}
 use Rattle.sc_draws_law.specs.Laws.{IsAtPosition, TakesOrder, TakenOrdersAreAllowed, TakesWish, TakenWishesAreAllowed, OrdersAreQueued}
 use Rattle.sc_draws_law.proofs.Counters.{drawn_are_owned}
 use Rattle.sc_draws_law.proofs.Wished.{wished_of}
@@ -37,10 +37,10 @@ module _ (ahead : Ahead) (scenario : Scenario) (before : Rows) (row : Row Mail O
   -- it draws the next name, if it takes one
   pub it_draws : takes_name line.order ≡ true → drawn_at ahead scenario before row ≡ owned ∷ []
   it_draws named =
-      cond-true (is_node_of scenario row.who) (drawn_by (value player_table (node_seat ahead scenario.groups scenario.policy row.who) before) row.event) []
+      cond-true (is_node_of scenario row.who) (names_drawn (value player_table (node_seat ahead scenario.groups scenario.policy row.who) before) row.event) []
       (and_from (nat_le 1 row.who) (nat_le row.who scenario.nodes) (le-leb 1 row.who takes.low) (le-leb row.who scenario.nodes takes.high))
-      ∙ ap (λ (p : Player). drawn_by p row.event) takes.value_is
-      ∙ ap (λ event. drawn_by (Node node) event) takes.event_is
+      ∙ ap (λ (p : Player). names_drawn p row.event) takes.value_is
+      ∙ ap (λ event. names_drawn (Node node) event) takes.event_is
       ∙ ap (λ (o : Option ReplicaState). drawn_for node.draws line o) takes.found
       ∙ cond-true (takes_name line.order && is_none (untaken node.draws line r)) (owned ∷ []) []
       (and_from (takes_name line.order) (is_none (untaken node.draws line r)) named (ap (λ (o : Option OrderRefusal). is_none o) takes.taken))
@@ -68,10 +68,10 @@ orders_are_allowed ahead scenario before row later line node r takes at request 
 pub it_ticks : (ahead : Ahead) (scenario : Scenario) (before : Rows) (row : Row Mail OrderLine) (node : NodeState) → 1 ≤ row.who → row.who ≤ scenario.nodes
     → value player_table (node_seat ahead scenario.groups scenario.policy row.who) before ≡ Node node → row.event ≡ Tick → drawn_at ahead scenario before row ≡ drawn_ticking node.policy node.draws node.replicas
 it_ticks ahead scenario before row node low high value_is event_is =
-    cond-true (is_node_of scenario row.who) (drawn_by (value player_table (node_seat ahead scenario.groups scenario.policy row.who) before) row.event) []
+    cond-true (is_node_of scenario row.who) (names_drawn (value player_table (node_seat ahead scenario.groups scenario.policy row.who) before) row.event) []
     (and_from (nat_le 1 row.who) (nat_le row.who scenario.nodes) (le-leb 1 row.who low) (le-leb row.who scenario.nodes high))
-    ∙ ap (λ (p : Player). drawn_by p row.event) value_is
-    ∙ ap (λ event. drawn_by (Node node) event) event_is
+    ∙ ap (λ (p : Player). names_drawn p row.event) value_is
+    ∙ ap (λ event. names_drawn (Node node) event) event_is
 
 -- what the replica after these draws is drawn
 ticking_among : (on : Bool) (drawer : Drawer) (older newer : List ReplicaState) (r : ReplicaState) (owned : Owned) → Among owned (drawn_wishing (names_after_ticks on drawer older) (wished_at on r) (waited r)) → Among owned (drawn_ticking on drawer (older ++ r ∷ newer))

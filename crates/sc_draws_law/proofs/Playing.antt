@@ -20,7 +20,7 @@ use Rattle.sc_cmd.specs.declared.orders.OrderLine.{OrderLine}
 use Rattle.sc_cmd.specs.declared.orders.OrderRefusal.TheVariants as Why
 use Rattle.sc_cmd.specs.declared.orders.ToldResult.TheVariants as Tells
 use Rattle.sc_lookup.specs.declared.ways.Way.{Way}
-use Rattle.sc_lookup.specs.Known.{Known, way_to, better, chosen, target_in, changed, preferring, passed_on, starting, group_learnt, told_not_mine, told_gone}
+use Rattle.sc_lookup.specs.Known.{KnownGroups, way_to, better, chosen, target_in, changed, preferring, passed_on, starting, group_learnt, told_not_mine, told_gone}
 use Rattle.sc_lookup.specs.Ways.{far, new_way, next_target}
 use Rattle.sc_mail.specs.declared.bodies.AnswerBody.{AnswerBody}
 use Rattle.sc_mail.specs.declared.bodies.AnswerBody.TheVariants as Answers
@@ -164,25 +164,25 @@ module _ (K : Draw → Type 0) where
 
   -- ---- a client
 
-  abbrev Ks : Known → Type 0
+  abbrev Ks : KnownGroups → Type 0
   Ks known = Each (λ (entry : Draw × Way). K entry.0) known
 
   abbrev C : ClientStep → Type 0
   C p = ClientNames K p.0 × Sent K p.1
 
-  value_names : (test : Draw → Bool) (known : Known) (way : Way) → Ks known → Ks (set_value test known way)
+  value_names : (test : Draw → Bool) (known : KnownGroups) (way : Way) → Ks known → Ks (set_value test known way)
   value_names test [] way k = tt
   value_names test (e ∷ es) way k = either_way Ks (test e.0) _ _ (k.0, k.1) (k.0, value_names test es way k.1)
 
-  entry_names : (test : Draw → Bool) (known : Known) → Ks known → Ks (remove_entry test known)
+  entry_names : (test : Draw → Bool) (known : KnownGroups) → Ks known → Ks (remove_entry test known)
   entry_names test [] k = tt
   entry_names test (e ∷ es) k = either_way Ks (test e.0) _ _ k.1 (k.0, entry_names test es k.1)
 
-  changed_names : (change : Way → Way) (group : Draw) (known : Known) (o : Option Way) → Ks known → Ks (changed change group known o)
+  changed_names : (change : Way → Way) (group : Draw) (known : KnownGroups) (o : Option Way) → Ks known → Ks (changed change group known o)
   changed_names change group known None k = k
   changed_names change group known (Some way) k = value_names (same_draw group) known (change way) k
 
-  learnt_names : (group : Draw) (lo : ℕ) (members : List ℕ) (known : Known) → K group → Ks known → Ks (group_learnt group lo members known)
+  learnt_names : (group : Draw) (lo : ℕ) (members : List ℕ) (known : KnownGroups) → K group → Ks known → Ks (group_learnt group lo members known)
   learnt_names group lo members known g k =
       either_way Ks (is_some (way_to group known)) (starting group lo known) (known ++ (group, new_way lo members) ∷ []) (changed_names (λ way. record way { lo = lo }) group known (way_to group known) k)
       (Each-append (λ (entry : Draw × Way). K entry.0) known ((group, new_way lo members) ∷ []) k (g, tt))
@@ -194,11 +194,11 @@ module _ (K : Draw → Type 0) where
   nearer_names p None entry b e = e
   nearer_names p (Some best) entry b e = either_way (λ (x : Draw × Way). K x.0) (nat_le (far p entry.1) (far p best.1)) entry best e b
 
-  best_names : (p : ℕ) (known : Known) (best : Option (Draw × Way)) → Best best → Ks known → Best (fold (better p) best known)
+  best_names : (p : ℕ) (known : KnownGroups) (best : Option (Draw × Way)) → Best best → Ks known → Best (fold (better p) best known)
   best_names p [] best b k = b
   best_names p (entry ∷ known) best b k = best_names p known (better p best entry) (nearer_names p best entry b k.0) k.1
 
-  chosen_names : (p : ℕ) (known : Known) → Ks known → Opt K (chosen p known)
+  chosen_names : (p : ℕ) (known : KnownGroups) → Ks known → Opt K (chosen p known)
   chosen_names p known k = opt_map (λ (entry : Draw × Way). K entry.0) K (λ entry. entry.0) (λ entry e. e) (fold (better p) None known) (best_names p known None tt k)
 
   asked_names : (client : ClientState) (group : Draw) (target : Option ℕ) (request : Option (ℕ × Op)) → K group → ClientNames K client → C (asked_of client group target request)
@@ -223,7 +223,7 @@ module _ (K : Draw → Type 0) where
   with_waiting : (client : ClientState) (waiting : Option ℕ) → ClientNames K client → ClientNames K (record client { waiting = waiting })
   with_waiting client waiting k = record { known = k.known; asked = k.asked }
 
-  with_known : (client : ClientState) (known : Known) → Ks known → ClientNames K client → ClientNames K (record client { known = known })
+  with_known : (client : ClientState) (known : KnownGroups) → Ks known → ClientNames K client → ClientNames K (record client { known = known })
   with_known client known n k = record { known = n; asked = k.asked }
 
   started_names : (seq : ℕ) (client : ClientState) → ClientNames K client → C (started seq client)

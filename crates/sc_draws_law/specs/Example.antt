@@ -15,8 +15,8 @@ use Rattle.sc_sound.specs.Example.{ballot, mail, row}
 use Rattle.sc_draws_law.specs.Owners.{Rows}
 
 -- the names that node 1 draws, in their order
-abbrev pub first_name : Draw
-first_name = record { node = 1; count = 1 }
+abbrev pub example_name : Draw
+example_name = record { node = 1; count = 1 }
 
 -- the second
 abbrev pub second_name : Draw
@@ -53,6 +53,6 @@ drawing_scenario = record {
 -- the first split is offered, the second waits, and the merge is refused
 abbrev pub drawing_rows : Rows
 drawing_rows =
-    row 1 (Told first_order) (record { from = 1; to = 1; body = Accept lone_name ballot 1 (Split 7 first_name 1) } ∷ record { from = 1; to = 2; body = Accept lone_name ballot 1 (Split 7 first_name 1) } ∷ [])
+    row 1 (Told first_order) (record { from = 1; to = 1; body = Accept lone_name ballot 1 (Split 7 example_name 1) } ∷ record { from = 1; to = 2; body = Accept lone_name ballot 1 (Split 7 example_name 1) } ∷ [])
     ∷ row 1 (Told second_order) []
     ∷ row 1 (Told third_order) (mail 1 0 (ToldMail 3 (Tells.Refused Why.NoNeighbour))) ∷ []

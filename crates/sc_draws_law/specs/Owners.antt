@@ -59,15 +59,15 @@ drawn_ticking on drawer [] = []
 drawn_ticking on drawer (r ∷ replicas) = drawn_wishing drawer (wished_at on r) (waited r) ++ drawn_ticking on (names_after_tick on drawer r) replicas
 
 -- what a player draws at an event: only a node that is told an order or ticks draws
-abbrev pub drawn_by : Player → Event OrderLine → List Owned
-drawn_by (Node node) (Told line) = drawn_for node.draws line (replica_of (group_of_order line.order) node.replicas)
-drawn_by (Node node) Tick = drawn_ticking node.policy node.draws node.replicas
-drawn_by (Node node) (Deliver mail) = []
-drawn_by (Node node) Go = []
-drawn_by (Node node) Crash = []
-drawn_by (Node node) (Drop mail) = []
-drawn_by (Node node) (Again mail) = []
-drawn_by (Client client) event = []
+abbrev pub names_drawn : Player → Event OrderLine → List Owned
+names_drawn (Node node) (Told line) = drawn_for node.draws line (replica_of (group_of_order line.order) node.replicas)
+names_drawn (Node node) Tick = drawn_ticking node.policy node.draws node.replicas
+names_drawn (Node node) (Deliver mail) = []
+names_drawn (Node node) Go = []
+names_drawn (Node node) Crash = []
+names_drawn (Node node) (Drop mail) = []
+names_drawn (Node node) (Again mail) = []
+names_drawn (Client client) event = []
 
 -- whether this is the number of a node of the scenario
 abbrev pub is_node_of : Scenario → ℕ → Bool
@@ -76,7 +76,7 @@ is_node_of scenario who = nat_le 1 who && nat_le who scenario.nodes
 -- what a row after these draws
 abbrev pub drawn_at : Ahead → Scenario → Rows → Row Mail OrderLine → List Owned
 drawn_at ahead scenario before row =
-    if is_node_of scenario row.who then drawn_by (value player_table (node_seat ahead scenario.groups scenario.policy row.who) before) row.event else []
+    if is_node_of scenario row.who then names_drawn (value player_table (node_seat ahead scenario.groups scenario.policy row.who) before) row.event else []
 
 -- the group for which a name was drawn, if it is one of these
 abbrev pub owner_by : List Owned → Draw → Option Draw

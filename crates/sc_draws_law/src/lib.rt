@@ -12,7 +12,7 @@ ghost use Rattle.sc_sound.specs.Example.{four};
 ghost use Rattle.sc_draws_law.specs.Example.{
   drawing_rows,
   drawing_scenario,
-  first_name,
+  example_name,
   second_name,
   third_name,
 };
@@ -93,7 +93,7 @@ pub fn logs_name_what_was_drawn()
 pub fn a_journal_that_draws()
     ensures begins { Each BeginsUndrawn drawing_scenario.groups }
     ensures lawful { Lawful four no_words drawing_scenario drawing_rows }
-    ensures first { owner_in four drawing_scenario drawing_rows first_name ≡ Some lone_name }
+    ensures first { owner_in four drawing_scenario drawing_rows example_name ≡ Some lone_name }
     ensures second { owner_in four drawing_scenario drawing_rows second_name ≡ Some lone_name }
     ensures third { owner_in four drawing_scenario drawing_rows third_name ≡ None }
 {}

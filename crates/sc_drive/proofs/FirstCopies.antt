@@ -25,7 +25,7 @@ use Rattle.sc_drive.specs.Numbers.{is_in, apart}
 use Rattle.sc_drive.specs.Companies.{Company}
 use Rattle.sc_drive.specs.Goings.{IsTogether}
 use Rattle.sc_drive.specs.Stepping.{IsPlace}
-use Rattle.sc_drive.specs.Lowest.{Finds, IsFirstPlaced}
+use Rattle.sc_drive.specs.Lowest.{FindsLowest, IsFirstPlaced}
 use Rattle.sc_drive.proofs.SystemWords.{sys}
 use Rattle.sc_drive.proofs.LowestMail.{wider}
 use Rattle.sc_drive.proofs.OneActed.{count_seen, count_company}
@@ -199,7 +199,7 @@ module _ {A M O : Type 0} {g : Ghosts A M O} {h : MailGhosts M} where
         ∙ (ap (find (λ spot. is_in spot.who (crew_numbers after))) (sym is) ∙ e)
 
     -- the place that was found by all spots
-    pub finds_spots : (spots : List Spot) (place : Option ℕ) → spots ≡ spots_of h.receiver mid.actors (seen mid) → IsFirstPlaced after spots place → Finds next after place
+    pub finds_spots : (spots : List Spot) (place : Option ℕ) → spots ≡ spots_of h.receiver mid.actors (seen mid) → IsFirstPlaced after spots place → FindsLowest next after place
     finds_spots spots None is found = record {
       inside = tt;
       lowest = λ words births c. none_placed words births next after c (seen next) (there births c spots is None found);

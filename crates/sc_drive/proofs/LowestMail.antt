@@ -19,7 +19,7 @@ use Rattle.sc_shell.specs.declared.shells.Shell.{Shell}
 use Rattle.sc_workers.specs.Ends.{IsFirst}
 use Rattle.sc_drive.specs.Companies.{Company}
 use Rattle.sc_drive.specs.Stepping.{IsPlace}
-use Rattle.sc_drive.specs.Lowest.{Lowest, Finds, IsReceiverAt}
+use Rattle.sc_drive.specs.Lowest.{Lowest, FindsLowest, IsReceiverAt}
 use Rattle.sc_drive.proofs.SystemWords.{sys, upto_has, births_have, births_long}
 use Rattle.sc_drive.proofs.ActRows.{birth_number}
 use Rattle.sc_drive.proofs.FreeRows.{wide_none, in_at, flip_in}
@@ -91,5 +91,5 @@ module _ {A M O : Type 0} {g : Ghosts A M O} {h : MailGhosts M} where
   placed_inside ss (Mail number mail) (Some place) p = p.inside
 
   -- whatever the births are
-  pub finds_so : (net : Port M O h) (ss : List (Shell A M O g h)) (found : Fetched M) (place : Option ℕ) → IsFirst net found → IsReceiverAt ss found place → Finds net ss place
+  pub finds_so : (net : Port M O h) (ss : List (Shell A M O g h)) (found : Fetched M) (place : Option ℕ) → IsFirst net found → IsReceiverAt ss found place → FindsLowest net ss place
   finds_so net ss found place f p = record { inside = placed_inside ss found place p; lowest = λ words births c. lowest_placed words births net ss c found place f p }

@@ -23,7 +23,7 @@ use Rattle.sc_drive.specs.Numbers.{is_in}
 use Rattle.sc_drive.specs.Acts.{Served, ServedAll}
 use Rattle.sc_drive.specs.Companies.{Company}
 use Rattle.sc_drive.specs.Goings.{HasReached, Goes, Fills}
-use Rattle.sc_drive.specs.Lowest.{Finds, LowestAt, Rests}
+use Rattle.sc_drive.specs.Lowest.{FindsLowest, LowestAt, Rests}
 use Rattle.sc_drive.proofs.ActorRows.{delivers_did, delivers_full, serves_empty, serves_spent}
 use Rattle.sc_drive.proofs.FreeRows.{first_is}
 use Rattle.sc_drive.proofs.SingleSteps.{no_go}
@@ -60,7 +60,7 @@ module _ {A M O : Type 0} {g : Ghosts A M O} {h : MailGhosts M} where
       let wait : kth (waiting s (seen net) (Some (s.receiver l.mail))) 1 ≡ Some l.number = subst (λ m. kth (waiting s (seen net) (Some (s.receiver m))) 1 ≡ Some l.number) same f.3 in
       let lost : None ≡ Some l.number = sym none ∙ wait in cc
 
-  module _ (births : List (Seat A)) (net next : Port M O h) (ss after : List (Shell A M O g h)) (place : ℕ) (company : Company births net ss) (found : Finds net ss (Some place)) where
+  module _ (births : List (Seat A)) (net next : Port M O h) (ss after : List (Shell A M O g h)) (place : ℕ) (company : Company births net ss) (found : FindsLowest net ss (Some place)) where
     -- what was found is taken
     pub never_empty : (n : ℕ) → Served births place 1 net next ss after (Empty n) → ⊥
     never_empty n served =
@@ -109,20 +109,20 @@ module _ {A M O : Type 0} {g : Ghosts A M O} {h : MailGhosts M} where
         twice false = refl
 
     -- no mail is pending
-    pub settles_quiet : Finds net ss None → now.skipped ≡ score.skipped → now.unsettled ≡ score.unsettled → now.gone.items ≡ score.gone.items → Goes net ss score (Settles left ∷ []) net ss now []
+    pub settles_quiet : FindsLowest net ss None → now.skipped ≡ score.skipped → now.unsettled ≡ score.unsettled → now.gone.items ≡ score.gone.items → Goes net ss score (Settles left ∷ []) net ss now []
     settles_quiet none skipped cut gone = λ words births lines rest at.
         let quiet = none.lowest words births at.company in
         ended words births lines rest at false quiet (ap (λ b. eqb left 0 || b) quiet ∙ or-true (eqb left 0)) skipped (cut ∙ sym (or-false score.unsettled)) gone
 
     -- mail is pending, and no more may be delivered
-    pub settles_cut : (place : ℕ) → Finds net ss (Some place) → left ≡ 0 → now.skipped ≡ score.skipped → now.unsettled ≡ true → now.gone.items ≡ score.gone.items → Goes net ss score (Settles left ∷ []) net ss now []
+    pub settles_cut : (place : ℕ) → FindsLowest net ss (Some place) → left ≡ 0 → now.skipped ≡ score.skipped → now.unsettled ≡ true → now.gone.items ≡ score.gone.items → Goes net ss score (Settles left ∷ []) net ss now []
     settles_cut place some none skipped cut gone = λ words births lines rest at.
         let s = system g.table h.receiver words births in
         let t = some.lowest words births at.company in
         let loud : is_quiet s (seen net) ≡ false = ap is_none t.first in
         ended words births lines rest at true loud (ap (λ k. eqb k 0 || is_quiet s (seen net)) none) skipped (cut ∙ sym (or-true score.unsettled)) gone
 
-    module _ (next : Port M O h) (after : List (Shell A M O g h)) (place n : ℕ) (found : Finds net ss (Some place)) (more : 0 < left) where
+    module _ (next : Port M O h) (after : List (Shell A M O g h)) (place n : ℕ) (found : FindsLowest net ss (Some place)) (more : 0 < left) where
       opens : (s : System A M O) → is_quiet s (seen net) ≡ false → is_over s (seen net) (let task : Task O = Settles left in task) ≡ false
       opens s loud = ap (λ b. b || is_quiet s (seen net)) (ne_eqb left 0 (λ z. absurd (omega (arith, z, more)))) ∙ loud
 

@@ -20,7 +20,7 @@ use Rattle.sc_workers.specs.Crews.{crew_numbers}
 use Rattle.sc_drive.specs.declared.steps.Score.{Score}
 use Rattle.sc_drive.specs.Numbers.{is_in}
 use Rattle.sc_drive.specs.Companies.{Company, seats}
-use Rattle.sc_drive.specs.Lowest.{Finds, Lowest, Rests}
+use Rattle.sc_drive.specs.Lowest.{FindsLowest, Lowest, Rests}
 use Rattle.sc_drive.specs.Goings.{HasReached, Goes, Fills, HasEnded}
 use Rattle.sc_actor.proofs.TaskLemmas.{split}
 
@@ -70,7 +70,7 @@ module _ {A M O : Type 0} {g : Ghosts A M O} {h : MailGhosts M} where
 
     -- past the last line, once it was looked whether mail is pending
     pub drive_ends : (net next : Port M O h) (ss after : List (Shell A M O g h)) (score : Score) (i : ℕ) (found : Option ℕ) → length lines ≤ i → HasReached words births lines net ss score (flat_map (tasks_of words) (drop i lines)) →
-        Rests net ss next after → Finds next after found → next.limit ≡ net.limit → HasEnded words births lines next after score.unsettled (is_none found) score.skipped
+        Rests net ss next after → FindsLowest next after found → next.limit ≡ net.limit → HasEnded words births lines next after score.unsettled (is_none found) score.skipped
     drive_ends net next ss after score i found le before rests finds limit =
         let s = system g.table h.receiver words births in
         let at : HasReached words births lines net ss score [] = subst (λ ts. HasReached words births lines net ss score (flat_map (tasks_of words) ts)) (drop_of_length-le lines le) before in

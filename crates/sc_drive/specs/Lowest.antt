@@ -32,7 +32,7 @@ module _ {A M O : Type 0} {g : Ghosts A M O} {h : MailGhosts M} where
   Lowest s net ss (Some place) = LowestAt s net ss place
 
   -- what was found by all that gathered, whatever the actors' births are
-  pub record Finds (net : Port M O h) (ss : List (Shell A M O g h)) (found : Option ℕ) : Type 0 where
+  pub record FindsLowest (net : Port M O h) (ss : List (Shell A M O g h)) (found : Option ℕ) : Type 0 where
     pub inside : IfSome found (λ place. place < length ss)
     pub lowest : (words : ℕ → ℕ → ℕ × ℕ) (births : List (Seat A)) → Company births net ss → Lowest (system g.table h.receiver words births) net ss found
 

@@ -5,7 +5,7 @@ ghost use Rattle.sc_workers.specs.Ends.{IsFirst};
 ghost use Rattle.sc_actor.specs.declared.actors.Seat.{Seat};
 ghost use Rattle.sc_drive.specs.Companies.{Company};
 ghost use Rattle.sc_drive.specs.Goings.{Goes, Fills, IsKept, IsOn, IsTogether};
-ghost use Rattle.sc_drive.specs.Lowest.{Finds, IsFirstPlaced, Rests};
+ghost use Rattle.sc_drive.specs.Lowest.{FindsLowest, IsFirstPlaced, Rests};
 
 use crate::actor_lines::place_of;
 use crate::acts::serve;
@@ -39,7 +39,7 @@ fn look_on<A: Actor, R: Wait>(
     requires together { IsTogether net.old shells.old.items }
     ensures on { OnOk result (IsOn net.old shells.old.items net.new shells.new.items) }
     ensures rests { OnOk result (Rests net.old shells.old.items net.new shells.new.items) }
-    ensures finds { IfOk result (Finds net.new shells.new.items) }
+    ensures finds { IfOk result (FindsLowest net.new shells.new.items) }
 {
     let look = net.look(rt)?;
     let _ = gather(rt, net, shells)?;
@@ -60,7 +60,7 @@ fn placed<A: Actor, R: Wait>(
     requires first { IsFirst net.old found.now }
     ensures on { OnOk result (IsOn net.old shells.old.items net.new shells.new.items) }
     ensures rests { OnOk result (Rests net.old shells.old.items net.new shells.new.items) }
-    ensures finds { IfOk result (Finds net.new shells.new.items) }
+    ensures finds { IfOk result (FindsLowest net.new shells.new.items) }
 {
     let Fetched::Mail { number: _, mail } = found else {
         return Ok(None);
@@ -81,7 +81,7 @@ pub(crate) fn lowest<A: Actor, R: Wait>(
     requires together { IsTogether net.old shells.old.items }
     ensures on { OnOk result (IsOn net.old shells.old.items net.new shells.new.items) }
     ensures rests { OnOk result (Rests net.old shells.old.items net.new shells.new.items) }
-    ensures finds { IfOk result (Finds net.new shells.new.items) }
+    ensures finds { IfOk result (FindsLowest net.new shells.new.items) }
 {
     let found = gather(rt, net, shells)?;
     placed(rt, net, shells, &found)
@@ -100,14 +100,14 @@ fn settle_step<A: Actor, G: Gate, R: Wait>(
 ) -> Result<Option<usize>, Stop>
     requires together { IsTogether net.old shells.old.items }
     requires company { (births : List (Seat A)) × Company births net.old shells.old.items }
-    requires finds { Finds net.old shells.old.items (Some place) }
+    requires finds { FindsLowest net.old shells.old.items (Some place) }
     requires left { 0 < left }
     ensures on { OnOk result (IsOn net.old shells.old.items net.new shells.new.items) }
     ensures company { OnOk result ((births : List (Seat A)) →
         Company births net.old shells.old.items → Company births net.new shells.new.items) }
     ensures kept { IsErrOf result Stop.Full →
         IsKept net.old shells.old.items net.new shells.new.items }
-    ensures finds { IfOk result (Finds net.new shells.new.items) }
+    ensures finds { IfOk result (FindsLowest net.new shells.new.items) }
     ensures goes { OnOk result (Goes net.old shells.old.items score.now (Settles left ∷ [])
         net.new shells.new.items score.now (Settles (left - 1) ∷ [])) }
     ensures fills { IsErrOf result Stop.Full →

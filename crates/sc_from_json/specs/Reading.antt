@@ -23,13 +23,13 @@ first_content no_members = null
 first_content (member name content ms) = content
 
 -- the name of a variant: a string, or an object's one member
-abbrev pub name_of : Data → List ℕ
-name_of null = []
-name_of (boolean b) = []
-name_of (number n) = []
-name_of (string name) = name
-name_of (array ds) = []
-name_of (object ms) = first_name ms
+abbrev pub variant_name : Data → List ℕ
+variant_name null = []
+variant_name (boolean b) = []
+variant_name (number n) = []
+variant_name (string name) = name
+variant_name (array ds) = []
+variant_name (object ms) = first_name ms
 
 -- the content of a variant that has some
 abbrev pub content_of : Data → Data

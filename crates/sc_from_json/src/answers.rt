@@ -8,7 +8,7 @@ ghost use Rattle.sc_row_text.specs.Answers.{answer_body_json, FitsAnswerBody};
 
 use crate::faults::RowFault;
 use crate::from_json::FromJson;
-use crate::reading::{member, pair_of, parts_of, whole};
+use crate::reading::{member, pair_of, variant_parts, whole};
 use sc_mail::AnswerBody;
 use serde_json::Value as Json;
 use std::alloc::Global;
@@ -67,7 +67,7 @@ impl FromJson for AnswerBody {
     ghost Fits = { FitsAnswerBody };
 
     fn from_json(alloc: Global, json: &Json) -> Result<AnswerBody, RowFault> {
-        let Some((name, content)) = parts_of(json) else {
+        let Some((name, content)) = variant_parts(json) else {
             return Err(RowFault::NoRow);
         };
         match name {

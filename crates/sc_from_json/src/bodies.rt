@@ -10,7 +10,7 @@ ghost use Rattle.sc_row_text.specs.Bodies.{watch_json, FitsWatch};
 
 use crate::faults::RowFault;
 use crate::from_json::FromJson;
-use crate::reading::{member, pair_of, parts_of, six_of};
+use crate::reading::{member, pair_of, variant_parts, six_of};
 use sc_cmd::{Body, Offer, Watch};
 use serde_json::Value as Json;
 use std::alloc::Global;
@@ -48,7 +48,7 @@ impl FromJson for Body {
     ghost Fits = { FitsBody };
 
     fn from_json(alloc: Global, json: &Json) -> Result<Body, RowFault> {
-        let Some((name, content)) = parts_of(json) else {
+        let Some((name, content)) = variant_parts(json) else {
             return Err(RowFault::NoRow);
         };
         match name {

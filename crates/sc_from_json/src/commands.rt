@@ -9,7 +9,7 @@ ghost use Rattle.sc_row_text.specs.Commands.{report_json, FitsReport};
 
 use crate::faults::RowFault;
 use crate::from_json::FromJson;
-use crate::reading::{member, pair_of, parts_of, triple_of};
+use crate::reading::{member, pair_of, variant_parts, triple_of};
 use sc_cmd::Command;
 use sc_paxos_words::Report;
 use serde_json::Value as Json;
@@ -127,7 +127,7 @@ impl FromJson for Command {
     ghost Fits = { FitsCommand };
 
     fn from_json(alloc: Global, json: &Json) -> Result<Command, RowFault> {
-        let Some((name, content)) = parts_of(json) else {
+        let Some((name, content)) = variant_parts(json) else {
             return Err(RowFault::NoRow);
         };
         match name {

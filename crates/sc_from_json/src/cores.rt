@@ -10,7 +10,7 @@ ghost use Rattle.sc_row_text.specs.Cores.{base_json, FitsBase};
 
 use crate::faults::RowFault;
 use crate::from_json::FromJson;
-use crate::reading::{four_of, pair_of, parts_of, six_of, triple_of};
+use crate::reading::{four_of, pair_of, variant_parts, six_of, triple_of};
 use sc_cmd::{Base, Core, Lock};
 use serde_json::Value as Json;
 use std::alloc::Global;
@@ -55,7 +55,7 @@ impl FromJson for Lock {
     ghost Fits = { FitsLock };
 
     fn from_json(alloc: Global, json: &Json) -> Result<Lock, RowFault> {
-        let Some((name, content)) = parts_of(json) else {
+        let Some((name, content)) = variant_parts(json) else {
             return Err(RowFault::NoRow);
         };
         match name {

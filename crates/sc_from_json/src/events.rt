@@ -7,7 +7,7 @@ ghost use Rattle.sc_row_text.specs.Rows.{event_json, FitsEvent};
 
 use crate::faults::RowFault;
 use crate::from_json::FromJson;
-use crate::reading::{parts_of, whole};
+use crate::reading::{variant_parts, whole};
 use sc_actor::Event;
 use sc_cmd::OrderLine;
 use serde_json::Value as Json;
@@ -55,7 +55,7 @@ impl FromJson for Event<OrderLine> {
     ghost Fits = { FitsEvent };
 
     fn from_json(alloc: Global, json: &Json) -> Result<Event<OrderLine>, RowFault> {
-        let Some((name, content)) = parts_of(json) else {
+        let Some((name, content)) = variant_parts(json) else {
             return Err(RowFault::NoRow);
         };
         match name {

@@ -9,7 +9,7 @@ ghost use Rattle.sc_row_text.specs.Ops.{reply_json, FitsReply};
 
 use crate::faults::RowFault;
 use crate::from_json::FromJson;
-use crate::reading::{member, pair_of, parts_of, triple_of};
+use crate::reading::{member, pair_of, variant_parts, triple_of};
 use sc_base::{Op, Reply};
 use serde_json::Value as Json;
 use std::alloc::Global;
@@ -65,7 +65,7 @@ impl FromJson for Op {
     ghost Fits = { FitsOp };
 
     fn from_json(alloc: Global, json: &Json) -> Result<Op, RowFault> {
-        let Some((name, content)) = parts_of(json) else {
+        let Some((name, content)) = variant_parts(json) else {
             return Err(RowFault::NoRow);
         };
         match name {

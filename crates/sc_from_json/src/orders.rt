@@ -13,7 +13,7 @@ ghost use Rattle.sc_row_text.specs.Orders.{told_result_json, FitsToldResult};
 
 use crate::faults::RowFault;
 use crate::from_json::FromJson;
-use crate::reading::{member, pair_of, parts_of, whole};
+use crate::reading::{member, pair_of, variant_parts, whole};
 use sc_cmd::{Order, OrderLine, OrderRefusal, ToldResult};
 use serde_json::Value as Json;
 use std::alloc::Global;
@@ -78,7 +78,7 @@ impl FromJson for Order {
     ghost Fits = { FitsOrder };
 
     fn from_json(alloc: Global, json: &Json) -> Result<Order, RowFault> {
-        let Some((name, content)) = parts_of(json) else {
+        let Some((name, content)) = variant_parts(json) else {
             return Err(RowFault::NoRow);
         };
         match name {
@@ -140,7 +140,7 @@ impl FromJson for OrderRefusal {
     ghost Fits = { FitsOrderRefusal };
 
     fn from_json(alloc: Global, json: &Json) -> Result<OrderRefusal, RowFault> {
-        let Some((name, content)) = parts_of(json) else {
+        let Some((name, content)) = variant_parts(json) else {
             return Err(RowFault::NoRow);
         };
         match name {
@@ -174,7 +174,7 @@ impl FromJson for ToldResult {
     ghost Fits = { FitsToldResult };
 
     fn from_json(alloc: Global, json: &Json) -> Result<ToldResult, RowFault> {
-        let Some((name, content)) = parts_of(json) else {
+        let Some((name, content)) = variant_parts(json) else {
             return Err(RowFault::NoRow);
         };
         match name {

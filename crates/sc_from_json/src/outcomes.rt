@@ -9,7 +9,7 @@ ghost use Rattle.sc_row_text.specs.Outcomes.{outcome_json, FitsOutcome};
 
 use crate::faults::RowFault;
 use crate::from_json::{FromJson, Present};
-use crate::reading::{member, pair_of, parts_of};
+use crate::reading::{member, pair_of, variant_parts};
 use sc_cmd::{Gift, Outcome};
 use serde_json::Value as Json;
 use std::alloc::Global;
@@ -58,7 +58,7 @@ impl FromJson for Outcome {
     ghost Fits = { FitsOutcome };
 
     fn from_json(alloc: Global, json: &Json) -> Result<Outcome, RowFault> {
-        let Some((name, content)) = parts_of(json) else {
+        let Some((name, content)) = variant_parts(json) else {
             return Err(RowFault::NoRow);
         };
         match name {

@@ -1,7 +1,7 @@
 //! Members, items and variants, read.
 ghost use Rattle.std.specs.Prelude.{◌≡◌, Some, IsSomeAnd};
 ghost use Rattle.serde_json.specs.View.{view};
-ghost use Rattle.sc_from_json.specs.Reading.{Finds, MayBeVariant, name_of, content_of};
+ghost use Rattle.sc_from_json.specs.Reading.{Finds, MayBeVariant, variant_name, content_of};
 
 use crate::faults::RowFault;
 use crate::from_json::FromJson;
@@ -159,9 +159,9 @@ pub(crate) fn six_of<
 }
 
 /// The name of a variant and its content; one without content is its own.
-pub fn parts_of(json: &Json) -> Option<(&str, &Json)>
+pub fn variant_parts(json: &Json) -> Option<(&str, &Json)>
     ensures { MayBeVariant (view json.now) → IsSomeAnd result (λ parts.
-        (parts.0.now ≡ name_of (view json.now)) × (view parts.1.now ≡ content_of (view json.now))) }
+        (parts.0.now ≡ variant_name (view json.now)) × (view parts.1.now ≡ content_of (view json.now))) }
 {
     match json {
         Json::String(name) => Some((name.as_str(), json)),

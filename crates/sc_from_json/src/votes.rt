@@ -14,7 +14,7 @@ ghost use Rattle.sc_row_text.specs.Votes.{past_json, FitsPast};
 
 use crate::faults::RowFault;
 use crate::from_json::{FromJson, Present};
-use crate::reading::{five_of, member, pair_of, parts_of, whole};
+use crate::reading::{five_of, member, pair_of, variant_parts, whole};
 use sc_cmd::{Frozen, Heard, No, Past, Vote};
 use serde_json::Value as Json;
 use std::alloc::Global;
@@ -43,7 +43,7 @@ impl FromJson for No {
     ghost Fits = { FitsNo };
 
     fn from_json(alloc: Global, json: &Json) -> Result<No, RowFault> {
-        let Some((name, content)) = parts_of(json) else {
+        let Some((name, content)) = variant_parts(json) else {
             return Err(RowFault::NoRow);
         };
         match name {
@@ -110,7 +110,7 @@ impl FromJson for Vote {
     ghost Fits = { FitsVote };
 
     fn from_json(alloc: Global, json: &Json) -> Result<Vote, RowFault> {
-        let Some((name, content)) = parts_of(json) else {
+        let Some((name, content)) = variant_parts(json) else {
             return Err(RowFault::NoRow);
         };
         match name {
@@ -136,7 +136,7 @@ impl FromJson for Past {
     ghost Fits = { FitsPast };
 
     fn from_json(alloc: Global, json: &Json) -> Result<Past, RowFault> {
-        let Some((name, content)) = parts_of(json) else {
+        let Some((name, content)) = variant_parts(json) else {
             return Err(RowFault::NoRow);
         };
         match name {

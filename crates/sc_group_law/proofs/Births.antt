@@ -11,7 +11,7 @@ use Rattle.sc_node_table.specs.Replica.{ReplicaState, name_of, born_replica}
 use Rattle.sc_scenario.specs.declared.scenarios.Scenario.{Scenario}
 use Rattle.sc_cmd.specs.declared.links.Route.{Route}
 use Rattle.sc_sound.specs.Players.{Ahead}
-use Rattle.sc_sound.specs.GroupsOf.{AreApart}
+use Rattle.sc_sound.specs.GroupsOf.{AreNamedApart}
 use Rattle.sc_group_law.proofs.Holding.{IsOther, Holds, holds_none}
 use Rattle.sc_group_law.proofs.Newborn.{born_replica_is}
 use Rattle.sc_group_law.proofs.Names.{IsOneOf}
@@ -45,7 +45,7 @@ module _ (ahead : Ahead) (made : Command → Type 0) (n : ℕ) where
       (λ _. (apart.0, none_born base bases apart.1)) (λ _. none_born base bases apart.1)
 
   -- of each group there is one, or none
-  holds_born : (base : Base) (bases : List Base) → AreApart bases → Among base bases → Holds ahead base made n [] (born bases)
+  holds_born : (base : Base) (bases : List Base) → AreNamedApart bases → Among base bases → Holds ahead base made n [] (born bases)
   holds_born base [] apart a = absurd a
   holds_born base (b ∷ bases) apart (inl is) =
       cond_both (is_member b.core.members n) (b ∷ filter (λ c. is_member c.core.members n) bases) (filter (λ c. is_member c.core.members n) bases)
@@ -58,7 +58,7 @@ module _ (ahead : Ahead) (made : Command → Type 0) (n : ℕ) where
       (λ _. inr (λ same. Each-among (λ other. other.core.id ≡ b.core.id → ⊥) bases base apart.0 a (sym same), holds_born base bases apart.1 a)) (λ _. holds_born base bases apart.1 a)
 
 -- what holds before any row
-pub at_start : (ahead : Ahead) (scenario : Scenario) (bases : List Base) (route : Route) (made : Journal → Base → Command → Type 0) (heard : Journal → MailBody → Type 0) → AreApart bases → Kept ahead scenario bases bases route made heard []
+pub at_start : (ahead : Ahead) (scenario : Scenario) (bases : List Base) (route : Route) (made : Journal → Base → Command → Type 0) (heard : Journal → MailBody → Type 0) → AreNamedApart bases → Kept ahead scenario bases bases route made heard []
 at_start ahead scenario bases route made heard apart = record {
   parts = λ b a. record { lawful = tt; requested = λ ballot slot c o. absurd o; true_mail = λ m o. absurd o };
   named = λ m a. absurd a;

@@ -32,8 +32,8 @@ election_scenario = record {
 }
 
 -- the one request, as a command
-abbrev pub call : Command
-call = Call 1 1 put_it
+abbrev pub example_call : Command
+example_call = Call 1 1 put_it
 
 -- the same mail to the three nodes
 abbrev pub to_each : ℕ → MailBody → List Mail
@@ -43,11 +43,11 @@ to_each from body = record { from = from; to = 1; body = body } ∷ record { fro
 abbrev pub election_example : List (Row Mail OrderLine)
 election_example =
     row 33 Go (mail 33 1 (Request lone_name 1 1 put_it))
-    ∷ row 1 (Deliver 1) (to_each 1 (Accept lone_name first 1 call))
+    ∷ row 1 (Deliver 1) (to_each 1 (Accept lone_name first 1 example_call))
     ∷ row 2 (Deliver 3) (mail 2 1 (Accepted lone_name first 1))
     ∷ row 3 (Deliver 4) (mail 3 1 (Accepted lone_name first 1))
     ∷ row 2 Tick (to_each 2 (Prepare lone_name second 1))
-    ∷ row 3 (Deliver 9) (mail 3 2 (Promise lone_name second (record { slot = 1; ballot = first; value = call } ∷ [])))
-    ∷ row 2 (Deliver 8) (mail 2 2 (Promise lone_name second (record { slot = 1; ballot = first; value = call } ∷ [])))
+    ∷ row 3 (Deliver 9) (mail 3 2 (Promise lone_name second (record { slot = 1; ballot = first; value = example_call } ∷ [])))
+    ∷ row 2 (Deliver 8) (mail 2 2 (Promise lone_name second (record { slot = 1; ballot = first; value = example_call } ∷ [])))
     ∷ row 2 (Deliver 10) []
-    ∷ row 2 (Deliver 11) (to_each 2 (Accept lone_name second 1 call)) ∷ []
+    ∷ row 2 (Deliver 11) (to_each 2 (Accept lone_name second 1 example_call)) ∷ []

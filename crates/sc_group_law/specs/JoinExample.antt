@@ -18,8 +18,8 @@ use Rattle.sc_scenario.specs.declared.scenarios.Scenario.{Scenario}
 use Rattle.sc_sound.specs.Example.{alone, mail, row}
 
 -- node 2 joins the group
-abbrev pub order : OrderLine
-order = record { number = 1; order = An.Join 2 lone_name }
+abbrev pub join_order : OrderLine
+join_order = record { number = 1; order = An.Join 2 lone_name }
 
 -- the order, as a command
 abbrev pub join : Command
@@ -32,7 +32,7 @@ join_scenario = record {
   groups = alone ∷ [];
   policy = false;
   clients = [];
-  lines = line.Told 1 order ∷ line.Deliver 1 1 ∷ line.Deliver 1 1 ∷ line.Deliver 2 1 ∷ [];
+  lines = line.Told 1 join_order ∷ line.Deliver 1 1 ∷ line.Deliver 1 1 ∷ line.Deliver 2 1 ∷ [];
   brief = false;
   version = 1;
 }
@@ -48,7 +48,7 @@ both = with_node (group_of alone) 2
 -- the new member decides from the fifth slot on
 abbrev pub join_example : List (Row Mail OrderLine)
 join_example =
-    row 1 (Told order) (mail 1 1 (Accept lone_name leading 1 join))
+    row 1 (Told join_order) (mail 1 1 (Accept lone_name leading 1 join))
     ∷ row 1 (Deliver 1) (mail 1 1 (Accepted lone_name leading 1))
     ∷ row 1 (Deliver 2) (record { from = 1; to = 0; body = ToldMail 1 Tells.Done }
     ∷ record { from = 1; to = 2; body = Install lone_name 1 (base_of both) ((1 ∷ []) ∷ (1 ∷ []) ∷ (1 ∷ []) ∷ (1 ∷ 2 ∷ []) ∷ []) } ∷ [])

@@ -11,14 +11,14 @@ ghost use Rattle.sc_sound.specs.Logs.{decided_log, decided_state};
 ghost use Rattle.sc_sound.specs.Histories.{decided_row};
 ghost use Rattle.sc_sound.specs.Requests.{issue_row};
 ghost use Rattle.sc_sound.specs.Players.{Lawful};
-ghost use Rattle.sc_group_law.specs.Example.{three_nodes, election_scenario, election_example, call};
+ghost use Rattle.sc_group_law.specs.Example.{three_nodes, election_scenario, election_example, example_call};
 ghost use Rattle.sc_group_law.specs.JoinExample.{join_scenario, join_example, join};
 
 /// The law is about something: a lawful journal of three nodes, in which a request is decided by
 /// two of them, and another node is elected and offers it again.
 pub fn a_journal_with_an_election()
     ensures lawful { Lawful four no_words election_scenario election_example }
-    ensures log { decided_log four three_nodes election_example ≡ call ∷ [] }
+    ensures log { decided_log four three_nodes election_example ≡ example_call ∷ [] }
     ensures decided { decided_row four three_nodes 0 election_example ≡ Some 4 }
     ensures issued { issue_row 1 1 election_example ≡ Some 1 }
 {}

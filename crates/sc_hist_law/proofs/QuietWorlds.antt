@@ -27,7 +27,7 @@ use Rattle.sc_entries.specs.Worlds.{StoreWorld, after_command, named_group, told
 use Rattle.sc_hist_law.proofs.Elsewhere.{own_group, here, there}
 use Rattle.sc_hist_law.specs.Laws.{LeavesWhole}
 use Rattle.sc_hist_law.specs.Moves.{Holding, RequestOf, MayServe, TellsHoldings, HasNotes, ServedBy, entries_by, holding_of, holdings_after, request_entry, with_request}
-use Rattle.sc_hist_law.specs.Worlds.{holdings_in, IsAsked, IsQuiet}
+use Rattle.sc_hist_law.specs.Worlds.{holdings_in, IsAskedCall, IsQuiet}
 use Rattle.sc_hist_law.proofs.Disjoint.{holding_here, holding_there}
 use Rattle.sc_hist_law.proofs.Logs.{OnlyMembers, ordered_either}
 use Rattle.sc_hist_law.proofs.MovesKept.{move_kept, same_told}
@@ -171,7 +171,7 @@ module _ (request : RequestOf) (bases : List Base) (world : StoreWorld) (quiet :
       (ordered_either (λ g. holding_of g ≡ holding_of group) group.core.gone (refusal_of group.core c) after group same refl)
       (none result.1)
 
-  quiet_after : (c : Command) → LeavesWhole c → IsAsked request c → IsQuietWorld request bases (with_result world group c (applied group c))
+  quiet_after : (c : Command) → LeavesWhole c → IsAskedCall request c → IsQuietWorld request bases (with_result world group c (applied group c))
   quiet_after (Call client seq op) keeps asked =
       request_cases group client seq op (λ result. IsQuietWorld request bases (with_result world group (Call client seq op) result))
       (λ effect none. idle request bases world quiet name group found (Call client seq op) keeps (group, effect) refl refl none)
@@ -188,7 +188,7 @@ module _ (request : RequestOf) (bases : List Base) (world : StoreWorld) (quiet :
   quiet_after (Watched tx watch) keeps asked = absurd keeps
   quiet_after (RecordWatch tx vote by) keeps asked = absurd keeps
 
-by_group : (request : RequestOf) (bases : List Base) (world : StoreWorld) → IsQuietWorld request bases world → (name : Draw) (c : Command) → LeavesWhole c → IsAsked request c → (o : Option Group) → named_group name world.groups ≡ o
+by_group : (request : RequestOf) (bases : List Base) (world : StoreWorld) → IsQuietWorld request bases world → (name : Draw) (c : Command) → LeavesWhole c → IsAskedCall request c → (o : Option Group) → named_group name world.groups ≡ o
     → IsQuietWorld request bases (after_command world o c)
 by_group request bases world quiet name c keeps asked None e = quiet
 by_group request bases world quiet name c keeps asked (Some group) e = quiet_after request bases world quiet name group e c keeps asked

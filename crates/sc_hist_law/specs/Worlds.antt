@@ -33,24 +33,24 @@ pub record BeginBare (bases : List Base) : Type 0 where
   pub bare : (base : Base) → Among base bases → BeginsBare base
 
 -- a call is the request of its client and number
-abbrev pub IsAsked : RequestOf → Command → Type 0
-IsAsked request (Call client seq op) = op ≡ request client seq
-IsAsked request Noop = Unit {0}
-IsAsked request (Join node order) = Unit {0}
-IsAsked request (Leave node order) = Unit {0}
-IsAsked request (Split at child order) = Unit {0}
-IsAsked request (Begin tx body order) = Unit {0}
-IsAsked request (Prepared tx offer) = Unit {0}
-IsAsked request (RecordVote tx vote by) = Unit {0}
-IsAsked request (GiveUp tx) = Unit {0}
-IsAsked request (Finish tx outcome) = Unit {0}
-IsAsked request (Watched tx watch) = Unit {0}
-IsAsked request (RecordWatch tx vote by) = Unit {0}
+abbrev pub IsAskedCall : RequestOf → Command → Type 0
+IsAskedCall request (Call client seq op) = op ≡ request client seq
+IsAskedCall request Noop = Unit {0}
+IsAskedCall request (Join node order) = Unit {0}
+IsAskedCall request (Leave node order) = Unit {0}
+IsAskedCall request (Split at child order) = Unit {0}
+IsAskedCall request (Begin tx body order) = Unit {0}
+IsAskedCall request (Prepared tx offer) = Unit {0}
+IsAskedCall request (RecordVote tx vote by) = Unit {0}
+IsAskedCall request (GiveUp tx) = Unit {0}
+IsAskedCall request (Finish tx outcome) = Unit {0}
+IsAskedCall request (Watched tx watch) = Unit {0}
+IsAskedCall request (RecordWatch tx vote by) = Unit {0}
 
 -- an entry that divides no group and is of no transaction; a call is the request of its client and number
 pub record IsQuiet (request : RequestOf) (entry : LogEntry) : Type 0 where
   pub whole : LeavesWhole entry.command
-  pub asked : IsAsked request entry.command
+  pub asked : IsAskedCall request entry.command
 
 -- what any group's own log ever made it note has its entry in the history of all entries: a replica that answers by an older state answers by the history
 abbrev pub LogNotesStay : List Base → List LogEntry → Type 0

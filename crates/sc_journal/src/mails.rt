@@ -10,7 +10,7 @@ ghost use Rattle.sc_row_text.specs.Mails.{mail_body_json, FitsMailBody, mail_jso
 ghost use Rattle.sc_from_json.specs.Reading.{Finds, Shows};
 
 use sc_base::Sequence;
-use sc_from_json::{RowFault, four_of, pair_of, parts_of, triple_of};
+use sc_from_json::{RowFault, four_of, pair_of, variant_parts, triple_of};
 use sc_mail::{Mail, MailBody};
 use serde_json::Value as Json;
 use std::alloc::Global;
@@ -242,7 +242,7 @@ fn mail_body_from_json(alloc: Global, json: &Json) -> Result<MailBody, RowFault>
     ensures { (body : MailBody) → FitsMailBody body → view json.now ≡ mail_body_json body
         → Finds body result }
 {
-    let Some((name, content)) = parts_of(json) else {
+    let Some((name, content)) = variant_parts(json) else {
         return Err(RowFault::NoRow);
     };
     match name {

@@ -7,7 +7,7 @@ use Rattle.std.proofs.lemmas.Bool.{false_from_ne_true}
 use Rattle.sc_base.specs.Among.{Each}
 use Rattle.sc_lines.specs.Lines.{most_lines, is_too_long, lines_in, lines_of, trimmed}
 use Rattle.sc_lines.specs.Kinds.{request_kind, kind_of}
-use Rattle.sc_lines.specs.Reasons.{given, then_on}
+use Rattle.sc_lines.specs.Reasons.{or_reason, then_on}
 use Rattle.sc_lines.specs.Words.{same}
 use Rattle.sc_lines.specs.declared.kinds.Kind.{Kind}
 use Rattle.sc_lines.specs.declared.kinds.Kind.TheVariants.{Asking}
@@ -53,10 +53,10 @@ no_divider : (reading more : Reading) → line_read reading (trimmed divider) �
 no_divider Fresh more e = no_reading MissingHeader more (line_read Fresh (trimmed divider)) refl e
 no_divider (Outside draft) more e =
     no_reading UnknownWord more (line_read (Outside draft) (trimmed divider))
-    (ap (λ (o : Option Kind). given o UnknownWord (λ kind. then_on (said (is_in_place (Outside draft) kind) kind (divider ∷ [])) (taken_outside draft))) (no_kind draft.version)) e
+    (ap (λ (o : Option Kind). or_reason o UnknownWord (λ kind. then_on (said (is_in_place (Outside draft) kind) kind (divider ∷ [])) (taken_outside draft))) (no_kind draft.version)) e
 no_divider (Within draft asks) more e =
     no_reading UnknownWord more (line_read (Within draft asks) (trimmed divider))
-    (ap (λ (o : Option Kind). given o UnknownWord (λ kind. then_on (said (is_in_place (Within draft asks) kind) kind (divider ∷ [])) (taken_within draft asks))) (no_kind draft.version)) e
+    (ap (λ (o : Option Kind). or_reason o UnknownWord (λ kind. then_on (said (is_in_place (Within draft asks) kind) kind (divider ∷ [])) (taken_within draft asks))) (no_kind draft.version)) e
 
 line_other : (reading more : Reading) (line : List ℕ) → line_read reading (trimmed line) ≡ Ok more → IsOther line
 line_other reading more line e =

@@ -22,9 +22,9 @@ use Rattle.sc_ring_law.specs.Laws.{stories_of}
 use Rattle.sc_ring_law.proofs.Finds.{Pairwise}
 use Rattle.sc_sound.specs.GroupsOf.{children_of, children_by, is_birth_of, with_descendants, groups_at, birth_at, log_by, log_at, state_at, entries_at}
 use Rattle.sc_sound.specs.Logs.{decided_log, decided_state}
-use Rattle.sc_sound.specs.Soundness.{GoesOn}
+use Rattle.sc_sound.specs.Soundness.{Continues}
 use Rattle.sc_journal_law.specs.Descent.{Rows, Descends, IsFound, added_by, newborn_by}
-use Rattle.sc_journal_law.specs.Findings.{IsKnown}
+use Rattle.sc_journal_law.specs.Findings.{IsFoundByName}
 use Rattle.sc_journal_law.proofs.Lists.{HaveTwoNames, find_base, find_no_base, births_from, births_still, births_named, births_apart}
 use Rattle.sc_journal_law.proofs.Children.{children_append}
 
@@ -40,7 +40,7 @@ AreNear ahead bases rows = (base : Base) → IsFound ahead bases rows base → (
 
 -- what a row does of the groups that are found before it
 pub record FoundInTurn (sources : Sources) (ahead : Ahead) (bases : List Base) (before : Rows) (row : Row Mail OrderLine) : Type 0 where
-  pub goes_on : (base : Base) → IsFound ahead bases before base → GoesOn (decided_log ahead base before) (decided_log ahead base (before ++ row ∷ []))
+  pub goes_on : (base : Base) → IsFound ahead bases before base → Continues (decided_log ahead base before) (decided_log ahead base (before ++ row ∷ []))
   pub name : Draw
   pub others : (base : Base) → IsFound ahead bases before base → (base.core.id ≡ name → ⊥) → decided_log ahead base (before ++ row ∷ []) ≡ decided_log ahead base before
   pub allowed : (base : Base) → IsFound ahead bases before base → Each (IsAllowed sources (stories_of bases (entries_at ahead bases before)) base.core.id) (added_by ahead before row base)
@@ -155,7 +155,7 @@ module _ (ahead : Ahead) (bases : List Base) (rows : Rows) where
       birth_is : (base : Base) → IsFound ahead bases rows base → birth_at ahead bases rows base.core.id ≡ Some base
       birth_is base f = find_base (groups_at ahead bases rows) base (found_group base f) (λ other a same. one other base (group_found other a) f same)
 
-      pub known_by_name : (base : Base) → IsFound ahead bases rows base → IsKnown ahead bases rows base
+      pub known_by_name : (base : Base) → IsFound ahead bases rows base → IsFoundByName ahead bases rows base
       known_by_name base f = record {
         birth = birth_is base f;
         log = ap (log_by ahead rows) (birth_is base f);

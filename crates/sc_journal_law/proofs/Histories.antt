@@ -16,7 +16,7 @@ use Rattle.sc_ring_law.specs.Allowed.{Sources}
 use Rattle.sc_ring_law.specs.Laws.{BeginInPlace}
 use Rattle.sc_sound.specs.GroupsOf.{groups_at, entries_by_rows, history_at}
 use Rattle.sc_sound.specs.Logs.{decided_log}
-use Rattle.sc_sound.specs.Soundness.{GoesOn, told_from}
+use Rattle.sc_sound.specs.Soundness.{Continues, told_from}
 use Rattle.sc_journal_law.specs.Descent.{Rows, IsFound, added_by}
 use Rattle.sc_journal_law.specs.InTurn.{DecidesInTurn, DecideInTurn}
 use Rattle.sc_journal_law.specs.Laws.{HistoryIsTold, ToldRowsStay}
@@ -41,7 +41,7 @@ module _ (sources : Sources) (ahead : Ahead) (bases : List Base) (start : BeginI
       subst (λ b. IsFound ahead bases b base) (append_assoc before (row ∷ []) more)
       (found_later (before ++ row ∷ []) more (push_turn sources ahead bases start before k row h.0) h.1 base (still before k row h.0 base f))
 
-  log_later : (before more : Rows) → Told sources ahead bases before → DecideInTurn sources ahead bases before more → (base : Base) → IsFound ahead bases before base → GoesOn (decided_log ahead base before) (decided_log ahead base (before ++ more))
+  log_later : (before more : Rows) → Told sources ahead bases before → DecideInTurn sources ahead bases before more → (base : Base) → IsFound ahead bases before base → Continues (decided_log ahead base before) (decided_log ahead base (before ++ more))
   log_later before [] k h base f = ([], ap (decided_log ahead base) (append-nil before) ∙ sym (append-nil (decided_log ahead base before)))
   log_later before (row ∷ more) k h base f =
       let now = added_by ahead before row base in

@@ -11,7 +11,7 @@ use Rattle.sc_ring_law.specs.Allowed.{Sources, IsAllowed}
 use Rattle.sc_ring_law.specs.Laws.{stories_of}
 use Rattle.sc_sound.specs.GroupsOf.{children_of, children_by, entries_at}
 use Rattle.sc_sound.specs.Logs.{decided_log, decided_state}
-use Rattle.sc_sound.specs.Soundness.{GoesOn}
+use Rattle.sc_sound.specs.Soundness.{Continues}
 use Rattle.sc_journal_law.specs.Descent.{Rows, IsFound, added_by, newborn_by}
 use Rattle.sc_journal_law.specs.InTurn.{DecidesInTurn}
 use Rattle.sc_journal_law.proofs.Generations.{group_found}
@@ -19,7 +19,7 @@ use Rattle.sc_journal_law.proofs.Generations.{group_found}
 module _ (sources : Sources) (ahead : Ahead) (bases : List Base) (before : Rows) (row : Row Mail OrderLine) where
   -- what a row does of one group
   pub record TurnFor (base : Base) : Type 0 where
-    pub goes_on : GoesOn (decided_log ahead base before) (decided_log ahead base (before ++ row ∷ []))
+    pub goes_on : Continues (decided_log ahead base before) (decided_log ahead base (before ++ row ∷ []))
     pub allowed : Each (IsAllowed sources (stories_of bases (entries_at ahead bases before)) base.core.id) (added_by ahead before row base)
     pub unheard : (child : Base) → Among child (newborn_by ahead before row base) → decided_log ahead child (before ++ row ∷ []) ≡ []
 

@@ -22,8 +22,8 @@ use Rattle.sc_ring_law.specs.Invariant.{Groups, Facts}
 use Rattle.sc_ring_law.specs.Stories.{Stories, unsigned, unsigned_watch, offer_for, watch_for, stories_after}
 
 -- a group as it stands makes a command allowed, whatever was told so far
-abbrev pub StandsFor : Sources → Draw → Group → Draw → Command → Type 0
-StandsFor sources by group name command = (groups : Groups) (stories : Stories) → Facts sources.owner groups stories → groups by ≡ Some group → IsAllowed sources stories name command
+abbrev pub AllowsAsItStands : Sources → Draw → Group → Draw → Command → Type 0
+AllowsAsItStands sources by group name command = (groups : Groups) (stories : Stories) → Facts sources.owner groups stories → groups by ≡ Some group → IsAllowed sources stories name command
 
 -- an entry of a group makes a command allowed, whatever was told before it
 abbrev pub MakesAllowed : Sources → Draw → Group → Command → Draw → Command → Type 0
@@ -38,12 +38,12 @@ EndsBy sources by group tx entry = (outcome : Outcome) → (applied group entry)
 pub record GroupAllows (sources : Sources) (by : Draw) (group : Group) : Type 0 where
   -- who coordinates may be answered by the group to which it offers
   pub offers : (tx : Draw) (body : Body) (order : ℕ) (heard : Option Heard) → group.core.lock ≡ Coordinating tx body order heard
-      → (offer : Offer) → offer_for group.core body ≡ Some (unsigned offer) → StandsFor sources by group offer.part (Prepared tx offer)
+      → (offer : Offer) → offer_for group.core body ≡ Some (unsigned offer) → AllowsAsItStands sources by group offer.part (Prepared tx offer)
   -- and by the group that it asks to watch
   pub asks : (tx : Draw) (body : Body) (order : ℕ) (heard : Option Heard) → group.core.lock ≡ Coordinating tx body order heard
-      → (watch : Watch) → watch_for group.core body heard ≡ Some (unsigned_watch watch) → StandsFor sources by group watch.part (Watched tx watch)
+      → (watch : Watch) → watch_for group.core body heard ≡ Some (unsigned_watch watch) → AllowsAsItStands sources by group watch.part (Watched tx watch)
   -- who has promised may be heard, with what it has
-  pub promises : (tx : Draw) (offer : Offer) → group.core.lock ≡ Promised tx offer → (name : Draw) (node : ℕ) → StandsFor sources by group name (RecordVote tx (Ballot.Yes (frozen_of group)) node)
+  pub promises : (tx : Draw) (offer : Offer) → group.core.lock ≡ Promised tx offer → (name : Draw) (node : ℕ) → AllowsAsItStands sources by group name (RecordVote tx (Ballot.Yes (frozen_of group)) node)
   -- a watcher's Yes may be heard
   pub watches : (tx : Draw) (watch : Watch) → (applied group (Watched tx watch)).1 ≡ Voted Cast.Yes → (name : Draw) (node : ℕ) → MakesAllowed sources by group (Watched tx watch) name (RecordWatch tx Cast.Yes node)
   -- what a vote, a watcher's vote or giving up decides may be carried out

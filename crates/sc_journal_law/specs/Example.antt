@@ -26,16 +26,16 @@ abbrev pub split_sources : Sources
 split_sources = record { owner = λ name. if same_draw name offspring then Some parent else None; request = λ client seq. put_a }
 
 -- the group of nodes 1 and 2 that has the whole ring
-abbrev pub split_bases : List Base
-split_bases = lone_base ∷ []
+abbrev pub lone_bases : List Base
+lone_bases = lone_base ∷ []
 
 -- it is split, and its child, of node 2, serves the put
-abbrev pub split : Command
-split = Split 1610612736 offspring 1
+abbrev pub journal_split : Command
+journal_split = Split 1610612736 offspring 1
 
 -- the call of the put
-abbrev pub put : Command
-put = Call 1 1 put_a
+abbrev pub put_a_call : Command
+put_a_call = Call 1 1 put_a
 
 -- the first ballot of a node
 abbrev pub ballot_of : ℕ → Ballot
@@ -47,7 +47,7 @@ to from node body = record { from = from; to = node; body = body }
 
 -- node 1 is told to split the group, and offers it; both nodes accept
 abbrev pub offers_split : Row Mail OrderLine
-offers_split = row 1 (Told (record { number = 1; order = Ordered.Split parent 1610612736 })) (to 1 1 (Accept parent (ballot_of 1) 1 split) ∷ to 1 2 (Accept parent (ballot_of 1) 1 split) ∷ [])
+offers_split = row 1 (Told (record { number = 1; order = Ordered.Split parent 1610612736 })) (to 1 1 (Accept parent (ballot_of 1) 1 journal_split) ∷ to 1 2 (Accept parent (ballot_of 1) 1 journal_split) ∷ [])
 
 -- the first of two
 abbrev pub accepts_split : Row Mail OrderLine
@@ -63,7 +63,7 @@ asks_child = row 33 Go (mail 33 2 (Request offspring 1 1 put_a))
 
 -- node 2, its one member, offers the call
 abbrev pub offers_put : Row Mail OrderLine
-offers_put = row 2 (Deliver 5) (mail 2 2 (Accept offspring (ballot_of 2) 1 put))
+offers_put = row 2 (Deliver 5) (mail 2 2 (Accept offspring (ballot_of 2) 1 put_a_call))
 
 -- and accepts it
 abbrev pub decides_put : Row Mail OrderLine
@@ -75,9 +75,9 @@ split_rows = offers_split ∷ accepts_split ∷ decides_split ∷ asks_child ∷
 
 -- its rows decide in turn, from a group in place that holds nothing; it has two groups with a log each
 pub record ExampleInTurn : Type 0 where
-  pub start : BeginInPlace split_sources split_bases
-  pub bare : BeginBare split_bases
-  pub turn : DecideInTurn split_sources four split_bases [] split_rows
-  pub groups : map (λ (base : Base). base.core.id) (groups_at four split_bases split_rows) ≡ parent ∷ offspring ∷ []
-  pub first : log_at four split_bases split_rows parent ≡ split ∷ []
-  pub second : log_at four split_bases split_rows offspring ≡ put ∷ []
+  pub start : BeginInPlace split_sources lone_bases
+  pub bare : BeginBare lone_bases
+  pub turn : DecideInTurn split_sources four lone_bases [] split_rows
+  pub groups : map (λ (base : Base). base.core.id) (groups_at four lone_bases split_rows) ≡ parent ∷ offspring ∷ []
+  pub first : log_at four lone_bases split_rows parent ≡ journal_split ∷ []
+  pub second : log_at four lone_bases split_rows offspring ≡ put_a_call ∷ []

@@ -18,13 +18,13 @@ use Rattle.sc_hist_law.specs.Fronts.{log_in}
 use Rattle.sc_hist_law.specs.Moves.{HasNotes}
 use Rattle.sc_sound.specs.GroupsOf.{children_of, children_by, groups_at, birth_at, log_at, state_at, entries_at, world_at, history_at}
 use Rattle.sc_sound.specs.Logs.{decided_log, decided_state}
-use Rattle.sc_sound.specs.Soundness.{GoesOn, IsOneMap, told_row}
+use Rattle.sc_sound.specs.Soundness.{Continues, IsOneMap, told_row}
 use Rattle.sc_journal_law.specs.Descent.{Rows, IsFound, added_by, newborn_by}
 
 -- ---- groups
 
 -- a group is found by its name, with its own log and the state after it
-pub record IsKnown (ahead : Ahead) (bases : List Base) (rows : Rows) (base : Base) : Type 0 where
+pub record IsFoundByName (ahead : Ahead) (bases : List Base) (rows : Rows) (base : Base) : Type 0 where
   pub birth : birth_at ahead bases rows base.core.id ≡ Some base
   pub log : log_at ahead bases rows base.core.id ≡ decided_log ahead base rows
   pub state : state_at ahead bases rows base.core.id ≡ Some (decided_state ahead base rows)
@@ -44,7 +44,7 @@ pub record AreFound (ahead : Ahead) (bases : List Base) (rows : Rows) : Type 0 w
   -- two of one name are one
   pub apart : (one other : Base) → Among one (groups_at ahead bases rows) → Among other (groups_at ahead bases rows) → one.core.id ≡ other.core.id → one ≡ other
   -- each is known by its name
-  pub known : (base : Base) → Among base (groups_at ahead bases rows) → IsKnown ahead bases rows base
+  pub known : (base : Base) → Among base (groups_at ahead bases rows) → IsFoundByName ahead bases rows base
 
 -- a child that a row's own entries name: its name was nobody's, and its log is empty
 pub record IsNewborn (ahead : Ahead) (bases : List Base) (before : Rows) (row : Row Mail OrderLine) (child : Base) : Type 0 where
@@ -92,7 +92,7 @@ pub record IsToldAt (ahead : Ahead) (bases : List Base) (rows : Rows) (place : �
 -- what stays with more rows: groups with their logs, entries, the history, and where its entries are told
 pub record StayAsTold (ahead : Ahead) (bases : List Base) (rows more : Rows) : Type 0 where
   pub groups : (base : Base) → Among base (groups_at ahead bases rows) → Among base (groups_at ahead bases (rows ++ more))
-  pub logs : (base : Base) → Among base (groups_at ahead bases rows) → GoesOn (decided_log ahead base rows) (log_at ahead bases (rows ++ more) base.core.id)
+  pub logs : (base : Base) → Among base (groups_at ahead bases rows) → Continues (decided_log ahead base rows) (log_at ahead bases (rows ++ more) base.core.id)
   pub entries : (later : List LogEntry) × (entries_at ahead bases (rows ++ more) ≡ entries_at ahead bases rows ++ later)
   pub history : (later : List Entry) × (history_at ahead bases (rows ++ more) ≡ history_at ahead bases rows ++ later)
   pub told : (place at : ℕ) → told_row ahead bases place rows ≡ Some at → told_row ahead bases place (rows ++ more) ≡ Some at

@@ -11,13 +11,13 @@ use Rattle.sc_ring_law.specs.Allowed.{Sources, IsAllowed}
 use Rattle.sc_ring_law.specs.Laws.{stories_of}
 use Rattle.sc_sound.specs.GroupsOf.{groups_at, entries_at}
 use Rattle.sc_sound.specs.Logs.{decided_log}
-use Rattle.sc_sound.specs.Soundness.{GoesOn}
+use Rattle.sc_sound.specs.Soundness.{Continues}
 use Rattle.sc_journal_law.specs.Descent.{Rows, added_by, newborn_by}
 
 -- A row after these decides what was allowed, and nothing yet for a group that it gives birth to.
 pub record DecidesInTurn (sources : Sources) (ahead : Ahead) (bases : List Base) (before : Rows) (row : Row Mail OrderLine) : Type 0 where
   -- each log goes on
-  pub goes_on : (base : Base) → Among base (groups_at ahead bases before) → GoesOn (decided_log ahead base before) (decided_log ahead base (before ++ row ∷ []))
+  pub goes_on : (base : Base) → Among base (groups_at ahead bases before) → Continues (decided_log ahead base before) (decided_log ahead base (before ++ row ∷ []))
   -- each command that it decides is allowed by what the entries before the row told
   pub allowed : (base : Base) → Among base (groups_at ahead bases before) → Each (IsAllowed sources (stories_of bases (entries_at ahead bases before)) base.core.id) (added_by ahead before row base)
   -- nothing is decided for a child that they name

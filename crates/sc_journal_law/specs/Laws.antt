@@ -18,7 +18,7 @@ use Rattle.sc_hist_law.specs.Worlds.{BeginBare}
 use Rattle.sc_sound.specs.GroupsOf.{groups_at, entries_at, history_at}
 use Rattle.sc_sound.specs.Logs.{decided_log}
 use Rattle.sc_sound.specs.Soundness.{IsSound}
-use Rattle.sc_journal_law.specs.Allows.{StandsFor, MakesAllowed, GroupAllows}
+use Rattle.sc_journal_law.specs.Allows.{AllowsAsItStands, MakesAllowed, GroupAllows}
 use Rattle.sc_journal_law.specs.Beside.{HoldsBeside}
 use Rattle.sc_journal_law.specs.Descent.{Rows}
 use Rattle.sc_journal_law.specs.InTurn.{DecidesInTurn, DecideInTurn, DecidesForOne}
@@ -66,7 +66,7 @@ FrontsAllow = (sources : Sources) (ahead : Ahead) (bases : List Base) → BeginI
 abbrev pub StatesAllow : Type 0
 StatesAllow = (sources : Sources) (ahead : Ahead) (bases : List Base) → BeginInPlace sources bases → (rows : Rows) → DecideInTurn sources ahead bases [] rows
     → (base : Base) → Among base (groups_at ahead bases rows) → (front later : List Command) → decided_log ahead base rows ≡ front ++ later
-    → (name : Draw) (command : Command) → StandsFor sources base.core.id (state_after (group_of base) front) name command → IsAllowed sources (stories_of bases (entries_at ahead bases rows)) name command
+    → (name : Draw) (command : Command) → AllowsAsItStands sources base.core.id (state_after (group_of base) front) name command → IsAllowed sources (stories_of bases (entries_at ahead bases rows)) name command
 
 -- so who takes part in a transaction, or coordinates it, acts by what was told
 abbrev pub GroupsAllowOthers : Type 0

@@ -13,7 +13,7 @@ use Rattle.sc_paxos_law.specs.Steps.{Step, Prepared, Promised, Offered, Accepted
 use Rattle.sc_paxos_law.specs.Chosen.{Rule, needed, members_of}
 use Rattle.sc_paxos_law.specs.Decided.{voters_of, lesser_of, found_in, chosen_at, top_slot, with_next_entries, log_of}
 use Rattle.sc_paxos_law.proofs.Among.{get_pushed}
-use Rattle.sc_known.specs.Known.{IsChosenSoFar, Ends}
+use Rattle.sc_known.specs.Known.{IsChosenSoFar, NothingFollows}
 use Rattle.sc_known.proofs.Longer.{with_next_entries-ends, with_next_entries-grows}
 
 -- ---- the highest slot
@@ -96,11 +96,11 @@ seam : {V : Type 0} (front : List V) (x : V) (rest : List V) → slice_get (fron
 seam [] x rest = refl
 seam (y ∷ front) x rest = seam front x rest
 
-walk : {V : Type 0} (rule : Rule V) (h : List (Step V)) (log : List V) → IsChosenSoFar rule h log → Ends rule h log
+walk : {V : Type 0} (rule : Rule V) (h : List (Step V)) (log : List V) → IsChosenSoFar rule h log → NothingFollows rule h log
     → (rest front : List V) → log ≡ front ++ rest → (more : ℕ) → length rest ≤ more → with_next_entries rule h more front ≡ log
 walk {V} rule h log so_far ends [] front is more le =
     let same : log ≡ front = is ∙ append-nil front in
-    with_next_entries-ends rule h more front (subst (Ends rule h) same ends) ∙ sym same
+    with_next_entries-ends rule h more front (subst (NothingFollows rule h) same ends) ∙ sym same
 walk rule h log so_far ends (x ∷ rest) front is zero le = absurd (omega (arith, le))
 walk {V} rule h log so_far ends (x ∷ rest) front is (suc more) le =
     let here : slice_get log (length front) ≡ Some x = ap (λ (xs : List V). slice_get xs (length front)) is ∙ seam front x rest in
@@ -123,7 +123,7 @@ length_within rule h (x ∷ xs) so_far =
     omega (arith, top)
 
 -- a log whose entries are chosen, and after which nothing is, is the decided one
-pub log_is : {V : Type 0} (rule : Rule V) (h : List (Step V)) (log : List V) → IsChosenSoFar rule h log → Ends rule h log → log_of rule h ≡ log
+pub log_is : {V : Type 0} (rule : Rule V) (h : List (Step V)) (log : List V) → IsChosenSoFar rule h log → NothingFollows rule h log → log_of rule h ≡ log
 log_is rule h log so_far ends = walk rule h log so_far ends log [] refl (top_slot h) (length_within rule h log so_far)
 
 -- ---- the log with one more acceptance
@@ -137,7 +137,7 @@ chosen_still {V} rule n b s value h log here so_far = λ k v is. elim (cases_Boo
   | inr f ↦ chosen_elsewhere (members_of rule log (k + 1)) n b s value h (k + 1) f ∙ so_far k v is
 ]
 
-pub ends_still : {V : Type 0} (rule : Rule V) (n : ℕ) (b : Ballot) (s : ℕ) (value : V) (h : List (Step V)) (log : List V) → s ≤ length log → Ends rule h log → Ends rule (Accepted n b s value ∷ h) log
+pub ends_still : {V : Type 0} (rule : Rule V) (n : ℕ) (b : Ballot) (s : ℕ) (value : V) (h : List (Step V)) (log : List V) → s ≤ length log → NothingFollows rule h log → NothingFollows rule (Accepted n b s value ∷ h) log
 ends_still rule n b s value h log le ends =
     let other : eqb s (length log + 1) ≡ false = ne_eqb s (length log + 1) (λ e. absurd (omega (arith, le, e))) in
     chosen_elsewhere (members_of rule log (length log + 1)) n b s value h (length log + 1) other ∙ ends

@@ -13,7 +13,7 @@ use Rattle.sc_paxos_law.specs.Steps.{Step}
 use Rattle.sc_sound.specs.Accepts.{accepts}
 use Rattle.sc_sound.specs.Logs.{rule_of}
 use Rattle.sc_known.specs.Acceptances.{step_of, steps_by}
-use Rattle.sc_known.specs.Known.{Adds, Agrees, Ends, IsKnown}
+use Rattle.sc_known.specs.Known.{Adds, Agrees, NothingFollows, IsKnown}
 use Rattle.sc_known.specs.declared.accepting.Acceptance.{Acceptance}
 use Rattle.sc_known.specs.declared.known.Known.{Known}
 
@@ -41,5 +41,5 @@ accepts_here name acceptance rows after adds group here =
 pub known_elsewhere : (rows after : List (Row Mail OrderLine)) (known : Known) → accepts known.base.core.id after ≡ accepts known.base.core.id rows → IsKnown rows known → IsKnown after known
 known_elsewhere rows after known same is = record {
   agrees = subst (λ (h : List (Step Command)). Agrees h known) (sym same) is.agrees;
-  ends = subst (λ (h : List (Step Command)). Ends (rule_of as_nodes known.base) h known.log.items) (sym same) is.ends;
+  ends = subst (λ (h : List (Step Command)). NothingFollows (rule_of as_nodes known.base) h known.log.items) (sym same) is.ends;
 }

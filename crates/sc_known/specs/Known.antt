@@ -27,8 +27,8 @@ abbrev pub IsChosenSoFar : {V : Type 0} → Rule V → List (Step V) → List V 
 IsChosenSoFar {V} rule h log = (k : ℕ) (value : V) → slice_get log k ≡ Some value → chosen_at (members_of rule log (k + 1)) h (k + 1) ≡ Some value
 
 -- nothing is chosen after a log
-abbrev pub Ends : {V : Type 0} → Rule V → List (Step V) → List V → Type 0
-Ends rule h log = chosen_at (members_of rule log (length log + 1)) h (length log + 1) ≡ None
+abbrev pub NothingFollows : {V : Type 0} → Rule V → List (Step V) → List V → Type 0
+NothingFollows rule h log = chosen_at (members_of rule log (length log + 1)) h (length log + 1) ≡ None
 
 -- what is kept of a group agrees with what was accepted for it
 pub record Tells (h : List (Step Command)) (base : Base) (kept : ℕ → List Acceptance) (log : List Command) (members : List (List ℕ)) (state behind : Group) : Type 0 where
@@ -57,7 +57,7 @@ Agrees h known = Tells h known.base (kept_of known) known.log.items known.member
 -- it is what rows tell of the group: all of its log
 pub record IsKnown (rows : List (Row Mail OrderLine)) (known : Known) : Type 0 where
   pub agrees : Agrees (accepts known.base.core.id rows) known
-  pub ends : Ends (rule_of as_nodes known.base) (accepts known.base.core.id rows) known.log.items
+  pub ends : NothingFollows (rule_of as_nodes known.base) (accepts known.base.core.id rows) known.log.items
 
 -- rows with one more, which accepts this for some group, or nothing
 abbrev pub Adds : Option (Draw × Acceptance) → List (Row Mail OrderLine) → List (Row Mail OrderLine) → Type 0

@@ -20,7 +20,7 @@ ghost use Rattle.sc_actor.specs.declared.rows.Row.{Row};
 ghost use Rattle.sc_known.specs.declared.accepting.Acceptance.{Acceptance};
 ghost use Rattle.sc_known.specs.Acceptances.{step_of, steps_of, steps_by};
 ghost use Rattle.sc_known.specs.Indexes.{listed_in, IsIndexed};
-ghost use Rattle.sc_known.specs.Known.{kept_of, Agrees, Ends, IsKnown, Adds, StaysKnown};
+ghost use Rattle.sc_known.specs.Known.{kept_of, Agrees, NothingFollows, IsKnown, Adds, StaysKnown};
 
 use crate::accepting::{Acceptance, accepts};
 use crate::choosing::chosen_at;
@@ -145,7 +145,7 @@ fn next_of(alloc: Global, known: &Known) -> Result<Option<Command>, OutOfMemory>
 fn advance(alloc: Global, known: &mut Known) -> Result<bool, OutOfMemory>
     ensures { IfOk result (λ childless. (h : List (Step Command)) → Agrees h known.old →
         Agrees h known.new × (known.new.base ≡ known.old.base) ×
-        Ends (rule_of as_nodes known.new.base) h known.new.log.items ×
+        NothingFollows (rule_of as_nodes known.new.base) h known.new.log.items ×
         (childless ≡ true → children_of (group_of known.new.base) known.new.log.items
         ≡ children_of (group_of known.old.base) known.old.log.items)) }
 {
@@ -230,7 +230,7 @@ fn take(alloc: Global, known: &mut Known, acceptance: &Acceptance) -> Result<boo
 }
 
 /// A group takes in what was accepted, if it was accepted for it.
-pub fn taken(
+pub fn taken_in(
     alloc: Global,
     mut known: Known,
     name: Draw,

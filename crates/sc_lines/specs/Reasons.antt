@@ -33,9 +33,9 @@ abbrev pub reason_text : ℕ → List ℕ
 reason_text why = get_or reasons why []
 
 -- what goes on with what was read; else the reason why nothing was
-abbrev pub given : {X Y : Type 0} → Option X → Reason → (X → Result Y Reason) → Result Y Reason
-given (Some x) reason onward = onward x
-given None reason onward = Err reason
+abbrev pub or_reason : {X Y : Type 0} → Option X → Reason → (X → Result Y Reason) → Result Y Reason
+or_reason (Some x) reason onward = onward x
+or_reason None reason onward = Err reason
 
 -- what goes on with what came out well; else the reason stays
 abbrev pub then_on : {X Y : Type 0} → Result X Reason → (X → Result Y Reason) → Result Y Reason

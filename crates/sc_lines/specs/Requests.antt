@@ -2,7 +2,7 @@
 use Rattle.std.specs.Prelude.{ℕ, List, Result, Ok}
 use Rattle.sc_base.specs.declared.ops.Op.{Op}
 use Rattle.sc_base.specs.declared.ops.Op.TheVariants.{Get, Put, Del, Add, Cas}
-use Rattle.sc_lines.specs.Reasons.{given}
+use Rattle.sc_lines.specs.Reasons.{or_reason}
 use Rattle.sc_lines.specs.Words.{nth, key_in, value_in}
 use Rattle.sc_lines.specs.declared.reasons.Reason.{Reason}
 use Rattle.sc_lines.specs.declared.reasons.Reason.TheVariants.{BadKey, BadValue}
@@ -11,11 +11,11 @@ use Rattle.sc_lines.specs.declared.kinds.RequestKind.TheVariants as kind
 
 -- what the second word spells as a key
 abbrev pub with_key : List (List ℕ) → (List ℕ → Result Op Reason) → Result Op Reason
-with_key words onward = given (key_in (nth words 1)) BadKey onward
+with_key words onward = or_reason (key_in (nth words 1)) BadKey onward
 
 -- what the word at this place spells as a value
 abbrev pub with_value : List (List ℕ) → ℕ → (List ℕ → Result Op Reason) → Result Op Reason
-with_value words place onward = given (value_in (nth words place)) BadValue onward
+with_value words place onward = or_reason (value_in (nth words place)) BadValue onward
 
 -- `get K`, `put K V`, `del K`, `add K V`, `cas K E V`: the key comes first
 abbrev pub request_in : RequestKind → List (List ℕ) → Result Op Reason

@@ -14,7 +14,7 @@ pub fn words_of(alloc: Global, line: &[u8]) -> Result<Vec<&[u8]>, AllocError>
 }
 
 /// The pieces between dots: one more than there are dots.
-pub fn parts_of(alloc: Global, word: &[u8]) -> Result<Vec<&[u8]>, AllocError>
+pub fn dotted_parts(alloc: Global, word: &[u8]) -> Result<Vec<&[u8]>, AllocError>
     ensures { IfOk result (λ parts. map (λ part. part.now) parts.items ≡ pieces 46 word.now) }
 {
     word.split(|byte| *byte == b'.').collect(alloc)

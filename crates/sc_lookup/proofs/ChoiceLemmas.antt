@@ -6,16 +6,16 @@ use Rattle.std.proofs.lemmas.List.Elements.{All-append}
 use Rattle.sc_base.specs.declared.names.Draw.{Draw}
 use Rattle.sc_lookup.specs.declared.ways.Way.{Way}
 use Rattle.sc_lookup.specs.Ways.{far}
-use Rattle.sc_lookup.specs.Known.{Known, nearer, better, chosen}
+use Rattle.sc_lookup.specs.Known.{KnownGroups, nearer, better, chosen}
 use Rattle.sc_lookup.specs.Choice.{IsNearest, ChoosesNearest}
 
 -- once there is a best group there is one
-pub some_best : (p : ℕ) (best : Draw × Way) (known : Known) → fold (better p) (Some best) known ≡ None → ⊥
+pub some_best : (p : ℕ) (best : Draw × Way) (known : KnownGroups) → fold (better p) (Some best) known ≡ None → ⊥
 some_best p best [] e = cc
 some_best p best (entry ∷ known) e = some_best p (nearer p best entry) known e
 
 -- where some group is known one is chosen
-pub some_chosen : (p : ℕ) (known : Known) → 1 ≤ length known → fold (better p) None known ≡ None → ⊥
+pub some_chosen : (p : ℕ) (known : KnownGroups) → 1 ≤ length known → fold (better p) None known ≡ None → ⊥
 some_chosen p [] some e = absurd (omega arith)
 some_chosen p (entry ∷ known) some e = some_best p entry known e
 
@@ -27,11 +27,11 @@ all_one P x holds zero d inside = holds
 all_one P x holds (suc k) d inside = absurd (omega arith)
 
 -- a group with what is known of it that is the nearest of a list
-abbrev pub Nearest : ℕ → Known → Draw × Way → Type 0
-Nearest p known best = (before : Known) × (after : Known) × (known ≡ before ++ best ∷ after) × All (λ (entry : Draw × Way). far p best.1 ≤ far p entry.1) before × All (λ (entry : Draw × Way). far p best.1 < far p entry.1) after
+abbrev pub Nearest : ℕ → KnownGroups → Draw × Way → Type 0
+Nearest p known best = (before : KnownGroups) × (after : KnownGroups) × (known ≡ before ++ best ∷ after) × All (λ (entry : Draw × Way). far p best.1 ≤ far p entry.1) before × All (λ (entry : Draw × Way). far p best.1 < far p entry.1) after
 
 -- where the best so far is the nearest of a list, the best in the end is the nearest of the whole
-nearest_on : (p : ℕ) (before mid rest : Known) (best chosen : Draw × Way)
+nearest_on : (p : ℕ) (before mid rest : KnownGroups) (best chosen : Draw × Way)
     → All (λ (entry : Draw × Way). far p best.1 ≤ far p entry.1) before → All (λ (entry : Draw × Way). far p best.1 < far p entry.1) mid
     → fold (better p) (Some best) rest ≡ Some chosen → Nearest p (before ++ best ∷ (mid ++ rest)) chosen
 nearest_on p before mid [] best chosen none_nearer each_farther e =
@@ -50,7 +50,7 @@ nearest_on p before mid (entry ∷ rest) best chosen none_nearer each_farther e 
           subst (λ l. Nearest p (before ++ best ∷ l) chosen) (append_assoc mid (entry ∷ []) rest) (nearest_on p before (mid ++ entry ∷ []) rest best chosen none_nearer (All-append nearer_than mid (entry ∷ []) each_farther (all_one nearer_than entry away)) h)
     ] refl e
 
-as_nearest : (p : ℕ) (known : Known) (best : Draw × Way) → Nearest p known best → IsNearest p known best.0
+as_nearest : (p : ℕ) (known : KnownGroups) (best : Draw × Way) → Nearest p known best → IsNearest p known best.0
 as_nearest p known best is = record { before = is.0; way = best.1; after = is.1; stands = is.2; none_nearer = is.3; each_farther = is.4 }
 
 -- the chosen group is the nearest

@@ -8,7 +8,7 @@ use Rattle.sc_base.specs.Same.{same_draw}
 use Rattle.sc_lookup.specs.declared.ways.Way.{Way}
 use Rattle.std.specs.Prelude.{is_some, Result, Ok, Err, OnOk, IsOk}
 use Rattle.sc_lookup.specs.Ways.{new_way}
-use Rattle.sc_lookup.specs.Known.{Known, way_to, changed, group_learnt}
+use Rattle.sc_lookup.specs.Known.{KnownGroups, way_to, changed, group_learnt}
 
 -- to change what is known of a group that is not known changes nothing
 pub set_value-none : {K X : Type 0} (test : K → Bool) (es : List (K × X)) (w : X) → lookup test es ≡ None → set_value test es w ≡ es
@@ -28,19 +28,19 @@ insert_entry-last eq (f ∷ es) k w e =
       | false ↦ λ h. ap (λ l. f ∷ l) (insert_entry-last eq es k w h)
     ] e
 
-pub length-changed : (change : Way → Way) (group : Draw) (known : Known) (way : Option Way) → length (changed change group known way) ≡ length known
+pub length-changed : (change : Way → Way) (group : Draw) (known : KnownGroups) (way : Option Way) → length (changed change group known way) ≡ length known
 length-changed change group known None = refl
 length-changed change group known (Some way) = length-set_value (same_draw group) known (change way)
 
-some_added : (known : Known) (entry : Draw × Way) → 1 ≤ length (known ++ entry ∷ [])
+some_added : (known : KnownGroups) (entry : Draw × Way) → 1 ≤ length (known ++ entry ∷ [])
 some_added known entry = omega (arith, length-append known (entry ∷ []))
 
-some_known : (group : Draw) (known : Known) (way : Way) → way_to group known ≡ Some way → 1 ≤ length known
+some_known : (group : Draw) (known : KnownGroups) (way : Way) → way_to group known ≡ Some way → 1 ≤ length known
 some_known group [] way e = absurd (cc)
 some_known group (f ∷ known) way e = omega arith
 
 -- after a group was learnt some group is known
-pub some_learnt : (group : Draw) (lo : ℕ) (members : List ℕ) (known : Known) → 1 ≤ length (group_learnt group lo members known)
+pub some_learnt : (group : Draw) (lo : ℕ) (members : List ℕ) (known : KnownGroups) → 1 ≤ length (group_learnt group lo members known)
 some_learnt group lo members known =
     elim (way_to group known) as (λ o. way_to group known ≡ o → 1 ≤ length (cond (is_some o) (changed (λ way. record way { lo = lo }) group known o) (known ++ (group, new_way lo members) ∷ []))) [
       | None ↦ λ e. some_added known (group, new_way lo members)

@@ -3,17 +3,17 @@ use Rattle.std.specs.Prelude.{◌≡◌, ℕ, ◌<◌, ◌≤◌, List, ◌∷�
 use Rattle.sc_base.specs.declared.names.Draw.{Draw}
 use Rattle.sc_lookup.specs.declared.ways.Way.{Way}
 use Rattle.sc_lookup.specs.Ways.{far}
-use Rattle.sc_lookup.specs.Known.{Known, chosen}
+use Rattle.sc_lookup.specs.Known.{KnownGroups, chosen}
 
 -- a group stands among the known ones, none before it is nearer, and each after it is farther
-pub record IsNearest (p : ℕ) (known : Known) (group : Draw) : Type 0 where
-  pub before : Known
+pub record IsNearest (p : ℕ) (known : KnownGroups) (group : Draw) : Type 0 where
+  pub before : KnownGroups
   pub way : Way
-  pub after : Known
+  pub after : KnownGroups
   pub stands : known ≡ before ++ (group, way) ∷ after
   pub none_nearer : All (λ (entry : Draw × Way). far p way ≤ far p entry.1) before
   pub each_farther : All (λ (entry : Draw × Way). far p way < far p entry.1) after
 
 -- the chosen group is the nearest, and among equals the one that stands last
 abbrev pub ChoosesNearest : Type 0
-ChoosesNearest = (p : ℕ) (known : Known) (group : Draw) → chosen p known ≡ Some group → IsNearest p known group
+ChoosesNearest = (p : ℕ) (known : KnownGroups) (group : Draw) → chosen p known ≡ Some group → IsNearest p known group

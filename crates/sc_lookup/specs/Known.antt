@@ -11,11 +11,11 @@ use Rattle.sc_lookup.specs.declared.ways.Way.{Way}
 use Rattle.sc_lookup.specs.Ways.{far, new_way, next_target, target_of}
 
 -- each group with what is known of it
-abbrev pub Known : Type 0
-Known = List (Draw × Way)
+abbrev pub KnownGroups : Type 0
+KnownGroups = List (Draw × Way)
 
 -- what is known of a group
-abbrev pub way_to : Draw → Known → Option Way
+abbrev pub way_to : Draw → KnownGroups → Option Way
 way_to group known = lookup (same_draw group) known
 
 -- the nearer of two groups to a position, by their starts; where both are as far, the second
@@ -28,44 +28,44 @@ better p None entry = Some entry
 better p (Some best) entry = Some (nearer p best entry)
 
 -- the group whose start lies nearest at or before a position; among equals the one that stands last
-abbrev pub chosen : ℕ → Known → Option Draw
+abbrev pub chosen : ℕ → KnownGroups → Option Draw
 chosen p known = option_map (λ entry. entry.0) (fold (better p) None known)
 
 -- the node to be asked of a group
-abbrev pub target_in : Draw → Known → Option ℕ
+abbrev pub target_in : Draw → KnownGroups → Option ℕ
 target_in group known = option_map target_of (way_to group known)
 
 -- the member after that node
-abbrev pub next_in : Draw → Known → Option ℕ
+abbrev pub next_in : Draw → KnownGroups → Option ℕ
 next_in group known = option_map next_target (way_to group known)
 
 -- a known group is changed in its place, and one that is not known changes nothing
-abbrev pub changed : (Way → Way) → Draw → Known → Option Way → Known
+abbrev pub changed : (Way → Way) → Draw → KnownGroups → Option Way → KnownGroups
 changed change group known None = known
 changed change group known (Some way) = set_value (same_draw group) known (change way)
 
 -- a node becomes the preferred one of a group
-abbrev pub preferring : Draw → ℕ → Known → Known
+abbrev pub preferring : Draw → ℕ → KnownGroups → KnownGroups
 preferring group node known = changed (λ way. record way { preferred = Some node }) group known (way_to group known)
 
 -- the member after the node to be asked becomes the preferred one
-abbrev pub passed_on : Draw → Known → Known
+abbrev pub passed_on : Draw → KnownGroups → KnownGroups
 passed_on group known = changed (λ way. record way { preferred = Some (next_target way) }) group known (way_to group known)
 
 -- a known group's arc starts elsewhere
-abbrev pub starting : Draw → ℕ → Known → Known
+abbrev pub starting : Draw → ℕ → KnownGroups → KnownGroups
 starting group lo known = changed (λ way. record way { lo = lo }) group known (way_to group known)
 
 -- a known group's arc starts elsewhere, and a group that was not known goes last
-abbrev pub group_learnt : Draw → ℕ → List ℕ → Known → Known
+abbrev pub group_learnt : Draw → ℕ → List ℕ → KnownGroups → KnownGroups
 group_learnt group lo members known =
     if is_some (way_to group known) then starting group lo known
     else known ++ (group, new_way lo members) ∷ []
 
 -- a group told its arc and its successor, which starts at the arc's end
-abbrev pub told_not_mine : Draw → Arc → Link → Known → Known
+abbrev pub told_not_mine : Draw → Arc → Link → KnownGroups → KnownGroups
 told_not_mine group arc succ known = group_learnt succ.group (end_of arc) succ.members (starting group arc.lo known)
 
 -- a group told that it went into another
-abbrev pub told_gone : Draw → Route → Known → Known
+abbrev pub told_gone : Draw → Route → KnownGroups → KnownGroups
 told_gone group into known = group_learnt into.group into.lo into.members (remove_entry (same_draw group) known)

@@ -23,9 +23,9 @@ pub struct Routes {
 
 impl Model for Routes {
     ghost use Rattle.std.specs.Prelude.{◌≤◌, length};
-    ghost use Rattle.sc_lookup.specs.Known.{Known};
+    ghost use Rattle.sc_lookup.specs.Known.{KnownGroups};
 
-    ghost Value = { Known };
+    ghost Value = { KnownGroups };
 
     ghost view = { λ r. r.known.entries };
 

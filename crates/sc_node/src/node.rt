@@ -14,7 +14,7 @@ use sc_actor::{Actor, Input};
 use sc_base::{Draw, Draws, Dup, OutOfMemory, Sequence};
 use sc_cmd::{Base, OrderLine};
 use sc_mail::{Mail, MailBody};
-use sc_node_choices::{on_tick, place_of};
+use sc_node_choices::{on_tick, replica_place};
 use sc_replica::Replica;
 use std::alloc::Global;
 use std::marker::Model;
@@ -171,7 +171,7 @@ impl NodeCore {
             taken_by (replica_of group self.old.replicas) group from body.now self.old
             ≡ (self.new, sent)) }
     {
-        match place_of(self, group) {
+        match replica_place(self, group) {
             None => self.take_unknown(alloc, from, body),
             Some(i) => self.take_at(alloc, i, group, from, body),
         }

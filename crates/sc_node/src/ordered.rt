@@ -12,7 +12,7 @@ use crate::orders::on_order;
 use sc_base::{Draw, OutOfMemory, Sequence};
 use sc_cmd::{Order, OrderLine, OrderRefusal, ToldResult};
 use sc_mail::{DESK, Mail, MailBody};
-use sc_node_choices::place_of;
+use sc_node_choices::replica_place;
 use std::alloc::Global;
 
 /// The group of an order.
@@ -54,7 +54,7 @@ impl NodeCore {
     ) -> Result<Sequence<Mail>, OutOfMemory>
         ensures { IfOk result (λ sent. on_order line.now self.old ≡ (self.new, sent)) }
     {
-        match place_of(self, group_of_order(&line.order)) {
+        match replica_place(self, group_of_order(&line.order)) {
             None => tell_unknown(alloc, self.me, line.number),
             Some(i) => self.take_order_at(alloc, i, line),
         }

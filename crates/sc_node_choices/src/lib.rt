@@ -8,5 +8,5 @@ mod places;
 mod ticks;
 
 pub use holders::Holder;
-pub use places::{has_replica, place_of};
+pub use places::{has_replica, replica_place};
 pub use ticks::on_tick;

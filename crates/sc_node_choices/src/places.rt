@@ -32,7 +32,7 @@ fn first_at<H: Holder>(holder: &H, group: Draw) -> Option<usize>
 
 /// The place of a group's replica, if there is one.
 #[tactic(auto, using(crate::proofs::Standing::place_is))]
-pub fn place_of<H: Holder>(holder: &H, group: Draw) -> Option<usize>
+pub fn replica_place<H: Holder>(holder: &H, group: Draw) -> Option<usize>
     ensures { IsPlaceOf group (H.node holder.now).replicas result }
 {
     first_at(holder, group)

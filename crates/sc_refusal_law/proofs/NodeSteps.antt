@@ -28,7 +28,7 @@ use Rattle.sc_node_table.specs.Rows.{tick_row, looked_up, made_by, mailed, stepp
 use Rattle.sc_node_table.specs.Slots.{slots_ahead}
 use Rattle.sc_law_lemmas.proofs.Ways.{either_way}
 use Rattle.sc_refusal_law.specs.Causes.{NamesNoLeader}
-use Rattle.sc_refusal_law.specs.NodeCauses.{own_step, Takes, MailHasCause, ActsHaveCauses, NodeHasCauses, NodesHaveCauses}
+use Rattle.sc_refusal_law.specs.NodeCauses.{own_step, TakesInput, MailHasCause, ActsHaveCauses, NodeHasCauses, NodesHaveCauses}
 use Rattle.sc_refusal_law.proofs.Joining.{tick_behind}
 use Rattle.sc_refusal_law.proofs.Steps.{steps_have_causes}
 use Rattle.sc_refusal_law.proofs.Strangers.{unknown_says}
@@ -149,10 +149,10 @@ module _ (node : NodeState) (input : ReplicaInput) where
   still = record { answers = tt; acts = untouched }
 
   -- one that takes a step
-  stepped_acts : (drawer : Drawer) (r : ReplicaState) → Among r node.replicas → Takes node input r → Acts (own_step node drawer input r).0
+  stepped_acts : (drawer : Drawer) (r : ReplicaState) → Among r node.replicas → TakesInput node input r → Acts (own_step node drawer input r).0
   stepped_acts drawer r stood takes tx queued = record { replica = r; stood = stood; drawer = drawer; is_later = inr (takes, refl); may = (steps_have_causes node.policy drawer r input).acts tx queued }
 
-  stepped_mails : (after : NodeState) (drawer : Drawer) (r : ReplicaState) → Takes node input r → Among (own_step node drawer input r).0 after.replicas → Each (λ (mail : Mail). MailHasCause node after input mail) (own_step node drawer input r).1
+  stepped_mails : (after : NodeState) (drawer : Drawer) (r : ReplicaState) → TakesInput node input r → Among (own_step node drawer input r).0 after.replicas → Each (λ (mail : Mail). MailHasCause node after input mail) (own_step node drawer input r).1
   stepped_mails after drawer r takes stands =
       Each-from (λ (mail : Mail). MailHasCause node after input mail) (own_step node drawer input r).1
       (λ mail sends. inl (record { replica = r; takes = takes; drawer = drawer; stands = stands; sends = sends; causes = steps_have_causes node.policy drawer r input }))

@@ -24,7 +24,7 @@ use Rattle.sc_node_table.specs.Queues.{call_of}
 use Rattle.sc_node_table.specs.Replica.{ReplicaState, Place, name_of, next, members, last_slot, forgotten}
 use Rattle.sc_node_table.specs.Rows.{refused_at, queued, requested, request_row, looked_up, took_over, install_row, mailed, stepped}
 use Rattle.sc_law_lemmas.proofs.Ways.{either_way}
-use Rattle.sc_refusal_law.specs.Causes.{IsBroughtBy, IsAsked, LeadsNoMore, AnswerHasCause, BodyHasCause, MayGiveUp, IsTakenOver, StepHasCauses, StepsHaveCauses, IsNotLeader, RunningReplicasTakeRequests}
+use Rattle.sc_refusal_law.specs.Causes.{IsBroughtBy, IsHeldOrBrought, LeadsNoMore, AnswerHasCause, BodyHasCause, MayGiveUp, IsTakenOver, StepHasCauses, StepsHaveCauses, IsNotLeader, RunningReplicasTakeRequests}
 use Rattle.sc_refusal_law.proofs.Keeping.{Kept, Holds}
 use Rattle.sc_refusal_law.proofs.Plain.{answer_weaker, all_plain}
 use Rattle.sc_refusal_law.proofs.Standing.{Caused, CausedAnswer, CausedBody, caused_plain, Fine}
@@ -35,7 +35,7 @@ use Rattle.sc_refusal_law.proofs.Rows.{Untaken, refusal_by, queued_so, request_f
 
 module _ (start : ReplicaState) (input : ReplicaInput) where
   abbrev A : Command → Type 0
-  A command = IsAsked start input command
+  A command = IsHeldOrBrought start input command
 
   abbrev G : Draw → Type 0
   G tx = MayGiveUp start input tx

@@ -33,8 +33,8 @@ use Rattle.sc_node_table.specs.Rows.{stepped}
 -- ---- what was asked
 
 -- a replica holds a command: it waits, its leader has it in flight or counted, or it was reported to its leader
-abbrev pub IsHeld : ReplicaState → Command → Type 0
-IsHeld r command =
+abbrev pub HoldsCommand : ReplicaState → Command → Type 0
+HoldsCommand r command =
     Among command r.calls ⊎ (Among command r.acts ⊎ (Among command (map (λ flight. flight.value) r.leader.flights) ⊎ (Among command (map (λ counted. counted.1) r.ready) ⊎ Among command (map (λ report. report.value) r.leader.reports))))
 
 -- a mail brings a command: a request its call, a promise what it reports
@@ -64,8 +64,8 @@ IsBrought Given.Tick command = ⊥
 IsBrought (Given.Told line) command = ⊥
 
 -- what a replica was asked: it holds it, or its input brings it
-abbrev pub IsAsked : ReplicaState → ReplicaInput → Command → Type 0
-IsAsked r input command = IsHeld r command ⊎ IsBrought input command
+abbrev pub IsHeldOrBrought : ReplicaState → ReplicaInput → Command → Type 0
+IsHeldOrBrought r input command = HoldsCommand r command ⊎ IsBrought input command
 
 -- ---- what was executed
 
@@ -144,7 +144,7 @@ BodyHasCause asked r after entries to body = IfAnswer (λ seq answer. AnswerHasC
 -- a coordinator gives up only where it was to do so already, or at a tick: settled, and locked for at least so many ticks of its leadership
 abbrev pub MayGiveUp : ReplicaState → ReplicaInput → Draw → Type 0
 MayGiveUp r input tx =
-    IsAsked r input (GiveUp tx)
+    IsHeldOrBrought r input (GiveUp tx)
     ⊎ ((input ≡ Given.Tick) × (settled r ≡ true) × (8 ≤ r.waits + 1) × ((body : Body) × (order : ℕ) × (heard : Option Heard) × (r.group.core.lock ≡ Coordinating tx body order heard)))
 
 -- ---- the laws
@@ -157,7 +157,7 @@ IsTakenOver input = (mail : Mail) × (input ≡ Given.Got mail) × ((group : Dra
 pub record StepHasCauses (r : ReplicaState) (input : ReplicaInput) (step : Place) : Type 0 where
   pub entries : List Command
   pub executed : HasExecuted r step.0 entries ⊎ ((entries ≡ []) × IsTakenOver input)
-  pub answers : Each (λ (mail : Mail). BodyHasCause (IsAsked r input) r step.0 entries mail.to mail.body) step.1
+  pub answers : Each (λ (mail : Mail). BodyHasCause (IsHeldOrBrought r input) r step.0 entries mail.to mail.body) step.1
   pub acts : (tx : Draw) → Among (GiveUp tx) step.0.acts → MayGiveUp r input tx
 
 -- every step of a replica is so

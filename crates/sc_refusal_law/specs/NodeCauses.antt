@@ -26,11 +26,11 @@ abbrev pub own_step : NodeState → Drawer → ReplicaInput → ReplicaState →
 own_step node drawer input r = stepped node.policy drawer input (r, [])
 
 -- a replica of a node takes an input: it is that of the group that a mail or an order is for, and each takes a tick
-abbrev pub Takes : NodeState → ReplicaInput → ReplicaState → Type 0
-Takes node (Given.Got mail) r =
+abbrev pub TakesInput : NodeState → ReplicaInput → ReplicaState → Type 0
+TakesInput node (Given.Got mail) r =
     (group : Draw) × (group_of_mail mail.body ≡ Some group) × (replica_of group node.replicas ≡ Some r)
-Takes node (Given.Told line) r = replica_of (group_of_order line.order) node.replicas ≡ Some r
-Takes node Given.Tick r = Among r node.replicas
+TakesInput node (Given.Told line) r = replica_of (group_of_order line.order) node.replicas ≡ Some r
+TakesInput node Given.Tick r = Among r node.replicas
 
 -- a node has no replica of the group that a mail or an order is for
 abbrev pub IsStranger : NodeState → ReplicaInput → Type 0
@@ -42,7 +42,7 @@ IsStranger node Given.Tick = ⊥
 -- a mail of a node is sent in the step of a replica that takes the input, each refusal of which has its cause
 pub record IsOfReplica (node after : NodeState) (input : ReplicaInput) (mail : Mail) : Type 0 where
   pub replica : ReplicaState
-  pub takes : Takes node input replica
+  pub takes : TakesInput node input replica
   pub drawer : Drawer
   pub stands : Among (own_step node drawer input replica).0 after.replicas
   pub sends : Among mail (own_step node drawer input replica).1
@@ -60,7 +60,7 @@ pub record MayGiveUpAt (node : NodeState) (input : ReplicaInput) (later : Replic
   pub drawer : Drawer
   pub is_later :
       (later ≡ replica)
-      ⊎ (Takes node input replica × (later ≡ (own_step node drawer input replica).0))
+      ⊎ (TakesInput node input replica × (later ≡ (own_step node drawer input replica).0))
   pub may : MayGiveUp replica input tx
 
 -- each end of waiting that a replica has queued after a node's step has its cause

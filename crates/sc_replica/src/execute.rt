@@ -14,7 +14,7 @@ use sc_cmd::{Command, Effect, ToldResult};
 use sc_mail::{AnswerBody, Mail};
 use sc_member::Members;
 use sc_replica_choices::{not_among, same_command, waits_in};
-use sc_replica_parts::{answer, drop_ready, order_in, ready_at, tell_order};
+use sc_replica_parts::{answer, drop_ready, order_number, ready_at, tell_order};
 
 /// What the effect of a call tells its client; no answer where the call has to wait.
 fn answer_of(effect: Effect) -> Option<AnswerBody>
@@ -131,7 +131,7 @@ impl Replica {
             ((self.now, out.new) ≡ told_effect told command.now (self.now, out.old)) }
     {
         match told {
-            Some(result) => tell_order(self.me, order_in(command), result, out),
+            Some(result) => tell_order(self.me, order_number(command), result, out),
             None => Ok(()),
         }
     }

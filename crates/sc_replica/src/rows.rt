@@ -16,7 +16,7 @@ use crate::replica::Replica;
 use sc_base::{Op, OutOfMemory, Sequence};
 use sc_mail::{Mail, MailBody};
 use sc_member::Members;
-use sc_replica_choices::{refusal, uncounted};
+use sc_replica_choices::{call_refusal, uncounted};
 use sc_replica_parts::{add_call, answer, call_of, drop_call, send};
 
 impl Replica {
@@ -56,7 +56,7 @@ impl Replica {
         ensures { OnOk result
             ((self.new, out.new) ≡ request_row client seq op.now (self.old, out.old)) }
     {
-        match refusal(self.machine.core(), self.running, self.hint, op) {
+        match call_refusal(self.machine.core(), self.running, self.hint, op) {
             Some(body) => answer(self.me, self.name(), client, seq, body, out),
             None => self.queue(client, seq, op, out),
         }

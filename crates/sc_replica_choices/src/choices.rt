@@ -31,7 +31,7 @@ fn holds_key(arc: &RingArc, op: &Op) -> bool
 
 /// Why a request is not taken, the first that holds: the group is gone, the replica does not run,
 /// or another group has the key. Whatever it asks for, a request that is taken waits for a slot.
-pub fn refusal(core: &Core, running: bool, hint: Option<u16>, op: &Op) -> Option<AnswerBody>
+pub fn call_refusal(core: &Core, running: bool, hint: Option<u16>, op: &Op) -> Option<AnswerBody>
     ensures { result ≡ call_refusal core.now.gone core.now running hint op.now }
 {
     if let Some(into) = &core.gone {

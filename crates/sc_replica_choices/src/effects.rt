@@ -7,7 +7,7 @@ ghost use Rattle.sc_node_table.specs.Spoken.{decided_in};
 use sc_cmd::{Effect, Outcome};
 
 /// Whether an entry decided an outcome. One without effect decided none, whatever it was to decide.
-pub fn has_decided(effect: &Effect) -> bool
+pub fn has_outcome(effect: &Effect) -> bool
     ensures { MatchBool result ((outcome : Outcome) × (decided_in effect.now ≡ Some outcome))
         (decided_in effect.now ≡ None) }
 {

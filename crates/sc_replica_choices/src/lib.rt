@@ -12,9 +12,9 @@ mod noted;
 mod open_sets;
 
 pub use acts::{has_kind, is_of_kind};
-pub use choices::{floor_of, is_at_rest, refusal, turned_down, waits, waits_in};
+pub use choices::{floor_of, is_at_rest, call_refusal, turned_down, waits, waits_in};
 pub use commands::{is_act, same_command};
-pub use effects::{decided_in, has_decided};
+pub use effects::{decided_in, has_outcome};
 pub use nodes::{nodes_to, not_among, uncounted};
 pub use noted::{awaits_vote, awaits_watch, is_bound, noted_outcome, standing_vote};
 pub use open_sets::Sets;

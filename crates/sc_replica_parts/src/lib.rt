@@ -9,7 +9,7 @@ mod ready;
 mod rounds;
 
 pub use executed_log::Entries;
-pub use mails::{answer, answer_command, dismiss_all, order_in, send, tell_desk, tell_order};
+pub use mails::{answer, answer_command, dismiss_all, order_number, send, tell_desk, tell_order};
 pub use queues::{
     add_call, call_of, drop_call, head, is_empty, push_back, push_front, put_call, take_head,
 };

@@ -82,7 +82,7 @@ pub fn tell_desk(
 }
 
 /// The number of the order that a command is of: 0 where a policy made it, and where it is of none.
-pub fn order_in(command: &Command) -> u32
+pub fn order_number(command: &Command) -> u32
     ensures { result ≡ order_number command.now }
 {
     match command {
@@ -137,7 +137,7 @@ fn dismiss(
         }
         _ => {
             let why = OrderRefusal::NotLeader { hint };
-            tell_order(me, order_in(command), ToldResult::Refused(why), out)
+            tell_order(me, order_number(command), ToldResult::Refused(why), out)
         }
     }
 }

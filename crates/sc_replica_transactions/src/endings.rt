@@ -10,7 +10,7 @@ use sc_base::{Draw, OutOfMemory, Sequence};
 use sc_cmd::{Effect, Link, Outcome, Past, Vote};
 use sc_mail::{Mail, MailBody};
 use sc_node_table::Before;
-use sc_replica_choices::{decided_in, has_decided};
+use sc_replica_choices::{decided_in, has_outcome};
 use sc_replica_parts::send;
 use std::alloc::Global;
 
@@ -70,7 +70,7 @@ pub(crate) fn give_up(
     ensures { OnOk result
         (out.new ≡ given_up_by (decided_in effect.now) me before.now tx out.old) }
 {
-    if !has_decided(effect) {
+    if !has_outcome(effect) {
         return Ok(());
     }
     abort_to(me, tx, &before.succ, out)?;

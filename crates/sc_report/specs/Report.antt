@@ -21,16 +21,16 @@ abbrev pub count_line : List ℕ → ℕ → List ℕ
 count_line label n = with_line_feed (label ++ decimal n)
 
 -- the word of an operation
-abbrev pub word_of : Op → List ℕ
-word_of (Get key) = codes "get"
-word_of (Put key value) = codes "put"
-word_of (Del key) = codes "del"
-word_of (Add key value) = codes "add"
-word_of (Cas key expect value) = codes "cas"
+abbrev pub op_word : Op → List ℕ
+op_word (Get key) = codes "get"
+op_word (Put key value) = codes "put"
+op_word (Del key) = codes "del"
+op_word (Add key value) = codes "add"
+op_word (Cas key expect value) = codes "cas"
 
 -- `WHAT C N OP`
 abbrev pub request : List ℕ → Asked → List ℕ
-request what asked = what ++ decimal asked.client ++ codes " " ++ decimal asked.seq ++ codes " " ++ word_of asked.op
+request what asked = what ++ decimal asked.client ++ codes " " ++ decimal asked.seq ++ codes " " ++ op_word asked.op
 
 -- a request and its reply
 abbrev pub replied : Option (List ℕ) → Asked → List ℕ

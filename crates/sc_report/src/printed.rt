@@ -3,7 +3,7 @@ ghost use Rattle.std.specs.Prelude.{◌≡◌, ◌++◌, ◌∷◌, [], map, IfO
 ghost use Rattle.sc_report.specs.Report.{count_line, request, replied, asked_line, answered_line, asked_lines, is_replied, told_line, told_lines, ring_line, quiet_line, counts, report_lines};
 
 use crate::summaries::{Asked, Progress, Summary};
-use crate::texts::{add_end, add_nodes, add_number, add_text, counted, word_of};
+use crate::texts::{add_end, add_nodes, add_number, add_text, counted, op_word};
 use sc_base::{OutOfMemory, Sequence, Value};
 use sc_cmd::{Route, ToldResult};
 use std::alloc::Global;
@@ -62,7 +62,7 @@ fn request(alloc: Global, what: &[u8], asked: &Asked) -> Result<Vec<u8>, OutOfMe
     add_text(&mut line, b" ")?;
     add_number(alloc, &mut line, asked.seq as u64)?;
     add_text(&mut line, b" ")?;
-    add_text(&mut line, word_of(&asked.op))?;
+    add_text(&mut line, op_word(&asked.op))?;
     Ok(line)
 }
 

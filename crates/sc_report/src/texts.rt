@@ -1,7 +1,7 @@
 //! The pieces that lines are made of.
 ghost use Rattle.std.specs.Prelude.{◌≡◌, ◌++◌, ◌∷◌, [], IfOk, OnOk};
 ghost use Rattle.std.specs.Fmt.{decimal};
-ghost use Rattle.sc_report.specs.Report.{with_nodes, count_line, word_of};
+ghost use Rattle.sc_report.specs.Report.{with_nodes, count_line, op_word};
 
 use sc_base::{Op, OutOfMemory};
 use std::alloc::Global;
@@ -53,8 +53,8 @@ pub fn counted(alloc: Global, label: &[u8], n: u64) -> Result<Vec<u8>, OutOfMemo
 }
 
 /// The word of an operation.
-pub fn word_of(op: &Op) -> &'static [u8]
-    ensures { result.now ≡ word_of op.now }
+pub fn op_word(op: &Op) -> &'static [u8]
+    ensures { result.now ≡ op_word op.now }
 {
     match op {
         Op::Get { .. } => b"get",

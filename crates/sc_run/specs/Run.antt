@@ -23,9 +23,9 @@ use Rattle.sc_run.specs.Played.{mail_weight, HasFilled}
 use Rattle.sc_run.specs.declared.done.Text.{Text}
 use Rattle.sc_run.specs.declared.done.Done.{Done}
 use Rattle.sc_statuses.specs.Causes.{Prints}
-use Rattle.sc_words.specs.Asked.{asked_by}
-use Rattle.sc_words.specs.declared.asked.Asked.{Asked}
-use Rattle.sc_words.specs.declared.asked.Asked.TheVariants as ask
+use Rattle.sc_words.specs.Subcommands.{subcommand_by}
+use Rattle.sc_words.specs.declared.subcommands.Subcommand.{Subcommand}
+use Rattle.sc_words.specs.declared.subcommands.Subcommand.TheVariants as ask
 use Rattle.sc_wants.specs.Wants.{fault_text, ReadsAs, ReadsText, ReadsFile}
 use Rattle.sc_statuses.specs.declared.said.Said.{Said}
 use Rattle.sc_statuses.specs.declared.said.Said.TheVariants as said
@@ -37,7 +37,7 @@ abbrev pub usage : List ℕ
 usage = codes "usage: scatter run | scatter make N S | scatter journal | scatter audit"
 
 -- the one line of a text that is about no journal
-pub record Tells (message : List ℕ) (text : Text) : Type 0 where
+pub record TellsLine (message : List ℕ) (text : Text) : Type 0 where
   pub lines : text.lines ≡ (message ++ 10 ∷ []) ∷ []
   pub journal : text.journal ≡ None
   pub parties : text.parties ≡ []
@@ -112,7 +112,7 @@ pub record ReadsAndRefuses (left : Option (List ℕ)) (text : Text) : Type 0 whe
   pub line : ℕ
   pub why : ℕ
   pub read : ReadsAs left (Err (Bad line why))
-  pub tells : Tells (fault_text line why) text
+  pub tells : TellsLine (fault_text line why) text
 
 -- What a text says that was begun after the word `run`, and its cause: the bytes that the source had left, and its count of faults before and after.
 abbrev pub Reads : Option (List ℕ) → ℕ → ℕ → Said → Text → Type 0
@@ -121,7 +121,7 @@ Reads left before now Unsettled text = ReadsAndPlays left Unsettled text
 Reads left before now Filled text = ReadsAndPlays left Filled text
 Reads left before now Usage text = ⊥
 Reads left before now BadScenario text = ReadsAndRefuses left text
-Reads left before now ReadFault text = Rose before now × Tells (codes "read fault") text
+Reads left before now ReadFault text = Rose before now × TellsLine (codes "read fault") text
 Reads left before now said.Lawful text = ⊥
 Reads left before now said.Unlawful text = ⊥
 
@@ -132,7 +132,7 @@ Keeps left before now Unsettled text = ReadsAndStores left Unsettled text
 Keeps left before now Filled text = ReadsAndStores left Filled text
 Keeps left before now Usage text = ⊥
 Keeps left before now BadScenario text = ReadsAndRefuses left text
-Keeps left before now ReadFault text = Rose before now × Tells (codes "read fault") text
+Keeps left before now ReadFault text = Rose before now × TellsLine (codes "read fault") text
 Keeps left before now said.Lawful text = ⊥
 Keeps left before now said.Unlawful text = ⊥
 
@@ -185,7 +185,7 @@ pub record ReadsBadFile (left : Option (List ℕ)) (text : Text) : Type 0 where
   pub line : ℕ
   pub why : ℕ
   pub bad : IfSome left (λ input. IsBadFile input line why)
-  pub tells : Tells (fault_text line why) text
+  pub tells : TellsLine (fault_text line why) text
 
 -- What a text says that was begun after the word `audit`, and its cause.
 abbrev pub Audits : Option (List ℕ) → ℕ → ℕ → Said → Text → Type 0
@@ -194,13 +194,13 @@ Audits left before now Unsettled text = ⊥
 Audits left before now Filled text = ⊥
 Audits left before now Usage text = ⊥
 Audits left before now BadScenario text = ReadsBadFile left text
-Audits left before now ReadFault text = Rose before now × Tells (codes "read fault") text
+Audits left before now ReadFault text = Rose before now × TellsLine (codes "read fault") text
 Audits left before now said.Lawful text = ReadsAndAudits left said.Lawful text
 Audits left before now said.Unlawful text = ReadsAndAudits left said.Unlawful text
 
 -- What a text says that was begun where the words ask for this: the usage line, what was read, or what comes of a made scenario.
-abbrev pub SaysFor : Option Asked → Option (List ℕ) → ℕ → ℕ → Said → Text → Type 0
-SaysFor None left before now said text = (said ≡ Usage) × Tells usage text
+abbrev pub SaysFor : Option Subcommand → Option (List ℕ) → ℕ → ℕ → Said → Text → Type 0
+SaysFor None left before now said text = (said ≡ Usage) × TellsLine usage text
 SaysFor (Some ask.Run) left before now said text = Reads left before now said text
 SaysFor (Some ask.Journal) left before now said text = Keeps left before now said text
 SaysFor (Some ask.Audit) left before now said text = Audits left before now said text
@@ -208,7 +208,7 @@ SaysFor (Some (ask.Make n seed)) left before now said text = IsValid (made_scena
 
 -- the same for any words
 abbrev pub Says : List (List ℕ) → Option (List ℕ) → ℕ → ℕ → Said → Text → Type 0
-Says words left before now said text = SaysFor (asked_by words) left before now said text
+Says words left before now said text = SaysFor (subcommand_by words) left before now said text
 
 -- A text was begun and printed, each line by one call of the sink, and the run hands back what it was about.
 pub record Printed (words : List (List ℕ)) (left : Option (List ℕ)) (reads reads' : ℕ) (held held' : Option (List ℕ)) (pieces pieces' : Option (List (List ℕ))) (writes writes' puts puts' : ℕ) (done : Done) : Type 0 where

@@ -1,9 +1,9 @@
 //! From the words and bytes that come in to the bytes that go out.
 ghost use Rattle.std.specs.Prelude.{◌≡◌, ◌≤◌, ◌+◌, map, false, string_bytes, codes, IfOk};
-ghost use Rattle.sc_words.specs.Asked.{reads_input};
+ghost use Rattle.sc_words.specs.Subcommands.{reads_input};
 ghost use Rattle.sc_wants.specs.Wants.{fault_text, most_takes};
 ghost use Rattle.sc_statuses.specs.declared.said.Said.TheVariants.{Usage, ReadFault, BadScenario};
-ghost use Rattle.sc_run.specs.Run.{usage, Tells, Says, Runs};
+ghost use Rattle.sc_run.specs.Run.{usage, TellsLine, Says, Runs};
 
 use crate::auditing::audit;
 use crate::done::{Done, Text};
@@ -21,7 +21,7 @@ use std::thread::Threads;
 // The text about a bad line.
 fn refuse(alloc: Global, line: u32, why: u8) -> Result<(Said, Text), OutOfMemory>
     ensures { IfOk result
-        (λ begun. (begun.0 ≡ BadScenario) × Tells (fault_text line why) begun.1) }
+        (λ begun. (begun.0 ≡ BadScenario) × TellsLine (fault_text line why) begun.1) }
 {
     let message = fault_text(alloc, line, why)?;
     let text = tells(alloc, message.as_slice())?;
@@ -30,7 +30,7 @@ fn refuse(alloc: Global, line: u32, why: u8) -> Result<(Said, Text), OutOfMemory
 
 // The usage line.
 fn tell_usage(alloc: Global) -> Result<(Said, Text), OutOfMemory>
-    ensures { IfOk result (λ begun. (begun.0 ≡ Usage) × Tells usage begun.1) }
+    ensures { IfOk result (λ begun. (begun.0 ≡ Usage) × TellsLine usage begun.1) }
 {
     let text = tells(
         alloc,
@@ -41,7 +41,7 @@ fn tell_usage(alloc: Global) -> Result<(Said, Text), OutOfMemory>
 
 // The text about a source that failed.
 fn tell_fault(alloc: Global) -> Result<(Said, Text), OutOfMemory>
-    ensures { IfOk result (λ begun. (begun.0 ≡ ReadFault) × Tells (codes "read fault") begun.1) }
+    ensures { IfOk result (λ begun. (begun.0 ≡ ReadFault) × TellsLine (codes "read fault") begun.1) }
 {
     let text = tells(alloc, b"read fault")?;
     Ok((Said::ReadFault, text))

@@ -1,6 +1,6 @@
 //! Texts of one line.
 ghost use Rattle.std.specs.Prelude.{◌≡◌, IfOk, length};
-ghost use Rattle.sc_run.specs.Run.{Tells, TellsFull, TellsOfRows, full_line, lawful_line, unlawful_line};
+ghost use Rattle.sc_run.specs.Run.{TellsLine, TellsFull, TellsOfRows, full_line, lawful_line, unlawful_line};
 
 use crate::done::Text;
 use sc_actor::Journal;
@@ -12,7 +12,7 @@ use std::alloc::Global;
 
 /// A text of one line, about no journal.
 pub fn tells(alloc: Global, message: &[u8]) -> Result<Text, OutOfMemory>
-    ensures { IfOk result (λ text. Tells message.now text) }
+    ensures { IfOk result (λ text. TellsLine message.now text) }
 {
     let mut bytes = Vec::from_slice(alloc, message)?;
     bytes.push(b'\n')?;

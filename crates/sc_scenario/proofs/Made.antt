@@ -11,7 +11,7 @@ use Rattle.sc_chance.specs.Words.{two_words}
 use Rattle.sc_member.specs.Roster.{IsRoster}
 use Rattle.sc_scenario.specs.Schedules.{is_client}
 use Rattle.sc_scenario.specs.Made.{made_op, made_ops, made_clients, made_groups, made_goes, made_scenario}
-use Rattle.sc_scenario.specs.Valid.{IsUpTo, IsEarly, IsEarlyGroup, IsEarlyClient, IsEarlyLine}
+use Rattle.sc_scenario.specs.Valid.{IsUpTo, IsBounded, IsBoundedGroup, IsBoundedClient, IsBoundedLine}
 use Rattle.sc_scenario.specs.declared.drafts.GroupLine.{GroupLine}
 use Rattle.sc_scenario.specs.declared.scenarios.Asks.{Asks}
 use Rattle.sc_scenario.specs.declared.scenarios.SchedLine.{SchedLine}
@@ -66,9 +66,9 @@ each_client P seed n (suc k) each =
     subst (All P) (sym (clients_more seed n k))
     (All-push P (made_clients seed n k) (next_client seed n k) (each_client P seed n k (λ j lt. each j (omega (arith, lt)))) (each k (omega arith)))
 
-clients_early : (seed n : ℕ) → n ≤ most_requests → All IsEarlyClient (made_clients seed n 16)
-clients_early seed n few =
-    each_client IsEarlyClient seed n 16 (λ j lt. let counted = ops_counted seed n j n in ((omega arith, omega (arith, lt)), omega (arith, counted, few)))
+clients_bounded : (seed n : ℕ) → n ≤ most_requests → All IsBoundedClient (made_clients seed n 16)
+clients_bounded seed n few =
+    each_client IsBoundedClient seed n 16 (λ j lt. let counted = ops_counted seed n j n in ((omega arith, omega (arith, lt)), omega (arith, counted, few)))
 
 clients_rise : (seed n k : ℕ) → AllPairs Below (made_clients seed n k)
 clients_rise seed n zero = subst (AllPairs Below) (sym (no_clients seed n)) (λ i j d lt within. absurd (omega arith))
@@ -118,10 +118,10 @@ each_go P zero each = subst (All P) (sym no_goes) (All-nil P)
 each_go P (suc k) each =
     subst (All P) (sym (goes_more k)) (All-push P (made_goes k) (Go (k + 1)) (each_go P k (λ j lt. each j (omega (arith, lt)))) (each k (omega arith)))
 
-lines_early : (seed n : ℕ) → All (IsEarlyLine 9 (made_clients seed n 16)) (made_goes 16 ++ Settle 1000000 ∷ [])
-lines_early seed n =
-    All-push (IsEarlyLine 9 (made_clients seed n 16)) (made_goes 16) (Settle 1000000)
-    (each_go (IsEarlyLine 9 (made_clients seed n 16)) 16 (λ j lt. is_made_client seed n 16 j lt)) (omega arith, omega arith)
+lines_bounded : (seed n : ℕ) → All (IsBoundedLine 9 (made_clients seed n 16)) (made_goes 16 ++ Settle 1000000 ∷ [])
+lines_bounded seed n =
+    All-push (IsBoundedLine 9 (made_clients seed n 16)) (made_goes 16) (Settle 1000000)
+    (each_go (IsBoundedLine 9 (made_clients seed n 16)) 16 (λ j lt. is_made_client seed n 16 j lt)) (omega arith, omega arith)
 
 -- ---- groups
 
@@ -137,8 +137,8 @@ three_up : (most a b c : ℕ) → IsUpTo most a → IsUpTo most b → IsUpTo mos
 three_up most a b c ha hb hc =
     All-cons (IsUpTo most) a (b ∷ c ∷ []) ha (All-cons (IsUpTo most) b (c ∷ []) hb (All-cons (IsUpTo most) c [] hc (All-nil (IsUpTo most))))
 
-early_group : (lo a : ℕ) → lo < 2 ^ 32 → 1 ≤ a → a ≤ 7 → IsEarlyGroup 9 (record { lo = lo; members = a ∷ (a + 1) ∷ (a + 2) ∷ [] })
-early_group lo a low some most = record {
+bounded_group : (lo a : ℕ) → lo < 2 ^ 32 → 1 ≤ a → a ≤ 7 → IsBoundedGroup 9 (record { lo = lo; members = a ∷ (a + 1) ∷ (a + 2) ∷ [] })
+bounded_group lo a low some most = record {
   lo_in = low;
   roster = three_rise a (a + 1) (a + 2) (omega arith) (omega arith);
   members_in = three_up 9 a (a + 1) (a + 2) (some, omega (arith, most)) (omega arith, omega (arith, most)) (omega arith, omega (arith, most));
@@ -147,11 +147,11 @@ early_group lo a low some most = record {
 abbrev three_from : ℕ → ℕ → GroupLine
 three_from lo a = record { lo = lo; members = a ∷ (a + 1) ∷ (a + 2) ∷ [] }
 
-groups_early : All (IsEarlyGroup 9) made_groups
-groups_early =
-    All-cons (IsEarlyGroup 9) (three_from 0 1) (three_from 1342177280 4 ∷ three_from 1744830464 7 ∷ []) (early_group 0 1 (omega arith) (omega arith) (omega arith))
-    (All-cons (IsEarlyGroup 9) (three_from 1342177280 4) (three_from 1744830464 7 ∷ []) (early_group 1342177280 4 (omega arith) (omega arith) (omega arith))
-    (All-cons (IsEarlyGroup 9) (three_from 1744830464 7) [] (early_group 1744830464 7 (omega arith) (omega arith) (omega arith)) (All-nil (IsEarlyGroup 9))))
+groups_bounded : All (IsBoundedGroup 9) made_groups
+groups_bounded =
+    All-cons (IsBoundedGroup 9) (three_from 0 1) (three_from 1342177280 4 ∷ three_from 1744830464 7 ∷ []) (bounded_group 0 1 (omega arith) (omega arith) (omega arith))
+    (All-cons (IsBoundedGroup 9) (three_from 1342177280 4) (three_from 1744830464 7 ∷ []) (bounded_group 1342177280 4 (omega arith) (omega arith) (omega arith))
+    (All-cons (IsBoundedGroup 9) (three_from 1744830464 7) [] (bounded_group 1744830464 7 (omega arith) (omega arith) (omega arith)) (All-nil (IsBoundedGroup 9))))
 
 groups_rise : AllPairs Lower made_groups
 groups_rise zero zero d lt within = absurd (omega (arith, lt))
@@ -167,18 +167,18 @@ groups_rise (suc (suc i)) (suc zero) d lt within = absurd (omega (arith, lt))
 groups_rise (suc (suc i)) (suc (suc zero)) d lt within = absurd (omega (arith, lt))
 groups_rise (suc (suc i)) (suc (suc (suc j))) d lt within = absurd (omega (arith, within))
 
--- a made scenario is of the early form
-pub made_early : (n seed : ℕ) → n ≤ most_requests → IsEarly (made_scenario n seed)
-made_early n seed few = record {
+-- a made scenario is within the bounds of scenarios
+pub made_bounded : (n seed : ℕ) → n ≤ most_requests → IsBounded (made_scenario n seed)
+made_bounded n seed few = record {
   starts = made_groups;
   nodes = (omega arith, omega arith);
   some = omega arith;
   few = omega arith;
-  each = groups_early;
+  each = groups_bounded;
   rising = groups_rise;
   groups = refl;
-  clients = clients_early seed n few;
+  clients = clients_bounded seed n few;
   ascending = clients_rise seed n 16;
-  lines = lines_early seed n;
+  lines = lines_bounded seed n;
   version = inl refl;
 }

@@ -2,7 +2,7 @@
 use Rattle.std.proofs.Common.{◌≡◌, Option, Some, None, Bool, true, false, if◌then◌else◌, refl, sym, ap, true≢false}
 use Rattle.std.specs.Prelude.{Result, Ok, Err}
 use Rattle.std.specs.Result.{is_ok, result_unwrap_or}
-use Rattle.sc_lines.specs.Reasons.{given, then_on}
+use Rattle.sc_lines.specs.Reasons.{or_reason, then_on}
 use Rattle.sc_lines.specs.declared.reasons.Reason.{Reason}
 
 -- no fault is a value
@@ -17,9 +17,9 @@ pub same_Ok : {X E : Type 0} (x y : X) → ok E x ≡ Ok y → x ≡ y
 same_Ok x y h = ap (λ r. result_unwrap_or r x) h
 
 -- what two steps gave, the first gave and then the second
-pub given_ok : {X Y : Type 0} (o : Option X) (reason : Reason) (onward : X → Result Y Reason) (y : Y) → given o reason onward ≡ Ok y → (x : X) × (o ≡ Some x) × (onward x ≡ Ok y)
-given_ok (Some x) reason onward y e = (x, refl, e)
-given_ok None reason onward y e = absurd (err_ok reason y e)
+pub or_reason_ok : {X Y : Type 0} (o : Option X) (reason : Reason) (onward : X → Result Y Reason) (y : Y) → or_reason o reason onward ≡ Ok y → (x : X) × (o ≡ Some x) × (onward x ≡ Ok y)
+or_reason_ok (Some x) reason onward y e = (x, refl, e)
+or_reason_ok None reason onward y e = absurd (err_ok reason y e)
 
 -- the same, where the first gave a result
 pub after_ok : {X Y : Type 0} (r : Result X Reason) (onward : X → Result Y Reason) (y : Y) → then_on r onward ≡ Ok y → (x : X) × (r ≡ Ok x) × (onward x ≡ Ok y)

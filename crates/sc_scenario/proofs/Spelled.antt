@@ -13,13 +13,13 @@ use Rattle.sc_cmd.specs.declared.orders.Order.{Order}
 use Rattle.sc_cmd.specs.declared.orders.Order.TheVariants.{Join, Leave, Split, Merge, Repart, Migrate}
 use Rattle.sc_member.specs.Roster.{IsRoster, with_member}
 use Rattle.sc_member.specs.Faults.{add_fault}
-use Rattle.sc_lines.specs.Reasons.{given}
+use Rattle.sc_lines.specs.Reasons.{or_reason}
 use Rattle.sc_lines.specs.Words.{nth, count_in}
 use Rattle.sc_scenario.specs.Groups.{nodes_with, joined_by, joined_by_all}
 use Rattle.sc_scenario.specs.Schedules.{most_mails, most_deliveries, most_workers, last_storm, is_client, actor_in, line_in}
 use Rattle.sc_scenario.specs.Orders.{name_in, last_position, order_in}
 use Rattle.sc_scenario.specs.Taking.{is_actor, is_order_known, is_line_known, has_stranger}
-use Rattle.sc_scenario.specs.Valid.{IsEarlyLine, IsEarlyOrder, IsActor, IsUpTo}
+use Rattle.sc_scenario.specs.Valid.{IsBoundedLine, IsBoundedOrder, IsActor, IsUpTo}
 use Rattle.sc_lines.specs.declared.reasons.Reason.TheVariants.{WrongCount, BadNumber}
 use Rattle.sc_lines.specs.declared.kinds.LineKind.{LineKind}
 use Rattle.sc_lines.specs.declared.kinds.LineKind.TheVariants as kind
@@ -29,7 +29,7 @@ use Rattle.sc_scenario.specs.declared.scenarios.Asks.{Asks}
 use Rattle.sc_scenario.specs.declared.scenarios.SchedLine.{SchedLine}
 use Rattle.sc_scenario.specs.declared.scenarios.SchedLine.TheVariants.{Go, Deliver, Drop, Again, Tick, Crash, Settle, Free, Storm}
 use Rattle.sc_lines.proofs.Choices.{is_up_to, counted}
-use Rattle.sc_scenario.proofs.Results.{err_ok, same_Ok, given_ok}
+use Rattle.sc_scenario.proofs.Results.{err_ok, same_Ok, or_reason_ok}
 use Rattle.sc_scenario.proofs.Rosters.{roster_with, all_with}
 use Rattle.std.proofs.Math.Bool.{or-true}
 
@@ -108,44 +108,44 @@ node_is nodes word node e h = ((counted most_nodes word node e).0, leb-true node
 
 -- what a line was read from holds of the line
 abbrev pub Played : ℕ → List Asks → SchedLine → Type 0
-Played nodes clients line = is_line_known nodes clients line ≡ true → IsEarlyLine nodes clients line
+Played nodes clients line = is_line_known nodes clients line ≡ true → IsBoundedLine nodes clients line
 
 pub line_is : (nodes : ℕ) (clients : List Asks) (k : LineKind) (words : List (List ℕ)) (line : SchedLine) → line_in k words ≡ Ok line → Played nodes clients line
 line_is nodes clients kind.Go words line e =
-    let g = given_ok (count_in most_clients (nth words 1)) BadNumber (λ client. Ok (Go client)) line e in
+    let g = or_reason_ok (count_in most_clients (nth words 1)) BadNumber (λ client. Ok (Go client)) line e in
     subst (Played nodes clients) (same_Ok _ line g.2) (λ h. h)
 line_is nodes clients kind.Deliver words line e =
-    let g = given_ok (actor_in (nth words 1)) BadNumber (λ who. given (count_in most_mails (nth words 2)) BadNumber (λ k. Ok (Deliver who k))) line e in
-    let k = given_ok (count_in most_mails (nth words 2)) BadNumber (λ k. Ok (Deliver g.0 k)) line g.2 in
+    let g = or_reason_ok (actor_in (nth words 1)) BadNumber (λ who. or_reason (count_in most_mails (nth words 2)) BadNumber (λ k. Ok (Deliver who k))) line e in
+    let k = or_reason_ok (count_in most_mails (nth words 2)) BadNumber (λ k. Ok (Deliver g.0 k)) line g.2 in
     subst (Played nodes clients) (same_Ok _ line k.2) (λ h. (actor_is nodes clients g.0 (some_actor (nth words 1) g.0 g.1) h, counted most_mails (nth words 2) k.0 k.1))
 line_is nodes clients kind.Drop words line e =
-    let g = given_ok (actor_in (nth words 1)) BadNumber (λ who. given (count_in most_mails (nth words 2)) BadNumber (λ k. Ok (Drop who k))) line e in
-    let k = given_ok (count_in most_mails (nth words 2)) BadNumber (λ k. Ok (Drop g.0 k)) line g.2 in
+    let g = or_reason_ok (actor_in (nth words 1)) BadNumber (λ who. or_reason (count_in most_mails (nth words 2)) BadNumber (λ k. Ok (Drop who k))) line e in
+    let k = or_reason_ok (count_in most_mails (nth words 2)) BadNumber (λ k. Ok (Drop g.0 k)) line g.2 in
     subst (Played nodes clients) (same_Ok _ line k.2) (λ h. (actor_is nodes clients g.0 (some_actor (nth words 1) g.0 g.1) h, counted most_mails (nth words 2) k.0 k.1))
 line_is nodes clients kind.Again words line e =
-    let g = given_ok (count_in most_mails (nth words 1)) BadNumber (λ mail. Ok (Again mail)) line e in
+    let g = or_reason_ok (count_in most_mails (nth words 1)) BadNumber (λ mail. Ok (Again mail)) line e in
     subst (Played nodes clients) (same_Ok _ line g.2) (λ h. counted most_mails (nth words 1) g.0 g.1)
 line_is nodes clients kind.Tick words line e =
-    let g = given_ok (actor_in (nth words 1)) BadNumber (λ who. Ok (Tick who)) line e in
+    let g = or_reason_ok (actor_in (nth words 1)) BadNumber (λ who. Ok (Tick who)) line e in
     subst (Played nodes clients) (same_Ok _ line g.2) (λ h. actor_is nodes clients g.0 (some_actor (nth words 1) g.0 g.1) h)
 line_is nodes clients kind.Crash words line e =
-    let g = given_ok (count_in most_nodes (nth words 1)) BadNumber (λ node. Ok (Crash node)) line e in
+    let g = or_reason_ok (count_in most_nodes (nth words 1)) BadNumber (λ node. Ok (Crash node)) line e in
     subst (Played nodes clients) (same_Ok _ line g.2) (λ h. node_is nodes (nth words 1) g.0 g.1 h)
 line_is nodes clients kind.Settle words line e =
-    let g = given_ok (count_in most_deliveries (nth words 1)) BadNumber (λ most. Ok (Settle most)) line e in
+    let g = or_reason_ok (count_in most_deliveries (nth words 1)) BadNumber (λ most. Ok (Settle most)) line e in
     subst (Played nodes clients) (same_Ok _ line g.2) (λ h. counted most_deliveries (nth words 1) g.0 g.1)
 line_is nodes clients kind.Free words line e =
-    let g = given_ok (count_in most_deliveries (nth words 1)) BadNumber (λ most. given (count_in most_workers (nth words 2)) BadNumber (λ workers. Ok (Free most workers))) line e in
-    let w = given_ok (count_in most_workers (nth words 2)) BadNumber (λ workers. Ok (Free g.0 workers)) line g.2 in
+    let g = or_reason_ok (count_in most_deliveries (nth words 1)) BadNumber (λ most. or_reason (count_in most_workers (nth words 2)) BadNumber (λ workers. Ok (Free most workers))) line e in
+    let w = or_reason_ok (count_in most_workers (nth words 2)) BadNumber (λ workers. Ok (Free g.0 workers)) line g.2 in
     subst (Played nodes clients) (same_Ok _ line w.2) (λ h. (counted most_deliveries (nth words 1) g.0 g.1, counted most_workers (nth words 2) w.0 w.1))
 line_is nodes clients kind.Storm words line e =
-    let g = given_ok (number_of (nth words 1) last_storm) BadNumber (λ number. given (count_in most_deliveries (nth words 2)) BadNumber (λ most. Ok (Storm number most))) line e in
-    let k = given_ok (count_in most_deliveries (nth words 2)) BadNumber (λ most. Ok (Storm g.0 most)) line g.2 in
+    let g = or_reason_ok (number_of (nth words 1) last_storm) BadNumber (λ number. or_reason (count_in most_deliveries (nth words 2)) BadNumber (λ most. Ok (Storm number most))) line e in
+    let k = or_reason_ok (count_in most_deliveries (nth words 2)) BadNumber (λ most. Ok (Storm g.0 most)) line g.2 in
     subst (Played nodes clients) (same_Ok _ line k.2) (λ h. (is_up_to last_storm (nth words 1) g.0 g.1, counted most_deliveries (nth words 2) k.0 k.1))
 
 -- what an order was read from holds of the order
 abbrev pub Ordered : ℕ → Order → Type 0
-Ordered nodes order = is_order_known nodes order ≡ true → IsEarlyOrder nodes order
+Ordered nodes order = is_order_known nodes order ≡ true → IsBoundedOrder nodes order
 
 -- a position that is read is one of the circle
 position_is : (word : List ℕ) (at : ℕ) → number_of word last_position ≡ Some at → at < 2 ^ 32
@@ -153,26 +153,26 @@ position_is word at e = let low = is_up_to last_position word at e in omega (ari
 
 pub order_is : (nodes : ℕ) (k : OrderKind) (words : List (List ℕ)) (order : Order) → order_in k words ≡ Ok order → Ordered nodes order
 order_is nodes what.Join words order e =
-    let g = given_ok (count_in most_nodes (nth words 3)) BadNumber (λ node. given (name_in (nth words 4)) BadNumber (λ group. Ok (Join node group))) order e in
-    let n = given_ok (name_in (nth words 4)) BadNumber (λ group. Ok (Join g.0 group)) order g.2 in
+    let g = or_reason_ok (count_in most_nodes (nth words 3)) BadNumber (λ node. or_reason (name_in (nth words 4)) BadNumber (λ group. Ok (Join node group))) order e in
+    let n = or_reason_ok (name_in (nth words 4)) BadNumber (λ group. Ok (Join g.0 group)) order g.2 in
     subst (Ordered nodes) (same_Ok _ order n.2) (λ h. node_is nodes (nth words 3) g.0 g.1 h)
 order_is nodes what.Leave words order e =
-    let g = given_ok (count_in most_nodes (nth words 3)) BadNumber (λ node. given (name_in (nth words 4)) BadNumber (λ group. Ok (Leave node group))) order e in
-    let n = given_ok (name_in (nth words 4)) BadNumber (λ group. Ok (Leave g.0 group)) order g.2 in
+    let g = or_reason_ok (count_in most_nodes (nth words 3)) BadNumber (λ node. or_reason (name_in (nth words 4)) BadNumber (λ group. Ok (Leave node group))) order e in
+    let n = or_reason_ok (name_in (nth words 4)) BadNumber (λ group. Ok (Leave g.0 group)) order g.2 in
     subst (Ordered nodes) (same_Ok _ order n.2) (λ h. node_is nodes (nth words 3) g.0 g.1 h)
 order_is nodes what.Split words order e =
-    let g = given_ok (name_in (nth words 3)) BadNumber (λ group. given (number_of (nth words 4) last_position) BadNumber (λ at. Ok (Split group at))) order e in
-    let p = given_ok (number_of (nth words 4) last_position) BadNumber (λ at. Ok (Split g.0 at)) order g.2 in
+    let g = or_reason_ok (name_in (nth words 3)) BadNumber (λ group. or_reason (number_of (nth words 4) last_position) BadNumber (λ at. Ok (Split group at))) order e in
+    let p = or_reason_ok (number_of (nth words 4) last_position) BadNumber (λ at. Ok (Split g.0 at)) order g.2 in
     subst (Ordered nodes) (same_Ok _ order p.2) (λ h. position_is (nth words 4) p.0 p.1)
 order_is nodes what.Merge words order e =
-    let g = given_ok (name_in (nth words 3)) BadNumber (λ group. Ok (Merge group)) order e in
+    let g = or_reason_ok (name_in (nth words 3)) BadNumber (λ group. Ok (Merge group)) order e in
     subst (Ordered nodes) (same_Ok _ order g.2) (λ h. tt)
 order_is nodes what.Repart words order e =
-    let g = given_ok (name_in (nth words 3)) BadNumber (λ group. given (number_of (nth words 4) last_position) BadNumber (λ at. Ok (Repart group at))) order e in
-    let p = given_ok (number_of (nth words 4) last_position) BadNumber (λ at. Ok (Repart g.0 at)) order g.2 in
+    let g = or_reason_ok (name_in (nth words 3)) BadNumber (λ group. or_reason (number_of (nth words 4) last_position) BadNumber (λ at. Ok (Repart group at))) order e in
+    let p = or_reason_ok (number_of (nth words 4) last_position) BadNumber (λ at. Ok (Repart g.0 at)) order g.2 in
     subst (Ordered nodes) (same_Ok _ order p.2) (λ h. position_is (nth words 4) p.0 p.1)
 order_is nodes what.Migrate words order e =
-    let g = given_ok (name_in (nth words 3)) BadNumber (λ group. given (count_in most_nodes (nth words 4)) BadNumber (λ node. Ok (Migrate group node))) order e in
-    let n = given_ok (count_in most_nodes (nth words 4)) BadNumber (λ node. Ok (Migrate g.0 node)) order g.2 in
+    let g = or_reason_ok (name_in (nth words 3)) BadNumber (λ group. or_reason (count_in most_nodes (nth words 4)) BadNumber (λ node. Ok (Migrate group node))) order e in
+    let n = or_reason_ok (count_in most_nodes (nth words 4)) BadNumber (λ node. Ok (Migrate g.0 node)) order g.2 in
     subst (Ordered nodes) (same_Ok _ order n.2) (λ h. node_is nodes (nth words 4) n.0 n.1 h)
 order_is nodes what.Short words order e = absurd (err_ok WrongCount order e)

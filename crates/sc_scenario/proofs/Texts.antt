@@ -12,7 +12,7 @@ use Rattle.sc_base.specs.Limits.{most_nodes, most_clients, most_requests}
 use Rattle.sc_base.specs.Number.{number_of}
 use Rattle.sc_base.specs.declared.ops.Op.{Op}
 use Rattle.sc_cmd.specs.declared.orders.Order.{Order}
-use Rattle.sc_lines.specs.Reasons.{reason_code, given, then_on}
+use Rattle.sc_lines.specs.Reasons.{reason_code, or_reason, then_on}
 use Rattle.sc_lines.specs.Words.{nth, words_of, count_in}
 use Rattle.sc_lines.specs.Lines.{is_too_long, lines_of, trimmed, is_skipped, has_bad_byte, most_lines}
 use Rattle.sc_lines.specs.Kinds.{kind_of, phase_of, is_inner, has_count}
@@ -22,9 +22,9 @@ use Rattle.sc_scenario.specs.Schedules.{is_client, line_in}
 use Rattle.sc_scenario.specs.Orders.{order_in, last_position}
 use Rattle.sc_scenario.specs.Statements.{group_in, statement_in}
 use Rattle.sc_scenario.specs.Places.{phase_so_far, may_follow, is_in_place}
-use Rattle.sc_scenario.specs.Taking.{is_order_known, is_line_known, is_above, most_groups, most_members, with_group_line, has_stranger, group_taken, client_place, with_client, with_request, client_taken, request_taken, with_line, telling_of, with_order, line_taken, telling_taken, taken_outside, taken_within}
+use Rattle.sc_scenario.specs.Taking.{is_order_known, is_line_known, is_above, most_groups, most_members, with_group_line, has_stranger, group_taken, client_place, with_client, with_op, client_taken, request_taken, with_sched_line, telling_of, with_order, line_taken, telling_taken, taken_outside, taken_within}
 use Rattle.sc_scenario.specs.Grammar.{begun, are_two, header_read, said, words_read, is_fresh, line_read, scenario_by, reading_ended, text_ended, going_on, lines_read, verdict_of}
-use Rattle.sc_scenario.specs.Valid.{IsWritten, IsEarly, IsEarlyGroup, IsEarlyClient, IsEarlyLine, IsUpTo, TextsAreEarly}
+use Rattle.sc_scenario.specs.Valid.{IsWritten, IsBounded, IsBoundedGroup, IsBoundedClient, IsBoundedLine, IsUpTo, ValidScenariosAreBounded}
 use Rattle.sc_lines.specs.declared.reasons.Reason.{Reason}
 use Rattle.sc_lines.specs.declared.reasons.Reason.TheVariants.{MissingHeader, BadByte, UnknownWord, OutOfPlace, WrongCount, BadNumber, UnknownName, Repeated, BadBoundary, TooMany}
 use Rattle.sc_lines.specs.declared.kinds.Kind.{Kind}
@@ -41,10 +41,10 @@ use Rattle.sc_scenario.specs.declared.scenarios.Asks.{Asks}
 use Rattle.sc_scenario.specs.declared.scenarios.Scenario.{Scenario}
 use Rattle.sc_scenario.specs.declared.scenarios.SchedLine.{SchedLine}
 use Rattle.sc_lines.proofs.Choices.{chosen, is_up_to, counted}
-use Rattle.sc_scenario.proofs.Results.{err_ok, same_Ok, given_ok, after_ok, passed, met}
+use Rattle.sc_scenario.proofs.Results.{err_ok, same_Ok, or_reason_ok, after_ok, passed, met}
 use Rattle.sc_scenario.proofs.Rosters.{roster_one}
 use Rattle.sc_scenario.proofs.Clients.{Below, all_inserted, rising_with}
-use Rattle.sc_scenario.proofs.Made.{made_early}
+use Rattle.sc_scenario.proofs.Made.{made_bounded}
 use Rattle.sc_scenario.proofs.Spelled.{joined_is, joined_all, nodes_up, no_stranger, node_is, Played, line_is, Ordered, order_is}
 use Rattle.sc_scenario.proofs.Starts.{Lower, above_push}
 
@@ -56,18 +56,18 @@ IsVersion version = (version ≡ 1) ⊎ (version ≡ 2)
 record IsDraft (draft : Draft) : Type 0 where
   version : IsVersion draft.version
   nodes : draft.nodes ≤ most_nodes
-  groups : All (IsEarlyGroup draft.nodes) draft.groups
+  groups : All (IsBoundedGroup draft.nodes) draft.groups
   few : length draft.groups ≤ most_groups
   steps : AllPairs Lower draft.groups
-  clients : All IsEarlyClient draft.clients
+  clients : All IsBoundedClient draft.clients
   rising : AllPairs Below draft.clients
-  lines : All (IsEarlyLine draft.nodes draft.clients) draft.lines
+  lines : All (IsBoundedLine draft.nodes draft.clients) draft.lines
 
 -- a section stands before the schedule, and is the only one of its client
 abbrev IsReading : Reading → Type 0
 IsReading Fresh = ⊤
 IsReading (Outside draft) = IsDraft draft
-IsReading (Within draft asks) = IsDraft draft × (length draft.lines ≡ 0) × (is_client draft.clients asks.client ≡ false) × IsEarlyClient asks
+IsReading (Within draft asks) = IsDraft draft × (length draft.lines ≡ 0) × (is_client draft.clients asks.client ≡ false) × IsBoundedClient asks
 
 none_of : {X : Type 0} (P : X → Type 0) (xs : List X) → length xs ≡ 0 → All P xs
 none_of P xs none k d within = absurd (omega (arith, none, within))
@@ -116,19 +116,19 @@ counted_nodes : (draft : Draft) (n : ℕ) → n ≤ most_nodes → IsEmpty draft
 counted_nodes draft n up none is = record {
   version = is.version;
   nodes = up;
-  groups = none_of (IsEarlyGroup n) draft.groups none.groups;
+  groups = none_of (IsBoundedGroup n) draft.groups none.groups;
   few = is.few;
   steps = is.steps;
   clients = is.clients;
   rising = is.rising;
-  lines = none_of (IsEarlyLine n draft.clients) draft.lines none.lines;
+  lines = none_of (IsBoundedLine n draft.clients) draft.lines none.lines;
 }
 
-grouped : (draft : Draft) (line : GroupLine) → length draft.groups < most_groups → is_above draft.groups line.lo ≡ true → IsEarlyGroup draft.nodes line → IsDraft draft → IsDraft (record draft { groups = draft.groups ++ line ∷ [] })
+grouped : (draft : Draft) (line : GroupLine) → length draft.groups < most_groups → is_above draft.groups line.lo ≡ true → IsBoundedGroup draft.nodes line → IsDraft draft → IsDraft (record draft { groups = draft.groups ++ line ∷ [] })
 grouped draft line room above good is = record {
   version = is.version;
   nodes = is.nodes;
-  groups = All-push (IsEarlyGroup draft.nodes) draft.groups line is.groups good;
+  groups = All-push (IsBoundedGroup draft.nodes) draft.groups line is.groups good;
   few = omega (arith, room, length_push draft.groups line);
   steps = above_push draft.groups line is.steps above;
   clients = is.clients;
@@ -136,7 +136,7 @@ grouped draft line room above good is = record {
   lines = is.lines;
 }
 
-lined : (draft : Draft) (line : SchedLine) (orders : ℕ) → IsEarlyLine draft.nodes draft.clients line → IsDraft draft → IsDraft (record draft { lines = draft.lines ++ line ∷ []; orders = orders })
+lined : (draft : Draft) (line : SchedLine) (orders : ℕ) → IsBoundedLine draft.nodes draft.clients line → IsDraft draft → IsDraft (record draft { lines = draft.lines ++ line ∷ []; orders = orders })
 lined draft line orders good is = record {
   version = is.version;
   nodes = is.nodes;
@@ -145,7 +145,7 @@ lined draft line orders good is = record {
   steps = is.steps;
   clients = is.clients;
   rising = is.rising;
-  lines = All-push (IsEarlyLine draft.nodes draft.clients) draft.lines line is.lines good;
+  lines = All-push (IsBoundedLine draft.nodes draft.clients) draft.lines line is.lines good;
 }
 
 policy_read : (draft : Draft) → IsDraft draft → IsDraft (record draft { policy = true })
@@ -173,7 +173,7 @@ group_taken_is draft lo first others more low up all is e =
     let d = passed (leb most_groups (length draft.groups) || leb most_members (length others)) TooMany (Ok (Outside (with_group_line draft lo (set_of first others)))) more c.1 in
     let parts = or_parts (leb most_groups (length draft.groups)) (leb most_members (length others)) d.0 in
     let known = no_stranger draft.nodes (first ∷ others) a.0 (All-cons (IsUpTo most_nodes) first others up all) in
-    let good : IsEarlyGroup draft.nodes (record { lo = lo; members = set_of first others }) = record {
+    let good : IsBoundedGroup draft.nodes (record { lo = lo; members = set_of first others }) = record {
       lo_in = omega (arith, low);
       roster = joined_is others (first ∷ []) (roster_one first);
       members_in = joined_all (IsUpTo draft.nodes) others (first ∷ []) (All-cons (IsUpTo draft.nodes) first [] (All-head (IsUpTo draft.nodes) first others known) (All-nil (IsUpTo draft.nodes))) (All-tail (IsUpTo draft.nodes) first others known);
@@ -183,9 +183,9 @@ group_taken_is draft lo first others more low up all is e =
 
 group_is : (draft : Draft) (words : List (List ℕ)) (statement : Statement) (more : Reading) → IsDraft draft → group_in words ≡ Ok statement → taken_outside draft statement ≡ Ok more → IsReading more
 group_is draft words statement more is e t =
-    let lo = given_ok (number_of (nth words 1) last_position) BadNumber (λ lo. given (count_in most_nodes (nth words 2)) BadNumber (λ first. given (nodes_with [] (drop 3 words)) BadNumber (λ others. Ok (NewGroup lo first others)))) statement e in
-    let first = given_ok (count_in most_nodes (nth words 2)) BadNumber (λ first. given (nodes_with [] (drop 3 words)) BadNumber (λ others. Ok (NewGroup lo.0 first others))) statement lo.2 in
-    let others = given_ok (nodes_with [] (drop 3 words)) BadNumber (λ others. Ok (NewGroup lo.0 first.0 others)) statement first.2 in
+    let lo = or_reason_ok (number_of (nth words 1) last_position) BadNumber (λ lo. or_reason (count_in most_nodes (nth words 2)) BadNumber (λ first. or_reason (nodes_with [] (drop 3 words)) BadNumber (λ others. Ok (NewGroup lo first others)))) statement e in
+    let first = or_reason_ok (count_in most_nodes (nth words 2)) BadNumber (λ first. or_reason (nodes_with [] (drop 3 words)) BadNumber (λ others. Ok (NewGroup lo.0 first others))) statement lo.2 in
+    let others = or_reason_ok (nodes_with [] (drop 3 words)) BadNumber (λ others. Ok (NewGroup lo.0 first.0 others)) statement first.2 in
     let taken : group_taken draft lo.0 first.0 others.0 ≡ Ok more = subst (λ s. taken_outside draft s ≡ Ok more) (sym (same_Ok (NewGroup lo.0 first.0 others.0) statement others.2)) t in
     group_taken_is draft lo.0 first.0 others.0 more (is_up_to last_position (nth words 1) lo.0 lo.1) (counted most_nodes (nth words 2) first.0 first.1)
     (nodes_up (drop 3 words) [] others.0 (All-nil (IsUpTo most_nodes)) others.1) is taken
@@ -197,7 +197,7 @@ client_is draft client more up none is e =
 
 played_is : (draft : Draft) (line : SchedLine) (more : Reading) → Played draft.nodes draft.clients line → IsDraft draft → line_taken draft line ≡ Ok more → IsReading more
 played_is draft line more good is e =
-    let m = met (is_line_known draft.nodes draft.clients line) UnknownName (Ok (Outside (with_line draft line))) more e in
+    let m = met (is_line_known draft.nodes draft.clients line) UnknownName (Ok (Outside (with_sched_line draft line))) more e in
     subst IsReading (same_Ok _ more m.1) (lined draft line draft.orders (good m.0) is)
 
 told_is : (draft : Draft) (node : ℕ) (word : List ℕ) (order : Order) (more : Reading) → count_in most_nodes word ≡ Some node → Ordered draft.nodes order → IsDraft draft → telling_taken draft (telling_of draft node order) ≡ Ok more → IsReading more
@@ -210,7 +210,7 @@ outside_is : (draft : Draft) (k : Kind) (words : List (List ℕ)) (statement : S
     → statement_in k words ≡ Ok statement → taken_outside draft statement ≡ Ok more → IsReading more
 outside_is draft Header words statement more is place e t = absurd (err_ok OutOfPlace statement e)
 outside_is draft Nodes words statement more is place e t =
-    let g = given_ok (count_in most_nodes (nth words 1)) BadNumber (λ nodes. Ok (NodeCount nodes)) statement e in
+    let g = or_reason_ok (count_in most_nodes (nth words 1)) BadNumber (λ nodes. Ok (NodeCount nodes)) statement e in
     let taken : Ok (Outside (record draft { nodes = g.0 })) ≡ Ok more = subst (λ s. taken_outside draft s ≡ Ok more) (sym (same_Ok (NodeCount g.0) statement g.2)) t in
     subst IsReading (same_Ok _ more taken) (counted_nodes draft g.0 (counted most_nodes (nth words 1) g.0 g.1).1 (empty draft (not_later (phase_so_far draft) 1 place)) is)
 outside_is draft Group words statement more is place e t = group_is draft words statement more is e t
@@ -218,7 +218,7 @@ outside_is draft Policy words statement more is place e t =
     let taken : Ok (Outside (record draft { policy = true })) ≡ Ok more = subst (λ s. taken_outside draft s ≡ Ok more) (sym (same_Ok WithPolicy statement e)) t in
     subst IsReading (same_Ok _ more taken) (policy_read draft is)
 outside_is draft Client words statement more is place e t =
-    let g = given_ok (count_in most_clients (nth words 1)) BadNumber (λ client. Ok (NewClient client)) statement e in
+    let g = or_reason_ok (count_in most_clients (nth words 1)) BadNumber (λ client. Ok (NewClient client)) statement e in
     let taken : client_taken draft g.0 ≡ Ok more = subst (λ s. taken_outside draft s ≡ Ok more) (sym (same_Ok (NewClient g.0) statement g.2)) t in
     client_is draft g.0 more (counted most_clients (nth words 1) g.0 g.1) (no_lines draft (not_later (phase_so_far draft) 4 place)) is taken
 outside_is draft End words statement more is place e t =
@@ -231,7 +231,7 @@ outside_is draft (Playing k) words statement more is place e t =
     let taken : line_taken draft a.0 ≡ Ok more = subst (λ s. taken_outside draft s ≡ Ok more) (sym (same_Ok (Play a.0) statement a.2)) t in
     played_is draft a.0 more (line_is draft.nodes draft.clients k words a.0 a.1) is taken
 outside_is draft (Telling k) words statement more is place e t =
-    let g = given_ok (count_in most_nodes (nth words 1)) BadNumber (λ node. then_on (order_in k words) (λ order. Ok (Tell node order))) statement e in
+    let g = or_reason_ok (count_in most_nodes (nth words 1)) BadNumber (λ node. then_on (order_in k words) (λ order. Ok (Tell node order))) statement e in
     let a = after_ok (order_in k words) (λ order. Ok (Tell g.0 order)) statement g.2 in
     let taken : telling_taken draft (telling_of draft g.0 a.0) ≡ Ok more = subst (λ s. taken_outside draft s ≡ Ok more) (sym (same_Ok (Tell g.0 a.0) statement a.2)) t in
     told_is draft g.0 (nth words 1) a.0 more g.1 (order_is draft.nodes k words a.0 a.1) is taken
@@ -245,17 +245,17 @@ section_ended draft asks is = record {
   groups = is.0.groups;
   few = is.0.few;
   steps = is.0.steps;
-  clients = all_inserted IsEarlyClient draft.clients (client_place asks.client draft.clients) asks is.0.clients is.3;
+  clients = all_inserted IsBoundedClient draft.clients (client_place asks.client draft.clients) asks is.0.clients is.3;
   rising = rising_with asks draft.clients is.0.rising is.2;
-  lines = none_of (IsEarlyLine draft.nodes (with_client draft asks).clients) draft.lines is.1;
+  lines = none_of (IsBoundedLine draft.nodes (with_client draft asks).clients) draft.lines is.1;
 }
 
-requested : (draft : Draft) (asks : Asks) (op : Op) → length asks.ops < most_requests → IsReading (Within draft asks) → IsReading (Within draft (with_request asks op))
+requested : (draft : Draft) (asks : Asks) (op : Op) → length asks.ops < most_requests → IsReading (Within draft asks) → IsReading (Within draft (with_op asks op))
 requested draft asks op few is = (is.0, is.1, is.2, (is.3.0, omega (arith, few, length_push asks.ops op)))
 
 request_is : (draft : Draft) (asks : Asks) (op : Op) (more : Reading) → IsReading (Within draft asks) → request_taken draft asks op ≡ Ok more → IsReading more
 request_is draft asks op more is e =
-    let p = passed (leb most_requests (length asks.ops)) TooMany (Ok (Within draft (with_request asks op))) more e in
+    let p = passed (leb most_requests (length asks.ops)) TooMany (Ok (Within draft (with_op asks op))) more e in
     let few : length asks.ops < most_requests = leb-false most_requests (length asks.ops) p.0 in
     subst IsReading (same_Ok _ more p.1) (requested draft asks op few is)
 
@@ -281,12 +281,12 @@ begun_is : (version : ℕ) → IsVersion version → IsReading (begun version)
 begun_is version is = record {
   version = is;
   nodes = omega arith;
-  groups = All-nil (IsEarlyGroup 0);
+  groups = All-nil (IsBoundedGroup 0);
   few = omega arith;
   steps = no_pairs Lower [] refl;
-  clients = All-nil IsEarlyClient;
+  clients = All-nil IsBoundedClient;
   rising = no_pairs Below [] refl;
-  lines = All-nil (IsEarlyLine 0 []);
+  lines = All-nil (IsBoundedLine 0 []);
 }
 
 -- of a choice between two what holds of both
@@ -308,13 +308,13 @@ said_is in_place k words statement e =
 words_are : (reading : Reading) (words : List (List ℕ)) (more : Reading) → IsReading reading → words_read reading words ≡ Ok more → IsReading more
 words_are Fresh words more is e = header_is words more e
 words_are (Outside draft) words more is e =
-    let k = given_ok (kind_of draft.version words) UnknownWord (λ k. then_on (said (is_in_place (Outside draft) k) k words) (taken_outside draft)) more e in
+    let k = or_reason_ok (kind_of draft.version words) UnknownWord (λ k. then_on (said (is_in_place (Outside draft) k) k words) (taken_outside draft)) more e in
     let s = after_ok (said (is_in_place (Outside draft) k.0) k.0 words) (taken_outside draft) more k.2 in
     let p = said_is (is_in_place (Outside draft) k.0) k.0 words s.0 s.1 in
     let parts = and_parts (not (is_inner k.0)) (may_follow (phase_so_far draft) (phase_of k.0)) p.0 in
     outside_is draft k.0 words s.0 more is parts.1 p.1 s.2
 words_are (Within draft asks) words more is e =
-    let k = given_ok (kind_of draft.version words) UnknownWord (λ k. then_on (said (is_in_place (Within draft asks) k) k words) (taken_within draft asks)) more e in
+    let k = or_reason_ok (kind_of draft.version words) UnknownWord (λ k. then_on (said (is_in_place (Within draft asks) k) k words) (taken_within draft asks)) more e in
     let s = after_ok (said (is_in_place (Within draft asks) k.0) k.0 words) (taken_within draft asks) more k.2 in
     let p = said_is (is_in_place (Within draft asks) k.0) k.0 words s.0 s.1 in
     within_is draft asks k.0 words s.0 more is p.0 p.1 s.2
@@ -334,7 +334,7 @@ going_ok number onward (Err reason) scenario e = absurd (err_ok (Bad number (rea
 not_zero : (n : ℕ) → eqb n 0 ≡ false → 1 ≤ n
 not_zero n e = let ne = eqb-false n 0 e in omega (arith, ne)
 
-draft_is : (draft : Draft) → IsDraft draft → eqb draft.nodes 0 ≡ false → eqb (length draft.groups) 0 ≡ false → IsEarly (scenario_by draft)
+draft_is : (draft : Draft) → IsDraft draft → eqb draft.nodes 0 ≡ false → eqb (length draft.groups) 0 ≡ false → IsBounded (scenario_by draft)
 draft_is draft is some filled = record {
   starts = draft.groups;
   nodes = (not_zero draft.nodes some, is.nodes);
@@ -349,19 +349,19 @@ draft_is draft is some filled = record {
   version = is.version;
 }
 
-finished_is : (number : ℕ) (reading : Reading) (scenario : Scenario) → IsReading reading → reading_ended number reading ≡ Ok scenario → IsEarly scenario
+finished_is : (number : ℕ) (reading : Reading) (scenario : Scenario) → IsReading reading → reading_ended number reading ≡ Ok scenario → IsBounded scenario
 finished_is number Fresh scenario is e = absurd (err_ok (Bad number 1) scenario e)
 finished_is number (Within draft asks) scenario is e = absurd (err_ok (Bad number 13) scenario e)
 finished_is number (Outside draft) scenario is e =
     let p = passed (eqb draft.nodes 0 || eqb (length draft.groups) 0) (Bad number 14) (Ok (scenario_by draft)) scenario e in
     let parts = or_parts (eqb draft.nodes 0) (eqb (length draft.groups) 0) p.0 in
-    subst IsEarly (same_Ok _ scenario p.1) (draft_is draft is parts.0 parts.1)
+    subst IsBounded (same_Ok _ scenario p.1) (draft_is draft is parts.0 parts.1)
 
-ended_is : (is_long : Bool) (number : ℕ) (reading : Reading) (scenario : Scenario) → IsReading reading → text_ended is_long number reading ≡ Ok scenario → IsEarly scenario
+ended_is : (is_long : Bool) (number : ℕ) (reading : Reading) (scenario : Scenario) → IsReading reading → text_ended is_long number reading ≡ Ok scenario → IsBounded scenario
 ended_is true number reading scenario is e = absurd (err_ok (Bad number 15) scenario e)
 ended_is false number reading scenario is e = finished_is number reading scenario is e
 
-lines_are : (is_long : Bool) (lines : List (List ℕ)) (number : ℕ) (reading : Reading) (scenario : Scenario) → IsReading reading → lines_read is_long number reading lines ≡ Ok scenario → IsEarly scenario
+lines_are : (is_long : Bool) (lines : List (List ℕ)) (number : ℕ) (reading : Reading) (scenario : Scenario) → IsReading reading → lines_read is_long number reading lines ≡ Ok scenario → IsBounded scenario
 lines_are is_long [] number reading scenario is e = ended_is is_long number reading scenario is e
 lines_are is_long (line ∷ lines) number reading scenario is e =
     let p = passed (nat_lt most_lines number) (Bad number 15) (going_on number (λ more. lines_read is_long (number + 1) more lines) (line_read reading (trimmed line))) scenario e in
@@ -372,11 +372,11 @@ some_ok : (r : Result Scenario ScenarioFault) (scenario : Scenario) → result_o
 some_ok (Ok x) scenario e = ap (λ s. Ok s) (same_Some x scenario e)
 some_ok (Err f) scenario e = absurd (none-some scenario e)
 
--- what a text gives is of the early form
-written_early : (scenario : Scenario) → IsWritten scenario → IsEarly scenario
-written_early scenario valid = lines_are (is_too_long valid.text) (lines_of valid.text) 1 Fresh scenario tt (some_ok (verdict_of valid.text) scenario valid.read)
+-- what a text gives is within the bounds of scenarios
+written_bounded : (scenario : Scenario) → IsWritten scenario → IsBounded scenario
+written_bounded scenario valid = lines_are (is_too_long valid.text) (lines_of valid.text) 1 Fresh scenario tt (some_ok (verdict_of valid.text) scenario valid.read)
 
 -- so is what is made
-pub texts_early : TextsAreEarly
-texts_early scenario (inl written) = written_early scenario written
-texts_early scenario (inr made) = subst IsEarly made.is (made_early made.n made.seed made.few)
+pub texts_bounded : ValidScenariosAreBounded
+texts_bounded scenario (inl written) = written_bounded scenario written
+texts_bounded scenario (inr made) = subst IsBounded made.is (made_bounded made.n made.seed made.few)

@@ -1,7 +1,7 @@
 -- Which texts are a scenario, which scenario, and else the first bad line and its reason.
 use Rattle.std.specs.Prelude.{ℕ, ◌+◌, ◌==◌, ◌&&◌, ◌||◌, not, nat_lt, Bool, true, false, List, [], ◌∷◌, length, codes, Option, Some, None, Result, Ok, Err, if◌then◌else◌, option_and_then, ◌≡◌, ◌⊎◌, MatchResult}
 use Rattle.std.specs.Result.{result_ok}
-use Rattle.sc_lines.specs.Reasons.{reason_code, given, then_on}
+use Rattle.sc_lines.specs.Reasons.{reason_code, or_reason, then_on}
 use Rattle.sc_lines.specs.Words.{same, nth, words_of}
 use Rattle.sc_lines.specs.Lines.{most_lines, is_too_long, lines_of, trimmed, is_skipped, has_bad_byte}
 use Rattle.sc_lines.specs.Kinds.{kind_of, has_count}
@@ -48,9 +48,9 @@ said in_place kind words =
 abbrev pub words_read : Reading → List (List ℕ) → Result Reading Reason
 words_read Fresh words = header_read words
 words_read (Outside draft) words =
-    given (kind_of draft.version words) UnknownWord (λ kind. then_on (said (is_in_place (Outside draft) kind) kind words) (taken_outside draft))
+    or_reason (kind_of draft.version words) UnknownWord (λ kind. then_on (said (is_in_place (Outside draft) kind) kind words) (taken_outside draft))
 words_read (Within draft asks) words =
-    given (kind_of draft.version words) UnknownWord (λ kind. then_on (said (is_in_place (Within draft asks) kind) kind words) (taken_within draft asks))
+    or_reason (kind_of draft.version words) UnknownWord (λ kind. then_on (said (is_in_place (Within draft asks) kind) kind words) (taken_within draft asks))
 
 -- whether nothing is read yet
 abbrev pub is_fresh : Reading → Bool

@@ -6,7 +6,7 @@ use Rattle.sc_base.specs.Number.{number_of}
 use Rattle.sc_base.specs.declared.names.Draw.{Draw}
 use Rattle.sc_cmd.specs.declared.orders.Order.{Order}
 use Rattle.sc_cmd.specs.declared.orders.Order.TheVariants.{Join, Leave, Split, Merge, Repart, Migrate}
-use Rattle.sc_lines.specs.Reasons.{given}
+use Rattle.sc_lines.specs.Reasons.{or_reason}
 use Rattle.sc_lines.specs.Words.{pieces, nth, count_in}
 use Rattle.sc_scenario.specs.Schedules.{most_mails}
 use Rattle.sc_lines.specs.declared.reasons.Reason.{Reason}
@@ -31,15 +31,15 @@ last_position = 4294967295
 
 -- what a word spells as a node, a group, a position
 abbrev pub with_node_word : List ℕ → (ℕ → Result Order Reason) → Result Order Reason
-with_node_word word onward = given (count_in most_nodes word) BadNumber onward
+with_node_word word onward = or_reason (count_in most_nodes word) BadNumber onward
 
 -- what a word spells as a group
 abbrev pub with_name_word : List ℕ → (Draw → Result Order Reason) → Result Order Reason
-with_name_word word onward = given (name_in word) BadNumber onward
+with_name_word word onward = or_reason (name_in word) BadNumber onward
 
 -- what a word spells as a position
 abbrev pub with_position_word : List ℕ → (ℕ → Result Order Reason) → Result Order Reason
-with_position_word word onward = given (number_of word last_position) BadNumber onward
+with_position_word word onward = or_reason (number_of word last_position) BadNumber onward
 
 -- `join M G`, `leave M G`, `split G P`, `merge G`, `repart G P`, `migrate G M`, as the words from the third on
 abbrev pub order_in : OrderKind → List (List ℕ) → Result Order Reason

@@ -4,7 +4,7 @@ use Rattle.std.specs.List.{list_any}
 use Rattle.std.specs.Option.{option_map}
 use Rattle.sc_base.specs.Limits.{most_nodes, most_clients, client_actor}
 use Rattle.sc_base.specs.Number.{number_of}
-use Rattle.sc_lines.specs.Reasons.{given}
+use Rattle.sc_lines.specs.Reasons.{or_reason}
 use Rattle.sc_lines.specs.Words.{nth, count_in}
 use Rattle.sc_lines.specs.declared.reasons.Reason.{Reason}
 use Rattle.sc_lines.specs.declared.reasons.Reason.TheVariants.{BadNumber}
@@ -44,11 +44,11 @@ actor_in (letter ∷ digits) =
 
 -- what a word spells as a number from 1 to the most
 abbrev pub with_count : ℕ → List ℕ → (ℕ → Result SchedLine Reason) → Result SchedLine Reason
-with_count most word onward = given (count_in most word) BadNumber onward
+with_count most word onward = or_reason (count_in most word) BadNumber onward
 
 -- what the second word spells as an actor
 abbrev pub with_actor : List (List ℕ) → (ℕ → Result SchedLine Reason) → Result SchedLine Reason
-with_actor words onward = given (actor_in (nth words 1)) BadNumber onward
+with_actor words onward = or_reason (actor_in (nth words 1)) BadNumber onward
 
 -- `go C`, `deliver A K`, `drop A K`, `again M`, `tick A`, `crash N`, `settle L`, `free L W`, `storm S L`
 abbrev pub line_in : LineKind → List (List ℕ) → Result SchedLine Reason
@@ -60,4 +60,4 @@ line_in kind.Tick words = with_actor words (λ who. Ok (Tick who))
 line_in kind.Crash words = with_count most_nodes (nth words 1) (λ node. Ok (Crash node))
 line_in kind.Settle words = with_count most_deliveries (nth words 1) (λ most. Ok (Settle most))
 line_in kind.Free words = with_count most_deliveries (nth words 1) (λ most. with_count most_workers (nth words 2) (λ workers. Ok (Free most workers)))
-line_in kind.Storm words = given (number_of (nth words 1) last_storm) BadNumber (λ number. with_count most_deliveries (nth words 2) (λ most. Ok (Storm number most)))
+line_in kind.Storm words = or_reason (number_of (nth words 1) last_storm) BadNumber (λ number. with_count most_deliveries (nth words 2) (λ most. Ok (Storm number most)))

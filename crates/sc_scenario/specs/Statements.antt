@@ -2,7 +2,7 @@
 use Rattle.std.specs.Prelude.{ℕ, List, [], drop, Result, Ok, Err}
 use Rattle.sc_base.specs.Limits.{most_nodes, most_clients}
 use Rattle.sc_base.specs.Number.{number_of}
-use Rattle.sc_lines.specs.Reasons.{given, then_on}
+use Rattle.sc_lines.specs.Reasons.{or_reason, then_on}
 use Rattle.sc_lines.specs.Words.{nth, count_in}
 use Rattle.sc_lines.specs.Requests.{request_in}
 use Rattle.sc_scenario.specs.Orders.{order_in, last_position}
@@ -18,18 +18,18 @@ use Rattle.sc_scenario.specs.declared.statements.Statement.TheVariants.{NodeCoun
 -- `group LO N1 .. Nk`
 abbrev pub group_in : List (List ℕ) → Result Statement Reason
 group_in words =
-    given (number_of (nth words 1) last_position) BadNumber (λ lo.
-    given (count_in most_nodes (nth words 2)) BadNumber (λ first.
-    given (nodes_with [] (drop 3 words)) BadNumber (λ others. Ok (NewGroup lo first others))))
+    or_reason (number_of (nth words 1) last_position) BadNumber (λ lo.
+    or_reason (count_in most_nodes (nth words 2)) BadNumber (λ first.
+    or_reason (nodes_with [] (drop 3 words)) BadNumber (λ others. Ok (NewGroup lo first others))))
 
 -- what a line of this kind says; a number comes before a key, and a key before a value
 abbrev pub statement_in : Kind → List (List ℕ) → Result Statement Reason
 statement_in Header words = Err OutOfPlace
-statement_in Nodes words = given (count_in most_nodes (nth words 1)) BadNumber (λ nodes. Ok (NodeCount nodes))
+statement_in Nodes words = or_reason (count_in most_nodes (nth words 1)) BadNumber (λ nodes. Ok (NodeCount nodes))
 statement_in Group words = group_in words
 statement_in Policy words = Ok WithPolicy
-statement_in Client words = given (count_in most_clients (nth words 1)) BadNumber (λ client. Ok (NewClient client))
+statement_in Client words = or_reason (count_in most_clients (nth words 1)) BadNumber (λ client. Ok (NewClient client))
 statement_in End words = Ok SectionEnd
 statement_in (Asking kind) words = then_on (request_in kind words) (λ op. Ok (Ask op))
 statement_in (Playing kind) words = then_on (line_in kind words) (λ line. Ok (Play line))
-statement_in (Telling kind) words = given (count_in most_nodes (nth words 1)) BadNumber (λ node. then_on (order_in kind words) (λ order. Ok (Tell node order)))
+statement_in (Telling kind) words = or_reason (count_in most_nodes (nth words 1)) BadNumber (λ node. then_on (order_in kind words) (λ order. Ok (Tell node order)))

@@ -90,8 +90,8 @@ abbrev pub with_client : Draft → Asks → Draft
 with_client draft asks = record draft { clients = insert draft.clients (client_place asks.client draft.clients) asks }
 
 -- a client with one more request
-abbrev pub with_request : Asks → Op → Asks
-with_request asks op = record asks { ops = asks.ops ++ op ∷ [] }
+abbrev pub with_op : Asks → Op → Asks
+with_op asks op = record asks { ops = asks.ops ++ op ∷ [] }
 
 -- a client's section begins, of which there is no other of this client
 abbrev pub client_taken : Draft → ℕ → Result Reading Reason
@@ -99,13 +99,13 @@ client_taken draft client = if is_client draft.clients client then Err Repeated 
 
 -- a request, of which a client has so many
 abbrev pub request_taken : Draft → Asks → Op → Result Reading Reason
-request_taken draft asks op = if nat_le most_requests (length asks.ops) then Err TooMany else Ok (Within draft (with_request asks op))
+request_taken draft asks op = if nat_le most_requests (length asks.ops) then Err TooMany else Ok (Within draft (with_op asks op))
 
 -- ---- the schedule
 
 -- a draft with one more line of the schedule
-abbrev pub with_line : Draft → SchedLine → Draft
-with_line draft line = record draft { lines = draft.lines ++ line ∷ [] }
+abbrev pub with_sched_line : Draft → SchedLine → Draft
+with_sched_line draft line = record draft { lines = draft.lines ++ line ∷ [] }
 
 -- orders are numbered from 1 in the order of their lines
 abbrev pub telling_of : Draft → ℕ → Order → SchedLine
@@ -117,7 +117,7 @@ with_order draft line = record draft { lines = draft.lines ++ line ∷ []; order
 
 -- a line of the schedule
 abbrev pub line_taken : Draft → SchedLine → Result Reading Reason
-line_taken draft line = if is_line_known draft.nodes draft.clients line then Ok (Outside (with_line draft line)) else Err UnknownName
+line_taken draft line = if is_line_known draft.nodes draft.clients line then Ok (Outside (with_sched_line draft line)) else Err UnknownName
 
 -- an order
 abbrev pub telling_taken : Draft → SchedLine → Result Reading Reason

@@ -35,54 +35,54 @@ abbrev pub IsActor : ℕ → List Asks → ℕ → Type 0
 IsActor nodes clients who = IsUpTo nodes who ⊎ ((client : ℕ) × (who ≡ client_actor client) × (is_client clients client ≡ true))
 
 -- an order names a node that there is, and a position of the ring
-abbrev pub IsEarlyOrder : ℕ → Order → Type 0
-IsEarlyOrder nodes (Join node group) = IsUpTo nodes node
-IsEarlyOrder nodes (Leave node group) = IsUpTo nodes node
-IsEarlyOrder nodes (Split group at) = at < 2 ^ 32
-IsEarlyOrder nodes (Merge group) = Unit {0}
-IsEarlyOrder nodes (Repart group at) = at < 2 ^ 32
-IsEarlyOrder nodes (Migrate group node) = IsUpTo nodes node
+abbrev pub IsBoundedOrder : ℕ → Order → Type 0
+IsBoundedOrder nodes (Join node group) = IsUpTo nodes node
+IsBoundedOrder nodes (Leave node group) = IsUpTo nodes node
+IsBoundedOrder nodes (Split group at) = at < 2 ^ 32
+IsBoundedOrder nodes (Merge group) = Unit {0}
+IsBoundedOrder nodes (Repart group at) = at < 2 ^ 32
+IsBoundedOrder nodes (Migrate group node) = IsUpTo nodes node
 
 -- a line of the schedule names actors that there are, orders have numbers from 1 on, and storms one of 64 bits
-abbrev pub IsEarlyLine : ℕ → List Asks → SchedLine → Type 0
-IsEarlyLine nodes clients (Go client) = is_client clients client ≡ true
-IsEarlyLine nodes clients (Deliver who k) = IsActor nodes clients who × IsUpTo most_mails k
-IsEarlyLine nodes clients (Drop who k) = IsActor nodes clients who × IsUpTo most_mails k
-IsEarlyLine nodes clients (Again mail) = IsUpTo most_mails mail
-IsEarlyLine nodes clients (Tick who) = IsActor nodes clients who
-IsEarlyLine nodes clients (Crash node) = IsUpTo nodes node
-IsEarlyLine nodes clients (Told node line) = IsUpTo nodes node × IsEarlyOrder nodes line.order × (1 ≤ line.number)
-IsEarlyLine nodes clients (Settle most) = IsUpTo most_deliveries most
-IsEarlyLine nodes clients (Free most workers) = IsUpTo most_deliveries most × IsUpTo most_workers workers
-IsEarlyLine nodes clients (Storm number most) = (number ≤ last_storm) × IsUpTo most_deliveries most
+abbrev pub IsBoundedLine : ℕ → List Asks → SchedLine → Type 0
+IsBoundedLine nodes clients (Go client) = is_client clients client ≡ true
+IsBoundedLine nodes clients (Deliver who k) = IsActor nodes clients who × IsUpTo most_mails k
+IsBoundedLine nodes clients (Drop who k) = IsActor nodes clients who × IsUpTo most_mails k
+IsBoundedLine nodes clients (Again mail) = IsUpTo most_mails mail
+IsBoundedLine nodes clients (Tick who) = IsActor nodes clients who
+IsBoundedLine nodes clients (Crash node) = IsUpTo nodes node
+IsBoundedLine nodes clients (Told node line) = IsUpTo nodes node × IsBoundedOrder nodes line.order × (1 ≤ line.number)
+IsBoundedLine nodes clients (Settle most) = IsUpTo most_deliveries most
+IsBoundedLine nodes clients (Free most workers) = IsUpTo most_deliveries most × IsUpTo most_workers workers
+IsBoundedLine nodes clients (Storm number most) = (number ≤ last_storm) × IsUpTo most_deliveries most
 
 -- a client's number and how many requests it has
-abbrev pub IsEarlyClient : Asks → Type 0
-IsEarlyClient asks = IsUpTo most_clients asks.client × (length asks.ops ≤ most_requests)
+abbrev pub IsBoundedClient : Asks → Type 0
+IsBoundedClient asks = IsUpTo most_clients asks.client × (length asks.ops ≤ most_requests)
 
 -- a group begins at a position of the ring, and has one to nine nodes that there are
-pub record IsEarlyGroup (nodes : ℕ) (line : GroupLine) : Type 0 where
+pub record IsBoundedGroup (nodes : ℕ) (line : GroupLine) : Type 0 where
   pub lo_in : line.lo < 2 ^ 32
   pub roster : IsRoster line.members
   pub members_in : All (IsUpTo nodes) line.members
 
 -- one node or more, one to sixteen groups of some of them in the order of their beginnings, clients in order of number, and a schedule that names these
-pub record IsEarly (scenario : Scenario) : Type 0 where
+pub record IsBounded (scenario : Scenario) : Type 0 where
   pub starts : List GroupLine
   pub nodes : IsUpTo most_nodes scenario.nodes
   pub some : 1 ≤ length starts
   pub few : length starts ≤ most_groups
-  pub each : All (IsEarlyGroup scenario.nodes) starts
+  pub each : All (IsBoundedGroup scenario.nodes) starts
   pub rising : AllPairs (λ (one other : GroupLine). one.lo < other.lo) starts
   pub groups : scenario.groups ≡ bases_of starts
-  pub clients : All IsEarlyClient scenario.clients
+  pub clients : All IsBoundedClient scenario.clients
   pub ascending : AllPairs (λ (one other : Asks). one.client < other.client) scenario.clients
-  pub lines : All (IsEarlyLine scenario.nodes scenario.clients) scenario.lines
+  pub lines : All (IsBoundedLine scenario.nodes scenario.clients) scenario.lines
   pub version : (scenario.version ≡ 1) ⊎ (scenario.version ≡ 2)
 
--- every valid scenario has the early form
-abbrev pub TextsAreEarly : Type 0
-TextsAreEarly = (scenario : Scenario) → IsValid scenario → IsEarly scenario
+-- every valid scenario is within these bounds
+abbrev pub ValidScenariosAreBounded : Type 0
+ValidScenariosAreBounded = (scenario : Scenario) → IsValid scenario → IsBounded scenario
 
 -- a text comes out as its first bytes do, one more than the most that a text may have
 abbrev pub FirstBytesDecide : Type 0

@@ -14,7 +14,8 @@ mod taking;
 pub use drafts::GroupLine;
 pub use groups::bases_of;
 pub use reading::{
-    INPUT_LIMIT, LINE_LIMIT, ScenarioFault, first_bytes_decide, read_scenario, texts_are_early,
+    INPUT_LIMIT, LINE_LIMIT, ScenarioFault, first_bytes_decide, read_scenario,
+    valid_scenarios_are_bounded,
 };
 pub use sc_lines::reason_text;
 pub use scenarios::{Asks, ClientList, GroupList, Scenario, SchedLine, Schedule};

@@ -5,7 +5,7 @@ ghost use Rattle.sc_lines.specs.declared.kinds.OrderKind.TheVariants.{Join, Leav
 
 use sc_base::{Draw, MOST_NODES, OutOfMemory, read_number};
 use sc_cmd::Order;
-use sc_lines::{OrderKind, Reason, count_in, nth, parts_of};
+use sc_lines::{OrderKind, Reason, count_in, nth, dotted_parts};
 use std::alloc::Global;
 
 const MOST_NAMES: u32 = 4_294_967_295;
@@ -31,7 +31,7 @@ fn name_of(parts: &[&[u8]]) -> Option<Draw>
 fn name_in(alloc: Global, word: &[u8]) -> Result<Option<Draw>, OutOfMemory>
     ensures { IfOk result (λ name. name ≡ name_in word.now) }
 {
-    let parts = parts_of(alloc, word)?;
+    let parts = dotted_parts(alloc, word)?;
     Ok(name_of(&parts))
 }
 

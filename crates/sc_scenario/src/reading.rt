@@ -2,7 +2,7 @@
 ghost use Rattle.std.specs.Prelude.{◌≡◌, map, IfOk};
 ghost use Rattle.sc_scenario.specs.Grammar.{HasVerdict, begun, are_two, header_read, said, words_read, is_fresh, line_read, bad, scenario_by, reading_ended, lines_read, verdict_of};
 ghost use Rattle.sc_lines.specs.Lines.{is_too_long, lines_in};
-ghost use Rattle.sc_scenario.specs.Valid.{TextsAreEarly, FirstBytesDecide};
+ghost use Rattle.sc_scenario.specs.Valid.{ValidScenariosAreBounded, FirstBytesDecide};
 ghost use Rattle.sc_scenario.specs.declared.drafts.Reading.TheVariants.{Fresh, Outside, Within};
 ghost use Rattle.sc_scenario.specs.declared.reading.ScenarioFault.TheVariants.{OutOfMemory};
 
@@ -10,7 +10,7 @@ use crate::drafts::{Draft, Reading};
 use crate::groups::bases_of;
 use crate::places::may_stand;
 use crate::scenarios::{Asks, Scenario};
-use crate::statements::{Said, statement_in};
+use crate::statements::{Stated, statement_in};
 use crate::taking::{Taken, taken_outside, taken_within};
 use sc_base::{self, Sequence};
 use sc_lines::{
@@ -79,7 +79,7 @@ fn said(
     in_place: bool,
     kind: Kind,
     words: &[&[u8]],
-) -> Result<Said, sc_base::OutOfMemory>
+) -> Result<Stated, sc_base::OutOfMemory>
     ensures { IfOk result (λ sentence. sentence ≡
         said in_place kind (map (λ word. word.now) words.now)) }
 {
@@ -251,8 +251,8 @@ pub fn read_scenario(alloc: Global, text: &[u8]) -> Result<Scenario, ScenarioFau
 /// What holds of every scenario that some text is: nodes, one to sixteen groups of some of them in
 /// the order in which they begin, clients in order of number with few requests, and a schedule of
 /// lines that name these.
-pub fn texts_are_early()
-    ensures { TextsAreEarly }
+pub fn valid_scenarios_are_bounded()
+    ensures { ValidScenariosAreBounded }
 {}
 
 /// A text comes out as its first bytes do, one more than the most that a text may have.

@@ -29,9 +29,9 @@ pub enum Statement {
 }
 
 /// A statement, or the reason why there is none.
-pub type Said = Result<Statement, Reason>;
+pub type Stated = Result<Statement, Reason>;
 
-fn nodes_said(words: &[&[u8]]) -> Said
+fn nodes_said(words: &[&[u8]]) -> Stated
     ensures { result ≡ statement_in Nodes (map (λ word. word.now) words.now) }
 {
     match count_in(nth(words, 1), MOST_NODES) {
@@ -40,7 +40,7 @@ fn nodes_said(words: &[&[u8]]) -> Said
     }
 }
 
-fn client_said(words: &[&[u8]]) -> Said
+fn client_said(words: &[&[u8]]) -> Stated
     ensures { result ≡ statement_in Client (map (λ word. word.now) words.now) }
 {
     match count_in(nth(words, 1), MOST_CLIENTS) {
@@ -49,7 +49,7 @@ fn client_said(words: &[&[u8]]) -> Said
     }
 }
 
-fn group_said(alloc: Global, words: &[&[u8]]) -> Result<Said, OutOfMemory>
+fn group_said(alloc: Global, words: &[&[u8]]) -> Result<Stated, OutOfMemory>
     ensures { IfOk result (λ said. said ≡ statement_in Group (map (λ word. word.now) words.now)) }
 {
     let Some(lo) = read_number(nth(words, 1), LAST_POSITION) else {
@@ -64,7 +64,7 @@ fn group_said(alloc: Global, words: &[&[u8]]) -> Result<Said, OutOfMemory>
     }
 }
 
-fn request_said(alloc: Global, kind: RequestKind, words: &[&[u8]]) -> Result<Said, OutOfMemory>
+fn request_said(alloc: Global, kind: RequestKind, words: &[&[u8]]) -> Result<Stated, OutOfMemory>
     ensures { IfOk result
         (λ said. said ≡ statement_in (Asking kind) (map (λ word. word.now) words.now)) }
 {
@@ -74,7 +74,7 @@ fn request_said(alloc: Global, kind: RequestKind, words: &[&[u8]]) -> Result<Sai
     }
 }
 
-fn line_said(kind: LineKind, words: &[&[u8]]) -> Said
+fn line_said(kind: LineKind, words: &[&[u8]]) -> Stated
     ensures { result ≡ statement_in (Playing kind) (map (λ word. word.now) words.now) }
 {
     match line_in(kind, words) {
@@ -83,7 +83,7 @@ fn line_said(kind: LineKind, words: &[&[u8]]) -> Said
     }
 }
 
-fn order_said(alloc: Global, kind: OrderKind, words: &[&[u8]]) -> Result<Said, OutOfMemory>
+fn order_said(alloc: Global, kind: OrderKind, words: &[&[u8]]) -> Result<Stated, OutOfMemory>
     ensures { IfOk result
         (λ said. said ≡ statement_in (Telling kind) (map (λ word. word.now) words.now)) }
 {
@@ -97,7 +97,7 @@ fn order_said(alloc: Global, kind: OrderKind, words: &[&[u8]]) -> Result<Said, O
 }
 
 /// What a line of this kind with these words says, or the first reason why it says nothing.
-pub fn statement_in(alloc: Global, kind: Kind, words: &[&[u8]]) -> Result<Said, OutOfMemory>
+pub fn statement_in(alloc: Global, kind: Kind, words: &[&[u8]]) -> Result<Stated, OutOfMemory>
     ensures { IfOk result
         (λ said. said ≡ statement_in kind (map (λ word. word.now) words.now)) }
 {

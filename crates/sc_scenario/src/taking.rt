@@ -3,7 +3,7 @@ ghost use Rattle.std.specs.Prelude.{◌≡◌, ◌≤◌, ◌+◌, ◌==◌, tru
 ghost use Rattle.std.specs.List.{list_any};
 ghost use Rattle.sc_base.specs.Limits.{client_actor};
 ghost use Rattle.sc_scenario.specs.Schedules.{is_client};
-ghost use Rattle.sc_scenario.specs.Taking.{is_actor, is_order_known, is_line_known, is_above, with_group_line, has_stranger, group_taken, client_place, with_client, with_request, client_taken, request_taken, with_line, telling_of, with_order, line_taken, telling_taken, taken_outside, taken_within};
+ghost use Rattle.sc_scenario.specs.Taking.{is_actor, is_order_known, is_line_known, is_above, with_group_line, has_stranger, group_taken, client_place, with_client, with_op, client_taken, request_taken, with_sched_line, telling_of, with_order, line_taken, telling_taken, taken_outside, taken_within};
 
 use crate::drafts::{Draft, GroupLine, Reading};
 use crate::groups::{have_repeat, set_of};
@@ -171,8 +171,8 @@ fn request_taken(draft: Draft, asks: Asks, op: Op) -> Result<Taken, OutOfMemory>
     Ok(Ok(Reading::Within(draft, Asks { client, ops })))
 }
 
-fn with_line(draft: Draft, line: SchedLine) -> Result<Draft, OutOfMemory>
-    ensures { IfOk result (λ more. more ≡ with_line draft line) }
+fn with_sched_line(draft: Draft, line: SchedLine) -> Result<Draft, OutOfMemory>
+    ensures { IfOk result (λ more. more ≡ with_sched_line draft line) }
 {
     let mut more = draft;
     more.lines.push(line)?;
@@ -196,7 +196,7 @@ fn line_taken(draft: Draft, line: SchedLine) -> Result<Taken, OutOfMemory>
     if !is_line_known(draft.nodes, draft.clients.as_slice(), &line) {
         return Ok(Err(Reason::UnknownName));
     }
-    let more = with_line(draft, line)?;
+    let more = with_sched_line(draft, line)?;
     Ok(Ok(Reading::Outside(more)))
 }
 

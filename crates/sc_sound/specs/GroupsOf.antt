@@ -41,22 +41,22 @@ abbrev pub with_birth : List Base → Base → List Base
 with_birth bases base = if list_any (is_birth_of base.core.id) bases then bases else bases ++ base ∷ []
 
 -- the groups with the children that their logs name
-abbrev pub with_children : Ahead → List (Row Mail OrderLine) → List Base → List Base
-with_children ahead rows bases = fold with_birth bases (flat_map (children_by ahead rows) bases)
+abbrev pub with_next_children : Ahead → List (Row Mail OrderLine) → List Base → List Base
+with_next_children ahead rows bases = fold with_birth bases (flat_map (children_by ahead rows) bases)
 
 -- the same so many times
 abbrev pub with_descendants : Ahead → List (Row Mail OrderLine) → ℕ → List Base → List Base
 with_descendants ahead rows zero bases = bases
-with_descendants ahead rows (suc more) bases = with_children ahead rows (with_descendants ahead rows more bases)
+with_descendants ahead rows (suc more) bases = with_next_children ahead rows (with_descendants ahead rows more bases)
 
 -- the groups of a journal, each as it is born: those of the scenario, and again and again the children that the logs found so far name. Each birth takes a row of its own, so as many times as there are rows are enough.
 abbrev pub groups_at : Ahead → List Base → List (Row Mail OrderLine) → List Base
 groups_at ahead bases rows = with_descendants ahead rows (length rows) bases
 
 -- no two of these groups have one name
-abbrev pub AreApart : List Base → Type 0
-AreApart [] = Unit {0}
-AreApart (base ∷ bases) = Each (λ other. other.core.id ≡ base.core.id → ⊥) bases × AreApart bases
+abbrev pub AreNamedApart : List Base → Type 0
+AreNamedApart [] = Unit {0}
+AreNamedApart (base ∷ bases) = Each (λ other. other.core.id ≡ base.core.id → ⊥) bases × AreNamedApart bases
 
 -- ---- their logs
 

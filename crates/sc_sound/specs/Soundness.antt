@@ -29,8 +29,8 @@ use Rattle.sc_sound.specs.Logs.{rule_of, IsChosenIn, decided_log}
 use Rattle.sc_sound.specs.Requests.{IsRequest, issue_row, kept_reply, answer_row}
 
 -- a list that goes on
-abbrev pub GoesOn : List Command → List Command → Type 0
-GoesOn log longer = (more : List Command) × (longer ≡ log ++ more)
+abbrev pub Continues : List Command → List Command → Type 0
+Continues log longer = (more : List Command) × (longer ≡ log ++ more)
 
 -- (a) One value per slot of a group, and a log that only grows (Paxos Made Simple, sections 2.2 and 3).
 pub record HasOneLog (ahead : Ahead) (bases : List Base) (base : Base) (rows more : List (Row Mail OrderLine)) : Type 0 where
@@ -40,7 +40,7 @@ pub record HasOneLog (ahead : Ahead) (bases : List Base) (base : Base) (rows mor
   -- the decided log is one, and the longest
   pub is_log : IsLog (rule_of ahead base) (accepts base.core.id rows) (decided_log ahead base rows)
   -- it is the log of the group with its name, and with more rows it goes on as it was
-  pub grows : GoesOn (decided_log ahead base rows) (log_at ahead bases (rows ++ more) base.core.id)
+  pub grows : Continues (decided_log ahead base rows) (log_at ahead bases (rows ++ more) base.core.id)
 
 -- (b) A replica has executed a front of its group's log, holds the entries of it that it has not forgotten, and its group is the state there.
 pub record HasRun (ahead : Ahead) (base : Base) (rows : List (Row Mail OrderLine)) (r : ReplicaState) : Type 0 where

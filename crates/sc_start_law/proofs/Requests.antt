@@ -7,7 +7,7 @@ use Rattle.sc_base.specs.declared.names.Draw.{Draw}
 use Rattle.sc_paxos_words.proofs.ListLemmas.{find_found}
 use Rattle.sc_scenario.specs.declared.scenarios.Asks.{Asks}
 use Rattle.sc_scenario.specs.declared.scenarios.Scenario.{Scenario}
-use Rattle.sc_start_law.specs.Begins.{AsksAre, op_or_get, request_of}
+use Rattle.sc_start_law.specs.Begins.{AsksAre, op_or_get, section_op}
 
 -- a client that has a section is found
 find_there : (clients : List Asks) (asks : Asks) → Among asks clients → (found : Asks) × (find (λ (a : Asks). eqb a.client asks.client) clients ≡ Some found)
@@ -19,7 +19,7 @@ find_there (c ∷ clients) asks (inr a) =
 
 -- clients ask what their sections say, where no two have one number
 pub asks_are : (owner : Draw → Option Draw) (scenario : Scenario) → ((one other : Asks) → Among one scenario.clients → Among other scenario.clients → one.client ≡ other.client → one ≡ other)
-    → AsksAre (record { owner = owner; request = request_of scenario }) scenario
+    → AsksAre (record { owner = owner; request = section_op scenario }) scenario
 asks_are owner scenario once asks stands seq op some is =
     let (c, there) = find_there scenario.clients asks stands in
     let found = find_found (λ (a : Asks). eqb a.client asks.client) scenario.clients c there in

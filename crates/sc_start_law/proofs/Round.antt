@@ -7,7 +7,7 @@ use Rattle.sc_base.specs.Arc.{Arc, IsArc, holds, offset}
 use Rattle.sc_cmd.specs.declared.cores.Base.{Base}
 use Rattle.sc_entries.specs.declared.Cut.{Cut}
 use Rattle.sc_entries.specs.Rings.{Covers, first_cut}
-use Rattle.sc_sound.specs.GroupsOf.{AreApart}
+use Rattle.sc_sound.specs.GroupsOf.{AreNamedApart}
 use Rattle.sc_paxos_words.proofs.ListLemmas.{Each-among}
 
 -- ---- positions from a start on
@@ -96,7 +96,7 @@ among_cuts [] k d lt = absurd (omega (arith, lt))
 among_cuts (b ∷ bases) zero d lt = (b, inl refl, refl)
 among_cuts (b ∷ bases) (suc k) d lt = let r = among_cuts bases k d (omega (arith, lt)) in (r.0, inr r.1, r.2)
 
-cuts_apart : (bases : List Base) → AreApart bases → AllPairs (λ (cut other : Cut). cut.group ≢ other.group) (map first_cut bases)
+cuts_apart : (bases : List Base) → AreNamedApart bases → AllPairs (λ (cut other : Cut). cut.group ≢ other.group) (map first_cut bases)
 cuts_apart [] apart i j d below within = absurd (omega (arith, within))
 cuts_apart (b ∷ bases) apart i zero d below within = absurd (omega (arith, below))
 cuts_apart (b ∷ bases) apart zero (suc j) d below within =
@@ -105,7 +105,7 @@ cuts_apart (b ∷ bases) apart zero (suc j) d below within =
 cuts_apart (b ∷ bases) apart (suc i) (suc j) d below within = cuts_apart bases apart.1 i j d (omega (arith, below)) (omega (arith, within))
 
 -- groups with names of their own whose arcs go round the circle
-pub round_covers : (start : ℕ) (bases : List Base) → start < 2 ^ 32 → GoRound start start (map first_cut bases) → AreApart bases → Covers (map first_cut bases)
+pub round_covers : (start : ℕ) (bases : List Base) → start < 2 ^ 32 → GoRound start start (map first_cut bases) → AreNamedApart bases → Covers (map first_cut bases)
 round_covers start bases starts r apart = record {
   arcs = each_is_arc start start (map first_cut bases) starts r;
   some = λ p inside. (let at = lies_at start p starts inside in one_holds start starts p at.0 inside at.1 start (map first_cut bases) r at.1.low);

@@ -13,7 +13,7 @@ use Rattle.sc_entries.specs.Rings.{Covers, first_cut}
 use Rattle.sc_hist_law.specs.Worlds.{BeginsBare, BeginBare}
 use Rattle.sc_ring_law.specs.Allowed.{Sources}
 use Rattle.sc_ring_law.specs.Laws.{StandsBetween, BeginsInPlace, BeginInPlace}
-use Rattle.sc_sound.specs.GroupsOf.{AreApart}
+use Rattle.sc_sound.specs.GroupsOf.{AreNamedApart}
 use Rattle.sc_start_law.specs.Begins.{IsFresh}
 use Rattle.sc_start_law.proofs.Round.{IsSpan, GoRound, round_covers}
 
@@ -59,7 +59,7 @@ module _ (lines : List GroupLine) where
   later_named k j zero lt = tt
   later_named k j (suc n) lt = (λ same. (let e : j + 1 ≡ k + 1 = ap (λ (d : Draw). d.count) same in absurd (omega (arith, e, lt))), later_named k (j + 1) n (omega arith))
 
-  pub named_apart : (k n : ℕ) → AreApart (bases_from k n)
+  pub named_apart : (k n : ℕ) → AreNamedApart (bases_from k n)
   named_apart k zero = tt
   named_apart k (suc n) = (later_named k (k + 1) n (omega arith), named_apart (k + 1) n)
 
@@ -204,8 +204,8 @@ module _ (lines : List GroupLine) where
   first_and_others some = let e : length lines ≡ suc (length lines - 1) = omega (arith, some) in all_from (length lines) ∙ ap (bases_from 0) e
 
   -- they have names of their own
-  pub starts_apart : AreApart (bases_of lines)
-  starts_apart = subst AreApart (sym (all_from (length lines))) (named_apart 0 (length lines))
+  pub starts_apart : AreNamedApart (bases_of lines)
+  starts_apart = subst AreNamedApart (sym (all_from (length lines))) (named_apart 0 (length lines))
 
   -- nothing has happened to any of them
   pub starts_fresh : ((k : ℕ) (d : GroupLine) → k < length lines → IsRoster (get_or lines k d).members) → (base : Base) → Among base (bases_of lines) → IsFresh base

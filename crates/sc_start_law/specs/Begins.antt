@@ -15,7 +15,7 @@ use Rattle.sc_scenario.specs.declared.scenarios.Scenario.{Scenario}
 use Rattle.sc_hist_law.specs.Worlds.{BeginBare}
 use Rattle.sc_ring_law.specs.Allowed.{Sources}
 use Rattle.sc_ring_law.specs.Laws.{BeginInPlace}
-use Rattle.sc_sound.specs.GroupsOf.{AreApart}
+use Rattle.sc_sound.specs.GroupsOf.{AreNamedApart}
 
 -- a group at its birth is bound in nothing, and has voted and decided nothing
 pub record IsFresh (base : Base) : Type 0 where
@@ -38,8 +38,8 @@ op_or_get None = Get []
 op_or_get (Some op) = op
 
 -- what the section of a client says by a number
-abbrev pub request_of : Scenario → ℕ → ℕ → Op
-request_of scenario client seq = op_or_get (option_and_then (λ asks. slice_get asks.ops (seq - 1)) (find (λ asks. asks.client == client) scenario.clients))
+abbrev pub section_op : Scenario → ℕ → ℕ → Op
+section_op scenario client seq = op_or_get (option_and_then (λ asks. slice_get asks.ops (seq - 1)) (find (λ asks. asks.client == client) scenario.clients))
 
 -- what clients ask by each number is what their sections of the scenario say
 abbrev pub AsksAre : Sources → Scenario → Type 0
@@ -48,7 +48,7 @@ AsksAre sources scenario = (asks : Asks) → Among asks scenario.clients → (se
 -- a scenario's groups stand in place under names of their own, and nothing has happened to them; its players are seated
 pub record BeginsWell (sources : Sources) (ahead : Ahead) (scenario : Scenario) (route : Route) : Type 0 where
   pub place : BeginInPlace sources scenario.groups
-  pub apart : AreApart scenario.groups
+  pub apart : AreNamedApart scenario.groups
   pub fresh : (base : Base) → Among base scenario.groups → IsFresh base
   pub seats : HasSeats ahead scenario route
   pub asks : AsksAre sources scenario

@@ -5,7 +5,7 @@
 
 ghost use Rattle.sc_start_law.specs.Laws.{ValidScenariosBeginWell};
 
-use sc_scenario::texts_are_early;
+use sc_scenario::valid_scenarios_are_bounded;
 
 /// Every valid scenario has one to sixteen groups under names of their own, which start with some
 /// members and no pairs. Their arcs cover the ring, and each group stands between its neighbours, a
@@ -16,5 +16,5 @@ use sc_scenario::texts_are_early;
 pub fn valid_scenarios_begin_well()
     ensures { ValidScenariosBeginWell }
 {
-    texts_are_early();
+    valid_scenarios_are_bounded();
 }

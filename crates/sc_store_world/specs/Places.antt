@@ -5,7 +5,7 @@ use Rattle.sc_machine_table.specs.Group.{Group}
 use Rattle.sc_entries.specs.Worlds.{named_group}
 
 -- the first group with a name stands at this place
-pub record StandsAt (name : Draw) (groups : List Group) (at : ℕ) : Type 0 where
+pub record IsFirstNamed (name : Draw) (groups : List Group) (at : ℕ) : Type 0 where
   -- the place is one of the groups'
   pub within : at < length groups
   -- the group there is the one that has the name

@@ -5,7 +5,7 @@ ghost use Rattle.sc_machine_table.specs.Group.{Group, group_of};
 ghost use Rattle.sc_machine_table.specs.Machine.{applied};
 ghost use Rattle.sc_entries.specs.Births.{birth_of};
 ghost use Rattle.sc_entries.specs.Worlds.{is_named, named_group, with_group, groups_after};
-ghost use Rattle.sc_store_world.specs.Places.{StandsAt};
+ghost use Rattle.sc_store_world.specs.Places.{IsFirstNamed};
 
 use sc_base::{Draw, Dup, OutOfMemory};
 use sc_cmd::{Base, Command, Core, Effect, same_draw};
@@ -33,7 +33,7 @@ pub(crate) fn is_named(group: &Machine, name: Draw) -> bool
 /// Where the first group with a name stands, if it was born.
 pub(crate) fn place_of(groups: &[Machine], name: Draw) -> Option<usize>
     ensures { MatchOption result (named_group name groups.now ≡ None)
-        (λ at. StandsAt name groups.now at) }
+        (λ at. IsFirstNamed name groups.now at) }
 {
     let mut at = 0usize;
     for group in groups {

@@ -8,7 +8,7 @@ ghost use Rattle.sc_machine_table.specs.Logs.{entry_of};
 ghost use Rattle.sc_entries.specs.Effective.{is_commit, effective, effective_by, after_outcome};
 ghost use Rattle.sc_entries.specs.Rings.{ring_after};
 ghost use Rattle.sc_entries.specs.Worlds.{first_world, named_group, told, with_result, world_of};
-ghost use Rattle.sc_store_world.specs.Places.{StandsAt};
+ghost use Rattle.sc_store_world.specs.Places.{IsFirstNamed};
 
 use crate::groups::{again, born, execute, is_named, place_of};
 use sc_base::{Draw, Dup, OutOfMemory};
@@ -119,7 +119,7 @@ impl StoreWorld {
     }
 
     fn execute(&mut self, name: Draw, at: usize, command: &Command) -> Result<(), OutOfMemory>
-        requires { StandsAt name self.old.groups at }
+        requires { IsFirstNamed name self.old.groups at }
         ensures { OnOk result ((group : Group) → named_group name self.old.groups ≡ Some group →
             self.new ≡ with_result self.old group command.now (applied group command.now)) }
     {

@@ -4,7 +4,7 @@ use crate::notes::Note;
 use crate::players::Player;
 use sc_actor::{Event, Journal, Line, Row, Seat, are_apart, are_few};
 use sc_base::Sequence;
-use sc_checker::{Replayed, is_lawful, pending_of, replay, taken_by};
+use sc_checker::{Replayed, is_lawful, pending_of, replay, rows_replayed};
 use std::alloc::Global;
 use std::mem::forget;
 use std::process::Abort;
@@ -99,7 +99,7 @@ fn taken(rt: &impl Abort, alloc: Global, lines: &[Line<u32>], acts: &[Act]) -> u
     let rows = journal(rt, alloc, acts);
     let seats = pair(rt, alloc);
     assert!(rt; are_few(rows.as_slice()));
-    let taken = taken_by(alloc, seats, lines, rows.as_slice()).expect(rt, "memory");
+    let taken = rows_replayed(alloc, seats, lines, rows.as_slice()).expect(rt, "memory");
     forget(rows);
     taken
 }

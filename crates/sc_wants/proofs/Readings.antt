@@ -13,7 +13,7 @@ use Rattle.sc_wants.specs.declared.wants.Wanted.{Wanted}
 use Rattle.sc_wants.specs.declared.wants.Wanted.TheVariants.{Usage, ReadFault, BadScenario, Run, Journal, Audit}
 use Rattle.sc_journal_file.specs.Laws.{FirstBytesDecideFaults, ScenariosAreShort}
 use Rattle.sc_journal_file.specs.Stored.{most_file_bytes, IsBadFile}
-use Rattle.sc_wants.specs.Wants.{AreAll, ReadsAs, IsOf, IsKeptOf, IsStoredIn, IsRead, IsKept, IsAudited}
+use Rattle.sc_wants.specs.Wants.{AreAll, ReadsAs, IsOf, IsKeptOf, IsStoredIn, IsRead, IsForJournal, IsAudited}
 
 -- what was read of a source comes out as the whole
 read_whole : FirstBytesDecide → (left : Option (List ℕ)) (bytes : List ℕ) (verdict : Result Scenario ScenarioFault) → IfSome left (λ input. bytes ≡ take (most_bytes + 1) input) → verdict_of bytes ≡ verdict → ReadsAs left verdict
@@ -43,7 +43,7 @@ all_of most None bytes taken few = tt
 all_of most (Some input) bytes taken few = whole_by most bytes input taken few
 
 -- what the bytes that were read ask for the source asks for, where the journal is to be printed behind them
-pub of_text : FirstBytesDecide → ScenariosAreShort → (left : Option (List ℕ)) (before now : ℕ) (bytes : List ℕ) (wanted : Wanted) → IfSome left (λ input. bytes ≡ take (most_bytes + 1) input) → IsKeptOf bytes wanted → IsKept left before now wanted
+pub of_text : FirstBytesDecide → ScenariosAreShort → (left : Option (List ℕ)) (before now : ℕ) (bytes : List ℕ) (wanted : Wanted) → IfSome left (λ input. bytes ≡ take (most_bytes + 1) input) → IsKeptOf bytes wanted → IsForJournal left before now wanted
 of_text decide are_short left before now bytes Usage taken h = h
 of_text decide are_short left before now bytes ReadFault taken h = absurd h
 of_text decide are_short left before now bytes (BadScenario line why) taken h = read_whole decide left bytes (Err (Bad line why)) taken h

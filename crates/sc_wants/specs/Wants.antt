@@ -16,9 +16,9 @@ use Rattle.sc_scenario.specs.declared.reading.ScenarioFault.TheVariants.{Bad}
 use Rattle.sc_scenario.specs.declared.scenarios.Scenario.{Scenario}
 use Rattle.sc_journal_file.specs.Laws.{IsFileOfOne}
 use Rattle.sc_journal_file.specs.Stored.{most_file_bytes, missing_journal, bad_row, file_too_large, IsFile, IsBadFile}
-use Rattle.sc_words.specs.Asked.{asked_by, is_audit}
-use Rattle.sc_words.specs.declared.asked.Asked.{Asked}
-use Rattle.sc_words.specs.declared.asked.Asked.TheVariants as ask
+use Rattle.sc_words.specs.Subcommands.{subcommand_by, is_audit}
+use Rattle.sc_words.specs.declared.subcommands.Subcommand.{Subcommand}
+use Rattle.sc_words.specs.declared.subcommands.Subcommand.TheVariants as ask
 use Rattle.sc_wants.specs.declared.wants.Wanted.{Wanted}
 use Rattle.sc_wants.specs.declared.wants.Wanted.TheVariants.{Usage, ReadFault, BadScenario, Run, Journal, Audit}
 
@@ -103,13 +103,13 @@ IsRead left before now (Journal scenario text) = ⊥
 IsRead left before now (Audit scenario rows) = ⊥
 
 -- The same where the journal of the run is to be printed behind the scenario's text.
-abbrev pub IsKept : Option (List ℕ) → ℕ → ℕ → Wanted → Type 0
-IsKept left before now Usage = ⊥
-IsKept left before now ReadFault = Rose before now
-IsKept left before now (BadScenario line why) = ReadsAs left (Err (Bad line why))
-IsKept left before now (Run scenario) = ⊥
-IsKept left before now (Journal scenario text) = ReadsText left scenario text.items
-IsKept left before now (Audit scenario rows) = ⊥
+abbrev pub IsForJournal : Option (List ℕ) → ℕ → ℕ → Wanted → Type 0
+IsForJournal left before now Usage = ⊥
+IsForJournal left before now ReadFault = Rose before now
+IsForJournal left before now (BadScenario line why) = ReadsAs left (Err (Bad line why))
+IsForJournal left before now (Run scenario) = ⊥
+IsForJournal left before now (Journal scenario text) = ReadsText left scenario text.items
+IsForJournal left before now (Audit scenario rows) = ⊥
 
 -- The same where the source has a stored journal.
 abbrev pub IsAudited : Option (List ℕ) → ℕ → ℕ → Wanted → Type 0
@@ -121,13 +121,13 @@ IsAudited left before now (Journal scenario text) = ⊥
 IsAudited left before now (Audit scenario rows) = ReadsFile left scenario rows
 
 -- What is wanted where the words ask for this: nothing, what a source asks for, or a run of a made scenario, without a look at the source.
-abbrev pub IsAskedFor : Option Asked → Option (List ℕ) → ℕ → ℕ → Wanted → Type 0
+abbrev pub IsAskedFor : Option Subcommand → Option (List ℕ) → ℕ → ℕ → Wanted → Type 0
 IsAskedFor None left before now wanted = wanted ≡ Usage
 IsAskedFor (Some ask.Run) left before now wanted = IsRead left before now wanted
-IsAskedFor (Some ask.Journal) left before now wanted = IsKept left before now wanted
+IsAskedFor (Some ask.Journal) left before now wanted = IsForJournal left before now wanted
 IsAskedFor (Some ask.Audit) left before now wanted = IsAudited left before now wanted
 IsAskedFor (Some (ask.Make n seed)) left before now wanted = (wanted ≡ Run (made_scenario n seed)) × IsValid (made_scenario n seed)
 
 -- The same after any words.
 abbrev pub IsWanted : List (List ℕ) → Option (List ℕ) → ℕ → ℕ → Wanted → Type 0
-IsWanted words left before now wanted = IsAskedFor (asked_by words) left before now wanted
+IsWanted words left before now wanted = IsAskedFor (subcommand_by words) left before now wanted

@@ -2,8 +2,8 @@
 ghost use Rattle.std.specs.Prelude.{◌≡◌, ◌≤◌, ◌+◌, map, false, string_bytes, IfOk};
 ghost use Rattle.sc_lines.specs.Lines.{most_bytes};
 ghost use Rattle.sc_journal_file.specs.Stored.{most_file_bytes};
-ghost use Rattle.sc_words.specs.Asked.{reads_input};
-ghost use Rattle.sc_wants.specs.Wants.{fault_text, IsOf, IsKeptOf, IsStoredIn, IsRead, IsKept, IsAudited, IsWanted, most_takes, words_for};
+ghost use Rattle.sc_words.specs.Subcommands.{reads_input};
+ghost use Rattle.sc_wants.specs.Wants.{fault_text, IsOf, IsKeptOf, IsStoredIn, IsRead, IsForJournal, IsAudited, IsWanted, most_takes, words_for};
 
 use sc_actor::Journal;
 use sc_base::OutOfMemory;
@@ -15,7 +15,7 @@ use sc_make::made_scenario;
 use sc_scenario::{
     INPUT_LIMIT, Scenario, ScenarioFault, first_bytes_decide, read_scenario, reason_text,
 };
-use sc_words::{Asked, asked_by};
+use sc_words::{Subcommand, subcommand_by};
 use std::alloc::Global;
 
 /// What the words and the input ask for.
@@ -85,7 +85,7 @@ fn kept_by(alloc: Global, text: Vec<u8>) -> Result<Wanted, OutOfMemory>
 // The same of the source, where the journal is to be printed.
 fn keep<S: Source>(alloc: Global, input: &mut S) -> Result<Wanted, OutOfMemory>
     ensures kept { IfOk result
-        (λ wanted. IsKept (S.left input.old) (S.faults input.old) (S.faults input.new) wanted) }
+        (λ wanted. IsForJournal (S.left input.old) (S.faults input.old) (S.faults input.new) wanted) }
     ensures calls { S.calls input.new ≤ S.calls input.old + (most_bytes + 2) }
 {
     let bytes = match read_all(alloc, input, INPUT_LIMIT) {
@@ -137,12 +137,12 @@ pub fn wanted_of<S: Source>(
     ensures calls { S.calls input.new ≤ S.calls input.old
         + most_takes (map string_bytes words.now) }
 {
-    match asked_by(alloc, words)? {
+    match subcommand_by(alloc, words)? {
         None => Ok(Wanted::Usage),
-        Some(Asked::Run) => read(alloc, input),
-        Some(Asked::Journal) => keep(alloc, input),
-        Some(Asked::Audit) => audit(alloc, input),
-        Some(Asked::Make { n, seed }) => {
+        Some(Subcommand::Run) => read(alloc, input),
+        Some(Subcommand::Journal) => keep(alloc, input),
+        Some(Subcommand::Audit) => audit(alloc, input),
+        Some(Subcommand::Make { n, seed }) => {
             let scenario = made_scenario(alloc, n, seed)?;
             Ok(Wanted::Run(scenario))
         }

@@ -38,7 +38,7 @@ use Rattle.sc_sound.specs.Logs.{decided_log}
 use Rattle.sc_ring_law.specs.Allowed.{Sources, IsAllowed}
 use Rattle.sc_ring_law.specs.Laws.{BeginInPlace}
 use Rattle.sc_ring_law.specs.Stories.{Story, Stories, unsigned, unsigned_watch}
-use Rattle.sc_journal_law.specs.Allows.{StandsFor, MakesAllowed, GroupAllows}
+use Rattle.sc_journal_law.specs.Allows.{AllowsAsItStands, MakesAllowed, GroupAllows}
 use Rattle.sc_journal_law.specs.Descent.{Rows}
 use Rattle.sc_journal_law.specs.InTurn.{DecideInTurn}
 use Rattle.sc_journal_law.proofs.Allowing.{fronts_allow, states_allow}
@@ -46,7 +46,7 @@ use Rattle.sc_journal_law.proofs.Allows.{groups_allow_others}
 use Rattle.sc_group_law.proofs.Families.{h_of}
 use Rattle.sc_group_law.proofs.Invariant.{rule, first}
 use Rattle.sc_group_law.proofs.Speech.{AreSaid, Meets, Speaks}
-use Rattle.sc_whole_law.specs.Parameters.{stories_at, MayQueue, MayHear}
+use Rattle.sc_whole_law.specs.Parameters.{stories_at, MayQueue, IsHeardAt}
 use Rattle.sc_start_law.specs.Begins.{IsFresh}
 use Rattle.sc_whole_law.specs.Parties.{PartiesAreApart, MergesFit}
 use Rattle.sc_whole_law.proofs.Coming.{Binds}
@@ -104,7 +104,7 @@ module _ (sources : Sources) (ahead : Ahead) (scenario : Scenario) (start : Begi
   on log is = goes_on_from ahead base rows lawful log is
 
   -- what the group makes allowed as it stands after a log
-  state_allows : (log : List Command) → Log log → (other : Draw) (c : Command) → StandsFor sources name (after log) other c → IsAllowed sources told other c
+  state_allows : (log : List Command) → Log log → (other : Draw) (c : Command) → AllowsAsItStands sources name (after log) other c → IsAllowed sources told other c
   state_allows log is other c stands = states_allow sources ahead scenario.groups start rows turn base among log (drop (length log) decided) (on log is) other c stands
 
   -- what an entry of its log makes allowed
@@ -189,32 +189,32 @@ module _ (sources : Sources) (ahead : Ahead) (scenario : Scenario) (start : Begi
 
   -- what a participant says of a vote that stands is heard
   said_vote : (log : List Command) → Log log → (tx : Draw) (offer : Offer) → IsAllowed sources told name (Prepared tx offer) → (vote : Past) → standing_vote (after log).core tx ≡ Some vote → (me node : ℕ)
-      → AreSaid (MayHear sources ahead scenario rows) (voted_to me (after log) node tx offer vote [])
+      → AreSaid (IsHeardAt sources ahead scenario rows) (voted_to me (after log) node tx offer vote [])
   said_vote log is tx offer a Cast.Yes e me node = (participant_yes log is tx offer a (after log).core.lock refl (binds_it log tx e), tt)
   said_vote log is tx offer a (Cast.No why) e me node = (tt, tt)
   said_vote log is tx offer a Cast.Ended e me node = tt
 
   -- so is what a watcher says
   said_watch : (log : List Command) → Log log → (tx : Draw) (watch : Watch) → IsAllowed sources told name (Watched tx watch) → (vote : Past) → standing_vote (after log).core tx ≡ Some vote → (me node : ℕ)
-      → AreSaid (MayHear sources ahead scenario rows) (watched_to me node tx watch vote [])
+      → AreSaid (IsHeardAt sources ahead scenario rows) (watched_to me node tx watch vote [])
   said_watch log is tx watch a Cast.Yes e me node = (watcher_yes log is tx watch a (after log).core.lock refl (binds_it log tx e), tt)
   said_watch log is tx watch a (Cast.No why) e me node = (tt, tt)
   said_watch log is tx watch a Cast.Ended e me node = tt
 
   -- so is what a coordinator asks another node
   said_next : (log : List Command) → Log log → Each Queues log → (me from : ℕ) (tx : Draw) (hint : Option ℕ) (lock : Lock) → (after log).core.lock ≡ lock
-      → AreSaid (MayHear sources ahead scenario rows) (asked_next lock me (after log).core from tx hint [])
+      → AreSaid (IsHeardAt sources ahead scenario rows) (asked_next lock me (after log).core from tx hint [])
   said_next log is all me from tx hint Free e = tt
   said_next log is all me from tx hint (Promised t o) e = tt
   said_next log is all me from tx hint (Watching t w) e = tt
   said_next log is all me from tx hint (Coordinating t body order got) e =
-      cond_both (same_draw t tx) _ [] (AreSaid (MayHear sources ahead scenario rows))
+      cond_both (same_draw t tx) _ [] (AreSaid (IsHeardAt sources ahead scenario rows))
       (λ same. (said_question sources told fit name al (after log) (stands log is all) me tx body order got (e ∙ ap (λ d. Coordinating d body order got) (draw_is t tx same)), tt)) (λ _. tt)
 
   -- ---- all together
 
   -- what comes of a mail
-  met : (log : List Command) → Log log → Each Queues log → (body : MailBody) → MayHear sources ahead scenario rows body → group_of_mail body ≡ Some name → Meets Queues (MayHear sources ahead scenario rows) (after log) body
+  met : (log : List Command) → Log log → Each Queues log → (body : MailBody) → IsHeardAt sources ahead scenario rows body → group_of_mail body ≡ Some name → Meets Queues (IsHeardAt sources ahead scenario rows) (after log) body
   met log is all (TxPrepare tx offer) h named =
       let a = subst (λ n. IsAllowed sources told n (Prepared tx offer)) (same_Some offer.part name named) h in
       ((a, tt), said_vote log is tx offer a)
@@ -228,7 +228,7 @@ module _ (sources : Sources) (ahead : Ahead) (scenario : Scenario) (start : Begi
   met log is all _ h named = tt
 
   -- the group's replicas say and queue what is true and allowed
-  pub speaks : Speaks ahead base Queues (MayHear sources ahead scenario rows) (h_of rows base)
+  pub speaks : Speaks ahead base Queues (IsHeardAt sources ahead scenario rows) (h_of rows base)
   speaks = record {
     noop = (tt, tt);
     elsewhere = λ body h tx coord hint. tt;

@@ -32,7 +32,7 @@ use Rattle.sc_sound.specs.Players.{Ahead, Lawful, node_seat, player_table, syste
 use Rattle.sc_sound.specs.declared.roles.Role.TheVariants.{Node as ANode}
 use Rattle.sc_scenario.specs.declared.scenarios.Asks.{Asks}
 use Rattle.sc_scenario.specs.declared.scenarios.Scenario.{Scenario}
-use Rattle.sc_sound.specs.GroupsOf.{AreApart, groups_at}
+use Rattle.sc_sound.specs.GroupsOf.{AreNamedApart, groups_at}
 use Rattle.sc_sound.specs.Requests.{kept_replies}
 use Rattle.sc_sound.specs.Soundness.{HasRun, AllHaveRun}
 use Rattle.sc_ring_law.specs.Allowed.{Sources, IsAllowed}
@@ -49,7 +49,7 @@ use Rattle.sc_group_law.proofs.Replicated.{one_value, is_log, executed_is}
 use Rattle.sc_group_law.proofs.Stepping.{MayTell}
 use Rattle.sc_group_law.proofs.Ticks.{MayTick}
 use Rattle.sc_whole_law.specs.Orders.{OrdersAreAllowed}
-use Rattle.sc_whole_law.specs.Parameters.{stories_at, IsIssuedCall, MayQueue, MayHear}
+use Rattle.sc_whole_law.specs.Parameters.{stories_at, IsIssuedCall, MayQueue, IsHeardAt}
 use Rattle.sc_start_law.specs.Begins.{IsFresh, HasSeats, AsksAre}
 use Rattle.sc_whole_law.proofs.Replies.{decided_before, replies_are_decided}
 use Rattle.sc_whole_law.proofs.Turning.{Holds, players, issued_now, told_now, holds_next}
@@ -70,7 +70,7 @@ names_push on drawer [] r = refl
 names_push on drawer (s ∷ older) r = names_push on (names_after_tick on drawer s) older r
 
 module _ (sources : Sources) (ahead : Ahead) (words : ℕ → ℕ → ℕ × ℕ) (scenario : Scenario) (route : Route) (start : BeginInPlace sources scenario.groups) (seats : HasSeats ahead scenario route) (asks_are : AsksAre sources scenario)
-    (names : AreApart scenario.groups) (fresh : (b : Base) → Among b scenario.groups → IsFresh b) where
+    (names : AreNamedApart scenario.groups) (fresh : (b : Base) → Among b scenario.groups → IsFresh b) where
   abbrev All : Rows → Type 0
   All rows = Holds sources ahead words scenario route start seats asks_are rows
 
@@ -79,7 +79,7 @@ module _ (sources : Sources) (ahead : Ahead) (words : ℕ → ℕ → ℕ × ℕ
 
   -- before any row
   pub holds_first : All []
-  holds_first = record { kept = at_start ahead scenario scenario.groups route (MayQueue sources ahead scenario) (MayHear sources ahead scenario) names; turn = tt; fresh = fresh }
+  holds_first = record { kept = at_start ahead scenario scenario.groups route (MayQueue sources ahead scenario) (IsHeardAt sources ahead scenario) names; turn = tt; fresh = fresh }
 
   -- what policies may queue at a tick
   may_tick : (all before : Rows) (row : Row Mail OrderLine) (later : Rows) → all ≡ before ++ row ∷ later → OrdersAreAllowed sources ahead scenario all → row.event ≡ Tick → 1 ≤ row.who → row.who ≤ scenario.nodes
@@ -101,7 +101,7 @@ module _ (sources : Sources) (ahead : Ahead) (words : ℕ → ℕ → ℕ × ℕ
 
   -- what an order may queue
   may_tell : (all before : Rows) (row : Row Mail OrderLine) (later : Rows) → all ≡ before ++ row ∷ later → OrdersAreAllowed sources ahead scenario all → (h : All before) → (event : Event OrderLine) → row.event ≡ event
-      → MayTell ahead words scenario scenario.groups (bases before) route (MayQueue sources ahead scenario) (MayHear sources ahead scenario) (players sources ahead words scenario route start seats asks_are before h) before row.who event
+      → MayTell ahead words scenario scenario.groups (bases before) route (MayQueue sources ahead scenario) (IsHeardAt sources ahead scenario) (players sources ahead words scenario route start seats asks_are before h) before row.who event
   unfolding names_after_ticks
   may_tell all before row later are orders h (Told line) e = λ low high node is b a into r found taken. (
     subst (λ n. IsAllowed sources (stories_at ahead scenario.groups before) n (ordered_command (next_name node.draws) line.number line.order)) into

@@ -15,7 +15,7 @@ use Rattle.sc_mail.specs.declared.bodies.Mail.{Mail}
 use Rattle.sc_actor.specs.declared.actors.Seat.{Seat}
 use Rattle.sc_actor.specs.declared.rows.Row.{Row}
 use Rattle.sc_client_table.specs.Client.{Client, born_client}
-use Rattle.sc_lookup.specs.Known.{Known}
+use Rattle.sc_lookup.specs.Known.{KnownGroups}
 use Rattle.sc_lookup.specs.Ways.{new_way}
 use Rattle.sc_lookup.specs.declared.ways.Way.{Way}
 use Rattle.sc_node_table.specs.Slots.{numbers_from}
@@ -49,7 +49,7 @@ routes_are_one : (g h : Draw) (lo start : ℕ) (members nodes : List ℕ) → g 
 routes_are_one g h lo start members nodes e f i = cc
 
 -- where one group is known, its name and the way to it are known
-one_known : (g h : Draw) (way other : Way) → (let known : Known = (g, way) ∷ [] in known) ≡ (h, other) ∷ [] → (g ≡ h) × (way ≡ other)
+one_known : (g h : Draw) (way other : Way) → (let known : KnownGroups = (g, way) ∷ [] in known) ≡ (h, other) ∷ [] → (g ≡ h) × (way ≡ other)
 one_known g h way other e =
     let same : (let pair : Draw × Way = (g, way) in pair) ≡ (h, other) = cc in
     (ap (λ (pair : Draw × Way). pair.0) same, ap (λ (pair : Draw × Way). pair.1) same)

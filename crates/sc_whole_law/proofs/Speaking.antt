@@ -43,7 +43,7 @@ use Rattle.sc_node_table.specs.Spoken.{asked_on, decided_in, cast_in, vote_sent,
 use Rattle.sc_ring_law.specs.Allowed.{Sources, IsAllowed}
 use Rattle.sc_ring_law.specs.Invariant.{Groups, Facts, LockOk}
 use Rattle.sc_ring_law.specs.Stories.{Story, Stories, unsigned, watch_with}
-use Rattle.sc_journal_law.specs.Allows.{StandsFor, MakesAllowed, GroupAllows}
+use Rattle.sc_journal_law.specs.Allows.{AllowsAsItStands, MakesAllowed, GroupAllows}
 use Rattle.sc_group_law.proofs.Speech.{IsSaid, AreSaid}
 use Rattle.sc_whole_law.specs.Parameters.{IsHeard}
 use Rattle.sc_whole_law.specs.Parties.{MergesFit}
@@ -57,15 +57,15 @@ module _ (sources : Sources) (by : Draw) (group : Group) where
   lock_is groups stories facts is lock e = subst (LockOk stories by group) e (facts.group by group is).lock_ok
 
   -- who watches was asked to
-  pub stands_watch : (tx : Draw) (watch : Watch) → group.core.lock ≡ Watching tx watch → StandsFor sources by group by (Watched tx watch)
+  pub stands_watch : (tx : Draw) (watch : Watch) → group.core.lock ≡ Watching tx watch → AllowsAsItStands sources by group by (Watched tx watch)
   stands_watch tx watch lock groups stories facts is = (let own = lock_is groups stories facts is (Watching tx watch) lock in (own.story, own.is, own.asked, own.part))
 
   -- who has promised was asked to
-  pub stands_offer : (tx : Draw) (offer : Offer) → group.core.lock ≡ Promised tx offer → StandsFor sources by group by (Prepared tx offer)
+  pub stands_offer : (tx : Draw) (offer : Offer) → group.core.lock ≡ Promised tx offer → AllowsAsItStands sources by group by (Prepared tx offer)
   stands_offer tx offer lock groups stories facts is = (let own = lock_is groups stories facts is (Promised tx offer) lock in (own.story, own.is, own.offered, own.part))
 
   -- what a coordinator has heard was voted
-  pub stands_heard : (tx : Draw) (body : Body) (order : ℕ) (heard : Heard) → group.core.lock ≡ Coordinating tx body order (Some heard) → (name : Draw) (node : ℕ) → StandsFor sources by group name (RecordVote tx (Vows.Yes heard.frozen) node)
+  pub stands_heard : (tx : Draw) (body : Body) (order : ℕ) (heard : Heard) → group.core.lock ≡ Coordinating tx body order (Some heard) → (name : Draw) (node : ℕ) → AllowsAsItStands sources by group name (RecordVote tx (Vows.Yes heard.frozen) node)
   stands_heard tx body order heard lock name node groups stories facts is = (
       let own = lock_is groups stories facts is (Coordinating tx body order (Some heard)) lock in
       (own.story, own.is, (own.heard_vote heard refl).0))
@@ -80,7 +80,7 @@ module _ (sources : Sources) (stories : Stories) (fit : MergesFit stories) (name
 
   -- what a group makes allowed as it stands is allowed, its body is a merge where its participant was heard, and it can be split where it is to be
   pub record Stands (group : Group) : Type 0 where
-    pub allows : (other : Draw) (c : Command) → StandsFor sources name group other c → IsAllowed sources stories other c
+    pub allows : (other : Draw) (c : Command) → AllowsAsItStands sources name group other c → IsAllowed sources stories other c
     pub merges : (tx : Draw) (body : Body) (order : ℕ) (heard : Heard) → group.core.lock ≡ Coordinating tx body order (Some heard) → body ≡ By.Merge
     pub splits : (tx : Draw) (at : ℕ) (child : Draw) (order : ℕ) (got : Option Heard) → group.core.lock ≡ Coordinating tx (By.Split at child) order got → can_split group.core at ≡ true
 

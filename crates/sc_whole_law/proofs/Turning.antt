@@ -51,7 +51,7 @@ use Rattle.sc_group_law.proofs.Clients.{IsIssued, IsAnswered}
 use Rattle.sc_group_law.proofs.Families.{h_of, Kept, Stepped, IsLater, Moved, push, log_goes_on, decided_made}
 use Rattle.sc_group_law.proofs.Places.{or_now, issue-push}
 use Rattle.sc_group_law.proofs.Stepping.{HasPlayers, MayTell, KnowsOffspring, moved}
-use Rattle.sc_whole_law.specs.Parameters.{stories_at, IsIssuedCall, MayQueue, MayHear}
+use Rattle.sc_whole_law.specs.Parameters.{stories_at, IsIssuedCall, MayQueue, IsHeardAt}
 use Rattle.sc_start_law.specs.Begins.{IsFresh, HasSeats, AsksAre}
 use Rattle.sc_whole_law.specs.Parties.{PartiesAreApart, MergesFit}
 use Rattle.sc_whole_law.proofs.Apart.{IsNew, IsOldOrNew, named_apart, silent}
@@ -101,7 +101,7 @@ module _ (sources : Sources) (ahead : Ahead) (words : ℕ → ℕ → ℕ × ℕ
   made = MayQueue sources ahead scenario
 
   abbrev heard : Rows → MailBody → Type 0
-  heard = MayHear sources ahead scenario
+  heard = IsHeardAt sources ahead scenario
 
   -- what holds of a journal: of its nodes and clients, of its mail and logs, and of its groups
   pub record Holds (rows : Rows) : Type 0 where

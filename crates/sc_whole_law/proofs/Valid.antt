@@ -1,19 +1,19 @@
 -- Lawful journals of valid scenarios are sound: they begin well, and what their orders queue is allowed.
 use Rattle.std.proofs.Common.{◌++◌, subst}
 use Rattle.sc_sound.specs.Players.{Lawful, route_of}
-use Rattle.sc_scenario.specs.Valid.{TextsAreEarly}
+use Rattle.sc_scenario.specs.Valid.{ValidScenariosAreBounded}
 use Rattle.sc_draws_law.specs.Laws.{OtherNamesAreFree, TakenOrdersAreAllowed, TakenWishesAreAllowed, WishesAreAtPositions}
 use Rattle.sc_draws_law.specs.Owners.{owner_in}
-use Rattle.sc_start_law.specs.Begins.{request_of}
+use Rattle.sc_start_law.specs.Begins.{section_op}
 use Rattle.sc_start_law.specs.Laws.{ValidScenariosBeginWell}
 use Rattle.sc_whole_law.specs.Laws.{LawfulJournalsAreSound}
 use Rattle.sc_whole_law.specs.Valid.{ValidJournalsAreSound}
 use Rattle.sc_whole_law.proofs.Scheduled.{orders_allowed}
 
-pub valid_sound : TextsAreEarly → ValidScenariosBeginWell → TakenOrdersAreAllowed → TakenWishesAreAllowed → WishesAreAtPositions → OtherNamesAreFree → LawfulJournalsAreSound → ValidJournalsAreSound
-valid_sound early begin allowed wishes positions free law ahead open_slots words scenario valid journal lawful rows more is =
+pub valid_sound : ValidScenariosAreBounded → ValidScenariosBeginWell → TakenOrdersAreAllowed → TakenWishesAreAllowed → WishesAreAtPositions → OtherNamesAreFree → LawfulJournalsAreSound → ValidJournalsAreSound
+valid_sound bounded begin allowed wishes positions free law ahead open_slots words scenario valid journal lawful rows more is =
     let all = subst (Lawful ahead words scenario) is lawful in
     let owner = owner_in ahead scenario (rows ++ more) in
     let ready = begin owner (free ahead scenario (rows ++ more)) ahead open_slots scenario valid in
-    law (record { owner = owner; request = request_of scenario }) ahead words scenario (route_of ready.first) ready.well ready.bare rows more
-    (orders_allowed ahead words scenario (early scenario valid) allowed wishes positions (rows ++ more) all) all
+    law (record { owner = owner; request = section_op scenario }) ahead words scenario (route_of ready.first) ready.well ready.bare rows more
+    (orders_allowed ahead words scenario (bounded scenario valid) allowed wishes positions (rows ++ more) all) all

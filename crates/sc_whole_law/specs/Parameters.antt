@@ -58,5 +58,5 @@ abbrev pub MayQueue : Sources → Ahead → Scenario → Rows → Base → Comma
 MayQueue sources ahead scenario rows base command = IsAllowed sources (stories_at ahead scenario.groups rows) base.core.id command × IsIssuedCall scenario rows command
 
 -- a mail may be heard after these rows
-abbrev pub MayHear : Sources → Ahead → Scenario → Rows → MailBody → Type 0
-MayHear sources ahead scenario rows body = IsHeard sources (stories_at ahead scenario.groups rows) body
+abbrev pub IsHeardAt : Sources → Ahead → Scenario → Rows → MailBody → Type 0
+IsHeardAt sources ahead scenario rows body = IsHeard sources (stories_at ahead scenario.groups rows) body

@@ -37,12 +37,12 @@ abbrev pub kid_name : Draw
 kid_name = record { node = 1; count = 1 }
 
 -- the order to split
-abbrev pub order : OrderLine
-order = record { number = 1; order = An.Split lone_name place }
+abbrev pub split_order : OrderLine
+split_order = record { number = 1; order = An.Split lone_name place }
 
 -- the order, as a command
-abbrev pub split : Command
-split = Split place kid_name 1
+abbrev pub lone_split : Command
+lone_split = Split place kid_name 1
 
 -- the child, whose one member is node 2
 abbrev pub kid : Base
@@ -53,8 +53,8 @@ abbrev pub put_z : Op
 put_z = Put (122 ∷ []) (120 ∷ [])
 
 -- the request, as a command
-abbrev pub call : Command
-call = Call 1 1 put_z
+abbrev pub lone_call : Command
+lone_call = Call 1 1 put_z
 
 -- the split is ordered and carried out, and then the client starts
 abbrev pub split_scenario : Scenario
@@ -63,36 +63,36 @@ split_scenario = record {
   groups = pair ∷ [];
   policy = false;
   clients = record { client = 1; ops = put_z ∷ [] } ∷ [];
-  lines = line.Told 1 order ∷ line.Settle 100 ∷ line.Go 1 ∷ line.Settle 100 ∷ [];
+  lines = line.Told 1 split_order ∷ line.Settle 100 ∷ line.Go 1 ∷ line.Settle 100 ∷ [];
   brief = false;
   version = 1;
 }
 
 -- the ballots of the first leaders
-abbrev pub leads : Ballot
-leads = record { round = 1; node = 1 }
+abbrev pub lone_ballot : Ballot
+lone_ballot = record { round = 1; node = 1 }
 
 -- the child's first leader is its own member
 abbrev pub kid_leads : Ballot
 kid_leads = record { round = 1; node = 2 }
 
 -- the way to the child
-abbrev pub way : Link
-way = record { group = kid_name; members = 2 ∷ [] }
+abbrev pub kid_link : Link
+kid_link = record { group = kid_name; members = 2 ∷ [] }
 
 -- both nodes decide the split; node 2 executes it when it learns it, and leads the child from birth
 abbrev pub split_example : List (Row Mail OrderLine)
 split_example =
-    row 1 (Told order) (record { from = 1; to = 1; body = Accept lone_name leads 1 split } ∷ record { from = 1; to = 2; body = Accept lone_name leads 1 split } ∷ [])
-    ∷ row 1 (Deliver 1) (mail 1 1 (Accepted lone_name leads 1))
-    ∷ row 2 (Deliver 2) (mail 2 1 (Accepted lone_name leads 1))
+    row 1 (Told split_order) (record { from = 1; to = 1; body = Accept lone_name lone_ballot 1 lone_split } ∷ record { from = 1; to = 2; body = Accept lone_name lone_ballot 1 lone_split } ∷ [])
+    ∷ row 1 (Deliver 1) (mail 1 1 (Accepted lone_name lone_ballot 1))
+    ∷ row 2 (Deliver 2) (mail 2 1 (Accepted lone_name lone_ballot 1))
     ∷ row 1 (Deliver 3) []
-    ∷ row 1 (Deliver 4) (record { from = 1; to = 0; body = ToldMail 1 Tells.Done } ∷ record { from = 1; to = 2; body = Learn lone_name 1 split } ∷ [])
+    ∷ row 1 (Deliver 4) (record { from = 1; to = 0; body = ToldMail 1 Tells.Done } ∷ record { from = 1; to = 2; body = Learn lone_name 1 lone_split } ∷ [])
     ∷ row 2 (Deliver 6) (mail 2 0 (ToldMail 1 Tells.Done))
     ∷ row 33 Go (mail 33 1 (Request lone_name 1 1 put_z))
-    ∷ row 1 (Deliver 8) (mail 1 33 (Answer lone_name 1 (Says.NotMine (record { lo = 0; len = place }) way)))
+    ∷ row 1 (Deliver 8) (mail 1 33 (Answer lone_name 1 (Says.NotMine (record { lo = 0; len = place }) kid_link)))
     ∷ row 33 (Deliver 9) (mail 33 2 (Request kid_name 1 1 put_z))
-    ∷ row 2 (Deliver 10) (mail 2 2 (Accept kid_name kid_leads 1 call))
+    ∷ row 2 (Deliver 10) (mail 2 2 (Accept kid_name kid_leads 1 lone_call))
     ∷ row 2 (Deliver 11) (mail 2 2 (Accepted kid_name kid_leads 1)) ∷ []
 
 -- the ring afterwards

@@ -49,18 +49,18 @@ half name other lo len = record {
 }
 
 -- the positions below those of keys that begin with a lower letter
-abbrev pub lower : Base
-lower = half one two 0 1610612736
+abbrev pub lower_group : Base
+lower_group = half one two 0 1610612736
 
 -- and the others
-abbrev pub upper : Base
-upper = half two one 1610612736 2684354560
+abbrev pub upper_group : Base
+upper_group = half two one 1610612736 2684354560
 
 -- one client puts a value at a key of the second group
 abbrev pub two_scenario : Scenario
 two_scenario = record {
   nodes = 1;
-  groups = lower ∷ upper ∷ [];
+  groups = lower_group ∷ upper_group ∷ [];
   policy = false;
   clients = record { client = 1; ops = put_it ∷ [] } ∷ [];
   lines = line.Go 1 ∷ line.Settle 3 ∷ line.Tick 1 ∷ line.Settle 100 ∷ [];
@@ -69,8 +69,8 @@ two_scenario = record {
 }
 
 -- the one request, as a command
-abbrev pub put : Command
-put = Call 1 1 put_it
+abbrev pub put_it_call : Command
+put_it_call = Call 1 1 put_it
 
 -- the first group does not hold the key; the second offers it, once more at the tick, and accepts it
 abbrev pub two_example : List (Row Mail OrderLine)
@@ -78,7 +78,7 @@ two_example =
     row 33 Go (mail 33 1 (Request one 1 1 put_it))
     ∷ row 1 (Deliver 1) (mail 1 33 (Answer one 1 (NotMine (record { lo = 0; len = 1610612736 }) (link two))))
     ∷ row 33 (Deliver 2) (mail 33 1 (Request two 1 1 put_it))
-    ∷ row 1 (Deliver 3) (mail 1 1 (Accept two ballot 1 put))
-    ∷ row 1 Tick (mail 1 1 (Accept two ballot 1 put))
+    ∷ row 1 (Deliver 3) (mail 1 1 (Accept two ballot 1 put_it_call))
+    ∷ row 1 Tick (mail 1 1 (Accept two ballot 1 put_it_call))
     ∷ row 1 (Deliver 4) (mail 1 1 (Accepted two ballot 1))
     ∷ row 1 (Deliver 5) (mail 1 1 (Accepted two ballot 1)) ∷ []

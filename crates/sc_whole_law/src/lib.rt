@@ -20,22 +20,22 @@ ghost use Rattle.sc_whole_law.specs.Laws.{
   MembersStayRosters,
 };
 ghost use Rattle.sc_whole_law.specs.SplitExample.{
-  call,
+  lone_call,
   kid,
   pair,
   parts,
-  split,
+  lone_split,
   split_example,
   split_scenario,
 };
 ghost use Rattle.sc_whole_law.specs.Texts.{election_text, join_text, split_text, two_text};
-ghost use Rattle.sc_whole_law.specs.TwoGroups.{lower, put, two_example, two_scenario, upper};
+ghost use Rattle.sc_whole_law.specs.TwoGroups.{lower_group, put_it_call, two_example, two_scenario, upper_group};
 ghost use Rattle.sc_whole_law.specs.Valid.{ValidJournalsAreSound};
 
 use sc_draws_law::{names_have_one_owner, orders_are_allowed};
 use sc_group_law::{a_journal_with_a_join, a_journal_with_an_election};
 use sc_journal_law::journals_in_turn_are_sound;
-use sc_scenario::texts_are_early;
+use sc_scenario::valid_scenarios_are_bounded;
 use sc_start_law::valid_scenarios_begin_well;
 
 /// The members of a group are one to nine nodes, ascending, after every log, whatever stands in it.
@@ -76,7 +76,7 @@ pub fn lawful_journals_are_sound()
 pub fn valid_journals_are_sound()
     ensures { ValidJournalsAreSound }
 {
-    texts_are_early();
+    valid_scenarios_are_bounded();
     valid_scenarios_begin_well();
     orders_are_allowed();
     names_have_one_owner();
@@ -109,8 +109,8 @@ pub fn a_journal_of_two_groups()
     ensures text { scenario_of two_text ≡ Some two_scenario }
     ensures lawful { Lawful four no_words two_scenario two_example }
     ensures sound { IsSound four two_scenario two_example [] }
-    ensures first { decided_log four lower two_example ≡ [] }
-    ensures second { decided_log four upper two_example ≡ put ∷ [] }
+    ensures first { decided_log four lower_group two_example ≡ [] }
+    ensures second { decided_log four upper_group two_example ≡ put_it_call ∷ [] }
 {
     valid_journals_are_sound();
 }
@@ -122,8 +122,8 @@ pub fn a_journal_with_a_split()
     ensures lawful { Lawful four no_words split_scenario split_example }
     ensures sound { IsSound four split_scenario split_example [] }
     ensures groups { groups_at four (pair ∷ []) split_example ≡ pair ∷ kid ∷ [] }
-    ensures log { decided_log four pair split_example ≡ split ∷ [] }
-    ensures kid_log { decided_log four kid split_example ≡ call ∷ [] }
+    ensures log { decided_log four pair split_example ≡ lone_split ∷ [] }
+    ensures kid_log { decided_log four kid split_example ≡ lone_call ∷ [] }
     ensures ring { ring_at four (pair ∷ []) split_example ≡ parts }
 {
     valid_journals_are_sound();

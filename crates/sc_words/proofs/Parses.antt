@@ -11,7 +11,7 @@ use Rattle.std.specs.Option.{option_map_or}
 use Rattle.clap.specs.Takes.{bundle_passes, default_passes, flag_word_passes, is_valid, level_passes, settle_passes, step_passes, takes, turn_passes, walk_passes, word_passes}
 use Rattle.clap.specs.Simple.{Shape, built, new_shape, subcommand_of}
 use Rattle.clap.proofs.OnLiterals.{clap_on_literals}
-use Rattle.sc_words.specs.Asked.{has_dash}
+use Rattle.sc_words.specs.Subcommands.{has_dash}
 use Rattle.sc_words.specs.Commands.{scatter_app}
 
 -- ---- a word without a dash

@@ -10,9 +10,9 @@ use Rattle.clap.specs.declared.error.kind.ErrorKind.{ErrorKind}
 use Rattle.clap.specs.declared.error.kind.ErrorKind.TheVariants.{OutOfMemory}
 use Rattle.clap.proofs.OnLiterals.{clap_on_literals}
 use Rattle.sc_lines.specs.Words.{same}
-use Rattle.sc_words.specs.Asked.{make_of, asked_by, has_dash, is_known, is_plain}
-use Rattle.sc_words.specs.Commands.{scatter_app, make_in, asked_in}
-use Rattle.sc_words.specs.declared.asked.Asked.TheVariants.{Run, Journal, Audit}
+use Rattle.sc_words.specs.Subcommands.{make_of, subcommand_by, has_dash, is_known, is_plain}
+use Rattle.sc_words.specs.Commands.{scatter_app, make_in, subcommand_in}
+use Rattle.sc_words.specs.declared.subcommands.Subcommand.TheVariants.{Run, Journal, Audit}
 use Rattle.sc_words.proofs.Shapes.{passed, other_count}
 use Rattle.sc_words.proofs.Parses.{make_rows, make_taken, make_found, run_taken, journal_taken, audit_taken}
 
@@ -59,42 +59,42 @@ of_plain P word words plain = of_known P word (both_true (is_known word) (not (l
 simple : is_simple scatter_app ≡ true
 simple = refl
 
-run_alone : asked_in 1 (subcommand_of scatter_app (codes "run" ∷ [])) ≡ Some Run
+run_alone : subcommand_in 1 (subcommand_of scatter_app (codes "run" ∷ [])) ≡ Some Run
 unfolding clap_on_literals
 run_alone = refl
 
-journal_alone : asked_in 1 (subcommand_of scatter_app (codes "journal" ∷ [])) ≡ Some Journal
+journal_alone : subcommand_in 1 (subcommand_of scatter_app (codes "journal" ∷ [])) ≡ Some Journal
 unfolding clap_on_literals
 journal_alone = refl
 
-audit_alone : asked_in 1 (subcommand_of scatter_app (codes "audit" ∷ [])) ≡ Some Audit
+audit_alone : subcommand_in 1 (subcommand_of scatter_app (codes "audit" ∷ [])) ≡ Some Audit
 unfolding clap_on_literals
 audit_alone = refl
 
-make_alone : asked_in 1 (subcommand_of scatter_app (codes "make" ∷ [])) ≡ None
+make_alone : subcommand_in 1 (subcommand_of scatter_app (codes "make" ∷ [])) ≡ None
 unfolding clap_on_literals
 make_alone = refl
 
-run_and_two : (one other : Text) → asked_in 3 (subcommand_of scatter_app (codes "run" ∷ one ∷ other ∷ [])) ≡ None
+run_and_two : (one other : Text) → subcommand_in 3 (subcommand_of scatter_app (codes "run" ∷ one ∷ other ∷ [])) ≡ None
 unfolding clap_on_literals
 run_and_two one other = refl
 
-journal_and_two : (one other : Text) → asked_in 3 (subcommand_of scatter_app (codes "journal" ∷ one ∷ other ∷ [])) ≡ None
+journal_and_two : (one other : Text) → subcommand_in 3 (subcommand_of scatter_app (codes "journal" ∷ one ∷ other ∷ [])) ≡ None
 unfolding clap_on_literals
 journal_and_two one other = refl
 
-audit_and_two : (one other : Text) → asked_in 3 (subcommand_of scatter_app (codes "audit" ∷ one ∷ other ∷ [])) ≡ None
+audit_and_two : (one other : Text) → subcommand_in 3 (subcommand_of scatter_app (codes "audit" ∷ one ∷ other ∷ [])) ≡ None
 unfolding clap_on_literals
 audit_and_two one other = refl
 
-make_read : (count seed : Text) → asked_in 3 (Some (codes "make", make_rows count seed)) ≡ make_of count seed
+make_read : (count seed : Text) → subcommand_in 3 (Some (codes "make", make_rows count seed)) ≡ make_of count seed
 make_read count seed = refl
 
-of_two : (o : Option (Text × List Row)) → asked_in 2 o ≡ None
+of_two : (o : Option (Text × List Row)) → subcommand_in 2 o ≡ None
 of_two None = refl
 of_two (Some met) = refl
 
-of_many : (n : ℕ) (o : Option (Text × List Row)) → (n ≡ 1 → ⊥) → (n ≡ 3 → ⊥) → asked_in n o ≡ None
+of_many : (n : ℕ) (o : Option (Text × List Row)) → (n ≡ 1 → ⊥) → (n ≡ 3 → ⊥) → subcommand_in n o ≡ None
 of_many n None one three = refl
 of_many n (Some met) one three =
     let not_one = ne_eqb n 1 one in
@@ -104,7 +104,7 @@ of_many n (Some met) one three =
     ∙ passed (eqb n 3) (same met.0 (codes "make")) (make_in met.1) None (ne_eqb n 3 three)
 
 abbrev GivesBack : List Text → Type 0
-GivesBack words = asked_in (length words) (subcommand_of scatter_app words) ≡ asked_by words
+GivesBack words = subcommand_in (length words) (subcommand_of scatter_app words) ≡ subcommand_by words
 
 one_back : (word : Text) → is_plain (word ∷ []) ≡ true → GivesBack (word ∷ [])
 one_back word plain = of_plain (λ w. GivesBack (w ∷ [])) word [] plain run_alone journal_alone audit_alone make_alone
@@ -112,7 +112,7 @@ one_back word plain = of_plain (λ w. GivesBack (w ∷ [])) word [] plain run_al
 make_back : (count seed : Text) → is_plain (codes "make" ∷ count ∷ seed ∷ []) ≡ true → GivesBack (codes "make" ∷ count ∷ seed ∷ [])
 make_back count seed plain =
     let clear = no_dash (has_dash count) (has_dash seed) plain in
-    ap (asked_in 3) (make_found count seed clear.0 clear.1) ∙ make_read count seed
+    ap (subcommand_in 3) (make_found count seed clear.0 clear.1) ∙ make_read count seed
 
 three_back : (word count seed : Text) → is_plain (word ∷ count ∷ seed ∷ []) ≡ true → GivesBack (word ∷ count ∷ seed ∷ [])
 three_back word count seed plain =
@@ -120,7 +120,7 @@ three_back word count seed plain =
     (λ p. run_and_two count seed) (λ p. journal_and_two count seed) (λ p. audit_and_two count seed) (make_back count seed) plain
 
 -- plain words come out as what they ask for
-pub given_back : (words : List Text) → is_plain words ≡ true → asked_in (length words) (subcommand_of scatter_app words) ≡ asked_by words
+pub given_back : (words : List Text) → is_plain words ≡ true → subcommand_in (length words) (subcommand_of scatter_app words) ≡ subcommand_by words
 given_back [] plain = absurd (true≢false (sym plain))
 given_back (word ∷ []) plain = one_back word plain
 given_back (word ∷ next ∷ []) plain = of_two (subcommand_of scatter_app (word ∷ next ∷ []))
@@ -133,7 +133,7 @@ given_back (word ∷ count ∷ seed ∷ more ∷ words) plain =
 
 -- clap takes the words, or they ask for nothing
 abbrev pub IsTaken : List Text → Type 0
-IsTaken words = (takes scatter_app words ≡ false) → asked_by words ≡ None
+IsTaken words = (takes scatter_app words ≡ false) → subcommand_by words ≡ None
 
 -- words that clap takes
 are_taken : (words : List Text) → takes scatter_app words ≡ true → IsTaken words
@@ -164,15 +164,15 @@ taken (word ∷ count ∷ seed ∷ more ∷ words) plain = λ refused. other_cou
 
 -- what a parse of plain words gave is what they ask for
 pub read_back : (X : Type 0) (words : List Text) (n : ℕ) (app : App) (found : Option (Text × List Row)) → app ≡ scatter_app → n ≡ length words → is_plain words ≡ true
-    → (is_simple app ≡ true → X × (found ≡ subcommand_of app words)) → asked_in n found ≡ asked_by words
+    → (is_simple app ≡ true → X × (found ≡ subcommand_of app words)) → subcommand_in n found ≡ subcommand_by words
 read_back X words n app found app_is counted plain matches =
-    ap (λ n. asked_in n found) counted
-    ∙ ap (asked_in (length words)) ((matches (ap is_simple app_is ∙ simple)).1 ∙ ap (λ a. subcommand_of a words) app_is)
+    ap (λ n. subcommand_in n found) counted
+    ∙ ap (subcommand_in (length words)) ((matches (ap is_simple app_is ∙ simple)).1 ∙ ap (λ a. subcommand_of a words) app_is)
     ∙ given_back words plain
 
 -- words at which a parse failed, not for want of memory, ask for nothing
 pub not_taken : (words : List Text) (app : App) (kind : ErrorKind) → app ≡ scatter_app → is_plain words ≡ true
-    → (takes app words ≡ true → kind ≡ OutOfMemory) → (kind ≡ OutOfMemory → ⊥) → asked_by words ≡ None
+    → (takes app words ≡ true → kind ≡ OutOfMemory) → (kind ≡ OutOfMemory → ⊥) → subcommand_by words ≡ None
 not_taken words app kind app_is plain passes other =
     elim (cases_Bool (takes scatter_app words)) [
       | inl t ↦ absurd (other (passes (ap (λ a. takes a words) app_is ∙ t)))

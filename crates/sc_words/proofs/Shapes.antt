@@ -9,10 +9,10 @@ use Rattle.sc_base.proofs.CommonLemmas.{and_then-some}
 use Rattle.sc_base.specs.Limits.{most_requests}
 use Rattle.sc_base.specs.Number.{number_of}
 use Rattle.sc_lines.specs.Words.{same, nth, count_in}
-use Rattle.sc_words.specs.Asked.{is_run, is_journal, is_audit, is_make, reads_input, is_on_input, last_seed, make_of, asked_by, has_dash, is_plain, IsInRange}
+use Rattle.sc_words.specs.Subcommands.{is_run, is_journal, is_audit, is_make, reads_input, is_on_input, last_seed, make_of, subcommand_by, has_dash, is_plain, IsInRange}
 use Rattle.sc_lines.proofs.Choices.{counted}
-use Rattle.sc_words.specs.declared.asked.Asked.{Asked}
-use Rattle.sc_words.specs.declared.asked.Asked.TheVariants.{Run, Journal, Audit, Make}
+use Rattle.sc_words.specs.declared.subcommands.Subcommand.{Subcommand}
+use Rattle.sc_words.specs.declared.subcommands.Subcommand.TheVariants.{Run, Journal, Audit, Make}
 
 -- ---- words with a dash spell no number
 
@@ -40,10 +40,10 @@ no_seed count seed dash =
 -- ---- other numbers of words
 
 -- a choice that falls away
-pub passed : (counts known : Bool) (this other : Option Asked) → counts ≡ false → (if counts && known then this else other) ≡ other
+pub passed : (counts known : Bool) (this other : Option Subcommand) → counts ≡ false → (if counts && known then this else other) ≡ other
 passed counts known this other e = cond-false (counts && known) this other (ap (λ b. b && known) e)
 
-pub other_count : (words : List (List ℕ)) → (length words ≡ 1 → ⊥) → (length words ≡ 3 → ⊥) → asked_by words ≡ None
+pub other_count : (words : List (List ℕ)) → (length words ≡ 1 → ⊥) → (length words ≡ 3 → ⊥) → subcommand_by words ≡ None
 other_count words one three =
     let not_one = ne_eqb (length words) 1 one in
     passed (eqb (length words) 1) (same (nth words 0) (codes "run")) (Some Run) _ not_one
@@ -62,14 +62,14 @@ not_alone word known other plain =
     ]
 
 -- what one word alone asks for, by which it is
-abbrev alone : Bool → Bool → Bool → Option Asked
+abbrev alone : Bool → Bool → Bool → Option Subcommand
 alone run journal audit = if run then Some Run else if journal then Some Journal else if audit then Some Audit else None
 
 none_alone : (run journal audit : Bool) → run ≡ false → journal ≡ false → audit ≡ false → alone run journal audit ≡ None
 none_alone run journal audit r j a =
     cond-false run (Some Run) _ r ∙ cond-false journal (Some Journal) _ j ∙ cond-false audit (Some Audit) None a
 
-one_word : (word : List ℕ) → is_plain (word ∷ []) ≡ false → asked_by (word ∷ []) ≡ None
+one_word : (word : List ℕ) → is_plain (word ∷ []) ≡ false → subcommand_by (word ∷ []) ≡ None
 one_word word other =
     none_alone (same word (codes "run")) (same word (codes "journal")) (same word (codes "audit"))
     (not_alone word (codes "run") other refl) (not_alone word (codes "journal") other refl) (not_alone word (codes "audit") other refl)
@@ -86,7 +86,7 @@ three_make count seed other =
       | inr clear ↦ no_count count seed (some_dash (has_dash count) (has_dash seed) other clear)
     ]
 
-three_words : (word count seed : List ℕ) → is_plain (word ∷ count ∷ seed ∷ []) ≡ false → asked_by (word ∷ count ∷ seed ∷ []) ≡ None
+three_words : (word count seed : List ℕ) → is_plain (word ∷ count ∷ seed ∷ []) ≡ false → subcommand_by (word ∷ count ∷ seed ∷ []) ≡ None
 three_words word count seed other =
     elim (cases_Bool (same word (codes "make"))) [
       | inl is ↦ cond-true (same word (codes "make")) (make_of count seed) None is
@@ -95,7 +95,7 @@ three_words word count seed other =
     ]
 
 -- words that are not plain ask for nothing
-pub refused : (words : List (List ℕ)) → is_plain words ≡ false → asked_by words ≡ None
+pub refused : (words : List (List ℕ)) → is_plain words ≡ false → subcommand_by words ≡ None
 refused [] other = refl
 refused (word ∷ []) other = one_word word other
 refused (word ∷ next ∷ []) other = refl
@@ -104,28 +104,28 @@ refused (word ∷ count ∷ seed ∷ more ∷ words) other = other_count (word �
 
 -- ---- what is asked
 
-some_seed : (n : ℕ) (o : Option ℕ) (asked : Asked) → option_map (λ (s : ℕ). Make n s) o ≡ Some asked → (s : ℕ) × (Make n s ≡ asked)
+some_seed : (n : ℕ) (o : Option ℕ) (asked : Subcommand) → option_map (λ (s : ℕ). Make n s) o ≡ Some asked → (s : ℕ) × (Make n s ≡ asked)
 some_seed n None asked e = absurd (none-some asked e)
 some_seed n (Some s) asked e = (s, same_Some (Make n s) asked e)
 
 -- what two words spell is a number in range, and a seed
-made : (count seed : List ℕ) (asked : Asked) → make_of count seed ≡ Some asked → (n : ℕ) × (s : ℕ) × (Make n s ≡ asked) × (1 ≤ n) × (n ≤ most_requests)
+made : (count seed : List ℕ) (asked : Subcommand) → make_of count seed ≡ Some asked → (n : ℕ) × (s : ℕ) × (Make n s ≡ asked) × (1 ≤ n) × (n ≤ most_requests)
 made count seed asked e =
     let b = and_then-some (λ (n : ℕ). option_map (λ (s : ℕ). Make n s) (number_of seed last_seed)) (count_in most_requests count) asked e in
     let s = some_seed b.0 (number_of seed last_seed) asked b.2 in
     let range = counted most_requests count b.0 b.1 in
     (b.0, s.0, s.1, range.0, range.1)
 
-choice : (b : Bool) (count seed : List ℕ) (asked : Asked) → (if b then make_of count seed else None) ≡ Some asked → make_of count seed ≡ Some asked
+choice : (b : Bool) (count seed : List ℕ) (asked : Subcommand) → (if b then make_of count seed else None) ≡ Some asked → make_of count seed ≡ Some asked
 choice true count seed asked e = e
 choice false count seed asked e = absurd (none-some asked e)
 
 -- what words ask for, by which they are
-abbrev chosen : Bool → Bool → Bool → Bool → List ℕ → List ℕ → Option Asked
+abbrev chosen : Bool → Bool → Bool → Bool → List ℕ → List ℕ → Option Subcommand
 chosen run journal audit make count seed =
     if run then Some Run else if journal then Some Journal else if audit then Some Audit else if make then make_of count seed else None
 
-range_case : (run journal audit make : Bool) (count seed : List ℕ) (asked : Asked) → chosen run journal audit make count seed ≡ Some asked → IsInRange asked
+range_case : (run journal audit make : Bool) (count seed : List ℕ) (asked : Subcommand) → chosen run journal audit make count seed ≡ Some asked → IsInRange asked
 range_case true journal audit make count seed asked e = subst IsInRange (same_Some Run asked e) tt
 range_case false true audit make count seed asked e = subst IsInRange (same_Some Journal asked e) tt
 range_case false false true make count seed asked e = subst IsInRange (same_Some Audit asked e) tt
@@ -134,38 +134,38 @@ range_case false false false make count seed asked e =
     subst IsInRange m.2 (m.3, m.4)
 
 -- what is asked is in range
-pub in_range : (words : List (List ℕ)) (asked : Asked) → asked_by words ≡ Some asked → IsInRange asked
+pub in_range : (words : List (List ℕ)) (asked : Subcommand) → subcommand_by words ≡ Some asked → IsInRange asked
 in_range words asked e = range_case (is_run words) (is_journal words) (is_audit words) (is_make words) (nth words 1) (nth words 2) asked e
 
 -- what is asked tells which words they are
-abbrev Tells : Bool → Bool → Bool → Asked → Type 0
+abbrev Tells : Bool → Bool → Bool → Subcommand → Type 0
 Tells run journal audit Run = run ≡ true
 Tells run journal audit Journal = journal ≡ true
 Tells run journal audit Audit = audit ≡ true
 Tells run journal audit (Make n seed) = (run || (journal || audit)) ≡ false
 
-tells_case : (run journal audit make : Bool) (count seed : List ℕ) (asked : Asked) → chosen run journal audit make count seed ≡ Some asked → Tells run journal audit asked
+tells_case : (run journal audit make : Bool) (count seed : List ℕ) (asked : Subcommand) → chosen run journal audit make count seed ≡ Some asked → Tells run journal audit asked
 tells_case true journal audit make count seed asked e = subst (Tells true journal audit) (same_Some Run asked e) refl
 tells_case false true audit make count seed asked e = subst (Tells false true audit) (same_Some Journal asked e) refl
 tells_case false false true make count seed asked e = subst (Tells false false true) (same_Some Audit asked e) refl
 tells_case false false false make count seed asked e = subst (Tells false false false) (made count seed asked (choice make count seed asked e)).2 refl
 
-tells : (words : List (List ℕ)) (asked : Asked) → asked_by words ≡ Some asked → Tells (is_run words) (is_journal words) (is_audit words) asked
+tells : (words : List (List ℕ)) (asked : Subcommand) → subcommand_by words ≡ Some asked → Tells (is_run words) (is_journal words) (is_audit words) asked
 tells words asked e = tells_case (is_run words) (is_journal words) (is_audit words) (is_make words) (nth words 1) (nth words 2) asked e
 
 -- a run is asked for by the one word alone
-pub run_asked : (words : List (List ℕ)) → asked_by words ≡ Some Run → is_run words ≡ true
+pub run_asked : (words : List (List ℕ)) → subcommand_by words ≡ Some Run → is_run words ≡ true
 run_asked words e = tells words Run e
 
 -- and so is its journal
-pub journal_asked : (words : List (List ℕ)) → asked_by words ≡ Some Journal → is_journal words ≡ true
+pub journal_asked : (words : List (List ℕ)) → subcommand_by words ≡ Some Journal → is_journal words ≡ true
 journal_asked words e = tells words Journal e
 
 -- and an audit
-pub audit_asked : (words : List (List ℕ)) → asked_by words ≡ Some Audit → is_audit words ≡ true
+pub audit_asked : (words : List (List ℕ)) → subcommand_by words ≡ Some Audit → is_audit words ≡ true
 audit_asked words e = tells words Audit e
 
-on_input : (run journal audit : Bool) (asked : Asked) → Tells run journal audit asked → is_on_input asked ≡ (run || (journal || audit))
+on_input : (run journal audit : Bool) (asked : Subcommand) → Tells run journal audit asked → is_on_input asked ≡ (run || (journal || audit))
 on_input run journal audit Run e = sym (ap (λ b. b || (journal || audit)) e)
 on_input true journal audit Journal e = refl
 on_input false journal audit Journal e = sym (ap (λ b. b || audit) e)
@@ -175,11 +175,11 @@ on_input false false audit Audit e = sym e
 on_input run journal audit (Make n seed) e = sym e
 
 -- what is on the input is asked for by words that read it
-pub if_reads : (words : List (List ℕ)) (asked : Option Asked) → asked ≡ asked_by words → IfSome asked (λ what. is_on_input what ≡ reads_input words)
+pub if_reads : (words : List (List ℕ)) (asked : Option Subcommand) → asked ≡ subcommand_by words → IfSome asked (λ what. is_on_input what ≡ reads_input words)
 if_reads words None e = tt
 if_reads words (Some asked) e = on_input (is_run words) (is_journal words) (is_audit words) asked (tells words asked (sym e))
 
 -- the same, where something is asked
-pub if_asked : (words : List (List ℕ)) (asked : Option Asked) → asked ≡ asked_by words → IfSome asked IsInRange
+pub if_asked : (words : List (List ℕ)) (asked : Option Subcommand) → asked ≡ subcommand_by words → IfSome asked IsInRange
 if_asked words None e = tt
 if_asked words (Some asked) e = in_range words asked (sym e)

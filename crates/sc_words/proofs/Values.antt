@@ -2,12 +2,12 @@
 use Rattle.std.proofs.Common.{◌≡◌, List, Option, Some, None, ap, ◌∙◌, codes}
 use Rattle.std.specs.Prelude.{option_and_then}
 use Rattle.clap.specs.Walk.{Row, Text, first_of}
-use Rattle.sc_words.specs.Asked.{make_of}
+use Rattle.sc_words.specs.Subcommands.{make_of}
 use Rattle.sc_words.specs.Commands.{make_in}
-use Rattle.sc_words.specs.declared.asked.Asked.{Asked}
+use Rattle.sc_words.specs.declared.subcommands.Subcommand.{Subcommand}
 
 -- what comes of a first value, if there is one
-abbrev of_count : List Row → Option Text → Option Asked
+abbrev of_count : List Row → Option Text → Option Subcommand
 of_count rows value = option_and_then (λ count. option_and_then (λ seed. make_of count seed) (first_of (codes "S") rows)) value
 
 pub no_count : (rows : List Row) → None ≡ first_of (codes "N") rows → None ≡ make_in rows

@@ -3,9 +3,9 @@ use Rattle.std.specs.Prelude.{ℕ, ◌==◌, ◌&&◌, true, List, codes, Option
 use Rattle.clap.specs.Words.{App, Row, Rule, Text, first_of, new_app, new_rule, with_rule, with_subcommand}
 use Rattle.clap.specs.Simple.{on_top}
 use Rattle.sc_lines.specs.Words.{same}
-use Rattle.sc_words.specs.Asked.{make_of}
-use Rattle.sc_words.specs.declared.asked.Asked.{Asked}
-use Rattle.sc_words.specs.declared.asked.Asked.TheVariants.{Run, Journal, Audit}
+use Rattle.sc_words.specs.Subcommands.{make_of}
+use Rattle.sc_words.specs.declared.subcommands.Subcommand.{Subcommand}
+use Rattle.sc_words.specs.declared.subcommands.Subcommand.TheVariants.{Run, Journal, Audit}
 
 -- a word that must be there, by its name
 abbrev pub word_rule : Text → Rule
@@ -32,12 +32,12 @@ abbrev pub scatter_app : App
 scatter_app = with_subcommand words_app make_app.top
 
 -- what the values of `make` spell
-abbrev pub make_in : List Row → Option Asked
+abbrev pub make_in : List Row → Option Subcommand
 make_in rows = option_and_then (λ count. option_and_then (λ seed. make_of count seed) (first_of (codes "S") rows)) (first_of (codes "N") rows)
 
 -- what a subcommand of so many words asks for
-abbrev pub asked_as : ℕ → Text → List Row → Option Asked
-asked_as count name rows =
+abbrev pub subcommand_as : ℕ → Text → List Row → Option Subcommand
+subcommand_as count name rows =
     if (count == 1) && same name (codes "run") then Some Run
     else if (count == 1) && same name (codes "journal") then Some Journal
     else if (count == 1) && same name (codes "audit") then Some Audit
@@ -45,6 +45,6 @@ asked_as count name rows =
     else None
 
 -- the same of the one that was met, if one was
-abbrev pub asked_in : ℕ → Option (Text × List Row) → Option Asked
-asked_in count None = None
-asked_in count (Some met) = asked_as count met.0 met.1
+abbrev pub subcommand_in : ℕ → Option (Text × List Row) → Option Subcommand
+subcommand_in count None = None
+subcommand_in count (Some met) = subcommand_as count met.0 met.1

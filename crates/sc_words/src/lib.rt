@@ -1,8 +1,8 @@
 //! What the words behind a program's name ask for.
 #![tactic(auto)]
 
-mod asked;
 mod parsing;
+mod subcommands;
 
-pub use asked::Asked;
-pub use parsing::asked_by;
+pub use parsing::subcommand_by;
+pub use subcommands::Subcommand;

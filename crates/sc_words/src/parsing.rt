@@ -5,13 +5,13 @@ ghost use Rattle.std.specs.Option.{option_map};
 ghost use Rattle.sc_lines.specs.Words.{nth};
 ghost use Rattle.clap.specs.Words.{app_of, first_of, found_of, kind_of, rows_of, subcommand_rows_of};
 ghost use Rattle.clap.specs.declared.builder.command.Command.TheViews.{out-Command};
-ghost use Rattle.sc_words.specs.Asked.{has_dash, is_known, is_plain, make_of, asked_by, IsInRange};
-ghost use Rattle.sc_words.specs.Asked.{is_run, is_journal, is_audit, reads_input, is_on_input};
+ghost use Rattle.sc_words.specs.Subcommands.{has_dash, is_known, is_plain, make_of, subcommand_by, IsInRange};
+ghost use Rattle.sc_words.specs.Subcommands.{is_run, is_journal, is_audit, reads_input, is_on_input};
 ghost use Rattle.sc_words.specs.Commands.{make_app, bare_app, with_word, words_app, scatter_app};
-ghost use Rattle.sc_words.specs.Commands.{make_in, asked_as, asked_in};
-ghost use Rattle.sc_words.specs.declared.asked.Asked.TheVariants.{Run, Journal, Audit};
+ghost use Rattle.sc_words.specs.Commands.{make_in, subcommand_as, subcommand_in};
+ghost use Rattle.sc_words.specs.declared.subcommands.Subcommand.TheVariants.{Run, Journal, Audit};
 
-use crate::asked::Asked;
+use crate::subcommands::Subcommand;
 use clap::error::ErrorKind;
 use clap::{Arg, ArgMatches, Command, Error};
 use sc_base::{OutOfMemory, read_number};
@@ -110,12 +110,12 @@ fn command<'a>(alloc: Global) -> Result<Command<'a>, AllocError>
     words_command(alloc)?.subcommand(make)
 }
 
-fn make_of(count: &str, seed: &str) -> Option<Asked>
+fn make_of(count: &str, seed: &str) -> Option<Subcommand>
     ensures { result ≡ make_of count.now seed.now }
 {
     let n = count_in(count.as_bytes(), MOST_REQUESTS)?;
     let seed = read_number(seed.as_bytes(), LAST_SEED)?;
-    Some(Asked::Make { n, seed })
+    Some(Subcommand::Make { n, seed })
 }
 
 // The value of an argument.
@@ -127,7 +127,7 @@ fn value_of<'a>(matches: &ArgMatches<'a>, id: &str) -> Option<&'a str>
 }
 
 #[tactic(auto, using(crate::proofs::Values::no_count, crate::proofs::Values::no_seed, crate::proofs::Values::both))]
-fn make_in(matches: &ArgMatches) -> Option<Asked>
+fn make_in(matches: &ArgMatches) -> Option<Subcommand>
     ensures { result ≡ make_in (rows_of (found_of matches.now)) }
 {
     let Some(count) = value_of(matches, "N") else {
@@ -139,17 +139,17 @@ fn make_in(matches: &ArgMatches) -> Option<Asked>
     make_of(count, seed)
 }
 
-fn asked_as(count: usize, name: &str, matches: &ArgMatches) -> Option<Asked>
-    ensures { result ≡ asked_as count name.now (rows_of (found_of matches.now)) }
+fn subcommand_as(count: usize, name: &str, matches: &ArgMatches) -> Option<Subcommand>
+    ensures { result ≡ subcommand_as count name.now (rows_of (found_of matches.now)) }
 {
     if count == 1 && is_text(name.as_bytes(), b"run") {
-        return Some(Asked::Run);
+        return Some(Subcommand::Run);
     }
     if count == 1 && is_text(name.as_bytes(), b"journal") {
-        return Some(Asked::Journal);
+        return Some(Subcommand::Journal);
     }
     if count == 1 && is_text(name.as_bytes(), b"audit") {
-        return Some(Asked::Audit);
+        return Some(Subcommand::Audit);
     }
     if count == 3 && is_text(name.as_bytes(), b"make") {
         return make_in(matches);
@@ -157,17 +157,17 @@ fn asked_as(count: usize, name: &str, matches: &ArgMatches) -> Option<Asked>
     None
 }
 
-fn asked_in(count: usize, matches: &ArgMatches) -> Option<Asked>
-    ensures { result ≡ asked_in count (subcommand_rows_of matches.now) }
+fn subcommand_in(count: usize, matches: &ArgMatches) -> Option<Subcommand>
+    ensures { result ≡ subcommand_in count (subcommand_rows_of matches.now) }
 {
     let Some((name, inner)) = matches.subcommand() else {
         return None;
     };
-    asked_as(count, name, inner)
+    subcommand_as(count, name, inner)
 }
 
 // What words that were refused ask for: nothing, unless memory was short.
-fn refused(error: &Error) -> Result<Option<Asked>, OutOfMemory>
+fn refused(error: &Error) -> Result<Option<Subcommand>, OutOfMemory>
     ensures { IfOk result (λ asked. (asked ≡ None) × (kind_of error.now ≢ ErrorKind.OutOfMemory)) }
 {
     match error.kind() {
@@ -176,13 +176,13 @@ fn refused(error: &Error) -> Result<Option<Asked>, OutOfMemory>
     }
 }
 
-fn parsed(alloc: Global, words: &[String]) -> Result<Option<Asked>, OutOfMemory>
+fn parsed(alloc: Global, words: &[String]) -> Result<Option<Subcommand>, OutOfMemory>
     requires { is_plain (map string_bytes words.now) ≡ true }
-    ensures { IfOk result (λ asked. asked ≡ asked_by (map string_bytes words.now)) }
+    ensures { IfOk result (λ asked. asked ≡ subcommand_by (map string_bytes words.now)) }
 {
     let command = command(alloc)?;
     match command.try_get_matches_from(words) {
-        Ok(matches) => Ok(asked_in(words.len(), &matches)),
+        Ok(matches) => Ok(subcommand_in(words.len(), &matches)),
         Err(error) => refused(&error),
     }
 }
@@ -192,8 +192,8 @@ fn parsed(alloc: Global, words: &[String]) -> Result<Option<Asked>, OutOfMemory>
 ///
 /// Words of which the first is none of the four, or of which one begins with a dash, are refused
 /// as they are; all others are parsed by clap.
-pub fn asked_by(alloc: Global, words: &[String]) -> Result<Option<Asked>, OutOfMemory>
-    ensures asked { IfOk result (λ asked. asked ≡ asked_by (map string_bytes words.now)) }
+pub fn subcommand_by(alloc: Global, words: &[String]) -> Result<Option<Subcommand>, OutOfMemory>
+    ensures asked { IfOk result (λ asked. asked ≡ subcommand_by (map string_bytes words.now)) }
     ensures range { IfOk result (λ asked. IfSome asked IsInRange) }
     ensures run { IfOk result
         (λ asked. asked ≡ Some Run → is_run (map string_bytes words.now) ≡ true) }

@@ -9,7 +9,7 @@ use Rattle.sc_node_table.specs.Node.{is_before, are_in_order}
 use Rattle.sc_scenario.specs.Groups.{name_at, base_at, bases_up_to}
 use Rattle.sc_scenario.specs.declared.drafts.GroupLine.{GroupLine}
 use Rattle.sc_scenario.specs.declared.scenarios.Scenario.{Scenario}
-use Rattle.sc_scenario.specs.Valid.{IsEarly}
+use Rattle.sc_scenario.specs.Valid.{IsBounded}
 
 -- whether a group's name stands before another
 abbrev is_named_before : Draw → Base → Bool
@@ -39,5 +39,5 @@ names_rise lines zero = refl
 names_rise lines (suc k) = ordered_and_one (bases_up_to lines k) (base_at lines k) (names_rise lines k) (earlier_named lines k k (omega arith))
 
 -- groups stand in the order of their names
-pub all_ordered : (scenario : Scenario) → IsEarly scenario → are_in_order scenario.groups ≡ true
-all_ordered scenario early = ap are_in_order early.groups ∙ names_rise early.starts (length early.starts)
+pub all_ordered : (scenario : Scenario) → IsBounded scenario → are_in_order scenario.groups ≡ true
+all_ordered scenario bounded = ap are_in_order bounded.groups ∙ names_rise bounded.starts (length bounded.starts)

@@ -8,7 +8,7 @@ use Rattle.sc_cmd.specs.declared.links.Route.{Route}
 use Rattle.sc_actor.specs.declared.actors.Seat.{Seat}
 use Rattle.sc_actor.specs.System.{are_apart}
 use Rattle.sc_node_table.specs.Slots.{numbers_from}
-use Rattle.sc_scenario.specs.Valid.{IsEarly, IsEarlyClient}
+use Rattle.sc_scenario.specs.Valid.{IsBounded, IsBoundedClient}
 use Rattle.sc_scenario.specs.declared.scenarios.Asks.{Asks}
 use Rattle.sc_scenario.specs.declared.scenarios.Scenario.{Scenario}
 use Rattle.sc_sound.specs.Players.{node_seat, client_seat, client_seats, route_of, births, most_actor, Player, as_nodes}
@@ -68,14 +68,14 @@ within_on : (top : ℕ) (xs ys : List (Seat Player)) → Within top xs → Withi
 within_on top [] ys w v = v
 within_on top (x ∷ xs) ys w v = (w.0, within_on top xs ys w.1 v)
 
-clients_within : (first : Route) (clients : List Asks) → All IsEarlyClient clients → Within most_actor (map (client_seat first) clients)
+clients_within : (first : Route) (clients : List Asks) → All IsBoundedClient clients → Within most_actor (map (client_seat first) clients)
 clients_within first [] all = tt
 clients_within first (asks ∷ clients) all = (
   omega (arith, (all 0 asks (omega arith)).0.1),
   clients_within first clients (λ k d lt. all (suc k) d (omega (arith, lt))),
 )
 
-clients_within_any : (groups : List Base) (clients : List Asks) → All IsEarlyClient clients → Within most_actor (client_seats groups clients)
+clients_within_any : (groups : List Base) (clients : List Asks) → All IsBoundedClient clients → Within most_actor (client_seats groups clients)
 clients_within_any [] clients all = tt
 clients_within_any (base ∷ groups) clients all = clients_within (route_of base) clients all
 
@@ -86,21 +86,21 @@ between low top (seat ∷ seats) r w =
     All-cons (λ (seat : Seat Player). (low < seat.who) × (seat.who ≤ top)) seat seats (r.0, w.0)
     (between low top seats (lower low seat.who seats (omega (arith, r.0)) r.1) w.1)
 
--- the births of an early scenario rise
-births_rise : (scenario : Scenario) → IsEarly scenario → Rises 0 (births as_nodes scenario)
-births_rise scenario early =
+-- the births of a bounded scenario rise
+births_rise : (scenario : Scenario) → IsBounded scenario → Rises 0 (births as_nodes scenario)
+births_rise scenario bounded =
     let clients : Rises 32 (client_seats scenario.groups scenario.clients) =
-    clients_rise_any scenario.groups scenario.clients (λ k d lt. omega (arith, (early.clients k d lt).0.0)) early.ascending in
+    clients_rise_any scenario.groups scenario.clients (λ k d lt. omega (arith, (bounded.clients k d lt).0.0)) bounded.ascending in
     rise_on 0 32 _ (client_seats scenario.groups scenario.clients) (omega arith) (nodes_rise scenario.groups scenario.policy 0 1 scenario.nodes (omega arith))
-    (nodes_within scenario.groups scenario.policy 32 1 scenario.nodes (omega (arith, early.nodes.1))) clients
+    (nodes_within scenario.groups scenario.policy 32 1 scenario.nodes (omega (arith, bounded.nodes.1))) clients
 
 -- so they have different numbers
-pub all_apart : (scenario : Scenario) → IsEarly scenario → are_apart (births as_nodes scenario) ≡ true
-all_apart scenario early = apart_rising 0 (births as_nodes scenario) (births_rise scenario early)
+pub all_apart : (scenario : Scenario) → IsBounded scenario → are_apart (births as_nodes scenario) ≡ true
+all_apart scenario bounded = apart_rising 0 (births as_nodes scenario) (births_rise scenario bounded)
 
 -- and numbers from 1 to 96
-pub all_numbered : (scenario : Scenario) → IsEarly scenario → All (λ (seat : Seat Player). (0 < seat.who) × (seat.who ≤ most_actor)) (births as_nodes scenario)
-all_numbered scenario early =
-    let clients : Within most_actor (client_seats scenario.groups scenario.clients) = clients_within_any scenario.groups scenario.clients early.clients in
-    between 0 most_actor (births as_nodes scenario) (births_rise scenario early)
-    (within_on most_actor _ (client_seats scenario.groups scenario.clients) (nodes_within scenario.groups scenario.policy most_actor 1 scenario.nodes (omega (arith, early.nodes.1))) clients)
+pub all_numbered : (scenario : Scenario) → IsBounded scenario → All (λ (seat : Seat Player). (0 < seat.who) × (seat.who ≤ most_actor)) (births as_nodes scenario)
+all_numbered scenario bounded =
+    let clients : Within most_actor (client_seats scenario.groups scenario.clients) = clients_within_any scenario.groups scenario.clients bounded.clients in
+    between 0 most_actor (births as_nodes scenario) (births_rise scenario bounded)
+    (within_on most_actor _ (client_seats scenario.groups scenario.clients) (nodes_within scenario.groups scenario.policy most_actor 1 scenario.nodes (omega (arith, bounded.nodes.1))) clients)

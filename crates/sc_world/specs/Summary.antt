@@ -48,8 +48,8 @@ abbrev pub orders_in : Scenario → ℕ
 orders_in scenario = count_by is_order scenario.lines
 
 -- the line of a cut: where it begins, and the members of its group, as the group's own log makes it; none of a group that was not born
-abbrev pub line_of : StoreWorld → Cut → Option Route
-line_of world cut = option_map (λ group. record { group = cut.group; lo = cut.arc.lo; members = group.core.members }) (named_group cut.group world.groups)
+abbrev pub cut_route : StoreWorld → Cut → Option Route
+cut_route world cut = option_map (λ group. record { group = cut.group; lo = cut.arc.lo; members = group.core.members }) (named_group cut.group world.groups)
 
 -- where a line that begins at a position stands among lines by ascending beginning: before the first that begins later
 abbrev pub place_in : List Route → ℕ → ℕ
@@ -62,7 +62,7 @@ placed lines line = insert lines (place_in lines line.lo) line
 
 -- the lines of the decided ring, by ascending beginning
 abbrev pub ring_lines : StoreWorld → List Route
-ring_lines world = fold placed [] (flat_map (λ cut. option_to_list (line_of world cut)) world.ring)
+ring_lines world = fold placed [] (flat_map (λ cut. option_to_list (cut_route world cut)) world.ring)
 
 -- the summary of a journal
 abbrev pub summary_of : Scenario → List (Row Mail OrderLine) → Summary

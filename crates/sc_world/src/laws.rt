@@ -1,7 +1,7 @@
 //! What holds of every scenario that some text is.
 ghost use Rattle.sc_world.specs.Plays.{ValidCanPlay};
 
-use sc_scenario::texts_are_early;
+use sc_scenario::valid_scenarios_are_bounded;
 
 /// Every valid scenario can be played: its groups stand in the order of their names, its actors
 /// have different numbers from 1 to 96, no line tells an actor to go that another lets crash, and
@@ -9,5 +9,5 @@ use sc_scenario::texts_are_early;
 pub fn valid_scenarios_can_play()
     ensures { ValidCanPlay }
 {
-    texts_are_early();
+    valid_scenarios_are_bounded();
 }

@@ -15,7 +15,7 @@ use crate::seating::{births, schedule};
 use crate::worlds::World;
 use sc_actor::{Journal, Row};
 use sc_base::OutOfMemory;
-use sc_checker::{Replayed, replay, taken_by};
+use sc_checker::{Replayed, replay, rows_replayed};
 use sc_cmd::OrderLine;
 use sc_mail::Mail;
 use sc_scenario::Scenario;
@@ -82,7 +82,7 @@ fn taken(
     valid_scenarios_can_play();
     let seats = births(alloc, scenario)?;
     let lines = schedule(alloc, scenario)?;
-    taken_by(alloc, seats, lines.as_slice(), rows)
+    rows_replayed(alloc, seats, lines.as_slice(), rows)
 }
 
 // A place between two: this one if it is, and else the middle.

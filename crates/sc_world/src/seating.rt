@@ -164,7 +164,7 @@ pub fn schedule(alloc: Global, scenario: &Scenario) -> Result<Vec<Line<OrderLine
 }
 
 /// Whether no client has more requests than it may.
-pub fn are_few(scenario: &Scenario) -> bool
+pub fn has_few_requests(scenario: &Scenario) -> bool
     ensures { IsTrue result ↔ AreFew scenario.now }
 {
     scenario

@@ -4,7 +4,7 @@ ghost use Rattle.std.specs.Option.{option_to_list};
 ghost use Rattle.sc_actor.specs.Walk.{is_quiet, skipped};
 ghost use Rattle.sc_sound.specs.Players.{system_of, schedule, parties, as_nodes};
 ghost use Rattle.sc_sound.specs.GroupsOf.{world_at};
-ghost use Rattle.sc_world.specs.Summary.{line_of, place_in, placed, ring_lines, summary_of};
+ghost use Rattle.sc_world.specs.Summary.{cut_route, place_in, placed, ring_lines, summary_of};
 ghost use Rattle.sc_chance.specs.Words.{two_words};
 
 use crate::counting::{all_asked, deliveries, mail_count, small};
@@ -23,8 +23,8 @@ use sc_store_world::StoreWorld;
 use std::alloc::Global;
 
 // The line of a cut, if its group was born.
-fn line_of(world: &StoreWorld, cut: &Cut) -> Option<Route>
-    ensures { result ≡ line_of world.now cut.now }
+fn cut_route(world: &StoreWorld, cut: &Cut) -> Option<Route>
+    ensures { result ≡ cut_route world.now cut.now }
 {
     match world.group(cut.group) {
         None => None,
@@ -69,7 +69,7 @@ fn ring_lines(alloc: Global, world: &StoreWorld) -> Result<Vec<Route>, OutOfMemo
 {
     let mut lines = Vec::new(alloc);
     for cut in world.ring() {
-        add_line(&mut lines, line_of(world, cut))?;
+        add_line(&mut lines, cut_route(world, cut))?;
     }
     Ok(lines)
 }

@@ -12,7 +12,7 @@ use crate::worlds::World;
 use sc_actor::Row;
 use sc_base::{Draw, OutOfMemory};
 use sc_cmd::{Base, Command, OrderLine};
-use sc_decided::{entries_of, log_of};
+use sc_decided::{entries_of, log_at};
 use sc_entries::Cut;
 use sc_ideal::Entry;
 use sc_mail::Mail;
@@ -43,7 +43,7 @@ pub fn decided_log(
     ensures { IfOk result (λ log. log.items ≡
         log_at as_nodes world.now.scenario.groups world.now.rows group) }
 {
-    log_of(
+    log_at(
         alloc,
         world.scenario.groups.as_slice(),
         world.rows.as_slice(),

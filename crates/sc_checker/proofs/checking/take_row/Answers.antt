@@ -10,7 +10,7 @@ returns-clause-took g c =
     record {
       did = record {
         row = c.in_ok-made.made;
-        makes = subst (λ xs. Makes g.A.Actor.table xs c.args.stage.now.seats.items c.append.new.stage.seats.items c.args.deed c.in_ok-made.made) sent (rw seats c.in_ok-made.ensures.makes);
+        makes = subst (λ xs. Makes g.A.Actor.table xs c.args.stage.now.seats.items c.append.new.stage.seats.items c.args.action c.in_ok-made.made) sent (rw seats c.in_ok-made.ensures.makes);
         rows = c.in_ok-append.ensures.rows;
         skipped = c.in_ok-append.ensures.skipped;
         unsettled = c.in_ok-append.ensures.unsettled;

@@ -1,7 +1,7 @@
 use Rattle.std.proofs.Common.{◌++◌, List, ap, ◌∙◌}
 use Rattle.std.specs.List.{flat_map}
 use Rattle.sc_entries.specs.declared.LogEntry.{LogEntry}
-use Rattle.sc_decided.specs.Found.{gained}
+use Rattle.sc_decided.specs.Found.{new_entries}
 use Rattle.sc_known.specs.declared.known.Known.{Known}
 use Rattle.sc_decided.proofs.Gained.{gained_is}
 use Rattle.sc_decided.proofs.entries.look_again.Goals as goal
@@ -13,7 +13,7 @@ returns c =
     let new = c.in_ok-new.new.knowns.items in (
       c.in_ok-new.ensures,
       λ row is. c.in_ok-add_gained.ensures
-          ∙ ap (λ (ks : List Known). entries ++ flat_map (gained ks c.as_slice-news.result.now) c.as_slice-news.result.now) c.as_slice-olds.ensures.value
-          ∙ ap (λ (ks : List Known). entries ++ flat_map (gained old ks) ks) c.as_slice-news.ensures.value
+          ∙ ap (λ (ks : List Known). entries ++ flat_map (new_entries ks c.as_slice-news.result.now) c.as_slice-news.result.now) c.as_slice-olds.ensures.value
+          ∙ ap (λ (ks : List Known). entries ++ flat_map (new_entries old ks) ks) c.as_slice-news.ensures.value
           ∙ ap (λ (more : List LogEntry). entries ++ more) (gained_is c.args.bases.now c.args.before.now c.args.after.now row old new is c.in_ok-old.ensures.known c.in_ok-new.ensures.known),
     )

@@ -2,7 +2,7 @@ use Rattle.std.proofs.Common.{rules, ◌≡◌, ◌-◌, Option, Result, Err, No
 use Rattle.sc_actor.specs.Walk.{Settles}
 use Rattle.sc_drive.specs.declared.steps.Stop.{Stop}
 use Rattle.sc_drive.specs.declared.steps.Stop.TheVariants.{Full}
-use Rattle.sc_drive.specs.Lowest.{Finds}
+use Rattle.sc_drive.specs.Lowest.{FindsLowest}
 use Rattle.sc_drive.proofs.SettleSteps.{fills_then, goes_rest, goes_then, settles_cut, settles_quiet}
 use Rattle.sc_drive.proofs.Kept.{kept_then, on_then, together_on}
 use Rattle.sc_drive.proofs.settle_lines.run_settle.Goals as goal
@@ -19,7 +19,7 @@ pub settle_step-requires-clause-together : goal.settle_step-requires-clause-toge
 settle_step-requires-clause-together g c κs within = together_on c.args.net.now c.loop-found.net c.args.shells.now.items c.loop-found.shells.items c.requires.together.crew.first c.loop-found.invariant.on
 
 pub settle_step-requires-clause-finds : goal.settle_step-requires-clause-finds
-settle_step-requires-clause-finds g c κs within = subst (Finds c.loop-found.net c.loop-found.shells.items) c.in-Some.is c.loop-found.invariant.finds
+settle_step-requires-clause-finds g c κs within = subst (FindsLowest c.loop-found.net c.loop-found.shells.items) c.in-Some.is c.loop-found.invariant.finds
 
 pub settle_step-requires-clause-company : goal.settle_step-requires-clause-company
 settle_step-requires-clause-company g c κs within = c.loop-found.invariant.company
@@ -41,7 +41,7 @@ pub returns-in_default-found-clause-goes : goal.returns-in_default-found-clause-
 returns-in_default-found-clause-goes g c =
     let inv = c.loop-found.invariant in let net = c.args.net.now in let ss = c.args.shells.now.items in let mid = c.loop-found.net in let mids = c.loop-found.shells.items in let score = c.loop-found.score in let left = c.loop-found.left in let most = c.args.most in
     let none : c.loop-found.found ≡ None = search rules in
-    goes_then net mid mid ss mids mids c.args.score.now score score (Settles most ∷ []) (Settles left ∷ []) [] inv.goes (settles_quiet mid mids score score left (subst (Finds mid mids) none inv.finds) refl refl refl)
+    goes_then net mid mid ss mids mids c.args.score.now score score (Settles most ∷ []) (Settles left ∷ []) [] inv.goes (settles_quiet mid mids score score left (subst (FindsLowest mid mids) none inv.finds) refl refl refl)
 
 pub returns-then-left-eq0-clause-on : goal.returns-then-left-eq0-clause-on
 returns-then-left-eq0-clause-on g c = c.loop-found.invariant.on
@@ -50,7 +50,7 @@ pub returns-then-left-eq0-clause-goes : goal.returns-then-left-eq0-clause-goes
 returns-then-left-eq0-clause-goes g c =
     let inv = c.loop-found.invariant in let net = c.args.net.now in let ss = c.args.shells.now.items in let mid = c.loop-found.net in let mids = c.loop-found.shells.items in let score = c.loop-found.score in let left = c.loop-found.left in let most = c.args.most in
     let zero_ : left ≡ 0 = search rules in
-    goes_then net mid mid ss mids mids c.args.score.now score _ (Settles most ∷ []) (Settles left ∷ []) [] inv.goes (settles_cut mid mids score _ left c.in-Some.place (subst (Finds mid mids) c.in-Some.is inv.finds) zero_ refl refl refl)
+    goes_then net mid mid ss mids mids c.args.score.now score _ (Settles most ∷ []) (Settles left ∷ []) [] inv.goes (settles_cut mid mids score _ left c.in-Some.place (subst (FindsLowest mid mids) c.in-Some.is inv.finds) zero_ refl refl refl)
 
 pub returns-in-Err-clause-fills : goal.returns-in-Err-clause-fills
 returns-in-Err-clause-fills g c = λ e.

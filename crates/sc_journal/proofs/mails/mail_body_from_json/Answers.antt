@@ -5,7 +5,7 @@ use Rattle.sc_mail.specs.declared.bodies.MailBody.{MailBody}
 use Rattle.sc_mail.specs.declared.bodies.MailBody.TheVariants.{Request, Answer, Prepare, Promise, Accept, Accepted, Nack, Learn, Ask, Install, TxPrepare, TxVote, TxOutcome, TxElsewhere, TxWatch, TxWatched, Told}
 use Rattle.sc_row_text.specs.Mails.{mail_body_json, FitsMailBody}
 use Rattle.sc_row_text.specs.Shapes.{variant}
-use Rattle.sc_from_json.specs.Reading.{Finds, MayBeVariant, name_of, content_of}
+use Rattle.sc_from_json.specs.Reading.{Finds, MayBeVariant, variant_name, content_of}
 use Rattle.sc_from_json.specs.declared.faults.RowFault.{RowFault}
 use Rattle.sc_from_json.specs.declared.faults.RowFault.TheVariants.{NoRow, OutOfMemory}
 use Rattle.sc_from_json.proofs.Apart.{apart}
@@ -75,7 +75,7 @@ of_value (Told order outcome) = tt
 shaped : (json : Data) (value : MailBody) → json ≡ mail_body_json value → MayBeVariant json
 shaped json value e = subst MayBeVariant (sym e) (of_value value)
 
-named_as : (value : MailBody) → name_of (mail_body_json value) ≡ name value
+named_as : (value : MailBody) → variant_name (mail_body_json value) ≡ name value
 unfolding name mail_body_json
 named_as (Request group client seq op) = refl
 named_as (Answer group seq answer) = refl
@@ -96,8 +96,8 @@ named_as (TxWatched tx coord part vote) = refl
 named_as (Told order outcome) = refl
 
 -- the name that was found is that of the variant
-called : (json : Data) (found : List ℕ) (value : MailBody) → json ≡ mail_body_json value → found ≡ name_of json → found ≡ name value
-called json found value e named = named ∙ (ap name_of e ∙ named_as value)
+called : (json : Data) (found : List ℕ) (value : MailBody) → json ≡ mail_body_json value → found ≡ variant_name json → found ≡ name value
+called json found value e named = named ∙ (ap variant_name e ∙ named_as value)
 
 whole_of : (value : MailBody) → HasContent value → variant (name value) (content_of (mail_body_json value)) ≡ mail_body_json value
 unfolding name HasContent mail_body_json

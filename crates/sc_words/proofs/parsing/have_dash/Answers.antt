@@ -1,7 +1,7 @@
 use Rattle.std.proofs.Common.{◌∙◌}
 use Rattle.std.specs.Prelude.{string_bytes}
 use Rattle.clap.proofs.WalkLemmas.{list_any-map}
-use Rattle.sc_words.specs.Asked.{has_dash}
+use Rattle.sc_words.specs.Subcommands.{has_dash}
 use Rattle.sc_words.proofs.parsing.have_dash.Goals as goal
 
 pub returns : goal.returns

@@ -7,7 +7,7 @@ use Rattle.sc_words.proofs.parsing.parsed.Goals as goal
 
 pub returns-in-Ok : goal.returns-in-Ok
 returns-in-Ok c =
-    c.asked_in.ensures
+    c.subcommand_in.ensures
     ∙ read_back _ (map string_bytes c.args.words.now) _ _ _ c.in_ok-command.ensures (sym (length-map c.args.words.now string_bytes)) c.requires c.in-Ok.ensures.matches
 
 pub returns-in-Err : goal.returns-in-Err

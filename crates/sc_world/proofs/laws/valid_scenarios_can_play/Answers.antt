@@ -5,11 +5,11 @@ use Rattle.sc_world.proofs.laws.valid_scenarios_can_play.Goals as goal
 
 pub returns : goal.returns
 returns c = λ scenario valid.
-    let early = c.texts_are_early.ensures scenario valid in
+    let bounded = c.valid_scenarios_are_bounded.ensures scenario valid in
     record {
-      ordered = all_ordered scenario early;
-      apart = all_apart scenario early;
-      numbered = all_numbered scenario early;
-      spared = spared scenario early;
-      few = few scenario early;
+      ordered = all_ordered scenario bounded;
+      apart = all_apart scenario bounded;
+      numbered = all_numbered scenario bounded;
+      spared = spared scenario bounded;
+      few = few scenario bounded;
     }

@@ -5,7 +5,7 @@ use Rattle.sc_mail.specs.declared.bodies.AnswerBody.{AnswerBody}
 use Rattle.sc_mail.specs.declared.bodies.AnswerBody.TheVariants.{Value, NotLeader, NotMine, Gone, Stale}
 use Rattle.sc_row_text.specs.Answers.{answer_body_json, FitsAnswerBody}
 use Rattle.sc_row_text.specs.Shapes.{variant}
-use Rattle.sc_from_json.specs.Reading.{Finds, MayBeVariant, name_of, content_of}
+use Rattle.sc_from_json.specs.Reading.{Finds, MayBeVariant, variant_name, content_of}
 use Rattle.sc_from_json.specs.declared.faults.RowFault.{RowFault}
 use Rattle.sc_from_json.specs.declared.faults.RowFault.TheVariants.{NoRow, OutOfMemory}
 use Rattle.sc_from_json.proofs.Apart.{apart}
@@ -39,7 +39,7 @@ of_value (Stale last) = tt
 shaped : (json : Data) (value : AnswerBody) → json ≡ answer_body_json value → MayBeVariant json
 shaped json value e = subst MayBeVariant (sym e) (of_value value)
 
-named_as : (value : AnswerBody) → name_of (answer_body_json value) ≡ name value
+named_as : (value : AnswerBody) → variant_name (answer_body_json value) ≡ name value
 unfolding name answer_body_json
 named_as (Value inner) = refl
 named_as (NotLeader hint) = refl
@@ -48,8 +48,8 @@ named_as (Gone into) = refl
 named_as (Stale last) = refl
 
 -- the name that was found is that of the variant
-called : (json : Data) (found : List ℕ) (value : AnswerBody) → json ≡ answer_body_json value → found ≡ name_of json → found ≡ name value
-called json found value e named = named ∙ (ap name_of e ∙ named_as value)
+called : (json : Data) (found : List ℕ) (value : AnswerBody) → json ≡ answer_body_json value → found ≡ variant_name json → found ≡ name value
+called json found value e named = named ∙ (ap variant_name e ∙ named_as value)
 
 whole_of : (value : AnswerBody) → HasContent value → variant (name value) (content_of (answer_body_json value)) ≡ answer_body_json value
 unfolding name HasContent answer_body_json

@@ -5,7 +5,7 @@ use Rattle.sc_cmd.specs.declared.bodies.Body.{Body}
 use Rattle.sc_cmd.specs.declared.bodies.Body.TheVariants.{Merge, Repart, Migrate, Split}
 use Rattle.sc_row_text.specs.Bodies.{body_json, FitsBody}
 use Rattle.sc_row_text.specs.Shapes.{variant}
-use Rattle.sc_from_json.specs.Reading.{Finds, MayBeVariant, name_of, content_of}
+use Rattle.sc_from_json.specs.Reading.{Finds, MayBeVariant, variant_name, content_of}
 use Rattle.sc_from_json.specs.declared.faults.RowFault.{RowFault}
 use Rattle.sc_from_json.specs.declared.faults.RowFault.TheVariants.{NoRow, OutOfMemory}
 use Rattle.sc_from_json.proofs.Apart.{apart}
@@ -36,7 +36,7 @@ of_value (Split at child) = tt
 shaped : (json : Data) (value : Body) → json ≡ body_json value → MayBeVariant json
 shaped json value e = subst MayBeVariant (sym e) (of_value value)
 
-named_as : (value : Body) → name_of (body_json value) ≡ name value
+named_as : (value : Body) → variant_name (body_json value) ≡ name value
 unfolding name body_json
 named_as Merge = refl
 named_as (Repart at) = refl
@@ -44,8 +44,8 @@ named_as (Migrate node) = refl
 named_as (Split at child) = refl
 
 -- the name that was found is that of the variant
-called : (json : Data) (found : List ℕ) (value : Body) → json ≡ body_json value → found ≡ name_of json → found ≡ name value
-called json found value e named = named ∙ (ap name_of e ∙ named_as value)
+called : (json : Data) (found : List ℕ) (value : Body) → json ≡ body_json value → found ≡ variant_name json → found ≡ name value
+called json found value e named = named ∙ (ap variant_name e ∙ named_as value)
 
 whole_of : (value : Body) → HasContent value → variant (name value) (content_of (body_json value)) ≡ body_json value
 unfolding name HasContent body_json

@@ -5,7 +5,7 @@ use Rattle.sc_cmd.specs.declared.commands.Command.{Command}
 use Rattle.sc_cmd.specs.declared.commands.Command.TheVariants.{Noop, Call, Join, Leave, Split, Begin, Prepared, RecordVote, GiveUp, Finish, Watched, RecordWatch}
 use Rattle.sc_row_text.specs.Commands.{command_json, FitsCommand}
 use Rattle.sc_row_text.specs.Shapes.{variant}
-use Rattle.sc_from_json.specs.Reading.{Finds, MayBeVariant, name_of, content_of}
+use Rattle.sc_from_json.specs.Reading.{Finds, MayBeVariant, variant_name, content_of}
 use Rattle.sc_from_json.specs.declared.faults.RowFault.{RowFault}
 use Rattle.sc_from_json.specs.declared.faults.RowFault.TheVariants.{NoRow, OutOfMemory}
 use Rattle.sc_from_json.proofs.Apart.{apart}
@@ -60,7 +60,7 @@ of_value (RecordWatch tx vote by) = tt
 shaped : (json : Data) (value : Command) → json ≡ command_json value → MayBeVariant json
 shaped json value e = subst MayBeVariant (sym e) (of_value value)
 
-named_as : (value : Command) → name_of (command_json value) ≡ name value
+named_as : (value : Command) → variant_name (command_json value) ≡ name value
 unfolding name command_json
 named_as Noop = refl
 named_as (Call client seq op) = refl
@@ -76,8 +76,8 @@ named_as (Watched tx watch) = refl
 named_as (RecordWatch tx vote by) = refl
 
 -- the name that was found is that of the variant
-called : (json : Data) (found : List ℕ) (value : Command) → json ≡ command_json value → found ≡ name_of json → found ≡ name value
-called json found value e named = named ∙ (ap name_of e ∙ named_as value)
+called : (json : Data) (found : List ℕ) (value : Command) → json ≡ command_json value → found ≡ variant_name json → found ≡ name value
+called json found value e named = named ∙ (ap variant_name e ∙ named_as value)
 
 whole_of : (value : Command) → HasContent value → variant (name value) (content_of (command_json value)) ≡ command_json value
 unfolding name HasContent command_json

@@ -5,7 +5,7 @@ use Rattle.sc_cmd.specs.declared.cores.Lock.{Lock}
 use Rattle.sc_cmd.specs.declared.cores.Lock.TheVariants.{Free, Coordinating, Promised, Watching}
 use Rattle.sc_row_text.specs.Cores.{lock_json, FitsLock}
 use Rattle.sc_row_text.specs.Shapes.{variant}
-use Rattle.sc_from_json.specs.Reading.{Finds, MayBeVariant, name_of, content_of}
+use Rattle.sc_from_json.specs.Reading.{Finds, MayBeVariant, variant_name, content_of}
 use Rattle.sc_from_json.specs.declared.faults.RowFault.{RowFault}
 use Rattle.sc_from_json.specs.declared.faults.RowFault.TheVariants.{NoRow, OutOfMemory}
 use Rattle.sc_from_json.proofs.Apart.{apart}
@@ -36,7 +36,7 @@ of_value (Watching tx watch) = tt
 shaped : (json : Data) (value : Lock) → json ≡ lock_json value → MayBeVariant json
 shaped json value e = subst MayBeVariant (sym e) (of_value value)
 
-named_as : (value : Lock) → name_of (lock_json value) ≡ name value
+named_as : (value : Lock) → variant_name (lock_json value) ≡ name value
 unfolding name lock_json
 named_as Free = refl
 named_as (Coordinating tx body order heard) = refl
@@ -44,8 +44,8 @@ named_as (Promised tx offer) = refl
 named_as (Watching tx watch) = refl
 
 -- the name that was found is that of the variant
-called : (json : Data) (found : List ℕ) (value : Lock) → json ≡ lock_json value → found ≡ name_of json → found ≡ name value
-called json found value e named = named ∙ (ap name_of e ∙ named_as value)
+called : (json : Data) (found : List ℕ) (value : Lock) → json ≡ lock_json value → found ≡ variant_name json → found ≡ name value
+called json found value e named = named ∙ (ap variant_name e ∙ named_as value)
 
 whole_of : (value : Lock) → HasContent value → variant (name value) (content_of (lock_json value)) ≡ lock_json value
 unfolding name HasContent lock_json

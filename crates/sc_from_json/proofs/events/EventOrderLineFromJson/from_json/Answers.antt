@@ -6,7 +6,7 @@ use Rattle.sc_cmd.specs.declared.orders.OrderLine.{OrderLine}
 use Rattle.sc_actor.specs.declared.rows.Event.TheVariants.{Deliver, Tick, Go, Told, Crash, Drop, Again}
 use Rattle.sc_row_text.specs.Rows.{event_json, FitsEvent}
 use Rattle.sc_row_text.specs.Shapes.{variant}
-use Rattle.sc_from_json.specs.Reading.{Finds, MayBeVariant, name_of, content_of}
+use Rattle.sc_from_json.specs.Reading.{Finds, MayBeVariant, variant_name, content_of}
 use Rattle.sc_from_json.specs.declared.faults.RowFault.{RowFault}
 use Rattle.sc_from_json.specs.declared.faults.RowFault.TheVariants.{NoRow, OutOfMemory}
 use Rattle.sc_from_json.proofs.Apart.{apart}
@@ -46,7 +46,7 @@ of_value (Again inner) = tt
 shaped : (json : Data) (value : Event OrderLine) → json ≡ event_json value → MayBeVariant json
 shaped json value e = subst MayBeVariant (sym e) (of_value value)
 
-named_as : (value : Event OrderLine) → name_of (event_json value) ≡ name value
+named_as : (value : Event OrderLine) → variant_name (event_json value) ≡ name value
 unfolding name event_json
 named_as (Deliver inner) = refl
 named_as Tick = refl
@@ -57,8 +57,8 @@ named_as (Drop inner) = refl
 named_as (Again inner) = refl
 
 -- the name that was found is that of the variant
-called : (json : Data) (found : List ℕ) (value : Event OrderLine) → json ≡ event_json value → found ≡ name_of json → found ≡ name value
-called json found value e named = named ∙ (ap name_of e ∙ named_as value)
+called : (json : Data) (found : List ℕ) (value : Event OrderLine) → json ≡ event_json value → found ≡ variant_name json → found ≡ name value
+called json found value e named = named ∙ (ap variant_name e ∙ named_as value)
 
 whole_of : (value : Event OrderLine) → HasContent value → variant (name value) (content_of (event_json value)) ≡ event_json value
 unfolding name HasContent event_json

@@ -5,7 +5,7 @@ use Rattle.sc_base.specs.declared.ops.Op.{Op}
 use Rattle.sc_base.specs.declared.ops.Op.TheVariants.{Get, Put, Del, Add, Cas}
 use Rattle.sc_row_text.specs.Ops.{op_json, FitsOp}
 use Rattle.sc_row_text.specs.Shapes.{variant}
-use Rattle.sc_from_json.specs.Reading.{Finds, MayBeVariant, name_of, content_of}
+use Rattle.sc_from_json.specs.Reading.{Finds, MayBeVariant, variant_name, content_of}
 use Rattle.sc_from_json.specs.declared.faults.RowFault.{RowFault}
 use Rattle.sc_from_json.specs.declared.faults.RowFault.TheVariants.{NoRow, OutOfMemory}
 use Rattle.sc_from_json.proofs.Apart.{apart}
@@ -39,7 +39,7 @@ of_value (Cas key expect value) = tt
 shaped : (json : Data) (value : Op) → json ≡ op_json value → MayBeVariant json
 shaped json value e = subst MayBeVariant (sym e) (of_value value)
 
-named_as : (value : Op) → name_of (op_json value) ≡ name value
+named_as : (value : Op) → variant_name (op_json value) ≡ name value
 unfolding name op_json
 named_as (Get key) = refl
 named_as (Put key value) = refl
@@ -48,8 +48,8 @@ named_as (Add key value) = refl
 named_as (Cas key expect value) = refl
 
 -- the name that was found is that of the variant
-called : (json : Data) (found : List ℕ) (value : Op) → json ≡ op_json value → found ≡ name_of json → found ≡ name value
-called json found value e named = named ∙ (ap name_of e ∙ named_as value)
+called : (json : Data) (found : List ℕ) (value : Op) → json ≡ op_json value → found ≡ variant_name json → found ≡ name value
+called json found value e named = named ∙ (ap variant_name e ∙ named_as value)
 
 whole_of : (value : Op) → HasContent value → variant (name value) (content_of (op_json value)) ≡ op_json value
 unfolding name HasContent op_json

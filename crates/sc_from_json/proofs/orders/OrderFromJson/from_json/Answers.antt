@@ -5,7 +5,7 @@ use Rattle.sc_cmd.specs.declared.orders.Order.{Order}
 use Rattle.sc_cmd.specs.declared.orders.Order.TheVariants.{Join, Leave, Split, Merge, Repart, Migrate}
 use Rattle.sc_row_text.specs.Orders.{order_json, FitsOrder}
 use Rattle.sc_row_text.specs.Shapes.{variant}
-use Rattle.sc_from_json.specs.Reading.{Finds, MayBeVariant, name_of, content_of}
+use Rattle.sc_from_json.specs.Reading.{Finds, MayBeVariant, variant_name, content_of}
 use Rattle.sc_from_json.specs.declared.faults.RowFault.{RowFault}
 use Rattle.sc_from_json.specs.declared.faults.RowFault.TheVariants.{NoRow, OutOfMemory}
 use Rattle.sc_from_json.proofs.Apart.{apart}
@@ -42,7 +42,7 @@ of_value (Migrate group node) = tt
 shaped : (json : Data) (value : Order) → json ≡ order_json value → MayBeVariant json
 shaped json value e = subst MayBeVariant (sym e) (of_value value)
 
-named_as : (value : Order) → name_of (order_json value) ≡ name value
+named_as : (value : Order) → variant_name (order_json value) ≡ name value
 unfolding name order_json
 named_as (Join node group) = refl
 named_as (Leave node group) = refl
@@ -52,8 +52,8 @@ named_as (Repart group at) = refl
 named_as (Migrate group node) = refl
 
 -- the name that was found is that of the variant
-called : (json : Data) (found : List ℕ) (value : Order) → json ≡ order_json value → found ≡ name_of json → found ≡ name value
-called json found value e named = named ∙ (ap name_of e ∙ named_as value)
+called : (json : Data) (found : List ℕ) (value : Order) → json ≡ order_json value → found ≡ variant_name json → found ≡ name value
+called json found value e named = named ∙ (ap variant_name e ∙ named_as value)
 
 whole_of : (value : Order) → HasContent value → variant (name value) (content_of (order_json value)) ≡ order_json value
 unfolding name HasContent order_json

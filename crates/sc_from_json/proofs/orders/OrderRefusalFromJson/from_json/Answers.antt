@@ -5,7 +5,7 @@ use Rattle.sc_cmd.specs.declared.orders.OrderRefusal.{OrderRefusal}
 use Rattle.sc_cmd.specs.declared.orders.OrderRefusal.TheVariants.{NotLeader, InTransaction, NoNeighbour, BadBoundary, TooManyMembers, NotMember, LastMember, TxLimit, IsMember}
 use Rattle.sc_row_text.specs.Orders.{order_refusal_json, FitsOrderRefusal}
 use Rattle.sc_row_text.specs.Shapes.{variant}
-use Rattle.sc_from_json.specs.Reading.{Finds, MayBeVariant, name_of, content_of}
+use Rattle.sc_from_json.specs.Reading.{Finds, MayBeVariant, variant_name, content_of}
 use Rattle.sc_from_json.specs.declared.faults.RowFault.{RowFault}
 use Rattle.sc_from_json.specs.declared.faults.RowFault.TheVariants.{NoRow, OutOfMemory}
 use Rattle.sc_from_json.proofs.Apart.{apart}
@@ -51,7 +51,7 @@ of_value IsMember = tt
 shaped : (json : Data) (value : OrderRefusal) → json ≡ order_refusal_json value → MayBeVariant json
 shaped json value e = subst MayBeVariant (sym e) (of_value value)
 
-named_as : (value : OrderRefusal) → name_of (order_refusal_json value) ≡ name value
+named_as : (value : OrderRefusal) → variant_name (order_refusal_json value) ≡ name value
 unfolding name order_refusal_json
 named_as (NotLeader hint) = refl
 named_as (InTransaction tx) = refl
@@ -64,8 +64,8 @@ named_as TxLimit = refl
 named_as IsMember = refl
 
 -- the name that was found is that of the variant
-called : (json : Data) (found : List ℕ) (value : OrderRefusal) → json ≡ order_refusal_json value → found ≡ name_of json → found ≡ name value
-called json found value e named = named ∙ (ap name_of e ∙ named_as value)
+called : (json : Data) (found : List ℕ) (value : OrderRefusal) → json ≡ order_refusal_json value → found ≡ variant_name json → found ≡ name value
+called json found value e named = named ∙ (ap variant_name e ∙ named_as value)
 
 whole_of : (value : OrderRefusal) → HasContent value → variant (name value) (content_of (order_refusal_json value)) ≡ order_refusal_json value
 unfolding name HasContent order_refusal_json

@@ -5,7 +5,7 @@ use Rattle.sc_cmd.specs.declared.orders.ToldResult.{ToldResult}
 use Rattle.sc_cmd.specs.declared.orders.ToldResult.TheVariants.{Done, Committed, Aborted, Refused}
 use Rattle.sc_row_text.specs.Orders.{told_result_json, FitsToldResult}
 use Rattle.sc_row_text.specs.Shapes.{variant}
-use Rattle.sc_from_json.specs.Reading.{Finds, MayBeVariant, name_of, content_of}
+use Rattle.sc_from_json.specs.Reading.{Finds, MayBeVariant, variant_name, content_of}
 use Rattle.sc_from_json.specs.declared.faults.RowFault.{RowFault}
 use Rattle.sc_from_json.specs.declared.faults.RowFault.TheVariants.{NoRow, OutOfMemory}
 use Rattle.sc_from_json.proofs.Apart.{apart}
@@ -36,7 +36,7 @@ of_value (Refused inner) = tt
 shaped : (json : Data) (value : ToldResult) → json ≡ told_result_json value → MayBeVariant json
 shaped json value e = subst MayBeVariant (sym e) (of_value value)
 
-named_as : (value : ToldResult) → name_of (told_result_json value) ≡ name value
+named_as : (value : ToldResult) → variant_name (told_result_json value) ≡ name value
 unfolding name told_result_json
 named_as Done = refl
 named_as Committed = refl
@@ -44,8 +44,8 @@ named_as Aborted = refl
 named_as (Refused inner) = refl
 
 -- the name that was found is that of the variant
-called : (json : Data) (found : List ℕ) (value : ToldResult) → json ≡ told_result_json value → found ≡ name_of json → found ≡ name value
-called json found value e named = named ∙ (ap name_of e ∙ named_as value)
+called : (json : Data) (found : List ℕ) (value : ToldResult) → json ≡ told_result_json value → found ≡ variant_name json → found ≡ name value
+called json found value e named = named ∙ (ap variant_name e ∙ named_as value)
 
 whole_of : (value : ToldResult) → HasContent value → variant (name value) (content_of (told_result_json value)) ≡ told_result_json value
 unfolding name HasContent told_result_json

@@ -5,7 +5,7 @@ use Rattle.sc_cmd.specs.declared.votes.Outcome.{Outcome}
 use Rattle.sc_cmd.specs.declared.votes.Outcome.TheVariants.{Abort, Merged, Moved, Migrated, Divided}
 use Rattle.sc_row_text.specs.Outcomes.{outcome_json, FitsOutcome}
 use Rattle.sc_row_text.specs.Shapes.{variant}
-use Rattle.sc_from_json.specs.Reading.{Finds, MayBeVariant, name_of, content_of}
+use Rattle.sc_from_json.specs.Reading.{Finds, MayBeVariant, variant_name, content_of}
 use Rattle.sc_from_json.specs.declared.faults.RowFault.{RowFault}
 use Rattle.sc_from_json.specs.declared.faults.RowFault.TheVariants.{NoRow, OutOfMemory}
 use Rattle.sc_from_json.proofs.Apart.{apart}
@@ -39,7 +39,7 @@ of_value Divided = tt
 shaped : (json : Data) (value : Outcome) → json ≡ outcome_json value → MayBeVariant json
 shaped json value e = subst MayBeVariant (sym e) (of_value value)
 
-named_as : (value : Outcome) → name_of (outcome_json value) ≡ name value
+named_as : (value : Outcome) → variant_name (outcome_json value) ≡ name value
 unfolding name outcome_json
 named_as Abort = refl
 named_as (Merged into) = refl
@@ -48,8 +48,8 @@ named_as (Migrated node) = refl
 named_as Divided = refl
 
 -- the name that was found is that of the variant
-called : (json : Data) (found : List ℕ) (value : Outcome) → json ≡ outcome_json value → found ≡ name_of json → found ≡ name value
-called json found value e named = named ∙ (ap name_of e ∙ named_as value)
+called : (json : Data) (found : List ℕ) (value : Outcome) → json ≡ outcome_json value → found ≡ variant_name json → found ≡ name value
+called json found value e named = named ∙ (ap variant_name e ∙ named_as value)
 
 whole_of : (value : Outcome) → HasContent value → variant (name value) (content_of (outcome_json value)) ≡ outcome_json value
 unfolding name HasContent outcome_json

@@ -5,7 +5,7 @@ use Rattle.sc_cmd.specs.declared.votes.No.{No}
 use Rattle.sc_cmd.specs.declared.votes.No.TheVariants.{Busy, Gone, Apart, TooMany}
 use Rattle.sc_row_text.specs.Votes.{no_json, FitsNo}
 use Rattle.sc_row_text.specs.Shapes.{variant}
-use Rattle.sc_from_json.specs.Reading.{Finds, MayBeVariant, name_of, content_of}
+use Rattle.sc_from_json.specs.Reading.{Finds, MayBeVariant, variant_name, content_of}
 use Rattle.sc_from_json.specs.declared.faults.RowFault.{RowFault}
 use Rattle.sc_from_json.specs.declared.faults.RowFault.TheVariants.{NoRow, OutOfMemory}
 use Rattle.sc_from_json.proofs.Apart.{apart}
@@ -36,7 +36,7 @@ of_value (TooMany n) = tt
 shaped : (json : Data) (value : No) → json ≡ no_json value → MayBeVariant json
 shaped json value e = subst MayBeVariant (sym e) (of_value value)
 
-named_as : (value : No) → name_of (no_json value) ≡ name value
+named_as : (value : No) → variant_name (no_json value) ≡ name value
 unfolding name no_json
 named_as (Busy tx) = refl
 named_as Gone = refl
@@ -44,8 +44,8 @@ named_as Apart = refl
 named_as (TooMany n) = refl
 
 -- the name that was found is that of the variant
-called : (json : Data) (found : List ℕ) (value : No) → json ≡ no_json value → found ≡ name_of json → found ≡ name value
-called json found value e named = named ∙ (ap name_of e ∙ named_as value)
+called : (json : Data) (found : List ℕ) (value : No) → json ≡ no_json value → found ≡ variant_name json → found ≡ name value
+called json found value e named = named ∙ (ap variant_name e ∙ named_as value)
 
 whole_of : (value : No) → HasContent value → variant (name value) (content_of (no_json value)) ≡ no_json value
 unfolding name HasContent no_json

@@ -5,7 +5,7 @@ use Rattle.sc_cmd.specs.declared.votes.Past.{Past}
 use Rattle.sc_cmd.specs.declared.votes.Past.TheVariants.{Yes, No, Ended}
 use Rattle.sc_row_text.specs.Votes.{past_json, FitsPast}
 use Rattle.sc_row_text.specs.Shapes.{variant}
-use Rattle.sc_from_json.specs.Reading.{Finds, MayBeVariant, name_of, content_of}
+use Rattle.sc_from_json.specs.Reading.{Finds, MayBeVariant, variant_name, content_of}
 use Rattle.sc_from_json.specs.declared.faults.RowFault.{RowFault}
 use Rattle.sc_from_json.specs.declared.faults.RowFault.TheVariants.{NoRow, OutOfMemory}
 use Rattle.sc_from_json.proofs.Apart.{apart}
@@ -33,15 +33,15 @@ of_value Ended = tt
 shaped : (json : Data) (value : Past) → json ≡ past_json value → MayBeVariant json
 shaped json value e = subst MayBeVariant (sym e) (of_value value)
 
-named_as : (value : Past) → name_of (past_json value) ≡ name value
+named_as : (value : Past) → variant_name (past_json value) ≡ name value
 unfolding name past_json
 named_as Yes = refl
 named_as (No inner) = refl
 named_as Ended = refl
 
 -- the name that was found is that of the variant
-called : (json : Data) (found : List ℕ) (value : Past) → json ≡ past_json value → found ≡ name_of json → found ≡ name value
-called json found value e named = named ∙ (ap name_of e ∙ named_as value)
+called : (json : Data) (found : List ℕ) (value : Past) → json ≡ past_json value → found ≡ variant_name json → found ≡ name value
+called json found value e named = named ∙ (ap variant_name e ∙ named_as value)
 
 whole_of : (value : Past) → HasContent value → variant (name value) (content_of (past_json value)) ≡ past_json value
 unfolding name HasContent past_json

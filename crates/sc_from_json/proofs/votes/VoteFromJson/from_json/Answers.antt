@@ -5,7 +5,7 @@ use Rattle.sc_cmd.specs.declared.votes.Vote.{Vote}
 use Rattle.sc_cmd.specs.declared.votes.Vote.TheVariants.{Yes, No}
 use Rattle.sc_row_text.specs.Votes.{vote_json, FitsVote}
 use Rattle.sc_row_text.specs.Shapes.{variant}
-use Rattle.sc_from_json.specs.Reading.{Finds, MayBeVariant, name_of, content_of}
+use Rattle.sc_from_json.specs.Reading.{Finds, MayBeVariant, variant_name, content_of}
 use Rattle.sc_from_json.specs.declared.faults.RowFault.{RowFault}
 use Rattle.sc_from_json.specs.declared.faults.RowFault.TheVariants.{NoRow, OutOfMemory}
 use Rattle.sc_from_json.proofs.Apart.{apart}
@@ -30,14 +30,14 @@ of_value (No inner) = tt
 shaped : (json : Data) (value : Vote) → json ≡ vote_json value → MayBeVariant json
 shaped json value e = subst MayBeVariant (sym e) (of_value value)
 
-named_as : (value : Vote) → name_of (vote_json value) ≡ name value
+named_as : (value : Vote) → variant_name (vote_json value) ≡ name value
 unfolding name vote_json
 named_as (Yes inner) = refl
 named_as (No inner) = refl
 
 -- the name that was found is that of the variant
-called : (json : Data) (found : List ℕ) (value : Vote) → json ≡ vote_json value → found ≡ name_of json → found ≡ name value
-called json found value e named = named ∙ (ap name_of e ∙ named_as value)
+called : (json : Data) (found : List ℕ) (value : Vote) → json ≡ vote_json value → found ≡ variant_name json → found ≡ name value
+called json found value e named = named ∙ (ap variant_name e ∙ named_as value)
 
 whole_of : (value : Vote) → HasContent value → variant (name value) (content_of (vote_json value)) ≡ vote_json value
 unfolding name HasContent vote_json

@@ -2,7 +2,7 @@ use Rattle.std.proofs.Common.{◌≡◌, ◌≤◌, ◌<◌, OnOk, length, ap, s
 use Rattle.std.specs.Map.{remove_entry}
 use Rattle.indexmap.specs.IndexMap.{spare}
 use Rattle.sc_base.specs.Same.{same_draw}
-use Rattle.sc_lookup.specs.Known.{Known, group_learnt}
+use Rattle.sc_lookup.specs.Known.{KnownGroups, group_learnt}
 use Rattle.sc_lookup.proofs.KnownLemmas.{of_done, some_learnt}
 use Rattle.sc_lookup.proofs.routes.Routes.gone.Goals as goal
 
@@ -16,5 +16,5 @@ invariant_of-self-2 c =
 pub returns : goal.returns
 returns c =
     let removed : c.shift_remove.new.self.entries ≡ remove_entry (same_draw c.args.group) c.args.self.now = c.shift_remove.ensures.entries ∙ ap (remove_entry (same_draw c.args.group)) (c.reserve.ensures.entries ∙ c.self.view_is) in
-    let P : Known → Type 0 = λ known. OnOk c.learn.result (c.learn.new.known.entries ≡ group_learnt c.args.into.now.group c.args.into.now.lo c.args.into.now.members known) in
+    let P : KnownGroups → Type 0 = λ known. OnOk c.learn.result (c.learn.new.known.entries ≡ group_learnt c.args.into.now.group c.args.into.now.lo c.args.into.now.members known) in
     subst P removed c.learn.ensures.ok

@@ -1,14 +1,14 @@
 use Rattle.std.proofs.Common.{◌≡◌, Some, sym, ap, subst, ◌∙◌}
 use Rattle.sc_machine_table.specs.Machine.{applied}
 use Rattle.sc_entries.specs.Worlds.{StoreWorld, named_group, with_result}
-use Rattle.sc_store_world.specs.Places.{StandsAt}
+use Rattle.sc_store_world.specs.Places.{IsFirstNamed}
 use Rattle.sc_store_world.proofs.Executing.{parts-are}
 use Rattle.sc_store_world.proofs.worlds.StoreWorld.execute.Goals as goal
 
 pub returns : goal.returns
 returns c = λ group is.
     let inside : StoreWorld = record { groups = c.self.inside.groups.items; transactions = c.self.inside.transactions.items; ring = c.self.inside.ring.items; history = c.self.inside.history.items } in
-    let stands : StandsAt c.args.name inside.groups c.args.at = subst (λ (world : StoreWorld). StandsAt c.args.name world.groups c.args.at) (sym c.self.view_is) c.requires in
+    let stands : IsFirstNamed c.args.name inside.groups c.args.at = subst (λ (world : StoreWorld). IsFirstNamed c.args.name world.groups c.args.at) (sym c.self.view_is) c.requires in
     let found : named_group c.args.name inside.groups ≡ Some group = subst (λ (world : StoreWorld). named_group c.args.name world.groups ≡ Some group) (sym c.self.view_is) is in
     let done = c.in_ok-core.ensures group (sym stands.found ∙ found) in
     parts-are inside group c.args.command.now _ _ _ _ _ _ done.0 done.1 done.2 c.in_ok-tell.ensures c.in_ok-change_ring.ensures c.in_ok-note.ensures

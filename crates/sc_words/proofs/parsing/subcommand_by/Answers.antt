@@ -2,7 +2,7 @@ use Rattle.std.proofs.Common.{map, sym, ◌∙◌}
 use Rattle.std.specs.Prelude.{string_bytes}
 use Rattle.std.proofs.lemmas.Result.{IfOk-weaker}
 use Rattle.sc_words.proofs.Shapes.{refused, run_asked, journal_asked, audit_asked, if_asked, if_reads}
-use Rattle.sc_words.proofs.parsing.asked_by.Goals as goal
+use Rattle.sc_words.proofs.parsing.subcommand_by.Goals as goal
 
 pub returns-then-not-is_plain-clause-asked : goal.returns-then-not-is_plain-clause-asked
 returns-then-not-is_plain-clause-asked c = sym (refused (map string_bytes c.args.words.now) (sym c.is_plain.ensures ∙ c.if-not-is_plain.true))

@@ -1,5 +1,5 @@
 use Rattle.std.proofs.Common.{◌≡◌, take}
-use Rattle.sc_decided.proofs.entries.log_of.Given as goal
+use Rattle.sc_decided.proofs.entries.log_at.Given as goal
 
 -- the commands so far
 abbrev pub invariant-loop-command : goal.invariant-loop-command

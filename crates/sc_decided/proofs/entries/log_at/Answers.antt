@@ -4,7 +4,7 @@ use Rattle.sc_sound.specs.Players.{as_nodes}
 use Rattle.sc_sound.specs.GroupsOf.{groups_at}
 use Rattle.sc_decided.specs.Found.{log_kept}
 use Rattle.sc_decided.proofs.Families.{log_in_is}
-use Rattle.sc_decided.proofs.entries.log_of.Goals as goal
+use Rattle.sc_decided.proofs.entries.log_at.Goals as goal
 
 pub returns : goal.returns
 returns c =

@@ -5,8 +5,8 @@ use Rattle.std.specs.Option.{option_map}
 use Rattle.sc_base.specs.Limits.{most_requests}
 use Rattle.sc_base.specs.Number.{number_of}
 use Rattle.sc_lines.specs.Words.{same, nth, count_in}
-use Rattle.sc_words.specs.declared.asked.Asked.{Asked}
-use Rattle.sc_words.specs.declared.asked.Asked.TheVariants.{Run, Journal, Audit, Make}
+use Rattle.sc_words.specs.declared.subcommands.Subcommand.{Subcommand}
+use Rattle.sc_words.specs.declared.subcommands.Subcommand.TheVariants.{Run, Journal, Audit, Make}
 
 -- the one word `run`
 abbrev pub is_run : List (List ℕ) → Bool
@@ -33,12 +33,12 @@ abbrev pub last_seed : ℕ
 last_seed = 18446744073709551615
 
 -- what two words behind `make` spell: 1 to 1,000 requests a client, and a seed
-abbrev pub make_of : List ℕ → List ℕ → Option Asked
+abbrev pub make_of : List ℕ → List ℕ → Option Subcommand
 make_of count seed = option_and_then (λ n. option_map (λ s. Make n s) (number_of seed last_seed)) (count_in most_requests count)
 
 -- what words ask for
-abbrev pub asked_by : List (List ℕ) → Option Asked
-asked_by words =
+abbrev pub subcommand_by : List (List ℕ) → Option Subcommand
+subcommand_by words =
     if is_run words then Some Run
     else if is_journal words then Some Journal
     else if is_audit words then Some Audit
@@ -46,14 +46,14 @@ asked_by words =
     else None
 
 -- whether what is asked for is on the input: all but a made scenario is
-abbrev pub is_on_input : Asked → Bool
+abbrev pub is_on_input : Subcommand → Bool
 is_on_input Run = true
 is_on_input Journal = true
 is_on_input Audit = true
 is_on_input (Make n seed) = false
 
 -- a made scenario has 1 to 1,000 requests a client
-abbrev pub IsInRange : Asked → Type 0
+abbrev pub IsInRange : Subcommand → Type 0
 IsInRange Run = ⊤
 IsInRange Journal = ⊤
 IsInRange Audit = ⊤

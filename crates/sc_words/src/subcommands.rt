@@ -2,7 +2,7 @@
 
 /// What words ask for.
 #[derive(Clone, Copy, Debug, PartialEq, Eq)]
-pub enum Asked {
+pub enum Subcommand {
     /// `run`: a run of the scenario on the input.
     Run,
     /// `journal`: a run of the scenario on the input, of which the journal is printed.

@@ -5,7 +5,7 @@ use Rattle.sc_checker.specs.declared.checked.Checked.TheVariants.{On}
 use Rattle.sc_checker.specs.Checks.{IsChecked}
 use Rattle.sc_checker.specs.Moves.{rules_of}
 use Rattle.sc_checker.proofs.Checks.{taking_begin}
-use Rattle.sc_checker.proofs.judging.taken_by.Goals as goal
+use Rattle.sc_checker.proofs.judging.rows_replayed.Goals as goal
 
 pub loop-line-init : goal.loop-line-init
 loop-line-init g c = (

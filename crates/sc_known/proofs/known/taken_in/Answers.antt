@@ -1,6 +1,6 @@
 use Rattle.std.proofs.Common.{refl, sym, ◌∙◌}
 use Rattle.sc_known.proofs.Elsewhere.{accepts_here, accepts_elsewhere, known_elsewhere}
-use Rattle.sc_known.proofs.known.taken.Goals as goal
+use Rattle.sc_known.proofs.known.taken_in.Goals as goal
 
 pub returns-then-same_draw : goal.returns-then-same_draw
 returns-then-same_draw c = λ calm rows after adds is.
