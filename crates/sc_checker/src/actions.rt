@@ -52,9 +52,11 @@ pub fn line_action<A, M: Parcel, O: Dup + Drop>(
     requires { IsUpToDate M.receiver stage.now }
     ensures is { IfOk result
         (λ action.
-        action ≡ line_action M.receiver (numbers_of stage.now.seats.items) stage.now.rows line.now) }
+        action
+        ≡ line_action M.receiver (numbers_of stage.now.seats.items) stage.now.rows line.now) }
     ensures can { IfOk result
-        (λ found. IfSome found (λ action. can_act (numbers_of stage.now.seats.items) action ≡ true)) }
+        (λ found. IfSome found
+        (λ action. can_act (numbers_of stage.now.seats.items) action ≡ true)) }
 {
     Ok(match line {
         Line::Go { who } => go(stage, *who),
@@ -82,8 +84,10 @@ pub fn line_action<A, M: Parcel, O: Dup + Drop>(
 /// The delivery of the lowest-numbered pending mail of all, or none where no mail is pending.
 pub fn lowest_action<A, M: Parcel, O>(stage: &Stage<A, M, O>) -> Option<Action<O>>
     requires { IsUpToDate M.receiver stage.now }
-    ensures is { result ≡ lowest_action M.receiver (numbers_of stage.now.seats.items) stage.now.rows }
-    ensures can { IfSome result (λ action. can_act (numbers_of stage.now.seats.items) action ≡ true) }
+    ensures is { result
+        ≡ lowest_action M.receiver (numbers_of stage.now.seats.items) stage.now.rows }
+    ensures can { IfSome result
+        (λ action. can_act (numbers_of stage.now.seats.items) action ≡ true) }
 {
     match waiting(stage, None, 1) {
         None => None,
@@ -100,7 +104,8 @@ pub fn first_action<A, M: Parcel, O>(stage: &Stage<A, M, O>, who: u32) -> Option
     ensures is { result
         ≡ line_action M.receiver (numbers_of stage.now.seats.items) stage.now.rows
         (Line.Deliver who 1) }
-    ensures can { IfSome result (λ action. can_act (numbers_of stage.now.seats.items) action ≡ true) }
+    ensures can { IfSome result
+        (λ action. can_act (numbers_of stage.now.seats.items) action ≡ true) }
 {
     match waiting(stage, Some(who), 1) {
         None => None,

@@ -86,7 +86,8 @@ fn chosen_action<A, M: Parcel, O>(stage: &Stage<A, M, O>, free: bool, who: u32) 
     requires { IsUpToDate M.receiver stage.now }
     ensures is { result
         ≡ chosen_action M.receiver (numbers_of stage.now.seats.items) stage.now.rows free who }
-    ensures can { IfSome result (λ action. can_act (numbers_of stage.now.seats.items) action ≡ true) }
+    ensures can { IfSome result
+        (λ action. can_act (numbers_of stage.now.seats.items) action ≡ true) }
 {
     if free {
         first_action(stage, who)
@@ -213,7 +214,8 @@ where
     requires room { stage.old.skipped < 2 ^ 64 - 1 }
     ensures is { IfOk result
         (λ checked.
-        IsChecked (rules_of A.table A.Mail.receiver) stage.old (tasks_of two_words line.now) stage.new
+        IsChecked (rules_of A.table A.Mail.receiver) stage.old (tasks_of two_words line.now)
+        stage.new
         rows.now checked) }
     ensures skipped { OnOk result (stage.new.skipped ≤ stage.old.skipped + 1) }
 {

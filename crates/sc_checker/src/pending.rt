@@ -86,7 +86,8 @@ fn kth_of_all(copies: &[OpenCopy], k: u64) -> Option<u32>
 // The number of the k-th copy for one receiver, from 1.
 fn kth_for(copies: &[OpenCopy], who: u32, k: u64) -> Option<u32>
     requires { 0 < k }
-    ensures { result ≡ kth (map (λ copy. copy.number) (filter (λ copy. copy.to == who) copies.now)) k }
+    ensures { result
+        ≡ kth (map (λ copy. copy.number) (filter (λ copy. copy.to == who) copies.now)) k }
 {
     let mut left = k;
     for copy in copies {

@@ -22,12 +22,9 @@ use Rattle.sc_decided.specs.Found.{kept_log, is_kept_of, log_kept, AreKnown, Are
 use Rattle.sc_decided.specs.declared.births.Groups.{Groups}
 use Rattle.sc_known.specs.declared.known.Known.{Known}
 use Rattle.sc_known.proofs.Chosen.{log_is}
+use Rattle.sc_paxos_words.proofs.ListLemmas.{Each-push}
 
 -- ---- facts of each
-
-pub each_push : {X : Type 0} (P : X → Type 0) (xs : List X) (x : X) → Each P xs → P x → Each P (xs ++ x ∷ [])
-each_push P [] x all here = (here, tt)
-each_push P (y ∷ xs) x all here = (all.0, each_push P xs x all.1 here)
 
 each_front : {X : Type 0} (P : X → Type 0) (xs : List X) (x : X) → Each P (xs ++ x ∷ []) → Each P xs
 each_front P [] x all = tt
@@ -89,7 +86,7 @@ known_push rows bases knowns base known are is born = record {
   bases_are =
       map-append (λ (k : Known). k.base) knowns (known ∷ []) ∙ ap (λ (bs : List Base). bs ++ known.base ∷ []) are.bases_are
       ∙ ap (λ (b : Base). bases ++ b ∷ []) born;
-  each = each_push (IsKnown rows) knowns known are.each is;
+  each = Each-push (IsKnown rows) knowns known are.each is;
 }
 
 -- a child whose name is there is not born

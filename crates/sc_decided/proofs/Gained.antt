@@ -27,7 +27,8 @@ use Rattle.sc_decided.specs.Found.{AreKnown, AreTracked, StayKnown, log_kept, ne
 use Rattle.sc_known.specs.declared.accepting.Acceptance.{Acceptance}
 use Rattle.sc_decided.specs.declared.births.Groups.{Groups}
 use Rattle.sc_known.specs.declared.known.Known.{Known}
-use Rattle.sc_decided.proofs.Families.{each_push, each_of, flat_same, known_log, log_in_is, same_groups, SameChildren}
+use Rattle.sc_paxos_words.proofs.ListLemmas.{Each-push}
+use Rattle.sc_decided.proofs.Families.{each_of, flat_same, known_log, log_in_is, same_groups, SameChildren}
 use Rattle.sc_known.proofs.Elsewhere.{accepts_elsewhere, known_elsewhere}
 
 -- ---- other groups
@@ -213,8 +214,8 @@ stay_push rows after knowns later known next all so_far one =
       same =
           map-append (λ (k : Known). k.base) later (next ∷ []) ∙ ap (λ (bs : List Base). bs ++ next.base ∷ []) stay.same
           ∙ ap (λ (b : Base). bases knowns ++ b ∷ []) stays.base_is ∙ sym (map-append (λ (k : Known). k.base) knowns (known ∷ []));
-      each = each_push (IsKnown after) later next stay.each stays.is;
-      children = subst (Each (SameChildren rows after)) (sym (map-append (λ (k : Known). k.base) knowns (known ∷ []))) (each_push (SameChildren rows after) (bases knowns) known.base stay.children (same_children parts.1 stays));
+      each = Each-push (IsKnown after) later next stay.each stays.is;
+      children = subst (Each (SameChildren rows after)) (sym (map-append (λ (k : Known). k.base) knowns (known ∷ []))) (Each-push (SameChildren rows after) (bases knowns) known.base stay.children (same_children parts.1 stays));
     }
   where
     same_children : IsKnown rows known → StaysKnown rows after known next → SameChildren rows after known.base

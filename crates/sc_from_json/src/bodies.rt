@@ -10,7 +10,7 @@ ghost use Rattle.sc_row_text.specs.Bodies.{watch_json, FitsWatch};
 
 use crate::faults::RowFault;
 use crate::from_json::FromJson;
-use crate::reading::{member, pair_of, variant_parts, six_of};
+use crate::reading::{member, pair_of, six_of, variant_parts};
 use sc_cmd::{Body, Offer, Watch};
 use serde_json::Value as Json;
 use std::alloc::Global;

@@ -9,7 +9,7 @@ ghost use Rattle.sc_row_text.specs.Commands.{report_json, FitsReport};
 
 use crate::faults::RowFault;
 use crate::from_json::FromJson;
-use crate::reading::{member, pair_of, variant_parts, triple_of};
+use crate::reading::{member, pair_of, triple_of, variant_parts};
 use sc_cmd::Command;
 use sc_paxos_words::Report;
 use serde_json::Value as Json;

@@ -10,7 +10,7 @@ ghost use Rattle.sc_row_text.specs.Cores.{base_json, FitsBase};
 
 use crate::faults::RowFault;
 use crate::from_json::FromJson;
-use crate::reading::{four_of, pair_of, variant_parts, six_of, triple_of};
+use crate::reading::{four_of, pair_of, six_of, triple_of, variant_parts};
 use sc_cmd::{Base, Core, Lock};
 use serde_json::Value as Json;
 use std::alloc::Global;

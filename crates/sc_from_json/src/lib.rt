@@ -22,4 +22,4 @@ mod votes;
 
 pub use faults::RowFault;
 pub use from_json::FromJson;
-pub use reading::{four_of, pair_of, variant_parts, triple_of};
+pub use reading::{four_of, pair_of, triple_of, variant_parts};

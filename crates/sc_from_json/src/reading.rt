@@ -161,7 +161,8 @@ pub(crate) fn six_of<
 /// The name of a variant and its content; one without content is its own.
 pub fn variant_parts(json: &Json) -> Option<(&str, &Json)>
     ensures { MayBeVariant (view json.now) → IsSomeAnd result (λ parts.
-        (parts.0.now ≡ variant_name (view json.now)) × (view parts.1.now ≡ content_of (view json.now))) }
+        (parts.0.now ≡ variant_name (view json.now))
+        × (view parts.1.now ≡ content_of (view json.now))) }
 {
     match json {
         Json::String(name) => Some((name.as_str(), json)),

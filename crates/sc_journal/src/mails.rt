@@ -10,7 +10,7 @@ ghost use Rattle.sc_row_text.specs.Mails.{mail_body_json, FitsMailBody, mail_jso
 ghost use Rattle.sc_from_json.specs.Reading.{Finds, Shows};
 
 use sc_base::Sequence;
-use sc_from_json::{RowFault, four_of, pair_of, variant_parts, triple_of};
+use sc_from_json::{RowFault, four_of, pair_of, triple_of, variant_parts};
 use sc_mail::{Mail, MailBody};
 use serde_json::Value as Json;
 use std::alloc::Global;

@@ -41,7 +41,8 @@ fn tell_usage(alloc: Global) -> Result<(Said, Text), OutOfMemory>
 
 // The text about a source that failed.
 fn tell_fault(alloc: Global) -> Result<(Said, Text), OutOfMemory>
-    ensures { IfOk result (λ begun. (begun.0 ≡ ReadFault) × TellsLine (codes "read fault") begun.1) }
+    ensures { IfOk result
+        (λ begun. (begun.0 ≡ ReadFault) × TellsLine (codes "read fault") begun.1) }
 {
     let text = tells(alloc, b"read fault")?;
     Ok((Said::ReadFault, text))
@@ -75,8 +76,9 @@ fn say<S: Source, G: Gate, R: Threads + Wait + Sync>(
 /// behind it; or reads a stored journal and prints whether it is lawful.
 ///
 /// The words are those behind the program's name. Each line of output is one call of the sink, and
-/// the source is called 16,777,218 times at most, after the word `audit` 268,435,458 times. A fault of the sink wins over the status that the
-/// text belongs to. The gate is passed before each row that delivers a mail.
+/// the source is called 16,777,218 times at most, after the word `audit` 268,435,458 times. A fault
+/// of the sink wins over the status that the text belongs to. The gate is passed before each row
+/// that delivers a mail.
 pub fn run<S: Source, K: Sink, G: Gate, R: Threads + Wait + Sync>(
     rt: &R,
     alloc: Global,
@@ -90,7 +92,8 @@ pub fn run<S: Source, K: Sink, G: Gate, R: Threads + Wait + Sync>(
         (K.held output.old) (K.held output.new) (K.pieces output.old) (K.pieces output.new)
         (K.faults output.old) (K.faults output.new) (K.calls output.old) (K.calls output.new)
         result }
-    ensures unread { reads_input (map string_bytes words.now.items) ≡ false → input.new ≡ input.old }
+    ensures unread { reads_input (map string_bytes words.now.items) ≡ false →
+        input.new ≡ input.old }
     ensures takes { S.calls input.new ≤ S.calls input.old
         + most_takes (map string_bytes words.now.items) }
 {

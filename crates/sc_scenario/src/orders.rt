@@ -5,7 +5,7 @@ ghost use Rattle.sc_lines.specs.declared.kinds.OrderKind.TheVariants.{Join, Leav
 
 use sc_base::{Draw, MOST_NODES, OutOfMemory, read_number};
 use sc_cmd::Order;
-use sc_lines::{OrderKind, Reason, count_in, nth, dotted_parts};
+use sc_lines::{OrderKind, Reason, count_in, dotted_parts, nth};
 use std::alloc::Global;
 
 const MOST_NAMES: u32 = 4_294_967_295;

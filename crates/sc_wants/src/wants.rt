@@ -85,7 +85,8 @@ fn kept_by(alloc: Global, text: Vec<u8>) -> Result<Wanted, OutOfMemory>
 // The same of the source, where the journal is to be printed.
 fn keep<S: Source>(alloc: Global, input: &mut S) -> Result<Wanted, OutOfMemory>
     ensures kept { IfOk result
-        (λ wanted. IsForJournal (S.left input.old) (S.faults input.old) (S.faults input.new) wanted) }
+        (λ wanted.
+        IsForJournal (S.left input.old) (S.faults input.old) (S.faults input.new) wanted) }
     ensures calls { S.calls input.new ≤ S.calls input.old + (most_bytes + 2) }
 {
     let bytes = match read_all(alloc, input, INPUT_LIMIT) {

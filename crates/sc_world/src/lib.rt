@@ -16,7 +16,7 @@ mod worlds;
 pub use laws::valid_scenarios_can_play;
 pub use party::Party;
 pub use replaying::{ReplayFault, replay_rows};
-pub use seating::{MOST_ACTOR, has_few_requests, births, schedule};
+pub use seating::{MOST_ACTOR, births, has_few_requests, schedule};
 pub use summing::{sum_up, summary};
 pub use telling::{decided_log, decided_ring, effective, history};
 pub use worlds::World;
