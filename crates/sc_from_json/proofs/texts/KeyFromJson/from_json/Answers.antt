@@ -5,7 +5,8 @@ use Rattle.sc_base.specs.Text.{IsText}
 use Rattle.sc_base.specs.TextFault.{text_fault}
 use Rattle.sc_base.specs.declared.texts.KeyFault.TheVariants.{OutOfMemory}
 use Rattle.sc_from_json.proofs.Finding.{failed_for}
-use Rattle.sc_from_json.proofs.TextSteps.{no_fault, short_of, text_is}
+use Rattle.sc_base.proofs.TextLemmas.{no_fault}
+use Rattle.sc_from_json.proofs.TextSteps.{short_of, text_is}
 use Rattle.sc_from_json.proofs.texts.KeyFromJson.from_json.Goals as goal
 
 pub returns-in_err-try_new-in-Some : goal.returns-in_err-try_new-in-Some
