@@ -4,3 +4,5 @@
 
 #[cfg(test)]
 mod file_tests;
+#[cfg(test)]
+mod row_tests;

@@ -1,10 +1,7 @@
 -- Answers at the front of a text.
-use Rattle.std.proofs.Common.{◌≡◌, ℕ, List, [], ◌∷◌, ◌++◌, codes, refl, ap, ◌∙◌, append_assoc}
+use Rattle.std.proofs.Common.{◌≡◌, ℕ, List, ◌++◌, codes, refl, ◌∙◌, append_assoc}
 use Rattle.json.specs.Print.{escape_byte}
-use Rattle.serde_json.specs.Data.{string}
 use Rattle.serde_json.specs.Written.{compact_text}
-use Rattle.sc_row_text.specs.Shapes.{number_json, option_json}
-use Rattle.sc_row_text.specs.Held.{FitsU16, FitsU32, FitsKey, FitsValue, OptionFits}
 use Rattle.sc_row_lines.specs.Fronts.{IsOnly, Begins}
 use Rattle.sc_row_lines.proofs.Apart.{apart}
 use Rattle.sc_base.specs.declared.ops.Reply.{Reply}
@@ -23,6 +20,6 @@ value_only content content_known _ held same = absurd (apart _ _ same refl)
 pub value_begins : (bytes rest : List ℕ) (content : Reply) → IsOnly reply_json FitsReply content → bytes ≡ codes "{\"Value\":" ++ (compact_text (reply_json content) ++ (codes "}" ++ rest)) → Begins answer_body_json FitsAnswerBody bytes (TheAnswerBody.Value content) rest
 unfolding answer_body_json FitsAnswerBody escape_byte
 value_begins bytes rest content content_known text = record {
-    text = text ∙ simp append_assoc;
-    known = record { fits = content_known.fits; only = value_only content content_known };
-  }
+  text = text ∙ simp append_assoc;
+  known = record { fits = content_known.fits; only = value_only content content_known };
+}

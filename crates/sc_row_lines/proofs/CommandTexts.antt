@@ -1,10 +1,9 @@
 -- Commands at the front of a text.
-use Rattle.std.proofs.Common.{◌≡◌, ℕ, List, [], ◌∷◌, ◌++◌, codes, refl, ap, ◌∙◌, append_assoc}
+use Rattle.std.proofs.Common.{◌≡◌, ℕ, List, ◌++◌, codes, refl, ◌∙◌, append_assoc}
 use Rattle.json.specs.Print.{escape_byte}
-use Rattle.serde_json.specs.Data.{string}
 use Rattle.serde_json.specs.Written.{compact_text}
-use Rattle.sc_row_text.specs.Shapes.{number_json, option_json}
-use Rattle.sc_row_text.specs.Held.{FitsU16, FitsU32, FitsKey, FitsValue, OptionFits}
+use Rattle.sc_row_text.specs.Shapes.{number_json}
+use Rattle.sc_row_text.specs.Held.{FitsU16, FitsU32}
 use Rattle.sc_row_lines.specs.Fronts.{IsOnly, Begins}
 use Rattle.sc_row_lines.proofs.Apart.{apart}
 use Rattle.sc_base.specs.declared.ops.Op.{Op}
@@ -25,9 +24,9 @@ call_only client seq op client_known op_known seq_known _ held same = absurd (ap
 pub call_begins : (bytes rest : List ℕ) (client : ℕ) (seq : ℕ) (op : Op) → IsOnly number_json FitsU16 client → IsOnly op_json FitsOp op → IsOnly number_json FitsU32 seq → bytes ≡ codes "{\"Call\":{\"client\":" ++ (compact_text (number_json client) ++ (codes ",\"op\":" ++ (compact_text (op_json op) ++ (codes ",\"seq\":" ++ (compact_text (number_json seq) ++ (codes "}}" ++ rest)))))) → Begins command_json FitsCommand bytes (TheCommand.Call client seq op) rest
 unfolding command_json FitsCommand escape_byte
 call_begins bytes rest client seq op client_known op_known seq_known text = record {
-    text = text ∙ simp append_assoc;
-    known = record { fits = (client_known.fits, op_known.fits, seq_known.fits); only = call_only client seq op client_known op_known seq_known };
-  }
+  text = text ∙ simp append_assoc;
+  known = record { fits = (client_known.fits, op_known.fits, seq_known.fits); only = call_only client seq op client_known op_known seq_known };
+}
 
 noop_only : (other : Command) → FitsCommand other → command_json other ≡ command_json TheCommand.Noop → other ≡ TheCommand.Noop
 unfolding command_json
@@ -37,6 +36,6 @@ noop_only _ held same = absurd (apart _ _ same refl)
 pub noop_begins : (bytes rest : List ℕ) → bytes ≡ codes "\"Noop\"" ++ rest → Begins command_json FitsCommand bytes TheCommand.Noop rest
 unfolding command_json FitsCommand escape_byte
 noop_begins bytes rest text = record {
-    text = text;
-    known = record { fits = tt; only = noop_only };
-  }
+  text = text;
+  known = record { fits = tt; only = noop_only };
+}

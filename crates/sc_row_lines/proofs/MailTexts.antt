@@ -1,14 +1,11 @@
 -- Mails, and lists of them, at the front of a text.
 use Rattle.std.proofs.Common.{◌≡◌, ℕ, List, [], ◌∷◌, ◌++◌, codes, refl, ap, ◌∙◌, append_assoc}
 use Rattle.json.specs.Print.{escape_byte}
-use Rattle.serde_json.specs.Data.{string}
 use Rattle.serde_json.specs.Written.{compact_text}
-use Rattle.sc_row_text.specs.Shapes.{number_json, option_json}
-use Rattle.sc_row_text.specs.Held.{FitsU16, FitsU32, FitsKey, FitsValue, OptionFits}
+use Rattle.sc_row_text.specs.Shapes.{number_json}
+use Rattle.sc_row_text.specs.Held.{FitsU32}
 use Rattle.sc_row_lines.specs.Fronts.{IsOnly, Begins}
-use Rattle.sc_row_lines.proofs.Apart.{apart}
 use Rattle.std.proofs.Common.{Bool, true, false, ◌<◌, ap₂, subst, sym, length, length-append, arith}
-use Rattle.serde_json.specs.Data.{Items}
 use Rattle.serde_json.specs.Written.{items_text, comma_if}
 use Rattle.sc_base.specs.Among.{Each}
 use Rattle.sc_mail.specs.declared.bodies.Mail.{Mail}
@@ -27,9 +24,9 @@ mail_only mail other body_only held same =
 pub mail_begins : (bytes rest : List ℕ) (body : MailBody) (from to : ℕ) → IsOnly mail_body_json FitsMailBody body → IsOnly number_json FitsU32 from → IsOnly number_json FitsU32 to → bytes ≡ codes "{\"body\":" ++ (compact_text (mail_body_json body) ++ (codes ",\"from\":" ++ (compact_text (number_json from) ++ (codes ",\"to\":" ++ (compact_text (number_json to) ++ (codes "}" ++ rest)))))) → Begins mail_json FitsMail bytes (record { from = from; to = to; body = body }) rest
 unfolding mail_json FitsMail escape_byte
 mail_begins bytes rest body from to body_only from_only to_only text = record {
-    text = text ∙ simp append_assoc;
-    known = record { fits = (body_only.fits, from_only.fits, to_only.fits); only = λ other held same. mail_only (record { from = from; to = to; body = body }) other body_only held same };
-  }
+  text = text ∙ simp append_assoc;
+  known = record { fits = (body_only.fits, from_only.fits, to_only.fits); only = λ other held same. mail_only (record { from = from; to = to; body = body }) other body_only held same };
+}
 
 -- the texts of mails, with the commas before them
 abbrev pub front : Bool → List Mail → List ℕ
@@ -72,9 +69,9 @@ list_only mails each = record { fits = mails_fit mails each; only = λ other hel
 -- an array of mails
 pub mails_begin : (bytes before rest : List ℕ) (mails : List Mail) → Each (IsOnly mail_json FitsMail) mails → bytes ≡ 91 ∷ (front false mails ++ before) → before ≡ codes "]" ++ rest → Begins (list_json mail_json) (Each FitsMail) bytes mails rest
 mails_begin bytes before rest mails each text ends = record {
-    text = text ∙ ap (λ t. 91 ∷ t) (ap (λ t. front false mails ++ t) ends ∙ sym (front_ends false mails rest));
-    known = list_only mails each;
-  }
+  text = text ∙ ap (λ t. 91 ∷ t) (ap (λ t. front false mails ++ t) ends ∙ sym (front_ends false mails rest));
+  known = list_only mails each;
+}
 
 -- one without mails
 pub no_mails_begin : (bytes rest : List ℕ) → bytes ≡ codes "[]" ++ rest → Begins (list_json mail_json) (Each FitsMail) bytes [] rest
@@ -89,8 +86,8 @@ pub one_more : (bytes rest more after : List ℕ) (mails : List Mail) (mail : Ma
     → (bytes ≡ 91 ∷ (front false all ++ after)) × (0 < length all) × Each (IsOnly mail_json FitsMail) all
 one_more bytes rest more after mails mail all some each text comma begins pushed =
     let here : rest ≡ 44 ∷ (compact_text (mail_json mail) ++ after) = comma ∙ ap (λ t. 44 ∷ t) begins.text in
-    let front_is : front false all ++ after ≡ front false mails ++ (44 ∷ (compact_text (mail_json mail) ++ after)) = ap (λ ms. front false ms ++ after) pushed ∙ front_more false mails mail after some in
-    ( text ∙ (ap (λ t. 91 ∷ (front false mails ++ t)) here ∙ ap (λ t. 91 ∷ t) (sym front_is))
-    , omega (arith, ap length pushed, length-append mails (mail ∷ []))
-    , subst (λ ms. Each (IsOnly mail_json FitsMail) ms) (sym pushed) (each_more mails mail each begins.known)
+    let front_is : front false all ++ after ≡ front false mails ++ (44 ∷ (compact_text (mail_json mail) ++ after)) = ap (λ ms. front false ms ++ after) pushed ∙ front_more false mails mail after some in (
+      text ∙ (ap (λ t. 91 ∷ (front false mails ++ t)) here ∙ ap (λ t. 91 ∷ t) (sym front_is)),
+      omega (arith, ap length pushed, length-append mails (mail ∷ [])),
+      subst (λ ms. Each (IsOnly mail_json FitsMail) ms) (sym pushed) (each_more mails mail each begins.known),
     )

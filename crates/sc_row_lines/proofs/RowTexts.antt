@@ -1,10 +1,9 @@
 -- Rows and their events at the front of a text.
 use Rattle.std.proofs.Common.{◌≡◌, ℕ, List, [], ◌∷◌, ◌++◌, codes, refl, ap, ◌∙◌, append_assoc}
 use Rattle.json.specs.Print.{escape_byte}
-use Rattle.serde_json.specs.Data.{string}
 use Rattle.serde_json.specs.Written.{compact_text}
-use Rattle.sc_row_text.specs.Shapes.{number_json, option_json}
-use Rattle.sc_row_text.specs.Held.{FitsU16, FitsU32, FitsKey, FitsValue, OptionFits}
+use Rattle.sc_row_text.specs.Shapes.{number_json}
+use Rattle.sc_row_text.specs.Held.{FitsU32}
 use Rattle.sc_row_lines.specs.Fronts.{IsOnly, Begins}
 use Rattle.sc_row_lines.proofs.Apart.{apart}
 use Rattle.std.proofs.Common.{Bool, true, ◌==◌, ap₂, Some, sym, length, append-nil, arith}
@@ -33,9 +32,9 @@ deliver_only content content_known _ held same = absurd (apart _ _ same refl)
 pub deliver_begins : (bytes rest : List ℕ) (content : ℕ) → IsOnly number_json FitsU32 content → bytes ≡ codes "{\"Deliver\":" ++ (compact_text (number_json content) ++ (codes "}" ++ rest)) → Begins event_json FitsEvent bytes (TheEvent.Deliver content) rest
 unfolding event_json FitsEvent escape_byte
 deliver_begins bytes rest content content_known text = record {
-    text = text ∙ simp append_assoc;
-    known = record { fits = content_known.fits; only = deliver_only content content_known };
-  }
+  text = text ∙ simp append_assoc;
+  known = record { fits = content_known.fits; only = deliver_only content content_known };
+}
 
 tick_only : (other : Event OrderLine) → FitsEvent other → event_json other ≡ event_json TheEvent.Tick → other ≡ TheEvent.Tick
 unfolding event_json
@@ -45,9 +44,9 @@ tick_only _ held same = absurd (apart _ _ same refl)
 pub tick_begins : (bytes rest : List ℕ) → bytes ≡ codes "\"Tick\"" ++ rest → Begins event_json FitsEvent bytes TheEvent.Tick rest
 unfolding event_json FitsEvent escape_byte
 tick_begins bytes rest text = record {
-    text = text;
-    known = record { fits = tt; only = tick_only };
-  }
+  text = text;
+  known = record { fits = tt; only = tick_only };
+}
 
 go_only : (other : Event OrderLine) → FitsEvent other → event_json other ≡ event_json TheEvent.Go → other ≡ TheEvent.Go
 unfolding event_json
@@ -57,9 +56,9 @@ go_only _ held same = absurd (apart _ _ same refl)
 pub go_begins : (bytes rest : List ℕ) → bytes ≡ codes "\"Go\"" ++ rest → Begins event_json FitsEvent bytes TheEvent.Go rest
 unfolding event_json FitsEvent escape_byte
 go_begins bytes rest text = record {
-    text = text;
-    known = record { fits = tt; only = go_only };
-  }
+  text = text;
+  known = record { fits = tt; only = go_only };
+}
 
 crash_only : (other : Event OrderLine) → FitsEvent other → event_json other ≡ event_json TheEvent.Crash → other ≡ TheEvent.Crash
 unfolding event_json
@@ -69,9 +68,9 @@ crash_only _ held same = absurd (apart _ _ same refl)
 pub crash_begins : (bytes rest : List ℕ) → bytes ≡ codes "\"Crash\"" ++ rest → Begins event_json FitsEvent bytes TheEvent.Crash rest
 unfolding event_json FitsEvent escape_byte
 crash_begins bytes rest text = record {
-    text = text;
-    known = record { fits = tt; only = crash_only };
-  }
+  text = text;
+  known = record { fits = tt; only = crash_only };
+}
 
 drop_only : (content : ℕ) → IsOnly number_json FitsU32 content → (other : Event OrderLine) → FitsEvent other → event_json other ≡ event_json (TheEvent.Drop content) → other ≡ (TheEvent.Drop content)
 unfolding event_json FitsEvent
@@ -83,9 +82,9 @@ drop_only content content_known _ held same = absurd (apart _ _ same refl)
 pub drop_begins : (bytes rest : List ℕ) (content : ℕ) → IsOnly number_json FitsU32 content → bytes ≡ codes "{\"Drop\":" ++ (compact_text (number_json content) ++ (codes "}" ++ rest)) → Begins event_json FitsEvent bytes (TheEvent.Drop content) rest
 unfolding event_json FitsEvent escape_byte
 drop_begins bytes rest content content_known text = record {
-    text = text ∙ simp append_assoc;
-    known = record { fits = content_known.fits; only = drop_only content content_known };
-  }
+  text = text ∙ simp append_assoc;
+  known = record { fits = content_known.fits; only = drop_only content content_known };
+}
 
 again_only : (content : ℕ) → IsOnly number_json FitsU32 content → (other : Event OrderLine) → FitsEvent other → event_json other ≡ event_json (TheEvent.Again content) → other ≡ (TheEvent.Again content)
 unfolding event_json FitsEvent
@@ -97,9 +96,9 @@ again_only content content_known _ held same = absurd (apart _ _ same refl)
 pub again_begins : (bytes rest : List ℕ) (content : ℕ) → IsOnly number_json FitsU32 content → bytes ≡ codes "{\"Again\":" ++ (compact_text (number_json content) ++ (codes "}" ++ rest)) → Begins event_json FitsEvent bytes (TheEvent.Again content) rest
 unfolding event_json FitsEvent escape_byte
 again_begins bytes rest content content_known text = record {
-    text = text ∙ simp append_assoc;
-    known = record { fits = content_known.fits; only = again_only content content_known };
-  }
+  text = text ∙ simp append_assoc;
+  known = record { fits = content_known.fits; only = again_only content content_known };
+}
 
 row_only : (row other : Row Mail OrderLine) → IsOnly event_json FitsEvent row.event → IsOnly (list_json mail_json) (Each FitsMail) row.sent → FitsRow other → row_json other ≡ row_json row → other ≡ row
 unfolding row_json FitsRow
@@ -116,9 +115,9 @@ row_text event sent who bytes rest text = text ∙ simp append_assoc
 pub row_begins : (bytes rest : List ℕ) (event : Event OrderLine) (sent : List Mail) (who : ℕ) → IsOnly event_json FitsEvent event → IsOnly (list_json mail_json) (Each FitsMail) sent → IsOnly number_json FitsU32 who → bytes ≡ codes "{\"event\":" ++ (compact_text (event_json event) ++ (codes ",\"sent\":" ++ (compact_text (list_json mail_json sent) ++ (codes ",\"who\":" ++ (compact_text (number_json who) ++ (codes "}" ++ rest)))))) → Begins row_json FitsRow bytes (record { who = who; event = event; sent = sent }) rest
 unfolding row_json FitsRow
 row_begins bytes rest event sent who event_only sent_only who_only text = record {
-    text = row_text (event_json event) (list_json mail_json sent) (number_json who) bytes rest text;
-    known = record { fits = (event_only.fits, sent_only.fits, who_only.fits); only = λ other held same. row_only (record { who = who; event = event; sent = sent }) other event_only sent_only held same };
-  }
+  text = row_text (event_json event) (list_json mail_json sent) (number_json who) bytes rest text;
+  known = record { fits = (event_only.fits, sent_only.fits, who_only.fits); only = λ other held same. row_only (record { who = who; event = event; sent = sent }) other event_only sent_only held same };
+}
 
 -- a row whose text is the whole text
 whole_row : (text rest : List ℕ) (row : Row Mail OrderLine) → Begins row_json FitsRow text row rest → length rest ≡ 0 → text_of row ≡ text

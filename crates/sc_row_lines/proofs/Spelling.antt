@@ -1,5 +1,5 @@
 -- Names and ballots.
-use Rattle.std.proofs.Common.{◌≡◌, ℕ, ◌+◌, ◌^◌, ◌<◌, ◌≤◌, ◌%◌, ◌==◌, ◌&&◌, not, Bool, true, false, List, [], ◌∷◌, ◌++◌, codes, decimal, refl, ap, ap₂, ◌∙◌, sym, arith, append_assoc}
+use Rattle.std.proofs.Common.{◌≡◌, ℕ, ◌+◌, ◌^◌, ◌<◌, ◌%◌, ◌==◌, ◌&&◌, not, Bool, true, List, [], ◌∷◌, ◌++◌, codes, decimal, refl, ap, ap₂, ◌∙◌, sym, arith, append_assoc}
 use Rattle.std.specs.List.{list_all}
 use Rattle.std.proofs.lemmas.Fmt.{decimal_by_steps, decimal_injective}
 use Rattle.std.proofs.lemmas.Nat.{mod_below}
@@ -7,8 +7,6 @@ use Rattle.std.proofs.lemmas.Bool.{and_parts}
 use Rattle.std.proofs.lemmas.Bool.Decides.{nat_tests}
 use Rattle.std.proofs.lemmas.List.Folds.{list_all-append}
 use Rattle.json.specs.Print.{escape}
-use Rattle.serde_json.specs.Data.{string}
-use Rattle.serde_json.specs.Written.{compact_text}
 use Rattle.sc_base.specs.declared.names.Ballot.{Ballot}
 use Rattle.sc_base.specs.declared.names.Draw.{Draw}
 use Rattle.sc_row_text.specs.Shapes.{number_json}
@@ -71,10 +69,10 @@ pub draw_begins : (bytes rest : List ℕ) (node count : ℕ) → IsOnly number_j
 unfolding draw_json FitsDraw
 draw_begins bytes rest node count first second text =
     let bare : list_all is_bare (decimal node ++ codes "." ++ decimal count) ≡ true =
-        list_all-append is_bare (decimal node ++ codes ".") (decimal count)
-        ∙ ap₂ (λ a b. a && b) (list_all-append is_bare (decimal node) (codes ".") ∙ ap (λ a. a && true) (bare_digits node (omega (arith, first.fits)))) (bare_digits count (omega (arith, second.fits))) in
+    list_all-append is_bare (decimal node ++ codes ".") (decimal count)
+    ∙ ap₂ (λ a b. a && b) (list_all-append is_bare (decimal node) (codes ".") ∙ ap (λ a. a && true) (bare_digits node (omega (arith, first.fits)))) (bare_digits count (omega (arith, second.fits))) in
     let written : (escape (decimal node ++ codes "." ++ decimal count) ++ 34 ∷ []) ++ rest ≡ decimal node ++ 46 ∷ (decimal count ++ 34 ∷ rest) =
-        ap (λ t. (t ++ 34 ∷ []) ++ rest) (bare_escape _ bare) ∙ simp append_assoc in
+    ap (λ t. (t ++ 34 ∷ []) ++ rest) (bare_escape _ bare) ∙ simp append_assoc in
     record {
       text = text ∙ ap (λ t. 34 ∷ t) (sym written);
       known = record { fits = (first.fits, second.fits); only = λ other held same. draw_only (record { node = node; count = count }) other (first.fits, second.fits) held same };

@@ -23,7 +23,6 @@ impl FromText for AnswerBody {
     ghost Fits = { FitsAnswerBody };
 
     fn take(alloc: Global, bytes: &[u8]) -> Option<(AnswerBody, &[u8])> {
-
         answer_value(alloc, bytes)
     }
 }
@@ -32,15 +31,38 @@ fn body_request(alloc: Global, bytes: &[u8]) -> Option<(MailBody, &[u8])>
     ensures { IfSome result
         (λ found. Begins mail_body_json FitsMailBody bytes.now found.0 found.1.now) }
 {
-    let (client, group, op, seq, rest) = four_of(alloc, bytes, br#"{"Request":{"client":"#, br#","group":"#, br#","op":"#, br#","seq":"#, b"}}")?;
-    Some((MailBody::Request { group, client, seq, op }, rest))
+    let (client, group, op, seq, rest) = four_of(
+        alloc,
+        bytes,
+        br#"{"Request":{"client":"#,
+        br#","group":"#,
+        br#","op":"#,
+        br#","seq":"#,
+        b"}}",
+    )?;
+    Some((
+        MailBody::Request {
+            group,
+            client,
+            seq,
+            op,
+        },
+        rest,
+    ))
 }
 
 fn body_answer(alloc: Global, bytes: &[u8]) -> Option<(MailBody, &[u8])>
     ensures { IfSome result
         (λ found. Begins mail_body_json FitsMailBody bytes.now found.0 found.1.now) }
 {
-    let (answer, group, seq, rest) = three_of(alloc, bytes, br#"{"Answer":{"answer":"#, br#","group":"#, br#","seq":"#, b"}}")?;
+    let (answer, group, seq, rest) = three_of(
+        alloc,
+        bytes,
+        br#"{"Answer":{"answer":"#,
+        br#","group":"#,
+        br#","seq":"#,
+        b"}}",
+    )?;
     Some((MailBody::Answer { group, seq, answer }, rest))
 }
 
@@ -48,31 +70,81 @@ fn body_prepare(alloc: Global, bytes: &[u8]) -> Option<(MailBody, &[u8])>
     ensures { IfSome result
         (λ found. Begins mail_body_json FitsMailBody bytes.now found.0 found.1.now) }
 {
-    let (ballot, from_slot, group, rest) = three_of(alloc, bytes, br#"{"Prepare":{"ballot":"#, br#","from_slot":"#, br#","group":"#, b"}}")?;
-    Some((MailBody::Prepare { group, ballot, from_slot }, rest))
+    let (ballot, from_slot, group, rest) = three_of(
+        alloc,
+        bytes,
+        br#"{"Prepare":{"ballot":"#,
+        br#","from_slot":"#,
+        br#","group":"#,
+        b"}}",
+    )?;
+    Some((
+        MailBody::Prepare {
+            group,
+            ballot,
+            from_slot,
+        },
+        rest,
+    ))
 }
 
 fn body_accept(alloc: Global, bytes: &[u8]) -> Option<(MailBody, &[u8])>
     ensures { IfSome result
         (λ found. Begins mail_body_json FitsMailBody bytes.now found.0 found.1.now) }
 {
-    let (ballot, command, group, slot, rest) = four_of(alloc, bytes, br#"{"Accept":{"ballot":"#, br#","command":"#, br#","group":"#, br#","slot":"#, b"}}")?;
-    Some((MailBody::Accept { group, ballot, slot, command }, rest))
+    let (ballot, command, group, slot, rest) = four_of(
+        alloc,
+        bytes,
+        br#"{"Accept":{"ballot":"#,
+        br#","command":"#,
+        br#","group":"#,
+        br#","slot":"#,
+        b"}}",
+    )?;
+    Some((
+        MailBody::Accept {
+            group,
+            ballot,
+            slot,
+            command,
+        },
+        rest,
+    ))
 }
 
 fn body_accepted(alloc: Global, bytes: &[u8]) -> Option<(MailBody, &[u8])>
     ensures { IfSome result
         (λ found. Begins mail_body_json FitsMailBody bytes.now found.0 found.1.now) }
 {
-    let (ballot, group, slot, rest) = three_of(alloc, bytes, br#"{"Accepted":{"ballot":"#, br#","group":"#, br#","slot":"#, b"}}")?;
-    Some((MailBody::Accepted { group, ballot, slot }, rest))
+    let (ballot, group, slot, rest) = three_of(
+        alloc,
+        bytes,
+        br#"{"Accepted":{"ballot":"#,
+        br#","group":"#,
+        br#","slot":"#,
+        b"}}",
+    )?;
+    Some((
+        MailBody::Accepted {
+            group,
+            ballot,
+            slot,
+        },
+        rest,
+    ))
 }
 
 fn body_nack(alloc: Global, bytes: &[u8]) -> Option<(MailBody, &[u8])>
     ensures { IfSome result
         (λ found. Begins mail_body_json FitsMailBody bytes.now found.0 found.1.now) }
 {
-    let (group, promised, rest) = two_of(alloc, bytes, br#"{"Nack":{"group":"#, br#","promised":"#, b"}}")?;
+    let (group, promised, rest) = two_of(
+        alloc,
+        bytes,
+        br#"{"Nack":{"group":"#,
+        br#","promised":"#,
+        b"}}",
+    )?;
     Some((MailBody::Nack { group, promised }, rest))
 }
 
@@ -80,15 +152,35 @@ fn body_learn(alloc: Global, bytes: &[u8]) -> Option<(MailBody, &[u8])>
     ensures { IfSome result
         (λ found. Begins mail_body_json FitsMailBody bytes.now found.0 found.1.now) }
 {
-    let (command, group, slot, rest) = three_of(alloc, bytes, br#"{"Learn":{"command":"#, br#","group":"#, br#","slot":"#, b"}}")?;
-    Some((MailBody::Learn { group, slot, command }, rest))
+    let (command, group, slot, rest) = three_of(
+        alloc,
+        bytes,
+        br#"{"Learn":{"command":"#,
+        br#","group":"#,
+        br#","slot":"#,
+        b"}}",
+    )?;
+    Some((
+        MailBody::Learn {
+            group,
+            slot,
+            command,
+        },
+        rest,
+    ))
 }
 
 fn body_ask(alloc: Global, bytes: &[u8]) -> Option<(MailBody, &[u8])>
     ensures { IfSome result
         (λ found. Begins mail_body_json FitsMailBody bytes.now found.0 found.1.now) }
 {
-    let (from_slot, group, rest) = two_of(alloc, bytes, br#"{"Ask":{"from_slot":"#, br#","group":"#, b"}}")?;
+    let (from_slot, group, rest) = two_of(
+        alloc,
+        bytes,
+        br#"{"Ask":{"from_slot":"#,
+        br#","group":"#,
+        b"}}",
+    )?;
     Some((MailBody::Ask { group, from_slot }, rest))
 }
 

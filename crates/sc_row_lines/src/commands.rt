@@ -13,7 +13,14 @@ fn command_call(alloc: Global, bytes: &[u8]) -> Option<(Command, &[u8])>
     ensures { IfSome result
         (λ found. Begins command_json FitsCommand bytes.now found.0 found.1.now) }
 {
-    let (client, op, seq, rest) = three_of(alloc, bytes, br#"{"Call":{"client":"#, br#","op":"#, br#","seq":"#, b"}}")?;
+    let (client, op, seq, rest) = three_of(
+        alloc,
+        bytes,
+        br#"{"Call":{"client":"#,
+        br#","op":"#,
+        br#","seq":"#,
+        b"}}",
+    )?;
     Some((Command::Call { client, seq, op }, rest))
 }
 

@@ -19,7 +19,12 @@ impl FromText for Mail {
 
     fn take(alloc: Global, bytes: &[u8]) -> Option<(Mail, &[u8])> {
         let (body, from, to, rest) = three_of(
-            alloc, bytes, br#"{"body":"#, br#","from":"#, br#","to":"#, b"}",
+            alloc,
+            bytes,
+            br#"{"body":"#,
+            br#","from":"#,
+            br#","to":"#,
+            b"}",
         )?;
         Some((Mail { from, to, body }, rest))
     }

@@ -44,7 +44,14 @@ fn op_cas(alloc: Global, bytes: &[u8]) -> Option<(Op, &[u8])>
     ensures { IfSome result
         (λ found. Begins op_json FitsOp bytes.now found.0 found.1.now) }
 {
-    let (expect, key, value, rest) = three_of(alloc, bytes, br#"{"Cas":{"expect":"#, br#","key":"#, br#","value":"#, b"}}")?;
+    let (expect, key, value, rest) = three_of(
+        alloc,
+        bytes,
+        br#"{"Cas":{"expect":"#,
+        br#","key":"#,
+        br#","value":"#,
+        b"}}",
+    )?;
     Some((Op::Cas { key, expect, value }, rest))
 }
 

@@ -96,7 +96,12 @@ impl FromText for Row<Mail, OrderLine> {
 
     fn take(alloc: Global, bytes: &[u8]) -> Option<(Row<Mail, OrderLine>, &[u8])> {
         let (event, sent, who, rest) = three_of(
-            alloc, bytes, br#"{"event":"#, br#","sent":"#, br#","who":"#, b"}",
+            alloc,
+            bytes,
+            br#"{"event":"#,
+            br#","sent":"#,
+            br#","who":"#,
+            b"}",
         )?;
         Some((Row { who, event, sent }, rest))
     }

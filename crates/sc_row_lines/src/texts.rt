@@ -45,7 +45,11 @@ fn string_at(bytes: &[u8]) -> Option<(&[u8], &[u8])>
     let inner = behind(bytes, b"\"")?;
     let (text, quoted) = inner.split_at(quote_at(inner));
     let rest = behind(quoted, b"\"")?;
-    if are_bare(text) { Some((text, rest)) } else { None }
+    if are_bare(text) {
+        Some((text, rest))
+    } else {
+        None
+    }
 }
 
 impl FromText for Key {

@@ -1,4 +1,4 @@
-use Rattle.std.proofs.Common.{◌≡◌, ◌∷◌, ◌++◌, [], ◌<◌, false, length, length-append, ap, sym, subst, ◌∙◌, arith, rules}
+use Rattle.std.proofs.Common.{◌≡◌, ◌∷◌, ◌++◌, [], rules}
 use Rattle.sc_row_lines.proofs.MailTexts.{one_more, mails_begin}
 use Rattle.sc_row_lines.proofs.mails.mails_at.Goals as goal
 

@@ -1,4 +1,4 @@
-use Rattle.std.proofs.Common.{◌++◌, sym, ap, ◌∙◌}
+use Rattle.std.proofs.Common.{sym}
 use Rattle.std.proofs.lemmas.List.{take-append-drop}
 use Rattle.sc_row_lines.proofs.Digits.{spelled}
 use Rattle.sc_row_lines.proofs.numbers.number_at.Goals as goal

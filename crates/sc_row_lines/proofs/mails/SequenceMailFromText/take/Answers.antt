@@ -1,4 +1,3 @@
-use Rattle.std.proofs.Common.{◌≡◌, [], sym, subst}
 use Rattle.sc_row_lines.proofs.MailTexts.{no_mails_begin}
 use Rattle.sc_row_lines.proofs.mails.SequenceMailFromText.take.Goals as goal
 
