@@ -15,6 +15,7 @@ use sc_base::OutOfMemory;
 use sc_cmd::OrderLine;
 use sc_from_json::RowFault;
 use sc_mail::Mail;
+use sc_row_lines::common_row;
 use sc_row_text::row_texts_read_back;
 use sc_to_json::ToJson;
 use serde_json::Value as Json;
@@ -48,9 +49,8 @@ fn json_of(alloc: Global, text: &[u8]) -> Result<Json, RowFault>
     }
 }
 
-/// The row with that text. `NoRow` exactly where no row has it; a second spelling of a row's text,
-/// as one with a space, is no row's text.
-pub fn read_row(alloc: Global, text: &[u8]) -> Result<Row<Mail, OrderLine>, RowFault>
+// The row with that text, by its JSON.
+fn row_by_json(alloc: Global, text: &[u8]) -> Result<Row<Mail, OrderLine>, RowFault>
     ensures text { IfOk result (λ row. text_of row ≡ text.now) }
     ensures held { IfOk result (λ row. IsHeld row) }
     ensures only { IfOk result (λ row. (other : Row Mail OrderLine) → IsHeld other
@@ -65,5 +65,23 @@ pub fn read_row(alloc: Global, text: &[u8]) -> Result<Row<Mail, OrderLine>, RowF
         Ok(row)
     } else {
         Err(RowFault::NoRow)
+    }
+}
+
+/// The row with that text. `NoRow` exactly where no row has it; a second spelling of a row's text,
+/// as one with a space, is no row's text.
+///
+/// Rows of common shapes are read at once; JSON is read and written only of the others.
+pub fn read_row(alloc: Global, text: &[u8]) -> Result<Row<Mail, OrderLine>, RowFault>
+    ensures text { IfOk result (λ row. text_of row ≡ text.now) }
+    ensures held { IfOk result (λ row. IsHeld row) }
+    ensures only { IfOk result (λ row. (other : Row Mail OrderLine) → IsHeld other
+        → text_of other ≡ text.now → other ≡ row) }
+    ensures none { result ≡ Err RowFault.NoRow
+        → (row : Row Mail OrderLine) → IsHeld row → text_of row ≡ text.now → ⊥ }
+{
+    match common_row(alloc, text) {
+        Some(row) => Ok(row),
+        None => row_by_json(alloc, text),
     }
 }

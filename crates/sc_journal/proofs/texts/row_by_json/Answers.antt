@@ -1,7 +1,7 @@
 use Rattle.std.proofs.Common.{ap, sym, ◌∙◌}
 use Rattle.sc_row_text.specs.RowText.{text_of}
 use Rattle.sc_journal.proofs.Found.{fits_of, found, short, differ}
-use Rattle.sc_journal.proofs.texts.read_row.Goals as goal
+use Rattle.sc_journal.proofs.texts.row_by_json.Goals as goal
 
 pub returns-in_err-row-clause-none : goal.returns-in_err-row-clause-none
 returns-in_err-row-clause-none c = λ none row held is.

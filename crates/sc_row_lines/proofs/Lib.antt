@@ -1,0 +1,10 @@
+pub mod AnswerTexts
+pub mod Apart
+pub mod Bare
+pub mod BodyTexts
+pub mod CommandTexts
+pub mod Digits
+pub mod MailTexts
+pub mod OpTexts
+pub mod RowTexts
+pub mod Spelling

@@ -1,0 +1,51 @@
+//! Numbers.
+ghost use Rattle.std.specs.Prelude.{◌≡◌, ◌<◌, ◌≤◌, ◌^◌, ◌++◌, decimal, length, IfSome};
+ghost use Rattle.sc_row_text.specs.Shapes.{number_json};
+ghost use Rattle.sc_row_text.specs.Held.{FitsU16, FitsU32};
+
+use crate::from_text::FromText;
+use sc_base::read_number;
+use std::alloc::Global;
+
+// How many digits begin some bytes.
+fn digit_count(bytes: &[u8]) -> usize
+    ensures { result ≤ length bytes.now }
+{
+    match bytes.iter().position(|byte| !byte.is_ascii_digit()) {
+        Some(count) => count,
+        None => bytes.len(),
+    }
+}
+
+// The number that begins some bytes.
+fn number_at(bytes: &[u8], most: u64) -> Option<(u64, &[u8])>
+    requires { most < 2 ^ 64 }
+    ensures text { IfSome result (λ found. bytes.now ≡ decimal found.0 ++ found.1.now) }
+    ensures within { IfSome result (λ found. found.0 ≤ most) }
+{
+    let (digits, rest) = bytes.split_at(digit_count(bytes));
+    let number = read_number(digits, most)?;
+    Some((number, rest))
+}
+
+impl FromText for u16 {
+    ghost json_of = { number_json };
+
+    ghost Fits = { FitsU16 };
+
+    fn take(_alloc: Global, bytes: &[u8]) -> Option<(u16, &[u8])> {
+        let (number, rest) = number_at(bytes, u16::MAX as u64)?;
+        Some((number as u16, rest))
+    }
+}
+
+impl FromText for u32 {
+    ghost json_of = { number_json };
+
+    ghost Fits = { FitsU32 };
+
+    fn take(_alloc: Global, bytes: &[u8]) -> Option<(u32, &[u8])> {
+        let (number, rest) = number_at(bytes, u32::MAX as u64)?;
+        Some((number as u32, rest))
+    }
+}

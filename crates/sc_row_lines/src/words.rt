@@ -1,0 +1,14 @@
+//! Fixed words of a text.
+ghost use Rattle.std.specs.Prelude.{◌≡◌, ◌++◌, IfSome};
+
+/// What stands behind a word that begins some bytes.
+#[inline]
+pub(crate) fn behind<'a>(bytes: &'a [u8], word: &[u8]) -> Option<&'a [u8]>
+    ensures { IfSome result (λ rest. bytes.now ≡ word.now ++ rest.now) }
+{
+    if bytes.len() < word.len() {
+        return None;
+    }
+    let (front, rest) = bytes.split_at(word.len());
+    if front == word { Some(rest) } else { None }
+}
