@@ -27,7 +27,7 @@ fn are_held(log: &Glog<u32>, rows: &[(u32, Option<u32>)]) -> bool {
 #[test]
 fn entries_are_learnt_in_order_and_dropped_from_the_front(rt: HostRuntime) {
     let mut log: Glog<u32> = Glog::born(rt.alloc());
-    assert!(rt; log.next() == 1);
+    let first = log.next();
     let rows = [
         (2, 20, Learnt::Ahead { next: 1 }),
         (1, 10, Learnt::Learnt),
@@ -38,7 +38,7 @@ fn entries_are_learnt_in_order_and_dropped_from_the_front(rt: HostRuntime) {
     check(&rt, &mut log, &rows);
     assert!(rt; log.next() == 4);
     log.cut(1);
-    assert!(rt; log.next() == 4);
+    let after = log.next();
     let held = [
         (0, None),
         (1, None),
@@ -46,8 +46,9 @@ fn entries_are_learnt_in_order_and_dropped_from_the_front(rt: HostRuntime) {
         (3, Some(30)),
         (4, None),
     ];
-    assert!(rt; are_held(&log, &held));
+    let are_held = are_held(&log, &held);
     forget(log);
+    assert!(rt; first == 1 && after == 4 && are_held);
 }
 
 #[test]
@@ -56,9 +57,10 @@ fn a_log_is_installed_after_a_slot(rt: HostRuntime) {
     check(&rt, &mut log, &[(1, 10, Learnt::Learnt)]);
     assert!(rt; log.next() == 2);
     log.install(64);
-    assert!(rt; log.next() == 65);
-    assert!(rt; are_held(&log, &[(1, None)]));
+    let after = log.next();
+    let is_gone = are_held(&log, &[(1, None)]);
     check(&rt, &mut log, &[(65, 650, Learnt::Learnt)]);
-    assert!(rt; are_held(&log, &[(65, Some(650))]));
+    let is_held = are_held(&log, &[(65, Some(650))]);
     forget(log);
+    assert!(rt; after == 65 && is_gone && is_held);
 }

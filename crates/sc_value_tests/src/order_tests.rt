@@ -37,33 +37,30 @@ fn command(ask: Ask) -> Command
 
 /// The number of the refusal, or 0 where the order is accepted.
 fn code(core: &Core, ask: Ask) -> u8 {
-    match check(core, &command(ask)) {
+    let command = command(ask);
+    let code = match check(core, &command) {
         Ok(()) => 0,
         Err(why) => why.code(),
-    }
+    };
+    forget(command);
+    code
 }
 
-/// A lock of a group that coordinates a merge, or none.
-fn lock(is_locked: bool) -> Lock {
-    if is_locked {
-        Lock::Coordinating {
-            tx: CHILD,
-            body: Body::Merge,
-            order: 1,
-            heard: None,
-        }
-    } else {
-        Lock::Free
-    }
-}
-
-/// What a group answers, which may be locked.
+/// What a group answers, which may coordinate a merge.
 fn answer(rt: &impl Abort, alloc: Global, asked: Asked, is_locked: bool, ask: Ask) -> u8 {
     let arc = RingArc::try_new(100, 100).expect(rt, "an arc");
     let (last, neighbour, begun) = asked;
     let decided = Sequence::new(alloc);
-    let mut core = group(alloc, last, arc, neighbour, lock(is_locked), decided);
+    let mut core = group(alloc, last, arc, neighbour, Lock::Free, decided);
     core.begun = begun;
+    if is_locked {
+        core.lock = Lock::Coordinating {
+            tx: CHILD,
+            body: Body::Merge,
+            order: 1,
+            heard: None,
+        };
+    }
     let code = code(&core, ask);
     forget(core);
     code
@@ -76,18 +73,14 @@ fn check_all(rt: &impl Abort, alloc: Global, rows: &[(Asked, Ask, u8)]) {
     }
 }
 
-fn alone(count: u16) -> Asked {
-    (count, GROUP, 0)
-}
-
 #[test]
 fn joins_are_refused_at_nine_members_and_to_members(rt: HostRuntime) {
     let rows = [
-        (alone(8), Ask::Join(9), 0),
-        (alone(9), Ask::Join(10), 5),
-        (alone(9), Ask::Join(9), 9),
-        (alone(1), Ask::Join(1), 9),
-        (alone(1), Ask::Join(2), 0),
+        ((8, GROUP, 0), Ask::Join(9), 0),
+        ((9, GROUP, 0), Ask::Join(10), 5),
+        ((9, GROUP, 0), Ask::Join(9), 9),
+        ((1, GROUP, 0), Ask::Join(1), 9),
+        ((1, GROUP, 0), Ask::Join(2), 0),
     ];
     check_all(&rt, rt.alloc(), &rows);
 }
@@ -95,10 +88,10 @@ fn joins_are_refused_at_nine_members_and_to_members(rt: HostRuntime) {
 #[test]
 fn leaves_are_refused_to_strangers_first_and_to_the_last_member(rt: HostRuntime) {
     let rows = [
-        (alone(1), Ask::Leave(2), 6),
-        (alone(1), Ask::Leave(1), 7),
-        (alone(2), Ask::Leave(3), 6),
-        (alone(2), Ask::Leave(1), 0),
+        ((1, GROUP, 0), Ask::Leave(2), 6),
+        ((1, GROUP, 0), Ask::Leave(1), 7),
+        ((2, GROUP, 0), Ask::Leave(3), 6),
+        ((2, GROUP, 0), Ask::Leave(1), 0),
     ];
     check_all(&rt, rt.alloc(), &rows);
 }
