@@ -33,16 +33,7 @@ enum Given {
 /// The receiver, the group and the number of the one request that is sent.
 type Sent = Option<(u32, u32, u32)>;
 
-/// Group 0.1 from 0 on with members 1 2 3.
-fn first_route() -> Route {
-    Route {
-        group: numbered(1),
-        lo: 0,
-        members: nodes_to(3),
-    }
-}
-
-/// Client 1 with the requests put a x and get a, which knows one group.
+/// Client 1 with the requests put a x and get a, which knows group 0.1 from 0 on with members 1 2 3.
 fn client(rt: &impl Abort, alloc: Global) -> ClientCore {
     let mut requests = Sequence::new(alloc);
     requests
@@ -50,26 +41,29 @@ fn client(rt: &impl Abort, alloc: Global) -> ClientCore {
         .expect(rt, "memory");
     requests.push(get(rt, alloc, b"a")).expect(rt, "memory");
     assert!(rt; requests.len() == 2);
-    ClientCore::born(alloc, 1, requests, first_route()).expect(rt, "memory")
-}
-
-fn not_mine(rt: &impl Abort) -> AnswerBody {
-    let mut members = Members::one(4);
-    let _ = members.add(5);
-    AnswerBody::NotMine {
-        arc: RingArc::try_new(0, 1 << 30).expect(rt, "an arc"),
-        succ: Link {
-            group: numbered(2),
-            members,
-        },
-    }
+    let route = Route {
+        group: numbered(1),
+        lo: 0,
+        members: nodes_to(3),
+    };
+    ClientCore::born(alloc, 1, requests, route).expect(rt, "memory")
 }
 
 fn answer(rt: &impl Abort, told: Told) -> AnswerBody {
     match told {
         Told::Value => AnswerBody::Value(Reply { old: None }),
         Told::NotLeader(hint) => AnswerBody::NotLeader { hint },
-        Told::NotMine => not_mine(rt),
+        Told::NotMine => {
+            let mut members = Members::one(4);
+            let _ = members.add(5);
+            AnswerBody::NotMine {
+                arc: RingArc::try_new(0, 1 << 30).expect(rt, "an arc"),
+                succ: Link {
+                    group: numbered(2),
+                    members,
+                },
+            }
+        }
         Told::Gone => AnswerBody::Gone {
             into: Route {
                 group: numbered(5),

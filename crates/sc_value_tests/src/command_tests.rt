@@ -48,14 +48,6 @@ fn gift(rt: &impl Abort, alloc: Global) -> Outcome {
     }
 }
 
-fn yes(rt: &impl Abort, alloc: Global) -> Command {
-    Command::RecordVote {
-        tx: GROUP,
-        vote: Vote::Yes(boxed(rt, alloc, frozen(rt, alloc))),
-        by: 1,
-    }
-}
-
 // What a copy of a command counts.
 fn weight_of(rt: &impl Abort, alloc: Global, command: Command) -> u64 {
     let copy = command.dup(alloc).expect(rt, "memory");
@@ -70,7 +62,15 @@ fn weight_of(rt: &impl Abort, alloc: Global, command: Command) -> u64 {
 fn calls_count_their_texts_and_votes_and_outcomes_what_they_carry(rt: HostRuntime) {
     let weights = [
         weight_of(&rt, rt.alloc(), call(&rt, rt.alloc())),
-        weight_of(&rt, rt.alloc(), yes(&rt, rt.alloc())),
+        weight_of(
+            &rt,
+            rt.alloc(),
+            Command::RecordVote {
+                tx: GROUP,
+                vote: Vote::Yes(boxed(&rt, rt.alloc(), frozen(&rt, rt.alloc()))),
+                by: 1,
+            },
+        ),
         weight_of(
             &rt,
             rt.alloc(),
@@ -84,9 +84,10 @@ fn calls_count_their_texts_and_votes_and_outcomes_what_they_carry(rt: HostRuntim
     assert!(rt; weights == [8, 67, 67, 0]);
 }
 
-// A lock that has heard of a participant's record.
-fn coordinating(rt: &impl Abort, alloc: Global) -> Lock {
-    Lock::Coordinating {
+// A group of one node alone on a ring, whose lock has heard of a participant's record, and which has
+// decided one moved boundary with a gift.
+fn base(rt: &impl Abort, alloc: Global) -> Base {
+    let lock = Lock::Coordinating {
         tx: GROUP,
         body: Body::Merge,
         order: 1,
@@ -94,13 +95,7 @@ fn coordinating(rt: &impl Abort, alloc: Global) -> Lock {
             frozen: frozen(rt, alloc),
             by: 2,
         }),
-    }
-}
-
-// A group of one node alone on a ring, with that lock, which has decided one moved boundary with a
-// gift.
-fn base(rt: &impl Abort, alloc: Global) -> Base {
-    let lock = coordinating(rt, alloc);
+    };
     let mut decided: DecidedList = Sequence::new(alloc);
     decided.push((GROUP, gift(rt, alloc))).expect(rt, "memory");
     let core = group(alloc, 1, one_position(rt), GROUP, lock, decided);

@@ -24,29 +24,32 @@ fn are_held(log: &Glog<u32>, rows: &[(u32, Option<u32>)]) -> bool {
     true
 }
 
+const LEARNT: &[(u32, u32, Learnt)] = &[
+    (2, 20, Learnt::Ahead { next: 1 }),
+    (1, 10, Learnt::Learnt),
+    (1, 11, Learnt::Known),
+    (2, 20, Learnt::Learnt),
+    (3, 30, Learnt::Learnt),
+];
+
+// What is held of it behind the first slot.
+const HELD: &[(u32, Option<u32>)] = &[
+    (0, None),
+    (1, None),
+    (2, Some(20)),
+    (3, Some(30)),
+    (4, None),
+];
+
 #[test]
 fn entries_are_learnt_in_order_and_dropped_from_the_front(rt: HostRuntime) {
     let mut log: Glog<u32> = Glog::born(rt.alloc());
     let first = log.next();
-    let rows = [
-        (2, 20, Learnt::Ahead { next: 1 }),
-        (1, 10, Learnt::Learnt),
-        (1, 11, Learnt::Known),
-        (2, 20, Learnt::Learnt),
-        (3, 30, Learnt::Learnt),
-    ];
-    check(&rt, &mut log, &rows);
+    check(&rt, &mut log, LEARNT);
     assert!(rt; log.next() == 4);
     log.cut(1);
     let after = log.next();
-    let held = [
-        (0, None),
-        (1, None),
-        (2, Some(20)),
-        (3, Some(30)),
-        (4, None),
-    ];
-    let are_held = are_held(&log, &held);
+    let are_held = are_held(&log, HELD);
     forget(log);
     assert!(rt; first == 1 && after == 4 && are_held);
 }

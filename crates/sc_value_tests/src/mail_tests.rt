@@ -10,15 +10,6 @@ use std::process::Abort;
 
 const FIRST: Ballot = Ballot { round: 1, node: 1 };
 
-fn accept(rt: &impl Abort, alloc: Global) -> MailBody {
-    MailBody::Accept {
-        group: GROUP,
-        ballot: FIRST,
-        slot: 1,
-        command: call(rt, alloc),
-    }
-}
-
 fn promise(rt: &impl Abort, alloc: Global) -> MailBody {
     let report = Report {
         slot: 1,
@@ -31,14 +22,6 @@ fn promise(rt: &impl Abort, alloc: Global) -> MailBody {
         group: GROUP,
         ballot: FIRST,
         reports,
-    }
-}
-
-fn answer(rt: &impl Abort, alloc: Global) -> MailBody {
-    MailBody::Answer {
-        group: GROUP,
-        seq: 1,
-        answer: AnswerBody::Value(reply(rt, alloc, b"value")),
     }
 }
 
@@ -68,10 +51,21 @@ fn copied_with(rt: &impl Abort, alloc: Global, body: MailBody) -> Option<(u32, u
 
 #[test]
 fn accepts_and_answers_count_their_texts_and_promises_32_for_each_report(rt: HostRuntime) {
+    let accept = MailBody::Accept {
+        group: GROUP,
+        ballot: FIRST,
+        slot: 1,
+        command: call(&rt, rt.alloc()),
+    };
+    let answer = MailBody::Answer {
+        group: GROUP,
+        seq: 1,
+        answer: AnswerBody::Value(reply(&rt, rt.alloc(), b"value")),
+    };
     let copies = [
-        copied_with(&rt, rt.alloc(), accept(&rt, rt.alloc())),
+        copied_with(&rt, rt.alloc(), accept),
         copied_with(&rt, rt.alloc(), promise(&rt, rt.alloc())),
-        copied_with(&rt, rt.alloc(), answer(&rt, rt.alloc())),
+        copied_with(&rt, rt.alloc(), answer),
     ];
     assert!(rt; copies == [Some((1, 8)), Some((1, 40)), Some((1, 5))]);
     assert!(rt; client_number(1) == 33);

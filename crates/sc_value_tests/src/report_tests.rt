@@ -36,32 +36,24 @@ fn all_asked(rt: &impl Abort, alloc: Global) -> Sequence<Asked> {
     all
 }
 
-fn orders(rt: &impl Abort, alloc: Global) -> Sequence<Option<ToldResult>> {
+fn summary(rt: &impl Abort, alloc: Global, brief: bool) -> Summary {
     let refused = ToldResult::Refused(OrderRefusal::BadBoundary);
     let mut orders = Sequence::new(alloc);
     orders.push(None).expect(rt, "memory");
     orders.push(Some(refused)).expect(rt, "memory");
-    orders
-}
-
-fn ring(rt: &impl Abort, alloc: Global) -> Sequence<Route> {
     let mut ring = Sequence::new(alloc);
-    ring.push(Route {
+    let route = Route {
         group: Draw { node: 0, count: 1 },
         lo: 7,
         members: Members::one(3),
-    })
-    .expect(rt, "memory");
-    ring
-}
-
-fn summary(rt: &impl Abort, alloc: Global, brief: bool) -> Summary {
+    };
+    ring.push(route).expect(rt, "memory");
     Summary {
         version: 1,
         brief,
         asked: all_asked(rt, alloc),
-        orders: orders(rt, alloc),
-        ring: ring(rt, alloc),
+        orders,
+        ring,
         rows: 5,
         mail: 4,
         delivered: 3,

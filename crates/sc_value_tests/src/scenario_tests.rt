@@ -56,13 +56,12 @@ const LEAVE: Told = (
     },
 );
 
-fn are_orders_read(lines: &[SchedLine]) -> bool {
-    lines.len() == 9 && told(&lines[6]) == Some(JOIN) && told(&lines[7]) == Some(LEAVE)
-}
-
 fn is_early_form_read(scenario: &Scenario) -> bool {
+    let lines = scenario.lines.as_slice();
     scenario.nodes == 3
-        && are_orders_read(scenario.lines.as_slice())
+        && lines.len() == 9
+        && told(&lines[6]) == Some(JOIN)
+        && told(&lines[7]) == Some(LEAVE)
         && are_clients_read(&scenario.clients)
         && is_group_read(&scenario.groups)
 }
@@ -105,19 +104,13 @@ fn fault_of(alloc: Global, text: &[u8]) -> (u32, u8) {
     }
 }
 
-// A text with so many line feeds behind it.
-fn with_feeds(rt: &impl Abort, alloc: Global, text: &[u8], feeds: usize) -> Vec<u8> {
+// Whether a text with so many line feeds behind it is refused so.
+fn is_refused(rt: &impl Abort, alloc: Global, refused: &Refused) -> bool {
+    let (text, feeds, line, why) = *refused;
     let mut whole = Vec::from_slice(alloc, text).expect(rt, "memory");
     for _ in 0..feeds {
         whole.push(b'\n').expect(rt, "memory");
     }
-    whole
-}
-
-// Whether a text with so many line feeds behind it is refused so.
-fn is_refused(rt: &impl Abort, alloc: Global, refused: &Refused) -> bool {
-    let (text, feeds, line, why) = *refused;
-    let whole = with_feeds(rt, alloc, text, feeds);
     let found = fault_of(alloc, &whole);
     forget(whole);
     found == (line, why)
@@ -171,15 +164,24 @@ fn is_free_line(lines: &[SchedLine], counts: (u32, u32)) -> bool {
     }
 }
 
+const FREE: &[(&[u8], Wanted)] = &[
+    (
+        b"scatter 1\nnodes 1\ngroup 0 1\nfree 100 4\n",
+        Wanted::Free(100, 4),
+    ),
+    (
+        b"scatter 1\nnodes 1\ngroup 0 1\nfree 1 1\n",
+        Wanted::Free(1, 1),
+    ),
+    (
+        b"scatter 1\nnodes 1\ngroup 0 1\nfree 1000000 16\n",
+        Wanted::Free(1_000_000, 16),
+    ),
+];
+
 #[test]
 fn free_lines_are_read(rt: HostRuntime) {
-    let usual = b"scatter 1\nnodes 1\ngroup 0 1\nfree 100 4\n";
-    let least = b"scatter 1\nnodes 1\ngroup 0 1\nfree 1 1\n";
-    let most = b"scatter 1\nnodes 1\ngroup 0 1\nfree 1000000 16\n";
-    let are_read = [
-        is_read(&rt, rt.alloc(), usual, Wanted::Free(100, 4)),
-        is_read(&rt, rt.alloc(), least, Wanted::Free(1, 1)),
-        is_read(&rt, rt.alloc(), most, Wanted::Free(1_000_000, 16)),
-    ];
-    assert!(rt; are_read == [true, true, true]);
+    for (text, wanted) in FREE {
+        assert!(rt; is_read(&rt, rt.alloc(), text, *wanted));
+    }
 }

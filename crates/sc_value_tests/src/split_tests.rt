@@ -35,31 +35,27 @@ fn has_neighbours(core: &Core, pred: (Draw, &[u16]), succ: (Draw, &[u16])) -> bo
         && is_set(&core.succ.members, succ.1)
 }
 
-/// Whether the group keeps what it has begun and decided, and names its child.
-fn has_past(left: &Core) -> bool {
-    let is_named = left.born.len() == 1 && same_draw(*left.born.at(0), CHILD);
-    is_named && left.begun == 7 && left.decided.len() == 1
-}
-
-fn is_new(child: &Core) -> bool {
-    let is_empty = child.begun == 0 && child.decided.len() == 0 && child.born.len() == 0;
-    is_empty && same_draw(child.id, CHILD) && child.first == 4
-}
-
-/// Whether the group keeps its past and the positions before the boundary, between its child and its
-/// child.
+/// Whether the group keeps what it has begun and decided and the positions before the boundary, and
+/// names its child, which is on both sides of it.
 fn is_left(left: &Core) -> bool {
     is_arc(&left.arc, 0, 1828716544)
         && is_set(&left.members, &[1, 2, 3])
-        && has_past(left)
+        && left.born.len() == 1
+        && same_draw(*left.born.at(0), CHILD)
+        && left.begun == 7
+        && left.decided.len() == 1
         && has_neighbours(left, (CHILD, &[4, 5]), (CHILD, &[4, 5]))
 }
 
-/// Whether the child is new and has the other positions, between the group and the group.
+/// Whether the child is new and has the other positions, with the group on both sides.
 fn is_right(child: &Core) -> bool {
     is_arc(&child.arc, 1828716544, 2466250752)
         && is_set(&child.members, &[4, 5])
-        && is_new(child)
+        && child.begun == 0
+        && child.decided.len() == 0
+        && child.born.len() == 0
+        && same_draw(child.id, CHILD)
+        && child.first == 4
         && has_neighbours(child, (GROUP, &[1, 2, 3]), (GROUP, &[1, 2, 3]))
 }
 
