@@ -7,6 +7,7 @@ use sc_map_checks::{covers, legal};
 use sc_member::Members;
 use sc_store_world::{StoreWorld, world_of};
 use std::alloc::Global;
+use std::mem::forget;
 use std::process::Abort;
 
 const PARENT: Draw = Draw { node: 0, count: 1 };
@@ -95,6 +96,7 @@ fn tell(rt: &impl Abort, world: &mut StoreWorld, group: Draw, slot: u32, command
         command,
     };
     world.tell(&entry).expect(rt, "memory");
+    forget(entry);
 }
 
 fn split(at: u32, child: Draw) -> Command {
@@ -109,6 +111,7 @@ fn split(at: u32, child: Draw) -> Command {
 fn told(rt: &impl Abort, alloc: Global) -> StoreWorld {
     let bases = [parent(rt, alloc)];
     let mut world = world_of(alloc, &bases, &[]).expect(rt, "memory");
+    forget(bases);
     tell(rt, &mut world, PARENT, 1, put(rt, alloc));
     tell(rt, &mut world, PARENT, 2, split(HALF, CHILD));
     tell(rt, &mut world, CHILD, 1, split(QUARTER, GRANDCHILD));
@@ -126,35 +129,55 @@ fn is_cut(cut: &Cut, lo: u32, len: u64, group: Draw) -> bool {
     cut.arc.lo() == lo && cut.arc.len() == len && cut.group == group
 }
 
+// Whether a ring covers, and is of the three groups.
+fn is_of_three(ring: &[Cut]) -> bool {
+    ring.len() == 3
+        && is_cut(&ring[0], 0, 2_147_483_648, PARENT)
+        && is_cut(&ring[1], HALF, 1_073_741_824, CHILD)
+        && is_cut(&ring[2], QUARTER, 1_073_741_824, GRANDCHILD)
+        && covers(ring)
+        && !covers(&ring[1..])
+}
+
 #[test]
 fn a_child_that_splits_leaves_three_cuts(rt: HostRuntime) {
     let world = told(&rt, rt.alloc());
-    let ring = world.ring();
-    assert_eq!(rt; ring.len(), 3);
-    assert!(rt; is_cut(&ring[0], 0, 2_147_483_648, PARENT));
-    assert!(rt; is_cut(&ring[1], HALF, 1_073_741_824, CHILD));
-    assert!(rt; is_cut(&ring[2], QUARTER, 1_073_741_824, GRANDCHILD));
-    assert!(rt; covers(ring));
-    assert!(rt; !covers(&ring[1..]));
+    let is_of_three = is_of_three(world.ring());
+    forget(world);
+    assert!(rt; is_of_three);
+}
+
+// The group before the parent, as the parent knows it.
+fn before_parent(rt: &impl Abort, world: &StoreWorld) -> Draw {
+    world.group(PARENT).expect(rt, "a group").core().pred.group
+}
+
+// The groups before and behind the parent in its effective record.
+fn around_parent(rt: &impl Abort, world: &StoreWorld) -> (Draw, Draw) {
+    let base = world
+        .effective(PARENT)
+        .expect(rt, "memory")
+        .expect(rt, "a group");
+    let around = (base.core.pred.group, base.core.succ.group);
+    forget(base);
+    around
 }
 
 #[test]
 fn a_watcher_that_has_not_heard_has_the_new_neighbour_all_the_same(rt: HostRuntime) {
     let world = told(&rt, rt.alloc());
-    let own = world.group(PARENT).expect(&rt, "a group");
-    assert!(rt; own.core().pred.group == CHILD);
-    let base = world
-        .effective(PARENT)
-        .expect(&rt, "memory")
-        .expect(&rt, "a group");
-    assert!(rt; base.core.pred.group == GRANDCHILD);
-    assert!(rt; base.core.succ.group == CHILD);
+    let before = before_parent(&rt, &world);
+    let around = around_parent(&rt, &world);
+    forget(world);
+    assert!(rt; before == CHILD && around == (GRANDCHILD, CHILD));
 }
 
 #[test]
 fn the_history_is_the_put(rt: HostRuntime) {
     let world = told(&rt, rt.alloc());
     let history = world.history();
-    assert_eq!(rt; history.len(), 1);
-    assert!(rt; legal(rt.alloc(), history).expect(&rt, "memory"));
+    let is_one = history.len() == 1;
+    let is_legal = legal(rt.alloc(), history).expect(&rt, "memory");
+    forget(world);
+    assert!(rt; is_one && is_legal);
 }

@@ -80,84 +80,88 @@ fn pairs(rt: &impl Abort, alloc: Global, front: &[u8], many: usize) -> Pairs {
     list
 }
 
-/// What is wished of a group on an arc from `lo` on, with so many members and those pairs.
-fn wish_with(
-    rt: &impl Abort,
-    alloc: Global,
-    (last, neighbour): (u16, Draw),
-    (lo, len): (u32, u64),
-    keys: &Pairs,
-) -> Option<Body0> {
+/// A group: how many members it has, its neighbour, and its arc, from `lo` on; and what is wished
+/// of it.
+type Wished = ((u16, Draw), (u32, u64), Option<Body0>);
+
+/// Whether that is wished of a group with those pairs.
+fn is_wished(rt: &impl Abort, alloc: Global, keys: &Pairs, wished: &Wished) -> bool {
+    let ((last, neighbour), (lo, len), body) = *wished;
     let arc = RingArc::try_new(lo, len).expect(rt, "an arc");
     let core = group(alloc, last, arc, neighbour);
-    let wished = wish(&core, keys);
+    let is_so = wish(&core, keys) == body;
     forget(core);
-    wished
+    is_so
 }
 
-/// What is wished of a group without pairs.
-fn wish_of(rt: &impl Abort, alloc: Global, members: (u16, Draw), arc: (u32, u64)) -> Option<Body0> {
-    let none = Pairs::new(alloc);
-    wish_with(rt, alloc, members, arc, &none)
+/// Each is wished of a group with those pairs.
+fn check_all(rt: &impl Abort, alloc: Global, keys: &Pairs, all: &[Wished]) {
+    for wished in all {
+        assert!(rt; is_wished(rt, alloc, keys, wished));
+    }
 }
 
-#[test]
-fn a_crowded_group_is_split_in_the_middle(rt: HostRuntime) {
-    let alloc = rt.alloc();
-    let at = 2147483648;
-    assert_eq!(rt;
-        wish_of(&rt, alloc, (8, GROUP), (0, ALL)),
-        Some(Body0::Split { at })
-    );
-    assert_eq!(rt;
-        wish_of(&rt, alloc, (9, OTHER), (0, ALL)),
-        Some(Body0::Split { at })
-    );
-    let at = 4;
-    let wished = wish_of(&rt, alloc, (8, OTHER), (4294967290, 21));
-    assert_eq!(rt; wished, Some(Body0::Split { at }));
-    assert_eq!(rt; wish_of(&rt, alloc, (8, OTHER), (7, 1)), None);
-    assert_eq!(rt; wish_of(&rt, alloc, (7, OTHER), (0, ALL)), None);
-}
-
-#[test]
-fn a_small_group_with_a_neighbour_is_merged(rt: HostRuntime) {
-    let alloc = rt.alloc();
-    assert_eq!(rt; wish_of(&rt, alloc, (1, OTHER), (0, 9)), Some(Body0::Merge));
-    assert_eq!(rt; wish_of(&rt, alloc, (2, OTHER), (0, 9)), Some(Body0::Merge));
-    assert_eq!(rt; wish_of(&rt, alloc, (3, OTHER), (0, 9)), None);
-    assert_eq!(rt; wish_of(&rt, alloc, (2, GROUP), (0, ALL)), None);
-}
-
-#[test]
-fn the_boundary_of_a_full_group_moves_to_its_middle_key(rt: HostRuntime) {
-    let alloc = rt.alloc();
-    let keys = pairs(&rt, alloc, b"", 129);
-    let three = (3, OTHER);
-    let wished = wish_with(&rt, alloc, three, (0, ALL), &keys);
-    assert_eq!(rt; wished, Some(Body0::Repart { at: 560005120 }));
-    let wished = wish_with(&rt, alloc, three, (572981248, ALL), &keys);
-    assert_eq!(rt; wished, Some(Body0::Repart { at: 558104576 }));
-    assert_eq!(rt; wish_with(&rt, alloc, (3, GROUP), (0, ALL), &keys), None);
-    let merged = wish_with(&rt, alloc, (2, OTHER), (0, ALL), &keys);
-    assert_eq!(rt; merged, Some(Body0::Merge));
+/// Each is wished of a group with so many pairs, whose keys begin so.
+fn check_with(rt: &impl Abort, alloc: Global, (front, many): (&[u8], usize), all: &[Wished]) {
+    let keys = pairs(rt, alloc, front, many);
+    check_all(rt, alloc, &keys, all);
     forget(keys);
 }
 
+const MIDDLE: u32 = 2147483648;
+
+const CROWDED: &[Wished] = &[
+    ((8, GROUP), (0, ALL), Some(Body0::Split { at: MIDDLE })),
+    ((9, OTHER), (0, ALL), Some(Body0::Split { at: MIDDLE })),
+    ((8, OTHER), (4294967290, 21), Some(Body0::Split { at: 4 })),
+    ((8, OTHER), (7, 1), None),
+    ((7, OTHER), (0, ALL), None),
+];
+
+#[test]
+fn a_crowded_group_is_split_in_the_middle(rt: HostRuntime) {
+    check_with(&rt, rt.alloc(), (b"", 0), CROWDED);
+}
+
+const SMALL: &[Wished] = &[
+    ((1, OTHER), (0, 9), Some(Body0::Merge)),
+    ((2, OTHER), (0, 9), Some(Body0::Merge)),
+    ((3, OTHER), (0, 9), None),
+    ((2, GROUP), (0, ALL), None),
+];
+
+#[test]
+fn a_small_group_with_a_neighbour_is_merged(rt: HostRuntime) {
+    check_with(&rt, rt.alloc(), (b"", 0), SMALL);
+}
+
+const FULL: &[Wished] = &[
+    ((3, OTHER), (0, ALL), Some(Body0::Repart { at: 560005120 })),
+    (
+        (3, OTHER),
+        (572981248, ALL),
+        Some(Body0::Repart { at: 558104576 }),
+    ),
+    ((3, GROUP), (0, ALL), None),
+    ((2, OTHER), (0, ALL), Some(Body0::Merge)),
+];
+
+#[test]
+fn the_boundary_of_a_full_group_moves_to_its_middle_key(rt: HostRuntime) {
+    check_with(&rt, rt.alloc(), (b"", 129), FULL);
+}
+
+const FEW: &[Wished] = &[((3, OTHER), (0, ALL), None)];
+
+const HEAP: &[Wished] = &[
+    ((3, OTHER), (0, ALL), Some(Body0::Repart { at: 1633771873 })),
+    ((3, OTHER), (1633771873, ALL), None),
+];
+
 #[test]
 fn a_boundary_stays_where_it_cannot_move(rt: HostRuntime) {
-    let alloc = rt.alloc();
-    let few = pairs(&rt, alloc, b"", 128);
-    assert_eq!(rt; wish_with(&rt, alloc, (3, OTHER), (0, ALL), &few), None);
-    forget(few);
-    let heap = pairs(&rt, alloc, b"aaaa", 129);
-    let moved = wish_with(&rt, alloc, (3, OTHER), (0, ALL), &heap);
-    assert_eq!(rt; moved, Some(Body0::Repart { at: 1633771873 }));
-    assert_eq!(rt;
-        wish_with(&rt, alloc, (3, OTHER), (1633771873, ALL), &heap),
-        None
-    );
-    forget(heap);
+    check_with(&rt, rt.alloc(), (b"", 128), FEW);
+    check_with(&rt, rt.alloc(), (b"aaaa", 129), HEAP);
 }
 
 /// Whether the order is one to the group to merge.

@@ -4,7 +4,7 @@ ghost use Rattle.std.specs.Prelude.{◌≤◌, ◌^◌};
 
 use crate::gates::Open;
 use crate::replay_tests::scenario_of;
-use crate::run_tests::{Case, FIRST, FIRST_REPORT, check};
+use crate::run_tests::{Case, FIRST, FIRST_REPORT, check, check_all};
 use crate::thread_tests::add;
 use sc_run::{Left, play_whole};
 use sc_statuses::Played;
@@ -56,9 +56,7 @@ const SINK_FAILS: &[Case] = &[
 
 #[test]
 fn a_failing_sink_wins_over_each_status(rt: HostRuntime) {
-    for (given, expected) in SINK_FAILS {
-        check(&rt, rt.alloc(), *given, *expected);
-    }
+    check_all(&rt, rt.alloc(), SINK_FAILS);
 }
 
 const NO_CLIENT: &[u8] =

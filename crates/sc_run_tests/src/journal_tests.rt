@@ -1,8 +1,7 @@
 //! Journals that are stored and audited: worked files, of which another program printed the first.
 
-use crate::gates::Open;
-use crate::run_tests::{Case, FIRST, FIRST_REPORT, ended};
-use sc_edges::MemSink;
+use crate::run_tests::{Case, Expected, FIRST, FIRST_REPORT, check, check_all};
+use crate::thread_tests::add;
 use std::alloc::Global;
 use std::mem::forget;
 use std::process::Abort;
@@ -42,224 +41,33 @@ const STORED: &[u8] = b"scatter 1\n\
         \"old\":\"x\"}},\"group\":\"0.1\",\"seq\":2}},\"from\":1,\"to\":33}],\"who\":1}\n\
         {\"event\":{\"Deliver\":8},\"sent\":[],\"who\":33}\n";
 
-// .. whose last row delivers a mail that is not pending.
-const OTHER_MAIL: &[u8] = b"scatter 1\n\
-        nodes 1\n\
-        group 0 1\n\
-        client 1\n\
-        put a x\n\
-        get a\n\
-        end\n\
-        go 1\n\
-        settle 100\n\
-        journal\n\
-        {\"event\":\"Go\",\"sent\":[{\"body\":{\"Request\":{\"client\":1,\"group\":\"0.1\",\
-        \"op\":{\"Put\":{\"key\":\"a\",\"value\":\"x\"}},\"seq\":1}},\"from\":33,\"to\":1}],\
-        \"who\":33}\n\
-        {\"event\":{\"Deliver\":1},\"sent\":[{\"body\":{\"Accept\":{\"ballot\":[1,1],\"comma\
-        nd\":{\"Call\":{\"client\":1,\"op\":{\"Put\":{\"key\":\"a\",\"value\":\"x\"}},\"seq\
-        \":1}},\"group\":\"0.1\",\"slot\":1}},\"from\":1,\"to\":1}],\"who\":1}\n\
-        {\"event\":{\"Deliver\":2},\"sent\":[{\"body\":{\"Accepted\":{\"ballot\":[1,1],\"gro\
-        up\":\"0.1\",\"slot\":1}},\"from\":1,\"to\":1}],\"who\":1}\n\
-        {\"event\":{\"Deliver\":3},\"sent\":[{\"body\":{\"Answer\":{\"answer\":{\"Value\":{\
-        \"old\":null}},\"group\":\"0.1\",\"seq\":1}},\"from\":1,\"to\":33}],\"who\":1}\n\
-        {\"event\":{\"Deliver\":4},\"sent\":[{\"body\":{\"Request\":{\"client\":1,\"group\":\
-        \"0.1\",\"op\":{\"Get\":{\"key\":\"a\"}},\"seq\":2}},\"from\":33,\"to\":1}],\"who\":\
-        33}\n\
-        {\"event\":{\"Deliver\":5},\"sent\":[{\"body\":{\"Accept\":{\"ballot\":[1,1],\"comma\
-        nd\":{\"Call\":{\"client\":1,\"op\":{\"Get\":{\"key\":\"a\"}},\"seq\":2}},\"group\":\
-        \"0.1\",\"slot\":2}},\"from\":1,\"to\":1}],\"who\":1}\n\
-        {\"event\":{\"Deliver\":6},\"sent\":[{\"body\":{\"Accepted\":{\"ballot\":[1,1],\"gro\
-        up\":\"0.1\",\"slot\":2}},\"from\":1,\"to\":1}],\"who\":1}\n\
-        {\"event\":{\"Deliver\":7},\"sent\":[{\"body\":{\"Answer\":{\"answer\":{\"Value\":{\
-        \"old\":\"x\"}},\"group\":\"0.1\",\"seq\":2}},\"from\":1,\"to\":33}],\"who\":1}\n\
-        {\"event\":{\"Deliver\":7},\"sent\":[],\"who\":33}\n";
+// A part of a text, and what stands in its first place instead.
+type Damage = (&'static [u8], &'static [u8]);
 
-// .. without its last row.
-const WITHOUT_LAST: &[u8] = b"scatter 1\n\
-        nodes 1\n\
-        group 0 1\n\
-        client 1\n\
-        put a x\n\
-        get a\n\
-        end\n\
-        go 1\n\
-        settle 100\n\
-        journal\n\
-        {\"event\":\"Go\",\"sent\":[{\"body\":{\"Request\":{\"client\":1,\"group\":\"0.1\",\
-        \"op\":{\"Put\":{\"key\":\"a\",\"value\":\"x\"}},\"seq\":1}},\"from\":33,\"to\":1}],\
-        \"who\":33}\n\
-        {\"event\":{\"Deliver\":1},\"sent\":[{\"body\":{\"Accept\":{\"ballot\":[1,1],\"comma\
-        nd\":{\"Call\":{\"client\":1,\"op\":{\"Put\":{\"key\":\"a\",\"value\":\"x\"}},\"seq\
-        \":1}},\"group\":\"0.1\",\"slot\":1}},\"from\":1,\"to\":1}],\"who\":1}\n\
-        {\"event\":{\"Deliver\":2},\"sent\":[{\"body\":{\"Accepted\":{\"ballot\":[1,1],\"gro\
-        up\":\"0.1\",\"slot\":1}},\"from\":1,\"to\":1}],\"who\":1}\n\
-        {\"event\":{\"Deliver\":3},\"sent\":[{\"body\":{\"Answer\":{\"answer\":{\"Value\":{\
-        \"old\":null}},\"group\":\"0.1\",\"seq\":1}},\"from\":1,\"to\":33}],\"who\":1}\n\
-        {\"event\":{\"Deliver\":4},\"sent\":[{\"body\":{\"Request\":{\"client\":1,\"group\":\
-        \"0.1\",\"op\":{\"Get\":{\"key\":\"a\"}},\"seq\":2}},\"from\":33,\"to\":1}],\"who\":\
-        33}\n\
-        {\"event\":{\"Deliver\":5},\"sent\":[{\"body\":{\"Accept\":{\"ballot\":[1,1],\"comma\
-        nd\":{\"Call\":{\"client\":1,\"op\":{\"Get\":{\"key\":\"a\"}},\"seq\":2}},\"group\":\
-        \"0.1\",\"slot\":2}},\"from\":1,\"to\":1}],\"who\":1}\n\
-        {\"event\":{\"Deliver\":6},\"sent\":[{\"body\":{\"Accepted\":{\"ballot\":[1,1],\"gro\
-        up\":\"0.1\",\"slot\":2}},\"from\":1,\"to\":1}],\"who\":1}\n\
-        {\"event\":{\"Deliver\":7},\"sent\":[{\"body\":{\"Answer\":{\"answer\":{\"Value\":{\
-        \"old\":\"x\"}},\"group\":\"0.1\",\"seq\":2}},\"from\":1,\"to\":33}],\"who\":1}\n";
+// The last row delivers a mail that is not pending.
+const OTHER_MAIL: Damage = (b"{\"Deliver\":8}", b"{\"Deliver\":7}");
 
-// .. of which one row has a blank.
-const SECOND_SPELLING: &[u8] = b"scatter 1\n\
-        nodes 1\n\
-        group 0 1\n\
-        client 1\n\
-        put a x\n\
-        get a\n\
-        end\n\
-        go 1\n\
-        settle 100\n\
-        journal\n\
-        {\"event\": \"Go\",\"sent\":[{\"body\":{\"Request\":{\"client\":1,\"group\":\"0.1\",\
-        \"op\":{\"Put\":{\"key\":\"a\",\"value\":\"x\"}},\"seq\":1}},\"from\":33,\"to\":1}],\
-        \"who\":33}\n\
-        {\"event\":{\"Deliver\":1},\"sent\":[{\"body\":{\"Accept\":{\"ballot\":[1,1],\"comma\
-        nd\":{\"Call\":{\"client\":1,\"op\":{\"Put\":{\"key\":\"a\",\"value\":\"x\"}},\"seq\
-        \":1}},\"group\":\"0.1\",\"slot\":1}},\"from\":1,\"to\":1}],\"who\":1}\n\
-        {\"event\":{\"Deliver\":2},\"sent\":[{\"body\":{\"Accepted\":{\"ballot\":[1,1],\"gro\
-        up\":\"0.1\",\"slot\":1}},\"from\":1,\"to\":1}],\"who\":1}\n\
-        {\"event\":{\"Deliver\":3},\"sent\":[{\"body\":{\"Answer\":{\"answer\":{\"Value\":{\
-        \"old\":null}},\"group\":\"0.1\",\"seq\":1}},\"from\":1,\"to\":33}],\"who\":1}\n\
-        {\"event\":{\"Deliver\":4},\"sent\":[{\"body\":{\"Request\":{\"client\":1,\"group\":\
-        \"0.1\",\"op\":{\"Get\":{\"key\":\"a\"}},\"seq\":2}},\"from\":33,\"to\":1}],\"who\":\
-        33}\n\
-        {\"event\":{\"Deliver\":5},\"sent\":[{\"body\":{\"Accept\":{\"ballot\":[1,1],\"comma\
-        nd\":{\"Call\":{\"client\":1,\"op\":{\"Get\":{\"key\":\"a\"}},\"seq\":2}},\"group\":\
-        \"0.1\",\"slot\":2}},\"from\":1,\"to\":1}],\"who\":1}\n\
-        {\"event\":{\"Deliver\":6},\"sent\":[{\"body\":{\"Accepted\":{\"ballot\":[1,1],\"gro\
-        up\":\"0.1\",\"slot\":2}},\"from\":1,\"to\":1}],\"who\":1}\n\
-        {\"event\":{\"Deliver\":7},\"sent\":[{\"body\":{\"Answer\":{\"answer\":{\"Value\":{\
-        \"old\":\"x\"}},\"group\":\"0.1\",\"seq\":2}},\"from\":1,\"to\":33}],\"who\":1}\n\
-        {\"event\":{\"Deliver\":8},\"sent\":[],\"who\":33}\n";
+// The last row is gone.
+const WITHOUT_LAST: Damage = (b"{\"event\":{\"Deliver\":8},\"sent\":[],\"who\":33}\n", b"");
 
-// .. of which one row sent another mail.
-const OTHER_SENT: &[u8] = b"scatter 1\n\
-        nodes 1\n\
-        group 0 1\n\
-        client 1\n\
-        put a x\n\
-        get a\n\
-        end\n\
-        go 1\n\
-        settle 100\n\
-        journal\n\
-        {\"event\":\"Go\",\"sent\":[{\"body\":{\"Request\":{\"client\":1,\"group\":\"0.1\",\
-        \"op\":{\"Put\":{\"key\":\"a\",\"value\":\"x\"}},\"seq\":1}},\"from\":33,\"to\":1}],\
-        \"who\":33}\n\
-        {\"event\":{\"Deliver\":1},\"sent\":[{\"body\":{\"Accept\":{\"ballot\":[1,1],\"comma\
-        nd\":{\"Call\":{\"client\":1,\"op\":{\"Put\":{\"key\":\"a\",\"value\":\"x\"}},\"seq\
-        \":1}},\"group\":\"0.1\",\"slot\":2}},\"from\":1,\"to\":1}],\"who\":1}\n\
-        {\"event\":{\"Deliver\":2},\"sent\":[{\"body\":{\"Accepted\":{\"ballot\":[1,1],\"gro\
-        up\":\"0.1\",\"slot\":1}},\"from\":1,\"to\":1}],\"who\":1}\n\
-        {\"event\":{\"Deliver\":3},\"sent\":[{\"body\":{\"Answer\":{\"answer\":{\"Value\":{\
-        \"old\":null}},\"group\":\"0.1\",\"seq\":1}},\"from\":1,\"to\":33}],\"who\":1}\n\
-        {\"event\":{\"Deliver\":4},\"sent\":[{\"body\":{\"Request\":{\"client\":1,\"group\":\
-        \"0.1\",\"op\":{\"Get\":{\"key\":\"a\"}},\"seq\":2}},\"from\":33,\"to\":1}],\"who\":\
-        33}\n\
-        {\"event\":{\"Deliver\":5},\"sent\":[{\"body\":{\"Accept\":{\"ballot\":[1,1],\"comma\
-        nd\":{\"Call\":{\"client\":1,\"op\":{\"Get\":{\"key\":\"a\"}},\"seq\":2}},\"group\":\
-        \"0.1\",\"slot\":2}},\"from\":1,\"to\":1}],\"who\":1}\n\
-        {\"event\":{\"Deliver\":6},\"sent\":[{\"body\":{\"Accepted\":{\"ballot\":[1,1],\"gro\
-        up\":\"0.1\",\"slot\":2}},\"from\":1,\"to\":1}],\"who\":1}\n\
-        {\"event\":{\"Deliver\":7},\"sent\":[{\"body\":{\"Answer\":{\"answer\":{\"Value\":{\
-        \"old\":\"x\"}},\"group\":\"0.1\",\"seq\":2}},\"from\":1,\"to\":33}],\"who\":1}\n\
-        {\"event\":{\"Deliver\":8},\"sent\":[],\"who\":33}\n";
+// One row has a blank.
+const SECOND_SPELLING: Damage = (b"\"event\":\"Go\"", b"\"event\": \"Go\"");
 
-// .. without its journal.
-const WITHOUT_JOURNAL: &[u8] = b"scatter 1\n\
-        nodes 1\n\
-        group 0 1\n\
-        client 1\n\
-        put a x\n\
-        get a\n\
-        end\n\
-        go 1\n\
-        settle 100\n";
+// One row sent another mail.
+const OTHER_SENT: Damage = (
+    b"\"seq\":1}},\"group\":\"0.1\",\"slot\":1",
+    b"\"seq\":1}},\"group\":\"0.1\",\"slot\":2",
+);
 
-// .. whose last row lacks its end.
-const CUT_SHORT_ROW: &[u8] = b"scatter 1\n\
-        nodes 1\n\
-        group 0 1\n\
-        client 1\n\
-        put a x\n\
-        get a\n\
-        end\n\
-        go 1\n\
-        settle 100\n\
-        journal\n\
-        {\"event\":\"Go\",\"sent\":[{\"body\":{\"Request\":{\"client\":1,\"group\":\"0.1\",\
-        \"op\":{\"Put\":{\"key\":\"a\",\"value\":\"x\"}},\"seq\":1}},\"from\":33,\"to\":1}],\
-        \"who\":33}\n\
-        {\"event\":{\"Deliver\":1},\"sent\":[{\"body\":{\"Accept\":{\"ballot\":[1,1],\"comma\
-        nd\":{\"Call\":{\"client\":1,\"op\":{\"Put\":{\"key\":\"a\",\"value\":\"x\"}},\"seq\
-        \":1}},\"group\":\"0.1\",\"slot\":1}},\"from\":1,\"to\":1}],\"who\":1}\n\
-        {\"event\":{\"Deliver\":2},\"sent\":[{\"body\":{\"Accepted\":{\"ballot\":[1,1],\"gro\
-        up\":\"0.1\",\"slot\":1}},\"from\":1,\"to\":1}],\"who\":1}\n\
-        {\"event\":{\"Deliver\":3},\"sent\":[{\"body\":{\"Answer\":{\"answer\":{\"Value\":{\
-        \"old\":null}},\"group\":\"0.1\",\"seq\":1}},\"from\":1,\"to\":33}],\"who\":1}\n\
-        {\"event\":{\"Deliver\":4},\"sent\":[{\"body\":{\"Request\":{\"client\":1,\"group\":\
-        \"0.1\",\"op\":{\"Get\":{\"key\":\"a\"}},\"seq\":2}},\"from\":33,\"to\":1}],\"who\":\
-        33}\n\
-        {\"event\":{\"Deliver\":5},\"sent\":[{\"body\":{\"Accept\":{\"ballot\":[1,1],\"comma\
-        nd\":{\"Call\":{\"client\":1,\"op\":{\"Get\":{\"key\":\"a\"}},\"seq\":2}},\"group\":\
-        \"0.1\",\"slot\":2}},\"from\":1,\"to\":1}],\"who\":1}\n\
-        {\"event\":{\"Deliver\":6},\"sent\":[{\"body\":{\"Accepted\":{\"ballot\":[1,1],\"gro\
-        up\":\"0.1\",\"slot\":2}},\"from\":1,\"to\":1}],\"who\":1}\n\
-        {\"event\":{\"Deliver\":7},\"sent\":[{\"body\":{\"Answer\":{\"answer\":{\"Value\":{\
-        \"old\":\"x\"}},\"group\":\"0.1\",\"seq\":2}},\"from\":1,\"to\":33}],\"who\":1}\n\
-        {\"event\":{\"Deliver\":8},\"sent\":[],\"who\":33\n";
+// The last row lacks its end.
+const CUT_SHORT_ROW: Damage = (b"\"sent\":[],\"who\":33}", b"\"sent\":[],\"who\":33");
 
-// .. whose scenario is none.
-const NO_SCENARIO: &[u8] = b"scatter 3\n\
-        nodes 1\n\
-        group 0 1\n\
-        client 1\n\
-        put a x\n\
-        get a\n\
-        end\n\
-        go 1\n\
-        settle 100\n\
-        journal\n\
-        {\"event\":\"Go\",\"sent\":[{\"body\":{\"Request\":{\"client\":1,\"group\":\"0.1\",\
-        \"op\":{\"Put\":{\"key\":\"a\",\"value\":\"x\"}},\"seq\":1}},\"from\":33,\"to\":1}],\
-        \"who\":33}\n\
-        {\"event\":{\"Deliver\":1},\"sent\":[{\"body\":{\"Accept\":{\"ballot\":[1,1],\"comma\
-        nd\":{\"Call\":{\"client\":1,\"op\":{\"Put\":{\"key\":\"a\",\"value\":\"x\"}},\"seq\
-        \":1}},\"group\":\"0.1\",\"slot\":1}},\"from\":1,\"to\":1}],\"who\":1}\n\
-        {\"event\":{\"Deliver\":2},\"sent\":[{\"body\":{\"Accepted\":{\"ballot\":[1,1],\"gro\
-        up\":\"0.1\",\"slot\":1}},\"from\":1,\"to\":1}],\"who\":1}\n\
-        {\"event\":{\"Deliver\":3},\"sent\":[{\"body\":{\"Answer\":{\"answer\":{\"Value\":{\
-        \"old\":null}},\"group\":\"0.1\",\"seq\":1}},\"from\":1,\"to\":33}],\"who\":1}\n\
-        {\"event\":{\"Deliver\":4},\"sent\":[{\"body\":{\"Request\":{\"client\":1,\"group\":\
-        \"0.1\",\"op\":{\"Get\":{\"key\":\"a\"}},\"seq\":2}},\"from\":33,\"to\":1}],\"who\":\
-        33}\n\
-        {\"event\":{\"Deliver\":5},\"sent\":[{\"body\":{\"Accept\":{\"ballot\":[1,1],\"comma\
-        nd\":{\"Call\":{\"client\":1,\"op\":{\"Get\":{\"key\":\"a\"}},\"seq\":2}},\"group\":\
-        \"0.1\",\"slot\":2}},\"from\":1,\"to\":1}],\"who\":1}\n\
-        {\"event\":{\"Deliver\":6},\"sent\":[{\"body\":{\"Accepted\":{\"ballot\":[1,1],\"gro\
-        up\":\"0.1\",\"slot\":2}},\"from\":1,\"to\":1}],\"who\":1}\n\
-        {\"event\":{\"Deliver\":7},\"sent\":[{\"body\":{\"Answer\":{\"answer\":{\"Value\":{\
-        \"old\":\"x\"}},\"group\":\"0.1\",\"seq\":2}},\"from\":1,\"to\":33}],\"who\":1}\n\
-        {\"event\":{\"Deliver\":8},\"sent\":[],\"who\":33}\n";
+// The scenario is none.
+const NO_SCENARIO: Damage = (b"scatter 1", b"scatter 3");
 
 // A scenario whose last line has no line feed.
-const LINE_WITHOUT_FEED: &[u8] = b"scatter 1\n\
-        nodes 1\n\
-        group 0 1\n\
-        client 1\n\
-        put a x\n\
-        get a\n\
-        end\n\
-        go 1\n\
-        settle 100\n";
+const LINE_WITHOUT_FEED: &[u8] =
+    b"scatter 1\nnodes 1\ngroup 0 1\nclient 1\nput a x\nget a\nend\ngo 1\nsettle 100";
 
 const USAGE: &[u8] = b"usage: scatter run | scatter make N S | scatter journal | scatter audit\n";
 
@@ -271,36 +79,33 @@ const STORED_ONES: &[Case] = &[
     (("audit", STORED, 0, 0), (0, true, b"lawful rows 9\n")),
 ];
 
-const DAMAGED_ROWS: &[Case] = &[
-    (("audit", OTHER_MAIL, 0, 0), (9, true, b"unlawful row 9\n")),
-    (("audit", WITHOUT_LAST, 0, 0), (0, true, b"lawful rows 8\n")),
-    (("audit", OTHER_SENT, 0, 0), (9, true, b"unlawful row 2\n")),
+// What comes of the stored journal, damaged.
+const DAMAGED: &[(&str, Damage, Expected)] = &[
+    ("audit", OTHER_MAIL, (9, true, b"unlawful row 9\n")),
+    ("audit", WITHOUT_LAST, (0, true, b"lawful rows 8\n")),
+    ("audit", OTHER_SENT, (9, true, b"unlawful row 2\n")),
+    ("audit", SECOND_SPELLING, (3, false, b"line 11: bad row\n")),
+    ("audit", CUT_SHORT_ROW, (3, false, b"line 19: bad row\n")),
     (
-        ("audit", SECOND_SPELLING, 0, 0),
-        (3, false, b"line 11: bad row\n"),
+        "audit",
+        NO_SCENARIO,
+        (3, false, b"line 1: missing header\n"),
+    ),
+    (
+        "journal",
+        NO_SCENARIO,
+        (3, false, b"line 1: missing header\n"),
     ),
 ];
 
 const NO_JOURNALS: &[Case] = &[
     (
-        ("audit", CUT_SHORT_ROW, 0, 0),
-        (3, false, b"line 19: bad row\n"),
-    ),
-    (
-        ("audit", WITHOUT_JOURNAL, 0, 0),
+        ("audit", FIRST, 0, 0),
         (3, false, b"line 10: missing journal\n"),
-    ),
-    (
-        ("audit", NO_SCENARIO, 0, 0),
-        (3, false, b"line 1: missing header\n"),
     ),
     (
         ("audit", b"", 0, 0),
         (3, false, b"line 1: missing journal\n"),
-    ),
-    (
-        ("journal", NO_SCENARIO, 0, 0),
-        (3, false, b"line 1: missing header\n"),
     ),
 ];
 
@@ -315,34 +120,146 @@ const FAULTS: &[Case] = &[
     (("journal -x", FIRST, 0, 0), (2, false, USAGE)),
 ];
 
-// A run that is given this ends so.
-fn check<R: Abort + Threads + Wait + Sync>(
-    rt: &R,
-    alloc: Global,
-    given: (&str, &[u8], u64, u64),
-    expected: (u8, bool, &[u8]),
-) {
-    let (words, input, source_fails, sink_fails) = given;
-    let mut output = MemSink::new(alloc, 10_000, &[sink_fails]).expect(rt, "memory");
-    let done = ended(rt, alloc, words, (input, source_fails), &mut output, &Open);
-    let (status, has_journal, text) = expected;
-    let is_so = done.status == status && done.journal.is_some() == has_journal;
-    let is_told = output.held() == text;
-    forget(done);
-    forget(output);
-    assert!(rt; is_so && is_told);
+// Where a part of a text begins that is in it.
+fn place_of(rt: &impl Abort, text: &[u8], part: &[u8]) -> usize {
+    for i in 0..text.len() {
+        if text.get(i..).unwrap_or(b"").starts_with(part) {
+            return i;
+        }
+    }
+    panic!(rt; "no such part");
 }
 
-fn check_all<R: Abort + Threads + Wait + Sync>(rt: &R, alloc: Global, cases: &[Case]) {
-    for (given, expected) in cases {
-        check(rt, alloc, *given, *expected);
+// A text with that damage.
+fn damaged(rt: &impl Abort, alloc: Global, text: &[u8], (old, new): Damage) -> Vec<u8> {
+    let at = place_of(rt, text, old);
+    let mut damaged = Vec::new(alloc);
+    add(rt, &mut damaged, text.get(..at).unwrap_or(b""));
+    add(rt, &mut damaged, new);
+    let behind = at.saturating_add(old.len());
+    add(rt, &mut damaged, text.get(behind..).unwrap_or(b""));
+    damaged
+}
+
+fn check_damaged<R: Abort + Threads + Wait + Sync>(rt: &R, alloc: Global, text: &[u8]) {
+    for (words, damage, expected) in DAMAGED {
+        let input = damaged(rt, alloc, text, *damage);
+        check(rt, alloc, (*words, &input, 0, 0), *expected);
+        forget(input);
     }
 }
 
 #[test]
 fn has_journals_stored_and_audited(rt: HostRuntime) {
     check_all(&rt, rt.alloc(), STORED_ONES);
-    check_all(&rt, rt.alloc(), DAMAGED_ROWS);
+    check_damaged(&rt, rt.alloc(), STORED);
     check_all(&rt, rt.alloc(), NO_JOURNALS);
     check_all(&rt, rt.alloc(), FAULTS);
+}
+
+// Files without rows, and files that are none, with their first bad line.
+const FILES: &[Case] = &[
+    (
+        ("audit", b"scatter 1\nnodes 1\ngroup 0 1\njournal\n", 0, 0),
+        (0, true, b"lawful rows 0\n"),
+    ),
+    (
+        ("audit", b"scatter 1\nnodes 1\ngroup 0 1\n\njournal\n", 0, 0),
+        (0, true, b"lawful rows 0\n"),
+    ),
+    (
+        (
+            "audit",
+            b"scatter 1\nnodes 1\ngroup 0 1\n\n\n# x\njournal\n",
+            0,
+            0,
+        ),
+        (0, true, b"lawful rows 0\n"),
+    ),
+    // no line `journal` that a line feed ends
+    (
+        ("audit", b"", 0, 0),
+        (3, false, b"line 1: missing journal\n"),
+    ),
+    (
+        ("audit", b"\n", 0, 0),
+        (3, false, b"line 2: missing journal\n"),
+    ),
+    (
+        ("audit", b"journal", 0, 0),
+        (3, false, b"line 2: missing journal\n"),
+    ),
+    (
+        ("audit", b"scatter 1\nnodes 1\ngroup 0 1\njournal", 0, 0),
+        (3, false, b"line 5: missing journal\n"),
+    ),
+    (
+        ("audit", b"scatter 1\nnodes 1\ngroup 0 1\njournals\n", 0, 0),
+        (3, false, b"line 5: missing journal\n"),
+    ),
+    (
+        ("audit", b"scatter 1\nnodes 1\ngroup 0 1\n journal\n", 0, 0),
+        (3, false, b"line 5: missing journal\n"),
+    ),
+    (
+        ("audit", b"scatter 1\nnodes 1\ngroup 0 1\njournal\r\n", 0, 0),
+        (3, false, b"line 5: missing journal\n"),
+    ),
+    (
+        ("audit", b"a\nb\nc\nd\ne\nf\ng\nh\ni\n", 0, 0),
+        (3, false, b"line 10: missing journal\n"),
+    ),
+    (
+        ("audit", b"a\nb\nc\nd\ne\nf\ng\nh\ni\nj", 0, 0),
+        (3, false, b"line 11: missing journal\n"),
+    ),
+    // the part before it is no scenario
+    (
+        ("audit", b"journal\n", 0, 0),
+        (3, false, b"line 1: missing header\n"),
+    ),
+    (
+        ("audit", b"\njournal\n", 0, 0),
+        (3, false, b"line 1: missing header\n"),
+    ),
+    (
+        ("audit", b"scatter 1\nnodes 1\njournal\n", 0, 0),
+        (3, false, b"line 3: missing part\n"),
+    ),
+    (
+        ("audit", b"scatter 1\nnodes 1\n\njournal\n", 0, 0),
+        (3, false, b"line 4: missing part\n"),
+    ),
+    (
+        (
+            "audit",
+            b"scatter 1\nnodes 1\ngroup 0 1\nclient 1\nget a\njournal\n",
+            0,
+            0,
+        ),
+        (3, false, b"line 6: unended client\n"),
+    ),
+    (
+        ("audit", b"scatter 1\nfoo\njournal\nx", 0, 0),
+        (3, false, b"line 2: unknown word\n"),
+    ),
+    // a line behind it is no row's
+    (
+        ("audit", b"scatter 1\nnodes 1\ngroup 0 1\njournal\nx", 0, 0),
+        (3, false, b"line 5: bad row\n"),
+    ),
+    (
+        (
+            "audit",
+            b"scatter 1\nnodes 1\ngroup 0 1\njournal\njournal",
+            0,
+            0,
+        ),
+        (3, false, b"line 5: bad row\n"),
+    ),
+];
+
+#[test]
+fn files_are_read_or_name_their_first_bad_line(rt: HostRuntime) {
+    check_all(&rt, rt.alloc(), FILES);
 }

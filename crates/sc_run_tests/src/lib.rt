@@ -15,6 +15,8 @@ mod ordinary_tests;
 #[cfg(test)]
 mod replay_tests;
 #[cfg(test)]
+mod row_tests;
+#[cfg(test)]
 mod run_tests;
 #[cfg(test)]
 mod storm_tests;

@@ -1,6 +1,8 @@
 //! Ordinary use: four groups of three nodes, and sixteen clients with a key each.
 
-use crate::thread_tests::{add, runs_so};
+use crate::gates::Open;
+use crate::run_tests::{Wanted, comes};
+use crate::thread_tests::add;
 use std::alloc::Global;
 use std::mem::forget;
 use std::process::Abort;
@@ -82,7 +84,14 @@ fn report(rt: &impl Abort, alloc: Global) -> Vec<u8> {
 fn four_groups_serve_sixteen_clients(rt: HostRuntime) {
     let input = scenario(&rt, rt.alloc(), b"free 200000 4\n");
     let wanted = report(&rt, rt.alloc());
-    let is_so = runs_so(&rt, rt.alloc(), &input, &wanted);
+    let given = ("run", input.as_slice(), 0, 0);
+    let is_so = comes(
+        &rt,
+        rt.alloc(),
+        given,
+        Wanted::Lawful(wanted.as_slice()),
+        &Open,
+    );
     forget(input);
     forget(wanted);
     assert!(rt; is_so);

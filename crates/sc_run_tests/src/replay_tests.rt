@@ -4,12 +4,14 @@ ghost use Rattle.std.specs.Prelude.{◌≡◌};
 ghost use Rattle.sc_scenario.specs.Valid.{IsValid};
 
 use crate::gates::Open;
+use crate::storm_tests::{has_cover, has_legal};
+use crate::told_tests::{Told, has_groups};
 use sc_actor::{Event, Journal, Row, are_few};
 use sc_base::{Draw, Op, Sequence};
 use sc_cmd::{Command, OrderLine};
 use sc_ideal::Entry;
 use sc_mail::Mail;
-use sc_report::{Summary, lines};
+use sc_report::{ReportLine, Summary, lines};
 use sc_run::{Left, play_whole};
 use sc_scenario::{Scenario, read_scenario};
 use sc_statuses::Played;
@@ -229,15 +231,24 @@ pub fn replayed<'a>(
     }
 }
 
-// The text of a report.
-fn text_of(rt: &impl Abort, alloc: Global, told: &Summary) -> Vec<u8> {
-    let mut text = Vec::new(alloc);
-    let lines = lines(alloc, told).expect(rt, "memory");
-    for line in lines.as_slice() {
-        text.extend_from_slice(line.bytes()).expect(rt, "memory");
+// Whether these lines, one after another, are this text.
+fn are_text(lines: &[ReportLine], text: &[u8]) -> bool {
+    let mut rest = text;
+    for line in lines {
+        match rest.strip_prefix(line.bytes()) {
+            Some(more) => rest = more,
+            None => return false,
+        }
     }
+    rest.is_empty()
+}
+
+// Whether a summary is told so.
+fn is_told(rt: &impl Abort, alloc: Global, told: &Summary, report: &[u8]) -> bool {
+    let lines = lines(alloc, told).expect(rt, "memory");
+    let is_so = are_text(lines.as_slice(), report);
     forget(lines);
-    text
+    is_so
 }
 
 // What a replay tells of a journal.
@@ -255,15 +266,21 @@ fn told_by(
     told
 }
 
-fn report_of<R: Abort + Threads + Wait + Sync>(rt: &R, alloc: Global, input: &[u8]) -> Vec<u8> {
+// Whether this is the report of a run's rows.
+fn reports<R: Abort + Threads + Wait + Sync>(
+    rt: &R,
+    alloc: Global,
+    input: &[u8],
+    report: &[u8],
+) -> bool {
     let scenario = scenario_of(rt, alloc, input);
     let journal = played(rt, alloc, &scenario);
     let told = told_by(rt, alloc, &scenario, &journal);
+    let is_so = is_told(rt, alloc, &told, report);
+    forget(told);
     forget(journal);
     forget(scenario);
-    let text = text_of(rt, alloc, &told);
-    forget(told);
-    text
+    is_so
 }
 
 const REPORTS: &[(&[u8], &[u8])] = &[
@@ -275,7 +292,7 @@ const REPORTS: &[(&[u8], &[u8])] = &[
 #[test]
 fn a_replay_tells_the_report_of_its_rows(rt: HostRuntime) {
     for (input, report) in REPORTS {
-        assert!(rt; report_of(&rt, rt.alloc(), *input).as_slice() == *report);
+        assert!(rt; reports(&rt, rt.alloc(), *input, *report));
     }
 }
 
@@ -299,22 +316,28 @@ fn number_of(scenario: &Scenario, command: &Command) -> u32 {
     }
 }
 
-// The numbers of the decided log of a group in a world.
-fn numbers_of(
+// Whether commands are as many as these numbers, which they have one after another.
+fn are_numbered(scenario: &Scenario, commands: &[Command], numbers: &[u32]) -> bool {
+    for (command, number) in commands.iter().zip(numbers.iter()) {
+        if number_of(scenario, command) != *number {
+            return false;
+        }
+    }
+    commands.len() == numbers.len()
+}
+
+// Whether the decided log of a group in a world has these numbers.
+fn has_log(
     rt: &impl Abort,
     alloc: Global,
     scenario: &Scenario,
     world: &World<'_>,
-    group: Draw,
-) -> Vec<u32> {
+    (group, numbers): (Draw, &[u32]),
+) -> bool {
     let log = decided_log(alloc, world, group).expect(rt, "memory");
-    let mut numbers = Vec::new(alloc);
-    for command in log.as_slice() {
-        let number = number_of(scenario, command);
-        numbers.push(number).expect(rt, "memory");
-    }
+    let is_so = are_numbered(scenario, log.as_slice(), numbers);
     forget(log);
-    numbers
+    is_so
 }
 
 // The number of an entry that is that request of client 1 with the value that it found, or 0.
@@ -332,22 +355,29 @@ fn entry_number(scenario: &Scenario, found: &[Option<&[u8]>], entry: &Entry) -> 
     }
 }
 
-// The numbers of the history of a world, whose requests found these values.
-fn entries_of(
+// Whether entries, whose requests found FOUND, are as many as these numbers, which they have one
+// after another.
+fn are_entries(scenario: &Scenario, entries: &[Entry], numbers: &[u32]) -> bool {
+    for (entry, number) in entries.iter().zip(numbers.iter()) {
+        if entry_number(scenario, FOUND, entry) != *number {
+            return false;
+        }
+    }
+    entries.len() == numbers.len()
+}
+
+// Whether the history of a world has these numbers.
+fn has_entries(
     rt: &impl Abort,
     alloc: Global,
     scenario: &Scenario,
     world: &World<'_>,
-    found: &[Option<&[u8]>],
-) -> Vec<u32> {
+    numbers: &[u32],
+) -> bool {
     let entries = history(alloc, world).expect(rt, "memory");
-    let mut numbers = Vec::new(alloc);
-    for entry in entries.as_slice() {
-        let number = entry_number(scenario, found, entry);
-        numbers.push(number).expect(rt, "memory");
-    }
+    let is_so = are_entries(scenario, entries.as_slice(), numbers);
     forget(entries);
-    numbers
+    is_so
 }
 
 // How many nodes a replay leaves, how many clients, and how many of these await an answer.
@@ -370,74 +400,88 @@ fn left_of(parties: &[Party]) -> [u32; 3] {
 // What the two requests of a history found.
 const FOUND: &[Option<&[u8]>] = &[None, Some(b"x")];
 
-// What is asked of the world of a run: the log of a group, the history whose requests found FOUND,
-// or what is left.
+/// What the world of a run must tell.
 #[derive(Clone, Copy)]
-enum Question {
-    Log(Draw),
-    History,
-    Left,
+pub enum Question<'a> {
+    /// The decided log of a group has these numbers.
+    Log(Draw, &'a [u32]),
+    /// The history, whose requests found FOUND, has these numbers.
+    History(&'a [u32]),
+    /// So many nodes are left, so many clients, and so many of these await an answer.
+    Left([u32; 3]),
+    /// The groups, and how many requests took effect.
+    Groups(&'a [Told], usize),
+    /// The ring covers, and the history is legal.
+    Sound,
 }
 
-fn answer(
+fn is_answer(
     rt: &impl Abort,
     alloc: Global,
     scenario: &Scenario,
     world: &World<'_>,
-    question: Question,
-) -> Vec<u32> {
+    question: Question<'_>,
+) -> bool {
     match question {
-        Question::Log(group) => numbers_of(rt, alloc, scenario, world, group),
-        Question::History => entries_of(rt, alloc, scenario, world, FOUND),
-        Question::Left => Vec::from_slice(alloc, &left_of(world.parties())).expect(rt, "memory"),
+        Question::Log(group, numbers) => has_log(rt, alloc, scenario, world, (group, numbers)),
+        Question::History(numbers) => has_entries(rt, alloc, scenario, world, numbers),
+        Question::Left(counts) => left_of(world.parties()) == counts,
+        Question::Groups(tolds, count) => has_groups(rt, alloc, world, tolds, count),
+        Question::Sound => has_cover(rt, alloc, world) && has_legal(rt, alloc, world),
     }
 }
 
-fn told<R: Abort + Threads + Wait + Sync>(
+/// Whether the world of a journal of a scenario tells that.
+pub fn answers(
+    rt: &impl Abort,
+    alloc: Global,
+    scenario: &Scenario,
+    journal: &Journal<Mail, OrderLine>,
+    question: Question<'_>,
+) -> bool
+    requires { IsValid scenario.now }
+{
+    let world = replayed(rt, alloc, scenario, journal);
+    let is_so = is_answer(rt, alloc, scenario, &world, question);
+    forget(world);
+    is_so
+}
+
+/// Whether the world of a run tells that.
+pub fn tells<R: Abort + Threads + Wait + Sync>(
     rt: &R,
     alloc: Global,
     input: &[u8],
-    question: Question,
-) -> Vec<u32> {
+    question: Question<'_>,
+) -> bool {
     let scenario = scenario_of(rt, alloc, input);
     let journal = played(rt, alloc, &scenario);
-    let world = replayed(rt, alloc, &scenario, &journal);
-    let told = answer(rt, alloc, &scenario, &world, question);
-    forget(world);
+    let is_so = answers(rt, alloc, &scenario, &journal, question);
     forget(journal);
     forget(scenario);
-    told
+    is_so
 }
 
-// Whether a run's world answers this.
-fn tells<R: Abort + Threads + Wait + Sync>(
-    rt: &R,
-    alloc: Global,
-    input: &[u8],
-    question: Question,
-    expected: &[u32],
-) -> bool {
-    told(rt, alloc, input, question).as_slice() == expected
-}
-
-// The log of the group that is named so.
-fn log_of(node: u16) -> Question {
-    Question::Log(Draw { node, count: 1 })
+// That the log of the group which is named so has these numbers.
+fn log_of(node: u16, numbers: &[u32]) -> Question<'_> {
+    Question::Log(Draw { node, count: 1 }, numbers)
 }
 
 #[test]
 fn a_put_and_a_get_are_decided_in_order(rt: HostRuntime) {
-    assert!(rt; tells(&rt, rt.alloc(), PUT_GET, log_of(0), &[1, 2]));
-    assert!(rt; tells(&rt, rt.alloc(), PUT_GET, log_of(1), &[]));
+    let first = tells(&rt, rt.alloc(), PUT_GET, log_of(0, &[1, 2]));
+    let other = tells(&rt, rt.alloc(), PUT_GET, log_of(1, &[]));
+    assert!(rt; first && other);
 }
 
 #[test]
 fn a_put_finds_nothing_and_a_get_finds_what_was_put(rt: HostRuntime) {
-    assert!(rt; tells(&rt, rt.alloc(), PUT_GET, Question::History, &[1, 2]));
+    assert!(rt; tells(&rt, rt.alloc(), PUT_GET, Question::History(&[1, 2])));
 }
 
 #[test]
 fn a_replay_leaves_each_node_and_client_where_its_rows_do(rt: HostRuntime) {
-    assert!(rt; tells(&rt, rt.alloc(), PUT_GET, Question::Left, &[1, 1, 0]));
-    assert!(rt; tells(&rt, rt.alloc(), CUT_SHORT, Question::Left, &[1, 1, 1]));
+    let whole = tells(&rt, rt.alloc(), PUT_GET, Question::Left([1, 1, 0]));
+    let cut = tells(&rt, rt.alloc(), CUT_SHORT, Question::Left([1, 1, 1]));
+    assert!(rt; whole && cut);
 }

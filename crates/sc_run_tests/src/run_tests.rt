@@ -1,4 +1,6 @@
 use crate::gates::Open;
+use crate::replay_tests::named;
+use crate::storm_tests::is_sound;
 use sc_actor::{Gate, Parcel, Row};
 use sc_cmd::OrderLine;
 use sc_edges::{MemSink, MemSource};
@@ -103,8 +105,8 @@ fn words_of(rt: &impl Abort, alloc: Global, text: &str) -> Vec<String> {
     words
 }
 
-/// How a run of these words ends on an input, where the source fails at this call (0: none).
-pub fn ended<G: Gate, R: Abort + Threads + Wait + Sync>(
+// How a run of these words ends on an input, where the source fails at this call (0: none).
+fn ended<G: Gate, R: Abort + Threads + Wait + Sync>(
     rt: &R,
     alloc: Global,
     text: &str,
@@ -120,6 +122,79 @@ pub fn ended<G: Gate, R: Abort + Threads + Wait + Sync>(
     done
 }
 
+/// What must come of a run.
+#[derive(Clone, Copy)]
+pub enum Wanted<'a> {
+    /// The status, whether there is a journal, and the output.
+    Exactly(u8, bool, &'a [u8]),
+    /// It ends settled, its report begins so, and its journal is lawful.
+    Lawful(&'a [u8]),
+    /// It ends settled, its report ends so, and its journal is sound.
+    Sound(&'a [u8]),
+    /// Its rows count this.
+    Counts(&'a [u64]),
+}
+
+fn has_lawful(rt: &impl Abort, alloc: Global, input: &[u8], done: &Done) -> bool {
+    match &done.journal {
+        Some(journal) => named(rt, alloc, input, journal) == 0,
+        None => false,
+    }
+}
+
+fn has_sound(rt: &impl Abort, alloc: Global, input: &[u8], done: &Done) -> bool {
+    match &done.journal {
+        Some(journal) => is_sound(rt, alloc, input, journal),
+        None => false,
+    }
+}
+
+fn counts(done: &Done, bytes: &[u64]) -> bool {
+    match &done.journal {
+        Some(journal) => all_count(journal.as_slice(), bytes),
+        None => false,
+    }
+}
+
+// Whether that came of a run on an input, with this output.
+fn is_wanted(
+    rt: &impl Abort,
+    alloc: Global,
+    input: &[u8],
+    (done, held): (&Done, &[u8]),
+    wanted: Wanted<'_>,
+) -> bool {
+    match wanted {
+        Wanted::Exactly(status, has_journal, text) => {
+            done.status == status && done.journal.is_some() == has_journal && held == text
+        }
+        Wanted::Lawful(begin) => {
+            done.status == 0 && held.starts_with(begin) && has_lawful(rt, alloc, input, done)
+        }
+        Wanted::Sound(end) => {
+            done.status == 0 && held.ends_with(end) && has_sound(rt, alloc, input, done)
+        }
+        Wanted::Counts(bytes) => counts(done, bytes),
+    }
+}
+
+/// Whether that comes of a run that is given this, through a gate.
+pub fn comes<G: Gate, R: Abort + Threads + Wait + Sync>(
+    rt: &R,
+    alloc: Global,
+    given: (&str, &[u8], u64, u64),
+    wanted: Wanted<'_>,
+    gate: &G,
+) -> bool {
+    let (words, input, source_fails, sink_fails) = given;
+    let mut output = MemSink::new(alloc, 10_000, &[sink_fails]).expect(rt, "memory");
+    let done = ended(rt, alloc, words, (input, source_fails), &mut output, gate);
+    let comes = is_wanted(rt, alloc, input, (&done, output.held()), wanted);
+    forget(done);
+    forget(output);
+    comes
+}
+
 /// A run that is given this ends so.
 pub fn check<R: Abort + Threads + Wait + Sync>(
     rt: &R,
@@ -127,15 +202,16 @@ pub fn check<R: Abort + Threads + Wait + Sync>(
     given: (&str, &[u8], u64, u64),
     expected: (u8, bool, &[u8]),
 ) {
-    let (words, input, source_fails, sink_fails) = given;
-    let mut output = MemSink::new(alloc, 1000, &[sink_fails]).expect(rt, "memory");
-    let done = ended(rt, alloc, words, (input, source_fails), &mut output, &Open);
     let (status, has_journal, text) = expected;
-    let is_so = done.status == status && done.journal.is_some() == has_journal;
-    let is_told = output.held() == text;
-    forget(done);
-    forget(output);
-    assert!(rt; is_so && is_told);
+    let wanted = Wanted::Exactly(status, has_journal, text);
+    assert!(rt; comes(rt, alloc, given, wanted, &Open));
+}
+
+/// Runs that are given these end so.
+pub fn check_all<R: Abort + Threads + Wait + Sync>(rt: &R, alloc: Global, cases: &[Case]) {
+    for (given, expected) in cases {
+        check(rt, alloc, *given, *expected);
+    }
 }
 
 const CASES: &[Case] = &[
@@ -169,9 +245,7 @@ const CASES: &[Case] = &[
 
 #[test]
 fn each_status_comes_with_its_text(rt: HostRuntime) {
-    for (given, expected) in CASES {
-        check(&rt, rt.alloc(), *given, *expected);
-    }
+    check_all(&rt, rt.alloc(), CASES);
 }
 
 // The source would fail at its first call.
@@ -186,9 +260,7 @@ const MADE: &[Case] = &[
 
 #[test]
 fn made_scenarios_run_without_an_input(rt: HostRuntime) {
-    for (given, expected) in MADE {
-        check(&rt, rt.alloc(), *given, *expected);
-    }
+    check_all(&rt, rt.alloc(), MADE);
 }
 
 // What a row counts: 64, and for each mail 256 and its weight.
@@ -200,32 +272,22 @@ fn row_bytes(row: &Row<Mail, OrderLine>) -> u64 {
     total
 }
 
-// What the rows of a run on an input count.
-fn counted<R: Abort + Threads + Wait + Sync>(rt: &R, alloc: Global, input: &[u8]) -> Vec<u64> {
-    let mut output = MemSink::new(alloc, 1000, &[]).expect(rt, "memory");
-    let done = ended(rt, alloc, "run", (input, 0), &mut output, &Open);
-    let counted = match &done.journal {
-        Some(journal) => all_bytes(rt, alloc, journal.as_slice()),
-        None => Vec::new(alloc),
-    };
-    forget(done);
-    forget(output);
-    counted
+// Whether the rows are as many as these numbers, and count so, one after another.
+fn all_count(rows: &[Row<Mail, OrderLine>], bytes: &[u64]) -> bool {
+    for (row, count) in rows.iter().zip(bytes.iter()) {
+        if row_bytes(row) != *count {
+            return false;
+        }
+    }
+    rows.len() == bytes.len()
 }
 
-fn all_bytes(rt: &impl Abort, alloc: Global, rows: &[Row<Mail, OrderLine>]) -> Vec<u64> {
-    let mut counted = Vec::new(alloc);
-    for row in rows {
-        counted.push(row_bytes(row)).expect(rt, "memory");
-    }
-    counted
-}
+const FIRST_COUNTS: &[u64] = &[322, 322, 320, 320, 321, 321, 320, 321, 64];
 
 #[test]
 fn rows_count_what_their_mails_weigh(rt: HostRuntime) {
-    let counted = counted(&rt, rt.alloc(), FIRST);
-    let expected = [322u64, 322, 320, 320, 321, 321, 320, 321, 64];
-    assert!(rt; counted.as_slice() == expected.as_slice());
+    let wanted = Wanted::Counts(FIRST_COUNTS);
+    assert!(rt; comes(&rt, rt.alloc(), ("run", FIRST, 0, 0), wanted, &Open));
 }
 
 const ONE_CRASHED: &[u8] =
@@ -315,10 +377,11 @@ const JOIN_LEAVE_REFUSALS_REPORT: &[u8] =
 /// An input whose run keeps a journal, its status and its report.
 pub type TableRow = (&'static [u8], u8, &'static [u8]);
 
-/// A row of a table is so.
-pub fn check_row<R: Abort + Threads + Wait + Sync>(rt: &R, alloc: Global, row: TableRow) {
-    let (input, status, report) = row;
-    check(rt, alloc, ("run", input, 0, 0), (status, true, report));
+/// The rows of a table are so.
+pub fn check_rows<R: Abort + Threads + Wait + Sync>(rt: &R, alloc: Global, rows: &[TableRow]) {
+    for (input, status, report) in rows {
+        check(rt, alloc, ("run", *input, 0, 0), (*status, true, *report));
+    }
 }
 
 const ROWS: &[TableRow] = &[
@@ -336,9 +399,7 @@ const ROWS: &[TableRow] = &[
 
 #[test]
 fn rows_of_one_group(rt: HostRuntime) {
-    for row in ROWS {
-        check_row(&rt, rt.alloc(), *row);
-    }
+    check_rows(&rt, rt.alloc(), ROWS);
 }
 
 // The line of deliveries is cut off at its limit, and the last line brings the rest.
@@ -347,5 +408,5 @@ const FREE_CUT_SHORT: &[u8] =
 
 #[test]
 fn later_lines_run_after_one_that_is_cut_off(rt: HostRuntime) {
-    check_row(&rt, rt.alloc(), (FREE_CUT_SHORT, 6, FIRST_REPORT));
+    check_rows(&rt, rt.alloc(), &[(FREE_CUT_SHORT, 6, FIRST_REPORT)]);
 }

@@ -2,15 +2,13 @@
 
 use crate::gates::Open;
 use crate::ordinary_tests::scenario;
-use crate::replay_tests::{replayed, scenario_of};
-use crate::run_tests::{TableRow, check_row, ended};
+use crate::replay_tests::{Question, answers, scenario_of};
+use crate::run_tests::{TableRow, Wanted, check_rows, comes};
 use crate::thread_tests::add;
 use sc_actor::Journal;
 use sc_cmd::OrderLine;
-use sc_edges::MemSink;
 use sc_mail::Mail;
 use sc_map_checks::{covers, legal};
-use sc_run::Done;
 use sc_world::{World, decided_ring, history};
 use std::alloc::Global;
 use std::mem::forget;
@@ -53,9 +51,7 @@ const STORMS: &[TableRow] = &[
 
 #[test]
 fn storms_run_by_their_numbers(rt: HostRuntime) {
-    for row in STORMS {
-        check_row(&rt, rt.alloc(), *row);
-    }
+    check_rows(&rt, rt.alloc(), STORMS);
 }
 
 // Two groups merge in a storm, and then the node that led the first crashes.
@@ -158,56 +154,45 @@ const ORDINARY: &[(&[u8], &[u8])] = &[
     ),
 ];
 
-// Whether the ring that rows tell covers.
-fn has_ring(rt: &impl Abort, alloc: Global, world: &World<'_>) -> bool {
+/// Whether the ring that rows tell covers.
+pub fn has_cover(rt: &impl Abort, alloc: Global, world: &World<'_>) -> bool {
     let ring = decided_ring(alloc, world).expect(rt, "memory");
     covers(ring.as_slice())
 }
 
-// Whether the history that rows tell is legal.
-fn has_history(rt: &impl Abort, alloc: Global, world: &World<'_>) -> bool {
+/// Whether the history that rows tell is legal.
+pub fn has_legal(rt: &impl Abort, alloc: Global, world: &World<'_>) -> bool {
     let entries = history(alloc, world).expect(rt, "memory");
     let is_legal = legal(alloc, entries.as_slice()).expect(rt, "memory");
     forget(entries);
     is_legal
 }
 
-// Whether a replay takes the rows, and their ring and history are well.
-fn is_sound(
+/// Whether a replay takes the rows, and their ring and history are well.
+pub fn is_sound(
     rt: &impl Abort,
     alloc: Global,
     input: &[u8],
     journal: &Journal<Mail, OrderLine>,
 ) -> bool {
     let scenario = scenario_of(rt, alloc, input);
-    let world = replayed(rt, alloc, &scenario, journal);
-    let is_sound = has_ring(rt, alloc, &world) && has_history(rt, alloc, &world);
-    forget(world);
+    let is_sound = answers(rt, alloc, &scenario, journal, Question::Sound);
     forget(scenario);
     is_sound
 }
 
-// Whether a run ended settled, and its journal is sound.
-fn is_ended(rt: &impl Abort, alloc: Global, input: &[u8], done: &Done) -> bool {
-    match &done.journal {
-        Some(journal) => done.status == 0 && is_sound(rt, alloc, input, journal),
-        None => false,
-    }
-}
-
-// Whether a run of an input ends settled and is sound, and its report ends so.
-fn ends_so<R: Abort + Threads + Wait + Sync>(
+// Two runs of an input end settled and are sound, and their reports end so.
+fn check_twice<R: Abort + Threads + Wait + Sync>(
     rt: &R,
     alloc: Global,
-    input: &[u8],
+    input: Vec<u8>,
     end: &[u8],
-) -> bool {
-    let mut sink = MemSink::new(alloc, 2000, &[]).expect(rt, "memory");
-    let done = ended(rt, alloc, "run", (input, 0), &mut sink, &Open);
-    let is_so = is_ended(rt, alloc, input, &done) && sink.held().ends_with(end);
-    forget(done);
-    forget(sink);
-    is_so
+) {
+    let given = ("run", input.as_slice(), 0, 0);
+    let first = comes(rt, alloc, given, Wanted::Sound(end), &Open);
+    let second = comes(rt, alloc, given, Wanted::Sound(end), &Open);
+    forget(input);
+    assert!(rt; first && second);
 }
 
 // The merge, with this line of a storm.
@@ -223,8 +208,7 @@ fn crash_in(rt: &impl Abort, alloc: Global, storm: &[u8]) -> Vec<u8> {
 fn a_merge_in_a_storm_is_the_same_each_time(rt: HostRuntime) {
     for (storm, end) in CRASHES {
         let input = crash_in(&rt, rt.alloc(), storm);
-        assert!(rt; ends_so(&rt, rt.alloc(), &input, end));
-        assert!(rt; ends_so(&rt, rt.alloc(), &input, end));
+        check_twice(&rt, rt.alloc(), input, end);
     }
 }
 
@@ -232,7 +216,6 @@ fn a_merge_in_a_storm_is_the_same_each_time(rt: HostRuntime) {
 fn ordinary_use_in_a_storm_is_the_same_each_time(rt: HostRuntime) {
     for (storm, end) in ORDINARY {
         let input = scenario(&rt, rt.alloc(), storm);
-        assert!(rt; ends_so(&rt, rt.alloc(), &input, end));
-        assert!(rt; ends_so(&rt, rt.alloc(), &input, end));
+        check_twice(&rt, rt.alloc(), input, end);
     }
 }

@@ -1,10 +1,8 @@
 //! Lines of many deliveries, which several workers make.
 
 use crate::gates::Open;
-use crate::replay_tests::named;
-use crate::run_tests::ended;
+use crate::run_tests::{Wanted, comes};
 use sc_actor::Gate;
-use sc_edges::MemSink;
 use std::alloc::Global;
 use std::mem::forget;
 use std::process::Abort;
@@ -108,36 +106,29 @@ fn input_of(rt: &impl Abort, alloc: Global, case: Case, workers: &[u8]) -> Vec<u
     text
 }
 
-/// Whether a run ends settled, its report begins so, and its journal is lawful.
-pub fn runs_so<R: Abort + Threads + Wait + Sync>(
-    rt: &R,
-    alloc: Global,
-    input: &[u8],
-    begins: &[u8],
-) -> bool {
-    let mut sink = MemSink::new(alloc, 2000, &[]).expect(rt, "memory");
-    let done = ended(rt, alloc, "run", (input, 0), &mut sink, &Open);
-    let is_so = done.status == 0 && sink.held().starts_with(begins);
-    let is_lawful = match &done.journal {
-        Some(journal) => named(rt, alloc, input, journal) == 0,
-        None => false,
-    };
-    forget(done);
-    forget(sink);
-    is_so && is_lawful
-}
-
 const WORKERS: &[&[u8]] = &[b"1", b"2", b"4", b"8", b"16"];
 
-/// Whether the replies of a case are the same with any number of workers.
-pub fn is_same<R: Abort + Threads + Wait + Sync>(rt: &R, alloc: Global, case: Case) -> bool {
-    for workers in WORKERS {
-        let input = input_of(rt, alloc, case, workers);
-        if !runs_so(rt, alloc, &input, case.2) {
-            return false;
+// Whether a case runs so with that many workers.
+fn runs_with<R: Abort + Threads + Wait + Sync>(
+    rt: &R,
+    alloc: Global,
+    case: Case,
+    workers: &[u8],
+) -> bool {
+    let input = input_of(rt, alloc, case, workers);
+    let given = ("run", input.as_slice(), 0, 0);
+    let runs_so = comes(rt, alloc, given, Wanted::Lawful(case.2), &Open);
+    forget(input);
+    runs_so
+}
+
+/// The replies of each case are the same with any number of workers.
+pub fn check_same<R: Abort + Threads + Wait + Sync>(rt: &R, alloc: Global, cases: &[Case]) {
+    for case in cases {
+        for workers in WORKERS {
+            assert!(rt; runs_with(rt, alloc, *case, workers));
         }
     }
-    true
 }
 
 const CASES: &[Case] = &[
@@ -156,9 +147,7 @@ const CASES: &[Case] = &[
 
 #[test]
 fn replies_do_not_depend_on_the_number_of_workers(rt: HostRuntime) {
-    for case in CASES {
-        assert!(rt; is_same(&rt, rt.alloc(), *case));
-    }
+    check_same(&rt, rt.alloc(), CASES);
 }
 
 // Holds node 1 and node 2, each in its first pass of the line of deliveries until the other has
@@ -222,12 +211,9 @@ fn is_passed<R: Abort + Threads + Wait + Sync>(
     report: &[u8],
     gate: &Pair,
 ) -> bool {
-    let mut sink = MemSink::new(alloc, 1000, &[]).expect(rt, "memory");
-    let done = ended(rt, alloc, "run", (input, 0), &mut sink, gate);
+    let wanted = Wanted::Exactly(0, true, report);
+    let is_so = comes(rt, alloc, ("run", input, 0, 0), wanted, gate);
     let came = gate.first.load(Ordering::SeqCst) >= 2 && gate.second.load(Ordering::SeqCst) >= 1;
-    let is_so = done.status == 0 && sink.held() == report;
-    forget(done);
-    forget(sink);
     is_so && came
 }
 

@@ -1,7 +1,7 @@
 //! Runs in which groups are divided, merged and moved, and one in which a merge is given up. What
 //! their rows tell in the end is as a second implementation of the rules tells it: the decided
 //! ring, which covers, the history, which is legal, and the effective record of each group.
-use crate::replay_tests::{played, replayed, scenario_of};
+use crate::replay_tests::{Question, tells};
 use sc_base::Draw;
 use sc_cmd::Base;
 use sc_entries::Cut;
@@ -31,9 +31,9 @@ const LATE: u32 = 3_000_000_000;
 // A position before that of the key a.
 const BEFORE_A: u32 = 1_610_612_736;
 
-// A group of the decided ring: the beginning and the length of its cut, and of its effective record
-// the neighbours, the members, and how many pairs it holds.
-struct Told {
+/// A group of the decided ring: the beginning and the length of its cut, and of its effective record
+/// the neighbours, the members, and how many pairs it holds.
+pub struct Told {
     group: Draw,
     lo: u32,
     len: u64,
@@ -318,53 +318,57 @@ fn has_records(rt: &impl Abort, alloc: Global, world: &World<'_>, tolds: &[Told]
     true
 }
 
+/// Whether a world tells the groups and as many requests.
+pub fn has_groups(
+    rt: &impl Abort,
+    alloc: Global,
+    world: &World<'_>,
+    tolds: &[Told],
+    count: usize,
+) -> bool {
+    has_ring(rt, alloc, world, tolds)
+        && has_records(rt, alloc, world, tolds)
+        && has_history(rt, alloc, world, count)
+}
+
 // Whether the rows of a run tell the groups and as many requests.
-fn tells<R: Abort + Threads + Wait + Sync>(rt: &R, alloc: Global, case: &Case) -> bool {
+fn leaves<R: Abort + Threads + Wait + Sync>(rt: &R, alloc: Global, case: &Case) -> bool {
     let (input, tolds, count) = *case;
-    let scenario = scenario_of(rt, alloc, input);
-    let journal = played(rt, alloc, &scenario);
-    let world = replayed(rt, alloc, &scenario, &journal);
-    let ring = has_ring(rt, alloc, &world, tolds);
-    let records = has_records(rt, alloc, &world, tolds);
-    let history = has_history(rt, alloc, &world, count);
-    forget(world);
-    forget(journal);
-    forget(scenario);
-    ring && records && history
+    tells(rt, alloc, input, Question::Groups(tolds, count))
 }
 
 #[test]
 fn a_lone_group_that_is_divided_leaves_two(rt: HostRuntime) {
-    assert!(rt; tells(&rt, rt.alloc(), &SPLIT));
+    assert!(rt; leaves(&rt, rt.alloc(), &SPLIT));
 }
 
 #[test]
 fn two_groups_that_merge_leave_one(rt: HostRuntime) {
-    assert!(rt; tells(&rt, rt.alloc(), &MERGE));
+    assert!(rt; leaves(&rt, rt.alloc(), &MERGE));
 }
 
 #[test]
 fn a_node_that_moves_on_changes_no_cut(rt: HostRuntime) {
-    assert!(rt; tells(&rt, rt.alloc(), &MIGRATE));
+    assert!(rt; leaves(&rt, rt.alloc(), &MIGRATE));
 }
 
 #[test]
 fn a_moved_boundary_counts_before_the_other_group_hears(rt: HostRuntime) {
-    assert!(rt; tells(&rt, rt.alloc(), &REPART));
+    assert!(rt; leaves(&rt, rt.alloc(), &REPART));
 }
 
 #[test]
 fn a_merge_that_is_given_up_changes_nothing(rt: HostRuntime) {
-    assert!(rt; tells(&rt, rt.alloc(), &GIVEN_UP));
+    assert!(rt; leaves(&rt, rt.alloc(), &GIVEN_UP));
 }
 
 #[test]
 fn a_watched_split_and_a_watched_merge_count_before_the_watcher_hears(rt: HostRuntime) {
-    assert!(rt; tells(&rt, rt.alloc(), &WATCHED_SPLIT));
-    assert!(rt; tells(&rt, rt.alloc(), &WATCHED_MERGE));
+    assert!(rt; leaves(&rt, rt.alloc(), &WATCHED_SPLIT));
+    assert!(rt; leaves(&rt, rt.alloc(), &WATCHED_MERGE));
 }
 
 #[test]
 fn a_boundary_moves_both_ways(rt: HostRuntime) {
-    assert!(rt; tells(&rt, rt.alloc(), &REPART_UPWARD));
+    assert!(rt; leaves(&rt, rt.alloc(), &REPART_UPWARD));
 }

@@ -1,8 +1,8 @@
 //! Splits and transactions between groups, through a whole run: worked rows with their reports, and
 //! groups that split and merge while several workers deliver.
 
-use crate::run_tests::{TableRow, check_row};
-use crate::thread_tests::{Case, is_same};
+use crate::run_tests::{TableRow, check_rows};
+use crate::thread_tests::{Case, check_same};
 
 // A call that the parent did is asked again after a split: the child's client answers it as before.
 const REPEAT_AFTER_SPLIT: &[u8] =
@@ -163,9 +163,7 @@ const ROWS: &[TableRow] = &[
 
 #[test]
 fn groups_split_merge_move_a_boundary_and_hand_over_a_member(rt: HostRuntime) {
-    for row in ROWS {
-        check_row(&rt, rt.alloc(), *row);
-    }
+    check_rows(&rt, rt.alloc(), ROWS);
 }
 
 const POLICY_SPLITS: &[u8] =
@@ -197,9 +195,7 @@ const POLICY_ROWS: &[TableRow] = &[
 
 #[test]
 fn with_a_policy_leaders_split_and_merge_their_groups(rt: HostRuntime) {
-    for row in POLICY_ROWS {
-        check_row(&rt, rt.alloc(), *row);
-    }
+    check_rows(&rt, rt.alloc(), POLICY_ROWS);
 }
 
 // Two groups, a client of each, and orders of which one may refuse the other; then a line of
@@ -232,7 +228,5 @@ const BUSY: &[Case] = &[
 
 #[test]
 fn replies_stand_while_groups_split_and_merge_under_several_workers(rt: HostRuntime) {
-    for case in BUSY {
-        assert!(rt; is_same(&rt, rt.alloc(), *case));
-    }
+    check_same(&rt, rt.alloc(), BUSY);
 }

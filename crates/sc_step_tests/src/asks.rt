@@ -93,13 +93,10 @@ fn boxed<T: Drop>(rt: &impl Abort, alloc: Global, value: T) -> Boxed<T> {
 pub(crate) fn command(rt: &impl Abort, alloc: Global, ask: Ask) -> Command {
     match ask {
         Ask::Put(seq, key) => put(rt, alloc, seq, key),
-        Ask::Prepared(lo, members, body) => {
-            assert!(rt; members <= 9);
-            Command::Prepared {
-                tx: TX,
-                offer: boxed(rt, alloc, offer(rt, lo, members, body)),
-            }
-        }
+        Ask::Prepared(lo, members, body) => Command::Prepared {
+            tx: TX,
+            offer: boxed(rt, alloc, offer(rt, lo, members, body)),
+        },
         Ask::Watched(old) => Command::Watched {
             tx: TX,
             watch: boxed(rt, alloc, watch(old)),
@@ -129,7 +126,7 @@ pub(crate) fn command(rt: &impl Abort, alloc: Global, ask: Ask) -> Command {
 }
 
 // An effect in brief.
-#[derive(Clone, Copy, Debug, PartialEq)]
+#[derive(Clone, Copy, PartialEq)]
 pub(crate) enum Was {
     // Done, and the key had no value; and where it had one.
     Done,

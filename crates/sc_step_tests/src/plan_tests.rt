@@ -1,3 +1,4 @@
+use crate::starts::nodes;
 use sc_base::{Draw, Pairs, RingArc, SeenList, Sequence};
 use sc_cmd::{Body, Command, Core, Frozen, Link, Lock, No, Offer, same_draw};
 use sc_member::Members;
@@ -17,17 +18,6 @@ const TX: Draw = Draw { node: 1, count: 1 };
 
 // The middle of the ring.
 const MIDDLE: u32 = 2147483648;
-
-// The nodes from `first` to `last`.
-fn nodes(rt: &impl Abort, first: u16, last: u16) -> Members {
-    let mut members = Members::one(first);
-    for node in first..=last {
-        if node != first {
-            members.add(node).expect(rt, "a node more");
-        }
-    }
-    members
-}
 
 fn half_arc(rt: &impl Abort, lo: u32) -> RingArc {
     RingArc::try_new(lo, MIDDLE as u64).expect(rt, "half the ring")
@@ -161,10 +151,12 @@ fn begin_code(core: &Core, body: Body) -> u8 {
         body,
         order: 1,
     };
-    match check(core, &command) {
+    let code = match check(core, &command) {
         Ok(()) => 0,
         Err(why) => why.code(),
-    }
+    };
+    forget(command);
+    code
 }
 
 #[test]
@@ -184,7 +176,7 @@ fn transactions_are_refused_at_the_ends_and_for_members(rt: HostRuntime) {
 
 // The word for a vote on a merge with a group of the members 1 to 5.
 fn merge_vote(rt: &impl Abort, core: &Core) -> &'static str {
-    let offer = offer(rt, nodes(rt, 1, 5), Body::Merge);
+    let offer = offer(rt, nodes(1, 5), Body::Merge);
     match vote(core, &offer) {
         Ok(()) => "yes",
         Err(No::Busy { tx }) => if same_draw(tx, TX) {
@@ -200,7 +192,7 @@ fn merge_vote(rt: &impl Abort, core: &Core) -> &'static str {
 
 // The word of a free group of these members.
 fn free_vote(rt: &impl Abort, alloc: Global, lo: u32, first: u16, last: u16) -> &'static str {
-    let core = half(rt, alloc, lo, nodes(rt, first, last));
+    let core = half(rt, alloc, lo, nodes(first, last));
     let word = merge_vote(rt, &core);
     forget(core);
     word
@@ -208,9 +200,13 @@ fn free_vote(rt: &impl Abort, alloc: Global, lo: u32, first: u16, last: u16) -> 
 
 #[test]
 fn votes(rt: HostRuntime) {
-    assert!(rt; free_vote(&rt, rt.alloc(), MIDDLE, 6, 10) == "ten");
-    assert!(rt; free_vote(&rt, rt.alloc(), MIDDLE, 5, 9) == "yes");
-    assert!(rt; free_vote(&rt, rt.alloc(), 5, 5, 9) == "apart");
+    for (lo, first, last, word) in [
+        (MIDDLE, 6, 10, "ten"),
+        (MIDDLE, 5, 9, "yes"),
+        (5, 5, 9, "apart"),
+    ] {
+        assert!(rt; free_vote(&rt, rt.alloc(), lo, first, last) == word);
+    }
 }
 
 // A group that is promised to a transaction.
@@ -219,7 +215,7 @@ fn promised(rt: &impl Abort, alloc: Global) -> Core {
         tx: TX,
         offer: offer(rt, Members::one(1), Body::Merge),
     };
-    core_on(alloc, half_arc(rt, MIDDLE), nodes(rt, 5, 9), lock)
+    core_on(alloc, half_arc(rt, MIDDLE), nodes(5, 9), lock)
 }
 
 #[test]
@@ -247,8 +243,8 @@ fn merged(
 }
 
 fn merged_halves(rt: &impl Abort, alloc: Global) -> (RingArc, Members, Link) {
-    let core = half(rt, alloc, 0, nodes(rt, 1, 5));
-    let frozen = other_half(rt, alloc, nodes(rt, 5, 9));
+    let core = half(rt, alloc, 0, nodes(1, 5));
+    let frozen = other_half(rt, alloc, nodes(5, 9));
     let merged = merged(rt, alloc, &core, &frozen);
     forget(core);
     forget(frozen);
@@ -259,7 +255,7 @@ fn merged_halves(rt: &impl Abort, alloc: Global) -> (RingArc, Members, Link) {
 fn a_merge_closes_the_ring(rt: HostRuntime) {
     let (arc, members, succ) = merged_halves(&rt, rt.alloc());
     assert!(rt; place(arc) == (0, 0x1_0000_0000));
-    assert!(rt; members == nodes(&rt, 1, 9) && succ.members == members);
+    assert!(rt; members == nodes(1, 9) && succ.members == members);
     assert!(rt; same_draw(succ.group, FIRST));
 }
 
@@ -274,12 +270,12 @@ fn migrated(rt: &impl Abort, alloc: Global, core: &Core, frozen: &Frozen) -> (Me
 
 #[test]
 fn a_member_moves_on(rt: HostRuntime) {
-    let core = half(&rt, rt.alloc(), 0, nodes(&rt, 1, 3));
-    let frozen = other_half(&rt, rt.alloc(), nodes(&rt, 4, 5));
+    let core = half(&rt, rt.alloc(), 0, nodes(1, 3));
+    let frozen = other_half(&rt, rt.alloc(), nodes(4, 5));
     let (left, joined) = migrated(&rt, rt.alloc(), &core, &frozen);
     let welcomed = welcomed_members(&core, 3);
     forget(core);
     forget(frozen);
-    assert!(rt; left == nodes(&rt, 1, 2) && joined == nodes(&rt, 3, 5));
-    assert!(rt; welcomed == Some(nodes(&rt, 1, 3)));
+    assert!(rt; left == nodes(1, 2) && joined == nodes(3, 5));
+    assert!(rt; welcomed == Some(nodes(1, 3)));
 }

@@ -23,7 +23,7 @@ fn has_counts(run: &Run, counts: Counts) -> bool {
         && run.told.as_slice() == told
 }
 
-fn plays_by(rt: &impl Abort, alloc: Global, policy: bool, case: Case) -> bool {
+fn plays(rt: &impl Abort, alloc: Global, policy: bool, case: Case) -> bool {
     let (nodes, groups, events, counts) = case;
     let run = played(rt, alloc, nodes, groups, policy, events);
     let plays = has_counts(&run, counts);
@@ -31,8 +31,11 @@ fn plays_by(rt: &impl Abort, alloc: Global, policy: bool, case: Case) -> bool {
     plays
 }
 
-fn plays(rt: &impl Abort, alloc: Global, case: Case) -> bool {
-    plays_by(rt, alloc, false, case)
+// Plays each of these, with a policy or without.
+fn all_play(rt: &impl Abort, alloc: Global, policy: bool, cases: &[Case]) {
+    for case in cases {
+        assert!(rt; plays(rt, alloc, policy, *case));
+    }
 }
 
 const QUARTER: u64 = 1 << 30;
@@ -199,33 +202,35 @@ const SPLIT_WITH_WATCHER: Case = (
     (18, 19, 17, &[(1, Came::Committed), (1, Came::Committed)]),
 );
 
+const MERGES: &[Case] = &[MERGE_TWO, CROSSED_MERGES, MERGE_WITH_WATCHER];
+
 #[test]
 fn merges(rt: HostRuntime) {
-    assert!(rt; plays(&rt, rt.alloc(), MERGE_TWO));
-    assert!(rt; plays(&rt, rt.alloc(), CROSSED_MERGES));
-    assert!(rt; plays(&rt, rt.alloc(), MERGE_WITH_WATCHER));
+    all_play(&rt, rt.alloc(), false, MERGES);
 }
+
+const GIVEN_UP: &[Case] = &[GIVE_UP, GIVE_UP_TOO_LATE];
 
 #[test]
 fn a_coordinator_gives_up_at_the_eighth_tick(rt: HostRuntime) {
-    assert!(rt; plays(&rt, rt.alloc(), GIVE_UP));
-    assert!(rt; plays(&rt, rt.alloc(), GIVE_UP_TOO_LATE));
+    all_play(&rt, rt.alloc(), false, GIVEN_UP);
 }
 
 #[test]
 fn a_new_leader_ends_what_a_crashed_one_began(rt: HostRuntime) {
-    assert!(rt; plays(&rt, rt.alloc(), COORDINATOR_LEADER_CRASH));
+    all_play(&rt, rt.alloc(), false, &[COORDINATOR_LEADER_CRASH]);
 }
+
+const MIGRATE_AND_SPLIT: &[Case] = &[MIGRATE, SPLIT_WITH_WATCHER];
 
 #[test]
 fn a_node_migrates_and_a_group_splits(rt: HostRuntime) {
-    assert!(rt; plays(&rt, rt.alloc(), MIGRATE));
-    assert!(rt; plays(&rt, rt.alloc(), SPLIT_WITH_WATCHER));
+    all_play(&rt, rt.alloc(), false, MIGRATE_AND_SPLIT);
 }
 
 #[test]
 fn orders_are_refused(rt: HostRuntime) {
-    assert!(rt; plays(&rt, rt.alloc(), ORDER_REFUSALS));
+    all_play(&rt, rt.alloc(), false, &[ORDER_REFUSALS]);
 }
 
 const CROWDED: &[Place] = &[(0, 1 << 32, &[1, 2, 3, 4, 5, 6, 7, 8])];
@@ -251,18 +256,19 @@ const NO_POLICY: Case = (
     (1, 0, 0, &[]),
 );
 
+const POLICIES: &[Case] = &[POLICY_SPLIT, POLICY_MERGE];
+
 // Of the orders that a policy makes nothing is told.
 #[test]
 fn a_policy_splits_and_merges(rt: HostRuntime) {
-    assert!(rt; plays_by(&rt, rt.alloc(), true, POLICY_SPLIT));
-    assert!(rt; plays_by(&rt, rt.alloc(), true, POLICY_MERGE));
-    assert!(rt; plays(&rt, rt.alloc(), NO_POLICY));
+    all_play(&rt, rt.alloc(), true, POLICIES);
+    all_play(&rt, rt.alloc(), false, &[NO_POLICY]);
 }
 
 // An order is begun or refused as without a policy: at its tick the group is locked.
 #[test]
 fn a_policy_leaves_a_locked_group_alone(rt: HostRuntime) {
-    assert!(rt; plays_by(&rt, rt.alloc(), true, GIVE_UP));
+    all_play(&rt, rt.alloc(), true, &[GIVE_UP]);
 }
 
 // The mails of transactions.
@@ -319,6 +325,12 @@ fn says(rt: &impl Abort, alloc: Global, case: Case, said: &[Said]) -> bool {
     says
 }
 
+fn all_say(rt: &impl Abort, alloc: Global, cases: &[(Case, &[Said])]) {
+    for (case, said) in cases {
+        assert!(rt; says(rt, alloc, *case, said));
+    }
+}
+
 // Node 3 leads the participant, which its coordinator does not know.
 const LED_ELSEWHERE: Case = (
     3,
@@ -332,54 +344,48 @@ const LED_ELSEWHERE: Case = (
     (27, 26, 25, &[(1, Came::Committed)]),
 );
 
+const SAID: &[(Case, &[Said])] = &[
+    (
+        MERGE_WITH_WATCHER,
+        &[
+            (Word::Prepare, 1, 2),
+            (Word::Vote, 2, 1),
+            (Word::Watch, 1, 3),
+            (Word::Watched, 3, 1),
+            (Word::Outcome, 1, 2),
+            (Word::Outcome, 1, 3),
+        ],
+    ),
+    (
+        LED_ELSEWHERE,
+        &[
+            (Word::Prepare, 1, 2),
+            (Word::Elsewhere, 2, 1),
+            (Word::Prepare, 1, 3),
+            (Word::Vote, 3, 1),
+            (Word::Outcome, 1, 3),
+        ],
+    ),
+];
+
 #[test]
 fn parties_say_what_they_should(rt: HostRuntime) {
-    assert!(rt;
-        says(
-            &rt,
-            rt.alloc(),
-            MERGE_WITH_WATCHER,
-            &[
-                (Word::Prepare, 1, 2),
-                (Word::Vote, 2, 1),
-                (Word::Watch, 1, 3),
-                (Word::Watched, 3, 1),
-                (Word::Outcome, 1, 2),
-                (Word::Outcome, 1, 3),
-            ]
-        )
-    );
-    assert!(rt;
-        says(
-            &rt,
-            rt.alloc(),
-            LED_ELSEWHERE,
-            &[
-                (Word::Prepare, 1, 2),
-                (Word::Elsewhere, 2, 1),
-                (Word::Prepare, 1, 3),
-                (Word::Vote, 3, 1),
-                (Word::Outcome, 1, 3),
-            ]
-        )
-    );
+    all_say(&rt, rt.alloc(), SAID);
 }
+
+const SAID_AGAIN: &[(Case, &[Said])] = &[(
+    COORDINATOR_LEADER_CRASH,
+    &[
+        (Word::Prepare, 1, 4),
+        (Word::Vote, 4, 1),
+        (Word::Vote, 4, 1),
+        (Word::Vote, 4, 2),
+        (Word::Vote, 4, 3),
+        (Word::Outcome, 2, 4),
+    ],
+)];
 
 #[test]
 fn parties_say_it_again(rt: HostRuntime) {
-    assert!(rt;
-        says(
-            &rt,
-            rt.alloc(),
-            COORDINATOR_LEADER_CRASH,
-            &[
-                (Word::Prepare, 1, 4),
-                (Word::Vote, 4, 1),
-                (Word::Vote, 4, 1),
-                (Word::Vote, 4, 2),
-                (Word::Vote, 4, 3),
-                (Word::Outcome, 2, 4),
-            ]
-        )
-    );
+    all_say(&rt, rt.alloc(), SAID_AGAIN);
 }

@@ -1,6 +1,4 @@
 //! Groups that the lines of the machine's table are tried on.
-ghost use Rattle.std.specs.Prelude.{◌+◌, ◌<◌};
-
 use sc_base::{Draw, Noted, Pairs, Reply, RingArc, SeenList, Sequence};
 use sc_cmd::{Base, Body, Core, Frozen, Heard, Link, Lock, Offer, Outcome, Past, Route, Watch};
 use sc_machine::Machine;
@@ -71,13 +69,11 @@ fn begun_of(start: Start) -> u32 {
     }
 }
 
-// So many nodes from `first` on.
-fn nodes(rt: &impl Abort, first: u16, count: u16) -> Members
-    requires { first + count < 100 }
-{
+// The nodes from `first` to `last`; `first` alone where that is no set.
+pub(crate) fn nodes(first: u16, last: u16) -> Members {
     let mut members = Members::one(first);
-    for node in first + 1..first + count {
-        members.add(node).expect(rt, "a node more");
+    for node in first.saturating_add(1)..=last {
+        let _ = members.add(node);
     }
     members
 }
@@ -92,7 +88,7 @@ fn link(group: Draw, members: Members) -> Link {
 
 // The group after this one, of the nodes 11 and 12, when it was frozen.
 pub(crate) fn frozen(rt: &impl Abort, alloc: Global, succ: Draw) -> Frozen {
-    let members = nodes(rt, 11, 2);
+    let members = nodes(11, 12);
     Frozen {
         arc: arc(rt, D),
         members,
@@ -103,14 +99,12 @@ pub(crate) fn frozen(rt: &impl Abort, alloc: Global, succ: Draw) -> Frozen {
 }
 
 // The offer of the group before this one, whose arc starts at `lo` and has so many members.
-pub(crate) fn offer(rt: &impl Abort, lo: u32, members: u16, body: Body) -> Offer
-    requires { members < 80 }
-{
+pub(crate) fn offer(rt: &impl Abort, lo: u32, members: u16, body: Body) -> Offer {
     Offer {
         coord: LAST,
         part: GROUP,
         arc: arc(rt, lo),
-        members: nodes(rt, 11, members),
+        members: nodes(11, members.saturating_add(10)),
         body,
         by: 11,
     }
@@ -162,36 +156,62 @@ fn lock_of(rt: &impl Abort, alloc: Global, start: Start) -> Lock {
     }
 }
 
-fn core(alloc: Global, start: Start, arc: RingArc, members: Members, lock: Lock) -> Core {
-    Core {
-        id: GROUP,
-        first: 1,
-        arc,
-        members,
-        succ: link(succ_of(start), members),
-        pred: link(LAST, members),
-        lock,
-        begun: begun_of(start),
-        decided: Sequence::new(alloc),
-        voted: Sequence::new(alloc),
-        born: Sequence::new(alloc),
-        gone: None,
+// The list of one item where the group starts so that it has it, and else of none.
+fn one<T: Drop>(rt: &impl Abort, alloc: Global, item: Option<T>) -> Sequence<T> {
+    let mut list = Sequence::new(alloc);
+    if let Some(item) = item {
+        list.push(item).expect(rt, "memory");
+    }
+    list
+}
+
+fn born_of(start: Start) -> Option<Draw> {
+    match start {
+        Start::Born => Some(TX),
+        _ => None,
     }
 }
 
-fn remember(rt: &impl Abort, core: &mut Core, start: Start) {
+fn decided_of(start: Start) -> Option<(Draw, Outcome)> {
     match start {
-        Start::Gone => {
-            core.gone = Some(Route {
-                group: LAST,
-                lo: 0,
-                members: core.members,
-            });
-        }
-        Start::Born => core.born.push(TX).expect(rt, "memory"),
-        Start::Decided => core.decided.push((TX, Outcome::Abort)).expect(rt, "memory"),
-        Start::Voted => core.voted.push((TX, Past::Yes)).expect(rt, "memory"),
-        _ => {}
+        Start::Decided => Some((TX, Outcome::Abort)),
+        _ => None,
+    }
+}
+
+fn voted_of(start: Start) -> Option<(Draw, Past)> {
+    match start {
+        Start::Voted => Some((TX, Past::Yes)),
+        _ => None,
+    }
+}
+
+fn gone_of(start: Start, members: Members) -> Option<Route> {
+    match start {
+        Start::Gone => Some(Route {
+            group: LAST,
+            lo: 0,
+            members,
+        }),
+        _ => None,
+    }
+}
+
+fn core(rt: &impl Abort, alloc: Global, start: Start) -> Core {
+    let members = nodes(1, members_of(start));
+    Core {
+        id: GROUP,
+        first: 1,
+        arc: arc(rt, B),
+        members,
+        succ: link(succ_of(start), members),
+        pred: link(LAST, members),
+        lock: lock_of(rt, alloc, start),
+        begun: begun_of(start),
+        decided: one(rt, alloc, decided_of(start)),
+        voted: one(rt, alloc, voted_of(start)),
+        born: one(rt, alloc, born_of(start)),
+        gone: gone_of(start, members),
     }
 }
 
@@ -208,19 +228,9 @@ fn clients(rt: &impl Abort, alloc: Global, start: Start) -> SeenList {
     clients
 }
 
-fn started(rt: &impl Abort, alloc: Global, start: Start) -> Core {
-    let count = members_of(start);
-    assert!(rt; count <= 9);
-    let members = nodes(rt, 1, count);
-    let lock = lock_of(rt, alloc, start);
-    let mut core = core(alloc, start, arc(rt, B), members, lock);
-    remember(rt, &mut core, start);
-    core
-}
-
 pub(crate) fn machine(rt: &impl Abort, alloc: Global, start: Start) -> Machine {
     let base = Base {
-        core: started(rt, alloc, start),
+        core: core(rt, alloc, start),
         pairs: Pairs::new(alloc),
         clients: clients(rt, alloc, start),
     };

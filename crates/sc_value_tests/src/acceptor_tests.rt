@@ -21,27 +21,29 @@ fn answer(
     acceptor.on_accept(ballot, slot, value)
 }
 
-/// The promise that the acceptor tells where it ignores a ballot.
-fn told(answer: &PrepareAnswer<u32>) -> Option<Ballot> {
-    match answer {
+/// The promise that the acceptor, which has forgotten nothing, tells where it ignores a ballot.
+fn told(rt: &impl Abort, acceptor: &mut Acceptor<u32>, ballot: Ballot) -> Option<Ballot> {
+    assert!(rt; acceptor.floor() == 0);
+    let answer = acceptor.on_prepare(ballot, 1).expect(rt, "memory");
+    let told = match &answer {
         PrepareAnswer::Promise { reports: _ } => None,
         PrepareAnswer::Ignored { promised } => Some(*promised),
-    }
+    };
+    forget(answer);
+    told
 }
 
 #[test]
 fn a_promise_binds(rt: HostRuntime) {
     let promised = ballot(2, 2);
     let mut acceptor: Acceptor<u32> = Acceptor::born(rt.alloc(), promised);
-    assert!(rt; acceptor.floor() == 0);
-    let ignored = acceptor.on_prepare(promised, 1).expect(&rt, "memory");
-    assert!(rt; told(&ignored) == Some(promised));
-    forget(ignored);
-    let refused = AcceptAnswer::Ignored { promised };
-    assert!(rt; answer(&rt, &mut acceptor, ballot(1, 9), 1, 10) == refused);
-    assert!(rt; answer(&rt, &mut acceptor, promised, 1, 10) == AcceptAnswer::Accepted);
-    assert!(rt; acceptor.promised() == promised);
+    let told = told(&rt, &mut acceptor, promised);
+    let lower = answer(&rt, &mut acceptor, ballot(1, 9), 1, 10);
+    let same = answer(&rt, &mut acceptor, promised, 1, 10);
+    let kept = acceptor.promised();
     forget(acceptor);
+    assert!(rt; told == Some(promised) && kept == promised);
+    assert!(rt; lower == AcceptAnswer::Ignored { promised } && same == AcceptAnswer::Accepted);
 }
 
 /// Slots, rounds of node 1, and values.
@@ -78,8 +80,9 @@ fn what_was_accepted_last_is_reported_by_slot(rt: HostRuntime) {
     assert!(rt; acceptor.floor() == 1);
     let promise = acceptor.on_prepare(ballot(3, 1), 2).expect(&rt, "memory");
     let wanted = [report(2, 2, 21), report(3, 1, 30), report(5, 2, 50)];
-    assert!(rt; is_promise(&promise, &wanted));
-    assert!(rt; acceptor.promised() == ballot(3, 1));
+    let is_promise = is_promise(&promise, &wanted);
+    let promised = acceptor.promised();
     forget(promise);
     forget(acceptor);
+    assert!(rt; is_promise && promised == ballot(3, 1));
 }

@@ -100,9 +100,10 @@ fn an_actor_makes_a_row(rt: HostRuntime) {
         actor: Relay { size: 7 },
     };
     let mut journal = Journal::new(rt.alloc());
-    assert!(rt; first_row(&rt, rt.alloc(), &mut seat, &Open, &mut journal) == 7);
-    assert!(rt; journal.len() == 1);
+    let weight = first_row(&rt, rt.alloc(), &mut seat, &Open, &mut journal);
+    let rows = journal.len();
     forget(journal);
+    assert!(rt; weight == 7 && rows == 1);
     journals_grow::<Relay>();
     lawful_journals_grow::<Relay>();
     next_rows_are_steps::<Relay>();

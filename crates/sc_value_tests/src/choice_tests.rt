@@ -1,5 +1,6 @@
 use crate::leader_tests::{Told, reports};
-use sc_base::{Ballot, Dup};
+use crate::values::is_copied;
+use sc_base::Ballot;
 use sc_leader::pick;
 use sc_paxos_words::{Report, acceptors_never_fall, choice_is_first_highest};
 use std::alloc::Global;
@@ -16,8 +17,11 @@ fn picked(rt: &impl Abort, alloc: Global, slot: u32, rows: &[Told]) -> Option<u3
 #[test]
 fn the_highest_ballot_of_the_slot_is_picked(rt: HostRuntime) {
     let rows = [(3, 1, 1, 10), (3, 2, 2, 20), (4, 5, 1, 30)];
-    assert!(rt; picked(&rt, rt.alloc(), 3, &rows) == Some(20));
-    assert!(rt; picked(&rt, rt.alloc(), 5, &rows) == None);
+    let picked = [
+        picked(&rt, rt.alloc(), 3, &rows),
+        picked(&rt, rt.alloc(), 5, &rows),
+    ];
+    assert!(rt; picked == [Some(20), None]);
 }
 
 #[test]
@@ -33,10 +37,7 @@ fn reports_are_copied(rt: HostRuntime) {
         ballot: Ballot { round: 2, node: 7 },
         value: 40,
     };
-    let copy = report.dup(rt.alloc()).expect(&rt, "memory");
-    assert!(rt; copy == report);
-    forget(copy);
-    forget(report);
+    assert!(rt; is_copied(&rt, rt.alloc(), report));
     choice_is_first_highest::<u32>();
     acceptors_never_fall::<u32>();
 }

@@ -1,14 +1,24 @@
-use crate::values::{tells, value};
-use sc_base::{Noted, Reply, SeenList};
+use crate::values::{reply, seen, tells};
 use sc_clients::{ClientTable, Seen};
 use std::alloc::Global;
 use std::mem::forget;
 use std::process::Abort;
 
-fn reply(rt: &impl Abort, alloc: Global, bytes: &[u8]) -> Reply {
-    Reply {
-        old: Some(value(rt, alloc, bytes)),
-    }
+/// What is done with a table of clients, and what it answers.
+#[derive(Clone, Copy)]
+enum Step {
+    /// A client's request is so.
+    Is(u16, u32, Seen),
+    /// A request is noted, which is new, with a reply that tells these bytes.
+    Note(u16, u32, &'static [u8]),
+    /// A list of one client is joined, with its number and the reply `other`.
+    Join(u16, u32),
+    /// The reply that is noted for a client tells these bytes.
+    Has(u16, &'static [u8]),
+    /// No reply is noted for a client.
+    HasNone(u16),
+    /// So many clients are listed.
+    Lists(usize),
 }
 
 /// Notes a request, which is new.
@@ -19,12 +29,12 @@ fn note(
     (client, seq): (u16, u32),
     bytes: &[u8],
 ) {
-    let reply = reply(rt, alloc, bytes);
     assert!(rt; table.seen(client, seq) == Seen::New);
-    table.note(client, seq, reply).expect(rt, "memory");
+    table
+        .note(client, seq, reply(rt, alloc, bytes))
+        .expect(rt, "memory");
 }
 
-/// Whether the reply that is noted for a client tells these bytes.
 fn has(table: &ClientTable, client: u16, bytes: &[u8]) -> bool {
     match table.reply(client) {
         Some(reply) => tells(reply, Some(bytes)),
@@ -32,23 +42,8 @@ fn has(table: &ClientTable, client: u16, bytes: &[u8]) -> bool {
     }
 }
 
-#[test]
-fn requests_are_new_again_or_stale(rt: HostRuntime) {
-    let mut table = ClientTable::new(rt.alloc());
-    assert!(rt; table.reply(7).is_none());
-    note(&rt, rt.alloc(), &mut table, (7, 1), b"x");
-    assert!(rt; table.seen(7, 1) == Seen::Again);
-    note(&rt, rt.alloc(), &mut table, (7, 2), b"y");
-    assert!(rt; table.seen(7, 1) == Seen::Stale { last: 2 });
-    assert!(rt; has(&table, 7, b"y"));
-    forget(table);
-}
-
-/// Joins a list of one client, with its number and the reply `other`.
 fn join(rt: &impl Abort, alloc: Global, table: &mut ClientTable, client: u16, seq: u32) {
-    let mut list = SeenList::new(alloc);
-    let reply = reply(rt, alloc, b"other");
-    list.push(client, Noted { seq, reply }).expect(rt, "memory");
+    let list = seen(rt, alloc, client, seq, reply(rt, alloc, b"other"));
     table.join(&list).expect(rt, "memory");
     forget(list);
 }
@@ -60,21 +55,63 @@ fn length(rt: &impl Abort, table: &ClientTable) -> usize {
     length
 }
 
+fn is_step(rt: &impl Abort, alloc: Global, table: &mut ClientTable, step: Step) -> bool {
+    match step {
+        Step::Is(client, seq, answer) => table.seen(client, seq) == answer,
+        Step::Note(client, seq, bytes) => {
+            note(rt, alloc, table, (client, seq), bytes);
+            true
+        }
+        Step::Join(client, seq) => {
+            join(rt, alloc, table, client, seq);
+            true
+        }
+        Step::Has(client, bytes) => has(table, client, bytes),
+        Step::HasNone(client) => table.reply(client).is_none(),
+        Step::Lists(many) => length(rt, table) == many,
+    }
+}
+
+/// Takes these steps with a new table, one after another.
+fn come_true(rt: &impl Abort, alloc: Global, steps: &[Step]) {
+    let mut table = ClientTable::new(alloc);
+    for step in steps {
+        assert!(rt; is_step(rt, alloc, &mut table, *step));
+    }
+    forget(table);
+}
+
+const ASKED: &[Step] = &[
+    Step::HasNone(7),
+    Step::Note(7, 1, b"x"),
+    Step::Is(7, 1, Seen::Again),
+    Step::Note(7, 2, b"y"),
+    Step::Is(7, 1, Seen::Stale { last: 2 }),
+    Step::Has(7, b"y"),
+];
+
+#[test]
+fn requests_are_new_again_or_stale(rt: HostRuntime) {
+    come_true(&rt, rt.alloc(), ASKED);
+}
+
+const JOINED: &[Step] = &[
+    Step::Note(1, 5, b"own"),
+    Step::Note(2, 5, b"own"),
+    Step::Note(3, 5, b"own"),
+    Step::Join(1, 4),
+    Step::Join(2, 5),
+    Step::Join(3, 6),
+    Step::Join(4, 1),
+    Step::Has(1, b"own"),
+    Step::Has(2, b"own"),
+    Step::Has(3, b"other"),
+    Step::Has(4, b"other"),
+    Step::Is(1, 5, Seen::Again),
+    Step::Lists(4),
+];
+
 #[test]
 fn tables_join_by_the_greater_number(rt: HostRuntime) {
-    let mut table = ClientTable::new(rt.alloc());
-    note(&rt, rt.alloc(), &mut table, (1, 5), b"own");
-    note(&rt, rt.alloc(), &mut table, (2, 5), b"own");
-    note(&rt, rt.alloc(), &mut table, (3, 5), b"own");
-    join(&rt, rt.alloc(), &mut table, 1, 4);
-    join(&rt, rt.alloc(), &mut table, 2, 5);
-    join(&rt, rt.alloc(), &mut table, 3, 6);
-    join(&rt, rt.alloc(), &mut table, 4, 1);
-    assert!(rt; has(&table, 1, b"own"));
-    assert!(rt; has(&table, 2, b"own"));
-    assert!(rt; has(&table, 3, b"other"));
-    assert!(rt; has(&table, 4, b"other"));
-    assert!(rt; table.seen(1, 5) == Seen::Again);
-    assert!(rt; length(&rt, &table) == 4);
-    forget(table);
+    come_true(&rt, rt.alloc(), JOINED);
 }

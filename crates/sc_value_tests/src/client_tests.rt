@@ -1,6 +1,7 @@
-use crate::values::{key, value};
+use crate::groups::{nodes_to, numbered};
+use crate::values::{get, put};
 use sc_actor::{Actor, Input};
-use sc_base::{Draw, Op, Reply, RingArc, Sequence};
+use sc_base::{Reply, RingArc, Sequence};
 use sc_client::ClientCore;
 use sc_cmd::{Link, OrderLine, Route};
 use sc_mail::{AnswerBody, Mail, MailBody};
@@ -32,81 +33,58 @@ enum Given {
 /// The receiver, the group and the number of the one request that is sent.
 type Sent = Option<(u32, u32, u32)>;
 
-fn group(count: u32) -> Draw {
-    Draw { node: 0, count }
-}
-
-/// Group 0.1 from 0 on with members 1 2 3.
-fn first_route() -> Route {
-    let mut members = Members::one(1);
-    let _ = members.add(2);
-    let _ = members.add(3);
-    Route {
-        group: group(1),
-        lo: 0,
-        members,
-    }
-}
-
-/// Client 1 with the requests put a x and get a, which knows one group.
+/// Client 1 with the requests put a x and get a, which knows group 0.1 from 0 on with members 1 2 3.
 fn client(rt: &impl Abort, alloc: Global) -> ClientCore {
     let mut requests = Sequence::new(alloc);
-    let put = Op::Put {
-        key: key(rt, alloc, b"a"),
-        value: value(rt, alloc, b"x"),
-    };
-    requests.push(put).expect(rt, "memory");
-    let get = Op::Get {
-        key: key(rt, alloc, b"a"),
-    };
-    requests.push(get).expect(rt, "memory");
+    requests
+        .push(put(rt, alloc, b"a", b"x"))
+        .expect(rt, "memory");
+    requests.push(get(rt, alloc, b"a")).expect(rt, "memory");
     assert!(rt; requests.len() == 2);
-    ClientCore::born(alloc, 1, requests, first_route()).expect(rt, "memory")
-}
-
-fn not_mine(rt: &impl Abort) -> AnswerBody {
-    let mut members = Members::one(4);
-    let _ = members.add(5);
-    AnswerBody::NotMine {
-        arc: RingArc::try_new(0, 1 << 30).expect(rt, "an arc"),
-        succ: Link {
-            group: group(2),
-            members,
-        },
-    }
-}
-
-fn gone() -> AnswerBody {
-    AnswerBody::Gone {
-        into: Route {
-            group: group(5),
-            lo: 9,
-            members: Members::one(7),
-        },
-    }
+    let route = Route {
+        group: numbered(1),
+        lo: 0,
+        members: nodes_to(3),
+    };
+    ClientCore::born(alloc, 1, requests, route).expect(rt, "memory")
 }
 
 fn answer(rt: &impl Abort, told: Told) -> AnswerBody {
     match told {
         Told::Value => AnswerBody::Value(Reply { old: None }),
         Told::NotLeader(hint) => AnswerBody::NotLeader { hint },
-        Told::NotMine => not_mine(rt),
-        Told::Gone => gone(),
+        Told::NotMine => {
+            let mut members = Members::one(4);
+            let _ = members.add(5);
+            AnswerBody::NotMine {
+                arc: RingArc::try_new(0, 1 << 30).expect(rt, "an arc"),
+                succ: Link {
+                    group: numbered(2),
+                    members,
+                },
+            }
+        }
+        Told::Gone => AnswerBody::Gone {
+            into: Route {
+                group: numbered(5),
+                lo: 9,
+                members: Members::one(7),
+            },
+        },
         Told::Stale => AnswerBody::Stale { last: 7 },
     }
-}
-
-fn mail(from: u32, count: u32, seq: u32, answer: AnswerBody) -> Input<Mail, OrderLine> {
-    let group = group(count);
-    let body = MailBody::Answer { group, seq, answer };
-    Input::Got(Mail { from, to: 33, body })
 }
 
 fn input(rt: &impl Abort, given: Given) -> Input<Mail, OrderLine> {
     match given {
         Given::Go => Input::Go,
         Given::Tick => Input::Tick,
-        Given::Answer(from, count, seq, told) => mail(from, count, seq, answer(rt, told)),
+        Given::Answer(from, count, seq, told) => {
+            let answer = answer(rt, told);
+            let group = numbered(count);
+            let body = MailBody::Answer { group, seq, answer };
+            Input::Got(Mail { from, to: 33, body })
+        }
     }
 }
 
@@ -137,68 +115,79 @@ fn sent_at<A: Actor<Mail = Mail, Order = OrderLine>>(
     sent
 }
 
-/// Gives a new client one input after another: what it sends at each, the request that waits then,
-/// and how many replies it has.
-fn check(
+/// An input, and what a client sends at it.
+type Row = (Given, Sent);
+
+/// Gives an actor one input after another: it sends at each what stands beside it.
+fn check_all<A: Actor<Mail = Mail, Order = OrderLine>>(
     rt: &impl Abort,
     alloc: Global,
-    rows: &[(Given, Sent)],
-    waiting: Option<u32>,
-    replies: usize,
+    actor: &mut A,
+    rows: &[Row],
 ) {
-    let mut client = client(rt, alloc);
     for (given, sent) in rows {
-        assert!(rt; sent_at(rt, alloc, &mut client, *given) == *sent);
+        assert!(rt; sent_at(rt, alloc, actor, *given) == *sent);
     }
-    assert!(rt; client.requests().len() == 2);
-    assert!(rt; client.waiting() == waiting && client.replies().len() == replies);
-    forget(client);
 }
+
+/// Gives a new client one input after another: what it sends at each, the request that waits then,
+/// and how many replies it has.
+fn check(rt: &impl Abort, alloc: Global, rows: &[Row], waiting: Option<u32>, replies: usize) {
+    let mut client = client(rt, alloc);
+    check_all(rt, alloc, &mut client, rows);
+    let asked = client.requests().len();
+    let left = (client.waiting(), client.replies().len());
+    forget(client);
+    assert!(rt; asked == 2 && left == (waiting, replies));
+}
+
+const HINTS: &[Row] = &[
+    (Given::Go, Some((1, 1, 1))),
+    (
+        Given::Answer(1, 1, 1, Told::NotLeader(Some(3))),
+        Some((3, 1, 1)),
+    ),
+    (Given::Tick, Some((1, 1, 1))),
+    (Given::Answer(1, 1, 1, Told::NotMine), Some((4, 2, 1))),
+    (Given::Answer(1, 1, 1, Told::NotMine), None),
+    (Given::Answer(4, 2, 1, Told::Gone), Some((7, 5, 1))),
+];
 
 #[test]
 fn client_hints_and_stale_not_mine(rt: HostRuntime) {
-    let rows = [
-        (Given::Go, Some((1, 1, 1))),
-        (
-            Given::Answer(1, 1, 1, Told::NotLeader(Some(3))),
-            Some((3, 1, 1)),
-        ),
-        (Given::Tick, Some((1, 1, 1))),
-        (Given::Answer(1, 1, 1, Told::NotMine), Some((4, 2, 1))),
-        (Given::Answer(1, 1, 1, Told::NotMine), None),
-        (Given::Answer(4, 2, 1, Told::Gone), Some((7, 5, 1))),
-    ];
-    check(&rt, rt.alloc(), &rows, Some(1), 0);
+    check(&rt, rt.alloc(), HINTS, Some(1), 0);
 }
+
+const OF_OTHERS: &[Row] = &[
+    (Given::Answer(1, 1, 1, Told::Value), None),
+    (Given::Tick, None),
+    (Given::Go, Some((1, 1, 1))),
+    (Given::Answer(2, 1, 1, Told::NotLeader(Some(3))), None),
+    (Given::Answer(1, 2, 1, Told::NotLeader(None)), None),
+    (Given::Answer(1, 1, 2, Told::Value), None),
+    (Given::Answer(2, 1, 1, Told::NotMine), None),
+    (Given::Answer(2, 1, 1, Told::Gone), None),
+    (Given::Answer(1, 1, 1, Told::Stale), None),
+    (
+        Given::Answer(1, 1, 1, Told::NotLeader(None)),
+        Some((2, 1, 1)),
+    ),
+];
 
 #[test]
 fn answers_of_others_are_ignored(rt: HostRuntime) {
-    let rows = [
-        (Given::Answer(1, 1, 1, Told::Value), None),
-        (Given::Tick, None),
-        (Given::Go, Some((1, 1, 1))),
-        (Given::Answer(2, 1, 1, Told::NotLeader(Some(3))), None),
-        (Given::Answer(1, 2, 1, Told::NotLeader(None)), None),
-        (Given::Answer(1, 1, 2, Told::Value), None),
-        (Given::Answer(2, 1, 1, Told::NotMine), None),
-        (Given::Answer(2, 1, 1, Told::Gone), None),
-        (Given::Answer(1, 1, 1, Told::Stale), None),
-        (
-            Given::Answer(1, 1, 1, Told::NotLeader(None)),
-            Some((2, 1, 1)),
-        ),
-    ];
-    check(&rt, rt.alloc(), &rows, Some(1), 0);
+    check(&rt, rt.alloc(), OF_OTHERS, Some(1), 0);
 }
+
+const REPLIES: &[Row] = &[
+    (Given::Go, Some((1, 1, 1))),
+    (Given::Answer(2, 9, 1, Told::Value), Some((1, 1, 2))),
+    (Given::Answer(1, 1, 1, Told::Value), None),
+    (Given::Answer(1, 1, 2, Told::Value), None),
+    (Given::Tick, None),
+];
 
 #[test]
 fn replies_are_kept_in_turn(rt: HostRuntime) {
-    let rows = [
-        (Given::Go, Some((1, 1, 1))),
-        (Given::Answer(2, 9, 1, Told::Value), Some((1, 1, 2))),
-        (Given::Answer(1, 1, 1, Told::Value), None),
-        (Given::Answer(1, 1, 2, Told::Value), None),
-        (Given::Tick, None),
-    ];
-    check(&rt, rt.alloc(), &rows, None, 2);
+    check(&rt, rt.alloc(), REPLIES, None, 2);
 }

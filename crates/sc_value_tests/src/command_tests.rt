@@ -1,34 +1,19 @@
-use crate::values::{call, key, value};
-use sc_base::{Boxed, Draw, Dup, Noted, Pairs, Reply, RingArc, SeenList, Sequence};
+use crate::groups::{GROUP, group};
+use crate::values::{call, pair, reply, seen};
+use sc_base::{Boxed, Dup, Pairs, RingArc, SeenList, Sequence};
 use sc_cmd::{
-    Base, Body, Command, Core, DecidedList, Frozen, Gift, Heard, Link, Lock, Outcome, Vote,
-    base_weight, command_weight,
+    Base, Body, Command, DecidedList, Frozen, Gift, Heard, Link, Lock, Outcome, Vote, base_weight,
+    command_weight,
 };
 use sc_member::Members;
 use std::alloc::Global;
 use std::mem::forget;
 use std::process::Abort;
 
-const GROUP: Draw = Draw { node: 0, count: 1 };
-
 // One pair that counts 34, and one entry of a client table that counts 33.
-fn pairs(rt: &impl Abort, alloc: Global) -> Pairs {
-    let mut pairs = Pairs::new(alloc);
-    pairs
-        .push(key(rt, alloc, b"a"), value(rt, alloc, b"x"))
-        .expect(rt, "memory");
-    pairs
-}
-
-fn clients(rt: &impl Abort, alloc: Global) -> SeenList {
-    let mut clients = SeenList::new(alloc);
-    let reply = Reply {
-        old: Some(value(rt, alloc, b"y")),
-    };
-    clients
-        .push(1, Noted { seq: 1, reply })
-        .expect(rt, "memory");
-    clients
+fn kept(rt: &impl Abort, alloc: Global) -> (Pairs, SeenList) {
+    let clients = seen(rt, alloc, 1, 1, reply(rt, alloc, b"y"));
+    (pair(rt, alloc, b"x"), clients)
 }
 
 fn one_position(rt: &impl Abort) -> RingArc {
@@ -41,6 +26,7 @@ fn boxed<T: Drop>(rt: &impl Abort, alloc: Global, value: T) -> Boxed<T> {
 
 fn frozen(rt: &impl Abort, alloc: Global) -> Frozen {
     let members = Members::one(1);
+    let (pairs, clients) = kept(rt, alloc);
     Frozen {
         arc: one_position(rt),
         members,
@@ -48,34 +34,17 @@ fn frozen(rt: &impl Abort, alloc: Global) -> Frozen {
             group: GROUP,
             members,
         },
-        pairs: pairs(rt, alloc),
-        clients: clients(rt, alloc),
+        pairs,
+        clients,
     }
 }
 
 fn gift(rt: &impl Abort, alloc: Global) -> Outcome {
-    let gift = Gift {
-        pairs: pairs(rt, alloc),
-        clients: clients(rt, alloc),
-    };
+    let (pairs, clients) = kept(rt, alloc);
+    let gift = Gift { pairs, clients };
     Outcome::Moved {
         at: 7,
         gift: Some(boxed(rt, alloc, gift)),
-    }
-}
-
-fn yes(rt: &impl Abort, alloc: Global) -> Command {
-    Command::RecordVote {
-        tx: GROUP,
-        vote: Vote::Yes(boxed(rt, alloc, frozen(rt, alloc))),
-        by: 1,
-    }
-}
-
-fn finish(rt: &impl Abort, alloc: Global) -> Command {
-    Command::Finish {
-        tx: GROUP,
-        outcome: gift(rt, alloc),
     }
 }
 
@@ -88,29 +57,37 @@ fn weight_of(rt: &impl Abort, alloc: Global, command: Command) -> u64 {
     weight
 }
 
+// The commands: a call, a vote, an outcome, and one of numbers.
 #[test]
-fn a_call_counts_its_key_and_value(rt: HostRuntime) {
-    assert!(rt; weight_of(&rt, rt.alloc(), call(&rt, rt.alloc())) == 8);
+fn calls_count_their_texts_and_votes_and_outcomes_what_they_carry(rt: HostRuntime) {
+    let weights = [
+        weight_of(&rt, rt.alloc(), call(&rt, rt.alloc())),
+        weight_of(
+            &rt,
+            rt.alloc(),
+            Command::RecordVote {
+                tx: GROUP,
+                vote: Vote::Yes(boxed(&rt, rt.alloc(), frozen(&rt, rt.alloc()))),
+                by: 1,
+            },
+        ),
+        weight_of(
+            &rt,
+            rt.alloc(),
+            Command::Finish {
+                tx: GROUP,
+                outcome: gift(&rt, rt.alloc()),
+            },
+        ),
+        weight_of(&rt, rt.alloc(), Command::GiveUp { tx: GROUP }),
+    ];
+    assert!(rt; weights == [8, 67, 67, 0]);
 }
 
-#[test]
-fn a_vote_counts_the_record_that_it_carries(rt: HostRuntime) {
-    assert!(rt; weight_of(&rt, rt.alloc(), yes(&rt, rt.alloc())) == 67);
-}
-
-#[test]
-fn an_outcome_counts_its_gift(rt: HostRuntime) {
-    assert!(rt; weight_of(&rt, rt.alloc(), finish(&rt, rt.alloc())) == 67);
-}
-
-#[test]
-fn a_command_of_numbers_counts_nothing(rt: HostRuntime) {
-    assert!(rt; weight_of(&rt, rt.alloc(), Command::GiveUp { tx: GROUP }) == 0);
-}
-
-// A lock that has heard of a participant's record.
-fn coordinating(rt: &impl Abort, alloc: Global) -> Lock {
-    Lock::Coordinating {
+// A group of one node alone on a ring, whose lock has heard of a participant's record, and which has
+// decided one moved boundary with a gift.
+fn base(rt: &impl Abort, alloc: Global) -> Base {
+    let lock = Lock::Coordinating {
         tx: GROUP,
         body: Body::Merge,
         order: 1,
@@ -118,47 +95,15 @@ fn coordinating(rt: &impl Abort, alloc: Global) -> Lock {
             frozen: frozen(rt, alloc),
             by: 2,
         }),
-    }
-}
-
-// The outcomes that a group has decided: one moved boundary with a gift.
-fn decided(rt: &impl Abort, alloc: Global) -> DecidedList {
-    let mut decided = Sequence::new(alloc);
+    };
+    let mut decided: DecidedList = Sequence::new(alloc);
     decided.push((GROUP, gift(rt, alloc))).expect(rt, "memory");
-    decided
-}
-
-// The group as its own neighbour.
-fn alone() -> Link {
-    Link {
-        group: GROUP,
-        members: Members::one(1),
-    }
-}
-
-// A group of one node alone on a ring, with that lock and those outcomes.
-fn core(rt: &impl Abort, alloc: Global) -> Core {
-    Core {
-        id: GROUP,
-        first: 1,
-        arc: one_position(rt),
-        members: Members::one(1),
-        succ: alone(),
-        pred: alone(),
-        lock: coordinating(rt, alloc),
-        begun: 1,
-        decided: decided(rt, alloc),
-        voted: Sequence::new(alloc),
-        born: Sequence::new(alloc),
-        gone: None,
-    }
-}
-
-fn base(rt: &impl Abort, alloc: Global) -> Base {
+    let core = group(alloc, 1, one_position(rt), GROUP, lock, decided);
+    let (pairs, clients) = kept(rt, alloc);
     Base {
-        core: core(rt, alloc),
-        pairs: pairs(rt, alloc),
-        clients: clients(rt, alloc),
+        core,
+        pairs,
+        clients,
     }
 }
 

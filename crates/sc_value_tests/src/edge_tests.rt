@@ -27,11 +27,13 @@ fn two_reads(
 
 #[test]
 fn a_source_is_read_to_its_end_past_the_limit_or_until_it_fails(rt: HostRuntime) {
-    assert!(rt; two_reads(&rt, rt.alloc(), &[], 100) == (Ok(7), Ok(0)));
-    assert!(rt; two_reads(&rt, rt.alloc(), &[], 3) == (Ok(4), Ok(3)));
+    let whole = two_reads(&rt, rt.alloc(), &[], 100);
+    let parts = two_reads(&rt, rt.alloc(), &[], 3);
+    assert!(rt; whole == (Ok(7), Ok(0)) && parts == (Ok(4), Ok(3)));
     let failed = Err(ReadFault::Failed);
-    assert!(rt; two_reads(&rt, rt.alloc(), &[1], 100).0 == failed);
-    assert!(rt; two_reads(&rt, rt.alloc(), &[2], 100).0 == failed);
+    let first = two_reads(&rt, rt.alloc(), &[1], 100).0;
+    let second = two_reads(&rt, rt.alloc(), &[2], 100).0;
+    assert!(rt; first == failed && second == failed);
 }
 
 // The first put that fails, of two.
@@ -59,17 +61,18 @@ fn is_held(
 
 #[test]
 fn a_sink_holds_what_was_put_before_it_failed(rt: HostRuntime) {
-    assert!(rt; is_held(&rt, rt.alloc(), (13, &[]), Ok(()), b"first\nsecond\n"));
-    assert!(rt; is_held(&rt, rt.alloc(), (12, &[]), Err(Failed), b"first\n"));
-    assert!(rt; is_held(&rt, rt.alloc(), (100, &[2]), Err(Failed), b"first\n"));
+    let all = is_held(&rt, rt.alloc(), (13, &[]), Ok(()), b"first\nsecond\n");
+    let no_room = is_held(&rt, rt.alloc(), (12, &[]), Err(Failed), b"first\n");
+    let failed = is_held(&rt, rt.alloc(), (100, &[2]), Err(Failed), b"first\n");
+    assert!(rt; all && no_room && failed);
 }
 
 #[test]
 fn readers_and_writers_of_std_serve(rt: HostRuntime) {
     let mut source = StdSource::new(&b"scatter"[..]);
-    assert!(rt; read_len(rt.alloc(), &mut source, 100) == Ok(7));
+    let read = read_len(rt.alloc(), &mut source, 100);
     let mut room = [0u8; 13];
     let mut sink = StdSink::new(&mut room[..]);
-    assert!(rt; put_twice(&mut sink) == Ok(()));
-    assert!(rt; put_twice(&mut sink) == Err(Failed));
+    let puts = [put_twice(&mut sink), put_twice(&mut sink)];
+    assert!(rt; read == Ok(7) && puts == [Ok(()), Err(Failed)]);
 }

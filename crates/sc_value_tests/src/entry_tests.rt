@@ -1,7 +1,6 @@
-use crate::values::{key, value};
-use sc_base::{Dup, Op, Reply};
+use crate::values::{is_copied, key, value};
+use sc_base::{Op, Reply};
 use sc_ideal::Entry;
-use std::mem::forget;
 
 #[test]
 fn entries_are_copied(rt: HostRuntime) {
@@ -13,8 +12,5 @@ fn entries_are_copied(rt: HostRuntime) {
         op: Op::Add { key, value },
         reply: Reply { old: None },
     };
-    let copy = entry.dup(rt.alloc()).expect(&rt, "memory");
-    assert!(rt; copy == entry);
-    forget(copy);
-    forget(entry);
+    assert!(rt; is_copied(&rt, rt.alloc(), entry));
 }

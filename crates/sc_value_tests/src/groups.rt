@@ -13,6 +13,11 @@ pub const OTHER: Draw = Draw { node: 0, count: 2 };
 /// The child of a split, or a transaction.
 pub const CHILD: Draw = Draw { node: 1, count: 1 };
 
+/// The group 0.1, 0.2 and so on.
+pub fn numbered(count: u32) -> Draw {
+    Draw { node: 0, count }
+}
+
 /// The nodes from 1 to `last`; node 1 alone where that is no set.
 pub fn nodes_to(last: u16) -> Members {
     let mut members = Members::one(1);

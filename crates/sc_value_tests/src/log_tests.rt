@@ -24,30 +24,34 @@ fn are_held(log: &Glog<u32>, rows: &[(u32, Option<u32>)]) -> bool {
     true
 }
 
+const LEARNT: &[(u32, u32, Learnt)] = &[
+    (2, 20, Learnt::Ahead { next: 1 }),
+    (1, 10, Learnt::Learnt),
+    (1, 11, Learnt::Known),
+    (2, 20, Learnt::Learnt),
+    (3, 30, Learnt::Learnt),
+];
+
+// What is held of it behind the first slot.
+const HELD: &[(u32, Option<u32>)] = &[
+    (0, None),
+    (1, None),
+    (2, Some(20)),
+    (3, Some(30)),
+    (4, None),
+];
+
 #[test]
 fn entries_are_learnt_in_order_and_dropped_from_the_front(rt: HostRuntime) {
     let mut log: Glog<u32> = Glog::born(rt.alloc());
-    assert!(rt; log.next() == 1);
-    let rows = [
-        (2, 20, Learnt::Ahead { next: 1 }),
-        (1, 10, Learnt::Learnt),
-        (1, 11, Learnt::Known),
-        (2, 20, Learnt::Learnt),
-        (3, 30, Learnt::Learnt),
-    ];
-    check(&rt, &mut log, &rows);
+    let first = log.next();
+    check(&rt, &mut log, LEARNT);
     assert!(rt; log.next() == 4);
     log.cut(1);
-    assert!(rt; log.next() == 4);
-    let held = [
-        (0, None),
-        (1, None),
-        (2, Some(20)),
-        (3, Some(30)),
-        (4, None),
-    ];
-    assert!(rt; are_held(&log, &held));
+    let after = log.next();
+    let are_held = are_held(&log, HELD);
     forget(log);
+    assert!(rt; first == 1 && after == 4 && are_held);
 }
 
 #[test]
@@ -56,9 +60,10 @@ fn a_log_is_installed_after_a_slot(rt: HostRuntime) {
     check(&rt, &mut log, &[(1, 10, Learnt::Learnt)]);
     assert!(rt; log.next() == 2);
     log.install(64);
-    assert!(rt; log.next() == 65);
-    assert!(rt; are_held(&log, &[(1, None)]));
+    let after = log.next();
+    let is_gone = are_held(&log, &[(1, None)]);
     check(&rt, &mut log, &[(65, 650, Learnt::Learnt)]);
-    assert!(rt; are_held(&log, &[(65, Some(650))]));
+    let is_held = are_held(&log, &[(65, Some(650))]);
     forget(log);
+    assert!(rt; after == 65 && is_gone && is_held);
 }

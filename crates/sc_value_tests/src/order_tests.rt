@@ -35,87 +35,81 @@ fn command(ask: Ask) -> Command
     }
 }
 
-/// The number of the refusal, or 0 where the order is accepted.
-fn code(core: &Core, ask: Ask) -> u8 {
-    match check(core, &command(ask)) {
-        Ok(()) => 0,
-        Err(why) => why.code(),
-    }
-}
-
-/// A lock of a group that coordinates a merge, or none.
-fn lock(is_locked: bool) -> Lock {
-    if is_locked {
-        Lock::Coordinating {
-            tx: CHILD,
-            body: Body::Merge,
-            order: 1,
-            heard: None,
-        }
-    } else {
-        Lock::Free
-    }
-}
-
-/// What a group answers, which may be locked.
+/// The number of the refusal of a group that may coordinate a merge, or 0 where the order is
+/// accepted.
 fn answer(rt: &impl Abort, alloc: Global, asked: Asked, is_locked: bool, ask: Ask) -> u8 {
     let arc = RingArc::try_new(100, 100).expect(rt, "an arc");
     let (last, neighbour, begun) = asked;
     let decided = Sequence::new(alloc);
-    let mut core = group(alloc, last, arc, neighbour, lock(is_locked), decided);
+    let mut core = group(alloc, last, arc, neighbour, Lock::Free, decided);
     core.begun = begun;
-    let code = code(&core, ask);
+    if is_locked {
+        core.lock = Lock::Coordinating {
+            tx: CHILD,
+            body: Body::Merge,
+            order: 1,
+            heard: None,
+        };
+    }
+    let command = command(ask);
+    let code = match check(&core, &command) {
+        Ok(()) => 0,
+        Err(why) => why.code(),
+    };
+    forget(command);
     forget(core);
     code
 }
 
+/// A group, an order to it, and the number of the refusal.
+type Row = (Asked, Ask, u8);
+
 /// Gives each order to a free group, which answers so.
-fn check_all(rt: &impl Abort, alloc: Global, rows: &[(Asked, Ask, u8)]) {
+fn check_all(rt: &impl Abort, alloc: Global, rows: &[Row]) {
     for (asked, ask, code) in rows {
         assert!(rt; answer(rt, alloc, *asked, false, *ask) == *code);
     }
 }
 
-fn alone(count: u16) -> Asked {
-    (count, GROUP, 0)
-}
+const JOINS: &[Row] = &[
+    ((8, GROUP, 0), Ask::Join(9), 0),
+    ((9, GROUP, 0), Ask::Join(10), 5),
+    ((9, GROUP, 0), Ask::Join(9), 9),
+    ((1, GROUP, 0), Ask::Join(1), 9),
+    ((1, GROUP, 0), Ask::Join(2), 0),
+];
 
 #[test]
 fn joins_are_refused_at_nine_members_and_to_members(rt: HostRuntime) {
-    let rows = [
-        (alone(8), Ask::Join(9), 0),
-        (alone(9), Ask::Join(10), 5),
-        (alone(9), Ask::Join(9), 9),
-        (alone(1), Ask::Join(1), 9),
-        (alone(1), Ask::Join(2), 0),
-    ];
-    check_all(&rt, rt.alloc(), &rows);
+    check_all(&rt, rt.alloc(), JOINS);
 }
+
+const LEAVES: &[Row] = &[
+    ((1, GROUP, 0), Ask::Leave(2), 6),
+    ((1, GROUP, 0), Ask::Leave(1), 7),
+    ((2, GROUP, 0), Ask::Leave(3), 6),
+    ((2, GROUP, 0), Ask::Leave(1), 0),
+];
 
 #[test]
 fn leaves_are_refused_to_strangers_first_and_to_the_last_member(rt: HostRuntime) {
-    let rows = [
-        (alone(1), Ask::Leave(2), 6),
-        (alone(1), Ask::Leave(1), 7),
-        (alone(2), Ask::Leave(3), 6),
-        (alone(2), Ask::Leave(1), 0),
-    ];
-    check_all(&rt, rt.alloc(), &rows);
+    check_all(&rt, rt.alloc(), LEAVES);
 }
+
+const SPLITS: &[Row] = &[
+    ((1, OTHER, 256), Ask::Split(100), 4),
+    ((1, OTHER, 256), Ask::Split(200), 4),
+    ((1, GROUP, 0), Ask::Split(99), 4),
+    ((1, OTHER, 256), Ask::Split(101), 7),
+    ((2, OTHER, 256), Ask::Split(101), 8),
+    ((2, OTHER, 255), Ask::Split(101), 0),
+    ((2, GROUP, 256), Ask::Split(101), 0),
+    ((2, GROUP, 0), Ask::Split(199), 0),
+];
 
 #[test]
 fn splits_are_refused_for_boundary_members_and_transactions_in_this_order(rt: HostRuntime) {
-    let rows = [
-        ((1, OTHER, 256), Ask::Split(100), 4),
-        ((1, OTHER, 256), Ask::Split(200), 4),
-        ((1, GROUP, 0), Ask::Split(99), 4),
-        ((1, OTHER, 256), Ask::Split(101), 7),
-        ((2, OTHER, 256), Ask::Split(101), 8),
-        ((2, OTHER, 255), Ask::Split(101), 0),
-        ((2, GROUP, 256), Ask::Split(101), 0),
-        ((2, GROUP, 0), Ask::Split(199), 0),
-    ];
-    check_all(&rt, rt.alloc(), &rows);
+    check_all(&rt, rt.alloc(), SPLITS);
 }
 
 #[test]

@@ -1,4 +1,5 @@
-use sc_base::{Draw, RingArc};
+use crate::groups::numbered;
+use sc_base::RingArc;
 use sc_cmd::{Link, Route};
 use sc_lookup::Routes;
 use sc_member::Members;
@@ -6,16 +7,12 @@ use std::alloc::Global;
 use std::mem::forget;
 use std::process::Abort;
 
-fn group(count: u32) -> Draw {
-    Draw { node: 0, count }
-}
-
 /// A group from `lo` on, with two members.
 fn route(count: u32, lo: u32, least: u16, other: u16) -> Route {
     let mut members = Members::one(least);
     let _ = members.add(other);
     Route {
-        group: group(count),
+        group: numbered(count),
         lo,
         members,
     }
@@ -29,7 +26,7 @@ fn hear(rt: &impl Abort, routes: &mut Routes, count: u32, (lo, length): (u32, u6
         members: next.members,
     };
     routes
-        .not_mine(group(count), &arc, &link)
+        .not_mine(numbered(count), &arc, &link)
         .expect(rt, "memory");
 }
 
@@ -50,7 +47,7 @@ fn three(rt: &impl Abort, alloc: Global) -> Routes {
 /// Whether these groups are chosen for these positions.
 fn chooses(routes: &Routes, rows: &[(u32, u32)]) -> bool {
     for (p, count) in rows {
-        if routes.choose(*p) != group(*count) {
+        if routes.choose(*p) != numbered(*count) {
             return false;
         }
     }
@@ -64,29 +61,34 @@ fn the_nearest_start_at_or_before_is_chosen(rt: HostRuntime) {
     let mut routes = three(&rt, rt.alloc());
     let last = (1 << 30) - 1;
     let rows = [(0, 1), (last, 1), (1 << 30, 2), (1 << 31, 3)];
-    assert!(rt; chooses(&routes, &rows));
+    let chooses_first = chooses(&routes, &rows);
     hear(&rt, &mut routes, 1, (100, 1 << 30), route(2, 1 << 30, 4, 5));
-    assert!(rt; chooses(&routes, &[(99, 3), (100, 1)]));
+    let chooses_then = chooses(&routes, &[(99, 3), (100, 1)]);
     forget(routes);
+    assert!(rt; chooses_first && chooses_then);
 }
 
 #[test]
 fn among_equals_the_last_is_chosen(rt: HostRuntime) {
     let mut routes = Routes::start(rt.alloc(), route(1, 7, 1, 2)).expect(&rt, "memory");
     hear(&rt, &mut routes, 1, (7, 1 << 32), route(2, 7, 4, 5));
-    assert!(rt; chooses(&routes, &[(8, 2)]));
+    let chooses = chooses(&routes, &[(8, 2)]);
     forget(routes);
+    assert!(rt; chooses);
 }
 
 /// The members of group 2 are asked in turn; group 9 is not known.
 #[test]
 fn nodes_are_asked_one_after_another(rt: HostRuntime) {
     let mut routes = three(&rt, rt.alloc());
-    let two = group(2);
-    assert!(rt; routes.after(two) == Some(5) && routes.target(two) == Some(5));
-    assert!(rt; routes.prefer(two, 6) && routes.after(two) == Some(4));
-    assert!(rt; routes.after(group(9)) == None && !routes.prefer(group(9), 1));
+    let two = numbered(2);
+    let first = [routes.after(two), routes.target(two)];
+    let prefers = routes.prefer(two, 6);
+    let then = [routes.after(two), routes.after(numbered(9))];
+    let prefers_unknown = routes.prefer(numbered(9), 1);
     forget(routes);
+    assert!(rt; first == [Some(5), Some(5)] && prefers);
+    assert!(rt; then == [Some(4), None] && !prefers_unknown);
 }
 
 /// Group 2 goes into group 4.
@@ -94,8 +96,9 @@ fn nodes_are_asked_one_after_another(rt: HostRuntime) {
 fn a_group_that_is_gone_is_forgotten(rt: HostRuntime) {
     let mut routes = three(&rt, rt.alloc());
     let into = route(4, 5, 11, 12);
-    routes.gone(group(2), &into).expect(&rt, "memory");
-    assert!(rt; routes.target(group(2)) == None && chooses(&routes, &[(1 << 30, 4)]));
-    assert!(rt; routes.target(group(4)) == Some(11));
+    routes.gone(numbered(2), &into).expect(&rt, "memory");
+    let targets = [routes.target(numbered(2)), routes.target(numbered(4))];
+    let chooses = chooses(&routes, &[(1 << 30, 4)]);
     forget(routes);
+    assert!(rt; targets == [None, Some(11)] && chooses);
 }

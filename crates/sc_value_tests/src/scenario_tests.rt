@@ -1,8 +1,8 @@
 //! Texts that are scenarios, and texts that are not.
-use sc_base::Op;
+use sc_base::{Draw, Op};
 use sc_cmd::Order;
 use sc_scenario::{ClientList, GroupList, Scenario, ScenarioFault, SchedLine, read_scenario};
-use sc_vectors::REFUSED;
+use sc_vectors::{REFUSED, Refused};
 use std::alloc::Global;
 use std::mem::forget;
 use std::process::Abort;
@@ -26,53 +26,70 @@ fn is_group_read(groups: &GroupList) -> bool {
     }
 }
 
-fn is_join(order: &Order) -> bool {
-    match order {
-        Order::Join { node, group } => *node == 2 && group.node == 0 && group.count == 1,
-        _ => false,
-    }
-}
+// The node that is told an order, the order's number, and of a join or a leave its node and its
+// group.
+type Told = (u16, u32, bool, u16, Draw);
 
-fn is_leave(order: &Order) -> bool {
-    match order {
-        Order::Leave { node, group } => {
-            *node == 3 && group.node == 32 && group.count == 4_294_967_295
-        }
-        _ => false,
-    }
-}
-
-fn is_first_order_read(line: &SchedLine) -> bool {
+fn told(line: &SchedLine) -> Option<Told> {
     match line {
-        SchedLine::Told { node, line } => *node == 3 && line.number == 1 && is_join(&line.order),
-        _ => false,
+        SchedLine::Told { node, line } => match &line.order {
+            Order::Join { node: other, group } => Some((*node, line.number, true, *other, *group)),
+            Order::Leave { node: other, group } => {
+                Some((*node, line.number, false, *other, *group))
+            }
+            _ => None,
+        },
+        _ => None,
     }
 }
 
-fn is_second_order_read(line: &SchedLine) -> bool {
-    match line {
-        SchedLine::Told { line, .. } => line.number == 2 && is_leave(&line.order),
-        _ => false,
-    }
-}
+const JOIN: Told = (3, 1, true, 2, Draw { node: 0, count: 1 });
 
-fn are_orders_read(lines: &[SchedLine]) -> bool {
-    lines.len() == 9 && is_first_order_read(&lines[6]) && is_second_order_read(&lines[7])
-}
+const LEAVE: Told = (
+    1,
+    2,
+    false,
+    3,
+    Draw {
+        node: 32,
+        count: 4_294_967_295,
+    },
+);
 
 fn is_early_form_read(scenario: &Scenario) -> bool {
+    let lines = scenario.lines.as_slice();
     scenario.nodes == 3
-        && are_orders_read(scenario.lines.as_slice())
+        && lines.len() == 9
+        && told(&lines[6]) == Some(JOIN)
+        && told(&lines[7]) == Some(LEAVE)
         && are_clients_read(&scenario.clients)
         && is_group_read(&scenario.groups)
 }
 
+// What a scenario must be: all lines of the early form, two conditional writes, or one free line
+// with so many deliveries and workers.
+#[derive(Clone, Copy)]
+enum Wanted {
+    Early,
+    Conditional,
+    Free(u32, u32),
+}
+
+// Whether a text is a scenario, and what it must be.
+fn is_read(rt: &impl Abort, alloc: Global, text: &[u8], wanted: Wanted) -> bool {
+    let scenario = read_scenario(alloc, text).expect(rt, "a scenario");
+    let is_read = match wanted {
+        Wanted::Early => is_early_form_read(&scenario),
+        Wanted::Conditional => has_conditional_writes(&scenario),
+        Wanted::Free(most, workers) => is_free_line(scenario.lines.as_slice(), (most, workers)),
+    };
+    forget(scenario);
+    is_read
+}
+
 #[test]
 fn the_early_form_is_read(rt: HostRuntime) {
-    let scenario = read_scenario(rt.alloc(), ALL_LINES).expect(&rt, "a scenario");
-    let is_read = is_early_form_read(&scenario);
-    forget(scenario);
-    assert!(rt; is_read);
+    assert!(rt; is_read(&rt, rt.alloc(), ALL_LINES, Wanted::Early));
 }
 
 // The first bad line of a text and the number of its reason; zeros where the text is a scenario.
@@ -87,20 +104,22 @@ fn fault_of(alloc: Global, text: &[u8]) -> (u32, u8) {
     }
 }
 
-// A text with so many line feeds behind it.
-fn with_feeds(rt: &impl Abort, alloc: Global, text: &[u8], feeds: usize) -> Vec<u8> {
+// Whether a text with so many line feeds behind it is refused so.
+fn is_refused(rt: &impl Abort, alloc: Global, refused: &Refused) -> bool {
+    let (text, feeds, line, why) = *refused;
     let mut whole = Vec::from_slice(alloc, text).expect(rt, "memory");
     for _ in 0..feeds {
         whole.push(b'\n').expect(rt, "memory");
     }
-    whole
+    let found = fault_of(alloc, &whole);
+    forget(whole);
+    found == (line, why)
 }
 
 #[test]
 fn bad_texts_name_their_first_bad_line_and_its_lowest_reason(rt: HostRuntime) {
-    for (text, feeds, line, why) in REFUSED {
-        let whole = with_feeds(&rt, rt.alloc(), text, *feeds);
-        assert!(rt; fault_of(rt.alloc(), &whole) == (*line, *why));
+    for refused in REFUSED {
+        assert!(rt; is_refused(&rt, rt.alloc(), refused));
     }
 }
 
@@ -112,10 +131,7 @@ const LOOSE: &[u8] =
 
 #[test]
 fn blanks_and_comments_change_nothing(rt: HostRuntime) {
-    let scenario = read_scenario(rt.alloc(), LOOSE).expect(&rt, "a scenario");
-    let is_read = is_early_form_read(&scenario);
-    forget(scenario);
-    assert!(rt; is_read);
+    assert!(rt; is_read(&rt, rt.alloc(), LOOSE, Wanted::Early));
 }
 
 const CONDITIONAL: &[u8] = b"scatter 2\nnodes 1\ngroup 0 1\nclient 1\nadd a x\ncas a x z\nend\n";
@@ -138,10 +154,7 @@ fn has_conditional_writes(scenario: &Scenario) -> bool {
 
 #[test]
 fn version_two_has_conditional_writes(rt: HostRuntime) {
-    let scenario = read_scenario(rt.alloc(), CONDITIONAL).expect(&rt, "a scenario");
-    let is_read = has_conditional_writes(&scenario);
-    forget(scenario);
-    assert!(rt; is_read);
+    assert!(rt; is_read(&rt, rt.alloc(), CONDITIONAL, Wanted::Conditional));
 }
 
 fn is_free_line(lines: &[SchedLine], counts: (u32, u32)) -> bool {
@@ -151,20 +164,24 @@ fn is_free_line(lines: &[SchedLine], counts: (u32, u32)) -> bool {
     }
 }
 
-// Whether a scenario's only line is a free one with so many deliveries and workers.
-fn is_free_read(rt: &impl Abort, alloc: Global, text: &[u8], counts: (u32, u32)) -> bool {
-    let scenario = read_scenario(alloc, text).expect(rt, "a scenario");
-    let is_read = is_free_line(scenario.lines.as_slice(), counts);
-    forget(scenario);
-    is_read
-}
+const FREE: &[(&[u8], Wanted)] = &[
+    (
+        b"scatter 1\nnodes 1\ngroup 0 1\nfree 100 4\n",
+        Wanted::Free(100, 4),
+    ),
+    (
+        b"scatter 1\nnodes 1\ngroup 0 1\nfree 1 1\n",
+        Wanted::Free(1, 1),
+    ),
+    (
+        b"scatter 1\nnodes 1\ngroup 0 1\nfree 1000000 16\n",
+        Wanted::Free(1_000_000, 16),
+    ),
+];
 
 #[test]
 fn free_lines_are_read(rt: HostRuntime) {
-    let usual = b"scatter 1\nnodes 1\ngroup 0 1\nfree 100 4\n";
-    let least = b"scatter 1\nnodes 1\ngroup 0 1\nfree 1 1\n";
-    let most = b"scatter 1\nnodes 1\ngroup 0 1\nfree 1000000 16\n";
-    assert!(rt; is_free_read(&rt, rt.alloc(), usual, (100, 4)));
-    assert!(rt; is_free_read(&rt, rt.alloc(), least, (1, 1)));
-    assert!(rt; is_free_read(&rt, rt.alloc(), most, (1_000_000, 16)));
+    for (text, wanted) in FREE {
+        assert!(rt; is_read(&rt, rt.alloc(), text, *wanted));
+    }
 }

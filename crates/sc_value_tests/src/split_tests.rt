@@ -1,7 +1,7 @@
 use crate::groups::{CHILD, GROUP, OTHER, group};
+use crate::member_tests::is_set;
 use sc_base::{Draw, RingArc, Sequence};
-use sc_cmd::{Core, Link, Lock, Outcome, same_draw};
-use sc_member::Members;
+use sc_cmd::{Core, Lock, Outcome, same_draw};
 use sc_split_merge::{can_split, plan_split, splits_keep_the_whole};
 use std::alloc::Global;
 use std::mem::forget;
@@ -28,52 +28,55 @@ fn is_arc(arc: &RingArc, lo: u32, length: u64) -> bool {
     arc.lo() == lo && arc.len() == length
 }
 
-fn is_set(members: &Members, nodes: &[u16]) -> bool {
-    members.as_slice() == nodes
-}
-
-fn is_link(link: &Link, group: Draw, nodes: &[u16]) -> bool {
-    same_draw(link.group, group) && is_set(&link.members, nodes)
-}
-
 fn has_neighbours(core: &Core, pred: (Draw, &[u16]), succ: (Draw, &[u16])) -> bool {
-    is_link(&core.pred, pred.0, pred.1) && is_link(&core.succ, succ.0, succ.1)
+    same_draw(core.pred.group, pred.0)
+        && is_set(&core.pred.members, pred.1)
+        && same_draw(core.succ.group, succ.0)
+        && is_set(&core.succ.members, succ.1)
 }
 
-/// Whether the group keeps what it has begun and decided, and names its child.
-fn has_past(left: &Core) -> bool {
-    let is_named = left.born.len() == 1 && same_draw(*left.born.at(0), CHILD);
-    is_named && left.begun == 7 && left.decided.len() == 1
+/// Whether the group keeps what it has begun and decided and the positions before the boundary, and
+/// names its child, which is on both sides of it.
+fn is_left(left: &Core) -> bool {
+    is_arc(&left.arc, 0, 1828716544)
+        && is_set(&left.members, &[1, 2, 3])
+        && left.born.len() == 1
+        && same_draw(*left.born.at(0), CHILD)
+        && left.begun == 7
+        && left.decided.len() == 1
+        && has_neighbours(left, (CHILD, &[4, 5]), (CHILD, &[4, 5]))
 }
 
-fn is_new(child: &Core) -> bool {
-    let is_empty = child.begun == 0 && child.decided.len() == 0 && child.born.len() == 0;
-    is_empty && same_draw(child.id, CHILD) && child.first == 4
+/// Whether the child is new and has the other positions, with the group on both sides.
+fn is_right(child: &Core) -> bool {
+    is_arc(&child.arc, 1828716544, 2466250752)
+        && is_set(&child.members, &[4, 5])
+        && child.begun == 0
+        && child.decided.len() == 0
+        && child.born.len() == 0
+        && same_draw(child.id, CHILD)
+        && child.first == 4
+        && has_neighbours(child, (GROUP, &[1, 2, 3]), (GROUP, &[1, 2, 3]))
 }
 
 #[test]
 fn split_plan(rt: HostRuntime) {
     let (left, child) = halves(&rt, rt.alloc(), GROUP, 1828716544);
-    assert!(rt; is_arc(&left.arc, 0, 1828716544));
-    assert!(rt; is_set(&left.members, &[1, 2, 3]));
-    assert!(rt; has_past(&left));
-    assert!(rt; has_neighbours(&left, (CHILD, &[4, 5]), (CHILD, &[4, 5])));
-    assert!(rt; is_arc(&child.arc, 1828716544, 2466250752));
-    assert!(rt; is_set(&child.members, &[4, 5]));
-    assert!(rt; is_new(&child));
-    assert!(rt; has_neighbours(&child, (GROUP, &[1, 2, 3]), (GROUP, &[1, 2, 3])));
+    let are_so = is_left(&left) && is_right(&child);
     forget(left);
     forget(child);
+    assert!(rt; are_so);
 }
 
 #[test]
 fn a_group_with_neighbours_keeps_the_outer_ones(rt: HostRuntime) {
     let (left, child) = halves(&rt, rt.alloc(), OTHER, 1);
     let outer = (OTHER, [1, 2, 3, 4, 5].as_slice());
-    assert!(rt; has_neighbours(&left, outer, (CHILD, &[4, 5])));
-    assert!(rt; has_neighbours(&child, (GROUP, &[1, 2, 3]), outer));
+    let are_so = has_neighbours(&left, outer, (CHILD, &[4, 5]))
+        && has_neighbours(&child, (GROUP, &[1, 2, 3]), outer);
     forget(left);
     forget(child);
+    assert!(rt; are_so);
 }
 
 /// Whether a group of the nodes from 1 to `last` on the positions from 100 to 199 can be split.

@@ -1,4 +1,4 @@
-use crate::values::{key, tells, value};
+use crate::values::{get, key, put, tells, value};
 use sc_base::{Op, Pairs, RingArc};
 use sc_store::Store;
 use std::alloc::Global;
@@ -17,13 +17,8 @@ enum Ask {
 
 fn op_of(rt: &impl Abort, alloc: Global, ask: Ask) -> Op {
     match ask {
-        Ask::Get(name) => Op::Get {
-            key: key(rt, alloc, name),
-        },
-        Ask::Put(name, new) => Op::Put {
-            key: key(rt, alloc, name),
-            value: value(rt, alloc, new),
-        },
+        Ask::Get(name) => get(rt, alloc, name),
+        Ask::Put(name, new) => put(rt, alloc, name, new),
         Ask::Add(name, new) => Op::Add {
             key: key(rt, alloc, name),
             value: value(rt, alloc, new),
@@ -64,57 +59,67 @@ fn check(rt: &impl Abort, alloc: Global, store: &mut Store, steps: &[Step]) {
     }
 }
 
+const OPERATIONS: &[Step] = &[
+    (Ask::Put(b"a", b"x"), None),
+    (Ask::Put(b"a", b"y"), Some(b"x")),
+    (Ask::Add(b"a", b"z"), Some(b"y")),
+    (Ask::Cas(b"a", b"z", b"w"), Some(b"y")),
+    (Ask::Cas(b"a", b"y", b"v"), Some(b"y")),
+    (Ask::Del(b"a"), Some(b"v")),
+    (Ask::Add(b"a", b"u"), None),
+    (Ask::Get(b"a"), Some(b"u")),
+];
+
 #[test]
 fn operations_answer_the_old_value(rt: HostRuntime) {
-    let steps: [Step; 8] = [
-        (Ask::Put(b"a", b"x"), None),
-        (Ask::Put(b"a", b"y"), Some(b"x")),
-        (Ask::Add(b"a", b"z"), Some(b"y")),
-        (Ask::Cas(b"a", b"z", b"w"), Some(b"y")),
-        (Ask::Cas(b"a", b"y", b"v"), Some(b"y")),
-        (Ask::Del(b"a"), Some(b"v")),
-        (Ask::Add(b"a", b"u"), None),
-        (Ask::Get(b"a"), Some(b"u")),
-    ];
     let mut store = Store::new(rt.alloc());
-    check(&rt, rt.alloc(), &mut store, &steps);
+    check(&rt, rt.alloc(), &mut store, OPERATIONS);
     forget(store);
 }
 
 // The position of the key `m`.
 const M: u32 = 0x6d00_0000;
 
-// Whether there is one pair, of this key and value.
-fn is_one(pairs: &Pairs, key: &[u8], value: &[u8]) -> bool {
+// Whether there are so many pairs, the first of this key and the last of this value.
+fn are_pairs(pairs: &Pairs, many: usize, key: &[u8], value: &[u8]) -> bool {
     match pairs.as_slice() {
-        [one] => one.0.bytes() == key && one.1.bytes() == value,
+        [one] => many == 1 && one.0.bytes() == key && one.1.bytes() == value,
+        [first, last] => many == 2 && first.0.bytes() == key && last.1.bytes() == value,
         _ => false,
     }
 }
 
-fn are_two(pairs: &Pairs, key: &[u8], value: &[u8]) -> bool {
-    match pairs.as_slice() {
-        [first, last] => first.0.bytes() == key && last.1.bytes() == value,
-        _ => false,
-    }
+// Whether the list of a store is of two pairs, the first with this key, the second with this value.
+fn lists_two(rt: &impl Abort, store: &Store, key: &[u8], value: &[u8]) -> bool {
+    let all = store.list().expect(rt, "memory");
+    let are_two = are_pairs(&all, 2, key, value);
+    forget(all);
+    are_two
 }
+
+// Takes the part from `m` on, which is one pair, out of a store, and joins it again. Between the two
+// the store has no `m`.
+fn moves(rt: &impl Abort, alloc: Global, store: &mut Store) -> bool {
+    let from_m = RingArc::try_new(M, 1 << 31).expect(rt, "an arc");
+    let moved = store.part(&from_m).expect(rt, "memory");
+    let before_m = RingArc::try_new(0, M as u64).expect(rt, "an arc");
+    store.keep(&before_m);
+    check(rt, alloc, store, &[(Ask::Get(b"m"), None)]);
+    store.join(&moved).expect(rt, "memory");
+    let is_moved = are_pairs(&moved, 1, b"m", b"2");
+    forget(moved);
+    is_moved
+}
+
+const TWO: &[Step] = &[(Ask::Put(b"a", b"1"), None), (Ask::Put(b"m", b"2"), None)];
 
 #[test]
 fn parts_are_taken_kept_and_joined(rt: HostRuntime) {
     let mut store = Store::new(rt.alloc());
-    let steps: [Step; 2] = [(Ask::Put(b"a", b"1"), None), (Ask::Put(b"m", b"2"), None)];
-    check(&rt, rt.alloc(), &mut store, &steps);
-    let all = store.list().expect(&rt, "memory");
-    assert!(rt; are_two(&all, b"a", b"2"));
-    let from_m = RingArc::try_new(M, 1 << 31).expect(&rt, "an arc");
-    let moved = store.part(&from_m).expect(&rt, "memory");
-    assert!(rt; is_one(&moved, b"m", b"2"));
-    let before_m = RingArc::try_new(0, M as u64).expect(&rt, "an arc");
-    store.keep(&before_m);
-    check(&rt, rt.alloc(), &mut store, &[(Ask::Get(b"m"), None)]);
-    store.join(&moved).expect(&rt, "memory");
+    check(&rt, rt.alloc(), &mut store, TWO);
+    let lists_two = lists_two(&rt, &store, b"a", b"2");
+    let moves = moves(&rt, rt.alloc(), &mut store);
     check(&rt, rt.alloc(), &mut store, &[(Ask::Get(b"m"), Some(b"2"))]);
-    forget(all);
-    forget(moved);
     forget(store);
+    assert!(rt; lists_two && moves);
 }
