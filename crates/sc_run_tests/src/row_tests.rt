@@ -1,5 +1,6 @@
 //! Texts of rows of every shape, and texts that are nearly one.
 use sc_journal::{RowFault, read_row};
+use sc_row_lines::common_row;
 use std::alloc::{AllocError, Global};
 use std::mem::forget;
 
@@ -31,33 +32,55 @@ const LEARNT: &[u8] = br#"{"Learn":{"command":"#;
 
 const LEARNT_SO: &[u8] = br#","group":"4.1","slot":4294967295}}"#;
 
-/// What mails say, of shapes that are read with no JSON between, and of one of them with a byte
-/// that a string has a backslash before.
+/// What mails say, of shapes that are read with no JSON between.
 const COMMON_BODIES: &[Pieces] = &[
     &[ASKED, br#"{"Get":{"key":"a"}}"#, ASKED_SO],
     &[ASKED, br#"{"Put":{"key":"!~","value":"x"}}"#, ASKED_SO],
     &[ASKED, br#"{"Del":{"key":"a"}}"#, ASKED_SO],
     &[ASKED, br#"{"Add":{"key":"a","value":"x"}}"#, ASKED_SO],
-    &[ASKED, br#"{"Cas":{"expect":"x","key":"a","value":"y"}}"#, ASKED_SO],
-    &[ASKED, br#"{"Get":{"key":"\"\\"}}"#, ASKED_SO],
+    &[
+        ASKED,
+        br#"{"Cas":{"expect":"x","key":"a","value":"y"}}"#,
+        ASKED_SO,
+    ],
     &[ANSWERED, br#"{"Value":{"old":null}}"#, ANSWERED_SO],
     &[ANSWERED, br#"{"Value":{"old":"null"}}"#, ANSWERED_SO],
     &[br#"{"Prepare":{"ballot":[2,9],"from_slot":0,"group":"0.1"}}"#],
     &[CALLED, br#"{"Get":{"key":"a"}}"#, CALLED_SO],
-    &[CALLED, br#"{"Cas":{"expect":"x","key":"a","value":"y"}}"#, CALLED_SO],
+    &[
+        CALLED,
+        br#"{"Cas":{"expect":"x","key":"a","value":"y"}}"#,
+        CALLED_SO,
+    ],
     &[br#"{"Accepted":{"ballot":[1,1],"group":"0.1","slot":1}}"#],
     &[br#"{"Nack":{"group":"32.4294967295","promised":[4294967295,32]}}"#],
     &[LEARNT, br#""Noop""#, LEARNT_SO],
-    &[LEARNT, br#"{"Call":{"client":1,"op":{"Del":{"key":"a"}},"seq":3}}"#, LEARNT_SO],
+    &[
+        LEARNT,
+        br#"{"Call":{"client":1,"op":{"Del":{"key":"a"}},"seq":3}}"#,
+        LEARNT_SO,
+    ],
     &[br#"{"Ask":{"from_slot":1,"group":"0.1"}}"#],
 ];
 
-/// What mails say, of the other shapes.
+/// What mails say, of the other shapes, and of a common one with bytes that a string has a backslash
+/// before.
 const OTHER_BODIES: &[Pieces] = &[
+    &[ASKED, br#"{"Get":{"key":"\"\\"}}"#, ASKED_SO],
     &[ANSWERED, br#"{"NotLeader":{"hint":1}}"#, ANSWERED_SO],
     &[ANSWERED, br#"{"NotLeader":{"hint":null}}"#, ANSWERED_SO],
-    &[ANSWERED, br#"{"NotMine":{"arc":[0,7],"succ":"#, LINK, b"}}", ANSWERED_SO],
-    &[ANSWERED, br#"{"Gone":{"into":{"group":"0.1","lo":0,"members":[1]}}}"#, ANSWERED_SO],
+    &[
+        ANSWERED,
+        br#"{"NotMine":{"arc":[0,7],"succ":"#,
+        LINK,
+        b"}}",
+        ANSWERED_SO,
+    ],
+    &[
+        ANSWERED,
+        br#"{"Gone":{"into":{"group":"0.1","lo":0,"members":[1]}}}"#,
+        ANSWERED_SO,
+    ],
     &[ANSWERED, br#"{"Stale":{"last":2}}"#, ANSWERED_SO],
     &[br#"{"Promise":{"ballot":[2,2],"group":"0.1","reports":[]}}"#],
     &[
@@ -66,13 +89,39 @@ const OTHER_BODIES: &[Pieces] = &[
     ],
     &[LEARNT, br#"{"Join":{"node":2,"order":1}}"#, LEARNT_SO],
     &[LEARNT, br#"{"Leave":{"node":2,"order":1}}"#, LEARNT_SO],
-    &[LEARNT, br#"{"Split":{"at":7,"child":"1.1","order":1}}"#, LEARNT_SO],
-    &[LEARNT, br#"{"Begin":{"body":"Merge","order":0,"tx":"9.1"}}"#, LEARNT_SO],
-    &[LEARNT, br#"{"Begin":{"body":{"Repart":{"at":5}},"order":0,"tx":"9.1"}}"#, LEARNT_SO],
-    &[LEARNT, br#"{"Prepared":{"offer":"#, OFFER, br#","tx":"1.1"}}"#, LEARNT_SO],
-    &[LEARNT, br#"{"RecordVote":{"by":2,"tx":"1.1","vote":{"No":"Apart"}}}"#, LEARNT_SO],
+    &[
+        LEARNT,
+        br#"{"Split":{"at":7,"child":"1.1","order":1}}"#,
+        LEARNT_SO,
+    ],
+    &[
+        LEARNT,
+        br#"{"Begin":{"body":"Merge","order":0,"tx":"9.1"}}"#,
+        LEARNT_SO,
+    ],
+    &[
+        LEARNT,
+        br#"{"Begin":{"body":{"Repart":{"at":5}},"order":0,"tx":"9.1"}}"#,
+        LEARNT_SO,
+    ],
+    &[
+        LEARNT,
+        br#"{"Prepared":{"offer":"#,
+        OFFER,
+        br#","tx":"1.1"}}"#,
+        LEARNT_SO,
+    ],
+    &[
+        LEARNT,
+        br#"{"RecordVote":{"by":2,"tx":"1.1","vote":{"No":"Apart"}}}"#,
+        LEARNT_SO,
+    ],
     &[LEARNT, br#"{"GiveUp":{"tx":"1.1"}}"#, LEARNT_SO],
-    &[LEARNT, br#"{"Finish":{"outcome":"Divided","tx":"3.2"}}"#, LEARNT_SO],
+    &[
+        LEARNT,
+        br#"{"Finish":{"outcome":"Divided","tx":"3.2"}}"#,
+        LEARNT_SO,
+    ],
     &[
         LEARNT,
         br#"{"Watched":{"tx":"3.2","watch":"#,
@@ -82,7 +131,11 @@ const OTHER_BODIES: &[Pieces] = &[
         b"}}",
         LEARNT_SO,
     ],
-    &[LEARNT, br#"{"RecordWatch":{"by":3,"tx":"1.1","vote":"Ended"}}"#, LEARNT_SO],
+    &[
+        LEARNT,
+        br#"{"RecordWatch":{"by":3,"tx":"1.1","vote":"Ended"}}"#,
+        LEARNT_SO,
+    ],
     &[
         br#"{"Install":{"base":{"clients":[[1,2,{"old":null}]],"core":{"arc":[0,7],"begun":0,"#,
         br#""born":["1.1"],"decided":[["1.2","Abort"]],"first":4,"gone":null,"id":"0.2","#,
@@ -97,7 +150,13 @@ const OTHER_BODIES: &[Pieces] = &[
     &[br#"{"TxVote":{"coord":"0.1","part":"0.2","tx":"1.1","vote":{"No":{"TooMany":{"n":10}}}}}"#],
     &[br#"{"TxOutcome":{"outcome":{"Migrated":{"node":2}},"part":"1.2","tx":"1.3"}}"#],
     &[br#"{"TxElsewhere":{"coord":"1.1","hint":3,"tx":"5.2"}}"#],
-    &[br#"{"TxWatch":{"tx":"1.1","watch":"#, FIRST_OF_WATCH, LINK, LAST_OF_WATCH, b"}}"],
+    &[
+        br#"{"TxWatch":{"tx":"1.1","watch":"#,
+        FIRST_OF_WATCH,
+        LINK,
+        LAST_OF_WATCH,
+        b"}}",
+    ],
     &[br#"{"TxWatched":{"coord":"0.1","part":"0.2","tx":"1.1","vote":"Yes"}}"#],
     &[br#"{"Told":{"order":1,"result":{"Refused":{"NotLeader":{"hint":null}}}}}"#],
 ];
@@ -180,15 +239,25 @@ fn add(text: &mut Vec<u8>, pieces: &[&[u8]]) -> Result<(), AllocError> {
     Ok(())
 }
 
+// The text of these parts.
+fn joined(
+    alloc: Global,
+    first: &[u8],
+    pieces: &[&[u8]],
+    last: &[u8],
+) -> Result<Vec<u8>, AllocError> {
+    let mut text = Vec::new(alloc);
+    add(&mut text, &[first])?;
+    add(&mut text, pieces)?;
+    add(&mut text, &[last])?;
+    Ok(text)
+}
+
 // Whether a text is a row's: 1 if it is, 0 if not, and 255 where memory is short.
 fn answer_of(alloc: Global, first: &[u8], pieces: &[&[u8]], last: &[u8]) -> u8 {
-    let mut text = Vec::new(alloc);
-    if add(&mut text, &[first]).is_err()
-        || add(&mut text, pieces).is_err()
-        || add(&mut text, &[last]).is_err()
-    {
+    let Ok(text) = joined(alloc, first, pieces, last) else {
         return 255;
-    }
+    };
     match read_row(alloc, text.as_slice()) {
         Ok(row) => {
             forget(row);
@@ -199,14 +268,27 @@ fn answer_of(alloc: Global, first: &[u8], pieces: &[&[u8]], last: &[u8]) -> u8 {
     }
 }
 
+const FIRST: &[u8] = br#"{"event":{"Deliver":7},"sent":[{"body":"#;
+
+const LAST: &[u8] = br#","from":1,"to":33}],"who":1}"#;
+
+// Whether the row of a mail that says this is read with no JSON between.
+fn is_common(alloc: Global, body: &[&[u8]]) -> bool {
+    let Ok(text) = joined(alloc, FIRST, body, LAST) else {
+        return false;
+    };
+    match common_row(alloc, text.as_slice()) {
+        Some(row) => {
+            forget(row);
+            true
+        }
+        None => false,
+    }
+}
+
 // A mail that says this, alone in its row.
 fn mail_answer(alloc: Global, body: &[&[u8]]) -> u8 {
-    answer_of(
-        alloc,
-        br#"{"event":{"Deliver":7},"sent":[{"body":"#,
-        body,
-        br#","from":1,"to":33}],"who":1}"#,
-    )
+    answer_of(alloc, FIRST, body, LAST)
 }
 
 // The same mail twice in a row.
@@ -232,6 +314,16 @@ fn mails_of_every_shape_are_read(rt: HostRuntime) {
 }
 
 #[test]
+fn common_mails_are_read_with_no_json_between(rt: HostRuntime) {
+    for body in COMMON_BODIES {
+        assert!(rt; is_common(rt.alloc(), body));
+    }
+    for body in OTHER_BODIES {
+        assert!(rt; !is_common(rt.alloc(), body));
+    }
+}
+
+#[test]
 fn other_spellings_of_mails_are_not_read(rt: HostRuntime) {
     for body in BAD_BODIES {
         assert_eq!(rt; mail_answer(rt.alloc(), body), 0);
@@ -242,7 +334,12 @@ fn other_spellings_of_mails_are_not_read(rt: HostRuntime) {
 #[test]
 fn rows_of_every_event_are_read(rt: HostRuntime) {
     for event in EVENTS {
-        let answer = answer_of(rt.alloc(), br#"{"event":"#, event, br#","sent":[],"who":0}"#);
+        let answer = answer_of(
+            rt.alloc(),
+            br#"{"event":"#,
+            event,
+            br#","sent":[],"who":0}"#,
+        );
         assert_eq!(rt; answer, 1);
     }
 }
@@ -250,7 +347,12 @@ fn rows_of_every_event_are_read(rt: HostRuntime) {
 #[test]
 fn other_spellings_of_rows_are_not_read(rt: HostRuntime) {
     for event in BAD_EVENTS {
-        let answer = answer_of(rt.alloc(), br#"{"event":"#, event, br#","sent":[],"who":0}"#);
+        let answer = answer_of(
+            rt.alloc(),
+            br#"{"event":"#,
+            event,
+            br#","sent":[],"who":0}"#,
+        );
         assert_eq!(rt; answer, 0);
     }
     for end in BAD_ENDS {
