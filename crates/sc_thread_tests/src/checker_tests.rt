@@ -107,15 +107,31 @@ fn taken(rt: &impl Abort, alloc: Global, lines: &[Line<u32>], acts: &[Act]) -> u
 // How many first parts of rows are lawful, all of them among these.
 fn lawful_parts(rt: &impl Abort, alloc: Global, lines: &[Line<u32>], acts: &[Act]) -> usize {
     let mut parts = 0usize;
-    for n in 0..acts.len() {
-        if lawful(rt, alloc, lines, &acts[..n]) {
+    for n in 0..=acts.len() {
+        if lawful(rt, alloc, lines, acts.get(..n).unwrap_or(acts)) {
             parts = parts.saturating_add(1);
         }
     }
-    if lawful(rt, alloc, lines, acts) {
-        parts = parts.saturating_add(1);
-    }
     parts
+}
+
+// Lines, rows, how many first parts of these are lawful, and how many rows a replay takes, where
+// that is asked.
+type Case = (&'static [Line<u32>], &'static [Act], usize, Option<usize>);
+
+fn is_so(rt: &impl Abort, alloc: Global, case: Case) -> bool {
+    let (lines, acts, parts, rows) = case;
+    let takes = match rows {
+        Some(rows) => taken(rt, alloc, lines, acts) == rows,
+        None => true,
+    };
+    takes && lawful_parts(rt, alloc, lines, acts) == parts
+}
+
+fn are_so(rt: &impl Abort, alloc: Global, cases: &[Case]) {
+    for case in cases {
+        assert!(rt; is_so(rt, alloc, *case));
+    }
 }
 
 // What rows leave.
@@ -167,6 +183,16 @@ fn leave(
     forget(left);
     forget(rows);
     is_so
+}
+
+// Lines, rows, how many of these are taken, and what they leave.
+type Leaving = (&'static [Line<u32>], &'static [Act], usize, Option<Left>);
+
+fn are_left(rt: &impl Abort, alloc: Global, cases: &[Leaving]) {
+    for (lines, acts, many, left) in cases {
+        let acts = acts.get(..*many).unwrap_or(acts);
+        assert!(rt; leave(rt, alloc, lines, acts, *left));
+    }
 }
 
 // Whether the mail that rows leave pending has these numbers.
@@ -223,37 +249,54 @@ const GO_AND_TWO: &[Line<u32>] = &[Line::Go { who: 1 }, Line::Settle { most: 2 }
 
 const OTHER_GOES: &[Line<u32>] = &[Line::Go { who: 2 }, Line::Settle { most: 10 }];
 
+const LAWFUL: &[Case] = &[
+    (GO_AND_SETTLE, &SETTLED, 6, Some(5)),
+    (GO_AND_FREE, &SETTLED, 6, None),
+    (GO_AND_TWO, &SETTLED, 4, None),
+    (OTHER_GOES, &SETTLED, 1, None),
+];
+
 #[test]
 fn the_tables_rows_are_lawful(rt: HostRuntime) {
-    assert!(rt; lawful_parts(&rt, rt.alloc(), GO_AND_SETTLE, &SETTLED) == 6);
-    assert!(rt; lawful_parts(&rt, rt.alloc(), GO_AND_FREE, &SETTLED) == 6);
-    assert!(rt; lawful_parts(&rt, rt.alloc(), GO_AND_TWO, &SETTLED) == 4);
-    assert!(rt; lawful_parts(&rt, rt.alloc(), OTHER_GOES, &SETTLED) == 1);
+    are_so(&rt, rt.alloc(), LAWFUL);
 }
 
 // The second row left out, the first one twice, the second one by another, to another, without its
 // note, and at another event.
-const CHANGED: [[Act; 2]; 6] = [
-    [(1, When::Go, 2), (1, When::Deliver(2), 2)],
-    [(1, When::Go, 2), (1, When::Go, 2)],
-    [(1, When::Go, 2), (1, When::Deliver(1), 1)],
-    [(1, When::Go, 2), (2, When::Deliver(1), 2)],
-    [(1, When::Go, 2), (2, When::Deliver(1), 0)],
-    [(1, When::Go, 2), (2, When::Tick, 1)],
+const LEFT_OUT: [Act; 2] = [(1, When::Go, 2), (1, When::Deliver(2), 2)];
+
+const TWICE: [Act; 2] = [(1, When::Go, 2), (1, When::Go, 2)];
+
+const BY_ANOTHER: [Act; 2] = [(1, When::Go, 2), (1, When::Deliver(1), 1)];
+
+const TO_ANOTHER: [Act; 2] = [(1, When::Go, 2), (2, When::Deliver(1), 2)];
+
+const WITHOUT_NOTE: [Act; 2] = [(1, When::Go, 2), (2, When::Deliver(1), 0)];
+
+const AT_ANOTHER: [Act; 2] = [(1, When::Go, 2), (2, When::Tick, 1)];
+
+// A note too many.
+const ONE_MORE: [Act; 5] = [
+    (1, When::Go, 2),
+    (2, When::Deliver(1), 1),
+    (1, When::Deliver(2), 2),
+    (2, When::Deliver(3), 1),
+    (1, When::Deliver(4), 2),
+];
+
+const CHANGED: &[Case] = &[
+    (GO_AND_SETTLE, &LEFT_OUT, 2, Some(1)),
+    (GO_AND_SETTLE, &TWICE, 2, Some(1)),
+    (GO_AND_SETTLE, &BY_ANOTHER, 2, Some(1)),
+    (GO_AND_SETTLE, &TO_ANOTHER, 2, Some(1)),
+    (GO_AND_SETTLE, &WITHOUT_NOTE, 2, Some(1)),
+    (GO_AND_SETTLE, &AT_ANOTHER, 2, Some(1)),
+    (GO_AND_SETTLE, &ONE_MORE, 5, Some(4)),
 ];
 
 #[test]
 fn changed_rows_are_not_lawful(rt: HostRuntime) {
-    for acts in &CHANGED {
-        assert!(rt; lawful_parts(&rt, rt.alloc(), GO_AND_SETTLE, acts) == 2);
-        assert!(rt; taken(&rt, rt.alloc(), GO_AND_SETTLE, acts) == 1);
-    }
-    // A note too many.
-    let mut more = SETTLED;
-    more[4].2 = 2;
-    assert!(rt; lawful_parts(&rt, rt.alloc(), GO_AND_SETTLE, &more) == 5);
-    assert!(rt; taken(&rt, rt.alloc(), GO_AND_SETTLE, &more) == 4);
-    assert!(rt; taken(&rt, rt.alloc(), GO_AND_SETTLE, &SETTLED) == 5);
+    are_so(&rt, rt.alloc(), CHANGED);
 }
 
 const BOTH_AND_FREE: &[Line<u32>] = &[
@@ -286,17 +329,27 @@ const LATER_MAIL: [Act; 4] = [
     (2, When::Deliver(3), 1),
 ];
 
-#[test]
-fn free_lines_leave_the_order_of_actors_open(rt: HostRuntime) {
-    let left = Left {
+const ORDERS: &[Case] = &[
+    (BOTH_AND_TWO, &SECOND_FIRST, 3, None),
+    (BOTH_AND_FREE, &LATER_MAIL, 4, None),
+];
+
+const SECOND_FIRST_LEFT: &[Leaving] = &[(
+    BOTH_AND_FREE,
+    &SECOND_FIRST,
+    4,
+    Some(Left {
         skipped: 0,
         unsettled: true,
         quiet: false,
         notes: (0, 0),
-    };
-    assert!(rt; leave(&rt, rt.alloc(), BOTH_AND_FREE, &SECOND_FIRST, Some(left)));
-    assert!(rt; lawful_parts(&rt, rt.alloc(), BOTH_AND_TWO, &SECOND_FIRST) == 3);
-    assert!(rt; lawful_parts(&rt, rt.alloc(), BOTH_AND_FREE, &LATER_MAIL) == 4);
+    }),
+)];
+
+#[test]
+fn free_lines_leave_the_order_of_actors_open(rt: HostRuntime) {
+    are_left(&rt, rt.alloc(), SECOND_FIRST_LEFT);
+    are_so(&rt, rt.alloc(), ORDERS);
 }
 
 const SKIPPED: &[Line<u32>] = &[
@@ -316,16 +369,22 @@ const SKIPPED: &[Line<u32>] = &[
     Line::Settle { most: 5 },
 ];
 
-#[test]
-fn lines_are_skipped_where_they_make_no_row(rt: HostRuntime) {
-    let left = Left {
+const SKIPPED_LEFT: &[Leaving] = &[(
+    SKIPPED,
+    &TROUBLED,
+    8,
+    Some(Left {
         skipped: 6,
         unsettled: false,
         quiet: true,
         notes: (0, 1),
-    };
-    assert!(rt; lawful_parts(&rt, rt.alloc(), SKIPPED, &TROUBLED) == 9);
-    assert!(rt; leave(&rt, rt.alloc(), SKIPPED, &TROUBLED, Some(left)));
+    }),
+)];
+
+#[test]
+fn lines_are_skipped_where_they_make_no_row(rt: HostRuntime) {
+    are_so(&rt, rt.alloc(), &[(SKIPPED, &TROUBLED, 9, None)]);
+    are_left(&rt, rt.alloc(), SKIPPED_LEFT);
 }
 
 const TWO_SETTLES: &[Line<u32>] = &[
@@ -335,37 +394,86 @@ const TWO_SETTLES: &[Line<u32>] = &[
     Line::Settle { most: 9 },
 ];
 
-// What is left where one line is skipped.
-fn one_skipped(unsettled: bool, quiet: bool, notes: (u32, u32)) -> Option<Left> {
-    Some(Left {
-        skipped: 1,
-        unsettled,
-        quiet,
-        notes,
-    })
-}
+// `SETTLED` without its first row.
+const HEADLESS: [Act; 4] = [
+    (2, When::Deliver(1), 1),
+    (1, When::Deliver(2), 2),
+    (2, When::Deliver(3), 1),
+    (1, When::Deliver(4), 0),
+];
+
+const PARTS_LEFT: &[Leaving] = &[
+    (
+        TWO_SETTLES,
+        &SETTLED,
+        0,
+        Some(Left {
+            skipped: 1,
+            unsettled: false,
+            quiet: true,
+            notes: (2, 2),
+        }),
+    ),
+    (
+        TWO_SETTLES,
+        &SETTLED,
+        2,
+        Some(Left {
+            skipped: 1,
+            unsettled: false,
+            quiet: false,
+            notes: (1, 1),
+        }),
+    ),
+    (
+        TWO_SETTLES,
+        &SETTLED,
+        3,
+        Some(Left {
+            skipped: 1,
+            unsettled: true,
+            quiet: false,
+            notes: (0, 1),
+        }),
+    ),
+    (
+        TWO_SETTLES,
+        &SETTLED,
+        5,
+        Some(Left {
+            skipped: 1,
+            unsettled: true,
+            quiet: true,
+            notes: (0, 0),
+        }),
+    ),
+    (TWO_SETTLES, &HEADLESS, 4, None),
+];
 
 #[test]
 fn a_replay_tells_what_rows_leave(rt: HostRuntime) {
-    let none = one_skipped(false, true, (2, 2));
-    let two = one_skipped(false, false, (1, 1));
-    let three = one_skipped(true, false, (0, 1));
-    let all = one_skipped(true, true, (0, 0));
-    assert!(rt; leave(&rt, rt.alloc(), TWO_SETTLES, &[], none));
-    assert!(rt; leave(&rt, rt.alloc(), TWO_SETTLES, &SETTLED[..2], two));
-    assert!(rt; leave(&rt, rt.alloc(), TWO_SETTLES, &SETTLED[..3], three));
-    assert!(rt; leave(&rt, rt.alloc(), TWO_SETTLES, &SETTLED, all));
-    assert!(rt; leave(&rt, rt.alloc(), TWO_SETTLES, &SETTLED[1..], None));
+    are_left(&rt, rt.alloc(), PARTS_LEFT);
 }
 
-// The mail of all actors before each row of `TROUBLED`, and after the last one.
-const ALL_PENDING: [&[u32]; 9] = [&[], &[1], &[1, 1], &[1], &[1, 2], &[2], &[3], &[3], &[]];
+// After so many rows of `TROUBLED` the mail of all actors, or of one.
+const PENDING: &[(usize, Option<u32>, &[u32])] = &[
+    (0, None, &[]),
+    (1, None, &[1]),
+    (2, None, &[1, 1]),
+    (3, None, &[1]),
+    (4, None, &[1, 2]),
+    (5, None, &[2]),
+    (6, None, &[3]),
+    (7, None, &[3]),
+    (8, None, &[]),
+    (4, Some(1), &[]),
+    (4, Some(2), &[1, 2]),
+];
 
 #[test]
 fn pending_mail_is_looked_up(rt: HostRuntime) {
-    for n in 0..9usize {
-        assert!(rt; leave_pending(&rt, rt.alloc(), &TROUBLED[..n], None, ALL_PENDING[n]));
+    for (many, whose, wanted) in PENDING {
+        let acts = TROUBLED.as_slice().get(..*many).unwrap_or(&[]);
+        assert!(rt; leave_pending(&rt, rt.alloc(), acts, *whose, wanted));
     }
-    assert!(rt; leave_pending(&rt, rt.alloc(), &TROUBLED[..4], Some(1), &[]));
-    assert!(rt; leave_pending(&rt, rt.alloc(), &TROUBLED[..4], Some(2), &[1, 2]));
 }
