@@ -38,17 +38,29 @@ const COMMON_BODIES: &[Pieces] = &[
     &[ASKED, br#"{"Put":{"key":"!~","value":"x"}}"#, ASKED_SO],
     &[ASKED, br#"{"Del":{"key":"a"}}"#, ASKED_SO],
     &[ASKED, br#"{"Add":{"key":"a","value":"x"}}"#, ASKED_SO],
-    &[ASKED, br#"{"Cas":{"expect":"x","key":"a","value":"y"}}"#, ASKED_SO],
+    &[
+        ASKED,
+        br#"{"Cas":{"expect":"x","key":"a","value":"y"}}"#,
+        ASKED_SO,
+    ],
     &[ASKED, br#"{"Get":{"key":"\"\\"}}"#, ASKED_SO],
     &[ANSWERED, br#"{"Value":{"old":null}}"#, ANSWERED_SO],
     &[ANSWERED, br#"{"Value":{"old":"null"}}"#, ANSWERED_SO],
     &[br#"{"Prepare":{"ballot":[2,9],"from_slot":0,"group":"0.1"}}"#],
     &[CALLED, br#"{"Get":{"key":"a"}}"#, CALLED_SO],
-    &[CALLED, br#"{"Cas":{"expect":"x","key":"a","value":"y"}}"#, CALLED_SO],
+    &[
+        CALLED,
+        br#"{"Cas":{"expect":"x","key":"a","value":"y"}}"#,
+        CALLED_SO,
+    ],
     &[br#"{"Accepted":{"ballot":[1,1],"group":"0.1","slot":1}}"#],
     &[br#"{"Nack":{"group":"32.4294967295","promised":[4294967295,32]}}"#],
     &[LEARNT, br#""Noop""#, LEARNT_SO],
-    &[LEARNT, br#"{"Call":{"client":1,"op":{"Del":{"key":"a"}},"seq":3}}"#, LEARNT_SO],
+    &[
+        LEARNT,
+        br#"{"Call":{"client":1,"op":{"Del":{"key":"a"}},"seq":3}}"#,
+        LEARNT_SO,
+    ],
     &[br#"{"Ask":{"from_slot":1,"group":"0.1"}}"#],
 ];
 
@@ -56,8 +68,18 @@ const COMMON_BODIES: &[Pieces] = &[
 const OTHER_BODIES: &[Pieces] = &[
     &[ANSWERED, br#"{"NotLeader":{"hint":1}}"#, ANSWERED_SO],
     &[ANSWERED, br#"{"NotLeader":{"hint":null}}"#, ANSWERED_SO],
-    &[ANSWERED, br#"{"NotMine":{"arc":[0,7],"succ":"#, LINK, b"}}", ANSWERED_SO],
-    &[ANSWERED, br#"{"Gone":{"into":{"group":"0.1","lo":0,"members":[1]}}}"#, ANSWERED_SO],
+    &[
+        ANSWERED,
+        br#"{"NotMine":{"arc":[0,7],"succ":"#,
+        LINK,
+        b"}}",
+        ANSWERED_SO,
+    ],
+    &[
+        ANSWERED,
+        br#"{"Gone":{"into":{"group":"0.1","lo":0,"members":[1]}}}"#,
+        ANSWERED_SO,
+    ],
     &[ANSWERED, br#"{"Stale":{"last":2}}"#, ANSWERED_SO],
     &[br#"{"Promise":{"ballot":[2,2],"group":"0.1","reports":[]}}"#],
     &[
@@ -66,13 +88,39 @@ const OTHER_BODIES: &[Pieces] = &[
     ],
     &[LEARNT, br#"{"Join":{"node":2,"order":1}}"#, LEARNT_SO],
     &[LEARNT, br#"{"Leave":{"node":2,"order":1}}"#, LEARNT_SO],
-    &[LEARNT, br#"{"Split":{"at":7,"child":"1.1","order":1}}"#, LEARNT_SO],
-    &[LEARNT, br#"{"Begin":{"body":"Merge","order":0,"tx":"9.1"}}"#, LEARNT_SO],
-    &[LEARNT, br#"{"Begin":{"body":{"Repart":{"at":5}},"order":0,"tx":"9.1"}}"#, LEARNT_SO],
-    &[LEARNT, br#"{"Prepared":{"offer":"#, OFFER, br#","tx":"1.1"}}"#, LEARNT_SO],
-    &[LEARNT, br#"{"RecordVote":{"by":2,"tx":"1.1","vote":{"No":"Apart"}}}"#, LEARNT_SO],
+    &[
+        LEARNT,
+        br#"{"Split":{"at":7,"child":"1.1","order":1}}"#,
+        LEARNT_SO,
+    ],
+    &[
+        LEARNT,
+        br#"{"Begin":{"body":"Merge","order":0,"tx":"9.1"}}"#,
+        LEARNT_SO,
+    ],
+    &[
+        LEARNT,
+        br#"{"Begin":{"body":{"Repart":{"at":5}},"order":0,"tx":"9.1"}}"#,
+        LEARNT_SO,
+    ],
+    &[
+        LEARNT,
+        br#"{"Prepared":{"offer":"#,
+        OFFER,
+        br#","tx":"1.1"}}"#,
+        LEARNT_SO,
+    ],
+    &[
+        LEARNT,
+        br#"{"RecordVote":{"by":2,"tx":"1.1","vote":{"No":"Apart"}}}"#,
+        LEARNT_SO,
+    ],
     &[LEARNT, br#"{"GiveUp":{"tx":"1.1"}}"#, LEARNT_SO],
-    &[LEARNT, br#"{"Finish":{"outcome":"Divided","tx":"3.2"}}"#, LEARNT_SO],
+    &[
+        LEARNT,
+        br#"{"Finish":{"outcome":"Divided","tx":"3.2"}}"#,
+        LEARNT_SO,
+    ],
     &[
         LEARNT,
         br#"{"Watched":{"tx":"3.2","watch":"#,
@@ -82,7 +130,11 @@ const OTHER_BODIES: &[Pieces] = &[
         b"}}",
         LEARNT_SO,
     ],
-    &[LEARNT, br#"{"RecordWatch":{"by":3,"tx":"1.1","vote":"Ended"}}"#, LEARNT_SO],
+    &[
+        LEARNT,
+        br#"{"RecordWatch":{"by":3,"tx":"1.1","vote":"Ended"}}"#,
+        LEARNT_SO,
+    ],
     &[
         br#"{"Install":{"base":{"clients":[[1,2,{"old":null}]],"core":{"arc":[0,7],"begun":0,"#,
         br#""born":["1.1"],"decided":[["1.2","Abort"]],"first":4,"gone":null,"id":"0.2","#,
@@ -97,7 +149,13 @@ const OTHER_BODIES: &[Pieces] = &[
     &[br#"{"TxVote":{"coord":"0.1","part":"0.2","tx":"1.1","vote":{"No":{"TooMany":{"n":10}}}}}"#],
     &[br#"{"TxOutcome":{"outcome":{"Migrated":{"node":2}},"part":"1.2","tx":"1.3"}}"#],
     &[br#"{"TxElsewhere":{"coord":"1.1","hint":3,"tx":"5.2"}}"#],
-    &[br#"{"TxWatch":{"tx":"1.1","watch":"#, FIRST_OF_WATCH, LINK, LAST_OF_WATCH, b"}}"],
+    &[
+        br#"{"TxWatch":{"tx":"1.1","watch":"#,
+        FIRST_OF_WATCH,
+        LINK,
+        LAST_OF_WATCH,
+        b"}}",
+    ],
     &[br#"{"TxWatched":{"coord":"0.1","part":"0.2","tx":"1.1","vote":"Yes"}}"#],
     &[br#"{"Told":{"order":1,"result":{"Refused":{"NotLeader":{"hint":null}}}}}"#],
 ];
@@ -242,7 +300,12 @@ fn other_spellings_of_mails_are_not_read(rt: HostRuntime) {
 #[test]
 fn rows_of_every_event_are_read(rt: HostRuntime) {
     for event in EVENTS {
-        let answer = answer_of(rt.alloc(), br#"{"event":"#, event, br#","sent":[],"who":0}"#);
+        let answer = answer_of(
+            rt.alloc(),
+            br#"{"event":"#,
+            event,
+            br#","sent":[],"who":0}"#,
+        );
         assert_eq!(rt; answer, 1);
     }
 }
@@ -250,7 +313,12 @@ fn rows_of_every_event_are_read(rt: HostRuntime) {
 #[test]
 fn other_spellings_of_rows_are_not_read(rt: HostRuntime) {
     for event in BAD_EVENTS {
-        let answer = answer_of(rt.alloc(), br#"{"event":"#, event, br#","sent":[],"who":0}"#);
+        let answer = answer_of(
+            rt.alloc(),
+            br#"{"event":"#,
+            event,
+            br#","sent":[],"who":0}"#,
+        );
         assert_eq!(rt; answer, 0);
     }
     for end in BAD_ENDS {
