@@ -1,4 +1,3 @@
-pub mod Apart
 pub mod Arrays
 pub mod Digits
 pub mod Finding

@@ -4,7 +4,8 @@ use Rattle.std.specs.List.{slice_get}
 use Rattle.serde_json.specs.View.{view, members_view}
 use Rattle.serde_json.specs.declared.value.Value.{Value, Object}
 use Rattle.serde_json.proofs.Views.{view-Object}
-use Rattle.sc_from_json.specs.Reading.{MayBeVariant, HasFirst, variant_name, content_of, first_name, first_content}
+use Rattle.sc_from_json.specs.Reading.{MayBeVariant, HasFirst, content_of, first_content}
+use Rattle.sc_row_text.specs.Shapes.{variant_name, first_name}
 
 -- the first entry is the first member
 first_of_entries : (entries : List (String Global × Value)) (name : String Global) (content : Value) → slice_get entries 0 ≡ Some (name, content) → (string_bytes name ≡ first_name (members_view entries)) × (view content ≡ first_content (members_view entries))

@@ -1,5 +1,5 @@
 -- What a reader finds.
-use Rattle.std.specs.Prelude.{◌≡◌, ℕ, List, [], Result, MatchResult, ⊤}
+use Rattle.std.specs.Prelude.{◌≡◌, Result, MatchResult, ⊤}
 use Rattle.serde_json.specs.Data.{Data, null, boolean, number, string, array, object, Members, no_members, member}
 use Rattle.sc_from_json.specs.declared.faults.RowFault.{RowFault}
 use Rattle.sc_from_json.specs.declared.faults.RowFault.TheVariants.{OutOfMemory}
@@ -12,24 +12,10 @@ Finds value result = MatchResult result (λ found. found ≡ value) (λ why. why
 abbrev pub Shows : {T X : Type 0} → (T → X) → X → Result T RowFault → Type 0
 Shows seen value result = MatchResult result (λ found. seen found ≡ value) (λ why. why ≡ OutOfMemory)
 
--- the name of the first member, if there is one
-abbrev pub first_name : Members → List ℕ
-first_name no_members = []
-first_name (member name content ms) = name
-
 -- the first member, if there is one
 abbrev pub first_content : Members → Data
 first_content no_members = null
 first_content (member name content ms) = content
-
--- the name of a variant: a string, or an object's one member
-abbrev pub variant_name : Data → List ℕ
-variant_name null = []
-variant_name (boolean b) = []
-variant_name (number n) = []
-variant_name (string name) = name
-variant_name (array ds) = []
-variant_name (object ms) = first_name ms
 
 -- the content of a variant that has some
 abbrev pub content_of : Data → Data

@@ -1,7 +1,8 @@
 //! Members, items and variants, read.
 ghost use Rattle.std.specs.Prelude.{◌≡◌, Some, IsSomeAnd};
 ghost use Rattle.serde_json.specs.View.{view};
-ghost use Rattle.sc_from_json.specs.Reading.{Finds, MayBeVariant, variant_name, content_of};
+ghost use Rattle.sc_from_json.specs.Reading.{Finds, MayBeVariant, content_of};
+ghost use Rattle.sc_row_text.specs.Shapes.{variant_name};
 
 use crate::faults::RowFault;
 use crate::from_json::FromJson;

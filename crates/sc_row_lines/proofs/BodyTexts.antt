@@ -5,7 +5,7 @@ use Rattle.serde_json.specs.Written.{compact_text}
 use Rattle.sc_row_text.specs.Shapes.{number_json}
 use Rattle.sc_row_text.specs.Held.{FitsU16, FitsU32}
 use Rattle.sc_row_lines.specs.Fronts.{IsOnly, Begins}
-use Rattle.sc_row_lines.proofs.Apart.{apart}
+use Rattle.sc_row_text.proofs.Apart.{variants_apart}
 use Rattle.sc_base.specs.declared.names.Ballot.{Ballot}
 use Rattle.sc_base.specs.declared.names.Draw.{Draw}
 use Rattle.sc_base.specs.declared.ops.Op.{Op}
@@ -27,7 +27,7 @@ request_only group client seq op client_known group_known op_known seq_known (Th
     let op_same : other_op ≡ op = op_known.only other_op held.2 (cc) in
     let seq_same : other_seq ≡ seq = seq_known.only other_seq held.3 (cc) in
     cc
-request_only group client seq op client_known group_known op_known seq_known _ held same = absurd (apart _ _ same refl)
+request_only group client seq op client_known group_known op_known seq_known _ held same = absurd (variants_apart _ _ same refl)
 
 pub request_begins : (bytes rest : List ℕ) (group : Draw) (client : ℕ) (seq : ℕ) (op : Op) → IsOnly number_json FitsU16 client → IsOnly draw_json FitsDraw group → IsOnly op_json FitsOp op → IsOnly number_json FitsU32 seq → bytes ≡ codes "{\"Request\":{\"client\":" ++ (compact_text (number_json client) ++ (codes ",\"group\":" ++ (compact_text (draw_json group) ++ (codes ",\"op\":" ++ (compact_text (op_json op) ++ (codes ",\"seq\":" ++ (compact_text (number_json seq) ++ (codes "}}" ++ rest)))))))) → Begins mail_body_json FitsMailBody bytes (TheMailBody.Request group client seq op) rest
 unfolding mail_body_json FitsMailBody escape_byte
@@ -43,7 +43,7 @@ answer_only group seq answer answer_known group_known seq_known (TheMailBody.Ans
     let group_same : other_group ≡ group = group_known.only other_group held.1 (cc) in
     let seq_same : other_seq ≡ seq = seq_known.only other_seq held.2 (cc) in
     cc
-answer_only group seq answer answer_known group_known seq_known _ held same = absurd (apart _ _ same refl)
+answer_only group seq answer answer_known group_known seq_known _ held same = absurd (variants_apart _ _ same refl)
 
 pub answer_begins : (bytes rest : List ℕ) (group : Draw) (seq : ℕ) (answer : AnswerBody) → IsOnly answer_body_json FitsAnswerBody answer → IsOnly draw_json FitsDraw group → IsOnly number_json FitsU32 seq → bytes ≡ codes "{\"Answer\":{\"answer\":" ++ (compact_text (answer_body_json answer) ++ (codes ",\"group\":" ++ (compact_text (draw_json group) ++ (codes ",\"seq\":" ++ (compact_text (number_json seq) ++ (codes "}}" ++ rest)))))) → Begins mail_body_json FitsMailBody bytes (TheMailBody.Answer group seq answer) rest
 unfolding mail_body_json FitsMailBody escape_byte
@@ -59,7 +59,7 @@ prepare_only group ballot from_slot ballot_known from_slot_known group_known (Th
     let from_slot_same : other_from_slot ≡ from_slot = from_slot_known.only other_from_slot held.1 (cc) in
     let group_same : other_group ≡ group = group_known.only other_group held.2 (cc) in
     cc
-prepare_only group ballot from_slot ballot_known from_slot_known group_known _ held same = absurd (apart _ _ same refl)
+prepare_only group ballot from_slot ballot_known from_slot_known group_known _ held same = absurd (variants_apart _ _ same refl)
 
 pub prepare_begins : (bytes rest : List ℕ) (group : Draw) (ballot : Ballot) (from_slot : ℕ) → IsOnly ballot_json FitsBallot ballot → IsOnly number_json FitsU32 from_slot → IsOnly draw_json FitsDraw group → bytes ≡ codes "{\"Prepare\":{\"ballot\":" ++ (compact_text (ballot_json ballot) ++ (codes ",\"from_slot\":" ++ (compact_text (number_json from_slot) ++ (codes ",\"group\":" ++ (compact_text (draw_json group) ++ (codes "}}" ++ rest)))))) → Begins mail_body_json FitsMailBody bytes (TheMailBody.Prepare group ballot from_slot) rest
 unfolding mail_body_json FitsMailBody escape_byte
@@ -76,7 +76,7 @@ accept_only group ballot slot command ballot_known command_known group_known slo
     let group_same : other_group ≡ group = group_known.only other_group held.2 (cc) in
     let slot_same : other_slot ≡ slot = slot_known.only other_slot held.3 (cc) in
     cc
-accept_only group ballot slot command ballot_known command_known group_known slot_known _ held same = absurd (apart _ _ same refl)
+accept_only group ballot slot command ballot_known command_known group_known slot_known _ held same = absurd (variants_apart _ _ same refl)
 
 pub accept_begins : (bytes rest : List ℕ) (group : Draw) (ballot : Ballot) (slot : ℕ) (command : Command) → IsOnly ballot_json FitsBallot ballot → IsOnly command_json FitsCommand command → IsOnly draw_json FitsDraw group → IsOnly number_json FitsU32 slot → bytes ≡ codes "{\"Accept\":{\"ballot\":" ++ (compact_text (ballot_json ballot) ++ (codes ",\"command\":" ++ (compact_text (command_json command) ++ (codes ",\"group\":" ++ (compact_text (draw_json group) ++ (codes ",\"slot\":" ++ (compact_text (number_json slot) ++ (codes "}}" ++ rest)))))))) → Begins mail_body_json FitsMailBody bytes (TheMailBody.Accept group ballot slot command) rest
 unfolding mail_body_json FitsMailBody escape_byte
@@ -92,7 +92,7 @@ accepted_only group ballot slot ballot_known group_known slot_known (TheMailBody
     let group_same : other_group ≡ group = group_known.only other_group held.1 (cc) in
     let slot_same : other_slot ≡ slot = slot_known.only other_slot held.2 (cc) in
     cc
-accepted_only group ballot slot ballot_known group_known slot_known _ held same = absurd (apart _ _ same refl)
+accepted_only group ballot slot ballot_known group_known slot_known _ held same = absurd (variants_apart _ _ same refl)
 
 pub accepted_begins : (bytes rest : List ℕ) (group : Draw) (ballot : Ballot) (slot : ℕ) → IsOnly ballot_json FitsBallot ballot → IsOnly draw_json FitsDraw group → IsOnly number_json FitsU32 slot → bytes ≡ codes "{\"Accepted\":{\"ballot\":" ++ (compact_text (ballot_json ballot) ++ (codes ",\"group\":" ++ (compact_text (draw_json group) ++ (codes ",\"slot\":" ++ (compact_text (number_json slot) ++ (codes "}}" ++ rest)))))) → Begins mail_body_json FitsMailBody bytes (TheMailBody.Accepted group ballot slot) rest
 unfolding mail_body_json FitsMailBody escape_byte
@@ -107,7 +107,7 @@ nack_only group promised group_known promised_known (TheMailBody.Nack other_grou
     let group_same : other_group ≡ group = group_known.only other_group held.0 (cc) in
     let promised_same : other_promised ≡ promised = promised_known.only other_promised held.1 (cc) in
     cc
-nack_only group promised group_known promised_known _ held same = absurd (apart _ _ same refl)
+nack_only group promised group_known promised_known _ held same = absurd (variants_apart _ _ same refl)
 
 pub nack_begins : (bytes rest : List ℕ) (group : Draw) (promised : Ballot) → IsOnly draw_json FitsDraw group → IsOnly ballot_json FitsBallot promised → bytes ≡ codes "{\"Nack\":{\"group\":" ++ (compact_text (draw_json group) ++ (codes ",\"promised\":" ++ (compact_text (ballot_json promised) ++ (codes "}}" ++ rest)))) → Begins mail_body_json FitsMailBody bytes (TheMailBody.Nack group promised) rest
 unfolding mail_body_json FitsMailBody escape_byte
@@ -123,7 +123,7 @@ learn_only group slot command command_known group_known slot_known (TheMailBody.
     let group_same : other_group ≡ group = group_known.only other_group held.1 (cc) in
     let slot_same : other_slot ≡ slot = slot_known.only other_slot held.2 (cc) in
     cc
-learn_only group slot command command_known group_known slot_known _ held same = absurd (apart _ _ same refl)
+learn_only group slot command command_known group_known slot_known _ held same = absurd (variants_apart _ _ same refl)
 
 pub learn_begins : (bytes rest : List ℕ) (group : Draw) (slot : ℕ) (command : Command) → IsOnly command_json FitsCommand command → IsOnly draw_json FitsDraw group → IsOnly number_json FitsU32 slot → bytes ≡ codes "{\"Learn\":{\"command\":" ++ (compact_text (command_json command) ++ (codes ",\"group\":" ++ (compact_text (draw_json group) ++ (codes ",\"slot\":" ++ (compact_text (number_json slot) ++ (codes "}}" ++ rest)))))) → Begins mail_body_json FitsMailBody bytes (TheMailBody.Learn group slot command) rest
 unfolding mail_body_json FitsMailBody escape_byte
@@ -138,7 +138,7 @@ ask_only group from_slot from_slot_known group_known (TheMailBody.Ask other_grou
     let from_slot_same : other_from_slot ≡ from_slot = from_slot_known.only other_from_slot held.0 (cc) in
     let group_same : other_group ≡ group = group_known.only other_group held.1 (cc) in
     cc
-ask_only group from_slot from_slot_known group_known _ held same = absurd (apart _ _ same refl)
+ask_only group from_slot from_slot_known group_known _ held same = absurd (variants_apart _ _ same refl)
 
 pub ask_begins : (bytes rest : List ℕ) (group : Draw) (from_slot : ℕ) → IsOnly number_json FitsU32 from_slot → IsOnly draw_json FitsDraw group → bytes ≡ codes "{\"Ask\":{\"from_slot\":" ++ (compact_text (number_json from_slot) ++ (codes ",\"group\":" ++ (compact_text (draw_json group) ++ (codes "}}" ++ rest)))) → Begins mail_body_json FitsMailBody bytes (TheMailBody.Ask group from_slot) rest
 unfolding mail_body_json FitsMailBody escape_byte

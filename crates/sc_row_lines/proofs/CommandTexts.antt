@@ -5,7 +5,7 @@ use Rattle.serde_json.specs.Written.{compact_text}
 use Rattle.sc_row_text.specs.Shapes.{number_json}
 use Rattle.sc_row_text.specs.Held.{FitsU16, FitsU32}
 use Rattle.sc_row_lines.specs.Fronts.{IsOnly, Begins}
-use Rattle.sc_row_lines.proofs.Apart.{apart}
+use Rattle.sc_row_text.proofs.Apart.{variants_apart}
 use Rattle.sc_base.specs.declared.ops.Op.{Op}
 use Rattle.sc_cmd.specs.declared.commands.Command.{Command}
 use Rattle.sc_cmd.specs.declared.commands.Command.TheVariants as TheCommand
@@ -19,7 +19,7 @@ call_only client seq op client_known op_known seq_known (TheCommand.Call other_c
     let op_same : other_op ≡ op = op_known.only other_op held.1 (cc) in
     let seq_same : other_seq ≡ seq = seq_known.only other_seq held.2 (cc) in
     cc
-call_only client seq op client_known op_known seq_known _ held same = absurd (apart _ _ same refl)
+call_only client seq op client_known op_known seq_known _ held same = absurd (variants_apart _ _ same refl)
 
 pub call_begins : (bytes rest : List ℕ) (client : ℕ) (seq : ℕ) (op : Op) → IsOnly number_json FitsU16 client → IsOnly op_json FitsOp op → IsOnly number_json FitsU32 seq → bytes ≡ codes "{\"Call\":{\"client\":" ++ (compact_text (number_json client) ++ (codes ",\"op\":" ++ (compact_text (op_json op) ++ (codes ",\"seq\":" ++ (compact_text (number_json seq) ++ (codes "}}" ++ rest)))))) → Begins command_json FitsCommand bytes (TheCommand.Call client seq op) rest
 unfolding command_json FitsCommand escape_byte
@@ -31,7 +31,7 @@ call_begins bytes rest client seq op client_known op_known seq_known text = reco
 noop_only : (other : Command) → FitsCommand other → command_json other ≡ command_json TheCommand.Noop → other ≡ TheCommand.Noop
 unfolding command_json
 noop_only TheCommand.Noop held same = refl
-noop_only _ held same = absurd (apart _ _ same refl)
+noop_only _ held same = absurd (variants_apart _ _ same refl)
 
 pub noop_begins : (bytes rest : List ℕ) → bytes ≡ codes "\"Noop\"" ++ rest → Begins command_json FitsCommand bytes TheCommand.Noop rest
 unfolding command_json FitsCommand escape_byte

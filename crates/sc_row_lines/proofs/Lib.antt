@@ -1,5 +1,4 @@
 pub mod AnswerTexts
-pub mod Apart
 pub mod Bare
 pub mod BodyTexts
 pub mod CommandTexts

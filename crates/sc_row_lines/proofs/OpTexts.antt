@@ -6,7 +6,7 @@ use Rattle.serde_json.specs.Written.{compact_text}
 use Rattle.sc_row_text.specs.Shapes.{option_json}
 use Rattle.sc_row_text.specs.Held.{FitsKey, FitsValue, OptionFits}
 use Rattle.sc_row_lines.specs.Fronts.{IsOnly, Begins}
-use Rattle.sc_row_lines.proofs.Apart.{apart}
+use Rattle.sc_row_text.proofs.Apart.{variants_apart}
 use Rattle.sc_base.specs.declared.ops.Op.{Op}
 use Rattle.sc_base.specs.declared.ops.Op.TheVariants as TheOp
 use Rattle.sc_base.specs.declared.ops.Reply.{Reply}
@@ -18,7 +18,7 @@ unfolding op_json FitsOp
 get_only key key_known (TheOp.Get other_key) held same =
     let key_same : other_key ≡ key = key_known.only other_key held (cc) in
     cc
-get_only key key_known _ held same = absurd (apart _ _ same refl)
+get_only key key_known _ held same = absurd (variants_apart _ _ same refl)
 
 pub get_begins : (bytes rest : List ℕ) (key : List ℕ) → IsOnly string FitsKey key → bytes ≡ codes "{\"Get\":{\"key\":" ++ (compact_text (string key) ++ (codes "}}" ++ rest)) → Begins op_json FitsOp bytes (TheOp.Get key) rest
 unfolding op_json FitsOp escape_byte
@@ -33,7 +33,7 @@ put_only key value key_known value_known (TheOp.Put other_key other_value) held 
     let key_same : other_key ≡ key = key_known.only other_key held.0 (cc) in
     let value_same : other_value ≡ value = value_known.only other_value held.1 (cc) in
     cc
-put_only key value key_known value_known _ held same = absurd (apart _ _ same refl)
+put_only key value key_known value_known _ held same = absurd (variants_apart _ _ same refl)
 
 pub put_begins : (bytes rest : List ℕ) (key : List ℕ) (value : List ℕ) → IsOnly string FitsKey key → IsOnly string FitsValue value → bytes ≡ codes "{\"Put\":{\"key\":" ++ (compact_text (string key) ++ (codes ",\"value\":" ++ (compact_text (string value) ++ (codes "}}" ++ rest)))) → Begins op_json FitsOp bytes (TheOp.Put key value) rest
 unfolding op_json FitsOp escape_byte
@@ -47,7 +47,7 @@ unfolding op_json FitsOp
 del_only key key_known (TheOp.Del other_key) held same =
     let key_same : other_key ≡ key = key_known.only other_key held (cc) in
     cc
-del_only key key_known _ held same = absurd (apart _ _ same refl)
+del_only key key_known _ held same = absurd (variants_apart _ _ same refl)
 
 pub del_begins : (bytes rest : List ℕ) (key : List ℕ) → IsOnly string FitsKey key → bytes ≡ codes "{\"Del\":{\"key\":" ++ (compact_text (string key) ++ (codes "}}" ++ rest)) → Begins op_json FitsOp bytes (TheOp.Del key) rest
 unfolding op_json FitsOp escape_byte
@@ -62,7 +62,7 @@ add_only key value key_known value_known (TheOp.Add other_key other_value) held 
     let key_same : other_key ≡ key = key_known.only other_key held.0 (cc) in
     let value_same : other_value ≡ value = value_known.only other_value held.1 (cc) in
     cc
-add_only key value key_known value_known _ held same = absurd (apart _ _ same refl)
+add_only key value key_known value_known _ held same = absurd (variants_apart _ _ same refl)
 
 pub add_begins : (bytes rest : List ℕ) (key : List ℕ) (value : List ℕ) → IsOnly string FitsKey key → IsOnly string FitsValue value → bytes ≡ codes "{\"Add\":{\"key\":" ++ (compact_text (string key) ++ (codes ",\"value\":" ++ (compact_text (string value) ++ (codes "}}" ++ rest)))) → Begins op_json FitsOp bytes (TheOp.Add key value) rest
 unfolding op_json FitsOp escape_byte
@@ -78,7 +78,7 @@ cas_only key expect value expect_known key_known value_known (TheOp.Cas other_ke
     let key_same : other_key ≡ key = key_known.only other_key held.1 (cc) in
     let value_same : other_value ≡ value = value_known.only other_value held.2 (cc) in
     cc
-cas_only key expect value expect_known key_known value_known _ held same = absurd (apart _ _ same refl)
+cas_only key expect value expect_known key_known value_known _ held same = absurd (variants_apart _ _ same refl)
 
 pub cas_begins : (bytes rest : List ℕ) (key : List ℕ) (expect : List ℕ) (value : List ℕ) → IsOnly string FitsValue expect → IsOnly string FitsKey key → IsOnly string FitsValue value → bytes ≡ codes "{\"Cas\":{\"expect\":" ++ (compact_text (string expect) ++ (codes ",\"key\":" ++ (compact_text (string key) ++ (codes ",\"value\":" ++ (compact_text (string value) ++ (codes "}}" ++ rest)))))) → Begins op_json FitsOp bytes (TheOp.Cas key expect value) rest
 unfolding op_json FitsOp escape_byte

@@ -5,7 +5,7 @@ use Rattle.serde_json.specs.Written.{compact_text}
 use Rattle.sc_row_text.specs.Shapes.{number_json}
 use Rattle.sc_row_text.specs.Held.{FitsU32}
 use Rattle.sc_row_lines.specs.Fronts.{IsOnly, Begins}
-use Rattle.sc_row_lines.proofs.Apart.{apart}
+use Rattle.sc_row_text.proofs.Apart.{variants_apart}
 use Rattle.std.proofs.Common.{Bool, true, ◌==◌, ap₂, Some, sym, length, append-nil, arith}
 use Rattle.std.proofs.lemmas.Bool.Decides.{nat_tests}
 use Rattle.std.proofs.lemmas.Option.{same_Some}
@@ -27,7 +27,7 @@ unfolding event_json FitsEvent
 deliver_only content content_known (TheEvent.Deliver other_content) held same =
     let content_same : other_content ≡ content = content_known.only other_content held (cc) in
     cc
-deliver_only content content_known _ held same = absurd (apart _ _ same refl)
+deliver_only content content_known _ held same = absurd (variants_apart _ _ same refl)
 
 pub deliver_begins : (bytes rest : List ℕ) (content : ℕ) → IsOnly number_json FitsU32 content → bytes ≡ codes "{\"Deliver\":" ++ (compact_text (number_json content) ++ (codes "}" ++ rest)) → Begins event_json FitsEvent bytes (TheEvent.Deliver content) rest
 unfolding event_json FitsEvent escape_byte
@@ -39,7 +39,7 @@ deliver_begins bytes rest content content_known text = record {
 tick_only : (other : Event OrderLine) → FitsEvent other → event_json other ≡ event_json TheEvent.Tick → other ≡ TheEvent.Tick
 unfolding event_json
 tick_only TheEvent.Tick held same = refl
-tick_only _ held same = absurd (apart _ _ same refl)
+tick_only _ held same = absurd (variants_apart _ _ same refl)
 
 pub tick_begins : (bytes rest : List ℕ) → bytes ≡ codes "\"Tick\"" ++ rest → Begins event_json FitsEvent bytes TheEvent.Tick rest
 unfolding event_json FitsEvent escape_byte
@@ -51,7 +51,7 @@ tick_begins bytes rest text = record {
 go_only : (other : Event OrderLine) → FitsEvent other → event_json other ≡ event_json TheEvent.Go → other ≡ TheEvent.Go
 unfolding event_json
 go_only TheEvent.Go held same = refl
-go_only _ held same = absurd (apart _ _ same refl)
+go_only _ held same = absurd (variants_apart _ _ same refl)
 
 pub go_begins : (bytes rest : List ℕ) → bytes ≡ codes "\"Go\"" ++ rest → Begins event_json FitsEvent bytes TheEvent.Go rest
 unfolding event_json FitsEvent escape_byte
@@ -63,7 +63,7 @@ go_begins bytes rest text = record {
 crash_only : (other : Event OrderLine) → FitsEvent other → event_json other ≡ event_json TheEvent.Crash → other ≡ TheEvent.Crash
 unfolding event_json
 crash_only TheEvent.Crash held same = refl
-crash_only _ held same = absurd (apart _ _ same refl)
+crash_only _ held same = absurd (variants_apart _ _ same refl)
 
 pub crash_begins : (bytes rest : List ℕ) → bytes ≡ codes "\"Crash\"" ++ rest → Begins event_json FitsEvent bytes TheEvent.Crash rest
 unfolding event_json FitsEvent escape_byte
@@ -77,7 +77,7 @@ unfolding event_json FitsEvent
 drop_only content content_known (TheEvent.Drop other_content) held same =
     let content_same : other_content ≡ content = content_known.only other_content held (cc) in
     cc
-drop_only content content_known _ held same = absurd (apart _ _ same refl)
+drop_only content content_known _ held same = absurd (variants_apart _ _ same refl)
 
 pub drop_begins : (bytes rest : List ℕ) (content : ℕ) → IsOnly number_json FitsU32 content → bytes ≡ codes "{\"Drop\":" ++ (compact_text (number_json content) ++ (codes "}" ++ rest)) → Begins event_json FitsEvent bytes (TheEvent.Drop content) rest
 unfolding event_json FitsEvent escape_byte
@@ -91,7 +91,7 @@ unfolding event_json FitsEvent
 again_only content content_known (TheEvent.Again other_content) held same =
     let content_same : other_content ≡ content = content_known.only other_content held (cc) in
     cc
-again_only content content_known _ held same = absurd (apart _ _ same refl)
+again_only content content_known _ held same = absurd (variants_apart _ _ same refl)
 
 pub again_begins : (bytes rest : List ℕ) (content : ℕ) → IsOnly number_json FitsU32 content → bytes ≡ codes "{\"Again\":" ++ (compact_text (number_json content) ++ (codes "}" ++ rest)) → Begins event_json FitsEvent bytes (TheEvent.Again content) rest
 unfolding event_json FitsEvent escape_byte

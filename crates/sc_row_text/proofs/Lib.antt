@@ -1,3 +1,4 @@
+pub mod Apart
 pub mod ShapesPlain
 pub mod NamesPlain
 pub mod OpsPlain

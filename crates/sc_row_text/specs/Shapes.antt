@@ -1,6 +1,6 @@
 -- Numbers, lists, pairs, what may be absent, objects and variants as JSON.
 use Rattle.std.specs.Prelude.{ℕ, List, [], ◌∷◌, Option, Some, None}
-use Rattle.serde_json.specs.Data.{Data, Items, Members, null, number, unsigned, array, object, no_items, item, no_members, member}
+use Rattle.serde_json.specs.Data.{Data, Items, Members, null, boolean, number, unsigned, string, array, object, no_items, item, no_members, member}
 
 -- a number
 abbrev pub number_json : ℕ → Data
@@ -36,3 +36,17 @@ fields ms = object (members_json ms)
 -- a variant with content is an object of one member, and one without is a string
 abbrev pub variant : List ℕ → Data → Data
 variant name content = object (member name content no_members)
+
+-- the name of the first member, if there is one
+abbrev pub first_name : Members → List ℕ
+first_name no_members = []
+first_name (member name content ms) = name
+
+-- the name of a variant: a string, or an object's one member
+abbrev pub variant_name : Data → List ℕ
+variant_name null = []
+variant_name (boolean b) = []
+variant_name (number n) = []
+variant_name (string name) = name
+variant_name (array ds) = []
+variant_name (object ms) = first_name ms

@@ -5,10 +5,11 @@ use Rattle.sc_mail.specs.declared.bodies.MailBody.{MailBody}
 use Rattle.sc_mail.specs.declared.bodies.MailBody.TheVariants.{Request, Answer, Prepare, Promise, Accept, Accepted, Nack, Learn, Ask, Install, TxPrepare, TxVote, TxOutcome, TxElsewhere, TxWatch, TxWatched, Told}
 use Rattle.sc_row_text.specs.Mails.{mail_body_json, FitsMailBody}
 use Rattle.sc_row_text.specs.Shapes.{variant}
-use Rattle.sc_from_json.specs.Reading.{Finds, MayBeVariant, variant_name, content_of}
+use Rattle.sc_from_json.specs.Reading.{Finds, MayBeVariant, content_of}
+use Rattle.sc_row_text.specs.Shapes.{variant_name}
 use Rattle.sc_from_json.specs.declared.faults.RowFault.{RowFault}
 use Rattle.sc_from_json.specs.declared.faults.RowFault.TheVariants.{NoRow, OutOfMemory}
-use Rattle.sc_from_json.proofs.Apart.{apart}
+use Rattle.sc_row_text.proofs.Apart.{apart}
 use Rattle.sc_journal.proofs.mails.mail_body_from_json.Goals as goal
 
 -- the name of each variant

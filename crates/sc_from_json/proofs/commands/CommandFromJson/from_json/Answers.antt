@@ -5,10 +5,11 @@ use Rattle.sc_cmd.specs.declared.commands.Command.{Command}
 use Rattle.sc_cmd.specs.declared.commands.Command.TheVariants.{Noop, Call, Join, Leave, Split, Begin, Prepared, RecordVote, GiveUp, Finish, Watched, RecordWatch}
 use Rattle.sc_row_text.specs.Commands.{command_json, FitsCommand}
 use Rattle.sc_row_text.specs.Shapes.{variant}
-use Rattle.sc_from_json.specs.Reading.{Finds, MayBeVariant, variant_name, content_of}
+use Rattle.sc_from_json.specs.Reading.{Finds, MayBeVariant, content_of}
+use Rattle.sc_row_text.specs.Shapes.{variant_name}
 use Rattle.sc_from_json.specs.declared.faults.RowFault.{RowFault}
 use Rattle.sc_from_json.specs.declared.faults.RowFault.TheVariants.{NoRow, OutOfMemory}
-use Rattle.sc_from_json.proofs.Apart.{apart}
+use Rattle.sc_row_text.proofs.Apart.{apart}
 use Rattle.sc_from_json.proofs.commands.CommandFromJson.from_json.Goals as goal
 
 -- the name of each variant

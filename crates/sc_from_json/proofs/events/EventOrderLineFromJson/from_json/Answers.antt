@@ -6,10 +6,11 @@ use Rattle.sc_cmd.specs.declared.orders.OrderLine.{OrderLine}
 use Rattle.sc_actor.specs.declared.rows.Event.TheVariants.{Deliver, Tick, Go, Told, Crash, Drop, Again}
 use Rattle.sc_row_text.specs.Rows.{event_json, FitsEvent}
 use Rattle.sc_row_text.specs.Shapes.{variant}
-use Rattle.sc_from_json.specs.Reading.{Finds, MayBeVariant, variant_name, content_of}
+use Rattle.sc_from_json.specs.Reading.{Finds, MayBeVariant, content_of}
+use Rattle.sc_row_text.specs.Shapes.{variant_name}
 use Rattle.sc_from_json.specs.declared.faults.RowFault.{RowFault}
 use Rattle.sc_from_json.specs.declared.faults.RowFault.TheVariants.{NoRow, OutOfMemory}
-use Rattle.sc_from_json.proofs.Apart.{apart}
+use Rattle.sc_row_text.proofs.Apart.{apart}
 use Rattle.sc_from_json.proofs.events.EventOrderLineFromJson.from_json.Goals as goal
 
 -- the name of each variant

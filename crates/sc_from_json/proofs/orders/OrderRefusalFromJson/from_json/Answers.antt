@@ -5,10 +5,11 @@ use Rattle.sc_cmd.specs.declared.orders.OrderRefusal.{OrderRefusal}
 use Rattle.sc_cmd.specs.declared.orders.OrderRefusal.TheVariants.{NotLeader, InTransaction, NoNeighbour, BadBoundary, TooManyMembers, NotMember, LastMember, TxLimit, IsMember}
 use Rattle.sc_row_text.specs.Orders.{order_refusal_json, FitsOrderRefusal}
 use Rattle.sc_row_text.specs.Shapes.{variant}
-use Rattle.sc_from_json.specs.Reading.{Finds, MayBeVariant, variant_name, content_of}
+use Rattle.sc_from_json.specs.Reading.{Finds, MayBeVariant, content_of}
+use Rattle.sc_row_text.specs.Shapes.{variant_name}
 use Rattle.sc_from_json.specs.declared.faults.RowFault.{RowFault}
 use Rattle.sc_from_json.specs.declared.faults.RowFault.TheVariants.{NoRow, OutOfMemory}
-use Rattle.sc_from_json.proofs.Apart.{apart}
+use Rattle.sc_row_text.proofs.Apart.{apart}
 use Rattle.sc_from_json.proofs.orders.OrderRefusalFromJson.from_json.Goals as goal
 
 -- the name of each variant

@@ -5,10 +5,11 @@ use Rattle.sc_cmd.specs.declared.votes.No.{No}
 use Rattle.sc_cmd.specs.declared.votes.No.TheVariants.{Busy, Gone, Apart, TooMany}
 use Rattle.sc_row_text.specs.Votes.{no_json, FitsNo}
 use Rattle.sc_row_text.specs.Shapes.{variant}
-use Rattle.sc_from_json.specs.Reading.{Finds, MayBeVariant, variant_name, content_of}
+use Rattle.sc_from_json.specs.Reading.{Finds, MayBeVariant, content_of}
+use Rattle.sc_row_text.specs.Shapes.{variant_name}
 use Rattle.sc_from_json.specs.declared.faults.RowFault.{RowFault}
 use Rattle.sc_from_json.specs.declared.faults.RowFault.TheVariants.{NoRow, OutOfMemory}
-use Rattle.sc_from_json.proofs.Apart.{apart}
+use Rattle.sc_row_text.proofs.Apart.{apart}
 use Rattle.sc_from_json.proofs.votes.NoFromJson.from_json.Goals as goal
 
 -- the name of each variant
