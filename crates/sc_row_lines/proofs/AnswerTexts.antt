@@ -2,7 +2,7 @@
 use Rattle.std.proofs.Common.{◌≡◌, ℕ, List, ◌++◌, codes, refl, ◌∙◌, append_assoc}
 use Rattle.json.specs.Print.{escape_byte}
 use Rattle.serde_json.specs.Written.{compact_text}
-use Rattle.sc_row_lines.specs.Fronts.{IsOnly, Begins}
+use Rattle.sc_row_lines.specs.Fronts.{IsOnly, TextBegins}
 use Rattle.sc_row_text.proofs.Apart.{variants_apart}
 use Rattle.sc_base.specs.declared.ops.Reply.{Reply}
 use Rattle.sc_mail.specs.declared.bodies.AnswerBody.{AnswerBody}
@@ -17,7 +17,7 @@ value_only content content_known (TheAnswerBody.Value other_content) held same =
     cc
 value_only content content_known _ held same = absurd (variants_apart _ _ same refl)
 
-pub value_begins : (bytes rest : List ℕ) (content : Reply) → IsOnly reply_json FitsReply content → bytes ≡ codes "{\"Value\":" ++ (compact_text (reply_json content) ++ (codes "}" ++ rest)) → Begins answer_body_json FitsAnswerBody bytes (TheAnswerBody.Value content) rest
+pub value_begins : (bytes rest : List ℕ) (content : Reply) → IsOnly reply_json FitsReply content → bytes ≡ codes "{\"Value\":" ++ (compact_text (reply_json content) ++ (codes "}" ++ rest)) → TextBegins answer_body_json FitsAnswerBody bytes (TheAnswerBody.Value content) rest
 unfolding answer_body_json FitsAnswerBody escape_byte
 value_begins bytes rest content content_known text = record {
   text = text ∙ simp append_assoc;

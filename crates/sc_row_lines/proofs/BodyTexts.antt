@@ -4,7 +4,7 @@ use Rattle.json.specs.Print.{escape_byte}
 use Rattle.serde_json.specs.Written.{compact_text}
 use Rattle.sc_row_text.specs.Shapes.{number_json}
 use Rattle.sc_row_text.specs.Held.{FitsU16, FitsU32}
-use Rattle.sc_row_lines.specs.Fronts.{IsOnly, Begins}
+use Rattle.sc_row_lines.specs.Fronts.{IsOnly, TextBegins}
 use Rattle.sc_row_text.proofs.Apart.{variants_apart}
 use Rattle.sc_base.specs.declared.names.Ballot.{Ballot}
 use Rattle.sc_base.specs.declared.names.Draw.{Draw}
@@ -29,7 +29,7 @@ request_only group client seq op client_known group_known op_known seq_known (Th
     cc
 request_only group client seq op client_known group_known op_known seq_known _ held same = absurd (variants_apart _ _ same refl)
 
-pub request_begins : (bytes rest : List ℕ) (group : Draw) (client : ℕ) (seq : ℕ) (op : Op) → IsOnly number_json FitsU16 client → IsOnly draw_json FitsDraw group → IsOnly op_json FitsOp op → IsOnly number_json FitsU32 seq → bytes ≡ codes "{\"Request\":{\"client\":" ++ (compact_text (number_json client) ++ (codes ",\"group\":" ++ (compact_text (draw_json group) ++ (codes ",\"op\":" ++ (compact_text (op_json op) ++ (codes ",\"seq\":" ++ (compact_text (number_json seq) ++ (codes "}}" ++ rest)))))))) → Begins mail_body_json FitsMailBody bytes (TheMailBody.Request group client seq op) rest
+pub request_begins : (bytes rest : List ℕ) (group : Draw) (client : ℕ) (seq : ℕ) (op : Op) → IsOnly number_json FitsU16 client → IsOnly draw_json FitsDraw group → IsOnly op_json FitsOp op → IsOnly number_json FitsU32 seq → bytes ≡ codes "{\"Request\":{\"client\":" ++ (compact_text (number_json client) ++ (codes ",\"group\":" ++ (compact_text (draw_json group) ++ (codes ",\"op\":" ++ (compact_text (op_json op) ++ (codes ",\"seq\":" ++ (compact_text (number_json seq) ++ (codes "}}" ++ rest)))))))) → TextBegins mail_body_json FitsMailBody bytes (TheMailBody.Request group client seq op) rest
 unfolding mail_body_json FitsMailBody escape_byte
 request_begins bytes rest group client seq op client_known group_known op_known seq_known text = record {
   text = text ∙ simp append_assoc;
@@ -45,7 +45,7 @@ answer_only group seq answer answer_known group_known seq_known (TheMailBody.Ans
     cc
 answer_only group seq answer answer_known group_known seq_known _ held same = absurd (variants_apart _ _ same refl)
 
-pub answer_begins : (bytes rest : List ℕ) (group : Draw) (seq : ℕ) (answer : AnswerBody) → IsOnly answer_body_json FitsAnswerBody answer → IsOnly draw_json FitsDraw group → IsOnly number_json FitsU32 seq → bytes ≡ codes "{\"Answer\":{\"answer\":" ++ (compact_text (answer_body_json answer) ++ (codes ",\"group\":" ++ (compact_text (draw_json group) ++ (codes ",\"seq\":" ++ (compact_text (number_json seq) ++ (codes "}}" ++ rest)))))) → Begins mail_body_json FitsMailBody bytes (TheMailBody.Answer group seq answer) rest
+pub answer_begins : (bytes rest : List ℕ) (group : Draw) (seq : ℕ) (answer : AnswerBody) → IsOnly answer_body_json FitsAnswerBody answer → IsOnly draw_json FitsDraw group → IsOnly number_json FitsU32 seq → bytes ≡ codes "{\"Answer\":{\"answer\":" ++ (compact_text (answer_body_json answer) ++ (codes ",\"group\":" ++ (compact_text (draw_json group) ++ (codes ",\"seq\":" ++ (compact_text (number_json seq) ++ (codes "}}" ++ rest)))))) → TextBegins mail_body_json FitsMailBody bytes (TheMailBody.Answer group seq answer) rest
 unfolding mail_body_json FitsMailBody escape_byte
 answer_begins bytes rest group seq answer answer_known group_known seq_known text = record {
   text = text ∙ simp append_assoc;
@@ -61,7 +61,7 @@ prepare_only group ballot from_slot ballot_known from_slot_known group_known (Th
     cc
 prepare_only group ballot from_slot ballot_known from_slot_known group_known _ held same = absurd (variants_apart _ _ same refl)
 
-pub prepare_begins : (bytes rest : List ℕ) (group : Draw) (ballot : Ballot) (from_slot : ℕ) → IsOnly ballot_json FitsBallot ballot → IsOnly number_json FitsU32 from_slot → IsOnly draw_json FitsDraw group → bytes ≡ codes "{\"Prepare\":{\"ballot\":" ++ (compact_text (ballot_json ballot) ++ (codes ",\"from_slot\":" ++ (compact_text (number_json from_slot) ++ (codes ",\"group\":" ++ (compact_text (draw_json group) ++ (codes "}}" ++ rest)))))) → Begins mail_body_json FitsMailBody bytes (TheMailBody.Prepare group ballot from_slot) rest
+pub prepare_begins : (bytes rest : List ℕ) (group : Draw) (ballot : Ballot) (from_slot : ℕ) → IsOnly ballot_json FitsBallot ballot → IsOnly number_json FitsU32 from_slot → IsOnly draw_json FitsDraw group → bytes ≡ codes "{\"Prepare\":{\"ballot\":" ++ (compact_text (ballot_json ballot) ++ (codes ",\"from_slot\":" ++ (compact_text (number_json from_slot) ++ (codes ",\"group\":" ++ (compact_text (draw_json group) ++ (codes "}}" ++ rest)))))) → TextBegins mail_body_json FitsMailBody bytes (TheMailBody.Prepare group ballot from_slot) rest
 unfolding mail_body_json FitsMailBody escape_byte
 prepare_begins bytes rest group ballot from_slot ballot_known from_slot_known group_known text = record {
   text = text ∙ simp append_assoc;
@@ -78,7 +78,7 @@ accept_only group ballot slot command ballot_known command_known group_known slo
     cc
 accept_only group ballot slot command ballot_known command_known group_known slot_known _ held same = absurd (variants_apart _ _ same refl)
 
-pub accept_begins : (bytes rest : List ℕ) (group : Draw) (ballot : Ballot) (slot : ℕ) (command : Command) → IsOnly ballot_json FitsBallot ballot → IsOnly command_json FitsCommand command → IsOnly draw_json FitsDraw group → IsOnly number_json FitsU32 slot → bytes ≡ codes "{\"Accept\":{\"ballot\":" ++ (compact_text (ballot_json ballot) ++ (codes ",\"command\":" ++ (compact_text (command_json command) ++ (codes ",\"group\":" ++ (compact_text (draw_json group) ++ (codes ",\"slot\":" ++ (compact_text (number_json slot) ++ (codes "}}" ++ rest)))))))) → Begins mail_body_json FitsMailBody bytes (TheMailBody.Accept group ballot slot command) rest
+pub accept_begins : (bytes rest : List ℕ) (group : Draw) (ballot : Ballot) (slot : ℕ) (command : Command) → IsOnly ballot_json FitsBallot ballot → IsOnly command_json FitsCommand command → IsOnly draw_json FitsDraw group → IsOnly number_json FitsU32 slot → bytes ≡ codes "{\"Accept\":{\"ballot\":" ++ (compact_text (ballot_json ballot) ++ (codes ",\"command\":" ++ (compact_text (command_json command) ++ (codes ",\"group\":" ++ (compact_text (draw_json group) ++ (codes ",\"slot\":" ++ (compact_text (number_json slot) ++ (codes "}}" ++ rest)))))))) → TextBegins mail_body_json FitsMailBody bytes (TheMailBody.Accept group ballot slot command) rest
 unfolding mail_body_json FitsMailBody escape_byte
 accept_begins bytes rest group ballot slot command ballot_known command_known group_known slot_known text = record {
   text = text ∙ simp append_assoc;
@@ -94,7 +94,7 @@ accepted_only group ballot slot ballot_known group_known slot_known (TheMailBody
     cc
 accepted_only group ballot slot ballot_known group_known slot_known _ held same = absurd (variants_apart _ _ same refl)
 
-pub accepted_begins : (bytes rest : List ℕ) (group : Draw) (ballot : Ballot) (slot : ℕ) → IsOnly ballot_json FitsBallot ballot → IsOnly draw_json FitsDraw group → IsOnly number_json FitsU32 slot → bytes ≡ codes "{\"Accepted\":{\"ballot\":" ++ (compact_text (ballot_json ballot) ++ (codes ",\"group\":" ++ (compact_text (draw_json group) ++ (codes ",\"slot\":" ++ (compact_text (number_json slot) ++ (codes "}}" ++ rest)))))) → Begins mail_body_json FitsMailBody bytes (TheMailBody.Accepted group ballot slot) rest
+pub accepted_begins : (bytes rest : List ℕ) (group : Draw) (ballot : Ballot) (slot : ℕ) → IsOnly ballot_json FitsBallot ballot → IsOnly draw_json FitsDraw group → IsOnly number_json FitsU32 slot → bytes ≡ codes "{\"Accepted\":{\"ballot\":" ++ (compact_text (ballot_json ballot) ++ (codes ",\"group\":" ++ (compact_text (draw_json group) ++ (codes ",\"slot\":" ++ (compact_text (number_json slot) ++ (codes "}}" ++ rest)))))) → TextBegins mail_body_json FitsMailBody bytes (TheMailBody.Accepted group ballot slot) rest
 unfolding mail_body_json FitsMailBody escape_byte
 accepted_begins bytes rest group ballot slot ballot_known group_known slot_known text = record {
   text = text ∙ simp append_assoc;
@@ -109,7 +109,7 @@ nack_only group promised group_known promised_known (TheMailBody.Nack other_grou
     cc
 nack_only group promised group_known promised_known _ held same = absurd (variants_apart _ _ same refl)
 
-pub nack_begins : (bytes rest : List ℕ) (group : Draw) (promised : Ballot) → IsOnly draw_json FitsDraw group → IsOnly ballot_json FitsBallot promised → bytes ≡ codes "{\"Nack\":{\"group\":" ++ (compact_text (draw_json group) ++ (codes ",\"promised\":" ++ (compact_text (ballot_json promised) ++ (codes "}}" ++ rest)))) → Begins mail_body_json FitsMailBody bytes (TheMailBody.Nack group promised) rest
+pub nack_begins : (bytes rest : List ℕ) (group : Draw) (promised : Ballot) → IsOnly draw_json FitsDraw group → IsOnly ballot_json FitsBallot promised → bytes ≡ codes "{\"Nack\":{\"group\":" ++ (compact_text (draw_json group) ++ (codes ",\"promised\":" ++ (compact_text (ballot_json promised) ++ (codes "}}" ++ rest)))) → TextBegins mail_body_json FitsMailBody bytes (TheMailBody.Nack group promised) rest
 unfolding mail_body_json FitsMailBody escape_byte
 nack_begins bytes rest group promised group_known promised_known text = record {
   text = text ∙ simp append_assoc;
@@ -125,7 +125,7 @@ learn_only group slot command command_known group_known slot_known (TheMailBody.
     cc
 learn_only group slot command command_known group_known slot_known _ held same = absurd (variants_apart _ _ same refl)
 
-pub learn_begins : (bytes rest : List ℕ) (group : Draw) (slot : ℕ) (command : Command) → IsOnly command_json FitsCommand command → IsOnly draw_json FitsDraw group → IsOnly number_json FitsU32 slot → bytes ≡ codes "{\"Learn\":{\"command\":" ++ (compact_text (command_json command) ++ (codes ",\"group\":" ++ (compact_text (draw_json group) ++ (codes ",\"slot\":" ++ (compact_text (number_json slot) ++ (codes "}}" ++ rest)))))) → Begins mail_body_json FitsMailBody bytes (TheMailBody.Learn group slot command) rest
+pub learn_begins : (bytes rest : List ℕ) (group : Draw) (slot : ℕ) (command : Command) → IsOnly command_json FitsCommand command → IsOnly draw_json FitsDraw group → IsOnly number_json FitsU32 slot → bytes ≡ codes "{\"Learn\":{\"command\":" ++ (compact_text (command_json command) ++ (codes ",\"group\":" ++ (compact_text (draw_json group) ++ (codes ",\"slot\":" ++ (compact_text (number_json slot) ++ (codes "}}" ++ rest)))))) → TextBegins mail_body_json FitsMailBody bytes (TheMailBody.Learn group slot command) rest
 unfolding mail_body_json FitsMailBody escape_byte
 learn_begins bytes rest group slot command command_known group_known slot_known text = record {
   text = text ∙ simp append_assoc;
@@ -140,7 +140,7 @@ ask_only group from_slot from_slot_known group_known (TheMailBody.Ask other_grou
     cc
 ask_only group from_slot from_slot_known group_known _ held same = absurd (variants_apart _ _ same refl)
 
-pub ask_begins : (bytes rest : List ℕ) (group : Draw) (from_slot : ℕ) → IsOnly number_json FitsU32 from_slot → IsOnly draw_json FitsDraw group → bytes ≡ codes "{\"Ask\":{\"from_slot\":" ++ (compact_text (number_json from_slot) ++ (codes ",\"group\":" ++ (compact_text (draw_json group) ++ (codes "}}" ++ rest)))) → Begins mail_body_json FitsMailBody bytes (TheMailBody.Ask group from_slot) rest
+pub ask_begins : (bytes rest : List ℕ) (group : Draw) (from_slot : ℕ) → IsOnly number_json FitsU32 from_slot → IsOnly draw_json FitsDraw group → bytes ≡ codes "{\"Ask\":{\"from_slot\":" ++ (compact_text (number_json from_slot) ++ (codes ",\"group\":" ++ (compact_text (draw_json group) ++ (codes "}}" ++ rest)))) → TextBegins mail_body_json FitsMailBody bytes (TheMailBody.Ask group from_slot) rest
 unfolding mail_body_json FitsMailBody escape_byte
 ask_begins bytes rest group from_slot from_slot_known group_known text = record {
   text = text ∙ simp append_assoc;

@@ -4,7 +4,7 @@ use Rattle.json.specs.Print.{escape_byte}
 use Rattle.serde_json.specs.Written.{compact_text}
 use Rattle.sc_row_text.specs.Shapes.{number_json}
 use Rattle.sc_row_text.specs.Held.{FitsU16, FitsU32}
-use Rattle.sc_row_lines.specs.Fronts.{IsOnly, Begins}
+use Rattle.sc_row_lines.specs.Fronts.{IsOnly, TextBegins}
 use Rattle.sc_row_text.proofs.Apart.{variants_apart}
 use Rattle.sc_base.specs.declared.ops.Op.{Op}
 use Rattle.sc_cmd.specs.declared.commands.Command.{Command}
@@ -21,7 +21,7 @@ call_only client seq op client_known op_known seq_known (TheCommand.Call other_c
     cc
 call_only client seq op client_known op_known seq_known _ held same = absurd (variants_apart _ _ same refl)
 
-pub call_begins : (bytes rest : List ℕ) (client : ℕ) (seq : ℕ) (op : Op) → IsOnly number_json FitsU16 client → IsOnly op_json FitsOp op → IsOnly number_json FitsU32 seq → bytes ≡ codes "{\"Call\":{\"client\":" ++ (compact_text (number_json client) ++ (codes ",\"op\":" ++ (compact_text (op_json op) ++ (codes ",\"seq\":" ++ (compact_text (number_json seq) ++ (codes "}}" ++ rest)))))) → Begins command_json FitsCommand bytes (TheCommand.Call client seq op) rest
+pub call_begins : (bytes rest : List ℕ) (client : ℕ) (seq : ℕ) (op : Op) → IsOnly number_json FitsU16 client → IsOnly op_json FitsOp op → IsOnly number_json FitsU32 seq → bytes ≡ codes "{\"Call\":{\"client\":" ++ (compact_text (number_json client) ++ (codes ",\"op\":" ++ (compact_text (op_json op) ++ (codes ",\"seq\":" ++ (compact_text (number_json seq) ++ (codes "}}" ++ rest)))))) → TextBegins command_json FitsCommand bytes (TheCommand.Call client seq op) rest
 unfolding command_json FitsCommand escape_byte
 call_begins bytes rest client seq op client_known op_known seq_known text = record {
   text = text ∙ simp append_assoc;
@@ -33,7 +33,7 @@ unfolding command_json
 noop_only TheCommand.Noop held same = refl
 noop_only _ held same = absurd (variants_apart _ _ same refl)
 
-pub noop_begins : (bytes rest : List ℕ) → bytes ≡ codes "\"Noop\"" ++ rest → Begins command_json FitsCommand bytes TheCommand.Noop rest
+pub noop_begins : (bytes rest : List ℕ) → bytes ≡ codes "\"Noop\"" ++ rest → TextBegins command_json FitsCommand bytes TheCommand.Noop rest
 unfolding command_json FitsCommand escape_byte
 noop_begins bytes rest text = record {
   text = text;

@@ -4,7 +4,7 @@ use Rattle.json.specs.Print.{escape_byte}
 use Rattle.serde_json.specs.Written.{compact_text}
 use Rattle.sc_row_text.specs.Shapes.{number_json}
 use Rattle.sc_row_text.specs.Held.{FitsU32}
-use Rattle.sc_row_lines.specs.Fronts.{IsOnly, Begins}
+use Rattle.sc_row_lines.specs.Fronts.{IsOnly, TextBegins}
 use Rattle.std.proofs.Common.{Bool, true, false, ◌<◌, ap₂, subst, sym, length, length-append, arith}
 use Rattle.serde_json.specs.Written.{items_text, comma_if}
 use Rattle.sc_base.specs.Among.{Each}
@@ -21,7 +21,7 @@ mail_only mail other body_only held same =
     let to : other.to ≡ mail.to = cc in
     ap₂ (λ f w. f w) (ap₂ (λ b s. let make : ℕ → Mail = λ w. record { body = b; from = s; to = w } in make) body from) to
 
-pub mail_begins : (bytes rest : List ℕ) (body : MailBody) (from to : ℕ) → IsOnly mail_body_json FitsMailBody body → IsOnly number_json FitsU32 from → IsOnly number_json FitsU32 to → bytes ≡ codes "{\"body\":" ++ (compact_text (mail_body_json body) ++ (codes ",\"from\":" ++ (compact_text (number_json from) ++ (codes ",\"to\":" ++ (compact_text (number_json to) ++ (codes "}" ++ rest)))))) → Begins mail_json FitsMail bytes (record { from = from; to = to; body = body }) rest
+pub mail_begins : (bytes rest : List ℕ) (body : MailBody) (from to : ℕ) → IsOnly mail_body_json FitsMailBody body → IsOnly number_json FitsU32 from → IsOnly number_json FitsU32 to → bytes ≡ codes "{\"body\":" ++ (compact_text (mail_body_json body) ++ (codes ",\"from\":" ++ (compact_text (number_json from) ++ (codes ",\"to\":" ++ (compact_text (number_json to) ++ (codes "}" ++ rest)))))) → TextBegins mail_json FitsMail bytes (record { from = from; to = to; body = body }) rest
 unfolding mail_json FitsMail escape_byte
 mail_begins bytes rest body from to body_only from_only to_only text = record {
   text = text ∙ simp append_assoc;
@@ -67,14 +67,14 @@ list_only : (mails : List Mail) → Each (IsOnly mail_json FitsMail) mails → I
 list_only mails each = record { fits = mails_fit mails each; only = λ other held same. mails_only mails each other held (cc) }
 
 -- an array of mails
-pub mails_begin : (bytes before rest : List ℕ) (mails : List Mail) → Each (IsOnly mail_json FitsMail) mails → bytes ≡ 91 ∷ (front false mails ++ before) → before ≡ codes "]" ++ rest → Begins (list_json mail_json) (Each FitsMail) bytes mails rest
+pub mails_begin : (bytes before rest : List ℕ) (mails : List Mail) → Each (IsOnly mail_json FitsMail) mails → bytes ≡ 91 ∷ (front false mails ++ before) → before ≡ codes "]" ++ rest → TextBegins (list_json mail_json) (Each FitsMail) bytes mails rest
 mails_begin bytes before rest mails each text ends = record {
   text = text ∙ ap (λ t. 91 ∷ t) (ap (λ t. front false mails ++ t) ends ∙ sym (front_ends false mails rest));
   known = list_only mails each;
 }
 
 -- one without mails
-pub no_mails_begin : (bytes rest : List ℕ) → bytes ≡ codes "[]" ++ rest → Begins (list_json mail_json) (Each FitsMail) bytes [] rest
+pub no_mails_begin : (bytes rest : List ℕ) → bytes ≡ codes "[]" ++ rest → TextBegins (list_json mail_json) (Each FitsMail) bytes [] rest
 no_mails_begin bytes rest text = record { text = text; known = list_only [] tt }
 
 each_more : (mails : List Mail) (mail : Mail) → Each (IsOnly mail_json FitsMail) mails → IsOnly mail_json FitsMail mail → Each (IsOnly mail_json FitsMail) (mails ++ mail ∷ [])
@@ -82,7 +82,7 @@ each_more [] mail each one = (one, tt)
 each_more (first ∷ mails) mail each one = (each.0, each_more mails mail each.1 one)
 
 -- one more mail stands behind a comma, and is known too
-pub one_more : (bytes rest more after : List ℕ) (mails : List Mail) (mail : Mail) (all : List Mail) → 0 < length mails → Each (IsOnly mail_json FitsMail) mails → bytes ≡ 91 ∷ (front false mails ++ rest) → rest ≡ codes "," ++ more → Begins mail_json FitsMail more mail after → all ≡ mails ++ mail ∷ []
+pub one_more : (bytes rest more after : List ℕ) (mails : List Mail) (mail : Mail) (all : List Mail) → 0 < length mails → Each (IsOnly mail_json FitsMail) mails → bytes ≡ 91 ∷ (front false mails ++ rest) → rest ≡ codes "," ++ more → TextBegins mail_json FitsMail more mail after → all ≡ mails ++ mail ∷ []
     → (bytes ≡ 91 ∷ (front false all ++ after)) × (0 < length all) × Each (IsOnly mail_json FitsMail) all
 one_more bytes rest more after mails mail all some each text comma begins pushed =
     let here : rest ≡ 44 ∷ (compact_text (mail_json mail) ++ after) = comma ∙ ap (λ t. 44 ∷ t) begins.text in

@@ -5,7 +5,7 @@ use Rattle.serde_json.specs.Data.{string}
 use Rattle.serde_json.specs.Written.{compact_text}
 use Rattle.sc_row_text.specs.Shapes.{option_json}
 use Rattle.sc_row_text.specs.Held.{FitsKey, FitsValue, OptionFits}
-use Rattle.sc_row_lines.specs.Fronts.{IsOnly, Begins}
+use Rattle.sc_row_lines.specs.Fronts.{IsOnly, TextBegins}
 use Rattle.sc_row_text.proofs.Apart.{variants_apart}
 use Rattle.sc_base.specs.declared.ops.Op.{Op}
 use Rattle.sc_base.specs.declared.ops.Op.TheVariants as TheOp
@@ -20,7 +20,7 @@ get_only key key_known (TheOp.Get other_key) held same =
     cc
 get_only key key_known _ held same = absurd (variants_apart _ _ same refl)
 
-pub get_begins : (bytes rest : List ℕ) (key : List ℕ) → IsOnly string FitsKey key → bytes ≡ codes "{\"Get\":{\"key\":" ++ (compact_text (string key) ++ (codes "}}" ++ rest)) → Begins op_json FitsOp bytes (TheOp.Get key) rest
+pub get_begins : (bytes rest : List ℕ) (key : List ℕ) → IsOnly string FitsKey key → bytes ≡ codes "{\"Get\":{\"key\":" ++ (compact_text (string key) ++ (codes "}}" ++ rest)) → TextBegins op_json FitsOp bytes (TheOp.Get key) rest
 unfolding op_json FitsOp escape_byte
 get_begins bytes rest key key_known text = record {
   text = text ∙ simp append_assoc;
@@ -35,7 +35,7 @@ put_only key value key_known value_known (TheOp.Put other_key other_value) held 
     cc
 put_only key value key_known value_known _ held same = absurd (variants_apart _ _ same refl)
 
-pub put_begins : (bytes rest : List ℕ) (key : List ℕ) (value : List ℕ) → IsOnly string FitsKey key → IsOnly string FitsValue value → bytes ≡ codes "{\"Put\":{\"key\":" ++ (compact_text (string key) ++ (codes ",\"value\":" ++ (compact_text (string value) ++ (codes "}}" ++ rest)))) → Begins op_json FitsOp bytes (TheOp.Put key value) rest
+pub put_begins : (bytes rest : List ℕ) (key : List ℕ) (value : List ℕ) → IsOnly string FitsKey key → IsOnly string FitsValue value → bytes ≡ codes "{\"Put\":{\"key\":" ++ (compact_text (string key) ++ (codes ",\"value\":" ++ (compact_text (string value) ++ (codes "}}" ++ rest)))) → TextBegins op_json FitsOp bytes (TheOp.Put key value) rest
 unfolding op_json FitsOp escape_byte
 put_begins bytes rest key value key_known value_known text = record {
   text = text ∙ simp append_assoc;
@@ -49,7 +49,7 @@ del_only key key_known (TheOp.Del other_key) held same =
     cc
 del_only key key_known _ held same = absurd (variants_apart _ _ same refl)
 
-pub del_begins : (bytes rest : List ℕ) (key : List ℕ) → IsOnly string FitsKey key → bytes ≡ codes "{\"Del\":{\"key\":" ++ (compact_text (string key) ++ (codes "}}" ++ rest)) → Begins op_json FitsOp bytes (TheOp.Del key) rest
+pub del_begins : (bytes rest : List ℕ) (key : List ℕ) → IsOnly string FitsKey key → bytes ≡ codes "{\"Del\":{\"key\":" ++ (compact_text (string key) ++ (codes "}}" ++ rest)) → TextBegins op_json FitsOp bytes (TheOp.Del key) rest
 unfolding op_json FitsOp escape_byte
 del_begins bytes rest key key_known text = record {
   text = text ∙ simp append_assoc;
@@ -64,7 +64,7 @@ add_only key value key_known value_known (TheOp.Add other_key other_value) held 
     cc
 add_only key value key_known value_known _ held same = absurd (variants_apart _ _ same refl)
 
-pub add_begins : (bytes rest : List ℕ) (key : List ℕ) (value : List ℕ) → IsOnly string FitsKey key → IsOnly string FitsValue value → bytes ≡ codes "{\"Add\":{\"key\":" ++ (compact_text (string key) ++ (codes ",\"value\":" ++ (compact_text (string value) ++ (codes "}}" ++ rest)))) → Begins op_json FitsOp bytes (TheOp.Add key value) rest
+pub add_begins : (bytes rest : List ℕ) (key : List ℕ) (value : List ℕ) → IsOnly string FitsKey key → IsOnly string FitsValue value → bytes ≡ codes "{\"Add\":{\"key\":" ++ (compact_text (string key) ++ (codes ",\"value\":" ++ (compact_text (string value) ++ (codes "}}" ++ rest)))) → TextBegins op_json FitsOp bytes (TheOp.Add key value) rest
 unfolding op_json FitsOp escape_byte
 add_begins bytes rest key value key_known value_known text = record {
   text = text ∙ simp append_assoc;
@@ -80,7 +80,7 @@ cas_only key expect value expect_known key_known value_known (TheOp.Cas other_ke
     cc
 cas_only key expect value expect_known key_known value_known _ held same = absurd (variants_apart _ _ same refl)
 
-pub cas_begins : (bytes rest : List ℕ) (key : List ℕ) (expect : List ℕ) (value : List ℕ) → IsOnly string FitsValue expect → IsOnly string FitsKey key → IsOnly string FitsValue value → bytes ≡ codes "{\"Cas\":{\"expect\":" ++ (compact_text (string expect) ++ (codes ",\"key\":" ++ (compact_text (string key) ++ (codes ",\"value\":" ++ (compact_text (string value) ++ (codes "}}" ++ rest)))))) → Begins op_json FitsOp bytes (TheOp.Cas key expect value) rest
+pub cas_begins : (bytes rest : List ℕ) (key : List ℕ) (expect : List ℕ) (value : List ℕ) → IsOnly string FitsValue expect → IsOnly string FitsKey key → IsOnly string FitsValue value → bytes ≡ codes "{\"Cas\":{\"expect\":" ++ (compact_text (string expect) ++ (codes ",\"key\":" ++ (compact_text (string key) ++ (codes ",\"value\":" ++ (compact_text (string value) ++ (codes "}}" ++ rest)))))) → TextBegins op_json FitsOp bytes (TheOp.Cas key expect value) rest
 unfolding op_json FitsOp escape_byte
 cas_begins bytes rest key expect value expect_known key_known value_known text = record {
   text = text ∙ simp append_assoc;
@@ -91,7 +91,7 @@ reply_only : (reply other : Reply) → IsOnly (option_json string) (OptionFits F
 unfolding reply_json FitsReply
 reply_only reply other old_only held same = ap (λ o. let r : Reply = record { old = o } in r) (old_only.only other.old held (cc))
 
-pub reply_begins : (bytes rest : List ℕ) (old : Option (List ℕ)) → IsOnly (option_json string) (OptionFits FitsValue) old → bytes ≡ codes "{\"old\":" ++ (compact_text (option_json string old) ++ (codes "}" ++ rest)) → Begins reply_json FitsReply bytes (record { old = old }) rest
+pub reply_begins : (bytes rest : List ℕ) (old : Option (List ℕ)) → IsOnly (option_json string) (OptionFits FitsValue) old → bytes ≡ codes "{\"old\":" ++ (compact_text (option_json string old) ++ (codes "}" ++ rest)) → TextBegins reply_json FitsReply bytes (record { old = old }) rest
 unfolding reply_json FitsReply escape_byte
 reply_begins bytes rest old old_only text = record {
   text = text ∙ simp append_assoc;

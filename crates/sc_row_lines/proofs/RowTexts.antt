@@ -4,7 +4,7 @@ use Rattle.json.specs.Print.{escape_byte}
 use Rattle.serde_json.specs.Written.{compact_text}
 use Rattle.sc_row_text.specs.Shapes.{number_json}
 use Rattle.sc_row_text.specs.Held.{FitsU32}
-use Rattle.sc_row_lines.specs.Fronts.{IsOnly, Begins}
+use Rattle.sc_row_lines.specs.Fronts.{IsOnly, TextBegins}
 use Rattle.sc_row_text.proofs.Apart.{variants_apart}
 use Rattle.std.proofs.Common.{Bool, true, ◌==◌, ap₂, Some, sym, length, append-nil, arith}
 use Rattle.std.proofs.lemmas.Bool.Decides.{nat_tests}
@@ -29,7 +29,7 @@ deliver_only content content_known (TheEvent.Deliver other_content) held same =
     cc
 deliver_only content content_known _ held same = absurd (variants_apart _ _ same refl)
 
-pub deliver_begins : (bytes rest : List ℕ) (content : ℕ) → IsOnly number_json FitsU32 content → bytes ≡ codes "{\"Deliver\":" ++ (compact_text (number_json content) ++ (codes "}" ++ rest)) → Begins event_json FitsEvent bytes (TheEvent.Deliver content) rest
+pub deliver_begins : (bytes rest : List ℕ) (content : ℕ) → IsOnly number_json FitsU32 content → bytes ≡ codes "{\"Deliver\":" ++ (compact_text (number_json content) ++ (codes "}" ++ rest)) → TextBegins event_json FitsEvent bytes (TheEvent.Deliver content) rest
 unfolding event_json FitsEvent escape_byte
 deliver_begins bytes rest content content_known text = record {
   text = text ∙ simp append_assoc;
@@ -41,7 +41,7 @@ unfolding event_json
 tick_only TheEvent.Tick held same = refl
 tick_only _ held same = absurd (variants_apart _ _ same refl)
 
-pub tick_begins : (bytes rest : List ℕ) → bytes ≡ codes "\"Tick\"" ++ rest → Begins event_json FitsEvent bytes TheEvent.Tick rest
+pub tick_begins : (bytes rest : List ℕ) → bytes ≡ codes "\"Tick\"" ++ rest → TextBegins event_json FitsEvent bytes TheEvent.Tick rest
 unfolding event_json FitsEvent escape_byte
 tick_begins bytes rest text = record {
   text = text;
@@ -53,7 +53,7 @@ unfolding event_json
 go_only TheEvent.Go held same = refl
 go_only _ held same = absurd (variants_apart _ _ same refl)
 
-pub go_begins : (bytes rest : List ℕ) → bytes ≡ codes "\"Go\"" ++ rest → Begins event_json FitsEvent bytes TheEvent.Go rest
+pub go_begins : (bytes rest : List ℕ) → bytes ≡ codes "\"Go\"" ++ rest → TextBegins event_json FitsEvent bytes TheEvent.Go rest
 unfolding event_json FitsEvent escape_byte
 go_begins bytes rest text = record {
   text = text;
@@ -65,7 +65,7 @@ unfolding event_json
 crash_only TheEvent.Crash held same = refl
 crash_only _ held same = absurd (variants_apart _ _ same refl)
 
-pub crash_begins : (bytes rest : List ℕ) → bytes ≡ codes "\"Crash\"" ++ rest → Begins event_json FitsEvent bytes TheEvent.Crash rest
+pub crash_begins : (bytes rest : List ℕ) → bytes ≡ codes "\"Crash\"" ++ rest → TextBegins event_json FitsEvent bytes TheEvent.Crash rest
 unfolding event_json FitsEvent escape_byte
 crash_begins bytes rest text = record {
   text = text;
@@ -79,7 +79,7 @@ drop_only content content_known (TheEvent.Drop other_content) held same =
     cc
 drop_only content content_known _ held same = absurd (variants_apart _ _ same refl)
 
-pub drop_begins : (bytes rest : List ℕ) (content : ℕ) → IsOnly number_json FitsU32 content → bytes ≡ codes "{\"Drop\":" ++ (compact_text (number_json content) ++ (codes "}" ++ rest)) → Begins event_json FitsEvent bytes (TheEvent.Drop content) rest
+pub drop_begins : (bytes rest : List ℕ) (content : ℕ) → IsOnly number_json FitsU32 content → bytes ≡ codes "{\"Drop\":" ++ (compact_text (number_json content) ++ (codes "}" ++ rest)) → TextBegins event_json FitsEvent bytes (TheEvent.Drop content) rest
 unfolding event_json FitsEvent escape_byte
 drop_begins bytes rest content content_known text = record {
   text = text ∙ simp append_assoc;
@@ -93,7 +93,7 @@ again_only content content_known (TheEvent.Again other_content) held same =
     cc
 again_only content content_known _ held same = absurd (variants_apart _ _ same refl)
 
-pub again_begins : (bytes rest : List ℕ) (content : ℕ) → IsOnly number_json FitsU32 content → bytes ≡ codes "{\"Again\":" ++ (compact_text (number_json content) ++ (codes "}" ++ rest)) → Begins event_json FitsEvent bytes (TheEvent.Again content) rest
+pub again_begins : (bytes rest : List ℕ) (content : ℕ) → IsOnly number_json FitsU32 content → bytes ≡ codes "{\"Again\":" ++ (compact_text (number_json content) ++ (codes "}" ++ rest)) → TextBegins event_json FitsEvent bytes (TheEvent.Again content) rest
 unfolding event_json FitsEvent escape_byte
 again_begins bytes rest content content_known text = record {
   text = text ∙ simp append_assoc;
@@ -112,7 +112,7 @@ row_text : (event sent who : Data) (bytes rest : List ℕ) → bytes ≡ codes "
 unfolding escape_byte
 row_text event sent who bytes rest text = text ∙ simp append_assoc
 
-pub row_begins : (bytes rest : List ℕ) (event : Event OrderLine) (sent : List Mail) (who : ℕ) → IsOnly event_json FitsEvent event → IsOnly (list_json mail_json) (Each FitsMail) sent → IsOnly number_json FitsU32 who → bytes ≡ codes "{\"event\":" ++ (compact_text (event_json event) ++ (codes ",\"sent\":" ++ (compact_text (list_json mail_json sent) ++ (codes ",\"who\":" ++ (compact_text (number_json who) ++ (codes "}" ++ rest)))))) → Begins row_json FitsRow bytes (record { who = who; event = event; sent = sent }) rest
+pub row_begins : (bytes rest : List ℕ) (event : Event OrderLine) (sent : List Mail) (who : ℕ) → IsOnly event_json FitsEvent event → IsOnly (list_json mail_json) (Each FitsMail) sent → IsOnly number_json FitsU32 who → bytes ≡ codes "{\"event\":" ++ (compact_text (event_json event) ++ (codes ",\"sent\":" ++ (compact_text (list_json mail_json sent) ++ (codes ",\"who\":" ++ (compact_text (number_json who) ++ (codes "}" ++ rest)))))) → TextBegins row_json FitsRow bytes (record { who = who; event = event; sent = sent }) rest
 unfolding row_json FitsRow
 row_begins bytes rest event sent who event_only sent_only who_only text = record {
   text = row_text (event_json event) (list_json mail_json sent) (number_json who) bytes rest text;
@@ -120,7 +120,7 @@ row_begins bytes rest event sent who event_only sent_only who_only text = record
 }
 
 -- a row whose text is the whole text
-whole_row : (text rest : List ℕ) (row : Row Mail OrderLine) → Begins row_json FitsRow text row rest → length rest ≡ 0 → text_of row ≡ text
+whole_row : (text rest : List ℕ) (row : Row Mail OrderLine) → TextBegins row_json FitsRow text row rest → length rest ≡ 0 → text_of row ≡ text
 unfolding text_of
 whole_row text [] row begins empty = sym (begins.text ∙ append-nil (compact_text (row_json row)))
 whole_row text (b ∷ bs) row begins empty = absurd (omega arith)
@@ -129,16 +129,16 @@ none_left : (rest : List ℕ) (empty : Bool) → empty ≡ (length rest == 0) �
 none_left rest empty is truth = let zero : (length rest == 0) ≡ true = sym is ∙ truth in grind (arith, nat_tests)
 
 -- so it is where nothing is left
-pub ended_row : (text rest : List ℕ) (row : Row Mail OrderLine) (empty : Bool) → Begins row_json FitsRow text row rest → empty ≡ (length rest == 0) → empty ≡ true → text_of row ≡ text
+pub ended_row : (text rest : List ℕ) (row : Row Mail OrderLine) (empty : Bool) → TextBegins row_json FitsRow text row rest → empty ≡ (length rest == 0) → empty ≡ true → text_of row ≡ text
 ended_row text rest row empty begins is truth = whole_row text rest row begins (none_left rest empty is truth)
 
 -- it is held
-pub held_row : (text rest : List ℕ) (row : Row Mail OrderLine) → Begins row_json FitsRow text row rest → IsHeld row
+pub held_row : (text rest : List ℕ) (row : Row Mail OrderLine) → TextBegins row_json FitsRow text row rest → IsHeld row
 unfolding IsHeld
 held_row text rest row begins = begins.known.fits
 
 -- and no other row has the text
-pub only_row : (text rest : List ℕ) (row other : Row Mail OrderLine) → ((one : Row Mail OrderLine) → IsHeld one → read (text_of one) ≡ Some (row_json one)) → Begins row_json FitsRow text row rest → text_of row ≡ text → IsHeld other → text_of other ≡ text → other ≡ row
+pub only_row : (text rest : List ℕ) (row other : Row Mail OrderLine) → ((one : Row Mail OrderLine) → IsHeld one → read (text_of one) ≡ Some (row_json one)) → TextBegins row_json FitsRow text row rest → text_of row ≡ text → IsHeld other → text_of other ≡ text → other ≡ row
 unfolding IsHeld
 only_row text rest row other back begins whole held same =
     let texts : Some (row_json other) ≡ Some (row_json row) = sym (back other held) ∙ (ap read (same ∙ sym whole) ∙ back row begins.known.fits) in

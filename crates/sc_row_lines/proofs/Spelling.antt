@@ -12,7 +12,7 @@ use Rattle.sc_base.specs.declared.names.Draw.{Draw}
 use Rattle.sc_row_text.specs.Shapes.{number_json}
 use Rattle.sc_row_text.specs.Names.{draw_json, FitsDraw, ballot_json, FitsBallot}
 use Rattle.sc_row_text.specs.Held.{FitsU16, FitsU32}
-use Rattle.sc_row_lines.specs.Fronts.{IsOnly, Begins, is_bare}
+use Rattle.sc_row_lines.specs.Fronts.{IsOnly, TextBegins, is_bare}
 use Rattle.sc_row_lines.proofs.Bare.{bare_escape}
 
 -- a digit is no dot, and a string has it as it is
@@ -65,7 +65,7 @@ draw_only draw other fits held same =
 -- a name stands between quotes, with a dot between its numbers
 pub draw_begins : (bytes rest : List ℕ) (node count : ℕ) → IsOnly number_json FitsU16 node → IsOnly number_json FitsU32 count
     → bytes ≡ (34 ∷ []) ++ (decimal node ++ ((46 ∷ []) ++ (decimal count ++ ((34 ∷ []) ++ rest))))
-    → Begins draw_json FitsDraw bytes (record { node = node; count = count }) rest
+    → TextBegins draw_json FitsDraw bytes (record { node = node; count = count }) rest
 unfolding draw_json FitsDraw
 draw_begins bytes rest node count first second text =
     let bare : list_all is_bare (decimal node ++ codes "." ++ decimal count) ≡ true =
@@ -88,7 +88,7 @@ ballot_only ballot other held same =
 -- a ballot stands in brackets
 pub ballot_begins : (bytes rest : List ℕ) (round node : ℕ) → IsOnly number_json FitsU32 round → IsOnly number_json FitsU16 node
     → bytes ≡ (91 ∷ []) ++ (decimal round ++ ((44 ∷ []) ++ (decimal node ++ ((93 ∷ []) ++ rest))))
-    → Begins ballot_json FitsBallot bytes (record { round = round; node = node }) rest
+    → TextBegins ballot_json FitsBallot bytes (record { round = round; node = node }) rest
 unfolding ballot_json FitsBallot
 ballot_begins bytes rest round node first second text =
     record {

@@ -9,7 +9,7 @@ pub record IsOnly {T : Type 0} (json_of : T → Data) (Fits : T → Type 0) (val
   pub only : (other : T) → Fits other → json_of other ≡ json_of value → other ≡ value
 
 -- the text of such a value begins the bytes, and the rest stands behind it
-pub record Begins {T : Type 0} (json_of : T → Data) (Fits : T → Type 0) (bytes : List ℕ) (value : T) (rest : List ℕ) : Type 0 where
+pub record TextBegins {T : Type 0} (json_of : T → Data) (Fits : T → Type 0) (bytes : List ℕ) (value : T) (rest : List ℕ) : Type 0 where
   pub text : bytes ≡ compact_text (json_of value) ++ rest
   pub known : IsOnly json_of Fits value
 

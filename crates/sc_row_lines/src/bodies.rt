@@ -2,7 +2,7 @@
 ghost use Rattle.std.specs.Prelude.{IfSome};
 ghost use Rattle.sc_row_text.specs.Answers.{answer_body_json, FitsAnswerBody};
 ghost use Rattle.sc_row_text.specs.Mails.{mail_body_json, FitsMailBody};
-ghost use Rattle.sc_row_lines.specs.Fronts.{Begins};
+ghost use Rattle.sc_row_lines.specs.Fronts.{TextBegins};
 
 use crate::from_text::FromText;
 use crate::parts::{four_of, one_of, three_of, two_of};
@@ -11,7 +11,7 @@ use std::alloc::Global;
 
 fn answer_value(alloc: Global, bytes: &[u8]) -> Option<(AnswerBody, &[u8])>
     ensures { IfSome result
-        (λ found. Begins answer_body_json FitsAnswerBody bytes.now found.0 found.1.now) }
+        (λ found. TextBegins answer_body_json FitsAnswerBody bytes.now found.0 found.1.now) }
 {
     let (content, rest) = one_of(alloc, bytes, br#"{"Value":"#, b"}")?;
     Some((AnswerBody::Value(content), rest))
@@ -29,7 +29,7 @@ impl FromText for AnswerBody {
 
 fn body_request(alloc: Global, bytes: &[u8]) -> Option<(MailBody, &[u8])>
     ensures { IfSome result
-        (λ found. Begins mail_body_json FitsMailBody bytes.now found.0 found.1.now) }
+        (λ found. TextBegins mail_body_json FitsMailBody bytes.now found.0 found.1.now) }
 {
     let (client, group, op, seq, rest) = four_of(
         alloc,
@@ -53,7 +53,7 @@ fn body_request(alloc: Global, bytes: &[u8]) -> Option<(MailBody, &[u8])>
 
 fn body_answer(alloc: Global, bytes: &[u8]) -> Option<(MailBody, &[u8])>
     ensures { IfSome result
-        (λ found. Begins mail_body_json FitsMailBody bytes.now found.0 found.1.now) }
+        (λ found. TextBegins mail_body_json FitsMailBody bytes.now found.0 found.1.now) }
 {
     let (answer, group, seq, rest) = three_of(
         alloc,
@@ -68,7 +68,7 @@ fn body_answer(alloc: Global, bytes: &[u8]) -> Option<(MailBody, &[u8])>
 
 fn body_prepare(alloc: Global, bytes: &[u8]) -> Option<(MailBody, &[u8])>
     ensures { IfSome result
-        (λ found. Begins mail_body_json FitsMailBody bytes.now found.0 found.1.now) }
+        (λ found. TextBegins mail_body_json FitsMailBody bytes.now found.0 found.1.now) }
 {
     let (ballot, from_slot, group, rest) = three_of(
         alloc,
@@ -90,7 +90,7 @@ fn body_prepare(alloc: Global, bytes: &[u8]) -> Option<(MailBody, &[u8])>
 
 fn body_accept(alloc: Global, bytes: &[u8]) -> Option<(MailBody, &[u8])>
     ensures { IfSome result
-        (λ found. Begins mail_body_json FitsMailBody bytes.now found.0 found.1.now) }
+        (λ found. TextBegins mail_body_json FitsMailBody bytes.now found.0 found.1.now) }
 {
     let (ballot, command, group, slot, rest) = four_of(
         alloc,
@@ -114,7 +114,7 @@ fn body_accept(alloc: Global, bytes: &[u8]) -> Option<(MailBody, &[u8])>
 
 fn body_accepted(alloc: Global, bytes: &[u8]) -> Option<(MailBody, &[u8])>
     ensures { IfSome result
-        (λ found. Begins mail_body_json FitsMailBody bytes.now found.0 found.1.now) }
+        (λ found. TextBegins mail_body_json FitsMailBody bytes.now found.0 found.1.now) }
 {
     let (ballot, group, slot, rest) = three_of(
         alloc,
@@ -136,7 +136,7 @@ fn body_accepted(alloc: Global, bytes: &[u8]) -> Option<(MailBody, &[u8])>
 
 fn body_nack(alloc: Global, bytes: &[u8]) -> Option<(MailBody, &[u8])>
     ensures { IfSome result
-        (λ found. Begins mail_body_json FitsMailBody bytes.now found.0 found.1.now) }
+        (λ found. TextBegins mail_body_json FitsMailBody bytes.now found.0 found.1.now) }
 {
     let (group, promised, rest) = two_of(
         alloc,
@@ -150,7 +150,7 @@ fn body_nack(alloc: Global, bytes: &[u8]) -> Option<(MailBody, &[u8])>
 
 fn body_learn(alloc: Global, bytes: &[u8]) -> Option<(MailBody, &[u8])>
     ensures { IfSome result
-        (λ found. Begins mail_body_json FitsMailBody bytes.now found.0 found.1.now) }
+        (λ found. TextBegins mail_body_json FitsMailBody bytes.now found.0 found.1.now) }
 {
     let (command, group, slot, rest) = three_of(
         alloc,
@@ -172,7 +172,7 @@ fn body_learn(alloc: Global, bytes: &[u8]) -> Option<(MailBody, &[u8])>
 
 fn body_ask(alloc: Global, bytes: &[u8]) -> Option<(MailBody, &[u8])>
     ensures { IfSome result
-        (λ found. Begins mail_body_json FitsMailBody bytes.now found.0 found.1.now) }
+        (λ found. TextBegins mail_body_json FitsMailBody bytes.now found.0 found.1.now) }
 {
     let (from_slot, group, rest) = two_of(
         alloc,

@@ -1,7 +1,7 @@
 //! Commands: of clients, and the empty one.
 ghost use Rattle.std.specs.Prelude.{IfSome};
 ghost use Rattle.sc_row_text.specs.Commands.{command_json, FitsCommand};
-ghost use Rattle.sc_row_lines.specs.Fronts.{Begins};
+ghost use Rattle.sc_row_lines.specs.Fronts.{TextBegins};
 
 use crate::from_text::FromText;
 use crate::parts::three_of;
@@ -11,7 +11,7 @@ use std::alloc::Global;
 
 fn command_call(alloc: Global, bytes: &[u8]) -> Option<(Command, &[u8])>
     ensures { IfSome result
-        (λ found. Begins command_json FitsCommand bytes.now found.0 found.1.now) }
+        (λ found. TextBegins command_json FitsCommand bytes.now found.0 found.1.now) }
 {
     let (client, op, seq, rest) = three_of(
         alloc,
@@ -26,7 +26,7 @@ fn command_call(alloc: Global, bytes: &[u8]) -> Option<(Command, &[u8])>
 
 fn command_noop(bytes: &[u8]) -> Option<(Command, &[u8])>
     ensures { IfSome result
-        (λ found. Begins command_json FitsCommand bytes.now found.0 found.1.now) }
+        (λ found. TextBegins command_json FitsCommand bytes.now found.0 found.1.now) }
 {
     let rest = behind(bytes, br#""Noop""#)?;
     Some((Command::Noop, rest))

@@ -1,7 +1,7 @@
 //! What is read from the front of a text.
 ghost use Rattle.std.specs.Prelude.{IfSome};
 ghost use Rattle.serde_json.specs.Data.{Data};
-ghost use Rattle.sc_row_lines.specs.Fronts.{Begins};
+ghost use Rattle.sc_row_lines.specs.Fronts.{TextBegins};
 
 use std::alloc::Global;
 
@@ -16,5 +16,5 @@ pub(crate) trait FromText: Sized {
     /// The value whose text begins some bytes, and what stands behind it. `None` says nothing: the
     /// value may have another shape, or memory may be short.
     fn take(alloc: Global, bytes: &[u8]) -> Option<(Self, &[u8])>
-        ensures { IfSome result (λ found. Begins json_of Fits bytes.now found.0 found.1.now) };
+        ensures { IfSome result (λ found. TextBegins json_of Fits bytes.now found.0 found.1.now) };
 }

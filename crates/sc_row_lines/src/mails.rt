@@ -3,7 +3,7 @@ ghost use Rattle.std.specs.Prelude.{IfSome};
 ghost use Rattle.sc_base.specs.Among.{Each};
 ghost use Rattle.sc_row_text.specs.Shapes.{list_json};
 ghost use Rattle.sc_row_text.specs.Mails.{mail_json, FitsMail};
-ghost use Rattle.sc_row_lines.specs.Fronts.{Begins};
+ghost use Rattle.sc_row_lines.specs.Fronts.{TextBegins};
 
 use crate::from_text::FromText;
 use crate::parts::{next, three_of};
@@ -33,7 +33,7 @@ impl FromText for Mail {
 // The mails of an array that begins some bytes and is not empty.
 fn mails_at(alloc: Global, bytes: &[u8]) -> Option<(Sequence<Mail>, &[u8])>
     ensures { IfSome result
-        (λ found. Begins (list_json mail_json) (Each FitsMail) bytes.now found.0 found.1.now) }
+        (λ found. TextBegins (list_json mail_json) (Each FitsMail) bytes.now found.0 found.1.now) }
 {
     let (first, mut rest) = next(alloc, bytes, b"[")?;
     let mut mails = Sequence::new(alloc);

@@ -1,7 +1,7 @@
 //! Operations and replies.
 ghost use Rattle.std.specs.Prelude.{IfSome};
 ghost use Rattle.sc_row_text.specs.Ops.{op_json, FitsOp, reply_json, FitsReply};
-ghost use Rattle.sc_row_lines.specs.Fronts.{Begins};
+ghost use Rattle.sc_row_lines.specs.Fronts.{TextBegins};
 
 use crate::from_text::FromText;
 use crate::parts::{one_of, three_of, two_of};
@@ -10,7 +10,7 @@ use std::alloc::Global;
 
 fn op_get(alloc: Global, bytes: &[u8]) -> Option<(Op, &[u8])>
     ensures { IfSome result
-        (λ found. Begins op_json FitsOp bytes.now found.0 found.1.now) }
+        (λ found. TextBegins op_json FitsOp bytes.now found.0 found.1.now) }
 {
     let (key, rest) = one_of(alloc, bytes, br#"{"Get":{"key":"#, b"}}")?;
     Some((Op::Get { key }, rest))
@@ -18,7 +18,7 @@ fn op_get(alloc: Global, bytes: &[u8]) -> Option<(Op, &[u8])>
 
 fn op_put(alloc: Global, bytes: &[u8]) -> Option<(Op, &[u8])>
     ensures { IfSome result
-        (λ found. Begins op_json FitsOp bytes.now found.0 found.1.now) }
+        (λ found. TextBegins op_json FitsOp bytes.now found.0 found.1.now) }
 {
     let (key, value, rest) = two_of(alloc, bytes, br#"{"Put":{"key":"#, br#","value":"#, b"}}")?;
     Some((Op::Put { key, value }, rest))
@@ -26,7 +26,7 @@ fn op_put(alloc: Global, bytes: &[u8]) -> Option<(Op, &[u8])>
 
 fn op_del(alloc: Global, bytes: &[u8]) -> Option<(Op, &[u8])>
     ensures { IfSome result
-        (λ found. Begins op_json FitsOp bytes.now found.0 found.1.now) }
+        (λ found. TextBegins op_json FitsOp bytes.now found.0 found.1.now) }
 {
     let (key, rest) = one_of(alloc, bytes, br#"{"Del":{"key":"#, b"}}")?;
     Some((Op::Del { key }, rest))
@@ -34,7 +34,7 @@ fn op_del(alloc: Global, bytes: &[u8]) -> Option<(Op, &[u8])>
 
 fn op_add(alloc: Global, bytes: &[u8]) -> Option<(Op, &[u8])>
     ensures { IfSome result
-        (λ found. Begins op_json FitsOp bytes.now found.0 found.1.now) }
+        (λ found. TextBegins op_json FitsOp bytes.now found.0 found.1.now) }
 {
     let (key, value, rest) = two_of(alloc, bytes, br#"{"Add":{"key":"#, br#","value":"#, b"}}")?;
     Some((Op::Add { key, value }, rest))
@@ -42,7 +42,7 @@ fn op_add(alloc: Global, bytes: &[u8]) -> Option<(Op, &[u8])>
 
 fn op_cas(alloc: Global, bytes: &[u8]) -> Option<(Op, &[u8])>
     ensures { IfSome result
-        (λ found. Begins op_json FitsOp bytes.now found.0 found.1.now) }
+        (λ found. TextBegins op_json FitsOp bytes.now found.0 found.1.now) }
 {
     let (expect, key, value, rest) = three_of(
         alloc,

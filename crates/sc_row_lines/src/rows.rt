@@ -5,7 +5,7 @@ ghost use Rattle.sc_cmd.specs.declared.orders.OrderLine.{OrderLine};
 ghost use Rattle.sc_mail.specs.declared.bodies.Mail.{Mail};
 ghost use Rattle.sc_row_text.specs.Rows.{event_json, FitsEvent, row_json, FitsRow};
 ghost use Rattle.sc_row_text.specs.RowText.{text_of, IsHeld};
-ghost use Rattle.sc_row_lines.specs.Fronts.{Begins};
+ghost use Rattle.sc_row_lines.specs.Fronts.{TextBegins};
 
 use crate::from_text::FromText;
 use crate::parts::{one_of, three_of};
@@ -18,7 +18,7 @@ use std::alloc::Global;
 
 fn event_deliver(alloc: Global, bytes: &[u8]) -> Option<(Event<OrderLine>, &[u8])>
     ensures { IfSome result
-        (λ found. Begins event_json FitsEvent bytes.now found.0 found.1.now) }
+        (λ found. TextBegins event_json FitsEvent bytes.now found.0 found.1.now) }
 {
     let (content, rest) = one_of(alloc, bytes, br#"{"Deliver":"#, b"}")?;
     Some((Event::Deliver(content), rest))
@@ -26,7 +26,7 @@ fn event_deliver(alloc: Global, bytes: &[u8]) -> Option<(Event<OrderLine>, &[u8]
 
 fn event_tick(bytes: &[u8]) -> Option<(Event<OrderLine>, &[u8])>
     ensures { IfSome result
-        (λ found. Begins event_json FitsEvent bytes.now found.0 found.1.now) }
+        (λ found. TextBegins event_json FitsEvent bytes.now found.0 found.1.now) }
 {
     let rest = behind(bytes, br#""Tick""#)?;
     Some((Event::Tick, rest))
@@ -34,7 +34,7 @@ fn event_tick(bytes: &[u8]) -> Option<(Event<OrderLine>, &[u8])>
 
 fn event_go(bytes: &[u8]) -> Option<(Event<OrderLine>, &[u8])>
     ensures { IfSome result
-        (λ found. Begins event_json FitsEvent bytes.now found.0 found.1.now) }
+        (λ found. TextBegins event_json FitsEvent bytes.now found.0 found.1.now) }
 {
     let rest = behind(bytes, br#""Go""#)?;
     Some((Event::Go, rest))
@@ -42,7 +42,7 @@ fn event_go(bytes: &[u8]) -> Option<(Event<OrderLine>, &[u8])>
 
 fn event_crash(bytes: &[u8]) -> Option<(Event<OrderLine>, &[u8])>
     ensures { IfSome result
-        (λ found. Begins event_json FitsEvent bytes.now found.0 found.1.now) }
+        (λ found. TextBegins event_json FitsEvent bytes.now found.0 found.1.now) }
 {
     let rest = behind(bytes, br#""Crash""#)?;
     Some((Event::Crash, rest))
@@ -50,7 +50,7 @@ fn event_crash(bytes: &[u8]) -> Option<(Event<OrderLine>, &[u8])>
 
 fn event_drop(alloc: Global, bytes: &[u8]) -> Option<(Event<OrderLine>, &[u8])>
     ensures { IfSome result
-        (λ found. Begins event_json FitsEvent bytes.now found.0 found.1.now) }
+        (λ found. TextBegins event_json FitsEvent bytes.now found.0 found.1.now) }
 {
     let (content, rest) = one_of(alloc, bytes, br#"{"Drop":"#, b"}")?;
     Some((Event::Drop(content), rest))
@@ -58,7 +58,7 @@ fn event_drop(alloc: Global, bytes: &[u8]) -> Option<(Event<OrderLine>, &[u8])>
 
 fn event_again(alloc: Global, bytes: &[u8]) -> Option<(Event<OrderLine>, &[u8])>
     ensures { IfSome result
-        (λ found. Begins event_json FitsEvent bytes.now found.0 found.1.now) }
+        (λ found. TextBegins event_json FitsEvent bytes.now found.0 found.1.now) }
 {
     let (content, rest) = one_of(alloc, bytes, br#"{"Again":"#, b"}")?;
     Some((Event::Again(content), rest))
