@@ -1,13 +1,14 @@
 -- Rows that come in order: each actor takes its mail in ascending order of number.
-use Rattle.std.specs.Prelude.{◌≡◌, ℕ, suc, ◌==◌, ◌&&◌, ◌++◌, List, [], ◌∷◌, Bool, false, if◌then◌else◌, find, filter, replicate, count_by, Some}
+use Rattle.std.specs.Prelude.{◌≡◌, ℕ, suc, ◌==◌, ◌≤◌, ◌&&◌, ◌++◌, List, [], ◌∷◌, Bool, false, if◌then◌else◌, find, filter, replicate, count_by, Some}
 use Rattle.std.specs.List.{list_any}
+use Rattle.sc_base.specs.Among.{Each}
 use Rattle.sc_actor.specs.declared.actors.Seat.{Seat}
 use Rattle.sc_actor.specs.declared.rows.Event.{Event}
 use Rattle.sc_actor.specs.declared.rows.Event.TheVariants.{Deliver, Tick, Go, Told, Crash, Drop, Again}
 use Rattle.sc_actor.specs.declared.rows.Row.{Row}
 use Rattle.sc_actor.specs.declared.schedules.Line.{Line}
 use Rattle.sc_actor.specs.declared.schedules.Line.TheVariants.{Go as GoLine, Deliver as DeliverLine, Drop as DropLine, Again as AgainLine, Tick as TickLine, Crash as CrashLine, Told as ToldLine, Settle, Free, Storm}
-use Rattle.sc_actor.specs.Mail.{mails, copies, is_delivery}
+use Rattle.sc_actor.specs.Mail.{mails, copies, has_crashed, is_delivery}
 use Rattle.sc_actor.specs.System.{System, numbers_of, row_of, waiting, kth, has_gone, is_go}
 
 -- a line that tells a client to go, or only delivers
@@ -40,6 +41,11 @@ pub record IsOrderly {A M O : Type 0} (s : System A M O) (rows : List (Row M O))
   pub event : Event O
   pub row_is : row ≡ row_of s.table seat rows event
   pub in_order : IsInOrder s rows seat.who event
+
+-- no mail has more than one copy, and no actor has crashed
+pub record IsTidy {M O : Type 0} (rows : List (Row M O)) : Type 0 where
+  pub copies : Each (λ count. count ≤ 1) (copies rows)
+  pub alive : (who : ℕ) → has_crashed rows who ≡ false
 
 -- the mail that passes the test, each as often as it has copies
 abbrev pub mail_with : {M : Type 0} → (M → Bool) → List M → List ℕ → List M
