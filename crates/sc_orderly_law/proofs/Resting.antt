@@ -1,9 +1,8 @@
 -- What is left of an actor's mail after a row that comes in order.
-use Rattle.std.proofs.Common.{◌≡◌, ℕ, zero, suc, ◌+◌, ◌-◌, ◌<◌, ◌≤◌, List, [], ◌∷◌, ◌++◌, length, Bool, true, false, true≢false, cond, eqb, eq-eqb, ◌&&◌, ◌||◌, not, find, map, drop, replicate, refl, sym, ◌∙◌, ap, subst, arith, get_or, set, append_assoc, Option, None, Some, sum_by}
+use Rattle.std.proofs.Common.{◌≡◌, ℕ, zero, suc, ◌+◌, ◌-◌, ◌≤◌, List, [], ◌∷◌, ◌++◌, length, Bool, true, false, true≢false, cond, eqb, ◌&&◌, ◌||◌, not, find, drop, replicate, refl, sym, ◌∙◌, ap, subst, arith, get_or, set, Option, None, Some}
 use Rattle.std.specs.Prelude.{slice_get, is_none}
 use Rattle.std.specs.List.{filter, list_any}
-use Rattle.std.proofs.Math.Bool.{or-false}
-use Rattle.std.proofs.lemmas.Bool.{eqb-true, ne_eqb, eqb-false, and_parts, and_right, or_right}
+use Rattle.std.proofs.lemmas.Bool.{eqb-true, and_right}
 use Rattle.std.proofs.lemmas.List.Folds.{list_any-append}
 use Rattle.sc_base.specs.Among.{Each}
 use Rattle.sc_actor.specs.declared.actors.Seat.{Seat}
@@ -11,15 +10,16 @@ use Rattle.sc_actor.specs.declared.rows.Row.{Row}
 use Rattle.sc_actor.specs.declared.rows.Event.{Event}
 use Rattle.sc_actor.specs.declared.rows.Event.TheVariants.{Deliver, Tick, Go, Told, Crash, Drop, Again}
 use Rattle.sc_actor.specs.declared.schedules.Line.{Line}
-use Rattle.sc_actor.specs.Mail.{mails, copies, counts_at, numbers, numbered, may_get, has_crashed, is_for, is_crash, is_delivery}
+use Rattle.sc_actor.specs.Mail.{mails, copies, counts_at, numbers, numbered, may_get, is_for, is_crash, is_delivery}
 use Rattle.sc_actor.specs.System.{System, numbers_of, row_of, waiting, kth}
 use Rattle.sc_actor.specs.Walk.{IsLawful, is_quiet}
 use Rattle.sc_actor.proofs.CountLemmas.{counted, length-counts_at}
 use Rattle.sc_actor.proofs.PendingLemmas.{first_is, wide_none}
 use Rattle.sc_actor.proofs.ReplayLemmas.{mails-snoc, copies-snoc}
+use Rattle.sc_actor.proofs.WalkLemmas.{lawful-prefix}
 use Rattle.sc_orderly_law.specs.Orderly.{IsPlainLine, IsInOrder, IsOrderly, IsTidy, mail_with, rest, mail_for, is_born, taken}
 use Rattle.sc_orderly_law.proofs.Ordering.{Each-append, orderly, by_rows}
-use Rattle.sc_orderly_law.proofs.Rests.{Foremost, less_at, foremost, mail_with-append, mail_with-ones, mail_with-other, mail_with-agree, numbers-agree}
+use Rattle.sc_orderly_law.proofs.Rests.{Foremost, less_at, foremost, mail_with-append, mail_with-ones, mail_with-other, numbers-agree}
 
 -- ---- no copy is repeated, and nobody crashes
 
@@ -217,3 +217,32 @@ module _ {A M O : Type 0} (s : System A M O) where
           let first = takes_first rows (s.receiver f.0) number t born f.3 in
           let none : first.mail ∷ first.behind ≡ [] = sym first.first ∙ empty (s.receiver f.0) born in
           cc
+
+-- ---- of lawful journals
+
+module _ {A M O : Type 0} (s : System A M O) (lines : List (Line O)) (plain : Each IsPlainLine lines) where
+  -- what is left of an actor's mail after one more row of a lawful journal
+  pub rest-lawful : (rows : List (Row M O)) (row : Row M O) (who : ℕ) → IsLawful s lines (rows ++ row ∷ []) → rest s (rows ++ row ∷ []) who ≡ drop (taken who row) (rest s rows who) ++ mail_for s who row.sent
+  rest-lawful rows row who lawful =
+      rest-row s rows row who (tidy s lines rows plain (lawful-prefix s lines rows (row ∷ []) lawful)) (orderly s lines rows row plain lawful)
+
+  -- what a delivery of a lawful journal takes
+  pub takes-lawful : (rows : List (Row M O)) (row : Row M O) (number : ℕ) → IsLawful s lines (rows ++ row ∷ []) → row.event ≡ Deliver number → TakesFirst s rows row.who number
+  takes-lawful rows row number lawful event =
+      let o = orderly s lines rows row plain lawful in
+      let who : o.seat.who ≡ row.who = sym (ap (λ (r : Row M O). r.who) o.row_is) in
+      let is : o.event ≡ Deliver number = sym (ap (λ (r : Row M O). r.event) o.row_is) ∙ event in
+      let first : kth (waiting s rows (Some o.seat.who)) 1 ≡ Some number = subst (λ (e : Event O). IsInOrder s rows o.seat.who e) is o.in_order in
+      let t = tidy s lines rows plain (lawful-prefix s lines rows (row ∷ []) lawful) in
+      subst (λ w. TakesFirst s rows w number) who (takes_first s rows o.seat.who number t (is_born-from s o.seat.who o.seat o.born) first)
+
+  pub first-lawful : (rows : List (Row M O)) (row : Row M O) (number : ℕ) → IsLawful s lines (rows ++ row ∷ []) → row.event ≡ Deliver number → (mail : M) × (numbered (mails rows) number ≡ Some mail) × (s.receiver mail ≡ row.who) × (slice_get (rest s rows row.who) 0 ≡ Some mail)
+  first-lawful rows row number lawful event =
+      let t = takes-lawful rows row number lawful event in
+      (t.mail, t.sent, t.receiver, ap (λ xs. slice_get xs 0) t.first)
+
+  pub quiet-lawful : (rows : List (Row M O)) (who : ℕ) → IsLawful s lines rows → is_born s who ≡ true → is_quiet s rows ≡ true → rest s rows who ≡ []
+  quiet-lawful rows who lawful born quiet = quiet-empty s rows who (tidy s lines rows plain lawful) born quiet
+
+  pub empty-lawful : (rows : List (Row M O)) → IsLawful s lines rows → ((who : ℕ) → is_born s who ≡ true → rest s rows who ≡ []) → is_quiet s rows ≡ true
+  empty-lawful rows lawful none = empty-quiet s rows (tidy s lines rows plain lawful) none

@@ -1,5 +1,5 @@
 -- Rows that come in order: each actor takes its mail in ascending order of number.
-use Rattle.std.specs.Prelude.{◌≡◌, ℕ, suc, ◌==◌, ◌≤◌, ◌&&◌, ◌++◌, List, [], ◌∷◌, Bool, false, if◌then◌else◌, find, filter, replicate, count_by, Some}
+use Rattle.std.specs.Prelude.{◌≡◌, ℕ, ◌==◌, ◌≤◌, ◌&&◌, ◌++◌, List, [], ◌∷◌, Bool, false, if◌then◌else◌, find, filter, replicate, count_by, Some}
 use Rattle.std.specs.List.{list_any}
 use Rattle.sc_base.specs.Among.{Each}
 use Rattle.sc_actor.specs.declared.actors.Seat.{Seat}

@@ -1,5 +1,5 @@
 -- What actors and pending mail owe: an upper bound of the deliveries that are still to come.
-use Rattle.std.specs.Prelude.{◌≡◌, ℕ, ◌+◌, ◌==◌, ◌≤◌, List, [], ◌∷◌, ◌++◌, sum_by, find, Some}
+use Rattle.std.specs.Prelude.{◌≡◌, ℕ, ◌+◌, ◌==◌, ◌≤◌, List, [], ◌∷◌, ◌++◌, sum_by, find, true, Some}
 use Rattle.sc_base.specs.Among.{Each}
 use Rattle.sc_actor.specs.declared.actors.Seat.{Seat}
 use Rattle.sc_actor.specs.declared.rows.Event.TheVariants.{Deliver, Go}
@@ -47,6 +47,10 @@ pub record Lowers {A M O : Type 0} (s : System A M O) (owing : Owing A M) (lines
       IsLawful s lines (rows ++ row_of s.table seat rows Go ∷ []) →
       owed_by owing (s.table (value s.table seat rows) GoInput) ≤ owing.actor (value s.table seat rows)
   pub mail : (rows : List (Row M O)) → IsLawful s lines rows → Each (λ mail. 1 ≤ owing.mail mail) (mails rows)
+
+-- each mail of each lawful journal of these lines goes to an actor
+abbrev pub SendsToActors : {A M O : Type 0} → System A M O → List (Line O) → Type 0
+SendsToActors {A} {M} {O} s lines = (rows : List (Row M O)) → IsLawful s lines rows → Each (λ mail. is_born s (s.receiver mail) ≡ true) (mails rows)
 
 -- a line of many deliveries may make so many
 abbrev pub HasRoom : {O : Type 0} → ℕ → Line O → Type 0
