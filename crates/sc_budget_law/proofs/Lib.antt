@@ -1,0 +1,2 @@
+pub mod BetweenLists
+pub mod BetweenMoves

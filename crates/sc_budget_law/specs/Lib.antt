@@ -1,3 +1,5 @@
+pub mod Between
+pub mod BetweenRows
 pub mod Budget
 pub mod Frames
 pub mod Owed
