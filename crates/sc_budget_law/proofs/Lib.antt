@@ -1,0 +1,6 @@
+mod Counts
+mod Served
+mod Entry
+mod Sends
+mod Leading
+mod Pumping
