@@ -1,7 +1,7 @@
 -- How many values stand at a slot, when one is taken out or put in.
 use Rattle.std.proofs.Common.{◌≡◌, ℕ, ◌+◌, ◌<◌, ◌≤◌, eqb, ltb, Bool, true, false, cond, List, [], ◌∷◌, ◌++◌, length, count_by, Option, Some, None, ◌⊎◌, inl, inr, refl, sym, ◌∙◌, ap, subst, arith}
 use Rattle.std.specs.Prelude.{find, is_some}
-use Rattle.std.proofs.lemmas.Bool.{cond_both, cases_Bool, eqb-true, ne_eqb, cond-true, cond-false}
+use Rattle.std.proofs.lemmas.Bool.{cond_both, cases_Bool, eqb-true, eq-eqb, ne_eqb, both_ways, cases_lt}
 use Rattle.std.proofs.lemmas.List.Sums.{sum_by-cons, sum_by_push}
 use Rattle.sc_base.specs.Among.{Among, Each}
 use Rattle.sc_node_table.specs.Slots.{at_slot, with_slot}
@@ -120,6 +120,31 @@ at_found {V} (x ∷ es) slot v e =
       let same : x.1 ≡ v = cc in
       (omega (arith, c, one), inl (ap (λ n. (n, x.1)) (eqb-true x.0 slot t) ∙ ap (λ w. (slot, w)) same))))
     (λ f k. (let more = at_found es slot v k in let low = more.0 in (omega (arith, c, low), inr more.1))) e
+
+stands : {V : Type 0} (es : List (ℕ × V)) (slot : ℕ) (w : V) → Among (slot, w) es → 1 ≤ entries_at slot es
+stands [] slot w a = absurd a
+stands {V} (x ∷ es) slot w (inl is) =
+    let c = count-cons (λ (y : ℕ × V). eqb y.0 slot) x es in
+    let here = one_yes (eqb x.0 slot) (eq-eqb x.0 slot (ap (λ (p : ℕ × V). p.0) is)) in omega (arith, c, here)
+stands {V} (x ∷ es) slot w (inr a) =
+    let c = count-cons (λ (y : ℕ × V). eqb y.0 slot) x es in
+    let more = stands es slot w a in omega (arith, c, more)
+
+-- where one value stands at a slot, it is that one
+pub at_only : {V : Type 0} (es : List (ℕ × V)) (slot : ℕ) (v w : V) → entries_at slot es ≡ 1 → at_slot es slot ≡ Some v → Among (slot, w) es → v ≡ w
+at_only [] slot v w one e a = absurd a
+at_only {V} (x ∷ es) slot v w one e a =
+    let c = count-cons (λ (y : ℕ × V). eqb y.0 slot) x es in
+    cond_both (eqb x.0 slot) (Some x.1) (at_slot es slot) (λ o. o ≡ Some v → v ≡ w)
+    (λ t k. (let here = one_yes (eqb x.0 slot) t in
+      let same : x.1 ≡ v = cc in
+      elim a [ inl is ↦ sym same ∙ ap (λ (p : ℕ × V). p.1) is | inr b ↦ (let more = stands es slot w b in absurd (omega (arith, c, here, one, more))) ]))
+    (λ f k. (let none = one_no (eqb x.0 slot) f in
+      elim a [ inl is ↦ absurd (both_ways (eqb x.0 slot) f (eq-eqb x.0 slot (ap (λ (p : ℕ × V). p.0) is))) | inr b ↦ at_only es slot v w (omega (arith, c, none, one)) k b ])) e
+
+-- none stands there where none is found
+pub at_nothing : {V : Type 0} (es : List (ℕ × V)) (slot : ℕ) → at_slot es slot ≡ None → entries_at slot es ≡ 0
+at_nothing {V} es slot e = elim (cases_lt 0 (entries_at slot es)) [ inl up ↦ (let found = at_some es slot (omega (arith, up)) in cc (found.1, e)) | inr none ↦ omega (arith, none) ]
 
 -- one more at a slot that has none
 module _ {V : Type 0} (slot : ℕ) (v : V) where

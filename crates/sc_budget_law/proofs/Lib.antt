@@ -4,3 +4,4 @@ mod Entry
 mod Sends
 mod Leading
 mod Pumping
+mod Running
