@@ -1,2 +1,9 @@
+mod Counts
+mod Served
+mod Entry
+mod Sends
+mod Leading
+mod Pumping
+mod Running
 pub mod BetweenLists
 pub mod BetweenMoves

@@ -6,3 +6,4 @@ pub mod Owed
 pub mod PlainClient
 pub mod PlainMail
 pub mod PlainNode
+pub mod Sending

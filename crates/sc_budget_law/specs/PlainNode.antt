@@ -18,10 +18,11 @@ use Rattle.sc_node_table.specs.Slots.{slots_ahead, numbers_from}
 use Rattle.sc_budget_law.specs.Frames.{Frame}
 use Rattle.sc_budget_law.specs.PlainMail.{Requests, IsWrittenValue, IsPlainCommand}
 
--- the executed state: of the requests noted of clients each is begun, and each value was written by one
+-- the executed state: of the requests noted of clients each is begun, and each value that is stored or noted was written by one
 pub record IsPlainGroup (begun : Requests) (frame : Frame) (group : Group) : Type 0 where
   pub core_is : group.core ≡ frame.core
   pub noted : (client : ℕ) (note : Noted) → get group.clients client ≡ Some note → (op : Op) × begun client note.seq op
+  pub replied : (client : ℕ) (note : Noted) → get group.clients client ≡ Some note → (value : List ℕ) → note.reply.old ≡ Some value → IsWrittenValue begun value
   pub stored : (key value : List ℕ) → get group.pairs key ≡ Some value → IsWrittenValue begun value
 
 -- how many commands are in flight or ready at a slot
