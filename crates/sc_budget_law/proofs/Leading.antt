@@ -224,6 +224,7 @@ pub record Leads (begun : Requests) (frame : Frame) (first free : ℕ) (held : L
   pub begins : List (Flight Command)
   pub flights_are : place.0.leader.flights ≡ held ++ begins
   pub new : Each (IsNew free) begins
+  pub early : Each (λ (entry : ℕ × Command). entry.0 < free) place.0.ready
   pub said : Each (IsSaid begun frame first free (next place.0) (next place.0 + taken)) place.1
   pub learns : (who : ℕ) → is_member frame.core.members who ≡ true → (who ≡ frame.lead → ⊥) → learns_to frame.core.id who place.1 ≡ numbers_from first (next place.0 - first)
   pub offers : (slot who : ℕ) → free ≤ slot → slot < next place.0 + taken → Among who (frame.at slot) → (command : Command) × Among (mail_of frame.lead who (Accept frame.core.id frame.ballot slot command)) place.1
