@@ -6,4 +6,3 @@ pub mod Owed
 pub mod PlainClient
 pub mod PlainMail
 pub mod PlainNode
-pub mod Sending
