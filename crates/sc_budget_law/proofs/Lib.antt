@@ -7,3 +7,4 @@ mod Pumping
 mod Running
 pub mod BetweenLists
 pub mod BetweenMoves
+mod Asking
