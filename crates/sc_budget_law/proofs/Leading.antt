@@ -26,9 +26,8 @@ use Rattle.sc_budget_law.specs.Frames.{Frame}
 use Rattle.sc_budget_law.specs.Owed.{answer_owes, mail_owes, replica_owes}
 use Rattle.sc_budget_law.specs.PlainMail.{Requests, IsPlainCommand, IsPlainBody}
 use Rattle.sc_budget_law.specs.PlainNode.{takers, AreTaken, IsPlainFlight, IsPlainLeader, IsPlainReplica}
-use Rattle.sc_budget_law.specs.Sending.{learns_to}
 use Rattle.sc_budget_law.proofs.Counts.{one_if, one_yes, one_no, find_none, find_some, at_none, at_some, at_found}
-use Rattle.sc_budget_law.proofs.Sends.{mail_of}
+use Rattle.sc_budget_law.proofs.Sends.{learns_to, mail_of}
 
 -- ---- which slots are taken
 

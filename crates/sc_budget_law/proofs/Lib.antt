@@ -1,3 +1,7 @@
+pub mod BetweenLeads
+pub mod BetweenLists
+pub mod BetweenMoves
+pub mod QuietLeader
 mod Counts
 mod Served
 mod Entry
@@ -5,6 +9,4 @@ mod Sends
 mod Leading
 mod Pumping
 mod Running
-pub mod BetweenLists
-pub mod BetweenMoves
-pub mod QuietLeader
+mod Asking

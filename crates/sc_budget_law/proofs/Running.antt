@@ -30,12 +30,11 @@ use Rattle.sc_budget_law.specs.Frames.{Frame, IsFrame}
 use Rattle.sc_budget_law.specs.Owed.{answer_owes, mail_owes, replica_owes}
 use Rattle.sc_budget_law.specs.PlainMail.{Requests, IsPlainCommand, IsPlainCall}
 use Rattle.sc_budget_law.specs.PlainNode.{takers, AreTaken, IsPlainFlight, IsPlainLeader, IsPlainReplica, HasOffered}
-use Rattle.sc_budget_law.specs.Sending.{learns_for, learns_to}
 use Rattle.sc_budget_law.proofs.Counts.{one_if, one_yes, one_no, entries_at, out_none, out_length, out_here, out_other, out_each, out_among, at_found, at_only, at_nothing}
 use Rattle.sc_budget_law.proofs.Entry.{entered_next, entered_plain, told_after, counted_call}
 use Rattle.sc_budget_law.proofs.Leading.{in_range, range_yes, range_before, range_behind, range_less, flights_at, IsHeld, IsToldOf, IsSaid, IsNew, later_row, Leads}
 use Rattle.sc_budget_law.proofs.Pumping.{call_is, IsPumped, pumped_leads}
-use Rattle.sc_budget_law.proofs.Sends.{mail_of, owed_push, learns_push, last_among, others_each, others_kept, others_owed, learns_one, member_counts, member_or_among, numbers_push, roster_rises, among_push}
+use Rattle.sc_budget_law.proofs.Sends.{learns_for, learns_to, mail_of, owed_push, learns_push, last_among, others_each, others_kept, others_owed, learns_one, member_counts, member_or_among, numbers_push, roster_rises, among_push}
 use Rattle.sc_budget_law.proofs.Served.{IsServed, call_plain}
 
 module _ (begun : Requests) (frame : Frame) (is : IsFrame frame) (first free : ℕ) (held : List (Flight Command)) (bound : ℕ) (wanted : ℕ → ℕ → Type 0) where

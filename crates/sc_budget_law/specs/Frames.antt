@@ -33,6 +33,7 @@ pub record IsFrame (frame : Frame) : Type 0 where
   pub free : frame.core.lock ≡ Free
   pub stands : frame.core.gone ≡ None
   pub leads : is_member frame.core.members frame.lead ≡ true
+  pub own : frame.ballot.node ≡ frame.lead
   pub rosters : (slot : ℕ) → IsRoster (frame.at slot)
   pub nodes : (slot node : ℕ) → is_member (frame.at slot) node ≡ true → is_node node ≡ true
   pub later : (slot : ℕ) → frame.from + slots_ahead ≤ slot → frame.at slot ≡ frame.core.members

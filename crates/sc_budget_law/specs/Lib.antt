@@ -7,4 +7,3 @@ pub mod Owed
 pub mod PlainClient
 pub mod PlainMail
 pub mod PlainNode
-pub mod Sending
