@@ -1,4 +1,3 @@
-pub mod BetweenLeads
 pub mod BetweenLists
 pub mod BetweenMoves
 pub mod QuietLeader
