@@ -14,7 +14,7 @@ use Rattle.sc_paxos_words.specs.Votes.{kept_voters}
 use Rattle.sc_paxos_words.proofs.ListLemmas.{Each-among, find_found}
 use Rattle.sc_node_table.specs.Replica.{ReplicaState, next}
 use Rattle.sc_node_table.specs.Slots.{slots_ahead}
-use Rattle.sc_budget_law.specs.BetweenJournal.{voters_of}
+use Rattle.sc_budget_law.specs.BetweenJournal.{voters_in}
 use Rattle.sc_budget_law.specs.Frames.{Frame, IsFrame}
 use Rattle.sc_budget_law.specs.PlainMail.{Requests}
 use Rattle.sc_budget_law.specs.PlainNode.{takers, IsPlainFlight, IsLeading}
@@ -37,7 +37,7 @@ all_voted (x ∷ members) voters f =
     omega (arith, c, one, more)
 
 module _ (begun : Requests) (frame : Frame) (is : IsFrame frame) (r : ReplicaState) (d : IsLeading begun frame r)
-    (votes : (slot : ℕ) (voters : List ℕ) → voters_of r slot ≡ Some voters → (node : ℕ) → is_member (frame.at slot) node ≡ true → is_member voters node ≡ true) where
+    (votes : (slot : ℕ) (voters : List ℕ) → voters_in r.leader.flights slot ≡ Some voters → (node : ℕ) → is_member (frame.at slot) node ≡ true → is_member voters node ≡ true) where
   -- so nothing is in flight at the next slot, and no slot is taken
   none_taken : 0 < d.taken → ⊥
   none_taken some =
@@ -49,7 +49,7 @@ module _ (begun : Requests) (frame : Frame) (is : IsFrame frame) (r : ReplicaSta
       let plain = Each-among (IsPlainFlight begun frame) r.leader.flights found.0 d.leader.flights among.0 in
       let at : found.0.slot ≡ next r = eqb-true found.0.slot (next r) among.1 in
       let voters = kept_voters found.0.voters in
-      let kept : voters_of r (next r) ≡ Some voters = ap (λ (o : Option (Flight Command)). option_map (λ (flight : Flight Command). kept_voters flight.voters) o) found.1 in
+      let kept : voters_in r.leader.flights (next r) ≡ Some voters = ap (λ (o : Option (Flight Command)). option_map (λ (flight : Flight Command). kept_voters flight.voters) o) found.1 in
       let members = frame.at (next r) in
       let all = all_voted members voters (λ node a. votes (next r) voters kept node (member_or_among node members a)) in
       let least = (is.rosters (next r)).some in
