@@ -8,3 +8,4 @@ mod Running
 pub mod BetweenLists
 pub mod BetweenMoves
 mod Asking
+mod Flights
