@@ -16,6 +16,9 @@ one_yes b e = ap one_if e
 pub one_no : (b : Bool) → b ≡ false → one_if b ≡ 0
 one_no b e = ap one_if e
 
+pub one_if_most : (b : Bool) → one_if b ≤ 1
+one_if_most b = cond_both b 1 0 (λ n. n ≤ 1) (λ _. omega arith) (λ _. omega arith)
+
 pub count-cons : {X : Type 0} (p : X → Bool) (x : X) (xs : List X) → count_by p (x ∷ xs) ≡ one_if (p x) + count_by p xs
 count-cons p x xs = sum_by-cons (λ y. cond (p y) 1 0) x xs
 

@@ -9,3 +9,4 @@ pub mod BetweenLists
 pub mod BetweenMoves
 mod Asking
 mod Flights
+mod Voting
