@@ -1,7 +1,7 @@
 -- How many values stand at a slot, when one is taken out or put in.
 use Rattle.std.proofs.Common.{◌≡◌, ℕ, ◌+◌, ◌<◌, ◌≤◌, eqb, ltb, Bool, true, false, cond, List, [], ◌∷◌, ◌++◌, length, count_by, Option, Some, None, ◌⊎◌, inl, inr, refl, sym, ◌∙◌, ap, subst, arith}
 use Rattle.std.specs.Prelude.{find, is_some}
-use Rattle.std.proofs.lemmas.Bool.{cond_both, cases_Bool, eqb-true, eq-eqb, ne_eqb, both_ways, cases_lt}
+use Rattle.std.proofs.lemmas.Bool.{cond_both, cases_Bool, eqb-true, eq-eqb, ne_eqb, both_ways, cases_lt, cond-true, cond-false}
 use Rattle.std.proofs.lemmas.List.Sums.{sum_by-cons, sum_by_push}
 use Rattle.sc_base.specs.Among.{Among, Each}
 use Rattle.sc_node_table.specs.Slots.{at_slot, with_slot}
@@ -15,6 +15,9 @@ one_yes b e = ap one_if e
 
 pub one_no : (b : Bool) → b ≡ false → one_if b ≡ 0
 one_no b e = ap one_if e
+
+pub one_if_most : (b : Bool) → one_if b ≤ 1
+one_if_most b = cond_both b 1 0 (λ n. n ≤ 1) (λ _. omega arith) (λ _. omega arith)
 
 pub count-cons : {X : Type 0} (p : X → Bool) (x : X) (xs : List X) → count_by p (x ∷ xs) ≡ one_if (p x) + count_by p xs
 count-cons p x xs = sum_by-cons (λ y. cond (p y) 1 0) x xs
@@ -184,3 +187,10 @@ module _ {V : Type 0} (slot : ℕ) (v : V) where
   pub with_it : (es : List (ℕ × V)) → Among (slot, v) (with_slot es slot v)
   with_it [] = inl refl
   with_it (x ∷ es) = with_by (Among (slot, v)) x es (λ t. inl refl) (inl refl) (inr (with_it es))
+
+  pub with_at : (es : List (ℕ × V)) → at_slot (with_slot es slot v) slot ≡ Some v
+  with_at [] = cond-true (eqb slot slot) (Some v) None (eq-eqb slot slot refl)
+  with_at (x ∷ es) =
+      let first : (l : List (ℕ × V)) → at_slot ((slot, v) ∷ l) slot ≡ Some v = λ l. cond-true (eqb slot slot) (Some v) (at_slot l slot) (eq-eqb slot slot refl) in
+      cond_both (eqb x.0 slot) ((slot, v) ∷ es) (cond (ltb slot x.0) ((slot, v) ∷ x ∷ es) (x ∷ with_slot es slot v)) (λ l. at_slot l slot ≡ Some v) (λ t. first es)
+      (λ f. cond_both (ltb slot x.0) ((slot, v) ∷ x ∷ es) (x ∷ with_slot es slot v) (λ l. at_slot l slot ≡ Some v) (λ _. first (x ∷ es)) (λ _. cond-false (eqb x.0 slot) (Some x.1) (at_slot (with_slot es slot v) slot) f ∙ with_at es))

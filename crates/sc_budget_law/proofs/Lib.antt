@@ -11,3 +11,5 @@ mod Leading
 mod Pumping
 mod Running
 mod Asking
+mod Flights
+mod Voting

@@ -156,7 +156,7 @@ module _ (begun : Requests) (frame : Frame) (is : IsFrame frame) (first free : â
       open_ = l.open_;
       calls = calls_plain.1;
       flights = Each-push (IsPlainFlight begun frame) r.leader.flights (record { slot = slot; value = Call client seq op; voters = None }) l.flights
-          (record { is_call = calls_plain.0; voters_are = no_votes (frame.at slot); undecided = none_decided (frame.at slot) });
+          (record { is_call = calls_plain.0; voters_are = omega arith; undecided = none_decided (frame.at slot) });
       ready = l.ready;
       slots = record { most = omega (arith, room); once = taken_once };
     })

@@ -328,7 +328,7 @@ module _ (begun : Requests) (frame : Frame) (is : IsFrame frame) (first free : �
       (and_from r.running (has_room r) k.leader.running (lt-ltb (next r) (last_slot + length r.sets) (omega (arith, reached, room, sets))))
 
   -- the command that is ready takes its slot
-  some_taken : (taken : ℕ) (r : ReplicaState) (mails : List Mail) (command : Command) → at_slot r.ready (next r) ≡ Some command → L taken (r, mails) → (less : ℕ) × (taken ≡ less + 1)
+  pub some_taken : (taken : ℕ) (r : ReplicaState) (mails : List Mail) (command : Command) → at_slot r.ready (next r) ≡ Some command → L taken (r, mails) → (less : ℕ) × (taken ≡ less + 1)
   some_taken taken r mails command e k =
       let some = (at_found r.ready (next r) command e).0 in
       let once = k.leader.slots.once (next r) in

@@ -37,7 +37,7 @@ pub record AreTaken (r : ReplicaState) (taken : ℕ) : Type 0 where
 -- a call is in flight, and those that voted for it are members of its slot, each once, and no majority of them
 pub record IsPlainFlight (begun : Requests) (frame : Frame) (flight : Flight Command) : Type 0 where
   pub is_call : IsPlainCommand begun frame flight.value
-  pub voters_are : votes_of (frame.at flight.slot) (kept_voters flight.voters) ≡ length (kept_voters flight.voters)
+  pub voters_are : length (kept_voters flight.voters) ≤ votes_of (frame.at flight.slot) (kept_voters flight.voters)
   pub undecided : is_majority (frame.at flight.slot) (kept_voters flight.voters) ≡ false
 
 -- the one that leads may offer anything at the slots from the next one on; so many slots are taken
