@@ -48,7 +48,7 @@ use Rattle.sc_budget_law.proofs.Asking.{begins}
 use Rattle.sc_budget_law.proofs.Counts.{found_one, one_if, one_if_most, one_yes, one_no, entries_at, with_length, with_count, with_each, with_among, with_it, with_at, out_length, out_here, out_other, out_each, out_among, at_none}
 use Rattle.sc_budget_law.proofs.Entry.{entered_next, entered_plain, learnt_call}
 use Rattle.sc_budget_law.proofs.Flights.{others_out, voted_length, voted_count, voted_each, voted_value, voted_others, voted_here, only_flight, no_flight_at, HasVoted, vote_kept, numbered_get, numbered_past}
-use Rattle.sc_budget_law.proofs.Leading.{in_range, range_yes, range_before, range_behind, flights_at, IsHeld, Leads}
+use Rattle.sc_budget_law.proofs.Leading.{in_range, range_yes, range_before, range_behind, early_taken, flights_at, IsHeld, Leads}
 use Rattle.sc_budget_law.proofs.Pumping.{call_is}
 use Rattle.sc_budget_law.proofs.Running.{IsRun, executed_run, some_taken}
 use Rattle.sc_budget_law.proofs.Sends.{mail_of}
@@ -253,6 +253,7 @@ module _ (begun : Requests) (frame : Frame) (is : IsFrame frame) (taken : ℕ) (
         begins = [];
         flights_are = sym (append-nil fs);
         new = tt;
+        early = early_taken (changed fs es) taken (record { most = l.slots.most; once = λ s. same s ∙ l.slots.once s });
         said = tt;
         learns = λ who m ne. ap (numbers_from (next r)) none;
         offers = λ slot who least high a. absurd (omega (arith, least, high));
