@@ -1,6 +1,7 @@
 pub mod BetweenLeads
 pub mod BetweenLists
 pub mod BetweenMoves
+pub mod BetweenReplicas
 pub mod BetweenViews
 pub mod QuietLeader
 mod Counts
