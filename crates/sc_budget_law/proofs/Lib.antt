@@ -10,3 +10,4 @@ pub mod BetweenMoves
 mod Asking
 mod Flights
 mod Voting
+mod Replicas
