@@ -14,3 +14,4 @@ mod Running
 mod Asking
 mod Flights
 mod Voting
+mod Replicas

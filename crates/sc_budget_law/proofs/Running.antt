@@ -10,6 +10,7 @@ use Rattle.sc_base.specs.declared.names.Draw.{Draw}
 use Rattle.sc_base.specs.declared.ops.Op.{Op}
 use Rattle.sc_cmd.specs.declared.commands.Command.{Command}
 use Rattle.sc_cmd.specs.declared.commands.Command.TheVariants.{Call}
+use Rattle.sc_cmd.specs.declared.cores.Base.{Base}
 use Rattle.sc_cmd.specs.declared.cores.Core.{Core}
 use Rattle.sc_mail.specs.declared.bodies.AnswerBody.{AnswerBody}
 use Rattle.sc_mail.specs.declared.bodies.Mail.{Mail}
@@ -20,6 +21,7 @@ use Rattle.sc_paxos_words.specs.declared.flights.Flight.{Flight}
 use Rattle.sc_paxos_words.specs.Leaders.{without_flight}
 use Rattle.sc_paxos_words.proofs.ListLemmas.{Each-among, Each-push, Each-weaker}
 use Rattle.sc_machine_table.specs.Machine.{applied}
+use Rattle.sc_node_table.specs.Births.{next_child, ready_children, executed_children}
 use Rattle.sc_node_table.specs.Execute.{entered, executed_one, has_room, next_ready, executed_ready, all_ready, executed}
 use Rattle.sc_node_table.specs.Mails.{answer_to, sent_others}
 use Rattle.sc_node_table.specs.Pump.{pumped}
@@ -362,6 +364,40 @@ module _ (begun : Requests) (frame : Frame) (is : IsFrame frame) (first free : �
       record { taken = taken; leads = k; none = omega (arith, few, short) }
   all_done room (x ∷ es) taken (r, mails) short end k = done_by room es taken r mails (omega (arith, short)) end k (next_ready r) (ready_is taken r mails room k) (λ t p s n l. all_done room es t p s n l)
 
+
+  -- ---- no call makes a child
+
+  -- nothing that is ready makes one
+  no_children : free ≤ last_slot → (es : List (ℕ × Command)) (taken : ℕ) (place : Place) (made : List Base) → next place.0 + taken ≡ free → L taken place → ready_children es place made ≡ made
+  unfolding ready_children
+  no_children room [] taken place made end k = refl
+  no_children room (x ∷ es) taken (r, mails) made end k = child_by_ready es taken r mails made end k (next_ready r) (ready_is taken r mails room k) (λ t p m n l. no_children room es t p m n l)
+    where
+      child_by_ready : (es : List (ℕ × Command)) (taken : ℕ) (r : ReplicaState) (mails : List Mail) (made : List Base) → next r + taken ≡ free → L taken (r, mails) → (o : Option Command) → o ≡ at_slot r.ready (next r)
+          → ((t : ℕ) (p : Place) (m : List Base) → next p.0 + t ≡ free → L t p → ready_children es p m ≡ m)
+          → ◌≡◌ {A = List Base} (elim o [ None ↦ made | Some command ↦ ready_children es (executed_one true command (r, mails)) (next_child command r made) ]) made
+      child_by_ready es taken r mails made end k None e more = refl
+      child_by_ready es taken r mails made end k (Some command) e more =
+          let found = at_found r.ready (next r) command (sym e) in
+          let plain = Each-among (λ (entry : ℕ × Command). IsPlainCommand begun frame entry.1) r.ready (next r, command) k.leader.ready found.1 in
+          let c = call_is begun frame is first free held bound wanted command plain in
+          let less = some_taken taken r mails command (sym e) k in
+          let ready : at_slot r.ready (next r) ≡ Some (Call c.0 c.1 c.2) = sym e ∙ ap Some c.3 in
+          let now : L (less.0 + 1) (r, mails) = subst (λ t. L t (r, mails)) less.1 k in
+          let up : next r + (less.0 + 1) ≡ free = ap (λ t. next r + t) (sym less.1) ∙ end in
+          let place : Place = executed_one true (Call c.0 c.1 c.2) (r, mails) in
+          let step = one_next less.0 r mails c.0 c.1 c.2 up ready now in
+          subst (λ (y : Command). ready_children es (executed_one true y (r, mails)) (next_child y r made) ≡ made) (sym c.3)
+          (more less.0 place made (omega (arith, step, up)) (one_leads less.0 r mails c.0 c.1 c.2 up ready now))
+
+  -- nor an execution
+  pub executed_none : free ≤ last_slot → (taken : ℕ) (r : ReplicaState) (mails : List Mail) (client seq : ℕ) (op : Op) (made : List Base) → next r + (taken + 1) ≡ free → at_slot r.ready (next r) ≡ Some (Call client seq op) → L (taken + 1) (r, mails)
+      → executed_children true (Call client seq op) (r, mails) made ≡ made
+  unfolding executed_children
+  executed_none room taken r mails client seq op made end ready k =
+      let place : Place = executed_one true (Call client seq op) (r, mails) in
+      let step = one_next taken r mails client seq op end ready k in
+      no_children room place.0.ready taken place made (omega (arith, step, end)) (one_leads taken r mails client seq op end ready k)
 
   -- ---- the whole of an execution
 

@@ -11,6 +11,7 @@ use Rattle.sc_base.specs.declared.ops.Op.{Op}
 use Rattle.sc_base.proofs.NameLemmas.{ballot_itself}
 use Rattle.sc_cmd.specs.declared.commands.Command.{Command}
 use Rattle.sc_cmd.specs.declared.commands.Command.TheVariants.{Call}
+use Rattle.sc_cmd.specs.declared.cores.Base.{Base}
 use Rattle.sc_cmd.specs.declared.cores.Core.{Core}
 use Rattle.sc_mail.specs.declared.bodies.Mail.{Mail}
 use Rattle.sc_mail.specs.declared.bodies.MailBody.TheVariants.{Accepted}
@@ -30,6 +31,7 @@ use Rattle.sc_paxos_words.specs.Votes.{kept_voters, voters_after, with_voters, t
 use Rattle.sc_paxos_words.proofs.BallotLemmas.{at_least_itself}
 use Rattle.sc_paxos_words.proofs.ListLemmas.{find_found, Each-among}
 use Rattle.sc_machine_table.specs.Machine.{applied}
+use Rattle.sc_node_table.specs.Births.{ready_children, executed_children, learnt_children, readied_children, tallied_children, voted_children, accepted_children}
 use Rattle.sc_node_table.specs.Election.{stopped, saw}
 use Rattle.sc_node_table.specs.Execute.{entered, is_among, executed_one, has_room, executed_ready, all_ready, executed}
 use Rattle.sc_node_table.specs.Install.{install_to}
@@ -50,7 +52,7 @@ use Rattle.sc_budget_law.proofs.Entry.{entered_next, entered_plain, learnt_call}
 use Rattle.sc_budget_law.proofs.Flights.{others_out, voted_length, voted_count, voted_each, voted_value, voted_others, voted_here, only_flight, no_flight_at, HasVoted, vote_kept, numbered_get, numbered_past}
 use Rattle.sc_budget_law.proofs.Leading.{in_range, range_yes, range_before, range_behind, early_taken, flights_at, IsHeld, Leads}
 use Rattle.sc_budget_law.proofs.Pumping.{call_is}
-use Rattle.sc_budget_law.proofs.Running.{IsRun, executed_run, some_taken}
+use Rattle.sc_budget_law.proofs.Running.{IsRun, executed_none, executed_run, some_taken}
 use Rattle.sc_budget_law.proofs.Sends.{mail_of}
 use Rattle.sc_budget_law.proofs.Served.{IsServed, call_plain}
 
@@ -189,6 +191,15 @@ module _ (begun : Requests) (frame : Frame) (is : IsFrame frame) (me : ℕ) (r :
         ∙ ap (λ (q : Place). pumped (all_ready q)) one_is
         ∙ rest_is
 
+    -- it makes no child
+    pub learnt_none : (slot : ℕ) (made : List Base) → slot ≡ next r → learnt_children slot (Call client seq op) (r, []) made ≡ made
+    unfolding learnt_children executed_children ready_children
+    learnt_none slot made e =
+        cond-false (nat_lt last_slot slot) made _ (le-ltb last_slot slot (omega (arith, e, room)))
+        ∙ cond-true (eqb slot (next r)) (executed_children false (Call client seq op) (r, []) made) made (eq-eqb slot (next r) e)
+        ∙ ap (λ (q : Place). ready_children q.0.ready q made) one_is
+        ∙ ap (λ (es : List (ℕ × Command)). ready_children es (learnt_state, []) made) ready_none
+
     pub learnt_plain : IsPlainReplica begun frame me learnt_state
     unfolding learnt_state entered forgotten
     learnt_plain = (let q = entered_plain begun frame is me (Call client seq op) r serves.group p in record {
@@ -224,7 +235,7 @@ module _ (begun : Requests) (frame : Frame) (is : IsFrame frame) (taken : ℕ) (
   abbrev pub Keeps : ℕ → ℕ → Type 0
   Keeps c n = IsHeld r c n
 
-  -- what the row leaves
+  -- what the row leaves, which makes no child
   pub record IsCounted (from slot : ℕ) (place : Place) : Type 0 where
     pub held : List (Flight Command)
     pub votes : IsVoted from slot r.leader.flights held
@@ -446,6 +457,32 @@ module _ (begun : Requests) (frame : Frame) (is : IsFrame frame) (taken : ℕ) (
           let no_ = one_no (eqb slot (next r)) (ne_eqb slot (next r) past) in
           decided_by (after, []) (record { taken = taken; leads = ready_leads; done = record { executed = omega (arith, was, more, no_); offered = d.offered } })))
 
+      -- .. and makes no child
+      chosen_none : (made : List Base) → readied_children slot flight.value (changed fs r.ready, []) made ≡ made
+      unfolding readied_children es
+      chosen_none made =
+          let after : ReplicaState = changed fs es in
+          cond_both (eqb slot (next r) && has_room after) (executed_children true flight.value (after, []) made) made (λ (l_ : List Base). l_ ≡ made)
+          (λ t. (
+          let here = eqb-true slot (next r) (and_parts (eqb slot (next r)) (has_room after) t).0 in
+          let c = call_is begun frame is (next r) (next r + taken) fs (replica_owes r) Keeps flight.value flies.is_call in
+          let ready : at_slot es (next r) ≡ Some flight.value = ap (at_slot es) (sym here) ∙ with_at slot flight.value r.ready in
+          let less = some_taken begun frame is (next r) (next r + taken) fs (replica_owes r) Keeps taken after [] flight.value ready ready_leads in
+          let now = subst (λ t_. Leads begun frame (next r) (next r + taken) fs (replica_owes r) Keeps t_ (after, [])) less.1 ready_leads in
+          let up : next r + (less.0 + 1) ≡ next r + taken = ap (λ t_. next r + t_) (sym less.1) in
+          subst (λ (x : Command). executed_children true x (after, []) made ≡ made) (sym c.3)
+          (executed_none begun frame is (next r) (next r + taken) fs (replica_owes r) Keeps room less.0 after [] c.0 c.1 c.2 made up (ready ∙ ap Some c.3) now)))
+          (λ n. refl)
+
+    vote_none : (o : Option (Flight Command)) (made : List Base) → flight_at slot r.leader.flights ≡ o → tallied_children slot (vote_at from slot (frame.at slot) o r.leader) (r, []) made ≡ made
+    unfolding fs
+    vote_none None made e = refl
+    vote_none (Some flight) made e =
+        let set : List ℕ = frame.at slot in
+        let v : Option (List ℕ) = voters_after set from flight.voters in
+        cond_both (is_majority set (kept_voters v)) (Chosen flight.value, without_flight_at slot r.leader) (NotYet (length (kept_voters v)), record r.leader { flights = with_voters slot v r.leader.flights })
+        (λ (x : Counted Command × LeaderState Command). tallied_children slot x (r, []) made ≡ made) (λ t. chosen_none flight e made) (λ f. refl)
+
     vote_run : (o : Option (Flight Command)) → flight_at slot r.leader.flights ≡ o → R (vote_tallied slot (vote_at from slot (frame.at slot) o r.leader) (r, []))
     unfolding voters fs
     vote_run None e = same_counted from slot (λ f k. (let no_ : None ≡ Some f = sym e ∙ k in cc))
@@ -480,6 +517,24 @@ module _ (begun : Requests) (frame : Frame) (is : IsFrame frame) (taken : ℕ) (
         (subst (λ (x : Counted Command × LeaderState Command). R (vote_tallied slot x (r, [])))
           (sym (cond-true (same_ballot frame.ballot r.leader.ballot) (vote_at from slot (frame.at slot) (flight_at slot r.leader.flights) r.leader) (NotYet 0, r.leader) ballots))
           (vote_run (flight_at slot r.leader.flights) refl))
+
+    none_out : (made : List Base) → (slot < next r) ⊎ (next r + slots_ahead ≤ slot) → voted_children from frame.ballot slot (set_at slot r) (r, []) made ≡ made
+    none_out made out = ap (λ (o : Option (List ℕ)). voted_children from frame.ballot slot o (r, []) made) (voted_closed out)
+
+    none_in : (made : List Base) → next r ≤ slot → slot < next r + slots_ahead → voted_children from frame.ballot slot (set_at slot r) (r, []) made ≡ made
+    none_in made low high =
+        ap (λ (o : Option (List ℕ)). voted_children from frame.ballot slot o (r, []) made) (voted_open low high)
+        ∙ ap (λ (x : Counted Command × LeaderState Command). tallied_children slot x (r, []) made) (cond-true (same_ballot frame.ballot r.leader.ballot) (vote_at from slot (frame.at slot) (flight_at slot r.leader.flights) r.leader) (NotYet 0, r.leader) ballots)
+        ∙ vote_none (flight_at slot r.leader.flights) made refl
+
+    pub accepted_none : (made : List Base) → accepted_children from frame.ballot slot (r, []) made ≡ made
+    unfolding accepted_children
+    accepted_none made =
+        cond-true (leads frame.ballot r) (voted_children from frame.ballot slot (set_at slot r) (r, []) made) made (and_from r.running (same_ballot frame.ballot r.leader.ballot) l.running ballots)
+        ∙ elim (cases_lt slot (next r)) [
+          | inl low ↦ none_out made (inl low)
+          | inr on ↦ elim (cases_lt slot (next r + slots_ahead)) [ inl high ↦ none_in made on high | inr past ↦ none_out made (inr past) ]
+        ]
 
     pub accepted_counted : R (accepted_row from frame.ballot slot (r, []))
     unfolding accepted_row
