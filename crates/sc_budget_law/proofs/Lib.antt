@@ -1,3 +1,4 @@
+pub mod BetweenBegun
 pub mod BetweenLeads
 pub mod BetweenLists
 pub mod BetweenMoves
