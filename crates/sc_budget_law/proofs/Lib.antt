@@ -11,3 +11,4 @@ mod Asking
 mod Flights
 mod Voting
 mod Replicas
+mod ReplicaRows
