@@ -12,3 +12,4 @@ mod Flights
 mod Voting
 mod Replicas
 mod ReplicaRows
+mod NodeRows

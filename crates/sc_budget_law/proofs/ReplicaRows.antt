@@ -204,7 +204,7 @@ module _ (begun : Requests) (frame : Frame) (is : IsFrame frame) where
     following me ne (inl k) = absurd (ne k.0)
     following me ne (inr k) = k.1
 
-    pub replica_row : (me : ℕ) (body : MailBody) → IsPlainReplica begun frame me r → IsSettled begun frame me r → IsPlainBody begun frame from me body → IsDue r body → ((client : ℕ) → me ≡ client_actor client → ⊥) → Row me r from body
+    pub replica_row : (me : ℕ) (body : MailBody) → IsPlainReplica begun frame me r → IsSettled begun frame me r → IsPlainBody begun frame from me body → IsDue r body → ((client seq : ℕ) (op : Op) → begun client seq op → me ≡ client_actor client → ⊥) → Row me r from body
     replica_row me (Request group client seq op) p k b due not_client =
         let e = b.1.to_is in
         subst (λ m. Row m r from (Request group client seq op)) (sym e) (request_leading group client seq op (subst (λ m. IsPlainReplica begun frame m r) e p) (leading me e k) b.1.is_begun)
@@ -217,7 +217,7 @@ module _ (begun : Requests) (frame : Frame) (is : IsFrame frame) where
         let c = call_is begun frame is 0 0 [] 0 (λ x y. ⊥) command b.1.is_call in
         let plain : IsPlainCall begun frame c.0 c.1 c.2 = subst (IsPlainCommand begun frame) c.3 b.1.is_call in
         subst (λ (x : Command). Row me r from (Learn group slot x)) (sym c.3) (learn_follower me group slot c.0 c.1 c.2 p (following me b.1.other k) b.1.other plain due)
-    replica_row me (Answer group seq answer) p k b due not_client = absurd (not_client b.1.client b.1.to_is)
+    replica_row me (Answer group seq answer) p k b due not_client = absurd (not_client b.1.client seq b.1.op b.1.is_begun b.1.to_is)
     replica_row me (Prepare group ballot from_slot) p k b due not_client = absurd b
     replica_row me (Promise group ballot reports) p k b due not_client = absurd b
     replica_row me (Nack group promised) p k b due not_client = absurd b
