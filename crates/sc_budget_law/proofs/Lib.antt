@@ -16,3 +16,5 @@ mod Asking
 mod Flights
 mod Voting
 mod Replicas
+mod ReplicaRows
+mod NodeRows
