@@ -1,3 +1,4 @@
+pub mod BetweenDoes
 pub mod BetweenBegun
 pub mod BetweenLeads
 pub mod BetweenLists
