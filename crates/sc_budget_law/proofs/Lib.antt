@@ -4,6 +4,7 @@ pub mod BetweenLeads
 pub mod BetweenLists
 pub mod BetweenMoves
 pub mod BetweenReplicas
+pub mod BetweenStage
 pub mod BetweenViews
 pub mod QuietLeader
 mod Counts
