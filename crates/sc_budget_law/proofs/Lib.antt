@@ -1,5 +1,6 @@
 pub mod BetweenDoes
 pub mod BetweenBegun
+pub mod BetweenGroups
 pub mod BetweenLeads
 pub mod BetweenLists
 pub mod BetweenMoves
