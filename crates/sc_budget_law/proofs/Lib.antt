@@ -13,3 +13,5 @@ mod Voting
 mod Replicas
 mod ReplicaRows
 mod NodeRows
+mod Knowing
+mod Clients
