@@ -28,7 +28,7 @@ use Rattle.sc_budget_law.specs.Frames.{Frame, IsFrame}
 use Rattle.sc_budget_law.specs.Owed.{mail_owes, replica_owes}
 use Rattle.sc_budget_law.specs.PlainMail.{Requests, IsPlainCommand, IsPlainCall}
 use Rattle.sc_budget_law.specs.PlainNode.{IsPlainLeader, IsPlainReplica, HasOffered}
-use Rattle.sc_budget_law.proofs.Leading.{IsHeld, IsToldOf, Leads}
+use Rattle.sc_budget_law.proofs.Leading.{early_taken, IsHeld, IsToldOf, Leads}
 use Rattle.sc_budget_law.proofs.Running.{IsRun, pumped_run}
 use Rattle.sc_budget_law.proofs.Sends.{mail_of, learns_to, among_push, last_among}
 
@@ -118,6 +118,7 @@ module _ (begun : Requests) (frame : Frame) (is : IsFrame frame) (taken : ℕ) (
         begins = [];
         flights_are = sym (append-nil r.leader.flights);
         new = tt;
+        early = early_taken r taken l.slots;
         said = tt;
         learns = λ who m ne. ap (numbers_from (next r)) none;
         offers = λ slot who least high a. absurd (omega (arith, least, high));
@@ -165,6 +166,7 @@ module _ (begun : Requests) (frame : Frame) (is : IsFrame frame) (taken : ℕ) (
           begins = [];
           flights_are = sym (append-nil r.leader.flights);
           new = tt;
+          early = early_taken (record r { calls = calls }) taken (record { most = l.slots.most; once = l.slots.once });
           said = tt;
           learns = λ who m ne. ap (numbers_from (next r)) none;
           offers = λ slot who least high a. absurd (omega (arith, least, high));

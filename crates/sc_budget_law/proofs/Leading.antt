@@ -26,7 +26,7 @@ use Rattle.sc_budget_law.specs.Frames.{Frame}
 use Rattle.sc_budget_law.specs.Owed.{answer_owes, mail_owes, replica_owes}
 use Rattle.sc_budget_law.specs.PlainMail.{Requests, IsPlainCommand, IsPlainBody}
 use Rattle.sc_budget_law.specs.PlainNode.{takers, AreTaken, IsPlainFlight, IsPlainLeader, IsPlainReplica}
-use Rattle.sc_budget_law.proofs.Counts.{one_if, one_yes, one_no, find_none, find_some, at_none, at_some, at_found}
+use Rattle.sc_budget_law.proofs.Counts.{one_if, one_yes, one_no, count-cons, find_none, find_some, at_none, at_some, at_found}
 use Rattle.sc_budget_law.proofs.Sends.{learns_to, mail_of}
 
 -- ---- which slots are taken
@@ -132,6 +132,28 @@ takes_not r slot none =
     let entry = at_none r.ready slot (omega (arith, none)) in
     ap (λ (o : Option (Flight Command)). is_some (either (option_map (λ (flight : Flight Command). flight.value) o) (at_slot r.ready slot))) flight ∙ ap is_some entry
 
+-- what is ready is at a slot that is taken
+pub early_taken : (r : ReplicaState) (taken : ℕ) → AreTaken r taken → Each (λ (entry : ℕ × Command). entry.0 < next r + taken) r.ready
+early_taken r taken a = all r.ready (λ entry among. (let some = entry_counts r.ready entry among in low entry.0 (omega (arith, some))))
+  where
+    entry_counts : (es : List (ℕ × Command)) (entry : ℕ × Command) → Among entry es → 1 ≤ count_by (λ (e : ℕ × Command). eqb e.0 entry.0) es
+    entry_counts [] entry m = absurd m
+    entry_counts (e ∷ es) entry (inl same) =
+        (let c = count-cons (λ (x : ℕ × Command). eqb x.0 entry.0) e es in
+          let one = one_yes (eqb e.0 entry.0) (eq-eqb e.0 entry.0 (ap (λ (x : ℕ × Command). x.0) same)) in
+          omega (arith, c, one))
+    entry_counts (e ∷ es) entry (inr m) = (let c = count-cons (λ (x : ℕ × Command). eqb x.0 entry.0) e es in let more = entry_counts es entry m in omega (arith, c, more))
+
+    all : (es : List (ℕ × Command)) → ((entry : ℕ × Command) → Among entry es → entry.0 < next r + taken) → Each (λ (entry : ℕ × Command). entry.0 < next r + taken) es
+    all [] f = tt
+    all (e ∷ es) f = (f e (inl refl), all es (λ entry m. f entry (inr m)))
+
+    low : (slot : ℕ) → 1 ≤ takers r slot → slot < next r + taken
+    low slot some = elim (cases_lt slot (next r + taken)) [
+      | inl under ↦ under
+      | inr over ↦ (let once = a.once slot in let none = one_no (in_range (next r) taken slot) (range_behind (next r) taken slot over) in absurd (omega (arith, once, none, some)))
+    ]
+
 -- ---- what is under way is no act
 
 abbrev NoAct : Command → Type 0
@@ -223,6 +245,7 @@ pub record Leads (begun : Requests) (frame : Frame) (first free : ℕ) (held : L
   pub begins : List (Flight Command)
   pub flights_are : place.0.leader.flights ≡ held ++ begins
   pub new : Each (IsNew free) begins
+  pub early : Each (λ (entry : ℕ × Command). entry.0 < free) place.0.ready
   pub said : Each (IsSaid begun frame first free (next place.0) (next place.0 + taken)) place.1
   pub learns : (who : ℕ) → is_member frame.core.members who ≡ true → (who ≡ frame.lead → ⊥) → learns_to frame.core.id who place.1 ≡ numbers_from first (next place.0 - first)
   pub offers : (slot who : ℕ) → free ≤ slot → slot < next place.0 + taken → Among who (frame.at slot) → (command : Command) × Among (mail_of frame.lead who (Accept frame.core.id frame.ballot slot command)) place.1

@@ -1,3 +1,12 @@
+pub mod BetweenDoes
+pub mod BetweenBegun
+pub mod BetweenLeads
+pub mod BetweenLists
+pub mod BetweenMoves
+pub mod BetweenReplicas
+pub mod BetweenStage
+pub mod BetweenViews
+pub mod QuietLeader
 mod Counts
 mod Served
 mod Entry
@@ -5,8 +14,6 @@ mod Sends
 mod Leading
 mod Pumping
 mod Running
-pub mod BetweenLists
-pub mod BetweenMoves
 mod Asking
 mod Flights
 mod Voting

@@ -240,6 +240,7 @@ module _ (begun : Requests) (frame : Frame) (is : IsFrame frame) (first free : �
           begins = k.begins ++ (record { slot = slot; value = Call client seq op; voters = None }) ∷ [];
           flights_are = ap (λ l. l ++ (record { slot = slot; value = Call client seq op; voters = None }) ∷ []) k.flights_are ∙ append_assoc held k.begins ((record { slot = slot; value = Call client seq op; voters = None }) ∷ []);
           new = Each-push (IsNew free) k.begins (record { slot = slot; value = Call client seq op; voters = None }) k.new (record { late = omega (arith, more, at); unvoted = refl });
+          early = k.early;
           said = offered_said;
           learns = λ who m ne. all_learns r.me (Accept (name_of r) r.leader.ballot slot (Call client seq op)) frame.core.id who (frame.at slot) mails refl ∙ k.learns who m ne;
           offers = offered_offers;

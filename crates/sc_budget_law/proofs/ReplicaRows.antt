@@ -26,13 +26,13 @@ use Rattle.sc_node_table.specs.Slots.{slots_ahead}
 use Rattle.sc_budget_law.specs.Frames.{Frame, IsFrame}
 use Rattle.sc_budget_law.specs.Owed.{body_owes, mail_owes, replica_owes}
 use Rattle.sc_budget_law.specs.PlainMail.{Requests, IsPlainCall, IsPlainCommand, IsPlainBody, IsPlainRequest, IsPlainAccept, IsPlainLearn}
-use Rattle.sc_budget_law.specs.PlainNode.{IsPlainLeader, IsPlainFollower, IsPlainReplica, HasOffered, IsLeading, IsSettled}
+use Rattle.sc_budget_law.specs.PlainNode.{AreTaken, IsPlainLeader, IsPlainFollower, IsPlainReplica, HasOffered, IsLeading, IsSettled}
 use Rattle.sc_budget_law.proofs.Asking.{request_refused, request_run}
 use Rattle.sc_budget_law.proofs.Leading.{IsHeld, IsToldOf, IsSaid}
 use Rattle.sc_budget_law.proofs.Pumping.{call_is}
 use Rattle.sc_budget_law.proofs.Running.{IsRun}
 use Rattle.sc_budget_law.proofs.Sends.{mail_of}
-use Rattle.sc_budget_law.proofs.Voting.{accepted_state, accept_is, accepted_plain, accepted_owes, accepted_next, accepted_flights, accepted_held, accepted_follower, accepted_leader, accepted_done, learnt_state, learn_is, learnt_none, learnt_plain, learnt_follower, learnt_next, follower_owes, IsCounted, accepted_counted, accepted_none}
+use Rattle.sc_budget_law.proofs.Voting.{accepted_state, accept_is, accepted_plain, accepted_owes, accepted_next, accepted_flights, accepted_held, accepted_slots, accepted_follower, accepted_leader, accepted_done, learnt_state, learn_is, learnt_none, learnt_plain, learnt_follower, learnt_next, follower_owes, IsCounted, accepted_counted, accepted_none}
 
 -- ---- when a mail comes
 
@@ -73,6 +73,7 @@ module _ (begun : Requests) (frame : Frame) (is : IsFrame frame) where
     pub next_is : next place.0 ≡ next r
     pub flights_are : place.0.leader.flights ≡ r.leader.flights
     pub held : (c n : ℕ) → IsHeld r c n → IsHeld place.0 c n
+    pub slots : (taken : ℕ) → AreTaken r taken → AreTaken place.0 taken
 
   -- a command is executed by one that does not lead
   pub record DidLearn (me slot : ℕ) (r : ReplicaState) (place : Place) : Type 0 where
@@ -173,7 +174,7 @@ module _ (begun : Requests) (frame : Frame) (is : IsFrame frame) where
           settled = settled_still me slot command p k;
           said = ((refl, refl, f, m), tt);
           owed = omega (arith, owes);
-          does = record { sends = refl; next_is = accepted_next begun frame is me r p slot command; flights_are = accepted_flights begun frame is me r p slot command; held = accepted_held begun frame is me r p slot command };
+          does = record { sends = refl; next_is = accepted_next begun frame is me r p slot command; flights_are = accepted_flights begun frame is me r p slot command; held = accepted_held begun frame is me r p slot command; slots = accepted_slots begun frame is me r p slot command };
         }), refl)
 
     -- ---- a decided command

@@ -291,6 +291,8 @@ module _ (begun : Requests) (frame : Frame) (is : IsFrame frame) (first free : �
           begins = k.begins;
           flights_are = flights_after ∙ k.flights_are;
           new = k.new;
+          early = subst (Each (λ (entry : ℕ × Command). entry.0 < free)) (sym ready_after)
+              (out_each (λ (entry : ℕ × Command). entry.0) (λ s es. without_slot es s) (λ s. refl) (λ s x es. refl) (λ (entry : ℕ × Command). entry.0 < free) (next r) r.ready k.early);
           said = said_after;
           learns = learns_after;
           offers = λ s who least high a. absurd (omega (arith, up, end, least, high));

@@ -45,12 +45,12 @@ use Rattle.sc_law_lemmas.proofs.Places.{cleared}
 use Rattle.sc_budget_law.specs.Frames.{Frame, IsFrame}
 use Rattle.sc_budget_law.specs.Owed.{mail_owes, replica_owes}
 use Rattle.sc_budget_law.specs.PlainMail.{Requests, IsPlainCommand, IsPlainCall}
-use Rattle.sc_budget_law.specs.PlainNode.{takers, IsPlainFlight, IsPlainLeader, IsPlainFollower, IsPlainReplica, HasOffered}
+use Rattle.sc_budget_law.specs.PlainNode.{takers, AreTaken, IsPlainFlight, IsPlainLeader, IsPlainFollower, IsPlainReplica, HasOffered}
 use Rattle.sc_budget_law.proofs.Asking.{begins}
 use Rattle.sc_budget_law.proofs.Counts.{found_one, one_if, one_if_most, one_yes, one_no, entries_at, with_length, with_count, with_each, with_among, with_it, with_at, out_length, out_here, out_other, out_each, out_among, at_none}
 use Rattle.sc_budget_law.proofs.Entry.{entered_next, entered_plain, learnt_call}
 use Rattle.sc_budget_law.proofs.Flights.{others_out, voted_length, voted_count, voted_each, voted_value, voted_others, voted_here, only_flight, no_flight_at, HasVoted, vote_kept, numbered_get, numbered_past}
-use Rattle.sc_budget_law.proofs.Leading.{in_range, range_yes, range_before, range_behind, flights_at, IsHeld, Leads}
+use Rattle.sc_budget_law.proofs.Leading.{in_range, range_yes, range_before, range_behind, early_taken, flights_at, IsHeld, Leads}
 use Rattle.sc_budget_law.proofs.Pumping.{call_is}
 use Rattle.sc_budget_law.proofs.Running.{IsRun, executed_none, executed_run, some_taken}
 use Rattle.sc_budget_law.proofs.Sends.{mail_of}
@@ -118,6 +118,10 @@ module _ (begun : Requests) (frame : Frame) (is : IsFrame frame) (me : ℕ) (r :
   pub accepted_held : (slot : ℕ) (command : Command) (c n : ℕ) → IsHeld r c n → IsHeld (accepted_state slot command) c n
   unfolding accepted_state
   accepted_held slot command c n h = record { number = h.number; op = h.op; later = h.later; where_ = h.where_ }
+
+  pub accepted_slots : (slot : ℕ) (command : Command) (taken : ℕ) → AreTaken r taken → AreTaken (accepted_state slot command) taken
+  unfolding accepted_state
+  accepted_slots slot command taken a = record { most = a.most; once = a.once }
 
   pub accepted_follower : (slot : ℕ) (command : Command) → IsPlainFollower r → IsPlainFollower (accepted_state slot command)
   unfolding accepted_state
@@ -264,6 +268,7 @@ module _ (begun : Requests) (frame : Frame) (is : IsFrame frame) (taken : ℕ) (
         begins = [];
         flights_are = sym (append-nil fs);
         new = tt;
+        early = early_taken (changed fs es) taken (record { most = l.slots.most; once = λ s. same s ∙ l.slots.once s });
         said = tt;
         learns = λ who m ne. ap (numbers_from (next r)) none;
         offers = λ slot who least high a. absurd (omega (arith, least, high));

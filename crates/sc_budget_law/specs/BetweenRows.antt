@@ -2,9 +2,12 @@
 use Rattle.std.specs.Prelude.{◌≡◌, ℕ, ◌+◌, ◌<◌, ◌≤◌, true, List, [], ◌∷◌, Some, ◌⊎◌}
 use Rattle.sc_base.specs.Among.{Among, Each}
 use Rattle.sc_member.specs.Roster.{is_member}
+use Rattle.sc_mail.specs.declared.bodies.Mail.{Mail}
+use Rattle.sc_node_table.specs.Replica.{ReplicaState, next}
 use Rattle.sc_node_table.specs.Slots.{numbers_from}
 use Rattle.sc_budget_law.specs.Frames.{Frame}
 use Rattle.sc_budget_law.specs.Between.{Mark, Asks, Votes, Tells, Other, View, told}
+use Rattle.sc_budget_law.specs.BetweenJournal.{voters_in, marks_for}
 
 -- what a row sends: it asks only for slots at which nothing was offered before, and tells and votes only for others
 abbrev pub IsNew : ℕ → ℕ → Mark → Type 0
@@ -88,11 +91,32 @@ pub record Leads (frame : Frame) (now after : View) (node : ℕ) (taken : Mark) 
   pub kept : (slot : ℕ) (voters : List ℕ) → now.voters slot ≡ Some voters → IsElsewhere taken slot → after.voters slot ≡ Some voters
   pub grown : (slot : ℕ) (voters : List ℕ) → after.voters slot ≡ Some voters → IsOffered frame now sent slot voters ⊎ IsCounted now taken slot voters
 
+-- what a row does in a group, of one of the four kinds
+abbrev pub How : Frame → View → View → ℕ → Mark → (ℕ → List Mark) → Type 0
+How frame now after node taken sent = IsIdle now after node taken sent ⊎ (Accepts frame now after node taken sent ⊎ (Learns frame now after node taken sent ⊎ Leads frame now after node taken sent))
+
 -- What a row of a node does in a group: the mark of the mail that it takes, and the marks of what it sends to each.
 pub record Moves (frame : Frame) (now after : View) (node : ℕ) (taken : Mark) (sent : ℕ → List Mark) : Type 0 where
   pub others : (who : ℕ) → (who ≡ node → ⊥) → after.next who ≡ now.next who
-  pub how : IsIdle now after node taken sent ⊎ (Accepts frame now after node taken sent ⊎ (Learns frame now after node taken sent ⊎ Leads frame now after node taken sent))
+  pub how : How frame now after node taken sent
 
 -- the first of the marks is taken, or none, where the row takes nothing of the group
 abbrev pub IsTaken : Mark → List Mark → List Mark → Type 0
 IsTaken taken before left = (before ≡ taken ∷ left) ⊎ ((taken ≡ Other) × (before ≡ left))
+
+-- a view of a group agrees with the replica at a node, of which so many slots are taken
+pub record IsViewAt (frame : Frame) (me : ℕ) (r : ReplicaState) (taken : ℕ) (view : View) : Type 0 where
+  pub bound : me ≡ frame.lead → view.bound ≡ next r + taken
+  pub voters : me ≡ frame.lead → (slot : ℕ) → view.voters slot ≡ voters_in r.leader.flights slot
+  pub next : view.next me ≡ next r
+
+-- where the node does not lead, two views differ in its next slot alone
+pub record IsOwn (frame : Frame) (me : ℕ) (now after : View) : Type 0 where
+  pub bound : (me ≡ frame.lead → ⊥) → after.bound ≡ now.bound
+  pub voters : (me ≡ frame.lead → ⊥) → (slot : ℕ) → after.voters slot ≡ now.voters slot
+
+-- a replica that becomes another by a mail, and sends these
+abbrev pub MovesBy : Frame → ℕ → ReplicaState → ℕ → ReplicaState → ℕ → Mark → List Mail → Type 0
+MovesBy frame me r taken after taken_after mark sent =
+    (one two : View) → IsViewAt frame me r taken one → IsViewAt frame me after taken_after two → IsOwn frame me one two
+    → How frame one two me mark (λ who. marks_for frame.core.id who sent)

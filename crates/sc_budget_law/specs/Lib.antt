@@ -1,4 +1,5 @@
 pub mod Between
+pub mod BetweenJournal
 pub mod BetweenRows
 pub mod Budget
 pub mod Frames
