@@ -21,3 +21,5 @@ mod Voting
 mod Replicas
 mod ReplicaRows
 mod NodeRows
+mod Knowing
+mod Clients
