@@ -1,3 +1,4 @@
+pub mod BetweenAll
 pub mod BetweenDoes
 pub mod BetweenBegun
 pub mod BetweenGroups
