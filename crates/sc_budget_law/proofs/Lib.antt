@@ -1,3 +1,5 @@
+pub mod BetweenSteps
+pub mod BetweenGrows
 pub mod BetweenAll
 pub mod BetweenDoes
 pub mod BetweenBegun
