@@ -76,7 +76,7 @@ module _ (words : ℕ → ℕ → ℕ × ℕ) (scenario : Scenario) (stage : IsS
     abbrev begun : Requests
     begun = IsBegun scenario rows
 
-    n : IsNodeAt words scenario stage rows me
+    pub n : IsNodeAt words scenario stage rows me
     n = j.nodes me one most
 
     -- no client has the number of a node
@@ -87,7 +87,7 @@ module _ (words : ℕ → ℕ → ℕ × ℕ) (scenario : Scenario) (stage : IsS
     not_client client seq op b e = no_client b.asks b.is_asks (ap client_actor b.client_is ∙ sym e)
 
     module _ (number : ℕ) (fine : kth (waiting (system_of as_nodes words scenario) rows (Some me)) 1 ≡ Some number) where
-      first : TakesFirst (system_of as_nodes words scenario) rows me number
+      pub first : TakesFirst (system_of as_nodes words scenario) rows me number
       first = takes_first (system_of as_nodes words scenario) rows me number t (is_born-from (system_of as_nodes words scenario) me (nseat me) born) fine
 
       is_plain : IsPlainMail (IsBegun scenario rows) (frames_of scenario) first.mail
@@ -96,7 +96,7 @@ module _ (words : ℕ → ℕ → ℕ × ℕ) (scenario : Scenario) (stage : IsS
       step : NodeState × List Mail
       step = node_table n.node (Got first.mail)
 
-      k : NodeRow (IsBegun scenario rows) (frames_of scenario) stage.are stage.apart n.node first.mail (node_table n.node (Got first.mail))
+      pub k : NodeRow (IsBegun scenario rows) (frames_of scenario) stage.are stage.apart n.node first.mail (node_table n.node (Got first.mail))
       k = node_row (IsBegun scenario rows) (frames_of scenario) stage.are stage.apart n.node first.mail n.plain is_plain (first.receiver ∙ sym n.me_is)
           (λ client seq op b e. not_client client seq op b (sym n.me_is ∙ e))
           (λ frame r a says found. (
@@ -151,3 +151,48 @@ module _ (words : ℕ → ℕ → ℕ × ℕ) (scenario : Scenario) (stage : IsS
               (subst (λ p. 1 + owed_by (owing_of scenario) (player_table p (Got first.mail)) ≤ player_owes (length (frames_of scenario)) p + mail_owes first.mail) (sym n.is)
                 (node_owed (IsBegun scenario rows) (frames_of scenario) stage.are stage.apart n.node first.mail after n.plain k))));
           }
+
+    -- ---- a node is told to go: it does nothing
+
+    acted_go : acted player_table (value player_table (nseat me) rows) (input_of {O = OrderLine} (mails rows) Go) ≡ (Node n.node, [])
+    acted_go = ap (λ p. acted player_table p (Some GoInput)) n.is
+
+    node_go : has_gone rows me ≡ false → J (rows ++ row_of player_table (nseat me) rows Go ∷ [])
+    node_go fine =
+        let r = row_of player_table (nseat me) rows Go in
+        let orderly : IsOrderly sys rows r = record { seat = nseat me; born = born; event = Go; row_is = refl; in_order = fine } in
+        let rest_after : (who : ℕ) → rest sys (rows ++ r ∷ []) who ≡ drop (taken who r) (rest sys rows who) ++ mail_for sys who r.sent = λ who. rest-row sys rows r who t orderly in
+        let more = begun_still words scenario stage rows j r (λ asks a e. no_client asks a e) in
+        let same : value player_table (nseat me) (rows ++ r ∷ []) ≡ value player_table (nseat me) rows = value_own rows (nseat me) Go ∙ (ap (λ (p : Player × List Mail). p.0) acted_go ∙ sym n.is) in
+        let none : r.sent ≡ [] = ap (λ (p : Player × List Mail). p.1) acted_go in
+        record {
+          nodes = λ other low high. elim (cases_eq other me) [
+            | inl is ↦ subst (IsNodeAt words scenario stage (rows ++ r ∷ [])) (sym is)
+                (record { node = n.node; is = same ∙ n.is; me_is = n.me_is; plain = node_more (IsBegun scenario rows) (IsBegun scenario (rows ++ r ∷ [])) more (frames_of scenario) n.node n.plain })
+            | inr ne ↦ node_stays words scenario stage rows j r more other ne (j.nodes other low high)
+          ];
+          clients = λ asks a. client_stays words scenario stage rows j r asks (λ e. no_client asks a e) (j.clients asks a);
+          sent = sent_more words scenario stage rows j r more (subst (Each (IsPlainMail (IsBegun scenario (rows ++ r ∷ [])) (frames_of scenario))) (sym none) tt);
+          groups = λ frame a.
+          group_idle words scenario rows r rest_after frame (j.groups frame a)
+          (λ node. elim (cases_eq node me) [
+            | inl is ↦ ap (replica_at scenario (rows ++ r ∷ []) frame.core.id) is
+                ∙ (replica_is words scenario (rows ++ r ∷ []) frame.core.id me (Node n.node) (node_number words scenario stage me one most) (same ∙ n.is)
+                ∙ (sym (replica_is words scenario rows frame.core.id me (Node n.node) (node_number words scenario stage me one most) n.is) ∙ ap (replica_at scenario rows frame.core.id) (sym is)))
+            | inr ne ↦ replica_others words scenario rows r frame.core.id node ne
+          ])
+          (inr (refl, sym (at_zero (marks_at words scenario rows frame.core.id me))))
+          (λ who. subst (λ l. Each IsOther (marks_for frame.core.id who l)) (sym none) tt);
+          owes = owes_after rows (nseat me) Go j born fine
+              (subst (λ p. owed_by (owing_of scenario) (player_table p GoInput) ≤ player_owes (length (frames_of scenario)) p) (sym n.is) (omega arith));
+        }
+
+    -- whatever row of it comes in order
+    pub node_event : (event : Event OrderLine) → IsInOrder (system_of as_nodes words scenario) rows me event → J (rows ++ row_of player_table (nseat me) rows event ∷ [])
+    node_event (Deliver number) fine = node_turn number fine
+    node_event Go fine = node_go fine
+    node_event Tick fine = absurd fine
+    node_event (Told order) fine = absurd fine
+    node_event Crash fine = absurd fine
+    node_event (Drop number) fine = absurd fine
+    node_event (Again number) fine = absurd fine
