@@ -12,6 +12,7 @@ pub mod BetweenReplicas
 pub mod BetweenStage
 pub mod BetweenViews
 pub mod QuietLeader
+pub mod QuietSought
 mod Counts
 mod Served
 mod Entry
