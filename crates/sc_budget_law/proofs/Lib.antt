@@ -22,3 +22,4 @@ mod ReplicaRows
 mod NodeRows
 mod Knowing
 mod Clients
+mod Round
