@@ -23,7 +23,8 @@ use Rattle.sc_budget_law.specs.BetweenJournal.{marks_for, replicas_of, replica_a
 use Rattle.sc_budget_law.specs.BetweenRows.{Moves, IsTaken}
 use Rattle.sc_budget_law.proofs.BetweenMoves.{between-row}
 
-abbrev Journal : Type 0
+-- rows of the system
+abbrev pub Journal : Type 0
 Journal = List (Row Mail OrderLine)
 
 module _ (words : ℕ → ℕ → ℕ × ℕ) (scenario : Scenario) where

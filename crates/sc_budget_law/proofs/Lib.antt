@@ -1,5 +1,7 @@
+pub mod BetweenAll
 pub mod BetweenDoes
 pub mod BetweenBegun
+pub mod BetweenGroups
 pub mod BetweenLeads
 pub mod BetweenLists
 pub mod BetweenMoves
