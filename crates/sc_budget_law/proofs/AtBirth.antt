@@ -1,0 +1,1 @@
+-- The induction over plain journals: how it begins, and what is owed at birth.

@@ -1,0 +1,1 @@
+-- The induction over plain journals: rows of clients.
