@@ -25,7 +25,7 @@ use Rattle.sc_budget_law.proofs.BetweenViews.{Journal}
 
 -- what players and mail owe, where there are so many groups
 abbrev pub owing_of : Scenario → Owing Player Mail
-owing_of scenario = record { actor = player_owes (length scenario.groups); mail = mail_owes }
+owing_of scenario = record { actor = player_owes (length (frames_of scenario)); mail = mail_owes }
 
 module _ (words : ℕ → ℕ → ℕ × ℕ) (scenario : Scenario) (stage : IsStage scenario) where
   -- a node after some rows

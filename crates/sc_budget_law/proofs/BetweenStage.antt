@@ -71,7 +71,7 @@ module _ (scenario : Scenario) (bounded : IsBounded scenario) where
   abbrev lines : List GroupLine
   lines = bounded.starts
 
-  of_groups : (base : Base) → Among base scenario.groups → (k : ℕ) × (k < length bounded.starts) × (base_at bounded.starts k ≡ base)
+  pub of_groups : (base : Base) → Among base scenario.groups → (k : ℕ) × (k < length bounded.starts) × (base_at bounded.starts k ≡ base)
   of_groups base a = of_up_to bounded.starts (length bounded.starts) base (subst (Among base) bounded.groups a)
 
   line_bounded : (k : ℕ) → k < length bounded.starts → IsBoundedGroup scenario.nodes (group_at bounded.starts k)

@@ -25,3 +25,4 @@ mod NodeRows
 mod Knowing
 mod Clients
 mod Round
+mod AtBirth

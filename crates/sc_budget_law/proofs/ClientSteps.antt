@@ -1,1 +1,0 @@
--- The induction over plain journals: rows of clients.
