@@ -1,3 +1,6 @@
+pub mod BetweenTurns
+pub mod BetweenSteps
+pub mod BetweenGrows
 pub mod BetweenAll
 pub mod BetweenDoes
 pub mod BetweenBegun
