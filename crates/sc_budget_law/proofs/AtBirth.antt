@@ -42,7 +42,9 @@ use Rattle.sc_budget_law.specs.PlainClient.{way_of, IsBegun, IsPlainClient}
 use Rattle.sc_budget_law.specs.PlainMail.{Requests}
 use Rattle.sc_budget_law.specs.PlainNode.{takers, AreTaken, IsPlainReplica, IsSettled, IsPlainOf, IsPlainNode}
 use Rattle.sc_budget_law.proofs.BetweenStage.{frames_of, IsStage, stage, from_mapped, to_mapped, of_groups}
-use Rattle.sc_budget_law.proofs.BetweenAll.{owing_of}
+use Rattle.sc_budget_law.specs.BetweenJournal.{replica_at, next_in, votes_in}
+use Rattle.sc_budget_law.proofs.BetweenAll.{owing_of, IsPlainJournal}
+use Rattle.sc_budget_law.proofs.BetweenGroups.{IsGroupAt}
 use Rattle.sc_budget_law.proofs.Leading.{in_range, range_before, range_behind}
 use Rattle.sc_budget_law.proofs.Counts.{one_if, one_no}
 
@@ -272,3 +274,65 @@ module _ (scenario : Scenario) (bounded : IsBounded scenario) where
       let most : requests_of scenario ≤ 64000 = (let product = mul-le-mul_right most_requests clients in omega (arith, requests, product)) in
       let product = mul-le-mul_left (requests_of scenario) (let low : 32 + 4 * length scenario.groups ≤ 96 = omega (arith, sixteen) in low) in
       omega (arith, within, product, most)
+
+  -- ---- what stands in a group
+
+  abbrev first_replica : Frame → ℕ → Option ReplicaState
+  first_replica frame me = replica_at scenario [] frame.core.id me
+
+  -- the replica of a node that votes in the group
+  first_found : (frame : Frame) → Among frame (frames_of scenario) → (slot me : ℕ) → is_member (frame.at slot) me ≡ true → (b : Base) × (replica_at scenario [] frame.core.id me ≡ Some (born_replica slots_ahead me b))
+  first_found frame a slot me m =
+      let b = from_mapped frame_of scenario.groups frame a in
+      let found = born_found me scenario.groups b.0 b.1 (ap (λ (f : Frame). is_member (f.at slot) me) b.2 ∙ m) in
+      let is = (stage scenario bounded).are frame a in
+      (found.0,
+        cond-true (is_node me) (replica_of frame.core.id (born_replicas slots_ahead me scenario.groups)) None (is.nodes slot me m)
+        ∙ ap (λ (f : Frame). replica_of f.core.id (born_replicas slots_ahead me scenario.groups)) (sym b.2) ∙ found.1)
+
+  -- a replica that is there is at its first slot
+  next_low : (groups_ : List Base) (name : Draw) (me : ℕ) → next_in (replica_of name (born_replicas slots_ahead me groups_)) ≤ 1
+  next_low [] name me = omega arith
+  next_low (b ∷ groups_) name me =
+      cond_both (is_member b.core.members me) (b ∷ filter (λ x. is_member x.core.members me) groups_) (filter (λ x. is_member x.core.members me) groups_) (λ l. next_in (replica_of name (map (λ y. born_replica slots_ahead me y) l)) ≤ 1)
+      (λ _. cond_both (same_draw b.core.id name) (Some (born_replica slots_ahead me b)) (replica_of name (born_replicas slots_ahead me groups_)) (λ o. next_in o ≤ 1) (λ _. omega arith) (λ _. next_low groups_ name me))
+      (λ _. next_low groups_ name me)
+
+  at_low : (name : Draw) (me : ℕ) → next_in (replica_at scenario [] name me) ≤ 1
+  at_low name me = cond_both (is_node me) (replica_of name (born_replicas slots_ahead me scenario.groups)) None (λ o. next_in o ≤ 1) (λ _. next_low scenario.groups name me) (λ _. omega arith)
+
+  pub group_at_birth : (words : ℕ → ℕ → ℕ × ℕ) (frame : Frame) → Among frame (frames_of scenario) → IsGroupAt words scenario [] frame
+  group_at_birth words frame a =
+      let is = (stage scenario bounded).are frame a in
+      let slot = frame.from + slots_ahead in
+      let members : frame.at slot ≡ frame.core.members = is.later slot (omega arith) in
+      let lead = first_found frame a slot frame.lead (ap (λ ms. is_member ms frame.lead) members ∙ is.leads) in
+      let lead_next : next_in (replica_at scenario [] frame.core.id frame.lead) ≡ 1 = ap next_in lead.1 in
+      record {
+        taken = 0;
+        r = born_replica slots_ahead frame.lead lead.0;
+        there = lead.1;
+        slots = born_taken frame.lead lead.0;
+        between = record {
+          learners = λ node m ne. (let found = first_found frame a slot node (ap (λ ms. is_member ms node) members ∙ m) in
+            let here : next_in (replica_at scenario [] frame.core.id node) ≡ 1 = ap next_in found.1 in
+            record { left = 0; reaches = omega (arith, here, lead_next); tells = refl });
+          order = λ node. tt;
+          below = λ node. tt;
+          low = λ node. (let le = at_low frame.core.id node in omega (arith, le, lead_next));
+          undone = λ s e. absurd e;
+          flying = λ s voters e. (let none : None ≡ Some voters = sym (ap (λ o. votes_in o s) lead.1) ∙ e in cc);
+          votes = λ s voters e. (let none : None ≡ Some voters = sym (ap (λ o. votes_in o s) lead.1) ∙ e in cc);
+        };
+      }
+
+  -- ---- all together
+
+  pub journal_at_birth : (words : ℕ → ℕ → ℕ × ℕ) → IsPlainJournal words scenario (stage scenario bounded) []
+  journal_at_birth words = record {
+    nodes = λ me one most. record { node = born_node slots_ahead me scenario.groups scenario.policy; is = refl; me_is = refl; plain = node_at_birth (IsBegun scenario []) me };
+    clients = λ asks a. record { client = born_client asks.client asks.ops (route_of (stage scenario bounded).first); is = refl; plain = client_at_birth asks };
+    sent = tt;
+    groups = group_at_birth words;
+    owes = omega arith;
+  }
