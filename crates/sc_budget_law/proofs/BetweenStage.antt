@@ -71,7 +71,7 @@ module _ (scenario : Scenario) (bounded : IsBounded scenario) where
   abbrev lines : List GroupLine
   lines = bounded.starts
 
-  of_groups : (base : Base) → Among base scenario.groups → (k : ℕ) × (k < length bounded.starts) × (base_at bounded.starts k ≡ base)
+  pub of_groups : (base : Base) → Among base scenario.groups → (k : ℕ) × (k < length bounded.starts) × (base_at bounded.starts k ≡ base)
   of_groups base a = of_up_to bounded.starts (length bounded.starts) base (subst (Among base) bounded.groups a)
 
   line_bounded : (k : ℕ) → k < length bounded.starts → IsBoundedGroup scenario.nodes (group_at bounded.starts k)
@@ -95,7 +95,7 @@ module _ (scenario : Scenario) (bounded : IsBounded scenario) where
         later = λ slot low_. refl;
       }
 
-  frame_is : (frame : Frame) → Among frame (frames_of scenario) → (k : ℕ) × (k < length bounded.starts) × (frame_of (base_at bounded.starts k) ≡ frame)
+  pub frame_is : (frame : Frame) → Among frame (frames_of scenario) → (k : ℕ) × (k < length bounded.starts) × (frame_of (base_at bounded.starts k) ≡ frame)
   frame_is frame a =
       let b = from_mapped frame_of scenario.groups frame a in
       let g = of_groups b.0 b.1 in

@@ -28,3 +28,5 @@ mod ReplicaRows
 mod NodeRows
 mod Knowing
 mod Clients
+mod Round
+mod AtBirth
