@@ -30,3 +30,4 @@ mod Knowing
 mod Clients
 mod Round
 mod AtBirth
+mod ClientTurns
