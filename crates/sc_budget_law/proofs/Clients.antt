@@ -406,7 +406,7 @@ module _ (frames : List Frame) (round : IsRound frames) (asks : Asks) where
     pub does : DidAsk after ⊎ DidEnd after
 
   -- one that was not told yet has asked nothing
-  unasked : (client : Client) → IsResting false client ⊎ ((false ≡ true) × IsWaiting client) → (client.waiting ≡ None) × (client.replies ≡ [])
+  pub unasked : (client : Client) → IsResting false client ⊎ ((false ≡ true) × IsWaiting client) → (client.waiting ≡ None) × (client.replies ≡ [])
   unasked client (inl rests) = elim (rests.replies) [ inl is ↦ (rests.waits, is.1) | inr is ↦ (let bad : false ≡ true = is.0 in cc) ]
   unasked client (inr is) = (let bad : false ≡ true = is.0 in cc)
 
