@@ -136,12 +136,12 @@ module _ (words : ℕ → ℕ → ℕ × ℕ) (scenario : Scenario) (stage : IsS
     -- ---- what a row leaves as it is
 
     module _ (row : Row Mail OrderLine) where
-      value_others : (seat : Seat Player) → (seat.who ≡ row.who → ⊥) → value player_table seat (rows ++ row ∷ []) ≡ value player_table seat rows
+      pub value_others : (seat : Seat Player) → (seat.who ≡ row.who → ⊥) → value player_table seat (rows ++ row ∷ []) ≡ value player_table seat rows
       value_others seat ne =
           value-snoc player_table seat rows row
           ∙ ap (λ b. cond b (acted player_table (value player_table seat rows) (input_of (mails rows) row.event)).0 (value player_table seat rows)) (ne_eqb row.who seat.who (λ e. ne (sym e)))
 
-      gone_others : (who : ℕ) → (who ≡ row.who → ⊥) → has_gone (rows ++ row ∷ []) who ≡ has_gone rows who
+      pub gone_others : (who : ℕ) → (who ≡ row.who → ⊥) → has_gone (rows ++ row ∷ []) who ≡ has_gone rows who
       gone_others who ne =
           list_any-append (λ (r : Row Mail OrderLine). eqb r.who who && is_go r.event) rows (row ∷ [])
           ∙ (ap (λ b. has_gone rows who || ((b && is_go row.event) || false)) (ne_eqb row.who who (λ e. ne (sym e))) ∙ or-false (has_gone rows who))

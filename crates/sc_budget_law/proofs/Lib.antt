@@ -1,3 +1,4 @@
+pub mod BetweenClients
 pub mod BetweenTurns
 pub mod BetweenSteps
 pub mod BetweenGrows
