@@ -1,3 +1,4 @@
+pub mod BetweenWhole
 pub mod BetweenClients
 pub mod BetweenTurns
 pub mod BetweenSteps
@@ -31,4 +32,5 @@ mod Knowing
 mod Clients
 mod Round
 mod AtBirth
-mod ClientTurns
+mod Paid
+mod Ends

@@ -1,0 +1,61 @@
+-- No line of a plain scenario at its budget is cut off.
+use Rattle.std.proofs.Common.{◌≡◌, ℕ, ◌+◌, ◌≤◌, List, [], ◌∷◌, map, arith}
+use Rattle.sc_base.specs.Among.{Each}
+use Rattle.sc_cmd.specs.declared.orders.OrderLine.{OrderLine}
+use Rattle.sc_actor.specs.declared.schedules.Line.{Line}
+use Rattle.sc_node_table.specs.Replica.{last_slot}
+use Rattle.sc_scenario.specs.Valid.{IsBounded, ValidScenariosAreBounded}
+use Rattle.sc_scenario.specs.declared.scenarios.Scenario.{Scenario}
+use Rattle.sc_scenario.specs.declared.scenarios.SchedLine.{SchedLine}
+use Rattle.sc_scenario.specs.declared.scenarios.SchedLine.TheVariants.{Go, Deliver, Drop, Again, Tick, Crash, Told, Settle, Free, Storm}
+use Rattle.sc_sound.specs.Players.{line_of, schedule, system_of, as_nodes}
+use Rattle.sc_orderly_law.specs.Orderly.{IsPlainLine}
+use Rattle.sc_orderly_law.specs.Owing.{HasRoom, owed_at_birth}
+use Rattle.sc_orderly_law.proofs.Settling.{never_cut}
+use Rattle.sc_budget_law.specs.Budget.{AllowsDeliveries, budget_of, IsAtBudget}
+use Rattle.sc_budget_law.specs.Laws.{PlainLinesEndQuiet}
+use Rattle.sc_budget_law.proofs.AtBirth.{birth_within, birth_few, journal_at_birth}
+use Rattle.sc_budget_law.proofs.BetweenAll.{owing_of}
+use Rattle.sc_budget_law.proofs.BetweenStage.{stage}
+use Rattle.sc_budget_law.proofs.Paid.{lowers}
+use Rattle.sc_budget_law.proofs.Round.{round}
+
+-- lines at a budget are plain
+pub lines_plain : (budget : ℕ) (lines : List SchedLine) → Each (AllowsDeliveries budget) lines → Each IsPlainLine (map line_of lines)
+lines_plain budget [] at = tt
+lines_plain budget (Go client ∷ lines) at = (tt, lines_plain budget lines at.1)
+lines_plain budget (Settle most ∷ lines) at = (tt, lines_plain budget lines at.1)
+lines_plain budget (Free most workers ∷ lines) at = (tt, lines_plain budget lines at.1)
+lines_plain budget (Deliver who k ∷ lines) at = absurd at.0
+lines_plain budget (Drop who k ∷ lines) at = absurd at.0
+lines_plain budget (Again mail ∷ lines) at = absurd at.0
+lines_plain budget (Tick who ∷ lines) at = absurd at.0
+lines_plain budget (Crash node ∷ lines) at = absurd at.0
+lines_plain budget (Told node order ∷ lines) at = absurd at.0
+lines_plain budget (Storm number most ∷ lines) at = absurd at.0
+
+-- .. and have room for all that is owed
+pub lines_roomy : (budget total : ℕ) (lines : List SchedLine) → total ≤ budget → Each (AllowsDeliveries budget) lines → Each (HasRoom total) (map line_of lines)
+lines_roomy budget total [] low at = tt
+lines_roomy budget total (Go client ∷ lines) low at = (tt, lines_roomy budget total lines low at.1)
+lines_roomy budget total (Settle most ∷ lines) low at = (let room = at.0 in omega (arith, low, room), lines_roomy budget total lines low at.1)
+lines_roomy budget total (Free most workers ∷ lines) low at = (let room = at.0 in omega (arith, low, room), lines_roomy budget total lines low at.1)
+lines_roomy budget total (Deliver who k ∷ lines) low at = absurd at.0
+lines_roomy budget total (Drop who k ∷ lines) low at = absurd at.0
+lines_roomy budget total (Again mail ∷ lines) low at = absurd at.0
+lines_roomy budget total (Tick who ∷ lines) low at = absurd at.0
+lines_roomy budget total (Crash node ∷ lines) low at = absurd at.0
+lines_roomy budget total (Told node order ∷ lines) low at = absurd at.0
+lines_roomy budget total (Storm number most ∷ lines) low at = absurd at.0
+
+-- what is owed at birth keeps far from the last slot
+pub far_from_last : (words : ℕ → ℕ → ℕ × ℕ) (scenario : Scenario) (bounded : IsBounded scenario) → owed_at_birth (system_of as_nodes words scenario) (owing_of scenario) + 16 ≤ last_slot
+far_from_last words scenario bounded = (let few = birth_few scenario bounded words in omega (arith, few))
+
+pub ends_quiet : ValidScenariosAreBounded → PlainLinesEndQuiet
+ends_quiet all_bounded words scenario journal valid at lawful =
+    let bounded = all_bounded scenario valid in
+    let s = stage scenario bounded in
+    let plain = lines_plain (budget_of scenario) scenario.lines at in
+    let low = lowers words scenario s (round scenario bounded) (far_from_last words scenario bounded) (schedule scenario) plain (journal_at_birth scenario bounded words) in
+    never_cut (system_of as_nodes words scenario) s.seats_apart (owing_of scenario) (schedule scenario) plain low (lines_roomy (budget_of scenario) (owed_at_birth (system_of as_nodes words scenario) (owing_of scenario)) scenario.lines (birth_within scenario bounded words) at) journal lawful
