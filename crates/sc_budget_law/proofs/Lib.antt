@@ -1,3 +1,4 @@
+pub mod BetweenWhole
 pub mod BetweenClients
 pub mod BetweenTurns
 pub mod BetweenSteps
