@@ -56,13 +56,13 @@ module _ (words : ℕ → ℕ → ℕ × ℕ) (scenario : Scenario) (stage : IsS
   nseat me = node_seat as_nodes scenario.groups scenario.policy me
 
   -- the value of who acts
-  value_own : (rows : Journal) (seat : Seat Player) (event : Event OrderLine) → value player_table seat (rows ++ row_of player_table seat rows event ∷ []) ≡ (acted player_table (value player_table seat rows) (input_of (mails rows) event)).0
+  pub value_own : (rows : Journal) (seat : Seat Player) (event : Event OrderLine) → value player_table seat (rows ++ row_of player_table seat rows event ∷ []) ≡ (acted player_table (value player_table seat rows) (input_of (mails rows) event)).0
   value_own rows seat event =
       value-snoc player_table seat rows (row_of player_table seat rows event)
       ∙ ap (λ b. cond b (acted player_table (value player_table seat rows) (input_of (mails rows) event)).0 (value player_table seat rows)) (eq-eqb seat.who seat.who refl)
 
   -- what is owed after a row that pays
-  owes_after : (rows : Journal) (seat : Seat Player) (event : Event OrderLine) → J rows → find (λ (other : Seat Player). eqb other.who seat.who) (births as_nodes scenario) ≡ Some seat → IsInOrder sys rows seat.who event → IsPaid sys stage.seats_apart (owing_of scenario) rows seat event
+  pub owes_after : (rows : Journal) (seat : Seat Player) (event : Event OrderLine) → J rows → find (λ (other : Seat Player). eqb other.who seat.who) (births as_nodes scenario) ≡ Some seat → IsInOrder sys rows seat.who event → IsPaid sys stage.seats_apart (owing_of scenario) rows seat event
       → deliveries (rows ++ row_of player_table seat rows event ∷ []) + owed sys (owing_of scenario) (rows ++ row_of player_table seat rows event ∷ []) ≤ owed_at_birth sys (owing_of scenario)
   owes_after rows seat event j born fine paid = (let p = pays sys stage.seats_apart (owing_of scenario) rows seat event born fine paid in let o = j.owes in omega (arith, p, o))
 
@@ -115,6 +115,14 @@ module _ (words : ℕ → ℕ → ℕ × ℕ) (scenario : Scenario) (stage : IsS
           ap (λ o. acted player_table (value player_table (nseat me) rows) (option_map Got o)) first.sent
           ∙ ap (λ p. acted player_table p (Some (Got first.mail))) n.is
 
+      -- it pays
+      pub node_paid : IsPaid (system_of as_nodes words scenario) stage.seats_apart (owing_of scenario) rows (node_seat as_nodes scenario.groups scenario.policy me) (Deliver number)
+      node_paid mail sent =
+          let same : first.mail ≡ mail = (let e : Some first.mail ≡ Some mail = sym first.sent ∙ sent in cc) in
+          subst (λ m. 1 + owed_by (owing_of scenario) (player_table (value player_table (nseat me) rows) (Got m)) ≤ player_owes (length (frames_of scenario)) (value player_table (nseat me) rows) + mail_owes m) same
+          (subst (λ p. 1 + owed_by (owing_of scenario) (player_table p (Got first.mail)) ≤ player_owes (length (frames_of scenario)) p + mail_owes first.mail) (sym n.is)
+            (node_owed (IsBegun scenario rows) (frames_of scenario) stage.are stage.apart n.node first.mail (node_table n.node (Got first.mail)) n.plain k))
+
       node_turn : J (rows ++ row_of player_table (nseat me) rows (Deliver number) ∷ [])
       unfolding row step
       node_turn =
@@ -145,17 +153,16 @@ module _ (words : ℕ → ℕ → ℕ × ℕ) (scenario : Scenario) (stage : IsS
             group_after words scenario rows r rest_after (IsBegun scenario rows) stage n.node first.mail after n.plain k (sym n.me_is) refl sends (first.receiver ∙ sym n.me_is) first.behind
             (ap (rest sys rows) n.me_is ∙ first.first) (ap is_node n.me_is ∙ node_number words scenario stage me one most)
             (ap (λ m. value player_table (nseat m) rows) n.me_is ∙ n.is) (ap (λ m. value player_table (nseat m) (rows ++ r ∷ [])) n.me_is ∙ became) frame a (j.groups frame a);
-            owes = owes_after rows (nseat me) (Deliver number) j born fine (λ mail sent. (
-              let same : first.mail ≡ mail = (let e : Some first.mail ≡ Some mail = sym first.sent ∙ sent in cc) in
-              subst (λ m. 1 + owed_by (owing_of scenario) (player_table (value player_table (nseat me) rows) (Got m)) ≤ player_owes (length (frames_of scenario)) (value player_table (nseat me) rows) + mail_owes m) same
-              (subst (λ p. 1 + owed_by (owing_of scenario) (player_table p (Got first.mail)) ≤ player_owes (length (frames_of scenario)) p + mail_owes first.mail) (sym n.is)
-                (node_owed (IsBegun scenario rows) (frames_of scenario) stage.are stage.apart n.node first.mail after n.plain k))));
+            owes = owes_after rows (nseat me) (Deliver number) j born fine node_paid;
           }
 
     -- ---- a node is told to go: it does nothing
 
     acted_go : acted player_table (value player_table (nseat me) rows) (input_of {O = OrderLine} (mails rows) Go) ≡ (Node n.node, [])
     acted_go = ap (λ p. acted player_table p (Some GoInput)) n.is
+
+    pub node_go_paid : IsPaid (system_of as_nodes words scenario) stage.seats_apart (owing_of scenario) rows (node_seat as_nodes scenario.groups scenario.policy me) Go
+    node_go_paid = subst (λ p. owed_by (owing_of scenario) (player_table p GoInput) ≤ player_owes (length (frames_of scenario)) p) (sym n.is) (omega arith)
 
     node_go : has_gone rows me ≡ false → J (rows ++ row_of player_table (nseat me) rows Go ∷ [])
     node_go fine =
@@ -183,8 +190,7 @@ module _ (words : ℕ → ℕ → ℕ × ℕ) (scenario : Scenario) (stage : IsS
           ])
           (inr (refl, sym (at_zero (marks_at words scenario rows frame.core.id me))))
           (λ who. subst (λ l. Each IsOther (marks_for frame.core.id who l)) (sym none) tt);
-          owes = owes_after rows (nseat me) Go j born fine
-              (subst (λ p. owed_by (owing_of scenario) (player_table p GoInput) ≤ player_owes (length (frames_of scenario)) p) (sym n.is) (omega arith));
+          owes = owes_after rows (nseat me) Go j born fine node_go_paid;
         }
 
     -- whatever row of it comes in order

@@ -32,3 +32,4 @@ mod Knowing
 mod Clients
 mod Round
 mod AtBirth
+mod ClientTurns
