@@ -32,5 +32,4 @@ mod Knowing
 mod Clients
 mod Round
 mod AtBirth
-mod Paid
 mod Ends
