@@ -33,4 +33,4 @@ mod Knowing
 mod Clients
 mod Round
 mod AtBirth
-mod ClientTurns
+mod Ends

@@ -3,6 +3,7 @@ pub mod BetweenJournal
 pub mod BetweenRows
 pub mod Budget
 pub mod Frames
+pub mod Laws
 pub mod Owed
 pub mod PlainClient
 pub mod PlainMail

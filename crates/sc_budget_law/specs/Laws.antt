@@ -1,0 +1,17 @@
+-- What is proved of plain scenarios at their budget.
+use Rattle.std.specs.Prelude.{◌≡◌, ℕ, false, List}
+use Rattle.sc_cmd.specs.declared.orders.OrderLine.{OrderLine}
+use Rattle.sc_mail.specs.declared.bodies.Mail.{Mail}
+use Rattle.sc_actor.specs.declared.rows.Row.{Row}
+use Rattle.sc_actor.specs.Walk.{unsettled}
+use Rattle.sc_scenario.specs.declared.scenarios.Scenario.{Scenario}
+use Rattle.sc_scenario.specs.Valid.{IsValid}
+use Rattle.sc_sound.specs.Players.{Lawful, as_nodes, schedule, system_of}
+use Rattle.sc_budget_law.specs.Budget.{IsAtBudget}
+
+-- in each lawful journal of a valid plain scenario at its budget no line is cut off with mail pending
+abbrev pub PlainLinesEndQuiet : Type 0
+PlainLinesEndQuiet =
+    (words : ℕ → ℕ → ℕ × ℕ) (scenario : Scenario) (journal : List (Row Mail OrderLine))
+    → IsValid scenario → IsAtBudget scenario → Lawful as_nodes words scenario journal
+    → unsettled (system_of as_nodes words scenario) (schedule scenario) journal ≡ false
