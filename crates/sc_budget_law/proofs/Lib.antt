@@ -15,6 +15,7 @@ pub mod BetweenStage
 pub mod BetweenViews
 pub mod QuietLeader
 pub mod QuietSought
+pub mod QuietSteps
 mod Counts
 mod Served
 mod Entry

@@ -57,7 +57,7 @@ filter_among who (m ∷ sent) mail to (inr a) =
     cond_both (eqb m.to who) (m ∷ filter (λ (x : Mail). eqb x.to who) sent) (filter (λ (x : Mail). eqb x.to who) sent) (Among mail) (λ _. inr (filter_among who sent mail to a)) (λ _. filter_among who sent mail to a)
 
 -- what a leader does with a call that it holds: it holds it still, or its client is answered
-does_holds : (begun : Requests) (frame : Frame) (is : IsFrame frame) (me : ℕ) (r : ReplicaState) (from : ℕ) (body : MailBody) (place : Place) → me ≡ frame.lead → Does begun frame is me r from body place → (c n : ℕ) → IsHeld r c n → IsHeld place.0 c n ⊎ IsToldOf frame place.1 c n
+pub does_holds : (begun : Requests) (frame : Frame) (is : IsFrame frame) (me : ℕ) (r : ReplicaState) (from : ℕ) (body : MailBody) (place : Place) → me ≡ frame.lead → Does begun frame is me r from body place → (c n : ℕ) → IsHeld r c n → IsHeld place.0 c n ⊎ IsToldOf frame place.1 c n
 does_holds begun frame is me r from (Request group client seq op) place lead does c n h = elim (does.1) [
   | inl refused ↦ inl (subst (λ (p : Place). IsHeld p.0 c n) (sym refused.place_is) h)
   | inr queued ↦ queued.run.leads.calls c n (inl h)
