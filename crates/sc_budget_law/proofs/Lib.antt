@@ -34,3 +34,4 @@ mod Clients
 mod Round
 mod AtBirth
 mod Ends
+mod Bytes

@@ -1,0 +1,1 @@
+-- How many bytes a plain journal counts: few enough, so that it is never full.
