@@ -52,7 +52,7 @@ module _ (words : ℕ → ℕ → ℕ × ℕ) (scenario : Scenario) (stage : IsS
   abbrev J : Journal → Type 0
   J rows = IsPlainJournal words scenario stage rows
 
-  abbrev nseat : ℕ → Seat Player
+  abbrev pub nseat : ℕ → Seat Player
   nseat me = node_seat as_nodes scenario.groups scenario.policy me
 
   -- the value of who acts
@@ -80,7 +80,7 @@ module _ (words : ℕ → ℕ → ℕ × ℕ) (scenario : Scenario) (stage : IsS
     n = j.nodes me one most
 
     -- no client has the number of a node
-    no_client : (asks : Asks) → Among asks scenario.clients → client_actor asks.client ≡ me → ⊥
+    pub no_client : (asks : Asks) → Among asks scenario.clients → client_actor asks.client ≡ me → ⊥
     no_client asks a e = both_ways (is_node me) (ap is_node (sym e) ∙ client_number words scenario stage asks a) (node_number words scenario stage me one most)
 
     not_client : (client seq : ℕ) (op : Op) → IsBegun scenario rows client seq op → me ≡ client_actor client → ⊥
@@ -93,9 +93,6 @@ module _ (words : ℕ → ℕ → ℕ × ℕ) (scenario : Scenario) (stage : IsS
       is_plain : IsPlainMail (IsBegun scenario rows) (frames_of scenario) first.mail
       is_plain = each_numbered (IsPlainMail (IsBegun scenario rows) (frames_of scenario)) (mails rows) number first.mail j.sent first.sent
 
-      step : NodeState × List Mail
-      step = node_table n.node (Got first.mail)
-
       pub k : NodeRow (IsBegun scenario rows) (frames_of scenario) stage.are stage.apart n.node first.mail (node_table n.node (Got first.mail))
       k = node_row (IsBegun scenario rows) (frames_of scenario) stage.are stage.apart n.node first.mail n.plain is_plain (first.receiver ∙ sym n.me_is)
           (λ client seq op b e. not_client client seq op b (sym n.me_is ∙ e))
@@ -106,11 +103,8 @@ module _ (words : ℕ → ℕ → ℕ × ℕ) (scenario : Scenario) (stage : IsS
               due words scenario (IsBegun scenario rows) rows frame (j.groups frame a) me r here first.mail.from (map (mark frame.core.id) first.behind) first.mail.to first.mail.body first.receiver (ap (map (mark frame.core.id)) first.first) says,
               omega (arith, room, at))))
 
-      row : Row Mail OrderLine
-      row = row_of player_table (nseat me) rows (Deliver number)
-
-      acted_is : acted player_table (value player_table (nseat me) rows) (input_of {O = OrderLine} (mails rows) (Deliver number)) ≡ (Node step.0, step.1)
-      unfolding step
+      -- what the step makes of the node, and what it sends
+      pub acted_is : acted player_table (value player_table (nseat me) rows) (input_of {O = OrderLine} (mails rows) (Deliver number)) ≡ (Node (node_table n.node (Got first.mail)).0, (node_table n.node (Got first.mail)).1)
       acted_is =
           ap (λ o. acted player_table (value player_table (nseat me) rows) (option_map Got o)) first.sent
           ∙ ap (λ p. acted player_table p (Some (Got first.mail))) n.is
@@ -124,7 +118,6 @@ module _ (words : ℕ → ℕ → ℕ × ℕ) (scenario : Scenario) (stage : IsS
             (node_owed (IsBegun scenario rows) (frames_of scenario) stage.are stage.apart n.node first.mail (node_table n.node (Got first.mail)) n.plain k))
 
       node_turn : J (rows ++ row_of player_table (nseat me) rows (Deliver number) ∷ [])
-      unfolding row step
       node_turn =
           let r = row_of player_table (nseat me) rows (Deliver number) in
           let after = node_table n.node (Got first.mail) in
@@ -158,7 +151,7 @@ module _ (words : ℕ → ℕ → ℕ × ℕ) (scenario : Scenario) (stage : IsS
 
     -- ---- a node is told to go: it does nothing
 
-    acted_go : acted player_table (value player_table (nseat me) rows) (input_of {O = OrderLine} (mails rows) Go) ≡ (Node n.node, [])
+    pub acted_go : acted player_table (value player_table (nseat me) rows) (input_of {O = OrderLine} (mails rows) Go) ≡ (Node n.node, [])
     acted_go = ap (λ p. acted player_table p (Some GoInput)) n.is
 
     pub node_go_paid : IsPaid (system_of as_nodes words scenario) stage.seats_apart (owing_of scenario) rows (node_seat as_nodes scenario.groups scenario.policy me) Go

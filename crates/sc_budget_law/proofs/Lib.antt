@@ -16,6 +16,7 @@ pub mod BetweenViews
 pub mod QuietLeader
 pub mod QuietSought
 pub mod QuietSteps
+pub mod QuietTurns
 mod Counts
 mod Served
 mod Entry
