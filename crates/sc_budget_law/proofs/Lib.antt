@@ -36,3 +36,4 @@ mod Round
 mod AtBirth
 mod Ends
 mod Bytes
+mod Light
