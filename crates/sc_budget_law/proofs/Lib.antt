@@ -37,3 +37,4 @@ mod AtBirth
 mod Ends
 mod Bytes
 mod Light
+mod Worked
