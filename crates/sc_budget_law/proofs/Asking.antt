@@ -1,36 +1,32 @@
 -- A request at the leading replica of a plain group: it waits and is offered, or its client is sent on.
-use Rattle.std.proofs.Common.{◌≡◌, ℕ, zero, suc, ◌+◌, ◌-◌, ◌*◌, ◌<◌, ◌≤◌, ◌&&◌, ◌||◌, not, leb, ltb, eqb, Bool, true, false, cond, List, [], ◌∷◌, ◌++◌, length, sum_by, Option, Some, None, ◌⊎◌, inl, inr, refl, sym, ◌∙◌, ap, subst, arith, append-nil}
+use Rattle.std.proofs.Common.{◌≡◌, ℕ, suc, ◌+◌, ◌-◌, ◌≤◌, ◌&&◌, not, eqb, Bool, true, false, cond, List, [], ◌∷◌, ◌++◌, length, Option, Some, None, ◌⊎◌, inl, inr, refl, sym, ◌∙◌, ap, subst, arith, append-nil}
 use Rattle.std.specs.Prelude.{nat_le}
 use Rattle.std.proofs.lemmas.Bool.{cond_both, cond-true, cond-false, eqb-true, leb-true, leb-false, cases_Bool, and_from, and_right}
 use Rattle.std.proofs.lemmas.List.{length_push}
 use Rattle.sc_base.specs.Among.{Among, Each}
 use Rattle.sc_base.specs.Limits.{client_actor}
-use Rattle.sc_base.specs.declared.names.Draw.{Draw}
 use Rattle.sc_base.specs.declared.ops.Op.{Op}
 use Rattle.sc_ideal.specs.IdealStore.{key_of, holds_key}
 use Rattle.sc_cmd.specs.declared.commands.Command.{Command}
-use Rattle.sc_cmd.specs.declared.commands.Command.TheVariants.{Call, Noop, Join, Leave, Split, Begin, Prepared, RecordVote, GiveUp, Finish, Watched, RecordWatch}
+use Rattle.sc_cmd.specs.declared.commands.Command.TheVariants.{Call}
 use Rattle.sc_cmd.specs.declared.cores.Core.{Core}
-use Rattle.sc_cmd.specs.declared.cores.Lock.{Lock}
 use Rattle.sc_cmd.specs.declared.links.Route.{Route}
 use Rattle.sc_mail.specs.declared.bodies.AnswerBody.{AnswerBody}
 use Rattle.sc_mail.specs.declared.bodies.AnswerBody.TheVariants as Says
-use Rattle.sc_mail.specs.declared.bodies.Mail.{Mail}
 use Rattle.sc_mail.specs.declared.bodies.MailBody.TheVariants.{Answer}
-use Rattle.sc_paxos_words.specs.declared.flights.Flight.{Flight}
 use Rattle.sc_paxos_words.proofs.ListLemmas.{Each-push}
 use Rattle.sc_node_table.specs.Pump.{serves_calls, pumped}
 use Rattle.sc_node_table.specs.Queues.{call_of, is_call_of, without_call}
-use Rattle.sc_node_table.specs.Replica.{ReplicaState, Place, name_of, next, last_slot}
-use Rattle.sc_node_table.specs.Rows.{call_refusal, refused_at, queued, requested, request_row}
+use Rattle.sc_node_table.specs.Replica.{ReplicaState, Place, next, last_slot}
+use Rattle.sc_node_table.specs.Rows.{call_refusal, queued, requested, request_row}
 use Rattle.sc_node_table.specs.Slots.{numbers_from}
 use Rattle.sc_budget_law.specs.Frames.{Frame, IsFrame}
-use Rattle.sc_budget_law.specs.Owed.{mail_owes, replica_owes}
+use Rattle.sc_budget_law.specs.Owed.{replica_owes}
 use Rattle.sc_budget_law.specs.PlainMail.{Requests, IsPlainCommand, IsPlainCall}
 use Rattle.sc_budget_law.specs.PlainNode.{IsPlainLeader, IsPlainReplica, HasOffered}
-use Rattle.sc_budget_law.proofs.Leading.{early_taken, IsHeld, IsToldOf, Leads}
+use Rattle.sc_budget_law.proofs.Leading.{early_taken, IsHeld, Leads}
 use Rattle.sc_budget_law.proofs.Running.{IsRun, pumped_run}
-use Rattle.sc_budget_law.proofs.Sends.{mail_of, learns_to, among_push, last_among}
+use Rattle.sc_budget_law.proofs.Sends.{mail_of, among_push, last_among}
 
 some_is : {A : Type 0} {x y : A} → Some x ≡ Some y → x ≡ y
 some_is e = cc
@@ -157,7 +153,16 @@ module _ (begun : Requests) (frame : Frame) (is : IsFrame frame) (taken : ℕ) (
         let none : 0 ≡ next r - next r = omega arith in
         pumped_run begun frame is (next r) (next r + taken) r.leader.flights (replica_owes r + 28) Wanted room taken (record r { calls = calls }, []) d.executed (record {
           plain = record {
-            me_is = p.me_is; group = p.group; hint_is = p.hint_is; top_is = p.top_is; promised_is = p.promised_is; floor_low = p.floor_low; begins = p.begins; sets_are = p.sets_are; acts = p.acts; waits = p.waits;
+            me_is = p.me_is;
+            group = p.group;
+            hint_is = p.hint_is;
+            top_is = p.top_is;
+            promised_is = p.promised_is;
+            floor_low = p.floor_low;
+            begins = p.begins;
+            sets_are = p.sets_are;
+            acts = p.acts;
+            waits = p.waits;
           };
           leader = record { running = l.running; ballot_is = l.ballot_is; may = l.may; open_ = l.open_; calls = e; flights = l.flights; ready = l.ready; slots = record { most = l.slots.most; once = l.slots.once } };
           low = omega arith;
@@ -187,11 +192,11 @@ module _ (begun : Requests) (frame : Frame) (is : IsFrame frame) (taken : ℕ) (
         (λ c n w. elim w [
           | inr mine ↦ last_call c n r.calls mine
           | inl h ↦ record {
-              number = h.number;
-              op = h.op;
-              later = h.later;
-              where_ = elim (h.where_) [ inl a ↦ inl (among_push r.calls (Call client seq op) (Call c h.number h.op) a) | inr other ↦ inr other ];
-            }
+            number = h.number;
+            op = h.op;
+            later = h.later;
+            where_ = elim (h.where_) [ inl a ↦ inl (among_push r.calls (Call client seq op) (Call c h.number h.op) a) | inr other ↦ inr other ];
+          }
         ])
     queued_run (Some other) e =
         cond_both (nat_le seq other) (r, []) (pumped (record r { calls = without_call r.calls client ++ Call client seq op ∷ [] }, [])) Run
@@ -208,22 +213,22 @@ module _ (begun : Requests) (frame : Frame) (is : IsFrame frame) (taken : ℕ) (
           done = d;
         })
         (λ f. with_calls (without_call r.calls client ++ Call client seq op ∷ [])
-          (Each-push (IsPlainCommand begun frame) (without_call r.calls client) (Call client seq op) (out_calls (IsPlainCommand begun frame) r.calls client l.calls) call)
-          (let push = length_push (without_call r.calls client) (Call client seq op) in let out = out_one r.calls client other e in omega (arith, push, out))
-          (λ c n w. elim w [
-            | inr mine ↦ last_call c n (without_call r.calls client) mine
-            | inl h ↦ elim (h.where_) [
-              | inr place ↦ record { number = h.number; op = h.op; later = h.later; where_ = inr place }
-              | inl a ↦ elim (stays_call r.calls client c h.number h.op a) [
-                | inl b ↦ record { number = h.number; op = h.op; later = h.later; where_ = inl (among_push (without_call r.calls client) (Call client seq op) (Call c h.number h.op) b) }
-                | inr gone_ ↦ (
-                    let number : other ≡ h.number = some_is (sym e ∙ gone_.1) in
-                    let low = leb-false seq other f in
-                    let later = h.later in
-                    last_call c n (without_call r.calls client) (gone_.0, omega (arith, number, low, later)))
-              ]
+        (Each-push (IsPlainCommand begun frame) (without_call r.calls client) (Call client seq op) (out_calls (IsPlainCommand begun frame) r.calls client l.calls) call)
+        (let push = length_push (without_call r.calls client) (Call client seq op) in let out = out_one r.calls client other e in omega (arith, push, out))
+        (λ c n w. elim w [
+          | inr mine ↦ last_call c n (without_call r.calls client) mine
+          | inl h ↦ elim (h.where_) [
+            | inr place ↦ record { number = h.number; op = h.op; later = h.later; where_ = inr place }
+            | inl a ↦ elim (stays_call r.calls client c h.number h.op a) [
+              | inl b ↦ record { number = h.number; op = h.op; later = h.later; where_ = inl (among_push (without_call r.calls client) (Call client seq op) (Call c h.number h.op) b) }
+              | inr gone_ ↦ (
+                  let number : other ≡ h.number = some_is (sym e ∙ gone_.1) in
+                  let low = leb-false seq other f in
+                  let later = h.later in
+                  last_call c n (without_call r.calls client) (gone_.0, omega (arith, number, low, later)))
             ]
-          ]))
+          ]
+        ]))
 
     pub request_run : Run (request_row client seq op (r, []))
     unfolding request_row requested

@@ -1,47 +1,42 @@
 -- The induction over plain journals: how it begins, and what is owed at birth.
-use Rattle.std.proofs.Common.{◌≡◌, ℕ, zero, suc, ◌+◌, ◌-◌, ◌*◌, ◌<◌, ◌≤◌, ◌&&◌, not, ltb, eqb, Bool, true, false, cond, List, [], ◌∷◌, ◌++◌, length, map, filter, take, get_or, Option, Some, None, ◌⊎◌, inl, inr, refl, sym, ◌∙◌, ap, subst, arith}
+use Rattle.std.proofs.Common.{◌≡◌, ℕ, zero, suc, ◌+◌, ◌-◌, ◌*◌, ◌<◌, ◌≤◌, ◌&&◌, not, ltb, eqb, true, false, cond, List, [], ◌∷◌, ◌++◌, length, map, filter, take, get_or, Option, Some, None, inl, inr, refl, sym, ◌∙◌, ap, arith}
 use Rattle.std.specs.List.{sum_by, All, AllPairs}
 use Rattle.std.specs.Ordering.{nat_cmp}
 use Rattle.std.specs.Cmp.Lexicographic.{slice_cmp}
-use Rattle.std.specs.FinMap.{get, empty, get-empty}
-use Rattle.std.proofs.lemmas.Bool.{cond_both, cond-true, cond-false, cases_Bool, cases_eq, cases_lt, both_ways, eq-eqb, ne_eqb, le-ltb}
+use Rattle.std.specs.FinMap.{get, get-empty}
+use Rattle.std.proofs.lemmas.Bool.{cond_both, cond-true, cond-false, cases_Bool, cases_eq, cases_lt, both_ways, eq-eqb, ne_eqb}
 use Rattle.std.proofs.lemmas.List.{length-map, length_push}
 use Rattle.std.proofs.lemmas.List.Sums.{sum_by-cons, sum_by-append}
 use Rattle.std.proofs.Math.Nat.{suc-mul, add-mul, mul-le-mul_left, mul-le-mul_right}
 use Rattle.sc_base.specs.Among.{Among, Each}
-use Rattle.sc_base.specs.Limits.{client_actor, most_nodes, most_clients, most_requests}
+use Rattle.sc_base.specs.Limits.{most_clients, most_requests}
 use Rattle.sc_base.specs.Same.{same_draw}
 use Rattle.sc_base.specs.declared.names.Draw.{Draw}
-use Rattle.sc_base.proofs.NameLemmas.{draw_is, same_name}
-use Rattle.sc_cmd.specs.declared.commands.Command.{Command}
+use Rattle.sc_base.proofs.NameLemmas.{same_name}
 use Rattle.sc_cmd.specs.declared.cores.Base.{Base}
 use Rattle.sc_member.specs.Roster.{is_member}
 use Rattle.sc_actor.specs.declared.actors.Seat.{Seat}
-use Rattle.sc_actor.specs.System.{System}
-use Rattle.sc_mail.specs.declared.bodies.Mail.{Mail}
-use Rattle.sc_cmd.specs.declared.orders.OrderLine.{OrderLine}
 use Rattle.sc_paxos_words.proofs.BallotLemmas.{at_least_itself}
 use Rattle.sc_paxos_words.proofs.ListLemmas.{Each-among, Each-from_All}
 use Rattle.sc_machine_table.specs.Group.{group_of}
-use Rattle.sc_node_table.specs.Node.{NodeState, born_replicas, born_node, replica_of, is_node}
-use Rattle.sc_node_table.specs.Replica.{ReplicaState, name_of, next, born_replica}
+use Rattle.sc_node_table.specs.Node.{born_replicas, born_node, replica_of, is_node}
+use Rattle.sc_node_table.specs.Replica.{ReplicaState, born_replica}
 use Rattle.sc_node_table.specs.Slots.{slots_ahead, numbers_from}
 use Rattle.sc_scenario.specs.Groups.{base_at, bases_up_to}
-use Rattle.sc_scenario.specs.Valid.{IsBounded, IsUpTo, IsBoundedClient}
+use Rattle.sc_scenario.specs.Valid.{IsBounded, IsBoundedClient}
 use Rattle.sc_scenario.specs.declared.drafts.GroupLine.{GroupLine}
 use Rattle.sc_scenario.specs.declared.scenarios.Asks.{Asks}
 use Rattle.sc_scenario.specs.declared.scenarios.Scenario.{Scenario}
-use Rattle.sc_sound.specs.Players.{Player, player_table, node_seat, client_seat, births, route_of, system_of, as_nodes}
-use Rattle.sc_sound.specs.declared.roles.Role.TheVariants.{Node, Client}
+use Rattle.sc_sound.specs.Players.{Player, node_seat, client_seat, route_of, system_of, as_nodes}
 use Rattle.sc_client_table.specs.Client.{born_client}
-use Rattle.sc_orderly_law.specs.Owing.{Owing, owed_at_birth}
+use Rattle.sc_orderly_law.specs.Owing.{owed_at_birth}
 use Rattle.sc_budget_law.specs.Budget.{requests_of, budget_of}
 use Rattle.sc_budget_law.specs.Frames.{Frame, frame_of}
-use Rattle.sc_budget_law.specs.Owed.{replica_owes, node_owes, client_owes, player_owes}
+use Rattle.sc_budget_law.specs.Owed.{replica_owes, player_owes}
 use Rattle.sc_budget_law.specs.PlainClient.{way_of, IsBegun, IsPlainClient}
 use Rattle.sc_budget_law.specs.PlainMail.{Requests}
-use Rattle.sc_budget_law.specs.PlainNode.{takers, AreTaken, IsPlainReplica, IsSettled, IsPlainOf, IsPlainNode}
-use Rattle.sc_budget_law.proofs.BetweenStage.{frames_of, IsStage, stage, from_mapped, to_mapped, of_groups}
+use Rattle.sc_budget_law.specs.PlainNode.{AreTaken, IsPlainReplica, IsSettled, IsPlainOf, IsPlainNode}
+use Rattle.sc_budget_law.proofs.BetweenStage.{frames_of, stage, from_mapped, to_mapped, of_groups}
 use Rattle.sc_budget_law.specs.BetweenJournal.{replica_at, next_in, votes_in}
 use Rattle.sc_budget_law.proofs.BetweenAll.{owing_of, IsPlainJournal}
 use Rattle.sc_budget_law.proofs.BetweenGroups.{IsGroupAt}
@@ -87,7 +82,9 @@ born_plain begun me base no_pairs no_notes = record {
 pub born_settled : (begun : Requests) (me : ℕ) (base : Base) → IsSettled begun (frame_of base) me (born_replica slots_ahead me base)
 born_settled begun me base =
     elim (cases_eq me base.core.first) [
-      | inl e ↦ inl (e, record {
+      | inl e ↦ inl (
+        e,
+        record {
           taken = 0;
           leader = record {
             running = eq-eqb base.core.first me (sym e);
@@ -100,7 +97,8 @@ born_settled begun me base =
             slots = born_taken me base;
           };
           done = record { executed = refl; offered = inl refl };
-        })
+        },
+      )
       | inr ne ↦ inr (ne, record { stopped = ne_eqb base.core.first me (λ e. ne (sym e)); calls = refl; flights = refl; ready = refl })
     ]
 
@@ -222,8 +220,8 @@ module _ (scenario : Scenario) (bounded : IsBounded scenario) where
       settled = born_settled begun me base;
     }));
     has = λ frame slot a m. (let b = from_mapped frame_of scenario.groups frame a in
-      let found = born_found me scenario.groups b.0 b.1 (ap (λ (f : Frame). is_member (f.at slot) me) b.2 ∙ m) in
-      (born_replica slots_ahead me found.0, ap (λ (f : Frame). replica_of f.core.id (born_replicas slots_ahead me scenario.groups)) (sym b.2) ∙ found.1));
+        let found = born_found me scenario.groups b.0 b.1 (ap (λ (f : Frame). is_member (f.at slot) me) b.2 ∙ m) in
+        (born_replica slots_ahead me found.0, ap (λ (f : Frame). replica_of f.core.id (born_replicas slots_ahead me scenario.groups)) (sym b.2) ∙ found.1));
   }
 
   -- a client is plain, and has not gone
@@ -285,10 +283,11 @@ module _ (scenario : Scenario) (bounded : IsBounded scenario) where
   first_found frame a slot me m =
       let b = from_mapped frame_of scenario.groups frame a in
       let found = born_found me scenario.groups b.0 b.1 (ap (λ (f : Frame). is_member (f.at slot) me) b.2 ∙ m) in
-      let is = (stage scenario bounded).are frame a in
-      (found.0,
+      let is = (stage scenario bounded).are frame a in (
+        found.0,
         cond-true (is_node me) (replica_of frame.core.id (born_replicas slots_ahead me scenario.groups)) None (is.nodes slot me m)
-        ∙ ap (λ (f : Frame). replica_of f.core.id (born_replicas slots_ahead me scenario.groups)) (sym b.2) ∙ found.1)
+            ∙ ap (λ (f : Frame). replica_of f.core.id (born_replicas slots_ahead me scenario.groups)) (sym b.2) ∙ found.1,
+      )
 
   -- a replica that is there is at its first slot
   next_low : (groups_ : List Base) (name : Draw) (me : ℕ) → next_in (replica_of name (born_replicas slots_ahead me groups_)) ≤ 1
@@ -315,8 +314,8 @@ module _ (scenario : Scenario) (bounded : IsBounded scenario) where
         slots = born_taken frame.lead lead.0;
         between = record {
           learners = λ node m ne. (let found = first_found frame a slot node (ap (λ ms. is_member ms node) members ∙ m) in
-            let here : next_in (replica_at scenario [] frame.core.id node) ≡ 1 = ap next_in found.1 in
-            record { left = 0; reaches = omega (arith, here, lead_next); tells = refl });
+              let here : next_in (replica_at scenario [] frame.core.id node) ≡ 1 = ap next_in found.1 in
+              record { left = 0; reaches = omega (arith, here, lead_next); tells = refl });
           order = λ node. tt;
           below = λ node. tt;
           low = λ node. (let le = at_low frame.core.id node in omega (arith, le, lead_next));

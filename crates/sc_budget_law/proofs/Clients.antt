@@ -1,13 +1,13 @@
 -- What a client of a plain journal does with each mail, and when it is told to go.
-use Rattle.std.proofs.Common.{◌≡◌, ℕ, zero, suc, ◌+◌, ◌-◌, ◌*◌, ◌<◌, ◌≤◌, ◌&&◌, leb, ltb, eqb, Bool, true, false, cond, List, [], ◌∷◌, ◌++◌, length, map, take, sum_by, Option, Some, None, ◌⊎◌, inl, inr, refl, sym, ◌∙◌, ap, subst, arith}
-use Rattle.std.specs.Prelude.{nat_le, nat_lt, slice_get, get_or}
+use Rattle.std.proofs.Common.{◌≡◌, ℕ, ◌+◌, ◌-◌, ◌*◌, ◌<◌, ◌≤◌, ltb, eqb, Bool, true, false, cond, List, [], ◌∷◌, ◌++◌, length, map, take, sum_by, Option, Some, None, ◌⊎◌, inl, inr, refl, sym, ◌∙◌, ap, subst, arith}
+use Rattle.std.specs.Prelude.{nat_le, slice_get, get_or}
 use Rattle.std.specs.Option.{option_map}
-use Rattle.std.proofs.lemmas.Bool.{cond_both, cond-true, cond-false, cases_Bool, eqb-true, eqb-false, leb-true, leb-false, le-leb, lt-ltb, le-ltb, and_parts, eq-eqb, both_ways, and_from}
+use Rattle.std.proofs.lemmas.Bool.{cond_both, cond-true, eqb-true, leb-true, leb-false, le-leb, lt-ltb, and_parts, eq-eqb, both_ways, and_from}
 use Rattle.std.proofs.lemmas.List.{length_push, length-map, length-take-le, take-map}
 use Rattle.std.proofs.lemmas.Option.{slice_get-get_or, slice_get_within}
 use Rattle.sc_base.specs.Among.{Among, Each}
-use Rattle.sc_base.specs.Arc.{Arc, holds}
-use Rattle.sc_base.specs.Limits.{client_actor, most_nodes}
+use Rattle.sc_base.specs.Arc.{Arc}
+use Rattle.sc_base.specs.Limits.{client_actor}
 use Rattle.sc_base.specs.Operation.{key_of}
 use Rattle.sc_base.specs.Same.{same_draw}
 use Rattle.sc_base.specs.Text.{pos_of}
@@ -26,13 +26,13 @@ use Rattle.sc_mail.specs.declared.bodies.MailBody.{MailBody}
 use Rattle.sc_mail.specs.declared.bodies.MailBody.TheVariants.{Request, Answer, Prepare, Promise, Accept, Accepted, Nack, Learn, Ask, Install, TxPrepare, TxVote, TxOutcome, TxElsewhere, TxWatch, TxWatched, Told}
 use Rattle.sc_lookup.specs.Known.{KnownGroups, chosen, target_in, told_not_mine}
 use Rattle.sc_client_table.specs.Client.{Client, request_at, waiting_request}
-use Rattle.sc_client_table.specs.Table.{ClientStep, request_of, asked_of, sent_to, sent_where, chosen_for, request_sent, started, waits_for, was_asked, redirected, answer_taken, got, table}
+use Rattle.sc_client_table.specs.Table.{ClientStep, asked_of, sent_where, chosen_for, request_sent, started, waits_for, was_asked, answer_taken, got, table}
 use Rattle.sc_scenario.specs.declared.scenarios.Asks.{Asks}
 use Rattle.sc_budget_law.specs.Frames.{Frame}
-use Rattle.sc_budget_law.specs.Owed.{answer_owes, body_owes, mail_owes, waiting_ones, begun_ones, client_owes}
+use Rattle.sc_budget_law.specs.Owed.{body_owes, mail_owes, waiting_ones, begun_ones, client_owes}
 use Rattle.sc_budget_law.specs.PlainClient.{way_of, IsWaiting, IsResting, IsPlainClient}
-use Rattle.sc_budget_law.specs.PlainMail.{Requests, IsPlainAnswer, IsPlainReply, IsPlainBody, IsPlainMail}
-use Rattle.sc_budget_law.proofs.Knowing.{IsRound, IsChosenFrame, chosen_frame, target_leads, one_chosen, known_grows, front_frames}
+use Rattle.sc_budget_law.specs.PlainMail.{Requests, IsPlainBody, IsPlainMail}
+use Rattle.sc_budget_law.proofs.Knowing.{IsRound, chosen_frame, target_leads, one_chosen, known_grows, front_frames}
 use Rattle.sc_budget_law.proofs.Sends.{mail_of}
 
 some_is : {A : Type 0} {x y : A} → Some x ≡ Some y → x ≡ y
@@ -134,9 +134,21 @@ module _ (frames : List Frame) (round : IsRound frames) (asks : Asks) where
               some = k.some;
               low = k.low;
               known_are = k.known_are;
-              state = inr (g, record {
-                seq = seq; op = op; waits = k.waits; number = k.number; op_is = k.op_is; group = s.frame.core.id; target = s.frame.lead; asked = refl; chosen_is = s.chosen_is; target_is = s.target_is;
-              });
+              state = inr (
+                g,
+                record {
+                  seq = seq;
+                  op = op;
+                  waits = k.waits;
+                  number = k.number;
+                  op_is = k.op_is;
+                  group = s.frame.core.id;
+                  target = s.frame.lead;
+                  asked = refl;
+                  chosen_is = s.chosen_is;
+                  target_is = s.target_is;
+                },
+              );
             };
             said = (record { frame = s.frame; is_frame = s.is_frame; says = (refl, record { from_is = refl; to_is = refl; is_begun = b }) }, tt);
           },
@@ -183,9 +195,9 @@ module _ (frames : List Frame) (round : IsRound frames) (asks : Asks) where
     started_row =
         cond_both (nat_le seq (length client.requests)) (request_sent with_request) (record client { waiting = None }, []) (λ (x : ClientStep). ClientRow begun true x × (DidAsk x ⊎ DidEnd x))
         (λ t. (let le = leb-true seq (length client.requests) t in
-          let op = next_op le in
-          let r = ready_row begun true refl seq reached op.0 with_request (is_ready op.0 op.1) (is_begun le op.0 op.1) in
-          (r.0, inl r.1)))
+        let op = next_op le in
+        let r = ready_row begun true refl seq reached op.0 with_request (is_ready op.0 op.1) (is_begun le op.0 op.1) in
+        (r.0, inl r.1)))
         (λ f. (let past = leb-false seq (length client.requests) f in (
           record {
             plain = record { me_is = me_is; requests_are = requests_are; reached = reached; some = some; low = low; known_are = known_are; state = inl (record { waits = refl; replies = inr (refl, omega (arith, past, number, few)) }) };
@@ -200,9 +212,9 @@ module _ (frames : List Frame) (round : IsRound frames) (asks : Asks) where
     started_owes =
         cond_both (nat_le seq (length client.requests)) (request_sent with_request) (record client { waiting = None }, []) (λ (x : ClientStep). client_owes groups x.0 + sum_by mail_owes x.1 ≤ 29 * (length client.requests - (length client.replies + 0)) + cond (ltb (length client.replies) (length client.requests)) (2 * (groups - length client.known)) 0)
         (λ t. (let le = leb-true seq (length client.requests) t in
-          let op = next_op le in
-          let sent = sent_owes seq reached op.0 with_request (is_ready op.0 op.1) in
-          omega (arith, sent, le, number)))
+        let op = next_op le in
+        let sent = sent_owes seq reached op.0 with_request (is_ready op.0 op.1) in
+        omega (arith, sent, le, number)))
         (λ f. omega arith)
 
   -- ---- each mail
@@ -369,7 +381,7 @@ module _ (frames : List Frame) (round : IsRound frames) (asks : Asks) where
     answered_by group seq answer e (inr (g, w)) =
         cond_both (waits_for client.waiting seq) (answer_taken mail.from group seq answer client) (client, []) TakesMail
         (λ t. (let same : w.seq ≡ seq = eqb-true w.seq seq (ap (λ (o : Option ℕ). waits_for o seq) (sym w.waits) ∙ t) in
-          subst (λ n. TakesMail (answer_taken mail.from group n answer client)) same (waited g w group answer (e ∙ ap (λ n. Answer group n answer) (sym same)))))
+        subst (λ n. TakesMail (answer_taken mail.from group n answer client)) same (waited g w group answer (e ∙ ap (λ n. Answer group n answer) (sym same)))))
         (λ f. not_waited group seq answer e f)
 
     other_mail : ((group : Draw) (seq : ℕ) (answer : AnswerBody) → mail.body ≡ Answer group seq answer → ⊥) → TakesMail (client, [])

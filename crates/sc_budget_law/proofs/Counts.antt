@@ -1,7 +1,7 @@
 -- How many values stand at a slot, when one is taken out or put in.
-use Rattle.std.proofs.Common.{◌≡◌, ℕ, ◌+◌, ◌<◌, ◌≤◌, eqb, ltb, Bool, true, false, cond, List, [], ◌∷◌, ◌++◌, length, count_by, Option, Some, None, ◌⊎◌, inl, inr, refl, sym, ◌∙◌, ap, subst, arith}
-use Rattle.std.specs.Prelude.{find, is_some}
-use Rattle.std.proofs.lemmas.Bool.{cond_both, cases_Bool, eqb-true, eq-eqb, ne_eqb, both_ways, cases_lt, cond-true, cond-false}
+use Rattle.std.proofs.Common.{◌≡◌, ℕ, ◌+◌, ◌≤◌, eqb, ltb, Bool, true, false, cond, List, [], ◌∷◌, ◌++◌, length, count_by, Some, None, inl, inr, refl, sym, ◌∙◌, ap, subst, arith}
+use Rattle.std.specs.Prelude.{find}
+use Rattle.std.proofs.lemmas.Bool.{cond_both, eqb-true, eq-eqb, ne_eqb, both_ways, cases_lt, cond-true, cond-false}
 use Rattle.std.proofs.lemmas.List.Sums.{sum_by-cons, sum_by_push}
 use Rattle.sc_base.specs.Among.{Among, Each}
 use Rattle.sc_node_table.specs.Slots.{at_slot, with_slot}
@@ -76,8 +76,8 @@ module _ {X : Type 0} (key : X → ℕ) (out : ℕ → List X → List X) (none 
       let c = count-cons (λ y. eqb (key y) slot) x xs in
       through (λ l. standing slot l + 1 ≡ standing slot (x ∷ xs)) slot x xs (λ t. (let one = one_yes (eqb (key x) slot) t in omega (arith, c, one)))
       (λ f. (let no = one_no (eqb (key x) slot) f in
-        let less = out_here slot xs (omega (arith, c, e, no)) in
-        let d = count-cons (λ y. eqb (key y) slot) x (out slot xs) in omega (arith, c, d, no, less)))
+      let less = out_here slot xs (omega (arith, c, e, no)) in
+      let d = count-cons (λ y. eqb (key y) slot) x (out slot xs) in omega (arith, c, d, no, less)))
 
   pub out_other : (slot other : ℕ) (xs : List X) → (slot ≡ other → ⊥) → standing other (out slot xs) ≡ standing other xs
   out_other slot other [] ne = ap (standing other) (none slot)
@@ -120,8 +120,8 @@ at_found {V} (x ∷ es) slot v e =
     let c = count-cons (λ (y : ℕ × V). eqb y.0 slot) x es in
     cond_both (eqb x.0 slot) (Some x.1) (at_slot es slot) (λ o. o ≡ Some v → (1 ≤ entries_at slot (x ∷ es)) × Among (slot, v) (x ∷ es))
     (λ t k. (let one = one_yes (eqb x.0 slot) t in
-      let same : x.1 ≡ v = cc in
-      (omega (arith, c, one), inl (ap (λ n. (n, x.1)) (eqb-true x.0 slot t) ∙ ap (λ w. (slot, w)) same))))
+    let same : x.1 ≡ v = cc in
+    (omega (arith, c, one), inl (ap (λ n. (n, x.1)) (eqb-true x.0 slot t) ∙ ap (λ w. (slot, w)) same))))
     (λ f k. (let more = at_found es slot v k in let low = more.0 in (omega (arith, c, low), inr more.1))) e
 
 stands : {V : Type 0} (es : List (ℕ × V)) (slot : ℕ) (w : V) → Among (slot, w) es → 1 ≤ entries_at slot es
@@ -140,10 +140,10 @@ at_only {V} (x ∷ es) slot v w one e a =
     let c = count-cons (λ (y : ℕ × V). eqb y.0 slot) x es in
     cond_both (eqb x.0 slot) (Some x.1) (at_slot es slot) (λ o. o ≡ Some v → v ≡ w)
     (λ t k. (let here = one_yes (eqb x.0 slot) t in
-      let same : x.1 ≡ v = cc in
-      elim a [ inl is ↦ sym same ∙ ap (λ (p : ℕ × V). p.1) is | inr b ↦ (let more = stands es slot w b in absurd (omega (arith, c, here, one, more))) ]))
+    let same : x.1 ≡ v = cc in
+    elim a [ inl is ↦ sym same ∙ ap (λ (p : ℕ × V). p.1) is | inr b ↦ (let more = stands es slot w b in absurd (omega (arith, c, here, one, more))) ]))
     (λ f k. (let none = one_no (eqb x.0 slot) f in
-      elim a [ inl is ↦ absurd (both_ways (eqb x.0 slot) f (eq-eqb x.0 slot (ap (λ (p : ℕ × V). p.0) is))) | inr b ↦ at_only es slot v w (omega (arith, c, none, one)) k b ])) e
+    elim a [ inl is ↦ absurd (both_ways (eqb x.0 slot) f (eq-eqb x.0 slot (ap (λ (p : ℕ × V). p.0) is))) | inr b ↦ at_only es slot v w (omega (arith, c, none, one)) k b ])) e
 
 -- none stands there where none is found
 pub at_nothing : {V : Type 0} (es : List (ℕ × V)) (slot : ℕ) → at_slot es slot ≡ None → entries_at slot es ≡ 0
@@ -170,8 +170,8 @@ module _ {V : Type 0} (slot : ℕ) (v : V) where
       with_by (λ l. entries_at other l ≡ one_if (eqb slot other) + entries_at other (x ∷ es)) x es (λ t. (let one = one_yes (eqb x.0 slot) t in absurd (omega (arith, c, e, one))))
       (count-cons (λ (y : ℕ × V). eqb y.0 other) (slot, v) (x ∷ es))
       (let more = with_count es other (omega (arith, c, e)) in
-        let d = count-cons (λ (y : ℕ × V). eqb y.0 other) x es in
-        let f = count-cons (λ (y : ℕ × V). eqb y.0 other) x (with_slot es slot v) in omega (arith, more, d, f))
+      let d = count-cons (λ (y : ℕ × V). eqb y.0 other) x es in
+      let f = count-cons (λ (y : ℕ × V). eqb y.0 other) x (with_slot es slot v) in omega (arith, more, d, f))
 
   pub with_each : (P : ℕ × V → Type 0) (es : List (ℕ × V)) → P (slot, v) → Each P es → Each P (with_slot es slot v)
   with_each P [] p e = (p, tt)

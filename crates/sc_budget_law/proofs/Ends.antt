@@ -1,5 +1,5 @@
 -- No line of a plain scenario at its budget is cut off with mail pending.
-use Rattle.std.proofs.Common.{◌≡◌, ℕ, ◌+◌, ◌≤◌, List, [], ◌∷◌, map, arith}
+use Rattle.std.proofs.Common.{ℕ, ◌+◌, ◌≤◌, List, [], ◌∷◌, map, arith}
 use Rattle.sc_base.specs.Among.{Each}
 use Rattle.sc_cmd.specs.declared.orders.OrderLine.{OrderLine}
 use Rattle.sc_mail.specs.declared.bodies.AnswerBody.TheVariants.{Value, NotLeader, NotMine, Gone, Stale}
@@ -18,7 +18,7 @@ use Rattle.sc_sound.specs.Players.{Player, line_of, schedule, system_of, as_node
 use Rattle.sc_orderly_law.specs.Orderly.{IsPlainLine}
 use Rattle.sc_orderly_law.specs.Owing.{HasRoom, owed_at_birth}
 use Rattle.sc_orderly_law.proofs.Settling.{never_cut_by}
-use Rattle.sc_budget_law.specs.Budget.{AllowsDeliveries, budget_of, IsAtBudget}
+use Rattle.sc_budget_law.specs.Budget.{AllowsDeliveries, budget_of}
 use Rattle.sc_budget_law.specs.Owed.{body_owes, mail_owes}
 use Rattle.sc_budget_law.specs.Laws.{PlainLinesEndQuiet}
 use Rattle.sc_budget_law.proofs.AtBirth.{birth_within, birth_few, journal_at_birth}

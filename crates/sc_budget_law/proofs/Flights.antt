@@ -1,22 +1,18 @@
 -- What a vote makes of the flights, and of those that voted.
-use Rattle.std.proofs.Common.{◌≡◌, ℕ, zero, suc, ◌+◌, ◌-◌, ◌*◌, ◌<◌, ◌≤◌, ◌||◌, not, leb, ltb, eqb, Bool, true, false, cond, List, [], ◌∷◌, ◌++◌, length, map, filter, count_by, Option, Some, None, ◌⊎◌, inl, inr, refl, sym, ◌∙◌, ap, subst, arith}
-use Rattle.std.specs.Prelude.{find, slice_get}
-use Rattle.std.specs.List.{list_any}
+use Rattle.std.proofs.Common.{◌≡◌, ℕ, zero, suc, ◌+◌, ◌*◌, ◌<◌, ◌≤◌, ◌||◌, not, ltb, eqb, Bool, true, false, cond, List, [], ◌∷◌, ◌++◌, length, map, filter, count_by, Option, Some, None, inl, inr, refl, sym, ◌∙◌, ap, subst, arith}
+use Rattle.std.specs.Prelude.{slice_get}
 use Rattle.std.proofs.lemmas.Bool.{cond_both, cond-true, cond-false, cases_Bool, cases_order, eqb-true, eq-eqb, ne_eqb, lt-ltb, both_ways, or_cases, or_parts, or_left}
-use Rattle.std.proofs.lemmas.List.Sums.{count_by-le-length}
-use Rattle.std.proofs.lemmas.List.{length-append}
 use Rattle.sc_base.specs.Among.{Among, Each}
 use Rattle.sc_cmd.specs.declared.commands.Command.{Command}
 use Rattle.sc_member.specs.Majority.{votes_of, is_majority}
 use Rattle.sc_member.specs.Roster.{is_member, with_member, IsRoster}
 use Rattle.sc_member.proofs.UnionLemmas.{count_united}
-use Rattle.sc_member.specs.Union.{with_any, united}
 use Rattle.sc_paxos_words.specs.declared.flights.Flight.{Flight}
 use Rattle.sc_paxos_words.specs.Leaders.{flight_at, without_flight}
 use Rattle.sc_paxos_words.specs.Votes.{kept_voters, add_voter, voters_after, with_voters}
 use Rattle.sc_paxos_words.proofs.ListLemmas.{Among-filter}
 use Rattle.sc_node_table.specs.Slots.{numbers_from}
-use Rattle.sc_budget_law.proofs.Counts.{one_if, one_yes, one_no, count-cons}
+use Rattle.sc_budget_law.proofs.Counts.{one_yes, one_no, count-cons}
 use Rattle.sc_budget_law.proofs.Leading.{flights_at}
 use Rattle.sc_budget_law.proofs.Sends.{member_among, member_or_among}
 
@@ -70,7 +66,7 @@ module _ (slot : ℕ) (voters : Option (List ℕ)) where
   voted_others other (f ∷ fs) ne =
       voted_by (λ l. flight_at other l ≡ flight_at other (f ∷ fs)) f fs
       (λ t. (let past : eqb f.slot other ≡ false = ne_eqb f.slot other (λ e. ne (sym e ∙ eqb-true f.slot slot t)) in
-        cond-false (eqb f.slot other) (Some (record f { voters = voters })) (flight_at other fs) past ∙ sym (cond-false (eqb f.slot other) (Some f) (flight_at other fs) past)))
+      cond-false (eqb f.slot other) (Some (record f { voters = voters })) (flight_at other fs) past ∙ sym (cond-false (eqb f.slot other) (Some f) (flight_at other fs) past)))
       (λ _. ap (λ (o : Option (Flight Command)). cond (eqb f.slot other) (Some f) o) (voted_others other fs ne))
 
   pub voted_here : (fs : Flights) (f : Flight Command) → flight_at slot fs ≡ Some f → flight_at slot (with_voters slot voters fs) ≡ Some (record f { voters = voters })
@@ -78,7 +74,7 @@ module _ (slot : ℕ) (voters : Option (List ℕ)) where
   voted_here (x ∷ fs) f e =
       voted_by (λ l. flight_at slot l ≡ Some (record f { voters = voters })) x fs
       (λ t. (let same : x ≡ f = some_is (sym (cond-true (eqb x.slot slot) (Some x) (flight_at slot fs) t) ∙ e) in
-        cond-true (eqb x.slot slot) (Some (record x { voters = voters })) (flight_at slot fs) t ∙ ap (λ (y : Flight Command). Some (record y { voters = voters })) same))
+      cond-true (eqb x.slot slot) (Some (record x { voters = voters })) (flight_at slot fs) t ∙ ap (λ (y : Flight Command). Some (record y { voters = voters })) same))
       (λ n. cond-false (eqb x.slot slot) (Some x) (flight_at slot (with_voters slot voters fs)) n ∙ voted_here fs f (sym (cond-false (eqb x.slot slot) (Some x) (flight_at slot fs) n) ∙ e))
 
 -- where one flight has a slot, that one is found there
@@ -88,9 +84,9 @@ only_flight slot (x ∷ fs) f g one e a at =
     let c = count-cons (λ (y : Flight Command). eqb y.slot slot) x fs in
     cond_both (eqb x.slot slot) (Some x) (flight_at slot fs) (λ o. o ≡ Some f → f ≡ g)
     (λ t k. (let here = one_yes (eqb x.slot slot) t in
-      elim a [ inl is ↦ sym (some_is k) ∙ is | inr b ↦ (let more = flight_stands slot fs g b at in absurd (omega (arith, c, here, one, more))) ]))
+    elim a [ inl is ↦ sym (some_is k) ∙ is | inr b ↦ (let more = flight_stands slot fs g b at in absurd (omega (arith, c, here, one, more))) ]))
     (λ n k. (let none = one_no (eqb x.slot slot) n in
-      elim a [ inl is ↦ absurd (both_ways (eqb x.slot slot) n (eq-eqb x.slot slot (ap (λ (y : Flight Command). y.slot) is ∙ at))) | inr b ↦ only_flight slot fs f g (omega (arith, c, none, one)) k b at ])) e
+    elim a [ inl is ↦ absurd (both_ways (eqb x.slot slot) n (eq-eqb x.slot slot (ap (λ (y : Flight Command). y.slot) is ∙ at))) | inr b ↦ only_flight slot fs f g (omega (arith, c, none, one)) k b at ])) e
   where
     flight_stands : (slot : ℕ) (fs : Flights) (g : Flight Command) → Among g fs → g.slot ≡ slot → 1 ≤ flights_at slot fs
     flight_stands slot [] g a at = absurd a

@@ -1,21 +1,19 @@
 -- The groups that a client of a plain journal knows: the first ones round the circle. Where the chosen one lacks a key, its successor is the first that is not known.
-use Rattle.std.proofs.Common.{◌≡◌, ℕ, zero, suc, ◌+◌, ◌-◌, ◌%◌, ◌^◌, ◌<◌, ◌≤◌, leb, Bool, true, false, cond, List, [], ◌∷◌, ◌++◌, length, map, take, drop, fold, Option, Some, None, ◌⊎◌, inl, inr, refl, sym, ◌∙◌, ap, subst, arith, append_assoc, append-nil, take-append-drop, length-append}
+use Rattle.std.proofs.Common.{◌≡◌, ℕ, suc, ◌+◌, ◌<◌, ◌≤◌, leb, false, List, [], ◌∷◌, ◌++◌, length, map, take, drop, fold, Option, Some, None, ◌⊎◌, inl, inr, refl, sym, ◌∙◌, ap, subst, arith, append_assoc, take-append-drop, length-append}
 use Rattle.std.specs.Prelude.{is_some}
 use Rattle.std.specs.Option.{option_map}
-use Rattle.std.specs.Map.{lookup, set_value}
 use Rattle.std.proofs.lemmas.Bool.{cond_both, cond-true, cond-false, leb-true, leb-false, cases_Bool, both_ways}
 use Rattle.std.proofs.lemmas.Map.Steps.{set_value_same}
 use Rattle.std.proofs.lemmas.List.{length-take-le, take-map}
 use Rattle.sc_base.specs.Among.{Among, Each}
-use Rattle.sc_base.specs.Arc.{Arc, holds, end_of}
+use Rattle.sc_base.specs.Arc.{holds, end_of}
 use Rattle.sc_base.specs.Same.{same_draw}
 use Rattle.sc_base.specs.declared.names.Draw.{Draw}
 use Rattle.sc_base.proofs.NameLemmas.{draw_is, same_name}
-use Rattle.sc_cmd.specs.declared.links.Link.{Link}
 use Rattle.sc_member.specs.Roster.{least_of}
-use Rattle.sc_paxos_words.proofs.ListLemmas.{Each-among, Each-split}
+use Rattle.sc_paxos_words.proofs.ListLemmas.{Each-among}
 use Rattle.sc_lookup.specs.declared.ways.Way.{Way}
-use Rattle.sc_lookup.specs.Ways.{far, new_way, target_of}
+use Rattle.sc_lookup.specs.Ways.{far, target_of}
 use Rattle.sc_lookup.specs.Known.{KnownGroups, way_to, nearer, better, chosen, target_in, changed, starting, group_learnt, told_not_mine}
 use Rattle.sc_budget_law.specs.Frames.{Frame, AreNamedApart}
 use Rattle.sc_budget_law.specs.PlainClient.{way_of}
@@ -33,13 +31,13 @@ best_is p [] best e k = (let same : best ≡ e = cc in record { stands = inl (sy
 best_is p (x ∷ known) best e k =
     cond_both (leb (far p x.1) (far p best.1)) x best (λ y. fold (better p) (Some y) known ≡ Some e → IsBest p best (x ∷ known) e)
     (λ t h. (let more = best_is p known x e h in
-      let near = leb-true (far p x.1) (far p best.1) t in
-      let low = more.low in
-      record { stands = elim (more.stands) [ inl same ↦ inr (inl (sym same)) | inr a ↦ inr (inr a) ]; low = omega (arith, near, low); each = (low, more.each) }))
+    let near = leb-true (far p x.1) (far p best.1) t in
+    let low = more.low in
+    record { stands = elim (more.stands) [ inl same ↦ inr (inl (sym same)) | inr a ↦ inr (inr a) ]; low = omega (arith, near, low); each = (low, more.each) }))
     (λ f h. (let more = best_is p known best e h in
-      let away = leb-false (far p x.1) (far p best.1) f in
-      let low = more.low in
-      record { stands = elim (more.stands) [ inl same ↦ inl same | inr a ↦ inr (inr a) ]; low = low; each = (omega (arith, away, low), more.each) })) k
+    let away = leb-false (far p x.1) (far p best.1) f in
+    let low = more.low in
+    record { stands = elim (more.stands) [ inl same ↦ inl same | inr a ↦ inr (inr a) ]; low = low; each = (omega (arith, away, low), more.each) })) k
 
 -- the group that is chosen is known, and none is nearer
 record IsChosen (p : ℕ) (known : KnownGroups) (group : Draw) : Type 0 where
@@ -172,7 +170,7 @@ module _ (frames : List Frame) (round : IsRound frames) (reached : ℕ) (low : r
         is_frame = f.1;
         name = ap (λ (x : Draw × Way). x.0) f.2 ∙ c.name;
         each = λ other a. (let le = Each-among (λ (x : Draw × Way). far p c.entry.1 ≤ far p x.1) (map way_of front) (way_of other) c.each (map_among way_of front other a) in
-          let same = ap (λ (x : Draw × Way). far p x.1) f.2 in omega (arith, le, same));
+            let same = ap (λ (x : Draw × Way). far p x.1) f.2 in omega (arith, le, same));
       }
 
   pub way_in : (frame : Frame) → Among frame front → way_to frame.core.id (map way_of front) ≡ Some (way_of frame).1
@@ -246,4 +244,3 @@ module _ (frames : List Frame) (round : IsRound frames) (reached : ℕ) (low : r
       let split = parts_of front frame in_front in
       let whole : frames ≡ split.0 ++ frame ∷ (split.1 ++ back) = parts ∙ ap (λ (l : List Frame). l ++ back) split.2 ∙ append_assoc split.0 (frame ∷ split.1) back in
       behind p frame in_front (λ other b. (let le = c.each other b in let is = ap (λ (f : Frame). far p (way_of f).1) same in omega (arith, le, is))) lacks split.0 split.1 back refl split.2 whole
-

@@ -1,27 +1,25 @@
 -- What holds of the leading replica of a plain group, with the mails of its row so far.
-use Rattle.std.proofs.Common.{◌≡◌, ℕ, zero, suc, ◌+◌, ◌-◌, ◌*◌, ◌<◌, ◌≤◌, ◌&&◌, ◌||◌, not, leb, ltb, eqb, Bool, true, false, cond, List, [], ◌∷◌, ◌++◌, length, map, count_by, sum_by, Option, Some, None, ◌⊎◌, inl, inr, refl, sym, ◌∙◌, ap, subst, arith, append_assoc, append-nil}
-use Rattle.std.specs.Prelude.{find, is_some, nat_le, nat_lt}
+use Rattle.std.proofs.Common.{◌≡◌, ℕ, ◌+◌, ◌-◌, ◌<◌, ◌≤◌, ◌&&◌, ◌||◌, leb, ltb, eqb, Bool, true, false, List, [], ◌∷◌, ◌++◌, count_by, sum_by, Option, Some, None, ◌⊎◌, inl, inr, refl, ◌∙◌, ap, arith}
+use Rattle.std.specs.Prelude.{is_some, nat_le, nat_lt}
 use Rattle.std.specs.List.{list_any}
 use Rattle.std.specs.Option.{option_map}
-use Rattle.std.proofs.lemmas.Bool.{cond_both, cases_Bool, cond-true, cond-false, cases_lt, cases_eq, le-leb, lt-leb, lt-ltb, le-ltb, eq-eqb, ne_eqb, and_from, and_left, and_right, or_parts, or_from}
-use Rattle.std.proofs.lemmas.List.{length_push}
+use Rattle.std.proofs.lemmas.Bool.{cases_lt, cases_eq, le-leb, lt-leb, lt-ltb, le-ltb, eq-eqb, ne_eqb, and_from, and_left, and_right, or_parts, or_from}
 use Rattle.sc_base.specs.Among.{Among, Each}
 use Rattle.sc_base.specs.Limits.{client_actor}
-use Rattle.sc_base.specs.declared.names.Ballot.{Ballot}
 use Rattle.sc_base.specs.declared.ops.Op.{Op}
 use Rattle.sc_cmd.specs.declared.commands.Command.{Command}
 use Rattle.sc_cmd.specs.declared.commands.Command.TheVariants.{Call, Noop, Join, Leave, Split, Begin, Prepared, RecordVote, GiveUp, Finish, Watched, RecordWatch}
 use Rattle.sc_mail.specs.declared.bodies.AnswerBody.{AnswerBody}
 use Rattle.sc_mail.specs.declared.bodies.Mail.{Mail}
 use Rattle.sc_mail.specs.declared.bodies.MailBody.{MailBody}
-use Rattle.sc_mail.specs.declared.bodies.MailBody.TheVariants.{Request, Answer, Prepare, Promise, Accept, Accepted, Nack, Learn, Ask, Install, TxPrepare, TxVote, TxOutcome, TxElsewhere, TxWatch, TxWatched, Told}
+use Rattle.sc_mail.specs.declared.bodies.MailBody.TheVariants.{Answer, Accept, Learn}
 use Rattle.sc_member.specs.Roster.{is_member}
 use Rattle.sc_paxos_words.specs.declared.flights.Flight.{Flight}
 use Rattle.sc_paxos_words.specs.Leaders.{flight_at}
 use Rattle.sc_paxos_words.proofs.ListLemmas.{Each-among, find_found}
 use Rattle.sc_node_table.specs.Pump.{is_act}
 use Rattle.sc_node_table.specs.Replica.{ReplicaState, Place, next, flying, either, taken_at, listed, taken_from}
-use Rattle.sc_node_table.specs.Slots.{at_slot, numbers_from, slots_ahead}
+use Rattle.sc_node_table.specs.Slots.{at_slot, numbers_from}
 use Rattle.sc_budget_law.specs.Frames.{Frame}
 use Rattle.sc_budget_law.specs.Owed.{answer_owes, mail_owes, replica_owes}
 use Rattle.sc_budget_law.specs.PlainMail.{Requests, IsPlainCommand, IsPlainBody}
@@ -140,8 +138,8 @@ early_taken r taken a = all r.ready (λ entry among. (let some = entry_counts r.
     entry_counts [] entry m = absurd m
     entry_counts (e ∷ es) entry (inl same) =
         (let c = count-cons (λ (x : ℕ × Command). eqb x.0 entry.0) e es in
-          let one = one_yes (eqb e.0 entry.0) (eq-eqb e.0 entry.0 (ap (λ (x : ℕ × Command). x.0) same)) in
-          omega (arith, c, one))
+        let one = one_yes (eqb e.0 entry.0) (eq-eqb e.0 entry.0 (ap (λ (x : ℕ × Command). x.0) same)) in
+        omega (arith, c, one))
     entry_counts (e ∷ es) entry (inr m) = (let c = count-cons (λ (x : ℕ × Command). eqb x.0 entry.0) e es in let more = entry_counts es entry m in omega (arith, c, more))
 
     all : (es : List (ℕ × Command)) → ((entry : ℕ × Command) → Among entry es → entry.0 < next r + taken) → Each (λ (entry : ℕ × Command). entry.0 < next r + taken) es

@@ -36,3 +36,4 @@ mod Clients
 mod Round
 mod AtBirth
 mod Ends
+mod Bytes

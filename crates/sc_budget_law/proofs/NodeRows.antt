@@ -1,5 +1,5 @@
 -- What a plain node does with a plain mail: one of its replicas takes it.
-use Rattle.std.proofs.Common.{◌≡◌, ℕ, ◌+◌, ◌<◌, ◌≤◌, Bool, true, false, cond, List, [], ◌∷◌, sum_by, Option, Some, None, ◌⊎◌, inl, inr, refl, sym, ◌∙◌, ap, subst, arith}
+use Rattle.std.proofs.Common.{◌≡◌, ℕ, ◌+◌, ◌≤◌, true, List, [], sum_by, Option, Some, None, inl, inr, refl, sym, ◌∙◌, ap, subst, arith}
 use Rattle.std.proofs.lemmas.Bool.{cond-true, cases_Bool, both_ways}
 use Rattle.sc_base.specs.Among.{Among, Each}
 use Rattle.sc_base.specs.Limits.{client_actor}
@@ -21,7 +21,7 @@ use Rattle.sc_node_table.specs.Replica.{ReplicaState, Place, name_of, next, last
 use Rattle.sc_node_table.specs.Rows.{mailed}
 use Rattle.sc_node_table.specs.Slots.{slots_ahead}
 use Rattle.sc_budget_law.specs.Frames.{Frame, IsFrame, AreNamedApart}
-use Rattle.sc_budget_law.specs.Owed.{body_owes, mail_owes, replica_owes, node_owes}
+use Rattle.sc_budget_law.specs.Owed.{mail_owes, node_owes}
 use Rattle.sc_budget_law.specs.PlainMail.{Requests, IsPlainBody, IsPlainMail}
 use Rattle.sc_budget_law.specs.PlainNode.{IsPlainReplica, IsSettled, IsPlainOf, IsPlainNode}
 use Rattle.sc_budget_law.proofs.Replicas.{put_each, put_owes, put_found, put_others}

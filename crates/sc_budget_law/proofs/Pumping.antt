@@ -1,6 +1,6 @@
 -- What the leading replica of a plain group offers: its waiting calls, at the slots that are free, in their order.
-use Rattle.std.proofs.Common.{◌≡◌, ℕ, zero, suc, ◌+◌, ◌-◌, ◌*◌, ◌<◌, ◌≤◌, ◌&&◌, ◌||◌, not, leb, ltb, eqb, Bool, true, false, cond, List, [], ◌∷◌, ◌++◌, length, map, count_by, sum_by, Option, Some, None, ◌⊎◌, inl, inr, refl, sym, ◌∙◌, ap, subst, arith, append_assoc, append-nil}
-use Rattle.std.specs.Prelude.{is_some, nat_le, nat_lt}
+use Rattle.std.proofs.Common.{◌≡◌, ℕ, zero, suc, ◌+◌, ◌*◌, ◌<◌, ◌≤◌, ◌&&◌, not, leb, eqb, Bool, true, false, List, [], ◌∷◌, ◌++◌, length, map, sum_by, Option, Some, None, ◌⊎◌, inl, inr, refl, sym, ◌∙◌, ap, subst, arith, append_assoc}
+use Rattle.std.specs.Prelude.{is_some, nat_le}
 use Rattle.std.specs.List.{list_any}
 use Rattle.std.proofs.lemmas.Bool.{cond_both, cond-true, cond-false, cases_lt, cases_eq, le-leb, le-ltb, and_from, both_ways}
 use Rattle.std.proofs.lemmas.List.{length_push}
@@ -19,12 +19,9 @@ use Rattle.sc_mail.specs.declared.bodies.AnswerBody.{AnswerBody}
 use Rattle.sc_mail.specs.declared.bodies.Mail.{Mail}
 use Rattle.sc_mail.specs.declared.bodies.MailBody.{MailBody}
 use Rattle.sc_mail.specs.declared.bodies.MailBody.TheVariants.{Accept}
-use Rattle.sc_member.specs.Roster.{is_member}
 use Rattle.sc_member.specs.Majority.{votes_of, is_majority}
 use Rattle.sc_paxos_words.specs.declared.answers.Must.{Must}
-use Rattle.sc_paxos_words.specs.declared.answers.Must.TheVariants.{Free as Open}
 use Rattle.sc_paxos_words.specs.declared.flights.Flight.{Flight}
-use Rattle.sc_paxos_words.specs.Leaders.{must}
 use Rattle.sc_paxos_words.proofs.ListLemmas.{Each-push, Each-weaker}
 use Rattle.sc_node_table.specs.Mails.{sent_all, answered}
 use Rattle.sc_node_table.specs.Pump.{Found, is_act, serves_calls, waits, refused_by, turned_down, next_call, from_calls, from_acts, from_queues, found_by, found_for, offered, pumped_from, pumped}
@@ -33,9 +30,9 @@ use Rattle.sc_node_table.specs.Slots.{numbers_from, slots_ahead}
 use Rattle.sc_budget_law.specs.Frames.{Frame, IsFrame}
 use Rattle.sc_budget_law.specs.Owed.{mail_owes, replica_owes}
 use Rattle.sc_budget_law.specs.PlainMail.{Requests, IsPlainCommand, IsPlainCall}
-use Rattle.sc_budget_law.specs.PlainNode.{takers, AreTaken, IsPlainFlight, IsPlainLeader, IsPlainReplica}
+use Rattle.sc_budget_law.specs.PlainNode.{takers, IsPlainFlight, IsPlainLeader, IsPlainReplica}
 use Rattle.sc_budget_law.proofs.Counts.{one_if, one_yes, one_no, count-push}
-use Rattle.sc_budget_law.proofs.Leading.{in_range, range_yes, range_behind, range_more, takes, takes_not, no_acts, IsHeld, IsToldOf, IsSaid, IsNew, InRow, later_row, Leads}
+use Rattle.sc_budget_law.proofs.Leading.{in_range, range_yes, range_behind, range_more, takes, takes_not, no_acts, IsHeld, IsToldOf, IsSaid, IsNew, later_row, Leads}
 use Rattle.sc_budget_law.proofs.Sends.{mail_of, all_each, all_owed, all_learns, all_kept, all_reached, among_push, last_among, member_or_among}
 
 -- ---- what is found in the queue
@@ -101,8 +98,8 @@ module _ (begun : Requests) (frame : Frame) (is : IsFrame frame) (first free : �
         found_calls
         ∙ ap (λ (found : Option Command × List Command × List Mail). (found.0, (record r { calls = found.1 }, found.2)))
         (ap (λ calls. next_call r.me (is_idle r) r.group.core calls mails) e
-          ∙ call_found r.me (is_idle r) r.group.core client seq op rest mails (ap (λ (core : Core). core.lock) k.plain.group.core_is ∙ is.free) (ap (λ (core : Core). core.gone) k.plain.group.core_is ∙ is.stands)
-            (ap (λ (core : Core). holds_key core.arc (key_of op)) k.plain.group.core_is ∙ c.held))
+        ∙ call_found r.me (is_idle r) r.group.core client seq op rest mails (ap (λ (core : Core). core.lock) k.plain.group.core_is ∙ is.free) (ap (λ (core : Core). core.gone) k.plain.group.core_is ∙ is.stands)
+        (ap (λ (core : Core). holds_key core.arc (key_of op)) k.plain.group.core_is ∙ c.held))
 
     find_nothing : r.calls ≡ [] → found_for slot (r, mails) ≡ (None, (record r { calls = [] }, mails))
     unfolding from_calls
@@ -144,7 +141,16 @@ module _ (begun : Requests) (frame : Frame) (is : IsFrame frame) (first free : �
     offered_plain : IsPlainReplica begun frame frame.lead after.0
     unfolding after offered
     offered_plain = (let p = k.plain in record {
-      me_is = p.me_is; group = p.group; hint_is = p.hint_is; top_is = p.top_is; promised_is = p.promised_is; floor_low = p.floor_low; begins = p.begins; sets_are = p.sets_are; acts = p.acts; waits = p.waits;
+      me_is = p.me_is;
+      group = p.group;
+      hint_is = p.hint_is;
+      top_is = p.top_is;
+      promised_is = p.promised_is;
+      floor_low = p.floor_low;
+      begins = p.begins;
+      sets_are = p.sets_are;
+      acts = p.acts;
+      waits = p.waits;
     })
 
     offered_leader : IsPlainLeader begun frame (taken + 1) after.0
@@ -183,7 +189,7 @@ module _ (begun : Requests) (frame : Frame) (is : IsFrame frame) (first free : �
         let more = k.more in
         all_each r.me (Accept (name_of r) r.leader.ballot slot (Call client seq op)) (IsSaid begun frame first free (next r) (next r + (taken + 1))) (frame.at slot) mails
         (Each-weaker (IsSaid begun frame first free (next r) (next r + taken)) (IsSaid begun frame first free (next r) (next r + (taken + 1)))
-          (λ mail s. record { plain = s.plain; in_row = later_row first free (next r) (next r + taken) (next r) (next r + (taken + 1)) mail.body (omega arith) (omega arith) s.in_row }) mails k.said)
+        (λ mail s. record { plain = s.plain; in_row = later_row first free (next r) (next r + taken) (next r) (next r + (taken + 1)) mail.body (omega arith) (omega arith) s.in_row }) mails k.said)
         (λ node a. record {
           plain = (name_is, k.leader.ballot_is, record { from_is = k.plain.me_is; to_in = member_or_among node (frame.at slot) a; is_call = calls_plain.0 });
           in_row = (omega (arith, at, more), omega (arith, at));
@@ -208,24 +214,27 @@ module _ (begun : Requests) (frame : Frame) (is : IsFrame frame) (first free : �
     offered_calls c n w =
         elim (k.calls c n w) [
           | inr told ↦ inr (record {
-              number = told.number; answer = told.answer; later = told.later; owes = told.owes;
-              told = all_kept r.me (Accept (name_of r) r.leader.ballot slot (Call client seq op)) (frame.at slot) mails _ told.told;
-            })
+            number = told.number;
+            answer = told.answer;
+            later = told.later;
+            owes = told.owes;
+            told = all_kept r.me (Accept (name_of r) r.leader.ballot slot (Call client seq op)) (frame.at slot) mails _ told.told;
+          })
           | inl is_held ↦ inl (record {
-              number = is_held.number;
-              op = is_held.op;
-              later = is_held.later;
-              where_ = elim (is_held.where_) [
-                | inl a ↦ elim (subst (Among (Call c is_held.number is_held.op)) e a) [
-                  | inl same ↦ inr (inl (record { slot = slot; value = Call client seq op; voters = None }, last_among r.leader.flights (record { slot = slot; value = Call client seq op; voters = None }), same))
-                  | inr b ↦ inl b
-                ]
-                | inr o ↦ elim o [
-                  | inl f ↦ inr (inl (f.0, among_push r.leader.flights (record { slot = slot; value = Call client seq op; voters = None }) f.0 f.1, f.2))
-                  | inr entry ↦ inr (inr entry)
-                ]
-              ];
-            })
+            number = is_held.number;
+            op = is_held.op;
+            later = is_held.later;
+            where_ = elim (is_held.where_) [
+              | inl a ↦ elim (subst (Among (Call c is_held.number is_held.op)) e a) [
+                | inl same ↦ inr (inl (record { slot = slot; value = Call client seq op; voters = None }, last_among r.leader.flights (record { slot = slot; value = Call client seq op; voters = None }), same))
+                | inr b ↦ inl b
+              ]
+              | inr o ↦ elim o [
+                | inl f ↦ inr (inl (f.0, among_push r.leader.flights (record { slot = slot; value = Call client seq op; voters = None }) f.0 f.1, f.2))
+                | inr entry ↦ inr (inr entry)
+              ]
+            ];
+          })
         ]
 
     offered_leads : L (taken + 1) after
@@ -323,7 +332,7 @@ module _ (begun : Requests) (frame : Frame) (is : IsFrame frame) (first free : �
             absurd (both_ways (is_some (taken_at r slot)) f (takes r slot (omega (arith, one, within)))))
         | inr over ↦ cond_both (may_offer r (frame.at slot)) _ _ (IsPumped (r, mails))
             (λ _. turn slot taken (map frame.at (numbers_from (slot + 1) count)) r mails r.calls refl (omega (arith, over, high)) (omega (arith, end, high, over)) k
-              (λ place same l. (let n = same in pump_all count (slot + 1) (taken + 1) place (omega (arith, end, n)) (omega (arith, low, n)) (omega (arith, high, n)) l)))
+            (λ place same l. (let n = same in pump_all count (slot + 1) (taken + 1) place (omega (arith, end, n)) (omega (arith, low, n)) (omega (arith, high, n)) l)))
             (λ no. absurd (both_ways (may_offer r (frame.at slot)) no (k.leader.may slot)))
       ])
 
@@ -336,6 +345,6 @@ module _ (begun : Requests) (frame : Frame) (is : IsFrame frame) (first free : �
       cond_both (settled r && nat_le (next r) last_slot) (pumped_from (next r) r.sets (r, mails)) (r, mails) (IsPumped (r, mails))
       (λ _. subst (λ (l : List (List ℕ)). IsPumped (r, mails) (pumped_from (next r) l (r, mails))) (sym sets) (pump_all slots_ahead (next r) taken (r, mails) refl (omega arith) (omega arith) k))
       (λ no. absurd (both_ways (settled r && nat_le (next r) last_slot) no
-        (and_from (settled r) (leb (next r) last_slot)
-          (and_from r.running (may_offer r (first_set r.sets)) k.leader.running (ap (λ (l : List (List ℕ)). may_offer r (first_set l)) sets ∙ k.leader.may (next r)))
-          (le-leb (next r) last_slot (omega (arith, reached, room))))))
+      (and_from (settled r) (leb (next r) last_slot)
+      (and_from r.running (may_offer r (first_set r.sets)) k.leader.running (ap (λ (l : List (List ℕ)). may_offer r (first_set l)) sets ∙ k.leader.may (next r)))
+      (le-leb (next r) last_slot (omega (arith, reached, room))))))

@@ -1,7 +1,7 @@
 -- What a replica of a plain group does with each mail, that it stays plain, and that less is owed after it.
-use Rattle.std.proofs.Common.{◌≡◌, ℕ, ◌+◌, ◌<◌, ◌≤◌, ◌&&◌, Bool, true, false, List, [], ◌∷◌, sum_by, Option, Some, None, ◌⊎◌, inl, inr, refl, sym, ◌∙◌, ap, subst, arith}
+use Rattle.std.proofs.Common.{◌≡◌, ℕ, ◌+◌, ◌≤◌, ◌&&◌, true, false, List, [], ◌∷◌, sum_by, ◌⊎◌, inl, inr, refl, sym, ◌∙◌, ap, subst, arith}
 use Rattle.std.proofs.lemmas.Bool.{cases_Bool, and_left, and_right}
-use Rattle.sc_base.specs.Among.{Among, Each}
+use Rattle.sc_base.specs.Among.{Each}
 use Rattle.sc_base.specs.Limits.{client_actor}
 use Rattle.sc_base.specs.declared.names.Ballot.{Ballot}
 use Rattle.sc_base.specs.declared.names.Draw.{Draw}
@@ -9,26 +9,24 @@ use Rattle.sc_base.specs.declared.ops.Op.{Op}
 use Rattle.sc_ideal.specs.IdealStore.{key_of, holds_key}
 use Rattle.sc_cmd.specs.declared.commands.Command.{Command}
 use Rattle.sc_cmd.specs.declared.commands.Command.TheVariants.{Call}
-use Rattle.sc_cmd.specs.declared.cores.Base.{Base}
 use Rattle.sc_mail.specs.declared.bodies.AnswerBody.TheVariants as Says
 use Rattle.sc_mail.specs.declared.bodies.Mail.{Mail}
 use Rattle.sc_mail.specs.declared.bodies.MailBody.{MailBody}
 use Rattle.sc_mail.specs.declared.bodies.MailBody.TheVariants.{Request, Answer, Prepare, Promise, Accept, Accepted, Nack, Learn, Ask, Install, TxPrepare, TxVote, TxOutcome, TxElsewhere, TxWatch, TxWatched, Told}
 use Rattle.sc_member.specs.Roster.{is_member}
-use Rattle.sc_paxos_words.specs.declared.flights.Flight.{Flight}
 use Rattle.sc_paxos_words.specs.Ballots.{below}
 use Rattle.sc_paxos_words.proofs.BallotLemmas.{at_least_itself}
 use Rattle.sc_paxos_words.proofs.ListLemmas.{Each-weaker}
 use Rattle.sc_node_table.specs.Births.{mailed_children}
 use Rattle.sc_node_table.specs.Replica.{ReplicaState, Place, next, last_slot}
-use Rattle.sc_node_table.specs.Rows.{request_row, mailed}
+use Rattle.sc_node_table.specs.Rows.{mailed}
 use Rattle.sc_node_table.specs.Slots.{slots_ahead}
 use Rattle.sc_budget_law.specs.Frames.{Frame, IsFrame}
 use Rattle.sc_budget_law.specs.Owed.{body_owes, mail_owes, replica_owes}
-use Rattle.sc_budget_law.specs.PlainMail.{Requests, IsPlainCall, IsPlainCommand, IsPlainBody, IsPlainRequest, IsPlainAccept, IsPlainLearn}
+use Rattle.sc_budget_law.specs.PlainMail.{Requests, IsPlainCall, IsPlainCommand, IsPlainBody}
 use Rattle.sc_budget_law.specs.PlainNode.{AreTaken, IsPlainLeader, IsPlainFollower, IsPlainReplica, HasOffered, IsLeading, IsSettled}
 use Rattle.sc_budget_law.proofs.Asking.{request_refused, request_run}
-use Rattle.sc_budget_law.proofs.Leading.{IsHeld, IsToldOf, IsSaid}
+use Rattle.sc_budget_law.proofs.Leading.{IsHeld, IsSaid}
 use Rattle.sc_budget_law.proofs.Pumping.{call_is}
 use Rattle.sc_budget_law.proofs.Running.{IsRun}
 use Rattle.sc_budget_law.proofs.Sends.{mail_of}
@@ -116,24 +114,28 @@ module _ (begun : Requests) (frame : Frame) (is : IsFrame frame) where
         elim (cases_Bool (holds_key frame.core.arc (key_of op))) [
           | inl h ↦ (
               let run = request_run begun frame is k.taken r p k.leader k.done (open_room k.taken k.leader) client seq op (record { is_begun = b; held = h }) in
-              let owed = run.leads.owed in
-              (record {
-                plain = run.leads.plain;
-                settled = inl (refl, record { taken = run.taken; leader = run.leads.leader; done = run.done });
-                said = said_plain _ _ _ _ _ run.leads.said;
-                owed = omega (arith, owed);
-                does = (refl, inr (record { taken = k.taken; plain = p; leader = k.leader; done = k.done; run = run }));
-              }, refl))
+              let owed = run.leads.owed in (
+                record {
+                  plain = run.leads.plain;
+                  settled = inl (refl, record { taken = run.taken; leader = run.leads.leader; done = run.done });
+                  said = said_plain _ _ _ _ _ run.leads.said;
+                  owed = omega (arith, owed);
+                  does = (refl, inr (record { taken = k.taken; plain = p; leader = k.leader; done = k.done; run = run }));
+                },
+                refl,
+              ))
           | inr f ↦ (
               let place_is = request_refused begun frame is k.taken r p k.leader client seq op f in
-              let after : Place = (r, mail_of frame.lead (client_actor client) (Answer frame.core.id seq (Says.NotMine frame.core.arc frame.core.succ)) ∷ []) in
-              (subst (ReplicaRow frame.lead r from (Request group client seq op)) (sym place_is) (record {
-                plain = p;
-                settled = inl (refl, k);
-                said = ((refl, record { client = client; op = op; from_is = refl; to_is = refl; is_begun = b; says = (f, refl, refl) }), tt);
-                owed = omega arith;
-                does = (refl, inl (record { lacks = f; place_is = refl }));
-              }), refl))
+              let after : Place = (r, mail_of frame.lead (client_actor client) (Answer frame.core.id seq (Says.NotMine frame.core.arc frame.core.succ)) ∷ []) in (
+                subst (ReplicaRow frame.lead r from (Request group client seq op)) (sym place_is) (record {
+                  plain = p;
+                  settled = inl (refl, k);
+                  said = ((refl, record { client = client; op = op; from_is = refl; to_is = refl; is_begun = b; says = (f, refl, refl) }), tt);
+                  owed = omega arith;
+                  does = (refl, inl (record { lacks = f; place_is = refl }));
+                }),
+                refl,
+              ))
         ]
 
     -- ---- a vote
@@ -143,14 +145,16 @@ module _ (begun : Requests) (frame : Frame) (is : IsFrame frame) where
     vote_leading group slot p k m =
         let counted = accepted_counted begun frame is k.taken r p k.leader k.done (open_room k.taken k.leader) from slot m in
         let run = counted.run in
-        let owed = run.leads.owed in
-        (record {
-          plain = run.leads.plain;
-          settled = inl (refl, record { taken = run.taken; leader = run.leads.leader; done = run.done });
-          said = said_plain _ _ _ _ _ run.leads.said;
-          owed = omega (arith, owed);
-          does = (refl, record { taken = k.taken; plain = p; leader = k.leader; done = k.done; room = open_room k.taken k.leader; counted = counted });
-        }, accepted_none begun frame is k.taken r p k.leader k.done (open_room k.taken k.leader) from slot m [])
+        let owed = run.leads.owed in (
+          record {
+            plain = run.leads.plain;
+            settled = inl (refl, record { taken = run.taken; leader = run.leads.leader; done = run.done });
+            said = said_plain _ _ _ _ _ run.leads.said;
+            owed = omega (arith, owed);
+            does = (refl, record { taken = k.taken; plain = p; leader = k.leader; done = k.done; room = open_room k.taken k.leader; counted = counted });
+          },
+          accepted_none begun frame is k.taken r p k.leader k.done (open_room k.taken k.leader) from slot m [],
+        )
 
     -- ---- an accept
 
@@ -168,14 +172,16 @@ module _ (begun : Requests) (frame : Frame) (is : IsFrame frame) where
     unfolding mailed mailed_children
     accept_any me group slot command p k f m low =
         let place_is = accept_is begun frame is me r p from slot command low (stays me k) in
-        let owes = accepted_owes begun frame is me r p slot command in
-        (subst (ReplicaRow me r from (Accept group frame.ballot slot command)) (sym place_is) (record {
-          plain = accepted_plain begun frame is me r p slot command;
-          settled = settled_still me slot command p k;
-          said = ((refl, refl, f, m), tt);
-          owed = omega (arith, owes);
-          does = record { sends = refl; next_is = accepted_next begun frame is me r p slot command; flights_are = accepted_flights begun frame is me r p slot command; held = accepted_held begun frame is me r p slot command; slots = accepted_slots begun frame is me r p slot command };
-        }), refl)
+        let owes = accepted_owes begun frame is me r p slot command in (
+          subst (ReplicaRow me r from (Accept group frame.ballot slot command)) (sym place_is) (record {
+            plain = accepted_plain begun frame is me r p slot command;
+            settled = settled_still me slot command p k;
+            said = ((refl, refl, f, m), tt);
+            owed = omega (arith, owes);
+            does = record { sends = refl; next_is = accepted_next begun frame is me r p slot command; flights_are = accepted_flights begun frame is me r p slot command; held = accepted_held begun frame is me r p slot command; slots = accepted_slots begun frame is me r p slot command };
+          }),
+          refl,
+        )
 
     -- ---- a decided command
 
@@ -186,14 +192,16 @@ module _ (begun : Requests) (frame : Frame) (is : IsFrame frame) where
         let low : next r ≤ last_slot = omega (arith, room) in
         let place_is = learn_is begun frame is me r p f is.leads client seq op c low from slot at in
         let after = learnt_follower begun frame is me r p f is.leads client seq op c low in
-        let owes = follower_owes (learnt_state begun frame is me r p f is.leads client seq op c low) after in
-        (subst (ReplicaRow me r from (Learn group slot (Call client seq op))) (sym place_is) (record {
-          plain = learnt_plain begun frame is me r p f is.leads client seq op c low;
-          settled = inr (ne, after);
-          said = tt;
-          owed = omega (arith, owes);
-          does = record { follows = ne; follower = f; sends = refl; next_is = learnt_next begun frame is me r p f is.leads client seq op c low; flights_are = after.flights };
-        }), learnt_none begun frame is me r p f is.leads client seq op c low slot [] at)
+        let owes = follower_owes (learnt_state begun frame is me r p f is.leads client seq op c low) after in (
+          subst (ReplicaRow me r from (Learn group slot (Call client seq op))) (sym place_is) (record {
+            plain = learnt_plain begun frame is me r p f is.leads client seq op c low;
+            settled = inr (ne, after);
+            said = tt;
+            owed = omega (arith, owes);
+            does = record { follows = ne; follower = f; sends = refl; next_is = learnt_next begun frame is me r p f is.leads client seq op c low; flights_are = after.flights };
+          }),
+          learnt_none begun frame is me r p f is.leads client seq op c low slot [] at,
+        )
 
     -- ---- each mail
 

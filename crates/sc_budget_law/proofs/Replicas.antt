@@ -1,8 +1,8 @@
 -- The replicas of a node with one of them changed: which is found, and what they owe.
-use Rattle.std.proofs.Common.{◌≡◌, ℕ, ◌+◌, Bool, true, false, cond, List, [], ◌∷◌, sum_by, Option, Some, None, inl, inr, refl, sym, ◌∙◌, ap, subst, arith}
-use Rattle.std.proofs.lemmas.Bool.{cond_both, cond-true, cond-false, cases_Bool, both_ways}
+use Rattle.std.proofs.Common.{◌≡◌, ◌+◌, false, cond, List, [], ◌∷◌, sum_by, Option, Some, inl, inr, refl, sym, ◌∙◌, ap, arith}
+use Rattle.std.proofs.lemmas.Bool.{cond_both, cond-true, cond-false, cases_Bool}
 use Rattle.std.proofs.lemmas.List.Sums.{sum_by-cons}
-use Rattle.sc_base.specs.Among.{Among, Each}
+use Rattle.sc_base.specs.Among.{Each}
 use Rattle.sc_base.specs.Same.{same_draw}
 use Rattle.sc_base.specs.declared.names.Draw.{Draw}
 use Rattle.sc_base.proofs.NameLemmas.{draw_is, same_name}
@@ -42,7 +42,7 @@ put_found group new r (x ∷ replicas) n e =
     cond_both (same_draw (name_of x) group) (new ∷ replicas) (x ∷ with_replica group new replicas) (λ l. replica_of group l ≡ Some new)
     (λ _. cond-true (same_draw (name_of new) group) (Some new) (replica_of group replicas) (same_name (name_of new) group n))
     (λ f. cond-false (same_draw (name_of x) group) (Some x) (replica_of group (with_replica group new replicas)) f
-      ∙ put_found group new r replicas n (sym (cond-false (same_draw (name_of x) group) (Some x) (replica_of group replicas) f) ∙ e))
+    ∙ put_found group new r replicas n (sym (cond-false (same_draw (name_of x) group) (Some x) (replica_of group replicas) f) ∙ e))
 
 -- and the others as before
 pub put_others : (group other : Draw) (new : ReplicaState) (replicas : List ReplicaState) → name_of new ≡ group → (other ≡ group → ⊥) → replica_of other (with_replica group new replicas) ≡ replica_of other replicas
@@ -50,8 +50,8 @@ put_others group other new [] n ne = refl
 put_others group other new (x ∷ replicas) n ne =
     cond_both (same_draw (name_of x) group) (new ∷ replicas) (x ∷ with_replica group new replicas) (λ l. replica_of other l ≡ cond (same_draw (name_of x) other) (Some x) (replica_of other replicas))
     (λ t. (let here = draw_is (name_of x) group t in
-      cond-false (same_draw (name_of new) other) (Some new) (replica_of other replicas) (apart (name_of new) (λ e. ne (sym e ∙ n)))
-      ∙ sym (cond-false (same_draw (name_of x) other) (Some x) (replica_of other replicas) (apart (name_of x) (λ e. ne (sym e ∙ here))))))
+    cond-false (same_draw (name_of new) other) (Some new) (replica_of other replicas) (apart (name_of new) (λ e. ne (sym e ∙ n)))
+    ∙ sym (cond-false (same_draw (name_of x) other) (Some x) (replica_of other replicas) (apart (name_of x) (λ e. ne (sym e ∙ here))))))
     (λ _. ap (λ (o : Option ReplicaState). cond (same_draw (name_of x) other) (Some x) o) (put_others group other new replicas n ne))
   where
     apart : (name : Draw) → (name ≡ other → ⊥) → same_draw name other ≡ false

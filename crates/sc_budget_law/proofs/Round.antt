@@ -1,23 +1,18 @@
 -- The groups of a valid scenario stand round the circle, each before the next.
-use Rattle.std.proofs.Common.{◌≡◌, ℕ, zero, suc, ◌+◌, ◌-◌, ◌%◌, ◌^◌, ◌<◌, ◌≤◌, leb, eqb, Bool, true, false, cond, List, [], ◌∷◌, ◌++◌, length, map, get_or, Option, Some, None, ◌⊎◌, inl, inr, refl, sym, ◌∙◌, ap, subst, arith, length-append}
+use Rattle.std.proofs.Common.{◌≡◌, ℕ, zero, suc, ◌+◌, ◌-◌, ◌%◌, ◌^◌, ◌<◌, ◌≤◌, leb, eqb, List, [], ◌∷◌, ◌++◌, length, map, Some, inl, inr, refl, sym, ◌∙◌, ap, subst, arith, length-append}
 use Rattle.std.specs.Prelude.{slice_get}
-use Rattle.std.specs.List.{AllPairs}
-use Rattle.std.proofs.lemmas.Bool.{cond_both, cond-true, cond-false, cases_lt, eqb-true, eq-eqb, ne_eqb, le-leb, lt-leb, ltb-false, le-ltb}
+use Rattle.std.proofs.lemmas.Bool.{cond-true, cond-false, cases_lt, eq-eqb, ne_eqb, le-leb, lt-leb, ltb-false}
 use Rattle.std.proofs.lemmas.List.{length-map}
-use Rattle.sc_base.specs.Among.{Among, Each}
-use Rattle.sc_base.specs.Arc.{Arc, holds, end_of}
+use Rattle.sc_base.specs.Among.{Each}
 use Rattle.sc_base.specs.declared.names.Draw.{Draw}
 use Rattle.sc_cmd.specs.declared.cores.Base.{Base}
-use Rattle.sc_cmd.specs.declared.links.Link.{Link}
 use Rattle.sc_member.specs.Roster.{least_of}
-use Rattle.sc_lookup.specs.Ways.{far}
-use Rattle.sc_scenario.specs.Groups.{group_at, name_at, place_right, way, arc_at, base_at, bases_up_to, bases_of, link_at}
-use Rattle.sc_scenario.specs.Valid.{IsBounded, IsBoundedGroup}
+use Rattle.sc_scenario.specs.Groups.{group_at, name_at, place_right, way, arc_at, base_at, bases_up_to}
+use Rattle.sc_scenario.specs.Valid.{IsBounded}
 use Rattle.sc_scenario.specs.declared.drafts.GroupLine.{GroupLine}
 use Rattle.sc_scenario.specs.declared.scenarios.Scenario.{Scenario}
-use Rattle.sc_budget_law.specs.Frames.{Frame, frame_of, AreNamedApart}
-use Rattle.sc_budget_law.specs.PlainClient.{way_of}
-use Rattle.sc_budget_law.proofs.BetweenStage.{frames_of, IsStage, stage, frame_is}
+use Rattle.sc_budget_law.specs.Frames.{Frame, frame_of}
+use Rattle.sc_budget_law.proofs.BetweenStage.{frames_of, stage, frame_is}
 use Rattle.sc_budget_law.proofs.Knowing.{IsBefore, IsRound}
 
 some_is : {A : Type 0} {x y : A} → Some x ≡ Some y → x ≡ y
@@ -64,8 +59,8 @@ frame_at lines (suc n) k low =
     elim (cases_lt k n) [
       | inl under ↦ all ∙ get_left (map frame_of (bases_up_to lines n)) (frame_of (base_at lines n) ∷ []) k (omega (arith, under, count)) ∙ frame_at lines n k under
       | inr over ↦ (let same : k ≡ length (map frame_of (bases_up_to lines n)) = omega (arith, low, over, count) in
-        let here : n ≡ k = omega (arith, low, over) in
-        all ∙ ap (slice_get (map frame_of (bases_up_to lines n) ++ frame_of (base_at lines n) ∷ [])) same ∙ get_here (map frame_of (bases_up_to lines n)) (frame_of (base_at lines n)) [] ∙ ap (λ m. Some (frame_of (base_at lines m))) here)
+          let here : n ≡ k = omega (arith, low, over) in
+          all ∙ ap (slice_get (map frame_of (bases_up_to lines n) ++ frame_of (base_at lines n) ∷ [])) same ∙ get_here (map frame_of (bases_up_to lines n)) (frame_of (base_at lines n)) [] ∙ ap (λ m. Some (frame_of (base_at lines m))) here)
     ]
 
 -- ---- the circle, in numbers

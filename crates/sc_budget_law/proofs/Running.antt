@@ -1,21 +1,16 @@
 -- What the leading replica of a plain group executes, and what it offers after that.
-use Rattle.std.proofs.Common.{◌≡◌, ℕ, zero, suc, ◌+◌, ◌-◌, ◌*◌, ◌<◌, ◌≤◌, ◌&&◌, ◌||◌, not, leb, ltb, eqb, Bool, true, false, cond, List, [], ◌∷◌, ◌++◌, length, map, count_by, sum_by, Option, Some, None, ◌⊎◌, inl, inr, refl, sym, ◌∙◌, ap, subst, arith, append_assoc, append-nil}
-use Rattle.std.specs.Prelude.{nat_le, nat_lt}
-use Rattle.std.proofs.lemmas.Bool.{cond_both, cond-true, cond-false, cases_eq, cases_lt, lt-ltb, and_from, eq-eqb, ne_eqb}
-use Rattle.std.proofs.lemmas.List.{length_push}
+use Rattle.std.proofs.Common.{◌≡◌, ℕ, ◌+◌, ◌-◌, ◌<◌, ◌≤◌, ◌&&◌, eqb, true, List, [], ◌∷◌, ◌++◌, length, sum_by, Option, Some, None, ◌⊎◌, inl, inr, refl, sym, ◌∙◌, ap, subst, arith, append-nil}
+use Rattle.std.proofs.lemmas.Bool.{cond_both, cond-true, cases_eq, cases_lt, lt-ltb, and_from, eq-eqb, ne_eqb}
 use Rattle.std.proofs.lemmas.List.Sums.{count_by-le-length}
 use Rattle.sc_base.specs.Among.{Among, Each}
 use Rattle.sc_base.specs.Limits.{client_actor}
-use Rattle.sc_base.specs.declared.names.Draw.{Draw}
 use Rattle.sc_base.specs.declared.ops.Op.{Op}
 use Rattle.sc_cmd.specs.declared.commands.Command.{Command}
 use Rattle.sc_cmd.specs.declared.commands.Command.TheVariants.{Call}
 use Rattle.sc_cmd.specs.declared.cores.Base.{Base}
 use Rattle.sc_cmd.specs.declared.cores.Core.{Core}
-use Rattle.sc_mail.specs.declared.bodies.AnswerBody.{AnswerBody}
 use Rattle.sc_mail.specs.declared.bodies.Mail.{Mail}
-use Rattle.sc_mail.specs.declared.bodies.MailBody.{MailBody}
-use Rattle.sc_mail.specs.declared.bodies.MailBody.TheVariants.{Accept, Answer, Learn}
+use Rattle.sc_mail.specs.declared.bodies.MailBody.TheVariants.{Answer, Learn}
 use Rattle.sc_member.specs.Roster.{is_member, IsRoster}
 use Rattle.sc_paxos_words.specs.declared.flights.Flight.{Flight}
 use Rattle.sc_paxos_words.specs.Leaders.{without_flight}
@@ -29,14 +24,14 @@ use Rattle.sc_node_table.specs.Replica.{ReplicaState, Place, name_of, next, memb
 use Rattle.sc_node_table.specs.Slots.{at_slot, without_slot, numbers_from, slots_ahead}
 use Rattle.sc_law_lemmas.proofs.Places.{cleared}
 use Rattle.sc_budget_law.specs.Frames.{Frame, IsFrame}
-use Rattle.sc_budget_law.specs.Owed.{answer_owes, mail_owes, replica_owes}
+use Rattle.sc_budget_law.specs.Owed.{mail_owes, replica_owes}
 use Rattle.sc_budget_law.specs.PlainMail.{Requests, IsPlainCommand, IsPlainCall}
-use Rattle.sc_budget_law.specs.PlainNode.{takers, AreTaken, IsPlainFlight, IsPlainLeader, IsPlainReplica, HasOffered}
+use Rattle.sc_budget_law.specs.PlainNode.{takers, IsPlainFlight, IsPlainLeader, IsPlainReplica, HasOffered}
 use Rattle.sc_budget_law.proofs.Counts.{one_if, one_yes, one_no, entries_at, out_none, out_length, out_here, out_other, out_each, out_among, at_found, at_only, at_nothing}
 use Rattle.sc_budget_law.proofs.Entry.{entered_next, entered_plain, told_after, counted_call}
-use Rattle.sc_budget_law.proofs.Leading.{in_range, range_yes, range_before, range_behind, range_less, flights_at, IsHeld, IsToldOf, IsSaid, IsNew, later_row, Leads}
-use Rattle.sc_budget_law.proofs.Pumping.{call_is, IsPumped, pumped_leads}
-use Rattle.sc_budget_law.proofs.Sends.{learns_for, learns_to, mail_of, owed_push, learns_push, last_among, others_each, others_kept, others_owed, learns_one, member_counts, member_or_among, numbers_push, roster_rises, among_push}
+use Rattle.sc_budget_law.proofs.Leading.{in_range, range_yes, range_behind, range_less, flights_at, IsHeld, IsToldOf, IsSaid, later_row, Leads}
+use Rattle.sc_budget_law.proofs.Pumping.{call_is, pumped_leads}
+use Rattle.sc_budget_law.proofs.Sends.{learns_to, mail_of, owed_push, learns_push, last_among, others_each, others_kept, others_owed, learns_one, member_counts, member_or_among, numbers_push, roster_rises, among_push}
 use Rattle.sc_budget_law.proofs.Served.{IsServed, call_plain}
 
 module _ (begun : Requests) (frame : Frame) (is : IsFrame frame) (first free : ℕ) (held : List (Flight Command)) (bound : ℕ) (wanted : ℕ → ℕ → Type 0) where
@@ -158,7 +153,16 @@ module _ (begun : Requests) (frame : Frame) (is : IsFrame frame) (first free : �
     plain_after : IsPlainReplica begun frame frame.lead after
     unfolding entered forgotten
     plain_after = (let p = entered_plain begun frame is frame.lead (Call client seq op) r serves.group k.plain in record {
-      me_is = p.me_is; group = p.group; hint_is = p.hint_is; top_is = p.top_is; promised_is = p.promised_is; floor_low = p.floor_low; begins = p.begins; sets_are = p.sets_are; acts = p.acts; waits = p.waits;
+      me_is = p.me_is;
+      group = p.group;
+      hint_is = p.hint_is;
+      top_is = p.top_is;
+      promised_is = p.promised_is;
+      floor_low = p.floor_low;
+      begins = p.begins;
+      sets_are = p.sets_are;
+      acts = p.acts;
+      waits = p.waits;
     })
 
     leader_after : IsPlainLeader begun frame taken after
@@ -208,9 +212,9 @@ module _ (begun : Requests) (frame : Frame) (is : IsFrame frame) (first free : �
         let low = k.low in
         others_each frame.lead (Learn frame.core.id (next r) (Call client seq op)) (IsSaid begun frame first free (next after) (next after + taken)) frame.core.members (answer_to frame.lead frame.core.id client seq serves.answer mails)
         (Each-push (IsSaid begun frame first free (next after) (next after + taken)) mails (mail_of frame.lead (client_actor client) (Answer frame.core.id seq serves.answer))
-          (Each-weaker (IsSaid begun frame first free (next r) (next r + (taken + 1))) (IsSaid begun frame first free (next after) (next after + taken))
-            (λ mail s. record { plain = s.plain; in_row = later_row first free (next r) (next r + (taken + 1)) (next after) (next after + taken) mail.body (omega (arith, up)) (omega (arith, up)) s.in_row }) mails k.said)
-          (record { plain = (refl, record { client = client; op = op; from_is = refl; to_is = refl; is_begun = is_call.is_begun; says = serves.says }); in_row = tt }))
+        (Each-weaker (IsSaid begun frame first free (next r) (next r + (taken + 1))) (IsSaid begun frame first free (next after) (next after + taken))
+        (λ mail s. record { plain = s.plain; in_row = later_row first free (next r) (next r + (taken + 1)) (next after) (next after + taken) mail.body (omega (arith, up)) (omega (arith, up)) s.in_row }) mails k.said)
+        (record { plain = (refl, record { client = client; op = op; from_is = refl; to_is = refl; is_begun = is_call.is_begun; says = serves.says }); in_row = tt }))
         (λ node a ne. record {
           plain = (refl, record { from_is = refl; to_in = member_or_among node frame.core.members a; other = ne; is_call = is_call });
           in_row = (low, omega (arith, up));
@@ -226,7 +230,7 @@ module _ (begun : Requests) (frame : Frame) (is : IsFrame frame) (first free : �
         learns_one frame.lead frame.core.id (next r) (Call client seq op) who ne frame.core.members (answer_to frame.lead frame.core.id client seq serves.answer mails) (roster_rises frame.core.members members_roster) m
         ∙ ap (λ l. l ++ next r ∷ [])
         (learns_push frame.core.id who mails (mail_of frame.lead (client_actor client) (Answer frame.core.id seq serves.answer))
-          ∙ ap (λ l. learns_to frame.core.id who mails ++ l) (cond_both (eqb (client_actor client) who) [] [] (λ l. l ≡ []) (λ _. refl) (λ _. refl)) ∙ append-nil (learns_to frame.core.id who mails) ∙ k.learns who m ne)
+        ∙ ap (λ l. learns_to frame.core.id who mails ++ l) (cond_both (eqb (client_actor client) who) [] [] (λ l. l ≡ []) (λ _. refl) (λ _. refl)) ∙ append-nil (learns_to frame.core.id who mails) ∙ k.learns who m ne)
         ∙ ap (λ s. numbers_from first (next r - first) ++ s ∷ []) (sym last) ∙ sym (numbers_push first (next r - first)) ∙ ap (numbers_from first) count
 
     kept_mail : (mail : Mail) → Among mail mails → Among mail said_mails
@@ -262,11 +266,11 @@ module _ (begun : Requests) (frame : Frame) (is : IsFrame frame) (first free : �
                         (subst (λ m. Among (mail_of frame.lead (client_actor m) (Answer frame.core.id seq serves.answer)) said_mails) who told_it);
                   }))
               | inr past ↦ inl (record {
-                  number = h.number;
-                  op = h.op;
-                  later = h.later;
-                  where_ = inr (inr (entry.0, out_among (λ (x : ℕ × Command). x.0) (λ m es. without_slot es m) (λ m. refl) (λ m x es. refl) (next r) r.ready (entry.0, Call c h.number h.op) entry.1 past));
-                })
+                number = h.number;
+                op = h.op;
+                later = h.later;
+                where_ = inr (inr (entry.0, out_among (λ (x : ℕ × Command). x.0) (λ m es. without_slot es m) (λ m. refl) (λ m x es. refl) (next r) r.ready (entry.0, Call c h.number h.op) entry.1 past));
+              })
             ]
           ]
         ]
@@ -363,7 +367,6 @@ module _ (begun : Requests) (frame : Frame) (is : IsFrame frame) (first free : �
       let few = count_by-le-length (λ (entry : ℕ × Command). eqb entry.0 (next r)) r.ready in
       record { taken = taken; leads = k; none = omega (arith, few, short) }
   all_done room (x ∷ es) taken (r, mails) short end k = done_by room es taken r mails (omega (arith, short)) end k (next_ready r) (ready_is taken r mails room k) (λ t p s n l. all_done room es t p s n l)
-
 
   -- ---- no call makes a child
 

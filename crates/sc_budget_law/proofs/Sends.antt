@@ -1,8 +1,7 @@
 -- What the same mail to several nodes adds: what holds of each mail, what is owed, and which slots are learnt.
-use Rattle.std.proofs.Common.{◌≡◌, ℕ, zero, suc, ◌+◌, ◌*◌, ◌<◌, ◌≤◌, ◌||◌, eqb, Bool, true, false, cond, List, [], ◌∷◌, ◌++◌, length, count_by, sum_by, replicate, Some, ◌⊎◌, inl, inr, refl, sym, ◌∙◌, ap, subst, arith, append_assoc, append-nil}
-use Rattle.std.specs.List.{flat_map, All, AllPairs}
-use Rattle.std.specs.List.Sorted.{IsStrictlyIncreasing}
-use Rattle.std.proofs.lemmas.Bool.{cond_both, cases_Bool, cond-true, cond-false, eqb-true, eqb-false, eq-eqb, ne_eqb, or_cases, or_parts, or_right, cases_eq}
+use Rattle.std.proofs.Common.{◌≡◌, ℕ, zero, suc, ◌+◌, ◌*◌, ◌<◌, ◌≤◌, ◌||◌, eqb, true, false, cond, List, [], ◌∷◌, ◌++◌, length, count_by, sum_by, inl, inr, refl, sym, ◌∙◌, ap, subst, arith, append-nil}
+use Rattle.std.specs.List.{flat_map, AllPairs}
+use Rattle.std.proofs.lemmas.Bool.{cond_both, cond-true, cond-false, eqb-true, eqb-false, eq-eqb, ne_eqb, or_cases, or_parts, or_right, cases_eq}
 use Rattle.std.proofs.lemmas.List.Concat.{flat_map-append}
 use Rattle.std.proofs.lemmas.List.Kept.{AllPairs-from_increasing}
 use Rattle.std.proofs.lemmas.List.Sums.{sum_by_push}
@@ -10,7 +9,6 @@ use Rattle.std.proofs.Math.Nat.{suc-mul}
 use Rattle.sc_base.proofs.NameLemmas.{same_name}
 use Rattle.sc_base.specs.Among.{Among, Each}
 use Rattle.sc_base.specs.Same.{same_draw}
-use Rattle.sc_base.specs.declared.names.Ballot.{Ballot}
 use Rattle.sc_base.specs.declared.names.Draw.{Draw}
 use Rattle.sc_cmd.specs.declared.commands.Command.{Command}
 use Rattle.sc_mail.specs.declared.bodies.Mail.{Mail}
@@ -18,11 +16,11 @@ use Rattle.sc_mail.specs.declared.bodies.MailBody.{MailBody}
 use Rattle.sc_mail.specs.declared.bodies.MailBody.TheVariants.{Request, Answer, Prepare, Promise, Accept, Accepted, Nack, Learn, Ask, Install, TxPrepare, TxVote, TxOutcome, TxElsewhere, TxWatch, TxWatched, Told}
 use Rattle.sc_member.specs.Roster.{is_member, IsRoster}
 use Rattle.sc_member.proofs.Pairs.{AllPairs-head, AllPairs-tail}
-use Rattle.sc_paxos_words.proofs.ListLemmas.{Each-push, Each-from_All, Each-among}
+use Rattle.sc_paxos_words.proofs.ListLemmas.{Each-push, Each-from_All}
 use Rattle.sc_node_table.specs.Mails.{sent, sent_all, sent_others}
 use Rattle.sc_node_table.specs.Slots.{numbers_from}
 use Rattle.sc_budget_law.specs.Owed.{body_owes, mail_owes}
-use Rattle.sc_budget_law.proofs.Counts.{one_if, one_yes, one_no, count-cons}
+use Rattle.sc_budget_law.proofs.Counts.{one_yes, one_no, count-cons}
 
 -- ---- which slots the Learns among mails name
 
@@ -142,8 +140,8 @@ module _ (me : ℕ) (body : MailBody) where
       others_by (λ l. sum_by mail_owes l + count_by (λ n. eqb n me) (node ∷ nodes) ≡ sum_by mail_owes mails + length (node ∷ nodes)) node nodes mails
       (λ own. (let more = others_owed nodes mails one in let is = one_yes (eqb node me) (eq-eqb node me own) in omega (arith, more, c, is)))
       (λ ne. (let more = others_owed nodes (sent me node body mails) one in
-        let push = owed_push mails (mail_of me node body) in
-        let is = one_no (eqb node me) (ne_eqb node me ne) in omega (arith, more, push, one, c, is)))
+      let push = owed_push mails (mail_of me node body) in
+      let is = one_no (eqb node me) (ne_eqb node me ne) in omega (arith, more, push, one, c, is)))
 
 -- ---- members, each once
 
@@ -214,7 +212,7 @@ module _ (me : ℕ) (name : Draw) (slot : ℕ) (command : Command) (who : ℕ) (
       let rest = AllPairs-tail (λ x y. x < y) node nodes up in
       elim (cases_eq node who) [
         | inl here ↦ others_by me (Learn name slot command) (λ l. learns_to name who l ≡ learns_to name who mails ++ slot ∷ []) node nodes mails (λ own. absurd (other (sym here ∙ own)))
-          (λ _. learns_none nodes (sent me node (Learn name slot command) mails) (ap (is_member nodes) (sym here) ∙ none_below node nodes above)
+            (λ _. learns_none nodes (sent me node (Learn name slot command) mails) (ap (is_member nodes) (sym here) ∙ none_below node nodes above)
             ∙ learns_push name who mails (mail_of me node (Learn name slot command)) ∙ ap (λ l. learns_to name who mails ++ l) (learn_for node here))
         | inr ne ↦ (
             let m : is_member nodes who ≡ true = elim (or_cases (eqb node who) (is_member nodes who) e) [ inl t ↦ absurd (ne (eqb-true node who t)) | inr k ↦ k ] in

@@ -1,6 +1,5 @@
 -- An executed call of a plain journal: what its client is answered, and the group after it.
-use Rattle.std.proofs.Common.{◌≡◌, ℕ, ◌<◌, ltb, eqb, Bool, true, false, cond, List, [], Option, Some, None, ◌⊎◌, inl, inr, refl, sym, ◌∙◌, ap, subst, arith}
-use Rattle.std.specs.Ordering.{nat_cmp}
+use Rattle.std.proofs.Common.{◌≡◌, ℕ, ltb, eqb, true, cond, List, Option, Some, None, ◌⊎◌, inl, inr, refl, sym, ◌∙◌, ap, subst, arith}
 use Rattle.std.specs.Cmp.{nat_cmp_total, unsigned_tied}
 use Rattle.std.specs.Cmp.Lexicographic.{nat_list_cmp_total}
 use Rattle.std.specs.FinMap.{get, insert, remove, get-insert, get-remove}
@@ -70,18 +69,18 @@ module _ (begun : Requests) (frame : Frame) (is : IsFrame frame) where
     group = record {
       core_is = g.core_is;
       noted = λ who note e.
-      cond_both _ (Some (record { seq = seq; reply = reply_of op group.pairs })) (get group.clients who) (λ o. o ≡ Some note → (p : Op) × begun who note.seq p)
-      (λ t k. (let tied : eqb who client ≡ true = sym (unsigned_tied who client) ∙ t in
-        let at : client ≡ who = sym (eqb-true who client tied) in
-        let same : seq ≡ note.seq = ap (λ (o : Noted). o.seq) (some_same k) in
-        (op, subst (λ n. begun who n op) same (subst (λ w. begun w seq op) at b)))) (λ _ k. g.noted who note k) (sym (get-insert nat_cmp_total group.clients client (record { seq = seq; reply = reply_of op group.pairs }) who) ∙ e);
+          cond_both _ (Some (record { seq = seq; reply = reply_of op group.pairs })) (get group.clients who) (λ o. o ≡ Some note → (p : Op) × begun who note.seq p)
+          (λ t k. (let tied : eqb who client ≡ true = sym (unsigned_tied who client) ∙ t in
+          let at : client ≡ who = sym (eqb-true who client tied) in
+          let same : seq ≡ note.seq = ap (λ (o : Noted). o.seq) (some_same k) in
+          (op, subst (λ n. begun who n op) same (subst (λ w. begun w seq op) at b)))) (λ _ k. g.noted who note k) (sym (get-insert nat_cmp_total group.clients client (record { seq = seq; reply = reply_of op group.pairs }) who) ∙ e);
       replied = λ who note e value v.
-      cond_both _ (Some (record { seq = seq; reply = reply_of op group.pairs })) (get group.clients who) (λ o. o ≡ Some note → IsWrittenValue begun value)
-      (λ t k. (let same : reply_of op group.pairs ≡ note.reply = ap (λ (o : Noted). o.reply) (some_same k) in
-        g.stored (key_of op) value (ap (λ (reply : Reply). reply.old) same ∙ v))) (λ _ k. g.replied who note k value v)
-      (sym (get-insert nat_cmp_total group.clients client (record { seq = seq; reply = reply_of op group.pairs }) who) ∙ e);
+          cond_both _ (Some (record { seq = seq; reply = reply_of op group.pairs })) (get group.clients who) (λ o. o ≡ Some note → IsWrittenValue begun value)
+          (λ t k. (let same : reply_of op group.pairs ≡ note.reply = ap (λ (o : Noted). o.reply) (some_same k) in
+          g.stored (key_of op) value (ap (λ (reply : Reply). reply.old) same ∙ v))) (λ _ k. g.replied who note k value v)
+          (sym (get-insert nat_cmp_total group.clients client (record { seq = seq; reply = reply_of op group.pairs }) who) ∙ e);
       stored = λ key value e.
-      elim (after_had op group.pairs key value e) [ inl w ↦ record { client = client; seq = seq; op = op; is_begun = b; writes = w } | inr k ↦ g.stored key value k ];
+          elim (after_had op group.pairs key value e) [ inl w ↦ record { client = client; seq = seq; op = op; is_begun = b; writes = w } | inr k ↦ g.stored key value k ];
     };
     answer = Value (reply_of op group.pairs);
     answer_is = refl;
@@ -98,8 +97,8 @@ module _ (begun : Requests) (frame : Frame) (is : IsFrame frame) where
       (λ f. cond_both (eqb note.seq seq) (group, Was.Again note.reply) (group, Was.Stale note.seq) (IsServed begun frame client seq op)
       (λ _. record { group = g; answer = Value note.reply; answer_is = refl; says = λ value k. g.replied client note e value k; owes = refl })
       (λ d. (let low = ltb-false note.seq seq f in
-        let other = eqb-false note.seq seq d in
-        record { group = g; answer = Stale note.seq; answer_is = refl; says = (omega (arith, low, other), g.noted client note e); owes = refl })))
+      let other = eqb-false note.seq seq d in
+      record { group = g; answer = Stale note.seq; answer_is = refl; says = (omega (arith, low, other), g.noted client note e); owes = refl })))
 
   -- .. by the arc
   arc_plain : (client seq : ℕ) (op : Op) (group : Group) → IsPlainCall begun frame client seq op → IsPlainGroup begun frame group → IsServed begun frame client seq op (served group client seq op)

@@ -1,12 +1,11 @@
 -- Accept, Accepted and Learn at the replicas of a plain group.
-use Rattle.std.proofs.Common.{◌≡◌, ℕ, zero, suc, ◌+◌, ◌-◌, ◌*◌, ◌<◌, ◌≤◌, ◌&&◌, ◌||◌, not, leb, ltb, eqb, Bool, true, false, cond, List, [], ◌∷◌, ◌++◌, length, map, sum_by, Option, Some, None, ◌⊎◌, inl, inr, refl, sym, ◌∙◌, ap, subst, arith, append-nil}
+use Rattle.std.proofs.Common.{◌≡◌, ℕ, ◌+◌, ◌-◌, ◌<◌, ◌≤◌, ◌&&◌, ◌||◌, not, eqb, true, false, cond, List, [], ◌∷◌, length, Option, Some, None, ◌⊎◌, inl, inr, refl, sym, ◌∙◌, ap, subst, arith, append-nil}
 use Rattle.std.specs.Prelude.{nat_le, nat_lt, slice_get}
 use Rattle.std.specs.Option.{option_map}
-use Rattle.std.proofs.lemmas.Bool.{cond_both, cond-true, cond-false, cases_Bool, cases_lt, cases_eq, eqb-true, eq-eqb, ne_eqb, lt-leb, le-ltb, lt-ltb, and_from, and_left, and_right, and_cases, and_parts, both_ways}
+use Rattle.std.proofs.lemmas.Bool.{cond_both, cond-true, cond-false, cases_lt, cases_eq, eqb-true, eq-eqb, ne_eqb, lt-leb, le-ltb, lt-ltb, and_from, and_left, and_parts, both_ways}
 use Rattle.sc_base.specs.Among.{Among, Each}
 use Rattle.sc_base.specs.Same.{same_ballot}
 use Rattle.sc_base.specs.declared.names.Ballot.{Ballot}
-use Rattle.sc_base.specs.declared.names.Draw.{Draw}
 use Rattle.sc_base.specs.declared.ops.Op.{Op}
 use Rattle.sc_base.proofs.NameLemmas.{ballot_itself}
 use Rattle.sc_cmd.specs.declared.commands.Command.{Command}
@@ -27,7 +26,7 @@ use Rattle.sc_paxos_words.specs.Accepting.{accepted as accepted_by}
 use Rattle.sc_paxos_words.specs.Acceptors.{AcceptorState, may_accept, after_accept}
 use Rattle.sc_paxos_words.specs.Ballots.{below}
 use Rattle.sc_paxos_words.specs.Leaders.{LeaderState, flight_at, without_flight, without_flight_at}
-use Rattle.sc_paxos_words.specs.Votes.{kept_voters, voters_after, with_voters, tallied, vote_at, counted}
+use Rattle.sc_paxos_words.specs.Votes.{kept_voters, voters_after, with_voters, vote_at}
 use Rattle.sc_paxos_words.proofs.BallotLemmas.{at_least_itself}
 use Rattle.sc_paxos_words.proofs.ListLemmas.{find_found, Each-among}
 use Rattle.sc_machine_table.specs.Machine.{applied}
@@ -35,22 +34,21 @@ use Rattle.sc_node_table.specs.Births.{ready_children, executed_children, learnt
 use Rattle.sc_node_table.specs.Election.{stopped, saw}
 use Rattle.sc_node_table.specs.Execute.{entered, is_among, executed_one, has_room, executed_ready, all_ready, executed}
 use Rattle.sc_node_table.specs.Install.{install_to}
-use Rattle.sc_node_table.specs.Mails.{sent}
 use Rattle.sc_node_table.specs.Pump.{pumped_from, pumped}
-use Rattle.sc_node_table.specs.Replica.{ReplicaState, Place, name_of, next, members, set_at, settled, may_offer, first_set, flying, forgotten, last_slot}
+use Rattle.sc_node_table.specs.Replica.{ReplicaState, Place, name_of, next, members, set_at, settled, flying, forgotten, last_slot}
 use Rattle.sc_node_table.specs.Rows.{learn_row}
 use Rattle.sc_node_table.specs.Slots.{at_slot, with_slot, without_slot, numbers_from, slots_ahead}
 use Rattle.sc_node_table.specs.Voting.{hinted, accepted_to, took, accept_row, leads, readied, vote_tallied, voted, accepted_row}
 use Rattle.sc_law_lemmas.proofs.Places.{cleared}
 use Rattle.sc_budget_law.specs.Frames.{Frame, IsFrame}
-use Rattle.sc_budget_law.specs.Owed.{mail_owes, replica_owes}
+use Rattle.sc_budget_law.specs.Owed.{replica_owes}
 use Rattle.sc_budget_law.specs.PlainMail.{Requests, IsPlainCommand, IsPlainCall}
 use Rattle.sc_budget_law.specs.PlainNode.{takers, AreTaken, IsPlainFlight, IsPlainLeader, IsPlainFollower, IsPlainReplica, HasOffered}
 use Rattle.sc_budget_law.proofs.Asking.{begins}
-use Rattle.sc_budget_law.proofs.Counts.{found_one, one_if, one_if_most, one_yes, one_no, entries_at, with_length, with_count, with_each, with_among, with_it, with_at, out_length, out_here, out_other, out_each, out_among, at_none}
+use Rattle.sc_budget_law.proofs.Counts.{found_one, one_if, one_if_most, one_yes, one_no, entries_at, with_length, with_count, with_each, with_among, with_it, with_at, out_length, out_here, out_other, out_each, out_among}
 use Rattle.sc_budget_law.proofs.Entry.{entered_next, entered_plain, learnt_call}
 use Rattle.sc_budget_law.proofs.Flights.{others_out, voted_length, voted_count, voted_each, voted_value, voted_others, voted_here, only_flight, no_flight_at, HasVoted, vote_kept, numbered_get, numbered_past}
-use Rattle.sc_budget_law.proofs.Leading.{in_range, range_yes, range_before, range_behind, early_taken, flights_at, IsHeld, Leads}
+use Rattle.sc_budget_law.proofs.Leading.{in_range, range_before, range_behind, early_taken, flights_at, IsHeld, Leads}
 use Rattle.sc_budget_law.proofs.Pumping.{call_is}
 use Rattle.sc_budget_law.proofs.Running.{IsRun, executed_none, executed_run, some_taken}
 use Rattle.sc_budget_law.proofs.Sends.{mail_of}
@@ -100,7 +98,16 @@ module _ (begun : Requests) (frame : Frame) (is : IsFrame frame) (me : ℕ) (r :
   pub accepted_plain : (slot : ℕ) (command : Command) → IsPlainReplica begun frame me (accepted_state slot command)
   unfolding accepted_state
   accepted_plain slot command = record {
-    me_is = p.me_is; group = p.group; hint_is = refl; top_is = p.top_is; promised_is = refl; floor_low = p.floor_low; begins = p.begins; sets_are = p.sets_are; acts = p.acts; waits = p.waits;
+    me_is = p.me_is;
+    group = p.group;
+    hint_is = refl;
+    top_is = p.top_is;
+    promised_is = refl;
+    floor_low = p.floor_low;
+    begins = p.begins;
+    sets_are = p.sets_are;
+    acts = p.acts;
+    waits = p.waits;
   }
 
   pub accepted_owes : (slot : ℕ) (command : Command) → replica_owes (accepted_state slot command) ≡ replica_owes r
@@ -207,7 +214,16 @@ module _ (begun : Requests) (frame : Frame) (is : IsFrame frame) (me : ℕ) (r :
     pub learnt_plain : IsPlainReplica begun frame me learnt_state
     unfolding learnt_state entered forgotten
     learnt_plain = (let q = entered_plain begun frame is me (Call client seq op) r serves.group p in record {
-      me_is = q.me_is; group = q.group; hint_is = q.hint_is; top_is = q.top_is; promised_is = q.promised_is; floor_low = q.floor_low; begins = q.begins; sets_are = q.sets_are; acts = q.acts; waits = q.waits;
+      me_is = q.me_is;
+      group = q.group;
+      hint_is = q.hint_is;
+      top_is = q.top_is;
+      promised_is = q.promised_is;
+      floor_low = q.floor_low;
+      begins = q.begins;
+      sets_are = q.sets_are;
+      acts = q.acts;
+      waits = q.waits;
     })
 
     pub learnt_follower : IsPlainFollower learnt_state
@@ -256,10 +272,25 @@ module _ (begun : Requests) (frame : Frame) (is : IsFrame frame) (taken : ℕ) (
       let none : 0 ≡ next r - next r = omega arith in
       record {
         plain = record {
-          me_is = p.me_is; group = p.group; hint_is = p.hint_is; top_is = p.top_is; promised_is = p.promised_is; floor_low = p.floor_low; begins = p.begins; sets_are = p.sets_are; acts = p.acts; waits = p.waits;
+          me_is = p.me_is;
+          group = p.group;
+          hint_is = p.hint_is;
+          top_is = p.top_is;
+          promised_is = p.promised_is;
+          floor_low = p.floor_low;
+          begins = p.begins;
+          sets_are = p.sets_are;
+          acts = p.acts;
+          waits = p.waits;
         };
         leader = record {
-          running = l.running; ballot_is = l.ballot_is; may = l.may; open_ = l.open_; calls = l.calls; flights = fe; ready = ee;
+          running = l.running;
+          ballot_is = l.ballot_is;
+          may = l.may;
+          open_ = l.open_;
+          calls = l.calls;
+          flights = fe;
+          ready = ee;
           slots = record { most = l.slots.most; once = λ s. same s ∙ l.slots.once s };
         };
         low = omega arith;
@@ -340,9 +371,9 @@ module _ (begun : Requests) (frame : Frame) (is : IsFrame frame) (taken : ℕ) (
         votes = record {
           others = λ other ne. voted_others slot voters other r.leader.flights ne;
           here = λ g k. (
-            let same : record flight { voters = voters } ≡ g = some_is (sym (voted_here slot voters r.leader.flights flight e) ∙ k) in
-            subst (λ (x : Flight Command). (was : Flight Command) × (flight_at slot r.leader.flights ≡ Some was) × ((who : ℕ) → is_member (kept_voters was.voters) who ≡ true → is_member (kept_voters x.voters) who ≡ true) × (is_member (kept_voters x.voters) from ≡ true))
-            same (flight, e, has_voted.kept, has_voted.own));
+              let same : record flight { voters = voters } ≡ g = some_is (sym (voted_here slot voters r.leader.flights flight e) ∙ k) in
+              subst (λ (x : Flight Command). (was : Flight Command) × (flight_at slot r.leader.flights ≡ Some was) × ((who : ℕ) → is_member (kept_voters was.voters) who ≡ true → is_member (kept_voters x.voters) who ≡ true) × (is_member (kept_voters x.voters) from ≡ true))
+              same (flight, e, has_voted.kept, has_voted.own));
         };
         run = record {
           taken = taken;
@@ -350,10 +381,10 @@ module _ (begun : Requests) (frame : Frame) (is : IsFrame frame) (taken : ℕ) (
               (voted_each slot voters (IsPlainFlight begun frame) r.leader.flights l.flights (λ g k q. record {
                 is_call = q.is_call;
                 voters_are = (let same : flight ≡ g = some_is (sym e ∙ k) in
-                  let here : g.slot ≡ slot = ap (λ (x : Flight Command). x.slot) (sym same) ∙ at in
-                  subst (λ s. length (kept_voters voters) ≤ votes_of (frame.at s) (kept_voters voters)) (sym here) has_voted.members_still);
+                    let here : g.slot ≡ slot = ap (λ (x : Flight Command). x.slot) (sym same) ∙ at in
+                    subst (λ s. length (kept_voters voters) ≤ votes_of (frame.at s) (kept_voters voters)) (sym here) has_voted.members_still);
                 undecided = (let same : flight ≡ g = some_is (sym e ∙ k) in
-                  let here : g.slot ≡ slot = ap (λ (x : Flight Command). x.slot) (sym same) ∙ at in ap (λ s. is_majority (frame.at s) (kept_voters voters)) here ∙ undecided);
+                    let here : g.slot ≡ slot = ap (λ (x : Flight Command). x.slot) (sym same) ∙ at in ap (λ s. is_majority (frame.at s) (kept_voters voters)) here ∙ undecided);
               }))
               l.ready (λ s. (let c = voted_count slot voters s r.leader.flights in omega (arith, c))) (let long = voted_length slot voters r.leader.flights in omega (arith, long))
               (λ c n h. record {
@@ -452,10 +483,10 @@ module _ (begun : Requests) (frame : Frame) (is : IsFrame frame) (taken : ℕ) (
           let up : next r + (less.0 + 1) ≡ next r + taken = ap (λ t_. next r + t_) (sym less.1) in
           decided_by (executed true flight.value (after, []))
           (subst (λ (x : Command). IsRun begun frame is (next r) (next r + taken) fs (replica_owes r) Keeps (executed true x (after, []))) (sym c.3)
-            (executed_run begun frame is (next r) (next r + taken) fs (replica_owes r) Keeps room less.0 after [] c.0 c.1 c.2 up (ready ∙ ap Some c.3) now))))
+          (executed_run begun frame is (next r) (next r + taken) fs (replica_owes r) Keeps room less.0 after [] c.0 c.1 c.2 up (ready ∙ ap Some c.3) now))))
           (λ n. (
           let past : slot ≡ next r → ⊥ = λ here. both_ways (eqb slot (next r) && has_room after) n
-              (and_from (eqb slot (next r)) (has_room after) (eq-eqb slot (next r) here) (lt-ltb (next r) (last_slot + length r.sets) (omega (arith, room, sets)))) in
+          (and_from (eqb slot (next r)) (has_room after) (eq-eqb slot (next r) here) (lt-ltb (next r) (last_slot + length r.sets) (omega (arith, room, sets)))) in
           let was = d.executed in
           let more = with_count slot flight.value r.ready (next r) no_entry in
           let no_ = one_no (eqb slot (next r)) (ne_eqb slot (next r) past) in
@@ -519,8 +550,8 @@ module _ (begun : Requests) (frame : Frame) (is : IsFrame frame) (taken : ℕ) (
     counted_in low high =
         subst (λ (o : Option (List ℕ)). R (voted from frame.ballot slot o (r, []))) (sym (voted_open low high))
         (subst (λ (x : Counted Command × LeaderState Command). R (vote_tallied slot x (r, [])))
-          (sym (cond-true (same_ballot frame.ballot r.leader.ballot) (vote_at from slot (frame.at slot) (flight_at slot r.leader.flights) r.leader) (NotYet 0, r.leader) ballots))
-          (vote_run (flight_at slot r.leader.flights) refl))
+        (sym (cond-true (same_ballot frame.ballot r.leader.ballot) (vote_at from slot (frame.at slot) (flight_at slot r.leader.flights) r.leader) (NotYet 0, r.leader) ballots))
+        (vote_run (flight_at slot r.leader.flights) refl))
 
     none_out : (made : List Base) → (slot < next r) ⊎ (next r + slots_ahead ≤ slot) → voted_children from frame.ballot slot (set_at slot r) (r, []) made ≡ made
     none_out made out = ap (λ (o : Option (List ℕ)). voted_children from frame.ballot slot o (r, []) made) (voted_closed out)

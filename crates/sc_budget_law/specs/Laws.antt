@@ -1,7 +1,9 @@
 -- What is proved of plain scenarios at their budget.
-use Rattle.std.specs.Prelude.{◌≡◌, ℕ, false, List}
+use Rattle.std.specs.Prelude.{◌≡◌, ℕ, ◌^◌, ◌≤◌, false, List}
 use Rattle.sc_cmd.specs.declared.orders.OrderLine.{OrderLine}
 use Rattle.sc_mail.specs.declared.bodies.Mail.{Mail}
+use Rattle.sc_mail.specs.Weight.{body_weight}
+use Rattle.sc_actor.specs.Counted.{journal_bytes}
 use Rattle.sc_actor.specs.declared.rows.Row.{Row}
 use Rattle.sc_actor.specs.Walk.{unsettled}
 use Rattle.sc_scenario.specs.declared.scenarios.Scenario.{Scenario}
@@ -22,3 +24,10 @@ PlainRequestsAreAnswered =
     (words : ℕ → ℕ → ℕ × ℕ) (scenario : Scenario) (journal : List (Row Mail OrderLine))
     → IsValid scenario → IsAtBudget scenario → Lawful as_nodes words scenario journal → Whole as_nodes words scenario journal
     → AreAnswered scenario journal
+
+-- .. and none counts more bytes than a journal may
+abbrev pub PlainJournalsAreLight : Type 0
+PlainJournalsAreLight =
+    (words : ℕ → ℕ → ℕ × ℕ) (scenario : Scenario) (journal : List (Row Mail OrderLine))
+    → IsValid scenario → IsAtBudget scenario → Lawful as_nodes words scenario journal
+    → journal_bytes (λ mail. body_weight mail.body) journal ≤ 2 ^ 30

@@ -2,7 +2,6 @@
 use Rattle.std.specs.Prelude.{◌≡◌, ◌<◌, ℕ, true, false, List, Option, Some, None}
 use Rattle.sc_base.specs.Among.{Among}
 use Rattle.sc_base.specs.Limits.{client_actor}
-use Rattle.sc_base.specs.declared.names.Draw.{Draw}
 use Rattle.sc_base.specs.declared.ops.Op.{Op}
 use Rattle.sc_base.specs.declared.ops.Op.TheVariants.{Get, Put, Del, Add, Cas}
 use Rattle.sc_ideal.specs.IdealStore.{key_of, holds_key}

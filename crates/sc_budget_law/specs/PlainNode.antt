@@ -1,5 +1,5 @@
 -- What each replica of a plain journal is, and each node.
-use Rattle.std.specs.Prelude.{◌≡◌, ℕ, ◌+◌, ◌<◌, ◌≤◌, nat_le, nat_lt, ◌==◌, ◌&&◌, true, false, List, [], length, map, count_by, Option, Some, None, ◌⊎◌, if◌then◌else◌}
+use Rattle.std.specs.Prelude.{◌≡◌, ℕ, ◌+◌, ◌<◌, ◌≤◌, nat_le, nat_lt, ◌==◌, ◌&&◌, true, false, List, [], length, map, count_by, Some, ◌⊎◌, if◌then◌else◌}
 use Rattle.std.specs.FinMap.{get}
 use Rattle.sc_base.specs.Among.{Among, Each}
 use Rattle.sc_base.specs.declared.ops.Noted.{Noted}
