@@ -1,5 +1,5 @@
 -- What a driver's answer says of a scenario.
-use Rattle.std.proofs.Common.{◌≡◌, ◌≢◌, ◌≤◌, ℕ, List, [], ◌∷◌, map, Bool, true, false, Some, refl, sym, ◌∙◌, ap, subst}
+use Rattle.std.proofs.Common.{◌≡◌, ◌≢◌, ◌≤◌, ℕ, List, [], ◌∷◌, map, Bool, Some, inl, inr, refl, ◌∙◌, ap, subst}
 use Rattle.std.specs.Prelude.{⊤}
 use Rattle.sc_cmd.specs.declared.orders.OrderLine.{OrderLine}
 use Rattle.sc_mail.specs.declared.bodies.Mail.{Mail}
@@ -22,9 +22,10 @@ use Rattle.sc_sound.specs.Players.{schedule, system_of, Lawful, parties, Player,
 use Rattle.sc_world.specs.Summary.{summary_of}
 use Rattle.sc_whole_law.specs.Valid.{ValidJournalsAreSound}
 use Rattle.sc_statuses.specs.Causes.{said_of}
+use Rattle.sc_statuses.specs.declared.said.Said.TheVariants.{Filled}
 use Rattle.sc_run.specs.declared.done.Text.{Text}
 use Rattle.sc_run.specs.Played.{mail_weight, HasPlayedToEnd, HasFilled}
-use Rattle.sc_run.specs.Run.{journal_limit, Plays, ReportsAs}
+use Rattle.sc_run.specs.Run.{journal_limit, Comes, TellsFull}
 
 -- an answer other than a want of memory
 abbrev Drove : Driven → Type 0
@@ -66,17 +67,15 @@ module _ (law : ValidJournalsAreSound) (scenario : Scenario) (valid : IsValid sc
       let full : IsFull (system_of as_nodes two_words scenario) mail_weight (schedule scenario) limit journal = subst (λ l. IsFull (system_of as_nodes two_words scenario) mail_weight l limit journal) lines_are h in
       record { full = full; sound = law as_nodes refl two_words scenario valid journal full.lawful }
 
-module _ (Shows : List (Row Mail OrderLine) → List (List ℕ) → Type 0) where
-  plays : (scenario : Scenario) (cut quiet : Bool) (skips : ℕ) (journal : List (Row Mail OrderLine)) (parties : List Player) (text : Text) →
-      HasPlayedToEnd scenario journal_limit cut quiet skips journal parties → Shows journal text.lines → text.journal ≡ Some journal → text.parties ≡ parties → Plays Shows scenario cut text
-  plays scenario cut quiet skips journal parties text e lines journal_is parties_is = record {
-    journal = journal;
-    reports = record { lawful = e.lawful; whole = e.whole; within = e.within; sound = e.sound; lines = lines; journal_is = journal_is; parties_are = parties_is ∙ e.parties_are };
-    cut_is = sym e.cut_is;
-  }
+-- the text of a run that ended
+pub comes_ended : (Shows : List (Row Mail OrderLine) → List (List ℕ) → Type 0) (scenario : Scenario) (cut quiet : Bool) (skips : ℕ) (journal : List (Row Mail OrderLine)) (parties : List Player) (text : Text) →
+    HasPlayedToEnd scenario journal_limit cut quiet skips journal parties → Shows journal text.lines → text.journal ≡ Some journal → text.parties ≡ parties → Comes Shows scenario (said_of cut) text
+comes_ended Shows scenario cut quiet skips journal parties text e lines journal_is parties_is = inl (record {
+  journal = journal;
+  reports = record { lawful = e.lawful; whole = e.whole; within = e.within; sound = e.sound; lines = lines; journal_is = journal_is; parties_are = parties_is ∙ e.parties_are };
+  said_is = ap said_of e.cut_is;
+})
 
-  -- the text of a run that ended, by whether a line was cut off
-  pub reports_as : (scenario : Scenario) (cut quiet : Bool) (skips : ℕ) (journal : List (Row Mail OrderLine)) (parties : List Player) (text : Text) →
-      HasPlayedToEnd scenario journal_limit cut quiet skips journal parties → Shows journal text.lines → text.journal ≡ Some journal → text.parties ≡ parties → ReportsAs Shows (said_of cut) scenario text
-  reports_as scenario true quiet skips journal parties text e lines journal_is parties_is = plays scenario true quiet skips journal parties text e lines journal_is parties_is
-  reports_as scenario false quiet skips journal parties text e lines journal_is parties_is = plays scenario false quiet skips journal parties text e lines journal_is parties_is
+-- the text about a journal that is full
+pub comes_full : (Shows : List (Row Mail OrderLine) → List (List ℕ) → Type 0) (scenario : Scenario) (journal : List (Row Mail OrderLine)) (text : Text) → HasFilled scenario journal_limit journal → TellsFull journal text → Comes Shows scenario Filled text
+comes_full Shows scenario journal text filled tells = inr (record { journal = journal; filled = filled; tells = tells; said_is = refl })

@@ -2,7 +2,7 @@
 ghost use Rattle.std.specs.Prelude.{◌≡◌, ◌≤◌, ◌^◌, IfOk};
 ghost use Rattle.sc_scenario.specs.Valid.{IsValid};
 ghost use Rattle.sc_run.specs.Played.{IsPlayed};
-ghost use Rattle.sc_run.specs.Run.{ReportsAs, ShowsFile, ShowsReport};
+ghost use Rattle.sc_run.specs.Run.{Comes, ShowsFile, ShowsReport};
 
 use crate::begun::begin;
 use crate::done::Text;
@@ -69,7 +69,7 @@ pub fn report<G: Gate, R: Threads + Wait + Sync>(
 ) -> Result<(Said, Text), OutOfMemory>
     requires { IsValid scenario.now }
     ensures { IfOk result (λ begun.
-        ReportsAs (ShowsReport scenario.now) begun.0 scenario.now begun.1) }
+        Comes (ShowsReport scenario.now) scenario.now begun.0 begun.1) }
 {
     let left = play_whole(rt, alloc, scenario, 1 << 30, gate)?;
     let Some(said) = said_by(left.played) else {
@@ -107,7 +107,7 @@ pub fn store<G: Gate, R: Threads + Wait + Sync>(
 ) -> Result<(Said, Text), OutOfMemory>
     requires { IsValid scenario.now }
     ensures { IfOk result (λ begun.
-        ReportsAs (ShowsFile bytes.now) begun.0 scenario.now begun.1) }
+        Comes (ShowsFile bytes.now) scenario.now begun.0 begun.1) }
 {
     let left = play_whole(rt, alloc, scenario, 1 << 30, gate)?;
     let Some(said) = said_by(left.played) else {
