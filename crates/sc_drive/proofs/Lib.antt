@@ -19,3 +19,4 @@ pub mod Closed
 pub mod Crashes
 pub mod FirstCopies
 pub mod StormSteps
+pub mod Working

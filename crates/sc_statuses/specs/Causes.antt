@@ -5,8 +5,8 @@ use Rattle.std.specs.Io.KnownBytes.{Appends}
 use Rattle.sc_edges.specs.Bytes.{AppendsPart}
 use Rattle.sc_edges.specs.Causes.{Rose}
 use Rattle.sc_edges.specs.Uses.{SinkUse}
-use Rattle.sc_statuses.specs.declared.said.Played.{Played}
-use Rattle.sc_statuses.specs.declared.said.Played.TheVariants as Was
+use Rattle.sc_actor.specs.declared.schedules.Played.{Played}
+use Rattle.sc_actor.specs.declared.schedules.Played.TheVariants as Was
 use Rattle.sc_statuses.specs.declared.said.Said.{Said}
 use Rattle.sc_statuses.specs.declared.said.Said.TheVariants.{Ended, Unsettled, Filled, Usage, BadScenario, ReadFault, Lawful, Unlawful}
 

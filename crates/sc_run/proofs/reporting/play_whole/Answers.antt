@@ -1,5 +1,5 @@
 use Rattle.std.proofs.Common.{rules, ◌≢◌, ◌∙◌, sym}
-use Rattle.sc_statuses.specs.declared.said.Played.TheVariants.{OutOfMemory}
+use Rattle.sc_actor.specs.declared.schedules.Played.TheVariants.{OutOfMemory}
 use Rattle.sc_run.proofs.reporting.play_whole.Goals as goal
 
 pub close-requires-clause-exchange : goal.close-requires-clause-exchange
