@@ -18,7 +18,7 @@ use Rattle.sc_shell.specs.declared.shells.Shell.{Shell}
 use Rattle.sc_shell.specs.declared.turns.Turn.TheVariants.{Did, Empty, Full, Spent}
 use Rattle.sc_workers.specs.Crews.{crew_numbers}
 use Rattle.sc_drive.specs.Numbers.{is_in}
-use Rattle.sc_drive.specs.declared.companies.Stop.TheVariants.{Full as TooMuch, OutOfMemory}
+use Rattle.sc_drive.specs.declared.company.Stop.TheVariants.{Full as TooMuch, OutOfMemory}
 use Rattle.sc_drive.specs.Companies.{IsCompany}
 use Rattle.sc_drive.specs.Acts.{HasHalted, Told, Served}
 use Rattle.sc_drive.specs.Stepping.{IsPlace, IsNowhere, Stepped, unless_crashed}

@@ -20,3 +20,5 @@ pub mod Crashes
 pub mod FirstCopies
 pub mod StormSteps
 pub mod Working
+pub mod Settled
+pub mod Singles

@@ -10,8 +10,8 @@ use Rattle.sc_shell.specs.declared.shells.Shell.{Shell}
 use Rattle.sc_workers.specs.Crews.{AreStill, IsCrew, AllOf}
 use Rattle.sc_workers.specs.Ends.{IsGathered}
 use Rattle.sc_workers.proofs.Crews.{all_of_later}
-use Rattle.sc_drive.specs.declared.companies.Stop.{Stop}
-use Rattle.sc_drive.specs.declared.companies.Stop.TheVariants.{Full, OutOfMemory}
+use Rattle.sc_drive.specs.declared.company.Stop.{Stop}
+use Rattle.sc_drive.specs.declared.company.Stop.TheVariants.{Full, OutOfMemory}
 use Rattle.sc_drive.specs.Changing.{Changes}
 use Rattle.sc_drive.specs.Goings.{StaysSo}
 use Rattle.sc_drive.proofs.Kept.{kept_gathered, kept_then, on_gathered, all_of_stays}

@@ -24,7 +24,7 @@ use Rattle.sc_workers.specs.Ends.{IsGathered}
 use Rattle.sc_workers.proofs.Lists.{one_of}
 use Rattle.sc_workers.proofs.Crews.{still_all_go, still_sound, still_rows}
 use Rattle.sc_workers.proofs.Serving.{numbers_go}
-use Rattle.sc_drive.specs.declared.companies.Stop.TheVariants.{Full as TooMuch, OutOfMemory}
+use Rattle.sc_drive.specs.declared.company.Stop.TheVariants.{Full as TooMuch, OutOfMemory}
 use Rattle.sc_drive.specs.Numbers.{is_in, apart}
 use Rattle.sc_drive.specs.Companies.{IsCompany}
 use Rattle.sc_drive.specs.Stepping.{IsPlace, IsNowhere, Stepped}
@@ -38,7 +38,7 @@ use Rattle.std.proofs.lemmas.Bool.{and_parts, eqb-true, lt-ltb}
 use Rattle.sc_exchange.specs.declared.fates.Fate.{Fate}
 use Rattle.sc_exchange.specs.declared.fates.Fate.TheVariants.{Lost, Repeated}
 use Rattle.sc_drive.specs.Changing.{Changes}
-use Rattle.sc_drive.specs.declared.companies.Stop.{Stop}
+use Rattle.sc_drive.specs.declared.company.Stop.{Stop}
 use Rattle.sc_exchange.proofs.Knowing.{looked_trans, stays_trans}
 use Rattle.sc_turn.proofs.Lists.{starts_trans}
 

@@ -23,8 +23,8 @@ use Rattle.sc_sched.specs.Deeds.{deed_of, deed_line}
 use Rattle.sc_sched.specs.Laws.{AreWithin, MakesItsRow}
 use Rattle.sc_shell.specs.declared.shells.Shell.{Shell}
 use Rattle.sc_workers.proofs.Lists.{one_of}
-use Rattle.sc_drive.specs.declared.companies.Score.{Score}
-use Rattle.sc_drive.specs.declared.companies.Stop.TheVariants.{Full, OutOfMemory}
+use Rattle.sc_drive.specs.declared.company.Score.{Score}
+use Rattle.sc_drive.specs.declared.company.Stop.TheVariants.{Full, OutOfMemory}
 use Rattle.sc_drive.specs.Companies.{IsCompany}
 use Rattle.sc_drive.specs.Goings.{HasReached, Goes, Fills, DeedMade, IsCalm}
 use Rattle.sc_drive.specs.Storming.{IsStormLine}
@@ -115,20 +115,20 @@ module _ {A M O : Type 0} {g : Ghosts A M O} {h : MailGhosts M} where
         } in
         subst (IsFull s h.weighs lines net.limit) (sym t.1) here
 
-module _ {A M O : Type 0} {g : Ghosts A M O} {h : MailGhosts M} (net mid next : Port M O h) (ss mids after : List (Shell A M O g h)) (score : Score) (words : ℕ → ℕ × ℕ) (most done : ℕ) (lt : done < most)
-    (goes : Goes net ss score (storm_steps words 0 most) mid mids score (storm_steps words done (most - done))) where
+module _ {A M O : Type 0} {g : Ghosts A M O} {h : MailGhosts M} (net mid next : Port M O h) (ss mids after : List (Shell A M O g h)) (score between now : Score) (words : ℕ → ℕ × ℕ) (most done : ℕ) (lt : done < most)
+    (goes : Goes net ss score (storm_steps words 0 most) mid mids between (storm_steps words done (most - done))) where
   -- a storm goes on by a step
-  pub storm_goes : Goes mid mids score (Storms (words done) ∷ []) next after score [] → Goes net ss score (storm_steps words 0 most) next after score (storm_steps words (done + 1) (most - (done + 1)))
+  pub storm_goes : Goes mid mids between (Storms (words done) ∷ []) next after now [] → Goes net ss score (storm_steps words 0 most) next after now (storm_steps words (done + 1) (most - (done + 1)))
   storm_goes step = λ draws births lines rest at.
       step draws births lines (storm_steps words (done + 1) (most - (done + 1)) ++ rest)
-      (subst (λ ts. HasReached draws births lines mid mids score (ts ++ rest)) (steps_left words most done lt) (goes draws births lines rest at))
+      (subst (λ ts. HasReached draws births lines mid mids between (ts ++ rest)) (steps_left words most done lt) (goes draws births lines rest at))
 
   -- a step of it comes to a row that passes the limit
-  pub storm_fills : mid.limit ≡ net.limit → Fills mid mids score (Storms (words done) ∷ []) next → Fills net ss score (storm_steps words 0 most) next
+  pub storm_fills : mid.limit ≡ net.limit → Fills mid mids between (Storms (words done) ∷ []) next → Fills net ss score (storm_steps words 0 most) next
   storm_fills limit step = λ draws births lines rest at.
       subst (λ n. IsFull (system g.table h.receiver draws births) h.weighs lines n (seen next)) limit
       (step draws births lines (storm_steps words (done + 1) (most - (done + 1)) ++ rest)
-      (subst (λ ts. HasReached draws births lines mid mids score (ts ++ rest)) (steps_left words most done lt) (goes draws births lines rest at)))
+      (subst (λ ts. HasReached draws births lines mid mids between (ts ++ rest)) (steps_left words most done lt) (goes draws births lines rest at)))
 
 module _ {A M O : Type 0} {g : Ghosts A M O} {h : MailGhosts M} where
   -- a storm begins
@@ -138,8 +138,8 @@ module _ {A M O : Type 0} {g : Ghosts A M O} {h : MailGhosts M} where
       subst (λ n. HasReached draws births lines net ss score (storm_steps words 0 n ++ rest)) all at
 
   -- after its last step nothing of it is left
-  pub storm_ends : (net next : Port M O h) (ss after : List (Shell A M O g h)) (score : Score) (words : ℕ → ℕ × ℕ) (most done : ℕ) → most ≤ done → Goes net ss score (storm_steps words 0 most) next after score (storm_steps words done (most - done)) →
-      Goes net ss score (storm_steps words 0 most) next after score []
-  storm_ends net next ss after score words most done le goes = λ draws births lines rest at.
+  pub storm_ends : (net next : Port M O h) (ss after : List (Shell A M O g h)) (score now : Score) (words : ℕ → ℕ × ℕ) (most done : ℕ) → most ≤ done → Goes net ss score (storm_steps words 0 most) next after now (storm_steps words done (most - done)) →
+      Goes net ss score (storm_steps words 0 most) next after now []
+  storm_ends net next ss after score now words most done le goes = λ draws births lines rest at.
       let none : most - done ≡ 0 = omega (arith, le) in
-      subst (λ n. HasReached draws births lines next after score (storm_steps words done n ++ rest)) none (goes draws births lines rest at)
+      subst (λ n. HasReached draws births lines next after now (storm_steps words done n ++ rest)) none (goes draws births lines rest at)

@@ -17,7 +17,7 @@ use Rattle.sc_exchange.specs.Ports.{seen}
 use Rattle.sc_shell.specs.declared.shells.Shell.{Shell}
 use Rattle.sc_shell.specs.Shells.{ReplaysOver}
 use Rattle.sc_workers.specs.Crews.{crew_numbers}
-use Rattle.sc_drive.specs.declared.companies.Score.{Score}
+use Rattle.sc_drive.specs.declared.company.Score.{Score}
 use Rattle.sc_drive.specs.Numbers.{is_in}
 use Rattle.sc_drive.specs.Companies.{IsCompany, seats}
 use Rattle.sc_drive.specs.Lowest.{FindsLowest, Lowest, Rests}

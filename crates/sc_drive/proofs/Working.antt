@@ -1,6 +1,7 @@
 -- What acts of actors and of the network make of a company.
 use Rattle.std.proofs.Common.{◌≡◌, ◌≤◌, ℕ, Bool, true, false, true≢false, Option, Some, None, refl, sym, ◌∙◌, subst}
 use Rattle.std.specs.Prelude.{Result, Ok, Err}
+use Rattle.std.specs.Result.{IsErrAnd}
 use Rattle.sc_actor.specs.declared.actors.Actor.{Ghosts}
 use Rattle.sc_actor.specs.declared.actors.Parcel.{Ghosts as MailGhosts}
 use Rattle.sc_actor.specs.declared.rows.Event.{Event}
@@ -20,9 +21,9 @@ use Rattle.sc_shell.specs.declared.turns.Turn.TheVariants as turn
 use Rattle.sc_workers.specs.Crews.{AreStill, IsCrew}
 use Rattle.sc_workers.specs.Ends.{IsGathered}
 use Rattle.sc_workers.proofs.Crews.{stays_same}
-use Rattle.sc_drive.specs.declared.companies.Company.{Company}
-use Rattle.sc_drive.specs.declared.companies.Stop.{Stop}
-use Rattle.sc_drive.specs.declared.companies.Stop.TheVariants.{Full, OutOfMemory}
+use Rattle.sc_drive.specs.declared.company.Company.{Company}
+use Rattle.sc_drive.specs.declared.company.Stop.{Stop}
+use Rattle.sc_drive.specs.declared.company.Stop.TheVariants.{Full, OutOfMemory}
 use Rattle.sc_drive.specs.Changing.{Changes}
 use Rattle.sc_drive.specs.Companies.{IsCompany}
 use Rattle.sc_drive.specs.Goings.{IsOn}
@@ -34,6 +35,11 @@ use Rattle.sc_drive.proofs.Companies.{company_still}
 use Rattle.sc_drive.proofs.Kept.{on_gathered, on_same, on_then, together_on}
 use Rattle.sc_drive.proofs.NetworkKept.{change_on, stays_looked}
 use Rattle.sc_drive.proofs.NetworkRows.{loses_nowhere, loses_none, loses_so, repeats_unsent, repeats_nowhere, repeats_so}
+
+-- what an error became that went on as it was
+pub same_stop : {T : Type 0} (r : Result T Stop) (stop : Stop) → IsErrAnd r (λ e. e ≡ stop) → r ≡ Err Full → stop ≡ Full
+same_stop (Ok x) stop is e = absurd is
+same_stop (Err s) stop is e = let same : s ≡ Full = cc in sym is ∙ same
 
 module _ {A M O : Type 0} {g : Ghosts A M O} {h : MailGhosts M} where
   -- an event of an actor that has no shell

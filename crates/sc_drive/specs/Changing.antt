@@ -10,8 +10,8 @@ use Rattle.sc_exchange.specs.Ports.{seen, Looked, Stays, ChangedBy, MayNotChange
 use Rattle.sc_shell.specs.declared.shells.Shell.{Shell}
 use Rattle.sc_workers.specs.Crews.{AreStill}
 use Rattle.sc_workers.specs.Ends.{IsGathered}
-use Rattle.sc_drive.specs.declared.companies.Stop.{Stop}
-use Rattle.sc_drive.specs.declared.companies.Stop.TheVariants.{Full, OutOfMemory}
+use Rattle.sc_drive.specs.declared.company.Stop.{Stop}
+use Rattle.sc_drive.specs.declared.company.Stop.TheVariants.{Full, OutOfMemory}
 
 module _ {M O : Type 0} {h : MailGhosts M} where
   -- its row was appended, where it might be; or it might not be; or its row would pass the limit

@@ -1,5 +1,5 @@
 -- How a driver stands with the walk of a schedule.
-use Rattle.std.specs.Prelude.{◌≡◌, ℕ, ◌≤◌, List, ◌++◌, Bool, false, Option, option_and_then, Result, Ok, Err, ⊤, Contains}
+use Rattle.std.specs.Prelude.{◌≡◌, ℕ, ◌≤◌, List, ◌++◌, Bool, true, false, Option, option_and_then, Result, Ok, Err, ⊤, Contains}
 use Rattle.sc_actor.specs.declared.actors.Actor.{Ghosts}
 use Rattle.sc_actor.specs.declared.actors.Parcel.{Ghosts as MailGhosts}
 use Rattle.sc_actor.specs.declared.actors.Seat.{Seat}
@@ -17,9 +17,9 @@ use Rattle.sc_exchange.specs.declared.ports.Port.{Port}
 use Rattle.sc_exchange.specs.Ports.{seen, Stays, IsTrue}
 use Rattle.sc_workers.specs.Crews.{AllOf, AllOver, AllSound, IsCrew, crew_numbers}
 use Rattle.sc_shell.specs.declared.shells.Shell.{Shell}
-use Rattle.sc_drive.specs.declared.companies.Score.{Score}
-use Rattle.sc_drive.specs.declared.companies.Stop.{Stop}
-use Rattle.sc_drive.specs.declared.companies.Stop.TheVariants.{Full, OutOfMemory}
+use Rattle.sc_drive.specs.declared.company.Score.{Score}
+use Rattle.sc_drive.specs.declared.company.Stop.{Stop}
+use Rattle.sc_drive.specs.declared.company.Stop.TheVariants.{Full, OutOfMemory}
 use Rattle.sc_drive.specs.Numbers.{is_in}
 use Rattle.sc_drive.specs.Companies.{IsCompany, seats}
 use Rattle.sc_drive.specs.Stepping.{Stepped, unless_crashed}

@@ -1,11 +1,11 @@
 -- Whether a row was made, or why none could be.
 use Rattle.std.specs.Prelude.{Bool, true, false, Result, Ok, Err}
-use Rattle.sc_exchange.specs.declared.answers.PostFault.{PostFault}
-use Rattle.sc_exchange.specs.declared.answers.PostFault.TheVariants as post
+use Rattle.sc_ledger.specs.declared.faults.PostFault.{PostFault}
+use Rattle.sc_ledger.specs.declared.faults.PostFault.TheVariants as post
 use Rattle.sc_shell.specs.declared.turns.Turn.{Turn}
 use Rattle.sc_shell.specs.declared.turns.Turn.TheVariants as turn
-use Rattle.sc_drive.specs.declared.companies.Stop.{Stop}
-use Rattle.sc_drive.specs.declared.companies.Stop.TheVariants.{Full, OutOfMemory}
+use Rattle.sc_drive.specs.declared.company.Stop.{Stop}
+use Rattle.sc_drive.specs.declared.company.Stop.TheVariants.{Full, OutOfMemory}
 
 -- why a schedule stops where a row could not be posted
 abbrev pub stop_by : PostFault → Stop

@@ -10,8 +10,8 @@ use Rattle.sc_actor.specs.System.{System, acts}
 use Rattle.sc_exchange.specs.declared.ports.Port.{Port}
 use Rattle.sc_exchange.specs.Ports.{seen}
 use Rattle.sc_shell.specs.declared.shells.Shell.{Shell}
-use Rattle.sc_drive.specs.declared.companies.Stop.{Stop}
-use Rattle.sc_drive.specs.declared.companies.Stop.TheVariants.{Full, OutOfMemory}
+use Rattle.sc_drive.specs.declared.company.Stop.{Stop}
+use Rattle.sc_drive.specs.declared.company.Stop.TheVariants.{Full, OutOfMemory}
 use Rattle.sc_workers.specs.Crews.{crew_numbers}
 use Rattle.sc_drive.specs.Numbers.{is_in}
 use Rattle.sc_drive.specs.Companies.{IsCompany}

@@ -14,9 +14,9 @@ use Rattle.sc_actor.specs.Walk.{Task, Settles}
 use Rattle.sc_exchange.specs.Ports.{seen}
 use Rattle.sc_exchange.specs.declared.fates.Fate.{Fate}
 use Rattle.sc_shell.specs.declared.turns.Turn.{Turn}
-use Rattle.sc_drive.specs.declared.companies.Company.{Company}
-use Rattle.sc_drive.specs.declared.companies.Stop.{Stop}
-use Rattle.sc_drive.specs.declared.companies.Stop.TheVariants.{Full, OutOfMemory}
+use Rattle.sc_drive.specs.declared.company.Company.{Company}
+use Rattle.sc_drive.specs.declared.company.Stop.{Stop}
+use Rattle.sc_drive.specs.declared.company.Stop.TheVariants.{Full, OutOfMemory}
 use Rattle.sc_drive.specs.Acts.{IsTold, ServedAll, SoundAfter, ToldAll}
 use Rattle.sc_drive.specs.Changing.{ChangesAll}
 use Rattle.sc_drive.specs.Companies.{AtBirth, IsCompany}

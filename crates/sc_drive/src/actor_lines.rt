@@ -7,7 +7,7 @@ ghost use Rattle.sc_drive.specs.Stepping.{IsPlace, IsNowhere, unless_crashed};
 ghost use Rattle.sc_drive.specs.Working.{AreTogether, MayBeTold, RowEnds};
 
 use crate::acts::{serve, tell};
-use crate::companies::{Company, Stop, row_made};
+use crate::company::{Company, Stop, row_made};
 use sc_actor::{Actor, Event, Gate, Line};
 use sc_shell::Shell;
 use std::alloc::Global;

@@ -7,7 +7,7 @@ ghost use Rattle.sc_workers.specs.Ends.{IsFirst};
 ghost use Rattle.sc_drive.specs.Acts.{MetAndTold, MetAndTook};
 ghost use Rattle.sc_drive.specs.Working.{ActServed, ActTold, AreTogether};
 
-use crate::companies::Company;
+use crate::company::Company;
 use sc_actor::{Actor, Event, Gate};
 use sc_base::OutOfMemory;
 use sc_exchange::{Fetched, Port};
@@ -60,7 +60,13 @@ pub(crate) fn tell<A: Actor, R: Wait>(
     requires event { MayHappen event }
     ensures { IfOk result (λ turn. ActTold place event turn company.old company.new) }
 {
-    let turn = tell_one(rt, alloc, &mut company.net, &mut company.shells[place], event)?;
+    let turn = tell_one(
+        rt,
+        alloc,
+        &mut company.net,
+        &mut company.shells[place],
+        event,
+    )?;
     let _ = gather(rt, &mut company.net, &mut company.shells)?;
     Ok(turn)
 }
@@ -80,7 +86,14 @@ pub(crate) fn serve<A: Actor, G: Gate, R: Wait>(
     ensures found { IfOk result (λ served. IsFirst company.new.net served.1) }
     ensures served { IfOk result (λ served. ActServed place k served.0 company.old company.new) }
 {
-    let turn = serve_one(rt, alloc, &mut company.net, &mut company.shells[place], k, gate)?;
+    let turn = serve_one(
+        rt,
+        alloc,
+        &mut company.net,
+        &mut company.shells[place],
+        k,
+        gate,
+    )?;
     let found = gather(rt, &mut company.net, &mut company.shells)?;
     Ok((turn, found))
 }

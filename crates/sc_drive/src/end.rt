@@ -4,7 +4,7 @@ ghost use Rattle.sc_exchange.specs.Ports.{seen, given, joined_ports, HasJoined, 
 ghost use Rattle.sc_workers.specs.Crews.{AllOf, AllOver, crew_numbers};
 ghost use Rattle.sc_shell.specs.Shells.{actor_of, port_of};
 
-use crate::companies::Company;
+use crate::company::Company;
 use sc_actor::{Actor, Journal};
 use sc_base::{OutOfMemory, Sequence};
 use sc_exchange::Port;
@@ -22,6 +22,31 @@ fn take_apart<A: Actor>(net: &mut Port<A::Mail, A::Order>, shell: Shell<A>) -> A
     let (actor, port) = shell.parts();
     net.join(port);
     actor
+}
+
+// The same of all, and the network's port is closed.
+fn close_ports<A: Actor, R: Wait>(
+    rt: &R,
+    alloc: Global,
+    net: Port<A::Mail, A::Order>,
+    shells: Vec<Shell<A>>,
+) -> Result<(Journal<A::Mail, A::Order>, Sequence<A>), OutOfMemory>
+    requires net { net.who ≡ 0 }
+    requires exchange { AllOf net shells.items }
+    requires all { given net ≡ crew_numbers shells.items }
+    requires none { joined_ports net ≡ [] }
+    requires over { AllOver net shells.items }
+    requires rows { IsTrue net }
+    ensures journal { IfOk result (λ left. left.0 ≡ seen net) }
+    ensures actors { IfOk result (λ left. left.1 ≡ map actor_of shells.items) }
+{
+    let mut all = net;
+    let mut actors = Sequence::new(alloc);
+    for shell in shells {
+        let actor = take_apart(&mut all, shell);
+        actors.push(actor)?;
+    }
+    Ok((all.close(rt), actors))
 }
 
 /// Takes the shells apart, joins their ports and closes the network's port: the journal, which is
@@ -43,15 +68,5 @@ pub fn close<A: Actor, R: Wait>(
     ensures journal { IfOk result (λ left. left.0 ≡ seen company.net) }
     ensures actors { IfOk result (λ left. left.1 ≡ map actor_of company.shells.items) }
 {
-    let Company {
-        net: mut all,
-        shells,
-        score: _,
-    } = company;
-    let mut actors = Sequence::new(alloc);
-    for shell in shells {
-        let actor = take_apart(&mut all, shell);
-        actors.push(actor)?;
-    }
-    Ok((all.close(rt), actors))
+    close_ports(rt, alloc, company.net, company.shells)
 }

@@ -3,7 +3,7 @@ ghost use Rattle.std.specs.Prelude.{[], ◌∷◌, OnOk, IsErrOf};
 ghost use Rattle.sc_actor.specs.Walk.{Frees};
 ghost use Rattle.sc_drive.specs.Working.{AreTogether, LineEnded, LineRefused};
 
-use crate::companies::{Company, Stop};
+use crate::company::{Company, Stop};
 use sc_actor::{Actor, Gate};
 use sc_workers::{Rounds, gather, rounds};
 use std::alloc::Global;

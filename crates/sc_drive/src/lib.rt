@@ -3,7 +3,7 @@
 
 mod actor_lines;
 mod acts;
-mod companies;
+mod company;
 mod conditions;
 mod end;
 mod free_lines;
@@ -14,7 +14,7 @@ mod single_lines;
 mod start;
 mod storm_lines;
 
-pub use companies::{Company, Score};
+pub use company::{Company, Score};
 pub use conditions::goers_are_spared;
 pub use end::close;
 pub use schedules::drive;

@@ -6,7 +6,7 @@ ghost use Rattle.sc_drive.specs.Changing.{Changes};
 ghost use Rattle.sc_drive.specs.Working.{AreTogether, NetworkActs, RowEnds};
 
 use crate::actor_lines::place_of;
-use crate::companies::{Company, Stop};
+use crate::company::{Company, Stop};
 use sc_actor::{Actor, Line, Parcel};
 use sc_exchange::{Fate, Port};
 use sc_workers::gather;

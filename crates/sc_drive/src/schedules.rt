@@ -7,7 +7,7 @@ ghost use Rattle.sc_chance.specs.Words.{two_words};
 ghost use Rattle.sc_drive.specs.Goings.{SparesGoers};
 ghost use Rattle.sc_drive.specs.Working.{AreTogether, HasOpened, IsDriven, IsStaffed, LineEnded, LineRefused, MayBeTold, StaysWhole};
 
-use crate::companies::{Company, Stop};
+use crate::company::{Company, Stop};
 use crate::free_lines::run_free;
 use crate::settle_lines::{lowest, run_settle};
 use crate::single_lines::{run_go, run_once};

@@ -7,7 +7,7 @@ ghost use Rattle.sc_drive.specs.Working.{AreTogether, HasFound, HasSettledOne, I
 
 use crate::actor_lines::place_of;
 use crate::acts::serve;
-use crate::companies::{Company, Stop};
+use crate::company::{Company, Stop};
 use sc_actor::{Actor, Gate, Parcel};
 use sc_base::OutOfMemory;
 use sc_exchange::{Fetched, Spot};
@@ -38,10 +38,7 @@ fn look_on<A: Actor, R: Wait>(
 {
     let look = company.net.look(rt)?;
     let _ = gather(rt, &mut company.net, &mut company.shells)?;
-    Ok(first_placed(
-        company.shells.as_slice(),
-        look.pending.as_slice(),
-    ))
+    Ok(first_placed(company.shells.as_slice(), look.pending.as_slice()))
 }
 
 // The place of the shell that gets the lowest-numbered pending mail of all, where this is what was

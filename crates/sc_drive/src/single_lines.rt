@@ -6,7 +6,7 @@ ghost use Rattle.sc_drive.specs.Goings.{IsCalm};
 ghost use Rattle.sc_drive.specs.Working.{AreTogether, LineEnded, LineRefused, MayBeTold, RowEnds};
 
 use crate::actor_lines::{deliver, go, happen};
-use crate::companies::{Company, Score, Stop};
+use crate::company::{Company, Score, Stop};
 use crate::network_lines::{again, lose};
 use sc_actor::{Actor, Event, Gate, Line};
 use sc_base::Dup;

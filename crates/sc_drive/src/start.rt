@@ -5,7 +5,7 @@ ghost use Rattle.sc_drive.specs.Working.{HasOpened};
 ghost use Rattle.sc_drive.specs.Ends.{Seated};
 ghost use Rattle.sc_actor.specs.System.{are_apart};
 
-use crate::companies::{Company, Score};
+use crate::company::{Company, Score};
 use sc_actor::{Actor, Seat};
 use sc_base::OutOfMemory;
 use sc_exchange::Port;

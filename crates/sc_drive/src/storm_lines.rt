@@ -7,7 +7,7 @@ ghost use Rattle.sc_drive.specs.Goings.{IsCalm};
 ghost use Rattle.sc_drive.specs.Storming.{IsStormLine};
 ghost use Rattle.sc_drive.specs.Working.{AreTogether, HasRested, LineEnded, LineRefused, RowEnds};
 
-use crate::companies::{Company, Stop};
+use crate::company::{Company, Stop};
 use crate::single_lines::step_line;
 use sc_actor::{Actor, Gate, Line};
 use sc_base::OutOfMemory;

@@ -24,8 +24,8 @@ returns g c =
     repeats_row c.args.company.now c.change.new.company c.receiver.new.self c.receiver.ensures.looked.looked
     c.in-Some.who place c.args.number at (sym c.in-Some.is ∙ c.receiver.ensures.receiver) c.change.result c.change.ensures
 
-pub change-requires : goal.change-requires
-change-requires g c κs within = looked_crew c.args.company.now.net c.receiver.new.self c.args.company.now.shells.items c.receiver.ensures.looked.looked c.requires.together.crew
+pub change-requires-clause-crew : goal.change-requires-clause-crew
+change-requires-clause-crew g c κs within = looked_crew c.args.company.now.net c.receiver.new.self c.args.company.now.shells.items c.receiver.ensures.looked.looked c.requires.together.crew
 
 pub gather-requires-clause-exchange : goal.gather-requires-clause-exchange
 gather-requires-clause-exchange g c κs within = all_of_later c.args.company.now.net c.receiver.new.self c.args.company.now.shells.items c.receiver.ensures.looked.looked c.requires.together.crew.exchange

@@ -26,8 +26,8 @@ returns g c =
     loses_row c.args.company.now c.change.new.company c.pending.new.self c.pending.ensures.looked.looked
     c.args.who c.args.k c.in-Some.field-0 c.in-Some-pending.number at (sym c.in-Some-pending.is ∙ c.pending.ensures.kth) c.change.result c.change.ensures
 
-pub change-requires : goal.change-requires
-change-requires g c κs within = looked_crew c.args.company.now.net c.pending.new.self c.args.company.now.shells.items c.pending.ensures.looked.looked c.requires.together.crew
+pub change-requires-clause-crew : goal.change-requires-clause-crew
+change-requires-clause-crew g c κs within = looked_crew c.args.company.now.net c.pending.new.self c.args.company.now.shells.items c.pending.ensures.looked.looked c.requires.together.crew
 
 pub gather-requires-clause-exchange : goal.gather-requires-clause-exchange
 gather-requires-clause-exchange g c κs within = all_of_later c.args.company.now.net c.pending.new.self c.args.company.now.shells.items c.pending.ensures.looked.looked c.requires.together.crew.exchange

@@ -1,6 +1,7 @@
 //! A company at work: the network's port, the shells of all actors, and what the walk has counted.
 ghost use Rattle.std.specs.Prelude.{◌≡◌};
 ghost use Rattle.sc_drive.specs.Rows.{row_made, stop_by};
+ghost use Rattle.sc_drive.specs.declared.company.Stop.TheVariants.{OutOfMemory as NoRoom};
 
 use sc_actor::Actor;
 use sc_base::OutOfMemory;
@@ -36,7 +37,7 @@ pub enum Stop {
 }
 
 impl From<OutOfMemory> for Stop {
-    ghost from_gives = { λ _ stop. stop ≡ Stop.OutOfMemory };
+    ghost from_gives = { λ _ stop. stop ≡ NoRoom };
 
     fn from(_fault: OutOfMemory) -> Stop {
         Stop::OutOfMemory
