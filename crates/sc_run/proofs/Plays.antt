@@ -13,8 +13,8 @@ use Rattle.sc_actor.specs.Walk.{IsLawful, IsWhole, skipped, unsettled, is_quiet}
 use Rattle.sc_actor.specs.Counted.{IsFull}
 use Rattle.sc_shell.specs.declared.shells.Shell.{Shell}
 use Rattle.sc_drive.specs.Companies.{seats}
-use Rattle.sc_drive.specs.declared.steps.Driven.{Driven}
-use Rattle.sc_drive.specs.declared.steps.Driven.TheVariants as driven
+use Rattle.sc_actor.specs.declared.schedules.Played.{Played}
+use Rattle.sc_actor.specs.declared.schedules.Played.TheVariants.{Ended, Full, OutOfMemory}
 use Rattle.sc_scenario.specs.Valid.{IsValid}
 use Rattle.sc_scenario.specs.declared.scenarios.Scenario.{Scenario}
 use Rattle.sc_report.specs.Report.{report_lines}
@@ -28,14 +28,14 @@ use Rattle.sc_run.specs.Played.{mail_weight, HasPlayedToEnd, HasFilled}
 use Rattle.sc_run.specs.Run.{journal_limit, Comes, TellsFull}
 
 -- an answer other than a want of memory
-abbrev Drove : Driven → Type 0
-Drove (driven.Ended cut quiet skips) = ⊤
-Drove driven.Full = ⊤
-Drove driven.OutOfMemory = ⊥
+abbrev GoesOn : Played → Type 0
+GoesOn (Ended cut quiet skips) = ⊤
+GoesOn Full = ⊤
+GoesOn OutOfMemory = ⊥
 
 -- a run that ended is no want of memory
-pub drove_on : (cut quiet : Bool) (skips : ℕ) → driven.Ended cut quiet skips ≢ driven.OutOfMemory
-drove_on cut quiet skips e = subst Drove e tt
+pub no_want : (cut quiet : Bool) (skips : ℕ) → Ended cut quiet skips ≢ OutOfMemory
+no_want cut quiet skips e = subst GoesOn e tt
 
 -- the actors of shells are those of their seats
 pub actors_of : {A M O : Type 0} {g : Ghosts A M O} {h : MailGhosts M} (ss : List (Shell A M O g h)) → map (λ s. s.actor) ss ≡ map (λ seat. seat.actor) (seats ss)

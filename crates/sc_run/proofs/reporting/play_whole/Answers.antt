@@ -11,12 +11,12 @@ pub close-requires-clause-all : goal.close-requires-clause-all
 close-requires-clause-all g c κs within =
     let went_on : c.play-played.result ≢ OutOfMemory = search rules in
     let kept = c.play-played.ensures.kept went_on in
-    kept.stays.given ∙ c.in_ok-net.ensures.births.all ∙ sym kept.same
+    kept.stays.given ∙ c.in_ok-company.ensures.opened.birth.all ∙ sym kept.same
 
 pub close-requires-clause-none : goal.close-requires-clause-none
 close-requires-clause-none g c κs within =
     let went_on : c.play-played.result ≢ OutOfMemory = search rules in
-    (c.play-played.ensures.kept went_on).stays.joined ∙ c.in_ok-net.ensures.unjoined
+    (c.play-played.ensures.kept went_on).stays.joined ∙ c.in_ok-company.ensures.unjoined
 
 pub close-requires-clause-over : goal.close-requires-clause-over
 close-requires-clause-over g c κs within =
