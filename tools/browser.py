@@ -39,15 +39,24 @@ class Browser:
         # Chromium reads from 3 and writes to 4
         script = f'exec "$@" 3<&{theirs_in} 4>&{theirs_out}'
         words = [
-            self.program, "--headless", "--remote-debugging-pipe", "--no-first-run",
-            "--disable-gpu", "--hide-scrollbars", f"--user-data-dir={self.folder.name}",
-            "--window-size={},{}".format(*self.size), "about:blank",
+            self.program,
+            "--headless",
+            "--remote-debugging-pipe",
+            "--no-first-run",
+            "--disable-gpu",
+            "--hide-scrollbars",
+            f"--user-data-dir={self.folder.name}",
+            "--window-size={},{}".format(*self.size),
+            "about:blank",
         ]
         if os.geteuid() == 0:
             words.insert(1, "--no-sandbox")  # it refuses to run as root with it
         self.process = subprocess.Popen(
-            ["sh", "-c", script, "sh", *words], pass_fds=(theirs_in, theirs_out),
-            stdin=subprocess.DEVNULL, stdout=subprocess.DEVNULL, stderr=subprocess.DEVNULL,
+            ["sh", "-c", script, "sh", *words],
+            pass_fds=(theirs_in, theirs_out),
+            stdin=subprocess.DEVNULL,
+            stdout=subprocess.DEVNULL,
+            stderr=subprocess.DEVNULL,
         )
         os.close(theirs_in)
         os.close(theirs_out)
@@ -120,7 +129,9 @@ class Browser:
         self.ask("Page.navigate", url="about:blank")
         self.ask("Page.navigate", url=address)
         until = time.monotonic() + SECONDS
-        while self.value("document.readyState") != "complete" or "blank" in self.value("location.href"):
+        while self.value("document.readyState") != "complete" or "blank" in self.value(
+            "location.href"
+        ):
             if time.monotonic() > until:
                 raise Failed(f"{address} was not loaded in {SECONDS} seconds")
             time.sleep(0.02)
@@ -145,8 +156,14 @@ class Browser:
         if place is None:
             raise Failed(f"there is no {selector}")
         for kind in ("mousePressed", "mouseReleased"):
-            self.ask("Input.dispatchMouseEvent", type=kind, x=place[0], y=place[1],
-                     button="left", clickCount=1)
+            self.ask(
+                "Input.dispatchMouseEvent",
+                type=kind,
+                x=place[0],
+                y=place[1],
+                button="left",
+                clickCount=1,
+            )
 
     def picture(self, name):
         """Writes a picture of what is seen."""
@@ -156,8 +173,11 @@ class Browser:
 
     def requests(self):
         """The addresses that the page asked for since it was opened."""
-        return [one["params"]["request"]["url"] for one in self.seen
-                if one.get("method") == "Network.requestWillBeSent"]
+        return [
+            one["params"]["request"]["url"]
+            for one in self.seen
+            if one.get("method") == "Network.requestWillBeSent"
+        ]
 
     def faults(self):
         """What went wrong in the page."""

@@ -1,4 +1,4 @@
-"""What a group's log makes of the group: its arc, members, neighbours, keys and lock, entry by entry.
+"""What a group's log makes of the group, entry by entry: arc, members, neighbours, keys, lock.
 
 It is for `decided.py`, which finds what is in the logs. It follows the program's rules of a group,
 as docs/SCENARIOS.md tells them, and is written apart from the proved program, which proves nothing
@@ -110,7 +110,9 @@ class Group:
                 return self.watch_heard(fields["tx"], fields["vote"])
             if kind == "GiveUp":
                 is_mine = self.asks(fields["tx"])
-                return (self.decide(fields["tx"], "Abort") if is_mine else self.nothing(fields)), None
+                return (
+                    self.decide(fields["tx"], "Abort") if is_mine else self.nothing(fields)
+                ), None
             return self.finish(fields["tx"], fields["outcome"]), None
         except Unmade:
             return self.nothing(fields), None
@@ -245,9 +247,15 @@ class Group:
         kind, fields = kind_and_fields(offer["body"])
         if self.arc[0] != end(offer["arc"]):
             return "Apart"
-        if kind == "Repart" and not holds(offer["arc"], fields["at"]) and not cut(self.arc, fields["at"]):
+        if (
+            kind == "Repart"
+            and not holds(offer["arc"], fields["at"])
+            and not cut(self.arc, fields["at"])
+        ):
             return "Apart"
-        more = offer["members"] if kind == "Merge" else [fields["node"]] if kind == "Migrate" else []
+        more = (
+            offer["members"] if kind == "Merge" else [fields["node"]] if kind == "Migrate" else []
+        )
         count = len(self.members | set(more))
         return {"TooMany": {"n": count}} if count > MOST_MEMBERS else None
 

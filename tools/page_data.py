@@ -210,10 +210,19 @@ class Page:
         found = []
         for shape in self.decided.shapes:
             gone = shape.gone["group"] if shape.gone else None
-            found.append([
-                shape.row, self.groups.place(shape.group), *shape.arc, shape.members,
-                shape.role, self.txs.place(shape.tx) if shape.tx else 0, gone, shape.succ, shape.pred,
-            ])
+            found.append(
+                [
+                    shape.row,
+                    self.groups.place(shape.group),
+                    *shape.arc,
+                    shape.members,
+                    shape.role,
+                    self.txs.place(shape.tx) if shape.tx else 0,
+                    gone,
+                    shape.succ,
+                    shape.pred,
+                ]
+            )
         return found
 
     def rings(self):
@@ -259,7 +268,10 @@ class Page:
             "mails": self.mails(),
             "entries": self.entries(),
             "requests": self.request_columns(),
-            "orders": [[one.number, one.node, one.said, one.row, one.result, one.ended] for one in self.orders],
+            "orders": [
+                [one.number, one.node, one.said, one.row, one.result, one.ended]
+                for one in self.orders
+            ],
             "shapes": self.shapes(),
             "rings": self.rings(),
             "ballots": self.ballots(),

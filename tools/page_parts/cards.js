@@ -4,7 +4,8 @@ const MOST_STEPS = 300; // lines of a card
 
 function showNow() {
   const count = `Row ${spelled(state.row)} of ${spelled(ROWS)}`;
-  find("now").replaceChildren(make("h2", {}, count), make("div", { id: "said-now" }, rowLines(state.row)));
+  const lines = make("div", { id: "said-now" }, rowLines(state.row));
+  find("now").replaceChildren(make("h2", {}, count), lines);
 }
 
 /** A line of a card: a row, and what happened. */
@@ -76,8 +77,9 @@ function mailCard(mail) {
 function stepsOf(mailList, entryList) {
   const found = [];
   for (const mail of mailList) {
-    const to = actor(mails.to[mail]);
-    found.push([sentIn[mail], 1, () => [`${actor(mails.from[mail])} sends `, mailLink(mail), ` to ${to}: ${words(mail)}`]]);
+    const [from, to] = [actor(mails.from[mail]), actor(mails.to[mail])];
+    const sends = () => [`${from} sends `, mailLink(mail), ` to ${to}: ${words(mail)}`];
+    found.push([sentIn[mail], 1, sends]);
     for (const row of life(mail)) {
       const event = run.events[rows.event[row]];
       const verb = { Deliver: "gets", Drop: "never gets", Again: "is sent once more" }[event];
@@ -110,9 +112,11 @@ function requestCard(request) {
     list.push(["answered", rowLink(answered), `, ${spelled(answered - issued)} rows later`],
       ["reply", make("b", { id: "reply" }, run.texts[requests.reply[request]])]);
   } else list.push(["answered", make("b", { id: "reply" }, "not in this journal")]);
-  list.push(["key", link(key, "the rows about this key", () => searchKey(key)), ` at ${position(key)}`]);
+  const search = link(key, "the rows about this key", () => searchKey(key));
+  list.push(["key", search, ` at ${position(key)}`]);
   if (owner) list.push(["kept by", groupLink(owner), " at this row"]);
-  return [make("h3", {}, `Request ${requestName(request)}: ${run.texts[requests.text[request]]}`), facts(list),
+  const text = run.texts[requests.text[request]];
+  return [make("h3", {}, `Request ${requestName(request)}: ${text}`), facts(list),
     stepsOf(mailsOfRequest(request), entriesOfRequest(request))];
 }
 
@@ -141,7 +145,8 @@ function txCard(tx) {
 function orderCard(order) {
   const { number, node, text, row, result, ended } = orders[order];
   const list = [["told", `n${node}, `, rowLink(row)]];
-  list.push(ended ? ["came to", make("b", {}, result), ", ", rowLink(ended)] : ["came to", "nothing yet"]);
+  list.push(ended ? ["came to", make("b", {}, result), ", ", rowLink(ended)]
+    : ["came to", "nothing yet"]);
   return [make("h3", {}, `Order ${number}: ${text}`), facts(list),
     stepsOf(mailsOfOrder(order), entriesOfOrder(order))];
 }
@@ -149,7 +154,9 @@ function orderCard(order) {
 function groupCard(group) {
   const shape = shapeAt(group, state.row);
   const name = run.groups[group];
-  if (!shape) return [make("h3", {}, `Group ${name}`), make("p", { class: "note" }, "is not born yet")];
+  if (!shape) {
+    return [make("h3", {}, `Group ${name}`), make("p", { class: "note" }, "is not born yet")];
+  }
   const nodes = shape.members.map((node) => `n${node}`).join(" ");
   const list = [["arc", `${shape.lo}, ${shape.length} places`], ["members", nodes],
     ["lock", lockText(shape), shape.role ? [" ", txLink(shape.tx)] : ""],
@@ -163,9 +170,11 @@ function groupCard(group) {
 
 function showChosen() {
   const { kind, number } = state.chosen ?? {};
-  const cards = { mail: mailCard, request: requestCard, tx: txCard, order: orderCard, group: groupCard };
+  const cards = { mail: mailCard, request: requestCard, tx: txCard, order: orderCard,
+    group: groupCard };
   if (!kind) {
-    return [make("p", { class: "note" }, "Click on a mail, a request, a transaction or a group to see its story. ",
+    return [make("p", { class: "note" },
+      "Click on a mail, a request, a transaction or a group to see its story. ",
       "Arrow keys go through the rows; ? says the other keys.")];
   }
   return cards[kind](number);

@@ -39,7 +39,7 @@ const EVENT = Object.fromEntries(run.events.map((name, place) => [name, place]))
 const CLIENT = 32; // actors above are clients
 const RING = 2 ** 32;
 
-/** The places 1 to `count` by what `of` gives of each: a table of lists, packed into two columns. */
+/** The places 1 to `count` by what `of` gives of each: lists, packed into two columns. */
 function lists(count, most, of) {
   const starts = new Int32Array(most + 2);
   for (let i = 1; i <= count; i++) starts[of(i) + 1]++;
@@ -90,7 +90,8 @@ for (let row = 1, mail = 1; row <= ROWS + 1; row++) {
   for (let k = 0; row <= ROWS && k < rows.sent[row]; k++) sentIn[mail++] = row;
 }
 
-// The rows that deliver, lose or repeat each mail; what each request and change has of mail and log.
+// The rows that deliver, lose or repeat each mail; the mail and places of logs of each request,
+// transaction and order.
 const life = lists(ROWS, MAILS, mailOf);
 const mailsOfRequest = lists(MAILS, REQUESTS, (mail) => mails.request[mail]);
 const mailsOfTx = lists(MAILS, run.txs.length, (mail) => mails.tx[mail]);

@@ -6,6 +6,7 @@ const GUTTER = 66; // for the rows' numbers
 const TEXT = 280; // the least width of what rows say
 const LETTER = 6.35; // the width of a letter of it
 const MOST_ARROWS = 1200;
+const FAR = 40; // lines outside, where arrows that come from farther begin
 const NARROW = 30; // lanes that are narrower have small names, by turns higher and lower
 
 /** The window of rows that is drawn, and how wide lanes are. */
@@ -14,22 +15,41 @@ function frame() {
   const width = Math.max(320, box.clientWidth - 2);
   const count = Math.max(6, Math.floor((box.clientHeight - HEADS - 4) / HEIGHT));
   const many = Math.max(1, lanes.length);
-  const pitch = Math.max(17, Math.min(80, (width - GUTTER - TEXT) / many));
-  const text = GUTTER + many * pitch + 6;
+  const least = width - GUTTER - TEXT;
+  const pitch = Math.max(17, Math.min(80, least / many));
+  const room = Math.max(120, Math.min(many * pitch, least));
   const here = placeOf(state.row);
   const most = Math.max(0, shownCount() - count);
   const top = Math.max(0, Math.min(most, Math.ceil(here) - Math.floor(count * 0.45)));
-  const all = Math.max(width, text + TEXT / 2);
-  return { count, pitch, text, top, width: all, height: HEADS + count * HEIGHT };
+  const view = { count, pitch, room, top, width, text: GUTTER + room + 8, pan: 0,
+    height: HEADS + count * HEIGHT };
+  movePan(view, many * pitch - room);
+  return view;
+}
+
+let pan = 0; // how far the lanes are moved to the left, where there are more than room
+let panned = 0; // the row for which the lane of its actor was brought into sight
+
+/** Moves the lanes so far that the lane of the row can be seen. */
+function movePan(view, most) {
+  if (panned !== state.row) {
+    panned = state.row;
+    const mail = mailOf(state.row);
+    const x = laneX(view, rows.who[state.row] || (mail ? mails.to[mail] : 0)) - GUTTER;
+    if (x < pan || x > pan + view.room) pan = x - view.room / 2;
+  }
+  pan = Math.max(0, Math.min(Math.max(0, most), pan));
+  view.pan = pan;
 }
 
 function laneX(view, who) {
-  return GUTTER + (Math.max(0, lanes.indexOf(who)) + 0.5) * view.pitch;
+  return GUTTER + (Math.max(0, lanes.indexOf(who)) + 0.5) * view.pitch - view.pan;
 }
 
-/** How high a row stands: between two lines where it is not shown itself. */
+/** How high a row stands: between two lines where it is not shown, and not too far outside. */
 function rowY(view, row) {
-  const place = Math.max(view.top - 3, Math.min(view.top + view.count + 3, placeOf(row)));
+  const [high, low] = [view.top - FAR, view.top + view.count + FAR];
+  const place = Math.max(high, Math.min(low, placeOf(row)));
   return HEADS + (place - view.top + 0.5) * HEIGHT;
 }
 
@@ -55,7 +75,7 @@ function ways(mail) {
   const agains = [];
   for (const row of life(mail)) {
     if (rows.event[row] === EVENT.Again) agains.push(row);
-    else found.push({ from: found.length ? agains[found.length - 1] ?? sentIn[mail] : sentIn[mail], to: row });
+    else found.push({ from: agains[found.length - 1] ?? sentIn[mail], to: row });
   }
   return found.length ? found : [{ from: sentIn[mail], to: 0 }];
 }
@@ -101,7 +121,8 @@ function arrow(view, mail, way) {
   const look = ["arrow", family(mail), isLost && "lost", isOpen && "open", isNow && "at-row",
     isChosen(mail) && "chosen"].filter(Boolean).join(" ");
   const open = () => choose({ kind: "mail", number: mail });
-  const about = `mail ${mail}, ${actor(mails.from[mail])} to ${actor(mails.to[mail])}: ${words(mail)}`;
+  const parties = `${actor(mails.from[mail])} to ${actor(mails.to[mail])}`;
+  const about = `mail ${mail}, ${parties}: ${words(mail)}`;
   return draw("g", { class: look, tabindex: 0, role: "button", "aria-label": about, onclick: open,
     "data-mail": mail, onkeydown: (event) => { if (event.key === "Enter") open(); } },
   draw("title", {}, about), draw("path", { class: "hit", d: line }),
@@ -148,21 +169,19 @@ function eventMark(view, row) {
   const who = rows.who[row] === 0 ? (mail ? mails.to[mail] : 0) : rows.who[row];
   const x = laneX(view, who);
   if (event === "Deliver") return draw("circle", { class: "got", cx: x, cy: y, r: 3.4 });
+  const path = (look, d) => draw("path", { class: look, d });
   if (event === "Tick") {
-    return draw("path", { class: "tick", d: `M${x - 5} ${y}a5 5 0 1 0 10 0a5 5 0 1 0-10 0M${x} ${y - 3.5}V${y}H${x + 3}` });
+    const clock = `M${x - 5} ${y}a5 5 0 1 0 10 0a5 5 0 1 0-10 0`;
+    return path("tick", `${clock}M${x} ${y - 3.5}V${y}H${x + 3}`);
   }
-  if (event === "Go") return draw("path", { class: "goes", d: `M${x - 4} ${y - 5}L${x + 5} ${y}L${x - 4} ${y + 5}Z` });
+  if (event === "Go") return path("goes", `M${x - 4} ${y - 5}l9 5l-9 5Z`);
   if (event === "Told") {
     const desk = laneX(view, 0);
-    return draw("g", { class: "arrow told" }, draw("path", { class: "line", d: `M${desk} ${y}H${x}` }),
-      draw("path", { class: "end", d: headOf(x - 4, y, 1, 0) }),
-      draw("path", { class: "goes", d: `M${x - 4} ${y - 4}h8v8h-8z` }));
+    return draw("g", { class: "arrow told" }, path("line", `M${desk} ${y}H${x}`),
+      path("end", headOf(x - 4, y, 1, 0)), path("goes", `M${x - 4} ${y - 4}h8v8h-8z`));
   }
-  if (event === "Crash") return draw("path", { class: "crash", d: `M${x - 6} ${y - 6}l12 12M${x + 6} ${y - 6}l-12 12` });
-  if (event === "Again") {
-    return draw("path", { class: "tick", d: `M${x - 4} ${y - 3}a5 5 0 1 0 8 0M${x + 4} ${y - 3}l1-4M${x + 4} ${y - 3}l-4-1` });
-  }
-  return null;
+  if (event === "Crash") return path("crash", `M${x - 6} ${y - 6}l12 12m0-12l-12 12`);
+  return event === "Again" ? path("tick", `M${x - 4} ${y - 3}a5 5 0 1 0 8 0l1-4m-1 4l-4-1`) : null;
 }
 
 function cutTo(text, width) {
@@ -175,13 +194,17 @@ function rowText(view, row) {
   const count = entriesBefore(row) - entriesBefore(row - 1);
   const text = `${doer(row)} ${eventText(row)}`;
   const look = row === state.row ? "row-text here" : "row-text";
+  const said = `decides ${count === 1 ? "a place of a log" : `${count} places of logs`}`;
+  const mark = `M${GUTTER - 6} ${y - 4.5}l4.5 4.5l-4.5 4.5l-4.5-4.5z`;
+  const at = { y: y + 4 };
   return draw("g", { class: look, onclick: () => go(row), "data-row": row },
     draw("title", {}, text),
     draw("rect", { class: "hit-row", x: 0, y: y - HEIGHT / 2, width: view.width, height: HEIGHT }),
-    draw("text", { x: GUTTER - 14, y: y + 4, "text-anchor": "end", class: "row-number" }, spelled(row)),
-    count ? draw("path", { class: "decided", d: `M${GUTTER - 6} ${y - 4.5}l4.5 4.5l-4.5 4.5l-4.5-4.5z` },
-      draw("title", {}, `decides ${count === 1 ? "a place of a log" : `${count} places of logs`}`)) : null,
-    draw("text", { x: view.text, y: y + 4, class: "row-words" }, cutTo(text, view.width - view.text - 4)));
+    draw("text", { ...at, x: GUTTER - 14, "text-anchor": "end", class: "row-number" },
+      spelled(row)),
+    count ? draw("path", { class: "decided", d: mark }, draw("title", {}, said)) : null,
+    draw("text", { ...at, x: view.text, class: "row-words" },
+      cutTo(text, view.width - view.text - 4)));
 }
 
 /** The names of the lanes: groups of a node, and how much mail is under way to it. */
@@ -199,19 +222,22 @@ function laneHeads(view) {
   const most = Math.max(1, Math.floor(view.pitch / 22));
   const isNarrow = view.pitch < NARROW;
   return lanes.map((who, place) => {
-    const x = laneX(view, who);
     const crash = past.crashes.get(who);
     const isDown = crash !== undefined && crash <= state.row;
     const all = names.get(who) ?? [];
     const some = all.length > most ? `${all.slice(0, most - 1).join(" ")}…` : all.join(" ");
     const count = waiting.get(who);
-    return draw("g", { class: isDown ? "head down" : "head" },
-      draw("title", {}, `${actor(who)}${isDown ? ", crashed" : ""}; ${count ?? 0} mails under way to it; `
-        + `groups ${all.join(" ") || "none"}`),
-      draw("text", { x, y: isNarrow && place % 2 ? 27 : 15, "text-anchor": "middle",
-        class: isNarrow ? "lane-name small" : "lane-name" }, isDown ? `${actor(who)}✕` : actor(who)),
-      isNarrow ? null : draw("text", { x, y: 28, "text-anchor": "middle", class: "lane-groups" }, some),
-      count ? draw("text", { x, y: 40, "text-anchor": "middle", class: "lane-waiting" }, `${count} to come`.slice(0, view.pitch < 50 ? String(count).length : 20)) : null);
+    const down = isDown ? ", crashed" : "";
+    const about = `${actor(who)}${down}; ${count ?? 0} mails under way to it; `
+      + `groups ${all.join(" ")}`;
+    const at = { x: laneX(view, who), "text-anchor": "middle" };
+    const name = { ...at, y: isNarrow && place % 2 ? 27 : 15,
+      class: isNarrow ? "lane-name small" : "lane-name" };
+    return draw("g", { class: isDown ? "head down" : "head" }, draw("title", {}, about),
+      draw("text", name, isDown ? `${actor(who)}✕` : actor(who)),
+      isNarrow ? null : draw("text", { ...at, y: 28, class: "lane-groups" }, some),
+      count ? draw("text", { ...at, y: 40, class: "lane-waiting" },
+        view.pitch < 50 ? count : `${count} to come`) : null);
   });
 }
 
@@ -242,14 +268,16 @@ function showLanes() {
   const picture = draw("svg", { width: view.width, height: view.height, class: "lanes-picture" },
     isBetween ? draw("path", { class: "between", d: `M0 ${y}H${view.width}` })
       : draw("rect", { class: "now", x: 0, y: y - HEIGHT / 2, width: view.width, height: HEIGHT }),
-    laneLines(view),
     visible.map((row) => rowText(view, row)),
-    visible.length ? arrows(view, visible) : null,
-    visible.map((row) => eventMark(view, row)),
+    draw("clipPath", { id: "middle" },
+      draw("rect", { x: GUTTER, y: 0, width: view.room, height: view.height })),
+    draw("g", { "clip-path": "url(#middle)" }, laneLines(view),
+      visible.length ? arrows(view, visible) : null,
+      visible.map((row) => eventMark(view, row))),
     draw("rect", { class: "veil", x: GUTTER, y: below, width: view.width,
       height: Math.max(0, view.height - below) }),
     draw("rect", { class: "head-back", x: 0, y: 0, width: view.width, height: HEADS - 2 }),
-    laneHeads(view),
+    draw("g", { "clip-path": "url(#middle)" }, laneHeads(view)),
     visible.length ? null : draw("text", { x: 20, y: 90, class: "row-words" }, "no row is so"));
   find("lanes").replaceChildren(picture);
 }

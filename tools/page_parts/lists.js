@@ -37,9 +37,11 @@ class LongList {
     const most = Math.ceil((this.box.clientHeight || 400) / LINE) + 6;
     const lines = [];
     for (let place = first; place < Math.min(this.count, first + most); place++) {
-      lines.push(make("div", { class: place === this.active ? "item active" : "item", role: "option",
-        id: `item-${place}`, style: `top:${place * LINE}px`, "aria-selected": place === this.active,
-        onclick: () => { this.active = place; this.open(place); } }, this.line(place)));
+      const isActive = place === this.active;
+      const open = () => { this.active = place; this.open(place); };
+      lines.push(make("div", { class: isActive ? "item active" : "item", role: "option",
+        id: `item-${place}`, style: `top:${place * LINE}px`, "aria-selected": String(isActive),
+        onclick: open }, this.line(place)));
     }
     this.inner.replaceChildren(...lines);
     if (!this.count) this.inner.replaceChildren(make("p", { class: "note" }, "none"));
@@ -109,8 +111,8 @@ function showPending() {
   list.set(numbers.length, (place) => {
     const mail = numbers[place];
     const copies = pending.copies[mail] > 1 ? ` ×${pending.copies[mail]}` : "";
-    return cells(["figure", spelled(mail)], ["who", `${actor(mails.from[mail])}→${actor(mails.to[mail])}${copies}`],
-      ["words", words(mail)]);
+    const who = `${actor(mails.from[mail])}→${actor(mails.to[mail])}${copies}`;
+    return cells(["figure", spelled(mail)], ["who", who], ["words", words(mail)]);
   }, (place) => choose({ kind: "mail", number: numbers[place] }), "mail under way");
 }
 
@@ -146,14 +148,17 @@ function changeCells({ kind, number, row }) {
   if (kind === "order") {
     const { text, result, ended, number: name } = orders[number];
     const standing = ended && ended <= state.row ? result : row <= state.row ? "open" : "";
-    return cells(["figure", spelled(row)], ["who", `order ${name}`], [look, text], ["state", standing]);
+    return cells(["figure", spelled(row)], ["who", `order ${name}`], [look, text],
+      ["state", standing]);
   }
   const soFar = [...entriesOfTx(number)].filter((entry) => entries.row[entry] <= state.row);
   const first = entriesOfTx(number)[0];
   const came = soFar.map((entry) => run.texts[entries.effect[entry]]);
   const last = came.filter((said) => !said.startsWith("no effect")).pop() ?? "";
-  const text = first ? `${run.groups[entries.group[first]]}: ${run.texts[entries.text[first]]}` : "";
-  return cells(["figure", spelled(row)], ["who", `tx ${run.txs[number]}`], [look, text], ["state", last]);
+  const group = first ? run.groups[entries.group[first]] : "";
+  const text = first ? `${group}: ${run.texts[entries.text[first]]}` : "";
+  return cells(["figure", spelled(row)], ["who", `tx ${run.txs[number]}`], [look, text],
+    ["state", last]);
 }
 
 function showChanges() {
@@ -169,7 +174,8 @@ function showLog() {
   list.set(numbers.length, (place) => {
     const entry = numbers[place];
     const look = entries.row[entry] > state.row ? "words later" : "words";
-    return cells(["figure", spelled(entries.row[entry])], ["who", `${run.groups[entries.group[entry]]} #${entries.slot[entry]}`],
+    const who = `${run.groups[entries.group[entry]]} #${entries.slot[entry]}`;
+    return cells(["figure", spelled(entries.row[entry])], ["who", who],
       [look, run.texts[entries.text[entry]]], ["state", run.texts[entries.effect[entry]]]);
   }, (place) => go(entries.row[numbers[place]]), "decided places of logs");
   list.reveal(Math.max(0, begunBy(numbers, (one) => entries.row[one]) - 1));

@@ -52,7 +52,8 @@ function readAddress() {
   state.chosen = null;
   for (const kind of Object.keys(most)) {
     const number = Number(said.get(kind));
-    if (Number.isInteger(number) && number >= 1 && number <= most[kind]) state.chosen = { kind, number };
+    const is = Number.isInteger(number) && number >= 1 && number <= most[kind];
+    if (is) state.chosen = { kind, number };
   }
   return Number(said.get("row")) || 1;
 }
@@ -120,9 +121,11 @@ function options(id, none, all) {
 function fillFilters() {
   options("by-actor", -1, run.actors.map((who) => [who, actor(who)]));
   options("by-group", 0, run.groups.map((name, place) => [place, name]).slice(1));
-  options("by-client", 0, run.actors.filter((who) => who > CLIENT).map((who) => [who - CLIENT, actor(who)]));
+  const clients = run.actors.filter((who) => who > CLIENT);
+  options("by-client", 0, clients.map((who) => [who - CLIENT, actor(who)]));
   options("by-kind", -1, run.kinds.map((name, place) => [place, name]));
-  find("keys").replaceChildren(...run.keys.slice(1, 400).map((key) => make("option", { value: key })));
+  const some = run.keys.slice(1, 400);
+  find("keys").replaceChildren(...some.map((key) => make("option", { value: key })));
 }
 
 function showFilters() {
@@ -131,7 +134,8 @@ function showFilters() {
   find("by-client").value = filters.client;
   find("by-kind").value = filters.kind;
   if (find("by-key").value !== filters.key) find("by-key").value = filters.key;
-  find("matches").textContent = isFiltered() ? `${spelled(shownCount())} of ${spelled(ROWS)} rows` : "";
+  const said = `${spelled(shownCount())} of ${spelled(ROWS)} rows`;
+  find("matches").textContent = isFiltered() ? said : "";
   find("filters").classList.toggle("on", isFiltered());
 }
 
@@ -208,7 +212,7 @@ function onKey(event) {
   if (event.key === " " && event.target.matches("button")) return;
   if (event.shiftKey && event.key === "ArrowRight") go(changeAway(1));
   else if (event.shiftKey && event.key === "ArrowLeft") go(changeAway(-1));
-  else if (event.key >= "1" && event.key <= "5" && event.key.length === 1) openTab(TABS[event.key - 1]);
+  else if (/^[1-5]$/.test(event.key)) openTab(TABS[event.key - 1]);
   else if (keyActs[event.key]) keyActs[event.key]();
   else return;
   event.preventDefault();
@@ -217,8 +221,14 @@ function onKey(event) {
 let wheeled = 0;
 
 function onWheel(event) {
-  if (event.ctrlKey || Math.abs(event.deltaX) > Math.abs(event.deltaY)) return;
+  if (event.ctrlKey) return;
   event.preventDefault();
+  const aside = event.deltaX || (event.shiftKey ? event.deltaY : 0);
+  if (aside) {
+    pan += aside;
+    showLanes();
+    return;
+  }
   wheeled += event.deltaY;
   const steps = Math.trunc(wheeled / 40);
   wheeled -= steps * 40;
@@ -264,11 +274,11 @@ function start() {
     + `${spelled(ENTRIES)} places of logs decided`;
   fillFilters();
   showFilters();
-  listen();
   if (!ROWS) {
     find("lanes").textContent = "This journal has no rows.";
     return;
   }
+  listen();
   setTheme(window.matchMedia("(prefers-color-scheme: dark)").matches);
   go(readAddress());
 }

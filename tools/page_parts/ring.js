@@ -1,4 +1,4 @@
-// The ring at the row: arcs of groups, who is locked by which transaction, and a table of the groups.
+// The ring at the row: arcs of groups, who is locked by which transaction, a table of the groups.
 
 const COLOURS = 8; // kinds of arcs in the style, each a colour and a hatching
 const CENTRE = 170;
@@ -48,25 +48,28 @@ function lockText(shape) {
 }
 
 /** The label of an arc, outside of it: the group's name and its members. */
-function arcLabel(lo, length, group, shape) {
+function arcLabel(lo, length, group, shape, place) {
   const middle = lo + length / 2;
-  const [x, y] = onCircle(middle, OUTER + 13);
+  const isSmall = length < RING / 30;
+  const [x, y] = onCircle(middle, OUTER + (isSmall && place % 2 ? 31 : 13));
   const anchor = Math.abs(x - CENTRE) < 24 ? "middle" : x < CENTRE ? "end" : "start";
-  const isSmall = length < RING / 40;
   const nodes = shape ? shape.members.map((node) => `n${node}`).join(" ") : "";
   const long = nodes.length > 12 ? `${shape.members.length} nodes` : nodes;
-  return draw("text", { x, y: y + (y < CENTRE ? -3 : 9), "text-anchor": anchor, class: "arc-name" },
+  const look = isSmall ? "arc-name small" : "arc-name";
+  return draw("text", { x, y: y + (y < CENTRE ? -3 : 9), "text-anchor": anchor, class: look },
     draw("tspan", {}, run.groups[group]),
     isSmall ? null : draw("tspan", { x, dy: 12, class: "arc-members" }, long));
 }
 
-function padlock(middle) {
+function padlock(middle, length) {
   const [x, y] = onCircle(middle, (OUTER + INNER) / 2);
-  return draw("path", { class: "padlock", transform: `translate(${x - 6} ${y - 8})`,
+  const size = length < RING / 30 ? 0.7 : 1;
+  const place = `translate(${x - 6 * size} ${y - 8 * size}) scale(${size})`;
+  return draw("path", { class: "padlock", transform: place,
     d: "M1 7h10v8h-10zM3 7v-3a3 3 0 0 1 6 0v3" });
 }
 
-function arcParts(cut, row) {
+function arcParts(cut, place, row) {
   const [lo, length, group] = cut;
   const shape = shapeAt(group, row);
   const look = group % COLOURS;
@@ -77,8 +80,8 @@ function arcParts(cut, row) {
   draw("title", {}, about),
   draw("path", { d: outline(lo, length), "fill-rule": "evenodd", class: "arc-fill" }),
   draw("path", { d: outline(lo, length), "fill-rule": "evenodd", fill: `url(#hatch${look})` }));
-  return [arc, arcLabel(lo, length, group, shape),
-    shape?.role ? padlock(lo + length / 2) : null];
+  return [arc, arcLabel(lo, length, group, shape, place),
+    shape?.role ? padlock(lo + length / 2, length) : null];
 }
 
 /** Lines inside the ring from who asks in a transaction to who votes or watches. */
@@ -93,9 +96,12 @@ function locks(cuts, row) {
   for (const [group, place] of middle) {
     const shape = shapeAt(group, row);
     if (!shape?.role || shape.role === "asks" || !asks.has(shape.tx)) continue;
-    const from = spot(middle.get(asks.get(shape.tx)), INNER - 4);
+    const from = onCircle(middle.get(asks.get(shape.tx)), INNER - 5);
+    const to = onCircle(place, INNER - 7);
+    // bent towards the middle, the more the farther the two are apart
+    const bend = [0, 1].map((axis) => CENTRE + 0.6 * ((from[axis] + to[axis]) / 2 - CENTRE));
     found.push(draw("path", { class: `bond ${shape.role === "watches" ? "watch" : "vote"}`,
-      d: `M${from} Q${CENTRE} ${CENTRE} ${spot(place, INNER - 6)}`, "marker-end": "url(#tip)" },
+      d: `M${from.join(" ")} Q${bend.join(" ")} ${to.join(" ")}`, "marker-end": "url(#tip)" },
     draw("title", {}, `${run.groups[group]} ${lockText(shape)}`)));
   }
   return found;
@@ -120,7 +126,8 @@ function letters() {
   return [..."!0AZaz"].map((letter) => {
     const place = position(letter);
     const [x, y] = onCircle(place, INNER - 11);
-    return [draw("path", { class: "letter-tick", d: `M${spot(place, INNER)} L${spot(place, INNER - 4)}` }),
+    const tick = `M${spot(place, INNER)} L${spot(place, INNER - 4)}`;
+    return [draw("path", { class: "letter-tick", d: tick }),
       draw("text", { x, y: y + 3, "text-anchor": "middle", class: "letter" }, letter)];
   });
 }
@@ -129,8 +136,8 @@ function keyMark() {
   if (keysShown.size !== 1) return null;
   const key = run.keys[[...keysShown][0]];
   const place = position(key);
-  return draw("path", { class: "key-mark", d: `M${spot(place, INNER - 8)} L${spot(place, OUTER + 8)}` },
-    draw("title", {}, `key ${key}`));
+  const line = `M${spot(place, INNER - 8)} L${spot(place, OUTER + 8)}`;
+  return draw("path", { class: "key-mark", d: line }, draw("title", {}, `key ${key}`));
 }
 
 function showRing() {
@@ -138,8 +145,8 @@ function showRing() {
   const side = 2 * CENTRE;
   const picture = draw("svg", { viewBox: `-14 12 ${side + 28} ${side - 24}`, class: "ring-picture",
     role: "group", "aria-label": `the ring, as decided in row ${row}` },
-  hatchings(), letters(), cuts.map((cut) => arcParts(cut, state.row)), locks(cuts, state.row),
-  middleText(cuts, state.row), keyMark());
+  hatchings(), letters(), cuts.map((cut, place) => arcParts(cut, place, state.row)),
+  locks(cuts, state.row), middleText(cuts, state.row), keyMark());
   find("ring").replaceChildren(picture);
   showGroups(cuts);
 }

@@ -234,8 +234,9 @@ function fate(mail, row) {
   const crash = past.crashes.get(mails.to[mail]);
   let word = crash !== undefined && crash <= row ? "went with the crash" : "";
   for (const taken of life(mail)) {
-    if (taken <= row && rows.event[taken] === EVENT.Deliver) word = "delivered";
-    else if (taken <= row && rows.event[taken] === EVENT.Drop && word !== "delivered") word = "lost";
+    const event = taken <= row ? rows.event[taken] : -1;
+    if (event === EVENT.Deliver) word = "delivered";
+    else if (event === EVENT.Drop && word !== "delivered") word = "lost";
   }
   return word;
 }
