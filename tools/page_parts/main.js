@@ -3,8 +3,28 @@
 let written = 0; // the timer that writes the address
 let took = 0; // milliseconds of the last step
 
+const PARTS = ["#lanes", "#ring", "#groups", "#now", "#tab"]; // what is made anew
+const CAN_FOCUS = "button, [tabindex]";
+
+/** Makes parts of the page anew, and gives what had the focus in one of them the focus again. */
+function keepFocus(show) {
+  const old = document.activeElement;
+  const part = PARTS.find((name) => old && old.closest(name) && old !== find(name.slice(1)));
+  const place = part ? [...find(part.slice(1)).querySelectorAll(CAN_FOCUS)].indexOf(old) : -1;
+  const mail = old?.dataset?.mail;
+  show();
+  if (!part || document.contains(old)) return;
+  const all = [...find(part.slice(1)).querySelectorAll(CAN_FOCUS)];
+  const same = mail ? all.find((one) => one.dataset.mail === mail) : all[place];
+  (same ?? all[Math.min(place, all.length - 1)] ?? find("lanes")).focus({ preventScroll: true });
+}
+
 /** Shows all that depends on the row. */
 function showAll() {
+  keepFocus(showParts);
+}
+
+function showParts() {
   const begun = performance.now();
   pending.move(state.row);
   find("number").value = String(state.row);
@@ -39,8 +59,7 @@ function choose(what) {
   state.chosen = what;
   state.tab = "chosen";
   find("tab").scrollTop = 0;
-  showLanes();
-  showTab();
+  keepFocus(() => { showLanes(); showTab(); });
   writeAddress();
 }
 
@@ -180,6 +199,12 @@ function setTheme(isDark) {
   drawStrip();
 }
 
+/** The lines that the run was told. */
+function showScenario() {
+  find("scenario-lines").textContent = run.scenario.join("\n");
+  find("scenario-text").showModal();
+}
+
 function escape() {
   if (state.chosen) choose(null);
   else clearFilters();
@@ -199,12 +224,14 @@ const keyActs = {
   "/": () => { find("by-key").focus(); find("by-key").select(); },
   "?": () => find("keys-help").showModal(),
   d: () => setTheme(!state.dark),
+  s: showScenario,
   " ": play,
 };
 
 function onKey(event) {
   const inText = event.target.matches("input[type=text], input[type=search], select");
-  if (event.ctrlKey || event.altKey || event.metaKey || find("keys-help").open) return;
+  if (event.ctrlKey || event.altKey || event.metaKey) return;
+  if (document.querySelector("dialog[open]")) return;
   if (inText) {
     if (event.key === "Escape") event.target.blur();
     return;
@@ -246,6 +273,8 @@ function listen() {
   on("theme", "click", () => setTheme(!state.dark));
   on("help", "click", keyActs["?"]);
   on("keys-close", "click", () => find("keys-help").close());
+  on("scenario", "click", showScenario);
+  on("scenario-close", "click", () => find("scenario-text").close());
   on("number", "change", () => go(Number(find("number").value.replace(/\D/g, ""))));
   on("slider", "input", () => go(Number(find("slider").value)));
   on("strip", "click", (event) => {
