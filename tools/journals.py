@@ -5,6 +5,7 @@ does not ask whether it is lawful. `Journal.decided` reckons, once for all tools
 decided: the groups' logs, the groups, and the ring (`decided.py`, `groups.py`).
 """
 
+import gc
 import json
 import sys
 
@@ -74,6 +75,7 @@ def read(name):
     if "journal" not in lines:
         raise BadJournal(f"{name}: no line `journal` ends the scenario")
     end = lines.index("journal")
+    gc.disable()  # all of it lives to the end, so to look for garbage in it takes half the time
     rows, mails = [], []
     for place, line in enumerate(lines[end + 1 :], end + 2):
         try:
