@@ -205,7 +205,8 @@ def words(mail):
 def order(said):
     """An order, as the scenario spells it."""
     ((kind, fields),) = said.items()
-    return " ".join([kind.lower(), *(str(value) for value in fields.values())])
+    names = ("node", "group") if kind in ("Join", "Leave") else ("group", "at", "node")
+    return " ".join([kind.lower(), *(str(fields[name]) for name in names if name in fields)])
 
 
 def event(journal, row):
