@@ -61,9 +61,10 @@ fn report_input<S: Source, G: Gate, R: Threads + Wait + Sync>(
     gate: &G,
 ) -> Result<(Said, Text), OutOfMemory>
     ensures says { IfOk result (λ begun. Reads (record {
-        left = S.left input.old;
-        faults_before = S.faults input.old;
-        faults_after = S.faults input.new }) begun.0 begun.1) }
+      left = S.left input.old;
+      faults_before = S.faults input.old;
+      faults_after = S.faults input.new;
+    }) begun.0 begun.1) }
     ensures takes { S.calls input.new ≤ S.calls input.old + (most_bytes + 2) }
 {
     match scenario_in(alloc, input) {
@@ -80,9 +81,10 @@ fn store_input<S: Source, G: Gate, R: Threads + Wait + Sync>(
     gate: &G,
 ) -> Result<(Said, Text), OutOfMemory>
     ensures says { IfOk result (λ begun. Keeps (record {
-        left = S.left input.old;
-        faults_before = S.faults input.old;
-        faults_after = S.faults input.new }) begun.0 begun.1) }
+      left = S.left input.old;
+      faults_before = S.faults input.old;
+      faults_after = S.faults input.new;
+    }) begun.0 begun.1) }
     ensures takes { S.calls input.new ≤ S.calls input.old + (most_bytes + 2) }
 {
     match text_in(alloc, input) {
@@ -94,9 +96,10 @@ fn store_input<S: Source, G: Gate, R: Threads + Wait + Sync>(
 // Whether the journal is lawful that the input stores.
 fn audit_input<S: Source>(alloc: Global, input: &mut S) -> Result<(Said, Text), OutOfMemory>
     ensures says { IfOk result (λ begun. Audits (record {
-        left = S.left input.old;
-        faults_before = S.faults input.old;
-        faults_after = S.faults input.new }) begun.0 begun.1) }
+      left = S.left input.old;
+      faults_before = S.faults input.old;
+      faults_after = S.faults input.new;
+    }) begun.0 begun.1) }
     ensures takes { S.calls input.new ≤ S.calls input.old + (most_file_bytes + 2) }
 {
     match file_in(alloc, input) {
@@ -130,9 +133,10 @@ pub(crate) fn say<S: Source, G: Gate, R: Threads + Wait + Sync>(
     gate: &G,
 ) -> Result<(Said, Text), OutOfMemory>
     ensures says { IfOk result (λ begun. Says (map string_bytes words.now) (record {
-        left = S.left input.old;
-        faults_before = S.faults input.old;
-        faults_after = S.faults input.new })
+      left = S.left input.old;
+      faults_before = S.faults input.old;
+      faults_after = S.faults input.new;
+    })
         begun.0 begun.1) }
     ensures unread { reads_input (map string_bytes words.now) ≡ false → input.new ≡ input.old }
     ensures takes { S.calls input.new ≤ S.calls input.old
