@@ -1,5 +1,5 @@
 -- Each step of a pass keeps the rule.
-use Rattle.std.proofs.Common.{◌≡◌, ◌≢◌, ℕ, zero, suc, ◌+◌, ◌-◌, ◌<◌, ◌≤◌, Bool, true, false, true≢false, List, [], ◌∷◌, ◌++◌, length, set, sym, refl, ap, ◌∙◌, subst, ⊎_elim, arith, append_assoc, get_or, length-set, Option, Some}
+use Rattle.std.proofs.Common.{◌≡◌, ◌≢◌, ℕ, zero, suc, ◌+◌, ◌<◌, ◌≤◌, true, true≢false, List, [], ◌∷◌, ◌++◌, length, set, sym, refl, ap, ◌∙◌, subst, ⊎_elim, arith, append_assoc, get_or, length-set, Option, Some}
 use Rattle.std.proofs.lemmas.List.{append-nil}
 use mathlib.Core.Option.{some, some-injective, some-ne-none}
 use lib.ListN.{get_elem?}
@@ -9,8 +9,8 @@ use Rattle.sc_queue.specs.declared.rule.Item.{Item}
 use Rattle.sc_queue.specs.declared.rule.Hand.{Hand}
 use denote.Param.Members.{Shared}
 use Rattle.std.specs.Fn.{FnReturns}
-use Rattle.sc_queue.specs.Working.{AllWorked, AllInside, AllGiven, IsRight, AllThere, AllFree, Did, Gathers, filled}
-use Rattle.sc_queue.specs.Hands.{with_all, all_parts, weigh, hand, opener, taker, idle, less, joined, with_put, with_taken, numbered, works, AllPlaced, Fits, Kept, HasRoom, KnowsWhole}
+use Rattle.sc_queue.specs.Working.{AllWorked, AllInside, Did, Gathers, filled}
+use Rattle.sc_queue.specs.Hands.{with_all, weigh, hand, opener, taker, idle, less, joined, with_put, with_taken, numbered, works, AllPlaced, Fits, Kept, HasRoom, KnowsWhole}
 
 module _ {X : Type 0} where
   pub weigh_append : (h : X → ℕ) (xs ys : List X) → weigh h (xs ++ ys) ≡ weigh h xs + weigh h ys

@@ -1,5 +1,5 @@
 -- What was taken and worked, put back into order.
-use Rattle.std.proofs.Common.{◌≡◌, ◌≢◌, ℕ, zero, suc, ◌+◌, ◌<◌, ◌≤◌, Bool, true, false, true≢false, cond, eqb, eq-eqb, List, [], ◌∷◌, ◌++◌, length, set, get_or, get_or-set_other, get_or-set_same, length-set, map, sym, refl, ap, ◌∙◌, subst, arith, Option, Some, None, is_some}
+use Rattle.std.proofs.Common.{◌≡◌, ◌≢◌, ℕ, zero, suc, ◌+◌, ◌<◌, ◌≤◌, Bool, true, false, cond, eqb, eq-eqb, List, [], ◌∷◌, ◌++◌, length, set, get_or, get_or-set_other, get_or-set_same, length-set, map, sym, refl, ap, ◌∙◌, subst, arith, Option, Some, None, is_some}
 use mathlib.Core.Option.{some, some-injective, some-ne-none}
 use Rattle.std.proofs.lemmas.Bool.{eqb-true}
 use mathlib.Core.Logic.{dite}
@@ -12,7 +12,7 @@ use Rattle.sc_queue.specs.declared.rule.Item.{Item}
 use Rattle.sc_queue.specs.declared.rule.Hand.{Hand}
 use Rattle.sc_queue.proofs.Keeps.{worked_append}
 use Rattle.sc_queue.specs.Hands.{all_parts, hand, with_all, weigh, numbered, AllPlaced, KnowsWhole}
-use Rattle.sc_queue.specs.Working.{AllWorked, AllInside, AllGiven, IsRight, AllThere, AllFree, Did, Gathers, filled}
+use Rattle.sc_queue.specs.Working.{AllWorked, AllInside, AllGiven, IsRight, AllFree, Did, Gathers, filled}
 
 -- 1 for an item with this place
 abbrev pub at_place : {X : Type 0} → ℕ → Item X → ℕ

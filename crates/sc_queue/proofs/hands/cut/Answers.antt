@@ -1,4 +1,4 @@
-use Rattle.std.proofs.Common.{◌≡◌, ◌∙◌, sym, ap, subst, arith, rules, ◌<◌, ◌-◌, ◌+◌, [], ◌∷◌, ◌++◌, refl, All}
+use Rattle.std.proofs.Common.{◌≡◌, ◌∙◌, sym, ap, subst, arith, rules, ◌-◌, ◌+◌, All}
 use Rattle.std.proofs.lemmas.List.Elements.{All-push}
 use Rattle.sc_queue.specs.Hands.{all_parts, hand, taker, less}
 use Rattle.sc_queue.proofs.Keeps.{forks}

@@ -1,7 +1,7 @@
-use Rattle.std.proofs.Common.{◌≡◌, ◌∙◌, refl, sym, ap, subst, arith, length, ◌<◌, is_some, true, vec_len, rules}
+use Rattle.std.proofs.Common.{◌≡◌, ◌∙◌, refl, sym, subst, arith, length, ◌<◌, rules}
 use Rattle.crossbeam_queue.specs.Passes.{view}
-use Rattle.sc_queue.specs.Hands.{all_parts, numbered, works}
-use Rattle.sc_queue.specs.Working.{AllInside, AllThere, IsRight, filled}
+use Rattle.sc_queue.specs.Hands.{all_parts, works}
+use Rattle.sc_queue.specs.Working.{AllInside, AllThere, filled}
 use Rattle.sc_queue.proofs.Keeps.{filled_length}
 use Rattle.sc_queue.proofs.Placing.{completes, right_free, all_inside, comes_there, right_there, all_given, given_length}
 use Rattle.sc_queue.proofs.hands.finish.Goals as goal

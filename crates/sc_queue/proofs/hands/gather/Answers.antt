@@ -1,7 +1,4 @@
-use Rattle.std.proofs.Common.{◌≡◌, ◌∙◌, ◌+◌, sym, ap, subst, arith, rules, length, length-append, [], ◌∷◌, ◌++◌}
-use Rattle.std.proofs.lemmas.List.{map-id}
-use Rattle.std.proofs.lemmas.Iterator.Adapters.{YieldsList-from_vec}
-use Rattle.std.proofs.lemmas.Iterator.Consumers.{YieldsList-end}
+use Rattle.std.proofs.Common.{◌≡◌, ◌+◌, ap, subst, arith, length, length-append, [], ◌∷◌, ◌++◌}
 use Rattle.crossbeam_queue.specs.Passes.{view}
 use Rattle.sc_queue.specs.Working.{Gathers}
 use Rattle.sc_queue.proofs.hands.gather.Goals as goal

@@ -1,4 +1,3 @@
-use Rattle.std.proofs.Common.{◌≡◌, ◌∙◌, sym, ap, subst, rules}
 use Rattle.sc_queue.proofs.Keeps.{merges, gathers_more}
 use Rattle.crossbeam_queue.specs.Passes.{view}
 use Rattle.sc_queue.proofs.hands.gather_one.Goals as goal

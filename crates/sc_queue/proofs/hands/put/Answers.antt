@@ -1,4 +1,3 @@
-use Rattle.std.proofs.Common.{arith, ◌≡◌, ap}
 use Rattle.crossbeam_queue.specs.Passes.{view, ruled_capacity}
 use Rattle.sc_queue.proofs.Keeps.{puts, rooms, no_room}
 use Rattle.sc_queue.proofs.hands.put.Goals as goal

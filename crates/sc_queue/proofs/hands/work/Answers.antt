@@ -1,6 +1,5 @@
-use Rattle.std.proofs.Common.{◌≡◌, ◌∙◌, sym, ap, subst, arith, rules, ◌<◌, [], ◌∷◌, ◌++◌, refl}
+use Rattle.std.proofs.Common.{◌≡◌, ◌∙◌, ap, arith, rules, [], ◌∷◌, ◌++◌}
 use Rattle.sc_queue.proofs.Keeps.{takes, knows, did_none, did_more}
-use Rattle.sc_queue.specs.Working.{Did}
 use Rattle.crossbeam_queue.specs.Passes.{view}
 use Rattle.sc_queue.proofs.hands.work.Goals as goal
 
