@@ -18,27 +18,32 @@ suc_times : (n k : ℕ) → suc n * k ≡ k + n * k
 suc_times n k = grind arith
 
 module _ {A M O : Type 0} {g : Ghosts A M O} {h : MailGhosts M} where
-  -- a shell that made so many rows, and then a turn without one
+  -- a shell that made so many rows, and then took a turn without one
   pub served_part : (grant n : ℕ) (s u t : Shell A M O g h) → n < grant → MadeRows n s u → Took u t → made t.port ≡ made u.port → IsServed grant s (record { shell = t; did = n })
-  served_part grant n s u t less rows took same = record {
-    most = omega arith;
-    worked = record { last = u; rows = rows; end = inr (took, same) };
-    first = λ none some. by n none rows;
-    calm = λ all sound. absurd (omega (arith, all));
-  }
-    where
-      by : (k : ℕ) → k ≡ 0 → MadeRows k s u → Took s t
-      by zero none is = subst (λ (y : Shell A M O g h). Took y t) is took
-      by (suc k) none w = absurd (omega (arith, none))
+  served_part grant n s u t less rows took same = record { last = u; rows = rows; end = inr (less, (took, same)) }
 
   -- one that took all turns
   pub served_all : (grant : ℕ) (s t : Shell A M O g h) → MadeRows grant s t → IsServed grant s (record { shell = t; did = grant })
-  served_all grant s t rows = record {
-    most = omega arith;
-    worked = record { last = t; rows = rows; end = inl refl };
-    first = λ none some. absurd (omega (arith, none, some));
-    calm = λ all sound. rows_sound grant s t rows sound;
-  }
+  served_all grant s t rows = record { last = t; rows = rows; end = inl (refl, refl) }
+
+  module _ (grant : ℕ) (s : Shell A M O g h) (t : Served A M O g h) (served : IsServed grant s t) where
+    served_most : t.did ≤ grant
+    served_most = ⊎_elim (λ all. omega (arith, all.0)) (λ part. omega (arith, part.0)) served.end
+
+    served_worked : Worked t.did s t.shell
+    served_worked = record { last = served.last; rows = served.rows; end = ⊎_elim (λ all. inl all.1) (λ part. inr part.1) served.end }
+
+    -- it took a turn, if it might
+    served_first : t.did ≡ 0 → 0 < grant → Took s t.shell
+    served_first none some = ⊎_elim (λ all. absurd (omega (arith, all.0, none, some))) (λ part. by t.did none served.rows part.1.0) served.end
+      where
+        by : (k : ℕ) → k ≡ 0 → MadeRows k s served.last → Took served.last t.shell → Took s t.shell
+        by zero none is took = subst (λ (y : Shell A M O g h). Took y t.shell) is took
+        by (suc k) none w took = absurd (omega (arith, none))
+
+    -- where it took all turns, it is not refused if it was not
+    served_calm : t.did ≡ grant → Sound s → Sound t.shell
+    served_calm whole sound = ⊎_elim (λ all. subst Sound (sym all.1) (rows_sound t.did s served.last served.rows sound)) (λ part. absurd (omega (arith, part.0, whole))) served.end
 
   -- what stands in a place of the shells
   at_served : (ts : List (Served A M O g h)) (k : ℕ) (d : Shell A M O g h) → k < length ts → (e : Served A M O g h) × (get_or (shells_of ts) k d ≡ (get_or ts k e).shell)
@@ -52,7 +57,7 @@ module _ {A M O : Type 0} {g : Ghosts A M O} {h : MailGhosts M} where
   most_served grant [] (t ∷ ts) l a = absurd (omega (arith, l))
   most_served grant (s ∷ ss) [] l a = absurd (omega (arith, l))
   most_served grant (s ∷ ss) (t ∷ ts) l a =
-      let first : t.did ≤ grant = (a 0 s t (omega arith)).most in
+      let first : t.did ≤ grant = served_most grant s t (a 0 s t (omega arith)) in
       let rest = most_served grant ss ts (omega (arith, l)) (λ k d e lt. a (suc k) d e (omega (arith, lt))) in
       omega (arith, first, rest, sum_by-cons (λ (x : Served A M O g h). x.did) t ts, suc_times (length ss) grant)
 
@@ -65,7 +70,7 @@ module _ {A M O : Type 0} {g : Ghosts A M O} {h : MailGhosts M} where
       let rest = most_served grant ss ts (omega (arith, l)) (λ k d e lt. a (suc k) d e (omega (arith, lt))) in
       omega (arith, here, rest, sum_by-cons (λ (x : Served A M O g h). x.did) t ts, suc_times (length ss) grant)
   less_served grant (s ∷ ss) (t ∷ ts) (suc j) e l a lt less =
-      let first : t.did ≤ grant = (a 0 s t (omega arith)).most in
+      let first : t.did ≤ grant = served_most grant s t (a 0 s t (omega arith)) in
       let rest = less_served grant ss ts j e (omega (arith, l)) (λ k d e lt. a (suc k) d e (omega (arith, lt))) (omega (arith, lt)) less in
       omega (arith, first, rest, sum_by-cons (λ (x : Served A M O g h). x.did) t ts, suc_times (length ss) grant)
 
@@ -75,7 +80,7 @@ module _ {A M O : Type 0} {g : Ghosts A M O} {h : MailGhosts M} where
   rows_served grant [] (t ∷ ts) l a = absurd (omega (arith, l))
   rows_served grant (s ∷ ss) [] l a = absurd (omega (arith, l))
   rows_served grant (s ∷ ss) (t ∷ ts) l a =
-      let first : length (made t.shell.port) ≡ length (made s.port) + t.did = worked_rows t.did s t.shell (a 0 s t (omega arith)).worked in
+      let first : length (made t.shell.port) ≡ length (made s.port) + t.did = worked_rows t.did s t.shell (served_worked grant s t (a 0 s t (omega arith))) in
       let rest = rows_served grant ss ts (omega (arith, l)) (λ k d e lt. a (suc k) d e (omega (arith, lt))) in
       let count : Shell A M O g h → ℕ = λ s. length (made s.port) in
       omega (arith, first, rest, sum_by-cons (λ (x : Served A M O g h). x.did) t ts, sum_by-cons count s ss, sum_by-cons count t.shell (shells_of ts))
@@ -93,12 +98,12 @@ module _ {A M O : Type 0} {g : Ghosts A M O} {h : MailGhosts M} where
     worked = λ k d lt.
         (let t = at_served ts k d (omega (arith, lt, l)) in
         let e = t.0 in
-        ((get_or ts k e).did, subst (Worked (get_or ts k e).did (get_or ss k d)) (sym t.1) (a k d e lt).worked));
+        ((get_or ts k e).did, subst (Worked (get_or ts k e).did (get_or ss k d)) (sym t.1) (served_worked grant (get_or ss k d) (get_or ts k e) (a k d e lt))));
     most = omega (arith, sum, fits, most_served grant ss ts l a);
     did = rows_served grant ss ts l a ∙ ap (λ n. rows_made ss + n) (sym sum);
     whole = λ none left calm k d lt.
         (let t = at_served ts k d (omega (arith, lt, l)) in
-        subst (Took (get_or ss k d)) (sym t.1) ((a k d t.0 lt).first (none_made ts k t.0 (sym sum ∙ none) (omega (arith, lt, l))) some));
+        subst (Took (get_or ss k d)) (sym t.1) (served_first grant (get_or ss k d) (get_or ts k t.0) (a k d t.0 lt) (none_made ts k t.0 (sym sum ∙ none) (omega (arith, lt, l))) some));
     short = λ r refused. short ss refl r refused;
   })
     where
@@ -111,7 +116,7 @@ module _ {A M O : Type 0} {g : Ghosts A M O} {h : MailGhosts M} where
           let one = a j d t.0 inside in
           let halted : ¬ Sound (get_or ts j t.0).shell = subst (λ (y : Shell A M O g h). ¬ Sound y) t.1 (refused_unsound (get_or (shells_of ts) j d) r (refused.told d)) in
           ⊎_elim (λ less. omega (arith, sum, fits, less_served grant ss ts j t.0 l a inside less.1))
-          (λ all. absurd (halted (one.calm (omega (arith, all.1, one.most)) (sound j d inside))))
+          (λ all. absurd (halted (served_calm grant (get_or ss j d) (get_or ts j t.0) one (omega (arith, all.1, served_most grant (get_or ss j d) (get_or ts j t.0) one)) (sound j d inside))))
           (leb_tells (suc (get_or ts j t.0).did) grant)
 
   -- what was counted so far fits

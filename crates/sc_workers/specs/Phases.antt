@@ -1,18 +1,18 @@
 -- Shells that workers have given their turns.
-use Rattle.std.specs.Prelude.{◌≡◌, ℕ, ◌<◌, ◌≤◌, List, length, map, sum_by, slice_index_or}
+use Rattle.std.specs.Prelude.{◌≡◌, ℕ, ◌<◌, ◌⊎◌, List, length, map, sum_by, slice_index_or}
 use Rattle.sc_actor.specs.declared.actors.Actor.{Ghosts}
 use Rattle.sc_actor.specs.declared.actors.Parcel.{Ghosts as MailGhosts}
+use Rattle.sc_exchange.specs.Ports.{made}
 use Rattle.sc_shell.specs.declared.shells.Shell.{Shell}
 use Rattle.sc_workers.specs.declared.phases.Served.{Served}
-use Rattle.sc_workers.specs.Crews.{Took, Worked, Sound}
+use Rattle.sc_workers.specs.Crews.{Took, MadeRows}
 
 module _ {A M O : Type 0} {g : Ghosts A M O} {h : MailGhosts M} where
-  -- A shell that was given turns until one made no row, so many at most. It took one if it might. Where it took all, it is not refused if it was not.
+  -- A shell that was given turns, one after the other, until so many had made a row, or one made none.
   pub record IsServed (grant : ℕ) (s : Shell A M O g h) (t : Served A M O g h) : Type 0 where
-    pub most : t.did ≤ grant
-    pub worked : Worked t.did s t.shell
-    pub first : t.did ≡ 0 → 0 < grant → Took s t.shell
-    pub calm : t.did ≡ grant → Sound s → Sound t.shell
+    pub last : Shell A M O g h
+    pub rows : MadeRows t.did s last
+    pub end : ((t.did ≡ grant) × (t.shell ≡ last)) ⊎ ((t.did < grant) × (Took last t.shell × (made t.shell.port ≡ made last.port)))
 
   -- each shell was
   abbrev pub AllServed : ℕ → List (Shell A M O g h) → List (Served A M O g h) → Type 0

@@ -1,5 +1,5 @@
 //! Phases, in which workers take shells from one queue.
-ghost use Rattle.std.specs.Prelude.{◌≡◌, ◌<◌, ◌≤◌, ◌*◌, ◌^◌, [], length, map, sum_by, vec_len, IfOk};
+ghost use Rattle.std.specs.Prelude.{◌≡◌, ◌<◌, ◌≤◌, ◌*◌, ◌/◌, ◌^◌, [], length, count_by, min, max, vec_len, IfOk};
 ghost use Rattle.sc_workers.specs.Crews.{AllSound, HasPlayed};
 ghost use Rattle.sc_workers.specs.Phases.{IsServed, AllServed, shells_of, rows_of_all};
 
@@ -84,7 +84,7 @@ fn put_back<A: Actor>(shells: &mut Vec<Shell<A>>, all: Vec<Served<A>>) -> Result
 // How many turns each may take, so that all together make no more rows than are left.
 fn grant_of(left: u32, many: usize) -> u32
     requires { 0 < many }
-    ensures most { result ≤ 16 }
+    ensures value { result ≡ min (left / many) MOST_TURNS }
     ensures fits { many * result ≤ left }
     ensures some { many ≤ left → 0 < result }
 {
@@ -94,7 +94,8 @@ fn grant_of(left: u32, many: usize) -> u32
 // As many workers as shells have mail, but at most so many, and one at least.
 fn workers_for(waits: &[bool], workers: u32) -> usize
     requires { workers ≤ 16 }
-    ensures { result ≤ 16 }
+    ensures value { result ≡ max (min (count_by (λ wait. wait) waits.now) workers) 1 }
+    ensures most { result ≤ 16 }
 {
     let with_mail = waits.iter().filter(|wait| **wait).count();
     with_mail.min(workers as usize).max(1)
