@@ -22,7 +22,8 @@ use Rattle.sc_drive.specs.Numbers.{is_in, apart}
 use Rattle.sc_drive.specs.Companies.{Company}
 use Rattle.sc_drive.proofs.OneActed.{count_seen, none_seen, replays_of, count_company}
 use Rattle.sc_drive.proofs.SystemWords.{sys, waiting_at}
-use Rattle.sc_drive.proofs.FreeRows.{some_waits, first_is, in_at, flip_in}
+use Rattle.sc_actor.proofs.PendingLemmas.{some_waits, first_is}
+use Rattle.sc_drive.proofs.FreeRows.{in_at, flip_in}
 use Rattle.std.proofs.lemmas.List.{nil_from_length}
 use Rattle.sc_workers.proofs.Lists.{one_of}
 use Rattle.sc_exchange.proofs.Knowing.{own_length}

@@ -10,7 +10,7 @@ use Rattle.sc_actor.specs.declared.rows.Row.{Row}
 use Rattle.sc_actor.specs.Mail.{mails, copies, numbered, is_for, may_get, has_crashed}
 use Rattle.sc_actor.specs.System.{numbers_of, waiting, kth}
 use Rattle.sc_actor.specs.Walk.{is_quiet}
-use Rattle.sc_actor.proofs.PendingLemmas.{pending_sound, first_own}
+use Rattle.sc_actor.proofs.PendingLemmas.{pending_sound, first_own, wide_none}
 use Rattle.sc_ledger.specs.Pending.{upto, kth_pending}
 use Rattle.sc_exchange.specs.declared.ports.Port.{Port}
 use Rattle.sc_exchange.specs.declared.answers.Fetched.TheVariants.{Mail, Empty}
@@ -22,7 +22,7 @@ use Rattle.sc_drive.specs.Stepping.{IsPlace}
 use Rattle.sc_drive.specs.Lowest.{Lowest, FindsLowest, IsReceiverAt}
 use Rattle.sc_drive.proofs.SystemWords.{sys, upto_has, births_have, births_long}
 use Rattle.sc_drive.proofs.ActRows.{birth_number}
-use Rattle.sc_drive.proofs.FreeRows.{wide_none, in_at, flip_in}
+use Rattle.sc_drive.proofs.FreeRows.{in_at, flip_in}
 use Rattle.sc_workers.proofs.Lists.{one_of}
 use Rattle.sc_exchange.specs.declared.answers.Fetched.{Fetched}
 

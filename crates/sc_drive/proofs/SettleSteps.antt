@@ -25,7 +25,7 @@ use Rattle.sc_drive.specs.Companies.{Company}
 use Rattle.sc_drive.specs.Goings.{HasReached, Goes, Fills}
 use Rattle.sc_drive.specs.Lowest.{FindsLowest, LowestAt, Rests}
 use Rattle.sc_drive.proofs.ActorRows.{delivers_did, delivers_full, serves_empty, serves_spent}
-use Rattle.sc_drive.proofs.FreeRows.{first_is}
+use Rattle.sc_actor.proofs.PendingLemmas.{first_is}
 use Rattle.sc_drive.proofs.SingleSteps.{no_go}
 use Rattle.std.proofs.Math.Bool.{or-false, or-true}
 use Rattle.sc_drive.proofs.SystemWords.{gone_push}
