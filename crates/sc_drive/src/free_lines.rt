@@ -1,22 +1,24 @@
-//! A line of rounds.
+//! A line of many deliveries by many workers.
 ghost use Rattle.std.specs.Prelude.{[], ◌∷◌, OnOk, IsErrOf};
 ghost use Rattle.sc_actor.specs.Walk.{Frees};
 ghost use Rattle.sc_drive.specs.Goings.{Goes, Fills, IsKept, IsOn, IsTogether};
 
 use crate::steps::{Score, Stop};
+use crate::ways::freed;
 use sc_actor::{Actor, Gate};
 use sc_exchange::Port;
 use sc_shell::Shell;
-use sc_workers::{Rounds, gather, rounds};
+use sc_workers::{Rounds, Way, gather};
 use std::alloc::Global;
 use std::sync::Wait;
 use std::thread::Threads;
 
 /// A line of many deliveries, each of the first pending mail of any actor, by so many workers, of
-/// which there are 1 to 16.
+/// which there are 1 to 16: in rounds, or by a pool.
 pub(crate) fn run_free<A: Actor, G: Gate, R: Threads + Wait + Sync>(
     rt: &R,
     alloc: Global,
+    way: Way,
     net: &mut Port<A::Mail, A::Order>,
     shells: &mut Vec<Shell<A>>,
     score: &mut Score,
@@ -35,7 +37,9 @@ pub(crate) fn run_free<A: Actor, G: Gate, R: Threads + Wait + Sync>(
         Fills net.old shells.old.items score.old (Frees most ∷ []) net.new }
 {
     let crew = workers.max(1).min(16);
-    let end = rounds(rt, alloc, net, shells, crew, most, gate);
+    let Ok(end) = freed(rt, alloc, way, net, shells, crew, most, gate) else {
+        return Err(Stop::OutOfMemory);
+    };
     let Ok(_) = gather(rt, net, shells) else {
         return Err(Stop::OutOfMemory);
     };

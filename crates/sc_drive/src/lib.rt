@@ -13,6 +13,7 @@ mod single_lines;
 mod start;
 mod steps;
 mod storm_lines;
+mod ways;
 
 pub use conditions::goers_are_spared;
 pub use end::close;

@@ -14,7 +14,7 @@ use crate::storm_lines::run_storm;
 use sc_actor::{Actor, Gate, Line};
 use sc_exchange::Port;
 use sc_shell::Shell;
-use sc_workers::gather;
+use sc_workers::{Way, gather};
 use std::alloc::Global;
 use std::sync::Wait;
 use std::thread::Threads;
@@ -34,6 +34,7 @@ fn no_score(alloc: Global) -> Score
 fn run_line<A: Actor, G: Gate, R: Threads + Wait + Sync>(
     rt: &R,
     alloc: Global,
+    way: Way,
     net: &mut Port<A::Mail, A::Order>,
     shells: &mut Vec<Shell<A>>,
     score: &mut Score,
@@ -56,7 +57,7 @@ fn run_line<A: Actor, G: Gate, R: Threads + Wait + Sync>(
         Line::Go { who } => run_go(rt, alloc, net, shells, score, *who),
         Line::Settle { most } => run_settle(rt, alloc, net, shells, score, *most, gate),
         Line::Free { most, workers } => {
-            run_free(rt, alloc, net, shells, score, *most, *workers, gate)
+            run_free(rt, alloc, way, net, shells, score, *most, *workers, gate)
         }
         Line::Storm { number, most } => {
             run_storm(rt, alloc, net, shells, score, *number, *most, gate)
@@ -65,7 +66,8 @@ fn run_line<A: Actor, G: Gate, R: Threads + Wait + Sync>(
     }
 }
 
-/// Drives a schedule through the network's port and the shells of its actors.
+/// Drives a schedule through the network's port and the shells of its actors. `way` tells how a line
+/// of many workers is worked.
 ///
 /// The shells are those of actors at their births, each at its port, and no port has made a row. No
 /// line tells an actor to go that another lets crash (`goers_are_spared`). The journal is afterwards
@@ -73,6 +75,7 @@ fn run_line<A: Actor, G: Gate, R: Threads + Wait + Sync>(
 pub fn drive<A: Actor, G: Gate, R: Threads + Wait + Sync>(
     rt: &R,
     alloc: Global,
+    way: Way,
     net: &mut Port<A::Mail, A::Order>,
     shells: &mut Vec<Shell<A>>,
     lines: &[Line<A::Order>],
@@ -91,7 +94,7 @@ pub fn drive<A: Actor, G: Gate, R: Threads + Wait + Sync>(
         return Driven::OutOfMemory;
     };
     for line in lines {
-        match run_line(rt, alloc, net, shells, &mut score, line, gate) {
+        match run_line(rt, alloc, way, net, shells, &mut score, line, gate) {
             Ok(()) => {}
             Err(Stop::Full) => return Driven::Full,
             Err(Stop::OutOfMemory) => return Driven::OutOfMemory,

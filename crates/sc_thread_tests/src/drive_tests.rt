@@ -4,6 +4,7 @@ ghost use Rattle.std.specs.Prelude.{◌≤◌};
 use crate::players::{Open, Pair, seats};
 use sc_actor::{Gate, Line};
 use sc_drive::{Driven, drive, goers_are_spared, open};
+use sc_workers::Way;
 use std::alloc::Global;
 use std::mem::forget;
 use std::process::Abort;
@@ -26,7 +27,7 @@ fn driven_to<G: Gate, R: Threads + Wait + Abort + Sync>(
     assert!(rt; goers_are_spared(lines));
     let seats = seats(rt, alloc, other, 4, starves);
     let (mut net, mut shells) = open(alloc, seats, 3, bytes).expect(rt, "memory");
-    let end = drive(rt, alloc, &mut net, &mut shells, lines, gate);
+    let end = drive(rt, alloc, Way::Runs, &mut net, &mut shells, lines, gate);
     forget(net);
     forget(shells);
     end

@@ -13,7 +13,7 @@ use sc_checker::replay;
 use sc_drive::{Driven, close, drive, goers_are_spared, open};
 use sc_exchange::Port;
 use sc_shell::Shell;
-use sc_workers::gather;
+use sc_workers::{Way, gather};
 use std::alloc::Global;
 use std::mem::forget;
 use std::process::Abort;
@@ -93,7 +93,7 @@ fn drive_all<R: Threads + Wait + Abort + Sync>(
     ensures kept { IsKept net.old shells.old.items net.new shells.new.items }
 {
     assert!(rt; goers_are_spared(lines));
-    match drive(rt, alloc, net, shells, lines, &Open) {
+    match drive(rt, alloc, Way::Runs, net, shells, lines, &Open) {
         Driven::OutOfMemory => panic!(rt; "memory"),
         Driven::Full | Driven::Ended { .. } => {}
     }
