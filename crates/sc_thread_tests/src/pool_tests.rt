@@ -7,7 +7,7 @@ ghost use Rattle.sc_workers.specs.Crews.{AllOf, AllSound, Sound, crew_numbers};
 use crate::notes::Note;
 use crate::players::{Open, Player, go, seats};
 use sc_actor::Seat;
-use sc_drive::open;
+use sc_drive::{Company, open};
 use sc_exchange::Port;
 use sc_pool::pool_rounds;
 use sc_shell::Shell;
@@ -30,14 +30,14 @@ fn pooled<R: Threads + Wait + Abort + Sync>(
     requires { (bytes ≤ 1000000) × (1 ≤ workers) × (workers ≤ 16) }
 {
     let seats = seats(rt, alloc, 2, 4, 0);
-    let (mut net, mut shells) = open(alloc, seats, 2, bytes).expect(rt, "memory");
-    go(rt, alloc, &net, &mut shells, 0);
-    go(rt, alloc, &net, &mut shells, 1);
-    let end = pool_rounds(rt, alloc, &mut net, &mut shells, workers, limit, &Open);
+    let mut company = open(alloc, seats, 2, bytes).expect(rt, "memory");
+    go(rt, alloc, &company.net, &mut company.shells, 0);
+    go(rt, alloc, &company.net, &mut company.shells, 1);
+    let Company { net, shells, .. } = &mut company;
+    let end = pool_rounds(rt, alloc, net, shells, workers, limit, &Open);
     assert!(rt; shells.len() == 2);
     let whos = (shells[0].who(), shells[1].who());
-    forget(net);
-    forget(shells);
+    forget(company);
     (end, whos.0, whos.1)
 }
 
@@ -66,11 +66,11 @@ fn a_full_journal_hands_all_shells_back_in_order(rt: HostRuntime) {
 #[test]
 fn a_pool_without_shells_is_quiet(rt: HostRuntime) {
     let alloc = rt.alloc();
-    let (mut net, mut shells) = open(alloc, Vec::<Seat<Player>>::new(alloc), 2, 1 << 19).expect(
+    let mut company = open(alloc, Vec::<Seat<Player>>::new(alloc), 2, 1 << 19).expect(
         &rt, "memory",
     );
-    let end = pool_rounds(&rt, alloc, &mut net, &mut shells, 4, 5, &Open);
-    forget(net);
-    forget(shells);
+    let Company { net, shells, .. } = &mut company;
+    let end = pool_rounds(&rt, alloc, net, shells, 4, 5, &Open);
+    forget(company);
     assert!(rt; end == Rounds::Quiet { used: 0 });
 }
