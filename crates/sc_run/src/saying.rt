@@ -20,6 +20,7 @@ use sc_make::made_scenario;
 use sc_statuses::Said;
 use sc_wants::{InputFault, fault_text, file_in, scenario_in, text_in};
 use sc_words::{Subcommand, subcommand_by};
+use sc_workers::Way;
 use std::alloc::Global;
 use std::sync::Wait;
 use std::thread::Threads;
@@ -48,7 +49,7 @@ fn tell_usage(alloc: Global) -> Result<(Said, Text), OutOfMemory>
 {
     let text = tells(
         alloc,
-        b"usage: scatter run | scatter make N S | scatter journal | scatter audit",
+        b"usage: scatter run | scatter make N S | scatter journal | scatter audit | scatter pool",
     )?;
     Ok((Said::Usage, text))
 }
@@ -57,6 +58,7 @@ fn tell_usage(alloc: Global) -> Result<(Said, Text), OutOfMemory>
 fn report_input<S: Source, G: Gate, R: Threads + Wait + Sync>(
     rt: &R,
     alloc: Global,
+    way: Way,
     input: &mut S,
     gate: &G,
 ) -> Result<(Said, Text), OutOfMemory>
@@ -68,7 +70,7 @@ fn report_input<S: Source, G: Gate, R: Threads + Wait + Sync>(
     ensures takes { S.calls input.new ≤ S.calls input.old + (most_bytes + 2) }
 {
     match scenario_in(alloc, input) {
-        Ok(scenario) => report(rt, alloc, &scenario, gate),
+        Ok(scenario) => report(rt, alloc, way, &scenario, gate),
         Err(fault) => refuse(alloc, fault),
     }
 }
@@ -120,11 +122,11 @@ fn report_made<G: Gate, R: Threads + Wait + Sync>(
     ensures { IfOk result (λ begun. PlaysMade (made_scenario n seed) begun.0 begun.1) }
 {
     let scenario = made_scenario(alloc, n, seed)?;
-    report(rt, alloc, &scenario, gate)
+    report(rt, alloc, Way::Runs, &scenario, gate)
 }
 
 /// The text for what the words ask for. The input is read only after one of the words `run`,
-/// `journal` and `audit` alone.
+/// `journal`, `audit` and `pool` alone.
 pub(crate) fn say<S: Source, G: Gate, R: Threads + Wait + Sync>(
     rt: &R,
     alloc: Global,
@@ -144,7 +146,8 @@ pub(crate) fn say<S: Source, G: Gate, R: Threads + Wait + Sync>(
 {
     match subcommand_by(alloc, words)? {
         None => tell_usage(alloc),
-        Some(Subcommand::Run) => report_input(rt, alloc, input, gate),
+        Some(Subcommand::Run) => report_input(rt, alloc, Way::Runs, input, gate),
+        Some(Subcommand::Pool) => report_input(rt, alloc, Way::Queue, input, gate),
         Some(Subcommand::Journal) => store_input(rt, alloc, input, gate),
         Some(Subcommand::Audit) => audit_input(alloc, input),
         Some(Subcommand::Make { n, seed }) => report_made(rt, alloc, n, seed, gate),
