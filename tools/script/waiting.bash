@@ -18,7 +18,6 @@ tick() {
 stop_ticking() {
     [ -n "$ticker" ] || return 0
     kill "$ticker" 2>/dev/null
-    wait "$ticker" 2>/dev/null
     ticker=
     printf '\r\033[K' >&2
 }
@@ -28,6 +27,8 @@ start_ticking() {
     [ -t 2 ] || return 0
     tick "$1" &
     ticker=$!
+    # (no word of its end is wanted, and `wait` for it would last as long as the command where a signal comes)
+    disown "$ticker"
 }
 
 # Runs a command in a process group of its own, which is ended with this script.
