@@ -99,7 +99,8 @@ is_less() {
     [ "${#1}" -lt "${#2}" ] || { [ "${#1}" -eq "${#2}" ] && [[ "$1" < "$2" ]]; }
 }
 
-# Whether the first word is one of the program's, and the others are as many numbers as it takes, in their ranges.
+# Whether the first word is one of the program's, and the others are as many as it takes, and numbers in their ranges
+# where it takes numbers.
 asks_program() {
     local argument
     local -a wanted
@@ -108,7 +109,9 @@ asks_program() {
     shift
     [ "$#" -eq "${#wanted[@]}" ] || return 1
     for argument in "${wanted[@]}"; do
-        is_within "$1" "${argument#*=}" || return 1
+        case "$argument" in
+            *=*) is_within "$1" "${argument#*=}" || return 1 ;;
+        esac
         shift
     done
 }
