@@ -88,6 +88,15 @@ usage_line() {
     printf 'usage: %s\n' "$line"
 }
 
+# Whether the table has a word.
+is_word() {
+    local word
+    for word in "${words[@]}"; do
+        [ "$word" != "$1" ] || return 0
+    done
+    return 1
+}
+
 # Whether a text spells a number without a sign or a leading zero, within `LOW..HIGH`.
 is_within() {
     local LC_ALL=C low="${2%%..*}" high="${2##*..}"
@@ -104,7 +113,7 @@ is_less() {
 asks_program() {
     local argument
     local -a wanted
-    [ "$#" -ge 1 ] && [ "${by["${1:-none}"]-}" = program ] || return 1
+    [ "$#" -ge 1 ] && is_word "$1" && [ "${by["$1"]}" = program ] || return 1
     read -ra wanted <<<"${arguments["$1"]}"
     shift
     [ "$#" -eq "${#wanted[@]}" ] || return 1
