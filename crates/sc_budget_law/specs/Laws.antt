@@ -25,7 +25,7 @@ PlainRequestsAreAnswered =
     → IsValid scenario → IsAtBudget scenario → Lawful as_nodes words scenario journal → Whole as_nodes words scenario journal
     → AreAnswered scenario journal
 
--- .. and none counts more bytes than a journal may
+-- no lawful journal of one counts more bytes than a journal may
 abbrev pub PlainJournalsAreLight : Type 0
 PlainJournalsAreLight =
     (words : ℕ → ℕ → ℕ × ℕ) (scenario : Scenario) (journal : List (Row Mail OrderLine))
