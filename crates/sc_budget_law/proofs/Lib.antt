@@ -13,6 +13,7 @@ pub mod BetweenMoves
 pub mod BetweenReplicas
 pub mod BetweenStage
 pub mod BetweenViews
+pub mod QuietAnswered
 pub mod QuietLeader
 pub mod QuietSought
 pub mod QuietSteps

@@ -8,8 +8,8 @@ use Rattle.sc_actor.specs.declared.rows.Row.{Row}
 use Rattle.sc_actor.specs.Walk.{unsettled}
 use Rattle.sc_scenario.specs.declared.scenarios.Scenario.{Scenario}
 use Rattle.sc_scenario.specs.Valid.{IsValid}
-use Rattle.sc_sound.specs.Players.{Lawful, as_nodes, schedule, system_of}
-use Rattle.sc_budget_law.specs.Budget.{IsAtBudget}
+use Rattle.sc_sound.specs.Players.{Lawful, Whole, as_nodes, schedule, system_of}
+use Rattle.sc_budget_law.specs.Budget.{IsAtBudget, AreAnswered}
 
 -- in each lawful journal of a valid plain scenario at its budget no line is cut off with mail pending
 abbrev pub PlainLinesEndQuiet : Type 0
@@ -18,7 +18,14 @@ PlainLinesEndQuiet =
     → IsValid scenario → IsAtBudget scenario → Lawful as_nodes words scenario journal
     → unsettled (system_of as_nodes words scenario) (schedule scenario) journal ≡ false
 
--- .. and none counts more bytes than a journal may
+-- in each whole journal of one every request of a client that goes before a line of deliveries is answered
+abbrev pub PlainRequestsAreAnswered : Type 0
+PlainRequestsAreAnswered =
+    (words : ℕ → ℕ → ℕ × ℕ) (scenario : Scenario) (journal : List (Row Mail OrderLine))
+    → IsValid scenario → IsAtBudget scenario → Lawful as_nodes words scenario journal → Whole as_nodes words scenario journal
+    → AreAnswered scenario journal
+
+-- no lawful journal of one counts more bytes than a journal may
 abbrev pub PlainJournalsAreLight : Type 0
 PlainJournalsAreLight =
     (words : ℕ → ℕ → ℕ × ℕ) (scenario : Scenario) (journal : List (Row Mail OrderLine))

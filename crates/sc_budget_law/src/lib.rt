@@ -5,7 +5,11 @@
 //! is so many deliveries in each line: for each request 32, and 4 for each group.
 #![tactic(auto)]
 
-ghost use Rattle.sc_budget_law.specs.Laws.{PlainJournalsAreLight, PlainLinesEndQuiet};
+ghost use Rattle.sc_budget_law.specs.Laws.{
+  PlainJournalsAreLight,
+  PlainLinesEndQuiet,
+  PlainRequestsAreAnswered,
+};
 
 use sc_scenario::valid_scenarios_are_bounded;
 
@@ -24,4 +28,13 @@ pub fn plain_journals_are_light()
     ensures { PlainJournalsAreLight }
 {
     valid_scenarios_are_bounded();
+}
+
+/// In each whole journal of a valid plain scenario at its budget every request of a client whose
+/// go line has a line of deliveries after it is answered: the client kept a reply to each.
+pub fn plain_journals_are_answered()
+    ensures { PlainRequestsAreAnswered }
+{
+    valid_scenarios_are_bounded();
+    plain_lines_end_quiet();
 }

@@ -28,7 +28,7 @@ use Rattle.sc_workers.specs.Services.{IsService, AllServe}
 use Rattle.sc_workers.proofs.Serving.{numbers_go, count_later}
 use Rattle.sc_workers.proofs.Attending.{count_split}
 use Rattle.sc_drive.specs.Numbers.{is_in, apart}
-use Rattle.sc_drive.specs.Companies.{Company}
+use Rattle.sc_drive.specs.Companies.{IsCompany}
 use Rattle.sc_drive.proofs.RowCounts.{not_in}
 use Rattle.sc_drive.proofs.OneActed.{count_seen, count_company}
 use Rattle.sc_drive.proofs.ActRows.{birth_number}
@@ -58,7 +58,7 @@ module _ {A M O : Type 0} {g : Ghosts A M O} {h : MailGhosts M} where
       by true is later = (0, omega arith, λ d. sym (eqb-true n s.port.who is))
       by false is later = let q = later (ap (λ b. b || is_in n (crew_numbers ss)) (sym is) ∙ e) in (suc q.0, omega (arith, q.1), λ d. q.2 d)
 
-  module _ (words : ℕ → ℕ → ℕ × ℕ) (births : List (Seat A)) (net next : Port M O h) (ss after : List (Shell A M O g h)) (c : Company births net ss) (looked : Looked net next) (len : length after ≡ length ss) (go : AllGo ss after) (over : AllOver next after) (rows : IsTrue next) (served : AllServe next ss) where
+  module _ (words : ℕ → ℕ → ℕ × ℕ) (births : List (Seat A)) (net next : Port M O h) (ss after : List (Shell A M O g h)) (c : IsCompany births net ss) (looked : Looked net next) (len : length after ≡ length ss) (go : AllGo ss after) (over : AllOver next after) (rows : IsTrue next) (served : AllServe next ss) where
     abbrev world : System A M O
     world = sys words births net ss c
 

@@ -21,7 +21,7 @@ use Rattle.sc_workers.specs.declared.answers.Rounds.TheVariants.{Quiet, Limit, F
 use Rattle.sc_workers.specs.Crews.{AllGo, AllOver, AllStill, AllSound, crew_numbers, rows_made}
 use Rattle.sc_workers.specs.Services.{AllServe}
 use Rattle.sc_workers.specs.Ends.{IsEnd, IsGathered}
-use Rattle.sc_drive.specs.declared.steps.Score.{Score}
+use Rattle.sc_drive.specs.declared.company.Score.{Score}
 use Rattle.sc_drive.specs.Numbers.{is_in}
 use Rattle.sc_drive.specs.Goings.{HasReached, Goes, Fills}
 use Rattle.sc_drive.proofs.ActRows.{birth_number}

@@ -12,9 +12,9 @@ use Rattle.clap.proofs.OnLiterals.{clap_on_literals}
 use Rattle.sc_lines.specs.Words.{same}
 use Rattle.sc_words.specs.Subcommands.{make_of, subcommand_by, has_dash, is_known, is_plain}
 use Rattle.sc_words.specs.Commands.{scatter_app, make_in, subcommand_in}
-use Rattle.sc_words.specs.declared.subcommands.Subcommand.TheVariants.{Run, Journal, Audit}
+use Rattle.sc_words.specs.declared.subcommands.Subcommand.TheVariants.{Run, Journal, Audit, Pool}
 use Rattle.sc_words.proofs.Shapes.{passed, other_count}
-use Rattle.sc_words.proofs.Parses.{make_rows, make_taken, make_found, run_taken, journal_taken, audit_taken}
+use Rattle.sc_words.proofs.Parses.{make_rows, make_taken, make_found, run_taken, journal_taken, audit_taken, pool_taken}
 
 -- ---- the word
 
@@ -27,31 +27,34 @@ both_true : (a b : Bool) → (a && b) ≡ true → a ≡ true
 both_true true b h = refl
 both_true false b h = h
 
-one_of_four : (a b c d : Bool) → (a || (b || (c || d))) ≡ true → a ≡ false → b ≡ false → c ≡ false → d ≡ true
-one_of_four a b c d h is_a is_b is_c =
-    sym (ap (λ x. x || (b || (c || d))) is_a ∙ ap (λ x. x || (c || d)) is_b ∙ ap (λ x. x || d) is_c) ∙ h
+one_of_five : (a b c d e : Bool) → (a || (b || (c || (d || e)))) ≡ true → a ≡ false → b ≡ false → c ≡ false → d ≡ false → e ≡ true
+one_of_five a b c d e h is_a is_b is_c is_d =
+    sym (ap (λ x. x || (b || (c || (d || e)))) is_a ∙ ap (λ x. x || (c || (d || e))) is_b ∙ ap (λ x. x || (d || e)) is_c ∙ ap (λ x. x || e) is_d) ∙ h
 
 -- what holds of a word that is written out holds of a word that is the same
 of_same : (P : Text → Type 0) (word known : Text) → same word known ≡ true → P known → P word
 of_same P word known is holds = subst P (sym (same_text word known (sym is))) holds
 
--- a known word is one of the four
-of_known : (P : Text → Type 0) (word : Text) → is_known word ≡ true → P (codes "run") → P (codes "journal") → P (codes "audit") → P (codes "make") → P word
-of_known P word known run journal audit make =
+-- a known word is one of the five
+of_known : (P : Text → Type 0) (word : Text) → is_known word ≡ true → P (codes "run") → P (codes "journal") → P (codes "audit") → P (codes "pool") → P (codes "make") → P word
+of_known P word known run journal audit pool make =
     elim (cases_Bool (same word (codes "run"))) [
       | inl is ↦ of_same P word (codes "run") is run
       | inr no_run ↦ elim (cases_Bool (same word (codes "journal"))) [
         | inl is ↦ of_same P word (codes "journal") is journal
         | inr no_journal ↦ elim (cases_Bool (same word (codes "audit"))) [
           | inl is ↦ of_same P word (codes "audit") is audit
-          | inr no_audit ↦ of_same P word (codes "make")
-              (one_of_four (same word (codes "run")) (same word (codes "journal")) (same word (codes "audit")) (same word (codes "make")) known no_run no_journal no_audit) make
+          | inr no_audit ↦ elim (cases_Bool (same word (codes "pool"))) [
+            | inl is ↦ of_same P word (codes "pool") is pool
+            | inr no_pool ↦ of_same P word (codes "make")
+                (one_of_five (same word (codes "run")) (same word (codes "journal")) (same word (codes "audit")) (same word (codes "pool")) (same word (codes "make")) known no_run no_journal no_audit no_pool) make
+          ]
         ]
       ]
     ]
 
--- plain words begin with one of the four
-of_plain : (P : Text → Type 0) (word : Text) (words : List Text) → is_plain (word ∷ words) ≡ true → P (codes "run") → P (codes "journal") → P (codes "audit") → P (codes "make") → P word
+-- plain words begin with one of the five
+of_plain : (P : Text → Type 0) (word : Text) (words : List Text) → is_plain (word ∷ words) ≡ true → P (codes "run") → P (codes "journal") → P (codes "audit") → P (codes "pool") → P (codes "make") → P word
 of_plain P word words plain = of_known P word (both_true (is_known word) (not (list_any has_dash (word ∷ words))) plain)
 
 -- ---- it is given back
@@ -71,6 +74,10 @@ audit_alone : subcommand_in 1 (subcommand_of scatter_app (codes "audit" ∷ []))
 unfolding clap_on_literals
 audit_alone = refl
 
+pool_alone : subcommand_in 1 (subcommand_of scatter_app (codes "pool" ∷ [])) ≡ Some Pool
+unfolding clap_on_literals
+pool_alone = refl
+
 make_alone : subcommand_in 1 (subcommand_of scatter_app (codes "make" ∷ [])) ≡ None
 unfolding clap_on_literals
 make_alone = refl
@@ -87,6 +94,10 @@ audit_and_two : (one other : Text) → subcommand_in 3 (subcommand_of scatter_ap
 unfolding clap_on_literals
 audit_and_two one other = refl
 
+pool_and_two : (one other : Text) → subcommand_in 3 (subcommand_of scatter_app (codes "pool" ∷ one ∷ other ∷ [])) ≡ None
+unfolding clap_on_literals
+pool_and_two one other = refl
+
 make_read : (count seed : Text) → subcommand_in 3 (Some (codes "make", make_rows count seed)) ≡ make_of count seed
 make_read count seed = refl
 
@@ -101,13 +112,14 @@ of_many n (Some met) one three =
     passed (eqb n 1) (same met.0 (codes "run")) (Some Run) _ not_one
     ∙ passed (eqb n 1) (same met.0 (codes "journal")) (Some Journal) _ not_one
     ∙ passed (eqb n 1) (same met.0 (codes "audit")) (Some Audit) _ not_one
+    ∙ passed (eqb n 1) (same met.0 (codes "pool")) (Some Pool) _ not_one
     ∙ passed (eqb n 3) (same met.0 (codes "make")) (make_in met.1) None (ne_eqb n 3 three)
 
 abbrev GivesBack : List Text → Type 0
 GivesBack words = subcommand_in (length words) (subcommand_of scatter_app words) ≡ subcommand_by words
 
 one_back : (word : Text) → is_plain (word ∷ []) ≡ true → GivesBack (word ∷ [])
-one_back word plain = of_plain (λ w. GivesBack (w ∷ [])) word [] plain run_alone journal_alone audit_alone make_alone
+one_back word plain = of_plain (λ w. GivesBack (w ∷ [])) word [] plain run_alone journal_alone audit_alone pool_alone make_alone
 
 make_back : (count seed : Text) → is_plain (codes "make" ∷ count ∷ seed ∷ []) ≡ true → GivesBack (codes "make" ∷ count ∷ seed ∷ [])
 make_back count seed plain =
@@ -117,7 +129,7 @@ make_back count seed plain =
 three_back : (word count seed : Text) → is_plain (word ∷ count ∷ seed ∷ []) ≡ true → GivesBack (word ∷ count ∷ seed ∷ [])
 three_back word count seed plain =
     of_plain (λ w. is_plain (w ∷ count ∷ seed ∷ []) ≡ true → GivesBack (w ∷ count ∷ seed ∷ [])) word (count ∷ seed ∷ []) plain
-    (λ p. run_and_two count seed) (λ p. journal_and_two count seed) (λ p. audit_and_two count seed) (make_back count seed) plain
+    (λ p. run_and_two count seed) (λ p. journal_and_two count seed) (λ p. audit_and_two count seed) (λ p. pool_and_two count seed) (make_back count seed) plain
 
 -- plain words come out as what they ask for
 pub given_back : (words : List Text) → is_plain words ≡ true → subcommand_in (length words) (subcommand_of scatter_app words) ≡ subcommand_by words
@@ -142,7 +154,7 @@ are_taken words takes = λ refused. absurd (true≢false (sym takes ∙ refused)
 one_taken : (word : Text) → is_plain (word ∷ []) ≡ true → IsTaken (word ∷ [])
 one_taken word plain =
     of_plain (λ w. IsTaken (w ∷ [])) word [] plain
-    (are_taken (codes "run" ∷ []) run_taken) (are_taken (codes "journal" ∷ []) journal_taken) (are_taken (codes "audit" ∷ []) audit_taken) (λ refused. refl)
+    (are_taken (codes "run" ∷ []) run_taken) (are_taken (codes "journal" ∷ []) journal_taken) (are_taken (codes "audit" ∷ []) audit_taken) (are_taken (codes "pool" ∷ []) pool_taken) (λ refused. refl)
 
 make_is_taken : (count seed : Text) → is_plain (codes "make" ∷ count ∷ seed ∷ []) ≡ true → IsTaken (codes "make" ∷ count ∷ seed ∷ [])
 make_is_taken count seed plain =
@@ -152,7 +164,7 @@ make_is_taken count seed plain =
 three_taken : (word count seed : Text) → is_plain (word ∷ count ∷ seed ∷ []) ≡ true → IsTaken (word ∷ count ∷ seed ∷ [])
 three_taken word count seed plain =
     of_plain (λ w. is_plain (w ∷ count ∷ seed ∷ []) ≡ true → IsTaken (w ∷ count ∷ seed ∷ [])) word (count ∷ seed ∷ []) plain
-    (λ p refused. refl) (λ p refused. refl) (λ p refused. refl) (make_is_taken count seed) plain
+    (λ p refused. refl) (λ p refused. refl) (λ p refused. refl) (λ p refused. refl) (make_is_taken count seed) plain
 
 -- plain words that clap refuses ask for nothing
 pub taken : (words : List Text) → is_plain words ≡ true → IsTaken words

@@ -9,10 +9,10 @@ use Rattle.sc_base.proofs.CommonLemmas.{and_then-some}
 use Rattle.sc_base.specs.Limits.{most_requests}
 use Rattle.sc_base.specs.Number.{number_of}
 use Rattle.sc_lines.specs.Words.{same, nth, count_in}
-use Rattle.sc_words.specs.Subcommands.{is_run, is_journal, is_audit, is_make, reads_input, is_on_input, last_seed, make_of, subcommand_by, has_dash, is_plain, IsInRange}
+use Rattle.sc_words.specs.Subcommands.{is_run, is_journal, is_audit, is_pool, is_make, reads_input, is_on_input, last_seed, make_of, subcommand_by, has_dash, is_plain, IsInRange}
 use Rattle.sc_lines.proofs.Choices.{counted}
 use Rattle.sc_words.specs.declared.subcommands.Subcommand.{Subcommand}
-use Rattle.sc_words.specs.declared.subcommands.Subcommand.TheVariants.{Run, Journal, Audit, Make}
+use Rattle.sc_words.specs.declared.subcommands.Subcommand.TheVariants.{Run, Journal, Audit, Pool, Make}
 
 -- ---- words with a dash spell no number
 
@@ -49,6 +49,7 @@ other_count words one three =
     passed (eqb (length words) 1) (same (nth words 0) (codes "run")) (Some Run) _ not_one
     ∙ passed (eqb (length words) 1) (same (nth words 0) (codes "journal")) (Some Journal) _ not_one
     ∙ passed (eqb (length words) 1) (same (nth words 0) (codes "audit")) (Some Audit) _ not_one
+    ∙ passed (eqb (length words) 1) (same (nth words 0) (codes "pool")) (Some Pool) _ not_one
     ∙ passed (eqb (length words) 3) (same (nth words 0) (codes "make")) (make_of (nth words 1) (nth words 2)) None (ne_eqb (length words) 3 three)
 
 -- ---- words that are not plain
@@ -62,17 +63,17 @@ not_alone word known other plain =
     ]
 
 -- what one word alone asks for, by which it is
-abbrev alone : Bool → Bool → Bool → Option Subcommand
-alone run journal audit = if run then Some Run else if journal then Some Journal else if audit then Some Audit else None
+abbrev alone : Bool → Bool → Bool → Bool → Option Subcommand
+alone run journal audit pool = if run then Some Run else if journal then Some Journal else if audit then Some Audit else if pool then Some Pool else None
 
-none_alone : (run journal audit : Bool) → run ≡ false → journal ≡ false → audit ≡ false → alone run journal audit ≡ None
-none_alone run journal audit r j a =
-    cond-false run (Some Run) _ r ∙ cond-false journal (Some Journal) _ j ∙ cond-false audit (Some Audit) None a
+none_alone : (run journal audit pool : Bool) → run ≡ false → journal ≡ false → audit ≡ false → pool ≡ false → alone run journal audit pool ≡ None
+none_alone run journal audit pool r j a p =
+    cond-false run (Some Run) _ r ∙ cond-false journal (Some Journal) _ j ∙ cond-false audit (Some Audit) _ a ∙ cond-false pool (Some Pool) None p
 
 one_word : (word : List ℕ) → is_plain (word ∷ []) ≡ false → subcommand_by (word ∷ []) ≡ None
 one_word word other =
-    none_alone (same word (codes "run")) (same word (codes "journal")) (same word (codes "audit"))
-    (not_alone word (codes "run") other refl) (not_alone word (codes "journal") other refl) (not_alone word (codes "audit") other refl)
+    none_alone (same word (codes "run")) (same word (codes "journal")) (same word (codes "audit")) (same word (codes "pool"))
+    (not_alone word (codes "run") other refl) (not_alone word (codes "journal") other refl) (not_alone word (codes "audit") other refl) (not_alone word (codes "pool") other refl)
 
 some_dash : (a b : Bool) → not (a || (b || false)) ≡ false → (b ≡ false → a ≡ true)
 some_dash true b h f = refl
@@ -121,37 +122,40 @@ choice true count seed asked e = e
 choice false count seed asked e = absurd (none-some asked e)
 
 -- what words ask for, by which they are
-abbrev chosen : Bool → Bool → Bool → Bool → List ℕ → List ℕ → Option Subcommand
-chosen run journal audit make count seed =
-    if run then Some Run else if journal then Some Journal else if audit then Some Audit else if make then make_of count seed else None
+abbrev chosen : Bool → Bool → Bool → Bool → Bool → List ℕ → List ℕ → Option Subcommand
+chosen run journal audit pool make count seed =
+    if run then Some Run else if journal then Some Journal else if audit then Some Audit else if pool then Some Pool else if make then make_of count seed else None
 
-range_case : (run journal audit make : Bool) (count seed : List ℕ) (asked : Subcommand) → chosen run journal audit make count seed ≡ Some asked → IsInRange asked
-range_case true journal audit make count seed asked e = subst IsInRange (same_Some Run asked e) tt
-range_case false true audit make count seed asked e = subst IsInRange (same_Some Journal asked e) tt
-range_case false false true make count seed asked e = subst IsInRange (same_Some Audit asked e) tt
-range_case false false false make count seed asked e =
+range_case : (run journal audit pool make : Bool) (count seed : List ℕ) (asked : Subcommand) → chosen run journal audit pool make count seed ≡ Some asked → IsInRange asked
+range_case true journal audit pool make count seed asked e = subst IsInRange (same_Some Run asked e) tt
+range_case false true audit pool make count seed asked e = subst IsInRange (same_Some Journal asked e) tt
+range_case false false true pool make count seed asked e = subst IsInRange (same_Some Audit asked e) tt
+range_case false false false true make count seed asked e = subst IsInRange (same_Some Pool asked e) tt
+range_case false false false false make count seed asked e =
     let m = made count seed asked (choice make count seed asked e) in
     subst IsInRange m.2 (m.3, m.4)
 
 -- what is asked is in range
 pub in_range : (words : List (List ℕ)) (asked : Subcommand) → subcommand_by words ≡ Some asked → IsInRange asked
-in_range words asked e = range_case (is_run words) (is_journal words) (is_audit words) (is_make words) (nth words 1) (nth words 2) asked e
+in_range words asked e = range_case (is_run words) (is_journal words) (is_audit words) (is_pool words) (is_make words) (nth words 1) (nth words 2) asked e
 
 -- what is asked tells which words they are
-abbrev Tells : Bool → Bool → Bool → Subcommand → Type 0
-Tells run journal audit Run = run ≡ true
-Tells run journal audit Journal = journal ≡ true
-Tells run journal audit Audit = audit ≡ true
-Tells run journal audit (Make n seed) = (run || (journal || audit)) ≡ false
+abbrev Tells : Bool → Bool → Bool → Bool → Subcommand → Type 0
+Tells run journal audit pool Run = run ≡ true
+Tells run journal audit pool Journal = journal ≡ true
+Tells run journal audit pool Audit = audit ≡ true
+Tells run journal audit pool Pool = pool ≡ true
+Tells run journal audit pool (Make n seed) = (run || (journal || (audit || pool))) ≡ false
 
-tells_case : (run journal audit make : Bool) (count seed : List ℕ) (asked : Subcommand) → chosen run journal audit make count seed ≡ Some asked → Tells run journal audit asked
-tells_case true journal audit make count seed asked e = subst (Tells true journal audit) (same_Some Run asked e) refl
-tells_case false true audit make count seed asked e = subst (Tells false true audit) (same_Some Journal asked e) refl
-tells_case false false true make count seed asked e = subst (Tells false false true) (same_Some Audit asked e) refl
-tells_case false false false make count seed asked e = subst (Tells false false false) (made count seed asked (choice make count seed asked e)).2 refl
+tells_case : (run journal audit pool make : Bool) (count seed : List ℕ) (asked : Subcommand) → chosen run journal audit pool make count seed ≡ Some asked → Tells run journal audit pool asked
+tells_case true journal audit pool make count seed asked e = subst (Tells true journal audit pool) (same_Some Run asked e) refl
+tells_case false true audit pool make count seed asked e = subst (Tells false true audit pool) (same_Some Journal asked e) refl
+tells_case false false true pool make count seed asked e = subst (Tells false false true pool) (same_Some Audit asked e) refl
+tells_case false false false true make count seed asked e = subst (Tells false false false true) (same_Some Pool asked e) refl
+tells_case false false false false make count seed asked e = subst (Tells false false false false) (made count seed asked (choice make count seed asked e)).2 refl
 
-tells : (words : List (List ℕ)) (asked : Subcommand) → subcommand_by words ≡ Some asked → Tells (is_run words) (is_journal words) (is_audit words) asked
-tells words asked e = tells_case (is_run words) (is_journal words) (is_audit words) (is_make words) (nth words 1) (nth words 2) asked e
+tells : (words : List (List ℕ)) (asked : Subcommand) → subcommand_by words ≡ Some asked → Tells (is_run words) (is_journal words) (is_audit words) (is_pool words) asked
+tells words asked e = tells_case (is_run words) (is_journal words) (is_audit words) (is_pool words) (is_make words) (nth words 1) (nth words 2) asked e
 
 -- a run is asked for by the one word alone
 pub run_asked : (words : List (List ℕ)) → subcommand_by words ≡ Some Run → is_run words ≡ true
@@ -165,19 +169,27 @@ journal_asked words e = tells words Journal e
 pub audit_asked : (words : List (List ℕ)) → subcommand_by words ≡ Some Audit → is_audit words ≡ true
 audit_asked words e = tells words Audit e
 
-on_input : (run journal audit : Bool) (asked : Subcommand) → Tells run journal audit asked → is_on_input asked ≡ (run || (journal || audit))
-on_input run journal audit Run e = sym (ap (λ b. b || (journal || audit)) e)
-on_input true journal audit Journal e = refl
-on_input false journal audit Journal e = sym (ap (λ b. b || audit) e)
-on_input true journal audit Audit e = refl
-on_input false true audit Audit e = refl
-on_input false false audit Audit e = sym e
-on_input run journal audit (Make n seed) e = sym e
+-- and a pool
+pub pool_asked : (words : List (List ℕ)) → subcommand_by words ≡ Some Pool → is_pool words ≡ true
+pool_asked words e = tells words Pool e
+
+on_input : (run journal audit pool : Bool) (asked : Subcommand) → Tells run journal audit pool asked → is_on_input asked ≡ (run || (journal || (audit || pool)))
+on_input run journal audit pool Run e = sym (ap (λ b. b || (journal || (audit || pool))) e)
+on_input true journal audit pool Journal e = refl
+on_input false journal audit pool Journal e = sym (ap (λ b. b || (audit || pool)) e)
+on_input true journal audit pool Audit e = refl
+on_input false true audit pool Audit e = refl
+on_input false false audit pool Audit e = sym (ap (λ b. b || pool) e)
+on_input true journal audit pool Pool e = refl
+on_input false true audit pool Pool e = refl
+on_input false false true pool Pool e = refl
+on_input false false false pool Pool e = sym e
+on_input run journal audit pool (Make n seed) e = sym e
 
 -- what is on the input is asked for by words that read it
 pub if_reads : (words : List (List ℕ)) (asked : Option Subcommand) → asked ≡ subcommand_by words → IfSome asked (λ what. is_on_input what ≡ reads_input words)
 if_reads words None e = tt
-if_reads words (Some asked) e = on_input (is_run words) (is_journal words) (is_audit words) asked (tells words asked (sym e))
+if_reads words (Some asked) e = on_input (is_run words) (is_journal words) (is_audit words) (is_pool words) asked (tells words asked (sym e))
 
 -- the same, where something is asked
 pub if_asked : (words : List (List ℕ)) (asked : Option Subcommand) → asked ≡ subcommand_by words → IfSome asked IsInRange

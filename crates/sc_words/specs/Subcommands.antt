@@ -1,4 +1,4 @@
--- What the words behind a program's name ask for: `run`, `journal`, `audit`, or `make N S`.
+-- What the words behind a program's name ask for: `run`, `journal`, `audit`, `pool`, or `make N S`.
 use Rattle.std.specs.Prelude.{ℕ, ⊤, ◌≤◌, ◌==◌, ◌&&◌, ◌||◌, not, get_or, Bool, true, false, List, length, codes, Option, Some, None, if◌then◌else◌, option_and_then}
 use Rattle.std.specs.List.{list_any}
 use Rattle.std.specs.Option.{option_map}
@@ -6,7 +6,7 @@ use Rattle.sc_base.specs.Limits.{most_requests}
 use Rattle.sc_base.specs.Number.{number_of}
 use Rattle.sc_lines.specs.Words.{same, nth, count_in}
 use Rattle.sc_words.specs.declared.subcommands.Subcommand.{Subcommand}
-use Rattle.sc_words.specs.declared.subcommands.Subcommand.TheVariants.{Run, Journal, Audit, Make}
+use Rattle.sc_words.specs.declared.subcommands.Subcommand.TheVariants.{Run, Journal, Audit, Pool, Make}
 
 -- the one word `run`
 abbrev pub is_run : List (List ℕ) → Bool
@@ -20,9 +20,13 @@ is_journal words = (length words == 1) && same (nth words 0) (codes "journal")
 abbrev pub is_audit : List (List ℕ) → Bool
 is_audit words = (length words == 1) && same (nth words 0) (codes "audit")
 
--- whether words read the input: `run`, `journal` or `audit` alone
+-- the one word `pool`
+abbrev pub is_pool : List (List ℕ) → Bool
+is_pool words = (length words == 1) && same (nth words 0) (codes "pool")
+
+-- whether words read the input: `run`, `journal`, `audit` or `pool` alone
 abbrev pub reads_input : List (List ℕ) → Bool
-reads_input words = is_run words || (is_journal words || is_audit words)
+reads_input words = is_run words || (is_journal words || (is_audit words || is_pool words))
 
 -- the word `make` and two others
 abbrev pub is_make : List (List ℕ) → Bool
@@ -42,6 +46,7 @@ subcommand_by words =
     if is_run words then Some Run
     else if is_journal words then Some Journal
     else if is_audit words then Some Audit
+    else if is_pool words then Some Pool
     else if is_make words then make_of (nth words 1) (nth words 2)
     else None
 
@@ -50,6 +55,7 @@ abbrev pub is_on_input : Subcommand → Bool
 is_on_input Run = true
 is_on_input Journal = true
 is_on_input Audit = true
+is_on_input Pool = true
 is_on_input (Make n seed) = false
 
 -- a made scenario has 1 to 1,000 requests a client
@@ -57,16 +63,17 @@ abbrev pub IsInRange : Subcommand → Type 0
 IsInRange Run = ⊤
 IsInRange Journal = ⊤
 IsInRange Audit = ⊤
+IsInRange Pool = ⊤
 IsInRange (Make n seed) = (1 ≤ n) × (n ≤ most_requests)
 
 -- whether a word begins with a dash
 abbrev pub has_dash : List ℕ → Bool
 has_dash word = get_or word 0 0 == 45
 
--- whether a word is a first word: `run`, `journal`, `audit` or `make`
+-- whether a word is a first word: `run`, `journal`, `audit`, `pool` or `make`
 abbrev pub is_known : List ℕ → Bool
-is_known word = same word (codes "run") || (same word (codes "journal") || (same word (codes "audit") || same word (codes "make")))
+is_known word = same word (codes "run") || (same word (codes "journal") || (same word (codes "audit") || (same word (codes "pool") || same word (codes "make"))))
 
--- the first word is one of the four, and no word begins with a dash
+-- the first word is one of the five, and no word begins with a dash
 abbrev pub is_plain : List (List ℕ) → Bool
 is_plain words = is_known (nth words 0) && not (list_any has_dash words)

@@ -9,6 +9,8 @@ pub enum Subcommand {
     Journal,
     /// `audit`: whether the journal on the input is lawful.
     Audit,
+    /// `pool`: a run of the scenario on the input, by a pool of workers.
+    Pool,
     /// `make N S`: a run of the made scenario with N requests a client and the seed S.
     Make { n: u32, seed: u64 },
 }
