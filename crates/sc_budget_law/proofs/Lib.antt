@@ -27,6 +27,7 @@ mod Pumping
 mod Running
 mod Asking
 mod Flights
+mod Accepting
 mod Voting
 mod Replicas
 mod ReplicaRows
