@@ -1,3 +1,4 @@
+mod Made
 pub mod BetweenWhole
 pub mod BetweenClients
 pub mod BetweenTurns
@@ -37,3 +38,4 @@ mod Round
 mod AtBirth
 mod Ends
 mod Bytes
+mod Light
