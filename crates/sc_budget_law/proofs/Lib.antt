@@ -1,3 +1,4 @@
+mod Made
 pub mod BetweenWhole
 pub mod BetweenClients
 pub mod BetweenTurns

@@ -5,11 +5,7 @@
 //! is so many deliveries in each line: for each request 32, and 4 for each group.
 #![tactic(auto)]
 
-ghost use Rattle.sc_budget_law.specs.Laws.{
-  PlainJournalsAreLight,
-  PlainLinesEndQuiet,
-  PlainRequestsAreAnswered,
-};
+ghost use Rattle.sc_budget_law.specs.Laws.{MadeScenariosAreAtBudget, PlainJournalsAreLight, PlainLinesEndQuiet, PlainRequestsAreAnswered};
 
 use sc_scenario::valid_scenarios_are_bounded;
 
@@ -22,14 +18,6 @@ pub fn plain_lines_end_quiet()
     valid_scenarios_are_bounded();
 }
 
-/// No such journal counts more than 2^30 bytes, so it never meets the limit of journals: with room
-/// for at most 1,000,000 deliveries it has few rows and little mail, and requests are short.
-pub fn plain_journals_are_light()
-    ensures { PlainJournalsAreLight }
-{
-    valid_scenarios_are_bounded();
-}
-
 /// In each whole journal of a valid plain scenario at its budget every request of a client whose
 /// go line has a line of deliveries after it is answered: the client kept a reply to each.
 pub fn plain_journals_are_answered()
@@ -38,3 +26,16 @@ pub fn plain_journals_are_answered()
     valid_scenarios_are_bounded();
     plain_lines_end_quiet();
 }
+
+/// No such journal counts more than 2^30 bytes, so it never meets the limit of journals: with room
+/// for at most 1,000,000 deliveries it has few rows and little mail, and requests are short.
+pub fn plain_journals_are_light()
+    ensures { PlainJournalsAreLight }
+{
+    valid_scenarios_are_bounded();
+}
+
+/// Every made scenario of up to 1,000 requests a client is plain and at its budget.
+pub fn made_scenarios_are_at_budget()
+    ensures { MadeScenariosAreAtBudget }
+{}
