@@ -184,7 +184,7 @@ rising_low clients d all rise (suc k) low =
     let up = rise k (suc k) d (omega arith) low in
     omega (arith, before, up)
 
-few_clients : (clients : List Asks) → All IsBoundedClient clients → AllPairs (λ (one other : Asks). one.client < other.client) clients → length clients ≤ most_clients
+pub few_clients : (clients : List Asks) → All IsBoundedClient clients → AllPairs (λ (one other : Asks). one.client < other.client) clients → length clients ≤ most_clients
 few_clients clients all rise =
     elim (cases_lt 0 (length clients)) [
       | inr none ↦ omega (arith, none)

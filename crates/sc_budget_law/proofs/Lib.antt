@@ -37,3 +37,4 @@ mod Round
 mod AtBirth
 mod Ends
 mod Bytes
+mod Light
