@@ -1,3 +1,4 @@
 mod Plays
 mod Readings
 pub mod Told
+mod Answering
