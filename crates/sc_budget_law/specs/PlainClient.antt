@@ -71,8 +71,3 @@ pub record IsBegun (scenario : Scenario) (rows : List (Row Mail OrderLine)) (cli
   pub from_one : 1 ≤ seq
   pub op_is : slice_get asks.ops (seq - 1) ≡ Some op
   pub low : seq ≤ begun_of (value player_table (client_seat (route_of first) asks) rows)
-
--- what a player of a plain journal is
-abbrev pub IsPlainPlayer : Requests → List Frame → Player → Bool → Type 0
-IsPlainPlayer begun frames (Node node) gone = IsPlainNode begun frames node
-IsPlainPlayer begun frames (Client client) gone = (asks : Asks) × IsPlainClient frames asks gone client
