@@ -1,17 +1,14 @@
 -- Made scenarios are at their budget.
-use Rattle.std.proofs.Common.{◌≡◌, ℕ, zero, suc, ◌+◌, ◌*◌, ◌≤◌, List, [], ◌∷◌, ◌++◌, length, sum_by, refl, ap, arith}
+use Rattle.std.proofs.Common.{◌≡◌, ℕ, zero, suc, ◌+◌, ◌*◌, length, sum_by, refl, ap, arith}
 use Rattle.std.proofs.lemmas.List.{length_push}
 use Rattle.std.proofs.lemmas.List.Sums.{sum_by_push}
 use Rattle.sc_base.specs.Among.{Each}
-use Rattle.sc_base.specs.Limits.{most_requests}
-use Rattle.sc_base.specs.declared.ops.Op.{Op}
 use Rattle.sc_chance.specs.Words.{two_words}
 use Rattle.sc_paxos_words.proofs.ListLemmas.{Each-push}
 use Rattle.sc_scenario.specs.Made.{made_op, made_ops, made_clients, made_goes, made_scenario}
 use Rattle.sc_scenario.specs.declared.scenarios.Asks.{Asks}
-use Rattle.sc_scenario.specs.declared.scenarios.SchedLine.{SchedLine}
 use Rattle.sc_scenario.specs.declared.scenarios.SchedLine.TheVariants.{Go, Settle}
-use Rattle.sc_budget_law.specs.Budget.{AllowsDeliveries, budget_of, requests_of, IsAtBudget}
+use Rattle.sc_budget_law.specs.Budget.{AllowsDeliveries, budget_of, requests_of}
 use Rattle.sc_budget_law.specs.Laws.{MadeScenariosAreAtBudget}
 
 -- a made client has n requests

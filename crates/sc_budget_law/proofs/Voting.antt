@@ -1,58 +1,36 @@
 -- Accepted at the leading replica of a plain group: a vote is counted.
-use Rattle.std.proofs.Common.{◌≡◌, ℕ, ◌+◌, ◌-◌, ◌<◌, ◌≤◌, ◌&&◌, ◌||◌, not, eqb, true, false, cond, List, [], ◌∷◌, length, Option, Some, None, ◌⊎◌, inl, inr, refl, sym, ◌∙◌, ap, subst, arith, append-nil}
-use Rattle.std.specs.Prelude.{nat_le, nat_lt, slice_get}
-use Rattle.std.specs.Option.{option_map}
-use Rattle.std.proofs.lemmas.Bool.{cond_both, cond-true, cond-false, cases_lt, cases_eq, eqb-true, eq-eqb, ne_eqb, lt-leb, le-ltb, lt-ltb, and_from, and_left, and_parts, both_ways}
+use Rattle.std.proofs.Common.{◌≡◌, ℕ, ◌+◌, ◌-◌, ◌<◌, ◌≤◌, ◌&&◌, eqb, true, false, List, [], length, Option, Some, None, ◌⊎◌, inl, inr, refl, sym, ◌∙◌, ap, subst, arith, append-nil}
+use Rattle.std.specs.Prelude.{nat_lt, slice_get}
+use Rattle.std.proofs.lemmas.Bool.{cond_both, cond-true, cond-false, cases_lt, cases_eq, eqb-true, eq-eqb, ne_eqb, le-ltb, lt-ltb, and_from, and_parts, both_ways}
 use Rattle.sc_base.specs.Among.{Among, Each}
 use Rattle.sc_base.specs.Same.{same_ballot}
-use Rattle.sc_base.specs.declared.names.Ballot.{Ballot}
-use Rattle.sc_base.specs.declared.ops.Op.{Op}
 use Rattle.sc_base.proofs.NameLemmas.{ballot_itself}
 use Rattle.sc_cmd.specs.declared.commands.Command.{Command}
 use Rattle.sc_cmd.specs.declared.commands.Command.TheVariants.{Call}
 use Rattle.sc_cmd.specs.declared.cores.Base.{Base}
-use Rattle.sc_cmd.specs.declared.cores.Core.{Core}
-use Rattle.sc_mail.specs.declared.bodies.Mail.{Mail}
-use Rattle.sc_mail.specs.declared.bodies.MailBody.TheVariants.{Accepted}
 use Rattle.sc_member.specs.Majority.{votes_of, is_majority}
 use Rattle.sc_member.specs.Roster.{is_member}
-use Rattle.sc_paxos_words.specs.declared.answers.AcceptAnswer.{AcceptAnswer}
-use Rattle.sc_paxos_words.specs.declared.answers.AcceptAnswer.TheVariants as Asked
 use Rattle.sc_paxos_words.specs.declared.answers.Counted.{Counted}
 use Rattle.sc_paxos_words.specs.declared.answers.Counted.TheVariants.{Chosen, NotYet}
 use Rattle.sc_paxos_words.specs.declared.flights.Flight.{Flight}
-use Rattle.sc_paxos_words.specs.declared.reports.Report.{Report}
-use Rattle.sc_paxos_words.specs.Accepting.{accepted as accepted_by}
-use Rattle.sc_paxos_words.specs.Acceptors.{AcceptorState, may_accept, after_accept}
-use Rattle.sc_paxos_words.specs.Ballots.{below}
 use Rattle.sc_paxos_words.specs.Leaders.{LeaderState, flight_at, without_flight, without_flight_at}
 use Rattle.sc_paxos_words.specs.Votes.{kept_voters, voters_after, with_voters, vote_at}
-use Rattle.sc_paxos_words.proofs.BallotLemmas.{at_least_itself}
 use Rattle.sc_paxos_words.proofs.ListLemmas.{find_found, Each-among}
-use Rattle.sc_machine_table.specs.Machine.{applied}
-use Rattle.sc_node_table.specs.Births.{ready_children, executed_children, learnt_children, readied_children, tallied_children, voted_children, accepted_children}
-use Rattle.sc_node_table.specs.Election.{stopped, saw}
-use Rattle.sc_node_table.specs.Execute.{entered, is_among, executed_one, has_room, executed_ready, all_ready, executed}
-use Rattle.sc_node_table.specs.Install.{install_to}
-use Rattle.sc_node_table.specs.Pump.{pumped_from, pumped}
-use Rattle.sc_node_table.specs.Replica.{ReplicaState, Place, name_of, next, members, set_at, settled, flying, forgotten, last_slot}
-use Rattle.sc_node_table.specs.Rows.{learn_row}
-use Rattle.sc_node_table.specs.Slots.{at_slot, with_slot, without_slot, numbers_from, slots_ahead}
-use Rattle.sc_node_table.specs.Voting.{hinted, accepted_to, took, accept_row, leads, readied, vote_tallied, voted, accepted_row}
-use Rattle.sc_law_lemmas.proofs.Places.{cleared}
+use Rattle.sc_node_table.specs.Births.{executed_children, readied_children, tallied_children, voted_children, accepted_children}
+use Rattle.sc_node_table.specs.Execute.{has_room, executed}
+use Rattle.sc_node_table.specs.Replica.{ReplicaState, Place, next, set_at, last_slot}
+use Rattle.sc_node_table.specs.Slots.{at_slot, with_slot, numbers_from, slots_ahead}
+use Rattle.sc_node_table.specs.Voting.{leads, readied, vote_tallied, voted, accepted_row}
 use Rattle.sc_budget_law.specs.Frames.{Frame, IsFrame}
 use Rattle.sc_budget_law.specs.Owed.{replica_owes}
-use Rattle.sc_budget_law.specs.PlainMail.{Requests, IsPlainCommand, IsPlainCall}
-use Rattle.sc_budget_law.specs.PlainNode.{takers, AreTaken, IsPlainFlight, IsPlainLeader, IsPlainFollower, IsPlainReplica, HasOffered}
+use Rattle.sc_budget_law.specs.PlainMail.{Requests, IsPlainCommand}
+use Rattle.sc_budget_law.specs.PlainNode.{takers, IsPlainFlight, IsPlainLeader, IsPlainReplica, HasOffered}
 use Rattle.sc_budget_law.proofs.Asking.{begins}
 use Rattle.sc_budget_law.proofs.Counts.{found_one, one_if, one_if_most, one_yes, one_no, entries_at, with_length, with_count, with_each, with_among, with_it, with_at, out_length, out_here, out_other, out_each, out_among}
-use Rattle.sc_budget_law.proofs.Entry.{entered_next, entered_plain, learnt_call}
 use Rattle.sc_budget_law.proofs.Flights.{others_out, voted_length, voted_count, voted_each, voted_value, voted_others, voted_here, only_flight, no_flight_at, HasVoted, vote_kept, numbered_get, numbered_past}
 use Rattle.sc_budget_law.proofs.Leading.{in_range, range_before, range_behind, early_taken, flights_at, IsHeld, Leads}
 use Rattle.sc_budget_law.proofs.Pumping.{call_is}
 use Rattle.sc_budget_law.proofs.Running.{IsRun, executed_none, executed_run, some_taken}
-use Rattle.sc_budget_law.proofs.Sends.{mail_of}
-use Rattle.sc_budget_law.proofs.Served.{IsServed, call_plain}
 
 some_is : {A : Type 0} {x y : A} → Some x ≡ Some y → x ≡ y
 some_is e = cc

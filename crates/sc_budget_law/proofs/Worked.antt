@@ -1,9 +1,7 @@
 -- The budget and what is owed, computed on a journal: a client puts a value and gets it, and the one member of a group leads.
-use Rattle.std.proofs.Common.{◌≡◌, ℕ, List, [], ◌∷◌, map, lit≤, inl, inr, refl, sym, ◌∙◌, ap, subst}
+use Rattle.std.proofs.Common.{◌≡◌, [], ◌∷◌, map, lit≤, inl, inr, refl, subst}
 use Rattle.std.specs.Prelude.{false, length}
-use Rattle.sc_base.specs.Among.{Among}
 use Rattle.sc_cmd.specs.declared.cores.Base.{Base}
-use Rattle.sc_mail.specs.declared.bodies.Mail.{Mail}
 use Rattle.sc_actor.specs.Mail.{mails}
 use Rattle.sc_actor.specs.Replay.{value}
 use Rattle.sc_scenario.specs.declared.scenarios.Asks.{Asks}
