@@ -20,8 +20,6 @@ use Rattle.sc_sound.specs.Players.{Player, player_table, client_seat, route_of}
 use Rattle.sc_sound.specs.declared.roles.Role.TheVariants.{Node, Client}
 use Rattle.sc_budget_law.specs.Frames.{Frame}
 use Rattle.sc_budget_law.specs.Owed.{begun_ones}
-use Rattle.sc_budget_law.specs.PlainMail.{Requests}
-use Rattle.sc_budget_law.specs.PlainNode.{IsPlainNode}
 
 -- what a client knows of a group when it hears of it
 abbrev pub way_of : Frame → Draw × Way
