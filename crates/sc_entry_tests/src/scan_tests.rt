@@ -88,7 +88,13 @@ fn pairs_come_in_the_order_from_the_arcs_start(rt: HostRuntime) {
 }
 
 // Whether the page behind a key, or the first, is this one.
-fn gives(rt: &impl Abort, alloc: Global, after: Option<&Key>, keys: &[u8], next: Option<u8>) -> bool {
+fn gives(
+    rt: &impl Abort,
+    alloc: Global,
+    after: Option<&Key>,
+    keys: &[u8],
+    next: Option<u8>,
+) -> bool {
     let list = from_m(rt, alloc);
     let page = page(alloc, &list, after, 2).expect(rt, "memory");
     let is_so = is_page(&page, keys, next);
@@ -125,7 +131,13 @@ fn are_parts(parts: &[Part], wanted: &[Wanted]) -> bool {
 }
 
 // Whether an arc has these parts in a ring.
-fn has_parts(rt: &impl Abort, alloc: Global, ring: &[Cut], asked: RingArc, wanted: &[Wanted]) -> bool {
+fn has_parts(
+    rt: &impl Abort,
+    alloc: Global,
+    ring: &[Cut],
+    asked: RingArc,
+    wanted: &[Wanted],
+) -> bool {
     let parts = parts(alloc, ring, &asked).expect(rt, "memory");
     are_parts(&parts, wanted)
 }

@@ -135,6 +135,6 @@ order_differs arc es apart =
     pairwise_append KeysDiffer (filter (λ pair. not (is_low arc pair)) (held arc es)) (filter (is_low arc) (held arc es))
     (pairwise_filter KeysDiffer (λ pair. not (is_low arc pair)) (held arc es) within) (pairwise_filter KeysDiffer (is_low arc) (held arc es) within)
     (λ x y a b same.
-      let high : not (is_low arc x) ≡ true = (from_filter (λ pair. not (is_low arc pair)) (held arc es) x a).1 in
-      let low : is_low arc y ≡ true = (from_filter (is_low arc) (held arc es) y b).1 in
-      let no_way : false ≡ true = sym (ap not (ap (λ key. is_low arc (key, y.1)) same ∙ low)) ∙ high in cc)
+    let high : not (is_low arc x) ≡ true = (from_filter (λ pair. not (is_low arc pair)) (held arc es) x a).1 in
+    let low : is_low arc y ≡ true = (from_filter (is_low arc) (held arc es) y b).1 in
+    let no_way : false ≡ true = sym (ap not (ap (λ key. is_low arc (key, y.1)) same ∙ low)) ∙ high in cc)

@@ -165,15 +165,15 @@ module _ (arc : Arc) (fits : arc.lo < 2 ^ 32) (es : List Pair) (up : IsAscending
   rises =
       pairwise_append (ComesBefore arc) (filter (λ pair. not (is_low arc pair)) (held arc es)) (filter (is_low arc) (held arc es))
       (pairwise_with KeyBefore (ComesBefore arc) (IsHigh arc) (λ x y hx hy less.
-        comes arc x y (high_side arc.lo (pos_of x.0) (pos_of y.0) fits (pos_fits y.0 hy.bytes) hx.from (pos_rises x.0 y.0 hx.bytes hy.bytes less)) less)
-        (filter (λ pair. not (is_low arc pair)) (held arc es)) highs (pairwise_filter KeyBefore (λ pair. not (is_low arc pair)) (held arc es) held_before))
+      comes arc x y (high_side arc.lo (pos_of x.0) (pos_of y.0) fits (pos_fits y.0 hy.bytes) hx.from (pos_rises x.0 y.0 hx.bytes hy.bytes less)) less)
+      (filter (λ pair. not (is_low arc pair)) (held arc es)) highs (pairwise_filter KeyBefore (λ pair. not (is_low arc pair)) (held arc es) held_before))
       (pairwise_with KeyBefore (ComesBefore arc) (IsLow arc) (λ x y hx hy less.
-        comes arc x y (low_side arc.lo (pos_of x.0) (pos_of y.0) fits hy.below (pos_rises x.0 y.0 hx.bytes hy.bytes less)) less)
-        (filter (is_low arc) (held arc es)) lows (pairwise_filter KeyBefore (is_low arc) (held arc es) held_before))
+      comes arc x y (low_side arc.lo (pos_of x.0) (pos_of y.0) fits hy.below (pos_rises x.0 y.0 hx.bytes hy.bytes less)) less)
+      (filter (is_low arc) (held arc es)) lows (pairwise_filter KeyBefore (is_low arc) (held arc es) held_before))
       (λ x y a b.
-        let hx = Each-among (IsHigh arc) (filter (λ pair. not (is_low arc pair)) (held arc es)) x highs a in
-        let hy = Each-among (IsLow arc) (filter (is_low arc) (held arc es)) y lows b in
-        inl (over_top arc.lo (pos_of x.0) (pos_of y.0) fits (pos_fits x.0 hx.bytes) hx.from hy.below))
+      let hx = Each-among (IsHigh arc) (filter (λ pair. not (is_low arc pair)) (held arc es)) x highs a in
+      let hy = Each-among (IsLow arc) (filter (is_low arc) (held arc es)) y lows b in
+      inl (over_top arc.lo (pos_of x.0) (pos_of y.0) fits (pos_fits x.0 hx.bytes) hx.from hy.below))
 
 -- ---- keys are texts
 

@@ -32,7 +32,7 @@ use Rattle.sc_sound.specs.Soundness.{IsOneMap}
 use Rattle.sc_journal_law.specs.Findings.{AreItsLogs}
 use Rattle.sc_scan.specs.declared.walking.Part.{Part}
 use Rattle.sc_scan.specs.declared.scans.Shown.{Shown}
-use Rattle.sc_scan.specs.Laws.{AreApart, EntriesCountLogs, HasMap, IsOfItsLog, IsTold, IsWithinCut, ScansTell, ShareArc, WalksShareArcs}
+use Rattle.sc_scan.specs.Laws.{ShareNothing, EntriesCountLogs, HasMap, IsOfItsLog, TellsStore, IsWithinCut, ScansTell, ShareArc, WalksShareArcs}
 use Rattle.sc_scan.specs.Order.{Pair, ordered}
 use Rattle.sc_scan.specs.Scan.{entries_in, pairs_in, scan_at, scan_of, shown}
 use Rattle.sc_scan.specs.Scan as scan
@@ -52,16 +52,16 @@ parts_shown world slot (part ∷ parts) = ap (λ more. part ∷ more) (parts_sho
 -- pairs of several parts have keys that differ, where no position lies in two parts
 once_all : (f : Part → Shown) (parts : List Part) → ((part : Part) → Among part parts → Pairwise KeysDiffer (f part).pairs)
     → ((part : Part) → Among part parts → (pair : Pair) → Among pair (f part).pairs → IsTrue (holds_key part.arc pair.0))
-    → Pairwise AreApart parts → Pairwise KeysDiffer (scan.all_pairs (map f parts))
+    → Pairwise ShareNothing parts → Pairwise KeysDiffer (scan.all_pairs (map f parts))
 once_all f [] each within apart = tt
 once_all f (part ∷ parts) each within apart =
     pairwise_append KeysDiffer (f part).pairs (scan.all_pairs (map f parts)) (each part (inl refl))
     (once_all f parts (λ other a. each other (inr a)) (λ other a. within other (inr a)) apart.1)
     (λ x y a b same.
-      let k = from_flat_map (λ (one : Shown). one.pairs) (map f parts) y b in
-      let l = from_map f parts k.0 k.1 in
-      Each-among (AreApart part) parts l.0 apart.0 l.1 (pos_of x.0) (within part (inl refl) x a)
-      (subst (λ key. IsTrue (holds l.0.arc (pos_of key))) (sym same) (within l.0 (inr l.1) y (subst (λ (one : Shown). Among y one.pairs) (sym l.2) k.2))))
+    let k = from_flat_map (λ (one : Shown). one.pairs) (map f parts) y b in
+    let l = from_map f parts k.0 k.1 in
+    Each-among (ShareNothing part) parts l.0 apart.0 l.1 (pos_of x.0) (within part (inl refl) x a)
+    (subst (λ key. IsTrue (holds l.0.arc (pos_of key))) (sym same) (within l.0 (inr l.1) y (subst (λ (one : Shown). Among y one.pairs) (sym l.2) k.2))))
 
 -- ---- a world that is one map
 
@@ -121,7 +121,7 @@ module _ (world : StoreWorld) (one : IsOneMap world) (slot : Draw → ℕ) (arc 
   has_map = record {
     pairs = λ key value. (all_had key value, had_all key value);
     once = all_pairs KeysDiffer (scan.all_pairs (scan_of world slot arc))
-        (once_all (shown world slot) (parts_in world.ring arc) part_differs part_holds (pairwise_from AreApart (parts_in world.ring arc) share.once));
+        (once_all (shown world slot) (parts_in world.ring arc) part_differs part_holds (pairwise_from ShareNothing (parts_in world.ring arc) share.once));
   }
 
 -- ---- logs
@@ -133,8 +133,8 @@ module _ (ahead : Ahead) (bases : List Base) (rows : List (Row Mail OrderLine)) 
       → IsOfItsLog ahead bases rows (shown (world_at ahead bases rows) (λ name. length (log_at ahead bases rows name)) part)
   of_birth part group is None unborn =
       absurd (let none : None ≡ Some group =
-        sym (ap (option_map (λ (g : Group). effective_by g.core.lock (world_at ahead bases rows).transactions g))
-          (logs.states part.group ∙ ap (option_map (λ base. decided_state ahead base rows)) unborn)) ∙ is in cc)
+      sym (ap (option_map (λ (g : Group). effective_by g.core.lock (world_at ahead bases rows).transactions g))
+      (logs.states part.group ∙ ap (option_map (λ base. decided_state ahead base rows)) unborn)) ∙ is in cc)
   of_birth part group is (Some base) born =
       let k = find_found (is_birth_of part.group) (groups_at ahead bases rows) base born in
       record {
@@ -172,6 +172,6 @@ pub entries_count : EntriesCountLogs
 entries_count ahead bases rows logs arc =
     let entries = entries_at ahead bases rows in
     let same : (name : Draw) → entries_in entries name ≡ length (log_at ahead bases rows name) =
-      λ name. sym (length-filter (λ (entry : LogEntry). same_draw entry.group name) entries)
-      ∙ sym (length-map (filter (λ (entry : LogEntry). same_draw entry.group name) entries) (λ (entry : LogEntry). entry.command)) ∙ ap length (logs.logs name) in
+    λ name. sym (length-filter (λ (entry : LogEntry). same_draw entry.group name) entries)
+    ∙ sym (length-map (filter (λ (entry : LogEntry). same_draw entry.group name) entries) (λ (entry : LogEntry). entry.command)) ∙ ap length (logs.logs name) in
     ap (λ (slot : Draw → ℕ). scan_of (world_at ahead bases rows) slot arc) (λ i name. same name i)

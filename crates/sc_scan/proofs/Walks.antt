@@ -9,7 +9,7 @@ use Rattle.sc_ring_law.proofs.Finds.{Pairwise, all_pairs}
 use Rattle.sc_entries.specs.declared.Cut.{Cut}
 use Rattle.sc_entries.specs.Rings.{Covers}
 use Rattle.sc_scan.specs.declared.walking.Part.{Part}
-use Rattle.sc_scan.specs.Laws.{AreApart, IsWithinCut, ShareArc, WalksShareArcs}
+use Rattle.sc_scan.specs.Laws.{ShareNothing, IsWithinCut, ShareArc, WalksShareArcs}
 use Rattle.sc_scan.specs.Walk.{first_part, holds_start, left_behind, parts_from, parts_in, reach, walk}
 use Rattle.sc_scan.proofs.Circle.{behind, beyond, end_fits, fewer, near}
 
@@ -51,8 +51,8 @@ both_enough (suc more) zero ring arc h k = walk_done (suc more) ring arc (omega 
 both_enough (suc more) (suc n) ring arc h k = elim (cases_lt 0 arc.len) [
   | inl some ↦ walk_step more ring arc some
       ∙ from_same (find (holds_start arc) ring) arc (walk more ring) (walk n ring) (λ cut e.
-        let long = first_some arc cut some (found_holds ring arc cut e) in
-        both_enough more n ring (left_behind arc (first_part arc cut)) (fewer arc.len (first_part arc cut).arc.len more long h) (fewer arc.len (first_part arc cut).arc.len n long k))
+      let long = first_some arc cut some (found_holds ring arc cut e) in
+      both_enough more n ring (left_behind arc (first_part arc cut)) (fewer arc.len (first_part arc cut).arc.len more long h) (fewer arc.len (first_part arc cut).arc.len n long k))
       ∙ sym (walk_step n ring arc some)
   | inr none ↦ walk_done (suc more) ring arc (omega arith) ∙ sym (walk_done (suc n) ring arc (omega arith))
 ]
@@ -65,7 +65,7 @@ pub parts_step : (ring : List Cut) (arc : Arc) → 1 ≤ arc.len → parts_in ri
 parts_step ring arc some =
     both_enough arc.len (suc arc.len) ring arc (omega arith) (omega arith) ∙ walk_step arc.len ring arc some
     ∙ from_same (find (holds_start arc) ring) arc (walk arc.len ring) (parts_in ring) (λ cut e.
-      both_enough arc.len (left_behind arc (first_part arc cut)).len ring (left_behind arc (first_part arc cut)) (omega arith) (omega arith))
+    both_enough arc.len (left_behind arc (first_part arc cut)).len ring (left_behind arc (first_part arc cut)) (omega arith) (omega arith))
 
 -- the same where the cut is known
 pub parts_next : (ring : List Cut) (arc : Arc) (cut : Cut) → 1 ≤ arc.len → find (holds_start arc) ring ≡ Some cut → parts_in ring arc ≡ first_part arc cut ∷ parts_in ring (left_behind arc (first_part arc cut))
@@ -91,7 +91,7 @@ pub parts_push : (ring : List Cut) (arc rest : Arc) (cut : Cut) (before after : 
     → after ++ parts_in ring (record { lo = lo; len = len }) ≡ parts_in ring arc
 parts_push ring arc rest cut before after part lo len some found so_far part_is after_is lo_is len_is =
     let rest_is : record { lo = lo; len = len } ≡ left_behind rest (first_part rest cut) =
-      ap₂ (λ (a b : ℕ). let next : Arc = record { lo = a; len = b } in next) lo_is len_is ∙ ap (left_behind rest) part_is in
+    ap₂ (λ (a b : ℕ). let next : Arc = record { lo = a; len = b } in next) lo_is len_is ∙ ap (left_behind rest) part_is in
     ap₂ (λ xs next. xs ++ parts_in ring next) (after_is ∙ ap (λ one. before ++ one ∷ []) part_is) rest_is
     ∙ append_assoc before (first_part rest cut ∷ []) (parts_in ring (left_behind rest (first_part rest cut)))
     ∙ ap (λ xs. before ++ xs) (sym (parts_next ring rest cut some found))
@@ -116,7 +116,7 @@ record Walked (ring : List Cut) (arc : Arc) (parts : List Part) : Type 0 where
   pub arcs : (part : Part) → Among part parts → IsArc part.arc × (part.arc.lo < 2 ^ 32)
   pub cuts : (part : Part) → Among part parts → IsWithinCut ring part
   pub some : (p : ℕ) → IsTrue (holds arc p) → (part : Part) × Among part parts × IsTrue (holds part.arc p)
-  pub once : Pairwise AreApart parts
+  pub once : Pairwise ShareNothing parts
   pub only : (part : Part) → Among part parts → (p : ℕ) → IsTrue (holds part.arc p) → IsTrue (holds arc p)
 
 -- no positions, no parts
@@ -192,7 +192,7 @@ module _ (ring : List Cut) (covers : Covers ring) (arc : Arc) (fits : arc.lo < 2
       | inl close ↦ (first_part arc cut, inl refl, lt-ltb (offset arc p) (first_part arc cut).arc.len close)
       | inr far ↦ (let k = rest.some p (rest_holds p h far) in (k.0, inr k.1, k.2))
     ];
-    once = (Each-from (AreApart (first_part arc cut)) parts (λ other a p h k. rest_apart p h (rest.only other a p k)), rest.once);
+    once = (Each-from (ShareNothing (first_part arc cut)) parts (λ other a p h k. rest_apart p h (rest.only other a p k)), rest.once);
     only = λ part a. elim a [
       | inl is ↦ subst (λ (x : Part). (p : ℕ) → IsTrue (holds x.arc p) → IsTrue (holds arc p)) is first_only
       | inr there ↦ (λ p h. rest_only p (rest.only part there p h))
@@ -224,4 +224,4 @@ module _ (ring : List Cut) (covers : Covers ring) where
 pub walks_share : WalksShareArcs
 walks_share ring covers arc is fits =
     let w = walked ring covers arc.len arc (omega arith) fits is.most in
-    record { arcs = w.arcs; cuts = w.cuts; some = w.some; once = all_pairs AreApart (parts_in ring arc) w.once; only = w.only }
+    record { arcs = w.arcs; cuts = w.cuts; some = w.some; once = all_pairs ShareNothing (parts_in ring arc) w.once; only = w.only }

@@ -36,8 +36,8 @@ pub record IsWithinCut (ring : List Cut) (part : Part) : Type 0 where
   pub within : (p : ℕ) → IsTrue (holds part.arc p) → IsTrue (holds cut.arc p)
 
 -- no position lies in both of two parts
-abbrev pub AreApart : Part → Part → Type 0
-AreApart part other = (p : ℕ) → IsTrue (holds part.arc p) → IsTrue (holds other.arc p) → ⊥
+abbrev pub ShareNothing : Part → Part → Type 0
+ShareNothing part other = (p : ℕ) → IsTrue (holds part.arc p) → IsTrue (holds other.arc p) → ⊥
 
 -- the parts cover an arc once
 pub record ShareArc (ring : List Cut) (arc : Arc) (parts : List Part) : Type 0 where
@@ -47,7 +47,7 @@ pub record ShareArc (ring : List Cut) (arc : Arc) (parts : List Part) : Type 0 w
   -- each position of the arc lies in one
   pub some : (p : ℕ) → IsTrue (holds arc p) → (part : Part) × Among part parts × IsTrue (holds part.arc p)
   -- none lies in two
-  pub once : AllPairs AreApart parts
+  pub once : AllPairs ShareNothing parts
   -- and no other position lies in one
   pub only : (part : Part) → Among part parts → (p : ℕ) → IsTrue (holds part.arc p) → IsTrue (holds arc p)
 
@@ -76,7 +76,7 @@ pub record IsOfItsLog (ahead : Ahead) (bases : List Base) (rows : List (Row Mail
 -- ---- all together
 
 -- what an arc holds after some rows is told by this scan
-pub record IsTold (ahead : Ahead) (bases : List Base) (rows : List (Row Mail OrderLine)) (arc : Arc) (scan : List Shown) : Type 0 where
+pub record TellsStore (ahead : Ahead) (bases : List Base) (rows : List (Row Mail OrderLine)) (arc : Arc) (scan : List Shown) : Type 0 where
   pub parts : ShareArc (world_at ahead bases rows).ring arc (map (λ shown. shown.part) scan)
   pub pairs : HasMap (world_at ahead bases rows) arc scan
   pub logs : (shown : Shown) → Among shown scan → IsOfItsLog ahead bases rows shown
@@ -84,7 +84,7 @@ pub record IsTold (ahead : Ahead) (bases : List Base) (rows : List (Row Mail Ord
 -- a scan of rows that make one map tells what the arc holds
 abbrev pub ScansTell : Type 0
 ScansTell = (ahead : Ahead) (bases : List Base) (rows : List (Row Mail OrderLine)) → IsOneMap (world_at ahead bases rows) → AreItsLogs ahead bases rows
-    → (arc : Arc) → IsArc arc → arc.lo < 2 ^ 32 → IsTold ahead bases rows arc (scan_at ahead bases rows arc)
+    → (arc : Arc) → IsArc arc → arc.lo < 2 ^ 32 → TellsStore ahead bases rows arc (scan_at ahead bases rows arc)
 
 -- where entries are logs, a group has as many entries as its log
 abbrev pub EntriesCountLogs : Type 0

@@ -6,14 +6,14 @@ mod laws;
 mod orders;
 mod pages;
 mod paging;
-mod walking;
 mod printing;
 mod scans;
+mod walking;
 
 pub use laws::{entries_count_logs, pages_follow, scans_tell, walks_share_arcs};
 pub use orders::ordered;
 pub use pages::Page;
 pub use paging::page;
-pub use walking::{Part, parts};
 pub use printing::scan_lines;
 pub use scans::{Shown, scan};
+pub use walking::{Part, parts};

@@ -19,11 +19,7 @@ fn have_texts(pairs: &[(Key, Value)])
 }
 
 // Adds a pair at the end.
-fn add(
-    alloc: Global,
-    list: &mut Vec<(Key, Value)>,
-    pair: &(Key, Value),
-) -> Result<(), OutOfMemory>
+fn add(alloc: Global, list: &mut Vec<(Key, Value)>, pair: &(Key, Value)) -> Result<(), OutOfMemory>
     ensures { OnOk result (list.new.items ≡ list.old.items ++ pair.now ∷ []) }
 {
     let key = pair.0.dup(alloc)?;

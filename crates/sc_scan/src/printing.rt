@@ -5,8 +5,8 @@ ghost use Rattle.sc_report.specs.Report.{count_line, with_line_feed};
 ghost use Rattle.sc_scan.specs.Scan.{all_pairs};
 ghost use Rattle.sc_scan.specs.Text.{ends_page, page_lines, pair_line, pair_lines, part_line, part_lines, scan_lines};
 
-use crate::walking::Part;
 use crate::scans::Shown;
+use crate::walking::Part;
 use sc_base::{Key, OutOfMemory, Sequence, Value};
 use sc_report::ReportLine;
 use std::alloc::Global;

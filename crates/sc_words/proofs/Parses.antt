@@ -145,10 +145,10 @@ four_passed a b c d clear =
     ap₂ (λ s t. s && t) (turn_passed scan_shape nothing_held 1 a clear.first refl)
     (ap (λ w. walk_passes scan_shape [] w (b ∷ c ∷ d ∷ [])) (one_step scan_shape.rules nothing_held 1 a clear.first)
     ∙ ap₂ (λ s t. s && t) (turn_passed scan_shape (first_of_four a).held 2 b clear.second refl)
-      (ap (λ w. walk_passes scan_shape [] w (c ∷ d ∷ [])) (one_step scan_shape.rules (first_of_four a).held 2 b clear.second)
-      ∙ ap₂ (λ s t. s && t) (turn_passed scan_shape (second_of_four a b).held 3 c clear.third refl)
-        (ap (λ w. walk_passes scan_shape [] w (d ∷ [])) (one_step scan_shape.rules (second_of_four a b).held 3 c clear.third)
-        ∙ ap (λ t. t && true) (turn_passed scan_shape (third_of_four a b c).held 4 d clear.fourth refl))))
+    (ap (λ w. walk_passes scan_shape [] w (c ∷ d ∷ [])) (one_step scan_shape.rules (first_of_four a).held 2 b clear.second)
+    ∙ ap₂ (λ s t. s && t) (turn_passed scan_shape (second_of_four a b).held 3 c clear.third refl)
+    (ap (λ w. walk_passes scan_shape [] w (d ∷ [])) (one_step scan_shape.rules (second_of_four a b).held 3 c clear.third)
+    ∙ ap (λ t. t && true) (turn_passed scan_shape (third_of_four a b c).held 4 d clear.fourth refl))))
 
 abbrev scan_ends_well : Walk → Bool
 scan_ends_well w =

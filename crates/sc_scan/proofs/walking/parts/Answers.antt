@@ -15,10 +15,11 @@ first_part-part-requires-clause-held c =
 
 pub loop-left-preserved : goal.loop-left-preserved
 loop-left-preserved c =
-    let rest : Arc = record { lo = c.loop-left.lo; len = c.loop-left.left } in
-    (omega (arith, c.loop-left.invariant.0),
-    parts_push c.args.ring.now c.args.arc.now rest c.in-Some.cut.now c.loop-left.parts.items c.push.new.self.items c.first_part-part.result c.end-lo.result _
-    c.loop-left-test.true (sym c.in-Some.ensures) c.loop-left.invariant.1 c.first_part-part.ensures c.in_ok-push.ensures.items c.end-lo.ensures (ap (λ n. c.loop-left.left - n) c.len-left-in-loop-left.ensures.same))
+    let rest : Arc = record { lo = c.loop-left.lo; len = c.loop-left.left } in (
+      omega (arith, c.loop-left.invariant.0),
+      parts_push c.args.ring.now c.args.arc.now rest c.in-Some.cut.now c.loop-left.parts.items c.push.new.self.items c.first_part-part.result c.end-lo.result _
+          c.loop-left-test.true (sym c.in-Some.ensures) c.loop-left.invariant.1 c.first_part-part.ensures c.in_ok-push.ensures.items c.end-lo.ensures (ap (λ n. c.loop-left.left - n) c.len-left-in-loop-left.ensures.same),
+    )
 
 pub returns : goal.returns
 returns c =
